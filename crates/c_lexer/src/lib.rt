@@ -1,0 +1,7 @@
+//! The tokens of a program text. It stands on `nvm_base`. Its one contract for the crates above:
+//! `tokens` answers exactly the tokens that a text spells, or the first refusal with its line.
+#![tactic(auto)]
+
+mod token;
+
+pub use token::{Mark, Placed, Token, Word};

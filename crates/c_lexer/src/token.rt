@@ -1,0 +1,137 @@
+//! What a token is: a name, a number, a mark or a reserved word.
+
+use nvm_base::Text;
+
+/// A mark, by what C calls it.
+#[derive(Clone, Copy, Debug, PartialEq, Eq)]
+pub enum Mark {
+    /// `->`
+    Arrow,
+    /// `++`
+    Increment,
+    /// `--`
+    Decrement,
+    /// `+=`
+    AddAssign,
+    /// `-=`
+    SubAssign,
+    /// `<<`
+    ShiftLeft,
+    /// `>>`
+    ShiftRight,
+    /// `<=`
+    LessEqual,
+    /// `>=`
+    GreaterEqual,
+    /// `==`
+    Equal,
+    /// `!=`
+    NotEqual,
+    /// `&&`
+    AndAnd,
+    /// `||`
+    OrOr,
+    /// `+`
+    Plus,
+    /// `-`
+    Minus,
+    /// `*`
+    Star,
+    /// `/`
+    Slash,
+    /// `%`
+    Percent,
+    /// `<`
+    Less,
+    /// `>`
+    Greater,
+    /// `&`
+    And,
+    /// `^`
+    Xor,
+    /// `|`
+    Or,
+    /// `!`
+    Not,
+    /// `~`
+    Tilde,
+    /// `=`
+    Assign,
+    /// `.`
+    Dot,
+    /// `,`
+    Comma,
+    /// `;`
+    Semicolon,
+    /// `(`
+    OpenRound,
+    /// `)`
+    CloseRound,
+    /// `{`
+    OpenBrace,
+    /// `}`
+    CloseBrace,
+    /// `[`
+    OpenSquare,
+    /// `]`
+    CloseSquare,
+}
+
+/// A reserved word of the profile.
+#[derive(Clone, Copy, Debug, PartialEq, Eq)]
+pub enum Word {
+    /// `int64_t`
+    Int64,
+    /// `void`
+    Void,
+    /// `struct`
+    Struct,
+    /// `persistent`
+    Persistent,
+    /// `root`
+    Root,
+    /// `tx`
+    Tx,
+    /// `if`
+    If,
+    /// `else`
+    Else,
+    /// `while`
+    While,
+    /// `for`
+    For,
+    /// `break`
+    Break,
+    /// `continue`
+    Continue,
+    /// `return`
+    Return,
+    /// `NULL`
+    Null,
+    /// `pm_new`
+    PmNew,
+    /// `pm_free`
+    PmFree,
+    /// `abort`
+    Abort,
+}
+
+/// One token.
+#[derive(Drop)]
+pub enum Token {
+    /// A name that isn't reserved.
+    Name(Text),
+    /// A number, from 0 to 2^63 - 1.
+    Number(i64),
+    Mark(Mark),
+    Word(Word),
+    /// A word that C reserves and this profile never accepts. The grammar has no place for it.
+    Reserved,
+}
+
+/// A token and the line where it begins, counted from 1.
+#[derive(Drop)]
+pub struct Placed {
+    pub token: Token,
+    pub line: u64,
+}

@@ -1,0 +1,99 @@
+//! Expressions. A place is a token's place in the list of tokens, counted from 0. Brackets round an
+//! expression leave no node.
+
+use nvm_base::Text;
+
+/// A name and the place where it stands.
+#[derive(Drop)]
+pub struct Name {
+    pub text: Text,
+    pub place: u64,
+}
+
+/// A unary operator.
+#[derive(Clone, Copy, Debug, PartialEq, Eq)]
+pub enum UnaryOp {
+    /// `-`
+    Negate,
+    /// `!`
+    Not,
+    /// `~`
+    Complement,
+}
+
+/// A binary operator.
+#[derive(Clone, Copy, Debug, PartialEq, Eq)]
+pub enum BinaryOp {
+    Mul,
+    Div,
+    Rem,
+    Add,
+    Sub,
+    ShiftLeft,
+    ShiftRight,
+    Less,
+    LessEqual,
+    Greater,
+    GreaterEqual,
+    Equal,
+    NotEqual,
+    And,
+    Xor,
+    Or,
+    /// `&&`
+    Both,
+    /// `||`
+    Either,
+}
+
+/// An argument of a call. `first` is the place of its first token, which may be a bracket.
+#[derive(Drop)]
+#[cycle(expression)]
+pub struct Argument {
+    pub first: u64,
+    pub value: Expr,
+}
+
+/// An expression. The `place` of a node is that of its operator, its `[` or its word.
+#[derive(Drop)]
+#[cycle(expression)]
+pub enum Expr {
+    Number(i64),
+    /// `NULL`
+    Null,
+    Variable(Name),
+    Call {
+        name: Name,
+        arguments: Vec<Argument>,
+    },
+    /// `root.FIELD`
+    Root(Name),
+    /// `pm_new(struct NAME)`
+    New {
+        place: u64,
+        name: Name,
+    },
+    /// `BASE->FIELD`
+    Arrow {
+        base: Box<Expr>,
+        place: u64,
+        field: Name,
+    },
+    /// `BASE[INDEX]`
+    Index {
+        base: Box<Expr>,
+        place: u64,
+        index: Box<Expr>,
+    },
+    Unary {
+        op: UnaryOp,
+        place: u64,
+        operand: Box<Expr>,
+    },
+    Binary {
+        op: BinaryOp,
+        place: u64,
+        left: Box<Expr>,
+        right: Box<Expr>,
+    },
+}

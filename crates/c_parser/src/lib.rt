@@ -1,0 +1,7 @@
+//! The tree of a program. It stands on `c_lexer`. Its one contract for the crates above: a tree
+//! spells its tokens, and a refused list is refused at the first token that no program continues.
+#![tactic(auto)]
+
+pub mod expr;
+pub mod item;
+pub mod stmt;
