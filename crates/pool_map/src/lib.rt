@@ -1,0 +1,10 @@
+//! The pool as the source sees it: root words, and objects in numbered slots. It stands on
+//! `nvm_base`. Its one contract for the crates above: each call of `Pool` does what the map of
+//! `specs/PoolMap.antt` does, and `show_text` writes the text of a pool.
+#![tactic(auto)]
+
+mod shapes;
+mod trap;
+
+pub use shapes::{FieldShape, FieldShapes, Shapes, StructShape, StructShapes};
+pub use trap::TrapKind;

@@ -1,0 +1,111 @@
+//! The shapes of a program's structs: their names, and their fields' names and lengths.
+
+ghost use Rattle.std.specs.Prelude.{[], ◌∷◌, ◌++◌, ◌≡◌, OnOk, OnErr};
+
+use nvm_base::Text;
+use std::alloc::{AllocError, Global};
+use std::marker::Model;
+
+/// A field: one word, or an array of `length` words.
+#[derive(Drop)]
+pub struct FieldShape {
+    pub name: Text,
+    /// The number of elements of an array, and `None` for a field that isn't one.
+    pub length: Option<u64>,
+}
+
+/// A list of fields, in the order of their declarations.
+#[derive(Drop)]
+pub struct FieldShapes {
+    all: Vec<FieldShape>,
+}
+
+impl Model for FieldShapes {
+    ghost use Rattle.std.specs.Prelude.{List};
+    ghost use Rattle.pool_map.specs.declared.shapes.FieldShape.{FieldShape};
+
+    ghost Value = { List FieldShape };
+
+    ghost view = { λ s. s.all.items };
+}
+
+impl FieldShapes {
+    /// The empty list. It takes no memory.
+    pub fn new(alloc: Global) -> Self
+        ensures { result ≡ [] }
+    {
+        FieldShapes {
+            all: Vec::new(alloc),
+        }
+    }
+
+    /// Puts one field at the end.
+    pub fn push(&mut self, field: FieldShape) -> Result<(), AllocError>
+        ensures ok { OnOk result (self.new ≡ self.old ++ field ∷ []) }
+        ensures err { OnErr result (self.new ≡ self.old) }
+    {
+        self.all.push(field)?;
+        Ok(())
+    }
+
+    pub fn as_slice(&self) -> &[FieldShape]
+        ensures { result.now ≡ self.now }
+    {
+        &self.all
+    }
+}
+
+/// A struct that objects may have.
+#[derive(Drop)]
+pub struct StructShape {
+    pub name: Text,
+    pub fields: FieldShapes,
+}
+
+/// A list of structs, in the order of their numbers, from number 1 on.
+#[derive(Drop)]
+pub struct StructShapes {
+    all: Vec<StructShape>,
+}
+
+impl Model for StructShapes {
+    ghost use Rattle.std.specs.Prelude.{List};
+    ghost use Rattle.pool_map.specs.declared.shapes.StructShape.{StructShape};
+
+    ghost Value = { List StructShape };
+
+    ghost view = { λ s. s.all.items };
+}
+
+impl StructShapes {
+    /// The empty list. It takes no memory.
+    pub fn new(alloc: Global) -> Self
+        ensures { result ≡ [] }
+    {
+        StructShapes {
+            all: Vec::new(alloc),
+        }
+    }
+
+    /// Puts one struct at the end.
+    pub fn push(&mut self, shape: StructShape) -> Result<(), AllocError>
+        ensures ok { OnOk result (self.new ≡ self.old ++ shape ∷ []) }
+        ensures err { OnErr result (self.new ≡ self.old) }
+    {
+        self.all.push(shape)?;
+        Ok(())
+    }
+
+    pub fn as_slice(&self) -> &[StructShape]
+        ensures { result.now ≡ self.now }
+    {
+        &self.all
+    }
+}
+
+/// The shapes that a program's pool has: the fields of the root, and the structs.
+#[derive(Drop)]
+pub struct Shapes {
+    pub root: FieldShapes,
+    pub structs: StructShapes,
+}
