@@ -6,6 +6,10 @@
 
 mod list;
 mod op;
+mod sink;
+mod source;
 
 pub use list::{Bytes, Registers, Text, Words};
 pub use op::BinOp;
+pub use sink::{Sink, WriteAnswer};
+pub use source::{ReadAnswer, Source};
