@@ -2,6 +2,10 @@
 //! `tokens` answers exactly the tokens that a text spells, or the first refusal with its line.
 #![tactic(auto)]
 
+mod fault;
+mod list;
 mod token;
 
+pub use fault::LexFault;
+pub use list::TokenList;
 pub use token::{Mark, Placed, Token, Word};

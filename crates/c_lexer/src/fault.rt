@@ -1,0 +1,22 @@
+//! The refusals of a text.
+
+use thiserror::Error;
+
+/// Why a text has no tokens. Each number is the line of the refusal, counted from 1.
+#[derive(Clone, Copy, Debug, PartialEq, Eq, Error)]
+pub enum LexFault {
+    /// A byte that begins no token, blank, comment or skipped line.
+    #[error("line {0}: no token begins with this byte")]
+    BadByte(u64),
+    /// A run of letters, digits and `_` that begins with a digit and is no number.
+    #[error("line {0}: not a number")]
+    BadNumber(u64),
+    /// A comment that is never closed; the line is the one where it begins.
+    #[error("line {0}: the comment is never closed")]
+    OpenComment(u64),
+    /// More than 262,144 bytes, or more than 16,384 tokens.
+    #[error("the program is too long")]
+    TooLong,
+    #[error("out of memory")]
+    NoMemory,
+}

@@ -1,0 +1,50 @@
+//! The tokens of a text, with their lines and the line at the text's end.
+
+ghost use Rattle.std.specs.Prelude.{◌≡◌, ◌≤◌, length, slice_get};
+ghost use Rattle.std.specs.Option.{option_copied};
+ghost use Rattle.c_lexer.specs.TokenList.{line_at};
+
+use crate::token::Placed;
+use std::marker::Model;
+
+/// The tokens of one text, in order, with the line at the text's end. Only `tokens` makes one.
+#[derive(Drop)]
+pub struct TokenList {
+    all: Vec<Placed>,
+    end: u64,
+}
+
+impl Model for TokenList {
+    ghost use Rattle.c_lexer.specs.TokenList.{Tokens};
+
+    ghost Value = { Tokens };
+
+    ghost view = { λ t. record { tokens = t.all.items; last = t.end } };
+}
+
+impl TokenList {
+    /// The number of tokens.
+    pub fn len(&self) -> u64
+        ensures { result ≡ length self.now.tokens }
+    {
+        self.all.len() as u64
+    }
+
+    /// The token at a place, counted from 0, with its line; none from the list's length on.
+    pub fn get(&self, place: u64) -> Option<&Placed>
+        ensures { option_copied result ≡ slice_get self.now.tokens place }
+    {
+        self.all.get(place as usize)
+    }
+
+    /// The line of the token at a place, and at the list's length the line at the text's end.
+    pub fn line(&self, token: u64) -> u64
+        requires { token ≤ length self.now.tokens }
+        ensures { result ≡ line_at self.now token }
+    {
+        match self.all.get(token as usize) {
+            Some(placed) => placed.line,
+            None => self.end,
+        }
+    }
+}
