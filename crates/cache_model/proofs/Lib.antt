@@ -1,0 +1,5 @@
+pub mod Versions
+pub mod Views
+pub mod Ready
+pub mod During
+pub mod Collapses
