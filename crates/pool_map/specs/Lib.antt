@@ -1,1 +1,2 @@
+pub mod PoolMap
 pub mod Trap

@@ -3,8 +3,12 @@
 //! `specs/PoolMap.antt` does, and `show_text` writes the text of a pool.
 #![tactic(auto)]
 
+mod object;
+mod pool;
 mod shapes;
 mod trap;
 
+pub use object::Object;
+pub use pool::Pool;
 pub use shapes::{FieldShape, FieldShapes, Shapes, StructShape, StructShapes};
 pub use trap::TrapKind;

@@ -1,0 +1,176 @@
+//! The pool: root words, and a map from slots to objects.
+
+ghost use Rattle.std.specs.Prelude.{◌≡◌, OnOk, OnErr, IfOk, ◌<◌, ◌≤◌, length, Option, None, Some, IsSome, option_map, replicate};
+ghost use Rattle.pool_map.specs.PoolMap.{empty_pool, IsSlot, object_at, least_free, new, free, HasField, read, write, read_root, write_root};
+
+use crate::object::{Object, copied, zeros};
+use nvm_base::Words;
+use std::alloc::{AllocError, Global};
+use std::marker::Model;
+
+/// A pool. Slots are numbered from 1, fields and root words from 0.
+#[derive(Drop)]
+pub struct Pool {
+    root: Words,
+    slots: Vec<Option<Object>>,
+}
+
+impl Model for Pool {
+    ghost use Rattle.pool_map.specs.PoolMap.{PoolMap};
+
+    ghost Value = { PoolMap };
+
+    ghost view = { λ p. record { root = p.root; slots = p.slots.items } };
+}
+
+impl Pool {
+    /// The pool of so many root words, all 0, and so many slots, all free.
+    pub fn empty(alloc: Global, root_words: u64, slots: u64) -> Result<Pool, AllocError>
+        ensures { IfOk result (λ pool. pool ≡ empty_pool root_words slots) }
+    {
+        let root = zeros(alloc, root_words)?;
+        let slots = free_slots(alloc, slots)?;
+        Ok(Pool { root, slots })
+    }
+
+    /// The same pool again.
+    pub fn copy(&self) -> Result<Pool, AllocError>
+        ensures { IfOk result (λ pool. pool ≡ self.now) }
+    {
+        let alloc = *self.slots.allocator();
+        let root = copied(alloc, &self.root)?;
+        let slots = copied_slots(alloc, &self.slots)?;
+        Ok(Pool { root, slots })
+    }
+
+    /// The least slot that has no object. It takes no memory.
+    pub fn least_free(&self) -> Option<u64>
+        ensures { result ≡ least_free self.now }
+    {
+        let mut slot = 1;
+        for object in &self.slots {
+            if object.is_none() {
+                return Some(slot);
+            }
+            slot += 1;
+        }
+        None
+    }
+
+    /// The object in a slot, for any number.
+    fn object(&self, slot: u64) -> Option<&Object>
+        ensures { option_map (λ object. object.now) result ≡ object_at self.now slot }
+    {
+        if slot == 0 || slot > self.slots.len() as u64 {
+            return None;
+        }
+        self.slots[(slot - 1) as usize].as_ref()
+    }
+
+    /// The kind of the object in a slot, and `None` where there is none, for any number. It takes no
+    /// memory.
+    pub fn kind(&self, slot: u64) -> Option<u32>
+        ensures { result ≡ option_map (λ object. object.kind) (object_at self.now slot) }
+    {
+        match self.object(slot) {
+            Some(object) => Some(object.kind),
+            None => None,
+        }
+    }
+
+    /// Puts an object into a free slot; its words are 0. After an error the pool is as before.
+    pub fn new_object(&mut self, slot: u64, kind: u32, words: u64) -> Result<(), AllocError>
+        requires slot { IsSlot self.old slot }
+        requires free { object_at self.old slot ≡ None }
+        ensures ok { OnOk result (self.new ≡ new self.old slot kind words) }
+        ensures err { OnErr result (self.new ≡ self.old) }
+    {
+        let fields = zeros(*self.slots.allocator(), words)?;
+        self.slots[(slot - 1) as usize] = Some(Object { kind, fields });
+        Ok(())
+    }
+
+    /// Takes the object out of a slot. It takes no memory.
+    pub fn free(&mut self, slot: u64)
+        requires { IsSome (object_at self.old slot) }
+        ensures { self.new ≡ free self.old slot }
+    {
+        self.slots[(slot - 1) as usize] = None;
+    }
+
+    /// A field word of the object in a slot. It takes no memory.
+    pub fn get(&self, slot: u64, field: u64) -> i64
+        requires { HasField self.now slot field }
+        ensures { result ≡ read self.now slot field }
+    {
+        match self.object(slot) {
+            Some(object) => object.fields.as_slice()[field as usize],
+            None => unreachable!(),
+        }
+    }
+
+    /// Writes a field word of the object in a slot. It takes no memory.
+    pub fn set(&mut self, slot: u64, field: u64, value: i64)
+        requires { HasField self.old slot field }
+        ensures { self.new ≡ write self.old slot field value }
+    {
+        match &mut self.slots[(slot - 1) as usize] {
+            Some(object) => object.fields.set(field, value),
+            None => unreachable!(),
+        }
+    }
+
+    /// A root word. It takes no memory.
+    pub fn root_get(&self, word: u64) -> i64
+        requires { word < length self.now.root }
+        ensures { result ≡ read_root self.now word }
+    {
+        self.root.as_slice()[word as usize]
+    }
+
+    /// Writes a root word. It takes no memory.
+    pub fn root_set(&mut self, word: u64, value: i64)
+        requires { word < length self.old.root }
+        ensures { self.new ≡ write_root self.old word value }
+    {
+        self.root.set(word, value);
+    }
+}
+
+/// So many slots without an object.
+fn free_slots(alloc: Global, slots: u64) -> Result<Vec<Option<Object>>, AllocError>
+    ensures { IfOk result (λ all. all.items ≡ replicate slots None) }
+{
+    let mut all = Vec::new(alloc);
+    for _ in 0..slots {
+        all.push(None)?;
+    }
+    Ok(all)
+}
+
+/// The same slots again.
+fn copied_slots(alloc: Global, slots: &[Option<Object>]) -> Result<Vec<Option<Object>>, AllocError>
+    ensures { IfOk result (λ all. all.items ≡ slots.now) }
+{
+    let mut all = Vec::new(alloc);
+    for slot in slots {
+        all.push(copied_slot(alloc, slot)?)?;
+    }
+    Ok(all)
+}
+
+/// The same slot again.
+fn copied_slot(alloc: Global, slot: &Option<Object>) -> Result<Option<Object>, AllocError>
+    ensures { IfOk result (λ same. same ≡ slot.now) }
+{
+    match slot {
+        Some(object) => {
+            let fields = copied(alloc, &object.fields)?;
+            Ok(Some(Object {
+                kind: object.kind,
+                fields,
+            }))
+        }
+        None => Ok(None),
+    }
+}
