@@ -3,10 +3,13 @@
 //! sites, and the walks through it.
 #![tactic(auto)]
 
+mod fact;
 mod function;
 mod instruction;
+pub mod laws;
 mod site;
 
+pub use fact::{Back, Fact, Origins};
 pub use function::{Instructions, Ir, IrFunction, IrFunctions};
 pub use instruction::{Instruction, Target};
 pub use site::{Site, Sites};
