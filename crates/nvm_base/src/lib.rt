@@ -8,8 +8,10 @@ mod list;
 mod op;
 mod sink;
 mod source;
+mod steps;
 
 pub use list::{Bytes, Registers, Text, Words};
 pub use op::BinOp;
 pub use sink::{Sink, WriteAnswer};
 pub use source::{ReadAnswer, Source};
+pub use steps::Steps;
