@@ -1,0 +1,4 @@
+pub mod ExprTree
+pub mod StmtTree
+pub mod ItemTree
+pub mod Program

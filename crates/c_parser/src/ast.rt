@@ -1,0 +1,54 @@
+//! The tree of a whole program.
+
+ghost use Rattle.std.specs.Prelude.{◌≡◌, length};
+ghost use Rattle.c_parser.specs.Program.{line_of};
+
+use crate::item::Item;
+use std::marker::Model;
+
+/// The tree of a program, with the lines of its tokens. Only `parse` makes one.
+#[derive(Drop)]
+pub struct Ast {
+    items: Vec<Item>,
+    lines: Vec<u64>,
+    end: u64,
+}
+
+impl Model for Ast {
+    ghost use Rattle.c_parser.specs.Program.{Program};
+    ghost use Rattle.c_parser.specs.contracts.expr.Expr as expression;
+    ghost use Rattle.c_parser.specs.contracts.stmt.Stmt as statement;
+    ghost use Rattle.std.specs.Coded.{codes};
+
+    ghost Value = { Program };
+
+    ghost coded = { Prim.hlevel (codes, expression.the_row.coded, statement.the_row.coded) };
+
+    ghost view = { λ a. record { all = a.items.items; lines = a.lines.items; last = a.end } };
+}
+
+impl Ast {
+    /// The items of the program, in the text's order.
+    pub fn items(&self) -> &[Item]
+        ensures { result.now ≡ self.now.all }
+    {
+        &self.items
+    }
+
+    /// The number of the program's tokens.
+    pub fn tokens(&self) -> u64
+        ensures { result ≡ length self.now.lines }
+    {
+        self.lines.len() as u64
+    }
+
+    /// The line of the token at a place, and at the number of tokens the line at the text's end.
+    pub fn line(&self, place: u64) -> u64
+        ensures { result ≡ line_of self.now place }
+    {
+        match self.lines.get(place as usize) {
+            Some(line) => *line,
+            None => self.end,
+        }
+    }
+}
