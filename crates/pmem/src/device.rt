@@ -1,0 +1,76 @@
+//! The two parts of a device: what a running transaction uses, and what owns the switch.
+
+ghost use Rattle.std.specs.Prelude.{◌≡◌, ◌*◌, ◌<◌, ◌≤◌, true, false, Some, None, IsSome, IsNone, IfSome, OnOk, OnErr, IfErr};
+ghost use Rattle.cache_model.specs.Cache.{view};
+ghost use Rattle.cache_model.specs.Event.{Store, Flush, Fence};
+ghost use Rattle.cache_model.specs.Collapse.{bad, Rises};
+ghost use Rattle.pmem.specs.Device.{Device, memory_of, blanked, powered, with_left, with_armed};
+ghost use Rattle.pmem.specs.Played.{Answered, Stored};
+
+use crate::answer::{Event, StoreEvent};
+use cache_model::{BadPick, Choice};
+use std::alloc::{AllocError, Global};
+
+/// Loads, and the three events.
+pub trait PmemWork {
+    ghost device: { Self → Device };
+
+    /// The number of lines.
+    fn lines(&self) -> u64
+        ensures { result ≡ (device self.now).lines };
+
+    /// The word in the newest version of its line. It is no event.
+    fn load(&self, word: u64) -> Option<i64>
+        requires { word < 8 * (device self.now).lines }
+        ensures value { IfSome result (λ v. v ≡ view (device self.now).cache word) }
+        ensures on { IsSome result → (device self.now).on ≡ true }
+        ensures off { IsNone result → (device self.now).on ≡ false };
+
+    /// Appends a version to the word's line.
+    fn store(&mut self, word: u64, value: i64) -> StoreEvent
+        requires { word < 8 * (device self.old).lines }
+        ensures answer { Stored result (device self.old) (Store word value) (device self.new) }
+        ensures lines { (device self.new).lines ≡ (device self.old).lines };
+
+    /// Marks the newest version of the line for the next fence.
+    fn flush(&mut self, line: u64) -> Event
+        requires { line < (device self.old).lines }
+        ensures answer { Answered result (device self.old) (Flush line) (device self.new) }
+        ensures lines { (device self.new).lines ≡ (device self.old).lines };
+
+    /// Drops the versions that are older than a mark, in every line.
+    fn fence(&mut self) -> Event
+        ensures answer { Answered result (device self.old) Fence (device self.new) }
+        ensures lines { (device self.new).lines ≡ (device self.old).lines };
+}
+
+/// The switch, and what a test arms.
+pub trait Pmem: PmemWork {
+    /// Blank lines, switched on, with nothing armed. After `AllocError` all is as before.
+    fn blank(&mut self, lines: u64) -> Result<(), AllocError>
+        ensures done { OnOk result (Self.device self.new ≡ blanked lines (Self.device self.old)) }
+        ensures refused { OnErr result (Self.device self.new ≡ Self.device self.old) };
+
+    /// Leaves each line by the choice and switches the device on. On `BadPick`, which names the first
+    /// pick whose line or version isn't there, nothing changes.
+    fn power(&mut self, choice: &Choice) -> Result<(), BadPick>
+        requires { Rises choice.now.picks }
+        ensures fits { OnOk result (bad (memory_of (Self.device self.old)) choice.now.picks ≡ None) }
+        ensures done { OnOk result (Self.device self.new ≡ powered choice.now (Self.device self.old)) }
+        ensures bad { IfErr result (λ pick. bad (memory_of (Self.device self.old)) choice.now.picks ≡ Some pick.line) }
+        ensures refused { OnErr result (Self.device self.new ≡ Self.device self.old) };
+
+    /// After `k` more events that are done the device goes off at the next one.
+    fn arm(&mut self, k: u64)
+        ensures { Self.device self.new ≡ with_left k (Self.device self.old) };
+
+    /// After `k` more events that are done the next one fails, where the device tells this.
+    fn arm_fault(&mut self, k: u64)
+        ensures { Self.device self.new ≡ with_armed k (Self.device self.old) };
+
+    /// This device whole. In its place it leaves one of 0 lines that is on, has nothing armed and
+    /// has the same count of faults. It is no event and takes no memory.
+    fn take(&mut self) -> Self
+        ensures taken { Self.device result ≡ Self.device self.old }
+        ensures left { Self.device self.new ≡ blanked 0 (Self.device self.old) };
+}
