@@ -1,0 +1,5 @@
+pub mod Limits
+pub mod Sizes
+pub mod Digest
+pub mod Bytes
+pub mod Places

@@ -1,0 +1,198 @@
+//! The places of a pool: each word by its name, and the number of the word where it stands.
+
+ghost use Rattle.std.specs.Prelude.{◌≡◌, ◌<◌, ◌≤◌, ◌*◌};
+ghost use Rattle.pool_layout.specs.Sizes.{heap_words};
+ghost use Rattle.pool_layout.specs.Places.{at, words, log_line, seal_word, pool_of, heap_at, IsPlace, IsHeapPlace, PlacesApart, PlacesFit, HeapLines, HeapApart, HeapFits, SizesAgree};
+
+use crate::limits::Sizes;
+use crate::measures::{heap_words, slot_word};
+
+/// The two versions of the layout. A pool is created and saved in the second. In the first the
+/// argument record is one line, in the second three.
+#[derive(Clone, Copy, Debug, PartialEq, Eq)]
+pub enum Version {
+    First,
+    Second,
+}
+
+/// Where the words of a pool of these sizes stand.
+#[derive(Clone, Copy, Debug, PartialEq, Eq)]
+pub struct Layout {
+    pub version: Version,
+    pub sizes: Sizes,
+}
+
+/// A word of a pool by its name. Arguments are counted from 1, `Argument(0)` is the function;
+/// records and heap words are counted from 0. The spare words are never read.
+#[derive(Clone, Copy, Debug, PartialEq, Eq)]
+pub enum Place {
+    /// Lines 0 and 1: magic, version, sizes, and the digest in words 8 to 11.
+    Super(u64),
+    Last,
+    Done,
+    Attempt,
+    Mark,
+    Spare(u64),
+    Argument(u64),
+    Seal,
+    RecordWord(u64),
+    RecordOld(u64),
+    RecordStamp(u64),
+    RecordSpare(u64, u64),
+    Heap(u64),
+}
+
+/// A word of the heap by its name: a word of the root, or the header or a field of a slot. Slots
+/// are counted from 1, fields from 0.
+#[derive(Clone, Copy, Debug, PartialEq, Eq)]
+pub enum HeapPlace {
+    Root(u64),
+    Header(u64),
+    Field(u64, u64),
+}
+
+impl Version {
+    /// The line of record 0.
+    fn log_line(self) -> u64
+        ensures { result ≡ log_line self }
+    {
+        match self {
+            Version::First => 4,
+            Version::Second => 6,
+        }
+    }
+
+    /// The pool's word that is the seal.
+    fn seal_word(self) -> u64
+        ensures { result ≡ seal_word self }
+    {
+        match self {
+            Version::First => 31,
+            Version::Second => 47,
+        }
+    }
+}
+
+impl Layout {
+    /// The layout of a pool that is created or saved.
+    pub fn new(sizes: &Sizes) -> Self
+        ensures { result ≡ pool_of sizes.now }
+    {
+        Layout {
+            version: Version::Second,
+            sizes: *sizes,
+        }
+    }
+
+    /// How many words the pool has.
+    pub fn words(&self) -> u64
+        ensures { result ≡ words self.now }
+    {
+        8 * (self.version.log_line() + self.sizes.records()) + heap_words(&self.sizes)
+    }
+
+    /// The number of the pool's word that is this place.
+    pub fn word(&self, place: Place) -> u64
+        requires { IsPlace self.now place }
+        ensures { result ≡ at self.now place }
+    {
+        let log = self.version.log_line();
+        match place {
+            Place::Super(k) => k,
+            Place::Last => 16,
+            Place::Done => 17,
+            Place::Attempt => 18,
+            Place::Mark => 19,
+            Place::Spare(k) => 20 + k,
+            Place::Argument(k) => 24 + k,
+            Place::Seal => self.version.seal_word(),
+            Place::RecordWord(i) => 8 * (log + i),
+            Place::RecordOld(i) => 8 * (log + i) + 1,
+            Place::RecordStamp(i) => 8 * (log + i) + 2,
+            Place::RecordSpare(i, k) => 8 * (log + i) + 3 + k,
+            Place::Heap(w) => 8 * (log + self.sizes.records()) + w,
+        }
+    }
+
+    /// The place of a word of the pool. Each word has one.
+    pub fn place(&self, word: u64) -> Place
+        requires { word < words self.now }
+        ensures valid { IsPlace self.now result }
+        ensures same { at self.now result ≡ word }
+    {
+        let seal = self.version.seal_word();
+        if word < 24 {
+            self.head_place(word)
+        } else if word < seal {
+            Place::Argument(word - 24)
+        } else if word == seal {
+            Place::Seal
+        } else {
+            self.tail_place(word)
+        }
+    }
+
+    /// The place of a word of the heap within the heap. Each heap word has one.
+    pub fn heap_place(&self, word: u64) -> HeapPlace
+        requires { word < heap_words self.now.sizes }
+        ensures valid { IsHeapPlace self.now.sizes result }
+        ensures same { heap_at self.now.sizes result ≡ word }
+    {
+        let slots = slot_word(&self.sizes, 1);
+        if word < slots {
+            return HeapPlace::Root(word);
+        }
+        let slot = (word - slots) / 16 + 1;
+        match (word - slots) % 16 {
+            0 => HeapPlace::Header(slot),
+            k => HeapPlace::Field(slot, k - 1),
+        }
+    }
+
+    /// The place of a word of lines 0 to 2.
+    fn head_place(&self, word: u64) -> Place
+        requires { word < 24 }
+        ensures valid { IsPlace self.now result }
+        ensures same { at self.now result ≡ word }
+    {
+        match word {
+            16 => Place::Last,
+            17 => Place::Done,
+            18 => Place::Attempt,
+            19 => Place::Mark,
+            k if k < 16 => Place::Super(k),
+            k => Place::Spare(k - 20),
+        }
+    }
+
+    /// The place of a word behind the seal.
+    fn tail_place(&self, word: u64) -> Place
+        requires behind { 8 * log_line self.now.version ≤ word }
+        requires inside { word < words self.now }
+        ensures valid { IsPlace self.now result }
+        ensures same { at self.now result ≡ word }
+    {
+        let log = self.version.log_line();
+        let heap = 8 * (log + self.sizes.records());
+        if word >= heap {
+            return Place::Heap(word - heap);
+        }
+        let i = word / 8 - log;
+        match word % 8 {
+            0 => Place::RecordWord(i),
+            1 => Place::RecordOld(i),
+            2 => Place::RecordStamp(i),
+            k => Place::RecordSpare(i, k - 3),
+        }
+    }
+}
+
+/// Different places are different words, each within the pool, and a heap word has one line.
+pub fn places_law()
+    ensures apart { PlacesApart }
+    ensures fit { PlacesFit }
+    ensures lines { HeapLines }
+    ensures heap_apart { HeapApart }
+    ensures heap_fits { HeapFits }
+    ensures sizes { SizesAgree }
+{}
