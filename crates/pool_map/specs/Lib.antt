@@ -1,2 +1,4 @@
+pub mod PoolFits
 pub mod PoolMap
+pub mod PoolText
 pub mod Trap

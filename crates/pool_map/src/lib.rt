@@ -6,9 +6,11 @@
 mod object;
 mod pool;
 mod shapes;
+mod show;
 mod trap;
 
 pub use object::Object;
 pub use pool::Pool;
 pub use shapes::{FieldShape, FieldShapes, Shapes, StructShape, StructShapes};
+pub use show::show_text;
 pub use trap::TrapKind;

@@ -57,6 +57,20 @@ impl Pool {
         None
     }
 
+    /// The root words.
+    pub(crate) fn root_words(&self) -> &[i64]
+        ensures { result.now ≡ self.now.root }
+    {
+        self.root.as_slice()
+    }
+
+    /// The slots from 1 on.
+    pub(crate) fn slots(&self) -> &[Option<Object>]
+        ensures { result.now ≡ self.now.slots }
+    {
+        &self.slots
+    }
+
     /// The object in a slot, for any number.
     fn object(&self, slot: u64) -> Option<&Object>
         ensures { option_map (λ object. object.now) result ≡ object_at self.now slot }

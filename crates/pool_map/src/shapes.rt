@@ -14,6 +14,17 @@ pub struct FieldShape {
     pub length: Option<u64>,
 }
 
+impl FieldShape {
+    ghost use Rattle.pool_map.specs.PoolFits.{words_of_field};
+
+    /// How many words the field has.
+    pub(crate) fn words(&self) -> u64
+        ensures { result ≡ words_of_field self.now }
+    {
+        self.length.unwrap_or(1)
+    }
+}
+
 /// A list of fields, in the order of their declarations.
 #[derive(Drop)]
 pub struct FieldShapes {
