@@ -1,2 +1,5 @@
 pub mod Answers
+pub mod Parts
+pub mod Reader
 pub mod Rose
+pub mod Writer

@@ -4,14 +4,22 @@
 //! count of faults rose.
 #![tactic(auto)]
 
+mod input;
 mod list;
+mod mem_sink;
+mod mem_source;
 mod op;
+mod output;
 mod sink;
 mod source;
 mod steps;
 
+pub use input::{ReadAllFault, UpToFault, read_all, read_up_to};
 pub use list::{Bytes, Registers, Text, Words};
+pub use mem_sink::MemSink;
+pub use mem_source::MemSource;
 pub use op::BinOp;
+pub use output::{WriteFault, write_all};
 pub use sink::{Sink, WriteAnswer};
 pub use source::{ReadAnswer, Source};
 pub use steps::Steps;

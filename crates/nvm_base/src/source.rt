@@ -28,7 +28,7 @@ pub trait Source {
         requires { 0 < length piece.old }
         ensures within { IfRead result (λ n. n ≤ length piece.new) }
         ensures bytes { IfRead result (λ n. Consumes (left self.old) (left self.new) (take n piece.new)) }
-        ensures end { result ≡ ReadAnswer.Count 0 → IsAtEnd (left self.old) }
+        ensures end { result ≡ ReadAnswer.Count 0 → IsAtEnd (left self.new) }
         ensures kept { OnReadFailed result (Keeps (left self.old) (left self.new)) }
         ensures failed { OnReadFailed result (Rose (faults self.old) (faults self.new)) }
         ensures count { faults self.old ≤ faults self.new };
