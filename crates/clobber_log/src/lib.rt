@@ -1,0 +1,8 @@
+//! The log of old values. It stands on `pmem` and `pool_layout`. Its one contract for the crates
+//! above: appending a record, restoring the records and resetting the log play exactly the events
+//! that `specs/` gives them, or the first of these up to the one that was refused.
+#![tactic(auto)]
+
+mod record;
+
+pub use record::append_record;

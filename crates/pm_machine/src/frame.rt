@@ -1,0 +1,66 @@
+//! An open function of the machine, and the words of its registers.
+
+ghost use Rattle.std.specs.Prelude.{◌≡◌, ◌++◌, length, pos, replicate, slice_index_or, slice_set, IfOk};
+
+use std::alloc::{AllocError, Global};
+use std::marker::Model;
+
+/// The words of a frame's registers, seen as a list. A register that isn't there reads as 0.
+#[derive(Drop)]
+pub struct RegisterWords {
+    all: Vec<i64>,
+}
+
+impl Model for RegisterWords {
+    ghost use Rattle.std.specs.Prelude.{ℤ, List};
+
+    ghost Value = { List ℤ };
+
+    ghost view = { λ w. w.all.items };
+}
+
+impl RegisterWords {
+    /// So many registers that hold 0.
+    pub fn blank(alloc: Global, count: u32) -> Result<Self, AllocError>
+        ensures { IfOk result (λ w. w ≡ replicate count (pos 0)) }
+    {
+        let all = vec![in alloc; 0; count as usize]?;
+        Ok(RegisterWords { all })
+    }
+
+    /// The word of a register, 0 where there is none.
+    pub fn get(&self, register: u32) -> i64
+        ensures { result ≡ slice_index_or self.now register (pos 0) }
+    {
+        match self.all.get(register as usize) {
+            Some(word) => *word,
+            None => 0,
+        }
+    }
+
+    /// Writes a register, where there is one.
+    pub fn set(&mut self, register: u32, word: i64)
+        ensures { self.new ≡ slice_set self.old register word }
+    {
+        if (register as usize) < self.all.len() {
+            self.all[register as usize] = word;
+        }
+    }
+
+    /// All registers hold 0 again.
+    pub fn clear(&mut self)
+        ensures { self.new ≡ replicate (length self.old) (pos 0) }
+    {
+        self.all.fill(0);
+    }
+}
+
+/// An open function: its number, the place in it, the caller's register that gets its result, and its
+/// registers.
+#[derive(Drop)]
+pub struct Frame {
+    pub function: u32,
+    pub place: usize,
+    pub to: u32,
+    pub registers: RegisterWords,
+}

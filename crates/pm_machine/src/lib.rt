@@ -1,0 +1,14 @@
+//! The machine: its instructions, a checked program of them, and a run over a device. It stands on
+//! `clobber_log`, `pool_map` and `nvm_base`. Its one contract for the crates above: each step is one
+//! line of the machine's table, on the device's view.
+#![tactic(auto)]
+
+mod effect;
+mod frame;
+mod image;
+mod op;
+
+pub use effect::{Effect, End};
+pub use frame::{Frame, RegisterWords};
+pub use image::{Image, ImageParts, ImageRefused};
+pub use op::{Code, Function, Functions, Op, TxEntry, TxList};
