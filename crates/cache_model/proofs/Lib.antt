@@ -3,3 +3,5 @@ pub mod Views
 pub mod Ready
 pub mod During
 pub mod Collapses
+pub mod Lists
+pub mod Lefts

@@ -32,7 +32,7 @@ abbrev pub is_good : Memory → Pick → Bool
 is_good m p = nat_lt p.line m.lines && nat_lt p.version (length (versions (m.cache p.line)))
 
 -- the line of the first bad pick
-unfoldable pub bad : Memory → List Pick → Option ℕ
+abbrev pub bad : Memory → List Pick → Option ℕ
 bad m [] = None
 bad m (p ∷ ps) = cond (is_good m p) (bad m ps) (Some p.line)
 

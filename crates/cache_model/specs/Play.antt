@@ -1,7 +1,7 @@
 -- What an event, and a list of events in order, does to a cache.
 use Rattle.std.specs.Prelude.{ℕ, ◌/◌, ◌≡◌, ◌==◌, cond, List, [], ◌∷◌, ◌++◌, length, drop, Option, Some, None, ℤ}
 use Rattle.cache_model.specs.Event.{CacheEvent, Store, Flush, Fence}
-use Rattle.cache_model.specs.Cache.{Words, put, Line, Cache}
+use Rattle.cache_model.specs.Cache.{Words, put, Line, Cache, Memory}
 
 -- A store appends a version to its line: the newest one with one word replaced, also where the value is the same.
 abbrev pub store_line : Line → ℕ → ℤ → Line
@@ -35,3 +35,7 @@ apply c Fence l = fence_line (c l)
 abbrev pub play : Cache → List CacheEvent → Cache
 play c [] = c
 play c (e ∷ es) = play (apply c e) es
+
+-- the memory behind an event
+abbrev pub after : Memory → CacheEvent → Memory
+after m e = record { lines = m.lines; cache = apply m.cache e }

@@ -1,9 +1,160 @@
 //! The lines of a memory.
 
+ghost use Rattle.std.specs.Prelude.{◌≡◌, ◌*◌, ◌<◌, Some, None, OnOk, OnErr, IfOk, IfErr, map, length};
+ghost use Rattle.cache_model.specs.Cache.{blank, view};
+ghost use Rattle.cache_model.specs.Event.{Store, Flush, Fence};
+ghost use Rattle.cache_model.specs.Play.{after};
+ghost use Rattle.cache_model.specs.Collapse.{bad, is_good, collapse, Rises};
+ghost use Rattle.cache_model.specs.Lists.{cache_from, memory_from, list_fence, list_picked, list_rest, IsWhole, AreIn};
+
+use crate::choice::{BadPick, Choice, Pick, Rest};
 use crate::line::Versions;
+use std::alloc::{AllocError, Global};
+use std::marker::Model;
 
 /// Lines with their versions and marks.
 #[derive(Drop)]
 pub struct Cache {
-    lines: Vec<Versions>,
+    all: Vec<Versions>,
+}
+
+impl Model for Cache {
+    ghost use Rattle.std.specs.Prelude.{List};
+    ghost use Rattle.cache_model.specs.Lists.{ListLine, IsWhole};
+
+    ghost Value = { List ListLine };
+
+    ghost view = { λ c. c.all.items };
+
+    ghost invariant = { λ c. IsWhole c.all.items };
+}
+
+impl Cache {
+    /// Blank lines.
+    pub fn new(alloc: Global, lines: u64) -> Result<Self, AllocError>
+        ensures { IfOk result (λ c. memory_from c ≡ record { lines = lines; cache = blank }) }
+    {
+        let mut all = Vec::new(alloc);
+        for _ in 0..lines {
+            all.push(Versions::blank(alloc))?;
+        }
+        Ok(Cache { all })
+    }
+
+    /// The number of lines.
+    pub fn lines(&self) -> u64
+        ensures { result ≡ length self.now }
+    {
+        self.all.len() as u64
+    }
+
+    /// The word in the newest version of its line.
+    #[tactic(auto, using(std::proofs::lemmas::Int::wraps, crate::proofs::Lists::view_list))]
+    pub fn load(&self, word: u64) -> i64
+        requires { word < 8 * length self.now }
+        ensures { result ≡ view (cache_from self.now) word }
+    {
+        self.all[(word / 8) as usize].load((word % 8) as usize)
+    }
+
+    /// Appends a version to the word's line.
+    #[tactic(auto, using(std::proofs::lemmas::Int::wraps, crate::proofs::Lists::store_memory))]
+    pub fn store(&mut self, word: u64, value: i64) -> Result<(), AllocError>
+        requires { word < 8 * length self.old }
+        ensures done { OnOk result (memory_from self.new ≡ after (memory_from self.old) (Store word value)) }
+        ensures refused { OnErr result (self.new ≡ self.old) }
+    {
+        let line = &mut self.all[(word / 8) as usize];
+        line.store((word % 8) as usize, value)?;
+        Ok(())
+    }
+
+    /// Marks the newest version of the line for the next fence.
+    pub fn flush(&mut self, line: u64)
+        requires { line < length self.old }
+        ensures { memory_from self.new ≡ after (memory_from self.old) (Flush line) }
+    {
+        let versions = &mut self.all[line as usize];
+        versions.flush();
+    }
+
+    /// Drops the versions that are older than a mark, in every line.
+    pub fn fence(&mut self)
+        ensures { memory_from self.new ≡ after (memory_from self.old) Fence }
+    {
+        fence_all(&mut self.all);
+    }
+
+    /// The line of the first pick whose line or version isn't there.
+    fn bad_pick(&self, picks: &[Pick]) -> Option<u64>
+        ensures { result ≡ bad (memory_from self.now) picks.now }
+    {
+        for pick in picks {
+            if !self.has(*pick) {
+                return Some(pick.line);
+            }
+        }
+        None
+    }
+
+    /// Whether the pick's line is there, and has that version.
+    fn has(&self, pick: Pick) -> bool
+        ensures { result ≡ is_good (memory_from self.now) pick }
+    {
+        if pick.line >= self.lines() {
+            return false;
+        }
+        pick.version < self.all[pick.line as usize].len()
+    }
+
+    /// Leaves each line by the choice. On `BadPick`, which names the first pick whose line or version
+    /// isn't there, nothing changes. It takes no memory.
+    pub fn collapse(&mut self, choice: &Choice) -> Result<(), BadPick>
+        requires { Rises choice.now.picks }
+        ensures fits { OnOk result (bad (memory_from self.old) choice.now.picks ≡ None) }
+        ensures done { OnOk result (memory_from self.new ≡ collapse (memory_from self.old) choice.now) }
+        ensures bad { IfErr result (λ pick. bad (memory_from self.old) choice.now.picks ≡ Some pick.line) }
+        ensures refused { OnErr result (self.new ≡ self.old) }
+    {
+        let picks = choice.picks.as_slice();
+        if let Some(line) = self.bad_pick(picks) {
+            return Err(BadPick { line });
+        }
+        keep_picked(&mut self.all, picks);
+        keep_rest(&mut self.all, choice.rest);
+        Ok(())
+    }
+}
+
+/// A fence on each line.
+fn fence_all(lines: &mut Vec<Versions>)
+    ensures { lines.new.items ≡ map list_fence lines.old.items }
+{
+    for line in lines.iter_mut() {
+        line.fence();
+    }
+}
+
+/// Each picked line keeps what its pick names.
+fn keep_picked(lines: &mut Vec<Versions>, picks: &[Pick])
+    requires picks { AreIn (length lines.old.items) picks.now }
+    requires whole { IsWhole lines.old.items }
+    ensures kept { lines.new.items ≡ list_picked lines.old.items picks.now }
+    ensures whole { IsWhole lines.new.items }
+{
+    for pick in picks {
+        let line = &mut lines[pick.line as usize];
+        line.keep(pick.version as usize);
+    }
+}
+
+/// Each line keeps its oldest or its newest version.
+fn keep_rest(lines: &mut Vec<Versions>, rest: Rest)
+    requires { IsWhole lines.old.items }
+    ensures kept { lines.new.items ≡ map (list_rest rest) lines.old.items }
+    ensures whole { IsWhole lines.new.items }
+{
+    for line in lines.iter_mut() {
+        line.keep_rest(rest);
+    }
 }
