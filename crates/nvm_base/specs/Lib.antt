@@ -1,5 +1,9 @@
 pub mod Answers
+pub mod Applied
+pub mod Operations
 pub mod Parts
 pub mod Reader
 pub mod Rose
+pub mod WordLaws
+pub mod Wrap
 pub mod Writer

@@ -5,6 +5,7 @@
 #![tactic(auto)]
 
 mod input;
+mod laws;
 mod list;
 mod mem_sink;
 mod mem_source;
@@ -13,8 +14,10 @@ mod output;
 mod sink;
 mod source;
 mod steps;
+mod word;
 
 pub use input::{ReadAllFault, UpToFault, read_all, read_up_to};
+pub use laws::{word_laws, wrap_law};
 pub use list::{Bytes, Registers, Text, Words};
 pub use mem_sink::MemSink;
 pub use mem_source::MemSource;
@@ -23,3 +26,4 @@ pub use output::{WriteFault, write_all};
 pub use sink::{Sink, WriteAnswer};
 pub use source::{ReadAnswer, Source};
 pub use steps::Steps;
+pub use word::{add, div, less, mul, rem, shl, shr, sub, ult};

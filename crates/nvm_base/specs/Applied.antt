@@ -1,0 +1,27 @@
+-- What each binary operation makes of two words. It is total, as the machine has it: a quotient and a
+-- remainder by 0 are 0.
+use Rattle.std.specs.Prelude.{ℤ, pos, ◌==◌, if◌then◌else◌}
+use Rattle.nvm_base.specs.Operations as word
+use Rattle.nvm_base.specs.declared.op.BinOp.{BinOp}
+use Rattle.nvm_base.specs.declared.op.BinOp.TheVariants.{Add, Sub, Mul, Div, Rem, Shl, Shr, And, Or, Xor, Lt, Le, Eq, Ne, Ult}
+
+-- 0 where the divisor is 0
+abbrev pub unless_zero : (divisor : ℤ) → ℤ → ℤ
+unless_zero divisor value = if word.unsigned divisor == 0 then pos 0 else value
+
+abbrev pub applied : BinOp → ℤ → ℤ → ℤ
+applied Add a b = word.add a b
+applied Sub a b = word.sub a b
+applied Mul a b = word.mul a b
+applied Div a b = unless_zero b (word.div a b)
+applied Rem a b = unless_zero b (word.rem a b)
+applied Shl a b = word.shl a b
+applied Shr a b = word.shr a b
+applied And a b = word.and_of a b
+applied Or a b = word.or_of a b
+applied Xor a b = word.xor_of a b
+applied Lt a b = word.less a b
+applied Le a b = word.le a b
+applied Eq a b = word.eq a b
+applied Ne a b = word.ne a b
+applied Ult a b = word.ult a b

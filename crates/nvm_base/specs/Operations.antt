@@ -1,0 +1,69 @@
+-- The operations on words. Each is a formula over whole numbers followed by one `wrap`; the tests give 1
+-- where they hold and else 0; the bitwise ones work on the 64 bits of two's complement.
+--
+-- Division truncates toward zero, so -2^63 / -1 wraps to -2^63 and its remainder is 0. A shift's count is
+-- taken modulo 64; a shift to the right divides and rounds down, so the sign comes in.
+use Rattle.std.specs.Prelude.{◌+ℤ◌, ◌-ℤ◌, ◌*ℤ◌, ◌^◌, ◌%◌, ◌==◌, ℕ, ℤ, pos, Bool, not, nat_lt, int_div, int_lt, int_le, if◌then◌else◌}
+use Rattle.std.specs.Int.{w64, cast_unsigned, int_div_euclid, int_bit_and, int_bit_or, int_bit_xor}
+use Rattle.nvm_base.specs.Wrap.{wrap}
+
+-- the word's 64 bits as a number: the word modulo 2^64
+abbrev pub unsigned : ℤ → ℕ
+unsigned a = cast_unsigned w64 a
+
+-- by how many places a shift by b shifts: b modulo 64
+abbrev pub places : ℤ → ℕ
+places b = unsigned b % 64
+
+-- the word of a test
+abbrev pub truth : Bool → ℤ
+truth holds = if holds then pos 1 else pos 0
+
+abbrev pub add : ℤ → ℤ → ℤ
+add a b = wrap (a +ℤ b)
+
+abbrev pub sub : ℤ → ℤ → ℤ
+sub a b = wrap (a -ℤ b)
+
+abbrev pub mul : ℤ → ℤ → ℤ
+mul a b = wrap (a *ℤ b)
+
+-- `int_div` is the quotient truncated toward zero
+abbrev pub div : ℤ → ℤ → ℤ
+div a b = wrap (int_div a b)
+
+-- a - b q, with q the quotient truncated toward zero
+abbrev pub rem : ℤ → ℤ → ℤ
+rem a b = wrap (a -ℤ int_div a b *ℤ b)
+
+abbrev pub shl : ℤ → ℤ → ℤ
+shl a b = wrap (a *ℤ pos (2 ^ places b))
+
+-- `int_div_euclid` by a number above 0 rounds down
+abbrev pub shr : ℤ → ℤ → ℤ
+shr a b = wrap (int_div_euclid a (pos (2 ^ places b)))
+
+abbrev pub and_of : ℤ → ℤ → ℤ
+and_of a b = int_bit_and w64 a b
+
+abbrev pub or_of : ℤ → ℤ → ℤ
+or_of a b = int_bit_or w64 a b
+
+abbrev pub xor_of : ℤ → ℤ → ℤ
+xor_of a b = int_bit_xor w64 a b
+
+abbrev pub less : ℤ → ℤ → ℤ
+less a b = truth (int_lt a b)
+
+abbrev pub le : ℤ → ℤ → ℤ
+le a b = truth (int_le a b)
+
+abbrev pub eq : ℤ → ℤ → ℤ
+eq a b = truth (unsigned a == unsigned b)
+
+abbrev pub ne : ℤ → ℤ → ℤ
+ne a b = truth (not (unsigned a == unsigned b))
+
+-- as `less`, of the two as unsigned numbers
+abbrev pub ult : ℤ → ℤ → ℤ
+ult a b = truth (nat_lt (unsigned a) (unsigned b))

@@ -1,0 +1,21 @@
+//! Laws of the words that contracts cite. The functions do nothing; their clauses are the laws.
+
+ghost use Rattle.std.specs.Prelude.{ℤ};
+ghost use Rattle.nvm_base.specs.WordLaws.{UnsignedIsModulo, PlacesIsModulo, ShiftRoundsDown, EqCompares, AndIsBitwise, OrIsBitwise, XorIsBitwise};
+ghost use Rattle.nvm_base.specs.Wrap.{Wraps};
+
+/// A number wraps to the one word that differs from it by a multiple of 2^64.
+pub fn wrap_law()
+    ensures { (x : ℤ) → Wraps x }
+{}
+
+/// What the words of the operations mean.
+pub fn word_laws()
+    ensures unsigned { UnsignedIsModulo }
+    ensures places { PlacesIsModulo }
+    ensures shift { ShiftRoundsDown }
+    ensures equal { EqCompares }
+    ensures and { AndIsBitwise }
+    ensures or { OrIsBitwise }
+    ensures xor { XorIsBitwise }
+{}

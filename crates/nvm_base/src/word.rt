@@ -1,0 +1,76 @@
+//! The operations on 64-bit words, which wrap.
+
+ghost use Rattle.std.specs.Prelude.{◌≡◌, ◌≢◌, pos};
+ghost use Rattle.nvm_base.specs.Operations as word;
+
+/// `a + b`, wrapped.
+#[tactic(auto, using(std::proofs::lemmas::Int::wraps))]
+pub fn add(a: i64, b: i64) -> i64
+    ensures { result ≡ word.add a b }
+{
+    a.wrapping_add(b)
+}
+
+/// `a - b`, wrapped.
+#[tactic(auto, using(std::proofs::lemmas::Int::wraps))]
+pub fn sub(a: i64, b: i64) -> i64
+    ensures { result ≡ word.sub a b }
+{
+    a.wrapping_sub(b)
+}
+
+/// `a * b`, wrapped.
+#[tactic(auto, using(std::proofs::lemmas::Int::wraps))]
+pub fn mul(a: i64, b: i64) -> i64
+    ensures { result ≡ word.mul a b }
+{
+    a.wrapping_mul(b)
+}
+
+/// `a / b`, truncated toward zero and wrapped.
+#[tactic(auto, using(crate::proofs::WordLemmas::words))]
+pub fn div(a: i64, b: i64) -> i64
+    requires { b ≢ pos 0 }
+    ensures { result ≡ word.div a b }
+{
+    a.wrapping_div(b)
+}
+
+/// What `a / b` leaves, with the sign of `a`.
+#[tactic(auto, using(crate::proofs::WordLemmas::words))]
+pub fn rem(a: i64, b: i64) -> i64
+    requires { b ≢ pos 0 }
+    ensures { result ≡ word.rem a b }
+{
+    a.wrapping_rem(b)
+}
+
+/// `a` shifted to the left by `b` modulo 64.
+#[tactic(auto, using(crate::proofs::WordLemmas::words))]
+pub fn shl(a: i64, b: i64) -> i64
+    ensures { result ≡ word.shl a b }
+{
+    a.wrapping_shl((b.cast_unsigned() % 64) as u32)
+}
+
+/// `a` shifted to the right by `b` modulo 64; the sign comes in.
+#[tactic(auto, using(crate::proofs::WordLemmas::words))]
+pub fn shr(a: i64, b: i64) -> i64
+    ensures { result ≡ word.shr a b }
+{
+    a.wrapping_shr((b.cast_unsigned() % 64) as u32)
+}
+
+/// 1 where `a < b`, else 0.
+pub fn less(a: i64, b: i64) -> i64
+    ensures { result ≡ word.less a b }
+{
+    i64::from(a < b)
+}
+
+/// 1 where `a < b` as unsigned numbers, else 0.
+pub fn ult(a: i64, b: i64) -> i64
+    ensures { result ≡ word.ult a b }
+{
+    i64::from(a.cast_unsigned() < b.cast_unsigned())
+}
