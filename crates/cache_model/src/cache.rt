@@ -1,11 +1,11 @@
 //! The lines of a memory.
 
-ghost use Rattle.std.specs.Prelude.{◌≡◌, ◌*◌, ◌<◌, Some, None, OnOk, OnErr, IfOk, IfErr, map, length};
+ghost use Rattle.std.specs.Prelude.{◌≡◌, ◌*◌, ◌<◌, Some, None, OnOk, OnErr, IfOk, IfErr, map, length, [], ◌+◌, slice_index_or};
 ghost use Rattle.cache_model.specs.Cache.{blank, view};
 ghost use Rattle.cache_model.specs.Event.{Store, Flush, Fence};
 ghost use Rattle.cache_model.specs.Play.{after};
 ghost use Rattle.cache_model.specs.Collapse.{bad, is_good, collapse, Rises};
-ghost use Rattle.cache_model.specs.Lists.{cache_from, memory_from, list_fence, list_picked, list_rest, IsWhole, AreIn};
+ghost use Rattle.cache_model.specs.Lists.{blank_list, cache_from, memory_from, list_fence, list_picked, list_rest, IsWhole, AreIn};
 
 use crate::choice::{BadPick, Choice, Pick, Rest};
 use crate::line::Versions;
@@ -39,6 +39,15 @@ impl Cache {
             all.push(Versions::blank(alloc))?;
         }
         Ok(Cache { all })
+    }
+
+    /// No line. It takes no memory.
+    pub fn empty(alloc: Global) -> Self
+        ensures { memory_from result ≡ record { lines = 0; cache = blank } }
+    {
+        Cache {
+            all: Vec::new(alloc),
+        }
     }
 
     /// The number of lines.
@@ -95,6 +104,14 @@ impl Cache {
             }
         }
         None
+    }
+
+    /// The number of versions of a line.
+    pub fn versions(&self, line: u64) -> u64
+        requires { line < length self.now }
+        ensures { result ≡ length (slice_index_or self.now line blank_list).older + 1 }
+    {
+        self.all[line as usize].len()
     }
 
     /// Whether the pick's line is there, and has that version.

@@ -1,5 +1,5 @@
 -- Lists of events one behind the other.
-use Rattle.std.proofs.Common.{◌≡◌, inl, inr, List, [], ◌∷◌, ◌++◌, subst}
+use Rattle.std.proofs.Common.{inl, inr, List, [], ◌∷◌, ◌++◌, subst}
 use Rattle.cache_model.specs.Event.{CacheEvent}
 use Rattle.pmem.specs.Device.{Device, spent}
 use Rattle.pmem.specs.Played.{PlaysAll, PlaysPart}

@@ -1,3 +1,5 @@
 pub mod Device
 pub mod Played
 pub mod Answer
+pub mod Switch
+pub mod Sim

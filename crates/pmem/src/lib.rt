@@ -6,6 +6,9 @@
 mod answer;
 mod device;
 pub mod events;
+mod sim;
+mod switch;
 
 pub use answer::{Event, LogAnswer, Phase, Refusal, StoreEvent};
 pub use device::{Pmem, PmemWork};
+pub use sim::SimPmem;
