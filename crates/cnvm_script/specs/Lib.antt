@@ -1,0 +1,6 @@
+pub mod Commands
+pub mod Lines
+pub mod Name
+pub mod Number
+pub mod Pieces
+pub mod Reads

@@ -1,0 +1,196 @@
+//! The commands that lines and scripts give.
+
+ghost use Rattle.std.specs.Prelude.{◌≡◌, ◌∷◌, ◌++◌, map, bytes_eq, OnOk, option_to_list};
+ghost use Rattle.cnvm_script.specs.Commands.{alone, call_of, choice_of, command, each, event_of, line_meaning, meaning, power_of, rise, script_meaning};
+ghost use Rattle.cnvm_script.specs.Number.{argument, pick};
+ghost use Rattle.cnvm_script.specs.Reads.{Gives, GivesScript};
+
+use crate::command::{Command, Script};
+use crate::cut::{next_line, words_of};
+use crate::fault::{LineFault, ScriptFault};
+use crate::name::{is_name, text_of};
+use crate::number::{argument, event_number, pick};
+use cache_model::{Choice, Pick, Picks, Rest};
+use nvm_base::Words;
+use std::alloc::{AllocError, Global};
+
+/// The commands of a script, in order. `BadLine` names the first line that isn't in the grammar.
+#[tactic(auto, using(crate::proofs::Scripts::behind_nothing))]
+pub fn read_script(alloc: Global, bytes: &[u8]) -> Result<Script, ScriptFault>
+    ensures { GivesScript result (script_meaning bytes.now) }
+{
+    let mut script = Script::new(alloc);
+    let mut rest = bytes;
+    let mut number = 1u64;
+    'lines: while !rest.is_empty() {
+        let (line, others) = next_line(rest);
+        let read = match read_line(alloc, line) {
+            Ok(read) => read,
+            Err(LineFault::Bad) => return Err(ScriptFault::BadLine(number)),
+            Err(LineFault::NoMemory) => return Err(ScriptFault::NoMemory),
+        };
+        add(&mut script, read)?;
+        rest = others;
+        number += 1;
+    }
+    Ok(script)
+}
+
+/// Puts a line's command at the end, if the line has one.
+fn add(script: &mut Script, read: Option<Command>) -> Result<(), AllocError>
+    ensures { OnOk result (script.new ≡ script.old ++ option_to_list read) }
+{
+    match read {
+        Some(command) => script.push(command),
+        None => Ok(()),
+    }
+}
+
+/// The command of a line, and `None` for a line without words and for a remark.
+pub fn read_line(alloc: Global, line: &[u8]) -> Result<Option<Command>, LineFault>
+    ensures { Gives result (line_meaning line.now) }
+{
+    let words = words_of(alloc, line)?;
+    match words.as_slice() {
+        [] => Ok(None),
+        [word, others @ ..] => read_words(alloc, word, others),
+    }
+}
+
+/// The command of a line's words.
+fn read_words(alloc: Global, word: &[u8], others: &[&[u8]]) -> Result<Option<Command>, LineFault>
+    ensures { Gives result (meaning (word.now ∷ map (λ word. word.now) others.now)) }
+{
+    if !word.is_empty() && word[0] == b'#' {
+        return Ok(None);
+    }
+    match read_command(alloc, word, others) {
+        Ok(command) => Ok(Some(command)),
+        Err(fault) => Err(fault),
+    }
+}
+
+/// The command that the word names.
+fn read_command(alloc: Global, word: &[u8], others: &[&[u8]]) -> Result<Command, LineFault>
+    ensures { Gives result (command word.now (map (λ word. word.now) others.now)) }
+{
+    if is_word(word, "call") {
+        return read_call(alloc, others);
+    }
+    if is_word(word, "stop") {
+        return Ok(Command::Stop(read_event(others)?));
+    }
+    if is_word(word, "fault") {
+        return Ok(Command::Fault(read_event(others)?));
+    }
+    if is_word(word, "power") {
+        return read_power(alloc, others);
+    }
+    if is_word(word, "show") && others.is_empty() {
+        return Ok(Command::Show);
+    }
+    if is_word(word, "last") && others.is_empty() {
+        return Ok(Command::Last);
+    }
+    Err(LineFault::Bad)
+}
+
+fn is_word(word: &[u8], text: &str) -> bool
+    ensures { result ≡ bytes_eq word.now text.now }
+{
+    word == text.as_bytes()
+}
+
+/// The one number behind `stop` and `fault`.
+fn read_event(words: &[&[u8]]) -> Result<u64, LineFault>
+    ensures { Gives result (event_of (map (λ word. word.now) words.now)) }
+{
+    match words {
+        [word] => event_number(word).ok_or(LineFault::Bad),
+        _ => Err(LineFault::Bad),
+    }
+}
+
+/// The name and the arguments behind `call`.
+fn read_call(alloc: Global, words: &[&[u8]]) -> Result<Command, LineFault>
+    ensures { Gives result (call_of (map (λ word. word.now) words.now)) }
+{
+    let [name, args @ ..] = words else {
+        return Err(LineFault::Bad);
+    };
+    if !is_name(name) {
+        return Err(LineFault::Bad);
+    }
+    let args = read_args(alloc, args)?;
+    let name = text_of(alloc, name)?;
+    Ok(Command::Call { name, args })
+}
+
+fn read_args(alloc: Global, words: &[&[u8]]) -> Result<Words, LineFault>
+    ensures { Gives result (each argument (map (λ word. word.now) words.now)) }
+{
+    let mut args = Words::new(alloc);
+    for word in words {
+        let Some(value) = argument(word) else {
+            return Err(LineFault::Bad);
+        };
+        args.push(value)?;
+    }
+    Ok(args)
+}
+
+/// What the power leaves: `old` or `new`, and the picks.
+fn read_power(alloc: Global, words: &[&[u8]]) -> Result<Command, LineFault>
+    ensures { Gives result (power_of (map (λ word. word.now) words.now)) }
+{
+    let [word, picks @ ..] = words else {
+        return Err(LineFault::Bad);
+    };
+    if is_word(word, "old") {
+        return read_choice(alloc, Rest::Old, picks);
+    }
+    if is_word(word, "new") {
+        return read_choice(alloc, Rest::New, picks);
+    }
+    Err(LineFault::Bad)
+}
+
+fn read_choice(alloc: Global, rest: Rest, words: &[&[u8]]) -> Result<Command, LineFault>
+    ensures { Gives result (choice_of rest (map (λ word. word.now) words.now)) }
+{
+    let picks = read_picks(alloc, words)?;
+    if !rise(picks.as_slice()) {
+        return Err(LineFault::Bad);
+    }
+    Ok(Command::Power(Choice { rest, picks }))
+}
+
+fn read_picks(alloc: Global, words: &[&[u8]]) -> Result<Picks, LineFault>
+    ensures { Gives result (each pick (map (λ word. word.now) words.now)) }
+{
+    let mut picks = Picks::new(alloc);
+    for word in words {
+        let Some(one) = pick(word) else {
+            return Err(LineFault::Bad);
+        };
+        picks.push(one)?;
+    }
+    Ok(picks)
+}
+
+/// Whether the lines of the picks rise strictly.
+fn rise(picks: &[Pick]) -> bool
+    ensures { result ≡ rise picks.now }
+{
+    let [first, others @ ..] = picks else {
+        return true;
+    };
+    let mut line = first.line;
+    for pick in others {
+        if pick.line <= line {
+            return false;
+        }
+        line = pick.line;
+    }
+    true
+}
