@@ -3,3 +3,4 @@ pub mod Played
 pub mod Answer
 pub mod Switch
 pub mod Sim
+pub mod Law

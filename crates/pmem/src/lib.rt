@@ -6,9 +6,11 @@
 mod answer;
 mod device;
 pub mod events;
+mod law;
 mod sim;
 mod switch;
 
 pub use answer::{Event, LogAnswer, Phase, Refusal, StoreEvent};
 pub use device::{Pmem, PmemWork};
+pub use law::laws;
 pub use sim::SimPmem;
