@@ -1,0 +1,44 @@
+//! What a command answers.
+
+use nvm_base::Text;
+use pmem::Phase;
+use pool_map::TrapKind;
+
+/// The answer of a command.
+#[derive(Drop)]
+pub enum Answer {
+    /// `stop` and `fault` have no answer line.
+    Silent,
+    /// The transaction ended with a value, and wrote so many log records.
+    Done { value: i64, logged: u64 },
+    /// The transaction trapped.
+    Trap(TrapKind),
+    /// The power went off, with the call's seal in this phase.
+    Stopped(Phase),
+    /// The device failed.
+    DeviceFault,
+    /// Nothing was owed.
+    RecoveredNone,
+    /// The owed transaction was run again, and ended with a value.
+    RecoveredRedone { value: i64, logged: u64 },
+    /// The owed transaction was run again, and trapped.
+    RecoveredTrap(TrapKind),
+    /// The lines of the pool.
+    Shown(Text),
+    /// How many transactions are done, and the value of the last.
+    Last { done: i64, value: i64 },
+    /// There was no memory for the command.
+    NoMemory,
+    /// The session is down, and waits for `power`.
+    RefusedDown,
+    /// A transaction trapped in this pool.
+    RefusedUnusable(TrapKind),
+    /// No transaction has the name.
+    RefusedUnknown,
+    /// The transaction takes another number of arguments.
+    RefusedArity,
+    /// The number of transactions done, or of attempts, is at its limit.
+    RefusedNumbers,
+    /// The first pick whose line or version isn't there, by its line.
+    RefusedPick(u64),
+}
