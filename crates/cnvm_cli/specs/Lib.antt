@@ -1,0 +1,11 @@
+pub mod AnswerText
+pub mod Answers
+pub mod Asked
+pub mod CallView
+pub mod Form
+pub mod Name
+pub mod Reading
+pub mod Scan
+pub mod Script
+pub mod ScriptAnswers
+pub mod Views
