@@ -13,7 +13,11 @@ mod op;
 mod output;
 mod sink;
 mod source;
+mod std_sink;
+mod std_source;
 mod steps;
+#[cfg(test)]
+mod tests;
 mod word;
 
 pub use input::{ReadAllFault, UpToFault, read_all, read_up_to};
@@ -25,5 +29,7 @@ pub use op::BinOp;
 pub use output::{WriteFault, write_all};
 pub use sink::{Sink, WriteAnswer};
 pub use source::{ReadAnswer, Source};
+pub use std_sink::StdSink;
+pub use std_source::StdSource;
 pub use steps::Steps;
 pub use word::{add, div, less, mul, rem, shl, shr, sub, ult};

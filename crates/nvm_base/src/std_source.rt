@@ -1,0 +1,77 @@
+//! A file as a source. It tells no content.
+
+ghost use Rattle.std.specs.Prelude.{◌≡◌, ◌≤◌, None, length, IfSome};
+
+use crate::source::{ReadAnswer, Source};
+use std::fs;
+use std::io::{ErrorKind, Read};
+use std::rt::Files;
+
+/// The file of a path, opened at the first read. Its count of faults rises at each error, want of
+/// memory included.
+#[derive(Drop)]
+pub struct StdSource<'a, R: Files> {
+    rt: &'a R,
+    path: &'a str,
+    file: Option<R::File>,
+    faults: u64,
+}
+
+impl<'a, R: Files> StdSource<'a, R> {
+    /// The file is opened at the first read.
+    pub fn new(rt: &'a R, path: &'a str) -> Self {
+        StdSource {
+            rt,
+            path,
+            file: None,
+            faults: 0,
+        }
+    }
+
+    /// One read of the file, which is opened before if need be. `None` is an error.
+    fn read_file(&mut self, piece: &mut [u8]) -> Option<usize>
+        ensures within { IfSome result (λ n. n ≤ length piece.new) }
+        ensures same { self.new.faults ≡ self.old.faults }
+    {
+        if self.file.is_none() {
+            self.file = fs::open(self.rt, self.path).ok();
+        }
+        match &mut self.file {
+            Some(file) => read_once(file, piece),
+            None => None,
+        }
+    }
+}
+
+/// One read, tried again where it was interrupted. `None` is an error.
+fn read_once<F: Read>(file: &mut F, piece: &mut [u8]) -> Option<usize>
+    ensures { IfSome result (λ n. n ≤ length piece.new) }
+{
+    for _ in 0..u64::MAX {
+        match file.read(piece) {
+            Ok(count) => return Some(count),
+            Err(error) => {
+                if error.kind() != ErrorKind::Interrupted {
+                    return None;
+                }
+            }
+        }
+    }
+    None
+}
+
+impl<R: Files> Source for StdSource<'_, R> {
+    ghost left = { λ _. None };
+
+    ghost faults = { λ s. s.faults };
+
+    fn read(&mut self, piece: &mut [u8]) -> ReadAnswer {
+        match self.read_file(piece) {
+            Some(count) => ReadAnswer::Count(count),
+            None => {
+                self.faults = self.faults.saturating_add(1);
+                ReadAnswer::Failed
+            }
+        }
+    }
+}
