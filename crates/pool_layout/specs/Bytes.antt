@@ -1,5 +1,5 @@
 -- Words and bytes: a word is eight bytes, the lowest first, in two's complement.
-use Rattle.std.specs.Prelude.{ℕ, ◌+◌, ◌*◌, List, [], ◌∷◌, ◌++◌, ℤ, slice_index}
+use Rattle.std.specs.Prelude.{ℕ, ◌≡◌, ◌+◌, ◌*◌, ◌%◌, length, List, [], ◌∷◌, ◌++◌, ℤ, slice_index}
 use Rattle.std.specs.Int.{w64, cast_signed, cast_unsigned, from_le_bytes, to_le_bytes}
 
 -- the word of the eight bytes from place `at` on
@@ -19,3 +19,7 @@ bytes_of_word x = to_le_bytes w64 (cast_unsigned w64 x)
 abbrev pub bytes_of : List ℤ → List ℕ
 bytes_of [] = []
 bytes_of (x ∷ xs) = bytes_of_word x ++ bytes_of xs
+
+-- bytes that are whole words
+abbrev pub HasWords : List ℕ → Type 0
+HasWords bytes = length bytes % 8 ≡ 0

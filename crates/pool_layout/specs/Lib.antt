@@ -3,3 +3,11 @@ pub mod Sizes
 pub mod Digest
 pub mod Bytes
 pub mod Places
+pub mod Image
+pub mod Log
+pub mod Restored
+pub mod Good
+pub mod Content
+pub mod Opens
+pub mod Fault
+pub mod Moved

@@ -6,12 +6,21 @@
 
 mod bytes;
 mod fingerprint;
+mod head;
+mod image_laws;
 mod limits;
 mod measures;
 mod places;
+mod read;
+mod rules;
+mod wanted;
 
 pub use bytes::image_bytes;
 pub use fingerprint::digest;
+pub use image_laws::{moved_law, opens_law, restored_law};
 pub use limits::Sizes;
 pub use measures::{heap_start, heap_words, pool_lines, slot_word};
 pub use places::{HeapPlace, Layout, Place, Version, places_law};
+pub use read::read_image;
+pub use rules::Rules;
+pub use wanted::{ImageFault, Wanted};

@@ -94,7 +94,8 @@ impl Layout {
     /// The number of the pool's word that is this place.
     pub fn word(&self, place: Place) -> u64
         requires { IsPlace self.now place }
-        ensures { result ≡ at self.now place }
+        ensures value { result ≡ at self.now place }
+        ensures within { result < words self.now }
     {
         let log = self.version.log_line();
         match place {

@@ -1,0 +1,38 @@
+-- What an image of a pool at rest holds (Good), and one that a trap made unusable (Lost).
+use Rattle.std.specs.Prelude.{ℕ, suc, ◌+◌, ◌^◌, ◌<◌, ◌≤◌, ◌≡◌, List, [], ◌∷◌, ℤ, pos, codes, slice_index_or}
+use Rattle.pool_layout.specs.declared.limits.Sizes.{Sizes}
+use Rattle.pool_layout.specs.declared.places.Place.TheVariants.{Super, Done, Attempt, Mark, Seal, Heap}
+use Rattle.pool_layout.specs.Sizes.{heap_words}
+use Rattle.pool_layout.specs.Places.{at, pool_of}
+use Rattle.pool_layout.specs.Bytes.{word_in}
+use Rattle.pool_layout.specs.Image.{Words}
+use Rattle.pool_layout.specs.Log.{WellMade}
+
+-- the bytes CNVMPOOL
+abbrev pub magic : ℤ
+magic = word_in (codes "CNVMPOOL") 0
+
+-- words 0 to 5: magic, version, slots, records, root words, ticks
+abbrev pub sizes_words : Sizes → List ℤ
+sizes_words s = magic ∷ pos 2 ∷ pos s.slots ∷ pos s.records ∷ pos s.root_words ∷ pos s.ticks ∷ []
+
+-- Words 0 to 5 are those of the sizes, and words 8 to 11 the digest's. The other words of lines 0 and 1 are any.
+pub record HasSuper (s : Sizes) (digest : List ℤ) (image : Words) : Type 0 where
+  pub sizes_are : (k : ℕ) → k < 6 → image (at (pool_of s) (Super k)) ≡ slice_index_or (sizes_words s) k (pos 0)
+  pub digest_is : (k : ℕ) → k < 4 → image (at (pool_of s) (Super (8 + k))) ≡ slice_index_or digest k (pos 0)
+
+-- An image at rest, with attempt a, d finished transactions and heap h. The function, argument and unread words are any.
+pub record Good (s : Sizes) (digest : List ℤ) (a d : ℕ) (h : ℕ → ℤ) (image : Words) : Type 0 where
+  pub super : HasSuper s digest image
+  pub mark : image (at (pool_of s) Mark) ≡ pos 0
+  pub done : image (at (pool_of s) Done) ≡ pos d
+  pub done_fits : d ≤ 2 ^ 62 + 1
+  pub unsealed : image (at (pool_of s) Seal) ≡ pos (suc d) → ⊥
+  pub attempt_is : image (at (pool_of s) Attempt) ≡ pos a
+  pub attempt_fits : a ≤ 2 ^ 62 + 1
+  pub log : WellMade (pool_of s) a image
+  pub heap : (w : ℕ) → w < heap_words s → image (at (pool_of s) (Heap w)) ≡ h w
+
+-- An image whose mark is trap k.
+abbrev pub Lost : Sizes → ℕ → Words → Type 0
+Lost s k image = (image (at (pool_of s) Mark) ≡ pos k) × (0 < k)

@@ -1,0 +1,20 @@
+-- An image of a pool, and whether it is sealed.
+use Rattle.std.specs.Prelude.{ℕ, ◌≡◌, ◌≤◌, List, ℤ, pos, ◌+ℤ◌, slice_index_or}
+use Rattle.pool_layout.specs.declared.places.Layout.{Layout}
+use Rattle.pool_layout.specs.declared.places.Place.TheVariants.{Done, Seal}
+use Rattle.pool_layout.specs.Places.{at}
+
+-- An image: words by their numbers in the pool. Those past the pool's end don't count.
+abbrev pub Words : Type 0
+Words = ℕ → ℤ
+
+abbrev pub words_of : List ℤ → Words
+words_of xs p = slice_index_or xs p (pos 0)
+
+-- Sealed: the seal is done plus 1, as whole numbers.
+abbrev pub IsSealed : Layout → Words → Type 0
+IsSealed l image = image (at l Seal) ≡ image (at l Done) +ℤ pos 1
+
+-- a number from 0 to n
+abbrev pub IsUpTo : ℕ → ℤ → Type 0
+IsUpTo n x = (s : ℕ) × (s ≤ n) × (x ≡ pos s)

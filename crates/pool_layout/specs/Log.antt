@@ -1,0 +1,20 @@
+-- The log of an image whose attempt is a. A record is valid where its stamp is a + 1. The count is the number of valid records.
+-- The log is well made where each stamp is from 0 to a + 1 and the valid records are the first ones.
+use Rattle.std.specs.Prelude.{ℕ, zero, suc, ◌+◌, ◌<◌, ◌≡◌, cond, ℤ, pos}
+use Rattle.std.specs.Ordering.{int_eq}
+use Rattle.pool_layout.specs.declared.places.Layout.{Layout}
+use Rattle.pool_layout.specs.declared.places.Place.TheVariants.{RecordStamp}
+use Rattle.pool_layout.specs.Places.{at}
+use Rattle.pool_layout.specs.Image.{Words, IsUpTo}
+
+pub record WellMade (l : Layout) (a : ℕ) (image : Words) : Type 0 where
+  pub stamps : (j : ℕ) → j < l.sizes.records → IsUpTo (suc a) (image (at l (RecordStamp j)))
+  pub first : (j k : ℕ) → j < k → k < l.sizes.records → image (at l (RecordStamp k)) ≡ pos (suc a) → image (at l (RecordStamp j)) ≡ pos (suc a)
+
+-- how many of the first n stamps are valid
+abbrev pub valid : (ℕ → ℤ) → ℕ → ℕ → ℕ
+valid stamps a zero = 0
+valid stamps a (suc n) = valid stamps a n + cond (int_eq (stamps n) (pos (suc a))) 1 0
+
+unfoldable pub count : Layout → ℕ → Words → ℕ
+count l a image = valid (λ j. image (at l (RecordStamp j))) a l.sizes.records

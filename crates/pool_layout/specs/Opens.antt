@@ -1,0 +1,41 @@
+-- What a recovery needs of an image, and what reading it checks: one follows from the other.
+use Rattle.std.specs.Prelude.{ℕ, ◌^◌, ◌<◌, ◌≤◌, ◌≡◌, ℤ, pos}
+use Rattle.pool_layout.specs.declared.places.Version.TheVariants.{First}
+use Rattle.pool_layout.specs.declared.places.Place.TheVariants.{Done, Attempt, Mark, Argument, RecordWord, Heap}
+use Rattle.pool_layout.specs.declared.rules.Rules.{Rules}
+use Rattle.pool_layout.specs.Sizes.{heap_words, slot_word}
+use Rattle.pool_layout.specs.Places.{at}
+use Rattle.pool_layout.specs.Image.{Words, IsSealed, IsUpTo}
+use Rattle.pool_layout.specs.Log.{WellMade, count}
+use Rattle.pool_layout.specs.Restored.{restored}
+use Rattle.pool_layout.specs.Content.{Keeps}
+
+-- a number below n
+abbrev pub IsBelow : ℕ → ℤ → Type 0
+IsBelow n x = (u : ℕ) × (u < n) × (x ≡ pos u)
+
+-- each slot's header is from 0 to the number of structs
+abbrev pub HasHeaders : Rules → (ℕ → ℤ) → Type 0
+HasHeaders r h = (slot : ℕ) → 1 ≤ slot → slot ≤ r.layout.sizes.slots → IsUpTo r.structs (h (slot_word r.layout.sizes slot))
+
+-- A sealed image names one of the transactions, its valid records lie in the heap, and what they restore has valid headers.
+pub record IsOwed (r : Rules) (a : ℕ) (image : Words) : Type 0 where
+  pub function : (f : ℕ) × (1 ≤ f) × (f ≤ r.txs) × (image (at r.layout (Argument 0)) ≡ pos f)
+  pub in_heap : (j : ℕ) → j < count r.layout a image → IsBelow (heap_words r.layout.sizes) (image (at r.layout (RecordWord j)))
+  pub headers : HasHeaders r (restored r.layout a image)
+
+-- Mark, done and attempt are in their ranges, the log is well made and the headers are valid; and, where the image is sealed,
+-- it holds what the interrupted transaction needs.
+pub record Opens (r : Rules) (image : Words) : Type 0 where
+  pub mark : IsUpTo 8 (image (at r.layout Mark))
+  pub done : IsUpTo (2 ^ 62) (image (at r.layout Done))
+  pub attempt : ℕ
+  pub attempt_is : image (at r.layout Attempt) ≡ pos attempt
+  pub attempt_fits : attempt ≤ 2 ^ 62
+  pub log : WellMade r.layout attempt image
+  pub headers : HasHeaders r (λ w. image (at r.layout (Heap w)))
+  pub sealed : IsSealed r.layout image → IsOwed r attempt image
+  pub first_unsealed : r.layout.version ≡ First → IsSealed r.layout image → ⊥
+
+abbrev pub KeptOpens : Type 0
+KeptOpens = (r : Rules) (image : Words) → Keeps r image → Opens r image

@@ -1,0 +1,36 @@
+-- What the log of an image restores: the heap with the valid records applied from the newest to the oldest, each of which sets
+-- its heap word to its old value. So of a heap word the oldest valid record decides, and else the heap's own word stays.
+use Rattle.std.specs.Prelude.{ℕ, zero, suc, ◌<◌, ◌≡◌, ◌≢◌, cond, ℤ, pos}
+use Rattle.std.specs.Ordering.{int_eq}
+use Rattle.pool_layout.specs.declared.places.Layout.{Layout}
+use Rattle.pool_layout.specs.declared.places.Place.TheVariants.{RecordWord, RecordOld, Heap}
+use Rattle.pool_layout.specs.Places.{at}
+use Rattle.pool_layout.specs.Image.{Words}
+use Rattle.pool_layout.specs.Log.{count}
+
+abbrev pub undo : ℤ → ℤ → (ℕ → ℤ) → ℕ → ℤ
+undo x old h w = cond (int_eq x (pos w)) old (h w)
+
+-- the first n records applied, the newest first
+abbrev pub undone : (word old : ℕ → ℤ) → ℕ → (ℕ → ℤ) → ℕ → ℤ
+undone word old zero h = h
+undone word old (suc n) h = undone word old n (undo (word n) (old n) h)
+
+unfoldable pub restored : Layout → ℕ → Words → ℕ → ℤ
+restored l a image =
+    undone (λ j. image (at l (RecordWord j))) (λ j. image (at l (RecordOld j))) (count l a image) (λ w. image (at l (Heap w)))
+
+-- record j is the oldest of the valid records of heap word w
+pub record IsOldest (l : Layout) (a : ℕ) (image : Words) (w j : ℕ) : Type 0 where
+  pub valid : j < count l a image
+  pub word : image (at l (RecordWord j)) ≡ pos w
+  pub oldest : (i : ℕ) → i < j → image (at l (RecordWord i)) ≢ pos w
+
+abbrev pub OldestDecides : Type 0
+OldestDecides = (l : Layout) (a : ℕ) (image : Words) (w j : ℕ) → IsOldest l a image w j
+    → restored l a image w ≡ image (at l (RecordOld j))
+
+abbrev pub OthersStay : Type 0
+OthersStay = (l : Layout) (a : ℕ) (image : Words) (w : ℕ)
+    → ((j : ℕ) → j < count l a image → image (at l (RecordWord j)) ≢ pos w)
+    → restored l a image w ≡ image (at l (Heap w))

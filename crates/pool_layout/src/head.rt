@@ -1,0 +1,188 @@
+//! The faults of an image that its length and its first two lines show.
+
+ghost use Rattle.std.specs.Prelude.{◌≡◌, ◌<◌, ◌≤◌, ◌+◌, IfNone, length};
+ghost use Rattle.pool_layout.specs.Good.{magic};
+ghost use Rattle.pool_layout.specs.Fault as fault_of;
+
+use crate::bytes::word_in;
+use crate::places::{Layout, Version};
+use crate::rules::Rules;
+use crate::wanted::{ImageFault, Wanted};
+
+/// What the rules of content speak of in an image with these bytes.
+pub fn rules_for(bytes: &[u8], wanted: &Wanted) -> Rules
+    ensures { result ≡ fault_of.rules_of wanted.now bytes.now }
+{
+    Rules {
+        layout: Layout {
+            version: version_of(bytes),
+            sizes: wanted.sizes,
+        },
+        txs: wanted.txs,
+        structs: wanted.structs,
+    }
+}
+
+fn version_of(bytes: &[u8]) -> Version
+    ensures { result ≡ fault_of.version_of bytes.now }
+{
+    if bytes.len() >= 16 && word_in(bytes, 1) == 1 {
+        Version::First
+    } else {
+        Version::Second
+    }
+}
+
+/// The first fault that applies before those of content.
+#[tactic(auto, unfolding(crate::specs::Fault::early_fault))]
+pub fn early_fault(bytes: &[u8], wanted: &Wanted) -> Option<ImageFault>
+    ensures value { result ≡ fault_of.early_fault wanted.now bytes.now }
+    ensures whole { IfNone result (length bytes.now ≡ fault_of.needed wanted.now bytes.now) }
+{
+    let short = short_fault(bytes, wanted);
+    if short.is_some() {
+        return short;
+    }
+    let magic = magic_fault(bytes);
+    if magic.is_some() {
+        return magic;
+    }
+    let version = version_fault(bytes);
+    if version.is_some() {
+        return version;
+    }
+    let sizes = sizes_fault(bytes, wanted);
+    if sizes.is_some() {
+        return sizes;
+    }
+    digest_fault(bytes, wanted)
+}
+
+fn short_fault(bytes: &[u8], wanted: &Wanted) -> Option<ImageFault>
+    ensures value { result ≡ fault_of.short_fault wanted.now bytes.now }
+    ensures long { IfNone result (fault_of.needed wanted.now bytes.now ≤ length bytes.now) }
+{
+    let needed = needed(bytes, wanted);
+    let found = bytes.len() as u64;
+    if found < needed {
+        Some(ImageFault::Short(found, needed))
+    } else {
+        None
+    }
+}
+
+fn magic_fault(bytes: &[u8]) -> Option<ImageFault>
+    requires { 8 ≤ length bytes.now }
+    ensures { result ≡ fault_of.magic_fault bytes.now }
+{
+    let found = word_in(bytes, 0);
+    if found == magic() {
+        None
+    } else {
+        Some(ImageFault::Magic(found, magic()))
+    }
+}
+
+fn version_fault(bytes: &[u8]) -> Option<ImageFault>
+    requires { 16 ≤ length bytes.now }
+    ensures { result ≡ fault_of.version_fault bytes.now }
+{
+    let found = word_in(bytes, 1);
+    if found == 1 || found == 2 {
+        None
+    } else {
+        Some(ImageFault::Version(found, 2))
+    }
+}
+
+fn sizes_fault(bytes: &[u8], wanted: &Wanted) -> Option<ImageFault>
+    requires { 48 ≤ length bytes.now }
+    ensures value { result ≡ fault_of.sizes_fault wanted.now bytes.now }
+    ensures long { IfNone result (length bytes.now ≤ fault_of.needed wanted.now bytes.now) }
+{
+    let slots = size_fault(bytes, 2, wanted.sizes.slots());
+    if slots.is_some() {
+        return slots;
+    }
+    let records = size_fault(bytes, 3, wanted.sizes.records());
+    if records.is_some() {
+        return records;
+    }
+    let root_words = size_fault(bytes, 4, wanted.sizes.root_words());
+    if root_words.is_some() {
+        return root_words;
+    }
+    let ticks = size_fault(bytes, 5, wanted.sizes.ticks());
+    if ticks.is_some() {
+        return ticks;
+    }
+    length_fault(bytes, wanted)
+}
+
+/// Whether word `k` of the first line is this size.
+fn size_fault(bytes: &[u8], k: u64, wanted: u64) -> Option<ImageFault>
+    requires line { k < 6 }
+    requires whole { 48 ≤ length bytes.now }
+    requires small { wanted ≤ 1000000 }
+    ensures { result ≡ fault_of.size_fault bytes.now k wanted }
+{
+    let found = word_in(bytes, k);
+    if found == wanted as i64 {
+        None
+    } else {
+        Some(ImageFault::Sizes(found, wanted as i64))
+    }
+}
+
+fn length_fault(bytes: &[u8], wanted: &Wanted) -> Option<ImageFault>
+    ensures value { result ≡ fault_of.length_fault wanted.now bytes.now }
+    ensures long { IfNone result (length bytes.now ≤ fault_of.needed wanted.now bytes.now) }
+{
+    let needed = needed(bytes, wanted);
+    if bytes.len() as u64 > needed {
+        Some(ImageFault::Sizes(bytes.len() as i64, needed as i64))
+    } else {
+        None
+    }
+}
+
+fn digest_fault(bytes: &[u8], wanted: &Wanted) -> Option<ImageFault>
+    requires { 96 ≤ length bytes.now }
+    ensures { result ≡ fault_of.digest_fault wanted.now bytes.now }
+{
+    let found = digest_in(bytes);
+    if found == wanted.digest {
+        None
+    } else {
+        Some(ImageFault::Digest(found, wanted.digest))
+    }
+}
+
+/// Words 8 to 11.
+fn digest_in(bytes: &[u8]) -> [i64; 4]
+    requires { 96 ≤ length bytes.now }
+    ensures { result ≡ fault_of.digest_in bytes.now }
+{
+    [
+        word_in(bytes, 8),
+        word_in(bytes, 9),
+        word_in(bytes, 10),
+        word_in(bytes, 11),
+    ]
+}
+
+/// How many bytes an image of the version that these bytes begin with has.
+fn needed(bytes: &[u8], wanted: &Wanted) -> u64
+    ensures value { result ≡ fault_of.needed wanted.now bytes.now }
+    ensures least { 640 ≤ result + 128 }
+    ensures most { result ≤ 8655104 }
+{
+    8 * rules_for(bytes, wanted).layout.words()
+}
+
+/// The bytes `CNVMPOOL` as a word.
+fn magic() -> i64
+    ensures { result ≡ magic }
+{
+    word_in(b"CNVMPOOL", 0)
+}

@@ -1,0 +1,23 @@
+//! The laws of images, as far as they speak of words alone.
+
+ghost use Rattle.pool_layout.specs.Restored.{OldestDecides, OthersStay};
+ghost use Rattle.pool_layout.specs.Opens.{KeptOpens};
+ghost use Rattle.pool_layout.specs.Moved.{MovedKeeps, MovedUnsealed};
+
+/// Of a heap word the oldest valid record decides what is restored, and else the heap's own word.
+pub fn restored_law()
+    ensures oldest { OldestDecides }
+    ensures others { OthersStay }
+{}
+
+/// What reading an image checks is what a recovery from it needs.
+pub fn opens_law()
+    ensures { KeptOpens }
+{}
+
+/// A pool of the first version, moved to the second, keeps its heap, last, done and mark, isn't
+/// sealed, and has an empty log.
+pub fn moved_law()
+    ensures keeps { MovedKeeps }
+    ensures unsealed { MovedUnsealed }
+{}

@@ -1,0 +1,84 @@
+//! Reading an image.
+
+ghost use Rattle.std.specs.Prelude.{◌≡◌, ◌≤◌, ◌*◌, IfOk, IfErr, OnOk, length};
+ghost use Rattle.pool_layout.specs.Bytes as bytes_are;
+ghost use Rattle.pool_layout.specs.Places.{words, pool_of, IsPlace};
+ghost use Rattle.pool_layout.specs.Moved as moved_are;
+ghost use Rattle.pool_layout.specs.Fault.{version_of, Accepts, Refuses};
+
+use crate::bytes::word_in;
+use crate::head::{early_fault, rules_for};
+use crate::limits::Sizes;
+use crate::places::{Layout, Place, Version};
+use crate::wanted::{ImageFault, Wanted};
+use nvm_base::Words;
+use std::alloc::{AllocError, Global};
+
+/// The words of a saved pool, or why these bytes are no image of the wanted pool: the first fault
+/// that applies, with its two values. A pool of the first version is moved to the second. Want of
+/// memory comes only where no fault applies.
+pub fn read_image(alloc: Global, bytes: &[u8], wanted: &Wanted) -> Result<Words, ImageFault>
+    ensures refused { IfErr result (λ fault. Refuses wanted.now bytes.now fault) }
+    ensures accepted { OnOk result (Accepts wanted.now bytes.now) }
+    ensures second { IfOk result (λ all. version_of bytes.now ≡ Version.Second → bytes_are.bytes_of all ≡ bytes.now) }
+    ensures first { IfOk result (λ all. version_of bytes.now ≡ Version.First
+        → moved_are.AreMoved wanted.now.sizes (bytes_are.word_in bytes.now) all) }
+{
+    if let Some(fault) = early_fault(bytes, wanted) {
+        return Err(fault);
+    }
+    let rules = rules_for(bytes, wanted);
+    if let Some(word) = rules.first_break(bytes) {
+        return Err(ImageFault::Content(word, word_in(bytes, word)));
+    }
+    match rules.layout.version {
+        Version::First => Ok(moved_words(alloc, bytes, &wanted.sizes)?),
+        Version::Second => Ok(all_words(alloc, bytes)?),
+    }
+}
+
+/// The words of these bytes.
+fn all_words(alloc: Global, bytes: &[u8]) -> Result<Words, AllocError>
+    requires { bytes_are.HasWords bytes.now }
+    ensures { IfOk result (λ all. bytes_are.bytes_of all ≡ bytes.now) }
+{
+    let mut all = Words::new(alloc);
+    let count = bytes.len() as u64 / 8;
+    for k in 0..count {
+        all.push(word_in(bytes, k))?;
+    }
+    Ok(all)
+}
+
+/// The words of a pool of the first version, moved to the second.
+fn moved_words(alloc: Global, bytes: &[u8], sizes: &Sizes) -> Result<Words, AllocError>
+    requires { 8 * words (moved_are.first_of sizes.now) ≤ length bytes.now }
+    ensures { IfOk result (λ all. moved_are.AreMoved sizes.now (bytes_are.word_in bytes.now) all) }
+{
+    let to = Layout::new(sizes);
+    let mut all = Words::new(alloc);
+    for k in 0..to.words() {
+        all.push(moved_word(bytes, sizes, to.place(k)))?;
+    }
+    Ok(all)
+}
+
+/// The word at a place of the moved pool.
+#[tactic(auto, unfolding(crate::specs::Moved::moved))]
+fn moved_word(bytes: &[u8], sizes: &Sizes, place: Place) -> i64
+    requires whole { 8 * words (moved_are.first_of sizes.now) ≤ length bytes.now }
+    requires inside { IsPlace (pool_of sizes.now) place }
+    ensures { result ≡ moved_are.moved sizes.now (bytes_are.word_in bytes.now) place }
+{
+    let from = Layout {
+        version: Version::First,
+        sizes: *sizes,
+    };
+    match place {
+        Place::Super(1) => 2,
+        Place::Super(_) | Place::Last | Place::Done | Place::Mark | Place::Heap(_) => {
+            word_in(bytes, from.word(place))
+        }
+        _ => 0,
+    }
+}
