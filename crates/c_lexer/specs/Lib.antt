@@ -1,1 +1,9 @@
+pub mod Bytes
+pub mod Comments
+pub mod Cuts
+pub mod Marks
+pub mod Next
+pub mod Numbers
+pub mod Spots
 pub mod TokenList
+pub mod Words

@@ -1,5 +1,9 @@
 //! The refusals of a text.
 
+ghost use Rattle.std.specs.Prelude.{◌≡◌};
+ghost use Rattle.c_lexer.specs.declared.fault.LexFault.TheVariants.{NoMemory};
+
+use std::alloc::{AllocError, AllocFailed};
 use thiserror::Error;
 
 /// Why a text has no tokens. Each number is the line of the refusal, counted from 1.
@@ -19,4 +23,20 @@ pub enum LexFault {
     TooLong,
     #[error("out of memory")]
     NoMemory,
+}
+
+impl From<AllocError> for LexFault {
+    ghost from_gives = { λ _ e. e ≡ NoMemory };
+
+    fn from(_: AllocError) -> LexFault {
+        LexFault::NoMemory
+    }
+}
+
+impl<T: Drop> From<AllocFailed<T>> for LexFault {
+    ghost from_gives = { λ _ e. e ≡ NoMemory };
+
+    fn from(_: AllocFailed<T>) -> LexFault {
+        LexFault::NoMemory
+    }
 }

@@ -2,10 +2,21 @@
 //! `tokens` answers exactly the tokens that a text spells, or the first refusal with its line.
 #![tactic(auto)]
 
+mod byte;
+mod comment;
 mod fault;
 mod list;
+mod mark;
+mod number;
+mod piece;
+mod scan;
+mod spot;
+#[cfg(test)]
+mod tests;
 mod token;
+mod word;
 
 pub use fault::LexFault;
 pub use list::TokenList;
+pub use scan::tokens;
 pub use token::{Mark, Placed, Token, Word};

@@ -23,6 +23,12 @@ impl Model for TokenList {
 }
 
 impl TokenList {
+    pub(crate) fn new(all: Vec<Placed>, end: u64) -> Self
+        ensures { result ≡ record { tokens = all.items; last = end } }
+    {
+        TokenList { all, end }
+    }
+
     /// The number of tokens.
     pub fn len(&self) -> u64
         ensures { result ≡ length self.now.tokens }

@@ -1,0 +1,48 @@
+-- The piece that stands at a place: a comment, a blank, a skipped line, a number, a name or word, or
+-- the longest mark that fits; or the refusal of the byte there. `left` is the text from the place on,
+-- which isn't at its end.
+use Rattle.std.specs.Prelude.{ℕ, ℤ, List, take, ◌<◌, ◌≤◌, Option, Some, None, nat_eq, ◌&&◌, ◌||◌, if◌then◌else◌, codes, slice_index}
+use Rattle.std.specs.List.{starts_with}
+use Rattle.std.specs.Char.{is_ascii_digit}
+use Rattle.c_lexer.specs.declared.fault.LexFault.TheVariants.{BadByte, BadNumber, OpenComment}
+use Rattle.c_lexer.specs.declared.piece.Piece.{Piece}
+use Rattle.c_lexer.specs.declared.piece.Piece.TheVariants.{Skips, Spells, Refuses}
+use Rattle.c_lexer.specs.declared.spot.Spot.{Spot}
+use Rattle.c_lexer.specs.declared.token.Mark.{Mark}
+use Rattle.c_lexer.specs.declared.token.Token.TheVariants as token
+use Rattle.c_lexer.specs.Bytes.{is_blank, begins_name, run_len, line_len}
+use Rattle.c_lexer.specs.Comments.{comment_len, begins_include}
+use Rattle.c_lexer.specs.Marks.{mark_at}
+use Rattle.c_lexer.specs.Numbers.{number_of}
+use Rattle.c_lexer.specs.Words.{word_token}
+
+-- a piece has one byte at least, and no more than are left
+abbrev pub IsWithin : Piece → ℕ → Type 0
+IsWithin (Skips width) most = (0 < width) × (width ≤ most)
+IsWithin (Spells width token) most = (0 < width) × (width ≤ most)
+IsWithin (Refuses fault) most = Unit {0}
+
+-- the run of letters, digits and `_` at the front
+abbrev pub run_of : List ℕ → List ℕ
+run_of left = take (run_len left) left
+
+abbrev pub comment_piece : ℕ → Option ℕ → Piece
+comment_piece line None = Refuses (OpenComment line)
+comment_piece line (Some width) = Skips width
+
+abbrev pub number_piece : ℕ → ℕ → Option ℤ → Piece
+number_piece line width None = Refuses (BadNumber line)
+number_piece line width (Some value) = Spells width (token.Number value)
+
+abbrev pub mark_piece : ℕ → Option (ℕ × Mark) → Piece
+mark_piece line None = Refuses (BadByte line)
+mark_piece line (Some (width, mark)) = Spells width (token.Mark mark)
+
+unfoldable pub next : Spot → List ℕ → Piece
+next spot left =
+    if is_blank (slice_index left 0) then Skips 1
+    else (if starts_with nat_eq left (codes "//") || (spot.fresh && begins_include left) then Skips (line_len left)
+    else (if starts_with nat_eq left (codes "/*") then comment_piece spot.line (comment_len left)
+    else (if is_ascii_digit (slice_index left 0) then number_piece spot.line (run_len left) (number_of (run_of left))
+    else (if begins_name (slice_index left 0) then Spells (run_len left) (word_token (run_of left))
+    else mark_piece spot.line (mark_at left)))))

@@ -1,0 +1,79 @@
+-- The words that no name may be: those of the profile, and those that C reserves and the profile
+-- never accepts. Any other run of letters, digits and `_` that doesn't begin with a digit is a name.
+use Rattle.std.specs.Prelude.{ℕ, List, [], ◌∷◌, Option, Some, None, Bool, true, false, if◌then◌else◌, codes}
+use Rattle.std.specs.List.{list_any}
+use Rattle.std.specs.Str.{bytes_eq}
+use Rattle.c_lexer.specs.declared.token.Word.{Word}
+use Rattle.c_lexer.specs.declared.token.Word.TheVariants as word
+use Rattle.c_lexer.specs.declared.token.Token.{Token}
+use Rattle.c_lexer.specs.declared.token.Token.TheVariants as token
+
+abbrev pub words : List (List ℕ × Word)
+words =
+    (codes "int64_t", word.Int64) ∷
+    (codes "void", word.Void) ∷
+    (codes "struct", word.Struct) ∷
+    (codes "persistent", word.Persistent) ∷
+    (codes "root", word.Root) ∷
+    (codes "tx", word.Tx) ∷
+    (codes "if", word.If) ∷
+    (codes "else", word.Else) ∷
+    (codes "while", word.While) ∷
+    (codes "for", word.For) ∷
+    (codes "break", word.Break) ∷
+    (codes "continue", word.Continue) ∷
+    (codes "return", word.Return) ∷
+    (codes "NULL", word.Null) ∷
+    (codes "pm_new", word.PmNew) ∷
+    (codes "pm_free", word.PmFree) ∷
+    (codes "abort", word.Abort) ∷
+    []
+
+abbrev pub never_accepted : List (List ℕ)
+never_accepted =
+    codes "auto" ∷
+    codes "case" ∷
+    codes "char" ∷
+    codes "const" ∷
+    codes "default" ∷
+    codes "do" ∷
+    codes "double" ∷
+    codes "enum" ∷
+    codes "extern" ∷
+    codes "float" ∷
+    codes "goto" ∷
+    codes "inline" ∷
+    codes "int" ∷
+    codes "long" ∷
+    codes "register" ∷
+    codes "restrict" ∷
+    codes "short" ∷
+    codes "signed" ∷
+    codes "sizeof" ∷
+    codes "static" ∷
+    codes "switch" ∷
+    codes "typedef" ∷
+    codes "union" ∷
+    codes "unsigned" ∷
+    codes "volatile" ∷
+    []
+
+-- the word beside the first spelling of a table that the run is
+abbrev pub beside : List ℕ → List (List ℕ × Word) → Option Word
+beside run [] = None
+beside run (row ∷ rows) = if bytes_eq run row.0 then Some row.1 else beside run rows
+
+unfoldable pub word_at : List ℕ → Option Word
+word_at run = beside run words
+
+unfoldable pub is_never_accepted : List ℕ → Bool
+is_never_accepted run = list_any (λ spelling. bytes_eq run spelling) never_accepted
+
+-- the token that a run spells
+abbrev pub spelled_by : List ℕ → Option Word → Bool → Token
+spelled_by run (Some word) reserved = token.Word word
+spelled_by run None true = token.Reserved
+spelled_by run None false = token.Name run
+
+abbrev pub word_token : List ℕ → Token
+word_token run = spelled_by run (word_at run) (is_never_accepted run)

@@ -1,0 +1,71 @@
+//! The marks by their spellings.
+
+ghost use Rattle.std.specs.Prelude.{◌≡◌, ◌<◌, ◌≤◌, ℕ, List, length, map, IfSome};
+ghost use Rattle.std.specs.Borrow.{Bor};
+ghost use Rattle.c_lexer.specs.declared.token.Mark.{Mark};
+ghost use Rattle.c_lexer.specs.Marks.{first_fit, mark_at};
+
+use crate::token::Mark;
+
+/// Those of two bytes stand first, so that the first that fits is the longest.
+const MARKS: [(&str, Mark); 35] = [
+    ("->", Mark::Arrow),
+    ("++", Mark::Increment),
+    ("--", Mark::Decrement),
+    ("+=", Mark::AddAssign),
+    ("-=", Mark::SubAssign),
+    ("<<", Mark::ShiftLeft),
+    (">>", Mark::ShiftRight),
+    ("<=", Mark::LessEqual),
+    (">=", Mark::GreaterEqual),
+    ("==", Mark::Equal),
+    ("!=", Mark::NotEqual),
+    ("&&", Mark::AndAnd),
+    ("||", Mark::OrOr),
+    ("+", Mark::Plus),
+    ("-", Mark::Minus),
+    ("*", Mark::Star),
+    ("/", Mark::Slash),
+    ("%", Mark::Percent),
+    ("<", Mark::Less),
+    (">", Mark::Greater),
+    ("&", Mark::And),
+    ("^", Mark::Xor),
+    ("|", Mark::Or),
+    ("!", Mark::Not),
+    ("~", Mark::Tilde),
+    ("=", Mark::Assign),
+    (".", Mark::Dot),
+    (",", Mark::Comma),
+    (";", Mark::Semicolon),
+    ("(", Mark::OpenRound),
+    (")", Mark::CloseRound),
+    ("{", Mark::OpenBrace),
+    ("}", Mark::CloseBrace),
+    ("[", Mark::OpenSquare),
+    ("]", Mark::CloseSquare),
+];
+
+/// The first row of a table whose spelling stands at the front of these bytes.
+fn first_fit(left: &[u8], table: &[(&str, Mark)]) -> Option<(usize, Mark)>
+    ensures inside { IfSome result (λ found. found.0 ≤ length left.now) }
+    ensures fit { result ≡ first_fit left.now (map (λ (row : Bor (List ℕ) × Mark). (row.0.now, row.1)) table.now) }
+{
+    for (spelling, mark) in table {
+        if left.starts_with(spelling.as_bytes()) {
+            return Some((spelling.len(), *mark));
+        }
+    }
+    None
+}
+
+/// The longest mark at the front of these bytes, with its length.
+#[tactic(auto, unfolding(crate::specs::Marks::mark_at))]
+pub(crate) fn longest_mark(left: &[u8]) -> Option<(usize, Mark)>
+    ensures some { IfSome result (λ found. 0 < found.0) }
+    ensures inside { IfSome result (λ found. found.0 ≤ length left.now) }
+    ensures mark { result ≡ mark_at left.now }
+{
+    let table: [(&str, Mark); 35] = MARKS;
+    first_fit(left, table.as_slice())
+}

@@ -1,0 +1,76 @@
+//! The text as tokens.
+
+ghost use Rattle.std.specs.Prelude.{◌≡◌, ◌⊎◌, ℕ, ◌-◌, ◌<◌, ◌≤◌, [], ◌∷◌, ◌++◌, length, IfOk, IfErr, OnOk};
+ghost use Rattle.c_lexer.specs.Cuts.{Cut, begin, behind, limited, answer};
+ghost use Rattle.c_lexer.specs.Next.{IsWithin};
+
+use crate::fault::LexFault;
+use crate::list::TokenList;
+use crate::piece::{Piece, next};
+use crate::spot::Spot;
+use crate::token::{Placed, Token};
+use std::alloc::Global;
+
+/// The most bytes that a text may have.
+const MOST_BYTES: usize = 262_144;
+
+/// The most tokens that a text may have.
+const MOST_TOKENS: usize = 16_384;
+
+/// Puts one more token at the end, if there is room.
+fn keep(all: &mut Vec<Placed>, token: Token, line: u64) -> Result<(), LexFault>
+    ensures ok { OnOk result (all.new.items ≡ all.old.items ++ record { token = token; line = line } ∷ []) }
+    ensures room { OnOk result (length all.old.items < 16384) }
+    ensures err { IfErr result (λ fault. (fault ≡ LexFault.NoMemory)
+        ⊎ ((fault ≡ LexFault.TooLong) × (16384 ≤ length all.old.items))) }
+{
+    if all.len() >= MOST_TOKENS {
+        return Err(LexFault::TooLong);
+    }
+    all.push(Placed { token, line })?;
+    Ok(())
+}
+
+/// Keeps a piece's token, and gives the piece's length. Whatever cut follows, it is the same.
+#[tactic(auto, using(crate::proofs::Limits::take_steps))]
+fn take(all: &mut Vec<Placed>, piece: Piece, line: u64) -> Result<usize, LexFault>
+    requires { length all.old.items ≤ 16384 }
+    ensures leads { IfOk result (λ width. (go : ℕ → Cut) →
+        behind all.old.items (begin piece line go) ≡ behind all.new.items (go (width - 1))) }
+    ensures room { OnOk result (length all.new.items ≤ 16384) }
+    ensures inside { IfOk result (λ width. (most : ℕ) → IsWithin piece most → (0 < width) × (width ≤ most)) }
+    ensures err { IfErr result (λ fault. (fault ≡ LexFault.NoMemory)
+        ⊎ ((go : ℕ → Cut) → limited (behind all.old.items (begin piece line go)) ≡ Err fault)) }
+{
+    match piece {
+        Piece::Skips(width) => Ok(width),
+        Piece::Spells(width, token) => {
+            keep(all, token, line)?;
+            Ok(width)
+        }
+        Piece::Refuses(fault) => Err(fault),
+    }
+}
+
+/// The tokens that a text spells, or the first refusal in the order of its bytes.
+pub fn tokens(alloc: Global, text: &[u8]) -> Result<TokenList, LexFault>
+    ensures exact { (result ≡ Err LexFault.NoMemory) ⊎ (result ≡ answer text.now) }
+{
+    if text.len() > MOST_BYTES {
+        return Err(LexFault::TooLong);
+    }
+    let mut all = Vec::new(alloc);
+    let mut spot = Spot {
+        line: 1,
+        fresh: true,
+    };
+    let mut left = text;
+    while !left.is_empty() {
+        let piece = next(alloc, left, spot)?;
+        let width = take(&mut all, piece, spot.line)?;
+        let (passed, behind) = left.split_at(width);
+        spot.pass(passed);
+        left = behind;
+    }
+    Ok(TokenList::new(all, spot.line))
+}

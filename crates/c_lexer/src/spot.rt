@@ -1,0 +1,33 @@
+//! Where the scanner stands.
+
+ghost use Rattle.std.specs.Prelude.{◌≡◌, ◌+◌, ◌<◌, ◌≤◌, ◌^◌, length};
+ghost use Rattle.c_lexer.specs.Spots.{past};
+
+use crate::byte::is_indent;
+
+/// What the bytes before a place say about it.
+#[derive(Clone, Copy)]
+pub(crate) struct Spot {
+    /// The line, counted from 1.
+    pub(crate) line: u64,
+    /// Whether only spaces and tabs stand before the place on its line.
+    pub(crate) fresh: bool,
+}
+
+impl Spot {
+    /// Goes on behind a piece of the text.
+    pub(crate) fn pass(&mut self, piece: &[u8])
+        requires { self.old.line + length piece.now < 2 ^ 64 }
+        ensures spot { self.new ≡ past self.old piece.now }
+        ensures line { self.new.line ≤ self.old.line + length piece.now }
+    {
+        for byte in piece {
+            if *byte == b'\n' {
+                self.line += 1;
+                self.fresh = true;
+            } else {
+                self.fresh = self.fresh && is_indent(*byte);
+            }
+        }
+    }
+}
