@@ -12,10 +12,10 @@ use Rattle.nvm_base.specs.Wrap.{wrap, IsWord, IsCongruent, Wraps}
 use Rattle.nvm_base.specs.WordLaws.{UnsignedIsModulo, PlacesIsModulo, RoundsDown, ShiftRoundsDown, EqCompares, AndIsBitwise, OrIsBitwise, XorIsBitwise, bit}
 use Rattle.nvm_base.specs.Operations.{unsigned, places, truth}
 
-fits_word : (x : ℤ) → FitsSigned w64 x → IsWord x
+pub fits_word : (x : ℤ) → FitsSigned w64 x → IsWord x
 fits_word x f = (omega (arith, ints), omega (arith, ints))
 
-word_fits : (x : ℤ) → IsWord x → FitsSigned w64 x
+pub word_fits : (x : ℤ) → IsWord x → FitsSigned w64 x
 word_fits x h = let low = h.0 in let high = h.1 in omega (arith, ints)
 
 cast_low : (n : ℕ) → ltb n (2 ^ 63) ≡ true → cast_signed w64 n ≡ pos n

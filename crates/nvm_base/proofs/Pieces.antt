@@ -1,5 +1,5 @@
 -- Lemmas on bytes that move in pieces: what was taken from a source, and what was appended to a sink.
-use Rattle.std.proofs.Common.{◌≡◌, ℕ, ◌+◌, ◌-◌, ◌≤◌, List, ◌++◌, length, take, drop, Option, Some, None, Result, Ok, Err, sym, ◌∙◌, arith, append_assoc, length-append}
+use Rattle.std.proofs.Common.{◌≡◌, ap, ℕ, ◌+◌, ◌-◌, ◌≤◌, List, ◌++◌, length, take, drop, Option, Some, None, Result, Ok, Err, sym, ◌∙◌, arith, append_assoc, length-append}
 use Rattle.std.specs.Prelude.{OnErr}
 use Rattle.std.specs.Io.KnownBytes.{Appends, Consumes, Keeps}
 use Rattle.std.proofs.lemmas.Grind.{common_steps}
@@ -47,6 +47,25 @@ appends_part a b c bs at first next = record {
   rest = drop at bs;
   split = sym (take-append-drop at bs);
   appended = appends_keeps a b c (take at bs) first next;
+}
+
+-- a first part appended after all of what came before
+pub appends_part_after : (a b c : Option (List ℕ)) (xs ys : List ℕ) → Appends a b xs → AppendsPart b c ys
+    → AppendsPart a c (xs ++ ys)
+appends_part_after a b c xs ys first next = record {
+  part = xs ++ next.part;
+  rest = next.rest;
+  split = ap (λ z. xs ++ z) next.split ∙ sym (append_assoc xs next.part next.rest);
+  appended = appends_more a b c xs next.part first next.appended;
+}
+
+-- a first part is also a first part of what goes on behind
+pub appends_part_before : (a b : Option (List ℕ)) (xs ys : List ℕ) → AppendsPart a b xs → AppendsPart a b (xs ++ ys)
+appends_part_before a b xs ys some = record {
+  part = some.part;
+  rest = some.rest ++ ys;
+  split = ap (λ z. z ++ ys) some.split ∙ append_assoc some.part some.rest ys;
+  appended = some.appended;
 }
 
 -- bytes taken after bytes taken

@@ -20,7 +20,9 @@ pub struct StdSink<'a, R: Files + Print> {
 
 impl<'a, R: Files + Print> StdSink<'a, R> {
     /// The file of this path, which is made or emptied at the first write.
-    pub fn file(rt: &'a R, path: &'a str) -> Self {
+    pub fn file(rt: &'a R, path: &'a str) -> Self
+        ensures { result.faults ≡ 0 }
+    {
         StdSink {
             rt,
             path: Some(path),
@@ -30,7 +32,9 @@ impl<'a, R: Files + Print> StdSink<'a, R> {
     }
 
     /// Standard output.
-    pub fn standard(rt: &'a R) -> Self {
+    pub fn standard(rt: &'a R) -> Self
+        ensures { result.faults ≡ 0 }
+    {
         StdSink {
             rt,
             path: None,

@@ -19,7 +19,9 @@ pub struct StdSource<'a, R: Files> {
 
 impl<'a, R: Files> StdSource<'a, R> {
     /// The file is opened at the first read.
-    pub fn new(rt: &'a R, path: &'a str) -> Self {
+    pub fn new(rt: &'a R, path: &'a str) -> Self
+        ensures { result.faults ≡ 0 }
+    {
         StdSource {
             rt,
             path,
