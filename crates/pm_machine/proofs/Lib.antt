@@ -1,0 +1,4 @@
+pub mod Range
+pub mod Leads
+pub mod Dues
+pub mod Fuel

@@ -1,2 +1,7 @@
 pub mod Checked
 pub mod Few
+pub mod Stack
+pub mod Transactions
+pub mod Effects
+pub mod Machine
+pub mod Runs

@@ -29,21 +29,21 @@ impl RegisterWords {
     }
 
     /// The word of a register, 0 where there is none.
-    pub fn get(&self, register: u32) -> i64
+    pub fn get(&self, register: usize) -> i64
         ensures { result ≡ slice_index_or self.now register (pos 0) }
     {
-        match self.all.get(register as usize) {
+        match self.all.get(register) {
             Some(word) => *word,
             None => 0,
         }
     }
 
     /// Writes a register, where there is one.
-    pub fn set(&mut self, register: u32, word: i64)
+    pub fn set(&mut self, register: usize, word: i64)
         ensures { self.new ≡ slice_set self.old register word }
     {
-        if (register as usize) < self.all.len() {
-            self.all[register as usize] = word;
+        if register < self.all.len() {
+            self.all[register] = word;
         }
     }
 

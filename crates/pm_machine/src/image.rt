@@ -3,6 +3,7 @@
 ghost use Rattle.std.specs.Prelude.{◌≡◌, ◌<◌, ◌≤◌, ◌^◌, ◌+◌, Some, None, IfSome, IfNone, IfOk, IfErr, OnOk, length, slice_get, nat_lt, ◌-◌, IsErrOf, IsSomeAnd, ℕ};
 ghost use Rattle.std.specs.List.{list_all, AllByRecursion};
 ghost use Rattle.pm_machine.specs.Checked.{takes, is_there, is_end, is_good, bad_from, bad_in, bad_of, most_registers};
+ghost use Rattle.pm_machine.specs.Transactions.{function_of};
 ghost use Rattle.pm_machine.specs.Few.{AreFew};
 
 use crate::op::{Function, Functions, Op, TxList};
@@ -167,10 +168,40 @@ impl Image {
         Ok(Image { parts, largest })
     }
 
+    /// The functions, which `Image::new` found to be good.
+    pub(crate) fn functions(&self) -> &Functions
+        ensures { result.now ≡ self.now.parts.functions }
+    {
+        &self.parts.functions
+    }
+
     pub fn sizes(&self) -> &Sizes
         ensures { result.now ≡ self.now.parts.sizes }
     {
         &self.parts.sizes
+    }
+
+    /// A number of steps that no run goes past.
+    pub(crate) fn most(&self) -> u128
+        ensures { result ≡ self.now.parts.most }
+    {
+        self.parts.most
+    }
+
+    /// How many registers a frame has.
+    pub(crate) fn largest(&self) -> u32
+        ensures { result ≡ self.now.largest }
+    {
+        self.largest
+    }
+
+    /// The function of a transaction.
+    pub(crate) fn function(&self, tx: u64) -> u32
+        requires first { 1 ≤ tx }
+        requires last { tx ≤ length self.now.parts.txs }
+        ensures { result ≡ function_of (slice_get self.now.parts.txs (tx - 1)) }
+    {
+        self.parts.txs.as_slice()[tx as usize - 1].function
     }
 
     /// How many transactions there are.

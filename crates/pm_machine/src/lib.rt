@@ -5,10 +5,14 @@
 
 mod effect;
 mod frame;
+mod frames;
 mod image;
+mod machine;
 mod op;
 
 pub use effect::{Effect, End};
 pub use frame::{Frame, RegisterWords};
+pub use frames::Frames;
 pub use image::{Image, ImageParts, ImageRefused};
+pub use machine::{Machine, Progress};
 pub use op::{Code, Function, Functions, Op, TxEntry, TxList};

@@ -1,7 +1,7 @@
 //! The machine's instructions. Each line says its effect in the machine's terms: `R[r]` is the word
 //! of register r, `H[w]` is heap word w, and addresses wrap.
 
-ghost use Rattle.std.specs.Prelude.{[], ◌∷◌, ◌++◌, ◌≡◌, OnOk, OnErr, slice_get, option_copied};
+ghost use Rattle.std.specs.Prelude.{[], ◌∷◌, ◌++◌, ◌≡◌, OnOk, OnErr, slice_get, option_copied, IsSome, ◌<◌, ◌^◌};
 
 use nvm_base::{BinOp, Registers};
 use std::alloc::{AllocError, Global};
@@ -81,6 +81,14 @@ impl Code {
         ensures { result.now ≡ self.now }
     {
         &self.all
+    }
+
+    /// The instruction at a place, from 0.
+    pub fn get(&self, place: usize) -> Option<&Op>
+        ensures value { option_copied result ≡ slice_get self.now place }
+        ensures inside { IsSome result → place < 2 ^ 63 }
+    {
+        self.all.get(place)
     }
 }
 

@@ -1,0 +1,88 @@
+-- The loop of a run: what is left leads where all of it leads.
+use Rattle.std.proofs.Common.{◌≡◌, ℕ, suc, ◌+◌, ◌-◌, ◌<◌, ◌≤◌, List, [], ◌∷◌, Some, refl, sym, ap, ◌∙◌, subst, arith}
+use Rattle.cache_model.specs.Event.{CacheEvent}
+use Rattle.cache_model.specs.Cache.{Cache}
+use Rattle.cache_model.specs.Play.{play}
+use Rattle.pmem.specs.declared.answer.Refusal.{Refusal}
+use Rattle.pmem.specs.Device.{Device, spent}
+use Rattle.pmem.specs.Played.{PlaysAll, PlaysPart}
+use Rattle.pmem.proofs.Glue.{all_append, part_left, part_right}
+use Rattle.pm_machine.specs.declared.effect.Effect.{Effect}
+use Rattle.pm_machine.specs.declared.effect.End.{End}
+use Rattle.pm_machine.specs.declared.machine.Progress.{Progress}
+use Rattle.pm_machine.specs.declared.machine.Progress.TheVariants.{Did, Ended}
+use Rattle.pm_machine.specs.declared.image.Image.{Image}
+use Rattle.pm_machine.specs.Effects.{events_of, records_past}
+use Rattle.pm_machine.specs.Machine.{State, Outcome, Goes, Ends, decide, tally, step}
+use Rattle.pm_machine.specs.Runs.{heap_in, outcome_of, effect_of, effect_in, Due, before, owing, due, Leads}
+
+pub all_cache : (es : List CacheEvent) (d b : Device) → PlaysAll d es b → b.cache ≡ play d.cache es
+all_cache [] d b all = ap (λ (x : Device). x.cache) all
+all_cache (e ∷ es) d b all = all_cache es (spent d e) b all.1
+
+pub all_on : (es : List CacheEvent) (d b : Device) → PlaysAll d es b → b.on ≡ d.on
+all_on [] d b all = ap (λ (x : Device). x.on) all
+all_on (e ∷ es) d b all = all_on es (spent d e) b all.1
+
+leads_next : (d : Device) (k : ℕ) (es : List CacheEvent) (x : Due) (d0 : Device) (k0 : ℕ) (x0 : Due) (b : Device) → PlaysAll d es b → Leads d k (before es x) d0 k0 x0 → Leads b (k + 1) x d0 k0 x0
+leads_next d k es x d0 k0 x0 b all h = record {
+  fate = h.fate;
+  whole = λ c p. h.whole c (all_append es x.events d b c all p);
+  part = λ why c p. h.part why c (part_right es x.events why d b c all p);
+  steps = let e = h.steps in omega arith;
+}
+
+-- a step of the loop, with m steps left
+module _ (image : Image) (a m n : ℕ) (s : State) (d : Device) (k : ℕ) (d0 : Device) (k0 : ℕ) (x0 : Due) where
+  abbrev Left : ℕ → Type 0
+  Left m = Leads d k (due image a m n s d.cache) d0 k0 x0
+
+  abbrev taken : Outcome
+  taken = step image n s (heap_in image.parts.sizes d.cache)
+
+  abbrev events : Effect → List CacheEvent
+  events = events_of image.parts.sizes a n (heap_in image.parts.sizes d.cache)
+
+  abbrev rest : Effect → State → Due
+  rest e t = due image a (m - 1) (records_past n e) t (play d.cache (events e))
+
+  -- m isn't 0, and the step is known
+  opened : (o : Outcome) → 0 < m → Left m → o ≡ taken → Leads d k (owing events rest o) d0 k0 x0
+  opened o some h is =
+      let e : m ≡ suc (m - 1) = omega arith in
+      subst (λ (o : Outcome). Leads d k (owing events rest o) d0 k0 x0) (sym is) (subst Left e h)
+
+  pub leads_did : (p : Progress) (e : Effect) (t : State) (b : Device) (k1 : ℕ) →
+      p ≡ Did e → outcome_of p t ≡ taken → PlaysAll d (events (effect_of p)) b → k1 ≡ k + 1 → 0 < m → Left m →
+      Leads b k1 (due image a (m - 1) (records_past n e) t b.cache) d0 k0 x0 × (b.on ≡ d.on)
+  leads_did p e t b k1 did is played tick some h =
+      let o : Goes e t ≡ taken = ap (λ (p : Progress). outcome_of p t) (sym did) ∙ is in
+      let all : PlaysAll d (events e) b = subst (λ (p : Progress). PlaysAll d (events (effect_of p)) b) did played in (
+        subst (λ (c : Cache). Leads b k1 (due image a (m - 1) (records_past n e) t c) d0 k0 x0) (sym (all_cache (events e) d b all))
+            (subst (λ (i : ℕ). Leads b i (rest e t) d0 k0 x0) (sym tick) (leads_next d k (events e) (rest e t) d0 k0 x0 b all (opened (Goes e t) some h o))),
+        all_on (events e) d b all,
+      )
+
+  pub leads_ended : (p : Progress) (end : End) (t : State) (b : Device) (k1 : ℕ) →
+      p ≡ Ended end → outcome_of p t ≡ taken → PlaysAll d (events (effect_of p)) b → k1 ≡ k + 1 → 0 < m → Left m →
+      (x0.fate ≡ Some end) × PlaysAll d0 x0.events b × (k1 ≡ k0 + x0.steps)
+  leads_ended p end t b k1 ended is played tick some h =
+      let o : Ends end ≡ taken = ap (λ (p : Progress). outcome_of p t) (sym ended) ∙ is in
+      let all : PlaysAll d [] b = subst (λ (p : Progress). PlaysAll d (events (effect_of p)) b) ended played in
+      let l = opened (Ends end) some h o in
+      let same : k + 1 ≡ k0 + x0.steps = l.steps in
+      (sym l.fate, l.whole b all, tick ∙ same)
+
+  -- the count of LOGs leaves the effect
+  tally_effect : (o : Outcome) → effect_in (tally o) ≡ effect_in o
+  tally_effect (Goes e t) = refl
+  tally_effect (Ends end) = refl
+
+  pub leads_refused : (why : Refusal) (b : Device) (k1 : ℕ) → PlaysPart why d (events (effect_in (decide image n s (heap_in image.parts.sizes d.cache)))) b → k1 ≡ k + 1 → 0 < m → Left m →
+      PlaysPart why d0 x0.events b × (k1 ≤ k0 + x0.steps)
+  leads_refused why b k1 part tick some h =
+      go taken (subst (λ (e : Effect). PlaysPart why d (events e) b) (sym (tally_effect (decide image n s (heap_in image.parts.sizes d.cache)))) part) (opened taken some h refl)
+    where
+      go : (o : Outcome) → PlaysPart why d (events (effect_in o)) b → Leads d k (owing events rest o) d0 k0 x0 → PlaysPart why d0 x0.events b × (k1 ≤ k0 + x0.steps)
+      go (Goes e t) part l = (l.part why b (part_left (events e) (rest e t).events why d b part), let q = l.steps in omega arith)
+      go (Ends end) part l = absurd part

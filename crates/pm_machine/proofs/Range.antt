@@ -1,0 +1,142 @@
+-- A step's effect is in range, dirty lines are lines of the heap, and there are no more records than the log holds.
+use Rattle.std.proofs.Common.{◌≡◌, ℕ, ◌+◌, ◌-◌, ◌*◌, ◌/◌, ◌<◌, ◌≤◌, ◌++◌, ◌==◌, if◌then◌else◌, Bool, true, false, List, [], ◌∷◌, drop, length, slice_get, Option, Some, None, ℤ, pos, ltb, w64, ◌+ℤ◌, refl, sym, ap, ◌∙◌, subst, arith, nat_eq}
+use Rattle.std.specs.List.{list_any}
+use Rattle.std.specs.Ordering.{int_eq}
+use Rattle.std.specs.Int.{int_wrap}
+use Rattle.indexmap.specs.IndexSet.{insert_key}
+use borrow.Author.Tests.{ltb-true}
+use Rattle.cache_model.specs.Cache.{Words}
+use Rattle.pool_layout.specs.Sizes.{heap_words}
+use Rattle.pool_map.specs.declared.trap.TrapKind.TheVariants as trap
+use Rattle.pm_machine.specs.declared.image.Image.{Image}
+use Rattle.pm_machine.specs.declared.op.Op.{Op}
+use Rattle.pm_machine.specs.declared.op.Op.TheVariants.{Jz, Load, Store, Log, Flush, Call, Ret, Tick, Trap, Halt}
+use Rattle.pm_machine.specs.declared.frame.Frame.{Frame}
+use Rattle.pm_machine.specs.declared.effect.Effect.{Effect}
+use Rattle.pm_machine.specs.declared.effect.Effect.TheVariants.{Loads, Stores, Logs, Flushes, Fences, Quiet}
+use Rattle.pm_machine.specs.declared.effect.End.TheVariants.{Trapped}
+use Rattle.pm_machine.specs.declared.machine.Progress.{Progress}
+use Rattle.pm_machine.specs.declared.machine.Progress.TheVariants.{Did}
+use Rattle.pm_machine.specs.Effects.{records_past}
+use Rattle.pm_machine.specs.Machine.{State, Outcome, Goes, Ends, step, decide, tally, act, fetch, read, load, store, log, flush, call, return, target, moved, passed, spent, entered, index_of, inside}
+use Rattle.pm_machine.specs.Runs.{AreLines, IsInRange, Keeps, outcome_of}
+
+pub inside_below : (H w : ℕ) (o : Option ℕ) → inside H o ≡ Some w → w < H
+inside_below H w None is = absurd (cc)
+inside_below H w (Some v) is = go (ltb v H) refl is
+  where
+    go : (b : Bool) → ltb v H ≡ b → (if b then Some v else None) ≡ Some w → w < H
+    go true lt same = let e : v ≡ w = cc in subst (λ (i : ℕ). i < H) e (ltb-true v H lt)
+    go false lt same = absurd (cc)
+
+lines_push : (H : ℕ) (ls : List ℕ) (l : ℕ) → AreLines H ls → 8 * l < H → AreLines H (ls ++ l ∷ [])
+lines_push H [] l lines lt = (lt, tt)
+lines_push H (k ∷ ks) l lines lt = (lines.0, lines_push H ks l lines.1 lt)
+
+lines_insert : (H : ℕ) (ls : List ℕ) (l : ℕ) → AreLines H ls → 8 * l < H → AreLines H (insert_key nat_eq ls l)
+lines_insert H ls l lines lt = go (list_any (nat_eq l) ls)
+  where
+    go : (b : Bool) → AreLines H (if b then ls else ls ++ l ∷ [])
+    go true = lines
+    go false = lines_push H ls l lines lt
+
+module _ (image : Image) (heap : Words) (n : ℕ) (s : State) (lines : AreLines (heap_words image.parts.sizes) s.dirty) where
+  abbrev H : ℕ
+  H = heap_words image.parts.sizes
+
+  abbrev C : ℕ
+  C = image.parts.sizes.records
+
+  abbrev Kept : Outcome → Type 0
+  Kept (Goes e t) = IsInRange C H n e × AreLines H t.dirty × (t.logged ≡ s.logged)
+  Kept (Ends end) = Unit {0}
+
+  keeps_load : (r : ℕ) (p : Option ℕ) → ((w : ℕ) → p ≡ Some w → w < H) → Kept (load heap s r p)
+  keeps_load r None below = (tt, lines, refl)
+  keeps_load r (Some w) below = (below w refl, lines, refl)
+
+  keeps_store : (x : ℤ) (p : Option ℕ) → ((w : ℕ) → p ≡ Some w → w < H) → Kept (store s x p)
+  keeps_store x None below = (tt, lines, refl)
+  keeps_store x (Some w) below = let lt : w < H = below w refl in (lt, lines_insert H s.dirty (w / 8) lines (omega arith), refl)
+
+  keeps_log : (p : Option ℕ) → ((w : ℕ) → p ≡ Some w → w < H) → Kept (log C n s p)
+  keeps_log None below = (tt, lines, refl)
+  keeps_log (Some w) below = go (ltb n C) refl
+    where
+      go : (b : Bool) → ltb n C ≡ b → Kept (if b then Goes (Logs w) (passed s) else Ends (Trapped trap.LogFull))
+      go true is = ((below w refl, ltb-true n C is), lines, refl)
+      go false is = tt
+
+  keeps_flush : (ls : List ℕ) → ls ≡ s.dirty → Kept (flush s (slice_get ls 0))
+  keeps_flush [] is = (tt, lines, refl)
+  keeps_flush (l ∷ ls) is =
+      let all : AreLines H (l ∷ ls) = subst (AreLines H) (sym is) lines in
+      (all.0, subst (λ (ks : List ℕ). AreLines H (drop 1 ks)) is all.1, refl)
+
+  keeps_call : (r f : ℕ) (args : List ℕ) → Kept (call s r f args)
+  keeps_call r f args = go (ltb (length s.below + 1) 256)
+    where
+      go : (b : Bool) → Kept (if b then Goes Quiet (entered s r f args) else Ends (Trapped trap.Depth))
+      go true = (tt, lines, refl)
+      go false = tt
+
+  keeps_return : (v : ℤ) (o : Option Frame) → Kept (return s v o)
+  keeps_return v None = tt
+  keeps_return v (Some caller) = (tt, lines, refl)
+
+  keeps_tick : (b : Bool) → Kept (if b then Ends (Trapped trap.Steps) else Goes Quiet (spent s))
+  keeps_tick true = tt
+  keeps_tick false = (tt, lines, refl)
+
+  keeps_branch : (t : ℕ) (b : Bool) → Kept (Goes Quiet (if b then moved s t else passed s))
+  keeps_branch t true = (tt, lines, refl)
+  keeps_branch t false = (tt, lines, refl)
+
+  keeps_act : (i : Option Op) → Kept (act image heap n s i)
+  keeps_act None = tt
+  keeps_act (Some (Jz a t)) = keeps_branch t (int_eq (read s a) (pos 0))
+  keeps_act (Some (Load r a o)) = keeps_load r (target image s a o) (λ w. inside_below H w (index_of (int_wrap w64 (read s a +ℤ o))))
+  keeps_act (Some (Store a o b)) = keeps_store (read s b) (target image s a o) (λ w. inside_below H w (index_of (int_wrap w64 (read s a +ℤ o))))
+  keeps_act (Some (Log a o)) = keeps_log (target image s a o) (λ w. inside_below H w (index_of (int_wrap w64 (read s a +ℤ o))))
+  keeps_act (Some Flush) = keeps_flush s.dirty refl
+  keeps_act (Some (Call r f args)) = keeps_call r f args
+  keeps_act (Some (Ret a)) = keeps_return (read s a) (slice_get s.below (length s.below - 1))
+  keeps_act (Some Tick) = keeps_tick (s.ticks == 0)
+  keeps_act (Some (Trap k)) = tt
+  keeps_act (Some (Halt a)) = tt
+  keeps_act (Some i) = (tt, lines, refl)
+
+  keeps_tally : (o : Outcome) → Kept o → Keeps C H n s.logged (tally o)
+  keeps_tally (Ends end) keeps = tt
+  keeps_tally (Goes (Loads w) t) keeps = keeps
+  keeps_tally (Goes (Stores w x) t) keeps = keeps
+  keeps_tally (Goes (Logs w) t) keeps = (keeps.0, keeps.1, let e = keeps.2 in omega arith)
+  keeps_tally (Goes (Flushes l) t) keeps = keeps
+  keeps_tally (Goes Fences t) keeps = keeps
+  keeps_tally (Goes Quiet t) keeps = keeps
+
+pub keeps_step : (image : Image) (heap : Words) (n : ℕ) (s : State) (o : Outcome) → AreLines (heap_words image.parts.sizes) s.dirty → o ≡ step image n s heap → Keeps image.parts.sizes.records (heap_words image.parts.sizes) n s.logged o
+keeps_step image heap n s o lines is =
+    subst (Keeps image.parts.sizes.records (heap_words image.parts.sizes) n s.logged) (sym is)
+    (keeps_tally image heap n s lines (decide image n s heap) (keeps_act image heap n s lines (fetch image s)))
+
+pub keeps_progress : (image : Image) (heap : Words) (n : ℕ) (s : State) (p : Progress) (e : Effect) (t : State) → AreLines (heap_words image.parts.sizes) s.dirty → p ≡ Did e → outcome_of p t ≡ step image n s heap → Keeps image.parts.sizes.records (heap_words image.parts.sizes) n s.logged (Goes e t)
+keeps_progress image heap n s p e t lines did is = keeps_step image heap n s (Goes e t) lines (ap (λ (p : Progress). outcome_of p t) (sym did) ∙ is)
+
+-- the records behind an effect fit the log
+pub records_fit : (C H n : ℕ) (e : Effect) → IsInRange C H n e → n ≤ C → records_past n e ≤ C
+records_fit C H n (Loads w) fits le = le
+records_fit C H n (Stores w x) fits le = le
+records_fit C H n (Logs w) fits le = let lt : n < C = fits.1 in omega arith
+records_fit C H n (Flushes l) fits le = le
+records_fit C H n Fences fits le = le
+records_fit C H n Quiet fits le = le
+
+-- no more LOGs than records
+pub logged_fit : (k n : ℕ) (e : Effect) → k ≤ n → records_past k e ≤ records_past n e
+logged_fit k n (Loads w) le = le
+logged_fit k n (Stores w x) le = le
+logged_fit k n (Logs w) le = omega arith
+logged_fit k n (Flushes l) le = le
+logged_fit k n Fences le = le
+logged_fit k n Quiet le = le

@@ -1,0 +1,66 @@
+use Rattle.std.proofs.Common.{◌≡◌, ◌+◌, ◌-◌, ◌≤◌, ℕ, Some, rules, sym, subst, ◌∙◌, arith}
+use Rattle.pmem.specs.Played.{PlaysAll, PlaysPart}
+use Rattle.pm_machine.specs.Runs.{heap_in, due, Leads}
+use Rattle.pm_machine.proofs.Leads.{leads_did, leads_ended, leads_refused}
+use Rattle.pm_machine.proofs.Range.{keeps_progress, records_fit, logged_fit}
+use Rattle.pool_layout.specs.Sizes.{heap_words}
+use Rattle.pm_machine.proofs.machine.Machine.run_on.Goals as goal
+use Rattle.pm_machine.proofs.machine.Machine.run_on.Given as given
+
+refused_of : (g : given.Over) (c : goal.In-Err g) →
+    let x0 = due c.args.image.now c.args.attempt c.args.image.now.parts.most c.args.count c.args.self.now (g.P.PmemWork.device c.args.dev.now).cache in
+    PlaysPart c.in-Err.why (g.P.PmemWork.device c.args.dev.now) x0.events (g.P.PmemWork.device c.step_on.new.dev) × (c.tick.new.self ≤ c.args.steps.now + x0.steps)
+refused_of g c =
+    let device = g.P.PmemWork.device in
+    leads_refused c.args.image.now c.args.attempt c.loop-left.left c.loop-left.records c.loop-left.self (device c.loop-left.dev) c.loop-left.steps (device c.args.dev.now) c.args.steps.now
+    (due c.args.image.now c.args.attempt c.args.image.now.parts.most c.args.count c.args.self.now (device c.args.dev.now).cache)
+    c.in-Err.why (device c.step_on.new.dev) c.tick.new.self c.in-Err.ensures.refused c.tick.ensures c.loop-left-test.true c.loop-left.invariant.leads
+
+pub returns-in-Err-clause-part : goal.returns-in-Err-clause-part
+returns-in-Err-clause-part g c = (refused_of g c).0
+
+pub returns-in-Err-clause-bound : goal.returns-in-Err-clause-bound
+returns-in-Err-clause-bound g c = (refused_of g c).1
+
+ended_of : (g : given.Over) (c : goal.In-Ended g) →
+    let x0 = due c.args.image.now c.args.attempt c.args.image.now.parts.most c.args.count c.args.self.now (g.P.PmemWork.device c.args.dev.now).cache in
+    (x0.fate ≡ Some c.in-Ended.end) × PlaysAll (g.P.PmemWork.device c.args.dev.now) x0.events (g.P.PmemWork.device c.step_on.new.dev) × (c.tick.new.self ≡ c.args.steps.now + x0.steps)
+ended_of g c =
+    let device = g.P.PmemWork.device in
+    leads_ended c.args.image.now c.args.attempt c.loop-left.left c.loop-left.records c.loop-left.self (device c.loop-left.dev) c.loop-left.steps (device c.args.dev.now) c.args.steps.now
+    (due c.args.image.now c.args.attempt c.args.image.now.parts.most c.args.count c.args.self.now (device c.args.dev.now).cache)
+    c.in-Ok.progress c.in-Ended.end c.step_on.new.self (device c.step_on.new.dev) c.tick.new.self
+    c.in-Ended.is c.in-Ok.ensures.meaning c.in-Ok.ensures.done c.tick.ensures c.loop-left-test.true c.loop-left.invariant.leads
+
+pub returns-in-Ended-clause-meaning : goal.returns-in-Ended-clause-meaning
+returns-in-Ended-clause-meaning g c = (ended_of g c).0
+
+pub returns-in-Ended-clause-whole : goal.returns-in-Ended-clause-whole
+returns-in-Ended-clause-whole g c = (ended_of g c).1
+
+pub returns-in-Ended-clause-cost : goal.returns-in-Ended-clause-cost
+returns-in-Ended-clause-cost g c = (ended_of g c).2
+
+pub returns-in-Ended-clause-bound : goal.returns-in-Ended-clause-bound
+returns-in-Ended-clause-bound g c = let e = (ended_of g c).2 in omega arith
+
+pub loop-left-preserved : goal.loop-left-preserved
+loop-left-preserved g c =
+    let device = g.P.PmemWork.device in
+    let x0 = due c.args.image.now c.args.attempt c.args.image.now.parts.most c.args.count c.args.self.now (device c.args.dev.now).cache in
+    let next = leads_did c.args.image.now c.args.attempt c.loop-left.left c.loop-left.records c.loop-left.self (device c.loop-left.dev) c.loop-left.steps (device c.args.dev.now) c.args.steps.now x0
+    c.in-Ok.progress c.in-Did.effect c.step_on.new.self (device c.step_on.new.dev) c.tick.new.self
+    c.in-Did.is c.in-Ok.ensures.meaning c.in-Ok.ensures.done c.tick.ensures c.loop-left-test.true c.loop-left.invariant.leads in
+    let keeps = keeps_progress c.args.image.now (heap_in c.args.image.now.parts.sizes (device c.loop-left.dev).cache) c.loop-left.records c.loop-left.self c.in-Ok.progress c.in-Did.effect c.step_on.new.self c.loop-left.invariant.dirty c.in-Did.is c.in-Ok.ensures.meaning in
+    let few = records_fit c.args.image.now.parts.sizes.records (heap_words c.args.image.now.parts.sizes) c.loop-left.records c.in-Did.effect keeps.0 c.loop-left.invariant.few in
+    let logged = logged_fit c.loop-left.self.logged c.loop-left.records c.in-Did.effect c.loop-left.invariant.logged in
+    let counted = keeps.2 in
+    let past = c.records_past-records.ensures in
+    record {
+      leads = subst (λ (i : ℕ). Leads (device c.step_on.new.dev) c.tick.new.self (due c.args.image.now c.args.attempt (c.loop-left.left - 1) i c.step_on.new.self (device c.step_on.new.dev).cache) (device c.args.dev.now) c.args.steps.now x0) (sym past) next.0;
+      dirty = keeps.1;
+      lines = search rules;
+      on = next.1 ∙ c.loop-left.invariant.on;
+      few = rw past few;
+      logged = rw (counted, past) logged;
+    }

@@ -1,0 +1,48 @@
+-- The effects of the machine's steps: what each does to the heap, how many records it appends, and which events of the
+-- device it is.
+use Rattle.std.specs.Prelude.{ℕ, suc, ◌+◌, List, [], ◌∷◌, ◌++◌}
+use Rattle.cache_model.specs.Event.{CacheEvent, Store, Flush, Fence}
+use Rattle.cache_model.specs.Cache.{Words, put}
+use Rattle.pool_layout.specs.declared.limits.Sizes.{Sizes}
+use Rattle.pool_layout.specs.declared.places.Place.TheVariants.{Heap}
+use Rattle.pool_layout.specs.Places.{at, pool_of}
+use Rattle.clobber_log.specs.Record.{record_events}
+use Rattle.pm_machine.specs.declared.effect.Effect.{Effect}
+use Rattle.pm_machine.specs.declared.effect.Effect.TheVariants.{Loads, Stores, Logs, Flushes, Fences, Quiet}
+
+-- the heap behind a step
+abbrev pub heap_past : Words → Effect → Words
+heap_past heap (Loads w) = heap
+heap_past heap (Stores w x) = put heap w x
+heap_past heap (Logs w) = heap
+heap_past heap (Flushes l) = heap
+heap_past heap Fences = heap
+heap_past heap Quiet = heap
+
+-- the heap behind a run
+abbrev pub heap_end : Words → List Effect → Words
+heap_end heap [] = heap
+heap_end heap (e ∷ es) = heap_end (heap_past heap e) es
+
+-- how many records there are behind a step, where n were there before
+abbrev pub records_past : ℕ → Effect → ℕ
+records_past n (Loads w) = n
+records_past n (Stores w x) = n
+records_past n (Logs w) = suc n
+records_past n (Flushes l) = n
+records_past n Fences = n
+records_past n Quiet = n
+
+-- the events of a step, with attempt a, n records so far and the heap so far
+abbrev pub events_of : Sizes → (a n : ℕ) → Words → Effect → List CacheEvent
+events_of s a n heap (Loads w) = []
+events_of s a n heap (Stores w x) = Store (at (pool_of s) (Heap w)) x ∷ []
+events_of s a n heap (Logs w) = record_events s n w (heap w) (a + 1)
+events_of s a n heap (Flushes l) = Flush (6 + s.records + l) ∷ []
+events_of s a n heap Fences = Fence ∷ []
+events_of s a n heap Quiet = []
+
+-- the events of a run: those of this step, then those of the rest
+abbrev pub events_all : Sizes → (a n : ℕ) → Words → List Effect → List CacheEvent
+events_all s a n heap [] = []
+events_all s a n heap (e ∷ es) = events_of s a n heap e ++ events_all s a (records_past n e) (heap_past heap e) es

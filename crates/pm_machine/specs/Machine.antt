@@ -1,0 +1,231 @@
+-- The machine: its state, one step, and a run. The heap isn't in the state: a step is told the heap, and its effect says
+-- what becomes of it.
+use Rattle.std.specs.Prelude.{ℕ, zero, suc, ◌+◌, ◌-◌, ◌/◌, ◌==◌, List, [], ◌∷◌, ◌++◌, length, take, drop, replicate, slice_get, slice_index_or, slice_set, Option, Some, None, if◌then◌else◌, nat_lt, nat_eq, ℤ, pos, negsuc, ◌+ℤ◌}
+use Rattle.std.specs.Int.{w64, int_wrap}
+use Rattle.std.specs.Ordering.{int_eq}
+use Rattle.indexmap.specs.IndexSet.{insert_key}
+use Rattle.cache_model.specs.Cache.{Words}
+use Rattle.pool_layout.specs.Sizes.{heap_words}
+use Rattle.pool_map.specs.declared.trap.TrapKind.{TrapKind}
+use Rattle.pool_map.specs.declared.trap.TrapKind.TheVariants.{Steps, LogFull, Depth}
+use Rattle.pool_map.specs.Trap.{trap_of}
+use Rattle.nvm_base.specs.Applied.{applied}
+use Rattle.pm_machine.specs.declared.effect.Effect.{Effect}
+use Rattle.pm_machine.specs.declared.effect.Effect.TheVariants.{Loads, Stores, Logs, Flushes, Fences, Quiet}
+use Rattle.pm_machine.specs.declared.effect.End.{End}
+use Rattle.pm_machine.specs.declared.effect.End.TheVariants.{Halted, Trapped}
+use Rattle.pm_machine.specs.declared.op.Op.{Op}
+use Rattle.pm_machine.specs.declared.op.Op.TheVariants.{Const, Mov, Bin, Jmp, Jz, Load, Store, Log, Flush, Fence, Call, Ret, Tick, Trap, Halt}
+use Rattle.pm_machine.specs.declared.op.Function.{Function}
+use Rattle.pm_machine.specs.Transactions.{function_of}
+use Rattle.pm_machine.specs.declared.image.Image.{Image}
+use Rattle.pm_machine.specs.declared.frame.Frame.{Frame}
+use Rattle.pm_machine.specs.Effects.{heap_past, records_past}
+
+-- The open function, the frames below it (the nearest last), the ticks left, the LOG instructions done, and the heap
+-- lines stored to and not yet flushed, in the order of first stores; and how many registers a frame has.
+pub record State : Type 0 where
+  pub top : Frame
+  pub below : List Frame
+  pub ticks : ℕ
+  pub logged : ℕ
+  pub dirty : List ℕ
+  pub size : ℕ
+
+-- a step goes on with an effect, or the run ends
+pub data Outcome : Type 0 where
+  Goes : Effect → State → Outcome
+  Ends : End → Outcome
+
+abbrev pub read : State → ℕ → ℤ
+read s r = slice_index_or s.top.registers r (pos 0)
+
+abbrev pub with_top : State → Frame → State
+with_top s f = record { top = f; below = s.below; ticks = s.ticks; logged = s.logged; dirty = s.dirty; size = s.size }
+
+abbrev pub frame_at : Frame → ℕ → Frame
+frame_at f p = record { function = f.function; place = p; to = f.to; registers = f.registers }
+
+abbrev pub moved : State → ℕ → State
+moved s p = with_top s (frame_at s.top p)
+
+-- on to the next place
+abbrev pub passed : State → State
+passed s = moved s (s.top.place + 1)
+
+-- a register written, and on to the next place
+abbrev pub frame_with : Frame → ℕ → ℤ → Frame
+frame_with f r v = record { function = f.function; place = f.place + 1; to = f.to; registers = slice_set f.registers r v }
+
+abbrev pub written : State → ℕ → ℤ → State
+written s r v = with_top s (frame_with s.top r v)
+
+-- the heap word at an address, of H words
+abbrev pub index_of : ℤ → Option ℕ
+index_of (pos n) = Some n
+index_of (negsuc n) = None
+
+abbrev pub inside : ℕ → Option ℕ → Option ℕ
+inside H None = None
+inside H (Some w) = if nat_lt w H then Some w else None
+
+abbrev pub word_at : ℕ → ℤ → Option ℕ
+word_at H x = inside H (index_of x)
+
+-- the heap word at R[a] + o, which wraps
+abbrev pub target : Image → State → ℕ → ℤ → Option ℕ
+target image s a o = word_at (heap_words image.parts.sizes) (int_wrap w64 (read s a +ℤ o))
+
+abbrev pub load : Words → State → ℕ → Option ℕ → Outcome
+load heap s r None = Goes Quiet (written s r (pos 0))
+load heap s r (Some w) = Goes (Loads w) (written s r (heap w))
+
+-- on to the next place, and the word's line is dirty
+abbrev pub stored : State → ℕ → State
+stored s w = record { top = frame_at s.top (s.top.place + 1); below = s.below; ticks = s.ticks; logged = s.logged; dirty = insert_key nat_eq s.dirty (w / 8); size = s.size }
+
+abbrev pub store : State → ℤ → Option ℕ → Outcome
+store s x None = Goes Quiet (passed s)
+store s x (Some w) = Goes (Stores w x) (stored s w)
+
+-- with n records of C
+abbrev pub log : (C n : ℕ) → State → Option ℕ → Outcome
+log C n s None = Goes Quiet (passed s)
+log C n s (Some w) = if nat_lt n C then Goes (Logs w) (passed s) else Ends (Trapped LogFull)
+
+abbrev pub cleaned : State → State
+cleaned s = record { top = s.top; below = s.below; ticks = s.ticks; logged = s.logged; dirty = drop 1 s.dirty; size = s.size }
+
+abbrev pub flush : State → Option ℕ → Outcome
+flush s None = Goes Quiet (passed s)
+flush s (Some l) = Goes (Flushes l) (cleaned s)
+
+-- registers that hold the values of others, one after another from number i on
+abbrev pub placed : List ℤ → List ℤ → ℕ → List ℕ → List ℤ
+placed from to i [] = to
+placed from to i (a ∷ rest) = placed from (slice_set to i (slice_index_or from a (pos 0))) (i + 1) rest
+
+-- a called function's frame: its first registers hold the arguments, all others 0
+abbrev pub entered : State → ℕ → ℕ → List ℕ → State
+entered s r f args = record {
+  top = record { function = f; place = 0; to = r; registers = placed s.top.registers (replicate s.size (pos 0)) 0 args };
+  below = s.below ++ frame_at s.top (s.top.place + 1) ∷ [];
+  ticks = s.ticks;
+  logged = s.logged;
+  dirty = s.dirty;
+  size = s.size;
+}
+
+abbrev pub call : State → ℕ → ℕ → List ℕ → Outcome
+call s r f args = if nat_lt (length s.below + 1) 256 then Goes Quiet (entered s r f args) else Ends (Trapped Depth)
+
+abbrev pub returned : State → ℤ → Frame → State
+returned s v caller = record {
+  top = record { function = caller.function; place = caller.place; to = caller.to; registers = slice_set caller.registers s.top.to v };
+  below = take (length s.below - 1) s.below;
+  ticks = s.ticks;
+  logged = s.logged;
+  dirty = s.dirty;
+  size = s.size;
+}
+
+abbrev pub return : State → ℤ → Option Frame → Outcome
+return s v None = Ends (Halted v)
+return s v (Some caller) = Goes Quiet (returned s v caller)
+
+abbrev pub spent : State → State
+spent s = record { top = frame_at s.top (s.top.place + 1); below = s.below; ticks = s.ticks - 1; logged = s.logged; dirty = s.dirty; size = s.size }
+
+-- the trap of a number; a checked image has no other numbers than those of traps
+abbrev pub trap_at : Option TrapKind → TrapKind
+trap_at None = Depth
+trap_at (Some kind) = kind
+
+-- One line of the table, with the heap and n records. Behind the code the run ends with the trap depth, which a checked
+-- image never comes to.
+abbrev pub act : Image → Words → ℕ → State → Option Op → Outcome
+act image heap n s None = Ends (Trapped Depth)
+act image heap n s (Some (Const r v)) = Goes Quiet (written s r v)
+act image heap n s (Some (Mov r a)) = Goes Quiet (written s r (read s a))
+act image heap n s (Some (Bin op r a b)) = Goes Quiet (written s r (applied op (read s a) (read s b)))
+act image heap n s (Some (Jmp t)) = Goes Quiet (moved s t)
+act image heap n s (Some (Jz a t)) = Goes Quiet (if int_eq (read s a) (pos 0) then moved s t else passed s)
+act image heap n s (Some (Load r a o)) = load heap s r (target image s a o)
+act image heap n s (Some (Store a o b)) = store s (read s b) (target image s a o)
+act image heap n s (Some (Log a o)) = log image.parts.sizes.records n s (target image s a o)
+act image heap n s (Some Flush) = flush s (slice_get s.dirty 0)
+act image heap n s (Some Fence) = Goes Fences (passed s)
+act image heap n s (Some (Call r f args)) = call s r f args
+act image heap n s (Some (Ret a)) = return s (read s a) (slice_get s.below (length s.below - 1))
+act image heap n s (Some Tick) = if s.ticks == 0 then Ends (Trapped Steps) else Goes Quiet (spent s)
+act image heap n s (Some (Trap k)) = Ends (Trapped (trap_at (trap_of k)))
+act image heap n s (Some (Halt a)) = Ends (Halted (read s a))
+
+abbrev pub fetch_in : ℕ → Option Function → Option Op
+fetch_in p None = None
+fetch_in p (Some f) = slice_get f.code p
+
+abbrev pub fetch : Image → State → Option Op
+fetch image s = fetch_in s.top.place (slice_get image.parts.functions s.top.function)
+
+-- a LOG that is done is counted
+abbrev pub tallied : Effect → State → State
+tallied (Logs w) s = record { top = s.top; below = s.below; ticks = s.ticks; logged = s.logged + 1; dirty = s.dirty; size = s.size }
+tallied (Loads w) s = s
+tallied (Stores w x) s = s
+tallied (Flushes l) s = s
+tallied Fences s = s
+tallied Quiet s = s
+
+abbrev pub tally : Outcome → Outcome
+tally (Goes e s) = Goes e (tallied e s)
+tally (Ends end) = Ends end
+
+-- one step, but for the count of LOGs
+abbrev pub decide : Image → ℕ → State → Words → Outcome
+decide image n s heap = act image heap n s (fetch image s)
+
+abbrev pub step : Image → ℕ → State → Words → Outcome
+step image n s heap = tally (decide image n s heap)
+
+-- a run: its end and its effects; the instructions are the effects and the last one
+pub data Run : Type 0 where
+  Unfinished : Run
+  Finished : End → List Effect → Run
+
+abbrev pub began : Effect → Run → Run
+began e Unfinished = Unfinished
+began e (Finished end es) = Finished end (e ∷ es)
+
+abbrev pub follow : (Effect → State → Run) → Outcome → Run
+follow rest (Goes e s) = began e (rest e s)
+follow rest (Ends end) = Finished end []
+
+-- the run of at most k instructions, from n records
+abbrev pub run : Image → (k n : ℕ) → State → Words → Run
+run image zero n s heap = Unfinished
+run image (suc k) n s heap = follow (λ e t. run image k (records_past n e) t (heap_past heap e)) (step image n s heap)
+
+abbrev pub effects_of : Run → List Effect
+effects_of Unfinished = []
+effects_of (Finished end es) = es
+
+-- words in the first registers of a frame, one after another from number i on
+abbrev pub filled : List ℤ → ℕ → List ℤ → List ℤ
+filled to i [] = to
+filled to i (v ∷ vs) = filled (slice_set to i v) (i + 1) vs
+
+-- A transaction begins at its function's first place. Its parameters hold the arguments, all other registers 0.
+abbrev pub start : Image → ℕ → List ℤ → State
+start image tx args = record {
+  top = record { function = function_of (slice_get image.parts.txs (tx - 1)); place = 0; to = 0; registers = filled (replicate image.largest (pos 0)) 0 args };
+  below = [];
+  ticks = image.parts.sizes.ticks;
+  logged = 0;
+  dirty = [];
+  size = image.largest;
+}
+
+-- the run of a transaction from a heap, with no record, of at most k instructions
+abbrev pub mrun : Image → ℕ → Words → ℕ → List ℤ → Run
+mrun image k heap tx args = run image k 0 (start image tx args) heap

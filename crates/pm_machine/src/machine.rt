@@ -1,0 +1,597 @@
+//! A run in progress: what one line of the machine's table does to it, and what it asks of the device.
+
+ghost use Rattle.std.specs.Prelude.{◌≡◌, ◌≢◌, IfErr, IsOk, true, List, suc, ◌+◌, ◌-◌, ◌*◌, ◌/◌, ◌^◌, replicate, ◌<◌, ◌≤◌, ◌++◌, ◌∷◌, [], ℕ, pos, Option, Some, None, IfOk, IfSome, IfNone, OnOk, OnErr, IsErrOf, length, take, map, slice_get, option_copied, IsSome, if◌then◌else◌, ◌==◌};
+ghost use Rattle.std.specs.Option.{ForSome};
+ghost use Rattle.std.specs.Ordering.{int_eq};
+ghost use Rattle.pool_map.specs.declared.trap.TrapKind.TheVariants as trap;
+ghost use Rattle.pool_map.specs.Trap.{trap_of};
+ghost use Rattle.pool_layout.specs.Sizes.{heap_words, pool_lines};
+ghost use Rattle.pmem.specs.Played.{PlaysAll, PlaysPart};
+ghost use Rattle.pm_machine.specs.declared.effect.Effect.TheVariants.{Quiet};
+ghost use Rattle.pm_machine.specs.declared.machine.Progress.TheVariants as progress;
+ghost use Rattle.pm_machine.specs.declared.effect.End.TheVariants.{Halted, Trapped};
+ghost use Rattle.pm_machine.specs.Machine.{State, read, passed, moved, written, stored, cleaned, placed, entered, returned, return, load, store, log, flush, call, act, Goes, Ends, spent, index_of, word_at, target, fetch, decide, tallied, step, trap_at, start, filled};
+ghost use Rattle.pm_machine.specs.Effects.{events_of, records_past};
+ghost use Rattle.pm_machine.specs.Runs.{heap_in, outcome_of, effect_of, effect_in, IsStore, IsInRange, AreLines, due};
+
+use crate::effect::{Effect, End};
+use crate::frame::{Frame, RegisterWords};
+use crate::frames::{CALLERS, Frames};
+use crate::image::Image;
+use crate::op::Op;
+use clobber_log::append_record;
+use indexmap::IndexSet;
+use nvm_base::Steps;
+use pmem::events::{fence, flush, store};
+use pmem::{PmemWork, Refusal};
+use pool_layout::{Sizes, heap_start, heap_words};
+use pool_map::TrapKind;
+use std::alloc::{AllocError, Global};
+use std::marker::Model;
+use std::mem;
+use std::sync::ledger::Ledger;
+
+/// A step goes on with an effect, or ends the run.
+#[derive(Clone, Copy, Debug, PartialEq, Eq, Drop)]
+pub enum Progress {
+    Did(Effect),
+    Ended(End),
+}
+
+/// A run in progress: the open function, those below it, the ticks left, the LOG instructions done,
+/// and the dirty lines. Its frames are there from the start.
+#[derive(Drop)]
+pub struct Machine {
+    top: Frame,
+    below: Frames,
+    spare: Frames,
+    ticks: u64,
+    logged: u64,
+    dirty: IndexSet<u64>,
+}
+
+impl Model for Machine {
+    ghost use Rattle.std.specs.Prelude.{◌≡◌, ◌+◌, length};
+    ghost use Rattle.pm_machine.specs.Machine.{State};
+
+    ghost Value = { State };
+
+    ghost view = { λ m. record { top = m.top; below = m.below.frames; ticks = m.ticks; logged = m.logged; dirty = m.dirty.keys; size = length m.top.registers } };
+
+    ghost invariant = { λ m. (length m.below.frames + length m.spare.frames ≡ 255) × (m.below.size ≡ length m.top.registers) × (m.spare.size ≡ length m.top.registers) };
+}
+
+fn index_of(x: i64) -> Option<u64>
+    ensures { result ≡ index_of x }
+{
+    match u64::try_from(x) {
+        Ok(w) => Some(w),
+        Err(_) => None,
+    }
+}
+
+#[tactic(auto, using(std::proofs::lemmas::Int::wraps))]
+fn word_at(heap_words: u64, x: i64) -> Option<u64>
+    ensures value { result ≡ word_at heap_words x }
+    ensures within { ForSome result (λ w. w < heap_words) }
+{
+    match index_of(x) {
+        None => None,
+        Some(w) => { if w < heap_words { Some(w) } else { None } }
+    }
+}
+
+impl Machine {
+    fn read(&self, r: u32) -> i64
+        ensures { result ≡ read self.now r }
+    {
+        self.top.registers.get(r as usize)
+    }
+
+    fn write(&mut self, r: u32, v: i64)
+        requires { self.old.top.place < 2 ^ 63 }
+        ensures { self.new ≡ written self.old r v }
+    {
+        self.top.registers.set(r as usize, v);
+        self.top.place += 1;
+    }
+
+    fn pass(&mut self)
+        requires { self.old.top.place < 2 ^ 63 }
+        ensures { self.new ≡ passed self.old }
+    {
+        self.top.place += 1;
+    }
+
+    fn jump(&mut self, t: u32)
+        ensures { self.new ≡ moved self.old t }
+    {
+        self.top.place = t as usize;
+    }
+
+    #[tactic(auto, using(std::proofs::lemmas::Int::wraps))]
+    fn target(&self, image: &Image, a: u32, o: i64) -> Option<u64>
+        ensures value { result ≡ target image.now self.now a o }
+        ensures within { ForSome result (λ w. w < heap_words image.now.parts.sizes) }
+    {
+        word_at(heap_words(image.sizes()), self.read(a).wrapping_add(o))
+    }
+
+    fn store(&mut self, w: u64) -> Result<(), AllocError>
+        requires { self.old.top.place < 2 ^ 63 }
+        ensures ok { OnOk result (self.new ≡ stored self.old w) }
+        ensures err { OnErr result (self.new ≡ self.old) }
+    {
+        self.dirty.insert(w / 8)?;
+        self.top.place += 1;
+        Ok(())
+    }
+
+    fn clean(&mut self) -> Option<u64>
+        ensures value { result ≡ slice_get self.old.dirty 0 }
+        ensures some { IfSome result (λ _. self.new ≡ cleaned self.old) }
+        ensures none { IfNone result (self.new ≡ self.old) }
+    {
+        self.dirty.shift_remove_index(0)
+    }
+
+    fn spend(&mut self)
+        requires place { self.old.top.place < 2 ^ 63 }
+        requires some { 0 < self.old.ticks }
+        ensures { self.new ≡ spent self.old }
+    {
+        self.top.place += 1;
+        self.ticks -= 1;
+    }
+}
+
+/// Writes the words of other registers, one after another from register 0 on.
+fn place(from: &RegisterWords, to: &mut RegisterWords, args: &[u32])
+    ensures placed { to.new ≡ placed from.now to.old 0 args.now }
+    ensures size { length to.new ≡ length to.old }
+{
+    for (i, arg) in args.iter().enumerate() {
+        to.set(i, from.get(*arg as usize));
+    }
+}
+
+impl Machine {
+    /// Opens a function on a spare frame, where one is left.
+    fn enter(&mut self, r: u32, f: u32, args: &[u32]) -> bool
+        requires { self.old.top.place < 2 ^ 63 }
+        ensures { (if result then Goes Quiet self.new else Ends (Trapped trap.Depth)) ≡ call self.old r f args.now }
+    {
+        let Some(mut frame) = self.spare.pop() else {
+            return false;
+        };
+        frame.registers.clear();
+        place(&self.top.registers, &mut frame.registers, args);
+        frame.function = f;
+        frame.place = 0;
+        frame.to = r;
+        self.top.place += 1;
+        let caller = mem::replace(&mut self.top, frame);
+        self.below.push(caller);
+        true
+    }
+
+    /// Ends the open function with the value of a register, or the run.
+    fn leave(&mut self, a: u32) -> Progress
+        ensures { outcome_of result self.new ≡ return self.old (read self.old a) (slice_get self.old.below (length self.old.below - 1)) }
+    {
+        let value = self.read(a);
+        let Some(mut caller) = self.below.pop() else {
+            return Progress::Ended(End::Halted(value));
+        };
+        caller.registers.set(self.top.to as usize, value);
+        let done = mem::replace(&mut self.top, caller);
+        self.spare.push(done);
+        Progress::Did(Effect::Quiet)
+    }
+}
+
+/// The instruction at the machine's place.
+fn fetch<'a>(image: &'a Image, machine: &Machine) -> Option<&'a Op>
+    ensures value { option_copied result ≡ fetch image.now machine.now }
+    ensures inside { IsSome result → machine.now.top.place < 2 ^ 63 }
+{
+    let function = image.functions().get(machine.top.function)?;
+    function.code.get(machine.top.place)
+}
+
+impl Machine {
+    fn load<P: PmemWork>(
+        &mut self,
+        dev: &P,
+        image: &Image,
+        r: u32,
+        word: Option<u64>,
+    ) -> Result<Progress, Refusal>
+        requires place { self.old.top.place < 2 ^ 63 }
+        requires lines { (P.device dev.now).lines ≡ pool_lines image.now.parts.sizes }
+        requires on { (P.device dev.now).on ≡ true }
+        requires within { ForSome word (λ w. w < heap_words image.now.parts.sizes) }
+        ensures meaning { IfOk result (λ p. outcome_of p self.new ≡ load (heap_in image.now.parts.sizes (P.device dev.now).cache) self.old r word) }
+        ensures never { IsOk result }
+    {
+        match word {
+            None => {
+                self.write(r, 0);
+                Ok(Progress::Did(Effect::Quiet))
+            }
+            Some(w) => match dev.load(heap_start(image.sizes()) + w) {
+                None => Err(Refusal::Off),
+                Some(x) => {
+                    self.write(r, x);
+                    Ok(Progress::Did(Effect::Loads(w)))
+                }
+            },
+        }
+    }
+
+    fn put(&mut self, x: i64, word: Option<u64>) -> Result<Progress, Refusal>
+        requires { self.old.top.place < 2 ^ 63 }
+        ensures meaning { IfOk result (λ p. outcome_of p self.new ≡ store self.old x word) }
+        ensures only { OnErr result (IsErrOf result Refusal.NoMemory) }
+        ensures wants { OnErr result (IsStore (effect_in (store self.old x word))) }
+        ensures err { OnErr result (self.new ≡ self.old) }
+    {
+        match word {
+            None => {
+                self.pass();
+                Ok(Progress::Did(Effect::Quiet))
+            }
+            Some(w) => match self.store(w) {
+                Ok(()) => Ok(Progress::Did(Effect::Stores(w, x))),
+                Err(_) => Err(Refusal::NoMemory),
+            },
+        }
+    }
+
+    /// The record is counted once its events were done.
+    fn log(&mut self, records: u64, count: u64, word: Option<u64>) -> Progress
+        requires { self.old.top.place < 2 ^ 63 }
+        ensures { outcome_of result self.new ≡ log records count self.old word }
+    {
+        match word {
+            None => {
+                self.pass();
+                Progress::Did(Effect::Quiet)
+            }
+            Some(w) => {
+                if count < records {
+                    self.pass();
+                    Progress::Did(Effect::Logs(w))
+                } else {
+                    Progress::Ended(End::Trapped(TrapKind::LogFull))
+                }
+            }
+        }
+    }
+
+    fn flush(&mut self) -> Progress
+        requires { self.old.top.place < 2 ^ 63 }
+        ensures { outcome_of result self.new ≡ flush self.old (slice_get self.old.dirty 0) }
+    {
+        match self.clean() {
+            None => {
+                self.pass();
+                Progress::Did(Effect::Quiet)
+            }
+            Some(l) => Progress::Did(Effect::Flushes(l)),
+        }
+    }
+
+    fn call(&mut self, r: u32, f: u32, args: &[u32]) -> Progress
+        requires { self.old.top.place < 2 ^ 63 }
+        ensures { outcome_of result self.new ≡ call self.old r f args.now }
+    {
+        if self.enter(r, f, args) {
+            Progress::Did(Effect::Quiet)
+        } else {
+            Progress::Ended(End::Trapped(TrapKind::Depth))
+        }
+    }
+
+    fn tick(&mut self) -> Progress
+        requires { self.old.top.place < 2 ^ 63 }
+        ensures { outcome_of result self.new ≡ (if self.old.ticks == 0 then Ends (Trapped trap.Steps) else Goes Quiet (spent self.old)) }
+    {
+        if self.ticks == 0 {
+            Progress::Ended(End::Trapped(TrapKind::Steps))
+        } else {
+            self.spend();
+            Progress::Did(Effect::Quiet)
+        }
+    }
+
+    fn branch(&mut self, a: u32, t: u32)
+        requires { self.old.top.place < 2 ^ 63 }
+        ensures { self.new ≡ (if int_eq (read self.old a) (pos 0) then moved self.old t else passed self.old) }
+    {
+        if self.read(a) == 0 {
+            self.jump(t);
+        } else {
+            self.pass();
+        }
+    }
+}
+
+fn trapped(k: u32) -> Progress
+    ensures { result ≡ progress.Ended (Trapped (trap_at (trap_of k))) }
+{
+    match TrapKind::of_number(k) {
+        Some(kind) => Progress::Ended(End::Trapped(kind)),
+        None => Progress::Ended(End::Trapped(TrapKind::Depth)),
+    }
+}
+
+impl Machine {
+    /// One line of the table, but for its events and for the count of records, of which there are
+    /// `count`.
+    fn act<P: PmemWork>(
+        &mut self,
+        dev: &P,
+        image: &Image,
+        count: u64,
+        op: &Op,
+    ) -> Result<Progress, Refusal>
+        requires place { self.old.top.place < 2 ^ 63 }
+        requires lines { (P.device dev.now).lines ≡ pool_lines image.now.parts.sizes }
+        requires on { (P.device dev.now).on ≡ true }
+        ensures meaning { IfOk result (λ p. outcome_of p self.new ≡ act image.now (heap_in image.now.parts.sizes (P.device dev.now).cache) count self.old (Some op.now)) }
+        ensures only { OnErr result (IsErrOf result Refusal.NoMemory) }
+        ensures wants { OnErr result (IsStore (effect_in (act image.now (heap_in image.now.parts.sizes (P.device dev.now).cache) count self.old (Some op.now)))) }
+        ensures err { OnErr result (self.new ≡ self.old) }
+    {
+        let quiet = Ok(Progress::Did(Effect::Quiet));
+        match op {
+            Op::Const { r, v } => {
+                self.write(*r, *v);
+                quiet
+            }
+            Op::Mov { r, a } => {
+                let x = self.read(*a);
+                self.write(*r, x);
+                quiet
+            }
+            Op::Bin { op, r, a, b } => {
+                let x = op.apply(self.read(*a), self.read(*b));
+                self.write(*r, x);
+                quiet
+            }
+            Op::Jmp { t } => {
+                self.jump(*t);
+                quiet
+            }
+            Op::Jz { a, t } => {
+                self.branch(*a, *t);
+                quiet
+            }
+            Op::Load { r, a, o } => {
+                let word = self.target(image, *a, *o);
+                self.load(dev, image, *r, word)
+            }
+            Op::Store { a, o, b } => {
+                let word = self.target(image, *a, *o);
+                self.put(self.read(*b), word)
+            }
+            Op::Log { a, o } => {
+                let word = self.target(image, *a, *o);
+                Ok(self.log(image.sizes().records(), count, word))
+            }
+            Op::Flush => Ok(self.flush()),
+            Op::Fence => {
+                self.pass();
+                Ok(Progress::Did(Effect::Fences))
+            }
+            Op::Call { r, f, args } => Ok(self.call(*r, *f, args.as_slice())),
+            Op::Ret { a } => Ok(self.leave(*a)),
+            Op::Tick => Ok(self.tick()),
+            Op::Trap { k } => Ok(trapped(*k)),
+            Op::Halt { a } => Ok(Progress::Ended(End::Halted(self.read(*a)))),
+        }
+    }
+
+    /// One step, but for its events and for the count of records.
+    fn decide<P: PmemWork>(
+        &mut self,
+        dev: &P,
+        image: &Image,
+        count: u64,
+    ) -> Result<Progress, Refusal>
+        requires lines { (P.device dev.now).lines ≡ pool_lines image.now.parts.sizes }
+        requires on { (P.device dev.now).on ≡ true }
+        ensures meaning { IfOk result (λ p. outcome_of p self.new ≡ decide image.now count self.old (heap_in image.now.parts.sizes (P.device dev.now).cache)) }
+        ensures only { OnErr result (IsErrOf result Refusal.NoMemory) }
+        ensures wants { OnErr result (IsStore (effect_in (decide image.now count self.old (heap_in image.now.parts.sizes (P.device dev.now).cache)))) }
+        ensures err { OnErr result (self.new ≡ self.old) }
+    {
+        match fetch(image, self) {
+            None => Ok(Progress::Ended(End::Trapped(TrapKind::Depth))),
+            Some(op) => self.act(dev, image, count, op),
+        }
+    }
+}
+
+impl Machine {
+    /// A machine at the first place of a transaction. All its frames are reserved here. Transactions
+    /// are counted from 1.
+    pub fn new(alloc: Global, image: &Image, tx: u64, args: &[i64]) -> Result<Machine, AllocError>
+        requires first { 1 ≤ tx }
+        requires last { tx ≤ length image.now.parts.txs }
+        ensures { IfOk result (λ m. m ≡ start image.now tx args.now) }
+    {
+        let size = image.largest();
+        let mut spare = Frames::new(alloc, size)?;
+        for _ in 0..CALLERS {
+            spare.push(blank_frame(alloc, size)?);
+        }
+        let mut top = blank_frame(alloc, size)?;
+        top.function = image.function(tx);
+        fill(&mut top.registers, args);
+        Ok(Machine {
+            top,
+            below: Frames::new(alloc, size)?,
+            spare,
+            ticks: image.sizes().ticks(),
+            logged: 0,
+            dirty: IndexSet::new(alloc),
+        })
+    }
+
+    /// How many LOG instructions were done.
+    pub fn logged(&self) -> u64
+        ensures { result ≡ self.now.logged }
+    {
+        self.logged
+    }
+}
+
+fn blank_frame(alloc: Global, size: u32) -> Result<Frame, AllocError>
+    ensures { IfOk result (λ f. f ≡ record { function = 0; place = 0; to = 0; registers = replicate size (pos 0) }) }
+{
+    let registers = RegisterWords::blank(alloc, size)?;
+    Ok(Frame {
+        function: 0,
+        place: 0,
+        to: 0,
+        registers,
+    })
+}
+
+/// Writes words into the first registers, one after another.
+fn fill(to: &mut RegisterWords, words: &[i64])
+    ensures filled { to.new ≡ filled to.old 0 words.now }
+    ensures size { length to.new ≡ length to.old }
+{
+    for (i, word) in words.iter().enumerate() {
+        to.set(i, *word);
+    }
+}
+
+/// Plays the events of an effect, with so many records so far.
+fn perform<P: PmemWork>(
+    dev: &mut P,
+    sizes: &Sizes,
+    attempt: u64,
+    count: u64,
+    effect: Effect,
+) -> Result<(), Refusal>
+    requires range { IsInRange sizes.now.records (heap_words sizes.now) count effect }
+    requires attempt { attempt ≤ 2 ^ 62 }
+    requires lines { (P.device dev.old).lines ≡ pool_lines sizes.now }
+    requires on { (P.device dev.old).on ≡ true }
+    ensures done { OnOk result (PlaysAll (P.device dev.old) (events_of sizes.now attempt count (heap_in sizes.now (P.device dev.old).cache) effect) (P.device dev.new)) }
+    ensures refused { IfErr result (λ why. PlaysPart why (P.device dev.old) (events_of sizes.now attempt count (heap_in sizes.now (P.device dev.old).cache) effect) (P.device dev.new)) }
+    ensures lines { (P.device dev.new).lines ≡ (P.device dev.old).lines }
+{
+    match effect {
+        Effect::Stores(w, x) => store(dev, heap_start(sizes) + w, x),
+        Effect::Logs(w) => append_record(sizes, dev, count, attempt, w),
+        Effect::Flushes(l) => flush(dev, 6 + sizes.records() + l),
+        Effect::Fences => fence(dev),
+        Effect::Loads(_) | Effect::Quiet => Ok(()),
+    }
+}
+
+impl Machine {
+    /// One step, over a pool of that attempt with so many records.
+    pub(crate) fn step_on<P: PmemWork>(
+        &mut self,
+        image: &Image,
+        attempt: u64,
+        count: u64,
+        dev: &mut P,
+    ) -> Result<Progress, Refusal>
+        requires lines { (P.device dev.old).lines ≡ pool_lines image.now.parts.sizes }
+        requires on { (P.device dev.old).on ≡ true }
+        requires attempt { attempt ≤ 2 ^ 62 }
+        requires dirty { AreLines (heap_words image.now.parts.sizes) self.old.dirty }
+        requires logged { self.old.logged < 2 ^ 63 }
+        ensures meaning { IfOk result (λ p. outcome_of p self.new ≡ step image.now count self.old (heap_in image.now.parts.sizes (P.device dev.old).cache)) }
+        ensures done { IfOk result (λ p. PlaysAll (P.device dev.old) (events_of image.now.parts.sizes attempt count (heap_in image.now.parts.sizes (P.device dev.old).cache) (effect_of p)) (P.device dev.new)) }
+        ensures refused { IfErr result (λ why. PlaysPart why (P.device dev.old) (events_of image.now.parts.sizes attempt count (heap_in image.now.parts.sizes (P.device dev.old).cache) (effect_in (decide image.now count self.old (heap_in image.now.parts.sizes (P.device dev.old).cache)))) (P.device dev.new)) }
+        ensures logged { OnErr result (self.new.logged ≡ self.old.logged) }
+        ensures lines { (P.device dev.new).lines ≡ (P.device dev.old).lines }
+    {
+        let progress = self.decide(dev, image, count)?;
+        if let Progress::Did(effect) = progress {
+            perform(dev, image.sizes(), attempt, count, effect)?;
+            self.tally(effect);
+        }
+        Ok(progress)
+    }
+
+    /// Counts a LOG that was done.
+    fn tally(&mut self, effect: Effect)
+        requires { self.old.logged < 2 ^ 63 }
+        ensures { self.new ≡ tallied effect self.old }
+    {
+        match effect {
+            Effect::Logs(_) => self.logged += 1,
+            Effect::Loads(_)
+            | Effect::Stores(..)
+            | Effect::Flushes(_)
+            | Effect::Fences
+            | Effect::Quiet => {}
+        }
+    }
+}
+
+/// How many records there are behind an effect.
+fn records_past(count: u64, effect: Effect) -> u64
+    requires { count < 2 ^ 63 }
+    ensures { result ≡ records_past count effect }
+{
+    match effect {
+        Effect::Logs(_) => count + 1,
+        Effect::Loads(_)
+        | Effect::Stores(..)
+        | Effect::Flushes(_)
+        | Effect::Fences
+        | Effect::Quiet => count,
+    }
+}
+
+impl Machine {
+    /// Runs to the end, or to the refused event, in at most `most` steps.
+    pub(crate) fn run_on<P: PmemWork, L: Ledger>(
+        &mut self,
+        image: &Image,
+        attempt: u64,
+        count: u64,
+        dev: &mut P,
+        steps: &mut Steps<L>,
+    ) -> Result<End, Refusal>
+        requires lines { (P.device dev.old).lines ≡ pool_lines image.now.parts.sizes }
+        requires on { (P.device dev.old).on ≡ true }
+        requires attempt { attempt ≤ 2 ^ 62 }
+        requires dirty { AreLines (heap_words image.now.parts.sizes) self.old.dirty }
+        requires count { count ≤ image.now.parts.sizes.records }
+        requires logged { self.old.logged ≤ count }
+        requires ends { IsSome (due image.now attempt image.now.parts.most count self.old (P.device dev.old).cache).fate }
+        ensures meaning { IfOk result (λ e. (due image.now attempt image.now.parts.most count self.old (P.device dev.old).cache).fate ≡ Some e) }
+        ensures whole { OnOk result (PlaysAll (P.device dev.old) (due image.now attempt image.now.parts.most count self.old (P.device dev.old).cache).events (P.device dev.new)) }
+        ensures part { IfErr result (λ why. PlaysPart why (P.device dev.old) (due image.now attempt image.now.parts.most count self.old (P.device dev.old).cache).events (P.device dev.new)) }
+        ensures cost { OnOk result (steps.new ≡ steps.old + (due image.now attempt image.now.parts.most count self.old (P.device dev.old).cache).steps) }
+        ensures bound { steps.new ≤ steps.old + (due image.now attempt image.now.parts.most count self.old (P.device dev.old).cache).steps }
+        ensures lines { (P.device dev.new).lines ≡ (P.device dev.old).lines }
+    {
+        let mut left = image.most();
+        let mut records = count;
+        while left > 0 {
+            left -= 1;
+            steps.tick();
+            let progress = match self.step_on(image, attempt, records, dev) {
+                Ok(progress) => progress,
+                Err(why) => return Err(why),
+            };
+            match progress {
+                Progress::Did(effect) => records = records_past(records, effect),
+                Progress::Ended(end) => return Ok(end),
+            }
+        }
+        Err(Refusal::Off)
+    }
+}
