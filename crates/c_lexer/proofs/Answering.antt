@@ -1,39 +1,33 @@
 -- How the answer follows from the cut of the bytes left, behind the tokens kept.
-use Rattle.std.proofs.Common.{◌≡◌, ℕ, ◌-◌, ◌<◌, ◌≤◌, List, length, take, drop, false, arith, refl, sym, ap, ◌∙◌}
-use Rattle.std.proofs.lemmas.Bool.Decides.{nat_tests}
-use Rattle.std.specs.Prelude.{Result, Ok, Err, IsErrAnd, nat_lt}
+use Rattle.std.proofs.Common.{◌≡◌, ℕ, ◌-◌, ◌<◌, ◌≤◌, List, length, take, drop, arith, sym, ap, ◌∙◌}
+use Rattle.std.specs.Prelude.{Result, Ok, Err, IsErrAnd}
 use Rattle.c_lexer.specs.declared.fault.LexFault.{LexFault}
 use Rattle.c_lexer.specs.declared.piece.Piece.{Piece}
 use Rattle.c_lexer.specs.declared.spot.Spot.{Spot}
 use Rattle.c_lexer.specs.declared.token.Placed.{Placed}
-use Rattle.c_lexer.specs.Cuts.{Cut, begin, behind, cut_left, cut, limited, answer}
+use Rattle.c_lexer.specs.Cuts.{Cut, begin, behind, cut_left, cut, limited}
 use Rattle.c_lexer.specs.Next.{next}
 use Rattle.c_lexer.specs.Spots.{past}
 use Rattle.c_lexer.specs.TokenList.{Tokens}
 use Rattle.c_lexer.proofs.Cutting.{behind_first, cut_begins, cut_goes_on, cut_ends}
 use Rattle.c_lexer.proofs.Limits.{ended_well}
 
-answered : (text : List ℕ) → length text ≤ 262144 → answer text ≡ limited (cut text)
-answered text few =
-    let short : nat_lt 262144 (length text) ≡ false = grind (arith, nat_tests) in
-    rw short refl
-
 -- no byte is left
-pub finished : (text left : List ℕ) (kept : List Placed) (spot : Spot) → length text ≤ 262144 → length kept ≤ 16384 →
+pub finished : (text left : List ℕ) (kept : List Placed) (spot : Spot) → length kept ≤ 16384 →
     length left ≡ 0 → behind kept (cut_left 0 spot left) ≡ cut text →
-    Ok (record { tokens = kept; last = spot.line }) ≡ answer text
-finished text left kept spot few room none leads =
-    sym (answered text few ∙ ap limited (sym leads)
+    Ok (record { tokens = kept; last = spot.line }) ≡ limited (cut text)
+finished text left kept spot room none leads =
+    sym (ap limited (sym leads)
     ∙ ap (λ (c : Cut). limited (behind kept c)) (cut_ends spot left none) ∙ ended_well kept spot.line room)
 
 -- the piece that stands here ends the cut
 pub stopped : (text left : List ℕ) (kept : List Placed) (spot : Spot) (piece : Piece) (fault : LexFault) →
-    length text ≤ 262144 → 0 < length left → piece ≡ next spot left →
+    0 < length left → piece ≡ next spot left →
     behind kept (cut_left 0 spot left) ≡ cut text →
     ((go : ℕ → Cut) → limited (behind kept (begin piece spot.line go)) ≡ Err fault) →
-    Err fault ≡ answer text
-stopped text left kept spot piece fault few some is leads ends =
-    sym (answered text few ∙ ap limited (sym leads)
+    Err fault ≡ limited (cut text)
+stopped text left kept spot piece fault some is leads ends =
+    sym (ap limited (sym leads)
     ∙ ap (λ (c : Cut). limited (behind kept c)) (cut_begins spot left some)
     ∙ ap (λ (p : Piece). limited (behind kept (begin p spot.line (behind_first spot left)))) (sym is)
     ∙ ends (behind_first spot left))

@@ -1,7 +1,8 @@
 //! The text as tokens.
 
 ghost use Rattle.std.specs.Prelude.{◌≡◌, ◌⊎◌, ℕ, ◌-◌, ◌<◌, ◌≤◌, [], ◌∷◌, ◌++◌, length, IfOk, IfErr, OnOk};
-ghost use Rattle.c_lexer.specs.Cuts.{Cut, begin, behind, limited, answer};
+ghost use Rattle.c_lexer.specs.Cuts.{Cut, Cuts, IsWithinLimits, begin, behind, cut, limited, answer};
+ghost use Rattle.c_lexer.specs.TokenList.{Tokens};
 ghost use Rattle.c_lexer.specs.Next.{IsWithin};
 
 use crate::fault::LexFault;
@@ -52,13 +53,11 @@ fn take(all: &mut Vec<Placed>, piece: Piece, line: u64) -> Result<usize, LexFaul
     }
 }
 
-/// The tokens that a text spells, or the first refusal in the order of its bytes.
-pub fn tokens(alloc: Global, text: &[u8]) -> Result<TokenList, LexFault>
-    ensures exact { (result ≡ Err LexFault.NoMemory) ⊎ (result ≡ answer text.now) }
+/// The tokens of a text that has no more bytes than it may have.
+fn scan(alloc: Global, text: &[u8]) -> Result<TokenList, LexFault>
+    requires { length text.now ≤ 262144 }
+    ensures exact { (result ≡ Err LexFault.NoMemory) ⊎ (result ≡ limited (cut text.now)) }
 {
-    if text.len() > MOST_BYTES {
-        return Err(LexFault::TooLong);
-    }
     let mut all = Vec::new(alloc);
     let mut spot = Spot {
         line: 1,
@@ -73,4 +72,18 @@ pub fn tokens(alloc: Global, text: &[u8]) -> Result<TokenList, LexFault>
         left = behind;
     }
     Ok(TokenList::new(all, spot.line))
+}
+
+/// The tokens that a text spells, with their lines, or the first refusal in the order of its bytes.
+/// Only want of memory is answered whatever the text.
+pub fn tokens(alloc: Global, text: &[u8]) -> Result<TokenList, LexFault>
+    ensures exact { (result ≡ Err LexFault.NoMemory) ⊎ (result ≡ answer text.now) }
+    ensures cuts { IfOk result (λ list. Cuts text.now list × IsWithinLimits text.now list) }
+    ensures ok { (list : Tokens) → Cuts text.now list → IsWithinLimits text.now list →
+        (result ≡ Err LexFault.NoMemory) ⊎ (result ≡ Ok list) }
+{
+    if text.len() > MOST_BYTES {
+        return Err(LexFault::TooLong);
+    }
+    scan(alloc, text)
 }

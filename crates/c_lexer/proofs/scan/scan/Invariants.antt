@@ -1,7 +1,7 @@
 -- The cut of the bytes left, behind the tokens kept, is the cut of the text.
 use Rattle.std.proofs.Common.{◌≡◌, ◌+◌, ◌≤◌, length}
 use Rattle.c_lexer.specs.Cuts.{behind, cut_left, cut}
-use Rattle.c_lexer.proofs.scan.tokens.Given as goal
+use Rattle.c_lexer.proofs.scan.scan.Given as goal
 
 abbrev pub invariant-loop-left : goal.invariant-loop-left
 invariant-loop-left l = record {

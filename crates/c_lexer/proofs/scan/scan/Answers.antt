@@ -1,6 +1,6 @@
 use Rattle.std.proofs.Common.{◌≡◌, ◌<◌, length, rules, arith, inl, inr, ◌∙◌}
 use Rattle.c_lexer.proofs.Answering.{finished, stopped, gone_on, told}
-use Rattle.c_lexer.proofs.scan.tokens.Goals as goal
+use Rattle.c_lexer.proofs.scan.scan.Goals as goal
 
 pub returns : goal.returns
 returns c =
@@ -8,7 +8,7 @@ returns c =
     let none : length at.left.now ≡ 0 = search rules in
     record {
       exact = inr (rw c.new.ensures
-          (finished c.args.text.now at.left.now at.all.items at.spot at.invariant.small at.invariant.room none at.invariant.leads));
+          (finished c.args.text.now at.left.now at.all.items at.spot at.invariant.room none at.invariant.leads));
     }
 
 pub returns-in_err-width : goal.returns-in_err-width
@@ -20,7 +20,7 @@ returns-in_err-width c =
       | inl memory ↦ record { exact = inl (rw memory at is) }
       | inr ends ↦ record {
         exact = inr (is ∙ stopped c.args.text.now at.left.now at.all.items at.spot c.in_ok-piece.piece
-            c.in_err-width.field-0.0 at.invariant.small some c.in_ok-piece.ensures.piece at.invariant.leads ends);
+            c.in_err-width.field-0.0 some c.in_ok-piece.ensures.piece at.invariant.leads ends);
       }
     ]
 
