@@ -9,10 +9,10 @@ use Rattle.cache_model.specs.Play.{store_line, mark_of, flush_line, fence_at, ap
 use Rattle.cache_model.specs.Lists.{ListLine, blank_list, zero_list, list_store, list_mark, list_flush, list_fence_at, list_fence, IsWhole, read, line_from, cache_from, memory_from}
 use Rattle.cache_model.proofs.Versions.{put_same, put_other}
 
-read_on : (l : ℕ) (v : List ℤ) (p : ℕ) → p / 8 ≡ l → read l v p ≡ get_or v (p % 8) (pos 0)
+pub read_on : (l : ℕ) (v : List ℤ) (p : ℕ) → p / 8 ≡ l → read l v p ≡ get_or v (p % 8) (pos 0)
 read_on l v p e = ap (λ (b : Bool). cond b (get_or v (p % 8) (pos 0)) (pos 0)) (eq-eqb (p / 8) l e)
 
-read_off : (l : ℕ) (v : List ℤ) (p : ℕ) → p / 8 ≢ l → read l v p ≡ pos 0
+pub read_off : (l : ℕ) (v : List ℤ) (p : ℕ) → p / 8 ≢ l → read l v p ≡ pos 0
 read_off l v p ne = ap (λ (b : Bool). cond b (get_or v (p % 8) (pos 0)) (pos 0)) (ne_eqb (p / 8) l ne)
 
 read_set : (l : ℕ) (v : List ℤ) (p : ℕ) (x : ℤ) (q : ℕ) → l ≡ p / 8 → length v ≡ 8 → read l (set v (p % 8) x) q ≡ put (read l v) p x q
@@ -36,7 +36,7 @@ line_store l y p x e whole =
     let older : map (read l) (y.older ++ y.newest ∷ []) ≡ map (read l) y.older ++ read l y.newest ∷ [] = map-append (read l) y.older (y.newest ∷ []) in
     λ i. record { older = older i; newest = λ q. read_set l y.newest p x q e whole i; mark = y.mark }
 
-mark_map : (l : ℕ) (vs : List (List ℤ)) (m : Option ℕ) → list_mark vs m ≡ mark_of (map (read l) vs) m
+pub mark_map : (l : ℕ) (vs : List (List ℤ)) (m : Option ℕ) → list_mark vs m ≡ mark_of (map (read l) vs) m
 mark_map l [] m = refl
 mark_map l (v ∷ vs) m = ap (λ (n : ℕ). Some (suc n)) (sym (length-map vs (read l)))
 

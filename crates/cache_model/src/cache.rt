@@ -32,7 +32,8 @@ impl Model for Cache {
 impl Cache {
     /// Blank lines.
     pub fn new(alloc: Global, lines: u64) -> Result<Self, AllocError>
-        ensures { IfOk result (λ c. memory_from c ≡ record { lines = lines; cache = blank }) }
+        ensures done { IfOk result (λ c. memory_from c ≡ record { lines = lines; cache = blank }) }
+        ensures lines { IfOk result (λ c. length c ≡ lines) }
     {
         let mut all = Vec::new(alloc);
         for _ in 0..lines {
@@ -72,6 +73,7 @@ impl Cache {
         requires { word < 8 * length self.old }
         ensures done { OnOk result (memory_from self.new ≡ after (memory_from self.old) (Store word value)) }
         ensures refused { OnErr result (self.new ≡ self.old) }
+        ensures lines { length self.new ≡ length self.old }
     {
         let line = &mut self.all[(word / 8) as usize];
         line.store((word % 8) as usize, value)?;
@@ -81,7 +83,8 @@ impl Cache {
     /// Marks the newest version of the line for the next fence.
     pub fn flush(&mut self, line: u64)
         requires { line < length self.old }
-        ensures { memory_from self.new ≡ after (memory_from self.old) (Flush line) }
+        ensures done { memory_from self.new ≡ after (memory_from self.old) (Flush line) }
+        ensures lines { length self.new ≡ length self.old }
     {
         let versions = &mut self.all[line as usize];
         versions.flush();
@@ -89,7 +92,8 @@ impl Cache {
 
     /// Drops the versions that are older than a mark, in every line.
     pub fn fence(&mut self)
-        ensures { memory_from self.new ≡ after (memory_from self.old) Fence }
+        ensures done { memory_from self.new ≡ after (memory_from self.old) Fence }
+        ensures lines { length self.new ≡ length self.old }
     {
         fence_all(&mut self.all);
     }
@@ -132,6 +136,7 @@ impl Cache {
         ensures done { OnOk result (memory_from self.new ≡ collapse (memory_from self.old) choice.now) }
         ensures bad { IfErr result (λ pick. bad (memory_from self.old) choice.now.picks ≡ Some pick.line) }
         ensures refused { OnErr result (self.new ≡ self.old) }
+        ensures lines { length self.new ≡ length self.old }
     {
         let picks = choice.picks.as_slice();
         if let Some(line) = self.bad_pick(picks) {

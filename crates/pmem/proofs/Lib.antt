@@ -1,3 +1,6 @@
 pub mod Answers
 pub mod Glue
 pub mod Refused
+pub mod Sparses
+pub mod Cuts
+pub mod Counts

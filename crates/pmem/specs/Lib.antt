@@ -4,3 +4,7 @@ pub mod Answer
 pub mod Switch
 pub mod Sim
 pub mod Law
+pub mod Fail
+pub mod Sparse
+pub mod Kept
+pub mod SparseDevice

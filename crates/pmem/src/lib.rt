@@ -6,11 +6,17 @@
 mod answer;
 mod device;
 pub mod events;
+mod fail;
 mod law;
+mod lines;
+mod older;
 mod sim;
+mod sparse;
 mod switch;
 
 pub use answer::{Event, LogAnswer, Phase, Refusal, StoreEvent};
 pub use device::{Pmem, PmemWork};
+pub use fail::FailPmem;
 pub use law::laws;
 pub use sim::SimPmem;
+pub use sparse::SparsePmem;

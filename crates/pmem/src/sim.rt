@@ -1,10 +1,10 @@
 //! A device in memory, for tests. It tells its armed fault, and fails exactly there.
 
-ghost use Rattle.std.specs.Prelude.{◌≡◌, ◌*◌, ◌<◌, length, true, false, Some, None, [], IsSome, IsNone, IfSome, OnOk, OnErr, IfErr};
+ghost use Rattle.std.specs.Prelude.{◌≡◌, ◌+◌, ◌*◌, ◌<◌, length, slice_index_or, true, false, Some, None, [], IsSome, IsNone, IfSome, OnOk, OnErr, IfErr};
 ghost use Rattle.cache_model.specs.Cache.{blank, view};
 ghost use Rattle.cache_model.specs.Event.{Store, Flush, Fence};
 ghost use Rattle.cache_model.specs.Collapse.{bad, Rises};
-ghost use Rattle.cache_model.specs.Lists.{cache_from};
+ghost use Rattle.cache_model.specs.Lists.{cache_from, blank_list};
 ghost use Rattle.pmem.specs.Device.{Device, memory_of, blanked, powered, with_left, with_armed};
 ghost use Rattle.pmem.specs.Played.{Answered, Stored};
 ghost use Rattle.pmem.specs.Switch.{told};
@@ -35,6 +35,14 @@ impl SimPmem {
             cache: Cache::empty(alloc),
             switch: Switch::fresh(0),
         }
+    }
+
+    /// The number of versions of a line.
+    pub fn versions(&self, line: u64) -> u64
+        requires { line < length self.now.cache }
+        ensures { result ≡ length (slice_index_or self.now.cache line blank_list).older + 1 }
+    {
+        self.cache.versions(line)
     }
 }
 
