@@ -1,1 +1,4 @@
+pub mod FitTests
+pub mod Least
+pub mod Points
 pub mod Slots

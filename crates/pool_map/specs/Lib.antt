@@ -1,3 +1,4 @@
+pub mod Laws
 pub mod PoolFits
 pub mod PoolMap
 pub mod PoolText

@@ -3,14 +3,21 @@
 //! `specs/PoolMap.antt` does, and `show_text` writes the text of a pool.
 #![tactic(auto)]
 
+mod fit;
+mod law;
 mod object;
 mod pool;
 mod shapes;
 mod show;
 mod trap;
 
+pub use fit::fits;
+pub use law::laws;
 pub use object::Object;
 pub use pool::Pool;
 pub use shapes::{FieldShape, FieldShapes, Shapes, StructShape, StructShapes};
 pub use show::show_text;
 pub use trap::TrapKind;
+
+#[cfg(test)]
+mod tests;
