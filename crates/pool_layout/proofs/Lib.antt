@@ -6,3 +6,5 @@ pub mod Moving
 pub mod Kept
 pub mod Opening
 pub mod Early
+pub mod Superblock
+pub mod Answer

@@ -4,7 +4,7 @@ use Rattle.std.proofs.Math.ListN.{get_or-append}
 use Rattle.std.proofs.Math.Seq.{get_or-append_seam}
 use Rattle.std.proofs.lemmas.Bool.{cases_eq}
 use Rattle.pool_layout.specs.declared.limits.Sizes.{Sizes}
-use Rattle.pool_layout.specs.declared.places.Place.TheVariants.{Last, Done, Mark, Seal, RecordStamp, Heap}
+use Rattle.pool_layout.specs.declared.places.Place.TheVariants.{Last, Done, Attempt, Mark, Seal, RecordStamp, Heap}
 use Rattle.pool_layout.specs.declared.places.Place.{Place}
 use Rattle.pool_layout.specs.Places.{at, pool_of, IsPlace}
 use Rattle.pool_layout.specs.Image.{Words, words_of, IsSealed}
@@ -32,6 +32,7 @@ moved_keeps s image words are = record {
   last = are.each Last tt;
   done = are.each Done tt;
   mark = are.each Mark tt;
+  attempt = are.each Attempt tt;
   heap = λ w lt. are.each (Heap w) lt;
   log = moved_log s image words are;
   empty = count_is (pool_of s) 0 0 (words_of words) (omega arith) (λ j lt. absurd (omega arith)) (λ j ge lt is. not_next (words_of words (at (pool_of s) (RecordStamp j))) 0 (moved_stamp s image words are j lt) is);

@@ -1,10 +1,13 @@
 -- Words as bytes, there and back.
-use Rattle.std.proofs.Common.{◌≡◌, ◌<◌, ◌≤◌, ◌++◌, ◌+◌, ◌*◌, ◌^◌, ◌∷◌, [], ℕ, ℤ, pos, zero, suc, List, length, take, drop, get_or, refl, sym, ap, ◌∙◌, append_assoc, add-one, arith, length-drop}
+use Rattle.std.proofs.Common.{◌≡◌, ◌<◌, ◌≤◌, ◌++◌, ◌+◌, ◌*◌, ◌^◌, ◌∷◌, [], ℕ, ℤ, pos, zero, suc, List, length, take, drop, get_or, refl, sym, ap, ◌∙◌, append_assoc, add-one, arith, length-drop, ◌≢◌, ⊎_elim}
 use Rattle.std.specs.Int.{w64, cast_signed, cast_unsigned, from_le_bytes, to_le_bytes}
-use Rattle.std.proofs.Math.Seq.{drop-cons, take-add}
-use Rattle.std.proofs.lemmas.List.{get_or-drop, append-nil}
+use Rattle.std.proofs.Math.Seq.{drop-cons, take-add, get_or-append_seam}
+use Rattle.std.proofs.lemmas.List.{get_or-drop, get_or_past, append-nil}
 use Rattle.std.proofs.lemmas.Nat.{le_bytes_8}
 use Rattle.std.proofs.lemmas.Int.{of_z-to_z}
+use Rattle.std.proofs.Math.ListN.{get_or-append}
+use Rattle.std.proofs.lemmas.Bool.{cases_eq, cases_lt}
+use Rattle.pool_layout.specs.Image.{words_of}
 use Rattle.pool_layout.specs.Bytes.{bytes_of, bytes_of_word, word_from, word_in}
 
 -- one word more of those that are left
@@ -60,3 +63,34 @@ bytes_of-more bytes ws k all le so_far =
     let next : 8 * (k + 1) ≡ 8 * k + 8 = omega arith in
     bytes_of-append ws (word_in bytes k ∷ [])
     ∙ rw (append-nil, so_far, word_bytes bytes (8 * k) le all, next, take-add (8 * k) 8 bytes) refl
+
+pub each-more : (bytes : List ℕ) (ws : List ℤ) (k : ℕ) (x : ℤ) → length ws ≡ k → ((p : ℕ) → p < k → get_or ws p (pos 0) ≡ word_in bytes p) → x ≡ word_in bytes k → (p : ℕ) → p < k + 1 → get_or (ws ++ x ∷ []) p (pos 0) ≡ word_in bytes p
+each-more bytes ws k x len each is p lt = ⊎_elim
+    (λ (same : p ≡ k). ap (λ (i : ℕ). get_or (ws ++ x ∷ []) i (pos 0)) (same ∙ sym len) ∙ get_or-append_seam ws x [] (pos 0) ∙ is ∙ ap (word_in bytes) (sym same))
+    (λ (ne : p ≢ k). get_or-append ws (x ∷ []) (pos 0) p (omega arith) ∙ each p (omega arith))
+    (cases_eq p k)
+
+-- behind the bytes a word is 0
+word_behind : (bytes : List ℕ) (at : ℕ) → length bytes ≤ at → word_from bytes at ≡ pos 0
+unfolding word_from
+word_behind bytes at le =
+    rw (
+      get_or_past bytes at 0 le,
+      get_or_past bytes (at + 1) 0 (omega arith),
+      get_or_past bytes (at + 2) 0 (omega arith),
+      get_or_past bytes (at + 3) 0 (omega arith),
+      get_or_past bytes (at + 4) 0 (omega arith),
+      get_or_past bytes (at + 5) 0 (omega arith),
+      get_or_past bytes (at + 6) 0 (omega arith),
+      get_or_past bytes (at + 7) 0 (omega arith),
+    ) refl
+
+-- the words of all bytes, as functions
+pub words_agree : (bytes : List ℕ) (ws : List ℤ) (k : ℕ) → length bytes ≤ 8 * k → length ws ≡ k → ((p : ℕ) → p < k → get_or ws p (pos 0) ≡ word_in bytes p) → words_of ws ≡ word_in bytes
+words_agree bytes ws k whole len each = λ i p. one p i
+  where
+    one : (p : ℕ) → get_or ws p (pos 0) ≡ word_in bytes p
+    one p = ⊎_elim
+        (λ (lt : p < k). each p lt)
+        (λ (ge : k ≤ p). get_or_past ws p (pos 0) (omega arith) ∙ sym (word_behind bytes (8 * p) (omega arith)))
+        (cases_lt p k)

@@ -11,3 +11,4 @@ pub mod Content
 pub mod Opens
 pub mod Fault
 pub mod Moved
+pub mod Opened

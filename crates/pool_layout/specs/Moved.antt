@@ -5,7 +5,7 @@ use Rattle.pool_layout.specs.declared.limits.Sizes.{Sizes}
 use Rattle.pool_layout.specs.declared.places.Version.TheVariants.{First}
 use Rattle.pool_layout.specs.declared.places.Layout.{Layout}
 use Rattle.pool_layout.specs.declared.places.Place.{Place}
-use Rattle.pool_layout.specs.declared.places.Place.TheVariants.{Super, Last, Done, Mark, Heap}
+use Rattle.pool_layout.specs.declared.places.Place.TheVariants.{Super, Last, Done, Attempt, Mark, Heap}
 use Rattle.pool_layout.specs.Sizes.{pool_lines, heap_words}
 use Rattle.pool_layout.specs.Places.{at, pool_of, IsPlace}
 use Rattle.pool_layout.specs.Image.{Words, words_of, IsSealed}
@@ -33,6 +33,7 @@ pub record KeepsPool (s : Sizes) (image words : Words) : Type 0 where
   pub last : words (at (pool_of s) Last) ≡ image (at (first_of s) Last)
   pub done : words (at (pool_of s) Done) ≡ image (at (first_of s) Done)
   pub mark : words (at (pool_of s) Mark) ≡ image (at (first_of s) Mark)
+  pub attempt : words (at (pool_of s) Attempt) ≡ pos 0
   pub heap : (w : ℕ) → w < heap_words s → words (at (pool_of s) (Heap w)) ≡ image (at (first_of s) (Heap w))
   pub log : WellMade (pool_of s) 0 words
   pub empty : count (pool_of s) 0 words ≡ 0

@@ -2,6 +2,7 @@
 
 ghost use Rattle.pool_layout.specs.Restored.{OldestDecides, OthersStay};
 ghost use Rattle.pool_layout.specs.Opens.{KeptOpens};
+ghost use Rattle.pool_layout.specs.Opened.{OpenedRests};
 ghost use Rattle.pool_layout.specs.Moved.{MovedKeeps, MovedUnsealed};
 
 /// Of a heap word the oldest valid record decides what is restored, and else the heap's own word.
@@ -10,9 +11,11 @@ pub fn restored_law()
     ensures others { OthersStay }
 {}
 
-/// What reading an image checks is what a recovery from it needs.
+/// What reading an image checks is what a recovery from it needs, and where nothing is to be
+/// recovered the image is at rest.
 pub fn opens_law()
-    ensures { KeptOpens }
+    ensures kept { KeptOpens }
+    ensures rests { OpenedRests }
 {}
 
 /// A pool of the first version, moved to the second, keeps its heap, last, done and mark, isn't

@@ -13,6 +13,8 @@ mod measures;
 mod places;
 mod read;
 mod rules;
+#[cfg(test)]
+mod tests;
 mod wanted;
 
 pub use bytes::image_bytes;

@@ -3,8 +3,10 @@
 ghost use Rattle.std.specs.Prelude.{◌≡◌, ◌≤◌, ◌*◌, IfOk, IfErr, OnOk, length};
 ghost use Rattle.pool_layout.specs.Bytes as bytes_are;
 ghost use Rattle.pool_layout.specs.Places.{words, pool_of, IsPlace};
+ghost use Rattle.pool_layout.specs.Image as image_is;
 ghost use Rattle.pool_layout.specs.Moved as moved_are;
-ghost use Rattle.pool_layout.specs.Fault.{version_of, Accepts, Refuses};
+ghost use Rattle.pool_layout.specs.Opened.{IsOpened};
+ghost use Rattle.pool_layout.specs.Fault.{version_of, needed, Accepts, Refuses};
 
 use crate::bytes::word_in;
 use crate::head::{early_fault, rules_for};
@@ -32,15 +34,39 @@ pub fn read_image(alloc: Global, bytes: &[u8], wanted: &Wanted) -> Result<Words,
         return Err(ImageFault::Content(word, word_in(bytes, word)));
     }
     match rules.layout.version {
-        Version::First => Ok(moved_words(alloc, bytes, &wanted.sizes)?),
-        Version::Second => Ok(all_words(alloc, bytes)?),
+        Version::First => Ok(read_first(alloc, bytes, wanted)?),
+        Version::Second => Ok(read_second(alloc, bytes, wanted)?),
     }
+}
+
+/// The answer for an image of the first version that no fault applies to.
+fn read_first(alloc: Global, bytes: &[u8], wanted: &Wanted) -> Result<Words, AllocError>
+    requires accepted { Accepts wanted.now bytes.now }
+    requires whole { length bytes.now ≡ needed wanted.now bytes.now }
+    requires version { version_of bytes.now ≡ Version.First }
+    ensures moved { IfOk result (λ all. moved_are.AreMoved wanted.now.sizes (bytes_are.word_in bytes.now) all) }
+    ensures opened { IfOk result (λ all. IsOpened wanted.now all) }
+{
+    moved_words(alloc, bytes, &wanted.sizes)
+}
+
+/// The answer for an image of the second version that no fault applies to.
+fn read_second(alloc: Global, bytes: &[u8], wanted: &Wanted) -> Result<Words, AllocError>
+    requires accepted { Accepts wanted.now bytes.now }
+    requires whole { length bytes.now ≡ needed wanted.now bytes.now }
+    requires version { version_of bytes.now ≡ Version.Second }
+    ensures bytes { IfOk result (λ all. bytes_are.bytes_of all ≡ bytes.now) }
+    ensures opened { IfOk result (λ all. IsOpened wanted.now all) }
+{
+    all_words(alloc, bytes)
 }
 
 /// The words of these bytes.
 fn all_words(alloc: Global, bytes: &[u8]) -> Result<Words, AllocError>
     requires { bytes_are.HasWords bytes.now }
-    ensures { IfOk result (λ all. bytes_are.bytes_of all ≡ bytes.now) }
+    ensures bytes { IfOk result (λ all. bytes_are.bytes_of all ≡ bytes.now) }
+    ensures whole { IfOk result (λ all. 8 * length all ≡ length bytes.now) }
+    ensures words { IfOk result (λ all. image_is.words_of all ≡ bytes_are.word_in bytes.now) }
 {
     let mut all = Words::new(alloc);
     let count = bytes.len() as u64 / 8;
