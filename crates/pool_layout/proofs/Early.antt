@@ -11,6 +11,7 @@ use Rattle.pool_layout.specs.Fault.{when, first_fault, early_fault, sizes_fault,
 
 abbrev IsEarly : ImageFault → Type 0
 IsEarly (Content w v) = ⊥
+IsEarly NoMemory = ⊥
 IsEarly fault = Unit {0}
 
 abbrev GivesEarly : Option ImageFault → Type 0
@@ -73,7 +74,7 @@ early_early wanted bytes = first_early
 
 pub early_refuses : (wanted : Wanted) (bytes : List ℕ) (fault : ImageFault) → early_fault wanted bytes ≡ Some fault → Refuses wanted bytes fault
 early_refuses wanted bytes (Content w v) is = let e : ⊥ = subst GivesEarly is (early_early wanted bytes) in absurd e
-early_refuses wanted bytes NoMemory is = tt
+early_refuses wanted bytes NoMemory is = let e : ⊥ = subst GivesEarly is (early_early wanted bytes) in absurd e
 early_refuses wanted bytes (Short a b) is = is
 early_refuses wanted bytes (Magic a b) is = is
 early_refuses wanted bytes (Version a b) is = is

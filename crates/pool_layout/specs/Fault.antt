@@ -90,8 +90,8 @@ pub record BreaksContent (wanted : Wanted) (bytes : List ℕ) (word : ℕ) (valu
   pub first : IsFirstBreak (rules_of wanted bytes) (word_in bytes) word
   pub value_is : value ≡ word_in bytes word
 
--- this fault is the first that applies, or there was no memory
+-- this fault is the first that applies; want of memory is the last
 abbrev pub Refuses : Wanted → List ℕ → ImageFault → Type 0
-Refuses wanted bytes NoMemory = Unit {0}
+Refuses wanted bytes NoMemory = Accepts wanted bytes
 Refuses wanted bytes (Content word value) = BreaksContent wanted bytes word value
 Refuses wanted bytes fault = early_fault wanted bytes ≡ Some fault

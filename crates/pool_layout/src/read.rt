@@ -25,6 +25,7 @@ pub fn read_image(alloc: Global, bytes: &[u8], wanted: &Wanted) -> Result<Words,
     ensures second { IfOk result (λ all. version_of bytes.now ≡ Version.Second → bytes_are.bytes_of all ≡ bytes.now) }
     ensures first { IfOk result (λ all. version_of bytes.now ≡ Version.First
         → moved_are.AreMoved wanted.now.sizes (bytes_are.word_in bytes.now) all) }
+    ensures opened { IfOk result (λ all. IsOpened wanted.now all) }
 {
     if let Some(fault) = early_fault(bytes, wanted) {
         return Err(fault);
