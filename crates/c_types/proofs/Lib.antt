@@ -1,0 +1,6 @@
+pub mod Index
+pub mod Gathered
+pub mod Told
+pub mod Arguments
+pub mod Behind
+pub mod Elements

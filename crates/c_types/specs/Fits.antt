@@ -1,0 +1,96 @@
+-- Which types fit where. The types of values are int, pointer to a struct, and null; a pointer's
+-- struct is told by its place among the structs. A node with a refused part has the type any, which
+-- fits everywhere.
+use Rattle.std.specs.Prelude.{ℕ, Bool, true, false, ◌&&◌, nat_eq}
+use Rattle.c_parser.specs.declared.expr.UnaryOp.{UnaryOp}
+use Rattle.c_parser.specs.declared.expr.UnaryOp.TheVariants as unary
+use Rattle.c_parser.specs.declared.expr.BinaryOp.{BinaryOp}
+use Rattle.c_parser.specs.declared.expr.BinaryOp.TheVariants as binary
+use Rattle.c_parser.specs.declared.stmt.AssignOp.{AssignOp}
+use Rattle.c_parser.specs.declared.stmt.AssignOp.TheVariants as assign
+use Rattle.c_types.specs.declared.value_type.ValueType.{ValueType}
+use Rattle.c_types.specs.declared.value_type.ValueType.TheVariants.{Int, Pointer, Null, Any}
+
+abbrev pub is_any : ValueType → Bool
+is_any Int = false
+is_any (Pointer s) = false
+is_any Null = false
+is_any Any = true
+
+-- fits where an int is needed
+abbrev pub is_int : ValueType → Bool
+is_int Int = true
+is_int (Pointer s) = false
+is_int Null = false
+is_int Any = true
+
+-- fits where a pointer is needed
+abbrev pub is_pointer : ValueType → Bool
+is_pointer Int = false
+is_pointer (Pointer s) = true
+is_pointer Null = false
+is_pointer Any = true
+
+abbrev pub is_null : ValueType → Bool
+is_null Int = false
+is_null (Pointer s) = false
+is_null Null = true
+is_null Any = true
+
+-- fits where a pointer to the struct s, or null, is needed
+abbrev pub is_pointer_to : ℕ → ValueType → Bool
+is_pointer_to s Int = false
+is_pointer_to s (Pointer t) = nat_eq s t
+is_pointer_to s Null = true
+is_pointer_to s Any = true
+
+-- a target takes a value of its own type, and a pointer takes null
+abbrev pub takes : (target value : ValueType) → Bool
+takes Int value = is_int value
+takes (Pointer s) value = is_pointer_to s value
+takes Null value = is_null value
+takes Any value = true
+
+-- may be compared: both int, pointers to one struct, or pointer or null with null
+abbrev pub comparable : ValueType → ValueType → Bool
+comparable Int b = is_int b
+comparable (Pointer s) b = is_pointer_to s b
+comparable Null Int = false
+comparable Null (Pointer s) = true
+comparable Null Null = true
+comparable Null Any = true
+comparable Any b = true
+
+-- the operands that a binary operator takes: `&&` and `||` all, `==` and `!=` what may be compared,
+-- the others ints
+abbrev pub joins : BinaryOp → ValueType → ValueType → Bool
+joins binary.Both a b = true
+joins binary.Either a b = true
+joins binary.Equal a b = comparable a b
+joins binary.NotEqual a b = comparable a b
+joins binary.Mul a b = is_int a && is_int b
+joins binary.Div a b = is_int a && is_int b
+joins binary.Rem a b = is_int a && is_int b
+joins binary.Add a b = is_int a && is_int b
+joins binary.Sub a b = is_int a && is_int b
+joins binary.ShiftLeft a b = is_int a && is_int b
+joins binary.ShiftRight a b = is_int a && is_int b
+joins binary.Less a b = is_int a && is_int b
+joins binary.LessEqual a b = is_int a && is_int b
+joins binary.Greater a b = is_int a && is_int b
+joins binary.GreaterEqual a b = is_int a && is_int b
+joins binary.And a b = is_int a && is_int b
+joins binary.Xor a b = is_int a && is_int b
+joins binary.Or a b = is_int a && is_int b
+
+-- the operand that a unary operator takes: `!` all, the others an int
+abbrev pub applies : UnaryOp → ValueType → Bool
+applies unary.Not a = true
+applies unary.Negate a = is_int a
+applies unary.Complement a = is_int a
+
+-- `=` takes what the target takes, `+=` and `-=` stand on an int with an int
+abbrev pub assigns : AssignOp → (target value : ValueType) → Bool
+assigns assign.Set target value = takes target value
+assigns assign.Add target value = is_int target && is_int value
+assigns assign.Sub target value = is_int target && is_int value

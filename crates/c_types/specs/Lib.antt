@@ -1,0 +1,10 @@
+pub mod Broken
+pub mod Fits
+pub mod Tables
+pub mod Expressions
+pub mod Statements
+pub mod Declarations
+pub mod Views
+pub mod Fault
+pub mod Shapes
+pub mod Transactions

@@ -1,0 +1,115 @@
+-- The structs, root declarations and functions of a program, each in the order of the text, and what
+-- a name means: its first declaration.
+use Rattle.std.specs.Prelude.{ℕ, ℤ, pos, negsuc, suc, ◌+◌, ◌-◌, ◌^◌, min, List, [], ◌∷◌, map, Bool, false, ◌&&◌, nat_le, nat_eq, if◌then◌else◌, Option, None, Some, option_map, option_and_then, bytes_eq, slice_get}
+use Rattle.std.specs.Option.{option_map_or}
+use Rattle.c_parser.specs.ExprTree.{Ident}
+use Rattle.c_parser.specs.StmtTree.{TypeTree}
+use Rattle.c_parser.specs.StmtTree as stmt
+use Rattle.c_parser.specs.ItemTree.{ItemTree, Struct, Root, Function, FunctionTree, FieldTree}
+use Rattle.c_types.specs.declared.value_type.ValueType.{ValueType}
+use Rattle.c_types.specs.declared.value_type.ValueType.TheVariants.{Int, Pointer, Any}
+
+pub record StructTree : Type 0 where
+  pub name : Ident
+  pub fields : List FieldTree
+
+pub record RootTree : Type 0 where
+  pub name : Ident
+  pub place : ℕ
+
+pub record Tables : Type 0 where
+  pub structs : List StructTree
+  pub roots : List RootTree
+  pub functions : List FunctionTree
+
+abbrev pub structs_of : List ItemTree → List StructTree
+structs_of [] = []
+structs_of (Struct name fields ∷ items) = record { name = name; fields = fields } ∷ structs_of items
+structs_of (Root name place ∷ items) = structs_of items
+structs_of (Function f ∷ items) = structs_of items
+
+abbrev pub roots_of : List ItemTree → List RootTree
+roots_of [] = []
+roots_of (Struct name fields ∷ items) = roots_of items
+roots_of (Root name place ∷ items) = record { name = name; place = place } ∷ roots_of items
+roots_of (Function f ∷ items) = roots_of items
+
+abbrev pub functions_of : List ItemTree → List FunctionTree
+functions_of [] = []
+functions_of (Struct name fields ∷ items) = functions_of items
+functions_of (Root name place ∷ items) = functions_of items
+functions_of (Function f ∷ items) = f ∷ functions_of items
+
+abbrev pub tables_of : List ItemTree → Tables
+tables_of items = record { structs = structs_of items; roots = roots_of items; functions = functions_of items }
+
+-- the place of the first of these names that is this one
+abbrev pub index_of : List ℕ → List (List ℕ) → Option ℕ
+index_of name [] = None
+index_of name (n ∷ ns) = if bytes_eq name n then Some 0 else option_map suc (index_of name ns)
+
+abbrev pub struct_names : Tables → List (List ℕ)
+struct_names t = map (λ s. s.name.text) t.structs
+
+abbrev pub function_names : Tables → List (List ℕ)
+function_names t = map (λ f. f.name.text) t.functions
+
+abbrev pub field_names : StructTree → List (List ℕ)
+field_names s = map (λ f. f.name.text) s.fields
+
+-- the place of the struct that a name means
+abbrev pub struct_named : Tables → List ℕ → Option ℕ
+struct_named t name = index_of name (struct_names t)
+
+abbrev pub function_named : Tables → List ℕ → Option FunctionTree
+function_named t name = option_and_then (slice_get t.functions) (index_of name (function_names t))
+
+abbrev pub field_named : StructTree → List ℕ → Option FieldTree
+field_named s name = option_and_then (slice_get s.fields) (index_of name (field_names s))
+
+-- the declaration at place i is the first of its name
+abbrev pub is_first : Option ℕ → ℕ → Bool
+is_first found i = option_map_or (nat_eq i) found false
+
+-- the place of the root's struct
+abbrev pub root_struct : Tables → Option ℕ
+root_struct t = option_and_then (λ r. struct_named t r.name.text) (slice_get t.roots 0)
+
+-- an array may have from 1 to 512 elements
+abbrev pub is_length : ℤ → Bool
+is_length (pos n) = nat_le 1 n && nat_le n 512
+is_length (negsuc n) = false
+
+-- the words of a field; a refused array counts as one
+abbrev pub length_words : ℤ → ℕ
+length_words (pos n) = if is_length (pos n) then n else 1
+length_words (negsuc n) = 1
+
+abbrev pub field_words : FieldTree → ℕ
+field_words f = option_map_or (λ l. length_words l.value) f.len 1
+
+-- the words of the field at place i of a struct with these names; one declared again counts for nothing
+abbrev pub counted : List (List ℕ) → ℕ → FieldTree → ℕ
+counted names i f = if is_first (index_of f.name.text names) i then field_words f else 0
+
+-- the words of the fields from place i on
+abbrev pub words_from : List (List ℕ) → ℕ → List FieldTree → ℕ
+words_from names i [] = 0
+words_from names i (f ∷ fs) = counted names i f + words_from names (i + 1) fs
+
+-- the words of a struct, counted in 64 bits: a longer count stands at the last number
+abbrev pub words_of : StructTree → ℕ
+words_of s = min (words_from (field_names s) 0 s.fields) (2 ^ 64 - 1)
+
+-- the words of the struct at place i
+abbrev pub words_at : Tables → ℕ → ℕ
+words_at t i = option_map_or words_of (slice_get t.structs i) 0
+
+-- a pointer leads to a struct of at most 15 words
+abbrev pub pointer_type : Tables → List ℕ → ValueType
+pointer_type t name = option_map_or (λ i. if nat_le (words_at t i) 15 then Pointer i else Any) (struct_named t name) Any
+
+-- what is declared with a type has it, or any where the type is refused
+abbrev pub declared_type : Tables → TypeTree → ValueType
+declared_type t stmt.Int = Int
+declared_type t (stmt.Pointer name) = pointer_type t name.text

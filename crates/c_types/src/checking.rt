@@ -1,0 +1,76 @@
+//! The check of a whole tree.
+
+ghost use Rattle.std.specs.Prelude.{◌≡◌, [], None, Some, OnOk, IfOk, IfErr, ◌⊎◌};
+ghost use Rattle.c_parser.specs.ItemTree.{items_in};
+ghost use Rattle.c_types.specs.declared.fault.TypeFault.TheVariants.{NoMemory};
+ghost use Rattle.c_types.specs.Broken.{told, least};
+ghost use Rattle.c_types.specs.Declarations.{broken_of, broken};
+ghost use Rattle.c_types.specs.Fault.{fault_of, breaks, refusal};
+ghost use Rattle.c_types.specs.Views.{tables_in};
+
+use crate::broken::{Broken, Rule, expect};
+use crate::declarations::{functions, roots, structs};
+use crate::fault::TypeFault;
+use crate::program::Program;
+use crate::typed::Typed;
+use c_parser::Ast;
+use c_parser::item::Item;
+use std::alloc::{AllocError, Global};
+
+/// Checks a tree against the typing rules. Ok comes where no rule is broken, with the tree that was
+/// handed in; otherwise it is the rule that is broken at the least token, and at that token the one
+/// with the least number, with the token's line. The tree is spent on a refusal too.
+#[tactic(auto, using(crate::proofs::Told::laws))]
+pub fn check(alloc: Global, ast: Ast) -> Result<Typed, TypeFault>
+    ensures kept { IfOk result (λ typed. breaks ast ≡ []) }
+    ensures tree { IfOk result (λ typed. typed ≡ ast) }
+    ensures refused { IfErr result (λ fault. (fault ≡ NoMemory) ⊎ (refusal ast ≡ Some fault)) }
+{
+    match least_broken(alloc, ast.items(), ast.tokens())? {
+        None => {
+            let typed = Typed::new(alloc, ast)?;
+            Ok(typed)
+        }
+        Some(told) => Err(fault_at(told.rule, ast.line(told.place))),
+    }
+}
+
+fn fault_at(rule: Rule, line: u64) -> TypeFault
+    ensures { result ≡ fault_of rule line }
+{
+    match rule {
+        Rule::UnknownName => TypeFault::UnknownName(line),
+        Rule::Twice => TypeFault::Twice(line),
+        Rule::Mismatch => TypeFault::Mismatch(line),
+        Rule::NotAssignable => TypeFault::NotAssignable(line),
+        Rule::Arity => TypeFault::Arity(line),
+        Rule::TooBig(limit, value) => TypeFault::TooBig(line, limit, value),
+        Rule::NoRoot => TypeFault::NoRoot(line),
+        Rule::BadTx => TypeFault::BadTx(line),
+    }
+}
+
+/// The broken rule that is told, if one is broken; `end` is the place behind the last token.
+fn least_broken(alloc: Global, items: &[Item], end: u64) -> Result<Option<Broken>, AllocError>
+    ensures { IfOk result (λ found. found ≡ least (broken end (items_in items.now))) }
+{
+    let program = Program::new(alloc, items)?;
+    let mut found = None;
+    examine(alloc, &program, end, &mut found)?;
+    Ok(found)
+}
+
+#[tactic(auto, using(crate::proofs::Told::told_append))]
+fn examine(
+    alloc: Global,
+    program: &Program<'_>,
+    end: u64,
+    found: &mut Option<Broken>,
+) -> Result<(), AllocError>
+    ensures { OnOk result (found.new ≡ told found.old (broken_of end (tables_in program.now))) }
+{
+    structs(program, program.structs(), found);
+    roots(program, program.roots(), found);
+    expect(found, program.has_root(), end, Rule::NoRoot);
+    functions(alloc, program, program.functions(), found)
+}

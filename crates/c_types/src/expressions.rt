@@ -1,0 +1,368 @@
+//! The types of expressions, and the rules that they break.
+
+ghost use Rattle.std.specs.Prelude.{◌≡◌, ◌++◌, ◌&&◌, not, length, map, is_some, option_map, [], ◌∷◌};
+ghost use Rattle.c_parser.specs.ExprTree.{expr_of, ident_of, arguments_in};
+ghost use Rattle.c_parser.specs.ItemTree.{field_of, function_of, parameter_of};
+ghost use Rattle.c_types.specs.Broken.{told, unless};
+ghost use Rattle.c_types.specs.Fits as fits;
+ghost use Rattle.c_types.specs.Tables as tables;
+ghost use Rattle.c_types.specs.Expressions as meaning;
+ghost use Rattle.c_types.specs.Views.{tables_in};
+
+use crate::broken::{Broken, Rule, expect, note};
+use crate::fault::LimitKind;
+use crate::layout::is_length;
+use crate::program::Program;
+use crate::rules::{applies, is_any, is_int, joins, takes};
+use crate::scopes::Scopes;
+use crate::value_type::{Kind, ValueType};
+use c_parser::expr::{Argument, BinaryOp, Expr, Name, UnaryOp};
+use c_parser::item::{Field, Function, Parameter};
+
+/// What an expression denotes.
+#[cycle(expressions)]
+#[tactic(auto, using(crate::proofs::Arguments::expressions))]
+pub fn kind(
+    program: &Program<'_>,
+    scopes: &Scopes<'_>,
+    expr: &Expr,
+    least: &mut Option<Broken>,
+) -> Kind
+    ensures kind { result ≡ meaning.kind_of (tables_in program.now) scopes.now (expr_of expr.now) }
+    ensures told { least.new ≡ told least.old (meaning.broken_in (tables_in program.now) scopes.now (expr_of expr.now)) }
+{
+    match expr {
+        Expr::Number(_) => Kind::Value(ValueType::Int),
+        Expr::Null => Kind::Value(ValueType::Null),
+        Expr::Variable(name) => Kind::Value(variable(scopes, name, least)),
+        Expr::Call { name, arguments } => {
+            Kind::Value(call(program, scopes, name, arguments, true, least))
+        }
+        Expr::Root(field) => root_field(program, field, least),
+        Expr::New { name, .. } => Kind::Value(pointer_to(program, name, least)),
+        Expr::Arrow { base, place, field } => {
+            let base = value(program, scopes, base, least);
+            arrow(program, base, *place, field, least)
+        }
+        Expr::Index { base, place, index } => {
+            let base = kind(program, scopes, base, least);
+            let index = value(program, scopes, index, least);
+            Kind::Value(element(base, *place, index, least))
+        }
+        Expr::Unary { op, place, operand } => {
+            let operand = value(program, scopes, operand, least);
+            Kind::Value(unary(*op, *place, operand, least))
+        }
+        Expr::Binary {
+            op,
+            place,
+            left,
+            right,
+        } => {
+            let left = value(program, scopes, left, least);
+            let right = value(program, scopes, right, least);
+            Kind::Value(binary(*op, *place, left, right, least))
+        }
+    }
+}
+
+/// The type of an expression that is used as a value.
+#[cycle(expressions)]
+#[tactic(auto, using(crate::proofs::Arguments::expressions))]
+pub fn value(
+    program: &Program<'_>,
+    scopes: &Scopes<'_>,
+    expr: &Expr,
+    least: &mut Option<Broken>,
+) -> ValueType
+    ensures kind { result ≡ meaning.type_of (tables_in program.now) scopes.now (expr_of expr.now) }
+    ensures told { least.new ≡ told least.old (meaning.value_broken (tables_in program.now) scopes.now (expr_of expr.now)) }
+{
+    let found = kind(program, scopes, expr, least);
+    as_value(found, least)
+}
+
+fn as_value(found: Kind, least: &mut Option<Broken>) -> ValueType
+    ensures kind { result ≡ meaning.value_of found }
+    ensures told { least.new ≡ told least.old (meaning.unindexed found) }
+{
+    match found {
+        Kind::Value(given) => given,
+        Kind::Array { place, .. } => {
+            note(least, place, Rule::Mismatch);
+            ValueType::Any
+        }
+    }
+}
+
+/// The type of a call's result. `wanted` says that the result is used.
+#[cycle(expressions)]
+#[tactic(auto, using(crate::proofs::Arguments::expressions))]
+pub fn call(
+    program: &Program<'_>,
+    scopes: &Scopes<'_>,
+    name: &Name,
+    arguments: &[Argument],
+    wanted: bool,
+    least: &mut Option<Broken>,
+) -> ValueType
+    ensures kind { result ≡ meaning.call_kind (tables_in program.now) scopes.now wanted (ident_of name.now) (arguments_in arguments.now) }
+    ensures told { least.new ≡ told least.old (meaning.call_rules (tables_in program.now) scopes.now wanted (ident_of name.now) (arguments_in arguments.now)) }
+{
+    match program.function_named(name.text.as_str()) {
+        None => {
+            note(least, name.place, Rule::UnknownName);
+            pass(program, scopes, &[], arguments, least);
+            ValueType::Any
+        }
+        Some(function) => {
+            let count = arguments.len() as u64;
+            let allowed = may_call(function, name.place, count, wanted, least);
+            let passed = pass(program, scopes, &function.parameters, arguments, least);
+            if allowed && passed {
+                result_type(program, function)
+            } else {
+                ValueType::Any
+            }
+        }
+    }
+}
+
+/// Whether every argument has a type, which its parameter takes.
+#[cycle(expressions)]
+#[tactic(auto, using(crate::proofs::Arguments::expressions))]
+fn pass(
+    program: &Program<'_>,
+    scopes: &Scopes<'_>,
+    parameters: &[Parameter],
+    arguments: &[Argument],
+    least: &mut Option<Broken>,
+) -> bool
+    ensures kind { result ≡ meaning.all_taken (tables_in program.now) scopes.now (map parameter_of parameters.now) 0 (arguments_in arguments.now) }
+    ensures told { least.new ≡ told least.old (meaning.broken_in_all (tables_in program.now) scopes.now (map parameter_of parameters.now) 0 (arguments_in arguments.now)) }
+{
+    let mut passed = true;
+    let mut at = 0u64;
+    for argument in arguments {
+        let given = value(program, scopes, &argument.value, least);
+        let target = parameter_type(program, parameters, at);
+        let taken = takes(target, given);
+        expect(least, taken, argument.first, Rule::Mismatch);
+        passed = and_passed(passed, taken, given);
+        at += 1;
+    }
+    passed
+}
+
+fn and_passed(passed: bool, taken: bool, given: ValueType) -> bool
+    ensures { result ≡ (passed && (taken && not (fits.is_any given))) }
+{
+    passed && taken && !is_any(given)
+}
+
+fn parameter_type(program: &Program<'_>, parameters: &[Parameter], at: u64) -> ValueType
+    ensures { result ≡ meaning.parameter_type (tables_in program.now) (map parameter_of parameters.now) at }
+{
+    match parameters.get(at as usize) {
+        None => ValueType::Any,
+        Some(parameter) => program.declared_type(&parameter.ty),
+    }
+}
+
+/// Whether a function may be called so, arguments aside.
+#[tactic(auto, using(crate::proofs::Told::told_append))]
+fn may_call(
+    function: &Function,
+    place: u64,
+    arguments: u64,
+    wanted: bool,
+    least: &mut Option<Broken>,
+) -> bool
+    ensures kind { result ≡ meaning.may_call wanted (function_of function.now) arguments }
+    ensures told { least.new ≡ told least.old (meaning.callee_broken wanted (function_of function.now) arguments place) }
+{
+    let gives = !wanted || function.result_type.is_some();
+    let counted = arguments == function.parameters.len() as u64;
+    expect(least, gives, place, Rule::Mismatch);
+    expect(least, counted, place, Rule::Arity);
+    expect(least, !function.tx, place, Rule::BadTx);
+    gives && counted && !function.tx
+}
+
+/// The type of a function's result. That of a void function is used nowhere.
+pub fn result_type(program: &Program<'_>, function: &Function) -> ValueType
+    ensures { result ≡ meaning.result_type (tables_in program.now) (function_of function.now) }
+{
+    match &function.result_type {
+        None => ValueType::Any,
+        Some(ty) => program.declared_type(ty),
+    }
+}
+
+fn variable(scopes: &Scopes<'_>, name: &Name, least: &mut Option<Broken>) -> ValueType
+    ensures kind { result ≡ meaning.variable_kind scopes.now (ident_of name.now) }
+    ensures told { least.new ≡ told least.old (meaning.variable_broken scopes.now (ident_of name.now)) }
+{
+    match scopes.find(name.text.as_str()) {
+        None => {
+            note(least, name.place, Rule::UnknownName);
+            ValueType::Any
+        }
+        Some(declared) => declared,
+    }
+}
+
+/// The type of a pointer to the struct of that name, at the name's place.
+pub fn pointer_to(program: &Program<'_>, name: &Name, least: &mut Option<Broken>) -> ValueType
+    ensures kind { result ≡ tables.pointer_type (tables_in program.now) name.now.text }
+    ensures told { least.new ≡ told least.old (meaning.pointer_broken (tables_in program.now) (ident_of name.now)) }
+{
+    match program.struct_named(name.text.as_str()) {
+        None => note(least, name.place, Rule::UnknownName),
+        Some(at) => {
+            let words = program.words_at(at);
+            let rule = Rule::TooBig(LimitKind::Pointer, words);
+            expect(least, words <= 15, name.place, rule);
+        }
+    }
+    program.pointer_type(name.text.as_str())
+}
+
+fn root_field(program: &Program<'_>, field: &Name, least: &mut Option<Broken>) -> Kind
+    ensures kind { result ≡ meaning.root_kind (tables_in program.now) (ident_of field.now) }
+    ensures told { least.new ≡ told least.old (meaning.root_broken (tables_in program.now) (ident_of field.now)) }
+{
+    match program.root_struct() {
+        None => {
+            expect(least, program.has_root(), field.place, Rule::UnknownName);
+            Kind::Value(ValueType::Any)
+        }
+        Some(at) => member(program, at, field, least),
+    }
+}
+
+fn arrow(
+    program: &Program<'_>,
+    base: ValueType,
+    place: u64,
+    field: &Name,
+    least: &mut Option<Broken>,
+) -> Kind
+    ensures kind { result ≡ meaning.arrow_kind (tables_in program.now) base (ident_of field.now) }
+    ensures told { least.new ≡ told least.old (meaning.arrow_broken (tables_in program.now) base place (ident_of field.now)) }
+{
+    match base {
+        ValueType::Pointer(at) => member(program, at, field, least),
+        ValueType::Int => {
+            note(least, place, Rule::Mismatch);
+            Kind::Value(ValueType::Any)
+        }
+        ValueType::Null => {
+            note(least, place, Rule::Mismatch);
+            Kind::Value(ValueType::Any)
+        }
+        ValueType::Any => Kind::Value(ValueType::Any),
+    }
+}
+
+/// What a field of the struct at that place denotes.
+fn member(program: &Program<'_>, at: u64, name: &Name, least: &mut Option<Broken>) -> Kind
+    ensures kind { result ≡ meaning.member_kind (tables_in program.now) at (ident_of name.now) }
+    ensures told { least.new ≡ told least.old (meaning.member_broken (tables_in program.now) at (ident_of name.now)) }
+{
+    match find_member(program, at, name) {
+        None => {
+            note(least, name.place, Rule::UnknownName);
+            Kind::Value(ValueType::Any)
+        }
+        Some(field) => field_kind(program, name.place, field),
+    }
+}
+
+fn find_member<'a>(program: &Program<'a>, at: u64, name: &Name) -> Option<&'a Field>
+    ensures { option_map (λ f. field_of f.now) result ≡ meaning.member (tables_in program.now) at (ident_of name.now) }
+{
+    match program.struct_at(at) {
+        None => None,
+        Some(layout) => layout.field(name.text.as_str()),
+    }
+}
+
+fn field_kind(program: &Program<'_>, place: u64, field: &Field) -> Kind
+    ensures { result ≡ meaning.field_kind (tables_in program.now) place (field_of field.now) }
+{
+    let declared = program.declared_type(&field.ty);
+    match &field.length {
+        None => Kind::Value(declared),
+        Some(length) => {
+            if is_any(declared) || !is_length(length.value) {
+                Kind::Value(ValueType::Any)
+            } else {
+                Kind::Array {
+                    element: declared,
+                    place,
+                }
+            }
+        }
+    }
+}
+
+fn is_indexed(base: Kind) -> bool
+    ensures { result ≡ meaning.is_indexed base }
+{
+    match base {
+        Kind::Array { .. } => true,
+        Kind::Value(ValueType::Any) => true,
+        Kind::Value(ValueType::Int) => false,
+        Kind::Value(ValueType::Null) => false,
+        Kind::Value(ValueType::Pointer(_)) => false,
+    }
+}
+
+fn element_of(base: Kind) -> ValueType
+    ensures { result ≡ meaning.element_of base }
+{
+    match base {
+        Kind::Array { element, .. } => element,
+        Kind::Value(_) => ValueType::Any,
+    }
+}
+
+fn given(good: bool, ty: ValueType) -> ValueType
+    ensures { result ≡ meaning.given good ty }
+{
+    if good { ty } else { ValueType::Any }
+}
+
+fn element(base: Kind, place: u64, index: ValueType, least: &mut Option<Broken>) -> ValueType
+    ensures kind { result ≡ meaning.given (meaning.is_indexed base && fits.is_int index && not (fits.is_any index)) (meaning.element_of base) }
+    ensures told { least.new ≡ told least.old (unless (meaning.is_indexed base && fits.is_int index) place Rule.Mismatch) }
+{
+    let indexed = is_indexed(base) && is_int(index);
+    expect(least, indexed, place, Rule::Mismatch);
+    given(indexed && !is_any(index), element_of(base))
+}
+
+fn unary(op: UnaryOp, place: u64, operand: ValueType, least: &mut Option<Broken>) -> ValueType
+    ensures kind { result ≡ meaning.given (fits.applies op operand && not (fits.is_any operand)) ValueType.Int }
+    ensures told { least.new ≡ told least.old (unless (fits.applies op operand) place Rule.Mismatch) }
+{
+    let applied = applies(op, operand);
+    expect(least, applied, place, Rule::Mismatch);
+    given(applied && !is_any(operand), ValueType::Int)
+}
+
+fn binary(
+    op: BinaryOp,
+    place: u64,
+    left: ValueType,
+    right: ValueType,
+    least: &mut Option<Broken>,
+) -> ValueType
+    ensures kind { result ≡ meaning.given (fits.joins op left right && not (fits.is_any left) && not (fits.is_any right)) ValueType.Int }
+    ensures told { least.new ≡ told least.old (unless (fits.joins op left right) place Rule.Mismatch) }
+{
+    let joined = joins(op, left, right);
+    expect(least, joined, place, Rule::Mismatch);
+    given(joined && !is_any(left) && !is_any(right), ValueType::Int)
+}

@@ -1,0 +1,150 @@
+//! A struct, the names of its fields, and the number of its words.
+
+ghost use Rattle.std.specs.Prelude.{◌≡◌, ◌-◌, ◌^◌, min, IfOk, map, option_map};
+ghost use Rattle.c_parser.specs.ExprTree.{ident_of};
+ghost use Rattle.c_parser.specs.ItemTree.{FieldTree, field_of};
+ghost use Rattle.c_types.specs.Tables as tables;
+ghost use Rattle.c_types.specs.Views.{struct_of};
+
+use crate::names::Names;
+use c_parser::expr::Name;
+use c_parser::item::{Field, StructDef};
+use std::alloc::{AllocError, Global};
+use std::marker::Model;
+
+/// A struct with the names of its fields and the number of its words, seen as the struct's tree.
+#[derive(Drop)]
+pub struct Layout<'a> {
+    definition: &'a StructDef,
+    names: Names<'a>,
+    words: u64,
+}
+
+impl<'a> Model for Layout<'a> {
+    ghost use Rattle.std.specs.Prelude.{◌≡◌};
+    ghost use Rattle.c_types.specs.Tables.{StructTree, field_names, words_of};
+    ghost use Rattle.c_types.specs.Views.{struct_of};
+
+    ghost Value = { StructTree };
+
+    ghost view = { λ l. struct_of l.definition.now };
+
+    ghost invariant = { λ l. (l.names ≡ field_names (struct_of l.definition.now)) × (l.words ≡ words_of (struct_of l.definition.now)) };
+}
+
+impl<'a> Layout<'a> {
+    pub fn new(alloc: Global, definition: &'a StructDef) -> Result<Self, AllocError>
+        ensures { IfOk result (λ l. l ≡ struct_of definition.now) }
+    {
+        let names = field_names(alloc, &definition.fields)?;
+        let words = words_of(&names, &definition.fields);
+        Ok(Layout {
+            definition,
+            names,
+            words,
+        })
+    }
+
+    pub fn name(&self) -> &'a Name
+        ensures { ident_of result.now ≡ self.now.name }
+    {
+        &self.definition.name
+    }
+
+    pub fn fields(&self) -> &'a [Field]
+        ensures { map field_of result.now ≡ self.now.fields }
+    {
+        &self.definition.fields
+    }
+
+    pub fn words(&self) -> u64
+        ensures { result ≡ tables.words_of self.now }
+    {
+        self.words
+    }
+
+    /// The place of the first field of that name.
+    pub fn place_of(&self, name: &str) -> Option<u64>
+        ensures { result ≡ tables.index_of name.now (tables.field_names self.now) }
+    {
+        self.names.find(name)
+    }
+
+    /// The first field of that name.
+    pub fn field(&self, name: &str) -> Option<&'a Field>
+        ensures { option_map (λ f. field_of f.now) result ≡ tables.field_named self.now name.now }
+    {
+        let at = self.names.find(name)?;
+        self.definition.fields.get(at as usize)
+    }
+}
+
+fn field_names<'a>(alloc: Global, fields: &'a [Field]) -> Result<Names<'a>, AllocError>
+    ensures { IfOk result (λ n. n ≡ map (λ (f : FieldTree). f.name.text) (map field_of fields.now)) }
+{
+    let mut names = Names::new(alloc);
+    for field in fields {
+        names.push(field.name.text.as_str())?;
+    }
+    Ok(names)
+}
+
+/// The words of a struct's fields. One declared again counts for nothing.
+fn words_of(names: &Names<'_>, fields: &[Field]) -> u64
+    ensures { result ≡ min (tables.words_from names.now 0 (map field_of fields.now)) (2 ^ 64 - 1) }
+{
+    let mut words = 0u64;
+    let mut at = 0u64;
+    for field in fields {
+        words = words.saturating_add(counted_words(names, at, field));
+        at += 1;
+    }
+    words
+}
+
+fn counted_words(names: &Names<'_>, at: u64, field: &Field) -> u64
+    ensures { result ≡ tables.counted names.now at (field_of field.now) }
+{
+    if is_at(names.find(field.name.text.as_str()), at) {
+        field_words(field)
+    } else {
+        0
+    }
+}
+
+/// Whether a name was found at this place.
+pub fn is_at(found: Option<u64>, at: u64) -> bool
+    ensures { result ≡ tables.is_first found at }
+{
+    match found {
+        None => false,
+        Some(place) => at == place,
+    }
+}
+
+/// The words of a field. A refused array counts as one.
+fn field_words(field: &Field) -> u64
+    ensures { result ≡ tables.field_words (field_of field.now) }
+{
+    match &field.length {
+        None => 1,
+        Some(length) => length_words(length.value),
+    }
+}
+
+fn length_words(length: i64) -> u64
+    ensures { result ≡ tables.length_words length }
+{
+    if is_length(length) {
+        length.cast_unsigned()
+    } else {
+        1
+    }
+}
+
+/// Whether an array may have this length.
+pub fn is_length(length: i64) -> bool
+    ensures { result ≡ tables.is_length length }
+{
+    1 <= length && length <= 512
+}

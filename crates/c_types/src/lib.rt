@@ -1,0 +1,24 @@
+//! The typing rules of a program. It stands on `c_parser`'s tree and gives `pool_map`'s shapes. Its
+//! one contract for the crates above: `check` answers a tree that breaks no rule, or the rule that is
+//! broken at the least token, and at that token the one with the least number.
+#![tactic(auto)]
+
+mod broken;
+mod checking;
+mod declarations;
+mod expressions;
+mod fault;
+mod layout;
+mod names;
+mod program;
+mod rules;
+mod scopes;
+mod shapes;
+mod statements;
+mod transactions;
+mod typed;
+mod value_type;
+
+pub use checking::check;
+pub use fault::{LimitKind, TypeFault};
+pub use typed::Typed;

@@ -1,0 +1,144 @@
+//! Which types fit where.
+
+ghost use Rattle.std.specs.Prelude.{◌≡◌};
+ghost use Rattle.c_types.specs.Fits as fits;
+
+use crate::value_type::ValueType;
+use c_parser::expr::{BinaryOp, UnaryOp};
+use c_parser::stmt::AssignOp;
+
+pub fn is_any(value: ValueType) -> bool
+    ensures { result ≡ fits.is_any value }
+{
+    match value {
+        ValueType::Any => true,
+        ValueType::Int => false,
+        ValueType::Null => false,
+        ValueType::Pointer(_) => false,
+    }
+}
+
+/// Whether a value fits where an int is needed.
+pub fn is_int(value: ValueType) -> bool
+    ensures { result ≡ fits.is_int value }
+{
+    match value {
+        ValueType::Any => true,
+        ValueType::Int => true,
+        ValueType::Null => false,
+        ValueType::Pointer(_) => false,
+    }
+}
+
+/// Whether a value fits where a pointer is needed.
+pub fn is_pointer(value: ValueType) -> bool
+    ensures { result ≡ fits.is_pointer value }
+{
+    match value {
+        ValueType::Any => true,
+        ValueType::Int => false,
+        ValueType::Null => false,
+        ValueType::Pointer(_) => true,
+    }
+}
+
+fn is_null(value: ValueType) -> bool
+    ensures { result ≡ fits.is_null value }
+{
+    match value {
+        ValueType::Any => true,
+        ValueType::Int => false,
+        ValueType::Null => true,
+        ValueType::Pointer(_) => false,
+    }
+}
+
+/// Whether a value fits where a pointer to this struct is needed.
+fn is_pointer_to(target: u64, value: ValueType) -> bool
+    ensures { result ≡ fits.is_pointer_to target value }
+{
+    match value {
+        ValueType::Any => true,
+        ValueType::Int => false,
+        ValueType::Null => true,
+        ValueType::Pointer(other) => target == other,
+    }
+}
+
+/// Whether a value may be given to a target: it has the target's type, or is null for a pointer.
+pub fn takes(target: ValueType, value: ValueType) -> bool
+    ensures { result ≡ fits.takes target value }
+{
+    match target {
+        ValueType::Any => true,
+        ValueType::Int => is_int(value),
+        ValueType::Null => is_null(value),
+        ValueType::Pointer(to) => is_pointer_to(to, value),
+    }
+}
+
+/// Whether two values may be compared by `==`: both int, pointers to one struct, or null with a
+/// pointer or null.
+fn comparable(left: ValueType, right: ValueType) -> bool
+    ensures { result ≡ fits.comparable left right }
+{
+    match left {
+        ValueType::Any => true,
+        ValueType::Int => is_int(right),
+        ValueType::Pointer(to) => is_pointer_to(to, right),
+        ValueType::Null => match right {
+            ValueType::Any => true,
+            ValueType::Null => true,
+            ValueType::Int => false,
+            ValueType::Pointer(_) => true,
+        },
+    }
+}
+
+/// Whether a binary operator takes these operands.
+pub fn joins(op: BinaryOp, left: ValueType, right: ValueType) -> bool
+    ensures { result ≡ fits.joins op left right }
+{
+    match op {
+        BinaryOp::Both => true,
+        BinaryOp::Either => true,
+        BinaryOp::Equal => comparable(left, right),
+        BinaryOp::NotEqual => comparable(left, right),
+        BinaryOp::Mul => is_int(left) && is_int(right),
+        BinaryOp::Div => is_int(left) && is_int(right),
+        BinaryOp::Rem => is_int(left) && is_int(right),
+        BinaryOp::Add => is_int(left) && is_int(right),
+        BinaryOp::Sub => is_int(left) && is_int(right),
+        BinaryOp::ShiftLeft => is_int(left) && is_int(right),
+        BinaryOp::ShiftRight => is_int(left) && is_int(right),
+        BinaryOp::Less => is_int(left) && is_int(right),
+        BinaryOp::LessEqual => is_int(left) && is_int(right),
+        BinaryOp::Greater => is_int(left) && is_int(right),
+        BinaryOp::GreaterEqual => is_int(left) && is_int(right),
+        BinaryOp::And => is_int(left) && is_int(right),
+        BinaryOp::Xor => is_int(left) && is_int(right),
+        BinaryOp::Or => is_int(left) && is_int(right),
+    }
+}
+
+/// Whether a unary operator takes this operand.
+pub fn applies(op: UnaryOp, operand: ValueType) -> bool
+    ensures { result ≡ fits.applies op operand }
+{
+    match op {
+        UnaryOp::Not => true,
+        UnaryOp::Negate => is_int(operand),
+        UnaryOp::Complement => is_int(operand),
+    }
+}
+
+/// Whether an assignment takes this target and this value.
+pub fn assigns(op: AssignOp, target: ValueType, value: ValueType) -> bool
+    ensures { result ≡ fits.assigns op target value }
+{
+    match op {
+        AssignOp::Set => takes(target, value),
+        AssignOp::Add => is_int(target) && is_int(value),
+        AssignOp::Sub => is_int(target) && is_int(value),
+    }
+}

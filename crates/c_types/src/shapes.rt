@@ -1,0 +1,90 @@
+//! The shapes of a program's pool.
+
+ghost use Rattle.std.specs.Prelude.{◌≡◌, IfOk, map, option_map};
+ghost use Rattle.std.specs.Int.{w64, cast_unsigned};
+ghost use Rattle.c_parser.specs.ItemTree.{field_of, length_of};
+ghost use Rattle.c_types.specs.Shapes as meaning;
+ghost use Rattle.c_types.specs.Views.{tables_in};
+
+use crate::layout::Layout;
+use crate::program::Program;
+use c_parser::item::{Field, Length};
+use nvm_base::Text;
+use pool_map::{FieldShape, FieldShapes, Shapes, StructShape, StructShapes};
+use std::alloc::{AllocError, Global};
+
+pub fn program_shapes(alloc: Global, program: &Program<'_>) -> Result<Shapes, AllocError>
+    ensures { IfOk result (λ s. s ≡ meaning.shapes_in (tables_in program.now)) }
+{
+    let root = root_shapes(alloc, program)?;
+    let structs = struct_shapes(alloc, program.structs())?;
+    Ok(Shapes { root, structs })
+}
+
+fn root_shapes(alloc: Global, program: &Program<'_>) -> Result<FieldShapes, AllocError>
+    ensures { IfOk result (λ s. s ≡ map meaning.field_shape (meaning.root_fields (tables_in program.now))) }
+{
+    match program.root_struct() {
+        None => Ok(FieldShapes::new(alloc)),
+        Some(at) => match program.struct_at(at) {
+            None => Ok(FieldShapes::new(alloc)),
+            Some(layout) => field_shapes(alloc, layout.fields()),
+        },
+    }
+}
+
+fn struct_shapes(alloc: Global, structs: &[Layout<'_>]) -> Result<StructShapes, AllocError>
+    ensures { IfOk result (λ s. s ≡ map meaning.struct_shape (meaning.numbered structs.now)) }
+{
+    let mut shapes = StructShapes::new(alloc);
+    for layout in structs {
+        if layout.words() <= 15 {
+            shapes.push(struct_shape(alloc, layout)?)?;
+        }
+    }
+    Ok(shapes)
+}
+
+fn struct_shape(alloc: Global, layout: &Layout<'_>) -> Result<StructShape, AllocError>
+    ensures { IfOk result (λ s. s ≡ meaning.struct_shape layout.now) }
+{
+    let name = copied(alloc, layout.name().text.as_str())?;
+    let fields = field_shapes(alloc, layout.fields())?;
+    Ok(StructShape { name, fields })
+}
+
+fn field_shapes(alloc: Global, fields: &[Field]) -> Result<FieldShapes, AllocError>
+    ensures { IfOk result (λ s. s ≡ map meaning.field_shape (map field_of fields.now)) }
+{
+    let mut shapes = FieldShapes::new(alloc);
+    for field in fields {
+        shapes.push(field_shape(alloc, field)?)?;
+    }
+    Ok(shapes)
+}
+
+fn field_shape(alloc: Global, field: &Field) -> Result<FieldShape, AllocError>
+    ensures { IfOk result (λ s. s ≡ meaning.field_shape (field_of field.now)) }
+{
+    let name = copied(alloc, field.name.text.as_str())?;
+    let length = length_shape(&field.length);
+    Ok(FieldShape { name, length })
+}
+
+fn length_shape(length: &Option<Length>) -> Option<u64>
+    ensures { result ≡ option_map (λ l. cast_unsigned w64 l.value) (option_map length_of length.now) }
+{
+    match length {
+        None => None,
+        Some(length) => Some(length.value.cast_unsigned()),
+    }
+}
+
+/// A text of its own with this content.
+pub fn copied(alloc: Global, text: &str) -> Result<Text, AllocError>
+    ensures { IfOk result (λ t. t ≡ text.now) }
+{
+    let mut copy = Text::new(alloc);
+    copy.push(text)?;
+    Ok(copy)
+}

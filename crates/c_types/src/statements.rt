@@ -1,0 +1,342 @@
+//! The rules that statements break.
+
+ghost use Rattle.std.specs.Prelude.{◌≡◌, [], false, OnOk, not, is_some, option_map};
+ghost use Rattle.std.specs.Option.{option_map_or};
+ghost use Rattle.c_parser.specs.ExprTree.{expr_of, ident_of};
+ghost use Rattle.c_parser.specs.StmtTree as tree;
+ghost use Rattle.c_types.specs.Broken.{told, unless};
+ghost use Rattle.c_types.specs.Fits as fits;
+ghost use Rattle.c_types.specs.Tables as tables;
+ghost use Rattle.c_types.specs.Expressions as expressions;
+ghost use Rattle.c_types.specs.Statements as meaning;
+ghost use Rattle.c_types.specs.Views.{tables_in};
+
+use crate::broken::{Broken, Rule, expect};
+use crate::expressions::{call, pointer_to, value};
+use crate::program::Program;
+use crate::rules::{assigns, is_int, is_pointer, takes};
+use crate::scopes::Scopes;
+use crate::value_type::ValueType;
+use c_parser::expr::{Expr, Name};
+use c_parser::stmt::{Declaration, First, Initial, Simple, Stmt, TypeName};
+use std::alloc::{AllocError, Global};
+
+/// The statements of one block, in the innermost scope, in a function that gives a value of that type
+/// or none.
+#[cycle(statements)]
+#[tactic(auto, using(crate::proofs::Behind::statements))]
+pub fn statements<'a>(
+    alloc: Global,
+    program: &Program<'a>,
+    gives: Option<ValueType>,
+    scopes: &mut Scopes<'a>,
+    all: &'a [Stmt],
+    least: &mut Option<Broken>,
+) -> Result<(), AllocError>
+    ensures scopes { OnOk result (scopes.new ≡ meaning.behind_all (tables_in program.now) (tree.statements_in all.now) scopes.old) }
+    ensures told { OnOk result (least.new ≡ told least.old (meaning.statements_broken (tables_in program.now) gives scopes.old (tree.statements_in all.now))) }
+{
+    for stmt in all {
+        statement(alloc, program, gives, scopes, stmt, least)?;
+    }
+    Ok(())
+}
+
+#[cycle(statements)]
+#[tactic(auto, using(crate::proofs::Behind::statements))]
+fn statement<'a>(
+    alloc: Global,
+    program: &Program<'a>,
+    gives: Option<ValueType>,
+    scopes: &mut Scopes<'a>,
+    stmt: &'a Stmt,
+    least: &mut Option<Broken>,
+) -> Result<(), AllocError>
+    ensures scopes { OnOk result (scopes.new ≡ meaning.behind (tables_in program.now) (tree.stmt_of stmt.now) scopes.old) }
+    ensures told { OnOk result (least.new ≡ told least.old (meaning.statement_broken (tables_in program.now) gives scopes.old (tree.stmt_of stmt.now))) }
+{
+    match stmt {
+        Stmt::Empty => Ok(()),
+        Stmt::Break => Ok(()),
+        Stmt::Continue => Ok(()),
+        Stmt::Declare(declaration) => declare(program, scopes, declaration, least),
+        Stmt::Simple(simple_stmt) => {
+            simple(program, scopes, simple_stmt, least);
+            Ok(())
+        }
+        Stmt::Block(all) => block(alloc, program, gives, scopes, all, least),
+        Stmt::If {
+            condition,
+            body,
+            other,
+        } => {
+            value(program, scopes, condition, least);
+            inside(alloc, program, gives, scopes, body, least)?;
+            match other {
+                None => Ok(()),
+                Some(other) => inside(alloc, program, gives, scopes, other, least),
+            }
+        }
+        Stmt::While { condition, body } => {
+            value(program, scopes, condition, least);
+            inside(alloc, program, gives, scopes, body, least)
+        }
+        Stmt::For {
+            first,
+            condition,
+            third,
+            body,
+        } => {
+            scopes.open(alloc)?;
+            begin(program, scopes, first, least)?;
+            optional(program, scopes, condition, least);
+            step(program, scopes, third, least);
+            statement(alloc, program, gives, scopes, body, least)?;
+            scopes.close();
+            Ok(())
+        }
+        Stmt::Return { place, value } => {
+            give(program, gives, scopes, *place, value, least);
+            Ok(())
+        }
+    }
+}
+
+/// A block in a scope of its own.
+#[cycle(statements)]
+#[tactic(auto, using(crate::proofs::Behind::statements))]
+fn block<'a>(
+    alloc: Global,
+    program: &Program<'a>,
+    gives: Option<ValueType>,
+    scopes: &mut Scopes<'a>,
+    all: &'a [Stmt],
+    least: &mut Option<Broken>,
+) -> Result<(), AllocError>
+    ensures scopes { OnOk result (scopes.new ≡ scopes.old) }
+    ensures told { OnOk result (least.new ≡ told least.old (meaning.statements_broken (tables_in program.now) gives (meaning.inside scopes.old) (tree.statements_in all.now))) }
+{
+    scopes.open(alloc)?;
+    statements(alloc, program, gives, scopes, all, least)?;
+    scopes.close();
+    Ok(())
+}
+
+/// A body in a scope of its own.
+#[cycle(statements)]
+#[tactic(auto, using(crate::proofs::Behind::statements))]
+fn inside<'a>(
+    alloc: Global,
+    program: &Program<'a>,
+    gives: Option<ValueType>,
+    scopes: &mut Scopes<'a>,
+    body: &'a Stmt,
+    least: &mut Option<Broken>,
+) -> Result<(), AllocError>
+    ensures scopes { OnOk result (scopes.new ≡ scopes.old) }
+    ensures told { OnOk result (least.new ≡ told least.old (meaning.statement_broken (tables_in program.now) gives (meaning.inside scopes.old) (tree.stmt_of body.now))) }
+{
+    scopes.open(alloc)?;
+    statement(alloc, program, gives, scopes, body, least)?;
+    scopes.close();
+    Ok(())
+}
+
+/// The first part of a `for`.
+fn begin<'a>(
+    program: &Program<'a>,
+    scopes: &mut Scopes<'a>,
+    first: &'a Option<First>,
+    least: &mut Option<Broken>,
+) -> Result<(), AllocError>
+    ensures scopes { OnOk result (scopes.new ≡ option_map_or (λ f. meaning.behind_first (tables_in program.now) f scopes.old) (option_map tree.first_of first.now) scopes.old) }
+    ensures told { OnOk result (least.new ≡ told least.old (option_map_or (meaning.first_broken (tables_in program.now) scopes.old) (option_map tree.first_of first.now) [])) }
+{
+    match first {
+        None => Ok(()),
+        Some(part) => match part {
+            First::Declare(declaration) => declare(program, scopes, declaration, least),
+            First::Simple(part) => {
+                simple(program, scopes, part, least);
+                Ok(())
+            }
+        },
+    }
+}
+
+/// The condition of a `for`.
+fn optional(
+    program: &Program<'_>,
+    scopes: &Scopes<'_>,
+    expr: &Option<Expr>,
+    least: &mut Option<Broken>,
+)
+    ensures { least.new ≡ told least.old (option_map_or (expressions.value_broken (tables_in program.now) scopes.now) (option_map expr_of expr.now) []) }
+{
+    match expr {
+        None => {}
+        Some(expr) => {
+            value(program, scopes, expr, least);
+        }
+    }
+}
+
+/// The third part of a `for`.
+fn step(
+    program: &Program<'_>,
+    scopes: &Scopes<'_>,
+    third: &Option<Simple>,
+    least: &mut Option<Broken>,
+)
+    ensures { least.new ≡ told least.old (option_map_or (meaning.simple_broken (tables_in program.now) scopes.now) (option_map tree.simple_of third.now) []) }
+{
+    match third {
+        None => {}
+        Some(third) => simple(program, scopes, third, least),
+    }
+}
+
+/// `return`, with a value exactly in a function that gives one.
+#[tactic(auto, using(crate::proofs::Told::told_append))]
+fn give(
+    program: &Program<'_>,
+    gives: Option<ValueType>,
+    scopes: &Scopes<'_>,
+    place: u64,
+    given: &Option<Expr>,
+    least: &mut Option<Broken>,
+)
+    ensures { least.new ≡ told least.old (meaning.return_broken (tables_in program.now) gives scopes.now place (option_map expr_of given.now)) }
+{
+    match given {
+        None => expect(least, !gives.is_some(), place, Rule::Mismatch),
+        Some(expr) => {
+            let given = value(program, scopes, expr, least);
+            expect(least, gives_back(gives, given), place, Rule::Mismatch);
+        }
+    }
+}
+
+fn gives_back(gives: Option<ValueType>, given: ValueType) -> bool
+    ensures { result ≡ option_map_or (λ ty. fits.takes ty given) gives false }
+{
+    match gives {
+        None => false,
+        Some(target) => takes(target, given),
+    }
+}
+
+/// The rules that a type breaks where it is written.
+pub fn written_type(program: &Program<'_>, ty: &TypeName, least: &mut Option<Broken>)
+    ensures { least.new ≡ told least.old (meaning.type_broken (tables_in program.now) (tree.type_of ty.now)) }
+{
+    match ty {
+        TypeName::Int => {}
+        TypeName::Pointer(name) => {
+            pointer_to(program, name, least);
+        }
+    }
+}
+
+/// Declares a name in the innermost scope.
+pub fn declare_name<'a>(
+    program: &Program<'a>,
+    scopes: &mut Scopes<'a>,
+    ty: &TypeName,
+    name: &'a Name,
+    least: &mut Option<Broken>,
+) -> Result<(), AllocError>
+    ensures scopes { OnOk result (scopes.new ≡ meaning.declared name.now.text (tables.declared_type (tables_in program.now) (tree.type_of ty.now)) scopes.old) }
+    ensures told { least.new ≡ told least.old (unless (not (meaning.is_declared name.now.text scopes.old)) name.now.place Rule.Twice) }
+{
+    let again = scopes.is_declared(name.text.as_str());
+    expect(least, !again, name.place, Rule::Twice);
+    let declared = program.declared_type(ty);
+    scopes.declare(name.text.as_str(), declared)
+}
+
+#[tactic(auto, using(crate::proofs::Told::told_append))]
+fn declare<'a>(
+    program: &Program<'a>,
+    scopes: &mut Scopes<'a>,
+    declaration: &'a Declaration,
+    least: &mut Option<Broken>,
+) -> Result<(), AllocError>
+    ensures scopes { OnOk result (scopes.new ≡ meaning.behind_declaration (tables_in program.now) (tree.declaration_of declaration.now) scopes.old) }
+    ensures told { least.new ≡ told least.old (meaning.declaration_broken (tables_in program.now) scopes.old (tree.declaration_of declaration.now)) }
+{
+    let target = program.declared_type(&declaration.ty);
+    written_type(program, &declaration.ty, least);
+    initialize(program, scopes, target, &declaration.initial, least);
+    declare_name(program, scopes, &declaration.ty, &declaration.name, least)
+}
+
+#[tactic(auto, using(crate::proofs::Told::told_append))]
+fn initialize(
+    program: &Program<'_>,
+    scopes: &Scopes<'_>,
+    target: ValueType,
+    initial: &Option<Initial>,
+    least: &mut Option<Broken>,
+)
+    ensures { least.new ≡ told least.old (option_map_or (meaning.initial_broken (tables_in program.now) scopes.now target) (option_map tree.initial_of initial.now) []) }
+{
+    match initial {
+        None => {}
+        Some(initial) => {
+            let given = value(program, scopes, &initial.value, least);
+            expect(least, takes(target, given), initial.place, Rule::Mismatch);
+        }
+    }
+}
+
+/// A simple statement.
+#[tactic(auto, using(crate::proofs::Told::told_append))]
+fn simple(program: &Program<'_>, scopes: &Scopes<'_>, stmt: &Simple, least: &mut Option<Broken>)
+    ensures { least.new ≡ told least.old (meaning.simple_broken (tables_in program.now) scopes.now (tree.simple_of stmt.now)) }
+{
+    match stmt {
+        Simple::Assign {
+            target,
+            op,
+            place,
+            value: given,
+        } => {
+            let to = value(program, scopes, target, least);
+            let from = value(program, scopes, given, least);
+            expect(least, assigns(*op, to, from), *place, Rule::Mismatch);
+            expect(least, is_target(target), *place, Rule::NotAssignable);
+        }
+        Simple::Step { target, place, .. } => {
+            let to = value(program, scopes, target, least);
+            expect(least, is_int(to), *place, Rule::Mismatch);
+            expect(least, is_target(target), *place, Rule::NotAssignable);
+        }
+        Simple::Call { name, arguments } => {
+            call(program, scopes, name, arguments, false, least);
+        }
+        Simple::Free { place, pointer } => {
+            let freed = value(program, scopes, pointer, least);
+            expect(least, is_pointer(freed), *place, Rule::Mismatch);
+        }
+        Simple::Abort { .. } => {}
+    }
+}
+
+/// Whether an expression is a variable, a field or an element.
+fn is_target(expr: &Expr) -> bool
+    ensures { result ≡ meaning.is_target (expr_of expr.now) }
+{
+    match expr {
+        Expr::Variable(_) => true,
+        Expr::Root(_) => true,
+        Expr::Arrow { .. } => true,
+        Expr::Index { .. } => true,
+        Expr::Number(_) => false,
+        Expr::Null => false,
+        Expr::Call { .. } => false,
+        Expr::New { .. } => false,
+        Expr::Unary { .. } => false,
+        Expr::Binary { .. } => false,
+    }
+}

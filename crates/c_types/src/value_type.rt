@@ -1,0 +1,22 @@
+//! The types of values, and what an expression denotes.
+
+/// The type of a value. Where a part of an expression was refused its type is `Any`, which breaks
+/// no rule.
+#[derive(Clone, Copy, Debug, PartialEq, Eq)]
+pub enum ValueType {
+    /// `int64_t`
+    Int,
+    /// A pointer to the struct that is defined at this place among the structs, counted from 0.
+    Pointer(u64),
+    /// `NULL`
+    Null,
+    Any,
+}
+
+/// What an expression denotes: a value, or a whole array field, which is no value.
+#[derive(Clone, Copy, Debug, PartialEq, Eq)]
+pub enum Kind {
+    Value(ValueType),
+    /// An array field, with the type of its elements and the place of its name.
+    Array { element: ValueType, place: u64 },
+}
