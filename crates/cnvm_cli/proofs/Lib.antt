@@ -1,3 +1,6 @@
 mod Digits
 mod Lines
 mod Pieces
+mod Places
+mod Playing
+mod Switch

@@ -2,10 +2,13 @@ pub mod AnswerText
 pub mod Answers
 pub mod Asked
 pub mod CallView
+pub mod Due
 pub mod Form
 pub mod Name
+pub mod Placed
 pub mod Reading
 pub mod Scan
 pub mod Script
 pub mod ScriptAnswers
+pub mod Session
 pub mod Views

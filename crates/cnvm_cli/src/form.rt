@@ -1,7 +1,7 @@
 //! The one-counter form of a program: a field, and transactions that set it or add to it. It stands in
 //! for the compiler.
 
-ghost use Rattle.std.specs.Prelude.{◌≡◌, ◌<◌, ◌++◌, ◌∷◌, [], List, ℕ, Option, Some, None, option_map, map, length, IfOk, OnOk, OnErr};
+ghost use Rattle.std.specs.Prelude.{◌≡◌, ◌<◌, ◌++◌, ◌∷◌, [], List, ℕ, Option, Some, None, option_map, map, length, ◌^◌, IfSome, IfOk, OnOk, OnErr};
 ghost use Rattle.cnvm_cli.specs.Form.{body_text, right_side, found_in};
 ghost use Rattle.cnvm_cli.specs.Reading.{name_at, kind_at, tx_at, line_onto, lines_onto, counter_behind_root, counter_at};
 ghost use Rattle.cnvm_cli.specs.Answers.{Reads};
@@ -181,7 +181,8 @@ fn transaction_at<'a>(
 
 /// The first transaction of that name.
 fn find_among(transactions: &[Transaction], name: &[u8]) -> Option<Found>
-    ensures { result ≡ found_in name.now 1 (map tx_of transactions.now) }
+    ensures found { result ≡ found_in name.now 1 (map tx_of transactions.now) }
+    ensures small { IfSome result (λ found. found.number < 2 ^ 63) }
 {
     for (at, transaction) in transactions.iter().enumerate() {
         if transaction.name.as_slice() == name {
@@ -197,7 +198,8 @@ fn find_among(transactions: &[Transaction], name: &[u8]) -> Option<Found>
 impl Form {
     /// The transaction of that name.
     pub fn find(&self, name: &[u8]) -> Option<Found>
-        ensures { result ≡ found_in name.now 1 self.now.txs }
+        ensures found { result ≡ found_in name.now 1 self.now.txs }
+        ensures small { IfSome result (λ found. found.number < 2 ^ 63) }
     {
         find_among(&self.transactions, name)
     }

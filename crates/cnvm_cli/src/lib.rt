@@ -4,13 +4,21 @@
 #![tactic(auto)]
 
 mod answer;
+mod due;
+mod exit;
 mod form;
 mod name;
+mod run;
 mod scan;
 mod script;
+mod session;
 mod words;
 
 pub use answer::{Answer, answer_text};
+pub use due::{Called, Due, adding_events, creation_events, play, setting_events};
+pub use exit::{exit_code, run_on};
 pub use form::{Form, FormFault, Found, Kind, read_form};
+pub use run::{Status, World, cnvm};
 pub use script::{Command, LineFault, Script, ScriptFault, read_script};
+pub use session::{Mode, StartFault, command, create};
 pub use words::paths_of;

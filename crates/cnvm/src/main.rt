@@ -1,0 +1,9 @@
+//! Runs the transactions of a program on a persistent pool: `cnvm run PROGRAM SCRIPT`. It stands on
+//! cnvm_cli, which does the work. It ends with the status of the run.
+#![tactic(auto)]
+
+use std::process::ExitCode;
+
+fn main(rt: HostRuntime) -> ExitCode {
+    ExitCode::from(cnvm_cli::exit_code(&rt))
+}

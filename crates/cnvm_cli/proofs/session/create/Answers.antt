@@ -1,0 +1,17 @@
+use Rattle.std.proofs.Common.{refl, sym, subst}
+use Rattle.pmem.specs.Device.{Device, Rose}
+use Rattle.cnvm_cli.specs.Session.{IsOn}
+use Rattle.cnvm_cli.proofs.Switch.{never_off, on_all, rose_part}
+use Rattle.cnvm_cli.proofs.session.create.Goals as goal
+
+pub returns-in-Ok-clause-on : goal.returns-in-Ok-clause-on
+returns-in-Ok-clause-on g c = on_all _ _ _ (subst IsOn (sym c.in_default.ensures.done) (refl, refl)) c.in-Ok.ensures.done
+
+pub returns-in-Err-Failed-clause-failed : goal.returns-in-Err-Failed-clause-failed
+returns-in-Err-Failed-clause-failed g c _ =
+    subst (λ (d : Device). Rose d.faults (g.P.PmemWork.device c.play_creation.new.dev).faults) c.in_default.ensures.done
+    (rose_part _ _ _ _ c.in-Err-Failed.field-0-is c.in-Err-Failed.ensures.refused)
+
+pub returns-in-Err-Off-clause-failed : goal.returns-in-Err-Off-clause-failed
+returns-in-Err-Off-clause-failed g c _ =
+    absurd (never_off _ _ _ _ c.in-Err-Off.field-0-is (subst IsOn (sym c.in_default.ensures.done) (refl, refl)) c.in-Err-Off.ensures.refused)
