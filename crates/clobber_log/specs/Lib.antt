@@ -1,1 +1,4 @@
 pub mod Record
+pub mod Reset
+pub mod Logs
+pub mod Append

@@ -1,0 +1,15 @@
+-- What an append answers on a device that is on: Full where all records are valid, and else how its events were played.
+use Rattle.std.specs.Prelude.{List}
+use Rattle.cache_model.specs.Event.{CacheEvent}
+use Rattle.pmem.specs.Device.{Device}
+use Rattle.pmem.specs.Played.{Played}
+use Rattle.pmem.specs.declared.answer.LogAnswer.TheVariants as log
+use Rattle.clobber_log.specs.declared.appending.AppendAnswer.{AppendAnswer}
+use Rattle.clobber_log.specs.declared.appending.AppendAnswer.TheVariants.{Done, Full, Off, Failed, NoMemory}
+
+abbrev pub Appended : AppendAnswer → Device → List CacheEvent → Device → Type 0
+Appended Done d es b = Played log.Done d es b
+Appended Full d es b = ⊥
+Appended Off d es b = Played log.Off d es b
+Appended Failed d es b = Played log.Failed d es b
+Appended NoMemory d es b = Played log.NoMemory d es b
