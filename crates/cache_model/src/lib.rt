@@ -11,3 +11,6 @@ mod line;
 pub use cache::Cache;
 pub use choice::{BadPick, Choice, Pick, Picks, Rest};
 pub use law::laws;
+
+#[cfg(test)]
+mod tests;

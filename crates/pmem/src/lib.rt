@@ -20,3 +20,6 @@ pub use fail::FailPmem;
 pub use law::laws;
 pub use sim::SimPmem;
 pub use sparse::SparsePmem;
+
+#[cfg(test)]
+mod tests;
