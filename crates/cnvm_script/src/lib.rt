@@ -13,3 +13,6 @@ mod read;
 pub use command::{Command, Script};
 pub use fault::{LineFault, ScriptFault};
 pub use read::{read_line, read_script};
+
+#[cfg(test)]
+mod tests;
