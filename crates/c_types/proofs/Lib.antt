@@ -4,3 +4,4 @@ pub mod Told
 pub mod Arguments
 pub mod Behind
 pub mod Elements
+pub mod Least

@@ -8,3 +8,4 @@ pub mod Views
 pub mod Fault
 pub mod Shapes
 pub mod Transactions
+pub mod LeastLaw

@@ -1,0 +1,28 @@
+//! What an expression denotes, for the crates above.
+
+ghost use Rattle.std.specs.Prelude.{◌≡◌};
+ghost use Rattle.c_parser.specs.ExprTree.{expr_of};
+ghost use Rattle.c_types.specs.Expressions as expressions;
+ghost use Rattle.c_types.specs.Views.{tables_in};
+
+use crate::expressions::{kind, value};
+use crate::program::Program;
+use crate::scopes::Scopes;
+use crate::value_type::{Kind, ValueType};
+use c_parser::expr::Expr;
+
+/// What an expression denotes in these scopes. It takes no memory.
+pub fn kind_of(program: &Program<'_>, scopes: &Scopes<'_>, expr: &Expr) -> Kind
+    ensures { result ≡ expressions.kind_of (tables_in program.now) scopes.now (expr_of expr.now) }
+{
+    let mut least = None;
+    kind(program, scopes, expr, &mut least)
+}
+
+/// The type of an expression that is used as a value in these scopes. It takes no memory.
+pub fn type_of(program: &Program<'_>, scopes: &Scopes<'_>, expr: &Expr) -> ValueType
+    ensures { result ≡ expressions.type_of (tables_in program.now) scopes.now (expr_of expr.now) }
+{
+    let mut least = None;
+    value(program, scopes, expr, &mut least)
+}
