@@ -42,6 +42,19 @@ const NEW_POOL: [(u64, i64); 9] = [
     (56, 5),
 ];
 
+/// What the pool of the first version is moved to.
+const MOVED_POOL: [(u64, i64); 9] = [
+    (1, 2),
+    (16, 5),
+    (17, 1),
+    (56, 5),
+    NONE,
+    NONE,
+    NONE,
+    NONE,
+    NONE,
+];
+
 /// A sealed pool whose first two records are valid.
 const SEALED_POOL: [(u64, i64); 9] = [
     (1, 2),
@@ -71,25 +84,33 @@ fn head(wanted: &Wanted) -> [(u64, i64); 9] {
     ]
 }
 
+/// Writes a word of an image, where it is there.
+fn put(words: &mut Vec<i64>, word: u64, value: i64) {
+    if let Some(place) = words.get_mut(word as usize) {
+        *place = value;
+    }
+}
+
 /// An image of this length in bytes, zero but for these words, the later ones first.
 fn image(
     alloc: Global,
     length: usize,
     wanted: &Wanted,
-    pool: &[(u64, i64)],
-    changes: &[(u64, i64)],
+    pool: [(u64, i64); 9],
+    changes: [(u64, i64); 2],
 ) -> Result<Vec<u8>, AllocError> {
     let mut words: Vec<i64> = Vec::new(alloc);
     for _ in 0..length / 8 + 1 {
         words.push(0)?;
     }
-    let head = head(wanted);
-    for part in [&head[..], pool, changes] {
-        for (word, value) in part {
-            if let Some(place) = words.get_mut(*word as usize) {
-                *place = *value;
-            }
-        }
+    for (word, value) in head(wanted) {
+        put(&mut words, word, value);
+    }
+    for (word, value) in pool {
+        put(&mut words, word, value);
+    }
+    for (word, value) in changes {
+        put(&mut words, word, value);
     }
     let mut bytes = Vec::from_slice(alloc, image_bytes(alloc, &words)?.as_slice())?;
     bytes.truncate(length);
@@ -117,7 +138,12 @@ fn small_images_are_read_by_rule(rt: HostRuntime) -> Result<(), Fail> {
         return Ok(());
     };
     let wanted = wanted_of(sizes, 1, 1);
-    let other = [3483955440803133307, 0, 0, 1];
+    let other = [
+        3483955440803133307,
+        0,
+        3855635240822568736,
+        5102681063806287170,
+    ];
     for (pool, length, changes, want) in [
         // the first version
         (OLD_POOL, 512, [NONE, NONE], None),
@@ -258,37 +284,22 @@ fn small_images_are_read_by_rule(rt: HostRuntime) -> Result<(), Fail> {
             Some(ImageFault::Content(17, -1)),
         ),
     ] {
-        let bytes = image(alloc, length, &wanted, &pool, &changes)?;
+        let bytes = image(alloc, length, &wanted, pool, changes)?;
         assert_eq!(rt;
             fault_of(alloc, &bytes, &wanted),
             want,
             "{length} {changes:?}"
         );
     }
-    let bytes = image(
-        alloc,
-        640,
-        &wanted,
-        &NEW_POOL,
-        &[(9, 0), (10, 0), (11, 1), (17, -1)],
-    )?;
+    let bytes = image(alloc, 640, &wanted, NEW_POOL, [(9, 0), (17, -1)])?;
     assert_eq!(rt;
         fault_of(alloc, &bytes, &wanted),
         Some(ImageFault::Digest(other, wanted.digest))
     );
 
-    let moved = read_image(
-        alloc,
-        &image(alloc, 512, &wanted, &OLD_POOL, &[NONE])?,
-        &wanted,
-    );
-    let second = image(
-        alloc,
-        640,
-        &wanted,
-        &[(1, 2), (16, 5), (17, 1), (56, 5)],
-        &[NONE],
-    )?;
+    let first = image(alloc, 512, &wanted, OLD_POOL, [NONE, NONE])?;
+    let moved = read_image(alloc, &first, &wanted);
+    let second = image(alloc, 640, &wanted, MOVED_POOL, [NONE, NONE])?;
     match moved {
         Ok(words) => assert_eq!(rt;
             image_bytes(alloc, words.as_slice())?.as_slice(),
@@ -355,7 +366,7 @@ fn content_is_judged_by_rule(rt: HostRuntime) -> Result<(), Fail> {
         ([(87, -1), (89, 4)], None),
         ([(72, i64::MIN), (119, i64::MAX)], None),
     ] {
-        let bytes = image(alloc, 960, &wanted, &SEALED_POOL, &changes)?;
+        let bytes = image(alloc, 960, &wanted, SEALED_POOL, changes)?;
         let want = want.map(|(word, value)| ImageFault::Content(word, value));
         assert_eq!(rt; fault_of(alloc, &bytes, &wanted), want, "{changes:?}");
     }
