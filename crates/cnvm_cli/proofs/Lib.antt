@@ -3,4 +3,6 @@ mod Lines
 mod Pieces
 mod Places
 mod Playing
+mod Running
 mod Switch
+mod Verdicts

@@ -7,8 +7,11 @@ pub mod Form
 pub mod Name
 pub mod Placed
 pub mod Reading
+pub mod Run
 pub mod Scan
 pub mod Script
 pub mod ScriptAnswers
 pub mod Session
+pub mod Texts
+pub mod Verdict
 pub mod Views

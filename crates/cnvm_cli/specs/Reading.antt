@@ -70,7 +70,7 @@ counter_behind_field f =
     option_and_then (counter_behind_root f.0) (behind (codes "; };\npersistent struct R root;\n") f.1)
 
 -- the whole text
-abbrev pub counter_at : List ℕ → Option Counter
+unfoldable pub counter_at : List ℕ → Option Counter
 counter_at text =
     option_and_then (λ rest. option_and_then counter_behind_field (name_at rest))
     (behind (codes "struct R { int64_t ") text)

@@ -113,5 +113,5 @@ read_onto calls number (line ∷ lines) = by_meaning (meaning (words_of line)) n
     (read_onto calls (number + 1) lines) (λ call. read_onto (calls ++ call ∷ []) (number + 1) lines)
 
 -- a script's text; its lines are counted from 1
-abbrev pub script_of : List ℕ → Reading
+unfoldable pub script_of : List ℕ → Reading
 script_of text = read_onto [] 1 (lines_of text)

@@ -250,6 +250,7 @@ fn with_lines(alloc: Global, field: &[u8], text: &[u8]) -> Result<Form, FormFaul
 }
 
 /// The program that the text is.
+#[tactic(auto, unfolding(crate::specs::Reading::counter_at))]
 pub fn read_form(alloc: Global, text: &[u8]) -> Result<Form, FormFault>
     ensures { Reads (λ form. form) result (counter_at text.now) }
 {

@@ -1,21 +1,28 @@
 //! The top call.
 
-ghost use Rattle.std.specs.Prelude.{◌≡◌, ◌⊎◌, ◌≢◌, ◌≤◌, IsErrOf, None, map, string_bytes};
+ghost use Rattle.std.specs.Prelude.{◌≡◌, ◌⊎◌, ◌≢◌, ◌≤◌, ◌^◌, ℕ, List, OnOk, OnErr, IfOk, IsErrOf, None, Some, map, string_bytes};
+ghost use Rattle.std.specs.Io.KnownBytes.{Appends};
+ghost use Rattle.nvm_base.specs.Parts.{AppendsPart};
 ghost use Rattle.nvm_base.specs.Rose.{Rose};
 ghost use Rattle.pmem.specs.Device as device;
 ghost use Rattle.pool_layout.specs.Sizes as sizes_of;
 ghost use Rattle.cnvm_cli.specs.Asked.{asked};
+ghost use Rattle.cnvm_cli.specs.AnswerText.{answer_text};
+ghost use Rattle.cnvm_cli.specs.CallView.{call_view};
 ghost use Rattle.cnvm_cli.specs.Session.{IsOn};
+ghost use Rattle.cnvm_cli.specs.Texts.{TextIs, CompiledAs, CallsAs, ProgramIs, ScriptIs, PreparedAs};
+ghost use Rattle.cnvm_cli.specs.Verdict.{refusal_line, by_texts, verdict};
+ghost use Rattle.cnvm_cli.specs.Run.{IsDefault, RunsAll, RunsPart, RanAs, RefusedAs, EndsAs};
 
 use crate::answer::{Answer, answer_text};
 use crate::form::{Form, FormFault, read_form};
 use crate::script::{Command, Script, ScriptFault, read_script};
 use crate::session::{Mode, StartFault, command, create};
 use crate::words::paths_of;
-use nvm_base::{ReadAllFault, Sink, Source, read_all, write_all};
+use nvm_base::{Bytes, ReadAllFault, Sink, Source, read_all, write_all};
 use pmem::{Pmem, PmemWork};
 use pool_layout::{Sizes, digest};
-use std::alloc::Global;
+use std::alloc::{AllocError, Global};
 
 /// The most bytes of a program's text.
 const PROGRAM_LIMIT: usize = 262144;
@@ -100,42 +107,87 @@ struct Compiled {
 /// The usage line.
 const USAGE: &str = "usage: cnvm run PROGRAM SCRIPT | list PROGRAM | storm PROGRAM START COUNT\n";
 
-/// Reads the program to its end.
-fn read_program<S: Source>(alloc: Global, source: &mut S) -> Result<Compiled, Refused>
-    ensures read { IsErrOf result Refused.ReadFault → Rose (S.faults source.old) (S.faults source.new) }
-    ensures usage { IsErrOf result Refused.Usage → ⊥ }
+/// All bytes of the source, where they are within the limit.
+fn read_text<S: Source>(alloc: Global, source: &mut S, limit: usize) -> Result<Bytes, ReadAllFault>
+    requires { limit ≤ 2 ^ 31 }
+    ensures told { (text : List ℕ) → S.left source.old ≡ Some text → TextIs limit result text }
+    ensures read { IsErrOf result ReadAllFault.ReadFault → Rose (S.faults source.old) (S.faults source.new) }
 {
-    let text = match read_all(alloc, source, PROGRAM_LIMIT) {
-        Ok(text) => text,
-        Err(ReadAllFault::ReadFault) => return Err(Refused::ReadFault),
-        Err(ReadAllFault::Long) => return Err(Refused::LongProgram),
-        Err(ReadAllFault::NoMemory) => return Err(Refused::NoMemory),
-    };
-    match read_form(alloc, text.as_slice()) {
+    read_all(alloc, source, limit)
+}
+
+/// The program that a text is, with the text's digest.
+fn compile(alloc: Global, text: &[u8]) -> Result<Compiled, Refused>
+    ensures { CompiledAs result text.now }
+{
+    match read_form(alloc, text) {
         Ok(form) => Ok(Compiled {
             form,
-            digest: digest(text.as_slice()),
+            digest: digest(text),
         }),
         Err(FormFault::NotYet) => Err(Refused::Program),
         Err(FormFault::NoMemory) => Err(Refused::NoMemory),
     }
 }
 
+/// The calls of a script's text.
+fn calls_of(alloc: Global, text: &[u8]) -> Result<Script, Refused>
+    ensures { CallsAs result text.now }
+{
+    match read_script(alloc, text) {
+        Ok(script) => Ok(script),
+        Err(ScriptFault::BadLine(line)) => Err(Refused::Script(line)),
+        Err(ScriptFault::NoMemory) => Err(Refused::NoMemory),
+    }
+}
+
+/// Reads the program to its end.
+fn read_program<S: Source>(alloc: Global, source: &mut S) -> Result<Compiled, Refused>
+    ensures told { (text : List ℕ) → S.left source.old ≡ Some text → ProgramIs result text }
+    ensures read { IsErrOf result Refused.ReadFault → Rose (S.faults source.old) (S.faults source.new) }
+    ensures usage { IsErrOf result Refused.Usage → ⊥ }
+{
+    let text = match read_text(alloc, source, PROGRAM_LIMIT) {
+        Ok(text) => text,
+        Err(ReadAllFault::ReadFault) => return Err(Refused::ReadFault),
+        Err(ReadAllFault::Long) => return Err(Refused::LongProgram),
+        Err(ReadAllFault::NoMemory) => return Err(Refused::NoMemory),
+    };
+    compile(alloc, text.as_slice())
+}
+
 /// Reads the script to its end.
 fn read_calls<T: Source>(alloc: Global, source: &mut T) -> Result<Script, Refused>
+    ensures told { (text : List ℕ) → T.left source.old ≡ Some text → ScriptIs result text }
     ensures read { IsErrOf result Refused.ReadFault → Rose (T.faults source.old) (T.faults source.new) }
     ensures usage { IsErrOf result Refused.Usage → ⊥ }
 {
-    let text = match read_all(alloc, source, SCRIPT_LIMIT) {
+    let text = match read_text(alloc, source, SCRIPT_LIMIT) {
         Ok(text) => text,
         Err(ReadAllFault::ReadFault) => return Err(Refused::ReadFault),
         Err(ReadAllFault::Long) => return Err(Refused::LongScript),
         Err(ReadAllFault::NoMemory) => return Err(Refused::NoMemory),
     };
-    match read_script(alloc, text.as_slice()) {
-        Ok(script) => Ok(script),
-        Err(ScriptFault::BadLine(line)) => Err(Refused::Script(line)),
-        Err(ScriptFault::NoMemory) => Err(Refused::NoMemory),
+    calls_of(alloc, text.as_slice())
+}
+
+/// Reads the program, and then the script.
+fn read_job<S: Source, T: Source>(
+    alloc: Global,
+    program: &mut S,
+    script: &mut T,
+) -> Result<Job, Refused>
+    ensures told { (text lines : List ℕ) → S.left program.old ≡ Some text → T.left script.old ≡ Some lines → PreparedAs result (by_texts text lines) }
+    ensures read { IsErrOf result Refused.ReadFault → Rose (S.faults program.old) (S.faults program.new) ⊎ Rose (T.faults script.old) (T.faults script.new) }
+    ensures usage { IsErrOf result Refused.Usage → ⊥ }
+{
+    let compiled = match read_program(alloc, program) {
+        Ok(compiled) => compiled,
+        Err(why) => return Err(why),
+    };
+    match read_calls(alloc, script) {
+        Ok(script) => Ok(Job { compiled, script }),
+        Err(why) => Err(why),
     }
 }
 
@@ -146,22 +198,23 @@ fn prepare<S: Source, T: Source>(
     program: &mut S,
     script: &mut T,
 ) -> Result<Job, Refused>
+    ensures told { (text lines : List ℕ) → S.left program.old ≡ Some text → T.left script.old ≡ Some lines → PreparedAs result (verdict (map string_bytes words.entry.now) text lines) }
     ensures read { IsErrOf result Refused.ReadFault → Rose (S.faults program.old) (S.faults program.new) ⊎ Rose (T.faults script.old) (T.faults script.new) }
     ensures usage { IsErrOf result Refused.Usage → asked (map string_bytes words.entry.now) ≡ None }
     ensures wrong { asked (map string_bytes words.entry.now) ≡ None → IsErrOf result Refused.Usage }
 {
-    if paths_of(words).is_none() {
-        return Err(Refused::Usage);
+    match paths_of(words) {
+        None => Err(Refused::Usage),
+        Some(_) => read_job(alloc, program, script),
     }
-    let compiled = read_program(alloc, program)?;
-    let script = read_calls(alloc, script)?;
-    Ok(Job { compiled, script })
 }
 
 /// Writes the text; the status is this one, unless the sink failed.
 fn put<K: Sink>(out: &mut K, text: &str, status: Status) -> Status
     ensures status { (result ≡ status) ⊎ (result ≡ Status.WriteFault) }
     ensures write { result ≡ Status.WriteFault → (status ≡ Status.WriteFault) ⊎ Rose (K.faults out.old) (K.faults out.new) }
+    ensures whole { result ≢ Status.WriteFault → Appends (K.written out.old) (K.written out.new) text.now }
+    ensures part { result ≡ Status.WriteFault → (status ≡ Status.WriteFault) ⊎ AppendsPart (K.written out.old) (K.written out.new) text.now }
 {
     match write_all(out, text.as_bytes()) {
         Ok(()) => status,
@@ -169,7 +222,15 @@ fn put<K: Sink>(out: &mut K, text: &str, status: Status) -> Status
     }
 }
 
+/// The line that names a bad line of the script.
+fn script_line(alloc: Global, line: u64) -> Result<String, AllocError>
+    ensures { IfOk result (λ s. string_bytes s ≡ refusal_line (Refused.Script line)) }
+{
+    format!(in alloc; "script line {line}\n")
+}
+
 /// The line of a refusal, and its status.
+#[tactic(auto, using(crate::proofs::Running::keeps_same))]
 fn refuse<K: Sink>(alloc: Global, refused: Refused, out: &mut K) -> Status
     ensures read { result ≡ Status.ReadFault → refused ≡ Refused.ReadFault }
     ensures write { result ≡ Status.WriteFault → Rose (K.faults out.old) (K.faults out.new) }
@@ -177,13 +238,14 @@ fn refuse<K: Sink>(alloc: Global, refused: Refused, out: &mut K) -> Status
     ensures done { result ≢ Status.Done }
     ensures usage { result ≡ Status.Usage → refused ≡ Refused.Usage }
     ensures wrong { refused ≡ Refused.Usage → (result ≡ Status.Usage) ⊎ (result ≡ Status.WriteFault) }
+    ensures ends { RefusedAs refused result (K.written out.old) (K.written out.new) }
 {
     match refused {
         Refused::Usage => put(out, USAGE, Status::Usage),
         Refused::LongProgram => put(out, "program too long\n", Status::Program),
         Refused::Program => put(out, "program not yet\n", Status::Program),
         Refused::LongScript => put(out, "script too long\n", Status::Script),
-        Refused::Script(line) => match format!(in alloc; "script line {line}\n") {
+        Refused::Script(line) => match script_line(alloc, line) {
             Ok(text) => put(out, text.as_str(), Status::Script),
             Err(_) => Status::NoMemory,
         },
@@ -194,6 +256,8 @@ fn refuse<K: Sink>(alloc: Global, refused: Refused, out: &mut K) -> Status
 
 /// The line of an answer, written whole.
 fn put_answer<K: Sink>(alloc: Global, answer: Answer, out: &mut K) -> Result<(), Unanswered>
+    ensures whole { OnOk result (Appends (K.written out.old) (K.written out.new) (answer_text answer)) }
+    ensures part { OnErr result (AppendsPart (K.written out.old) (K.written out.new) (answer_text answer)) }
     ensures write { IsErrOf result Unanswered.WriteFault → Rose (K.faults out.old) (K.faults out.new) }
     ensures count { K.faults out.old ≤ K.faults out.new }
 {
@@ -225,6 +289,8 @@ fn answer_all<K: Sink, P: PmemWork>(
 ) -> Result<(), Unanswered>
     requires on { IsOn (P.device dev.old) }
     requires lines { (P.device dev.old).lines ≡ sizes_of.pool_lines sizes.now }
+    ensures whole { OnOk result ((m : Mode) × RunsAll form.now sizes.now (map call_view calls.now) start (P.device dev.old) (K.written out.old) m (P.device dev.new) (K.written out.new)) }
+    ensures part { OnErr result (RunsPart form.now sizes.now (map call_view calls.now) start (P.device dev.old) (K.written out.old) (P.device dev.new) (K.written out.new)) }
     ensures write { IsErrOf result Unanswered.WriteFault → Rose (K.faults out.old) (K.faults out.new) }
 {
     let mut mode = start;
@@ -238,16 +304,22 @@ fn answer_all<K: Sink, P: PmemWork>(
 }
 
 /// Creates the pool and answers the script.
-fn run<K: Sink, P: Pmem>(alloc: Global, job: &Job, out: &mut K, dev: &mut P) -> Status
+#[tactic(auto, using(crate::proofs::Running::keeps_same))]
+fn run_on_pool<K: Sink, P: Pmem>(
+    alloc: Global,
+    job: &Job,
+    sizes: &Sizes,
+    out: &mut K,
+    dev: &mut P,
+) -> Status
+    requires { IsDefault sizes.now }
     ensures read { result ≢ Status.ReadFault }
     ensures usage { result ≢ Status.Usage }
     ensures write { result ≡ Status.WriteFault → Rose (K.faults out.old) (K.faults out.new) }
     ensures device { result ≡ Status.DeviceFault → device.Rose (P.device dev.old).faults (P.device dev.new).faults }
+    ensures ends { RanAs job.now.compiled.form job.now.compiled.digest job.now.script result (K.written out.old) (K.written out.new) (P.device dev.old) (P.device dev.new) }
 {
-    let Some(sizes) = Sizes::new(1024, 256, 1, 100_000) else {
-        return Status::NoMemory;
-    };
-    let mode = match create(&sizes, &job.compiled.digest, dev) {
+    let mode = match create(sizes, &job.compiled.digest, dev) {
         Ok(mode) => mode,
         Err(StartFault::Failed) => return Status::DeviceFault,
         Err(StartFault::NoMemory) => return Status::NoMemory,
@@ -255,7 +327,7 @@ fn run<K: Sink, P: Pmem>(alloc: Global, job: &Job, out: &mut K, dev: &mut P) -> 
     match answer_all(
         alloc,
         &job.compiled.form,
-        &sizes,
+        sizes,
         job.script.as_slice(),
         mode,
         out,
@@ -264,6 +336,21 @@ fn run<K: Sink, P: Pmem>(alloc: Global, job: &Job, out: &mut K, dev: &mut P) -> 
         Ok(()) => Status::Done,
         Err(Unanswered::NoMemory) => Status::NoMemory,
         Err(Unanswered::WriteFault) => Status::WriteFault,
+    }
+}
+
+/// Runs the job on a pool of the default sizes.
+#[tactic(auto, using(crate::proofs::Running::keeps_same))]
+fn run<K: Sink, P: Pmem>(alloc: Global, job: &Job, out: &mut K, dev: &mut P) -> Status
+    ensures read { result ≢ Status.ReadFault }
+    ensures usage { result ≢ Status.Usage }
+    ensures write { result ≡ Status.WriteFault → Rose (K.faults out.old) (K.faults out.new) }
+    ensures device { result ≡ Status.DeviceFault → device.Rose (P.device dev.old).faults (P.device dev.new).faults }
+    ensures ends { RanAs job.now.compiled.form job.now.compiled.digest job.now.script result (K.written out.old) (K.written out.new) (P.device dev.old) (P.device dev.new) }
+{
+    match Sizes::new(1024, 256, 1, 100_000) {
+        Some(sizes) => run_on_pool(alloc, job, &sizes, out, dev),
+        None => Status::NoMemory,
     }
 }
 
@@ -279,6 +366,7 @@ pub fn cnvm<S: Source, T: Source, I: Source, K: Sink, O: Sink, P: Pmem>(
     ensures device { result ≡ Status.DeviceFault → device.Rose (P.device world.old.dev).faults (P.device world.new.dev).faults }
     ensures usage { result ≡ Status.Usage → asked (map string_bytes words.entry.now) ≡ None }
     ensures wrong { asked (map string_bytes words.entry.now) ≡ None → (result ≡ Status.Usage) ⊎ (result ≡ Status.WriteFault) }
+    ensures ends { (text lines : List ℕ) → S.left world.old.program ≡ Some text → T.left world.old.script ≡ Some lines → EndsAs (verdict (map string_bytes words.entry.now) text lines) result (K.written world.old.out) (K.written world.new.out) (P.device world.old.dev) (P.device world.new.dev) }
 {
     match prepare(alloc, words, &mut world.program, &mut world.script) {
         Ok(job) => run(alloc, &job, &mut world.out, &mut world.dev),

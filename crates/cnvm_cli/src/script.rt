@@ -274,6 +274,7 @@ impl Script {
 }
 
 /// The script that the text is, or its first bad line.
+#[tactic(auto, unfolding(crate::specs::Script::script_of))]
 pub fn read_script(alloc: Global, text: &[u8]) -> Result<Script, ScriptFault>
     ensures { ScriptReads (λ script. script) result (script_of text.now) }
 {
