@@ -1,1 +1,14 @@
 pub mod Trees
+pub mod Stack
+pub mod Steps
+pub mod Lines
+pub mod Prefix
+pub mod Forward
+pub mod ForwardStmt
+pub mod ForwardItem
+pub mod Laws
+pub mod Flat
+pub mod Back
+pub mod Finish
+pub mod Viable
+pub mod Accepting

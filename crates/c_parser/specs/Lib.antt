@@ -2,3 +2,12 @@ pub mod ExprTree
 pub mod StmtTree
 pub mod ItemTree
 pub mod Program
+pub mod Kinds
+pub mod Wants
+pub mod Weight
+pub mod Run
+pub mod Operators
+pub mod Spelling
+pub mod StmtSpelling
+pub mod ItemSpelling
+pub mod Exact

@@ -1,9 +1,11 @@
 //! The tree of a whole program.
 
-ghost use Rattle.std.specs.Prelude.{◌≡◌, length};
+ghost use Rattle.std.specs.Prelude.{◌≡◌, IfOk, length, map};
 ghost use Rattle.c_parser.specs.Program.{line_of};
 
 use crate::item::Item;
+use c_lexer::TokenList;
+use std::alloc::{AllocError, Global};
 use std::marker::Model;
 
 /// The tree of a program, with the lines of its tokens. Only `parse` makes one.
@@ -28,6 +30,25 @@ impl Model for Ast {
 }
 
 impl Ast {
+    /// The tree of these items, with the lines of their tokens.
+    #[tactic(auto, using(crate::proofs::Lines::lines))]
+    pub(crate) fn new(
+        alloc: Global,
+        items: Vec<Item>,
+        tokens: &TokenList,
+    ) -> Result<Self, AllocError>
+        ensures items { IfOk result (λ a. a.all ≡ items.items) }
+        ensures last { IfOk result (λ a. a.last ≡ tokens.now.last) }
+        ensures lines { IfOk result (λ a. a.lines ≡ map (λ placed. placed.line) tokens.now.tokens) }
+    {
+        let mut lines = Vec::new(alloc);
+        for place in 0..tokens.len() {
+            lines.push(tokens.line(place))?;
+        }
+        let end = tokens.line(tokens.len());
+        Ok(Ast { items, lines, end })
+    }
+
     /// The items of the program, in the text's order.
     pub fn items(&self) -> &[Item]
         ensures { result.now ≡ self.now.all }

@@ -1,5 +1,9 @@
 //! Why a list of tokens is refused.
 
+ghost use Rattle.std.specs.Prelude.{◌≡◌};
+ghost use Rattle.c_parser.specs.declared.fault.ParseFault.TheVariants.{NoMemory};
+
+use std::alloc::{AllocError, AllocFailed};
 use thiserror::Error;
 
 /// Why no tree is answered. A place is that of a token, counted from 0; the list's length is the
@@ -14,4 +18,20 @@ pub enum ParseFault {
     TooDeep(u64),
     #[error("no memory")]
     NoMemory,
+}
+
+impl<T: Drop> From<AllocFailed<T>> for ParseFault {
+    ghost from_gives = { λ _ f. f ≡ NoMemory };
+
+    fn from(_: AllocFailed<T>) -> Self {
+        ParseFault::NoMemory
+    }
+}
+
+impl From<AllocError> for ParseFault {
+    ghost from_gives = { λ _ f. f ≡ NoMemory };
+
+    fn from(_: AllocError) -> Self {
+        ParseFault::NoMemory
+    }
 }

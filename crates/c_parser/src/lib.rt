@@ -3,10 +3,18 @@
 #![tactic(auto)]
 
 mod ast;
+mod build_expr;
+mod build_item;
+mod build_stmt;
 pub mod expr;
 mod fault;
 pub mod item;
+mod judge;
+mod kind;
+mod parser;
 pub mod stmt;
+mod want;
 
 pub use ast::Ast;
 pub use fault::ParseFault;
+pub use parser::parse;

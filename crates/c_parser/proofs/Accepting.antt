@@ -1,0 +1,45 @@
+-- What is accepted is spelled, and what is spelled and light is accepted.
+use Rattle.std.proofs.Common.{ℕ, ◌+◌, ◌≡◌, List, [], ◌∷◌, length, Option, Some, None, Bool, true, false, nat_lt, sym, ◌∙◌, subst, Result, Ok, Err, IfErr}
+use Rattle.std.specs.Result.{IsErrAnd}
+use Rattle.c_lexer.specs.declared.token.Placed.{Placed}
+use Rattle.c_parser.specs.declared.fault.ParseFault.{ParseFault}
+use Rattle.c_parser.specs.declared.fault.ParseFault.TheVariants as fault
+use Rattle.c_parser.specs.declared.kind.Kind.TheVariants as kind
+use Rattle.c_parser.specs.declared.want.Want.{Want}
+use Rattle.c_parser.specs.declared.want.Want.TheVariants.{Items}
+use Rattle.c_parser.specs.Kinds.{token_kind}
+use Rattle.c_parser.specs.ItemTree.{ItemTree}
+use Rattle.c_parser.specs.ItemSpelling.{SpellsProgram}
+use Rattle.c_parser.specs.Wants.{step}
+use Rattle.c_parser.specs.Weight.{weight}
+use Rattle.c_parser.specs.Run.{Accepted, weighed, ends, goes, run_from, run, Refuses}
+use Rattle.c_parser.specs.Exact.{weights, LightBefore, Spelled}
+use Rattle.c_parser.proofs.Back.{spelled}
+use Rattle.c_parser.proofs.Laws.{run_whole, accepted_where_light, only_memory}
+
+accepted_unlimited : (ts : List Placed) (p : ℕ) (k : List Want) → run_from (Some 64) ts p k ≡ Accepted → run_from None ts p k ≡ Accepted
+accepted_unlimited [] p k h = h
+accepted_unlimited (x ∷ xs) p k h = go (step k (token_kind x.token)) h (λ s h. accepted_unlimited xs (p + 1) s h)
+  where
+    go : (o : Option (List Want)) → goes (Some 64) p o (λ s. run_from (Some 64) xs (p + 1) s) ≡ Accepted
+        → ((s : List Want) → run_from (Some 64) xs (p + 1) s ≡ Accepted → run_from None xs (p + 1) s ≡ Accepted)
+        → goes None p o (λ s. run_from None xs (p + 1) s) ≡ Accepted
+    go None h more = cc
+    go (Some s) h more = at (nat_lt 64 (weight s)) h
+      where
+        at : (b : Bool) → weighed b p (run_from (Some 64) xs (p + 1) s) ≡ Accepted → run_from None xs (p + 1) s ≡ Accepted
+        at true h = cc
+        at false h = more s h
+
+pub spelled_where_accepted : (ts : List Placed) → run (Some 64) ts 0 (Items ∷ []) ≡ Accepted → Spelled ts
+spelled_where_accepted ts h =
+    spelled ts (run_whole None ts (Items ∷ []) ∙ accepted_unlimited ts 0 (Items ∷ []) (sym (run_whole (Some 64) ts (Items ∷ [])) ∙ h))
+
+pub answered_at : (ts : List Placed) (f : ParseFault) → Refuses f (run (Some 64) ts 0 (Items ∷ [])) → (xs : List ItemTree) → SpellsProgram ts xs
+    → LightBefore (weights ts) (length ts) → f ≡ fault.NoMemory
+answered_at ts f h xs spells light = only_memory f (run (Some 64) ts 0 (Items ∷ [])) (accepted_where_light ts xs spells light) h
+
+-- what holds of a callee's fault holds of the answer that hands it on
+pub through_err : {A : Type 0} (r : Result A ParseFault) (f : ParseFault) (P : ParseFault → Type 0) → IsErrAnd r (λ e. e ≡ f) → P f → IfErr r P
+through_err (Ok x) f P h g = absurd h
+through_err (Err e) f P h g = subst P (sym h) g

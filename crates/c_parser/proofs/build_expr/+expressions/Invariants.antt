@@ -1,0 +1,40 @@
+use Rattle.std.proofs.Common.{ℕ, ◌+◌, ◌*◌, ◌-◌, ◌≤◌, length}
+use Rattle.c_parser.proofs.build_expr.+expressions.Given as goal
+
+-- what is left to read, and a rank among the functions that read nothing before they call
+abbrev pub decreases-expression : goal.decreases-expression
+decreases-expression l = 16 * (length l.tokens.now.tokens + 2 - l.at) + 14
+
+abbrev pub decreases-binary : goal.decreases-binary
+decreases-binary l = 16 * (length l.tokens.now.tokens + 2 - l.at) + l.level + 3
+
+abbrev pub decreases-unary : goal.decreases-unary
+decreases-unary l = 16 * (length l.tokens.now.tokens + 2 - l.at) + 2
+
+abbrev pub decreases-postfix : goal.decreases-postfix
+decreases-postfix l = 16 * (length l.tokens.now.tokens + 2 - l.at) + 1
+
+abbrev pub decreases-parts : goal.decreases-parts
+decreases-parts l = 16 * (length l.tokens.now.tokens + 2 - l.at)
+
+abbrev pub decreases-primary : goal.decreases-primary
+decreases-primary l = 16 * (length l.tokens.now.tokens + 2 - l.at)
+
+abbrev pub decreases-arguments : goal.decreases-arguments
+decreases-arguments l = 16 * (length l.tokens.now.tokens + 2 - l.at) + 15
+
+abbrev pub invariant-binary-loop-op : goal.invariant-binary-loop-op
+invariant-binary-loop-op l = record {
+  stays : l.at ≤ l.place;
+}
+
+abbrev pub decreases-binary-loop-op : goal.decreases-binary-loop-op
+decreases-binary-loop-op l = length l.tokens.tokens + 1 - l.place
+
+abbrev pub invariant-arguments-others : goal.invariant-arguments-others
+invariant-arguments-others l = record {
+  stays : l.at ≤ l.place;
+}
+
+abbrev pub decreases-arguments-others : goal.decreases-arguments-others
+decreases-arguments-others l = length l.tokens.tokens + 1 - l.place

@@ -1,0 +1,220 @@
+//! Expressions, built from tokens that were judged before. Where a token stands that no program
+//! has there, some tree is built all the same.
+
+ghost use Rattle.std.specs.Prelude.{◌≡◌, ◌<◌, ◌≤◌, ◌+◌, length, IfOk, IsSome};
+ghost use Rattle.c_parser.specs.Kinds as kinds;
+ghost use Rattle.c_parser.specs.Operators.{level_of, op_at, sign_of};
+
+use crate::expr::{Argument, BinaryOp, Expr, Name, UnaryOp};
+use crate::kind::{Kind, behind, kind_at, name_at, value_at};
+use c_lexer::TokenList;
+use std::alloc::{AllocError, Global};
+
+/// The levels of binary operators; 1 binds tightest.
+pub const LEVELS: u8 = 10;
+
+fn level(op: BinaryOp) -> u8
+    ensures { result ≡ level_of op }
+{
+    match op {
+        BinaryOp::Mul | BinaryOp::Div | BinaryOp::Rem => 1,
+        BinaryOp::Add | BinaryOp::Sub => 2,
+        BinaryOp::ShiftLeft | BinaryOp::ShiftRight => 3,
+        BinaryOp::Less | BinaryOp::LessEqual | BinaryOp::Greater | BinaryOp::GreaterEqual => 4,
+        BinaryOp::Equal | BinaryOp::NotEqual => 5,
+        BinaryOp::And => 6,
+        BinaryOp::Xor => 7,
+        BinaryOp::Or => 8,
+        BinaryOp::Both => 9,
+        BinaryOp::Either => 10,
+    }
+}
+
+/// The operator of a level that stands at a place.
+fn operator_at(tokens: &TokenList, at: u64, wanted: u8) -> Option<BinaryOp>
+    ensures op { result ≡ op_at wanted (kinds.kind_at tokens.now.tokens at) }
+    ensures inside { IsSome result → at < length tokens.now.tokens }
+{
+    match kind_at(tokens, at) {
+        Kind::Operator(op) => { if level(op) == wanted { Some(op) } else { None } }
+        _ => None,
+    }
+}
+
+/// The unary operator that stands at a place.
+fn sign_at(tokens: &TokenList, at: u64) -> Option<UnaryOp>
+    ensures sign { result ≡ sign_of (kinds.kind_at tokens.now.tokens at) }
+    ensures inside { IsSome result → at < length tokens.now.tokens }
+{
+    match kind_at(tokens, at) {
+        Kind::Operator(BinaryOp::Sub) => Some(UnaryOp::Negate),
+        Kind::Not => Some(UnaryOp::Not),
+        Kind::Tilde => Some(UnaryOp::Complement),
+        _ => None,
+    }
+}
+
+fn make_binary(
+    alloc: Global,
+    op: BinaryOp,
+    place: u64,
+    left: Expr,
+    right: Expr,
+) -> Result<Expr, AllocError> {
+    let left = Box::new(alloc, left)?;
+    let right = Box::new(alloc, right)?;
+    Ok(Expr::Binary {
+        op,
+        place,
+        left,
+        right,
+    })
+}
+
+fn make_unary(alloc: Global, op: UnaryOp, place: u64, operand: Expr) -> Result<Expr, AllocError> {
+    let operand = Box::new(alloc, operand)?;
+    Ok(Expr::Unary { op, place, operand })
+}
+
+fn make_arrow(alloc: Global, base: Expr, place: u64, field: Name) -> Result<Expr, AllocError> {
+    let base = Box::new(alloc, base)?;
+    Ok(Expr::Arrow { base, place, field })
+}
+
+fn make_index(alloc: Global, base: Expr, place: u64, index: Expr) -> Result<Expr, AllocError> {
+    let base = Box::new(alloc, base)?;
+    let index = Box::new(alloc, index)?;
+    Ok(Expr::Index { base, place, index })
+}
+
+fn make_call(name: Name, arguments: Vec<Argument>) -> Expr {
+    Expr::Call { name, arguments }
+}
+
+fn add_argument(all: &mut Vec<Argument>, first: u64, value: Expr) -> Result<(), AllocError> {
+    all.push(Argument { first, value })?;
+    Ok(())
+}
+
+/// A whole expression, and the place behind it.
+#[cycle(expressions)]
+pub fn expression(alloc: Global, tokens: &TokenList, at: u64) -> Result<(Expr, u64), AllocError>
+    ensures stays { IfOk result (λ r. at ≤ r.1) }
+{
+    binary(alloc, tokens, at, LEVELS)
+}
+
+/// The operators of levels 1 to `level` over unaries.
+#[cycle(expressions)]
+fn binary(alloc: Global, tokens: &TokenList, at: u64, level: u8) -> Result<(Expr, u64), AllocError>
+    ensures stays { IfOk result (λ r. at ≤ r.1) }
+{
+    if level == 0 {
+        return unary(alloc, tokens, at);
+    }
+    let (first, next) = binary(alloc, tokens, at, level - 1)?;
+    let mut left = first;
+    let mut place = next;
+    while let Some(op) = operator_at(tokens, place, level) {
+        let (right, next) = binary(alloc, tokens, behind(tokens, place), level - 1)?;
+        left = make_binary(alloc, op, place, left, right)?;
+        place = next;
+    }
+    Ok((left, place))
+}
+
+#[cycle(expressions)]
+fn unary(alloc: Global, tokens: &TokenList, at: u64) -> Result<(Expr, u64), AllocError>
+    ensures stays { IfOk result (λ r. at ≤ r.1) }
+{
+    if let Some(op) = sign_at(tokens, at) {
+        let (operand, next) = unary(alloc, tokens, behind(tokens, at))?;
+        return Ok((make_unary(alloc, op, at, operand)?, next));
+    }
+    postfix(alloc, tokens, at)
+}
+
+/// A primary with the fields and elements that are taken of it.
+#[cycle(expressions)]
+pub fn postfix(alloc: Global, tokens: &TokenList, at: u64) -> Result<(Expr, u64), AllocError>
+    ensures stays { IfOk result (λ r. at ≤ r.1) }
+{
+    let (base, next) = primary(alloc, tokens, at)?;
+    parts(alloc, tokens, next, base)
+}
+
+/// What is taken of what was read so far.
+#[cycle(expressions)]
+fn parts(alloc: Global, tokens: &TokenList, at: u64, base: Expr) -> Result<(Expr, u64), AllocError>
+    ensures stays { IfOk result (λ r. at ≤ r.1) }
+{
+    match kind_at(tokens, at) {
+        Kind::Arrow => {
+            let place = behind(tokens, at);
+            let field = name_at(alloc, tokens, place)?;
+            let base = make_arrow(alloc, base, at, field)?;
+            parts(alloc, tokens, behind(tokens, place), base)
+        }
+        Kind::OpenSquare => {
+            let (index, close) = expression(alloc, tokens, behind(tokens, at))?;
+            let base = make_index(alloc, base, at, index)?;
+            parts(alloc, tokens, behind(tokens, close), base)
+        }
+        _ => Ok((base, at)),
+    }
+}
+
+#[cycle(expressions)]
+fn primary(alloc: Global, tokens: &TokenList, at: u64) -> Result<(Expr, u64), AllocError>
+    ensures stays { IfOk result (λ r. at ≤ r.1) }
+{
+    let next = behind(tokens, at);
+    match kind_at(tokens, at) {
+        Kind::Number => Ok((Expr::Number(value_at(tokens, at)), next)),
+        Kind::Name => {
+            let name = name_at(alloc, tokens, at)?;
+            if kind_at(tokens, next) == Kind::OpenRound {
+                let (all, end) = arguments(alloc, tokens, behind(tokens, next))?;
+                return Ok((make_call(name, all), end));
+            }
+            Ok((Expr::Variable(name), next))
+        }
+        Kind::Root => {
+            let place = behind(tokens, next);
+            let name = name_at(alloc, tokens, place)?;
+            Ok((Expr::Root(name), behind(tokens, place)))
+        }
+        Kind::PmNew => {
+            let place = behind(tokens, behind(tokens, next));
+            let name = name_at(alloc, tokens, place)?;
+            let end = behind(tokens, behind(tokens, place));
+            Ok((Expr::New { place: at, name }, end))
+        }
+        Kind::OpenRound => {
+            let (inner, close) = expression(alloc, tokens, next)?;
+            Ok((inner, behind(tokens, close)))
+        }
+        _ => Ok((Expr::Null, next)),
+    }
+}
+
+/// The arguments of a call, from behind its opening bracket to behind the closing one.
+#[cycle(expressions)]
+fn arguments(alloc: Global, tokens: &TokenList, at: u64) -> Result<(Vec<Argument>, u64), AllocError>
+    ensures stays { IfOk result (λ r. at ≤ r.1) }
+{
+    let mut all = Vec::new(alloc);
+    if kind_at(tokens, at) == Kind::CloseRound {
+        return Ok((all, behind(tokens, at)));
+    }
+    let (value, next) = expression(alloc, tokens, at)?;
+    add_argument(&mut all, at, value)?;
+    let mut place = next;
+    'others: while kind_at(tokens, place) == Kind::Comma {
+        let first = behind(tokens, place);
+        let (value, next) = expression(alloc, tokens, first)?;
+        add_argument(&mut all, first, value)?;
+        place = next;
+    }
+    Ok((all, behind(tokens, place)))
+}

@@ -1,0 +1,359 @@
+//! Statements, built from tokens that were judged before.
+
+ghost use Rattle.std.specs.Prelude.{◌≡◌, ◌<◌, ◌≤◌, ◌+◌, length, IfOk, OnOk, true};
+
+use crate::build_expr::{expression, postfix};
+use crate::expr::{Expr, Name};
+use crate::kind::{Kind, behind, kind_at, name_at};
+use crate::stmt::{AssignOp, Declaration, First, Initial, Simple, StepOp, Stmt, TypeName};
+use c_lexer::TokenList;
+use std::alloc::{AllocError, Global};
+
+/// A type, and the place behind it.
+pub fn type_name(alloc: Global, tokens: &TokenList, at: u64) -> Result<(TypeName, u64), AllocError>
+    ensures stays { IfOk result (λ r. at ≤ r.1) }
+    ensures moves { IfOk result (λ r. at < length tokens.now.tokens → at < r.1) }
+{
+    let next = behind(tokens, at);
+    if kind_at(tokens, at) == Kind::Struct {
+        let name = name_at(alloc, tokens, next)?;
+        return Ok((
+            TypeName::Pointer(name),
+            behind(tokens, behind(tokens, next)),
+        ));
+    }
+    Ok((TypeName::Int, next))
+}
+
+/// A declaration without its semicolon.
+fn declaration(alloc: Global, tokens: &TokenList, at: u64) -> Result<(Declaration, u64), AllocError>
+    ensures stays { IfOk result (λ r. at ≤ r.1) }
+    ensures moves { IfOk result (λ r. at < length tokens.now.tokens → at < r.1) }
+{
+    let (ty, place) = type_name(alloc, tokens, at)?;
+    let name = name_at(alloc, tokens, place)?;
+    let next = behind(tokens, place);
+    if kind_at(tokens, next) == Kind::Assign(AssignOp::Set) {
+        let (value, end) = expression(alloc, tokens, behind(tokens, next))?;
+        let initial = Some(Initial { place: next, value });
+        return Ok((Declaration { ty, name, initial }, end));
+    }
+    Ok((
+        Declaration {
+            ty,
+            name,
+            initial: None,
+        },
+        next,
+    ))
+}
+
+/// An expression in brackets, and the place behind them.
+fn bracketed(alloc: Global, tokens: &TokenList, at: u64) -> Result<(Expr, u64), AllocError>
+    ensures stays { IfOk result (λ r. at ≤ r.1) }
+{
+    let (inner, close) = expression(alloc, tokens, behind(tokens, at))?;
+    Ok((inner, behind(tokens, close)))
+}
+
+/// The statement that a call is where it stands alone.
+fn call_alone(target: Expr) -> Simple {
+    match target {
+        Expr::Call { name, arguments } => Simple::Call { name, arguments },
+        other => Simple::Step {
+            target: other,
+            op: StepOp::Up,
+            place: 0,
+        },
+    }
+}
+
+/// What a statement does with its target.
+fn acted(
+    alloc: Global,
+    tokens: &TokenList,
+    at: u64,
+    target: Expr,
+) -> Result<(Simple, u64), AllocError>
+    ensures stays { IfOk result (λ r. at ≤ r.1) }
+{
+    match kind_at(tokens, at) {
+        Kind::Assign(op) => {
+            let (value, end) = expression(alloc, tokens, behind(tokens, at))?;
+            Ok((
+                Simple::Assign {
+                    target,
+                    op,
+                    place: at,
+                    value,
+                },
+                end,
+            ))
+        }
+        Kind::Step(op) => Ok((
+            Simple::Step {
+                target,
+                op,
+                place: at,
+            },
+            behind(tokens, at),
+        )),
+        _ => Ok((call_alone(target), at)),
+    }
+}
+
+/// A simple statement without its semicolon.
+fn simple(alloc: Global, tokens: &TokenList, at: u64) -> Result<(Simple, u64), AllocError>
+    ensures stays { IfOk result (λ r. at ≤ r.1) }
+{
+    let next = behind(tokens, at);
+    match kind_at(tokens, at) {
+        Kind::PmFree => {
+            let (pointer, end) = bracketed(alloc, tokens, next)?;
+            Ok((Simple::Free { place: at, pointer }, end))
+        }
+        Kind::Abort => Ok((
+            Simple::Abort { place: at },
+            behind(tokens, behind(tokens, next)),
+        )),
+        _ => {
+            let (target, end) = postfix(alloc, tokens, at)?;
+            acted(alloc, tokens, end, target)
+        }
+    }
+}
+
+fn make_if(condition: Expr, body: Box<Stmt>) -> Stmt {
+    Stmt::If {
+        condition,
+        body,
+        other: None,
+    }
+}
+
+fn make_if_else(condition: Expr, body: Box<Stmt>, other: Box<Stmt>) -> Stmt {
+    Stmt::If {
+        condition,
+        body,
+        other: Some(other),
+    }
+}
+
+fn make_while(condition: Expr, body: Box<Stmt>) -> Stmt {
+    Stmt::While { condition, body }
+}
+
+/// The three parts of a `for`.
+#[derive(Drop)]
+struct ForParts {
+    first: Option<First>,
+    condition: Option<Expr>,
+    third: Option<Simple>,
+}
+
+fn make_for(parts: ForParts, body: Box<Stmt>) -> Stmt {
+    let ForParts {
+        first,
+        condition,
+        third,
+    } = parts;
+    Stmt::For {
+        first,
+        condition,
+        third,
+        body,
+    }
+}
+
+fn make_block(all: Vec<Stmt>) -> Stmt {
+    Stmt::Block(all)
+}
+
+/// Puts one statement at the end.
+pub fn add_statement(all: &mut Vec<Stmt>, one: Stmt) -> Result<(), AllocError> {
+    all.push(one)?;
+    Ok(())
+}
+
+/// The first part of a `for`, up to its semicolon.
+fn first_part(
+    alloc: Global,
+    tokens: &TokenList,
+    at: u64,
+) -> Result<(Option<First>, u64), AllocError>
+    ensures stays { IfOk result (λ r. at ≤ r.1) }
+{
+    match kind_at(tokens, at) {
+        Kind::Semicolon => Ok((None, at)),
+        Kind::Int | Kind::Struct => {
+            let (one, end) = declaration(alloc, tokens, at)?;
+            Ok((Some(First::Declare(one)), end))
+        }
+        _ => {
+            let (one, end) = simple(alloc, tokens, at)?;
+            Ok((Some(First::Simple(one)), end))
+        }
+    }
+}
+
+/// An expression that may be absent before a semicolon.
+fn value_part(alloc: Global, tokens: &TokenList, at: u64) -> Result<(Option<Expr>, u64), AllocError>
+    ensures stays { IfOk result (λ r. at ≤ r.1) }
+{
+    if kind_at(tokens, at) == Kind::Semicolon {
+        return Ok((None, at));
+    }
+    let (value, end) = expression(alloc, tokens, at)?;
+    Ok((Some(value), end))
+}
+
+/// The third part of a `for`, up to the closing bracket.
+fn third_part(
+    alloc: Global,
+    tokens: &TokenList,
+    at: u64,
+) -> Result<(Option<Simple>, u64), AllocError>
+    ensures stays { IfOk result (λ r. at ≤ r.1) }
+{
+    if kind_at(tokens, at) == Kind::CloseRound {
+        return Ok((None, at));
+    }
+    let (one, end) = simple(alloc, tokens, at)?;
+    Ok((Some(one), end))
+}
+
+/// The three parts in their brackets, and the place behind them.
+fn for_parts(alloc: Global, tokens: &TokenList, at: u64) -> Result<(ForParts, u64), AllocError>
+    ensures stays { IfOk result (λ r. at ≤ r.1) }
+{
+    let (first, end) = first_part(alloc, tokens, behind(tokens, at))?;
+    let (condition, end) = value_part(alloc, tokens, behind(tokens, end))?;
+    let (third, close) = third_part(alloc, tokens, behind(tokens, end))?;
+    let parts = ForParts {
+        first,
+        condition,
+        third,
+    };
+    Ok((parts, behind(tokens, close)))
+}
+
+/// The place behind a token, but none before the least.
+fn beyond(tokens: &TokenList, at: u64, least: u64) -> u64
+    ensures least { least ≤ result }
+    ensures stays { at ≤ result }
+    ensures moves { at < length tokens.now.tokens → least ≤ at + 1 → result ≡ at + 1 }
+{
+    let next = behind(tokens, at);
+    if next < least { least } else { next }
+}
+
+/// A statement that has no other in it.
+fn plain(alloc: Global, tokens: &TokenList, at: u64) -> Result<(Stmt, u64), AllocError>
+    ensures stays { IfOk result (λ r. at ≤ r.1) }
+    ensures moves { IfOk result (λ r. at < length tokens.now.tokens → at < r.1) }
+{
+    let next = behind(tokens, at);
+    match kind_at(tokens, at) {
+        Kind::Semicolon => Ok((Stmt::Empty, next)),
+        Kind::Int | Kind::Struct => {
+            let (one, end) = declaration(alloc, tokens, at)?;
+            Ok((Stmt::Declare(one), behind(tokens, end)))
+        }
+        Kind::Break => Ok((Stmt::Break, behind(tokens, next))),
+        Kind::Continue => Ok((Stmt::Continue, behind(tokens, next))),
+        Kind::Return => {
+            let (value, end) = value_part(alloc, tokens, next)?;
+            Ok((Stmt::Return { place: at, value }, behind(tokens, end)))
+        }
+        _ => {
+            let (one, end) = simple(alloc, tokens, at)?;
+            Ok((Stmt::Simple(one), beyond(tokens, end, next)))
+        }
+    }
+}
+
+/// A statement, and the place behind it.
+#[cycle(statements)]
+pub fn statement(alloc: Global, tokens: &TokenList, at: u64) -> Result<(Stmt, u64), AllocError>
+    ensures stays { IfOk result (λ r. at ≤ r.1) }
+    ensures moves { IfOk result (λ r. at < length tokens.now.tokens → at < r.1) }
+{
+    match kind_at(tokens, at) {
+        Kind::OpenBrace => {
+            let (all, end) = block(alloc, tokens, behind(tokens, at))?;
+            Ok((make_block(all), end))
+        }
+        Kind::If => choice(alloc, tokens, behind(tokens, at)),
+        Kind::While => repeated(alloc, tokens, behind(tokens, at)),
+        Kind::For => counted(alloc, tokens, behind(tokens, at)),
+        _ => plain(alloc, tokens, at),
+    }
+}
+
+/// A statement that belongs to another.
+#[cycle(statements)]
+fn body(alloc: Global, tokens: &TokenList, at: u64) -> Result<(Box<Stmt>, u64), AllocError>
+    ensures stays { IfOk result (λ r. at ≤ r.1) }
+{
+    let (one, end) = statement(alloc, tokens, at)?;
+    Ok((Box::new(alloc, one)?, end))
+}
+
+/// A choice, from behind its `if`.
+#[cycle(statements)]
+fn choice(alloc: Global, tokens: &TokenList, at: u64) -> Result<(Stmt, u64), AllocError>
+    ensures stays { IfOk result (λ r. at ≤ r.1) }
+{
+    let (condition, place) = bracketed(alloc, tokens, at)?;
+    let (first, end) = body(alloc, tokens, place)?;
+    if kind_at(tokens, end) == Kind::Else {
+        let (other, end) = body(alloc, tokens, behind(tokens, end))?;
+        return Ok((make_if_else(condition, first, other), end));
+    }
+    Ok((make_if(condition, first), end))
+}
+
+/// A loop, from behind its `while`.
+#[cycle(statements)]
+fn repeated(alloc: Global, tokens: &TokenList, at: u64) -> Result<(Stmt, u64), AllocError>
+    ensures stays { IfOk result (λ r. at ≤ r.1) }
+{
+    let (condition, place) = bracketed(alloc, tokens, at)?;
+    let (body, end) = body(alloc, tokens, place)?;
+    Ok((make_while(condition, body), end))
+}
+
+/// A loop with three parts, from behind its `for`.
+#[cycle(statements)]
+fn counted(alloc: Global, tokens: &TokenList, at: u64) -> Result<(Stmt, u64), AllocError>
+    ensures stays { IfOk result (λ r. at ≤ r.1) }
+{
+    let (parts, place) = for_parts(alloc, tokens, at)?;
+    let (body, end) = body(alloc, tokens, place)?;
+    Ok((make_for(parts, body), end))
+}
+
+/// Statements from behind an opening brace to behind the closing one.
+#[cycle(statements)]
+pub fn block(alloc: Global, tokens: &TokenList, at: u64) -> Result<(Vec<Stmt>, u64), AllocError>
+    ensures stays { IfOk result (λ r. at ≤ r.1) }
+{
+    let mut all = Vec::new(alloc);
+    let mut place = at;
+    'each: while goes_on(tokens, place) {
+        let (one, next) = statement(alloc, tokens, place)?;
+        add_statement(&mut all, one)?;
+        place = next;
+    }
+    Ok((all, behind(tokens, place)))
+}
+
+/// Whether neither a closing brace nor the end stands there.
+pub fn goes_on(tokens: &TokenList, at: u64) -> bool
+    ensures inside { result ≡ true → at < length tokens.now.tokens }
+{
+    match kind_at(tokens, at) {
+        Kind::CloseBrace | Kind::End => false,
+        _ => true,
+    }
+}

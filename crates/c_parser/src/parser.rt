@@ -1,0 +1,37 @@
+//! The parser.
+
+ghost use Rattle.std.specs.Prelude.{ℕ, List, ◌≡◌, ◌+◌, IfOk, IfErr, OnOk, length, map};
+ghost use Rattle.c_parser.specs.Exact.{weights, LightBefore, Spelled, NoneBegins, SomeBegins, SomeSinks};
+ghost use Rattle.c_parser.specs.declared.fault.ParseFault.TheVariants.{Syntax, TooDeep, NoMemory};
+ghost use Rattle.c_parser.specs.ItemTree.{ItemTree};
+ghost use Rattle.c_parser.specs.ItemSpelling.{SpellsProgram};
+
+use crate::ast::Ast;
+use crate::build_item::items;
+use crate::fault::ParseFault;
+use crate::judge::judge;
+use c_lexer::TokenList;
+use std::alloc::Global;
+
+/// The tree of a program, or the first token that is refused.
+///
+/// The tokens are judged first, one by one; the tree is built from those that were accepted.
+pub fn parse(alloc: Global, tokens: &TokenList) -> Result<Ast, ParseFault>
+    ensures lines { IfOk result (λ p. p.lines ≡ map (λ placed. placed.line) tokens.now.tokens) }
+    ensures last { IfOk result (λ p. p.last ≡ tokens.now.last) }
+    // What is accepted is spelled by some tree, and no token of it is too heavy.
+    ensures accepted { OnOk result (Spelled tokens.now.tokens) }
+    ensures light { OnOk result (LightBefore (weights tokens.now.tokens) (length tokens.now.tokens)) }
+    // What some tree spells, with no token too heavy, is accepted, or memory runs out.
+    ensures answered { (xs : List ItemTree) → SpellsProgram tokens.now.tokens xs → LightBefore (weights tokens.now.tokens) (length tokens.now.tokens) → IfErr result (λ f. f ≡ NoMemory) }
+    // No program begins with the tokens up to a refused one.
+    ensures none { IfErr result (λ f. (t : ℕ) → f ≡ Syntax t → NoneBegins tokens.now.tokens (t + 1)) }
+    // Some program begins with those before it, none of them too heavy.
+    ensures some { IfErr result (λ f. (t : ℕ) → f ≡ Syntax t → SomeBegins tokens.now.tokens t) }
+    // Some program begins with the tokens up to one that is too deep, the first that is too heavy.
+    ensures deep { IfErr result (λ f. (t : ℕ) → f ≡ TooDeep t → SomeSinks tokens.now.tokens t) }
+{
+    judge(alloc, tokens)?;
+    let items = items(alloc, tokens)?;
+    Ok(Ast::new(alloc, items, tokens)?)
+}
