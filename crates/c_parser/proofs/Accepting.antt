@@ -4,7 +4,6 @@ use Rattle.std.specs.Result.{IsErrAnd}
 use Rattle.c_lexer.specs.declared.token.Placed.{Placed}
 use Rattle.c_parser.specs.declared.fault.ParseFault.{ParseFault}
 use Rattle.c_parser.specs.declared.fault.ParseFault.TheVariants as fault
-use Rattle.c_parser.specs.declared.kind.Kind.TheVariants as kind
 use Rattle.c_parser.specs.declared.want.Want.{Want}
 use Rattle.c_parser.specs.declared.want.Want.TheVariants.{Items}
 use Rattle.c_parser.specs.Kinds.{token_kind}
@@ -12,7 +11,7 @@ use Rattle.c_parser.specs.ItemTree.{ItemTree}
 use Rattle.c_parser.specs.ItemSpelling.{SpellsProgram}
 use Rattle.c_parser.specs.Wants.{step}
 use Rattle.c_parser.specs.Weight.{weight}
-use Rattle.c_parser.specs.Run.{Accepted, weighed, ends, goes, run_from, run, Refuses}
+use Rattle.c_parser.specs.Run.{Accepted, weighed, goes, run_from, run, Refuses}
 use Rattle.c_parser.specs.Exact.{weights, LightBefore, Spelled}
 use Rattle.c_parser.proofs.Back.{spelled}
 use Rattle.c_parser.proofs.Laws.{run_whole, accepted_where_light, only_memory}

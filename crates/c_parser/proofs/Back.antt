@@ -1,5 +1,5 @@
 -- What the run accepts is spelled: each step backward builds a piece of the tree.
-use Rattle.std.proofs.Common.{ℕ, zero, suc, ◌+◌, ◌≡◌, ◌≢◌, ◌⊎◌, inl, inr, List, [], ◌∷◌, ◌++◌, length, Option, Some, None, Bool, true, false, slice_get, refl, sym, ap, ◌∙◌, subst, arith}
+use Rattle.std.proofs.Common.{ℕ, zero, suc, ◌+◌, ◌≡◌, ◌≢◌, ◌⊎◌, inl, inr, List, [], ◌∷◌, length, Option, Some, None, Bool, true, false, refl, sym, ap, ◌∙◌, subst, arith}
 use Rattle.std.proofs.lemmas.Option.{slice_get_past}
 use Rattle.c_lexer.specs.declared.token.Mark.{Mark}
 use Rattle.c_lexer.specs.declared.token.Mark.TheVariants as mark
@@ -23,7 +23,7 @@ use Rattle.c_parser.specs.StmtTree.{TypeTree, DeclarationTree, SimpleTree, First
 use Rattle.c_parser.specs.StmtTree as tree
 use Rattle.c_parser.specs.ItemTree.{FieldTree, ParameterTree, ItemTree}
 use Rattle.c_parser.specs.ItemTree as itree
-use Rattle.c_parser.specs.Spelling.{Level, Postfix, postfix, Parts, parts_end, field, element, Primary, number, null, variable, call, root, new, brackets, Arguments}
+use Rattle.c_parser.specs.Spelling.{Level, postfix, Parts, parts_end, field, element, Primary, number, null, variable, call, root, new, brackets, Arguments}
 use Rattle.c_parser.specs.StmtSpelling.{Typed, int, pointer, Declares, plain, initial, Bracketed, bracketed, Acts, assigns, steps, Simply, acts, calls, frees, aborts, FirstPart, first_none, first_declares, first_simply, ValuePart, value_none, value_some, ThirdPart, third_none, third_some, Spells, empty, declares, simply, block, if_alone, if_else, repeats, counts, breaks, continues, returns, SpellsAll, nothing, something}
 use Rattle.c_parser.specs.ItemSpelling.{SpellsField, single, array, SpellsFields, fields_end, fields_more, SpellsParameters, parameters_last, parameters_more, Signature, signature_none, signature_void, signature_some, ResultType, result_void, result_some, SpellsFunction, function, SpellsItem, struct_def, root_decl, transaction, plain_function, SpellsItems, items_end, items_more, SpellsProgram}
 use Rattle.c_parser.specs.Wants as wants

@@ -1,5 +1,5 @@
 -- An expression as unaries joined by operators, whatever their levels, and the tree that it has.
-use Rattle.std.proofs.Common.{ℕ, zero, suc, ◌+◌, ◌≡◌, ◌≤◌, ◌⊎◌, inl, inr, List, Option, Some, None, Bool, true, false, nat_eq, refl, sym, ap, ◌∙◌, subst, arith, option_and_then, if◌then◌else◌}
+use Rattle.std.proofs.Common.{ℕ, zero, suc, ◌+◌, ◌≡◌, ◌≤◌, ◌⊎◌, inl, inr, List, Some, None, Bool, true, false, nat_eq, refl, sym, ap, ◌∙◌, subst, arith, if◌then◌else◌}
 use Rattle.std.proofs.lemmas.Bool.{eqb-false}
 use Rattle.c_lexer.specs.declared.token.Placed.{Placed}
 use Rattle.c_parser.specs.declared.expr.BinaryOp.{BinaryOp}
@@ -11,7 +11,7 @@ use Rattle.c_parser.specs.Kinds.{kind_at, ident_at, value_at}
 use Rattle.c_parser.specs.Operators.{op_at, sign_of, level_of}
 use Rattle.c_parser.specs.ExprTree.{ExprTree}
 use Rattle.c_parser.specs.ExprTree as trees
-use Rattle.c_parser.specs.Spelling.{Level, level_zero, level_suc, Chain, chain_end, chain_more, Unary, signed, unsigned, Postfix, postfix, Parts, parts_end, field, element, Primary, number, null, variable, call, root, new, brackets, Arguments, no_arguments, arguments, MoreArguments, no_more, more}
+use Rattle.c_parser.specs.Spelling.{Level, level_zero, level_suc, Chain, chain_end, chain_more, Unary, signed, unsigned, postfix, Parts, parts_end, field, element, Primary, number, null, variable, call, root, new, brackets, Arguments, no_arguments, arguments, MoreArguments, no_more, more}
 
 mutual
   pub data Flat (ts : List Placed) : ℕ → ℕ → Type 0 where

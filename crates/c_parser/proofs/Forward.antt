@@ -1,26 +1,21 @@
 -- What is spelled is run through, where nothing is too deep.
-use Rattle.std.proofs.Common.{ℕ, suc, ◌+◌, ◌≡◌, ◌≢◌, List, [], ◌∷◌, ◌++◌, length, Option, Some, None, Bool, true, false, nat_eq, slice_get, option_and_then, if◌then◌else◌, refl, sym, ap, ◌∙◌, subst, arith}
+use Rattle.std.proofs.Common.{ℕ, suc, ◌+◌, ◌≡◌, List, [], ◌∷◌, Some, None, Bool, true, false, nat_eq, if◌then◌else◌, refl, sym, ap, ◌∙◌, subst}
 use Rattle.c_lexer.specs.declared.token.Placed.{Placed}
 use Rattle.c_parser.specs.declared.expr.BinaryOp.{BinaryOp}
 use Rattle.c_parser.specs.declared.expr.BinaryOp.TheVariants as op
 use Rattle.c_parser.specs.declared.expr.UnaryOp.{UnaryOp}
-use Rattle.c_parser.specs.declared.stmt.AssignOp.TheVariants as assign
 use Rattle.c_parser.specs.declared.kind.Kind.{Kind}
 use Rattle.c_parser.specs.declared.kind.Kind.TheVariants as kind
 use Rattle.c_parser.specs.declared.want.Want.{Want}
-use Rattle.c_parser.specs.declared.want.Want.TheVariants.{Operand, Rest, Named, Dot, FirstArgument, MoreArguments, NewOpen, Ident, Digits, Semicolon, StructWord, Star, RootWord, Round, Square, Target, NamedTarget, Called, DotTarget, OpenExpression, OpenNothing, Initial, Value, Body, Bare, Else, Block, OpenFor, ForFirst, ForThird, TypeName, Fields, Length, Result, OpenParameters, Parameters, MoreParameters, OpenBody, StructOrFunction, Items}
-use Rattle.c_parser.specs.Kinds.{kind_at, kind_of}
-use Rattle.c_parser.specs.Operators.{op_of, op_at, sign_of, level_of}
+use Rattle.c_parser.specs.declared.want.Want.TheVariants.{Operand, Rest, Named, Dot, FirstArgument, MoreArguments, NewOpen, Ident, StructWord, Round, Square, Value}
+use Rattle.c_parser.specs.Kinds.{kind_at}
+use Rattle.c_parser.specs.Operators.{op_at, sign_of, level_of}
 use Rattle.c_parser.specs.ExprTree.{ExprTree}
 use Rattle.c_parser.specs.ExprTree as trees
-use Rattle.c_parser.specs.StmtTree.{TypeTree, DeclarationTree, SimpleTree, FirstTree, StmtTree, Statements}
-use Rattle.c_parser.specs.ItemTree.{FieldTree, ParameterTree, ItemTree}
 use Rattle.c_parser.specs.Spelling.{Level, level_zero, level_suc, Chain, chain_end, chain_more, Unary, signed, unsigned, Postfix, postfix, Parts, parts_end, field, element, Primary, number, null, variable, call, root, new, brackets, Arguments, no_arguments, arguments, MoreArguments as MoreOf, no_more, more}
-use Rattle.c_parser.specs.StmtSpelling.{Typed, int, pointer, Declares, plain, initial, Bracketed, bracketed, Acts, assigns, steps, Simply, acts, calls, frees, aborts, FirstPart, first_none, first_declares, first_simply, ValuePart, value_none, value_some, ThirdPart, third_none, third_some, Spells, empty, declares, simply, block, if_alone, if_else, repeats, counts, breaks, continues, returns, SpellsAll, nothing, something}
-use Rattle.c_parser.specs.ItemSpelling.{SpellsField, single, array, SpellsFields, fields_end, fields_more, SpellsParameters, parameters_last, parameters_more, Signature, signature_none, signature_void, signature_some, ResultType, result_void, result_some, SpellsFunction, function, SpellsItem, struct_def, root_decl, transaction, plain_function, SpellsItems, items_end, items_more, SpellsProgram}
-use Rattle.c_parser.specs.Wants.{Move, Take, Yield, act, move, step, operand, target, simple_begins, statement, type_begins, item}
-use Rattle.c_parser.specs.Run.{Accepted, run}
-use Rattle.c_parser.proofs.Steps.{IsToken, goes_on, goes_at, alike, run_end}
+use Rattle.c_parser.specs.Wants.{Take, act, step, operand}
+use Rattle.c_parser.specs.Run.{run}
+use Rattle.c_parser.proofs.Steps.{IsToken, goes_on, alike}
 
 -- behind an operand
 pub data Behind : Want → Type 0 where

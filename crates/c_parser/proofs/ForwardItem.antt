@@ -1,21 +1,19 @@
 -- What is spelled by items is run through, where nothing is too deep.
-use Rattle.std.proofs.Common.{ℕ, suc, ◌+◌, ◌≡◌, ◌≢◌, List, [], ◌∷◌, ◌++◌, length, Option, Some, None, Bool, true, false, refl, sym, ap, ◌∙◌, subst, arith}
+use Rattle.std.proofs.Common.{ℕ, ◌+◌, ◌≡◌, List, [], ◌∷◌, length, None, true, false, refl, sym, ◌∙◌, subst, arith}
 use Rattle.c_lexer.specs.declared.token.Placed.{Placed}
 use Rattle.c_parser.specs.declared.expr.BinaryOp.TheVariants as op
-use Rattle.c_parser.specs.declared.stmt.AssignOp.TheVariants as assign
 use Rattle.c_parser.specs.declared.kind.Kind.{Kind}
 use Rattle.c_parser.specs.declared.kind.Kind.TheVariants as kind
 use Rattle.c_parser.specs.declared.want.Want.{Want}
-use Rattle.c_parser.specs.declared.want.Want.TheVariants.{Operand, Rest, Named, Dot, FirstArgument, MoreArguments, NewOpen, Ident, Digits, Semicolon, StructWord, Star, RootWord, Round, Square, Target, NamedTarget, Called, DotTarget, OpenExpression, OpenNothing, Initial, Value, Body, Bare, Else, Block, OpenFor, ForFirst, ForThird, TypeName, Fields, Length, Result, OpenParameters, Parameters, MoreParameters, OpenBody, StructOrFunction, Items}
-use Rattle.c_parser.specs.Kinds.{kind_at, kind_of}
-use Rattle.c_parser.specs.StmtTree.{TypeTree, DeclarationTree, SimpleTree, FirstTree, StmtTree, Statements}
+use Rattle.c_parser.specs.declared.want.Want.TheVariants.{Ident, Digits, Semicolon, StructWord, RootWord, Round, Square, Block, TypeName, Fields, Length, Result, OpenParameters, Parameters, MoreParameters, OpenBody, StructOrFunction, Items}
+use Rattle.c_parser.specs.Kinds.{kind_at}
 use Rattle.c_parser.specs.ItemTree.{FieldTree, ParameterTree, ItemTree}
-use Rattle.c_parser.specs.StmtSpelling.{Typed, int, pointer, Declares, plain, initial, Bracketed, bracketed, Acts, assigns, steps, Simply, acts, calls, frees, aborts, FirstPart, first_none, first_declares, first_simply, ValuePart, value_none, value_some, ThirdPart, third_none, third_some, Spells, empty, declares, simply, block, if_alone, if_else, repeats, counts, breaks, continues, returns, SpellsAll, nothing, something}
-use Rattle.c_parser.specs.ItemSpelling.{SpellsField, single, array, SpellsFields, fields_end, fields_more, SpellsParameters, parameters_last, parameters_more, Signature, signature_none, signature_void, signature_some, ResultType, result_void, result_some, SpellsFunction, function, SpellsItem, struct_def, root_decl, transaction, plain_function, SpellsItems, items_end, items_more, SpellsProgram}
-use Rattle.c_parser.specs.Wants.{Move, Take, Yield, act, move, step, operand, target, simple_begins, statement, type_begins, item}
+use Rattle.c_parser.specs.StmtSpelling.{int, pointer, SpellsAll}
+use Rattle.c_parser.specs.ItemSpelling.{SpellsField, single, array, SpellsFields, fields_end, fields_more, SpellsParameters, parameters_last, parameters_more, Signature, signature_none, signature_void, signature_some, result_void, result_some, SpellsFunction, function, SpellsItem, struct_def, root_decl, transaction, plain_function, SpellsItems, items_end, items_more, SpellsProgram}
+use Rattle.c_parser.specs.Wants.{step}
 use Rattle.c_parser.specs.Run.{Accepted, run}
-use Rattle.c_parser.proofs.Steps.{IsToken, goes_on, alike, run_end}
-use Rattle.c_parser.proofs.ForwardStmt.{at_kind, TypeBegins, typed_begins, typed_step, typed_runs, all_run}
+use Rattle.c_parser.proofs.Steps.{goes_on, alike, run_end}
+use Rattle.c_parser.proofs.ForwardStmt.{TypeBegins, typed_begins, typed_step, typed_runs, all_run}
 
 length_yields : (k : List Want) (t : Kind) → t ≡ kind.Semicolon → step (Length ∷ k) t ≡ step k t
 length_yields k t is = subst (λ t. step (Length ∷ k) t ≡ step k t) (sym is) refl

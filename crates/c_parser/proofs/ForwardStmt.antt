@@ -1,5 +1,5 @@
 -- What is spelled by statements and items is run through, where nothing is too deep.
-use Rattle.std.proofs.Common.{ℕ, suc, ◌+◌, ◌≡◌, ◌≢◌, ◌⊎◌, inl, inr, List, [], ◌∷◌, ◌++◌, length, Option, Some, None, Bool, true, false, refl, sym, ap, ◌∙◌, subst, arith}
+use Rattle.std.proofs.Common.{ℕ, ◌+◌, ◌≡◌, ◌≢◌, ◌⊎◌, inl, inr, List, ◌∷◌, Option, Some, None, Bool, true, false, refl, sym, ap, ◌∙◌, subst}
 use Rattle.c_lexer.specs.declared.token.Placed.{Placed}
 use Rattle.c_parser.specs.declared.expr.BinaryOp.TheVariants as op
 use Rattle.c_parser.specs.declared.stmt.AssignOp.{AssignOp}
@@ -8,19 +8,16 @@ use Rattle.c_parser.specs.declared.stmt.StepOp.{StepOp}
 use Rattle.c_parser.specs.declared.kind.Kind.{Kind}
 use Rattle.c_parser.specs.declared.kind.Kind.TheVariants as kind
 use Rattle.c_parser.specs.declared.want.Want.{Want}
-use Rattle.c_parser.specs.declared.want.Want.TheVariants.{Operand, Rest, Named, Dot, FirstArgument, MoreArguments, NewOpen, Ident, Digits, Semicolon, StructWord, Star, RootWord, Round, Square, Target, NamedTarget, Called, DotTarget, OpenExpression, OpenNothing, Initial, Value, Body, Bare, Else, Block, OpenFor, ForFirst, ForThird, TypeName, Fields, Length, Result, OpenParameters, Parameters, MoreParameters, OpenBody, StructOrFunction, Items}
-use Rattle.c_parser.specs.Kinds.{kind_at, kind_of}
+use Rattle.c_parser.specs.declared.want.Want.TheVariants.{Operand, FirstArgument, NewOpen, Ident, Semicolon, Star, Round, Square, Target, NamedTarget, Called, DotTarget, OpenExpression, OpenNothing, Initial, Value, Body, Bare, Else, Block, OpenFor, ForFirst, ForThird}
+use Rattle.c_parser.specs.Kinds.{kind_at}
 use Rattle.c_parser.specs.ExprTree.{ExprTree}
-use Rattle.c_parser.specs.ExprTree as trees
 use Rattle.c_parser.specs.StmtTree.{TypeTree, DeclarationTree, SimpleTree, FirstTree, StmtTree, Statements}
-use Rattle.c_parser.specs.ItemTree.{FieldTree, ParameterTree, ItemTree}
-use Rattle.c_parser.specs.Spelling.{Level, level_zero, level_suc, Chain, chain_end, chain_more, Unary, signed, unsigned, Postfix, postfix, Parts, parts_end, field, element, Primary, number, null, variable, call, root, new, brackets, Arguments, no_arguments, arguments, MoreArguments as MoreOf, no_more, more}
+use Rattle.c_parser.specs.Spelling.{Postfix, postfix, Parts, parts_end, field, element, Primary, number, null, variable, call, root, new, brackets}
 use Rattle.c_parser.specs.StmtSpelling.{Typed, int, pointer, Declares, plain, initial, Bracketed, bracketed, Acts, assigns, steps, Simply, acts, calls, frees, aborts, FirstPart, first_none, first_declares, first_simply, ValuePart, value_none, value_some, ThirdPart, third_none, third_some, Spells, empty, declares, simply, block, if_alone, if_else, repeats, counts, breaks, continues, returns, SpellsAll, nothing, something}
-use Rattle.c_parser.specs.ItemSpelling.{SpellsField, single, array, SpellsFields, fields_end, fields_more, SpellsParameters, parameters_last, parameters_more, Signature, signature_none, signature_void, signature_some, ResultType, result_void, result_some, SpellsFunction, function, SpellsItem, struct_def, root_decl, transaction, plain_function, SpellsItems, items_end, items_more, SpellsProgram}
-use Rattle.c_parser.specs.Wants.{Move, Take, Yield, act, move, step, operand, target, simple_begins, statement, type_begins, item}
-use Rattle.c_parser.specs.Run.{Accepted, run}
-use Rattle.c_parser.proofs.Steps.{IsToken, goes_on, alike, run_end}
-use Rattle.c_parser.proofs.Forward.{expression_runs, level_runs, arguments_run, new_run, level_begins, Begins, value_enters, Behind, over}
+use Rattle.c_parser.specs.Wants.{act, step, simple_begins, statement, type_begins}
+use Rattle.c_parser.specs.Run.{run}
+use Rattle.c_parser.proofs.Steps.{IsToken, goes_on, alike}
+use Rattle.c_parser.proofs.Forward.{expression_runs, arguments_run, new_run, level_begins, value_enters}
 
 -- the step at a place, where the kind there is known
 pub at_kind : (ts : List Placed) (i : ℕ) (s next : List Want) (m : Kind → Option (List Want)) (t : Kind) → step s (kind_at ts i) ≡ m (kind_at ts i) → kind_at ts i ≡ t → IsToken t

@@ -1,5 +1,5 @@
 -- One step of the run, over one fixed list.
-use Rattle.std.proofs.Common.{ℕ, zero, suc, ◌+◌, ◌≡◌, ◌≢◌, ◌≤◌, ◌<◌, List, [], ◌∷◌, length, Option, Some, None, drop, slice_get, refl, sym, ap, ◌∙◌, add-one, subst, arith}
+use Rattle.std.proofs.Common.{ℕ, zero, suc, ◌+◌, ◌≡◌, ◌≤◌, ◌<◌, List, [], ◌∷◌, length, Option, Some, None, drop, slice_get, refl, sym, ap, ◌∙◌, add-one, subst, arith}
 use Rattle.std.proofs.lemmas.Option.{slice_get_past}
 use Rattle.std.proofs.lemmas.Bool.{le-ltb, lt-ltb}
 use Rattle.c_lexer.specs.declared.token.Placed.{Placed}
@@ -9,7 +9,7 @@ use Rattle.c_parser.specs.declared.want.Want.{Want}
 use Rattle.c_parser.specs.Kinds.{kind_of, kind_at, token_kind}
 use Rattle.c_parser.specs.Wants.{step}
 use Rattle.c_parser.specs.Weight.{weight}
-use Rattle.c_parser.specs.Run.{Verdict, Accepted, Refused, Deep, weighed, ends, goes, run_from, run}
+use Rattle.c_parser.specs.Run.{Verdict, Refused, Deep, weighed, ends, goes, run_from, run}
 
 abbrev pub at_token : Option ℕ → ℕ → Option Placed → List Want → (List Want → Verdict) → Verdict
 at_token limit i None k on = ends i (step k kind.End)

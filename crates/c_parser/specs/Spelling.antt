@@ -2,10 +2,9 @@
 -- and whole, and each case is one line of the grammar: `kind_at ts i ≡ kind.Comma` reads 'at place i
 -- stands a comma'. An operand grows to the left: a chain of operators of one level, and the parts
 -- behind a primary, go from one place to another with the tree so far to the left.
-use Rattle.std.specs.Prelude.{ℕ, zero, suc, ◌+◌, ◌≡◌, List, Option, Some}
+use Rattle.std.specs.Prelude.{ℕ, zero, suc, ◌+◌, ◌≡◌, List, Some}
 use Rattle.c_lexer.specs.declared.token.Placed.{Placed}
 use Rattle.c_parser.specs.declared.expr.BinaryOp.{BinaryOp}
-use Rattle.c_parser.specs.declared.expr.BinaryOp.TheVariants as op
 use Rattle.c_parser.specs.declared.expr.UnaryOp.{UnaryOp}
 use Rattle.c_parser.specs.declared.kind.Kind.TheVariants as kind
 use Rattle.c_parser.specs.Kinds.{kind_at, ident_at, value_at}

@@ -1,5 +1,5 @@
 -- Which tokens, from one place up to another, spell which statement.
-use Rattle.std.specs.Prelude.{ℕ, ◌+◌, ◌≡◌, ◌≢◌, List, Option, Some, None, Bool, true, false}
+use Rattle.std.specs.Prelude.{ℕ, ◌+◌, ◌≡◌, ◌≢◌, List, Option, Some, None, Bool, true}
 use Rattle.c_lexer.specs.declared.token.Placed.{Placed}
 use Rattle.c_parser.specs.declared.expr.BinaryOp.TheVariants as op
 use Rattle.c_parser.specs.declared.stmt.AssignOp.{AssignOp}

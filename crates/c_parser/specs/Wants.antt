@@ -2,7 +2,6 @@
 -- does to it. A token is taken by the want on top, which it replaces by the rest of that want's
 -- production; or it isn't the want's, which may stay unmet, and goes to the next one; or it is refused.
 use Rattle.std.specs.Prelude.{ℕ, ◌+◌, ◌≡◌, List, [], ◌∷◌, ◌++◌, Option, Some, None, Bool, true, false}
-use Rattle.c_parser.specs.declared.expr.BinaryOp.{BinaryOp}
 use Rattle.c_parser.specs.declared.expr.BinaryOp.TheVariants as op
 use Rattle.c_parser.specs.declared.stmt.AssignOp.TheVariants as assign
 use Rattle.c_parser.specs.declared.kind.Kind.{Kind}

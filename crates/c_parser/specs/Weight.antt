@@ -2,7 +2,7 @@
 -- open, and the operators so far of each expression that is open. An open bracket is seen by the
 -- wants that end with its closing one, an open body by the want for its end, and an open expression
 -- by the want for its rest, which counts its operators.
-use Rattle.std.specs.Prelude.{ℕ, ◌+◌, ◌≤◌, List, [], ◌∷◌}
+use Rattle.std.specs.Prelude.{ℕ, ◌+◌, List, [], ◌∷◌}
 use Rattle.c_parser.specs.declared.want.Want.{Want}
 use Rattle.c_parser.specs.declared.want.Want.TheVariants.{Operand, Rest, Named, Dot, FirstArgument, MoreArguments, Round, Square, Target, Bare, Block, Fields, Parameters, MoreParameters}
 

@@ -1,5 +1,6 @@
-//! The tree of a program. It stands on `c_lexer`. Its one contract for the crates above: a tree
-//! spells its tokens, and a refused list is refused at the first token that no program continues.
+//! The tree of a program. It stands on `c_lexer`. Its one contract for the crates above: `parse`
+//! accepts exactly the lists that some tree spells with no token too heavy, and refuses any other at
+//! the first token that no program continues or that stands too deep.
 #![tactic(auto)]
 
 mod ast;
