@@ -1,8 +1,10 @@
+mod Course
 mod Digits
 mod Lines
 mod Pieces
 mod Places
 mod Playing
+mod Rest
 mod Running
 mod Switch
 mod Verdicts

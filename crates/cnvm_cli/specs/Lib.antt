@@ -2,11 +2,13 @@ pub mod AnswerText
 pub mod Answers
 pub mod Asked
 pub mod CallView
+pub mod Course
 pub mod Due
 pub mod Form
 pub mod Name
 pub mod Placed
 pub mod Reading
+pub mod Rest
 pub mod Run
 pub mod Scan
 pub mod Script

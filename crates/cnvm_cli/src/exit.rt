@@ -3,7 +3,7 @@
 use crate::run::{Status, World, cnvm};
 use crate::words::paths_of;
 use nvm_base::{StdSink, StdSource};
-use pmem::SimPmem;
+use pmem::SparsePmem;
 use std::alloc::Global;
 use std::env;
 use std::rt::{Env, Files};
@@ -37,7 +37,7 @@ pub fn run_on<R: Files + Print + AllocGlobal>(rt: &R, words: &[String]) -> Statu
         image_in: StdSource::new(rt, ""),
         out: StdSink::standard(rt),
         image_out: StdSink::file(rt, ""),
-        dev: SimPmem::new(alloc),
+        dev: SparsePmem::new(alloc),
     };
     cnvm(alloc, words, &mut world)
 }

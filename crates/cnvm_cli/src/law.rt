@@ -1,0 +1,16 @@
+//! The laws of runs, for a reader of the top call's clause.
+
+ghost use Rattle.cnvm_cli.specs.Course.{CourseLaw};
+ghost use Rattle.cnvm_cli.specs.Rest.{RestLaw};
+
+/// A run that nothing interrupts has played exactly the due events, has written exactly the due lines,
+/// and ends with the due value. It does nothing.
+pub fn course_law()
+    ensures { CourseLaw }
+{}
+
+/// Behind such a run each line of the pool has one version, and the field holds the due value. It does
+/// nothing.
+pub fn rest_law()
+    ensures { RestLaw }
+{}
