@@ -1,6 +1,6 @@
 -- The structs, root declarations and functions of a program, each in the order of the text, and what
 -- a name means: its first declaration.
-use Rattle.std.specs.Prelude.{ℕ, ℤ, pos, negsuc, suc, ◌+◌, ◌-◌, ◌^◌, min, List, [], ◌∷◌, map, Bool, false, ◌&&◌, nat_le, nat_eq, if◌then◌else◌, Option, None, Some, option_map, option_and_then, bytes_eq, slice_get}
+use Rattle.std.specs.Prelude.{ℕ, ℤ, pos, negsuc, suc, ◌+◌, ◌-◌, ◌^◌, min, List, [], ◌∷◌, map, Bool, false, ◌&&◌, nat_le, nat_lt, nat_eq, if◌then◌else◌, Option, None, Some, option_map, option_and_then, bytes_eq, slice_get}
 use Rattle.std.specs.Option.{option_map_or}
 use Rattle.c_parser.specs.ExprTree.{Ident}
 use Rattle.c_parser.specs.StmtTree.{TypeTree}
@@ -113,3 +113,21 @@ pointer_type t name = option_map_or (λ i. if nat_le (words_at t i) 15 then Poin
 abbrev pub declared_type : Tables → TypeTree → ValueType
 declared_type t stmt.Int = Int
 declared_type t (stmt.Pointer name) = pointer_type t name.text
+
+-- the words of the fields from place i on that stand before the field at place n
+abbrev pub words_before : ℕ → ℕ → List FieldTree → ℕ
+words_before n i [] = 0
+words_before n i (f ∷ fs) = (if nat_lt i n then field_words f else 0) + words_before n (i + 1) fs
+
+-- the word at which the field at place n of a struct begins, counted as the words are
+abbrev pub word_of : StructTree → ℕ → ℕ
+word_of s n = min (words_before n 0 s.fields) (2 ^ 64 - 1)
+
+-- how many structs from place i on, up to the one at place n, have at most 15 words
+abbrev pub numbered_up_to : ℕ → ℕ → List StructTree → ℕ
+numbered_up_to n i [] = 0
+numbered_up_to n i (s ∷ ss) = (if nat_le i n && nat_le (words_of s) 15 then 1 else 0) + numbered_up_to n (i + 1) ss
+
+-- the number of the struct at place n, which has at most 15 words
+abbrev pub number_at : Tables → ℕ → ℕ
+number_at t n = numbered_up_to n 0 t.structs

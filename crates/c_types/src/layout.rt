@@ -1,6 +1,6 @@
 //! A struct, the names of its fields, and the number of its words.
 
-ghost use Rattle.std.specs.Prelude.{◌≡◌, ◌-◌, ◌^◌, min, IfOk, map, option_map};
+ghost use Rattle.std.specs.Prelude.{◌≡◌, ◌-◌, ◌^◌, min, IfOk, map, option_map, if◌then◌else◌};
 ghost use Rattle.c_parser.specs.ExprTree.{ident_of};
 ghost use Rattle.c_parser.specs.ItemTree.{FieldTree, field_of};
 ghost use Rattle.c_types.specs.Tables as tables;
@@ -70,6 +70,13 @@ impl<'a> Layout<'a> {
         self.names.find(name)
     }
 
+    /// The word at which the field at a place begins.
+    pub fn word_of(&self, place: u64) -> u64
+        ensures { result ≡ tables.word_of self.now place }
+    {
+        words_before(place, &self.definition.fields)
+    }
+
     /// The first field of that name.
     pub fn field(&self, name: &str) -> Option<&'a Field>
         ensures { option_map (λ f. field_of f.now) result ≡ tables.field_named self.now name.now }
@@ -100,6 +107,24 @@ fn words_of(names: &Names<'_>, fields: &[Field]) -> u64
         at += 1;
     }
     words
+}
+
+fn words_before(place: u64, fields: &[Field]) -> u64
+    ensures { result ≡ min (tables.words_before place 0 (map field_of fields.now)) (2 ^ 64 - 1) }
+{
+    let mut words = 0u64;
+    let mut at = 0u64;
+    for field in fields {
+        words = words.saturating_add(words_if(at < place, field));
+        at += 1;
+    }
+    words
+}
+
+fn words_if(counts: bool, field: &Field) -> u64
+    ensures { result ≡ (if counts then tables.field_words (field_of field.now) else 0) }
+{
+    if counts { field_words(field) } else { 0 }
 }
 
 fn counted_words(names: &Names<'_>, at: u64, field: &Field) -> u64

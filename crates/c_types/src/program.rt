@@ -142,6 +142,13 @@ impl<'a> Program<'a> {
         }
     }
 
+    /// The number of the struct at a place, which has at most 15 words: the kind of its objects.
+    pub fn number_at(&self, at: u64) -> u64
+        ensures { result ≡ tables.number_at (tables_in self.now) at }
+    {
+        numbered_up_to(at, &self.structs)
+    }
+
     /// The type of a pointer to the struct of that name.
     pub fn pointer_type(&self, name: &str) -> ValueType
         ensures { result ≡ tables.pointer_type (tables_in self.now) name.now }
@@ -223,4 +230,18 @@ fn function_names<'a>(alloc: Global, functions: &[&'a Function]) -> Result<Names
         names.push(function.name.text.as_str())?;
     }
     Ok(names)
+}
+
+fn numbered_up_to(place: u64, structs: &[Layout<'_>]) -> u64
+    ensures { result ≡ tables.numbered_up_to place 0 structs.now }
+{
+    let mut number = 0u64;
+    let mut at = 0u64;
+    for layout in structs {
+        if at <= place && layout.words() <= 15 {
+            number += 1;
+        }
+        at += 1;
+    }
+    number
 }
