@@ -6,7 +6,7 @@ ghost use Rattle.pool_layout.specs.Sizes.{pool_lines, heap_words};
 ghost use Rattle.pool_layout.specs.Places.{at, pool_of};
 ghost use Rattle.pool_layout.specs.declared.places.Place.TheVariants.{Heap};
 ghost use Rattle.clobber_log.specs.Record.{record_events};
-ghost use Rattle.clobber_log.specs.Logs.{attempt_in, count_in, HasLog};
+ghost use Rattle.clobber_log.specs.Logs.{attempt_in, count_in};
 ghost use Rattle.clobber_log.specs.Append.{Appended};
 
 use crate::record::append_record;
@@ -29,7 +29,6 @@ pub enum AppendAnswer {
 /// nothing has changed.
 pub fn append<P: PmemWork>(sizes: &Sizes, dev: &mut P, heap_word: u64) -> AppendAnswer
     requires lines { (P.device dev.old).lines ≡ pool_lines sizes.now }
-    requires log { HasLog sizes.now (view (P.device dev.old).cache) }
     requires inside { heap_word < heap_words sizes.now }
     ensures full { (P.device dev.old).on ≡ true → count_in sizes.now (view (P.device dev.old).cache) ≡ sizes.now.records → (result ≡ AppendAnswer.Full) × (P.device dev.new ≡ P.device dev.old) }
     ensures played { (P.device dev.old).on ≡ true → count_in sizes.now (view (P.device dev.old).cache) ≢ sizes.now.records → Appended result (P.device dev.old) (record_events sizes.now (count_in sizes.now (view (P.device dev.old).cache)) heap_word (view (P.device dev.old).cache (at (pool_of sizes.now) (Heap heap_word))) (attempt_in sizes.now (view (P.device dev.old).cache) + 1)) (P.device dev.new) }

@@ -1,6 +1,6 @@
 //! One record of the log.
 
-ghost use Rattle.std.specs.Prelude.{◌≡◌, ◌+◌, ◌*◌, ◌^◌, ◌<◌, ◌≤◌, true, OnOk, IfErr};
+ghost use Rattle.std.specs.Prelude.{◌≡◌, ◌-◌, ◌+◌, ◌*◌, ◌^◌, ◌<◌, ◌≤◌, true, OnOk, IfErr};
 ghost use Rattle.cache_model.specs.Cache.{view};
 ghost use Rattle.pmem.specs.Played.{PlaysAll, PlaysPart};
 ghost use Rattle.pool_layout.specs.Sizes.{pool_lines, heap_words};
@@ -22,7 +22,7 @@ pub fn append_record<P: PmemWork>(
     heap_word: u64,
 ) -> Result<(), Refusal>
     requires room { i < sizes.now.records }
-    requires attempt { attempt ≤ 2 ^ 62 }
+    requires attempt { attempt ≤ 2 ^ 63 - 2 }
     requires inside { heap_word < heap_words sizes.now }
     requires lines { (P.device dev.old).lines ≡ pool_lines sizes.now }
     requires on { (P.device dev.old).on ≡ true }
