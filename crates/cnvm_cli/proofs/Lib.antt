@@ -1,5 +1,6 @@
 mod Course
 mod Digits
+mod FormReading
 mod Lines
 mod Pieces
 mod Places

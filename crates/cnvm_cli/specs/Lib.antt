@@ -5,6 +5,7 @@ pub mod CallView
 pub mod Course
 pub mod Due
 pub mod Form
+pub mod FormText
 pub mod Name
 pub mod Placed
 pub mod Reading
@@ -14,6 +15,7 @@ pub mod Scan
 pub mod Script
 pub mod ScriptAnswers
 pub mod Session
+pub mod StatusNumber
 pub mod Texts
 pub mod Verdict
 pub mod Views

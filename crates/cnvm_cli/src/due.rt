@@ -101,7 +101,7 @@ pub fn adding_events(call: Called) -> [Due; 20]
         Due::Fence,
         Due::Store(Place::Heap(0), call.after),
         Due::Flush(Place::Heap(0)),
-        Due::Fence,
+        Due::Fence, // The field is safe before the call retires.
         Due::Store(Place::Last, call.after),
         Due::Store(Place::Done, call.number),
         Due::Store(Place::Attempt, call.number),

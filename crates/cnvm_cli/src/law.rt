@@ -1,6 +1,7 @@
 //! The laws of runs, for a reader of the top call's clause.
 
 ghost use Rattle.cnvm_cli.specs.Course.{CourseLaw};
+ghost use Rattle.cnvm_cli.specs.FormText.{FormLaw};
 ghost use Rattle.cnvm_cli.specs.Rest.{RestLaw};
 
 /// A run that nothing interrupts has played exactly the due events, has written exactly the due lines,
@@ -13,4 +14,10 @@ pub fn course_law()
 /// nothing.
 pub fn rest_law()
     ensures { RestLaw }
+{}
+
+/// A text is read as a program in the one-counter form exactly where it is that program written out.
+/// It does nothing.
+pub fn form_law()
+    ensures { FormLaw }
 {}

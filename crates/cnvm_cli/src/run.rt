@@ -10,6 +10,7 @@ ghost use Rattle.cnvm_cli.specs.Asked.{asked};
 ghost use Rattle.cnvm_cli.specs.AnswerText.{answer_text};
 ghost use Rattle.cnvm_cli.specs.CallView.{call_view};
 ghost use Rattle.cnvm_cli.specs.Session.{IsOn};
+ghost use Rattle.cnvm_cli.specs.StatusNumber.{number_of};
 ghost use Rattle.cnvm_cli.specs.Texts.{TextIs, CompiledAs, CallsAs, ProgramIs, ScriptIs, PreparedAs};
 ghost use Rattle.cnvm_cli.specs.Verdict.{refusal_line, by_texts, verdict};
 ghost use Rattle.cnvm_cli.specs.Run.{IsDefault, RunsAll, RunsPart, RanAs, RefusedAs, EndsAs};
@@ -64,7 +65,9 @@ pub enum Status {
 
 impl Status {
     /// The exit status.
-    pub fn number(self) -> u8 {
+    pub fn number(self) -> u8
+        ensures { result ≡ number_of self }
+    {
         match self {
             Status::Done => 0,
             Status::NoMemory => 1,
