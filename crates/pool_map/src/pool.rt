@@ -1,6 +1,7 @@
 //! The pool: root words, and a map from slots to objects.
 
 ghost use Rattle.std.specs.Prelude.{◌≡◌, OnOk, OnErr, IfOk, ◌<◌, ◌≤◌, length, Option, None, Some, IsSome, option_map, replicate};
+ghost use Rattle.std.specs.Bool.{Decides};
 ghost use Rattle.pool_map.specs.PoolMap.{empty_pool, IsSlot, object_at, least_free, new, free, HasField, read, write, read_root, write_root};
 
 use crate::object::{Object, copied, zeros};
@@ -132,6 +133,23 @@ impl Pool {
             Some(object) => object.fields.set(field, value),
             None => unreachable!(),
         }
+    }
+
+    /// Whether the object in a slot has this field word, for any numbers. It takes no memory.
+    pub fn has_field(&self, slot: u64, field: u64) -> bool
+        ensures { Decides result (HasField self.now slot field) }
+    {
+        match self.object(slot) {
+            Some(object) => field < object.fields.as_slice().len() as u64,
+            None => false,
+        }
+    }
+
+    /// Whether there is this root word. It takes no memory.
+    pub fn has_root_word(&self, word: u64) -> bool
+        ensures { Decides result (word < length self.now.root) }
+    {
+        word < self.root.as_slice().len() as u64
     }
 
     /// A root word. It takes no memory.
