@@ -6,9 +6,11 @@
 mod appending;
 mod record;
 mod renewal;
+mod restoring;
 mod valid;
 
 pub use appending::{AppendAnswer, append};
 pub use record::append_record;
 pub use renewal::reset;
+pub use restoring::restore;
 pub use valid::{attempt, count};
