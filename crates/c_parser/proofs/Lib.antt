@@ -12,3 +12,4 @@ pub mod Back
 pub mod Finish
 pub mod Viable
 pub mod Accepting
+pub mod FixesExpr

@@ -11,3 +11,4 @@ pub mod Spelling
 pub mod StmtSpelling
 pub mod ItemSpelling
 pub mod Exact
+pub mod Fixes

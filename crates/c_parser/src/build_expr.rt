@@ -1,9 +1,13 @@
 //! Expressions, built from tokens that were judged before. Where a token stands that no program
 //! has there, some tree is built all the same.
 
-ghost use Rattle.std.specs.Prelude.{◌≡◌, ◌<◌, ◌≤◌, ◌+◌, length, IfOk, IsSome};
+ghost use Rattle.std.specs.Prelude.{◌≡◌, ◌<◌, ◌≤◌, ◌+◌, length, IfOk, OnOk, IsSome};
 ghost use Rattle.c_parser.specs.Kinds as kinds;
 ghost use Rattle.c_parser.specs.Operators.{level_of, op_at, sign_of};
+ghost use Rattle.c_parser.specs.ExprTree as trees;
+ghost use Rattle.c_parser.specs.ExprTree.{ident_of, expr_of, arguments_in, followed_by};
+ghost use Rattle.c_parser.specs.Spelling.{Level, Unary, Postfix, Parts, Primary, Arguments};
+ghost use Rattle.c_parser.specs.Fixes.{Fixes, Ended, Over, Uncalled};
 
 use crate::expr::{Argument, BinaryOp, Expr, Name, UnaryOp};
 use crate::kind::{Kind, behind, kind_at, name_at, value_at};
@@ -60,7 +64,9 @@ fn make_binary(
     place: u64,
     left: Expr,
     right: Expr,
-) -> Result<Expr, AllocError> {
+) -> Result<Expr, AllocError>
+    ensures { IfOk result (λ e. expr_of e ≡ trees.Binary op place (expr_of left) (expr_of right)) }
+{
     let left = Box::new(alloc, left)?;
     let right = Box::new(alloc, right)?;
     Ok(Expr::Binary {
@@ -71,27 +77,38 @@ fn make_binary(
     })
 }
 
-fn make_unary(alloc: Global, op: UnaryOp, place: u64, operand: Expr) -> Result<Expr, AllocError> {
+fn make_unary(alloc: Global, op: UnaryOp, place: u64, operand: Expr) -> Result<Expr, AllocError>
+    ensures { IfOk result (λ e. expr_of e ≡ trees.Unary op place (expr_of operand)) }
+{
     let operand = Box::new(alloc, operand)?;
     Ok(Expr::Unary { op, place, operand })
 }
 
-fn make_arrow(alloc: Global, base: Expr, place: u64, field: Name) -> Result<Expr, AllocError> {
+fn make_arrow(alloc: Global, base: Expr, place: u64, field: Name) -> Result<Expr, AllocError>
+    ensures { IfOk result (λ e. expr_of e ≡ trees.Arrow (expr_of base) place (ident_of field)) }
+{
     let base = Box::new(alloc, base)?;
     Ok(Expr::Arrow { base, place, field })
 }
 
-fn make_index(alloc: Global, base: Expr, place: u64, index: Expr) -> Result<Expr, AllocError> {
+fn make_index(alloc: Global, base: Expr, place: u64, index: Expr) -> Result<Expr, AllocError>
+    ensures { IfOk result (λ e. expr_of e ≡ trees.Index (expr_of base) place (expr_of index)) }
+{
     let base = Box::new(alloc, base)?;
     let index = Box::new(alloc, index)?;
     Ok(Expr::Index { base, place, index })
 }
 
-fn make_call(name: Name, arguments: Vec<Argument>) -> Expr {
+fn make_call(name: Name, arguments: Vec<Argument>) -> Expr
+    ensures { expr_of result ≡ trees.Call (ident_of name) (arguments_in arguments.items) }
+{
     Expr::Call { name, arguments }
 }
 
-fn add_argument(all: &mut Vec<Argument>, first: u64, value: Expr) -> Result<(), AllocError> {
+#[tactic(auto, using(crate::proofs::FixesExpr::trees))]
+fn add_argument(all: &mut Vec<Argument>, first: u64, value: Expr) -> Result<(), AllocError>
+    ensures { OnOk result ((es : trees.Arguments) → followed_by (arguments_in all.new.items) es ≡ followed_by (arguments_in all.old.items) (trees.More first (expr_of value) es)) }
+{
     all.push(Argument { first, value })?;
     Ok(())
 }
@@ -100,14 +117,17 @@ fn add_argument(all: &mut Vec<Argument>, first: u64, value: Expr) -> Result<(), 
 #[cycle(expressions)]
 pub fn expression(alloc: Global, tokens: &TokenList, at: u64) -> Result<(Expr, u64), AllocError>
     ensures stays { IfOk result (λ r. at ≤ r.1) }
+    ensures fixes { IfOk result (λ r. Fixes (Ended tokens.now.tokens (Over 10) (Level tokens.now.tokens 10 at)) r.1 (expr_of r.0)) }
 {
     binary(alloc, tokens, at, LEVELS)
 }
 
 /// The operators of levels 1 to `level` over unaries.
 #[cycle(expressions)]
+#[tactic(auto, using(crate::proofs::FixesExpr::binaries))]
 fn binary(alloc: Global, tokens: &TokenList, at: u64, level: u8) -> Result<(Expr, u64), AllocError>
     ensures stays { IfOk result (λ r. at ≤ r.1) }
+    ensures fixes { IfOk result (λ r. Fixes (Ended tokens.now.tokens (Over level) (Level tokens.now.tokens level at)) r.1 (expr_of r.0)) }
 {
     if level == 0 {
         return unary(alloc, tokens, at);
@@ -124,8 +144,10 @@ fn binary(alloc: Global, tokens: &TokenList, at: u64, level: u8) -> Result<(Expr
 }
 
 #[cycle(expressions)]
+#[tactic(auto, using(crate::proofs::FixesExpr::unaries))]
 fn unary(alloc: Global, tokens: &TokenList, at: u64) -> Result<(Expr, u64), AllocError>
     ensures stays { IfOk result (λ r. at ≤ r.1) }
+    ensures fixes { IfOk result (λ r. Fixes (Ended tokens.now.tokens (Over 0) (Unary tokens.now.tokens at)) r.1 (expr_of r.0)) }
 {
     if let Some(op) = sign_at(tokens, at) {
         let (operand, next) = unary(alloc, tokens, behind(tokens, at))?;
@@ -136,8 +158,10 @@ fn unary(alloc: Global, tokens: &TokenList, at: u64) -> Result<(Expr, u64), Allo
 
 /// A primary with the fields and elements that are taken of it.
 #[cycle(expressions)]
+#[tactic(auto, using(crate::proofs::FixesExpr::postfixes))]
 pub fn postfix(alloc: Global, tokens: &TokenList, at: u64) -> Result<(Expr, u64), AllocError>
     ensures stays { IfOk result (λ r. at ≤ r.1) }
+    ensures fixes { IfOk result (λ r. Fixes (Ended tokens.now.tokens (Over 0) (Postfix tokens.now.tokens at)) r.1 (expr_of r.0)) }
 {
     let (base, next) = primary(alloc, tokens, at)?;
     parts(alloc, tokens, next, base)
@@ -145,8 +169,10 @@ pub fn postfix(alloc: Global, tokens: &TokenList, at: u64) -> Result<(Expr, u64)
 
 /// What is taken of what was read so far.
 #[cycle(expressions)]
+#[tactic(auto, using(crate::proofs::FixesExpr::all_parts))]
 fn parts(alloc: Global, tokens: &TokenList, at: u64, base: Expr) -> Result<(Expr, u64), AllocError>
     ensures stays { IfOk result (λ r. at ≤ r.1) }
+    ensures fixes { IfOk result (λ r. Fixes (Ended tokens.now.tokens (Over 0) (λ k t. Parts tokens.now.tokens at k (expr_of base) t)) r.1 (expr_of r.0)) }
 {
     match kind_at(tokens, at) {
         Kind::Arrow => {
@@ -165,8 +191,10 @@ fn parts(alloc: Global, tokens: &TokenList, at: u64, base: Expr) -> Result<(Expr
 }
 
 #[cycle(expressions)]
+#[tactic(auto, using(crate::proofs::FixesExpr::primaries))]
 fn primary(alloc: Global, tokens: &TokenList, at: u64) -> Result<(Expr, u64), AllocError>
     ensures stays { IfOk result (λ r. at ≤ r.1) }
+    ensures fixes { IfOk result (λ r. Fixes (Ended tokens.now.tokens Uncalled (Primary tokens.now.tokens at)) r.1 (expr_of r.0)) }
 {
     let next = behind(tokens, at);
     match kind_at(tokens, at) {
@@ -200,8 +228,10 @@ fn primary(alloc: Global, tokens: &TokenList, at: u64) -> Result<(Expr, u64), Al
 
 /// The arguments of a call, from behind its opening bracket to behind the closing one.
 #[cycle(expressions)]
+#[tactic(auto, using(crate::proofs::FixesExpr::all_arguments))]
 fn arguments(alloc: Global, tokens: &TokenList, at: u64) -> Result<(Vec<Argument>, u64), AllocError>
     ensures stays { IfOk result (λ r. at ≤ r.1) }
+    ensures fixes { IfOk result (λ r. Fixes (Arguments tokens.now.tokens at) r.1 (arguments_in r.0.items)) }
 {
     let mut all = Vec::new(alloc);
     if kind_at(tokens, at) == Kind::CloseRound {
