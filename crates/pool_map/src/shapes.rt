@@ -1,6 +1,6 @@
 //! The shapes of a program's structs: their names, and their fields' names and lengths.
 
-ghost use Rattle.std.specs.Prelude.{[], ◌∷◌, ◌++◌, ◌≡◌, OnOk, OnErr};
+ghost use Rattle.std.specs.Prelude.{[], ◌∷◌, ◌++◌, ◌≡◌, OnOk, OnErr, IfOk};
 
 use nvm_base::Text;
 use std::alloc::{AllocError, Global};
@@ -119,4 +119,71 @@ impl StructShapes {
 pub struct Shapes {
     pub root: FieldShapes,
     pub structs: StructShapes,
+}
+
+/// A copy of a text.
+fn text_copy(alloc: Global, text: &Text) -> Result<Text, AllocError>
+    ensures { IfOk result (λ t. t ≡ text.now) }
+{
+    let mut copy = Text::new(alloc);
+    copy.push(text.as_str())?;
+    Ok(copy)
+}
+
+impl FieldShape {
+    fn copy(&self, alloc: Global) -> Result<FieldShape, AllocError>
+        ensures { IfOk result (λ f. f ≡ self.now) }
+    {
+        Ok(FieldShape {
+            name: text_copy(alloc, &self.name)?,
+            length: self.length,
+        })
+    }
+}
+
+impl FieldShapes {
+    fn copy(&self, alloc: Global) -> Result<FieldShapes, AllocError>
+        ensures { IfOk result (λ f. f ≡ self.now) }
+    {
+        let mut copy = FieldShapes::new(alloc);
+        for field in self.as_slice() {
+            copy.push(field.copy(alloc)?)?;
+        }
+        Ok(copy)
+    }
+}
+
+impl StructShape {
+    fn copy(&self, alloc: Global) -> Result<StructShape, AllocError>
+        ensures { IfOk result (λ s. s ≡ self.now) }
+    {
+        Ok(StructShape {
+            name: text_copy(alloc, &self.name)?,
+            fields: self.fields.copy(alloc)?,
+        })
+    }
+}
+
+impl StructShapes {
+    fn copy(&self, alloc: Global) -> Result<StructShapes, AllocError>
+        ensures { IfOk result (λ s. s ≡ self.now) }
+    {
+        let mut copy = StructShapes::new(alloc);
+        for shape in self.as_slice() {
+            copy.push(shape.copy(alloc)?)?;
+        }
+        Ok(copy)
+    }
+}
+
+impl Shapes {
+    /// The same shapes once more.
+    pub fn copy(&self, alloc: Global) -> Result<Shapes, AllocError>
+        ensures { IfOk result (λ s. s ≡ self.now) }
+    {
+        Ok(Shapes {
+            root: self.root.copy(alloc)?,
+            structs: self.structs.copy(alloc)?,
+        })
+    }
 }
