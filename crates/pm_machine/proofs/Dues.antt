@@ -57,7 +57,7 @@ module _ (image : Image) (a : ℕ) where
   due_on : (k n : ℕ) (s : State) (c : Cache) (o : Outcome) → Keeps image.parts.sizes.records (heap_words image.parts.sizes) n s.logged o →
       ((m : ℕ) (t : State) (d : Cache) → AreLines (heap_words image.parts.sizes) t.dirty → IsFinished (run image k m t (heap_of d)) → due image a k m t d ≡ owed image.parts.sizes a m (heap_of d) (run image k m t (heap_of d))) →
       IsFinished (follow (λ e t. run image k (records_past n e) t (heap_past (heap_of c) e)) o) →
-      owing (events_of image.parts.sizes a n (heap_of c)) (λ e t. due image a k (records_past n e) t (play c (events_of image.parts.sizes a n (heap_of c) e))) o
+      owing n (events_of image.parts.sizes a n (heap_of c)) (λ e t. due image a k (records_past n e) t (play c (events_of image.parts.sizes a n (heap_of c) e))) o
       ≡ owed image.parts.sizes a n (heap_of c) (follow (λ e t. run image k (records_past n e) t (heap_past (heap_of c) e)) o)
   due_on k n s c (Ends end) keeps next ends = refl
   due_on k n s c (Goes e t) keeps next ends =

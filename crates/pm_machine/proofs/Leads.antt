@@ -1,5 +1,5 @@
 -- The loop of a run: what is left leads where all of it leads.
-use Rattle.std.proofs.Common.{◌≡◌, ℕ, suc, ◌+◌, ◌-◌, ◌<◌, ◌≤◌, List, [], ◌∷◌, Some, refl, sym, ap, ◌∙◌, subst, arith}
+use Rattle.std.proofs.Common.{◌≡◌, ℕ, suc, ◌+◌, ◌-◌, ◌<◌, ◌≤◌, List, [], ◌∷◌, Some, None, refl, sym, ap, ◌∙◌, subst, arith}
 use Rattle.cache_model.specs.Event.{CacheEvent}
 use Rattle.cache_model.specs.Cache.{Cache}
 use Rattle.cache_model.specs.Play.{play}
@@ -30,6 +30,7 @@ leads_next d k es x d0 k0 x0 b all h = record {
   whole = λ c p. h.whole c (all_append es x.events d b c all p);
   part = λ why c p. h.part why c (part_right es x.events why d b c all p);
   steps = let e = h.steps in omega arith;
+  records = h.records;
 }
 
 -- a step of the loop, with m steps left
@@ -47,10 +48,10 @@ module _ (image : Image) (a m n : ℕ) (s : State) (d : Device) (k : ℕ) (d0 : 
   rest e t = due image a (m - 1) (records_past n e) t (play d.cache (events e))
 
   -- m isn't 0, and the step is known
-  opened : (o : Outcome) → 0 < m → Left m → o ≡ taken → Leads d k (owing events rest o) d0 k0 x0
+  opened : (o : Outcome) → 0 < m → Left m → o ≡ taken → Leads d k (owing n events rest o) d0 k0 x0
   opened o some h is =
       let e : m ≡ suc (m - 1) = omega arith in
-      subst (λ (o : Outcome). Leads d k (owing events rest o) d0 k0 x0) (sym is) (subst Left e h)
+      subst (λ (o : Outcome). Leads d k (owing n events rest o) d0 k0 x0) (sym is) (subst Left e h)
 
   pub leads_did : (p : Progress) (e : Effect) (t : State) (b : Device) (k1 : ℕ) →
       p ≡ Did e → outcome_of p t ≡ taken → PlaysAll d (events (effect_of p)) b → k1 ≡ k + 1 → 0 < m → Left m →
@@ -65,13 +66,20 @@ module _ (image : Image) (a m n : ℕ) (s : State) (d : Device) (k : ℕ) (d0 : 
 
   pub leads_ended : (p : Progress) (end : End) (t : State) (b : Device) (k1 : ℕ) →
       p ≡ Ended end → outcome_of p t ≡ taken → PlaysAll d (events (effect_of p)) b → k1 ≡ k + 1 → 0 < m → Left m →
-      (x0.fate ≡ Some end) × PlaysAll d0 x0.events b × (k1 ≡ k0 + x0.steps)
+      (x0.fate ≡ Some end) × PlaysAll d0 x0.events b × (k1 ≡ k0 + x0.steps) × (x0.records ≡ n)
   leads_ended p end t b k1 ended is played tick some h =
       let o : Ends end ≡ taken = ap (λ (p : Progress). outcome_of p t) (sym ended) ∙ is in
       let all : PlaysAll d [] b = subst (λ (p : Progress). PlaysAll d (events (effect_of p)) b) ended played in
       let l = opened (Ends end) some h o in
       let same : k + 1 ≡ k0 + x0.steps = l.steps in
-      (sym l.fate, l.whole b all, tick ∙ same)
+      (sym l.fate, l.whole b all, tick ∙ same, sym l.records)
+
+  -- no step is left
+  pub leads_over : m ≡ 0 → Left m → (x0.fate ≡ None) × PlaysAll d0 x0.events d × (k ≡ k0 + x0.steps) × (x0.records ≡ n)
+  leads_over none h =
+      let l = subst Left none h in
+      let same : k + 0 ≡ k0 + x0.steps = l.steps in
+      (sym l.fate, l.whole d refl, omega arith, sym l.records)
 
   -- the count of LOGs leaves the effect
   tally_effect : (o : Outcome) → effect_in (tally o) ≡ effect_in o
@@ -83,6 +91,6 @@ module _ (image : Image) (a m n : ℕ) (s : State) (d : Device) (k : ℕ) (d0 : 
   leads_refused why b k1 part tick some h =
       go taken (subst (λ (e : Effect). PlaysPart why d (events e) b) (sym (tally_effect (decide image n s (heap_in image.parts.sizes d.cache)))) part) (opened taken some h refl)
     where
-      go : (o : Outcome) → PlaysPart why d (events (effect_in o)) b → Leads d k (owing events rest o) d0 k0 x0 → PlaysPart why d0 x0.events b × (k1 ≤ k0 + x0.steps)
+      go : (o : Outcome) → PlaysPart why d (events (effect_in o)) b → Leads d k (owing n events rest o) d0 k0 x0 → PlaysPart why d0 x0.events b × (k1 ≤ k0 + x0.steps)
       go (Goes e t) part l = (l.part why b (part_left (events e) (rest e t).events why d b part), let q = l.steps in omega arith)
       go (Ends end) part l = absurd part

@@ -132,11 +132,11 @@ records_fit C H n (Flushes l) fits le = le
 records_fit C H n Fences fits le = le
 records_fit C H n Quiet fits le = le
 
--- no more LOGs than records
-pub logged_fit : (k n : ℕ) (e : Effect) → k ≤ n → records_past k e ≤ records_past n e
-logged_fit k n (Loads w) le = le
-logged_fit k n (Stores w x) le = le
-logged_fit k n (Logs w) le = omega arith
-logged_fit k n (Flushes l) le = le
-logged_fit k n Fences le = le
-logged_fit k n Quiet le = le
+-- one more LOG is one more record
+pub logged_fit : (k n c m : ℕ) (e : Effect) → k + c ≡ n + m → records_past k e + c ≡ records_past n e + m
+logged_fit k n c m (Loads w) same = same
+logged_fit k n c m (Stores w x) same = same
+logged_fit k n c m (Logs w) same = omega arith
+logged_fit k n c m (Flushes l) same = same
+logged_fit k n c m Fences same = same
+logged_fit k n c m Quiet same = same

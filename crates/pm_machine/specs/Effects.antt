@@ -33,6 +33,11 @@ records_past n (Flushes l) = n
 records_past n Fences = n
 records_past n Quiet = n
 
+-- how many records there are behind a run
+abbrev pub records_end : ℕ → List Effect → ℕ
+records_end n [] = n
+records_end n (e ∷ es) = records_end (records_past n e) es
+
 -- the events of a step, with attempt a, n records so far and the heap so far
 abbrev pub events_of : Sizes → (a n : ℕ) → Words → Effect → List CacheEvent
 events_of s a n heap (Loads w) = []

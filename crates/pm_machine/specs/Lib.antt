@@ -5,3 +5,4 @@ pub mod Transactions
 pub mod Effects
 pub mod Machine
 pub mod Runs
+pub mod Answers

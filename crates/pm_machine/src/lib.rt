@@ -3,13 +3,16 @@
 //! line of the machine's table, on the device's view.
 #![tactic(auto)]
 
+mod answer;
 mod effect;
 mod frame;
 mod frames;
 mod image;
 mod machine;
 mod op;
+mod playing;
 
+pub use answer::{RunAnswer, StepAnswer};
 pub use effect::{Effect, End};
 pub use frame::{Frame, RegisterWords};
 pub use frames::Frames;

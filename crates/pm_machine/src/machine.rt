@@ -12,7 +12,7 @@ ghost use Rattle.pm_machine.specs.declared.machine.Progress.TheVariants as progr
 ghost use Rattle.pm_machine.specs.declared.effect.End.TheVariants.{Halted, Trapped};
 ghost use Rattle.pm_machine.specs.Machine.{State, read, passed, moved, written, stored, cleaned, placed, entered, returned, return, load, store, log, flush, call, act, Goes, Ends, spent, index_of, word_at, target, fetch, decide, tallied, step, trap_at, start, filled};
 ghost use Rattle.pm_machine.specs.Effects.{events_of, records_past};
-ghost use Rattle.pm_machine.specs.Runs.{heap_in, outcome_of, effect_of, effect_in, IsStore, IsInRange, AreLines, due};
+ghost use Rattle.pm_machine.specs.Runs.{heap_in, outcome_of, effect_of, effect_in, IsStore, IsInRange, AreLines, due, end_of};
 
 use crate::effect::{Effect, End};
 use crate::frame::{Frame, RegisterWords};
@@ -159,7 +159,8 @@ impl Machine {
     /// Opens a function on a spare frame, where one is left.
     fn enter(&mut self, r: u32, f: u32, args: &[u32]) -> bool
         requires { self.old.top.place < 2 ^ 63 }
-        ensures { (if result then Goes Quiet self.new else Ends (Trapped trap.Depth)) ≡ call self.old r f args.now }
+        ensures meaning { (if result then Goes Quiet self.new else Ends (Trapped trap.Depth)) ≡ call self.old r f args.now }
+        ensures logged { self.new.logged ≡ self.old.logged }
     {
         let Some(mut frame) = self.spare.pop() else {
             return false;
@@ -177,7 +178,8 @@ impl Machine {
 
     /// Ends the open function with the value of a register, or the run.
     fn leave(&mut self, a: u32) -> Progress
-        ensures { outcome_of result self.new ≡ return self.old (read self.old a) (slice_get self.old.below (length self.old.below - 1)) }
+        ensures meaning { outcome_of result self.new ≡ return self.old (read self.old a) (slice_get self.old.below (length self.old.below - 1)) }
+        ensures logged { self.new.logged ≡ self.old.logged }
     {
         let value = self.read(a);
         let Some(mut caller) = self.below.pop() else {
@@ -213,6 +215,7 @@ impl Machine {
         requires within { ForSome word (λ w. w < heap_words image.now.parts.sizes) }
         ensures meaning { IfOk result (λ p. outcome_of p self.new ≡ load (heap_in image.now.parts.sizes (P.device dev.now).cache) self.old r word) }
         ensures never { IsOk result }
+        ensures logged { self.new.logged ≡ self.old.logged }
     {
         match word {
             None => {
@@ -235,6 +238,7 @@ impl Machine {
         ensures only { OnErr result (IsErrOf result Refusal.NoMemory) }
         ensures wants { OnErr result (IsStore (effect_in (store self.old x word))) }
         ensures err { OnErr result (self.new ≡ self.old) }
+        ensures logged { self.new.logged ≡ self.old.logged }
     {
         match word {
             None => {
@@ -251,7 +255,8 @@ impl Machine {
     /// The record is counted once its events were done.
     fn log(&mut self, records: u64, count: u64, word: Option<u64>) -> Progress
         requires { self.old.top.place < 2 ^ 63 }
-        ensures { outcome_of result self.new ≡ log records count self.old word }
+        ensures meaning { outcome_of result self.new ≡ log records count self.old word }
+        ensures logged { self.new.logged ≡ self.old.logged }
     {
         match word {
             None => {
@@ -271,7 +276,8 @@ impl Machine {
 
     fn flush(&mut self) -> Progress
         requires { self.old.top.place < 2 ^ 63 }
-        ensures { outcome_of result self.new ≡ flush self.old (slice_get self.old.dirty 0) }
+        ensures meaning { outcome_of result self.new ≡ flush self.old (slice_get self.old.dirty 0) }
+        ensures logged { self.new.logged ≡ self.old.logged }
     {
         match self.clean() {
             None => {
@@ -284,7 +290,8 @@ impl Machine {
 
     fn call(&mut self, r: u32, f: u32, args: &[u32]) -> Progress
         requires { self.old.top.place < 2 ^ 63 }
-        ensures { outcome_of result self.new ≡ call self.old r f args.now }
+        ensures meaning { outcome_of result self.new ≡ call self.old r f args.now }
+        ensures logged { self.new.logged ≡ self.old.logged }
     {
         if self.enter(r, f, args) {
             Progress::Did(Effect::Quiet)
@@ -295,7 +302,8 @@ impl Machine {
 
     fn tick(&mut self) -> Progress
         requires { self.old.top.place < 2 ^ 63 }
-        ensures { outcome_of result self.new ≡ (if self.old.ticks == 0 then Ends (Trapped trap.Steps) else Goes Quiet (spent self.old)) }
+        ensures meaning { outcome_of result self.new ≡ (if self.old.ticks == 0 then Ends (Trapped trap.Steps) else Goes Quiet (spent self.old)) }
+        ensures logged { self.new.logged ≡ self.old.logged }
     {
         if self.ticks == 0 {
             Progress::Ended(End::Trapped(TrapKind::Steps))
@@ -343,6 +351,7 @@ impl Machine {
         ensures only { OnErr result (IsErrOf result Refusal.NoMemory) }
         ensures wants { OnErr result (IsStore (effect_in (act image.now (heap_in image.now.parts.sizes (P.device dev.now).cache) count self.old (Some op.now)))) }
         ensures err { OnErr result (self.new ≡ self.old) }
+        ensures logged { self.new.logged ≡ self.old.logged }
     {
         let quiet = Ok(Progress::Did(Effect::Quiet));
         match op {
@@ -406,6 +415,7 @@ impl Machine {
         ensures only { OnErr result (IsErrOf result Refusal.NoMemory) }
         ensures wants { OnErr result (IsStore (effect_in (decide image.now count self.old (heap_in image.now.parts.sizes (P.device dev.now).cache)))) }
         ensures err { OnErr result (self.new ≡ self.old) }
+        ensures logged { self.new.logged ≡ self.old.logged }
     {
         match fetch(image, self) {
             None => Ok(Progress::Ended(End::Trapped(TrapKind::Depth))),
@@ -479,7 +489,7 @@ fn perform<P: PmemWork>(
     effect: Effect,
 ) -> Result<(), Refusal>
     requires range { IsInRange sizes.now.records (heap_words sizes.now) count effect }
-    requires attempt { attempt ≤ 2 ^ 62 }
+    requires attempt { attempt ≤ 2 ^ 63 - 2 }
     requires lines { (P.device dev.old).lines ≡ pool_lines sizes.now }
     requires on { (P.device dev.old).on ≡ true }
     ensures done { OnOk result (PlaysAll (P.device dev.old) (events_of sizes.now attempt count (heap_in sizes.now (P.device dev.old).cache) effect) (P.device dev.new)) }
@@ -506,12 +516,13 @@ impl Machine {
     ) -> Result<Progress, Refusal>
         requires lines { (P.device dev.old).lines ≡ pool_lines image.now.parts.sizes }
         requires on { (P.device dev.old).on ≡ true }
-        requires attempt { attempt ≤ 2 ^ 62 }
+        requires attempt { attempt ≤ 2 ^ 63 - 2 }
         requires dirty { AreLines (heap_words image.now.parts.sizes) self.old.dirty }
         requires logged { self.old.logged < 2 ^ 63 }
         ensures meaning { IfOk result (λ p. outcome_of p self.new ≡ step image.now count self.old (heap_in image.now.parts.sizes (P.device dev.old).cache)) }
         ensures done { IfOk result (λ p. PlaysAll (P.device dev.old) (events_of image.now.parts.sizes attempt count (heap_in image.now.parts.sizes (P.device dev.old).cache) (effect_of p)) (P.device dev.new)) }
         ensures refused { IfErr result (λ why. PlaysPart why (P.device dev.old) (events_of image.now.parts.sizes attempt count (heap_in image.now.parts.sizes (P.device dev.old).cache) (effect_in (decide image.now count self.old (heap_in image.now.parts.sizes (P.device dev.old).cache)))) (P.device dev.new)) }
+        ensures counted { IfOk result (λ p. self.new.logged ≡ records_past self.old.logged (effect_of p)) }
         ensures logged { OnErr result (self.new.logged ≡ self.old.logged) }
         ensures lines { (P.device dev.new).lines ≡ (P.device dev.old).lines }
     {
@@ -555,7 +566,8 @@ fn records_past(count: u64, effect: Effect) -> u64
 }
 
 impl Machine {
-    /// Runs to the end, or to the refused event, in at most `most` steps.
+    /// Runs to the end, or to the refused event, in at most `most` steps. A run that isn't at its end
+    /// by then ends as if it had no tick left.
     pub(crate) fn run_on<P: PmemWork, L: Ledger>(
         &mut self,
         image: &Image,
@@ -566,16 +578,17 @@ impl Machine {
     ) -> Result<End, Refusal>
         requires lines { (P.device dev.old).lines ≡ pool_lines image.now.parts.sizes }
         requires on { (P.device dev.old).on ≡ true }
-        requires attempt { attempt ≤ 2 ^ 62 }
+        requires attempt { attempt ≤ 2 ^ 63 - 2 }
         requires dirty { AreLines (heap_words image.now.parts.sizes) self.old.dirty }
         requires count { count ≤ image.now.parts.sizes.records }
-        requires logged { self.old.logged ≤ count }
-        requires ends { IsSome (due image.now attempt image.now.parts.most count self.old (P.device dev.old).cache).fate }
-        ensures meaning { IfOk result (λ e. (due image.now attempt image.now.parts.most count self.old (P.device dev.old).cache).fate ≡ Some e) }
+        requires logged { self.old.logged < 2 ^ 62 }
+        ensures meaning { IfOk result (λ e. e ≡ end_of (due image.now attempt image.now.parts.most count self.old (P.device dev.old).cache).fate) }
         ensures whole { OnOk result (PlaysAll (P.device dev.old) (due image.now attempt image.now.parts.most count self.old (P.device dev.old).cache).events (P.device dev.new)) }
         ensures part { IfErr result (λ why. PlaysPart why (P.device dev.old) (due image.now attempt image.now.parts.most count self.old (P.device dev.old).cache).events (P.device dev.new)) }
         ensures cost { OnOk result (steps.new ≡ steps.old + (due image.now attempt image.now.parts.most count self.old (P.device dev.old).cache).steps) }
         ensures bound { steps.new ≤ steps.old + (due image.now attempt image.now.parts.most count self.old (P.device dev.old).cache).steps }
+        ensures most { steps.new ≤ steps.old + image.now.parts.most }
+        ensures logged { OnOk result (self.new.logged + count ≡ (due image.now attempt image.now.parts.most count self.old (P.device dev.old).cache).records + self.old.logged) }
         ensures lines { (P.device dev.new).lines ≡ (P.device dev.old).lines }
     {
         let mut left = image.most();
@@ -592,6 +605,6 @@ impl Machine {
                 Progress::Ended(end) => return Ok(end),
             }
         }
-        Err(Refusal::Off)
+        Ok(End::Trapped(TrapKind::Steps))
     }
 }

@@ -1,4 +1,4 @@
-use Rattle.std.proofs.Common.{◌≡◌, ◌≤◌, true}
+use Rattle.std.proofs.Common.{◌≡◌, ◌≤◌, ◌+◌, true}
 use Rattle.pool_layout.specs.Sizes.{heap_words}
 use Rattle.pm_machine.specs.Runs.{AreLines, due, Leads}
 use Rattle.pm_machine.proofs.machine.Machine.run_on.Given as goal
@@ -12,7 +12,8 @@ invariant-loop-left g l =
       lines : (device l.dev).lines ≡ (device l.initial.dev).lines;
       on : (device l.dev).on ≡ true;
       few : l.records ≤ l.image.parts.sizes.records;
-      logged : l.self.logged ≤ l.records;
+      logged : l.self.logged + l.initial.count ≡ l.records + l.initial.self.logged;
+      spent : l.steps + l.left ≡ l.initial.steps + l.image.parts.most;
     }
 
 abbrev pub decreases-loop-left : goal.decreases-loop-left
