@@ -1,0 +1,68 @@
+-- The code that reaches objects, before it has a place. Temporary registers: 0 is an address (16 times a slot, and then an
+-- index more) or, in the search, the slot; 1 and 2 are used by the checks; 1 to 6 by the search.
+use Rattle.std.specs.Prelude.{ℕ, zero, suc, ◌+◌, ◌*◌, Bool, true, false, if◌then◌else◌, nat_lt, List, [], ◌∷◌, ◌++◌, length, ℤ, pos, negsuc, ◌-ℤ◌}
+use Rattle.nvm_base.specs.declared.op.BinOp.TheVariants.{Add, Mul, Lt, Eq}
+use Rattle.pool_layout.specs.declared.limits.Sizes.{Sizes}
+use Rattle.pool_layout.specs.Sizes.{root_lines}
+use Rattle.pm_alloc.specs.declared.local.Reg.{Reg}
+use Rattle.pm_alloc.specs.declared.local.Reg.TheVariants.{Own, Temp}
+use Rattle.pm_alloc.specs.declared.local.Local.{Local}
+use Rattle.pm_alloc.specs.declared.local.Local.TheVariants.{Const, Mov, Bin, Jmp, Jz, Load, Store, Log, Tick, Trap}
+
+-- word j of the object in slot s is heap word 16 s + offset; word 0 is its header
+abbrev pub offset : Sizes → ℕ → ℤ
+offset s j = pos (8 * root_lines s + j) -ℤ pos 16
+
+-- a store, with its log or without
+abbrev pub store_code : Bool → Reg → ℤ → Reg → List Local
+store_code false x o a = Store x o a ∷ []
+store_code true x o a = Log x o ∷ Store x o a ∷ []
+
+-- the checks of a pointer, at the start of a piece: null to 14, stale to 15, else on at 16 with 16 times the slot in temporary 0
+abbrev pub pointer_steps : (past header : ℤ) → (p kind : ℕ) → List Local
+pointer_steps past header p kind =
+    Jz (Own p) 14
+    ∷ Const (Temp 1) (pos 0) ∷ Bin Lt (Temp 2) (Temp 1) (Own p) ∷ Jz (Temp 2) 15
+    ∷ Const (Temp 1) past ∷ Bin Lt (Temp 2) (Own p) (Temp 1) ∷ Jz (Temp 2) 15
+    ∷ Const (Temp 0) (pos 16) ∷ Bin Mul (Temp 0) (Own p) (Temp 0) ∷ Load (Temp 1) (Temp 0) header
+    ∷ Const (Temp 2) (pos kind) ∷ Bin Eq (Temp 1) (Temp 1) (Temp 2) ∷ Jz (Temp 1) 15 ∷ Jmp 16 ∷ Trap 1 ∷ Trap 2 ∷ []
+
+abbrev pub pointer_check : Sizes → (p kind : ℕ) → List Local
+pointer_check s p kind = pointer_steps (pos (s.slots + 1)) (offset s 0) p kind
+
+-- the check of an index, from place at of a piece on, and the sum: on at at + 9
+abbrev pub index_steps : (bad good i len : ℕ) → List Local
+index_steps bad good i len =
+    Const (Temp 1) (negsuc 0) ∷ Bin Lt (Temp 2) (Temp 1) (Own i) ∷ Jz (Temp 2) bad
+    ∷ Const (Temp 1) (pos len) ∷ Bin Lt (Temp 2) (Own i) (Temp 1) ∷ Jz (Temp 2) bad ∷ Jmp good ∷ Trap 3
+    ∷ Bin Add (Temp 0) (Temp 0) (Own i) ∷ []
+
+abbrev pub index_check : (at i len : ℕ) → List Local
+index_check at i len = index_steps (at + 7) (at + 8) i len
+
+-- zeros into c words from word j of the object on whose slot temporary 1 holds 16 times
+abbrev pub fill_code : Sizes → Bool → (j c : ℕ) → List Local
+fill_code s b j zero = []
+fill_code s b j (suc c) = store_code b (Temp 1) (offset s j) (Temp 6) ++ fill_code s b (j + 1) c
+
+-- The search for the least free slot, and its header; n is how long the fill is. Temporary 0: the slot, 1: 16 times it, 2: the
+-- number of slots, 3: 1, 4: 16, 5: the header. A turn is at 5 to 10, the end without a slot at 11, a free slot's at 13.
+abbrev pub new_head : Sizes → (to kind n : ℕ) → List Local
+new_head s to kind n =
+    Const (Temp 0) (pos 1) ∷ Const (Temp 1) (pos 16) ∷ Const (Temp 2) (pos s.slots) ∷ Const (Temp 3) (pos 1) ∷ Const (Temp 4) (pos 16)
+    ∷ Load (Temp 5) (Temp 1) (offset s 0) ∷ Jz (Temp 5) 13
+    ∷ Bin Add (Temp 0) (Temp 0) (Temp 3) ∷ Bin Add (Temp 1) (Temp 1) (Temp 4) ∷ Bin Lt (Temp 6) (Temp 2) (Temp 0) ∷ Jz (Temp 6) 5
+    ∷ Const (Own to) (pos 0) ∷ Jmp (17 + n + 1)
+    ∷ Const (Temp 5) (pos kind) ∷ Log (Temp 1) (offset s 0) ∷ Store (Temp 1) (offset s 0) (Temp 5) ∷ Const (Temp 6) (pos 0) ∷ []
+
+-- a new object of a kind with c words, whose fill is logged or not
+abbrev pub new_code : Sizes → (to kind c : ℕ) → Bool → List Local
+new_code s to kind c b =
+    new_head s to kind (length (fill_code s b 1 c)) ++ (fill_code s b 1 c ++ Mov (Own to) (Temp 0) ∷ [])
+
+-- a slot has room for 15 words
+abbrev pub new_or_trap : Sizes → (to kind c : ℕ) → Bool → List Local
+new_or_trap s to kind c b = if nat_lt 15 c then Trap 2 ∷ [] else new_code s to kind c b
+
+abbrev pub free_code : Sizes → (p kind : ℕ) → List Local
+free_code s p kind = pointer_check s p kind ++ (Const (Temp 1) (pos 0) ∷ store_code true (Temp 0) (offset s 0) (Temp 1))

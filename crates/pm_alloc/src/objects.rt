@@ -1,0 +1,118 @@
+//! The code that makes an object, and the code that frees one.
+
+ghost use Rattle.std.specs.Prelude.{ℕ, ◌≡◌, ◌≤◌, ◌+◌, ◌++◌, length, OnOk};
+ghost use Rattle.pool_layout.specs.declared.limits.Sizes.{Sizes};
+ghost use Rattle.pm_alloc.specs.Pieces.{fill_code, new_head, new_code, new_or_trap, free_code};
+
+use crate::checks::push_pointer_check;
+use crate::local::{Local, Locals, Reg};
+use crate::stores::{field_offset, push_store};
+use nvm_base::BinOp;
+use pool_layout::Sizes;
+use std::alloc::AllocError;
+
+/// Puts zeros into the field words of a new object, whose slot temporary 1 holds 16 times.
+#[tactic(auto, using(crate::proofs::Pieces::fill_code_step))]
+fn push_fill(piece: &mut Locals, sizes: &Sizes, logged: bool, words: u32) -> Result<(), AllocError>
+    requires { words ≤ 15 }
+    ensures { OnOk result (piece.new ≡ piece.old ++ fill_code sizes.now logged 1 words) }
+{
+    for word in 0..words {
+        let offset = field_offset(sizes, word + 1);
+        push_store(piece, logged, Reg::Temp(1), offset, Reg::Temp(6))?;
+    }
+    Ok(())
+}
+
+/// How many instructions the fill has.
+#[tactic(auto, using(crate::proofs::Pieces::fill_code_length))]
+fn fill_length(logged: bool, words: u32) -> u32
+    requires { words ≤ 15 }
+    ensures length { (s : Sizes) → result ≡ length (fill_code s logged 1 words) }
+    ensures bound { result ≤ 30 }
+{
+    if logged { 2 * words } else { words }
+}
+
+/// Puts the search for the least free slot and the store of the header. The search takes six steps a
+/// slot: temporary 0 is the slot, temporary 1 is 16 times it, and behind the last slot the result is
+/// 0, with no store.
+fn push_search(
+    piece: &mut Locals,
+    sizes: &Sizes,
+    to: u32,
+    kind: u32,
+    fill: u32,
+) -> Result<(), AllocError>
+    requires { fill ≤ 30 }
+    ensures { OnOk result (piece.new ≡ piece.old ++ new_head sizes.now to kind fill) }
+{
+    let header = field_offset(sizes, 0);
+    piece.extend(&[
+        Local::Const(Reg::Temp(0), 1),
+        Local::Const(Reg::Temp(1), 16),
+        Local::Const(Reg::Temp(2), sizes.slots() as i64),
+        Local::Const(Reg::Temp(3), 1),
+        Local::Const(Reg::Temp(4), 16),
+        Local::Load(Reg::Temp(5), Reg::Temp(1), header),
+        Local::Jz(Reg::Temp(5), 13),
+        Local::Bin(BinOp::Add, Reg::Temp(0), Reg::Temp(0), Reg::Temp(3)),
+        Local::Bin(BinOp::Add, Reg::Temp(1), Reg::Temp(1), Reg::Temp(4)),
+        Local::Bin(BinOp::Lt, Reg::Temp(6), Reg::Temp(2), Reg::Temp(0)),
+        Local::Jz(Reg::Temp(6), 5),
+        Local::Const(Reg::Own(to), 0),
+        Local::Jmp(17 + fill + 1),
+        Local::Const(Reg::Temp(5), i64::from(kind)),
+        Local::Log(Reg::Temp(1), header),
+        Local::Store(Reg::Temp(1), header, Reg::Temp(5)),
+        Local::Const(Reg::Temp(6), 0),
+    ])
+}
+
+/// Puts the search, the logged store of the header, and the fill, each of whose stores is logged
+/// where `logged` says so.
+#[tactic(auto, using(crate::proofs::Pieces::new_code_parts))]
+fn push_object(
+    piece: &mut Locals,
+    sizes: &Sizes,
+    to: u32,
+    kind: u32,
+    words: u32,
+    logged: bool,
+) -> Result<(), AllocError>
+    requires { words ≤ 15 }
+    ensures { OnOk result (piece.new ≡ piece.old ++ new_code sizes.now to kind words logged) }
+{
+    push_search(piece, sizes, to, kind, fill_length(logged, words))?;
+    push_fill(piece, sizes, logged, words)?;
+    piece.push(Local::Mov(Reg::Own(to), Reg::Temp(0)))
+}
+
+/// Puts the code of a `pm_new` of a struct with so many words, at the start of a piece. No slot has
+/// room for more than 15 words: the code of such a struct is a trap.
+pub fn push_new(
+    piece: &mut Locals,
+    sizes: &Sizes,
+    to: u32,
+    kind: u32,
+    words: u64,
+    logged: bool,
+) -> Result<(), AllocError>
+    ensures { OnOk result (piece.new ≡ piece.old ++ new_or_trap sizes.now to kind words logged) }
+{
+    if words > 15 {
+        return piece.push(Local::Trap(2));
+    }
+    push_object(piece, sizes, to, kind, words as u32, logged)
+}
+
+/// Puts the code of a `pm_free`, at the start of a piece: the checks of the pointer, and a logged
+/// store of 0 to the header.
+pub fn push_free(piece: &mut Locals, sizes: &Sizes, from: u32, kind: u32) -> Result<(), AllocError>
+    ensures { OnOk result (piece.new ≡ piece.old ++ free_code sizes.now from kind) }
+{
+    push_pointer_check(piece, sizes, from, kind)?;
+    piece.push(Local::Const(Reg::Temp(1), 0))?;
+    let header = field_offset(sizes, 0);
+    push_store(piece, true, Reg::Temp(0), header, Reg::Temp(1))
+}

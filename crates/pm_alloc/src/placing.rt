@@ -1,0 +1,84 @@
+//! A piece of code at a place of a function, with its temporary registers behind the function's own.
+
+ghost use Rattle.std.specs.Prelude.{◌≡◌, ◌++◌, ◌∷◌, [], map, OnOk};
+ghost use Rattle.pm_alloc.specs.Placing as placing;
+
+use crate::local::{Local, Reg};
+use pm_machine::{Code, Op};
+use std::alloc::AllocError;
+
+/// The sum, or the last number where there is no room for it.
+pub fn sum(a: u32, b: u32) -> u32
+    ensures { result ≡ placing.sum a b }
+{
+    a.saturating_add(b)
+}
+
+fn number(base: u32, register: Reg) -> u32
+    ensures { result ≡ placing.number base register }
+{
+    match register {
+        Reg::Own(r) => r,
+        Reg::Temp(j) => sum(base, j),
+    }
+}
+
+/// An instruction at its place: jumps are moved by `place`, and the temporary registers stand from
+/// `base` on.
+#[tactic(auto, using(std::proofs::lemmas::Int::wraps))]
+fn placed(base: u32, place: u32, local: Local) -> Op
+    ensures { result ≡ placing.placed base place local }
+{
+    match local {
+        Local::Const(r, v) => Op::Const {
+            r: number(base, r),
+            v,
+        },
+        Local::Mov(r, a) => Op::Mov {
+            r: number(base, r),
+            a: number(base, a),
+        },
+        Local::Bin(op, r, a, b) => Op::Bin {
+            op,
+            r: number(base, r),
+            a: number(base, a),
+            b: number(base, b),
+        },
+        Local::Jmp(t) => Op::Jmp { t: sum(place, t) },
+        Local::Jz(a, t) => Op::Jz {
+            a: number(base, a),
+            t: sum(place, t),
+        },
+        Local::Load(r, a, o) => Op::Load {
+            r: number(base, r),
+            a: number(base, a),
+            o,
+        },
+        Local::Store(a, o, b) => Op::Store {
+            a: number(base, a),
+            o,
+            b: number(base, b),
+        },
+        Local::Log(a, o) => Op::Log {
+            a: number(base, a),
+            o,
+        },
+        Local::Tick => Op::Tick,
+        Local::Trap(k) => Op::Trap { k },
+    }
+}
+
+/// Puts a piece at the end of a function's code, where that is place `place`.
+pub fn push_placed(
+    code: &mut Code,
+    base: u32,
+    place: u32,
+    piece: &[Local],
+) -> Result<(), AllocError>
+    ensures { OnOk result (code.new ≡ code.old ++ map (placing.placed base place) piece.now) }
+{
+    for local in piece {
+        code.push(placed(base, place, *local))?;
+    }
+    Ok(())
+}
