@@ -1,8 +1,11 @@
 //! The instructions. Functions, places, registers and fields are counted from 0; a `kind` is a
 //! struct's number, from 1.
 
+ghost use Rattle.std.specs.Prelude.{◌≡◌, IfOk};
+
 use nvm_base::{BinOp, Registers};
 use pool_map::TrapKind;
+use std::alloc::{AllocError, Global};
 
 /// What a load reads and a store writes: a field of the root, or a field of the object in the slot
 /// that `base` holds. There is an index register exactly where the field is an array.
@@ -92,4 +95,82 @@ pub enum Instruction {
     Log {
         target: Target,
     },
+}
+
+fn registers_copy(alloc: Global, registers: &Registers) -> Result<Registers, AllocError>
+    ensures { IfOk result (λ r. r ≡ registers.now) }
+{
+    let mut copy = Registers::new(alloc);
+    for register in registers.as_slice() {
+        copy.push(*register)?;
+    }
+    Ok(copy)
+}
+
+impl Instruction {
+    /// The same instruction once more. A call alone takes memory.
+    pub fn copy(&self, alloc: Global) -> Result<Instruction, AllocError>
+        ensures { IfOk result (λ i. i ≡ self.now) }
+    {
+        match self {
+            Instruction::Const { to, value } => Ok(Instruction::Const {
+                to: *to,
+                value: *value,
+            }),
+            Instruction::Copy { to, from } => Ok(Instruction::Copy {
+                to: *to,
+                from: *from,
+            }),
+            Instruction::Bin {
+                op,
+                to,
+                left,
+                right,
+            } => Ok(Instruction::Bin {
+                op: *op,
+                to: *to,
+                left: *left,
+                right: *right,
+            }),
+            Instruction::Jump { place } => Ok(Instruction::Jump { place: *place }),
+            Instruction::Branch { on, place } => Ok(Instruction::Branch {
+                on: *on,
+                place: *place,
+            }),
+            Instruction::Load { to, target } => Ok(Instruction::Load {
+                to: *to,
+                target: *target,
+            }),
+            Instruction::Store { target, from, line } => Ok(Instruction::Store {
+                target: *target,
+                from: *from,
+                line: *line,
+            }),
+            Instruction::New {
+                to,
+                kind,
+                log_fill,
+                line,
+            } => Ok(Instruction::New {
+                to: *to,
+                kind: *kind,
+                log_fill: *log_fill,
+                line: *line,
+            }),
+            Instruction::Free { from, kind, line } => Ok(Instruction::Free {
+                from: *from,
+                kind: *kind,
+                line: *line,
+            }),
+            Instruction::Call { to, function, args } => Ok(Instruction::Call {
+                to: *to,
+                function: *function,
+                args: registers_copy(alloc, args)?,
+            }),
+            Instruction::Return { from } => Ok(Instruction::Return { from: *from }),
+            Instruction::Tick => Ok(Instruction::Tick),
+            Instruction::Trap { kind } => Ok(Instruction::Trap { kind: *kind }),
+            Instruction::Log { target } => Ok(Instruction::Log { target: *target }),
+        }
+    }
 }
