@@ -12,6 +12,7 @@ mod read;
 
 pub use command::{Command, Script};
 pub use fault::{LineFault, ScriptFault};
+pub use number::numeral;
 pub use read::{read_line, read_script};
 
 #[cfg(test)]

@@ -7,8 +7,8 @@ ghost use Rattle.cnvm_script.specs.Number.{numeral, at_most, as_positive, as_neg
 use crate::cut::cut;
 use cache_model::Pick;
 
-/// What a numeral of at most `most` digits writes.
-fn numeral(word: &[u8], most: usize) -> Option<u64>
+/// What a numeral of at most `most` digits writes; leading zeros count as digits.
+pub fn numeral(word: &[u8], most: usize) -> Option<u64>
     requires { most ≤ 19 }
     ensures { result ≡ numeral most word.now }
 {

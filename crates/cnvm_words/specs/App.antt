@@ -1,0 +1,43 @@
+-- The words in clap's terms: one command with the subcommands run, list and storm; each option is named in full, takes one
+-- value and is given at most once; help and version are off.
+use Rattle.std.specs.Prelude.{Some, true, codes}
+use Rattle.clap.specs.Words.{App, Rule, Text, new_app, new_rule, with_rule, with_subcommand}
+use Rattle.clap.specs.declared.builder.action.ArgAction.TheVariants.{Set}
+
+abbrev pub option_rule : Text → Rule
+option_rule name = record (new_rule name) { long = Some name; action = Some Set }
+
+abbrev pub place_rule : Text → Rule
+place_rule name = record (new_rule name) { action = Some Set; required = true }
+
+-- with the sizes of a pool
+abbrev pub sized : App → App
+sized app = with_rule (with_rule (with_rule app (option_rule (codes "slots"))) (option_rule (codes "log"))) (option_rule (codes "ticks"))
+
+abbrev pub run_app : App
+run_app =
+    sized
+        (with_rule
+            (with_rule (with_rule (with_rule (new_app (codes "run")) (place_rule (codes "program"))) (place_rule (codes "script")))
+                (option_rule (codes "open")))
+            (option_rule (codes "save")))
+
+abbrev pub list_app : App
+list_app = with_rule (new_app (codes "list")) (place_rule (codes "program"))
+
+abbrev pub storm_app : App
+storm_app =
+    sized
+        (with_rule
+            (with_rule (with_rule (new_app (codes "storm")) (place_rule (codes "program"))) (place_rule (codes "start")))
+            (place_rule (codes "count")))
+
+-- the words have no program name, and a subcommand is wanted
+abbrev pub bare_app : App
+bare_app = let a = new_app (codes "cnvm") in record a { top = record a.top {
+  no_binary_name = true; disable_help_flag = true; disable_help_subcommand = true;
+  disable_version_flag = true; subcommand_required = true;
+} }
+
+abbrev pub cnvm_app : App
+cnvm_app = with_subcommand (with_subcommand (with_subcommand bare_app run_app.top) list_app.top) storm_app.top

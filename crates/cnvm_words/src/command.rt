@@ -1,0 +1,85 @@
+//! The command as `clap` knows it: three subcommands, whose options take one value each.
+
+ghost use Rattle.std.specs.Prelude.{◌≡◌, false, IfOk};
+ghost use Rattle.clap.specs.declared.builder.command.Command.TheViews.{out-Command as fields_of};
+ghost use Rattle.clap.specs.Words.{app_of, rule_of};
+ghost use Rattle.cnvm_words.specs.App.{option_rule, place_rule, bare_app, sized, run_app, list_app, storm_app, cnvm_app};
+
+use clap::{Arg, ArgAction, Command};
+use std::alloc::{AllocError, Global};
+
+fn option_arg<'a>(alloc: Global, name: &'a str) -> Arg<'a>
+    ensures rule { rule_of result ≡ option_rule name.entry.now }
+    ensures local { result.global ≡ false }
+{
+    Arg::new(alloc, name).long(name).action(ArgAction::Set)
+}
+
+fn place_arg<'a>(alloc: Global, name: &'a str) -> Arg<'a>
+    ensures rule { rule_of result ≡ place_rule name.entry.now }
+    ensures local { result.global ≡ false }
+{
+    Arg::new(alloc, name).required(true).action(ArgAction::Set)
+}
+
+/// The command itself, with no help and no version.
+fn bare_command<'a>(alloc: Global) -> Command<'a>
+    ensures app { app_of result ≡ bare_app }
+    ensures local { (fields_of result).has_globals ≡ false }
+{
+    Command::new(alloc, "cnvm")
+        .no_binary_name(true)
+        .disable_help_flag(true)
+        .disable_help_subcommand(true)
+        .disable_version_flag(true)
+        .subcommand_required(true)
+}
+
+/// A command with the options of a pool's sizes.
+fn with_sizes<'a>(alloc: Global, command: Command<'a>) -> Result<Command<'a>, AllocError>
+    requires { (fields_of command).has_globals ≡ false }
+    ensures app { IfOk result (λ r. app_of r ≡ sized (app_of command.entry)) }
+    ensures local { IfOk result (λ r. (fields_of r).has_globals ≡ false) }
+{
+    let command = command.arg(option_arg(alloc, "slots"))?;
+    let command = command.arg(option_arg(alloc, "log"))?;
+    command.arg(option_arg(alloc, "ticks"))
+}
+
+fn run_command<'a>(alloc: Global) -> Result<Command<'a>, AllocError>
+    ensures app { IfOk result (λ r. app_of r ≡ run_app) }
+    ensures local { IfOk result (λ r. (fields_of r).has_globals ≡ false) }
+{
+    let command = Command::new(alloc, "run").arg(place_arg(alloc, "program"))?;
+    let command = command.arg(place_arg(alloc, "script"))?;
+    let command = command.arg(option_arg(alloc, "open"))?;
+    let command = command.arg(option_arg(alloc, "save"))?;
+    with_sizes(alloc, command)
+}
+
+fn list_command<'a>(alloc: Global) -> Result<Command<'a>, AllocError>
+    ensures app { IfOk result (λ r. app_of r ≡ list_app) }
+    ensures local { IfOk result (λ r. (fields_of r).has_globals ≡ false) }
+{
+    Command::new(alloc, "list").arg(place_arg(alloc, "program"))
+}
+
+fn storm_command<'a>(alloc: Global) -> Result<Command<'a>, AllocError>
+    ensures app { IfOk result (λ r. app_of r ≡ storm_app) }
+    ensures local { IfOk result (λ r. (fields_of r).has_globals ≡ false) }
+{
+    let command = Command::new(alloc, "storm").arg(place_arg(alloc, "program"))?;
+    let command = command.arg(place_arg(alloc, "start"))?;
+    let command = command.arg(place_arg(alloc, "count"))?;
+    with_sizes(alloc, command)
+}
+
+/// The whole command.
+pub(crate) fn cnvm_command<'a>(alloc: Global) -> Result<Command<'a>, AllocError>
+    ensures app { IfOk result (λ r. app_of r ≡ cnvm_app) }
+    ensures local { IfOk result (λ r. (fields_of r).has_globals ≡ false) }
+{
+    let command = bare_command(alloc).subcommand(run_command(alloc)?)?;
+    let command = command.subcommand(list_command(alloc)?)?;
+    command.subcommand(storm_command(alloc)?)
+}

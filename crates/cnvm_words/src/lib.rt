@@ -1,0 +1,11 @@
+//! What the command line asks for. It stands on `clap`, which reads the words, on `cnvm_script` for
+//! numerals, and on `nvm_base`. Its one contract for the crates above: `plan_of` gives exactly the
+//! plan of the words, which is `clap`'s reading of them followed by the reading of each number.
+#![tactic(auto)]
+
+mod command;
+mod plan;
+mod read;
+
+pub use plan::{Plan, WordsFault};
+pub use read::plan_of;

@@ -1,0 +1,52 @@
+//! What the words ask for, and why they may be refused.
+
+use nvm_base::Text;
+use std::alloc::AllocError;
+
+/// What the command line asks for. The limits of the numbers are kept by `plan_of`.
+#[derive(Drop)]
+pub enum Plan {
+    /// Runs the script's commands on the program. `slots` is from 1 to 65,535, `records` from 1 to
+    /// 4,096 and `ticks` from 1 to 1,000,000.
+    Run {
+        program_path: Text,
+        script_path: Text,
+        slots: u64,
+        records: u64,
+        ticks: u64,
+        start_image: Option<Text>,
+        end_image: Option<Text>,
+    },
+    /// Prints the log marks of the program.
+    List {
+        program_path: Text,
+    },
+    /// Runs a generated script. `start` is at most 2,147,483,647 and `count` at most 20,000.
+    Storm {
+        program_path: Text,
+        start: u64,
+        count: u64,
+        slots: u64,
+        records: u64,
+        ticks: u64,
+    },
+}
+
+/// Why words give no plan.
+#[derive(Clone, Copy, Debug, PartialEq, Eq)]
+pub enum WordsFault {
+    /// The words ask for nothing that there is.
+    Usage,
+    NoMemory,
+}
+
+ghost use Rattle.cnvm_words.specs.declared.plan.WordsFault.TheVariants.{NoMemory};
+ghost use Rattle.std.specs.Prelude.{◌≡◌};
+
+impl From<AllocError> for WordsFault {
+    ghost from_gives = { λ _ f. f ≡ NoMemory };
+
+    fn from(_: AllocError) -> Self {
+        WordsFault::NoMemory
+    }
+}

@@ -1,0 +1,187 @@
+//! From the words to the plan.
+
+ghost use Rattle.std.specs.Prelude.{◌≡◌, ◌<◌, ◌≤◌, Some, None, IfOk, IfErr, Err, option_map, option_and_then, map, string_bytes, false, []};
+ghost use Rattle.clap.specs.Walk.{is_empty};
+ghost use Rattle.clap.specs.Words.{rows_of, found_of, first_of, fault_of, subcommand_of, subcommand_rows_of};
+ghost use Rattle.cnvm_words.specs.App.{cnvm_app};
+ghost use Rattle.cnvm_words.specs.Asked.{in_limits, number, number_or, pool_of, run_plan, list_plan, storm_plan, planned, plan_of};
+
+use crate::command::cnvm_command;
+use crate::plan::{Plan, WordsFault};
+use clap::ArgMatches;
+use clap::error::ErrorKind;
+use cnvm_script::numeral;
+use nvm_base::Text;
+use std::alloc::{AllocError, Global};
+
+/// The value that stands under a name.
+fn text_at<'a>(matches: &ArgMatches<'a>, id: &str) -> Option<&'a str>
+    ensures { option_map (λ s. s.now) result ≡ first_of id.now (rows_of (found_of matches.now)) }
+{
+    matches.get_str(id)
+}
+
+fn copied(alloc: Global, text: &str) -> Result<Text, AllocError>
+    ensures { IfOk result (λ t. t ≡ text.now) }
+{
+    let mut copy = Text::new(alloc);
+    copy.push(text)?;
+    Ok(copy)
+}
+
+/// A path that has to be given.
+fn path_at(alloc: Global, matches: &ArgMatches<'_>, id: &str) -> Result<Text, WordsFault>
+    ensures ok { IfOk result (λ t. first_of id.now (rows_of (found_of matches.now)) ≡ Some t) }
+    ensures usage { result ≡ Err WordsFault.Usage → first_of id.now (rows_of (found_of matches.now)) ≡ None }
+{
+    match text_at(matches, id) {
+        Some(text) => Ok(copied(alloc, text)?),
+        None => Err(WordsFault::Usage),
+    }
+}
+
+/// A path that may be left out.
+fn image_at(alloc: Global, matches: &ArgMatches<'_>, id: &str) -> Result<Option<Text>, AllocError>
+    ensures { IfOk result (λ t. t ≡ first_of id.now (rows_of (found_of matches.now))) }
+{
+    match text_at(matches, id) {
+        Some(text) => Ok(Some(copied(alloc, text)?)),
+        None => Ok(None),
+    }
+}
+
+fn in_limits(least: u64, most: u64, n: u64) -> Option<u64>
+    ensures { result ≡ in_limits least most n }
+{
+    if least <= n && n <= most {
+        return Some(n);
+    }
+    None
+}
+
+fn number(least: u64, most: u64, text: &str) -> Option<u64>
+    ensures { result ≡ number least most text.now }
+{
+    in_limits(least, most, numeral(text.as_bytes(), 10)?)
+}
+
+/// A number that has to be given.
+fn number_at(matches: &ArgMatches<'_>, id: &str, least: u64, most: u64) -> Option<u64>
+    ensures { result ≡ option_and_then (number least most) (first_of id.now (rows_of (found_of matches.now))) }
+{
+    number(least, most, text_at(matches, id)?)
+}
+
+/// A number that may be left out.
+fn number_or(matches: &ArgMatches<'_>, id: &str, default: u64, least: u64, most: u64) -> Option<u64>
+    ensures { result ≡ number_or default least most (first_of id.now (rows_of (found_of matches.now))) }
+{
+    match text_at(matches, id) {
+        Some(text) => number(least, most, text),
+        None => Some(default),
+    }
+}
+
+/// Slots, records and ticks.
+fn pool_of(matches: &ArgMatches<'_>) -> Option<(u64, u64, u64)>
+    ensures { result ≡ pool_of (rows_of (found_of matches.now)) }
+{
+    let slots = number_or(matches, "slots", 1_024, 1, 65_535)?;
+    let records = number_or(matches, "log", 256, 1, 4_096)?;
+    let ticks = number_or(matches, "ticks", 100_000, 1, 1_000_000)?;
+    Some((slots, records, ticks))
+}
+
+fn run_plan(alloc: Global, matches: &ArgMatches<'_>) -> Result<Plan, WordsFault>
+    ensures ok { IfOk result (λ p. run_plan (rows_of (found_of matches.now)) ≡ Some p) }
+    ensures usage { result ≡ Err WordsFault.Usage → run_plan (rows_of (found_of matches.now)) ≡ None }
+{
+    let program_path = path_at(alloc, matches, "program")?;
+    let script_path = path_at(alloc, matches, "script")?;
+    let Some((slots, records, ticks)) = pool_of(matches) else {
+        return Err(WordsFault::Usage);
+    };
+    Ok(Plan::Run {
+        program_path,
+        script_path,
+        slots,
+        records,
+        ticks,
+        start_image: image_at(alloc, matches, "open")?,
+        end_image: image_at(alloc, matches, "save")?,
+    })
+}
+
+fn list_plan(alloc: Global, matches: &ArgMatches<'_>) -> Result<Plan, WordsFault>
+    ensures ok { IfOk result (λ p. list_plan (rows_of (found_of matches.now)) ≡ Some p) }
+    ensures usage { result ≡ Err WordsFault.Usage → list_plan (rows_of (found_of matches.now)) ≡ None }
+{
+    Ok(Plan::List {
+        program_path: path_at(alloc, matches, "program")?,
+    })
+}
+
+fn storm_plan(alloc: Global, matches: &ArgMatches<'_>) -> Result<Plan, WordsFault>
+    ensures ok { IfOk result (λ p. storm_plan (rows_of (found_of matches.now)) ≡ Some p) }
+    ensures usage { result ≡ Err WordsFault.Usage → storm_plan (rows_of (found_of matches.now)) ≡ None }
+{
+    let program_path = path_at(alloc, matches, "program")?;
+    let Some(start) = number_at(matches, "start", 0, 2_147_483_647) else {
+        return Err(WordsFault::Usage);
+    };
+    let Some(count) = number_at(matches, "count", 0, 20_000) else {
+        return Err(WordsFault::Usage);
+    };
+    let Some((slots, records, ticks)) = pool_of(matches) else {
+        return Err(WordsFault::Usage);
+    };
+    Ok(Plan::Storm {
+        program_path,
+        start,
+        count,
+        slots,
+        records,
+        ticks,
+    })
+}
+
+/// The plan of a subcommand.
+fn planned(alloc: Global, name: &str, matches: &ArgMatches<'_>) -> Result<Plan, WordsFault>
+    ensures ok { IfOk result (λ p. planned name.now (rows_of (found_of matches.now)) ≡ Some p) }
+    ensures usage { result ≡ Err WordsFault.Usage → planned name.now (rows_of (found_of matches.now)) ≡ None }
+{
+    if name == "run" {
+        return run_plan(alloc, matches);
+    }
+    if name == "list" {
+        return list_plan(alloc, matches);
+    }
+    storm_plan(alloc, matches)
+}
+
+/// What `clap` makes of the words.
+fn matches_of<'a>(alloc: Global, words: &'a [String]) -> Result<ArgMatches<'a>, WordsFault>
+    ensures free { IfOk result (λ m. fault_of cnvm_app (map string_bytes words.entry.now) ≡ []) }
+    ensures rows { IfOk result (λ m. subcommand_rows_of m ≡ subcommand_of cnvm_app (map string_bytes words.entry.now)) }
+    ensures usage { result ≡ Err WordsFault.Usage → is_empty (fault_of cnvm_app (map string_bytes words.entry.now)) ≡ false }
+{
+    let command = cnvm_command(alloc)?;
+    match command.try_get_matches_from(words) {
+        Ok(matches) => Ok(matches),
+        Err(error) if error.kind() == ErrorKind::OutOfMemory => Err(WordsFault::NoMemory),
+        Err(_) => Err(WordsFault::Usage),
+    }
+}
+
+/// The plan that the words ask for. Words that `clap` refuses for another cause than memory, and
+/// numbers outside their limits, are `Usage`.
+pub fn plan_of(alloc: Global, words: &[String]) -> Result<Plan, WordsFault>
+    ensures ok { IfOk result (λ p. plan_of (map string_bytes words.entry.now) ≡ Some p) }
+    ensures usage { result ≡ Err WordsFault.Usage → plan_of (map string_bytes words.entry.now) ≡ None }
+{
+    let matches = matches_of(alloc, words)?;
+    match matches.subcommand() {
+        Some((name, matches)) => planned(alloc, name, matches),
+        None => Err(WordsFault::Usage),
+    }
+}
