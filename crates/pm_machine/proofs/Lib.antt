@@ -4,3 +4,4 @@ pub mod Dues
 pub mod Fuel
 pub mod Answered
 pub mod Faults
+pub mod Agree

@@ -6,3 +6,5 @@ pub mod Effects
 pub mod Machine
 pub mod Runs
 pub mod Answers
+pub mod Inputs
+pub mod Law

@@ -1,0 +1,29 @@
+-- The inputs and the overwrites of a run, by its effects, one heap word at a time. The load inside LOG doesn't count.
+use Rattle.std.specs.Prelude.{ℕ, ◌<◌, ◌≡◌, ◌≢◌, ◌⊎◌, List, [], ◌∷◌}
+use Rattle.cache_model.specs.Cache.{Words}
+use Rattle.pm_machine.specs.declared.effect.Effect.{Effect}
+use Rattle.pm_machine.specs.declared.effect.Effect.TheVariants.{Loads, Stores, Logs, Flushes, Fences, Quiet}
+
+-- u is loaded before any store to it
+abbrev pub IsInput : List Effect → ℕ → Type 0
+IsInput [] u = ⊥
+IsInput (Loads w ∷ es) u = (u ≡ w) ⊎ IsInput es u
+IsInput (Stores w x ∷ es) u = (u ≢ w) × IsInput es u
+IsInput (Logs w ∷ es) u = IsInput es u
+IsInput (Flushes l ∷ es) u = IsInput es u
+IsInput (Fences ∷ es) u = IsInput es u
+IsInput (Quiet ∷ es) u = IsInput es u
+
+-- u is stored
+abbrev pub IsOverwritten : List Effect → ℕ → Type 0
+IsOverwritten [] u = ⊥
+IsOverwritten (Loads w ∷ es) u = IsOverwritten es u
+IsOverwritten (Stores w x ∷ es) u = (u ≡ w) ⊎ IsOverwritten es u
+IsOverwritten (Logs w ∷ es) u = IsOverwritten es u
+IsOverwritten (Flushes l ∷ es) u = IsOverwritten es u
+IsOverwritten (Fences ∷ es) u = IsOverwritten es u
+IsOverwritten (Quiet ∷ es) u = IsOverwritten es u
+
+-- heaps of H words that are equal but on words that the run stores and doesn't load before
+abbrev pub AreAlike : (H : ℕ) → List Effect → (h r : Words) → Type 0
+AreAlike H es h r = (u : ℕ) → u < H → (IsOverwritten es u → ⊥) ⊎ IsInput es u → h u ≡ r u
