@@ -1,6 +1,6 @@
 //! The pool: root words, and a map from slots to objects.
 
-ghost use Rattle.std.specs.Prelude.{◌≡◌, OnOk, OnErr, IfOk, ◌<◌, ◌≤◌, length, Option, None, Some, IsSome, option_map, replicate};
+ghost use Rattle.std.specs.Prelude.{◌≡◌, [], ◌∷◌, ◌++◌, OnOk, OnErr, IfOk, ◌<◌, ◌≤◌, length, Option, None, Some, IsSome, option_map, replicate};
 ghost use Rattle.std.specs.Bool.{Decides};
 ghost use Rattle.pool_map.specs.PoolMap.{empty_pool, IsSlot, object_at, least_free, new, free, HasField, read, write, read_root, write_root};
 
@@ -32,6 +32,25 @@ impl Pool {
         let root = zeros(alloc, root_words)?;
         let slots = free_slots(alloc, slots)?;
         Ok(Pool { root, slots })
+    }
+
+    /// The pool of these root words, with no slot yet. It takes no memory.
+    pub fn of_root(alloc: Global, root: Words) -> Pool
+        ensures { result ≡ record { root = root; slots = [] } }
+    {
+        Pool {
+            root,
+            slots: Vec::new(alloc),
+        }
+    }
+
+    /// Puts one slot behind the last. After an error the pool is as before.
+    pub fn push_slot(&mut self, slot: Option<Object>) -> Result<(), AllocError>
+        ensures ok { OnOk result (self.new ≡ record { root = self.old.root; slots = self.old.slots ++ slot ∷ [] }) }
+        ensures err { OnErr result (self.new ≡ self.old) }
+    {
+        self.slots.push(slot)?;
+        Ok(())
     }
 
     /// The same pool again.

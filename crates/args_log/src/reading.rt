@@ -1,0 +1,100 @@
+//! The call that a pool's record holds.
+
+ghost use Rattle.std.specs.Prelude.{◌≡◌, ◌≤◌, ◌<◌, ◌+ℤ◌, pos, true, false, IfSome, IsSome, IsNone};
+ghost use Rattle.std.specs.Ordering.{int_eq};
+ghost use Rattle.cache_model.specs.Cache.{view};
+ghost use Rattle.args_log.specs.Pending.{number_of, HoldsArguments, is_sealed};
+ghost use Rattle.args_log.specs.Reading.{Reads};
+
+use pmem::PmemWork;
+
+/// What a pool's record holds: no sealed call, or the number of its transaction and its words,
+/// those behind the last argument included.
+#[derive(Clone, Copy, Debug, PartialEq, Eq, Drop)]
+pub enum PendingAnswer {
+    Nothing,
+    Sealed { tx: u64, args: [i64; 22] },
+    Off,
+}
+
+/// A function word as a transaction's number, and 0, which no transaction has, where it is below 0.
+#[tactic(auto, using(std::proofs::lemmas::Int::wraps))]
+fn number_of(word: i64) -> u64
+    ensures { result ≡ number_of word }
+{
+    match u64::try_from(word) {
+        Ok(number) => number,
+        Err(_) => 0,
+    }
+}
+
+/// Whether a seal is one more than the number of finished calls.
+fn is_next(seal: i64, done: i64) -> bool
+    ensures { result ≡ int_eq seal (done +ℤ pos 1) }
+{
+    done < i64::MAX && seal == done + 1
+}
+
+/// Whether the record is sealed, or none while the device is off.
+fn sealed<P: PmemWork>(dev: &P) -> Option<bool>
+    requires lines { 6 ≤ (P.device dev.now).lines }
+    ensures value { IfSome result (λ b. b ≡ is_sealed (view (P.device dev.now).cache)) }
+    ensures on { IsSome result → (P.device dev.now).on ≡ true }
+    ensures off { IsNone result → (P.device dev.now).on ≡ false }
+{
+    let seal = dev.load(47)?;
+    let done = dev.load(17)?;
+    Some(is_next(seal, done))
+}
+
+/// A word of a device that is on.
+fn word<P: PmemWork>(dev: &P, word: u64) -> i64
+    requires inside { word < 48 }
+    requires lines { 6 ≤ (P.device dev.now).lines }
+    requires on { (P.device dev.now).on ≡ true }
+    ensures { result ≡ view (P.device dev.now).cache word }
+{
+    match dev.load(word) {
+        Some(word) => word,
+        None => unreachable!(),
+    }
+}
+
+/// The 22 argument words of a device that is on.
+fn arguments<P: PmemWork>(dev: &P) -> [i64; 22]
+    requires lines { 6 ≤ (P.device dev.now).lines }
+    requires on { (P.device dev.now).on ≡ true }
+    ensures { HoldsArguments (view (P.device dev.now).cache) result }
+{
+    let mut args = [0; 22];
+    for k in 0..22 {
+        args[k] = word(dev, 25 + k as u64);
+    }
+    args
+}
+
+/// The sealed record of a device that is on.
+fn record<P: PmemWork>(dev: &P) -> PendingAnswer
+    requires lines { 6 ≤ (P.device dev.now).lines }
+    requires on { (P.device dev.now).on ≡ true }
+    requires sealed { is_sealed (view (P.device dev.now).cache) ≡ true }
+    ensures { Reads result (view (P.device dev.now).cache) }
+{
+    let tx = number_of(word(dev, 24));
+    let args = arguments(dev);
+    PendingAnswer::Sealed { tx, args }
+}
+
+/// The sealed call that waits in the pool's record, if one does. It takes no memory and makes no
+/// event.
+pub fn pending<P: PmemWork>(dev: &P) -> PendingAnswer
+    requires lines { 6 ≤ (P.device dev.now).lines }
+    ensures read { (P.device dev.now).on ≡ true → Reads result (view (P.device dev.now).cache) }
+    ensures off { (P.device dev.now).on ≡ false → result ≡ PendingAnswer.Off }
+{
+    match sealed(dev) {
+        None => PendingAnswer::Off,
+        Some(false) => PendingAnswer::Nothing,
+        Some(true) => record(dev),
+    }
+}
