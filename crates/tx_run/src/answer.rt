@@ -1,0 +1,54 @@
+//! What a call answers, and what is answered of the part of it behind the seal.
+
+ghost use Rattle.std.specs.Prelude.{◌≡◌};
+ghost use Rattle.tx_run.specs.Settled.{call_answer};
+
+use pmem::Phase;
+use pool_map::TrapKind;
+
+/// The answer of a call.
+///
+/// Behind `Off`, `Failed` and `NoMemory` the events before the refused one stand. `Off` tells how far
+/// the seal had come, which is `Unsealed` where the device was off. `NoMemory` may come before the
+/// first event too.
+#[derive(Clone, Copy, Debug, PartialEq, Eq, Drop)]
+pub enum CallAnswer {
+    /// The call is retired; `logged` is the number of LOG instructions of its run.
+    Done { value: i64, logged: u64 },
+    /// The run trapped, and the mark is durable.
+    Trap(TrapKind),
+    Off(Phase),
+    Failed,
+    /// The pool has a mark; there was no event.
+    Unusable(TrapKind),
+    /// The number of finished calls or the attempt isn't below 2^62; there was no event.
+    Numbers,
+    NoMemory,
+}
+
+/// How a sealed call was settled: retired with the value of its run, or marked with its trap; or
+/// which refusal cut it.
+#[derive(Clone, Copy, Debug, PartialEq, Eq, Drop)]
+pub enum Settled {
+    Done { value: i64, logged: u64 },
+    Trap(TrapKind),
+    Off,
+    Failed,
+    NoMemory,
+}
+
+impl CallAnswer {
+    /// The answer of a call that was sealed.
+    #[tactic(auto, using(std::proofs::lemmas::Int::wraps))]
+    pub(crate) fn of(settled: Settled) -> CallAnswer
+        ensures { result ≡ call_answer settled }
+    {
+        match settled {
+            Settled::Done { value, logged } => CallAnswer::Done { value, logged },
+            Settled::Trap(kind) => CallAnswer::Trap(kind),
+            Settled::Off => CallAnswer::Off(Phase::Sealed),
+            Settled::Failed => CallAnswer::Failed,
+            Settled::NoMemory => CallAnswer::NoMemory,
+        }
+    }
+}

@@ -1,0 +1,80 @@
+//! A call from its start to its end.
+
+ghost use Rattle.std.specs.Prelude.{◌≡◌, ◌+◌, ◌<◌, ◌≤◌, true, false, length};
+ghost use Rattle.cache_model.specs.Cache.{view};
+ghost use Rattle.pool_layout.specs.Sizes.{pool_lines};
+ghost use Rattle.pmem.specs.declared.answer.Phase.TheVariants as at_phase;
+ghost use Rattle.pm_machine.specs.Machine.{start};
+ghost use Rattle.pool_map.specs.declared.trap.TrapKind.{TrapKind};
+ghost use Rattle.tx_run.specs.declared.standing.Standing.TheVariants as stands;
+ghost use Rattle.tx_run.specs.Standing.{standing_of};
+ghost use Rattle.tx_run.specs.Called.{Called};
+
+use crate::answer::CallAnswer;
+use crate::settling::settle;
+use crate::standing::{Standing, assess};
+use args_log::{SealAnswer, seal};
+use nvm_base::Steps;
+use pm_machine::{Image, Machine};
+use pmem::{Phase, PmemWork};
+use std::alloc::Global;
+use std::sync::ledger::Ledger;
+
+/// Seals the call of a machine that stands at its start, and settles it.
+fn run<P: PmemWork, L: Ledger>(
+    image: &Image,
+    machine: &mut Machine,
+    tx: u64,
+    args: &[i64],
+    dev: &mut P,
+    steps: &mut Steps<L>,
+) -> CallAnswer
+    requires lines { (P.device dev.old).lines ≡ pool_lines image.now.parts.sizes }
+    requires start { machine.old ≡ start image.now tx args.now }
+    requires on { (P.device dev.old).on ≡ true }
+    ensures called { Called result image.now tx args.now (P.device dev.old) (P.device dev.new) steps.old steps.new }
+    ensures most { steps.new ≤ steps.old + image.now.parts.most }
+    ensures lines { (P.device dev.new).lines ≡ (P.device dev.old).lines }
+{
+    match seal(dev, tx, args) {
+        SealAnswer::Done => CallAnswer::of(settle(image, machine, dev, steps)),
+        SealAnswer::Off(phase) => CallAnswer::Off(phase),
+        SealAnswer::Failed => CallAnswer::Failed,
+        SealAnswer::NoMemory => CallAnswer::NoMemory,
+    }
+}
+
+/// Calls a transaction, counted from 1, with as many arguments as it has parameters, over the pool of
+/// the image. The mark is looked at first, then the numbers; then the machine's frames are reserved,
+/// the arguments are sealed, the machine runs, and its value is retired, or its trap marked. On a
+/// device that is off the answer is `Off(Unsealed)`, and nothing has changed.
+pub fn call<P: PmemWork, L: Ledger>(
+    alloc: Global,
+    image: &Image,
+    tx: u64,
+    args: &[i64],
+    dev: &mut P,
+    steps: &mut Steps<L>,
+) -> CallAnswer
+    requires lines { (P.device dev.old).lines ≡ pool_lines image.now.parts.sizes }
+    requires first { 1 ≤ tx }
+    requires last { tx ≤ length image.now.parts.txs }
+    ensures called { (P.device dev.old).on ≡ true → standing_of (view (P.device dev.old).cache) ≡ stands.Ready → Called result image.now tx args.now (P.device dev.old) (P.device dev.new) steps.old steps.new }
+    ensures unusable { (kind : TrapKind) → (P.device dev.old).on ≡ true → standing_of (view (P.device dev.old).cache) ≡ stands.Unusable kind → (result ≡ CallAnswer.Unusable kind) × (P.device dev.new ≡ P.device dev.old) }
+    ensures numbers { (P.device dev.old).on ≡ true → standing_of (view (P.device dev.old).cache) ≡ stands.Numbers → (result ≡ CallAnswer.Numbers) × (P.device dev.new ≡ P.device dev.old) }
+    ensures off { (P.device dev.old).on ≡ false → result ≡ CallAnswer.Off at_phase.Unsealed }
+    ensures same { (P.device dev.old).on ≡ false → P.device dev.new ≡ P.device dev.old }
+    ensures most { steps.new ≤ steps.old + image.now.parts.most }
+    ensures lines { (P.device dev.new).lines ≡ (P.device dev.old).lines }
+{
+    match assess(dev) {
+        Standing::Ready => {}
+        Standing::Off => return CallAnswer::Off(Phase::Unsealed),
+        Standing::Unusable(kind) => return CallAnswer::Unusable(kind),
+        Standing::Numbers => return CallAnswer::Numbers,
+    }
+    match Machine::new(alloc, image, tx, args) {
+        Ok(mut machine) => run(image, &mut machine, tx, args, dev, steps),
+        Err(_) => CallAnswer::NoMemory,
+    }
+}

@@ -1,0 +1,70 @@
+//! The part of a call behind its seal.
+
+ghost use Rattle.std.specs.Prelude.{◌≡◌, ◌+◌, ◌^◌, ◌<◌, ◌≤◌, true, false};
+ghost use Rattle.cache_model.specs.Cache.{view};
+ghost use Rattle.pool_layout.specs.Sizes.{heap_words, pool_lines};
+ghost use Rattle.pool_map.specs.Trap.{trap_number};
+ghost use Rattle.args_log.specs.Retire.{retire_events, mark_events};
+ghost use Rattle.pm_machine.specs.Runs.{AreLines};
+ghost use Rattle.tx_run.specs.Due.{due_on};
+ghost use Rattle.tx_run.specs.Settled.{log_done, log_trap, Settles};
+
+use crate::answer::Settled;
+use args_log::{mark_unusable, retire};
+use nvm_base::Steps;
+use pm_machine::{Image, Machine, RunAnswer};
+use pmem::{LogAnswer, PmemWork};
+use pool_map::TrapKind;
+use std::sync::ledger::Ledger;
+
+/// The answer of a retirement.
+#[tactic(auto, using(std::proofs::lemmas::Int::wraps))]
+fn retired(answer: LogAnswer, value: i64, logged: u64) -> Settled
+    ensures { result ≡ log_done answer value logged }
+{
+    match answer {
+        LogAnswer::Done => Settled::Done { value, logged },
+        LogAnswer::Off => Settled::Off,
+        LogAnswer::Failed => Settled::Failed,
+        LogAnswer::NoMemory => Settled::NoMemory,
+    }
+}
+
+/// The answer of a mark.
+fn marked(answer: LogAnswer, kind: TrapKind) -> Settled
+    ensures { result ≡ log_trap answer kind }
+{
+    match answer {
+        LogAnswer::Done => Settled::Trap(kind),
+        LogAnswer::Off => Settled::Off,
+        LogAnswer::Failed => Settled::Failed,
+        LogAnswer::NoMemory => Settled::NoMemory,
+    }
+}
+
+/// Runs the machine of a call that is sealed, and retires the call, or marks the pool where the run
+/// trapped. On a device that is off the answer is `Off`, and nothing has changed.
+pub fn settle<P: PmemWork, L: Ledger>(
+    image: &Image,
+    machine: &mut Machine,
+    dev: &mut P,
+    steps: &mut Steps<L>,
+) -> Settled
+    requires lines { (P.device dev.old).lines ≡ pool_lines image.now.parts.sizes }
+    requires dirty { AreLines (heap_words image.now.parts.sizes) machine.old.dirty }
+    requires logged { machine.old.logged < 2 ^ 62 }
+    ensures settled { (P.device dev.old).on ≡ true → Settles result image.now machine.old (P.device dev.old) (P.device dev.new) steps.old steps.new }
+    ensures bound { (P.device dev.old).on ≡ true → steps.new ≤ steps.old + (due_on image.now machine.old (P.device dev.old).cache).steps }
+    ensures most { steps.new ≤ steps.old + image.now.parts.most }
+    ensures off { (P.device dev.old).on ≡ false → result ≡ Settled.Off }
+    ensures same { (P.device dev.old).on ≡ false → P.device dev.new ≡ P.device dev.old }
+    ensures lines { (P.device dev.new).lines ≡ (P.device dev.old).lines }
+{
+    match machine.run(image, dev, steps) {
+        RunAnswer::Halted(value) => retired(retire(dev, value), value, machine.logged()),
+        RunAnswer::Trapped(kind) => marked(mark_unusable(dev, kind), kind),
+        RunAnswer::Off => Settled::Off,
+        RunAnswer::Failed => Settled::Failed,
+        RunAnswer::NoMemory => Settled::NoMemory,
+    }
+}
