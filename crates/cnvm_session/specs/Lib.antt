@@ -1,1 +1,4 @@
 pub mod AnswerText
+pub mod Created
+pub mod Opening
+pub mod Shown

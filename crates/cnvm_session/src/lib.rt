@@ -4,7 +4,13 @@
 #![tactic(auto)]
 
 mod answer;
+mod creating;
+mod opening;
+mod showing;
 mod text;
 
 pub use answer::Answer;
+pub use creating::{StartFault, create_pool};
+pub use opening::open_pool;
+pub use showing::shown;
 pub use text::answer_text;

@@ -1,0 +1,134 @@
+//! A pool that is read from an image.
+
+ghost use Rattle.std.specs.Prelude.{◌≡◌, ◌≤◌, ◌+◌, ◌*◌, ◌<◌, take, drop, length, OnOk, IfErr, IsErrOf};
+ghost use Rattle.std.specs.List.{list_any};
+ghost use Rattle.pmem.specs.Device.{Rose, blanked};
+ghost use Rattle.pmem.specs.Played.{PlaysAll, PlaysPart};
+ghost use Rattle.pool_layout.specs.Sizes as sizes_of;
+ghost use Rattle.cnvm_session.specs.Opening.{is_other, store_of, stores_of, has_other, flush_of, flushes_of, opening_events};
+
+use crate::creating::StartFault;
+use pmem::events::{fence, flush, store};
+use pmem::{Pmem, PmemWork, Refusal};
+use pool_layout::{Sizes, pool_lines};
+
+/// Stores a word that isn't 0.
+fn store_word<P: PmemWork>(dev: &mut P, words: &[i64], place: u64) -> Result<(), Refusal>
+    requires place { place < 8 * (P.device dev.old).lines }
+    requires words { place < length words.now }
+    ensures done { OnOk result (PlaysAll (P.device dev.old) (store_of words.now place) (P.device dev.new)) }
+    ensures refused { IfErr result (λ why. PlaysPart why (P.device dev.old) (store_of words.now place) (P.device dev.new)) }
+    ensures lines { (P.device dev.new).lines ≡ (P.device dev.old).lines }
+{
+    let word = words[place as usize];
+    if word == 0 {
+        return Ok(());
+    }
+    store(dev, place, word)
+}
+
+/// Stores the words that aren't 0, in order.
+fn store_words<P: PmemWork>(dev: &mut P, words: &[i64]) -> Result<(), Refusal>
+    requires { length words.now ≤ 8 * (P.device dev.old).lines }
+    ensures done { OnOk result (PlaysAll (P.device dev.old) (stores_of words.now 0 (length words.now)) (P.device dev.new)) }
+    ensures refused { IfErr result (λ why. PlaysPart why (P.device dev.old) (stores_of words.now 0 (length words.now)) (P.device dev.new)) }
+    ensures lines { (P.device dev.new).lines ≡ (P.device dev.old).lines }
+{
+    for place in 0..words.len() as u64 {
+        if let Err(why) = store_word(dev, words, place) {
+            return Err(why);
+        }
+    }
+    Ok(())
+}
+
+/// Whether one of the words isn't 0.
+fn any_other(words: &[i64]) -> bool
+    ensures { result ≡ list_any is_other words.now }
+{
+    for word in words {
+        if *word != 0 {
+            return true;
+        }
+    }
+    false
+}
+
+/// The eight words of a line.
+fn line_words(words: &[i64], line: u64) -> &[i64]
+    requires { 8 * line + 8 ≤ length words.now }
+    ensures { result.now ≡ take 8 (drop (8 * line) words.now) }
+{
+    let (_, rest) = words.split_at(8 * line as usize);
+    let (own, _) = rest.split_at(8);
+    own
+}
+
+/// Flushes a line that has a word other than 0.
+fn flush_line<P: PmemWork>(dev: &mut P, words: &[i64], line: u64) -> Result<(), Refusal>
+    requires line { line < (P.device dev.old).lines }
+    requires words { 8 * line + 8 ≤ length words.now }
+    ensures done { OnOk result (PlaysAll (P.device dev.old) (flush_of words.now line) (P.device dev.new)) }
+    ensures refused { IfErr result (λ why. PlaysPart why (P.device dev.old) (flush_of words.now line) (P.device dev.new)) }
+    ensures lines { (P.device dev.new).lines ≡ (P.device dev.old).lines }
+{
+    if any_other(line_words(words, line)) {
+        flush(dev, line)
+    } else {
+        Ok(())
+    }
+}
+
+/// Flushes the lines that have a word other than 0, in order.
+fn flush_lines<P: PmemWork>(dev: &mut P, words: &[i64], lines: u64) -> Result<(), Refusal>
+    requires lines { lines ≤ (P.device dev.old).lines }
+    requires words { 8 * lines ≤ length words.now }
+    ensures done { OnOk result (PlaysAll (P.device dev.old) (flushes_of words.now 0 lines) (P.device dev.new)) }
+    ensures refused { IfErr result (λ why. PlaysPart why (P.device dev.old) (flushes_of words.now 0 lines) (P.device dev.new)) }
+    ensures lines { (P.device dev.new).lines ≡ (P.device dev.old).lines }
+{
+    for line in 0..lines {
+        if let Err(why) = flush_line(dev, words, line) {
+            return Err(why);
+        }
+    }
+    Ok(())
+}
+
+/// The events that write an image.
+#[tactic(auto, using(pmem::proofs::Glue::all_append, pmem::proofs::Glue::part_left, pmem::proofs::Glue::part_right), unfolding(crate::specs::Opening::opening_events))]
+fn play_opening<P: PmemWork>(dev: &mut P, words: &[i64], lines: u64) -> Result<(), Refusal>
+    requires lines { lines ≡ (P.device dev.old).lines }
+    requires words { length words.now ≡ 8 * lines }
+    ensures done { OnOk result (PlaysAll (P.device dev.old) (opening_events lines words.now) (P.device dev.new)) }
+    ensures refused { IfErr result (λ why. PlaysPart why (P.device dev.old) (opening_events lines words.now) (P.device dev.new)) }
+    ensures lines { (P.device dev.new).lines ≡ (P.device dev.old).lines }
+{
+    store_words(dev, words)?;
+    flush_lines(dev, words, lines)?;
+    fence(dev)
+}
+
+/// A pool of these sizes that holds the words of an image, on blank lines. An image that hasn't as
+/// many words as the pool, which reading one never gives, is answered as `NoMemory` and changes
+/// nothing.
+pub fn open_pool<P: Pmem>(sizes: &Sizes, words: &[i64], dev: &mut P) -> Result<(), StartFault>
+    ensures done { OnOk result (PlaysAll (blanked (sizes_of.pool_lines sizes.now) (P.device dev.old)) (opening_events (sizes_of.pool_lines sizes.now) words.now) (P.device dev.new)) }
+    ensures lines { OnOk result ((P.device dev.new).lines ≡ sizes_of.pool_lines sizes.now) }
+    ensures failed { IsErrOf result StartFault.Failed → Rose (P.device dev.old).faults (P.device dev.new).faults }
+{
+    let lines = pool_lines(sizes);
+    if words.len() as u64 != 8 * lines {
+        return Err(StartFault::NoMemory);
+    }
+    if let Err(_) = dev.blank(lines) {
+        return Err(StartFault::NoMemory);
+    }
+    match play_opening(dev, words, lines) {
+        Ok(()) => Ok(()),
+        Err(Refusal::NoMemory) => Err(StartFault::NoMemory),
+        Err(Refusal::Failed) => Err(StartFault::Failed),
+        // It never comes: the device was switched on.
+        Err(Refusal::Off) => Err(StartFault::Failed),
+    }
+}
