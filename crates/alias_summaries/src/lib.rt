@@ -1,0 +1,28 @@
+//! Summaries of calls: which facts at a function's entry give which facts at its return. It stands on
+//! `ir`'s table of facts. Its one contract for the crates above: the summaries are facts over all
+//! matched walks through one function, from each fact at its entry.
+#![tactic(auto)]
+
+mod agenda;
+mod call_facts;
+mod callers;
+mod cells;
+mod classes;
+mod ground;
+mod kin;
+mod numbering;
+mod passes;
+mod rows;
+mod search;
+mod table;
+mod topic;
+
+pub use agenda::{Agenda, Spot};
+pub use call_facts::{CallFacts, ClassFacts, summaries};
+pub use classes::{Access, Accesses};
+pub use ground::{Ground, Outline};
+pub use numbering::Register;
+pub use passes::{Pass, Passes};
+pub use search::{Over, spread};
+pub use table::{at_call, back, origins};
+pub use topic::Topic;
