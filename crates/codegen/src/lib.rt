@@ -1,0 +1,16 @@
+//! The machine's code of three-address code. It stands on `ir`, on the pieces of `pm_alloc` and on
+//! the images of `pm_machine`. Its one contract for the crates above: the image is that of the
+//! code's definition, instruction by instruction, with these sizes, transactions and bound.
+#![tactic(auto)]
+
+mod addresses;
+mod control;
+mod emission;
+mod fields;
+mod functions;
+mod instructions;
+mod names;
+#[cfg(test)]
+mod tests;
+
+pub use emission::emit;
