@@ -13,3 +13,4 @@ pub mod Finish
 pub mod Viable
 pub mod Accepting
 pub mod FixesExpr
+pub mod FixesStmt

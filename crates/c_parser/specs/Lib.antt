@@ -12,3 +12,4 @@ pub mod StmtSpelling
 pub mod ItemSpelling
 pub mod Exact
 pub mod Fixes
+pub mod Pieces

@@ -1,6 +1,15 @@
 //! Statements, built from tokens that were judged before.
 
-ghost use Rattle.std.specs.Prelude.{◌≡◌, ◌<◌, ◌≤◌, ◌+◌, length, IfOk, OnOk, true};
+ghost use Rattle.std.specs.Prelude.{◌≡◌, ◌<◌, ◌≤◌, ◌+◌, length, IfOk, OnOk, option_map, true};
+ghost use Rattle.c_parser.specs.Kinds as kinds;
+ghost use Rattle.c_parser.specs.ExprTree as exprs;
+ghost use Rattle.c_parser.specs.ExprTree.{Ident, expr_of};
+ghost use Rattle.c_parser.specs.StmtTree as trees;
+ghost use Rattle.c_parser.specs.StmtTree.{Statements, type_of, declaration_of, simple_of, first_of, stmt_of, statements_in, and_then};
+ghost use Rattle.c_parser.specs.StmtSpelling.{Typed, Declares, Bracketed, Simply, FirstPart, ValuePart, ThirdPart};
+ghost use Rattle.c_parser.specs.Fixes.{Fixes, Ended, Over, Is, Closes};
+ghost use Rattle.c_parser.specs.Pieces as pieces;
+ghost use Rattle.c_parser.specs.Pieces.{ActsOrCalls, for_of, SpellsFor, Stated, StatedAll, SpellsChoice, SpellsWhile, SpellsCounted, SpellsPlain};
 
 use crate::build_expr::{expression, postfix};
 use crate::expr::{Expr, Name};
@@ -10,8 +19,10 @@ use c_lexer::TokenList;
 use std::alloc::{AllocError, Global};
 
 /// A type, and the place behind it.
+#[tactic(auto, using(crate::proofs::FixesStmt::types))]
 pub fn type_name(alloc: Global, tokens: &TokenList, at: u64) -> Result<(TypeName, u64), AllocError>
     ensures stays { IfOk result (λ r. at ≤ r.1) }
+    ensures fixes { IfOk result (λ r. Fixes (Typed tokens.now.tokens at) r.1 (type_of r.0)) }
     ensures moves { IfOk result (λ r. at < length tokens.now.tokens → at < r.1) }
 {
     let next = behind(tokens, at);
@@ -26,8 +37,10 @@ pub fn type_name(alloc: Global, tokens: &TokenList, at: u64) -> Result<(TypeName
 }
 
 /// A declaration without its semicolon.
+#[tactic(auto, using(crate::proofs::FixesStmt::declarations))]
 fn declaration(alloc: Global, tokens: &TokenList, at: u64) -> Result<(Declaration, u64), AllocError>
     ensures stays { IfOk result (λ r. at ≤ r.1) }
+    ensures fixes { IfOk result (λ r. Fixes (Ended tokens.now.tokens (Is Kind.Semicolon) (Declares tokens.now.tokens at)) r.1 (declaration_of r.0)) }
     ensures moves { IfOk result (λ r. at < length tokens.now.tokens → at < r.1) }
 {
     let (ty, place) = type_name(alloc, tokens, at)?;
@@ -49,15 +62,19 @@ fn declaration(alloc: Global, tokens: &TokenList, at: u64) -> Result<(Declaratio
 }
 
 /// An expression in brackets, and the place behind them.
+#[tactic(auto, using(crate::proofs::FixesStmt::bracketed_inner))]
 fn bracketed(alloc: Global, tokens: &TokenList, at: u64) -> Result<(Expr, u64), AllocError>
     ensures stays { IfOk result (λ r. at ≤ r.1) }
+    ensures fixes { IfOk result (λ r. Fixes (Bracketed tokens.now.tokens at) r.1 (expr_of r.0)) }
 {
     let (inner, close) = expression(alloc, tokens, behind(tokens, at))?;
     Ok((inner, behind(tokens, close)))
 }
 
 /// The statement that a call is where it stands alone.
-fn call_alone(target: Expr) -> Simple {
+fn call_alone(target: Expr) -> Simple
+    ensures { (n : Ident) (all : exprs.Arguments) → expr_of target ≡ exprs.Call n all → simple_of result ≡ trees.Call n all }
+{
     match target {
         Expr::Call { name, arguments } => Simple::Call { name, arguments },
         other => Simple::Step {
@@ -69,6 +86,7 @@ fn call_alone(target: Expr) -> Simple {
 }
 
 /// What a statement does with its target.
+#[tactic(auto, using(crate::proofs::FixesStmt::acted_on))]
 fn acted(
     alloc: Global,
     tokens: &TokenList,
@@ -76,6 +94,7 @@ fn acted(
     target: Expr,
 ) -> Result<(Simple, u64), AllocError>
     ensures stays { IfOk result (λ r. at ≤ r.1) }
+    ensures fixes { IfOk result (λ r. Fixes (Ended tokens.now.tokens Closes (λ k t. ActsOrCalls tokens.now.tokens at k (expr_of target) t)) r.1 (simple_of r.0)) }
 {
     match kind_at(tokens, at) {
         Kind::Assign(op) => {
@@ -103,8 +122,10 @@ fn acted(
 }
 
 /// A simple statement without its semicolon.
+#[tactic(auto, using(crate::proofs::FixesStmt::simples))]
 fn simple(alloc: Global, tokens: &TokenList, at: u64) -> Result<(Simple, u64), AllocError>
     ensures stays { IfOk result (λ r. at ≤ r.1) }
+    ensures fixes { IfOk result (λ r. Fixes (Ended tokens.now.tokens Closes (Simply tokens.now.tokens at)) r.1 (simple_of r.0)) }
 {
     let next = behind(tokens, at);
     match kind_at(tokens, at) {
@@ -123,7 +144,9 @@ fn simple(alloc: Global, tokens: &TokenList, at: u64) -> Result<(Simple, u64), A
     }
 }
 
-fn make_if(condition: Expr, body: Box<Stmt>) -> Stmt {
+fn make_if(condition: Expr, body: Box<Stmt>) -> Stmt
+    ensures { stmt_of result ≡ trees.If (expr_of condition) (stmt_of body.value) }
+{
     Stmt::If {
         condition,
         body,
@@ -131,7 +154,9 @@ fn make_if(condition: Expr, body: Box<Stmt>) -> Stmt {
     }
 }
 
-fn make_if_else(condition: Expr, body: Box<Stmt>, other: Box<Stmt>) -> Stmt {
+fn make_if_else(condition: Expr, body: Box<Stmt>, other: Box<Stmt>) -> Stmt
+    ensures { stmt_of result ≡ trees.IfElse (expr_of condition) (stmt_of body.value) (stmt_of other.value) }
+{
     Stmt::If {
         condition,
         body,
@@ -139,7 +164,9 @@ fn make_if_else(condition: Expr, body: Box<Stmt>, other: Box<Stmt>) -> Stmt {
     }
 }
 
-fn make_while(condition: Expr, body: Box<Stmt>) -> Stmt {
+fn make_while(condition: Expr, body: Box<Stmt>) -> Stmt
+    ensures { stmt_of result ≡ trees.While (expr_of condition) (stmt_of body.value) }
+{
     Stmt::While { condition, body }
 }
 
@@ -151,7 +178,9 @@ struct ForParts {
     third: Option<Simple>,
 }
 
-fn make_for(parts: ForParts, body: Box<Stmt>) -> Stmt {
+fn make_for(parts: ForParts, body: Box<Stmt>) -> Stmt
+    ensures { stmt_of result ≡ trees.For (for_of parts).first (for_of parts).condition (for_of parts).third (stmt_of body.value) }
+{
     let ForParts {
         first,
         condition,
@@ -165,23 +194,30 @@ fn make_for(parts: ForParts, body: Box<Stmt>) -> Stmt {
     }
 }
 
-fn make_block(all: Vec<Stmt>) -> Stmt {
+fn make_block(all: Vec<Stmt>) -> Stmt
+    ensures { stmt_of result ≡ trees.Block (statements_in all.items) }
+{
     Stmt::Block(all)
 }
 
 /// Puts one statement at the end.
-pub fn add_statement(all: &mut Vec<Stmt>, one: Stmt) -> Result<(), AllocError> {
+#[tactic(auto, using(crate::proofs::FixesStmt::stmt_trees))]
+pub fn add_statement(all: &mut Vec<Stmt>, one: Stmt) -> Result<(), AllocError>
+    ensures { OnOk result ((ss : Statements) → and_then (statements_in all.new.items) ss ≡ and_then (statements_in all.old.items) (trees.Then (stmt_of one) ss)) }
+{
     all.push(one)?;
     Ok(())
 }
 
 /// The first part of a `for`, up to its semicolon.
+#[tactic(auto, using(crate::proofs::FixesStmt::first_parts))]
 fn first_part(
     alloc: Global,
     tokens: &TokenList,
     at: u64,
 ) -> Result<(Option<First>, u64), AllocError>
     ensures stays { IfOk result (λ r. at ≤ r.1) }
+    ensures fixes { IfOk result (λ r. Fixes (Ended tokens.now.tokens (Is Kind.Semicolon) (FirstPart tokens.now.tokens at)) r.1 (option_map first_of r.0)) }
 {
     match kind_at(tokens, at) {
         Kind::Semicolon => Ok((None, at)),
@@ -197,8 +233,10 @@ fn first_part(
 }
 
 /// An expression that may be absent before a semicolon.
+#[tactic(auto, using(crate::proofs::FixesStmt::value_parts))]
 fn value_part(alloc: Global, tokens: &TokenList, at: u64) -> Result<(Option<Expr>, u64), AllocError>
     ensures stays { IfOk result (λ r. at ≤ r.1) }
+    ensures fixes { IfOk result (λ r. Fixes (Ended tokens.now.tokens (Is Kind.Semicolon) (ValuePart tokens.now.tokens at)) r.1 (option_map expr_of r.0)) }
 {
     if kind_at(tokens, at) == Kind::Semicolon {
         return Ok((None, at));
@@ -208,12 +246,14 @@ fn value_part(alloc: Global, tokens: &TokenList, at: u64) -> Result<(Option<Expr
 }
 
 /// The third part of a `for`, up to the closing bracket.
+#[tactic(auto, using(crate::proofs::FixesStmt::third_parts))]
 fn third_part(
     alloc: Global,
     tokens: &TokenList,
     at: u64,
 ) -> Result<(Option<Simple>, u64), AllocError>
     ensures stays { IfOk result (λ r. at ≤ r.1) }
+    ensures fixes { IfOk result (λ r. Fixes (Ended tokens.now.tokens (Is Kind.CloseRound) (ThirdPart tokens.now.tokens at)) r.1 (option_map simple_of r.0)) }
 {
     if kind_at(tokens, at) == Kind::CloseRound {
         return Ok((None, at));
@@ -223,8 +263,10 @@ fn third_part(
 }
 
 /// The three parts in their brackets, and the place behind them.
+#[tactic(auto, using(crate::proofs::FixesStmt::for_read))]
 fn for_parts(alloc: Global, tokens: &TokenList, at: u64) -> Result<(ForParts, u64), AllocError>
     ensures stays { IfOk result (λ r. at ≤ r.1) }
+    ensures fixes { IfOk result (λ r. Fixes (SpellsFor tokens.now.tokens at) r.1 (for_of r.0)) }
 {
     let (first, end) = first_part(alloc, tokens, behind(tokens, at))?;
     let (condition, end) = value_part(alloc, tokens, behind(tokens, end))?;
@@ -248,8 +290,10 @@ fn beyond(tokens: &TokenList, at: u64, least: u64) -> u64
 }
 
 /// A statement that has no other in it.
+#[tactic(auto, using(crate::proofs::FixesStmt::plains))]
 fn plain(alloc: Global, tokens: &TokenList, at: u64) -> Result<(Stmt, u64), AllocError>
     ensures stays { IfOk result (λ r. at ≤ r.1) }
+    ensures fixes { IfOk result (λ r. Fixes (SpellsPlain tokens.now.tokens at) r.1 (stmt_of r.0)) }
     ensures moves { IfOk result (λ r. at < length tokens.now.tokens → at < r.1) }
 {
     let next = behind(tokens, at);
@@ -274,8 +318,10 @@ fn plain(alloc: Global, tokens: &TokenList, at: u64) -> Result<(Stmt, u64), Allo
 
 /// A statement, and the place behind it.
 #[cycle(statements)]
+#[tactic(auto, using(crate::proofs::FixesStmt::statements))]
 pub fn statement(alloc: Global, tokens: &TokenList, at: u64) -> Result<(Stmt, u64), AllocError>
     ensures stays { IfOk result (λ r. at ≤ r.1) }
+    ensures fixes { IfOk result (λ r. Fixes (Stated tokens.now.tokens at) r.1 (stmt_of r.0)) }
     ensures moves { IfOk result (λ r. at < length tokens.now.tokens → at < r.1) }
 {
     match kind_at(tokens, at) {
@@ -294,6 +340,7 @@ pub fn statement(alloc: Global, tokens: &TokenList, at: u64) -> Result<(Stmt, u6
 #[cycle(statements)]
 fn body(alloc: Global, tokens: &TokenList, at: u64) -> Result<(Box<Stmt>, u64), AllocError>
     ensures stays { IfOk result (λ r. at ≤ r.1) }
+    ensures fixes { IfOk result (λ r. Fixes (Stated tokens.now.tokens at) r.1 (stmt_of r.0.value)) }
 {
     let (one, end) = statement(alloc, tokens, at)?;
     Ok((Box::new(alloc, one)?, end))
@@ -301,8 +348,10 @@ fn body(alloc: Global, tokens: &TokenList, at: u64) -> Result<(Box<Stmt>, u64), 
 
 /// A choice, from behind its `if`.
 #[cycle(statements)]
+#[tactic(auto, using(crate::proofs::FixesStmt::choices))]
 fn choice(alloc: Global, tokens: &TokenList, at: u64) -> Result<(Stmt, u64), AllocError>
     ensures stays { IfOk result (λ r. at ≤ r.1) }
+    ensures fixes { IfOk result (λ r. Fixes (SpellsChoice tokens.now.tokens at) r.1 (stmt_of r.0)) }
 {
     let (condition, place) = bracketed(alloc, tokens, at)?;
     let (first, end) = body(alloc, tokens, place)?;
@@ -315,8 +364,10 @@ fn choice(alloc: Global, tokens: &TokenList, at: u64) -> Result<(Stmt, u64), All
 
 /// A loop, from behind its `while`.
 #[cycle(statements)]
+#[tactic(auto, using(crate::proofs::FixesStmt::while_read))]
 fn repeated(alloc: Global, tokens: &TokenList, at: u64) -> Result<(Stmt, u64), AllocError>
     ensures stays { IfOk result (λ r. at ≤ r.1) }
+    ensures fixes { IfOk result (λ r. Fixes (SpellsWhile tokens.now.tokens at) r.1 (stmt_of r.0)) }
 {
     let (condition, place) = bracketed(alloc, tokens, at)?;
     let (body, end) = body(alloc, tokens, place)?;
@@ -325,8 +376,10 @@ fn repeated(alloc: Global, tokens: &TokenList, at: u64) -> Result<(Stmt, u64), A
 
 /// A loop with three parts, from behind its `for`.
 #[cycle(statements)]
+#[tactic(auto, using(crate::proofs::FixesStmt::counted_read))]
 fn counted(alloc: Global, tokens: &TokenList, at: u64) -> Result<(Stmt, u64), AllocError>
     ensures stays { IfOk result (λ r. at ≤ r.1) }
+    ensures fixes { IfOk result (λ r. Fixes (SpellsCounted tokens.now.tokens at) r.1 (stmt_of r.0)) }
 {
     let (parts, place) = for_parts(alloc, tokens, at)?;
     let (body, end) = body(alloc, tokens, place)?;
@@ -335,8 +388,10 @@ fn counted(alloc: Global, tokens: &TokenList, at: u64) -> Result<(Stmt, u64), Al
 
 /// Statements from behind an opening brace to behind the closing one.
 #[cycle(statements)]
+#[tactic(auto, using(crate::proofs::FixesStmt::blocks))]
 pub fn block(alloc: Global, tokens: &TokenList, at: u64) -> Result<(Vec<Stmt>, u64), AllocError>
     ensures stays { IfOk result (λ r. at ≤ r.1) }
+    ensures fixes { IfOk result (λ r. Fixes (StatedAll tokens.now.tokens at) r.1 (statements_in r.0.items)) }
 {
     let mut all = Vec::new(alloc);
     let mut place = at;
@@ -350,6 +405,7 @@ pub fn block(alloc: Global, tokens: &TokenList, at: u64) -> Result<(Vec<Stmt>, u
 
 /// Whether neither a closing brace nor the end stands there.
 pub fn goes_on(tokens: &TokenList, at: u64) -> bool
+    ensures value { result ≡ pieces.goes_on (kinds.kind_at tokens.now.tokens at) }
     ensures inside { result ≡ true → at < length tokens.now.tokens }
 {
     match kind_at(tokens, at) {

@@ -1,4 +1,4 @@
-use Rattle.std.proofs.Common.{◌+◌, ◌-◌, ◌≤◌, length}
+use Rattle.std.proofs.Common.{◌+◌, ◌-◌, length}
 use Rattle.c_parser.proofs.build_item.items.Given as goal
 
 abbrev pub decreases-each : goal.decreases-each

@@ -1,4 +1,4 @@
-use Rattle.std.proofs.Common.{◌≡◌, ◌≤◌, length, sym, ap, subst, ◌∙◌, arith, Some}
+use Rattle.std.proofs.Common.{◌≡◌, sym, ap, ◌∙◌, arith, Some}
 use Rattle.c_parser.specs.Run.{ends, stepped, Refused}
 use Rattle.c_parser.proofs.Steps.{run_end}
 use Rattle.c_parser.proofs.judge.judge.Goals as goal

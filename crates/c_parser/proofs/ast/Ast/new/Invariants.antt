@@ -1,4 +1,4 @@
-use Rattle.std.proofs.Common.{◌≡◌, ◌++◌, ◌≤◌, drop, length, map}
+use Rattle.std.proofs.Common.{◌≡◌, ◌++◌, drop, map}
 use Rattle.c_parser.proofs.ast.Ast.new.Given as goal
 
 abbrev pub invariant-loop-place : goal.invariant-loop-place

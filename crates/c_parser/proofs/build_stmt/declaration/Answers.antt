@@ -1,0 +1,11 @@
+use Rattle.std.proofs.Common.{◌≢◌, rules}
+use Rattle.c_parser.specs.declared.stmt.AssignOp.TheVariants as assign
+use Rattle.c_parser.specs.declared.kind.Kind.TheVariants as kind
+use Rattle.c_parser.specs.Kinds.{kind_at}
+use Rattle.c_parser.proofs.FixesStmt.{declares_plain}
+use Rattle.c_parser.proofs.build_stmt.declaration.Goals as goal
+
+pub returns-clause-fixes : goal.returns-clause-fixes
+returns-clause-fixes c =
+    let not : kind_at c.args.tokens.now.tokens c.behind-next.result ≢ kind.Assign assign.Set = search rules in
+    declares_plain _ _ _ _ _ _ c.in_ok-ty.ensures.fixes c.in_ok-name.ensures c.behind-next.ensures.moves not
