@@ -1,0 +1,14 @@
+pub mod Held
+pub mod Records
+pub mod Fine
+pub mod Run
+pub mod Finish
+pub mod Seal
+pub mod Restore
+pub mod Whole
+pub mod Redo
+pub mod Clean
+pub mod Rest
+pub mod Effects
+pub mod Again
+pub mod Fences

@@ -1,0 +1,175 @@
+-- Behind a call that is done, and behind a recovery, each line has one version.
+use Rattle.std.proofs.Common.{◌≡◌, ◌≢◌, ◌⊎◌, inl, inr, ⊎_elim, ℕ, zero, suc, ◌+◌, ◌/◌, ◌<◌, ◌≤◌, List, [], ◌∷◌, length, Some, None, Option, ℤ, pos, nat_abs, refl, sym, ap, subst, arith}
+use Rattle.std.proofs.lemmas.Bool.{cases_eq}
+use Rattle.std.proofs.lemmas.List.{drop_all}
+use Rattle.cache_model.specs.Event.{CacheEvent, Store, Flush, Fence}
+use Rattle.cache_model.specs.Cache.{Words, Line, Cache}
+use Rattle.cache_model.specs.Play.{apply, play, fence_at}
+use Rattle.pool_layout.specs.declared.places.Place.{Place}
+use Rattle.pool_layout.specs.declared.places.Place.TheVariants.{Last, Done, Attempt, Argument, Seal, RecordWord, RecordOld, RecordStamp, Heap}
+use Rattle.pool_layout.specs.declared.places.Layout.{Layout}
+use Rattle.pool_layout.specs.declared.limits.Sizes.{Sizes}
+use Rattle.pool_layout.specs.Places.{at, line_of, pool_of}
+use Rattle.pool_layout.specs.Restored.{restored}
+use Rattle.crash_law.specs.Pools.{Call}
+use Rattle.crash_law.specs.Due.{Entry, Plain, Logged, Halted, run_events, IsStored, lines_of, flush_all, retire_events, end_events, due_run, due_call, store_words, flush_from, seal_events, restore_events, reset_events, redo_events}
+use Rattle.crash_law.specs.Law.{IsAtRest}
+use Rattle.cache_model.specs.Play.{IsReady}
+use Rattle.cache_model.proofs.Ready.{flush_ready}
+use Rattle.cache_model.proofs.Versions.{store_other}
+use Rattle.cache_model.proofs.During.{play_append}
+use Rattle.crash_law.proofs.Finish.{IsIn, stored_listed}
+
+-- a fence makes each line single, but for those of D
+abbrev Clean : (ℕ → Type 0) → Cache → Type 0
+Clean D c = (l : ℕ) → IsReady (c l) ⊎ D l
+
+abbrev Nowhere : ℕ → Type 0
+Nowhere l = ⊥
+
+single_ready_of : (m : Option ℕ) (l : Line) → l.older ≡ [] → (fence_at m l).older ≡ []
+single_ready_of None l e = e
+single_ready_of (Some k) l e = drop_all k l.older (omega (arith, ap (length {A = Words}) e))
+
+single_ready : (l : Line) → l.older ≡ [] → IsReady l
+single_ready l e = single_ready_of l.mark l e
+
+rest_clean : (c : Cache) → IsAtRest c → Clean Nowhere c
+rest_clean c rest l = inl (single_ready (c l) (rest l))
+
+clean_more : (D M : ℕ → Type 0) (c : Cache) → ((l : ℕ) → D l → M l) → Clean D c → Clean M c
+clean_more D M c f clean l = ⊎_elim (λ r. inl r) (λ d. inr (f l d)) (clean l)
+
+clean_store : (D : ℕ → Type 0) (c : Cache) (p : ℕ) (x : ℤ) → D (p / 8) → Clean D c → Clean D (apply c (Store p x))
+clean_store D c p x there clean l = ⊎_elim
+    (λ (e : l ≡ p / 8). inr (subst D (sym e) there))
+    (λ (ne : l ≢ p / 8). ⊎_elim (λ r. inl (subst IsReady (sym (store_other c p l x ne)) r)) (λ d. inr d) (clean l))
+    (cases_eq l (p / 8))
+
+clean_flush : (D M : ℕ → Type 0) (c : Cache) (k : ℕ) → ((l : ℕ) → D l → (l ≡ k) ⊎ M l) → Clean D c → Clean M (apply c (Flush k))
+clean_flush D M c k f clean l = ⊎_elim
+    (λ r. inl (flush_ready c k l (λ ne. r)))
+    (λ d. ⊎_elim (λ (e : l ≡ k). inl (flush_ready c k l (λ ne. absurd (ne e)))) (λ m. inr m) (f l d))
+    (clean l)
+
+fence_ready : (c : Cache) (l : ℕ) → IsReady (c l) → (apply c Fence l).older ≡ []
+unfolding apply
+fence_ready c l r = r
+
+clean_fence : (D : ℕ → Type 0) (c : Cache) → Clean D c → Clean D (apply c Fence)
+clean_fence D c clean l = ⊎_elim (λ r. inl (single_ready (apply c Fence l) (fence_ready c l r))) (λ d. inr d) (clean l)
+
+fence_rest : (c : Cache) → Clean Nowhere c → IsAtRest (apply c Fence)
+fence_rest c clean l = ⊎_elim (λ r. fence_ready c l r) (λ none. absurd none) (clean l)
+
+-- stores to one line, its flush and a fence
+close : (k : ℕ) (c : Cache) → Clean (λ l. l ≡ k) c → IsAtRest (apply (apply c (Flush k)) Fence)
+close k c clean = fence_rest (apply c (Flush k)) (clean_flush (λ l. l ≡ k) Nowhere c k (λ l e. inl e) clean)
+
+module _ (z : Sizes) (a : ℕ) where
+  abbrev C : Layout
+  C = pool_of z
+
+  -- the five events of LOG leave no line that wasn't there
+  log_clean : (D : ℕ → Type 0) (n w : ℕ) (o : ℤ) (c : Cache) → Clean D c → Clean D (apply (apply (apply (apply (apply c (Store (at C (RecordWord n)) (pos w))) (Store (at C (RecordOld n)) o)) (Store (at C (RecordStamp n)) (pos (suc a)))) (Flush (6 + n))) Fence)
+  log_clean D n w o c clean =
+      let M : ℕ → Type 0 = λ l. (l ≡ 6 + n) ⊎ D l in
+      let c1 : Cache = apply c (Store (at C (RecordWord n)) (pos w)) in
+      let c2 : Cache = apply c1 (Store (at C (RecordOld n)) o) in
+      let c3 : Cache = apply c2 (Store (at C (RecordStamp n)) (pos (suc a))) in
+      let more : Clean M c = clean_more D M c (λ l d. inr d) clean in
+      let m1 : Clean M c1 = clean_store M c (at C (RecordWord n)) (pos w) (inl (omega arith)) more in
+      let m2 : Clean M c2 = clean_store M c1 (at C (RecordOld n)) o (inl (omega arith)) m1 in
+      let m3 : Clean M c3 = clean_store M c2 (at C (RecordStamp n)) (pos (suc a)) (inl (omega arith)) m2 in
+      clean_fence D (apply c3 (Flush (6 + n))) (clean_flush M D c3 (6 + n) (λ l d. d) m3)
+
+  run_clean : (D : ℕ → Type 0) (trace : List Entry) (n : ℕ) (heap : ℕ → ℤ) (c : Cache) → ((w : ℕ) → IsStored w trace → D (line_of C (Heap w))) → Clean D c → Clean D (play c (run_events C a n heap trace))
+  run_clean D [] n heap c stored clean = clean
+  run_clean D (Plain w x ∷ trace) n heap c stored clean =
+      run_clean D trace n _ (apply c (Store (at C (Heap w)) x)) (λ u later. stored u (inr later)) (clean_store D c (at C (Heap w)) x (stored w (inl refl)) clean)
+  run_clean D (Logged w x ∷ trace) n heap c stored clean =
+      let c5 : Cache = apply (apply (apply (apply (apply c (Store (at C (RecordWord n)) (pos w))) (Store (at C (RecordOld n)) (heap w))) (Store (at C (RecordStamp n)) (pos (suc a)))) (Flush (6 + n))) Fence in
+      run_clean D trace (suc n) _ (apply c5 (Store (at C (Heap w)) x)) (λ u later. stored u (inr later)) (clean_store D c5 (at C (Heap w)) x (stored w (inl refl)) (log_clean D n w (heap w) c clean))
+
+  flush_rest : (ls : List ℕ) (rest : List CacheEvent) (c : Cache) → Clean (λ l. IsIn l ls) c → ((d : Cache) → Clean Nowhere d → IsAtRest (play d rest)) → IsAtRest (play c (flush_all ls rest))
+  flush_rest [] rest c clean next = next c clean
+  flush_rest (k ∷ ks) rest c clean next = flush_rest ks rest (apply c (Flush k)) (clean_flush (λ l. IsIn l (k ∷ ks)) (λ l. IsIn l ks) c k (λ l h. h) clean) next
+
+  retire_rest : (k : ℕ) (value : ℤ) (c : Cache) → IsAtRest c → IsAtRest (play c (retire_events C a k value))
+  retire_rest k value c rest =
+      let D : ℕ → Type 0 = λ l. l ≡ 2 in
+      let c1 : Cache = apply c (Store (at C Last) value) in
+      let c2 : Cache = apply c1 (Store (at C Done) (pos k)) in
+      let c3 : Cache = apply c2 (Store (at C Attempt) (pos (suc a))) in
+      let m0 : Clean D c = clean_more Nowhere D c (λ l none. absurd none) (rest_clean c rest) in
+      let m1 : Clean D c1 = clean_store D c (at C Last) value refl m0 in
+      let m2 : Clean D c2 = clean_store D c1 (at C Done) (pos k) refl m1 in
+      close 2 c3 (clean_store D c2 (at C Attempt) (pos (suc a)) refl m2)
+
+  pub run_rest : (k : ℕ) (heap : ℕ → ℤ) (value : ℤ) (trace : List Entry) (c : Cache) → IsAtRest c → IsAtRest (play c (due_run C a k heap (Halted value) trace))
+  run_rest k heap value trace c rest =
+      let D : ℕ → Type 0 = λ l. IsIn l (lines_of C [] trace) in
+      let clean : Clean D c = clean_more Nowhere D c (λ l none. absurd none) (rest_clean c rest) in
+      let ran : Clean D (play c (run_events C a 0 heap trace)) = run_clean D trace 0 heap c (λ w stored. stored_listed C trace w stored) clean in
+      subst IsAtRest (sym (play_append c (run_events C a 0 heap trace) (end_events C a k (Halted value) trace)))
+      (flush_rest (lines_of C [] trace) (Fence ∷ retire_events C a k value) (play c (run_events C a 0 heap trace)) ran
+      (λ d clean_d. retire_rest k value (apply d Fence) (fence_rest d clean_d)))
+
+  -- the seal
+
+  words_clean : (D : ℕ → Type 0) (word : ℕ → ℤ) (n k m : ℕ) (rest : List CacheEvent) (c : Cache) → k + n ≡ m → ((j : ℕ) → j < m → D (line_of C (Argument j))) → Clean D c → ((d : Cache) → Clean D d → IsAtRest (play d rest)) → IsAtRest (play c (store_words C word k n rest))
+  words_clean D word zero k m rest c sum lines clean next = next c clean
+  words_clean D word (suc n) k m rest c sum lines clean next =
+      words_clean D word n (suc k) m rest (apply c (Store (at C (Argument k)) (word k))) (omega arith) lines (clean_store D c (at C (Argument k)) (word k) (lines k (omega arith)) clean) next
+
+  lines_clean : (n l : ℕ) (rest : List CacheEvent) (c : Cache) → Clean (λ k. (l ≤ k) × (k < l + n)) c → ((d : Cache) → Clean Nowhere d → IsAtRest (play d rest)) → IsAtRest (play c (flush_from l n rest))
+  lines_clean zero l rest c clean next = next c (clean_more (λ k. (l ≤ k) × (k < l + 0)) Nowhere c (λ k h. omega arith) clean)
+  lines_clean (suc n) l rest c clean next =
+      lines_clean n (suc l) rest (apply c (Flush l))
+      (clean_flush (λ k. (l ≤ k) × (k < l + suc n)) (λ k. (suc l ≤ k) × (k < suc l + n)) c l
+      (λ k h. ⊎_elim (λ (e : k ≡ l). inl e) (λ (ne : k ≢ l). inr (omega arith)) (cases_eq k l)) clean)
+      next
+
+  pub seal_rest : (call : Call) (rest : List CacheEvent) (c : Cache) → IsAtRest c → ((d : Cache) → IsAtRest d → IsAtRest (play d rest)) → IsAtRest (play c (seal_events C call rest))
+  seal_rest call rest c at_rest next =
+      let D : ℕ → Type 0 = λ k. (3 ≤ k) × (k < 3 + (call.given / 8 + 1)) in
+      let five : ℕ → Type 0 = λ l. l ≡ 5 in
+      let tail : List CacheEvent = Fence ∷ Store (at C Seal) (pos (suc call.done)) ∷ Flush 5 ∷ Fence ∷ rest in
+      words_clean D call.word (suc call.given) 0 (suc call.given) (flush_from 3 (call.given / 8 + 1) tail) c (omega arith) (λ j lt. omega arith)
+      (clean_more Nowhere D c (λ l none. absurd none) (rest_clean c at_rest))
+      (λ d clean. lines_clean (call.given / 8 + 1) 3 tail d clean
+      (λ e clean_e.
+      let e1 : Cache = apply e Fence in
+      let e2 : Cache = apply e1 (Store (at C Seal) (pos (suc call.done))) in
+      let m1 : Clean five e1 = clean_more Nowhere five e1 (λ l none. absurd none) (rest_clean e1 (fence_rest e clean_e)) in
+      next (apply (apply e2 (Flush 5)) Fence) (close 5 e2 (clean_store five e1 (at C Seal) (pos (suc call.done)) refl m1))))
+
+  -- restore and reset
+
+  restore_rest : (word old : ℕ → ℤ) (n : ℕ) (rest : List CacheEvent) (c : Cache) → Clean Nowhere c → ((d : Cache) → Clean Nowhere d → IsAtRest (play d rest)) → IsAtRest (play c (restore_events C word old n rest))
+  restore_rest word old zero rest c clean next = next c clean
+  restore_rest word old (suc n) rest c clean next =
+      let q : Place = Heap (nat_abs (word n)) in
+      let D : ℕ → Type 0 = λ l. l ≡ line_of C q in
+      restore_rest word old n rest (apply (apply c (Store (at C q) (old n))) (Flush (line_of C q)))
+      (clean_flush D Nowhere (apply c (Store (at C q) (old n))) (line_of C q) (λ l e. inl e)
+      (clean_store D c (at C q) (old n) refl (clean_more Nowhere D c (λ l none. absurd none) clean)))
+      next
+
+  pub reset_rest : (rest : List CacheEvent) (c : Cache) → IsAtRest c → ((d : Cache) → IsAtRest d → IsAtRest (play d rest)) → IsAtRest (play c (reset_events C a rest))
+  reset_rest rest c at_rest next =
+      let D : ℕ → Type 0 = λ l. l ≡ 2 in
+      let c1 : Cache = apply c (Store (at C Attempt) (pos (suc a))) in
+      next (apply (apply c1 (Flush 2)) Fence) (close 2 c1 (clean_store D c (at C Attempt) (pos (suc a)) refl (clean_more Nowhere D c (λ l none. absurd none) (rest_clean c at_rest))))
+
+pub call_rest : (z : Sizes) (a : ℕ) (call : Call) (heap : ℕ → ℤ) (value : ℤ) (trace : List Entry) (c : Cache) → IsAtRest c → IsAtRest (play c (due_call (pool_of z) a call heap (Halted value) trace))
+call_rest z a call heap value trace c at_rest =
+    seal_rest z a call (due_run (pool_of z) a (suc call.done) heap (Halted value) trace) c at_rest (λ d rest. run_rest z a (suc call.done) heap value trace d rest)
+
+pub redo_rest : (z : Sizes) (a k : ℕ) (image : Words) (n : ℕ) (value : ℤ) (trace : List Entry) (c : Cache) → IsAtRest c → IsAtRest (play c (redo_events (pool_of z) a k image n (Halted value) trace))
+redo_rest z a k image zero value trace c at_rest = run_rest z a k (restored (pool_of z) a image) value trace c at_rest
+redo_rest z a k image (suc n) value trace c at_rest =
+    let C = pool_of z in
+    restore_rest z a (λ j. image (at C (RecordWord j))) (λ j. image (at C (RecordOld j))) (suc n) (Fence ∷ reset_events C a (due_run C (suc a) k (restored C a image) (Halted value) trace)) c (rest_clean c at_rest)
+    (λ d clean. reset_rest z a (due_run C (suc a) k (restored C a image) (Halted value) trace) (apply d Fence) (fence_rest d clean)
+    (λ e rest. run_rest z (suc a) k (restored C a image) value trace e rest))

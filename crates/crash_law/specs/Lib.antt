@@ -1,0 +1,4 @@
+pub mod Pools
+pub mod Due
+pub mod Law
+pub mod Effects
