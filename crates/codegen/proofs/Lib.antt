@@ -1,3 +1,5 @@
 pub mod Bound
+pub mod Fine
+pub mod Good
 pub mod Traps
 pub mod Written

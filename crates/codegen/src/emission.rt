@@ -3,6 +3,7 @@
 ghost use Rattle.std.specs.Prelude.{◌≡◌, ◌++◌, ◌<◌, ◌≤◌, ◌^◌, length, map, None, true, OnOk, IfOk, ℕ};
 ghost use Rattle.pm_machine.specs.Checked.{bad_of};
 ghost use Rattle.pm_machine.specs.Few.{AreFew};
+ghost use Rattle.ir.specs.WellFormed.{IsWellFormed};
 ghost use Rattle.codegen.specs.Emit as definitions;
 ghost use Rattle.codegen.specs.Emit.{known, functions_of, traps_of, txs_from, most_steps};
 
@@ -99,18 +100,14 @@ fn image_parts(
     })
 }
 
-/// The image of a program, for a pool of these sizes and a text of so many tokens.
-///
-/// Its code is that of the definition wherever that is good code for the machine. Where it isn't,
-/// which code that is well formed never comes to, each function does nothing but trap, and all else
-/// is the same.
+/// The image of a program, where its code breaks no rule of the machine; else the image of traps.
 #[tactic(auto, using(crate::proofs::Traps::functions_few))]
-pub fn emit(alloc: Global, ir: &Ir, sizes: &Sizes, tokens: u64) -> Result<Image, AllocError>
+fn checked_image(alloc: Global, ir: &Ir, sizes: &Sizes, tokens: u64) -> Result<Image, AllocError>
     ensures sizes { IfOk result (λ i. i.parts.sizes ≡ sizes.now) }
     ensures structs { IfOk result (λ i. i.parts.structs ≡ length ir.now.shapes.structs) }
     ensures most { IfOk result (λ i. i.parts.most ≡ most_steps sizes.now tokens) }
     ensures txs { IfOk result (λ i. i.parts.txs ≡ txs_from 0 (known ir.now.functions)) }
-    ensures code { bad_of (functions_of sizes.now ir.now) 0 (functions_of sizes.now ir.now) ≡ None → IfOk result (λ i. i.parts.functions ≡ functions_of sizes.now ir.now) }
+    ensures exact { bad_of (functions_of sizes.now ir.now) 0 (functions_of sizes.now ir.now) ≡ None → IfOk result (λ i. i.parts.functions ≡ functions_of sizes.now ir.now) }
 {
     let functions = machine_functions(alloc, ir, sizes)?;
     let parts = image_parts(alloc, ir, sizes, tokens, functions)?;
@@ -119,6 +116,22 @@ pub fn emit(alloc: Global, ir: &Ir, sizes: &Sizes, tokens: u64) -> Result<Image,
         Err(ImageRefused::NoMemory) => Err(AllocError),
         Err(ImageRefused::BadCode(..)) => trap_image(alloc, ir, sizes, tokens),
     }
+}
+
+/// The image of a program, for a pool of these sizes and a text of so many tokens.
+///
+/// Its code is that of the definition for all code that is well formed, and wherever else that
+/// breaks no rule of the machine. Where it would break one, each function does nothing but trap, and
+/// all else is the same.
+pub fn emit(alloc: Global, ir: &Ir, sizes: &Sizes, tokens: u64) -> Result<Image, AllocError>
+    ensures sizes { IfOk result (λ i. i.parts.sizes ≡ sizes.now) }
+    ensures structs { IfOk result (λ i. i.parts.structs ≡ length ir.now.shapes.structs) }
+    ensures most { IfOk result (λ i. i.parts.most ≡ most_steps sizes.now tokens) }
+    ensures txs { IfOk result (λ i. i.parts.txs ≡ txs_from 0 (known ir.now.functions)) }
+    ensures exact { bad_of (functions_of sizes.now ir.now) 0 (functions_of sizes.now ir.now) ≡ None → IfOk result (λ i. i.parts.functions ≡ functions_of sizes.now ir.now) }
+    ensures code { IsWellFormed ir.now → IfOk result (λ i. i.parts.functions ≡ functions_of sizes.now ir.now) }
+{
+    checked_image(alloc, ir, sizes, tokens)
 }
 
 /// The image of the same transactions, whose functions do nothing but trap.

@@ -9,8 +9,10 @@ mod emission;
 mod fields;
 mod functions;
 mod instructions;
+mod laws;
 mod names;
 #[cfg(test)]
 mod tests;
 
 pub use emission::emit;
+pub use laws::good_law;
