@@ -2,3 +2,4 @@ pub mod Cuts
 pub mod Digits
 pub mod Names
 pub mod Scripts
+pub mod Draws

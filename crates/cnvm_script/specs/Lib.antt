@@ -4,3 +4,4 @@ pub mod Name
 pub mod Number
 pub mod Pieces
 pub mod Reads
+pub mod Storm

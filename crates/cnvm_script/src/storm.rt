@@ -1,0 +1,164 @@
+//! A generator of scripts: rounds of calls, some of them cut by a power failure.
+
+ghost use Rattle.std.specs.Prelude.{◌≡◌, ◌<◌, ◌≤◌, ◌+◌, ◌*◌, ◌%◌, ◌^◌, ◌∷◌, ◌++◌, [], pos, IfOk, OnOk, Some, length};
+ghost use Rattle.c_types.specs.Shapes.{transactions_of};
+ghost use Rattle.cnvm_script.specs.Storm.{next, drawn, after, is_cut, chosen, arguments, power, cut_round, round, after_round, storm_round, storm_after};
+ghost use Rattle.cnvm_script.specs.declared.command.Command.TheVariants.{Call};
+
+use std::alloc::{AllocError, Global};
+use std::marker::Model;
+
+use c_types::Typed;
+use cache_model::{Choice, Picks, Rest};
+use nvm_base::{Text, Words};
+
+use crate::command::{Command, Script};
+
+/// The state of the generator.
+#[derive(Drop)]
+pub struct Storm {
+    state: u32,
+}
+
+impl Model for Storm {
+    ghost use Rattle.std.specs.Prelude.{ℕ};
+
+    ghost Value = { ℕ };
+
+    ghost view = { λ s. s.state };
+}
+
+/// What the first two draws of a round choose.
+#[derive(Clone, Copy, Debug, PartialEq, Eq)]
+struct Chosen {
+    /// Whether the power fails in the round.
+    cut: bool,
+    /// The transaction's number, from 1 on.
+    transaction: u64,
+}
+
+impl Storm {
+    /// The generator that starts at this number.
+    pub fn new(start: u32) -> Storm
+        ensures { result ≡ start }
+    {
+        Storm { state: start }
+    }
+
+    /// The commands of the next round, over the transactions of the program. After an error some of the
+    /// round's draws are made.
+    pub fn round(&mut self, alloc: Global, typed: &Typed) -> Result<Script, AllocError>
+        requires { 0 < length (transactions_of typed.now) }
+        ensures commands { IfOk result (λ script. Some script ≡ storm_round self.old (transactions_of typed.now)) }
+        ensures state { OnOk result (Some self.new ≡ storm_after self.old (transactions_of typed.now)) }
+    {
+        let chosen = self.choose(typed.txs());
+        let name = typed.tx_name(chosen.transaction);
+        let parameters = typed.parameters(chosen.transaction);
+        self.round_of(alloc, chosen.cut, name, parameters)
+    }
+
+    /// The choice of a round, among so many transactions.
+    fn choose(&mut self, transactions: u64) -> Chosen
+        requires { 0 < transactions }
+        ensures cut { result.cut ≡ is_cut self.old }
+        ensures first { 1 ≤ result.transaction }
+        ensures last { result.transaction ≤ transactions }
+        ensures transaction { result.transaction ≡ chosen self.old transactions }
+        ensures state { self.new ≡ next (next self.old) }
+    {
+        let cut = self.draw() % 4 == 2;
+        let transaction = 1 + self.draw() % transactions;
+        Chosen { cut, transaction }
+    }
+
+    /// The commands of a round whose choice is made, for a transaction with this name and so many
+    /// parameters. After an error some of its draws are made.
+    fn round_of(
+        &mut self,
+        alloc: Global,
+        cut: bool,
+        name: &str,
+        parameters: u64,
+    ) -> Result<Script, AllocError>
+        ensures commands { IfOk result (λ script. script ≡ round self.old cut name.now parameters) }
+        ensures state { OnOk result (self.new ≡ after_round self.old cut parameters) }
+    {
+        let call = self.call(alloc, name, parameters)?;
+        if cut {
+            return self.cut_round(alloc, call);
+        }
+        let mut script = Script::new(alloc);
+        script.push(call)?;
+        Ok(script)
+    }
+
+    fn draw(&mut self) -> u64
+        ensures value { result ≡ drawn self.old }
+        ensures state { self.new ≡ next self.old }
+        ensures small { result < 2 ^ 15 }
+    {
+        let next = (1_103_515_245 * self.state as u64 + 12_345) % (1 << 31);
+        self.state = next as u32;
+        next / 65_536
+    }
+
+    fn call(&mut self, alloc: Global, name: &str, parameters: u64) -> Result<Command, AllocError>
+        ensures call { IfOk result (λ call. call ≡ Call name.now (arguments self.old parameters)) }
+        ensures state { OnOk result (self.new ≡ after self.old parameters) }
+    {
+        let args = self.arguments(alloc, parameters)?;
+        let mut text = Text::new(alloc);
+        text.push(name)?;
+        Ok(Command::Call { name: text, args })
+    }
+
+    fn arguments(&mut self, alloc: Global, parameters: u64) -> Result<Words, AllocError>
+        ensures arguments { IfOk result (λ args. args ≡ arguments self.old parameters) }
+        ensures state { OnOk result (self.new ≡ after self.old parameters) }
+    {
+        let mut args = Words::new(alloc);
+        for _ in 0..parameters {
+            self.push_argument(&mut args)?;
+        }
+        Ok(args)
+    }
+
+    #[tactic(auto, using(std::proofs::lemmas::Int::wraps))]
+    fn push_argument(&mut self, args: &mut Words) -> Result<(), AllocError>
+        ensures argument { OnOk result (args.new ≡ args.old ++ pos (drawn self.old % 16) ∷ []) }
+        ensures state { self.new ≡ next self.old }
+    {
+        args.push((self.draw() % 16) as i64)?;
+        Ok(())
+    }
+
+    fn cut_round(&mut self, alloc: Global, call: Command) -> Result<Script, AllocError>
+        ensures commands { IfOk result (λ script. script ≡ cut_round self.old call) }
+        ensures state { OnOk result (self.new ≡ next (next self.old)) }
+    {
+        let mut script = Script::new(alloc);
+        script.push(Command::Stop(self.draw() % 32))?;
+        script.push(call)?;
+        script.push(Command::Stop(4_294_967_295))?;
+        script.push(self.power(alloc))?;
+        Ok(script)
+    }
+
+    fn power(&mut self, alloc: Global) -> Command
+        ensures power { result ≡ power self.old }
+        ensures state { self.new ≡ next self.old }
+    {
+        let picks = Picks::new(alloc);
+        if self.draw() % 2 == 0 {
+            return Command::Power(Choice {
+                rest: Rest::Old,
+                picks,
+            });
+        }
+        Command::Power(Choice {
+            rest: Rest::New,
+            picks,
+        })
+    }
+}
