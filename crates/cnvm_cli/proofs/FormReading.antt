@@ -286,22 +286,14 @@ lines_onto_of (suc n) field seen (t ∷ txs) few names new =
 
 -- the whole text
 
-form_made : (field rest lines : List ℕ) (c : Counter) (t : Tx) → is_form_name field ≡ true → is_form_name t.name ≡ true
-    → is_form_name t.parameter ≡ true → lines ≡ tx_line field t ++ rest → Added 15 (counter_of field (t ∷ [])) c rest
+form_made : (field lines : List ℕ) (c : Counter) → is_form_name field ≡ true → Added 16 (counter_of field []) c lines
     → IsForm c × (codes "struct R { int64_t " ++ (field ++ (codes "; };\npersistent struct R root;\n" ++ lines)) ≡ form_text c)
-form_made field rest lines c t is named also written a =
+form_made field lines c is a =
     let few = a.few in
     let text = codes "struct R { int64_t " ++ (field ++ (codes "; };\npersistent struct R root;\n" ++ lines)) in
-    let fits : IsForm (counter_of field (t ∷ a.txs)) = record {
-      field = is;
-      names = (named, also, a.names);
-      differ = (tt, a.new);
-      some = omega arith;
-      few = omega (arith, few);
-    } in
-    let same : text ≡ form_text (counter_of field (t ∷ a.txs)) =
-    ap (λ ls. codes "struct R { int64_t " ++ (field ++ (codes "; };\npersistent struct R root;\n" ++ ls)))
-    (written ∙ ap (λ r. tx_line field t ++ r) a.written) in
+    let fits : IsForm (counter_of field a.txs) = record { field = is; names = a.names; differ = a.new; few = few } in
+    let same : text ≡ form_text (counter_of field a.txs) =
+    ap (λ ls. codes "struct R { int64_t " ++ (field ++ (codes "; };\npersistent struct R root;\n" ++ ls))) a.written in
     subst (λ (d : Counter). IsForm d × (text ≡ form_text d)) (sym a.made) (fits, same)
 
 counter_is : (text : List ℕ) (c : Counter) → counter_at text ≡ Some c → IsForm c × (text ≡ form_text c)
@@ -310,26 +302,18 @@ counter_is text c is =
     option_and_then_some (λ t. option_and_then counter_behind_field (name_at t)) (behind (codes "struct R { int64_t ") text) c is (λ behind_struct at_struct is_struct.
     option_and_then_some counter_behind_field (name_at behind_struct) c is_struct (λ f at_field is_field.
     option_and_then_some (counter_behind_root f.0) (behind (codes "; };\npersistent struct R root;\n") f.1) c is_field (λ lines at_root is_root.
-    option_and_then_some (λ p. lines_onto 15 p.0 p.1) (line_onto (counter_of f.0 []) lines) c is_root (λ p at_line is_line.
     let field = name_at_is behind_struct f.0 f.1 at_field in
-    let line = line_onto_is (counter_of f.0 []) p.0 lines p.1 at_line in
-    let made = form_made f.0 p.1 lines c line.tx field.0 line.named line.also line.written
-    (subst (λ (k : Counter). Added 15 k c p.1) line.made (lines_onto_is 15 p.0 c p.1 is_line)) in
+    let made = form_made f.0 lines c field.0 (lines_onto_is 16 (counter_of f.0 []) c lines is_root) in
     let written = behind_is (codes "struct R { int64_t ") text behind_struct at_struct
     ∙ ap (λ t. codes "struct R { int64_t " ++ t)
     (field.1 ∙ ap (λ t. f.0 ++ t) (behind_is (codes "; };\npersistent struct R root;\n") f.1 lines at_root)) in
-    (made.0, written ∙ made.1)))))
+    (made.0, written ∙ made.1))))
 
-counter_of_text : (field : List ℕ) (txs : List Tx) → is_form_name field ≡ true → AllNamed txs → AllNew [] txs → 1 ≤ length txs → length txs ≤ 16
-    → counter_at (form_text (counter_of field txs)) ≡ Some (counter_of field txs)
+counter_of_text : (c : Counter) → IsForm c → counter_at (form_text c) ≡ Some c
 unfolding counter_at
-counter_of_text field [] is names new some few = absurd (omega arith)
-counter_of_text field (t ∷ txs) is names new some few =
-    let fewer : length txs ≤ 15 = omega arith in
-    ap (option_and_then counter_behind_field) (name_at_of field (codes "; };\npersistent struct R root;\n" ++ (tx_line field t ++ tx_lines field txs)) is refl)
-    ∙ (ap (option_and_then (λ (p : Counter × List ℕ). lines_onto 15 p.0 p.1)) (line_onto_of field [] t (tx_lines field txs) tt names.0 names.1)
-    ∙ lines_onto_of 15 field (t ∷ []) txs fewer names.2 new.1)
+counter_of_text c is =
+    ap (option_and_then counter_behind_field) (name_at_of c.field (codes "; };\npersistent struct R root;\n" ++ tx_lines c.field c.txs) is.field refl)
+    ∙ lines_onto_of 16 c.field [] c.txs is.few is.names is.differ
 
 pub form : FormLaw
-form text c =
-    (counter_is text c, λ p. ap counter_at p.1 ∙ counter_of_text c.field c.txs p.0.field p.0.names p.0.differ p.0.some p.0.few)
+form text c = (counter_is text c, λ p. ap counter_at p.1 ∙ counter_of_text c p.0)

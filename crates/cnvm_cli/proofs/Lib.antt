@@ -5,6 +5,7 @@ mod Lines
 mod Pieces
 mod Places
 mod Playing
+mod Refusing
 mod Rest
 mod Running
 mod Switch

@@ -1,5 +1,5 @@
 -- A run of the script's calls, one behind the other.
-use Rattle.std.proofs.Common.{◌≡◌, ℕ, ◌+◌, ◌<◌, ◌≤◌, List, [], ◌∷◌, Option, Some, None, Err, ℤ, pos, suc, true, false, length, drop, get_or, map, ◌⊎◌, ◌≢◌, inl, inr, ⊎_elim, refl, sym, ap, ◌∙◌, subst, drop-cons, add-one}
+use Rattle.std.proofs.Common.{◌≡◌, ℕ, ◌+◌, ◌<◌, ◌≤◌, List, [], ◌∷◌, Option, Some, None, ℤ, pos, suc, Bool, true, false, length, drop, get_or, map, ◌⊎◌, ◌≢◌, inl, inr, ⊎_elim, refl, sym, ap, ◌∙◌, subst, drop-cons, add-one}
 use Rattle.std.proofs.lemmas.List.{drop_all, append-nil}
 use Rattle.std.specs.Io.KnownBytes.{Appends, Keeps}
 use Rattle.nvm_base.specs.Parts.{AppendsPart}
@@ -13,13 +13,13 @@ use Rattle.cnvm_cli.specs.CallView.{call_view}
 use Rattle.cnvm_cli.specs.Form.{Counter}
 use Rattle.cnvm_cli.specs.Session.{Commanded}
 use Rattle.cnvm_cli.specs.declared.session.Mode.TheVariants.{Ready}
-use Rattle.cnvm_cli.specs.declared.run.Refused.{Refused}
-use Rattle.cnvm_cli.specs.declared.run.Refused.TheVariants as refused
+use Rattle.cnvm_cli.specs.declared.refused.Refused.{Refused}
+use Rattle.cnvm_cli.specs.declared.refused.Refused.TheVariants as refused
+use Rattle.cnvm_cli.specs.declared.complaint.Complaint.{Complaint}
 use Rattle.cnvm_cli.specs.declared.run.Status.{Status}
 use Rattle.cnvm_cli.specs.declared.run.Status.TheVariants as status
-use Rattle.cnvm_cli.specs.Run.{RunsAll, RunsPart, Created, RanAs, RefusedAs, EndsAs}
+use Rattle.cnvm_cli.specs.Run.{RunsAll, RunsPart, Created, RanAs, RefusedAs, SaysNothing, Ends}
 use Rattle.cnvm_cli.specs.Script.{Call}
-use Rattle.cnvm_cli.specs.Texts.{PreparedAs}
 use Rattle.cnvm_cli.specs.Verdict.{Verdict, Refuses, Runs, has_line, refusal_line, refusal_status}
 
 pub keeps_same : (w : Option (List ℕ)) → Keeps w w
@@ -84,9 +84,20 @@ pub ran_memory : (c : Counter) (digest : List ℤ) (calls cs : List Call) (s : S
     → cs ≡ calls → mode ≡ Ready (pos 0) 0 → Created s digest d b → RunsPart c s cs mode b w d' w' → RanAs c digest calls status.NoMemory w w' d d'
 ran_memory c digest calls cs s b mode w w' d d' same ready made runs = inr (s, b, made, ran_part_of c calls cs s b mode w w' d' same ready runs)
 
-pub run_ends : (v : Verdict) (c : Counter) (digest : List ℤ) (calls : List Call) (result : Status) (w w' : Option (List ℕ)) (d d' : Device)
-    → v ≡ Runs c digest calls → RanAs c digest calls result w w' d d' → EndsAs v result w w' d d'
-run_ends v c digest calls result w w' d d' is ran = subst (λ (k : Verdict). EndsAs k result w w' d d') (sym is) ran
+pub run_ends : (Due : Verdict → Type 0) (c : Counter) (digest : List ℤ) (calls : List Call) (result : Status) (w w' : Option (List ℕ)) (d d' : Device)
+    → Due (Runs c digest calls) → RanAs c digest calls result w w' d d' → Ends Due result w w' d d'
+run_ends Due c digest calls result w w' d d' due ran = inr (Runs c digest calls, due, ran)
+
+-- the line that tells of a program
+pub program_ends : (line : ℕ) (complaint : Complaint) (text : List ℕ) (result : Status) (w w' : Option (List ℕ)) → text ≡ refusal_line (refused.Program line complaint)
+    → (result ≡ status.Program) ⊎ (result ≡ status.WriteFault) → (result ≢ status.WriteFault → Appends w w' text)
+    → (result ≡ status.WriteFault → (status.Program ≡ status.WriteFault) ⊎ AppendsPart w w' text) → RefusedAs (refused.Program line complaint) result w w'
+program_ends line complaint text result w w' is (inl e) whole part =
+    let other : result ≢ status.WriteFault = λ wf. (let x : status.Program ≡ status.WriteFault = sym e ∙ wf in cc) in
+    subst (λ (r : Status). RefusedAs (refused.Program line complaint) r w w') (sym e) (refl, subst (Appends w w') is (whole other))
+program_ends line complaint text result w w' is (inr e) whole part =
+    subst (λ (r : Status). RefusedAs (refused.Program line complaint) r w w') (sym e)
+    (refl, ⊎_elim (λ (x : status.Program ≡ status.WriteFault). absurd (let y = x in cc)) (λ (p : AppendsPart w w' text). subst (AppendsPart w w') is p) (part e))
 
 -- the line that names a bad line of the script
 pub script_ends : (line : ℕ) (text : List ℕ) (result : Status) (w w' : Option (List ℕ)) → text ≡ refusal_line (refused.Script line)
@@ -99,34 +110,37 @@ script_ends line text result w w' is (inr e) whole part =
     subst (λ (r : Status). RefusedAs (refused.Script line) r w w') (sym e)
     (refl, ⊎_elim (λ (x : status.Script ≡ status.WriteFault). absurd (let y = x in cc)) (λ (p : AppendsPart w w' text). subst (AppendsPart w w') is p) (part e))
 
--- a refusal ends as the verdict says; where a source failed, or there was no memory, the verdict says nothing
-refused_any : (v : Verdict) (result : Status) (w w' : Option (List ℕ)) (d d' : Device) → Keeps w w' → (result ≡ status.NoMemory) ⊎ (result ≡ status.ReadFault)
-    → EndsAs v result w w' d d'
-refused_any (Refuses why) result w w' d d' same (inl e) = subst (λ (r : Status). RefusedAs why r w w') (sym e) same
-refused_any (Refuses why) result w w' d d' same (inr e) = subst (λ (r : Status). RefusedAs why r w w') (sym e) same
-refused_any (Runs c digest calls) result w w' d d' same (inl e) = subst (λ (r : Status). RanAs c digest calls r w w' d d') (sym e) (inl same)
-refused_any (Runs c digest calls) result w w' d d' same (inr e) = subst (λ (r : Status). RanAs c digest calls r w w' d d') (sym e) same
+-- where a source failed, or there was no memory, nothing is said of the texts
+quiet_status : (why : Refused) → has_line why ≡ false → (refusal_status why ≡ status.NoMemory) ⊎ (refusal_status why ≡ status.ReadFault)
+quiet_status refused.ReadFault none = inr refl
+quiet_status refused.NoMemory none = inl refl
+quiet_status refused.Usage none = absurd (let e = none in cc)
+quiet_status refused.LongProgram none = absurd (let e = none in cc)
+quiet_status (refused.Program line complaint) none = absurd (let e = none in cc)
+quiet_status refused.NotYet none = absurd (let e = none in cc)
+quiet_status refused.LongScript none = absurd (let e = none in cc)
+quiet_status (refused.Script number) none = absurd (let e = none in cc)
 
-quiet_ends : (why : Refused) (v : Verdict) (result : Status) (w w' : Option (List ℕ)) (d d' : Device)
-    → has_line why ≡ false → (refusal_status why ≡ status.NoMemory) ⊎ (refusal_status why ≡ status.ReadFault) → RefusedAs why result w w' → EndsAs v result w w' d d'
-quiet_ends why v status.NoMemory w w' d d' none is ends = refused_any v status.NoMemory w w' d d' ends (inl refl)
-quiet_ends why v status.ReadFault w w' d d' none is ends = refused_any v status.ReadFault w w' d d' ends (inr refl)
-quiet_ends why v status.WriteFault w w' d d' none is ends = let e : true ≡ false = sym ends.0 ∙ none in cc
-quiet_ends why v status.Usage w w' d d' none is ends = ⊎_elim (λ (e : refusal_status why ≡ status.NoMemory). (let x : status.Usage ≡ status.NoMemory = sym ends.0 ∙ e in cc)) (λ (e : refusal_status why ≡ status.ReadFault). (let x : status.Usage ≡ status.ReadFault = sym ends.0 ∙ e in cc)) is
-quiet_ends why v status.Program w w' d d' none is ends = ⊎_elim (λ (e : refusal_status why ≡ status.NoMemory). (let x : status.Program ≡ status.NoMemory = sym ends.0 ∙ e in cc)) (λ (e : refusal_status why ≡ status.ReadFault). (let x : status.Program ≡ status.ReadFault = sym ends.0 ∙ e in cc)) is
-quiet_ends why v status.Script w w' d d' none is ends = ⊎_elim (λ (e : refusal_status why ≡ status.NoMemory). (let x : status.Script ≡ status.NoMemory = sym ends.0 ∙ e in cc)) (λ (e : refusal_status why ≡ status.ReadFault). (let x : status.Script ≡ status.ReadFault = sym ends.0 ∙ e in cc)) is
-quiet_ends why v status.DeviceFault w w' d d' none is ends = absurd ends
-quiet_ends why v status.Done w w' d d' none is ends = absurd ends
+not_quiet : (why : Refused) (result : Status) → (refusal_status why ≡ status.NoMemory) ⊎ (refusal_status why ≡ status.ReadFault) → refusal_status why ≡ result
+    → result ≢ status.NoMemory → result ≢ status.ReadFault → ⊥
+not_quiet why result (inl e) is memory read = memory (sym is ∙ e)
+not_quiet why result (inr e) is memory read = read (sym is ∙ e)
 
-loud_ends : (why : Refused) (v : Verdict) (result : Status) (w w' : Option (List ℕ)) (d d' : Device) → v ≡ Refuses why → RefusedAs why result w w' → EndsAs v result w w' d d'
-loud_ends why v result w w' d d' is ends = subst (λ (k : Verdict). EndsAs k result w w' d d') (sym is) ends
+quiet : (why : Refused) (result : Status) (w w' : Option (List ℕ)) → has_line why ≡ false → RefusedAs why result w w' → SaysNothing result × Keeps w w'
+quiet why status.NoMemory w w' none ends = (tt, ends)
+quiet why status.ReadFault w w' none ends = (tt, ends)
+quiet why status.WriteFault w w' none ends = absurd (let e : true ≡ false = sym ends.0 ∙ none in cc)
+quiet why status.Usage w w' none ends = absurd (not_quiet why status.Usage (quiet_status why none) ends.0 (λ e. cc) (λ e. cc))
+quiet why status.Program w w' none ends = absurd (not_quiet why status.Program (quiet_status why none) ends.0 (λ e. cc) (λ e. cc))
+quiet why status.Script w w' none ends = absurd (not_quiet why status.Script (quiet_status why none) ends.0 (λ e. cc) (λ e. cc))
+quiet why status.DeviceFault w w' none ends = absurd ends
+quiet why status.Done w w' none ends = absurd ends
 
-pub refused_ends : (why : Refused) (v : Verdict) (result : Status) (w w' : Option (List ℕ)) (d d' : Device) → PreparedAs (Err why) v → RefusedAs why result w w'
-    → EndsAs v result w w' d d'
-refused_ends refused.ReadFault v result w w' d d' is ends = quiet_ends refused.ReadFault v result w w' d d' refl (inr refl) ends
-refused_ends refused.NoMemory v result w w' d d' is ends = quiet_ends refused.NoMemory v result w w' d d' refl (inl refl) ends
-refused_ends refused.Usage v result w w' d d' is ends = loud_ends refused.Usage v result w w' d d' is ends
-refused_ends refused.LongProgram v result w w' d d' is ends = loud_ends refused.LongProgram v result w w' d d' is ends
-refused_ends refused.Program v result w w' d d' is ends = loud_ends refused.Program v result w w' d d' is ends
-refused_ends refused.LongScript v result w w' d d' is ends = loud_ends refused.LongScript v result w w' d d' is ends
-refused_ends (refused.Script number) v result w w' d d' is ends = loud_ends (refused.Script number) v result w w' d d' is ends
+refused_ends_by : (told : Bool) (Due : Verdict → Type 0) (why : Refused) (result : Status) (w w' : Option (List ℕ)) (d d' : Device) → has_line why ≡ told
+    → (has_line why ≡ true → Due (Refuses why)) → RefusedAs why result w w' → Ends Due result w w' d d'
+refused_ends_by true Due why result w w' d d' line due ends = inr (Refuses why, due line, ends)
+refused_ends_by false Due why result w w' d d' line due ends = inl (quiet why result w w' line ends)
+
+pub refused_ends : (Due : Verdict → Type 0) (why : Refused) (result : Status) (w w' : Option (List ℕ)) (d d' : Device)
+    → (has_line why ≡ true → Due (Refuses why)) → RefusedAs why result w w' → Ends Due result w w' d d'
+refused_ends Due why result w w' d d' due ends = refused_ends_by (has_line why) Due why result w w' d d' refl due ends

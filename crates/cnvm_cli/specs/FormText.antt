@@ -1,5 +1,5 @@
 -- A program in the one-counter form, written out: two lines that declare the root, and a line for each
--- of its transactions, which are 1 to 16 and have different names.
+-- of its transactions, which are at most 16 and have different names.
 use Rattle.std.specs.Prelude.{ℕ, List, [], ◌∷◌, ◌++◌, ◌≡◌, ◌≢◌, ◌≤◌, ◌↔◌, true, Some, length, codes}
 use Rattle.cnvm_cli.specs.Form.{Tx, Counter, body_text}
 use Rattle.cnvm_cli.specs.Name.{is_form_name}
@@ -35,7 +35,6 @@ pub record IsForm (c : Counter) : Type 0 where
   pub field : is_form_name c.field ≡ true
   pub names : AllNamed c.txs
   pub differ : AllNew [] c.txs
-  pub some : 1 ≤ length c.txs
   pub few : length c.txs ≤ 16
 
 -- a text is read as a program exactly where it is that program written out

@@ -2,13 +2,16 @@ pub mod AnswerText
 pub mod Answers
 pub mod Asked
 pub mod CallView
+pub mod ComplaintText
 pub mod Course
 pub mod Due
 pub mod Form
 pub mod FormText
+pub mod FrontEnd
 pub mod Name
 pub mod Placed
 pub mod Reading
+pub mod Refusal
 pub mod Rest
 pub mod Run
 pub mod Scan

@@ -62,8 +62,7 @@ lines_onto (suc n) c text =
     if is_end text then Some c else option_and_then (λ p. lines_onto n p.0 p.1) (line_onto c text)
 
 abbrev pub counter_behind_root : List ℕ → List ℕ → Option Counter
-counter_behind_root field text =
-    option_and_then (λ p. lines_onto 15 p.0 p.1) (line_onto (record { field = field; txs = [] }) text)
+counter_behind_root field text = lines_onto 16 (record { field = field; txs = [] }) text
 
 abbrev pub counter_behind_field : List ℕ × List ℕ → Option Counter
 counter_behind_field f =

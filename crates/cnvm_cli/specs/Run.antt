@@ -10,7 +10,7 @@ use Rattle.pool_layout.specs.Places.{pool_of}
 use Rattle.cnvm_cli.specs.declared.answer.Answer.{Answer}
 use Rattle.cnvm_cli.specs.declared.session.Mode.{Mode}
 use Rattle.cnvm_cli.specs.declared.session.Mode.TheVariants.{Ready}
-use Rattle.cnvm_cli.specs.declared.run.Refused.{Refused}
+use Rattle.cnvm_cli.specs.declared.refused.Refused.{Refused}
 use Rattle.cnvm_cli.specs.declared.run.Status.{Status}
 use Rattle.cnvm_cli.specs.declared.run.Status.TheVariants as status
 use Rattle.cnvm_cli.specs.AnswerText.{answer_text}
@@ -73,3 +73,19 @@ RefusedAs why status.Done w w' = ⊥
 abbrev pub EndsAs : Verdict → Status → Option (List ℕ) → Option (List ℕ) → Device → Device → Type 0
 EndsAs (Refuses why) status w w' d d' = RefusedAs why status w w'
 EndsAs (Runs c digest calls) status w w' d d' = RanAs c digest calls status w w' d d'
+
+-- statuses that come before a word is written, and say nothing of the texts
+abbrev pub SaysNothing : Status → Type 0
+SaysNothing status.NoMemory = Unit {0}
+SaysNothing status.ReadFault = Unit {0}
+SaysNothing status.Done = ⊥
+SaysNothing status.Usage = ⊥
+SaysNothing status.Program = ⊥
+SaysNothing status.Script = ⊥
+SaysNothing status.WriteFault = ⊥
+SaysNothing status.DeviceFault = ⊥
+
+-- It ends by what is due. Or a source failed, or there was no memory, before anything was written.
+abbrev pub Ends : (Verdict → Type 0) → Status → Option (List ℕ) → Option (List ℕ) → Device → Device → Type 0
+Ends Due status w w' d d' =
+    (SaysNothing status × Keeps w w') ⊎ ((verdict : Verdict) × Due verdict × EndsAs verdict status w w' d d')

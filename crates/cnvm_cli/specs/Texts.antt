@@ -1,15 +1,15 @@
 -- What the readers of the two texts answer, where their sources tell their bytes.
-use Rattle.std.specs.Prelude.{ℕ, List, ◌<◌, ◌≤◌, ◌≡◌, length, Some, None, Result, Ok, Err, ⊤}
+use Rattle.std.specs.Prelude.{ℕ, List, ◌<◌, ◌≤◌, ◌≡◌, ◌⊎◌, true, length, Some, None, Result, Ok, Err, ⊤}
 use Rattle.nvm_base.specs.declared.input.ReadAllFault.{ReadAllFault}
 use Rattle.nvm_base.specs.declared.input.ReadAllFault.TheVariants as all
 use Rattle.pool_layout.specs.Digest.{digest_of}
-use Rattle.cnvm_cli.specs.declared.run.Refused.{Refused}
-use Rattle.cnvm_cli.specs.declared.run.Refused.TheVariants as refused
-use Rattle.cnvm_cli.specs.declared.run.Compiled.{Compiled}
+use Rattle.cnvm_cli.specs.declared.refused.Refused.{Refused}
+use Rattle.cnvm_cli.specs.declared.refused.Refused.TheVariants as refused
+use Rattle.cnvm_cli.specs.declared.run.Loaded.{Loaded}
 use Rattle.cnvm_cli.specs.declared.run.Job.{Job}
 use Rattle.cnvm_cli.specs.Reading.{counter_at}
 use Rattle.cnvm_cli.specs.Script.{Call, Calling, BadLine, script_of}
-use Rattle.cnvm_cli.specs.Verdict.{Verdict, Refuses, Runs}
+use Rattle.cnvm_cli.specs.Verdict.{Verdict, Refuses, Runs, IsRefused, IsAccepted, IsCounter, has_line}
 
 -- all bytes of the source, or it has more than the limit
 abbrev pub TextIs : ℕ → Result (List ℕ) ReadAllFault → List ℕ → Type 0
@@ -18,16 +18,22 @@ TextIs limit (Err all.Long) text = limit < length text
 TextIs limit (Err all.ReadFault) text = ⊤
 TextIs limit (Err all.NoMemory) text = ⊤
 
--- what a text compiles to
-abbrev pub CompiledAs : Result Compiled Refused → List ℕ → Type 0
-CompiledAs (Ok p) text = (counter_at text ≡ Some p.form) × (p.digest ≡ digest_of text)
-CompiledAs (Err refused.Program) text = counter_at text ≡ None
-CompiledAs (Err refused.NoMemory) text = ⊤
-CompiledAs (Err refused.LongProgram) text = ⊥
-CompiledAs (Err refused.ReadFault) text = ⊥
-CompiledAs (Err refused.Usage) text = ⊥
-CompiledAs (Err refused.LongScript) text = ⊥
-CompiledAs (Err (refused.Script number)) text = ⊥
+-- the program in the one-counter form that a text is, whatever the front end makes of it
+abbrev pub CounterAs : Result Loaded Refused → List ℕ → Type 0
+CounterAs (Ok p) text = (counter_at text ≡ Some p.form) × (p.digest ≡ digest_of text)
+CounterAs (Err why) text = (why ≡ refused.NoMemory) ⊎ ((why ≡ refused.NotYet) × (counter_at text ≡ None))
+
+-- the program that a text is; want of memory, or a source that failed, says nothing
+abbrev pub ProgramIs : Result Loaded Refused → List ℕ → Type 0
+ProgramIs (Ok p) text = IsCounter text p.form × (p.digest ≡ digest_of text)
+ProgramIs (Err refused.LongProgram) text = IsRefused text refused.LongProgram
+ProgramIs (Err (refused.Program line complaint)) text = IsRefused text (refused.Program line complaint)
+ProgramIs (Err refused.NotYet) text = IsAccepted text × (counter_at text ≡ None)
+ProgramIs (Err refused.ReadFault) text = ⊤
+ProgramIs (Err refused.NoMemory) text = ⊤
+ProgramIs (Err refused.Usage) text = ⊥
+ProgramIs (Err refused.LongScript) text = ⊥
+ProgramIs (Err (refused.Script number)) text = ⊥
 
 -- the calls of a script's text
 abbrev pub CallsAs : Result (List Call) Refused → List ℕ → Type 0
@@ -38,17 +44,8 @@ CallsAs (Err refused.LongScript) text = ⊥
 CallsAs (Err refused.ReadFault) text = ⊥
 CallsAs (Err refused.Usage) text = ⊥
 CallsAs (Err refused.LongProgram) text = ⊥
-CallsAs (Err refused.Program) text = ⊥
-
-abbrev pub ProgramIs : Result Compiled Refused → List ℕ → Type 0
-ProgramIs (Ok p) text = (length text ≤ 262144) × (counter_at text ≡ Some p.form) × (p.digest ≡ digest_of text)
-ProgramIs (Err refused.LongProgram) text = 262144 < length text
-ProgramIs (Err refused.Program) text = (length text ≤ 262144) × (counter_at text ≡ None)
-ProgramIs (Err refused.ReadFault) text = ⊤
-ProgramIs (Err refused.NoMemory) text = ⊤
-ProgramIs (Err refused.Usage) text = ⊥
-ProgramIs (Err refused.LongScript) text = ⊥
-ProgramIs (Err (refused.Script number)) text = ⊥
+CallsAs (Err (refused.Program line complaint)) text = ⊥
+CallsAs (Err refused.NotYet) text = ⊥
 
 abbrev pub ScriptIs : Result (List Call) Refused → List ℕ → Type 0
 ScriptIs (Ok calls) text = (length text ≤ 1048576) × (script_of text ≡ Calling calls)
@@ -58,15 +55,10 @@ ScriptIs (Err refused.ReadFault) text = ⊤
 ScriptIs (Err refused.NoMemory) text = ⊤
 ScriptIs (Err refused.Usage) text = ⊥
 ScriptIs (Err refused.LongProgram) text = ⊥
-ScriptIs (Err refused.Program) text = ⊥
+ScriptIs (Err (refused.Program line complaint)) text = ⊥
+ScriptIs (Err refused.NotYet) text = ⊥
 
--- what is prepared is the verdict; a source that failed, or want of memory, says nothing of it
-abbrev pub PreparedAs : Result Job Refused → Verdict → Type 0
-PreparedAs (Ok job) verdict = verdict ≡ Runs job.compiled.form job.compiled.digest job.script
-PreparedAs (Err refused.ReadFault) verdict = ⊤
-PreparedAs (Err refused.NoMemory) verdict = ⊤
-PreparedAs (Err refused.Usage) verdict = verdict ≡ Refuses refused.Usage
-PreparedAs (Err refused.LongProgram) verdict = verdict ≡ Refuses refused.LongProgram
-PreparedAs (Err refused.Program) verdict = verdict ≡ Refuses refused.Program
-PreparedAs (Err refused.LongScript) verdict = verdict ≡ Refuses refused.LongScript
-PreparedAs (Err (refused.Script number)) verdict = verdict ≡ Refuses (refused.Script number)
+-- What is prepared is called for; a source that failed, or want of memory, says nothing of it.
+abbrev pub PreparedAs : Result Job Refused → (Verdict → Type 0) → Type 0
+PreparedAs (Ok job) Due = Due (Runs job.loaded.form job.loaded.digest job.script)
+PreparedAs (Err why) Due = has_line why ≡ true → Due (Refuses why)

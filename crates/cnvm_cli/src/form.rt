@@ -217,14 +217,14 @@ impl Form {
     }
 }
 
-/// The form with the lines of the text, at most fifteen, up to its end.
+/// The form with the lines of the text, at most sixteen, up to its end.
 #[tactic(auto, using(crate::proofs::Lines::lines_steps))]
 fn read_lines(alloc: Global, form: Form, text: &[u8]) -> Result<Form, FormFault>
-    ensures { Reads (λ form. form) result (lines_onto 15 form text.now) }
+    ensures { Reads (λ form. form) result (lines_onto 16 form text.now) }
 {
     let mut form = form;
     let mut rest = text;
-    for turn in 0..15u64 {
+    for turn in 0..16u64 {
         if rest.is_empty() {
             return Ok(form);
         }
@@ -241,12 +241,11 @@ fn read_lines(alloc: Global, form: Form, text: &[u8]) -> Result<Form, FormFault>
 fn with_lines(alloc: Global, field: &[u8], text: &[u8]) -> Result<Form, FormFault>
     ensures { Reads (λ form. form) result (counter_behind_root field.now text.now) }
 {
-    let mut form = Form {
+    let form = Form {
         field: copied(alloc, field)?,
         transactions: Vec::new(alloc),
     };
-    let rest = form.read_line(alloc, text)?;
-    read_lines(alloc, form, rest)
+    read_lines(alloc, form, text)
 }
 
 /// The program that the text is.

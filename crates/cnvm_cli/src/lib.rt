@@ -4,11 +4,14 @@
 #![tactic(auto)]
 
 mod answer;
+mod complaint;
 mod due;
 mod exit;
 mod form;
+mod front_end;
 mod law;
 mod name;
+mod refused;
 mod run;
 mod scan;
 mod script;
@@ -16,9 +19,11 @@ mod session;
 mod words;
 
 pub use answer::{Answer, answer_text};
+pub use complaint::Complaint;
 pub use due::{Called, Due, adding_events, creation_events, play, setting_events};
 pub use exit::{exit_code, run_on};
 pub use form::{Form, FormFault, Found, Kind, read_form};
+pub use front_end::{Compiled, ProgramFault, compile};
 pub use law::{course_law, form_law, rest_law};
 pub use run::{Status, World, cnvm};
 pub use script::{Command, LineFault, Script, ScriptFault, read_script};

@@ -11,12 +11,15 @@ ghost use Rattle.cnvm_cli.specs.AnswerText.{answer_text};
 ghost use Rattle.cnvm_cli.specs.CallView.{call_view};
 ghost use Rattle.cnvm_cli.specs.Session.{IsOn};
 ghost use Rattle.cnvm_cli.specs.StatusNumber.{number_of};
-ghost use Rattle.cnvm_cli.specs.Texts.{TextIs, CompiledAs, CallsAs, ProgramIs, ScriptIs, PreparedAs};
-ghost use Rattle.cnvm_cli.specs.Verdict.{refusal_line, by_texts, verdict};
-ghost use Rattle.cnvm_cli.specs.Run.{IsDefault, RunsAll, RunsPart, RanAs, RefusedAs, EndsAs};
+ghost use Rattle.cnvm_cli.specs.Texts.{TextIs, CounterAs, CallsAs, ProgramIs, ScriptIs, PreparedAs};
+ghost use Rattle.cnvm_cli.specs.Verdict.{refusal_line, TextsCallFor, CallsFor};
+ghost use Rattle.cnvm_cli.specs.Run.{IsDefault, RunsAll, RunsPart, RanAs, RefusedAs, Ends};
 
 use crate::answer::{Answer, answer_text};
+use crate::complaint::complaint_line;
 use crate::form::{Form, FormFault, read_form};
+use crate::front_end::compile;
+use crate::refused::{Refused, refusal_of};
 use crate::script::{Command, Script, ScriptFault, read_script};
 use crate::session::{Mode, StartFault, command, create};
 use crate::words::paths_of;
@@ -30,6 +33,15 @@ const PROGRAM_LIMIT: usize = 262144;
 
 /// The most bytes of a script.
 const SCRIPT_LIMIT: usize = 1048576;
+
+/// The pool's slots.
+const SLOTS: u64 = 1024;
+
+/// The records of the pool's log.
+const RECORDS: u64 = 256;
+
+/// The ticks of a call.
+const TICKS: u64 = 100_000;
 
 /// What a run reads and writes: the program, the script and an image, the answers and an image, and
 /// the device.
@@ -81,28 +93,16 @@ impl Status {
     }
 }
 
-/// Why there is nothing to run.
-#[derive(Clone, Copy, Debug, PartialEq, Eq)]
-pub enum Refused {
-    Usage,
-    LongProgram,
-    Program,
-    LongScript,
-    Script(u64),
-    ReadFault,
-    NoMemory,
-}
-
 /// What there is to run.
 #[derive(Drop)]
 struct Job {
-    compiled: Compiled,
+    loaded: Loaded,
     script: Script,
 }
 
-/// A program with the digest of its text.
+/// A program in the one-counter form, with the digest of its text.
 #[derive(Drop)]
-struct Compiled {
+struct Loaded {
     form: Form,
     digest: [i64; 4],
 }
@@ -119,16 +119,27 @@ fn read_text<S: Source>(alloc: Global, source: &mut S, limit: usize) -> Result<B
     read_all(alloc, source, limit)
 }
 
-/// The program that a text is, with the text's digest.
-fn compile(alloc: Global, text: &[u8]) -> Result<Compiled, Refused>
-    ensures { CompiledAs result text.now }
+/// The program that a text is, where the front end accepts it.
+fn load(alloc: Global, text: &[u8]) -> Result<Loaded, Refused>
+    ensures is { ProgramIs result text.now }
+    ensures read { IsErrOf result Refused.ReadFault → ⊥ }
+{
+    match compile(alloc, text, SLOTS, RECORDS, TICKS) {
+        Ok(_) => counter_of(alloc, text),
+        Err(fault) => Err(refusal_of(fault)),
+    }
+}
+
+/// The program in the one-counter form that a text is.
+fn counter_of(alloc: Global, text: &[u8]) -> Result<Loaded, Refused>
+    ensures { CounterAs result text.now }
 {
     match read_form(alloc, text) {
-        Ok(form) => Ok(Compiled {
+        Ok(form) => Ok(Loaded {
             form,
             digest: digest(text),
         }),
-        Err(FormFault::NotYet) => Err(Refused::Program),
+        Err(FormFault::NotYet) => Err(Refused::NotYet),
         Err(FormFault::NoMemory) => Err(Refused::NoMemory),
     }
 }
@@ -145,7 +156,7 @@ fn calls_of(alloc: Global, text: &[u8]) -> Result<Script, Refused>
 }
 
 /// Reads the program to its end.
-fn read_program<S: Source>(alloc: Global, source: &mut S) -> Result<Compiled, Refused>
+fn read_program<S: Source>(alloc: Global, source: &mut S) -> Result<Loaded, Refused>
     ensures told { (text : List ℕ) → S.left source.old ≡ Some text → ProgramIs result text }
     ensures read { IsErrOf result Refused.ReadFault → Rose (S.faults source.old) (S.faults source.new) }
     ensures usage { IsErrOf result Refused.Usage → ⊥ }
@@ -156,7 +167,7 @@ fn read_program<S: Source>(alloc: Global, source: &mut S) -> Result<Compiled, Re
         Err(ReadAllFault::Long) => return Err(Refused::LongProgram),
         Err(ReadAllFault::NoMemory) => return Err(Refused::NoMemory),
     };
-    compile(alloc, text.as_slice())
+    load(alloc, text.as_slice())
 }
 
 /// Reads the script to its end.
@@ -180,16 +191,16 @@ fn read_job<S: Source, T: Source>(
     program: &mut S,
     script: &mut T,
 ) -> Result<Job, Refused>
-    ensures told { (text lines : List ℕ) → S.left program.old ≡ Some text → T.left script.old ≡ Some lines → PreparedAs result (by_texts text lines) }
+    ensures told { (text lines : List ℕ) → S.left program.old ≡ Some text → T.left script.old ≡ Some lines → PreparedAs result (TextsCallFor text lines) }
     ensures read { IsErrOf result Refused.ReadFault → Rose (S.faults program.old) (S.faults program.new) ⊎ Rose (T.faults script.old) (T.faults script.new) }
     ensures usage { IsErrOf result Refused.Usage → ⊥ }
 {
-    let compiled = match read_program(alloc, program) {
-        Ok(compiled) => compiled,
+    let loaded = match read_program(alloc, program) {
+        Ok(loaded) => loaded,
         Err(why) => return Err(why),
     };
     match read_calls(alloc, script) {
-        Ok(script) => Ok(Job { compiled, script }),
+        Ok(script) => Ok(Job { loaded, script }),
         Err(why) => Err(why),
     }
 }
@@ -201,7 +212,7 @@ fn prepare<S: Source, T: Source>(
     program: &mut S,
     script: &mut T,
 ) -> Result<Job, Refused>
-    ensures told { (text lines : List ℕ) → S.left program.old ≡ Some text → T.left script.old ≡ Some lines → PreparedAs result (verdict (map string_bytes words.entry.now) text lines) }
+    ensures told { (text lines : List ℕ) → S.left program.old ≡ Some text → T.left script.old ≡ Some lines → PreparedAs result (CallsFor (map string_bytes words.entry.now) text lines) }
     ensures read { IsErrOf result Refused.ReadFault → Rose (S.faults program.old) (S.faults program.new) ⊎ Rose (T.faults script.old) (T.faults script.new) }
     ensures usage { IsErrOf result Refused.Usage → asked (map string_bytes words.entry.now) ≡ None }
     ensures wrong { asked (map string_bytes words.entry.now) ≡ None → IsErrOf result Refused.Usage }
@@ -246,7 +257,11 @@ fn refuse<K: Sink>(alloc: Global, refused: Refused, out: &mut K) -> Status
     match refused {
         Refused::Usage => put(out, USAGE, Status::Usage),
         Refused::LongProgram => put(out, "program too long\n", Status::Program),
-        Refused::Program => put(out, "program not yet\n", Status::Program),
+        Refused::NotYet => put(out, "program not yet\n", Status::Program),
+        Refused::Program(line, complaint) => match complaint_line(alloc, line, complaint) {
+            Ok(text) => put(out, text.as_str(), Status::Program),
+            Err(_) => Status::NoMemory,
+        },
         Refused::LongScript => put(out, "script too long\n", Status::Script),
         Refused::Script(line) => match script_line(alloc, line) {
             Ok(text) => put(out, text.as_str(), Status::Script),
@@ -320,16 +335,16 @@ fn run_on_pool<K: Sink, P: Pmem>(
     ensures usage { result ≢ Status.Usage }
     ensures write { result ≡ Status.WriteFault → Rose (K.faults out.old) (K.faults out.new) }
     ensures device { result ≡ Status.DeviceFault → device.Rose (P.device dev.old).faults (P.device dev.new).faults }
-    ensures ends { RanAs job.now.compiled.form job.now.compiled.digest job.now.script result (K.written out.old) (K.written out.new) (P.device dev.old) (P.device dev.new) }
+    ensures ends { RanAs job.now.loaded.form job.now.loaded.digest job.now.script result (K.written out.old) (K.written out.new) (P.device dev.old) (P.device dev.new) }
 {
-    let mode = match create(sizes, &job.compiled.digest, dev) {
+    let mode = match create(sizes, &job.loaded.digest, dev) {
         Ok(mode) => mode,
         Err(StartFault::Failed) => return Status::DeviceFault,
         Err(StartFault::NoMemory) => return Status::NoMemory,
     };
     match answer_all(
         alloc,
-        &job.compiled.form,
+        &job.loaded.form,
         sizes,
         job.script.as_slice(),
         mode,
@@ -349,9 +364,9 @@ fn run<K: Sink, P: Pmem>(alloc: Global, job: &Job, out: &mut K, dev: &mut P) -> 
     ensures usage { result ≢ Status.Usage }
     ensures write { result ≡ Status.WriteFault → Rose (K.faults out.old) (K.faults out.new) }
     ensures device { result ≡ Status.DeviceFault → device.Rose (P.device dev.old).faults (P.device dev.new).faults }
-    ensures ends { RanAs job.now.compiled.form job.now.compiled.digest job.now.script result (K.written out.old) (K.written out.new) (P.device dev.old) (P.device dev.new) }
+    ensures ends { RanAs job.now.loaded.form job.now.loaded.digest job.now.script result (K.written out.old) (K.written out.new) (P.device dev.old) (P.device dev.new) }
 {
-    match Sizes::new(1024, 256, 1, 100_000) {
+    match Sizes::new(SLOTS, RECORDS, 1, TICKS) {
         Some(sizes) => run_on_pool(alloc, job, &sizes, out, dev),
         None => Status::NoMemory,
     }
@@ -369,7 +384,7 @@ pub fn cnvm<S: Source, T: Source, I: Source, K: Sink, O: Sink, P: Pmem>(
     ensures device { result ≡ Status.DeviceFault → device.Rose (P.device world.old.dev).faults (P.device world.new.dev).faults }
     ensures usage { result ≡ Status.Usage → asked (map string_bytes words.entry.now) ≡ None }
     ensures wrong { asked (map string_bytes words.entry.now) ≡ None → (result ≡ Status.Usage) ⊎ (result ≡ Status.WriteFault) }
-    ensures ends { (text lines : List ℕ) → S.left world.old.program ≡ Some text → T.left world.old.script ≡ Some lines → EndsAs (verdict (map string_bytes words.entry.now) text lines) result (K.written world.old.out) (K.written world.new.out) (P.device world.old.dev) (P.device world.new.dev) }
+    ensures ends { (text lines : List ℕ) → S.left world.old.program ≡ Some text → T.left world.old.script ≡ Some lines → Ends (CallsFor (map string_bytes words.entry.now) text lines) result (K.written world.old.out) (K.written world.new.out) (P.device world.old.dev) (P.device world.new.dev) }
 {
     match prepare(alloc, words, &mut world.program, &mut world.script) {
         Ok(job) => run(alloc, &job, &mut world.out, &mut world.dev),

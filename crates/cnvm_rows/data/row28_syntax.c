@@ -1,0 +1,1 @@
+struct R { int64_t n }
