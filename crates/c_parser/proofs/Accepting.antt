@@ -7,12 +7,14 @@ use Rattle.c_parser.specs.declared.fault.ParseFault.TheVariants as fault
 use Rattle.c_parser.specs.declared.want.Want.{Want}
 use Rattle.c_parser.specs.declared.want.Want.TheVariants.{Items}
 use Rattle.c_parser.specs.Kinds.{token_kind}
-use Rattle.c_parser.specs.ItemTree.{ItemTree}
+use Rattle.c_parser.specs.declared.item.Item.{Item}
+use Rattle.c_parser.specs.ItemTree.{ItemTree, items_in}
+use Rattle.c_parser.specs.Program.{Program}
 use Rattle.c_parser.specs.ItemSpelling.{SpellsProgram}
 use Rattle.c_parser.specs.Wants.{step}
 use Rattle.c_parser.specs.Weight.{weight}
 use Rattle.c_parser.specs.Run.{Accepted, weighed, goes, run_from, run, Refuses}
-use Rattle.c_parser.specs.Exact.{weights, LightBefore, Spelled}
+use Rattle.c_parser.specs.Exact.{weights, LightBefore, Spelled, Gives}
 use Rattle.c_parser.proofs.Back.{spelled}
 use Rattle.c_parser.proofs.Laws.{run_whole, accepted_where_light, only_memory}
 
@@ -42,3 +44,12 @@ answered_at ts f h xs spells light = only_memory f (run (Some 64) ts 0 (Items �
 pub through_err : {A : Type 0} (r : Result A ParseFault) (f : ParseFault) (P : ParseFault → Type 0) → IsErrAnd r (λ e. e ≡ f) → P f → IfErr r P
 through_err (Ok x) f P h g = absurd h
 through_err (Err e) f P h g = subst P (sym h) g
+
+-- a fault that is handed on is want of memory
+pub gives_err : (r : Result Program ParseFault) (xs : List ItemTree) (f : ParseFault) → IsErrAnd r (λ e. e ≡ f) → f ≡ fault.NoMemory → Gives r xs
+gives_err (Ok p) xs f h g = absurd h
+gives_err (Err e) xs f h g = h ∙ g
+
+-- the items that were built are the ones that are spelled
+pub spelled_by : (ts : List Placed) (all : List Item) → Spelled ts → ((xs : List ItemTree) → SpellsProgram ts xs → items_in all ≡ xs) → SpellsProgram ts (items_in all)
+spelled_by ts all some same = subst (λ xs. SpellsProgram ts xs) (sym (same some.0 some.1)) some.1

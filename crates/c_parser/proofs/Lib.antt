@@ -14,3 +14,4 @@ pub mod Viable
 pub mod Accepting
 pub mod FixesExpr
 pub mod FixesStmt
+pub mod FixesItem

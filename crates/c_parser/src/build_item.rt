@@ -1,6 +1,12 @@
 //! Items, built from tokens that were judged before.
 
-ghost use Rattle.std.specs.Prelude.{◌≡◌, ◌<◌, ◌≤◌, ◌+◌, length, IfOk, OnOk, true};
+ghost use Rattle.std.specs.Prelude.{List, ◌≡◌, ◌<◌, ◌≤◌, ◌+◌, length, map, IfOk, OnOk, option_map, true, false};
+ghost use Rattle.c_parser.specs.Kinds as kinds;
+ghost use Rattle.c_parser.specs.StmtTree.{type_of};
+ghost use Rattle.c_parser.specs.ItemTree.{ItemTree, field_of, parameter_of, item_of, items_in};
+ghost use Rattle.c_parser.specs.ItemSpelling.{SpellsField, SpellsFields, Signature, ResultType, SpellsFunction, SpellsItem, SpellsProgram};
+ghost use Rattle.c_parser.specs.Fixes.{Fixes, Ended, Is};
+ghost use Rattle.c_parser.specs.Pieces.{goes_on, SpellsParameter, ParametersTo, SpellsStruct, SpellsRoot, Defines, DefinesNone};
 
 use crate::build_stmt::{block, type_name};
 use crate::item::{Field, Function, Item, Length, Parameter, RootDecl, StructDef};
@@ -10,8 +16,10 @@ use c_lexer::TokenList;
 use std::alloc::{AllocError, Global};
 
 /// A field and its semicolon.
+#[tactic(auto, using(crate::proofs::FixesItem::field_reads))]
 fn field(alloc: Global, tokens: &TokenList, at: u64) -> Result<(Field, u64), AllocError>
     ensures stays { IfOk result (λ r. at ≤ r.1) }
+    ensures fixes { IfOk result (λ r. Fixes (SpellsField tokens.now.tokens at) r.1 (field_of r.0)) }
     ensures moves { IfOk result (λ r. at < length tokens.now.tokens → at < r.1) }
 {
     let (ty, place) = type_name(alloc, tokens, at)?;
@@ -38,6 +46,7 @@ fn field(alloc: Global, tokens: &TokenList, at: u64) -> Result<(Field, u64), All
 
 /// Whether neither a closing brace nor the end stands there.
 fn has_field(tokens: &TokenList, at: u64) -> bool
+    ensures value { result ≡ goes_on (kinds.kind_at tokens.now.tokens at) }
     ensures inside { result ≡ true → at < length tokens.now.tokens }
 {
     match kind_at(tokens, at) {
@@ -47,8 +56,10 @@ fn has_field(tokens: &TokenList, at: u64) -> bool
 }
 
 /// Fields from behind an opening brace up to the closing one.
+#[tactic(auto, using(crate::proofs::FixesItem::fields_reads))]
 fn fields(alloc: Global, tokens: &TokenList, at: u64) -> Result<(Vec<Field>, u64), AllocError>
     ensures stays { IfOk result (λ r. at ≤ r.1) }
+    ensures fixes { IfOk result (λ r. Fixes (Ended tokens.now.tokens (Is Kind.CloseBrace) (SpellsFields tokens.now.tokens at)) r.1 (map field_of r.0.items)) }
 {
     let mut all = Vec::new(alloc);
     let mut place = at;
@@ -60,8 +71,10 @@ fn fields(alloc: Global, tokens: &TokenList, at: u64) -> Result<(Vec<Field>, u64
     Ok((all, place))
 }
 
+#[tactic(auto, using(crate::proofs::FixesItem::parameter_read))]
 fn parameter(alloc: Global, tokens: &TokenList, at: u64) -> Result<(Parameter, u64), AllocError>
     ensures stays { IfOk result (λ r. at ≤ r.1) }
+    ensures fixes { IfOk result (λ r. Fixes (SpellsParameter tokens.now.tokens at) r.1 (parameter_of r.0)) }
 {
     let (ty, place) = type_name(alloc, tokens, at)?;
     let name = name_at(alloc, tokens, place)?;
@@ -69,12 +82,14 @@ fn parameter(alloc: Global, tokens: &TokenList, at: u64) -> Result<(Parameter, u
 }
 
 /// One parameter or more, up to the closing bracket.
+#[tactic(auto, using(crate::proofs::FixesItem::parameters_reads))]
 fn some_parameters(
     alloc: Global,
     tokens: &TokenList,
     at: u64,
 ) -> Result<(Vec<Parameter>, u64), AllocError>
     ensures stays { IfOk result (λ r. at ≤ r.1) }
+    ensures fixes { IfOk result (λ r. Fixes (ParametersTo tokens.now.tokens at) r.1 (map parameter_of r.0.items)) }
 {
     let mut all = Vec::new(alloc);
     let (one, next) = parameter(alloc, tokens, at)?;
@@ -89,12 +104,14 @@ fn some_parameters(
 }
 
 /// The parameters of a function, from behind the opening bracket to behind the closing one.
+#[tactic(auto, using(crate::proofs::FixesItem::signatures))]
 fn parameters(
     alloc: Global,
     tokens: &TokenList,
     at: u64,
 ) -> Result<(Vec<Parameter>, u64), AllocError>
     ensures stays { IfOk result (λ r. at ≤ r.1) }
+    ensures fixes { IfOk result (λ r. Fixes (Signature tokens.now.tokens at) r.1 (map parameter_of r.0.items)) }
 {
     match kind_at(tokens, at) {
         Kind::CloseRound => Ok((Vec::new(alloc), behind(tokens, at))),
@@ -107,12 +124,14 @@ fn parameters(
 }
 
 /// A function's result, absent where it is `void`.
+#[tactic(auto, using(crate::proofs::FixesItem::results))]
 fn result_type(
     alloc: Global,
     tokens: &TokenList,
     at: u64,
 ) -> Result<(Option<TypeName>, u64), AllocError>
     ensures stays { IfOk result (λ r. at ≤ r.1) }
+    ensures fixes { IfOk result (λ r. Fixes (ResultType tokens.now.tokens at) r.1 (option_map type_of r.0)) }
     ensures moves { IfOk result (λ r. at < length tokens.now.tokens → at < r.1) }
 {
     if kind_at(tokens, at) == Kind::Void {
@@ -123,8 +142,10 @@ fn result_type(
 }
 
 /// A function, from its result on.
+#[tactic(auto, using(crate::proofs::FixesItem::function_read))]
 fn function(alloc: Global, tokens: &TokenList, at: u64, tx: bool) -> Result<(Item, u64), AllocError>
     ensures stays { IfOk result (λ r. at ≤ r.1) }
+    ensures fixes { IfOk result (λ r. Fixes (SpellsFunction tokens.now.tokens tx at) r.1 (item_of r.0)) }
     ensures moves { IfOk result (λ r. at < length tokens.now.tokens → at < r.1) }
 {
     let (result_type, place) = result_type(alloc, tokens, at)?;
@@ -143,8 +164,10 @@ fn function(alloc: Global, tokens: &TokenList, at: u64, tx: bool) -> Result<(Ite
 }
 
 /// A struct, from its `struct` on.
+#[tactic(auto, using(crate::proofs::FixesItem::struct_read))]
 fn struct_def(alloc: Global, tokens: &TokenList, at: u64) -> Result<(Item, u64), AllocError>
     ensures stays { IfOk result (λ r. at ≤ r.1) }
+    ensures fixes { IfOk result (λ r. Fixes (SpellsStruct tokens.now.tokens at) r.1 (item_of r.0)) }
     ensures moves { IfOk result (λ r. at < length tokens.now.tokens → at < r.1) }
 {
     let place = behind(tokens, at);
@@ -156,8 +179,10 @@ fn struct_def(alloc: Global, tokens: &TokenList, at: u64) -> Result<(Item, u64),
 }
 
 /// The declaration of the root, from its `persistent` on.
+#[tactic(auto, using(crate::proofs::FixesItem::root_read))]
 fn root_decl(alloc: Global, tokens: &TokenList, at: u64) -> Result<(Item, u64), AllocError>
     ensures stays { IfOk result (λ r. at ≤ r.1) }
+    ensures fixes { IfOk result (λ r. Fixes (SpellsRoot tokens.now.tokens at) r.1 (item_of r.0)) }
     ensures moves { IfOk result (λ r. at < length tokens.now.tokens → at < r.1) }
 {
     let place = behind(tokens, behind(tokens, at));
@@ -168,14 +193,20 @@ fn root_decl(alloc: Global, tokens: &TokenList, at: u64) -> Result<(Item, u64), 
 }
 
 /// Whether `struct NAME {` stands there.
-fn defines(tokens: &TokenList, at: u64) -> bool {
+#[tactic(auto, using(crate::proofs::FixesItem::defining))]
+fn defines(tokens: &TokenList, at: u64) -> bool
+    ensures some { result ≡ true → Defines tokens.now.tokens at }
+    ensures none { result ≡ false → DefinesNone tokens.now.tokens at }
+{
     let third = behind(tokens, behind(tokens, at));
     kind_at(tokens, at) == Kind::Struct && kind_at(tokens, third) == Kind::OpenBrace
 }
 
 /// An item, and the place behind it.
+#[tactic(auto, using(crate::proofs::FixesItem::items_of))]
 fn item(alloc: Global, tokens: &TokenList, at: u64) -> Result<(Item, u64), AllocError>
     ensures stays { IfOk result (λ r. at ≤ r.1) }
+    ensures fixes { IfOk result (λ r. Fixes (SpellsItem tokens.now.tokens at) r.1 (item_of r.0)) }
     ensures moves { IfOk result (λ r. at < length tokens.now.tokens → at < r.1) }
 {
     if defines(tokens, at) {
@@ -189,7 +220,10 @@ fn item(alloc: Global, tokens: &TokenList, at: u64) -> Result<(Item, u64), Alloc
 }
 
 /// The items of a program.
-pub fn items(alloc: Global, tokens: &TokenList) -> Result<Vec<Item>, AllocError> {
+#[tactic(auto, using(crate::proofs::FixesItem::items_reads))]
+pub fn items(alloc: Global, tokens: &TokenList) -> Result<Vec<Item>, AllocError>
+    ensures spelled { IfOk result (λ all. (xs : List ItemTree) → SpellsProgram tokens.now.tokens xs → items_in all.items ≡ xs) }
+{
     let mut all = Vec::new(alloc);
     let mut place = 0;
     'each: while place < tokens.len() {

@@ -1,9 +1,10 @@
 //! The parser.
 
 ghost use Rattle.std.specs.Prelude.{ℕ, List, ◌≡◌, ◌+◌, IfOk, IfErr, OnOk, length, map};
-ghost use Rattle.c_parser.specs.Exact.{weights, LightBefore, Spelled, NoneBegins, SomeBegins, SomeSinks};
-ghost use Rattle.c_parser.specs.declared.fault.ParseFault.TheVariants.{Syntax, TooDeep, NoMemory};
+ghost use Rattle.c_parser.specs.Exact.{weights, LightBefore, Gives, NoneBegins, SomeBegins, SomeSinks};
+ghost use Rattle.c_parser.specs.declared.fault.ParseFault.TheVariants.{Syntax, TooDeep};
 ghost use Rattle.c_parser.specs.ItemTree.{ItemTree};
+ghost use Rattle.c_parser.specs.Program.{tree_of};
 ghost use Rattle.c_parser.specs.ItemSpelling.{SpellsProgram};
 
 use crate::ast::Ast;
@@ -19,11 +20,11 @@ use std::alloc::Global;
 pub fn parse(alloc: Global, tokens: &TokenList) -> Result<Ast, ParseFault>
     ensures lines { IfOk result (λ p. p.lines ≡ map (λ placed. placed.line) tokens.now.tokens) }
     ensures last { IfOk result (λ p. p.last ≡ tokens.now.last) }
-    // What is accepted is spelled by some tree, and no token of it is too heavy.
-    ensures accepted { OnOk result (Spelled tokens.now.tokens) }
+    // The answered tree is the one that the tokens spell, and no token of it is too heavy.
+    ensures found { IfOk result (λ p. SpellsProgram tokens.now.tokens (tree_of p)) }
     ensures light { OnOk result (LightBefore (weights tokens.now.tokens) (length tokens.now.tokens)) }
-    // What some tree spells, with no token too heavy, is accepted, or memory runs out.
-    ensures answered { (xs : List ItemTree) → SpellsProgram tokens.now.tokens xs → LightBefore (weights tokens.now.tokens) (length tokens.now.tokens) → IfErr result (λ f. f ≡ NoMemory) }
+    // What some tree spells, with no token too heavy, is answered by that tree, or memory runs out.
+    ensures only { (xs : List ItemTree) → SpellsProgram tokens.now.tokens xs → LightBefore (weights tokens.now.tokens) (length tokens.now.tokens) → Gives result xs }
     // No program begins with the tokens up to a refused one.
     ensures none { IfErr result (λ f. (t : ℕ) → f ≡ Syntax t → NoneBegins tokens.now.tokens (t + 1)) }
     // Some program begins with those before it, none of them too heavy.
