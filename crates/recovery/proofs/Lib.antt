@@ -1,0 +1,3 @@
+pub mod RedoParts
+pub mod BackParts
+pub mod Recorded

@@ -1,0 +1,62 @@
+-- What is put back, and the run behind it.
+use Rattle.std.proofs.Common.{◌≡◌, ℕ, ◌+◌, ◌++◌, List, ℤ, inr, sym, ap, ◌∙◌, subst, arith}
+use Rattle.cache_model.specs.Cache.{Cache}
+use Rattle.cache_model.specs.Event.{CacheEvent}
+use Rattle.cache_model.specs.Play.{play}
+use Rattle.pmem.specs.Device.{Device}
+use Rattle.pmem.specs.Played.{PlaysAll, PlaysPart, Played}
+use Rattle.pmem.specs.declared.answer.Refusal.{Refusal}
+use Rattle.pmem.specs.declared.answer.Refusal.TheVariants as refusal
+use Rattle.pmem.proofs.Glue.{all_append, part_left, part_right}
+use Rattle.pmem.proofs.Refused.{all_cache, all_on}
+use Rattle.pm_machine.specs.declared.effect.End.{End}
+use Rattle.pm_machine.specs.declared.image.Image.{Image}
+use Rattle.pm_machine.specs.Machine.{State, start}
+use Rattle.pm_machine.specs.Runs.{end_of}
+use Rattle.tx_run.specs.declared.answer.Settled.{Settled}
+use Rattle.tx_run.specs.declared.answer.Settled.TheVariants.{Done, Trap, Off, Failed, NoMemory}
+use Rattle.tx_run.specs.Due.{due_on, due_run}
+use Rattle.tx_run.specs.Settled.{HasSettled, HasLogged, Settles}
+use Rattle.recovery.specs.Due.{due_back, due_redo}
+use Rattle.recovery.specs.Recovered.{redo_answer, HasRedone, Redid}
+
+module _ (image : Image) (tx : ℕ) (args : List ℤ) (n : ℕ) (d b : Device) where
+  abbrev state : State
+  state = start image tx args
+
+  abbrev back : List CacheEvent
+  back = due_back image.parts.sizes n d.cache
+
+  abbrev behind : Cache
+  behind = play d.cache back
+
+  -- the putting back was cut
+  pub back_cut : (why : Refusal) → PlaysPart why d back b → PlaysPart why d (due_redo image tx args n d.cache) b
+  back_cut why p = part_left back (due_run image state behind) why d b p
+
+  module _ (m : Device) (done : PlaysAll d back m) where
+    same : m.cache ≡ behind
+    same = all_cache back d m done
+
+    all : PlaysAll m (due_run image state m.cache) b → PlaysAll d (due_redo image tx args n d.cache) b
+    all h = all_append back (due_run image state behind) d m b done (subst (λ (c : Cache). PlaysAll m (due_run image state c) b) same h)
+
+    right : (why : Refusal) → PlaysPart why m (due_run image state m.cache) b → PlaysPart why d (due_redo image tx args n d.cache) b
+    right why h = part_right back (due_run image state behind) why d m b done (subst (λ (c : Cache). PlaysPart why m (due_run image state c) b) same h)
+
+    ended : (e : End) (k j k1 : ℕ) → j ≡ k + n → HasSettled e image state m b j k1 → HasRedone e image tx args n d b k k1
+    ended e k j k1 back_steps h = record {
+      fate = subst (λ (c : Cache). end_of (due_on image state c).fate ≡ e) same h.fate;
+      played = all h.played;
+      steps = subst (λ (i : ℕ). k1 ≡ i + (due_on image state behind).steps) back_steps (subst (λ (c : Cache). k1 ≡ j + (due_on image state c).steps) same h.steps);
+    }
+
+    pub still_on : m.on ≡ d.on
+    still_on = all_on back d m done
+
+    pub redid_of : (a : Settled) (k j k1 : ℕ) → j ≡ k + n → Settles a image state m b j k1 → Redid (redo_answer a) image tx args n d b k k1
+    redid_of (Done v l) k j k1 is h = (ended _ k j k1 is h.0, subst (HasLogged l image state) same h.1)
+    redid_of (Trap t) k j k1 is h = ended _ k j k1 is h
+    redid_of Off k j k1 is h = right refusal.Off h
+    redid_of Failed k j k1 is h = right refusal.Failed h
+    redid_of NoMemory k j k1 is h = inr (right refusal.NoMemory h)

@@ -1,0 +1,57 @@
+//! What a recovery answers.
+
+ghost use Rattle.std.specs.Prelude.{◌≡◌};
+ghost use Rattle.recovery.specs.Recovered.{redo_answer, clean_answer};
+
+use pmem::{LogAnswer, Phase};
+use pool_map::TrapKind;
+use tx_run::Settled;
+
+/// The answer of a recovery.
+///
+/// Behind `Off`, `Failed` and `NoMemory` the events before the refused one stand. `Off` tells whether
+/// the pool is sealed; on a device that was off it is `Unsealed`.
+#[derive(Clone, Copy, Debug, PartialEq, Eq, Drop)]
+pub enum RecoverAnswer {
+    /// No call was cut behind its seal.
+    Clean,
+    /// The sealed call ran again and is retired; `logged` is the number of its LOG instructions.
+    Redone { value: i64, logged: u64 },
+    /// The sealed call trapped, and the mark is durable.
+    Trap(TrapKind),
+    /// The pool has a mark; there was no event.
+    Unusable(TrapKind),
+    /// Records are valid and the attempt isn't below 2^62; there was no event.
+    Numbers,
+    Off(Phase),
+    Failed,
+    NoMemory,
+}
+
+impl RecoverAnswer {
+    /// The answer where the sealed call was settled.
+    #[tactic(auto, using(std::proofs::lemmas::Int::wraps))]
+    pub(crate) fn redone(settled: Settled) -> RecoverAnswer
+        ensures { result ≡ redo_answer settled }
+    {
+        match settled {
+            Settled::Done { value, logged } => RecoverAnswer::Redone { value, logged },
+            Settled::Trap(kind) => RecoverAnswer::Trap(kind),
+            Settled::Off => RecoverAnswer::Off(Phase::Sealed),
+            Settled::Failed => RecoverAnswer::Failed,
+            Settled::NoMemory => RecoverAnswer::NoMemory,
+        }
+    }
+
+    /// The answer of a recovery that only begins the next attempt.
+    pub(crate) fn cleaned(reset: LogAnswer) -> RecoverAnswer
+        ensures { result ≡ clean_answer reset }
+    {
+        match reset {
+            LogAnswer::Done => RecoverAnswer::Clean,
+            LogAnswer::Off => RecoverAnswer::Off(Phase::Unsealed),
+            LogAnswer::Failed => RecoverAnswer::Failed,
+            LogAnswer::NoMemory => RecoverAnswer::NoMemory,
+        }
+    }
+}

@@ -1,0 +1,142 @@
+//! A recovery from its start to its end.
+
+ghost use Rattle.std.specs.Prelude.{◌≡◌, ◌≢◌, ◌+◌, ◌≤◌, ◌<◌, ℕ, ℤ, pos, true, false, length};
+ghost use Rattle.cache_model.specs.Cache.{view};
+ghost use Rattle.pool_layout.specs.Sizes.{pool_lines};
+ghost use Rattle.pmem.specs.declared.answer.Phase.TheVariants as at_phase;
+ghost use Rattle.pmem.specs.Played.{Played};
+ghost use Rattle.clobber_log.specs.Logs.{attempt_in, count_in};
+ghost use Rattle.args_log.specs.Pending.{is_sealed, number_of, HoldsArguments};
+ghost use Rattle.tx_run.specs.Standing.{kind_of};
+ghost use Rattle.recovery.specs.Found.{has_numbers, names_tx, recorded};
+ghost use Rattle.recovery.specs.Due.{due_clean, due_back};
+ghost use Rattle.recovery.specs.Recovered.{Cleaned, Redid};
+
+use crate::answer::RecoverAnswer;
+use crate::looking::{Found, look};
+use clobber_log::{reset, restore};
+use nvm_base::Steps;
+use pm_machine::{Image, Machine};
+use pmem::{LogAnswer, Phase, PmemWork};
+use pool_layout::Sizes;
+use std::alloc::Global;
+use std::sync::ledger::Ledger;
+use tx_run::settle;
+
+/// Begins the next attempt where a record is valid.
+fn clean<P: PmemWork>(sizes: &Sizes, dev: &mut P, count: u64) -> RecoverAnswer
+    requires lines { (P.device dev.old).lines ≡ pool_lines sizes.now }
+    requires on { (P.device dev.old).on ≡ true }
+    ensures cleaned { Cleaned result (P.device dev.old) (due_clean sizes.now count (P.device dev.old).cache) (P.device dev.new) }
+    ensures lines { (P.device dev.new).lines ≡ (P.device dev.old).lines }
+{
+    if count == 0 {
+        return RecoverAnswer::Clean;
+    }
+    RecoverAnswer::cleaned(reset(sizes, dev))
+}
+
+/// Puts the logged words back and begins the next attempt, where a record is valid.
+fn put_back<P: PmemWork, L: Ledger>(
+    sizes: &Sizes,
+    dev: &mut P,
+    count: u64,
+    steps: &mut Steps<L>,
+) -> LogAnswer
+    requires lines { (P.device dev.old).lines ≡ pool_lines sizes.now }
+    requires on { (P.device dev.old).on ≡ true }
+    requires count { count ≡ count_in sizes.now (view (P.device dev.old).cache) }
+    ensures played { Played result (P.device dev.old) (due_back sizes.now count (P.device dev.old).cache) (P.device dev.new) }
+    ensures cost { result ≡ LogAnswer.Done → steps.new ≡ steps.old + count }
+    ensures bound { steps.new ≤ steps.old + count }
+    ensures lines { (P.device dev.new).lines ≡ (P.device dev.old).lines }
+{
+    if count == 0 {
+        return LogAnswer::Done;
+    }
+    match restore(sizes, dev, steps) {
+        LogAnswer::Done => reset(sizes, dev),
+        LogAnswer::Off => LogAnswer::Off,
+        LogAnswer::Failed => LogAnswer::Failed,
+        LogAnswer::NoMemory => LogAnswer::NoMemory,
+    }
+}
+
+/// The first words of the 22, as many as the transaction has parameters.
+fn given<'a>(image: &Image, tx: u64, args: &'a [i64; 22]) -> &'a [i64]
+    requires first { 1 ≤ tx }
+    requires last { tx ≤ length image.now.parts.txs }
+    ensures { (w : ℕ → ℤ) → HoldsArguments w args.now → result.now ≡ recorded image.now tx w }
+{
+    let count = image.parameters(tx);
+    if count < 22 {
+        &args[..count as usize]
+    } else {
+        &args[..22]
+    }
+}
+
+/// Runs a sealed call again. The machine's frames are reserved before the first event.
+fn redo<P: PmemWork, L: Ledger>(
+    alloc: Global,
+    image: &Image,
+    tx: u64,
+    args: &[i64],
+    count: u64,
+    dev: &mut P,
+    steps: &mut Steps<L>,
+) -> RecoverAnswer
+    requires lines { (P.device dev.old).lines ≡ pool_lines image.now.parts.sizes }
+    requires on { (P.device dev.old).on ≡ true }
+    requires count { count ≡ count_in image.now.parts.sizes (view (P.device dev.old).cache) }
+    requires first { 1 ≤ tx }
+    requires last { tx ≤ length image.now.parts.txs }
+    ensures redid { Redid result image.now tx args.now count (P.device dev.old) (P.device dev.new) steps.old steps.new }
+    ensures most { steps.new ≤ steps.old + count + image.now.parts.most }
+    ensures lines { (P.device dev.new).lines ≡ (P.device dev.old).lines }
+{
+    let mut machine = match Machine::new(alloc, image, tx, args) {
+        Ok(machine) => machine,
+        Err(_) => return RecoverAnswer::NoMemory,
+    };
+    match put_back(image.sizes(), dev, count, steps) {
+        LogAnswer::Done => RecoverAnswer::redone(settle(image, &mut machine, dev, steps)),
+        LogAnswer::Off => RecoverAnswer::Off(Phase::Sealed),
+        LogAnswer::Failed => RecoverAnswer::Failed,
+        LogAnswer::NoMemory => RecoverAnswer::NoMemory,
+    }
+}
+
+/// Recovers the pool of the image behind a power cut.
+///
+/// A pool with a mark stays as it is. Else, where records are valid, their old values are put back if
+/// a call was sealed, and the next attempt begins; and a call that was sealed runs again from its
+/// recorded arguments and is settled. A sealed record that names no transaction of the image, which
+/// no pool of the image holds, is answered as `Numbers`, without an event. On a device that is off
+/// the answer is `Off(Unsealed)`, and nothing has changed.
+pub fn recover<P: PmemWork, L: Ledger>(
+    alloc: Global,
+    image: &Image,
+    dev: &mut P,
+    steps: &mut Steps<L>,
+) -> RecoverAnswer
+    requires lines { (P.device dev.old).lines ≡ pool_lines image.now.parts.sizes }
+    ensures unusable { (P.device dev.old).on ≡ true → view (P.device dev.old).cache 19 ≢ pos 0 → (result ≡ RecoverAnswer.Unusable (kind_of (view (P.device dev.old).cache 19))) × (P.device dev.new ≡ P.device dev.old) }
+    ensures numbers { (P.device dev.old).on ≡ true → view (P.device dev.old).cache 19 ≡ pos 0 → has_numbers (count_in image.now.parts.sizes (view (P.device dev.old).cache)) (attempt_in image.now.parts.sizes (view (P.device dev.old).cache)) ≡ true → (result ≡ RecoverAnswer.Numbers) × (P.device dev.new ≡ P.device dev.old) }
+    ensures clean { (P.device dev.old).on ≡ true → view (P.device dev.old).cache 19 ≡ pos 0 → has_numbers (count_in image.now.parts.sizes (view (P.device dev.old).cache)) (attempt_in image.now.parts.sizes (view (P.device dev.old).cache)) ≡ false → is_sealed (view (P.device dev.old).cache) ≡ false → Cleaned result (P.device dev.old) (due_clean image.now.parts.sizes (count_in image.now.parts.sizes (view (P.device dev.old).cache)) (P.device dev.old).cache) (P.device dev.new) }
+    ensures redid { (P.device dev.old).on ≡ true → view (P.device dev.old).cache 19 ≡ pos 0 → has_numbers (count_in image.now.parts.sizes (view (P.device dev.old).cache)) (attempt_in image.now.parts.sizes (view (P.device dev.old).cache)) ≡ false → is_sealed (view (P.device dev.old).cache) ≡ true → names_tx image.now (number_of (view (P.device dev.old).cache 24)) ≡ true → Redid result image.now (number_of (view (P.device dev.old).cache 24)) (recorded image.now (number_of (view (P.device dev.old).cache 24)) (view (P.device dev.old).cache)) (count_in image.now.parts.sizes (view (P.device dev.old).cache)) (P.device dev.old) (P.device dev.new) steps.old steps.new }
+    ensures off { (P.device dev.old).on ≡ false → result ≡ RecoverAnswer.Off at_phase.Unsealed }
+    ensures same { (P.device dev.old).on ≡ false → P.device dev.new ≡ P.device dev.old }
+    ensures most { steps.new ≤ steps.old + image.now.parts.sizes.records + image.now.parts.most }
+    ensures lines { (P.device dev.new).lines ≡ (P.device dev.old).lines }
+{
+    match look(image, dev) {
+        Found::Off => RecoverAnswer::Off(Phase::Unsealed),
+        Found::Unusable(kind) => RecoverAnswer::Unusable(kind),
+        Found::Numbers => RecoverAnswer::Numbers,
+        Found::Unsealed { count } => clean(image.sizes(), dev, count),
+        Found::Sealed { tx, args, count } => {
+            redo(alloc, image, tx, given(image, tx, &args), count, dev, steps)
+        }
+    }
+}
