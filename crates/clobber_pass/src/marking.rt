@@ -1,5 +1,8 @@
 //! The marks of a program.
 
+ghost use Rattle.std.specs.Prelude.{◌≡◌};
+ghost use Rattle.clobber_pass.specs.Logged.{is_logged};
+
 use alias_summaries::summaries;
 use exposed_reads::{PlaceFact, flow};
 use ir::{Instruction, Ir, Site};
@@ -21,7 +24,9 @@ pub struct MarkTable {
 
 impl MarkTable {
     /// Whether the store at a site is logged. It isn't where there is no such site.
-    pub fn logged(&self, site: Site) -> bool {
+    pub fn logged(&self, site: Site) -> bool
+        ensures { result ≡ is_logged self.now site }
+    {
         let Some(places) = self.functions.get(site.function as usize) else {
             return false;
         };

@@ -1,0 +1,154 @@
+//! The logs of a program.
+
+ghost use Rattle.std.specs.Prelude.{◌≡◌, ◌++◌, ◌<◌, ◌^◌, length, IfOk, OnOk};
+ghost use Rattle.instrument.specs.Insert.{logs, led, logged_from, with_flags, logged_code, logged_function, logged_program};
+ghost use Rattle.ir.specs.WellFormed.{IsWellFormed};
+
+use crate::places::{flag_at, flags, place_in, places};
+use clobber_pass::MarkTable;
+use ir::{Instruction, Instructions, Ir, IrFunction, IrFunctions};
+use nvm_base::Text;
+use std::alloc::{AllocError, Global};
+
+fn text_copy(alloc: Global, text: &Text) -> Result<Text, AllocError>
+    ensures { IfOk result (λ t. t ≡ text.now) }
+{
+    let mut copy = Text::new(alloc);
+    copy.push(text.as_str())?;
+    Ok(copy)
+}
+
+/// The instruction with its jumps led to their places, and with the flag of a fill.
+fn led(
+    alloc: Global,
+    places: &[u32],
+    flag: bool,
+    instruction: &Instruction,
+) -> Result<Instruction, AllocError>
+    ensures { IfOk result (λ i. i ≡ led places.now flag instruction.now) }
+{
+    match instruction {
+        Instruction::Jump { place } => Ok(Instruction::Jump {
+            place: place_in(places, *place),
+        }),
+        Instruction::Branch { on, place } => Ok(Instruction::Branch {
+            on: *on,
+            place: place_in(places, *place),
+        }),
+        Instruction::New { to, kind, line, .. } => Ok(Instruction::New {
+            to: *to,
+            kind: *kind,
+            log_fill: flag,
+            line: *line,
+        }),
+        _ => instruction.copy(alloc),
+    }
+}
+
+/// Puts the log of an instruction at the end, where there is one.
+fn push_log(
+    code: &mut Instructions,
+    flag: bool,
+    instruction: &Instruction,
+) -> Result<(), AllocError>
+    ensures { OnOk result (code.new ≡ code.old ++ logs flag instruction.now) }
+{
+    match instruction {
+        Instruction::Store { target, .. } if flag => code.push(Instruction::Log {
+            target: *target,
+        }),
+        _ => Ok(()),
+    }
+}
+
+/// The instructions with their logs; all places are known.
+fn logged_from(
+    alloc: Global,
+    places: &[u32],
+    flags: &[bool],
+    code: &[Instruction],
+) -> Result<Instructions, AllocError>
+    ensures { IfOk result (λ c. c ≡ logged_from places.now flags.now 0 code.now) }
+{
+    let mut logged = Instructions::new(alloc);
+    for (k, instruction) in code.iter().enumerate() {
+        let flag = flag_at(flags, k);
+        push_log(&mut logged, flag, instruction)?;
+        logged.push(led(alloc, places, flag, instruction)?)?;
+    }
+    Ok(logged)
+}
+
+fn copied(alloc: Global, code: &[Instruction]) -> Result<Instructions, AllocError>
+    ensures { IfOk result (λ c. c ≡ code.now) }
+{
+    let mut copy = Instructions::new(alloc);
+    for instruction in code {
+        copy.push(instruction.copy(alloc)?)?;
+    }
+    Ok(copy)
+}
+
+/// The code with the logs that these flags ask for.
+fn with_flags(
+    alloc: Global,
+    flags: &[bool],
+    code: &[Instruction],
+) -> Result<Instructions, AllocError>
+    requires { length code.now < 2 ^ 31 }
+    ensures { IfOk result (λ c. c ≡ with_flags flags.now code.now) }
+{
+    let places = places(alloc, flags, code)?;
+    logged_from(alloc, places.as_slice(), flags, code)
+}
+
+/// The code of a function with its logs. Code of 2^31 instructions or more is left as it is.
+fn logged_code(
+    alloc: Global,
+    marks: &MarkTable,
+    function: u32,
+    code: &[Instruction],
+) -> Result<Instructions, AllocError>
+    ensures { IfOk result (λ c. c ≡ logged_code marks.now function code.now) }
+{
+    if code.len() < 1 << 31 {
+        let flags = flags(alloc, marks, function, code)?;
+        return with_flags(alloc, flags.as_slice(), code);
+    }
+    copied(alloc, code)
+}
+
+fn logged_function(
+    alloc: Global,
+    marks: &MarkTable,
+    number: u32,
+    function: &IrFunction,
+) -> Result<IrFunction, AllocError>
+    ensures { IfOk result (λ f. f ≡ logged_function marks.now number function.now) }
+{
+    Ok(IrFunction {
+        name: text_copy(alloc, &function.name)?,
+        parameters: function.parameters,
+        registers: function.registers,
+        tx: function.tx,
+        code: logged_code(alloc, marks, number, function.code.as_slice())?,
+    })
+}
+
+/// The program with a log right before each store that the marks name, and with the flag of each
+/// `new` whose fill they name. Each jump that led to such a store leads to its log. Functions past
+/// the 2^32nd, which no well formed program has, are read under the marks of the last.
+pub fn add_logs(alloc: Global, ir: &Ir, marks: &MarkTable) -> Result<Ir, AllocError>
+    ensures { IsWellFormed ir.now → IfOk result (λ r. r ≡ logged_program marks.now ir.now) }
+{
+    let mut functions = IrFunctions::new(alloc);
+    let mut number = 0u32;
+    for function in ir.functions.as_slice() {
+        functions.push(logged_function(alloc, marks, number, function)?)?;
+        number = number.saturating_add(1);
+    }
+    Ok(Ir {
+        functions,
+        shapes: ir.shapes.copy(alloc)?,
+    })
+}
