@@ -1,0 +1,59 @@
+-- What is asked of a run's effects: it is covered, its LOGs go on to their STOREs, and it flushes and fences at its end alone.
+use Rattle.std.specs.Prelude.{ℕ, ◌/◌, ◌≡◌, List, [], ◌∷◌, nat_eq, None}
+use Rattle.indexmap.specs.IndexSet.{insert_key}
+use Rattle.crash_law.specs.Effects.{IsInput, IsOverwritten, IsLoggedFirst, IsPaired}
+use Rattle.pm_machine.specs.declared.effect.Effect.{Effect}
+use Rattle.pm_machine.specs.declared.effect.Effect.TheVariants.{Loads, Stores, Logs, Flushes, Fences, Quiet}
+use Rattle.pm_machine.specs.declared.effect.End.{End}
+use Rattle.pm_machine.specs.declared.effect.End.TheVariants.{Halted, Trapped}
+use Rattle.run_law.specs.Seen.{seen_all}
+
+-- the first store to each word that is loaded before and stored has a LOG of that word before it
+abbrev pub IsCovered : List Effect → Type 0
+IsCovered es = (w : ℕ) → IsInput (seen_all es) w → IsOverwritten (seen_all es) w → IsLoggedFirst (seen_all es) w
+
+-- each LOG goes on to its STORE
+abbrev pub IsPairedRun : List Effect → Type 0
+IsPairedRun es = IsPaired None (seen_all es)
+
+-- no flush and no fence
+abbrev pub IsStill : List Effect → Type 0
+IsStill [] = Unit {0}
+IsStill (Loads w ∷ es) = IsStill es
+IsStill (Stores w x ∷ es) = IsStill es
+IsStill (Logs w ∷ es) = IsStill es
+IsStill (Flushes l ∷ es) = ⊥
+IsStill (Fences ∷ es) = ⊥
+IsStill (Quiet ∷ es) = IsStill es
+
+-- these lines are flushed in order, then comes the fence and nothing else
+abbrev pub IsFlushed : List ℕ → List Effect → Type 0
+IsFlushed ls [] = ⊥
+IsFlushed ls (Loads w ∷ es) = IsFlushed ls es
+IsFlushed ls (Stores w x ∷ es) = ⊥
+IsFlushed ls (Logs w ∷ es) = ⊥
+IsFlushed ls (Quiet ∷ es) = IsFlushed ls es
+IsFlushed [] (Flushes l ∷ es) = ⊥
+IsFlushed (k ∷ ks) (Flushes l ∷ es) = (l ≡ k) × IsFlushed ks es
+IsFlushed [] (Fences ∷ es) = es ≡ []
+IsFlushed (k ∷ ks) (Fences ∷ es) = ⊥
+
+-- with these lines stored so far: no flush and no fence, then each stored line flushed in the order of first stores, then the fence
+abbrev pub IsTidy : List ℕ → List Effect → Type 0
+IsTidy ls [] = ⊥
+IsTidy ls (Loads w ∷ es) = IsTidy ls es
+IsTidy ls (Stores w x ∷ es) = IsTidy (insert_key nat_eq ls (w / 8)) es
+IsTidy ls (Logs w ∷ es) = IsTidy ls es
+IsTidy ls (Flushes l ∷ es) = IsFlushed ls (Flushes l ∷ es)
+IsTidy ls (Fences ∷ es) = IsFlushed ls (Fences ∷ es)
+IsTidy ls (Quiet ∷ es) = IsTidy ls es
+
+abbrev pub IsTidyEnd : End → List Effect → Type 0
+IsTidyEnd (Halted v) es = IsTidy [] es
+IsTidyEnd (Trapped k) es = IsStill es
+
+-- The parts of Sound that speak of one run.
+pub record IsSoundRun (end : End) (es : List Effect) : Type 0 where
+  pub covered : IsCovered es
+  pub paired : IsPairedRun es
+  pub tidy : IsTidyEnd end es
