@@ -6,15 +6,16 @@ use Rattle.c_lexer.specs.Cuts.{answer}
 use Rattle.c_lexer.specs.TokenList.{Tokens, line_at}
 use Rattle.c_parser.specs.declared.fault.ParseFault.{ParseFault}
 use Rattle.c_parser.specs.declared.fault.ParseFault.TheVariants as parse
-use Rattle.c_parser.specs.Exact.{weights, LightBefore, Spelled, NoneBegins, SomeBegins, SomeSinks}
-use Rattle.c_parser.specs.Program.{Program}
+use Rattle.c_parser.specs.Exact.{weights, LightBefore, NoneBegins, SomeBegins, SomeSinks}
+use Rattle.c_parser.specs.Program.{Program, tree_of}
+use Rattle.c_parser.specs.ItemSpelling.{SpellsProgram}
 use Rattle.c_types.specs.Fault.{breaks, refusal}
 use Rattle.cnvm_cli.specs.declared.front_end.ProgramFault.{ProgramFault}
 use Rattle.cnvm_cli.specs.declared.front_end.ProgramFault.TheVariants.{Lex, Parse, Types, NoMemory}
 
--- The tokens are those of a program, none of them too heavy, and the tree has their lines.
+-- The tokens spell the tree, none of them too heavy, and the tree has their lines.
 pub record IsTree (list : Tokens) (tree : Program) : Type 0 where
-  pub spelled : Spelled list.tokens
+  pub spelled : SpellsProgram list.tokens (tree_of tree)
   pub light : LightBefore (weights list.tokens) (length list.tokens)
   pub lines : tree.lines ≡ map (λ placed. placed.line) list.tokens
   pub last : tree.last ≡ list.last
