@@ -7,6 +7,8 @@
 mod answer;
 mod looking;
 mod recovering;
+#[cfg(test)]
+mod tests;
 
 pub use answer::RecoverAnswer;
 pub use recovering::recover;
