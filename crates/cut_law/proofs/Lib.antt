@@ -1,0 +1,5 @@
+pub mod Misses
+pub mod Dues
+pub mod Cuts
+pub mod Backs
+pub mod Redoes

@@ -1,0 +1,196 @@
+-- What a recovery of a sealed pool plays is the crash law's list, and what its cuts leave.
+use Rattle.std.proofs.Common.{◌≡◌, ◌≢◌, ◌⊎◌, ℕ, zero, suc, ◌+◌, ◌*◌, ◌^◌, ◌<◌, ◌≤◌, List, [], ◌∷◌, ◌++◌, length, Some, ℤ, pos, refl, sym, ap, ◌∙◌, subst, arith, append_assoc, inl, inr}
+use Rattle.cache_model.specs.Event.{CacheEvent, Store, Flush, Fence}
+use Rattle.cache_model.specs.Cache.{Words, Cache, view}
+use Rattle.cache_model.specs.Play.{apply, play}
+use Rattle.cache_model.specs.Image.{Images, HasOne}
+use Rattle.cache_model.specs.During.{during}
+use Rattle.cache_model.proofs.Views.{view_same, view_other, view_flush, view_fence}
+use Rattle.cache_model.proofs.During.{play_append}
+use Rattle.pool_layout.specs.declared.limits.Sizes.{Sizes}
+use Rattle.pool_layout.specs.declared.places.Layout.{Layout}
+use Rattle.pool_layout.specs.declared.places.Place.TheVariants.{RecordWord, RecordOld, RecordStamp, Heap}
+use Rattle.pool_layout.specs.Sizes.{heap_words}
+use Rattle.pool_layout.specs.Places.{at, pool_of}
+use Rattle.pool_layout.specs.Log.{count}
+use Rattle.pool_layout.specs.Restored.{undone, restored}
+use Rattle.pool_layout.proofs.Records.{LogIs, log_is, count_is, pos_inj}
+use Rattle.clobber_log.specs.Logs.{attempt_of, attempt_in, count_in}
+use Rattle.clobber_log.specs.Reset.{reset_events}
+use Rattle.clobber_log.specs.Restore.{word_in_record, old_in_record, restore_events}
+use Rattle.pm_machine.specs.declared.effect.Effect.{Effect}
+use Rattle.pm_machine.specs.declared.effect.End.{End}
+use Rattle.pm_machine.specs.declared.image.Image.{Image}
+use Rattle.pm_machine.specs.Effects.{heap_end}
+use Rattle.pm_machine.specs.Inputs.{AreAlike}
+use Rattle.pm_machine.specs.Machine.{Finished, mrun, start}
+use Rattle.pm_machine.specs.Runs.{heap_in}
+use Rattle.crash_law.specs.Pools.{Pool, Call, Owed}
+use Rattle.crash_law.specs.Due as crash
+use Rattle.crash_law.specs.Law.{IsEnd}
+use Rattle.crash_law.proofs.Redo as whole
+use Rattle.run_law.specs.Seen.{trace_in, result_of, E, W}
+use Rattle.run_law.specs.Sound.{IsSoundRun}
+use Rattle.run_law.proofs.Join.{join}
+use Rattle.run_law.proofs.Runs.{run_is, restored_alike}
+use Rattle.tx_run.specs.Due as plays
+use Rattle.recovery.specs.Due.{due_reset, due_back, due_redo}
+use Rattle.cut_law.specs.Law.{call_of, pool_with}
+use Rattle.cut_law.proofs.Misses.{view_missed, view_one}
+use Rattle.cut_law.proofs.Dues.{attempt_small, count_same, run_same}
+use Rattle.cut_law.proofs.Backs.{misses_restore, restore_same, heap_restored}
+
+module _ (image : Image) (super : Words) (tx : ℕ) (args : List ℤ) (c : Cache) (one : Words) (d : ℕ) (h : Words) (end : End) (es : List Effect)
+    (few : length args ≤ 22) (only : HasOne c one) (owed : Owed (pool_with image super) (call_of d tx args) (E es) (W es) h one)
+    (ran : mrun image image.parts.most h tx args ≡ Finished end es) (sound : IsSoundRun end es) where
+  abbrev z : Sizes
+  z = image.parts.sizes
+
+  abbrev l : Layout
+  l = pool_of z
+
+  abbrev a : ℕ
+  a = owed.attempt
+
+  abbrev r : Words
+  r = restored l a one
+
+  abbrev words : ℕ → ℤ
+  words = λ j. one (at l (RecordWord j))
+
+  abbrev olds : ℕ → ℤ
+  olds = λ j. one (at l (RecordOld j))
+
+  abbrev heap_now : Words
+  heap_now = λ w. one (at l (Heap w))
+
+  seen : view c ≡ one
+  seen = λ i p. view_one c one only p i
+
+  alike : AreAlike (heap_words z) es h r
+  alike = restored_alike (heap_words z) es h r (λ w less kept. owed.restores w less kept)
+
+  attempt_fits : a ≤ 2 ^ 62
+  attempt_fits = owed.attempt_fits
+
+  attempt_one : attempt_in z one ≡ a
+  attempt_one = ap attempt_of owed.attempt_is ∙ attempt_small a (omega arith)
+
+  counted_in : (n : ℕ) → count l a one ≡ n → count_in z one ≡ n
+  counted_in n counted = ap (λ (b : ℕ). count l b one) attempt_one ∙ counted
+
+  restored_is : (n : ℕ) → count l a one ≡ n → (w : ℕ) → r w ≡ undone words olds n heap_now w
+  unfolding restored
+  restored_is n counted w = ap (λ (m : ℕ). undone words olds m heap_now w) counted
+
+  abbrev run_list : ℕ → List CacheEvent
+  run_list b = crash.due_run l b (suc d) r (result_of end) (trace_in es)
+
+  -- no record is valid
+  pub none_same : count l a one ≡ 0 → plays.due_run image (start image tx args) c ≡ run_list a
+  none_same counted =
+      run_same image tx args c d a h r end es owed.done_fits attempt_fits
+      (ap (λ (v : Words). v 17) seen ∙ owed.done) (ap (λ (v : Words). v 18) seen ∙ owed.attempt_is)
+      (ap (λ (v : Words). count_in z v) seen ∙ counted_in 0 counted)
+      (λ i w. (view_one c one only (at l (Heap w)) ∙ sym (restored_is 0 counted w)) i) alike ran sound
+
+  -- some are
+  module _ (m : ℕ) (counted : count l a one ≡ suc m) (lower : a < 2 ^ 62) where
+    log : LogIs l a (suc m) one
+    log = log_is l a (suc m) one owed.log counted
+
+    in_heap : (j : ℕ) → j < suc m → (u : ℕ) × (words j ≡ pos u) × (u < heap_words z)
+    in_heap j less = owed.in_heap j (let e = counted in omega arith)
+
+    abbrev first : List CacheEvent
+    first = restore_events z one
+
+    abbrev reset : List CacheEvent
+    reset = reset_events z a
+
+    abbrev middle : Cache
+    middle = play c first
+
+    abbrev behind : Cache
+    behind = play middle reset
+
+    attempt_middle : attempt_in z (view middle) ≡ a
+    attempt_middle = ap attempt_of (view_missed first c 18 (misses_restore z 18 one (omega arith)) ∙ ap (λ (v : Words). v 18) seen) ∙ attempt_one
+
+    back_is : due_back z (suc m) c ≡ first ++ reset
+    back_is =
+        ap (λ (v : Words). restore_events z v ++ due_reset z (play c (restore_events z v))) seen
+        ∙ ap (λ (b : ℕ). first ++ reset_events z b) attempt_middle
+
+    -- behind the reset
+    reset_other : (p : ℕ) → p ≢ 18 → view behind p ≡ view middle p
+    reset_other p ne =
+        view_fence (apply (apply middle (Store 18 (pos (a + 1)))) (Flush 2)) p ∙ view_flush (apply middle (Store 18 (pos (a + 1)))) 2 p ∙ view_other middle 18 p (pos (a + 1)) ne
+
+    attempt_behind : view behind 18 ≡ pos (suc a)
+    attempt_behind =
+        view_fence (apply (apply middle (Store 18 (pos (a + 1)))) (Flush 2)) 18 ∙ view_flush (apply middle (Store 18 (pos (a + 1)))) 2 18 ∙ view_same middle 18 (pos (a + 1))
+        ∙ ap pos (let e : a + 1 ≡ suc a = omega arith in e)
+
+    low_behind : (p : ℕ) → p < 48 → p ≢ 18 → view behind p ≡ one p
+    low_behind p less ne = reset_other p ne ∙ view_missed first c p (misses_restore z p one (omega arith)) ∙ view_one c one only p
+
+    heap_behind : heap_in z behind ≡ r
+    heap_behind = λ i w. (
+        reset_other (at l (Heap w)) (λ e. absurd (omega arith))
+        ∙ heap_restored z one (suc m) c w (counted_in (suc m) counted) in_heap
+        ∙ ap (λ (g : Words). undone words olds (suc m) g w) (λ j v. view_one c one only (at l (Heap v)) j)
+        ∙ sym (restored_is (suc m) counted w)
+        ) i
+
+    attempt_in_behind : attempt_in z (view behind) ≡ suc a
+    attempt_in_behind = ap attempt_of attempt_behind ∙ attempt_small (suc a) (omega arith)
+
+    -- no stamp is that of the next attempt
+    none_valid : (j : ℕ) → 0 ≤ j → j < z.records → view behind (at l (RecordStamp j)) ≡ pos (suc (suc a)) → ⊥
+    none_valid j ge less e =
+        let stamp = owed.log.stamps j less in
+        let same : view behind (at l (RecordStamp j)) ≡ one (at l (RecordStamp j)) =
+        reset_other (at l (RecordStamp j)) (λ f. absurd (omega arith)) ∙ view_missed first c (at l (RecordStamp j)) (misses_restore z (at l (RecordStamp j)) one (omega arith)) ∙ view_one c one only (at l (RecordStamp j)) in
+        let is : stamp.0 ≡ suc (suc a) = pos_inj stamp.0 (suc (suc a)) (sym stamp.2 ∙ sym same ∙ e) in
+        let most = stamp.1 in
+        absurd (omega arith)
+
+    empty_behind : count_in z (view behind) ≡ 0
+    empty_behind =
+        ap (λ (b : ℕ). count l b (view behind)) attempt_in_behind
+        ∙ count_is l (suc a) 0 (view behind) (omega arith) (λ j less. absurd (omega arith)) none_valid
+
+    behind_is : play c (due_back z (suc m) c) ≡ behind
+    behind_is = ap (play c) back_is ∙ play_append c first reset
+
+    pub some_same : due_redo image tx args (suc m) c ≡ crash.redo_events l a (suc d) one (suc m) (result_of end) (trace_in es)
+    some_same =
+        ap (λ (b : Cache). due_back z (suc m) c ++ plays.due_run image (start image tx args) b) behind_is
+        ∙ ap (λ (es : List CacheEvent). es ++ plays.due_run image (start image tx args) behind) back_is
+        ∙ ap (λ (rest : List CacheEvent). (first ++ reset) ++ rest)
+        (run_same image tx args behind d (suc a) h r end es owed.done_fits (omega arith)
+        (low_behind 17 (omega arith) (λ e. absurd (omega arith)) ∙ owed.done) attempt_behind empty_behind heap_behind alike ran sound)
+        ∙ append_assoc first reset (run_list (suc a))
+        ∙ restore_same z one m (reset ++ run_list (suc a)) (counted_in (suc m) counted) in_heap
+        ∙ ap (λ (b : ℕ). crash.restore_events l words olds (suc m) (Fence ∷ Store 18 (pos b) ∷ Flush 2 ∷ Fence ∷ run_list (suc a))) (let e : a + 1 ≡ suc a = omega arith in e)
+
+  events_same : (n : ℕ) → count l a one ≡ n → (0 < n → a < 2 ^ 62) → due_redo image tx args n c ≡ crash.redo_events l a (suc d) one n (result_of end) (trace_in es)
+  events_same zero counted room = none_same counted
+  events_same (suc m) counted room = some_same m counted (room (omega arith))
+
+  abbrev Left : Words → Words → Type 0
+  Left g other = Owed (pool_with image super) (call_of d tx args) (E es) (W es) h other ⊎ IsEnd (pool_with image super) (call_of d tx args) g (result_of end) other
+
+  pub cut_redo : (n : ℕ) → count l a one ≡ n → (0 < n → a < 2 ^ 62) →
+      during c (due_redo image tx args n c) (Images (Left (heap_end h es)))
+      × Images (IsEnd (pool_with image super) (call_of d tx args) (heap_end h es) (result_of end)) (play c (due_redo image tx args n c))
+  cut_redo n counted room =
+      subst (λ (g : Words). during c (due_redo image tx args n c) (Images (Left g))
+      × Images (IsEnd (pool_with image super) (call_of d tx args) g (result_of end)) (play c (due_redo image tx args n c)))
+      (sym (join z a h end es sound.paired sound.tidy).1)
+      (subst (λ (events : List CacheEvent). during c events (Images (Left (crash.heap_after h (trace_in es))))
+      × Images (IsEnd (pool_with image super) (call_of d tx args) (crash.heap_after h (trace_in es)) (result_of end)) (play c events))
+      (sym (events_same n counted room))
+      (whole.cut_redo (pool_with image super) (call_of d tx args) (E es) (W es) h (result_of end) (trace_in es) (omega arith)
+      (run_is image super image.parts.most (start image tx args) h end es tt ran sound) one owed n counted room c only))

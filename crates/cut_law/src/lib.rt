@@ -1,0 +1,14 @@
+//! What a cut of a call or of a recovery leaves. It stands on `tx_run` and `recovery`, whose calls play
+//! exactly what is due, and on the laws of `run_law` and `crash_law`. Its one contract for the crates
+//! above: each event leaves the pool as it was, or the call owed, or at its end.
+#![tactic(auto)]
+
+ghost use Rattle.cut_law.specs.Law.{DueCallLaw, CutCallLaw, CutRedoLaw};
+
+/// What a call and a recovery play are the crash law's due lists; so each of their events leaves only
+/// images that the law names. It does nothing.
+pub fn law()
+    ensures due { DueCallLaw }
+    ensures cut { CutCallLaw }
+    ensures redo { CutRedoLaw }
+{}
