@@ -12,13 +12,15 @@ use Rattle.pool_layout.specs.Log.{count}
 use Rattle.clobber_log.specs.Logs.{attempt_of, attempt_in, count_in}
 use Rattle.pm_machine.specs.declared.effect.Effect.{Effect}
 use Rattle.pm_machine.specs.declared.effect.End.{End}
+use Rattle.pm_machine.specs.declared.effect.End.TheVariants.{Halted}
 use Rattle.pm_machine.specs.declared.image.Image.{Image}
 use Rattle.pm_machine.specs.Effects.{heap_end}
 use Rattle.pm_machine.specs.Machine.{Finished, mrun, start}
 use Rattle.pm_machine.specs.Runs.{heap_in}
 use Rattle.crash_law.specs.Pools.{Pool, Call, Good}
 use Rattle.crash_law.specs.Due as crash
-use Rattle.crash_law.specs.Law.{IsCut, IsEnd}
+use Rattle.crash_law.specs.Law.{IsCut, IsEnd, IsAtRest}
+use Rattle.crash_law.proofs.Rest.{call_rest}
 use Rattle.crash_law.proofs.Whole as whole
 use Rattle.run_law.specs.Seen.{trace_in, result_of, E, W}
 use Rattle.run_law.specs.Sound.{IsSoundRun}
@@ -72,3 +74,9 @@ module _ (image : Image) (super : Words) (tx : ℕ) (args : List ℤ) (c : Cache
       (sym same)
       (whole.cut_call pool call (E es) (W es) h (result_of end) (trace_in es) (omega arith) (omega arith)
       (run_is image super image.parts.most (start image tx args) h end es tt ran sound) c one only good (omega arith) empty))
+
+  pub call_at_rest : (v : ℤ) → end ≡ Halted v → IsAtRest c → IsAtRest (play c (due_call image tx args c))
+  call_at_rest v is rest =
+      subst (λ (events : List CacheEvent). IsAtRest (play c events))
+      (sym (same ∙ ap (λ (e : End). crash.due_call (pool_of z) good.attempt call h (result_of e) (trace_in es)) is))
+      (call_rest z good.attempt call h v (trace_in es) c rest)

@@ -3,3 +3,5 @@ pub mod Dues
 pub mod Cuts
 pub mod Backs
 pub mod Redoes
+pub mod Cleans
+pub mod Recoveries

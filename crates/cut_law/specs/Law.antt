@@ -1,6 +1,6 @@
 -- What a call and a recovery play are the due lists of the crash law, so each of their events leaves one of the images that the
 -- law names.
-use Rattle.std.specs.Prelude.{ℕ, suc, ◌^◌, ◌<◌, ◌≤◌, ◌≡◌, ◌⊎◌, List, ◌∷◌, length, slice_index_or, ℤ, pos}
+use Rattle.std.specs.Prelude.{ℕ, zero, suc, ◌^◌, ◌<◌, ◌≤◌, ◌≡◌, ◌⊎◌, List, ◌∷◌, length, slice_index_or, ℤ, pos}
 use Rattle.cache_model.specs.Cache.{Words, Cache, view}
 use Rattle.cache_model.specs.Play.{play}
 use Rattle.cache_model.specs.Image.{Images, HasOne}
@@ -11,17 +11,18 @@ use Rattle.pool_layout.specs.Log.{count}
 use Rattle.clobber_log.specs.Logs.{attempt_in, count_in}
 use Rattle.pm_machine.specs.declared.effect.Effect.{Effect}
 use Rattle.pm_machine.specs.declared.effect.End.{End}
+use Rattle.pm_machine.specs.declared.effect.End.TheVariants.{Halted}
 use Rattle.pm_machine.specs.declared.image.Image.{Image}
 use Rattle.pm_machine.specs.Effects.{heap_end}
 use Rattle.pm_machine.specs.Machine.{Finished, mrun}
 use Rattle.pm_machine.specs.Runs.{heap_in}
 use Rattle.crash_law.specs.Pools.{Pool, Call, Good, Owed}
 use Rattle.crash_law.specs.Due as crash
-use Rattle.crash_law.specs.Law.{IsCut, IsEnd}
+use Rattle.crash_law.specs.Law.{IsCut, IsEnd, IsClean, IsAtRest, IsLeft, collapsed}
 use Rattle.run_law.specs.Seen.{trace_in, result_of, E, W}
 use Rattle.run_law.specs.Sound.{IsSoundRun}
 use Rattle.tx_run.specs.Due.{due_call}
-use Rattle.recovery.specs.Due.{due_redo}
+use Rattle.recovery.specs.Due.{due_clean, due_redo}
 
 -- the call of a transaction behind d finished ones
 abbrev pub call_of : ℕ → (tx : ℕ) → List ℤ → Call
@@ -61,3 +62,44 @@ CutRedoLaw =
     (n : ℕ) → count (pool_of image.parts.sizes) owed.attempt one ≡ n → (0 < n → owed.attempt < 2 ^ 62) →
     during c (due_redo image tx args n c) (Images (λ other. Owed (pool_with image super) (call_of d tx args) (E es) (W es) h other ⊎ IsEnd (pool_with image super) (call_of d tx args) (heap_end h es) (result_of end) other))
     × Images (IsEnd (pool_with image super) (call_of d tx args) (heap_end h es) (result_of end)) (play c (due_redo image tx args n c))
+
+-- The recovery of a pool at rest with n valid records leaves it at rest at each event, and behind all of them with no record.
+abbrev pub CutCleanLaw : Type 0
+CutCleanLaw =
+    (image : Image) (super : Words) (c : Cache) (one : Words) (d : ℕ) (h : Words) →
+    HasOne c one → (good : Good (pool_with image super) d h one) →
+    (n : ℕ) → count (pool_of image.parts.sizes) good.attempt one ≡ n → (0 < n → good.attempt < 2 ^ 62) →
+    during c (due_clean image.parts.sizes n c) (Images (Good (pool_with image super) d h))
+    × Images (IsClean (pool_with image super) d h) (play c (due_clean image.parts.sizes n c))
+
+-- Behind a call that halts each line has one version, where it had one before.
+abbrev pub RestCallLaw : Type 0
+RestCallLaw =
+    (image : Image) (super : Words) (tx : ℕ) (args : List ℤ) (c : Cache) (one : Words) (d : ℕ) (end : End) (es : List Effect) →
+    tx < 2 ^ 63 → length args ≤ 22 → d < 2 ^ 62 → HasOne c one →
+    (good : Good (pool_with image super) d (heap_in image.parts.sizes c) one) → good.attempt < 2 ^ 62 → count (pool_of image.parts.sizes) good.attempt one ≡ 0 →
+    mrun image image.parts.most (heap_in image.parts.sizes c) tx args ≡ Finished end es → IsSoundRun end es →
+    (v : ℤ) → end ≡ Halted v → IsAtRest c → IsAtRest (play c (due_call image tx args c))
+
+-- A recovery of one image, where the call is owed, is cut at some event, and power leaves the other.
+pub record IsRecoveredTo (image : Image) (super : Words) (tx : ℕ) (args : List ℤ) (d : ℕ) (h : Words) (es : List Effect) (one other : Words) : Type 0 where
+  pub owed : Owed (pool_with image super) (call_of d tx args) (E es) (W es) h one
+  pub n : ℕ
+  pub counted : count (pool_of image.parts.sizes) owed.attempt one ≡ n
+  pub room : 0 < n → owed.attempt < 2 ^ 62
+  pub left : IsLeft (collapsed one) (due_redo image tx args n (collapsed one)) other
+
+-- k of them in a row
+abbrev pub AreRecoveredTo : Image → Words → (tx : ℕ) → List ℤ → (d : ℕ) → Words → List Effect → ℕ → Words → Words → Type 0
+AreRecoveredTo image super tx args d h es zero one other = one ≡ other
+AreRecoveredTo image super tx args d h es (suc k) one other =
+    (next : Words) × IsRecoveredTo image super tx args d h es one next × AreRecoveredTo image super tx args d h es k next other
+
+-- Any number of cuts: however often a recovery is cut, what is left is owed, or is the call's end.
+abbrev pub AgainLaw : Type 0
+AgainLaw =
+    (image : Image) (super : Words) (tx : ℕ) (args : List ℤ) (d : ℕ) (h : Words) (end : End) (es : List Effect) →
+    length args ≤ 22 → mrun image image.parts.most h tx args ≡ Finished end es → IsSoundRun end es →
+    (k : ℕ) (one other : Words) → Owed (pool_with image super) (call_of d tx args) (E es) (W es) h one →
+    AreRecoveredTo image super tx args d h es k one other →
+    Owed (pool_with image super) (call_of d tx args) (E es) (W es) h other ⊎ IsEnd (pool_with image super) (call_of d tx args) (heap_end h es) (result_of end) other

@@ -3,7 +3,7 @@
 //! above: each event leaves the pool as it was, or the call owed, or at its end.
 #![tactic(auto)]
 
-ghost use Rattle.cut_law.specs.Law.{DueCallLaw, CutCallLaw, CutRedoLaw};
+ghost use Rattle.cut_law.specs.Law.{DueCallLaw, CutCallLaw, CutRedoLaw, CutCleanLaw, RestCallLaw, AgainLaw};
 
 /// What a call and a recovery play are the crash law's due lists; so each of their events leaves only
 /// images that the law names. It does nothing.
@@ -11,4 +11,7 @@ pub fn law()
     ensures due { DueCallLaw }
     ensures cut { CutCallLaw }
     ensures redo { CutRedoLaw }
+    ensures clean { CutCleanLaw }
+    ensures rest { RestCallLaw }
+    ensures again { AgainLaw }
 {}

@@ -1,5 +1,7 @@
 use Rattle.cut_law.proofs.Dues.{call_is}
-use Rattle.cut_law.proofs.Cuts.{cut_call}
+use Rattle.cut_law.proofs.Cuts.{cut_call, call_at_rest}
+use Rattle.cut_law.proofs.Cleans.{cut_clean}
+use Rattle.cut_law.proofs.Recoveries.{cut_again}
 use Rattle.cut_law.proofs.Redoes.{cut_redo}
 use Rattle.cut_law.proofs.law.Goals as goal
 
@@ -11,3 +13,12 @@ returns-clause-cut c = cut_call
 
 pub returns-clause-redo : goal.returns-clause-redo
 returns-clause-redo c = cut_redo
+
+pub returns-clause-clean : goal.returns-clause-clean
+returns-clause-clean c = cut_clean
+
+pub returns-clause-rest : goal.returns-clause-rest
+returns-clause-rest c = call_at_rest
+
+pub returns-clause-again : goal.returns-clause-again
+returns-clause-again c = cut_again
