@@ -1,3 +1,5 @@
 pub mod Playing
 pub mod Switch
 pub mod Holding
+pub mod Faults
+pub mod Recoveries

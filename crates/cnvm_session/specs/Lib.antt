@@ -2,3 +2,5 @@ pub mod AnswerText
 pub mod Created
 pub mod Opening
 pub mod Shown
+pub mod Outcomes
+pub mod Commands

@@ -1,16 +1,22 @@
-//! The commands of a script, run on a pool, and what they answer. It stands on `nvm_base`, `pmem` and
-//! `pool_map`. Its one contract for the crates above: `answer_text` writes exactly the line of each
-//! answer, as `specs/AnswerText.antt` has it.
+//! The commands of a script, run on the pool of a program, and what they answer. It stands on `tx_run`
+//! and `recovery`, and on `c_types` for the program's names and shapes. Its one contract for the crates
+//! above: each command does to the session and the device what `specs/Commands.antt` says, and
+//! `answer_text` writes exactly the line of each answer.
 #![tactic(auto)]
 
 mod answer;
 mod creating;
+mod mode;
 mod opening;
+mod outcome;
+mod program;
+mod session;
 mod showing;
 mod text;
 
 pub use answer::Answer;
-pub use creating::{StartFault, create_pool};
-pub use opening::open_pool;
-pub use showing::shown;
+pub use creating::StartFault;
+pub use mode::Mode;
+pub use program::Program;
+pub use session::{Session, create, start_from};
 pub use text::answer_text;

@@ -1,0 +1,85 @@
+-- What each command does in a session: its answer, whether the session takes calls then, and the device.
+use Rattle.std.specs.Prelude.{ℕ, zero, suc, ◌≡◌, ◌==◌, true, false, Bool, List, Option, Some, None, length, map, option_map, slice_get, ℤ}
+use Rattle.cache_model.specs.Cache.{view}
+use Rattle.cache_model.specs.Collapse.{bad, Rises}
+use Rattle.cache_model.specs.declared.choice.Choice.{Choice}
+use Rattle.pmem.specs.Device.{Device, memory_of, powered, with_left, with_armed}
+use Rattle.pool_layout.specs.declared.limits.Sizes.{Sizes}
+use Rattle.pool_map.specs.declared.shapes.Shapes.{Shapes}
+use Rattle.pool_map.specs.PoolFits.{PoolFits}
+use Rattle.pool_map.specs.PoolText.{pool_text}
+use Rattle.c_parser.specs.ItemTree.{FunctionTree}
+use Rattle.c_types.specs.Tables.{index_of}
+use Rattle.c_types.specs.Shapes.{shapes_of, transactions_of}
+use Rattle.pm_machine.specs.declared.image.Image.{Image}
+use Rattle.cnvm_script.specs.declared.command.Command.{Command}
+use Rattle.cnvm_script.specs.declared.command.Command.TheVariants as command
+use Rattle.cnvm_session.specs.declared.mode.Mode.{Mode}
+use Rattle.cnvm_session.specs.declared.mode.Mode.TheVariants.{Ready, Down, Unusable}
+use Rattle.cnvm_session.specs.declared.answer.Answer.{Answer}
+use Rattle.cnvm_session.specs.declared.answer.Answer.TheVariants.{Silent, Shown, Last, NoMemory, RefusedDown, RefusedUnusable, RefusedUnknown, RefusedArity, RefusedPick}
+use Rattle.cnvm_session.specs.declared.program.Program.{Program}
+use Rattle.cnvm_session.specs.Outcomes.{Runs, Recovers}
+use Rattle.cnvm_session.specs.Shown.{heap_of, pool_in}
+
+-- this answer, and nothing changes
+abbrev pub Refused : Answer → Mode → Device → Answer → Mode → Device → Type 0
+Refused why m d a n b = (a ≡ why) × (n ≡ m) × (b ≡ d)
+
+abbrev pub Lasts : Mode → Device → Answer → Mode → Device → Type 0
+Lasts Ready d a n b = (d.on ≡ true → a ≡ Last (view d.cache 17) (view d.cache 16)) × (n ≡ Ready) × (b ≡ d)
+Lasts Down d a n b = Refused RefusedDown Down d a n b
+Lasts (Unusable kind) d a n b = Refused (RefusedUnusable kind) (Unusable kind) d a n b
+
+-- the text of the pool that the heap holds, where it fits the shapes; or there was no memory for it
+abbrev pub Tells : Shapes → Sizes → Device → Answer → Mode → Type 0
+Tells shapes s d (Shown text) n =
+    (d.on ≡ true → PoolFits shapes (pool_in shapes s (heap_of s (view d.cache)))
+    → text ≡ pool_text shapes (pool_in shapes s (heap_of s (view d.cache)))) × (n ≡ Ready)
+Tells shapes s d NoMemory n = n ≡ Down
+Tells shapes s d a n = ⊥
+
+abbrev pub Shows : Shapes → Sizes → Mode → Device → Answer → Mode → Device → Type 0
+Shows shapes s Ready d a n b = Tells shapes s d a n × (b ≡ d)
+Shows shapes s Down d a n b = Refused RefusedDown Down d a n b
+Shows shapes s (Unusable kind) d a n b = Refused (RefusedUnusable kind) (Unusable kind) d a n b
+
+-- the transaction of that name, from 1 on, and how many parameters a transaction of the image has
+abbrev pub number_of : Program → List ℕ → Option ℕ
+number_of program name = option_map suc (index_of name (map (λ (f : FunctionTree). f.name.text) (transactions_of program.typed)))
+
+abbrev pub parameters_of : Image → ℕ → Option ℕ
+parameters_of image zero = None
+parameters_of image (suc i) = option_map (λ e. e.parameters) (slice_get image.parts.txs i)
+
+-- with as many arguments as the transaction has parameters, or not
+abbrev pub CallsWith : Bool → Image → ℕ → List ℤ → Device → Answer → Mode → Device → (k k1 : ℕ) → Type 0
+CallsWith true image tx args d a n b k k1 = Runs image tx args d a n b k k1
+CallsWith false image tx args d a n b k k1 = Refused RefusedArity Ready d a n b
+
+abbrev pub CallsTo : Option ℕ → Image → ℕ → List ℤ → Device → Answer → Mode → Device → (k k1 : ℕ) → Type 0
+CallsTo None image tx args d a n b k k1 = Refused RefusedUnknown Ready d a n b
+CallsTo (Some count) image tx args d a n b k k1 = CallsWith (count == length args) image tx args d a n b k k1
+
+abbrev pub CallsNamed : Option ℕ → Image → List ℤ → Device → Answer → Mode → Device → (k k1 : ℕ) → Type 0
+CallsNamed None image args d a n b k k1 = Refused RefusedUnknown Ready d a n b
+CallsNamed (Some tx) image args d a n b k k1 = CallsTo (parameters_of image tx) image tx args d a n b k k1
+
+abbrev pub Calls : Program → List ℕ → List ℤ → Mode → Device → Answer → Mode → Device → (k k1 : ℕ) → Type 0
+Calls program name args Ready d a n b k k1 = CallsNamed (number_of program name) program.image args d a n b k k1
+Calls program name args Down d a n b k k1 = Refused RefusedDown Down d a n b
+Calls program name args (Unusable kind) d a n b k k1 = Refused (RefusedUnusable kind) (Unusable kind) d a n b
+
+-- A choice with a bad pick changes nothing. Any other leaves the lines, and what is left is recovered.
+abbrev pub Powers : Image → Choice → Mode → Device → Answer → Mode → Device → (k k1 : ℕ) → Type 0
+Powers image choice m d a n b k k1 =
+    ((line : ℕ) → bad (memory_of d) choice.picks ≡ Some line → Refused (RefusedPick line) m d a n b)
+    × (bad (memory_of d) choice.picks ≡ None → Recovers image (powered choice d) a n b k k1)
+
+abbrev pub Commanded : Program → Command → Mode → Device → Answer → Mode → Device → (k k1 : ℕ) → Type 0
+Commanded program (command.Call name args) m d a n b k k1 = Calls program name args m d a n b k k1
+Commanded program (command.Stop left) m d a n b k k1 = Refused Silent m (with_left left d) a n b
+Commanded program (command.Fault at) m d a n b k k1 = Refused Silent m (with_armed at d) a n b
+Commanded program (command.Power choice) m d a n b k k1 = Rises choice.picks → Powers program.image choice m d a n b k k1
+Commanded program command.Show m d a n b k k1 = Shows (shapes_of program.typed) program.image.parts.sizes m d a n b
+Commanded program command.Last m d a n b k k1 = Lasts m d a n b

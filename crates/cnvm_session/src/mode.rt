@@ -1,0 +1,13 @@
+//! Whether a session takes calls.
+
+use pool_map::TrapKind;
+
+/// Whether a session takes calls.
+#[derive(Clone, Copy, Debug, PartialEq, Eq, Drop)]
+pub enum Mode {
+    Ready,
+    /// A command was interrupted; only `power` ends this.
+    Down,
+    /// A transaction trapped in this pool.
+    Unusable(TrapKind),
+}

@@ -1,0 +1,321 @@
+//! A session: a pool of a program, and what each command does to it.
+
+ghost use Rattle.std.specs.Prelude.{◌≡◌, ◌+◌, ◌≤◌, ◌<◌, true, length, IfOk, IfNone, IsSome, OnOk, IsErrOf};
+ghost use Rattle.cache_model.specs.Cache.{view};
+ghost use Rattle.cache_model.specs.Collapse.{Rises};
+ghost use Rattle.pmem.specs.Device.{Rose, blanked};
+ghost use Rattle.pmem.specs.Played.{PlaysAll};
+ghost use Rattle.pool_layout.specs.Sizes.{pool_lines};
+ghost use Rattle.cnvm_session.specs.Created.{creation_events};
+ghost use Rattle.c_types.specs.Shapes.{shapes_of};
+ghost use Rattle.cnvm_session.specs.Outcomes.{Runs, Recovers, Opens};
+ghost use Rattle.cnvm_session.specs.Commands.{Lasts, Shows, parameters_of, CallsTo, Calls, Powers, Commanded};
+
+use crate::answer::Answer;
+use crate::creating::{StartFault, create_pool};
+use crate::mode::Mode;
+use crate::opening::open_pool;
+use crate::outcome::{answer_of_call, answer_of_recovery, mode_of_call, mode_of_recovery};
+use crate::program::Program;
+use crate::showing::shown;
+use cache_model::{Choice, Pick};
+use cnvm_script::Command;
+use nvm_base::Steps;
+use pm_machine::Image;
+use pmem::{Pmem, PmemWork};
+use recovery::recover;
+use std::alloc::Global;
+use std::marker::Model;
+use std::sync::ledger::Ledger;
+use tx_run::call;
+
+/// A pool of a program and whether it takes calls, seen as that. The words are on the device.
+#[derive(Drop)]
+pub struct Session {
+    mode: Mode,
+}
+
+impl Model for Session {
+    ghost use Rattle.cnvm_session.specs.declared.mode.Mode.{Mode};
+
+    ghost Value = { Mode };
+
+    ghost view = { λ s. s.mode };
+}
+
+/// A session over a new pool of the program: its root words are 0, its slots are free, and no
+/// transaction is finished. After a fault the events so far stand; where there was no memory for the
+/// lines, nothing has changed.
+pub fn create<P: Pmem>(program: &Program, dev: &mut P) -> Result<Session, StartFault>
+    ensures ready { IfOk result (λ session. session ≡ Mode.Ready) }
+    ensures done { OnOk result (PlaysAll (blanked (pool_lines program.now.image.parts.sizes) (P.device dev.old)) (creation_events program.now.image.parts.sizes program.now.digest) (P.device dev.new)) }
+    ensures lines { OnOk result ((P.device dev.new).lines ≡ pool_lines program.now.image.parts.sizes) }
+    ensures failed { IsErrOf result StartFault.Failed → Rose (P.device dev.old).faults (P.device dev.new).faults }
+{
+    match create_pool(program.image.sizes(), &program.digest, dev) {
+        Ok(()) => Ok(Session { mode: Mode::Ready }),
+        Err(fault) => Err(fault),
+    }
+}
+
+/// A session over the pool that an image's words are, and the answer of the recovery that opens it.
+/// After a fault the events so far stand; where there was no memory for the lines, nothing has
+/// changed.
+pub fn start_from<P: Pmem, L: Ledger>(
+    alloc: Global,
+    program: &Program,
+    words: &[i64],
+    dev: &mut P,
+    steps: &mut Steps<L>,
+) -> Result<(Session, Answer), StartFault>
+    ensures opens { IfOk result (λ r. Opens program.now.image words.now (P.device dev.old) r.1 r.0 (P.device dev.new) steps.old steps.new) }
+    ensures most { OnOk result (steps.new ≤ steps.old + program.now.image.parts.sizes.records + program.now.image.parts.most) }
+    ensures lines { OnOk result ((P.device dev.new).lines ≡ pool_lines program.now.image.parts.sizes) }
+    ensures failed { IsErrOf result StartFault.Failed → Rose (P.device dev.old).faults (P.device dev.new).faults }
+{
+    match open_pool(program.image.sizes(), words, dev) {
+        Err(fault) => Err(fault),
+        Ok(()) => {
+            let mut session = Session { mode: Mode::Down };
+            let answer = session.recover(alloc, &program.image, dev, steps);
+            Ok((session, answer))
+        }
+    }
+}
+
+/// How many parameters a transaction of the image has, for any number.
+fn parameters(image: &Image, tx: u64) -> Option<u64>
+    ensures value { result ≡ parameters_of image.now tx }
+    ensures first { IsSome result → 1 ≤ tx }
+    ensures last { IsSome result → tx ≤ length image.now.parts.txs }
+{
+    if tx < 1 || image.txs() < tx {
+        None
+    } else {
+        Some(image.parameters(tx))
+    }
+}
+
+/// The line of the first pick whose line isn't above that of the pick before it.
+fn first_fallen(picks: &[Pick]) -> Option<u64>
+    ensures none { IfNone result (Rises picks.now) }
+    ensures some { IsSome result → Rises picks.now → ⊥ }
+{
+    let mut next: u128 = 0;
+    for pick in picks {
+        if u128::from(pick.line) < next {
+            return Some(pick.line);
+        }
+        next = u128::from(pick.line) + 1;
+    }
+    None
+}
+
+impl Session {
+    /// What a command of the script does, and its answer. A choice whose picks don't rise, which no
+    /// script gives, is refused with the first pick that doesn't. A transaction that the image hasn't
+    /// is unknown.
+    pub fn command<P: Pmem, L: Ledger>(
+        &mut self,
+        alloc: Global,
+        program: &Program,
+        command: &Command,
+        dev: &mut P,
+        steps: &mut Steps<L>,
+    ) -> Answer
+        requires lines { (P.device dev.old).lines ≡ pool_lines program.now.image.parts.sizes }
+        ensures does { Commanded program.now command.now self.old (P.device dev.old) result self.new (P.device dev.new) steps.old steps.new }
+        ensures count { (P.device dev.old).faults ≤ (P.device dev.new).faults }
+        ensures fault { result ≡ Answer.DeviceFault → Rose (P.device dev.old).faults (P.device dev.new).faults }
+        ensures most { steps.new ≤ steps.old + program.now.image.parts.sizes.records + program.now.image.parts.most }
+        ensures lines { (P.device dev.new).lines ≡ (P.device dev.old).lines }
+    {
+        match command {
+            Command::Call { name, args } => {
+                self.call(alloc, program, name.as_str(), args.as_slice(), dev, steps)
+            }
+            Command::Stop(k) => {
+                dev.arm(*k);
+                Answer::Silent
+            }
+            Command::Fault(k) => {
+                dev.arm_fault(*k);
+                Answer::Silent
+            }
+            Command::Power(choice) => self.power(alloc, program, choice, dev, steps),
+            Command::Show => self.show(alloc, program, dev),
+            Command::Last => self.last(dev),
+        }
+    }
+
+    /// A call of the transaction of that name.
+    fn call<P: PmemWork, L: Ledger>(
+        &mut self,
+        alloc: Global,
+        program: &Program,
+        name: &str,
+        args: &[i64],
+        dev: &mut P,
+        steps: &mut Steps<L>,
+    ) -> Answer
+        requires lines { (P.device dev.old).lines ≡ pool_lines program.now.image.parts.sizes }
+        ensures calls { Calls program.now name.now args.now self.old (P.device dev.old) result self.new (P.device dev.new) steps.old steps.new }
+        ensures count { (P.device dev.old).faults ≤ (P.device dev.new).faults }
+        ensures fault { result ≡ Answer.DeviceFault → Rose (P.device dev.old).faults (P.device dev.new).faults }
+        ensures most { steps.new ≤ steps.old + program.now.image.parts.most }
+        ensures lines { (P.device dev.new).lines ≡ (P.device dev.old).lines }
+    {
+        match self.mode {
+            Mode::Down => Answer::RefusedDown,
+            Mode::Unusable(kind) => Answer::RefusedUnusable(kind),
+            Mode::Ready => match program.typed.tx_number(name) {
+                None => Answer::RefusedUnknown,
+                Some(tx) => self.call_to(alloc, &program.image, tx, args, dev, steps),
+            },
+        }
+    }
+
+    /// A call of a transaction by its number, in a session that is ready.
+    fn call_to<P: PmemWork, L: Ledger>(
+        &mut self,
+        alloc: Global,
+        image: &Image,
+        tx: u64,
+        args: &[i64],
+        dev: &mut P,
+        steps: &mut Steps<L>,
+    ) -> Answer
+        requires ready { self.old ≡ Mode.Ready }
+        requires lines { (P.device dev.old).lines ≡ pool_lines image.now.parts.sizes }
+        ensures calls { CallsTo (parameters_of image.now tx) image.now tx args.now (P.device dev.old) result self.new (P.device dev.new) steps.old steps.new }
+        ensures count { (P.device dev.old).faults ≤ (P.device dev.new).faults }
+        ensures fault { result ≡ Answer.DeviceFault → Rose (P.device dev.old).faults (P.device dev.new).faults }
+        ensures most { steps.new ≤ steps.old + image.now.parts.most }
+        ensures lines { (P.device dev.new).lines ≡ (P.device dev.old).lines }
+    {
+        let Some(count) = parameters(image, tx) else {
+            return Answer::RefusedUnknown;
+        };
+        if count != args.len() as u64 {
+            return Answer::RefusedArity;
+        }
+        self.run(alloc, image, tx, args, dev, steps)
+    }
+
+    /// A call that is accepted.
+    fn run<P: PmemWork, L: Ledger>(
+        &mut self,
+        alloc: Global,
+        image: &Image,
+        tx: u64,
+        args: &[i64],
+        dev: &mut P,
+        steps: &mut Steps<L>,
+    ) -> Answer
+        requires ready { self.old ≡ Mode.Ready }
+        requires first { 1 ≤ tx }
+        requires last { tx ≤ length image.now.parts.txs }
+        requires lines { (P.device dev.old).lines ≡ pool_lines image.now.parts.sizes }
+        ensures runs { Runs image.now tx args.now (P.device dev.old) result self.new (P.device dev.new) steps.old steps.new }
+        ensures count { (P.device dev.old).faults ≤ (P.device dev.new).faults }
+        ensures fault { result ≡ Answer.DeviceFault → Rose (P.device dev.old).faults (P.device dev.new).faults }
+        ensures most { steps.new ≤ steps.old + image.now.parts.most }
+        ensures lines { (P.device dev.new).lines ≡ (P.device dev.old).lines }
+    {
+        let behind = call(alloc, image, tx, args, dev, steps);
+        self.mode = mode_of_call(behind);
+        answer_of_call(behind)
+    }
+
+    /// A power cut, and the recovery of what it leaves.
+    fn power<P: Pmem, L: Ledger>(
+        &mut self,
+        alloc: Global,
+        program: &Program,
+        choice: &Choice,
+        dev: &mut P,
+        steps: &mut Steps<L>,
+    ) -> Answer
+        requires lines { (P.device dev.old).lines ≡ pool_lines program.now.image.parts.sizes }
+        ensures powers { Rises choice.now.picks → Powers program.now.image choice.now self.old (P.device dev.old) result self.new (P.device dev.new) steps.old steps.new }
+        ensures count { (P.device dev.old).faults ≤ (P.device dev.new).faults }
+        ensures fault { result ≡ Answer.DeviceFault → Rose (P.device dev.old).faults (P.device dev.new).faults }
+        ensures most { steps.new ≤ steps.old + program.now.image.parts.sizes.records + program.now.image.parts.most }
+        ensures lines { (P.device dev.new).lines ≡ (P.device dev.old).lines }
+    {
+        if let Some(line) = first_fallen(choice.picks.as_slice()) {
+            return Answer::RefusedPick(line);
+        }
+        match dev.power(choice) {
+            Err(pick) => Answer::RefusedPick(pick.line),
+            Ok(()) => self.recover(alloc, &program.image, dev, steps),
+        }
+    }
+
+    /// The recovery of what a power cut left.
+    fn recover<P: PmemWork, L: Ledger>(
+        &mut self,
+        alloc: Global,
+        image: &Image,
+        dev: &mut P,
+        steps: &mut Steps<L>,
+    ) -> Answer
+        requires lines { (P.device dev.old).lines ≡ pool_lines image.now.parts.sizes }
+        ensures recovers { Recovers image.now (P.device dev.old) result self.new (P.device dev.new) steps.old steps.new }
+        ensures count { (P.device dev.old).faults ≤ (P.device dev.new).faults }
+        ensures fault { result ≡ Answer.DeviceFault → Rose (P.device dev.old).faults (P.device dev.new).faults }
+        ensures most { steps.new ≤ steps.old + image.now.parts.sizes.records + image.now.parts.most }
+        ensures lines { (P.device dev.new).lines ≡ (P.device dev.old).lines }
+    {
+        let behind = recover(alloc, image, dev, steps);
+        self.mode = mode_of_recovery(behind);
+        answer_of_recovery(behind)
+    }
+
+    /// The lines of the pool.
+    fn show<P: PmemWork>(&mut self, alloc: Global, program: &Program, dev: &P) -> Answer
+        requires lines { (P.device dev.now).lines ≡ pool_lines program.now.image.parts.sizes }
+        ensures shows { Shows (shapes_of program.now.typed) program.now.image.parts.sizes self.old (P.device dev.now) result self.new (P.device dev.now) }
+    {
+        match self.mode {
+            Mode::Down => Answer::RefusedDown,
+            Mode::Unusable(kind) => Answer::RefusedUnusable(kind),
+            Mode::Ready => match shown(alloc, program.image.sizes(), dev, program.typed.shapes()) {
+                Ok(text) => Answer::Shown(text),
+                Err(_) => {
+                    self.mode = Mode::Down;
+                    Answer::NoMemory
+                }
+            },
+        }
+    }
+
+    /// How many transactions are finished, and the value of the last.
+    fn last<P: PmemWork>(&self, dev: &P) -> Answer
+        requires lines { 6 ≤ (P.device dev.now).lines }
+        ensures fault { result ≡ Answer.DeviceFault → ⊥ }
+        ensures lasts { Lasts self.now (P.device dev.now) result self.now (P.device dev.now) }
+    {
+        match self.mode {
+            Mode::Down => Answer::RefusedDown,
+            Mode::Unusable(kind) => Answer::RefusedUnusable(kind),
+            Mode::Ready => {
+                let done = word(dev, 17);
+                let value = word(dev, 16);
+                Answer::Last { done, value }
+            }
+        }
+    }
+}
+
+/// A word of line 2, and 0 while the device is off.
+fn word<P: PmemWork>(dev: &P, place: u64) -> i64
+    requires place { place < 24 }
+    requires lines { 6 ≤ (P.device dev.now).lines }
+    ensures { (P.device dev.now).on ≡ true → result ≡ view (P.device dev.now).cache place }
+{
+    match dev.load(place) {
+        Some(word) => word,
+        None => 0,
+    }
+}
