@@ -1,6 +1,6 @@
 //! Functions and whole programs of three-address code.
 
-ghost use Rattle.std.specs.Prelude.{[], ◌∷◌, ◌++◌, ◌≡◌, OnOk, OnErr};
+ghost use Rattle.std.specs.Prelude.{[], ◌∷◌, ◌++◌, ◌≡◌, ◌<◌, length, slice_set, OnOk, OnErr};
 
 use crate::instruction::Instruction;
 use nvm_base::Text;
@@ -46,6 +46,14 @@ impl Instructions {
         ensures { result.now ≡ self.now }
     {
         &self.all
+    }
+
+    /// Writes another instruction at a place.
+    pub fn set(&mut self, place: u32, instruction: Instruction)
+        requires { place < length self.old }
+        ensures { self.new ≡ slice_set self.old place instruction }
+    {
+        self.all[place as usize] = instruction;
     }
 }
 

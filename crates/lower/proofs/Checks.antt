@@ -1,0 +1,25 @@
+-- From tests of lists to what holds of each element.
+use Rattle.std.proofs.Common.{◌≡◌, ℕ, zero, suc, ◌+◌, ◌-◌, ◌<◌, List, [], ◌∷◌, length, get_or, drop, refl, ap, arith}
+use Rattle.std.specs.Prelude.{Option, None, Some, slice_get}
+use Rattle.std.specs.List.{AllByRecursion}
+use Rattle.c_types.proofs.Elements.{drop_at}
+use Rattle.ir.specs.declared.instruction.Instruction.{Instruction}
+use Rattle.ir.specs.WellFormed.{EndsWell, IsEnd}
+
+-- what holds of the element here and of those behind it
+pub all_from : {A : Type 0} (P : A → Type 0) (xs : List A) (i : ℕ) (x : A) → i < length xs → x ≡ get_or xs i x → P x → AllByRecursion P (drop (i + 1) xs) → AllByRecursion P (drop i xs)
+all_from P xs i x lt is here behind = rw (drop_at xs i x lt is) (here, behind)
+
+pub ends_well : (xs : List Instruction) (x : Instruction) → slice_get xs (length xs - 1) ≡ Some x → IsEnd x → EndsWell xs
+ends_well [] x is end = absurd (some_none is)
+  where
+    some_none : {x : Instruction} → None ≡ Some x → ⊥
+    some_none e = cc
+ends_well (y ∷ []) x is end = rw (some_same is) end
+  where
+    some_same : Some y ≡ Some x → y ≡ x
+    some_same e = cc
+ends_well (y ∷ z ∷ zs) x is end = ends_well (z ∷ zs) x (one_less is) end
+  where
+    one_less : slice_get (y ∷ z ∷ zs) (length (y ∷ z ∷ zs) - 1) ≡ Some x → slice_get (z ∷ zs) (length (z ∷ zs) - 1) ≡ Some x
+    one_less e = let n : length (y ∷ z ∷ zs) - 1 ≡ suc (length (z ∷ zs) - 1) = omega arith in rw n at e

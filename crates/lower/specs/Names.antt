@@ -1,0 +1,125 @@
+-- The variables that can be seen at a place of a function, and what names mean in the code.
+use Rattle.std.specs.Prelude.{ℕ, suc, ◌+◌, ◌-◌, ◌^◌, min, List, [], ◌∷◌, ◌++◌, bytes_eq, if◌then◌else◌, Option, None, Some, slice_get, unwrap_or}
+use Rattle.std.specs.Option.{option_map_or}
+use Rattle.c_parser.specs.ExprTree.{ExprTree, Ident}
+use Rattle.c_parser.specs.ExprTree as expr
+use Rattle.c_types.specs.declared.value_type.ValueType.{ValueType}
+use Rattle.c_types.specs.declared.value_type.ValueType.TheVariants.{Int, Pointer, Null, Any}
+use Rattle.c_types.specs.Tables.{Tables, StructTree, index_of, field_names, struct_named, root_struct, number_at, function_names}
+use Rattle.c_types.specs.Expressions.{Scope}
+use Rattle.c_types.specs.Statements as scopes
+use Rattle.ir.specs.declared.instruction.Target.{Target}
+use Rattle.ir.specs.declared.instruction.Target.TheVariants.{Root, Field}
+
+-- a variable and its register
+pub record Local : Type 0 where
+  pub name : List ℕ
+  pub register : ℕ
+
+-- the open scopes from the innermost out
+pub record Variables : Type 0 where
+  pub scopes : List Scope
+  pub locals : List (List Local)
+
+-- the number of what isn't there
+abbrev pub nowhere : ℕ
+nowhere = 2 ^ 32 - 1
+
+abbrev pub with_local : List ℕ → ℕ → List Local → List Local
+with_local name register ls = ls ++ record { name = name; register = register } ∷ []
+
+-- a scope of its own inside the others
+abbrev pub inside : Variables → Variables
+inside v = record { scopes = scopes.inside v.scopes; locals = [] ∷ v.locals }
+
+abbrev pub others : List (List Local) → List (List Local)
+others [] = []
+others (l ∷ ls) = ls
+
+-- the scopes round the innermost one
+abbrev pub outer : Variables → Variables
+outer v = record { scopes = scopes.outer v.scopes; locals = others v.locals }
+
+abbrev pub with_name : List ℕ → ℕ → List (List Local) → List (List Local)
+with_name name register [] = []
+with_name name register (l ∷ ls) = with_local name register l ∷ ls
+
+-- a name of the innermost scope, declared with that type, in that register
+abbrev pub declared : List ℕ → ValueType → ℕ → Variables → Variables
+declared name ty register v = record {
+  scopes = scopes.declared name ty v.scopes;
+  locals = with_name name register v.locals;
+}
+
+-- of two declarations in a scope the first counts
+abbrev pub register_in : List ℕ → List Local → Option ℕ
+register_in name [] = None
+register_in name (l ∷ ls) = if bytes_eq name l.name then Some l.register else register_in name ls
+
+abbrev pub or_else : Option ℕ → Option ℕ → Option ℕ
+or_else None other = other
+or_else (Some r) other = Some r
+
+abbrev pub variable_register : List ℕ → List (List Local) → Option ℕ
+variable_register name [] = None
+variable_register name (l ∷ ls) = or_else (register_in name l) (variable_register name ls)
+
+-- the register of the innermost variable of that name
+abbrev pub register_of : List ℕ → Variables → ℕ
+register_of name v = unwrap_or (variable_register name v.locals) nowhere
+
+-- the number of what is found at a place
+abbrev pub number_of : Option ℕ → ℕ
+number_of found = option_map_or (λ n. min n nowhere) found nowhere
+
+-- the number of a function
+abbrev pub function_number : Tables → List ℕ → ℕ
+function_number t name = number_of (index_of name (function_names t))
+
+-- the kind of the objects of a struct
+abbrev pub kind_at : Tables → Option ℕ → ℕ
+kind_at t found = option_map_or (λ i. number_of (Some (number_at t i))) found nowhere
+
+abbrev pub kind_named : Tables → List ℕ → ℕ
+kind_named t name = kind_at t (struct_named t name)
+
+-- the number of a field of the struct at a place
+abbrev pub field_at : Tables → List ℕ → Option ℕ → ℕ
+field_at t name found = option_map_or (λ i. option_map_or (λ s. number_of (index_of name (field_names s))) (slice_get t.structs i) nowhere) found nowhere
+
+-- where a pointer leads
+abbrev pub struct_behind : ValueType → Option ℕ
+struct_behind (Pointer i) = Some i
+struct_behind Int = None
+struct_behind Null = None
+struct_behind Any = None
+
+-- a field of the root
+abbrev pub root_target : Tables → List ℕ → Target
+root_target t name = Root (field_at t name (root_struct t)) None
+
+-- a field of the object that a pointer of that type leads to
+abbrev pub field_target : Tables → ValueType → ℕ → List ℕ → Target
+field_target t ty base name = Field base (kind_at t (struct_behind ty)) (field_at t name (struct_behind ty)) None
+
+-- the element of an array field at the index in a register
+abbrev pub element : Target → ℕ → Target
+element (Root field index) r = Root field (Some r)
+element (Field base kind field index) r = Field base kind field (Some r)
+
+-- what isn't there
+abbrev pub no_target : Target
+no_target = Root nowhere None
+
+-- the name of a variable that stands alone
+abbrev pub variable_of : ExprTree → Option Ident
+variable_of (expr.Variable name) = Some name
+variable_of (expr.Number n) = None
+variable_of expr.Null = None
+variable_of (expr.Call name all) = None
+variable_of (expr.Root name) = None
+variable_of (expr.New place name) = None
+variable_of (expr.Arrow base place name) = None
+variable_of (expr.Index base place index) = None
+variable_of (expr.Unary op place a) = None
+variable_of (expr.Binary op place a b) = None

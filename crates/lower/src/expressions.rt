@@ -1,0 +1,300 @@
+//! The code of expressions. Each function puts code behind what is there and answers the register
+//! that then holds the value: the variable's own, or one that no other expression has.
+
+use crate::code::Code;
+use crate::form::{Form, form_of};
+use crate::names::{element, field_target, function_number, kind_named, no_target, root_target};
+use crate::source::Source;
+use crate::variables::Variables;
+use c_parser::expr::{Argument, BinaryOp, Expr, Name, UnaryOp};
+use ir::{Instruction, Target};
+use nvm_base::{BinOp, Registers};
+use std::alloc::AllocError;
+
+/// The code of an expression.
+#[cycle(expressions)]
+pub fn add_expression(
+    source: &Source<'_, '_>,
+    variables: &Variables<'_>,
+    code: &mut Code,
+    expr: &Expr,
+) -> Result<u32, AllocError> {
+    match expr {
+        Expr::Number(value) => add_constant(source, code, *value),
+        Expr::Null => add_constant(source, code, 0),
+        Expr::Variable(name) => Ok(variables.register_of(name.text.as_str())),
+        Expr::Call { name, arguments } => add_call(source, variables, code, name, arguments),
+        Expr::Root(_) => add_read(source, variables, code, expr),
+        Expr::Arrow { .. } => add_read(source, variables, code, expr),
+        Expr::Index { .. } => add_read(source, variables, code, expr),
+        Expr::New { place, name } => add_new(source, code, *place, name),
+        Expr::Unary { op, operand, .. } => add_unary(source, variables, code, *op, operand),
+        Expr::Binary {
+            op,
+            left,
+            right,
+            ..
+        } => {
+            let on = add_expression(source, variables, code, left)?;
+            add_right(source, variables, code, *op, on, right)
+        }
+    }
+}
+
+/// A constant.
+pub fn add_constant(
+    source: &Source<'_, '_>,
+    code: &mut Code,
+    value: i64,
+) -> Result<u32, AllocError> {
+    let to = source.register(code.end() + 1);
+    code.push(Instruction::Const { to, value })?;
+    Ok(to)
+}
+
+/// An operation on two registers.
+pub fn add_operation(
+    source: &Source<'_, '_>,
+    code: &mut Code,
+    op: BinOp,
+    left: u32,
+    right: u32,
+) -> Result<u32, AllocError> {
+    let to = source.register(code.end() + 1);
+    code.push(Instruction::Bin {
+        op,
+        to,
+        left,
+        right,
+    })?;
+    Ok(to)
+}
+
+/// A load.
+pub fn add_load(
+    source: &Source<'_, '_>,
+    code: &mut Code,
+    target: Target,
+) -> Result<u32, AllocError> {
+    let to = source.register(code.end() + 1);
+    code.push(Instruction::Load { to, target })?;
+    Ok(to)
+}
+
+/// A copy of a register in one of its own.
+pub fn add_copy(source: &Source<'_, '_>, code: &mut Code, from: u32) -> Result<u32, AllocError> {
+    let to = source.register(code.end() + 1);
+    code.push(Instruction::Copy { to, from })?;
+    Ok(to)
+}
+
+/// A value that may be absent, and is a constant then.
+pub fn add_or_constant(
+    source: &Source<'_, '_>,
+    variables: &Variables<'_>,
+    code: &mut Code,
+    value: Option<&Expr>,
+    absent: i64,
+) -> Result<u32, AllocError> {
+    match value {
+        None => add_constant(source, code, absent),
+        Some(value) => add_expression(source, variables, code, value),
+    }
+}
+
+/// A call: the arguments from left to right, a tick, and the call.
+#[cycle(expressions)]
+pub fn add_call(
+    source: &Source<'_, '_>,
+    variables: &Variables<'_>,
+    code: &mut Code,
+    name: &Name,
+    arguments: &[Argument],
+) -> Result<u32, AllocError> {
+    let args = add_arguments(source, variables, code, arguments)?;
+    let to = source.register(code.end() + 2);
+    let function = function_number(source.program, name);
+    code.push(Instruction::Tick)?;
+    code.push(Instruction::Call { to, function, args })?;
+    Ok(to)
+}
+
+#[cycle(expressions)]
+fn add_arguments(
+    source: &Source<'_, '_>,
+    variables: &Variables<'_>,
+    code: &mut Code,
+    arguments: &[Argument],
+) -> Result<Registers, AllocError> {
+    let mut registers = Registers::new(source.alloc);
+    for argument in arguments {
+        let register = add_expression(source, variables, code, &argument.value)?;
+        registers.push(register)?;
+    }
+    Ok(registers)
+}
+
+/// A new object. The line is that of `pm_new`.
+fn add_new(
+    source: &Source<'_, '_>,
+    code: &mut Code,
+    place: u64,
+    name: &Name,
+) -> Result<u32, AllocError> {
+    let to = source.register(code.end() + 1);
+    code.push(Instruction::New {
+        to,
+        kind: kind_named(source.program, name),
+        log_fill: false,
+        line: source.ast.line(place),
+    })?;
+    Ok(to)
+}
+
+/// A field or an element as a value: one load.
+#[cycle(expressions)]
+fn add_read(
+    source: &Source<'_, '_>,
+    variables: &Variables<'_>,
+    code: &mut Code,
+    expr: &Expr,
+) -> Result<u32, AllocError> {
+    let target = add_target(source, variables, code, expr)?;
+    add_load(source, code, target)
+}
+
+/// What a field or an element is, behind the code of its base and of its index.
+#[cycle(expressions)]
+pub fn add_target(
+    source: &Source<'_, '_>,
+    variables: &Variables<'_>,
+    code: &mut Code,
+    expr: &Expr,
+) -> Result<Target, AllocError> {
+    match expr {
+        Expr::Root(field) => Ok(root_target(source.program, field)),
+        Expr::Arrow { base, field, .. } => {
+            let register = add_expression(source, variables, code, base)?;
+            let scopes = variables.scopes();
+            Ok(field_target(source.program, scopes, base, register, field))
+        }
+        Expr::Index { base, index, .. } => {
+            let array = add_target(source, variables, code, base)?;
+            let register = add_expression(source, variables, code, index)?;
+            Ok(element(array, register))
+        }
+        Expr::Number(_) => Ok(no_target()),
+        Expr::Null => Ok(no_target()),
+        Expr::Variable(_) => Ok(no_target()),
+        Expr::Call { .. } => Ok(no_target()),
+        Expr::New { .. } => Ok(no_target()),
+        Expr::Unary { .. } => Ok(no_target()),
+        Expr::Binary { .. } => Ok(no_target()),
+    }
+}
+
+/// `-e` is 0 - e, `~e` is -1 ^ e, and `!e` is e == 0.
+#[cycle(expressions)]
+fn add_unary(
+    source: &Source<'_, '_>,
+    variables: &Variables<'_>,
+    code: &mut Code,
+    op: UnaryOp,
+    operand: &Expr,
+) -> Result<u32, AllocError> {
+    match op {
+        UnaryOp::Negate => {
+            let zero = add_constant(source, code, 0)?;
+            let value = add_expression(source, variables, code, operand)?;
+            add_operation(source, code, BinOp::Sub, zero, value)
+        }
+        UnaryOp::Complement => {
+            let ones = add_constant(source, code, -1)?;
+            let value = add_expression(source, variables, code, operand)?;
+            add_operation(source, code, BinOp::Xor, ones, value)
+        }
+        UnaryOp::Not => {
+            let value = add_expression(source, variables, code, operand)?;
+            let zero = add_constant(source, code, 0)?;
+            add_operation(source, code, BinOp::Eq, value, zero)
+        }
+    }
+}
+
+/// An operator behind its left side, which is in the register `on`.
+#[cycle(expressions)]
+fn add_right(
+    source: &Source<'_, '_>,
+    variables: &Variables<'_>,
+    code: &mut Code,
+    op: BinaryOp,
+    on: u32,
+    right: &Expr,
+) -> Result<u32, AllocError> {
+    match form_of(op) {
+        Form::Both => add_both(source, variables, code, on, right),
+        Form::Either => add_either(source, variables, code, on, right),
+        Form::Direct(op) => {
+            let right = add_expression(source, variables, code, right)?;
+            add_operation(source, code, op, on, right)
+        }
+        Form::Exchanged(op) => {
+            let right = add_expression(source, variables, code, right)?;
+            add_operation(source, code, op, right, on)
+        }
+    }
+}
+
+/// `&&`: where one side is 0 the rest is left out and the value is 0, and else it is 1.
+#[cycle(expressions)]
+fn add_both(
+    source: &Source<'_, '_>,
+    variables: &Variables<'_>,
+    code: &mut Code,
+    on: u32,
+    right: &Expr,
+) -> Result<u32, AllocError> {
+    let first = code.end();
+    code.push(Instruction::Branch { on, place: 0 })?;
+    let right = add_expression(source, variables, code, right)?;
+    let second = code.end();
+    let to = source.register(second + 4);
+    add_outcome(code, right, to)?;
+    let place = second + 3;
+    code.set(first, Instruction::Branch { on, place });
+    Ok(to)
+}
+
+/// `||`: where the left side isn't 0 the right side is left out.
+#[cycle(expressions)]
+fn add_either(
+    source: &Source<'_, '_>,
+    variables: &Variables<'_>,
+    code: &mut Code,
+    on: u32,
+    right: &Expr,
+) -> Result<u32, AllocError> {
+    let first = code.end();
+    let place = first + 2;
+    code.push(Instruction::Branch { on, place })?;
+    code.push(Instruction::Jump { place: 0 })?;
+    let right = add_expression(source, variables, code, right)?;
+    let second = code.end();
+    let to = source.register(second + 4);
+    add_outcome(code, right, to)?;
+    let place = second + 1;
+    code.set(first + 1, Instruction::Jump { place });
+    Ok(to)
+}
+
+/// 1 where a register isn't 0, and else 0: four instructions, of which the second is where 1 is
+/// assigned, and the last where 0 is.
+fn add_outcome(code: &mut Code, on: u32, to: u32) -> Result<(), AllocError> {
+    let first = code.end();
+    let place = first + 3;
+    code.push(Instruction::Branch { on, place })?;
+    code.push(Instruction::Const { to, value: 1 })?;
+    let place = first + 4;
+    code.push(Instruction::Jump { place })?;
+    code.push(Instruction::Const { to, value: 0 })
+}

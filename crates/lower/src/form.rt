@@ -1,0 +1,42 @@
+//! How a binary operator is lowered.
+
+ghost use Rattle.std.specs.Prelude.{◌≡◌};
+ghost use Rattle.lower.specs.Forms as forms;
+
+use c_parser::expr::BinaryOp;
+use nvm_base::BinOp;
+
+/// `&&` and `||` are branches. Each other operator is one operation, and `a > b` is `b < a`.
+#[derive(Clone, Copy, Debug, PartialEq, Eq)]
+pub enum Form {
+    Both,
+    Either,
+    Direct(BinOp),
+    Exchanged(BinOp),
+}
+
+/// The form of an operator.
+pub fn form_of(op: BinaryOp) -> Form
+    ensures { result ≡ forms.form_of op }
+{
+    match op {
+        BinaryOp::Mul => Form::Direct(BinOp::Mul),
+        BinaryOp::Div => Form::Direct(BinOp::Div),
+        BinaryOp::Rem => Form::Direct(BinOp::Rem),
+        BinaryOp::Add => Form::Direct(BinOp::Add),
+        BinaryOp::Sub => Form::Direct(BinOp::Sub),
+        BinaryOp::ShiftLeft => Form::Direct(BinOp::Shl),
+        BinaryOp::ShiftRight => Form::Direct(BinOp::Shr),
+        BinaryOp::Less => Form::Direct(BinOp::Lt),
+        BinaryOp::LessEqual => Form::Direct(BinOp::Le),
+        BinaryOp::Greater => Form::Exchanged(BinOp::Lt),
+        BinaryOp::GreaterEqual => Form::Exchanged(BinOp::Le),
+        BinaryOp::Equal => Form::Direct(BinOp::Eq),
+        BinaryOp::NotEqual => Form::Direct(BinOp::Ne),
+        BinaryOp::And => Form::Direct(BinOp::And),
+        BinaryOp::Xor => Form::Direct(BinOp::Xor),
+        BinaryOp::Or => Form::Direct(BinOp::Or),
+        BinaryOp::Both => Form::Both,
+        BinaryOp::Either => Form::Either,
+    }
+}
