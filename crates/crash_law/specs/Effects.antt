@@ -5,7 +5,7 @@ use Rattle.cache_model.specs.Event.{CacheEvent, Store}
 use Rattle.cache_model.specs.Cache.{put}
 use Rattle.pool_layout.specs.declared.places.Place.TheVariants.{Heap}
 use Rattle.pool_layout.specs.declared.places.Layout.{Layout}
-use Rattle.pool_layout.specs.Places.{at, pool_of}
+use Rattle.pool_layout.specs.Places.{at}
 
 -- what one step of the machine does inside the heap; Still: a flush, a fence or nothing
 pub data Effect : Type 0 where

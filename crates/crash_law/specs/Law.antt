@@ -1,6 +1,6 @@
 -- The crash law of a call and of its recovery.
 use Rattle.pool_layout.specs.Sizes.{heap_words}
-use Rattle.std.specs.Prelude.{◌≤◌, Option, Some, ◌∷◌, Bool, IsTrue, ℕ, zero, suc, ◌^◌, ◌<◌, ◌≡◌, ◌⊎◌, List, [], ◌++◌, length, slice_index_or, None, ℤ, pos}
+use Rattle.std.specs.Prelude.{◌≤◌, Option, Some, ◌∷◌, Bool, IsTrue, ℕ, zero, suc, ◌^◌, ◌<◌, ◌≡◌, ◌⊎◌, List, [], ◌++◌, length, None, ℤ, pos}
 use Rattle.cache_model.specs.Event.{CacheEvent, Fence}
 use Rattle.cache_model.specs.Cache.{Words, Cache}
 use Rattle.cache_model.specs.Play.{play}

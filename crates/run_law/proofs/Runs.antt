@@ -1,5 +1,5 @@
 -- The machine's runs are as the crash law asks.
-use Rattle.std.proofs.Common.{◌≡◌, ◌⊎◌, inl, inr, ⊎_elim, ℕ, suc, ◌<◌, ◌==◌, ◌||◌, ◌&&◌, not, Bool, true, false, IsTrue, List, [], ◌∷◌, ◌++◌, None, ℤ, refl, sym, ap, ◌∙◌, subst, append_assoc, eqb-true, eq-eqb, ne_eqb}
+use Rattle.std.proofs.Common.{◌≡◌, ◌⊎◌, inl, inr, ⊎_elim, ℕ, suc, ◌<◌, ◌==◌, ◌||◌, ◌&&◌, not, Bool, true, false, IsTrue, List, [], ◌∷◌, ◌++◌, None, refl, sym, ap, ◌∙◌, append_assoc, eqb-true, eq-eqb, ne_eqb}
 use Rattle.std.proofs.lemmas.Bool.{eqb-false}
 use Rattle.cache_model.specs.Event.{CacheEvent, Flush, Fence}
 use Rattle.cache_model.specs.Cache.{Words}
@@ -8,7 +8,7 @@ use Rattle.pool_layout.specs.Sizes.{heap_words}
 use Rattle.pool_layout.specs.Places.{pool_of}
 use Rattle.pool_map.specs.Trap.{trap_number}
 use Rattle.crash_law.specs.Due.{Entry, Plain, Logged, IsTrace, run_events, flush_all, lines_of, due_run, retire_events, trap_events}
-use Rattle.crash_law.specs.Pools.{Pool, IsKept}
+use Rattle.crash_law.specs.Pools.{IsKept}
 use Rattle.crash_law.specs.Effects.{Effect as Seen, Loads, Stores, Logs, Still, IsInput, IsOverwritten}
 use Rattle.crash_law.specs.Law.{IsRun}
 use Rattle.crash_law.proofs.Effects.{sound_trace, stored_of}

@@ -15,7 +15,7 @@ use Rattle.pm_machine.specs.Effects.{events_all, heap_end}
 use Rattle.pm_machine.specs.Inputs.{AreAlike}
 use Rattle.pm_machine.specs.Machine.{State, Finished, run}
 use Rattle.pm_machine.specs.Runs.{AreLines}
-use Rattle.crash_law.specs.Pools.{Pool, IsKept}
+use Rattle.crash_law.specs.Pools.{IsKept}
 use Rattle.crash_law.specs.Due.{Entry, run_events, heap_after, flush_all, lines_of, due_run, retire_events, trap_events}
 use Rattle.crash_law.specs.Law.{IsRun}
 use Rattle.run_law.specs.Seen.{trace_in, result_of, E, W}
