@@ -1,0 +1,31 @@
+-- A transaction: the meaning of its body, from its arguments, with itself open, where 255 more
+-- functions may be opened. It knows no machine, log or cache. It is the pool behind it and its value,
+-- or a trap.
+use Rattle.std.specs.Prelude.{ℕ, zero, suc, ℤ, pos, List, [], Option, None, Some, slice_get}
+use Rattle.c_parser.specs.ItemTree.{FunctionTree}
+use Rattle.c_types.specs.Tables.{Tables}
+use Rattle.c_types.specs.Shapes.{transactions_in}
+use Rattle.pool_map.specs.declared.trap.TrapKind.{TrapKind}
+use Rattle.pool_map.specs.PoolMap.{PoolMap}
+use Rattle.c_meaning.specs.Meaning.{Out, Got, Stops, entered, calls_of}
+
+pub data Outcome : Type 0 where
+  Done : PoolMap → ℤ → Outcome
+  Trap : TrapKind → Outcome
+
+abbrev pub outcome : Out ℤ → Outcome
+outcome (Got v p k) = Done p v
+outcome (Stops trap) = Trap trap
+
+-- the transaction of that number, from 1 on
+abbrev pub transaction : Tables → ℕ → Option FunctionTree
+transaction t zero = None
+transaction t (suc i) = slice_get (transactions_in t.functions) i
+
+-- one that isn't there does nothing and gives 0
+abbrev pub run : Tables → Option FunctionTree → PoolMap → List ℤ → ℕ → Outcome
+run t None p args ticks = Done p (pos 0)
+run t (Some f) p args ticks = outcome (entered t (calls_of t 255) f args p ticks)
+
+abbrev pub tx : Tables → PoolMap → ℕ → List ℤ → ℕ → Outcome
+tx t p number args ticks = run t (transaction t number) p args ticks

@@ -1,0 +1,290 @@
+//! Words and objects of the pool, as expressions reach them: with the checks, in their order.
+
+ghost use Rattle.std.specs.Prelude.{◌≡◌, IfOk, IfSome, IsSome, option_map};
+ghost use Rattle.c_parser.specs.ExprTree.{expr_of};
+ghost use Rattle.c_types.specs.Tables as tables;
+ghost use Rattle.c_types.specs.Views.{tables_in};
+ghost use Rattle.pool_map.specs.PoolMap.{object_at};
+ghost use Rattle.c_meaning.specs.Access as meaning;
+
+use crate::fault::Fault;
+use crate::locals::Locals;
+use crate::word::Word;
+use c_parser::expr::{Expr, Name};
+use c_types::{Layout, Program, ValueType, type_of};
+use pool_map::{Pool, TrapKind};
+
+/// What stands at a word, and 0 where the pool has no such word.
+pub fn load(pool: &Pool, word: Word) -> i64
+    ensures { result ≡ meaning.load pool.now word }
+{
+    match word {
+        Word::Root(word) => {
+            if pool.has_root_word(word) {
+                pool.root_get(word)
+            } else {
+                0
+            }
+        }
+        Word::Field { slot, word } => {
+            if pool.has_field(slot, word) {
+                pool.get(slot, word)
+            } else {
+                0
+            }
+        }
+    }
+}
+
+/// Writes a word, where the pool has it.
+pub fn store(pool: &mut Pool, word: Word, value: i64)
+    ensures { pool.new ≡ meaning.store pool.old word value }
+{
+    match word {
+        Word::Root(word) => {
+            if pool.has_root_word(word) {
+                pool.root_set(word, value);
+            }
+        }
+        Word::Field { slot, word } => {
+            if pool.has_field(slot, word) {
+                pool.set(slot, word, value);
+            }
+        }
+    }
+}
+
+/// The place of the struct that a value of this type points to.
+fn struct_of(ty: ValueType) -> Option<u64>
+    ensures { result ≡ meaning.struct_of ty }
+{
+    match ty {
+        ValueType::Pointer(at) => Some(at),
+        ValueType::Int => None,
+        ValueType::Null => None,
+        ValueType::Any => None,
+    }
+}
+
+/// The place of the struct that an expression points to.
+fn struct_behind(program: &Program<'_>, locals: &Locals<'_>, pointer: &Expr) -> Option<u64>
+    ensures { result ≡ meaning.struct_behind (tables_in program.now) locals.now (expr_of pointer.now) }
+{
+    struct_of(type_of(program, locals.scopes(), pointer))
+}
+
+/// The kind of the objects of the struct at a place.
+fn kind_at(program: &Program<'_>, at: Option<u64>) -> Option<u64>
+    ensures { result ≡ option_map (tables.number_at (tables_in program.now)) at }
+{
+    match at {
+        None => None,
+        Some(at) => Some(program.number_at(at)),
+    }
+}
+
+/// The slot of an object that a pointer leads to: the checks null and stale.
+fn slot_of(pool: &Pool, kind: Option<u64>, pointer: i64) -> Result<u64, TrapKind>
+    ensures slot { result ≡ meaning.slot_of pool.now kind pointer }
+    ensures object { IfOk result (λ slot. IsSome (object_at pool.now slot)) }
+{
+    if pointer == 0 {
+        return Err(TrapKind::Null);
+    }
+    match u64::try_from(pointer) {
+        Err(_) => Err(TrapKind::Stale),
+        Ok(slot) => {
+            if is_kind(pool, slot, kind) {
+                Ok(slot)
+            } else {
+                Err(TrapKind::Stale)
+            }
+        }
+    }
+}
+
+/// Whether a slot has an object of this kind.
+fn is_kind(pool: &Pool, slot: u64, kind: Option<u64>) -> bool
+    ensures { result ≡ meaning.is_kind (object_at pool.now slot) kind }
+{
+    match pool.kind(slot) {
+        None => false,
+        Some(found) => match kind {
+            None => false,
+            Some(wanted) => found as u64 == wanted,
+        },
+    }
+}
+
+/// A word of a struct: that of a field, or of an element of it, with the check index.
+fn word_in(layout: &Layout<'_>, name: &str, index: Option<i64>) -> Result<u64, TrapKind>
+    ensures { result ≡ meaning.word_in layout.now name.now index }
+{
+    let first = first_word(layout, name);
+    match index {
+        None => Ok(first),
+        Some(index) => match element_in(elements(layout, name), index) {
+            Err(trap) => Err(trap),
+            Ok(within) => Ok(first.saturating_add(within)),
+        },
+    }
+}
+
+fn first_word(layout: &Layout<'_>, name: &str) -> u64
+    ensures { result ≡ meaning.first_word layout.now name.now }
+{
+    match layout.place_of(name) {
+        None => 0,
+        Some(place) => layout.word_of(place),
+    }
+}
+
+/// The elements of an array field.
+fn elements(layout: &Layout<'_>, name: &str) -> u64
+    ensures { result ≡ meaning.elements layout.now name.now }
+{
+    match layout.field(name) {
+        None => 0,
+        Some(field) => match &field.length {
+            None => 0,
+            Some(length) => count_of(length.value),
+        },
+    }
+}
+
+fn count_of(length: i64) -> u64
+    ensures { result ≡ meaning.length_of length }
+{
+    match u64::try_from(length) {
+        Err(_) => 0,
+        Ok(count) => count,
+    }
+}
+
+/// The check index.
+fn element_in(length: u64, index: i64) -> Result<u64, TrapKind>
+    ensures { result ≡ meaning.element_in length index }
+{
+    match u64::try_from(index) {
+        Err(_) => Err(TrapKind::Index),
+        Ok(at) => {
+            if at < length {
+                Ok(at)
+            } else {
+                Err(TrapKind::Index)
+            }
+        }
+    }
+}
+
+/// A word of the struct at a place.
+fn word_at(
+    program: &Program<'_>,
+    at: Option<u64>,
+    name: &str,
+    index: Option<i64>,
+) -> Result<u64, TrapKind>
+    ensures { result ≡ meaning.word_at (tables_in program.now) at name.now index }
+{
+    match at {
+        None => Ok(0),
+        Some(at) => match program.struct_at(at) {
+            None => Ok(0),
+            Some(layout) => word_in(layout, name, index),
+        },
+    }
+}
+
+/// A word of the object that a pointer leads to, of the struct at a place.
+fn behind(
+    program: &Program<'_>,
+    pool: &Pool,
+    at: Option<u64>,
+    pointer: i64,
+    name: &str,
+    index: Option<i64>,
+) -> Result<Word, TrapKind>
+    ensures { result ≡ meaning.behind (tables_in program.now) pool.now at pointer name.now index }
+{
+    match slot_of(pool, kind_at(program, at), pointer) {
+        Err(trap) => Err(trap),
+        Ok(slot) => match word_at(program, at, name, index) {
+            Err(trap) => Err(trap),
+            Ok(word) => Ok(Word::Field { slot, word }),
+        },
+    }
+}
+
+/// A word of the root.
+fn of_root(program: &Program<'_>, name: &str, index: Option<i64>) -> Result<Word, TrapKind>
+    ensures { result ≡ meaning.of_root (tables_in program.now) name.now index }
+{
+    match word_at(program, program.root_struct(), name, index) {
+        Err(trap) => Err(trap),
+        Ok(word) => Ok(Word::Root(word)),
+    }
+}
+
+/// The word that a field names, or an element of it where there is an index: a field of the root, or
+/// a field behind a pointer, which the expression `base` gave. Any other expression names no word,
+/// and leads nowhere.
+pub fn word_named(
+    program: &Program<'_>,
+    locals: &Locals<'_>,
+    pool: &Pool,
+    field: &Expr,
+    pointer: i64,
+    index: Option<i64>,
+) -> Result<Word, TrapKind>
+    ensures { result ≡ meaning.word_named (tables_in program.now) locals.now pool.now (expr_of field.now) pointer index }
+{
+    match field {
+        Expr::Root(name) => of_root(program, name.text.as_str(), index),
+        Expr::Arrow { base, field, .. } => {
+            let at = struct_behind(program, locals, base);
+            behind(program, pool, at, pointer, field.text.as_str(), index)
+        }
+        Expr::Number(_) => Err(TrapKind::Stale),
+        Expr::Null => Err(TrapKind::Stale),
+        Expr::Variable(_) => Err(TrapKind::Stale),
+        Expr::Call { .. } => Err(TrapKind::Stale),
+        Expr::New { .. } => Err(TrapKind::Stale),
+        Expr::Index { .. } => Err(TrapKind::Stale),
+        Expr::Unary { .. } => Err(TrapKind::Stale),
+        Expr::Binary { .. } => Err(TrapKind::Stale),
+    }
+}
+
+/// A new object in the least free slot, whose number it gives: 0 where no slot is free.
+pub fn new_object(program: &Program<'_>, pool: &mut Pool, name: &Name) -> Result<i64, Fault> {
+    pool_map::laws();
+    let Some(at) = program.struct_named(name.text.as_str()) else {
+        return Ok(0);
+    };
+    let Some(slot) = pool.least_free() else {
+        return Ok(0);
+    };
+    let Ok(kind) = u32::try_from(program.number_at(at)) else {
+        return Ok(0);
+    };
+    pool.new_object(slot, kind, program.words_at(at))?;
+    Ok(slot.cast_signed())
+}
+
+/// Takes away the object that a pointer leads to, which the expression gave.
+pub fn free_object(
+    program: &Program<'_>,
+    locals: &Locals<'_>,
+    pool: &mut Pool,
+    expr: &Expr,
+    pointer: i64,
+) -> Result<(), TrapKind> {
+    let at = struct_behind(program, locals, expr);
+    match slot_of(pool, kind_at(program, at), pointer) {
+        Err(trap) => Err(trap),
+        Ok(slot) => {
+            pool.free(slot);
+            Ok(())
+        }
+    }
+}

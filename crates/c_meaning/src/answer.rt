@@ -1,0 +1,13 @@
+//! What a call answers.
+
+use pool_map::{Pool, TrapKind};
+
+/// How a transaction ended.
+#[derive(Drop)]
+pub enum PlainAnswer {
+    /// It returned: the pool that it left, and its value.
+    Done(Pool, i64),
+    /// It trapped. Nothing is said of the pool then.
+    Trap(TrapKind),
+    NoMemory,
+}

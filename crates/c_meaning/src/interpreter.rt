@@ -1,0 +1,185 @@
+//! A call of a transaction.
+
+use crate::answer::PlainAnswer;
+use crate::fault::Fault;
+use crate::locals::bound;
+use crate::run::Run;
+use crate::work::{ExprTask, Flow, StmtTask, Work};
+use c_parser::expr::Expr;
+use c_parser::item::Function;
+use c_parser::stmt::Stmt;
+use c_types::{Program, Typed};
+use pool_map::Pool;
+use std::alloc::Global;
+
+/// Runs transaction `tx`, counted from 1, with these arguments, on a copy of the pool, with so many
+/// ticks. It goes over the tree, and knows no machine and no log; so the trap logfull never comes. A
+/// word that the pool lacks reads as 0 and is not written; an argument that is lacking is 0; a
+/// transaction that is lacking does nothing and gives 0.
+pub fn plain_call(
+    alloc: Global,
+    typed: &Typed,
+    pool: &Pool,
+    tx: u64,
+    args: &[i64],
+    ticks: u64,
+) -> PlainAnswer {
+    match run(alloc, typed, pool, tx, args, ticks) {
+        Ok((pool, value)) => PlainAnswer::Done(pool, value),
+        Err(Fault::Trapped(kind)) => PlainAnswer::Trap(kind),
+        Err(Fault::NoMemory) => PlainAnswer::NoMemory,
+    }
+}
+
+fn run(
+    alloc: Global,
+    typed: &Typed,
+    pool: &Pool,
+    tx: u64,
+    args: &[i64],
+    ticks: u64,
+) -> Result<(Pool, i64), Fault> {
+    let program = Program::new(alloc, typed.ast().items())?;
+    let pool = pool.copy()?;
+    let Some(function) = transaction(&program, tx) else {
+        return Ok((pool, 0));
+    };
+    let top = bound(alloc, &program, &function.parameters, args)?;
+    let mut run = Run::new(alloc, pool, top, ticks);
+    run.begin(function)?;
+    finish(alloc, &program, &mut run)?;
+    let value = run.take();
+    Ok((run.pool, value))
+}
+
+/// The transaction of that number.
+fn transaction<'a>(program: &Program<'a>, tx: u64) -> Option<&'a Function> {
+    let mut left = tx;
+    for function in program.functions() {
+        if function.tx {
+            if left == 1 {
+                return Some(*function);
+            }
+            left = left.saturating_sub(1);
+        }
+    }
+    None
+}
+
+/// Does what is planned, until nothing is. Each turn of a loop and each call takes a tick, and
+/// between two ticks less than the program's nodes is done, so the last answer is never reached.
+fn finish<'a>(alloc: Global, program: &Program<'a>, run: &mut Run<'a>) -> Result<(), Fault> {
+    for _ in 0..u64::MAX {
+        match run.plan.pop() {
+            None => return Ok(()),
+            Some(work) => run.go_on(alloc, program, work)?,
+        }
+    }
+    Err(Fault::NoMemory)
+}
+
+impl<'a> Run<'a> {
+    /// Does one thing, by how the last statement ended.
+    fn go_on(&mut self, alloc: Global, program: &Program<'a>, work: Work<'a>) -> Result<(), Fault> {
+        match self.flow {
+            Flow::Next => self.step(alloc, program, work),
+            Flow::Break => self.break_past(work),
+            Flow::Continue => self.continue_past(work),
+            Flow::Return(value) => self.return_past(value, work),
+        }
+    }
+
+    fn break_past(&mut self, work: Work<'a>) -> Result<(), Fault> {
+        match work {
+            Work::Close(count) => self.top.close_to(count),
+            Work::Stmt(StmtTask::Again, _) => self.flow = Flow::Next,
+            Work::Leave => return self.leave(0),
+            _ => {}
+        }
+        Ok(())
+    }
+
+    fn continue_past(&mut self, work: Work<'a>) -> Result<(), Fault> {
+        match work {
+            Work::Close(count) => {
+                self.top.close_to(count);
+                Ok(())
+            }
+            Work::Stmt(StmtTask::Again, turn) => {
+                self.flow = Flow::Next;
+                self.again(turn)
+            }
+            Work::Leave => self.leave(0),
+            _ => Ok(()),
+        }
+    }
+
+    fn return_past(&mut self, value: i64, work: Work<'a>) -> Result<(), Fault> {
+        match work {
+            Work::Leave => self.leave(value),
+            _ => Ok(()),
+        }
+    }
+
+    fn step(&mut self, alloc: Global, program: &Program<'a>, work: Work<'a>) -> Result<(), Fault> {
+        match work {
+            Work::Expr(task, expr) => self.on_expr(program, task, expr),
+            Work::Stmt(task, stmt) => self.on_stmt(program, task, stmt),
+            Work::Arguments(all) => self.arguments(all),
+            Work::Rest(all) => self.rest(all),
+            Work::Simple(simple) => self.simple(program, simple),
+            Work::Declare(declaration) => self.declare(alloc, program, declaration),
+            Work::Assign(name) => self.assign(name),
+            Work::Call(function) => self.call(alloc, program, function),
+            Work::Leave => self.leave(0),
+            Work::Close(count) => {
+                self.top.close_to(count);
+                Ok(())
+            }
+            Work::Put(word) => self.give(word),
+            Work::Forget => {
+                self.take();
+                Ok(())
+            }
+            Work::Unary(op) => self.unary(op),
+            Work::Binary(op) => self.binary(op),
+            Work::Truth => self.truth(),
+            Work::Give => {
+                self.flow = Flow::Return(self.take());
+                Ok(())
+            }
+        }
+    }
+
+    fn on_expr(
+        &mut self,
+        program: &Program<'a>,
+        task: ExprTask,
+        expr: &'a Expr,
+    ) -> Result<(), Fault> {
+        match task {
+            ExprTask::Eval => self.eval(program, expr),
+            ExprTask::Both => self.both(expr),
+            ExprTask::Either => self.either(expr),
+            ExprTask::Load => self.load(program, expr),
+            ExprTask::Fetch => self.fetch(program, expr),
+            ExprTask::Store => self.store(program, expr),
+            ExprTask::Free => self.free(program, expr),
+        }
+    }
+
+    fn on_stmt(
+        &mut self,
+        program: &Program<'a>,
+        task: StmtTask,
+        stmt: &'a Stmt,
+    ) -> Result<(), Fault> {
+        match task {
+            StmtTask::Exec => self.exec(program, stmt),
+            StmtTask::Choose => self.choose(stmt),
+            StmtTask::Turn => self.turn(stmt),
+            StmtTask::Test => self.test(stmt),
+            StmtTask::Again => self.again(stmt),
+        }
+    }
+}
