@@ -72,7 +72,8 @@ fn advance(
     }
 }
 
-/// Goes on by an instruction that is no call and no return.
+/// Goes on by an instruction that is no call and no return: with the fact itself, with the fact that is
+/// sought, and with that on the register that is assigned.
 fn along(
     ground: &Ground,
     agenda: &mut Agenda,
@@ -83,16 +84,32 @@ fn along(
     ensures { OnOk result (weight agenda.new ≤ weight agenda.old) }
 {
     let topic = ground.topic();
-    for fact in [
-        spot.fact,
-        topic.sought(),
-        assigned(topic, instruction, spot.fact),
-    ] {
-        if among(spot.fact, origins(instruction, fact)) {
-            step(ground, agenda, cell, spot, instruction, fact)?;
-        }
+    give(ground, agenda, cell, spot, instruction, spot.fact)?;
+    if topic.sought() != spot.fact {
+        give(ground, agenda, cell, spot, instruction, topic.sought())?;
     }
-    Ok(())
+    match assigned(topic, instruction) {
+        Some(fact) => give(ground, agenda, cell, spot, instruction, fact),
+        None => Ok(()),
+    }
+}
+
+/// Goes on with a fact behind an instruction, where the spot's fact gives it.
+fn give(
+    ground: &Ground,
+    agenda: &mut Agenda,
+    cell: usize,
+    spot: Spot,
+    instruction: &Instruction,
+    fact: Fact,
+) -> Result<(), AllocError>
+    ensures { OnOk result (weight agenda.new ≤ weight agenda.old) }
+{
+    if among(spot.fact, origins(instruction, fact)) {
+        step(ground, agenda, cell, spot, instruction, fact)
+    } else {
+        Ok(())
+    }
 }
 
 /// Goes to the places to which an instruction leads, with a fact.
@@ -159,15 +176,15 @@ fn among(fact: Fact, origins: Origins) -> bool {
     }
 }
 
-/// That the class isn't surely written through the register that an instruction assigns, or the fact
-/// itself where there is no such register or no such fact.
-fn assigned(topic: Topic, instruction: &Instruction, fact: Fact) -> Fact {
+/// That the class isn't surely written through the register that an instruction assigns, where there is
+/// such a register and such a fact.
+fn assigned(topic: Topic, instruction: &Instruction) -> Option<Fact> {
     match instruction {
         Instruction::Const { to, .. }
         | Instruction::Copy { to, .. }
         | Instruction::Bin { to, .. }
-        | Instruction::Load { to, .. } => topic.unwritten(*to).unwrap_or(fact),
-        _ => fact,
+        | Instruction::Load { to, .. } => topic.unwritten(*to),
+        _ => None,
     }
 }
 

@@ -1,7 +1,10 @@
 //! The facts at each place that the marks need.
 
+ghost use Rattle.std.specs.Prelude.{◌≡◌};
+
 use ir::Ir;
 use std::alloc::{AllocError, Global};
+use std::marker::Model;
 
 /// What some walk may bring to a place. The last two speak of the class that the place's own load or
 /// store accesses, where that class is both loaded and stored; elsewhere they are false.
@@ -26,13 +29,24 @@ impl PlaceFact {
     };
 }
 
-/// The facts at each place of each function.
+/// The facts at each place of each function, seen as a list for each function.
 #[derive(Drop)]
 pub struct PlaceFacts {
     functions: Vec<Vec<PlaceFact>>,
 }
 
+impl Model for PlaceFacts {
+    ghost use Rattle.std.specs.Prelude.{List, map};
+    ghost use Rattle.exposed_reads.specs.declared.place_facts.PlaceFact.{PlaceFact};
+
+    ghost Value = { List (List PlaceFact) };
+
+    ghost view = { λ f. map (λ places. places.items) f.functions.items };
+}
+
 impl PlaceFacts {
+    ghost use Rattle.exposed_reads.specs.Facts.{fact_at};
+
     /// No facts, at each place of a program.
     pub fn none(alloc: Global, ir: &Ir) -> Result<Self, AllocError> {
         let mut functions = Vec::new(alloc);
@@ -44,7 +58,10 @@ impl PlaceFacts {
     }
 
     /// The facts at a place, and none where it isn't there.
-    pub fn at(&self, function: usize, place: usize) -> PlaceFact {
+    #[tactic(auto, using(crate::proofs::Lookup::lookup))]
+    pub fn at(&self, function: usize, place: usize) -> PlaceFact
+        ensures { result ≡ fact_at self.now function place }
+    {
         match self.functions.get(function) {
             Some(places) => places.get(place).copied().unwrap_or(PlaceFact::NONE),
             None => PlaceFact::NONE,
