@@ -1,2 +1,5 @@
 pub mod Pieces
 pub mod Placing
+pub mod Runs
+pub mod LocalRun
+pub mod Search
