@@ -1,5 +1,5 @@
 -- The search for the least free slot.
-use Rattle.std.proofs.Common.{◌≡◌, ℕ, zero, suc, ◌+◌, ◌-◌, ◌*◌, ◌^◌, ◌<◌, ◌≤◌, Bool, true, false, List, [], ◌∷◌, Some, None, Option, ℤ, pos, refl, sym, ap, ◌∙◌, subst, arith, ltb, FitsSigned, rules}
+use Rattle.std.proofs.Common.{◌≡◌, ℕ, zero, suc, ◌+◌, ◌-◌, ◌*◌, ◌^◌, ◌<◌, ◌≤◌, Bool, true, false, List, [], ◌∷◌, Some, None, Option, ℤ, pos, negsuc, refl, sym, ap, ◌∙◌, subst, arith, ltb, FitsSigned, rules}
 use Rattle.std.specs.Prelude.{◌+ℤ◌, ◌-ℤ◌}
 use Rattle.std.specs.Int.{w64, int_wrap}
 use Rattle.std.proofs.lemmas.Bool.{lt-ltb, le-ltb}
@@ -29,14 +29,14 @@ header_address s q a is some few lines =
     let e : slot_word s q + 0 ≡ slot_word s q = omega arith in
     ap (λ (n : ℕ). int_wrap w64 (pos n +ℤ offset s 0)) is ∙ address_is s q 0 some few lines (omega arith) ∙ ap pos e
 
-abbrev temps : (q a n : ℕ) → (h t : ℤ) → List ℤ → List ℤ
+abbrev pub temps : (q a n : ℕ) → (h t : ℤ) → List ℤ → List ℤ
 temps q a n h t rest = pos q ∷ pos a ∷ pos n ∷ pos 1 ∷ pos 16 ∷ h ∷ t ∷ rest
 
 module _ (s : Sizes) (to kind c : ℕ) (b : Bool) (own heap : Words) (ticks records : ℕ) (rest : List ℤ) (pool : IsPool s) where
-  abbrev loc : ℕ → List ℤ → List Effect → Loc
+  abbrev pub loc : ℕ → List ℤ → List Effect → Loc
   loc at temp es = record { at = at; own = own; temp = temp; world = world heap ticks records es }
 
-  abbrev go : ℕ → Loc → Next World Loc
+  abbrev pub go : ℕ → Loc → Next World Loc
   go n l = run (step s (new_code s to kind c b)) n l
 
   -- a slot that isn't free, and isn't the last
@@ -59,12 +59,13 @@ module _ (s : Sizes) (to kind c : ℕ) (b : Bool) (own heap : Words) (ticks reco
   hit : (q a w : ℕ) (h t : ℤ) (es : List Effect) → int_wrap w64 (pos a +ℤ offset s 0) ≡ pos w → ltb w (heap_words s) ≡ true → heap w ≡ pos 0 → go 2 (loc 5 (temps q a s.slots h t rest) es) ≡ Goes (loc 13 (temps q a s.slots (pos 0) t rest) (Loads w ∷ es))
   hit q a w h t es at within free = rw (at, within, free) refl
 
-  abbrev Found : ℕ → Loc → Option ℕ → List Effect → Type 0
-  Found n l o es = Leads (λ (m : Loc). go n l ≡ Goes m) o (λ at temp. loc at temp es)
+  abbrev pub Found : ℕ → Loc → Option ℕ → List Effect → Type 0
+  Found n l None es = (temp : List ℤ) × (go n l ≡ Goes (loc 11 temp es))
+  Found n l (Some q) es = (h : ℤ) × (t : ℤ) × (go n l ≡ Goes (loc 13 (temps q (16 * q) s.slots h t rest) es))
 
   found_on : (i j : ℕ) (l m : Loc) (o : Option ℕ) (es : List Effect) → go i l ≡ Goes m → Found j m o es → Found (i + j) l o es
   found_on i j l m None es e f = (f.0, run_on (step s (new_code s to kind c b)) i j l m _ e f.1)
-  found_on i j l m (Some q) es e f = (f.0, run_on (step s (new_code s to kind c b)) i j l m _ e f.1)
+  found_on i j l m (Some q) es e f = (f.0, f.1, run_on (step s (new_code s to kind c b)) i j l m _ e f.2)
 
   abbrev Searches : (k q a : ℕ) → List Effect → Option ℕ → List Effect → Type 0
   Searches k q a es o fs = (h t : ℤ) → (n : ℕ) × (n ≤ 6 * k) × Found n (loc 5 (temps q a s.slots h t rest) es) o fs
@@ -74,7 +75,7 @@ module _ (s : Sizes) (to kind c : ℕ) (b : Bool) (own heap : Words) (ticks reco
   one_slot zero k q a w es is low total at_w free next h t =
       let at : int_wrap w64 (pos a +ℤ offset s 0) ≡ pos w = header_address s q a is low (omega (arith, pool.few)) pool.lines ∙ ap pos (sym at_w) in
       let within : ltb w (heap_words s) ≡ true = lt-ltb w (heap_words s) (omega arith) in
-      (2, omega arith, (pos s.slots ∷ pos 1 ∷ pos 16 ∷ pos 0 ∷ t ∷ rest, hit q a w h t es at within free ∙ ap (λ (m : ℕ). Goes (loc 13 (temps q m s.slots (pos 0) t rest) (Loads w ∷ es))) is))
+      (2, omega arith, (pos 0, t, hit q a w h t es at within free ∙ ap (λ (m : ℕ). Goes (loc 13 (temps q m s.slots (pos 0) t rest) (Loads w ∷ es))) is))
   one_slot (suc n) zero q a w es is low total at_w full next h t =
       let at : int_wrap w64 (pos a +ℤ offset s 0) ≡ pos w = header_address s q a is low (omega (arith, pool.few)) pool.lines ∙ ap pos (sym at_w) in
       let within : ltb w (heap_words s) ≡ true = lt-ltb w (heap_words s) (omega arith) in
@@ -96,23 +97,43 @@ module _ (s : Sizes) (to kind c : ℕ) (b : Bool) (own heap : Words) (ticks reco
       (one_slot header.0 (suc k) q a (slot_word s q) es is low total refl header.1
       (λ some. search_from k (q + 1) (a + 16) (Loads (slot_word s q) ∷ es) (omega arith) (omega arith) (omega arith) headers))
 
+-- from the start of the code
+abbrev pub first : Words → (ℕ → ℤ) → World → Loc
+first own x w = record { at = 0; own = own; temp = temporaries x; world = w }
+
+module _ (s : Sizes) (to kind c : ℕ) (b : Bool) (own x heap : Words) (ticks records : ℕ) (es : List Effect) (pool : IsPool s) (headers : HasHeaders s heap) where
+  abbrev pub Finds : ℕ → Option ℕ → List Effect → Type 0
+  Finds n o fs = Found s to kind c b own heap ticks records (x 7 ∷ []) pool n (first own x (world heap ticks records es)) o fs
+
+  prologue : run (step s (new_code s to kind c b)) 5 (first own x (world heap ticks records es)) ≡ Goes (record { at = 5; own = own; temp = temps 1 16 s.slots (x 5) (x 6) (x 7 ∷ []); world = world heap ticks records es })
+  prologue = refl
+
+  pub searched_whole : (n : ℕ) × (n ≤ 6 * s.slots + 5) × Finds n (free_from s heap s.slots 1) (looked s heap s.slots 1 es)
+  searched_whole =
+      let e : suc (s.slots - 1) ≡ s.slots = omega (arith, pool.some) in
+      let f = search_from s to kind c b own heap ticks records (x 7 ∷ []) pool (s.slots - 1) 1 16 es refl (omega arith) (omega arith) headers (x 5) (x 6) in
+      (5 + f.0, omega (arith, f.1), subst (λ (m : ℕ). Finds (5 + f.0) (free_from s heap m 1) (looked s heap m 1 es)) e
+        (found_on s to kind c b own heap ticks records (x 7 ∷ []) pool 5 f.0 (first own x (world heap ticks records es)) (loc s to kind c b own heap ticks records (x 7 ∷ []) pool 5 (temps 1 16 s.slots (x 5) (x 6) (x 7 ∷ [])) es) (free_from s heap (suc (s.slots - 1)) 1) (looked s heap (suc (s.slots - 1)) 1 es) prologue f.2))
+
+  led : (n : ℕ) (o : Option ℕ) (fs : List Effect) → Finds n o fs → Leads (λ (l : Loc). run (step s (new_code s to kind c b)) n (first own x (world heap ticks records es)) ≡ Goes l) o (λ at temp. record { at = at; own = own; temp = temp; world = world heap ticks records fs })
+  led n None fs f = f
+  led n (Some q) fs f = (pos s.slots ∷ pos 1 ∷ pos 16 ∷ f.0 ∷ f.1 ∷ x 7 ∷ [], f.2)
+
 pub searched_least : SearchLaw
-searched_least s to kind c b own x heap ticks records es pool headers = found
-  where
-    begin : Loc
-    begin = record { at = 0; own = own; temp = temporaries x; world = world heap ticks records es }
+searched_least s to kind c b own x heap ticks records es pool headers =
+    let f = searched_whole s to kind c b own x heap ticks records es pool headers in
+    (f.0, f.1, led s to kind c b own x heap ticks records es pool headers f.0 (free_from s heap s.slots 1) (looked s heap s.slots 1 es) f.2)
 
-    searching : Loc
-    searching = record { at = 5; own = own; temp = temps 1 16 s.slots (x 5) (x 6) (x 7 ∷ []); world = world heap ticks records es }
+-- the slot that is found is one of those that are searched
+pub record IsAmong (q k r : ℕ) : Type 0 where
+  pub low : q ≤ r
+  pub high : r < q + k
 
-    prologue : run (step s (new_code s to kind c b)) 5 begin ≡ Goes searching
-    prologue = refl
+free_step : (s : Sizes) (heap : Words) (k q r : ℕ) (z : ℤ) → (free_from s heap k (q + 1) ≡ Some r → IsAmong (q + 1) k r) → at_zero z (Some q) (free_from s heap k (q + 1)) ≡ Some r → IsAmong q (suc k) r
+free_step s heap k q r (pos zero) next e = let same : q ≡ r = cc in record { low = omega arith; high = omega arith }
+free_step s heap k q r (pos (suc n)) next e = let more = next e in record { low = omega (arith, more.low); high = omega (arith, more.high) }
+free_step s heap k q r (negsuc n) next e = let more = next e in record { low = omega (arith, more.low); high = omega (arith, more.high) }
 
-    searched : (m : ℕ) → suc m ≡ s.slots → (n : ℕ) × (n ≤ 6 * suc m) × Found s to kind c b own heap ticks records (x 7 ∷ []) pool n searching (free_from s heap (suc m) 1) (looked s heap (suc m) 1 es)
-    searched m e = search_from s to kind c b own heap ticks records (x 7 ∷ []) pool m 1 16 es refl (omega arith) (omega arith) headers (x 5) (x 6)
-
-    found : (n : ℕ) × (n ≤ 6 * s.slots + 5) × Found s to kind c b own heap ticks records (x 7 ∷ []) pool n begin (free_from s heap s.slots 1) (looked s heap s.slots 1 es)
-    found =
-        let e : suc (s.slots - 1) ≡ s.slots = omega (arith, pool.some) in
-        let f = searched (s.slots - 1) e in
-        (5 + f.0, omega (arith, f.1), subst (λ (m : ℕ). Found s to kind c b own heap ticks records (x 7 ∷ []) pool (5 + f.0) begin (free_from s heap m 1) (looked s heap m 1 es)) e (found_on s to kind c b own heap ticks records (x 7 ∷ []) pool 5 f.0 begin searching (free_from s heap (suc (s.slots - 1)) 1) (looked s heap (suc (s.slots - 1)) 1 es) prologue f.2))
+pub free_within : (s : Sizes) (heap : Words) (k q r : ℕ) → free_from s heap k q ≡ Some r → IsAmong q k r
+free_within s heap zero q r e = absurd (cc)
+free_within s heap (suc k) q r e = free_step s heap k q r (heap (slot_word s q)) (free_within s heap k (q + 1) r) e

@@ -3,3 +3,4 @@ pub mod Placing
 pub mod Runs
 pub mod LocalRun
 pub mod Search
+pub mod New

@@ -50,20 +50,25 @@ go_on l w = record { at = l.at + 1; own = l.own; temp = l.temp; world = w }
 abbrev pub see : World → Effect → World
 see w e = record { heap = w.heap; seen = e ∷ w.seen; ticks = w.ticks; records = w.records }
 
+-- a word stored; the word's record appended to the log
+abbrev pub stored : World → ℕ → ℤ → World
+stored w q v = record { heap = put w.heap q v; seen = Stores q v ∷ w.seen; ticks = w.ticks; records = w.records }
+
+abbrev pub logged : World → ℕ → World
+logged w q = record { heap = w.heap; seen = Logs q ∷ w.seen; ticks = w.ticks; records = w.records + 1 }
+
 abbrev pub load : Loc → Reg → Option ℕ → Next World Loc
 load l r None = Goes (write (l.at + 1) l.own l.temp l.world r (pos 0))
 load l r (Some w) = Goes (write (l.at + 1) l.own l.temp (see l.world (Loads w)) r (l.world.heap w))
 
 abbrev pub store : Loc → ℤ → Option ℕ → Next World Loc
 store l x None = Goes (go_on l l.world)
-store l x (Some w) = Goes (go_on l (record { heap = put l.world.heap w x; seen = Stores w x ∷ l.world.seen; ticks = l.world.ticks; records = l.world.records }))
+store l x (Some w) = Goes (go_on l (stored l.world w x))
 
 -- with C records: trap 7 where the log is full
 abbrev pub log : ℕ → Loc → Option ℕ → Next World Loc
 log C l None = Goes (go_on l l.world)
-log C l (Some w) =
-    if nat_lt l.world.records C then Goes (go_on l (record { heap = l.world.heap; seen = Logs w ∷ l.world.seen; ticks = l.world.ticks; records = l.world.records + 1 }))
-    else Traps 7 l.world
+log C l (Some w) = if nat_lt l.world.records C then Goes (go_on l (logged l.world w)) else Traps 7 l.world
 
 abbrev pub tick : Loc → ℕ → Next World Loc
 tick l zero = Traps 5 l.world
