@@ -1,23 +1,23 @@
 -- The code of a new object, behind the search.
-use Rattle.std.proofs.Common.{◌≡◌, ℕ, zero, suc, ◌+◌, ◌-◌, ◌*◌, ◌^◌, ◌<◌, ◌≤◌, Bool, true, false, List, [], ◌∷◌, ◌++◌, length, Some, None, Option, ℤ, pos, refl, sym, ap, ◌∙◌, subst, arith, ltb, append_assoc, length-append, get_or}
+use Rattle.std.proofs.Common.{◌≡◌, ℕ, zero, suc, ◌+◌, ◌*◌, ◌<◌, ◌≤◌, Bool, true, false, List, [], ◌∷◌, ◌++◌, length, Some, None, Option, ℤ, pos, refl, sym, ap, ◌∙◌, subst, arith, ltb, append_assoc, length-append, get_or}
 use Rattle.std.specs.Prelude.{◌+ℤ◌, slice_get}
 use Rattle.std.specs.Int.{w64, int_wrap}
 use Rattle.std.proofs.lemmas.Bool.{lt-ltb}
 use Rattle.cache_model.specs.Cache.{Words, put}
 use Rattle.pool_layout.specs.declared.limits.Sizes.{Sizes}
-use Rattle.pool_layout.specs.Sizes.{root_lines, heap_words, slot_word}
+use Rattle.pool_layout.specs.Sizes.{heap_words, slot_word}
 use Rattle.pm_machine.specs.declared.effect.Effect.{Effect}
 use Rattle.pm_alloc.specs.declared.local.Reg.{Reg}
 use Rattle.pm_alloc.specs.declared.local.Reg.TheVariants.{Own, Temp}
 use Rattle.pm_alloc.specs.declared.local.Local.{Local}
 use Rattle.pm_alloc.specs.declared.local.Local.TheVariants.{Mov, Store, Log}
-use Rattle.pm_alloc.specs.Pieces.{offset, store_code, fill_code, new_head, new_code}
+use Rattle.pm_alloc.specs.Pieces.{offset, fill_code, new_head, new_code}
 use Rattle.pm_alloc.specs.Runs.{Next, Goes, run}
 use Rattle.pm_alloc.specs.LocalRun.{World, Loc, read, stored, logged, step}
 use Rattle.pm_alloc.specs.Search.{free_from, looked, HasHeaders, world, temporaries, IsPool}
 use Rattle.pm_alloc.specs.New.{wrote, zeroed, value_of, made, NewLaw}
 use Rattle.pm_alloc.proofs.Runs.{run_on}
-use Rattle.pm_alloc.proofs.Search.{address_is, first, Finds, searched_whole, IsAmong, free_within}
+use Rattle.pm_alloc.proofs.Search.{address_is, Finds, searched_whole, free_within}
 
 -- these instructions stand here, one behind the other
 abbrev Here : List Local → ℕ → List Local → Type 0
@@ -42,10 +42,10 @@ here_back frag p (i ∷ a) b h =
     subst (λ (n : ℕ). Here frag n b) e (here_back frag (p + 1) a b h.1)
 
 module _ (s : Sizes) (frag : List Local) (own : Words) (temp : List ℤ) where
-  abbrev loc : ℕ → World → Loc
+  abbrev pub loc : ℕ → World → Loc
   loc p w = record { at = p; own = own; temp = temp; world = w }
 
-  abbrev go : ℕ → Loc → Next World Loc
+  abbrev pub go : ℕ → Loc → Next World Loc
   go n l = run (step s frag) n l
 
   plain : (p q : ℕ) (w : World) (x a : Reg) (o : ℤ) → slice_get frag p ≡ Some (Store x o a) → int_wrap w64 (read own temp x +ℤ o) ≡ pos q → ltb q (heap_words s) ≡ true → go 1 (loc p w) ≡ Goes (loc (p + 1) (stored w q (read own temp a)))
@@ -56,7 +56,7 @@ module _ (s : Sizes) (frag : List Local) (own : Words) (temp : List ℤ) where
       let some : ltb w.records s.records ≡ true = lt-ltb w.records s.records room in
       rw (here, at, within, some) refl
 
-  with_log : (p q : ℕ) (w : World) (x a : Reg) (o : ℤ) → slice_get frag p ≡ Some (Log x o) → slice_get frag (p + 1) ≡ Some (Store x o a) → int_wrap w64 (read own temp x +ℤ o) ≡ pos q → ltb q (heap_words s) ≡ true → w.records < s.records → go 2 (loc p w) ≡ Goes (loc (p + 1 + 1) (wrote true w q (read own temp a)))
+  pub with_log : (p q : ℕ) (w : World) (x a : Reg) (o : ℤ) → slice_get frag p ≡ Some (Log x o) → slice_get frag (p + 1) ≡ Some (Store x o a) → int_wrap w64 (read own temp x +ℤ o) ≡ pos q → ltb q (heap_words s) ≡ true → w.records < s.records → go 2 (loc p w) ≡ Goes (loc (p + 1 + 1) (wrote true w q (read own temp a)))
   with_log p q w x a o here next at within room =
       run_on (step s frag) 1 1 _ _ _ (note p q w x o here at within room) (plain (p + 1) q (logged w q) x a o next at within)
 
@@ -139,10 +139,15 @@ module _ (s : Sizes) (to kind c : ℕ) (b : Bool) (own x heap : Words) (ticks re
     mov v = rw (here_back (new_code s to kind c b) 17 (fill_code s b 1 c) (Mov (Own to) (Temp 0) ∷ []) rest_here).0 refl
 
     slot_made : (m : ℕ) × (m ≤ n + 35) × Done m (Some q) w
-    slot_made =
-        (n + 1 + 2 + 1 + filled.0 + 1, omega (arith, filled.1), (temp2,
-          on (n + 1 + 2 + 1 + filled.0) 1 begin _ _ (on (n + 1 + 2 + 1) filled.0 begin _ _ to_fill filled.2) (mov (zeroed b w1 (slot_word s q + 1) c))
-          ∙ ap (λ (p : ℕ). Goes (at_loc p (put own to (pos q)) temp2 (zeroed b w1 (slot_word s q + 1) c))) whole))
+    slot_made = (
+      n + 1 + 2 + 1 + filled.0 + 1,
+      omega (arith, filled.1),
+      (
+        temp2,
+        on (n + 1 + 2 + 1 + filled.0) 1 begin _ _ (on (n + 1 + 2 + 1) filled.0 begin _ _ to_fill filled.2) (mov (zeroed b w1 (slot_word s q + 1) c))
+            ∙ ap (λ (p : ℕ). Goes (at_loc p (put own to (pos q)) temp2 (zeroed b w1 (slot_word s q + 1) c))) whole,
+      ),
+    )
 
 -- where the search led, the code goes on to its end
 module _ (s : Sizes) (to kind c : ℕ) (b : Bool) (own x heap : Words) (ticks records : ℕ) (es : List Effect) (pool : IsPool s) (headers : HasHeaders s heap) (few : c ≤ 15) (room : records + 1 + c ≤ s.records) where

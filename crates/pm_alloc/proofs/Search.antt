@@ -15,7 +15,7 @@ use Rattle.pm_alloc.specs.LocalRun.{World, Loc, at_zero, step}
 use Rattle.pm_alloc.specs.Search.{free_from, looked, HasHeaders, world, temporaries, Leads, IsPool, SearchLaw}
 use Rattle.pm_alloc.proofs.Runs.{run_on}
 
-small : (n : ℕ) → n < 2 ^ 62 → int_wrap w64 (pos n) ≡ pos n
+pub small : (n : ℕ) → n < 2 ^ 62 → int_wrap w64 (pos n) ≡ pos n
 small n h = let fits : FitsSigned w64 (pos n) = search rules in int_wrap_fits w64 (pos n) fits
 
 -- the address of a word of slot q, from 16 times q
@@ -24,7 +24,7 @@ address_is s q j some few lines short =
     let e : pos (16 * q) +ℤ (pos (8 * root_lines s + j) -ℤ pos 16) ≡ pos (8 * root_lines s + 16 * (q - 1) + j) = omega (arith, ints) in
     ap (λ (z : ℤ). int_wrap w64 z) e ∙ small (8 * root_lines s + 16 * (q - 1) + j) (omega arith)
 
-header_address : (s : Sizes) (q a : ℕ) → a ≡ 16 * q → 1 ≤ q → q ≤ 65536 → root_lines s ≤ 64 → int_wrap w64 (pos a +ℤ offset s 0) ≡ pos (slot_word s q)
+pub header_address : (s : Sizes) (q a : ℕ) → a ≡ 16 * q → 1 ≤ q → q ≤ 65536 → root_lines s ≤ 64 → int_wrap w64 (pos a +ℤ offset s 0) ≡ pos (slot_word s q)
 header_address s q a is some few lines =
     let e : slot_word s q + 0 ≡ slot_word s q = omega arith in
     ap (λ (n : ℕ). int_wrap w64 (pos n +ℤ offset s 0)) is ∙ address_is s q 0 some few lines (omega arith) ∙ ap pos e
@@ -111,9 +111,12 @@ module _ (s : Sizes) (to kind c : ℕ) (b : Bool) (own x heap : Words) (ticks re
   pub searched_whole : (n : ℕ) × (n ≤ 6 * s.slots + 5) × Finds n (free_from s heap s.slots 1) (looked s heap s.slots 1 es)
   searched_whole =
       let e : suc (s.slots - 1) ≡ s.slots = omega (arith, pool.some) in
-      let f = search_from s to kind c b own heap ticks records (x 7 ∷ []) pool (s.slots - 1) 1 16 es refl (omega arith) (omega arith) headers (x 5) (x 6) in
-      (5 + f.0, omega (arith, f.1), subst (λ (m : ℕ). Finds (5 + f.0) (free_from s heap m 1) (looked s heap m 1 es)) e
-        (found_on s to kind c b own heap ticks records (x 7 ∷ []) pool 5 f.0 (first own x (world heap ticks records es)) (loc s to kind c b own heap ticks records (x 7 ∷ []) pool 5 (temps 1 16 s.slots (x 5) (x 6) (x 7 ∷ [])) es) (free_from s heap (suc (s.slots - 1)) 1) (looked s heap (suc (s.slots - 1)) 1 es) prologue f.2))
+      let f = search_from s to kind c b own heap ticks records (x 7 ∷ []) pool (s.slots - 1) 1 16 es refl (omega arith) (omega arith) headers (x 5) (x 6) in (
+        5 + f.0,
+        omega (arith, f.1),
+        subst (λ (m : ℕ). Finds (5 + f.0) (free_from s heap m 1) (looked s heap m 1 es)) e
+            (found_on s to kind c b own heap ticks records (x 7 ∷ []) pool 5 f.0 (first own x (world heap ticks records es)) (loc s to kind c b own heap ticks records (x 7 ∷ []) pool 5 (temps 1 16 s.slots (x 5) (x 6) (x 7 ∷ [])) es) (free_from s heap (suc (s.slots - 1)) 1) (looked s heap (suc (s.slots - 1)) 1 es) prologue f.2),
+      )
 
   led : (n : ℕ) (o : Option ℕ) (fs : List Effect) → Finds n o fs → Leads (λ (l : Loc). run (step s (new_code s to kind c b)) n (first own x (world heap ticks records es)) ≡ Goes l) o (λ at temp. record { at = at; own = own; temp = temp; world = world heap ticks records fs })
   led n None fs f = f

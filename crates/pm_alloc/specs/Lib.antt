@@ -4,3 +4,4 @@ pub mod Runs
 pub mod LocalRun
 pub mod Search
 pub mod New
+pub mod Free

@@ -1,6 +1,6 @@
 -- A piece of code alone, over a heap: its place is counted from its start, its function's registers are words by their
 -- numbers, and its temporary ones a list. The effects on the heap and on the log are kept, the newest first.
-use Rattle.std.specs.Prelude.{ℕ, zero, suc, ◌+◌, ◌==◌, if◌then◌else◌, nat_lt, List, [], ◌∷◌, Option, Some, None, ℤ, pos, negsuc, ◌+ℤ◌, slice_get, get_or, set}
+use Rattle.std.specs.Prelude.{ℕ, zero, suc, ◌+◌, if◌then◌else◌, nat_lt, List, ◌∷◌, Option, Some, None, ℤ, pos, negsuc, ◌+ℤ◌, slice_get, get_or, set}
 use Rattle.std.specs.Int.{w64, int_wrap}
 use Rattle.nvm_base.specs.Applied.{applied}
 use Rattle.cache_model.specs.Cache.{Words, put}

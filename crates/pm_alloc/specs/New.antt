@@ -1,14 +1,14 @@
 -- What the code of `pm_new` does, from its start with any registers, where the log has room for its records: with the least
 -- free slot it logs and stores the header, stores zeros, each logged where the fill is, and gives the slot; where none is
 -- free it gives 0 and has stored nothing. It takes at most 6 N + 40 steps.
-use Rattle.std.specs.Prelude.{ℕ, zero, suc, ◌+◌, ◌*◌, ◌≤◌, ◌≡◌, Bool, true, false, List, [], ◌∷◌, length, Option, Some, None, ℤ, pos}
+use Rattle.std.specs.Prelude.{ℕ, zero, suc, ◌+◌, ◌*◌, ◌≤◌, ◌≡◌, Bool, true, false, List, length, Option, Some, None, ℤ, pos}
 use Rattle.cache_model.specs.Cache.{Words, put}
 use Rattle.pool_layout.specs.declared.limits.Sizes.{Sizes}
 use Rattle.pool_layout.specs.Sizes.{slot_word}
 use Rattle.pm_machine.specs.declared.effect.Effect.{Effect}
 use Rattle.pm_alloc.specs.Pieces.{new_code}
 use Rattle.pm_alloc.specs.Runs.{Goes, run}
-use Rattle.pm_alloc.specs.LocalRun.{World, Loc, stored, logged, step}
+use Rattle.pm_alloc.specs.LocalRun.{World, stored, logged, step}
 use Rattle.pm_alloc.specs.Search.{free_from, looked, HasHeaders, world, temporaries, IsPool}
 
 -- a store, with its log or without

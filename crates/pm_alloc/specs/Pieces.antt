@@ -7,7 +7,7 @@ use Rattle.pool_layout.specs.Sizes.{root_lines}
 use Rattle.pm_alloc.specs.declared.local.Reg.{Reg}
 use Rattle.pm_alloc.specs.declared.local.Reg.TheVariants.{Own, Temp}
 use Rattle.pm_alloc.specs.declared.local.Local.{Local}
-use Rattle.pm_alloc.specs.declared.local.Local.TheVariants.{Const, Mov, Bin, Jmp, Jz, Load, Store, Log, Tick, Trap}
+use Rattle.pm_alloc.specs.declared.local.Local.TheVariants.{Const, Mov, Bin, Jmp, Jz, Load, Store, Log, Trap}
 
 -- word j of the object in slot s is heap word 16 s + offset; word 0 is its header
 abbrev pub offset : Sizes → ℕ → ℤ

@@ -1,5 +1,7 @@
-//! What the code of `pm_new` does when it is run alone, as clauses.
+//! What the code of `pm_new`, of `pm_free` and of the checks of a pointer does when it is run alone,
+//! as clauses.
 
+ghost use Rattle.pm_alloc.specs.Free.{FreeLaw, PointerLaw};
 ghost use Rattle.pm_alloc.specs.New.{NewLaw};
 ghost use Rattle.pm_alloc.specs.Search.{SearchLaw};
 
@@ -13,4 +15,16 @@ pub fn search_law()
 /// most 6 N + 40 steps, where the log has room.
 pub fn new_law()
     ensures { NewLaw }
+{}
+
+/// The checks of a pointer trap as null or stale, or go on with 16 times its slot, in at most 14
+/// steps.
+pub fn pointer_law()
+    ensures { PointerLaw }
+{}
+
+/// The code of `pm_free` traps as the checks do, or sets the header to 0, in at most 17 steps, where
+/// the log has room.
+pub fn free_law()
+    ensures { FreeLaw }
 {}

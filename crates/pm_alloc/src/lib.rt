@@ -13,7 +13,7 @@ mod stores;
 
 pub use checks::{push_index_check, push_pointer_check};
 pub use fragment::{Fragment, FreeShape, NewShape, free_fragment, new_fragment};
-pub use laws::{new_law, search_law};
+pub use laws::{free_law, new_law, pointer_law, search_law};
 pub use local::{Local, Locals, Reg};
 pub use objects::{push_free, push_new};
 pub use placing::{push_placed, sum};
