@@ -9,10 +9,11 @@ use Rattle.cache_model.specs.Cache.{Words, Cache, view}
 use Rattle.cache_model.specs.Play.{play}
 use Rattle.pool_layout.specs.declared.limits.Sizes.{Sizes}
 use Rattle.pool_layout.specs.declared.places.Layout.{Layout}
-use Rattle.pool_layout.specs.declared.places.Place.TheVariants.{RecordStamp, Heap}
+use Rattle.pool_layout.specs.declared.places.Place.TheVariants.{Argument, Seal, RecordStamp, Heap}
 use Rattle.pool_layout.specs.Places.{at, pool_of}
 use Rattle.pool_layout.specs.Sizes.{heap_words}
 use Rattle.pool_layout.specs.Log.{valid, count}
+use Rattle.pool_map.specs.Trap.{trap_number}
 use Rattle.clobber_log.specs.Logs.{attempt_of, attempt_in, count_in}
 use Rattle.args_log.specs.Next.{next}
 use Rattle.args_log.specs.Seal.{stores_from, flushes_from, payload_lines, payload_events, unsealed_events, sealing_events, seal_events}
@@ -22,10 +23,11 @@ use Rattle.pm_machine.specs.declared.effect.End.{End}
 use Rattle.pm_machine.specs.declared.effect.End.TheVariants.{Halted, Trapped}
 use Rattle.pm_machine.specs.declared.image.Image.{Image}
 use Rattle.pm_machine.specs.Effects.{events_all, records_end}
-use Rattle.pm_machine.specs.Machine.{State, start, Finished, mrun, run}
+use Rattle.pm_machine.specs.Machine.{State, start, Run, Finished, mrun, run}
 use Rattle.pm_machine.specs.Runs.{heap_in, Due, due, end_of, owed}
 use Rattle.pm_machine.specs.Inputs.{AreAlike}
 use Rattle.pm_machine.proofs.Agree.{alike_due}
+use Rattle.crash_law.specs.Pools.{Call}
 use Rattle.crash_law.specs.Due as crash
 use Rattle.run_law.specs.Seen.{trace_in, result_of}
 use Rattle.run_law.specs.Sound.{IsSoundRun}
@@ -94,21 +96,27 @@ pub count_same : (z : Sizes) (a : ℕ) (u v : Words) → ((p : ℕ) → 48 ≤ p
 unfolding count
 count_same z a u v same = ap (λ (stamps : ℕ → ℤ). valid stamps a z.records) (λ i j. same (at (pool_of z) (RecordStamp j)) (omega arith) i)
 
--- a run on a cache, and what is behind it, from a heap r that is alike for the run from h
+-- what a run on a cache owes, from a heap r that is alike for the run from h
+pub owes_same : (image : Image) (tx : ℕ) (args : List ℤ) (c : Cache) (a : ℕ) (h r : Words) (end : End) (es : List Effect) →
+    a ≤ 2 ^ 62 → view c 18 ≡ pos a → count_in image.parts.sizes (view c) ≡ 0 → heap_in image.parts.sizes c ≡ r →
+    AreAlike (heap_words image.parts.sizes) es h r → run image image.parts.most 0 (start image tx args) h ≡ Finished end es →
+    plays.due_on image (start image tx args) c ≡ record { events = events_all image.parts.sizes a 0 r es; fate = Some end; steps = suc (length es); records = records_end 0 es }
+owes_same image tx args c a h r end es a_fits attempt empty heap alike ran =
+    let z : Sizes = image.parts.sizes in
+    let s : State = start image tx args in
+    ap (λ (b : ℕ). due image b image.parts.most (count_in z (view c)) s c) (ap attempt_of attempt ∙ attempt_small a a_fits)
+    ∙ ap (λ (n : ℕ). due image a image.parts.most n s c) empty
+    ∙ alike_due image end a image.parts.most 0 s c h es tt ran (subst (λ (g : Words). AreAlike (heap_words z) es h g) (sym heap) alike)
+    ∙ ap (λ (g : Words). owed z a 0 g (Finished end es)) heap
+
+-- the run, and what is behind it
 pub run_same : (image : Image) (tx : ℕ) (args : List ℤ) (c : Cache) (d a : ℕ) (h r : Words) (end : End) (es : List Effect) →
     d ≤ 2 ^ 62 → a ≤ 2 ^ 62 → view c 17 ≡ pos d → view c 18 ≡ pos a → count_in image.parts.sizes (view c) ≡ 0 → heap_in image.parts.sizes c ≡ r →
     AreAlike (heap_words image.parts.sizes) es h r → run image image.parts.most 0 (start image tx args) h ≡ Finished end es → IsSoundRun end es →
     plays.due_run image (start image tx args) c ≡ crash.due_run (pool_of image.parts.sizes) a (suc d) r (result_of end) (trace_in es)
 run_same image tx args c d a h r end es d_fits a_fits done attempt empty heap alike ran sound =
     let z : Sizes = image.parts.sizes in
-    let s : State = start image tx args in
-    let own : Due = record { events = events_all z a 0 r es; fate = Some end; steps = suc (length es); records = records_end 0 es } in
-    let due_is : plays.due_on image s c ≡ own =
-    ap (λ (b : ℕ). due image b image.parts.most (count_in z (view c)) s c) (ap attempt_of attempt ∙ attempt_small a a_fits)
-    ∙ ap (λ (n : ℕ). due image a image.parts.most n s c) empty
-    ∙ alike_due image end a image.parts.most 0 s c h es tt ran (subst (λ (g : Words). AreAlike (heap_words z) es h g) (sym heap) alike)
-    ∙ ap (λ (g : Words). owed z a 0 g (Finished end es)) heap in
-    ap (λ (x : Due). x.events ++ plays.tail_events (end_of x.fate) (play c x.events)) due_is
+    ap (λ (x : Due). x.events ++ plays.tail_events (end_of x.fate) (play c x.events)) (owes_same image tx args c a h r end es a_fits attempt empty heap alike ran)
     ∙ ap (λ (rest : List CacheEvent). events_all z a 0 r es ++ rest)
     (tail_is z d a end (play c (events_all z a 0 r es))
     (view_missed (events_all z a 0 r es) c 17 (misses_run z a 0 17 r es (omega arith)) ∙ done)
@@ -150,7 +158,7 @@ module _ (image : Image) (tx : ℕ) (args : List ℤ) (c : Cache) (d a : ℕ) (e
   attempt_behind : attempt_in z (view behind) ≡ a
   attempt_behind = ap attempt_of (seen 18 (inl (omega arith))) ∙ attempt_before
 
-  empty_behind : count_in z (view behind) ≡ 0
+  pub empty_behind : count_in z (view behind) ≡ 0
   empty_behind =
       ap (λ (b : ℕ). count (pool_of z) b (view behind)) (attempt_behind ∙ sym attempt_before)
       ∙ count_same z (attempt_in z (view c)) (view behind) (view c) (λ p more. seen p (inr more)) ∙ empty
@@ -159,6 +167,9 @@ module _ (image : Image) (tx : ℕ) (args : List ℤ) (c : Cache) (d a : ℕ) (e
   run_is =
       run_same image tx args behind d a h h end es (omega arith) (omega arith) (seen 17 (inl (omega arith)) ∙ done) (seen 18 (inl (omega arith)) ∙ attempt)
       empty_behind same_heap (λ u less kept. refl) ran sound
+
+  pub owes_behind : plays.due_on image s behind ≡ record { events = events_all z a 0 h es; fate = Some end; steps = suc (length es); records = records_end 0 es }
+  owes_behind = owes_same image tx args behind a h h end es (omega arith) (seen 18 (inl (omega arith)) ∙ attempt) empty_behind same_heap (λ u less kept. refl) ran
 
   pub call_is : plays.due_call image tx args c ≡ crash.due_call (pool_of z) a (call_of d tx args) h (result_of end) (trace_in es)
   unfolding plays.due_call

@@ -5,3 +5,4 @@ pub mod Backs
 pub mod Redoes
 pub mod Cleans
 pub mod Recoveries
+pub mod Leaving

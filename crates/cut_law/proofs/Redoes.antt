@@ -1,5 +1,5 @@
 -- What a recovery of a sealed pool plays is the crash law's list, and what its cuts leave.
-use Rattle.std.proofs.Common.{◌≡◌, ◌≢◌, ◌⊎◌, ℕ, zero, suc, ◌+◌, ◌^◌, ◌<◌, ◌≤◌, List, ◌∷◌, ◌++◌, length, ℤ, pos, sym, ap, ◌∙◌, subst, arith, append_assoc}
+use Rattle.std.proofs.Common.{◌≡◌, ◌≢◌, ◌⊎◌, ℕ, zero, suc, ◌+◌, ◌*◌, ◌^◌, ◌<◌, ◌≤◌, List, [], ◌∷◌, ◌++◌, length, Some, ℤ, pos, refl, sym, ap, ◌∙◌, subst, arith, append_assoc, inl, inr}
 use Rattle.cache_model.specs.Event.{CacheEvent, Store, Flush, Fence}
 use Rattle.cache_model.specs.Cache.{Words, Cache, view}
 use Rattle.cache_model.specs.Play.{apply, play}
@@ -17,15 +17,15 @@ use Rattle.pool_layout.specs.Restored.{undone, restored}
 use Rattle.pool_layout.proofs.Records.{LogIs, log_is, count_is, pos_inj}
 use Rattle.clobber_log.specs.Logs.{attempt_of, attempt_in, count_in}
 use Rattle.clobber_log.specs.Reset.{reset_events}
-use Rattle.clobber_log.specs.Restore.{restore_events}
+use Rattle.clobber_log.specs.Restore.{word_in_record, old_in_record, restore_events}
 use Rattle.pm_machine.specs.declared.effect.Effect.{Effect}
 use Rattle.pm_machine.specs.declared.effect.End.{End}
 use Rattle.pm_machine.specs.declared.image.Image.{Image}
-use Rattle.pm_machine.specs.Effects.{heap_end}
+use Rattle.pm_machine.specs.Effects.{heap_end, records_end}
 use Rattle.pm_machine.specs.Inputs.{AreAlike}
 use Rattle.pm_machine.specs.Machine.{Finished, mrun, start}
-use Rattle.pm_machine.specs.Runs.{heap_in}
-use Rattle.crash_law.specs.Pools.{Owed}
+use Rattle.pm_machine.specs.Runs.{heap_in, Due}
+use Rattle.crash_law.specs.Pools.{Pool, Call, Owed}
 use Rattle.crash_law.specs.Due as crash
 use Rattle.crash_law.specs.Law.{IsEnd}
 use Rattle.crash_law.proofs.Redo as whole
@@ -37,7 +37,7 @@ use Rattle.tx_run.specs.Due as plays
 use Rattle.recovery.specs.Due.{due_reset, due_back, due_redo}
 use Rattle.cut_law.specs.Law.{call_of, pool_with}
 use Rattle.cut_law.proofs.Misses.{view_missed, view_one}
-use Rattle.cut_law.proofs.Dues.{attempt_small, run_same}
+use Rattle.cut_law.proofs.Dues.{attempt_small, count_same, owes_same, run_same}
 use Rattle.cut_law.proofs.Backs.{misses_restore, restore_same, heap_restored}
 
 module _ (image : Image) (super : Words) (tx : ℕ) (args : List ℤ) (c : Cache) (one : Words) (d : ℕ) (h : Words) (end : End) (es : List Effect)
@@ -93,6 +93,29 @@ module _ (image : Image) (super : Words) (tx : ℕ) (args : List ℤ) (c : Cache
       (ap (λ (v : Words). v 17) seen ∙ owed.done) (ap (λ (v : Words). v 18) seen ∙ owed.attempt_is)
       (ap (λ (v : Words). count_in z v) seen ∙ counted_in 0 counted)
       (λ i w. (view_one c one only (at l (Heap w)) ∙ sym (restored_is 0 counted w)) i) alike ran sound
+
+  -- what the run of the recovery owes, and that no record is valid where it begins
+  pub record Owes (b : Cache) : Type 0 where
+    pub fate : (plays.due_on image (start image tx args) b).fate ≡ Some end
+    pub steps : (plays.due_on image (start image tx args) b).steps ≡ suc (length es)
+    pub records : (plays.due_on image (start image tx args) b).records ≡ records_end 0 es
+    pub none : count_in z (view b) ≡ 0
+
+  owing : (b : Cache) (k : ℕ) → k ≤ 2 ^ 62 → view b 18 ≡ pos k → count_in z (view b) ≡ 0 → heap_in z b ≡ r → Owes b
+  owing b k fits attempt none heap =
+      let is = owes_same image tx args b k h r end es fits attempt none heap alike ran in
+      record {
+        fate = ap (λ (x : Due). x.fate) is;
+        steps = ap (λ (x : Due). x.steps) is;
+        records = ap (λ (x : Due). x.records) is;
+        none = none;
+      }
+
+  none_owes : count l a one ≡ 0 → Owes c
+  none_owes counted =
+      owing c a attempt_fits (ap (λ (v : Words). v 18) seen ∙ owed.attempt_is)
+      (ap (λ (v : Words). count_in z v) seen ∙ counted_in 0 counted)
+      (λ i w. (view_one c one only (at l (Heap w)) ∙ sym (restored_is 0 counted w)) i)
 
   -- some are
   module _ (m : ℕ) (counted : count l a one ≡ suc m) (lower : a < 2 ^ 62) where
@@ -174,6 +197,13 @@ module _ (image : Image) (super : Words) (tx : ℕ) (args : List ℤ) (c : Cache
         ∙ append_assoc first reset (run_list (suc a))
         ∙ restore_same z one m (reset ++ run_list (suc a)) (counted_in (suc m) counted) in_heap
         ∙ ap (λ (b : ℕ). crash.restore_events l words olds (suc m) (Fence ∷ Store 18 (pos b) ∷ Flush 2 ∷ Fence ∷ run_list (suc a))) (let e : a + 1 ≡ suc a = omega arith in e)
+
+    pub some_owes : Owes (play c (due_back z (suc m) c))
+    some_owes = subst Owes (sym behind_is) (owing behind (suc a) (omega arith) attempt_behind empty_behind heap_behind)
+
+  pub redo_owes : (n : ℕ) → count l a one ≡ n → (0 < n → a < 2 ^ 62) → Owes (play c (due_back z n c))
+  redo_owes zero counted room = none_owes counted
+  redo_owes (suc m) counted room = some_owes m counted (room (omega arith))
 
   events_same : (n : ℕ) → count l a one ≡ n → (0 < n → a < 2 ^ 62) → due_redo image tx args n c ≡ crash.redo_events l a (suc d) one n (result_of end) (trace_in es)
   events_same zero counted room = none_same counted

@@ -4,6 +4,7 @@
 #![tactic(auto)]
 
 ghost use Rattle.cut_law.specs.Law.{DueCallLaw, CutCallLaw, CutRedoLaw, CutCleanLaw, RestCallLaw, AgainLaw};
+ghost use Rattle.cut_law.specs.Leaves.{CallLeavesLaw, RedoLeavesLaw};
 
 /// What a call and a recovery play are the crash law's due lists; so each of their events leaves only
 /// images that the law names. It does nothing.
@@ -14,4 +15,6 @@ pub fn law()
     ensures clean { CutCleanLaw }
     ensures rest { RestCallLaw }
     ensures again { AgainLaw }
+    ensures called { CallLeavesLaw }
+    ensures redid { RedoLeavesLaw }
 {}

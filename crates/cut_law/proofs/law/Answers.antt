@@ -1,6 +1,7 @@
 use Rattle.cut_law.proofs.Dues.{call_is}
 use Rattle.cut_law.proofs.Cuts.{cut_call, call_at_rest}
 use Rattle.cut_law.proofs.Cleans.{cut_clean}
+use Rattle.cut_law.proofs.Leaving.{call_leaves, redo_leaves}
 use Rattle.cut_law.proofs.Recoveries.{cut_again}
 use Rattle.cut_law.proofs.Redoes.{cut_redo}
 use Rattle.cut_law.proofs.law.Goals as goal
@@ -22,3 +23,9 @@ returns-clause-rest c = call_at_rest
 
 pub returns-clause-again : goal.returns-clause-again
 returns-clause-again c = cut_again
+
+pub returns-clause-called : goal.returns-clause-called
+returns-clause-called c = call_leaves
+
+pub returns-clause-redid : goal.returns-clause-redid
+returns-clause-redid c = redo_leaves
