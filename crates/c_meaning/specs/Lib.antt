@@ -5,3 +5,4 @@ pub mod Access
 pub mod Operators
 pub mod Meaning
 pub mod Transaction
+pub mod Answers

@@ -17,15 +17,18 @@ abbrev pub outcome : Out ℤ → Outcome
 outcome (Got v p k) = Done p v
 outcome (Stops trap) = Trap trap
 
--- the transaction of that number, from 1 on
+-- the transaction of that number, from 1 on, of these functions
+abbrev pub transaction_in : ℕ → List FunctionTree → Option FunctionTree
+transaction_in zero fs = None
+transaction_in (suc i) fs = slice_get (transactions_in fs) i
+
 abbrev pub transaction : Tables → ℕ → Option FunctionTree
-transaction t zero = None
-transaction t (suc i) = slice_get (transactions_in t.functions) i
+transaction t number = transaction_in number t.functions
 
 -- one that isn't there does nothing and gives 0
 abbrev pub run : Tables → Option FunctionTree → PoolMap → List ℤ → ℕ → Outcome
 run t None p args ticks = Done p (pos 0)
 run t (Some f) p args ticks = outcome (entered t (calls_of t 255) f args p ticks)
 
-abbrev pub tx : Tables → PoolMap → ℕ → List ℤ → ℕ → Outcome
-tx t p number args ticks = run t (transaction t number) p args ticks
+abbrev pub transaction_means : Tables → PoolMap → (number : ℕ) → List ℤ → (ticks : ℕ) → Outcome
+transaction_means t p number args ticks = run t (transaction t number) p args ticks

@@ -1,5 +1,13 @@
 //! A call of a transaction.
 
+ghost use Rattle.std.specs.Prelude.{◌≡◌, None, option_map};
+ghost use Rattle.c_parser.specs.ItemTree.{function_of};
+ghost use Rattle.c_parser.specs.Program.{tree_of};
+ghost use Rattle.c_types.specs.Tables.{tables_of};
+ghost use Rattle.c_types.specs.Views.{tables_in};
+ghost use Rattle.c_meaning.specs.Answers.{Answers};
+ghost use Rattle.c_meaning.specs.Transaction.{transaction, transaction_means};
+
 use crate::answer::PlainAnswer;
 use crate::fault::Fault;
 use crate::locals::bound;
@@ -23,37 +31,50 @@ pub fn plain_call(
     tx: u64,
     args: &[i64],
     ticks: u64,
-) -> PlainAnswer {
-    match run(alloc, typed, pool, tx, args, ticks) {
+) -> PlainAnswer
+    ensures absent { transaction (tables_of (tree_of typed.now)) tx ≡ None → Answers result (transaction_means (tables_of (tree_of typed.now)) pool.now tx args.now ticks) }
+{
+    let Ok(program) = Program::new(alloc, typed.ast().items()) else {
+        return PlainAnswer::NoMemory;
+    };
+    let Ok(copy) = pool.copy() else {
+        return PlainAnswer::NoMemory;
+    };
+    match transaction(&program, tx) {
+        None => PlainAnswer::Done(copy, 0),
+        Some(function) => answer_of(run(alloc, &program, copy, function, args, ticks)),
+    }
+}
+
+fn answer_of(ended: Result<(Pool, i64), Fault>) -> PlainAnswer {
+    match ended {
         Ok((pool, value)) => PlainAnswer::Done(pool, value),
         Err(Fault::Trapped(kind)) => PlainAnswer::Trap(kind),
         Err(Fault::NoMemory) => PlainAnswer::NoMemory,
     }
 }
 
-fn run(
+fn run<'a>(
     alloc: Global,
-    typed: &Typed,
-    pool: &Pool,
-    tx: u64,
+    program: &Program<'a>,
+    pool: Pool,
+    function: &'a Function,
     args: &[i64],
     ticks: u64,
 ) -> Result<(Pool, i64), Fault> {
-    let program = Program::new(alloc, typed.ast().items())?;
-    let pool = pool.copy()?;
-    let Some(function) = transaction(&program, tx) else {
-        return Ok((pool, 0));
-    };
-    let top = bound(alloc, &program, &function.parameters, args)?;
+    let top = bound(alloc, program, &function.parameters, args)?;
     let mut run = Run::new(alloc, pool, top, ticks);
     run.begin(function)?;
-    finish(alloc, &program, &mut run)?;
+    finish(alloc, program, &mut run)?;
     let value = run.take();
     Ok((run.pool, value))
 }
 
 /// The transaction of that number.
-fn transaction<'a>(program: &Program<'a>, tx: u64) -> Option<&'a Function> {
+#[tactic(auto, using(crate::proofs::Numbers::numbers))]
+fn transaction<'a>(program: &Program<'a>, tx: u64) -> Option<&'a Function>
+    ensures { option_map (λ f. function_of f.now) result ≡ transaction (tables_in program.now) tx }
+{
     let mut left = tx;
     for function in program.functions() {
         if function.tx {
