@@ -5,3 +5,5 @@ pub mod Pending
 pub mod Reading
 pub mod Phase
 pub mod Retire
+pub mod Lengths
+pub mod PhaseLaw

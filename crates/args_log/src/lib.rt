@@ -5,9 +5,11 @@
 
 mod finishing;
 mod following_number;
+mod law;
 mod reading;
 mod sealing;
 
 pub use finishing::{mark_unusable, retire};
+pub use law::laws;
 pub use reading::{PendingAnswer, pending};
 pub use sealing::{SealAnswer, seal};
