@@ -1,5 +1,5 @@
 -- What a recovery plays before the call runs again is the crash law's list, and what it leaves.
-use Rattle.std.proofs.Common.{◌≡◌, ◌≢◌, ⊎_elim, ℕ, zero, suc, ◌+◌, ◌*◌, ◌/◌, ◌<◌, ◌≤◌, if◌then◌else◌, Bool, true, false, ltb, int_eq, List, [], ◌∷◌, ◌++◌, Option, Some, None, ℤ, pos, nat_abs, refl, sym, ap, ◌∙◌, subst, arith, append_assoc}
+use Rattle.std.proofs.Common.{◌≡◌, ◌≢◌, ⊎_elim, ℕ, zero, suc, ◌+◌, ◌*◌, ◌<◌, ◌≤◌, if◌then◌else◌, Bool, true, false, ltb, int_eq, List, [], ◌∷◌, ◌++◌, Option, Some, None, ℤ, pos, nat_abs, refl, sym, ap, ◌∙◌, subst, arith, append_assoc}
 use Rattle.std.proofs.lemmas.Bool.{cases_eq, ltb-false}
 use Rattle.std.proofs.lemmas.Bool.Decides.{Decides-int_eq}
 use Rattle.cache_model.specs.Event.{CacheEvent, Store, Flush, Fence}

@@ -1,5 +1,5 @@
 -- The recovery of a pool at rest.
-use Rattle.std.proofs.Common.{◌≡◌, ℕ, zero, suc, ◌+◌, ◌^◌, ◌<◌, ◌≤◌, List, [], ◌∷◌, pos, refl, sym, ap, ◌∙◌, subst, arith}
+use Rattle.std.proofs.Common.{◌≡◌, ℕ, zero, suc, ◌+◌, ◌^◌, ◌<◌, List, [], ◌∷◌, pos, refl, sym, ap, ◌∙◌, subst, arith}
 use Rattle.cache_model.specs.Event.{CacheEvent, Store, Flush, Fence}
 use Rattle.cache_model.specs.Cache.{Words, Cache, view}
 use Rattle.cache_model.specs.Play.{play}
@@ -8,7 +8,7 @@ use Rattle.cache_model.specs.During.{during}
 use Rattle.pool_layout.specs.declared.limits.Sizes.{Sizes}
 use Rattle.pool_layout.specs.Places.{pool_of}
 use Rattle.pool_layout.specs.Log.{count}
-use Rattle.clobber_log.specs.Logs.{attempt_of, attempt_in}
+use Rattle.clobber_log.specs.Logs.{attempt_of}
 use Rattle.clobber_log.specs.Reset.{reset_events}
 use Rattle.pm_machine.specs.declared.image.Image.{Image}
 use Rattle.crash_law.specs.Pools.{Good}

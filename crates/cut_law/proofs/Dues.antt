@@ -9,11 +9,10 @@ use Rattle.cache_model.specs.Cache.{Words, Cache, view}
 use Rattle.cache_model.specs.Play.{play}
 use Rattle.pool_layout.specs.declared.limits.Sizes.{Sizes}
 use Rattle.pool_layout.specs.declared.places.Layout.{Layout}
-use Rattle.pool_layout.specs.declared.places.Place.TheVariants.{Argument, Seal, RecordStamp, Heap}
+use Rattle.pool_layout.specs.declared.places.Place.TheVariants.{RecordStamp, Heap}
 use Rattle.pool_layout.specs.Places.{at, pool_of}
 use Rattle.pool_layout.specs.Sizes.{heap_words}
 use Rattle.pool_layout.specs.Log.{valid, count}
-use Rattle.pool_map.specs.Trap.{trap_number}
 use Rattle.clobber_log.specs.Logs.{attempt_of, attempt_in, count_in}
 use Rattle.args_log.specs.Next.{next}
 use Rattle.args_log.specs.Seal.{stores_from, flushes_from, payload_lines, payload_events, unsealed_events, sealing_events, seal_events}
@@ -23,11 +22,10 @@ use Rattle.pm_machine.specs.declared.effect.End.{End}
 use Rattle.pm_machine.specs.declared.effect.End.TheVariants.{Halted, Trapped}
 use Rattle.pm_machine.specs.declared.image.Image.{Image}
 use Rattle.pm_machine.specs.Effects.{events_all, records_end}
-use Rattle.pm_machine.specs.Machine.{State, start, Run, Finished, mrun, run}
+use Rattle.pm_machine.specs.Machine.{State, start, Finished, mrun, run}
 use Rattle.pm_machine.specs.Runs.{heap_in, Due, due, end_of, owed}
 use Rattle.pm_machine.specs.Inputs.{AreAlike}
 use Rattle.pm_machine.proofs.Agree.{alike_due}
-use Rattle.crash_law.specs.Pools.{Call}
 use Rattle.crash_law.specs.Due as crash
 use Rattle.run_law.specs.Seen.{trace_in, result_of}
 use Rattle.run_law.specs.Sound.{IsSoundRun}

@@ -1,8 +1,8 @@
 -- What the answers of a call and of a recovery leave on the device.
-use Rattle.std.proofs.Common.{◌≡◌, ◌⊎◌, inl, inr, ⊎_elim, ℕ, zero, suc, ◌+◌, ◌^◌, ◌<◌, ◌≤◌, List, [], ◌∷◌, length, Some, ℤ, pos, refl, sym, ap, ◌∙◌, subst, arith}
+use Rattle.std.proofs.Common.{◌≡◌, ◌⊎◌, inl, inr, ⊎_elim, ℕ, suc, ◌+◌, ◌^◌, ◌<◌, ◌≤◌, List, [], ◌∷◌, length, Some, ℤ, pos, sym, ap, ◌∙◌, subst, arith}
 use Rattle.cache_model.specs.Event.{CacheEvent}
 use Rattle.cache_model.specs.Cache.{Words, Cache, view}
-use Rattle.cache_model.specs.Play.{apply, play}
+use Rattle.cache_model.specs.Play.{play}
 use Rattle.cache_model.specs.Image.{Images, HasOne}
 use Rattle.cache_model.specs.During.{during}
 use Rattle.cache_model.proofs.During.{during_end}
@@ -19,9 +19,9 @@ use Rattle.pm_machine.specs.declared.effect.Effect.{Effect}
 use Rattle.pm_machine.specs.declared.effect.End.{End}
 use Rattle.pm_machine.specs.declared.image.Image.{Image}
 use Rattle.pm_machine.specs.Effects.{heap_end, records_end, events_all}
-use Rattle.pm_machine.specs.Machine.{Finished, mrun, start}
+use Rattle.pm_machine.specs.Machine.{Finished, mrun}
 use Rattle.pm_machine.specs.Runs.{heap_in, Due, end_of}
-use Rattle.crash_law.specs.Pools.{Pool, Call, Good, Owed}
+use Rattle.crash_law.specs.Pools.{Good, Owed}
 use Rattle.crash_law.specs.Law.{IsCut, IsEnd}
 use Rattle.run_law.specs.Seen.{result_of, E, W}
 use Rattle.run_law.specs.Sound.{IsSoundRun}
@@ -31,7 +31,7 @@ use Rattle.tx_run.specs.Due as plays
 use Rattle.tx_run.specs.Called.{Called, called_run}
 use Rattle.recovery.specs.declared.answer.RecoverAnswer.{RecoverAnswer}
 use Rattle.recovery.specs.declared.answer.RecoverAnswer.TheVariants as recover
-use Rattle.recovery.specs.Due.{due_back, due_redo}
+use Rattle.recovery.specs.Due.{due_redo}
 use Rattle.recovery.specs.Recovered.{Redid}
 use Rattle.cut_law.specs.Law.{call_of, pool_with}
 use Rattle.cut_law.specs.Leaves.{Tells, Retells}

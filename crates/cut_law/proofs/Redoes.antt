@@ -1,5 +1,5 @@
 -- What a recovery of a sealed pool plays is the crash law's list, and what its cuts leave.
-use Rattle.std.proofs.Common.{◌≡◌, ◌≢◌, ◌⊎◌, ℕ, zero, suc, ◌+◌, ◌*◌, ◌^◌, ◌<◌, ◌≤◌, List, [], ◌∷◌, ◌++◌, length, Some, ℤ, pos, refl, sym, ap, ◌∙◌, subst, arith, append_assoc, inl, inr}
+use Rattle.std.proofs.Common.{◌≡◌, ◌≢◌, ◌⊎◌, ℕ, zero, suc, ◌+◌, ◌^◌, ◌<◌, ◌≤◌, List, ◌∷◌, ◌++◌, length, Some, ℤ, pos, sym, ap, ◌∙◌, subst, arith, append_assoc}
 use Rattle.cache_model.specs.Event.{CacheEvent, Store, Flush, Fence}
 use Rattle.cache_model.specs.Cache.{Words, Cache, view}
 use Rattle.cache_model.specs.Play.{apply, play}
@@ -17,7 +17,7 @@ use Rattle.pool_layout.specs.Restored.{undone, restored}
 use Rattle.pool_layout.proofs.Records.{LogIs, log_is, count_is, pos_inj}
 use Rattle.clobber_log.specs.Logs.{attempt_of, attempt_in, count_in}
 use Rattle.clobber_log.specs.Reset.{reset_events}
-use Rattle.clobber_log.specs.Restore.{word_in_record, old_in_record, restore_events}
+use Rattle.clobber_log.specs.Restore.{restore_events}
 use Rattle.pm_machine.specs.declared.effect.Effect.{Effect}
 use Rattle.pm_machine.specs.declared.effect.End.{End}
 use Rattle.pm_machine.specs.declared.image.Image.{Image}
@@ -25,7 +25,7 @@ use Rattle.pm_machine.specs.Effects.{heap_end, records_end}
 use Rattle.pm_machine.specs.Inputs.{AreAlike}
 use Rattle.pm_machine.specs.Machine.{Finished, mrun, start}
 use Rattle.pm_machine.specs.Runs.{heap_in, Due}
-use Rattle.crash_law.specs.Pools.{Pool, Call, Owed}
+use Rattle.crash_law.specs.Pools.{Owed}
 use Rattle.crash_law.specs.Due as crash
 use Rattle.crash_law.specs.Law.{IsEnd}
 use Rattle.crash_law.proofs.Redo as whole
@@ -37,7 +37,7 @@ use Rattle.tx_run.specs.Due as plays
 use Rattle.recovery.specs.Due.{due_reset, due_back, due_redo}
 use Rattle.cut_law.specs.Law.{call_of, pool_with}
 use Rattle.cut_law.proofs.Misses.{view_missed, view_one}
-use Rattle.cut_law.proofs.Dues.{attempt_small, count_same, owes_same, run_same}
+use Rattle.cut_law.proofs.Dues.{attempt_small, owes_same, run_same}
 use Rattle.cut_law.proofs.Backs.{misses_restore, restore_same, heap_restored}
 
 module _ (image : Image) (super : Words) (tx : ℕ) (args : List ℤ) (c : Cache) (one : Words) (d : ℕ) (h : Words) (end : End) (es : List Effect)

@@ -8,7 +8,7 @@ use Rattle.cache_model.specs.During.{during}
 use Rattle.pool_layout.specs.declared.places.Place.TheVariants.{Last}
 use Rattle.pool_layout.specs.Places.{at, pool_of}
 use Rattle.pool_layout.specs.Log.{count}
-use Rattle.clobber_log.specs.Logs.{attempt_in, count_in}
+use Rattle.clobber_log.specs.Logs.{count_in}
 use Rattle.pm_machine.specs.declared.effect.Effect.{Effect}
 use Rattle.pm_machine.specs.declared.effect.End.{End}
 use Rattle.pm_machine.specs.declared.effect.End.TheVariants.{Halted}
