@@ -5,6 +5,7 @@
 
 ghost use Rattle.cut_law.specs.Law.{DueCallLaw, CutCallLaw, CutRedoLaw, CutCleanLaw, RestCallLaw, AgainLaw};
 ghost use Rattle.cut_law.specs.Leaves.{CallLeavesLaw, RedoLeavesLaw};
+ghost use Rattle.cut_law.specs.Faults.{CallFaults, RedoFaults, CleanFaults};
 
 /// What a call and a recovery play are the crash law's due lists; so each of their events leaves only
 /// images that the law names. It does nothing.
@@ -17,4 +18,12 @@ pub fn law()
     ensures again { AgainLaw }
     ensures called { CallLeavesLaw }
     ensures redid { RedoLeavesLaw }
+{}
+
+/// The count of faults never falls in a call or a recovery, and `Failed` comes only where it rose. It
+/// does nothing.
+pub fn faults()
+    ensures call { CallFaults }
+    ensures redo { RedoFaults }
+    ensures clean { CleanFaults }
 {}
