@@ -1,5 +1,5 @@
 -- The bound on steps fits in 128 bits.
-use Rattle.std.proofs.Common.{◌≡◌, ℕ, ◌+◌, ◌*◌, ◌<◌, ◌≤◌, ◌^◌, arith}
+use Rattle.std.proofs.Common.{ℕ, ◌*◌, ◌<◌, ◌≤◌, ◌^◌, arith}
 use Rattle.std.proofs.Math.Nat.{mul-le-mul}
 
 pub product_two : (a b : ℕ) → a ≤ 2 ^ 28 → b ≤ 2 ^ 71 → a * b < 2 ^ 128

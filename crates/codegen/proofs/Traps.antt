@@ -1,7 +1,7 @@
 -- Functions that do nothing but trap are good code for the machine, and there are few functions in an image, each with few
 -- instructions.
-use Rattle.std.proofs.Common.{◌≡◌, ℕ, zero, suc, ◌+◌, ◌<◌, ◌≤◌, ◌^◌, Bool, true, false, List, [], ◌∷◌, length, map, Option, Some, None, refl, sym, ap, ◌∙◌, arith, ltb, leb}
-use Rattle.std.specs.Prelude.{if◌then◌else◌, nat_lt, nat_le, ◌&&◌}
+use Rattle.std.proofs.Common.{◌≡◌, ℕ, ◌+◌, ◌<◌, ◌^◌, Bool, true, false, List, [], ◌∷◌, length, map, Option, None, refl, ap, ◌∙◌, arith, leb}
+use Rattle.std.specs.Prelude.{if◌then◌else◌, nat_lt}
 use Rattle.std.specs.List.{AllByRecursion}
 use Rattle.std.proofs.lemmas.Bool.{le-leb, ltb-true}
 use Rattle.std.proofs.lemmas.List.{length-map}
@@ -11,7 +11,7 @@ use Rattle.ir.specs.declared.function.IrFunction.{IrFunction}
 use Rattle.ir.specs.declared.function.Ir.{Ir}
 use Rattle.pm_machine.specs.declared.op.Op.{Op}
 use Rattle.pm_machine.specs.declared.op.Function.{Function}
-use Rattle.pm_machine.specs.Checked.{bad_in, bad_from, bad_of, at_function}
+use Rattle.pm_machine.specs.Checked.{bad_in, bad_of, at_function}
 use Rattle.pm_machine.specs.Few.{IsShort, AreFew}
 use Rattle.codegen.specs.Emit.{has_room, trap_function, with_code, function_code, function_of, functions_of, traps_of, known}
 
