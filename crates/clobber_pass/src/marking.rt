@@ -1,11 +1,14 @@
 //! The marks of a program.
 
-ghost use Rattle.std.specs.Prelude.{◌≡◌};
+ghost use Rattle.std.specs.Prelude.{◌≡◌, ◌++◌, ◌∷◌, [], ◌&&◌, true, false, IfOk, OnOk};
+ghost use Rattle.ir.specs.Clobber.{IsHeader};
+ghost use Rattle.ir.specs.Places.{instruction_at};
+ghost use Rattle.clobber_pass.specs.Marking.{has_site, mark_from, marks_from, rows, table_from};
 ghost use Rattle.clobber_pass.specs.Logged.{is_logged};
 
 use alias_summaries::summaries;
-use exposed_reads::{PlaceFact, flow};
-use ir::{Instruction, Ir, Site};
+use exposed_reads::{PlaceFact, PlaceFacts, flow};
+use ir::{Instruction, Ir, IrFunction, Site};
 use std::alloc::{AllocError, Global};
 
 /// Whether the store of a place is logged, where it is a store, a header's store or a free, and
@@ -36,29 +39,67 @@ impl MarkTable {
             None => false,
         }
     }
+
+    /// Puts the marks of one more function at the end.
+    fn push(&mut self, marks: Vec<Mark>) -> Result<(), AllocError>
+        ensures { OnOk result (rows self.new ≡ rows self.old ++ marks.items ∷ []) }
+    {
+        self.functions.push(marks)?;
+        Ok(())
+    }
 }
 
 /// Marks the store sites whose old values have to be logged: where a walk comes with the target not
 /// surely written, and a walk comes with its class read before; the fill of a new object where a walk
 /// comes past a free; and each header's store.
-pub fn marks(alloc: Global, ir: &Ir) -> Result<MarkTable, AllocError> {
+pub fn marks(alloc: Global, ir: &Ir) -> Result<MarkTable, AllocError>
+    ensures headers { IfOk result (λ table. (site : Site) → site.fill ≡ false → IsHeader ir.now.functions site.function site.place → is_logged table site ≡ true) }
+    ensures sites { IfOk result (λ table. (site : Site) → is_logged table site ≡ true → has_site site.fill (instruction_at ir.now.functions site.function site.place) ≡ true) }
+{
     let sums = summaries(alloc, ir)?;
     let facts = flow(alloc, ir, &sums)?;
-    let mut functions = Vec::new(alloc);
-    for (function, body) in ir.functions.as_slice().iter().enumerate() {
-        let mut places = Vec::new(alloc);
-        for (place, instruction) in body.code.as_slice().iter().enumerate() {
-            places.push(mark_of(instruction, facts.at(function, place)))?;
-        }
-        functions.push(places)?;
-    }
-    Ok(MarkTable { functions })
+    table_of(alloc, ir.functions.as_slice(), &facts)
 }
 
-fn mark_of(instruction: &Instruction, fact: PlaceFact) -> Mark {
+/// The marks by what is told of each place.
+fn table_of(
+    alloc: Global,
+    functions: &[IrFunction],
+    facts: &PlaceFacts,
+) -> Result<MarkTable, AllocError>
+    ensures { IfOk result (λ table. rows table ≡ table_from facts.now 0 functions.now) }
+{
+    let mut table = MarkTable {
+        functions: Vec::new(alloc),
+    };
+    for (function, body) in functions.iter().enumerate() {
+        table.push(marks_of(alloc, body.code.as_slice(), function, facts)?)?;
+    }
+    Ok(table)
+}
+
+/// The marks of a function.
+fn marks_of(
+    alloc: Global,
+    code: &[Instruction],
+    function: usize,
+    facts: &PlaceFacts,
+) -> Result<Vec<Mark>, AllocError>
+    ensures { IfOk result (λ marks. marks.items ≡ marks_from facts.now function 0 code.now) }
+{
+    let mut marks = Vec::new(alloc);
+    for (place, instruction) in code.iter().enumerate() {
+        marks.push(mark_of(instruction, facts.at(function, place)))?;
+    }
+    Ok(marks)
+}
+
+fn mark_of(instruction: &Instruction, fact: PlaceFact) -> Mark
+    ensures { result ≡ mark_from instruction.now fact }
+{
     match instruction {
         Instruction::Store { .. } => Mark {
-            store: fact.unwritten && fact.read,
+            store: both(fact.unwritten, fact.read),
             fill: false,
         },
         Instruction::New { .. } => Mark {
@@ -69,9 +110,25 @@ fn mark_of(instruction: &Instruction, fact: PlaceFact) -> Mark {
             store: true,
             fill: false,
         },
-        _ => Mark {
+        Instruction::Const { .. }
+        | Instruction::Copy { .. }
+        | Instruction::Bin { .. }
+        | Instruction::Jump { .. }
+        | Instruction::Branch { .. }
+        | Instruction::Load { .. }
+        | Instruction::Call { .. }
+        | Instruction::Return { .. }
+        | Instruction::Tick
+        | Instruction::Trap { .. }
+        | Instruction::Log { .. } => Mark {
             store: false,
             fill: false,
         },
     }
+}
+
+fn both(one: bool, other: bool) -> bool
+    ensures { result ≡ one && other }
+{
+    one && other
 }
