@@ -1,5 +1,5 @@
 -- How many events the parts of a call are.
-use Rattle.std.proofs.Common.{◌≡◌, ℕ, zero, suc, ◌+◌, ℤ, List, [], ◌∷◌, ◌++◌, length, refl, ap, ◌∙◌, arith}
+use Rattle.std.proofs.Common.{◌≡◌, ℕ, zero, suc, ◌+◌, ℤ, List, [], ◌∷◌, ◌++◌, length, refl, ap, arith}
 use Rattle.std.proofs.lemmas.List.{length-append}
 use Rattle.cache_model.specs.Event.{Store, Fence}
 use Rattle.args_log.specs.Seal.{stores_from, flushes_from, payload_lines, payload_events, unsealed_events, sealing_events, seal_events}

@@ -1,5 +1,5 @@
 -- How far a seal has come, by the versions of its line.
-use Rattle.std.proofs.Common.{◌≡◌, ◌≢◌, ◌≤◌, ◌+◌, ◌⊎◌, inl, inr, ⊎_elim, ℕ, zero, suc, Bool, true, false, ◌||◌, ◌&&◌, if◌then◌else◌, Option, Some, None, List, [], ◌∷◌, ◌++◌, length, drop, ℤ, refl, sym, ap, ◌∙◌, subst, arith, int_eq}
+use Rattle.std.proofs.Common.{◌≡◌, ◌≢◌, ◌≤◌, ◌+◌, inl, inr, ⊎_elim, ℕ, zero, suc, Bool, true, false, ◌||◌, ◌&&◌, Option, Some, List, [], ◌∷◌, ◌++◌, length, ℤ, refl, sym, ap, ◌∙◌, subst, arith, int_eq}
 use Rattle.std.specs.List.{list_all, list_any}
 use Rattle.std.proofs.lemmas.Bool.Decides.{Decides-int_eq}
 use Rattle.std.proofs.lemmas.List.{drop_all}
@@ -7,9 +7,9 @@ use Rattle.std.proofs.lemmas.List.Folds.{list_all-append, list_any-append}
 use Rattle.cache_model.specs.Event.{CacheEvent, Store, Flush, Fence}
 use Rattle.cache_model.specs.Cache.{Words, put, Line, Cache, versions}
 use Rattle.cache_model.specs.Play.{store_line, flush_line, fence_line, fence_at, mark_of, apply}
-use Rattle.cache_model.specs.Image.{Among, IsVersion}
+use Rattle.cache_model.specs.Image.{Among}
 use Rattle.cache_model.proofs.Versions.{put_same, put_other, store_version, flush_version, fence_version}
-use Rattle.pmem.specs.Device.{Device, spent, off_of}
+use Rattle.pmem.specs.Device.{Device, spent}
 use Rattle.pmem.specs.Played.{PlaysAll, PlaysPart}
 use Rattle.pmem.specs.declared.answer.Phase.TheVariants.{Unsealed, Sealing, Sealed}
 use Rattle.pmem.specs.declared.answer.Refusal.TheVariants.{Off}

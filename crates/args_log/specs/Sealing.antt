@@ -1,7 +1,6 @@
 -- What a seal answers on a device that is on: how its events were played, and where the power went. The phase is Sealing
 -- exactly where the store of the seal was done.
 use Rattle.std.specs.Prelude.{ℤ, List}
-use Rattle.cache_model.specs.Event.{CacheEvent}
 use Rattle.pmem.specs.Device.{Device}
 use Rattle.pmem.specs.Played.{PlaysAll, PlaysPart}
 use Rattle.pmem.specs.declared.answer.Phase.TheVariants as phase

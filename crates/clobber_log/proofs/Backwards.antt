@@ -1,13 +1,13 @@
 -- Records put back one behind the other, the newest first.
-use Rattle.std.proofs.Common.{◌≡◌, ◌≢◌, ⊎_elim, ℕ, zero, suc, ◌+◌, ◌*◌, ◌<◌, ◌≤◌, cond, if◌then◌else◌, nat_lt, Bool, true, false, Option, Some, None, Result, Ok, Err, OnOk, List, [], ◌∷◌, ◌++◌, ℤ, pos, negsuc, refl, sym, ap, ◌∙◌, subst, arith, int_eq}
-use Rattle.std.proofs.lemmas.Bool.{cases_eq, ltb-true, ltb-false}
+use Rattle.std.proofs.Common.{◌≡◌, ◌≢◌, ⊎_elim, ℕ, zero, suc, ◌<◌, ◌≤◌, cond, if◌then◌else◌, nat_lt, Bool, true, false, Option, Some, None, Result, Ok, Err, OnOk, ◌++◌, ℤ, pos, negsuc, refl, sym, ap, ◌∙◌, subst, arith, int_eq}
+use Rattle.std.proofs.lemmas.Bool.{cases_eq, ltb-false}
 use Rattle.std.proofs.lemmas.Bool.Decides.{Decides-int_eq}
-use Rattle.cache_model.specs.Event.{Store, Flush}
+use Rattle.cache_model.specs.Event.{Store}
 use Rattle.cache_model.specs.Cache.{view}
 use Rattle.cache_model.specs.Play.{apply}
 use Rattle.cache_model.proofs.Views.{view_same, view_other, view_flush}
 use Rattle.pmem.specs.Device.{Device}
-use Rattle.pmem.specs.Played.{PlaysAll, PlaysPart, Refuses}
+use Rattle.pmem.specs.Played.{PlaysAll, PlaysPart}
 use Rattle.pmem.specs.declared.answer.Refusal.{Refusal}
 use Rattle.pmem.specs.Answer.{answer_of}
 use Rattle.pmem.specs.declared.answer.LogAnswer.TheVariants as log
