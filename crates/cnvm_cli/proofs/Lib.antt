@@ -2,6 +2,7 @@ mod Course
 mod Digits
 mod FormReading
 mod Lines
+mod Once
 mod Pieces
 mod Places
 mod Playing

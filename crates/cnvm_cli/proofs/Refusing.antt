@@ -39,7 +39,7 @@ weights_within (x ∷ xs) k i w is = go (step k (token_kind x.token)) i is (λ s
     go (Some s) zero is more = omega arith
     go (Some s) (suc i) is more = omega (arith, more s i is)
 
-weighed_within : (us : List Placed) (t w : ℕ) → slice_get (weights us) t ≡ Some w → t < length us
+pub weighed_within : (us : List Placed) (t w : ℕ) → slice_get (weights us) t ≡ Some w → t < length us
 unfolding weights
 weighed_within us t w is = weights_within us (Items ∷ []) t w is
 

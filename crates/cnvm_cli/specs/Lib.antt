@@ -9,6 +9,7 @@ pub mod Form
 pub mod FormText
 pub mod FrontEnd
 pub mod Name
+pub mod OneAnswer
 pub mod Placed
 pub mod Reading
 pub mod Refusal

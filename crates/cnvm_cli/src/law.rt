@@ -2,6 +2,7 @@
 
 ghost use Rattle.cnvm_cli.specs.Course.{CourseLaw};
 ghost use Rattle.cnvm_cli.specs.FormText.{FormLaw};
+ghost use Rattle.cnvm_cli.specs.OneAnswer.{OneAnswer};
 ghost use Rattle.cnvm_cli.specs.Rest.{RestLaw};
 
 /// A run that nothing interrupts has played exactly the due events, has written exactly the due lines,
@@ -20,4 +21,10 @@ pub fn rest_law()
 /// It does nothing.
 pub fn form_law()
     ensures { FormLaw }
+{}
+
+/// One text has one answer of the front end, as far as its tokens and their tree go: at most one refusal
+/// of the lexer or the parser, and none where it has a tree. It does nothing.
+pub fn answer_law()
+    ensures { OneAnswer }
 {}

@@ -24,7 +24,7 @@ pub use due::{Called, Due, adding_events, creation_events, play, setting_events}
 pub use exit::{exit_code, run_on};
 pub use form::{Form, FormFault, Found, Kind, read_form};
 pub use front_end::{Compiled, ProgramFault, compile};
-pub use law::{course_law, form_law, rest_law};
+pub use law::{answer_law, course_law, form_law, rest_law};
 pub use run::{Status, World, cnvm};
 pub use script::{Command, LineFault, Script, ScriptFault, read_script};
 pub use session::{Mode, StartFault, command, create};
