@@ -103,7 +103,7 @@ logged_is_marked : (table : MarkTable) (site : Site) → is_logged table site �
 logged_is_marked table site =
     marked_part (option_and_then (λ (marks : Vec Mark Global). slice_get marks.items site.place) (slice_get table.functions.items site.function)) site site.fill refl
     ∙ ap (part site.fill) (place_of site (slice_get table.functions.items site.function)
-        ∙ ap (λ m. option_and_then (λ (marks : List Mark). slice_get marks site.place) m) (sym (slice_get-map (λ (marks : Vec Mark Global). marks.items) table.functions.items site.function)))
+    ∙ ap (λ m. option_and_then (λ (marks : List Mark). slice_get marks site.place) m) (sym (slice_get-map (λ (marks : Vec Mark Global). marks.items) table.functions.items site.function)))
 
 -- the same of a table with these rows
 pub table_has_header : (table : MarkTable) (facts : List (List PlaceFact)) (vs us : List IrFunction) (site : Site) → rows table ≡ table_from facts 0 vs → vs ≡ us → site.fill ≡ false → IsHeader us site.function site.place → is_logged table site ≡ true

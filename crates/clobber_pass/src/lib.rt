@@ -4,4 +4,5 @@
 #![tactic(auto)]
 
 mod marking;
+
 pub use marking::{MarkTable, marks};
