@@ -1,5 +1,5 @@
 -- The count of a device's faults only rises in a recovery, and one that failed raised it.
-use Rattle.std.proofs.Common.{◌≡◌, ◌≢◌, ◌≤◌, ℕ, Bool, true, false, ⊎_elim, List, ℤ, pos, refl, sym, ap, subst, arith, int_eq}
+use Rattle.std.proofs.Common.{◌≡◌, ◌≢◌, ◌≤◌, ℕ, Bool, true, false, ⊎_elim, List, ℤ, pos, refl, subst, int_eq}
 use Rattle.std.proofs.lemmas.Bool.Decides.{Decides-int_eq}
 use Rattle.cache_model.specs.Event.{CacheEvent}
 use Rattle.cache_model.specs.Cache.{view}
