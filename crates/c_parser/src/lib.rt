@@ -1,6 +1,6 @@
 //! The tree of a program. It stands on `c_lexer`. Its one contract for the crates above: `parse`
-//! accepts exactly the lists that some tree spells with no token too heavy, and refuses any other at
-//! the first token that no program continues or that stands too deep.
+//! answers exactly the tree that the tokens spell, no token of it being too heavy, and refuses any
+//! other list at the first token that no program continues or that stands too deep.
 #![tactic(auto)]
 
 mod ast;
