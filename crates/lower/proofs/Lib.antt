@@ -1,2 +1,4 @@
 pub mod Fills
 pub mod Checks
+pub mod ExprAdds
+pub mod Blocks

@@ -1,5 +1,10 @@
 //! Whether a function assigns one of its parameters.
 
+ghost use Rattle.std.specs.Prelude.{◌≡◌, option_map};
+ghost use Rattle.c_parser.specs.ExprTree.{expr_of};
+ghost use Rattle.c_parser.specs.StmtTree as tree;
+ghost use Rattle.lower.specs.Assigned as meaning;
+
 use crate::names::as_variable;
 use c_parser::expr::Expr;
 use c_parser::stmt::{First, Simple, Stmt};
@@ -7,7 +12,10 @@ use c_parser::stmt::{First, Simple, Stmt};
 /// Whether the statements of one block assign the variable of that name. Behind a declaration of the
 /// name it means another variable.
 #[cycle(assigned)]
-pub fn is_assigned(all: &[Stmt], name: &str) -> bool {
+#[tactic(auto, using(crate::proofs::Blocks::blocks))]
+pub fn is_assigned(all: &[Stmt], name: &str) -> bool
+    ensures { result ≡ meaning.is_assigned name.now (tree.statements_in all.now) }
+{
     for stmt in all {
         if declares(stmt, name) {
             return false;
@@ -19,7 +27,9 @@ pub fn is_assigned(all: &[Stmt], name: &str) -> bool {
     false
 }
 
-fn declares(stmt: &Stmt, name: &str) -> bool {
+fn declares(stmt: &Stmt, name: &str) -> bool
+    ensures { result ≡ meaning.declares name.now (tree.stmt_of stmt.now) }
+{
     match stmt {
         Stmt::Declare(declaration) => declaration.name.text.as_str() == name,
         Stmt::Empty => false,
@@ -35,7 +45,10 @@ fn declares(stmt: &Stmt, name: &str) -> bool {
 }
 
 #[cycle(assigned)]
-fn assigns(stmt: &Stmt, name: &str) -> bool {
+#[tactic(auto, using(crate::proofs::Blocks::blocks))]
+fn assigns(stmt: &Stmt, name: &str) -> bool
+    ensures { result ≡ meaning.assigns name.now (tree.stmt_of stmt.now) }
+{
     match stmt {
         Stmt::Simple(simple) => is_assignment(simple, name),
         Stmt::Block(all) => is_assigned(all, name),
@@ -68,7 +81,9 @@ fn assigns(stmt: &Stmt, name: &str) -> bool {
     }
 }
 
-fn first_declares(first: &Option<First>, name: &str) -> bool {
+fn first_declares(first: &Option<First>, name: &str) -> bool
+    ensures { result ≡ meaning.first_declares name.now (option_map tree.first_of first.now) }
+{
     match first {
         None => false,
         Some(part) => match part {
@@ -78,7 +93,9 @@ fn first_declares(first: &Option<First>, name: &str) -> bool {
     }
 }
 
-fn first_assigns(first: &Option<First>, name: &str) -> bool {
+fn first_assigns(first: &Option<First>, name: &str) -> bool
+    ensures { result ≡ meaning.first_assigns name.now (option_map tree.first_of first.now) }
+{
     match first {
         None => false,
         Some(part) => match part {
@@ -88,14 +105,18 @@ fn first_assigns(first: &Option<First>, name: &str) -> bool {
     }
 }
 
-fn third_assigns(third: &Option<Simple>, name: &str) -> bool {
+fn third_assigns(third: &Option<Simple>, name: &str) -> bool
+    ensures { result ≡ meaning.third_assigns name.now (option_map tree.simple_of third.now) }
+{
     match third {
         None => false,
         Some(third) => is_assignment(third, name),
     }
 }
 
-fn is_assignment(simple: &Simple, name: &str) -> bool {
+fn is_assignment(simple: &Simple, name: &str) -> bool
+    ensures { result ≡ meaning.is_assignment name.now (tree.simple_of simple.now) }
+{
     match simple {
         Simple::Assign { target, .. } => is_named(target, name),
         Simple::Step { target, .. } => is_named(target, name),
@@ -105,7 +126,9 @@ fn is_assignment(simple: &Simple, name: &str) -> bool {
     }
 }
 
-fn is_named(target: &Expr, name: &str) -> bool {
+fn is_named(target: &Expr, name: &str) -> bool
+    ensures { result ≡ meaning.is_named name.now (expr_of target.now) }
+{
     match as_variable(target) {
         None => false,
         Some(variable) => variable.text.as_str() == name,

@@ -1,6 +1,19 @@
 //! The code of expressions. Each function puts code behind what is there and answers the register
 //! that then holds the value: the variable's own, or one that no other expression has.
 
+ghost use Rattle.std.specs.Prelude.{◌≡◌, ℕ, false, ◌++◌, length, option_map, IfOk, OnOk};
+ghost use Rattle.c_parser.specs.ExprTree.{expr_of, ident_of, arguments_in};
+ghost use Rattle.c_parser.specs.ExprTree as tree;
+ghost use Rattle.ir.specs.declared.instruction.Instruction.TheVariants as put;
+ghost use Rattle.lower.specs.declared.form.Form.TheVariants as form;
+ghost use Rattle.lower.specs.Added.{Put, ExprAdded, RightAdded, TargetAdded, ReadAdded, ArgumentsAdded, OrAdded, context_of};
+ghost use Rattle.c_parser.specs.Program.{line_of};
+ghost use Rattle.c_types.specs.Views.{tables_in};
+ghost use Rattle.lower.specs.Added as added;
+ghost use Rattle.lower.specs.Forms as forms;
+ghost use Rattle.lower.specs.Lowers.{outcome};
+ghost use Rattle.lower.specs.Names as names;
+
 use crate::code::Code;
 use crate::form::{Form, form_of};
 use crate::names::{element, field_target, function_number, kind_named, no_target, root_target};
@@ -13,12 +26,15 @@ use std::alloc::AllocError;
 
 /// The code of an expression.
 #[cycle(expressions)]
+#[tactic(auto, using(crate::proofs::ExprAdds::expressions))]
 pub fn add_expression(
     source: &Source<'_, '_>,
     variables: &Variables<'_>,
     code: &mut Code,
     expr: &Expr,
-) -> Result<u32, AllocError> {
+) -> Result<u32, AllocError>
+    ensures { IfOk result (λ r. ExprAdded (context_of source.now) variables.now (expr_of expr.now) code.old code.new r) }
+{
     match expr {
         Expr::Number(value) => add_constant(source, code, *value),
         Expr::Null => add_constant(source, code, 0),
@@ -42,11 +58,9 @@ pub fn add_expression(
 }
 
 /// A constant.
-pub fn add_constant(
-    source: &Source<'_, '_>,
-    code: &mut Code,
-    value: i64,
-) -> Result<u32, AllocError> {
+pub fn add_constant(source: &Source<'_, '_>, code: &mut Code, value: i64) -> Result<u32, AllocError>
+    ensures { IfOk result (λ r. Put (context_of source.now) (λ to. put.Const to value) code.old code.new r) }
+{
     let to = source.register(code.end() + 1);
     code.push(Instruction::Const { to, value })?;
     Ok(to)
@@ -59,7 +73,9 @@ pub fn add_operation(
     op: BinOp,
     left: u32,
     right: u32,
-) -> Result<u32, AllocError> {
+) -> Result<u32, AllocError>
+    ensures { IfOk result (λ r. Put (context_of source.now) (λ to. put.Bin op to left right) code.old code.new r) }
+{
     let to = source.register(code.end() + 1);
     code.push(Instruction::Bin {
         op,
@@ -71,31 +87,34 @@ pub fn add_operation(
 }
 
 /// A load.
-pub fn add_load(
-    source: &Source<'_, '_>,
-    code: &mut Code,
-    target: Target,
-) -> Result<u32, AllocError> {
+pub fn add_load(source: &Source<'_, '_>, code: &mut Code, target: Target) -> Result<u32, AllocError>
+    ensures { IfOk result (λ r. Put (context_of source.now) (λ to. put.Load to target) code.old code.new r) }
+{
     let to = source.register(code.end() + 1);
     code.push(Instruction::Load { to, target })?;
     Ok(to)
 }
 
 /// A copy of a register in one of its own.
-pub fn add_copy(source: &Source<'_, '_>, code: &mut Code, from: u32) -> Result<u32, AllocError> {
+pub fn add_copy(source: &Source<'_, '_>, code: &mut Code, from: u32) -> Result<u32, AllocError>
+    ensures { IfOk result (λ r. Put (context_of source.now) (λ to. put.Copy to from) code.old code.new r) }
+{
     let to = source.register(code.end() + 1);
     code.push(Instruction::Copy { to, from })?;
     Ok(to)
 }
 
 /// A value that may be absent, and is a constant then.
+#[tactic(auto, using(crate::proofs::ExprAdds::expressions))]
 pub fn add_or_constant(
     source: &Source<'_, '_>,
     variables: &Variables<'_>,
     code: &mut Code,
-    value: Option<&Expr>,
+    value: &Option<Expr>,
     absent: i64,
-) -> Result<u32, AllocError> {
+) -> Result<u32, AllocError>
+    ensures { IfOk result (λ r. OrAdded (context_of source.now) variables.now absent (option_map expr_of value.now) code.old code.new r) }
+{
     match value {
         None => add_constant(source, code, absent),
         Some(value) => add_expression(source, variables, code, value),
@@ -104,13 +123,16 @@ pub fn add_or_constant(
 
 /// A call: the arguments from left to right, a tick, and the call.
 #[cycle(expressions)]
+#[tactic(auto, using(crate::proofs::ExprAdds::expressions))]
 pub fn add_call(
     source: &Source<'_, '_>,
     variables: &Variables<'_>,
     code: &mut Code,
     name: &Name,
     arguments: &[Argument],
-) -> Result<u32, AllocError> {
+) -> Result<u32, AllocError>
+    ensures { IfOk result (λ r. ExprAdded (context_of source.now) variables.now (tree.Call (ident_of name.now) (arguments_in arguments.now)) code.old code.new r) }
+{
     let args = add_arguments(source, variables, code, arguments)?;
     let to = source.register(code.end() + 2);
     let function = function_number(source.program, name);
@@ -120,12 +142,15 @@ pub fn add_call(
 }
 
 #[cycle(expressions)]
+#[tactic(auto, using(crate::proofs::ExprAdds::expressions))]
 fn add_arguments(
     source: &Source<'_, '_>,
     variables: &Variables<'_>,
     code: &mut Code,
     arguments: &[Argument],
-) -> Result<Registers, AllocError> {
+) -> Result<Registers, AllocError>
+    ensures { IfOk result (λ rs. ArgumentsAdded (context_of source.now) variables.now (arguments_in arguments.now) code.old code.new rs) }
+{
     let mut registers = Registers::new(source.alloc);
     for argument in arguments {
         let register = add_expression(source, variables, code, &argument.value)?;
@@ -140,7 +165,9 @@ fn add_new(
     code: &mut Code,
     place: u64,
     name: &Name,
-) -> Result<u32, AllocError> {
+) -> Result<u32, AllocError>
+    ensures { IfOk result (λ r. Put (context_of source.now) (λ to. put.New to (names.kind_named (tables_in source.now.program.now) name.now.text) false (line_of source.now.ast.now place)) code.old code.new r) }
+{
     let to = source.register(code.end() + 1);
     code.push(Instruction::New {
         to,
@@ -153,24 +180,30 @@ fn add_new(
 
 /// A field or an element as a value: one load.
 #[cycle(expressions)]
+#[tactic(auto, using(crate::proofs::ExprAdds::expressions))]
 fn add_read(
     source: &Source<'_, '_>,
     variables: &Variables<'_>,
     code: &mut Code,
     expr: &Expr,
-) -> Result<u32, AllocError> {
+) -> Result<u32, AllocError>
+    ensures { IfOk result (λ r. ReadAdded (context_of source.now) variables.now (expr_of expr.now) code.old code.new r) }
+{
     let target = add_target(source, variables, code, expr)?;
     add_load(source, code, target)
 }
 
 /// What a field or an element is, behind the code of its base and of its index.
 #[cycle(expressions)]
+#[tactic(auto, using(crate::proofs::ExprAdds::expressions))]
 pub fn add_target(
     source: &Source<'_, '_>,
     variables: &Variables<'_>,
     code: &mut Code,
     expr: &Expr,
-) -> Result<Target, AllocError> {
+) -> Result<Target, AllocError>
+    ensures { IfOk result (λ t. TargetAdded (context_of source.now) variables.now (expr_of expr.now) code.old code.new t) }
+{
     match expr {
         Expr::Root(field) => Ok(root_target(source.program, field)),
         Expr::Arrow { base, field, .. } => {
@@ -195,24 +228,19 @@ pub fn add_target(
 
 /// `-e` is 0 - e, `~e` is -1 ^ e, and `!e` is e == 0.
 #[cycle(expressions)]
+#[tactic(auto, using(crate::proofs::ExprAdds::expressions))]
 fn add_unary(
     source: &Source<'_, '_>,
     variables: &Variables<'_>,
     code: &mut Code,
     op: UnaryOp,
     operand: &Expr,
-) -> Result<u32, AllocError> {
+) -> Result<u32, AllocError>
+    ensures { IfOk result (λ r. (place : ℕ) → ExprAdded (context_of source.now) variables.now (tree.Unary op place (expr_of operand.now)) code.old code.new r) }
+{
     match op {
-        UnaryOp::Negate => {
-            let zero = add_constant(source, code, 0)?;
-            let value = add_expression(source, variables, code, operand)?;
-            add_operation(source, code, BinOp::Sub, zero, value)
-        }
-        UnaryOp::Complement => {
-            let ones = add_constant(source, code, -1)?;
-            let value = add_expression(source, variables, code, operand)?;
-            add_operation(source, code, BinOp::Xor, ones, value)
-        }
+        UnaryOp::Negate => add_constant_first(source, variables, code, 0, BinOp::Sub, operand),
+        UnaryOp::Complement => add_constant_first(source, variables, code, -1, BinOp::Xor, operand),
         UnaryOp::Not => {
             let value = add_expression(source, variables, code, operand)?;
             let zero = add_constant(source, code, 0)?;
@@ -221,8 +249,27 @@ fn add_unary(
     }
 }
 
+/// An operation on a constant and an expression.
+#[cycle(expressions)]
+#[tactic(auto, using(crate::proofs::ExprAdds::expressions))]
+fn add_constant_first(
+    source: &Source<'_, '_>,
+    variables: &Variables<'_>,
+    code: &mut Code,
+    value: i64,
+    op: BinOp,
+    operand: &Expr,
+) -> Result<u32, AllocError>
+    ensures { IfOk result (λ r. added.FirstConstant (context_of source.now) variables.now value op (expr_of operand.now) code.old code.new r) }
+{
+    let left = add_constant(source, code, value)?;
+    let right = add_expression(source, variables, code, operand)?;
+    add_operation(source, code, op, left, right)
+}
+
 /// An operator behind its left side, which is in the register `on`.
 #[cycle(expressions)]
+#[tactic(auto, using(crate::proofs::ExprAdds::expressions))]
 fn add_right(
     source: &Source<'_, '_>,
     variables: &Variables<'_>,
@@ -230,7 +277,9 @@ fn add_right(
     op: BinaryOp,
     on: u32,
     right: &Expr,
-) -> Result<u32, AllocError> {
+) -> Result<u32, AllocError>
+    ensures { IfOk result (λ r. RightAdded (context_of source.now) variables.now (forms.form_of op) on (expr_of right.now) code.old code.new r) }
+{
     match form_of(op) {
         Form::Both => add_both(source, variables, code, on, right),
         Form::Either => add_either(source, variables, code, on, right),
@@ -247,13 +296,16 @@ fn add_right(
 
 /// `&&`: where one side is 0 the rest is left out and the value is 0, and else it is 1.
 #[cycle(expressions)]
+#[tactic(auto, using(crate::proofs::ExprAdds::expressions))]
 fn add_both(
     source: &Source<'_, '_>,
     variables: &Variables<'_>,
     code: &mut Code,
     on: u32,
     right: &Expr,
-) -> Result<u32, AllocError> {
+) -> Result<u32, AllocError>
+    ensures { IfOk result (λ r. RightAdded (context_of source.now) variables.now form.Both on (expr_of right.now) code.old code.new r) }
+{
     let first = code.end();
     code.push(Instruction::Branch { on, place: 0 })?;
     let right = add_expression(source, variables, code, right)?;
@@ -267,13 +319,16 @@ fn add_both(
 
 /// `||`: where the left side isn't 0 the right side is left out.
 #[cycle(expressions)]
+#[tactic(auto, using(crate::proofs::ExprAdds::expressions))]
 fn add_either(
     source: &Source<'_, '_>,
     variables: &Variables<'_>,
     code: &mut Code,
     on: u32,
     right: &Expr,
-) -> Result<u32, AllocError> {
+) -> Result<u32, AllocError>
+    ensures { IfOk result (λ r. RightAdded (context_of source.now) variables.now form.Either on (expr_of right.now) code.old code.new r) }
+{
     let first = code.end();
     let place = first + 2;
     code.push(Instruction::Branch { on, place })?;
@@ -289,7 +344,10 @@ fn add_either(
 
 /// 1 where a register isn't 0, and else 0: four instructions, of which the second is where 1 is
 /// assigned, and the last where 0 is.
-fn add_outcome(code: &mut Code, on: u32, to: u32) -> Result<(), AllocError> {
+#[tactic(auto, using(crate::proofs::ExprAdds::expressions))]
+fn add_outcome(code: &mut Code, on: u32, to: u32) -> Result<(), AllocError>
+    ensures { OnOk result (code.new ≡ code.old ++ outcome on to (length code.old)) }
+{
     let first = code.end();
     let place = first + 3;
     code.push(Instruction::Branch { on, place })?;

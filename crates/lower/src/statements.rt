@@ -1,6 +1,8 @@
 //! The code of statements. Each function puts code behind what is there. `again` is where `continue`
 //! leads; `break` leads to a hole, which the loop fills.
 
+ghost use Rattle.std.specs.Prelude.{◌≤◌};
+
 use crate::code::{Code, LEAVE, NEXT};
 use crate::expressions::{
     add_call, add_constant, add_copy, add_expression, add_load, add_operation, add_or_constant,
@@ -113,13 +115,16 @@ fn add_if<'a>(
     again: u32,
     body: &'a Stmt,
     condition: &Expr,
-    behind: u8,
-) -> Result<(), AllocError> {
+    behind: u32,
+) -> Result<(), AllocError>
+    requires { behind ≤ 1 }
+{
     let on = add_expression(source, variables, code, condition)?;
     let first = code.end();
     code.push(Instruction::Branch { on, place: 0 })?;
     add_body(source, variables, code, again, body)?;
-    let place = code.end() + u32::from(behind);
+    let second = code.end();
+    let place = second + behind;
     code.set(first, Instruction::Branch { on, place });
     Ok(())
 }
@@ -177,7 +182,7 @@ fn add_for<'a>(
 ) -> Result<(), AllocError> {
     let top = code.end();
     code.push(Instruction::Tick)?;
-    let on = add_or_constant(source, variables, code, condition.as_ref(), 1)?;
+    let on = add_or_constant(source, variables, code, condition, 1)?;
     let first = code.end();
     code.push(Instruction::Branch { on, place: 0 })?;
     add_body(source, variables, code, NEXT, body)?;
@@ -228,7 +233,7 @@ fn add_return(
     code: &mut Code,
     value: &Option<Expr>,
 ) -> Result<(), AllocError> {
-    let from = add_or_constant(source, variables, code, value.as_ref(), 0)?;
+    let from = add_or_constant(source, variables, code, value, 0)?;
     code.push(Instruction::Return { from })
 }
 
@@ -371,7 +376,7 @@ fn add_update(
 ) -> Result<(), AllocError> {
     match as_variable(target) {
         Some(name) => {
-            let right = add_or_constant(source, variables, code, value, 1)?;
+            let right = add_amount(source, variables, code, value)?;
             let to = variables.register_of(name.text.as_str());
             let from = add_operation(source, code, op, to, right)?;
             code.push(Instruction::Copy { to, from })
@@ -379,10 +384,23 @@ fn add_update(
         None => {
             let target = add_target(source, variables, code, target)?;
             let left = add_load(source, code, target)?;
-            let right = add_or_constant(source, variables, code, value, 1)?;
+            let right = add_amount(source, variables, code, value)?;
             let from = add_operation(source, code, op, left, right)?;
             let line = source.ast.line(place);
             code.push(Instruction::Store { target, from, line })
         }
+    }
+}
+
+/// By how much a target changes: `++` and `--` have no value, and mean 1.
+fn add_amount(
+    source: &Source<'_, '_>,
+    variables: &Variables<'_>,
+    code: &mut Code,
+    value: Option<&Expr>,
+) -> Result<u32, AllocError> {
+    match value {
+        None => add_constant(source, code, 1),
+        Some(value) => add_expression(source, variables, code, value),
     }
 }

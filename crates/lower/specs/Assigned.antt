@@ -1,0 +1,63 @@
+-- Whether statements assign a variable. Behind a declaration of its name the name means another one.
+use Rattle.std.specs.Prelude.{ℕ, List, Bool, true, false, ◌||◌, not, ◌&&◌, bytes_eq, if◌then◌else◌, Option, None, Some}
+use Rattle.std.specs.Option.{option_map_or}
+use Rattle.c_parser.specs.ExprTree.{ExprTree, Ident}
+use Rattle.c_parser.specs.StmtTree as stmt
+use Rattle.c_parser.specs.StmtTree.{StmtTree, Statements, SimpleTree, FirstTree}
+use Rattle.lower.specs.Names.{variable_of}
+
+abbrev pub is_named : List ℕ → ExprTree → Bool
+is_named name target = option_map_or (λ (n : Ident). bytes_eq n.text name) (variable_of target) false
+
+abbrev pub is_assignment : List ℕ → SimpleTree → Bool
+is_assignment name (stmt.Assign target op place value) = is_named name target
+is_assignment name (stmt.Step target op place) = is_named name target
+is_assignment name (stmt.Call callee all) = false
+is_assignment name (stmt.Free place pointer) = false
+is_assignment name (stmt.Abort place) = false
+
+abbrev pub declares : List ℕ → StmtTree → Bool
+declares name (stmt.Declares d) = bytes_eq d.name.text name
+declares name stmt.Empty = false
+declares name (stmt.Simple x) = false
+declares name (stmt.Block all) = false
+declares name (stmt.If c a) = false
+declares name (stmt.IfElse c a b) = false
+declares name (stmt.While c a) = false
+declares name (stmt.For first c third a) = false
+declares name stmt.Break = false
+declares name stmt.Continue = false
+declares name (stmt.Return place value) = false
+
+abbrev pub first_declares : List ℕ → Option FirstTree → Bool
+first_declares name None = false
+first_declares name (Some (stmt.Declare d)) = bytes_eq d.name.text name
+first_declares name (Some (stmt.Simply x)) = false
+
+abbrev pub first_assigns : List ℕ → Option FirstTree → Bool
+first_assigns name None = false
+first_assigns name (Some (stmt.Declare d)) = false
+first_assigns name (Some (stmt.Simply x)) = is_assignment name x
+
+abbrev pub third_assigns : List ℕ → Option SimpleTree → Bool
+third_assigns name None = false
+third_assigns name (Some x) = is_assignment name x
+
+abbrev mutual
+  pub assigns : List ℕ → StmtTree → Bool
+  assigns name (stmt.Declares d) = false
+  assigns name stmt.Empty = false
+  assigns name (stmt.Simple x) = is_assignment name x
+  assigns name (stmt.Block all) = is_assigned name all
+  assigns name (stmt.If c a) = assigns name a
+  assigns name (stmt.IfElse c a b) = if assigns name a then true else assigns name b
+  assigns name (stmt.While c a) = assigns name a
+  assigns name (stmt.For first c third a) = if first_declares name first then false else (first_assigns name first || third_assigns name third || assigns name a)
+  assigns name stmt.Break = false
+  assigns name stmt.Continue = false
+  assigns name (stmt.Return place value) = false
+
+  -- the statements of one block
+  pub is_assigned : List ℕ → Statements → Bool
+  is_assigned name stmt.Nothing = false
+  is_assigned name (stmt.Then x xs) = if declares name x then false else if assigns name x then true else is_assigned name xs
