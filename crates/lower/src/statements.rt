@@ -1,7 +1,14 @@
 //! The code of statements. Each function puts code behind what is there. `again` is where `continue`
 //! leads; `break` leads to a hole, which the loop fills.
 
-ghost use Rattle.std.specs.Prelude.{◌≤◌};
+ghost use Rattle.std.specs.Prelude.{◌≡◌, ◌≤◌, pos, option_map, Some, OnOk, IfOk};
+ghost use Rattle.c_parser.specs.ExprTree.{expr_of};
+ghost use Rattle.c_parser.specs.StmtTree as tree;
+ghost use Rattle.c_parser.specs.declared.stmt.AssignOp.TheVariants as assign;
+ghost use Rattle.lower.specs.Added as added;
+ghost use Rattle.lower.specs.Added.{context_of};
+ghost use Rattle.lower.specs.Holes as holes;
+ghost use Rattle.lower.specs.Lowers as lowers;
 
 use crate::code::{Code, LEAVE, NEXT};
 use crate::expressions::{
@@ -20,13 +27,16 @@ use std::alloc::AllocError;
 
 /// The statements of one block, in the innermost scope.
 #[cycle(statements)]
+#[tactic(auto, using(crate::proofs::StmtAdds::statements))]
 pub fn add_statements<'a>(
     source: &Source<'_, 'a>,
     variables: &mut Variables<'a>,
     code: &mut Code,
     again: u32,
     all: &'a [Stmt],
-) -> Result<(), AllocError> {
+) -> Result<(), AllocError>
+    ensures { OnOk result (added.StatementsAdded (context_of source.now) variables.old (tree.statements_in all.now) holes.leave again code.old code.new variables.new) }
+{
     for stmt in all {
         add_statement(source, variables, code, again, stmt)?;
     }
@@ -34,13 +44,16 @@ pub fn add_statements<'a>(
 }
 
 #[cycle(statements)]
+#[tactic(auto, using(crate::proofs::StmtAdds::statements))]
 fn add_statement<'a>(
     source: &Source<'_, 'a>,
     variables: &mut Variables<'a>,
     code: &mut Code,
     again: u32,
     stmt: &'a Stmt,
-) -> Result<(), AllocError> {
+) -> Result<(), AllocError>
+    ensures { OnOk result (added.StmtAdded (context_of source.now) variables.old (tree.stmt_of stmt.now) holes.leave again code.old code.new variables.new) }
+{
     match stmt {
         Stmt::Empty => Ok(()),
         Stmt::Declare(declaration) => add_declaration(source, variables, code, declaration),
@@ -78,13 +91,16 @@ fn add_statement<'a>(
 
 /// A block in a scope of its own.
 #[cycle(statements)]
+#[tactic(auto, using(crate::proofs::StmtAdds::statements))]
 fn add_block<'a>(
     source: &Source<'_, 'a>,
     variables: &mut Variables<'a>,
     code: &mut Code,
     again: u32,
     all: &'a [Stmt],
-) -> Result<(), AllocError> {
+) -> Result<(), AllocError>
+    ensures { OnOk result (added.StmtAdded (context_of source.now) variables.old (tree.Block (tree.statements_in all.now)) holes.leave again code.old code.new variables.new) }
+{
     variables.open(source.alloc)?;
     add_statements(source, variables, code, again, all)?;
     variables.close();
@@ -93,13 +109,16 @@ fn add_block<'a>(
 
 /// A body in a scope of its own.
 #[cycle(statements)]
+#[tactic(auto, using(crate::proofs::StmtAdds::statements))]
 fn add_body<'a>(
     source: &Source<'_, 'a>,
     variables: &mut Variables<'a>,
     code: &mut Code,
     again: u32,
     body: &'a Stmt,
-) -> Result<(), AllocError> {
+) -> Result<(), AllocError>
+    ensures { OnOk result (added.BodyAdded (context_of source.now) variables.old (tree.stmt_of body.now) holes.leave again code.old code.new variables.new) }
+{
     variables.open(source.alloc)?;
     add_statement(source, variables, code, again, body)?;
     variables.close();
@@ -108,6 +127,7 @@ fn add_body<'a>(
 
 /// A condition and the body. Where the condition is 0 the code goes on so many places behind the body.
 #[cycle(statements)]
+#[tactic(auto, using(crate::proofs::StmtAdds::statements))]
 fn add_if<'a>(
     source: &Source<'_, 'a>,
     variables: &mut Variables<'a>,
@@ -118,6 +138,7 @@ fn add_if<'a>(
     behind: u32,
 ) -> Result<(), AllocError>
     requires { behind ≤ 1 }
+    ensures { OnOk result (added.IfAdded (context_of source.now) variables.old (expr_of condition.now) (tree.stmt_of body.now) holes.leave again behind code.old code.new variables.new) }
 {
     let on = add_expression(source, variables, code, condition)?;
     let first = code.end();
@@ -131,13 +152,16 @@ fn add_if<'a>(
 
 /// The `else` part, behind a jump over it.
 #[cycle(statements)]
+#[tactic(auto, using(crate::proofs::StmtAdds::statements))]
 fn add_else<'a>(
     source: &Source<'_, 'a>,
     variables: &mut Variables<'a>,
     code: &mut Code,
     again: u32,
     other: &'a Stmt,
-) -> Result<(), AllocError> {
+) -> Result<(), AllocError>
+    ensures { OnOk result (added.ElseAdded (context_of source.now) variables.old (tree.stmt_of other.now) holes.leave again code.old code.new variables.new) }
+{
     let first = code.end();
     code.push(Instruction::Jump { place: 0 })?;
     add_body(source, variables, code, again, other)?;
@@ -148,13 +172,16 @@ fn add_else<'a>(
 
 /// A tick, the condition, the body, and back.
 #[cycle(statements)]
+#[tactic(auto, using(crate::proofs::StmtAdds::statements))]
 fn add_while<'a>(
     source: &Source<'_, 'a>,
     variables: &mut Variables<'a>,
     code: &mut Code,
     body: &'a Stmt,
     condition: &Expr,
-) -> Result<(), AllocError> {
+) -> Result<(), AllocError>
+    ensures { OnOk result (added.WhileAdded (context_of source.now) variables.old (expr_of condition.now) (tree.stmt_of body.now) code.old code.new variables.new) }
+{
     let top = code.end();
     code.push(Instruction::Tick)?;
     let on = add_expression(source, variables, code, condition)?;
@@ -172,6 +199,7 @@ fn add_while<'a>(
 /// A `for` behind its first part: a tick, the condition, the body, the third part, and back. The third
 /// part is where `continue` leads.
 #[cycle(statements)]
+#[tactic(auto, using(crate::proofs::StmtAdds::statements))]
 fn add_for<'a>(
     source: &Source<'_, 'a>,
     variables: &mut Variables<'a>,
@@ -179,7 +207,9 @@ fn add_for<'a>(
     condition: &Option<Expr>,
     third: &Option<Simple>,
     body: &'a Stmt,
-) -> Result<(), AllocError> {
+) -> Result<(), AllocError>
+    ensures { OnOk result (added.ForAdded (context_of source.now) variables.old (option_map expr_of condition.now) (option_map tree.simple_of third.now) (tree.stmt_of body.now) code.old code.new variables.new) }
+{
     let top = code.end();
     code.push(Instruction::Tick)?;
     let on = add_or_constant(source, variables, code, condition, 1)?;
@@ -198,12 +228,15 @@ fn add_for<'a>(
 }
 
 /// The first part of a `for`.
+#[tactic(auto, using(crate::proofs::StmtAdds::statements))]
 fn add_first<'a>(
     source: &Source<'_, 'a>,
     variables: &mut Variables<'a>,
     code: &mut Code,
     first: &'a Option<First>,
-) -> Result<(), AllocError> {
+) -> Result<(), AllocError>
+    ensures { OnOk result (added.FirstAdded (context_of source.now) variables.old (option_map tree.first_of first.now) code.old code.new variables.new) }
+{
     match first {
         None => Ok(()),
         Some(part) => match part {
@@ -214,12 +247,15 @@ fn add_first<'a>(
 }
 
 /// The third part of a `for`.
+#[tactic(auto, using(crate::proofs::StmtAdds::statements))]
 fn add_third(
     source: &Source<'_, '_>,
     variables: &Variables<'_>,
     code: &mut Code,
     third: &Option<Simple>,
-) -> Result<(), AllocError> {
+) -> Result<(), AllocError>
+    ensures { OnOk result (added.ThirdAdded (context_of source.now) variables.now (option_map tree.simple_of third.now) code.old code.new) }
+{
     match third {
         None => Ok(()),
         Some(third) => add_simple(source, variables, code, third),
@@ -227,35 +263,44 @@ fn add_third(
 }
 
 /// `return`, of 0 where it has no value.
+#[tactic(auto, using(crate::proofs::StmtAdds::statements))]
 fn add_return(
     source: &Source<'_, '_>,
     variables: &Variables<'_>,
     code: &mut Code,
     value: &Option<Expr>,
-) -> Result<(), AllocError> {
+) -> Result<(), AllocError>
+    ensures { OnOk result (added.ReturnAdded (context_of source.now) variables.now (option_map expr_of value.now) code.old code.new) }
+{
     let from = add_or_constant(source, variables, code, value, 0)?;
     code.push(Instruction::Return { from })
 }
 
 /// A declared name is known behind its first value.
+#[tactic(auto, using(crate::proofs::StmtAdds::statements))]
 fn add_declaration<'a>(
     source: &Source<'_, 'a>,
     variables: &mut Variables<'a>,
     code: &mut Code,
     declaration: &'a Declaration,
-) -> Result<(), AllocError> {
+) -> Result<(), AllocError>
+    ensures { OnOk result (added.FirstAdded (context_of source.now) variables.old (Some (tree.Declare (tree.declaration_of declaration.now))) code.old code.new variables.new) }
+{
     let register = add_initial(source, variables, code, &declaration.initial)?;
     let ty = source.program.declared_type(&declaration.ty);
     variables.declare(declaration.name.text.as_str(), ty, register)
 }
 
 /// The first value of a variable, in the register that is the variable's from then on.
+#[tactic(auto, using(crate::proofs::StmtAdds::statements))]
 fn add_initial(
     source: &Source<'_, '_>,
     variables: &Variables<'_>,
     code: &mut Code,
     initial: &Option<Initial>,
-) -> Result<u32, AllocError> {
+) -> Result<u32, AllocError>
+    ensures { IfOk result (λ r. added.InitialAdded (context_of source.now) variables.now (option_map tree.initial_of initial.now) code.old code.new r) }
+{
     match initial {
         None => add_constant(source, code, 0),
         Some(initial) => {
@@ -266,12 +311,15 @@ fn add_initial(
 }
 
 /// A simple statement.
+#[tactic(auto, using(crate::proofs::StmtAdds::statements))]
 fn add_simple(
     source: &Source<'_, '_>,
     variables: &Variables<'_>,
     code: &mut Code,
     simple: &Simple,
-) -> Result<(), AllocError> {
+) -> Result<(), AllocError>
+    ensures { OnOk result (added.SimpleAdded (context_of source.now) variables.now (tree.simple_of simple.now) code.old code.new) }
+{
     match simple {
         Simple::Assign {
             target,
@@ -318,7 +366,9 @@ fn add_simple(
     }
 }
 
-fn step_operation(op: StepOp) -> BinOp {
+fn step_operation(op: StepOp) -> BinOp
+    ensures { result ≡ lowers.step_operation op }
+{
     match op {
         StepOp::Up => BinOp::Add,
         StepOp::Down => BinOp::Sub,
@@ -326,13 +376,16 @@ fn step_operation(op: StepOp) -> BinOp {
 }
 
 /// `pm_free`. The line is that of the word.
+#[tactic(auto, using(crate::proofs::StmtAdds::statements))]
 fn add_free(
     source: &Source<'_, '_>,
     variables: &Variables<'_>,
     code: &mut Code,
     place: u64,
     pointer: &Expr,
-) -> Result<(), AllocError> {
+) -> Result<(), AllocError>
+    ensures { OnOk result (added.SimpleAdded (context_of source.now) variables.now (tree.Free place (expr_of pointer.now)) code.old code.new) }
+{
     let from = add_expression(source, variables, code, pointer)?;
     let kind = kind_of_object(source.program, variables.scopes(), pointer);
     let line = source.ast.line(place);
@@ -340,6 +393,7 @@ fn add_free(
 }
 
 /// `=`. The line is that of the operator.
+#[tactic(auto, using(crate::proofs::StmtAdds::statements))]
 fn add_assignment(
     source: &Source<'_, '_>,
     variables: &Variables<'_>,
@@ -347,7 +401,9 @@ fn add_assignment(
     target: &Expr,
     place: u64,
     value: &Expr,
-) -> Result<(), AllocError> {
+) -> Result<(), AllocError>
+    ensures { OnOk result (added.SimpleAdded (context_of source.now) variables.now (tree.Assign (expr_of target.now) assign.Set place (expr_of value.now)) code.old code.new) }
+{
     match as_variable(target) {
         Some(name) => {
             let from = add_expression(source, variables, code, value)?;
@@ -365,6 +421,7 @@ fn add_assignment(
 
 /// `+=`, `-=`, `++` and `--`. On a variable it is an operation and a copy, and on a field one load, an
 /// operation and one store.
+#[tactic(auto, using(crate::proofs::StmtAdds::statements))]
 fn add_update(
     source: &Source<'_, '_>,
     variables: &Variables<'_>,
@@ -373,7 +430,9 @@ fn add_update(
     place: u64,
     op: BinOp,
     value: Option<&Expr>,
-) -> Result<(), AllocError> {
+) -> Result<(), AllocError>
+    ensures { OnOk result (added.UpdateAdded (context_of source.now) variables.now (expr_of target.now) place op (option_map (λ e. expr_of e.now) value.entry) code.old code.new) }
+{
     match as_variable(target) {
         Some(name) => {
             let right = add_amount(source, variables, code, value)?;
@@ -393,12 +452,15 @@ fn add_update(
 }
 
 /// By how much a target changes: `++` and `--` have no value, and mean 1.
+#[tactic(auto, using(crate::proofs::StmtAdds::statements))]
 fn add_amount(
     source: &Source<'_, '_>,
     variables: &Variables<'_>,
     code: &mut Code,
     value: Option<&Expr>,
-) -> Result<u32, AllocError> {
+) -> Result<u32, AllocError>
+    ensures { IfOk result (λ r. added.OrAdded (context_of source.now) variables.now (pos 1) (option_map (λ e. expr_of e.now) value.entry) code.old code.new r) }
+{
     match value {
         None => add_constant(source, code, 1),
         Some(value) => add_expression(source, variables, code, value),
