@@ -6,6 +6,7 @@ ghost use Rattle.c_types.specs.Tables as tables;
 ghost use Rattle.c_types.specs.Views.{tables_in};
 ghost use Rattle.pool_map.specs.PoolMap.{object_at};
 ghost use Rattle.c_meaning.specs.Access as meaning;
+ghost use Rattle.c_meaning.specs.Answers.{Quiet, QuietTrap};
 
 use crate::fault::Fault;
 use crate::locals::Locals;
@@ -87,6 +88,7 @@ fn kind_at(program: &Program<'_>, at: Option<u64>) -> Option<u64>
 fn slot_of(pool: &Pool, kind: Option<u64>, pointer: i64) -> Result<u64, TrapKind>
     ensures slot { result ≡ meaning.slot_of pool.now kind pointer }
     ensures object { IfOk result (λ slot. IsSome (object_at pool.now slot)) }
+    ensures quiet { QuietTrap result }
 {
     if pointer == 0 {
         return Err(TrapKind::Null);
@@ -118,7 +120,8 @@ fn is_kind(pool: &Pool, slot: u64, kind: Option<u64>) -> bool
 
 /// A word of a struct: that of a field, or of an element of it, with the check index.
 fn word_in(layout: &Layout<'_>, name: &str, index: Option<i64>) -> Result<u64, TrapKind>
-    ensures { result ≡ meaning.word_in layout.now name.now index }
+    ensures value { result ≡ meaning.word_in layout.now name.now index }
+    ensures quiet { QuietTrap result }
 {
     let first = first_word(layout, name);
     match index {
@@ -163,7 +166,8 @@ fn count_of(length: i64) -> u64
 
 /// The check index.
 fn element_in(length: u64, index: i64) -> Result<u64, TrapKind>
-    ensures { result ≡ meaning.element_in length index }
+    ensures value { result ≡ meaning.element_in length index }
+    ensures quiet { QuietTrap result }
 {
     match u64::try_from(index) {
         Err(_) => Err(TrapKind::Index),
@@ -184,7 +188,8 @@ fn word_at(
     name: &str,
     index: Option<i64>,
 ) -> Result<u64, TrapKind>
-    ensures { result ≡ meaning.word_at (tables_in program.now) at name.now index }
+    ensures value { result ≡ meaning.word_at (tables_in program.now) at name.now index }
+    ensures quiet { QuietTrap result }
 {
     match at {
         None => Ok(0),
@@ -204,7 +209,8 @@ fn behind(
     name: &str,
     index: Option<i64>,
 ) -> Result<Word, TrapKind>
-    ensures { result ≡ meaning.behind (tables_in program.now) pool.now at pointer name.now index }
+    ensures value { result ≡ meaning.behind (tables_in program.now) pool.now at pointer name.now index }
+    ensures quiet { QuietTrap result }
 {
     match slot_of(pool, kind_at(program, at), pointer) {
         Err(trap) => Err(trap),
@@ -217,7 +223,8 @@ fn behind(
 
 /// A word of the root.
 fn of_root(program: &Program<'_>, name: &str, index: Option<i64>) -> Result<Word, TrapKind>
-    ensures { result ≡ meaning.of_root (tables_in program.now) name.now index }
+    ensures value { result ≡ meaning.of_root (tables_in program.now) name.now index }
+    ensures quiet { QuietTrap result }
 {
     match word_at(program, program.root_struct(), name, index) {
         Err(trap) => Err(trap),
@@ -236,7 +243,8 @@ pub fn word_named(
     pointer: i64,
     index: Option<i64>,
 ) -> Result<Word, TrapKind>
-    ensures { result ≡ meaning.word_named (tables_in program.now) locals.now pool.now (expr_of field.now) pointer index }
+    ensures value { result ≡ meaning.word_named (tables_in program.now) locals.now pool.now (expr_of field.now) pointer index }
+    ensures quiet { QuietTrap result }
 {
     match field {
         Expr::Root(name) => of_root(program, name.text.as_str(), index),
@@ -256,7 +264,9 @@ pub fn word_named(
 }
 
 /// A new object in the least free slot, whose number it gives: 0 where no slot is free.
-pub fn new_object(program: &Program<'_>, pool: &mut Pool, name: &Name) -> Result<i64, Fault> {
+pub fn new_object(program: &Program<'_>, pool: &mut Pool, name: &Name) -> Result<i64, Fault>
+    ensures quiet { Quiet result }
+{
     pool_map::laws();
     let Some(at) = program.struct_named(name.text.as_str()) else {
         return Ok(0);
@@ -278,7 +288,9 @@ pub fn free_object(
     pool: &mut Pool,
     expr: &Expr,
     pointer: i64,
-) -> Result<(), TrapKind> {
+) -> Result<(), TrapKind>
+    ensures quiet { QuietTrap result }
+{
     let at = struct_behind(program, locals, expr);
     match slot_of(pool, kind_at(program, at), pointer) {
         Err(trap) => Err(trap),

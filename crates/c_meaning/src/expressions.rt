@@ -1,5 +1,7 @@
 //! Expressions.
 
+ghost use Rattle.c_meaning.specs.Answers.{Quiet};
+
 use crate::access::{free_object, load, new_object, store};
 use crate::fault::Fault;
 use crate::operators::{binary, unary};
@@ -11,7 +13,9 @@ use pool_map::TrapKind;
 
 impl<'a> Run<'a> {
     /// Begins to evaluate an expression.
-    pub fn eval(&mut self, program: &Program<'a>, expr: &'a Expr) -> Result<(), Fault> {
+    pub fn eval(&mut self, program: &Program<'a>, expr: &'a Expr) -> Result<(), Fault>
+        ensures quiet { Quiet result }
+    {
         match expr {
             Expr::Number(value) => self.give(*value),
             Expr::Null => self.give(0),
@@ -41,7 +45,9 @@ impl<'a> Run<'a> {
     }
 
     /// The right side of `&&` and `||` waits until the left side is known.
-    fn plan_binary(&mut self, op: BinaryOp, left: &'a Expr, right: &'a Expr) -> Result<(), Fault> {
+    fn plan_binary(&mut self, op: BinaryOp, left: &'a Expr, right: &'a Expr) -> Result<(), Fault>
+        ensures quiet { Quiet result }
+    {
         match op {
             BinaryOp::Both => self.plan_expr(ExprTask::Both, right)?,
             BinaryOp::Either => self.plan_expr(ExprTask::Either, right)?,
@@ -53,7 +59,9 @@ impl<'a> Run<'a> {
         self.plan_expr(ExprTask::Eval, left)
     }
 
-    fn plan_load(&mut self, expr: &'a Expr) -> Result<(), Fault> {
+    fn plan_load(&mut self, expr: &'a Expr) -> Result<(), Fault>
+        ensures quiet { Quiet result }
+    {
         self.plan_expr(ExprTask::Load, expr)?;
         self.plan_operands(expr)
     }
@@ -64,7 +72,9 @@ impl<'a> Run<'a> {
         program: &Program<'a>,
         name: &Name,
         arguments: &'a [Argument],
-    ) -> Result<(), Fault> {
+    ) -> Result<(), Fault>
+        ensures quiet { Quiet result }
+    {
         match program.function_named(name.text.as_str()) {
             None => self.give(0),
             Some(function) => {
@@ -74,7 +84,9 @@ impl<'a> Run<'a> {
         }
     }
 
-    pub fn arguments(&mut self, all: &'a [Argument]) -> Result<(), Fault> {
+    pub fn arguments(&mut self, all: &'a [Argument]) -> Result<(), Fault>
+        ensures quiet { Quiet result }
+    {
         match all.split_first() {
             None => Ok(()),
             Some((first, others)) => {
@@ -84,12 +96,16 @@ impl<'a> Run<'a> {
         }
     }
 
-    pub fn unary(&mut self, op: UnaryOp) -> Result<(), Fault> {
+    pub fn unary(&mut self, op: UnaryOp) -> Result<(), Fault>
+        ensures quiet { Quiet result }
+    {
         let operand = self.take();
         self.give(unary(op, operand))
     }
 
-    pub fn binary(&mut self, op: BinaryOp) -> Result<(), Fault> {
+    pub fn binary(&mut self, op: BinaryOp) -> Result<(), Fault>
+        ensures quiet { Quiet result }
+    {
         let right = self.take();
         let left = self.take();
         match binary(op, left, right) {
@@ -98,7 +114,9 @@ impl<'a> Run<'a> {
         }
     }
 
-    pub fn both(&mut self, right: &'a Expr) -> Result<(), Fault> {
+    pub fn both(&mut self, right: &'a Expr) -> Result<(), Fault>
+        ensures quiet { Quiet result }
+    {
         if self.take() == 0 {
             return self.give(0);
         }
@@ -106,7 +124,9 @@ impl<'a> Run<'a> {
         self.plan_expr(ExprTask::Eval, right)
     }
 
-    pub fn either(&mut self, right: &'a Expr) -> Result<(), Fault> {
+    pub fn either(&mut self, right: &'a Expr) -> Result<(), Fault>
+        ensures quiet { Quiet result }
+    {
         if self.take() != 0 {
             return self.give(1);
         }
@@ -114,19 +134,25 @@ impl<'a> Run<'a> {
         self.plan_expr(ExprTask::Eval, right)
     }
 
-    pub fn truth(&mut self) -> Result<(), Fault> {
+    pub fn truth(&mut self) -> Result<(), Fault>
+        ensures quiet { Quiet result }
+    {
         let word = self.take();
         self.give(i64::from(word != 0))
     }
 
-    pub fn load(&mut self, program: &Program<'a>, expr: &Expr) -> Result<(), Fault> {
+    pub fn load(&mut self, program: &Program<'a>, expr: &Expr) -> Result<(), Fault>
+        ensures quiet { Quiet result }
+    {
         let operands = self.take_operands(expr);
         let word = self.locate(program, expr, operands)?;
         let value = load(&self.pool, word);
         self.give(value)
     }
 
-    pub fn fetch(&mut self, program: &Program<'a>, expr: &Expr) -> Result<(), Fault> {
+    pub fn fetch(&mut self, program: &Program<'a>, expr: &Expr) -> Result<(), Fault>
+        ensures quiet { Quiet result }
+    {
         let operands = self.take_operands(expr);
         let word = self.locate(program, expr, operands)?;
         let value = load(&self.pool, word);
@@ -134,7 +160,9 @@ impl<'a> Run<'a> {
         self.give(value)
     }
 
-    pub fn store(&mut self, program: &Program<'a>, expr: &Expr) -> Result<(), Fault> {
+    pub fn store(&mut self, program: &Program<'a>, expr: &Expr) -> Result<(), Fault>
+        ensures quiet { Quiet result }
+    {
         let value = self.take();
         let operands = self.take_operands(expr);
         let word = self.locate(program, expr, operands)?;
@@ -142,13 +170,17 @@ impl<'a> Run<'a> {
         Ok(())
     }
 
-    pub fn assign(&mut self, name: &Name) -> Result<(), Fault> {
+    pub fn assign(&mut self, name: &Name) -> Result<(), Fault>
+        ensures quiet { Quiet result }
+    {
         let value = self.take();
         self.top.assign(name.text.as_str(), value);
         Ok(())
     }
 
-    pub fn free(&mut self, program: &Program<'a>, pointer: &Expr) -> Result<(), Fault> {
+    pub fn free(&mut self, program: &Program<'a>, pointer: &Expr) -> Result<(), Fault>
+        ensures quiet { Quiet result }
+    {
         let word = self.take();
         free_object(program, &self.top, &mut self.pool, pointer, word)?;
         Ok(())

@@ -1,11 +1,13 @@
 //! A call of a transaction.
 
-ghost use Rattle.std.specs.Prelude.{◌≡◌, None, option_map};
+ghost use Rattle.std.specs.Prelude.{◌≡◌, ◌≢◌, None, option_map};
 ghost use Rattle.c_parser.specs.ItemTree.{function_of};
 ghost use Rattle.c_parser.specs.Program.{tree_of};
 ghost use Rattle.c_types.specs.Tables.{tables_of};
 ghost use Rattle.c_types.specs.Views.{tables_in};
-ghost use Rattle.c_meaning.specs.Answers.{Answers};
+ghost use Rattle.pool_map.specs.declared.trap.TrapKind.TheVariants as trap;
+ghost use Rattle.c_meaning.specs.declared.answer.PlainAnswer.TheVariants as answer;
+ghost use Rattle.c_meaning.specs.Answers.{Answers, Quiet};
 ghost use Rattle.c_meaning.specs.Transaction.{transaction, transaction_means};
 
 use crate::answer::PlainAnswer;
@@ -32,6 +34,7 @@ pub fn plain_call(
     args: &[i64],
     ticks: u64,
 ) -> PlainAnswer
+    ensures quiet { result ≢ answer.Trap trap.LogFull }
     ensures absent { transaction (tables_of (tree_of typed.now)) tx ≡ None → Answers result (transaction_means (tables_of (tree_of typed.now)) pool.now tx args.now ticks) }
 {
     let Ok(program) = Program::new(alloc, typed.ast().items()) else {
@@ -46,7 +49,10 @@ pub fn plain_call(
     }
 }
 
-fn answer_of(ended: Result<(Pool, i64), Fault>) -> PlainAnswer {
+fn answer_of(ended: Result<(Pool, i64), Fault>) -> PlainAnswer
+    requires { Quiet ended }
+    ensures { result ≢ answer.Trap trap.LogFull }
+{
     match ended {
         Ok((pool, value)) => PlainAnswer::Done(pool, value),
         Err(Fault::Trapped(kind)) => PlainAnswer::Trap(kind),
@@ -61,7 +67,9 @@ fn run<'a>(
     function: &'a Function,
     args: &[i64],
     ticks: u64,
-) -> Result<(Pool, i64), Fault> {
+) -> Result<(Pool, i64), Fault>
+    ensures quiet { Quiet result }
+{
     let top = bound(alloc, program, &function.parameters, args)?;
     let mut run = Run::new(alloc, pool, top, ticks);
     run.begin(function)?;
@@ -89,7 +97,9 @@ fn transaction<'a>(program: &Program<'a>, tx: u64) -> Option<&'a Function>
 
 /// Does what is planned, until nothing is. Each turn of a loop and each call takes a tick, and
 /// between two ticks less than the program's nodes is done, so the last answer is never reached.
-fn finish<'a>(alloc: Global, program: &Program<'a>, run: &mut Run<'a>) -> Result<(), Fault> {
+fn finish<'a>(alloc: Global, program: &Program<'a>, run: &mut Run<'a>) -> Result<(), Fault>
+    ensures quiet { Quiet result }
+{
     for _ in 0..u64::MAX {
         match run.plan.pop() {
             None => return Ok(()),
@@ -101,7 +111,9 @@ fn finish<'a>(alloc: Global, program: &Program<'a>, run: &mut Run<'a>) -> Result
 
 impl<'a> Run<'a> {
     /// Does one thing, by how the last statement ended.
-    fn go_on(&mut self, alloc: Global, program: &Program<'a>, work: Work<'a>) -> Result<(), Fault> {
+    fn go_on(&mut self, alloc: Global, program: &Program<'a>, work: Work<'a>) -> Result<(), Fault>
+        ensures quiet { Quiet result }
+    {
         match self.flow {
             Flow::Next => self.step(alloc, program, work),
             Flow::Break => self.break_past(work),
@@ -110,7 +122,9 @@ impl<'a> Run<'a> {
         }
     }
 
-    fn break_past(&mut self, work: Work<'a>) -> Result<(), Fault> {
+    fn break_past(&mut self, work: Work<'a>) -> Result<(), Fault>
+        ensures quiet { Quiet result }
+    {
         match work {
             Work::Close(count) => self.top.close_to(count),
             Work::Stmt(StmtTask::Again, _) => self.flow = Flow::Next,
@@ -120,7 +134,9 @@ impl<'a> Run<'a> {
         Ok(())
     }
 
-    fn continue_past(&mut self, work: Work<'a>) -> Result<(), Fault> {
+    fn continue_past(&mut self, work: Work<'a>) -> Result<(), Fault>
+        ensures quiet { Quiet result }
+    {
         match work {
             Work::Close(count) => {
                 self.top.close_to(count);
@@ -135,14 +151,18 @@ impl<'a> Run<'a> {
         }
     }
 
-    fn return_past(&mut self, value: i64, work: Work<'a>) -> Result<(), Fault> {
+    fn return_past(&mut self, value: i64, work: Work<'a>) -> Result<(), Fault>
+        ensures quiet { Quiet result }
+    {
         match work {
             Work::Leave => self.leave(value),
             _ => Ok(()),
         }
     }
 
-    fn step(&mut self, alloc: Global, program: &Program<'a>, work: Work<'a>) -> Result<(), Fault> {
+    fn step(&mut self, alloc: Global, program: &Program<'a>, work: Work<'a>) -> Result<(), Fault>
+        ensures quiet { Quiet result }
+    {
         match work {
             Work::Expr(task, expr) => self.on_expr(program, task, expr),
             Work::Stmt(task, stmt) => self.on_stmt(program, task, stmt),
@@ -177,7 +197,9 @@ impl<'a> Run<'a> {
         program: &Program<'a>,
         task: ExprTask,
         expr: &'a Expr,
-    ) -> Result<(), Fault> {
+    ) -> Result<(), Fault>
+        ensures quiet { Quiet result }
+    {
         match task {
             ExprTask::Eval => self.eval(program, expr),
             ExprTask::Both => self.both(expr),
@@ -194,7 +216,9 @@ impl<'a> Run<'a> {
         program: &Program<'a>,
         task: StmtTask,
         stmt: &'a Stmt,
-    ) -> Result<(), Fault> {
+    ) -> Result<(), Fault>
+        ensures quiet { Quiet result }
+    {
         match task {
             StmtTask::Exec => self.exec(program, stmt),
             StmtTask::Choose => self.choose(stmt),

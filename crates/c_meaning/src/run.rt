@@ -1,5 +1,7 @@
 //! A run in progress.
 
+ghost use Rattle.c_meaning.specs.Answers.{Quiet, QuietTrap};
+
 use crate::access::word_named;
 use crate::fault::Fault;
 use crate::locals::{Locals, bound};
@@ -53,20 +55,28 @@ impl<'a> Run<'a> {
     }
 
     /// Puts something to be done before all else.
-    pub fn plan(&mut self, work: Work<'a>) -> Result<(), Fault> {
+    pub fn plan(&mut self, work: Work<'a>) -> Result<(), Fault>
+        ensures quiet { Quiet result }
+    {
         self.plan.push(work)?;
         Ok(())
     }
 
-    pub fn plan_expr(&mut self, task: ExprTask, expr: &'a Expr) -> Result<(), Fault> {
+    pub fn plan_expr(&mut self, task: ExprTask, expr: &'a Expr) -> Result<(), Fault>
+        ensures quiet { Quiet result }
+    {
         self.plan(Work::Expr(task, expr))
     }
 
-    pub fn plan_stmt(&mut self, task: StmtTask, stmt: &'a Stmt) -> Result<(), Fault> {
+    pub fn plan_stmt(&mut self, task: StmtTask, stmt: &'a Stmt) -> Result<(), Fault>
+        ensures quiet { Quiet result }
+    {
         self.plan(Work::Stmt(task, stmt))
     }
 
-    pub fn give(&mut self, value: i64) -> Result<(), Fault> {
+    pub fn give(&mut self, value: i64) -> Result<(), Fault>
+        ensures quiet { Quiet result }
+    {
         self.values.push(value)?;
         Ok(())
     }
@@ -79,7 +89,9 @@ impl<'a> Run<'a> {
         }
     }
 
-    pub fn tick(&mut self) -> Result<(), Fault> {
+    pub fn tick(&mut self) -> Result<(), Fault>
+        ensures quiet { Quiet result }
+    {
         if self.ticks == 0 {
             return Err(Fault::Trapped(TrapKind::Steps));
         }
@@ -89,7 +101,9 @@ impl<'a> Run<'a> {
 
     /// Evaluates what a target needs: the pointer that leads to it, or 0 in its place, and then its
     /// index.
-    pub fn plan_operands(&mut self, target: &'a Expr) -> Result<(), Fault> {
+    pub fn plan_operands(&mut self, target: &'a Expr) -> Result<(), Fault>
+        ensures quiet { Quiet result }
+    {
         match target {
             Expr::Index { base, index, .. } => {
                 self.plan_expr(ExprTask::Eval, index)?;
@@ -99,7 +113,9 @@ impl<'a> Run<'a> {
         }
     }
 
-    fn plan_pointer(&mut self, field: &'a Expr) -> Result<(), Fault> {
+    fn plan_pointer(&mut self, field: &'a Expr) -> Result<(), Fault>
+        ensures quiet { Quiet result }
+    {
         match field {
             Expr::Arrow { base, .. } => self.plan_expr(ExprTask::Eval, base),
             _ => self.give(0),
@@ -128,7 +144,9 @@ impl<'a> Run<'a> {
     }
 
     /// Puts a target's operands back.
-    pub fn give_operands(&mut self, operands: Operands) -> Result<(), Fault> {
+    pub fn give_operands(&mut self, operands: Operands) -> Result<(), Fault>
+        ensures quiet { Quiet result }
+    {
         self.give(operands.pointer)?;
         match operands.index {
             None => Ok(()),
@@ -142,7 +160,9 @@ impl<'a> Run<'a> {
         program: &Program<'a>,
         target: &Expr,
         operands: Operands,
-    ) -> Result<Word, TrapKind> {
+    ) -> Result<Word, TrapKind>
+        ensures quiet { QuietTrap result }
+    {
         let field = match target {
             Expr::Index { base, .. } => base,
             _ => target,
@@ -164,7 +184,9 @@ impl<'a> Run<'a> {
         alloc: Global,
         program: &Program<'a>,
         function: &'a Function,
-    ) -> Result<(), Fault> {
+    ) -> Result<(), Fault>
+        ensures quiet { Quiet result }
+    {
         self.tick()?;
         if self.below.count() >= OPEN - 1 {
             return Err(Fault::Trapped(TrapKind::Depth));
@@ -179,13 +201,17 @@ impl<'a> Run<'a> {
     }
 
     /// The body of a function whose parameters are bound.
-    pub fn begin(&mut self, function: &'a Function) -> Result<(), Fault> {
+    pub fn begin(&mut self, function: &'a Function) -> Result<(), Fault>
+        ensures quiet { Quiet result }
+    {
         self.plan(Work::Leave)?;
         self.plan(Work::Rest(&function.body))
     }
 
     /// Ends the open function.
-    pub fn leave(&mut self, value: i64) -> Result<(), Fault> {
+    pub fn leave(&mut self, value: i64) -> Result<(), Fault>
+        ensures quiet { Quiet result }
+    {
         self.flow = Flow::Next;
         if let Some(caller) = self.below.pop() {
             mem::replace(&mut self.top, caller);

@@ -1,5 +1,7 @@
 //! Statements.
 
+ghost use Rattle.c_meaning.specs.Answers.{Quiet};
+
 use crate::fault::Fault;
 use crate::locals::Locals;
 use crate::run::Run;
@@ -13,7 +15,9 @@ use std::mem;
 
 impl<'a> Run<'a> {
     /// Begins a statement.
-    pub fn exec(&mut self, program: &Program<'a>, stmt: &'a Stmt) -> Result<(), Fault> {
+    pub fn exec(&mut self, program: &Program<'a>, stmt: &'a Stmt) -> Result<(), Fault>
+        ensures quiet { Quiet result }
+    {
         match stmt {
             Stmt::Empty => Ok(()),
             Stmt::Declare(declaration) => self.plan_declaration(declaration),
@@ -41,12 +45,16 @@ impl<'a> Run<'a> {
     }
 
     /// The last statement ended in this way.
-    fn end(&mut self, flow: Flow) -> Result<(), Fault> {
+    fn end(&mut self, flow: Flow) -> Result<(), Fault>
+        ensures quiet { Quiet result }
+    {
         self.flow = flow;
         Ok(())
     }
 
-    fn plan_return(&mut self, value: &'a Option<Expr>) -> Result<(), Fault> {
+    fn plan_return(&mut self, value: &'a Option<Expr>) -> Result<(), Fault>
+        ensures quiet { Quiet result }
+    {
         match value {
             None => self.end(Flow::Return(0)),
             Some(value) => {
@@ -56,7 +64,9 @@ impl<'a> Run<'a> {
         }
     }
 
-    fn plan_first(&mut self, first: &'a Option<First>) -> Result<(), Fault> {
+    fn plan_first(&mut self, first: &'a Option<First>) -> Result<(), Fault>
+        ensures quiet { Quiet result }
+    {
         match first {
             None => Ok(()),
             Some(First::Declare(declaration)) => self.plan_declaration(declaration),
@@ -65,7 +75,9 @@ impl<'a> Run<'a> {
     }
 
     /// A local without an initial value begins at 0.
-    fn plan_declaration(&mut self, declaration: &'a Declaration) -> Result<(), Fault> {
+    fn plan_declaration(&mut self, declaration: &'a Declaration) -> Result<(), Fault>
+        ensures quiet { Quiet result }
+    {
         self.plan(Work::Declare(declaration))?;
         match &declaration.initial {
             None => self.give(0),
@@ -78,7 +90,9 @@ impl<'a> Run<'a> {
         alloc: Global,
         program: &Program<'a>,
         declaration: &'a Declaration,
-    ) -> Result<(), Fault> {
+    ) -> Result<(), Fault>
+        ensures quiet { Quiet result }
+    {
         let value = self.take();
         let declared = program.declared_type(&declaration.ty);
         let name = declaration.name.text.as_str();
@@ -88,7 +102,9 @@ impl<'a> Run<'a> {
         Ok(())
     }
 
-    pub fn rest(&mut self, all: &'a [Stmt]) -> Result<(), Fault> {
+    pub fn rest(&mut self, all: &'a [Stmt]) -> Result<(), Fault>
+        ensures quiet { Quiet result }
+    {
         match all.split_first() {
             None => Ok(()),
             Some((first, others)) => {
@@ -98,7 +114,9 @@ impl<'a> Run<'a> {
         }
     }
 
-    pub fn choose(&mut self, stmt: &'a Stmt) -> Result<(), Fault> {
+    pub fn choose(&mut self, stmt: &'a Stmt) -> Result<(), Fault>
+        ensures quiet { Quiet result }
+    {
         let holds = self.take() != 0;
         let Stmt::If { body, other, .. } = stmt else {
             return Ok(());
@@ -113,14 +131,18 @@ impl<'a> Run<'a> {
     }
 
     /// A body, whose locals are forgotten behind it.
-    fn inside(&mut self, body: &'a Stmt) -> Result<(), Fault> {
+    fn inside(&mut self, body: &'a Stmt) -> Result<(), Fault>
+        ensures quiet { Quiet result }
+    {
         let count = self.top.count();
         self.plan(Work::Close(count))?;
         self.plan_stmt(StmtTask::Exec, body)
     }
 
     /// A turn takes a tick before its condition; an absent one holds.
-    pub fn turn(&mut self, stmt: &'a Stmt) -> Result<(), Fault> {
+    pub fn turn(&mut self, stmt: &'a Stmt) -> Result<(), Fault>
+        ensures quiet { Quiet result }
+    {
         self.tick()?;
         self.plan_stmt(StmtTask::Test, stmt)?;
         match stmt {
@@ -133,7 +155,9 @@ impl<'a> Run<'a> {
         }
     }
 
-    pub fn test(&mut self, stmt: &'a Stmt) -> Result<(), Fault> {
+    pub fn test(&mut self, stmt: &'a Stmt) -> Result<(), Fault>
+        ensures quiet { Quiet result }
+    {
         if self.take() == 0 {
             return Ok(());
         }
@@ -146,7 +170,9 @@ impl<'a> Run<'a> {
     }
 
     /// The third part of a `for` stands between two turns.
-    pub fn again(&mut self, stmt: &'a Stmt) -> Result<(), Fault> {
+    pub fn again(&mut self, stmt: &'a Stmt) -> Result<(), Fault>
+        ensures quiet { Quiet result }
+    {
         self.plan_stmt(StmtTask::Turn, stmt)?;
         match stmt {
             Stmt::For {
@@ -158,7 +184,9 @@ impl<'a> Run<'a> {
     }
 
     /// Begins a simple statement.
-    pub fn simple(&mut self, program: &Program<'a>, simple: &'a Simple) -> Result<(), Fault> {
+    pub fn simple(&mut self, program: &Program<'a>, simple: &'a Simple) -> Result<(), Fault>
+        ensures quiet { Quiet result }
+    {
         match simple {
             Simple::Assign {
                 target,
@@ -187,7 +215,9 @@ impl<'a> Run<'a> {
     }
 
     /// The target's base and index, the right side, and then the store with its checks.
-    fn plan_assign(&mut self, target: &'a Expr, value: &'a Expr) -> Result<(), Fault> {
+    fn plan_assign(&mut self, target: &'a Expr, value: &'a Expr) -> Result<(), Fault>
+        ensures quiet { Quiet result }
+    {
         match target {
             Expr::Variable(name) => {
                 self.plan(Work::Assign(name))?;
@@ -208,7 +238,9 @@ impl<'a> Run<'a> {
         target: &'a Expr,
         op: BinaryOp,
         right: Option<&'a Expr>,
-    ) -> Result<(), Fault> {
+    ) -> Result<(), Fault>
+        ensures quiet { Quiet result }
+    {
         match target {
             Expr::Variable(name) => {
                 self.plan(Work::Assign(name))?;
@@ -225,7 +257,9 @@ impl<'a> Run<'a> {
     }
 
     /// The right side of an operator, which is 1 where none is written.
-    fn plan_right(&mut self, op: BinaryOp, right: Option<&'a Expr>) -> Result<(), Fault> {
+    fn plan_right(&mut self, op: BinaryOp, right: Option<&'a Expr>) -> Result<(), Fault>
+        ensures quiet { Quiet result }
+    {
         self.plan(Work::Binary(op))?;
         match right {
             None => self.plan(Work::Put(1)),
