@@ -4,5 +4,7 @@
 #![tactic(auto)]
 
 mod marking;
+#[cfg(test)]
+mod tests;
 
 pub use marking::{MarkTable, marks};
