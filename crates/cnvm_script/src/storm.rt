@@ -5,14 +5,12 @@ ghost use Rattle.c_types.specs.Shapes.{transactions_of};
 ghost use Rattle.cnvm_script.specs.Storm.{next, drawn, after, is_cut, chosen, arguments, power, cut_round, round, after_round, storm_round, storm_after};
 ghost use Rattle.cnvm_script.specs.declared.command.Command.TheVariants.{Call};
 
-use std::alloc::{AllocError, Global};
-use std::marker::Model;
-
+use crate::command::{Command, Script};
 use c_types::Typed;
 use cache_model::{Choice, Picks, Rest};
 use nvm_base::{Text, Words};
-
-use crate::command::{Command, Script};
+use std::alloc::{AllocError, Global};
+use std::marker::Model;
 
 /// The state of the generator.
 #[derive(Drop)]

@@ -17,10 +17,10 @@ sized app = with_rule (with_rule (with_rule app (option_rule (codes "slots"))) (
 abbrev pub run_app : App
 run_app =
     sized
-        (with_rule
-            (with_rule (with_rule (with_rule (new_app (codes "run")) (place_rule (codes "program"))) (place_rule (codes "script")))
-                (option_rule (codes "open")))
-            (option_rule (codes "save")))
+    (with_rule
+    (with_rule (with_rule (with_rule (new_app (codes "run")) (place_rule (codes "program"))) (place_rule (codes "script")))
+    (option_rule (codes "open")))
+    (option_rule (codes "save")))
 
 abbrev pub list_app : App
 list_app = with_rule (new_app (codes "list")) (place_rule (codes "program"))
@@ -28,16 +28,21 @@ list_app = with_rule (new_app (codes "list")) (place_rule (codes "program"))
 abbrev pub storm_app : App
 storm_app =
     sized
-        (with_rule
-            (with_rule (with_rule (new_app (codes "storm")) (place_rule (codes "program"))) (place_rule (codes "start")))
-            (place_rule (codes "count")))
+    (with_rule
+    (with_rule (with_rule (new_app (codes "storm")) (place_rule (codes "program"))) (place_rule (codes "start")))
+    (place_rule (codes "count")))
 
 -- the words have no program name, and a subcommand is wanted
 abbrev pub bare_app : App
-bare_app = let a = new_app (codes "cnvm") in record a { top = record a.top {
-  no_binary_name = true; disable_help_flag = true; disable_help_subcommand = true;
-  disable_version_flag = true; subcommand_required = true;
-} }
+bare_app = let a = new_app (codes "cnvm") in record a {
+  top = record a.top {
+    no_binary_name = true;
+    disable_help_flag = true;
+    disable_help_subcommand = true;
+    disable_version_flag = true;
+    subcommand_required = true;
+  };
+}
 
 abbrev pub cnvm_app : App
 cnvm_app = with_subcommand (with_subcommand (with_subcommand bare_app run_app.top) list_app.top) storm_app.top

@@ -24,17 +24,17 @@ number_or default least most (Some text) = number least most text
 abbrev pub pool_of : List Row → Option (ℕ × ℕ × ℕ)
 pool_of rows =
     option_and_then (λ slots. option_and_then (λ records. option_map (λ ticks. (slots, records, ticks))
-        (number_or 100000 1 1000000 (first_of (codes "ticks") rows)))
-        (number_or 256 1 4096 (first_of (codes "log") rows)))
-        (number_or 1024 1 65535 (first_of (codes "slots") rows))
+    (number_or 100000 1 1000000 (first_of (codes "ticks") rows)))
+    (number_or 256 1 4096 (first_of (codes "log") rows)))
+    (number_or 1024 1 65535 (first_of (codes "slots") rows))
 
 abbrev pub run_plan : List Row → Option Plan
 run_plan rows =
     option_and_then (λ program. option_and_then (λ script. option_map (λ pool.
-        Run program script pool.0 pool.1 pool.2 (first_of (codes "open") rows) (first_of (codes "save") rows))
-        (pool_of rows))
-        (first_of (codes "script") rows))
-        (first_of (codes "program") rows)
+    Run program script pool.0 pool.1 pool.2 (first_of (codes "open") rows) (first_of (codes "save") rows))
+    (pool_of rows))
+    (first_of (codes "script") rows))
+    (first_of (codes "program") rows)
 
 abbrev pub list_plan : List Row → Option Plan
 list_plan rows = option_map (λ program. Listing program) (first_of (codes "program") rows)
@@ -42,11 +42,11 @@ list_plan rows = option_map (λ program. Listing program) (first_of (codes "prog
 abbrev pub storm_plan : List Row → Option Plan
 storm_plan rows =
     option_and_then (λ program. option_and_then (λ start. option_and_then (λ count. option_map (λ pool.
-        Storm program start count pool.0 pool.1 pool.2)
-        (pool_of rows))
-        (option_and_then (number 0 20000) (first_of (codes "count") rows)))
-        (option_and_then (number 0 2147483647) (first_of (codes "start") rows)))
-        (first_of (codes "program") rows)
+    Storm program start count pool.0 pool.1 pool.2)
+    (pool_of rows))
+    (option_and_then (number 0 20000) (first_of (codes "count") rows)))
+    (option_and_then (number 0 2147483647) (first_of (codes "start") rows)))
+    (first_of (codes "program") rows)
 
 -- the plan of a subcommand with these rows
 abbrev pub planned : Text → List Row → Option Plan
