@@ -1,13 +1,2 @@
-mod Course
-mod Digits
-mod FormReading
-mod Lines
-mod Once
-mod Pieces
-mod Places
-mod Playing
-mod Refusing
-mod Rest
-mod Running
-mod Switch
-mod Verdicts
+pub mod Running
+pub mod Verdicts

@@ -1,91 +1,73 @@
--- A run of the script's calls: each is answered, and its line is written, before the next.
-use Rattle.std.specs.Prelude.{ℕ, ℤ, pos, List, [], ◌∷◌, Option, ◌≡◌, ◌⊎◌, true}
+-- A run of a script's commands: each is answered, and its lines are written, before the next.
+use Rattle.std.specs.Prelude.{ℕ, ℤ, List, [], ◌∷◌, Option, ◌≡◌, ◌⊎◌, true}
 use Rattle.std.specs.Io.KnownBytes.{Appends, Keeps}
 use Rattle.nvm_base.specs.Parts.{AppendsPart}
 use Rattle.pmem.specs.Device.{Device, blanked}
 use Rattle.pmem.specs.Played.{PlaysAll}
-use Rattle.pool_layout.specs.declared.limits.Sizes.{Sizes}
 use Rattle.pool_layout.specs.Sizes.{pool_lines}
-use Rattle.pool_layout.specs.Places.{pool_of}
-use Rattle.cnvm_cli.specs.declared.answer.Answer.{Answer}
-use Rattle.cnvm_cli.specs.declared.session.Mode.{Mode}
-use Rattle.cnvm_cli.specs.declared.session.Mode.TheVariants.{Ready}
+use Rattle.cnvm_script.specs.declared.command.Command.{Command}
+use Rattle.cnvm_session.specs.declared.answer.Answer.{Answer}
+use Rattle.cnvm_session.specs.declared.mode.Mode.{Mode}
+use Rattle.cnvm_session.specs.declared.mode.Mode.TheVariants.{Ready}
+use Rattle.cnvm_session.specs.declared.program.Program.{Program}
+use Rattle.cnvm_session.specs.AnswerText.{answer_text}
+use Rattle.cnvm_session.specs.Commands.{Commanded}
+use Rattle.cnvm_session.specs.Created.{creation_events}
 use Rattle.cnvm_cli.specs.declared.refused.Refused.{Refused}
-use Rattle.cnvm_cli.specs.declared.run.Status.{Status}
-use Rattle.cnvm_cli.specs.declared.run.Status.TheVariants as status
-use Rattle.cnvm_cli.specs.AnswerText.{answer_text}
-use Rattle.cnvm_cli.specs.Due.{creation_due}
-use Rattle.cnvm_cli.specs.Form.{Counter}
-use Rattle.cnvm_cli.specs.Placed.{placed}
-use Rattle.cnvm_cli.specs.Script.{Call}
-use Rattle.cnvm_cli.specs.Session.{Commanded}
-use Rattle.cnvm_cli.specs.Verdict.{Verdict, Refuses, Runs, has_line, refusal_line, refusal_status}
+use Rattle.cnvm_cli.specs.declared.status.Status.{Status}
+use Rattle.cnvm_cli.specs.declared.status.Status.TheVariants as status
+use Rattle.cnvm_cli.specs.RefusalText.{refusal_line, refusal_status}
+use Rattle.cnvm_cli.specs.Verdict.{Verdict, Refuses, Runs}
 
--- From a mode, a device and what the sink tells to those behind the calls: all of them are answered.
-abbrev pub RunsAll : Counter → Sizes → List Call → Mode → Device → Option (List ℕ) → Mode → Device → Option (List ℕ) → Type 0
-RunsAll c s [] m d w m' d' w' = (m' ≡ m) × (d' ≡ d) × (w' ≡ w)
-RunsAll c s (call ∷ calls) m d w m' d' w' =
-    (answer : Answer) × (m1 : Mode) × (d1 : Device) × (w1 : Option (List ℕ)) × Commanded c s call m d answer m1 d1
-    × Appends w w1 (answer_text answer) × RunsAll c s calls m1 d1 w1 m' d' w'
+-- From a mode, a device, what the sink tells and a count of steps to those behind the commands: all of them are answered.
+abbrev pub RunsAll : Program → List Command → Mode → Device → Option (List ℕ) → ℕ → Device → Option (List ℕ) → ℕ → Type 0
+RunsAll program [] m d w k d' w' k' = (d' ≡ d) × (w' ≡ w) × (k' ≡ k)
+RunsAll program (command ∷ commands) m d w k d' w' k' =
+    (answer : Answer) × (m1 : Mode) × (d1 : Device) × (w1 : Option (List ℕ)) × (k1 : ℕ) × Commanded program command m d answer m1 d1 k k1
+    × Appends w w1 (answer_text answer) × RunsAll program commands m1 d1 w1 k1 d' w' k'
 
--- The first of them are answered, and of the next one's line a part is written, perhaps none.
-abbrev pub RunsPart : Counter → Sizes → List Call → Mode → Device → Option (List ℕ) → Device → Option (List ℕ) → Type 0
-RunsPart c s [] m d w d' w' = ⊥
-RunsPart c s (call ∷ calls) m d w d' w' =
-    ((answer : Answer) × (m1 : Mode) × Commanded c s call m d answer m1 d' × AppendsPart w w' (answer_text answer))
-    ⊎ ((answer : Answer) × (m1 : Mode) × (d1 : Device) × (w1 : Option (List ℕ)) × Commanded c s call m d answer m1 d1
-    × Appends w w1 (answer_text answer) × RunsPart c s calls m1 d1 w1 d' w')
-
--- 1,024 slots, 256 records, one root word, 100,000 ticks
-abbrev pub IsDefault : Sizes → Type 0
-IsDefault s = (s.slots ≡ 1024) × (s.records ≡ 256) × (s.root_words ≡ 1) × (s.ticks ≡ 100000)
+-- The first of them are answered, and of the next one's lines a part is written, perhaps none.
+abbrev pub RunsPart : Program → List Command → Mode → Device → Option (List ℕ) → ℕ → Device → Option (List ℕ) → ℕ → Type 0
+RunsPart program [] m d w k d' w' k' = ⊥
+RunsPart program (command ∷ commands) m d w k d' w' k' =
+    ((answer : Answer) × (m1 : Mode) × Commanded program command m d answer m1 d' k k' × AppendsPart w w' (answer_text answer))
+    ⊎ ((answer : Answer) × (m1 : Mode) × (d1 : Device) × (w1 : Option (List ℕ)) × (k1 : ℕ) × Commanded program command m d answer m1 d1 k k1
+    × Appends w w1 (answer_text answer) × RunsPart program commands m1 d1 w1 k1 d' w' k')
 
 -- A pool is created: the lines are blank, and all events of its first two lines are done.
-abbrev pub Created : Sizes → (digest : List ℤ) → Device → Device → Type 0
-Created s digest d b = IsDefault s × PlaysAll (blanked (pool_lines s) d) (placed (pool_of s) (creation_due s digest)) b
+abbrev pub Created : Program → Device → Device → Type 0
+Created program d b =
+    PlaysAll (blanked (pool_lines program.image.parts.sizes) d) (creation_events program.image.parts.sizes program.digest) b
 
--- How a run ends, by its status. The field is 0 and no transaction is finished at its start.
-abbrev pub RanAs : Counter → (digest : List ℤ) → List Call → Status → Option (List ℕ) → Option (List ℕ) → Device → Device → Type 0
-RanAs c digest calls status.Done w w' d d' =
-    (s : Sizes) × (b : Device) × (m : Mode) × Created s digest d b × RunsAll c s calls (Ready (pos 0) 0) b w m d' w'
-RanAs c digest calls status.WriteFault w w' d d' =
-    (s : Sizes) × (b : Device) × Created s digest d b × RunsPart c s calls (Ready (pos 0) 0) b w d' w'
-RanAs c digest calls status.NoMemory w w' d d' =
-    Keeps w w' ⊎ ((s : Sizes) × (b : Device) × Created s digest d b × RunsPart c s calls (Ready (pos 0) 0) b w d' w')
-RanAs c digest calls status.ReadFault w w' d d' = Keeps w w'
-RanAs c digest calls status.DeviceFault w w' d d' = Keeps w w'
-RanAs c digest calls status.Usage w w' d d' = ⊥
-RanAs c digest calls status.Program w w' d d' = ⊥
-RanAs c digest calls status.Script w w' d d' = ⊥
+-- How a run on a new pool ends, by its status.
+abbrev pub RanAs : Program → List Command → Status → Option (List ℕ) → Option (List ℕ) → Device → Device → (k k' : ℕ) → Type 0
+RanAs program commands status.Done w w' d d' k k' = (b : Device) × Created program d b × RunsAll program commands Ready b w k d' w' k'
+RanAs program commands status.WriteFault w w' d d' k k' = (b : Device) × Created program d b × RunsPart program commands Ready b w k d' w' k'
+RanAs program commands status.NoMemory w w' d d' k k' =
+    Keeps w w' ⊎ ((b : Device) × Created program d b × RunsPart program commands Ready b w k d' w' k')
+RanAs program commands status.DeviceFault w w' d d' k k' = Keeps w w'
+RanAs program commands status.ReadFault w w' d d' k k' = ⊥
+RanAs program commands status.Usage w w' d d' k k' = ⊥
+RanAs program commands status.Program w w' d d' k k' = ⊥
+RanAs program commands status.Script w w' d d' k k' = ⊥
+RanAs program commands status.Image w w' d d' k k' = ⊥
 
--- How a refusal ends: its line is written, and its status comes.
+-- A line is told with a status; or there was no memory for it, or the sink failed.
+abbrev pub TellsAs : Status → List ℕ → Status → Option (List ℕ) → Option (List ℕ) → Type 0
+TellsAs due line result w w' =
+    ((result ≡ due) × Appends w w' line)
+    ⊎ (((result ≡ status.NoMemory) × Keeps w w') ⊎ ((result ≡ status.WriteFault) × AppendsPart w w' line))
+
 abbrev pub RefusedAs : Refused → Status → Option (List ℕ) → Option (List ℕ) → Type 0
-RefusedAs why status.NoMemory w w' = Keeps w w'
-RefusedAs why status.ReadFault w w' = Keeps w w'
-RefusedAs why status.WriteFault w w' = (has_line why ≡ true) × AppendsPart w w' (refusal_line why)
-RefusedAs why status.Usage w w' = (refusal_status why ≡ status.Usage) × Appends w w' (refusal_line why)
-RefusedAs why status.Program w w' = (refusal_status why ≡ status.Program) × Appends w w' (refusal_line why)
-RefusedAs why status.Script w w' = (refusal_status why ≡ status.Script) × Appends w w' (refusal_line why)
-RefusedAs why status.DeviceFault w w' = ⊥
-RefusedAs why status.Done w w' = ⊥
+RefusedAs why result w w' = TellsAs (refusal_status why) (refusal_line why) result w w'
 
 -- How the whole ends, by its verdict.
-abbrev pub EndsAs : Verdict → Status → Option (List ℕ) → Option (List ℕ) → Device → Device → Type 0
-EndsAs (Refuses why) status w w' d d' = RefusedAs why status w w'
-EndsAs (Runs c digest calls) status w w' d d' = RanAs c digest calls status w w' d d'
-
--- statuses that come before a word is written, and say nothing of the texts
-abbrev pub SaysNothing : Status → Type 0
-SaysNothing status.NoMemory = Unit {0}
-SaysNothing status.ReadFault = Unit {0}
-SaysNothing status.Done = ⊥
-SaysNothing status.Usage = ⊥
-SaysNothing status.Program = ⊥
-SaysNothing status.Script = ⊥
-SaysNothing status.WriteFault = ⊥
-SaysNothing status.DeviceFault = ⊥
+abbrev pub EndsAs : Verdict → Status → Option (List ℕ) → Option (List ℕ) → Device → Device → (k k' : ℕ) → Type 0
+EndsAs (Refuses why) result w w' d d' k k' = RefusedAs why result w w'
+EndsAs (Runs program commands) result w w' d d' k k' = RanAs program commands result w w' d d' k k'
 
 -- It ends by what is due. Or a source failed, or there was no memory, before anything was written.
-abbrev pub Ends : (Verdict → Type 0) → Status → Option (List ℕ) → Option (List ℕ) → Device → Device → Type 0
-Ends Due status w w' d d' =
-    (SaysNothing status × Keeps w w') ⊎ ((verdict : Verdict) × Due verdict × EndsAs verdict status w w' d d')
+abbrev pub Ends : (Verdict → Type 0) → Status → Option (List ℕ) → Option (List ℕ) → Device → Device → (k k' : ℕ) → Type 0
+Ends Due result w w' d d' k k' =
+    (((result ≡ status.NoMemory) ⊎ (result ≡ status.ReadFault)) × Keeps w w')
+    ⊎ ((verdict : Verdict) × Due verdict × EndsAs verdict result w w' d d' k k')

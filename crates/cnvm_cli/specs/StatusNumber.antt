@@ -1,7 +1,7 @@
 -- The exit status by which a program is known to have ended so.
 use Rattle.std.specs.Prelude.{ℕ}
-use Rattle.cnvm_cli.specs.declared.run.Status.{Status}
-use Rattle.cnvm_cli.specs.declared.run.Status.TheVariants as status
+use Rattle.cnvm_cli.specs.declared.status.Status.{Status}
+use Rattle.cnvm_cli.specs.declared.status.Status.TheVariants as status
 
 abbrev pub number_of : Status → ℕ
 number_of status.Done = 0
@@ -12,3 +12,4 @@ number_of status.Script = 4
 number_of status.ReadFault = 5
 number_of status.WriteFault = 6
 number_of status.DeviceFault = 7
+number_of status.Image = 8

@@ -1,34 +1,25 @@
-//! The top call: it runs a script's transactions on a pool and answers each line. Below it stand the
-//! ports, the device and the pool's places. Its one contract for the program above: the status and
-//! the lines written are those that the words, the program and the script call for.
+//! The top call: it compiles a program, runs a script's commands on its pool and answers each line,
+//! lists its log marks, or runs a storm. Below it stand the words, the compiler and the session. Its
+//! one contract for the program above: the status and the lines written are those that the words, the
+//! program, the script and the image call for.
 #![tactic(auto)]
 
-mod answer;
-mod complaint;
-mod due;
+mod asked;
+mod commands;
 mod exit;
-mod form;
-mod front_end;
-mod law;
-mod name;
+mod image;
+mod reading;
 mod refused;
 mod run;
-mod scan;
-mod script;
-mod session;
-mod words;
+mod status;
+mod storm;
+mod writing;
 
-pub use answer::{Answer, answer_text};
-pub use complaint::Complaint;
-pub use due::{Called, Due, adding_events, creation_events, play, setting_events};
+pub use cnvm_compile::{Compiled, ProgramFault, compile, list_text};
+pub use cnvm_words::{Plan, WordsFault, plan_of};
 pub use exit::{exit_code, run_on};
-pub use form::{Form, FormFault, Found, Kind, read_form};
-pub use front_end::{Compiled, ProgramFault, compile};
-pub use law::{answer_law, course_law, form_law, rest_law};
-pub use run::{Status, World, cnvm};
-pub use script::{Command, LineFault, Script, ScriptFault, read_script};
-pub use session::{Mode, StartFault, command, create};
-pub use words::paths_of;
+pub use run::cnvm;
+pub use status::{Status, World};
 
 #[cfg(test)]
 mod tests;

@@ -1,13 +1,15 @@
-//! Why there is nothing to run.
+//! Why there is nothing to run, and what is told of it.
 
-ghost use Rattle.std.specs.Prelude.{◌≡◌};
-ghost use Rattle.cnvm_cli.specs.Refusal.{by_lexer, by_parser, by_types, refusal_of};
+ghost use Rattle.std.specs.Prelude.{◌≡◌, ◌⊎◌, ◌<◌, ◌++◌, ◌∷◌, [], IfOk, OnOk, string_bytes};
+ghost use Rattle.nvm_base.specs.Rose.{Rose};
+ghost use Rattle.cnvm_cli.specs.RefusalText.{digit, hex, fault_line, refusal_line, image_status, refusal_status};
 
-use crate::complaint::Complaint;
-use crate::front_end::ProgramFault;
-use c_lexer::LexFault;
-use c_parser::ParseFault;
-use c_types::TypeFault;
+use crate::status::Status;
+use crate::writing::tell;
+use cnvm_compile::{Complaint, complaint_line};
+use nvm_base::Sink;
+use pool_layout::ImageFault;
+use std::alloc::{AllocError, Global};
 
 /// Why there is nothing to run.
 #[derive(Clone, Copy, Debug, PartialEq, Eq)]
@@ -17,63 +19,201 @@ pub enum Refused {
     LongProgram,
     /// What is wrong with the program at a line.
     Program(u64, Complaint),
-    /// The program is accepted, but isn't in the one-counter form.
-    NotYet,
     LongScript,
     /// The script's first bad line.
     Script(u64),
+    /// The first fault of the image.
+    Image(ImageFault),
+    /// The device failed while the pool's lines were written.
+    Device,
     ReadFault,
     NoMemory,
 }
 
-/// What is told of a program that was refused.
-pub fn refusal_of(fault: ProgramFault) -> Refused
-    ensures { result ≡ refusal_of fault }
+/// The usage line.
+const USAGE: &str = "usage: cnvm run PROGRAM SCRIPT | list PROGRAM | storm PROGRAM START COUNT\n";
+
+/// Tells of a refusal; the status is the refusal's. Of a source or a device that failed, and of want
+/// of memory, nothing is told.
+pub(crate) fn refuse<K: Sink>(alloc: Global, refused: Refused, out: &mut K) -> Status
+    ensures status { (result ≡ refusal_status refused) ⊎ ((result ≡ Status.NoMemory) ⊎ (result ≡ Status.WriteFault)) }
+    ensures write { result ≡ Status.WriteFault → (refusal_status refused ≡ Status.WriteFault) ⊎ Rose (K.faults out.old) (K.faults out.new) }
 {
-    match fault {
-        ProgramFault::Lex(fault) => by_lexer(fault),
-        ProgramFault::Parse(fault, line) => by_parser(fault, line),
-        ProgramFault::Types(fault) => by_types(fault),
-        ProgramFault::NoMemory => Refused::NoMemory,
+    tell(out, refusal_line(alloc, refused), refusal_status(refused))
+}
+
+fn refusal_status(refused: Refused) -> Status
+    ensures { result ≡ refusal_status refused }
+{
+    match refused {
+        Refused::Usage => Status::Usage,
+        Refused::LongProgram => Status::Program,
+        Refused::Program(_, _) => Status::Program,
+        Refused::LongScript => Status::Script,
+        Refused::Script(_) => Status::Script,
+        Refused::Image(fault) => image_status(fault),
+        Refused::Device => Status::DeviceFault,
+        Refused::ReadFault => Status::ReadFault,
+        Refused::NoMemory => Status::NoMemory,
     }
 }
 
-fn by_lexer(fault: LexFault) -> Refused
-    ensures { result ≡ by_lexer fault }
+fn image_status(fault: ImageFault) -> Status
+    ensures { result ≡ image_status fault }
 {
     match fault {
-        LexFault::BadByte(line) => Refused::Program(line, Complaint::BadByte),
-        LexFault::BadNumber(line) => Refused::Program(line, Complaint::BadNumber),
-        LexFault::OpenComment(line) => Refused::Program(line, Complaint::OpenComment),
-        LexFault::TooLong => Refused::LongProgram,
-        LexFault::NoMemory => Refused::NoMemory,
+        ImageFault::Short(_, _) => Status::Image,
+        ImageFault::Magic(_, _) => Status::Image,
+        ImageFault::Version(_, _) => Status::Image,
+        ImageFault::Sizes(_, _) => Status::Image,
+        ImageFault::Digest(_, _) => Status::Image,
+        ImageFault::Content(_, _) => Status::Image,
+        ImageFault::NoMemory => Status::NoMemory,
     }
 }
 
-fn by_parser(fault: ParseFault, line: u64) -> Refused
-    ensures { result ≡ by_parser fault line }
+fn text_of(alloc: Global, text: &str) -> Result<String, AllocError>
+    ensures { IfOk result (λ s. string_bytes s ≡ text.now) }
 {
-    match fault {
-        ParseFault::Syntax(_) => Refused::Program(line, Complaint::Syntax),
-        ParseFault::TooDeep(_) => Refused::Program(line, Complaint::TooDeep),
-        ParseFault::NoMemory => Refused::NoMemory,
+    let mut copy = String::new(alloc);
+    copy.push_str(text)?;
+    Ok(copy)
+}
+
+/// The line of a refusal.
+fn refusal_line(alloc: Global, refused: Refused) -> Result<String, AllocError> {
+    match refused {
+        Refused::Usage => text_of(alloc, USAGE),
+        Refused::LongProgram => text_of(alloc, "program too long\n"),
+        Refused::Program(line, complaint) => complaint_line(alloc, line, complaint),
+        Refused::LongScript => text_of(alloc, "script too long\n"),
+        Refused::Script(line) => script_line(alloc, line),
+        Refused::Image(fault) => fault_line(alloc, fault),
+        Refused::Device => text_of(alloc, ""),
+        Refused::ReadFault => text_of(alloc, ""),
+        Refused::NoMemory => text_of(alloc, ""),
     }
 }
 
-fn by_types(fault: TypeFault) -> Refused
-    ensures { result ≡ by_types fault }
+/// The line that names a bad line of the script.
+fn script_line(alloc: Global, line: u64) -> Result<String, AllocError>
+    ensures { IfOk result (λ s. string_bytes s ≡ refusal_line (Refused.Script line)) }
 {
+    format!(in alloc; "script line {line}\n")
+}
+
+/// The line of an image's fault.
+fn fault_line(alloc: Global, fault: ImageFault) -> Result<String, AllocError> {
     match fault {
-        TypeFault::UnknownName(line) => Refused::Program(line, Complaint::UnknownName),
-        TypeFault::Twice(line) => Refused::Program(line, Complaint::Twice),
-        TypeFault::Mismatch(line) => Refused::Program(line, Complaint::Mismatch),
-        TypeFault::NotAssignable(line) => Refused::Program(line, Complaint::NotAssignable),
-        TypeFault::Arity(line) => Refused::Program(line, Complaint::Arity),
-        TypeFault::TooBig(line, limit, value) => {
-            Refused::Program(line, Complaint::TooBig(limit, value))
-        }
-        TypeFault::NoRoot(line) => Refused::Program(line, Complaint::NoRoot),
-        TypeFault::BadTx(line) => Refused::Program(line, Complaint::BadTx),
-        TypeFault::NoMemory => Refused::NoMemory,
+        ImageFault::Short(found, needed) => short_line(alloc, found, needed),
+        ImageFault::Magic(found, wanted) => magic_line(alloc, found, wanted),
+        ImageFault::Version(found, wanted) => version_line(alloc, found, wanted),
+        ImageFault::Sizes(found, wanted) => sizes_line(alloc, found, wanted),
+        ImageFault::Digest(found, wanted) => digest_line(alloc, &found, &wanted),
+        ImageFault::Content(word, value) => content_line(alloc, word, value),
+        ImageFault::NoMemory => text_of(alloc, ""),
+    }
+}
+
+fn short_line(alloc: Global, found: u64, needed: u64) -> Result<String, AllocError>
+    ensures { IfOk result (λ s. string_bytes s ≡ fault_line (ImageFault.Short found needed)) }
+{
+    format!(in alloc; "image short {found} {needed}\n")
+}
+
+#[tactic(auto, using(std::proofs::lemmas::Int::wraps))]
+fn magic_line(alloc: Global, found: i64, wanted: i64) -> Result<String, AllocError>
+    ensures { IfOk result (λ s. string_bytes s ≡ fault_line (ImageFault.Magic found wanted)) }
+{
+    format!(in alloc; "image magic {found} {wanted}\n")
+}
+
+#[tactic(auto, using(std::proofs::lemmas::Int::wraps))]
+fn version_line(alloc: Global, found: i64, wanted: i64) -> Result<String, AllocError>
+    ensures { IfOk result (λ s. string_bytes s ≡ fault_line (ImageFault.Version found wanted)) }
+{
+    format!(in alloc; "image version {found} {wanted}\n")
+}
+
+#[tactic(auto, using(std::proofs::lemmas::Int::wraps))]
+fn sizes_line(alloc: Global, found: i64, wanted: i64) -> Result<String, AllocError>
+    ensures { IfOk result (λ s. string_bytes s ≡ fault_line (ImageFault.Sizes found wanted)) }
+{
+    format!(in alloc; "image sizes {found} {wanted}\n")
+}
+
+#[tactic(auto, using(std::proofs::lemmas::Int::wraps))]
+fn content_line(alloc: Global, word: u64, value: i64) -> Result<String, AllocError>
+    ensures { IfOk result (λ s. string_bytes s ≡ fault_line (ImageFault.Content word value)) }
+{
+    format!(in alloc; "image content {word} {value}\n")
+}
+
+/// Two digests, each as 64 hexadecimal digits in the order of its bytes.
+fn digest_line(alloc: Global, found: &[i64; 4], wanted: &[i64; 4]) -> Result<String, AllocError> {
+    let mut line = text_of(alloc, "image digest ")?;
+    push_digest(&mut line, found.as_slice())?;
+    line.push_str(" ")?;
+    push_digest(&mut line, wanted.as_slice())?;
+    line.push_str("\n")?;
+    Ok(line)
+}
+
+fn push_digest(line: &mut String, digest: &[i64]) -> Result<(), AllocError> {
+    for word in digest {
+        push_word(line, word.cast_unsigned())?;
+    }
+    Ok(())
+}
+
+/// The eight bytes of a word from the least on, two digits each.
+fn push_word(line: &mut String, word: u64) -> Result<(), AllocError> {
+    push_half(line, word)?;
+    push_half(line, word / 256 / 256 / 256 / 256)?;
+    Ok(())
+}
+
+/// The four least bytes of a word from the least on, two digits each.
+fn push_half(line: &mut String, word: u64) -> Result<(), AllocError>
+    ensures { OnOk result (string_bytes line.new ≡ string_bytes line.old ++ hex 4 word) }
+{
+    push_byte(line, word)?;
+    push_byte(line, word / 256)?;
+    push_byte(line, word / 256 / 256)?;
+    push_byte(line, word / 256 / 256 / 256)?;
+    Ok(())
+}
+
+/// The least byte of a word, two digits.
+fn push_byte(line: &mut String, word: u64) -> Result<(), AllocError>
+    ensures { OnOk result (string_bytes line.new ≡ string_bytes line.old ++ hex 1 word) }
+{
+    line.push_str(digit((word / 16) % 16))?;
+    line.push_str(digit(word % 16))?;
+    Ok(())
+}
+
+/// A hexadecimal digit.
+fn digit(n: u64) -> &'static str
+    requires { n < 16 }
+    ensures { result.now ≡ digit n ∷ [] }
+{
+    match n {
+        0 => "0",
+        1 => "1",
+        2 => "2",
+        3 => "3",
+        4 => "4",
+        5 => "5",
+        6 => "6",
+        7 => "7",
+        8 => "8",
+        9 => "9",
+        10 => "a",
+        11 => "b",
+        12 => "c",
+        13 => "d",
+        14 => "e",
+        _ => "f",
     }
 }

@@ -1,9 +1,13 @@
 //! Worked rows over sources, sinks and devices in memory, also ones that fail.
 
+ghost use Rattle.std.specs.Prelude.{◌≡◌, ◌<◌};
+
 use super::*;
-use nvm_base::{MemSink, MemSource};
+use nvm_base::{MemSink, MemSource, Steps};
 use pmem::{FailPmem, Pmem, SimPmem};
 use std::alloc::{AllocError, Global};
+use std::marker::Brand;
+use std::sync::ledger::{Blank, Ledger};
 use std::test::Fail;
 
 const COUNTER: &str =
@@ -13,15 +17,16 @@ const COUNTER: &str =
 const NEVER: u64 = 1_000_000;
 
 /// Runs the script on a device, a byte at a time; the reads and the write of these numbers fail.
-fn ends<P: Pmem + Drop>(
+fn ends<P: Pmem + Drop, L: Ledger>(
     alloc: Global,
     script: &str,
     fail: (u64, u64, u64),
     dev: P,
     wanted: &str,
+    steps: &mut Steps<L>,
 ) -> Result<(Status, bool), AllocError> {
     let mut words = Vec::new(alloc);
-    for word in ["run", "A.c", "script"] {
+    for word in ["run", "A.c", "script", "--slots=1", "--log=1"] {
         words.push(format!(in alloc; "{word}")?)?;
     }
     let mut world = World {
@@ -32,50 +37,29 @@ fn ends<P: Pmem + Drop>(
         image_out: MemSink::new(alloc, 0, &[])?,
         dev,
     };
-    let status = cnvm(alloc, &words, &mut world);
+    let status = cnvm(alloc, &words, &mut world, steps);
     Ok((status, world.out.bytes() == wanted.as_bytes()))
 }
 
-#[test]
-fn rows_in_memory(rt: HostRuntime) -> Result<(), Fail> {
-    let alloc = rt.alloc();
+/// The script of the first row that ends otherwise than it should.
+fn wrong_row<L: Ledger>(alloc: Global, blank: Blank) -> Result<Option<&'static str>, AllocError>
+    requires name { blank.name ≡ L.name }
+    requires parts { blank.parts ≡ L.parts }
+    requires some { 0 < blank.parts }
+{
+    let mut steps: Steps<L> = Steps::new(blank);
     for (script, fail, status, wanted) in [
         (
-            "call inc 5\n",
+            "call inc 5\nstop 13\ncall inc 5\npower new\nshow\nlast\n",
             (NEVER, NEVER, NEVER),
             Status::Done,
-            "= 5 log 1\n",
-        ),
-        ("", (NEVER, NEVER, NEVER), Status::Done, ""),
-        (
-            "call inc 5",
-            (NEVER, NEVER, NEVER),
-            Status::Done,
-            "= 5 log 1\n",
-        ),
-        (
-            "# none\n\n \tcall inc -3 \r\n",
-            (NEVER, NEVER, NEVER),
-            Status::Done,
-            "= -3 log 1\n",
-        ),
-        (
-            "call inc 9223372036854775807\ncall inc 1\n",
-            (NEVER, NEVER, NEVER),
-            Status::Done,
-            "= 9223372036854775807 log 1\n= -9223372036854775808 log 1\n",
+            "= 5 log 1\nstopped sealed\nrecovered redone 10 log 1\nroot n=10\nlast 2 10\n",
         ),
         (
             "call inc 5\ncal inc 5\n",
             (NEVER, NEVER, NEVER),
             Status::Script,
             "script line 2\n",
-        ),
-        (
-            "call inc -",
-            (NEVER, NEVER, NEVER),
-            Status::Script,
-            "script line 1\n",
         ),
         ("call inc 5\n", (NEVER, NEVER, 0), Status::WriteFault, ""),
         ("call inc 5\n", (NEVER, 0, NEVER), Status::ReadFault, ""),
@@ -88,16 +72,27 @@ fn rows_in_memory(rt: HostRuntime) -> Result<(), Fail> {
         ),
         ("call inc 5\n", (NEVER, 11, NEVER), Status::ReadFault, ""),
     ] {
-        let (ended, written) = ends(alloc, script, fail, SimPmem::new(alloc), wanted)?;
-        assert_eq!(rt; ended, status, "at {script}");
-        assert!(rt; written, "at {script}");
+        let ended = ends(alloc, script, fail, SimPmem::new(alloc), wanted, &mut steps)?;
+        if ended != (status, true) {
+            return Ok(Some(script));
+        }
     }
-    Ok(())
+    Ok(None)
 }
 
 #[test]
-fn devices_fail(rt: HostRuntime) -> Result<(), Fail> {
-    let alloc = rt.alloc();
+fn rows_in_memory(rt: HostRuntime) -> Result<(), Fail> {
+    assert_eq!(rt; wrong_row::<Brand>(rt.alloc(), Blank::new(1))?, None);
+    Ok(())
+}
+
+/// The first number of a failing event whose run ends otherwise than it should.
+fn wrong_event<L: Ledger>(alloc: Global, blank: Blank) -> Result<Option<u64>, AllocError>
+    requires name { blank.name ≡ L.name }
+    requires parts { blank.parts ≡ L.parts }
+    requires some { 0 < blank.parts }
+{
+    let mut steps: Steps<L> = Steps::new(blank);
     for (at, status, wanted) in [
         (0, Status::DeviceFault, ""),
         (12, Status::DeviceFault, ""),
@@ -107,15 +102,18 @@ fn devices_fail(rt: HostRuntime) -> Result<(), Fail> {
         (53, Status::Done, "= 5 log 1\n= 6 log 1\n"),
     ] {
         let dev = FailPmem::new(alloc, at);
-        let (ended, written) = ends(
-            alloc,
-            "call inc 5\ncall inc 1\n",
-            (NEVER, NEVER, NEVER),
-            dev,
-            wanted,
-        )?;
-        assert_eq!(rt; ended, status, "at {at}");
-        assert!(rt; written, "at {at}");
+        let fail = (NEVER, NEVER, NEVER);
+        let script = "call inc 5\ncall inc 1\n";
+        let ended = ends(alloc, script, fail, dev, wanted, &mut steps)?;
+        if ended != (status, true) {
+            return Ok(Some(at));
+        }
     }
+    Ok(None)
+}
+
+#[test]
+fn devices_fail(rt: HostRuntime) -> Result<(), Fail> {
+    assert_eq!(rt; wrong_event::<Brand>(rt.alloc(), Blank::new(1))?, None);
     Ok(())
 }

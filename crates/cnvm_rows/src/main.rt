@@ -1,6 +1,7 @@
 //! Runs worked rows of the product and prints what comes of each: the row's name, what the run wrote,
-//! and its status. It stands on cnvm_cli. A row is three files: `NAME.words` has the words, one a
-//! line, which name the others.
+//! and its status. It stands on cnvm_cli. A row is some files: `NAME.words` has the words, one a line,
+//! which name the others. Rows share the folder, in their order, so a row opens what one before it has
+//! saved; the words `words IMAGE` run nothing and show what an image holds.
 #![tactic(auto)]
 
 use std::process::ExitCode;
@@ -18,10 +19,43 @@ fn words_of<R: Files + AllocGlobal>(rt: &R, name: &str) -> io::Result<Vec<String
     Ok(words)
 }
 
+/// The image that the words of a row ask to be shown, if they do.
+fn shown_image(words: &[String]) -> Option<&str> {
+    match words {
+        [first, image] if first.as_str() == "words" => Some(image.as_str()),
+        _ => None,
+    }
+}
+
+/// Eight bytes as a word, the lowest byte first.
+fn word_of(bytes: &[u8]) -> i64 {
+    let mut word: u64 = 0;
+    for byte in bytes.iter().rev() {
+        word = word << 8 | u64::from(*byte);
+    }
+    word.cast_signed()
+}
+
+/// Prints each word of an image that isn't 0, with its number, and the image's length in bytes.
+fn show_image<R: Files + Print + AllocGlobal>(rt: &R, image: &str) -> io::Result<()> {
+    let bytes = fs::read(rt, image)?;
+    for (number, eight) in bytes.chunks_exact(8).enumerate() {
+        let word = word_of(eight);
+        if word != 0 {
+            println!(rt; "{number} {word}")?;
+        }
+    }
+    let length = bytes.len();
+    println!(rt; "bytes {length}")
+}
+
 /// One row.
 fn run_row<R: Files + Print + AllocGlobal>(rt: &R, name: &str) -> io::Result<()> {
     let words = words_of(rt, name)?;
     println!(rt; "row {name}")?;
+    if let Some(image) = shown_image(&words) {
+        return show_image(rt, image);
+    }
     let status = cnvm_cli::run_on(rt, &words).number();
     println!(rt; "status {status}")
 }

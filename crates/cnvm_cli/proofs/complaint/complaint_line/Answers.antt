@@ -1,4 +1,0 @@
-use Rattle.cnvm_cli.proofs.complaint.complaint_line.Goals as goal
-
-pub returns-in-NoRoot : goal.returns-in-NoRoot
-returns-in-NoRoot c = rw c.in-NoRoot.is c.line_of-in-NoRoot.ensures

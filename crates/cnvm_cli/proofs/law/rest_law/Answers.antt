@@ -1,5 +1,0 @@
-use Rattle.cnvm_cli.proofs.Rest.{rest}
-use Rattle.cnvm_cli.proofs.law.rest_law.Goals as goal
-
-pub returns : goal.returns
-returns c = rest

@@ -1,0 +1,143 @@
+//! What the sources hold: the program, the script, and an image.
+
+ghost use Rattle.std.specs.Prelude.{◌≡◌, ◌≤◌, ◌^◌, ℕ, List, Some, IsErrOf};
+ghost use Rattle.nvm_base.specs.Rose.{Rose};
+ghost use Rattle.cnvm_cli.specs.Verdict.{refused_by};
+ghost use Rattle.cnvm_cli.specs.Texts.{TextIs, ProgramIs, CommandsAre, ScriptIs};
+
+use crate::asked::Asked;
+use crate::refused::Refused;
+use cnvm_compile::{Compiled, Told, compile, told_of};
+use cnvm_script::{Script, ScriptFault, read_script};
+use cnvm_session::Program;
+use nvm_base::{Bytes, ReadAllFault, Source, UpToFault, Words, read_all, read_up_to};
+use pool_layout::{ImageFault, Wanted, pool_lines, read_image};
+use std::alloc::Global;
+
+/// The most bytes of a program's text.
+const PROGRAM_LIMIT: usize = 262144;
+
+/// The most bytes of a script.
+const SCRIPT_LIMIT: usize = 1048576;
+
+/// All bytes of the source, where they are within the limit.
+fn read_text<S: Source>(alloc: Global, source: &mut S, limit: usize) -> Result<Bytes, ReadAllFault>
+    requires { limit ≤ 2 ^ 31 }
+    ensures told { (text : List ℕ) → S.left source.old ≡ Some text → TextIs limit result text }
+    ensures read { IsErrOf result ReadAllFault.ReadFault → Rose (S.faults source.old) (S.faults source.new) }
+{
+    read_all(alloc, source, limit)
+}
+
+/// Reads the program to its end, and compiles it.
+pub(crate) fn read_program<S: Source>(
+    alloc: Global,
+    source: &mut S,
+    asked: Asked,
+) -> Result<Compiled, Refused>
+    ensures told { (text : List ℕ) → S.left source.old ≡ Some text → ProgramIs asked result text }
+    ensures read { IsErrOf result Refused.ReadFault → Rose (S.faults source.old) (S.faults source.new) }
+    ensures usage { IsErrOf result Refused.Usage → ⊥ }
+    ensures device { IsErrOf result Refused.Device → ⊥ }
+{
+    let text = match read_text(alloc, source, PROGRAM_LIMIT) {
+        Ok(text) => text,
+        Err(ReadAllFault::ReadFault) => return Err(Refused::ReadFault),
+        Err(ReadAllFault::Long) => return Err(Refused::LongProgram),
+        Err(ReadAllFault::NoMemory) => return Err(Refused::NoMemory),
+    };
+    program_of(alloc, text.as_slice(), asked)
+}
+
+/// The program that a text is.
+fn program_of(alloc: Global, text: &[u8], asked: Asked) -> Result<Compiled, Refused>
+    ensures is { ProgramIs asked result text.now }
+    ensures read { IsErrOf result Refused.ReadFault → ⊥ }
+    ensures usage { IsErrOf result Refused.Usage → ⊥ }
+    ensures device { IsErrOf result Refused.Device → ⊥ }
+{
+    match compile(alloc, text, asked.slots, asked.records, asked.ticks) {
+        Ok(compiled) => Ok(compiled),
+        Err(fault) => Err(refused_by(told_of(fault))),
+    }
+}
+
+fn refused_by(told: Told) -> Refused
+    ensures value { result ≡ refused_by told }
+    ensures read { result ≡ Refused.ReadFault → ⊥ }
+    ensures usage { result ≡ Refused.Usage → ⊥ }
+    ensures device { result ≡ Refused.Device → ⊥ }
+{
+    match told {
+        Told::Long => Refused::LongProgram,
+        Told::At(line, complaint) => Refused::Program(line, complaint),
+        Told::NoMemory => Refused::NoMemory,
+    }
+}
+
+/// Reads the script to its end.
+pub(crate) fn read_commands<T: Source>(alloc: Global, source: &mut T) -> Result<Script, Refused>
+    ensures told { (text : List ℕ) → T.left source.old ≡ Some text → ScriptIs result text }
+    ensures read { IsErrOf result Refused.ReadFault → Rose (T.faults source.old) (T.faults source.new) }
+    ensures usage { IsErrOf result Refused.Usage → ⊥ }
+    ensures device { IsErrOf result Refused.Device → ⊥ }
+{
+    let text = match read_text(alloc, source, SCRIPT_LIMIT) {
+        Ok(text) => text,
+        Err(ReadAllFault::ReadFault) => return Err(Refused::ReadFault),
+        Err(ReadAllFault::Long) => return Err(Refused::LongScript),
+        Err(ReadAllFault::NoMemory) => return Err(Refused::NoMemory),
+    };
+    commands_of(alloc, text.as_slice())
+}
+
+/// The commands of a script's text.
+fn commands_of(alloc: Global, text: &[u8]) -> Result<Script, Refused>
+    ensures are { CommandsAre result text.now }
+    ensures read { IsErrOf result Refused.ReadFault → ⊥ }
+    ensures usage { IsErrOf result Refused.Usage → ⊥ }
+    ensures device { IsErrOf result Refused.Device → ⊥ }
+{
+    match read_script(alloc, text) {
+        Ok(script) => Ok(script),
+        Err(ScriptFault::BadLine(line)) => Err(Refused::Script(line)),
+        Err(ScriptFault::NoMemory) => Err(Refused::NoMemory),
+    }
+}
+
+/// Reads an image of a pool of the program, and no more than one byte past its length.
+pub(crate) fn read_words<I: Source>(
+    alloc: Global,
+    source: &mut I,
+    program: &Program,
+) -> Result<Words, Refused>
+    ensures read { IsErrOf result Refused.ReadFault → Rose (I.faults source.old) (I.faults source.new) }
+    ensures usage { IsErrOf result Refused.Usage → ⊥ }
+    ensures device { IsErrOf result Refused.Device → ⊥ }
+{
+    let most = 64 * pool_lines(&program.sizes) as usize + 1;
+    let bytes = match read_up_to(alloc, source, most) {
+        Ok(bytes) => bytes,
+        Err(UpToFault::ReadFault) => return Err(Refused::ReadFault),
+        Err(UpToFault::NoMemory) => return Err(Refused::NoMemory),
+    };
+    words_of(alloc, bytes.as_slice(), program)
+}
+
+/// The words of an image's bytes.
+fn words_of(alloc: Global, bytes: &[u8], program: &Program) -> Result<Words, Refused>
+    ensures read { IsErrOf result Refused.ReadFault → ⊥ }
+    ensures usage { IsErrOf result Refused.Usage → ⊥ }
+    ensures device { IsErrOf result Refused.Device → ⊥ }
+{
+    let wanted = Wanted {
+        sizes: program.sizes,
+        digest: program.digest,
+        txs: program.typed.txs(),
+        structs: program.typed.structs(),
+    };
+    match read_image(alloc, bytes, &wanted) {
+        Ok(words) => Ok(words),
+        Err(fault) => Err(Refused::Image(fault)),
+    }
+}

@@ -1,0 +1,58 @@
+//! What a run reads and writes, and how it ends.
+
+ghost use Rattle.std.specs.Prelude.{◌≡◌};
+ghost use Rattle.cnvm_cli.specs.StatusNumber.{number_of};
+
+/// What a run reads and writes: the program, the script and an image, the answers and an image, and
+/// the device.
+#[derive(Drop)]
+pub struct World<S, T, I, K, O, P> {
+    pub program: S,
+    pub script: T,
+    pub image_in: I,
+    pub out: K,
+    pub image_out: O,
+    pub dev: P,
+}
+
+/// How a run ended. Its number is the program's exit status.
+#[derive(Clone, Copy, Debug, PartialEq, Eq)]
+pub enum Status {
+    /// Every line of the script was answered, and the image was saved where asked; of a listing or a
+    /// storm, all was written.
+    Done,
+    NoMemory,
+    /// The words ask for nothing that there is.
+    Usage,
+    /// The program's text was refused.
+    Program,
+    /// The script was refused.
+    Script,
+    /// A source failed.
+    ReadFault,
+    /// A sink failed.
+    WriteFault,
+    /// The device failed while the pool's lines were written at the start.
+    DeviceFault,
+    /// The image was refused.
+    Image,
+}
+
+impl Status {
+    /// The exit status.
+    pub fn number(self) -> u8
+        ensures { result ≡ number_of self }
+    {
+        match self {
+            Status::Done => 0,
+            Status::NoMemory => 1,
+            Status::Usage => 2,
+            Status::Program => 3,
+            Status::Script => 4,
+            Status::ReadFault => 5,
+            Status::WriteFault => 6,
+            Status::DeviceFault => 7,
+            Status::Image => 8,
+        }
+    }
+}

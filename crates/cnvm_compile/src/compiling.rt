@@ -1,0 +1,125 @@
+//! From a text to its program.
+
+ghost use Rattle.std.specs.Prelude.{◌≡◌, ◌≤◌, IfOk, IfErr};
+ghost use Rattle.pool_layout.specs.Digest.{digest_of};
+ghost use Rattle.ir.specs.WellFormed.{IsWellFormed};
+ghost use Rattle.instrument.specs.Insert.{logged_program};
+ghost use Rattle.codegen.specs.Emit.{functions_of};
+ghost use Rattle.cnvm_compile.specs.FrontEnd.{Accepts, RefusesText};
+ghost use Rattle.cnvm_compile.specs.SizesAsked.{within, HasSizes};
+
+use crate::front_end::{ProgramFault, typed_of};
+use c_types::Typed;
+use clobber_pass::{MarkTable, marks};
+use cnvm_session::Program;
+use codegen::emit;
+use instrument::add_logs;
+use ir::Ir;
+use lower::lower;
+use pool_layout::{Sizes, digest};
+use pool_map::Shapes;
+use std::alloc::{AllocError, Global};
+
+/// A compiled program, with its three-address code without logs, and the marks of its stores.
+#[derive(Drop)]
+pub struct Compiled {
+    pub program: Program,
+    pub ir: Ir,
+    pub marks: MarkTable,
+}
+
+/// The number, or the nearest that lies within these limits.
+fn within(n: u64, least: u64, most: u64) -> u64
+    requires { least ≤ most }
+    ensures value { result ≡ within least most n }
+    ensures least { least ≤ result }
+    ensures most { result ≤ most }
+{
+    if n < least {
+        return least;
+    }
+    if n > most {
+        return most;
+    }
+    n
+}
+
+/// How many words the root has. A checked program's root has 1 to 512.
+fn root_words(shapes: &Shapes) -> u64
+    ensures least { 1 ≤ result }
+    ensures most { result ≤ 512 }
+{
+    let mut words = 0u64;
+    for field in shapes.root.as_slice() {
+        words = words.saturating_add(field.length.unwrap_or(1));
+    }
+    within(words, 1, 512)
+}
+
+/// The program that a text is, for a pool of so many slots and records, and calls of so many ticks.
+/// A number outside the limits of a pool stands for the nearest limit.
+pub fn compile(
+    alloc: Global,
+    text: &[u8],
+    slots: u64,
+    records: u64,
+    ticks: u64,
+) -> Result<Compiled, ProgramFault>
+    ensures accepted { IfOk result (λ compiled. Accepts text.now compiled.program.typed) }
+    ensures refused { IfErr result (λ fault. RefusesText text.now fault) }
+    ensures sizes { IfOk result (λ compiled. HasSizes slots records ticks compiled.program.sizes) }
+    ensures image { IfOk result (λ compiled. compiled.program.image.parts.sizes ≡ compiled.program.sizes) }
+    ensures digest { IfOk result (λ compiled. compiled.program.digest ≡ digest_of text.now) }
+    ensures well_formed { IfOk result (λ compiled. IsWellFormed compiled.ir) }
+    ensures code { IfOk result (λ compiled. IsWellFormed (logged_program compiled.marks compiled.ir) → compiled.program.image.parts.functions ≡ functions_of compiled.program.sizes (logged_program compiled.marks compiled.ir)) }
+{
+    let typed = typed_of(alloc, text)?;
+    let sizes = sizes_of(typed.shapes(), slots, records, ticks);
+    match back_end(alloc, typed, sizes, digest(text)) {
+        Ok(compiled) => Ok(compiled),
+        Err(_) => Err(ProgramFault::NoMemory),
+    }
+}
+
+/// The sizes of a pool for these shapes.
+fn sizes_of(shapes: &Shapes, slots: u64, records: u64, ticks: u64) -> Sizes
+    ensures { HasSizes slots records ticks result }
+{
+    let slots = within(slots, 1, 65_535);
+    let records = within(records, 1, 4_096);
+    let ticks = within(ticks, 1, 1_000_000);
+    match Sizes::new(slots, records, root_words(shapes), ticks) {
+        Some(sizes) => sizes,
+        None => unreachable!(),
+    }
+}
+
+/// The code and the image of a checked tree.
+fn back_end(
+    alloc: Global,
+    typed: Typed,
+    sizes: Sizes,
+    digest: [i64; 4],
+) -> Result<Compiled, AllocError>
+    ensures tree { IfOk result (λ compiled. compiled.program.typed ≡ typed) }
+    ensures sizes { IfOk result (λ compiled. compiled.program.sizes ≡ sizes) }
+    ensures image { IfOk result (λ compiled. compiled.program.image.parts.sizes ≡ sizes) }
+    ensures digest { IfOk result (λ compiled. compiled.program.digest ≡ digest) }
+    ensures well_formed { IfOk result (λ compiled. IsWellFormed compiled.ir) }
+    ensures code { IfOk result (λ compiled. IsWellFormed (logged_program compiled.marks compiled.ir) → compiled.program.image.parts.functions ≡ functions_of sizes (logged_program compiled.marks compiled.ir)) }
+{
+    let ir = lower(alloc, &typed)?;
+    let marks = marks(alloc, &ir)?;
+    let logged = add_logs(alloc, &ir, &marks)?;
+    let image = emit(alloc, &logged, &sizes, typed.tokens())?;
+    Ok(Compiled {
+        program: Program {
+            typed,
+            image,
+            sizes,
+            digest,
+        },
+        ir,
+        marks,
+    })
+}

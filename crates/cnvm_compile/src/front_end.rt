@@ -1,0 +1,83 @@
+//! The front end: a program's text, its tokens, its tree, and the tree that breaks no typing rule.
+
+ghost use Rattle.std.specs.Prelude.{◌≡◌, ◌≤◌, [], Ok, IfOk, IfErr, length};
+ghost use Rattle.c_lexer.specs.Cuts.{answer};
+ghost use Rattle.c_lexer.specs.TokenList.{line_at};
+ghost use Rattle.c_types.specs.Fault.{breaks};
+ghost use Rattle.cnvm_compile.specs.FrontEnd.{IsTree, Accepts, RefusesList, RefusesTree, RefusesText};
+
+use c_lexer::{LexFault, TokenList, tokens};
+use c_parser::{Ast, ParseFault, parse};
+use c_types::{TypeFault, Typed, check};
+use std::alloc::Global;
+
+/// Why a text is no program. Want of memory in any part is `NoMemory`, and no other variant holds it.
+#[derive(Clone, Copy, Debug, PartialEq, Eq)]
+pub enum ProgramFault {
+    /// It has no tokens.
+    Lex(LexFault),
+    /// Its tokens have no tree. The number is the line of the refused token.
+    Parse(ParseFault, u64),
+    /// Its tree breaks a typing rule.
+    Types(TypeFault),
+    NoMemory,
+}
+
+/// The checked tree of a text.
+pub(crate) fn typed_of(alloc: Global, text: &[u8]) -> Result<Typed, ProgramFault>
+    ensures accepted { IfOk result (λ typed. Accepts text.now typed) }
+    ensures refused { IfErr result (λ fault. RefusesText text.now fault) }
+{
+    let list = list_of(alloc, text)?;
+    let ast = tree_of(alloc, &list)?;
+    let typed = checked(alloc, ast)?;
+    Ok(typed)
+}
+
+/// The tokens of a text.
+fn list_of(alloc: Global, text: &[u8]) -> Result<TokenList, ProgramFault>
+    ensures ok { IfOk result (λ list. answer text.now ≡ Ok list) }
+    ensures err { IfErr result (λ fault. RefusesText text.now fault) }
+{
+    match tokens(alloc, text) {
+        Ok(list) => Ok(list),
+        Err(LexFault::NoMemory) => Err(ProgramFault::NoMemory),
+        Err(fault) => Err(ProgramFault::Lex(fault)),
+    }
+}
+
+/// The tree of a list of tokens.
+fn tree_of(alloc: Global, list: &TokenList) -> Result<Ast, ProgramFault>
+    ensures ok { IfOk result (λ ast. IsTree list.now ast) }
+    ensures err { IfErr result (λ fault. RefusesList list.now fault) }
+{
+    match parse(alloc, list) {
+        Ok(ast) => Ok(ast),
+        Err(ParseFault::Syntax(place)) => Err(refused_at(list, ParseFault::Syntax(place), place)),
+        Err(ParseFault::TooDeep(place)) => {
+            Err(refused_at(list, ParseFault::TooDeep(place), place))
+        }
+        Err(ParseFault::NoMemory) => Err(ProgramFault::NoMemory),
+    }
+}
+
+/// The refusal of the token at that place, with its line.
+fn refused_at(list: &TokenList, fault: ParseFault, place: u64) -> ProgramFault
+    requires { place ≤ length list.now.tokens }
+    ensures { result ≡ ProgramFault.Parse fault (line_at list.now place) }
+{
+    ProgramFault::Parse(fault, list.line(place))
+}
+
+/// The tree, where it breaks no typing rule.
+fn checked(alloc: Global, ast: Ast) -> Result<Typed, ProgramFault>
+    ensures kept { IfOk result (λ typed. breaks ast ≡ []) }
+    ensures tree { IfOk result (λ typed. typed ≡ ast) }
+    ensures err { IfErr result (λ fault. RefusesTree ast fault) }
+{
+    match check(alloc, ast) {
+        Ok(typed) => Ok(typed),
+        Err(TypeFault::NoMemory) => Err(ProgramFault::NoMemory),
+        Err(fault) => Err(ProgramFault::Types(fault)),
+    }
+}

@@ -1,0 +1,19 @@
+//! The compiler: from a program's text to its image, with its code and its marks. It stands on the
+//! front end, the passes and `codegen`. Its one contract for the crates above: a text is refused
+//! exactly where a part of the front end refuses it, with that part's refusal, and the program of an
+//! accepted text is made from the one tree of its tokens.
+#![tactic(auto)]
+
+mod compiling;
+mod complaint;
+mod front_end;
+mod law;
+mod listing;
+mod told;
+
+pub use compiling::{Compiled, compile};
+pub use complaint::{Complaint, complaint_line};
+pub use front_end::ProgramFault;
+pub use law::answer_law;
+pub use listing::list_text;
+pub use told::{Told, told_of};
