@@ -14,6 +14,8 @@ mod judge;
 mod kind;
 mod parser;
 pub mod stmt;
+#[cfg(test)]
+mod tests;
 mod want;
 
 pub use ast::Ast;
