@@ -16,6 +16,8 @@ mod rules;
 mod scopes;
 mod shapes;
 mod statements;
+#[cfg(test)]
+mod tests;
 mod transactions;
 mod typed;
 mod typing;
