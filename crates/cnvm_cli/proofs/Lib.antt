@@ -1,2 +1,4 @@
+pub mod Digits
+pub mod Ending
 pub mod Running
 pub mod Verdicts

@@ -20,9 +20,13 @@ abbrev pub hex : (k n : ℕ) → List ℕ
 hex zero n = []
 hex (suc k) n = digit (n / 16 % 16) ∷ digit (n % 16) ∷ hex k (n / 256)
 
+-- the eight bytes of a word
+unfoldable pub word_text : ℕ → List ℕ
+word_text word = hex 8 word
+
 abbrev pub digest_text : List ℤ → List ℕ
 digest_text [] = []
-digest_text (word ∷ words) = hex 8 (cast_unsigned w64 word) ++ digest_text words
+digest_text (word ∷ words) = word_text (cast_unsigned w64 word) ++ digest_text words
 
 -- two values behind the name of the fault
 abbrev pub image_line : List ℕ → List ℕ → List ℕ → List ℕ

@@ -1,5 +1,5 @@
 -- A run of a script's commands: each is answered, and its lines are written, before the next.
-use Rattle.std.specs.Prelude.{ℕ, ℤ, List, [], ◌∷◌, Option, ◌≡◌, ◌⊎◌, true}
+use Rattle.std.specs.Prelude.{ℕ, List, [], ◌∷◌, Option, ◌≡◌, ◌⊎◌, Bool, true, false}
 use Rattle.std.specs.Io.KnownBytes.{Appends, Keeps}
 use Rattle.nvm_base.specs.Parts.{AppendsPart}
 use Rattle.pmem.specs.Device.{Device, blanked}
@@ -16,8 +16,7 @@ use Rattle.cnvm_session.specs.Created.{creation_events}
 use Rattle.cnvm_cli.specs.declared.refused.Refused.{Refused}
 use Rattle.cnvm_cli.specs.declared.status.Status.{Status}
 use Rattle.cnvm_cli.specs.declared.status.Status.TheVariants as status
-use Rattle.cnvm_cli.specs.RefusalText.{refusal_line, refusal_status}
-use Rattle.cnvm_cli.specs.Verdict.{Verdict, Refuses, Runs}
+use Rattle.cnvm_cli.specs.RefusalText.{refusal_line, refusal_status, has_line}
 
 -- From a mode, a device, what the sink tells and a count of steps to those behind the commands: all of them are answered.
 abbrev pub RunsAll : Program → List Command → Mode → Device → Option (List ℕ) → ℕ → Device → Option (List ℕ) → ℕ → Type 0
@@ -52,22 +51,28 @@ RanAs program commands status.Program w w' d d' k k' = ⊥
 RanAs program commands status.Script w w' d d' k k' = ⊥
 RanAs program commands status.Image w w' d d' k k' = ⊥
 
+-- How commands end that are run from a mode and a device, by the status.
+abbrev pub CommandsEnd : Program → List Command → Status → Mode → Device → Option (List ℕ) → ℕ → Device → Option (List ℕ) → ℕ → Type 0
+CommandsEnd program commands status.Done m d w k d' w' k' = RunsAll program commands m d w k d' w' k'
+CommandsEnd program commands status.WriteFault m d w k d' w' k' = RunsPart program commands m d w k d' w' k'
+CommandsEnd program commands status.NoMemory m d w k d' w' k' = RunsPart program commands m d w k d' w' k'
+CommandsEnd program commands status.DeviceFault m d w k d' w' k' = ⊥
+CommandsEnd program commands status.ReadFault m d w k d' w' k' = ⊥
+CommandsEnd program commands status.Usage m d w k d' w' k' = ⊥
+CommandsEnd program commands status.Program m d w k d' w' k' = ⊥
+CommandsEnd program commands status.Script m d w k d' w' k' = ⊥
+CommandsEnd program commands status.Image m d w k d' w' k' = ⊥
+
 -- A line is told with a status; or there was no memory for it, or the sink failed.
 abbrev pub TellsAs : Status → List ℕ → Status → Option (List ℕ) → Option (List ℕ) → Type 0
 TellsAs due line result w w' =
     ((result ≡ due) × Appends w w' line)
     ⊎ (((result ≡ status.NoMemory) × Keeps w w') ⊎ ((result ≡ status.WriteFault) × AppendsPart w w' line))
 
+-- Of a refusal that has no line nothing is told.
+abbrev pub ToldAs : Bool → Refused → Status → Option (List ℕ) → Option (List ℕ) → Type 0
+ToldAs true why result w w' = TellsAs (refusal_status why) (refusal_line why) result w w'
+ToldAs false why result w w' = (result ≡ refusal_status why) × Keeps w w'
+
 abbrev pub RefusedAs : Refused → Status → Option (List ℕ) → Option (List ℕ) → Type 0
-RefusedAs why result w w' = TellsAs (refusal_status why) (refusal_line why) result w w'
-
--- How the whole ends, by its verdict.
-abbrev pub EndsAs : Verdict → Status → Option (List ℕ) → Option (List ℕ) → Device → Device → (k k' : ℕ) → Type 0
-EndsAs (Refuses why) result w w' d d' k k' = RefusedAs why result w w'
-EndsAs (Runs program commands) result w w' d d' k k' = RanAs program commands result w w' d d' k k'
-
--- It ends by what is due. Or a source failed, or there was no memory, before anything was written.
-abbrev pub Ends : (Verdict → Type 0) → Status → Option (List ℕ) → Option (List ℕ) → Device → Device → (k k' : ℕ) → Type 0
-Ends Due result w w' d d' k k' =
-    (((result ≡ status.NoMemory) ⊎ (result ≡ status.ReadFault)) × Keeps w w')
-    ⊎ ((verdict : Verdict) × Due verdict × EndsAs verdict result w w' d d' k k')
+RefusedAs why result w w' = ToldAs (has_line why) why result w w'

@@ -1,5 +1,5 @@
 -- What the readers of the two texts answer, where their sources tell their bytes.
-use Rattle.std.specs.Prelude.{ℕ, List, ◌<◌, ◌≤◌, ◌≡◌, true, length, Result, Ok, Err, ⊤}
+use Rattle.std.specs.Prelude.{ℕ, List, ◌<◌, ◌≤◌, ◌≡◌, true, length, Result, Ok, Err, Option, ⊤}
 use Rattle.cnvm_script.specs.declared.command.Command.{Command}
 use Rattle.cnvm_script.specs.Commands.{script_meaning}
 use Rattle.nvm_base.specs.declared.input.ReadAllFault.{ReadAllFault}
@@ -10,7 +10,7 @@ use Rattle.cnvm_cli.specs.declared.refused.Refused.{Refused}
 use Rattle.cnvm_cli.specs.declared.refused.Refused.TheVariants as refused
 use Rattle.cnvm_cli.specs.declared.run.Job.{Job}
 use Rattle.cnvm_cli.specs.RefusalText.{has_line}
-use Rattle.cnvm_cli.specs.Verdict.{Verdict, Refuses, Runs, IsRefused, CompiledFrom}
+use Rattle.cnvm_cli.specs.Verdict.{IsRefused, CompiledFrom, IsLongScript, IsBadScript, HasCommands, TextsGive, TextsRefuse}
 
 -- all bytes of the source, or it has more than the limit
 abbrev pub TextIs : ℕ → Result (List ℕ) ReadAllFault → List ℕ → Type 0
@@ -25,8 +25,8 @@ ProgramIs asked (Ok compiled) text = CompiledFrom asked text compiled.program
 ProgramIs asked (Err why) text = has_line why ≡ true → IsRefused text why
 
 abbrev pub IsBad : Refused → List ℕ → Type 0
-IsBad refused.LongScript text = 1048576 < length text
-IsBad (refused.Script number) text = (length text ≤ 1048576) × (script_meaning text ≡ Err number)
+IsBad refused.LongScript text = IsLongScript text
+IsBad (refused.Script number) text = IsBadScript number text
 IsBad refused.Usage text = ⊥
 IsBad refused.LongProgram text = ⊥
 IsBad (refused.Program line complaint) text = ⊥
@@ -41,10 +41,33 @@ CommandsAre (Ok commands) text = script_meaning text ≡ Ok commands
 CommandsAre (Err why) text = has_line why ≡ true → (line : ℕ) × (why ≡ refused.Script line) × (script_meaning text ≡ Err line)
 
 abbrev pub ScriptIs : Result (List Command) Refused → List ℕ → Type 0
-ScriptIs (Ok commands) text = (length text ≤ 1048576) × (script_meaning text ≡ Ok commands)
+ScriptIs (Ok commands) text = HasCommands commands text
 ScriptIs (Err why) text = has_line why ≡ true → IsBad why text
 
--- What is prepared is called for; a source that failed, or want of memory, says nothing of it.
-abbrev pub PreparedAs : Result Job Refused → (Verdict → Type 0) → Type 0
-PreparedAs (Ok job) Due = Due (Runs job.program job.script)
-PreparedAs (Err why) Due = has_line why ≡ true → Due (Refuses why)
+-- how the program's reader may refuse, and how the script's reader
+abbrev pub IsOfProgram : Refused → Type 0
+IsOfProgram refused.LongProgram = ⊤
+IsOfProgram (refused.Program line complaint) = ⊤
+IsOfProgram refused.ReadFault = ⊤
+IsOfProgram refused.NoMemory = ⊤
+IsOfProgram refused.Usage = ⊥
+IsOfProgram refused.LongScript = ⊥
+IsOfProgram (refused.Script number) = ⊥
+IsOfProgram (refused.Image fault) = ⊥
+IsOfProgram refused.Device = ⊥
+
+abbrev pub IsOfScript : Refused → Type 0
+IsOfScript refused.LongScript = ⊤
+IsOfScript (refused.Script number) = ⊤
+IsOfScript refused.ReadFault = ⊤
+IsOfScript refused.NoMemory = ⊤
+IsOfScript refused.Usage = ⊥
+IsOfScript refused.LongProgram = ⊥
+IsOfScript (refused.Program line complaint) = ⊥
+IsOfScript (refused.Image fault) = ⊥
+IsOfScript refused.Device = ⊥
+
+-- what is prepared is what the texts give, or they are refused
+abbrev pub PreparedAs : Result Job Refused → Asked → (program script : Option (List ℕ)) → Type 0
+PreparedAs (Ok job) asked program script = TextsGive asked program script job.program job.script
+PreparedAs (Err why) asked program script = TextsRefuse asked program script why

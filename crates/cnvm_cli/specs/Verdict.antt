@@ -1,6 +1,6 @@
 -- What the program and the script call for, in the order of work: the first of them that is refused, or a run of the script's
--- commands on a pool of the program.
-use Rattle.std.specs.Prelude.{ℕ, List, ◌≡◌, ◌<◌, ◌≤◌, length, Ok, Err}
+-- commands on a pool of the program. What is said of a source's text holds where the source tells its bytes.
+use Rattle.std.specs.Prelude.{ℕ, List, ◌≡◌, ◌<◌, ◌≤◌, length, Ok, Err, Option, IfSome, ⊤}
 use Rattle.pool_layout.specs.Digest.{digest_of}
 use Rattle.cnvm_script.specs.declared.command.Command.{Command}
 use Rattle.cnvm_script.specs.Commands.{script_meaning}
@@ -14,10 +14,6 @@ use Rattle.cnvm_compile.specs.Told.{told_of}
 use Rattle.cnvm_cli.specs.declared.asked.Asked.{Asked}
 use Rattle.cnvm_cli.specs.declared.refused.Refused.{Refused}
 use Rattle.cnvm_cli.specs.declared.refused.Refused.TheVariants as refused
-
-pub data Verdict : Type 0 where
-  Refuses : Refused → Verdict
-  Runs : Program → List Command → Verdict
 
 abbrev pub refused_by : Told → Refused
 refused_by told.Long = refused.LongProgram
@@ -40,16 +36,40 @@ abbrev pub IsAccepted : Asked → List ℕ → Type 0
 IsAccepted asked text = (program : Program) × CompiledFrom asked text program
 
 -- a script has at most 1,048,576 bytes
-abbrev pub TextsCallFor : Asked → (text script : List ℕ) → Verdict → Type 0
-TextsCallFor asked text script (Refuses refused.LongProgram) = IsRefused text refused.LongProgram
-TextsCallFor asked text script (Refuses (refused.Program line complaint)) = IsRefused text (refused.Program line complaint)
-TextsCallFor asked text script (Refuses refused.LongScript) = IsAccepted asked text × (1048576 < length script)
-TextsCallFor asked text script (Refuses (refused.Script number)) =
-    IsAccepted asked text × (length script ≤ 1048576) × (script_meaning script ≡ Err number)
-TextsCallFor asked text script (Runs program commands) =
-    CompiledFrom asked text program × (length script ≤ 1048576) × (script_meaning script ≡ Ok commands)
-TextsCallFor asked text script (Refuses refused.Usage) = ⊥
-TextsCallFor asked text script (Refuses (refused.Image fault)) = ⊥
-TextsCallFor asked text script (Refuses refused.Device) = ⊥
-TextsCallFor asked text script (Refuses refused.ReadFault) = ⊥
-TextsCallFor asked text script (Refuses refused.NoMemory) = ⊥
+abbrev pub IsLongScript : List ℕ → Type 0
+IsLongScript script = 1048576 < length script
+
+abbrev pub IsBadScript : ℕ → List ℕ → Type 0
+IsBadScript number script = (length script ≤ 1048576) × (script_meaning script ≡ Err number)
+
+abbrev pub HasCommands : List Command → List ℕ → Type 0
+HasCommands commands script = (length script ≤ 1048576) × (script_meaning script ≡ Ok commands)
+
+-- the program is refused for this
+abbrev pub ProgramRefuses : (program : Option (List ℕ)) → Refused → Type 0
+ProgramRefuses program refused.LongProgram = IfSome program (λ text. IsRefused text refused.LongProgram)
+ProgramRefuses program (refused.Program line complaint) = IfSome program (λ text. IsRefused text (refused.Program line complaint))
+ProgramRefuses program refused.LongScript = ⊥
+ProgramRefuses program (refused.Script number) = ⊥
+ProgramRefuses program refused.Usage = ⊥
+ProgramRefuses program (refused.Image fault) = ⊥
+ProgramRefuses program refused.Device = ⊥
+ProgramRefuses program refused.ReadFault = ⊤
+ProgramRefuses program refused.NoMemory = ⊤
+
+-- The program is refused for this, or it is accepted and the script is. A source that failed, and want of memory, say nothing.
+abbrev pub TextsRefuse : Asked → (program script : Option (List ℕ)) → Refused → Type 0
+TextsRefuse asked program script refused.LongProgram = ProgramRefuses program refused.LongProgram
+TextsRefuse asked program script (refused.Program line complaint) = ProgramRefuses program (refused.Program line complaint)
+TextsRefuse asked program script refused.LongScript = IfSome program (IsAccepted asked) × IfSome script IsLongScript
+TextsRefuse asked program script (refused.Script number) = IfSome program (IsAccepted asked) × IfSome script (IsBadScript number)
+TextsRefuse asked program script refused.Usage = ⊥
+TextsRefuse asked program script (refused.Image fault) = ⊥
+TextsRefuse asked program script refused.Device = ⊥
+TextsRefuse asked program script refused.ReadFault = ⊤
+TextsRefuse asked program script refused.NoMemory = ⊤
+
+-- the program and the commands that the two texts give
+abbrev pub TextsGive : Asked → (program script : Option (List ℕ)) → Program → List Command → Type 0
+TextsGive asked program script compiled commands =
+    IfSome program (λ text. CompiledFrom asked text compiled) × IfSome script (HasCommands commands)

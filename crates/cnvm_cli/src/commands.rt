@@ -27,6 +27,7 @@ pub(crate) fn answer_all<K: Sink, P: Pmem, L: Ledger>(
     ensures whole { OnOk result (RunsAll program.now commands.now session.old (P.device dev.old) (K.written out.old) steps.old (P.device dev.new) (K.written out.new) steps.new) }
     ensures part { OnErr result (RunsPart program.now commands.now session.old (P.device dev.old) (K.written out.old) steps.old (P.device dev.new) (K.written out.new) steps.new) }
     ensures write { IsErrOf result Unwritten.WriteFault → Rose (K.faults out.old) (K.faults out.new) }
+    ensures lines { (P.device dev.new).lines ≡ pool_lines program.now.image.parts.sizes }
 {
     for given in commands {
         let answer = session.command(alloc, program, given, dev, steps);

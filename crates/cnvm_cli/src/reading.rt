@@ -1,9 +1,10 @@
 //! What the sources hold: the program, the script, and an image.
 
-ghost use Rattle.std.specs.Prelude.{◌≡◌, ◌≤◌, ◌^◌, ℕ, List, Some, IsErrOf};
+ghost use Rattle.std.specs.Prelude.{◌≡◌, ◌≤◌, ◌^◌, ℕ, List, Some, IfErr, IsErrOf};
 ghost use Rattle.nvm_base.specs.Rose.{Rose};
 ghost use Rattle.cnvm_cli.specs.Verdict.{refused_by};
-ghost use Rattle.cnvm_cli.specs.Texts.{TextIs, ProgramIs, CommandsAre, ScriptIs};
+ghost use Rattle.cnvm_cli.specs.Opened.{wanted_of, ImageIs, ImageReadAs};
+ghost use Rattle.cnvm_cli.specs.Texts.{TextIs, ProgramIs, CommandsAre, ScriptIs, IsOfProgram, IsOfScript};
 
 use crate::asked::Asked;
 use crate::refused::Refused;
@@ -39,6 +40,7 @@ pub(crate) fn read_program<S: Source>(
     ensures read { IsErrOf result Refused.ReadFault → Rose (S.faults source.old) (S.faults source.new) }
     ensures usage { IsErrOf result Refused.Usage → ⊥ }
     ensures device { IsErrOf result Refused.Device → ⊥ }
+    ensures only { IfErr result IsOfProgram }
 {
     let text = match read_text(alloc, source, PROGRAM_LIMIT) {
         Ok(text) => text,
@@ -55,6 +57,7 @@ fn program_of(alloc: Global, text: &[u8], asked: Asked) -> Result<Compiled, Refu
     ensures read { IsErrOf result Refused.ReadFault → ⊥ }
     ensures usage { IsErrOf result Refused.Usage → ⊥ }
     ensures device { IsErrOf result Refused.Device → ⊥ }
+    ensures only { IfErr result IsOfProgram }
 {
     match compile(alloc, text, asked.slots, asked.records, asked.ticks) {
         Ok(compiled) => Ok(compiled),
@@ -67,6 +70,7 @@ fn refused_by(told: Told) -> Refused
     ensures read { result ≡ Refused.ReadFault → ⊥ }
     ensures usage { result ≡ Refused.Usage → ⊥ }
     ensures device { result ≡ Refused.Device → ⊥ }
+    ensures only { IsOfProgram result }
 {
     match told {
         Told::Long => Refused::LongProgram,
@@ -81,6 +85,7 @@ pub(crate) fn read_commands<T: Source>(alloc: Global, source: &mut T) -> Result<
     ensures read { IsErrOf result Refused.ReadFault → Rose (T.faults source.old) (T.faults source.new) }
     ensures usage { IsErrOf result Refused.Usage → ⊥ }
     ensures device { IsErrOf result Refused.Device → ⊥ }
+    ensures only { IfErr result IsOfScript }
 {
     let text = match read_text(alloc, source, SCRIPT_LIMIT) {
         Ok(text) => text,
@@ -97,6 +102,7 @@ fn commands_of(alloc: Global, text: &[u8]) -> Result<Script, Refused>
     ensures read { IsErrOf result Refused.ReadFault → ⊥ }
     ensures usage { IsErrOf result Refused.Usage → ⊥ }
     ensures device { IsErrOf result Refused.Device → ⊥ }
+    ensures only { IfErr result IsOfScript }
 {
     match read_script(alloc, text) {
         Ok(script) => Ok(script),
@@ -111,6 +117,7 @@ pub(crate) fn read_words<I: Source>(
     source: &mut I,
     program: &Program,
 ) -> Result<Words, Refused>
+    ensures told { ImageReadAs program.now result (I.left source.old) }
     ensures read { IsErrOf result Refused.ReadFault → Rose (I.faults source.old) (I.faults source.new) }
     ensures usage { IsErrOf result Refused.Usage → ⊥ }
     ensures device { IsErrOf result Refused.Device → ⊥ }
@@ -126,18 +133,25 @@ pub(crate) fn read_words<I: Source>(
 
 /// The words of an image's bytes.
 fn words_of(alloc: Global, bytes: &[u8], program: &Program) -> Result<Words, Refused>
+    ensures are { ImageIs program.now result bytes.now }
     ensures read { IsErrOf result Refused.ReadFault → ⊥ }
     ensures usage { IsErrOf result Refused.Usage → ⊥ }
     ensures device { IsErrOf result Refused.Device → ⊥ }
 {
-    let wanted = Wanted {
+    match read_image(alloc, bytes, &wanted_of(program)) {
+        Ok(words) => Ok(words),
+        Err(fault) => Err(Refused::Image(fault)),
+    }
+}
+
+/// The pool that an image must be of.
+fn wanted_of(program: &Program) -> Wanted
+    ensures { result ≡ wanted_of program.now }
+{
+    Wanted {
         sizes: program.sizes,
         digest: program.digest,
         txs: program.typed.txs(),
         structs: program.typed.structs(),
-    };
-    match read_image(alloc, bytes, &wanted) {
-        Ok(words) => Ok(words),
-        Err(fault) => Err(Refused::Image(fault)),
     }
 }

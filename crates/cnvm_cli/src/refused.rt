@@ -2,7 +2,8 @@
 
 ghost use Rattle.std.specs.Prelude.{◌≡◌, ◌⊎◌, ◌<◌, ◌++◌, ◌∷◌, [], IfOk, OnOk, string_bytes};
 ghost use Rattle.nvm_base.specs.Rose.{Rose};
-ghost use Rattle.cnvm_cli.specs.RefusalText.{digit, hex, fault_line, refusal_line, image_status, refusal_status};
+ghost use Rattle.cnvm_cli.specs.RefusalText.{digit, hex, word_text, digest_text, fault_line, refusal_line, image_has_line, has_line, image_status, refusal_status};
+ghost use Rattle.cnvm_cli.specs.Run.{RefusedAs};
 
 use crate::status::Status;
 use crate::writing::tell;
@@ -35,11 +36,48 @@ const USAGE: &str = "usage: cnvm run PROGRAM SCRIPT | list PROGRAM | storm PROGR
 
 /// Tells of a refusal; the status is the refusal's. Of a source or a device that failed, and of want
 /// of memory, nothing is told.
+#[tactic(auto, using(crate::proofs::Running::keeps_same))]
 pub(crate) fn refuse<K: Sink>(alloc: Global, refused: Refused, out: &mut K) -> Status
+    ensures refused { RefusedAs refused result (K.written out.old) (K.written out.new) }
     ensures status { (result ≡ refusal_status refused) ⊎ ((result ≡ Status.NoMemory) ⊎ (result ≡ Status.WriteFault)) }
     ensures write { result ≡ Status.WriteFault → (refusal_status refused ≡ Status.WriteFault) ⊎ Rose (K.faults out.old) (K.faults out.new) }
 {
-    tell(out, refusal_line(alloc, refused), refusal_status(refused))
+    if has_line(refused) {
+        tell(out, refusal_line(alloc, refused), refusal_status(refused))
+    } else {
+        refusal_status(refused)
+    }
+}
+
+/// Whether there is a line that tells of it.
+fn has_line(refused: Refused) -> bool
+    ensures { result ≡ has_line refused }
+{
+    match refused {
+        Refused::Usage => true,
+        Refused::LongProgram => true,
+        Refused::Program(_, _) => true,
+        Refused::LongScript => true,
+        Refused::Script(_) => true,
+        Refused::Image(fault) => image_has_line(fault),
+        Refused::Device => false,
+        Refused::ReadFault => false,
+        Refused::NoMemory => false,
+    }
+}
+
+fn image_has_line(fault: ImageFault) -> bool
+    ensures { result ≡ image_has_line fault }
+{
+    match fault {
+        ImageFault::Short(_, _) => true,
+        ImageFault::Magic(_, _) => true,
+        ImageFault::Version(_, _) => true,
+        ImageFault::Sizes(_, _) => true,
+        ImageFault::Digest(_, _) => true,
+        ImageFault::Content(_, _) => true,
+        ImageFault::NoMemory => false,
+    }
 }
 
 fn refusal_status(refused: Refused) -> Status
@@ -81,7 +119,9 @@ fn text_of(alloc: Global, text: &str) -> Result<String, AllocError>
 }
 
 /// The line of a refusal.
-fn refusal_line(alloc: Global, refused: Refused) -> Result<String, AllocError> {
+fn refusal_line(alloc: Global, refused: Refused) -> Result<String, AllocError>
+    ensures { IfOk result (λ s. string_bytes s ≡ refusal_line refused) }
+{
     match refused {
         Refused::Usage => text_of(alloc, USAGE),
         Refused::LongProgram => text_of(alloc, "program too long\n"),
@@ -103,7 +143,9 @@ fn script_line(alloc: Global, line: u64) -> Result<String, AllocError>
 }
 
 /// The line of an image's fault.
-fn fault_line(alloc: Global, fault: ImageFault) -> Result<String, AllocError> {
+fn fault_line(alloc: Global, fault: ImageFault) -> Result<String, AllocError>
+    ensures { IfOk result (λ s. string_bytes s ≡ fault_line fault) }
+{
     match fault {
         ImageFault::Short(found, needed) => short_line(alloc, found, needed),
         ImageFault::Magic(found, wanted) => magic_line(alloc, found, wanted),
@@ -150,7 +192,9 @@ fn content_line(alloc: Global, word: u64, value: i64) -> Result<String, AllocErr
 }
 
 /// Two digests, each as 64 hexadecimal digits in the order of its bytes.
-fn digest_line(alloc: Global, found: &[i64; 4], wanted: &[i64; 4]) -> Result<String, AllocError> {
+fn digest_line(alloc: Global, found: &[i64; 4], wanted: &[i64; 4]) -> Result<String, AllocError>
+    ensures { IfOk result (λ s. string_bytes s ≡ fault_line (ImageFault.Digest found.now wanted.now)) }
+{
     let mut line = text_of(alloc, "image digest ")?;
     push_digest(&mut line, found.as_slice())?;
     line.push_str(" ")?;
@@ -159,7 +203,9 @@ fn digest_line(alloc: Global, found: &[i64; 4], wanted: &[i64; 4]) -> Result<Str
     Ok(line)
 }
 
-fn push_digest(line: &mut String, digest: &[i64]) -> Result<(), AllocError> {
+fn push_digest(line: &mut String, digest: &[i64]) -> Result<(), AllocError>
+    ensures { OnOk result (string_bytes line.new ≡ string_bytes line.old ++ digest_text digest.now) }
+{
     for word in digest {
         push_word(line, word.cast_unsigned())?;
     }
@@ -167,7 +213,9 @@ fn push_digest(line: &mut String, digest: &[i64]) -> Result<(), AllocError> {
 }
 
 /// The eight bytes of a word from the least on, two digits each.
-fn push_word(line: &mut String, word: u64) -> Result<(), AllocError> {
+fn push_word(line: &mut String, word: u64) -> Result<(), AllocError>
+    ensures { OnOk result (string_bytes line.new ≡ string_bytes line.old ++ word_text word) }
+{
     push_half(line, word)?;
     push_half(line, word / 256 / 256 / 256 / 256)?;
     Ok(())

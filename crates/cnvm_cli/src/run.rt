@@ -1,14 +1,14 @@
 //! The top call.
 
-ghost use Rattle.std.specs.Prelude.{◌≡◌, ◌≢◌, ◌⊎◌, ℕ, List, None, Some, map, string_bytes, false, IsErrOf};
+ghost use Rattle.std.specs.Prelude.{◌≡◌, ◌≢◌, ◌⊎◌, None, map, string_bytes, IsErrOf};
 ghost use Rattle.nvm_base.specs.Rose.{Rose};
 ghost use Rattle.pmem.specs.Device as device;
 ghost use Rattle.pool_layout.specs.Sizes.{pool_lines};
 ghost use Rattle.cnvm_words.specs.Asked.{plan_of};
-ghost use Rattle.cnvm_words.specs.declared.plan.Plan.TheVariants as plan;
-ghost use Rattle.cnvm_cli.specs.Run.{RanAs, Ends};
+ghost use Rattle.cnvm_cli.specs.Ends.{start_if, PoolEnds, EndsSaved, JobEnds, RunEnds, PlanEnds, WordsEnd};
+ghost use Rattle.cnvm_cli.specs.Opened.{OpenedAs, ImageEnds};
+ghost use Rattle.cnvm_cli.specs.Run.{RanAs, CommandsEnd};
 ghost use Rattle.cnvm_cli.specs.Texts.{PreparedAs};
-ghost use Rattle.cnvm_cli.specs.Verdict.{TextsCallFor};
 
 use crate::asked::Asked;
 use crate::commands::answer_all;
@@ -41,6 +41,7 @@ pub fn cnvm<S: Source, T: Source, I: Source, K: Sink, O: Sink, P: Pmem, L: Ledge
     ensures device { result ≡ Status.DeviceFault → device.Rose (P.device world.old.dev).faults (P.device world.new.dev).faults }
     ensures usage { result ≡ Status.Usage → plan_of (map string_bytes words.entry.now) ≡ None }
     ensures wrong { plan_of (map string_bytes words.entry.now) ≡ None → (result ≡ Status.Usage) ⊎ ((result ≡ Status.NoMemory) ⊎ (result ≡ Status.WriteFault)) }
+    ensures ends { WordsEnd (plan_of (map string_bytes words.entry.now)) (record { program = S.left world.old.program; script = T.left world.old.script; image = I.left world.old.image_in }) result (record { out = K.written world.old.out; image = O.written world.old.image_out; dev = P.device world.old.dev; steps = steps.old }) (record { out = K.written world.new.out; image = O.written world.new.image_out; dev = P.device world.new.dev; steps = steps.new }) }
 {
     match plan_of(alloc, words) {
         Ok(plan) => run_plan(alloc, &plan, world, steps),
@@ -60,6 +61,7 @@ fn run_plan<S: Source, T: Source, I: Source, K: Sink, O: Sink, P: Pmem, L: Ledge
     ensures write { result ≡ Status.WriteFault → Rose (K.faults world.old.out) (K.faults world.new.out) ⊎ Rose (O.faults world.old.image_out) (O.faults world.new.image_out) }
     ensures device { result ≡ Status.DeviceFault → device.Rose (P.device world.old.dev).faults (P.device world.new.dev).faults }
     ensures usage { result ≢ Status.Usage }
+    ensures ends { PlanEnds plan.now (record { program = S.left world.old.program; script = T.left world.old.script; image = I.left world.old.image_in }) result (record { out = K.written world.old.out; image = O.written world.old.image_out; dev = P.device world.old.dev; steps = steps.old }) (record { out = K.written world.new.out; image = O.written world.new.image_out; dev = P.device world.new.dev; steps = steps.new }) }
 {
     match plan {
         Plan::Run {
@@ -126,7 +128,7 @@ fn read_job<S: Source, T: Source>(
     program: &mut S,
     script: &mut T,
 ) -> Result<Job, Refused>
-    ensures told { (text lines : List ℕ) → S.left program.old ≡ Some text → T.left script.old ≡ Some lines → PreparedAs result (TextsCallFor asked text lines) }
+    ensures told { PreparedAs result asked (S.left program.old) (T.left script.old) }
     ensures read { IsErrOf result Refused.ReadFault → Rose (S.faults program.old) (S.faults program.new) ⊎ Rose (T.faults script.old) (T.faults script.new) }
     ensures usage { IsErrOf result Refused.Usage → ⊥ }
     ensures device { IsErrOf result Refused.Device → ⊥ }
@@ -157,27 +159,94 @@ fn run<S: Source, T: Source, I: Source, K: Sink, O: Sink, P: Pmem, L: Ledger>(
     ensures write { result ≡ Status.WriteFault → Rose (K.faults world.old.out) (K.faults world.new.out) ⊎ Rose (O.faults world.old.image_out) (O.faults world.new.image_out) }
     ensures device { result ≡ Status.DeviceFault → device.Rose (P.device world.old.dev).faults (P.device world.new.dev).faults }
     ensures usage { result ≢ Status.Usage }
+    ensures ends { RunEnds asked (record { program = S.left world.old.program; script = T.left world.old.script; image = I.left world.old.image_in }) opens saves result (record { out = K.written world.old.out; image = O.written world.old.image_out; dev = P.device world.old.dev; steps = steps.old }) (record { out = K.written world.new.out; image = O.written world.new.image_out; dev = P.device world.new.dev; steps = steps.new }) }
 {
-    let job = match read_job(alloc, asked, &mut world.program, &mut world.script) {
-        Ok(job) => job,
-        Err(refused) => return refuse(alloc, refused, &mut world.out),
-    };
-    let status = if opens {
-        run_opened(
+    match read_job(alloc, asked, &mut world.program, &mut world.script) {
+        Ok(job) => run_job(
             alloc,
             &job,
+            opens,
+            saves,
             &mut world.image_in,
             &mut world.out,
+            &mut world.image_out,
             &mut world.dev,
             steps,
-        )
-    } else {
-        run_created(alloc, &job, &mut world.out, &mut world.dev, steps)
-    };
-    if saves && status == Status::Done {
-        return save(alloc, &mut world.image_out, &mut world.dev);
+        ),
+        Err(refused) => refuse(alloc, refused, &mut world.out),
     }
-    status
+}
+
+/// Runs the commands, and saves the pool where asked.
+fn run_job<I: Source, K: Sink, O: Sink, P: Pmem, L: Ledger>(
+    alloc: Global,
+    job: &Job,
+    opens: bool,
+    saves: bool,
+    image_in: &mut I,
+    out: &mut K,
+    image_out: &mut O,
+    dev: &mut P,
+    steps: &mut Steps<L>,
+) -> Status
+    ensures read { result ≡ Status.ReadFault → Rose (I.faults image_in.old) (I.faults image_in.new) }
+    ensures usage { result ≢ Status.Usage }
+    ensures write { result ≡ Status.WriteFault → Rose (K.faults out.old) (K.faults out.new) ⊎ Rose (O.faults image_out.old) (O.faults image_out.new) }
+    ensures device { result ≡ Status.DeviceFault → device.Rose (P.device dev.old).faults (P.device dev.new).faults }
+    ensures ends { JobEnds saves (start_if opens (I.left image_in.old)) job.now.program job.now.script result (record { out = K.written out.old; image = O.written image_out.old; dev = P.device dev.old; steps = steps.old }) (record { out = K.written out.new; image = O.written image_out.new; dev = P.device dev.new; steps = steps.new }) }
+{
+    if saves {
+        run_and_save(alloc, job, opens, image_in, out, image_out, dev, steps)
+    } else {
+        run_pool(alloc, job, opens, image_in, out, dev, steps)
+    }
+}
+
+/// Runs the commands, and saves the pool where all of them are answered.
+fn run_and_save<I: Source, K: Sink, O: Sink, P: Pmem, L: Ledger>(
+    alloc: Global,
+    job: &Job,
+    opens: bool,
+    image_in: &mut I,
+    out: &mut K,
+    image_out: &mut O,
+    dev: &mut P,
+    steps: &mut Steps<L>,
+) -> Status
+    ensures read { result ≡ Status.ReadFault → Rose (I.faults image_in.old) (I.faults image_in.new) }
+    ensures usage { result ≢ Status.Usage }
+    ensures write { result ≡ Status.WriteFault → Rose (K.faults out.old) (K.faults out.new) ⊎ Rose (O.faults image_out.old) (O.faults image_out.new) }
+    ensures device { result ≡ Status.DeviceFault → device.Rose (P.device dev.old).faults (P.device dev.new).faults }
+    ensures ends { EndsSaved (start_if opens (I.left image_in.old)) job.now.program job.now.script result (record { out = K.written out.old; image = O.written image_out.old; dev = P.device dev.old; steps = steps.old }) (record { out = K.written out.new; image = O.written image_out.new; dev = P.device dev.new; steps = steps.new }) }
+{
+    match run_pool(alloc, job, opens, image_in, out, dev, steps) {
+        Status::Done => save(alloc, job.program.image.sizes(), image_out, dev),
+        status => status,
+    }
+}
+
+/// Runs the commands on a new pool, or on that of an image.
+fn run_pool<I: Source, K: Sink, P: Pmem, L: Ledger>(
+    alloc: Global,
+    job: &Job,
+    opens: bool,
+    image_in: &mut I,
+    out: &mut K,
+    dev: &mut P,
+    steps: &mut Steps<L>,
+) -> Status
+    ensures read { result ≡ Status.ReadFault → Rose (I.faults image_in.old) (I.faults image_in.new) }
+    ensures usage { result ≢ Status.Usage }
+    ensures write { result ≡ Status.WriteFault → Rose (K.faults out.old) (K.faults out.new) }
+    ensures device { result ≡ Status.DeviceFault → device.Rose (P.device dev.old).faults (P.device dev.new).faults }
+    ensures ends { PoolEnds (start_if opens (I.left image_in.old)) job.now.program job.now.script result (K.written out.old) (K.written out.new) (P.device dev.old) (P.device dev.new) steps.old steps.new }
+    ensures lines { result ≡ Status.Done → (P.device dev.new).lines ≡ pool_lines job.now.program.image.parts.sizes }
+{
+    if opens {
+        run_opened(alloc, job, image_in, out, dev, steps)
+    } else {
+        run_created(alloc, job, out, dev, steps)
+    }
 }
 
 /// Runs the commands on a new pool.
@@ -194,6 +263,7 @@ fn run_created<K: Sink, P: Pmem, L: Ledger>(
     ensures write { result ≡ Status.WriteFault → Rose (K.faults out.old) (K.faults out.new) }
     ensures device { result ≡ Status.DeviceFault → device.Rose (P.device dev.old).faults (P.device dev.new).faults }
     ensures ran { RanAs job.now.program job.now.script result (K.written out.old) (K.written out.new) (P.device dev.old) (P.device dev.new) steps.old steps.new }
+    ensures lines { result ≡ Status.Done → (P.device dev.new).lines ≡ pool_lines job.now.program.image.parts.sizes }
 {
     let mut session = match create(&job.program, dev) {
         Ok(session) => session,
@@ -228,6 +298,8 @@ fn run_opened<I: Source, K: Sink, P: Pmem, L: Ledger>(
     ensures usage { result ≢ Status.Usage }
     ensures write { result ≡ Status.WriteFault → Rose (K.faults out.old) (K.faults out.new) }
     ensures device { result ≡ Status.DeviceFault → device.Rose (P.device dev.old).faults (P.device dev.new).faults }
+    ensures ends { ImageEnds job.now.program job.now.script (I.left image.old) result (K.written out.old) (K.written out.new) (P.device dev.old) (P.device dev.new) steps.old steps.new }
+    ensures lines { result ≡ Status.Done → (P.device dev.new).lines ≡ pool_lines job.now.program.image.parts.sizes }
 {
     match read_words(alloc, image, &job.program) {
         Ok(words) => run_from(alloc, job, words.as_slice(), out, dev, steps),
@@ -248,6 +320,8 @@ fn run_from<K: Sink, P: Pmem, L: Ledger>(
     ensures usage { result ≢ Status.Usage }
     ensures write { result ≡ Status.WriteFault → Rose (K.faults out.old) (K.faults out.new) }
     ensures device { result ≡ Status.DeviceFault → device.Rose (P.device dev.old).faults (P.device dev.new).faults }
+    ensures ran { OpenedAs job.now.program job.now.script words.now result (K.written out.old) (K.written out.new) (P.device dev.old) (P.device dev.new) steps.old steps.new }
+    ensures lines { result ≡ Status.Done → (P.device dev.new).lines ≡ pool_lines job.now.program.image.parts.sizes }
 {
     let (mut session, answer) = match start_from(alloc, &job.program, words, dev, steps) {
         Ok(started) => started,
@@ -272,6 +346,8 @@ fn run_commands<K: Sink, P: Pmem, L: Ledger>(
     requires lines { (P.device dev.old).lines ≡ pool_lines job.now.program.image.parts.sizes }
     ensures status { (result ≡ Status.Done) ⊎ ((result ≡ Status.NoMemory) ⊎ (result ≡ Status.WriteFault)) }
     ensures write { result ≡ Status.WriteFault → Rose (K.faults out.old) (K.faults out.new) }
+    ensures ran { CommandsEnd job.now.program job.now.script result session.old (P.device dev.old) (K.written out.old) steps.old (P.device dev.new) (K.written out.new) steps.new }
+    ensures lines { (P.device dev.new).lines ≡ pool_lines job.now.program.image.parts.sizes }
 {
     match answer_all(
         alloc,

@@ -1,0 +1,4 @@
+use Rattle.cnvm_cli.proofs.run.run_plan.Goals as goal
+
+pub returns-in-Run-clause-ends : goal.returns-in-Run-clause-ends
+returns-in-Run-clause-ends g c = rw (c.in-Run.is, ← c.is_some.ensures, ← c.is_some-in-Run.ensures) c.run.ensures.ends
