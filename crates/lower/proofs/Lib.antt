@@ -5,3 +5,12 @@ pub mod Filled
 pub mod ExprAdds
 pub mod StmtAdds
 pub mod Blocks
+pub mod FunctionAdds
+pub mod Few
+pub mod Sane
+pub mod GoodTypes
+pub mod ExprSound
+pub mod Alike
+pub mod StmtSound
+pub mod Sound
+pub mod Whole

@@ -1,5 +1,6 @@
--- The code of functions and of programs.
-use Rattle.std.specs.Prelude.{◌≡◌, ◌≤◌, ◌<◌, ◌^◌, ◌+◌, ℕ, suc, pos, List, [], ◌∷◌, ◌++◌, length, if◌then◌else◌}
+-- The code of functions and of programs: copies of the parameters that a function assigns, its body, and
+-- the return of 0.
+use Rattle.std.specs.Prelude.{◌≡◌, ◌≤◌, ◌^◌, ◌+◌, ℕ, suc, pos, List, [], ◌∷◌, ◌++◌, map, length, Bool, true, ◌&&◌, nat_lt, if◌then◌else◌}
 use Rattle.c_parser.specs.StmtTree.{Statements}
 use Rattle.c_parser.specs.ItemTree.{FunctionTree, ParameterTree}
 use Rattle.c_parser.specs.Program.{Program, tree_of}
@@ -9,7 +10,6 @@ use Rattle.ir.specs.declared.instruction.Instruction.{Instruction}
 use Rattle.ir.specs.declared.instruction.Instruction.TheVariants.{Const, Copy, Return}
 use Rattle.ir.specs.declared.function.IrFunction.{IrFunction}
 use Rattle.ir.specs.declared.function.Ir.{Ir}
-use Rattle.ir.specs.WellFormed.{IsWellFormed}
 use Rattle.lower.specs.Names.{Variables, inside, declared}
 use Rattle.lower.specs.Assigned.{is_assigned}
 use Rattle.lower.specs.Lowers.{Context, statements_end, statements_code}
@@ -43,32 +43,35 @@ function_code k f =
     ++ (statements_code k (behind_parameters k f.body 0 f.parameters 0 no_variables) f.body q q p
     ++ Const (k.node (suc q)) (pos 0) ∷ Return (k.node (suc q)) ∷ [])
 
--- the code is that of the function, with some choice of registers: what ends at different places has
--- different registers, none of them an argument's
-pub record LowersFunction (t : Tables) (tree : Program) (f : FunctionTree) (u : IrFunction) : Type 0 where
-  pub node : ℕ → ℕ
-  pub apart : (p q : ℕ) → node p ≡ node q → p ≡ q
-  pub behind : (p : ℕ) → length f.parameters ≤ node p
-  pub name : u.name ≡ f.name.text
-  pub tx : u.tx ≡ f.tx
-  pub parameters : u.parameters ≡ length f.parameters
-  pub registers : u.registers < 2 ^ 30
-  pub code : u.code ≡ function_code (record { tables = t; tree = tree; node = node }) f
+-- where the code of a function ends
+abbrev pub function_end : FunctionTree → ℕ
+function_end f = suc (suc (statements_end f.body (parameters_end f.body f.parameters 0)))
 
--- each function has its code, in order
-abbrev pub LowersFunctions : Tables → Program → List FunctionTree → List IrFunction → Type 0
-LowersFunctions t tree [] [] = Unit {0}
-LowersFunctions t tree [] (u ∷ us) = ⊥
-LowersFunctions t tree (f ∷ fs) [] = ⊥
-LowersFunctions t tree (f ∷ fs) (u ∷ us) = LowersFunction t tree f u × LowersFunctions t tree fs us
+-- the context of a function with n parameters: registers behind theirs are named by places
+abbrev pub context_at : Tables → Program → ℕ → Context
+context_at t tree n = record { tables = t; tree = tree; node = λ q. n + q }
 
--- the code belongs to the tree
-pub record Lowers (tree : Program) (ir : Ir) : Type 0 where
-  pub functions : LowersFunctions (tables_of (tree_of tree)) tree (tables_of (tree_of tree)).functions ir.functions
-  pub shapes : ir.shapes ≡ shapes_of tree
+-- a function with n argument registers, and a register for each place of its code
+abbrev pub function_at : Tables → Program → ℕ → FunctionTree → IrFunction
+function_at t tree n f =
+    let code : List Instruction = function_code (context_at t tree n) f in
+    record { name = f.name.text; parameters = n; registers = n + length code; tx = f.tx; code = code }
 
--- the answer is code that belongs to the tree, if that code is well formed
-pub record Answers (tree : Program) (ir : Ir) : Type 0 where
-  pub built : Ir
-  pub lowers : Lowers tree built
-  pub is_built : IsWellFormed built → ir ≡ built
+abbrev pub lowered_function : Tables → Program → FunctionTree → IrFunction
+lowered_function t tree f = function_at t tree (length f.parameters) f
+
+-- the code of a program: its functions in the order of the text, and its shapes
+abbrev pub lowered : Program → Ir
+lowered tree = record {
+  functions = map (lowered_function (tables_of (tree_of tree)) tree) (tables_of (tree_of tree)).functions;
+  shapes = shapes_of tree;
+}
+
+-- no function has parameters past what 16 bits count
+abbrev pub take_few : List FunctionTree → Bool
+take_few [] = true
+take_few (f ∷ fs) = nat_lt (length f.parameters) 65536 && take_few fs
+
+-- a function's code has so many instructions as its definition counts, and not too many
+abbrev pub IsCounted : Tables → Program → FunctionTree → Type 0
+IsCounted t tree f = (length (lowered_function t tree f).code ≡ function_end f) × (function_end f ≤ 2 ^ 29)

@@ -1,4 +1,5 @@
-//! Whether code is well formed: whether what its instructions name is there.
+//! Whether code is well formed: whether what its instructions name is there. Each test is true exactly
+//! where its definition holds.
 
 ghost use Rattle.std.specs.Prelude.{ℕ, ◌≡◌, ◌<◌, ◌≤◌, ◌^◌, true, Some, length, option_map, slice_get};
 ghost use Rattle.std.specs.List.{AllByRecursion};
@@ -12,13 +13,15 @@ const MOST: usize = (1 << 31) - 1;
 
 /// Whether code is well formed.
 pub fn is_well_formed(ir: &Ir) -> bool
-    ensures { result ≡ true → well.IsWellFormed ir.now }
+    ensures sound { result ≡ true → well.IsWellFormed ir.now }
+    ensures complete { well.IsWellFormed ir.now → result ≡ true }
 {
     ir.functions.as_slice().len() <= MOST && are_functions(ir, ir.functions.as_slice())
 }
 
 fn are_functions(ir: &Ir, functions: &[IrFunction]) -> bool
-    ensures { result ≡ true → AllByRecursion (well.IsFunction ir.now) functions.now }
+    ensures sound { result ≡ true → AllByRecursion (well.IsFunction ir.now) functions.now }
+    ensures complete { AllByRecursion (well.IsFunction ir.now) functions.now → result ≡ true }
 {
     for function in functions {
         if !is_function(ir, function) {
@@ -29,7 +32,8 @@ fn are_functions(ir: &Ir, functions: &[IrFunction]) -> bool
 }
 
 fn is_function(ir: &Ir, function: &IrFunction) -> bool
-    ensures { result ≡ true → well.IsFunction ir.now function.now }
+    ensures sound { result ≡ true → well.IsFunction ir.now function.now }
+    ensures complete { well.IsFunction ir.now function.now → result ≡ true }
 {
     let code = function.code.as_slice();
     function.parameters <= function.registers
@@ -39,9 +43,10 @@ fn is_function(ir: &Ir, function: &IrFunction) -> bool
 }
 
 /// Whether the run doesn't go on behind the last instruction.
-#[tactic(auto, using(crate::proofs::Checks::ends_well))]
+#[tactic(auto, using(crate::proofs::Checks::ends))]
 fn ends_well(code: &[Instruction]) -> bool
-    ensures { result ≡ true → well.EndsWell code.now }
+    ensures sound { result ≡ true → well.EndsWell code.now }
+    ensures complete { well.EndsWell code.now → result ≡ true }
 {
     match code.last() {
         None => false,
@@ -50,7 +55,8 @@ fn ends_well(code: &[Instruction]) -> bool
 }
 
 fn is_end(instruction: &Instruction) -> bool
-    ensures { result ≡ true → well.IsEnd instruction.now }
+    ensures sound { result ≡ true → well.IsEnd instruction.now }
+    ensures complete { well.IsEnd instruction.now → result ≡ true }
 {
     match instruction {
         Instruction::Jump { .. } => true,
@@ -72,7 +78,8 @@ fn is_end(instruction: &Instruction) -> bool
 
 fn are_instructions(ir: &Ir, registers: u32, code: &[Instruction]) -> bool
     requires { length code.now < 2 ^ 31 }
-    ensures { result ≡ true → AllByRecursion (well.IsInstruction ir.now registers (length code.now)) code.now }
+    ensures sound { result ≡ true → AllByRecursion (well.IsInstruction ir.now registers (length code.now)) code.now }
+    ensures complete { AllByRecursion (well.IsInstruction ir.now registers (length code.now)) code.now → result ≡ true }
 {
     for instruction in code {
         if !is_instruction(ir, registers, code.len() as u32, instruction) {
@@ -84,7 +91,8 @@ fn are_instructions(ir: &Ir, registers: u32, code: &[Instruction]) -> bool
 
 /// Whether what an instruction names is there, in a function with so many registers and instructions.
 fn is_instruction(ir: &Ir, registers: u32, length: u32, instruction: &Instruction) -> bool
-    ensures { result ≡ true → well.IsInstruction ir.now registers length instruction.now }
+    ensures sound { result ≡ true → well.IsInstruction ir.now registers length instruction.now }
+    ensures complete { well.IsInstruction ir.now registers length instruction.now → result ≡ true }
 {
     match instruction {
         Instruction::Const { to, .. } => *to < registers,
@@ -118,7 +126,8 @@ fn is_instruction(ir: &Ir, registers: u32, length: u32, instruction: &Instructio
 }
 
 fn are_below(args: &[u32], registers: u32) -> bool
-    ensures { result ≡ true → AllByRecursion (λ a. a < registers) args.now }
+    ensures sound { result ≡ true → AllByRecursion (λ a. a < registers) args.now }
+    ensures complete { AllByRecursion (λ a. a < registers) args.now → result ≡ true }
 {
     for arg in args {
         if *arg >= registers {
@@ -130,7 +139,8 @@ fn are_below(args: &[u32], registers: u32) -> bool
 
 /// Whether there is a function of that number, with so many parameters.
 fn takes(ir: &Ir, function: u32, args: &[u32]) -> bool
-    ensures { result ≡ true → well.TakesArgs (slice_get ir.now.functions function) args.now }
+    ensures sound { result ≡ true → well.TakesArgs (slice_get ir.now.functions function) args.now }
+    ensures complete { well.TakesArgs (slice_get ir.now.functions function) args.now → result ≡ true }
 {
     match ir.functions.as_slice().get(function as usize) {
         None => false,
@@ -139,13 +149,15 @@ fn takes(ir: &Ir, function: u32, args: &[u32]) -> bool
 }
 
 fn is_kind(shapes: &Shapes, kind: u32) -> bool
-    ensures { result ≡ true → well.IsKind shapes.now kind }
+    ensures sound { result ≡ true → well.IsKind shapes.now kind }
+    ensures complete { well.IsKind shapes.now kind → result ≡ true }
 {
     0 < kind && kind as usize <= shapes.structs.as_slice().len()
 }
 
 fn is_target(shapes: &Shapes, registers: u32, target: Target) -> bool
-    ensures { result ≡ true → well.IsTarget shapes.now registers target }
+    ensures sound { result ≡ true → well.IsTarget shapes.now registers target }
+    ensures complete { well.IsTarget shapes.now registers target → result ≡ true }
 {
     match target {
         Target::Root { field, index } => match shapes.root.as_slice().get(field as usize) {
@@ -178,7 +190,8 @@ fn field_of(shapes: &Shapes, kind: u32, field: u32) -> Option<&FieldShape>
 
 /// Whether there is an index, in one of so many registers, exactly if the field is an array.
 fn is_indexed(registers: u32, field: &FieldShape, index: Option<u32>) -> bool
-    ensures { result ≡ true → well.IsIndexed registers (Some field.now) index }
+    ensures sound { result ≡ true → well.IsIndexed registers (Some field.now) index }
+    ensures complete { well.IsIndexed registers (Some field.now) index → result ≡ true }
 {
     match field.length {
         None => index.is_none(),

@@ -1,8 +1,16 @@
 //! The code of functions and programs.
 
-ghost use Rattle.std.specs.Prelude.{◌≡◌, IfOk};
+ghost use Rattle.std.specs.Prelude.{◌≡◌, ◌<◌, [], true, length, map, IfOk, OnOk};
+ghost use Rattle.std.specs.List.{AllByRecursion};
+ghost use Rattle.c_parser.specs.ItemTree.{function_of, parameter_of};
+ghost use Rattle.c_parser.specs.StmtTree.{statements_in};
+ghost use Rattle.c_types.specs.Fault.{breaks};
 ghost use Rattle.c_types.specs.Shapes.{shapes_of};
+ghost use Rattle.c_types.specs.Views.{tables_in};
 ghost use Rattle.ir.specs.WellFormed.{IsWellFormed};
+ghost use Rattle.lower.specs.Added.{ParameterAdded, ParametersAdded, context_of};
+ghost use Rattle.lower.specs.Program as programs;
+ghost use Rattle.lower.specs.Program.{lowered};
 
 use crate::assigned::is_assigned;
 use crate::checked::is_well_formed;
@@ -12,73 +20,124 @@ use crate::source::Source;
 use crate::statements::add_statements;
 use crate::variables::Variables;
 use c_parser::Ast;
-use c_parser::item::{Function, Parameter};
+use c_parser::item::Function;
 use c_types::{Program, Typed};
 use ir::{Instruction, Ir, IrFunction, IrFunctions};
 use nvm_base::Text;
+use pool_map::Shapes;
 use std::alloc::{AllocError, Global};
 
 /// The code of a program: a function of it for each of the program, in their order, with no log and
-/// every flag off.
+/// every flag off. A tree that breaks a typing rule may have code that isn't well formed, or too many
+/// parameters; the answer then has no functions.
+#[tactic(auto, using(crate::proofs::Whole::whole))]
 pub fn lower(alloc: Global, typed: &Typed) -> Result<Ir, AllocError>
+    ensures code { IfOk result (λ ir. breaks typed.now ≡ [] → ir ≡ lowered typed.now) }
     ensures well_formed { IfOk result (λ ir. IsWellFormed ir) }
     ensures shapes { IfOk result (λ ir. ir.shapes ≡ shapes_of typed.now) }
 {
     let ast = typed.ast();
     let program = Program::new(alloc, ast.items())?;
-    let functions = lower_functions(alloc, ast, &program)?;
     let shapes = typed.shapes().copy(alloc)?;
+    if !take_few(program.functions()) {
+        return Ok(nothing(alloc, shapes));
+    }
+    let functions = lower_functions(alloc, ast, &program, program.functions())?;
     Ok(kept(alloc, Ir { functions, shapes }))
 }
 
 /// The code, if it is well formed. The code of a tree that was checked always is; for any other the
 /// answer has no functions.
 fn kept(alloc: Global, ir: Ir) -> Ir
+    ensures same { IsWellFormed ir → result ≡ ir }
     ensures well_formed { IsWellFormed result }
     ensures shapes { result.shapes ≡ ir.shapes }
 {
     if is_well_formed(&ir) {
         return ir;
     }
+    nothing(alloc, ir.shapes)
+}
+
+/// No functions, which are well formed.
+fn nothing(alloc: Global, shapes: Shapes) -> Ir
+    ensures well_formed { IsWellFormed result }
+    ensures shapes { result.shapes ≡ shapes }
+{
     Ir {
         functions: IrFunctions::new(alloc),
-        shapes: ir.shapes,
+        shapes,
     }
 }
 
-fn lower_functions(
+/// Whether each function has fewer than 65,536 parameters. Those of a checked tree have 22 at most.
+#[tactic(auto, using(crate::proofs::Whole::parameters))]
+fn take_few(functions: &[&Function]) -> bool
+    ensures { result ≡ programs.take_few (map function_of (map (λ f. f.now) functions.now)) }
+{
+    for function in functions {
+        if function.parameters.len() >= 65_536 {
+            return false;
+        }
+    }
+    true
+}
+
+fn lower_functions<'s, 'a>(
     alloc: Global,
-    ast: &Ast,
-    program: &Program<'_>,
-) -> Result<IrFunctions, AllocError> {
-    let mut functions = IrFunctions::new(alloc);
-    for function in program.functions() {
-        let parameters = count(&function.parameters)?;
-        let source = Source {
-            alloc,
-            ast,
-            program,
-            parameters,
-        };
-        functions.push(lower_function(&source, function)?)?;
+    ast: &'s Ast,
+    program: &'s Program<'a>,
+    functions: &[&'a Function],
+) -> Result<IrFunctions, AllocError>
+    requires few { programs.take_few (map function_of (map (λ f. f.now) functions.now)) ≡ true }
+    ensures code { IfOk result (λ us. us ≡ map (programs.lowered_function (tables_in program.now) ast.now) (map function_of (map (λ f. f.now) functions.now))) }
+    ensures counted { IfOk result (λ us. AllByRecursion (programs.IsCounted (tables_in program.now) ast.now) (map function_of (map (λ f. f.now) functions.now))) }
+{
+    let mut lowered = IrFunctions::new(alloc);
+    for function in functions {
+        lowered.push(lower_function(alloc, ast, program, function)?)?;
     }
-    Ok(functions)
+    Ok(lowered)
 }
 
-/// The number of the parameters. More than 65,535 count as want of memory; a checked tree has 22 at
-/// most.
-fn count(parameters: &[Parameter]) -> Result<u16, AllocError> {
-    match u16::try_from(parameters.len()) {
-        Ok(count) => Ok(count),
-        Err(_) => Err(AllocError),
-    }
+#[tactic(auto, using(crate::proofs::Whole::parameters))]
+fn lower_function<'s, 'a>(
+    alloc: Global,
+    ast: &'s Ast,
+    program: &'s Program<'a>,
+    function: &'a Function,
+) -> Result<IrFunction, AllocError>
+    requires few { length function.now.parameters.items < 65536 }
+    ensures code { IfOk result (λ u. u ≡ programs.lowered_function (tables_in program.now) ast.now (function_of function.now)) }
+    ensures counted { IfOk result (λ u. programs.IsCounted (tables_in program.now) ast.now (function_of function.now)) }
+{
+    let source = Source {
+        alloc,
+        ast,
+        program,
+        parameters: function.parameters.len() as u16,
+    };
+    let code = function_code(&source, function)?;
+    let mut name = Text::new(alloc);
+    name.push(function.name.text.as_str())?;
+    Ok(IrFunction {
+        name,
+        parameters: u32::from(source.parameters),
+        registers: source.register(code.end()),
+        tx: function.tx,
+        code: code.into_instructions(),
+    })
 }
 
 /// The code of a function: copies of the parameters that it assigns, its body, and the return of 0.
-fn lower_function<'a>(
+fn function_code<'a>(
     source: &Source<'_, 'a>,
     function: &'a Function,
-) -> Result<IrFunction, AllocError> {
+) -> Result<Code, AllocError>
+    requires few { length function.now.parameters.items < 65536 }
+    ensures code { IfOk result (λ c. c ≡ programs.function_code (context_of source.now) (function_of function.now)) }
+    ensures long { IfOk result (λ c. length c ≡ programs.function_end (function_of function.now)) }
+{
     let mut variables = Variables::new(source.alloc);
     let mut code = Code::new(source.alloc);
     variables.open(source.alloc)?;
@@ -88,16 +147,7 @@ fn lower_function<'a>(
     code.fill(LEAVE, 0, end);
     let from = add_constant(source, &mut code, 0)?;
     code.push(Instruction::Return { from })?;
-    let registers = source.register(code.end());
-    let mut name = Text::new(source.alloc);
-    name.push(function.name.text.as_str())?;
-    Ok(IrFunction {
-        name,
-        parameters: u32::from(source.parameters),
-        registers,
-        tx: function.tx,
-        code: code.into_instructions(),
-    })
+    Ok(code)
 }
 
 /// Declares the parameters.
@@ -106,7 +156,10 @@ fn add_parameters<'a>(
     variables: &mut Variables<'a>,
     code: &mut Code,
     function: &'a Function,
-) -> Result<(), AllocError> {
+) -> Result<(), AllocError>
+    requires few { length function.now.parameters.items < 65536 }
+    ensures { OnOk result (ParametersAdded (context_of source.now) (statements_in function.now.body.items) (map parameter_of function.now.parameters.items) variables.old code.old code.new variables.new) }
+{
     let mut number = 0u32;
     for parameter in &function.parameters {
         let name = parameter.name.text.as_str();
@@ -114,19 +167,22 @@ fn add_parameters<'a>(
         let register = add_parameter(source, code, assigned, number)?;
         let ty = source.program.declared_type(&parameter.ty);
         variables.declare(name, ty, register)?;
-        number = number.saturating_add(1);
+        number += 1;
     }
     Ok(())
 }
 
 /// The register of a parameter. One that the function assigns gets a second register, which every use
 /// means, so that the first is never assigned.
+#[tactic(auto, using(crate::proofs::FunctionAdds::functions))]
 fn add_parameter(
     source: &Source<'_, '_>,
     code: &mut Code,
     assigned: bool,
     number: u32,
-) -> Result<u32, AllocError> {
+) -> Result<u32, AllocError>
+    ensures { IfOk result (λ r. ParameterAdded (context_of source.now) assigned number code.old code.new r) }
+{
     if assigned {
         return add_copy(source, code, number);
     }

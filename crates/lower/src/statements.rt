@@ -326,31 +326,7 @@ fn add_simple(
             op,
             place,
             value,
-        } => match op {
-            AssignOp::Set => add_assignment(source, variables, code, target, *place, value),
-            AssignOp::Add => {
-                add_update(
-                    source,
-                    variables,
-                    code,
-                    target,
-                    *place,
-                    BinOp::Add,
-                    Some(value),
-                )
-            }
-            AssignOp::Sub => {
-                add_update(
-                    source,
-                    variables,
-                    code,
-                    target,
-                    *place,
-                    BinOp::Sub,
-                    Some(value),
-                )
-            }
-        },
+        } => add_assign(source, variables, code, target, *op, *place, value),
         Simple::Step { target, op, place } => {
             let op = step_operation(*op);
             add_update(source, variables, code, target, *place, op, None)
@@ -363,6 +339,32 @@ fn add_simple(
         Simple::Abort { .. } => code.push(Instruction::Trap {
             kind: TrapKind::Abort,
         }),
+    }
+}
+
+/// `=`, `+=` or `-=`.
+#[tactic(auto, using(crate::proofs::StmtAdds::statements))]
+fn add_assign(
+    source: &Source<'_, '_>,
+    variables: &Variables<'_>,
+    code: &mut Code,
+    target: &Expr,
+    op: AssignOp,
+    place: u64,
+    value: &Expr,
+) -> Result<(), AllocError>
+    ensures { OnOk result (added.SimpleAdded (context_of source.now) variables.now (tree.Assign (expr_of target.now) op place (expr_of value.now)) code.old code.new) }
+{
+    match op {
+        AssignOp::Set => add_assignment(source, variables, code, target, place, value),
+        AssignOp::Add => {
+            let op = BinOp::Add;
+            add_update(source, variables, code, target, place, op, Some(value))
+        }
+        AssignOp::Sub => {
+            let op = BinOp::Sub;
+            add_update(source, variables, code, target, place, op, Some(value))
+        }
     }
 }
 

@@ -4,5 +4,7 @@ use Rattle.ir.specs.WellFormed.{IsFunction}
 use Rattle.lower.proofs.checked.are_functions.Given as goal
 
 abbrev pub invariant-loop-function : goal.invariant-loop-function
-invariant-loop-function l =
-    AllByRecursion (IsFunction l.ir) (drop l.function-index l.functions) → AllByRecursion (IsFunction l.ir) l.functions
+invariant-loop-function l = record {
+  sound : AllByRecursion (IsFunction l.ir) (drop l.function-index l.functions) → AllByRecursion (IsFunction l.ir) l.functions;
+  complete : AllByRecursion (IsFunction l.ir) l.functions → AllByRecursion (IsFunction l.ir) (drop l.function-index l.functions);
+}

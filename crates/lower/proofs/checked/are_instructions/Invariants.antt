@@ -4,5 +4,7 @@ use Rattle.ir.specs.WellFormed.{IsInstruction}
 use Rattle.lower.proofs.checked.are_instructions.Given as goal
 
 abbrev pub invariant-loop-instruction : goal.invariant-loop-instruction
-invariant-loop-instruction l =
-    AllByRecursion (IsInstruction l.ir l.registers (length l.code)) (drop l.instruction-index l.code) → AllByRecursion (IsInstruction l.ir l.registers (length l.code)) l.code
+invariant-loop-instruction l = record {
+  sound : AllByRecursion (IsInstruction l.ir l.registers (length l.code)) (drop l.instruction-index l.code) → AllByRecursion (IsInstruction l.ir l.registers (length l.code)) l.code;
+  complete : AllByRecursion (IsInstruction l.ir l.registers (length l.code)) l.code → AllByRecursion (IsInstruction l.ir l.registers (length l.code)) (drop l.instruction-index l.code);
+}

@@ -1,0 +1,87 @@
+-- A tree that breaks no rule has few parameters.
+use Rattle.std.proofs.Common.{◌≡◌, ℕ, ◌+◌, ◌≤◌, ◌<◌, Bool, true, false, List, [], ◌∷◌, ◌++◌, length, refl, arith, rules, ⊎_elim, ◌≢◌}
+use Rattle.std.specs.Prelude.{nat_lt, nat_le, nat_eq, ◌&&◌, not, is_some, slice_get}
+use Rattle.std.proofs.lemmas.Bool.Decides.{eqb_tells}
+use Rattle.c_parser.specs.ItemTree.{FunctionTree, ParameterTree}
+use Rattle.c_parser.specs.Program.{Program, tree_of}
+use Rattle.c_types.specs.declared.broken.Rule.{Rule}
+use Rattle.c_types.specs.declared.broken.Rule.TheVariants.{Twice, TooBig, NoRoot}
+use Rattle.c_types.specs.declared.fault.LimitKind.TheVariants as limit
+use Rattle.c_types.specs.Broken.{unless}
+use Rattle.c_types.specs.Tables.{Tables, tables_of}
+use Rattle.c_types.specs.Expressions.{Scope}
+use Rattle.c_types.specs.Statements.{inside, type_broken, is_declared}
+use Rattle.c_types.specs.Fault.{breaks}
+use Rattle.c_types.specs.Declarations.{structs_broken, roots_broken, function_broken, body_broken, parameter_broken, parameters_broken, functions_broken, behind_parameter}
+use Rattle.lower.specs.Program.{take_few}
+
+-- a list that is empty has no parts
+pub none_left : {A : Type 0} (xs ys : List A) → xs ++ ys ≡ [] → xs ≡ []
+none_left [] ys e = refl
+none_left (x ∷ xs) ys e = cc
+
+pub none_right : {A : Type 0} (xs ys : List A) → xs ++ ys ≡ [] → ys ≡ []
+none_right [] ys e = e
+none_right (x ∷ xs) ys e = cc
+
+-- a rule that isn't broken is kept
+pub kept : (b : Bool) (place : ℕ) (rule : Rule) → unless b place rule ≡ [] → b ≡ true
+kept true place rule e = refl
+kept false place rule e = cc
+
+pub not_at : (n i : ℕ) → i ≤ n → not (nat_eq i n) ≡ true → i + 1 ≤ n
+not_at n i le e =
+    ⊎_elim
+    (λ (d : (nat_eq i n ≡ true) × (i ≡ n)). absurd (true_not (rw d.0 at e)))
+    (λ (d : (nat_eq i n ≡ false) × (i ≢ n)). omega (arith, d.1, le))
+    (eqb_tells i n)
+  where
+    true_not : false ≡ true → ⊥
+    true_not x = cc
+
+pub and_left : (a b : Bool) → (a && b) ≡ true → a ≡ true
+and_left true b e = refl
+and_left false b e = e
+
+pub and_right : (a b : Bool) → (a && b) ≡ true → b ≡ true
+and_right true b e = e
+and_right false b e = absurd (false_true e)
+  where
+    false_true : false ≡ true → ⊥
+    false_true x = cc
+
+pub le_from : (a b : ℕ) → nat_le a b ≡ true → a ≤ b
+le_from a b e = search (rules)
+
+pub le_true : (a b : ℕ) → a ≤ b → nat_le a b ≡ true
+le_true a b le = search (rules)
+
+pub lt_true : (a b : ℕ) → a < b → nat_lt a b ≡ true
+lt_true a b lt = search (rules)
+
+pub few_parameters : (t : Tables) (s : List Scope) (i : ℕ) (ps : List ParameterTree) → i ≤ 22 → parameters_broken t s i ps ≡ [] → i + length ps ≤ 22
+few_parameters t s i [] le e = omega (arith, le)
+few_parameters t s i (p ∷ ps) le e =
+    let here : parameter_broken t s i p ≡ [] = none_left (parameter_broken t s i p) (parameters_broken t (behind_parameter t s p) (i + 1) ps) e in
+    let rest : parameters_broken t (behind_parameter t s p) (i + 1) ps ≡ [] = none_right (parameter_broken t s i p) (parameters_broken t (behind_parameter t s p) (i + 1) ps) e in
+    let room : i + 1 ≤ 22 = not_at 22 i le (kept (not (nat_eq i 22)) p.name.place (TooBig limit.Parameters 23)
+        (none_left (unless (not (nat_eq i 22)) p.name.place (TooBig limit.Parameters 23)) (unless (not (is_declared p.name.text s)) p.name.place Twice) (none_right (type_broken t p.ty) _ here))) in
+    let less : (i + 1) + length ps ≤ 22 = few_parameters t (behind_parameter t s p) (i + 1) ps room rest in
+    omega (arith, less)
+
+few_from : (t : Tables) (i : ℕ) (fs : List FunctionTree) → functions_broken t i fs ≡ [] → take_few fs ≡ true
+few_from t i [] e = refl
+few_from t i (f ∷ fs) e =
+    let here : function_broken t i f ++ body_broken t f ≡ [] = none_left (function_broken t i f ++ body_broken t f) (functions_broken t (i + 1) fs) e in
+    let body : body_broken t f ≡ [] = none_right (function_broken t i f) (body_broken t f) here in
+    let few : 0 + length f.parameters ≤ 22 = few_parameters t (inside []) 0 f.parameters (omega arith) (none_left (parameters_broken t (inside []) 0 f.parameters) _ body) in
+    let rest : take_few fs ≡ true = few_from t (i + 1) fs (none_right (function_broken t i f ++ body_broken t f) (functions_broken t (i + 1) fs) e) in
+    rw (rest, lt_true (length f.parameters) 65536 (omega (arith, few))) refl
+
+pub few_functions : (tree : Program) → breaks tree ≡ [] → take_few (tables_of (tree_of tree)).functions ≡ true
+few_functions tree e =
+    let t : Tables = tables_of (tree_of tree) in
+    few_from t 0 t.functions (none_right (unless (is_some (slice_get t.roots 0)) (length tree.lines) NoRoot) (functions_broken t 0 t.functions)
+        (none_right (roots_broken t 0 t.roots) _ (none_right (structs_broken t 0 t.structs) _ e)))
+
+pub ruleset few = (few_functions)
