@@ -84,7 +84,7 @@ member_fits : (t : Tables) (r i : ℕ) (s : StructTree) (name : Ident) → IsSan
 member_fits t r i s name h is e =
     let there : (f : FieldTree) × (member t i name ≡ Some f) × IsFieldOf t i s name.text f = member_there t i s name h is e in
     let get : slice_get (map field_shape s.fields) (field_at t name.text (Some i)) ≡ Some (field_shape there.0) =
-        ap (slice_get (map field_shape s.fields)) there.2.number ∙ slice_get-map field_shape s.fields there.2.place ∙ ap (option_map field_shape) there.2.found in
+    ap (slice_get (map field_shape s.fields)) there.2.number ∙ slice_get-map field_shape s.fields there.2.place ∙ ap (option_map field_shape) there.2.found in
     rw (there.1, get) (field_fits t r name.place (0 + there.2.place) (field_names s) there.0 there.2.kept)
 
 arrow_fits : (t : Tables) (r : ℕ) (ty : ValueType) (base place : ℕ) (name : Ident) → IsSane t → base < r → IsGood t ty → arrow_broken t ty place name ≡ []
@@ -92,8 +92,8 @@ arrow_fits : (t : Tables) (r : ℕ) (ty : ValueType) (base place : ℕ) (name : 
 arrow_fits t r (Pointer i) base place name h lt g e =
     let kind : IsKindOf t i g.0 = kind_of_struct t i g.0 h.structs g.1 g.2 in
     fits_field (shapes_in t) r (member_kind t i name) (slice_get (map field_shape g.0.fields) (field_at t name.text (Some i))) base (kind_at t (Some i)) (field_at t name.text (Some i)) lt
-        (ap (option_and_then (λ (s : StructShape). slice_get s.fields (field_at t name.text (Some i)))) kind.shape)
-        (member_fits t r i g.0 name h g.1 e)
+    (ap (option_and_then (λ (s : StructShape). slice_get s.fields (field_at t name.text (Some i)))) kind.shape)
+    (member_fits t r i g.0 name h g.1 e)
 arrow_fits t r Int base place name h lt g e = absurd (some_none e)
   where
     some_none : at place Mismatch ≡ [] → ⊥
@@ -114,9 +114,9 @@ root_fits t r name h e =
     let kind : member_kind t i name ≡ root_kind t name = sym (ap (λ o. option_map_or (λ i. member_kind t i name) o (Value Any)) h.root.2) in
     let target : Root (field_at t name.text (Some i)) None ≡ root_target t name.text = sym (ap (λ o. Root (field_at t name.text o) None) h.root.2) in
     subst (λ (x : Kind). TargetFits (shapes_in t) r x (root_target t name.text)) kind
-        (subst (λ (x : Target). TargetFits (shapes_in t) r (member_kind t i name) x) target
-            (fits_root (shapes_in t) r (member_kind t i name) (slice_get (map field_shape s.fields) (field_at t name.text (Some i))) (field_at t name.text (Some i))
-                (ap (λ fs. slice_get (map field_shape fs) (field_at t name.text (Some i))) fields) fits))
+    (subst (λ (x : Target). TargetFits (shapes_in t) r (member_kind t i name) x) target
+    (fits_root (shapes_in t) r (member_kind t i name) (slice_get (map field_shape s.fields) (field_at t name.text (Some i))) (field_at t name.text (Some i))
+    (ap (λ fs. slice_get (map field_shape fs) (field_at t name.text (Some i))) fields) fits))
 
 -- as a value it is no whole array
 pub value_fits : (shapes : Shapes) (r : ℕ) (broken : List Broken) (k : Kind) (target : Target) → used broken k ≡ [] → TargetFits shapes r k target → IsTarget shapes r target
@@ -178,9 +178,11 @@ arrow_parts t s base place name e = (none_left (value_broken t s base) _ e, none
 pub index_parts : (t : Tables) (s : List Scope) (base : ExprTree) (place : ℕ) (index : ExprTree) → broken_in t s (expr.Index base place index) ≡ []
     → (broken_in t s base ≡ []) × (value_broken t s index ≡ []) × (is_indexed (kind_of t s base) ≡ true)
 index_parts t s base place index e =
-    let rest : value_broken t s index ++ unless (is_indexed (kind_of t s base) && is_int (type_of t s index)) place Mismatch ≡ [] = none_right (broken_in t s base) _ e in
-    (none_left (broken_in t s base) _ e, none_left (value_broken t s index) _ rest,
-    and_left (is_indexed (kind_of t s base)) (is_int (type_of t s index)) (kept (is_indexed (kind_of t s base) && is_int (type_of t s index)) place Mismatch (none_right (value_broken t s index) _ rest)))
+    let rest : value_broken t s index ++ unless (is_indexed (kind_of t s base) && is_int (type_of t s index)) place Mismatch ≡ [] = none_right (broken_in t s base) _ e in (
+      none_left (broken_in t s base) _ e,
+      none_left (value_broken t s index) _ rest,
+      and_left (is_indexed (kind_of t s base)) (is_int (type_of t s index)) (kept (is_indexed (kind_of t s base) && is_int (type_of t s index)) place Mismatch (none_right (value_broken t s index) _ rest)),
+    )
 
 pub type_good : (t : Tables) (r : ℕ) (v : Variables) (e : ExprTree) → IsSane t → Agree t r v.scopes v.locals → value_broken t v.scopes e ≡ [] → IsGood t (type_of t v.scopes e)
 type_good t r v e h a b = value_good t (broken_in t v.scopes e) (kind_of t v.scopes e) (kind_good t r v e h a (none_left (broken_in t v.scopes e) _ b)) b
@@ -218,6 +220,7 @@ call_takes k ir r n v wanted name all p h e =
   where
     eq_from : (a b : ℕ) → nat_eq a b ≡ true → a ≡ b
     eq_from a b e = search (rules)
+
     small_number : (n : ℕ) → n < length k.tables.functions → length k.tables.functions ≤ 1024 → number_of (Some n) ≡ n
     small_number n lt le = omega (arith, lt, le)
 
@@ -226,15 +229,22 @@ form_sound : (k : Context) (ir : Ir) (r n : ℕ) (f : Form) (code : ℕ → List
     → AllByRecursion (IsInstruction ir r n) (form_code f k.node code end reg on p)
 form_sound k ir r n Both code end reg on p h all le below o lt =
     let q : ℕ = end (suc p) in
-    let to : k.node (suc (suc (suc (suc q)))) < r = h.below (suc (suc (suc (suc q)))) lt in
-    ((o, omega (arith, lt)), all_append (IsInstruction ir r n) (code (suc p)) (outcome (reg q) (k.node (suc (suc (suc (suc q))))) q) (all (suc p) (omega (arith, lt)))
-        ((below q (omega (arith, lt)), omega (arith, lt)), (to, (lt, (to, tt)))))
+    let to : k.node (suc (suc (suc (suc q)))) < r = h.below (suc (suc (suc (suc q)))) lt in (
+      (o, omega (arith, lt)),
+      all_append (IsInstruction ir r n) (code (suc p)) (outcome (reg q) (k.node (suc (suc (suc (suc q))))) q) (all (suc p) (omega (arith, lt)))
+          ((below q (omega (arith, lt)), omega (arith, lt)), (to, (lt, (to, tt)))),
+    )
 form_sound k ir r n Either code end reg on p h all le below o lt =
     let q : ℕ = end (suc (suc p)) in
     let less : suc (suc p) ≤ q = le (suc (suc p)) in
-    let to : k.node (suc (suc (suc (suc q)))) < r = h.below (suc (suc (suc (suc q)))) lt in
-    ((o, omega (arith, lt, less)), (omega (arith, lt), all_append (IsInstruction ir r n) (code (suc (suc p))) (outcome (reg q) (k.node (suc (suc (suc (suc q))))) q) (all (suc (suc p)) (omega (arith, lt)))
-        ((below q (omega (arith, lt)), omega (arith, lt)), (to, (lt, (to, tt))))))
+    let to : k.node (suc (suc (suc (suc q)))) < r = h.below (suc (suc (suc (suc q)))) lt in (
+      (o, omega (arith, lt, less)),
+      (
+        omega (arith, lt),
+        all_append (IsInstruction ir r n) (code (suc (suc p))) (outcome (reg q) (k.node (suc (suc (suc (suc q))))) q) (all (suc (suc p)) (omega (arith, lt)))
+            ((below q (omega (arith, lt)), omega (arith, lt)), (to, (lt, (to, tt)))),
+      ),
+    )
 form_sound k ir r n (Direct b) code end reg on p h all le below o lt =
     all_append (IsInstruction ir r n) (code p) _ (all p (omega (arith, lt))) ((h.below (suc (end p)) lt, o, below (end p) (omega (arith, lt))), tt)
 form_sound k ir r n (Exchanged b) code end reg on p h all le below o lt =
@@ -255,7 +265,7 @@ mutual
       let f : Option FunctionTree = function_named t name.text in
       let args = arguments_sound k ir r n v (parameters_of f) 0 all p h a (none_right (call_broken true f (count all) name.place) _ own) (omega (arith, lt)) in
       all_append (IsInstruction ir r n) (arguments_code k v all p) _ args.0
-          (tt, ((h.below (suc (suc (arguments_end all p))) lt, args.1, call_takes k ir r n v true name all p h (none_left (call_broken true f (count all) name.place) _ own)), tt))
+      (tt, ((h.below (suc (suc (arguments_end all p))) lt, args.1, call_takes k ir r n v true name all p h (none_left (call_broken true f (count all) name.place) _ own)), tt))
   exp_sound k ir r n v (expr.Root name) p h a b lt =
       let t : Tables = k.tables in
       let fits : TargetFits (shapes_in t) r (root_kind t name) (root_target t name.text) = root_fits t r name h.sane (none_left (root_broken t name) _ b) in
@@ -273,7 +283,7 @@ mutual
       let reg : reg_of k v base (exp_end base p) < r = reg_below k ir r n v base (exp_end base p) h a (none_left (broken_in t s base) _ parts.0) (omega (arith, lt)) in
       let fits = arrow_fits t r (type_of t s base) (reg_of k v base (exp_end base p)) place name h.sane reg (type_good t r v base h.sane a parts.0) parts.1 in
       all_append (IsInstruction ir r n) (exp_code k v base p) _ (exp_sound k ir r n v base p h a parts.0 (omega (arith, lt)))
-          ((h.below (suc (exp_end base p)) lt, rw h.shapes (value_fits (shapes_in t) r (broken_in t s (expr.Arrow base place name)) (kind_of t s (expr.Arrow base place name)) _ b fits)), tt)
+      ((h.below (suc (exp_end base p)) lt, rw h.shapes (value_fits (shapes_in t) r (broken_in t s (expr.Arrow base place name)) (kind_of t s (expr.Arrow base place name)) _ b fits)), tt)
   exp_sound k ir r n v (expr.Index base place index) p h a b lt =
       let t : Tables = k.tables in
       let s : List Scope = v.scopes in
@@ -285,28 +295,32 @@ mutual
       let base_sound = target_sound k ir r n v base p h a (array_place t s base array.0 array.1 array.2) parts.0 (omega (arith, lt, le)) in
       let reg : reg_of k v index (exp_end index q) < r = reg_below k ir r n v index (exp_end index q) h a (none_left (broken_in t s index) _ parts.1) (omega (arith, lt)) in
       all_append (IsInstruction ir r n) (target_code k v base p ++ exp_code k v index q) _
-          (all_append (IsInstruction ir r n) (target_code k v base p) _ base_sound.0 (exp_sound k ir r n v index q h a parts.1 (omega (arith, lt))))
-          ((h.below (suc (exp_end index q)) lt, index_fits ir.shapes r t (kind_of t s base) (target_of k v base p) (reg_of k v index (exp_end index q)) gb parts.2 base_sound.1 reg), tt)
+      (all_append (IsInstruction ir r n) (target_code k v base p) _ base_sound.0 (exp_sound k ir r n v index q h a parts.1 (omega (arith, lt))))
+      ((h.below (suc (exp_end index q)) lt, index_fits ir.shapes r t (kind_of t s base) (target_of k v base p) (reg_of k v index (exp_end index q)) gb parts.2 base_sound.1 reg), tt)
   exp_sound k ir r n v (expr.Unary unary.Negate place x) p h a b lt =
       let t : Tables = k.tables in
       let u : value_broken t v.scopes x ≡ [] = unary_part t v.scopes x _ (none_left (broken_in t v.scopes (expr.Unary unary.Negate place x)) _ b) in
       let q : ℕ = exp_end x (suc p) in
-      let le : suc p ≤ q = exp_end_le x (suc p) in
-      (h.below (suc p) (omega (arith, lt, le)), all_append (IsInstruction ir r n) (exp_code k v x (suc p)) _ (exp_sound k ir r n v x (suc p) h a u (omega (arith, lt)))
-          ((h.below (suc q) lt, h.below (suc p) (omega (arith, lt, le)), reg_below k ir r n v x q h a (none_left (broken_in t v.scopes x) _ u) (omega (arith, lt))), tt))
+      let le : suc p ≤ q = exp_end_le x (suc p) in (
+        h.below (suc p) (omega (arith, lt, le)),
+        all_append (IsInstruction ir r n) (exp_code k v x (suc p)) _ (exp_sound k ir r n v x (suc p) h a u (omega (arith, lt)))
+            ((h.below (suc q) lt, h.below (suc p) (omega (arith, lt, le)), reg_below k ir r n v x q h a (none_left (broken_in t v.scopes x) _ u) (omega (arith, lt))), tt),
+      )
   exp_sound k ir r n v (expr.Unary unary.Complement place x) p h a b lt =
       let t : Tables = k.tables in
       let u : value_broken t v.scopes x ≡ [] = unary_part t v.scopes x _ (none_left (broken_in t v.scopes (expr.Unary unary.Complement place x)) _ b) in
       let q : ℕ = exp_end x (suc p) in
-      let le : suc p ≤ q = exp_end_le x (suc p) in
-      (h.below (suc p) (omega (arith, lt, le)), all_append (IsInstruction ir r n) (exp_code k v x (suc p)) _ (exp_sound k ir r n v x (suc p) h a u (omega (arith, lt)))
-          ((h.below (suc q) lt, h.below (suc p) (omega (arith, lt, le)), reg_below k ir r n v x q h a (none_left (broken_in t v.scopes x) _ u) (omega (arith, lt))), tt))
+      let le : suc p ≤ q = exp_end_le x (suc p) in (
+        h.below (suc p) (omega (arith, lt, le)),
+        all_append (IsInstruction ir r n) (exp_code k v x (suc p)) _ (exp_sound k ir r n v x (suc p) h a u (omega (arith, lt)))
+            ((h.below (suc q) lt, h.below (suc p) (omega (arith, lt, le)), reg_below k ir r n v x q h a (none_left (broken_in t v.scopes x) _ u) (omega (arith, lt))), tt),
+      )
   exp_sound k ir r n v (expr.Unary unary.Not place x) p h a b lt =
       let t : Tables = k.tables in
       let u : value_broken t v.scopes x ≡ [] = unary_part t v.scopes x _ (none_left (broken_in t v.scopes (expr.Unary unary.Not place x)) _ b) in
       let q : ℕ = exp_end x p in
       all_append (IsInstruction ir r n) (exp_code k v x p) _ (exp_sound k ir r n v x p h a u (omega (arith, lt)))
-          (h.below (suc q) (omega (arith, lt)), ((h.below (suc (suc q)) lt, reg_below k ir r n v x q h a (none_left (broken_in t v.scopes x) _ u) (omega (arith, lt)), h.below (suc q) (omega (arith, lt))), tt))
+      (h.below (suc q) (omega (arith, lt)), ((h.below (suc (suc q)) lt, reg_below k ir r n v x q h a (none_left (broken_in t v.scopes x) _ u) (omega (arith, lt)), h.below (suc q) (omega (arith, lt))), tt))
   exp_sound k ir r n v (expr.Binary o place x y) p h a b lt =
       let t : Tables = k.tables in
       let s : List Scope = v.scopes in
@@ -316,9 +330,9 @@ mutual
       let w : value_broken t s y ≡ [] = unary_part t s y _ (none_right (value_broken t s x) _ own) in
       let le : q ≤ form_end (form_of o) (exp_end y) q = form_end_le (form_of o) (exp_end y) q (λ z. exp_end_le y z) in
       all_append (IsInstruction ir r n) (exp_code k v x p) _ (exp_sound k ir r n v x p h a u (omega (arith, lt, le)))
-          (form_sound k ir r n (form_of o) (exp_code k v y) (exp_end y) (reg_of k v y) (reg_of k v x q) q h
-              (λ z less. exp_sound k ir r n v y z h a w less) (λ z. exp_end_le y z) (λ z less. reg_below k ir r n v y z h a (none_left (broken_in t s y) _ w) less)
-              (reg_below k ir r n v x q h a (none_left (broken_in t s x) _ u) (omega (arith, lt, le))) lt)
+      (form_sound k ir r n (form_of o) (exp_code k v y) (exp_end y) (reg_of k v y) (reg_of k v x q) q h
+      (λ z less. exp_sound k ir r n v y z h a w less) (λ z. exp_end_le y z) (λ z less. reg_below k ir r n v y z h a (none_left (broken_in t s y) _ w) less)
+      (reg_below k ir r n v x q h a (none_left (broken_in t s x) _ u) (omega (arith, lt, le))) lt)
 
   pub target_sound : (k : Context) (ir : Ir) (r n : ℕ) (v : Variables) (e : ExprTree) (p : ℕ) → IsPlaced k ir r n → Agree k.tables r v.scopes v.locals → IsPlace e
       → broken_in k.tables v.scopes e ≡ [] → target_end e p < n → AllByRecursion (IsInstruction ir r n) (target_code k v e p) × TargetFits ir.shapes r (kind_of k.tables v.scopes e) (target_of k v e p)
@@ -338,9 +352,10 @@ mutual
       let array = indexed_array t (kind_of t s base) gb parts.2 in
       let le : q ≤ exp_end index q = exp_end_le index q in
       let base_sound = target_sound k ir r n v base p h a (array_place t s base array.0 array.1 array.2) parts.0 (omega (arith, lt, le)) in
-      let reg : reg_of k v index (exp_end index q) < r = reg_below k ir r n v index (exp_end index q) h a (none_left (broken_in t s index) _ parts.1) lt in
-      (all_append (IsInstruction ir r n) (target_code k v base p) _ base_sound.0 (exp_sound k ir r n v index q h a parts.1 lt),
-      index_fits ir.shapes r t (kind_of t s base) (target_of k v base p) (reg_of k v index (exp_end index q)) gb parts.2 base_sound.1 reg)
+      let reg : reg_of k v index (exp_end index q) < r = reg_below k ir r n v index (exp_end index q) h a (none_left (broken_in t s index) _ parts.1) lt in (
+        all_append (IsInstruction ir r n) (target_code k v base p) _ base_sound.0 (exp_sound k ir r n v index q h a parts.1 lt),
+        index_fits ir.shapes r t (kind_of t s base) (target_of k v base p) (reg_of k v index (exp_end index q)) gb parts.2 base_sound.1 reg,
+      )
   target_sound k ir r n v (expr.Number m) p h a is b lt = absurd is
   target_sound k ir r n v expr.Null p h a is b lt = absurd is
   target_sound k ir r n v (expr.Variable name) p h a is b lt = absurd is
@@ -359,6 +374,7 @@ mutual
       let u : value_broken t s x ≡ [] = none_left (value_broken t s x) _ b in
       let later : broken_in_all t s ps (i + 1) rest ≡ [] = none_right (unless (takes (parameter_type t ps i) (type_of t s x)) first Mismatch) _ (none_right (value_broken t s x) _ b) in
       let le : q ≤ arguments_end rest q = arguments_end_le rest q in
-      let others = arguments_sound k ir r n v ps (i + 1) rest q h a later lt in
-      (all_append (IsInstruction ir r n) (exp_code k v x p) _ (exp_sound k ir r n v x p h a u (omega (arith, lt, le))) others.0,
-      (reg_below k ir r n v x q h a (none_left (broken_in t s x) _ u) (omega (arith, lt, le)), others.1))
+      let others = arguments_sound k ir r n v ps (i + 1) rest q h a later lt in (
+        all_append (IsInstruction ir r n) (exp_code k v x p) _ (exp_sound k ir r n v x p h a u (omega (arith, lt, le))) others.0,
+        (reg_below k ir r n v x q h a (none_left (broken_in t s x) _ u) (omega (arith, lt, le)), others.1),
+      )

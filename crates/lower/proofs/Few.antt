@@ -65,7 +65,7 @@ few_parameters t s i (p ∷ ps) le e =
     let here : parameter_broken t s i p ≡ [] = none_left (parameter_broken t s i p) (parameters_broken t (behind_parameter t s p) (i + 1) ps) e in
     let rest : parameters_broken t (behind_parameter t s p) (i + 1) ps ≡ [] = none_right (parameter_broken t s i p) (parameters_broken t (behind_parameter t s p) (i + 1) ps) e in
     let room : i + 1 ≤ 22 = not_at 22 i le (kept (not (nat_eq i 22)) p.name.place (TooBig limit.Parameters 23)
-        (none_left (unless (not (nat_eq i 22)) p.name.place (TooBig limit.Parameters 23)) (unless (not (is_declared p.name.text s)) p.name.place Twice) (none_right (type_broken t p.ty) _ here))) in
+    (none_left (unless (not (nat_eq i 22)) p.name.place (TooBig limit.Parameters 23)) (unless (not (is_declared p.name.text s)) p.name.place Twice) (none_right (type_broken t p.ty) _ here))) in
     let less : (i + 1) + length ps ≤ 22 = few_parameters t (behind_parameter t s p) (i + 1) ps room rest in
     omega (arith, less)
 
@@ -82,6 +82,6 @@ pub few_functions : (tree : Program) → breaks tree ≡ [] → take_few (tables
 few_functions tree e =
     let t : Tables = tables_of (tree_of tree) in
     few_from t 0 t.functions (none_right (unless (is_some (slice_get t.roots 0)) (length tree.lines) NoRoot) (functions_broken t 0 t.functions)
-        (none_right (roots_broken t 0 t.roots) _ (none_right (structs_broken t 0 t.structs) _ e)))
+    (none_right (roots_broken t 0 t.roots) _ (none_right (structs_broken t 0 t.structs) _ e)))
 
 pub ruleset few = (few_functions)

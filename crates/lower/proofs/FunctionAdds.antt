@@ -20,7 +20,7 @@ use Rattle.lower.proofs.Filled.{statements_filled, fill_from_behind}
 parameters_code_case : (b : Bool) (k : Context) (body : Statements) (n : ℕ) (xs : List ParameterTree) (c c1 : List Instruction)
     → c1 ≡ (if b then c ++ Copy (k.node (suc (length c))) n ∷ [] else c)
     → c1 ++ parameters_code k body (suc n) xs (length c1)
-      ≡ c ++ (if b then Copy (k.node (suc (length c))) n ∷ parameters_code k body (suc n) xs (suc (length c)) else parameters_code k body (suc n) xs (length c))
+    ≡ c ++ (if b then Copy (k.node (suc (length c))) n ∷ parameters_code k body (suc n) xs (suc (length c)) else parameters_code k body (suc n) xs (length c))
 parameters_code_case true k body n xs c c1 e =
     let long : length c1 ≡ suc (length c) = one_more c c1 (Copy (k.node (suc (length c))) n) e in
     ap (λ q. c1 ++ parameters_code k body (suc n) xs q) long
@@ -50,8 +50,8 @@ parameters_end_more k body n x xs b c c1 r is h =
 behind_case : (b : Bool) (k : Context) (body : Statements) (n : ℕ) (x : ParameterTree) (xs : List ParameterTree) (c c1 : List Instruction) (r : ℕ) (v : Variables)
     → c1 ≡ (if b then c ++ Copy (k.node (suc (length c))) n ∷ [] else c) → r ≡ (if b then k.node (suc (length c)) else n)
     → behind_parameters k body (suc n) xs (length c1) (declared x.name.text (declared_type k.tables x.ty) r v)
-      ≡ (if b then behind_parameters k body (suc n) xs (suc (length c)) (declared x.name.text (declared_type k.tables x.ty) (k.node (suc (length c))) v)
-        else behind_parameters k body (suc n) xs (length c) (declared x.name.text (declared_type k.tables x.ty) n v))
+    ≡ (if b then behind_parameters k body (suc n) xs (suc (length c)) (declared x.name.text (declared_type k.tables x.ty) (k.node (suc (length c))) v)
+    else behind_parameters k body (suc n) xs (length c) (declared x.name.text (declared_type k.tables x.ty) n v))
 behind_case true k body n x xs c c1 r v e er =
     ap (λ q. behind_parameters k body (suc n) xs q (declared x.name.text (declared_type k.tables x.ty) r v)) (one_more c c1 (Copy (k.node (suc (length c))) n) e)
     ∙ ap (λ y. behind_parameters k body (suc n) xs (suc (length c)) (declared x.name.text (declared_type k.tables x.ty) y v)) er
@@ -66,7 +66,7 @@ behind_parameters_more k body n x xs b c c1 r v u is h eu =
     ap (behind_parameters k body (suc n) xs (length c1)) eu
     ∙ behind_case b k body n x xs c c1 r v h.code h.register
     ∙ ap (λ (a : Bool). if a then behind_parameters k body (suc n) xs (suc (length c)) (declared x.name.text (declared_type k.tables x.ty) (k.node (suc (length c))) v)
-        else behind_parameters k body (suc n) xs (length c) (declared x.name.text (declared_type k.tables x.ty) n v)) is
+    else behind_parameters k body (suc n) xs (length c) (declared x.name.text (declared_type k.tables x.ty) n v)) is
 
 -- copies have no holes
 copy_filled : (b : Bool) (h place : ℕ) (i : Instruction) (then_code else_code : List Instruction) → filled h place i ≡ i → map (filled h place) then_code ≡ then_code → map (filled h place) else_code ≡ else_code
@@ -94,7 +94,7 @@ function_added k f c c1 c2 c3 c4 c5 v0 v u end from h0 hv hp hs he small h3 hz h
     let l1 : length c1 ≡ p = hp.long ∙ ap (λ (l : List Instruction). parameters_end f.body xs (length l)) h0 in
     let v' : v ≡ W = hp.variables ∙ ap (λ (l : List Instruction). behind_parameters k f.body 0 xs (length l) v0) h0 ∙ ap (behind_parameters k f.body 0 xs 0) hv in
     let e2 : c2 ≡ P ++ S = hs.code ∙ ap (λ x. c1 ++ statements_code k x f.body leave leave (length c1)) v'
-        ∙ ap (λ n. c1 ++ statements_code k W f.body leave leave n) l1 ∙ ap (λ l. l ++ S) e1 in
+    ∙ ap (λ n. c1 ++ statements_code k W f.body leave leave n) l1 ∙ ap (λ l. l ++ S) e1 in
     let l2 : length c2 ≡ q = hs.long ∙ ap (statements_end f.body) l1 in
     let qe : end ≡ q = he ∙ l2 in
     let room : statements_end f.body p < leave = omega (arith, l2, small) in
@@ -106,7 +106,7 @@ function_added k f c c1 c2 c3 c4 c5 v0 v u end from h0 hv hp hs he small h3 hz h
     let from' : from ≡ k.node (suc q) = hz.register ∙ ap (λ n. k.node (suc n)) l3 in
     let s5 : c5 ≡ c3 ++ (Const from (pos 0) ∷ Return from ∷ []) = seam c3 c4 c5 (Const from (pos 0) ∷ []) (Return from ∷ []) hz.code h5 in
     s5 ∙ ap (λ l. l ++ (Const from (pos 0) ∷ Return from ∷ [])) f3 ∙ append_assoc P F (Const from (pos 0) ∷ Return from ∷ [])
-       ∙ ap (λ x. P ++ (F ++ Const x (pos 0) ∷ Return x ∷ [])) from'
+    ∙ ap (λ x. P ++ (F ++ Const x (pos 0) ∷ Return x ∷ [])) from'
 
 pub function_long : (k : Context) (f : FunctionTree) (c c1 c2 c3 c4 c5 : List Instruction) (v0 v u : Variables) (end from : ℕ)
     → c ≡ [] → ParametersAdded k f.body f.parameters v0 c c1 v → StatementsAdded k v f.body leave leave c1 c2 u

@@ -269,6 +269,7 @@ function_there t name f e = by_index (index_of name (function_names t)) refl e
   where
     none_some : None ≡ Some f → ⊥
     none_some e = cc
+
     by_index : (o : Option ℕ) → index_of name (function_names t) ≡ o → option_and_then (slice_get t.functions) o ≡ Some f → (i : ℕ) × (index_of name (function_names t) ≡ Some i) × (slice_get t.functions i ≡ Some f)
     by_index None is e = absurd (none_some e)
     by_index (Some i) is e = (i, is, e)
@@ -300,8 +301,8 @@ mutual
   kind_good t r v (expr.Call name all) h a b =
       let o : Option FunctionTree = function_named t name.text in
       call_good t name.text o (count all) name.place (all_taken t v.scopes (parameters_of o) 0 all) h refl
-          (none_left (call_broken true o (count all) name.place) (broken_in_all t v.scopes (parameters_of o) 0 all) b)
-          (all_good t r v (parameters_of o) 0 all h a (none_right (call_broken true o (count all) name.place) (broken_in_all t v.scopes (parameters_of o) 0 all) b))
+      (none_left (call_broken true o (count all) name.place) (broken_in_all t v.scopes (parameters_of o) 0 all) b)
+      (all_good t r v (parameters_of o) 0 all h a (none_right (call_broken true o (count all) name.place) (broken_in_all t v.scopes (parameters_of o) 0 all) b))
   kind_good t r v (expr.Root name) h a b =
       let root : (i : ℕ) × (s : StructTree) × (root_struct t ≡ Some i) × (slice_get t.structs i ≡ Some s) = h.root in
       rw root.2 (member_good t root.0 root.1 name h root.3 (rw root.2 at b))
@@ -311,8 +312,8 @@ mutual
   kind_good t r v (expr.Arrow base place name) h a b =
       let u : used (broken_in t v.scopes base) (kind_of t v.scopes base) ≡ [] = none_left (used (broken_in t v.scopes base) (kind_of t v.scopes base)) _ b in
       arrow_good t (type_of t v.scopes base) place name h
-          (value_good t (broken_in t v.scopes base) (kind_of t v.scopes base) (kind_good t r v base h a (none_left (broken_in t v.scopes base) _ u)) u)
-          (none_right (used (broken_in t v.scopes base) (kind_of t v.scopes base)) _ b)
+      (value_good t (broken_in t v.scopes base) (kind_of t v.scopes base) (kind_good t r v base h a (none_left (broken_in t v.scopes base) _ u)) u)
+      (none_right (used (broken_in t v.scopes base) (kind_of t v.scopes base)) _ b)
   kind_good t r v (expr.Index base place index) h a b =
       let s : List Scope = v.scopes in
       let rest : used (broken_in t s index) (kind_of t s index) ++ unless (is_indexed (kind_of t s base) && is_int (type_of t s index)) place Mismatch ≡ [] = none_right (broken_in t s base) _ b in

@@ -35,10 +35,13 @@ index_of_in {A} name_of name (x ∷ xs) i e = by_test (bytes_eq name (name_of x)
   where
     none_some : None ≡ Some i → ⊥
     none_some e = cc
+
     later_same : (j : ℕ) → Some (suc j) ≡ Some i → suc j ≡ i
     later_same j e = cc
+
     zero_same : Some 0 ≡ Some i → 0 ≡ i
     zero_same e = cc
+
     by_test : (b : Bool) (o : Option ℕ) → ((j : ℕ) → o ≡ Some j → (y : A) × (slice_get xs j ≡ Some y)) → (if b then Some 0 else option_map suc o) ≡ Some i → (y : A) × (slice_get (x ∷ xs) i ≡ Some y)
     by_test true o rest e = let at : 0 ≡ i = zero_same e in (x, rw (← at) refl)
     by_test false None rest e = absurd (none_some e)
@@ -57,6 +60,7 @@ struct_at t i (x ∷ ss) zero s e is = rw (← some_same is, plus_zero i) (none_
   where
     some_same : Some x ≡ Some s → x ≡ s
     some_same e = cc
+
     plus_zero : (i : ℕ) → i + 0 ≡ i
     plus_zero i = omega arith
 struct_at t i (x ∷ ss) (suc j) s e is = rw (next i j) (struct_at t (i + 1) ss j s (none_right (whole_struct_broken t i x) (structs_broken t (i + 1) ss) e) is)
@@ -73,6 +77,7 @@ field_at_place t names i (x ∷ fs) zero f e is = rw (← some_same is, plus_zer
   where
     some_same : Some x ≡ Some f → x ≡ f
     some_same e = cc
+
     plus_zero : (i : ℕ) → i + 0 ≡ i
     plus_zero i = omega arith
 field_at_place t names i (x ∷ fs) (suc j) f e is = rw (next i j) (field_at_place t names (i + 1) fs j f (none_right (field_broken t names i x) (fields_broken t names (i + 1) fs) e) is)
@@ -89,6 +94,7 @@ function_at_place t i (x ∷ fs) zero f e is = rw (← some_same is, plus_zero i
   where
     some_same : Some x ≡ Some f → x ≡ f
     some_same e = cc
+
     plus_zero : (i : ℕ) → i + 0 ≡ i
     plus_zero i = omega arith
 function_at_place t i (x ∷ fs) (suc j) f e is = rw (next i j) (function_at_place t (i + 1) fs j f (none_right (whole_function_broken t i x) (functions_broken t (i + 1) fs) e) is)
@@ -103,7 +109,7 @@ structs_few t i (s ∷ ss) le e =
     let whole : whole_struct_broken t i s ≡ [] = none_left (whole_struct_broken t i s) (structs_broken t (i + 1) ss) e in
     let own : struct_broken t i s ≡ [] = none_left (struct_broken t i s) _ whole in
     let room : i + 1 ≤ 255 = not_at 255 i le (kept (not (nat_eq i 255)) s.name.place (TooBig limit.Structs 256)
-        (none_left (unless (not (nat_eq i 255)) s.name.place (TooBig limit.Structs 256)) _ (none_right (unless (is_first (struct_named t s.name.text) i) s.name.place Twice) _ own))) in
+    (none_left (unless (not (nat_eq i 255)) s.name.place (TooBig limit.Structs 256)) _ (none_right (unless (is_first (struct_named t s.name.text) i) s.name.place Twice) _ own))) in
     let less : (i + 1) + length ss ≤ 255 = structs_few t (i + 1) ss room (none_right (whole_struct_broken t i s) (structs_broken t (i + 1) ss) e) in
     omega (arith, less)
 
@@ -113,9 +119,9 @@ functions_few t i (f ∷ fs) le e =
     let whole : whole_function_broken t i f ≡ [] = none_left (whole_function_broken t i f) (functions_broken t (i + 1) fs) e in
     let own : function_broken t i f ≡ [] = none_left (function_broken t i f) (body_broken t f) whole in
     let later : unless (is_first (index_of f.name.text (function_names t)) i) f.name.place Twice
-        ++ (unless (not (nat_eq i 1024)) f.name.place (TooBig limit.Functions 1025) ++ unless (not f.tx || _) f.name.place BadTx) ≡ [] = none_right (option_map_or (type_broken t) f.result_type []) _ own in
+    ++ (unless (not (nat_eq i 1024)) f.name.place (TooBig limit.Functions 1025) ++ unless (not f.tx || _) f.name.place BadTx) ≡ [] = none_right (option_map_or (type_broken t) f.result_type []) _ own in
     let room : i + 1 ≤ 1024 = not_at 1024 i le (kept (not (nat_eq i 1024)) f.name.place (TooBig limit.Functions 1025)
-        (none_left (unless (not (nat_eq i 1024)) f.name.place (TooBig limit.Functions 1025)) _ (none_right (unless (is_first (index_of f.name.text (function_names t)) i) f.name.place Twice) _ later))) in
+    (none_left (unless (not (nat_eq i 1024)) f.name.place (TooBig limit.Functions 1025)) _ (none_right (unless (is_first (index_of f.name.text (function_names t)) i) f.name.place Twice) _ later))) in
     let less : (i + 1) + length fs ≤ 1024 = functions_few t (i + 1) fs room (none_right (whole_function_broken t i f) (functions_broken t (i + 1) fs) e) in
     omega (arith, less)
 
@@ -153,7 +159,7 @@ struct_fields t i s e =
     let own : struct_broken t i s ≡ [] = none_left (struct_broken t i s) (fields_broken t (field_names s) 0 s.fields) e in
     let fields : fields_broken t (field_names s) 0 s.fields ≡ [] = none_right (struct_broken t i s) (fields_broken t (field_names s) 0 s.fields) e in
     let third : unless (root || nat_le (words_of s) 15) s.name.place (TooBig limit.Struct (words_of s)) ++ unless (not root || nat_le (words_of s) 512) s.name.place (TooBig limit.Root (words_of s)) ≡ [] =
-        none_right (unless (not (nat_eq i 255)) s.name.place (TooBig limit.Structs 256)) _ (none_right (unless (is_first (struct_named t s.name.text) i) s.name.place Twice) _ own) in
+    none_right (unless (not (nat_eq i 255)) s.name.place (TooBig limit.Structs 256)) _ (none_right (unless (is_first (struct_named t s.name.text) i) s.name.place Twice) _ own) in
     let a : (root || nat_le (words_of s) 15) ≡ true = kept (root || nat_le (words_of s) 15) s.name.place (TooBig limit.Struct (words_of s)) (none_left (unless (root || nat_le (words_of s) 15) s.name.place (TooBig limit.Struct (words_of s))) _ third) in
     let b : (not root || nat_le (words_of s) 512) ≡ true = kept (not root || nat_le (words_of s) 512) s.name.place (TooBig limit.Root (words_of s)) (none_right (unless (root || nat_le (words_of s) 15) s.name.place (TooBig limit.Struct (words_of s))) _ third) in
     let small : min (words_from (field_names s) 0 s.fields) (2 ^ 64 - 1) ≤ 512 = words_small root (words_of s) a b in
@@ -176,7 +182,7 @@ root_there t [] e b = absurd (false_true e)
     false_true e = cc
 root_there t (r ∷ rs) e b =
     let i : (i : ℕ) × (struct_named t r.name.text ≡ Some i) = some_of (struct_named t r.name.text) (kept (is_some (struct_named t r.name.text)) r.name.place UnknownName
-        (none_left (unless (is_some (struct_named t r.name.text)) r.name.place UnknownName) _ (none_left (root_broken t 0 r) (roots_broken t (0 + 1) rs) b))) in
+    (none_left (unless (is_some (struct_named t r.name.text)) r.name.place UnknownName) _ (none_left (root_broken t 0 r) (roots_broken t (0 + 1) rs) b))) in
     let s : (s : StructTree) × (slice_get t.structs i.0 ≡ Some s) = index_of_in (λ (s : StructTree). s.name.text) r.name.text t.structs i.0 i.1 in
     (i.0, s.0, i.1, s.1)
 
@@ -184,7 +190,7 @@ pub broken_functions : (tree : Program) → breaks tree ≡ [] → functions_bro
 broken_functions tree e =
     let t : Tables = tables_of (tree_of tree) in
     none_right (unless (is_some (slice_get t.roots 0)) (length tree.lines) NoRoot) (functions_broken t 0 t.functions)
-        (none_right (roots_broken t 0 t.roots) _ (none_right (structs_broken t 0 t.structs) _ e))
+    (none_right (roots_broken t 0 t.roots) _ (none_right (structs_broken t 0 t.structs) _ e))
 
 pub sane : (tree : Program) → breaks tree ≡ [] → IsSane (tables_of (tree_of tree))
 sane tree e =
@@ -237,15 +243,17 @@ numbered_at i (suc j) (x ∷ ss) s is ok =
   where
     next : (i j : ℕ) → i + suc j ≡ (i + 1) + j
     next i j = omega arith
+
     one_more : (m : ℕ) → 1 + suc m ≡ suc (suc m)
     one_more m = omega arith
+
     none_more : (m : ℕ) → 0 + suc m ≡ suc m
     none_more m = omega arith
+
     by_test : (b : Bool) (m : ℕ) → slice_get (numbered ss) m ≡ Some s → m < length ss
         → (k : ℕ) × ((if true && b then 1 else 0) + suc m ≡ suc k) × (slice_get (if b then x ∷ numbered ss else numbered ss) k ≡ Some s) × (k < suc (length ss))
     by_test true m is lt = (suc m, one_more m, is, omega (arith, lt))
     by_test false m is lt = (m, none_more m, is, omega (arith, lt))
-
 
 -- the kind of the objects of a struct, and the struct of that kind
 pub record IsKindOf (t : Tables) (i : ℕ) (s : StructTree) : Type 0 where
@@ -266,6 +274,7 @@ kind_of_struct t i s few is ok =
   where
     zero_plus : (i : ℕ) → i ≡ 0 + i
     zero_plus i = omega arith
+
     small_number : (n m : ℕ) → n ≡ suc m → m < 255 → number_of (Some n) ≡ suc m
     small_number n m e lt = omega (arith, e, lt)
 
@@ -281,8 +290,10 @@ field_of_struct t i s name f h is named = by_index (index_of name (field_names s
   where
     small_number : (n : ℕ) → n < 512 → number_of (Some n) ≡ n
     small_number n lt = omega (arith, lt)
+
     none_some : None ≡ Some f → ⊥
     none_some e = cc
+
     by_index : (o : Option ℕ) → index_of name (field_names s) ≡ o → option_and_then (slice_get s.fields) o ≡ Some f → IsFieldOf t i s name f
     by_index None at e = absurd (none_some e)
     by_index (Some j) at e =

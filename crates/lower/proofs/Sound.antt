@@ -40,6 +40,7 @@ ends_closing xs ys i from = subst EndsWell (joined xs ys i from) (ends_return (x
     inner : (ys : List Instruction) (i : Instruction) (from : ℕ) → (ys ++ i ∷ []) ++ Return from ∷ [] ≡ ys ++ i ∷ Return from ∷ []
     inner [] i from = refl
     inner (y ∷ ys) i from = ap (λ l. y ∷ l) (inner ys i from)
+
     joined : (xs ys : List Instruction) (i : Instruction) (from : ℕ) → (xs ++ (ys ++ i ∷ [])) ++ Return from ∷ [] ≡ xs ++ (ys ++ i ∷ Return from ∷ [])
     joined [] ys i from = inner ys i from
     joined (x ∷ xs) ys i from = ap (λ l. x ∷ l) (joined xs ys i from)
@@ -65,7 +66,7 @@ function_sound k ir r f h b le =
     let s2 = statements_sound k ir r n (gives t f.result_type) behind v f.body q q p h s1.1 alike (none_right (parameters_broken t start 0 f.parameters) _ b) (omega arith) (omega arith) (omega arith) in
     let close : k.node (suc q) < r = h.below (suc q) (omega arith) in
     all_append (IsInstruction ir r n) (parameters_code k f.body 0 f.parameters 0) _ s1.0
-        (all_append (IsInstruction ir r n) (statements_code k v f.body q q p) _ s2 (close, (close, tt)))
+    (all_append (IsInstruction ir r n) (statements_code k v f.body q q p) _ s2 (close, (close, tt)))
 
 -- the functions of a program, of which those here are some
 functions_sound : (ir : Ir) (t : Tables) (tree : Program) (i : ℕ) (fs : List FunctionTree) → IsSane t → ir.shapes ≡ shapes_in t
@@ -83,9 +84,10 @@ functions_sound ir t tree i (f ∷ fs) h is there b counted =
     let body : body_broken t f ≡ [] = none_right (function_broken t i f) (body_broken t f) (none_left (whole_function_broken t i f) (functions_broken t (i + 1) fs) b) in
     let all : AllByRecursion (IsInstruction ir r (function_end f)) code = function_sound k ir r f placed body (omega arith) in
     let here : AllByRecursion (IsInstruction ir r (length code)) code = subst (λ (n : ℕ). AllByRecursion (IsInstruction ir r n) code) (sym long) all in
-    let ends : EndsWell code = ends_closing (parameters_code k f.body 0 f.parameters 0) _ _ _ in
-    ((omega arith, omega (arith, long, few), ends, here),
-    functions_sound ir t tree (i + 1) fs h is there (none_right (whole_function_broken t i f) (functions_broken t (i + 1) fs) b) counted.1)
+    let ends : EndsWell code = ends_closing (parameters_code k f.body 0 f.parameters 0) _ _ _ in (
+      (omega arith, omega (arith, long, few), ends, here),
+      functions_sound ir t tree (i + 1) fs h is there (none_right (whole_function_broken t i f) (functions_broken t (i + 1) fs) b) counted.1,
+    )
 
 pub well_formed : (tree : Program) → breaks tree ≡ [] → AllByRecursion (IsCounted (tables_of (tree_of tree)) tree) (tables_of (tree_of tree)).functions → IsWellFormed (lowered tree)
 well_formed tree b counted =
@@ -93,7 +95,8 @@ well_formed tree b counted =
     let h : IsSane t = sane tree b in
     let few : length t.functions ≤ 1024 = h.functions in
     let there : (i : ℕ) (f : FunctionTree) → slice_get t.functions i ≡ Some f → (u : IrFunction) × (slice_get (lowered tree).functions i ≡ Some u) × (u.parameters ≡ length f.parameters) =
-        λ i f is. (lowered_function t tree f, slice_get-map (lowered_function t tree) t.functions i ∙ ap (option_map (lowered_function t tree)) is, refl) in
-    let long : length (map (lowered_function t tree) t.functions) ≡ length t.functions = length-map t.functions (lowered_function t tree) in
-    (omega (arith, few, long),
-    functions_sound (lowered tree) t tree 0 t.functions h refl there (broken_functions tree b) counted)
+    λ i f is. (lowered_function t tree f, slice_get-map (lowered_function t tree) t.functions i ∙ ap (option_map (lowered_function t tree)) is, refl) in
+    let long : length (map (lowered_function t tree) t.functions) ≡ length t.functions = length-map t.functions (lowered_function t tree) in (
+      omega (arith, few, long),
+      functions_sound (lowered tree) t tree 0 t.functions h refl there (broken_functions tree b) counted,
+    )

@@ -76,7 +76,7 @@ none_some name e = cc
 variable_below : (k : Context) (r : ℕ) (v : Variables) (e : ExprTree) (name : Ident) → Agree k.tables r v.scopes v.locals → variable_of e ≡ Some name → broken_in k.tables v.scopes e ≡ [] → register_of name.text v < r
 variable_below k r v (expr.Variable x) name a is b =
     subst (λ (y : Ident). register_of y.text v < r) (some_same is)
-        (found_register k.tables r (variable_type x.text v.scopes) (variable_register x.text v.locals) (found k.tables r x.text v.scopes v.locals a) (kept (is_some (variable_type x.text v.scopes)) x.place UnknownName b))
+    (found_register k.tables r (variable_type x.text v.scopes) (variable_register x.text v.locals) (found k.tables r x.text v.scopes v.locals a) (kept (is_some (variable_type x.text v.scopes)) x.place UnknownName b))
   where
     some_same : Some x ≡ Some name → x ≡ name
     some_same e = cc
@@ -109,14 +109,14 @@ set_sound : (k : Context) (ir : Ir) (r n : ℕ) (v : Variables) (name : Option I
     → AllByRecursion (IsInstruction ir r n) (set_code k v name target place value p)
 set_sound k ir r n v (Some name) target place value p h a is good b c lt =
     all_append (IsInstruction ir r n) (exp_code k v value p) _ (exp_sound k ir r n v value p h a c (omega (arith, lt)))
-        ((variable_below k r v target name a is (none_left (broken_in k.tables v.scopes target) _ b), value_below k ir r n v value (exp_end value p) h a c (omega (arith, lt))), tt)
+    ((variable_below k r v target name a is (none_left (broken_in k.tables v.scopes target) _ b), value_below k ir r n v value (exp_end value p) h a c (omega (arith, lt))), tt)
 set_sound k ir r n v None target place value p h a is good b c lt =
     let q : ℕ = target_end target p in
     let le : q ≤ exp_end value q = exp_end_le value q in
     let t = place_sound k ir r n v target p h a is good b (omega (arith, lt, le)) in
     all_append (IsInstruction ir r n) (target_code k v target p) _ t.0
-        (all_append (IsInstruction ir r n) (exp_code k v value q) _ (exp_sound k ir r n v value q h a c (omega (arith, lt)))
-            ((value_below k ir r n v value (exp_end value q) h a c (omega (arith, lt)), t.1), tt))
+    (all_append (IsInstruction ir r n) (exp_code k v value q) _ (exp_sound k ir r n v value q h a c (omega (arith, lt)))
+    ((value_below k ir r n v value (exp_end value q) h a c (omega (arith, lt)), t.1), tt))
 
 update_sound : (k : Context) (ir : Ir) (r n : ℕ) (v : Variables) (name : Option Ident) (target : ExprTree) (place : ℕ) (o : BinOp) (value : Option ExprTree) (p : ℕ) → IsPlaced k ir r n → Agree k.tables r v.scopes v.locals
     → variable_of target ≡ name → is_target target ≡ true → value_broken k.tables v.scopes target ≡ [] → option_map_or (value_broken k.tables v.scopes) value [] ≡ [] → update_end name target value p < n
@@ -136,7 +136,7 @@ update_sound k ir r n v None target place o value p h a is good b c lt =
     let left : k.node (suc p1) < r = h.below (suc p1) (omega (arith, lt, le)) in
     let to : k.node (suc p2) < r = h.below (suc p2) (omega (arith, lt)) in
     all_append (IsInstruction ir r n) (target_code k v target p) _ t.0
-        ((left, t.1), all_append (IsInstruction ir r n) (or_code k v (pos 1) value (suc p1)) _ s.0 ((to, left, s.1), ((to, t.1), tt)))
+    ((left, t.1), all_append (IsInstruction ir r n) (or_code k v (pos 1) value (suc p1)) _ s.0 ((to, left, s.1), ((to, t.1), tt)))
 
 pointer_kind : (k : Context) (ir : Ir) (r n : ℕ) (ty : ValueType) → IsPlaced k ir r n → IsGood k.tables ty → is_pointer ty ≡ true → IsKind ir.shapes (kind_at k.tables (struct_behind ty))
 pointer_kind k ir r n (Pointer i) h g e =
@@ -186,13 +186,13 @@ simple_sound k ir r n v (stmt.Call name all) p h a b lt =
     let f : Option FunctionTree = function_named t name.text in
     let args = arguments_sound k ir r n v (parameters_of f) 0 all p h a (none_right (call_broken false f (count all) name.place) _ b) (omega (arith, lt)) in
     all_append (IsInstruction ir r n) (arguments_code k v all p) _ args.0
-        (tt, ((h.below (suc (suc (arguments_end all p))) lt, args.1, call_takes k ir r n v false name all p h (none_left (call_broken false f (count all) name.place) _ b)), tt))
+    (tt, ((h.below (suc (suc (arguments_end all p))) lt, args.1, call_takes k ir r n v false name all p h (none_left (call_broken false f (count all) name.place) _ b)), tt))
 simple_sound k ir r n v (stmt.Free place pointer) p h a b lt =
     let t : Tables = k.tables in
     let c : value_broken t v.scopes pointer ≡ [] = none_left (value_broken t v.scopes pointer) _ b in
     let good : is_pointer (type_of t v.scopes pointer) ≡ true = kept (is_pointer (type_of t v.scopes pointer)) place Mismatch (none_right (value_broken t v.scopes pointer) _ b) in
     all_append (IsInstruction ir r n) (exp_code k v pointer p) _ (exp_sound k ir r n v pointer p h a c (omega (arith, lt)))
-        ((value_below k ir r n v pointer (exp_end pointer p) h a c (omega (arith, lt)), pointer_kind k ir r n (type_of t v.scopes pointer) h (type_good t r v pointer h.sane a c) good), tt)
+    ((value_below k ir r n v pointer (exp_end pointer p) h a c (omega (arith, lt)), pointer_kind k ir r n (type_of t v.scopes pointer) h (type_good t r v pointer h.sane a c) good), tt)
 simple_sound k ir r n v (stmt.Abort place) p h a b lt = (tt, tt)
 
 initial_sound : (k : Context) (ir : Ir) (r n : ℕ) (v : Variables) (ty : ValueType) (i : Option InitialTree) (p : ℕ) → IsPlaced k ir r n → Agree k.tables r v.scopes v.locals
@@ -201,7 +201,7 @@ initial_sound k ir r n v ty None p h a b lt = (h.below (suc p) lt, tt)
 initial_sound k ir r n v ty (Some i) p h a b lt =
     let c : value_broken k.tables v.scopes i.value ≡ [] = none_left (value_broken k.tables v.scopes i.value) _ b in
     all_append (IsInstruction ir r n) (exp_code k v i.value p) _ (exp_sound k ir r n v i.value p h a c (omega (arith, lt)))
-        ((h.below (suc (exp_end i.value p)) lt, value_below k ir r n v i.value (exp_end i.value p) h a c (omega (arith, lt))), tt)
+    ((h.below (suc (exp_end i.value p)) lt, value_below k ir r n v i.value (exp_end i.value p) h a c (omega (arith, lt))), tt)
 
 initial_some : (i : Option InitialTree) (p : ℕ) → 1 ≤ initial_end i p
 initial_some None p = omega arith
@@ -213,7 +213,7 @@ declaration_code_sound k ir r n s v d p h a same b lt =
     let t : Tables = k.tables in
     let rest = none_right (type_broken t d.ty) _ b in
     initial_sound k ir r n v (declared_type t d.ty) d.initial p h a
-        (sym (initial_same t s v.scopes (declared_type t d.ty) same d.initial) ∙ none_left (option_map_or (initial_broken t s (declared_type t d.ty)) d.initial []) _ rest) lt
+    (sym (initial_same t s v.scopes (declared_type t d.ty) same d.initial) ∙ none_left (option_map_or (initial_broken t s (declared_type t d.ty)) d.initial []) _ rest) lt
 
 declaration_agree : (k : Context) (ir : Ir) (r n : ℕ) (s : List Scope) (v : Variables) (d : DeclarationTree) (p : ℕ) → IsPlaced k ir r n → Agree k.tables r v.scopes v.locals
     → declaration_broken k.tables s d ≡ [] → initial_end d.initial p < n → Agree k.tables r (behind_declaration k d p v).scopes (behind_declaration k d p v).locals
@@ -282,7 +282,7 @@ mutual
       let le : suc p1 ≤ stmt_end x (suc p1) = stmt_end_le x (suc p1) in
       let bc : value_broken t v.scopes c ≡ [] = sym (value_same t s v.scopes same c) ∙ none_left (value_broken t s c) _ b in
       all_append (IsInstruction ir r n) (exp_code k v c p) _ (exp_sound k ir r n v c p h a bc (omega (arith, lt, le)))
-          ((value_below k ir r n v c p1 h a bc (omega (arith, lt, le)), lt), stmt_sound k ir r n gives (types.inside s) (inside v) x out again (suc p1) h (tt, a) same (none_right (value_broken t s c) _ b) o g lt)
+      ((value_below k ir r n v c p1 h a bc (omega (arith, lt, le)), lt), stmt_sound k ir r n gives (types.inside s) (inside v) x out again (suc p1) h (tt, a) same (none_right (value_broken t s c) _ b) o g lt)
   stmt_sound k ir r n gives s v (stmt.IfElse c x y) out again p h a same b o g lt =
       let t : Tables = k.tables in
       let p1 : ℕ = exp_end c p in
@@ -293,10 +293,11 @@ mutual
       let rest = none_right (value_broken t s c) _ b in
       let bx : statement_broken t gives (types.inside s) x ≡ [] = none_left (statement_broken t gives (types.inside s) x) _ rest in
       let by : statement_broken t gives (types.inside s) y ≡ [] = none_right (statement_broken t gives (types.inside s) x) _ rest in
-      all_append (IsInstruction ir r n) (exp_code k v c p) _ (exp_sound k ir r n v c p h a bc (omega (arith, lt, le, le2)))
-          ((value_below k ir r n v c p1 h a bc (omega (arith, lt, le, le2)), omega (arith, lt, le2)),
-          all_append (IsInstruction ir r n) (stmt_code k (inside v) x out again (suc p1)) _ (stmt_sound k ir r n gives (types.inside s) (inside v) x out again (suc p1) h (tt, a) same bx o g (omega (arith, lt, le2)))
-              (lt, stmt_sound k ir r n gives (types.inside s) (inside v) y out again (suc p2) h (tt, a) same by o g lt))
+      all_append (IsInstruction ir r n) (exp_code k v c p) _ (exp_sound k ir r n v c p h a bc (omega (arith, lt, le, le2))) (
+        (value_below k ir r n v c p1 h a bc (omega (arith, lt, le, le2)), omega (arith, lt, le2)),
+        all_append (IsInstruction ir r n) (stmt_code k (inside v) x out again (suc p1)) _ (stmt_sound k ir r n gives (types.inside s) (inside v) x out again (suc p1) h (tt, a) same bx o g (omega (arith, lt, le2)))
+            (lt, stmt_sound k ir r n gives (types.inside s) (inside v) y out again (suc p2) h (tt, a) same by o g lt),
+      )
   stmt_sound k ir r n gives s v (stmt.While c x) out again p h a same b o g lt =
       let t : Tables = k.tables in
       let p1 : ℕ = exp_end c (suc p) in
@@ -304,11 +305,14 @@ mutual
       let le1 : suc p ≤ p1 = exp_end_le c (suc p) in
       let le2 : suc p1 ≤ p2 = stmt_end_le x (suc p1) in
       let bc : value_broken t v.scopes c ≡ [] = sym (value_same t s v.scopes same c) ∙ none_left (value_broken t s c) _ b in
-      let start : p < n = omega (arith, lt, le1, le2) in
-      (tt, all_append (IsInstruction ir r n) (exp_code k v c (suc p)) _ (exp_sound k ir r n v c (suc p) h a bc (omega (arith, lt, le2)))
-          ((value_below k ir r n v c p1 h a bc (omega (arith, lt, le2)), lt),
+      let start : p < n = omega (arith, lt, le1, le2) in (
+        tt,
+        all_append (IsInstruction ir r n) (exp_code k v c (suc p)) _ (exp_sound k ir r n v c (suc p) h a bc (omega (arith, lt, le2))) (
+          (value_below k ir r n v c p1 h a bc (omega (arith, lt, le2)), lt),
           all_append (IsInstruction ir r n) (stmt_code k (inside v) x (suc p2) p (suc p1)) _ (stmt_sound k ir r n gives (types.inside s) (inside v) x (suc p2) p (suc p1) h (tt, a) same (none_right (value_broken t s c) _ b) lt start (omega (arith, lt)))
-              (start, tt)))
+              (start, tt),
+        ),
+      )
   stmt_sound k ir r n gives s v (stmt.For first c third x) out again p h a same b o g lt =
       let t : Tables = k.tables in
       let w : Variables = inside v in
@@ -332,11 +336,15 @@ mutual
       let b3 : statement_broken t gives inner x ≡ [] = none_right (option_map_or (simple_broken t inner) third []) _ r1 in
       let s0 = first_sound k ir r n start w first p h (tt, a) same b0 (omega (arith, lt, le1, le2, le3)) in
       let s1 = or_sound k ir r n u (pos 1) c (suc p0) h s0.1 b1 (omega (arith, lt, le2, le3)) in
-      all_append (IsInstruction ir r n) (first_code k w first p) _ s0.0
-          (tt, all_append (IsInstruction ir r n) (or_code k u (pos 1) c (suc p0)) _ s1.0
-              ((s1.1, lt), all_append (IsInstruction ir r n) (stmt_code k (inside u) x (suc p3) p2 (suc p1)) _
-                  (stmt_sound k ir r n gives inner (inside u) x (suc p3) p2 (suc p1) h (tt, s0.1) same_in b3 lt (omega (arith, lt, le3)) (omega (arith, lt, le3)))
-                  (all_append (IsInstruction ir r n) (third_code k u third p2) _ (third_sound k ir r n u third p2 h s0.1 b2 (omega (arith, lt))) (omega (arith, lt, le1, le2, le3), tt))))
+      all_append (IsInstruction ir r n) (first_code k w first p) _ s0.0 (
+        tt,
+        all_append (IsInstruction ir r n) (or_code k u (pos 1) c (suc p0)) _ s1.0 (
+          (s1.1, lt),
+          all_append (IsInstruction ir r n) (stmt_code k (inside u) x (suc p3) p2 (suc p1)) _
+              (stmt_sound k ir r n gives inner (inside u) x (suc p3) p2 (suc p1) h (tt, s0.1) same_in b3 lt (omega (arith, lt, le3)) (omega (arith, lt, le3)))
+              (all_append (IsInstruction ir r n) (third_code k u third p2) _ (third_sound k ir r n u third p2 h s0.1 b2 (omega (arith, lt))) (omega (arith, lt, le1, le2, le3), tt)),
+        ),
+      )
   stmt_sound k ir r n gives s v stmt.Break out again p h a same b o g lt = (o, tt)
   stmt_sound k ir r n gives s v stmt.Continue out again p h a same b o g lt = (g, tt)
   stmt_sound k ir r n gives s v (stmt.Return place value) out again p h a same b o g lt =
@@ -354,7 +362,7 @@ mutual
       let bx : statement_broken t gives s x ≡ [] = none_left (statement_broken t gives s x) _ b in
       let rest : statements_broken t gives (types.behind t x s) xs ≡ [] = none_right (statement_broken t gives s x) _ b in
       all_append (IsInstruction ir r n) (stmt_code k v x out again p) _ (stmt_sound k ir r n gives s v x out again p h a (alike_same s v.scopes alike) bx o g (omega (arith, lt, le)))
-          (statements_sound k ir r n gives (types.behind t x s) (behind k x p v) xs out again q h (agree_behind k ir r n gives s v x p h a bx (omega (arith, lt, le))) (behind_alike k x p s v alike) rest o g lt)
+      (statements_sound k ir r n gives (types.behind t x s) (behind k x p v) xs out again q h (agree_behind k ir r n gives s v x p h a bx (omega (arith, lt, le))) (behind_alike k x p s v alike) rest o g lt)
 
 -- the parameters, of which the next is in register i
 abbrev ParametersFit : Context → Ir → (r n : ℕ) → Statements → (i : ℕ) → List ParameterTree → ℕ → Variables → Type 0
@@ -378,16 +386,16 @@ parameters_sound k ir r n body i j (x ∷ xs) p v h a b room lt =
     let t : Tables = k.tables in
     let good : IsGood t (declared_type t x.ty) = declared_good t x.ty (none_left (type_broken t x.ty) _ (none_left (parameter_broken t v.scopes j x) _ b)) in
     by_test (is_assigned x.name.text body) good
-        (λ q y below less. parameters_sound k ir r n body (suc i) (j + 1) xs q (declared x.name.text (declared_type t x.ty) y v) h (agree_declared t r x.name.text (declared_type t x.ty) y v good below a)
-            (none_right (parameter_broken t v.scopes j x) _ b) (omega (arith, room)) less)
-        lt
+    (λ q y below less. parameters_sound k ir r n body (suc i) (j + 1) xs q (declared x.name.text (declared_type t x.ty) y v) h (agree_declared t r x.name.text (declared_type t x.ty) y v good below a)
+    (none_right (parameter_broken t v.scopes j x) _ b) (omega (arith, room)) less)
+    lt
   where
     by_test : (c : Bool) → IsGood k.tables (declared_type k.tables x.ty)
         → ((q y : ℕ) → y < r → parameters_end body xs q < n → ParametersFit k ir r n body (suc i) xs q (declared x.name.text (declared_type k.tables x.ty) y v))
         → parameters_end body xs (if c then suc p else p) < n
         → AllByRecursion (IsInstruction ir r n) (if c then Copy (k.node (suc p)) i ∷ parameters_code k body (suc i) xs (suc p) else parameters_code k body (suc i) xs p)
         × Agree k.tables r (if c then behind_parameters k body (suc i) xs (suc p) (declared x.name.text (declared_type k.tables x.ty) (k.node (suc p)) v) else behind_parameters k body (suc i) xs p (declared x.name.text (declared_type k.tables x.ty) i v)).scopes
-            (if c then behind_parameters k body (suc i) xs (suc p) (declared x.name.text (declared_type k.tables x.ty) (k.node (suc p)) v) else behind_parameters k body (suc i) xs p (declared x.name.text (declared_type k.tables x.ty) i v)).locals
+        (if c then behind_parameters k body (suc i) xs (suc p) (declared x.name.text (declared_type k.tables x.ty) (k.node (suc p)) v) else behind_parameters k body (suc i) xs p (declared x.name.text (declared_type k.tables x.ty) i v)).locals
         × (declarations.behind_parameters k.tables v.scopes (x ∷ xs) ≡ (if c then behind_parameters k body (suc i) xs (suc p) (declared x.name.text (declared_type k.tables x.ty) (k.node (suc p)) v) else behind_parameters k body (suc i) xs p (declared x.name.text (declared_type k.tables x.ty) i v)).scopes)
     by_test true good rest lt =
         let le : suc p ≤ parameters_end body xs (suc p) = parameters_end_le body xs (suc p) in

@@ -28,8 +28,9 @@ use pool_map::Shapes;
 use std::alloc::{AllocError, Global};
 
 /// The code of a program: a function of it for each of the program, in their order, with no log and
-/// every flag off. A tree that breaks a typing rule may have code that isn't well formed, or too many
-/// parameters; the answer then has no functions.
+/// every flag off. A tree that breaks a typing rule may have code that isn't well formed, or a function
+/// with 65,536 parameters; the answer then has no functions. The error is want of memory, and it is
+/// answered too where a function has over 2^29 instructions.
 #[tactic(auto, using(crate::proofs::Whole::whole))]
 pub fn lower(alloc: Global, typed: &Typed) -> Result<Ir, AllocError>
     ensures code { IfOk result (λ ir. breaks typed.now ≡ [] → ir ≡ lowered typed.now) }
@@ -83,6 +84,7 @@ fn take_few(functions: &[&Function]) -> bool
     true
 }
 
+/// The functions, in the order of the text.
 fn lower_functions<'s, 'a>(
     alloc: Global,
     ast: &'s Ast,
@@ -100,6 +102,7 @@ fn lower_functions<'s, 'a>(
     Ok(lowered)
 }
 
+/// A function's name, registers and code.
 #[tactic(auto, using(crate::proofs::Whole::parameters))]
 fn lower_function<'s, 'a>(
     alloc: Global,
@@ -130,10 +133,7 @@ fn lower_function<'s, 'a>(
 }
 
 /// The code of a function: copies of the parameters that it assigns, its body, and the return of 0.
-fn function_code<'a>(
-    source: &Source<'_, 'a>,
-    function: &'a Function,
-) -> Result<Code, AllocError>
+fn function_code<'a>(source: &Source<'_, 'a>, function: &'a Function) -> Result<Code, AllocError>
     requires few { length function.now.parameters.items < 65536 }
     ensures code { IfOk result (λ c. c ≡ programs.function_code (context_of source.now) (function_of function.now)) }
     ensures long { IfOk result (λ c. length c ≡ programs.function_end (function_of function.now)) }
