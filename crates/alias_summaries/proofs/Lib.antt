@@ -1,1 +1,3 @@
 mod Rooms
+mod AboutTables
+mod Told

@@ -1,2 +1,4 @@
 pub mod Room
 pub mod Weight
+pub mod About
+pub mod Told

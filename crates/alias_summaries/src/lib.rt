@@ -10,6 +10,7 @@ mod cells;
 mod classes;
 mod ground;
 mod kin;
+pub mod laws;
 mod numbering;
 mod passes;
 mod rows;
