@@ -1,7 +1,8 @@
 -- What each command does in a session: its answer, whether the session takes calls then, and the device.
-use Rattle.std.specs.Prelude.{ℕ, zero, suc, ◌≡◌, ◌==◌, true, false, Bool, List, Option, Some, None, length, map, option_map, slice_get, ℤ}
+use Rattle.std.specs.Prelude.{ℕ, zero, suc, ◌+◌, ◌≡◌, ◌==◌, nat_lt, if◌then◌else◌, true, false, Bool, List, [], ◌∷◌, Option, Some, None, length, map, option_map, slice_get, ℤ}
 use Rattle.cache_model.specs.Cache.{view}
-use Rattle.cache_model.specs.Collapse.{bad, Rises}
+use Rattle.cache_model.specs.Collapse.{bad}
+use Rattle.cache_model.specs.declared.choice.Pick.{Pick}
 use Rattle.cache_model.specs.declared.choice.Choice.{Choice}
 use Rattle.pmem.specs.Device.{Device, memory_of, powered, with_left, with_armed}
 use Rattle.pool_layout.specs.declared.limits.Sizes.{Sizes}
@@ -70,16 +71,23 @@ Calls program name args Ready d a n b k k1 = CallsNamed (number_of program name)
 Calls program name args Down d a n b k k1 = Refused RefusedDown Down d a n b
 Calls program name args (Unusable kind) d a n b k k1 = Refused (RefusedUnusable kind) (Unusable kind) d a n b
 
--- A choice with a bad pick changes nothing. Any other leaves the lines, and what is left is recovered.
+-- the line of the first pick whose line is below n, or isn't above that of the pick before it
+abbrev pub fallen : ℕ → List Pick → Option ℕ
+fallen n [] = None
+fallen n (p ∷ ps) = if nat_lt p.line n then Some p.line else fallen (p.line + 1) ps
+
+-- A choice with a pick that doesn't rise, or a bad one, changes nothing. Any other leaves the lines, and what is left is
+-- recovered.
 abbrev pub Powers : Image → Choice → Mode → Device → Answer → Mode → Device → (k k1 : ℕ) → Type 0
 Powers image choice m d a n b k k1 =
-    ((line : ℕ) → bad (memory_of d) choice.picks ≡ Some line → Refused (RefusedPick line) m d a n b)
-    × (bad (memory_of d) choice.picks ≡ None → Recovers image (powered choice d) a n b k k1)
+    ((line : ℕ) → fallen 0 choice.picks ≡ Some line → Refused (RefusedPick line) m d a n b)
+    × ((line : ℕ) → fallen 0 choice.picks ≡ None → bad (memory_of d) choice.picks ≡ Some line → Refused (RefusedPick line) m d a n b)
+    × (fallen 0 choice.picks ≡ None → bad (memory_of d) choice.picks ≡ None → Recovers image (powered choice d) a n b k k1)
 
 abbrev pub Commanded : Program → Command → Mode → Device → Answer → Mode → Device → (k k1 : ℕ) → Type 0
 Commanded program (command.Call name args) m d a n b k k1 = Calls program name args m d a n b k k1
 Commanded program (command.Stop left) m d a n b k k1 = Refused Silent m (with_left left d) a n b
 Commanded program (command.Fault at) m d a n b k k1 = Refused Silent m (with_armed at d) a n b
-Commanded program (command.Power choice) m d a n b k k1 = Rises choice.picks → Powers program.image choice m d a n b k k1
+Commanded program (command.Power choice) m d a n b k k1 = Powers program.image choice m d a n b k k1
 Commanded program command.Show m d a n b k k1 = Shows (shapes_of program.typed) program.image.parts.sizes m d a n b
 Commanded program command.Last m d a n b k k1 = Lasts m d a n b

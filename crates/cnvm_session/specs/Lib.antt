@@ -4,3 +4,4 @@ pub mod Opening
 pub mod Shown
 pub mod Outcomes
 pub mod Commands
+pub mod Laws

@@ -6,6 +6,7 @@
 
 mod answer;
 mod creating;
+mod law;
 mod mode;
 mod opening;
 mod outcome;
@@ -16,7 +17,11 @@ mod text;
 
 pub use answer::Answer;
 pub use creating::StartFault;
+pub use law::laws;
 pub use mode::Mode;
 pub use program::Program;
 pub use session::{Session, create, start_from};
 pub use text::answer_text;
+
+#[cfg(test)]
+mod tests;

@@ -9,7 +9,7 @@ ghost use Rattle.pool_layout.specs.Sizes.{pool_lines};
 ghost use Rattle.cnvm_session.specs.Created.{creation_events};
 ghost use Rattle.c_types.specs.Shapes.{shapes_of};
 ghost use Rattle.cnvm_session.specs.Outcomes.{Runs, Recovers, Opens};
-ghost use Rattle.cnvm_session.specs.Commands.{Lasts, Shows, parameters_of, CallsTo, Calls, Powers, Commanded};
+ghost use Rattle.cnvm_session.specs.Commands.{Lasts, Shows, parameters_of, CallsTo, Calls, fallen, Powers, Commanded};
 
 use crate::answer::Answer;
 use crate::creating::{StartFault, create_pool};
@@ -98,8 +98,8 @@ fn parameters(image: &Image, tx: u64) -> Option<u64>
 
 /// The line of the first pick whose line isn't above that of the pick before it.
 fn first_fallen(picks: &[Pick]) -> Option<u64>
+    ensures value { result ≡ fallen 0 picks.now }
     ensures none { IfNone result (Rises picks.now) }
-    ensures some { IsSome result → Rises picks.now → ⊥ }
 {
     let mut next: u128 = 0;
     for pick in picks {
@@ -237,7 +237,7 @@ impl Session {
         steps: &mut Steps<L>,
     ) -> Answer
         requires lines { (P.device dev.old).lines ≡ pool_lines program.now.image.parts.sizes }
-        ensures powers { Rises choice.now.picks → Powers program.now.image choice.now self.old (P.device dev.old) result self.new (P.device dev.new) steps.old steps.new }
+        ensures powers { Powers program.now.image choice.now self.old (P.device dev.old) result self.new (P.device dev.new) steps.old steps.new }
         ensures count { (P.device dev.old).faults ≤ (P.device dev.new).faults }
         ensures fault { result ≡ Answer.DeviceFault → Rose (P.device dev.old).faults (P.device dev.new).faults }
         ensures most { steps.new ≤ steps.old + program.now.image.parts.sizes.records + program.now.image.parts.most }
