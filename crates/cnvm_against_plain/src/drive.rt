@@ -1,0 +1,166 @@
+//! A script's calls on a program's pool, one after another.
+
+use crate::case::{Before, Case, logged_of, wanted_of};
+use crate::cuts::{compare_pool, cut_all};
+use crate::rig::Rig;
+use crate::tally::{Place, Tally};
+use crate::texts::{answer_line, pool_lines_of};
+use c_meaning::{PlainAnswer, plain_call};
+use cnvm_compile::compile;
+use cnvm_script::{Command, read_script};
+use cnvm_session::{Answer, Program};
+use nvm_base::{Steps, Words};
+use pool_map::Pool;
+use std::alloc::{AllocError, Global};
+use std::sync::ledger::Ledger;
+
+/// The slots of each pool, its log records, and the ticks of a call.
+const SLOTS: u64 = 16;
+
+const RECORDS: u64 = 72;
+
+const TICKS: u64 = 3000;
+
+/// What is compared of a program and a script. Where they are refused, that is a difference.
+pub(crate) fn drive<L: Ledger>(
+    alloc: Global,
+    text: &[u8],
+    script: &[u8],
+    steps: &mut Steps<L>,
+) -> Result<Tally, AllocError> {
+    let mut tally = Tally::new(alloc);
+    let Ok(compiled) = compile(alloc, text, SLOTS, RECORDS, TICKS) else {
+        refused(alloc, "program", &mut tally)?;
+        return Ok(tally);
+    };
+    let Ok(commands) = read_script(alloc, script) else {
+        refused(alloc, "script", &mut tally)?;
+        return Ok(tally);
+    };
+    let program = &compiled.program;
+    let mut pool = Pool::empty(alloc, program.sizes.root_words(), SLOTS)?;
+    let Some(rig) = Rig::create(alloc, program) else {
+        return Err(AllocError);
+    };
+    let mut before = Before {
+        words: rig.words(alloc)?,
+        shown: pool_lines_of(alloc, program.typed.shapes(), &pool)?,
+        done: 0,
+        value: 0,
+    };
+    for command in commands.as_slice() {
+        step(
+            alloc,
+            program,
+            command,
+            &mut pool,
+            &mut before,
+            &mut tally,
+            steps,
+        )?;
+    }
+    Ok(tally)
+}
+
+fn refused(alloc: Global, what: &'static str, tally: &mut Tally) -> Result<(), AllocError> {
+    let place = Place {
+        call: 0,
+        at: 0,
+        left: "uncut",
+        what,
+    };
+    tally.compare(alloc, place, "accepted\n", "refused\n")
+}
+
+/// One command of the script. Only a call does something.
+fn step<L: Ledger>(
+    alloc: Global,
+    program: &Program,
+    command: &Command,
+    pool: &mut Pool,
+    before: &mut Before,
+    tally: &mut Tally,
+    steps: &mut Steps<L>,
+) -> Result<(), AllocError> {
+    let Command::Call { name, args } = command else {
+        return Ok(());
+    };
+    let Some(tx) = program.typed.tx_number(name.as_str()) else {
+        return refused(alloc, "transaction", tally);
+    };
+    let args = args.as_slice();
+    let plain = plain_call(alloc, &program.typed, pool, tx, args, TICKS);
+    let words = compared(
+        alloc,
+        program,
+        command,
+        args.len(),
+        before,
+        &plain,
+        tally,
+        steps,
+    )?;
+    if let PlainAnswer::Done(after, value) = plain {
+        *before = Before {
+            words,
+            shown: pool_lines_of(alloc, program.typed.shapes(), &after)?,
+            done: before.done.saturating_add(1),
+            value,
+        };
+        *pool = after;
+    } else {
+        tally.trap();
+    }
+    Ok(())
+}
+
+/// Compares one call, uncut and cut, and gives the words of the pool behind it.
+fn compared<L: Ledger>(
+    alloc: Global,
+    program: &Program,
+    call: &Command,
+    arguments: usize,
+    before: &Before,
+    plain: &PlainAnswer,
+    tally: &mut Tally,
+    steps: &mut Steps<L>,
+) -> Result<Words, AllocError> {
+    let Some((mut rig, _)) = Rig::open(alloc, program, before.words.as_slice(), steps) else {
+        return Err(AllocError);
+    };
+    let answer = rig.command(alloc, program, call, steps);
+    let wanted = wanted_of(alloc, program, before, plain, logged_of(&answer))?;
+    let case = Case {
+        program,
+        words: before.words.as_slice(),
+        call,
+        arguments: arguments as u64,
+        place: tally.begin(),
+        wanted: &wanted,
+    };
+    uncut(alloc, case, &answer, &mut rig, tally, steps)?;
+    cut_all(alloc, case, tally, steps)?;
+    rig.words(alloc)
+}
+
+/// The call without a cut.
+fn uncut<L: Ledger>(
+    alloc: Global,
+    case: Case,
+    answer: &Answer,
+    rig: &mut Rig,
+    tally: &mut Tally,
+    steps: &mut Steps<L>,
+) -> Result<(), AllocError> {
+    let place = Place {
+        call: case.place,
+        at: 0,
+        left: "uncut",
+        what: "call",
+    };
+    let wanted = case.wanted;
+    let seen = answer_line(alloc, answer)?;
+    tally.compare(alloc, place, wanted.done.as_str(), seen.as_str())?;
+    let pool = (wanted.shown.as_str(), wanted.last.as_str());
+    compare_pool(alloc, case, place, pool, rig, tally, steps)
+}

@@ -1,0 +1,17 @@
+//! Tables of runs in memory: devices that fail at each event, sources and sinks that fail at each
+//! byte, two devices beside each other, and an image in another's place. It stands on cnvm_cli and
+//! holds nothing but tests.
+#![tactic(auto)]
+
+#[cfg(test)]
+mod byte_sink;
+#[cfg(test)]
+mod bytes;
+#[cfg(test)]
+mod devices;
+#[cfg(test)]
+mod program;
+#[cfg(test)]
+mod runs;
+#[cfg(test)]
+mod sessions;

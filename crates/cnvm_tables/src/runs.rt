@@ -1,0 +1,89 @@
+//! A run of the top call over sources and sinks in memory.
+
+ghost use Rattle.std.specs.Prelude.{◌<◌};
+
+use crate::byte_sink::ByteSink;
+use cnvm_cli::{Status, World, cnvm};
+use nvm_base::{MemSource, Steps};
+use pmem::Pmem;
+use std::alloc::{AllocError, Global};
+use std::sync::ledger::Ledger;
+
+/// A number that no read or write has.
+pub(crate) const NEVER: u64 = 1_000_000_000;
+
+/// Which read or write fails, of each source and sink.
+#[derive(Clone, Copy, Debug, PartialEq, Eq)]
+pub(crate) struct Fails {
+    pub(crate) program: u64,
+    pub(crate) script: u64,
+    pub(crate) image_in: u64,
+    pub(crate) out: u64,
+    pub(crate) image_out: u64,
+}
+
+/// No read or write fails.
+pub(crate) const NONE: Fails = Fails {
+    program: NEVER,
+    script: NEVER,
+    image_in: NEVER,
+    out: NEVER,
+    image_out: NEVER,
+};
+
+/// How a run ended, what it wrote, and the image that it saved.
+#[derive(Drop)]
+pub(crate) struct Ended {
+    pub(crate) status: Status,
+    pub(crate) out: Vec<u8>,
+    pub(crate) image: Vec<u8>,
+}
+
+impl Ended {
+    /// Whether it ended so, with this output.
+    pub(crate) fn is(&self, status: Status, out: &[u8]) -> bool {
+        self.status == status && self.out.as_slice() == out
+    }
+}
+
+fn push_words(alloc: Global, words: &mut Vec<String>, more: &[&str]) -> Result<(), AllocError> {
+    for word in more {
+        words.push(format!(in alloc; "{word}")?)?;
+    }
+    Ok(())
+}
+
+/// A run of a script with these words behind the two paths, on one slot and one record. Each read
+/// gives at most so many bytes, and each write takes one.
+pub(crate) fn run<P: Pmem + Drop, L: Ledger>(
+    alloc: Global,
+    most: usize,
+    more: &[&str],
+    program: &str,
+    script: &str,
+    image: &[u8],
+    fails: Fails,
+    dev: P,
+    steps: &mut Steps<L>,
+) -> Result<Ended, AllocError>
+    requires { 0 < most }
+{
+    let mut words = Vec::new(alloc);
+    let first = ["run", "A.c", "script", "--slots", "1", "--log", "1"];
+    push_words(alloc, &mut words, &first)?;
+    push_words(alloc, &mut words, more)?;
+    let mut world = World {
+        program: MemSource::new(alloc, program.as_bytes(), most, &[fails.program])?,
+        script: MemSource::new(alloc, script.as_bytes(), most, &[fails.script])?,
+        image_in: MemSource::new(alloc, image, most, &[fails.image_in])?,
+        out: ByteSink::new(alloc, fails.out),
+        image_out: ByteSink::new(alloc, fails.image_out),
+        dev,
+    };
+    let status = cnvm(alloc, &words, &mut world, steps);
+    Ok(Ended {
+        status,
+        out: Vec::from_slice(alloc, world.out.bytes())?,
+        image: Vec::from_slice(alloc, world.image_out.bytes())?,
+    })
+}
