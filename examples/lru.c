@@ -1,1 +1,0 @@
-../crates/cnvm_against_plain/data/lru.c
