@@ -11,5 +11,6 @@ pub memory_ends : (words : Option Plan) (told : Sources) (before behind : Outsid
     → WordsEnd words told status.NoMemory before behind
 memory_ends None told before behind keeps kept = (inr (inl (refl, keeps)), kept)
 memory_ends (Some (plan.Run p s slots records ticks from save)) told before behind keeps kept = inl (refused.NoMemory, tt, (refl, keeps), kept)
-memory_ends (Some (plan.List p)) told before behind keeps kept = tt
-memory_ends (Some (plan.Storm p start count slots records ticks)) told before behind keeps kept = tt
+memory_ends (Some (plan.List p)) told before behind keeps kept = (inl (refused.NoMemory, tt, (refl, keeps)), kept)
+memory_ends (Some (plan.Storm p start count slots records ticks)) told before behind keeps kept =
+    (inl (refused.NoMemory, tt, (refl, keeps), kept.1, kept.2), kept.0)

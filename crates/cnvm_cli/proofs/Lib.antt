@@ -1,4 +1,5 @@
 pub mod Digits
 pub mod Ending
+pub mod Raging
 pub mod Running
 pub mod Verdicts

@@ -1,6 +1,6 @@
 -- A run of a script's commands, one behind the other.
-use Rattle.std.proofs.Common.{◌≡◌, ℕ, ◌+◌, ◌<◌, ◌≤◌, List, [], ◌∷◌, Option, Some, None, length, drop, get_or, inl, inr, refl, sym, subst, drop-cons, add-one, suc, ap, ◌∙◌}
-use Rattle.std.proofs.lemmas.List.{drop_all, append-nil}
+use Rattle.std.proofs.Common.{◌≡◌, ℕ, ◌+◌, ◌<◌, ◌≤◌, List, ◌∷◌, Option, Some, None, length, drop, get_or, inl, inr, refl, sym, subst, drop-cons, add-one, suc, ap, ◌∙◌}
+use Rattle.std.proofs.lemmas.List.{drop_all}
 use Rattle.std.specs.Io.KnownBytes.{Appends, Keeps}
 use Rattle.nvm_base.specs.Parts.{AppendsPart}
 use Rattle.pmem.specs.Device.{Device}
@@ -16,7 +16,7 @@ pub keeps_same : (w : Option (List ℕ)) → Keeps w w
 keeps_same None = tt
 keeps_same (Some xs) = refl
 
-commands_at : (cs : List Command) (i : ℕ) (x : Command) → i < length cs → x ≡ get_or cs i x → drop i cs ≡ x ∷ drop (i + 1) cs
+pub commands_at : (cs : List Command) (i : ℕ) (x : Command) → i < length cs → x ≡ get_or cs i x → drop i cs ≡ x ∷ drop (i + 1) cs
 commands_at cs i x less is =
     drop-cons cs i x less ∙ (rw (add-one) (ap (λ (y : Command). y ∷ drop (suc i) cs) (sym is)))
 

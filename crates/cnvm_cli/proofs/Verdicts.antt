@@ -1,5 +1,5 @@
 -- The verdict, by what each text is.
-use Rattle.std.proofs.Common.{◌≡◌, ℕ, ◌<◌, ◌≤◌, List, Err, length, refl, subst, true, Option, Some, None, IfSome}
+use Rattle.std.proofs.Common.{◌≡◌, ℕ, ◌<◌, List, Err, length, refl, subst, true, Option, Some, None, IfSome}
 use Rattle.std.proofs.lemmas.Bool.{lt-ltb}
 use Rattle.nvm_base.specs.declared.input.ReadAllFault.{ReadAllFault}
 use Rattle.nvm_base.specs.declared.input.ReadAllFault.TheVariants as all

@@ -1,5 +1,5 @@
 -- How the top call ends, and what it has written then: by its words, and by what the sources tell of their bytes.
-use Rattle.std.specs.Prelude.{ℕ, List, Bool, true, false, Option, Some, None, is_some, ◌≡◌, ◌⊎◌, ⊤}
+use Rattle.std.specs.Prelude.{ℕ, List, Bool, true, false, Option, Some, None, is_some, IfSome, ◌≡◌, ◌⊎◌}
 use Rattle.std.specs.Io.KnownBytes.{Keeps}
 use Rattle.pmem.specs.Device.{Device}
 use Rattle.cnvm_script.specs.declared.command.Command.{Command}
@@ -10,10 +10,12 @@ use Rattle.cnvm_cli.specs.declared.asked.Asked.{Asked}
 use Rattle.cnvm_cli.specs.declared.refused.Refused.{Refused}
 use Rattle.cnvm_cli.specs.declared.refused.Refused.TheVariants as refused
 use Rattle.cnvm_cli.specs.declared.status.Status.{Status}
-use Rattle.cnvm_cli.specs.Verdict.{TextsGive, TextsRefuse}
-use Rattle.cnvm_cli.specs.Run.{RanAs, RefusedAs}
+use Rattle.cnvm_cli.specs.declared.status.Status.TheVariants as status
+use Rattle.cnvm_cli.specs.Verdict.{CompiledFrom, ProgramRefuses, TextsGive, TextsRefuse}
+use Rattle.cnvm_cli.specs.Run.{RanAs, RefusedAs, TellsAs}
 use Rattle.cnvm_cli.specs.Opened.{ImageEnds}
 use Rattle.cnvm_cli.specs.Saved.{SavedAs}
+use Rattle.cnvm_cli.specs.Stormed.{StormedAs}
 
 -- what the sources tell of their bytes
 pub record Sources : Type 0 where
@@ -71,12 +73,35 @@ RunEnds asked told opens saves result before behind =
     ⊎ ((program : Program) × (commands : List Command) × TextsGive asked told.program told.script program commands
     × JobEnds saves (start_if opens told.image) program commands result before behind)
 
+-- a listing is for these sizes
+abbrev pub listed : Asked
+listed = record { slots = 1024; records = 256; ticks = 100000 }
+
+-- How a listing ends: the program is refused, and this is told; or a text is written, of which nothing is said here.
+abbrev pub ListEnds : (program : Option (List ℕ)) → Status → Option (List ℕ) → Option (List ℕ) → Type 0
+ListEnds program result w w' =
+    ((why : Refused) × ProgramRefuses program why × RefusedAs why result w w')
+    ⊎ ((compiled : Program) × IfSome program (λ text. CompiledFrom listed text compiled)
+    × (text : List ℕ) × TellsAs status.Done text result w w')
+
+-- How a storm ends: the program is refused, and this is told, and nothing is run; or the storm is run on a new pool.
+abbrev pub StormEnds : Asked → (start count : ℕ) → (program : Option (List ℕ)) → Status → Option (List ℕ) → Option (List ℕ) → Device → Device
+    → (k k' : ℕ) → Type 0
+StormEnds asked start count program result w w' d d' k k' =
+    ((why : Refused) × ProgramRefuses program why × RefusedAs why result w w' × (d' ≡ d) × (k' ≡ k))
+    ⊎ ((compiled : Program) × IfSome program (λ text. CompiledFrom asked text compiled)
+    × StormedAs compiled start count result w w' d d' k k')
+
 -- How the call ends, by its plan.
 abbrev pub PlanEnds : Plan → Sources → Status → (before behind : Outside) → Type 0
 PlanEnds (plan.Run p s slots records ticks from save) told result before behind =
     RunEnds (record { slots = slots; records = records; ticks = ticks }) told (is_some from) (is_some save) result before behind
-PlanEnds (plan.List p) told result before behind = ⊤
-PlanEnds (plan.Storm p start count slots records ticks) told result before behind = ⊤
+PlanEnds (plan.List p) told result before behind =
+    ListEnds told.program result before.out behind.out × IsUntouched before behind
+PlanEnds (plan.Storm p start count slots records ticks) told result before behind =
+    StormEnds (record { slots = slots; records = records; ticks = ticks }) start count told.program result before.out behind.out before.dev
+    behind.dev before.steps behind.steps
+    × Keeps before.image behind.image
 
 -- Words without a plan are a wrong use, and this is told; or there was no memory to read them.
 abbrev pub WordsEnd : Option Plan → Sources → Status → (before behind : Outside) → Type 0

@@ -4,5 +4,6 @@ pub mod RefusalText
 pub mod Run
 pub mod Saved
 pub mod StatusNumber
+pub mod Stormed
 pub mod Texts
 pub mod Verdict

@@ -4,7 +4,6 @@ use Rattle.std.specs.Io.KnownBytes.{Appends, Keeps}
 use Rattle.nvm_base.specs.Parts.{AppendsPart}
 use Rattle.pmem.specs.Device.{Device}
 use Rattle.pool_layout.specs.declared.places.Version.TheVariants.{First, Second}
-use Rattle.pool_layout.specs.declared.wanted.ImageFault.{ImageFault}
 use Rattle.pool_layout.specs.declared.wanted.Wanted.{Wanted}
 use Rattle.pool_layout.specs.Bytes.{bytes_of, word_in}
 use Rattle.pool_layout.specs.Fault.{version_of, Accepts, Refuses}

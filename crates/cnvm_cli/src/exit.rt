@@ -2,6 +2,7 @@
 
 ghost use Rattle.std.specs.Prelude.{◌≡◌, ◌⊎◌, ◌<◌, map, string_bytes, None};
 ghost use Rattle.cnvm_words.specs.Asked.{plan_of};
+ghost use Rattle.cnvm_cli.specs.Ends.{Sources, Outside, WordsEnd};
 ghost use Rattle.cnvm_cli.specs.StatusNumber.{number_of};
 
 use crate::run::cnvm;
@@ -83,6 +84,7 @@ fn given_or_empty(alloc: Global, path: Option<Text>) -> Text {
 pub fn run_on<R: Files + Print + AllocGlobal>(rt: &R, words: &[String]) -> Status
     ensures usage { result ≡ Status.Usage → plan_of (map string_bytes words.entry.now) ≡ None }
     ensures wrong { plan_of (map string_bytes words.entry.now) ≡ None → (result ≡ Status.Usage) ⊎ ((result ≡ Status.NoMemory) ⊎ (result ≡ Status.WriteFault)) }
+    ensures ends { (told : Sources) × (before : Outside) × (behind : Outside) × WordsEnd (plan_of (map string_bytes words.entry.now)) told result before behind }
 {
     run_with::<R, Brand>(rt, words, Blank::new(1))
 }
@@ -97,6 +99,7 @@ fn run_with<R: Files + Print + AllocGlobal, L: Ledger>(
     requires some { 0 < blank.parts }
     ensures usage { result ≡ Status.Usage → plan_of (map string_bytes words.entry.now) ≡ None }
     ensures wrong { plan_of (map string_bytes words.entry.now) ≡ None → (result ≡ Status.Usage) ⊎ ((result ≡ Status.NoMemory) ⊎ (result ≡ Status.WriteFault)) }
+    ensures ends { (told : Sources) × (before : Outside) × (behind : Outside) × WordsEnd (plan_of (map string_bytes words.entry.now)) told result before behind }
 {
     let alloc = rt.alloc();
     let paths = paths_of(alloc, words);

@@ -5,7 +5,8 @@ ghost use Rattle.nvm_base.specs.Rose.{Rose};
 ghost use Rattle.pmem.specs.Device as device;
 ghost use Rattle.pool_layout.specs.Sizes.{pool_lines};
 ghost use Rattle.cnvm_words.specs.Asked.{plan_of};
-ghost use Rattle.cnvm_cli.specs.Ends.{start_if, PoolEnds, EndsSaved, JobEnds, RunEnds, PlanEnds, WordsEnd};
+ghost use Rattle.cnvm_cli.specs.Stormed.{StormedAs};
+ghost use Rattle.cnvm_cli.specs.Ends.{ListEnds, StormEnds, start_if, PoolEnds, EndsSaved, JobEnds, RunEnds, PlanEnds, WordsEnd};
 ghost use Rattle.cnvm_cli.specs.Opened.{OpenedAs, ImageEnds};
 ghost use Rattle.cnvm_cli.specs.Run.{RanAs, CommandsEnd};
 ghost use Rattle.cnvm_cli.specs.Texts.{PreparedAs};
@@ -377,6 +378,7 @@ fn list<S: Source, K: Sink>(alloc: Global, program: &mut S, out: &mut K) -> Stat
     ensures usage { result ≢ Status.Usage }
     ensures write { result ≡ Status.WriteFault → Rose (K.faults out.old) (K.faults out.new) }
     ensures device { result ≢ Status.DeviceFault }
+    ensures ends { ListEnds (S.left program.old) result (K.written out.old) (K.written out.new) }
 {
     let compiled = match read_program(alloc, program, LISTED) {
         Ok(compiled) => compiled,
@@ -403,6 +405,7 @@ fn run_storm<S: Source, K: Sink, P: Pmem, L: Ledger>(
     ensures usage { result ≢ Status.Usage }
     ensures write { result ≡ Status.WriteFault → Rose (K.faults out.old) (K.faults out.new) }
     ensures device { result ≡ Status.DeviceFault → device.Rose (P.device dev.old).faults (P.device dev.new).faults }
+    ensures ends { StormEnds asked start count (S.left program.old) result (K.written out.old) (K.written out.new) (P.device dev.old) (P.device dev.new) steps.old steps.new }
 {
     match read_program(alloc, program, asked) {
         Ok(compiled) => storm_over(alloc, &compiled.program, start, count, out, dev, steps),
@@ -423,6 +426,7 @@ fn storm_over<K: Sink, P: Pmem, L: Ledger>(
     ensures usage { result ≢ Status.Usage }
     ensures write { result ≡ Status.WriteFault → Rose (K.faults out.old) (K.faults out.new) }
     ensures device { result ≡ Status.DeviceFault → device.Rose (P.device dev.old).faults (P.device dev.new).faults }
+    ensures storms { StormedAs program.now start count result (K.written out.old) (K.written out.new) (P.device dev.old) (P.device dev.new) steps.old steps.new }
 {
     let mut session = match create(program, dev) {
         Ok(session) => session,

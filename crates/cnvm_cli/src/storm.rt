@@ -1,20 +1,24 @@
 //! A storm: a generated script, and how its commands were answered.
 
-ghost use Rattle.std.specs.Prelude.{◌≡◌, ◌≤◌, IsErrOf};
+ghost use Rattle.std.specs.Prelude.{◌≡◌, ◌<◌, ◌≤◌, ◌-◌, ◌^◌, min, length, Some, OnOk, OnErr, IfOk, IsErrOf, ◌⊎◌, string_bytes};
+ghost use Rattle.std.specs.Io.KnownBytes.{Appends, Keeps};
+ghost use Rattle.nvm_base.specs.Parts.{AppendsPart};
 ghost use Rattle.nvm_base.specs.Rose.{Rose};
 ghost use Rattle.pool_layout.specs.Sizes.{pool_lines};
+ghost use Rattle.c_types.specs.Shapes.{transactions_of};
+ghost use Rattle.cnvm_cli.specs.Stormed.{command_counted, answer_counted, counted, with_count, tally_text, no_tally, Counts, Rounds, Rages, TallyAll, TallyPart, StormsAll, StormsPart};
 
 use crate::writing::{Unwritten, put_answer};
 use cnvm_script::{Command, Storm};
 use cnvm_session::{Answer, Program, Session};
 use nvm_base::{Sink, Steps, write_all};
 use pmem::Pmem;
-use std::alloc::Global;
+use std::alloc::{AllocError, Global};
 use std::sync::ledger::Ledger;
 
 /// How many commands were answered in each way.
 #[derive(Clone, Copy, Debug, PartialEq, Eq)]
-struct Tally {
+pub(crate) struct Tally {
     calls: u64,
     done: u64,
     stopped: u64,
@@ -25,7 +29,9 @@ struct Tally {
 }
 
 impl Tally {
-    fn new() -> Tally {
+    fn new() -> Tally
+        ensures { result ≡ no_tally }
+    {
         Tally {
             calls: 0,
             done: 0,
@@ -37,26 +43,41 @@ impl Tally {
         }
     }
 
-    /// Counts one command.
-    fn count(&mut self, command: &Command, answer: &Answer) {
-        if let Command::Call { .. } = command {
-            self.calls = self.calls.saturating_add(1);
-        }
-        if let Some(count) = self.count_of(answer) {
-            *count = count.saturating_add(1);
+    /// Counts one command, and how it was answered.
+    fn count(&mut self, command: &Command, answer: &Answer)
+        ensures { self.new ≡ counted command.now answer.now self.old }
+    {
+        self.count_command(command);
+        self.count_answer(answer);
+    }
+
+    fn count_command(&mut self, command: &Command)
+        ensures { self.new ≡ command_counted command.now self.old }
+    {
+        match command {
+            Command::Call { .. } => self.calls = self.calls.saturating_add(1),
+            Command::Stop(_) => (),
+            Command::Fault(_) => (),
+            Command::Power(_) => (),
+            Command::Show => (),
+            Command::Last => (),
         }
     }
 
-    /// The count of answers like this one, none for an answer without a line.
-    fn count_of(&mut self, answer: &Answer) -> Option<&mut u64> {
+    /// An answer without a line doesn't count.
+    fn count_answer(&mut self, answer: &Answer)
+        ensures { self.new ≡ answer_counted answer.now self.old }
+    {
         match answer {
-            Answer::Silent => None,
-            Answer::Done { .. } => Some(&mut self.done),
-            Answer::Stopped(_) => Some(&mut self.stopped),
-            Answer::RecoveredRedone { .. } => Some(&mut self.redone),
-            Answer::RecoveredNone => Some(&mut self.none),
-            Answer::Trap(_) | Answer::RecoveredTrap(_) => Some(&mut self.trapped),
-            _ => Some(&mut self.other),
+            Answer::Silent => (),
+            Answer::Done { .. } => self.done = self.done.saturating_add(1),
+            Answer::Stopped(_) => self.stopped = self.stopped.saturating_add(1),
+            Answer::RecoveredRedone { .. } => self.redone = self.redone.saturating_add(1),
+            Answer::RecoveredNone => self.none = self.none.saturating_add(1),
+            Answer::Trap(_) | Answer::RecoveredTrap(_) => {
+                self.trapped = self.trapped.saturating_add(1)
+            }
+            _ => self.other = self.other.saturating_add(1),
         }
     }
 }
@@ -73,15 +94,38 @@ pub(crate) fn storm<K: Sink, P: Pmem, L: Ledger>(
     steps: &mut Steps<L>,
 ) -> Result<(), Unwritten>
     requires lines { (P.device dev.old).lines ≡ pool_lines program.now.image.parts.sizes }
+    ensures whole { OnOk result (StormsAll program.now start count session.old (P.device dev.old) (K.written out.old) steps.old (P.device dev.new) (K.written out.new) steps.new) }
+    ensures part { OnErr result (Keeps (K.written out.old) (K.written out.new) ⊎ StormsPart program.now start count session.old (P.device dev.old) (K.written out.old) steps.old (P.device dev.new) (K.written out.new) steps.new) }
+    ensures fault { IsErrOf result Unwritten.WriteFault → StormsPart program.now start count session.old (P.device dev.old) (K.written out.old) steps.old (P.device dev.new) (K.written out.new) steps.new }
     ensures write { IsErrOf result Unwritten.WriteFault → Rose (K.faults out.old) (K.faults out.new) }
 {
     let mut tally = Tally::new();
-    if let Err(why) = rounds(
+    if rounds(
         alloc, program, start, count, session, &mut tally, dev, steps,
-    ) {
-        return Err(why);
+    )
+    .is_err()
+    {
+        return Err(Unwritten::NoMemory);
     }
-    if let Err(why) = put_tally(alloc, &tally, out) {
+    put_counts(alloc, program, &tally, session, out, dev, steps)
+}
+
+/// Writes the summary and the answer of `last`.
+fn put_counts<K: Sink, P: Pmem, L: Ledger>(
+    alloc: Global,
+    program: &Program,
+    tally: &Tally,
+    session: &mut Session,
+    out: &mut K,
+    dev: &mut P,
+    steps: &mut Steps<L>,
+) -> Result<(), Unwritten>
+    requires lines { (P.device dev.old).lines ≡ pool_lines program.now.image.parts.sizes }
+    ensures whole { OnOk result (TallyAll program.now tally.now session.old (P.device dev.old) (K.written out.old) steps.old (P.device dev.new) (K.written out.new) steps.new) }
+    ensures part { OnErr result (TallyPart program.now tally.now session.old (P.device dev.old) (K.written out.old) steps.old (P.device dev.new) (K.written out.new) steps.new) }
+    ensures write { IsErrOf result Unwritten.WriteFault → Rose (K.faults out.old) (K.faults out.new) }
+{
+    if let Err(why) = put_tally(alloc, tally, out) {
         return Err(why);
     }
     let last = session.command(alloc, program, &Command::Last, dev, steps);
@@ -98,19 +142,48 @@ fn rounds<P: Pmem, L: Ledger>(
     tally: &mut Tally,
     dev: &mut P,
     steps: &mut Steps<L>,
-) -> Result<(), Unwritten>
+) -> Result<(), AllocError>
     requires lines { (P.device dev.old).lines ≡ pool_lines program.now.image.parts.sizes }
-    ensures write { IsErrOf result Unwritten.WriteFault → ⊥ }
+    ensures rages { OnOk result (Rages program.now start count tally.old session.old (P.device dev.old) steps.old tally.new session.new (P.device dev.new) steps.new) }
     ensures lines { (P.device dev.new).lines ≡ (P.device dev.old).lines }
 {
     if program.typed.txs() == 0 {
         return Ok(());
     }
-    let mut storm = Storm::new(u32::try_from(start).unwrap_or(u32::MAX));
+    let mut storm = Storm::new(seed(start));
+    run_rounds(
+        alloc, program, count, &mut storm, session, tally, dev, steps,
+    )
+}
+
+/// The number that the generator starts at.
+fn seed(start: u64) -> u32
+    ensures { result ≡ min start (2 ^ 32 - 1) }
+{
+    match u32::try_from(start) {
+        Ok(seed) => seed,
+        Err(_) => u32::MAX,
+    }
+}
+
+/// So many rounds, of a program that has a transaction.
+fn run_rounds<P: Pmem, L: Ledger>(
+    alloc: Global,
+    program: &Program,
+    count: u64,
+    storm: &mut Storm,
+    session: &mut Session,
+    tally: &mut Tally,
+    dev: &mut P,
+    steps: &mut Steps<L>,
+) -> Result<(), AllocError>
+    requires lines { (P.device dev.old).lines ≡ pool_lines program.now.image.parts.sizes }
+    requires some { 0 < length (transactions_of program.now.typed) }
+    ensures rounds { OnOk result (Rounds program.now storm.old count tally.old session.old (P.device dev.old) steps.old tally.new session.new (P.device dev.new) steps.new) }
+    ensures lines { (P.device dev.new).lines ≡ (P.device dev.old).lines }
+{
     for _ in 0..count {
-        let Ok(script) = storm.round(alloc, &program.typed) else {
-            return Err(Unwritten::NoMemory);
-        };
+        let script = storm.round(alloc, &program.typed)?;
         run_round(
             alloc,
             program,
@@ -124,6 +197,7 @@ fn rounds<P: Pmem, L: Ledger>(
     Ok(())
 }
 
+/// The commands of a round, each of which counts.
 fn run_round<P: Pmem, L: Ledger>(
     alloc: Global,
     program: &Program,
@@ -134,6 +208,7 @@ fn run_round<P: Pmem, L: Ledger>(
     steps: &mut Steps<L>,
 )
     requires lines { (P.device dev.old).lines ≡ pool_lines program.now.image.parts.sizes }
+    ensures counts { Counts program.now commands.now tally.old session.old (P.device dev.old) steps.old tally.new session.new (P.device dev.new) steps.new }
     ensures lines { (P.device dev.new).lines ≡ (P.device dev.old).lines }
 {
     for command in commands {
@@ -144,8 +219,22 @@ fn run_round<P: Pmem, L: Ledger>(
 
 /// The summary's line.
 fn put_tally<K: Sink>(alloc: Global, tally: &Tally, out: &mut K) -> Result<(), Unwritten>
+    ensures whole { OnOk result (Appends (K.written out.old) (K.written out.new) (tally_text tally.now)) }
+    ensures part { OnErr result (AppendsPart (K.written out.old) (K.written out.new) (tally_text tally.now)) }
     ensures write { IsErrOf result Unwritten.WriteFault → Rose (K.faults out.old) (K.faults out.new) }
     ensures count { K.faults out.old ≤ K.faults out.new }
+{
+    let Ok(line) = tally_line(alloc, tally) else {
+        return Err(Unwritten::NoMemory);
+    };
+    match write_all(out, line.as_str().as_bytes()) {
+        Ok(()) => Ok(()),
+        Err(_) => Err(Unwritten::WriteFault),
+    }
+}
+
+fn tally_line(alloc: Global, tally: &Tally) -> Result<String, AllocError>
+    ensures { IfOk result (λ s. string_bytes s ≡ tally_text tally.now) }
 {
     let Tally {
         calls,
@@ -156,13 +245,24 @@ fn put_tally<K: Sink>(alloc: Global, tally: &Tally, out: &mut K) -> Result<(), U
         trapped,
         other,
     } = *tally;
-    let Ok(line) = format!(in alloc;
-        "storm calls {calls} done {done} stopped {stopped} redone {redone} none {none} trapped {trapped} other {other}\n"
-    ) else {
-        return Err(Unwritten::NoMemory);
-    };
-    match write_all(out, line.as_str().as_bytes()) {
-        Ok(()) => Ok(()),
-        Err(_) => Err(Unwritten::WriteFault),
-    }
+    let mut line = String::new(alloc);
+    push_count(alloc, &mut line, "storm calls ", calls)?;
+    push_count(alloc, &mut line, " done ", done)?;
+    push_count(alloc, &mut line, " stopped ", stopped)?;
+    push_count(alloc, &mut line, " redone ", redone)?;
+    push_count(alloc, &mut line, " none ", none)?;
+    push_count(alloc, &mut line, " trapped ", trapped)?;
+    push_count(alloc, &mut line, " other ", other)?;
+    line.push_str("\n")?;
+    Ok(line)
+}
+
+/// One count, behind its name.
+fn push_count(alloc: Global, line: &mut String, name: &str, count: u64) -> Result<(), AllocError>
+    ensures { OnOk result (string_bytes line.new ≡ with_count (string_bytes line.old) name.now count) }
+{
+    let number = format!(in alloc; "{count}")?;
+    line.push_str(name)?;
+    line.push_str(number.as_str())?;
+    Ok(())
 }

@@ -1,4 +1,4 @@
-use Rattle.std.proofs.Common.{◌≡◌, ◌+◌, ◌-◌, ◌*◌, ◌++◌}
+use Rattle.std.proofs.Common.{◌≡◌, ◌-◌, ◌*◌, ◌++◌}
 use Rattle.cache_model.specs.Cache.{view}
 use Rattle.cnvm_session.specs.Shown.{words_from}
 use Rattle.cnvm_cli.proofs.image.words_of.Given as goal
