@@ -37,11 +37,11 @@ def local_names(n):
 
 
 def structs(n):
-    """255 structs, n functions that each make an object, write its fields and read them."""
-    text = "".join(f"struct S{i} {{ int64_t a; int64_t b; struct S{(i + 1) % 255} *next; }};\n" for i in range(255))
+    """254 structs, n functions that each make an object, write its fields and read them."""
+    text = "".join(f"struct S{i} {{ int64_t a; int64_t b; struct S{(i + 1) % 254} *next; }};\n" for i in range(254))
     text += ROOT % "struct S0 *first;"
     for i in range(n):
-        s = f"struct S{i % 255}"
+        s = f"struct S{i % 254}"
         text += f"int64_t f{i}({s} *p) {{ {s} *q = pm_new({s}); q->a = p->b; p->b = q->a; q->next = p->next; return 0; }}\n"
     return "", text + "tx int64_t go(int64_t a) { return f0(root.first); }\n"
 
