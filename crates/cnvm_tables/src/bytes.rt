@@ -216,6 +216,16 @@ const LIMITS: [(usize, usize, Status, &str); 4] = [
     (0, 1_048_577, Status::Script, "script too long\n"),
 ];
 
+/// So many blanks, or the counter for none.
+fn program_text(alloc: Global, count: usize) -> Result<String, AllocError> {
+    if 0 < count {
+        return blanks(alloc, count);
+    }
+    let mut text = String::new(alloc);
+    text.push_str(COUNTER)?;
+    Ok(text)
+}
+
 /// The first of these runs that ends otherwise.
 fn wrong_limit<L: Ledger>(alloc: Global, blank: Blank) -> Result<Option<&'static str>, AllocError>
     requires name { blank.name ≡ L.name }
@@ -224,10 +234,16 @@ fn wrong_limit<L: Ledger>(alloc: Global, blank: Blank) -> Result<Option<&'static
 {
     let mut steps: Steps<L> = Steps::new(blank);
     for (program, script, status, wanted) in LIMITS {
-        let text = blanks(alloc, program)?;
-        let text = if program == 0 { COUNTER } else { text.as_str() };
+        let text = program_text(alloc, program)?;
         let script = blanks(alloc, script)?;
-        if !text_ends(alloc, text, script.as_str(), status, wanted, &mut steps)? {
+        if !text_ends(
+            alloc,
+            text.as_str(),
+            script.as_str(),
+            status,
+            wanted,
+            &mut steps,
+        )? {
             return Ok(Some(wanted));
         }
     }
