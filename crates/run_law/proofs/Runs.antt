@@ -77,14 +77,14 @@ over_is (Stores w x ∷ es) u (inr r) = or_right (u == w) (is_overwritten es u) 
 over_is (Logs w ∷ es) u h = over_is es u h
 over_is (Still ∷ es) u h = over_is es u h
 
--- fewer words in E and more in W
-trace_weaker : (C H : ℕ) (E1 W1 E2 W2 : ℕ → Type 0) → ((u : ℕ) → E2 u → E1 u) → ((u : ℕ) → W1 u → W2 u) →
-    (n : ℕ) (stored : ℕ → Type 0) (trace : List Entry) → IsTrace C H E1 W1 n stored trace → IsTrace C H E2 W2 n stored trace
-trace_weaker C H E1 W1 E2 W2 f g n stored [] h = tt
-trace_weaker C H E1 W1 E2 W2 f g n stored (Plain w x ∷ trace) h =
-    (g w h.0, h.1, (λ e. h.2 (f w e)), trace_weaker C H E1 W1 E2 W2 f g n (λ u. (u ≡ w) ⊎ stored u) trace h.3)
-trace_weaker C H E1 W1 E2 W2 f g n stored (Logged w x ∷ trace) h =
-    (g w h.0, h.1, h.2, trace_weaker C H E1 W1 E2 W2 f g (suc n) (λ u. (u ≡ w) ⊎ stored u) trace h.3)
+-- a trace stays one with fewer inputs and with more words overwritten
+trace_weaker : (C H : ℕ) (inputs over inputs' over' : ℕ → Type 0) → ((u : ℕ) → inputs' u → inputs u) → ((u : ℕ) → over u → over' u) →
+    (n : ℕ) (stored : ℕ → Type 0) (trace : List Entry) → IsTrace C H inputs over n stored trace → IsTrace C H inputs' over' n stored trace
+trace_weaker C H inputs over inputs' over' f g n stored [] h = tt
+trace_weaker C H inputs over inputs' over' f g n stored (Plain w x ∷ trace) h =
+    (g w h.0, h.1, (λ e. h.2 (f w e)), trace_weaker C H inputs over inputs' over' f g n (λ u. (u ≡ w) ⊎ stored u) trace h.3)
+trace_weaker C H inputs over inputs' over' f g n stored (Logged w x ∷ trace) h =
+    (g w h.0, h.1, h.2, trace_weaker C H inputs over inputs' over' f g (suc n) (λ u. (u ≡ w) ⊎ stored u) trace h.3)
 
 pub run_is : (image : Image) (super : Words) (k : ℕ) (s : State) (heap : Words) (end : End) (es : List Effect) →
     AreLines (heap_words image.parts.sizes) s.dirty → run image k 0 s heap ≡ Finished end es → IsSoundRun end es →
