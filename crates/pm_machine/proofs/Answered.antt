@@ -20,7 +20,7 @@ use Rattle.pm_machine.specs.declared.answer.StepAnswer.TheVariants.{Next}
 use Rattle.pm_machine.proofs.Range.{keeps_step}
 use Rattle.pm_machine.specs.Machine.{State, Outcome, Goes, Ends, step, tally}
 use Rattle.pm_machine.specs.Runs.{AreLines, Due, end_of, outcome_of, effect_of, effect_in}
-use Rattle.pm_machine.specs.Answers.{step_answer, run_answer, Stepped, HasRun, Ran}
+use Rattle.pm_machine.specs.Answers.{step_answer, run_answer, Stepped, Ran}
 
 pub ran_of : (r : Result End Refusal) (x : Due) (n : ℕ) (d b : Device) (k k1 l l1 : ℕ) →
     IfOk r (λ e. e ≡ end_of x.fate) → OnOk r (PlaysAll d x.events b) → OnOk r (k1 ≡ k + x.steps) → OnOk r (l1 + n ≡ x.records + l) →

@@ -1,5 +1,5 @@
 -- The count of faults never falls.
-use Rattle.std.proofs.Common.{◌≡◌, inl, inr, ℕ, ◌<◌, ◌≤◌, List, [], ◌∷◌, Result, Ok, Err, OnOk, IfOk, IfErr, sym, ap, subst, arith}
+use Rattle.std.proofs.Common.{inl, inr, ℕ, ◌≤◌, List, [], ◌∷◌, Result, Ok, Err, OnOk, IfOk, IfErr, ap, arith}
 use Rattle.cache_model.specs.Event.{CacheEvent}
 use Rattle.pmem.specs.Device.{Device, Rose, spent}
 use Rattle.pmem.specs.Played.{PlaysAll, PlaysPart, Refuses}

@@ -1,3 +1,5 @@
+pub mod Stacks
+pub mod DirtyLines
 pub mod Range
 pub mod Leads
 pub mod Dues

@@ -47,6 +47,21 @@ impl RegisterWords {
         }
     }
 
+    /// All words, in order.
+    pub fn as_slice(&self) -> &[i64]
+        ensures { result.now ≡ self.now }
+    {
+        &self.all
+    }
+
+    /// Takes the words of as many other registers.
+    pub fn copy_from(&mut self, words: &[i64])
+        requires { length words.now ≡ length self.old }
+        ensures { self.new ≡ words.now }
+    {
+        self.all.copy_from_slice(words);
+    }
+
     /// All registers hold 0 again.
     pub fn clear(&mut self)
         ensures { self.new ≡ replicate (length self.old) (pos 0) }

@@ -1,33 +1,41 @@
 //! A stack of frames that has its room from the start, so that a call takes no memory.
 
-ghost use Rattle.std.specs.Prelude.{◌≡◌, ◌≢◌, ◌<◌, ◌≤◌, ◌+◌, ◌∷◌, [], ◌++◌, length, take, slice_get, Some, ◌-◌, IfOk, IfSome, IfNone};
-ghost use Rattle.std.specs.List.{AllByRecursion};
-ghost use Rattle.pm_machine.specs.Stack.{HasSize};
+ghost use Rattle.std.specs.Prelude.{◌≡◌, ◌+◌, ◌-◌, ◌*◌, ◌<◌, ◌≤◌, ◌++◌, ◌∷◌, [], Some, true, false, IfOk, length, take, slice_get, vec_capacity};
+ghost use Rattle.pm_machine.specs.Stack.{Stack};
 
-use crate::frame::{Frame, RegisterWords};
+use crate::frame::Frame;
 use std::alloc::{AllocError, Global};
 use std::marker::Model;
 
 /// How many callers the open function may have.
 pub const CALLERS: usize = 255;
 
-/// Frames of one size, seen with that size, the latest last.
+/// A frame but for its registers.
+#[derive(Clone, Copy, Debug, PartialEq, Eq)]
+pub struct Waiting {
+    pub function: u32,
+    pub place: usize,
+    pub to: u32,
+}
+
+/// Frames of one size, seen with that size, the latest last. The words of their registers stand in one
+/// list, frame behind frame.
 #[derive(Drop)]
 pub struct Frames {
-    all: Vec<Frame>,
+    waiting: Vec<Waiting>,
+    words: Vec<i64>,
     size: u32,
 }
 
 impl Model for Frames {
-    ghost use Rattle.std.specs.Prelude.{◌≤◌, vec_capacity};
-    ghost use Rattle.std.specs.List.{AllByRecursion};
-    ghost use Rattle.pm_machine.specs.Stack.{Stack, HasSize};
+    ghost use Rattle.std.specs.Prelude.{◌≡◌, ◌≤◌, ◌*◌, length, vec_capacity};
+    ghost use Rattle.pm_machine.specs.Stack.{Stack, frames_of};
 
     ghost Value = { Stack };
 
-    ghost view = { λ s. record { frames = s.all.items; size = s.size } };
+    ghost view = { λ s. record { frames = frames_of s.size s.waiting.items s.words.items; size = s.size } };
 
-    ghost invariant = { λ s. (255 ≤ vec_capacity s.all) × AllByRecursion (HasSize s.size) s.all.items };
+    ghost invariant = { λ s. (255 ≤ vec_capacity s.waiting) × (length s.waiting.items ≤ 255) × (255 * s.size ≤ vec_capacity s.words) × (length s.words.items ≡ s.size * length s.waiting.items) };
 }
 
 impl Frames {
@@ -36,36 +44,89 @@ impl Frames {
         ensures empty { IfOk result (λ s. s.frames ≡ []) }
         ensures size { IfOk result (λ s. s.size ≡ size) }
     {
-        let all = Vec::with_capacity(alloc, CALLERS)?;
-        Ok(Frames { all, size })
+        let waiting = Vec::with_capacity(alloc, CALLERS)?;
+        let words = Vec::with_capacity(alloc, CALLERS * size as usize)?;
+        Ok(Frames {
+            waiting,
+            words,
+            size,
+        })
     }
 
     pub fn len(&self) -> usize
-        ensures { result ≡ length self.now.frames }
+        ensures len { result ≡ length self.now.frames }
+        ensures most { result ≤ 255 }
     {
-        self.all.len()
+        self.waiting.len()
     }
 
     /// Puts a frame on top. There is room, so it takes no memory.
-    pub fn push(&mut self, frame: Frame)
+    pub fn push(&mut self, frame: &Frame)
         requires room { length self.old.frames < 255 }
-        requires size { length frame.registers ≡ self.old.size }
-        ensures frames { self.new.frames ≡ self.old.frames ++ frame ∷ [] }
+        requires size { length frame.now.registers ≡ self.old.size }
+        ensures frames { self.new.frames ≡ self.old.frames ++ frame.now ∷ [] }
         ensures size { self.new.size ≡ self.old.size }
     {
-        let _ = self.all.push(frame);
+        push_words(&mut self.words, frame.registers.as_slice());
+        push_waiting(
+            &mut self.waiting,
+            Waiting {
+                function: frame.function,
+                place: frame.place,
+                to: frame.to,
+            },
+        );
     }
 
-    /// Takes the frame on top.
-    pub fn pop(&mut self) -> Option<Frame>
-        ensures some { IfSome result (λ f. slice_get self.old.frames (length self.old.frames - 1) ≡ Some f) }
-        ensures others { IfSome result (λ _. self.new.frames ≡ take (length self.old.frames - 1) self.old.frames) }
-        ensures fewer { IfSome result (λ _. length self.old.frames ≡ length self.new.frames + 1) }
-        ensures sized { IfSome result (λ f. length f.registers ≡ self.old.size) }
-        ensures none { IfNone result (self.old.frames ≡ []) }
-        ensures empty { IfNone result (self.new.frames ≡ []) }
+    /// Takes the frame on top, and whether there is one.
+    pub fn pop(&mut self, frame: &mut Frame) -> bool
+        requires size { length frame.old.registers ≡ self.old.size }
+        ensures some { result ≡ true → slice_get self.old.frames (length self.old.frames - 1) ≡ Some frame.new }
+        ensures others { result ≡ true → self.new.frames ≡ take (length self.old.frames - 1) self.old.frames }
+        ensures sized { length frame.new.registers ≡ self.old.size }
+        ensures none { result ≡ false → self.old.frames ≡ [] }
+        ensures left { result ≡ false → frame.new ≡ frame.old }
+        ensures same { result ≡ false → self.new ≡ self.old }
         ensures size { self.new.size ≡ self.old.size }
     {
-        self.all.pop()
+        let Some(waiting) = self.waiting.pop() else {
+            return false;
+        };
+        let from = self.words.len() - self.size as usize;
+        frame.registers.copy_from(&self.words[from..]);
+        self.words.truncate(from);
+        frame.function = waiting.function;
+        frame.place = waiting.place;
+        frame.to = waiting.to;
+        true
+    }
+}
+
+/// Puts a frame's rest at the end, for which there is room.
+fn push_waiting(to: &mut Vec<Waiting>, waiting: Waiting)
+    requires { length to.old.items < vec_capacity to.old }
+    ensures items { to.new.items ≡ to.old.items ++ waiting ∷ [] }
+    ensures capacity { vec_capacity to.old ≤ vec_capacity to.new }
+{
+    let _ = to.push(waiting);
+}
+
+/// Puts a word at the end, for which there is room.
+fn push_word(to: &mut Vec<i64>, word: i64)
+    requires { length to.old.items < vec_capacity to.old }
+    ensures items { to.new.items ≡ to.old.items ++ word ∷ [] }
+    ensures capacity { vec_capacity to.old ≤ vec_capacity to.new }
+{
+    let _ = to.push(word);
+}
+
+/// Puts words at the end, for which there is room.
+fn push_words(to: &mut Vec<i64>, words: &[i64])
+    requires { length to.old.items + length words.now ≤ vec_capacity to.old }
+    ensures items { to.new.items ≡ to.old.items ++ words.now }
+    ensures capacity { vec_capacity to.old ≤ vec_capacity to.new }
+{
+    for word in words {
+        push_word(to, *word);
     }
 }

@@ -1,6 +1,6 @@
 //! A run in progress: what one line of the machine's table does to it, and what it asks of the device.
 
-ghost use Rattle.std.specs.Prelude.{◌≡◌, ◌≢◌, IfErr, IsOk, true, List, suc, ◌+◌, ◌-◌, ◌*◌, ◌/◌, ◌^◌, replicate, ◌<◌, ◌≤◌, ◌++◌, ◌∷◌, [], ℕ, pos, Option, Some, None, IfOk, IfSome, IfNone, OnOk, OnErr, IsErrOf, length, take, map, slice_get, option_copied, IsSome, if◌then◌else◌, ◌==◌};
+ghost use Rattle.std.specs.Prelude.{◌≡◌, ◌≢◌, IfErr, IsOk, true, List, suc, ◌+◌, ◌-◌, ◌*◌, ◌/◌, ◌^◌, replicate, ◌<◌, ◌≤◌, ◌++◌, ◌∷◌, [], ℕ, pos, Option, Some, None, IfOk, IfSome, IfNone, OnOk, OnErr, IsErrOf, length, take, drop, map, slice_get, option_copied, IsSome, if◌then◌else◌, ◌==◌};
 ghost use Rattle.std.specs.Option.{ForSome};
 ghost use Rattle.std.specs.Ordering.{int_eq};
 ghost use Rattle.pool_map.specs.declared.trap.TrapKind.TheVariants as trap;
@@ -39,26 +39,29 @@ pub enum Progress {
 }
 
 /// A run in progress: the open function, those below it, the ticks left, the LOG instructions done,
-/// and the dirty lines. Its frames are there from the start.
+/// and the dirty lines. The room for its frames is there from the start; the next function to be opened
+/// gets the registers that are spare.
 #[derive(Drop)]
 pub struct Machine {
     top: Frame,
     below: Frames,
-    spare: Frames,
+    spare: RegisterWords,
     ticks: u64,
     logged: u64,
-    dirty: IndexSet<u64>,
+    /// The lines stored to, in the order of first stores, and how many of them are flushed again.
+    lines: IndexSet<u64>,
+    flushed: usize,
 }
 
 impl Model for Machine {
-    ghost use Rattle.std.specs.Prelude.{◌≡◌, ◌+◌, length};
+    ghost use Rattle.std.specs.Prelude.{◌≡◌, ◌≤◌, length, drop};
     ghost use Rattle.pm_machine.specs.Machine.{State};
 
     ghost Value = { State };
 
-    ghost view = { λ m. record { top = m.top; below = m.below.frames; ticks = m.ticks; logged = m.logged; dirty = m.dirty.keys; size = length m.top.registers } };
+    ghost view = { λ m. record { top = m.top; below = m.below.frames; ticks = m.ticks; logged = m.logged; dirty = drop m.flushed m.lines.keys; size = length m.top.registers } };
 
-    ghost invariant = { λ m. (length m.below.frames + length m.spare.frames ≡ 255) × (m.below.size ≡ length m.top.registers) × (m.spare.size ≡ length m.top.registers) };
+    ghost invariant = { λ m. (m.below.size ≡ length m.top.registers) × (length m.spare ≡ length m.top.registers) × (m.flushed ≤ length m.lines.keys) };
 }
 
 fn index_of(x: i64) -> Option<u64>
@@ -78,6 +81,31 @@ fn word_at(heap_words: u64, x: i64) -> Option<u64>
     match index_of(x) {
         None => None,
         Some(w) => { if w < heap_words { Some(w) } else { None } }
+    }
+}
+
+/// Takes the first lines out of a set. Compiled code stores nothing behind its flushes, so there are
+/// none.
+#[tactic(auto, using(crate::proofs::DirtyLines::one_out))]
+fn drop_first(lines: &mut IndexSet<u64>, count: usize)
+    ensures { lines.new.keys ≡ drop count lines.old.keys }
+{
+    for _ in 0..count {
+        let _ = lines.shift_remove_index(0);
+    }
+}
+
+/// The line at a place of the set.
+#[tactic(auto, using(crate::proofs::DirtyLines::first_in, std::proofs::lemmas::Option::slice_get_past))]
+fn line_at(lines: &IndexSet<u64>, at: usize) -> Option<u64>
+    ensures value { result ≡ slice_get (drop at lines.now.keys) 0 }
+    ensures within { IsSome result → at < length lines.now.keys }
+    ensures small { IsSome result → at < 2 ^ 63 }
+{
+    if at < lines.len() {
+        lines.get_index(at).copied()
+    } else {
+        None
     }
 }
 
@@ -122,17 +150,22 @@ impl Machine {
         ensures ok { OnOk result (self.new ≡ stored self.old w) }
         ensures err { OnErr result (self.new ≡ self.old) }
     {
-        self.dirty.insert(w / 8)?;
+        drop_first(&mut self.lines, self.flushed);
+        self.flushed = 0;
+        self.lines.insert(w / 8)?;
         self.top.place += 1;
         Ok(())
     }
 
+    #[tactic(auto, using(crate::proofs::DirtyLines::next_out))]
     fn clean(&mut self) -> Option<u64>
         ensures value { result ≡ slice_get self.old.dirty 0 }
         ensures some { IfSome result (λ _. self.new ≡ cleaned self.old) }
         ensures none { IfNone result (self.new ≡ self.old) }
     {
-        self.dirty.shift_remove_index(0)
+        let line = line_at(&self.lines, self.flushed)?;
+        self.flushed += 1;
+        Some(line)
     }
 
     fn spend(&mut self)
@@ -156,23 +189,23 @@ fn place(from: &RegisterWords, to: &mut RegisterWords, args: &[u32])
 }
 
 impl Machine {
-    /// Opens a function on a spare frame, where one is left.
+    /// Opens a function on the spare registers, where there is room for its caller.
     fn enter(&mut self, r: u32, f: u32, args: &[u32]) -> bool
         requires { self.old.top.place < 2 ^ 63 }
         ensures meaning { (if result then Goes Quiet self.new else Ends (Trapped trap.Depth)) ≡ call self.old r f args.now }
         ensures logged { self.new.logged ≡ self.old.logged }
     {
-        let Some(mut frame) = self.spare.pop() else {
+        if self.below.len() == CALLERS {
             return false;
-        };
-        frame.registers.clear();
-        place(&self.top.registers, &mut frame.registers, args);
-        frame.function = f;
-        frame.place = 0;
-        frame.to = r;
+        }
+        self.spare.clear();
+        place(&self.top.registers, &mut self.spare, args);
         self.top.place += 1;
-        let caller = mem::replace(&mut self.top, frame);
-        self.below.push(caller);
+        self.below.push(&self.top);
+        mem::swap(&mut self.top.registers, &mut self.spare);
+        self.top.function = f;
+        self.top.place = 0;
+        self.top.to = r;
         true
     }
 
@@ -182,13 +215,13 @@ impl Machine {
         ensures logged { self.new.logged ≡ self.old.logged }
     {
         let value = self.read(a);
-        let Some(mut caller) = self.below.pop() else {
-            return Progress::Ended(End::Halted(value));
-        };
-        caller.registers.set(self.top.to as usize, value);
-        let done = mem::replace(&mut self.top, caller);
-        self.spare.push(done);
-        Progress::Did(Effect::Quiet)
+        let to = self.top.to;
+        if self.below.pop(&mut self.top) {
+            self.top.registers.set(to as usize, value);
+            Progress::Did(Effect::Quiet)
+        } else {
+            Progress::Ended(End::Halted(value))
+        }
     }
 }
 
@@ -425,28 +458,29 @@ impl Machine {
 }
 
 impl Machine {
-    /// A machine at the first place of a transaction. All its frames are reserved here. Transactions
-    /// are counted from 1.
+    /// A machine at the first place of a transaction. The room for all its frames is reserved here.
+    /// Transactions are counted from 1.
     pub fn new(alloc: Global, image: &Image, tx: u64, args: &[i64]) -> Result<Machine, AllocError>
         requires first { 1 ≤ tx }
         requires last { tx ≤ length image.now.parts.txs }
         ensures { IfOk result (λ m. m ≡ start image.now tx args.now) }
     {
         let size = image.largest();
-        let mut spare = Frames::new(alloc, size)?;
-        for _ in 0..CALLERS {
-            spare.push(blank_frame(alloc, size)?);
-        }
-        let mut top = blank_frame(alloc, size)?;
-        top.function = image.function(tx);
-        fill(&mut top.registers, args);
+        let mut registers = RegisterWords::blank(alloc, size)?;
+        fill(&mut registers, args);
         Ok(Machine {
-            top,
+            top: Frame {
+                function: image.function(tx),
+                place: 0,
+                to: 0,
+                registers,
+            },
             below: Frames::new(alloc, size)?,
-            spare,
+            spare: RegisterWords::blank(alloc, size)?,
             ticks: image.sizes().ticks(),
             logged: 0,
-            dirty: IndexSet::new(alloc),
+            lines: IndexSet::new(alloc),
+            flushed: 0,
         })
     }
 
@@ -456,18 +490,6 @@ impl Machine {
     {
         self.logged
     }
-}
-
-fn blank_frame(alloc: Global, size: u32) -> Result<Frame, AllocError>
-    ensures { IfOk result (λ f. f ≡ record { function = 0; place = 0; to = 0; registers = replicate size (pos 0) }) }
-{
-    let registers = RegisterWords::blank(alloc, size)?;
-    Ok(Frame {
-        function: 0,
-        place: 0,
-        to: 0,
-        registers,
-    })
 }
 
 /// Writes words into the first registers, one after another.

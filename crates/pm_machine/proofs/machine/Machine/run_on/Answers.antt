@@ -1,4 +1,4 @@
-use Rattle.std.proofs.Common.{◌≡◌, ◌+◌, ◌-◌, ◌≤◌, ℕ, Some, None, rules, sym, ap, subst, ◌∙◌, arith}
+use Rattle.std.proofs.Common.{◌≡◌, ◌+◌, ◌-◌, ◌≤◌, ℕ, Some, rules, sym, ap, subst, ◌∙◌, arith}
 use Rattle.pmem.specs.Played.{PlaysAll, PlaysPart}
 use Rattle.pm_machine.specs.Effects.{records_past}
 use Rattle.pm_machine.specs.declared.machine.Progress.{Progress}
