@@ -1,6 +1,6 @@
 -- A cache with one image is at rest where its view is; images before a call are at rest, and tell the same.
-use Rattle.std.proofs.Common.{◌≡◌, ◌≢◌, ◌⊎◌, inl, inr, ⊎_elim, ℕ, suc, ◌+◌, ◌-◌, ◌*◌, ◌^◌, ◌<◌, ◌≤◌, Bool, true, false, ◌&&◌, if◌then◌else◌, nat_lt, nat_le, ltb, ℤ, pos, ◌+ℤ◌, refl, sym, ap, ◌∙◌, subst, arith, int_eq, rules}
-use Rattle.std.proofs.lemmas.Bool.{ltb-false, ltb-true}
+use Rattle.std.proofs.Common.{◌≡◌, inl, ℕ, suc, ◌+◌, ◌-◌, ◌^◌, ◌<◌, ◌≤◌, Bool, true, false, ◌&&◌, if◌then◌else◌, nat_lt, nat_le, ltb, ℤ, pos, ◌+ℤ◌, refl, sym, ap, ◌∙◌, subst, arith, int_eq, rules}
+use Rattle.std.proofs.lemmas.Bool.{ltb-false}
 use Rattle.std.proofs.lemmas.Bool.Decides.{Decides-int_eq}
 use Rattle.cache_model.specs.Cache.{Words, Cache, view}
 use Rattle.cache_model.specs.Image.{IsImage, Images, HasOne}
@@ -8,11 +8,9 @@ use Rattle.pool_layout.specs.declared.limits.Sizes.{Sizes}
 use Rattle.pool_layout.specs.declared.places.Place.TheVariants.{Heap}
 use Rattle.pool_layout.specs.Places.{at, pool_of}
 use Rattle.pool_layout.specs.Sizes.{heap_words}
-use Rattle.clobber_log.specs.Logs.{attempt_of, attempt_in, count_in}
-use Rattle.args_log.specs.Pending.{is_sealed}
+use Rattle.clobber_log.specs.Logs.{attempt_of, count_in}
 use Rattle.recovery.specs.Found.{has_numbers}
-use Rattle.crash_law.specs.Pools.{Pool, Good, IsBefore}
-use Rattle.cnvm_session.specs.Shown.{heap_of}
+use Rattle.crash_law.specs.Pools.{Pool, IsBefore}
 use Rattle.cnvm_session.specs.Laws.{AreAlike, IsQuiet, IsResting}
 
 view_image : (c : Cache) → IsImage c (view c)

@@ -1,14 +1,13 @@
 -- The recovery of a pool at rest stores the attempt's word alone.
-use Rattle.std.proofs.Common.{◌≡◌, ◌≢◌, inl, inr, ℕ, zero, suc, ◌+◌, ◌*◌, ◌<◌, Bool, true, false, if◌then◌else◌, nat_lt, List, [], ◌∷◌, None, ℤ, pos, refl, sym, ap, ◌∙◌, subst, arith}
+use Rattle.std.proofs.Common.{◌≡◌, ◌≢◌, inl, inr, ℕ, zero, suc, if◌then◌else◌, nat_lt, List, [], ◌∷◌, ℤ, pos, refl, sym, ap, ◌∙◌, subst, arith}
 use Rattle.cache_model.specs.Event.{CacheEvent, Store, Flush, Fence}
 use Rattle.cache_model.specs.Cache.{Words, Cache, view}
 use Rattle.cache_model.specs.Play.{apply}
 use Rattle.cache_model.specs.Image.{Images}
-use Rattle.cache_model.specs.Collapse.{bad}
 use Rattle.cache_model.specs.declared.choice.Choice.{Choice}
 use Rattle.cache_model.proofs.Collapses.{left_image}
 use Rattle.cache_model.proofs.Views.{view_other, view_flush, view_fence}
-use Rattle.pmem.specs.Device.{Device, memory_of, powered, spent, off_of, failed_of}
+use Rattle.pmem.specs.Device.{Device, powered, spent}
 use Rattle.pmem.specs.Played.{PlaysAll, PlaysPart, Refuses}
 use Rattle.pmem.specs.declared.answer.Phase.TheVariants as phase
 use Rattle.pmem.specs.declared.answer.Refusal.{Refusal}

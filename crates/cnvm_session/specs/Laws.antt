@@ -1,5 +1,5 @@
 -- The laws of commands: at rest no power cut changes what a session tells of its pool, and a refused command changes nothing.
-use Rattle.std.specs.Prelude.{ℕ, ◌^◌, ◌<◌, ◌≡◌, ◌≢◌, ◌⊎◌, false, Option, None, ℤ, pos}
+use Rattle.std.specs.Prelude.{ℕ, ◌^◌, ◌<◌, ◌≡◌, ◌≢◌, ◌⊎◌, false, None, ℤ, pos}
 use Rattle.cache_model.specs.Cache.{Words, Cache, view}
 use Rattle.cache_model.specs.Image.{Images, HasOne}
 use Rattle.cache_model.specs.Collapse.{bad}
@@ -17,7 +17,7 @@ use Rattle.cnvm_script.specs.declared.command.Command.TheVariants as command
 use Rattle.cnvm_session.specs.declared.mode.Mode.{Mode}
 use Rattle.cnvm_session.specs.declared.mode.Mode.TheVariants.{Ready, Down, Unusable}
 use Rattle.cnvm_session.specs.declared.answer.Answer.{Answer}
-use Rattle.cnvm_session.specs.declared.answer.Answer.TheVariants.{Silent, Done, Trap, Stopped, DeviceFault, RecoveredNone, RecoveredRedone, RecoveredTrap, Shown, Last, NoMemory, RefusedDown, RefusedUnusable, RefusedUnknown, RefusedArity, RefusedNumbers, RefusedPick}
+use Rattle.cnvm_session.specs.declared.answer.Answer.TheVariants.{Stopped, DeviceFault, RecoveredNone, NoMemory, RefusedDown, RefusedUnusable, RefusedUnknown, RefusedArity, RefusedNumbers, RefusedPick}
 use Rattle.cnvm_session.specs.declared.program.Program.{Program}
 use Rattle.cnvm_session.specs.Shown.{heap_of}
 use Rattle.cnvm_session.specs.Commands.{fallen, Commanded}
