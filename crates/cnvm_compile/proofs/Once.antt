@@ -1,5 +1,5 @@
 -- The parser refuses at most one token of a list, and none of one that has a tree.
-use Rattle.std.proofs.Common.{◌≡◌, ℕ, zero, suc, ◌+◌, ◌<◌, ◌≤◌, List, [], ◌∷◌, Option, Some, None, Result, Ok, Err, length, slice_get, ⊎_elim, refl, sym, ap, ◌∙◌, subst, arith}
+use Rattle.std.proofs.Common.{◌≡◌, ℕ, zero, suc, ◌+◌, ◌<◌, ◌≤◌, List, [], ◌∷◌, Option, Some, None, Result, Ok, Err, length, slice_get, option_map, ⊎_elim, refl, sym, ap, ◌∙◌, subst, arith}
 use Rattle.std.proofs.lemmas.Bool.{cases_order}
 use Rattle.c_lexer.specs.Cuts.{answer}
 use Rattle.c_lexer.specs.TokenList.{Tokens, line_at}
@@ -10,12 +10,16 @@ use Rattle.c_parser.specs.declared.fault.ParseFault.TheVariants as parse
 use Rattle.c_parser.specs.declared.want.Want.{Want}
 use Rattle.c_parser.specs.declared.want.Want.TheVariants.{Items}
 use Rattle.c_parser.specs.Kinds.{token_kind}
-use Rattle.c_parser.specs.Program.{Program, tree_of}
+use Rattle.c_parser.specs.Program.{Program, line_of, tree_of}
 use Rattle.c_parser.specs.Wants.{step}
 use Rattle.c_parser.specs.Exact.{weigh, weights_from, weights, LightBefore, Agree, NoneBegins, SomeBegins, SomeSinks}
+use Rattle.c_types.specs.declared.broken.Broken.{Broken}
+use Rattle.c_types.specs.declared.fault.TypeFault.{TypeFault}
+use Rattle.c_types.specs.Broken.{least}
+use Rattle.c_types.specs.Fault.{fault_of, breaks, refusal}
 use Rattle.cnvm_compile.specs.declared.front_end.ProgramFault.{ProgramFault}
 use Rattle.cnvm_compile.specs.declared.front_end.ProgramFault.TheVariants.{Lex, Parse, Types, NoMemory}
-use Rattle.cnvm_compile.specs.FrontEnd.{IsTree, HasTree, RefusesToken, RefusesText}
+use Rattle.cnvm_compile.specs.FrontEnd.{IsTree, HasTree, Accepts, RefusesToken, RefusesText}
 use Rattle.cnvm_compile.specs.OneAnswer.{IsSame, IsOfTree, OneAnswer}
 use Rattle.cnvm_compile.proofs.Refusing.{weighed_within}
 
@@ -108,7 +112,14 @@ same_fault f g is = cc
 apart : (f : LexFault) (list : Tokens) → (let a : Lexed = Err f in let b : Lexed = Ok list in a ≡ b) → ⊥
 apart f list is = cc
 
-lists_same : (text : List ℕ) (one two : Tokens) → answer text ≡ Ok one → answer text ≡ Ok two → one ≡ two
+-- a tree has one refusal, or none
+same_rule : (f g : TypeFault) → (let a : Option TypeFault = Some f in let b : Option TypeFault = Some g in a ≡ b) → f ≡ g
+same_rule f g is = cc
+
+no_rule : (f : TypeFault) → (let a : Option TypeFault = None in let b : Option TypeFault = Some f in a ≡ b) → ⊥
+no_rule f is = cc
+
+pub lists_same : (text : List ℕ) (one two : Tokens) → answer text ≡ Ok one → answer text ≡ Ok two → one ≡ two
 lists_same text one two a b = same_list one two (sym a ∙ b)
 
 not_lexed : (text : List ℕ) (fault : LexFault) (list : Tokens) → answer text ≡ Err fault → answer text ≡ Ok list → ⊥
@@ -117,18 +128,18 @@ not_lexed text fault list a b = apart fault list (sym a ∙ b)
 refused_same : (text : List ℕ) (f g : ProgramFault) → RefusesText text f → RefusesText text g → IsSame f g
 refused_same text (Lex f) (Lex g) a b = ap Lex (same_fault f g (sym a.0 ∙ b.0))
 refused_same text (Lex f) (Parse g n) a b = absurd (not_lexed text f b.0 a.0 b.1)
-refused_same text (Lex f) (Types g) a b = absurd (not_lexed text f b.1.0 a.0 b.1.1)
+refused_same text (Lex f) (Types g) a b = absurd (not_lexed text f b.has.0 a.0 b.has.1)
 refused_same text (Parse f m) (Lex g) a b = absurd (not_lexed text g a.0 b.0 a.1)
 refused_same text (Parse f m) (Parse g n) a b =
     let list : b.0 ≡ a.0 = lists_same text b.0 a.0 b.1 a.1 in
     let p = one_token a.0 f g m n a.2 (subst (λ (l : Tokens). RefusesToken l g n) list b.2) in
     ap (λ f. Parse f m) p.0 ∙ ap (Parse g) p.1
 refused_same text (Parse f m) (Types g) a b =
-    absurd (none_refused a.0 b.0 f m (subst (λ (l : Tokens). IsTree l b.0) (lists_same text b.1.0 a.0 b.1.1 a.1) b.1.2) a.2)
-refused_same text (Types f) (Lex g) a b = absurd (not_lexed text g a.1.0 b.0 a.1.1)
+    absurd (none_refused a.0 b.tree f m (subst (λ (l : Tokens). IsTree l b.tree) (lists_same text b.has.0 a.0 b.has.1 a.1) b.has.2) a.2)
+refused_same text (Types f) (Lex g) a b = absurd (not_lexed text g a.has.0 b.0 a.has.1)
 refused_same text (Types f) (Parse g n) a b =
-    absurd (none_refused b.0 a.0 g n (subst (λ (l : Tokens). IsTree l a.0) (lists_same text a.1.0 b.0 a.1.1 b.1) a.1.2) b.2)
-refused_same text (Types f) (Types g) a b = tt
+    absurd (none_refused b.0 a.tree g n (subst (λ (l : Tokens). IsTree l a.tree) (lists_same text a.has.0 b.0 a.has.1 b.1) a.has.2) b.2)
+refused_same text (Types f) (Types g) a b = ap Types (same_rule f g (sym (a.each a.tree a.has) ∙ b.each a.tree a.has))
 refused_same text (Lex f) NoMemory a b = tt
 refused_same text (Parse f m) NoMemory a b = tt
 refused_same text (Types f) NoMemory a b = tt
@@ -141,5 +152,14 @@ tree_refused text tree (Parse f m) has a =
 tree_refused text tree (Types f) has a = tt
 tree_refused text tree NoMemory has a = tt
 
+kept_told : (tree : Program) → breaks tree ≡ [] → refusal tree ≡ None
+kept_told tree kept = ap (λ (bs : List Broken). option_map (λ b. fault_of b.rule (line_of tree b.place)) (least bs)) kept
+
+kept_refused : (text : List ℕ) (tree : Program) (f : ProgramFault) → Accepts text tree → RefusesText text f → f ≡ NoMemory
+kept_refused text tree (Lex f) kept a = absurd (tree_refused text tree (Lex f) kept.0 a)
+kept_refused text tree (Parse f m) kept a = absurd (tree_refused text tree (Parse f m) kept.0 a)
+kept_refused text tree (Types f) kept a = absurd (no_rule f (sym (kept_told tree kept.1) ∙ a.each tree kept.0))
+kept_refused text tree NoMemory kept a = refl
+
 pub once : OneAnswer
-once = record { refused = refused_same; tree = tree_refused }
+once = record { refused = refused_same; tree = tree_refused; accepted = kept_refused }

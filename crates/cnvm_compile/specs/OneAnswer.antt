@@ -1,20 +1,19 @@
--- One text, one answer of the front end, as far as its tokens and their tree go.
+-- One text, one answer of the front end.
 use Rattle.std.specs.Prelude.{ℕ, List, ◌≡◌, ⊤}
 use Rattle.c_parser.specs.Program.{Program}
 use Rattle.cnvm_compile.specs.declared.front_end.ProgramFault.{ProgramFault}
 use Rattle.cnvm_compile.specs.declared.front_end.ProgramFault.TheVariants.{Lex, Parse, Types, NoMemory}
-use Rattle.cnvm_compile.specs.FrontEnd.{HasTree, RefusesText}
+use Rattle.cnvm_compile.specs.FrontEnd.{HasTree, Accepts, RefusesText}
 
--- Two refusals are one. Want of memory says nothing, and of two broken rules nothing is said here.
+-- Two refusals are one. Want of memory says nothing.
 abbrev pub IsSame : ProgramFault → ProgramFault → Type 0
 IsSame NoMemory g = ⊤
 IsSame (Lex fault) NoMemory = ⊤
 IsSame (Parse fault line) NoMemory = ⊤
 IsSame (Types fault) NoMemory = ⊤
-IsSame (Types fault) (Types other) = ⊤
 IsSame (Lex fault) g = Lex fault ≡ g
 IsSame (Parse fault line) g = Parse fault line ≡ g
-IsSame (Types fault) g = ⊥
+IsSame (Types fault) g = Types fault ≡ g
 
 -- only a broken rule, or want of memory
 abbrev pub IsOfTree : ProgramFault → Type 0
@@ -26,3 +25,4 @@ IsOfTree (Parse fault line) = ⊥
 pub record OneAnswer : Type 0 where
   pub refused : (text : List ℕ) (f g : ProgramFault) → RefusesText text f → RefusesText text g → IsSame f g
   pub tree : (text : List ℕ) (tree : Program) (f : ProgramFault) → HasTree text tree → RefusesText text f → IsOfTree f
+  pub accepted : (text : List ℕ) (tree : Program) (f : ProgramFault) → Accepts text tree → RefusesText text f → f ≡ NoMemory

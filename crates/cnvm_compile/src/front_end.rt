@@ -4,7 +4,7 @@ ghost use Rattle.std.specs.Prelude.{◌≡◌, ◌≤◌, [], Ok, IfOk, IfErr, l
 ghost use Rattle.c_lexer.specs.Cuts.{answer};
 ghost use Rattle.c_lexer.specs.TokenList.{line_at};
 ghost use Rattle.c_types.specs.Fault.{breaks};
-ghost use Rattle.cnvm_compile.specs.FrontEnd.{IsTree, Accepts, RefusesList, RefusesTree, RefusesText};
+ghost use Rattle.cnvm_compile.specs.FrontEnd.{IsTree, IsOnlyTree, Accepts, RefusesList, RefusesTree, RefusesText};
 
 use c_lexer::{LexFault, TokenList, tokens};
 use c_parser::{Ast, ParseFault, parse};
@@ -24,6 +24,7 @@ pub enum ProgramFault {
 }
 
 /// The checked tree of a text.
+#[tactic(auto, using(crate::proofs::Trees::text_refused))]
 pub(crate) fn typed_of(alloc: Global, text: &[u8]) -> Result<Typed, ProgramFault>
     ensures accepted { IfOk result (λ typed. Accepts text.now typed) }
     ensures refused { IfErr result (λ fault. RefusesText text.now fault) }
@@ -49,6 +50,7 @@ fn list_of(alloc: Global, text: &[u8]) -> Result<TokenList, ProgramFault>
 /// The tree of a list of tokens.
 fn tree_of(alloc: Global, list: &TokenList) -> Result<Ast, ProgramFault>
     ensures ok { IfOk result (λ ast. IsTree list.now ast) }
+    ensures only { IfOk result (λ ast. IsOnlyTree list.now ast) }
     ensures err { IfErr result (λ fault. RefusesList list.now fault) }
 {
     match parse(alloc, list) {

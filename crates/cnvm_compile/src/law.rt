@@ -2,8 +2,8 @@
 
 ghost use Rattle.cnvm_compile.specs.OneAnswer.{OneAnswer};
 
-/// One text has one answer of the front end, as far as its tokens and their tree go: at most one refusal
-/// of the lexer or the parser, and none where it has a tree. It does nothing.
+/// One text has one answer of the front end: at most one refusal, none of the lexer or the parser where
+/// it has a tree, and none at all where it has a tree that breaks no rule. It does nothing.
 pub fn answer_law()
     ensures { OneAnswer }
 {}
