@@ -1,5 +1,5 @@
 -- A call that finds no memory for its words.
-use Rattle.std.proofs.Common.{ℕ, List, Option, Some, None, inl, inr, refl}
+use Rattle.std.proofs.Common.{Option, Some, None, inl, inr, refl}
 use Rattle.std.specs.Io.KnownBytes.{Keeps}
 use Rattle.cnvm_words.specs.declared.plan.Plan.{Plan}
 use Rattle.cnvm_words.specs.declared.plan.Plan.TheVariants as plan

@@ -1,6 +1,8 @@
+pub mod Complete
 pub mod Ends
 pub mod Opened
 pub mod RefusalText
+pub mod Read
 pub mod Run
 pub mod Saved
 pub mod StatusNumber

@@ -1,6 +1,7 @@
 //! What the sources hold: the program, the script, and an image.
 
-ghost use Rattle.std.specs.Prelude.{◌≡◌, ◌≤◌, ◌^◌, ℕ, List, Some, IfErr, IsErrOf};
+ghost use Rattle.std.specs.Prelude.{◌≡◌, ◌≤◌, ◌^◌, ℕ, List, Some, IfErr, OnOk, IsErrOf};
+ghost use Rattle.std.specs.Io.KnownBytes.{IsAtEnd};
 ghost use Rattle.nvm_base.specs.Rose.{Rose};
 ghost use Rattle.cnvm_cli.specs.Verdict.{refused_by};
 ghost use Rattle.cnvm_cli.specs.Opened.{wanted_of, ImageIs, ImageReadAs};
@@ -25,6 +26,7 @@ const SCRIPT_LIMIT: usize = 1048576;
 fn read_text<S: Source>(alloc: Global, source: &mut S, limit: usize) -> Result<Bytes, ReadAllFault>
     requires { limit ≤ 2 ^ 31 }
     ensures told { (text : List ℕ) → S.left source.old ≡ Some text → TextIs limit result text }
+    ensures end { OnOk result (IsAtEnd (S.left source.new)) }
     ensures read { IsErrOf result ReadAllFault.ReadFault → Rose (S.faults source.old) (S.faults source.new) }
 {
     read_all(alloc, source, limit)
@@ -37,6 +39,7 @@ pub(crate) fn read_program<S: Source>(
     asked: Asked,
 ) -> Result<Compiled, Refused>
     ensures told { (text : List ℕ) → S.left source.old ≡ Some text → ProgramIs asked result text }
+    ensures end { OnOk result (IsAtEnd (S.left source.new)) }
     ensures read { IsErrOf result Refused.ReadFault → Rose (S.faults source.old) (S.faults source.new) }
     ensures usage { IsErrOf result Refused.Usage → ⊥ }
     ensures device { IsErrOf result Refused.Device → ⊥ }
@@ -82,6 +85,7 @@ fn refused_by(told: Told) -> Refused
 /// Reads the script to its end.
 pub(crate) fn read_commands<T: Source>(alloc: Global, source: &mut T) -> Result<Script, Refused>
     ensures told { (text : List ℕ) → T.left source.old ≡ Some text → ScriptIs result text }
+    ensures end { OnOk result (IsAtEnd (T.left source.new)) }
     ensures read { IsErrOf result Refused.ReadFault → Rose (T.faults source.old) (T.faults source.new) }
     ensures usage { IsErrOf result Refused.Usage → ⊥ }
     ensures device { IsErrOf result Refused.Device → ⊥ }

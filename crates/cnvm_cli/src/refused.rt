@@ -1,6 +1,6 @@
 //! Why there is nothing to run, and what is told of it.
 
-ghost use Rattle.std.specs.Prelude.{◌≡◌, ◌⊎◌, ◌<◌, ◌++◌, ◌∷◌, [], IfOk, OnOk, string_bytes};
+ghost use Rattle.std.specs.Prelude.{◌≡◌, ◌≢◌, ◌⊎◌, ◌<◌, ◌++◌, ◌∷◌, [], IfOk, OnOk, string_bytes};
 ghost use Rattle.nvm_base.specs.Rose.{Rose};
 ghost use Rattle.cnvm_cli.specs.RefusalText.{digit, hex, word_text, digest_text, fault_line, refusal_line, image_has_line, has_line, image_status, refusal_status};
 ghost use Rattle.cnvm_cli.specs.Run.{RefusedAs};
@@ -40,6 +40,7 @@ const USAGE: &str = "usage: cnvm run PROGRAM SCRIPT | list PROGRAM | storm PROGR
 pub(crate) fn refuse<K: Sink>(alloc: Global, refused: Refused, out: &mut K) -> Status
     ensures refused { RefusedAs refused result (K.written out.old) (K.written out.new) }
     ensures status { (result ≡ refusal_status refused) ⊎ ((result ≡ Status.NoMemory) ⊎ (result ≡ Status.WriteFault)) }
+    ensures undone { result ≢ Status.Done }
     ensures write { result ≡ Status.WriteFault → (refusal_status refused ≡ Status.WriteFault) ⊎ Rose (K.faults out.old) (K.faults out.new) }
 {
     if has_line(refused) {
@@ -81,7 +82,8 @@ fn image_has_line(fault: ImageFault) -> bool
 }
 
 fn refusal_status(refused: Refused) -> Status
-    ensures { result ≡ refusal_status refused }
+    ensures value { result ≡ refusal_status refused }
+    ensures undone { result ≢ Status.Done }
 {
     match refused {
         Refused::Usage => Status::Usage,
@@ -97,7 +99,8 @@ fn refusal_status(refused: Refused) -> Status
 }
 
 fn image_status(fault: ImageFault) -> Status
-    ensures { result ≡ image_status fault }
+    ensures value { result ≡ image_status fault }
+    ensures undone { result ≢ Status.Done }
 {
     match fault {
         ImageFault::Short(_, _) => Status::Image,

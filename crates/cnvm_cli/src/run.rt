@@ -1,6 +1,7 @@
 //! The top call.
 
-ghost use Rattle.std.specs.Prelude.{◌≡◌, ◌≢◌, ◌⊎◌, None, map, string_bytes, IsErrOf};
+ghost use Rattle.std.specs.Prelude.{◌≡◌, ◌≢◌, ◌⊎◌, None, map, string_bytes, OnOk, IfSome, IsErrOf};
+ghost use Rattle.std.specs.Io.KnownBytes.{IsAtEnd};
 ghost use Rattle.nvm_base.specs.Rose.{Rose};
 ghost use Rattle.pmem.specs.Device as device;
 ghost use Rattle.pool_layout.specs.Sizes.{pool_lines};
@@ -8,6 +9,8 @@ ghost use Rattle.cnvm_words.specs.Asked.{plan_of};
 ghost use Rattle.cnvm_cli.specs.Stormed.{StormedAs};
 ghost use Rattle.cnvm_cli.specs.Ends.{ListEnds, StormEnds, start_if, PoolEnds, EndsSaved, JobEnds, RunEnds, PlanEnds, WordsEnd};
 ghost use Rattle.cnvm_cli.specs.Opened.{OpenedAs, ImageEnds};
+ghost use Rattle.cnvm_cli.specs.Read.{IsRead};
+ghost use Rattle.cnvm_cli.specs.Complete.{IsServed, IsRefusal};
 ghost use Rattle.cnvm_cli.specs.Run.{RanAs, CommandsEnd};
 ghost use Rattle.cnvm_cli.specs.Texts.{PreparedAs};
 
@@ -43,6 +46,10 @@ pub fn cnvm<S: Source, T: Source, I: Source, K: Sink, O: Sink, P: Pmem, L: Ledge
     ensures usage { result ≡ Status.Usage → plan_of (map string_bytes words.entry.now) ≡ None }
     ensures wrong { plan_of (map string_bytes words.entry.now) ≡ None → (result ≡ Status.Usage) ⊎ ((result ≡ Status.NoMemory) ⊎ (result ≡ Status.WriteFault)) }
     ensures ends { WordsEnd (plan_of (map string_bytes words.entry.now)) (record { program = S.left world.old.program; script = T.left world.old.script; image = I.left world.old.image_in }) result (record { out = K.written world.old.out; image = O.written world.old.image_out; dev = P.device world.old.dev; steps = steps.old }) (record { out = K.written world.new.out; image = O.written world.new.image_out; dev = P.device world.new.dev; steps = steps.new }) }
+    // With status 0 the sources were read to their ends.
+    ensures end { result ≡ Status.Done → IfSome (plan_of (map string_bytes words.entry.now)) (λ plan. IsRead plan (S.left world.new.program) (T.left world.new.script)) }
+    // What is accepted isn't refused.
+    ensures complete { IfSome (plan_of (map string_bytes words.entry.now)) (λ plan. IsServed plan (record { program = S.left world.old.program; script = T.left world.old.script; image = I.left world.old.image_in }) → IsRefusal result → ⊥) }
 {
     match plan_of(alloc, words) {
         Ok(plan) => run_plan(alloc, &plan, world, steps),
@@ -62,6 +69,7 @@ fn run_plan<S: Source, T: Source, I: Source, K: Sink, O: Sink, P: Pmem, L: Ledge
     ensures write { result ≡ Status.WriteFault → Rose (K.faults world.old.out) (K.faults world.new.out) ⊎ Rose (O.faults world.old.image_out) (O.faults world.new.image_out) }
     ensures device { result ≡ Status.DeviceFault → device.Rose (P.device world.old.dev).faults (P.device world.new.dev).faults }
     ensures usage { result ≢ Status.Usage }
+    ensures end { result ≡ Status.Done → IsRead plan.now (S.left world.new.program) (T.left world.new.script) }
     ensures ends { PlanEnds plan.now (record { program = S.left world.old.program; script = T.left world.old.script; image = I.left world.old.image_in }) result (record { out = K.written world.old.out; image = O.written world.old.image_out; dev = P.device world.old.dev; steps = steps.old }) (record { out = K.written world.new.out; image = O.written world.new.image_out; dev = P.device world.new.dev; steps = steps.new }) }
 {
     match plan {
@@ -130,6 +138,8 @@ fn read_job<S: Source, T: Source>(
     script: &mut T,
 ) -> Result<Job, Refused>
     ensures told { PreparedAs result asked (S.left program.old) (T.left script.old) }
+    ensures program_end { OnOk result (IsAtEnd (S.left program.new)) }
+    ensures script_end { OnOk result (IsAtEnd (T.left script.new)) }
     ensures read { IsErrOf result Refused.ReadFault → Rose (S.faults program.old) (S.faults program.new) ⊎ Rose (T.faults script.old) (T.faults script.new) }
     ensures usage { IsErrOf result Refused.Usage → ⊥ }
     ensures device { IsErrOf result Refused.Device → ⊥ }
@@ -160,6 +170,8 @@ fn run<S: Source, T: Source, I: Source, K: Sink, O: Sink, P: Pmem, L: Ledger>(
     ensures write { result ≡ Status.WriteFault → Rose (K.faults world.old.out) (K.faults world.new.out) ⊎ Rose (O.faults world.old.image_out) (O.faults world.new.image_out) }
     ensures device { result ≡ Status.DeviceFault → device.Rose (P.device world.old.dev).faults (P.device world.new.dev).faults }
     ensures usage { result ≢ Status.Usage }
+    ensures program_end { result ≡ Status.Done → IsAtEnd (S.left world.new.program) }
+    ensures script_end { result ≡ Status.Done → IsAtEnd (T.left world.new.script) }
     ensures ends { RunEnds asked (record { program = S.left world.old.program; script = T.left world.old.script; image = I.left world.old.image_in }) opens saves result (record { out = K.written world.old.out; image = O.written world.old.image_out; dev = P.device world.old.dev; steps = steps.old }) (record { out = K.written world.new.out; image = O.written world.new.image_out; dev = P.device world.new.dev; steps = steps.new }) }
 {
     match read_job(alloc, asked, &mut world.program, &mut world.script) {
@@ -378,6 +390,7 @@ fn list<S: Source, K: Sink>(alloc: Global, program: &mut S, out: &mut K) -> Stat
     ensures usage { result ≢ Status.Usage }
     ensures write { result ≡ Status.WriteFault → Rose (K.faults out.old) (K.faults out.new) }
     ensures device { result ≢ Status.DeviceFault }
+    ensures end { result ≡ Status.Done → IsAtEnd (S.left program.new) }
     ensures ends { ListEnds (S.left program.old) result (K.written out.old) (K.written out.new) }
 {
     let compiled = match read_program(alloc, program, LISTED) {
@@ -405,6 +418,7 @@ fn run_storm<S: Source, K: Sink, P: Pmem, L: Ledger>(
     ensures usage { result ≢ Status.Usage }
     ensures write { result ≡ Status.WriteFault → Rose (K.faults out.old) (K.faults out.new) }
     ensures device { result ≡ Status.DeviceFault → device.Rose (P.device dev.old).faults (P.device dev.new).faults }
+    ensures end { result ≡ Status.Done → IsAtEnd (S.left program.new) }
     ensures ends { StormEnds asked start count (S.left program.old) result (K.written out.old) (K.written out.new) (P.device dev.old) (P.device dev.new) steps.old steps.new }
 {
     match read_program(alloc, program, asked) {
