@@ -18,11 +18,8 @@ LEFT = {  # what the lines behind `no memory` may be
     "recovered none\nroot n=0\nlast 0 0\n", "recovered none\nroot n=5\nlast 1 5\n",
     "recovered redone 5 log 1\nroot n=5\nlast 1 5\n",
 }
-<<<<<<< HEAD
 ANSWERS = {"refused down\n"} | {line for left in LEFT for line in left.splitlines(keepends=True)}
 ANSWERS |= {f"stopped {phase}\n" for phase in ("unsealed", "sealing", "sealed")}
-=======
->>>>>>> 90a8d1c (Tables of runs in memory, and the driver that compares compiled calls, uncut and cut, with the interpreter)
 RUNS = {
     "call": ("call inc 5\n" + BEHIND, [], "= 5 log 1\nrecovered none\nroot n=5\nlast 1 5\n"),
     "cut": ("stop 13\ncall inc 5\npower new\nshow\n" + BEHIND, [],
@@ -46,27 +43,15 @@ def run(room, refuse, words, number):
 def judge(status, out, whole):
     """What kind of ending this is, or None where it is none that may be."""
     if status in (1, 5, 6):
-<<<<<<< HEAD
         return f"status {status}" if whole.startswith(out) else None
     if status != 0 or out.count("\n") != whole.count("\n"):
-=======
-        return f"status {status}" if whole.startswith(out) or "no memory\n" in out else None
-    if status != 0:
->>>>>>> 90a8d1c (Tables of runs in memory, and the driver that compares compiled calls, uncut and cut, with the interpreter)
         return None
     if "no memory\n" not in out:
         return "whole" if out == whole else None
     before, behind = out.split("no memory\n", 1)
-<<<<<<< HEAD
     lines = behind.splitlines(keepends=True)
     right = whole.startswith(before) and all(line in ANSWERS for line in lines)
     return "no memory" if right and (len(lines) < 3 or "".join(lines[-3:]) in LEFT) else None
-=======
-    if not whole.startswith(before):
-        return None
-    last = "".join(line + "\n" for line in behind.split("\n")[:-1][-3:])
-    return "no memory" if last in LEFT or behind.count("\n") < 3 or "no memory\n" in behind else None
->>>>>>> 90a8d1c (Tables of runs in memory, and the driver that compares compiled calls, uncut and cut, with the interpreter)
 
 
 def main():
