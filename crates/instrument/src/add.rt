@@ -2,6 +2,7 @@
 
 ghost use Rattle.std.specs.Prelude.{◌≡◌, ◌++◌, ◌<◌, ◌^◌, length, IfOk, OnOk};
 ghost use Rattle.instrument.specs.Insert.{logs, led, logged_from, with_flags, logged_code, logged_function, logged_program};
+ghost use Rattle.instrument.specs.Short.{IsShort};
 ghost use Rattle.ir.specs.WellFormed.{IsWellFormed};
 
 use crate::places::{flag_at, flags, place_in, places};
@@ -135,10 +136,9 @@ fn logged_function(
     })
 }
 
-/// The program with a log right before each store that the marks name, and with the flag of each
-/// `new` whose fill they name. Each jump that led to such a store leads to its log. Functions past
-/// the 2^32nd, which no well formed program has, are read under the marks of the last.
-pub fn add_logs(alloc: Global, ir: &Ir, marks: &MarkTable) -> Result<Ir, AllocError>
+/// The program with its logs. Functions past the 2^32nd, which no well formed program has, are read
+/// under the marks of the last.
+fn logged_program(alloc: Global, ir: &Ir, marks: &MarkTable) -> Result<Ir, AllocError>
     ensures { IsWellFormed ir.now → IfOk result (λ r. r ≡ logged_program marks.now ir.now) }
 {
     let mut functions = IrFunctions::new(alloc);
@@ -151,4 +151,14 @@ pub fn add_logs(alloc: Global, ir: &Ir, marks: &MarkTable) -> Result<Ir, AllocEr
         functions,
         shapes: ir.shapes.copy(alloc)?,
     })
+}
+
+/// The program with a log right before each store that the marks name, and with the flag of each
+/// `new` whose fill they name. Each jump that led to such a store leads to its log. Where each function
+/// has fewer than 2^30 instructions, the program is well formed with its logs too.
+pub fn add_logs(alloc: Global, ir: &Ir, marks: &MarkTable) -> Result<Ir, AllocError>
+    ensures code { IsWellFormed ir.now → IfOk result (λ r. r ≡ logged_program marks.now ir.now) }
+    ensures well_formed { IsWellFormed ir.now → IsShort ir.now → IfOk result (λ r. IsWellFormed r) }
+{
+    logged_program(alloc, ir, marks)
 }

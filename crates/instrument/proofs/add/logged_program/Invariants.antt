@@ -1,7 +1,7 @@
 use Rattle.std.proofs.Common.{◌≡◌, ◌++◌, ◌<◌, ◌^◌, drop}
 use Rattle.instrument.specs.Insert.{logged_functions}
 use Rattle.ir.specs.WellFormed.{IsWellFormed}
-use Rattle.instrument.proofs.add.add_logs.Given as goal
+use Rattle.instrument.proofs.add.logged_program.Given as goal
 
 abbrev pub invariant-loop-function : goal.invariant-loop-function
 invariant-loop-function l =
