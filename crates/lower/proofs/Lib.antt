@@ -14,3 +14,4 @@ pub mod Alike
 pub mod StmtSound
 pub mod Sound
 pub mod Whole
+pub mod Lengths

@@ -11,6 +11,7 @@ ghost use Rattle.ir.specs.WellFormed.{IsWellFormed};
 ghost use Rattle.lower.specs.Added.{ParameterAdded, ParametersAdded, context_of};
 ghost use Rattle.lower.specs.Program as programs;
 ghost use Rattle.lower.specs.Program.{lowered};
+ghost use Rattle.lower.specs.Short.{IsShort};
 
 use crate::assigned::is_assigned;
 use crate::checked::is_well_formed;
@@ -35,6 +36,7 @@ use std::alloc::{AllocError, Global};
 pub fn lower(alloc: Global, typed: &Typed) -> Result<Ir, AllocError>
     ensures code { IfOk result (λ ir. breaks typed.now ≡ [] → ir ≡ lowered typed.now) }
     ensures well_formed { IfOk result (λ ir. IsWellFormed ir) }
+    ensures short { IfOk result (λ ir. IsShort ir) }
     ensures shapes { IfOk result (λ ir. ir.shapes ≡ shapes_of typed.now) }
 {
     let ast = typed.ast();
@@ -52,6 +54,7 @@ pub fn lower(alloc: Global, typed: &Typed) -> Result<Ir, AllocError>
 fn kept(alloc: Global, ir: Ir) -> Ir
     ensures same { IsWellFormed ir → result ≡ ir }
     ensures well_formed { IsWellFormed result }
+    ensures short { IsShort ir → IsShort result }
     ensures shapes { result.shapes ≡ ir.shapes }
 {
     if is_well_formed(&ir) {
@@ -60,9 +63,10 @@ fn kept(alloc: Global, ir: Ir) -> Ir
     nothing(alloc, ir.shapes)
 }
 
-/// No functions, which are well formed.
+/// No functions, which are well formed and short.
 fn nothing(alloc: Global, shapes: Shapes) -> Ir
     ensures well_formed { IsWellFormed result }
+    ensures short { IsShort result }
     ensures shapes { result.shapes ≡ shapes }
 {
     Ir {

@@ -3,6 +3,7 @@ use Rattle.c_parser.specs.ItemTree.{items_in}
 use Rattle.c_parser.specs.Program.{Program}
 use Rattle.c_types.specs.Tables.{tables_of}
 use Rattle.c_types.specs.Views.{tables_in}
+use Rattle.lower.proofs.Lengths.{lowered_short}
 use Rattle.lower.proofs.Whole.{answered, answered_many}
 use Rattle.lower.proofs.functions.lower.Goals as goal
 
@@ -19,3 +20,6 @@ returns-clause-code c =
     (rw (c.functions-2.ensures, c.ast-ast.ensures) at c.in_ok-functions.ensures.code)
     (rw (c.functions-2.ensures, c.ast-ast.ensures) at c.in_ok-functions.ensures.counted)
     (c.in_ok-shapes.ensures ∙ c.shapes.ensures) c.kept.ensures.same
+
+pub returns-clause-short : goal.returns-clause-short
+returns-clause-short c = c.kept.ensures.short (lowered_short _ _ _ c.in_ok-functions.functions c.in_ok-functions.ensures.code c.in_ok-functions.ensures.counted)
