@@ -1,5 +1,5 @@
 -- What is written for the parts of an expression, put together.
-use Rattle.std.proofs.Common.{◌≡◌, ℕ, ℤ, suc, ◌+◌, ◌<◌, pos, negsuc, List, [], ◌∷◌, ◌++◌, length, refl, sym, ap, ◌∙◌, arith, append_assoc, length-append, length-set}
+use Rattle.std.proofs.Common.{◌≡◌, ℕ, ℤ, suc, ◌+◌, pos, negsuc, List, [], ◌∷◌, ◌++◌, length, refl, sym, ap, ◌∙◌, arith, append_assoc, length-append, length-set}
 use Rattle.std.specs.Prelude.{slice_set, false, None, Some}
 use Rattle.std.proofs.lemmas.List.{append-nil}
 use Rattle.std.proofs.Math.Seq.{set-append_seam}
@@ -13,7 +13,7 @@ use Rattle.c_parser.proofs.Trees.{expr_of-Call}
 use Rattle.c_types.specs.Expressions.{type_of}
 use Rattle.ir.specs.declared.instruction.Target.{Target}
 use Rattle.ir.specs.declared.instruction.Instruction.{Instruction}
-use Rattle.ir.specs.declared.instruction.Instruction.TheVariants.{Const, Copy, Bin, Jump, Branch, Load, Store, New, Free, Call, Return, Tick, Trap}
+use Rattle.ir.specs.declared.instruction.Instruction.TheVariants.{Const, Bin, Jump, Branch, Load, New, Call, Tick}
 use Rattle.lower.specs.declared.form.Form.TheVariants.{Both, Either, Direct, Exchanged}
 use Rattle.lower.specs.Forms.{form_of}
 use Rattle.c_parser.specs.Program.{line_of}

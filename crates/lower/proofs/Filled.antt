@@ -1,5 +1,5 @@
 -- Code with its holes filled is the code with the places known.
-use Rattle.std.proofs.Common.{◌≡◌, ◌≢◌, ℕ, ℤ, pos, suc, ◌<◌, ◌≤◌, Bool, true, false, List, [], ◌∷◌, ◌++◌, map, length, refl, ap, arith, ⊎_elim, ◌∙◌}
+use Rattle.std.proofs.Common.{◌≡◌, ◌≢◌, ℕ, ℤ, pos, suc, ◌<◌, ◌≤◌, Bool, true, false, List, [], ◌∷◌, ◌++◌, map, length, refl, ap, arith, ⊎_elim}
 use Rattle.std.specs.Prelude.{nat_eq, if◌then◌else◌, Option, None, Some}
 use Rattle.std.proofs.lemmas.List.{map-append}
 use Rattle.std.proofs.lemmas.Bool.Decides.{eqb_tells}
@@ -18,7 +18,7 @@ use Rattle.lower.specs.Forms.{form_of}
 use Rattle.lower.specs.Names.{Variables, inside, variable_of}
 use Rattle.lower.specs.Holes.{to_place, filled, fill_from}
 use Rattle.lower.specs.Lowers.{Context, exp_end, exp_code, reg_of, target_end, target_code, arguments_end, arguments_code, form_end, form_code, or_end, or_code, set_end, set_code, update_end, update_code, step_operation, simple_end, simple_code, initial_end, initial_code, first_end, first_code, third_end, third_code, behind, behind_first, stmt_end, stmt_code, statements_end, statements_code}
-use Rattle.lower.proofs.Ends.{form_end_le, exp_end_le, target_end_le, arguments_end_le, or_end_le, initial_end_le, simple_end_le, first_end_le, third_end_le, stmt_end_le, statements_end_le}
+use Rattle.lower.proofs.Ends.{form_end_le, exp_end_le, arguments_end_le, or_end_le, third_end_le, stmt_end_le, statements_end_le}
 
 pub to_place_same : (h place q : ℕ) → q < h → to_place h place q ≡ q
 to_place_same h place q lt =

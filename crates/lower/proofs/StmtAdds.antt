@@ -1,8 +1,8 @@
 -- What is written for the parts of a statement, put together.
-use Rattle.std.proofs.Common.{◌≡◌, ℕ, zero, suc, ◌+◌, ◌-◌, ◌<◌, ◌≤◌, ◌^◌, pos, List, [], ◌∷◌, ◌++◌, length, map, refl, sym, ap, ◌∙◌, arith, append_assoc, length-append, length-set}
+use Rattle.std.proofs.Common.{◌≡◌, ℕ, zero, suc, ◌+◌, ◌≤◌, ◌^◌, pos, List, [], ◌∷◌, ◌++◌, length, map, refl, sym, ap, ◌∙◌, arith, append_assoc, length-append, length-set}
 use Rattle.std.specs.Prelude.{slice_set, Option, None, Some}
 use Rattle.std.proofs.Math.Seq.{set-append_seam}
-use Rattle.std.proofs.lemmas.List.{append-nil, map-append, length-map}
+use Rattle.std.proofs.lemmas.List.{append-nil, map-append}
 use Rattle.nvm_base.specs.declared.op.BinOp.{BinOp}
 use Rattle.nvm_base.specs.declared.op.BinOp.TheVariants as op
 use Rattle.pool_map.specs.declared.trap.TrapKind.TheVariants as trap
@@ -19,10 +19,10 @@ use Rattle.c_types.specs.Tables.{declared_type}
 use Rattle.c_types.specs.declared.value_type.ValueType.{ValueType}
 use Rattle.ir.specs.declared.instruction.Target.{Target}
 use Rattle.ir.specs.declared.instruction.Instruction.{Instruction}
-use Rattle.ir.specs.declared.instruction.Instruction.TheVariants.{Const, Copy, Bin, Jump, Branch, Load, Store, New, Free, Call, Return, Tick, Trap}
+use Rattle.ir.specs.declared.instruction.Instruction.TheVariants.{Const, Copy, Bin, Jump, Branch, Load, Store, Free, Return, Tick, Trap}
 use Rattle.lower.specs.Names.{Variables, inside, outer, declared, register_of, variable_of, kind_at, struct_behind}
 use Rattle.lower.specs.Holes.{leave, third_part, to_place, filled, fill_from}
-use Rattle.lower.specs.Lowers.{Context, exp_end, exp_code, reg_of, target_end, target_code, target_of, or_end, or_code, or_reg, set_end, set_code, update_end, update_code, step_operation, initial_end, initial_code, behind_declaration, first_end, first_code, behind_first, third_end, third_code, behind, behind_all, stmt_end, stmt_code, statements_end, statements_code, for_end, for_code, loop_code}
+use Rattle.lower.specs.Lowers.{Context, exp_end, exp_code, reg_of, target_end, target_code, target_of, or_end, or_code, or_reg, set_end, set_code, update_end, update_code, step_operation, initial_end, first_end, first_code, behind_first, third_end, third_code, behind, behind_all, stmt_end, stmt_code, statements_code, for_end, for_code}
 use Rattle.lower.specs.Added.{Put, ExprAdded, TargetAdded, OrAdded, InitialAdded, SimpleAdded, FirstAdded, ThirdAdded, StmtAdded, StatementsAdded, BodyAdded, ForAdded, UpdateAdded, IfAdded, ElseAdded, WhileAdded, ReturnAdded}
 use Rattle.lower.proofs.Ends.{exp_end_le, or_end_le, stmt_end_le, third_end_le}
 use Rattle.lower.proofs.ExprAdds.{put_long, one_more, seam}

@@ -1,5 +1,5 @@
 -- Whether statements assign a variable. Behind a declaration of its name the name means another one.
-use Rattle.std.specs.Prelude.{ℕ, List, Bool, true, false, ◌||◌, not, ◌&&◌, bytes_eq, if◌then◌else◌, Option, None, Some}
+use Rattle.std.specs.Prelude.{ℕ, List, Bool, true, false, ◌||◌, bytes_eq, if◌then◌else◌, Option, None, Some}
 use Rattle.std.specs.Option.{option_map_or}
 use Rattle.c_parser.specs.ExprTree.{ExprTree, Ident}
 use Rattle.c_parser.specs.StmtTree as stmt

@@ -1,10 +1,9 @@
 -- Which code belongs to a tree: everything but the numbers of registers is fixed.
-use Rattle.std.specs.Prelude.{◌≡◌, ◌≤◌, ℕ, suc, ℤ, pos, negsuc, List, [], ◌∷◌, ◌++◌, Bool, false, Option, None, Some}
+use Rattle.std.specs.Prelude.{ℕ, suc, ℤ, pos, negsuc, List, [], ◌∷◌, ◌++◌, false, Option, None, Some}
 use Rattle.nvm_base.specs.declared.op.BinOp.{BinOp}
 use Rattle.nvm_base.specs.declared.op.BinOp.TheVariants as op
 use Rattle.pool_map.specs.declared.trap.TrapKind.TheVariants as trap
 use Rattle.c_parser.specs.declared.expr.UnaryOp.TheVariants as unary
-use Rattle.c_parser.specs.declared.stmt.AssignOp.{AssignOp}
 use Rattle.c_parser.specs.declared.stmt.AssignOp.TheVariants as assign
 use Rattle.c_parser.specs.declared.stmt.StepOp.{StepOp}
 use Rattle.c_parser.specs.declared.stmt.StepOp.TheVariants as step

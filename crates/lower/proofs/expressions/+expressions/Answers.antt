@@ -3,7 +3,7 @@ use Rattle.std.specs.Int.{w64}
 use Rattle.std.proofs.lemmas.Int.{to_z-of_z}
 use Rattle.std.proofs.lemmas.Result.{IfOk-weaker}
 use Rattle.ir.specs.declared.instruction.Instruction.TheVariants.{Const}
-use Rattle.c_parser.specs.ExprTree.{ExprTree, Arguments, Call, ident_of, expr_of, arguments_in}
+use Rattle.c_parser.specs.ExprTree.{Arguments, Call, ident_of, expr_of, arguments_in}
 use Rattle.c_parser.proofs.Trees.{expr_of-Call}
 use Rattle.c_types.proofs.Arguments.{arguments_at}
 use Rattle.lower.specs.Lowers.{arguments_end}
