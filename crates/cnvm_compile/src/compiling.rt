@@ -71,7 +71,7 @@ pub fn compile(
     ensures image { IfOk result (λ compiled. compiled.program.image.parts.sizes ≡ compiled.program.sizes) }
     ensures digest { IfOk result (λ compiled. compiled.program.digest ≡ digest_of text.now) }
     ensures well_formed { IfOk result (λ compiled. IsWellFormed compiled.ir) }
-    ensures code { IfOk result (λ compiled. IsWellFormed (logged_program compiled.marks compiled.ir) → compiled.program.image.parts.functions ≡ functions_of compiled.program.sizes (logged_program compiled.marks compiled.ir)) }
+    ensures code { IfOk result (λ compiled. compiled.program.image.parts.functions ≡ functions_of compiled.program.sizes (logged_program compiled.marks compiled.ir)) }
 {
     let typed = typed_of(alloc, text)?;
     let sizes = sizes_of(typed.shapes(), slots, records, ticks);
@@ -106,7 +106,7 @@ fn back_end(
     ensures image { IfOk result (λ compiled. compiled.program.image.parts.sizes ≡ sizes) }
     ensures digest { IfOk result (λ compiled. compiled.program.digest ≡ digest) }
     ensures well_formed { IfOk result (λ compiled. IsWellFormed compiled.ir) }
-    ensures code { IfOk result (λ compiled. IsWellFormed (logged_program compiled.marks compiled.ir) → compiled.program.image.parts.functions ≡ functions_of sizes (logged_program compiled.marks compiled.ir)) }
+    ensures code { IfOk result (λ compiled. compiled.program.image.parts.functions ≡ functions_of sizes (logged_program compiled.marks compiled.ir)) }
 {
     let ir = lower(alloc, &typed)?;
     let marks = marks(alloc, &ir)?;
