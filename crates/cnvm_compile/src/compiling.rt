@@ -1,11 +1,14 @@
 //! From a text to its program.
 
-ghost use Rattle.std.specs.Prelude.{◌≡◌, ◌≤◌, IfOk, IfErr};
+ghost use Rattle.std.specs.Prelude.{◌≡◌, ◌≤◌, [], IfOk, IfErr};
 ghost use Rattle.pool_layout.specs.Digest.{digest_of};
 ghost use Rattle.ir.specs.WellFormed.{IsWellFormed};
 ghost use Rattle.instrument.specs.Insert.{logged_program};
 ghost use Rattle.codegen.specs.Emit.{functions_of};
+ghost use Rattle.c_types.specs.Fault.{breaks};
+ghost use Rattle.lower.specs.Program.{lowered};
 ghost use Rattle.cnvm_compile.specs.FrontEnd.{Accepts, RefusesText};
+ghost use Rattle.cnvm_compile.specs.Marked.{IsMarked};
 ghost use Rattle.cnvm_compile.specs.SizesAsked.{within, HasSizes};
 
 use crate::front_end::{ProgramFault, typed_of};
@@ -70,6 +73,8 @@ pub fn compile(
     ensures sizes { IfOk result (λ compiled. HasSizes slots records ticks compiled.program.sizes) }
     ensures image { IfOk result (λ compiled. compiled.program.image.parts.sizes ≡ compiled.program.sizes) }
     ensures digest { IfOk result (λ compiled. compiled.program.digest ≡ digest_of text.now) }
+    ensures ir { IfOk result (λ compiled. compiled.ir ≡ lowered compiled.program.typed) }
+    ensures marks { IfOk result (λ compiled. IsMarked compiled.marks compiled.ir) }
     ensures well_formed { IfOk result (λ compiled. IsWellFormed compiled.ir) }
     ensures code { IfOk result (λ compiled. compiled.program.image.parts.functions ≡ functions_of compiled.program.sizes (logged_program compiled.marks compiled.ir)) }
 {
@@ -105,6 +110,8 @@ fn back_end(
     ensures sizes { IfOk result (λ compiled. compiled.program.sizes ≡ sizes) }
     ensures image { IfOk result (λ compiled. compiled.program.image.parts.sizes ≡ sizes) }
     ensures digest { IfOk result (λ compiled. compiled.program.digest ≡ digest) }
+    ensures ir { IfOk result (λ compiled. breaks typed ≡ [] → compiled.ir ≡ lowered typed) }
+    ensures marks { IfOk result (λ compiled. IsMarked compiled.marks compiled.ir) }
     ensures well_formed { IfOk result (λ compiled. IsWellFormed compiled.ir) }
     ensures code { IfOk result (λ compiled. compiled.program.image.parts.functions ≡ functions_of sizes (logged_program compiled.marks compiled.ir)) }
 {

@@ -9,6 +9,8 @@ mod complaint;
 mod front_end;
 mod law;
 mod listing;
+mod site_rows;
+mod target_name;
 mod told;
 
 pub use compiling::{Compiled, compile};
