@@ -1,3 +1,4 @@
+pub mod Made
 pub mod Once
 pub mod Refusing
 pub mod Trees

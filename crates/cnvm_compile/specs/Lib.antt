@@ -1,6 +1,7 @@
 pub mod ComplaintText
 pub mod FrontEnd
 pub mod Listing
+pub mod Made
 pub mod Marked
 pub mod OneAnswer
 pub mod SizesAsked

@@ -1,13 +1,12 @@
 //! From a text to its program.
 
-ghost use Rattle.std.specs.Prelude.{◌≡◌, ◌≤◌, [], IfOk, IfErr};
+ghost use Rattle.std.specs.Prelude.{◌≡◌, ◌≤◌, [], IfOk, IfErr, length};
 ghost use Rattle.pool_layout.specs.Digest.{digest_of};
 ghost use Rattle.ir.specs.WellFormed.{IsWellFormed};
-ghost use Rattle.instrument.specs.Insert.{logged_program};
-ghost use Rattle.codegen.specs.Emit.{functions_of};
 ghost use Rattle.c_types.specs.Fault.{breaks};
 ghost use Rattle.lower.specs.Program.{lowered};
 ghost use Rattle.cnvm_compile.specs.FrontEnd.{Accepts, RefusesText};
+ghost use Rattle.cnvm_compile.specs.Made.{image_of};
 ghost use Rattle.cnvm_compile.specs.Marked.{IsMarked};
 ghost use Rattle.cnvm_compile.specs.SizesAsked.{within, HasSizes};
 
@@ -76,7 +75,7 @@ pub fn compile(
     ensures ir { IfOk result (λ compiled. compiled.ir ≡ lowered compiled.program.typed) }
     ensures marks { IfOk result (λ compiled. IsMarked compiled.marks compiled.ir) }
     ensures well_formed { IfOk result (λ compiled. IsWellFormed compiled.ir) }
-    ensures code { IfOk result (λ compiled. compiled.program.image.parts.functions ≡ functions_of compiled.program.sizes (logged_program compiled.marks compiled.ir)) }
+    ensures code { IfOk result (λ compiled. compiled.program.image.parts ≡ image_of compiled.marks compiled.ir compiled.program.sizes (length compiled.program.typed.lines)) }
 {
     let typed = typed_of(alloc, text)?;
     let sizes = sizes_of(typed.shapes(), slots, records, ticks);
@@ -100,6 +99,7 @@ fn sizes_of(shapes: &Shapes, slots: u64, records: u64, ticks: u64) -> Sizes
 }
 
 /// The code and the image of a checked tree.
+#[tactic(auto, using(crate::proofs::Made::made))]
 fn back_end(
     alloc: Global,
     typed: Typed,
@@ -113,7 +113,7 @@ fn back_end(
     ensures ir { IfOk result (λ compiled. breaks typed ≡ [] → compiled.ir ≡ lowered typed) }
     ensures marks { IfOk result (λ compiled. IsMarked compiled.marks compiled.ir) }
     ensures well_formed { IfOk result (λ compiled. IsWellFormed compiled.ir) }
-    ensures code { IfOk result (λ compiled. compiled.program.image.parts.functions ≡ functions_of sizes (logged_program compiled.marks compiled.ir)) }
+    ensures code { IfOk result (λ compiled. compiled.program.image.parts ≡ image_of compiled.marks compiled.ir sizes (length typed.lines)) }
 {
     let ir = lower(alloc, &typed)?;
     let marks = marks(alloc, &ir)?;

@@ -10,7 +10,7 @@ use Rattle.ir.specs.declared.function.Ir.{Ir}
 use Rattle.ir.specs.WellFormed.{IsInstruction, IsEnd, EndsWell, IsFunction, IsWellFormed, TakesArgs}
 use Rattle.clobber_pass.specs.declared.marking.MarkTable.{MarkTable}
 use Rattle.instrument.specs.Insert.{logs, width, flag_at, places_from, place_in, led, logged_from, flags_from, with_flags, logged_code, logged_function, logged_functions, logged_program}
-use Rattle.instrument.specs.Short.{IsShort}
+use Rattle.ir.specs.Short.{IsShort}
 
 -- an instruction has one log at most
 logs_length : (flag : Bool) (i : Instruction) → length (logs flag i) ≤ 1

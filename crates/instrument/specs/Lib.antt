@@ -1,2 +1,1 @@
 pub mod Insert
-pub mod Short

@@ -2,7 +2,7 @@
 
 ghost use Rattle.std.specs.Prelude.{◌≡◌, ◌++◌, ◌<◌, ◌^◌, length, IfOk, OnOk};
 ghost use Rattle.instrument.specs.Insert.{logs, led, logged_from, with_flags, logged_code, logged_function, logged_program};
-ghost use Rattle.instrument.specs.Short.{IsShort};
+ghost use Rattle.ir.specs.Short.{IsShort};
 ghost use Rattle.ir.specs.WellFormed.{IsWellFormed};
 
 use crate::places::{flag_at, flags, place_in, places};

@@ -6,3 +6,4 @@ pub mod Table
 pub mod Derived
 pub mod Matched
 pub mod Clobber
+pub mod Short

@@ -4,5 +4,4 @@ pub mod Forms
 pub mod Lowers
 pub mod Assigned
 pub mod Program
-pub mod Short
 pub mod Added

@@ -11,7 +11,7 @@ ghost use Rattle.ir.specs.WellFormed.{IsWellFormed};
 ghost use Rattle.lower.specs.Added.{ParameterAdded, ParametersAdded, context_of};
 ghost use Rattle.lower.specs.Program as programs;
 ghost use Rattle.lower.specs.Program.{lowered};
-ghost use Rattle.lower.specs.Short.{IsShort};
+ghost use Rattle.ir.specs.Short.{IsShort};
 
 use crate::assigned::is_assigned;
 use crate::checked::is_well_formed;
