@@ -214,7 +214,7 @@ run_kept asked (Some text) s image opens saves result before behind has ends ref
 list_kept : (p : Option (List ℕ)) (result : Status) (w w' : Option (List ℕ)) → HasProgram listed p → ListEnds p result w w' → IsRefusal result → ⊥
 list_kept p result w w' has ends refuses =
     ⊎_elim (λ told. quiet_kept told.0 result w w' (program_quiet listed p has told.0 told.1) told.2 refuses)
-    (λ ran. tells_kept ran.2 result w w' ran.3 refuses) ends
+    (λ ran. tells_kept _ result w w' ran.3 refuses) ends
 
 storm_kept : (asked : Asked) (start count : ℕ) (p : Option (List ℕ)) (result : Status) (w w' : Option (List ℕ)) (d d' : Device) (k k' : ℕ)
     → HasProgram asked p → StormEnds asked start count p result w w' d d' k k' → IsRefusal result → ⊥

@@ -2,8 +2,12 @@
 use Rattle.std.specs.Prelude.{ℕ, List, Bool, true, false, Option, Some, None, is_some, IfSome, ◌≡◌, ◌⊎◌}
 use Rattle.std.specs.Io.KnownBytes.{Keeps}
 use Rattle.pmem.specs.Device.{Device}
+use Rattle.lower.specs.Program.{lowered}
 use Rattle.cnvm_script.specs.declared.command.Command.{Command}
 use Rattle.cnvm_session.specs.declared.program.Program.{Program}
+use Rattle.cnvm_compile.specs.declared.compiling.Compiled.{Compiled}
+use Rattle.cnvm_compile.specs.Listing.{listing}
+use Rattle.cnvm_compile.specs.Marked.{IsMarked}
 use Rattle.cnvm_words.specs.declared.plan.Plan.{Plan}
 use Rattle.cnvm_words.specs.declared.plan.Plan.TheVariants as plan
 use Rattle.cnvm_cli.specs.declared.asked.Asked.{Asked}
@@ -77,12 +81,17 @@ RunEnds asked told opens saves result before behind =
 abbrev pub listed : Asked
 listed = record { slots = 1024; records = 256; ticks = 100000 }
 
--- How a listing ends: the program is refused, and this is told; or a text is written, of which nothing is said here.
+-- the code is that of the program's tree, and the marks are marks of it
+abbrev pub HasCode : Compiled → Type 0
+HasCode compiled = (compiled.ir ≡ lowered compiled.program.typed) × IsMarked compiled.marks compiled.ir
+
+-- How a listing ends: the program is refused, and this is told; or what is written is the listing of the code and the
+-- marks of a program that the text is.
 abbrev pub ListEnds : (program : Option (List ℕ)) → Status → Option (List ℕ) → Option (List ℕ) → Type 0
 ListEnds program result w w' =
     ((why : Refused) × ProgramRefuses program why × RefusedAs why result w w')
-    ⊎ ((compiled : Program) × IfSome program (λ text. CompiledFrom listed text compiled)
-    × (text : List ℕ) × TellsAs status.Done text result w w')
+    ⊎ ((compiled : Compiled) × IfSome program (λ text. CompiledFrom listed text compiled.program)
+    × HasCode compiled × TellsAs status.Done (listing compiled.marks compiled.ir) result w w')
 
 -- How a storm ends: the program is refused, and this is told, and nothing is run; or the storm is run on a new pool.
 abbrev pub StormEnds : Asked → (start count : ℕ) → (program : Option (List ℕ)) → Status → Option (List ℕ) → Option (List ℕ) → Device → Device

@@ -1,8 +1,10 @@
 //! What the sources hold: the program, the script, and an image.
 
-ghost use Rattle.std.specs.Prelude.{◌≡◌, ◌≤◌, ◌^◌, ℕ, List, Some, IfErr, OnOk, IsErrOf};
+ghost use Rattle.std.specs.Prelude.{◌≡◌, ◌≤◌, ◌^◌, ℕ, List, Some, IfOk, IfErr, OnOk, IsErrOf};
 ghost use Rattle.std.specs.Io.KnownBytes.{IsAtEnd};
 ghost use Rattle.nvm_base.specs.Rose.{Rose};
+ghost use Rattle.lower.specs.Program.{lowered};
+ghost use Rattle.cnvm_compile.specs.Marked.{IsMarked};
 ghost use Rattle.cnvm_cli.specs.Verdict.{refused_by};
 ghost use Rattle.cnvm_cli.specs.Opened.{wanted_of, ImageIs, ImageReadAs};
 ghost use Rattle.cnvm_cli.specs.Texts.{TextIs, ProgramIs, CommandsAre, ScriptIs, IsOfProgram, IsOfScript};
@@ -39,6 +41,8 @@ pub(crate) fn read_program<S: Source>(
     asked: Asked,
 ) -> Result<Compiled, Refused>
     ensures told { (text : List ℕ) → S.left source.old ≡ Some text → ProgramIs asked result text }
+    ensures ir { IfOk result (λ compiled. compiled.ir ≡ lowered compiled.program.typed) }
+    ensures marks { IfOk result (λ compiled. IsMarked compiled.marks compiled.ir) }
     ensures end { OnOk result (IsAtEnd (S.left source.new)) }
     ensures read { IsErrOf result Refused.ReadFault → Rose (S.faults source.old) (S.faults source.new) }
     ensures usage { IsErrOf result Refused.Usage → ⊥ }
@@ -57,6 +61,8 @@ pub(crate) fn read_program<S: Source>(
 /// The program that a text is.
 fn program_of(alloc: Global, text: &[u8], asked: Asked) -> Result<Compiled, Refused>
     ensures is { ProgramIs asked result text.now }
+    ensures ir { IfOk result (λ compiled. compiled.ir ≡ lowered compiled.program.typed) }
+    ensures marks { IfOk result (λ compiled. IsMarked compiled.marks compiled.ir) }
     ensures read { IsErrOf result Refused.ReadFault → ⊥ }
     ensures usage { IsErrOf result Refused.Usage → ⊥ }
     ensures device { IsErrOf result Refused.Device → ⊥ }
