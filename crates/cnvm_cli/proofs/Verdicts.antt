@@ -1,18 +1,22 @@
 -- The verdict, by what each text is.
-use Rattle.std.proofs.Common.{◌≡◌, ℕ, ◌<◌, List, Err, length, refl, subst, true, Option, Some, None, IfSome}
+use Rattle.std.proofs.Common.{◌≡◌, ℕ, ◌<◌, List, Err, length, refl, subst, ap, ◌∙◌, true, Option, Some, None, IfSome}
 use Rattle.std.proofs.lemmas.Bool.{lt-ltb}
 use Rattle.nvm_base.specs.declared.input.ReadAllFault.{ReadAllFault}
 use Rattle.nvm_base.specs.declared.input.ReadAllFault.TheVariants as all
 use Rattle.c_lexer.specs.declared.fault.LexFault.TheVariants as lex
 use Rattle.cnvm_compile.specs.declared.compiling.Compiled.{Compiled}
 use Rattle.cnvm_compile.specs.declared.front_end.ProgramFault.TheVariants.{Lex}
+use Rattle.cnvm_compile.specs.Made.{image_of}
+use Rattle.cnvm_compile.specs.Marked.{IsMarked}
+use Rattle.ir.specs.declared.function.Ir.{Ir}
+use Rattle.lower.specs.Program.{lowered}
 use Rattle.cnvm_script.specs.declared.command.Command.{Command}
 use Rattle.cnvm_cli.specs.declared.asked.Asked.{Asked}
 use Rattle.cnvm_cli.specs.declared.refused.Refused.{Refused}
 use Rattle.cnvm_cli.specs.declared.refused.Refused.TheVariants as refused
 use Rattle.cnvm_cli.specs.RefusalText.{has_line}
 use Rattle.cnvm_cli.specs.Texts.{TextIs, IsBad, IsOfProgram, IsOfScript}
-use Rattle.cnvm_cli.specs.Verdict.{IsRefused, CompiledFrom, HasCommands, TextsRefuse, TextsGive}
+use Rattle.cnvm_cli.specs.Verdict.{IsMade, IsRefused, CompiledFrom, HasCommands, TextsRefuse, TextsGive}
 
 pub text_long : (limit : ℕ) (why : ReadAllFault) (text : List ℕ) → why ≡ all.Long → TextIs limit (Err why) text → limit < length text
 text_long limit why text is told = subst (λ (k : ReadAllFault). TextIs limit (Err k) text) is told
@@ -56,3 +60,12 @@ pub both_read : (asked : Asked) (p : Compiled) (commands : List Command) (w v : 
     → ((text : List ℕ) → w ≡ Some text → CompiledFrom asked text p.program)
     → ((text : List ℕ) → v ≡ Some text → HasCommands commands text) → TextsGive asked w v p.program commands
 both_read asked p commands w v program is = (when_told w _ program, when_told v _ is)
+
+-- a compiled program is made of its marks
+pub made_of : (p : Compiled) → p.ir ≡ lowered p.program.typed → IsMarked p.marks p.ir
+    → p.program.image.parts ≡ image_of p.marks p.ir p.program.sizes (length p.program.typed.lines) → IsMade p.program
+made_of p code marked made = record {
+  marks = p.marks;
+  marked = subst (λ (ir : Ir). IsMarked p.marks ir) code marked;
+  made = made ∙ ap (λ (ir : Ir). image_of p.marks ir p.program.sizes (length p.program.typed.lines)) code;
+}

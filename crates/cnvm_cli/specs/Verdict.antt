@@ -2,6 +2,8 @@
 -- commands on a pool of the program. What is said of a source's text holds where the source tells its bytes.
 use Rattle.std.specs.Prelude.{ℕ, List, ◌≡◌, ◌<◌, ◌≤◌, length, Ok, Err, Option, IfSome, ⊤}
 use Rattle.pool_layout.specs.Digest.{digest_of}
+use Rattle.lower.specs.Program.{lowered}
+use Rattle.clobber_pass.specs.declared.marking.MarkTable.{MarkTable}
 use Rattle.cnvm_script.specs.declared.command.Command.{Command}
 use Rattle.cnvm_script.specs.Commands.{script_meaning}
 use Rattle.cnvm_session.specs.declared.program.Program.{Program}
@@ -9,6 +11,8 @@ use Rattle.cnvm_compile.specs.declared.front_end.ProgramFault.{ProgramFault}
 use Rattle.cnvm_compile.specs.declared.told.Told.{Told}
 use Rattle.cnvm_compile.specs.declared.told.Told.TheVariants as told
 use Rattle.cnvm_compile.specs.FrontEnd.{Accepts, RefusesText}
+use Rattle.cnvm_compile.specs.Made.{image_of}
+use Rattle.cnvm_compile.specs.Marked.{IsMarked}
 use Rattle.cnvm_compile.specs.SizesAsked.{HasSizes}
 use Rattle.cnvm_compile.specs.Told.{told_of}
 use Rattle.cnvm_cli.specs.declared.asked.Asked.{Asked}
@@ -24,11 +28,18 @@ refused_by told.NoMemory = refused.NoMemory
 abbrev pub IsRefused : List ℕ → Refused → Type 0
 IsRefused text why = (fault : ProgramFault) × RefusesText text fault × (refused_by (told_of fault) ≡ why)
 
+-- the image is that of the code of the program's tree, with the logs of marks that log each header and nothing but store sites
+pub record IsMade (program : Program) : Type 0 where
+  pub marks : MarkTable
+  pub marked : IsMarked marks (lowered program.typed)
+  pub made : program.image.parts ≡ image_of marks (lowered program.typed) program.sizes (length program.typed.lines)
+
 -- a program that the text is, for a pool of these sizes
 pub record CompiledFrom (asked : Asked) (text : List ℕ) (program : Program) : Type 0 where
   pub tree : Accepts text program.typed
   pub sizes : HasSizes asked.slots asked.records asked.ticks program.sizes
   pub image : program.image.parts.sizes ≡ program.sizes
+  pub code : IsMade program
   pub digest : program.digest ≡ digest_of text
 
 -- the text is accepted
