@@ -1,5 +1,5 @@
 -- The newest local is the last entry, and what forgetting it leaves.
-use Rattle.std.proofs.Common.{◌≡◌, ℕ, zero, suc, ◌+◌, ◌-◌, ◌<◌, ◌≤◌, List, [], ◌∷◌, ◌++◌, length, drop, map, reverse, refl, sym, ap, subst, ◌∙◌, arith, ℤ, Bool, true, false, Option, None, Some, set, get_or}
+use Rattle.std.proofs.Common.{◌≡◌, ℕ, zero, suc, ◌-◌, ◌<◌, ◌≤◌, List, [], ◌∷◌, ◌++◌, length, drop, map, reverse, refl, sym, ap, subst, ◌∙◌, arith, ℤ, Bool, true, false, Option, None, Some, set, get_or}
 use Rattle.std.specs.Prelude.{if◌then◌else◌, bytes_eq}
 use Rattle.std.proofs.lemmas.List.{reverse-append, map-append, length-append}
 use Rattle.c_meaning.specs.declared.entry.Entry.{Entry}

@@ -1,3 +1,5 @@
 pub mod Tops
 pub mod Ends
 pub mod Numbers
+pub mod Ticks
+pub mod Resume

@@ -6,3 +6,5 @@ pub mod Operators
 pub mod Meaning
 pub mod Transaction
 pub mod Answers
+pub mod Todo
+pub mod Resume

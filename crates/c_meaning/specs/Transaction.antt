@@ -1,7 +1,7 @@
 -- A transaction: the meaning of its body, from its arguments, with itself open, where 255 more
 -- functions may be opened. It knows no machine, log or cache. It is the pool behind it and its value,
 -- or a trap.
-use Rattle.std.specs.Prelude.{ℕ, zero, suc, ℤ, pos, List, [], Option, None, Some, slice_get}
+use Rattle.std.specs.Prelude.{ℕ, zero, suc, ℤ, pos, List, Option, None, Some, slice_get}
 use Rattle.c_parser.specs.ItemTree.{FunctionTree}
 use Rattle.c_types.specs.Tables.{Tables}
 use Rattle.c_types.specs.Shapes.{transactions_in}

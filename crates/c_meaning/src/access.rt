@@ -4,16 +4,17 @@ ghost use Rattle.std.specs.Prelude.{◌≡◌, IfOk, IfSome, IsSome, option_map}
 ghost use Rattle.c_parser.specs.ExprTree.{expr_of};
 ghost use Rattle.c_types.specs.Tables as tables;
 ghost use Rattle.c_types.specs.Views.{tables_in};
-ghost use Rattle.pool_map.specs.PoolMap.{object_at};
+ghost use Rattle.pool_map.specs.PoolMap.{object_at, least_free};
 ghost use Rattle.c_meaning.specs.Access as meaning;
-ghost use Rattle.c_meaning.specs.Answers.{Quiet, QuietTrap};
+ghost use Rattle.c_meaning.specs.Answers.{QuietTrap};
+ghost use Rattle.c_meaning.specs.Resume.{Freed};
 
-use crate::fault::Fault;
 use crate::locals::Locals;
 use crate::word::Word;
 use c_parser::expr::{Expr, Name};
 use c_types::{Layout, Program, ValueType, type_of};
 use pool_map::{Pool, TrapKind};
+use std::alloc::AllocError;
 
 /// What stands at a word, and 0 where the pool has no such word.
 pub fn load(pool: &Pool, word: Word) -> i64
@@ -263,22 +264,30 @@ pub fn word_named(
     }
 }
 
-/// A new object in the least free slot, whose number it gives: 0 where no slot is free.
-pub fn new_object(program: &Program<'_>, pool: &mut Pool, name: &Name) -> Result<i64, Fault>
-    ensures quiet { Quiet result }
+/// A new object in the least free slot, whose number it gives: 0 where no slot is free. A kind and a
+/// slot that a word couldn't hold would need more memory than there is.
+pub fn new_object(program: &Program<'_>, pool: &mut Pool, name: &Name) -> Result<i64, AllocError>
+    ensures { IfOk result (λ pointer. meaning.new_object (tables_in program.now) pool.old name.now.text ≡ (pointer, pool.new)) }
+{
+    match program.struct_named(name.text.as_str()) {
+        None => Ok(0),
+        Some(at) => put_object(pool, program.number_at(at), program.words_at(at)),
+    }
+}
+
+/// A new object of this kind, with so many words.
+fn put_object(pool: &mut Pool, kind: u64, words: u64) -> Result<i64, AllocError>
+    ensures { IfOk result (λ pointer. meaning.new_at pool.old kind words (least_free pool.old) ≡ (pointer, pool.new)) }
 {
     pool_map::laws();
-    let Some(at) = program.struct_named(name.text.as_str()) else {
-        return Ok(0);
-    };
     let Some(slot) = pool.least_free() else {
         return Ok(0);
     };
-    let Ok(kind) = u32::try_from(program.number_at(at)) else {
-        return Ok(0);
+    let (Ok(kind), Ok(pointer)) = (u32::try_from(kind), i64::try_from(slot)) else {
+        return Err(AllocError);
     };
-    pool.new_object(slot, kind, program.words_at(at))?;
-    Ok(slot.cast_signed())
+    pool.new_object(slot, kind, words)?;
+    Ok(pointer)
 }
 
 /// Takes away the object that a pointer leads to, which the expression gave.
@@ -289,6 +298,7 @@ pub fn free_object(
     expr: &Expr,
     pointer: i64,
 ) -> Result<(), TrapKind>
+    ensures value { Freed (meaning.free_object (tables_in program.now) locals.now pool.old (expr_of expr.now) pointer) result pool.new }
     ensures quiet { QuietTrap result }
 {
     let at = struct_behind(program, locals, expr);

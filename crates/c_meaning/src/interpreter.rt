@@ -1,26 +1,35 @@
 //! A call of a transaction.
 
-ghost use Rattle.std.specs.Prelude.{◌≡◌, ◌≢◌, None, option_map};
+ghost use Rattle.std.specs.Prelude.{◌≡◌, ◌≢◌, Some, IfOk, option_map};
 ghost use Rattle.c_parser.specs.ItemTree.{function_of};
 ghost use Rattle.c_parser.specs.Program.{tree_of};
-ghost use Rattle.c_types.specs.Tables.{tables_of};
+ghost use Rattle.c_parser.specs.ExprTree.{expr_of};
+ghost use Rattle.c_parser.specs.StmtTree.{stmt_of};
+ghost use Rattle.c_types.specs.Tables.{Tables, tables_of};
 ghost use Rattle.c_types.specs.Views.{tables_in};
 ghost use Rattle.pool_map.specs.declared.trap.TrapKind.TheVariants as trap;
 ghost use Rattle.c_meaning.specs.declared.answer.PlainAnswer.TheVariants as answer;
 ghost use Rattle.c_meaning.specs.Answers.{Answers, Quiet};
-ghost use Rattle.c_meaning.specs.Transaction.{transaction, transaction_means};
+ghost use Rattle.c_meaning.specs.Answers as answers;
+ghost use Rattle.c_meaning.specs.declared.work.ExprTask.TheVariants as expr_task;
+ghost use Rattle.c_meaning.specs.declared.work.Flow.TheVariants as flow;
+ghost use Rattle.c_meaning.specs.Transaction as meaning;
+ghost use Rattle.c_meaning.specs.Transaction.{transaction, transaction_means, Done};
+ghost use Rattle.c_meaning.specs.Todo as todo;
+ghost use Rattle.c_meaning.specs.Todo.{todo_of};
+ghost use Rattle.c_meaning.specs.Resume.{begun, begun_at, resumed, resumed_at, newest, Leads, Does};
 
 use crate::answer::PlainAnswer;
 use crate::fault::Fault;
 use crate::locals::bound;
 use crate::run::Run;
-use crate::work::{ExprTask, Flow, StmtTask, Work};
+use crate::work::{ExprTask, Flow, StmtTask, WordTask, Work};
 use c_parser::expr::Expr;
 use c_parser::item::Function;
 use c_parser::stmt::Stmt;
 use c_types::{Program, Typed};
 use pool_map::Pool;
-use std::alloc::Global;
+use std::alloc::{AllocError, Global};
 
 /// Runs transaction `tx`, counted from 1, with these arguments, on a copy of the pool, with so many
 /// ticks. It goes over the tree, and knows no machine and no log; so the trap logfull never comes. A
@@ -35,7 +44,7 @@ pub fn plain_call(
     ticks: u64,
 ) -> PlainAnswer
     ensures quiet { result ≢ answer.Trap trap.LogFull }
-    ensures absent { transaction (tables_of (tree_of typed.now)) tx ≡ None → Answers result (transaction_means (tables_of (tree_of typed.now)) pool.now tx args.now ticks) }
+    ensures exact { Answers result (transaction_means (tables_of (tree_of typed.now)) pool.now tx args.now ticks) }
 {
     let Ok(program) = Program::new(alloc, typed.ast().items()) else {
         return PlainAnswer::NoMemory;
@@ -51,7 +60,8 @@ pub fn plain_call(
 
 fn answer_of(ended: Result<(Pool, i64), Fault>) -> PlainAnswer
     requires { Quiet ended }
-    ensures { result ≢ answer.Trap trap.LogFull }
+    ensures quiet { result ≢ answer.Trap trap.LogFull }
+    ensures exact { result ≡ answers.answer_of ended }
 {
     match ended {
         Ok((pool, value)) => PlainAnswer::Done(pool, value),
@@ -69,6 +79,7 @@ fn run<'a>(
     ticks: u64,
 ) -> Result<(Pool, i64), Fault>
     ensures quiet { Quiet result }
+    ensures exact { Leads result (meaning.run (tables_in program.now) (Some (function_of function.now)) pool args.now ticks) (λ done. Done done.0 done.1) }
 {
     let top = bound(alloc, program, &function.parameters, args)?;
     let mut run = Run::new(alloc, pool, top, ticks);
@@ -99,97 +110,106 @@ fn transaction<'a>(program: &Program<'a>, tx: u64) -> Option<&'a Function>
 /// between two ticks less than the program's nodes is done, so the last answer is never reached.
 fn finish<'a>(alloc: Global, program: &Program<'a>, run: &mut Run<'a>) -> Result<(), Fault>
     ensures quiet { Quiet result }
+    ensures exact { Leads result (resumed (tables_in program.now) run.old) (λ _. Done run.new.pool (newest run.new.values)) }
 {
+    let mut how = Flow::Next;
     for _ in 0..u64::MAX {
-        match run.plan.pop() {
+        match run.next() {
             None => return Ok(()),
-            Some(work) => run.go_on(alloc, program, work)?,
+            Some(work) => how = run.go_on(alloc, program, how, work)?,
         }
     }
     Err(Fault::NoMemory)
 }
 
 impl<'a> Run<'a> {
-    /// Does one thing, by how the last statement ended.
-    fn go_on(&mut self, alloc: Global, program: &Program<'a>, work: Work<'a>) -> Result<(), Fault>
+    /// Does one thing, by how the last statement ended, and says how it ends now.
+    fn go_on(
+        &mut self,
+        alloc: Global,
+        program: &Program<'a>,
+        how: Flow,
+        work: Work<'a>,
+    ) -> Result<Flow, Fault>
         ensures quiet { Quiet result }
+        ensures does { Leads result (begun_at (tables_in program.now) (todo_of work.entry) how self.old) (λ how. resumed_at (tables_in program.now) how self.new) }
     {
-        match self.flow {
+        match how {
             Flow::Next => self.step(alloc, program, work),
-            Flow::Break => self.break_past(work),
-            Flow::Continue => self.continue_past(work),
-            Flow::Return(value) => self.return_past(value, work),
+            Flow::Break => Ok(self.break_past(alloc, work)?),
+            Flow::Continue => Ok(self.continue_past(alloc, work)?),
+            Flow::Return(value) => Ok(self.return_past(alloc, value, work)?),
         }
     }
 
-    fn break_past(&mut self, work: Work<'a>) -> Result<(), Fault>
-        ensures quiet { Quiet result }
-    {
-        match work {
-            Work::Close(count) => self.top.close_to(count),
-            Work::Stmt(StmtTask::Again, _) => self.flow = Flow::Next,
-            Work::Leave => return self.leave(0),
-            _ => {}
-        }
-        Ok(())
-    }
-
-    fn continue_past(&mut self, work: Work<'a>) -> Result<(), Fault>
-        ensures quiet { Quiet result }
+    fn break_past(&mut self, alloc: Global, work: Work<'a>) -> Result<Flow, AllocError>
+        ensures { (t : Tables) → IfOk result (λ how. resumed_at t how self.new ≡ begun_at t (todo_of work.entry) flow.Break self.old) }
     {
         match work {
             Work::Close(count) => {
                 self.top.close_to(count);
-                Ok(())
+                Ok(Flow::Break)
+            }
+            Work::Stmt(StmtTask::Again, _) => Ok(Flow::Next),
+            Work::Leave => {
+                self.leave(alloc, 0)?;
+                Ok(Flow::Next)
+            }
+            _ => Ok(Flow::Break),
+        }
+    }
+
+    fn continue_past(&mut self, alloc: Global, work: Work<'a>) -> Result<Flow, AllocError>
+        ensures { (t : Tables) → IfOk result (λ how. resumed_at t how self.new ≡ begun_at t (todo_of work.entry) flow.Continue self.old) }
+    {
+        match work {
+            Work::Close(count) => {
+                self.top.close_to(count);
+                Ok(Flow::Continue)
             }
             Work::Stmt(StmtTask::Again, turn) => {
-                self.flow = Flow::Next;
-                self.again(turn)
+                self.again(turn)?;
+                Ok(Flow::Next)
             }
-            Work::Leave => self.leave(0),
-            _ => Ok(()),
+            Work::Leave => {
+                self.leave(alloc, 0)?;
+                Ok(Flow::Next)
+            }
+            _ => Ok(Flow::Continue),
         }
     }
 
-    fn return_past(&mut self, value: i64, work: Work<'a>) -> Result<(), Fault>
-        ensures quiet { Quiet result }
+    fn return_past(&mut self, alloc: Global, value: i64, work: Work<'a>) -> Result<Flow, AllocError>
+        ensures { (t : Tables) → IfOk result (λ how. resumed_at t how self.new ≡ begun_at t (todo_of work.entry) (flow.Return value) self.old) }
     {
         match work {
-            Work::Leave => self.leave(value),
-            _ => Ok(()),
+            Work::Leave => {
+                self.leave(alloc, value)?;
+                Ok(Flow::Next)
+            }
+            _ => Ok(Flow::Return(value)),
         }
     }
 
-    fn step(&mut self, alloc: Global, program: &Program<'a>, work: Work<'a>) -> Result<(), Fault>
+    fn step(&mut self, alloc: Global, program: &Program<'a>, work: Work<'a>) -> Result<Flow, Fault>
         ensures quiet { Quiet result }
+        ensures does { Leads result (begun (tables_in program.now) (todo_of work.entry) self.old) (λ how. resumed_at (tables_in program.now) how self.new) }
     {
         match work {
-            Work::Expr(task, expr) => self.on_expr(program, task, expr),
-            Work::Stmt(task, stmt) => self.on_stmt(program, task, stmt),
-            Work::Arguments(all) => self.arguments(all),
-            Work::Rest(all) => self.rest(all),
-            Work::Simple(simple) => self.simple(program, simple),
-            Work::Declare(declaration) => self.declare(alloc, program, declaration),
+            Work::Expr(task, expr) => self.on_expr(program, task, expr)?,
+            Work::Stmt(task, stmt) => return self.on_stmt(program, task, stmt),
+            Work::Word(task) => self.on_word(task)?,
+            Work::Arguments(all) => self.arguments(all)?,
+            Work::Rest(all) => self.rest(all)?,
+            Work::Simple(simple) => self.simple(program, simple)?,
+            Work::Declare(declaration) => self.declare(alloc, program, declaration)?,
             Work::Assign(name) => self.assign(name),
-            Work::Call(function) => self.call(alloc, program, function),
-            Work::Leave => self.leave(0),
-            Work::Close(count) => {
-                self.top.close_to(count);
-                Ok(())
-            }
-            Work::Put(word) => self.give(word),
-            Work::Forget => {
-                self.take();
-                Ok(())
-            }
-            Work::Unary(op) => self.unary(op),
-            Work::Binary(op) => self.binary(op),
-            Work::Truth => self.truth(),
-            Work::Give => {
-                self.flow = Flow::Return(self.take());
-                Ok(())
-            }
+            Work::Call(function, count) => self.call(alloc, program, function, count)?,
+            Work::Leave => self.leave(alloc, 0)?,
+            Work::Close(count) => self.top.close_to(count),
+            Work::Give => return Ok(Flow::Return(self.take())),
         }
+        Ok(Flow::Next)
     }
 
     fn on_expr(
@@ -199,11 +219,12 @@ impl<'a> Run<'a> {
         expr: &'a Expr,
     ) -> Result<(), Fault>
         ensures quiet { Quiet result }
+        ensures does { Does (tables_in program.now) (todo.Expr task (expr_of expr.now)) self.old result self.new }
     {
         match task {
-            ExprTask::Eval => self.eval(program, expr),
-            ExprTask::Both => self.both(expr),
-            ExprTask::Either => self.either(expr),
+            ExprTask::Eval => Ok(self.eval(program, expr)?),
+            ExprTask::Both => Ok(self.both(expr)?),
+            ExprTask::Either => Ok(self.either(expr)?),
             ExprTask::Load => self.load(program, expr),
             ExprTask::Fetch => self.fetch(program, expr),
             ExprTask::Store => self.store(program, expr),
@@ -216,15 +237,33 @@ impl<'a> Run<'a> {
         program: &Program<'a>,
         task: StmtTask,
         stmt: &'a Stmt,
-    ) -> Result<(), Fault>
+    ) -> Result<Flow, Fault>
         ensures quiet { Quiet result }
+        ensures does { Leads result (begun (tables_in program.now) (todo.Stmt task (stmt_of stmt.now)) self.old) (λ how. resumed_at (tables_in program.now) how self.new) }
     {
         match task {
-            StmtTask::Exec => self.exec(program, stmt),
-            StmtTask::Choose => self.choose(stmt),
-            StmtTask::Turn => self.turn(stmt),
-            StmtTask::Test => self.test(stmt),
-            StmtTask::Again => self.again(stmt),
+            StmtTask::Exec => return self.exec(program, stmt),
+            StmtTask::Choose => self.choose(stmt)?,
+            StmtTask::Turn => self.turn(stmt)?,
+            StmtTask::Test => self.test(stmt)?,
+            StmtTask::Again => self.again(stmt)?,
+        }
+        Ok(Flow::Next)
+    }
+
+    fn on_word(&mut self, task: WordTask) -> Result<(), Fault>
+        ensures quiet { Quiet result }
+        ensures does { (t : Tables) → Does t (todo.Word task) self.old result self.new }
+    {
+        match task {
+            WordTask::Put(word) => Ok(self.give(word)?),
+            WordTask::Unary(op) => Ok(self.unary(op)?),
+            WordTask::Binary(op) => self.binary(op),
+            WordTask::Truth => Ok(self.truth()?),
+            WordTask::Forget => {
+                self.take();
+                Ok(())
+            }
         }
     }
 }

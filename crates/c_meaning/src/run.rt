@@ -1,5 +1,17 @@
 //! A run in progress.
 
+ghost use Rattle.std.specs.Prelude.{◌≡◌, [], ◌∷◌, IfOk, OnOk, map, take, drop, reverse};
+ghost use Rattle.c_parser.specs.ExprTree.{expr_of};
+ghost use Rattle.c_parser.specs.StmtTree.{stmt_of, statements_in};
+ghost use Rattle.c_parser.specs.ItemTree.{function_of, parameter_of};
+ghost use Rattle.c_types.specs.Tables.{Tables};
+ghost use Rattle.c_types.specs.Views.{tables_in};
+ghost use Rattle.c_meaning.specs.Locals as local;
+ghost use Rattle.c_meaning.specs.Meaning as meaning;
+ghost use Rattle.c_meaning.specs.Access as access;
+ghost use Rattle.c_meaning.specs.Todo as todo;
+ghost use Rattle.c_meaning.specs.declared.work.Work.TheVariants as work;
+ghost use Rattle.c_meaning.specs.Resume.{calls, newest, pointer_in, index_in, under, with_index, word_at, planned, going, resumed, with_value, with_operands, with_end, entering, left, Does, Taken, Ticked};
 ghost use Rattle.c_meaning.specs.Answers.{Quiet, QuietTrap};
 
 use crate::access::word_named;
@@ -7,13 +19,14 @@ use crate::fault::Fault;
 use crate::locals::{Locals, bound};
 use crate::stacks::{Frames, Plan, Values};
 use crate::word::Word;
-use crate::work::{ExprTask, Flow, StmtTask, Work};
+use crate::work::{ExprTask, StmtTask, Work};
 use c_parser::expr::Expr;
 use c_parser::item::Function;
 use c_parser::stmt::Stmt;
 use c_types::Program;
 use pool_map::{Pool, TrapKind};
-use std::alloc::Global;
+use std::alloc::{AllocError, Global};
+use std::marker::Model;
 use std::mem;
 
 /// How many functions may be open.
@@ -27,73 +40,95 @@ pub struct Operands {
 }
 
 /// A run in progress: what is still to be done, last first, and the values that wait; the locals of
-/// the open function and of those below it; how the last statement ended; the pool and the ticks
-/// left.
+/// the open function and of those below it; the pool and the ticks left.
 #[derive(Drop)]
 pub struct Run<'a> {
     pub plan: Plan<'a>,
     pub values: Values,
     pub top: Locals<'a>,
     pub below: Frames<'a>,
-    pub flow: Flow,
     pub pool: Pool,
     pub ticks: u64,
 }
 
+impl<'a> Model for Run<'a> {
+    ghost use Rattle.std.specs.Coded.{codes};
+    ghost use Rattle.c_parser.specs.contracts.expr.Expr as expression;
+    ghost use Rattle.c_parser.specs.contracts.stmt.Stmt as statement;
+    ghost use Rattle.c_meaning.specs.Resume.{State};
+
+    ghost Value = { State };
+
+    ghost coded = { Prim.hlevel (codes, expression.the_row.coded, statement.the_row.coded) };
+
+    ghost view = { λ r. record { plan = r.plan; values = r.values; top = r.top; below = r.below; pool = r.pool; ticks = r.ticks } };
+}
+
 impl<'a> Run<'a> {
     /// Nothing is to be done, and one function is open. It takes no memory.
-    pub fn new(alloc: Global, pool: Pool, top: Locals<'a>, ticks: u64) -> Self {
+    pub fn new(alloc: Global, pool: Pool, top: Locals<'a>, ticks: u64) -> Self
+        ensures { result ≡ record { plan = []; values = []; top = top.entry; below = []; pool = pool; ticks = ticks } }
+    {
         Run {
             plan: Plan::new(alloc),
             values: Values::new(alloc),
             top,
             below: Frames::new(alloc),
-            flow: Flow::Next,
             pool,
             ticks,
         }
     }
 
     /// Puts something to be done before all else.
-    pub fn plan(&mut self, work: Work<'a>) -> Result<(), Fault>
-        ensures quiet { Quiet result }
+    pub fn plan(&mut self, work: Work<'a>) -> Result<(), AllocError>
+        ensures { OnOk result (self.new ≡ planned work.entry self.old) }
     {
         self.plan.push(work)?;
         Ok(())
     }
 
-    pub fn plan_expr(&mut self, task: ExprTask, expr: &'a Expr) -> Result<(), Fault>
-        ensures quiet { Quiet result }
+    /// Takes what is to be done next.
+    pub fn next(&mut self) -> Option<Work<'a>>
+        ensures { Taken result self.new self.old }
+    {
+        self.plan.pop()
+    }
+
+    pub fn plan_expr(&mut self, task: ExprTask, expr: &'a Expr) -> Result<(), AllocError>
+        ensures { OnOk result (self.new ≡ planned (work.Expr task expr.entry) self.old) }
     {
         self.plan(Work::Expr(task, expr))
     }
 
-    pub fn plan_stmt(&mut self, task: StmtTask, stmt: &'a Stmt) -> Result<(), Fault>
-        ensures quiet { Quiet result }
+    pub fn plan_stmt(&mut self, task: StmtTask, stmt: &'a Stmt) -> Result<(), AllocError>
+        ensures { OnOk result (self.new ≡ planned (work.Stmt task stmt.entry) self.old) }
     {
         self.plan(Work::Stmt(task, stmt))
     }
 
-    pub fn give(&mut self, value: i64) -> Result<(), Fault>
-        ensures quiet { Quiet result }
+    pub fn give(&mut self, value: i64) -> Result<(), AllocError>
+        ensures { OnOk result (self.new ≡ record self.old { values = value ∷ self.old.values }) }
     {
         self.values.push(value)?;
         Ok(())
     }
 
     /// The newest value, or 0 where none waits.
-    pub fn take(&mut self) -> i64 {
+    pub fn take(&mut self) -> i64
+        ensures value { result ≡ newest self.old.values }
+        ensures others { self.new ≡ record self.old { values = drop 1 self.old.values } }
+    {
         match self.values.pop() {
             None => 0,
             Some(value) => value,
         }
     }
 
-    pub fn tick(&mut self) -> Result<(), Fault>
-        ensures quiet { Quiet result }
+    pub fn tick(&mut self) -> Result<(), TrapKind>
+        ensures { Ticked result self.new self.old }
     {
         if self.ticks == 0 {
-            return Err(Fault::Trapped(TrapKind::Steps));
+            return Err(TrapKind::Steps);
         }
         self.ticks -= 1;
         Ok(())
@@ -101,20 +136,21 @@ impl<'a> Run<'a> {
 
     /// Evaluates what a target needs: the pointer that leads to it, or 0 in its place, and then its
     /// index.
-    pub fn plan_operands(&mut self, target: &'a Expr) -> Result<(), Fault>
-        ensures quiet { Quiet result }
+    pub fn plan_operands(&mut self, target: &'a Expr) -> Result<(), AllocError>
+        ensures { (t : Tables) → OnOk result (resumed t self.new ≡ with_operands t self.old (meaning.operands_of t (calls t self.old.below) (expr_of target.now) self.old.top self.old.pool self.old.ticks)) }
     {
         match target {
             Expr::Index { base, index, .. } => {
                 self.plan_expr(ExprTask::Eval, index)?;
                 self.plan_pointer(base)
             }
-            _ => self.plan_pointer(target),
+            Expr::Arrow { base, .. } => self.plan_expr(ExprTask::Eval, base),
+            _ => self.give(0),
         }
     }
 
-    fn plan_pointer(&mut self, field: &'a Expr) -> Result<(), Fault>
-        ensures quiet { Quiet result }
+    fn plan_pointer(&mut self, field: &'a Expr) -> Result<(), AllocError>
+        ensures { (t : Tables) → OnOk result (resumed t self.new ≡ with_value t self.old (meaning.pointer_of t (calls t self.old.below) (expr_of field.now) self.old.top self.old.pool self.old.ticks)) }
     {
         match field {
             Expr::Arrow { base, .. } => self.plan_expr(ExprTask::Eval, base),
@@ -123,7 +159,11 @@ impl<'a> Run<'a> {
     }
 
     /// Takes a target's operands.
-    pub fn take_operands(&mut self, target: &Expr) -> Operands {
+    pub fn take_operands(&mut self, target: &Expr) -> Operands
+        ensures pointer { result.pointer ≡ pointer_in (expr_of target.now) self.old.values }
+        ensures index { result.index ≡ index_in (expr_of target.now) self.old.values }
+        ensures others { self.new ≡ record self.old { values = under (expr_of target.now) self.old.values } }
+    {
         match target {
             Expr::Index { .. } => {
                 let index = self.take();
@@ -144,8 +184,8 @@ impl<'a> Run<'a> {
     }
 
     /// Puts a target's operands back.
-    pub fn give_operands(&mut self, operands: Operands) -> Result<(), Fault>
-        ensures quiet { Quiet result }
+    pub fn give_operands(&mut self, operands: Operands) -> Result<(), AllocError>
+        ensures { OnOk result (self.new ≡ record self.old { values = with_index operands.index (operands.pointer ∷ self.old.values) }) }
     {
         self.give(operands.pointer)?;
         match operands.index {
@@ -161,6 +201,7 @@ impl<'a> Run<'a> {
         target: &Expr,
         operands: Operands,
     ) -> Result<Word, TrapKind>
+        ensures value { result ≡ access.word_named (tables_in program.now) self.now.top self.now.pool (access.field_of (expr_of target.now)) operands.pointer operands.index }
         ensures quiet { QuietTrap result }
     {
         let field = match target {
@@ -177,45 +218,84 @@ impl<'a> Run<'a> {
         )
     }
 
-    /// Opens a function whose arguments are the newest values. It takes a tick, and then a place
-    /// among the open functions.
+    /// Opens a function whose arguments are the newest values, so many. It takes a tick, and then a
+    /// place among the open functions.
     pub fn call(
         &mut self,
         alloc: Global,
         program: &Program<'a>,
         function: &'a Function,
+        count: usize,
     ) -> Result<(), Fault>
         ensures quiet { Quiet result }
+        ensures does { Does (tables_in program.now) (todo.Call (function_of function.now) count) self.old result self.new }
     {
         self.tick()?;
         if self.below.count() >= OPEN - 1 {
             return Err(Fault::Trapped(TrapKind::Depth));
         }
-        let count = function.parameters.len();
-        let arguments = self.values.newest(count);
-        let locals = bound(alloc, program, &function.parameters, arguments)?;
-        self.values.forget(count);
-        let caller = mem::replace(&mut self.top, locals);
-        self.below.push(caller)?;
+        self.open(alloc, program, function, count)?;
+        Ok(())
+    }
+
+    /// Opens a function.
+    fn open(
+        &mut self,
+        alloc: Global,
+        program: &Program<'a>,
+        function: &'a Function,
+        count: usize,
+    ) -> Result<(), AllocError>
+        ensures { OnOk result (resumed (tables_in program.now) self.new ≡ entering (tables_in program.now) (function_of function.now) count self.old) }
+    {
+        let locals = self.bind(alloc, program, function, count)?;
+        self.enter(locals)?;
         self.begin(function)
     }
 
+    /// The locals with which a function begins: its parameters, with the newest values, so many.
+    fn bind(
+        &mut self,
+        alloc: Global,
+        program: &Program<'a>,
+        function: &'a Function,
+        count: usize,
+    ) -> Result<Locals<'a>, AllocError>
+        ensures locals { IfOk result (λ ls. ls ≡ local.bound (tables_in program.now) (map parameter_of function.now.parameters.items) (reverse (take count self.old.values)) []) }
+        ensures others { OnOk result (self.new ≡ record self.old { values = drop count self.old.values }) }
+    {
+        let arguments = self.values.newest(count);
+        let locals = bound(alloc, program, &function.parameters, arguments)?;
+        self.values.forget(count);
+        Ok(locals)
+    }
+
+    /// Another function is open now, with these locals.
+    fn enter(&mut self, locals: Locals<'a>) -> Result<(), AllocError>
+        ensures { OnOk result (self.new ≡ record self.old { top = locals.entry; below = self.old.top ∷ self.old.below }) }
+    {
+        let caller = mem::replace(&mut self.top, locals);
+        self.below.push(caller)?;
+        Ok(())
+    }
+
     /// The body of a function whose parameters are bound.
-    pub fn begin(&mut self, function: &'a Function) -> Result<(), Fault>
-        ensures quiet { Quiet result }
+    pub fn begin(&mut self, function: &'a Function) -> Result<(), AllocError>
+        ensures { (t : Tables) → OnOk result (resumed t self.new ≡ with_end t (planned work.Leave self.old) (meaning.ends_of t (calls t self.old.below) (statements_in function.now.body.items) self.old.top self.old.pool self.old.ticks)) }
     {
         self.plan(Work::Leave)?;
         self.plan(Work::Rest(&function.body))
     }
 
     /// Ends the open function.
-    pub fn leave(&mut self, value: i64) -> Result<(), Fault>
-        ensures quiet { Quiet result }
+    pub fn leave(&mut self, alloc: Global, value: i64) -> Result<(), AllocError>
+        ensures { (t : Tables) → OnOk result (resumed t self.new ≡ left (going t self.old) self.old.values self.old.below (meaning.Got value self.old.pool self.old.ticks)) }
     {
-        self.flow = Flow::Next;
-        if let Some(caller) = self.below.pop() {
-            mem::replace(&mut self.top, caller);
-        }
+        let caller = match self.below.pop() {
+            None => Locals::new(alloc),
+            Some(caller) => caller,
+        };
+        mem::replace(&mut self.top, caller);
         self.give(value)
     }
 }

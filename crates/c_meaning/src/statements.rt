@@ -1,82 +1,134 @@
 //! Statements.
 
+ghost use Rattle.std.specs.Prelude.{◌≡◌, pos, OnOk, IfOk, option_map};
+ghost use Rattle.std.specs.Option.{option_map_or};
+ghost use Rattle.c_parser.specs.declared.expr.BinaryOp.TheVariants as binary;
+ghost use Rattle.c_parser.specs.ExprTree.{expr_of};
+ghost use Rattle.c_parser.specs.StmtTree.{stmt_of, statements_in, simple_of, first_of, declaration_of};
+ghost use Rattle.c_types.specs.Tables.{Tables};
+ghost use Rattle.c_types.specs.Views.{tables_in};
+ghost use Rattle.c_meaning.specs.declared.work.ExprTask.TheVariants as expr_task;
+ghost use Rattle.c_meaning.specs.declared.work.StmtTask.TheVariants as task;
+ghost use Rattle.c_meaning.specs.declared.work.Work.TheVariants as work;
+ghost use Rattle.c_meaning.specs.declared.work.WordTask.TheVariants as word_task;
+ghost use Rattle.c_meaning.specs.Meaning as meaning;
+ghost use Rattle.c_meaning.specs.Meaning.{value_of};
+ghost use Rattle.c_meaning.specs.Todo as todo;
+ghost use Rattle.c_meaning.specs.Resume.{calls, planned, begun, resumed, resumed_at, with_value, with_end, scoped, condition_in, body_end, right_of, Does, Leads};
 ghost use Rattle.c_meaning.specs.Answers.{Quiet};
 
 use crate::fault::Fault;
 use crate::locals::Locals;
 use crate::run::Run;
-use crate::work::{ExprTask, Flow, StmtTask, Work};
-use c_parser::expr::{BinaryOp, Expr};
+use crate::work::{ExprTask, Flow, StmtTask, WordTask, Work};
+use c_parser::expr::{BinaryOp, Expr, Name};
 use c_parser::stmt::{AssignOp, Declaration, First, Simple, StepOp, Stmt};
 use c_types::Program;
 use pool_map::TrapKind;
-use std::alloc::Global;
+use std::alloc::{AllocError, Global};
 use std::mem;
 
+/// The local that a target is, if it is one.
+fn local_of(target: &Expr) -> Option<&Name>
+    ensures { option_map (λ name. name.now.text) result ≡ meaning.local_of (expr_of target.now) }
+{
+    match target {
+        Expr::Variable(name) => Some(name),
+        _ => None,
+    }
+}
+
 impl<'a> Run<'a> {
-    /// Begins a statement.
-    pub fn exec(&mut self, program: &Program<'a>, stmt: &'a Stmt) -> Result<(), Fault>
+    /// Begins a statement, and says how it ended, if it did.
+    pub fn exec(&mut self, program: &Program<'a>, stmt: &'a Stmt) -> Result<Flow, Fault>
         ensures quiet { Quiet result }
+        ensures does { Leads result (with_end (tables_in program.now) self.old (meaning.end_of (tables_in program.now) (calls (tables_in program.now) self.old.below) (stmt_of stmt.now) self.old.top self.old.pool self.old.ticks)) (λ how. resumed_at (tables_in program.now) how self.new) }
     {
         match stmt {
-            Stmt::Empty => Ok(()),
-            Stmt::Declare(declaration) => self.plan_declaration(declaration),
-            Stmt::Simple(simple) => self.simple(program, simple),
+            Stmt::Empty => Ok(Flow::Next),
+            Stmt::Declare(declaration) => {
+                self.plan_declaration(declaration)?;
+                Ok(Flow::Next)
+            }
+            Stmt::Simple(simple) => {
+                self.simple(program, simple)?;
+                Ok(Flow::Next)
+            }
             Stmt::Block(all) => {
-                let count = self.top.count();
-                self.plan(Work::Close(count))?;
-                self.plan(Work::Rest(all))
+                self.plan_block(all)?;
+                Ok(Flow::Next)
             }
             Stmt::If { condition, .. } => {
                 self.plan_stmt(StmtTask::Choose, stmt)?;
-                self.plan_expr(ExprTask::Eval, condition)
+                self.plan_expr(ExprTask::Eval, condition)?;
+                Ok(Flow::Next)
             }
-            Stmt::While { .. } => self.plan_stmt(StmtTask::Turn, stmt),
-            Stmt::For { first, .. } => {
-                let count = self.top.count();
-                self.plan(Work::Close(count))?;
+            Stmt::While { .. } => {
                 self.plan_stmt(StmtTask::Turn, stmt)?;
-                self.plan_first(first)
+                Ok(Flow::Next)
             }
-            Stmt::Break => self.end(Flow::Break),
-            Stmt::Continue => self.end(Flow::Continue),
-            Stmt::Return { value, .. } => self.plan_return(value),
+            Stmt::For { first, .. } => {
+                self.plan_for(stmt, first)?;
+                Ok(Flow::Next)
+            }
+            Stmt::Break => Ok(Flow::Break),
+            Stmt::Continue => Ok(Flow::Continue),
+            Stmt::Return { value, .. } => Ok(self.plan_return(value)?),
         }
     }
 
-    /// The last statement ended in this way.
-    fn end(&mut self, flow: Flow) -> Result<(), Fault>
-        ensures quiet { Quiet result }
+    /// The end of a scope that begins here.
+    fn plan_close(&mut self) -> Result<(), AllocError>
+        ensures { OnOk result (self.new ≡ scoped self.old) }
     {
-        self.flow = flow;
-        Ok(())
+        let count = self.top.count();
+        self.plan(Work::Close(count))
     }
 
-    fn plan_return(&mut self, value: &'a Option<Expr>) -> Result<(), Fault>
-        ensures quiet { Quiet result }
+    fn plan_block(&mut self, all: &'a [Stmt]) -> Result<(), AllocError>
+        ensures { OnOk result (self.new ≡ planned (work.Rest all.entry) (scoped self.old)) }
+    {
+        self.plan_close()?;
+        self.plan(Work::Rest(all))
+    }
+
+    /// A `for` is a scope round its parts.
+    fn plan_for(&mut self, stmt: &'a Stmt, first: &'a Option<First>) -> Result<(), AllocError>
+        ensures { (t : Tables) → OnOk result (resumed t self.new ≡ with_end t (planned (work.Stmt task.Turn stmt.entry) (scoped self.old)) (meaning.first_end t (calls t self.old.below) (option_map first_of first.now) self.old.top self.old.pool self.old.ticks)) }
+    {
+        self.plan_close()?;
+        self.plan_stmt(StmtTask::Turn, stmt)?;
+        self.plan_first(first)
+    }
+
+    fn plan_return(&mut self, value: &'a Option<Expr>) -> Result<Flow, AllocError>
+        ensures { (t : Tables) → IfOk result (λ how. resumed_at t how self.new ≡ with_end t self.old (meaning.return_end t (calls t self.old.below) (option_map expr_of value.now) self.old.top self.old.pool self.old.ticks)) }
     {
         match value {
-            None => self.end(Flow::Return(0)),
+            None => Ok(Flow::Return(0)),
             Some(value) => {
                 self.plan(Work::Give)?;
-                self.plan_expr(ExprTask::Eval, value)
+                self.plan_expr(ExprTask::Eval, value)?;
+                Ok(Flow::Next)
             }
         }
     }
 
-    fn plan_first(&mut self, first: &'a Option<First>) -> Result<(), Fault>
-        ensures quiet { Quiet result }
+    fn plan_first(&mut self, first: &'a Option<First>) -> Result<(), AllocError>
+        ensures { (t : Tables) → OnOk result (resumed t self.new ≡ with_end t self.old (meaning.first_end t (calls t self.old.below) (option_map first_of first.now) self.old.top self.old.pool self.old.ticks)) }
     {
         match first {
             None => Ok(()),
-            Some(First::Declare(declaration)) => self.plan_declaration(declaration),
-            Some(First::Simple(simple)) => self.plan(Work::Simple(simple)),
+            Some(first) => match first {
+                First::Declare(declaration) => self.plan_declaration(declaration),
+                First::Simple(simple) => self.plan(Work::Simple(simple)),
+            },
         }
     }
 
     /// A local without an initial value begins at 0.
-    fn plan_declaration(&mut self, declaration: &'a Declaration) -> Result<(), Fault>
-        ensures quiet { Quiet result }
+    fn plan_declaration(&mut self, declaration: &'a Declaration) -> Result<(), AllocError>
+        ensures { (t : Tables) → OnOk result (resumed t self.new ≡ with_end t self.old (meaning.declaration_end t (calls t self.old.below) (declaration_of declaration.now) self.old.top self.old.pool self.old.ticks)) }
     {
         self.plan(Work::Declare(declaration))?;
         match &declaration.initial {
@@ -90,8 +142,8 @@ impl<'a> Run<'a> {
         alloc: Global,
         program: &Program<'a>,
         declaration: &'a Declaration,
-    ) -> Result<(), Fault>
-        ensures quiet { Quiet result }
+    ) -> Result<(), AllocError>
+        ensures { OnOk result (resumed (tables_in program.now) self.new ≡ begun (tables_in program.now) (todo.Declare (declaration_of declaration.now)) self.old) }
     {
         let value = self.take();
         let declared = program.declared_type(&declaration.ty);
@@ -102,8 +154,8 @@ impl<'a> Run<'a> {
         Ok(())
     }
 
-    pub fn rest(&mut self, all: &'a [Stmt]) -> Result<(), Fault>
-        ensures quiet { Quiet result }
+    pub fn rest(&mut self, all: &'a [Stmt]) -> Result<(), AllocError>
+        ensures { (t : Tables) → OnOk result (resumed t self.new ≡ begun t (todo.Rest (statements_in all.now)) self.old) }
     {
         match all.split_first() {
             None => Ok(()),
@@ -114,37 +166,48 @@ impl<'a> Run<'a> {
         }
     }
 
-    pub fn choose(&mut self, stmt: &'a Stmt) -> Result<(), Fault>
-        ensures quiet { Quiet result }
+    pub fn choose(&mut self, stmt: &'a Stmt) -> Result<(), AllocError>
+        ensures { (t : Tables) → OnOk result (resumed t self.new ≡ begun t (todo.Stmt task.Choose (stmt_of stmt.now)) self.old) }
     {
-        let holds = self.take() != 0;
-        let Stmt::If { body, other, .. } = stmt else {
-            return Ok(());
-        };
-        if holds {
-            return self.inside(body);
-        }
-        match other {
-            None => Ok(()),
-            Some(other) => self.inside(other),
+        let condition = self.take();
+        match stmt {
+            Stmt::If { body, other, .. } => {
+                if condition != 0 {
+                    return self.inside(body);
+                }
+                match other {
+                    None => Ok(()),
+                    Some(other) => self.inside(other),
+                }
+            }
+            _ => Ok(()),
         }
     }
 
     /// A body, whose locals are forgotten behind it.
-    fn inside(&mut self, body: &'a Stmt) -> Result<(), Fault>
-        ensures quiet { Quiet result }
+    fn inside(&mut self, body: &'a Stmt) -> Result<(), AllocError>
+        ensures { OnOk result (self.new ≡ planned (work.Stmt task.Exec body.entry) (scoped self.old)) }
     {
-        let count = self.top.count();
-        self.plan(Work::Close(count))?;
+        self.plan_close()?;
         self.plan_stmt(StmtTask::Exec, body)
     }
 
-    /// A turn takes a tick before its condition; an absent one holds.
+    /// A turn takes a tick before its condition.
+    #[tactic(auto, using(crate::proofs::Resume::traps))]
     pub fn turn(&mut self, stmt: &'a Stmt) -> Result<(), Fault>
         ensures quiet { Quiet result }
+        ensures does { (t : Tables) → Does t (todo.Stmt task.Turn (stmt_of stmt.now)) self.old result self.new }
     {
         self.tick()?;
         self.plan_stmt(StmtTask::Test, stmt)?;
+        self.plan_condition(stmt)?;
+        Ok(())
+    }
+
+    /// The condition of a loop; an absent one holds.
+    fn plan_condition(&mut self, stmt: &'a Stmt) -> Result<(), AllocError>
+        ensures { (t : Tables) → OnOk result (resumed t self.new ≡ with_value t self.old (meaning.condition_of t (calls t self.old.below) (condition_in (stmt_of stmt.now)) self.old.top self.old.pool self.old.ticks)) }
+    {
         match stmt {
             Stmt::While { condition, .. } => self.plan_expr(ExprTask::Eval, condition),
             Stmt::For {
@@ -155,13 +218,20 @@ impl<'a> Run<'a> {
         }
     }
 
-    pub fn test(&mut self, stmt: &'a Stmt) -> Result<(), Fault>
-        ensures quiet { Quiet result }
+    pub fn test(&mut self, stmt: &'a Stmt) -> Result<(), AllocError>
+        ensures { (t : Tables) → OnOk result (resumed t self.new ≡ begun t (todo.Stmt task.Test (stmt_of stmt.now)) self.old) }
     {
         if self.take() == 0 {
             return Ok(());
         }
         self.plan_stmt(StmtTask::Again, stmt)?;
+        self.plan_body(stmt)
+    }
+
+    /// The body of a loop.
+    fn plan_body(&mut self, stmt: &'a Stmt) -> Result<(), AllocError>
+        ensures { (t : Tables) → OnOk result (resumed t self.new ≡ with_end t self.old (body_end t (calls t self.old.below) (stmt_of stmt.now) self.old.top self.old.pool self.old.ticks)) }
+    {
         match stmt {
             Stmt::While { body, .. } => self.inside(body),
             Stmt::For { body, .. } => self.inside(body),
@@ -170,8 +240,8 @@ impl<'a> Run<'a> {
     }
 
     /// The third part of a `for` stands between two turns.
-    pub fn again(&mut self, stmt: &'a Stmt) -> Result<(), Fault>
-        ensures quiet { Quiet result }
+    pub fn again(&mut self, stmt: &'a Stmt) -> Result<(), AllocError>
+        ensures { (t : Tables) → OnOk result (resumed t self.new ≡ begun t (todo.Stmt task.Again (stmt_of stmt.now)) self.old) }
     {
         self.plan_stmt(StmtTask::Turn, stmt)?;
         match stmt {
@@ -184,8 +254,10 @@ impl<'a> Run<'a> {
     }
 
     /// Begins a simple statement.
+    #[tactic(auto, using(crate::proofs::Resume::traps))]
     pub fn simple(&mut self, program: &Program<'a>, simple: &'a Simple) -> Result<(), Fault>
         ensures quiet { Quiet result }
+        ensures does { Does (tables_in program.now) (todo.Simple (simple_of simple.now)) self.old result self.new }
     {
         match simple {
             Simple::Assign {
@@ -193,37 +265,62 @@ impl<'a> Run<'a> {
                 op,
                 value,
                 ..
-            } => match op {
-                AssignOp::Set => self.plan_assign(target, value),
-                AssignOp::Add => self.plan_update(target, BinaryOp::Add, Some(value)),
-                AssignOp::Sub => self.plan_update(target, BinaryOp::Sub, Some(value)),
-            },
-            Simple::Step { target, op, .. } => match op {
-                StepOp::Up => self.plan_update(target, BinaryOp::Add, None),
-                StepOp::Down => self.plan_update(target, BinaryOp::Sub, None),
-            },
+            } => {
+                self.plan_assign(target, *op, value)?;
+                Ok(())
+            }
+            Simple::Step { target, op, .. } => {
+                self.plan_step(target, *op)?;
+                Ok(())
+            }
             Simple::Call { name, arguments } => {
-                self.plan(Work::Forget)?;
-                self.plan_call(program, name, arguments)
+                self.plan(Work::Word(WordTask::Forget))?;
+                self.plan_call(program, name, arguments)?;
+                Ok(())
             }
             Simple::Free { pointer, .. } => {
                 self.plan_expr(ExprTask::Free, pointer)?;
-                self.plan_expr(ExprTask::Eval, pointer)
+                self.plan_expr(ExprTask::Eval, pointer)?;
+                Ok(())
             }
             Simple::Abort { .. } => Err(Fault::Trapped(TrapKind::Abort)),
         }
     }
 
-    /// The target's base and index, the right side, and then the store with its checks.
-    fn plan_assign(&mut self, target: &'a Expr, value: &'a Expr) -> Result<(), Fault>
-        ensures quiet { Quiet result }
+    fn plan_assign(
+        &mut self,
+        target: &'a Expr,
+        op: AssignOp,
+        value: &'a Expr,
+    ) -> Result<(), AllocError>
+        ensures { (t : Tables) → OnOk result (resumed t self.new ≡ with_end t self.old (meaning.assigns t (calls t self.old.below) op (expr_of target.now) (expr_of value.now) self.old.top self.old.pool self.old.ticks)) }
     {
-        match target {
-            Expr::Variable(name) => {
+        match op {
+            AssignOp::Set => self.plan_set(target, value),
+            AssignOp::Add => self.plan_update(target, BinaryOp::Add, Some(value)),
+            AssignOp::Sub => self.plan_update(target, BinaryOp::Sub, Some(value)),
+        }
+    }
+
+    fn plan_step(&mut self, target: &'a Expr, op: StepOp) -> Result<(), AllocError>
+        ensures { (t : Tables) → OnOk result (resumed t self.new ≡ with_end t self.old (meaning.steps t (calls t self.old.below) op (expr_of target.now) self.old.top self.old.pool self.old.ticks)) }
+    {
+        match op {
+            StepOp::Up => self.plan_update(target, BinaryOp::Add, None),
+            StepOp::Down => self.plan_update(target, BinaryOp::Sub, None),
+        }
+    }
+
+    /// The target's base and index, the right side, and then the store with its checks.
+    fn plan_set(&mut self, target: &'a Expr, value: &'a Expr) -> Result<(), AllocError>
+        ensures { (t : Tables) → OnOk result (resumed t self.new ≡ with_end t self.old (meaning.assign_to t (calls t self.old.below) (meaning.local_of (expr_of target.now)) (expr_of target.now) (λ p k. value_of t (calls t self.old.below) (expr_of value.now) self.old.top p k) self.old.top self.old.pool self.old.ticks)) }
+    {
+        match local_of(target) {
+            Some(name) => {
                 self.plan(Work::Assign(name))?;
                 self.plan_expr(ExprTask::Eval, value)
             }
-            _ => {
+            None => {
                 self.plan_expr(ExprTask::Store, target)?;
                 self.plan_expr(ExprTask::Eval, value)?;
                 self.plan_operands(target)
@@ -238,16 +335,16 @@ impl<'a> Run<'a> {
         target: &'a Expr,
         op: BinaryOp,
         right: Option<&'a Expr>,
-    ) -> Result<(), Fault>
-        ensures quiet { Quiet result }
+    ) -> Result<(), AllocError>
+        ensures { (t : Tables) → OnOk result (resumed t self.new ≡ with_end t self.old (meaning.update t (calls t self.old.below) (meaning.local_of (expr_of target.now)) (expr_of target.now) op (λ p k. right_of t (calls t self.old.below) (option_map (λ e. expr_of e.now) right.entry) self.old.top p k) self.old.top self.old.pool self.old.ticks)) }
     {
-        match target {
-            Expr::Variable(name) => {
+        match local_of(target) {
+            Some(name) => {
                 self.plan(Work::Assign(name))?;
                 self.plan_right(op, right)?;
                 self.plan_expr(ExprTask::Eval, target)
             }
-            _ => {
+            None => {
                 self.plan_expr(ExprTask::Store, target)?;
                 self.plan_right(op, right)?;
                 self.plan_expr(ExprTask::Fetch, target)?;
@@ -257,12 +354,12 @@ impl<'a> Run<'a> {
     }
 
     /// The right side of an operator, which is 1 where none is written.
-    fn plan_right(&mut self, op: BinaryOp, right: Option<&'a Expr>) -> Result<(), Fault>
-        ensures quiet { Quiet result }
+    fn plan_right(&mut self, op: BinaryOp, right: Option<&'a Expr>) -> Result<(), AllocError>
+        ensures { OnOk result (self.new ≡ planned (option_map_or (λ e. work.Expr expr_task.Eval e) right.entry (work.Word (word_task.Put (pos 1)))) (planned (work.Word (word_task.Binary op)) self.old)) }
     {
-        self.plan(Work::Binary(op))?;
+        self.plan(Work::Word(WordTask::Binary(op)))?;
         match right {
-            None => self.plan(Work::Put(1)),
+            None => self.plan(Work::Word(WordTask::Put(1))),
             Some(right) => self.plan_expr(ExprTask::Eval, right),
         }
     }

@@ -39,6 +39,21 @@ pub enum StmtTask {
     Again,
 }
 
+/// What is to be done with the words that wait.
+#[derive(Clone, Copy)]
+pub enum WordTask {
+    /// Gives this word.
+    Put(i64),
+    /// Takes a word and forgets it.
+    Forget,
+    /// Takes an operand and gives what the operator makes of it.
+    Unary(UnaryOp),
+    /// Takes the right operand and the left one, and gives what the operator makes of them.
+    Binary(BinaryOp),
+    /// Takes a word and gives 1, or 0 where it is 0.
+    Truth,
+}
+
 /// One thing to be done. Values wait on a stack of their own; 'takes' says what comes off it, and
 /// 'gives' what is put there.
 #[derive(Clone, Copy)]
@@ -55,22 +70,13 @@ pub enum Work<'a> {
     Declare(&'a Declaration),
     /// Takes a word and gives it to a local.
     Assign(&'a Name),
-    /// Takes the arguments and opens the function.
-    Call(&'a Function),
+    /// Takes the arguments, so many, and opens the function.
+    Call(&'a Function, usize),
     /// Ends the open function, and gives its value.
     Leave,
     /// Forgets the locals of a scope; this many are left.
     Close(usize),
-    /// Gives this word.
-    Put(i64),
-    /// Takes a word and forgets it.
-    Forget,
-    /// Takes an operand and gives what the operator makes of it.
-    Unary(UnaryOp),
-    /// Takes the right operand and the left one, and gives what the operator makes of them.
-    Binary(BinaryOp),
-    /// Takes a word and gives 1, or 0 where it is 0.
-    Truth,
+    Word(WordTask),
     /// Takes the value of a `return`.
     Give,
 }

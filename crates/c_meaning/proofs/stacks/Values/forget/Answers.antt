@@ -1,4 +1,4 @@
-use Rattle.std.proofs.Common.{◌≡◌, ◌∙◌, sym, ap, reverse, take, length, ◌-◌, vec_len}
+use Rattle.std.proofs.Common.{◌≡◌, reverse, length, vec_len}
 use Rattle.c_meaning.proofs.Tops.{reverse-take}
 use Rattle.c_meaning.proofs.stacks.Values.forget.Goals as goal
 

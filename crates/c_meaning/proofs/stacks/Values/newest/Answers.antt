@@ -1,4 +1,4 @@
-use Rattle.std.proofs.Common.{◌≡◌, ◌∙◌, sym, ap, reverse, take, length, ◌-◌, vec_len}
+use Rattle.std.proofs.Common.{◌≡◌, reverse, length, vec_len}
 use Rattle.std.proofs.lemmas.List.{take_rest}
 use Rattle.c_meaning.proofs.Tops.{drop-newest}
 use Rattle.c_meaning.proofs.stacks.Values.newest.Goals as goal
