@@ -119,6 +119,7 @@ loaded_from t calls e ls p k = then_do (operands_of t calls e ls p k) (λ o p k.
 abbrev pub word_at : Tables → ExprTree → List ℤ → List Local → PoolMap → Result Word TrapKind
 word_at t e vs ls p = word_named t ls p (field_of e) (pointer_in e vs) (index_in e vs)
 
+-- what each task does with an expression, behind which `go` goes on
 abbrev pub expr_act : Tables → ExprTask → ExprTree → Goes → List ℤ → List (List Local) → List Local → PoolMap → ℕ → Outcome
 expr_act t expr_task.Eval e go vs below ls p k = pushed go vs below ls (value_of t (calls t below) e ls p k)
 expr_act t expr_task.Both e go vs below ls p k = pushed go (drop 1 vs) below ls
@@ -131,6 +132,7 @@ expr_act t expr_task.Fetch e go vs below ls p k =
 expr_act t expr_task.Store e go vs below ls p k = go (under e (drop 1 vs)) below (stored (word_at t e (drop 1 vs) ls p) (newest vs) ls p k)
 expr_act t expr_task.Free e go vs below ls p k = go (drop 1 vs) below (freed (free_object t ls p e (newest vs)) ls k)
 
+-- and with the words that wait
 abbrev pub word_act : WordTask → Goes → List ℤ → List (List Local) → List Local → PoolMap → ℕ → Outcome
 word_act (word_task.Put v) go vs below ls p k = go (v ∷ vs) below (Next ls p k)
 word_act word_task.Forget go vs below ls p k = go (drop 1 vs) below (Next ls p k)
@@ -205,6 +207,7 @@ all_turns t calls s ls p k = some_turns t calls s k ls p k
 abbrev pub more_turns : Tables → Calls → StmtTree → List Local → PoolMap → ℕ → End
 more_turns t calls s ls p k = then_next (third_end t calls (third_in s) ls p k) (λ ls p k. all_turns t calls s ls p k)
 
+-- what each task does with a statement
 abbrev pub stmt_act : Tables → StmtTask → StmtTree → Goes → List ℤ → List (List Local) → End → Outcome
 stmt_act t stmt_task.Exec s go vs below end = go vs below (then_next end (λ ls p k. end_of t (calls t below) s ls p k))
 stmt_act t stmt_task.Choose s go vs below end =
@@ -245,6 +248,7 @@ ended vs (Again ls p k) = Done p (newest vs)
 ended vs (Gave v p k) = Done p (newest vs)
 ended vs (Traps trap) = Trap trap
 
+-- all that is planned, one thing after the other
 abbrev pub resume : Tables → List Todo → List ℤ → List (List Local) → End → Outcome
 resume t [] vs below end = ended vs end
 resume t (x ∷ xs) vs below end = act t x (resume t xs) vs below end
@@ -262,7 +266,7 @@ end_at (flow.Return v) ls p k = Gave v p k
 abbrev pub resumed_at : Tables → Flow → State → Outcome
 resumed_at t how s = going t s s.values s.below (end_at how s.top s.pool s.ticks)
 
--- what the run means now; with this value; with these operands; if it ends so
+-- what a run means now; with a value on top; with operands on top; and where the last statement ends so
 abbrev pub resumed : Tables → State → Outcome
 resumed t s = going t s s.values s.below (Next s.top s.pool s.ticks)
 
@@ -280,7 +284,7 @@ abbrev pub entering : Tables → FunctionTree → (count : ℕ) → State → Ou
 entering t f count s = resume t (todo.Rest f.body ∷ todo.Leave ∷ map todo_of s.plan) (drop count s.values) (s.top ∷ s.below)
     (Next (bound t f.parameters (reverse (take count s.values)) []) s.pool s.ticks)
 
--- this first, and then what the run means
+-- something is planned before all else; it is done at once, and then what is left
 abbrev pub planned : Work → State → State
 planned x s = record s { plan = x ∷ s.plan }
 
@@ -314,6 +318,7 @@ Leads (Ok a) out now = now a ≡ out
 Leads (Err NoMemory) out now = Unit
 Leads (Err (Trapped kind)) out now = out ≡ Trap kind
 
+-- a step that did this leads on
 abbrev pub Does : {A : Type 0} → Tables → Todo → (old : State) → Result A Fault → (new : State) → Type 0
 Does t x old result new = Leads result (begun t x old) (λ _. resumed t new)
 

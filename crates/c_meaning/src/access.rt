@@ -1,6 +1,6 @@
 //! Words and objects of the pool, as expressions reach them: with the checks, in their order.
 
-ghost use Rattle.std.specs.Prelude.{◌≡◌, IfOk, IfSome, IsSome, option_map};
+ghost use Rattle.std.specs.Prelude.{◌≡◌, IfOk, IsSome, option_map};
 ghost use Rattle.c_parser.specs.ExprTree.{expr_of};
 ghost use Rattle.c_types.specs.Tables as tables;
 ghost use Rattle.c_types.specs.Views.{tables_in};

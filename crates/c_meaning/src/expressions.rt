@@ -7,7 +7,6 @@ ghost use Rattle.c_types.specs.Tables.{Tables};
 ghost use Rattle.c_types.specs.Views.{tables_in};
 ghost use Rattle.c_meaning.specs.declared.work.ExprTask.TheVariants as task;
 ghost use Rattle.c_meaning.specs.declared.work.WordTask.TheVariants as word_task;
-ghost use Rattle.c_meaning.specs.Meaning as meaning;
 ghost use Rattle.c_meaning.specs.Meaning.{value_of, binary_means};
 ghost use Rattle.c_meaning.specs.Todo as todo;
 ghost use Rattle.c_meaning.specs.Resume.{calls, begun, resumed, with_value, loaded_from, Does};

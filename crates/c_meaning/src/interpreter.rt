@@ -11,7 +11,6 @@ ghost use Rattle.pool_map.specs.declared.trap.TrapKind.TheVariants as trap;
 ghost use Rattle.c_meaning.specs.declared.answer.PlainAnswer.TheVariants as answer;
 ghost use Rattle.c_meaning.specs.Answers.{Answers, Quiet};
 ghost use Rattle.c_meaning.specs.Answers as answers;
-ghost use Rattle.c_meaning.specs.declared.work.ExprTask.TheVariants as expr_task;
 ghost use Rattle.c_meaning.specs.declared.work.Flow.TheVariants as flow;
 ghost use Rattle.c_meaning.specs.Transaction as meaning;
 ghost use Rattle.c_meaning.specs.Transaction.{transaction, transaction_means, Done};

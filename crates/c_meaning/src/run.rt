@@ -2,7 +2,7 @@
 
 ghost use Rattle.std.specs.Prelude.{◌≡◌, [], ◌∷◌, IfOk, OnOk, map, take, drop, reverse};
 ghost use Rattle.c_parser.specs.ExprTree.{expr_of};
-ghost use Rattle.c_parser.specs.StmtTree.{stmt_of, statements_in};
+ghost use Rattle.c_parser.specs.StmtTree.{statements_in};
 ghost use Rattle.c_parser.specs.ItemTree.{function_of, parameter_of};
 ghost use Rattle.c_types.specs.Tables.{Tables};
 ghost use Rattle.c_types.specs.Views.{tables_in};
@@ -11,7 +11,7 @@ ghost use Rattle.c_meaning.specs.Meaning as meaning;
 ghost use Rattle.c_meaning.specs.Access as access;
 ghost use Rattle.c_meaning.specs.Todo as todo;
 ghost use Rattle.c_meaning.specs.declared.work.Work.TheVariants as work;
-ghost use Rattle.c_meaning.specs.Resume.{calls, newest, pointer_in, index_in, under, with_index, word_at, planned, going, resumed, with_value, with_operands, with_end, entering, left, Does, Taken, Ticked};
+ghost use Rattle.c_meaning.specs.Resume.{calls, newest, pointer_in, index_in, under, with_index, planned, going, resumed, with_value, with_operands, with_end, entering, left, Does, Taken, Ticked};
 ghost use Rattle.c_meaning.specs.Answers.{Quiet, QuietTrap};
 
 use crate::access::word_named;

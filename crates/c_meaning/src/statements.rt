@@ -2,7 +2,6 @@
 
 ghost use Rattle.std.specs.Prelude.{◌≡◌, pos, OnOk, IfOk, option_map};
 ghost use Rattle.std.specs.Option.{option_map_or};
-ghost use Rattle.c_parser.specs.declared.expr.BinaryOp.TheVariants as binary;
 ghost use Rattle.c_parser.specs.ExprTree.{expr_of};
 ghost use Rattle.c_parser.specs.StmtTree.{stmt_of, statements_in, simple_of, first_of, declaration_of};
 ghost use Rattle.c_types.specs.Tables.{Tables};
