@@ -1,5 +1,5 @@
 -- What gives a fact that a search is about is a fact that it is about.
-use Rattle.std.proofs.Common.{◌≡◌, ◌&&◌, ℕ, Bool, true, false, cond, List, Option, Some, None, refl, sym, ◌∙◌, inl, inr, ⊎_elim, subst, ap}
+use Rattle.std.proofs.Common.{◌≡◌, ◌&&◌, ℕ, Bool, true, false, cond, List, Option, Some, None, refl, inl, inr, subst}
 use Rattle.std.specs.Prelude.{◌==◌, slice_get, position}
 use Rattle.ir.specs.declared.instruction.Target.TheVariants.{Root, Field}
 use Rattle.ir.specs.declared.instruction.Instruction.{Instruction}

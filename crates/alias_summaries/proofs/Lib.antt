@@ -1,3 +1,11 @@
 mod Rooms
 mod AboutTables
 mod Told
+mod Lookup
+mod Columns
+mod Below
+mod Steps
+mod Covers
+mod Starts
+mod PassTables
+mod FlowTables

@@ -1,5 +1,5 @@
 -- A word that rises leaves less room.
-use Rattle.std.proofs.Common.{◌≡◌, ◌<◌, ◌≤◌, ◌+◌, ◌-◌, ◌^◌, ℕ, zero, suc, List, [], ◌∷◌, length, slice_set, slice_index_or, arith}
+use Rattle.std.proofs.Common.{◌<◌, ◌^◌, ℕ, zero, suc, List, [], ◌∷◌, length, slice_set, slice_index_or, arith}
 use Rattle.alias_summaries.specs.Room.{room}
 
 pub room_set : (words : List ℕ) (at word : ℕ) → at < length words → slice_index_or words at 0 < word → slice_index_or words at 0 < 2 ^ 64 → room (slice_set words at word) < room words

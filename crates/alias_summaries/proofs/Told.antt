@@ -1,16 +1,14 @@
 -- A table to which no step adds has all that is derived.
-use Rattle.std.proofs.Common.{◌≡◌, ℕ, suc, Bool, true, List, Some, refl}
+use Rattle.std.proofs.Common.{◌≡◌, ℕ, Bool, true, List}
 use Rattle.ir.specs.declared.function.IrFunction.{IrFunction}
 use Rattle.ir.specs.declared.fact.Fact.{Fact}
 use Rattle.ir.specs.declared.fact.Fact.TheVariants.{Here}
-use Rattle.ir.specs.Places.{ReturnsAt}
-use Rattle.ir.specs.Table.{at_call}
 use Rattle.ir.specs.Derived.{Passes, Flows}
 use Rattle.ir.specs.Derived.Passes.{starts, along, through, past}
 use Rattle.ir.specs.Derived.Flows.{first, called, on, across, beside}
 use Rattle.alias_summaries.specs.declared.topic.Topic.{Topic}
 use Rattle.alias_summaries.specs.About.{is_about}
-use Rattle.alias_summaries.specs.Told.{StaysTold, TellsPasses, AllPass, TellsFlows}
+use Rattle.alias_summaries.specs.Told.{TellsPasses, AllPass, TellsFlows}
 use Rattle.alias_summaries.proofs.AboutTables.{about_origins, about_at_call, about_return, about_stays}
 
 module _ (functions : List IrFunction) (topic : Topic) where

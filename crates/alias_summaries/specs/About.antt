@@ -24,3 +24,14 @@ is_about (Field t y) (ReadField s x) = (s == t) && (x == y)
 is_about (Field t y) (RootUnwritten x) = false
 is_about (Field t y) (ReadRoot x) = false
 is_about (Field t y) Freed = false
+
+-- the fact from which a topic's search begins, and the fact that it seeks
+abbrev pub start_of : Topic → Fact
+start_of Frees = Here
+start_of (Root x) = RootUnwritten x
+start_of (Field s x) = Here
+
+abbrev pub sought_of : Topic → Fact
+sought_of Frees = Freed
+sought_of (Root x) = ReadRoot x
+sought_of (Field s x) = ReadField s x

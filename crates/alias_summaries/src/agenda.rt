@@ -47,6 +47,11 @@ impl Agenda {
         self.rows.has(cell, column)
     }
 
+    /// The bits of a cell's first 64 columns.
+    pub fn word(&self, cell: usize) -> u64 {
+        self.rows.word(cell, 0)
+    }
+
     /// Sets a bit of the spot's cell.
     pub fn add(&mut self, cell: usize, column: usize, spot: Spot) -> Result<(), AllocError>
         ensures { OnOk result (weight self.new ≤ weight self.old) }

@@ -22,13 +22,19 @@ pub struct Accesses {
 }
 
 impl Accesses {
-    /// The class, where something is to be found out about it: it is both loaded and stored.
+    /// The class, where something is to be found out about it: it is stored.
     pub fn topic(&self) -> Option<Topic> {
-        if self.loaded && self.stored {
+        if self.stored {
             Some(Topic::of(self.all.first()?.target))
         } else {
             None
         }
+    }
+
+    /// The accesses whose registers matter. Of a class that is never loaded none do, since it isn't read
+    /// whatever is written through them.
+    pub fn needed(&self) -> &[Access] {
+        if self.loaded { &self.all } else { &[] }
     }
 }
 

@@ -9,7 +9,6 @@ use crate::cells::Cells;
 use crate::classes::{Access, Accesses, Classes};
 use crate::kin::Kin;
 use crate::numbering::{Numbering, Register};
-use crate::passes::{Pass, Passes};
 use crate::topic::Topic;
 use ir::{Fact, Instruction, Ir, IrFunction};
 use std::alloc::{AllocError, Global};
@@ -76,24 +75,6 @@ impl<'a> Ground<'a> {
         self.cells.topic()
     }
 
-    /// What passes through a function wherever a walk does: that a walk is here, and that the class was
-    /// read.
-    pub fn standing(&self, alloc: Global) -> Result<Passes, AllocError> {
-        let mut passes = Passes::new(alloc, self.functions.len())?;
-        for (function, returns) in self.returns.iter().enumerate() {
-            if *returns {
-                for fact in [Fact::Here, self.topic().sought()] {
-                    passes.put(Pass {
-                        function,
-                        entry: fact,
-                        exit: fact,
-                    })?;
-                }
-            }
-        }
-        Ok(passes)
-    }
-
     pub fn functions(&self) -> &'a [IrFunction] {
         self.functions
     }
@@ -134,6 +115,19 @@ impl<'a> Ground<'a> {
 
     pub fn cell(&self, spot: Spot) -> Option<usize> {
         self.cells.cell(spot, &self.outline.numbering)
+    }
+
+    /// The place to which the returns of a function lead.
+    pub fn last_place(&self, function: usize) -> Option<usize> {
+        self.outline.numbering.last_place(function)
+    }
+
+    /// What the agenda has of a fact, and all columns where no such fact matters.
+    pub fn word(&self, agenda: &Agenda, spot: Spot) -> u64 {
+        match self.cell(spot) {
+            Some(cell) => agenda.word(cell),
+            None => u64::MAX,
+        }
     }
 
     /// Whether the agenda has a fact, in the first column.

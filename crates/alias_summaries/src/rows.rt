@@ -34,7 +34,7 @@ impl Rows {
     }
 
     /// The word of a row, and 0 outside the table.
-    fn word(&self, row: usize, word: usize) -> u64 {
+    pub fn word(&self, row: usize, word: usize) -> u64 {
         match self.at(row, word) {
             Some(at) => self.words.get(at).copied().unwrap_or(0),
             None => 0,

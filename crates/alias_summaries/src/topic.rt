@@ -1,5 +1,8 @@
 //! What one search is about.
 
+ghost use Rattle.std.specs.Prelude.{◌≡◌};
+ghost use Rattle.alias_summaries.specs.About.{start_of, sought_of};
+
 use ir::{Fact, Target};
 
 /// Frees, or one class: a root field, or a field of a struct. Facts of different classes don't give
@@ -21,7 +24,9 @@ impl Topic {
     }
 
     /// The fact from which the search begins.
-    pub fn start(self) -> Fact {
+    pub fn start(self) -> Fact
+        ensures { result ≡ start_of self }
+    {
         match self {
             Topic::Frees | Topic::Field { .. } => Fact::Here,
             Topic::Root { field } => Fact::RootUnwritten { field },
@@ -29,7 +34,9 @@ impl Topic {
     }
 
     /// The fact that is sought, which nothing takes away: the class was read, or a free was passed.
-    pub fn sought(self) -> Fact {
+    pub fn sought(self) -> Fact
+        ensures { result ≡ sought_of self }
+    {
         match self {
             Topic::Frees => Fact::Freed,
             Topic::Root { field } => Fact::ReadRoot { field },
@@ -51,22 +58,18 @@ impl Topic {
 
     /// The fact at a function's entry that has this column.
     pub fn entry(self, column: usize) -> Option<Fact> {
-        if column == 0 {
-            return Some(self.start());
-        }
-        match self {
-            Topic::Frees => Some(Fact::Freed),
-            Topic::Root { .. } => None,
-            Topic::Field { .. } => self.unwritten(u32::try_from(column - 1).ok()?),
+        match column {
+            0 => Some(self.start()),
+            1 => Some(self.sought()),
+            _ => self.unwritten(u32::try_from(column - 2).ok()?),
         }
     }
 
     /// How many columns a function with so many parameters has.
     pub fn columns(self, parameters: u32) -> usize {
         match self {
-            Topic::Frees => 2,
-            Topic::Root { .. } => 1,
-            Topic::Field { .. } => parameters as usize + 1,
+            Topic::Frees | Topic::Root { .. } => 2,
+            Topic::Field { .. } => parameters as usize + 2,
         }
     }
 }

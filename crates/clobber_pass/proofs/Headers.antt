@@ -99,7 +99,7 @@ place_of : (site : Site) (marks : Option (Vec Mark Global)) → option_and_then 
 place_of site None = refl
 place_of site (Some marks) = refl
 
-logged_is_marked : (table : MarkTable) (site : Site) → is_logged table site ≡ is_marked (rows table) site
+pub logged_is_marked : (table : MarkTable) (site : Site) → is_logged table site ≡ is_marked (rows table) site
 logged_is_marked table site =
     marked_part (option_and_then (λ (marks : Vec Mark Global). slice_get marks.items site.place) (slice_get table.functions.items site.function)) site site.fill refl
     ∙ ap (part site.fill) (place_of site (slice_get table.functions.items site.function)

@@ -1,7 +1,7 @@
 //! The marks of a program.
 
 ghost use Rattle.std.specs.Prelude.{◌≡◌, ◌++◌, ◌∷◌, [], ◌&&◌, true, false, IfOk, OnOk};
-ghost use Rattle.ir.specs.Clobber.{IsHeader};
+ghost use Rattle.ir.specs.Clobber.{IsHeader, IsLogged};
 ghost use Rattle.ir.specs.Places.{instruction_at};
 ghost use Rattle.clobber_pass.specs.Marking.{has_site, mark_from, marks_from, rows, table_from};
 ghost use Rattle.clobber_pass.specs.Logged.{is_logged};
@@ -51,8 +51,9 @@ impl MarkTable {
 
 /// Marks the store sites whose old values have to be logged: where a walk comes with the target not
 /// surely written, and a walk comes with its class read before; the fill of a new object where a walk
-/// comes past a free; and each header's store.
+/// comes past a free; and each header's store. No such site is missing.
 pub fn marks(alloc: Global, ir: &Ir) -> Result<MarkTable, AllocError>
+    ensures whole { IfOk result (λ table. (site : Site) → IsLogged ir.now.functions site → is_logged table site ≡ true) }
     ensures headers { IfOk result (λ table. (site : Site) → site.fill ≡ false → IsHeader ir.now.functions site.function site.place → is_logged table site ≡ true) }
     ensures sites { IfOk result (λ table. (site : Site) → is_logged table site ≡ true → has_site site.fill (instruction_at ir.now.functions site.function site.place) ≡ true) }
 {

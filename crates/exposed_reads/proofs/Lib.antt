@@ -1,1 +1,3 @@
 mod Lookup
+mod Places
+mod Telling

@@ -1,13 +1,14 @@
 //! The facts at each place that the marks need.
 
-ghost use Rattle.std.specs.Prelude.{◌≡◌};
+ghost use Rattle.std.specs.Prelude.{[], ◌∷◌, ◌++◌, ◌≡◌, IfOk, OnOk, replicate, slice_set};
+ghost use Rattle.exposed_reads.specs.Found.{open_fact, open_facts};
 
-use ir::Ir;
+use ir::IrFunction;
 use std::alloc::{AllocError, Global};
 use std::marker::Model;
 
-/// What some walk may bring to a place. The last two speak of the class that the place's own load or
-/// store accesses, where that class is both loaded and stored; elsewhere they are false.
+/// What some walk may bring to a place. The last two speak of the class that the place's own store
+/// accesses, and say nothing elsewhere.
 #[derive(Clone, Copy, Debug, PartialEq, Eq)]
 pub struct PlaceFact {
     /// A walk comes here.
@@ -27,6 +28,18 @@ impl PlaceFact {
         unwritten: false,
         read: false,
     };
+
+    /// Where nothing was found out: all that would have a store or a fill logged.
+    fn open() -> Self
+        ensures { result ≡ open_fact }
+    {
+        PlaceFact {
+            walked: false,
+            freed: true,
+            unwritten: true,
+            read: true,
+        }
+    }
 }
 
 /// The facts at each place of each function, seen as a list for each function.
@@ -45,16 +58,28 @@ impl Model for PlaceFacts {
 }
 
 impl PlaceFacts {
-    ghost use Rattle.exposed_reads.specs.Facts.{fact_at};
+    ghost use Rattle.exposed_reads.specs.Facts.{fact_at, set_in};
 
-    /// No facts, at each place of a program.
-    pub fn none(alloc: Global, ir: &Ir) -> Result<Self, AllocError> {
-        let mut functions = Vec::new(alloc);
-        for function in ir.functions.as_slice() {
-            let places = function.code.as_slice().len();
-            functions.push(vec![in alloc; PlaceFact::NONE; places]?)?;
+    /// The facts at each place of a program, where nothing was found out.
+    pub fn open(alloc: Global, functions: &[IrFunction]) -> Result<Self, AllocError>
+        ensures { IfOk result (λ facts. facts ≡ open_facts functions.now) }
+    {
+        let mut facts = PlaceFacts {
+            functions: Vec::new(alloc),
+        };
+        for body in functions {
+            facts.push(alloc, body.code.as_slice().len())?;
         }
-        Ok(PlaceFacts { functions })
+        Ok(facts)
+    }
+
+    /// Puts so many places of one more function at the end.
+    fn push(&mut self, alloc: Global, places: usize) -> Result<(), AllocError>
+        ensures { OnOk result (self.new ≡ self.old ++ replicate places open_fact ∷ []) }
+    {
+        self.functions
+            .push(vec![in alloc; PlaceFact::open(); places]?)?;
+        Ok(())
     }
 
     /// The facts at a place, and none where it isn't there.
@@ -69,11 +94,22 @@ impl PlaceFacts {
     }
 
     /// Tells the facts at a place.
-    pub fn set(&mut self, function: usize, place: usize, fact: PlaceFact) {
-        if let Some(places) = self.functions.get_mut(function) {
-            if let Some(at) = places.get_mut(place) {
-                *at = fact;
-            }
+    #[tactic(auto, using(crate::proofs::Places::set_past))]
+    pub fn set(&mut self, function: usize, place: usize, fact: PlaceFact)
+        ensures { self.new ≡ set_in self.old function place fact }
+    {
+        if function >= self.functions.len() {
+            return;
         }
+        set_place(&mut self.functions[function], place, fact);
+    }
+}
+
+/// Tells the facts at a place of one function.
+fn set_place(places: &mut Vec<PlaceFact>, place: usize, fact: PlaceFact)
+    ensures { places.new.items ≡ slice_set places.old.items place fact }
+{
+    if place < places.len() {
+        places[place] = fact;
     }
 }

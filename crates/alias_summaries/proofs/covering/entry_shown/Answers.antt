@@ -1,0 +1,12 @@
+use Rattle.std.proofs.Common.{◌≡◌, ◌≤◌, ◌+◌, true, length, arith, rules}
+use Rattle.alias_summaries.specs.Words.{word_in, has}
+use Rattle.alias_summaries.proofs.Starts.{entry_shown}
+use Rattle.alias_summaries.proofs.covering.entry_shown.Goals as goal
+
+pub returns : goal.returns
+returns c = λ t.
+    let few : length c.args.rows.now ≤ c.args.registers + 2 = omega (arith, c.height.ensures, c.if-height-registers.false) in
+    let start : has 0 (word_in c.args.rows.now 0 0) ≡ true = search rules in
+    let sought : has 1 (word_in c.args.rows.now 1 0) ≡ true = search rules in
+    let told : c.parameters_told.result ≡ true = search rules in
+    entry_shown c.args.rows.now c.args.parameters c.args.registers few start sought (c.parameters_told.ensures told) (c.others_told.ensures t)
