@@ -28,7 +28,8 @@ refused_by told.NoMemory = refused.NoMemory
 abbrev pub IsRefused : List ℕ → Refused → Type 0
 IsRefused text why = (fault : ProgramFault) × RefusesText text fault × (refused_by (told_of fault) ≡ why)
 
--- the image is that of the code of the program's tree, with the logs of marks that log each header and nothing but store sites
+-- the image is that of the code of the program's tree, with the logs of marks that log each site for which
+-- walks call and nothing but store sites
 pub record IsMade (program : Program) : Type 0 where
   pub marks : MarkTable
   pub marked : IsMarked marks (lowered program.typed)
