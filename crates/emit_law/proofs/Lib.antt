@@ -1,0 +1,11 @@
+pub mod Moments
+pub mod NewSteps
+pub mod PairedCode
+pub mod Pairs
+pub mod Placed
+pub mod Returns
+pub mod SoundRun
+pub mod Standing
+pub mod Steps
+pub mod Tidy
+pub mod TidyCode

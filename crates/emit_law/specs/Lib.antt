@@ -1,0 +1,9 @@
+pub mod Moments
+pub mod Pairs
+pub mod Placed
+pub mod Returns
+pub mod Standing
+pub mod Steps
+pub mod NewSteps
+pub mod Tidy
+pub mod TidyCode
