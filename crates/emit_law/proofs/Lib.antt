@@ -1,3 +1,4 @@
+pub mod Dirty
 pub mod Moments
 pub mod NewSteps
 pub mod PairedCode

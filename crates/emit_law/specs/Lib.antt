@@ -1,9 +1,10 @@
+pub mod Dirty
 pub mod Moments
+pub mod NewSteps
 pub mod Pairs
 pub mod Placed
 pub mod Returns
 pub mod Standing
 pub mod Steps
-pub mod NewSteps
 pub mod Tidy
 pub mod TidyCode

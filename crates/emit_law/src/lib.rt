@@ -3,6 +3,7 @@
 //! `specs/`, each a clause of a function that does nothing.
 #![tactic(auto)]
 
+ghost use Rattle.emit_law.specs.Dirty.{CleanLaw, FewLines};
 ghost use Rattle.emit_law.specs.Moments.{RunsLaw};
 ghost use Rattle.emit_law.specs.NewSteps.{NewStepsLaw};
 ghost use Rattle.emit_law.specs.Pairs.{EmitsPairs, PairedLaw};
@@ -63,4 +64,11 @@ pub fn return_law()
 /// steps, whether the log has room or not.
 pub fn new_steps_law()
     ensures { NewStepsLaw }
+{}
+
+/// In a run no line is dirty twice, and each is one of the heap's; so there are at most as many as the
+/// heap has lines.
+pub fn dirty_law()
+    ensures run { CleanLaw }
+    ensures few { FewLines }
 {}
