@@ -1,0 +1,5 @@
+pub mod Code
+pub mod Deeds
+pub mod Law
+pub mod Parameters
+pub mod Whole

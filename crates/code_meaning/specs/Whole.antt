@@ -1,0 +1,7 @@
+-- The length of all code of a program: that of each function, added up.
+use Rattle.std.specs.Prelude.{ℕ, ◌+◌, List, [], ◌∷◌, length}
+use Rattle.ir.specs.declared.function.IrFunction.{IrFunction}
+
+abbrev pub whole : List IrFunction → ℕ
+whole [] = 0
+whole (u ∷ us) = length u.code + whole us
