@@ -1,7 +1,6 @@
--- The operators on words. A comparison, `!`, `&&` and `||` give 0 or 1, and a quotient or a remainder
--- by 0 is no word.
-use Rattle.std.specs.Prelude.{ℤ, pos, ◌==◌, Option, None, Some, if◌then◌else◌}
-use Rattle.std.specs.Int.{w64, int_bit_not}
+-- The operators on words. `-e` is 0 - e and `~e` is -1 ^ e, all of whose bits differ from e's. A comparison,
+-- `!`, `&&` and `||` give 0 or 1, and a quotient or a remainder by 0 is no word.
+use Rattle.std.specs.Prelude.{ℤ, pos, negsuc, ◌==◌, Option, None, Some, if◌then◌else◌}
 use Rattle.c_parser.specs.declared.expr.UnaryOp.{UnaryOp}
 use Rattle.c_parser.specs.declared.expr.UnaryOp.TheVariants.{Negate, Not, Complement}
 use Rattle.c_parser.specs.declared.expr.BinaryOp.{BinaryOp}
@@ -11,7 +10,7 @@ use Rattle.nvm_base.specs.Operations as word
 abbrev pub unary_of : UnaryOp → ℤ → ℤ
 unary_of Negate a = word.sub (pos 0) a
 unary_of Not a = word.eq a (pos 0)
-unary_of Complement a = int_bit_not w64 a
+unary_of Complement a = word.xor_of (negsuc 0) a
 
 abbrev pub unless_zero : ℤ → ℤ → Option ℤ
 unless_zero b v = if word.unsigned b == 0 then None else Some v

@@ -15,7 +15,7 @@ pub fn unary(op: UnaryOp, a: i64) -> i64
     match op {
         UnaryOp::Negate => sub(0, a),
         UnaryOp::Not => BinOp::Eq.apply(a, 0),
-        UnaryOp::Complement => !a,
+        UnaryOp::Complement => BinOp::Xor.apply(-1, a),
     }
 }
 

@@ -1,0 +1,71 @@
+-- What the run of a tree's code asks of its names: variables, functions, structs and fields are there,
+-- and mean the same in the tree and in the code. A tree that breaks no rule has all this.
+use Rattle.std.proofs.Common.{◌≡◌, ℕ, ℤ, List}
+use Rattle.std.specs.Prelude.{Option, Some, Result, Ok, Err, slice_get}
+use Rattle.c_parser.specs.ExprTree as expr
+use Rattle.c_parser.specs.ExprTree.{ExprTree, Arguments, Ident}
+use Rattle.c_parser.specs.ItemTree.{FunctionTree}
+use Rattle.c_types.specs.Tables.{Tables, function_named}
+use Rattle.pool_map.specs.PoolMap.{PoolMap}
+use Rattle.pool_map.specs.declared.shapes.Shapes.{Shapes}
+use Rattle.pool_map.specs.declared.trap.TrapKind.{TrapKind}
+use Rattle.c_meaning.specs.declared.word.Word.{Word}
+use Rattle.c_meaning.specs.declared.word.Word.TheVariants.{Root, Field}
+use Rattle.c_meaning.specs.Locals.{Local, scopes_of}
+use Rattle.c_meaning.specs.Access.{word_named, new_object}
+use Rattle.ir.specs.declared.instruction.Target.{Target}
+use Rattle.ir.specs.declared.function.Ir.{Ir}
+use Rattle.lower.specs.Names.{Variables, function_number, kind_named}
+use Rattle.lower.specs.Lowers.{Context, target_of}
+use Rattle.code_meaning.specs.Code.{Spot, InRoot, InSlot, spot_of, new_in}
+use Rattle.lower_law.proofs.Locals.{Entry, entry_register, scopes_in}
+
+-- a word of the tree's meaning as one of the code's
+abbrev pub spot_in : Result Word TrapKind → Result Spot TrapKind
+spot_in (Ok (Root i)) = Ok (InRoot i)
+spot_in (Ok (Field s i)) = Ok (InSlot s i)
+spot_in (Err k) = Err k
+
+-- a field names the same word in the tree and in the code
+abbrev pub WordFits : Tables → Shapes → List Entry → ExprTree → Target → Type 0
+WordFits t shapes es e x = (ls : List Local) → scopes_of ls ≡ scopes_in es → (w : PoolMap) (b : ℤ) (j : Option ℤ) → spot_in (word_named t ls w e b j) ≡ spot_of shapes w x b j
+
+-- a function that is called is there, at its number
+pub record CallFits (t : Tables) (name : Ident) : Type 0 where
+  pub fn : FunctionTree
+  pub named : function_named t name.text ≡ Some fn
+  pub stands : slice_get t.functions (function_number t name.text) ≡ Some fn
+
+module _ (k : Context) (ir : Ir) (v : Variables) (es : List Entry) where
+  abbrev pub FieldFits : ExprTree → Type 0
+  FieldFits e = (p : ℕ) → WordFits k.tables ir.shapes es e (target_of k v e p)
+
+  abbrev mutual
+    pub ExpFits : ExprTree → Type 0
+    ExpFits (expr.Number n) = Unit {0}
+    ExpFits expr.Null = Unit {0}
+    ExpFits (expr.Variable name) = (r : ℕ) × (entry_register name.text es ≡ Some r)
+    ExpFits (expr.Call name all) = CallFits k.tables name × ArgumentsFit all
+    ExpFits (expr.Root name) = FieldFits (expr.Root name)
+    ExpFits (expr.New place name) = (w : PoolMap) → new_object k.tables w name.text ≡ new_in ir.shapes w (kind_named k.tables name.text)
+    ExpFits (expr.Arrow base place name) = ExpFits base × FieldFits (expr.Arrow base place name)
+    ExpFits (expr.Index a place i) = PointerFits a × ExpFits i
+    ExpFits (expr.Unary o place a) = ExpFits a
+    ExpFits (expr.Binary o place a b) = ExpFits a × ExpFits b
+
+    -- the field of an element
+    pub PointerFits : ExprTree → Type 0
+    PointerFits (expr.Root name) = FieldFits (expr.Root name)
+    PointerFits (expr.Arrow base place name) = ExpFits base × FieldFits (expr.Arrow base place name)
+    PointerFits (expr.Number n) = ⊥
+    PointerFits expr.Null = ⊥
+    PointerFits (expr.Variable name) = ⊥
+    PointerFits (expr.Call name all) = ⊥
+    PointerFits (expr.New place name) = ⊥
+    PointerFits (expr.Index a place i) = ⊥
+    PointerFits (expr.Unary o place a) = ⊥
+    PointerFits (expr.Binary o place a b) = ⊥
+
+    pub ArgumentsFit : Arguments → Type 0
+    ArgumentsFit expr.None = Unit {0}
+    ArgumentsFit (expr.More first e rest) = ExpFits e × ArgumentsFit rest
