@@ -1,0 +1,7 @@
+pub mod Words
+pub mod PlainCalls
+pub mod PlainStatements
+pub mod Tokens
+pub mod ExprConstants
+pub mod StmtConstants
+pub mod Laws
