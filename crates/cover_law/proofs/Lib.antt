@@ -1,0 +1,17 @@
+pub mod Registers
+pub mod Fields
+pub mod Spots
+pub mod Knowing
+pub mod Fills
+pub mod Pools
+pub mod Frames
+pub mod Targets
+pub mod Moments
+pub mod Loads
+pub mod Stores
+pub mod News
+pub mod Calls
+pub mod Steps
+pub mod Cover
+pub mod Headers
+pub mod Parts

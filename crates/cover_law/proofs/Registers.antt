@@ -1,0 +1,24 @@
+-- Registers behind a write, and those that a call hands over.
+use Rattle.std.proofs.Common.{◌≡◌, ◌≢◌, ℕ, zero, suc, ℤ, List, [], ◌∷◌, map, Some, slice_get, refl, ap}
+use Rattle.code_meaning.specs.Code.{at, put}
+
+pub at_put_same : (vs : List ℤ) (n : ℕ) (v : ℤ) → at (put vs n v) n ≡ v
+at_put_same [] zero v = refl
+at_put_same [] (suc n) v = at_put_same [] n v
+at_put_same (u ∷ us) zero v = refl
+at_put_same (u ∷ us) (suc n) v = at_put_same us n v
+
+pub at_put_other : (vs : List ℤ) (n m : ℕ) (v : ℤ) → m ≢ n → at (put vs n v) m ≡ at vs m
+at_put_other [] zero zero v other = absurd (other refl)
+at_put_other [] zero (suc m) v other = refl
+at_put_other [] (suc n) zero v other = refl
+at_put_other [] (suc n) (suc m) v other = at_put_other [] n m v (λ e. other (ap suc e))
+at_put_other (u ∷ us) zero zero v other = absurd (other refl)
+at_put_other (u ∷ us) zero (suc m) v other = refl
+at_put_other (u ∷ us) (suc n) zero v other = refl
+at_put_other (u ∷ us) (suc n) (suc m) v other = at_put_other us n m v (λ e. other (ap suc e))
+
+pub at_map : (regs : List ℤ) (args : List ℕ) (j b : ℕ) → slice_get args j ≡ Some b → at (map (at regs) args) j ≡ at regs b
+at_map regs [] j b is = absurd (cc)
+at_map regs (a ∷ args) zero b is = ap (at regs) (cc)
+at_map regs (a ∷ args) (suc j) b is = at_map regs args j b is
