@@ -1,0 +1,16 @@
+pub mod Shown
+pub mod Comes
+pub mod Addresses
+pub mod Stores
+pub mod Changes
+pub mod Checks
+pub mod Fields
+pub mod Targets
+pub mod Locals
+pub mod Objects
+pub mod Looks
+pub mod Made
+pub mod Piece
+pub mod Kept
+pub mod WordState
+pub mod PoolIn

@@ -1,0 +1,181 @@
+-- A new object: its piece does what the instruction does.
+use Rattle.std.proofs.Common.{◌≡◌, ℕ, zero, suc, ◌+◌, ◌*◌, ◌≤◌, Bool, true, false, List, [], ◌∷◌, ◌++◌, length, Option, None, Some, ℤ, pos, refl, sym, ap, ◌∙◌, subst, arith, append_assoc, length-append, ltb, le-ltb, ⊎_elim}
+use Rattle.std.specs.Prelude.{◌+ℤ◌, if◌then◌else◌, option_and_then}
+use Rattle.std.specs.Int.{w64, int_wrap}
+use Rattle.std.specs.Option.{option_map_or}
+use Rattle.cache_model.specs.Cache.{Words}
+use Rattle.cache_model.specs.Cache as cache
+use Rattle.pool_layout.specs.declared.limits.Sizes.{Sizes}
+use Rattle.pool_layout.specs.Sizes.{slot_word}
+use Rattle.std.proofs.lemmas.Option.{slice_get_cases}
+use Rattle.pool_map.specs.declared.shapes.FieldShape.{FieldShape}
+use Rattle.pool_map.specs.declared.shapes.StructShape.{StructShape}
+use Rattle.pool_map.specs.declared.shapes.Shapes.{Shapes}
+use Rattle.pool_map.specs.PoolFits.{PoolFits, words_of}
+use Rattle.pool_map.specs.PoolMap.{PoolMap, least_free, new}
+use Rattle.pool_map.proofs.Least.{least_free-some}
+use Rattle.ir.specs.declared.site.Site.{Site}
+use Rattle.ir.specs.WellFormed.{IsKind}
+use Rattle.code_meaning.specs.Code.{Frame, Move, at, put, new_at, new_in, fields_of}
+use Rattle.code_meaning.specs.Code as code
+use Rattle.code_meaning.specs.Deeds.{Deed, Heads, zeros, deeds_new, site}
+use Rattle.pm_machine.specs.declared.effect.Effect.{Effect}
+use Rattle.pm_machine.specs.Effects.{heap_end, records_end}
+use Rattle.pm_alloc.specs.declared.local.Reg.TheVariants.{Own, Temp}
+use Rattle.pm_alloc.specs.declared.local.Local.{Local}
+use Rattle.pm_alloc.specs.declared.local.Local.TheVariants.{Mov, Trap}
+use Rattle.pm_alloc.specs.Pieces.{offset, fill_code, new_head, new_code}
+use Rattle.pm_alloc.specs.Runs.{Goes, run}
+use Rattle.pm_alloc.specs.LocalRun.{World, Loc, step}
+use Rattle.pm_alloc.specs.Search.{looked}
+use Rattle.pm_alloc.specs.Free.{begin}
+use Rattle.pm_alloc.proofs.Search.{address_is, Finds, searched_whole}
+use Rattle.codegen.specs.Emit.{make_words, make_code}
+use Rattle.codegen.specs.Fields.{words_from}
+use Rattle.piece_law.specs.Stands.{Stands, header_word}
+use Rattle.piece_law.specs.Fits.{IsFit}
+use Rattle.piece_law.specs.Shows.{Shows}
+use Rattle.piece_law.specs.Law.{onward}
+use Rattle.piece_law.proofs.Shown.{heap_append, looks_heap, looks_records}
+use Rattle.piece_law.proofs.Comes.{Comes, comes, comes_on, comes_quiet, done_by}
+use Rattle.piece_law.proofs.Stores.{Here, here_all, here_back, store_effects, zero_effects, fill_steps, fill_few, head_comes, fill_comes}
+use Rattle.piece_law.proofs.Changes.{stands_new}
+use Rattle.piece_law.proofs.Fields.{words_is}
+use Rattle.piece_law.proofs.Locals.{written_is, Done}
+use Rattle.piece_law.proofs.Looks.{looks_of, looks_show, least_is, headers_of, searched_world, temp_kept}
+
+module _ (s : Sizes) (logged : Site → Bool) (shapes : Shapes) (f p : ℕ) (regs : List ℤ) (below : List Frame) (x : ℕ → ℤ) (v : World) (w : PoolMap) (fit : IsFit s shapes) (fits : PoolFits shapes w) (stands : Stands s v.heap w) (few : v.records ≤ s.records) where
+  abbrev first : Loc
+  first = begin (at regs) x v
+
+  abbrev Does_all : List Local → List Deed → Move → Type 0
+  Does_all piece ds move = Done s logged shapes f p regs below x v w fit fits stands few piece ds move
+
+  module _ (to kind c : ℕ) (b : Bool) (marked : logged (site f p true) ≡ b) (short : c ≤ 15) where
+    abbrev piece : List Local
+    piece = new_code s to kind c b
+
+    abbrev fill : List Local
+    fill = fill_code s b 1 c
+
+    abbrev es : List Effect
+    es = looks_of s v.heap s.slots 1
+
+    abbrev loc : ℕ → Words → List ℤ → World → Loc
+    loc k own temp u = record { at = k; own = own; temp = temp; world = u }
+
+    abbrev Search : ℕ → Option ℕ → Type 0
+    Search n o = Finds s to kind c b (at regs) x v.heap v.ticks v.records v.seen fit.pool (headers_of s v.heap w stands) n o (looked s v.heap s.slots 1 v.seen)
+
+    shows : Shows s logged [] es
+    shows = looks_show s v.heap logged s.slots 1 (omega arith) (omega arith)
+
+    still_few : records_end v.records es ≤ s.records
+    still_few = subst (λ (n : ℕ). n ≤ s.records) (sym (looks_records s logged [] es v.records shows refl)) few
+
+    whole : 17 + length fill + 1 ≡ length piece
+    whole = omega (arith, length-append (new_head s to kind (length fill)) (fill ++ Mov (Own to) (Temp 0) ∷ []), length-append fill (Mov (Own to) (Temp 0) ∷ []))
+
+    -- no slot is free
+    none_left : (n : ℕ) → n ≤ 6 * s.slots + 5 → Search n None → Does_all piece [] (code.Goes (code.Here f (suc p) (put regs to (pos 0)) below w v.ticks))
+    none_left n small found =
+        let temp : List ℤ = found.0 in
+        let path : run (step s piece) n first ≡ Goes (loc 11 (at regs) temp (onward v es v.ticks)) = found.1 ∙ ap (λ (u : World). Goes (loc 11 (at regs) temp u)) (searched_world s logged v) in (
+          n + 2,
+          omega arith,
+          done_by s logged piece (n + 2) first v [] es (loc (17 + length fill + 1) (cache.put (at regs) to (pos 0)) temp) f (suc p) (put regs to (pos 0)) below w v.ticks
+              (comes_quiet s logged piece n 2 first v [] es (loc 11 (at regs) temp) (loc (17 + length fill + 1) (cache.put (at regs) to (pos 0)) temp) (comes shows still_few path) (λ u. refl))
+              (λ room. record { place = whole; temp = temp_kept s piece n 8 first (loc 11 (at regs) temp (onward v es v.ticks)) refl path; own = written_is regs to (pos 0); world = refl; stands = subst (λ (h : Words). Stands s h w) (sym (looks_heap s logged [] es v.heap shows refl)) stands; records = room }),
+        )
+
+    -- slot q is free
+    module _ (q n : ℕ) (low : 1 ≤ q) (high : q ≤ length w.slots) (small : n ≤ 6 * s.slots + 5) (found : Search n (Some q)) where
+      abbrev temp0 : List ℤ
+      temp0 = pos q ∷ pos (16 * q) ∷ pos s.slots ∷ pos 1 ∷ pos 16 ∷ found.0 ∷ found.1 ∷ x 7 ∷ []
+
+      abbrev temp1 : List ℤ
+      temp1 = pos q ∷ pos (16 * q) ∷ pos s.slots ∷ pos 1 ∷ pos 16 ∷ pos kind ∷ found.1 ∷ x 7 ∷ []
+
+      abbrev temp2 : List ℤ
+      temp2 = pos q ∷ pos (16 * q) ∷ pos s.slots ∷ pos 1 ∷ pos 16 ∷ pos kind ∷ pos 0 ∷ x 7 ∷ []
+
+      abbrev head : List Effect
+      head = store_effects true (header_word s q) (pos kind)
+
+      abbrev zeros_in : List Effect
+      zeros_in = zero_effects s b q 0 c
+
+      within : q ≤ s.slots
+      within = omega (arith, stands.slots)
+
+      search : run (step s piece) n first ≡ Goes (loc 13 (at regs) temp0 (onward v es v.ticks))
+      search = found.2 ∙ ap (λ (u : World). Goes (loc 13 (at regs) temp0 u)) (searched_world s logged v)
+
+      address : int_wrap w64 (pos (16 * q) +ℤ offset s 0) ≡ pos (header_word s q)
+      address = let e : slot_word s q + 0 ≡ slot_word s q = omega arith in address_is s q 0 low (omega (arith, within, fit.pool.few)) fit.pool.lines (omega arith) ∙ ap pos e
+
+      to_head : Comes s logged v [] es (loc 14 (at regs) temp1) (run (step s piece) (n + 1) first)
+      to_head = comes_quiet s logged piece n 1 first v [] es (loc 13 (at regs) temp0) (loc 14 (at regs) temp1) (comes shows still_few search) (λ u. refl)
+
+      headed : Comes s logged v (Heads (site f p false) q (pos kind) ∷ []) (es ++ head) (loc 16 (at regs) temp1) (run (step s piece) (n + 1 + 2) first)
+      headed = comes_on s logged piece (n + 1) 2 first v [] (Heads (site f p false) q (pos kind) ∷ []) es head (loc 14 (at regs) temp1) (loc 16 (at regs) temp1) to_head
+          (λ room. head_comes s logged piece (at regs) temp1 14 q (onward v es v.ticks) (Temp 1) (Temp 5) (offset s 0) (pos kind) (site f p false) (refl, (refl, tt)) address (low, within) room refl)
+
+      to_fill : Comes s logged v (Heads (site f p false) q (pos kind) ∷ []) (es ++ head) (loc 17 (at regs) temp2) (run (step s piece) (n + 1 + 2 + 1) first)
+      to_fill = comes_quiet s logged piece (n + 1 + 2) 1 first v (Heads (site f p false) q (pos kind) ∷ []) (es ++ head) (loc 16 (at regs) temp1) (loc 17 (at regs) temp2) headed (λ u. refl)
+
+      rest_here : Here piece 17 (fill ++ Mov (Own to) (Temp 0) ∷ [])
+      rest_here = here_all (fill ++ Mov (Own to) (Temp 0) ∷ []) (new_head s to kind (length fill))
+
+      filled : Comes s logged v (Heads (site f p false) q (pos kind) ∷ zeros (site f p true) q 0 c) ((es ++ head) ++ zeros_in) (loc (17 + length fill) (at regs) temp2) (run (step s piece) (n + 1 + 2 + 1 + fill_steps b c) first)
+      filled = comes_on s logged piece (n + 1 + 2 + 1) (fill_steps b c) first v (Heads (site f p false) q (pos kind) ∷ []) (zeros (site f p true) q 0 c) (es ++ head) zeros_in (loc 17 (at regs) temp2) (loc (17 + length fill) (at regs) temp2) to_fill
+          (λ room. fill_comes s logged piece (at regs) temp2 fit.pool b (site f p true) marked q low within refl refl c 0 17 (onward v (es ++ head) v.ticks) (Mov (Own to) (Temp 0) ∷ []) rest_here (omega arith) room)
+
+      mov : (u : World) → run (step s piece) 1 (loc (17 + length fill) (at regs) temp2 u) ≡ Goes (loc (17 + length fill + 1) (cache.put (at regs) to (pos q)) temp2 u)
+      mov u = rw (here_back piece 17 fill (Mov (Own to) (Temp 0) ∷ []) rest_here).0 refl
+
+      heap_is : heap_end v.heap ((es ++ head) ++ zeros_in) ≡ heap_end v.heap (head ++ zeros_in)
+      heap_is = ap (heap_end v.heap) (append_assoc es head zeros_in) ∙ heap_append es (head ++ zeros_in) v.heap ∙ ap (λ (h : Words). heap_end h (head ++ zeros_in)) (looks_heap s logged [] es v.heap shows refl)
+
+      one_made : Does_all piece (Heads (site f p false) q (pos kind) ∷ zeros (site f p true) q 0 c) (code.Goes (code.Here f (suc p) (put regs to (pos q)) below (new w q kind c) v.ticks))
+      one_made = (
+        n + 1 + 2 + 1 + fill_steps b c + 1,
+        omega (arith, fill_few b c),
+        done_by s logged piece (n + 1 + 2 + 1 + fill_steps b c + 1) first v (Heads (site f p false) q (pos kind) ∷ zeros (site f p true) q 0 c) ((es ++ head) ++ zeros_in) (loc (17 + length fill + 1) (cache.put (at regs) to (pos q)) temp2) f (suc p) (put regs to (pos q)) below (new w q kind c) v.ticks
+            (comes_quiet s logged piece (n + 1 + 2 + 1 + fill_steps b c) 1 first v (Heads (site f p false) q (pos kind) ∷ zeros (site f p true) q 0 c) ((es ++ head) ++ zeros_in) (loc (17 + length fill) (at regs) temp2) (loc (17 + length fill + 1) (cache.put (at regs) to (pos q)) temp2) filled mov)
+            (λ room. record { place = whole; temp = refl; own = written_is regs to (pos q); world = refl; stands = subst (λ (h : Words). Stands s h (new w q kind c)) (sym heap_is) (stands_new s shapes v.heap w fit fits stands b q kind c (low, high) short); records = room }),
+      )
+
+    by_free : (n : ℕ) (o : Option ℕ) → least_free w ≡ o → n ≤ 6 * s.slots + 5 → Search n o → Does_all piece (deeds_new f p kind c o) (code.Goes (code.Here f (suc p) (put regs to (new_at w kind c o).0) below (new_at w kind c o).1 v.ticks))
+    by_free n None is small found = none_left n small found
+    by_free n (Some q) is small found = let slot = (least_free-some w q is).0 in one_made q n slot.0 slot.1 small found
+
+    code_does : Does_all piece (deeds_new f p kind c (least_free w)) (code.Goes (code.Here f (suc p) (put regs to (new_at w kind c (least_free w)).0) below (new_at w kind c (least_free w)).1 v.ticks))
+    code_does =
+        let g = searched_whole s to kind c b (at regs) x v.heap v.ticks v.records v.seen fit.pool (headers_of s v.heap w stands) in
+        by_free g.0 (least_free w) refl g.1 (subst (Search g.0) (least_is s shapes v.heap w fits stands) g.2)
+
+  pub new_does : (to kind : ℕ) (b : Bool) → IsKind shapes kind → logged (site f p true) ≡ b →
+      Does_all (make_code s shapes to kind b) (deeds_new f p kind (words_of (fields_of shapes kind)) (least_free w)) (code.Goes (code.Here f (suc p) (put regs to (new_in shapes w kind).0) below (new_in shapes w kind).1 v.ticks))
+  new_does to zero b is marked = absurd (omega (arith, is.0))
+  new_does to (suc k) b is marked = ⊎_elim
+      (λ g. subst Made (sym g.2) (subst (λ (o : Option ℕ). Made_words o g.0) (sym (words_is 15 0 g.0.fields (omega (arith, fit.short k g.0 g.2)))) (with_words g.0 (fit.short k g.0 g.2))))
+      (λ g. absurd (omega (arith, is.1, g.0)))
+      (slice_get_cases shapes.structs k).1
+    where
+      Made_words : Option ℕ → StructShape → Type 0
+      Made_words o u = Does_all (make_words s to (suc k) b o) (deeds_new f p (suc k) (words_of u.fields) (least_free w)) (code.Goes (code.Here f (suc p) (put regs to (new_at w (suc k) (words_of u.fields) (least_free w)).0) below (new_at w (suc k) (words_of u.fields) (least_free w)).1 v.ticks))
+
+      fields_in : Option StructShape → List FieldShape
+      fields_in o = option_map_or (λ (u : StructShape). u.fields) o []
+
+      Made : Option StructShape → Type 0
+      Made o = Does_all (make_words s to (suc k) b (option_and_then (λ (u : StructShape). words_from 15 0 u.fields) o)) (deeds_new f p (suc k) (words_of (fields_in o)) (least_free w)) (code.Goes (code.Here f (suc p) (put regs to (new_at w (suc k) (words_of (fields_in o)) (least_free w)).0) below (new_at w (suc k) (words_of (fields_in o)) (least_free w)).1 v.ticks))
+
+      with_words : (u : StructShape) → words_of u.fields ≤ 15 → Made_words (Some (0 + words_of u.fields)) u
+      with_words u short =
+          let zero_on : 0 + words_of u.fields ≡ words_of u.fields = omega arith in
+          let test : ltb 15 (words_of u.fields) ≡ false = le-ltb 15 (words_of u.fields) short in
+          subst (λ (n : ℕ). Made_words (Some n) u) (sym zero_on)
+          (subst (λ (t : Bool). Does_all (if t then Trap 2 ∷ [] else new_code s to (suc k) (words_of u.fields) b) (deeds_new f p (suc k) (words_of u.fields) (least_free w)) (code.Goes (code.Here f (suc p) (put regs to (new_at w (suc k) (words_of u.fields) (least_free w)).0) below (new_at w (suc k) (words_of u.fields) (least_free w)).1 v.ticks))) (sym test)
+          (code_does to (suc k) (words_of u.fields) b marked short))

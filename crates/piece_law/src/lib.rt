@@ -1,0 +1,29 @@
+//! What the piece of machine code of each three-address instruction does, run alone: on a heap that
+//! stands for a pool it does what the instruction does on the pool. Its one contract for the crates
+//! above: the laws of `specs/`, each a clause of a function that does nothing.
+#![tactic(auto)]
+
+ghost use Rattle.piece_law.specs.Law.{PieceLaw};
+ghost use Rattle.piece_law.specs.Pools.{FitsLaw, HeadersLaw, PoolLaw};
+ghost use Rattle.piece_law.specs.Shows.{CutsLaw, ShowsLaw};
+ghost use Rattle.piece_law.specs.Words.{WordsLaw};
+
+/// The piece of each instruction that stays in its function does what the instruction does.
+pub fn piece_law()
+    ensures { PieceLaw }
+{}
+
+/// Effects that show deeds, one part behind the other, show them together.
+pub fn shows_law()
+    ensures whole { ShowsLaw }
+    ensures cut { CutsLaw }
+{}
+
+/// A heap with valid headers stands for exactly one pool that fits, and each instruction leaves a pool
+/// that fits, and a state whose values are words a state of words.
+pub fn pools_law()
+    ensures pool { PoolLaw }
+    ensures headers { HeadersLaw }
+    ensures fits { FitsLaw }
+    ensures words { WordsLaw }
+{}
