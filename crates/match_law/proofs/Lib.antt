@@ -1,0 +1,15 @@
+pub mod Compiled
+pub mod Controls
+pub mod Effects
+pub mod Entries
+pub mod Frames
+pub mod Keep
+pub mod Leads
+pub mod Moves
+pub mod Places
+pub mod Registers
+pub mod Runs
+pub mod Staying
+pub mod Steps
+pub mod Whole
+pub mod Within

@@ -1,0 +1,14 @@
+-- What a run of the machine does to the words of the heap: its loads, its stores and its logs, without its quiet steps, its
+-- flushes and its fences.
+use Rattle.std.specs.Prelude.{List, [], ◌∷◌}
+use Rattle.pm_machine.specs.declared.effect.Effect.{Effect}
+use Rattle.pm_machine.specs.declared.effect.Effect.TheVariants.{Loads, Stores, Logs, Flushes, Fences, Quiet}
+
+abbrev pub accesses : List Effect → List Effect
+accesses [] = []
+accesses (Loads w ∷ es) = Loads w ∷ accesses es
+accesses (Stores w x ∷ es) = Stores w x ∷ accesses es
+accesses (Logs w ∷ es) = Logs w ∷ accesses es
+accesses (Flushes l ∷ es) = accesses es
+accesses (Fences ∷ es) = accesses es
+accesses (Quiet ∷ es) = accesses es

@@ -1,0 +1,4 @@
+pub mod Accesses
+pub mod Compiled
+pub mod Match
+pub mod Law
