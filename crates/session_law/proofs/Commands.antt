@@ -1,0 +1,202 @@
+-- Each command is answered as the source says.
+use Rattle.std.proofs.Common.{◌≡◌, ℕ, Bool, true, false, ◌==◌, List, length, Option, Some, None, ℤ, pos, refl, sym, ap, ◌∙◌, subst}
+use Rattle.std.proofs.lemmas.Bool.{eqb-true}
+use Rattle.cache_model.specs.Cache.{Words, Cache, view}
+use Rattle.cache_model.specs.Image.{Images}
+use Rattle.pmem.specs.Device.{Device, with_left, with_armed}
+use Rattle.pool_map.specs.Trap.{trap_number}
+use Rattle.pool_map.specs.PoolText.{pool_text}
+use Rattle.c_types.specs.Shapes.{shapes_of}
+use Rattle.clobber_log.specs.Logs.{count_in}
+use Rattle.pm_machine.specs.Effects.{heap_end}
+use Rattle.pm_machine.specs.Runs.{heap_in}
+use Rattle.crash_law.specs.Pools.{IsBefore, Lost}
+use Rattle.crash_law.specs.Law.{IsAtRest, IsCut}
+use Rattle.run_law.specs.Seen.{result_of, E, W}
+use Rattle.cut_law.specs.Law.{call_of, pool_with}
+use Rattle.cnvm_script.specs.declared.command.Command.TheVariants as command
+use Rattle.cnvm_session.specs.declared.mode.Mode.{Mode}
+use Rattle.cnvm_session.specs.declared.mode.Mode.TheVariants as mode
+use Rattle.cnvm_session.specs.declared.answer.Answer.{Answer}
+use Rattle.cnvm_session.specs.declared.answer.Answer.TheVariants as answer
+use Rattle.cnvm_session.specs.declared.program.Program.{Program}
+use Rattle.cnvm_session.specs.Shown.{heap_of}
+use Rattle.cnvm_session.specs.Commands as commanded
+use Rattle.cnvm_session.specs.Commands.{number_of, parameters_of}
+use Rattle.session_law.specs.Source.{Counts, sizes_of, pool_of}
+use Rattle.session_law.specs.Words.{AreWords}
+use Rattle.session_law.specs.Agrees.{Agrees}
+use Rattle.session_law.specs.State.{Pending, Standing, Ready, Down, Unusable, State, standing_as}
+use Rattle.session_law.specs.Answers.{Refused, Runs, CallsWith, CallsTo, CallsNamed, Calls, Tells, Shows, Lasts}
+use Rattle.session_law.specs.Holds.{HoldsPool, IsResting, OwesNone, HoldsAs, Holds}
+use Rattle.session_law.specs.Law.{SessionLaw}
+use Rattle.session_law.proofs.Heaps.{pool_same, shown_same, pool_fits}
+use Rattle.session_law.proofs.Resting.{resting_owes}
+use Rattle.session_law.proofs.Calls.{call_runs}
+use Rattle.session_law.proofs.Powers.{power_answers}
+
+module _ (program : Program) (super : Words) where
+  -- the same cache, and the same switch
+  same_as : (m : Mode) (d e : Device) (s : State) → e.on ≡ d.on → e.cache ≡ d.cache → (st : Standing) → HoldsAs st program super m d s → HoldsAs st program super m e s
+  same_as m d e s on cache Ready holds =
+      let r = holds.1 in
+      let back : d.cache ≡ e.cache = sym cache in (
+        holds.0,
+        record {
+          on = on ∙ r.on;
+          rest = subst IsAtRest back r.rest;
+          before = subst (λ (c : Cache). IsBefore (pool_with program.image super) s.done (heap_in (sizes_of program) c) s.last (view c)) back r.before;
+          empty = subst (λ (c : Cache). count_in (sizes_of program) (view c) ≡ 0) back r.empty;
+          holds = subst (λ (c : Cache). HoldsPool program (heap_in (sizes_of program) c) s) back r.holds;
+        },
+      )
+  same_as m d e s on cache (Down None) holds =
+      let r = holds.1 in (
+        holds.0,
+        record {
+          heap = r.heap;
+          holds = r.holds;
+          left = subst (Images (IsBefore (pool_with program.image super) s.done r.heap s.last)) (sym cache) r.left;
+        },
+      )
+  same_as m d e s on cache (Down (Some owed)) holds =
+      let r = holds.1 in (
+        holds.0,
+        record {
+          heap = r.heap;
+          holds = r.holds;
+          takes = r.takes;
+          words = r.words;
+          end = r.end;
+          effects = r.effects;
+          ran = r.ran;
+          left = subst (Images (IsCut (pool_with program.image super) (call_of s.done owed.tx owed.args) (E r.effects) (W r.effects) r.heap (heap_end r.heap r.effects) s.last (result_of r.end))) (sym cache) r.left;
+        },
+      )
+  same_as m d e s on cache (Unusable kind) holds = (holds.0, subst (Images (Lost (pool_with program.image super) (trap_number kind))) (sym cache) holds.1)
+
+  moved : (m n : Mode) (d b : Device) (s : State) → n ≡ m → b ≡ d → Holds program super m d s → Holds program super n b s
+  moved m n d b s modes devices holds =
+      subst (λ (x : Mode). Holds program super x b s) (sym modes) (subst (λ (x : Device). Holds program super m x s) (sym devices) holds)
+
+  -- a command that is refused
+  refused_as : (why : Answer) (m n : Mode) (d b : Device) (s : State) (a : Answer) → Holds program super m d s → commanded.Refused why m d a n b → (t : State) × Refused why s a t × Holds program super n b t
+  refused_as why m n d b s a holds h = (s, (h.0, refl), moved m n d b s h.1 h.2 holds)
+
+  down_mode : (owed : Option Pending) (m : Mode) (d : Device) (s : State) → HoldsAs (Down owed) program super m d s → m ≡ mode.Down
+  down_mode None m d s holds = holds.0
+  down_mode (Some owed) m d s holds = holds.0
+
+  module _ (counts : Counts) (agrees : Agrees program counts) (n : Mode) (d b : Device) (s : State) (a : Answer) (args : List ℤ) (words : AreWords args) (k k1 : ℕ)
+      (ready : s.standing ≡ Ready) (resting : IsResting program super d s) where
+    at_ready : Holds program super mode.Ready d s
+    at_ready = subst (λ (x : Standing). HoldsAs x program super mode.Ready d s) (sym ready) (refl, resting)
+
+    by_count : (tx count : ℕ) (same : Bool) → (count == length args) ≡ same → parameters_of program.image tx ≡ Some count
+        → commanded.CallsWith same program.image tx args d a n b k k1 → (t : State) × CallsWith same program counts s (view d.cache) tx args a t × Holds program super n b t
+    by_count tx count true same takes h =
+        let exact : parameters_of program.image tx ≡ Some (length args) = takes ∙ ap (λ (c : ℕ). Some c) (eqb-true count (length args) same) in
+        let done = call_runs program counts super agrees d s resting tx args exact words h.behind b k k1 ready h.called in (
+          done.0,
+          subst (λ (x : Answer). Runs program counts s (view d.cache) tx args x done.0) (sym h.answer) done.1,
+          subst (λ (x : Mode). Holds program super x b done.0) (sym h.mode) done.2,
+        )
+    by_count tx count false same takes h = refused_as answer.RefusedArity mode.Ready n d b s a at_ready h
+
+    by_parameters : (tx : ℕ) (count : Option ℕ) → parameters_of program.image tx ≡ count → commanded.CallsTo count program.image tx args d a n b k k1
+        → (t : State) × CallsTo count program counts s (view d.cache) tx args a t × Holds program super n b t
+    by_parameters tx None takes h = refused_as answer.RefusedUnknown mode.Ready n d b s a at_ready h
+    by_parameters tx (Some count) takes h = by_count tx count (count == length args) refl takes h
+
+    by_name : (number : Option ℕ) → commanded.CallsNamed number program.image args d a n b k k1
+        → (t : State) × CallsNamed number program counts s (view d.cache) args a t × Holds program super n b t
+    by_name None h = refused_as answer.RefusedUnknown mode.Ready n d b s a at_ready h
+    by_name (Some tx) h =
+        let done = by_parameters tx (parameters_of program.image tx) refl h in
+        (done.0, subst (λ (count : Option ℕ). CallsTo count program counts s (view d.cache) tx args a done.0) (agrees.parameters tx) done.1, done.2)
+
+  calls_as : (counts : Counts) (agrees : Agrees program counts) (name : List ℕ) (args : List ℤ) (words : AreWords args) (m n : Mode) (d b : Device) (s : State) (a : Answer) (k k1 : ℕ) (st : Standing) → s.standing ≡ st
+      → HoldsAs st program super m d s → Holds program super m d s → commanded.Calls program name args m d a n b k k1
+      → (t : State) × Calls st program counts s (view d.cache) name args a t × Holds program super n b t
+  calls_as counts agrees name args words m n d b s a k k1 Ready standing here holds h =
+      by_name counts agrees n d b s a args words k k1 standing here.1 (number_of program name) (subst (λ (x : Mode). commanded.Calls program name args x d a n b k k1) here.0 h)
+  calls_as counts agrees name args words m n d b s a k k1 (Down owed) standing here holds h =
+      let is : m ≡ mode.Down = down_mode owed m d s here in
+      refused_as answer.RefusedDown mode.Down n d b s a (subst (λ (x : Mode). Holds program super x d s) is holds) (subst (λ (x : Mode). commanded.Calls program name args x d a n b k k1) is h)
+  calls_as counts agrees name args words m n d b s a k k1 (Unusable kind) standing here holds h =
+      refused_as (answer.RefusedUnusable kind) (mode.Unusable kind) n d b s a (subst (λ (x : Mode). Holds program super x d s) here.0 holds)
+      (subst (λ (x : Mode). commanded.Calls program name args x d a n b k k1) here.0 h)
+
+  -- `show`
+  module _ (counts : Counts) (agrees : Agrees program counts) (n : Mode) (d : Device) (s : State) (ready : s.standing ≡ Ready) (resting : IsResting program super d s) where
+    text_as : (text : List ℕ) → commanded.Tells (shapes_of program.typed) (sizes_of program) d (answer.Shown text) n → text ≡ pool_text (shapes_of program.typed) s.pool
+    text_as text h =
+        let shown : Words = heap_of (sizes_of program) (view d.cache) in
+        let same : pool_of program shown ≡ s.pool = pool_same program shown (heap_in (sizes_of program) d.cache) (shown_same (sizes_of program) d.cache) ∙ resting.holds.pool in
+        h.0 resting.on (pool_fits program shown agrees.root) ∙ ap (pool_text (shapes_of program.typed)) same
+
+    ready_as : n ≡ mode.Ready → Holds program super n d s
+    ready_as is = subst (λ (x : Standing). HoldsAs x program super n d s) (sym ready) (is, resting)
+
+    tells_as : (a : Answer) → commanded.Tells (shapes_of program.typed) (sizes_of program) d a n → (t : State) × Tells program s a t × Holds program super n d t
+    tells_as (answer.Shown text) h = (s, (text_as text h, refl), ready_as h.1)
+    tells_as answer.NoMemory h = (standing_as (Down None) s, refl, (h, down_now))
+      where
+        owes : OwesNone program super d s
+        owes = resting_owes program super d s resting
+
+        down_now : OwesNone program super d (standing_as (Down None) s)
+        down_now = record { heap = owes.heap; holds = record { headers = owes.holds.headers; pool = owes.holds.pool; words = owes.holds.words }; left = owes.left }
+    tells_as answer.Silent h = absurd h
+    tells_as (answer.Done v l) h = absurd h
+    tells_as (answer.Trap t) h = absurd h
+    tells_as (answer.Stopped p) h = absurd h
+    tells_as answer.DeviceFault h = absurd h
+    tells_as answer.RecoveredNone h = absurd h
+    tells_as (answer.RecoveredRedone v l) h = absurd h
+    tells_as (answer.RecoveredTrap t) h = absurd h
+    tells_as (answer.Last f v) h = absurd h
+    tells_as answer.RefusedDown h = absurd h
+    tells_as (answer.RefusedUnusable t) h = absurd h
+    tells_as answer.RefusedUnknown h = absurd h
+    tells_as answer.RefusedArity h = absurd h
+    tells_as answer.RefusedNumbers h = absurd h
+    tells_as (answer.RefusedPick l) h = absurd h
+
+  shows_as : (counts : Counts) (agrees : Agrees program counts) (m n : Mode) (d b : Device) (s : State) (a : Answer) (st : Standing) → s.standing ≡ st → HoldsAs st program super m d s → Holds program super m d s
+      → commanded.Shows (shapes_of program.typed) (sizes_of program) m d a n b → (t : State) × Shows st program s a t × Holds program super n b t
+  shows_as counts agrees m n d b s a Ready standing here holds h =
+      let at = subst (λ (x : Mode). commanded.Shows (shapes_of program.typed) (sizes_of program) x d a n b) here.0 h in
+      let done = tells_as counts agrees n d s standing here.1 a at.0 in
+      (done.0, done.1, subst (λ (x : Device). Holds program super n x done.0) (sym at.1) done.2)
+  shows_as counts agrees m n d b s a (Down owed) standing here holds h =
+      let is : m ≡ mode.Down = down_mode owed m d s here in
+      refused_as answer.RefusedDown mode.Down n d b s a (subst (λ (x : Mode). Holds program super x d s) is holds)
+      (subst (λ (x : Mode). commanded.Shows (shapes_of program.typed) (sizes_of program) x d a n b) is h)
+  shows_as counts agrees m n d b s a (Unusable kind) standing here holds h =
+      refused_as (answer.RefusedUnusable kind) (mode.Unusable kind) n d b s a (subst (λ (x : Mode). Holds program super x d s) here.0 holds)
+      (subst (λ (x : Mode). commanded.Shows (shapes_of program.typed) (sizes_of program) x d a n b) here.0 h)
+
+  -- `last`
+  lasts_as : (m n : Mode) (d b : Device) (s : State) (a : Answer) (st : Standing) → s.standing ≡ st → HoldsAs st program super m d s → Holds program super m d s
+      → commanded.Lasts m d a n b → (t : State) × Lasts st s a t × Holds program super n b t
+  lasts_as m n d b s a Ready standing here holds h =
+      let at = subst (λ (x : Mode). commanded.Lasts x d a n b) here.0 h in
+      let words : answer.Last (view d.cache 17) (view d.cache 16) ≡ answer.Last (pos s.done) s.last = λ i. answer.Last (here.1.before.good.done i) (here.1.before.last_is i) in
+      (s, (at.0 here.1.on ∙ words, refl), moved m n d b s (at.1 ∙ sym here.0) at.2 holds)
+  lasts_as m n d b s a (Down owed) standing here holds h =
+      let is : m ≡ mode.Down = down_mode owed m d s here in
+      refused_as answer.RefusedDown mode.Down n d b s a (subst (λ (x : Mode). Holds program super x d s) is holds) (subst (λ (x : Mode). commanded.Lasts x d a n b) is h)
+  lasts_as m n d b s a (Unusable kind) standing here holds h =
+      refused_as (answer.RefusedUnusable kind) (mode.Unusable kind) n d b s a (subst (λ (x : Mode). Holds program super x d s) here.0 holds)
+      (subst (λ (x : Mode). commanded.Lasts x d a n b) here.0 h)
+
+pub each_command : SessionLaw
+each_command program counts super (command.Call name args) m n d b s a k k1 agrees words holds h = calls_as program super counts agrees name args words m n d b s a k k1 s.standing refl holds holds h
+each_command program counts super (command.Stop left) m n d b s a k k1 agrees words holds h =
+    (s, (h.0, refl), moved program super m n (with_left left d) b s h.1 h.2 (same_as program super m d (with_left left d) s refl refl s.standing holds))
+each_command program counts super (command.Fault at) m n d b s a k k1 agrees words holds h =
+    (s, (h.0, refl), moved program super m n (with_armed at d) b s h.1 h.2 (same_as program super m d (with_armed at d) s refl refl s.standing holds))
+each_command program counts super (command.Power choice) m n d b s a k k1 agrees words holds h = power_answers program counts super agrees choice m n d b s a k k1 holds h
+each_command program counts super command.Show m n d b s a k k1 agrees words holds h = shows_as program super counts agrees m n d b s a s.standing refl holds holds h
+each_command program counts super command.Last m n d b s a k k1 agrees words holds h = lasts_as program super m n d b s a s.standing refl holds holds h

@@ -1,0 +1,9 @@
+pub mod Source
+pub mod Words
+pub mod Agrees
+pub mod State
+pub mod Answers
+pub mod Opened
+pub mod Holds
+pub mod Law
+pub mod History
