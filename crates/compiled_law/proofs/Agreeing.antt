@@ -1,0 +1,357 @@
+-- A compiled program agrees with its source.
+use Rattle.std.proofs.Common.{◌≡◌, ℕ, zero, suc, ◌+◌, ◌-◌, ◌*◌, ◌<◌, ◌≤◌, ◌^◌, ℤ, pos, Bool, true, false, List, [], ◌∷◌, ◌++◌, length, map, Option, Some, None, refl, sym, ap, ◌∙◌, subst, arith, inl, inr, ⊎_elim}
+use mathlib.Core.Logic.{◌⊎◌}
+use Rattle.std.specs.Option.{option_map_or}
+use Rattle.std.specs.Prelude.{◌==◌, slice_get, slice_index_or, option_map, if◌then◌else◌, Result, Ok, Err}
+use Rattle.std.specs.List.{AllByRecursion}
+use Rattle.std.proofs.lemmas.List.{length-map}
+use Rattle.std.proofs.lemmas.Option.{slice_get-map, slice_get_within}
+use Rattle.cache_model.specs.Cache.{Words}
+use Rattle.pool_layout.specs.declared.limits.Sizes.{Sizes}
+use Rattle.pool_map.specs.declared.shapes.Shapes.{Shapes}
+use Rattle.pool_map.specs.declared.trap.TrapKind.TheVariants.{LogFull}
+use Rattle.pool_map.specs.PoolFits.{words_of, PoolFits}
+use Rattle.pool_map.specs.PoolMap.{PoolMap, read, read_root}
+use Rattle.nvm_base.specs.Wrap.{IsWord}
+use Rattle.c_lexer.specs.declared.token.Placed.{Placed}
+use Rattle.c_lexer.specs.TokenList.{Tokens}
+use Rattle.c_parser.specs.ItemTree.{FunctionTree}
+use Rattle.c_parser.specs.Program as parser
+use Rattle.c_types.specs.Tables.{Tables, tables_of}
+use Rattle.c_types.specs.Shapes.{shapes_of, transactions_in}
+use Rattle.c_meaning.specs.Meaning.{Out, Got, Stops, entered, calls_of}
+use Rattle.c_meaning.specs.Transaction.{Outcome, outcome, transaction_in, transaction, transaction_means, run}
+use Rattle.ir.specs.declared.instruction.Target.{Target}
+use Rattle.ir.specs.declared.instruction.Instruction.{Instruction}
+use Rattle.ir.specs.declared.instruction.Instruction.TheVariants.{Const, Copy, Bin, Jump, Branch, Load, Store, New, Free, Call, Return, Tick, Trap, Log}
+use Rattle.ir.specs.declared.function.IrFunction.{IrFunction}
+use Rattle.ir.specs.declared.function.Ir.{Ir}
+use Rattle.ir.specs.Places.{instruction_at, CallsAt, IsTransaction}
+use Rattle.ir.specs.Short.{IsShort}
+use Rattle.ir.specs.WellFormed.{IsFunction, IsWellFormed}
+use Rattle.lower.specs.Program.{lowered_function, lowered}
+use Rattle.lower_law.specs.Law as lower
+use Rattle.lower_law.proofs.Laws as lowering
+use Rattle.code_meaning.proofs.Lists.{all_at}
+use Rattle.code_meaning.specs.Whole.{whole}
+use Rattle.size_law.proofs.ProgramShort.{allowed}
+use Rattle.checked_law.proofs.Laws.{shapes, calls, limits, constants, logs}
+use Rattle.clobber_pass.specs.declared.marking.MarkTable.{MarkTable}
+use Rattle.clobber_pass.specs.Logged as table
+use Rattle.instrument.specs.Insert.{led, logged_function, logged_program}
+use Rattle.instrument.proofs.LoggedCode.{answer_well_formed}
+use Rattle.insert_law.specs.Law.{IsDone}
+use Rattle.insert_law.proofs.Standing.{function_at}
+use Rattle.insert_law.proofs.Origins.{origin}
+use Rattle.code_meaning.specs.Code.{End, Ended, Trapped, start, exec, at, load}
+use Rattle.code_meaning.specs.Code as code
+use Rattle.code_meaning.specs.Deeds.{deeds}
+use Rattle.pm_machine.specs.declared.effect.Effect.{Effect}
+use Rattle.pm_machine.specs.declared.effect.End.TheVariants as machine
+use Rattle.pm_machine.specs.declared.effect.End as machine_end
+use Rattle.pm_machine.specs.declared.image.Image.{Image}
+use Rattle.pm_machine.specs.declared.image.ImageParts.{ImageParts}
+use Rattle.pm_machine.specs.declared.op.TxEntry.{TxEntry}
+use Rattle.pm_machine.specs.Effects.{heap_end, records_end}
+use Rattle.pm_machine.specs.Machine.{mrun}
+use Rattle.codegen.specs.Emit.{functions_of, txs_from, known, most_steps}
+use Rattle.emit_law.specs.Standing.{HasRoom}
+use Rattle.emit_law.specs.TidyCode.{HasCode}
+use Rattle.piece_law.specs.Fits.{IsFit}
+use Rattle.piece_law.specs.Pools.{HasValidHeaders, pool_in}
+use Rattle.piece_law.specs.Stands.{Stands}
+use Rattle.piece_law.specs.Words as words
+use Rattle.piece_law.proofs.Kept.{stays_fit}
+use Rattle.piece_law.proofs.Piece.{piece_does}
+use Rattle.piece_law.proofs.PoolIn.{pool_is, headers_are}
+use Rattle.piece_law.proofs.Shown.{shown, cut}
+use Rattle.piece_law.proofs.WordState.{words_stay}
+use Rattle.cover_law.proofs.Cover.{covered}
+use Rattle.match_law.specs.Compiled.{IsCompiled, CallsNoTransaction}
+use Rattle.match_law.specs.Law.{KeepLaw}
+use Rattle.match_law.specs.Match.{most}
+use Rattle.match_law.proofs.Keep.{kept_all}
+use Rattle.cnvm_session.specs.declared.program.Program.{Program}
+use Rattle.cnvm_session.specs.Commands.{parameters_of}
+use Rattle.session_law.specs.Source.{sizes_of, tables_in, parameters, means, pool_of, HasHeaders}
+use Rattle.session_law.specs.Words.{AreWords, HasWords}
+use Rattle.session_law.specs.Agrees.{Matches, RunsAs, Agrees}
+use Rattle.compiled_law.specs.Runs.{EndsAs, RunIs}
+use Rattle.compiled_law.specs.Counts.{records_of, deeds_in, counts_of}
+use Rattle.compiled_law.specs.Law.{IsCompiledFrom, CompiledLaw}
+use Rattle.compiled_law.proofs.Apart.{heap_apart}
+use Rattle.compiled_law.proofs.Entering.{code_of, IsEntry, parameters_same, entries_same, entry_is}
+use Rattle.compiled_law.proofs.Numbers.{few_tokens, part_of_whole, all_below, logged_long, functions_long, all_known, is_pool, enough_steps}
+use Rattle.compiled_law.proofs.Pools.{pool_same}
+use Rattle.compiled_law.proofs.Room.{has_room_for}
+use Rattle.compiled_law.proofs.Sounding.{compiled_run}
+
+-- an instruction of the code, by the same one of the code with its logs
+led_const : (table : List ℕ) (flag : Bool) (i : Instruction) (to : ℕ) (v : ℤ) → Const to v ≡ led table flag i → i ≡ Const to v
+led_const table flag (Const t x) to v e = sym e
+led_const table flag (Copy t from) to v e = absurd (cc)
+led_const table flag (Bin o t a b) to v e = absurd (cc)
+led_const table flag (Jump q) to v e = absurd (cc)
+led_const table flag (Branch on q) to v e = absurd (cc)
+led_const table flag (Load t x) to v e = absurd (cc)
+led_const table flag (Store x from line) to v e = absurd (cc)
+led_const table flag (New t kind fill line) to v e = absurd (cc)
+led_const table flag (Free from kind line) to v e = absurd (cc)
+led_const table flag (Call t g args) to v e = absurd (cc)
+led_const table flag (Return from) to v e = absurd (cc)
+led_const table flag Tick to v e = absurd (cc)
+led_const table flag (Trap k) to v e = absurd (cc)
+led_const table flag (Log x) to v e = absurd (cc)
+
+led_call : (table : List ℕ) (flag : Bool) (i : Instruction) (to g : ℕ) (args : List ℕ) → Call to g args ≡ led table flag i → i ≡ Call to g args
+led_call table flag (Call t h others) to g args e = sym e
+led_call table flag (Const t x) to g args e = absurd (cc)
+led_call table flag (Copy t from) to g args e = absurd (cc)
+led_call table flag (Bin o t a b) to g args e = absurd (cc)
+led_call table flag (Jump q) to g args e = absurd (cc)
+led_call table flag (Branch on q) to g args e = absurd (cc)
+led_call table flag (Load t x) to g args e = absurd (cc)
+led_call table flag (Store x from line) to g args e = absurd (cc)
+led_call table flag (New t kind fill line) to g args e = absurd (cc)
+led_call table flag (Free from kind line) to g args e = absurd (cc)
+led_call table flag (Return from) to g args e = absurd (cc)
+led_call table flag Tick to g args e = absurd (cc)
+led_call table flag (Trap k) to g args e = absurd (cc)
+led_call table flag (Log x) to g args e = absurd (cc)
+
+-- words of a list, read from either side
+at_slice : (vs : List ℤ) (i : ℕ) → at vs i ≡ slice_index_or vs i (pos 0)
+at_slice [] i = refl
+at_slice (v ∷ vs) zero = refl
+at_slice (v ∷ vs) (suc i) = at_slice vs i
+
+hold_words : (args : List ℤ) → AreWords args → words.HoldWords args
+hold_words args are r = subst IsWord (sym (at_slice args r)) (are r)
+
+word_in : (w : PoolMap) → HasWords w → (x : code.Spot) → IsWord (load w x)
+word_in w has (code.InRoot i) = has.root i
+word_in w has (code.InSlot q i) = has.objects q i
+
+have_words : (w : PoolMap) → length w.slots < 2 ^ 63 → HasWords w → words.HasWords w
+have_words w few has = record { word = word_in w has; slots = few }
+
+words_had : (w : PoolMap) → words.HasWords w → HasWords w
+words_had w has = record { root = λ i. has.word (code.InRoot i); objects = λ q i. has.word (code.InSlot q i) }
+
+-- there are no more transactions than functions
+txs_few : (k : ℕ) (us : List IrFunction) → length (txs_from k us) ≤ length us
+txs_few k [] = omega arith
+txs_few k (u ∷ us) = by_test u.tx (txs_few (k + 1) us)
+  where
+    by_test : (b : Bool) → length (txs_from (k + 1) us) ≤ length us → length ((if b then record { function = k; parameters = u.parameters } ∷ [] else []) ++ txs_from (k + 1) us) ≤ suc (length us)
+    by_test true le = omega (arith, le)
+    by_test false le = omega (arith, le)
+
+same_is : (n : ℕ) → n == n ≡ true
+same_is n = grind arith
+
+one_less : (i : ℕ) → suc i - 1 ≡ i
+one_less i = omega arith
+
+done_end : (o : Out ℤ) → IsDone (lower.end_of o)
+done_end (Got v w t) = tt
+done_end (Stops k) = tt
+
+module _ (text : List ℕ) (list : Tokens) (marks : MarkTable) (program : Program) (c : IsCompiledFrom text list marks program) where
+  abbrev tree : parser.Program
+  tree = program.typed
+
+  abbrev t : Tables
+  t = tables_of (parser.tree_of tree)
+
+  abbrev plain : Ir
+  plain = lowered tree
+
+  abbrev L : Ir
+  L = logged_program marks plain
+
+  abbrev s : Sizes
+  s = program.image.parts.sizes
+
+  long : whole plain.functions ≤ 64 * length tree.lines + 256
+  long = allowed tree list.tokens c.spelled c.lines
+
+  few : length tree.lines ≤ 16384
+  few =
+      let same : length tree.lines ≡ length list.tokens = ap (λ (ls : List ℕ). length ls) c.lines ∙ length-map list.tokens (λ placed. placed.line) in
+      omega (arith, same, few_tokens text list c.cut)
+
+  short : IsShort plain
+  short = all_below (2 ^ 30) plain.functions (omega (arith, long, few))
+
+  formed : IsWellFormed L
+  formed = answer_well_formed {E = ℕ} marks plain (Ok L) c.formed short refl
+
+  fit : IsFit s (shapes_of tree)
+  fit = record {
+    pool = is_pool s;
+    root = sym (ap (λ (z : Sizes). z.root_words) c.sizes ∙ c.root);
+    short = (shapes tree c.checked).short;
+  }
+
+  functions_few : length L.functions < 2 ^ 32
+  functions_few = omega (arith, functions_long marks 0 plain.functions, (limits tree c.checked).few)
+
+  has_code : HasCode program.image s L
+  has_code = record {
+    functions = ap (λ (p : ImageParts). p.functions) c.made ∙ ap (λ (z : Sizes). functions_of z L) (sym c.sizes);
+    txs = ap (λ (p : ImageParts). p.txs) c.made;
+  }
+
+  found_logged : (f : ℕ) (v : IrFunction) → slice_get L.functions f ≡ Some v → (u : IrFunction) × (slice_get plain.functions f ≡ Some u) × (v ≡ logged_function marks f u)
+  found_logged f v e = by_option (slice_get plain.functions f) refl (sym (function_at marks 0 plain.functions f) ∙ e)
+    where
+      by_option : (o : Option IrFunction) → slice_get plain.functions f ≡ o → option_map (logged_function marks (0 + f)) o ≡ Some v → (u : IrFunction) × (slice_get plain.functions f ≡ Some u) × (v ≡ logged_function marks f u)
+      by_option None found h = absurd (cc)
+      by_option (Some u) found h =
+          let same : logged_function marks (0 + f) u ≡ v = cc in
+          let zero_f : 0 + f ≡ f = omega arith in
+          (u, found, sym same ∙ ap (λ (n : ℕ). logged_function marks n u) zero_f)
+
+  room : (f : ℕ) (v : IrFunction) → slice_get L.functions f ≡ Some v → HasRoom s L.shapes v
+  room f v e =
+      let u = found_logged f v e in
+      let registers : v.registers ≡ u.0.registers = ap (λ (x : IrFunction). x.registers) u.2 in
+      let code_long : length v.code ≤ 2 * length u.0.code = subst (λ (x : IrFunction). length x.code ≤ 2 * length u.0.code) (sym u.2) (logged_long marks f u.0.code) in
+      let part = part_of_whole plain.functions f u.0 u.1 in
+      has_room_for s L v (all_at (IsFunction L) L.functions f v formed.1 e)
+      (omega (arith, registers, (limits tree c.checked).registers f u.0 u.1, (limits tree c.checked).parameters f u.0 u.1, part, long, few))
+      (omega (arith, code_long, part, long, few))
+
+  calls_logged : CallsNoTransaction L.functions
+  calls_logged f p to g args v call found =
+      let v_is = found_logged g v found in
+      ⊎_elim (λ (log : (x : Target) × (Call to g args ≡ Log x)). absurd (no_log to g args log.0 log.1))
+      (λ from. let i : from.1 ≡ Call to g args = led_call from.2 from.3 from.1 to g args from.5 in
+      ap (λ (x : IrFunction). x.tx) v_is.2 ∙ calls tree c.checked f from.0 to g args v_is.0 (from.4 ∙ ap (λ (x : Instruction). Some x) i) v_is.1)
+      (origin marks plain c.formed f p (Call to g args) call)
+    where
+      no_log : (to g : ℕ) (args : List ℕ) (x : Target) → Call to g args ≡ Log x → ⊥
+      no_log to g args x e = cc
+
+  constants_plain : words.HasWordConstants plain.functions
+  constants_plain = constants text list tree c.cut c.spelled
+
+  constants_logged : words.HasWordConstants L.functions
+  constants_logged f p to v e =
+      ⊎_elim (λ (log : (x : Target) × (Const to v ≡ Log x)). absurd (no_log to v log.0 log.1))
+      (λ from. let i : from.1 ≡ Const to v = led_const from.2 from.3 from.1 to v from.5 in
+      constants_plain f from.0 to v (from.4 ∙ ap (λ (x : Instruction). Some x) i))
+      (origin marks plain c.formed f p (Const to v) e)
+    where
+      no_log : (to : ℕ) (v : ℤ) (x : Target) → Const to v ≡ Log x → ⊥
+      no_log to v x e = cc
+
+  is_compiled : IsCompiled program.image L
+  is_compiled = record { code = has_code; well = formed; room = room; calls = calls_logged; constants = constants_logged; fits = fit }
+
+  -- the transactions
+  txs_are : program.image.parts.txs ≡ txs_from 0 (code_of marks t tree 0 t.functions)
+  txs_are = has_code.txs ∙ ap (txs_from 0) (all_known L.functions functions_few)
+
+  parameters_are : (tx : ℕ) → parameters_of program.image tx ≡ parameters program tx
+  parameters_are zero = refl
+  parameters_are (suc i) =
+      ap (λ (es : List TxEntry). option_map (λ (e : TxEntry). e.parameters) (slice_get es i)) txs_are
+      ∙ parameters_same marks t tree 0 0 t.functions i
+
+  keep : KeepLaw
+  keep = kept_all piece_does stays_fit shown cut words_stay
+
+  -- a run, from what the code does
+  matched : (o : Out ℤ) (end : machine_end.End) (h : Words) → EndsAs program.image L (lower.end_of o) end h → Matches program (outcome o) end h
+  matched (Got v w k) end h (inl e) =
+      let head = headers_are s (shapes_of tree) h w e.2 e.1 in
+      let pool : pool_of program h ≡ w = pool_same s (shapes_of tree) fit (shapes tree c.checked).few h head.0 ∙ sym head.1 in
+      subst (λ (x : machine_end.End). Matches program (outcome (Got v w k)) x h) (sym e.0) (refl, head.0, pool, words_had w e.3)
+  matched (Got v w k) end h (inr e) = subst (λ (x : machine_end.End). Matches program (outcome (Got v w k)) x h) (sym e) refl
+  matched (Stops kind) end h (inl e) = subst (λ (x : machine_end.End). Matches program (outcome (Stops kind)) x h) (sym e) (inl refl)
+  matched (Stops kind) end h (inr e) = subst (λ (x : machine_end.End). Matches program (outcome (Stops kind)) x h) (sym e) (inr refl)
+
+  -- the log records of the run of a transaction that is there
+  counted : (i : ℕ) (args : List ℤ) (w : PoolMap) (entry : TxEntry) → slice_get program.image.parts.txs i ≡ Some entry → (n : ℕ) →
+      n ≡ records_of (table.is_logged marks) (deeds plain ((s.ticks + 1) * whole plain.functions) (start entry.function args w s.ticks)) → counts_of program marks w (suc i) args n ≡ true
+  counted i args w entry found n is =
+      let function : slice_get (lower.entries_from 0 plain.functions) i ≡ Some entry.function =
+      sym (entries_same marks t tree 0 0 t.functions i) ∙ ap (λ (es : List TxEntry). option_map (λ (e : TxEntry). e.function) (slice_get es i)) (sym txs_are) ∙ ap (option_map (λ (e : TxEntry). e.function)) found in
+      ap (λ (o : Option ℕ). n == records_of (table.is_logged marks) (option_map_or (deeds_in plain s.ticks w args) o [])) function
+      ∙ ap (λ (x : ℕ). n == x) (sym is) ∙ same_is n
+
+  runs : (h : Words) (tx : ℕ) (args : List ℤ) → HasHeaders program h → HasWords (pool_of program h) → AreWords args → parameters_of program.image tx ≡ Some (length args) → RunsAs program (counts_of program marks) h tx args
+  runs h zero args head pool are takes = absurd (cc)
+  runs h (suc i) args head pool are takes =
+      by_entry (slice_get program.image.parts.txs i) refl
+    where
+      by_entry : (o : Option TxEntry) → slice_get program.image.parts.txs i ≡ o → RunsAs program (counts_of program marks) h (suc i) args
+      by_entry None found = absurd (none_some (length args) (sym (ap (option_map (λ (e : TxEntry). e.parameters)) found) ∙ takes))
+        where
+          none_some : (n : ℕ) → None ≡ Some n → ⊥
+          none_some n e = cc
+      by_entry (Some entry) found =
+          let e = entry_is marks t tree 0 0 t.functions i entry (sym (ap (λ (es : List TxEntry). slice_get es i) txs_are) ∙ found) in
+          let g : ℕ = e.g in
+          let function : entry.function ≡ g = e.function ∙ (let z : 0 + g ≡ g = omega arith in z) in
+          let n : ℕ = s.ticks in
+          let k : ℕ = (n + 1) * whole plain.functions in
+          let valid : HasValidHeaders s (length (shapes_of tree).structs) h = head in
+          let same : pool_of program h ≡ pool_in (shapes_of tree) s h = pool_same s (shapes_of tree) fit (shapes tree c.checked).few h valid in
+          let stood = pool_is s (shapes_of tree) h fit valid in
+          let w : PoolMap = pool_of program h in
+          let stands : Stands s h w = subst (Stands s h) (sym same) stood.0 in
+          let slots_few : length w.slots < 2 ^ 63 = omega (arith, stands.slots, s.slots_fit.1) in
+          let o : Out ℤ = entered t (calls_of t 255) e.f args w n in
+          let ends : exec plain k (start entry.function args w n) ≡ lower.end_of o = ap (λ (x : ℕ). exec plain k (start x args w n)) function ∙ (lowering.lower tree c.checked).ends g e.f args w n e.found in
+          let transaction_is : IsTransaction plain.functions entry.function = (
+            lowered_function t tree e.f,
+            ap (slice_get plain.functions) function ∙ slice_get-map (lowered_function t tree) t.functions g ∙ ap (option_map (lowered_function t tree)) e.found,
+            e.marked,
+          ) in
+          let enough : 2 * k * most program.image ≤ program.image.parts.most =
+          subst (λ (x : ℕ). 2 * k * most program.image ≤ x) (sym (ap (λ (p : ImageParts). p.most) c.made ∙ ap (λ (z : Sizes). most_steps z (length tree.lines)) (sym c.sizes)))
+          (enough_steps s (length tree.lines) (whole plain.functions) long) in
+          let ran = compiled_run heap_apart covered keep words_stay marks plain c.formed (lowering.parameters tree c.checked) c.whole constants_plain (logs tree c.checked) program.image is_compiled (suc i) entry (ap (slice_get program.image.parts.txs) (one_less i) ∙ found) transaction_is args h w (hold_words args are) (have_words w slots_few pool)
+          stands (subst (PoolFits (shapes_of tree)) (sym same) stood.1) k program.image.parts.most (subst IsDone (sym ends) (done_end o)) enough in
+          let means_is : means program w (suc i) args ≡ outcome o = ap (λ (x : Option FunctionTree). run t x w args n) e.named in
+          record {
+            end = ran.end;
+            effects = ran.effects;
+            ran = ran.is;
+            sound = ran.sound;
+            counted = λ value halted. counted i args w entry found (records_end 0 ran.effects) (ran.records value halted);
+            matches = subst (λ (x : Outcome). Matches program x ran.end (heap_end h ran.effects)) (sym means_is)
+            (matched o ran.end (heap_end h ran.effects) (subst (λ (x : End). EndsAs program.image L x ran.end (heap_end h ran.effects)) ends ran.agrees));
+          }
+
+  few_are : (tx n : ℕ) → parameters_of program.image tx ≡ Some n → (tx < 2 ^ 63) × (n ≤ 22)
+  few_are zero n takes = absurd (cc)
+  few_are (suc i) n takes = by_entry (slice_get program.image.parts.txs i) refl
+    where
+      none_some : (m : ℕ) → None ≡ Some m → ⊥
+      none_some m e = cc
+
+      by_entry : (o : Option TxEntry) → slice_get program.image.parts.txs i ≡ o → (suc i < 2 ^ 63) × (n ≤ 22)
+      by_entry None found = absurd (none_some n (sym (ap (option_map (λ (e : TxEntry). e.parameters)) found) ∙ takes))
+      by_entry (Some entry) found =
+          let in_order : slice_get (txs_from 0 (code_of marks t tree 0 t.functions)) i ≡ Some entry = sym (ap (λ (es : List TxEntry). slice_get es i) txs_are) ∙ found in
+          let e = entry_is marks t tree 0 0 t.functions i entry in_order in
+          let taken : Some entry.parameters ≡ Some n = sym (ap (option_map (λ (e : TxEntry). e.parameters)) found) ∙ takes in
+          let same : entry.parameters ≡ n = cc in
+          let lowered_is : slice_get plain.functions e.g ≡ Some (lowered_function t tree e.f) = slice_get-map (lowered_function t tree) t.functions e.g ∙ ap (option_map (lowered_function t tree)) e.found in
+          let inside = slice_get_within (txs_from 0 (code_of marks t tree 0 t.functions)) i entry in_order in
+          (omega (arith, inside, txs_few 0 L.functions, functions_few), omega (arith, same, e.parameters, (limits tree c.checked).parameters e.g (lowered_function t tree e.f) lowered_is))
+
+  pub agrees : Agrees program (counts_of program marks)
+  agrees = record {
+    root = fit.root;
+    parameters = parameters_are;
+    few = few_are;
+    runs = runs;
+  }
+
+pub compiled : CompiledLaw
+compiled text list marks program c = agrees text list marks program c

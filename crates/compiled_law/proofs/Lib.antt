@@ -1,0 +1,10 @@
+pub mod Agreeing
+pub mod Apart
+pub mod Counting
+pub mod Covering
+pub mod Entering
+pub mod Marked
+pub mod Numbers
+pub mod Pools
+pub mod Room
+pub mod Sounding

@@ -1,0 +1,131 @@
+-- The machine's run of a compiled transaction is sound, and ends as its code does or with a full log.
+use Rattle.std.proofs.Common.{◌≡◌, ℕ, zero, suc, ◌*◌, ◌-◌, ◌≤◌, ℤ, Bool, true, false, List, Some, refl, sym, ap, ◌∙◌, subst, inl, inr, ⊎_elim}
+use mathlib.Core.Logic.{◌⊎◌}
+use Rattle.std.specs.Prelude.{slice_get}
+use Rattle.cache_model.specs.Cache.{Words}
+use Rattle.pool_map.specs.declared.trap.TrapKind.{TrapKind}
+use Rattle.pool_map.specs.declared.trap.TrapKind.TheVariants.{LogFull}
+use Rattle.pool_map.specs.PoolFits.{PoolFits}
+use Rattle.pool_map.specs.PoolMap.{PoolMap}
+use Rattle.pool_layout.specs.Places.{HeapApart}
+use Rattle.ir.specs.declared.function.Ir.{Ir}
+use Rattle.ir.specs.declared.site.Site.{Site}
+use Rattle.ir.specs.Clobber.{IsLogged}
+use Rattle.ir.specs.declared.instruction.Target.{Target}
+use Rattle.ir.specs.declared.instruction.Instruction.TheVariants.{Log}
+use Rattle.ir.specs.Places.{instruction_at, IsTransaction}
+use Rattle.ir.specs.WellFormed.{IsWellFormed}
+use Rattle.clobber_pass.specs.declared.marking.MarkTable.{MarkTable}
+use Rattle.clobber_pass.specs.Logged as table
+use Rattle.instrument.specs.Insert.{logged_program}
+use Rattle.code_meaning.specs.Code.{Spot, start, exec}
+use Rattle.code_meaning.specs.Code as code
+use Rattle.code_meaning.specs.Deeds.{Deed, deeds}
+use Rattle.code_meaning.specs.Parameters.{KeepsParameters}
+use Rattle.insert_law.specs.Law.{IsDone}
+use Rattle.insert_law.proofs.Follows.{same_end, same_deeds}
+use Rattle.cover_law.specs.Covered.{IsInput, FirstStore}
+use Rattle.cover_law.specs.Law.{CoverLaw}
+use Rattle.pm_machine.specs.declared.effect.Effect.{Effect}
+use Rattle.pm_machine.specs.declared.effect.End.{End}
+use Rattle.pm_machine.specs.declared.effect.End.TheVariants.{Halted, Trapped}
+use Rattle.pm_machine.specs.declared.image.Image.{Image}
+use Rattle.pm_machine.specs.declared.op.TxEntry.{TxEntry}
+use Rattle.pm_machine.specs.Machine.{Run, Finished, mrun}
+use Rattle.pm_machine.specs.Machine as machine
+use Rattle.pm_machine.specs.Effects.{records_end}
+use Rattle.pm_machine.proofs.Fuel.{more_fuel}
+use Rattle.run_law.specs.Sound.{IsCovered, IsSoundRun}
+use Rattle.emit_law.proofs.SoundRun.{sound_run}
+use Rattle.piece_law.specs.Stands.{Stands}
+use Rattle.piece_law.specs.Words.{HoldWords, HasWords, IsWordState, IsWordEnd, IsWordMove, HasWordConstants, WordsLaw}
+use Rattle.piece_law.specs.Shows.{Shows}
+use Rattle.match_law.specs.Accesses.{accesses}
+use Rattle.match_law.specs.Compiled.{IsCompiled, is_logged}
+use Rattle.match_law.specs.Law.{Keeps, RunHalts, RunTraps, RunFull, KeepLaw}
+use Rattle.match_law.specs.Match.{most}
+use Rattle.compiled_law.specs.Counts.{records_of}
+use Rattle.compiled_law.specs.Runs.{EndsAs, RunIs}
+use Rattle.compiled_law.proofs.Counting.{records_are}
+use Rattle.compiled_law.proofs.Covering.{covered_run, covered_cut}
+use Rattle.compiled_law.proofs.Marked.{inputs_logged}
+
+trapped : (k : TrapKind) (v : ℤ) → Trapped k ≡ Halted v → ⊥
+trapped k v e = cc
+
+module _ (apart : HeapApart) (image : Image) (L : Ir) (compiled : IsCompiled image L) (tx : ℕ) (entry : TxEntry) (found : slice_get image.parts.txs (tx - 1) ≡ Some entry) (args : List ℤ) (heap : Words) (m : ℕ) (ds : List Deed) (need : (x : Spot) (a : Site) → IsInput ds x → FirstStore ds x a → is_logged L a ≡ true)
+    (n : ℕ) (count : (es : List Effect) → Shows image.parts.sizes (is_logged L) ds (accesses es) → records_end 0 es ≡ n) where
+  sound_end : (end : End) (es : List Effect) → mrun image m heap tx args ≡ Finished end es → IsCovered es → IsSoundRun end es
+  sound_end end es is covered =
+      let shape = sound_run image image.parts.sizes L m heap tx entry args end es compiled.code found is in
+      record { covered = covered; paired = shape.0; tidy = shape.1 }
+
+  full : (e : code.End) → RunFull image L ds (mrun image m heap tx args) → ((h : Words) → EndsAs image L e (Trapped LogFull) h) → RunIs image L heap e n (mrun image m heap tx args)
+  full e r ends = record {
+    end = Trapped LogFull;
+    effects = r.effects;
+    is = r.is;
+    sound = sound_end (Trapped LogFull) r.effects r.is (covered_cut apart image.parts.sizes (is_logged L) ds r.effects r.cut need);
+    agrees = ends _;
+    records = λ v e. absurd (trapped LogFull v e);
+  }
+
+  run_is : (e : code.End) → IsDone e → IsWordEnd e → Keeps image L heap ds e (mrun image m heap tx args) → RunIs image L heap e n (mrun image m heap tx args)
+  run_is (code.Ended w v t) over words (inl r) = record {
+    end = Halted v;
+    effects = r.effects;
+    is = r.is;
+    sound = sound_end (Halted v) r.effects r.is (covered_run apart image.parts.sizes (is_logged L) ds r.effects r.shows need);
+    agrees = inl (refl, r.stands, r.fits, words.0);
+    records = λ x e. count r.effects r.shows;
+  }
+  run_is (code.Ended w v t) over words (inr r) = full (code.Ended w v t) r (λ h. inr refl)
+  run_is (code.Trapped k) over words (inl r) = record {
+    end = Trapped k;
+    effects = r.effects;
+    is = r.is;
+    sound = sound_end (Trapped k) r.effects r.is (covered_run apart image.parts.sizes (is_logged L) ds r.effects r.shows need);
+    agrees = inl refl;
+    records = λ v e. absurd (trapped k v e);
+  }
+  run_is (code.Trapped k) over words (inr r) = full (code.Trapped k) r (λ h. inr refl)
+  run_is code.Unfinished over words r = absurd over
+  run_is code.Stuck over words r = absurd over
+
+-- more instructions change nothing
+run_more : (image : Image) (L : Ir) (heap : Words) (e : code.End) (n k m tx : ℕ) (args : List ℤ) → k ≤ m → RunIs image L heap e n (mrun image k heap tx args) → RunIs image L heap e n (mrun image m heap tx args)
+run_more image L heap e n k m tx args le r = record {
+  end = r.end;
+  effects = r.effects;
+  is = more_fuel image k m 0 (machine.start image tx args) heap r.end r.effects le r.is;
+  sound = r.sound;
+  agrees = r.agrees;
+  records = r.records;
+}
+
+-- a run of words ends with words
+words_on : (ir : Ir) (k : ℕ) (v : code.Move) → ((c : code.State) → IsWordState c → IsWordEnd (exec ir k c)) → IsWordMove v → IsWordEnd (code.go_on (exec ir k) v)
+words_on ir k (code.Goes c) next h = next c h
+words_on ir k (code.Ends e) next h = h
+
+words_end : WordsLaw → (ir : Ir) → HasWordConstants ir.functions → (k : ℕ) (c : code.State) → IsWordState c → IsWordEnd (exec ir k c)
+words_end law ir constants zero c h = tt
+words_end law ir constants (suc k) c h = words_on ir k (code.step ir c) (λ d. words_end law ir constants k d) (law ir c constants h)
+
+pub compiled_run : HeapApart → CoverLaw → KeepLaw → WordsLaw → (marks : MarkTable) (ir : Ir) → IsWellFormed ir → KeepsParameters ir.functions → ((a : Site) → IsLogged ir.functions a → table.is_logged marks a ≡ true) → HasWordConstants ir.functions → ((f p : ℕ) (x : Target) → instruction_at ir.functions f p ≡ Some (Log x) → ⊥) →
+    (image : Image) → IsCompiled image (logged_program marks ir) → (tx : ℕ) (entry : TxEntry) → slice_get image.parts.txs (tx - 1) ≡ Some entry → IsTransaction ir.functions entry.function →
+    (args : List ℤ) (heap : Words) (w : PoolMap) → HoldWords args → HasWords w → Stands image.parts.sizes heap w → PoolFits ir.shapes w → (k m : ℕ) → IsDone (exec ir k (start entry.function args w image.parts.sizes.ticks)) → 2 * k * most image ≤ m →
+    RunIs image (logged_program marks ir) heap (exec ir k (start entry.function args w image.parts.sizes.ticks)) (records_of (table.is_logged marks) (deeds ir k (start entry.function args w image.parts.sizes.ticks))) (mrun image m heap tx args)
+compiled_run apart cover keep law marks ir formed keeps whole constants bare image compiled tx entry found transaction args heap w words pool stands fits k m over enough =
+    let L : Ir = logged_program marks ir in
+    let t : ℕ = image.parts.sizes.ticks in
+    let same = same_end marks ir formed entry.function args w t k over in
+    let kept = keep image L (2 * k) tx entry args heap w compiled found words pool stands fits in
+    let n : ℕ = records_of (table.is_logged marks) (deeds ir k (start entry.function args w t)) in
+    let count : (es : List Effect) → Shows image.parts.sizes (is_logged L) (deeds L (2 * k) (start entry.function args w t)) (accesses es) → records_end 0 es ≡ n = λ es shows.
+    records_are marks ir formed bare image.parts.sizes k (start entry.function args w t) es (subst (λ (ds : List Deed). Shows image.parts.sizes (is_logged L) ds (accesses es)) (same_deeds marks ir formed entry.function args w t k over) shows) in
+    run_more image L heap (exec ir k (start entry.function args w t)) n (2 * k * most image) m tx args enough
+    (run_is apart image L compiled tx entry found args heap (2 * k * most image) (deeds L (2 * k) (start entry.function args w t))
+    (inputs_logged cover marks ir formed keeps whole entry.function transaction args w t k over) n count
+    (exec ir k (start entry.function args w t)) over (words_end law ir constants k (start entry.function args w t) (words, tt, pool))
+    (subst (λ (e : code.End). Keeps image L heap (deeds L (2 * k) (start entry.function args w t)) e (mrun image (2 * k * most image) heap tx args)) same kept))
