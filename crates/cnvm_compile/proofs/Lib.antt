@@ -1,3 +1,4 @@
+pub mod Agreeing
 pub mod Made
 pub mod Once
 pub mod Refusing

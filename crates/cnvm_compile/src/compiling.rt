@@ -8,7 +8,11 @@ ghost use Rattle.lower.specs.Program.{lowered};
 ghost use Rattle.cnvm_compile.specs.FrontEnd.{Accepts, RefusesText};
 ghost use Rattle.cnvm_compile.specs.Made.{image_of};
 ghost use Rattle.cnvm_compile.specs.Marked.{IsMarked};
-ghost use Rattle.cnvm_compile.specs.SizesAsked.{within, HasSizes};
+ghost use Rattle.c_types.specs.Shapes.{shapes_of};
+ghost use Rattle.pool_map.specs.PoolFits.{words_of};
+ghost use Rattle.session_law.specs.Agrees.{Agrees};
+ghost use Rattle.compiled_law.specs.Law.{counts_of};
+ghost use Rattle.cnvm_compile.specs.SizesAsked.{within, HasRoot, HasSizes};
 
 use crate::front_end::{ProgramFault, typed_of};
 use c_types::Typed;
@@ -48,6 +52,7 @@ fn within(n: u64, least: u64, most: u64) -> u64
 
 /// How many words the root has. A checked program's root has 1 to 512.
 fn root_words(shapes: &Shapes) -> u64
+    ensures value { result ≡ within 1 512 (words_of shapes.now.root) }
     ensures least { 1 ≤ result }
     ensures most { result ≤ 512 }
 {
@@ -71,11 +76,13 @@ pub fn compile(
     ensures refused { IfErr result (λ fault. RefusesText text.now fault) }
     ensures sizes { IfOk result (λ compiled. HasSizes slots records ticks compiled.program.sizes) }
     ensures image { IfOk result (λ compiled. compiled.program.image.parts.sizes ≡ compiled.program.sizes) }
+    ensures root { IfOk result (λ compiled. HasRoot (shapes_of compiled.program.typed) compiled.program.sizes) }
     ensures digest { IfOk result (λ compiled. compiled.program.digest ≡ digest_of text.now) }
     ensures ir { IfOk result (λ compiled. compiled.ir ≡ lowered compiled.program.typed) }
     ensures marks { IfOk result (λ compiled. IsMarked compiled.marks compiled.ir) }
     ensures well_formed { IfOk result (λ compiled. IsWellFormed compiled.ir) }
     ensures code { IfOk result (λ compiled. compiled.program.image.parts ≡ image_of compiled.marks compiled.ir compiled.program.sizes (length compiled.program.typed.lines)) }
+    ensures agrees { IfOk result (λ compiled. Agrees compiled.program (counts_of compiled.program compiled.marks)) }
 {
     let typed = typed_of(alloc, text)?;
     let sizes = sizes_of(typed.shapes(), slots, records, ticks);
@@ -87,7 +94,8 @@ pub fn compile(
 
 /// The sizes of a pool for these shapes.
 fn sizes_of(shapes: &Shapes, slots: u64, records: u64, ticks: u64) -> Sizes
-    ensures { HasSizes slots records ticks result }
+    ensures asked { HasSizes slots records ticks result }
+    ensures root { HasRoot shapes.now result }
 {
     let slots = within(slots, 1, 65_535);
     let records = within(records, 1, 4_096);

@@ -1,0 +1,12 @@
+use Rattle.std.proofs.Common.{rules, ◌≡◌, sym, ap, ◌∙◌, subst}
+use Rattle.c_types.specs.Shapes.{shapes_of}
+use Rattle.cnvm_compile.specs.FrontEnd.{Accepts}
+use Rattle.cnvm_compile.specs.SizesAsked.{HasRoot}
+use Rattle.cnvm_compile.proofs.Agreeing.{agreed}
+use Rattle.cnvm_compile.proofs.compiling.compile.Goals as goal
+
+pub returns-in-Ok-clause-agrees : goal.returns-in-Ok-clause-agrees
+returns-in-Ok-clause-agrees c =
+    let compiled = c.in-Ok.compiled in
+    let made = c.in-Ok.ensures in
+    agreed c.args.text.now compiled.marks compiled.program compiled.ir (search rules) (search rules) made.marks made.well_formed (search rules) (search rules) (search rules)
