@@ -62,7 +62,7 @@ pub both_read : (asked : Asked) (p : Compiled) (commands : List Command) (w v : 
 both_read asked p commands w v program is = (when_told w _ program, when_told v _ is)
 
 -- a compiled program is made of its marks
-pub made_of : (p : Compiled) → p.ir ≡ lowered p.program.typed → IsMarked p.marks p.ir
+abbrev pub made_of : (p : Compiled) → p.ir ≡ lowered p.program.typed → IsMarked p.marks p.ir
     → p.program.image.parts ≡ image_of p.marks p.ir p.program.sizes (length p.program.typed.lines) → IsMade p.program
 made_of p code marked made = record {
   marks = p.marks;

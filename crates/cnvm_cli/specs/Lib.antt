@@ -9,3 +9,4 @@ pub mod StatusNumber
 pub mod Stormed
 pub mod Texts
 pub mod Verdict
+pub mod Meant

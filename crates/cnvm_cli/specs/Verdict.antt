@@ -7,6 +7,8 @@ use Rattle.clobber_pass.specs.declared.marking.MarkTable.{MarkTable}
 use Rattle.cnvm_script.specs.declared.command.Command.{Command}
 use Rattle.cnvm_script.specs.Commands.{script_meaning}
 use Rattle.cnvm_session.specs.declared.program.Program.{Program}
+use Rattle.session_law.specs.Agrees.{Agrees}
+use Rattle.compiled_law.specs.Counts.{counts_of}
 use Rattle.cnvm_compile.specs.declared.front_end.ProgramFault.{ProgramFault}
 use Rattle.cnvm_compile.specs.declared.told.Told.{Told}
 use Rattle.cnvm_compile.specs.declared.told.Told.TheVariants as told
@@ -35,12 +37,13 @@ pub record IsMade (program : Program) : Type 0 where
   pub marked : IsMarked marks (lowered program.typed)
   pub made : program.image.parts ≡ image_of marks (lowered program.typed) program.sizes (length program.typed.lines)
 
--- a program that the text is, for a pool of these sizes
+-- a program that the text is, for a pool of these sizes; its image agrees with its source
 pub record CompiledFrom (asked : Asked) (text : List ℕ) (program : Program) : Type 0 where
   pub tree : Accepts text program.typed
   pub sizes : HasSizes asked.slots asked.records asked.ticks program.sizes
   pub image : program.image.parts.sizes ≡ program.sizes
   pub code : IsMade program
+  pub agrees : Agrees program (counts_of program code.marks)
   pub digest : program.digest ≡ digest_of text
 
 -- the text is accepted

@@ -1,22 +1,17 @@
 -- A compiled program agrees with its source.
-use Rattle.std.proofs.Common.{◌≡◌, ℕ, ◌<◌, ◌≤◌, Bool, true, false, List, [], length, refl, sym, ap, ◌∙◌, subst, arith}
+use Rattle.std.proofs.Common.{◌≡◌, ℕ, ◌≤◌, Bool, true, false, List, length, refl, sym, ap, ◌∙◌, subst, arith}
 use Rattle.std.specs.Prelude.{nat_lt, if◌then◌else◌}
-use Rattle.std.proofs.lemmas.Bool.{ltb-true, ltb-false}
+use Rattle.std.proofs.lemmas.Bool.{ltb-true}
 use Rattle.pool_map.specs.PoolFits.{words_of}
-use Rattle.c_parser.specs.Program as parser
-use Rattle.c_types.specs.Fault.{breaks}
 use Rattle.c_types.specs.Shapes.{shapes_of}
 use Rattle.ir.specs.declared.function.Ir.{Ir}
-use Rattle.ir.specs.declared.site.Site.{Site}
-use Rattle.ir.specs.Clobber.{IsLogged}
 use Rattle.ir.specs.WellFormed.{IsWellFormed}
 use Rattle.lower.specs.Program.{lowered}
 use Rattle.clobber_pass.specs.declared.marking.MarkTable.{MarkTable}
-use Rattle.clobber_pass.specs.Logged.{is_logged}
 use Rattle.checked_law.proofs.Laws as checked
 use Rattle.cnvm_session.specs.declared.program.Program.{Program}
 use Rattle.session_law.specs.Agrees.{Agrees}
-use Rattle.compiled_law.specs.Law.{counts_of}
+use Rattle.compiled_law.specs.Counts.{counts_of}
 use Rattle.compiled_law.proofs.Agreeing.{compiled}
 use Rattle.cnvm_compile.specs.FrontEnd.{Accepts}
 use Rattle.cnvm_compile.specs.Made.{image_of}

@@ -11,7 +11,7 @@ ghost use Rattle.cnvm_compile.specs.Marked.{IsMarked};
 ghost use Rattle.c_types.specs.Shapes.{shapes_of};
 ghost use Rattle.pool_map.specs.PoolFits.{words_of};
 ghost use Rattle.session_law.specs.Agrees.{Agrees};
-ghost use Rattle.compiled_law.specs.Law.{counts_of};
+ghost use Rattle.compiled_law.specs.Counts.{counts_of};
 ghost use Rattle.cnvm_compile.specs.SizesAsked.{within, HasRoot, HasSizes};
 
 use crate::front_end::{ProgramFault, typed_of};

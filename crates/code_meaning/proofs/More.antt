@@ -1,5 +1,5 @@
 -- More steps change nothing.
-use Rattle.std.proofs.Common.{◌≡◌, ℕ, zero, suc, ◌≤◌, refl, ap, arith}
+use Rattle.std.proofs.Common.{◌≡◌, ℕ, zero, suc, refl, ap, arith}
 use Rattle.std.specs.Prelude.{◌++◌}
 use Rattle.ir.specs.declared.function.Ir.{Ir}
 use Rattle.code_meaning.specs.Code.{State, Move, Goes, Ends, exec, step, go_on, IsOver}

@@ -1,8 +1,7 @@
 -- What a run of three-address code does to the words of the pool: the loads of root words and field words, and the
 -- stores, each with its site. A new object stores its header, which is its kind, and then each of its words with 0; a free
 -- stores a header of 0. The headers that a check or the search for a free slot looks at are no loads. A log does nothing.
-use Rattle.std.specs.Prelude.{ℕ, zero, suc, ◌+◌, ℤ, pos, Bool, true, false, List, [], ◌∷◌, ◌++◌, Option, None, Some, Result, Ok, Err}
-use Rattle.std.specs.Option.{option_map_or}
+use Rattle.std.specs.Prelude.{ℕ, zero, suc, ℤ, pos, Bool, true, false, List, [], ◌∷◌, ◌++◌, Option, None, Some, Result, Ok, Err}
 use Rattle.pool_map.specs.declared.shapes.Shapes.{Shapes}
 use Rattle.pool_map.specs.declared.trap.TrapKind.{TrapKind}
 use Rattle.pool_map.specs.PoolFits.{words_of}

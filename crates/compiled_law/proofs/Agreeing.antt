@@ -1,32 +1,27 @@
 -- A compiled program agrees with its source.
-use Rattle.std.proofs.Common.{◌≡◌, ℕ, zero, suc, ◌+◌, ◌-◌, ◌*◌, ◌<◌, ◌≤◌, ◌^◌, ℤ, pos, Bool, true, false, List, [], ◌∷◌, ◌++◌, length, map, Option, Some, None, refl, sym, ap, ◌∙◌, subst, arith, inl, inr, ⊎_elim}
-use mathlib.Core.Logic.{◌⊎◌}
+use Rattle.std.proofs.Common.{◌≡◌, ℕ, zero, suc, ◌+◌, ◌-◌, ◌*◌, ◌<◌, ◌≤◌, ◌^◌, ℤ, pos, Bool, true, false, List, [], ◌∷◌, ◌++◌, length, Option, Some, None, refl, sym, ap, ◌∙◌, subst, arith, inl, inr, ⊎_elim}
 use Rattle.std.specs.Option.{option_map_or}
-use Rattle.std.specs.Prelude.{◌==◌, slice_get, slice_index_or, option_map, if◌then◌else◌, Result, Ok, Err}
-use Rattle.std.specs.List.{AllByRecursion}
+use Rattle.std.specs.Prelude.{◌==◌, slice_get, slice_index_or, option_map, if◌then◌else◌, Ok}
 use Rattle.std.proofs.lemmas.List.{length-map}
 use Rattle.std.proofs.lemmas.Option.{slice_get-map, slice_get_within}
 use Rattle.cache_model.specs.Cache.{Words}
 use Rattle.pool_layout.specs.declared.limits.Sizes.{Sizes}
-use Rattle.pool_map.specs.declared.shapes.Shapes.{Shapes}
-use Rattle.pool_map.specs.declared.trap.TrapKind.TheVariants.{LogFull}
-use Rattle.pool_map.specs.PoolFits.{words_of, PoolFits}
-use Rattle.pool_map.specs.PoolMap.{PoolMap, read, read_root}
+use Rattle.pool_map.specs.PoolFits.{PoolFits}
+use Rattle.pool_map.specs.PoolMap.{PoolMap}
 use Rattle.nvm_base.specs.Wrap.{IsWord}
-use Rattle.c_lexer.specs.declared.token.Placed.{Placed}
 use Rattle.c_lexer.specs.TokenList.{Tokens}
 use Rattle.c_parser.specs.ItemTree.{FunctionTree}
 use Rattle.c_parser.specs.Program as parser
 use Rattle.c_types.specs.Tables.{Tables, tables_of}
-use Rattle.c_types.specs.Shapes.{shapes_of, transactions_in}
+use Rattle.c_types.specs.Shapes.{shapes_of}
 use Rattle.c_meaning.specs.Meaning.{Out, Got, Stops, entered, calls_of}
-use Rattle.c_meaning.specs.Transaction.{Outcome, outcome, transaction_in, transaction, transaction_means, run}
+use Rattle.c_meaning.specs.Transaction.{Outcome, outcome, run}
 use Rattle.ir.specs.declared.instruction.Target.{Target}
 use Rattle.ir.specs.declared.instruction.Instruction.{Instruction}
 use Rattle.ir.specs.declared.instruction.Instruction.TheVariants.{Const, Copy, Bin, Jump, Branch, Load, Store, New, Free, Call, Return, Tick, Trap, Log}
 use Rattle.ir.specs.declared.function.IrFunction.{IrFunction}
 use Rattle.ir.specs.declared.function.Ir.{Ir}
-use Rattle.ir.specs.Places.{instruction_at, CallsAt, IsTransaction}
+use Rattle.ir.specs.Places.{IsTransaction}
 use Rattle.ir.specs.Short.{IsShort}
 use Rattle.ir.specs.WellFormed.{IsFunction, IsWellFormed}
 use Rattle.lower.specs.Program.{lowered_function, lowered}
@@ -46,15 +41,11 @@ use Rattle.insert_law.proofs.Origins.{origin}
 use Rattle.code_meaning.specs.Code.{End, Ended, Trapped, start, exec, at, load}
 use Rattle.code_meaning.specs.Code as code
 use Rattle.code_meaning.specs.Deeds.{deeds}
-use Rattle.pm_machine.specs.declared.effect.Effect.{Effect}
-use Rattle.pm_machine.specs.declared.effect.End.TheVariants as machine
 use Rattle.pm_machine.specs.declared.effect.End as machine_end
-use Rattle.pm_machine.specs.declared.image.Image.{Image}
 use Rattle.pm_machine.specs.declared.image.ImageParts.{ImageParts}
 use Rattle.pm_machine.specs.declared.op.TxEntry.{TxEntry}
 use Rattle.pm_machine.specs.Effects.{heap_end, records_end}
-use Rattle.pm_machine.specs.Machine.{mrun}
-use Rattle.codegen.specs.Emit.{functions_of, txs_from, known, most_steps}
+use Rattle.codegen.specs.Emit.{functions_of, txs_from, most_steps}
 use Rattle.emit_law.specs.Standing.{HasRoom}
 use Rattle.emit_law.specs.TidyCode.{HasCode}
 use Rattle.piece_law.specs.Fits.{IsFit}
@@ -73,14 +64,14 @@ use Rattle.match_law.specs.Match.{most}
 use Rattle.match_law.proofs.Keep.{kept_all}
 use Rattle.cnvm_session.specs.declared.program.Program.{Program}
 use Rattle.cnvm_session.specs.Commands.{parameters_of}
-use Rattle.session_law.specs.Source.{sizes_of, tables_in, parameters, means, pool_of, HasHeaders}
+use Rattle.session_law.specs.Source.{parameters, means, pool_of, HasHeaders}
 use Rattle.session_law.specs.Words.{AreWords, HasWords}
 use Rattle.session_law.specs.Agrees.{Matches, RunsAs, Agrees}
-use Rattle.compiled_law.specs.Runs.{EndsAs, RunIs}
+use Rattle.compiled_law.specs.Runs.{EndsAs}
 use Rattle.compiled_law.specs.Counts.{records_of, deeds_in, counts_of}
 use Rattle.compiled_law.specs.Law.{IsCompiledFrom, CompiledLaw}
 use Rattle.compiled_law.proofs.Apart.{heap_apart}
-use Rattle.compiled_law.proofs.Entering.{code_of, IsEntry, parameters_same, entries_same, entry_is}
+use Rattle.compiled_law.proofs.Entering.{code_of, parameters_same, entries_same, entry_is}
 use Rattle.compiled_law.proofs.Numbers.{few_tokens, part_of_whole, all_below, logged_long, functions_long, all_known, is_pool, enough_steps}
 use Rattle.compiled_law.proofs.Pools.{pool_same}
 use Rattle.compiled_law.proofs.Room.{has_room_for}
@@ -324,7 +315,7 @@ module _ (text : List ℕ) (list : Tokens) (marks : MarkTable) (program : Progra
             sound = ran.sound;
             counted = λ value halted. counted i args w entry found (records_end 0 ran.effects) (ran.records value halted);
             matches = subst (λ (x : Outcome). Matches program x ran.end (heap_end h ran.effects)) (sym means_is)
-            (matched o ran.end (heap_end h ran.effects) (subst (λ (x : End). EndsAs program.image L x ran.end (heap_end h ran.effects)) ends ran.agrees));
+                (matched o ran.end (heap_end h ran.effects) (subst (λ (x : End). EndsAs program.image L x ran.end (heap_end h ran.effects)) ends ran.agrees));
           }
 
   few_are : (tx n : ℕ) → parameters_of program.image tx ≡ Some n → (tx < 2 ^ 63) × (n ≤ 22)

@@ -1,9 +1,7 @@
 -- Different places of the heap are different words.
-use Rattle.std.proofs.Common.{◌≡◌, ℕ, ◌+◌, ◌-◌, ◌*◌, ◌<◌, ◌≤◌, refl, ap, ◌∙◌, arith}
-use Rattle.pool_layout.specs.declared.limits.Sizes.{Sizes}
-use Rattle.pool_layout.specs.declared.places.HeapPlace.{HeapPlace}
+use Rattle.std.proofs.Common.{◌≡◌, ℕ, ap, ◌∙◌, arith}
 use Rattle.pool_layout.specs.declared.places.HeapPlace.TheVariants.{Root, Header, Field}
-use Rattle.pool_layout.specs.Places.{HeapApart, IsHeapPlace, heap_at}
+use Rattle.pool_layout.specs.Places.{HeapApart}
 
 pub heap_apart : HeapApart
 heap_apart s (Root j) (Root k) a b e = ap Root e

@@ -1,8 +1,6 @@
 -- The log records of a run are its stores at sites that the marks log.
-use Rattle.std.proofs.Common.{◌≡◌, ℕ, zero, suc, ◌+◌, ◌*◌, ◌-◌, ◌<◌, ◌≤◌, ℤ, Bool, true, false, List, [], ◌∷◌, ◌++◌, length, Option, Some, None, refl, sym, ap, ◌∙◌, subst, inl, inr, ⊎_elim, arith}
+use Rattle.std.proofs.Common.{◌≡◌, ℕ, zero, suc, ◌+◌, Bool, true, false, List, [], ◌∷◌, Option, Some, None, refl, sym, ap, ◌∙◌, arith}
 use Rattle.std.specs.Prelude.{slice_get, option_and_then, if◌then◌else◌}
-use mathlib.Core.Logic.{◌⊎◌}
-use Rattle.std.proofs.lemmas.Option.{slice_get_within}
 use Rattle.pool_layout.specs.declared.limits.Sizes.{Sizes}
 use Rattle.ir.specs.declared.instruction.Target.{Target}
 use Rattle.ir.specs.declared.instruction.Instruction.{Instruction}
@@ -15,21 +13,20 @@ use Rattle.ir.specs.WellFormed.{IsWellFormed}
 use Rattle.clobber_pass.specs.declared.marking.MarkTable.{MarkTable}
 use Rattle.clobber_pass.specs.Logged as table
 use Rattle.instrument.specs.Insert.{logs, led, place_in, places_from, flags_from, flagged, logged_program}
-use Rattle.code_meaning.specs.Code.{State, start}
+use Rattle.code_meaning.specs.Code.{State}
 use Rattle.code_meaning.specs.Deeds.{Deed, Reads, Writes, Heads, site, deeds}
 use Rattle.insert_law.specs.Moved.{code_in, begins, stands, moved_site, moved_deeds}
-use Rattle.insert_law.proofs.Standing.{Stands, standing, fill_stands}
+use Rattle.insert_law.proofs.Standing.{standing, fill_stands}
 use Rattle.pm_machine.specs.declared.effect.Effect.{Effect}
 use Rattle.pm_machine.specs.declared.effect.Effect.TheVariants.{Loads, Stores, Logs, Flushes, Fences, Quiet}
 use Rattle.pm_machine.specs.Effects.{records_end}
 use Rattle.codegen.specs.Emit.{is_log}
-use Rattle.emit_law.specs.Standing.{logged_before}
 use Rattle.piece_law.specs.Shows as shows
 use Rattle.piece_law.specs.Shows.{Shows, done, looks, reads, plain, heads}
 use Rattle.match_law.specs.Accesses.{accesses}
 use Rattle.match_law.specs.Compiled.{logs_at, is_logged}
 use Rattle.compiled_law.specs.Counts.{records_of}
-use Rattle.compiled_law.proofs.Marked.{IsStoreAt, IsStoreSite, AreStores, all_stores, logged_at, log_at, fill_at, moved_logged_true}
+use Rattle.compiled_law.proofs.Marked.{IsStoreAt, AreStores, all_stores, logged_at, fill_at, moved_logged_true}
 
 records_accesses : (n : ℕ) (es : List Effect) → records_end n (accesses es) ≡ records_end n es
 records_accesses n [] = refl

@@ -1,15 +1,14 @@
 -- A machine's run whose loads, stores and logs show those of the code is covered where the first store to each input of the code is
 -- logged.
-use Rattle.std.proofs.Common.{◌≡◌, ◌≢◌, ℕ, zero, suc, ℤ, Bool, true, false, List, [], ◌∷◌, ◌++◌, refl, sym, ap, ◌∙◌, subst, inl, inr, ⊎_elim}
+use Rattle.std.proofs.Common.{◌≡◌, ◌≢◌, ℕ, zero, suc, Bool, true, List, [], ◌∷◌, refl, sym, ap, ◌∙◌, subst, inl, inr, ⊎_elim}
 use Rattle.std.proofs.lemmas.Bool.{true≢false}
 use mathlib.Core.Logic.{◌⊎◌}
 use Rattle.pool_layout.specs.declared.limits.Sizes.{Sizes}
-use Rattle.pool_layout.specs.declared.places.HeapPlace.{HeapPlace}
-use Rattle.pool_layout.specs.declared.places.HeapPlace.TheVariants.{Root, Header, Field}
-use Rattle.pool_layout.specs.Places.{HeapApart, IsHeapPlace, heap_at}
+use Rattle.pool_layout.specs.declared.places.HeapPlace.TheVariants.{Header}
+use Rattle.pool_layout.specs.Places.{HeapApart, IsHeapPlace}
 use Rattle.ir.specs.declared.site.Site.{Site}
 use Rattle.code_meaning.specs.Code.{Spot, InRoot, InSlot}
-use Rattle.code_meaning.specs.Deeds.{Deed, Reads, Writes, Heads}
+use Rattle.code_meaning.specs.Deeds.{Deed}
 use Rattle.cover_law.specs.Covered.{IsInput, FirstStore}
 use Rattle.cover_law.proofs.Parts.{input_append, first_append}
 use Rattle.crash_law.specs.Effects as past

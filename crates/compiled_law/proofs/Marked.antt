@@ -1,8 +1,6 @@
 -- In a run of code with the logs of its marks the first store to each input is logged.
-use Rattle.std.proofs.Common.{◌≡◌, ◌≢◌, ℕ, zero, suc, ◌+◌, ◌*◌, ℤ, pos, Bool, true, false, List, [], ◌∷◌, ◌++◌, Option, Some, None, refl, sym, ap, ◌∙◌, subst, inl, inr, ⊎_elim, arith}
+use Rattle.std.proofs.Common.{◌≡◌, ℕ, zero, suc, ◌+◌, ◌*◌, ℤ, Bool, true, false, List, [], ◌∷◌, ◌++◌, Option, Some, None, refl, sym, ap, ◌∙◌, subst, inl, inr, arith}
 use Rattle.std.specs.Prelude.{slice_get, option_and_then, Result, Ok, Err}
-use mathlib.Core.Logic.{◌⊎◌}
-use Rattle.std.proofs.lemmas.Bool.{true≢false}
 use Rattle.pool_map.specs.declared.trap.TrapKind.{TrapKind}
 use Rattle.pool_map.specs.PoolFits.{words_of}
 use Rattle.pool_map.specs.PoolMap.{PoolMap, least_free}
@@ -21,7 +19,7 @@ use Rattle.instrument.specs.Insert.{logged_program}
 use Rattle.code_meaning.specs.Code.{State, Here, Move, Goes, Ends, Spot, start, exec, step, spot_of, slot_of, fields_of, base_in, index_in, at}
 use Rattle.code_meaning.specs.Deeds.{Deed, Reads, Writes, Heads, if_ok, zeros, site, deeds_new, deeds_at, deeds_of, deeds_on, deeds}
 use Rattle.code_meaning.specs.Parameters.{KeepsParameters}
-use Rattle.insert_law.specs.Moved.{begins, stands, moved_site, moved_deed, moved_deeds}
+use Rattle.insert_law.specs.Moved.{begins, stands, moved_site, moved_deeds}
 use Rattle.insert_law.specs.Law.{IsDone}
 use Rattle.insert_law.proofs.Follows.{same_deeds}
 use Rattle.insert_law.proofs.Standing.{store_stands, fill_stands}

@@ -1,13 +1,10 @@
 -- The numbers of a compiled program: few tokens, little code, and the bound on steps.
-use Rattle.std.proofs.Common.{◌≡◌, ℕ, zero, suc, ◌+◌, ◌-◌, ◌*◌, ◌<◌, ◌≤◌, ◌^◌, Bool, true, false, List, [], ◌∷◌, ◌++◌, length, map, Option, Some, None, refl, sym, ap, ◌∙◌, subst, arith, length-append, inl, inr, ⊎_elim}
-use mathlib.Core.Logic.{◌⊎◌}
+use Rattle.std.proofs.Common.{◌≡◌, ℕ, zero, suc, ◌+◌, ◌*◌, ◌<◌, ◌≤◌, ◌^◌, Bool, true, false, List, [], ◌∷◌, ◌++◌, length, Some, refl, sym, ap, arith, length-append, ⊎_elim}
 use Rattle.std.specs.Prelude.{slice_get, nat_lt, if◌then◌else◌, Result, Ok, Err}
 use Rattle.std.specs.List.{AllByRecursion}
 use Rattle.std.proofs.lemmas.Bool.{lt-ltb, ltb-false}
 use Rattle.std.proofs.lemmas.Nat.{mul-le}
-use Rattle.std.proofs.Math.Nat.{mul-le-mul_right}
 use Rattle.pool_layout.specs.declared.limits.Sizes.{Sizes}
-use Rattle.pool_layout.specs.Sizes.{root_lines}
 use Rattle.c_lexer.specs.declared.fault.LexFault.{LexFault}
 use Rattle.c_lexer.specs.declared.fault.LexFault.TheVariants.{TooLong}
 use Rattle.c_lexer.specs.declared.token.Placed.{Placed}
@@ -16,7 +13,7 @@ use Rattle.c_lexer.specs.TokenList.{Tokens}
 use Rattle.ir.specs.declared.instruction.Instruction.{Instruction}
 use Rattle.ir.specs.declared.function.IrFunction.{IrFunction}
 use Rattle.clobber_pass.specs.declared.marking.MarkTable.{MarkTable}
-use Rattle.instrument.specs.Insert.{logs, flag_at, led, logged_from, places_from, flags_from, with_flags, logged_code, logged_function, logged_functions}
+use Rattle.instrument.specs.Insert.{logs, flag_at, led, logged_from, places_from, flags_from, with_flags, logged_code, logged_functions}
 use Rattle.insert_law.proofs.Follows.{one_log}
 use Rattle.pm_alloc.specs.Search.{IsPool}
 use Rattle.codegen.specs.Emit.{most_steps, known}

@@ -1,5 +1,5 @@
 -- The pool that a session shows of a heap with valid headers is the one that the heap stands for.
-use Rattle.std.proofs.Common.{◌≡◌, ℕ, zero, suc, ◌+◌, ◌<◌, ◌≤◌, ℤ, pos, negsuc, Bool, true, false, List, [], ◌∷◌, length, Option, Some, None, refl, sym, ap, ap₂, ◌∙◌, subst, arith}
+use Rattle.std.proofs.Common.{◌≡◌, ℕ, zero, suc, ◌+◌, ◌≤◌, ℤ, pos, Bool, true, false, List, ◌∷◌, length, Option, Some, None, refl, sym, ap, ap₂, ◌∙◌, arith}
 use Rattle.std.specs.Prelude.{slice_get, nat_lt, if◌then◌else◌, option_map}
 use Rattle.std.proofs.lemmas.Bool.{lt-ltb}
 use Rattle.cache_model.specs.Cache.{Words}
@@ -9,7 +9,6 @@ use Rattle.pool_map.specs.declared.object.Object.{Object}
 use Rattle.pool_map.specs.declared.shapes.StructShape.{StructShape}
 use Rattle.pool_map.specs.declared.shapes.Shapes.{Shapes}
 use Rattle.pool_map.specs.PoolFits.{words_of, struct_at}
-use Rattle.pool_map.specs.PoolMap.{PoolMap}
 use Rattle.cnvm_session.specs.Shown as shown
 use Rattle.piece_law.specs.Fits.{IsFit}
 use Rattle.piece_law.specs.Pools.{HasValidHeaders, words_from, object_with, object_in, slots_from, pool_in}

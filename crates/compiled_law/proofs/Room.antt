@@ -1,5 +1,5 @@
 -- There is room for the registers and the code of a function of well formed code that is short.
-use Rattle.std.proofs.Common.{◌≡◌, ℕ, zero, suc, ◌+◌, ◌-◌, ◌*◌, ◌<◌, ◌≤◌, ◌^◌, Bool, true, false, List, [], ◌∷◌, ◌++◌, length, map, Option, Some, None, refl, sym, ap, ap₂, ◌∙◌, subst, arith, length-append}
+use Rattle.std.proofs.Common.{◌≡◌, ℕ, zero, suc, ◌+◌, ◌-◌, ◌*◌, ◌<◌, ◌≤◌, ◌^◌, Bool, true, false, List, [], ◌∷◌, ◌++◌, length, map, Option, Some, None, refl, ap₂, arith, length-append}
 use Rattle.std.specs.Prelude.{◌&&◌, nat_lt, nat_le, if◌then◌else◌, slice_get}
 use Rattle.std.specs.List.{list_all, AllByRecursion}
 use Rattle.std.proofs.lemmas.Bool.{lt-ltb, le-leb}
@@ -16,13 +16,13 @@ use Rattle.ir.specs.declared.function.Ir.{Ir}
 use Rattle.ir.specs.WellFormed.{IsIndexed, IsTarget, IsInstruction, IsFunction, field_of}
 use Rattle.pm_machine.specs.declared.op.Op.{Op}
 use Rattle.pm_alloc.specs.declared.local.Local.{Local}
-use Rattle.pm_alloc.specs.Pieces.{fill_code, new_head, new_code, new_or_trap}
+use Rattle.pm_alloc.specs.Pieces.{fill_code, new_head, new_code}
 use Rattle.pm_alloc.specs.declared.local.Reg.TheVariants.{Own, Temp}
 use Rattle.pm_alloc.specs.declared.local.Local.TheVariants as local
 use Rattle.pm_alloc.specs.Placing.{sum, placed}
 use Rattle.codegen.specs.Fields.{object_words}
 use Rattle.codegen.specs.Names.{index_below, target_below, is_below}
-use Rattle.codegen.specs.Emit.{local_code, make_words, control, return_code, call_code, width, is_log, places, place_in, instruction_code, code_from, function_code, has_room}
+use Rattle.codegen.specs.Emit.{local_code, make_words, control, width, is_log, places, place_in, code_from}
 use Rattle.emit_law.specs.Standing.{HasRoom}
 use Rattle.emit_law.proofs.Steps.{forward_code}
 
@@ -121,10 +121,15 @@ code_short s h tx base table p b [] = omega arith
 code_short s h tx base table p b (i ∷ code) =
     let first : List Op = control tx (place_in table) i in
     let piece : List Local = local_code s h b i in
-    omega (arith,
-    length-append (first ++ map (placed base p) piece) (code_from s h tx base table (sum p (width s h tx b i)) (is_log i) code),
-    length-append first (map (placed base p) piece), length-map piece (placed base p),
-    control_short tx (place_in table) i, piece_short s h b i, code_short s h tx base table (sum p (width s h tx b i)) (is_log i) code)
+    omega (
+      arith,
+      length-append (first ++ map (placed base p) piece) (code_from s h tx base table (sum p (width s h tx b i)) (is_log i) code),
+      length-append first (map (placed base p) piece),
+      length-map piece (placed base p),
+      control_short tx (place_in table) i,
+      piece_short s h b i,
+      code_short s h tx base table (sum p (width s h tx b i)) (is_log i) code,
+    )
 
 pub has_room_for : (s : Sizes) (program : Ir) (u : IrFunction) → IsFunction program u → u.registers ≤ 2 ^ 32 - 9 → 51 * length u.code < 2 ^ 32 → HasRoom s program.shapes u
 has_room_for s program u formed few short = record {

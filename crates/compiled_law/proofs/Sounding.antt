@@ -1,6 +1,5 @@
 -- The machine's run of a compiled transaction is sound, and ends as its code does or with a full log.
-use Rattle.std.proofs.Common.{◌≡◌, ℕ, zero, suc, ◌*◌, ◌-◌, ◌≤◌, ℤ, Bool, true, false, List, Some, refl, sym, ap, ◌∙◌, subst, inl, inr, ⊎_elim}
-use mathlib.Core.Logic.{◌⊎◌}
+use Rattle.std.proofs.Common.{◌≡◌, ℕ, zero, suc, ◌*◌, ◌-◌, ◌≤◌, ℤ, true, List, Some, refl, subst, inl, inr}
 use Rattle.std.specs.Prelude.{slice_get}
 use Rattle.cache_model.specs.Cache.{Words}
 use Rattle.pool_map.specs.declared.trap.TrapKind.{TrapKind}
@@ -42,7 +41,7 @@ use Rattle.piece_law.specs.Words.{HoldWords, HasWords, IsWordState, IsWordEnd, I
 use Rattle.piece_law.specs.Shows.{Shows}
 use Rattle.match_law.specs.Accesses.{accesses}
 use Rattle.match_law.specs.Compiled.{IsCompiled, is_logged}
-use Rattle.match_law.specs.Law.{Keeps, RunHalts, RunTraps, RunFull, KeepLaw}
+use Rattle.match_law.specs.Law.{Keeps, RunFull, KeepLaw}
 use Rattle.match_law.specs.Match.{most}
 use Rattle.compiled_law.specs.Counts.{records_of}
 use Rattle.compiled_law.specs.Runs.{EndsAs, RunIs}

@@ -17,12 +17,12 @@ use Rattle.ir.specs.Places.{instruction_at}
 use Rattle.ir.specs.WellFormed.{IsWellFormed}
 use Rattle.clobber_pass.specs.declared.marking.MarkTable.{MarkTable}
 use Rattle.instrument.specs.Insert.{logs, place_in, places_from, led, flagged, flags_from, logged_function, logged_program}
-use Rattle.code_meaning.specs.Code.{Frame, frame, State, Here, End, Ended, Trapped, Unfinished, Stuck, Move, Goes, Ends, Spot, InSlot, at, put, base_in, index_in, spot_of, slot_of, fields_of, with_word, with_ok, word_of, is_zero, takes_tick, gives, opens, open_limit, act, step, go_on, exec, start, free_in, new_in, load, store, IsOver}
-use Rattle.code_meaning.specs.Deeds.{Deed, Reads, Writes, Heads, if_ok, zeros, site, deeds_new, deeds_at, deeds_of, deeds_on, deeds}
+use Rattle.code_meaning.specs.Code.{Frame, frame, State, Here, End, Ended, Trapped, Unfinished, Stuck, Move, Goes, Ends, InSlot, at, put, base_in, index_in, spot_of, slot_of, fields_of, with_word, with_ok, word_of, is_zero, takes_tick, gives, opens, open_limit, act, step, go_on, exec, start, free_in, new_in, load, store, IsOver}
+use Rattle.code_meaning.specs.Deeds.{Deed, Writes, Heads, if_ok, zeros, site, deeds_new, deeds_at, deeds_of, deeds_on, deeds}
 use Rattle.code_meaning.proofs.More.{end, done}
-use Rattle.insert_law.specs.Moved.{code_in, begins, logs_before, stands, moved_site, moved_deed, moved_deeds, moved_frame, moved_frames, moved_state, moved}
+use Rattle.insert_law.specs.Moved.{code_in, begins, stands, moved_site, moved_deed, moved_deeds, moved_frames, moved_state, moved}
 use Rattle.insert_law.specs.Law.{IsDone, EndLaw, DeedsLaw}
-use Rattle.insert_law.proofs.Standing.{function_at, L, Stands, standing}
+use Rattle.insert_law.proofs.Standing.{function_at, standing}
 
 -- an instruction has one log, or none
 pub one_log : (flag : Bool) (i : Instruction) → (logs flag i ≡ []) ⊎ ((x : Instruction) × (logs flag i ≡ x ∷ []))

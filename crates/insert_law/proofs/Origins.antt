@@ -6,11 +6,8 @@ use Rattle.ir.specs.declared.instruction.Target.{Target}
 use Rattle.ir.specs.declared.instruction.Instruction.{Instruction}
 use Rattle.ir.specs.declared.instruction.Instruction.TheVariants.{Log}
 use Rattle.ir.specs.declared.function.IrFunction.{IrFunction}
-use Rattle.ir.specs.declared.function.Ir.{Ir}
 use Rattle.ir.specs.Places.{instruction_at}
-use Rattle.ir.specs.WellFormed.{IsWellFormed}
-use Rattle.clobber_pass.specs.declared.marking.MarkTable.{MarkTable}
-use Rattle.instrument.specs.Insert.{logs, flag_at, places_from, led, logged_from, flags_from, logged_function, logged_program}
+use Rattle.instrument.specs.Insert.{logs, flag_at, places_from, led, logged_from, flags_from, logged_function}
 use Rattle.insert_law.specs.Law.{OriginLaw}
 use Rattle.insert_law.proofs.Standing.{function_at, code_is}
 use Rattle.insert_law.proofs.Follows.{one_log, log_is}

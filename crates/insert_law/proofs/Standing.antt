@@ -1,20 +1,18 @@
 -- Where each instruction and its log stand in code with its logs.
-use Rattle.std.proofs.Common.{◌≡◌, ℕ, zero, suc, ◌+◌, ◌*◌, ◌<◌, ◌≤◌, ◌^◌, ◌-◌, Bool, true, false, List, [], ◌∷◌, ◌++◌, length, Option, Some, None, refl, sym, ap, ◌∙◌, subst, arith, add_assoc, length-append, append_assoc}
+use Rattle.std.proofs.Common.{◌≡◌, ℕ, zero, suc, ◌+◌, ◌^◌, ◌-◌, Bool, true, false, List, [], ◌∷◌, ◌++◌, length, Option, Some, None, refl, sym, ap, ◌∙◌, subst, arith, length-append, append_assoc}
 use Rattle.std.specs.Option.{option_map_or}
 use Rattle.std.specs.Prelude.{slice_get, slice_index_or, nat_lt, if◌then◌else◌, option_map, option_and_then}
-use Rattle.std.specs.List.{AllByRecursion}
 use Rattle.std.proofs.lemmas.Bool.{lt-ltb}
-use Rattle.std.proofs.lemmas.Option.{slice_get_past}
 use Rattle.ir.specs.declared.instruction.Target.{Target}
 use Rattle.ir.specs.declared.instruction.Instruction.{Instruction}
-use Rattle.ir.specs.declared.instruction.Instruction.TheVariants.{Const, Copy, Bin, Jump, Branch, Load, Store, New, Free, Call, Return, Tick, Trap, Log}
+use Rattle.ir.specs.declared.instruction.Instruction.TheVariants.{Store, New, Log}
 use Rattle.ir.specs.declared.function.IrFunction.{IrFunction}
 use Rattle.ir.specs.declared.function.Ir.{Ir}
 use Rattle.ir.specs.Places.{instruction_at}
 use Rattle.ir.specs.WellFormed.{IsFunction, IsWellFormed}
 use Rattle.clobber_pass.specs.declared.marking.MarkTable.{MarkTable}
 use Rattle.clobber_pass.specs.Logged.{is_logged}
-use Rattle.instrument.specs.Insert.{logs, width, flag_at, places_from, place_in, led, logged_from, flagged, flags_from, with_flags, logged_code, logged_function, logged_functions, logged_program}
+use Rattle.instrument.specs.Insert.{logs, width, flag_at, places_from, led, logged_from, flagged, flags_from, with_flags, logged_function, logged_functions, logged_program}
 use Rattle.code_meaning.proofs.Lists.{all_at}
 use Rattle.code_meaning.specs.Deeds.{site}
 use Rattle.insert_law.specs.Moved.{code_in, begins, logs_before, stands}

@@ -1,7 +1,7 @@
 -- Code with its logs does what the code does: the same end, and the same loads and stores, whose sites have moved. It takes at most
 -- twice the steps. Where the marks say that a store is logged, a log of its target stands right before it; the flag of a new says
 -- whether its fill is logged.
-use Rattle.std.specs.Prelude.{◌≡◌, ◌⊎◌, ◌*◌, ◌+◌, ℕ, ℤ, List, [], Bool, true, false, Some}
+use Rattle.std.specs.Prelude.{◌≡◌, ◌⊎◌, ◌*◌, ◌+◌, ℕ, ℤ, List, Bool, true, false, Some}
 use Rattle.pool_map.specs.PoolMap.{PoolMap}
 use Rattle.ir.specs.declared.instruction.Target.{Target}
 use Rattle.ir.specs.declared.instruction.Instruction.{Instruction}

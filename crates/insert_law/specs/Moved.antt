@@ -1,6 +1,6 @@
 -- Where things stand in code with its logs. The instruction at a place begins, with its log, at another place, and stands behind
 -- that log, where it has one. A site moves with its instruction, and a state of a run with the places of its open functions.
-use Rattle.std.specs.Prelude.{ℕ, ◌+◌, Bool, List, [], ◌∷◌, map, length, ℤ, Option, Some, None, slice_get}
+use Rattle.std.specs.Prelude.{ℕ, ◌+◌, List, [], ◌∷◌, length, Option, Some, None, slice_get}
 use Rattle.std.specs.Option.{option_map_or}
 use Rattle.ir.specs.declared.instruction.Instruction.{Instruction}
 use Rattle.ir.specs.declared.function.IrFunction.{IrFunction}

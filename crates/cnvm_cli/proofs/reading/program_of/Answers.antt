@@ -7,5 +7,6 @@ returns-in-Ok-clause-is c = record {
   sizes = c.in-Ok.ensures.sizes;
   image = c.in-Ok.ensures.image;
   code = made_of c.in-Ok.compiled c.in-Ok.ensures.ir c.in-Ok.ensures.marks c.in-Ok.ensures.code;
+  agrees = c.in-Ok.ensures.agrees;
   digest = c.in-Ok.ensures.digest;
 }

@@ -1,7 +1,4 @@
-use Rattle.std.proofs.Common.{rules, ◌≡◌, sym, ap, ◌∙◌, subst}
-use Rattle.c_types.specs.Shapes.{shapes_of}
-use Rattle.cnvm_compile.specs.FrontEnd.{Accepts}
-use Rattle.cnvm_compile.specs.SizesAsked.{HasRoot}
+use Rattle.std.proofs.Common.{rules}
 use Rattle.cnvm_compile.proofs.Agreeing.{agreed}
 use Rattle.cnvm_compile.proofs.compiling.compile.Goals as goal
 

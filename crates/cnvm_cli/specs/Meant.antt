@@ -1,0 +1,87 @@
+-- What a run on a new pool means by the source of its program: each command is answered as the source says, and the device holds
+-- behind it what is then known of the source's pool. Power may be cut at any store, flush or fence on the way, in a recovery too.
+use Rattle.std.specs.Prelude.{ℕ, List, [], ◌∷◌, Bool, true, false, Option, Some, None, is_some, IfSome, ◌≡◌, ◌⊎◌}
+use Rattle.std.specs.Io.KnownBytes.{Appends, Keeps}
+use Rattle.nvm_base.specs.Parts.{AppendsPart}
+use Rattle.pmem.specs.Device.{Device}
+use Rattle.pool_layout.specs.Image.{Words}
+use Rattle.lower.specs.Program.{lowered}
+use Rattle.clobber_pass.specs.declared.marking.MarkTable.{MarkTable}
+use Rattle.cnvm_script.specs.declared.command.Command.{Command}
+use Rattle.cnvm_session.specs.declared.answer.Answer.{Answer}
+use Rattle.cnvm_session.specs.declared.mode.Mode.{Mode}
+use Rattle.cnvm_session.specs.declared.program.Program.{Program}
+use Rattle.cnvm_session.specs.AnswerText.{answer_text}
+use Rattle.session_law.specs.Source.{Counts}
+use Rattle.session_law.specs.State.{State, created}
+use Rattle.session_law.specs.Answers.{Answers}
+use Rattle.session_law.specs.Holds.{Holds}
+use Rattle.compiled_law.specs.Counts.{counts_of}
+use Rattle.cnvm_compile.specs.Marked.{IsMarked}
+use Rattle.cnvm_words.specs.declared.plan.Plan.{Plan}
+use Rattle.cnvm_words.specs.declared.plan.Plan.TheVariants as plan
+use Rattle.cnvm_cli.specs.declared.asked.Asked.{Asked}
+use Rattle.cnvm_cli.specs.declared.refused.Refused.{Refused}
+use Rattle.cnvm_cli.specs.declared.status.Status.{Status}
+use Rattle.cnvm_cli.specs.declared.status.Status.TheVariants as status
+use Rattle.cnvm_cli.specs.Verdict.{TextsGive, TextsRefuse}
+use Rattle.cnvm_cli.specs.Run.{RefusedAs}
+use Rattle.cnvm_cli.specs.Saved.{SavedAs}
+use Rattle.cnvm_cli.specs.Ends.{Sources, Outside}
+
+-- All commands are answered as the source says, each answer written before the next command. Image: what the command finds in the
+-- pool, which is what the power cut left where it cuts the power.
+abbrev pub AnsweredAll : Program → Counts → List Command → State → Option (List ℕ) → State → Option (List ℕ) → Type 0
+AnsweredAll program counts [] s w t w' = (t ≡ s) × (w' ≡ w)
+AnsweredAll program counts (command ∷ commands) s w t w' =
+    (a : Answer) × (image : Words) × (s1 : State) × (w1 : Option (List ℕ)) × Answers program counts s image command a s1
+    × Appends w w1 (answer_text a) × AnsweredAll program counts commands s1 w1 t w'
+
+-- The first of them are answered so, and of the next one's lines a part is written, perhaps none.
+abbrev pub AnsweredPart : Program → Counts → List Command → State → Option (List ℕ) → Option (List ℕ) → Type 0
+AnsweredPart program counts [] s w w' = ⊥
+AnsweredPart program counts (command ∷ commands) s w w' =
+    ((a : Answer) × (image : Words) × (s1 : State) × Answers program counts s image command a s1 × AppendsPart w w' (answer_text a))
+    ⊎ ((a : Answer) × (image : Words) × (s1 : State) × (w1 : Option (List ℕ)) × Answers program counts s image command a s1
+    × Appends w w1 (answer_text a) × AnsweredPart program counts commands s1 w1 w')
+
+-- behind all of them the device holds what is known of the pool
+abbrev pub MeansAll : Program → Counts → List Command → State → Option (List ℕ) → Option (List ℕ) → Device → Type 0
+MeansAll program counts commands s w w' d =
+    (t : State) × AnsweredAll program counts commands s w t w' × ((super : Words) × (m : Mode) × Holds program super m d t)
+
+-- by the status
+abbrev pub MeantAs : Program → Counts → List Command → Status → Option (List ℕ) → Option (List ℕ) → Device → Type 0
+MeantAs program counts commands status.Done w w' d = MeansAll program counts commands (created program) w w' d
+MeantAs program counts commands status.WriteFault w w' d = AnsweredPart program counts commands (created program) w w'
+MeantAs program counts commands status.NoMemory w w' d = Keeps w w' ⊎ AnsweredPart program counts commands (created program) w w'
+MeantAs program counts commands status.DeviceFault w w' d = Keeps w w'
+MeantAs program counts commands status.ReadFault w w' d = ⊥
+MeantAs program counts commands status.Usage w w' d = ⊥
+MeantAs program counts commands status.Program w w' d = ⊥
+MeantAs program counts commands status.Script w w' d = ⊥
+MeantAs program counts commands status.Image w w' d = ⊥
+
+-- the same, and then the pool is saved, or it isn't
+abbrev pub JobMeant : (saves : Bool) → Program → Counts → List Command → Status → (before behind : Outside) → Type 0
+JobMeant false program counts commands result before behind = MeantAs program counts commands result before.out behind.out behind.dev
+JobMeant true program counts commands result before behind =
+    (ran : Status) × (d : Device) × MeantAs program counts commands ran before.out behind.out d
+    × SavedAs ran result before.image behind.image d behind.dev
+
+-- The texts are refused; or, where the sources tell them, the run means what the program's source says. Of the marks that a listing
+-- shows, the log records of a call are its stores at logged sites.
+abbrev pub RunMeant : Asked → Sources → (saves : Bool) → Status → (before behind : Outside) → Type 0
+RunMeant asked told saves result before behind =
+    ((why : Refused) × TextsRefuse asked told.program told.script why × RefusedAs why result before.out behind.out)
+    ⊎ ((program : Program) × (commands : List Command) × TextsGive asked told.program told.script program commands
+    × IfSome told.program (λ text. IfSome told.script (λ script. (marks : MarkTable) × IsMarked marks (lowered program.typed)
+    × JobMeant saves program (counts_of program marks) commands result before behind)))
+
+-- of a run on a new pool
+abbrev pub PlanMeant : Plan → Sources → Status → (before behind : Outside) → Type 0
+PlanMeant (plan.Run p s slots records ticks None save) told result before behind =
+    RunMeant (record { slots = slots; records = records; ticks = ticks }) told (is_some save) result before behind
+PlanMeant (plan.Run p s slots records ticks (Some from) save) told result before behind = Unit {0}
+PlanMeant (plan.List p) told result before behind = Unit {0}
+PlanMeant (plan.Storm p start count slots records ticks) told result before behind = Unit {0}
