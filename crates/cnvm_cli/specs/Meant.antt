@@ -69,8 +69,8 @@ JobMeant true program counts commands result before behind =
     (ran : Status) × (d : Device) × MeantAs program counts commands ran before.out behind.out d
     × SavedAs ran result before.image behind.image d behind.dev
 
--- The texts are refused; or, where the sources tell them, the run means what the program's source says. Of the marks that a listing
--- shows, the log records of a call are its stores at logged sites.
+-- The texts are refused; or, where the sources tell them, the run means what the program's source says, and the log records of a call
+-- are its stores at sites that the program's marks log.
 abbrev pub RunMeant : Asked → Sources → (saves : Bool) → Status → (before behind : Outside) → Type 0
 RunMeant asked told saves result before behind =
     ((why : Refused) × TextsRefuse asked told.program told.script why × RefusedAs why result before.out behind.out)
