@@ -1,9 +1,12 @@
 -- A run means what its program's source says.
-use Rattle.std.proofs.Common.{◌≡◌, ℕ, List, [], ◌∷◌, Bool, true, false, Option, Some, None, IfSome, is_some, inl, inr, refl, sym, subst}
+use Rattle.std.proofs.Common.{◌≡◌, ℕ, ℤ, List, [], ◌∷◌, Bool, true, false, Option, Some, None, IfSome, is_some, inl, inr, length, refl, sym, subst}
 use Rattle.std.specs.List.{AllByRecursion}
 use Rattle.std.specs.Io.KnownBytes.{Keeps}
 use Rattle.pmem.specs.Device.{Device}
-use Rattle.pool_layout.specs.Image.{Words}
+use Rattle.pool_layout.specs.declared.limits.Sizes.{Sizes}
+use Rattle.pool_layout.specs.Image.{Words, words_of}
+use Rattle.pool_layout.specs.Opened.{IsOpened}
+use Rattle.c_types.specs.Shapes.{shapes_of, transactions_of}
 use Rattle.clobber_pass.specs.declared.marking.MarkTable.{MarkTable}
 use Rattle.cnvm_script.specs.declared.command.Command.{Command}
 use Rattle.cnvm_session.specs.declared.mode.Mode.{Mode}
@@ -13,9 +16,12 @@ use Rattle.session_law.specs.Source.{Counts}
 use Rattle.session_law.specs.Agrees.{Agrees}
 use Rattle.session_law.specs.State.{State, created}
 use Rattle.session_law.specs.Holds.{Holds}
+use Rattle.session_law.specs.Words.{AreWords}
+use Rattle.session_law.specs.Opened as session
 use Rattle.session_law.specs.Law.{IsWordCommand, super_words, found_by}
 use Rattle.session_law.proofs.Commands.{each_command}
 use Rattle.session_law.proofs.Creating.{created_rests}
+use Rattle.session_law.proofs.Opening.{opened_answers}
 use Rattle.session_law.proofs.Scripts.{script_words}
 use Rattle.compiled_law.specs.Counts.{counts_of}
 use Rattle.lower.specs.Program.{lowered}
@@ -27,9 +33,11 @@ use Rattle.cnvm_cli.specs.declared.refused.Refused.TheVariants as refused
 use Rattle.cnvm_cli.specs.declared.status.Status.{Status}
 use Rattle.cnvm_cli.specs.declared.status.Status.TheVariants as status
 use Rattle.cnvm_cli.specs.Verdict.{CompiledFrom, HasCommands, TextsGive}
+use Rattle.cnvm_cli.specs.Opened as cli
+use Rattle.cnvm_cli.specs.Opened.{wanted_of, ImageGives, OpensAll, OpenedAs}
 use Rattle.cnvm_cli.specs.Run.{RunsAll, RunsPart, RanAs}
-use Rattle.cnvm_cli.specs.Ends.{Sources, Outside, Fresh, JobEnds, RunEnds, PlanEnds}
-use Rattle.cnvm_cli.specs.Meant.{AnsweredPart, MeansAll, MeantAs, JobMeant, RunMeant, PlanMeant}
+use Rattle.cnvm_cli.specs.Ends.{Sources, Outside, Start, Fresh, FromImage, PoolEnds, JobEnds, start_if, RunEnds, PlanEnds}
+use Rattle.cnvm_cli.specs.Meant.{AnsweredPart, MeansAll, MeantAs, OpensMeant, OpensPart, OpenedMeantAs, StartMeant, JobMeant, RunMeant, PlanMeant}
 
 module _ (program : Program) (counts : Counts) (super : Words) (agrees : Agrees program counts) where
   run_all : (commands : List Command) → AllByRecursion IsWordCommand commands → (m : Mode) (d d' : Device) (w w' : Option (List ℕ)) (k k' : ℕ) (s : State) → Holds program super m d s → RunsAll program commands m d w k d' w' k' →
@@ -66,31 +74,68 @@ module _ (program : Program) (counts : Counts) (agrees : Agrees program counts) 
   ran_meant status.Script w w' d d' k k' r = absurd r
   ran_meant status.Image w w' d d' k k' r = absurd r
 
-  job_meant : (saves : Bool) (result : Status) (before behind : Outside) → JobEnds saves Fresh program commands result before behind → JobMeant saves program counts commands result before behind
-  job_meant false result before behind ends = ran_meant result before.out behind.out before.dev behind.dev before.steps behind.steps ends.0
-  job_meant true result before behind ends =
-      (ends.0, ends.1, ran_meant ends.0 before.out behind.out before.dev ends.1 before.steps behind.steps ends.2, ends.3)
+  -- the pool of an image
+  opens_meant : (words : List ℤ) → AreWords words → IsOpened (session.wanted_of program) words → (w w' : Option (List ℕ)) (d d' : Device) (k k' : ℕ) → OpensAll program commands words w w' d d' k k' → OpensMeant program counts commands words w w' d'
+  opens_meant list are opened w w' d d' k k' r =
+      let first = opened_answers program counts list r.1 d r.2 r.0 k r.4 agrees are opened r.5 in
+      (r.0, first.0, r.3, first.1, r.6, run_all program counts (words_of list) agrees commands words r.1 r.2 d' r.3 w' r.4 k' first.0 first.2 r.7)
+
+  part_meant : (words : List ℤ) → AreWords words → IsOpened (session.wanted_of program) words → (w w' : Option (List ℕ)) (d d' : Device) (k k' : ℕ) → cli.OpensPart program commands words w w' d d' k k' → OpensPart program counts commands words w w'
+  part_meant list are opened w w' d d' k k' (inl r) =
+      let first = opened_answers program counts list r.1 d d' r.0 k k' agrees are opened r.2 in
+      inl (r.0, first.0, first.1, r.3)
+  part_meant list are opened w w' d d' k k' (inr r) =
+      let first = opened_answers program counts list r.1 d r.2 r.0 k r.4 agrees are opened r.5 in
+      inr (r.0, first.0, r.3, first.1, r.6, run_part program counts (words_of list) agrees commands words r.1 r.2 d' r.3 w' r.4 k' first.0 first.2 r.7)
+
+  opened_meant : (words : List ℤ) → AreWords words → IsOpened (session.wanted_of program) words → (result : Status) (w w' : Option (List ℕ)) (d d' : Device) (k k' : ℕ) → OpenedAs program commands words result w w' d d' k k' → OpenedMeantAs program counts commands words result w w' d'
+  opened_meant list are opened status.Done w w' d d' k k' r = opens_meant list are opened w w' d d' k k' r
+  opened_meant list are opened status.WriteFault w w' d d' k k' r = part_meant list are opened w w' d d' k k' r
+  opened_meant list are opened status.NoMemory w w' d d' k k' (inl keeps) = inl keeps
+  opened_meant list are opened status.NoMemory w w' d d' k k' (inr r) = inr (part_meant list are opened w w' d d' k k' r)
+  opened_meant list are opened status.DeviceFault w w' d d' k k' r = r
+  opened_meant list are opened status.ReadFault w w' d d' k k' r = absurd r
+  opened_meant list are opened status.Usage w w' d d' k k' r = absurd r
+  opened_meant list are opened status.Program w w' d d' k k' r = absurd r
+  opened_meant list are opened status.Script w w' d d' k k' r = absurd r
+  opened_meant list are opened status.Image w w' d d' k k' r = absurd r
+
+  module _ (sizes : program.image.parts.sizes ≡ program.sizes) where
+    wanted_same : (list : List ℤ) → IsOpened (wanted_of program) list → IsOpened (session.wanted_of program) list
+    wanted_same list is =
+        subst (λ (z : Sizes). IsOpened (record { sizes = z; digest = program.digest; txs = length (transactions_of program.typed); structs = length (shapes_of program.typed).structs }) list) (sym sizes) is
+
+    start_meant : (start : Start) (result : Status) (w w' : Option (List ℕ)) (d d' : Device) (k k' : ℕ) → PoolEnds start program commands result w w' d d' k k' → StartMeant start program counts commands result w w' d'
+    start_meant Fresh result w w' d d' k k' ends = ran_meant result w w' d d' k k' ends
+    start_meant (FromImage image) result w w' d d' k k' (inl refused) = inl (refused.0, refused.1, refused.2)
+    start_meant (FromImage image) result w w' d d' k k' (inr ran) =
+        let gives : ImageGives program image ran.0 = ran.1 in
+        inr (ran.0, gives, opened_meant ran.0 gives.1 (wanted_same ran.0 gives.0) result w w' d d' k k' ran.2)
+
+    job_meant : (saves : Bool) (start : Start) (result : Status) (before behind : Outside) → JobEnds saves start program commands result before behind → JobMeant saves start program counts commands result before behind
+    job_meant false start result before behind ends = start_meant start result before.out behind.out before.dev behind.dev before.steps behind.steps ends.0
+    job_meant true start result before behind ends =
+        (ends.0, ends.1, start_meant start ends.0 before.out behind.out before.dev ends.1 before.steps behind.steps ends.2, ends.3)
 
 -- where the sources tell both texts
-texts_meant : (asked : Asked) (p s : Option (List ℕ)) (saves : Bool) (program : Program) (commands : List Command) (result : Status) (before behind : Outside) → TextsGive asked p s program commands → JobEnds saves Fresh program commands result before behind →
-    IfSome p (λ text. IfSome s (λ script. (marks : MarkTable) × IsMarked marks (lowered program.typed) × JobMeant saves program (counts_of program marks) commands result before behind))
-texts_meant asked None s saves program commands result before behind gives ends = tt
-texts_meant asked (Some text) None saves program commands result before behind gives ends = tt
-texts_meant asked (Some text) (Some script) saves program commands result before behind gives ends =
+texts_meant : (asked : Asked) (p s : Option (List ℕ)) (start : Start) (saves : Bool) (program : Program) (commands : List Command) (result : Status) (before behind : Outside) → TextsGive asked p s program commands → JobEnds saves start program commands result before behind →
+    IfSome p (λ text. IfSome s (λ script. (marks : MarkTable) × IsMarked marks (lowered program.typed) × JobMeant saves start program (counts_of program marks) commands result before behind))
+texts_meant asked None s start saves program commands result before behind gives ends = tt
+texts_meant asked (Some text) None start saves program commands result before behind gives ends = tt
+texts_meant asked (Some text) (Some script) start saves program commands result before behind gives ends =
     let from : CompiledFrom asked text program = gives.0 in
     let has : HasCommands commands script = gives.1 in
     let made = from.code in
-    (made.marks, made.marked, job_meant program (counts_of program made.marks) from.agrees commands (script_words script commands has.1) saves result before behind ends)
+    (made.marks, made.marked, job_meant program (counts_of program made.marks) from.agrees commands (script_words script commands has.1) from.image saves start result before behind ends)
 
-run_meant : (asked : Asked) (told : Sources) (saves : Bool) (result : Status) (before behind : Outside) → RunEnds asked told false saves result before behind → RunMeant asked told saves result before behind
-run_meant asked told saves result before behind (inl refused) = inl (refused.0, refused.1, refused.2)
-run_meant asked told saves result before behind (inr ran) =
-    inr (ran.0, ran.1, ran.2, texts_meant asked told.program told.script saves ran.0 ran.1 result before behind ran.2 ran.3)
+run_meant : (asked : Asked) (told : Sources) (opens saves : Bool) (result : Status) (before behind : Outside) → RunEnds asked told opens saves result before behind → RunMeant asked told opens saves result before behind
+run_meant asked told opens saves result before behind (inl refused) = inl (refused.0, refused.1, refused.2)
+run_meant asked told opens saves result before behind (inr ran) =
+    inr (ran.0, ran.1, ran.2, texts_meant asked told.program told.script (start_if opens told.image) saves ran.0 ran.1 result before behind ran.2 ran.3)
 
 plan_meant : (asked : Plan) (told : Sources) (result : Status) (before behind : Outside) → PlanEnds asked told result before behind → PlanMeant asked told result before behind
-plan_meant (plan.Run p s slots records ticks None save) told result before behind ends =
-    run_meant (record { slots = slots; records = records; ticks = ticks }) told (is_some save) result before behind ends
-plan_meant (plan.Run p s slots records ticks (Some from) save) told result before behind ends = tt
+plan_meant (plan.Run p s slots records ticks from save) told result before behind ends =
+    run_meant (record { slots = slots; records = records; ticks = ticks }) told (is_some from) (is_some save) result before behind ends
 plan_meant (plan.List p) told result before behind ends = tt
 plan_meant (plan.Storm p start count slots records ticks) told result before behind ends = tt
 
@@ -103,7 +148,6 @@ plan_meant_as words asked told result before behind is ends =
 -- a call that finds no memory for its words
 pub memory_meant : (words : Option Plan) (told : Sources) (before behind : Outside) → Keeps before.out behind.out → IfSome words (λ asked. PlanMeant asked told status.NoMemory before behind)
 memory_meant None told before behind keeps = tt
-memory_meant (Some (plan.Run p s slots records ticks None save)) told before behind keeps = inl (refused.NoMemory, tt, (refl, keeps))
-memory_meant (Some (plan.Run p s slots records ticks (Some from) save)) told before behind keeps = tt
+memory_meant (Some (plan.Run p s slots records ticks from save)) told before behind keeps = inl (refused.NoMemory, tt, (refl, keeps))
 memory_meant (Some (plan.List p)) told before behind keeps = tt
 memory_meant (Some (plan.Storm p start count slots records ticks)) told before behind keeps = tt

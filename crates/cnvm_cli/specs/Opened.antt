@@ -17,6 +17,7 @@ use Rattle.cnvm_session.specs.declared.mode.Mode.{Mode}
 use Rattle.cnvm_session.specs.declared.program.Program.{Program}
 use Rattle.cnvm_session.specs.AnswerText.{answer_text}
 use Rattle.cnvm_session.specs.Outcomes.{Opens}
+use Rattle.session_law.specs.Words.{AreWords}
 use Rattle.cnvm_cli.specs.declared.refused.Refused.{Refused}
 use Rattle.cnvm_cli.specs.declared.refused.Refused.TheVariants as refused
 use Rattle.cnvm_cli.specs.declared.status.Status.{Status}
@@ -44,7 +45,7 @@ pub record IsImage (program : Program) (bytes : List ℕ) (words : List ℤ) : T
 
 -- what the image's reader makes of these bytes
 abbrev pub ImageIs : Program → Result (List ℤ) Refused → List ℕ → Type 0
-ImageIs program (Ok words) bytes = IsOpened (wanted_of program) words × IsImage program bytes words
+ImageIs program (Ok words) bytes = IsOpened (wanted_of program) words × AreWords words × IsImage program bytes words
 ImageIs program (Err (refused.Image fault)) bytes = Refuses (wanted_of program) bytes fault
 ImageIs program (Err refused.ReadFault) bytes = ⊤
 ImageIs program (Err refused.NoMemory) bytes = ⊤
@@ -70,7 +71,7 @@ ImageRefuses program image refused.Device = ⊥
 -- the words that the image gives
 abbrev pub ImageGives : Program → (image : Option (List ℕ)) → List ℤ → Type 0
 ImageGives program image words =
-    IsOpened (wanted_of program) words × IfSome image (λ bytes. IsImage program (read_part program bytes) words)
+    IsOpened (wanted_of program) words × AreWords words × IfSome image (λ bytes. IsImage program (read_part program bytes) words)
 
 -- what the image's reader answers
 abbrev pub ImageReadAs : Program → Result (List ℤ) Refused → (image : Option (List ℕ)) → Type 0

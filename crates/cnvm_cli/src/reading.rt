@@ -5,6 +5,7 @@ ghost use Rattle.std.specs.Io.KnownBytes.{IsAtEnd};
 ghost use Rattle.nvm_base.specs.Rose.{Rose};
 ghost use Rattle.lower.specs.Program.{lowered};
 ghost use Rattle.cnvm_compile.specs.Marked.{IsMarked};
+ghost use Rattle.session_law.specs.Words.{AreWords};
 ghost use Rattle.cnvm_cli.specs.Verdict.{refused_by};
 ghost use Rattle.cnvm_cli.specs.Opened.{wanted_of, ImageIs, ImageReadAs};
 ghost use Rattle.cnvm_cli.specs.Texts.{TextIs, ProgramIs, CommandsAre, ScriptIs, IsOfProgram, IsOfScript};
@@ -149,8 +150,20 @@ fn words_of(alloc: Global, bytes: &[u8], program: &Program) -> Result<Words, Ref
     ensures device { IsErrOf result Refused.Device → ⊥ }
 {
     match read_image(alloc, bytes, &wanted_of(program)) {
-        Ok(words) => Ok(words),
+        Ok(words) => {
+            are_words(words.as_slice());
+            Ok(words)
+        }
         Err(fault) => Err(Refused::Image(fault)),
+    }
+}
+
+/// Reads each word, so that it is known to be one, from -2^63 to 2^63 - 1. It changes nothing.
+fn are_words(words: &[i64])
+    ensures { AreWords words.now }
+{
+    for word in words {
+        let _word = *word;
     }
 }
 
