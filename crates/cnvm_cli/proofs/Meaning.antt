@@ -38,6 +38,7 @@ use Rattle.cnvm_cli.specs.Opened.{wanted_of, ImageGives, OpensAll, OpenedAs}
 use Rattle.cnvm_cli.specs.Run.{RunsAll, RunsPart, RanAs}
 use Rattle.cnvm_cli.specs.Ends.{Sources, Outside, Start, Fresh, FromImage, PoolEnds, JobEnds, start_if, RunEnds, PlanEnds}
 use Rattle.cnvm_cli.specs.Meant.{AnsweredPart, MeansAll, MeantAs, OpensMeant, OpensPart, OpenedMeantAs, StartMeant, JobMeant, RunMeant, PlanMeant}
+use Rattle.cnvm_cli.proofs.StormMeaning.{storm_meant}
 
 module _ (program : Program) (counts : Counts) (super : Words) (agrees : Agrees program counts) where
   run_all : (commands : List Command) → AllByRecursion IsWordCommand commands → (m : Mode) (d d' : Device) (w w' : Option (List ℕ)) (k k' : ℕ) (s : State) → Holds program super m d s → RunsAll program commands m d w k d' w' k' →
@@ -137,7 +138,8 @@ plan_meant : (asked : Plan) (told : Sources) (result : Status) (before behind : 
 plan_meant (plan.Run p s slots records ticks from save) told result before behind ends =
     run_meant (record { slots = slots; records = records; ticks = ticks }) told (is_some from) (is_some save) result before behind ends
 plan_meant (plan.List p) told result before behind ends = tt
-plan_meant (plan.Storm p start count slots records ticks) told result before behind ends = tt
+plan_meant (plan.Storm p start count slots records ticks) told result before behind ends =
+    storm_meant (record { slots = slots; records = records; ticks = ticks }) start count told.program result before.out behind.out before.dev behind.dev before.steps behind.steps ends.0
 
 -- of words that are a plan
 pub plan_meant_as : (words : Option Plan) (asked : Plan) (told : Sources) (result : Status) (before behind : Outside) → words ≡ Some asked
@@ -150,4 +152,4 @@ pub memory_meant : (words : Option Plan) (told : Sources) (before behind : Outsi
 memory_meant None told before behind keeps = tt
 memory_meant (Some (plan.Run p s slots records ticks from save)) told before behind keeps = inl (refused.NoMemory, tt, (refl, keeps))
 memory_meant (Some (plan.List p)) told before behind keeps = tt
-memory_meant (Some (plan.Storm p start count slots records ticks)) told before behind keeps = tt
+memory_meant (Some (plan.Storm p start count slots records ticks)) told before behind keeps = inl (refused.NoMemory, tt, (refl, keeps))

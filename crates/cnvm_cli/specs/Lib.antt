@@ -6,6 +6,7 @@ pub mod Read
 pub mod Run
 pub mod Saved
 pub mod StatusNumber
+pub mod StormMeant
 pub mod Stormed
 pub mod Texts
 pub mod Verdict

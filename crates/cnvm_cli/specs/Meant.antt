@@ -30,6 +30,7 @@ use Rattle.cnvm_cli.specs.Opened.{ImageRefuses, ImageGives}
 use Rattle.cnvm_cli.specs.Run.{RefusedAs}
 use Rattle.cnvm_cli.specs.Saved.{SavedAs}
 use Rattle.cnvm_cli.specs.Ends.{Sources, Outside, Start, Fresh, FromImage, start_if}
+use Rattle.cnvm_cli.specs.StormMeant.{StormMeant}
 
 -- All commands are answered as the source says, each answer written before the next command. Image: what the command finds in the
 -- pool, which is what the power cut left where it cuts the power.
@@ -114,4 +115,5 @@ abbrev pub PlanMeant : Plan → Sources → Status → (before behind : Outside)
 PlanMeant (plan.Run p s slots records ticks from save) told result before behind =
     RunMeant (record { slots = slots; records = records; ticks = ticks }) told (is_some from) (is_some save) result before behind
 PlanMeant (plan.List p) told result before behind = Unit {0}
-PlanMeant (plan.Storm p start count slots records ticks) told result before behind = Unit {0}
+PlanMeant (plan.Storm p start count slots records ticks) told result before behind =
+    StormMeant (record { slots = slots; records = records; ticks = ticks }) start count told.program result before.out behind.out behind.dev

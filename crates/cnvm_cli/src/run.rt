@@ -51,7 +51,7 @@ pub fn cnvm<S: Source, T: Source, I: Source, K: Sink, O: Sink, P: Pmem, L: Ledge
     ensures end { result ≡ Status.Done → IfSome (plan_of (map string_bytes words.entry.now)) (λ plan. IsRead plan (S.left world.new.program) (T.left world.new.script)) }
     // What is accepted isn't refused.
     ensures complete { IfSome (plan_of (map string_bytes words.entry.now)) (λ plan. IsServed plan (record { program = S.left world.old.program; script = T.left world.old.script; image = I.left world.old.image_in }) → IsRefusal result → ⊥) }
-    // A run means what its program's source says, wherever power is cut.
+    // A run and a storm mean what the program's source says, wherever power is cut.
     ensures source { IfSome (plan_of (map string_bytes words.entry.now)) (λ plan. PlanMeant plan (record { program = S.left world.old.program; script = T.left world.old.script; image = I.left world.old.image_in }) result (record { out = K.written world.old.out; image = O.written world.old.image_out; dev = P.device world.old.dev; steps = steps.old }) (record { out = K.written world.new.out; image = O.written world.new.image_out; dev = P.device world.new.dev; steps = steps.new })) }
 {
     match plan_of(alloc, words) {
