@@ -1,13 +1,15 @@
--- What a table of marks says of a site: the mark of its place, of the fill or of the store; a site that isn't there isn't logged.
-use Rattle.std.specs.Prelude.{Bool, false, Option, None, Some, slice_get, option_and_then, if◌then◌else◌}
-use Rattle.std.proofs.Common.{Vec, Global}
+-- What a table of marks says of a site. The mark of a place is a word: bit 0 for its store, or the store of
+-- its header, bit 1 for the fill of its new object. A site that isn't there isn't logged.
+use Rattle.std.specs.Prelude.{◌≡◌, ◌↔◌, Bool, true, List}
+use Rattle.ir.specs.declared.function.IrFunction.{IrFunction}
 use Rattle.ir.specs.declared.site.Site.{Site}
-use Rattle.clobber_pass.specs.declared.marking.Mark.{Mark}
+use Rattle.ir.specs.Clobber.{IsLogged}
 use Rattle.clobber_pass.specs.declared.marking.MarkTable.{MarkTable}
-
-abbrev pub marked : Option Mark → Site → Bool
-marked None site = false
-marked (Some mark) site = if site.fill then mark.fill else mark.store
+use Rattle.clobber_pass.specs.Marking.{site_said}
 
 abbrev pub is_logged : MarkTable → Site → Bool
-is_logged t site = marked (option_and_then (λ (places : Vec Mark Global). slice_get places.items site.place) (slice_get t.functions.items site.function)) site
+is_logged table site = site_said table.rows site
+
+-- a table marks exactly the sites whose old values are logged
+abbrev pub IsExact : List IrFunction → MarkTable → Type 0
+IsExact functions table = (site : Site) → (is_logged table site ≡ true) ↔ IsLogged functions site

@@ -1,63 +1,155 @@
--- The mark of each place, by what is told of it, and what a table of marks says of a site.
-use Rattle.std.specs.Prelude.{ℕ, ◌+◌, Bool, true, false, ◌&&◌, List, [], ◌∷◌, Option, Some, None, slice_get, option_and_then, map}
-use Rattle.std.proofs.Common.{Vec, Global}
-use Rattle.ir.specs.declared.instruction.Instruction.{Instruction}
-use Rattle.ir.specs.declared.instruction.Instruction.TheVariants.{Const, Copy, Bin, Jump, Branch, Load, Store, New, Free, Call, Return, Tick, Trap, Log}
+-- Marks. The mark of a place is a word: bit 0 for its store, bit 1 for the fill of its new object.
+use Rattle.std.specs.Prelude.{◌≡◌, ◌==◌, ◌+◌, ◌-◌, ◌%◌, ◌<◌, not, ℕ, Bool, true, false, List, [], ◌∷◌, Some, length, slice_get, bit_and, if◌then◌else◌}
+use mathlib.Core.Logic.{◌⊎◌}
 use Rattle.ir.specs.declared.function.IrFunction.{IrFunction}
 use Rattle.ir.specs.declared.site.Site.{Site}
-use Rattle.exposed_reads.specs.declared.place_facts.PlaceFact.{PlaceFact}
-use Rattle.exposed_reads.specs.Facts.{fact_at}
-use Rattle.clobber_pass.specs.declared.marking.Mark.{Mark}
-use Rattle.clobber_pass.specs.declared.marking.MarkTable.{MarkTable}
+use Rattle.ir.specs.declared.instruction.Target.{Target}
+use Rattle.ir.specs.declared.instruction.Target.TheVariants.{Root, Field}
+use Rattle.ir.specs.declared.instruction.Instruction.{Instruction}
+use Rattle.ir.specs.declared.instruction.Instruction.TheVariants.{Const, Copy, Bin, Jump, Branch, Load, Store, New, Free, Call, Return, Tick, Trap, Log}
+use Rattle.ir.specs.declared.fact.Fact.TheVariants.{Freed}
+use Rattle.ir.specs.Places.{instruction_at}
+use Rattle.ir.specs.Clobber.{unwritten, read, IsHeader}
+use Rattle.ir.specs.Derived.{Flows}
+use Rattle.clobber_pass.specs.declared.topic.Topic.{Topic}
+use Rattle.clobber_pass.specs.declared.topic.Topic.TheVariants.{Frees, Root as Roots, Field as Fields}
+use Rattle.clobber_pass.specs.Row.{word, mask, tells}
+use Rattle.clobber_pass.specs.Sweep.{row_in, next_row, pick}
+use Rattle.clobber_pass.specs.Closed.{Within}
 
-abbrev pub plain : Mark
-plain = record { store = false; fill = false }
+-- two words and a mask have a bit in common
+unfoldable pub meets : ℕ → ℕ → ℕ → Bool
+meets a b m = not (bit_and (bit_and a b) m == 0)
 
--- a store is logged where its target may be unwritten and its class read, a fill past a free, and each header
-abbrev pub mark_from : Instruction → PlaceFact → Mark
-mark_from (Store target from line) p = record { store = p.unwritten && p.read; fill = false }
-mark_from (New to kind log_fill line) p = record { store = true; fill = p.freed }
-mark_from (Free from kind line) p = record { store = true; fill = false }
-mark_from (Const to value) p = plain
-mark_from (Copy to from) p = plain
-mark_from (Bin op to left right) p = plain
-mark_from (Jump place) p = plain
-mark_from (Branch on place) p = plain
-mark_from (Load to target) p = plain
-mark_from (Call to function args) p = plain
-mark_from (Return from) p = plain
-mark_from Tick p = plain
-mark_from (Trap kind) p = plain
-mark_from (Log target) p = plain
+-- a store's mark, where its class is one of the topic's
+abbrev pub store_word : Topic → Target → List ℕ → ℕ
+store_word (Roots first) (Root y i) row = if meets (word row 0) (word row 1) (mask first y) then 1 else 0
+store_word (Roots first) (Field b t y i) row = 0
+store_word (Fields kind first) (Field b t y i) row = if kind == t then (if meets (word row (b + 2)) (word row 1) (mask first y) then 1 else 0) else 0
+store_word (Fields kind first) (Root y i) row = 0
+store_word Frees target row = 0
 
--- the marks of the instructions from place p of function f on
-abbrev pub marks_from : List (List PlaceFact) → ℕ → ℕ → List Instruction → List Mark
-marks_from facts f p [] = []
-marks_from facts f p (i ∷ is) = mark_from i (fact_at facts f p) ∷ marks_from facts f (p + 1) is
+abbrev pub fill_word : Topic → List ℕ → ℕ
+fill_word Frees row = if meets (word row 1) (word row 1) 1 then 2 else 0
+fill_word (Roots first) row = 0
+fill_word (Fields kind first) row = 0
 
--- the marks of the functions from function f on
-abbrev pub table_from : List (List PlaceFact) → ℕ → List IrFunction → List (List Mark)
-table_from facts f [] = []
-table_from facts f (u ∷ us) = marks_from facts f 0 u.code ∷ table_from facts (f + 1) us
+abbrev pub mark_word : Topic → Instruction → List ℕ → ℕ
+mark_word topic (Store target from line) row = store_word topic target row
+mark_word topic (New to kind log_fill line) row = fill_word topic row
+mark_word topic (Const to v) row = 0
+mark_word topic (Copy to from) row = 0
+mark_word topic (Bin op to left right) row = 0
+mark_word topic (Jump place) row = 0
+mark_word topic (Branch on place) row = 0
+mark_word topic (Load to t) row = 0
+mark_word topic (Free from kind line) row = 0
+mark_word topic (Call to g args) row = 0
+mark_word topic (Return from) row = 0
+mark_word topic Tick row = 0
+mark_word topic (Trap kind) row = 0
+mark_word topic (Log t) row = 0
 
--- the part of a place's mark that speaks of the store, or of the fill
-abbrev pub part : Bool → Option Mark → Bool
-part fill None = false
-part true (Some m) = m.fill
-part false (Some m) = m.store
+-- the marks of the places from one on, by the rows that come there
+abbrev pub marks_from : Topic → List (List (List ℕ)) → List (List ℕ) → List ℕ → ℕ → List Instruction → List ℕ
+marks_from topic exits rows row p [] = []
+marks_from topic exits rows row p (i ∷ is) =
+    mark_word topic i (pick (row_in rows p) row) ∷ marks_from topic exits rows (next_row topic exits i (pick (row_in rows p) row)) (p + 1) is
 
-abbrev pub is_marked : List (List Mark) → Site → Bool
-is_marked table site = part site.fill (option_and_then (λ (marks : List Mark). slice_get marks site.place) (slice_get table site.function))
+-- each header's store is marked
+abbrev pub header_word : Instruction → ℕ
+header_word (New to kind log_fill line) = 1
+header_word (Free from kind line) = 1
+header_word (Const to v) = 0
+header_word (Copy to from) = 0
+header_word (Bin op to left right) = 0
+header_word (Jump place) = 0
+header_word (Branch on place) = 0
+header_word (Load to t) = 0
+header_word (Store target from line) = 0
+header_word (Call to g args) = 0
+header_word (Return from) = 0
+header_word Tick = 0
+header_word (Trap kind) = 0
+header_word (Log t) = 0
 
--- a table as the marks of each function
-abbrev pub rows : MarkTable → List (List Mark)
-rows table = map (λ (marks : Vec Mark Global). marks.items) table.functions.items
+abbrev pub headers : List Instruction → List ℕ
+headers [] = []
+headers (i ∷ is) = header_word i ∷ headers is
 
--- a store, a free, or the header or the fill of a new stands there
-abbrev pub has_site : Bool → Option Instruction → Bool
-has_site fill None = false
-has_site true (Some (New to kind log_fill line)) = true
-has_site false (Some (Store target from line)) = true
-has_site false (Some (New to kind log_fill line)) = true
-has_site false (Some (Free from kind line)) = true
-has_site fill _ = false
+abbrev pub headers_of : List IrFunction → List (List ℕ)
+headers_of [] = []
+headers_of (u ∷ us) = headers u.code ∷ headers_of us
+
+-- the bit of a store, or of a fill
+abbrev pub part : Bool → ℕ
+part true = 1
+part false = 0
+
+abbrev pub says : List (List ℕ) → Bool → ℕ → ℕ → Bool
+says table fill f p = tells (row_in table f) (part fill) p
+
+-- a site is logged, by what is derived
+abbrev pub Logged : List IrFunction → Bool → ℕ → ℕ → Type 0
+Logged functions true f p = (to : ℕ) × (kind : ℕ) × (log_fill : Bool) × (line : ℕ) × (instruction_at functions f p ≡ Some (New to kind log_fill line)) × Flows functions f p Freed
+Logged functions false f p =
+    ((target : Target) × (from : ℕ) × (line : ℕ) × (instruction_at functions f p ≡ Some (Store target from line)) × Flows functions f p (unwritten target) × Flows functions f p (read target))
+    ⊎ IsHeader functions f p
+
+-- what is marked is logged
+pub record SoundMarks (functions : List IrFunction) (table : List (List ℕ)) : Type 0 where
+  pub logged : (fill : Bool) (f p : ℕ) → says table fill f p ≡ true → Logged functions fill f p
+
+pub record ShapedMarks (functions : List IrFunction) (table : List (List ℕ)) : Type 0 where
+  pub count : length table ≡ length functions
+  pub each : (f : ℕ) (u : IrFunction) → slice_get functions f ≡ Some u → (row_in table f ≡ []) ⊎ (length (row_in table f) ≡ length u.code)
+
+pub record Headers (functions : List IrFunction) (table : List (List ℕ)) : Type 0 where
+  pub marked : (f p : ℕ) → IsHeader functions f p → says table false f p ≡ true
+
+-- the topic of a target's class
+abbrev pub topic_of : Target → Topic
+topic_of (Root y i) = Roots (y - y % 64)
+topic_of (Field b t y i) = Fields t (y - y % 64)
+
+-- the stores and fills of a topic that are clobber are marked, in one function
+pub record Marked (functions : List IrFunction) (topic : Topic) (table : List (List ℕ)) (f : ℕ) : Type 0 where
+  pub stores : (p : ℕ) (target : Target) (from line : ℕ) → topic_of target ≡ topic → instruction_at functions f p ≡ Some (Store target from line) → Flows functions f p (unwritten target) → Flows functions f p (read target) → says table false f p ≡ true
+  pub fills : (p : ℕ) (to kind : ℕ) (log_fill : Bool) (line : ℕ) → topic ≡ Frees → instruction_at functions f p ≡ Some (New to kind log_fill line) → Flows functions f p Freed → says table true f p ≡ true
+
+-- the same of all functions
+abbrev pub AllMarked : List IrFunction → Topic → List (List ℕ) → Type 0
+AllMarked functions topic table = (f : ℕ) → f < length functions → Marked functions topic table f
+
+-- a topic is one of a list's
+pub record Has (topics : List Topic) (topic : Topic) : Type 0 where
+  pub at : ℕ
+  pub is : slice_get topics at ≡ Some topic
+
+-- what a table says stays said
+pub record Keeps (table new : List (List ℕ)) : Type 0 where
+  pub keeps : (f : ℕ) → Within (row_in table f) (row_in new f)
+
+-- what holds of a table of marks all the while
+pub record Marks (functions : List IrFunction) (table : List (List ℕ)) : Type 0 where
+  pub sound : SoundMarks functions table
+  pub shaped : ShapedMarks functions table
+
+-- the topics of one list are those of another
+pub record KeepsTopics (topics new : List Topic) : Type 0 where
+  pub keeps : (topic : Topic) → Has topics topic → Has new topic
+
+-- the topics of a code's stores, and of all stores
+pub record HasIn (topics : List Topic) (code : List Instruction) : Type 0 where
+  pub stores : (p : ℕ) (target : Target) (from line : ℕ) → slice_get code p ≡ Some (Store target from line) → Has topics (topic_of target)
+
+pub record HasAll (functions : List IrFunction) (topics : List Topic) : Type 0 where
+  pub stores : (f : ℕ) (u : IrFunction) → slice_get functions f ≡ Some u → HasIn topics u.code
+
+-- the same of one instruction, and of the places of a code below one
+pub record HasStore (topics : List Topic) (i : Instruction) : Type 0 where
+  pub store : (target : Target) (from line : ℕ) → i ≡ Store target from line → Has topics (topic_of target)
+
+-- what a table of marks says of a site
+abbrev pub site_said : List (List ℕ) → Site → Bool
+site_said table site = says table site.fill site.function site.place

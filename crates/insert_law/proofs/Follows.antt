@@ -3,6 +3,7 @@
 use mathlib.Core.Logic.{◌⊎◌}
 use Rattle.std.proofs.Common.{◌≡◌, ℕ, zero, suc, ◌+◌, ◌*◌, ◌-◌, ◌≤◌, ℤ, pos, Bool, true, false, List, [], ◌∷◌, ◌++◌, length, map, Option, Some, None, refl, sym, ap, ◌∙◌, subst, arith, inl, inr}
 use Rattle.std.specs.Prelude.{slice_get, nat_lt, if◌then◌else◌, option_map, Result, Ok, Err}
+use Rattle.std.proofs.lemmas.Bool.{false≢true}
 use Rattle.pool_map.specs.declared.trap.TrapKind.{TrapKind}
 use Rattle.pool_map.specs.declared.trap.TrapKind.TheVariants.{Depth}
 use Rattle.pool_map.specs.PoolMap.{PoolMap, least_free}
@@ -16,7 +17,7 @@ use Rattle.ir.specs.declared.function.Ir.{Ir}
 use Rattle.ir.specs.Places.{instruction_at}
 use Rattle.ir.specs.WellFormed.{IsWellFormed}
 use Rattle.clobber_pass.specs.declared.marking.MarkTable.{MarkTable}
-use Rattle.instrument.specs.Insert.{logs, place_in, places_from, led, flagged, flags_from, logged_function, logged_program}
+use Rattle.instrument.specs.Insert.{logs, is_log, place_in, places_from, led, flagged, flags_from, logged_function, logged_program}
 use Rattle.code_meaning.specs.Code.{Frame, frame, State, Here, End, Ended, Trapped, Unfinished, Stuck, Move, Goes, Ends, InSlot, at, put, base_in, index_in, spot_of, slot_of, fields_of, with_word, with_ok, word_of, is_zero, takes_tick, gives, opens, open_limit, act, step, go_on, exec, start, free_in, new_in, load, store, IsOver}
 use Rattle.code_meaning.specs.Deeds.{Deed, Writes, Heads, if_ok, zeros, site, deeds_new, deeds_at, deeds_of, deeds_on, deeds}
 use Rattle.code_meaning.proofs.More.{end, done}
@@ -169,22 +170,55 @@ module _ (marks : MarkTable) (ir : Ir) (formed : IsWellFormed ir) where
   does (Trap k) table flag f p q regs w e = refl
   does (Log x) table flag f p q regs w e = refl
 
-  -- what a step leads to, with the steps of the code with its logs: one, or one more behind a log
+  -- what a step leads to, with the steps of the code with its logs: one, one more after a log, and none for a log that is left out
   pub record Step (c : State) (n : ℕ) : Type 0 where
-    pub few : (1 ≤ n) × (n ≤ 2)
+    pub few : n ≤ 2
     pub end_is : (k : ℕ) → exec M (n + k) (moved_state marks us c) ≡ go_on (exec M k) (moved marks us (step ir c))
     pub deeds_are : (k : ℕ) → deeds M (n + k) (moved_state marks us c) ≡ moved_deeds marks us (deeds_of ir c) ++ deeds_on (deeds M k) (moved marks us (step ir c))
 
-  follows : (f p : ℕ) (regs : List ℤ) (below : List Frame) (w : PoolMap) (t : ℕ) (i : Instruction) → instruction_at us f p ≡ Some i → (n : ℕ) × Step (Here f p regs below w t) n
-  follows f p regs below w t i e =
+  -- a log that is left out
+  skips : (f p : ℕ) (regs : List ℤ) (below : List Frame) (w : PoolMap) (t : ℕ) (i : Instruction) → instruction_at us f p ≡ Some i → is_log i ≡ true → Step (Here f p regs below w t) 0
+  skips f p regs below w t (Log x) e log =
+      let s = standing marks ir formed f p (Log x) e in
+      let c : State = Here f p regs below w t in
+      let next : step ir c ≡ Goes (Here f (suc p) regs below w t) = ap (λ (o : Option Instruction). act ir o f p regs below w t) e in
+      let quiet : deeds_of ir c ≡ [] = ap (deeds_at ir.shapes f p regs w) e in
+      let there : moved_state marks us c ≡ moved_state marks us (Here f (suc p) regs below w t) = ap (λ (n : ℕ). Here f n regs (moved_frames marks us below) w t) (sym (s.skipped refl)) in
+      record {
+        few = omega arith;
+        end_is = λ k. ap (λ (n : ℕ). exec M n (moved_state marks us c)) (none_add k) ∙ ap (exec M k) there ∙ ap (λ (v : Move). go_on (exec M k) (moved marks us v)) (sym next);
+        deeds_are = λ k.
+            ap (λ (n : ℕ). deeds M n (moved_state marks us c)) (none_add k) ∙ ap (deeds M k) there
+            ∙ ap (λ (v : Move). deeds_on (deeds M k) (moved marks us v)) (sym next)
+            ∙ ap (λ (ds : List Deed). moved_deeds marks us ds ++ deeds_on (deeds M k) (moved marks us (step ir c))) (sym quiet);
+      }
+    where
+      none_add : (k : ℕ) → 0 + k ≡ k
+      none_add k = omega arith
+  skips f p regs below w t (Const to v) e log = absurd (false≢true log)
+  skips f p regs below w t (Copy to from) e log = absurd (false≢true log)
+  skips f p regs below w t (Bin o to a b) e log = absurd (false≢true log)
+  skips f p regs below w t (Jump place) e log = absurd (false≢true log)
+  skips f p regs below w t (Branch on place) e log = absurd (false≢true log)
+  skips f p regs below w t (Load to x) e log = absurd (false≢true log)
+  skips f p regs below w t (Store x from line) e log = absurd (false≢true log)
+  skips f p regs below w t (New to kind log_fill line) e log = absurd (false≢true log)
+  skips f p regs below w t (Free from kind line) e log = absurd (false≢true log)
+  skips f p regs below w t (Call to g args) e log = absurd (false≢true log)
+  skips f p regs below w t (Return from) e log = absurd (false≢true log)
+  skips f p regs below w t Tick e log = absurd (false≢true log)
+  skips f p regs below w t (Trap k) e log = absurd (false≢true log)
+
+  follows_own : (f p : ℕ) (regs : List ℤ) (below : List Frame) (w : PoolMap) (t : ℕ) (i : Instruction) → instruction_at us f p ≡ Some i → is_log i ≡ false → (n : ℕ) × Step (Here f p regs below w t) n
+  follows_own f p regs below w t i e no_log =
       let s = standing marks ir formed f p i e in
       let q : ℕ = stands marks us f p in
       let table : List ℕ = places_from (flags_from marks f 0 (code_in us f)) 0 0 (code_in us f) in
       let act_is : step ir (Here f p regs below w t) ≡ act ir (Some i) f p regs below w t = ap (λ (o : Option Instruction). act ir o f p regs below w t) e in
       let self_is : step M (Here f q regs (moved_frames marks us below) w t) ≡ moved marks us (step ir (Here f p regs below w t)) =
-      ap (λ (o : Option Instruction). act M o f q regs (moved_frames marks us below) w t) s.self ∙ acts i f p q regs below w t s.next ∙ ap (moved marks us) (sym act_is) in
+      ap (λ (o : Option Instruction). act M o f q regs (moved_frames marks us below) w t) (s.self no_log) ∙ acts i f p q regs below w t (s.next no_log) ∙ ap (moved marks us) (sym act_is) in
       let deeds_is : deeds_of M (Here f q regs (moved_frames marks us below) w t) ≡ moved_deeds marks us (deeds_of ir (Here f p regs below w t)) =
-      ap (deeds_at M.shapes f q regs w) s.self ∙ does i table (flagged marks f p i) f p q regs w refl ∙ ap (λ (o : Option Instruction). moved_deeds marks us (deeds_at ir.shapes f p regs w o)) (sym e) in
+      ap (deeds_at M.shapes f q regs w) (s.self no_log) ∙ does i table (flagged marks f p i) f p q regs w refl ∙ ap (λ (o : Option Instruction). moved_deeds marks us (deeds_at ir.shapes f p regs w o)) (sym e) in
       let one_end : (k : ℕ) → exec M (1 + k) (Here f q regs (moved_frames marks us below) w t) ≡ go_on (exec M k) (moved marks us (step ir (Here f p regs below w t))) = λ k.
       ap (λ (n : ℕ). exec M n (Here f q regs (moved_frames marks us below) w t)) (one_add k) ∙ ap (go_on (exec M k)) self_is in
       let one_deeds : (k : ℕ) → deeds M (1 + k) (Here f q regs (moved_frames marks us below) w t) ≡ moved_deeds marks us (deeds_of ir (Here f p regs below w t)) ++ deeds_on (deeds M k) (moved marks us (step ir (Here f p regs below w t))) = λ k.
@@ -196,7 +230,7 @@ module _ (marks : MarkTable) (ir : Ir) (formed : IsWellFormed ir) where
             let here : begins marks us f p ≡ q = sym (s.none none) in (
               1,
               record {
-                few = (omega arith, omega arith);
+                few = omega arith;
                 end_is = λ k. ap (λ (n : ℕ). exec M (1 + k) (Here f n regs (moved_frames marks us below) w t)) here ∙ one_end k;
                 deeds_are = λ k. ap (λ (n : ℕ). deeds M (1 + k) (Here f n regs (moved_frames marks us below) w t)) here ∙ one_deeds k;
               },
@@ -211,7 +245,7 @@ module _ (marks : MarkTable) (ir : Ir) (formed : IsWellFormed ir) where
             let quiet : deeds_of M (Here f b regs (moved_frames marks us below) w t) ≡ [] = ap (deeds_at M.shapes f b regs w) there in (
               2,
               record {
-                few = (omega arith, omega arith);
+                few = omega arith;
                 end_is = λ k. ap (λ (n : ℕ). exec M n (Here f b regs (moved_frames marks us below) w t)) (two_add k) ∙ ap (go_on (exec M (1 + k))) first ∙ one_end k;
                 deeds_are = λ k.
                     ap (λ (n : ℕ). deeds M n (Here f b regs (moved_frames marks us below) w t)) (two_add k)
@@ -227,6 +261,13 @@ module _ (marks : MarkTable) (ir : Ir) (formed : IsWellFormed ir) where
 
       two_add : (k : ℕ) → 2 + k ≡ suc (1 + k)
       two_add k = omega arith
+
+  follows : (f p : ℕ) (regs : List ℤ) (below : List Frame) (w : PoolMap) (t : ℕ) (i : Instruction) → instruction_at us f p ≡ Some i → (n : ℕ) × Step (Here f p regs below w t) n
+  follows f p regs below w t i e = by_kind (is_log i) refl
+    where
+      by_kind : (b : Bool) → is_log i ≡ b → (n : ℕ) × Step (Here f p regs below w t) n
+      by_kind true log = (0, skips f p regs below w t i e log)
+      by_kind false no_log = follows_own f p regs below w t i e no_log
 
   moved_append : (ds es : List Deed) → moved_deeds marks us (ds ++ es) ≡ moved_deeds marks us ds ++ moved_deeds marks us es
   moved_append [] es = refl
@@ -266,8 +307,8 @@ module _ (marks : MarkTable) (ir : Ir) (formed : IsWellFormed ir) where
         | inr some ↦
             let s = follows f p regs below w t some.0 some.1 in
             let m : ℕ = 2 * suc k - s.0 in
-            let split : 2 * suc k ≡ s.0 + m = omega (arith, s.1.few.0, s.1.few.1) in
-            let rest = moves_on k m (step ir c) (λ d. alike k d) (omega (arith, s.1.few.0, s.1.few.1)) h in (
+            let split : 2 * suc k ≡ s.0 + m = omega (arith, s.1.few) in
+            let rest = moves_on k m (step ir c) (λ d. alike k d) (omega (arith, s.1.few)) h in (
               ap (λ (n : ℕ). exec M n (moved_state marks us c)) split ∙ s.1.end_is m ∙ rest.0,
               ap (λ (n : ℕ). deeds M n (moved_state marks us c)) split ∙ s.1.deeds_are m
                   ∙ ap (λ (ds : List Deed). moved_deeds marks us (deeds_of ir c) ++ ds) rest.1

@@ -2,19 +2,20 @@
 use Rattle.std.proofs.Common.{◌≡◌, ℕ, zero, suc, ◌+◌, ◌^◌, ◌-◌, Bool, true, false, List, [], ◌∷◌, ◌++◌, length, Option, Some, None, refl, sym, ap, ◌∙◌, subst, arith, length-append, append_assoc}
 use Rattle.std.specs.Option.{option_map_or}
 use Rattle.std.specs.Prelude.{slice_get, slice_index_or, nat_lt, if◌then◌else◌, option_map, option_and_then}
-use Rattle.std.proofs.lemmas.Bool.{lt-ltb}
+use Rattle.std.proofs.lemmas.Bool.{false≢true, lt-ltb}
 use Rattle.ir.specs.declared.instruction.Target.{Target}
 use Rattle.ir.specs.declared.instruction.Instruction.{Instruction}
-use Rattle.ir.specs.declared.instruction.Instruction.TheVariants.{Store, New, Log}
+use Rattle.ir.specs.declared.instruction.Instruction.TheVariants.{Const, Copy, Bin, Jump, Branch, Load, Store, New, Free, Call, Return, Tick, Trap, Log}
 use Rattle.ir.specs.declared.function.IrFunction.{IrFunction}
 use Rattle.ir.specs.declared.function.Ir.{Ir}
 use Rattle.ir.specs.Places.{instruction_at}
 use Rattle.ir.specs.WellFormed.{IsFunction, IsWellFormed}
 use Rattle.clobber_pass.specs.declared.marking.MarkTable.{MarkTable}
 use Rattle.clobber_pass.specs.Logged.{is_logged}
-use Rattle.instrument.specs.Insert.{logs, width, flag_at, places_from, led, logged_from, flagged, flags_from, with_flags, logged_function, logged_functions, logged_program}
+use Rattle.instrument.specs.Insert.{logs, is_log, own, width, flag_at, places_from, led, logged_from, flagged, flags_from, with_flags, logged_function, logged_functions, logged_program}
 use Rattle.code_meaning.proofs.Lists.{all_at}
 use Rattle.code_meaning.specs.Deeds.{site}
+use Rattle.instrument.proofs.LoggedCode.{own_length}
 use Rattle.insert_law.specs.Moved.{code_in, begins, logs_before, stands}
 use Rattle.insert_law.specs.Law.{StoreLaw, FillLaw}
 
@@ -23,7 +24,7 @@ get_behind [] rest k = let e : 0 + k ≡ k = omega arith in ap (slice_get rest) 
 get_behind (x ∷ pre) rest k = let e : suc (length pre) + k ≡ suc (length pre + k) = omega arith in ap (slice_get (x ∷ (pre ++ rest))) e ∙ get_behind pre rest k
 
 -- the flag of an instruction
-flag_is : (marks : MarkTable) (f q : ℕ) (code : List Instruction) (p : ℕ) (i : Instruction) → slice_get code p ≡ Some i → flag_at (flags_from marks f q code) p ≡ flagged marks f (q + p) i
+pub flag_is : (marks : MarkTable) (f q : ℕ) (code : List Instruction) (p : ℕ) (i : Instruction) → slice_get code p ≡ Some i → flag_at (flags_from marks f q code) p ≡ flagged marks f (q + p) i
 flag_is marks f q [] p i e = absurd (cc)
 flag_is marks f q (j ∷ code) zero i e =
     let same : j ≡ i = cc in
@@ -34,11 +35,11 @@ flag_is marks f q (j ∷ code) (suc p) i e =
     flag_is marks f (suc q) code p i e ∙ ap (λ (n : ℕ). flagged marks f n i) at
 
 module _ (table : List ℕ) (flags : List Bool) where
-  -- an instruction with its log, behind a front
+  -- an instruction with its log, after a front
   pub record IsAt (all : List Instruction) (p q : ℕ) (flag : Bool) (i : Instruction) : Type 0 where
     pub front : List Instruction
     pub rest : List Instruction
-    pub is : all ≡ front ++ (logs flag i ++ (led table flag i ∷ rest))
+    pub is : all ≡ front ++ (logs flag i ++ (own table flag i ++ rest))
     pub long : length front ≡ p
     pub next : q ≡ p + width flag i
 
@@ -57,12 +58,13 @@ module _ (table : List ℕ) (flags : List Bool) where
       first_place k at (i ∷ code) d = refl
   at_is k at pre (j ∷ code) (suc p) d i long e =
       let flag : Bool = flag_at flags k in
-      let pre' : List Instruction = pre ++ (logs flag j ++ (led table flag j ∷ [])) in
+      let pre' : List Instruction = pre ++ (logs flag j ++ own table flag j) in
       let cut : pre' ++ logged_from table flags (suc k) code ≡ pre ++ logged_from table flags k (j ∷ code) =
-      append_assoc pre (logs flag j ++ (led table flag j ∷ [])) (logged_from table flags (suc k) code)
-      ∙ ap (λ (is : List Instruction). pre ++ is) (append_assoc (logs flag j) (led table flag j ∷ []) (logged_from table flags (suc k) code)) in
-      let one : length (logs flag j ++ (led table flag j ∷ [])) ≡ length (logs flag j) + 1 = length-append (logs flag j) (led table flag j ∷ []) in
-      let longer : length pre' ≡ at + width flag j = length-append pre (logs flag j ++ (led table flag j ∷ [])) ∙ omega arith in
+      append_assoc pre (logs flag j ++ own table flag j) (logged_from table flags (suc k) code)
+      ∙ ap (λ (is : List Instruction). pre ++ is) (append_assoc (logs flag j) (own table flag j) (logged_from table flags (suc k) code)) in
+      let one : length (logs flag j ++ own table flag j) ≡ width flag j =
+      length-append (logs flag j) (own table flag j) ∙ ap (λ (n : ℕ). length (logs flag j) + n) (own_length table flag j) in
+      let longer : length pre' ≡ at + width flag j = length-append pre (logs flag j ++ own table flag j) ∙ omega arith in
       let next : suc k + p ≡ k + suc p = omega arith in
       subst (λ (n : ℕ). IsAt (pre ++ logged_from table flags k (j ∷ code)) (slice_index_or (places_from flags (suc k) (at + width flag j) code) p d) (slice_index_or (places_from flags (suc k) (at + width flag j) code) (suc p) d) (flag_at flags n) i) next
       (subst (λ (is : List Instruction). IsAt is (slice_index_or (places_from flags (suc k) (at + width flag j) code) p d) (slice_index_or (places_from flags (suc k) (at + width flag j) code) (suc p) d) (flag_at flags (suc k + p)) i) cut
@@ -76,14 +78,33 @@ function_at marks k (u ∷ us) (suc f) =
     let e : suc k + f ≡ k + suc f = omega arith in
     function_at marks (suc k) us f ∙ ap (λ (n : ℕ). option_map (logged_function marks n) (slice_get us f)) e
 
+-- before a log that stood in the code there is no other
+log_alone : (flag : Bool) (i : Instruction) → is_log i ≡ true → logs flag i ≡ []
+log_alone false i log = refl
+log_alone true (Log target) log = refl
+log_alone true (Store target from line) log = absurd (false≢true log)
+log_alone true (Const to value) log = refl
+log_alone true (Copy to from) log = refl
+log_alone true (Bin op to left right) log = refl
+log_alone true (Jump place) log = refl
+log_alone true (Branch on place) log = refl
+log_alone true (Load to target) log = refl
+log_alone true (New to kind log_fill line) log = refl
+log_alone true (Free from kind line) log = refl
+log_alone true (Call to function args) log = refl
+log_alone true (Return from) log = refl
+log_alone true Tick log = refl
+log_alone true (Trap kind) log = refl
+
 module _ (marks : MarkTable) (ir : Ir) (formed : IsWellFormed ir) where
   abbrev pub L : Ir
   L = logged_program marks ir
 
   -- what stands in function f of the code with its logs
   pub record Stands (f p : ℕ) (i : Instruction) : Type 0 where
-    pub self : instruction_at L.functions f (stands marks ir.functions f p) ≡ Some (led (places_from (flags_from marks f 0 (code_in ir.functions f)) 0 0 (code_in ir.functions f)) (flagged marks f p i) i)
-    pub next : begins marks ir.functions f (suc p) ≡ suc (stands marks ir.functions f p)
+    pub self : is_log i ≡ false → instruction_at L.functions f (stands marks ir.functions f p) ≡ Some (led (places_from (flags_from marks f 0 (code_in ir.functions f)) 0 0 (code_in ir.functions f)) (flagged marks f p i) i)
+    pub next : is_log i ≡ false → begins marks ir.functions f (suc p) ≡ suc (stands marks ir.functions f p)
+    pub skipped : is_log i ≡ true → begins marks ir.functions f (suc p) ≡ begins marks ir.functions f p
     pub log : (x : Instruction) → logs (flagged marks f p i) i ≡ x ∷ [] → (instruction_at L.functions f (begins marks ir.functions f p) ≡ Some x) × (stands marks ir.functions f p ≡ suc (begins marks ir.functions f p))
     pub none : logs (flagged marks f p i) i ≡ [] → stands marks ir.functions f p ≡ begins marks ir.functions f p
 
@@ -120,21 +141,27 @@ module _ (marks : MarkTable) (ir : Ir) (formed : IsWellFormed ir) where
       (at_is table flags 0 0 [] (code_in ir.functions f) p (2 ^ 32 - 1) i refl inside) in
       let before : logs_before marks f p (instruction_at ir.functions f p) ≡ logs flag i = ap (logs_before marks f p) e in
       let place : stands marks ir.functions f p ≡ begins marks ir.functions f p + length (logs flag i) = ap (λ (is : List Instruction). begins marks ir.functions f p + length is) before in
-      let there : (q : ℕ) → instruction_at L.functions f q ≡ slice_get (at.front ++ (logs flag i ++ (led table flag i ∷ at.rest))) q = λ q.
+      let there : (q : ℕ) → instruction_at L.functions f q ≡ slice_get (at.front ++ (logs flag i ++ (own table flag i ++ at.rest))) q = λ q.
       code_is f u found q ∙ ap (λ (is : List Instruction). slice_get (with_flags (flags_from marks f 0 is) is) q) (sym code) ∙ ap (λ (is : List Instruction). slice_get is q) at.is in
       record {
-        self =
+        self = λ no_log.
             there (stands marks ir.functions f p)
-            ∙ ap (slice_get (at.front ++ (logs flag i ++ (led table flag i ∷ at.rest)))) (place ∙ ap (λ (n : ℕ). n + length (logs flag i)) (sym at.long))
-            ∙ get_behind at.front (logs flag i ++ (led table flag i ∷ at.rest)) (length (logs flag i))
-            ∙ ap (slice_get (logs flag i ++ (led table flag i ∷ at.rest))) (plus_zero (length (logs flag i)))
-            ∙ get_behind (logs flag i) (led table flag i ∷ at.rest) 0;
-        next = at.next ∙ wider (begins marks ir.functions f p) (length (logs flag i)) ∙ ap suc (sym place);
+            ∙ ap (slice_get (at.front ++ (logs flag i ++ (own table flag i ++ at.rest)))) (place ∙ ap (λ (n : ℕ). n + length (logs flag i)) (sym at.long))
+            ∙ get_behind at.front (logs flag i ++ (own table flag i ++ at.rest)) (length (logs flag i))
+            ∙ ap (slice_get (logs flag i ++ (own table flag i ++ at.rest))) (plus_zero (length (logs flag i)))
+            ∙ get_behind (logs flag i) (own table flag i ++ at.rest) 0
+            ∙ ap (λ (b : Bool). slice_get ((if b then [] else led table flag i ∷ []) ++ at.rest) 0) no_log;
+        next = λ no_log.
+            at.next ∙ ap (λ (b : Bool). begins marks ir.functions f p + (length (logs flag i) + (if b then 0 else 1))) no_log
+            ∙ wider (begins marks ir.functions f p) (length (logs flag i)) ∙ ap suc (sym place);
+        skipped = λ log.
+            at.next ∙ ap (λ (b : Bool). begins marks ir.functions f p + (length (logs flag i) + (if b then 0 else 1))) log
+            ∙ ap (λ (is : List Instruction). begins marks ir.functions f p + (length is + 0)) (log_alone flag i log) ∙ no_wider (begins marks ir.functions f p);
         log = λ x one. (
           there (begins marks ir.functions f p)
-              ∙ ap (slice_get (at.front ++ (logs flag i ++ (led table flag i ∷ at.rest)))) (sym at.long ∙ plus_zero (length at.front))
-              ∙ get_behind at.front (logs flag i ++ (led table flag i ∷ at.rest)) 0
-              ∙ ap (λ (is : List Instruction). slice_get (is ++ (led table flag i ∷ at.rest)) 0) one,
+              ∙ ap (slice_get (at.front ++ (logs flag i ++ (own table flag i ++ at.rest)))) (sym at.long ∙ plus_zero (length at.front))
+              ∙ get_behind at.front (logs flag i ++ (own table flag i ++ at.rest)) 0
+              ∙ ap (λ (is : List Instruction). slice_get (is ++ (own table flag i ++ at.rest)) 0) one,
           place ∙ ap (λ (is : List Instruction). begins marks ir.functions f p + length is) one ∙ plus_one (begins marks ir.functions f p),
         );
         none = λ e. place ∙ ap (λ (is : List Instruction). begins marks ir.functions f p + length is) e ∙ sym (plus_zero (begins marks ir.functions f p));
@@ -149,6 +176,9 @@ module _ (marks : MarkTable) (ir : Ir) (formed : IsWellFormed ir) where
       wider : (n m : ℕ) → n + (m + 1) ≡ suc (n + m)
       wider n m = omega arith
 
+      no_wider : (n : ℕ) → n + (0 + 0) ≡ n
+      no_wider n = omega arith
+
 logs_store : (flag : Bool) (x : Target) (from line : ℕ) → flag ≡ true → logs flag (Store x from line) ≡ Log x ∷ []
 logs_store flag x from line e = ap (λ (b : Bool). logs b (Store x from line)) e
 
@@ -156,10 +186,10 @@ pub store_stands : StoreLaw
 store_stands marks ir formed f p x from line e marked =
     let s = standing marks ir formed f p (Store x from line) e in
     let log = s.log (Log x) (logs_store (is_logged marks (site f p false)) x from line marked) in
-    (log.1 ∙ plus_one (begins marks ir.functions f p), log.0, s.self)
+    (log.1 ∙ plus_one (begins marks ir.functions f p), log.0, s.self refl)
   where
     plus_one : (n : ℕ) → suc n ≡ n + 1
     plus_one n = omega arith
 
 pub fill_stands : FillLaw
-fill_stands marks ir formed f p to kind line flag e = (standing marks ir formed f p (New to kind flag line) e).self
+fill_stands marks ir formed f p to kind line flag e = (standing marks ir formed f p (New to kind flag line) e).self refl

@@ -1,7 +1,7 @@
 -- Code with its logs does what the code does: the same end, and the same loads and stores, whose sites have moved. It takes at most
 -- twice the steps. Where the marks say that a store is logged, a log of its target stands right before it; the flag of a new says
 -- whether its fill is logged.
-use Rattle.std.specs.Prelude.{◌≡◌, ◌⊎◌, ◌*◌, ◌+◌, ℕ, ℤ, List, Bool, true, false, Some}
+use Rattle.std.specs.Prelude.{◌≡◌, ◌⊎◌, ◌*◌, ◌+◌, ℕ, suc, ℤ, List, Bool, true, false, Some}
 use Rattle.pool_map.specs.PoolMap.{PoolMap}
 use Rattle.ir.specs.declared.instruction.Target.{Target}
 use Rattle.ir.specs.declared.instruction.Instruction.{Instruction}
@@ -45,8 +45,11 @@ FillLaw = (marks : MarkTable) (ir : Ir) → IsWellFormed ir → (f p to kind lin
     instruction_at ir.functions f p ≡ Some (New to kind flag line) →
     instruction_at (logged_program marks ir).functions f (stands marks ir.functions f p) ≡ Some (New to kind (is_logged marks (site f p true)) line)
 
--- each instruction is a log, or one of the code, with its jumps and its flag led to where they belong
+-- each log stands right before a store that the marks name; each other instruction is one of the code, with its jumps and its
+-- flag led to where they belong
 abbrev pub OriginLaw : Type 0
-OriginLaw = (marks : MarkTable) (ir : Ir) → IsWellFormed ir → (f q : ℕ) (j : Instruction) → instruction_at (logged_program marks ir).functions f q ≡ Some j →
-    ((x : Target) × (j ≡ Log x))
+OriginLaw = (marks : MarkTable) (ir : Ir) → IsWellFormed ir → (f q : ℕ) (j : Instruction) →
+    instruction_at (logged_program marks ir).functions f q ≡ Some j →
+    ((p : ℕ) × (x : Target) × (from : ℕ) × (line : ℕ) × (j ≡ Log x) × (instruction_at ir.functions f p ≡ Some (Store x from line))
+    × (is_logged marks (site f p false) ≡ true) × (instruction_at (logged_program marks ir).functions f (suc q) ≡ Some (Store x from line)))
     ⊎ ((p : ℕ) × (i : Instruction) × (table : List ℕ) × (flag : Bool) × (instruction_at ir.functions f p ≡ Some i) × (j ≡ led table flag i))

@@ -9,7 +9,7 @@ use Rattle.ir.specs.declared.function.IrFunction.{IrFunction}
 use Rattle.ir.specs.declared.function.Ir.{Ir}
 use Rattle.ir.specs.WellFormed.{IsInstruction, IsEnd, EndsWell, IsFunction, IsWellFormed, TakesArgs}
 use Rattle.clobber_pass.specs.declared.marking.MarkTable.{MarkTable}
-use Rattle.instrument.specs.Insert.{logs, width, flag_at, places_from, place_in, led, logged_from, flags_from, with_flags, logged_code, logged_function, logged_functions, logged_program}
+use Rattle.instrument.specs.Insert.{logs, is_log, own, width, flag_at, places_from, place_in, led, logged_from, flags_from, with_flags, logged_code, logged_function, logged_functions, logged_program}
 use Rattle.ir.specs.Short.{IsShort}
 
 -- an instruction has one log at most
@@ -30,26 +30,63 @@ logs_length true Tick = omega arith
 logs_length true (Trap kind) = omega arith
 logs_length true (Log target) = omega arith
 
--- one instruction, with its log, and those behind it
+pub own_length : (table : List ℕ) (flag : Bool) (i : Instruction) → length (own table flag i) ≡ (if is_log i then 0 else 1)
+own_length table flag i = by_kind (is_log i)
+  where
+    by_kind : (b : Bool) → length (if b then [] else led table flag i ∷ []) ≡ (if b then 0 else 1)
+    by_kind true = refl
+    by_kind false = refl
+
+own_few : (i : Instruction) → (if is_log i then 0 else 1) ≤ 1
+own_few i = by_kind (is_log i)
+  where
+    by_kind : (b : Bool) → (if b then 0 else 1) ≤ 1
+    by_kind true = omega arith
+    by_kind false = omega arith
+
+-- one instruction, with its log, and those that follow
 logged_length_more : (table : List ℕ) (flags : List Bool) (k : ℕ) (i : Instruction) (is : List Instruction)
     → length (logged_from table flags k (i ∷ is)) ≡ width (flag_at flags k) i + length (logged_from table flags (suc k) is)
 logged_length_more table flags k i is =
-    let long : length (logged_from table flags k (i ∷ is)) ≡ length (logs (flag_at flags k) i) + suc (length (logged_from table flags (suc k) is)) =
-    length-append (logs (flag_at flags k) i) (led table (flag_at flags k) i ∷ logged_from table flags (suc k) is) in
-    omega arith
+    let flag = flag_at flags k in
+    let rest = logged_from table flags (suc k) is in
+    omega (arith, length-append (logs flag i) (own table flag i ++ rest), length-append (own table flag i) rest, own_length table flag i)
 
 -- logs double code at most
 logged_length : (table : List ℕ) (flags : List Bool) (k : ℕ) (code : List Instruction) → length (logged_from table flags k code) ≤ 2 * length code
 logged_length table flags k [] = omega arith
-logged_length table flags k (i ∷ is) = omega (arith, logged_length_more table flags k i is, logs_length (flag_at flags k) i, logged_length table flags (suc k) is)
+logged_length table flags k (i ∷ is) = omega (arith, logged_length_more table flags k i is, logs_length (flag_at flags k) i, own_few i, logged_length table flags (suc k) is)
 
--- each place of the code leads into the code with its logs
-place_below : (table : List ℕ) (flags : List Bool) (k at : ℕ) (code : List Instruction) (t d : ℕ) → t < length code
+-- an instruction that ends a run is no log
+end_is_own : (i : Instruction) → IsEnd i → is_log i ≡ false
+end_is_own (Jump place) ends = refl
+end_is_own (Return from) ends = refl
+end_is_own (Trap kind) ends = refl
+end_is_own (Const to value) ends = refl
+end_is_own (Copy to from) ends = refl
+end_is_own (Bin op to left right) ends = refl
+end_is_own (Branch on place) ends = refl
+end_is_own (Load to target) ends = refl
+end_is_own (Store target from line) ends = refl
+end_is_own (New to kind log_fill line) ends = refl
+end_is_own (Free from kind line) ends = refl
+end_is_own (Call to function args) ends = refl
+end_is_own Tick ends = refl
+end_is_own (Log target) ends = absurd ends
+
+end_takes : (flag : Bool) (i : Instruction) → IsEnd i → 0 < width flag i
+end_takes flag i ends = subst (λ (b : Bool). 0 < length (logs flag i) + (if b then 0 else 1)) (sym (end_is_own i ends)) (omega arith)
+
+-- the last instruction takes a place, so each place of the code leads into the code with its logs
+place_below : (table : List ℕ) (flags : List Bool) (k at : ℕ) (code : List Instruction) (t d : ℕ) → EndsWell code → t < length code
     → slice_index_or (places_from flags k at code) t d < at + length (logged_from table flags k code)
-place_below table flags k at [] t d inside = absurd (omega arith)
-place_below table flags k at (i ∷ is) zero d inside = omega (arith, logged_length_more table flags k i is)
-place_below table flags k at (i ∷ is) (suc t) d inside =
-    omega (arith, logged_length_more table flags k i is, place_below table flags (suc k) (at + width (flag_at flags k) i) is t d (omega arith))
+place_below table flags k at [] t d ends inside = absurd (omega arith)
+place_below table flags k at (i ∷ []) zero d ends inside = omega (arith, logged_length_more table flags k i [], end_takes (flag_at flags k) i ends)
+place_below table flags k at (i ∷ []) (suc t) d ends inside = absurd (omega arith)
+place_below table flags k at (i ∷ j ∷ is) zero d ends inside =
+    omega (arith, logged_length_more table flags k i (j ∷ is), place_below table flags (suc k) (at + width (flag_at flags k) i) (j ∷ is) 0 d ends (omega arith))
+place_below table flags k at (i ∷ j ∷ is) (suc t) d ends inside =
+    omega (arith, logged_length_more table flags k i (j ∷ is), place_below table flags (suc k) (at + width (flag_at flags k) i) (j ∷ is) t d ends (omega arith))
 
 -- what stands in front of code changes nothing of its end
 ends_append : (xs ys : List Instruction) → EndsWell ys → EndsWell (xs ++ ys)
@@ -76,10 +113,14 @@ led_ends table flag (Log target) ends = absurd ends
 
 logged_ends : (table : List ℕ) (flags : List Bool) (k : ℕ) (code : List Instruction) → EndsWell code → EndsWell (logged_from table flags k code)
 logged_ends table flags k [] ends = absurd ends
-logged_ends table flags k (i ∷ []) ends = ends_append (logs (flag_at flags k) i) (led table (flag_at flags k) i ∷ []) (led_ends table (flag_at flags k) i ends)
+logged_ends table flags k (i ∷ []) ends =
+    let flag = flag_at flags k in
+    let last : own table flag i ++ [] ≡ led table flag i ∷ [] = ap (λ (b : Bool). (if b then [] else led table flag i ∷ []) ++ []) (end_is_own i ends) in
+    ends_append (logs flag i) (own table flag i ++ []) (subst EndsWell (sym last) (led_ends table flag i ends))
 logged_ends table flags k (i ∷ j ∷ is) ends =
-    ends_append (logs (flag_at flags k) i) (led table (flag_at flags k) i ∷ logged_from table flags (suc k) (j ∷ is))
-    (ends_append (led table (flag_at flags k) i ∷ []) (logged_from table flags (suc k) (j ∷ is)) (logged_ends table flags (suc k) (j ∷ is) ends))
+    let flag = flag_at flags k in
+    let rest = logged_from table flags (suc k) (j ∷ is) in
+    ends_append (logs flag i) (own table flag i ++ rest) (ends_append (own table flag i) rest (logged_ends table flags (suc k) (j ∷ is) ends))
 
 all_append : {A : Type 0} (P : A → Type 0) (xs ys : List A) → AllByRecursion P xs → AllByRecursion P ys → AllByRecursion P (xs ++ ys)
 all_append P [] ys a b = b
@@ -125,16 +166,22 @@ module _ (program : Ir) (functions : List IrFunction) (taken : (f : ℕ) (args :
     led_fits flag (Trap kind) is = tt
     led_fits flag (Log target) is = is
 
+    own_fits : (flag : Bool) (i : Instruction) (b : Bool) → IsInstruction program r n i → AllByRecursion (IsInstruction logged r m) (if b then [] else led table flag i ∷ [])
+    own_fits flag i true is = tt
+    own_fits flag i false is = (led_fits flag i is, tt)
+
     code_fits : (flags : List Bool) (k : ℕ) (code : List Instruction) → AllByRecursion (IsInstruction program r n) code → AllByRecursion (IsInstruction logged r m) (logged_from table flags k code)
     code_fits flags k [] is = tt
     code_fits flags k (i ∷ code) is =
-        all_append (IsInstruction logged r m) (logs (flag_at flags k) i) (led table (flag_at flags k) i ∷ logged_from table flags (suc k) code)
-        (log_fits r n m (flag_at flags k) i is.0) (led_fits (flag_at flags k) i is.0, code_fits flags (suc k) code is.1)
+        let flag = flag_at flags k in
+        let rest = logged_from table flags (suc k) code in
+        all_append (IsInstruction logged r m) (logs flag i) (own table flag i ++ rest) (log_fits r n m flag i is.0)
+        (all_append (IsInstruction logged r m) (own table flag i) rest (own_fits flag i (is_log i) is.0) (code_fits flags (suc k) code is.1))
 
   flagged_formed : (flags : List Bool) (u : IrFunction) → length u.code < 2 ^ 30 → IsFunction program u → IsFunction logged (record u { code = with_flags flags u.code })
   flagged_formed flags u short formed =
       let table : List ℕ = places_from flags 0 0 u.code in
-      let low : (t : ℕ) → t < length u.code → place_in table t < length (logged_from table flags 0 u.code) = λ t inside. omega (arith, place_below table flags 0 0 u.code t (2 ^ 32 - 1) inside) in
+      let low : (t : ℕ) → t < length u.code → place_in table t < length (logged_from table flags 0 u.code) = λ t inside. omega (arith, place_below table flags 0 0 u.code t (2 ^ 32 - 1) formed.2 inside) in
       (formed.0, omega (arith, logged_length table flags 0 u.code), logged_ends table flags 0 u.code formed.2, code_fits u.registers (length u.code) (length (logged_from table flags 0 u.code)) table low flags 0 u.code formed.3)
 
   function_formed : (marks : MarkTable) (f : ℕ) (u : IrFunction) → length u.code < 2 ^ 30 → IsFunction program u → IsFunction logged (logged_function marks f u)

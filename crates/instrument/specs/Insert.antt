@@ -1,5 +1,6 @@
--- Code with its logs. A flag at a store says that a log stands right before it; a flag at a `new` says that its fill is
--- logged. A jump or a branch that led to a store leads to its log. All else stays as it was.
+-- Code with its logs. A flag at a store says that a log stands right before it; a flag at a `new` says
+-- that its fill is logged. A jump or a branch that led to a store leads to its log. A log that stood in
+-- the code before is left out, and what led to it leads to the next instruction. All else stays as it was.
 use Rattle.std.specs.Prelude.{ℕ, suc, ◌+◌, ◌^◌, ◌-◌, ◌++◌, Bool, true, false, List, [], ◌∷◌, if◌then◌else◌, nat_lt, length}
 use Rattle.std.specs.List.{slice_index_or}
 use Rattle.ir.specs.declared.instruction.Instruction.{Instruction}
@@ -27,9 +28,25 @@ logs true Tick = []
 logs true (Trap kind) = []
 logs true (Log target) = []
 
--- how many places an instruction takes, with its log
+abbrev pub is_log : Instruction → Bool
+is_log (Log target) = true
+is_log (Const to value) = false
+is_log (Copy to from) = false
+is_log (Bin op to left right) = false
+is_log (Jump place) = false
+is_log (Branch on place) = false
+is_log (Load to target) = false
+is_log (Store target from line) = false
+is_log (New to kind log_fill line) = false
+is_log (Free from kind line) = false
+is_log (Call to function args) = false
+is_log (Return from) = false
+is_log Tick = false
+is_log (Trap kind) = false
+
+-- how many places an instruction takes, with its log. A log that stood there takes none
 abbrev pub width : Bool → Instruction → ℕ
-width flag i = length (logs flag i) + 1
+width flag i = length (logs flag i) + (if is_log i then 0 else 1)
 
 abbrev pub flag_at : List Bool → ℕ → Bool
 flag_at flags k = slice_index_or flags k false
@@ -60,10 +77,14 @@ led places flag Tick = Tick
 led places flag (Trap kind) = Trap kind
 led places flag (Log target) = Log target
 
+-- the instruction itself, where it is no log
+abbrev pub own : List ℕ → Bool → Instruction → List Instruction
+own places flag i = if is_log i then [] else led places flag i ∷ []
+
 abbrev pub logged_from : List ℕ → (flags : List Bool) → (k : ℕ) → List Instruction → List Instruction
 logged_from places flags k [] = []
 logged_from places flags k (i ∷ is) =
-    logs (flag_at flags k) i ++ (led places (flag_at flags k) i ∷ logged_from places flags (suc k) is)
+    logs (flag_at flags k) i ++ (own places (flag_at flags k) i ++ logged_from places flags (suc k) is)
 
 -- whether the marks say that this instruction's store, or its fill, is logged
 abbrev pub flagged : MarkTable → (function place : ℕ) → Instruction → Bool

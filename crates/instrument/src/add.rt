@@ -1,7 +1,7 @@
 //! The logs of a program.
 
 ghost use Rattle.std.specs.Prelude.{◌≡◌, ◌++◌, ◌<◌, ◌^◌, length, IfOk, OnOk};
-ghost use Rattle.instrument.specs.Insert.{logs, led, logged_from, with_flags, logged_code, logged_function, logged_program};
+ghost use Rattle.instrument.specs.Insert.{logs, led, own, logged_from, with_flags, logged_code, logged_function, logged_program};
 ghost use Rattle.ir.specs.Short.{IsShort};
 ghost use Rattle.ir.specs.WellFormed.{IsWellFormed};
 
@@ -62,6 +62,22 @@ fn push_log(
     }
 }
 
+/// Puts the instruction itself at the end. A log that stood in the code is left out.
+fn push_own(
+    alloc: Global,
+    code: &mut Instructions,
+    places: &[u32],
+    flag: bool,
+    instruction: &Instruction,
+) -> Result<(), AllocError>
+    ensures { OnOk result (code.new ≡ code.old ++ own places.now flag instruction.now) }
+{
+    match instruction {
+        Instruction::Log { .. } => Ok(()),
+        _ => code.push(led(alloc, places, flag, instruction)?),
+    }
+}
+
 /// The instructions with their logs; all places are known.
 fn logged_from(
     alloc: Global,
@@ -75,7 +91,7 @@ fn logged_from(
     for (k, instruction) in code.iter().enumerate() {
         let flag = flag_at(flags, k);
         push_log(&mut logged, flag, instruction)?;
-        logged.push(led(alloc, places, flag, instruction)?)?;
+        push_own(alloc, &mut logged, places, flag, instruction)?;
     }
     Ok(logged)
 }
@@ -154,8 +170,9 @@ fn logged_program(alloc: Global, ir: &Ir, marks: &MarkTable) -> Result<Ir, Alloc
 }
 
 /// The program with a log right before each store that the marks name, and with the flag of each
-/// `new` whose fill they name. Each jump that led to such a store leads to its log. Where each function
-/// has fewer than 2^30 instructions, the program is well formed with its logs too.
+/// `new` whose fill they name. A log that stood in the program before, and a flag that was set, are
+/// left out. Each jump that led to such a store leads to its log. Where each function has fewer than
+/// 2^30 instructions, the program is well formed with its logs too.
 pub fn add_logs(alloc: Global, ir: &Ir, marks: &MarkTable) -> Result<Ir, AllocError>
     ensures code { IsWellFormed ir.now → IfOk result (λ r. r ≡ logged_program marks.now ir.now) }
     ensures well_formed { IsWellFormed ir.now → IsShort ir.now → IfOk result (λ r. IsWellFormed r) }

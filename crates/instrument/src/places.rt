@@ -1,6 +1,6 @@
 //! Where the instructions of a function stand once its logs are in.
 
-ghost use Rattle.std.specs.Prelude.{◌≡◌, ◌<◌, ◌≤◌, ◌+◌, ◌^◌, length, IfOk, if◌then◌else◌};
+ghost use Rattle.std.specs.Prelude.{◌≡◌, ◌<◌, ◌≤◌, ◌+◌, ◌^◌, length, IfOk};
 ghost use Rattle.instrument.specs.Insert.{width, flag_at, flagged, flags_from, places_from, place_in};
 
 use clobber_pass::MarkTable;
@@ -53,11 +53,17 @@ pub(crate) fn flags(
     Ok(flags)
 }
 
-/// Whether a log stands before the instruction, where this is its flag.
-pub(crate) fn has_log(flag: bool, instruction: &Instruction) -> bool
-    ensures { (if result then 2 else 1) ≡ width flag instruction.now }
+/// How many places the instruction takes with its log, where this is its flag. A log that stood in the
+/// code takes none.
+pub(crate) fn width(flag: bool, instruction: &Instruction) -> u32
+    ensures exact { result ≡ width flag instruction.now }
+    ensures few { result ≤ 2 }
 {
-    flag && matches!(instruction, Instruction::Store { .. })
+    match instruction {
+        Instruction::Log { .. } => 0,
+        Instruction::Store { .. } if flag => 2,
+        _ => 1,
+    }
 }
 
 /// The place of each instruction, and of the end.
@@ -73,11 +79,7 @@ pub(crate) fn places(
     let mut at = 0u32;
     for (k, instruction) in code.iter().enumerate() {
         places.push(at)?;
-        at += if has_log(flag_at(flags, k), instruction) {
-            2
-        } else {
-            1
-        };
+        at += width(flag_at(flags, k), instruction);
     }
     places.push(at)?;
     Ok(places)

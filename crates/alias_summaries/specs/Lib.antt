@@ -1,9 +1,0 @@
-pub mod Room
-pub mod Weight
-pub mod About
-pub mod Told
-pub mod Words
-pub mod Shown
-pub mod Entries
-pub mod Entering
-pub mod Whole

@@ -1,0 +1,58 @@
+//! The rows at a function's entry.
+
+ghost use Rattle.std.specs.Prelude.{◌≡◌, ◌<◌, ◌^◌, IfOk};
+ghost use Rattle.clobber_pass.specs.Told as told;
+ghost use Rattle.clobber_pass.specs.Closed.{entry_row, entry_word};
+
+use crate::topic::Topic;
+use std::alloc::{AllocError, Global};
+
+/// How many words a row has.
+pub fn width(topic: Topic, registers: u32) -> usize
+    ensures { result ≡ told.width topic registers }
+{
+    match topic {
+        Topic::Frees | Topic::Root { .. } => 2,
+        Topic::Field { .. } => registers as usize + 2,
+    }
+}
+
+/// The column of a slot at the entry of a function with so many parameters. A register that is no
+/// parameter gives what a walk gives.
+fn column_of(parameters: u32, slot: usize) -> usize
+    ensures { result ≡ told.column_of parameters slot }
+{
+    if slot < parameters as usize + 2 {
+        slot
+    } else {
+        0
+    }
+}
+
+/// The word of a slot at an entry, for one column: all classes at once.
+fn entry_word(parameters: u32, column: usize, slot: usize) -> u64
+    ensures { result ≡ entry_word parameters column slot }
+{
+    if column_of(parameters, slot) == column {
+        u64::MAX
+    } else {
+        0
+    }
+}
+
+/// The row at an entry, for one column.
+pub fn entry_row(
+    alloc: Global,
+    topic: Topic,
+    parameters: u32,
+    registers: u32,
+    column: usize,
+) -> Result<Vec<u64>, AllocError>
+    ensures { IfOk result (λ row. row.items ≡ entry_row topic parameters registers column) }
+{
+    let mut row = Vec::new(alloc);
+    for slot in 0..width(topic, registers) {
+        row.push(entry_word(parameters, column, slot))?;
+    }
+    Ok(row)
+}

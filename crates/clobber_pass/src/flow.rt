@@ -1,0 +1,354 @@
+//! What all walks from transactions bring to each function's entry, and to each place.
+
+ghost use Rattle.std.specs.Prelude.{◌≡◌, ◌<◌, ◌≤◌, ◌+◌, ◌^◌, ℕ, List, length, true, false, Some, slice_get, slice_set, Ok, IfOk, OnOk};
+ghost use Rattle.ir.specs.declared.function.IrFunction.{IrFunction};
+ghost use Rattle.ir.specs.WellFormed.{IsWellFormed};
+ghost use Rattle.clobber_pass.specs.Told.{registers_at};
+ghost use Rattle.clobber_pass.specs.Sweep as sweeps;
+ghost use Rattle.clobber_pass.specs.Room.{room};
+ghost use Rattle.clobber_pass.specs.Sound.{SoundExits};
+ghost use Rattle.clobber_pass.specs.Flow as flows;
+ghost use Rattle.clobber_pass.specs.Flow.{AllFlow, Entries, FlowEnded, Flowing, Wakes, waits, ShapedEntries, SoundEntries, StartEntries, StartsAt};
+
+use crate::entry::{entry_row, width};
+use crate::row::word;
+use crate::rows::{Rows, copied};
+use crate::sweep::{advance, run};
+use crate::tables::Tables;
+use crate::topic::Topic;
+use crate::waiting::{waiting_at, wake};
+use ir::{Instruction, Ir, IrFunction};
+use std::alloc::{AllocError, Global};
+
+/// How many registers a function has.
+fn registers_at(functions: &[IrFunction], function: usize) -> u32
+    ensures { result ≡ registers_at functions.now function }
+{
+    match functions.get(function) {
+        Some(body) => body.registers,
+        None => 0,
+    }
+}
+
+/// A parameter has what its argument has, another register what a walk gives.
+fn argument_word(row: &[u64], argument: Option<u32>) -> u64
+    ensures { result ≡ flows.argument_word row.now argument }
+{
+    match argument {
+        Some(register) => word(row, register as usize + 2),
+        None => word(row, 0),
+    }
+}
+
+/// The word of a slot at a called function's entry.
+fn enter_word(args: &[u32], row: &[u64], slot: usize) -> u64
+    ensures { result ≡ flows.enter_word args.now row.now slot }
+{
+    if slot < 2 {
+        word(row, slot)
+    } else {
+        argument_word(row, args.get(slot - 2).copied())
+    }
+}
+
+/// The row at a called function's entry.
+fn enter_row(
+    alloc: Global,
+    topic: Topic,
+    registers: u32,
+    args: &[u32],
+    row: &[u64],
+) -> Result<Vec<u64>, AllocError>
+    ensures { IfOk result (λ new. new.items ≡ flows.enter_row topic registers args.now row.now) }
+{
+    let mut new = Vec::new(alloc);
+    for slot in 0..width(topic, registers) {
+        new.push(enter_word(args, row, slot))?;
+    }
+    Ok(new)
+}
+
+/// Brings a row to a function's entry. Where that is new the function waits. The answer says whether it
+/// was.
+#[tactic(auto, using(crate::proofs::Waking::waking))]
+fn bring(
+    alloc: Global,
+    function: usize,
+    row: &[u64],
+    entries: &mut Rows,
+    waiting: &mut [bool],
+) -> Result<bool, AllocError>
+    ensures entries { IfOk result (λ _. entries.new ≡ sweeps.join_in entries.old function row.now) }
+    ensures same { result ≡ Ok false → (entries.new ≡ entries.old) × (waiting.new ≡ waiting.old) }
+    ensures wakes { IfOk result (λ _. Wakes waiting.old waiting.new entries.old entries.new) }
+    ensures grew { result ≡ Ok true → room entries.new < room entries.old }
+    ensures room { IfOk result (λ _. room entries.new ≤ room entries.old) }
+{
+    if entries.join(alloc, function, row)? {
+        wake(waiting, function);
+        return Ok(true);
+    }
+    Ok(false)
+}
+
+/// Brings the row at a call to the called function's entry.
+#[tactic(auto, using(crate::proofs::Waking::waking))]
+fn enter(
+    alloc: Global,
+    ir: &Ir,
+    topic: Topic,
+    instruction: &Instruction,
+    row: &[u64],
+    entries: &mut Rows,
+    waiting: &mut [bool],
+) -> Result<bool, AllocError>
+    ensures entries { IfOk result (λ _. entries.new ≡ flows.called ir.now.functions topic entries.old instruction.now row.now) }
+    ensures same { result ≡ Ok false → (entries.new ≡ entries.old) × (waiting.new ≡ waiting.old) }
+    ensures wakes { IfOk result (λ _. Wakes waiting.old waiting.new entries.old entries.new) }
+    ensures grew { result ≡ Ok true → room entries.new < room entries.old }
+    ensures room { IfOk result (λ _. room entries.new ≤ room entries.old) }
+{
+    match instruction {
+        Instruction::Call { function, args, .. } => {
+            let called = *function as usize;
+            let registers = registers_at(ir.functions.as_slice(), called);
+            let new = enter_row(alloc, topic, registers, args.as_slice(), row)?;
+            bring(alloc, called, &new, entries, waiting)
+        }
+        _ => Ok(false),
+    }
+}
+
+/// One place of a pass over a table that sweeps left.
+fn enter_at(
+    alloc: Global,
+    ir: &Ir,
+    topic: Topic,
+    exits: &Tables,
+    rows: &Rows,
+    place: usize,
+    instruction: &Instruction,
+    row: &mut Vec<u64>,
+    entries: &mut Rows,
+    waiting: &mut [bool],
+) -> Result<bool, AllocError>
+    ensures entries { IfOk result (λ _. entries.new ≡ flows.called ir.now.functions topic entries.old instruction.now (sweeps.pick (sweeps.row_in rows.now place) row.old.items)) }
+    ensures row { IfOk result (λ _. row.new.items ≡ sweeps.next_row topic exits.now instruction.now (sweeps.pick (sweeps.row_in rows.now place) row.old.items)) }
+    ensures same { result ≡ Ok false → (entries.new ≡ entries.old) × (waiting.new ≡ waiting.old) }
+    ensures wakes { IfOk result (λ _. Wakes waiting.old waiting.new entries.old entries.new) }
+    ensures grew { result ≡ Ok true → room entries.new < room entries.old }
+    ensures room { IfOk result (λ _. room entries.new ≤ room entries.old) }
+{
+    rows.take(place, row)?;
+    let grew = enter(alloc, ir, topic, instruction, row, entries, waiting)?;
+    advance(alloc, topic, exits, instruction, row)?;
+    Ok(grew)
+}
+
+/// Brings the rows at all calls of a function to the entries of the called ones.
+#[tactic(auto, using(crate::proofs::Waking::waking))]
+fn enter_all(
+    alloc: Global,
+    ir: &Ir,
+    topic: Topic,
+    exits: &Tables,
+    rows: &Rows,
+    entry: &[u64],
+    code: &[Instruction],
+    entries: &mut Rows,
+    waiting: &mut [bool],
+) -> Result<bool, AllocError>
+    ensures entries { IfOk result (λ _. entries.new ≡ flows.entered ir.now.functions topic exits.now rows.now entries.old entry.now 0 code.now) }
+    ensures same { result ≡ Ok false → (entries.new ≡ entries.old) × (waiting.new ≡ waiting.old) }
+    ensures wakes { IfOk result (λ _. Wakes waiting.old waiting.new entries.old entries.new) }
+    ensures grew { result ≡ Ok true → room entries.new < room entries.old }
+    ensures room { IfOk result (λ _. room entries.new ≤ room entries.old) }
+{
+    let mut row = copied(alloc, entry)?;
+    let mut grew = false;
+    for (place, instruction) in code.iter().enumerate() {
+        if enter_at(
+            alloc,
+            ir,
+            topic,
+            exits,
+            rows,
+            place,
+            instruction,
+            &mut row,
+            entries,
+            waiting,
+        )? {
+            grew = true;
+        }
+    }
+    Ok(grew)
+}
+
+/// The row at a function's entry, with nothing told where nothing came yet.
+pub fn at_entry(
+    alloc: Global,
+    topic: Topic,
+    registers: u32,
+    row: &[u64],
+) -> Result<Vec<u64>, AllocError>
+    ensures { IfOk result (λ new. new.items ≡ flows.at_entry topic registers row.now) }
+{
+    if row.is_empty() {
+        enter_row(alloc, topic, registers, &[], &[])
+    } else {
+        copied(alloc, row)
+    }
+}
+
+/// The sweeps from a function's entry, and what its calls bring. The answer says whether that was new.
+fn flow_through(
+    alloc: Global,
+    ir: &Ir,
+    topic: Topic,
+    exits: &Tables,
+    function: usize,
+    entries: &mut Rows,
+    tables: &mut Tables,
+    waiting: &mut [bool],
+) -> Result<bool, AllocError>
+    requires well { IsWellFormed ir.now }
+    requires exits { SoundExits ir.now.functions topic exits.now }
+    requires inside { function < length ir.now.functions }
+    requires flow { Flowing ir.now.functions topic exits.now entries.old tables.old waiting.old }
+    ensures flow { IfOk result (λ _. Flowing ir.now.functions topic exits.now entries.new tables.new waiting.new) }
+    ensures quiet { result ≡ Ok false → waiting.new ≡ slice_set waiting.old function false }
+    ensures grew { result ≡ Ok true → room entries.new < room entries.old }
+    ensures room { IfOk result (λ _. room entries.new ≤ room entries.old) }
+{
+    let body = &ir.functions.as_slice()[function];
+    let code = body.code.as_slice();
+    let entry = at_entry(alloc, topic, body.registers, entries.row(function))?;
+    let rows = run(alloc, topic, exits, code, &entry)?;
+    waiting[function] = false;
+    let grew = enter_all(
+        alloc, ir, topic, exits, &rows, &entry, code, entries, waiting,
+    )?;
+    tables.set(function, rows);
+    Ok(grew)
+}
+
+/// The same where the function waits.
+#[tactic(auto, using(crate::proofs::Waking::settling))]
+fn flow_where(
+    alloc: Global,
+    ir: &Ir,
+    topic: Topic,
+    exits: &Tables,
+    function: usize,
+    entries: &mut Rows,
+    tables: &mut Tables,
+    waiting: &mut [bool],
+) -> Result<bool, AllocError>
+    requires well { IsWellFormed ir.now }
+    requires exits { SoundExits ir.now.functions topic exits.now }
+    requires inside { function < length ir.now.functions }
+    requires flow { Flowing ir.now.functions topic exits.now entries.old tables.old waiting.old }
+    ensures flow { IfOk result (λ _. Flowing ir.now.functions topic exits.now entries.new tables.new waiting.new) }
+    ensures quiet { result ≡ Ok false → (waits waiting.new function ≡ false) × ((f : ℕ) → waits waiting.old f ≡ false → waits waiting.new f ≡ false) }
+    ensures grew { result ≡ Ok true → room entries.new < room entries.old }
+    ensures room { IfOk result (λ _. room entries.new ≤ room entries.old) }
+{
+    if !waiting[function] {
+        return Ok(false);
+    }
+    flow_through(alloc, ir, topic, exits, function, entries, tables, waiting)
+}
+
+/// The same of each function.
+fn flow_round(
+    alloc: Global,
+    ir: &Ir,
+    topic: Topic,
+    exits: &Tables,
+    entries: &mut Rows,
+    tables: &mut Tables,
+    waiting: &mut [bool],
+) -> Result<bool, AllocError>
+    requires well { IsWellFormed ir.now }
+    requires exits { SoundExits ir.now.functions topic exits.now }
+    requires flow { Flowing ir.now.functions topic exits.now entries.old tables.old waiting.old }
+    ensures flow { IfOk result (λ _. Flowing ir.now.functions topic exits.now entries.new tables.new waiting.new) }
+    ensures quiet { result ≡ Ok false → (f : ℕ) → f < length ir.now.functions → waits waiting.new f ≡ false }
+    ensures grew { result ≡ Ok true → room entries.new < room entries.old }
+    ensures room { IfOk result (λ _. room entries.new ≤ room entries.old) }
+{
+    let mut grew = false;
+    for function in 0..ir.functions.as_slice().len() {
+        if flow_where(alloc, ir, topic, exits, function, entries, tables, waiting)? {
+            grew = true;
+        }
+    }
+    Ok(grew)
+}
+
+/// Begins at a function's entry, where it is a transaction.
+fn start_at(
+    alloc: Global,
+    ir: &Ir,
+    topic: Topic,
+    function: usize,
+    entries: &mut Rows,
+) -> Result<(), AllocError>
+    requires entries { Entries ir.now.functions topic entries.old }
+    requires inside { function < length ir.now.functions }
+    ensures entries { OnOk result (Entries ir.now.functions topic entries.new) }
+    ensures kept { OnOk result ((f : ℕ) → StartsAt ir.now.functions topic entries.old f → StartsAt ir.now.functions topic entries.new f) }
+    ensures start { OnOk result (StartsAt ir.now.functions topic entries.new function) }
+{
+    let body = &ir.functions.as_slice()[function];
+    if body.tx {
+        let row = entry_row(alloc, topic, 0, body.registers, 0)?;
+        entries.join(alloc, function, &row)?;
+    }
+    Ok(())
+}
+
+/// The entries before any call: transactions start with nothing known.
+fn starts(alloc: Global, ir: &Ir, topic: Topic) -> Result<Rows, AllocError>
+    ensures entries { IfOk result (λ entries. Entries ir.now.functions topic entries) }
+    ensures start { IfOk result (λ entries. StartEntries ir.now.functions topic entries) }
+{
+    let count = ir.functions.as_slice().len();
+    let mut entries = Rows::new(alloc, count)?;
+    for function in 0..count {
+        start_at(alloc, ir, topic, function, &mut entries)?;
+    }
+    Ok(entries)
+}
+
+/// What all walks bring: the row at each function's entry, and the table of each function's rows.
+#[derive(Drop)]
+pub struct Flow {
+    pub entries: Rows,
+    pub tables: Tables,
+}
+
+/// What all walks from transactions bring to each place, about a topic.
+pub fn flows(alloc: Global, ir: &Ir, topic: Topic, exits: &Tables) -> Result<Flow, AllocError>
+    requires well { IsWellFormed ir.now }
+    requires exits { SoundExits ir.now.functions topic exits.now }
+    ensures entries { IfOk result (λ flow. Entries ir.now.functions topic flow.entries) }
+    ensures start { IfOk result (λ flow. StartEntries ir.now.functions topic flow.entries) }
+    ensures ended { IfOk result (λ flow. AllFlow ir.now.functions topic exits.now flow.entries flow.tables) }
+{
+    let mut entries = starts(alloc, ir, topic)?;
+    let count = ir.functions.as_slice().len();
+    let mut tables = Tables::blank(alloc, count)?;
+    let mut waiting = waiting_at(alloc, &entries, count)?;
+    while flow_round(
+        alloc,
+        ir,
+        topic,
+        exits,
+        &mut entries,
+        &mut tables,
+        &mut waiting,
+    )? {}
+    Ok(Flow { entries, tables })
+}

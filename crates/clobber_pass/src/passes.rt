@@ -1,0 +1,184 @@
+//! What passes through each function, from each column of its entry to its returns.
+
+ghost use Rattle.std.specs.Prelude.{◌≡◌, ◌<◌, ◌≤◌, ◌+◌, ℕ, length, true, false, Some, slice_get, slice_set, Ok, IfOk, OnOk};
+ghost use Rattle.ir.specs.WellFormed.{IsWellFormed};
+ghost use Rattle.clobber_pass.specs.Told.{parameters_at};
+ghost use Rattle.clobber_pass.specs.Closed.{AllColumns, Ended, ShapedExits};
+ghost use Rattle.clobber_pass.specs.Room.{all_room};
+ghost use Rattle.clobber_pass.specs.Sound.{SoundExits};
+ghost use Rattle.clobber_pass.specs.Flow.{waits};
+ghost use Rattle.clobber_pass.specs.Calling.{Apart, CalledEnded, Passing, edges_from};
+
+use crate::calling::{Edge, called_wait, wake_callers};
+use crate::entry::entry_row;
+use crate::sweep::run;
+use crate::tables::Tables;
+use crate::topic::Topic;
+use ir::{Ir, IrFunction};
+use std::alloc::{AllocError, Global};
+
+/// The sweeps from one column of a function's entry. The answer says whether they told something new of
+/// its returns.
+fn column(
+    alloc: Global,
+    ir: &Ir,
+    topic: Topic,
+    function: usize,
+    column: usize,
+    exits: &mut Tables,
+) -> Result<bool, AllocError>
+    requires well { IsWellFormed ir.now }
+    requires column { column < parameters_at ir.now.functions function + 2 }
+    requires shaped { ShapedExits ir.now.functions topic exits.old }
+    requires sound { SoundExits ir.now.functions topic exits.old }
+    ensures shaped { IfOk result (λ _. ShapedExits ir.now.functions topic exits.new) }
+    ensures sound { IfOk result (λ _. SoundExits ir.now.functions topic exits.new) }
+    ensures same { result ≡ Ok false → exits.new ≡ exits.old }
+    ensures grew { result ≡ Ok true → all_room exits.new < all_room exits.old }
+    ensures room { IfOk result (λ _. all_room exits.new ≤ all_room exits.old) }
+    ensures ended { result ≡ Ok false → Ended ir.now.functions topic exits.old function column }
+    ensures apart { IfOk result (λ _. Apart function exits.old exits.new) }
+{
+    let Some(body) = ir.functions.as_slice().get(function) else {
+        return Ok(false);
+    };
+    let code = body.code.as_slice();
+    let entry = entry_row(alloc, topic, body.parameters, body.registers, column)?;
+    let rows = run(alloc, topic, exits, code, &entry)?;
+    exits.join(alloc, function, column, rows.row(code.len()))
+}
+
+/// How many parameters a function has.
+fn parameters_at(functions: &[IrFunction], function: usize) -> u32
+    ensures { result ≡ parameters_at functions.now function }
+{
+    match functions.get(function) {
+        Some(body) => body.parameters,
+        None => 0,
+    }
+}
+
+/// The sweeps from each column of a function's entry.
+fn columns(
+    alloc: Global,
+    ir: &Ir,
+    topic: Topic,
+    function: usize,
+    exits: &mut Tables,
+) -> Result<bool, AllocError>
+    requires well { IsWellFormed ir.now }
+    requires shaped { ShapedExits ir.now.functions topic exits.old }
+    requires sound { SoundExits ir.now.functions topic exits.old }
+    ensures shaped { IfOk result (λ _. ShapedExits ir.now.functions topic exits.new) }
+    ensures sound { IfOk result (λ _. SoundExits ir.now.functions topic exits.new) }
+    ensures same { result ≡ Ok false → exits.new ≡ exits.old }
+    ensures grew { result ≡ Ok true → all_room exits.new < all_room exits.old }
+    ensures room { IfOk result (λ _. all_room exits.new ≤ all_room exits.old) }
+    ensures ended { result ≡ Ok false → AllColumns ir.now.functions topic exits.old function }
+    ensures apart { IfOk result (λ _. Apart function exits.old exits.new) }
+{
+    let mut grew = false;
+    for at in 0..parameters_at(ir.functions.as_slice(), function) as usize + 2 {
+        if column(alloc, ir, topic, function, at, exits)? {
+            grew = true;
+        }
+    }
+    Ok(grew)
+}
+
+/// The sweeps of a function that waits. Where its exits grew its callers wait, and it waits still.
+#[tactic(auto, using(crate::proofs::Recalling::passing, crate::proofs::Waking::settling))]
+fn pass_through(
+    alloc: Global,
+    ir: &Ir,
+    topic: Topic,
+    edges: &[Edge],
+    function: usize,
+    exits: &mut Tables,
+    waiting: &mut [bool],
+) -> Result<bool, AllocError>
+    requires well { IsWellFormed ir.now }
+    requires edges { edges.now ≡ edges_from 0 ir.now.functions }
+    requires inside { function < length ir.now.functions }
+    requires waits { waits waiting.old function ≡ true }
+    requires passing { Passing ir.now.functions topic exits.old waiting.old }
+    ensures passing { IfOk result (λ _. Passing ir.now.functions topic exits.new waiting.new) }
+    ensures quiet { result ≡ Ok false → waiting.new ≡ slice_set waiting.old function false }
+    ensures grew { result ≡ Ok true → all_room exits.new < all_room exits.old }
+    ensures room { IfOk result (λ _. all_room exits.new ≤ all_room exits.old) }
+{
+    if columns(alloc, ir, topic, function, exits)? {
+        wake_callers(edges, function, waiting);
+        return Ok(true);
+    }
+    waiting[function] = false;
+    Ok(false)
+}
+
+/// The same where the function waits.
+#[tactic(auto, using(crate::proofs::Waking::settling))]
+fn pass_where(
+    alloc: Global,
+    ir: &Ir,
+    topic: Topic,
+    edges: &[Edge],
+    function: usize,
+    exits: &mut Tables,
+    waiting: &mut [bool],
+) -> Result<bool, AllocError>
+    requires well { IsWellFormed ir.now }
+    requires edges { edges.now ≡ edges_from 0 ir.now.functions }
+    requires inside { function < length ir.now.functions }
+    requires passing { Passing ir.now.functions topic exits.old waiting.old }
+    ensures passing { IfOk result (λ _. Passing ir.now.functions topic exits.new waiting.new) }
+    ensures quiet { result ≡ Ok false → (waits waiting.new function ≡ false) × ((f : ℕ) → waits waiting.old f ≡ false → waits waiting.new f ≡ false) }
+    ensures grew { result ≡ Ok true → all_room exits.new < all_room exits.old }
+    ensures room { IfOk result (λ _. all_room exits.new ≤ all_room exits.old) }
+{
+    if !waiting[function] {
+        return Ok(false);
+    }
+    pass_through(alloc, ir, topic, edges, function, exits, waiting)
+}
+
+/// The same of each function.
+fn round(
+    alloc: Global,
+    ir: &Ir,
+    topic: Topic,
+    edges: &[Edge],
+    exits: &mut Tables,
+    waiting: &mut [bool],
+) -> Result<bool, AllocError>
+    requires well { IsWellFormed ir.now }
+    requires edges { edges.now ≡ edges_from 0 ir.now.functions }
+    requires passing { Passing ir.now.functions topic exits.old waiting.old }
+    ensures passing { IfOk result (λ _. Passing ir.now.functions topic exits.new waiting.new) }
+    ensures quiet { result ≡ Ok false → (f : ℕ) → f < length ir.now.functions → waits waiting.new f ≡ false }
+    ensures grew { result ≡ Ok true → all_room exits.new < all_room exits.old }
+    ensures room { IfOk result (λ _. all_room exits.new ≤ all_room exits.old) }
+{
+    let mut grew = false;
+    for function in 0..ir.functions.as_slice().len() {
+        if pass_where(alloc, ir, topic, edges, function, exits, waiting)? {
+            grew = true;
+        }
+    }
+    Ok(grew)
+}
+
+/// What passes through each function about a topic: the exits of each that is called, from each column
+/// of its entry.
+pub fn passes(alloc: Global, ir: &Ir, topic: Topic, edges: &[Edge]) -> Result<Tables, AllocError>
+    requires well { IsWellFormed ir.now }
+    requires edges { edges.now ≡ edges_from 0 ir.now.functions }
+    ensures shaped { IfOk result (λ exits. ShapedExits ir.now.functions topic exits) }
+    ensures sound { IfOk result (λ exits. SoundExits ir.now.functions topic exits) }
+    ensures ended { IfOk result (λ exits. CalledEnded ir.now.functions topic exits) }
+{
+    let functions = ir.functions.as_slice();
+    let mut exits = Tables::new(alloc, functions)?;
+    let mut waiting = called_wait(alloc, edges, functions.len())?;
+    while round(alloc, ir, topic, edges, &mut exits, &mut waiting)? {}
+    Ok(exits)
+}

@@ -1,0 +1,143 @@
+//! The marks of a program.
+
+ghost use Rattle.std.specs.Prelude.{◌≡◌, ◌++◌, ◌∷◌, [], ◌==◌, ◌<◌, ◌^◌, ℕ, true, false, length, IfOk, OnOk};
+ghost use Rattle.clobber_pass.specs.Sweep as sweeps;
+ghost use Rattle.clobber_pass.specs.Marking as marking;
+
+use crate::row::{mask, word};
+use crate::rows::{Rows, copied};
+use crate::sweep::advance;
+use crate::tables::Tables;
+use crate::topic::Topic;
+use ir::{Instruction, Target};
+use std::alloc::{AllocError, Global};
+
+/// Whether two words and a mask have a bit in common.
+#[tactic(auto, unfolding(crate::specs::Marking::meets))]
+fn meets(one: u64, other: u64, mask: u64) -> bool
+    ensures { result ≡ marking.meets one other mask }
+{
+    !(one & other & mask == 0)
+}
+
+/// The mark of a store, where its class is one of the topic's: it is set where the class may be
+/// unwritten there, and may have been read.
+fn store_word(topic: Topic, target: Target, row: &[u64]) -> u64
+    ensures { result ≡ marking.store_word topic target row.now }
+{
+    match (topic, target) {
+        (Topic::Root { first }, Target::Root { field, .. }) => {
+            if meets(word(row, 0), word(row, 1), mask(first, field)) {
+                1
+            } else {
+                0
+            }
+        }
+        (
+            Topic::Field { kind, first },
+            Target::Field {
+                base,
+                kind: of,
+                field,
+                ..
+            },
+        ) => {
+            if kind == of {
+                if meets(
+                    word(row, base as usize + 2),
+                    word(row, 1),
+                    mask(first, field),
+                ) {
+                    1
+                } else {
+                    0
+                }
+            } else {
+                0
+            }
+        }
+        _ => 0,
+    }
+}
+
+/// The mark of a new object's fill.
+fn fill_word(topic: Topic, row: &[u64]) -> u64
+    ensures { result ≡ marking.fill_word topic row.now }
+{
+    match topic {
+        Topic::Frees => {
+            if meets(word(row, 1), word(row, 1), 1) {
+                2
+            } else {
+                0
+            }
+        }
+        _ => 0,
+    }
+}
+
+fn mark_word(topic: Topic, instruction: &Instruction, row: &[u64]) -> u64
+    ensures { result ≡ marking.mark_word topic instruction.now row.now }
+{
+    match instruction {
+        Instruction::Store { target, .. } => store_word(topic, *target, row),
+        Instruction::New { .. } => fill_word(topic, row),
+        _ => 0,
+    }
+}
+
+/// The marks of a function's places about a topic.
+pub fn mark_row(
+    alloc: Global,
+    topic: Topic,
+    exits: &Tables,
+    rows: &Rows,
+    entry: &[u64],
+    code: &[Instruction],
+) -> Result<Vec<u64>, AllocError>
+    ensures { IfOk result (λ marks. marks.items ≡ marking.marks_from topic exits.now rows.now entry.now 0 code.now) }
+{
+    let mut row = copied(alloc, entry)?;
+    let mut marks = Vec::new(alloc);
+    for (place, instruction) in code.iter().enumerate() {
+        rows.take(place, &mut row)?;
+        marks.push(mark_word(topic, instruction, &row))?;
+        advance(alloc, topic, exits, instruction, &mut row)?;
+    }
+    Ok(marks)
+}
+
+/// The mark of each header's store.
+fn header_word(instruction: &Instruction) -> u64
+    ensures { result ≡ marking.header_word instruction.now }
+{
+    match instruction {
+        Instruction::New { .. } | Instruction::Free { .. } => 1,
+        _ => 0,
+    }
+}
+
+pub fn headers(alloc: Global, code: &[Instruction]) -> Result<Vec<u64>, AllocError>
+    ensures { IfOk result (λ marks. marks.items ≡ marking.headers code.now) }
+{
+    let mut marks = Vec::new(alloc);
+    for instruction in code {
+        marks.push(header_word(instruction))?;
+    }
+    Ok(marks)
+}
+
+/// The topic of a target's class.
+pub fn topic_of(target: Target) -> Topic
+    ensures { result ≡ marking.topic_of target }
+{
+    match target {
+        Target::Root { field, .. } => Topic::Root {
+            first: field - field % 64,
+        },
+        Target::Field { kind, field, .. } => Topic::Field {
+            kind,
+            first: field - field % 64,
+        },
+    }
+}

@@ -1,0 +1,46 @@
+//! Rows of words. A row tells of one place: a word for a walk's start, one for what is sought, and one
+//! for each register. The bits of a word are the fields of a topic.
+
+ghost use Rattle.std.specs.Prelude.{◌≡◌, slice_set};
+ghost use Rattle.clobber_pass.specs.Row as rows;
+
+/// The word of a slot, 0 where there is none.
+#[tactic(auto, using(crate::proofs::Lookup::lookup))]
+pub fn word(row: &[u64], slot: usize) -> u64
+    ensures { result ≡ rows.word row.now slot }
+{
+    row.get(slot).copied().unwrap_or(0)
+}
+
+/// Writes the word of a slot, where there is one.
+#[tactic(auto, using(crate::proofs::Bits::set_past))]
+pub fn put(row: &mut [u64], slot: usize, word: u64)
+    ensures { row.new ≡ slice_set row.old slot word }
+{
+    if slot < row.len() {
+        row[slot] = word;
+    }
+}
+
+/// The bit of a field, counted from a topic's first one.
+#[tactic(auto, using(std::proofs::lemmas::Nat::one_shl), unfolding(crate::specs::Row::mask))]
+pub fn mask(first: u32, field: u32) -> u64
+    ensures { result ≡ rows.mask first field }
+{
+    if field < first {
+        return 0;
+    }
+    if field - first < 64 {
+        1 << (field - first)
+    } else {
+        0
+    }
+}
+
+/// A word without some of its bits.
+#[tactic(auto, unfolding(crate::specs::Row::without))]
+pub fn without(word: u64, bits: u64) -> u64
+    ensures { result ≡ rows.without word bits }
+{
+    word ^ (word & bits)
+}

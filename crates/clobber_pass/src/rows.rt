@@ -1,0 +1,188 @@
+//! Tables of rows, which only grow.
+
+ghost use Rattle.std.specs.Prelude.{◌≡◌, ◌<◌, ◌≤◌, ◌∷◌, ◌++◌, [], false, true, length, replicate, slice_set, bit_or, ◌^◌, None, IfSome, Ok, IfOk, OnOk};
+ghost use Rattle.clobber_pass.specs.Row as words;
+ghost use Rattle.clobber_pass.specs.Sweep as sweeps;
+ghost use Rattle.clobber_pass.specs.Room.{room, words_room};
+
+use crate::row::word;
+use std::alloc::{AllocError, Global};
+use std::marker::Model;
+
+/// A row for each place, empty where nothing came yet.
+#[derive(Drop)]
+pub struct Rows {
+    rows: Vec<Vec<u64>>,
+}
+
+impl Model for Rows {
+    ghost use Rattle.std.specs.Prelude.{List, ℕ, map};
+
+    ghost Value = { List (List ℕ) };
+
+    ghost view = { λ t. map (λ row. row.items) t.rows.items };
+}
+
+impl Rows {
+    /// So many empty rows.
+    pub fn new(alloc: Global, count: usize) -> Result<Self, AllocError>
+        ensures { IfOk result (λ rows. rows ≡ replicate count []) }
+    {
+        let mut rows = Rows::empty(alloc);
+        for _ in 0..count {
+            rows.push_empty(alloc)?;
+        }
+        Ok(rows)
+    }
+
+    /// No rows. It takes no memory.
+    pub fn empty(alloc: Global) -> Self
+        ensures { result ≡ [] }
+    {
+        Rows {
+            rows: Vec::new(alloc),
+        }
+    }
+
+    /// Puts one row at the end.
+    pub fn push(&mut self, row: Vec<u64>) -> Result<(), AllocError>
+        ensures { OnOk result (self.new ≡ self.old ++ row.items ∷ []) }
+    {
+        self.rows.push(row)?;
+        Ok(())
+    }
+
+    fn push_empty(&mut self, alloc: Global) -> Result<(), AllocError>
+        ensures { OnOk result (self.new ≡ self.old ++ [] ∷ []) }
+    {
+        self.rows.push(Vec::new(alloc))?;
+        Ok(())
+    }
+
+    /// The row of a place, empty where there is none.
+    #[tactic(auto, using(crate::proofs::Lookup::lookup))]
+    pub fn row(&self, place: usize) -> &[u64]
+        ensures { result.now ≡ sweeps.row_in self.now place }
+    {
+        match self.rows.get(place) {
+            Some(row) => row,
+            None => &[],
+        }
+    }
+
+    /// Takes what is told at a place, where there is a row of it.
+    pub fn take(&self, place: usize, row: &mut Vec<u64>) -> Result<(), AllocError>
+        ensures { OnOk result (row.new.items ≡ sweeps.pick (sweeps.row_in self.now place) row.old.items) }
+    {
+        if self.row(place).is_empty() {
+            return Ok(());
+        }
+        rewrite(row, self.row(place))
+    }
+
+    /// Adds to the row of a place what another row tells. An empty row becomes that other one. The
+    /// answer says whether the table grew.
+    pub fn join(&mut self, alloc: Global, place: usize, more: &[u64]) -> Result<bool, AllocError>
+        ensures row { IfOk result (λ _. self.new ≡ sweeps.join_in self.old place more.now) }
+        ensures same { result ≡ Ok false → self.new ≡ self.old }
+        ensures grew { result ≡ Ok true → room self.new < room self.old }
+        ensures room { IfOk result (λ _. room self.new ≤ room self.old) }
+    {
+        if self.row(place).is_empty() {
+            self.fill(alloc, place, more)
+        } else {
+            Ok(self.meet(place, more))
+        }
+    }
+
+    /// Adds to the row of a place what another row tells, in the slots that it has.
+    pub fn meet(&mut self, place: usize, more: &[u64]) -> bool
+        ensures row { self.new ≡ sweeps.meet_in self.old place more.now }
+        ensures same { result ≡ false → self.new ≡ self.old }
+        ensures grew { result ≡ true → room self.new < room self.old }
+        ensures room { room self.new ≤ room self.old }
+    {
+        if place >= self.rows.len() {
+            return false;
+        }
+        join_words(&mut self.rows[place], more)
+    }
+
+    /// Writes the row of a place that has none.
+    fn fill(&mut self, alloc: Global, place: usize, row: &[u64]) -> Result<bool, AllocError>
+        requires { sweeps.row_in self.old place ≡ [] }
+        ensures row { IfOk result (λ _. self.new ≡ slice_set self.old place row.now) }
+        ensures same { result ≡ Ok false → self.new ≡ self.old }
+        ensures grew { result ≡ Ok true → room self.new < room self.old }
+        ensures room { IfOk result (λ _. room self.new ≤ room self.old) }
+    {
+        if place >= self.rows.len() || row.is_empty() {
+            return Ok(false);
+        }
+        self.rows[place] = copied(alloc, row)?;
+        Ok(true)
+    }
+}
+
+/// Adds to a row what another tells, in the slots that it has. The answer says whether it grew.
+fn join_words(row: &mut [u64], more: &[u64]) -> bool
+    ensures row { row.new ≡ sweeps.or_from more.now 0 row.old }
+    ensures same { result ≡ false → row.new ≡ row.old }
+    ensures grew { result ≡ true → words_room row.new < words_room row.old }
+    ensures room { words_room row.new ≤ words_room row.old }
+{
+    let mut grew = false;
+    for slot in 0..row.len() {
+        if raise(row, slot, word(more, slot)) {
+            grew = true;
+        }
+    }
+    grew
+}
+
+/// Adds bits to a word. The answer says whether they were new.
+#[tactic(auto, using(crate::proofs::Rooms::raising))]
+fn raise(row: &mut [u64], slot: usize, bits: u64) -> bool
+    requires { slot < length row.old }
+    ensures row { row.new ≡ slice_set row.old slot (bit_or (words.word row.old slot) bits) }
+    ensures same { result ≡ false → row.new ≡ row.old }
+    ensures grew { result ≡ true → words_room row.new < words_room row.old }
+    ensures room { words_room row.new ≤ words_room row.old }
+{
+    match raised(row[slot], bits) {
+        Some(word) => {
+            row[slot] = word;
+            true
+        }
+        None => false,
+    }
+}
+
+/// A word with more bits, which is greater, and `None` where it has them already.
+#[tactic(auto, using(std::proofs::lemmas::Nat::le_or_l))]
+fn raised(word: u64, bits: u64) -> Option<u64>
+    ensures more { IfSome result (λ more. more ≡ bit_or word bits) }
+    ensures rises { IfSome result (λ more. (word < more) × (word < 2 ^ 64)) }
+    ensures none { result ≡ None → bit_or word bits ≡ word }
+{
+    let more = word | bits;
+    if more > word { Some(more) } else { None }
+}
+
+/// Writes other words into a row.
+fn rewrite(row: &mut Vec<u64>, words: &[u64]) -> Result<(), AllocError>
+    ensures { OnOk result (row.new.items ≡ words.now) }
+{
+    row.clear();
+    row.extend_from_slice(words)?;
+    Ok(())
+}
+
+/// The same row once more.
+pub fn copied(alloc: Global, row: &[u64]) -> Result<Vec<u64>, AllocError>
+    ensures { IfOk result (λ all. all.items ≡ row.now) }
+{
+    let mut all = Vec::new(alloc);
+    all.extend_from_slice(row)?;
+    Ok(all)
+}

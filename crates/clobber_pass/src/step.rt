@@ -1,0 +1,89 @@
+//! What an instruction makes of a row.
+
+ghost use Rattle.std.specs.Prelude.{◌≡◌};
+ghost use Rattle.clobber_pass.specs.Row as rows;
+
+use crate::row::{mask, put, without, word};
+use crate::topic::Topic;
+use ir::{Instruction, Target};
+
+/// A load adds its field where it isn't surely written.
+fn read(topic: Topic, target: Target, row: &mut [u64])
+    ensures { row.new ≡ rows.with_read topic target row.old }
+{
+    match (topic, target) {
+        (Topic::Root { first }, Target::Root { field, .. }) => {
+            let read = word(row, 0) & mask(first, field);
+            put(row, 1, word(row, 1) | read);
+        }
+        (
+            Topic::Field { kind, first },
+            Target::Field {
+                base,
+                kind: of,
+                field,
+                ..
+            },
+        ) => {
+            if kind == of {
+                let read = word(row, base as usize + 2) & mask(first, field);
+                put(row, 1, word(row, 1) | read);
+            }
+        }
+        _ => {}
+    }
+}
+
+/// A store to a field that isn't an array makes it surely written.
+fn write(topic: Topic, target: Target, row: &mut [u64])
+    ensures { row.new ≡ rows.with_write topic target row.old }
+{
+    match (topic, target) {
+        (Topic::Root { first }, Target::Root { field, index: None }) => {
+            put(row, 0, without(word(row, 0), mask(first, field)));
+        }
+        (
+            Topic::Field { kind, first },
+            Target::Field {
+                base,
+                kind: of,
+                field,
+                index: None,
+            },
+        ) => {
+            let slot = base as usize + 2;
+            if kind == of {
+                put(row, slot, without(word(row, slot), mask(first, field)));
+            }
+        }
+        _ => {}
+    }
+}
+
+/// A register takes a word.
+fn set(row: &mut [u64], register: u32, word: u64)
+    ensures { row.new ≡ rows.given row.old register word }
+{
+    put(row, register as usize + 2, word);
+}
+
+/// What an instruction that is no call makes of a row.
+pub fn step(topic: Topic, instruction: &Instruction, row: &mut [u64])
+    ensures { row.new ≡ rows.after_row topic instruction.now row.old }
+{
+    match instruction {
+        Instruction::Const { to, .. } | Instruction::Bin { to, .. } => set(row, *to, word(row, 0)),
+        Instruction::Copy { to, from } => set(row, *to, word(row, *from as usize + 2)),
+        Instruction::Load { to, target } => {
+            read(topic, *target, row);
+            set(row, *to, word(row, 0));
+        }
+        Instruction::Store { target, .. } => write(topic, *target, row),
+        Instruction::New { to, .. } => set(row, *to, 0),
+        Instruction::Free { .. } => match topic {
+            Topic::Frees => put(row, 1, word(row, 0)),
+            _ => {}
+        },
+        _ => {}
+    }
+}

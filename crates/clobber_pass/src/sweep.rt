@@ -1,0 +1,254 @@
+//! One sweep through a function.
+
+ghost use Rattle.std.specs.Prelude.{◌≡◌, ◌<◌, ◌≤◌, ◌^◌, true, false, length, option_map, ◌==◌, position, Ok, IfOk, OnOk};
+ghost use Rattle.clobber_pass.specs.Closed.{Closed, Made};
+ghost use Rattle.clobber_pass.specs.Room.{room};
+ghost use Rattle.clobber_pass.specs.Sweep as sweeps;
+
+use crate::row::word;
+use crate::rows::{Rows, copied};
+use crate::step::step;
+use crate::tables::Tables;
+use crate::topic::Topic;
+use ir::Instruction;
+use std::alloc::{AllocError, Global};
+
+/// What a called function's returns tell of a slot, by what is told of one slot at the call.
+fn comes(
+    exits: &Tables,
+    function: usize,
+    row: &[u64],
+    column: usize,
+    at_call: usize,
+    slot: usize,
+) -> u64
+    ensures { result ≡ sweeps.comes (sweeps.exits_of exits.now function) row.now column at_call slot }
+{
+    exits.word(function, column, slot) & word(row, at_call)
+}
+
+/// The same by all that is told at the call.
+fn gather(exits: &Tables, function: usize, row: &[u64], args: &[u32], slot: usize) -> u64
+    ensures { result ≡ sweeps.gather (sweeps.exits_of exits.now function) row.now args.now slot }
+{
+    let start = comes(exits, function, row, 0, 0, slot);
+    let sought = comes(exits, function, row, 1, 1, slot);
+    let mut bits = start | sought;
+    for (index, register) in args.iter().enumerate() {
+        bits |= comes(
+            exits,
+            function,
+            row,
+            index + 2,
+            *register as usize + 2,
+            slot,
+        );
+    }
+    bits
+}
+
+/// The first place of a register among arguments.
+fn first_at(args: &[u32], register: usize) -> Option<usize>
+    ensures { result ≡ position (λ a. a == register) args.now }
+{
+    args.iter().position(|a| *a as usize == register)
+}
+
+/// The word of a register after a call.
+fn register_after(
+    exits: &Tables,
+    function: usize,
+    to: usize,
+    args: &[u32],
+    row: &[u64],
+    register: usize,
+) -> u64
+    requires { register < 2 ^ 63 }
+    ensures { result ≡ sweeps.register_after (sweeps.exits_of exits.now function) to args.now row.now register }
+{
+    if register == to {
+        return gather(exits, function, row, args, 0);
+    }
+    match first_at(args, register) {
+        Some(place) => gather(exits, function, row, args, place + 2),
+        None => exits.word(function, 0, 0) & word(row, register + 2),
+    }
+}
+
+/// The word of a slot after a call.
+fn slot_after(
+    exits: &Tables,
+    function: usize,
+    to: usize,
+    args: &[u32],
+    row: &[u64],
+    slot: usize,
+) -> u64
+    requires { slot < 2 ^ 63 }
+    ensures { result ≡ sweeps.slot_after (sweeps.exits_of exits.now function) to args.now row.now slot }
+{
+    if slot < 2 {
+        gather(exits, function, row, args, slot)
+    } else {
+        register_after(exits, function, to, args, row, slot - 2)
+    }
+}
+
+/// The row after a call.
+fn call(
+    alloc: Global,
+    exits: &Tables,
+    function: usize,
+    to: usize,
+    args: &[u32],
+    row: &[u64],
+) -> Result<Vec<u64>, AllocError>
+    ensures { IfOk result (λ new. new.items ≡ sweeps.call_from (sweeps.exits_of exits.now function) to args.now row.now 0 row.now) }
+{
+    let mut new = Vec::new(alloc);
+    for (slot, _) in row.iter().enumerate() {
+        new.push(slot_after(exits, function, to, args, row, slot))?;
+    }
+    Ok(new)
+}
+
+/// The row after an instruction, at the next place.
+pub fn advance(
+    alloc: Global,
+    topic: Topic,
+    exits: &Tables,
+    instruction: &Instruction,
+    row: &mut Vec<u64>,
+) -> Result<(), AllocError>
+    ensures { OnOk result (row.new.items ≡ sweeps.next_row topic exits.now instruction.now row.old.items) }
+{
+    match instruction {
+        Instruction::Jump { .. } | Instruction::Return { .. } | Instruction::Trap { .. } =>
+            row.fill(0),
+        Instruction::Call { to, function, args } => {
+            *row = call(
+                alloc,
+                exits,
+                *function as usize,
+                *to as usize,
+                args.as_slice(),
+                row,
+            )?;
+        }
+        _ => step(topic, instruction, row),
+    }
+    Ok(())
+}
+
+/// Where else an instruction leads: a jump's target, or after the last place for a return.
+fn target(end: usize, instruction: &Instruction) -> Option<usize>
+    ensures { result ≡ sweeps.target end instruction.now }
+{
+    match instruction {
+        Instruction::Jump { place } | Instruction::Branch { place, .. } => Some(*place as usize),
+        Instruction::Return { .. } => Some(end),
+        _ => None,
+    }
+}
+
+/// Brings a row to a place, and takes what is told there. The answer says whether that was new.
+fn meet(rows: &mut Rows, place: usize, row: &mut Vec<u64>) -> Result<bool, AllocError>
+    ensures rows { IfOk result (λ _. rows.new ≡ sweeps.meet_in rows.old place row.old.items) }
+    ensures row { IfOk result (λ _. row.new.items ≡ sweeps.here_in rows.old place row.old.items) }
+    ensures same { result ≡ Ok false → (rows.new ≡ rows.old) × (sweeps.meet_in rows.old place row.old.items ≡ rows.old) }
+    ensures grew { result ≡ Ok true → room rows.new < room rows.old }
+    ensures room { IfOk result (λ _. room rows.new ≤ room rows.old) }
+{
+    let grew = rows.meet(place, row);
+    rows.take(place, row)?;
+    Ok(grew)
+}
+
+/// Brings a row to where an instruction leads, other than the next place.
+fn lead(alloc: Global, rows: &mut Rows, to: Option<usize>, row: &[u64]) -> Result<bool, AllocError>
+    ensures rows { IfOk result (λ _. rows.new ≡ sweeps.led rows.old to row.now) }
+    ensures same { result ≡ Ok false → (rows.new ≡ rows.old) × (sweeps.led rows.old to row.now ≡ rows.old) }
+    ensures grew { result ≡ Ok true → room rows.new < room rows.old }
+    ensures room { IfOk result (λ _. room rows.new ≤ room rows.old) }
+{
+    match to {
+        Some(place) => rows.join(alloc, place, row),
+        None => Ok(false),
+    }
+}
+
+/// One place of a sweep.
+fn visit(
+    alloc: Global,
+    topic: Topic,
+    exits: &Tables,
+    end: usize,
+    rows: &mut Rows,
+    row: &mut Vec<u64>,
+    place: usize,
+    instruction: &Instruction,
+) -> Result<bool, AllocError>
+    ensures rows { IfOk result (λ _. rows.new ≡ sweeps.led (sweeps.meet_in rows.old place row.old.items) (sweeps.target end instruction.now) (sweeps.here_in rows.old place row.old.items)) }
+    ensures row { IfOk result (λ _. row.new.items ≡ sweeps.next_row topic exits.now instruction.now (sweeps.here_in rows.old place row.old.items)) }
+    ensures same { result ≡ Ok false → rows.new ≡ rows.old }
+    ensures met { result ≡ Ok false → sweeps.meet_in rows.old place row.old.items ≡ rows.old }
+    ensures led { result ≡ Ok false → sweeps.led rows.old (sweeps.target end instruction.now) (sweeps.here_in rows.old place row.old.items) ≡ rows.old }
+    ensures grew { result ≡ Ok true → room rows.new < room rows.old }
+    ensures room { IfOk result (λ _. room rows.new ≤ room rows.old) }
+{
+    let met = meet(rows, place, row)?;
+    let led = lead(alloc, rows, target(end, instruction), row)?;
+    advance(alloc, topic, exits, instruction, row)?;
+    Ok(met || led)
+}
+
+/// One sweep through a function's code. The answer says whether the table of its rows grew.
+pub fn sweep(
+    alloc: Global,
+    topic: Topic,
+    exits: &Tables,
+    code: &[Instruction],
+    entry: &[u64],
+    rows: &mut Rows,
+) -> Result<bool, AllocError>
+    ensures rows { IfOk result (λ _. rows.new ≡ sweeps.swept topic exits.now (length code.now) rows.old entry.now 0 code.now) }
+    ensures same { result ≡ Ok false → rows.new ≡ rows.old }
+    ensures closed { result ≡ Ok false → Closed topic exits.now (length code.now) rows.old entry.now 0 code.now }
+    ensures grew { result ≡ Ok true → room rows.new < room rows.old }
+    ensures room { IfOk result (λ _. room rows.new ≤ room rows.old) }
+{
+    let mut row = copied(alloc, entry)?;
+    let mut grew = false;
+    for (place, instruction) in code.iter().enumerate() {
+        if visit(
+            alloc,
+            topic,
+            exits,
+            code.len(),
+            rows,
+            &mut row,
+            place,
+            instruction,
+        )? {
+            grew = true;
+        }
+    }
+    Ok(grew)
+}
+
+/// Sweeps through a function's code from a row at its entry until its table grows no more.
+pub fn run(
+    alloc: Global,
+    topic: Topic,
+    exits: &Tables,
+    code: &[Instruction],
+    entry: &[u64],
+) -> Result<Rows, AllocError>
+    requires { length code.now < 2 ^ 31 }
+    ensures closed { IfOk result (λ rows. Closed topic exits.now (length code.now) rows entry.now 0 code.now) }
+    ensures made { IfOk result (λ rows. Made topic exits.now entry.now code.now rows) }
+{
+    let mut rows = Rows::new(alloc, code.len() + 1)?;
+    while sweep(alloc, topic, exits, code, entry, &mut rows)? {}
+    Ok(rows)
+}

@@ -1,3 +1,0 @@
-mod Lookup
-mod Places
-mod Telling

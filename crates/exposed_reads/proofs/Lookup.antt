@@ -1,4 +1,0 @@
--- Looking an element up in a list that is seen through a function.
-use Rattle.std.proofs.lemmas.Option.{slice_get-map}
-
-pub ruleset lookup = (slice_get-map)
