@@ -18,7 +18,7 @@ use Rattle.ir.specs.declared.instruction.Instruction.TheVariants as ir
 use Rattle.pm_alloc.specs.declared.local.Reg.{Reg}
 use Rattle.pm_alloc.specs.declared.local.Reg.TheVariants.{Own, Temp}
 use Rattle.pm_alloc.specs.declared.local.Local.{Local}
-use Rattle.pm_alloc.specs.declared.local.Local.TheVariants.{Const, Mov, Bin, Jmp, Jz, Load, Store, Log, Tick, Trap}
+use Rattle.pm_alloc.specs.declared.local.Local.TheVariants.{Const, Mov, Bin, Jmp, Jz, Load, Store, Find, Log, Tick, Trap}
 use Rattle.pm_alloc.specs.Pieces.{offset, store_code, pointer_check, fill_code, new_head, new_code}
 use Rattle.codegen.specs.declared.fields.At.{At}
 use Rattle.codegen.specs.declared.fields.At.TheVariants.{Word, Element}
@@ -41,6 +41,7 @@ fine n r (Jmp t) = nat_le t n
 fine n r (Jz a t) = reg_fine r a && nat_le t n
 fine n r (Load a b o) = reg_fine r a && reg_fine r b
 fine n r (Store a o b) = reg_fine r a && reg_fine r b
+fine n r (Find a) = reg_fine r a
 fine n r (Log a o) = reg_fine r a
 fine n r Tick = true
 fine n r (Trap k) = nat_lt 0 k && nat_lt k 9
@@ -114,12 +115,11 @@ store_fine r from true (Some o) low n = rw low refl
 store_fine r from false (Some o) low n = rw low refl
 
 -- new objects
-head_fine : (s : Sizes) (r to kind f n : ℕ) → ltb to r ≡ true → 17 + f + 1 ≤ n → list_all (fine n r) (new_head s to kind f) ≡ true
-head_fine s r to kind f n low long =
-    let hit : leb 13 n ≡ true = le-leb 13 n (omega arith) in
-    let turn : leb 5 n ≡ true = le-leb 5 n (omega arith) in
-    let behind : leb (17 + f + 1) n ≡ true = le-leb (17 + f + 1) n long in
-    rw (hit, turn, low, behind) refl
+head_fine : (s : Sizes) (r kind f n : ℕ) → 8 + f + 1 ≤ n →
+    list_all (fine n r) (new_head s kind f) ≡ true
+head_fine s r kind f n long =
+    let behind : leb (8 + f) n ≡ true = le-leb (8 + f) n (omega arith) in
+    rw behind refl
 
 fill_fine : (s : Sizes) (r n : ℕ) (b : Bool) (j c : ℕ) → list_all (fine n r) (fill_code s b j c) ≡ true
 fill_fine s r n b j zero = refl
@@ -133,10 +133,10 @@ new_fine : (s : Sizes) (r to kind c : ℕ) (b : Bool) → ltb to r ≡ true → 
 new_fine s r to kind c b low =
     let fill : List Local = fill_code s b 1 c in
     let tail : List Local = Mov (Own to) (Temp 0) ∷ [] in
-    let head : List Local = new_head s to kind (length fill) in
+    let head : List Local = new_head s kind (length fill) in
     let n : ℕ = length (new_code s to kind c b) in
-    let long : 17 + length fill + 1 ≤ n = omega (arith, length-append head (fill ++ tail), length-append fill tail) in
-    all_both (fine n r) head (fill ++ tail) (head_fine s r to kind (length fill) n low long)
+    let long : 8 + length fill + 1 ≤ n = omega (arith, length-append head (fill ++ tail), length-append fill tail) in
+    all_both (fine n r) head (fill ++ tail) (head_fine s r kind (length fill) n long)
     (all_both (fine n r) fill tail (fill_fine s r n b 1 c) (mov_fine r to n low))
 
 made_fine_if : (s : Sizes) (r to kind c : ℕ) (b d : Bool) → ltb to r ≡ true → list_all (fine (length (if d then Trap 2 ∷ [] else new_code s to kind c b)) r) (if d then Trap 2 ∷ [] else new_code s to kind c b) ≡ true

@@ -23,7 +23,7 @@ use Rattle.pm_machine.specs.Checked.{takes, is_there, is_end, is_good, bad_from,
 use Rattle.pm_alloc.specs.declared.local.Reg.{Reg}
 use Rattle.pm_alloc.specs.declared.local.Reg.TheVariants.{Own, Temp}
 use Rattle.pm_alloc.specs.declared.local.Local.{Local}
-use Rattle.pm_alloc.specs.declared.local.Local.TheVariants.{Const, Mov, Bin, Jmp, Jz, Load, Store, Log, Tick, Trap}
+use Rattle.pm_alloc.specs.declared.local.Local.TheVariants.{Const, Mov, Bin, Jmp, Jz, Load, Store, Find, Log, Tick, Trap}
 use Rattle.pm_alloc.specs.Placing.{sum, number, placed}
 use Rattle.codegen.specs.Names.{is_below}
 use Rattle.codegen.specs.Emit.{control, return_code, local_code, width, is_log, places, place_in, instruction_code, code_from, function_code, has_room, trap_function, with_code, function_of, functions_of, known}
@@ -56,6 +56,7 @@ there us r n p size (Load a b o) room behind ok =
 there us r n p size (Store a o b) room behind ok =
     let parts = and_parts (reg_fine r a) (reg_fine r b) ok in
     and_from _ _ (number_below r a room parts.0) (number_below r b room parts.1)
+there us r n p size (Find a) room behind ok = number_below r a room ok
 there us r n p size (Log a o) room behind ok = number_below r a room ok
 there us r n p size Tick room behind ok = refl
 there us r n p size (Trap k) room behind ok = ok

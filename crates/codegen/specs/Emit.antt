@@ -220,9 +220,10 @@ abbrev pub txs_from : ℕ → List IrFunction → List TxEntry
 txs_from f [] = []
 txs_from f (u ∷ us) = tx_of f u ++ txs_from (f + 1) us
 
--- a number of steps that no run goes past, with q tokens
+-- A number of steps that no run goes past, with q tokens: 80 for each instruction, of which at most
+-- 40 are its own and 40 flush the lines that it makes dirty.
 abbrev pub most_steps : Sizes → ℕ → ℕ
-most_steps s q = 256 * (s.ticks + 1) * (64 * q + 256) * (6 * s.slots + 121)
+most_steps s q = 256 * (s.ticks + 1) * (64 * q + 256) * 80
 
 abbrev pub parts_of : Ir → Sizes → (tokens : ℕ) → List Function → ImageParts
 parts_of program s q functions =

@@ -77,8 +77,7 @@ fn most_steps(sizes: &Sizes, tokens: u64) -> u128
 {
     let ticks = 256 * u128::from(sizes.ticks() + 1);
     let code = 64 * u128::from(tokens) + 256;
-    let instruction = u128::from(6 * sizes.slots() + 121);
-    ticks * code * instruction
+    ticks * code * 80
 }
 
 fn image_parts(

@@ -137,12 +137,7 @@ fn push_plain(alloc: Global, functions: &mut IrFunctions) -> Result<(), AllocErr
 fn push_objects(alloc: Global, functions: &mut IrFunctions) -> Result<(), AllocError> {
     let head = root(2, None);
     let make = [
-        Instruction::New {
-            to: 1,
-            kind: 1,
-            log_fill: false,
-            line: 1,
-        },
+        made(1),
         store(node(1, 0), 0),
         load(2, head),
         store(node(1, 1), 2),
@@ -196,11 +191,44 @@ fn push_calls(alloc: Global, functions: &mut IrFunctions) -> Result<(), AllocErr
     functions.push(function(alloc, 1, false, sum)?)
 }
 
+fn made(to: u32) -> Instruction {
+    Instruction::New {
+        to,
+        kind: 1,
+        log_fill: false,
+        line: 1,
+    }
+}
+
+/// Transaction 10 fills the last free slot, finds no other, frees slot 1, and finds that one. It
+/// gives 100 times the first of these slots, 10 times the second, and the third.
+fn push_search(alloc: Global, functions: &mut IrFunctions) -> Result<(), AllocError> {
+    let again = [
+        made(0),
+        made(1),
+        Instruction::Const { to: 2, value: 1 },
+        Instruction::Free {
+            from: 2,
+            kind: 1,
+            line: 1,
+        },
+        made(3),
+        Instruction::Const { to: 4, value: 10 },
+        bin(BinOp::Mul, 0, 0, 4),
+        bin(BinOp::Add, 0, 0, 1),
+        bin(BinOp::Mul, 0, 0, 4),
+        bin(BinOp::Add, 0, 0, 3),
+        back(0),
+    ];
+    functions.push(function(alloc, 0, true, again)?)
+}
+
 fn program(alloc: Global) -> Result<Ir, AllocError> {
     let mut functions = IrFunctions::new(alloc);
     push_plain(alloc, &mut functions)?;
     push_objects(alloc, &mut functions)?;
     push_calls(alloc, &mut functions)?;
+    push_search(alloc, &mut functions)?;
     Ok(Ir {
         functions,
         shapes: all_shapes(alloc)?,
@@ -266,7 +294,7 @@ fn words(dev: &SimPmem, sizes: &Sizes) -> [i64; 8] {
 /// it.
 type Row = (u64, [i64; 2], RunAnswer, u64, [i64; 8]);
 
-const ROWS: [Row; 18] = [
+const ROWS: [Row; 19] = [
     (1, [5, 0], RunAnswer::Halted(5), 1, [5, 0, 0, 0, 0, 0, 0, 0]),
     (
         1,
@@ -389,6 +417,13 @@ const ROWS: [Row; 18] = [
         0,
         [-2, 9, 2, 1, 7, 0, 0, 3],
     ),
+    (
+        10,
+        [0, 0],
+        RunAnswer::Halted(201),
+        3,
+        [-2, 9, 2, 1, 0, 0, 1, 0],
+    ),
 ];
 
 /// The index of the first call that does something else.
@@ -416,7 +451,7 @@ fn programs(rt: HostRuntime) -> Result<(), Fail> {
         return Ok(());
     };
     let image = emit(alloc, &program(alloc)?, &sizes, 100)?;
-    assert_eq!(rt; image.txs(), 9);
+    assert_eq!(rt; image.txs(), 10);
     let mut dev = SimPmem::new(alloc);
     dev.blank(pool_lines(&sizes))?;
     assert_eq!(rt; first_wrong(alloc, &image, &mut dev, &ROWS)?, None);

@@ -8,7 +8,7 @@ use Rattle.cache_model.proofs.Views.{view_other, view_flush, view_fence}
 use Rattle.pool_layout.specs.declared.limits.Sizes.{Sizes}
 use Rattle.args_log.specs.Seal.{stores_from, flushes_from, payload_lines, payload_events, unsealed_events, sealing_events, seal_events}
 use Rattle.pm_machine.specs.declared.effect.Effect.{Effect}
-use Rattle.pm_machine.specs.declared.effect.Effect.TheVariants.{Loads, Stores, Logs, Flushes, Fences, Quiet}
+use Rattle.pm_machine.specs.declared.effect.Effect.TheVariants.{Loads, Scans, Stores, Logs, Flushes, Fences, Quiet}
 use Rattle.pm_machine.specs.Effects.{events_of, events_all, heap_past, records_past}
 
 abbrev pub Misses : ℕ → List CacheEvent → Type 0
@@ -60,6 +60,7 @@ misses_seal f args k p few out =
 -- a run stores no word of the first six lines
 misses_effect : (z : Sizes) (a n p : ℕ) (h : Words) (e : Effect) → p < 48 → Misses p (events_of z a n h e)
 misses_effect z a n p h (Loads w) less = tt
+misses_effect z a n p h (Scans w many) less = tt
 misses_effect z a n p h (Stores w x) less = ((λ e. absurd (omega arith)), tt)
 misses_effect z a n p h (Logs w) less = ((λ e. absurd (omega arith)), ((λ e. absurd (omega arith)), ((λ e. absurd (omega arith)), tt)))
 misses_effect z a n p h (Flushes l) less = tt

@@ -1,5 +1,5 @@
 -- Dirty lines are distinct lines of the heap.
-use Rattle.std.proofs.Common.{◌≡◌, ℕ, zero, suc, ◌+◌, ◌-◌, ◌*◌, ◌/◌, ◌<◌, ◌≤◌, ◌||◌, ◌==◌, if◌then◌else◌, nat_eq, Bool, true, false, List, [], ◌∷◌, ◌++◌, length, drop, slice_get, Option, Some, None, ℤ, pos, ltb, refl, sym, subst, arith}
+use Rattle.std.proofs.Common.{◌≡◌, ℕ, zero, suc, ◌+◌, ◌-◌, ◌*◌, ◌/◌, ◌<◌, ◌≤◌, ◌||◌, ◌==◌, if◌then◌else◌, nat_eq, Bool, true, false, List, [], ◌∷◌, ◌++◌, length, drop, slice_get, Option, Some, None, ℤ, pos, ltb, refl, sym, subst, arith, length-append}
 use Rattle.std.specs.List.{list_any, IsDistinct}
 use Rattle.std.specs.Ordering.{int_eq}
 use Rattle.std.proofs.lemmas.Bool.{eqb-true}
@@ -20,7 +20,7 @@ use Rattle.pm_machine.specs.Machine.{State, Outcome, Goes, Ends, step, act, tall
 use Rattle.pm_machine.specs.Runs.{AreLines, Keeps}
 use Rattle.pm_machine.proofs.Range.{keeps_step}
 use Rattle.emit_law.specs.Moments.{Moment, On, behind, staged, and_then, go}
-use Rattle.emit_law.specs.Dirty.{IsClean, CleanLaw, FewLines}
+use Rattle.emit_law.specs.Dirty.{IsClean, CleanLaw, FewLines, GrowLaw}
 
 distinct_insert : (ls : List ℕ) (l : ℕ) (b : Bool) → list_any (nat_eq l) ls ≡ b → IsDistinct nat_eq ls → IsDistinct nat_eq (if b then ls else ls ++ l ∷ [])
 distinct_insert ls l true e h = h
@@ -119,3 +119,88 @@ pub few_lines : FewLines
 few_lines image s clean =
     length-le_from_distinct_below s.dirty (root_lines image.parts.sizes + 2 * image.parts.sizes.slots) clean.distinct
     (each_below (heap_words image.parts.sizes) (root_lines image.parts.sizes + 2 * image.parts.sizes.slots) s.dirty (omega arith) clean.lines)
+
+-- a step makes at most one more line dirty
+module _ (image : Image) (heap : Words) (n : ℕ) (s : State) where
+  abbrev Grows : Outcome → Type 0
+  Grows (Goes e t) = length t.dirty ≤ length s.dirty + 1
+  Grows (Ends end) = Unit {0}
+
+  grows_load : (r : ℕ) (p : Option ℕ) → Grows (tally (load heap s r p))
+  grows_load r None = omega arith
+  grows_load r (Some w) = omega arith
+
+  grows_insert : (l : ℕ) (b : Bool) →
+      length (if b then s.dirty else s.dirty ++ l ∷ []) ≤ length s.dirty + 1
+  grows_insert l true = omega arith
+  grows_insert l false = omega (arith, length-append s.dirty (l ∷ []))
+
+  grows_store : (x : ℤ) (p : Option ℕ) → Grows (tally (store s x p))
+  grows_store x None = omega arith
+  grows_store x (Some w) = grows_insert (w / 8) (list_any (nat_eq (w / 8)) s.dirty)
+
+  grows_log : (p : Option ℕ) → Grows (tally (log image.parts.sizes.records n s p))
+  grows_log None = omega arith
+  grows_log (Some w) = by_room (ltb n image.parts.sizes.records)
+    where
+      by_room : (b : Bool) →
+          Grows (tally (if b then Goes (Logs w) (passed s) else Ends (Trapped trap.LogFull)))
+      by_room true = omega arith
+      by_room false = tt
+
+  grows_flush : (ls : List ℕ) → s.dirty ≡ ls → Grows (tally (flush s (slice_get ls 0)))
+  grows_flush [] is = omega arith
+  grows_flush (l ∷ ls) is =
+      subst (λ (ks : List ℕ). length (drop 1 ks) ≤ length ks + 1) (sym is) (omega arith)
+
+  grows_call : (r f : ℕ) (args : List ℕ) → Grows (tally (call s r f args))
+  grows_call r f args = by_depth (ltb (length s.below + 1) 256)
+    where
+      by_depth : (b : Bool) →
+          Grows (tally (if b then Goes Quiet (entered s r f args) else Ends (Trapped trap.Depth)))
+      by_depth true = omega arith
+      by_depth false = tt
+
+  grows_return : (v : ℤ) (o : Option Frame) → Grows (tally (return s v o))
+  grows_return v None = tt
+  grows_return v (Some caller) = omega arith
+
+  grows_tick : (b : Bool) →
+      Grows (tally (if b then Ends (Trapped trap.Steps) else Goes Quiet (spent s)))
+  grows_tick true = tt
+  grows_tick false = omega arith
+
+  grows_branch : (t : ℕ) (b : Bool) → Grows (tally (Goes Quiet (if b then moved s t else passed s)))
+  grows_branch t true = omega arith
+  grows_branch t false = omega arith
+
+  grows_act : (i : Option Op) → Grows (tally (act image heap n s i))
+  grows_act None = tt
+  grows_act (Some (Jz a t)) = grows_branch t (int_eq (read s a) (pos 0))
+  grows_act (Some (Load r a o)) = grows_load r (target image s a o)
+  grows_act (Some (Store a o b)) = grows_store (read s b) (target image s a o)
+  grows_act (Some (Log a o)) = grows_log (target image s a o)
+  grows_act (Some Flush) = grows_flush s.dirty refl
+  grows_act (Some (Call r f args)) = grows_call r f args
+  grows_act (Some (Ret a)) = grows_return (read s a) (slice_get s.below (length s.below - 1))
+  grows_act (Some Tick) = grows_tick (s.ticks == 0)
+  grows_act (Some (Trap k)) = tt
+  grows_act (Some (Halt a)) = tt
+  grows_act (Some i) = omega arith
+
+module _ (image : Image) (b : Moment) where
+  grow_on : (k : ℕ) (m : Moment) (o : Outcome) → Grows image m.heap m.records m.state o →
+      ((t : Moment) → go image k t ≡ On b → length b.state.dirty ≤ length t.state.dirty + k) →
+      and_then (staged m o) (go image k) ≡ On b →
+      length b.state.dirty ≤ length m.state.dirty + suc k
+  grow_on k m (Ends end) grows next h = absurd (cc)
+  grow_on k m (Goes f t) grows next h = omega (arith, next (behind m f t) h, grows)
+
+  grow_run : (k : ℕ) (m : Moment) → go image k m ≡ On b →
+      length b.state.dirty ≤ length m.state.dirty + k
+  grow_run zero m h = let same : m ≡ b = cc in subst (λ (c : Moment). length c.state.dirty ≤ length m.state.dirty + 0) same (omega arith)
+  grow_run (suc k) m h =
+      grow_on k m (step image m.records m.state m.heap) (grows_act image m.heap m.records m.state (fetch image m.state)) (λ t g. grow_run k t g) h
+
+pub grow_all : GrowLaw
+grow_all image k m b h = grow_run image b k m h

@@ -1,6 +1,5 @@
 pub mod Dirty
 pub mod Moments
-pub mod NewSteps
 pub mod PairedCode
 pub mod Pairs
 pub mod Placed

@@ -71,13 +71,13 @@ module _ (s : Sizes) (base p : ℕ) where
   fill_pairs true j (suc c) = ((refl, refl), fill_pairs true (j + 1) c)
   fill_pairs false j (suc c) = fill_pairs false (j + 1) c
 
-  head_pairs : (to kind n : ℕ) → ArePaired (at (new_head s to kind n))
-  head_pairs to kind n = ((refl, refl), tt)
+  head_pairs : (kind n : ℕ) → ArePaired (at (new_head s kind n))
+  head_pairs kind n = ((refl, refl), tt)
 
   new_pairs : (to kind c : ℕ) (b : Bool) → ArePaired (at (new_code s to kind c b))
   new_pairs to kind c b =
       let fill : List Local = fill_code s b 1 c in
-      joined (new_head s to kind (length fill)) (fill ++ Mov (Own to) (Temp 0) ∷ []) (head_pairs to kind (length fill))
+      joined (new_head s kind (length fill)) (fill ++ Mov (Own to) (Temp 0) ∷ []) (head_pairs kind (length fill))
       (joined fill (Mov (Own to) (Temp 0) ∷ []) (fill_pairs b 1 c) tt)
 
   made_if : (to kind c : ℕ) (b d : Bool) → ArePaired (at (if d then Trap 2 ∷ [] else new_code s to kind c b))

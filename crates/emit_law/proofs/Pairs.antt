@@ -4,7 +4,7 @@ use Rattle.std.specs.List.{AllByRecursion}
 use Rattle.cache_model.specs.Cache.{Words}
 use Rattle.crash_law.specs.Effects.{IsPaired}
 use Rattle.pm_machine.specs.declared.effect.Effect.{Effect}
-use Rattle.pm_machine.specs.declared.effect.Effect.TheVariants.{Loads, Stores, Logs, Flushes, Fences, Quiet}
+use Rattle.pm_machine.specs.declared.effect.Effect.TheVariants.{Loads, Scans, Stores, Logs, Flushes, Fences, Quiet}
 use Rattle.pm_machine.specs.declared.effect.End.{End}
 use Rattle.pm_machine.specs.declared.effect.End.TheVariants.{Trapped}
 use Rattle.pool_map.specs.declared.trap.TrapKind.TheVariants as trap
@@ -17,6 +17,7 @@ use Rattle.pm_machine.specs.Effects.{heap_past, records_past}
 use Rattle.pm_machine.specs.Machine.{State, Outcome, Goes, Ends, Run, Finished, follow, step, run, act, tally, fetch, fetch_in, target, read, load, store, log, flush, call, return, passed, spent, entered}
 use Rattle.pm_machine.proofs.Fuel.{began_rest}
 use Rattle.run_law.specs.Seen.{seen_all}
+use Rattle.run_law.proofs.Headers.{pair_headers}
 use Rattle.emit_law.specs.Pairs.{IsStoreOf, IsStoreFirst, ArePaired, HasPairs, PairedLaw}
 
 -- a STORE to the word of R[a] + z stands there
@@ -72,6 +73,7 @@ module _ (image : Image) where
   abbrev Fits : Option ℕ → Outcome → Type 0
   Fits None (Ends e) = Unit {0}
   Fits None (Goes (Loads w) t) = Unit {0}
+  Fits None (Goes (Scans w many) t) = Unit {0}
   Fits None (Goes (Stores w x) t) = Unit {0}
   Fits None (Goes (Logs w) t) = IsWaiting image w t
   Fits None (Goes (Flushes l) t) = Unit {0}
@@ -79,6 +81,7 @@ module _ (image : Image) where
   Fits None (Goes Quiet t) = Unit {0}
   Fits (Some u) (Ends e) = ⊥
   Fits (Some u) (Goes (Loads w) t) = ⊥
+  Fits (Some u) (Goes (Scans w many) t) = ⊥
   Fits (Some u) (Goes (Stores w x) t) = u ≡ w
   Fits (Some u) (Goes (Logs w) t) = ⊥
   Fits (Some u) (Goes (Flushes l) t) = ⊥
@@ -88,6 +91,7 @@ module _ (image : Image) where
   -- what is waited for behind a step
   abbrev after : Effect → Option ℕ
   after (Loads w) = None
+  after (Scans w many) = None
   after (Stores w x) = None
   after (Logs w) = Some w
   after (Flushes l) = None
@@ -97,11 +101,13 @@ module _ (image : Image) where
   still_waits : (last : Option ℕ) (e : Effect) (t : State) → Fits last (Goes e t) → Waits (after e) t
   still_waits None (Logs w) t fits = fits
   still_waits None (Loads w) t fits = tt
+  still_waits None (Scans w many) t fits = tt
   still_waits None (Stores w x) t fits = tt
   still_waits None (Flushes l) t fits = tt
   still_waits None Fences t fits = tt
   still_waits None Quiet t fits = tt
   still_waits (Some u) (Loads w) t fits = absurd fits
+  still_waits (Some u) (Scans w many) t fits = absurd fits
   still_waits (Some u) (Stores w x) t fits = tt
   still_waits (Some u) (Logs w) t fits = absurd fits
   still_waits (Some u) (Flushes l) t fits = absurd fits
@@ -110,12 +116,14 @@ module _ (image : Image) where
 
   one_more : (last : Option ℕ) (e : Effect) (t : State) (es : List Effect) → Fits last (Goes e t) → IsPaired (after e) (seen_all es) → IsPaired last (seen_all (e ∷ es))
   one_more None (Loads w) t es fits rest = rest
+  one_more None (Scans w many) t es fits rest = pair_headers None w many (seen_all es) rest
   one_more None (Stores w x) t es fits rest = rest
   one_more None (Logs w) t es fits rest = rest
   one_more None (Flushes l) t es fits rest = rest
   one_more None Fences t es fits rest = rest
   one_more None Quiet t es fits rest = rest
   one_more (Some u) (Loads w) t es fits rest = absurd fits
+  one_more (Some u) (Scans w many) t es fits rest = absurd fits
   one_more (Some u) (Stores w x) t es fits rest = (fits, rest)
   one_more (Some u) (Logs w) t es fits rest = absurd fits
   one_more (Some u) (Flushes l) t es fits rest = absurd fits

@@ -10,17 +10,19 @@ use Rattle.cache_model.specs.Cache.{Words, put}
 use Rattle.cache_model.proofs.Versions.{put_same, put_other}
 use Rattle.nvm_base.specs.Applied.{applied}
 use Rattle.pm_machine.specs.declared.effect.Effect.{Effect}
-use Rattle.pm_machine.specs.declared.effect.Effect.TheVariants.{Loads, Stores, Logs, Quiet}
+use Rattle.pm_machine.specs.declared.effect.Effect.TheVariants.{Loads, Scans, Stores, Logs, Quiet}
 use Rattle.pm_machine.specs.declared.effect.End.TheVariants.{Trapped}
 use Rattle.pool_map.specs.declared.trap.TrapKind.TheVariants as trap
+use Rattle.pool_layout.specs.Sizes.{slot_word}
 use Rattle.pm_machine.specs.declared.image.Image.{Image}
+use Rattle.pm_machine.specs.Find.{least, looks}
 use Rattle.pm_machine.specs.declared.op.Op.{Op}
 use Rattle.pm_machine.specs.Machine.{tally, fetch_in}
 use Rattle.pm_machine.specs.Machine as machine
 use Rattle.pm_alloc.specs.declared.local.Reg.{Reg}
 use Rattle.pm_alloc.specs.declared.local.Reg.TheVariants.{Own, Temp}
 use Rattle.pm_alloc.specs.declared.local.Local.{Local}
-use Rattle.pm_alloc.specs.declared.local.Local.TheVariants.{Const, Mov, Bin, Jmp, Jz, Load, Store, Log, Tick, Trap}
+use Rattle.pm_alloc.specs.declared.local.Local.TheVariants.{Const, Mov, Bin, Jmp, Jz, Load, Store, Find, Log, Tick, Trap}
 use Rattle.pm_alloc.specs.Placing.{sum, number, placed}
 use Rattle.pm_alloc.specs.Runs.{Next, Goes, Traps, Off, then, run}
 use Rattle.pm_alloc.specs.LocalRun.{World, Loc, at_zero, read, write, go_to, target}
@@ -182,6 +184,10 @@ module _ (image : Image) (x : Setting) (n : ℕ) (room : x.base + 8 < 2 ^ 32) (s
     act_as (Load r a o) is =
         subst (λ (z : ℤ). Follows x (local.load l r (target image.parts.sizes z o)) (acts (placed x.base x.place (Load r a o)))) (frame_read a is.1)
         (loads r (target image.parts.sizes (get_or regs (number x.base a) (pos 0)) o) is.0)
+    act_as (Find r) is =
+        wrote l.at l.own l.temp (local.searched image.parts.sizes l.world) r (pos (least image.parts.sizes l.world.heap)) (pos (least image.parts.sizes l.world.heap)) regs dirty logged
+        (Scans (slot_word image.parts.sizes 1) (looks image.parts.sizes l.world.heap) ∷ seen) h
+        (ap (λ (es : List Effect). Scans (slot_word image.parts.sizes 1) (looks image.parts.sizes l.world.heap) ∷ es) hear) is refl
     act_as (Store a o b) is =
         subst (λ (z : ℤ). Follows x (local.store l (read l.own l.temp b) (target image.parts.sizes z o)) (acts (placed x.base x.place (Store a o b)))) (frame_read a is.0)
         (subst (λ (z : ℤ). Follows x (local.store l z (target image.parts.sizes (get_or regs (number x.base a) (pos 0)) o)) (acts (placed x.base x.place (Store a o b)))) (frame_read b is.1)

@@ -20,7 +20,7 @@ use Rattle.pm_machine.specs.declared.op.TxEntry.{TxEntry}
 use Rattle.pm_machine.specs.Transactions as transactions
 use Rattle.pm_machine.specs.Machine.{start}
 use Rattle.pm_alloc.specs.declared.local.Local.{Local}
-use Rattle.pm_alloc.specs.declared.local.Local.TheVariants.{Const, Mov, Bin, Jmp, Jz, Load, Store, Log, Tick, Trap}
+use Rattle.pm_alloc.specs.declared.local.Local.TheVariants.{Const, Mov, Bin, Jmp, Jz, Load, Store, Find, Log, Tick, Trap}
 use Rattle.pm_alloc.specs.Placing.{sum, placed}
 use Rattle.codegen.specs.Emit.{local_code, control, return_code, width, is_log, places, place_in, instruction_code, code_from, function_code, has_room, trap_function, with_code, function_of, txs_from, known}
 use Rattle.run_law.specs.Sound.{IsTidyEnd}
@@ -40,6 +40,7 @@ IsNoReturn (op.Bin o r a b) = Unit {0}
 IsNoReturn (op.Jmp t) = Unit {0}
 IsNoReturn (op.Jz a t) = Unit {0}
 IsNoReturn (op.Load r a o) = Unit {0}
+IsNoReturn (op.Find r) = Unit {0}
 IsNoReturn (op.Store a o b) = Unit {0}
 IsNoReturn (op.Log a o) = Unit {0}
 IsNoReturn op.Flush = Unit {0}
@@ -56,6 +57,7 @@ placed_stays r p (Bin o a b c) = tt
 placed_stays r p (Jmp t) = tt
 placed_stays r p (Jz a t) = tt
 placed_stays r p (Load a b o) = tt
+placed_stays r p (Find a) = tt
 placed_stays r p (Store a o b) = tt
 placed_stays r p (Log a o) = tt
 placed_stays r p Tick = tt

@@ -17,7 +17,7 @@ use Rattle.pm_machine.specs.Machine.{fetch_in}
 use Rattle.pm_alloc.specs.declared.local.Reg.{Reg}
 use Rattle.pm_alloc.specs.declared.local.Reg.TheVariants.{Own, Temp}
 use Rattle.pm_alloc.specs.declared.local.Local.{Local}
-use Rattle.pm_alloc.specs.declared.local.Local.TheVariants.{Const, Mov, Bin, Jmp, Jz, Load, Store, Log, Tick, Trap}
+use Rattle.pm_alloc.specs.declared.local.Local.TheVariants.{Const, Mov, Bin, Jmp, Jz, Load, Store, Find, Log, Tick, Trap}
 use Rattle.pm_alloc.specs.Placing.{sum, placed}
 use Rattle.codegen.specs.Names.{is_below}
 use Rattle.codegen.specs.Emit.{local_code, width, is_log, places, place_in, instruction_code, code_from, function_code, trap_function, with_code, function_of, known}
@@ -41,6 +41,7 @@ fine_is n r (Bin o a b c) ok =
 fine_is n r (Jmp t) ok = leb-true t n ok
 fine_is n r (Jz a t) ok = let parts = and_parts (reg_fine r a) (nat_le t n) ok in (reg_is r a parts.0, leb-true t n parts.1)
 fine_is n r (Load a b o) ok = let parts = and_parts (reg_fine r a) (reg_fine r b) ok in (reg_is r a parts.0, reg_is r b parts.1)
+fine_is n r (Find a) ok = reg_is r a ok
 fine_is n r (Store a o b) ok = let parts = and_parts (reg_fine r a) (reg_fine r b) ok in (reg_is r a parts.0, reg_is r b parts.1)
 fine_is n r (Log a o) ok = reg_is r a ok
 fine_is n r Tick ok = tt

@@ -1,12 +1,13 @@
 -- Forward pieces end.
-use Rattle.std.proofs.Common.{◌≡◌, ◌⊎◌, inl, inr, ℕ, zero, suc, ◌+◌, ◌-◌, ◌<◌, ◌≤◌, Bool, true, false, List, [], ◌∷◌, ◌++◌, length, slice_get, Option, Some, None, ℤ, pos, negsuc, ltb, refl, sym, ap, subst, arith, length-append}
-use Rattle.std.specs.Prelude.{if◌then◌else◌}
+use Rattle.std.proofs.Common.{◌≡◌, ◌⊎◌, inl, inr, ℕ, zero, suc, ◌+◌, ◌-◌, ◌<◌, ◌≤◌, Bool, true, false, List, [], ◌∷◌, ◌++◌, length, slice_get, Option, Some, None, ℤ, pos, negsuc, ltb, refl, sym, ap, subst, arith, length-append, ◌*◌}
+use Rattle.std.specs.Prelude.{if◌then◌else◌, nat_lt}
 use Rattle.std.specs.List.{AllByRecursion}
-use Rattle.std.proofs.lemmas.Bool.{cases_lt}
+use Rattle.std.proofs.lemmas.Bool.{cases_lt, ltb-false}
 use Rattle.cache_model.specs.Cache.{Words}
 use Rattle.nvm_base.specs.declared.op.BinOp.{BinOp}
 use Rattle.nvm_base.specs.Applied.{applied}
 use Rattle.pm_machine.specs.declared.effect.Effect.TheVariants.{Loads}
+use Rattle.pm_machine.specs.Find.{least}
 use Rattle.pool_map.specs.declared.shapes.Shapes.{Shapes}
 use Rattle.pool_layout.specs.declared.limits.Sizes.{Sizes}
 use Rattle.ir.specs.declared.instruction.Target.{Target}
@@ -15,15 +16,15 @@ use Rattle.ir.specs.declared.instruction.Instruction.TheVariants as ir
 use Rattle.pm_alloc.specs.declared.local.Reg.{Reg}
 use Rattle.pm_alloc.specs.declared.local.Reg.TheVariants.{Own, Temp}
 use Rattle.pm_alloc.specs.declared.local.Local.{Local}
-use Rattle.pm_alloc.specs.declared.local.Local.TheVariants.{Const, Mov, Bin, Jmp, Jz, Load, Store, Log, Tick, Trap}
+use Rattle.pm_alloc.specs.declared.local.Local.TheVariants.{Const, Mov, Bin, Jmp, Jz, Load, Store, Find, Log, Tick, Trap}
 use Rattle.pm_alloc.specs.Runs.{Next, Goes, Traps, Off, then, run}
-use Rattle.pm_alloc.specs.LocalRun.{World, Loc, at_zero, read, write, go_to, go_on, see, logged, load, store, log, tick, target, act, step}
+use Rattle.pm_alloc.specs.LocalRun.{World, Loc, at_zero, read, write, go_to, go_on, see, searched, logged, load, store, log, tick, target, act, step}
 use Rattle.codegen.specs.declared.fields.At.{At}
 use Rattle.codegen.specs.declared.fields.At.TheVariants.{Word, Element}
 use Rattle.codegen.specs.declared.fields.Reach.{Reach}
-use Rattle.codegen.specs.Fields.{root_reach, struct_reach}
-use Rattle.codegen.specs.Emit.{at_code, root_code, object_code, address_code, address_offset, load_at, store_at, divides}
-use Rattle.pm_alloc.specs.Pieces.{pointer_check}
+use Rattle.codegen.specs.Fields.{root_reach, struct_reach, object_words}
+use Rattle.codegen.specs.Emit.{at_code, root_code, object_code, address_code, address_offset, load_at, store_at, make_words, divides}
+use Rattle.pm_alloc.specs.Pieces.{pointer_check, fill_code, new_head, new_code}
 use Rattle.pm_alloc.proofs.Runs.{run_on}
 use Rattle.emit_law.specs.Moments.{Stage, On, Over, go}
 use Rattle.emit_law.specs.Placed.{IsFine, Setting, Follows}
@@ -43,6 +44,7 @@ IsAhead k (Const r v) = Unit {0}
 IsAhead k (Mov r a) = Unit {0}
 IsAhead k (Bin o r a b) = Unit {0}
 IsAhead k (Load r a o) = Unit {0}
+IsAhead k (Find r) = Unit {0}
 IsAhead k (Store a o b) = Unit {0}
 IsAhead k (Log a o) = Unit {0}
 IsAhead k Tick = Unit {0}
@@ -55,6 +57,7 @@ ahead_first k (Const r v) ls h = (tt, h)
 ahead_first k (Mov r a) ls h = (tt, h)
 ahead_first k (Bin o r a b) ls h = (tt, h)
 ahead_first k (Load r a o) ls h = (tt, h)
+ahead_first k (Find r) ls h = (tt, h)
 ahead_first k (Store a o b) ls h = (tt, h)
 ahead_first k (Log a o) ls h = (tt, h)
 ahead_first k Tick ls h = (tt, h)
@@ -110,6 +113,8 @@ module _ (s : Sizes) (m : ℕ) (l : Loc) (inside : l.at < m) where
   act_on base (Jmp t) ahead is = (ahead, is)
   act_on base (Jz a t) ahead is = branch_on (read l.own l.temp a) t ahead is.1
   act_on base (Load r a o) ahead is = load_on r (target s (read l.own l.temp a) o)
+  act_on base (Find r) ahead is =
+      wrote_on l.own l.temp (searched s l.world) r (pos (least s l.world.heap))
   act_on base (Store a o b) ahead is = store_on (read l.own l.temp b) (target s (read l.own l.temp a) o)
   act_on base (Log a o) ahead is = log_on (target s (read l.own l.temp a) o)
   act_on base Tick ahead is = tick_on l.world.ticks
@@ -189,6 +194,7 @@ forward_append k (x ∷ xs) ys h rest =
     forward_more k (Mov r a) ls h rest = rest
     forward_more k (Bin o r a b) ls h rest = rest
     forward_more k (Load r a o) ls h rest = rest
+    forward_more k (Find r) ls h rest = rest
     forward_more k (Store a o b) ls h rest = rest
     forward_more k (Log a o) ls h rest = rest
     forward_more k Tick ls h rest = rest
@@ -242,28 +248,58 @@ store_length b from None = omega arith
 store_length true from (Some o) = omega arith
 store_length false from (Some o) = omega arith
 
-bin_short : (o : BinOp) (to left right : ℕ) (d : Bool) → IsShort 27 (if d then Jz (Own right) 2 ∷ Jmp 3 ∷ Trap 4 ∷ Bin o (Own to) (Own left) (Own right) ∷ [] else Bin o (Own to) (Own left) (Own right) ∷ [])
+bin_short : (o : BinOp) (to left right : ℕ) (d : Bool) →
+    IsShort 39 (if d then Jz (Own right) 2 ∷ Jmp 3 ∷ Trap 4 ∷ Bin o (Own to) (Own left) (Own right) ∷ [] else Bin o (Own to) (Own left) (Own right) ∷ [])
 bin_short o to left right true = ((omega arith, (omega arith, tt)), omega arith)
 bin_short o to left right false = (tt, omega arith)
 
+fill_forward : (s : Sizes) (k : ℕ) (b : Bool) (j c : ℕ) → AreForward k (fill_code s b j c)
+fill_forward s k b j zero = tt
+fill_forward s k true j (suc c) = fill_forward s (suc (suc k)) true (j + 1) c
+fill_forward s k false j (suc c) = fill_forward s (suc k) false (j + 1) c
+
+fill_length : (s : Sizes) (b : Bool) (j c : ℕ) → length (fill_code s b j c) ≤ 2 * c
+fill_length s b j zero = omega arith
+fill_length s true j (suc c) = omega (arith, fill_length s true (j + 1) c)
+fill_length s false j (suc c) = omega (arith, fill_length s false (j + 1) c)
+
+new_short : (s : Sizes) (to kind c : ℕ) (b : Bool) → c ≤ 15 → IsShort 39 (new_code s to kind c b)
+new_short s to kind c b few =
+    let fill : List Local = fill_code s b 1 c in
+    let last : List Local = Mov (Own to) (Temp 0) ∷ [] in (
+      (omega arith, forward_append 8 fill last (fill_forward s 8 b 1 c) tt),
+      omega (arith, fill_length s b 1 c, length-append (new_head s kind (length fill)) (fill ++ last), length-append fill last),
+    )
+
+short_if : (s : Sizes) (to kind c : ℕ) (b d : Bool) → nat_lt 15 c ≡ d →
+    IsShort 39 (if d then Trap 2 ∷ [] else new_code s to kind c b)
+short_if s to kind c b true e = (tt, omega arith)
+short_if s to kind c b false e = new_short s to kind c b (ltb-false 15 c e)
+
+made_short : (s : Sizes) (to kind : ℕ) (b : Bool) (o : Option ℕ) →
+    IsShort 39 (make_words s to kind b o)
+made_short s to kind b None = (tt, omega arith)
+made_short s to kind b (Some c) = short_if s to kind c b (nat_lt 15 c) refl
+
 pub forward_code : ForwardCode
-forward_code s h b (ir.Const to value) is = (tt, omega arith)
-forward_code s h b (ir.Copy to from) is = (tt, omega arith)
-forward_code s h b (ir.Bin o to left right) is = bin_short o to left right (divides o)
-forward_code s h b (ir.Jump place) is = (tt, omega arith)
-forward_code s h b (ir.Branch on place) is = (tt, omega arith)
-forward_code s h b (ir.Load to t) is =
+forward_code s h b (ir.Const to value) = (tt, omega arith)
+forward_code s h b (ir.Copy to from) = (tt, omega arith)
+forward_code s h b (ir.Bin o to left right) = bin_short o to left right (divides o)
+forward_code s h b (ir.Jump place) = (tt, omega arith)
+forward_code s h b (ir.Branch on place) = (tt, omega arith)
+forward_code s h b (ir.Load to t) =
     let checks = address_short s h t in
     let o : Option ℤ = address_offset s h t in
     (forward_append 0 (address_code s h t) (load_at to o) checks.0 (load_forward (0 + length (address_code s h t)) to o), omega (arith, checks.1, load_length to o, length-append (address_code s h t) (load_at to o)))
-forward_code s h b (ir.Store t from line) is =
+forward_code s h b (ir.Store t from line) =
     let checks = address_short s h t in
     let o : Option ℤ = address_offset s h t in
     (forward_append 0 (address_code s h t) (store_at b from o) checks.0 (store_forward (0 + length (address_code s h t)) b from o), omega (arith, checks.1, store_length b from o, length-append (address_code s h t) (store_at b from o)))
-forward_code s h b (ir.New to kind fill line) is = absurd is
-forward_code s h b (ir.Free from kind line) is = ((omega arith, (omega arith, (omega arith, (omega arith, (omega arith, tt))))), omega arith)
-forward_code s h b (ir.Call to function args) is = (tt, omega arith)
-forward_code s h b (ir.Return from) is = (tt, omega arith)
-forward_code s h b ir.Tick is = (tt, omega arith)
-forward_code s h b (ir.Trap kind) is = (tt, omega arith)
-forward_code s h b (ir.Log t) is = (tt, omega arith)
+forward_code s h b (ir.New to kind fill line) = made_short s to kind fill (object_words h kind)
+forward_code s h b (ir.Free from kind line) =
+    ((omega arith, (omega arith, (omega arith, (omega arith, (omega arith, tt))))), omega arith)
+forward_code s h b (ir.Call to function args) = (tt, omega arith)
+forward_code s h b (ir.Return from) = (tt, omega arith)
+forward_code s h b ir.Tick = (tt, omega arith)
+forward_code s h b (ir.Trap kind) = (tt, omega arith)
+forward_code s h b (ir.Log t) = (tt, omega arith)

@@ -8,7 +8,7 @@ use Rattle.cache_model.specs.Cache.{Words}
 use Rattle.pool_map.specs.declared.trap.TrapKind.{TrapKind}
 use Rattle.pool_map.specs.declared.trap.TrapKind.TheVariants as trap
 use Rattle.pm_machine.specs.declared.effect.Effect.{Effect}
-use Rattle.pm_machine.specs.declared.effect.Effect.TheVariants.{Loads, Stores, Logs, Flushes, Fences, Quiet}
+use Rattle.pm_machine.specs.declared.effect.Effect.TheVariants.{Loads, Scans, Stores, Logs, Flushes, Fences, Quiet}
 use Rattle.pm_machine.specs.declared.effect.End.{End}
 use Rattle.pm_machine.specs.declared.effect.End.TheVariants.{Halted, Trapped}
 use Rattle.pm_machine.specs.declared.frame.Frame.{Frame}
@@ -143,6 +143,7 @@ module _ (image : Image) (tidy : (f : ℕ) → IsTidyCode (slice_get image.parts
     Kept (Ends (Halted v)) = ⊥
     Kept (Ends (Trapped k)) = Unit {0}
     Kept (Goes (Loads w) t) = IsOpen image t × (t.dirty ≡ s.dirty)
+    Kept (Goes (Scans w many) t) = IsOpen image t × (t.dirty ≡ s.dirty)
     Kept (Goes (Stores w x) t) = IsOpen image t × (t.dirty ≡ insert_key nat_eq s.dirty (w / 8))
     Kept (Goes (Logs w) t) = IsOpen image t × (t.dirty ≡ s.dirty)
     Kept (Goes (Flushes l) t) = ⊥
@@ -151,6 +152,7 @@ module _ (image : Image) (tidy : (f : ℕ) → IsTidyCode (slice_get image.parts
 
     kept_opens : (e : Effect) (t : State) → Kept (Goes e t) → IsOpen image t
     kept_opens (Loads w) t h = h.0
+    kept_opens (Scans w many) t h = h.0
     kept_opens (Stores w x) t h = h.0
     kept_opens (Logs w) t h = h.0
     kept_opens (Flushes l) t h = absurd h
@@ -159,7 +161,10 @@ module _ (image : Image) (tidy : (f : ℕ) → IsTidyCode (slice_get image.parts
 
     one_tidy : (e : Effect) (t : State) (end : End) (rest : List Effect) → Kept (Goes e t) → Tidies t.dirty end rest → Tidies s.dirty end (e ∷ rest)
     one_tidy (Loads w) t (Halted v) rest kept h = subst (λ (ls : List ℕ). IsTidy ls rest) kept.1 h
+    one_tidy (Scans w many) t (Halted v) rest kept h =
+        subst (λ (ls : List ℕ). IsTidy ls rest) kept.1 h
     one_tidy (Loads w) t (Trapped k) rest kept h = h
+    one_tidy (Scans w many) t (Trapped k) rest kept h = h
     one_tidy (Stores w x) t (Halted v) rest kept h = subst (λ (ls : List ℕ). IsTidy ls rest) kept.1 h
     one_tidy (Stores w x) t (Trapped k) rest kept h = h
     one_tidy (Logs w) t (Halted v) rest kept h = subst (λ (ls : List ℕ). IsTidy ls rest) kept.1 h
@@ -260,6 +265,8 @@ module _ (image : Image) (tidy : (f : ℕ) → IsTidyCode (slice_get image.parts
     ran_at (Some (op.Jmp t)) = by_kept (Some (op.Jmp t)) (λ e. (record { here = leads_to (op.Jmp t) e; below = is_open.below; last = is_open.last }, refl))
     ran_at (Some (op.Jz a t)) = by_kept (Some (op.Jz a t)) (λ e. kept_branch t (int_eq (read s a) (pos 0)) (leads_to (op.Jz a t) e) (behind s (op.Jz a t) e))
     ran_at (Some (op.Load r a o)) = by_kept (Some (op.Load r a o)) (λ e. kept_load r (target image s a o) (behind s (op.Load r a o) e))
+    ran_at (Some (op.Find r)) =
+        by_kept (Some (op.Find r)) (λ e. (record { here = behind s (op.Find r) e; below = is_open.below; last = is_open.last }, refl))
     ran_at (Some (op.Store a o b)) = by_kept (Some (op.Store a o b)) (λ e. kept_store (read s b) (target image s a o) (behind s (op.Store a o b) e))
     ran_at (Some (op.Log a o)) = by_kept (Some (op.Log a o)) (λ e. kept_log (target image s a o) (behind s (op.Log a o) e))
     ran_at (Some op.Flush) = λ k end es next h e. flushed_tidies s.dirty end es (flushed (suc k) n s heap end es e h)

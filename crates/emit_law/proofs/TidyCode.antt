@@ -14,7 +14,7 @@ use Rattle.pm_machine.specs.declared.op.Op.{Op}
 use Rattle.pm_machine.specs.declared.op.Op.TheVariants as op
 use Rattle.pm_machine.specs.declared.op.Function.{Function}
 use Rattle.pm_alloc.specs.declared.local.Local.{Local}
-use Rattle.pm_alloc.specs.declared.local.Local.TheVariants.{Const, Mov, Bin, Jmp, Jz, Load, Store, Log, Tick, Trap}
+use Rattle.pm_alloc.specs.declared.local.Local.TheVariants.{Const, Mov, Bin, Jmp, Jz, Load, Store, Find, Log, Tick, Trap}
 use Rattle.pm_alloc.specs.Placing.{sum, placed}
 use Rattle.codegen.specs.Names.{is_below}
 use Rattle.codegen.specs.Emit.{local_code, control, return_code, width, is_log, places, place_in, instruction_code, code_from, function_code, has_room, trap_function, with_code, function_of, known}
@@ -44,6 +44,7 @@ LeadsIn all (op.Const r v) = Unit {0}
 LeadsIn all (op.Mov r a) = Unit {0}
 LeadsIn all (op.Bin o r a b) = Unit {0}
 LeadsIn all (op.Load r a o) = Unit {0}
+LeadsIn all (op.Find r) = Unit {0}
 LeadsIn all (op.Store a o b) = Unit {0}
 LeadsIn all (op.Log a o) = Unit {0}
 LeadsIn all op.Flush = Unit {0}
@@ -80,6 +81,7 @@ placed_simple r p (Bin o a b c) = record { plain = tt; before = λ next h. h }
 placed_simple r p (Jmp t) = record { plain = tt; before = λ next h. tt }
 placed_simple r p (Jz a t) = record { plain = tt; before = λ next h. h }
 placed_simple r p (Load a b o) = record { plain = tt; before = λ next h. h }
+placed_simple r p (Find a) = record { plain = tt; before = λ next h. h }
 placed_simple r p (Store a o b) = record { plain = tt; before = λ next h. h }
 placed_simple r p (Log a o) = record { plain = tt; before = λ next h. h }
 placed_simple r p Tick = record { plain = tt; before = λ next h. h }
@@ -132,6 +134,7 @@ piece_leads all r p n lands (l ∷ piece) ok =
     one_leads (Mov a b) ok = tt
     one_leads (Bin o a b c) ok = tt
     one_leads (Load a b o) ok = tt
+    one_leads (Find a) ok = tt
     one_leads (Store a o b) ok = tt
     one_leads (Log a o) ok = tt
     one_leads Tick ok = tt

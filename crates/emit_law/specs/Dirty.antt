@@ -17,3 +17,9 @@ CleanLaw = (image : Image) (k : ℕ) (m b : Moment) → IsClean image m.state �
 
 abbrev pub FewLines : Type 0
 FewLines = (image : Image) (s : State) → IsClean image s → length s.dirty ≤ root_lines image.parts.sizes + 2 * image.parts.sizes.slots
+
+-- no step makes more than one line dirty
+abbrev pub GrowLaw : Type 0
+GrowLaw =
+    (image : Image) (k : ℕ) (m b : Moment) → go image k m ≡ On b →
+    length b.state.dirty ≤ length m.state.dirty + k

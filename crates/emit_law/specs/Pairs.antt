@@ -8,7 +8,7 @@ use Rattle.pm_machine.specs.declared.effect.Effect.{Effect}
 use Rattle.pm_machine.specs.declared.effect.End.{End}
 use Rattle.pm_machine.specs.declared.image.Image.{Image}
 use Rattle.pm_machine.specs.declared.op.Op.{Op}
-use Rattle.pm_machine.specs.declared.op.Op.TheVariants.{Const, Mov, Bin, Jmp, Jz, Load, Store, Log, Flush, Fence, Call, Ret, Tick, Trap, Halt}
+use Rattle.pm_machine.specs.declared.op.Op.TheVariants.{Const, Mov, Bin, Jmp, Jz, Load, Store, Find, Log, Flush, Fence, Call, Ret, Tick, Trap, Halt}
 use Rattle.pm_machine.specs.declared.op.Function.{Function}
 use Rattle.pm_machine.specs.Machine.{State, Finished, run}
 use Rattle.codegen.specs.Emit.{functions_of}
@@ -23,6 +23,7 @@ IsStoreOf a o (Bin op r b c) = ⊥
 IsStoreOf a o (Jmp t) = ⊥
 IsStoreOf a o (Jz b t) = ⊥
 IsStoreOf a o (Load r b p) = ⊥
+IsStoreOf a o (Find r) = ⊥
 IsStoreOf a o (Log b p) = ⊥
 IsStoreOf a o Flush = ⊥
 IsStoreOf a o Fence = ⊥
@@ -45,6 +46,7 @@ ArePaired (Bin op r a b ∷ ops) = ArePaired ops
 ArePaired (Jmp t ∷ ops) = ArePaired ops
 ArePaired (Jz a t ∷ ops) = ArePaired ops
 ArePaired (Load r a o ∷ ops) = ArePaired ops
+ArePaired (Find r ∷ ops) = ArePaired ops
 ArePaired (Store a o b ∷ ops) = ArePaired ops
 ArePaired (Flush ∷ ops) = ArePaired ops
 ArePaired (Fence ∷ ops) = ArePaired ops

@@ -5,7 +5,7 @@ use Rattle.std.specs.List.{AllByRecursion}
 use Rattle.cache_model.specs.Cache.{Words}
 use Rattle.pool_map.specs.Trap.{trap_of}
 use Rattle.pm_machine.specs.declared.effect.Effect.{Effect}
-use Rattle.pm_machine.specs.declared.effect.Effect.TheVariants.{Loads, Stores, Logs, Flushes, Fences, Quiet}
+use Rattle.pm_machine.specs.declared.effect.Effect.TheVariants.{Loads, Scans, Stores, Logs, Flushes, Fences, Quiet}
 use Rattle.pm_machine.specs.declared.effect.End.TheVariants.{Trapped}
 use Rattle.pm_machine.specs.declared.frame.Frame.{Frame}
 use Rattle.pm_machine.specs.declared.image.Image.{Image}
@@ -13,7 +13,7 @@ use Rattle.pm_machine.specs.Machine.{fetch_in, trap_at}
 use Rattle.pm_alloc.specs.declared.local.Reg.{Reg}
 use Rattle.pm_alloc.specs.declared.local.Reg.TheVariants.{Own, Temp}
 use Rattle.pm_alloc.specs.declared.local.Local.{Local}
-use Rattle.pm_alloc.specs.declared.local.Local.TheVariants.{Const, Mov, Bin, Jmp, Jz, Load, Store, Log, Tick, Trap}
+use Rattle.pm_alloc.specs.declared.local.Local.TheVariants.{Const, Mov, Bin, Jmp, Jz, Load, Store, Find, Log, Tick, Trap}
 use Rattle.pm_alloc.specs.Placing.{placed}
 use Rattle.pm_alloc.specs.Runs.{Next, Goes, Traps, Off, run}
 use Rattle.pm_alloc.specs.LocalRun.{World, Loc, step}
@@ -23,6 +23,7 @@ use Rattle.emit_law.specs.Moments.{Moment, Stage, On, Over, go}
 abbrev pub heard : List Effect → List Effect
 heard [] = []
 heard (Loads w ∷ es) = Loads w ∷ heard es
+heard (Scans w many ∷ es) = Scans w many ∷ heard es
 heard (Stores w x ∷ es) = Stores w x ∷ heard es
 heard (Logs w ∷ es) = Logs w ∷ heard es
 heard (Flushes l ∷ es) = Flushes l ∷ heard es
@@ -42,6 +43,7 @@ IsFine n base (Bin o r a b) = IsReg base r × IsReg base a × IsReg base b
 IsFine n base (Jmp t) = t ≤ n
 IsFine n base (Jz a t) = IsReg base a × (t ≤ n)
 IsFine n base (Load r a o) = IsReg base r × IsReg base a
+IsFine n base (Find r) = IsReg base r
 IsFine n base (Store a o b) = IsReg base a × IsReg base b
 IsFine n base (Log a o) = IsReg base a
 IsFine n base Tick = Unit {0}

@@ -9,7 +9,7 @@ use Rattle.pm_machine.specs.declared.effect.End.TheVariants.{Halted, Trapped}
 use Rattle.pm_machine.specs.declared.frame.Frame.{Frame}
 use Rattle.pm_machine.specs.declared.image.Image.{Image}
 use Rattle.pm_machine.specs.declared.op.Op.{Op}
-use Rattle.pm_machine.specs.declared.op.Op.TheVariants.{Const, Mov, Bin, Jmp, Jz, Load, Store, Log, Flush, Fence, Call, Ret, Tick, Trap, Halt}
+use Rattle.pm_machine.specs.declared.op.Op.TheVariants.{Const, Mov, Bin, Jmp, Jz, Load, Store, Find, Log, Flush, Fence, Call, Ret, Tick, Trap, Halt}
 use Rattle.pm_machine.specs.declared.op.Function.{Function}
 use Rattle.pm_machine.specs.Machine.{State, Finished, run, fetch, fetch_in}
 use Rattle.run_law.specs.Sound.{IsTidy, IsStill}
@@ -22,6 +22,7 @@ IsPlain (Bin o r a b) = Unit {0}
 IsPlain (Jmp t) = Unit {0}
 IsPlain (Jz a t) = Unit {0}
 IsPlain (Load r a o) = Unit {0}
+IsPlain (Find r) = Unit {0}
 IsPlain (Store a o b) = Unit {0}
 IsPlain (Log a o) = Unit {0}
 IsPlain Flush = Unit {0}
@@ -44,6 +45,7 @@ IsBefore (Bin o r a b) next = IsPlainAt next
 IsBefore (Jmp t) next = Unit {0}
 IsBefore (Jz a t) next = IsPlainAt next
 IsBefore (Load r a o) next = IsPlainAt next
+IsBefore (Find r) next = IsPlainAt next
 IsBefore (Store a o b) next = IsPlainAt next
 IsBefore (Log a o) next = IsPlainAt next
 IsBefore Flush next = next ≡ Some Fence
@@ -62,6 +64,7 @@ LeadsPlain found (Const r v) = Unit {0}
 LeadsPlain found (Mov r a) = Unit {0}
 LeadsPlain found (Bin o r a b) = Unit {0}
 LeadsPlain found (Load r a o) = Unit {0}
+LeadsPlain found (Find r) = Unit {0}
 LeadsPlain found (Store a o b) = Unit {0}
 LeadsPlain found (Log a o) = Unit {0}
 LeadsPlain found Flush = Unit {0}

@@ -3,9 +3,8 @@
 //! `specs/`, each a clause of a function that does nothing.
 #![tactic(auto)]
 
-ghost use Rattle.emit_law.specs.Dirty.{CleanLaw, FewLines};
+ghost use Rattle.emit_law.specs.Dirty.{CleanLaw, FewLines, GrowLaw};
 ghost use Rattle.emit_law.specs.Moments.{RunsLaw};
-ghost use Rattle.emit_law.specs.NewSteps.{NewStepsLaw};
 ghost use Rattle.emit_law.specs.Pairs.{EmitsPairs, PairedLaw};
 ghost use Rattle.emit_law.specs.Placed.{PlacedLaw};
 ghost use Rattle.emit_law.specs.Returns.{ReturnLaw};
@@ -46,8 +45,8 @@ pub fn sound_law()
     ensures run { SoundRunLaw }
 {}
 
-/// Each instruction that stays in its function, but `new`, has a piece of at most 27 instructions that
-/// only leads forward; from any place of such a piece the machine comes behind it, or to an end, in at
+/// Each instruction that stays in its function has a piece of at most 39 instructions that only leads
+/// forward; from any place of such a piece the machine comes behind it, or to an end, in at
 /// most as many steps as are left of it.
 pub fn forward_law()
     ensures code { ForwardCode }
@@ -60,15 +59,10 @@ pub fn return_law()
     ensures { ReturnLaw }
 {}
 
-/// From the start of the code of `new` the machine comes behind it, or to an end, in at most 6 N + 42
-/// steps, whether the log has room or not.
-pub fn new_steps_law()
-    ensures { NewStepsLaw }
-{}
-
 /// In a run no line is dirty twice, and each is one of the heap's; so there are at most as many as the
-/// heap has lines.
+/// heap has lines. A step makes at most one more dirty.
 pub fn dirty_law()
     ensures run { CleanLaw }
     ensures few { FewLines }
+    ensures grow { GrowLaw }
 {}

@@ -7,7 +7,6 @@ use Rattle.std.proofs.lemmas.Bool.{lt-ltb, le-ltb}
 use Rattle.cache_model.specs.Cache.{Words}
 use Rattle.pool_map.specs.declared.trap.TrapKind.TheVariants as kinds
 use Rattle.pool_map.specs.PoolMap.{PoolMap}
-use Rattle.pool_layout.specs.Sizes.{root_lines}
 use Rattle.ir.specs.declared.instruction.Instruction.{Instruction}
 use Rattle.ir.specs.declared.instruction.Instruction.TheVariants as ir
 use Rattle.ir.specs.declared.function.IrFunction.{IrFunction}
@@ -26,11 +25,10 @@ use Rattle.pm_machine.specs.Machine as machine
 use Rattle.codegen.specs.Emit.{place_in, instruction_code, return_code}
 use Rattle.emit_law.specs.Moments.{Moment, Stage, On, Over, behind, staged, go}
 use Rattle.emit_law.specs.Standing.{logged_before, table_of}
-use Rattle.emit_law.proofs.Dirty.{few_lines}
 use Rattle.piece_law.specs.Shows.{done}
 use Rattle.piece_law.specs.Stands.{Stands}
 use Rattle.match_law.specs.Compiled.{IsCompiled}
-use Rattle.match_law.specs.Match.{IsOpenIn, is_last, Waits, AreMatched, MovesToo, most}
+use Rattle.match_law.specs.Match.{IsOpenIn, is_last, Waits, AreMatched, MovesToo, own, flushes}
 use Rattle.match_law.proofs.Runs.{single, returns}
 use Rattle.match_law.proofs.Registers.{set_put, placed_is, placed_length}
 use Rattle.match_law.proofs.Places.{first_is, stands_op, place_next}
@@ -98,7 +96,8 @@ module _ (image : Image) (program : Ir) (c : IsCompiled image program) (f p : �
 
   one_step : (i : Instruction) (o : Op) (mv : Move) → slice_get u.code p ≡ Some i →
       slice_get (instruction_code image.parts.sizes program.shapes u.tx u.registers (table_of image.parts.sizes program.shapes u) (to_place p) marked i) 0 ≡ Some o →
-      MovesToo image program [] mv m (staged m (tally (machine.act image m.heap m.records m.state (Some o)))) → (n : ℕ) × (n ≤ most image) × MovesToo image program [] mv m (go image n m)
+      MovesToo image program [] mv m (staged m (tally (machine.act image m.heap m.records m.state (Some o)))) →
+      (n : ℕ) × (n ≤ own + flushes mv m) × MovesToo image program [] mv m (go image n m)
   one_step i o mv e there h =
       (suc zero, omega arith, subst (λ (g : Stage). MovesToo image program [] mv m g) (sym (single image m o (stands_first i e o there))) h)
 
@@ -168,17 +167,17 @@ module _ (image : Image) (program : Ir) (c : IsCompiled image program) (f p : �
     stands_return b tx k o there = stands (ir.Return from) e k o (subst (λ (d : Bool). slice_get (return_code d from ++ []) k ≡ Some o) (sym tx) there)
 
     -- of a transaction
-    ends : u.tx ≡ true → (n : ℕ) × (n ≤ most image) × MovesToo image program [] (code.Ends (code.Ended w (at regs from) t)) m (go image n m)
+    ends : u.tx ≡ true →
+        (n : ℕ) × (n ≤ own + length m.state.dirty) × MovesToo image program [] (code.Ends (code.Ended w (at regs from) t)) m (go image n m)
     ends tx =
         let z : m.state.top.place + 0 ≡ m.state.top.place = omega arith in
         let two : m.state.top.place + 2 ≡ m.state.top.place + 1 + 1 = omega arith in
         let first : fetch image m.state ≡ Some op.Flush = ap (λ (j : ℕ). fetch_in j (slice_get image.parts.functions m.state.top.function)) (sym z) ∙ stands_return true tx 0 op.Flush refl in
         let second : fetch image (passed m.state) ≡ Some op.Fence = stands_return true tx 1 op.Fence refl in
         let third : fetch image (passed (passed m.state)) ≡ Some (op.Halt from) = ap (λ (j : ℕ). fetch_in j (slice_get image.parts.functions m.state.top.function)) (sym two) ∙ stands_return true tx 2 (op.Halt from) refl in
-        let ended = returns image from m first second third in
-        let few : length m.state.dirty ≤ root_lines image.parts.sizes + 2 * image.parts.sizes.slots = few_lines image m.state same.clean in (
+        let ended = returns image from m first second third in (
           length m.state.dirty + 3,
-          omega (arith, c.fits.pool.lines),
+          omega arith,
           inl (record {
             last = ended.last;
             is = ended.is ∙ ap (λ (v : ℤ). Over (Halted v) ended.last) (same.top.holds from low);
@@ -190,7 +189,8 @@ module _ (image : Image) (program : Ir) (c : IsCompiled image program) (f p : �
 
     -- of a called function
     back : (h q : ℕ) (rs : List ℤ) (r : ℕ) (cs : List code.Frame) → u.tx ≡ false → Waits image.parts.sizes program m.state.top.to (code.frame h q rs r ∷ cs) m.state.below →
-        (n : ℕ) × (n ≤ most image) × MovesToo image program [] (code.Goes (Here h q (put rs r (at regs from)) cs w t)) m (go image n m)
+        (n : ℕ) × (n ≤ own + 0)
+        × MovesToo image program [] (code.Goes (Here h q (put rs r (at regs from)) cs w t)) m (go image n m)
     back h q rs r cs tx waits =
         let hs : List Frame = waits.0 in
         let g : Frame = waits.1 in
@@ -231,7 +231,8 @@ module _ (image : Image) (program : Ir) (c : IsCompiled image program) (f p : �
         )
 
     gives_back : (cs : List code.Frame) → u.tx ≡ is_last cs → Waits image.parts.sizes program m.state.top.to cs m.state.below →
-        (n : ℕ) × (n ≤ most image) × MovesToo image program [] (gives cs (at regs from) w t) m (go image n m)
+        (n : ℕ) × (n ≤ own + flushes (gives cs (at regs from) w t) m)
+        × MovesToo image program [] (gives cs (at regs from) w t) m (go image n m)
     gives_back [] tx waits = ends tx
     gives_back (code.frame h q rs r ∷ cs) tx waits = back h q rs r cs tx waits
 

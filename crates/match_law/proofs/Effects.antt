@@ -1,7 +1,7 @@
 -- Lists of effects, from the first on and from the newest on.
 use Rattle.std.proofs.Common.{◌≡◌, List, [], ◌∷◌, ◌++◌, refl, sym, ap, ◌∙◌}
 use Rattle.pm_machine.specs.declared.effect.Effect.{Effect}
-use Rattle.pm_machine.specs.declared.effect.Effect.TheVariants.{Loads, Stores, Logs, Flushes, Fences, Quiet}
+use Rattle.pm_machine.specs.declared.effect.Effect.TheVariants.{Loads, Scans, Stores, Logs, Flushes, Fences, Quiet}
 use Rattle.emit_law.specs.Moments.{onto}
 use Rattle.emit_law.specs.Placed.{heard}
 use Rattle.match_law.specs.Accesses.{accesses}
@@ -9,6 +9,8 @@ use Rattle.match_law.specs.Accesses.{accesses}
 pub accesses_heard : (es : List Effect) → accesses (heard es) ≡ accesses es
 accesses_heard [] = refl
 accesses_heard (Loads w ∷ es) = ap (λ (fs : List Effect). Loads w ∷ fs) (accesses_heard es)
+accesses_heard (Scans w many ∷ es) =
+    ap (λ (fs : List Effect). Scans w many ∷ fs) (accesses_heard es)
 accesses_heard (Stores w x ∷ es) = ap (λ (fs : List Effect). Stores w x ∷ fs) (accesses_heard es)
 accesses_heard (Logs w ∷ es) = ap (λ (fs : List Effect). Logs w ∷ fs) (accesses_heard es)
 accesses_heard (Flushes l ∷ es) = accesses_heard es
@@ -18,6 +20,7 @@ accesses_heard (Quiet ∷ es) = accesses_heard es
 pub accesses_onto : (es seen : List Effect) → accesses (onto es seen) ≡ onto (accesses es) (accesses seen)
 accesses_onto [] seen = refl
 accesses_onto (Loads w ∷ es) seen = accesses_onto es (Loads w ∷ seen)
+accesses_onto (Scans w many ∷ es) seen = accesses_onto es (Scans w many ∷ seen)
 accesses_onto (Stores w x ∷ es) seen = accesses_onto es (Stores w x ∷ seen)
 accesses_onto (Logs w ∷ es) seen = accesses_onto es (Logs w ∷ seen)
 accesses_onto (Flushes l ∷ es) seen = accesses_onto es (Flushes l ∷ seen)

@@ -85,6 +85,6 @@ kept_all piece_law fits_law shows_law cuts_law words_law image program k tx entr
     let words : IsWordState (code.start entry.function args w image.parts.sizes.ticks) = (arguments, tt, pool) in
     let all = whole image program piece_law fits_law shows_law cuts_law words_law c k (code.start entry.function args w image.parts.sizes.ticks) (first_moment image program c tx entry found args heap w) words
     (begins image program c tx entry found args heap w stands fits) in
-    kept image program (first_moment image program c tx entry found args heap w).state heap all.0 (k * most image) all.1
+    kept image program (first_moment image program c tx entry found args heap w).state heap all.0 (k * most) (omega (arith, all.1))
     (deeds program k (code.start entry.function args w image.parts.sizes.ticks)) (code.exec program k (code.start entry.function args w image.parts.sizes.ticks)) (word_run words_law program k (code.start entry.function args w image.parts.sizes.ticks) c.constants words)
     (never_stuck program c.well k (code.start entry.function args w image.parts.sizes.ticks) (begins_within image program c tx entry found args heap w, tt)) all.2

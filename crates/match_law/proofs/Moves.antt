@@ -1,5 +1,5 @@
 -- What a piece does, and the machine with it.
-use Rattle.std.proofs.Common.{◌≡◌, inl, inr, ℕ, suc, Bool, List, ◌∷◌, ℤ, refl, sym, ap, ◌∙◌, subst, ◌≤◌, Option}
+use Rattle.std.proofs.Common.{◌≡◌, inl, inr, ℕ, suc, ◌+◌, Bool, List, ◌∷◌, ℤ, refl, sym, ap, ◌∙◌, subst, ◌≤◌, Option}
 use Rattle.pool_map.specs.declared.trap.TrapKind.{TrapKind}
 use Rattle.pool_map.specs.declared.trap.TrapKind.TheVariants as kinds
 use Rattle.pool_map.specs.Trap.{trap_number}
@@ -12,7 +12,7 @@ use Rattle.code_meaning.specs.Code as code
 use Rattle.code_meaning.specs.Deeds.{Deed, deeds_at}
 use Rattle.ir.specs.declared.instruction.Instruction.{Instruction}
 use Rattle.pm_machine.specs.declared.effect.Effect.{Effect}
-use Rattle.pm_machine.specs.declared.effect.Effect.TheVariants.{Loads, Stores, Logs}
+use Rattle.pm_machine.specs.declared.effect.Effect.TheVariants.{Loads, Scans, Stores, Logs}
 use Rattle.pm_machine.specs.declared.effect.End.{End}
 use Rattle.pm_machine.specs.declared.effect.End.TheVariants.{Trapped}
 use Rattle.pm_machine.specs.declared.image.Image.{Image}
@@ -23,16 +23,18 @@ use Rattle.emit_law.specs.Moments.{Moment, Stage, On, Over, onto, go}
 use Rattle.emit_law.specs.Placed.{heard, Setting, Same, Follows}
 use Rattle.piece_law.specs.Law.{onward, Behind, Does, goes, traps, full}
 use Rattle.piece_law.specs.Stands.{heap_word, header_word}
-use Rattle.piece_law.specs.Shows.{Shows, done, looks, reads, plain, logs, heads, IsCut}
+use Rattle.piece_law.specs.Shows.{Shows, done, looks, scans, reads, plain, logs, heads, IsCut}
 use Rattle.match_law.specs.Accesses.{accesses}
 use Rattle.match_law.specs.Compiled.{is_logged}
-use Rattle.match_law.specs.Match.{AreMatched, StopsFull, EndsToo, MovesToo, most}
+use Rattle.match_law.specs.Match.{AreMatched, StopsFull, EndsToo, MovesToo, own, flushes}
 use Rattle.match_law.proofs.Effects.{accesses_heard, accesses_onto}
 use Rattle.match_law.proofs.Leads.{LeadsOn, trap_known}
 
 pub shown_accesses : (s : Sizes) (logged : Site → Bool) (ds : List Deed) (es : List Effect) → Shows s logged ds es → accesses es ≡ es
 shown_accesses s logged ds es done = refl
 shown_accesses s logged ds es (looks {ds = cs} {es = fs} q there h) = ap (λ (gs : List Effect). Loads (header_word s q) ∷ gs) (shown_accesses s logged cs fs h)
+shown_accesses s logged ds es (scans {ds = cs} {es = fs} n few h) =
+    ap (λ (gs : List Effect). Scans (header_word s 1) n ∷ gs) (shown_accesses s logged cs fs h)
 shown_accesses s logged ds es (reads {ds = cs} {es = fs} x there h) = ap (λ (gs : List Effect). Loads (heap_word s x) ∷ gs) (shown_accesses s logged cs fs h)
 shown_accesses s logged ds es (plain {ds = cs} {es = fs} site x v there is h) = ap (λ (gs : List Effect). Stores (heap_word s x) v ∷ gs) (shown_accesses s logged cs fs h)
 shown_accesses s logged ds es (logs {ds = cs} {es = fs} site x v there is h) = ap (λ (gs : List Effect). Logs (heap_word s x) ∷ Stores (heap_word s x) v ∷ gs) (shown_accesses s logged cs fs h)
@@ -48,7 +50,9 @@ seen_is es seen before hear only =
 
 -- the machine's steps for an instruction
 abbrev pub Steps : Image → Ir → (f p : ℕ) → List ℤ → List code.Frame → PoolMap → (t : ℕ) → Moment → Option Instruction → Type 0
-Steps image ir f p regs callers w t m o = (n : ℕ) × (n ≤ most image) × MovesToo image ir (deeds_at ir.shapes f p regs w o) (code.act ir o f p regs callers w t) m (go image n m)
+Steps image ir f p regs callers w t m o =
+    (n : ℕ) × (n ≤ own + flushes (code.act ir o f p regs callers w t) m)
+    × MovesToo image ir (deeds_at ir.shapes f p regs w o) (code.act ir o f p regs callers w t) m (go image n m)
 
 module _ (image : Image) (ir : Ir) where
   -- with a full log the machine ends so, whatever the code does

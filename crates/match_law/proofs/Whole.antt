@@ -1,5 +1,5 @@
 -- The whole run, step by step.
-use Rattle.std.proofs.Common.{◌≡◌, inl, inr, ℕ, zero, suc, ◌+◌, ◌*◌, ◌≤◌, List, [], ◌∷◌, ◌++◌, refl, sym, ap, ◌∙◌, subst, arith, append_assoc, suc-mul}
+use Rattle.std.proofs.Common.{◌≡◌, inl, inr, ℕ, zero, suc, ◌+◌, ◌*◌, ◌≤◌, List, [], ◌∷◌, ◌++◌, length, refl, sym, ap, ◌∙◌, subst, arith, append_assoc, suc-mul}
 use Rattle.ir.specs.declared.function.Ir.{Ir}
 use Rattle.code_meaning.specs.Code.{State, Here, Move, go_on, step, exec}
 use Rattle.code_meaning.specs.Code as code
@@ -7,6 +7,7 @@ use Rattle.code_meaning.specs.Deeds.{Deed, deeds, deeds_of, deeds_on}
 use Rattle.pm_machine.specs.declared.effect.Effect.{Effect}
 use Rattle.pm_machine.specs.declared.image.Image.{Image}
 use Rattle.emit_law.specs.Moments.{Moment, Stage, go, onto}
+use Rattle.emit_law.proofs.Dirty.{grow_all}
 use Rattle.emit_law.proofs.Moments as moments
 use Rattle.piece_law.specs.Law.{PieceLaw}
 use Rattle.piece_law.specs.Pools.{FitsLaw}
@@ -14,7 +15,7 @@ use Rattle.piece_law.specs.Shows.{ShowsLaw, CutsLaw}
 use Rattle.piece_law.specs.Words.{IsWordState, IsWordMove, WordsLaw}
 use Rattle.match_law.specs.Accesses.{accesses}
 use Rattle.match_law.specs.Compiled.{IsCompiled, is_logged}
-use Rattle.match_law.specs.Match.{Match, HasShown, StopsFull, EndsToo, MovesToo, most, MatchLaw}
+use Rattle.match_law.specs.Match.{Match, HasShown, StopsFull, EndsToo, MovesToo, own, flushes, most, MatchLaw}
 use Rattle.match_law.proofs.Effects.{onto_append}
 use Rattle.match_law.proofs.Moves.{full_ends}
 use Rattle.match_law.proofs.Steps.{step_meets}
@@ -75,23 +76,27 @@ module _ (image : Image) (program : Ir) where
 
   module _ (piece_law : PieceLaw) (fits_law : FitsLaw) (shows_law : ShowsLaw) (cuts_law : CutsLaw) (words_law : WordsLaw) (c : IsCompiled image program) where
     abbrev Whole : ℕ → List Deed → code.End → Moment → Type 0
-    Whole k ds e m = (n : ℕ) × (n ≤ k * most image) × EndsToo image program ds e m (go image n m)
+    Whole k ds e m =
+        (n : ℕ) × (n ≤ k * most + length m.state.dirty)
+        × EndsToo image program ds e m (go image n m)
 
-    next : (k : ℕ) (ds : List Deed) (m : Moment) (n : ℕ) (mv : Move) → n ≤ most image → IsWordMove mv → MovesToo image program ds mv m (go image n m) →
+    next : (k : ℕ) (ds : List Deed) (m : Moment) (n : ℕ) (mv : Move) → n ≤ own + flushes mv m →
+        IsWordMove mv → MovesToo image program ds mv m (go image n m) →
         ((d : State) (b : Moment) → IsWordState d → Match image program d b → Whole k (deeds program k d) (exec program k d) b) → Whole (suc k) (ds ++ deeds_on (deeds program k) mv) (go_on (exec program k) mv) m
     next k ds m n (code.Goes d) few words (inl h) rest =
-        let total : suc k * most image ≡ k * most image + most image = suc-mul k (most image) in
-        let r = rest d h.to words h.match in (
+        let total : suc k * most ≡ k * most + most = suc-mul k most in
+        let r = rest d h.to words h.match in
+        let dirty : length h.to.state.dirty ≤ length m.state.dirty + n = grow_all image n m h.to h.is in (
           n + r.0,
           omega (arith, r.1, few),
           subst (λ (g : Stage). EndsToo image program (ds ++ deeds program k d) (exec program k d) m g) (sym (moments.go_on image n r.0 m h.to (go image r.0 h.to) h.is refl))
               (ends_on shows_law cuts_law ds (deeds program k d) m h.to (go image r.0 h.to) h.shown (exec program k d) r.2),
         )
     next k ds m n (code.Goes d) few words (inr h) rest =
-        let total : suc k * most image ≡ k * most image + most image = suc-mul k (most image) in
+        let total : suc k * most ≡ k * most + most = suc-mul k most in
         (n, omega (arith, few), full_ends image program (ds ++ deeds program k d) m (go image n m) (exec program k d) (full_more ds (deeds program k d) m (go image n m) h))
     next k ds m n (code.Ends e) few words h rest =
-        let total : suc k * most image ≡ k * most image + most image = suc-mul k (most image) in
+        let total : suc k * most ≡ k * most + most = suc-mul k most in
         (n, omega (arith, few), subst (λ (cs : List Deed). EndsToo image program cs e m (go image n m)) (sym (nothing_more ds)) h)
 
     pub whole : (k : ℕ) (d : State) (m : Moment) → IsWordState d → Match image program d m → Whole k (deeds program k d) (exec program k d) m

@@ -2,11 +2,12 @@
 -- flushes and its fences.
 use Rattle.std.specs.Prelude.{List, [], ◌∷◌}
 use Rattle.pm_machine.specs.declared.effect.Effect.{Effect}
-use Rattle.pm_machine.specs.declared.effect.Effect.TheVariants.{Loads, Stores, Logs, Flushes, Fences, Quiet}
+use Rattle.pm_machine.specs.declared.effect.Effect.TheVariants.{Loads, Scans, Stores, Logs, Flushes, Fences, Quiet}
 
 abbrev pub accesses : List Effect → List Effect
 accesses [] = []
 accesses (Loads w ∷ es) = Loads w ∷ accesses es
+accesses (Scans w many ∷ es) = Scans w many ∷ accesses es
 accesses (Stores w x ∷ es) = Stores w x ∷ accesses es
 accesses (Logs w ∷ es) = Logs w ∷ accesses es
 accesses (Flushes l ∷ es) = accesses es

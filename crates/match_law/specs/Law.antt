@@ -51,11 +51,12 @@ Keeps image ir heap ds (code.Trapped k) run = RunTraps image ir ds k run ⊎ Run
 Keeps image ir heap ds code.Unfinished run = Unit {0}
 Keeps image ir heap ds code.Stuck run = ⊥
 
--- Where k steps of the code of a transaction come to an end, at most 6 N + 121 steps of the machine for each of them come to one
--- too, from every heap that stands for the pool: to the same end, with a heap that stands for the code's pool, and with
--- loads, stores and logs that show the code's. Or the machine ends with a full log, and these show the code's up to the store
--- that found it full. The arguments and the pool's words are words.
+-- Where k steps of the code of a transaction come to an end, at most 80 steps of the machine for
+-- each of them come to one too, from every heap that stands for the pool: to the same end, with a
+-- heap that stands for the code's pool, and with loads, stores and logs that show the code's. Or
+-- the machine ends with a full log, and these show the code's up to the store that found it full.
+-- The arguments and the pool's words are words.
 abbrev pub KeepLaw : Type 0
 KeepLaw = (image : Image) (ir : Ir) (k tx : ℕ) (entry : TxEntry) (args : List ℤ) (heap : Words) (w : PoolMap) →
     IsCompiled image ir → slice_get image.parts.txs (tx - 1) ≡ Some entry → HoldWords args → HasWords w → Stands image.parts.sizes heap w → PoolFits ir.shapes w →
-    Keeps image ir heap (deeds ir k (start entry.function args w image.parts.sizes.ticks)) (exec ir k (start entry.function args w image.parts.sizes.ticks)) (mrun image (k * most image) heap tx args)
+    Keeps image ir heap (deeds ir k (start entry.function args w image.parts.sizes.ticks)) (exec ir k (start entry.function args w image.parts.sizes.ticks)) (mrun image (k * most) heap tx args)

@@ -104,11 +104,21 @@ abbrev pub MovesToo : Image → Ir → List Deed → Move → Moment → Stage �
 MovesToo image ir ds (code.Goes c) m g = GoesToo image ir ds c m g ⊎ StopsFull image ir ds m g
 MovesToo image ir ds (code.Ends e) m g = EndsToo image ir ds e m g
 
--- the machine's steps for an instruction
-abbrev pub most : Image → ℕ
-most image = 6 * image.parts.sizes.slots + 121
+-- an instruction's own steps, and the steps that flush each dirty line where it ends the run
+abbrev pub own : ℕ
+own = 40
+
+abbrev pub flushes : Move → Moment → ℕ
+flushes (code.Goes c) m = 0
+flushes (code.Ends e) m = length m.state.dirty
 
 -- One step of the code, and the machine's steps for it, from states that match, where the code's values are words.
 abbrev pub MatchLaw : Type 0
 MatchLaw = (image : Image) (ir : Ir) (c : State) (m : Moment) → IsCompiled image ir → IsWordState c → Match image ir c m →
-    (n : ℕ) × (n ≤ most image) × MovesToo image ir (deeds_of ir c) (step ir c) m (go image n m)
+    (n : ℕ) × (n ≤ own + flushes (step ir c) m)
+    × MovesToo image ir (deeds_of ir c) (step ir c) m (go image n m)
+
+-- The machine's steps for an instruction in all: as many of them as make lines dirty flush one each
+-- at the end.
+abbrev pub most : ℕ
+most = 2 * own

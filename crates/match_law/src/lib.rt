@@ -6,8 +6,8 @@
 ghost use Rattle.match_law.specs.Law.{KeepLaw};
 ghost use Rattle.match_law.specs.Match.{MatchLaw};
 
-/// From states that match, one step of the code and at most 6 N + 121 steps of the machine lead to
-/// states that match, or to the same end, or to a full log.
+/// From states that match, one step of the code and at most 40 steps of the machine, and at an end one
+/// more for each dirty line, lead to states that match, or to the same end, or to a full log.
 pub fn step_law()
     ensures { MatchLaw }
 {}

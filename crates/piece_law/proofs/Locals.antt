@@ -72,7 +72,8 @@ module _ (s : Sizes) (logged : Site → Bool) (shapes : Shapes) (f p : ℕ) (reg
   first = begin (at regs) x v
 
   abbrev pub Done : List Local → List Deed → Move → Type 0
-  Done piece ds move = (k : ℕ) × (k ≤ 6 * s.slots + 40) × Does s logged (length piece) v ds move (run (step s piece) k first)
+  Done piece ds move =
+      (k : ℕ) × (k ≤ 40) × Does s logged (length piece) v ds move (run (step s piece) k first)
 
   abbrev on_to : List ℤ → PoolMap → Move
   on_to regs' w' = code.Goes (code.Here f (suc p) regs' below w' v.ticks)

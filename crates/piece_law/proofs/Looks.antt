@@ -1,7 +1,9 @@
 -- The search for a free slot finds the pool's least free one, and looks at headers alone.
-use Rattle.std.proofs.Common.{◌≡◌, ℕ, zero, suc, ◌+◌, ◌<◌, ◌≤◌, Bool, true, false, List, [], ◌∷◌, length, Option, None, Some, IfSome, IsSomeAnd, get_or, ℤ, pos, negsuc, refl, sym, ap, ◌∙◌, subst, arith, length-set}
+use Rattle.std.proofs.Common.{◌≡◌, ℕ, zero, suc, ◌+◌, ◌<◌, ◌≤◌, Bool, true, false, List, [], ◌∷◌, length, Option, None, Some, IfSome, IsSomeAnd, get_or, ℤ, pos, negsuc, refl, sym, ap, ◌∙◌, subst, arith, ltb, length-set, ◌*◌, ◌-◌}
 use Rattle.std.specs.Prelude.{slice_get, nat_lt, if◌then◌else◌}
 use Rattle.std.specs.List.{AllByRecursion}
+use Rattle.std.specs.Ordering.{int_eq}
+use Rattle.std.proofs.lemmas.Bool.{lt-ltb, le-ltb}
 use Rattle.nvm_base.specs.Applied.{applied}
 use Rattle.cache_model.specs.Cache.{Words}
 use Rattle.pool_layout.specs.declared.limits.Sizes.{Sizes}
@@ -10,89 +12,69 @@ use Rattle.pool_map.specs.declared.object.Object.{Object}
 use Rattle.pool_map.specs.declared.shapes.StructShape.{StructShape}
 use Rattle.pool_map.specs.declared.shapes.Shapes.{Shapes}
 use Rattle.pool_map.specs.PoolFits.{PoolFits, ObjectFits, words_of, struct_at}
-use Rattle.pool_map.specs.PoolMap.{PoolMap, object_at, first_free, least_free}
+use Rattle.pool_map.specs.PoolMap.{PoolMap, first_free, least_free}
 use Rattle.ir.specs.declared.site.Site.{Site}
 use Rattle.pm_machine.specs.declared.effect.Effect.{Effect}
-use Rattle.pm_machine.specs.declared.effect.Effect.TheVariants.{Loads, Logs}
+use Rattle.pm_machine.specs.declared.effect.Effect.TheVariants.{Loads, Scans, Logs}
+use Rattle.pm_machine.specs.Find.{free_of, least, looks}
+use Rattle.pm_machine.proofs.Range.{looks_within}
 use Rattle.pm_alloc.specs.declared.local.Reg.{Reg}
 use Rattle.pm_alloc.specs.declared.local.Reg.TheVariants.{Own, Temp}
 use Rattle.pm_alloc.specs.declared.local.Local.{Local}
 use Rattle.pm_alloc.specs.declared.local.Local.TheVariants as local
 use Rattle.pm_alloc.specs.Runs.{Next, Goes, Traps, Off, then, run}
-use Rattle.pm_alloc.specs.LocalRun.{World, Loc, at_zero, read, write, go_to, tick, see, store, load, log, target, act, step}
-use Rattle.pm_alloc.specs.Search.{free_from, looked, HasHeaders, world}
-use Rattle.emit_law.specs.Moments.{onto}
+use Rattle.pm_alloc.specs.LocalRun.{World, Loc, at_zero, read, write, go_to, tick, see, searched, store, load, log, target, act, step}
 use Rattle.piece_law.specs.Stands.{Stands, header_of}
-use Rattle.piece_law.specs.Shows.{Shows, done, looks}
-use Rattle.piece_law.specs.Law.{onward}
-use Rattle.piece_law.proofs.Shown.{looks_heap, looks_records}
+use Rattle.piece_law.specs.Shows.{Shows, done, scans}
 
--- the looks of the search, in order
-abbrev pub looks_of : Sizes → Words → (k q : ℕ) → List Effect
-looks_of s heap zero q = []
-looks_of s heap (suc k) q = Loads (slot_word s q) ∷ at_zero (heap (slot_word s q)) [] (looks_of s heap k (q + 1))
+-- a slot's number, 0 where there is none
+abbrev pub number_of : Option ℕ → ℕ
+number_of None = 0
+number_of (Some q) = q
 
 module _ (s : Sizes) (heap : Words) where
-  looked_at : (k q : ℕ) (seen : List Effect) (z : ℤ) → looked s heap k (q + 1) (Loads (slot_word s q) ∷ seen) ≡ onto (looks_of s heap k (q + 1)) (Loads (slot_word s q) ∷ seen) →
-      at_zero z (Loads (slot_word s q) ∷ seen) (looked s heap k (q + 1) (Loads (slot_word s q) ∷ seen)) ≡ onto (at_zero z [] (looks_of s heap k (q + 1))) (Loads (slot_word s q) ∷ seen)
-  looked_at k q seen (pos zero) e = refl
-  looked_at k q seen (pos (suc n)) e = e
-  looked_at k q seen (negsuc n) e = e
+  full_at : (structs : List StructShape) (kind n : ℕ) →
+      IsSomeAnd (struct_at structs kind) (λ shape. n ≡ words_of shape.fields) →
+      int_eq (pos kind) (pos 0) ≡ false
+  full_at structs zero n fits = absurd fits
+  full_at structs (suc kind) n fits =
+      let above : ltb 0 (suc kind) ≡ true = lt-ltb 0 (suc kind) (omega arith) in
+      let low : ltb (suc kind) 0 ≡ false = le-ltb (suc kind) 0 (omega arith) in
+      rw (low, above) refl
 
-  pub looked_is : (k q : ℕ) (seen : List Effect) → looked s heap k q seen ≡ onto (looks_of s heap k q) seen
-  looked_is zero q seen = refl
-  looked_is (suc k) q seen = looked_at k q seen (heap (slot_word s q)) (looked_is k (q + 1) (Loads (slot_word s q) ∷ seen))
-
-  show_at : (logged : Site → Bool) (z : ℤ) (es : List Effect) → Shows s logged [] es → Shows s logged [] (at_zero z [] es)
-  show_at logged (pos zero) es shows = done
-  show_at logged (pos (suc n)) es shows = shows
-  show_at logged (negsuc n) es shows = shows
-
-  pub looks_show : (logged : Site → Bool) (k q : ℕ) → 1 ≤ q → q + k ≤ s.slots + 1 → Shows s logged [] (looks_of s heap k q)
-  looks_show logged zero q low high = done
-  looks_show logged (suc k) q low high = looks q (low, omega arith) (show_at logged (heap (slot_word s q)) (looks_of s heap k (q + 1)) (looks_show logged k (q + 1) (omega arith) (omega arith)))
-
-  found_at : (structs : List StructShape) (k q kind n : ℕ) (o : Option ℕ) → IsSomeAnd (struct_at structs kind) (λ shape. n ≡ words_of shape.fields) → at_zero (pos kind) (Some q) o ≡ o
-  found_at structs k q zero n o fits = absurd fits
-  found_at structs k q (suc kind) n o fits = refl
-
-  free_in_list : (structs : List StructShape) (slots : List (Option Object)) (q : ℕ) → ((i : ℕ) → i < length slots → heap (slot_word s (q + i)) ≡ header_of (get_or slots i None)) → AllByRecursion (λ slot. IfSome slot (ObjectFits structs)) slots → free_from s heap (length slots) q ≡ first_free q slots
-  free_in_list structs [] q heads fits = refl
-  free_in_list structs (None ∷ slots) q heads fits =
-      let at : q + 0 ≡ q = omega arith in
-      let head : heap (slot_word s q) ≡ pos 0 = subst (λ (n : ℕ). heap (slot_word s n) ≡ pos 0) at (heads 0 (omega arith)) in
-      ap (λ (z : ℤ). at_zero z (Some q) (free_from s heap (length slots) (q + 1))) head
-  free_in_list structs (Some o ∷ slots) q heads fits =
-      let at : q + 0 ≡ q = omega arith in
+  free_in_list : (structs : List StructShape) (slots : List (Option Object)) (q w : ℕ) →
+      w ≡ slot_word s q → 1 ≤ q →
+      ((i : ℕ) → i < length slots → heap (slot_word s (q + i)) ≡ header_of (get_or slots i None)) →
+      AllByRecursion (λ slot. IfSome slot (ObjectFits structs)) slots →
+      free_of heap (length slots) q w ≡ number_of (first_free q slots)
+  free_in_list structs [] q w at low heads fits = refl
+  free_in_list structs (None ∷ slots) q w at low heads fits =
+      let same : slot_word s (q + 0) ≡ w = omega arith in
+      let head : heap w ≡ pos 0 = subst (λ (n : ℕ). heap n ≡ pos 0) same (heads 0 (omega arith)) in
+      ap (λ (z : ℤ). if int_eq z (pos 0) then q else free_of heap (length slots) (q + 1) (w + 16)) head
+  free_in_list structs (Some o ∷ slots) q w at low heads fits =
+      let same : slot_word s (q + 0) ≡ w = omega arith in
       let more : q + 1 ≡ suc q = omega arith in
-      let head : heap (slot_word s q) ≡ pos o.kind = subst (λ (n : ℕ). heap (slot_word s n) ≡ pos o.kind) at (heads 0 (omega arith)) in
-      ap (λ (z : ℤ). at_zero z (Some q) (free_from s heap (length slots) (q + 1))) head
-      ∙ found_at structs (length slots) q o.kind (length o.fields) (free_from s heap (length slots) (q + 1)) fits.0
-      ∙ ap (free_from s heap (length slots)) more
-      ∙ free_in_list structs slots (suc q) (λ i less. let next : q + suc i ≡ suc q + i = omega arith in subst (λ (n : ℕ). heap (slot_word s n) ≡ header_of (get_or slots i None)) next (heads (suc i) (omega arith))) fits.1
+      let head : heap w ≡ pos o.kind = subst (λ (n : ℕ). heap n ≡ pos o.kind) same (heads 0 (omega arith)) in
+      ap (λ (z : ℤ). if int_eq z (pos 0) then q else free_of heap (length slots) (q + 1) (w + 16)) head
+      ∙ ap (λ (b : Bool). if b then q else free_of heap (length slots) (q + 1) (w + 16)) (full_at structs o.kind (length o.fields) fits.0)
+      ∙ ap (λ (n : ℕ). free_of heap (length slots) n (w + 16)) more
+      ∙ free_in_list structs slots (suc q) (w + 16) (omega arith) (omega arith)
+      (λ i less. let next : q + suc i ≡ suc q + i = omega arith in subst (λ (n : ℕ). heap (slot_word s n) ≡ header_of (get_or slots i None)) next (heads (suc i) (omega arith))) fits.1
 
-pub least_is : (s : Sizes) (shapes : Shapes) (heap : Words) (w : PoolMap) → PoolFits shapes w → Stands s heap w → free_from s heap s.slots 1 ≡ least_free w
+pub least_is : (s : Sizes) (shapes : Shapes) (heap : Words) (w : PoolMap) → PoolFits shapes w →
+    Stands s heap w → least s heap ≡ number_of (least_free w)
 least_is s shapes heap w fits stands =
-    ap (λ (n : ℕ). free_from s heap n 1) (sym stands.slots)
-    ∙ free_in_list s heap shapes.structs w.slots 1 (λ i less. let at : suc i ≡ 1 + i = omega arith in subst (λ (n : ℕ). heap (slot_word s n) ≡ header_of (get_or w.slots i None)) at (stands.headers (suc i) (omega arith) (omega (arith, stands.slots)))) fits.1
+    ap (λ (n : ℕ). free_of heap n 1 (slot_word s 1)) (sym stands.slots)
+    ∙ free_in_list s heap shapes.structs w.slots 1 (slot_word s 1) refl (omega arith) (λ i less. let at : suc i ≡ 1 + i = omega arith in subst (λ (n : ℕ). heap (slot_word s n) ≡ header_of (get_or w.slots i None)) at (stands.headers (suc i) (omega arith) (omega (arith, stands.slots)))) fits.1
 
-header_number : (o : Option Object) → (n : ℕ) × (header_of o ≡ pos n)
-header_number None = (0, refl)
-header_number (Some o) = (o.kind, refl)
+-- the search shows nothing
+abbrev pub looks_of : Sizes → Words → List Effect
+looks_of s heap = Scans (slot_word s 1) (looks s heap) ∷ []
 
-pub headers_of : (s : Sizes) (heap : Words) (w : PoolMap) → Stands s heap w → HasHeaders s heap
-headers_of s heap w stands q low high = let h = header_number (object_at w q) in (h.0, stands.headers q low high ∙ h.1)
-
--- the search leaves the world as it was but for the looks
-pub searched_world : (s : Sizes) (logged : Site → Bool) (v : World) → world v.heap v.ticks v.records (looked s v.heap s.slots 1 v.seen) ≡ onward v (looks_of s v.heap s.slots 1) v.ticks
-searched_world s logged v =
-    let shows = looks_show s v.heap logged s.slots 1 (omega arith) (omega arith) in
-    λ i. record {
-      heap = sym (looks_heap s logged [] (looks_of s v.heap s.slots 1) v.heap shows refl) i;
-      seen = looked_is s v.heap s.slots 1 v.seen i;
-      ticks = v.ticks;
-      records = sym (looks_records s logged [] (looks_of s v.heap s.slots 1) v.records shows refl) i;
-    }
+pub looks_show : (s : Sizes) (heap : Words) (logged : Site → Bool) →
+    Shows s logged [] (looks_of s heap)
+looks_show s heap logged = scans (looks s heap) (omega (arith, looks_within s heap)) done
 
 -- no instruction changes the number of temporary registers
 abbrev Keeps : ℕ → Next World Loc → Type 0
@@ -137,6 +119,8 @@ act_keeps s l (Some (local.Bin o r a b)) = write_keeps (l.at + 1) l.own l.temp l
 act_keeps s l (Some (local.Jmp t)) = refl
 act_keeps s l (Some (local.Jz a t)) = jump_keeps l (read l.own l.temp a) t (l.at + 1)
 act_keeps s l (Some (local.Load r a o)) = load_keeps l r (target s (read l.own l.temp a) o)
+act_keeps s l (Some (local.Find r)) =
+    write_keeps (l.at + 1) l.own l.temp (searched s l.world) r (pos (least s l.world.heap))
 act_keeps s l (Some (local.Store a o b)) = store_keeps l (read l.own l.temp b) (target s (read l.own l.temp a) o)
 act_keeps s l (Some (local.Log a o)) = log_keeps s.records l (target s (read l.own l.temp a) o)
 act_keeps s l (Some local.Tick) = tick_keeps l l.world.ticks

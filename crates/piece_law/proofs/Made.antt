@@ -1,12 +1,11 @@
 -- A new object: its piece does what the instruction does.
-use Rattle.std.proofs.Common.{◌≡◌, ℕ, zero, suc, ◌+◌, ◌*◌, ◌≤◌, Bool, true, false, List, [], ◌∷◌, ◌++◌, length, Option, None, Some, ℤ, pos, refl, sym, ap, ◌∙◌, subst, arith, append_assoc, length-append, ltb, le-ltb, ⊎_elim}
+use Rattle.std.proofs.Common.{◌≡◌, ℕ, zero, suc, ◌+◌, ◌*◌, ◌≤◌, Bool, true, false, List, [], ◌∷◌, ◌++◌, length, Option, None, Some, ℤ, pos, refl, sym, ap, ◌∙◌, subst, arith, append_assoc, length-append, get_or, ltb, le-ltb, ⊎_elim}
 use Rattle.std.specs.Prelude.{◌+ℤ◌, if◌then◌else◌, option_and_then}
 use Rattle.std.specs.Int.{w64, int_wrap}
 use Rattle.std.specs.Option.{option_map_or}
 use Rattle.cache_model.specs.Cache.{Words}
 use Rattle.cache_model.specs.Cache as cache
 use Rattle.pool_layout.specs.declared.limits.Sizes.{Sizes}
-use Rattle.pool_layout.specs.Sizes.{slot_word}
 use Rattle.std.proofs.lemmas.Option.{slice_get_cases}
 use Rattle.pool_map.specs.declared.shapes.FieldShape.{FieldShape}
 use Rattle.pool_map.specs.declared.shapes.StructShape.{StructShape}
@@ -21,15 +20,15 @@ use Rattle.code_meaning.specs.Code as code
 use Rattle.code_meaning.specs.Deeds.{Deed, Heads, zeros, deeds_new, site}
 use Rattle.pm_machine.specs.declared.effect.Effect.{Effect}
 use Rattle.pm_machine.specs.Effects.{heap_end, records_end}
+use Rattle.pm_machine.specs.Find.{least}
 use Rattle.pm_alloc.specs.declared.local.Reg.TheVariants.{Own, Temp}
 use Rattle.pm_alloc.specs.declared.local.Local.{Local}
 use Rattle.pm_alloc.specs.declared.local.Local.TheVariants.{Mov, Trap}
 use Rattle.pm_alloc.specs.Pieces.{offset, fill_code, new_head, new_code}
 use Rattle.pm_alloc.specs.Runs.{Goes, run}
 use Rattle.pm_alloc.specs.LocalRun.{World, Loc, step}
-use Rattle.pm_alloc.specs.Search.{looked}
 use Rattle.pm_alloc.specs.Free.{begin}
-use Rattle.pm_alloc.proofs.Search.{address_is, Finds, searched_whole}
+use Rattle.pm_alloc.proofs.Search.{small, header_address}
 use Rattle.codegen.specs.Emit.{make_words, make_code}
 use Rattle.codegen.specs.Fields.{words_from}
 use Rattle.piece_law.specs.Stands.{Stands, header_word}
@@ -42,7 +41,7 @@ use Rattle.piece_law.proofs.Stores.{Here, here_all, here_back, store_effects, ze
 use Rattle.piece_law.proofs.Changes.{stands_new}
 use Rattle.piece_law.proofs.Fields.{words_is}
 use Rattle.piece_law.proofs.Locals.{written_is, Done}
-use Rattle.piece_law.proofs.Looks.{looks_of, looks_show, least_is, headers_of, searched_world, temp_kept}
+use Rattle.piece_law.proofs.Looks.{number_of, looks_of, looks_show, least_is}
 
 module _ (s : Sizes) (logged : Site → Bool) (shapes : Shapes) (f p : ℕ) (regs : List ℤ) (below : List Frame) (x : ℕ → ℤ) (v : World) (w : PoolMap) (fit : IsFit s shapes) (fits : PoolFits shapes w) (stands : Stands s v.heap w) (few : v.records ≤ s.records) where
   abbrev first : Loc
@@ -59,45 +58,59 @@ module _ (s : Sizes) (logged : Site → Bool) (shapes : Shapes) (f p : ℕ) (reg
     fill = fill_code s b 1 c
 
     abbrev es : List Effect
-    es = looks_of s v.heap s.slots 1
+    es = looks_of s v.heap
 
     abbrev loc : ℕ → Words → List ℤ → World → Loc
     loc k own temp u = record { at = k; own = own; temp = temp; world = u }
 
-    abbrev Search : ℕ → Option ℕ → Type 0
-    Search n o = Finds s to kind c b (at regs) x v.heap v.ticks v.records v.seen fit.pool (headers_of s v.heap w stands) n o (looked s v.heap s.slots 1 v.seen)
+    -- behind a search that finds q
+    abbrev found : ℕ → List ℤ
+    found q = pos q ∷ x 1 ∷ x 2 ∷ x 3 ∷ x 4 ∷ x 5 ∷ x 6 ∷ x 7 ∷ []
+
+    search : (q : ℕ) → least s v.heap ≡ q →
+        run (step s piece) 1 first ≡ Goes (loc 1 (at regs) (found q) (onward v es v.ticks))
+    search q is = ap (λ (n : ℕ). Goes (loc 1 (at regs) (found n) (onward v es v.ticks))) is
 
     shows : Shows s logged [] es
-    shows = looks_show s v.heap logged s.slots 1 (omega arith) (omega arith)
+    shows = looks_show s v.heap logged
 
     still_few : records_end v.records es ≤ s.records
     still_few = subst (λ (n : ℕ). n ≤ s.records) (sym (looks_records s logged [] es v.records shows refl)) few
 
-    whole : 17 + length fill + 1 ≡ length piece
-    whole = omega (arith, length-append (new_head s to kind (length fill)) (fill ++ Mov (Own to) (Temp 0) ∷ []), length-append fill (Mov (Own to) (Temp 0) ∷ []))
+    whole : 8 + length fill + 1 ≡ length piece
+    whole =
+        omega (arith, length-append (new_head s kind (length fill)) (fill ++ Mov (Own to) (Temp 0) ∷ []), length-append fill (Mov (Own to) (Temp 0) ∷ []))
+
+    rest_here : Here piece 8 (fill ++ Mov (Own to) (Temp 0) ∷ [])
+    rest_here = here_all (fill ++ Mov (Own to) (Temp 0) ∷ []) (new_head s kind (length fill))
+
+    mov : (temp : List ℤ) (u : World) →
+        run (step s piece) 1 (loc (8 + length fill) (at regs) temp u) ≡ Goes (loc (8 + length fill + 1) (cache.put (at regs) to (get_or temp 0 (pos 0))) temp u)
+    mov temp u = rw (here_back piece 8 fill (Mov (Own to) (Temp 0) ∷ []) rest_here).0 refl
 
     -- no slot is free
-    none_left : (n : ℕ) → n ≤ 6 * s.slots + 5 → Search n None → Does_all piece [] (code.Goes (code.Here f (suc p) (put regs to (pos 0)) below w v.ticks))
-    none_left n small found =
-        let temp : List ℤ = found.0 in
-        let path : run (step s piece) n first ≡ Goes (loc 11 (at regs) temp (onward v es v.ticks)) = found.1 ∙ ap (λ (u : World). Goes (loc 11 (at regs) temp u)) (searched_world s logged v) in (
-          n + 2,
-          omega arith,
-          done_by s logged piece (n + 2) first v [] es (loc (17 + length fill + 1) (cache.put (at regs) to (pos 0)) temp) f (suc p) (put regs to (pos 0)) below w v.ticks
-              (comes_quiet s logged piece n 2 first v [] es (loc 11 (at regs) temp) (loc (17 + length fill + 1) (cache.put (at regs) to (pos 0)) temp) (comes shows still_few path) (λ u. refl))
-              (λ room. record { place = whole; temp = temp_kept s piece n 8 first (loc 11 (at regs) temp (onward v es v.ticks)) refl path; own = written_is regs to (pos 0); world = refl; stands = subst (λ (h : Words). Stands s h w) (sym (looks_heap s logged [] es v.heap shows refl)) stands; records = room }),
-        )
+    none_left : least s v.heap ≡ 0 →
+        Does_all piece [] (code.Goes (code.Here f (suc p) (put regs to (pos 0)) below w v.ticks))
+    none_left is = (
+      1 + 1 + 1,
+      omega arith,
+      done_by s logged piece (1 + 1 + 1) first v [] es (loc (8 + length fill + 1) (cache.put (at regs) to (pos 0)) (found 0)) f (suc p) (put regs to (pos 0)) below w v.ticks
+          (comes_quiet s logged piece (1 + 1) 1 first v [] es (loc (8 + length fill) (at regs) (found 0)) (loc (8 + length fill + 1) (cache.put (at regs) to (pos 0)) (found 0))
+          (comes_quiet s logged piece 1 1 first v [] es (loc 1 (at regs) (found 0)) (loc (8 + length fill) (at regs) (found 0)) (comes shows still_few (search 0 is)) (λ u. refl))
+          (mov (found 0)))
+          (λ room. record { place = whole; temp = refl; own = written_is regs to (pos 0); world = refl; stands = subst (λ (h : Words). Stands s h w) (sym (looks_heap s logged [] es v.heap shows refl)) stands; records = room }),
+    )
 
     -- slot q is free
-    module _ (q n : ℕ) (low : 1 ≤ q) (high : q ≤ length w.slots) (small : n ≤ 6 * s.slots + 5) (found : Search n (Some q)) where
-      abbrev temp0 : List ℤ
-      temp0 = pos q ∷ pos (16 * q) ∷ pos s.slots ∷ pos 1 ∷ pos 16 ∷ found.0 ∷ found.1 ∷ x 7 ∷ []
+    module _ (r : ℕ) (high : suc r ≤ length w.slots) (is : least s v.heap ≡ suc r) where
+      abbrev q : ℕ
+      q = suc r
 
       abbrev temp1 : List ℤ
-      temp1 = pos q ∷ pos (16 * q) ∷ pos s.slots ∷ pos 1 ∷ pos 16 ∷ pos kind ∷ found.1 ∷ x 7 ∷ []
+      temp1 = pos q ∷ pos (16 * q) ∷ x 2 ∷ x 3 ∷ x 4 ∷ pos kind ∷ x 6 ∷ x 7 ∷ []
 
       abbrev temp2 : List ℤ
-      temp2 = pos q ∷ pos (16 * q) ∷ pos s.slots ∷ pos 1 ∷ pos 16 ∷ pos kind ∷ pos 0 ∷ x 7 ∷ []
+      temp2 = pos q ∷ pos (16 * q) ∷ x 2 ∷ x 3 ∷ x 4 ∷ pos kind ∷ pos 0 ∷ x 7 ∷ []
 
       abbrev head : List Effect
       head = store_effects true (header_word s q) (pos kind)
@@ -105,55 +118,62 @@ module _ (s : Sizes) (logged : Site → Bool) (shapes : Shapes) (f p : ℕ) (reg
       abbrev zeros_in : List Effect
       zeros_in = zero_effects s b q 0 c
 
+      low : 1 ≤ q
+      low = omega arith
+
       within : q ≤ s.slots
       within = omega (arith, stands.slots)
 
-      search : run (step s piece) n first ≡ Goes (loc 13 (at regs) temp0 (onward v es v.ticks))
-      search = found.2 ∙ ap (λ (u : World). Goes (loc 13 (at regs) temp0 u)) (searched_world s logged v)
+      times : int_wrap w64 (pos (q * 16)) ≡ pos (16 * q)
+      times = small (q * 16) (omega (arith, within, fit.pool.few)) ∙ ap pos (omega arith)
 
       address : int_wrap w64 (pos (16 * q) +ℤ offset s 0) ≡ pos (header_word s q)
-      address = let e : slot_word s q + 0 ≡ slot_word s q = omega arith in address_is s q 0 low (omega (arith, within, fit.pool.few)) fit.pool.lines (omega arith) ∙ ap pos e
+      address =
+          header_address s q (16 * q) refl low (omega (arith, within, fit.pool.few)) fit.pool.lines
 
-      to_head : Comes s logged v [] es (loc 14 (at regs) temp1) (run (step s piece) (n + 1) first)
-      to_head = comes_quiet s logged piece n 1 first v [] es (loc 13 (at regs) temp0) (loc 14 (at regs) temp1) (comes shows still_few search) (λ u. refl)
+      scaled : (u : World) →
+          run (step s piece) 4 (loc 1 (at regs) (found q) u) ≡ Goes (loc 5 (at regs) temp1 u)
+      scaled u =
+          ap (λ (z : ℤ). Goes (loc 5 (at regs) (pos q ∷ z ∷ x 2 ∷ x 3 ∷ x 4 ∷ pos kind ∷ x 6 ∷ x 7 ∷ []) u)) times
 
-      headed : Comes s logged v (Heads (site f p false) q (pos kind) ∷ []) (es ++ head) (loc 16 (at regs) temp1) (run (step s piece) (n + 1 + 2) first)
-      headed = comes_on s logged piece (n + 1) 2 first v [] (Heads (site f p false) q (pos kind) ∷ []) es head (loc 14 (at regs) temp1) (loc 16 (at regs) temp1) to_head
-          (λ room. head_comes s logged piece (at regs) temp1 14 q (onward v es v.ticks) (Temp 1) (Temp 5) (offset s 0) (pos kind) (site f p false) (refl, (refl, tt)) address (low, within) room refl)
+      to_head : Comes s logged v [] es (loc 5 (at regs) temp1) (run (step s piece) (1 + 4) first)
+      to_head =
+          comes_quiet s logged piece 1 4 first v [] es (loc 1 (at regs) (found q)) (loc 5 (at regs) temp1) (comes shows still_few (search q is)) scaled
 
-      to_fill : Comes s logged v (Heads (site f p false) q (pos kind) ∷ []) (es ++ head) (loc 17 (at regs) temp2) (run (step s piece) (n + 1 + 2 + 1) first)
-      to_fill = comes_quiet s logged piece (n + 1 + 2) 1 first v (Heads (site f p false) q (pos kind) ∷ []) (es ++ head) (loc 16 (at regs) temp1) (loc 17 (at regs) temp2) headed (λ u. refl)
+      headed : Comes s logged v (Heads (site f p false) q (pos kind) ∷ []) (es ++ head) (loc 7 (at regs) temp1) (run (step s piece) (1 + 4 + 2) first)
+      headed =
+          comes_on s logged piece (1 + 4) 2 first v [] (Heads (site f p false) q (pos kind) ∷ []) es head (loc 5 (at regs) temp1) (loc 7 (at regs) temp1) to_head
+          (λ room. head_comes s logged piece (at regs) temp1 5 q (onward v es v.ticks) (Temp 1) (Temp 5) (offset s 0) (pos kind) (site f p false) (refl, (refl, tt)) address (low, within) room refl)
 
-      rest_here : Here piece 17 (fill ++ Mov (Own to) (Temp 0) ∷ [])
-      rest_here = here_all (fill ++ Mov (Own to) (Temp 0) ∷ []) (new_head s to kind (length fill))
+      to_fill : Comes s logged v (Heads (site f p false) q (pos kind) ∷ []) (es ++ head) (loc 8 (at regs) temp2) (run (step s piece) (1 + 4 + 2 + 1) first)
+      to_fill =
+          comes_quiet s logged piece (1 + 4 + 2) 1 first v (Heads (site f p false) q (pos kind) ∷ []) (es ++ head) (loc 7 (at regs) temp1) (loc 8 (at regs) temp2) headed (λ u. refl)
 
-      filled : Comes s logged v (Heads (site f p false) q (pos kind) ∷ zeros (site f p true) q 0 c) ((es ++ head) ++ zeros_in) (loc (17 + length fill) (at regs) temp2) (run (step s piece) (n + 1 + 2 + 1 + fill_steps b c) first)
-      filled = comes_on s logged piece (n + 1 + 2 + 1) (fill_steps b c) first v (Heads (site f p false) q (pos kind) ∷ []) (zeros (site f p true) q 0 c) (es ++ head) zeros_in (loc 17 (at regs) temp2) (loc (17 + length fill) (at regs) temp2) to_fill
-          (λ room. fill_comes s logged piece (at regs) temp2 fit.pool b (site f p true) marked q low within refl refl c 0 17 (onward v (es ++ head) v.ticks) (Mov (Own to) (Temp 0) ∷ []) rest_here (omega arith) room)
-
-      mov : (u : World) → run (step s piece) 1 (loc (17 + length fill) (at regs) temp2 u) ≡ Goes (loc (17 + length fill + 1) (cache.put (at regs) to (pos q)) temp2 u)
-      mov u = rw (here_back piece 17 fill (Mov (Own to) (Temp 0) ∷ []) rest_here).0 refl
+      filled : Comes s logged v (Heads (site f p false) q (pos kind) ∷ zeros (site f p true) q 0 c) ((es ++ head) ++ zeros_in) (loc (8 + length fill) (at regs) temp2) (run (step s piece) (1 + 4 + 2 + 1 + fill_steps b c) first)
+      filled =
+          comes_on s logged piece (1 + 4 + 2 + 1) (fill_steps b c) first v (Heads (site f p false) q (pos kind) ∷ []) (zeros (site f p true) q 0 c) (es ++ head) zeros_in (loc 8 (at regs) temp2) (loc (8 + length fill) (at regs) temp2) to_fill
+          (λ room. fill_comes s logged piece (at regs) temp2 fit.pool b (site f p true) marked q low within refl refl c 0 8 (onward v (es ++ head) v.ticks) (Mov (Own to) (Temp 0) ∷ []) rest_here (omega arith) room)
 
       heap_is : heap_end v.heap ((es ++ head) ++ zeros_in) ≡ heap_end v.heap (head ++ zeros_in)
       heap_is = ap (heap_end v.heap) (append_assoc es head zeros_in) ∙ heap_append es (head ++ zeros_in) v.heap ∙ ap (λ (h : Words). heap_end h (head ++ zeros_in)) (looks_heap s logged [] es v.heap shows refl)
 
       one_made : Does_all piece (Heads (site f p false) q (pos kind) ∷ zeros (site f p true) q 0 c) (code.Goes (code.Here f (suc p) (put regs to (pos q)) below (new w q kind c) v.ticks))
       one_made = (
-        n + 1 + 2 + 1 + fill_steps b c + 1,
+        1 + 4 + 2 + 1 + fill_steps b c + 1,
         omega (arith, fill_few b c),
-        done_by s logged piece (n + 1 + 2 + 1 + fill_steps b c + 1) first v (Heads (site f p false) q (pos kind) ∷ zeros (site f p true) q 0 c) ((es ++ head) ++ zeros_in) (loc (17 + length fill + 1) (cache.put (at regs) to (pos q)) temp2) f (suc p) (put regs to (pos q)) below (new w q kind c) v.ticks
-            (comes_quiet s logged piece (n + 1 + 2 + 1 + fill_steps b c) 1 first v (Heads (site f p false) q (pos kind) ∷ zeros (site f p true) q 0 c) ((es ++ head) ++ zeros_in) (loc (17 + length fill) (at regs) temp2) (loc (17 + length fill + 1) (cache.put (at regs) to (pos q)) temp2) filled mov)
+        done_by s logged piece (1 + 4 + 2 + 1 + fill_steps b c + 1) first v (Heads (site f p false) q (pos kind) ∷ zeros (site f p true) q 0 c) ((es ++ head) ++ zeros_in) (loc (8 + length fill + 1) (cache.put (at regs) to (pos q)) temp2) f (suc p) (put regs to (pos q)) below (new w q kind c) v.ticks
+            (comes_quiet s logged piece (1 + 4 + 2 + 1 + fill_steps b c) 1 first v (Heads (site f p false) q (pos kind) ∷ zeros (site f p true) q 0 c) ((es ++ head) ++ zeros_in) (loc (8 + length fill) (at regs) temp2) (loc (8 + length fill + 1) (cache.put (at regs) to (pos q)) temp2) filled (mov temp2))
             (λ room. record { place = whole; temp = refl; own = written_is regs to (pos q); world = refl; stands = subst (λ (h : Words). Stands s h (new w q kind c)) (sym heap_is) (stands_new s shapes v.heap w fit fits stands b q kind c (low, high) short); records = room }),
       )
 
-    by_free : (n : ℕ) (o : Option ℕ) → least_free w ≡ o → n ≤ 6 * s.slots + 5 → Search n o → Does_all piece (deeds_new f p kind c o) (code.Goes (code.Here f (suc p) (put regs to (new_at w kind c o).0) below (new_at w kind c o).1 v.ticks))
-    by_free n None is small found = none_left n small found
-    by_free n (Some q) is small found = let slot = (least_free-some w q is).0 in one_made q n slot.0 slot.1 small found
+    by_free : (o : Option ℕ) → least_free w ≡ o →
+        Does_all piece (deeds_new f p kind c o) (code.Goes (code.Here f (suc p) (put regs to (new_at w kind c o).0) below (new_at w kind c o).1 v.ticks))
+    by_free None is = none_left (least_is s shapes v.heap w fits stands ∙ ap number_of is)
+    by_free (Some zero) is = let slot = (least_free-some w 0 is).0 in absurd (omega (arith, slot.0))
+    by_free (Some (suc r)) is = let slot = (least_free-some w (suc r) is).0 in one_made r slot.1 (least_is s shapes v.heap w fits stands ∙ ap number_of is)
 
     code_does : Does_all piece (deeds_new f p kind c (least_free w)) (code.Goes (code.Here f (suc p) (put regs to (new_at w kind c (least_free w)).0) below (new_at w kind c (least_free w)).1 v.ticks))
-    code_does =
-        let g = searched_whole s to kind c b (at regs) x v.heap v.ticks v.records v.seen fit.pool (headers_of s v.heap w stands) in
-        by_free g.0 (least_free w) refl g.1 (subst (Search g.0) (least_is s shapes v.heap w fits stands) g.2)
+    code_does = by_free (least_free w) refl
 
   pub new_does : (to kind : ℕ) (b : Bool) → IsKind shapes kind → logged (site f p true) ≡ b →
       Does_all (make_code s shapes to kind b) (deeds_new f p kind (words_of (fields_of shapes kind)) (least_free w)) (code.Goes (code.Here f (suc p) (put regs to (new_in shapes w kind).0) below (new_in shapes w kind).1 v.ticks))

@@ -131,7 +131,7 @@ module _ (s : Sizes) (logged : Site → Bool) (shapes : Shapes) (f p : ℕ) (reg
           value : ℤ
           value = at regs from
 
-          bound : (c : Bool) → led.0 + store_steps c ≤ 6 * s.slots + 40
+          bound : (c : Bool) → led.0 + store_steps c ≤ 40
           bound false = omega (arith, led.1)
           bound true = omega (arith, led.1)
 

@@ -55,5 +55,5 @@ eight_are (a ∷ b ∷ c ∷ d ∷ e ∷ f ∷ g ∷ h ∷ i ∷ rest) long = ab
 
 pub piece_does : PieceLaw
 piece_does s program r n f p i b logged regs below w v temp fit fits stands words is stays marked few long =
-    subst (λ (ts : List ℤ). (k : ℕ) × (k ≤ 6 * s.slots + 40) × Does s logged (length (local_code s program.shapes b i)) v (deeds_at program.shapes f p regs w (Some i)) (act program (Some i) f p regs below w v.ticks) (run (step s (local_code s program.shapes b i)) k (record { at = 0; own = at regs; temp = ts; world = v }))) (eight_are temp long)
+    subst (λ (ts : List ℤ). (k : ℕ) × (k ≤ 40) × Does s logged (length (local_code s program.shapes b i)) v (deeds_at program.shapes f p regs w (Some i)) (act program (Some i) f p regs below w v.ticks) (run (step s (local_code s program.shapes b i)) k (record { at = 0; own = at regs; temp = ts; world = v }))) (eight_are temp long)
     (does s logged program r n f p regs below (λ j. get_or temp j (pos 0)) v w fit fits stands few words b i is stays marked)

@@ -8,12 +8,14 @@ use Rattle.pm_machine.specs.declared.effect.Effect.{Effect}
 use Rattle.pm_machine.specs.Effects.{heap_past, heap_end, records_past, records_end}
 use Rattle.emit_law.specs.Moments.{onto}
 use Rattle.pm_alloc.specs.LocalRun.{World}
-use Rattle.piece_law.specs.Shows.{Shows, done, looks, reads, plain, logs, heads, IsCut, ShowsLaw, CutsLaw}
+use Rattle.piece_law.specs.Shows.{Shows, done, looks, scans, reads, plain, logs, heads, IsCut, ShowsLaw, CutsLaw}
 use Rattle.piece_law.specs.Law.{onward}
 
 pub shown : ShowsLaw
 shown s logged ds cs es fs done more = more
 shown s logged ds cs es fs (looks {ds = ds'} {es = es'} q there rest) more = looks q there (shown s logged ds' cs es' fs rest more)
+shown s logged ds cs es fs (scans {ds = ds'} {es = es'} n few rest) more =
+    scans n few (shown s logged ds' cs es' fs rest more)
 shown s logged ds cs es fs (reads {ds = ds'} {es = es'} x there rest) more = reads x there (shown s logged ds' cs es' fs rest more)
 shown s logged ds cs es fs (plain {ds = ds'} {es = es'} site x v there is rest) more = plain site x v there is (shown s logged ds' cs es' fs rest more)
 shown s logged ds cs es fs (logs {ds = ds'} {es = es'} site x v there is rest) more = logs site x v there is (shown s logged ds' cs es' fs rest more)
@@ -64,6 +66,8 @@ onward_append v es fs t u = λ i. record {
 pub looks_heap : (s : Sizes) (logged : Site → Bool) (ds : List Deed) (es : List Effect) (heap : Words) → Shows s logged ds es → ds ≡ [] → heap_end heap es ≡ heap
 looks_heap s logged ds es heap done e = refl
 looks_heap s logged ds es heap (looks {ds = ds'} {es = es'} q there rest) e = looks_heap s logged ds' es' heap rest e
+looks_heap s logged ds es heap (scans {ds = ds'} {es = es'} n few rest) e =
+    looks_heap s logged ds' es' heap rest e
 looks_heap s logged ds es heap (reads x there rest) e = absurd (cc)
 looks_heap s logged ds es heap (plain site x v there is rest) e = absurd (cc)
 looks_heap s logged ds es heap (logs site x v there is rest) e = absurd (cc)
@@ -72,6 +76,8 @@ looks_heap s logged ds es heap (heads site q v there rest) e = absurd (cc)
 pub looks_records : (s : Sizes) (logged : Site → Bool) (ds : List Deed) (es : List Effect) (n : ℕ) → Shows s logged ds es → ds ≡ [] → records_end n es ≡ n
 looks_records s logged ds es n done e = refl
 looks_records s logged ds es n (looks {ds = ds'} {es = es'} q there rest) e = looks_records s logged ds' es' n rest e
+looks_records s logged ds es n (scans {ds = ds'} {es = es'} k few rest) e =
+    looks_records s logged ds' es' n rest e
 looks_records s logged ds es n (reads x there rest) e = absurd (cc)
 looks_records s logged ds es n (plain site x v there is rest) e = absurd (cc)
 looks_records s logged ds es n (logs site x v there is rest) e = absurd (cc)

@@ -70,4 +70,5 @@ pub data Does (s : Sizes) (logged : Site → Bool) (n : ℕ) (v : World) (ds : L
 abbrev pub PieceLaw : Type 0
 PieceLaw = (s : Sizes) (ir : Ir) (r n f p : ℕ) (i : Instruction) (b : Bool) (logged : Site → Bool) (regs : List ℤ) (below : List Frame) (w : PoolMap) (v : World) (temp : List ℤ) →
     IsFit s ir.shapes → PoolFits ir.shapes w → Stands s v.heap w → HoldWords regs → IsInstruction ir r n i → Stays i → IsMarked logged f p b i → v.records ≤ s.records → length temp ≡ 8 →
-    (k : ℕ) × (k ≤ 6 * s.slots + 40) × Does s logged (length (local_code s ir.shapes b i)) v (deeds_at ir.shapes f p regs w (Some i)) (act ir (Some i) f p regs below w v.ticks) (alone.run (step s (local_code s ir.shapes b i)) k (record { at = 0; own = at regs; temp = temp; world = v }))
+    (k : ℕ) × (k ≤ 40)
+    × Does s logged (length (local_code s ir.shapes b i)) v (deeds_at ir.shapes f p regs w (Some i)) (act ir (Some i) f p regs below w v.ticks) (alone.run (step s (local_code s ir.shapes b i)) k (record { at = 0; own = at regs; temp = temp; world = v }))

@@ -1,7 +1,7 @@
 -- How the machine's loads, stores and logs show what the code does, in order: a load of a word by a load, a store by a store, with
 -- a LOG of the word right before it where the code has the store's site logged. A header's store is always logged; a load of a
--- header shows nothing.
-use Rattle.std.specs.Prelude.{ℕ, ◌≡◌, Bool, true, false, List, [], ◌∷◌, ◌++◌, ℤ}
+-- header, or of the first headers, shows nothing.
+use Rattle.std.specs.Prelude.{ℕ, ◌≤◌, ◌≡◌, Bool, true, false, List, [], ◌∷◌, ◌++◌, ℤ}
 use Rattle.pool_layout.specs.declared.limits.Sizes.{Sizes}
 use Rattle.pool_layout.specs.declared.places.HeapPlace.TheVariants.{Header}
 use Rattle.pool_layout.specs.Places.{IsHeapPlace}
@@ -9,7 +9,7 @@ use Rattle.ir.specs.declared.site.Site.{Site}
 use Rattle.code_meaning.specs.Code.{Spot}
 use Rattle.code_meaning.specs.Deeds.{Deed, Reads, Writes, Heads}
 use Rattle.pm_machine.specs.declared.effect.Effect.{Effect}
-use Rattle.pm_machine.specs.declared.effect.Effect.TheVariants.{Loads, Stores, Logs}
+use Rattle.pm_machine.specs.declared.effect.Effect.TheVariants.{Loads, Scans, Stores, Logs}
 use Rattle.piece_law.specs.Stands.{place_of, heap_word, header_word}
 
 -- the word is one of the heap's
@@ -19,6 +19,8 @@ IsThere s x = IsHeapPlace s (place_of x)
 pub data Shows (s : Sizes) (logged : Site → Bool) : List Deed → List Effect → Type 0 where
   done : Shows s logged [] []
   looks : {ds : List Deed} {es : List Effect} (q : ℕ) → IsHeapPlace s (Header q) → Shows s logged ds es → Shows s logged ds (Loads (header_word s q) ∷ es)
+  scans : {ds : List Deed} {es : List Effect} (n : ℕ) → n ≤ s.slots → Shows s logged ds es →
+      Shows s logged ds (Scans (header_word s 1) n ∷ es)
   reads : {ds : List Deed} {es : List Effect} (x : Spot) → IsThere s x → Shows s logged ds es → Shows s logged (Reads x ∷ ds) (Loads (heap_word s x) ∷ es)
   plain : {ds : List Deed} {es : List Effect} (site : Site) (x : Spot) (v : ℤ) → IsThere s x → logged site ≡ false → Shows s logged ds es → Shows s logged (Writes site x v ∷ ds) (Stores (heap_word s x) v ∷ es)
   logs : {ds : List Deed} {es : List Effect} (site : Site) (x : Spot) (v : ℤ) → IsThere s x → logged site ≡ true → Shows s logged ds es → Shows s logged (Writes site x v ∷ ds) (Logs (heap_word s x) ∷ Stores (heap_word s x) v ∷ es)

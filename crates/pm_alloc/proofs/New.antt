@@ -1,23 +1,23 @@
 -- The code of a new object, behind the search.
-use Rattle.std.proofs.Common.{◌≡◌, ℕ, zero, suc, ◌+◌, ◌*◌, ◌<◌, ◌≤◌, Bool, true, false, List, [], ◌∷◌, ◌++◌, length, Some, None, Option, ℤ, pos, refl, sym, ap, ◌∙◌, subst, arith, ltb, append_assoc, length-append, get_or}
+use Rattle.std.proofs.Common.{◌≡◌, ℕ, zero, suc, ◌+◌, ◌*◌, ◌<◌, ◌≤◌, Bool, true, false, List, [], ◌∷◌, ◌++◌, length, Some, ℤ, pos, refl, sym, ap, ◌∙◌, subst, arith, ltb, append_assoc, length-append, get_or}
 use Rattle.std.specs.Prelude.{◌+ℤ◌, slice_get}
 use Rattle.std.specs.Int.{w64, int_wrap}
 use Rattle.std.proofs.lemmas.Bool.{lt-ltb}
 use Rattle.cache_model.specs.Cache.{Words, put}
 use Rattle.pool_layout.specs.declared.limits.Sizes.{Sizes}
 use Rattle.pool_layout.specs.Sizes.{heap_words, slot_word}
-use Rattle.pm_machine.specs.declared.effect.Effect.{Effect}
+use Rattle.pm_machine.specs.Find.{least}
 use Rattle.pm_alloc.specs.declared.local.Reg.{Reg}
 use Rattle.pm_alloc.specs.declared.local.Reg.TheVariants.{Own, Temp}
 use Rattle.pm_alloc.specs.declared.local.Local.{Local}
 use Rattle.pm_alloc.specs.declared.local.Local.TheVariants.{Mov, Store, Log}
 use Rattle.pm_alloc.specs.Pieces.{offset, fill_code, new_head, new_code}
 use Rattle.pm_alloc.specs.Runs.{Next, Goes, run}
-use Rattle.pm_alloc.specs.LocalRun.{World, Loc, read, stored, logged, step}
-use Rattle.pm_alloc.specs.Search.{free_from, looked, HasHeaders, world, temporaries, IsPool}
-use Rattle.pm_alloc.specs.New.{wrote, zeroed, value_of, made, NewLaw}
+use Rattle.pm_alloc.specs.LocalRun.{World, Loc, read, stored, logged, searched, step}
+use Rattle.pm_alloc.specs.Search.{temporaries, IsPool}
+use Rattle.pm_alloc.specs.New.{wrote, zeroed, made, NewLaw}
 use Rattle.pm_alloc.proofs.Runs.{run_on}
-use Rattle.pm_alloc.proofs.Search.{address_is, Finds, searched_whole, free_within}
+use Rattle.pm_alloc.proofs.Search.{small, address_is, header_address, searched_least, least_within}
 
 -- these instructions stand here, one behind the other
 abbrev Here : List Local → ℕ → List Local → Type 0
@@ -78,10 +78,7 @@ module _ (s : Sizes) (frag : List Local) (own : Words) (temp : List ℤ) where
       let last : p + 1 + 1 + length (fill_code s true (j + 1) c) ≡ p + length (fill_code s true j (suc c)) = omega arith in
       (2 + next.0, omega (arith, next.1), run_on (step s frag) 2 next.0 _ _ _ first next.2 ∙ ap (λ (n : ℕ). Goes (loc n (zeroed true w q (suc c)))) last)
 
-module _ (s : Sizes) (to kind c : ℕ) (b : Bool) (own x heap : Words) (ticks records : ℕ) (es : List Effect) (pool : IsPool s) (few : c ≤ 15) (room : records + 1 + c ≤ s.records) where
-  abbrev code : List Local
-  code = new_code s to kind c b
-
+module _ (s : Sizes) (to kind c : ℕ) (b : Bool) (own : Words) (x : ℕ → ℤ) (w : World) (pool : IsPool s) (few : c ≤ 15) (room : w.records + 1 + c ≤ s.records) where
   abbrev go_new : ℕ → Loc → Next World Loc
   go_new n l = run (step s (new_code s to kind c b)) n l
 
@@ -89,80 +86,97 @@ module _ (s : Sizes) (to kind c : ℕ) (b : Bool) (own x heap : Words) (ticks re
   at_loc p regs temp w = record { at = p; own = regs; temp = temp; world = w }
 
   abbrev begin : Loc
-  begin = at_loc 0 own (temporaries x) (world heap ticks records es)
+  begin = at_loc 0 own (temporaries x) w
+
+  -- where a search that finds q leads
+  abbrev found : ℕ → Loc
+  found q = at_loc 1 own (pos q ∷ x 1 ∷ x 2 ∷ x 3 ∷ x 4 ∷ x 5 ∷ x 6 ∷ x 7 ∷ []) (searched s w)
 
   on : (i j : ℕ) (l m : Loc) (r : Next World Loc) → go_new i l ≡ Goes m → go_new j m ≡ r → go_new (i + j) l ≡ r
   on i j l m r e f = run_on (step s (new_code s to kind c b)) i j l m r e f
 
-  whole : 17 + length (fill_code s b 1 c) + 1 ≡ length (new_code s to kind c b)
+  whole : 8 + length (fill_code s b 1 c) + 1 ≡ length (new_code s to kind c b)
   whole = omega (arith, length-append (fill_code s b 1 c) (Mov (Own to) (Temp 0) ∷ []))
 
-  -- where the code is left
-  abbrev Done : ℕ → Option ℕ → World → Type 0
-  Done n o w = (temp : List ℤ) × (go_new n begin ≡ Goes (at_loc (length (new_code s to kind c b)) (put own to (value_of o)) temp (made s kind c b w o)))
+  rest_here : Here (new_code s to kind c b) 8 (fill_code s b 1 c ++ Mov (Own to) (Temp 0) ∷ [])
+  rest_here =
+      here_all (fill_code s b 1 c ++ Mov (Own to) (Temp 0) ∷ []) (new_head s kind (length (fill_code s b 1 c)))
 
-  none_left : (n : ℕ) (temp : List ℤ) (w : World) → go_new n begin ≡ Goes (at_loc 11 own temp w) → Done (n + 2) None w
-  none_left n temp w e = (temp, on n 2 begin (at_loc 11 own temp w) _ e (ap (λ (p : ℕ). Goes (at_loc p (put own to (pos 0)) temp w)) whole))
+  mov : (temp : List ℤ) (v : World) →
+      go_new 1 (at_loc (8 + length (fill_code s b 1 c)) own temp v) ≡ Goes (at_loc (8 + length (fill_code s b 1 c) + 1) (put own to (get_or temp 0 (pos 0))) temp v)
+  mov temp v =
+      rw (here_back (new_code s to kind c b) 8 (fill_code s b 1 c) (Mov (Own to) (Temp 0) ∷ []) rest_here).0 refl
 
-  module _ (n q : ℕ) (t2 t3 t4 t5 t6 t7 : ℤ) (w : World) (free : w.records ≡ records) (low : 1 ≤ q) (high : q ≤ s.slots) (found : go_new n begin ≡ Goes (at_loc 13 own (pos q ∷ pos (16 * q) ∷ t2 ∷ t3 ∷ t4 ∷ t5 ∷ t6 ∷ t7 ∷ []) w)) where
+  -- from there the code is left so
+  abbrev Done : ℕ → Type 0
+  Done q =
+      (n : ℕ) × (n ≤ 38)
+      × ((temp : List ℤ) × (go_new n (found q) ≡ Goes (at_loc (length (new_code s to kind c b)) (put own to (pos q)) temp (made s kind c b (searched s w) q))))
+
+  none_left : Done 0
+  none_left = (
+    1 + 1,
+    omega arith,
+    (
+      (found 0).temp,
+      on 1 1 (found 0) (at_loc (8 + length (fill_code s b 1 c)) own (found 0).temp (searched s w)) _ refl (mov (found 0).temp (searched s w))
+          ∙ ap (λ (p : ℕ). Goes (at_loc p (put own to (pos 0)) (found 0).temp (searched s w))) whole,
+    ),
+  )
+
+  module _ (r : ℕ) (high : suc r ≤ s.slots) where
+    abbrev q : ℕ
+    q = suc r
+
     abbrev temp1 : List ℤ
-    temp1 = pos q ∷ pos (16 * q) ∷ t2 ∷ t3 ∷ t4 ∷ pos kind ∷ t6 ∷ t7 ∷ []
+    temp1 = pos q ∷ pos (16 * q) ∷ x 2 ∷ x 3 ∷ x 4 ∷ pos kind ∷ x 6 ∷ x 7 ∷ []
 
     abbrev temp2 : List ℤ
-    temp2 = pos q ∷ pos (16 * q) ∷ t2 ∷ t3 ∷ t4 ∷ pos kind ∷ pos 0 ∷ t7 ∷ []
+    temp2 = pos q ∷ pos (16 * q) ∷ x 2 ∷ x 3 ∷ x 4 ∷ pos kind ∷ pos 0 ∷ x 7 ∷ []
 
     abbrev w1 : World
-    w1 = wrote true w (slot_word s q) (pos kind)
+    w1 = wrote true (searched s w) (slot_word s q) (pos kind)
 
     at_head : int_wrap w64 (pos (16 * q) +ℤ offset s 0) ≡ pos (slot_word s q)
-    at_head = let e : slot_word s q + 0 ≡ slot_word s q = omega arith in address_is s q 0 low (omega (arith, pool.few)) pool.lines (omega arith) ∙ ap pos e
+    at_head = header_address s q (16 * q) refl (omega arith) (omega (arith, pool.few)) pool.lines
 
     within : ltb (slot_word s q) (heap_words s) ≡ true
     within = lt-ltb (slot_word s q) (heap_words s) (omega arith)
 
-    to_header : go_new (n + 1) begin ≡ Goes (at_loc 14 own temp1 w)
-    to_header = on n 1 begin _ _ found refl
+    times : int_wrap w64 (pos (q * 16)) ≡ pos (16 * q)
+    times = small (q * 16) (omega (arith, pool.few)) ∙ ap pos (omega arith)
 
-    header : go_new 2 (at_loc 14 own temp1 w) ≡ Goes (at_loc 16 own temp1 w1)
-    header = with_log s (new_code s to kind c b) own temp1 14 (slot_word s q) w (Temp 1) (Temp 5) (offset s 0) refl refl at_head within (omega arith)
+    to_header : go_new 4 (found q) ≡ Goes (at_loc 5 own temp1 (searched s w))
+    to_header =
+        ap (λ (z : ℤ). Goes (at_loc 5 own (pos q ∷ z ∷ x 2 ∷ x 3 ∷ x 4 ∷ pos kind ∷ x 6 ∷ x 7 ∷ []) (searched s w))) times
 
-    to_fill : go_new (n + 1 + 2 + 1) begin ≡ Goes (at_loc 17 own temp2 w1)
-    to_fill = on (n + 1 + 2) 1 begin _ _ (on (n + 1) 2 begin _ _ to_header header) refl
+    header : go_new 2 (at_loc 5 own temp1 (searched s w)) ≡ Goes (at_loc 7 own temp1 w1)
+    header =
+        with_log s (new_code s to kind c b) own temp1 5 (slot_word s q) (searched s w) (Temp 1) (Temp 5) (offset s 0) refl refl at_head within (omega arith)
 
-    rest_here : Here (new_code s to kind c b) 17 (fill_code s b 1 c ++ Mov (Own to) (Temp 0) ∷ [])
-    rest_here = here_all (fill_code s b 1 c ++ Mov (Own to) (Temp 0) ∷ []) (new_head s to kind (length (fill_code s b 1 c)))
+    to_fill : go_new (4 + 2 + 1) (found q) ≡ Goes (at_loc 8 own temp2 w1)
+    to_fill = on (4 + 2) 1 (found q) _ _ (on 4 2 (found q) _ _ to_header header) refl
 
-    filled : (m : ℕ) × (m ≤ 2 * c) × (go_new m (at_loc 17 own temp2 w1) ≡ Goes (at_loc (17 + length (fill_code s b 1 c)) own temp2 (zeroed b w1 (slot_word s q + 1) c)))
-    filled = fill_run s (new_code s to kind c b) own temp2 b c 1 17 (slot_word s q + 1) q w1 (Mov (Own to) (Temp 0) ∷ []) pool low high rest_here refl (omega arith) (omega arith) refl refl
+    filled : (m : ℕ) × (m ≤ 2 * c) × (go_new m (at_loc 8 own temp2 w1) ≡ Goes (at_loc (8 + length (fill_code s b 1 c)) own temp2 (zeroed b w1 (slot_word s q + 1) c)))
+    filled =
+        fill_run s (new_code s to kind c b) own temp2 b c 1 8 (slot_word s q + 1) q w1 (Mov (Own to) (Temp 0) ∷ []) pool (omega arith) high rest_here refl (omega arith) (omega arith) refl refl
 
-    mov : (v : World) → go_new 1 (at_loc (17 + length (fill_code s b 1 c)) own temp2 v) ≡ Goes (at_loc (17 + length (fill_code s b 1 c) + 1) (put own to (pos q)) temp2 v)
-    mov v = rw (here_back (new_code s to kind c b) 17 (fill_code s b 1 c) (Mov (Own to) (Temp 0) ∷ []) rest_here).0 refl
-
-    slot_made : (m : ℕ) × (m ≤ n + 35) × Done m (Some q) w
+    slot_made : Done (suc r)
     slot_made = (
-      n + 1 + 2 + 1 + filled.0 + 1,
+      4 + 2 + 1 + filled.0 + 1,
       omega (arith, filled.1),
       (
         temp2,
-        on (n + 1 + 2 + 1 + filled.0) 1 begin _ _ (on (n + 1 + 2 + 1) filled.0 begin _ _ to_fill filled.2) (mov (zeroed b w1 (slot_word s q + 1) c))
+        on (4 + 2 + 1 + filled.0) 1 (found q) _ _ (on (4 + 2 + 1) filled.0 (found q) _ _ to_fill filled.2) (mov temp2 (zeroed b w1 (slot_word s q + 1) c))
             ∙ ap (λ (p : ℕ). Goes (at_loc p (put own to (pos q)) temp2 (zeroed b w1 (slot_word s q + 1) c))) whole,
       ),
     )
 
--- where the search led, the code goes on to its end
-module _ (s : Sizes) (to kind c : ℕ) (b : Bool) (own x heap : Words) (ticks records : ℕ) (es : List Effect) (pool : IsPool s) (headers : HasHeaders s heap) (few : c ≤ 15) (room : records + 1 + c ≤ s.records) where
-  abbrev Ends : Option ℕ → List Effect → Type 0
-  Ends o fs = (n : ℕ) × (n ≤ 6 * s.slots + 40) × Done s to kind c b own x heap ticks records es pool few room n o (world heap ticks records fs)
-
-  from_found : (n : ℕ) (o : Option ℕ) (fs : List Effect) → n ≤ 6 * s.slots + 5 → free_from s heap s.slots 1 ≡ o → Finds s to kind c b own x heap ticks records es pool headers n o fs → Ends o fs
-  from_found n None fs short is f =
-      (n + 2, omega arith, none_left s to kind c b own x heap ticks records es pool few room n f.0 (world heap ticks records fs) f.1)
-  from_found n (Some q) fs short is f =
-      let among = free_within s heap s.slots 1 q is in
-      let m = slot_made s to kind c b own x heap ticks records es pool few room n q (pos s.slots) (pos 1) (pos 16) f.0 f.1 (x 7) (world heap ticks records fs) refl among.low (omega (arith, among.high)) f.2 in
-      (m.0, omega (arith, m.1), m.2)
+  all_done : (q : ℕ) → least s w.heap ≡ q → Done q
+  all_done zero is = none_left
+  all_done (suc r) is = slot_made r (least_within s w.heap r is)
 
 pub new_made : NewLaw
-new_made s to kind c b own x heap ticks records es pool headers few room =
-    let f = searched_whole s to kind c b own x heap ticks records es pool headers in
-    from_found s to kind c b own x heap ticks records es pool headers few room f.0 (free_from s heap s.slots 1) (looked s heap s.slots 1 es) f.1 refl f.2
+new_made s to kind c b own x w pool few room =
+    let d = all_done s to kind c b own x w pool few room (least s w.heap) refl in
+    (1 + d.0, omega (arith, d.1), (d.2.0, run_on (step s (new_code s to kind c b)) 1 d.0 _ _ _ (searched_least s to kind c b own x w) d.2.1))

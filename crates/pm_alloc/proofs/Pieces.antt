@@ -22,9 +22,11 @@ fill_code_length s false j zero = refl
 fill_code_length s true j (suc c) = omega (arith, fill_code_length s true (j + 1) c)
 fill_code_length s false j (suc c) = ap suc (fill_code_length s false (j + 1) c)
 
-pub new_code_parts : (piece : List Local) (s : Sizes) (to kind c n : ℕ) (b : Bool) → n ≡ length (fill_code s b 1 c) → ((piece ++ new_head s to kind n) ++ fill_code s b 1 c) ++ Mov (Own to) (Temp 0) ∷ [] ≡ piece ++ new_code s to kind c b
+pub new_code_parts : (piece : List Local) (s : Sizes) (to kind c n : ℕ) (b : Bool) →
+    n ≡ length (fill_code s b 1 c) →
+    ((piece ++ new_head s kind n) ++ fill_code s b 1 c) ++ Mov (Own to) (Temp 0) ∷ [] ≡ piece ++ new_code s to kind c b
 new_code_parts piece s to kind c n b e =
     let fill : List Local = fill_code s b 1 c in
-    append_assoc (piece ++ new_head s to kind n) fill (Mov (Own to) (Temp 0) ∷ [])
-    ∙ append_assoc piece (new_head s to kind n) (fill ++ Mov (Own to) (Temp 0) ∷ [])
-    ∙ ap (λ (m : ℕ). piece ++ (new_head s to kind m ++ (fill ++ Mov (Own to) (Temp 0) ∷ []))) e
+    append_assoc (piece ++ new_head s kind n) fill (Mov (Own to) (Temp 0) ∷ [])
+    ∙ append_assoc piece (new_head s kind n) (fill ++ Mov (Own to) (Temp 0) ∷ [])
+    ∙ ap (λ (m : ℕ). piece ++ (new_head s kind m ++ (fill ++ Mov (Own to) (Temp 0) ∷ []))) e

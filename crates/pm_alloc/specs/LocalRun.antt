@@ -5,14 +5,15 @@ use Rattle.std.specs.Int.{w64, int_wrap}
 use Rattle.nvm_base.specs.Applied.{applied}
 use Rattle.cache_model.specs.Cache.{Words, put}
 use Rattle.pool_layout.specs.declared.limits.Sizes.{Sizes}
-use Rattle.pool_layout.specs.Sizes.{heap_words}
+use Rattle.pool_layout.specs.Sizes.{heap_words, slot_word}
 use Rattle.pm_machine.specs.declared.effect.Effect.{Effect}
-use Rattle.pm_machine.specs.declared.effect.Effect.TheVariants.{Loads, Stores, Logs}
+use Rattle.pm_machine.specs.declared.effect.Effect.TheVariants.{Loads, Scans, Stores, Logs}
+use Rattle.pm_machine.specs.Find.{least, looks}
 use Rattle.pm_machine.specs.Machine.{word_at}
 use Rattle.pm_alloc.specs.declared.local.Reg.{Reg}
 use Rattle.pm_alloc.specs.declared.local.Reg.TheVariants.{Own, Temp}
 use Rattle.pm_alloc.specs.declared.local.Local.{Local}
-use Rattle.pm_alloc.specs.declared.local.Local.TheVariants.{Const, Mov, Bin, Jmp, Jz, Load, Store, Log, Tick, Trap}
+use Rattle.pm_alloc.specs.declared.local.Local.TheVariants.{Const, Mov, Bin, Jmp, Jz, Load, Store, Find, Log, Tick, Trap}
 use Rattle.pm_alloc.specs.Runs.{Next, Goes, Traps, Off}
 
 -- what the piece shares with all other code
@@ -49,6 +50,10 @@ go_on l w = record { at = l.at + 1; own = l.own; temp = l.temp; world = w }
 
 abbrev pub see : World → Effect → World
 see w e = record { heap = w.heap; seen = e ∷ w.seen; ticks = w.ticks; records = w.records }
+
+-- the headers that a search for a free slot loads
+abbrev pub searched : Sizes → World → World
+searched s w = see w (Scans (slot_word s 1) (looks s w.heap))
 
 -- a word stored; the word's record appended to the log
 abbrev pub stored : World → ℕ → ℤ → World
@@ -87,6 +92,8 @@ act s l (Some (Jmp t)) = Goes (go_to l t)
 act s l (Some (Jz a t)) = at_zero (read l.own l.temp a) (Goes (go_to l t)) (Goes (go_to l (l.at + 1)))
 act s l (Some (Load r a o)) = load l r (target s (read l.own l.temp a) o)
 act s l (Some (Store a o b)) = store l (read l.own l.temp b) (target s (read l.own l.temp a) o)
+act s l (Some (Find r)) =
+    Goes (write (l.at + 1) l.own l.temp (searched s l.world) r (pos (least s l.world.heap)))
 act s l (Some (Log a o)) = log s.records l (target s (read l.own l.temp a) o)
 act s l (Some Tick) = tick l l.world.ticks
 act s l (Some (Trap k)) = Traps k l.world

@@ -1,15 +1,15 @@
 -- What the code of `pm_new` does, from its start with any registers, where the log has room for its records: with the least
 -- free slot it logs and stores the header, stores zeros, each logged where the fill is, and gives the slot; where none is
--- free it gives 0 and has stored nothing. It takes at most 6 N + 40 steps.
-use Rattle.std.specs.Prelude.{ℕ, zero, suc, ◌+◌, ◌*◌, ◌≤◌, ◌≡◌, Bool, true, false, List, length, Option, Some, None, ℤ, pos}
+-- free it gives 0 and has stored nothing. It takes at most 39 steps, whatever the number of slots.
+use Rattle.std.specs.Prelude.{ℕ, zero, suc, ◌+◌, ◌≤◌, ◌≡◌, Bool, true, false, List, length, ℤ, pos}
 use Rattle.cache_model.specs.Cache.{Words, put}
 use Rattle.pool_layout.specs.declared.limits.Sizes.{Sizes}
 use Rattle.pool_layout.specs.Sizes.{slot_word}
-use Rattle.pm_machine.specs.declared.effect.Effect.{Effect}
+use Rattle.pm_machine.specs.Find.{least}
 use Rattle.pm_alloc.specs.Pieces.{new_code}
 use Rattle.pm_alloc.specs.Runs.{Goes, run}
-use Rattle.pm_alloc.specs.LocalRun.{World, stored, logged, step}
-use Rattle.pm_alloc.specs.Search.{free_from, looked, HasHeaders, world, temporaries, IsPool}
+use Rattle.pm_alloc.specs.LocalRun.{World, stored, logged, searched, step}
+use Rattle.pm_alloc.specs.Search.{temporaries, IsPool}
 
 -- a store, with its log or without
 abbrev pub wrote : Bool → World → ℕ → ℤ → World
@@ -22,19 +22,19 @@ zeroed b w q zero = w
 zeroed b w q (suc c) = zeroed b (wrote b w q (pos 0)) (q + 1) c
 
 -- what is left, by the slot that was found
-abbrev pub value_of : Option ℕ → ℤ
-value_of None = pos 0
-value_of (Some q) = pos q
-
-abbrev pub made : Sizes → (kind c : ℕ) → Bool → World → Option ℕ → World
-made s kind c b w None = w
-made s kind c b w (Some q) = zeroed b (wrote true w (slot_word s q) (pos kind)) (slot_word s q + 1) c
+abbrev pub made : Sizes → (kind c : ℕ) → Bool → World → ℕ → World
+made s kind c b w zero = w
+made s kind c b w (suc q) =
+    zeroed b (wrote true w (slot_word s (suc q)) (pos kind)) (slot_word s (suc q) + 1) c
 
 abbrev pub NewLaw : Type 0
-NewLaw = (s : Sizes) (to kind c : ℕ) (b : Bool) (own x heap : Words) (ticks records : ℕ) (es : List Effect) → IsPool s → HasHeaders s heap → c ≤ 15 → records + 1 + c ≤ s.records
-    → (n : ℕ) × (n ≤ 6 * s.slots + 40) × ((temp : List ℤ) × (run (step s (new_code s to kind c b)) n (record { at = 0; own = own; temp = temporaries x; world = world heap ticks records es }) ≡ Goes (record {
+NewLaw =
+    (s : Sizes) (to kind c : ℕ) (b : Bool) (own : Words) (x : ℕ → ℤ) (w : World) → IsPool s →
+    c ≤ 15 → w.records + 1 + c ≤ s.records
+    → (n : ℕ) × (n ≤ 39)
+    × ((temp : List ℤ) × (run (step s (new_code s to kind c b)) n (record { at = 0; own = own; temp = temporaries x; world = w }) ≡ Goes (record {
       at = length (new_code s to kind c b);
-      own = put own to (value_of (free_from s heap s.slots 1));
+      own = put own to (pos (least s w.heap));
       temp = temp;
-      world = made s kind c b (world heap ticks records (looked s heap s.slots 1 es)) (free_from s heap s.slots 1);
+      world = made s kind c b (searched s w) (least s w.heap);
     })))

@@ -1,5 +1,5 @@
 -- The code that reaches objects, before it has a place. Temporary registers: 0 is an address (16 times a slot, and then an
--- index more) or, in the search, the slot; 1 and 2 are used by the checks; 1 to 6 by the search.
+-- index more) or, in `pm_new`, the slot; 1 and 2 are used by the checks; 1, 5 and 6 by `pm_new`.
 use Rattle.std.specs.Prelude.{ℕ, zero, suc, ◌+◌, ◌*◌, Bool, true, false, if◌then◌else◌, nat_lt, List, [], ◌∷◌, ◌++◌, length, ℤ, pos, negsuc, ◌-ℤ◌}
 use Rattle.nvm_base.specs.declared.op.BinOp.TheVariants.{Add, Mul, Lt, Eq}
 use Rattle.pool_layout.specs.declared.limits.Sizes.{Sizes}
@@ -7,7 +7,7 @@ use Rattle.pool_layout.specs.Sizes.{root_lines}
 use Rattle.pm_alloc.specs.declared.local.Reg.{Reg}
 use Rattle.pm_alloc.specs.declared.local.Reg.TheVariants.{Own, Temp}
 use Rattle.pm_alloc.specs.declared.local.Local.{Local}
-use Rattle.pm_alloc.specs.declared.local.Local.TheVariants.{Const, Mov, Bin, Jmp, Jz, Load, Store, Log, Trap}
+use Rattle.pm_alloc.specs.declared.local.Local.TheVariants.{Const, Mov, Bin, Jmp, Jz, Load, Store, Find, Log, Trap}
 
 -- word j of the object in slot s is heap word 16 s + offset; word 0 is its header
 abbrev pub offset : Sizes → ℕ → ℤ
@@ -45,20 +45,18 @@ abbrev pub fill_code : Sizes → Bool → (j c : ℕ) → List Local
 fill_code s b j zero = []
 fill_code s b j (suc c) = store_code b (Temp 1) (offset s j) (Temp 6) ++ fill_code s b (j + 1) c
 
--- The search for the least free slot, and its header; n is how long the fill is. Temporary 0: the slot, 1: 16 times it, 2: the
--- number of slots, 3: 1, 4: 16, 5: the header. A turn is at 5 to 10, the end without a slot at 11, a free slot's at 13.
-abbrev pub new_head : Sizes → (to kind n : ℕ) → List Local
-new_head s to kind n =
-    Const (Temp 0) (pos 1) ∷ Const (Temp 1) (pos 16) ∷ Const (Temp 2) (pos s.slots) ∷ Const (Temp 3) (pos 1) ∷ Const (Temp 4) (pos 16)
-    ∷ Load (Temp 5) (Temp 1) (offset s 0) ∷ Jz (Temp 5) 13
-    ∷ Bin Add (Temp 0) (Temp 0) (Temp 3) ∷ Bin Add (Temp 1) (Temp 1) (Temp 4) ∷ Bin Lt (Temp 6) (Temp 2) (Temp 0) ∷ Jz (Temp 6) 5
-    ∷ Const (Own to) (pos 0) ∷ Jmp (17 + n + 1)
+-- The search for the least free slot, and its header; n is how long the fill is. Temporary 0: the
+-- slot, 1: 16 times it, 5: the header, 6: 0. Where no slot is free the code goes behind the fill.
+abbrev pub new_head : Sizes → (kind n : ℕ) → List Local
+new_head s kind n =
+    Find (Temp 0) ∷ Jz (Temp 0) (8 + n) ∷ Const (Temp 1) (pos 16) ∷ Bin Mul (Temp 1) (Temp 0) (Temp 1)
     ∷ Const (Temp 5) (pos kind) ∷ Log (Temp 1) (offset s 0) ∷ Store (Temp 1) (offset s 0) (Temp 5) ∷ Const (Temp 6) (pos 0) ∷ []
 
 -- a new object of a kind with c words, whose fill is logged or not
 abbrev pub new_code : Sizes → (to kind c : ℕ) → Bool → List Local
 new_code s to kind c b =
-    new_head s to kind (length (fill_code s b 1 c)) ++ (fill_code s b 1 c ++ Mov (Own to) (Temp 0) ∷ [])
+    new_head s kind (length (fill_code s b 1 c))
+    ++ (fill_code s b 1 c ++ Mov (Own to) (Temp 0) ∷ [])
 
 -- a slot has room for 15 words
 abbrev pub new_or_trap : Sizes → (to kind c : ℕ) → Bool → List Local

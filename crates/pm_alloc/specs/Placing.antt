@@ -6,7 +6,7 @@ use Rattle.pm_machine.specs.declared.op.Op.TheVariants as op
 use Rattle.pm_alloc.specs.declared.local.Reg.{Reg}
 use Rattle.pm_alloc.specs.declared.local.Reg.TheVariants.{Own, Temp}
 use Rattle.pm_alloc.specs.declared.local.Local.{Local}
-use Rattle.pm_alloc.specs.declared.local.Local.TheVariants.{Const, Mov, Bin, Jmp, Jz, Load, Store, Log, Tick, Trap}
+use Rattle.pm_alloc.specs.declared.local.Local.TheVariants.{Const, Mov, Bin, Jmp, Jz, Load, Store, Find, Log, Tick, Trap}
 
 abbrev pub sum : ℕ → ℕ → ℕ
 sum a b = min (a + b) (2 ^ 32 - 1)
@@ -23,6 +23,7 @@ placed base p (Jmp t) = op.Jmp (sum p t)
 placed base p (Jz a t) = op.Jz (number base a) (sum p t)
 placed base p (Load r a o) = op.Load (number base r) (number base a) o
 placed base p (Store a o b) = op.Store (number base a) o (number base b)
+placed base p (Find r) = op.Find (number base r)
 placed base p (Log a o) = op.Log (number base a) o
 placed base p Tick = op.Tick
 placed base p (Trap k) = op.Trap k

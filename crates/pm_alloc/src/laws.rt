@@ -5,14 +5,13 @@ ghost use Rattle.pm_alloc.specs.Free.{FreeLaw, PointerLaw};
 ghost use Rattle.pm_alloc.specs.New.{NewLaw};
 ghost use Rattle.pm_alloc.specs.Search.{SearchLaw};
 
-/// The code of `pm_new` finds the least free slot, in at most six steps a slot, and loads headers
-/// alone for it.
+/// The code of `pm_new` finds the least free slot in its first step, and loads headers alone for it.
 pub fn search_law()
     ensures { SearchLaw }
 {}
 
 /// The code of `pm_new` makes an object in the least free slot, or gives 0 where none is free, in at
-/// most 6 N + 40 steps, where the log has room.
+/// most 39 steps, where the log has room.
 pub fn new_law()
     ensures { NewLaw }
 {}

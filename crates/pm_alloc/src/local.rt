@@ -25,6 +25,7 @@ pub enum Local {
     Jz(Reg, u32),
     Load(Reg, Reg, i64),
     Store(Reg, i64, Reg),
+    Find(Reg),
     Log(Reg, i64),
     Tick,
     Trap(u32),

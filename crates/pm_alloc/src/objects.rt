@@ -34,34 +34,18 @@ fn fill_length(logged: bool, words: u32) -> u32
     if logged { 2 * words } else { words }
 }
 
-/// Puts the search for the least free slot and the store of the header. The search takes six steps a
-/// slot: temporary 0 is the slot, temporary 1 is 16 times it, and behind the last slot the result is
-/// 0, with no store.
-fn push_search(
-    piece: &mut Locals,
-    sizes: &Sizes,
-    to: u32,
-    kind: u32,
-    fill: u32,
-) -> Result<(), AllocError>
+/// Puts the search for the least free slot and the store of the header. Temporary 0 is the slot,
+/// temporary 1 is 16 times it; where no slot is free the code goes behind the fill, with no store.
+fn push_search(piece: &mut Locals, sizes: &Sizes, kind: u32, fill: u32) -> Result<(), AllocError>
     requires { fill ≤ 30 }
-    ensures { OnOk result (piece.new ≡ piece.old ++ new_head sizes.now to kind fill) }
+    ensures { OnOk result (piece.new ≡ piece.old ++ new_head sizes.now kind fill) }
 {
     let header = field_offset(sizes, 0);
     piece.extend(&[
-        Local::Const(Reg::Temp(0), 1),
+        Local::Find(Reg::Temp(0)),
+        Local::Jz(Reg::Temp(0), 8 + fill),
         Local::Const(Reg::Temp(1), 16),
-        Local::Const(Reg::Temp(2), sizes.slots() as i64),
-        Local::Const(Reg::Temp(3), 1),
-        Local::Const(Reg::Temp(4), 16),
-        Local::Load(Reg::Temp(5), Reg::Temp(1), header),
-        Local::Jz(Reg::Temp(5), 13),
-        Local::Bin(BinOp::Add, Reg::Temp(0), Reg::Temp(0), Reg::Temp(3)),
-        Local::Bin(BinOp::Add, Reg::Temp(1), Reg::Temp(1), Reg::Temp(4)),
-        Local::Bin(BinOp::Lt, Reg::Temp(6), Reg::Temp(2), Reg::Temp(0)),
-        Local::Jz(Reg::Temp(6), 5),
-        Local::Const(Reg::Own(to), 0),
-        Local::Jmp(17 + fill + 1),
+        Local::Bin(BinOp::Mul, Reg::Temp(1), Reg::Temp(0), Reg::Temp(1)),
         Local::Const(Reg::Temp(5), i64::from(kind)),
         Local::Log(Reg::Temp(1), header),
         Local::Store(Reg::Temp(1), header, Reg::Temp(5)),
@@ -83,7 +67,7 @@ fn push_object(
     requires { words ≤ 15 }
     ensures { OnOk result (piece.new ≡ piece.old ++ new_code sizes.now to kind words logged) }
 {
-    push_search(piece, sizes, to, kind, fill_length(logged, words))?;
+    push_search(piece, sizes, kind, fill_length(logged, words))?;
     push_fill(piece, sizes, logged, words)?;
     piece.push(Local::Mov(Reg::Own(to), Reg::Temp(0)))
 }

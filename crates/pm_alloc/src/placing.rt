@@ -59,6 +59,7 @@ fn placed(base: u32, place: u32, local: Local) -> Op
             o,
             b: number(base, b),
         },
+        Local::Find(r) => Op::Find { r: number(base, r) },
         Local::Log(a, o) => Op::Log {
             a: number(base, a),
             o,

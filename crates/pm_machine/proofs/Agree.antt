@@ -1,36 +1,81 @@
 -- Two heaps that are alike for a run have the same run.
-use Rattle.std.proofs.Common.{◌≡◌, ◌≢◌, inl, inr, ⊎_elim, ℕ, zero, suc, ◌<◌, List, [], ◌∷◌, Option, Some, None, ℤ, ◌+ℤ◌, w64, refl, sym, ap, ◌∙◌, subst}
+use Rattle.std.proofs.Common.{◌≡◌, ◌≢◌, inl, inr, ⊎_elim, ℕ, zero, suc, ◌<◌, List, [], ◌∷◌, Option, Some, None, ℤ, Bool, true, false, if◌then◌else◌, pos, ◌+◌, ◌≤◌, ◌*◌, ◌+ℤ◌, w64, arith, refl, sym, ap, ◌∙◌, subst}
 use Rattle.std.specs.Int.{int_wrap}
+use Rattle.std.specs.Ordering.{int_eq}
 use Rattle.std.proofs.lemmas.Bool.{cases_eq}
 use Rattle.cache_model.specs.Cache.{Words, Cache, put}
 use Rattle.cache_model.proofs.Versions.{put_same, put_other}
-use Rattle.pool_layout.specs.Sizes.{heap_words}
+use Rattle.pool_layout.specs.declared.limits.Sizes.{Sizes}
+use Rattle.pool_layout.specs.Sizes.{heap_words, slot_word}
 use Rattle.pm_machine.specs.declared.image.Image.{Image}
 use Rattle.pm_machine.specs.declared.op.Op.{Op}
-use Rattle.pm_machine.specs.declared.op.Op.TheVariants.{Load}
+use Rattle.pm_machine.specs.declared.op.Op.TheVariants.{Load, Find}
 use Rattle.pm_machine.specs.declared.effect.Effect.{Effect}
-use Rattle.pm_machine.specs.declared.effect.Effect.TheVariants.{Loads, Stores, Logs, Flushes, Fences, Quiet}
+use Rattle.pm_machine.specs.declared.effect.Effect.TheVariants.{Loads, Scans, Stores, Logs, Flushes, Fences, Quiet}
 use Rattle.pm_machine.specs.declared.effect.End.{End}
 use Rattle.pm_machine.specs.Effects.{heap_past, records_past, heap_end}
 use Rattle.pm_machine.specs.Inputs.{AreAlike}
-use Rattle.pm_machine.specs.Machine.{State, Outcome, Goes, Ends, Run, Finished, began, follow, tally, step, run, act, fetch, load, target, written, read, index_of}
+use Rattle.pm_machine.specs.Find.{free_of, tried, least, looks, IsHeader}
+use Rattle.pm_machine.specs.Machine.{State, Outcome, Goes, Ends, Run, Finished, began, follow, tally, step, run, act, fetch, load, find, target, written, read, index_of}
 use Rattle.pm_machine.specs.Runs.{heap_in, AreLines, due, owed, IsFinished}
 use Rattle.pm_machine.proofs.Fuel.{began_rest}
-use Rattle.pm_machine.proofs.Range.{inside_below}
+use Rattle.pm_machine.proofs.Range.{inside_below, looks_within}
 use Rattle.pm_machine.proofs.Dues.{due_run}
 
 load_same : (h r : Words) (s : State) (q : ℕ) (p : Option ℕ) → ((w : ℕ) → p ≡ Some w → h w ≡ r w) → load r s q p ≡ load h s q p
 load_same h r s q None same = refl
 load_same h r s q (Some w) same = ap (λ (v : ℤ). Goes (Loads w) (written s q v)) (sym (same w refl))
 
--- a step sees the heap by its load alone
-act_same : (image : Image) (h r : Words) (n : ℕ) (s : State) (i : Option Op) → ((w : ℕ) (t : State) → w < heap_words image.parts.sizes → act image h n s i ≡ Goes (Loads w) t → h w ≡ r w) → act image r n s i ≡ act image h n s i
-act_same image h r n s (Some (Load q a o)) same =
+-- heaps with the same headers, as far as one of them is searched, have the same least free slot,
+-- and are searched as far
+find_same : (h r : Words) (n q w : ℕ) → ((u : ℕ) → IsHeader w (tried h n w) u → h u ≡ r u) →
+    (free_of r n q w ≡ free_of h n q w) × (tried r n w ≡ tried h n w)
+find_same h r zero q w same = (refl, refl)
+find_same h r (suc n) q w same =
+    let first : h w ≡ r w = same w (inl refl) in
+    let both = go (λ some. find_same h r n (q + 1) (w + 16) some) (int_eq (h w) (pos 0)) same in (
+      ap (λ (x : ℤ). if int_eq x (pos 0) then q else free_of r n (q + 1) (w + 16)) (sym first)
+          ∙ both.0,
+      ap (λ (x : ℤ). suc (if int_eq x (pos 0) then 0 else tried r n (w + 16))) (sym first) ∙ both.1,
+    )
+  where
+    Same : Type 0
+    Same =
+        (free_of r n (q + 1) (w + 16) ≡ free_of h n (q + 1) (w + 16))
+        × (tried r n (w + 16) ≡ tried h n (w + 16))
+
+    go : (((u : ℕ) → IsHeader (w + 16) (tried h n (w + 16)) u → h u ≡ r u) → Same) → (b : Bool) →
+        ((u : ℕ) → IsHeader w (suc (if b then 0 else tried h n (w + 16))) u → h u ≡ r u) →
+        ((if b then q else free_of r n (q + 1) (w + 16)) ≡ (if b then q else free_of h n (q + 1) (w + 16)))
+        × (suc (if b then 0 else tried r n (w + 16)) ≡ suc (if b then 0 else tried h n (w + 16)))
+    go next true some = (refl, refl)
+    go next false some = let rest = next (λ u is. some u (inr is)) in (rest.0, ap suc rest.1)
+
+-- a step sees the heap by its loads alone
+pub act_same : (image : Image) (h r : Words) (n : ℕ) (s : State) (i : Option Op) →
+    ((w : ℕ) (t : State) → w < heap_words image.parts.sizes → act image h n s i ≡ Goes (Loads w) t → h w ≡ r w) →
+    ((w m : ℕ) (t : State) → w + 16 * m ≤ heap_words image.parts.sizes → act image h n s i ≡ Goes (Scans w m) t → (u : ℕ) → IsHeader w m u → h u ≡ r u) →
+    act image r n s i ≡ act image h n s i
+act_same image h r n s (Some (Load q a o)) same alike =
     load_same h r s q (target image s a o) (λ w is. same w (written s q (h w)) (inside_below (heap_words image.parts.sizes) w (index_of (int_wrap w64 (read s a +ℤ o))) is) (ap (load h s q) is))
-act_same image h r n s i same = refl
+act_same image h r n s (Some (Find q)) same alike =
+    let z : Sizes = image.parts.sizes in
+    let both = find_same h r image.parts.sizes.slots 1 (slot_word image.parts.sizes 1)
+    (alike (slot_word image.parts.sizes 1) (looks image.parts.sizes h) (written s q (pos (least image.parts.sizes h))) (looks_within image.parts.sizes h) refl) in
+    ap (λ (m : ℕ). Goes (Scans (slot_word image.parts.sizes 1) m) (written s q (pos (least image.parts.sizes r)))) both.1
+    ∙ ap (λ (p : ℕ). Goes (Scans (slot_word image.parts.sizes 1) (looks image.parts.sizes h)) (written s q (pos p))) both.0
+act_same image h r n s i same alike = refl
+
+-- headers below the end of the heap
+pub header_below : (w m u H : ℕ) → w + 16 * m ≤ H → IsHeader w m u → u < H
+header_below w zero u H fits is = absurd is
+header_below w (suc m) u H fits (inl e) = omega arith
+header_below w (suc m) u H fits (inr is) = header_below (w + 16) m u H (omega arith) is
 
 alike_past : (H : ℕ) (e : Effect) (es : List Effect) (h r : Words) → AreAlike H (e ∷ es) h r → AreAlike H es (heap_past h e) (heap_past r e)
 alike_past H (Loads w) es h r alike u lt kept = alike u lt (⊎_elim (λ no. inl no) (λ input. inr (inr input)) kept)
+alike_past H (Scans w m) es h r alike u lt kept =
+    alike u lt (⊎_elim (λ no. inl no) (λ input. inr (inr input)) kept)
 alike_past H (Stores w x) es h r alike u lt kept = ⊎_elim
     (λ (e : u ≡ w). subst (λ (v : ℕ). put h w x v ≡ put r w x v) (sym e) (put_same h w x ∙ sym (put_same r w x)))
     (λ (ne : u ≢ w).
@@ -75,7 +120,10 @@ module _ (image : Image) (end : End) where
       let same : step image n s r ≡ step image n s h = ap tally (act_same image h r n s (fetch image s)
       (λ w t lt is.
       let inv = began_rest (Loads w) (after k n h (Loads w) t) end es (ap (follow (after k n h)) (sym (ap tally is)) ∙ ran) in
-      subst (λ (fs : List Effect). AreAlike H fs h r) inv.2 alike w lt (inr (inl refl)))) in
+      subst (λ (fs : List Effect). AreAlike H fs h r) inv.2 alike w lt (inr (inl refl)))
+      (λ w m t fits is u header.
+      let inv = began_rest (Scans w m) (after k n h (Scans w m) t) end es (ap (follow (after k n h)) (sym (ap tally is)) ∙ ran) in
+      subst (λ (fs : List Effect). AreAlike H fs h r) inv.2 alike u (header_below w m u H fits header) (inr (inl header)))) in
       let on = agree_on k n (step image n s h) h r es (λ m t h r rest. agree k m t h r rest) ran alike in
       (ap (follow (after k n r)) same ∙ on.0, on.1)
 

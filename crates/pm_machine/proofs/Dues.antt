@@ -11,7 +11,7 @@ use Rattle.pool_layout.specs.declared.places.Place.TheVariants.{RecordWord, Reco
 use Rattle.pool_layout.specs.Places.{at, pool_of}
 use Rattle.pool_layout.specs.Sizes.{heap_words}
 use Rattle.pm_machine.specs.declared.effect.Effect.{Effect}
-use Rattle.pm_machine.specs.declared.effect.Effect.TheVariants.{Loads, Stores, Logs, Flushes, Fences, Quiet}
+use Rattle.pm_machine.specs.declared.effect.Effect.TheVariants.{Loads, Scans, Stores, Logs, Flushes, Fences, Quiet}
 use Rattle.pm_machine.specs.declared.image.Image.{Image}
 use Rattle.pm_machine.specs.Effects.{heap_past, records_past, events_of}
 use Rattle.pm_machine.specs.Machine.{State, Outcome, Goes, Ends, step, Run, Unfinished, Finished, began, follow, run}
@@ -21,6 +21,7 @@ use Rattle.pm_machine.proofs.Range.{keeps_step}
 -- the heap in the view behind the events of an effect
 heap_at : (z : Sizes) (H a n : ℕ) (c : Cache) (e : Effect) (w : ℕ) → IsInRange z.records H n e → heap_in z (play c (events_of z a n (heap_in z c) e)) w ≡ heap_past (heap_in z c) e w
 heap_at z H a n c (Loads u) w fits = refl
+heap_at z H a n c (Scans u m) w fits = refl
 heap_at z H a n c (Stores u x) w fits = ⊎_elim
     (λ (e : w ≡ u).
     ap (λ (v : ℕ). view (apply c (Store (at (pool_of z) (Heap u)) x)) (at (pool_of z) (Heap v))) e

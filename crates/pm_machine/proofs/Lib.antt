@@ -6,4 +6,7 @@ pub mod Dues
 pub mod Fuel
 pub mod Answered
 pub mod Faults
+pub mod Least
+pub mod Searches
 pub mod Agree
+pub mod KnownAfter

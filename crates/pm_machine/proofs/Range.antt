@@ -1,24 +1,26 @@
 -- A step's effect is in range, dirty lines are lines of the heap, and there are no more records than the log holds.
-use Rattle.std.proofs.Common.{◌≡◌, ℕ, ◌+◌, ◌-◌, ◌*◌, ◌/◌, ◌<◌, ◌≤◌, ◌++◌, ◌==◌, if◌then◌else◌, Bool, true, false, List, [], ◌∷◌, drop, length, slice_get, Option, Some, None, ℤ, pos, ltb, w64, ◌+ℤ◌, refl, sym, ap, ◌∙◌, subst, arith, nat_eq}
+use Rattle.std.proofs.Common.{◌≡◌, ℕ, zero, suc, ◌+◌, ◌-◌, ◌*◌, ◌/◌, ◌<◌, ◌≤◌, ◌++◌, ◌==◌, if◌then◌else◌, Bool, true, false, List, [], ◌∷◌, drop, length, slice_get, Option, Some, None, ℤ, pos, ltb, w64, ◌+ℤ◌, refl, sym, ap, ◌∙◌, subst, arith, nat_eq}
 use Rattle.std.specs.List.{list_any}
 use Rattle.std.specs.Ordering.{int_eq}
 use Rattle.std.specs.Int.{int_wrap}
 use Rattle.indexmap.specs.IndexSet.{insert_key}
 use borrow.Author.Tests.{ltb-true}
 use Rattle.cache_model.specs.Cache.{Words}
-use Rattle.pool_layout.specs.Sizes.{heap_words}
+use Rattle.pool_layout.specs.declared.limits.Sizes.{Sizes}
+use Rattle.pool_layout.specs.Sizes.{heap_words, slot_word}
 use Rattle.pool_map.specs.declared.trap.TrapKind.TheVariants as trap
 use Rattle.pm_machine.specs.declared.image.Image.{Image}
 use Rattle.pm_machine.specs.declared.op.Op.{Op}
-use Rattle.pm_machine.specs.declared.op.Op.TheVariants.{Jz, Load, Store, Log, Flush, Call, Ret, Tick, Trap, Halt}
+use Rattle.pm_machine.specs.declared.op.Op.TheVariants.{Jz, Load, Store, Find, Log, Flush, Call, Ret, Tick, Trap, Halt}
 use Rattle.pm_machine.specs.declared.frame.Frame.{Frame}
 use Rattle.pm_machine.specs.declared.effect.Effect.{Effect}
-use Rattle.pm_machine.specs.declared.effect.Effect.TheVariants.{Loads, Stores, Logs, Flushes, Fences, Quiet}
+use Rattle.pm_machine.specs.declared.effect.Effect.TheVariants.{Loads, Scans, Stores, Logs, Flushes, Fences, Quiet}
 use Rattle.pm_machine.specs.declared.effect.End.TheVariants.{Trapped}
 use Rattle.pm_machine.specs.declared.machine.Progress.{Progress}
 use Rattle.pm_machine.specs.declared.machine.Progress.TheVariants.{Did}
 use Rattle.pm_machine.specs.Effects.{records_past}
 use Rattle.pm_machine.specs.Machine.{State, Outcome, Goes, Ends, step, decide, tally, act, fetch, read, load, store, log, flush, call, return, target, moved, passed, spent, entered, index_of, inside}
+use Rattle.pm_machine.specs.Find.{tried, looks}
 use Rattle.pm_machine.specs.Runs.{AreLines, IsInRange, Keeps, outcome_of}
 
 pub inside_below : (H w : ℕ) (o : Option ℕ) → inside H o ≡ Some w → w < H
@@ -28,6 +30,19 @@ inside_below H w (Some v) is = go (ltb v H) refl is
     go : (b : Bool) → ltb v H ≡ b → (if b then Some v else None) ≡ Some w → w < H
     go true lt same = let e : v ≡ w = cc in subst (λ (i : ℕ). i < H) e (ltb-true v H lt)
     go false lt same = absurd (cc)
+
+-- no more headers are loaded than there are
+tried_few : (heap : Words) (n w : ℕ) → tried heap n w ≤ n
+tried_few heap zero w = omega arith
+tried_few heap (suc n) w = go (tried_few heap n (w + 16)) (int_eq (heap w) (pos 0))
+  where
+    go : tried heap n (w + 16) ≤ n → (b : Bool) →
+        suc (if b then 0 else tried heap n (w + 16)) ≤ suc n
+    go few true = omega arith
+    go few false = omega arith
+
+pub looks_within : (s : Sizes) (heap : Words) → slot_word s 1 + 16 * looks s heap ≤ heap_words s
+looks_within s heap = omega (arith, tried_few heap s.slots (slot_word s 1))
 
 lines_push : (H : ℕ) (ls : List ℕ) (l : ℕ) → AreLines H ls → 8 * l < H → AreLines H (ls ++ l ∷ [])
 lines_push H [] l lines lt = (lt, tt)
@@ -97,6 +112,7 @@ module _ (image : Image) (heap : Words) (n : ℕ) (s : State) (lines : AreLines 
   keeps_act (Some (Jz a t)) = keeps_branch t (int_eq (read s a) (pos 0))
   keeps_act (Some (Load r a o)) = keeps_load r (target image s a o) (λ w. inside_below H w (index_of (int_wrap w64 (read s a +ℤ o))))
   keeps_act (Some (Store a o b)) = keeps_store (read s b) (target image s a o) (λ w. inside_below H w (index_of (int_wrap w64 (read s a +ℤ o))))
+  keeps_act (Some (Find r)) = (looks_within image.parts.sizes heap, lines, refl)
   keeps_act (Some (Log a o)) = keeps_log (target image s a o) (λ w. inside_below H w (index_of (int_wrap w64 (read s a +ℤ o))))
   keeps_act (Some Flush) = keeps_flush s.dirty refl
   keeps_act (Some (Call r f args)) = keeps_call r f args
@@ -109,6 +125,7 @@ module _ (image : Image) (heap : Words) (n : ℕ) (s : State) (lines : AreLines 
   keeps_tally : (o : Outcome) → Kept o → Keeps C H n s.logged (tally o)
   keeps_tally (Ends end) keeps = tt
   keeps_tally (Goes (Loads w) t) keeps = keeps
+  keeps_tally (Goes (Scans w m) t) keeps = keeps
   keeps_tally (Goes (Stores w x) t) keeps = keeps
   keeps_tally (Goes (Logs w) t) keeps = (keeps.0, keeps.1, let e = keeps.2 in omega arith)
   keeps_tally (Goes (Flushes l) t) keeps = keeps
@@ -120,12 +137,21 @@ keeps_step image heap n s o lines is =
     subst (Keeps image.parts.sizes.records (heap_words image.parts.sizes) n s.logged) (sym is)
     (keeps_tally image heap n s lines (decide image n s heap) (keeps_act image heap n s lines (fetch image s)))
 
+pub range_progress :
+    (image : Image) (heap : Words) (n : ℕ) (s : State) (p : Progress) (e : Effect) (t : State) →
+    AreLines (heap_words image.parts.sizes) s.dirty → p ≡ Did e →
+    outcome_of p t ≡ decide image n s heap →
+    IsInRange image.parts.sizes.records (heap_words image.parts.sizes) n e
+range_progress image heap n s p e t lines did is =
+    (subst (Kept image heap n s lines) (sym (ap (λ (p : Progress). outcome_of p t) (sym did) ∙ is)) (keeps_act image heap n s lines (fetch image s))).0
+
 pub keeps_progress : (image : Image) (heap : Words) (n : ℕ) (s : State) (p : Progress) (e : Effect) (t : State) → AreLines (heap_words image.parts.sizes) s.dirty → p ≡ Did e → outcome_of p t ≡ step image n s heap → Keeps image.parts.sizes.records (heap_words image.parts.sizes) n s.logged (Goes e t)
 keeps_progress image heap n s p e t lines did is = keeps_step image heap n s (Goes e t) lines (ap (λ (p : Progress). outcome_of p t) (sym did) ∙ is)
 
 -- the records behind an effect fit the log
 pub records_fit : (C H n : ℕ) (e : Effect) → IsInRange C H n e → n ≤ C → records_past n e ≤ C
 records_fit C H n (Loads w) fits le = le
+records_fit C H n (Scans w m) fits le = le
 records_fit C H n (Stores w x) fits le = le
 records_fit C H n (Logs w) fits le = let lt : n < C = fits.1 in omega arith
 records_fit C H n (Flushes l) fits le = le
@@ -135,6 +161,7 @@ records_fit C H n Quiet fits le = le
 -- one more LOG is one more record
 pub logged_fit : (k n c m : ℕ) (e : Effect) → k + c ≡ n + m → records_past k e + c ≡ records_past n e + m
 logged_fit k n c m (Loads w) same = same
+logged_fit k n c m (Scans w h) same = same
 logged_fit k n c m (Stores w x) same = same
 logged_fit k n c m (Logs w) same = omega arith
 logged_fit k n c m (Flushes l) same = same

@@ -5,7 +5,7 @@
 use Rattle.std.specs.Prelude.{ℕ, ◌+◌, Bool, true, false, ◌&&◌, ◌||◌, nat_lt, nat_le, ◌==◌, if◌then◌else◌, List, [], ◌∷◌, length, Option, Some, None, slice_get}
 use Rattle.std.specs.List.{list_all}
 use Rattle.pm_machine.specs.declared.op.Op.{Op}
-use Rattle.pm_machine.specs.declared.op.Op.TheVariants.{Const, Mov, Bin, Jmp, Jz, Load, Store, Log, Flush, Fence, Call, Ret, Tick, Trap, Halt}
+use Rattle.pm_machine.specs.declared.op.Op.TheVariants.{Const, Mov, Bin, Jmp, Jz, Load, Store, Find, Log, Flush, Fence, Call, Ret, Tick, Trap, Halt}
 use Rattle.pm_machine.specs.declared.op.Function.{Function}
 
 -- a call's function is there, and takes so many arguments
@@ -22,6 +22,7 @@ is_there us r n (Jmp t) = nat_lt t n
 is_there us r n (Jz a t) = nat_lt a r && nat_lt t n
 is_there us r n (Load to a o) = nat_lt to r && nat_lt a r
 is_there us r n (Store a o b) = nat_lt a r && nat_lt b r
+is_there us r n (Find to) = nat_lt to r
 is_there us r n (Log a o) = nat_lt a r
 is_there us r n Flush = true
 is_there us r n Fence = true
@@ -43,6 +44,7 @@ is_end (Bin op to a b) = false
 is_end (Jz a t) = false
 is_end (Load to a o) = false
 is_end (Store a o b) = false
+is_end (Find to) = false
 is_end (Log a o) = false
 is_end Flush = false
 is_end Fence = false

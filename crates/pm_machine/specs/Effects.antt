@@ -8,11 +8,12 @@ use Rattle.pool_layout.specs.declared.places.Place.TheVariants.{Heap}
 use Rattle.pool_layout.specs.Places.{at, pool_of}
 use Rattle.clobber_log.specs.Record.{record_events}
 use Rattle.pm_machine.specs.declared.effect.Effect.{Effect}
-use Rattle.pm_machine.specs.declared.effect.Effect.TheVariants.{Loads, Stores, Logs, Flushes, Fences, Quiet}
+use Rattle.pm_machine.specs.declared.effect.Effect.TheVariants.{Loads, Scans, Stores, Logs, Flushes, Fences, Quiet}
 
 -- the heap behind a step
 abbrev pub heap_past : Words → Effect → Words
 heap_past heap (Loads w) = heap
+heap_past heap (Scans w m) = heap
 heap_past heap (Stores w x) = put heap w x
 heap_past heap (Logs w) = heap
 heap_past heap (Flushes l) = heap
@@ -27,6 +28,7 @@ heap_end heap (e ∷ es) = heap_end (heap_past heap e) es
 -- how many records there are behind a step, where n were there before
 abbrev pub records_past : ℕ → Effect → ℕ
 records_past n (Loads w) = n
+records_past n (Scans w m) = n
 records_past n (Stores w x) = n
 records_past n (Logs w) = suc n
 records_past n (Flushes l) = n
@@ -41,6 +43,7 @@ records_end n (e ∷ es) = records_end (records_past n e) es
 -- the events of a step, with attempt a, n records so far and the heap so far
 abbrev pub events_of : Sizes → (a n : ℕ) → Words → Effect → List CacheEvent
 events_of s a n heap (Loads w) = []
+events_of s a n heap (Scans w m) = []
 events_of s a n heap (Stores w x) = Store (at (pool_of s) (Heap w)) x ∷ []
 events_of s a n heap (Logs w) = record_events s n w (heap w) (a + 1)
 events_of s a n heap (Flushes l) = Flush (6 + s.records + l) ∷ []

@@ -2,12 +2,14 @@
 use Rattle.std.specs.Prelude.{ℕ, ◌<◌, ◌≡◌, ◌≢◌, ◌⊎◌, List, [], ◌∷◌}
 use Rattle.cache_model.specs.Cache.{Words}
 use Rattle.pm_machine.specs.declared.effect.Effect.{Effect}
-use Rattle.pm_machine.specs.declared.effect.Effect.TheVariants.{Loads, Stores, Logs, Flushes, Fences, Quiet}
+use Rattle.pm_machine.specs.declared.effect.Effect.TheVariants.{Loads, Scans, Stores, Logs, Flushes, Fences, Quiet}
+use Rattle.pm_machine.specs.Find.{IsHeader}
 
 -- u is loaded before any store to it
 abbrev pub IsInput : List Effect → ℕ → Type 0
 IsInput [] u = ⊥
 IsInput (Loads w ∷ es) u = (u ≡ w) ⊎ IsInput es u
+IsInput (Scans w m ∷ es) u = IsHeader w m u ⊎ IsInput es u
 IsInput (Stores w x ∷ es) u = (u ≢ w) × IsInput es u
 IsInput (Logs w ∷ es) u = IsInput es u
 IsInput (Flushes l ∷ es) u = IsInput es u
@@ -18,6 +20,7 @@ IsInput (Quiet ∷ es) u = IsInput es u
 abbrev pub IsOverwritten : List Effect → ℕ → Type 0
 IsOverwritten [] u = ⊥
 IsOverwritten (Loads w ∷ es) u = IsOverwritten es u
+IsOverwritten (Scans w m ∷ es) u = IsOverwritten es u
 IsOverwritten (Stores w x ∷ es) u = (u ≡ w) ⊎ IsOverwritten es u
 IsOverwritten (Logs w ∷ es) u = IsOverwritten es u
 IsOverwritten (Flushes l ∷ es) u = IsOverwritten es u

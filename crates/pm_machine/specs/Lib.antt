@@ -3,8 +3,10 @@ pub mod Few
 pub mod Stack
 pub mod Transactions
 pub mod Effects
+pub mod Find
 pub mod Machine
 pub mod Runs
+pub mod Known
 pub mod Answers
 pub mod Inputs
 pub mod Law

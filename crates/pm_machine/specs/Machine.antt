@@ -5,22 +5,23 @@ use Rattle.std.specs.Int.{w64, int_wrap}
 use Rattle.std.specs.Ordering.{int_eq}
 use Rattle.indexmap.specs.IndexSet.{insert_key}
 use Rattle.cache_model.specs.Cache.{Words}
-use Rattle.pool_layout.specs.Sizes.{heap_words}
+use Rattle.pool_layout.specs.Sizes.{heap_words, slot_word}
 use Rattle.pool_map.specs.declared.trap.TrapKind.{TrapKind}
 use Rattle.pool_map.specs.declared.trap.TrapKind.TheVariants.{Steps, LogFull, Depth}
 use Rattle.pool_map.specs.Trap.{trap_of}
 use Rattle.nvm_base.specs.Applied.{applied}
 use Rattle.pm_machine.specs.declared.effect.Effect.{Effect}
-use Rattle.pm_machine.specs.declared.effect.Effect.TheVariants.{Loads, Stores, Logs, Flushes, Fences, Quiet}
+use Rattle.pm_machine.specs.declared.effect.Effect.TheVariants.{Loads, Scans, Stores, Logs, Flushes, Fences, Quiet}
 use Rattle.pm_machine.specs.declared.effect.End.{End}
 use Rattle.pm_machine.specs.declared.effect.End.TheVariants.{Halted, Trapped}
 use Rattle.pm_machine.specs.declared.op.Op.{Op}
-use Rattle.pm_machine.specs.declared.op.Op.TheVariants.{Const, Mov, Bin, Jmp, Jz, Load, Store, Log, Flush, Fence, Call, Ret, Tick, Trap, Halt}
+use Rattle.pm_machine.specs.declared.op.Op.TheVariants.{Const, Mov, Bin, Jmp, Jz, Load, Store, Find, Log, Flush, Fence, Call, Ret, Tick, Trap, Halt}
 use Rattle.pm_machine.specs.declared.op.Function.{Function}
 use Rattle.pm_machine.specs.Transactions.{function_of}
 use Rattle.pm_machine.specs.declared.image.Image.{Image}
 use Rattle.pm_machine.specs.declared.frame.Frame.{Frame}
 use Rattle.pm_machine.specs.Effects.{heap_past, records_past}
+use Rattle.pm_machine.specs.Find.{least, looks}
 
 -- The open function, the frames below it (the nearest last), the ticks left, the LOG instructions done, and the heap
 -- lines stored to and not yet flushed, in the order of first stores; and how many registers a frame has.
@@ -79,6 +80,11 @@ target image s a o = word_at (heap_words image.parts.sizes) (int_wrap w64 (read 
 abbrev pub load : Words → State → ℕ → Option ℕ → Outcome
 load heap s r None = Goes Quiet (written s r (pos 0))
 load heap s r (Some w) = Goes (Loads w) (written s r (heap w))
+
+-- the least free slot to a register
+abbrev pub find : Image → Words → State → ℕ → Outcome
+find image heap s r =
+    Goes (Scans (slot_word image.parts.sizes 1) (looks image.parts.sizes heap)) (written s r (pos (least image.parts.sizes heap)))
 
 -- on to the next place, and the word's line is dirty
 abbrev pub stored : State → ℕ → State
@@ -152,6 +158,7 @@ act image heap n s (Some (Jmp t)) = Goes Quiet (moved s t)
 act image heap n s (Some (Jz a t)) = Goes Quiet (if int_eq (read s a) (pos 0) then moved s t else passed s)
 act image heap n s (Some (Load r a o)) = load heap s r (target image s a o)
 act image heap n s (Some (Store a o b)) = store s (read s b) (target image s a o)
+act image heap n s (Some (Find r)) = find image heap s r
 act image heap n s (Some (Log a o)) = log image.parts.sizes.records n s (target image s a o)
 act image heap n s (Some Flush) = flush s (slice_get s.dirty 0)
 act image heap n s (Some Fence) = Goes Fences (passed s)
@@ -168,10 +175,20 @@ fetch_in p (Some f) = slice_get f.code p
 abbrev pub fetch : Image → State → Option Op
 fetch image s = fetch_in s.top.place (slice_get image.parts.functions s.top.function)
 
+-- the heap word that an instruction would store; none where it isn't a STORE inside the heap
+abbrev pub stored_by : Image → State → Option Op → Option ℕ
+stored_by image s None = None
+stored_by image s (Some (Store a o b)) = target image s a o
+stored_by image s (Some op) = None
+
+abbrev pub due_store : Image → State → Option ℕ
+due_store image s = stored_by image s (fetch image s)
+
 -- a LOG that is done is counted
 abbrev pub tallied : Effect → State → State
 tallied (Logs w) s = record { top = s.top; below = s.below; ticks = s.ticks; logged = s.logged + 1; dirty = s.dirty; size = s.size }
 tallied (Loads w) s = s
+tallied (Scans w m) s = s
 tallied (Stores w x) s = s
 tallied (Flushes l) s = s
 tallied Fences s = s

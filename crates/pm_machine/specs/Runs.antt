@@ -1,5 +1,5 @@
 -- What a run on a device's cache owes, and what is kept on the way.
-use Rattle.std.specs.Prelude.{ℕ, zero, suc, ◌+◌, ◌*◌, ◌<◌, ◌≡◌, ◌++◌, List, [], ◌∷◌, length, Option, Some, None}
+use Rattle.std.specs.Prelude.{ℕ, zero, suc, ◌+◌, ◌*◌, ◌<◌, ◌≤◌, ◌≡◌, ◌++◌, List, [], ◌∷◌, length, Option, Some, None}
 use Rattle.cache_model.specs.Event.{CacheEvent}
 use Rattle.cache_model.specs.Cache.{Words, Cache, view}
 use Rattle.cache_model.specs.Play.{play}
@@ -10,7 +10,7 @@ use Rattle.pool_layout.specs.declared.limits.Sizes.{Sizes}
 use Rattle.pool_layout.specs.declared.places.Place.TheVariants.{Heap}
 use Rattle.pool_layout.specs.Places.{at, pool_of}
 use Rattle.pm_machine.specs.declared.effect.Effect.{Effect}
-use Rattle.pm_machine.specs.declared.effect.Effect.TheVariants.{Loads, Stores, Logs, Flushes, Fences, Quiet}
+use Rattle.pm_machine.specs.declared.effect.Effect.TheVariants.{Loads, Scans, Stores, Logs, Flushes, Fences, Quiet}
 use Rattle.pm_machine.specs.declared.effect.End.{End}
 use Rattle.pm_machine.specs.declared.effect.End.TheVariants.{Trapped}
 use Rattle.pool_map.specs.declared.trap.TrapKind.TheVariants.{Steps}
@@ -40,14 +40,16 @@ effect_in (Ends e) = Quiet
 abbrev pub IsStore : Effect → Type 0
 IsStore (Stores w x) = Unit {0}
 IsStore (Loads w) = ⊥
+IsStore (Scans w m) = ⊥
 IsStore (Logs w) = ⊥
 IsStore (Flushes l) = ⊥
 IsStore Fences = ⊥
 IsStore Quiet = ⊥
 
--- the words and lines of an effect are there: H heap words, C records, n of them written
+-- the words, headers and lines of an effect are there: H heap words, C records, n of them written
 abbrev pub IsInRange : (C H n : ℕ) → Effect → Type 0
 IsInRange C H n (Loads w) = w < H
+IsInRange C H n (Scans w m) = w + 16 * m ≤ H
 IsInRange C H n (Stores w x) = w < H
 IsInRange C H n (Logs w) = (w < H) × (n < C)
 IsInRange C H n (Flushes l) = 8 * l < H

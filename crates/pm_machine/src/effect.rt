@@ -7,6 +7,8 @@ use pool_map::TrapKind;
 #[derive(Clone, Copy, Debug, PartialEq, Eq, Drop)]
 pub enum Effect {
     Loads(u64),
+    /// Loads so many headers of slots, 16 words apart; the first is this heap word.
+    Scans(u64, u64),
     Stores(u64, i64),
     Logs(u64),
     Flushes(u64),

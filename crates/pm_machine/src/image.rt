@@ -63,7 +63,7 @@ fn is_there(functions: &Functions, registers: u32, places: usize, op: &Op) -> bo
     ensures { result ≡ is_there functions.now registers places op.now }
 {
     match op {
-        Op::Const { r, .. } => *r < registers,
+        Op::Const { r, .. } | Op::Find { r } => *r < registers,
         Op::Mov { r, a } => *r < registers && *a < registers,
         Op::Bin { r, a, b, .. } => *r < registers && *a < registers && *b < registers,
         Op::Jmp { t } => (*t as usize) < places,
@@ -93,6 +93,7 @@ fn is_end(op: &Op) -> bool
         | Op::Jz { .. }
         | Op::Load { .. }
         | Op::Store { .. }
+        | Op::Find { .. }
         | Op::Log { .. }
         | Op::Flush
         | Op::Fence
@@ -182,7 +183,7 @@ impl Image {
     }
 
     /// A number of steps that no run goes past.
-    pub(crate) fn most(&self) -> u128
+    pub fn most(&self) -> u128
         ensures { result ≡ self.now.parts.most }
     {
         self.parts.most

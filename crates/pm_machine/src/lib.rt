@@ -5,6 +5,7 @@
 
 mod answer;
 mod effect;
+mod find;
 mod frame;
 mod frames;
 mod image;
@@ -15,6 +16,7 @@ mod playing;
 
 pub use answer::{RunAnswer, StepAnswer};
 pub use effect::{Effect, End};
+pub use find::{Found, InUse};
 pub use frame::{Frame, RegisterWords};
 pub use frames::Frames;
 pub use image::{Image, ImageParts, ImageRefused};

@@ -10,11 +10,13 @@ ghost use Rattle.pmem.specs.Played.{PlaysAll, PlaysPart};
 ghost use Rattle.pm_machine.specs.declared.effect.Effect.TheVariants.{Quiet};
 ghost use Rattle.pm_machine.specs.declared.machine.Progress.TheVariants as progress;
 ghost use Rattle.pm_machine.specs.declared.effect.End.TheVariants.{Halted, Trapped};
-ghost use Rattle.pm_machine.specs.Machine.{State, read, passed, moved, written, stored, cleaned, placed, entered, returned, return, load, store, log, flush, call, act, Goes, Ends, spent, index_of, word_at, target, fetch, decide, tallied, step, trap_at, start, filled};
+ghost use Rattle.pm_machine.specs.Machine.{State, read, passed, moved, written, stored, cleaned, placed, entered, returned, return, load, find, store, log, flush, call, act, Goes, Ends, spent, index_of, word_at, target, fetch, decide, tallied, step, trap_at, start, filled, stored_by, due_store};
 ghost use Rattle.pm_machine.specs.Effects.{events_of, records_past};
+ghost use Rattle.pm_machine.specs.Known.{AreInUseOn};
 ghost use Rattle.pm_machine.specs.Runs.{heap_in, outcome_of, effect_of, effect_in, IsStore, IsInRange, AreLines, due, end_of};
 
 use crate::effect::{Effect, End};
+use crate::find::InUse;
 use crate::frame::{Frame, RegisterWords};
 use crate::frames::{CALLERS, Frames};
 use crate::image::Image;
@@ -24,7 +26,7 @@ use indexmap::IndexSet;
 use nvm_base::Steps;
 use pmem::events::{fence, flush, store};
 use pmem::{PmemWork, Refusal};
-use pool_layout::{Sizes, heap_start, heap_words};
+use pool_layout::{Sizes, heap_start, heap_words, slot_word};
 use pool_map::TrapKind;
 use std::alloc::{AllocError, Global};
 use std::marker::Model;
@@ -84,7 +86,7 @@ fn word_at(heap_words: u64, x: i64) -> Option<u64>
     }
 }
 
-/// Takes the first lines out of a set. Compiled code stores nothing behind its flushes, so there are
+/// Takes the first lines out of a set. Compiled code stores nothing after its flushes, so there are
 /// none.
 #[tactic(auto, using(crate::proofs::DirtyLines::one_out))]
 fn drop_first(lines: &mut IndexSet<u64>, count: usize)
@@ -265,6 +267,31 @@ impl Machine {
         }
     }
 
+    fn find<P: PmemWork>(
+        &mut self,
+        dev: &P,
+        image: &Image,
+        used: &mut InUse,
+        r: u32,
+    ) -> Result<Progress, Refusal>
+        requires known { AreInUseOn image.now.parts.sizes (P.device dev.now) used.old }
+        requires place { self.old.top.place < 2 ^ 63 }
+        requires lines { (P.device dev.now).lines ≡ pool_lines image.now.parts.sizes }
+        requires on { (P.device dev.now).on ≡ true }
+        ensures known { AreInUseOn image.now.parts.sizes (P.device dev.now) used.new }
+        ensures meaning { IfOk result (λ p. outcome_of p self.new ≡ find image.now (heap_in image.now.parts.sizes (P.device dev.now).cache) self.old r) }
+        ensures never { IsOk result }
+        ensures logged { self.new.logged ≡ self.old.logged }
+    {
+        match used.search(dev, image.sizes()) {
+            None => Err(Refusal::Off),
+            Some(found) => {
+                self.write(r, found.slot as i64);
+                Ok(Progress::Did(Effect::Scans(slot_word(image.sizes(), 1), found.looks)))
+            }
+        }
+    }
+
     fn put(&mut self, x: i64, word: Option<u64>) -> Result<Progress, Refusal>
         requires { self.old.top.place < 2 ^ 63 }
         ensures meaning { IfOk result (λ p. outcome_of p self.new ≡ store self.old x word) }
@@ -374,12 +401,15 @@ impl Machine {
         &mut self,
         dev: &P,
         image: &Image,
+        used: &mut InUse,
         count: u64,
         op: &Op,
     ) -> Result<Progress, Refusal>
+        requires known { AreInUseOn image.now.parts.sizes (P.device dev.now) used.old }
         requires place { self.old.top.place < 2 ^ 63 }
         requires lines { (P.device dev.now).lines ≡ pool_lines image.now.parts.sizes }
         requires on { (P.device dev.now).on ≡ true }
+        ensures known { AreInUseOn image.now.parts.sizes (P.device dev.now) used.new }
         ensures meaning { IfOk result (λ p. outcome_of p self.new ≡ act image.now (heap_in image.now.parts.sizes (P.device dev.now).cache) count self.old (Some op.now)) }
         ensures only { OnErr result (IsErrOf result Refusal.NoMemory) }
         ensures wants { OnErr result (IsStore (effect_in (act image.now (heap_in image.now.parts.sizes (P.device dev.now).cache) count self.old (Some op.now)))) }
@@ -418,6 +448,7 @@ impl Machine {
                 let word = self.target(image, *a, *o);
                 self.put(self.read(*b), word)
             }
+            Op::Find { r } => self.find(dev, image, used, *r),
             Op::Log { a, o } => {
                 let word = self.target(image, *a, *o);
                 Ok(self.log(image.sizes().records(), count, word))
@@ -440,10 +471,13 @@ impl Machine {
         &mut self,
         dev: &P,
         image: &Image,
+        used: &mut InUse,
         count: u64,
     ) -> Result<Progress, Refusal>
+        requires known { AreInUseOn image.now.parts.sizes (P.device dev.now) used.old }
         requires lines { (P.device dev.now).lines ≡ pool_lines image.now.parts.sizes }
         requires on { (P.device dev.now).on ≡ true }
+        ensures known { AreInUseOn image.now.parts.sizes (P.device dev.now) used.new }
         ensures meaning { IfOk result (λ p. outcome_of p self.new ≡ decide image.now count self.old (heap_in image.now.parts.sizes (P.device dev.now).cache)) }
         ensures only { OnErr result (IsErrOf result Refusal.NoMemory) }
         ensures wants { OnErr result (IsStore (effect_in (decide image.now count self.old (heap_in image.now.parts.sizes (P.device dev.now).cache)))) }
@@ -452,7 +486,7 @@ impl Machine {
     {
         match fetch(image, self) {
             None => Ok(Progress::Ended(End::Trapped(TrapKind::Depth))),
-            Some(op) => self.act(dev, image, count, op),
+            Some(op) => self.act(dev, image, used, count, op),
         }
     }
 }
@@ -482,6 +516,29 @@ impl Machine {
             lines: IndexSet::new(alloc),
             flushed: 0,
         })
+    }
+
+    /// The heap word that the next instruction would store; none where it isn't a STORE inside the heap.
+    /// The image is the one that the machine was made for.
+    pub fn due_store(&self, image: &Image) -> Option<u64>
+        ensures value { result ≡ due_store image.now self.now }
+        ensures within { ForSome result (λ w. w < heap_words image.now.parts.sizes) }
+    {
+        match fetch(image, self) {
+            None => None,
+            Some(op) => self.stored_by(image, op),
+        }
+    }
+
+    /// The heap word that an instruction would store.
+    fn stored_by(&self, image: &Image, op: &Op) -> Option<u64>
+        ensures value { result ≡ stored_by image.now self.now (Some op.now) }
+        ensures within { ForSome result (λ w. w < heap_words image.now.parts.sizes) }
+    {
+        match op {
+            Op::Store { a, o, b: _ } => self.target(image, *a, *o),
+            _ => None,
+        }
     }
 
     /// How many LOG instructions were done.
@@ -523,24 +580,29 @@ fn perform<P: PmemWork>(
         Effect::Logs(w) => append_record(sizes, dev, count, attempt, w),
         Effect::Flushes(l) => flush(dev, 6 + sizes.records() + l),
         Effect::Fences => fence(dev),
-        Effect::Loads(_) | Effect::Quiet => Ok(()),
+        Effect::Loads(_) | Effect::Scans(..) | Effect::Quiet => Ok(()),
     }
 }
 
 impl Machine {
-    /// One step, over a pool of that attempt with so many records.
-    pub(crate) fn step_on<P: PmemWork>(
+    /// One step, over a pool of that attempt with so many records. What is known of the slots in use is
+    /// used and kept. After an end or a refusal the machine is of no more use, nor is what was known after
+    /// a refusal.
+    pub fn step_on<P: PmemWork>(
         &mut self,
         image: &Image,
         attempt: u64,
         count: u64,
+        used: &mut InUse,
         dev: &mut P,
     ) -> Result<Progress, Refusal>
+        requires known { AreInUseOn image.now.parts.sizes (P.device dev.old) used.old }
         requires lines { (P.device dev.old).lines ≡ pool_lines image.now.parts.sizes }
         requires on { (P.device dev.old).on ≡ true }
         requires attempt { attempt ≤ 2 ^ 63 - 2 }
         requires dirty { AreLines (heap_words image.now.parts.sizes) self.old.dirty }
         requires logged { self.old.logged < 2 ^ 63 }
+        ensures known { IfOk result (λ p. AreInUseOn image.now.parts.sizes (P.device dev.new) used.new) }
         ensures meaning { IfOk result (λ p. outcome_of p self.new ≡ step image.now count self.old (heap_in image.now.parts.sizes (P.device dev.old).cache)) }
         ensures done { IfOk result (λ p. PlaysAll (P.device dev.old) (events_of image.now.parts.sizes attempt count (heap_in image.now.parts.sizes (P.device dev.old).cache) (effect_of p)) (P.device dev.new)) }
         ensures refused { IfErr result (λ why. PlaysPart why (P.device dev.old) (events_of image.now.parts.sizes attempt count (heap_in image.now.parts.sizes (P.device dev.old).cache) (effect_in (decide image.now count self.old (heap_in image.now.parts.sizes (P.device dev.old).cache)))) (P.device dev.new)) }
@@ -548,10 +610,11 @@ impl Machine {
         ensures logged { OnErr result (self.new.logged ≡ self.old.logged) }
         ensures lines { (P.device dev.new).lines ≡ (P.device dev.old).lines }
     {
-        let progress = self.decide(dev, image, count)?;
+        let progress = self.decide(dev, image, used, count)?;
         if let Progress::Did(effect) = progress {
             perform(dev, image.sizes(), attempt, count, effect)?;
             self.tally(effect);
+            used.pass(image.sizes(), effect);
         }
         Ok(progress)
     }
@@ -564,6 +627,7 @@ impl Machine {
         match effect {
             Effect::Logs(_) => self.logged += 1,
             Effect::Loads(_)
+            | Effect::Scans(..)
             | Effect::Stores(..)
             | Effect::Flushes(_)
             | Effect::Fences
@@ -572,7 +636,7 @@ impl Machine {
     }
 }
 
-/// How many records there are behind an effect.
+/// How many records there are after an effect.
 fn records_past(count: u64, effect: Effect) -> u64
     requires { count < 2 ^ 63 }
     ensures { result ≡ records_past count effect }
@@ -580,6 +644,7 @@ fn records_past(count: u64, effect: Effect) -> u64
     match effect {
         Effect::Logs(_) => count + 1,
         Effect::Loads(_)
+        | Effect::Scans(..)
         | Effect::Stores(..)
         | Effect::Flushes(_)
         | Effect::Fences
@@ -613,12 +678,13 @@ impl Machine {
         ensures logged { OnOk result (self.new.logged + count ≡ (due image.now attempt image.now.parts.most count self.old (P.device dev.old).cache).records + self.old.logged) }
         ensures lines { (P.device dev.new).lines ≡ (P.device dev.old).lines }
     {
+        let mut used = InUse::unknown();
         let mut left = image.most();
         let mut records = count;
         while left > 0 {
             left -= 1;
             steps.tick();
-            let progress = match self.step_on(image, attempt, records, dev) {
+            let progress = match self.step_on(image, attempt, records, &mut used, dev) {
                 Ok(progress) => progress,
                 Err(why) => return Err(why),
             };

@@ -24,6 +24,9 @@ pub enum Op {
     Load { r: u32, a: u32, o: i64 },
     /// `H[R[a] + o] := R[b]`, one event, and its line is dirty; nothing outside the heap
     Store { a: u32, o: i64, b: u32 },
+    /// `R[r] :=` the least slot whose header is 0, or 0 where no slot's is; loads the headers from slot
+    /// 1 on, up to and including that one's
+    Find { r: u32 },
     /// append a record of `H[R[a] + o]`, five events; trap 7 where the log is full; nothing outside
     /// the heap
     Log { a: u32, o: i64 },

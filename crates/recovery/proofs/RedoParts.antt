@@ -1,5 +1,5 @@
 -- What is put back, and the run behind it.
-use Rattle.std.proofs.Common.{◌≡◌, ℕ, ◌+◌, ◌++◌, List, ℤ, inr, sym, ap, ◌∙◌, subst, arith}
+use Rattle.std.proofs.Common.{◌≡◌, ◌≤◌, ℕ, ◌+◌, ◌++◌, List, ℤ, inr, sym, ap, ◌∙◌, subst, arith}
 use Rattle.cache_model.specs.Cache.{Cache}
 use Rattle.cache_model.specs.Event.{CacheEvent}
 use Rattle.cache_model.specs.Play.{play}
@@ -18,7 +18,7 @@ use Rattle.tx_run.specs.declared.answer.Settled.TheVariants.{Done, Trap, Off, Fa
 use Rattle.tx_run.specs.Due.{due_on, due_run}
 use Rattle.tx_run.specs.Settled.{HasSettled, HasLogged, Settles}
 use Rattle.recovery.specs.Due.{due_back, due_redo}
-use Rattle.recovery.specs.Recovered.{redo_answer, HasRedone, Redid}
+use Rattle.recovery.specs.Recovered.{redo_answer, redo_run, HasRedone, Redid}
 
 module _ (image : Image) (tx : ℕ) (args : List ℤ) (n : ℕ) (d b : Device) where
   abbrev state : State
@@ -53,6 +53,12 @@ module _ (image : Image) (tx : ℕ) (args : List ℤ) (n : ℕ) (d b : Device) w
 
     pub still_on : m.on ≡ d.on
     still_on = all_on back d m done
+
+    pub spent_of : (k j k1 : ℕ) → j ≡ k + n → k1 ≤ j + (due_on image state m.cache).steps →
+        k1 ≤ k + n + (redo_run image tx args n d).steps
+    spent_of k j k1 back_steps h =
+        subst (λ (i : ℕ). k1 ≤ i + (due_on image state behind).steps) back_steps
+        (subst (λ (c : Cache). k1 ≤ j + (due_on image state c).steps) same h)
 
     pub redid_of : (a : Settled) (k j k1 : ℕ) → j ≡ k + n → Settles a image state m b j k1 → Redid (redo_answer a) image tx args n d b k k1
     redid_of (Done v l) k j k1 is h = (ended _ k j k1 is h.0, subst (HasLogged l image state) same h.1)

@@ -1,6 +1,7 @@
 -- How a recovery is answered, on a device that is on, of a pool without a mark.
 use Rattle.std.specs.Prelude.{ℕ, ◌+◌, ◌≡◌, ◌⊎◌, List, ℤ}
 use Rattle.cache_model.specs.Event.{CacheEvent}
+use Rattle.cache_model.specs.Cache.{view}
 use Rattle.cache_model.specs.Play.{play}
 use Rattle.pmem.specs.Device.{Device}
 use Rattle.pmem.specs.Played.{PlaysAll, PlaysPart}
@@ -8,6 +9,8 @@ use Rattle.pmem.specs.declared.answer.Phase.TheVariants as phase
 use Rattle.pmem.specs.declared.answer.Refusal.TheVariants as refusal
 use Rattle.pmem.specs.declared.answer.LogAnswer.{LogAnswer}
 use Rattle.pmem.specs.declared.answer.LogAnswer.TheVariants as log
+use Rattle.clobber_log.specs.Logs.{count_in}
+use Rattle.args_log.specs.Pending.{number_of}
 use Rattle.pm_machine.specs.declared.effect.End.{End}
 use Rattle.pm_machine.specs.declared.effect.End.TheVariants.{Halted, Trapped}
 use Rattle.pm_machine.specs.declared.image.Image.{Image}
@@ -20,6 +23,7 @@ use Rattle.tx_run.specs.Settled.{HasLogged}
 use Rattle.recovery.specs.declared.answer.RecoverAnswer.{RecoverAnswer}
 use Rattle.recovery.specs.declared.answer.RecoverAnswer.TheVariants.{Clean, Redone, Trap, Off, Failed, Unusable, Numbers, NoMemory}
 use Rattle.recovery.specs.Due.{due_back, due_redo}
+use Rattle.recovery.specs.Found.{recorded}
 
 -- Of a pool that is sealed the power goes in phase sealed, and else in phase unsealed.
 abbrev pub redo_answer : Settled → RecoverAnswer
@@ -51,6 +55,13 @@ Cleaned Numbers d es b = ⊥
 -- the run of a sealed call with n valid records, on the cache behind what puts them back
 abbrev pub redo_run : Image → (tx : ℕ) → List ℤ → (n : ℕ) → Device → Due
 redo_run image tx args n d = due_on image (start image tx args) (play d.cache (due_back image.parts.sizes n d.cache))
+
+-- the most steps of a recovery: one for each valid record, and those of the run of the call that the pool's record names
+abbrev pub redo_steps : Image → Device → ℕ
+redo_steps image d =
+    count_in image.parts.sizes (view d.cache)
+    + (redo_run image (number_of (view d.cache 24)) (recorded image (number_of (view d.cache 24)) (view d.cache))
+    (count_in image.parts.sizes (view d.cache)) d).steps
 
 -- The run came to this end, and all that is due was played; the counter rose from k to k1 by the records and by the run's
 -- instructions.

@@ -11,4 +11,5 @@ mod recovering;
 mod tests;
 
 pub use answer::RecoverAnswer;
-pub use recovering::recover;
+pub use looking::{Found, look};
+pub use recovering::{given, put_back, recover};

@@ -10,7 +10,7 @@ ghost use Rattle.args_log.specs.Pending.{is_sealed, number_of, HoldsArguments};
 ghost use Rattle.tx_run.specs.Standing.{kind_of};
 ghost use Rattle.recovery.specs.Found.{has_numbers, names_tx, recorded};
 ghost use Rattle.recovery.specs.Due.{due_clean, due_back};
-ghost use Rattle.recovery.specs.Recovered.{Cleaned, Redid};
+ghost use Rattle.recovery.specs.Recovered.{redo_run, redo_steps, Cleaned, Redid};
 
 use crate::answer::RecoverAnswer;
 use crate::looking::{Found, look};
@@ -37,7 +37,7 @@ fn clean<P: PmemWork>(sizes: &Sizes, dev: &mut P, count: u64) -> RecoverAnswer
 }
 
 /// Puts the logged words back and begins the next attempt, where a record is valid.
-fn put_back<P: PmemWork, L: Ledger>(
+pub fn put_back<P: PmemWork, L: Ledger>(
     sizes: &Sizes,
     dev: &mut P,
     count: u64,
@@ -63,7 +63,7 @@ fn put_back<P: PmemWork, L: Ledger>(
 }
 
 /// The first words of the 22, as many as the transaction has parameters.
-fn given<'a>(image: &Image, tx: u64, args: &'a [i64; 22]) -> &'a [i64]
+pub fn given<'a>(image: &Image, tx: u64, args: &'a [i64; 22]) -> &'a [i64]
     requires first { 1 ≤ tx }
     requires last { tx ≤ length image.now.parts.txs }
     ensures { (w : ℕ → ℤ) → HoldsArguments w args.now → result.now ≡ recorded image.now tx w }
@@ -92,6 +92,7 @@ fn redo<P: PmemWork, L: Ledger>(
     requires first { 1 ≤ tx }
     requires last { tx ≤ length image.now.parts.txs }
     ensures redid { Redid result image.now tx args.now count (P.device dev.old) (P.device dev.new) steps.old steps.new }
+    ensures bound { steps.new ≤ steps.old + count + (redo_run image.now tx args.now count (P.device dev.old)).steps }
     ensures most { steps.new ≤ steps.old + count + image.now.parts.most }
     ensures lines { (P.device dev.new).lines ≡ (P.device dev.old).lines }
 {
@@ -113,7 +114,8 @@ fn redo<P: PmemWork, L: Ledger>(
 /// a call was sealed, and the next attempt begins; and a call that was sealed runs again from its
 /// recorded arguments and is settled. A sealed record that names no transaction of the image, which
 /// no pool of the image holds, is answered as `Numbers`, without an event. On a device that is off
-/// the answer is `Off(Unsealed)`, and nothing has changed.
+/// the answer is `Off(Unsealed)`, and nothing has changed. Where no call was sealed it takes no
+/// step, and else at most one for each valid record and those of the run.
 pub fn recover<P: PmemWork, L: Ledger>(
     alloc: Global,
     image: &Image,
@@ -121,13 +123,16 @@ pub fn recover<P: PmemWork, L: Ledger>(
     steps: &mut Steps<L>,
 ) -> RecoverAnswer
     requires lines { (P.device dev.old).lines ≡ pool_lines image.now.parts.sizes }
-    ensures unusable { (P.device dev.old).on ≡ true → view (P.device dev.old).cache 19 ≢ pos 0 → (result ≡ RecoverAnswer.Unusable (kind_of (view (P.device dev.old).cache 19))) × (P.device dev.new ≡ P.device dev.old) }
-    ensures numbers { (P.device dev.old).on ≡ true → view (P.device dev.old).cache 19 ≡ pos 0 → has_numbers (count_in image.now.parts.sizes (view (P.device dev.old).cache)) (attempt_in image.now.parts.sizes (view (P.device dev.old).cache)) ≡ true → (result ≡ RecoverAnswer.Numbers) × (P.device dev.new ≡ P.device dev.old) }
+    ensures unusable { (P.device dev.old).on ≡ true → view (P.device dev.old).cache 19 ≢ pos 0 → (result ≡ RecoverAnswer.Unusable (kind_of (view (P.device dev.old).cache 19))) × (P.device dev.new ≡ P.device dev.old) × (steps.new ≡ steps.old) }
+    ensures numbers { (P.device dev.old).on ≡ true → view (P.device dev.old).cache 19 ≡ pos 0 → has_numbers (count_in image.now.parts.sizes (view (P.device dev.old).cache)) (attempt_in image.now.parts.sizes (view (P.device dev.old).cache)) ≡ true → (result ≡ RecoverAnswer.Numbers) × (P.device dev.new ≡ P.device dev.old) × (steps.new ≡ steps.old) }
     ensures clean { (P.device dev.old).on ≡ true → view (P.device dev.old).cache 19 ≡ pos 0 → has_numbers (count_in image.now.parts.sizes (view (P.device dev.old).cache)) (attempt_in image.now.parts.sizes (view (P.device dev.old).cache)) ≡ false → is_sealed (view (P.device dev.old).cache) ≡ false → Cleaned result (P.device dev.old) (due_clean image.now.parts.sizes (count_in image.now.parts.sizes (view (P.device dev.old).cache)) (P.device dev.old).cache) (P.device dev.new) }
+    ensures idle { is_sealed (view (P.device dev.old).cache) ≡ false → steps.new ≡ steps.old }
     ensures redid { (P.device dev.old).on ≡ true → view (P.device dev.old).cache 19 ≡ pos 0 → has_numbers (count_in image.now.parts.sizes (view (P.device dev.old).cache)) (attempt_in image.now.parts.sizes (view (P.device dev.old).cache)) ≡ false → is_sealed (view (P.device dev.old).cache) ≡ true → names_tx image.now (number_of (view (P.device dev.old).cache 24)) ≡ true → Redid result image.now (number_of (view (P.device dev.old).cache 24)) (recorded image.now (number_of (view (P.device dev.old).cache 24)) (view (P.device dev.old).cache)) (count_in image.now.parts.sizes (view (P.device dev.old).cache)) (P.device dev.old) (P.device dev.new) steps.old steps.new }
-    ensures unnamed { (P.device dev.old).on ≡ true → view (P.device dev.old).cache 19 ≡ pos 0 → has_numbers (count_in image.now.parts.sizes (view (P.device dev.old).cache)) (attempt_in image.now.parts.sizes (view (P.device dev.old).cache)) ≡ false → is_sealed (view (P.device dev.old).cache) ≡ true → names_tx image.now (number_of (view (P.device dev.old).cache 24)) ≡ false → (result ≡ RecoverAnswer.Numbers) × (P.device dev.new ≡ P.device dev.old) }
+    ensures bound { steps.new ≤ steps.old + redo_steps image.now (P.device dev.old) }
+    ensures unnamed { (P.device dev.old).on ≡ true → view (P.device dev.old).cache 19 ≡ pos 0 → has_numbers (count_in image.now.parts.sizes (view (P.device dev.old).cache)) (attempt_in image.now.parts.sizes (view (P.device dev.old).cache)) ≡ false → is_sealed (view (P.device dev.old).cache) ≡ true → names_tx image.now (number_of (view (P.device dev.old).cache 24)) ≡ false → (result ≡ RecoverAnswer.Numbers) × (P.device dev.new ≡ P.device dev.old) × (steps.new ≡ steps.old) }
     ensures off { (P.device dev.old).on ≡ false → result ≡ RecoverAnswer.Off at_phase.Unsealed }
     ensures same { (P.device dev.old).on ≡ false → P.device dev.new ≡ P.device dev.old }
+    ensures still { (P.device dev.old).on ≡ false → steps.new ≡ steps.old }
     ensures most { steps.new ≤ steps.old + image.now.parts.sizes.records + image.now.parts.most }
     ensures lines { (P.device dev.new).lines ≡ (P.device dev.old).lines }
 {

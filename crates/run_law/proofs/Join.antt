@@ -15,7 +15,7 @@ use Rattle.crash_law.specs.Due.{Entry, Plain, Logged, word_of, log_events, run_e
 use Rattle.crash_law.specs.Effects.{entry, trace_of, effect_events}
 use Rattle.crash_law.proofs.Effects.{step_events}
 use Rattle.pm_machine.specs.declared.effect.Effect.{Effect}
-use Rattle.pm_machine.specs.declared.effect.Effect.TheVariants.{Loads, Stores, Logs, Flushes, Fences, Quiet}
+use Rattle.pm_machine.specs.declared.effect.Effect.TheVariants.{Loads, Scans, Stores, Logs, Flushes, Fences, Quiet}
 use Rattle.pm_machine.specs.declared.effect.End.{End}
 use Rattle.pm_machine.specs.declared.effect.End.TheVariants.{Halted, Trapped}
 use Rattle.clobber_log.specs.Record.{record_events}
@@ -23,11 +23,13 @@ use Rattle.pm_machine.specs.Effects.{heap_end, events_of, events_all}
 use Rattle.run_law.specs.Seen.{seen_all}
 use Rattle.run_law.specs.Sound.{IsStill, IsFlushed, IsTidy, IsTidyEnd, IsPairedRun}
 use Rattle.run_law.specs.Law.{last_events}
+use Rattle.run_law.proofs.Headers.{events_headers, trace_headers}
 
 -- the lines stored, in the order of first stores, after those of a list
 abbrev stored_lines : List ℕ → List Effect → List ℕ
 stored_lines ls [] = ls
 stored_lines ls (Loads w ∷ es) = stored_lines ls es
+stored_lines ls (Scans w many ∷ es) = stored_lines ls es
 stored_lines ls (Stores w x ∷ es) = stored_lines (insert_key nat_eq ls (w / 8)) es
 stored_lines ls (Logs w ∷ es) = stored_lines ls es
 stored_lines ls (Flushes l ∷ es) = stored_lines ls es
@@ -51,6 +53,8 @@ module _ (z : Sizes) (a : ℕ) where
   still_events : (es : List Effect) (n : ℕ) (heap : ℕ → ℤ) → IsStill es → events_all z a n heap es ≡ effect_events C a n heap (seen_all es)
   still_events [] n heap still = refl
   still_events (Loads w ∷ es) n heap still = still_events es n heap still
+  still_events (Scans w many ∷ es) n heap still =
+      still_events es n heap still ∙ sym (events_headers C a n heap w many (seen_all es))
   still_events (Stores w x ∷ es) n heap still = ap (λ (r : List CacheEvent). Store (at C (Heap w)) x ∷ r) (still_events es n (put heap w x) still)
   still_events (Logs w ∷ es) n heap still = ap (λ (r : List CacheEvent). events_of z a n heap (Logs w) ++ r) (still_events es (suc n) heap still) ∙ log_same z a n w (heap w) (effect_events C a (suc n) heap (seen_all es))
   still_events (Flushes l ∷ es) n heap still = absurd still
@@ -61,6 +65,9 @@ module _ (z : Sizes) (a : ℕ) where
       (events_all z a n heap es ≡ flush_all (heap_lines z ls) (Fence ∷ [])) × (effect_events C a n heap (seen_all es) ≡ []) × ((ks : List ℕ) → stored_lines ks es ≡ ks)
   flushed_events [] ls n heap flushed = absurd flushed
   flushed_events (Loads w ∷ es) ls n heap flushed = flushed_events es ls n heap flushed
+  flushed_events (Scans w many ∷ es) ls n heap flushed =
+      let h = flushed_events es ls n heap flushed in
+      (h.0, events_headers C a n heap w many (seen_all es) ∙ h.1, h.2)
   flushed_events (Stores w x ∷ es) ls n heap flushed = absurd flushed
   flushed_events (Logs w ∷ es) ls n heap flushed = absurd flushed
   flushed_events (Quiet ∷ es) ls n heap flushed = flushed_events es ls n heap flushed
@@ -86,6 +93,9 @@ module _ (z : Sizes) (a : ℕ) where
       events_all z a n heap es ≡ effect_events C a n heap (seen_all es) ++ flush_all (heap_lines z (stored_lines ls es)) (Fence ∷ [])
   tidy_events [] ls n heap tidy = absurd tidy
   tidy_events (Loads w ∷ es) ls n heap tidy = tidy_events es ls n heap tidy
+  tidy_events (Scans w many ∷ es) ls n heap tidy =
+      tidy_events es ls n heap tidy
+      ∙ ap (λ (r : List CacheEvent). r ++ flush_all (heap_lines z (stored_lines ls es)) (Fence ∷ [])) (sym (events_headers C a n heap w many (seen_all es)))
   tidy_events (Stores w x ∷ es) ls n heap tidy = ap (λ (r : List CacheEvent). Store (at C (Heap w)) x ∷ r) (tidy_events es (insert_key nat_eq ls (w / 8)) n (put heap w x) tidy)
   tidy_events (Logs w ∷ es) ls n heap tidy = ap (λ (r : List CacheEvent). events_of z a n heap (Logs w) ++ r) (tidy_events es ls (suc n) heap tidy)
       ∙ ap (λ (r : List CacheEvent). r ++ flush_all (heap_lines z (stored_lines ls es)) (Fence ∷ [])) (log_same z a n w (heap w) (effect_events C a (suc n) heap (seen_all es)))
@@ -125,6 +135,9 @@ lines_from : (z : Sizes) (es : List Effect) (last : Option ℕ) (ls seen : List 
     heap_lines z (stored_lines ls es) ≡ heap_lines z ls ++ lines_of (pool_of z) seen (trace_of last (seen_all es))
 lines_from z [] last ls seen same = sym (append-nil (heap_lines z ls))
 lines_from z (Loads w ∷ es) last ls seen same = lines_from z es last ls seen same
+lines_from z (Scans w many ∷ es) last ls seen same =
+    lines_from z es last ls seen same
+    ∙ ap (λ (trace : List Entry). heap_lines z ls ++ lines_of (pool_of z) seen trace) (sym (trace_headers last w many (seen_all es)))
 lines_from z (Logs w ∷ es) last ls seen same = lines_from z es (Some w) ls seen same
 lines_from z (Flushes l ∷ es) last ls seen same = lines_from z es last ls seen same
 lines_from z (Fences ∷ es) last ls seen same = lines_from z es last ls seen same
@@ -161,6 +174,8 @@ heap_entry heap (Some u) w x rest = go (u == w)
 heap_same : (es : List Effect) (last : Option ℕ) (heap : ℕ → ℤ) → heap_end heap es ≡ heap_after heap (trace_of last (seen_all es))
 heap_same [] last heap = refl
 heap_same (Loads w ∷ es) last heap = heap_same es last heap
+heap_same (Scans w many ∷ es) last heap =
+    heap_same es last heap ∙ ap (heap_after heap) (sym (trace_headers last w many (seen_all es)))
 heap_same (Stores w x ∷ es) last heap = heap_same es None (put heap w x) ∙ sym (heap_entry heap last w x (trace_of None (seen_all es)))
 heap_same (Logs w ∷ es) last heap = heap_same es (Some w) heap
 heap_same (Flushes l ∷ es) last heap = heap_same es last heap

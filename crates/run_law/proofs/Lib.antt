@@ -1,3 +1,4 @@
+pub mod Headers
 pub mod Join
 pub mod Sounds
 pub mod Runs

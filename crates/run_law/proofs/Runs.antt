@@ -24,6 +24,7 @@ use Rattle.pm_machine.specs.Runs.{AreLines}
 use Rattle.run_law.specs.Seen.{seen_all, trace_in, result_of, is_input, is_overwritten, E, W}
 use Rattle.run_law.specs.Sound.{IsSoundRun}
 use Rattle.run_law.specs.Law.{close_events}
+use Rattle.run_law.proofs.Headers.{input_headers, headers_over}
 use Rattle.run_law.proofs.Join.{join}
 use Rattle.run_law.proofs.Sounds.{sound, trap_is}
 
@@ -119,6 +120,8 @@ due_run_is z a k heap (Trapped t) es is =
 input_seen : (es : List Effect) (u : ℕ) → own.IsInput es u → IsInput (seen_all es) u
 input_seen [] u h = h
 input_seen (effect.Loads w ∷ es) u h = ⊎_elim (λ e. inl e) (λ r. inr (input_seen es u r)) h
+input_seen (effect.Scans w many ∷ es) u h =
+    input_headers w many u (seen_all es) (⊎_elim (λ is. inl is) (λ r. inr (input_seen es u r)) h)
 input_seen (effect.Stores w x ∷ es) u h = (h.0, input_seen es u h.1)
 input_seen (effect.Logs w ∷ es) u h = input_seen es u h
 input_seen (effect.Flushes l ∷ es) u h = input_seen es u h
@@ -128,6 +131,7 @@ input_seen (effect.Quiet ∷ es) u h = input_seen es u h
 over_seen : (es : List Effect) (u : ℕ) → IsOverwritten (seen_all es) u → own.IsOverwritten es u
 over_seen [] u h = h
 over_seen (effect.Loads w ∷ es) u h = over_seen es u h
+over_seen (effect.Scans w many ∷ es) u h = over_seen es u (headers_over w many u (seen_all es) h)
 over_seen (effect.Stores w x ∷ es) u h = ⊎_elim (λ e. inl e) (λ r. inr (over_seen es u r)) h
 over_seen (effect.Logs w ∷ es) u h = over_seen es u h
 over_seen (effect.Flushes l ∷ es) u h = over_seen es u h

@@ -8,7 +8,7 @@ use Rattle.pool_map.specs.Trap.{trap_number}
 use Rattle.crash_law.specs.Due as due
 use Rattle.crash_law.specs.Effects.{IsOverwritten, IsSound, logs_of}
 use Rattle.pm_machine.specs.declared.effect.Effect.{Effect}
-use Rattle.pm_machine.specs.declared.effect.Effect.TheVariants.{Loads, Stores, Logs, Flushes, Fences, Quiet}
+use Rattle.pm_machine.specs.declared.effect.Effect.TheVariants.{Loads, Scans, Stores, Logs, Flushes, Fences, Quiet}
 use Rattle.pm_machine.specs.declared.effect.End.{End}
 use Rattle.pm_machine.specs.declared.effect.End.TheVariants.{Halted, Trapped}
 use Rattle.pm_machine.specs.declared.image.Image.{Image}
@@ -19,6 +19,7 @@ use Rattle.pm_machine.proofs.Fuel.{began_rest}
 use Rattle.pm_machine.proofs.Range.{keeps_step, records_fit}
 use Rattle.run_law.specs.Seen.{seen_all, result_of}
 use Rattle.run_law.specs.Sound.{IsSoundRun}
+use Rattle.run_law.proofs.Headers.{logs_headers, headers_over}
 
 module _ (C H : ℕ) where
   abbrev Fit : ℕ → List Effect → Type 0
@@ -26,6 +27,9 @@ module _ (C H : ℕ) where
 
   fit_more : (n : ℕ) (e : Effect) (es : List Effect) → IsInRange C H n e → Fit (records_past n e) es → Fit n (e ∷ es)
   fit_more n (Loads w) es fits rest = rest
+  fit_more n (Scans w many) es fits rest =
+      let same = logs_headers w many (seen_all es) in
+      ((λ u over. rest.0 u (headers_over w many u (seen_all es) over)), omega (arith, rest.1))
   fit_more n (Stores w x) es fits rest = ((λ u over. ⊎_elim (λ e. subst (λ (v : ℕ). v < H) (sym e) fits) (λ later. rest.0 u later) over), rest.1)
   fit_more n (Logs w) es fits rest = (rest.0, let r = rest.1 in omega arith)
   fit_more n (Flushes l) es fits rest = rest

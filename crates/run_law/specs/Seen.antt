@@ -1,24 +1,31 @@
 -- The effects and the end of a machine's run, as the crash law sees them.
-use Rattle.std.specs.Prelude.{ℕ, ◌==◌, ◌||◌, ◌&&◌, not, Bool, false, List, [], ◌∷◌, None, IsTrue}
+use Rattle.std.specs.Prelude.{ℕ, zero, suc, ◌+◌, ◌==◌, ◌||◌, ◌&&◌, not, Bool, false, List, [], ◌∷◌, None, IsTrue}
 use Rattle.pool_map.specs.Trap.{trap_number}
 use Rattle.pm_machine.specs.declared.effect.Effect.{Effect}
-use Rattle.pm_machine.specs.declared.effect.Effect.TheVariants.{Loads, Stores, Logs, Flushes, Fences, Quiet}
+use Rattle.pm_machine.specs.declared.effect.Effect.TheVariants.{Loads, Scans, Stores, Logs, Flushes, Fences, Quiet}
 use Rattle.pm_machine.specs.declared.effect.End.{End}
 use Rattle.pm_machine.specs.declared.effect.End.TheVariants.{Halted, Trapped}
 use Rattle.crash_law.specs.Due as due
 use Rattle.crash_law.specs.Effects as past
 
-abbrev pub seen : Effect → past.Effect
-seen (Loads w) = past.Loads w
-seen (Stores w x) = past.Stores w x
-seen (Logs w) = past.Logs w
-seen (Flushes l) = past.Still
-seen Fences = past.Still
-seen Quiet = past.Still
+-- the loads of n headers from word w on, and then these effects
+abbrev pub headers_before : (w n : ℕ) → List past.Effect → List past.Effect
+headers_before w zero es = es
+headers_before w (suc n) es = past.Loads w ∷ headers_before (w + 16) n es
+
+-- an effect, and then these
+abbrev pub seen_before : Effect → List past.Effect → List past.Effect
+seen_before (Loads w) es = past.Loads w ∷ es
+seen_before (Scans w n) es = headers_before w n es
+seen_before (Stores w x) es = past.Stores w x ∷ es
+seen_before (Logs w) es = past.Logs w ∷ es
+seen_before (Flushes l) es = past.Still ∷ es
+seen_before Fences es = past.Still ∷ es
+seen_before Quiet es = past.Still ∷ es
 
 abbrev pub seen_all : List Effect → List past.Effect
 seen_all [] = []
-seen_all (e ∷ es) = seen e ∷ seen_all es
+seen_all (e ∷ es) = seen_before e (seen_all es)
 
 -- the trace of a run: its stores, each logged where a LOG of its word was the last LOG or STORE before it
 abbrev pub trace_in : List Effect → List due.Entry

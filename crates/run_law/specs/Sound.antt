@@ -3,7 +3,7 @@ use Rattle.std.specs.Prelude.{ℕ, ◌/◌, ◌≡◌, List, [], ◌∷◌, nat_
 use Rattle.indexmap.specs.IndexSet.{insert_key}
 use Rattle.crash_law.specs.Effects.{IsInput, IsOverwritten, IsLoggedFirst, IsPaired}
 use Rattle.pm_machine.specs.declared.effect.Effect.{Effect}
-use Rattle.pm_machine.specs.declared.effect.Effect.TheVariants.{Loads, Stores, Logs, Flushes, Fences, Quiet}
+use Rattle.pm_machine.specs.declared.effect.Effect.TheVariants.{Loads, Scans, Stores, Logs, Flushes, Fences, Quiet}
 use Rattle.pm_machine.specs.declared.effect.End.{End}
 use Rattle.pm_machine.specs.declared.effect.End.TheVariants.{Halted, Trapped}
 use Rattle.run_law.specs.Seen.{seen_all}
@@ -20,6 +20,7 @@ IsPairedRun es = IsPaired None (seen_all es)
 abbrev pub IsStill : List Effect → Type 0
 IsStill [] = Unit {0}
 IsStill (Loads w ∷ es) = IsStill es
+IsStill (Scans w many ∷ es) = IsStill es
 IsStill (Stores w x ∷ es) = IsStill es
 IsStill (Logs w ∷ es) = IsStill es
 IsStill (Flushes l ∷ es) = ⊥
@@ -30,6 +31,7 @@ IsStill (Quiet ∷ es) = IsStill es
 abbrev pub IsFlushed : List ℕ → List Effect → Type 0
 IsFlushed ls [] = ⊥
 IsFlushed ls (Loads w ∷ es) = IsFlushed ls es
+IsFlushed ls (Scans w many ∷ es) = IsFlushed ls es
 IsFlushed ls (Stores w x ∷ es) = ⊥
 IsFlushed ls (Logs w ∷ es) = ⊥
 IsFlushed ls (Quiet ∷ es) = IsFlushed ls es
@@ -42,6 +44,7 @@ IsFlushed (k ∷ ks) (Fences ∷ es) = ⊥
 abbrev pub IsTidy : List ℕ → List Effect → Type 0
 IsTidy ls [] = ⊥
 IsTidy ls (Loads w ∷ es) = IsTidy ls es
+IsTidy ls (Scans w many ∷ es) = IsTidy ls es
 IsTidy ls (Stores w x ∷ es) = IsTidy (insert_key nat_eq ls (w / 8)) es
 IsTidy ls (Logs w ∷ es) = IsTidy ls es
 IsTidy ls (Flushes l ∷ es) = IsFlushed ls (Flushes l ∷ es)

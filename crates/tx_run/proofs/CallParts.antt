@@ -1,5 +1,5 @@
 -- A seal, and what is due behind it.
-use Rattle.std.proofs.Common.{◌≡◌, ℕ, ◌+◌, ◌++◌, List, ℤ, take, w64, inl, refl, sym, ap, ◌∙◌, subst}
+use Rattle.std.proofs.Common.{◌≡◌, ◌≤◌, ℕ, ◌+◌, ◌++◌, List, ℤ, take, w64, inl, refl, sym, ap, ◌∙◌, subst}
 use Rattle.std.specs.Int.{cast_signed}
 use Rattle.cache_model.specs.Cache.{Cache, view}
 use Rattle.cache_model.specs.Event.{CacheEvent}
@@ -25,7 +25,7 @@ use Rattle.tx_run.specs.declared.answer.Settled.{Settled}
 use Rattle.tx_run.specs.declared.answer.Settled.TheVariants.{Done, Trap, Off, Failed, NoMemory}
 use Rattle.tx_run.specs.Due.{due_on, due_run, due_seal, due_unsealed, due_call}
 use Rattle.tx_run.specs.Settled.{call_answer, HasSettled, HasLogged, Settles}
-use Rattle.tx_run.specs.Called.{HasCalled, Called}
+use Rattle.tx_run.specs.Called.{called_run, HasCalled, Called}
 
 module _ (image : Image) (tx : ℕ) (args : List ℤ) (d b : Device) where
   abbrev state : State
@@ -85,6 +85,10 @@ module _ (image : Image) (tx : ℕ) (args : List ℤ) (d b : Device) where
 
     pub still_on : m.on ≡ d.on
     still_on = all_on seal_of d m sealed
+
+    pub spent_of : (k k1 : ℕ) → k1 ≤ k + (due_on image state m.cache).steps →
+        k1 ≤ k + (called_run image tx args d).steps
+    spent_of k k1 h = subst (λ (c : Cache). k1 ≤ k + (due_on image state c).steps) same h
 
     pub called_of : (a : Settled) (k k1 : ℕ) → Settles a image state m b k k1 → Called (call_answer a) image tx args d b k k1
     called_of (Done v l) k k1 h = (ended _ k k1 h.0, subst (HasLogged l image state) same h.1)

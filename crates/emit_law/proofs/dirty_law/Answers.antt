@@ -1,4 +1,4 @@
-use Rattle.emit_law.proofs.Dirty.{clean_all, few_lines}
+use Rattle.emit_law.proofs.Dirty.{clean_all, few_lines, grow_all}
 use Rattle.emit_law.proofs.dirty_law.Goals as goal
 
 pub returns-clause-run : goal.returns-clause-run
@@ -6,3 +6,6 @@ returns-clause-run c = clean_all
 
 pub returns-clause-few : goal.returns-clause-few
 returns-clause-few c = few_lines
+
+pub returns-clause-grow : goal.returns-clause-grow
+returns-clause-grow c = grow_all

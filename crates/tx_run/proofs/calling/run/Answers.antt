@@ -1,9 +1,10 @@
-use Rattle.std.proofs.Common.{◌≡◌, true, sym, ◌∙◌, subst}
+use Rattle.std.proofs.Common.{◌≡◌, ◌≤◌, ◌+◌, true, sym, ◌∙◌, subst}
 use Rattle.pm_machine.specs.Machine.{State}
 use Rattle.tx_run.specs.declared.answer.CallAnswer.{CallAnswer}
 use Rattle.tx_run.specs.Settled.{Settles}
+use Rattle.tx_run.specs.Due.{due_on}
 use Rattle.tx_run.specs.Called.{Called}
-use Rattle.tx_run.proofs.CallParts.{still_on, called_of, seal_off, seal_failed, seal_short}
+use Rattle.tx_run.proofs.CallParts.{still_on, spent_of, called_of, seal_off, seal_failed, seal_short}
 use Rattle.tx_run.proofs.calling.run.Goals as goal
 
 pub returns-in-Done-clause-called : goal.returns-in-Done-clause-called
@@ -21,6 +22,22 @@ returns-in-Done-clause-called g c =
     let up : m.on ≡ true = still_on image tx args d b m sealed ∙ c.requires.on in
     let settles = subst (λ (s : State). Settles c.settle.result image s m b k k1) c.requires.start (c.settle.ensures.settled up) in
     subst (λ (a : CallAnswer). Called a image tx args d b k k1) (sym c.of.ensures) (called_of image tx args d b m sealed c.settle.result k k1 settles)
+
+pub returns-in-Done-clause-bound : goal.returns-in-Done-clause-bound
+returns-in-Done-clause-bound g c =
+    let device = g.P.PmemWork.device in
+    let d = device c.args.dev.now in
+    let m = device c.seal.new.dev in
+    let b = device c.settle.new.dev in
+    let image = c.args.image.now in
+    let tx = c.args.tx in
+    let args = c.args.args.now in
+    let k = c.args.steps.now in
+    let k1 = c.settle.new.steps in
+    let sealed = c.in-Done.ensures.played c.requires.on in
+    let up : m.on ≡ true = still_on image tx args d b m sealed ∙ c.requires.on in
+    let bound = subst (λ (s : State). k1 ≤ k + (due_on image s m.cache).steps) c.requires.start (c.settle.ensures.bound up) in
+    spent_of image tx args d b m sealed k k1 bound
 
 pub returns-in-Off-clause-called : goal.returns-in-Off-clause-called
 returns-in-Off-clause-called g c =

@@ -1,0 +1,64 @@
+-- The loads of headers change nothing of what the crash law sees of a run, but for its inputs.
+use Rattle.std.proofs.Common.{◌≡◌, ◌⊎◌, inl, inr, ⊎_elim, ℕ, zero, suc, ◌+◌, List, [], ◌∷◌, Option, Some, None, ℤ, refl}
+use Rattle.cache_model.specs.Event.{CacheEvent}
+use Rattle.pool_layout.specs.declared.places.Layout.{Layout}
+use Rattle.crash_law.specs.Due.{Entry}
+use Rattle.crash_law.specs.Effects.{Effect, IsInput, IsOverwritten, IsLoggedFirst, IsPaired, trace_of, logs_of, effect_events}
+use Rattle.pm_machine.specs.Find.{IsHeader}
+use Rattle.run_law.specs.Seen.{headers_before}
+
+pub events_headers : (C : Layout) (a n : ℕ) (heap : ℕ → ℤ) (w k : ℕ) (es : List Effect) →
+    effect_events C a n heap (headers_before w k es) ≡ effect_events C a n heap es
+events_headers C a n heap w zero es = refl
+events_headers C a n heap w (suc k) es = events_headers C a n heap (w + 16) k es
+
+pub trace_headers : (last : Option ℕ) (w k : ℕ) (es : List Effect) →
+    trace_of last (headers_before w k es) ≡ trace_of last es
+trace_headers last w zero es = refl
+trace_headers last w (suc k) es = trace_headers last (w + 16) k es
+
+pub logs_headers : (w k : ℕ) (es : List Effect) → logs_of (headers_before w k es) ≡ logs_of es
+logs_headers w zero es = refl
+logs_headers w (suc k) es = logs_headers (w + 16) k es
+
+pub over_headers : (w k u : ℕ) (es : List Effect) → IsOverwritten es u →
+    IsOverwritten (headers_before w k es) u
+over_headers w zero u es h = h
+over_headers w (suc k) u es h = over_headers (w + 16) k u es h
+
+pub headers_over : (w k u : ℕ) (es : List Effect) → IsOverwritten (headers_before w k es) u →
+    IsOverwritten es u
+headers_over w zero u es h = h
+headers_over w (suc k) u es h = headers_over (w + 16) k u es h
+
+pub first_headers : (w k u : ℕ) (es : List Effect) → IsLoggedFirst es u →
+    IsLoggedFirst (headers_before w k es) u
+first_headers w zero u es h = h
+first_headers w (suc k) u es h = first_headers (w + 16) k u es h
+
+pub headers_first : (w k u : ℕ) (es : List Effect) → IsLoggedFirst (headers_before w k es) u →
+    IsLoggedFirst es u
+headers_first w zero u es h = h
+headers_first w (suc k) u es h = headers_first (w + 16) k u es h
+
+pub pair_headers : (last : Option ℕ) (w k : ℕ) (es : List Effect) → IsPaired last es →
+    IsPaired last (headers_before w k es)
+pair_headers last w zero es h = h
+pair_headers None w (suc k) es h = pair_headers None (w + 16) k es h
+pair_headers (Some v) w (suc k) es h = pair_headers (Some v) (w + 16) k es h
+
+-- a header that is loaded is an input, and so is each input of what follows
+pub input_headers : (w k u : ℕ) (es : List Effect) → IsHeader w k u ⊎ IsInput es u →
+    IsInput (headers_before w k es) u
+input_headers w zero u es (inl h) = absurd h
+input_headers w zero u es (inr h) = h
+input_headers w (suc k) u es (inl (inl e)) = inl e
+input_headers w (suc k) u es (inl (inr h)) = inr (input_headers (w + 16) k u es (inl h))
+input_headers w (suc k) u es (inr h) = inr (input_headers (w + 16) k u es (inr h))
+
+pub headers_input : (w k u : ℕ) (es : List Effect) → IsInput (headers_before w k es) u →
+    IsHeader w k u ⊎ IsInput es u
+headers_input w zero u es h = inr h
+headers_input w (suc k) u es (inl e) = inl (inl e)
+headers_input w (suc k) u es (inr h) =
+    ⊎_elim (λ is. inl (inr is)) (λ later. inr later) (headers_input (w + 16) k u es h)
