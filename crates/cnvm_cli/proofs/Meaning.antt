@@ -1,31 +1,34 @@
 -- A run means what its program's source says.
-use Rattle.std.proofs.Common.{◌≡◌, ℕ, ℤ, List, [], ◌∷◌, Bool, true, false, Option, Some, None, IfSome, is_some, inl, inr, length, refl, sym, subst}
+use Rattle.std.proofs.Common.{◌≡◌, ℕ, ℤ, List, [], ◌∷◌, Bool, true, false, Option, Some, None, IfSome, is_some, inl, inr, length, append-nil, refl, sym, ap, subst}
 use Rattle.std.specs.List.{AllByRecursion}
-use Rattle.std.specs.Io.KnownBytes.{Keeps}
+use Rattle.std.specs.Io.KnownBytes.{Appends, Keeps}
+use Rattle.nvm_base.proofs.Pieces.{appends_more}
 use Rattle.pmem.specs.Device.{Device}
 use Rattle.pool_layout.specs.declared.limits.Sizes.{Sizes}
 use Rattle.pool_layout.specs.Image.{Words, words_of}
 use Rattle.pool_layout.specs.Opened.{IsOpened}
 use Rattle.c_types.specs.Shapes.{shapes_of, transactions_of}
-use Rattle.clobber_pass.specs.declared.marking.MarkTable.{MarkTable}
 use Rattle.cnvm_script.specs.declared.command.Command.{Command}
+use Rattle.cnvm_session.specs.declared.answer.Answer.{Answer}
+use Rattle.cnvm_session.specs.AnswerText.{answer_text}
 use Rattle.cnvm_session.specs.declared.mode.Mode.{Mode}
 use Rattle.cnvm_session.specs.declared.mode.Mode.TheVariants.{Ready}
 use Rattle.cnvm_session.specs.declared.program.Program.{Program}
 use Rattle.session_law.specs.Source.{Counts}
 use Rattle.session_law.specs.Agrees.{Agrees}
-use Rattle.session_law.specs.State.{State, created}
+use Rattle.session_law.specs.State.{State}
 use Rattle.session_law.specs.Holds.{Holds}
 use Rattle.session_law.specs.Words.{AreWords}
 use Rattle.session_law.specs.Opened as session
-use Rattle.session_law.specs.Law.{IsWordCommand, super_words, found_by}
+use Rattle.session_law.specs.History.{recovered_by, history_after}
+use Rattle.session_law.specs.Ran.{found_by, Moment, begun}
+use Rattle.session_law.specs.Law.{IsWordCommand, super_words}
+use Rattle.session_law.proofs.Chains.{steps_on, open_step}
 use Rattle.session_law.proofs.Commands.{each_command}
 use Rattle.session_law.proofs.Creating.{created_rests}
 use Rattle.session_law.proofs.Opening.{opened_answers}
 use Rattle.session_law.proofs.Scripts.{script_words}
 use Rattle.compiled_law.specs.Counts.{counts_of}
-use Rattle.lower.specs.Program.{lowered}
-use Rattle.cnvm_compile.specs.Marked.{IsMarked}
 use Rattle.cnvm_words.specs.declared.plan.Plan.{Plan}
 use Rattle.cnvm_words.specs.declared.plan.Plan.TheVariants as plan
 use Rattle.cnvm_cli.specs.declared.asked.Asked.{Asked}
@@ -35,39 +38,115 @@ use Rattle.cnvm_cli.specs.declared.status.Status.TheVariants as status
 use Rattle.cnvm_cli.specs.Verdict.{CompiledFrom, HasCommands, TextsGive}
 use Rattle.cnvm_cli.specs.Opened as cli
 use Rattle.cnvm_cli.specs.Opened.{wanted_of, ImageGives, OpensAll, OpenedAs}
-use Rattle.cnvm_cli.specs.Run.{RunsAll, RunsPart, RanAs}
-use Rattle.cnvm_cli.specs.Ends.{Sources, Outside, Start, Fresh, FromImage, PoolEnds, JobEnds, start_if, RunEnds, PlanEnds}
-use Rattle.cnvm_cli.specs.Meant.{AnsweredPart, MeansAll, MeantAs, OpensMeant, OpensPart, OpenedMeantAs, StartMeant, JobMeant, RunMeant, PlanMeant}
+use Rattle.cnvm_cli.specs.Run.{Created, RunsAll, RunsPart, RanAs}
+use Rattle.cnvm_cli.specs.Ends.{Sources, Outside, IsUntouched, Start, Fresh, FromImage, PoolEnds, JobEnds, start_if, RunEnds, PlanEnds}
+use Rattle.cnvm_cli.specs.Meant.{text_of, RanAll, RanPart, MeansAll, MeansPart, MeantAs, OpensMeant, OpensPart, OpenedMeantAs, StartMeant, JobMeant, RunMeant, PlanMeant}
 use Rattle.cnvm_cli.proofs.StormMeaning.{storm_meant}
 
-module _ (program : Program) (counts : Counts) (super : Words) (agrees : Agrees program counts) where
-  run_all : (commands : List Command) → AllByRecursion IsWordCommand commands → (m : Mode) (d d' : Device) (w w' : Option (List ℕ)) (k k' : ℕ) (s : State) → Holds program super m d s → RunsAll program commands m d w k d' w' k' →
-      MeansAll program counts commands s w w' d'
-  run_all [] words m d d' w w' k k' s holds r = (s, (refl, r.1), (super, m, subst (λ (x : Device). Holds program super m x s) (sym r.0) holds))
-  run_all (c ∷ commands) words m d d' w w' k k' s holds r =
-      let one = each_command program counts super c m r.1 d r.2 s r.0 k r.4 agrees words.0 holds r.5 in
-      let rest = run_all commands words.1 r.1 r.2 d' r.3 w' r.4 k' one.0 one.2 r.7 in
-      (rest.0, (r.0, found_by c d, one.0, r.3, one.1, r.6, rest.1), rest.2)
+-- nothing is written
+none_written : (w w' : Option (List ℕ)) → w' ≡ w → Appends w w' []
+none_written w w' is = subst (λ (v : Option (List ℕ)). Appends w v []) (sym is) (same w)
+  where
+    same : (v : Option (List ℕ)) → Appends v v []
+    same None = tt
+    same (Some bytes) = sym (append-nil bytes)
 
-  run_part : (commands : List Command) → AllByRecursion IsWordCommand commands → (m : Mode) (d d' : Device) (w w' : Option (List ℕ)) (k k' : ℕ) (s : State) → Holds program super m d s → RunsPart program commands m d w k d' w' k' →
-      AnsweredPart program counts commands s w w'
-  run_part [] words m d d' w w' k k' s holds r = absurd r
-  run_part (c ∷ commands) words m d d' w w' k k' s holds (inl r) =
-      let one = each_command program counts super c m r.1 d d' s r.0 k k' agrees words.0 holds r.2 in
-      inl (r.0, found_by c d, one.0, one.1, r.3)
-  run_part (c ∷ commands) words m d d' w w' k k' s holds (inr r) =
-      let one = each_command program counts super c m r.1 d r.2 s r.0 k r.4 agrees words.0 holds r.5 in
-      inr (r.0, found_by c d, one.0, r.3, one.1, r.6, run_part commands words.1 r.1 r.2 d' r.3 w' r.4 k' one.0 one.2 r.7)
+module _ (program : Program) (counts : Counts) (super : Words) (agrees : Agrees program counts) where
+  -- the moment after a command
+  abbrev next_to : (c : Command) (x : Moment) (a : Answer) (n : Mode) (b : Device) (k1 : ℕ) →
+      State → Moment
+  next_to c x a n b k1 t = record { mode = n; device = b; steps = k1; state = t; history = history_after program x.state (found_by c x.device) c a x.history }
+
+  run_all : (commands : List Command) → AllByRecursion IsWordCommand commands →
+      (x : Moment) (d' : Device) (w w' : Option (List ℕ)) (k' : ℕ) →
+      Holds program super x.mode x.device x.state
+      → RunsAll program commands x.mode x.device w x.steps d' w' k' →
+      RanAll program counts super commands x w w' d' k'
+  run_all [] words x d' w w' k' holds r =
+      record { answers = []; last = x; ran = refl; device = sym r.0; steps = sym r.2; written = none_written w w' r.1 }
+  run_all (c ∷ commands) words x d' w w' k' holds r =
+      let one = steps_on each_command program counts super agrees c x r.0 r.1 r.2 r.4 words.0 holds r.5 in
+      let y : Moment = next_to c x r.0 r.1 r.2 r.4 one.0 in
+      let rest = run_all commands words.1 y d' r.3 w' k' one.1.holds r.7 in
+      record {
+        answers = r.0 ∷ rest.answers;
+        last = rest.last;
+        ran = (y, one.1, rest.ran);
+        device = rest.device;
+        steps = rest.steps;
+        written = appends_more w r.3 w' (answer_text r.0) (text_of rest.answers) r.6 rest.written;
+      }
+
+  run_part : (commands : List Command) → AllByRecursion IsWordCommand commands →
+      (x : Moment) (d' : Device) (w w' : Option (List ℕ)) (k' : ℕ) →
+      Holds program super x.mode x.device x.state
+      → RunsPart program commands x.mode x.device w x.steps d' w' k' →
+      RanPart program counts super commands x w w' d' k'
+  run_part [] words x d' w w' k' holds r = absurd r
+  run_part (c ∷ commands) words x d' w w' k' holds (inl r) =
+      let one = steps_on each_command program counts super agrees c x r.0 r.1 d' k' words.0 holds r.2 in
+      record {
+        first = [];
+        next = c;
+        others = commands;
+        are = refl;
+        answers = [];
+        before = x;
+        ran = refl;
+        told = w;
+        written = none_written w w refl;
+        answer = r.0;
+        last = next_to c x r.0 r.1 d' k' one.0;
+        step = one.1;
+        device = refl;
+        steps = refl;
+        part = r.3;
+      }
+  run_part (c ∷ commands) words x d' w w' k' holds (inr r) =
+      let one = steps_on each_command program counts super agrees c x r.0 r.1 r.2 r.4 words.0 holds r.5 in
+      let y : Moment = next_to c x r.0 r.1 r.2 r.4 one.0 in
+      let rest = run_part commands words.1 y d' r.3 w' k' one.1.holds r.7 in
+      record {
+        first = c ∷ rest.first;
+        next = rest.next;
+        others = rest.others;
+        are = ap (λ (cs : List Command). c ∷ cs) rest.are;
+        answers = r.0 ∷ rest.answers;
+        before = rest.before;
+        ran = (y, one.1, rest.ran);
+        told = rest.told;
+        written =
+            appends_more w r.3 rest.told (answer_text r.0) (text_of rest.answers) r.6 rest.written;
+        answer = rest.answer;
+        last = rest.last;
+        step = rest.step;
+        device = rest.device;
+        steps = rest.steps;
+        part = rest.part;
+      }
 
 module _ (program : Program) (counts : Counts) (agrees : Agrees program counts) (commands : List Command) (words : AllByRecursion IsWordCommand commands) where
-  ran_meant : (result : Status) (w w' : Option (List ℕ)) (d d' : Device) (k k' : ℕ) → RanAs program commands result w w' d d' k k' → MeantAs program counts commands result w w' d'
-  ran_meant status.Done w w' d d' k k' r =
-      run_all program counts (super_words program) agrees commands words Ready r.0 d' w w' k k' (created program) (created_rests program d r.0 r.1) r.2
-  ran_meant status.WriteFault w w' d d' k k' r =
-      run_part program counts (super_words program) agrees commands words Ready r.0 d' w w' k k' (created program) (created_rests program d r.0 r.1) r.2
+  created_all : (w w' : Option (List ℕ)) (d d' : Device) (k k' : ℕ) →
+      (b : Device) × Created program d b × RunsAll program commands Ready b w k d' w' k' →
+      MeansAll program counts commands w w' d d' k k'
+  created_all w w' d d' k k' r =
+      let holds = created_rests program d r.0 r.1 in
+      (r.0, r.1, holds, run_all program counts (super_words program) agrees commands words (begun program r.0 k) d' w w' k' holds r.2)
+
+  created_part : (w w' : Option (List ℕ)) (d d' : Device) (k k' : ℕ) →
+      (b : Device) × Created program d b × RunsPart program commands Ready b w k d' w' k' →
+      MeansPart program counts commands w w' d d' k k'
+  created_part w w' d d' k k' r =
+      let holds = created_rests program d r.0 r.1 in
+      (r.0, r.1, holds, run_part program counts (super_words program) agrees commands words (begun program r.0 k) d' w w' k' holds r.2)
+
+  ran_meant : (result : Status) (w w' : Option (List ℕ)) (d d' : Device) (k k' : ℕ) →
+      RanAs program commands result w w' d d' k k' →
+      MeantAs program counts commands result w w' d d' k k'
+  ran_meant status.Done w w' d d' k k' r = created_all w w' d d' k k' r
+  ran_meant status.WriteFault w w' d d' k k' r = created_part w w' d d' k k' r
   ran_meant status.NoMemory w w' d d' k k' (inl keeps) = inl keeps
-  ran_meant status.NoMemory w w' d d' k k' (inr r) =
-      inr (run_part program counts (super_words program) agrees commands words Ready r.0 d' w w' k k' (created program) (created_rests program d r.0 r.1) r.2)
+  ran_meant status.NoMemory w w' d d' k k' (inr r) = inr (created_part w w' d d' k k' r)
   ran_meant status.DeviceFault w w' d d' k k' r = r
   ran_meant status.ReadFault w w' d d' k k' r = absurd r
   ran_meant status.Usage w w' d d' k k' r = absurd r
@@ -76,20 +155,34 @@ module _ (program : Program) (counts : Counts) (agrees : Agrees program counts) 
   ran_meant status.Image w w' d d' k k' r = absurd r
 
   -- the pool of an image
-  opens_meant : (words : List ℤ) → AreWords words → IsOpened (session.wanted_of program) words → (w w' : Option (List ℕ)) (d d' : Device) (k k' : ℕ) → OpensAll program commands words w w' d d' k k' → OpensMeant program counts commands words w w' d'
+  abbrev opened_to : List ℤ → Answer → Mode → Device → ℕ → State → Moment
+  opened_to list a m b k1 t = record { mode = m; device = b; steps = k1; state = t; history = recovered_by (session.opened program (words_of list)) (words_of list) a }
+
+  opens_meant : (words : List ℤ) → AreWords words → IsOpened (session.wanted_of program) words →
+      (w w' : Option (List ℕ)) (d d' : Device) (k k' : ℕ) →
+      OpensAll program commands words w w' d d' k k' →
+      OpensMeant program counts commands words w w' d d' k k'
   opens_meant list are opened w w' d d' k k' r =
-      let first = opened_answers program counts list r.1 d r.2 r.0 k r.4 agrees are opened r.5 in
-      (r.0, first.0, r.3, first.1, r.6, run_all program counts (words_of list) agrees commands words r.1 r.2 d' r.3 w' r.4 k' first.0 first.2 r.7)
+      let first = open_step opened_answers program counts list r.1 d r.2 r.0 k r.4 agrees are opened r.5 in
+      let x : Moment = opened_to list r.0 r.1 r.2 r.4 first.0 in
+      (r.0, x, r.3, first.1, r.6, run_all program counts (words_of list) agrees commands words x d' r.3 w' k' first.1.holds r.7)
 
-  part_meant : (words : List ℤ) → AreWords words → IsOpened (session.wanted_of program) words → (w w' : Option (List ℕ)) (d d' : Device) (k k' : ℕ) → cli.OpensPart program commands words w w' d d' k k' → OpensPart program counts commands words w w'
+  part_meant : (words : List ℤ) → AreWords words → IsOpened (session.wanted_of program) words →
+      (w w' : Option (List ℕ)) (d d' : Device) (k k' : ℕ) →
+      cli.OpensPart program commands words w w' d d' k k' →
+      OpensPart program counts commands words w w' d d' k k'
   part_meant list are opened w w' d d' k k' (inl r) =
-      let first = opened_answers program counts list r.1 d d' r.0 k k' agrees are opened r.2 in
-      inl (r.0, first.0, first.1, r.3)
+      let first = open_step opened_answers program counts list r.1 d d' r.0 k k' agrees are opened r.2 in
+      inl (r.0, opened_to list r.0 r.1 d' k' first.0, first.1, refl, refl, r.3)
   part_meant list are opened w w' d d' k k' (inr r) =
-      let first = opened_answers program counts list r.1 d r.2 r.0 k r.4 agrees are opened r.5 in
-      inr (r.0, first.0, r.3, first.1, r.6, run_part program counts (words_of list) agrees commands words r.1 r.2 d' r.3 w' r.4 k' first.0 first.2 r.7)
+      let first = open_step opened_answers program counts list r.1 d r.2 r.0 k r.4 agrees are opened r.5 in
+      let x : Moment = opened_to list r.0 r.1 r.2 r.4 first.0 in
+      inr (r.0, x, r.3, first.1, r.6, run_part program counts (words_of list) agrees commands words x d' r.3 w' k' first.1.holds r.7)
 
-  opened_meant : (words : List ℤ) → AreWords words → IsOpened (session.wanted_of program) words → (result : Status) (w w' : Option (List ℕ)) (d d' : Device) (k k' : ℕ) → OpenedAs program commands words result w w' d d' k k' → OpenedMeantAs program counts commands words result w w' d'
+  opened_meant : (words : List ℤ) → AreWords words → IsOpened (session.wanted_of program) words →
+      (result : Status) (w w' : Option (List ℕ)) (d d' : Device) (k k' : ℕ) →
+      OpenedAs program commands words result w w' d d' k k' →
+      OpenedMeantAs program counts commands words result w w' d d' k k'
   opened_meant list are opened status.Done w w' d d' k k' r = opens_meant list are opened w w' d d' k k' r
   opened_meant list are opened status.WriteFault w w' d d' k k' r = part_meant list are opened w w' d d' k k' r
   opened_meant list are opened status.NoMemory w w' d d' k k' (inl keeps) = inl keeps
@@ -106,9 +199,13 @@ module _ (program : Program) (counts : Counts) (agrees : Agrees program counts) 
     wanted_same list is =
         subst (λ (z : Sizes). IsOpened (record { sizes = z; digest = program.digest; txs = length (transactions_of program.typed); structs = length (shapes_of program.typed).structs }) list) (sym sizes) is
 
-    start_meant : (start : Start) (result : Status) (w w' : Option (List ℕ)) (d d' : Device) (k k' : ℕ) → PoolEnds start program commands result w w' d d' k k' → StartMeant start program counts commands result w w' d'
+    start_meant :
+        (start : Start) (result : Status) (w w' : Option (List ℕ)) (d d' : Device) (k k' : ℕ) →
+        PoolEnds start program commands result w w' d d' k k' →
+        StartMeant start program counts commands result w w' d d' k k'
     start_meant Fresh result w w' d d' k k' ends = ran_meant result w w' d d' k k' ends
-    start_meant (FromImage image) result w w' d d' k k' (inl refused) = inl (refused.0, refused.1, refused.2)
+    start_meant (FromImage image) result w w' d d' k k' (inl refused) =
+        inl (refused.0, refused.1, refused.2, refused.3, refused.4)
     start_meant (FromImage image) result w w' d d' k k' (inr ran) =
         let gives : ImageGives program image ran.0 = ran.1 in
         inr (ran.0, gives, opened_meant ran.0 gives.1 (wanted_same ran.0 gives.0) result w w' d d' k k' ran.2)
@@ -120,17 +217,17 @@ module _ (program : Program) (counts : Counts) (agrees : Agrees program counts) 
 
 -- where the sources tell both texts
 texts_meant : (asked : Asked) (p s : Option (List ℕ)) (start : Start) (saves : Bool) (program : Program) (commands : List Command) (result : Status) (before behind : Outside) → TextsGive asked p s program commands → JobEnds saves start program commands result before behind →
-    IfSome p (λ text. IfSome s (λ script. (marks : MarkTable) × IsMarked marks (lowered program.typed) × JobMeant saves start program (counts_of program marks) commands result before behind))
+    IfSome p (λ text. IfSome s (λ script. (from : CompiledFrom asked text program) × JobMeant saves start program (counts_of program from.code.marks) commands result before behind))
 texts_meant asked None s start saves program commands result before behind gives ends = tt
 texts_meant asked (Some text) None start saves program commands result before behind gives ends = tt
 texts_meant asked (Some text) (Some script) start saves program commands result before behind gives ends =
     let from : CompiledFrom asked text program = gives.0 in
     let has : HasCommands commands script = gives.1 in
-    let made = from.code in
-    (made.marks, made.marked, job_meant program (counts_of program made.marks) from.agrees commands (script_words script commands has.1) from.image saves start result before behind ends)
+    (from, job_meant program (counts_of program from.code.marks) from.agrees commands (script_words script commands has.1) from.image saves start result before behind ends)
 
 run_meant : (asked : Asked) (told : Sources) (opens saves : Bool) (result : Status) (before behind : Outside) → RunEnds asked told opens saves result before behind → RunMeant asked told opens saves result before behind
-run_meant asked told opens saves result before behind (inl refused) = inl (refused.0, refused.1, refused.2)
+run_meant asked told opens saves result before behind (inl refused) =
+    inl (refused.0, refused.1, refused.2, refused.3)
 run_meant asked told opens saves result before behind (inr ran) =
     inr (ran.0, ran.1, ran.2, texts_meant asked told.program told.script (start_if opens told.image) saves ran.0 ran.1 result before behind ran.2 ran.3)
 
@@ -148,8 +245,12 @@ plan_meant_as words asked told result before behind is ends =
     subst (λ (w : Option Plan). IfSome w (λ asked. PlanMeant asked told result before behind)) (sym is) (plan_meant asked told result before behind ends)
 
 -- a call that finds no memory for its words
-pub memory_meant : (words : Option Plan) (told : Sources) (before behind : Outside) → Keeps before.out behind.out → IfSome words (λ asked. PlanMeant asked told status.NoMemory before behind)
-memory_meant None told before behind keeps = tt
-memory_meant (Some (plan.Run p s slots records ticks from save)) told before behind keeps = inl (refused.NoMemory, tt, (refl, keeps))
-memory_meant (Some (plan.List p)) told before behind keeps = tt
-memory_meant (Some (plan.Storm p start count slots records ticks)) told before behind keeps = inl (refused.NoMemory, tt, (refl, keeps))
+pub memory_meant : (words : Option Plan) (told : Sources) (before behind : Outside) →
+    Keeps before.out behind.out → IsUntouched before behind →
+    IfSome words (λ asked. PlanMeant asked told status.NoMemory before behind)
+memory_meant None told before behind keeps same = tt
+memory_meant (Some (plan.Run p s slots records ticks from save)) told before behind keeps same =
+    inl (refused.NoMemory, tt, (refl, keeps), same)
+memory_meant (Some (plan.List p)) told before behind keeps same = tt
+memory_meant (Some (plan.Storm p start count slots records ticks)) told before behind keeps same =
+    inl (refused.NoMemory, tt, (refl, keeps), same.1, same.2)

@@ -1,7 +1,10 @@
 -- A storm means what its program's source says.
-use Rattle.std.proofs.Common.{◌≡◌, ℕ, zero, suc, ◌-◌, ◌^◌, ◌%◌, min, List, [], ◌∷◌, Bool, true, false, Option, Some, None, IfSome, option_map, inl, inr, length, ℤ, pos, refl, sym, subst, arith}
+use Rattle.std.proofs.Common.{◌≡◌, ℕ, zero, suc, ◌-◌, ◌^◌, ◌%◌, min, List, [], ◌∷◌, Bool, true, false, Option, Some, None, IfSome, option_map, inl, inr, length, ℤ, pos, ◌++◌, refl, sym, ap, ◌∙◌, subst, arith}
 use Rattle.std.specs.Prelude.{slice_get}
 use Rattle.std.specs.List.{AllByRecursion}
+use Rattle.std.specs.Io.KnownBytes.{Appends}
+use Rattle.nvm_base.specs.Parts.{AppendsPart}
+use Rattle.pool_layout.specs.Image.{Words}
 use Rattle.std.proofs.lemmas.Int.{ints}
 use Rattle.nvm_base.specs.Wrap.{IsWord}
 use Rattle.pmem.specs.Device.{Device}
@@ -10,15 +13,20 @@ use Rattle.c_types.specs.Shapes.{transactions_of}
 use Rattle.cnvm_script.specs.declared.command.Command.{Command}
 use Rattle.cnvm_script.specs.declared.command.Command.TheVariants as command
 use Rattle.cnvm_script.specs.Storm.{next, drawn, arguments, chosen, is_cut, round, storm_round}
+use Rattle.cnvm_session.specs.declared.answer.Answer.{Answer}
+use Rattle.cnvm_session.specs.Commands.{Commanded}
 use Rattle.cnvm_session.specs.declared.mode.Mode.{Mode}
 use Rattle.cnvm_session.specs.declared.mode.Mode.TheVariants.{Ready}
 use Rattle.cnvm_session.specs.declared.program.Program.{Program}
 use Rattle.session_law.specs.Source.{Counts}
 use Rattle.session_law.specs.Agrees.{Agrees}
-use Rattle.session_law.specs.State.{State, created}
+use Rattle.session_law.specs.State.{Pending, State}
 use Rattle.session_law.specs.Holds.{Holds}
 use Rattle.session_law.specs.Words.{AreWords}
-use Rattle.session_law.specs.Law.{IsWordCommand, super_words, found_by}
+use Rattle.session_law.specs.History.{history_after}
+use Rattle.session_law.specs.Ran.{found_by, Moment, Step, Ran, begun}
+use Rattle.session_law.specs.Law.{IsWordCommand, super_words}
+use Rattle.session_law.proofs.Chains.{steps_on, chain_kept, ran_append}
 use Rattle.session_law.proofs.Commands.{each_command}
 use Rattle.session_law.proofs.Creating.{created_rests}
 use Rattle.compiled_law.specs.Counts.{counts_of}
@@ -28,9 +36,10 @@ use Rattle.cnvm_cli.specs.declared.status.Status.TheVariants as status
 use Rattle.cnvm_cli.specs.declared.storm.Tally.{Tally}
 use Rattle.cnvm_cli.specs.Verdict.{CompiledFrom}
 use Rattle.cnvm_cli.specs.Stormed as stormed
-use Rattle.cnvm_cli.specs.Stormed.{no_tally, Rounds, RoundsOf, StormsAll, StormsPart, StormedAs}
+use Rattle.cnvm_cli.specs.Run.{Created}
+use Rattle.cnvm_cli.specs.Stormed.{no_tally, tally_text, Rounds, RoundsOf, StormsAll, StormsPart, StormedAs}
 use Rattle.cnvm_cli.specs.Ends.{StormEnds}
-use Rattle.cnvm_cli.specs.StormMeant.{RoundMeant, RoundsMeant, RoundsMeantOf, SummaryPart, CountsMeant, CountsPart, StormMeantAs, StormMeant}
+use Rattle.cnvm_cli.specs.StormMeant.{Drawn, DrawnOf, tally_of, SummaryPart, CountsMeant, CountsPart, StormMeantAs, StormMeant}
 
 -- a generated argument is below 16, so it is a word
 words_more : (x : ℤ) (xs : List ℤ) → IsWord x → AreWords xs → AreWords (x ∷ xs)
@@ -59,58 +68,162 @@ storm_words : (x : ℕ) (fs : List FunctionTree) (commands : List Command) → S
 storm_words x fs commands is =
     subst (λ (o : Option (List Command)). IfSome o (AllByRecursion IsWordCommand)) (sym is) (drawn_words (next (next x)) (is_cut x) (slice_get fs (chosen x (length fs) - 1)))
 
+-- the answers of a chain are as many as its commands, so they are counted one chain after another
+tally_append :
+    (program : Program) (counts : Counts) (super : Words) (cs ds : List Command) (first second : List Answer) (x y : Moment) (t : Tally) →
+    Ran program counts super cs first x y
+    → tally_of (cs ++ ds) (first ++ second) t ≡ tally_of ds second (tally_of cs first t)
+tally_append program counts super [] ds [] second x y t ran = refl
+tally_append program counts super [] ds (a ∷ first) second x y t ran = absurd ran
+tally_append program counts super (c ∷ cs) ds [] second x y t ran = absurd ran
+tally_append program counts super (c ∷ cs) ds (a ∷ first) second x y t ran =
+    tally_append program counts super cs ds first second ran.0 y (stormed.counted c a t) ran.2
+
+-- a chain over commands, to this tally, mode, device and steps
+record Tallied (program : Program) (counts : Counts) (cs : List Command) (t t' : Tally) (x : Moment) (m' : Mode) (d' : Device) (k' : ℕ) : Type 0 where
+  answers : List Answer
+  state : State
+  history : List Pending
+  ran : Ran program counts (super_words program) cs answers x (record { mode = m'; device = d'; steps = k'; state = state; history = history })
+  tally : t' ≡ tally_of cs answers t
+
+none_tallied :
+    (program : Program) (counts : Counts) (t t' : Tally) (x : Moment) (m' : Mode) (d' : Device) (k' : ℕ) →
+    t' ≡ t → m' ≡ x.mode → d' ≡ x.device → k' ≡ x.steps → Tallied program counts [] t t' x m' d' k'
+none_tallied program counts t t' x m' d' k' tallies modes devices steps = record {
+  answers = [];
+  state = x.state;
+  history = x.history;
+  ran =
+      λ i. record { mode = modes i; device = devices i; steps = steps i; state = x.state; history = x.history };
+  tally = tallies;
+}
+
 module _ (program : Program) (counts : Counts) (agrees : Agrees program counts) where
-  -- what is known behind them
-  abbrev Known : Mode → Device → State → Type 0
-  Known m d s = Holds program (super_words program) m d s
+  -- what the device holds
+  abbrev Known : Moment → Type 0
+  Known x = Holds program (super_words program) x.mode x.device x.state
 
-  one_round : (cs : List Command) → AllByRecursion IsWordCommand cs → (t t' : Tally) (m m' : Mode) (d d' : Device) (k k' : ℕ) (s : State) → Known m d s → stormed.Counts program cs t m d k t' m' d' k' →
-      (s' : State) × RoundMeant program counts cs t s t' s' × Known m' d' s'
-  one_round [] words t t' m m' d d' k k' s holds r =
-      (s, (r.0, refl), subst (λ (x : Mode). Known x d' s) (sym r.1) (subst (λ (x : Device). Known m x s) (sym r.2) holds))
-  one_round (c ∷ cs) words t t' m m' d d' k k' s holds r =
-      let one = each_command program counts (super_words program) c m r.1 d r.2 s r.0 k r.3 agrees words.0 holds r.4 in
-      let rest = one_round cs words.1 (stormed.counted c r.0 t) t' r.1 m' r.2 d' r.3 k' one.0 one.2 r.5 in
-      (rest.0, (r.0, found_by c d, one.0, one.1, rest.1), rest.2)
+  abbrev moment : Mode → Device → ℕ → State → List Pending → Moment
+  moment m d k s h = record { mode = m; device = d; steps = k; state = s; history = h }
 
-  all_rounds : (count x : ℕ) (t t' : Tally) (m m' : Mode) (d d' : Device) (k k' : ℕ) (s : State) → Known m d s → Rounds program x count t m d k t' m' d' k' →
-      (s' : State) × RoundsMeant program counts x count t s t' s' × Known m' d' s'
-  all_rounds zero x t t' m m' d d' k k' s holds r =
-      (s, (r.0, refl), subst (λ (y : Mode). Known y d' s) (sym r.1) (subst (λ (y : Device). Known m y s) (sym r.2) holds))
-  all_rounds (suc count) x t t' m m' d d' k k' s holds r =
-      let one = one_round r.0 (storm_words x (transactions_of program.typed) r.0 r.2) t r.4 m r.5 d r.6 k r.7 s holds r.8 in
-      let rest = all_rounds count r.1 r.4 t' r.5 m' r.6 d' r.7 k' one.0 one.2 r.9 in
-      (rest.0, (r.0, r.1, r.2, r.3, r.4, one.0, one.1, rest.1), rest.2)
+  one_round : (cs : List Command) → AllByRecursion IsWordCommand cs →
+      (t t' : Tally) (x : Moment) (m' : Mode) (d' : Device) (k' : ℕ) → Known x →
+      stormed.Counts program cs t x.mode x.device x.steps t' m' d' k' →
+      Tallied program counts cs t t' x m' d' k'
+  one_round [] words t t' x m' d' k' holds r =
+      none_tallied program counts t t' x m' d' k' r.0 r.1 r.2 r.3
+  one_round (c ∷ cs) words t t' x m' d' k' holds r =
+      let one = steps_on each_command program counts (super_words program) agrees c x r.0 r.1 r.2 r.3 words.0 holds r.4 in
+      let y : Moment = moment r.1 r.2 r.3 one.0 (history_after program x.state (found_by c x.device) c r.0 x.history) in
+      let rest = one_round cs words.1 (stormed.counted c r.0 t) t' y m' d' k' one.1.holds r.5 in
+      record { answers = r.0 ∷ rest.answers; state = rest.state; history = rest.history; ran = (y, one.1, rest.ran); tally = rest.tally }
 
-  rounds_of : (fs : List FunctionTree) (count x : ℕ) (t t' : Tally) (m m' : Mode) (d d' : Device) (k k' : ℕ) (s : State) → Known m d s → RoundsOf fs program x count t m d k t' m' d' k' →
-      (s' : State) × RoundsMeantOf fs program counts x count t s t' s' × Known m' d' s'
-  rounds_of [] count x t t' m m' d d' k k' s holds r =
-      (s, (r.0, refl), subst (λ (y : Mode). Known y d' s) (sym r.1) (subst (λ (y : Device). Known m y s) (sym r.2) holds))
-  rounds_of (f ∷ fs) count x t t' m m' d d' k k' s holds r = all_rounds count x t t' m m' d d' k k' s holds r
+  all_rounds : (count g : ℕ) (t t' : Tally) (x : Moment) (m' : Mode) (d' : Device) (k' : ℕ) →
+      Known x → Rounds program g count t x.mode x.device x.steps t' m' d' k' →
+      (commands : List Command) × Drawn (transactions_of program.typed) g count commands
+      × Tallied program counts commands t t' x m' d' k'
+  all_rounds zero g t t' x m' d' k' holds r =
+      ([], refl, none_tallied program counts t t' x m' d' k' r.0 r.1 r.2 r.3)
+  all_rounds (suc count) g t t' x m' d' k' holds r =
+      let one = one_round r.0 (storm_words g (transactions_of program.typed) r.0 r.2) t r.4 x r.5 r.6 r.7 holds r.8 in
+      let y : Moment = moment r.5 r.6 r.7 one.state one.history in
+      let kept : Known y = chain_kept program counts (super_words program) r.0 one.answers x y holds one.ran in
+      let rest = all_rounds count r.1 r.4 t' y m' d' k' kept r.9 in
+      let others = rest.2 in
+      let z : Moment = moment m' d' k' others.state others.history in (
+        r.0 ++ rest.0,
+        (r.0, rest.0, r.1, r.2, r.3, refl, rest.1),
+        record {
+          answers = one.answers ++ others.answers;
+          state = others.state;
+          history = others.history;
+          ran =
+              ran_append program counts (super_words program) r.0 rest.0 one.answers others.answers x y z one.ran others.ran;
+          tally =
+              others.tally ∙ ap (tally_of rest.0 others.answers) one.tally
+              ∙ sym (tally_append program counts (super_words program) r.0 rest.0 one.answers others.answers x y t one.ran);
+        },
+      )
 
-  storm_all : (start count : ℕ) (b d' : Device) (w w' : Option (List ℕ)) (k k' : ℕ) → Known Ready b (created program) → StormsAll program start count Ready b w k d' w' k' → CountsMeant program counts start count w w' d'
-  storm_all start count b d' w w' k k' holds r =
-      let rounds = rounds_of (transactions_of program.typed) count (min start (2 ^ 32 - 1)) no_tally r.0 Ready r.1 b r.2 k r.3 (created program) holds r.4 in
+  rounds_of :
+      (fs : List FunctionTree) (count g : ℕ) (t t' : Tally) (x : Moment) (m' : Mode) (d' : Device) (k' : ℕ) →
+      Known x → RoundsOf fs program g count t x.mode x.device x.steps t' m' d' k' →
+      (commands : List Command) × DrawnOf fs program g count commands
+      × Tallied program counts commands t t' x m' d' k'
+  rounds_of [] count g t t' x m' d' k' holds r =
+      ([], refl, none_tallied program counts t t' x m' d' k' r.0 r.1 r.2 r.3)
+  rounds_of (f ∷ fs) count g t t' x m' d' k' holds r = all_rounds count g t t' x m' d' k' holds r
+
+  -- the answer of `last` after it
+  last_step : (x : Moment) (a : Answer) (n : Mode) (d' : Device) (k' : ℕ) → Known x →
+      Commanded program command.Last x.mode x.device a n d' x.steps k' →
+      (y : Moment) × Step program counts (super_words program) command.Last x a y × (y.device ≡ d') × (y.steps ≡ k')
+  last_step x a n d' k' holds did =
+      let one = steps_on each_command program counts (super_words program) agrees command.Last x a n d' k' tt holds did in
+      (moment n d' k' one.0 (history_after program x.state (found_by command.Last x.device) command.Last a x.history), one.1, refl, refl)
+
+  storm_all : (start count : ℕ) (d d' : Device) (w w' : Option (List ℕ)) (k k' : ℕ) →
+      (b : Device) × Created program d b × StormsAll program start count Ready b w k d' w' k' →
+      CountsMeant program counts start count w w' d d' k k'
+  storm_all start count d d' w w' k k' made =
+      let b : Device = made.0 in
+      let holds = created_rests program d b made.1 in
+      let r = made.2 in
+      let all = rounds_of (transactions_of program.typed) count (min start (2 ^ 32 - 1)) no_tally r.0 (begun program b k) r.1 r.2 r.3 holds r.4 in
+      let tallied = all.2 in
+      let x : Moment = moment r.1 r.2 r.3 tallied.state tallied.history in
+      let kept = chain_kept program counts (super_words program) all.0 tallied.answers (begun program b k) x holds tallied.ran in
       let last = r.5 in
-      let one = each_command program counts (super_words program) command.Last r.1 last.1 r.2 d' rounds.0 last.0 r.3 k' agrees tt rounds.2 last.4 in
-      (r.0, rounds.0, rounds.1, (last.0, found_by command.Last r.2, one.0, last.2, last.3, one.1, last.5, (super_words program, last.1, one.2)))
+      let one = last_step x last.0 last.1 d' k' kept last.4 in (
+        b,
+        made.1,
+        holds,
+        (
+          record { commands = all.0; drawn = all.1; answers = tallied.answers; last = x; ran = tallied.ran },
+          (last.0, one.0, last.2, subst (λ (t : Tally). Appends w last.2 (tally_text t)) tallied.tally last.3, one.1, last.5, one.2, one.3),
+        ),
+      )
 
-  summary_part : (t : Tally) (m : Mode) (d d' : Device) (w w' : Option (List ℕ)) (k k' : ℕ) (s : State) → Known m d s → stormed.TallyPart program t m d w k d' w' k' → SummaryPart program counts t s w w'
-  summary_part t m d d' w w' k k' s holds (inl summary) = inl summary.0
-  summary_part t m d d' w w' k k' s holds (inr last) =
-      let one = each_command program counts (super_words program) command.Last m last.1 d d' s last.0 k k' agrees tt holds last.4 in
-      inr (last.0, found_by command.Last d, one.0, last.2, last.3, one.1, last.5)
+  summary_part : (t t' : Tally) (x : Moment) (d' : Device) (w w' : Option (List ℕ)) (k' : ℕ) →
+      t ≡ t' → Known x → stormed.TallyPart program t x.mode x.device w x.steps d' w' k' →
+      SummaryPart program counts t' x w w' d' k'
+  summary_part t t' x d' w w' k' same holds (inl summary) =
+      inl (subst (λ (u : Tally). AppendsPart w w' (tally_text u)) same summary.0, sym summary.1, sym summary.2)
+  summary_part t t' x d' w w' k' same holds (inr last) =
+      let one = last_step x last.0 last.1 d' k' holds last.4 in
+      inr (last.0, one.0, last.2, subst (λ (u : Tally). Appends w last.2 (tally_text u)) same last.3, one.1, last.5, one.2, one.3)
 
-  storm_part : (start count : ℕ) (b d' : Device) (w w' : Option (List ℕ)) (k k' : ℕ) → Known Ready b (created program) → StormsPart program start count Ready b w k d' w' k' → CountsPart program counts start count w w'
-  storm_part start count b d' w w' k k' holds r =
-      let rounds = rounds_of (transactions_of program.typed) count (min start (2 ^ 32 - 1)) no_tally r.0 Ready r.1 b r.2 k r.3 (created program) holds r.4 in
-      (r.0, rounds.0, rounds.1, summary_part r.0 r.1 r.2 d' w w' r.3 k' rounds.0 rounds.2 r.5)
+  storm_part : (start count : ℕ) (d d' : Device) (w w' : Option (List ℕ)) (k k' : ℕ) →
+      (b : Device) × Created program d b × StormsPart program start count Ready b w k d' w' k' →
+      CountsPart program counts start count w w' d d' k k'
+  storm_part start count d d' w w' k k' made =
+      let b : Device = made.0 in
+      let holds = created_rests program d b made.1 in
+      let r = made.2 in
+      let all = rounds_of (transactions_of program.typed) count (min start (2 ^ 32 - 1)) no_tally r.0 (begun program b k) r.1 r.2 r.3 holds r.4 in
+      let tallied = all.2 in
+      let x : Moment = moment r.1 r.2 r.3 tallied.state tallied.history in
+      let kept = chain_kept program counts (super_words program) all.0 tallied.answers (begun program b k) x holds tallied.ran in (
+        b,
+        made.1,
+        holds,
+        (
+          record { commands = all.0; drawn = all.1; answers = tallied.answers; last = x; ran = tallied.ran },
+          summary_part r.0 (tally_of all.0 tallied.answers no_tally) x d' w w' k' tallied.tally kept r.5,
+        ),
+      )
 
-  storm_meant_as : (start count : ℕ) (result : Status) (w w' : Option (List ℕ)) (d d' : Device) (k k' : ℕ) → StormedAs program start count result w w' d d' k k' → StormMeantAs program counts start count result w w' d'
-  storm_meant_as start count status.Done w w' d d' k k' r = storm_all start count r.0 d' w w' k k' (created_rests program d r.0 r.1) r.2
-  storm_meant_as start count status.WriteFault w w' d d' k k' r = storm_part start count r.0 d' w w' k k' (created_rests program d r.0 r.1) r.2
+  storm_meant_as :
+      (start count : ℕ) (result : Status) (w w' : Option (List ℕ)) (d d' : Device) (k k' : ℕ) →
+      StormedAs program start count result w w' d d' k k' →
+      StormMeantAs program counts start count result w w' d d' k k'
+  storm_meant_as start count status.Done w w' d d' k k' r = storm_all start count d d' w w' k k' r
+  storm_meant_as start count status.WriteFault w w' d d' k k' r =
+      storm_part start count d d' w w' k k' r
   storm_meant_as start count status.NoMemory w w' d d' k k' (inl keeps) = inl keeps
-  storm_meant_as start count status.NoMemory w w' d d' k k' (inr r) = inr (storm_part start count r.0 d' w w' k k' (created_rests program d r.0 r.1) r.2)
+  storm_meant_as start count status.NoMemory w w' d d' k k' (inr r) =
+      inr (storm_part start count d d' w w' k k' r)
   storm_meant_as start count status.DeviceFault w w' d d' k k' r = r
   storm_meant_as start count status.ReadFault w w' d d' k k' r = absurd r
   storm_meant_as start count status.Usage w w' d d' k k' r = absurd r
@@ -118,10 +231,13 @@ module _ (program : Program) (counts : Counts) (agrees : Agrees program counts) 
   storm_meant_as start count status.Script w w' d d' k k' r = absurd r
   storm_meant_as start count status.Image w w' d d' k k' r = absurd r
 
-pub storm_meant : (asked : Asked) (start count : ℕ) (told : Option (List ℕ)) (result : Status) (w w' : Option (List ℕ)) (d d' : Device) (k k' : ℕ) → StormEnds asked start count told result w w' d d' k k' → StormMeant asked start count told result w w' d'
-storm_meant asked start count told result w w' d d' k k' (inl refused) = inl (refused.0, refused.1, refused.2)
+pub storm_meant :
+    (asked : Asked) (start count : ℕ) (told : Option (List ℕ)) (result : Status) (w w' : Option (List ℕ)) (d d' : Device) (k k' : ℕ) →
+    StormEnds asked start count told result w w' d d' k k' →
+    StormMeant asked start count told result w w' d d' k k'
+storm_meant asked start count told result w w' d d' k k' (inl refused) =
+    inl (refused.0, refused.1, refused.2, refused.3, refused.4)
 storm_meant asked start count None result w w' d d' k k' (inr ran) = inr (ran.0, tt)
 storm_meant asked start count (Some text) result w w' d d' k k' (inr ran) =
     let from : CompiledFrom asked text ran.0 = ran.1 in
-    let made = from.code in
-    inr (ran.0, (from, (made.marks, made.marked, storm_meant_as ran.0 (counts_of ran.0 made.marks) from.agrees start count result w w' d d' k k' ran.2)))
+    inr (ran.0, (from, storm_meant_as ran.0 (counts_of ran.0 from.code.marks) from.agrees start count result w w' d d' k k' ran.2))

@@ -7,7 +7,7 @@ use Rattle.c_lexer.specs.declared.fault.LexFault.TheVariants as lex
 use Rattle.cnvm_compile.specs.declared.compiling.Compiled.{Compiled}
 use Rattle.cnvm_compile.specs.declared.front_end.ProgramFault.TheVariants.{Lex}
 use Rattle.cnvm_compile.specs.Made.{image_of}
-use Rattle.cnvm_compile.specs.Marked.{IsMarked}
+use Rattle.clobber_pass.specs.Logged.{IsExact}
 use Rattle.ir.specs.declared.function.Ir.{Ir}
 use Rattle.lower.specs.Program.{lowered}
 use Rattle.cnvm_script.specs.declared.command.Command.{Command}
@@ -62,10 +62,10 @@ pub both_read : (asked : Asked) (p : Compiled) (commands : List Command) (w v : 
 both_read asked p commands w v program is = (when_told w _ program, when_told v _ is)
 
 -- a compiled program is made of its marks
-abbrev pub made_of : (p : Compiled) → p.ir ≡ lowered p.program.typed → IsMarked p.marks p.ir
+abbrev pub made_of : (p : Compiled) → p.ir ≡ lowered p.program.typed → IsExact p.ir.functions p.marks
     → p.program.image.parts ≡ image_of p.marks p.ir p.program.sizes (length p.program.typed.lines) → IsMade p.program
 made_of p code marked made = record {
   marks = p.marks;
-  marked = subst (λ (ir : Ir). IsMarked p.marks ir) code marked;
+  marked = subst (λ (ir : Ir). IsExact ir.functions p.marks) code marked;
   made = made ∙ ap (λ (ir : Ir). image_of p.marks ir p.program.sizes (length p.program.typed.lines)) code;
 }

@@ -7,7 +7,7 @@ use Rattle.cnvm_script.specs.declared.command.Command.{Command}
 use Rattle.cnvm_session.specs.declared.program.Program.{Program}
 use Rattle.cnvm_compile.specs.declared.compiling.Compiled.{Compiled}
 use Rattle.cnvm_compile.specs.Listing.{listing}
-use Rattle.cnvm_compile.specs.Marked.{IsMarked}
+use Rattle.clobber_pass.specs.Logged.{IsExact}
 use Rattle.cnvm_words.specs.declared.plan.Plan.{Plan}
 use Rattle.cnvm_words.specs.declared.plan.Plan.TheVariants as plan
 use Rattle.cnvm_cli.specs.declared.asked.Asked.{Asked}
@@ -81,9 +81,9 @@ RunEnds asked told opens saves result before behind =
 abbrev pub listed : Asked
 listed = record { slots = 1024; records = 256; ticks = 100000 }
 
--- the code is that of the program's tree, and the marks are marks of it
+-- the code is that of the program's tree, and its marks are exact
 abbrev pub HasCode : Compiled → Type 0
-HasCode compiled = (compiled.ir ≡ lowered compiled.program.typed) × IsMarked compiled.marks compiled.ir
+HasCode compiled = (compiled.ir ≡ lowered compiled.program.typed) × IsExact compiled.ir.functions compiled.marks
 
 -- How a listing ends: the program is refused, and this is told; or what is written is the listing of the code and the
 -- marks of a program that the text is.

@@ -14,7 +14,7 @@ use Rattle.cnvm_compile.specs.declared.told.Told.{Told}
 use Rattle.cnvm_compile.specs.declared.told.Told.TheVariants as told
 use Rattle.cnvm_compile.specs.FrontEnd.{Accepts, RefusesText}
 use Rattle.cnvm_compile.specs.Made.{image_of}
-use Rattle.cnvm_compile.specs.Marked.{IsMarked}
+use Rattle.clobber_pass.specs.Logged.{IsExact}
 use Rattle.cnvm_compile.specs.SizesAsked.{HasSizes}
 use Rattle.cnvm_compile.specs.Told.{told_of}
 use Rattle.cnvm_cli.specs.declared.asked.Asked.{Asked}
@@ -30,11 +30,10 @@ refused_by told.NoMemory = refused.NoMemory
 abbrev pub IsRefused : List ℕ → Refused → Type 0
 IsRefused text why = (fault : ProgramFault) × RefusesText text fault × (refused_by (told_of fault) ≡ why)
 
--- the image is that of the code of the program's tree, with the logs of marks that log each site for which
--- walks call and nothing but store sites
+-- the image is that of the code of the program's tree, with the logs of the marks that are exact
 pub record IsMade (program : Program) : Type 0 where
   pub marks : MarkTable
-  pub marked : IsMarked marks (lowered program.typed)
+  pub marked : IsExact (lowered program.typed).functions marks
   pub made : program.image.parts ≡ image_of marks (lowered program.typed) program.sizes (length program.typed.lines)
 
 -- a program that the text is, for a pool of these sizes; its image agrees with its source

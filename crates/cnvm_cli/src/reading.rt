@@ -4,7 +4,7 @@ ghost use Rattle.std.specs.Prelude.{◌≡◌, ◌≤◌, ◌^◌, ℕ, List, So
 ghost use Rattle.std.specs.Io.KnownBytes.{IsAtEnd};
 ghost use Rattle.nvm_base.specs.Rose.{Rose};
 ghost use Rattle.lower.specs.Program.{lowered};
-ghost use Rattle.cnvm_compile.specs.Marked.{IsMarked};
+ghost use Rattle.clobber_pass.specs.Logged.{IsExact};
 ghost use Rattle.session_law.specs.Words.{AreWords};
 ghost use Rattle.cnvm_cli.specs.Verdict.{refused_by};
 ghost use Rattle.cnvm_cli.specs.Opened.{wanted_of, ImageIs, ImageReadAs};
@@ -43,7 +43,7 @@ pub(crate) fn read_program<S: Source>(
 ) -> Result<Compiled, Refused>
     ensures told { (text : List ℕ) → S.left source.old ≡ Some text → ProgramIs asked result text }
     ensures ir { IfOk result (λ compiled. compiled.ir ≡ lowered compiled.program.typed) }
-    ensures marks { IfOk result (λ compiled. IsMarked compiled.marks compiled.ir) }
+    ensures marks { IfOk result (λ compiled. IsExact compiled.ir.functions compiled.marks) }
     ensures end { OnOk result (IsAtEnd (S.left source.new)) }
     ensures read { IsErrOf result Refused.ReadFault → Rose (S.faults source.old) (S.faults source.new) }
     ensures usage { IsErrOf result Refused.Usage → ⊥ }
@@ -63,7 +63,7 @@ pub(crate) fn read_program<S: Source>(
 fn program_of(alloc: Global, text: &[u8], asked: Asked) -> Result<Compiled, Refused>
     ensures is { ProgramIs asked result text.now }
     ensures ir { IfOk result (λ compiled. compiled.ir ≡ lowered compiled.program.typed) }
-    ensures marks { IfOk result (λ compiled. IsMarked compiled.marks compiled.ir) }
+    ensures marks { IfOk result (λ compiled. IsExact compiled.ir.functions compiled.marks) }
     ensures read { IsErrOf result Refused.ReadFault → ⊥ }
     ensures usage { IsErrOf result Refused.Usage → ⊥ }
     ensures device { IsErrOf result Refused.Device → ⊥ }

@@ -15,7 +15,7 @@ use Rattle.compiled_law.specs.Counts.{counts_of}
 use Rattle.compiled_law.proofs.Agreeing.{compiled}
 use Rattle.cnvm_compile.specs.FrontEnd.{Accepts}
 use Rattle.cnvm_compile.specs.Made.{image_of}
-use Rattle.cnvm_compile.specs.Marked.{IsMarked}
+use Rattle.clobber_pass.specs.Logged.{IsExact}
 use Rattle.cnvm_compile.specs.SizesAsked.{within, HasRoot}
 
 -- a number within limits stays as it is
@@ -28,7 +28,7 @@ within_same most n low high = by_least (nat_lt n 1) refl (nat_lt most n) refl
     by_least false e false f = refl
 
 module _ (text : List ℕ) (marks : MarkTable) (program : Program) where
-  agreed_of : (ir : Ir) → Accepts text program.typed → lowered program.typed ≡ ir → IsMarked marks (lowered program.typed) → IsWellFormed (lowered program.typed)
+  agreed_of : (ir : Ir) → Accepts text program.typed → lowered program.typed ≡ ir → IsExact (lowered program.typed).functions marks → IsWellFormed (lowered program.typed)
       → program.image.parts.sizes ≡ program.sizes → HasRoot (shapes_of program.typed) program.sizes → program.image.parts ≡ image_of marks (lowered program.typed) program.sizes (length program.typed.lines)
       → Agrees program (counts_of program marks)
   agreed_of ir accepted is marked formed sizes root made =
@@ -41,15 +41,15 @@ module _ (text : List ℕ) (marks : MarkTable) (program : Program) where
         lines = tree.2.lines;
         checked = accepted.1;
         formed = formed;
-        whole = marked.whole;
+        whole = λ site logged. (marked site).1 logged;
         sizes = sizes;
         root = root ∙ within_same 512 (words_of (shapes_of program.typed).root) least most;
         made = made;
       })
 
   -- with the code under a name of its own
-  pub agreed : (ir : Ir) → Accepts text program.typed → ir ≡ lowered program.typed → IsMarked marks ir → IsWellFormed ir
+  pub agreed : (ir : Ir) → Accepts text program.typed → ir ≡ lowered program.typed → IsExact ir.functions marks → IsWellFormed ir
       → program.image.parts.sizes ≡ program.sizes → HasRoot (shapes_of program.typed) program.sizes → program.image.parts ≡ image_of marks ir program.sizes (length program.typed.lines)
       → Agrees program (counts_of program marks)
   agreed ir accepted is marked formed sizes root made =
-      agreed_of ir accepted (sym is) (subst (IsMarked marks) is marked) (subst IsWellFormed is formed) sizes root (made ∙ ap (λ (x : Ir). image_of marks x program.sizes (length program.typed.lines)) is)
+      agreed_of ir accepted (sym is) (subst (λ (x : Ir). IsExact x.functions marks) is marked) (subst IsWellFormed is formed) sizes root (made ∙ ap (λ (x : Ir). image_of marks x program.sizes (length program.typed.lines)) is)

@@ -2,7 +2,6 @@ pub mod ComplaintText
 pub mod FrontEnd
 pub mod Listing
 pub mod Made
-pub mod Marked
 pub mod OneAnswer
 pub mod SizesAsked
 pub mod Told

@@ -3,11 +3,11 @@
 ghost use Rattle.std.specs.Prelude.{◌≡◌, ◌≤◌, [], IfOk, IfErr, length};
 ghost use Rattle.pool_layout.specs.Digest.{digest_of};
 ghost use Rattle.ir.specs.WellFormed.{IsWellFormed};
+ghost use Rattle.clobber_pass.specs.Logged.{IsExact};
 ghost use Rattle.c_types.specs.Fault.{breaks};
 ghost use Rattle.lower.specs.Program.{lowered};
 ghost use Rattle.cnvm_compile.specs.FrontEnd.{Accepts, RefusesText};
 ghost use Rattle.cnvm_compile.specs.Made.{image_of};
-ghost use Rattle.cnvm_compile.specs.Marked.{IsMarked};
 ghost use Rattle.c_types.specs.Shapes.{shapes_of};
 ghost use Rattle.pool_map.specs.PoolFits.{words_of};
 ghost use Rattle.session_law.specs.Agrees.{Agrees};
@@ -79,7 +79,7 @@ pub fn compile(
     ensures root { IfOk result (λ compiled. HasRoot (shapes_of compiled.program.typed) compiled.program.sizes) }
     ensures digest { IfOk result (λ compiled. compiled.program.digest ≡ digest_of text.now) }
     ensures ir { IfOk result (λ compiled. compiled.ir ≡ lowered compiled.program.typed) }
-    ensures marks { IfOk result (λ compiled. IsMarked compiled.marks compiled.ir) }
+    ensures marks { IfOk result (λ compiled. IsExact compiled.ir.functions compiled.marks) }
     ensures well_formed { IfOk result (λ compiled. IsWellFormed compiled.ir) }
     ensures code { IfOk result (λ compiled. compiled.program.image.parts ≡ image_of compiled.marks compiled.ir compiled.program.sizes (length compiled.program.typed.lines)) }
     ensures agrees { IfOk result (λ compiled. Agrees compiled.program (counts_of compiled.program compiled.marks)) }
@@ -119,7 +119,7 @@ fn back_end(
     ensures image { IfOk result (λ compiled. compiled.program.image.parts.sizes ≡ sizes) }
     ensures digest { IfOk result (λ compiled. compiled.program.digest ≡ digest) }
     ensures ir { IfOk result (λ compiled. breaks typed ≡ [] → compiled.ir ≡ lowered typed) }
-    ensures marks { IfOk result (λ compiled. IsMarked compiled.marks compiled.ir) }
+    ensures marks { IfOk result (λ compiled. IsExact compiled.ir.functions compiled.marks) }
     ensures well_formed { IfOk result (λ compiled. IsWellFormed compiled.ir) }
     ensures code { IfOk result (λ compiled. compiled.program.image.parts ≡ image_of compiled.marks compiled.ir sizes (length typed.lines)) }
 {

@@ -6,3 +6,4 @@ pub mod Recoveries
 pub mod Resting
 pub mod Refusing
 pub mod Quieting
+pub mod Bounding

@@ -29,11 +29,13 @@ use Rattle.cnvm_session.specs.Outcomes.{Runs, IsCalled, answer_of_call, mode_of_
 use Rattle.cnvm_session.specs.Commands.{Refused, Tells, Shows, Lasts, number_of, parameters_of, CallsWith, CallsTo, CallsNamed, Calls, fallen, Powers, Commanded}
 use Rattle.cnvm_session.specs.Laws.{IsRefusal, IsBadPick, IsRefused, StaysOrMarks}
 
-abbrev Kept : Mode → Device → Mode → Device → Type 0
-Kept m d n b = (b ≡ d) × StaysOrMarks m d n
+abbrev Kept : Mode → Device → Mode → Device → (k k1 : ℕ) → Type 0
+Kept m d n b k k1 = (b ≡ d) × StaysOrMarks m d n × (k1 ≡ k)
 
-refused_kept : (why : Answer) (m : Mode) (d : Device) (a : Answer) (n : Mode) (b : Device) → Refused why m d a n b → Kept m d n b
-refused_kept why m d a n b h = (h.2, inl h.1)
+refused_kept :
+    (why : Answer) (m : Mode) (d : Device) (a : Answer) (n : Mode) (b : Device) (k k1 : ℕ) →
+    Refused why m d a n b k k1 → Kept m d n b k k1
+refused_kept why m d a n b k k1 h = (h.2, inl h.1, h.3)
 
 -- the standing of a marked pool, and no other, is its mark's
 marked_of : (marked fit : Bool) (kind t : TrapKind) → (if marked then (if fit then stands.Ready else stands.Numbers) else stands.Unusable kind) ≡ stands.Unusable t → (marked ≡ false) × (t ≡ kind)
@@ -64,42 +66,49 @@ by_answer called.Numbers image tx args d b k k1 is h = h
 
 module _ (r : CallAnswer) (image : Image) (tx : ℕ) (args : List ℤ) (d : Device) (n : Mode) (b : Device) (k k1 : ℕ)
     (h : IsCalled r image tx args d b k k1) (mode : n ≡ mode_of_call r) (is : IsRefusal (answer_of_call r)) where
-  by_standing : (standing : Standing) → d.on ≡ true → standing_of (view d.cache) ≡ standing → Kept Ready d n b
+  by_standing : (standing : Standing) → d.on ≡ true → standing_of (view d.cache) ≡ standing →
+      Kept Ready d n b k k1
   by_standing stands.Off on e = absurd (never_off (int_eq (view d.cache 19) (pos 0)) (is_number (view d.cache 17) && is_number (view d.cache 18)) (kind_of (view d.cache 19)) e)
   by_standing stands.Ready on e = absurd (by_answer r image tx args d b k k1 is (h.ready on e))
   by_standing (stands.Unusable t) on e =
       let same = h.unusable t on e in
       let mark = marked (view d.cache) t e in
-      (same.1, inr (refl, mark.0, mode ∙ ap mode_of_call same.0 ∙ ap Unusable mark.1))
+      (same.1, inr (refl, mark.0, mode ∙ ap mode_of_call same.0 ∙ ap Unusable mark.1), same.2)
   by_standing stands.Numbers on e =
       let same = h.numbers on e in
-      (same.1, inl (mode ∙ ap mode_of_call same.0))
+      (same.1, inl (mode ∙ ap mode_of_call same.0), same.2)
 
-  by_switch : (on : Bool) → d.on ≡ on → Kept Ready d n b
+  by_switch : (on : Bool) → d.on ≡ on → Kept Ready d n b k k1
   by_switch true on = by_standing (standing_of (view d.cache)) on refl
   by_switch false off = absurd (subst (λ (x : CallAnswer). IsRefusal (answer_of_call x)) ((h.off off).0) is)
 
-runs_kept : (image : Image) (tx : ℕ) (args : List ℤ) (d : Device) (a : Answer) (n : Mode) (b : Device) (k k1 : ℕ) → IsRefusal a → Runs image tx args d a n b k k1 → Kept Ready d n b
+runs_kept :
+    (image : Image) (tx : ℕ) (args : List ℤ) (d : Device) (a : Answer) (n : Mode) (b : Device) (k k1 : ℕ) →
+    IsRefusal a → Runs image tx args d a n b k k1 → Kept Ready d n b k k1
 runs_kept image tx args d a n b k k1 is h = by_switch h.behind image tx args d n b k k1 h.called h.mode (subst IsRefusal h.answer is) d.on refl
 
 module _ (image : Image) (args : List ℤ) (d : Device) (a : Answer) (n : Mode) (b : Device) (k k1 : ℕ) (is : IsRefusal a) where
-  by_count : (same : Bool) (tx : ℕ) → CallsWith same image tx args d a n b k k1 → Kept Ready d n b
+  by_count : (same : Bool) (tx : ℕ) → CallsWith same image tx args d a n b k k1 →
+      Kept Ready d n b k k1
   by_count true tx h = runs_kept image tx args d a n b k k1 is h
-  by_count false tx h = refused_kept answer.RefusedArity Ready d a n b h
+  by_count false tx h = refused_kept answer.RefusedArity Ready d a n b k k1 h
 
-  by_parameters : (count : Option ℕ) (tx : ℕ) → CallsTo count image tx args d a n b k k1 → Kept Ready d n b
-  by_parameters None tx h = refused_kept answer.RefusedUnknown Ready d a n b h
+  by_parameters : (count : Option ℕ) (tx : ℕ) → CallsTo count image tx args d a n b k k1 →
+      Kept Ready d n b k k1
+  by_parameters None tx h = refused_kept answer.RefusedUnknown Ready d a n b k k1 h
   by_parameters (Some count) tx h = by_count (count == length args) tx h
 
-  by_name : (number : Option ℕ) → CallsNamed number image args d a n b k k1 → Kept Ready d n b
-  by_name None h = refused_kept answer.RefusedUnknown Ready d a n b h
+  by_name : (number : Option ℕ) → CallsNamed number image args d a n b k k1 → Kept Ready d n b k k1
+  by_name None h = refused_kept answer.RefusedUnknown Ready d a n b k k1 h
   by_name (Some tx) h = by_parameters (parameters_of image tx) tx h
 
 calls_kept : (program : Program) (name : List ℕ) (args : List ℤ) (m : Mode) (d : Device) (a : Answer) (n : Mode) (b : Device) (k k1 : ℕ) → IsRefusal a
-    → Calls program name args m d a n b k k1 → Kept m d n b
+    → Calls program name args m d a n b k k1 → Kept m d n b k k1
 calls_kept program name args Ready d a n b k k1 is h = by_name program.image args d a n b k k1 is (number_of program name) h
-calls_kept program name args Down d a n b k k1 is h = refused_kept answer.RefusedDown Down d a n b h
-calls_kept program name args (Unusable kind) d a n b k k1 is h = refused_kept (answer.RefusedUnusable kind) (Unusable kind) d a n b h
+calls_kept program name args Down d a n b k k1 is h =
+    refused_kept answer.RefusedDown Down d a n b k k1 h
+calls_kept program name args (Unusable kind) d a n b k k1 is h =
+    refused_kept (answer.RefusedUnusable kind) (Unusable kind) d a n b k k1 h
 
 tells_ready : (shapes : Shapes) (s : Sizes) (d : Device) (a : Answer) (n : Mode) → IsRefusal a → Tells shapes s d a n → n ≡ Ready
 tells_ready shapes s d (answer.Shown text) n is h = h.1
@@ -120,15 +129,21 @@ tells_ready shapes s d answer.RefusedArity n is h = absurd h
 tells_ready shapes s d answer.RefusedNumbers n is h = absurd h
 tells_ready shapes s d (answer.RefusedPick l) n is h = absurd h
 
-shows_kept : (shapes : Shapes) (s : Sizes) (m : Mode) (d : Device) (a : Answer) (n : Mode) (b : Device) → IsRefusal a → Shows shapes s m d a n b → Kept m d n b
-shows_kept shapes s Ready d a n b is h = (h.1, inl (tells_ready shapes s d a n is h.0))
-shows_kept shapes s Down d a n b is h = refused_kept answer.RefusedDown Down d a n b h
-shows_kept shapes s (Unusable kind) d a n b is h = refused_kept (answer.RefusedUnusable kind) (Unusable kind) d a n b h
+shows_kept :
+    (shapes : Shapes) (s : Sizes) (m : Mode) (d : Device) (a : Answer) (n : Mode) (b : Device) (k k1 : ℕ) →
+    IsRefusal a →
+    Shows shapes s m d a n b k k1 → Kept m d n b k k1
+shows_kept shapes s Ready d a n b k k1 is h = (h.1, inl (tells_ready shapes s d a n is h.0), h.2)
+shows_kept shapes s Down d a n b k k1 is h = refused_kept answer.RefusedDown Down d a n b k k1 h
+shows_kept shapes s (Unusable kind) d a n b k k1 is h =
+    refused_kept (answer.RefusedUnusable kind) (Unusable kind) d a n b k k1 h
 
-lasts_kept : (m : Mode) (d : Device) (a : Answer) (n : Mode) (b : Device) → Lasts m d a n b → Kept m d n b
-lasts_kept Ready d a n b h = (h.2, inl h.1)
-lasts_kept Down d a n b h = refused_kept answer.RefusedDown Down d a n b h
-lasts_kept (Unusable kind) d a n b h = refused_kept (answer.RefusedUnusable kind) (Unusable kind) d a n b h
+lasts_kept : (m : Mode) (d : Device) (a : Answer) (n : Mode) (b : Device) (k k1 : ℕ) →
+    Lasts m d a n b k k1 → Kept m d n b k k1
+lasts_kept Ready d a n b k k1 h = (h.2, inl h.1, h.3)
+lasts_kept Down d a n b k k1 h = refused_kept answer.RefusedDown Down d a n b k k1 h
+lasts_kept (Unusable kind) d a n b k k1 h =
+    refused_kept (answer.RefusedUnusable kind) (Unusable kind) d a n b k k1 h
 
 -- a recovery's answer is never that of a bad pick
 no_pick : (r : RecoverAnswer) → IsBadPick (answer_of_recovery r) → ⊥
@@ -142,16 +157,22 @@ no_pick recovered.Failed is = is
 no_pick recovered.NoMemory is = is
 
 powers_kept : (image : Image) (choice : Choice) (m : Mode) (d : Device) (a : Answer) (n : Mode) (b : Device) (k k1 : ℕ) (first pick : Option ℕ) → fallen 0 choice.picks ≡ first
-    → bad (memory_of d) choice.picks ≡ pick → IsBadPick a → Powers image choice m d a n b k k1 → Kept m d n b
-powers_kept image choice m d a n b k k1 (Some line) pick falls e is h = refused_kept (answer.RefusedPick line) m d a n b (h.0 line falls)
-powers_kept image choice m d a n b k k1 None (Some line) rise e is h = refused_kept (answer.RefusedPick line) m d a n b (h.1 line rise e)
+    → bad (memory_of d) choice.picks ≡ pick → IsBadPick a → Powers image choice m d a n b k k1 →
+    Kept m d n b k k1
+powers_kept image choice m d a n b k k1 (Some line) pick falls e is h =
+    refused_kept (answer.RefusedPick line) m d a n b k k1 (h.0 line falls)
+powers_kept image choice m d a n b k k1 None (Some line) rise e is h =
+    refused_kept (answer.RefusedPick line) m d a n b k k1 (h.1 line rise e)
 powers_kept image choice m d a n b k k1 None None rise e is h =
     let recovers = h.2 rise e in absurd (no_pick recovers.behind (subst IsBadPick recovers.answer is))
 
-pub command_kept : (program : Program) (c : Command) (m n : Mode) (d b : Device) (a : Answer) (k k1 : ℕ) → IsRefused c a → Commanded program c m d a n b k k1 → Kept m d n b
+pub command_kept :
+    (program : Program) (c : Command) (m n : Mode) (d b : Device) (a : Answer) (k k1 : ℕ) →
+    IsRefused c a → Commanded program c m d a n b k k1 → Kept m d n b k k1
 command_kept program (command.Call name args) m n d b a k k1 is h = calls_kept program name args m d a n b k k1 is h
 command_kept program (command.Stop left) m n d b a k k1 is h = absurd (subst IsRefusal h.0 is)
 command_kept program (command.Fault at) m n d b a k k1 is h = absurd (subst IsRefusal h.0 is)
 command_kept program (command.Power choice) m n d b a k k1 is h = powers_kept program.image choice m d a n b k k1 (fallen 0 choice.picks) (bad (memory_of d) choice.picks) refl refl is h
-command_kept program command.Show m n d b a k k1 is h = shows_kept (shapes_of program.typed) program.image.parts.sizes m d a n b is h
-command_kept program command.Last m n d b a k k1 is h = lasts_kept m d a n b h
+command_kept program command.Show m n d b a k k1 is h =
+    shows_kept (shapes_of program.typed) program.image.parts.sizes m d a n b k k1 is h
+command_kept program command.Last m n d b a k k1 is h = lasts_kept m d a n b k k1 h

@@ -1,4 +1,5 @@
--- What each command does in a session: its answer, whether the session takes calls then, and the device.
+-- What each command does in a session: its answer, whether the session takes calls then, the
+-- device, and the count of steps, which rises from k to k1.
 use Rattle.std.specs.Prelude.{ℕ, zero, suc, ◌+◌, ◌≡◌, ◌==◌, nat_lt, if◌then◌else◌, true, false, Bool, List, [], ◌∷◌, Option, Some, None, length, map, option_map, slice_get, ℤ}
 use Rattle.cache_model.specs.Cache.{view}
 use Rattle.cache_model.specs.Collapse.{bad}
@@ -23,14 +24,16 @@ use Rattle.cnvm_session.specs.declared.program.Program.{Program}
 use Rattle.cnvm_session.specs.Outcomes.{Runs, Recovers}
 use Rattle.cnvm_session.specs.Shown.{heap_of, pool_in}
 
--- this answer, and nothing changes
-abbrev pub Refused : Answer → Mode → Device → Answer → Mode → Device → Type 0
-Refused why m d a n b = (a ≡ why) × (n ≡ m) × (b ≡ d)
+-- this answer, and nothing changes, nor is a step taken
+abbrev pub Refused : Answer → Mode → Device → Answer → Mode → Device → (k k1 : ℕ) → Type 0
+Refused why m d a n b k k1 = (a ≡ why) × (n ≡ m) × (b ≡ d) × (k1 ≡ k)
 
-abbrev pub Lasts : Mode → Device → Answer → Mode → Device → Type 0
-Lasts Ready d a n b = (d.on ≡ true → a ≡ Last (view d.cache 17) (view d.cache 16)) × (n ≡ Ready) × (b ≡ d)
-Lasts Down d a n b = Refused RefusedDown Down d a n b
-Lasts (Unusable kind) d a n b = Refused (RefusedUnusable kind) (Unusable kind) d a n b
+abbrev pub Lasts : Mode → Device → Answer → Mode → Device → (k k1 : ℕ) → Type 0
+Lasts Ready d a n b k k1 =
+    (d.on ≡ true → a ≡ Last (view d.cache 17) (view d.cache 16)) × (n ≡ Ready) × (b ≡ d) × (k1 ≡ k)
+Lasts Down d a n b k k1 = Refused RefusedDown Down d a n b k k1
+Lasts (Unusable kind) d a n b k k1 =
+    Refused (RefusedUnusable kind) (Unusable kind) d a n b k k1
 
 -- the text of the pool that the heap holds, where it fits the shapes; or there was no memory for it
 abbrev pub Tells : Shapes → Sizes → Device → Answer → Mode → Type 0
@@ -40,10 +43,11 @@ Tells shapes s d (Shown text) n =
 Tells shapes s d NoMemory n = n ≡ Down
 Tells shapes s d a n = ⊥
 
-abbrev pub Shows : Shapes → Sizes → Mode → Device → Answer → Mode → Device → Type 0
-Shows shapes s Ready d a n b = Tells shapes s d a n × (b ≡ d)
-Shows shapes s Down d a n b = Refused RefusedDown Down d a n b
-Shows shapes s (Unusable kind) d a n b = Refused (RefusedUnusable kind) (Unusable kind) d a n b
+abbrev pub Shows : Shapes → Sizes → Mode → Device → Answer → Mode → Device → (k k1 : ℕ) → Type 0
+Shows shapes s Ready d a n b k k1 = Tells shapes s d a n × (b ≡ d) × (k1 ≡ k)
+Shows shapes s Down d a n b k k1 = Refused RefusedDown Down d a n b k k1
+Shows shapes s (Unusable kind) d a n b k k1 =
+    Refused (RefusedUnusable kind) (Unusable kind) d a n b k k1
 
 -- the transaction of that name, from 1 on, and how many parameters a transaction of the image has
 abbrev pub number_of : Program → List ℕ → Option ℕ
@@ -56,20 +60,21 @@ parameters_of image (suc i) = option_map (λ e. e.parameters) (slice_get image.p
 -- with as many arguments as the transaction has parameters, or not
 abbrev pub CallsWith : Bool → Image → ℕ → List ℤ → Device → Answer → Mode → Device → (k k1 : ℕ) → Type 0
 CallsWith true image tx args d a n b k k1 = Runs image tx args d a n b k k1
-CallsWith false image tx args d a n b k k1 = Refused RefusedArity Ready d a n b
+CallsWith false image tx args d a n b k k1 = Refused RefusedArity Ready d a n b k k1
 
 abbrev pub CallsTo : Option ℕ → Image → ℕ → List ℤ → Device → Answer → Mode → Device → (k k1 : ℕ) → Type 0
-CallsTo None image tx args d a n b k k1 = Refused RefusedUnknown Ready d a n b
+CallsTo None image tx args d a n b k k1 = Refused RefusedUnknown Ready d a n b k k1
 CallsTo (Some count) image tx args d a n b k k1 = CallsWith (count == length args) image tx args d a n b k k1
 
 abbrev pub CallsNamed : Option ℕ → Image → List ℤ → Device → Answer → Mode → Device → (k k1 : ℕ) → Type 0
-CallsNamed None image args d a n b k k1 = Refused RefusedUnknown Ready d a n b
+CallsNamed None image args d a n b k k1 = Refused RefusedUnknown Ready d a n b k k1
 CallsNamed (Some tx) image args d a n b k k1 = CallsTo (parameters_of image tx) image tx args d a n b k k1
 
 abbrev pub Calls : Program → List ℕ → List ℤ → Mode → Device → Answer → Mode → Device → (k k1 : ℕ) → Type 0
 Calls program name args Ready d a n b k k1 = CallsNamed (number_of program name) program.image args d a n b k k1
-Calls program name args Down d a n b k k1 = Refused RefusedDown Down d a n b
-Calls program name args (Unusable kind) d a n b k k1 = Refused (RefusedUnusable kind) (Unusable kind) d a n b
+Calls program name args Down d a n b k k1 = Refused RefusedDown Down d a n b k k1
+Calls program name args (Unusable kind) d a n b k k1 =
+    Refused (RefusedUnusable kind) (Unusable kind) d a n b k k1
 
 -- the line of the first pick whose line is below n, or isn't above that of the pick before it
 abbrev pub fallen : ℕ → List Pick → Option ℕ
@@ -80,14 +85,17 @@ fallen n (p ∷ ps) = if nat_lt p.line n then Some p.line else fallen (p.line + 
 -- recovered.
 abbrev pub Powers : Image → Choice → Mode → Device → Answer → Mode → Device → (k k1 : ℕ) → Type 0
 Powers image choice m d a n b k k1 =
-    ((line : ℕ) → fallen 0 choice.picks ≡ Some line → Refused (RefusedPick line) m d a n b)
-    × ((line : ℕ) → fallen 0 choice.picks ≡ None → bad (memory_of d) choice.picks ≡ Some line → Refused (RefusedPick line) m d a n b)
+    ((line : ℕ) → fallen 0 choice.picks ≡ Some line → Refused (RefusedPick line) m d a n b k k1)
+    × ((line : ℕ) → fallen 0 choice.picks ≡ None → bad (memory_of d) choice.picks ≡ Some line →
+    Refused (RefusedPick line) m d a n b k k1)
     × (fallen 0 choice.picks ≡ None → bad (memory_of d) choice.picks ≡ None → Recovers image (powered choice d) a n b k k1)
 
 abbrev pub Commanded : Program → Command → Mode → Device → Answer → Mode → Device → (k k1 : ℕ) → Type 0
 Commanded program (command.Call name args) m d a n b k k1 = Calls program name args m d a n b k k1
-Commanded program (command.Stop left) m d a n b k k1 = Refused Silent m (with_left left d) a n b
-Commanded program (command.Fault at) m d a n b k k1 = Refused Silent m (with_armed at d) a n b
+Commanded program (command.Stop left) m d a n b k k1 =
+    Refused Silent m (with_left left d) a n b k k1
+Commanded program (command.Fault at) m d a n b k k1 = Refused Silent m (with_armed at d) a n b k k1
 Commanded program (command.Power choice) m d a n b k k1 = Powers program.image choice m d a n b k k1
-Commanded program command.Show m d a n b k k1 = Shows (shapes_of program.typed) program.image.parts.sizes m d a n b
-Commanded program command.Last m d a n b k k1 = Lasts m d a n b
+Commanded program command.Show m d a n b k k1 =
+    Shows (shapes_of program.typed) program.image.parts.sizes m d a n b k k1
+Commanded program command.Last m d a n b k k1 = Lasts m d a n b k k1

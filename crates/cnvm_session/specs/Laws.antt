@@ -1,5 +1,5 @@
 -- The laws of commands: at rest no power cut changes what a session tells of its pool, and a refused command changes nothing.
-use Rattle.std.specs.Prelude.{ℕ, ◌^◌, ◌<◌, ◌≡◌, ◌≢◌, ◌⊎◌, false, None, ℤ, pos}
+use Rattle.std.specs.Prelude.{ℕ, ◌+◌, ◌^◌, ◌<◌, ◌≤◌, ◌≡◌, ◌≢◌, ◌⊎◌, false, None, ℤ, pos}
 use Rattle.cache_model.specs.Cache.{Words, Cache, view}
 use Rattle.cache_model.specs.Image.{Images, HasOne}
 use Rattle.cache_model.specs.Collapse.{bad}
@@ -90,9 +90,17 @@ IsRefused c a = IsRefusal a
 abbrev pub StaysOrMarks : Mode → Device → Mode → Type 0
 StaysOrMarks m d n = (n ≡ m) ⊎ ((m ≡ Ready) × (view d.cache 19 ≢ pos 0) × (n ≡ Unusable (kind_of (view d.cache 19))))
 
--- A refused command changes nothing: not a line, a version, an armed event or a count of the device, and not the session.
+-- A refused command changes nothing: not a line, a version, an armed event or a count of the
+-- device, and not the session; nor does it take a step.
 abbrev pub RefusedLaw : Type 0
 RefusedLaw =
     (program : Program) (c : Command) (m n : Mode) (d b : Device) (a : Answer) (k k1 : ℕ) →
     IsRefused c a → Commanded program c m d a n b k k1 →
-    (b ≡ d) × StaysOrMarks m d n
+    (b ≡ d) × StaysOrMarks m d n × (k1 ≡ k)
+
+-- No command takes more steps than the pool has records and the image bounds a run by.
+abbrev pub MostLaw : Type 0
+MostLaw =
+    (program : Program) (c : Command) (m n : Mode) (d b : Device) (a : Answer) (k k1 : ℕ) →
+    Commanded program c m d a n b k k1 →
+    k1 ≤ k + program.image.parts.sizes.records + program.image.parts.most

@@ -1,6 +1,6 @@
 //! A session: a pool of a program, and what each command does to it.
 
-ghost use Rattle.std.specs.Prelude.{◌≡◌, ◌+◌, ◌≤◌, ◌<◌, true, length, IfOk, IfNone, IsSome, OnOk, IsErrOf};
+ghost use Rattle.std.specs.Prelude.{ℕ, ◌≡◌, ◌+◌, ◌≤◌, ◌<◌, true, length, IfOk, IfNone, IsSome, OnOk, IsErrOf};
 ghost use Rattle.cache_model.specs.Cache.{view};
 ghost use Rattle.cache_model.specs.Collapse.{Rises};
 ghost use Rattle.pmem.specs.Device.{Rose, blanked};
@@ -275,7 +275,8 @@ impl Session {
     /// The lines of the pool.
     fn show<P: PmemWork>(&mut self, alloc: Global, program: &Program, dev: &P) -> Answer
         requires lines { (P.device dev.now).lines ≡ pool_lines program.now.image.parts.sizes }
-        ensures shows { Shows (shapes_of program.now.typed) program.now.image.parts.sizes self.old (P.device dev.now) result self.new (P.device dev.now) }
+        ensures fault { result ≡ Answer.DeviceFault → ⊥ }
+        ensures shows { (k : ℕ) → Shows (shapes_of program.now.typed) program.now.image.parts.sizes self.old (P.device dev.now) result self.new (P.device dev.now) k k }
     {
         match self.mode {
             Mode::Down => Answer::RefusedDown,
@@ -294,7 +295,7 @@ impl Session {
     fn last<P: PmemWork>(&self, dev: &P) -> Answer
         requires lines { 6 ≤ (P.device dev.now).lines }
         ensures fault { result ≡ Answer.DeviceFault → ⊥ }
-        ensures lasts { Lasts self.now (P.device dev.now) result self.now (P.device dev.now) }
+        ensures lasts { (k : ℕ) → Lasts self.now (P.device dev.now) result self.now (P.device dev.now) k k }
     {
         match self.mode {
             Mode::Down => Answer::RefusedDown,

@@ -1,7 +1,7 @@
 -- A compiled program agrees with its source.
-use Rattle.std.proofs.Common.{◌≡◌, ℕ, zero, suc, ◌+◌, ◌-◌, ◌*◌, ◌<◌, ◌≤◌, ◌^◌, ℤ, pos, Bool, true, false, List, [], ◌∷◌, ◌++◌, length, Option, Some, None, refl, sym, ap, ◌∙◌, subst, arith, inl, inr, ⊎_elim}
+use Rattle.std.proofs.Common.{◌≡◌, ℕ, zero, suc, ◌+◌, ◌-◌, ◌*◌, ◌<◌, ◌≤◌, ◌^◌, ℤ, pos, Bool, true, false, List, [], ◌∷◌, ◌++◌, length, Option, Some, None, refl, sym, ap, ◌∙◌, subst, arith, ⊎_elim}
 use Rattle.std.specs.Option.{option_map_or}
-use Rattle.std.specs.Prelude.{◌==◌, slice_get, slice_index_or, option_map, if◌then◌else◌, Ok}
+use Rattle.std.specs.Prelude.{slice_get, slice_index_or, option_map, if◌then◌else◌, nat_lt, Ok}
 use Rattle.std.proofs.lemmas.List.{length-map}
 use Rattle.std.proofs.lemmas.Option.{slice_get-map, slice_get_within}
 use Rattle.cache_model.specs.Cache.{Words}
@@ -15,7 +15,9 @@ use Rattle.c_parser.specs.Program as parser
 use Rattle.c_types.specs.Tables.{Tables, tables_of}
 use Rattle.c_types.specs.Shapes.{shapes_of}
 use Rattle.c_meaning.specs.Meaning.{Out, Got, Stops, entered, calls_of}
+use Rattle.c_meaning.specs.Transaction as meaning
 use Rattle.c_meaning.specs.Transaction.{Outcome, outcome, run}
+use Rattle.pool_map.specs.declared.trap.TrapKind.TheVariants.{LogFull}
 use Rattle.ir.specs.declared.instruction.Target.{Target}
 use Rattle.ir.specs.declared.instruction.Instruction.{Instruction}
 use Rattle.ir.specs.declared.instruction.Instruction.TheVariants.{Const, Copy, Bin, Jump, Branch, Load, Store, New, Free, Call, Return, Tick, Trap, Log}
@@ -44,7 +46,7 @@ use Rattle.code_meaning.specs.Deeds.{deeds}
 use Rattle.pm_machine.specs.declared.effect.End as machine_end
 use Rattle.pm_machine.specs.declared.image.ImageParts.{ImageParts}
 use Rattle.pm_machine.specs.declared.op.TxEntry.{TxEntry}
-use Rattle.pm_machine.specs.Effects.{heap_end, records_end}
+use Rattle.pm_machine.specs.Effects.{heap_end}
 use Rattle.codegen.specs.Emit.{functions_of, txs_from, most_steps}
 use Rattle.emit_law.specs.Standing.{HasRoom}
 use Rattle.emit_law.specs.TidyCode.{HasCode}
@@ -64,10 +66,10 @@ use Rattle.match_law.specs.Match.{most}
 use Rattle.match_law.proofs.Keep.{kept_all}
 use Rattle.cnvm_session.specs.declared.program.Program.{Program}
 use Rattle.cnvm_session.specs.Commands.{parameters_of}
-use Rattle.session_law.specs.Source.{parameters, means, pool_of, HasHeaders}
+use Rattle.session_law.specs.Source.{parameters, means, comes_to, pool_of, HasHeaders}
 use Rattle.session_law.specs.Words.{AreWords, HasWords}
 use Rattle.session_law.specs.Agrees.{Matches, RunsAs, Agrees}
-use Rattle.compiled_law.specs.Runs.{EndsAs}
+use Rattle.compiled_law.specs.Runs.{EndsAs, EndsIf}
 use Rattle.compiled_law.specs.Counts.{records_of, deeds_in, counts_of}
 use Rattle.compiled_law.specs.Law.{IsCompiledFrom, CompiledLaw}
 use Rattle.compiled_law.proofs.Apart.{heap_apart}
@@ -137,9 +139,6 @@ txs_few k (u ∷ us) = by_test u.tx (txs_few (k + 1) us)
     by_test : (b : Bool) → length (txs_from (k + 1) us) ≤ length us → length ((if b then record { function = k; parameters = u.parameters } ∷ [] else []) ++ txs_from (k + 1) us) ≤ suc (length us)
     by_test true le = omega (arith, le)
     by_test false le = omega (arith, le)
-
-same_is : (n : ℕ) → n == n ≡ true
-same_is n = grind arith
 
 one_less : (i : ℕ) → suc i - 1 ≡ i
 one_less i = omega arith
@@ -217,7 +216,7 @@ module _ (text : List ℕ) (list : Tokens) (marks : MarkTable) (program : Progra
   calls_logged : CallsNoTransaction L.functions
   calls_logged f p to g args v call found =
       let v_is = found_logged g v found in
-      ⊎_elim (λ (log : (x : Target) × (Call to g args ≡ Log x)). absurd (no_log to g args log.0 log.1))
+      ⊎_elim (λ log. absurd (no_log to g args log.1 log.4))
       (λ from. let i : from.1 ≡ Call to g args = led_call from.2 from.3 from.1 to g args from.5 in
       ap (λ (x : IrFunction). x.tx) v_is.2 ∙ calls tree c.checked f from.0 to g args v_is.0 (from.4 ∙ ap (λ (x : Instruction). Some x) i) v_is.1)
       (origin marks plain c.formed f p (Call to g args) call)
@@ -230,7 +229,7 @@ module _ (text : List ℕ) (list : Tokens) (marks : MarkTable) (program : Progra
 
   constants_logged : words.HasWordConstants L.functions
   constants_logged f p to v e =
-      ⊎_elim (λ (log : (x : Target) × (Const to v ≡ Log x)). absurd (no_log to v log.0 log.1))
+      ⊎_elim (λ log. absurd (no_log to v log.1 log.4))
       (λ from. let i : from.1 ≡ Const to v = led_const from.2 from.3 from.1 to v from.5 in
       constants_plain f from.0 to v (from.4 ∙ ap (λ (x : Instruction). Some x) i))
       (origin marks plain c.formed f p (Const to v) e)
@@ -256,22 +255,29 @@ module _ (text : List ℕ) (list : Tokens) (marks : MarkTable) (program : Progra
 
   -- a run, from what the code does
   matched : (o : Out ℤ) (end : machine_end.End) (h : Words) → EndsAs program.image L (lower.end_of o) end h → Matches program (outcome o) end h
-  matched (Got v w k) end h (inl e) =
+  matched (Got v w k) end h e =
       let head = headers_are s (shapes_of tree) h w e.2 e.1 in
       let pool : pool_of program h ≡ w = pool_same s (shapes_of tree) fit (shapes tree c.checked).few h head.0 ∙ sym head.1 in
       subst (λ (x : machine_end.End). Matches program (outcome (Got v w k)) x h) (sym e.0) (refl, head.0, pool, words_had w e.3)
-  matched (Got v w k) end h (inr e) = subst (λ (x : machine_end.End). Matches program (outcome (Got v w k)) x h) (sym e) refl
-  matched (Stops kind) end h (inl e) = subst (λ (x : machine_end.End). Matches program (outcome (Stops kind)) x h) (sym e) (inl refl)
-  matched (Stops kind) end h (inr e) = subst (λ (x : machine_end.End). Matches program (outcome (Stops kind)) x h) (sym e) (inr refl)
+  matched (Stops kind) end h e =
+      subst (λ (x : machine_end.End). Matches program (outcome (Stops kind)) x h) (sym e) refl
 
-  -- the log records of the run of a transaction that is there
-  counted : (i : ℕ) (args : List ℤ) (w : PoolMap) (entry : TxEntry) → slice_get program.image.parts.txs i ≡ Some entry → (n : ℕ) →
-      n ≡ records_of (table.is_logged marks) (deeds plain ((s.ticks + 1) * whole plain.functions) (start entry.function args w s.ticks)) → counts_of program marks w (suc i) args n ≡ true
-  counted i args w entry found n is =
+  -- by the room that its logged stores have
+  matched_if : (full : Bool) (o : Out ℤ) (end : machine_end.End) (h : Words) →
+      EndsIf full program.image L (lower.end_of o) end h →
+      Matches program (if full then meaning.Trap LogFull else outcome o) end h
+  matched_if true o end h e =
+      subst (λ (x : machine_end.End). Matches program (meaning.Trap LogFull) x h) (sym e) refl
+  matched_if false o end h e = matched o end h e
+
+  -- the logged stores of the run of a transaction that is there
+  counted : (i : ℕ) (args : List ℤ) (w : PoolMap) (entry : TxEntry) →
+      slice_get program.image.parts.txs i ≡ Some entry →
+      records_of (table.is_logged marks) (deeds plain ((s.ticks + 1) * whole plain.functions) (start entry.function args w s.ticks)) ≡ counts_of program marks w (suc i) args
+  counted i args w entry found =
       let function : slice_get (lower.entries_from 0 plain.functions) i ≡ Some entry.function =
       sym (entries_same marks t tree 0 0 t.functions i) ∙ ap (λ (es : List TxEntry). option_map (λ (e : TxEntry). e.function) (slice_get es i)) (sym txs_are) ∙ ap (option_map (λ (e : TxEntry). e.function)) found in
-      ap (λ (o : Option ℕ). n == records_of (table.is_logged marks) (option_map_or (deeds_in plain s.ticks w args) o [])) function
-      ∙ ap (λ (x : ℕ). n == x) (sym is) ∙ same_is n
+      sym (ap (λ (o : Option ℕ). records_of (table.is_logged marks) (option_map_or (deeds_in plain s.ticks w args) o [])) function)
 
   runs : (h : Words) (tx : ℕ) (args : List ℤ) → HasHeaders program h → HasWords (pool_of program h) → AreWords args → parameters_of program.image tx ≡ Some (length args) → RunsAs program (counts_of program marks) h tx args
   runs h zero args head pool are takes = absurd (cc)
@@ -302,20 +308,27 @@ module _ (text : List ℕ) (list : Tokens) (marks : MarkTable) (program : Progra
             ap (slice_get plain.functions) function ∙ slice_get-map (lowered_function t tree) t.functions g ∙ ap (option_map (lowered_function t tree)) e.found,
             e.marked,
           ) in
-          let enough : 2 * k * most program.image ≤ program.image.parts.most =
-          subst (λ (x : ℕ). 2 * k * most program.image ≤ x) (sym (ap (λ (p : ImageParts). p.most) c.made ∙ ap (λ (z : Sizes). most_steps z (length tree.lines)) (sym c.sizes)))
+          let enough : 2 * k * most ≤ program.image.parts.most =
+          subst (λ (x : ℕ). 2 * k * most ≤ x) (sym (ap (λ (p : ImageParts). p.most) c.made ∙ ap (λ (z : Sizes). most_steps z (length tree.lines)) (sym c.sizes)))
           (enough_steps s (length tree.lines) (whole plain.functions) long) in
           let ran = compiled_run heap_apart covered keep words_stay marks plain c.formed (lowering.parameters tree c.checked) c.whole constants_plain (logs tree c.checked) program.image is_compiled (suc i) entry (ap (slice_get program.image.parts.txs) (one_less i) ∙ found) transaction_is args h w (hold_words args are) (have_words w slots_few pool)
           stands (subst (PoolFits (shapes_of tree)) (sym same) stood.1) k program.image.parts.most (subst IsDone (sym ends) (done_end o)) enough in
           let means_is : means program w (suc i) args ≡ outcome o = ap (λ (x : Option FunctionTree). run t x w args n) e.named in
+          let number : ℕ = records_of (table.is_logged marks) (deeds plain k (start entry.function args w n)) in
+          let number_is : number ≡ counts_of program marks w (suc i) args = counted i args w entry found in
+          let comes : (if nat_lt s.records number then meaning.Trap LogFull else outcome o) ≡ comes_to program (counts_of program marks) w (suc i) args =
+          ap (λ (x : ℕ). if nat_lt s.records x then meaning.Trap LogFull else outcome o) number_is
+          ∙ ap (λ (x : Outcome). if nat_lt s.records (counts_of program marks w (suc i) args) then meaning.Trap LogFull else x) (sym means_is) in
           record {
             end = ran.end;
             effects = ran.effects;
             ran = ran.is;
             sound = ran.sound;
-            counted = λ value halted. counted i args w entry found (records_end 0 ran.effects) (ran.records value halted);
-            matches = subst (λ (x : Outcome). Matches program x ran.end (heap_end h ran.effects)) (sym means_is)
-                (matched o ran.end (heap_end h ran.effects) (subst (λ (x : End). EndsAs program.image L x ran.end (heap_end h ran.effects)) ends ran.agrees));
+            counted = λ value halted. ran.records value halted ∙ number_is;
+            matches =
+                subst (λ (x : Outcome). Matches program x ran.end (heap_end h ran.effects)) comes
+                (matched_if (nat_lt s.records number) o ran.end (heap_end h ran.effects)
+                (subst (λ (x : End). EndsIf (nat_lt s.records number) program.image L x ran.end (heap_end h ran.effects)) ends ran.agrees));
           }
 
   few_are : (tx n : ℕ) → parameters_of program.image tx ≡ Some n → (tx < 2 ^ 63) × (n ≤ 22)

@@ -1,5 +1,5 @@
 -- The log records of a run are its stores at sites that the marks log.
-use Rattle.std.proofs.Common.{◌≡◌, ℕ, zero, suc, ◌+◌, Bool, true, false, List, [], ◌∷◌, Option, Some, None, refl, sym, ap, ◌∙◌, arith}
+use Rattle.std.proofs.Common.{◌≡◌, ℕ, zero, suc, ◌+◌, ◌<◌, Bool, true, false, List, [], ◌∷◌, ◌++◌, Option, Some, None, refl, sym, ap, ◌∙◌, subst, arith}
 use Rattle.std.specs.Prelude.{slice_get, option_and_then, if◌then◌else◌}
 use Rattle.pool_layout.specs.declared.limits.Sizes.{Sizes}
 use Rattle.ir.specs.declared.instruction.Target.{Target}
@@ -12,17 +12,18 @@ use Rattle.ir.specs.Places.{instruction_at}
 use Rattle.ir.specs.WellFormed.{IsWellFormed}
 use Rattle.clobber_pass.specs.declared.marking.MarkTable.{MarkTable}
 use Rattle.clobber_pass.specs.Logged as table
+use Rattle.instrument.specs.Insert as insert
 use Rattle.instrument.specs.Insert.{logs, led, place_in, places_from, flags_from, flagged, logged_program}
 use Rattle.code_meaning.specs.Code.{State}
 use Rattle.code_meaning.specs.Deeds.{Deed, Reads, Writes, Heads, site, deeds}
 use Rattle.insert_law.specs.Moved.{code_in, begins, stands, moved_site, moved_deeds}
 use Rattle.insert_law.proofs.Standing.{standing, fill_stands}
 use Rattle.pm_machine.specs.declared.effect.Effect.{Effect}
-use Rattle.pm_machine.specs.declared.effect.Effect.TheVariants.{Loads, Stores, Logs, Flushes, Fences, Quiet}
+use Rattle.pm_machine.specs.declared.effect.Effect.TheVariants.{Loads, Scans, Stores, Logs, Flushes, Fences, Quiet}
 use Rattle.pm_machine.specs.Effects.{records_end}
 use Rattle.codegen.specs.Emit.{is_log}
 use Rattle.piece_law.specs.Shows as shows
-use Rattle.piece_law.specs.Shows.{Shows, done, looks, reads, plain, heads}
+use Rattle.piece_law.specs.Shows.{Shows, done, looks, scans, reads, plain, heads, TakesLog, IsCut}
 use Rattle.match_law.specs.Accesses.{accesses}
 use Rattle.match_law.specs.Compiled.{logs_at, is_logged}
 use Rattle.compiled_law.specs.Counts.{records_of}
@@ -31,6 +32,7 @@ use Rattle.compiled_law.proofs.Marked.{IsStoreAt, AreStores, all_stores, logged_
 records_accesses : (n : ℕ) (es : List Effect) → records_end n (accesses es) ≡ records_end n es
 records_accesses n [] = refl
 records_accesses n (Loads w ∷ es) = records_accesses n es
+records_accesses n (Scans w many ∷ es) = records_accesses n es
 records_accesses n (Stores w x ∷ es) = records_accesses n es
 records_accesses n (Logs w ∷ es) = records_accesses (suc n) es
 records_accesses n (Flushes l ∷ es) = records_accesses n es
@@ -44,12 +46,30 @@ module _ (s : Sizes) (logged : Site → Bool) where
   records_shown : (n : ℕ) (ds : List Deed) (es : List Effect) → Shows s logged ds es → records_end n es ≡ n + records_of logged ds
   records_shown n ds es done = omega arith
   records_shown n ds es (looks {ds = a} {es = b} q there rest) = records_shown n a b rest
+  records_shown n ds es (scans {ds = a} {es = b} k few rest) = records_shown n a b rest
   records_shown n ds es (reads {ds = a} {es = b} x there rest) = records_shown n a b rest
   records_shown n ds es (plain {ds = a} {es = b} site x v there unlogged rest) =
       records_shown n a b rest ∙ ap (λ (c : Bool). n + (if c then suc (records_of logged a) else records_of logged a)) (sym unlogged)
   records_shown n ds es (shows.logs {ds = a} {es = b} site x v there log rest) =
       records_shown (suc n) a b rest ∙ next n (records_of logged a) ∙ ap (λ (c : Bool). n + (if c then suc (records_of logged a) else records_of logged a)) (sym log)
   records_shown n ds es (heads {ds = a} {es = b} site q v there rest) = records_shown (suc n) a b rest ∙ next n (records_of logged a)
+
+-- after a first part, a store that is logged counts as one more
+pub records_before : (logged : Site → Bool) (before : List Deed) (due : Deed) (later : List Deed) →
+    TakesLog logged due → records_of logged before < records_of logged (before ++ due ∷ later)
+records_before logged [] (Reads x) later takes = absurd takes
+records_before logged [] (Writes site x v) later takes =
+    subst (λ (b : Bool). 0 < (if b then suc (records_of logged later) else records_of logged later)) (sym takes) (omega arith)
+records_before logged [] (Heads site q v) later takes = omega arith
+records_before logged (Reads x ∷ ds) due later takes = records_before logged ds due later takes
+records_before logged (Writes site x v ∷ ds) due later takes =
+    by_test (logged site) (records_before logged ds due later takes)
+  where
+    by_test : (b : Bool) → records_of logged ds < records_of logged (ds ++ due ∷ later) →
+        (if b then suc (records_of logged ds) else records_of logged ds) < (if b then suc (records_of logged (ds ++ due ∷ later)) else records_of logged (ds ++ due ∷ later))
+    by_test true less = omega (arith, less)
+    by_test false less = less
+records_before logged (Heads site q v ∷ ds) due later takes = let less = records_before logged ds due later takes in omega (arith, less)
 
 -- no log but those of the marks
 no_log : (table : List ℕ) (flag : Bool) (i : Instruction) → ((x : Target) → i ≡ Log x → ⊥) → is_log (led table flag i) ≡ false
@@ -67,6 +87,23 @@ no_log table flag (Call to g args) none = refl
 no_log table flag (Return from) none = refl
 no_log table flag Tick none = refl
 no_log table flag (Trap k) none = refl
+
+-- an instruction that is no log keeps its place
+plain_at : (i : Instruction) → ((x : Target) → i ≡ Log x → ⊥) → insert.is_log i ≡ false
+plain_at (Log x) none = absurd (none x refl)
+plain_at (Const to v) none = refl
+plain_at (Copy to from) none = refl
+plain_at (Bin o to a b) none = refl
+plain_at (Jump q) none = refl
+plain_at (Branch on q) none = refl
+plain_at (Load to x) none = refl
+plain_at (Store x from line) none = refl
+plain_at (New to kind fill line) none = refl
+plain_at (Free from kind line) none = refl
+plain_at (Call to g args) none = refl
+plain_at (Return from) none = refl
+plain_at Tick none = refl
+plain_at (Trap k) none = refl
 
 behind : (o : Option IrFunction) (q : ℕ) (i : Instruction) → option_and_then (λ (u : IrFunction). slice_get u.code q) o ≡ Some i → logs_at o (suc q) false ≡ is_log i
 behind None q i e = absurd (cc)
@@ -107,9 +144,11 @@ module _ (marks : MarkTable) (ir : Ir) (formed : IsWellFormed ir) (bare : (f p :
       by_place (suc q) is =
           let j = before_it ir.functions f q (Store x from line) (ap (instruction_at ir.functions f) (sym is) ∙ e) in
           let s = standing marks ir formed f q j.0 j.1 in
-          ap (λ (n : ℕ). logs_at (slice_get L.functions f) n false) s.next
-          ∙ behind (slice_get L.functions f) (stands marks ir.functions f q) (led (places_from (flags_from marks f 0 (code_in ir.functions f)) 0 0 (code_in ir.functions f)) (flagged marks f q j.0) j.0) s.self
-          ∙ no_log (places_from (flags_from marks f 0 (code_in ir.functions f)) 0 0 (code_in ir.functions f)) (flagged marks f q j.0) j.0 (λ y h. bare f q y (j.1 ∙ ap (λ (i : Instruction). Some i) h))
+          let bare_at : (y : Target) → j.0 ≡ Log y → ⊥ = λ y h. bare f q y (j.1 ∙ ap (λ (i : Instruction). Some i) h) in
+          let own = plain_at j.0 bare_at in
+          ap (λ (n : ℕ). logs_at (slice_get L.functions f) n false) (s.next own)
+          ∙ behind (slice_get L.functions f) (stands marks ir.functions f q) (led (places_from (flags_from marks f 0 (code_in ir.functions f)) 0 0 (code_in ir.functions f)) (flagged marks f q j.0) j.0) (s.self own)
+          ∙ no_log (places_from (flags_from marks f 0 (code_in ir.functions f)) 0 0 (code_in ir.functions f)) (flagged marks f q j.0) j.0 bare_at
 
   logged_same : (fill : Bool) (f p : ℕ) → IsStoreAt ir.functions fill f p → is_logged L (moved_site marks ir.functions (site f p fill)) ≡ table.is_logged marks (site f p fill)
   logged_same true f p fill = fill_at (slice_get L.functions f) (stands marks ir.functions f p) fill.0 fill.1 fill.3 (table.is_logged marks (site f p true)) (fill_stands marks ir formed f p fill.0 fill.1 fill.3 fill.2 fill.4)
@@ -134,3 +173,16 @@ module _ (marks : MarkTable) (ir : Ir) (formed : IsWellFormed ir) (bare : (f p :
     where
       zero_plus : (n : ℕ) → 0 + n ≡ n
       zero_plus n = omega arith
+
+  -- one that is cut before a store that is logged has written fewer than the whole
+  pub records_cut : (s : Sizes) (k : ℕ) (c : State) (es : List Effect) →
+      IsCut s (is_logged L) (moved_deeds marks ir.functions (deeds ir k c)) (accesses es) →
+      records_end 0 es < records_of (table.is_logged marks) (deeds ir k c)
+  records_cut s k c es cut =
+      let own : records_end 0 es ≡ records_end 0 (accesses es) = sym (records_accesses 0 es) in
+      let first : records_end 0 (accesses es) ≡ 0 + records_of (is_logged L) cut.before = records_shown s (is_logged L) 0 cut.before (accesses es) cut.shows in
+      let less : records_of (is_logged L) cut.before < records_of (is_logged L) (cut.before ++ cut.due ∷ cut.later) = records_before (is_logged L) cut.before cut.due cut.later cut.takes_log in
+      let whole : records_of (is_logged L) (cut.before ++ cut.due ∷ cut.later) ≡ records_of (table.is_logged marks) (deeds ir k c) =
+      ap (records_of (is_logged L)) (sym cut.is)
+      ∙ records_moved (deeds ir k c) (all_stores ir k c) in
+      omega (arith, own, first, less, whole)

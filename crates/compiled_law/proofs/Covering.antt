@@ -1,6 +1,6 @@
 -- A machine's run whose loads, stores and logs show those of the code is covered where the first store to each input of the code is
 -- logged.
-use Rattle.std.proofs.Common.{◌≡◌, ◌≢◌, ℕ, zero, suc, Bool, true, List, [], ◌∷◌, refl, sym, ap, ◌∙◌, subst, inl, inr, ⊎_elim}
+use Rattle.std.proofs.Common.{◌≡◌, ◌≢◌, ℕ, zero, suc, ◌+◌, ◌<◌, ◌≤◌, arith, Bool, true, List, [], ◌∷◌, refl, sym, ap, ◌∙◌, subst, inl, inr, ⊎_elim}
 use Rattle.std.proofs.lemmas.Bool.{true≢false}
 use mathlib.Core.Logic.{◌⊎◌}
 use Rattle.pool_layout.specs.declared.limits.Sizes.{Sizes}
@@ -13,11 +13,13 @@ use Rattle.cover_law.specs.Covered.{IsInput, FirstStore}
 use Rattle.cover_law.proofs.Parts.{input_append, first_append}
 use Rattle.crash_law.specs.Effects as past
 use Rattle.pm_machine.specs.declared.effect.Effect.{Effect}
-use Rattle.pm_machine.specs.declared.effect.Effect.TheVariants.{Loads, Stores, Logs, Flushes, Fences, Quiet}
+use Rattle.pm_machine.specs.declared.effect.Effect.TheVariants.{Loads, Scans, Stores, Logs, Flushes, Fences, Quiet}
+use Rattle.pm_machine.specs.Find.{IsHeader}
 use Rattle.run_law.specs.Seen.{seen_all}
+use Rattle.run_law.proofs.Headers.{input_headers, headers_input, over_headers, headers_over, first_headers, headers_first}
 use Rattle.run_law.specs.Sound.{IsCovered}
 use Rattle.piece_law.specs.Stands.{place_of, heap_word, header_word}
-use Rattle.piece_law.specs.Shows.{IsThere, Shows, done, looks, reads, plain, logs, heads, IsCut}
+use Rattle.piece_law.specs.Shows.{IsThere, Shows, done, looks, scans, reads, plain, logs, heads, IsCut}
 use Rattle.match_law.specs.Accesses.{accesses}
 
 -- the loads, stores and logs of a run tell all of it
@@ -25,6 +27,8 @@ input_accesses : (es : List Effect) (w : ℕ) → past.IsInput (seen_all es) w �
 input_accesses [] w h = h
 input_accesses (Loads u ∷ es) w (inl e) = inl e
 input_accesses (Loads u ∷ es) w (inr h) = inr (input_accesses es w h)
+input_accesses (Scans u many ∷ es) w h =
+    input_headers u many w (seen_all (accesses es)) (⊎_elim (λ is. inl is) (λ later. inr (input_accesses es w later)) (headers_input u many w (seen_all es) h))
 input_accesses (Stores u x ∷ es) w h = (h.0, input_accesses es w h.1)
 input_accesses (Logs u ∷ es) w h = input_accesses es w h
 input_accesses (Flushes l ∷ es) w h = input_accesses es w h
@@ -34,6 +38,8 @@ input_accesses (Quiet ∷ es) w h = input_accesses es w h
 overwritten_accesses : (es : List Effect) (w : ℕ) → past.IsOverwritten (seen_all es) w → past.IsOverwritten (seen_all (accesses es)) w
 overwritten_accesses [] w h = h
 overwritten_accesses (Loads u ∷ es) w h = overwritten_accesses es w h
+overwritten_accesses (Scans u many ∷ es) w h =
+    over_headers u many w (seen_all (accesses es)) (overwritten_accesses es w (headers_over u many w (seen_all es) h))
 overwritten_accesses (Stores u x ∷ es) w (inl e) = inl e
 overwritten_accesses (Stores u x ∷ es) w (inr h) = inr (overwritten_accesses es w h)
 overwritten_accesses (Logs u ∷ es) w h = overwritten_accesses es w h
@@ -44,6 +50,8 @@ overwritten_accesses (Quiet ∷ es) w h = overwritten_accesses es w h
 logged_accesses : (es : List Effect) (w : ℕ) → past.IsLoggedFirst (seen_all (accesses es)) w → past.IsLoggedFirst (seen_all es) w
 logged_accesses [] w h = h
 logged_accesses (Loads u ∷ es) w h = logged_accesses es w h
+logged_accesses (Scans u many ∷ es) w h =
+    first_headers u many w (seen_all es) (logged_accesses es w (headers_first u many w (seen_all (accesses es)) h))
 logged_accesses (Stores u x ∷ es) w h = (h.0, logged_accesses es w h.1)
 logged_accesses (Logs u ∷ es) w (inl e) = inl e
 logged_accesses (Logs u ∷ es) w (inr h) = inr (logged_accesses es w h)
@@ -78,10 +86,22 @@ module _ (apart : HeapApart) (s : Sizes) (logged : Site → Bool) where
   not_header : (x : Spot) (q : ℕ) → IsThere s x → IsHeapPlace s (Header q) → heap_word s x ≡ header_word s q → ⊥
   not_header x q a b e = no_header x q (apart s (place_of x) (Header q) a b e)
 
+  -- a header that is loaded is that of a slot
+  header_slot : (q n u : ℕ) → 1 ≤ q → IsHeader (header_word s q) n u →
+      (p : ℕ) × (1 ≤ p) × (p < q + n) × (u ≡ header_word s p)
+  header_slot q zero u low is = absurd is
+  header_slot q (suc n) u low (inl e) = (q, low, omega arith, e)
+  header_slot q (suc n) u low (inr is) =
+      let next : header_word s q + 16 ≡ header_word s (q + 1) = omega arith in
+      let p = header_slot (q + 1) n u (omega arith) (subst (λ (w : ℕ). IsHeader w n u) next is) in
+      (p.0, p.1, omega (arith, p.2), p.3)
+
   -- a header's first store is logged
   header_logged : (q : ℕ) → IsHeapPlace s (Header q) → (ds : List Deed) (es : List Effect) → Shows s logged ds es → past.IsOverwritten (seen_all es) (header_word s q) → past.IsLoggedFirst (seen_all es) (header_word s q)
   header_logged q at ds es done h = absurd h
   header_logged q at ds es (looks {ds = a} {es = b} p there rest) h = header_logged q at a b rest h
+  header_logged q at ds es (scans {ds = a} {es = b} n few rest) h =
+      first_headers (header_word s 1) n (header_word s q) (seen_all b) (header_logged q at a b rest (headers_over (header_word s 1) n (header_word s q) (seen_all b) h))
   header_logged q at ds es (reads {ds = a} {es = b} x there rest) h = header_logged q at a b rest h
   header_logged q at ds es (plain {ds = a} {es = b} site x v there unlogged rest) (inl e) = absurd (not_header x q there at (sym e))
   header_logged q at ds es (plain {ds = a} {es = b} site x v there unlogged rest) (inr h) = ((λ e. not_header x q there at (sym e)), header_logged q at a b rest h)
@@ -95,6 +115,8 @@ module _ (apart : HeapApart) (s : Sizes) (logged : Site → Bool) where
   word_logged : (x : Spot) → IsThere s x → (ds : List Deed) (es : List Effect) → Shows s logged ds es → ((a : Site) → FirstStore ds x a → logged a ≡ true) → past.IsOverwritten (seen_all es) (heap_word s x) → past.IsLoggedFirst (seen_all es) (heap_word s x)
   word_logged x at ds es done need h = absurd h
   word_logged x at ds es (looks {ds = a} {es = b} p there rest) need h = word_logged x at a b rest need h
+  word_logged x at ds es (scans {ds = a} {es = b} n few rest) need h =
+      first_headers (header_word s 1) n (heap_word s x) (seen_all b) (word_logged x at a b rest need (headers_over (header_word s 1) n (heap_word s x) (seen_all b) h))
   word_logged x at ds es (reads {ds = a} {es = b} y there rest) need h = word_logged x at a b rest need h
   word_logged x at ds es (plain {ds = a} {es = b} site y v there unlogged rest) need h =
       ⊎_elim (λ (e : heap_word s x ≡ heap_word s y). absurd (true≢false (sym (need site (inl (same_spot x y at there e, refl))) ∙ unlogged)))
@@ -116,6 +138,15 @@ module _ (apart : HeapApart) (s : Sizes) (logged : Site → Bool) where
   covered w ds es (looks {ds = a} {es = b} p there rest) need (inl e) over =
       subst (λ (n : ℕ). past.IsLoggedFirst (seen_all b) n) (sym e) (header_logged p there a b rest (subst (λ (n : ℕ). past.IsOverwritten (seen_all b) n) e over))
   covered w ds es (looks {ds = a} {es = b} p there rest) need (inr input) over = covered w a b rest need input over
+  covered w ds es (scans {ds = a} {es = b} n few rest) need input over =
+      let later : past.IsOverwritten (seen_all b) w = headers_over (header_word s 1) n w (seen_all b) over in
+      first_headers (header_word s 1) n w (seen_all b)
+      (⊎_elim
+      (λ (is : IsHeader (header_word s 1) n w).
+      let p = header_slot 1 n w (omega arith) is in
+      subst (λ (u : ℕ). past.IsLoggedFirst (seen_all b) u) (sym p.3) (header_logged p.0 (p.1, omega (arith, p.2, few)) a b rest (subst (λ (u : ℕ). past.IsOverwritten (seen_all b) u) p.3 later)))
+      (λ (more : past.IsInput (seen_all b) w). covered w a b rest need more later)
+      (headers_input (header_word s 1) n w (seen_all b) input))
   covered w ds es (reads {ds = a} {es = b} y there rest) need (inl e) over =
       subst (λ (n : ℕ). past.IsLoggedFirst (seen_all b) n) (sym e)
       (word_logged y there a b rest (λ c first. need y c there (sym e) (inl refl) first) (subst (λ (n : ℕ). past.IsOverwritten (seen_all b) n) e over))

@@ -13,7 +13,7 @@ use Rattle.c_lexer.specs.TokenList.{Tokens}
 use Rattle.ir.specs.declared.instruction.Instruction.{Instruction}
 use Rattle.ir.specs.declared.function.IrFunction.{IrFunction}
 use Rattle.clobber_pass.specs.declared.marking.MarkTable.{MarkTable}
-use Rattle.instrument.specs.Insert.{logs, flag_at, led, logged_from, places_from, flags_from, with_flags, logged_code, logged_functions}
+use Rattle.instrument.specs.Insert.{logs, flag_at, led, is_log, own, logged_from, places_from, flags_from, with_flags, logged_code, logged_functions}
 use Rattle.insert_law.proofs.Follows.{one_log}
 use Rattle.pm_alloc.specs.Search.{IsPool}
 use Rattle.codegen.specs.Emit.{most_steps, known}
@@ -55,12 +55,22 @@ one_long : (flag : Bool) (i : Instruction) → length (logs flag i) ≤ 1
 one_long flag i = ⊎_elim (λ (none : logs flag i ≡ []). let e : length (logs flag i) ≡ 0 = ap (λ (ls : List Instruction). length ls) none in omega arith)
     (λ (one : (x : Instruction) × (logs flag i ≡ x ∷ [])). let e : length (logs flag i) ≡ 1 = ap (λ (ls : List Instruction). length ls) one.1 in omega arith) (one_log flag i)
 
+own_long : (table : List ℕ) (flag : Bool) (i : Instruction) → length (own table flag i) ≤ 1
+own_long table flag i = by_test (is_log i)
+  where
+    by_test : (b : Bool) → length (if b then [] else led table flag i ∷ []) ≤ 1
+    by_test true = omega arith
+    by_test false = omega arith
+
 from_long : (table : List ℕ) (flags : List Bool) (k : ℕ) (code : List Instruction) → length (logged_from table flags k code) ≤ 2 * length code
 from_long table flags k [] = omega arith
 from_long table flags k (i ∷ code) =
-    let cut : length (logs (flag_at flags k) i ++ (led table (flag_at flags k) i ∷ logged_from table flags (suc k) code)) ≡ length (logs (flag_at flags k) i) + suc (length (logged_from table flags (suc k) code)) =
-    length-append (logs (flag_at flags k) i) (led table (flag_at flags k) i ∷ logged_from table flags (suc k) code) in
-    omega (arith, cut, one_long (flag_at flags k) i, from_long table flags (suc k) code)
+    let rest : List Instruction = logged_from table flags (suc k) code in
+    let mine : List Instruction = own table (flag_at flags k) i in
+    let cut : length (logs (flag_at flags k) i ++ (mine ++ rest)) ≡ length (logs (flag_at flags k) i) + length (mine ++ rest) =
+    length-append (logs (flag_at flags k) i) (mine ++ rest) in
+    let joined : length (mine ++ rest) ≡ length mine + length rest = length-append mine rest in
+    omega (arith, cut, joined, one_long (flag_at flags k) i, own_long table (flag_at flags k) i, from_long table flags (suc k) code)
 
 pub logged_long : (marks : MarkTable) (f : ℕ) (code : List Instruction) → length (logged_code marks f code) ≤ 2 * length code
 logged_long marks f code = by_test (nat_lt (length code) (2 ^ 31))
@@ -81,10 +91,11 @@ pub is_pool : (s : Sizes) → IsPool s
 is_pool s = record { some = s.slots_fit.0; few = s.slots_fit.1; lines = omega (arith, s.root_words_fit.1) }
 
 -- steps of the machine for twice the steps of the code
-pub enough_steps : (s : Sizes) (q w : ℕ) → w ≤ 64 * q + 256 → 2 * ((s.ticks + 1) * w) * (6 * s.slots + 121) ≤ most_steps s q
+pub enough_steps : (s : Sizes) (q w : ℕ) → w ≤ 64 * q + 256 →
+    2 * ((s.ticks + 1) * w) * 80 ≤ most_steps s q
 enough_steps s q w few =
     let t : ℕ = s.ticks + 1 in
     let a : t * w ≤ t * (64 * q + 256) = mul-le t w t (64 * q + 256) (omega arith) few in
     let b : 2 * (t * w) ≤ 256 * (t * (64 * q + 256)) = omega (arith, a) in
     let c : 256 * (t * (64 * q + 256)) ≡ 256 * t * (64 * q + 256) = grind arith in
-    mul-le (2 * (t * w)) (6 * s.slots + 121) (256 * t * (64 * q + 256)) (6 * s.slots + 121) (omega (arith, b, c)) (omega arith)
+    mul-le (2 * (t * w)) 80 (256 * t * (64 * q + 256)) 80 (omega (arith, b, c)) (omega arith)

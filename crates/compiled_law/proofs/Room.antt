@@ -16,13 +16,9 @@ use Rattle.ir.specs.declared.function.Ir.{Ir}
 use Rattle.ir.specs.WellFormed.{IsIndexed, IsTarget, IsInstruction, IsFunction, field_of}
 use Rattle.pm_machine.specs.declared.op.Op.{Op}
 use Rattle.pm_alloc.specs.declared.local.Local.{Local}
-use Rattle.pm_alloc.specs.Pieces.{fill_code, new_head, new_code}
-use Rattle.pm_alloc.specs.declared.local.Reg.TheVariants.{Own, Temp}
-use Rattle.pm_alloc.specs.declared.local.Local.TheVariants as local
 use Rattle.pm_alloc.specs.Placing.{sum, placed}
-use Rattle.codegen.specs.Fields.{object_words}
 use Rattle.codegen.specs.Names.{index_below, target_below, is_below}
-use Rattle.codegen.specs.Emit.{local_code, make_words, control, width, is_log, places, place_in, code_from}
+use Rattle.codegen.specs.Emit.{local_code, control, width, is_log, places, place_in, code_from}
 use Rattle.emit_law.specs.Standing.{HasRoom}
 use Rattle.emit_law.proofs.Steps.{forward_code}
 
@@ -65,39 +61,8 @@ code_low program r n [] all = refl
 code_low program r n (i ∷ code) all = both (is_below r i) (list_all (is_below r) code) (instruction_low program r n i all.0) (code_low program r n code all.1)
 
 -- no instruction's code is long
-fill_short : (s : Sizes) (b : Bool) (j c : ℕ) → length (fill_code s b j c) ≤ 2 * c
-fill_short s b j zero = omega arith
-fill_short s true j (suc c) = omega (arith, fill_short s true (j + 1) c)
-fill_short s false j (suc c) = omega (arith, fill_short s false (j + 1) c)
-
-new_short : (s : Sizes) (to kind c : ℕ) (b : Bool) → c ≤ 15 → length (new_code s to kind c b) ≤ 48
-new_short s to kind c b few =
-    let fill : List Local = fill_code s b 1 c in
-    omega (arith, length-append (new_head s to kind (length fill)) (fill ++ local.Mov (Own to) (Temp 0) ∷ []), length-append fill (local.Mov (Own to) (Temp 0) ∷ []), fill_short s b 1 c, few)
-
-made_short : (s : Sizes) (to kind : ℕ) (b : Bool) (o : Option ℕ) → length (make_words s to kind b o) ≤ 48
-made_short s to kind b None = omega arith
-made_short s to kind b (Some c) = by_test (nat_lt 15 c) refl
-  where
-    by_test : (d : Bool) → nat_lt 15 c ≡ d → length (if d then local.Trap 2 ∷ [] else new_code s to kind c b) ≤ 48
-    by_test true e = omega arith
-    by_test false e = new_short s to kind c b (Rattle.std.proofs.lemmas.Bool.ltb-false 15 c e)
-
 piece_short : (s : Sizes) (h : Shapes) (b : Bool) (i : Instruction) → length (local_code s h b i) ≤ 48
-piece_short s h b (ir.New to kind fill line) = made_short s to kind fill (object_words h kind)
-piece_short s h b (ir.Const to value) = omega arith
-piece_short s h b (ir.Copy to from) = omega arith
-piece_short s h b (ir.Bin o to left right) = omega (arith, (forward_code s h b (ir.Bin o to left right) tt).1)
-piece_short s h b (ir.Jump place) = omega arith
-piece_short s h b (ir.Branch on place) = omega arith
-piece_short s h b (ir.Load to x) = omega (arith, (forward_code s h b (ir.Load to x) tt).1)
-piece_short s h b (ir.Store x from line) = omega (arith, (forward_code s h b (ir.Store x from line) tt).1)
-piece_short s h b (ir.Free from kind line) = omega (arith, (forward_code s h b (ir.Free from kind line) tt).1)
-piece_short s h b (ir.Call to function args) = omega arith
-piece_short s h b (ir.Return from) = omega arith
-piece_short s h b ir.Tick = omega arith
-piece_short s h b (ir.Trap kind) = omega arith
-piece_short s h b (ir.Log x) = omega arith
+piece_short s h b i = omega (arith, (forward_code s h b i).1)
 
 control_short : (tx : Bool) (to : ℕ → ℕ) (i : Instruction) → length (control tx to i) ≤ 3
 control_short true to (ir.Return from) = omega arith

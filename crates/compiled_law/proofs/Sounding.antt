@@ -1,6 +1,8 @@
--- The machine's run of a compiled transaction is sound, and ends as its code does or with a full log.
-use Rattle.std.proofs.Common.{◌≡◌, ℕ, zero, suc, ◌*◌, ◌-◌, ◌≤◌, ℤ, true, List, Some, refl, subst, inl, inr}
+-- The machine's run of a compiled transaction is sound, and ends as its code does, or with a full
+-- log where the code's logged stores are more than its records.
+use Rattle.std.proofs.Common.{◌≡◌, ℕ, zero, suc, ◌*◌, ◌-◌, ◌<◌, ◌≤◌, Bool, ℤ, true, false, nat_lt, List, Some, refl, sym, subst, inl, inr, arith}
 use Rattle.std.specs.Prelude.{slice_get}
+use Rattle.std.proofs.lemmas.Bool.{lt-ltb, le-ltb}
 use Rattle.cache_model.specs.Cache.{Words}
 use Rattle.pool_map.specs.declared.trap.TrapKind.{TrapKind}
 use Rattle.pool_map.specs.declared.trap.TrapKind.TheVariants.{LogFull}
@@ -32,20 +34,21 @@ use Rattle.pm_machine.specs.declared.image.Image.{Image}
 use Rattle.pm_machine.specs.declared.op.TxEntry.{TxEntry}
 use Rattle.pm_machine.specs.Machine.{Run, Finished, mrun}
 use Rattle.pm_machine.specs.Machine as machine
-use Rattle.pm_machine.specs.Effects.{records_end}
+use Rattle.pm_machine.specs.Effects.{heap_end, records_end}
 use Rattle.pm_machine.proofs.Fuel.{more_fuel}
 use Rattle.run_law.specs.Sound.{IsCovered, IsSoundRun}
 use Rattle.emit_law.proofs.SoundRun.{sound_run}
 use Rattle.piece_law.specs.Stands.{Stands}
 use Rattle.piece_law.specs.Words.{HoldWords, HasWords, IsWordState, IsWordEnd, IsWordMove, HasWordConstants, WordsLaw}
-use Rattle.piece_law.specs.Shows.{Shows}
+use Rattle.piece_law.specs.Shows.{Shows, IsCut}
 use Rattle.match_law.specs.Accesses.{accesses}
 use Rattle.match_law.specs.Compiled.{IsCompiled, is_logged}
 use Rattle.match_law.specs.Law.{Keeps, RunFull, KeepLaw}
 use Rattle.match_law.specs.Match.{most}
 use Rattle.compiled_law.specs.Counts.{records_of}
-use Rattle.compiled_law.specs.Runs.{EndsAs, RunIs}
-use Rattle.compiled_law.proofs.Counting.{records_are}
+use Rattle.compiled_law.specs.Runs.{EndsAs, EndsIf, RunIs}
+use Rattle.compiled_law.proofs.Bounded.{run_bounded}
+use Rattle.compiled_law.proofs.Counting.{records_are, records_cut}
 use Rattle.compiled_law.proofs.Covering.{covered_run, covered_cut}
 use Rattle.compiled_law.proofs.Marked.{inputs_logged}
 
@@ -53,19 +56,37 @@ trapped : (k : TrapKind) (v : ℤ) → Trapped k ≡ Halted v → ⊥
 trapped k v e = cc
 
 module _ (apart : HeapApart) (image : Image) (L : Ir) (compiled : IsCompiled image L) (tx : ℕ) (entry : TxEntry) (found : slice_get image.parts.txs (tx - 1) ≡ Some entry) (args : List ℤ) (heap : Words) (m : ℕ) (ds : List Deed) (need : (x : Spot) (a : Site) → IsInput ds x → FirstStore ds x a → is_logged L a ≡ true)
-    (n : ℕ) (count : (es : List Effect) → Shows image.parts.sizes (is_logged L) ds (accesses es) → records_end 0 es ≡ n) where
+    (n : ℕ) (count : (es : List Effect) → Shows image.parts.sizes (is_logged L) ds (accesses es) → records_end 0 es ≡ n) (more : (es : List Effect) → IsCut image.parts.sizes (is_logged L) ds (accesses es) → records_end 0 es < n) where
   sound_end : (end : End) (es : List Effect) → mrun image m heap tx args ≡ Finished end es → IsCovered es → IsSoundRun end es
   sound_end end es is covered =
       let shape = sound_run image image.parts.sizes L m heap tx entry args end es compiled.code found is in
       record { covered = covered; paired = shape.0; tidy = shape.1 }
 
-  full : (e : code.End) → RunFull image L ds (mrun image m heap tx args) → ((h : Words) → EndsAs image L e (Trapped LogFull) h) → RunIs image L heap e n (mrun image m heap tx args)
-  full e r ends = record {
+  -- all records are written, and a store is logged after them
+  too_many : (r : RunFull image L ds (mrun image m heap tx args)) →
+      nat_lt image.parts.sizes.records n ≡ true
+  too_many r = lt-ltb image.parts.sizes.records n (omega (arith, r.records, more r.effects r.cut))
+
+  -- the records that are written are those of the whole run
+  has_room : (end : End) (es : List Effect) → mrun image m heap tx args ≡ Finished end es →
+      Shows image.parts.sizes (is_logged L) ds (accesses es) →
+      nat_lt image.parts.sizes.records n ≡ false
+  has_room end es is shows =
+      le-ltb image.parts.sizes.records n (omega (arith, count es shows, run_bounded image m tx args heap end es is))
+
+  with_room : (e : code.End) (end : End) (h : Words) → nat_lt image.parts.sizes.records n ≡ false →
+      EndsAs image L e end h → EndsIf (nat_lt image.parts.sizes.records n) image L e end h
+  with_room e end h room ends = subst (λ (b : Bool). EndsIf b image L e end h) (sym room) ends
+
+  full : (e : code.End) → RunFull image L ds (mrun image m heap tx args) →
+      RunIs image L heap e n (mrun image m heap tx args)
+  full e r = record {
     end = Trapped LogFull;
     effects = r.effects;
     is = r.is;
     sound = sound_end (Trapped LogFull) r.effects r.is (covered_cut apart image.parts.sizes (is_logged L) ds r.effects r.cut need);
-    agrees = ends _;
+    agrees =
+        subst (λ (b : Bool). EndsIf b image L e (Trapped LogFull) (heap_end heap r.effects)) (sym (too_many r)) refl;
     records = λ v e. absurd (trapped LogFull v e);
   }
 
@@ -75,19 +96,21 @@ module _ (apart : HeapApart) (image : Image) (L : Ir) (compiled : IsCompiled ima
     effects = r.effects;
     is = r.is;
     sound = sound_end (Halted v) r.effects r.is (covered_run apart image.parts.sizes (is_logged L) ds r.effects r.shows need);
-    agrees = inl (refl, r.stands, r.fits, words.0);
+    agrees =
+        with_room (code.Ended w v t) (Halted v) (heap_end heap r.effects) (has_room (Halted v) r.effects r.is r.shows) (refl, r.stands, r.fits, words.0);
     records = λ x e. count r.effects r.shows;
   }
-  run_is (code.Ended w v t) over words (inr r) = full (code.Ended w v t) r (λ h. inr refl)
+  run_is (code.Ended w v t) over words (inr r) = full (code.Ended w v t) r
   run_is (code.Trapped k) over words (inl r) = record {
     end = Trapped k;
     effects = r.effects;
     is = r.is;
     sound = sound_end (Trapped k) r.effects r.is (covered_run apart image.parts.sizes (is_logged L) ds r.effects r.shows need);
-    agrees = inl refl;
+    agrees =
+        with_room (code.Trapped k) (Trapped k) (heap_end heap r.effects) (has_room (Trapped k) r.effects r.is r.shows) refl;
     records = λ v e. absurd (trapped k v e);
   }
-  run_is (code.Trapped k) over words (inr r) = full (code.Trapped k) r (λ h. inr refl)
+  run_is (code.Trapped k) over words (inr r) = full (code.Trapped k) r
   run_is code.Unfinished over words r = absurd over
   run_is code.Stuck over words r = absurd over
 
@@ -113,7 +136,9 @@ words_end law ir constants (suc k) c h = words_on ir k (code.step ir c) (λ d. w
 
 pub compiled_run : HeapApart → CoverLaw → KeepLaw → WordsLaw → (marks : MarkTable) (ir : Ir) → IsWellFormed ir → KeepsParameters ir.functions → ((a : Site) → IsLogged ir.functions a → table.is_logged marks a ≡ true) → HasWordConstants ir.functions → ((f p : ℕ) (x : Target) → instruction_at ir.functions f p ≡ Some (Log x) → ⊥) →
     (image : Image) → IsCompiled image (logged_program marks ir) → (tx : ℕ) (entry : TxEntry) → slice_get image.parts.txs (tx - 1) ≡ Some entry → IsTransaction ir.functions entry.function →
-    (args : List ℤ) (heap : Words) (w : PoolMap) → HoldWords args → HasWords w → Stands image.parts.sizes heap w → PoolFits ir.shapes w → (k m : ℕ) → IsDone (exec ir k (start entry.function args w image.parts.sizes.ticks)) → 2 * k * most image ≤ m →
+    (args : List ℤ) (heap : Words) (w : PoolMap) → HoldWords args → HasWords w →
+    Stands image.parts.sizes heap w → PoolFits ir.shapes w → (k m : ℕ) →
+    IsDone (exec ir k (start entry.function args w image.parts.sizes.ticks)) → 2 * k * most ≤ m →
     RunIs image (logged_program marks ir) heap (exec ir k (start entry.function args w image.parts.sizes.ticks)) (records_of (table.is_logged marks) (deeds ir k (start entry.function args w image.parts.sizes.ticks))) (mrun image m heap tx args)
 compiled_run apart cover keep law marks ir formed keeps whole constants bare image compiled tx entry found transaction args heap w words pool stands fits k m over enough =
     let L : Ir = logged_program marks ir in
@@ -123,8 +148,10 @@ compiled_run apart cover keep law marks ir formed keeps whole constants bare ima
     let n : ℕ = records_of (table.is_logged marks) (deeds ir k (start entry.function args w t)) in
     let count : (es : List Effect) → Shows image.parts.sizes (is_logged L) (deeds L (2 * k) (start entry.function args w t)) (accesses es) → records_end 0 es ≡ n = λ es shows.
     records_are marks ir formed bare image.parts.sizes k (start entry.function args w t) es (subst (λ (ds : List Deed). Shows image.parts.sizes (is_logged L) ds (accesses es)) (same_deeds marks ir formed entry.function args w t k over) shows) in
-    run_more image L heap (exec ir k (start entry.function args w t)) n (2 * k * most image) m tx args enough
-    (run_is apart image L compiled tx entry found args heap (2 * k * most image) (deeds L (2 * k) (start entry.function args w t))
-    (inputs_logged cover marks ir formed keeps whole entry.function transaction args w t k over) n count
+    let more : (es : List Effect) → IsCut image.parts.sizes (is_logged L) (deeds L (2 * k) (start entry.function args w t)) (accesses es) → records_end 0 es < n = λ es cut.
+    records_cut marks ir formed bare image.parts.sizes k (start entry.function args w t) es (subst (λ (ds : List Deed). IsCut image.parts.sizes (is_logged L) ds (accesses es)) (same_deeds marks ir formed entry.function args w t k over) cut) in
+    run_more image L heap (exec ir k (start entry.function args w t)) n (2 * k * most) m tx args enough
+    (run_is apart image L compiled tx entry found args heap (2 * k * most) (deeds L (2 * k) (start entry.function args w t))
+    (inputs_logged cover marks ir formed keeps whole entry.function transaction args w t k over) n count more
     (exec ir k (start entry.function args w t)) over (words_end law ir constants k (start entry.function args w t) (words, tt, pool))
-    (subst (λ (e : code.End). Keeps image L heap (deeds L (2 * k) (start entry.function args w t)) e (mrun image (2 * k * most image) heap tx args)) same kept))
+    (subst (λ (e : code.End). Keeps image L heap (deeds L (2 * k) (start entry.function args w t)) e (mrun image (2 * k * most) heap tx args)) same kept))

@@ -1,6 +1,7 @@
--- How many log records a transaction writes: as many as its run stores words at sites that the marks log, a header's store counting
--- always, and a fill once for each word.
-use Rattle.std.specs.Prelude.{ℕ, suc, ◌+◌, ◌*◌, ◌==◌, ℤ, Bool, List, [], ◌∷◌, if◌then◌else◌}
+-- How many logged stores the run of a transaction does until it ends: its stores of words at sites
+-- that the marks log, a header's store counting always, and a fill once for each word. Where the
+-- log has room for all of them, it writes as many records.
+use Rattle.std.specs.Prelude.{ℕ, suc, ◌+◌, ◌*◌, ℤ, Bool, List, [], ◌∷◌, if◌then◌else◌}
 use Rattle.std.specs.Option.{option_map_or}
 use Rattle.pool_map.specs.PoolMap.{PoolMap}
 use Rattle.ir.specs.declared.site.Site.{Site}
@@ -27,5 +28,5 @@ abbrev pub deeds_in : Ir → (ticks : ℕ) → PoolMap → List ℤ → (g : ℕ
 deeds_in ir ticks pool args g = deeds ir ((ticks + 1) * whole ir.functions) (start g args pool ticks)
 
 abbrev pub counts_of : Program → MarkTable → Counts
-counts_of program marks pool tx args n =
-    n == records_of (is_logged marks) (option_map_or (deeds_in (lowered program.typed) (sizes_of program).ticks pool args) (entry_in tx (lowered program.typed).functions) [])
+counts_of program marks pool tx args =
+    records_of (is_logged marks) (option_map_or (deeds_in (lowered program.typed) (sizes_of program).ticks pool args) (entry_in tx (lowered program.typed).functions) [])

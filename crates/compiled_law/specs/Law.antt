@@ -1,7 +1,8 @@
--- Each compiled program agrees with its source: from every heap with valid headers the machine's run of a transaction is sound, and
--- ends as the source says, with a heap that holds the source's pool and with as many log records as its stores at logged sites, or
--- with a full log.
-use Rattle.std.specs.Prelude.{◌≡◌, ℕ, List, [], length, map, true, Ok}
+-- Each compiled program agrees with its source: from every heap with valid headers the machine's
+-- run of a transaction is sound, and ends as the source says, with a heap that holds the source's
+-- pool and with as many log records as its stores at logged sites; or with a full log, exactly
+-- where these stores are more than the log has records.
+use Rattle.std.specs.Prelude.{◌≡◌, ◌<◌, ℕ, Bool, List, [], ◌∷◌, ◌++◌, length, map, true, Ok}
 use Rattle.c_lexer.specs.Cuts.{answer}
 use Rattle.c_lexer.specs.TokenList.{Tokens}
 use Rattle.c_parser.specs.ItemSpelling.{SpellsProgram}
@@ -16,10 +17,12 @@ use Rattle.lower.specs.Program.{lowered}
 use Rattle.clobber_pass.specs.declared.marking.MarkTable.{MarkTable}
 use Rattle.clobber_pass.specs.Logged.{is_logged}
 use Rattle.instrument.specs.Insert.{logged_program}
+use Rattle.code_meaning.specs.Deeds.{Deed}
 use Rattle.codegen.specs.Emit.{functions_of, parts_of}
+use Rattle.piece_law.specs.Shows.{TakesLog}
 use Rattle.cnvm_session.specs.declared.program.Program.{Program}
 use Rattle.session_law.specs.Agrees.{Agrees}
-use Rattle.compiled_law.specs.Counts.{counts_of}
+use Rattle.compiled_law.specs.Counts.{records_of, counts_of}
 
 -- What the compiler makes of a text: the tree of its tokens, which breaks no rule, and the image of its code with the logs of marks that log each
 -- site for which walks call, for a pool with the root's words.
@@ -36,3 +39,19 @@ pub record IsCompiledFrom (text : List ℕ) (list : Tokens) (marks : MarkTable) 
 
 abbrev pub CompiledLaw : Type 0
 CompiledLaw = (text : List ℕ) (list : Tokens) (marks : MarkTable) (program : Program) → IsCompiledFrom text list marks program → Agrees program (counts_of program marks)
+
+-- a store that is logged comes after as many as the log has records
+pub record FillsLog (logged : Site → Bool) (records : ℕ) (ds : List Deed) : Type 0 where
+  pub before : List Deed
+  pub due : Deed
+  pub later : List Deed
+  pub is : ds ≡ before ++ due ∷ later
+  pub takes_log : TakesLog logged due
+  pub full : records_of logged before ≡ records
+
+-- A run's logged stores are more than the log has records exactly where one of them comes, before
+-- its end, that finds it full.
+abbrev pub FullLaw : Type 0
+FullLaw = (logged : Site → Bool) (records : ℕ) (ds : List Deed) →
+    (records < records_of logged ds → FillsLog logged records ds)
+    × (FillsLog logged records ds → records < records_of logged ds)

@@ -1,6 +1,7 @@
--- How the machine's run of a compiled transaction goes, where the run of its three-address code ends so: it is sound, and it ends as
--- the code does, with a heap that stands for the code's pool; or with a full log.
-use Rattle.std.specs.Prelude.{◌≡◌, ◌⊎◌, ℕ, ℤ, List}
+-- How the machine's run of a compiled transaction goes, where the run of its three-address code
+-- ends so: it is sound, and it ends as the code does, with a heap that stands for the code's pool;
+-- or with a full log, where the code's logged stores are more than the log has records.
+use Rattle.std.specs.Prelude.{◌≡◌, ℕ, ℤ, Bool, true, false, nat_lt, List}
 use Rattle.cache_model.specs.Cache.{Words}
 use Rattle.pool_map.specs.declared.trap.TrapKind.TheVariants.{LogFull}
 use Rattle.pool_map.specs.PoolFits.{PoolFits}
@@ -17,16 +18,22 @@ use Rattle.piece_law.specs.Stands.{Stands}
 use Rattle.piece_law.specs.Words.{HasWords}
 
 abbrev pub EndsAs : Image → Ir → code.End → End → Words → Type 0
-EndsAs image ir (code.Ended w v t) end heap = ((end ≡ Halted v) × Stands image.parts.sizes heap w × PoolFits ir.shapes w × HasWords w) ⊎ (end ≡ Trapped LogFull)
-EndsAs image ir (code.Trapped k) end heap = (end ≡ Trapped k) ⊎ (end ≡ Trapped LogFull)
+EndsAs image ir (code.Ended w v t) end heap =
+    (end ≡ Halted v) × Stands image.parts.sizes heap w × PoolFits ir.shapes w × HasWords w
+EndsAs image ir (code.Trapped k) end heap = end ≡ Trapped k
 EndsAs image ir code.Unfinished end heap = ⊥
 EndsAs image ir code.Stuck end heap = ⊥
 
--- n: the log records of a run that gives a word
+-- full: the code's logged stores are more than the log has records
+abbrev pub EndsIf : (full : Bool) → Image → Ir → code.End → End → Words → Type 0
+EndsIf true image ir e end heap = end ≡ Trapped LogFull
+EndsIf false image ir e end heap = EndsAs image ir e end heap
+
+-- n: the code's logged stores, which are the log records of a run that gives a word
 pub record RunIs (image : Image) (ir : Ir) (heap : Words) (e : code.End) (n : ℕ) (run : Run) : Type 0 where
   pub end : End
   pub effects : List Effect
   pub is : run ≡ Finished end effects
   pub sound : IsSoundRun end effects
-  pub agrees : EndsAs image ir e end (heap_end heap effects)
+  pub agrees : EndsIf (nat_lt image.parts.sizes.records n) image ir e end (heap_end heap effects)
   pub records : (v : ℤ) → end ≡ Halted v → records_end 0 effects ≡ n

@@ -80,8 +80,10 @@ module _ (program : Program) (super : Words) where
       subst (λ (x : Mode). Holds program super x b s) (sym modes) (subst (λ (x : Device). Holds program super m x s) (sym devices) holds)
 
   -- a command that is refused
-  refused_as : (why : Answer) (m n : Mode) (d b : Device) (s : State) (a : Answer) → Holds program super m d s → commanded.Refused why m d a n b → (t : State) × Refused why s a t × Holds program super n b t
-  refused_as why m n d b s a holds h = (s, (h.0, refl), moved m n d b s h.1 h.2 holds)
+  refused_as : (why : Answer) (m n : Mode) (d b : Device) (s : State) (a : Answer) (k k1 : ℕ) →
+      Holds program super m d s → commanded.Refused why m d a n b k k1 →
+      (t : State) × Refused why s a t × Holds program super n b t
+  refused_as why m n d b s a k k1 holds h = (s, (h.0, refl), moved m n d b s h.1 h.2 holds)
 
   down_mode : (owed : Option Pending) (m : Mode) (d : Device) (s : State) → HoldsAs (Down owed) program super m d s → m ≡ mode.Down
   down_mode None m d s holds = holds.0
@@ -101,16 +103,18 @@ module _ (program : Program) (super : Words) where
           subst (λ (x : Answer). Runs program counts s (view d.cache) tx args x done.0) (sym h.answer) done.1,
           subst (λ (x : Mode). Holds program super x b done.0) (sym h.mode) done.2,
         )
-    by_count tx count false same takes h = refused_as answer.RefusedArity mode.Ready n d b s a at_ready h
+    by_count tx count false same takes h =
+        refused_as answer.RefusedArity mode.Ready n d b s a k k1 at_ready h
 
     by_parameters : (tx : ℕ) (count : Option ℕ) → parameters_of program.image tx ≡ count → commanded.CallsTo count program.image tx args d a n b k k1
         → (t : State) × CallsTo count program counts s (view d.cache) tx args a t × Holds program super n b t
-    by_parameters tx None takes h = refused_as answer.RefusedUnknown mode.Ready n d b s a at_ready h
+    by_parameters tx None takes h =
+        refused_as answer.RefusedUnknown mode.Ready n d b s a k k1 at_ready h
     by_parameters tx (Some count) takes h = by_count tx count (count == length args) refl takes h
 
     by_name : (number : Option ℕ) → commanded.CallsNamed number program.image args d a n b k k1
         → (t : State) × CallsNamed number program counts s (view d.cache) args a t × Holds program super n b t
-    by_name None h = refused_as answer.RefusedUnknown mode.Ready n d b s a at_ready h
+    by_name None h = refused_as answer.RefusedUnknown mode.Ready n d b s a k k1 at_ready h
     by_name (Some tx) h =
         let done = by_parameters tx (parameters_of program.image tx) refl h in
         (done.0, subst (λ (count : Option ℕ). CallsTo count program counts s (view d.cache) tx args a done.0) (agrees.parameters tx) done.1, done.2)
@@ -122,9 +126,9 @@ module _ (program : Program) (super : Words) where
       by_name counts agrees n d b s a args words k k1 standing here.1 (number_of program name) (subst (λ (x : Mode). commanded.Calls program name args x d a n b k k1) here.0 h)
   calls_as counts agrees name args words m n d b s a k k1 (Down owed) standing here holds h =
       let is : m ≡ mode.Down = down_mode owed m d s here in
-      refused_as answer.RefusedDown mode.Down n d b s a (subst (λ (x : Mode). Holds program super x d s) is holds) (subst (λ (x : Mode). commanded.Calls program name args x d a n b k k1) is h)
+      refused_as answer.RefusedDown mode.Down n d b s a k k1 (subst (λ (x : Mode). Holds program super x d s) is holds) (subst (λ (x : Mode). commanded.Calls program name args x d a n b k k1) is h)
   calls_as counts agrees name args words m n d b s a k k1 (Unusable kind) standing here holds h =
-      refused_as (answer.RefusedUnusable kind) (mode.Unusable kind) n d b s a (subst (λ (x : Mode). Holds program super x d s) here.0 holds)
+      refused_as (answer.RefusedUnusable kind) (mode.Unusable kind) n d b s a k k1 (subst (λ (x : Mode). Holds program super x d s) here.0 holds)
       (subst (λ (x : Mode). commanded.Calls program name args x d a n b k k1) here.0 h)
 
   -- `show`
@@ -163,33 +167,37 @@ module _ (program : Program) (super : Words) where
     tells_as answer.RefusedNumbers h = absurd h
     tells_as (answer.RefusedPick l) h = absurd h
 
-  shows_as : (counts : Counts) (agrees : Agrees program counts) (m n : Mode) (d b : Device) (s : State) (a : Answer) (st : Standing) → s.standing ≡ st → HoldsAs st program super m d s → Holds program super m d s
-      → commanded.Shows (shapes_of program.typed) (sizes_of program) m d a n b → (t : State) × Shows st program s a t × Holds program super n b t
-  shows_as counts agrees m n d b s a Ready standing here holds h =
-      let at = subst (λ (x : Mode). commanded.Shows (shapes_of program.typed) (sizes_of program) x d a n b) here.0 h in
+  shows_as :
+      (counts : Counts) (agrees : Agrees program counts) (m n : Mode) (d b : Device) (s : State) (a : Answer) (k k1 : ℕ) (st : Standing) →
+      s.standing ≡ st → HoldsAs st program super m d s → Holds program super m d s
+      → commanded.Shows (shapes_of program.typed) (sizes_of program) m d a n b k k1 →
+      (t : State) × Shows st program s a t × Holds program super n b t
+  shows_as counts agrees m n d b s a k k1 Ready standing here holds h =
+      let at = subst (λ (x : Mode). commanded.Shows (shapes_of program.typed) (sizes_of program) x d a n b k k1) here.0 h in
       let done = tells_as counts agrees n d s standing here.1 a at.0 in
       (done.0, done.1, subst (λ (x : Device). Holds program super n x done.0) (sym at.1) done.2)
-  shows_as counts agrees m n d b s a (Down owed) standing here holds h =
+  shows_as counts agrees m n d b s a k k1 (Down owed) standing here holds h =
       let is : m ≡ mode.Down = down_mode owed m d s here in
-      refused_as answer.RefusedDown mode.Down n d b s a (subst (λ (x : Mode). Holds program super x d s) is holds)
-      (subst (λ (x : Mode). commanded.Shows (shapes_of program.typed) (sizes_of program) x d a n b) is h)
-  shows_as counts agrees m n d b s a (Unusable kind) standing here holds h =
-      refused_as (answer.RefusedUnusable kind) (mode.Unusable kind) n d b s a (subst (λ (x : Mode). Holds program super x d s) here.0 holds)
-      (subst (λ (x : Mode). commanded.Shows (shapes_of program.typed) (sizes_of program) x d a n b) here.0 h)
+      refused_as answer.RefusedDown mode.Down n d b s a k k1 (subst (λ (x : Mode). Holds program super x d s) is holds)
+      (subst (λ (x : Mode). commanded.Shows (shapes_of program.typed) (sizes_of program) x d a n b k k1) is h)
+  shows_as counts agrees m n d b s a k k1 (Unusable kind) standing here holds h =
+      refused_as (answer.RefusedUnusable kind) (mode.Unusable kind) n d b s a k k1 (subst (λ (x : Mode). Holds program super x d s) here.0 holds)
+      (subst (λ (x : Mode). commanded.Shows (shapes_of program.typed) (sizes_of program) x d a n b k k1) here.0 h)
 
   -- `last`
-  lasts_as : (m n : Mode) (d b : Device) (s : State) (a : Answer) (st : Standing) → s.standing ≡ st → HoldsAs st program super m d s → Holds program super m d s
-      → commanded.Lasts m d a n b → (t : State) × Lasts st s a t × Holds program super n b t
-  lasts_as m n d b s a Ready standing here holds h =
-      let at = subst (λ (x : Mode). commanded.Lasts x d a n b) here.0 h in
+  lasts_as : (m n : Mode) (d b : Device) (s : State) (a : Answer) (k k1 : ℕ) (st : Standing) →
+      s.standing ≡ st → HoldsAs st program super m d s → Holds program super m d s
+      → commanded.Lasts m d a n b k k1 → (t : State) × Lasts st s a t × Holds program super n b t
+  lasts_as m n d b s a k k1 Ready standing here holds h =
+      let at = subst (λ (x : Mode). commanded.Lasts x d a n b k k1) here.0 h in
       let words : answer.Last (view d.cache 17) (view d.cache 16) ≡ answer.Last (pos s.done) s.last = λ i. answer.Last (here.1.before.good.done i) (here.1.before.last_is i) in
       (s, (at.0 here.1.on ∙ words, refl), moved m n d b s (at.1 ∙ sym here.0) at.2 holds)
-  lasts_as m n d b s a (Down owed) standing here holds h =
+  lasts_as m n d b s a k k1 (Down owed) standing here holds h =
       let is : m ≡ mode.Down = down_mode owed m d s here in
-      refused_as answer.RefusedDown mode.Down n d b s a (subst (λ (x : Mode). Holds program super x d s) is holds) (subst (λ (x : Mode). commanded.Lasts x d a n b) is h)
-  lasts_as m n d b s a (Unusable kind) standing here holds h =
-      refused_as (answer.RefusedUnusable kind) (mode.Unusable kind) n d b s a (subst (λ (x : Mode). Holds program super x d s) here.0 holds)
-      (subst (λ (x : Mode). commanded.Lasts x d a n b) here.0 h)
+      refused_as answer.RefusedDown mode.Down n d b s a k k1 (subst (λ (x : Mode). Holds program super x d s) is holds) (subst (λ (x : Mode). commanded.Lasts x d a n b k k1) is h)
+  lasts_as m n d b s a k k1 (Unusable kind) standing here holds h =
+      refused_as (answer.RefusedUnusable kind) (mode.Unusable kind) n d b s a k k1 (subst (λ (x : Mode). Holds program super x d s) here.0 holds)
+      (subst (λ (x : Mode). commanded.Lasts x d a n b k k1) here.0 h)
 
 pub each_command : SessionLaw
 each_command program counts super (command.Call name args) m n d b s a k k1 agrees words holds h = calls_as program super counts agrees name args words m n d b s a k k1 s.standing refl holds holds h
@@ -198,5 +206,7 @@ each_command program counts super (command.Stop left) m n d b s a k k1 agrees wo
 each_command program counts super (command.Fault at) m n d b s a k k1 agrees words holds h =
     (s, (h.0, refl), moved program super m n (with_armed at d) b s h.1 h.2 (same_as program super m d (with_armed at d) s refl refl s.standing holds))
 each_command program counts super (command.Power choice) m n d b s a k k1 agrees words holds h = power_answers program counts super agrees choice m n d b s a k k1 holds h
-each_command program counts super command.Show m n d b s a k k1 agrees words holds h = shows_as program super counts agrees m n d b s a s.standing refl holds holds h
-each_command program counts super command.Last m n d b s a k k1 agrees words holds h = lasts_as program super m n d b s a s.standing refl holds holds h
+each_command program counts super command.Show m n d b s a k k1 agrees words holds h =
+    shows_as program super counts agrees m n d b s a k k1 s.standing refl holds holds h
+each_command program counts super command.Last m n d b s a k k1 agrees words holds h =
+    lasts_as program super m n d b s a k k1 s.standing refl holds holds h

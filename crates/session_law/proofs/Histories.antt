@@ -1,6 +1,6 @@
 -- Which transactions a session has done.
-use Rattle.std.proofs.Common.{◌≡◌, inl, inr, ⊎_elim, ℕ, ◌+◌, ◌==◌, Bool, true, false, List, [], ◌∷◌, ◌++◌, length, Option, Some, None, ℤ, pos, refl, sym, ap, ◌∙◌, subst, arith, append_assoc, append-nil, length-append}
-use Rattle.pmem.specs.Device.{Device}
+use Rattle.std.proofs.Common.{◌≡◌, ◌≢◌, inl, inr, ⊎_elim, ℕ, suc, ◌+◌, ◌==◌, Bool, true, false, ◌&&◌, if◌then◌else◌, List, [], ◌∷◌, ◌++◌, length, Option, Some, None, ℤ, pos, int_eq, refl, sym, ap, ◌∙◌, subst, arith, append_assoc, append-nil, length-append}
+use Rattle.std.proofs.lemmas.Bool.Decides.{Decides-int_eq}
 use Rattle.pool_layout.specs.Image.{Words}
 use Rattle.pool_map.specs.PoolMap.{PoolMap}
 use Rattle.c_meaning.specs.Transaction.{Outcome, Done, Trap}
@@ -8,31 +8,31 @@ use Rattle.cnvm_script.specs.declared.command.Command.{Command}
 use Rattle.cnvm_script.specs.declared.command.Command.TheVariants as command
 use Rattle.cnvm_session.specs.declared.answer.Answer.{Answer}
 use Rattle.cnvm_session.specs.declared.answer.Answer.TheVariants as answer
-use Rattle.cnvm_session.specs.declared.mode.Mode.{Mode}
 use Rattle.cnvm_session.specs.declared.program.Program.{Program}
 use Rattle.cnvm_session.specs.Commands.{number_of}
 use Rattle.session_law.specs.Source.{Counts, means, parameters}
 use Rattle.session_law.specs.State.{Pending, Standing, Ready, Down, Unusable, State, standing_as}
-use Rattle.session_law.specs.Answers.{IsDoneWith, Runs, CallsWith, CallsTo, CallsNamed, Calls, Tells, Shows, Lasts, FindsOf, Finds, Rests, Redoes, Recovers, Powers, Answers}
-use Rattle.session_law.specs.Law.{found_by}
-use Rattle.session_law.specs.History.{after, after_one, waiting_of, call_to, call_in, calls_in, IsPart, HasDone, HistoryLaw}
+use Rattle.session_law.specs.Answers.{Refused, IsDoneWith, Runs, CallsWith, CallsTo, CallsNamed, Calls, Tells, Shows, Lasts, FindsOf, Finds, Rests, Redoes, Recovers, Powers, Answers}
+use Rattle.session_law.specs.History.{after, after_one, waiting_of, call_to, call_in, called_by, is_retired, recovered_by, done_by, IsPart, HasDone}
+use Rattle.session_law.proofs.Coming.{comes_done}
 
 -- parts of lists
 
-part_none : (ys : List Pending) → IsPart [] ys
+pub part_none : (ys : List Pending) → IsPart [] ys
 part_none [] = refl
 part_none (y ∷ ys) = inl (part_none ys)
 
-part_same : (xs : List Pending) → IsPart xs xs
+pub part_same : (xs : List Pending) → IsPart xs xs
 part_same [] = refl
 part_same (x ∷ xs) = inr (xs, refl, part_same xs)
 
-part_append : (xs ys us vs : List Pending) → IsPart xs ys → IsPart us vs → IsPart (xs ++ us) (ys ++ vs)
+pub part_append : (xs ys us vs : List Pending) → IsPart xs ys → IsPart us vs →
+    IsPart (xs ++ us) (ys ++ vs)
 part_append xs [] us vs none second = subst (λ (zs : List Pending). IsPart (zs ++ us) vs) (sym none) second
 part_append xs (y ∷ ys) us vs (inl rest) second = inl (part_append xs ys us vs rest second)
 part_append xs (y ∷ ys) us vs (inr kept) second = inr (kept.0 ++ us, ap (λ (zs : List Pending). zs ++ us) kept.1, part_append kept.0 ys us vs kept.2 second)
 
-part_trans : (xs ys zs : List Pending) → IsPart xs ys → IsPart ys zs → IsPart xs zs
+pub part_trans : (xs ys zs : List Pending) → IsPart xs ys → IsPart ys zs → IsPart xs zs
 part_trans xs ys [] first none = subst (IsPart xs) none first
 part_trans xs ys (z ∷ zs) first (inl rest) = inl (part_trans xs ys zs first rest)
 part_trans xs ys (z ∷ zs) first (inr kept) = ⊎_elim
@@ -44,7 +44,8 @@ part_left : (xs ys : List Pending) → IsPart xs (xs ++ ys)
 part_left xs ys = subst (λ (zs : List Pending). IsPart zs (xs ++ ys)) (append-nil xs) (part_append xs xs [] ys (part_same xs) (part_none ys))
 
 module _ (program : Program) where
-  after_append : (p q : PoolMap) (xs ys : List Pending) → after program p xs ≡ Some q → after program p (xs ++ ys) ≡ after program q ys
+  pub after_append : (p q : PoolMap) (xs ys : List Pending) → after program p xs ≡ Some q →
+      after program p (xs ++ ys) ≡ after program q ys
   after_append p q [] ys is = let same : p ≡ q = cc in ap (λ (x : PoolMap). after program x ys) same
   after_append p q (x ∷ xs) ys is = go (means program p x.tx x.args) (λ r e. after_append r q xs ys e) is
     where
@@ -54,10 +55,9 @@ module _ (program : Program) where
       go (Trap kind) next e = absurd cc
 
   -- one behind the other
-  both : (s u t : State) (xs ys : List Pending) → HasDone program s u xs → HasDone program u t ys → HasDone program s t (xs ++ ys)
-  both s u t xs ys first second =
-      let D : List Pending = first.done in
-      let F : List Pending = second.done in
+  pub both : (s u t : State) (D F xs ys : List Pending) → HasDone program s u D xs →
+      HasDone program u t F ys → HasDone program s t (D ++ F) (xs ++ ys)
+  both s u t D F xs ys first second =
       let wu : List Pending = waiting_of u.standing in
       let wt : List Pending = waiting_of t.standing in
       let long : length (D ++ F) ≡ length D + length F = length-append D F in
@@ -66,7 +66,6 @@ module _ (program : Program) where
       let middle : IsPart (D ++ (F ++ wt)) (D ++ (wu ++ ys)) = part_append D D (F ++ wt) (wu ++ ys) (part_same D) second.part in
       let outer : IsPart ((D ++ wu) ++ ys) ((waiting_of s.standing ++ xs) ++ ys) = part_append (D ++ wu) (waiting_of s.standing ++ xs) ys ys first.part (part_same ys) in
       record {
-        done = D ++ F;
         pool = after_append s.pool u.pool D F first.pool ∙ second.pool;
         count = omega arith;
         part =
@@ -77,26 +76,37 @@ module _ (program : Program) where
       }
 
   -- nothing is done, and what is owed is owed still, or isn't any more
-  same_done : (s t : State) (calls : List Pending) → t ≡ s → HasDone program s t calls
+  pub same_done : (s t : State) (calls : List Pending) → t ≡ s → HasDone program s t [] calls
   same_done s t calls is =
-      subst (λ (x : State). HasDone program s x calls) (sym is)
-      (record { done = []; pool = refl; count = omega arith; part = part_left (waiting_of s.standing) calls })
+      subst (λ (x : State). HasDone program s x [] calls) (sym is)
+      (record { pool = refl; count = omega arith; part = part_left (waiting_of s.standing) calls })
 
-  only_standing : (s t : State) (st : Standing) (calls : List Pending) → t ≡ standing_as st s → IsPart (waiting_of st) (waiting_of s.standing ++ calls) → HasDone program s t calls
+  only_standing : (s t : State) (st : Standing) (calls : List Pending) → t ≡ standing_as st s →
+      IsPart (waiting_of st) (waiting_of s.standing ++ calls) → HasDone program s t [] calls
   only_standing s t st calls is part =
-      subst (λ (x : State). HasDone program s x calls) (sym is) (record { done = []; pool = refl; count = omega arith; part = part })
+      subst (λ (x : State). HasDone program s x [] calls) (sym is) (record { pool = refl; count = omega arith; part = part })
 
   -- one transaction is done
-  one_done : (s t : State) (tx : ℕ) (args : List ℤ) (value : ℤ) (st : Standing) (calls : List Pending) → waiting_of st ≡ [] → IsDoneWith program s tx args value st t
-      → IsPart (record { tx = tx; args = args } ∷ []) (waiting_of s.standing ++ calls) → HasDone program s t calls
-  one_done s t tx args value st calls none is part =
-      subst (λ (x : State). HasDone program s x calls) (sym is.2)
+  one_done :
+      (counts : Counts) (s t : State) (tx : ℕ) (args : List ℤ) (value : ℤ) (st : Standing) (calls : List Pending) →
+      waiting_of st ≡ [] → IsDoneWith program counts s tx args value st t
+      → IsPart (record { tx = tx; args = args } ∷ []) (waiting_of s.standing ++ calls) →
+      HasDone program s t (record { tx = tx; args = args } ∷ []) calls
+  one_done counts s t tx args value st calls none is part =
+      subst (λ (x : State). HasDone program s x (record { tx = tx; args = args } ∷ []) calls) (sym is.2)
       (record {
-        done = record { tx = tx; args = args } ∷ [];
-        pool = ap (λ (o : Outcome). after_one o (λ (p : PoolMap). Some p)) is.1;
+        pool =
+            ap (λ (o : Outcome). after_one o (λ (p : PoolMap). Some p)) (comes_done program counts s.pool tx args is.0 value is.1).1;
         count = omega arith;
         part = subst (λ (ws : List Pending). IsPart (record { tx = tx; args = args } ∷ ws) (waiting_of s.standing ++ calls)) (sym none) part;
       })
+
+  -- a refusal
+  refused_done : (s t : State) (why a : Answer) (calls : List Pending) → called_by calls why ≡ [] →
+      Refused why s a t → HasDone program s t (called_by calls a) calls
+  refused_done s t why a calls none is =
+      subst (λ (x : Answer). HasDone program s t (called_by calls x) calls) (sym is.0)
+      (subst (λ (ds : List Pending). HasDone program s t ds calls) (sym none) (same_done s t calls is.1))
 
   -- a call on a session that was ready
   module _ (counts : Counts) (s t : State) (image : Words) (args : List ℤ) where
@@ -106,11 +116,14 @@ module _ (program : Program) where
     right : (tx : ℕ) → IsPart (called tx) (waiting_of s.standing ++ called tx)
     right tx = part_append [] (waiting_of s.standing) (called tx) (called tx) (part_none (waiting_of s.standing)) (part_same (called tx))
 
-    cut : (tx : ℕ) → t ≡ standing_as (Down (Some (record { tx = tx; args = args }))) s → HasDone program s t (called tx)
+    cut : (tx : ℕ) → t ≡ standing_as (Down (Some (record { tx = tx; args = args }))) s →
+        HasDone program s t [] (called tx)
     cut tx is = only_standing s t (Down (Some (record { tx = tx; args = args }))) (called tx) is (right tx)
 
-    runs_done : (tx : ℕ) (a : Answer) → Runs program counts s image tx args a t → HasDone program s t (called tx)
-    runs_done tx (answer.Done value logged) is = one_done s t tx args value Ready (called tx) refl is.1 (right tx)
+    runs_done : (tx : ℕ) (a : Answer) → Runs program counts s image tx args a t →
+        HasDone program s t (called_by (called tx) a) (called tx)
+    runs_done tx (answer.Done value logged) is =
+        one_done counts s t tx args value Ready (called tx) refl is.1 (right tx)
     runs_done tx (answer.Trap kind) is = only_standing s t (Unusable kind) (called tx) is.1 (part_none (waiting_of s.standing ++ called tx))
     runs_done tx (answer.Stopped p) is = cut tx is
     runs_done tx answer.DeviceFault is = cut tx is
@@ -128,43 +141,121 @@ module _ (program : Program) where
     runs_done tx answer.RefusedArity is = absurd is
     runs_done tx (answer.RefusedPick line) is = absurd is
 
-    with_done : (tx : ℕ) (same : Bool) (a : Answer) → CallsWith same program counts s image tx args a t → HasDone program s t (called tx)
+    with_done : (tx : ℕ) (same : Bool) (a : Answer) →
+        CallsWith same program counts s image tx args a t →
+        HasDone program s t (called_by (called tx) a) (called tx)
     with_done tx true a is = runs_done tx a is
-    with_done tx false a is = same_done s t (called tx) is.1
+    with_done tx false a is = refused_done s t answer.RefusedArity a (called tx) refl is
 
-    to_done : (tx : ℕ) (count : Option ℕ) (a : Answer) → CallsTo count program counts s image tx args a t → HasDone program s t (called tx)
-    to_done tx None a is = same_done s t (called tx) is.1
+    to_done : (tx : ℕ) (count : Option ℕ) (a : Answer) →
+        CallsTo count program counts s image tx args a t →
+        HasDone program s t (called_by (called tx) a) (called tx)
+    to_done tx None a is = refused_done s t answer.RefusedUnknown a (called tx) refl is
     to_done tx (Some count) a is = with_done tx (count == length args) a is
 
-    named_done : (number : Option ℕ) (a : Answer) → CallsNamed number program counts s image args a t → HasDone program s t (call_to number args)
-    named_done None a is = same_done s t [] is.1
+    named_done : (number : Option ℕ) (a : Answer) →
+        CallsNamed number program counts s image args a t →
+        HasDone program s t (called_by (call_to number args) a) (call_to number args)
+    named_done None a is = refused_done s t answer.RefusedUnknown a [] refl is
     named_done (Some tx) a is = to_done tx (parameters program tx) a is
 
-    calls_done : (st : Standing) (name : List ℕ) (a : Answer) → Calls st program counts s image name args a t → HasDone program s t (call_to (number_of program name) args)
+    calls_done : (st : Standing) (name : List ℕ) (a : Answer) →
+        Calls st program counts s image name args a t →
+        HasDone program s t (called_by (call_to (number_of program name) args) a) (call_to (number_of program name) args)
     calls_done Ready name a is = named_done (number_of program name) a is
-    calls_done (Down owed) name a is = same_done s t (call_to (number_of program name) args) is.1
-    calls_done (Unusable kind) name a is = same_done s t (call_to (number_of program name) args) is.1
+    calls_done (Down owed) name a is =
+        refused_done s t answer.RefusedDown a (call_to (number_of program name) args) refl is
+    calls_done (Unusable kind) name a is =
+        refused_done s t (answer.RefusedUnusable kind) a (call_to (number_of program name) args) refl is
 
   -- a power cut
 
   part_at : (s : State) (st : Standing) (xs : List Pending) → s.standing ≡ st → IsPart xs (waiting_of st ++ []) → IsPart xs (waiting_of s.standing ++ [])
   part_at s st xs is part = subst (λ (x : Standing). IsPart xs (waiting_of x ++ [])) (sym is) part
 
-  finds_of : (s found : State) (owed : Option Pending) (image : Words) → waiting_of s.standing ≡ waiting_of (Down owed) → FindsOf owed program s image found → HasDone program s found []
-  finds_of s found None image is finds = only_standing s found (Down None) [] finds (part_none (waiting_of s.standing ++ []))
-  finds_of s found (Some owed) image is (inl fresh) = only_standing s found (Down None) [] fresh.1 (part_none (waiting_of s.standing ++ []))
-  finds_of s found (Some owed) image is (inr (inl retired)) =
-      let done = retired.2 in
-      one_done s found owed.tx owed.args done.0 (Down None) [] refl done.1 (subst (λ (ws : List Pending). IsPart (owed ∷ []) (ws ++ [])) (sym is) (part_same (owed ∷ [])))
-  finds_of s found (Some owed) image is (inr (inr sealed)) =
-      only_standing s found (Down (Some owed)) [] sealed.2 (subst (λ (ws : List Pending). IsPart (owed ∷ []) (ws ++ [])) (sym is) (part_same (owed ∷ [])))
+  -- what the image shows as done
+  abbrev retired_by : State → Words → List Pending
+  retired_by s image = if is_retired s image then waiting_of s.standing else []
 
-  finds_done : (s found : State) (image : Words) (st : Standing) → s.standing ≡ st → Finds st program s image found → HasDone program s found []
-  finds_done s found image Ready is finds = finds_of s found None image (ap waiting_of is) finds
-  finds_done s found image (Down owed) is finds = finds_of s found owed image (ap waiting_of is) finds
-  finds_done s found image (Unusable kind) is finds = absurd finds
+  retired_none : (s : State) (image : Words) → waiting_of s.standing ≡ [] → retired_by s image ≡ []
+  retired_none s image none = by_test (is_retired s image)
+    where
+      by_test : (b : Bool) → (if b then waiting_of s.standing else []) ≡ []
+      by_test true = none
+      by_test false = refl
 
-  rests_done : (s t : State) (image : Words) (a : Answer) → Rests program s image a t → HasDone program s t []
+  not_eq : (v w : ℤ) → (v ≡ w → ⊥) → int_eq v w ≡ false
+  not_eq v w none = by_test (int_eq v w) refl
+    where
+      by_test : (b : Bool) → int_eq v w ≡ b → b ≡ false
+      by_test true e = absurd (none ((Decides-int_eq v w).0 e))
+      by_test false e = refl
+
+  and_false : (b : Bool) → (b && false) ≡ false
+  and_false true = refl
+  and_false false = refl
+
+  pub fresh_shows : (s : State) (image : Words) → image 47 ≢ pos (suc s.done) →
+      is_retired s image ≡ false
+  fresh_shows s image fresh =
+      ap (λ (b : Bool). b && int_eq (image 17) (pos (suc s.done))) (not_eq (image 47) (pos (suc s.done)) fresh)
+
+  pub retired_shows : (s : State) (image : Words) → image 47 ≡ pos (suc s.done) →
+      image 17 ≡ pos (suc s.done) → is_retired s image ≡ true
+  retired_shows s image seal done =
+      ap (λ (b : Bool). b && int_eq (image 17) (pos (suc s.done))) ((Decides-int_eq (image 47) (pos (suc s.done))).1 seal)
+      ∙ (Decides-int_eq (image 17) (pos (suc s.done))).1 done
+
+  pub sealed_shows : (s : State) (image : Words) → image 17 ≡ pos s.done →
+      is_retired s image ≡ false
+  sealed_shows s image done =
+      ap (λ (b : Bool). int_eq (image 47) (pos (suc s.done)) && b) (not_eq (image 17) (pos (suc s.done)) (λ e. apart s.done (sym done ∙ e)))
+      ∙ and_false (int_eq (image 47) (pos (suc s.done)))
+    where
+      apart : (n : ℕ) → pos n ≡ pos (suc n) → ⊥
+      apart n e = let same : n ≡ suc n = cc in omega (arith, same)
+
+  -- what a recovery ran to a value
+  abbrev redone_by : Standing → Answer → List Pending
+  redone_by st (answer.RecoveredRedone value logged) = waiting_of st
+  redone_by st a = []
+
+  by_retired : (s : State) (image : Words) (b : Bool) (found : State) → is_retired s image ≡ b →
+      HasDone program s found (if b then waiting_of s.standing else []) [] →
+      HasDone program s found (retired_by s image) []
+  by_retired s image b found is h =
+      subst (λ (x : Bool). HasDone program s found (if x then waiting_of s.standing else []) []) (sym is) h
+
+  -- what is found
+  module _ (counts : Counts) (s found : State) (image : Words) where
+    abbrev Found : Type 0
+    Found = HasDone program s found (retired_by s image) []
+
+    finds_none : waiting_of s.standing ≡ [] → found ≡ standing_as (Down None) s → Found
+    finds_none none is =
+        subst (λ (ds : List Pending). HasDone program s found ds []) (sym (retired_none s image none)) (only_standing s found (Down None) [] is (part_none (waiting_of s.standing ++ [])))
+
+    finds_of : (owed : Pending) → s.standing ≡ Down (Some owed) →
+        FindsOf (Some owed) program counts s image found → Found
+    finds_of owed is (inl fresh) =
+        by_retired s image false found (fresh_shows s image fresh.0) (only_standing s found (Down None) [] fresh.1 (part_none (waiting_of s.standing ++ [])))
+    finds_of owed is (inr (inl retired)) =
+        let done = retired.2 in
+        let waiting : waiting_of s.standing ≡ owed ∷ [] = ap waiting_of is in
+        by_retired s image true found (retired_shows s image retired.0 retired.1)
+        (subst (λ (ds : List Pending). HasDone program s found ds []) (sym waiting)
+        (one_done counts s found owed.tx owed.args done.0 (Down None) [] refl done.1 (part_at s (Down (Some owed)) (owed ∷ []) is (part_same (owed ∷ [])))))
+    finds_of owed is (inr (inr sealed)) =
+        by_retired s image false found (sealed_shows s image sealed.1) (only_standing s found (Down (Some owed)) [] sealed.2 (part_at s (Down (Some owed)) (owed ∷ []) is (part_same (owed ∷ []))))
+
+    finds_done : (st : Standing) → s.standing ≡ st → Finds st program counts s image found → Found
+    finds_done Ready is finds = finds_none (ap waiting_of is) finds
+    finds_done (Down None) is finds = finds_none (ap waiting_of is) finds
+    finds_done (Down (Some owed)) is finds = finds_of owed is finds
+    finds_done (Unusable kind) is finds = absurd finds
+
+  rests_done : (s t : State) (image : Words) (a : Answer) → Rests program s image a t →
+      HasDone program s t (redone_by (Down None) a) []
   rests_done s t image answer.RecoveredNone is = only_standing s t Ready [] is (part_none (waiting_of s.standing ++ []))
   rests_done s t image answer.RefusedNumbers is = same_done s t [] is.1
   rests_done s t image (answer.Stopped p) is = same_done s t [] is.1
@@ -183,9 +274,11 @@ module _ (program : Program) where
   rests_done s t image answer.RefusedArity is = absurd is
   rests_done s t image (answer.RefusedPick line) is = absurd is
 
-  redoes_done : (counts : Counts) (owed : Pending) (s t : State) (image : Words) (a : Answer) → s.standing ≡ Down (Some owed) → Redoes program counts owed s image a t → HasDone program s t []
+  redoes_done : (counts : Counts) (owed : Pending) (s t : State) (image : Words) (a : Answer) →
+      s.standing ≡ Down (Some owed) → Redoes program counts owed s image a t →
+      HasDone program s t (redone_by (Down (Some owed)) a) []
   redoes_done counts owed s t image (answer.RecoveredRedone value logged) at is =
-      one_done s t owed.tx owed.args value Ready [] refl is.1 (part_at s (Down (Some owed)) (owed ∷ []) at (part_same (owed ∷ [])))
+      one_done counts s t owed.tx owed.args value Ready [] refl is.1 (part_at s (Down (Some owed)) (owed ∷ []) at (part_same (owed ∷ [])))
   redoes_done counts owed s t image (answer.RecoveredTrap kind) at is = only_standing s t (Unusable kind) [] is.1 (part_none (waiting_of s.standing ++ []))
   redoes_done counts owed s t image answer.RefusedNumbers at is = same_done s t [] is.1
   redoes_done counts owed s t image (answer.Stopped p) at is = same_done s t [] is.1
@@ -203,42 +296,88 @@ module _ (program : Program) where
   redoes_done counts owed s t image answer.RefusedArity at is = absurd is
   redoes_done counts owed s t image (answer.RefusedPick line) at is = absurd is
 
-  recovers_done : (counts : Counts) (s t : State) (image : Words) (a : Answer) (st : Standing) → s.standing ≡ st → Recovers st program counts s image a t → HasDone program s t []
+  recovers_done : (counts : Counts) (s t : State) (image : Words) (a : Answer) (st : Standing) →
+      s.standing ≡ st → Recovers st program counts s image a t →
+      HasDone program s t (redone_by st a) []
   recovers_done counts s t image a Ready at is = absurd is
   recovers_done counts s t image a (Down None) at is = rests_done s t image a is
   recovers_done counts s t image a (Down (Some owed)) at is = redoes_done counts owed s t image a at is
   recovers_done counts s t image a (Unusable kind) at is = absurd is
 
-  abbrev Back : Counts → State → State → Words → Answer → Type 0
-  Back counts s t image a = (image 19 ≡ pos 0) × ((found : State) × Finds s.standing program s image found × Recovers found.standing program counts found image a t)
+  -- the two together are what the cut has done
+  abbrev Parts : State → State → Words → Answer → Type 0
+  Parts s found image a = retired_by s image ++ redone_by found.standing a ≡ recovered_by s image a
 
-  back_done : (counts : Counts) (s t : State) (image : Words) (a : Answer) → Back counts s t image a → HasDone program s t []
-  back_done counts s t image a is =
-      let found : State = is.1.0 in
-      both s found t [] [] (finds_done s found image s.standing refl is.1.1) (recovers_done counts found t image a found.standing refl is.1.2)
+  redone_none :
+      (counts : Counts) (owed : Option Pending) (found t : State) (image : Words) (value : ℤ) (logged : ℕ) →
+      found.standing ≡ Down None →
+      Recovers found.standing program counts found image (answer.RecoveredRedone value logged) t → ⊥
+  redone_none counts owed found t image value logged is recovers =
+      subst (λ (st : Standing). Recovers st program counts found image (answer.RecoveredRedone value logged) t) is recovers
 
-  powers_done : (counts : Counts) (s t : State) (image : Words) (a : Answer) → Powers program counts s image a t → HasDone program s t []
-  powers_done counts s t image (answer.RefusedPick line) is = same_done s t [] is
-  powers_done counts s t image (answer.RefusedUnusable kind) is = only_standing s t (Unusable kind) [] is.2 (part_none (waiting_of s.standing ++ []))
-  powers_done counts s t image answer.Silent is = back_done counts s t image answer.Silent is
-  powers_done counts s t image (answer.Done value logged) is = back_done counts s t image (answer.Done value logged) is
-  powers_done counts s t image (answer.Trap kind) is = back_done counts s t image (answer.Trap kind) is
-  powers_done counts s t image (answer.Stopped p) is = back_done counts s t image (answer.Stopped p) is
-  powers_done counts s t image answer.DeviceFault is = back_done counts s t image answer.DeviceFault is
-  powers_done counts s t image answer.RecoveredNone is = back_done counts s t image answer.RecoveredNone is
-  powers_done counts s t image (answer.RecoveredRedone value logged) is = back_done counts s t image (answer.RecoveredRedone value logged) is
-  powers_done counts s t image (answer.RecoveredTrap kind) is = back_done counts s t image (answer.RecoveredTrap kind) is
-  powers_done counts s t image (answer.Shown text) is = back_done counts s t image (answer.Shown text) is
-  powers_done counts s t image (answer.Last n value) is = back_done counts s t image (answer.Last n value) is
-  powers_done counts s t image answer.NoMemory is = back_done counts s t image answer.NoMemory is
-  powers_done counts s t image answer.RefusedDown is = back_done counts s t image answer.RefusedDown is
-  powers_done counts s t image answer.RefusedUnknown is = back_done counts s t image answer.RefusedUnknown is
-  powers_done counts s t image answer.RefusedArity is = back_done counts s t image answer.RefusedArity is
-  powers_done counts s t image answer.RefusedNumbers is = back_done counts s t image answer.RefusedNumbers is
+  down_none : (found s : State) → found ≡ standing_as (Down None) s → found.standing ≡ Down None
+  down_none found s is = ap (λ (x : State). x.standing) is
+
+  redone_parts :
+      (counts : Counts) (s found t : State) (image : Words) (value : ℤ) (logged : ℕ) (st : Standing) →
+      s.standing ≡ st → Finds st program counts s image found
+      → Recovers found.standing program counts found image (answer.RecoveredRedone value logged) t →
+      Parts s found image (answer.RecoveredRedone value logged)
+  redone_parts counts s found t image value logged Ready is finds recovers =
+      absurd (redone_none counts None found t image value logged (down_none found s finds) recovers)
+  redone_parts counts s found t image value logged (Down None) is finds recovers =
+      absurd (redone_none counts None found t image value logged (down_none found s finds) recovers)
+  redone_parts counts s found t image value logged (Down (Some owed)) is (inl fresh) recovers =
+      absurd (redone_none counts None found t image value logged (down_none found s fresh.1) recovers)
+  redone_parts counts s found t image value logged (Down (Some owed)) is (inr (inl retired)) recovers =
+      absurd (redone_none counts None found t image value logged (ap (λ (x : State). x.standing) retired.2.1.2) recovers)
+  redone_parts counts s found t image value logged (Down (Some owed)) is (inr (inr sealed)) recovers =
+      ap (λ (b : Bool). (if b then waiting_of s.standing else []) ++ waiting_of found.standing) (sealed_shows s image sealed.1)
+      ∙ ap waiting_of (ap (λ (x : State). x.standing) sealed.2 ∙ sym is)
+  redone_parts counts s found t image value logged (Unusable kind) is finds recovers = absurd finds
+
+  -- where the recovery ran nothing to a value
+  module _ (counts : Counts) (s t : State) (image : Words) where
+    abbrev Back : Answer → Type 0
+    Back a =
+        (image 19 ≡ pos 0)
+        × ((found : State) × Finds s.standing program counts s image found × Recovers found.standing program counts found image a t)
+
+    back_with : (a : Answer) (is : Back a) → Parts s is.1.0 image a →
+        HasDone program s t (recovered_by s image a) []
+    back_with a is parts =
+        let found : State = is.1.0 in
+        subst (λ (ds : List Pending). HasDone program s t ds []) parts
+        (both s found t (retired_by s image) (redone_by found.standing a) [] [] (finds_done counts s found image s.standing refl is.1.1) (recovers_done counts found t image a found.standing refl is.1.2))
+
+    none : retired_by s image ++ [] ≡ retired_by s image
+    none = append-nil (retired_by s image)
+
+    pub powers_done : (a : Answer) → Powers program counts s image a t →
+        HasDone program s t (recovered_by s image a) []
+    powers_done (answer.RefusedPick line) is = same_done s t [] is
+    powers_done (answer.RefusedUnusable kind) is =
+        only_standing s t (Unusable kind) [] is.2 (part_none (waiting_of s.standing ++ []))
+    powers_done (answer.RecoveredRedone value logged) is =
+        back_with (answer.RecoveredRedone value logged) is (redone_parts counts s is.1.0 t image value logged s.standing refl is.1.1 is.1.2)
+    powers_done answer.Silent is = back_with answer.Silent is none
+    powers_done (answer.Done value logged) is = back_with (answer.Done value logged) is none
+    powers_done (answer.Trap kind) is = back_with (answer.Trap kind) is none
+    powers_done (answer.Stopped p) is = back_with (answer.Stopped p) is none
+    powers_done answer.DeviceFault is = back_with answer.DeviceFault is none
+    powers_done answer.RecoveredNone is = back_with answer.RecoveredNone is none
+    powers_done (answer.RecoveredTrap kind) is = back_with (answer.RecoveredTrap kind) is none
+    powers_done (answer.Shown text) is = back_with (answer.Shown text) is none
+    powers_done (answer.Last n value) is = back_with (answer.Last n value) is none
+    powers_done answer.NoMemory is = back_with answer.NoMemory is none
+    powers_done answer.RefusedDown is = back_with answer.RefusedDown is none
+    powers_done answer.RefusedUnknown is = back_with answer.RefusedUnknown is none
+    powers_done answer.RefusedArity is = back_with answer.RefusedArity is none
+    powers_done answer.RefusedNumbers is = back_with answer.RefusedNumbers is none
 
   -- `show` and `last`
 
-  tells_done : (s t : State) (a : Answer) → Tells program s a t → HasDone program s t []
+  tells_done : (s t : State) (a : Answer) → Tells program s a t → HasDone program s t [] []
   tells_done s t (answer.Shown text) is = same_done s t [] is.1
   tells_done s t answer.NoMemory is = only_standing s t (Down None) [] is (part_none (waiting_of s.standing ++ []))
   tells_done s t answer.Silent is = absurd is
@@ -257,31 +396,24 @@ module _ (program : Program) where
   tells_done s t answer.RefusedNumbers is = absurd is
   tells_done s t (answer.RefusedPick line) is = absurd is
 
-  shows_done : (s t : State) (a : Answer) (st : Standing) → Shows st program s a t → HasDone program s t []
+  shows_done : (s t : State) (a : Answer) (st : Standing) → Shows st program s a t →
+      HasDone program s t [] []
   shows_done s t a Ready is = tells_done s t a is
   shows_done s t a (Down owed) is = same_done s t [] is.1
   shows_done s t a (Unusable kind) is = same_done s t [] is.1
 
-  lasts_done : (s t : State) (a : Answer) (st : Standing) → Lasts st s a t → HasDone program s t []
+  lasts_done : (s t : State) (a : Answer) (st : Standing) → Lasts st s a t →
+      HasDone program s t [] []
   lasts_done s t a Ready is = same_done s t [] is.1
   lasts_done s t a (Down owed) is = same_done s t [] is.1
   lasts_done s t a (Unusable kind) is = same_done s t [] is.1
 
-  answer_done : (counts : Counts) (s t : State) (image : Words) (c : Command) (a : Answer) → Answers program counts s image c a t → HasDone program s t (call_in program c)
+  pub answer_done : (counts : Counts) (s t : State) (image : Words) (c : Command) (a : Answer) →
+      Answers program counts s image c a t →
+      HasDone program s t (done_by program s image c a) (call_in program c)
   answer_done counts s t image (command.Call name args) a is = calls_done counts s t image args s.standing name a is
   answer_done counts s t image (command.Stop left) a is = same_done s t [] is.1
   answer_done counts s t image (command.Fault at) a is = same_done s t [] is.1
   answer_done counts s t image (command.Power choice) a is = powers_done counts s t image a is
   answer_done counts s t image command.Show a is = shows_done s t a s.standing is
   answer_done counts s t image command.Last a is = lasts_done s t a s.standing is
-
-pub run_history : HistoryLaw
-run_history program counts super [] [] m n d b k k1 s t run = same_done program s t [] run.3
-run_history program counts super [] (a ∷ answers) m n d b k k1 s t run = absurd run
-run_history program counts super (c ∷ commands) [] m n d b k k1 s t run = absurd run
-run_history program counts super (c ∷ commands) (a ∷ answers) m n d b k k1 s t run =
-    let m1 : Mode = run.0 in
-    let d1 : Device = run.1 in
-    let s1 : State = run.3 in
-    both program s s1 t (call_in program c) (calls_in program commands) (answer_done program counts s s1 (found_by c d) c a run.5)
-    (run_history program counts super commands answers m1 n d1 b run.2 k1 s1 t run.7)

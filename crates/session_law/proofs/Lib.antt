@@ -1,11 +1,11 @@
 pub mod Words
+pub mod Coming
 pub mod Scripts
 pub mod Ones
 pub mod Retired
 pub mod Cleaning
 pub mod Redone
 pub mod Heaps
-pub mod Running
 pub mod Reading
 pub mod Resting
 pub mod Calls
@@ -18,3 +18,7 @@ pub mod Opening
 pub mod Steps
 pub mod Phases
 pub mod Histories
+pub mod Running
+pub mod Chains
+pub mod Unchanged
+pub mod Bounded

@@ -13,7 +13,7 @@ use Rattle.pool_layout.specs.Sizes.{pool_lines}
 use Rattle.pool_layout.specs.Image.{words_of}
 use Rattle.pool_layout.specs.Restored.{restored}
 use Rattle.pool_layout.specs.Opens.{Opens, IsOwed}
-use Rattle.pool_layout.specs.Opened.{wanted_rules}
+use Rattle.pool_layout.specs.Opened.{IsOpened, wanted_rules}
 use Rattle.pool_map.specs.declared.trap.TrapKind.{TrapKind}
 use Rattle.pool_map.specs.declared.trap.TrapKind.TheVariants as trap
 use Rattle.pool_map.specs.Trap.{trap_number}
@@ -34,6 +34,7 @@ use Rattle.cnvm_session.specs.declared.program.Program.{Program}
 use Rattle.cnvm_session.specs.Outcomes.{answer_of_recovery}
 use Rattle.cnvm_session.specs.Commands.{parameters_of}
 use Rattle.cnvm_session.specs.Opening.{opening_events}
+use Rattle.cnvm_session.specs.Outcomes as outcomes
 use Rattle.session_law.specs.Source.{Counts, sizes_of, pool_of}
 use Rattle.session_law.specs.Words.{AreWords, HasWords}
 use Rattle.session_law.specs.Agrees.{Agrees, RunsAs}
@@ -41,7 +42,6 @@ use Rattle.session_law.specs.State.{Down, Unusable, State}
 use Rattle.session_law.specs.Answers.{Powers}
 use Rattle.session_law.specs.Opened.{wanted_of, opened_heap, recorded_in, opened}
 use Rattle.session_law.specs.Holds.{OwesNone, OwesOne, Holds}
-use Rattle.session_law.specs.Law.{OpenedLaw}
 use Rattle.session_law.proofs.Words.{AreAll, pool_words, restored_words, recorded_words}
 use Rattle.session_law.proofs.Ones.{rest_images}
 use Rattle.session_law.proofs.Retired.{attempt_small}
@@ -271,7 +271,16 @@ module _ (program : Program) (counts : Counts) (agrees : Agrees program counts) 
   pub opened_held : HeldAs s.standing program image e s
   opened_held = by_mark (int_eq (image 19) (pos 0)) refl
 
-pub opened_answers : OpenedLaw
+-- what the recovery of an image's pool answers
+abbrev pub OpenedAnswers : Type 0
+OpenedAnswers =
+    (program : Program) (counts : Counts) (words : List ℤ) (n : Mode) (d b : Device) (a : Answer) (k k1 : ℕ) →
+    Agrees program counts → AreWords words → IsOpened (wanted_of program) words →
+    outcomes.Opens program.image words d a n b k k1 →
+    (t : State) × Powers program counts (opened program (words_of words)) (words_of words) a t
+    × Holds program (words_of words) n b t
+
+pub opened_answers : OpenedAnswers
 opened_answers program counts words n d b a k k1 agrees are is opens =
     let z : Sizes = sizes_of program in
     let e : Device = opens.opened in

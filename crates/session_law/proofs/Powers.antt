@@ -24,7 +24,7 @@ use Rattle.cnvm_session.specs.declared.program.Program.{Program}
 use Rattle.cnvm_session.specs.Outcomes.{IsRecovered, answer_of_recovery, mode_of_recovery}
 use Rattle.cnvm_session.specs.Commands as commanded
 use Rattle.cnvm_session.specs.Commands.{fallen}
-use Rattle.session_law.specs.Source.{Counts, means}
+use Rattle.session_law.specs.Source.{Counts, comes_to}
 use Rattle.session_law.specs.Agrees.{Agrees}
 use Rattle.session_law.specs.State.{Pending, Standing, Ready, Down, Unusable, State, standing_as, done_with}
 use Rattle.session_law.specs.Answers.{FindsOf, Finds, Recovers, IsMarked, Powers}
@@ -42,7 +42,9 @@ no_mark program counts (Down None) found t image kind is = is
 no_mark program counts (Down (Some owed)) found t image kind is = is
 no_mark program counts (Unusable trap) found t image kind is = is
 
-powers_of : (program : Program) (counts : Counts) (s found t : State) (image : Words) (r : RecoverAnswer) → image 19 ≡ pos 0 → Finds s.standing program s image found
+powers_of :
+    (program : Program) (counts : Counts) (s found t : State) (image : Words) (r : RecoverAnswer) →
+    image 19 ≡ pos 0 → Finds s.standing program counts s image found
     → Recovers found.standing program counts found image (answer_of_recovery r) t → Powers program counts s image (answer_of_recovery r) t
 powers_of program counts s found t image recovered.Clean mark finds is = (mark, (found, finds, is))
 powers_of program counts s found t image (recovered.Redone v l) mark finds is = (mark, (found, finds, is))
@@ -71,14 +73,16 @@ module _ (program : Program) (counts : Counts) (super : Words) (agrees : Agrees 
   abbrev Answered : Type 0
   Answered = (t : State) × Powers program counts s one (answer_of_recovery r) t × Holds program super (mode_of_recovery r) b t
 
-  from_none : Finds s.standing program s one (standing_as (Down None) s) → OwesNone program super e s → Answered
+  from_none : Finds s.standing program counts s one (standing_as (Down None) s) →
+      OwesNone program super e s → Answered
   from_none finds owes =
       let before : IsBefore pool s.done owes.heap s.last one = at_view (IsBefore pool s.done owes.heap s.last) e.cache owes.left in
       let done = rest_recovers program super e s owes.heap on rest owes.holds before r b k k1 is in
       (done.0, powers_of program counts s (standing_as (Down None) s) done.0 one r before.good.mark finds done.1, done.2)
 
   -- a mark is known
-  from_mark : (kind : TrapKind) → IsMarked s.standing program s kind → Lost pool (trap_number kind) one → Answered
+  from_mark : (kind : TrapKind) → IsMarked s.standing program counts s kind →
+      Lost pool (trap_number kind) one → Answered
   from_mark kind marks lost =
       let found = marked_recovers program e b kind r k k1 on lost.0 (is_marked (one 19) (trap_number kind) lost.0 lost.1) is in
       let holds : Holds program super (mode_of_recovery (recovered.Unusable kind)) b (standing_as (Unusable kind) s) =
@@ -99,18 +103,20 @@ module _ (program : Program) (counts : Counts) (super : Words) (agrees : Agrees 
     own : Meant program counts s owed h owes.end es
     own = meant program counts s owed h owes.end es owes.holds (agrees.runs h owed.tx owed.args owes.holds.headers (held_words program h s owes.holds) owes.words owes.takes) owes.ran
 
-    finds_as : (found : State) → FindsOf (Some owed) program s one found → Finds s.standing program s one found
-    finds_as found finds = subst (λ (x : Standing). Finds x program s one found) (sym standing) finds
+    finds_as : (found : State) → FindsOf (Some owed) program counts s one found →
+        Finds s.standing program counts s one found
+    finds_as found finds =
+        subst (λ (x : Standing). Finds x program counts s one found) (sym standing) finds
 
     at_end : (x : End) → owes.end ≡ x → IsEnd pool call (heap_end h es) (result_of x) one → Answered
     at_end (Halted v) ends seen =
-        let has : HasHalted program (means program s.pool owed.tx owed.args) v (heap_end h es) = halted program (means program s.pool owed.tx owed.args) owes.end v (heap_end h es) ends own.matches in
+        let has : HasHalted program (comes_to program counts s.pool owed.tx owed.args) v (heap_end h es) = halted program (comes_to program counts s.pool owed.tx owed.args) owes.end v (heap_end h es) ends own.matches in
         let found : State = done_with has.pool v (Down None) s in
         let done = rest_recovers program super e found (heap_end h es) on rest (record { headers = has.headers; pool = has.holds; words = has.words }) (record { good = seen.good; last_is = seen.last_is }) r b k k1 is in
         (done.0, powers_of program counts s found done.0 one r seen.good.mark (finds_as found (inr (inl (seen.seal_is, seen.good.done, (v, (has.pool, has.is, refl)))))) done.1, done.2)
     at_end (Trapped kind) ends lost =
         from_mark kind
-        (subst (λ (x : Standing). IsMarked x program s kind) (sym standing) (trapped program (means program s.pool owed.tx owed.args) owes.end kind (heap_end h es) ends own.matches))
+        (subst (λ (x : Standing). IsMarked x program counts s kind) (sym standing) (trapped program (comes_to program counts s.pool owed.tx owed.args) owes.end kind (heap_end h es) ends own.matches))
         lost
 
     at_cut : IsCut pool call (E es) (W es) h (heap_end h es) s.last (result_of owes.end) one → Answered
@@ -127,11 +133,13 @@ module _ (program : Program) (counts : Counts) (super : Words) (agrees : Agrees 
     from_one = at_cut (at_view (IsCut pool call (E es) (W es) h (heap_end h es) s.last (result_of owes.end)) e.cache owes.left)
 
   at_standing : (st : Standing) → s.standing ≡ st → HeldAs st program super e s → Answered
-  at_standing Ready standing held = from_none (subst (λ (x : Standing). Finds x program s one (standing_as (Down None) s)) (sym standing) refl) held
-  at_standing (Down None) standing held = from_none (subst (λ (x : Standing). Finds x program s one (standing_as (Down None) s)) (sym standing) refl) held
+  at_standing Ready standing held =
+      from_none (subst (λ (x : Standing). Finds x program counts s one (standing_as (Down None) s)) (sym standing) refl) held
+  at_standing (Down None) standing held =
+      from_none (subst (λ (x : Standing). Finds x program counts s one (standing_as (Down None) s)) (sym standing) refl) held
   at_standing (Down (Some owed)) standing held = from_one owed standing held
   at_standing (Unusable kind) standing held =
-      from_mark kind (subst (λ (x : Standing). IsMarked x program s kind) (sym standing) refl) (at_view (Lost pool (trap_number kind)) e.cache held)
+      from_mark kind (subst (λ (x : Standing). IsMarked x program counts s kind) (sym standing) refl) (at_view (Lost pool (trap_number kind)) e.cache held)
 
   pub held_recovers : HeldAs s.standing program super e s → Answered
   held_recovers held = at_standing s.standing refl held
@@ -165,9 +173,12 @@ module _ (program : Program) (super : Words) (choice : Choice) (d : Device) (s :
   left_held m (Unusable kind) holds = left_images (Lost (pool_with program.image super) (trap_number kind)) holds.1
 
 -- a pick that doesn't fit
-refused_pick : (program : Program) (counts : Counts) (super : Words) (image : Words) (m n : Mode) (d b : Device) (s : State) (a : Answer) (line : ℕ) → Holds program super m d s
-    → commanded.Refused (answer.RefusedPick line) m d a n b → (t : State) × Powers program counts s image a t × Holds program super n b t
-refused_pick program counts super image m n d b s a line holds refused = (
+refused_pick :
+    (program : Program) (counts : Counts) (super : Words) (image : Words) (m n : Mode) (d b : Device) (s : State) (a : Answer) (line k k1 : ℕ) →
+    Holds program super m d s
+    → commanded.Refused (answer.RefusedPick line) m d a n b k k1 →
+    (t : State) × Powers program counts s image a t × Holds program super n b t
+refused_pick program counts super image m n d b s a line k k1 holds refused = (
   s,
   subst (λ (x : Answer). Powers program counts s image x s) (sym refused.0) refl,
   subst (λ (x : Mode). Holds program super x b s) (sym refused.1) (subst (λ (x : Device). Holds program super m x s) (sym refused.2) holds),
@@ -177,8 +188,10 @@ module _ (program : Program) (counts : Counts) (super : Words) (agrees : Agrees 
     (holds : Holds program super m d s) (powers : commanded.Powers program.image choice m d a n b k k1) where
   by_picks : (first pick : Option ℕ) → fallen 0 choice.picks ≡ first → bad (memory_of d) choice.picks ≡ pick
       → (t : State) × Powers program counts s (view (powered choice d).cache) a t × Holds program super n b t
-  by_picks (Some line) pick falls is = refused_pick program counts super (view (powered choice d).cache) m n d b s a line holds (powers.0 line falls)
-  by_picks None (Some line) rises is = refused_pick program counts super (view (powered choice d).cache) m n d b s a line holds (powers.1 line rises is)
+  by_picks (Some line) pick falls is =
+      refused_pick program counts super (view (powered choice d).cache) m n d b s a line k k1 holds (powers.0 line falls)
+  by_picks None (Some line) rises is =
+      refused_pick program counts super (view (powered choice d).cache) m n d b s a line k k1 holds (powers.1 line rises is)
   by_picks None None rises fits =
       let recovers = powers.2 rises fits in
       let done =

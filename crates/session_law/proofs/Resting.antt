@@ -26,7 +26,7 @@ use Rattle.crash_law.specs.Law.{IsAtRest}
 use Rattle.run_law.specs.Sound.{IsSoundRun}
 use Rattle.cut_law.specs.Law.{pool_with}
 use Rattle.cnvm_session.specs.declared.program.Program.{Program}
-use Rattle.session_law.specs.Source.{Counts, sizes_of, means, pool_of, HasHeaders}
+use Rattle.session_law.specs.Source.{Counts, sizes_of, comes_to, pool_of, HasHeaders}
 use Rattle.session_law.specs.Words.{HasWords}
 use Rattle.session_law.specs.Agrees.{Matches, RunsAs}
 use Rattle.session_law.specs.State.{Pending, State}
@@ -100,7 +100,7 @@ halted_of program (Done pool value) v h is = record { pool = pool; is = ap (Done
 halted_of program (Trap trap) v h is = absurd is
 
 trapped_of : (program : Program) (o : Outcome) (kind : TrapKind) (h : Words) → Matches program o (Trapped kind) h → TrapsAs o kind
-trapped_of program (Done pool value) kind h is = is
+trapped_of program (Done pool value) kind h is = absurd is
 trapped_of program (Trap trap) kind h is = is
 
 pub halted : (program : Program) (o : Outcome) (end : End) (v : ℤ) (h : Words) → end ≡ Halted v → Matches program o end h → HasHalted program o v h
@@ -112,8 +112,9 @@ trapped program o end kind h is matches = trapped_of program o kind h (subst (λ
 -- what the source says of the run that is known
 pub record Meant (program : Program) (counts : Counts) (s : State) (owed : Pending) (h : Words) (end : End) (es : List Effect) : Type 0 where
   pub sound : IsSoundRun end es
-  pub matches : Matches program (means program s.pool owed.tx owed.args) end (heap_end h es)
-  pub counted : (v : ℤ) → end ≡ Halted v → counts s.pool owed.tx owed.args (records_end 0 es) ≡ true
+  pub matches :
+      Matches program (comes_to program counts s.pool owed.tx owed.args) end (heap_end h es)
+  pub counted : (v : ℤ) → end ≡ Halted v → records_end 0 es ≡ counts s.pool owed.tx owed.args
 
 pub meant : (program : Program) (counts : Counts) (s : State) (owed : Pending) (h : Words) (end : End) (es : List Effect) → HoldsPool program h s → RunsAs program counts h owed.tx owed.args
     → mrun program.image program.image.parts.most h owed.tx owed.args ≡ Finished end es → Meant program counts s owed h end es
@@ -121,13 +122,15 @@ meant program counts s owed h end es holds runs ran =
     let same_end : runs.end ≡ end = let e = sym runs.ran ∙ ran in cc in
     let same_effects : runs.effects ≡ es = let e = sym runs.ran ∙ ran in cc in
     let sound : IsSoundRun end es = subst (λ (e : End). IsSoundRun e es) same_end (subst (λ (fs : List Effect). IsSoundRun runs.end fs) same_effects runs.sound) in
-    let o : Outcome = means program (pool_of program h) owed.tx owed.args in
+    let o : Outcome = comes_to program counts (pool_of program h) owed.tx owed.args in
     let own : Matches program o end (heap_end h es) =
     subst (λ (e : End). Matches program o e (heap_end h es)) same_end (subst (λ (fs : List Effect). Matches program o runs.end (heap_end h fs)) same_effects runs.matches) in
-    let number : (v : ℤ) → end ≡ Halted v → counts (pool_of program h) owed.tx owed.args (records_end 0 es) ≡ true =
-    λ v is. subst (λ (fs : List Effect). counts (pool_of program h) owed.tx owed.args (records_end 0 fs) ≡ true) same_effects (runs.counted v (same_end ∙ is)) in
+    let number : (v : ℤ) → end ≡ Halted v → records_end 0 es ≡ counts (pool_of program h) owed.tx owed.args =
+    λ v is. subst (λ (fs : List Effect). records_end 0 fs ≡ counts (pool_of program h) owed.tx owed.args) same_effects (runs.counted v (same_end ∙ is)) in
     record {
       sound = sound;
-      matches = subst (λ (p : PoolMap). Matches program (means program p owed.tx owed.args) end (heap_end h es)) holds.pool own;
-      counted = λ v is. subst (λ (p : PoolMap). counts p owed.tx owed.args (records_end 0 es) ≡ true) holds.pool (number v is);
+      matches =
+          subst (λ (p : PoolMap). Matches program (comes_to program counts p owed.tx owed.args) end (heap_end h es)) holds.pool own;
+      counted =
+          λ v is. subst (λ (p : PoolMap). records_end 0 es ≡ counts p owed.tx owed.args) holds.pool (number v is);
     }

@@ -106,7 +106,8 @@ module _ (program : Program) (counts : Counts) (super : Words) (agrees : Agrees 
   by_answer : (r : RecoverAnswer) → IsRedone (answer_of_recovery r) → IsRecovered r program.image e b k k1 → Taken
   by_answer r redone is = at_cut r redone (at_left (IsCut pool call (E es) (W es) h (heap_end h es) s.last (result_of owes.end)) d.cache choice.rest choice.picks owes.left) is
 
-  not_pick : (m n : Mode) (a : Answer) (line : ℕ) → IsRedone a → commanded.Refused (answer.RefusedPick line) m d a n b → ⊥
+  not_pick : (m n : Mode) (a : Answer) (line : ℕ) → IsRedone a →
+      commanded.Refused (answer.RefusedPick line) m d a n b k k1 → ⊥
   not_pick m n a line redone refused = subst IsRedone refused.0 redone
 
   by_picks : (m n : Mode) (a : Answer) → IsRedone a → commanded.Powers program.image choice m d a n b k k1 → (first pick : Option ℕ) → fallen 0 choice.picks ≡ first → bad (memory_of d) choice.picks ≡ pick → Taken

@@ -5,7 +5,6 @@ use Rattle.std.specs.Prelude.{ℕ, suc, ◌≡◌, ◌≢◌, ◌⊎◌, ◌==�
 use Rattle.pmem.specs.declared.answer.Phase.TheVariants as phase
 use Rattle.pool_layout.specs.Image.{Words}
 use Rattle.pool_map.specs.declared.trap.TrapKind.{TrapKind}
-use Rattle.pool_map.specs.declared.trap.TrapKind.TheVariants.{LogFull}
 use Rattle.pool_map.specs.Trap.{trap_number}
 use Rattle.pool_map.specs.PoolMap.{PoolMap}
 use Rattle.pool_map.specs.PoolText.{pool_text}
@@ -20,22 +19,24 @@ use Rattle.cnvm_session.specs.declared.answer.Answer.{Answer}
 use Rattle.cnvm_session.specs.declared.answer.Answer.TheVariants as answer
 use Rattle.cnvm_session.specs.declared.program.Program.{Program}
 use Rattle.cnvm_session.specs.Commands.{number_of}
-use Rattle.session_law.specs.Source.{Counts, sizes_of, parameters, means}
+use Rattle.session_law.specs.Source.{Counts, sizes_of, parameters, comes_to}
 use Rattle.session_law.specs.State.{Pending, Standing, Ready, Down, Unusable, State, standing_as, done_with}
 
 -- this answer, and nothing changes
 abbrev pub Refused : Answer → State → Answer → State → Type 0
 Refused why s a t = (a ≡ why) × (t ≡ s)
 
--- The transaction is done: the source gives this value, and the pool.
-abbrev pub IsDoneWith : Program → State → (tx : ℕ) → List ℤ → (value : ℤ) → Standing → State → Type 0
-IsDoneWith program s tx args value standing t =
-    (pool : PoolMap) × (means program s.pool tx args ≡ Done pool value) × (t ≡ done_with pool value standing s)
+-- The transaction is done: it comes to this value, and the pool.
+abbrev pub IsDoneWith : Program → Counts → State → (tx : ℕ) → List ℤ → (value : ℤ) → Standing →
+    State → Type 0
+IsDoneWith program counts s tx args value standing t =
+    (pool : PoolMap) × (comes_to program counts s.pool tx args ≡ Done pool value)
+    × (t ≡ done_with pool value standing s)
 
--- the source's trap, or that of a full log, which is the runtime's
+-- the trap that it comes to
 abbrev pub TrapsAs : Outcome → TrapKind → Type 0
-TrapsAs (Done pool value) kind = kind ≡ LogFull
-TrapsAs (Trap trap) kind = (kind ≡ trap) ⊎ (kind ≡ LogFull)
+TrapsAs (Done pool value) kind = ⊥
+TrapsAs (Trap trap) kind = kind ≡ trap
 
 -- the transaction was interrupted
 abbrev pub IsCutOff : State → (tx : ℕ) → List ℤ → State → Type 0
@@ -43,8 +44,10 @@ IsCutOff s tx args t = t ≡ standing_as (Down (Some (record { tx = tx; args = a
 
 -- how a call of a transaction is answered that takes these arguments
 abbrev pub Runs : Program → Counts → State → Words → (tx : ℕ) → List ℤ → Answer → State → Type 0
-Runs program counts s image tx args (answer.Done value logged) t = (counts s.pool tx args logged ≡ true) × IsDoneWith program s tx args value Ready t
-Runs program counts s image tx args (answer.Trap kind) t = TrapsAs (means program s.pool tx args) kind × (t ≡ standing_as (Unusable kind) s)
+Runs program counts s image tx args (answer.Done value logged) t =
+    (logged ≡ counts s.pool tx args) × IsDoneWith program counts s tx args value Ready t
+Runs program counts s image tx args (answer.Trap kind) t =
+    TrapsAs (comes_to program counts s.pool tx args) kind × (t ≡ standing_as (Unusable kind) s)
 Runs program counts s image tx args (answer.Stopped at) t = IsCutOff s tx args t
 Runs program counts s image tx args answer.DeviceFault t = IsCutOff s tx args t
 Runs program counts s image tx args answer.NoMemory t = IsCutOff s tx args t
@@ -90,17 +93,17 @@ HasSeal s image = image 47 ≡ pos (suc s.done)
 
 -- What is known of an owed transaction once the power is back: the image hasn't its seal, and nothing of it is done; or it was
 -- done before the cut; or it is owed still.
-abbrev pub FindsOf : Option Pending → Program → State → Words → State → Type 0
-FindsOf None program s image t = t ≡ standing_as (Down None) s
-FindsOf (Some owed) program s image t =
+abbrev pub FindsOf : Option Pending → Program → Counts → State → Words → State → Type 0
+FindsOf None program counts s image t = t ≡ standing_as (Down None) s
+FindsOf (Some owed) program counts s image t =
     ((image 47 ≢ pos (suc s.done)) × (t ≡ standing_as (Down None) s))
-    ⊎ ((HasSeal s image × (image 17 ≡ pos (suc s.done)) × ((value : ℤ) × IsDoneWith program s owed.tx owed.args value (Down None) t))
+    ⊎ ((HasSeal s image × (image 17 ≡ pos (suc s.done)) × ((value : ℤ) × IsDoneWith program counts s owed.tx owed.args value (Down None) t))
     ⊎ (HasSeal s image × (image 17 ≡ pos s.done) × (t ≡ standing_as (Down (Some owed)) s)))
 
-abbrev pub Finds : Standing → Program → State → Words → State → Type 0
-Finds Ready program s image t = FindsOf None program s image t
-Finds (Down owed) program s image t = FindsOf owed program s image t
-Finds (Unusable kind) program s image t = ⊥
+abbrev pub Finds : Standing → Program → Counts → State → Words → State → Type 0
+Finds Ready program counts s image t = FindsOf None program counts s image t
+Finds (Down owed) program counts s image t = FindsOf owed program counts s image t
+Finds (Unusable kind) program counts s image t = ⊥
 
 -- no attempt can follow, so nothing changes
 abbrev pub HasNumbers : Program → Words → State → State → Type 0
@@ -117,8 +120,12 @@ Rests program s image a t = ⊥
 
 -- and where a transaction is
 abbrev pub Redoes : Program → Counts → Pending → State → Words → Answer → State → Type 0
-Redoes program counts owed s image (answer.RecoveredRedone value logged) t = (counts s.pool owed.tx owed.args logged ≡ true) × IsDoneWith program s owed.tx owed.args value Ready t
-Redoes program counts owed s image (answer.RecoveredTrap kind) t = TrapsAs (means program s.pool owed.tx owed.args) kind × (t ≡ standing_as (Unusable kind) s)
+Redoes program counts owed s image (answer.RecoveredRedone value logged) t =
+    (logged ≡ counts s.pool owed.tx owed.args)
+    × IsDoneWith program counts s owed.tx owed.args value Ready t
+Redoes program counts owed s image (answer.RecoveredTrap kind) t =
+    TrapsAs (comes_to program counts s.pool owed.tx owed.args) kind
+    × (t ≡ standing_as (Unusable kind) s)
 Redoes program counts owed s image answer.RefusedNumbers t = HasNumbers program image s t
 Redoes program counts owed s image (answer.Stopped at) t = (at ≡ phase.Sealed) × (t ≡ s)
 Redoes program counts owed s image answer.DeviceFault t = t ≡ s
@@ -132,18 +139,22 @@ Recovers (Down (Some owed)) program counts s image a t = Redoes program counts o
 Recovers (Unusable kind) program counts s image a t = ⊥
 
 -- the pool has a mark: a trap of the owed transaction, or one that was answered before
-abbrev pub IsMarked : Standing → Program → State → TrapKind → Type 0
-IsMarked Ready program s kind = ⊥
-IsMarked (Down None) program s kind = ⊥
-IsMarked (Down (Some owed)) program s kind = TrapsAs (means program s.pool owed.tx owed.args) kind
-IsMarked (Unusable trap) program s kind = kind ≡ trap
+abbrev pub IsMarked : Standing → Program → Counts → State → TrapKind → Type 0
+IsMarked Ready program counts s kind = ⊥
+IsMarked (Down None) program counts s kind = ⊥
+IsMarked (Down (Some owed)) program counts s kind =
+    TrapsAs (comes_to program counts s.pool owed.tx owed.args) kind
+IsMarked (Unusable trap) program counts s kind = kind ≡ trap
 
 -- A pick that doesn't fit changes nothing. Else the mark is looked at first; then what is owed is found, and recovered.
 abbrev pub Powers : Program → Counts → State → Words → Answer → State → Type 0
 Powers program counts s image (answer.RefusedPick line) t = t ≡ s
 Powers program counts s image (answer.RefusedUnusable kind) t =
-    (image 19 ≡ pos (trap_number kind)) × IsMarked s.standing program s kind × (t ≡ standing_as (Unusable kind) s)
-Powers program counts s image a t = (image 19 ≡ pos 0) × ((found : State) × Finds s.standing program s image found × Recovers found.standing program counts found image a t)
+    (image 19 ≡ pos (trap_number kind)) × IsMarked s.standing program counts s kind
+    × (t ≡ standing_as (Unusable kind) s)
+Powers program counts s image a t =
+    (image 19 ≡ pos 0)
+    × ((found : State) × Finds s.standing program counts s image found × Recovers found.standing program counts found image a t)
 
 abbrev pub Answers : Program → Counts → State → Words → Command → Answer → State → Type 0
 Answers program counts s image (command.Call name args) a t = Calls s.standing program counts s image name args a t

@@ -1,5 +1,5 @@
 -- A session of a program does what the program's source says.
-use Rattle.std.specs.Prelude.{ℕ, suc, ◌+◌, ◌≡◌, ◌≢◌, ◌⊎◌, List, [], ◌∷◌, length, Some, Ok, ℤ, pos, slice_index_or}
+use Rattle.std.specs.Prelude.{ℕ, suc, ◌+◌, ◌*◌, ◌≤◌, ◌≡◌, ◌≢◌, ◌⊎◌, List, [], ◌∷◌, ◌++◌, length, Some, Ok, ℤ, pos, slice_index_or}
 use Rattle.std.specs.List.{AllByRecursion}
 use Rattle.cache_model.specs.Cache.{view}
 use Rattle.cache_model.specs.Image.{Images}
@@ -11,7 +11,9 @@ use Rattle.pmem.specs.declared.answer.Phase.TheVariants as phase
 use Rattle.pool_layout.specs.Sizes.{pool_lines}
 use Rattle.pool_layout.specs.Image.{Words, words_of}
 use Rattle.pool_layout.specs.Opened.{IsOpened}
+use Rattle.pool_map.specs.PoolMap.{PoolMap, empty_pool}
 use Rattle.clobber_log.specs.Logs.{count_in}
+use Rattle.pm_machine.specs.Runs.{heap_in}
 use Rattle.cnvm_script.specs.declared.command.Command.{Command}
 use Rattle.cnvm_script.specs.declared.command.Command.TheVariants as command
 use Rattle.cnvm_script.specs.Commands.{script_meaning}
@@ -21,21 +23,19 @@ use Rattle.cnvm_session.specs.declared.mode.Mode.{Mode}
 use Rattle.cnvm_session.specs.declared.mode.Mode.TheVariants.{Ready}
 use Rattle.cnvm_session.specs.declared.program.Program.{Program}
 use Rattle.cnvm_session.specs.Commands.{Commanded}
+use Rattle.cnvm_session.specs.Laws.{IsRefused}
 use Rattle.cnvm_session.specs.Outcomes.{Opens}
 use Rattle.cnvm_session.specs.Created.{magic_word, creation_events}
-use Rattle.session_law.specs.Source.{Counts, sizes_of}
+use Rattle.session_law.specs.Source.{Counts, sizes_of, pool_of}
 use Rattle.session_law.specs.Words.{AreWords}
 use Rattle.session_law.specs.Agrees.{Agrees}
 use Rattle.session_law.specs.State.{Pending, Down, State, standing_as, created}
 use Rattle.session_law.specs.State as state
-use Rattle.session_law.specs.Answers.{HasSeal, IsDoneWith, Powers, Answers}
+use Rattle.session_law.specs.Answers.{HasSeal, IsDoneWith, Answers}
 use Rattle.session_law.specs.Opened.{wanted_of, opened}
 use Rattle.session_law.specs.Holds.{OwesOne, Holds}
-
--- the image that a command finds: what a power cut leaves, or else the view
-abbrev pub found_by : Command → Device → Words
-found_by (command.Power choice) d = view (powered choice d).cache
-found_by c d = view d.cache
+use Rattle.session_law.specs.History.{recovered_by, after, calls_in, answered_in, IsPart, HasDone}
+use Rattle.session_law.specs.Ran.{found_by, Moment, Step, Ran, begun, OpenStep}
 
 -- the arguments of a command are words
 abbrev pub IsWordCommand : Command → Type 0
@@ -59,14 +59,16 @@ IsCompleted answer.RecoveredNone = Unit {0}
 IsCompleted (answer.RecoveredRedone value logged) = Unit {0}
 IsCompleted a = ⊥
 
--- Exactly if sealed: behind the next completed recovery an owed transaction is done where the image that the power cut left has
--- its seal, and else nothing of it was done.
+-- Exactly if sealed: after the next completed recovery an owed transaction is done, and in the
+-- history, where the image that the power cut left has its seal; else nothing of it was done, and
+-- the history is as it was.
 abbrev pub SealedLaw : Type 0
 SealedLaw =
-    (program : Program) (counts : Counts) (choice : Choice) (owed : Pending) (s t : State) (image : Words) (a : Answer) →
-    s.standing ≡ Down (Some owed) → IsCompleted a → Answers program counts s image (command.Power choice) a t →
-    (HasSeal s image × ((value : ℤ) × IsDoneWith program s owed.tx owed.args value state.Ready t))
-    ⊎ ((image 47 ≢ pos (suc s.done)) × (t ≡ standing_as state.Ready s))
+    (program : Program) (counts : Counts) (super : Words) (choice : Choice) (owed : Pending) (x y : Moment) (a : Answer) →
+    x.state.standing ≡ Down (Some owed) → IsCompleted a →
+    Step program counts super (command.Power choice) x a y →
+    (HasSeal x.state (view (powered choice x.device).cache) × (y.history ≡ x.history ++ owed ∷ []) × ((value : ℤ) × IsDoneWith program counts x.state owed.tx owed.args value state.Ready y.state))
+    ⊎ ((view (powered choice x.device).cache 47 ≢ pos (suc x.state.done)) × (y.history ≡ x.history) × (y.state ≡ standing_as state.Ready x.state))
 
 -- what the phase in which a call was stopped tells of an image that a power cut leaves
 abbrev pub HasPhase : Phase → State → Words → Type 0
@@ -116,7 +118,8 @@ abbrev pub OpenedLaw : Type 0
 OpenedLaw =
     (program : Program) (counts : Counts) (words : List ℤ) (n : Mode) (d b : Device) (a : Answer) (k k1 : ℕ) →
     Agrees program counts → AreWords words → IsOpened (wanted_of program) words → Opens program.image words d a n b k k1 →
-    (t : State) × Powers program counts (opened program (words_of words)) (words_of words) a t × Holds program (words_of words) n b t
+    (t : State)
+    × OpenStep program counts words d k a (record { mode = n; device = b; steps = k1; state = t; history = recovered_by (opened program (words_of words)) (words_of words) a })
 
 -- The commands of a session, one after another, with their answers.
 abbrev pub RunsAll : Program → List Command → List Answer → Mode → Device → ℕ → Mode → Device → ℕ → Type 0
@@ -126,17 +129,78 @@ RunsAll program (c ∷ commands) [] m d k n b k1 = ⊥
 RunsAll program (c ∷ commands) (a ∷ answers) m d k n b k1 =
     (m1 : Mode) × (d1 : Device) × (k2 : ℕ) × Commanded program c m d a m1 d1 k k2 × RunsAll program commands answers m1 d1 k2 n b k1
 
--- Each of them is answered as the source says, from state to state, and at each moment the device holds what the source knows.
-abbrev pub AnswersAll : Program → Counts → Words → List Command → List Answer → Mode → Device → ℕ → State → Mode → Device → ℕ → State → Type 0
-AnswersAll program counts super [] [] m d k s n b k1 t = (n ≡ m) × (b ≡ d) × (k1 ≡ k) × (t ≡ s)
-AnswersAll program counts super [] (a ∷ answers) m d k s n b k1 t = ⊥
-AnswersAll program counts super (c ∷ commands) [] m d k s n b k1 t = ⊥
-AnswersAll program counts super (c ∷ commands) (a ∷ answers) m d k s n b k1 t =
-    (m1 : Mode) × (d1 : Device) × (k2 : ℕ) × (s1 : State) × Commanded program c m d a m1 d1 k k2 × Answers program counts s (found_by c d) c a s1
-    × Holds program super m1 d1 s1 × AnswersAll program counts super commands answers m1 d1 k2 s1 n b k1 t
-
+-- They are a chain of steps, each answered as the source says.
 abbrev pub RunLaw : Type 0
 RunLaw =
-    (program : Program) (counts : Counts) (super : Words) (commands : List Command) (answers : List Answer) (m n : Mode) (d b : Device) (k k1 : ℕ) (s : State) →
-    Agrees program counts → AllByRecursion IsWordCommand commands → Holds program super m d s → RunsAll program commands answers m d k n b k1 →
-    (t : State) × AnswersAll program counts super commands answers m d k s n b k1 t × Holds program super n b t
+    (program : Program) (counts : Counts) (super : Words) (commands : List Command) (answers : List Answer) (x : Moment) (n : Mode) (b : Device) (k1 : ℕ) →
+    Agrees program counts → AllByRecursion IsWordCommand commands →
+    Holds program super x.mode x.device x.state →
+    RunsAll program commands answers x.mode x.device x.steps n b k1 →
+    (t : State) × (history : List Pending)
+    × Ran program counts super commands answers x (record { mode = n; device = b; steps = k1; state = t; history = history })
+
+-- At each moment of a chain the device holds what the source knows.
+abbrev pub KeptLaw : Type 0
+KeptLaw =
+    (program : Program) (counts : Counts) (super : Words) (commands : List Command) (answers : List Answer) (x y : Moment) →
+    Holds program super x.mode x.device x.state → Ran program counts super commands answers x y →
+    Holds program super y.mode y.device y.state
+
+-- What a chain has done: the history has grown by these transactions, and each call that was
+-- answered with a value is one of them.
+pub record HasGrown (program : Program) (commands : List Command) (answers : List Answer) (x y : Moment) : Type 0 where
+  pub done : List Pending
+  pub history : y.history ≡ x.history ++ done
+  pub does : HasDone program x.state y.state done (calls_in program commands)
+  pub answered : IsPart (answered_in program commands answers) done
+
+-- Never twice: each call is in the history at most once, and it is there if it was answered with a
+-- value.
+abbrev pub HistoryLaw : Type 0
+HistoryLaw =
+    (program : Program) (counts : Counts) (super : Words) (commands : List Command) (answers : List Answer) (x y : Moment) →
+    Ran program counts super commands answers x y → HasGrown program commands answers x y
+
+-- The pool that the source knows is what it gives from the first one after the history, of which
+-- each transaction is counted.
+abbrev pub IsAfter : Program → (first : PoolMap) → (count : ℕ) → Moment → Type 0
+IsAfter program first count x =
+    (after program first x.history ≡ Some x.state.pool) × (x.state.done ≡ count + length x.history)
+
+-- Whole or not at all: wherever a session takes calls, the device's own heap holds the pool that
+-- the source gives after the history.
+abbrev pub WholeLaw : Type 0
+WholeLaw =
+    (program : Program) (counts : Counts) (super : Words) (first : PoolMap) (count : ℕ) (commands : List Command) (answers : List Answer) (x y : Moment) →
+    Holds program super x.mode x.device x.state → IsAfter program first count x →
+    Ran program counts super commands answers x y →
+    IsAfter program first count y
+    × (y.state.standing ≡ state.Ready → after program first y.history ≡ Some (pool_of program (heap_in (sizes_of program) y.device.cache)))
+
+-- Both beginnings: a new pool is the empty one with nothing done; an opened one is what the source
+-- gives from the image's pool.
+abbrev pub BegunLaw : Type 0
+BegunLaw =
+    ((program : Program) (d : Device) (k : ℕ) → IsAfter program (empty_pool (sizes_of program).root_words (sizes_of program).slots) 0 (begun program d k))
+    × ((program : Program) (counts : Counts) (words : List ℤ) (d : Device) (k : ℕ) (a : Answer) (y : Moment) → OpenStep program counts words d k a y →
+    IsAfter program (opened program (words_of words)).pool (opened program (words_of words)).done y)
+
+-- A command that is refused, as a power cut is whose pick doesn't fit, changes nothing: not the
+-- device, not what the source knows, and not the history; nor does it take a step.
+abbrev pub UnchangedLaw : Type 0
+UnchangedLaw =
+    (program : Program) (counts : Counts) (super : Words) (c : Command) (x : Moment) (a : Answer) (y : Moment) →
+    IsRefused c a → Step program counts super c x a y →
+    (y.device ≡ x.device) × (y.state ≡ x.state) × (y.history ≡ x.history) × (y.steps ≡ x.steps)
+
+-- the most steps of a command: one for each record of the log, and those that the image allows a
+-- run
+abbrev pub most_steps : Program → ℕ
+most_steps program = (sizes_of program).records + program.image.parts.most
+
+-- Each command of a chain ends within so many steps.
+abbrev pub BoundLaw : Type 0
+BoundLaw =
+    (program : Program) (counts : Counts) (super : Words) (commands : List Command) (answers : List Answer) (x y : Moment) →
+    Ran program counts super commands answers x y →
+    y.steps ≤ x.steps + length commands * most_steps program

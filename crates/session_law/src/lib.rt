@@ -1,11 +1,11 @@
 //! A session does what the source says. It stands on `cnvm_session`, whose commands are answered as the
 //! machine's image and the device make it, on the meaning of `c_meaning`, and on the laws of `cut_law`.
-//! Its one contract for the crates above: where the image agrees with its source, each command is
-//! answered as the source says, and a transaction that was cut is done exactly if it was sealed.
+//! Its one contract for the crates above: where the image agrees with its source, a session is a chain
+//! of steps, each answered as the source says; a transaction that was cut is done exactly if it was
+//! sealed, each is done at most once, and the pool is what the source gives after those that are done.
 #![tactic(auto)]
 
-ghost use Rattle.session_law.specs.Law.{SessionLaw, SealedLaw, PhaseLaw, StepsLaw, CreatedLaw, OpenedLaw, RunLaw, ScriptLaw};
-ghost use Rattle.session_law.specs.History.{HistoryLaw};
+ghost use Rattle.session_law.specs.Law.{SessionLaw, SealedLaw, PhaseLaw, StepsLaw, CreatedLaw, OpenedLaw, RunLaw, KeptLaw, HistoryLaw, BegunLaw, WholeLaw, UnchangedLaw, BoundLaw, ScriptLaw};
 
 /// Each command of a session is answered as the source says. It does nothing.
 pub fn law()
@@ -16,6 +16,11 @@ pub fn law()
     ensures created { CreatedLaw }
     ensures opened { OpenedLaw }
     ensures run { RunLaw }
+    ensures kept { KeptLaw }
     ensures history { HistoryLaw }
+    ensures begun { BegunLaw }
+    ensures whole { WholeLaw }
+    ensures unchanged { UnchangedLaw }
+    ensures bound { BoundLaw }
     ensures script { ScriptLaw }
 {}

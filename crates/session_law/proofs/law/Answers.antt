@@ -1,11 +1,13 @@
 use Rattle.session_law.proofs.Commands.{each_command}
 use Rattle.session_law.proofs.Creating.{created_rests}
-use Rattle.session_law.proofs.Histories.{run_history}
+use Rattle.session_law.proofs.Chains.{run_chain, chain_kept, chain_grows, chain_whole, created_after, opened_after, open_step}
 use Rattle.session_law.proofs.Opening.{opened_answers}
 use Rattle.session_law.proofs.Phases.{stopped_phase}
 use Rattle.session_law.proofs.Scripts.{script_words}
 use Rattle.session_law.proofs.Steps.{redone_steps}
-use Rattle.session_law.proofs.Running.{exactly_sealed, runs_on}
+use Rattle.session_law.proofs.Running.{exactly_sealed}
+use Rattle.session_law.proofs.Unchanged.{step_unchanged}
+use Rattle.session_law.proofs.Bounded.{chain_bounded}
 use Rattle.session_law.proofs.law.Goals as goal
 
 pub returns-clause-session : goal.returns-clause-session
@@ -24,15 +26,28 @@ pub returns-clause-created : goal.returns-clause-created
 returns-clause-created c = created_rests
 
 pub returns-clause-opened : goal.returns-clause-opened
-returns-clause-opened c = opened_answers
+returns-clause-opened c = open_step opened_answers
 
 pub returns-clause-run : goal.returns-clause-run
-returns-clause-run c = λ program counts super commands answers m n d b k k1 s agrees words holds runs.
-    runs_on each_command program counts super agrees commands answers m n d b k k1 s words holds runs
+returns-clause-run c = run_chain each_command
+
+pub returns-clause-kept : goal.returns-clause-kept
+returns-clause-kept c = chain_kept
 
 pub returns-clause-history : goal.returns-clause-history
-returns-clause-history c = λ program counts super commands answers m n d b k k1 s t run.
-    run_history program counts super commands answers m n d b k k1 s t run
+returns-clause-history c = chain_grows
+
+pub returns-clause-begun : goal.returns-clause-begun
+returns-clause-begun c = (created_after, opened_after)
+
+pub returns-clause-whole : goal.returns-clause-whole
+returns-clause-whole c = chain_whole
 
 pub returns-clause-script : goal.returns-clause-script
 returns-clause-script c = script_words
+
+pub returns-clause-unchanged : goal.returns-clause-unchanged
+returns-clause-unchanged c = step_unchanged
+
+pub returns-clause-bound : goal.returns-clause-bound
+returns-clause-bound c = chain_bounded

@@ -15,4 +15,5 @@ pub returns-in-Ok-clause-source : goal.returns-in-Ok-clause-source
 returns-in-Ok-clause-source g c = plan_meant_as _ c.in-Ok.plan _ _ _ _ c.in-Ok.ensures.ok c.run_plan.ensures.ends
 
 pub returns-in-Err-NoMemory-clause-source : goal.returns-in-Err-NoMemory-clause-source
-returns-in-Err-NoMemory-clause-source g c = memory_meant _ _ _ _ (keeps_same _)
+returns-in-Err-NoMemory-clause-source g c =
+    memory_meant _ _ _ _ (keeps_same _) (keeps_same _, refl, refl)

@@ -1,6 +1,7 @@
 use Rattle.cnvm_session.proofs.Resting.{rest_alike, rest_owes, rest_none}
 use Rattle.cnvm_session.proofs.Quieting.{good_rests, one_rests}
 use Rattle.cnvm_session.proofs.Refusing.{command_kept}
+use Rattle.cnvm_session.proofs.Bounding.{command_most}
 use Rattle.cnvm_session.proofs.law.laws.Goals as goal
 
 pub returns-clause-rest : goal.returns-clause-rest
@@ -19,3 +20,6 @@ returns-clause-good c = good_rests
 
 pub returns-clause-refused : goal.returns-clause-refused
 returns-clause-refused c = command_kept
+
+pub returns-clause-most : goal.returns-clause-most
+returns-clause-most c = command_most

@@ -10,7 +10,10 @@ returns-clause-count g c =
       ready = c.call-behind.ensures.called;
       unusable = c.call-behind.ensures.unusable;
       numbers = c.call-behind.ensures.numbers;
-      off = λ off. (c.call-behind.ensures.off off, c.call-behind.ensures.same off);
+      off =
+          λ off. (c.call-behind.ensures.off off, c.call-behind.ensures.same off, c.call-behind.ensures.still off);
+      bound = c.call-behind.ensures.bound;
+      most = c.call-behind.ensures.most;
     } in
     call_le c.call-behind.result c.args.image.now c.args.tx c.args.args.now _ _ _ _ is
 
@@ -21,6 +24,9 @@ returns-clause-fault g c =
       ready = c.call-behind.ensures.called;
       unusable = c.call-behind.ensures.unusable;
       numbers = c.call-behind.ensures.numbers;
-      off = λ off. (c.call-behind.ensures.off off, c.call-behind.ensures.same off);
+      off =
+          λ off. (c.call-behind.ensures.off off, c.call-behind.ensures.same off, c.call-behind.ensures.still off);
+      bound = c.call-behind.ensures.bound;
+      most = c.call-behind.ensures.most;
     } in
     λ fault. call_rose c.call-behind.result c.args.image.now c.args.tx c.args.args.now _ _ _ _ is (sym c.answer_of_call.ensures ∙ fault)

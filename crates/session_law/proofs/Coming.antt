@@ -1,0 +1,42 @@
+-- What it says of the source and of the log that a transaction comes to a value, or to a trap.
+use Rattle.std.proofs.Common.{◌≡◌, ◌⊎◌, inl, inr, ℕ, ◌<◌, ◌≤◌, Bool, true, false, if◌then◌else◌, nat_lt, List, ℤ, refl, sym, arith}
+use Rattle.std.proofs.lemmas.Bool.{ltb-true, ltb-false}
+use Rattle.pool_map.specs.declared.trap.TrapKind.{TrapKind}
+use Rattle.pool_map.specs.declared.trap.TrapKind.TheVariants.{LogFull}
+use Rattle.pool_map.specs.PoolMap.{PoolMap}
+use Rattle.c_meaning.specs.Transaction.{Outcome, Done, Trap}
+use Rattle.cnvm_session.specs.declared.program.Program.{Program}
+use Rattle.session_law.specs.Source.{Counts, sizes_of, means, comes_to}
+
+trap_done : (kind : TrapKind) (p : PoolMap) (v : ℤ) → Trap kind ≡ Done p v → ⊥
+trap_done kind p v e = cc
+
+module _ (program : Program) (counts : Counts) (pool : PoolMap) (tx : ℕ) (args : List ℤ) where
+  abbrev records : ℕ
+  records = (sizes_of program).records
+
+  abbrev n : ℕ
+  n = counts pool tx args
+
+  abbrev o : Outcome
+  o = means program pool tx args
+
+  -- one that is done has room for its logs, and the source gives its value and its pool
+  pub comes_done : (p : PoolMap) (v : ℤ) → comes_to program counts pool tx args ≡ Done p v →
+      (n ≤ records) × (o ≡ Done p v)
+  comes_done p v is = by_test (nat_lt records n) refl is
+    where
+      by_test : (b : Bool) → nat_lt records n ≡ b → (if b then Trap LogFull else o) ≡ Done p v →
+          (n ≤ records) × (o ≡ Done p v)
+      by_test true e is = absurd (trap_done LogFull p v is)
+      by_test false e is = (omega (arith, ltb-false records n e), is)
+
+  -- one that traps has a full log where it has no room for its logs, and else the source's trap
+  pub comes_trap : (kind : TrapKind) → comes_to program counts pool tx args ≡ Trap kind →
+      ((records < n) × (kind ≡ LogFull)) ⊎ ((n ≤ records) × (o ≡ Trap kind))
+  comes_trap kind is = by_test (nat_lt records n) refl is
+    where
+      by_test : (b : Bool) → nat_lt records n ≡ b → (if b then Trap LogFull else o) ≡ Trap kind →
+          ((records < n) × (kind ≡ LogFull)) ⊎ ((n ≤ records) × (o ≡ Trap kind))
+      by_test true e is = let same : LogFull ≡ kind = cc in inl (ltb-true records n e, sym same)
+      by_test false e is = inr (omega (arith, ltb-false records n e), is)
