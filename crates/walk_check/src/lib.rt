@@ -1,0 +1,22 @@
+//! Certificates of why a store is logged, and their checker. It stands on `ir` alone, and knows no
+//! analysis. Its one contract for the crates above: `check` says what is wrong first, exactly, and
+//! where it says Ok each listed site is logged. Its rules are public, for who makes certificates.
+#![tactic(auto)]
+
+mod certificate;
+mod checker;
+mod follow;
+pub mod laws;
+mod piece;
+mod table;
+mod there;
+mod walk;
+
+pub use certificate::{
+    Certificate, Class, Fact, Piece, Pieces, Reason, Reasons, Step, StepList, Walk,
+};
+pub use checker::{CheckFault, check};
+pub use follow::{binds, fact_of, same};
+pub use piece::{begun, first_fact, follows, last_fact};
+pub use table::origins;
+pub use there::{instruction_at, is_there};
