@@ -25,7 +25,7 @@ stored_of last (Logs w ∷ es) u h = stored_of (Some w) es u h
 stored_of last (Still ∷ es) u h = stored_of last es u h
 
 -- how many records a pending LOG makes
-abbrev pending : Option ℕ → ℕ
+abbrev pub pending : Option ℕ → ℕ
 pending None = 0
 pending (Some u) = 1
 
@@ -34,10 +34,10 @@ some_inj u v w e f = cc
 
 module _ (C H : ℕ) (E W : ℕ → Type 0) where
   -- what is known in the middle of a run: each input that is still to be stored was stored before, has a pending LOG, or is logged first
-  abbrev Known : (ℕ → Type 0) → Option ℕ → List Effect → Type 0
+  abbrev pub Known : (ℕ → Type 0) → Option ℕ → List Effect → Type 0
   Known stored last es = (u : ℕ) → E u → IsOverwritten es u → stored u ⊎ ((last ≡ Some u) ⊎ IsLoggedFirst es u)
 
-  trace_from : (es : List Effect) (last : Option ℕ) (n : ℕ) (stored : ℕ → Type 0) → ((u : ℕ) → IsOverwritten es u → W u) → ((u : ℕ) → IsOverwritten es u → u < H) → IsPaired last es → n + pending last + logs_of es ≤ C → Known stored last es → IsTrace C H E W n stored (trace_of last es)
+  pub trace_from : (es : List Effect) (last : Option ℕ) (n : ℕ) (stored : ℕ → Type 0) → ((u : ℕ) → IsOverwritten es u → W u) → ((u : ℕ) → IsOverwritten es u → u < H) → IsPaired last es → n + pending last + logs_of es ≤ C → Known stored last es → IsTrace C H E W n stored (trace_of last es)
   trace_from [] last n stored over in_heap paired fits known = tt
   trace_from (Loads w ∷ es) None n stored over in_heap paired fits known = trace_from es None n stored over in_heap paired fits known
   trace_from (Loads w ∷ es) (Some v) n stored over in_heap paired fits known = trace_from es (Some v) n stored over in_heap paired fits known

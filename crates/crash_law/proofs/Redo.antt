@@ -39,7 +39,7 @@ good_same pool d h h' image same g = record {
 }
 
 -- the same end, by heaps that agree in the pool
-end_same : (pool : Pool) (call : Call) (result : Result) (h h' : ℕ → ℤ) (image : Words) → ((w : ℕ) → w < heap_words pool.sizes → h w ≡ h' w) → IsEnd pool call h result image → IsEnd pool call h' result image
+pub end_same : (pool : Pool) (call : Call) (result : Result) (h h' : ℕ → ℤ) (image : Words) → ((w : ℕ) → w < heap_words pool.sizes → h w ≡ h' w) → IsEnd pool call h result image → IsEnd pool call h' result image
 end_same pool call (Halted value) h h' image same is = record {
   good = good_same pool (suc call.done) h h' image same is.good;
   last_is = is.last_is;

@@ -21,10 +21,10 @@ use Rattle.cache_model.proofs.During.{play_append}
 use Rattle.crash_law.proofs.Finish.{IsIn, stored_listed}
 
 -- a fence makes each line single, but for those of D
-abbrev Clean : (ℕ → Type 0) → Cache → Type 0
+abbrev pub Clean : (ℕ → Type 0) → Cache → Type 0
 Clean D c = (l : ℕ) → IsReady (c l) ⊎ D l
 
-abbrev Nowhere : ℕ → Type 0
+abbrev pub Nowhere : ℕ → Type 0
 Nowhere l = ⊥
 
 single_ready_of : (m : Option ℕ) (l : Line) → l.older ≡ [] → (fence_at m l).older ≡ []
@@ -34,19 +34,19 @@ single_ready_of (Some k) l e = drop_all k l.older (omega (arith, ap (length {A =
 single_ready : (l : Line) → l.older ≡ [] → IsReady l
 single_ready l e = single_ready_of l.mark l e
 
-rest_clean : (c : Cache) → IsAtRest c → Clean Nowhere c
+pub rest_clean : (c : Cache) → IsAtRest c → Clean Nowhere c
 rest_clean c rest l = inl (single_ready (c l) (rest l))
 
-clean_more : (D M : ℕ → Type 0) (c : Cache) → ((l : ℕ) → D l → M l) → Clean D c → Clean M c
+pub clean_more : (D M : ℕ → Type 0) (c : Cache) → ((l : ℕ) → D l → M l) → Clean D c → Clean M c
 clean_more D M c f clean l = ⊎_elim (λ r. inl r) (λ d. inr (f l d)) (clean l)
 
-clean_store : (D : ℕ → Type 0) (c : Cache) (p : ℕ) (x : ℤ) → D (p / 8) → Clean D c → Clean D (apply c (Store p x))
+pub clean_store : (D : ℕ → Type 0) (c : Cache) (p : ℕ) (x : ℤ) → D (p / 8) → Clean D c → Clean D (apply c (Store p x))
 clean_store D c p x there clean l = ⊎_elim
     (λ (e : l ≡ p / 8). inr (subst D (sym e) there))
     (λ (ne : l ≢ p / 8). ⊎_elim (λ r. inl (subst IsReady (sym (store_other c p l x ne)) r)) (λ d. inr d) (clean l))
     (cases_eq l (p / 8))
 
-clean_flush : (D M : ℕ → Type 0) (c : Cache) (k : ℕ) → ((l : ℕ) → D l → (l ≡ k) ⊎ M l) → Clean D c → Clean M (apply c (Flush k))
+pub clean_flush : (D M : ℕ → Type 0) (c : Cache) (k : ℕ) → ((l : ℕ) → D l → (l ≡ k) ⊎ M l) → Clean D c → Clean M (apply c (Flush k))
 clean_flush D M c k f clean l = ⊎_elim
     (λ r. inl (flush_ready c k l (λ ne. r)))
     (λ d. ⊎_elim (λ (e : l ≡ k). inl (flush_ready c k l (λ ne. absurd (ne e)))) (λ m. inr m) (f l d))
@@ -59,7 +59,7 @@ fence_ready c l r = r
 clean_fence : (D : ℕ → Type 0) (c : Cache) → Clean D c → Clean D (apply c Fence)
 clean_fence D c clean l = ⊎_elim (λ r. inl (single_ready (apply c Fence l) (fence_ready c l r))) (λ d. inr d) (clean l)
 
-fence_rest : (c : Cache) → Clean Nowhere c → IsAtRest (apply c Fence)
+pub fence_rest : (c : Cache) → Clean Nowhere c → IsAtRest (apply c Fence)
 fence_rest c clean l = ⊎_elim (λ r. fence_ready c l r) (λ none. absurd none) (clean l)
 
 -- stores to one line, its flush and a fence
@@ -83,7 +83,7 @@ module _ (z : Sizes) (a : ℕ) where
       let m3 : Clean M c3 = clean_store M c2 (at C (RecordStamp n)) (pos (suc a)) (inl (omega arith)) m2 in
       clean_fence D (apply c3 (Flush (6 + n))) (clean_flush M D c3 (6 + n) (λ l d. d) m3)
 
-  run_clean : (D : ℕ → Type 0) (trace : List Entry) (n : ℕ) (heap : ℕ → ℤ) (c : Cache) → ((w : ℕ) → IsStored w trace → D (line_of C (Heap w))) → Clean D c → Clean D (play c (run_events C a n heap trace))
+  pub run_clean : (D : ℕ → Type 0) (trace : List Entry) (n : ℕ) (heap : ℕ → ℤ) (c : Cache) → ((w : ℕ) → IsStored w trace → D (line_of C (Heap w))) → Clean D c → Clean D (play c (run_events C a n heap trace))
   run_clean D [] n heap c stored clean = clean
   run_clean D (Plain w x ∷ trace) n heap c stored clean =
       run_clean D trace n _ (apply c (Store (at C (Heap w)) x)) (λ u later. stored u (inr later)) (clean_store D c (at C (Heap w)) x (stored w (inl refl)) clean)
@@ -95,7 +95,7 @@ module _ (z : Sizes) (a : ℕ) where
   flush_rest [] rest c clean next = next c clean
   flush_rest (k ∷ ks) rest c clean next = flush_rest ks rest (apply c (Flush k)) (clean_flush (λ l. IsIn l (k ∷ ks)) (λ l. IsIn l ks) c k (λ l h. h) clean) next
 
-  retire_rest : (k : ℕ) (value : ℤ) (c : Cache) → IsAtRest c → IsAtRest (play c (retire_events C a k value))
+  pub retire_rest : (k : ℕ) (value : ℤ) (c : Cache) → IsAtRest c → IsAtRest (play c (retire_events C a k value))
   retire_rest k value c rest =
       let D : ℕ → Type 0 = λ l. l ≡ 2 in
       let c1 : Cache = apply c (Store (at C Last) value) in
@@ -146,7 +146,7 @@ module _ (z : Sizes) (a : ℕ) where
 
   -- restore and reset
 
-  restore_rest : (word old : ℕ → ℤ) (n : ℕ) (rest : List CacheEvent) (c : Cache) → Clean Nowhere c → ((d : Cache) → Clean Nowhere d → IsAtRest (play d rest)) → IsAtRest (play c (restore_events C word old n rest))
+  pub restore_rest : (word old : ℕ → ℤ) (n : ℕ) (rest : List CacheEvent) (c : Cache) → Clean Nowhere c → ((d : Cache) → Clean Nowhere d → IsAtRest (play d rest)) → IsAtRest (play c (restore_events C word old n rest))
   restore_rest word old zero rest c clean next = next c clean
   restore_rest word old (suc n) rest c clean next =
       let q : Place = Heap (nat_abs (word n)) in

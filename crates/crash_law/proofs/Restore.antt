@@ -56,7 +56,7 @@ module _ (s : Setting) (a : ℕ) (a_fits : a ≤ 2 ^ 62) (n : ℕ) (word old : �
       (λ w x lt kept fine_w absent. fine_w lt absent ∙ s.from w lt kept)
       fine
 
-  restoring_owed : (c : Cache) → Cover C (ok restoring) c → OwedNow c
+  pub restoring_owed : (c : Cache) → Cover C (ok restoring) c → OwedNow c
   restoring_owed c cover image im = restoring_image image (λ q is. cover_image C (ok restoring) c image cover im q is)
 
   abbrev pub seen : Cache → ℕ → ℤ
@@ -109,7 +109,7 @@ module _ (s : Setting) (a : ℕ) (a_fits : a ≤ 2 ^ 62) (n : ℕ) (word old : �
       let newest : v ≡ (c (line_of C (Heap w))).newest = fence_single c (line_of C (Heap w)) v (subst (λ (l : ℕ). IsReady (c l)) line_is (ready rec.0 rec.1)) ver in
       ap (λ (x : Words). x (at C (Heap w))) newest ∙ new
 
-  settle_each : (c : Cache) → Cover C (ok restoring) c → ((w : ℕ) → w < H → seen c w ≡ s.r w) → ((j : ℕ) → j < n → IsReady (c (line_at j))) → (q : Place) → IsPlace C q → (v : Words) → IsVersion (apply c Fence (line_of C q)) v → ok restored_fine q (v (at C q))
+  pub settle_each : (c : Cache) → Cover C (ok restoring) c → ((w : ℕ) → w < H → seen c w ≡ s.r w) → ((j : ℕ) → j < n → IsReady (c (line_at j))) → (q : Place) → IsPlace C q → (v : Words) → IsVersion (apply c Fence (line_of C q)) v → ok restored_fine q (v (at C q))
   settle_each c cover new ready (Heap w) is v ver = λ lt. settle_word c w v (found word old n w) refl cover (new w lt) ready ver lt
   settle_each c cover new ready q is v ver = cover.each q is v (fence_version c (line_of C q) v ver)
 

@@ -1,0 +1,10 @@
+pub mod Marks
+pub mod Owings
+pub mod Firsts
+pub mod Lists
+pub mod Callings
+pub mod Redoings
+pub mod Leavings
+pub mod Besides
+pub mod Rollbacks
+pub mod Rising

@@ -1,0 +1,5 @@
+pub mod Machine
+pub mod Cuts
+pub mod Beside
+pub mod Rollback
+pub mod Faults

@@ -1,0 +1,349 @@
+-- One turn of a marked run.
+use Rattle.std.proofs.Common.{◌≡◌, ◌||◌, ℕ, zero, suc, ◌+◌, ◌-◌, ◌<◌, ◌≤◌, if◌then◌else◌, nat_lt}
+use Rattle.std.proofs.Common.{Bool, true, false, List, [], Option, Some, None, Result, Ok, Err, ℤ}
+use Rattle.std.proofs.Common.{pos, refl, sym, ap, ◌∙◌, subst, arith}
+use Rattle.std.specs.Ordering.{int_eq}
+use borrow.Author.Tests.{ltb-true}
+use Rattle.cache_model.specs.Event.{CacheEvent}
+use Rattle.cache_model.specs.Cache.{Words, Cache}
+use Rattle.cache_model.specs.Play.{play}
+use Rattle.pmem.specs.Device.{Device}
+use Rattle.pmem.specs.Played.{PlaysAll, PlaysPart}
+use Rattle.pmem.specs.declared.answer.Refusal.{Refusal}
+use Rattle.pmem.proofs.Glue.{all_append, part_left, part_right}
+use Rattle.pmem.proofs.Refused.{all_cache, all_on}
+use Rattle.pool_layout.specs.declared.limits.Sizes.{Sizes}
+use Rattle.pool_layout.specs.Sizes.{heap_words}
+use Rattle.pool_map.specs.declared.trap.TrapKind.TheVariants.{LogFull}
+use Rattle.pm_machine.specs.declared.effect.Effect.{Effect}
+use Rattle.pm_machine.specs.declared.effect.Effect.TheVariants.{Loads, Scans, Stores, Logs, Flushes}
+use Rattle.pm_machine.specs.declared.effect.Effect.TheVariants.{Fences, Quiet}
+use Rattle.pm_machine.specs.declared.effect.End.{End}
+use Rattle.pm_machine.specs.declared.effect.End.TheVariants.{Trapped}
+use Rattle.pm_machine.specs.declared.machine.Progress.{Progress}
+use Rattle.pm_machine.specs.declared.machine.Progress.TheVariants.{Did, Ended}
+use Rattle.pm_machine.specs.declared.image.Image.{Image}
+use Rattle.pm_machine.specs.Effects.{events_of, records_past}
+use Rattle.pm_machine.specs.Machine.{State, Outcome, Goes, Ends, decide, tally, step}
+use Rattle.pm_machine.specs.Runs.{heap_in, outcome_of, effect_of, effect_in, IsInRange, AreLines}
+use Rattle.pm_machine.specs.Runs.{Due, before, owing, Leads}
+use Rattle.pm_machine.specs.Known.{AreInUse, AreInUseOn}
+use Rattle.pm_machine.proofs.Dues.{heap_played}
+use Rattle.pm_machine.proofs.Range.{keeps_progress, records_fit}
+use Rattle.abort_mode.specs.declared.running.Logging.TheVariants.{Not, Added, Full}
+use Rattle.abort_mode.specs.declared.running.Turn.{Turn}
+use Rattle.abort_mode.specs.declared.running.Turn.TheVariants.{Went, Over}
+use Rattle.abort_mode.specs.Runs.{has_word, wanted, append_events, events_before, Rest, step_events}
+use Rattle.abort_mode.specs.Runs.{stepping, full}
+use Rattle.abort_mode.specs.Runs.{turning, due_marked}
+use Rattle.abort_mode.specs.Turns.{logging, first_events, due_first, Turned, Kept}
+
+-- records, from the last down
+
+has_open : (word : ℕ → ℤ) (m w : ℕ) → 0 < m →
+    has_word word m w ≡ (int_eq (word (m - 1)) (pos w) || has_word word (m - 1) w)
+has_open word zero w some = absurd (omega arith)
+has_open word (suc k) w some = let e : k ≡ suc k - 1 = omega arith in
+    ap (λ (i : ℕ). int_eq (word i) (pos w) || has_word word i w) e
+
+pub has_hit : (word : ℕ → ℤ) (m w : ℕ) → 0 < m → int_eq (word (m - 1)) (pos w) ≡ true →
+    has_word word m w ≡ true
+has_hit word m w some is = has_open word m w some
+    ∙ ap (λ (b : Bool). b || has_word word (m - 1) w) is
+
+pub has_missed : (word : ℕ → ℤ) (m w : ℕ) → 0 < m → int_eq (word (m - 1)) (pos w) ≡ false →
+    has_word word m w ≡ has_word word (m - 1) w
+has_missed word m w some is = has_open word m w some
+    ∙ ap (λ (b : Bool). b || has_word word (m - 1) w) is
+
+-- events that are done lead on
+
+leads_next : (d : Device) (k : ℕ) (es : List CacheEvent) (x : Due) (d0 : Device) (k0 : ℕ) (x0 : Due)
+    (b : Device) → PlaysAll d es b → Leads d k (before es x) d0 k0 x0 → Leads b (k + 1) x d0 k0 x0
+leads_next d k es x d0 k0 x0 b all h = record {
+  fate = h.fate;
+  whole = λ c p. h.whole c (all_append es x.events d b c all p);
+  part = λ why c p. h.part why c (part_right es x.events why d b c all p);
+  steps = let e = h.steps in omega arith;
+  records = h.records;
+}
+
+leads_before : (d : Device) (k : ℕ) (es : List CacheEvent) (x : Due) (d0 : Device) (k0 : ℕ)
+    (x0 : Due) (b : Device) → PlaysAll d es b → Leads d k (events_before es x) d0 k0 x0 →
+    Leads b k x d0 k0 x0
+leads_before d k es x d0 k0 x0 b all h = record {
+  fate = h.fate;
+  whole = λ c p. h.whole c (all_append es x.events d b c all p);
+  part = λ why c p. h.part why c (part_right es x.events why d b c all p);
+  steps = h.steps;
+  records = h.records;
+}
+
+-- a step is counted
+step_some : (image : Image) (a n : ℕ) (s : State) (c : Cache) (rest : Rest) →
+    1 ≤ (stepping image a n s c rest).steps
+step_some image a n s c rest = go (step image n s (heap_in image.parts.sizes c))
+  where
+    go : (o : Outcome) →
+        1 ≤ (owing n (step_events image a n c)
+        (λ e t. rest (records_past n e) t (play c (step_events image a n c e))) o).steps
+    go (Goes e u) = omega arith
+    go (Ends end) = omega arith
+
+-- a step
+module _ (image : Image) (a n : ℕ) (s t : State) (d b : Device) where
+  abbrev taken : Outcome
+  taken = step image n s (heap_in image.parts.sizes d.cache)
+
+  abbrev events : Effect → List CacheEvent
+  events = events_of image.parts.sizes a n (heap_in image.parts.sizes d.cache)
+
+  abbrev All : Rest → Due
+  All rest = stepping image a n s d.cache rest
+
+  abbrev next : Rest → Effect → State → Due
+  next rest e t = rest (records_past n e) t (play d.cache (events e))
+
+  opened : (rest : Rest) (k : ℕ) (d0 : Device) (k0 : ℕ) (x0 : Due) (o : Outcome) → o ≡ taken →
+      Leads d k (All rest) d0 k0 x0 → Leads d k (owing n events (next rest) o) d0 k0 x0
+  opened rest k d0 k0 x0 o is h =
+      subst (λ (o : Outcome). Leads d k (owing n events (next rest) o) d0 k0 x0) (sym is) h
+
+  pub step_did : (p : Progress) (e : Effect) (m : ℕ) → p ≡ Did e → outcome_of p t ≡ taken →
+      PlaysAll d (events (effect_of p)) b → m ≡ records_past n e → Turned (Ok (Went m)) All t d b
+  step_did p e m did is played past = λ rest k d0 k0 x0 h.
+      let o : Goes e t ≡ taken = ap (λ (p : Progress). outcome_of p t) (sym did) ∙ is in
+      let all : PlaysAll d (events e) b =
+      subst (λ (p : Progress). PlaysAll d (events (effect_of p)) b) did played in
+      let led : Leads b (k + 1) (next rest e t) d0 k0 x0 =
+      leads_next d k (events e)
+      (next rest e t) d0 k0 x0 b all (opened rest k d0 k0 x0 (Goes e t) o h) in
+      subst (λ (c : Cache). Leads b (k + 1) (rest m t c) d0 k0 x0)
+      (sym (all_cache (events e) d b all))
+      (subst (λ (i : ℕ). Leads b (k + 1) (rest i t (play d.cache (events e))) d0 k0 x0)
+      (sym past) led)
+
+  pub step_ended : (p : Progress) (end : End) → p ≡ Ended end → outcome_of p t ≡ taken →
+      PlaysAll d (events (effect_of p)) b → Turned (Ok (Over end n)) All t d b
+  step_ended p end ended is played = λ rest k d0 k0 x0 h.
+      let o : Ends end ≡ taken = ap (λ (p : Progress). outcome_of p t) (sym ended) ∙ is in
+      let all : PlaysAll d [] b =
+      subst (λ (p : Progress). PlaysAll d (events (effect_of p)) b) ended played in
+      let l = opened rest k d0 k0 x0 (Ends end) o h in
+      (sym l.fate, l.whole b all, l.steps, sym l.records)
+
+  tally_effect : (o : Outcome) → effect_in (tally o) ≡ effect_in o
+  tally_effect (Goes e t) = refl
+  tally_effect (Ends end) = refl
+
+  pub step_refused : (why : Refusal) →
+      PlaysPart why d (events (effect_in (decide image n s (heap_in image.parts.sizes d.cache))))
+      b →
+      Turned (Err why) All t d b
+  step_refused why part = λ rest k d0 k0 x0 h. (
+    go rest k d0 k0 x0 taken
+        (subst (λ (e : Effect). PlaysPart why d (events e) b)
+        (sym (tally_effect (decide image n s (heap_in image.parts.sizes d.cache)))) part) h,
+    (let some = step_some image a n s d.cache rest in let led = h.steps in omega arith),
+  )
+    where
+      go : (rest : Rest) (k : ℕ) (d0 : Device) (k0 : ℕ) (x0 : Due) (o : Outcome) →
+          PlaysPart why d (events (effect_in o)) b →
+          Leads d k (owing n events (next rest) o) d0 k0 x0 →
+          PlaysPart why d0 x0.events b
+      go rest k d0 k0 x0 (Goes e u) part l =
+          l.part why b (part_left (events e) (next rest e u).events why d b part)
+      go rest k d0 k0 x0 (Ends end) part l = absurd part
+
+  past_more : (e : Effect) → n ≤ records_past n e
+  past_more (Loads w) = omega arith
+  past_more (Scans w m) = omega arith
+  past_more (Stores w x) = omega arith
+  past_more (Logs w) = omega arith
+  past_more (Flushes l) = omega arith
+  past_more Fences = omega arith
+  past_more Quiet = omega arith
+
+  past_less : (e : Effect) → s.logged ≤ n → records_past s.logged e ≤ records_past n e
+  past_less (Loads w) le = le
+  past_less (Scans w m) le = le
+  past_less (Stores w x) le = le
+  past_less (Logs w) le = omega arith
+  past_less (Flushes l) le = le
+  past_less Fences le = le
+  past_less Quiet le = le
+
+  pub did_kept : (p : Progress) (e : Effect) (m : ℕ) → p ≡ Did e → outcome_of p t ≡ taken →
+      PlaysAll d (events (effect_of p)) b → m ≡ records_past n e →
+      AreLines (heap_words image.parts.sizes) s.dirty → n ≤ image.parts.sizes.records →
+      s.logged ≤ n → d.on ≡ true → Kept (Went m) image n t b
+  did_kept p e m did is played past lines few logged on =
+      let keeps = keeps_progress image (heap_in image.parts.sizes d.cache) n s p e t lines did is in
+      let fit = records_fit image.parts.sizes.records (heap_words image.parts.sizes) n e keeps.0
+      few in
+      let more = past_more e in
+      let less = past_less e logged in
+      let counted = keeps.2 in (
+        keeps.1,
+        omega arith,
+        omega arith,
+        omega arith,
+        all_on (events (effect_of p)) d b played
+            ∙ on,
+      )
+
+-- a turn, by the word that is wanted
+module _ (image : Image) (a n : ℕ) (s t : State) (d b : Device) where
+  abbrev z : Sizes
+  z = image.parts.sizes
+
+  abbrev TurnAll : Option ℕ → Rest → Due
+  TurnAll o rest = turning image a n s d.cache rest o
+
+  -- no record is left
+  pub turn_full : (o : Option ℕ) → Full ≡ logging z n o →
+      PlaysAll d (first_events z a n d.cache o) b →
+      Turned (Ok (Over (Trapped LogFull) n)) (TurnAll o) t d b
+  turn_full None is played = absurd (cc (is))
+  turn_full (Some w) is played = go (nat_lt n z.records) is played
+    where
+      go : (x : Bool) → Full ≡ (if x then Added else Full) →
+          PlaysAll d (if x then append_events z a n w d.cache else []) b →
+          Turned (Ok (Over (Trapped LogFull) n))
+          (λ rest. if x then events_before (append_events z a n w d.cache)
+          (stepping image a (suc n) s (play d.cache (append_events z a n w d.cache)) rest)
+          else full n) t d b
+      go true is played = absurd (cc (is))
+      go false is played =
+          λ rest k d0 k0 x0 h. (sym h.fate, h.whole b played, h.steps, sym h.records)
+
+  -- the append was cut
+  pub turn_cut : (o : Option ℕ) (why : Refusal) → PlaysPart why d (first_events z a n d.cache o) b →
+      Turned (Err why) (TurnAll o) t d b
+  turn_cut None why part = absurd part
+  turn_cut (Some w) why part = go (nat_lt n z.records) part
+    where
+      go : (x : Bool) → PlaysPart why d (if x then append_events z a n w d.cache else []) b →
+          Turned (Err why)
+          (λ rest. if x then events_before (append_events z a n w d.cache)
+          (stepping image a (suc n) s (play d.cache (append_events z a n w d.cache)) rest)
+          else full n) t d b
+      go true part = λ rest k d0 k0 x0 h.
+          let es : List CacheEvent = append_events z a n w d.cache in
+          let some = step_some image a (suc n) s (play d.cache es) rest in
+          let led = h.steps in (
+            h.part why b
+                (part_left es (stepping image a (suc n) s (play d.cache es) rest).events why d b
+                part),
+            omega arith,
+          )
+      go false part = absurd part
+
+  module _ (m : Device) where
+    -- what leads from m leads from d
+    led : (r : Result Turn Refusal) (all more : Rest → Due) →
+        ((rest : Rest) (k : ℕ) (d0 : Device) (k0 : ℕ) (x0 : Due) → Leads d k (more rest) d0 k0 x0 →
+        Leads m k (all rest) d0 k0 x0) → Turned r all t m b → Turned r more t d b
+    led (Ok (Went i)) all more f h = λ rest k d0 k0 x0 l. h rest k d0 k0 x0 (f rest k d0 k0 x0 l)
+    led (Ok (Over e i)) all more f h = λ rest k d0 k0 x0 l. h rest k d0 k0 x0 (f rest k d0 k0 x0 l)
+    led (Err why) all more f h = λ rest k d0 k0 x0 l. h rest k d0 k0 x0 (f rest k d0 k0 x0 l)
+
+    -- no record is wanted
+    pub turn_plain : (o : Option ℕ) (r : Result Turn Refusal) → Not ≡ logging z n o →
+        PlaysAll d (first_events z a n d.cache o) m →
+        Turned r (λ rest. stepping image a n s m.cache rest) t m b → Turned r (TurnAll o) t d b
+    turn_plain None r is played h =
+        led r (λ rest. stepping image a n s m.cache rest) (TurnAll None)
+        (λ rest k d0 k0 x0 l.
+        subst (λ (e : Device). Leads e k (stepping image a n s e.cache rest) d0 k0 x0)
+        (sym played) l) h
+    turn_plain (Some w) r is played h = absurd (go (nat_lt n z.records) is)
+      where
+        go : (x : Bool) → Not ≡ (if x then Added else Full) → ⊥
+        go true is = absurd (cc (is))
+        go false is = absurd (cc (is))
+
+    -- a record was appended
+    pub turn_added : (o : Option ℕ) (i : ℕ) (r : Result Turn Refusal) → Added ≡ logging z n o →
+        PlaysAll d (first_events z a n d.cache o) m → i ≡ suc n →
+        Turned r (λ rest. stepping image a i s m.cache rest) t m b → Turned r (TurnAll o) t d b
+    turn_added None i r is played one h = absurd (cc (is))
+    turn_added (Some w) i r is played one h = go (nat_lt n z.records) is played
+      where
+        go : (x : Bool) → Added ≡ (if x then Added else Full) →
+            PlaysAll d (if x then append_events z a n w d.cache else []) m →
+            Turned r (λ rest. if x then events_before (append_events z a n w d.cache)
+            (stepping image a (suc n) s (play d.cache (append_events z a n w d.cache)) rest)
+            else full n) t d b
+        go false is played = absurd (cc (is))
+        go true is played =
+            let es : List CacheEvent = append_events z a n w d.cache in
+            led r (λ rest. stepping image a i s m.cache rest)
+            (λ rest. events_before es (stepping image a (suc n) s (play d.cache es) rest))
+            (λ rest k d0 k0 x0 l.
+            subst (λ (j : ℕ). Leads m k (stepping image a j s m.cache rest) d0 k0 x0) (sym one)
+            (subst (λ (c : Cache). Leads m k (stepping image a (suc n) s c rest) d0 k0 x0)
+            (sym (all_cache es d m played))
+            (leads_before d k es (stepping image a (suc n) s (play d.cache es) rest) d0 k0 x0 m
+            played l)))
+            h
+
+-- there is room where a record was appended
+pub added_room : (z : Sizes) (n : ℕ) (o : Option ℕ) → Added ≡ logging z n o → n < z.records
+added_room z n None is = absurd (cc (is))
+added_room z n (Some w) is = go (nat_lt n z.records) refl is
+  where
+    go : (x : Bool) → nat_lt n z.records ≡ x → Added ≡ (if x then Added else Full) → n < z.records
+    go true e is = ltb-true n z.records e
+    go false e is = absurd (cc (is))
+
+-- a record changes no heap word, so what is known of the slots stays true
+module _ (z : Sizes) (a n : ℕ) (d b : Device) (k : ℕ) (known : AreInUseOn z d k) where
+  known_same : d.cache ≡ b.cache → AreInUseOn z b k
+  known_same same = subst (λ (c : Cache). AreInUse z (heap_in z c) k) same known
+
+  known_added : (w : ℕ) → n < z.records → PlaysAll d (append_events z a n w d.cache) b →
+      AreInUseOn z b k
+  known_added w fits played =
+      let range : IsInRange z.records (suc w) n (Logs w) = (omega arith, fits) in
+      let heap : heap_in z b.cache ≡ heap_in z d.cache =
+      ap (heap_in z) (all_cache (append_events z a n w d.cache) d b played)
+      ∙ heap_played z (suc w) a n d.cache (Logs w) range in
+      subst (λ (h : Words). AreInUse z h k) (sym heap) known
+
+  known_first : (o : Option ℕ) → PlaysAll d (first_events z a n d.cache o) b → AreInUseOn z b k
+  known_first None played = known_same (ap (λ (e : Device). e.cache) (sym played))
+  known_first (Some w) played = go (nat_lt n z.records) refl played
+    where
+      go : (x : Bool) → nat_lt n z.records ≡ x →
+          PlaysAll d (if x then append_events z a n w d.cache else []) b → AreInUseOn z b k
+      go true e played = known_added w (ltb-true n z.records e) played
+      go false e played = known_same (ap (λ (e : Device). e.cache) (sym played))
+
+pub first_known : (image : Image) (a n : ℕ) (s : State) (d b : Device) (k : ℕ) →
+    PlaysAll d (due_first image a n s d.cache) b →
+    AreInUseOn image.parts.sizes d k → AreInUseOn image.parts.sizes b k
+first_known image a n s d b k played known =
+    known_first image.parts.sizes a n d b k known (wanted image n s d.cache) played
+
+pub first_on : (z : Sizes) (a n : ℕ) (c : Cache) (o : Option ℕ) (d b : Device) →
+    PlaysAll d (first_events z a n c o) b → b.on ≡ d.on
+first_on z a n c o d b played = all_on (first_events z a n c o) d b played
+
+-- where turns are left, the run is one and then the rest
+pub turn_opened : (image : Image) (a m n : ℕ) (s : State) (c : Cache) (d : Device) (k : ℕ)
+    (d0 : Device) (k0 : ℕ) (x0 : Due) → 0 < m → Leads d k (due_marked image a m n s c) d0 k0 x0 →
+    Leads d k (turning image a n s c (λ i t e. due_marked image a (m - 1) i t e)
+    (wanted image n s c)) d0 k0 x0
+turn_opened image a m n s c d k d0 k0 x0 some h =
+    let e : m ≡ suc (m - 1) = omega arith in
+    subst (λ (i : ℕ). Leads d k (due_marked image a i n s c) d0 k0 x0) e h
+
+-- no turn is left
+pub turn_none : (image : Image) (a m n : ℕ) (s : State) (d : Device) (k : ℕ) (d0 : Device) (k0 : ℕ)
+    (x0 : Due) → m ≡ 0 → Leads d k (due_marked image a m n s d.cache) d0 k0 x0 →
+    (x0.fate ≡ None) × PlaysAll d0 x0.events d × (k ≡ k0 + x0.steps) × (x0.records ≡ n)
+turn_none image a m n s d k d0 k0 x0 none h =
+    let l = subst (λ (i : ℕ). Leads d k (due_marked image a i n s d.cache) d0 k0 x0) none h in
+    let same : k + 0 ≡ k0 + x0.steps = l.steps in
+    (sym l.fate, l.whole d refl, omega arith, sym l.records)

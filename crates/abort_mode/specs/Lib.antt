@@ -1,0 +1,5 @@
+pub mod Runs
+pub mod Turns
+pub mod Due
+pub mod Closes
+pub mod Answers
