@@ -1,0 +1,4 @@
+pub mod Windows
+pub mod Opened
+pub mod Turns
+pub mod Makes

@@ -1,0 +1,20 @@
+//! Several workers on one device: its pool has a compartment for each, which is a whole pool of its
+//! own, and a worker's transaction is held between turns. It stands on `recovery` and what is below
+//! it. Its one contract for the crates above: a turn plays the next piece of what is due in its
+//! worker's compartment, or the first events of it up to the refused one, and of these events the
+//! other compartments see the fences alone.
+#![tactic(auto)]
+
+mod answer;
+mod creating;
+mod opening;
+mod standing;
+mod task;
+mod turning;
+mod window;
+mod workers;
+
+pub use answer::{BeginAnswer, MakeFault, TurnAnswer};
+pub use task::{Task, Turn};
+pub use window::{Origin, Window, first_line};
+pub use workers::Workers;

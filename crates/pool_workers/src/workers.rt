@@ -1,0 +1,272 @@
+//! The workers of a device.
+
+ghost use Rattle.std.specs.Prelude.{◌≡◌, ◌≢◌, ◌+◌, ◌*◌, ◌≤◌, ◌<◌, true, false, Some, None, length, slice_set, option_map, IfOk, IfErr, OnOk, IsErrOf, replicate};
+ghost use Rattle.pmem.specs.Device.{Rose, blanked};
+ghost use Rattle.pmem.specs.Played.{PlaysAll};
+ghost use Rattle.pool_layout.specs.Sizes.{pool_lines};
+ghost use Rattle.pool_map.specs.declared.trap.TrapKind.{TrapKind};
+ghost use Rattle.pmem.specs.declared.answer.Phase.TheVariants as at_phase;
+ghost use Rattle.pm_machine.specs.Machine.{start};
+ghost use Rattle.tx_run.specs.declared.standing.Standing.TheVariants as stands;
+ghost use Rattle.pool_workers.specs.declared.answer.BeginAnswer.TheVariants as begins;
+ghost use Rattle.pool_workers.specs.declared.task.Task.{Task};
+ghost use Rattle.pool_workers.specs.declared.task.Task.TheVariants as task_of;
+ghost use Rattle.pool_workers.specs.Task.{IsUncutOr, IsGoing, ticks_of, phase_of};
+ghost use Rattle.pool_workers.specs.Making.{creations, Unmade};
+ghost use Rattle.pool_workers.specs.Crew.{task_at, AreTasks, OthersStay, compartment, HasCompartments, StaysAside, standing_at, Begins, TurnOf};
+ghost use Rattle.pool_workers.specs.Recovers.{Recovers};
+
+use crate::answer::{BeginAnswer, MakeFault, TurnAnswer};
+use crate::creating::{create_pools, idle};
+use crate::opening::{recover_on, turn_on};
+use crate::standing::assess_at;
+use crate::task::{Task, phase_of};
+use crate::window::first_line;
+use nvm_base::{Steps, Words};
+use pm_machine::{Image, Machine};
+use pmem::{Phase, Pmem, PmemWork};
+use recovery::RecoverAnswer;
+use std::alloc::{AllocError, Global};
+use std::marker::{Brand, Model};
+use std::mem;
+use std::sync::ledger::Ledger;
+use tx_run::Standing;
+
+/// The workers of a device, one for each compartment, from 1 to 8, and of each the transaction that
+/// isn't finished. It is seen as the list of these.
+#[derive(Drop)]
+pub struct Workers {
+    alloc: Global,
+    tasks: Vec<Option<Task>>,
+}
+
+impl Model for Workers {
+    ghost use Rattle.std.specs.Prelude.{◌≤◌, vec_len};
+    ghost use Rattle.pool_workers.specs.Crew.{Tasks};
+
+    ghost Value = { Tasks };
+
+    ghost view = { λ w. w.tasks.items };
+
+    ghost invariant = { λ w. vec_len w.tasks ≤ 8 };
+}
+
+/// A list with the same words.
+fn copied(alloc: Global, words: &[i64]) -> Result<Words, AllocError>
+    ensures { IfOk result (λ all. all ≡ words.now) }
+{
+    let mut all = Words::new(alloc);
+    for word in words {
+        all.push(*word)?;
+    }
+    Ok(all)
+}
+
+/// A transaction at its start. The machine's frames are reserved here.
+fn new_task(alloc: Global, image: &Image, tx: u64, args: &[i64]) -> Result<Task, AllocError>
+    requires first { 1 ≤ tx }
+    requires last { tx ≤ length image.now.parts.txs }
+    ensures { IfOk result (λ t. t ≡ task_of.Begun tx args.now (start image.now tx args.now)) }
+{
+    let machine = Machine::new(alloc, image, tx, args)?;
+    let args = copied(alloc, args)?;
+    Ok(Task::Begun { tx, args, machine })
+}
+
+impl Workers {
+    /// The worker's transaction is taken out.
+    fn take_task(&mut self, worker: u32) -> Option<Task>
+        requires { worker < length self.old }
+        ensures task { result ≡ task_at self.old worker }
+        ensures others { self.new ≡ slice_set self.old worker None }
+        ensures few { length self.new ≤ 8 }
+    {
+        mem::replace(&mut self.tasks[worker as usize], None)
+    }
+
+    fn put_task(&mut self, worker: u32, task: Option<Task>)
+        requires { worker < length self.old }
+        ensures { self.new ≡ slice_set self.old worker task }
+    {
+        self.tasks[worker as usize] = task;
+    }
+
+    /// How far the seal of the worker's transaction has come, and `None` exactly where it has none.
+    /// It takes no memory.
+    pub fn phase(&self, worker: u32) -> Option<Phase>
+        requires worker { worker < length self.now }
+        ensures { result ≡ option_map phase_of (task_at self.now worker) }
+    {
+        match &self.tasks[worker as usize] {
+            None => None,
+            Some(task) => Some(phase_of(task)),
+        }
+    }
+
+    /// Creates the pools of so many compartments on blank lines, for the program with this digest.
+    /// No worker has a transaction. After a fault the events so far stand; `Failed` comes only
+    /// where the device's count of faults rose.
+    pub fn create<P: Pmem>(
+        alloc: Global,
+        image: &Image,
+        digest: [i64; 4],
+        count: u32,
+        dev: &mut P,
+    ) -> Result<Workers, MakeFault>
+        requires first { 1 ≤ count }
+        requires last { count ≤ 8 }
+        ensures done { OnOk result
+            (PlaysAll (blanked (pool_lines image.now.parts.sizes * count) (P.device dev.old))
+            (creations image.now.parts.sizes digest 0 count) (P.device dev.new)) }
+        ensures idle { IfOk result (λ w. w ≡ replicate count None) }
+        ensures tasks { IfOk result (λ w. AreTasks image.now w) }
+        ensures lines { IfOk result (λ w. HasCompartments image.now w (P.device dev.new)) }
+        ensures refused { IfErr result (λ why.
+            Unmade why image.now.parts.sizes digest count (P.device dev.old) (P.device dev.new)) }
+        ensures failed { IsErrOf result MakeFault.Failed →
+            Rose (P.device dev.old).faults (P.device dev.new).faults }
+    {
+        let Ok(tasks) = idle(alloc, count) else {
+            return Err(MakeFault::NoMemory);
+        };
+        match create_pools(image.sizes(), &digest, count, dev) {
+            Ok(()) => Ok(Workers { alloc, tasks }),
+            Err(fault) => Err(fault),
+        }
+    }
+
+    /// How many workers there are.
+    pub fn count(&self) -> u32
+        ensures value { result ≡ length self.now }
+        ensures few { result ≤ 8 }
+    {
+        self.tasks.len() as u32
+    }
+
+    /// The next turn of a worker: the seal, one instruction, or the retirement or the mark. `Idle`
+    /// comes exactly where it has no transaction. `Off` comes on a device that is off, where
+    /// nothing has changed, and where the power went at an event. An instruction is one step.
+    pub fn turn<P: Pmem + Drop, L: Ledger>(
+        &mut self,
+        image: &Image,
+        worker: u32,
+        dev: &mut P,
+        steps: &mut Steps<L>,
+    ) -> TurnAnswer
+        requires worker { worker < length self.old }
+        requires tasks { AreTasks image.now self.old }
+        requires uncut { IsUncutOr (task_at self.old worker) }
+        requires lines { HasCompartments image.now self.old (P.device dev.old) }
+        ensures idle { task_at self.old worker ≡ None →
+            (result ≡ TurnAnswer.Idle) × (self.new ≡ self.old)
+            × (P.device dev.new ≡ P.device dev.old) × (steps.new ≡ steps.old) }
+        ensures turned { (t : Task) → task_at self.old worker ≡ Some t →
+            (P.device dev.old).on ≡ true →
+            TurnOf image.now worker result self.old self.new (P.device dev.old) (P.device dev.new)
+            × (steps.new ≡ steps.old + ticks_of t) }
+        ensures off { (t : Task) → task_at self.old worker ≡ Some t →
+            (P.device dev.old).on ≡ false →
+            (result ≡ TurnAnswer.Off) × (task_at self.new worker ≡ Some t)
+            × (P.device dev.new ≡ P.device dev.old) × (steps.new ≡ steps.old) }
+        ensures uncut { IsGoing result → IsUncutOr (task_at self.new worker) }
+        ensures most { steps.new ≤ steps.old + 1 }
+        ensures others { OthersStay worker self.old self.new }
+        ensures count { length self.new ≡ length self.old }
+        ensures tasks { AreTasks image.now self.new }
+        ensures aside { StaysAside image.now worker (P.device dev.old) (P.device dev.new) }
+        ensures lines { HasCompartments image.now self.new (P.device dev.new) }
+    {
+        let Some(task) = self.take_task(worker) else {
+            return TurnAnswer::Idle;
+        };
+        let turn = turn_on::<P, L, Brand>(image, worker, task, dev, steps);
+        self.put_task(worker, turn.task);
+        turn.answer
+    }
+
+    /// The recovery of a worker's compartment, with the answers of `recover`. It first drops the
+    /// worker's transaction, whatever the answer is then. On a device that is off no line has
+    /// changed.
+    pub fn recover_one<P: Pmem + Drop, L: Ledger>(
+        &mut self,
+        image: &Image,
+        worker: u32,
+        dev: &mut P,
+        steps: &mut Steps<L>,
+    ) -> RecoverAnswer
+        requires worker { worker < length self.old }
+        requires tasks { AreTasks image.now self.old }
+        requires lines { HasCompartments image.now self.old (P.device dev.old) }
+        ensures recovered { (P.device dev.old).on ≡ true →
+            Recovers result image.now
+            (compartment image.now worker (P.device dev.old))
+            (compartment image.now worker (P.device dev.new)) steps.old steps.new }
+        ensures off { (P.device dev.old).on ≡ false →
+            (result ≡ RecoverAnswer.Off at_phase.Unsealed)
+            × (P.device dev.new ≡ P.device dev.old) × (steps.new ≡ steps.old) }
+        ensures dropped { task_at self.new worker ≡ None }
+        ensures most { steps.new ≤
+            steps.old + image.now.parts.sizes.records + image.now.parts.most }
+        ensures others { OthersStay worker self.old self.new }
+        ensures count { length self.new ≡ length self.old }
+        ensures tasks { AreTasks image.now self.new }
+        ensures aside { StaysAside image.now worker (P.device dev.old) (P.device dev.new) }
+        ensures lines { HasCompartments image.now self.new (P.device dev.new) }
+    {
+        self.put_task(worker, None);
+        recover_on::<P, L, Brand>(self.alloc, image, worker, dev, steps)
+    }
+
+    /// Begins a transaction, counted from 1, with as many arguments as it has parameters. Whether
+    /// the worker is busy is looked at first, then the device, then the mark of its compartment,
+    /// then the numbers. No event.
+    pub fn begin<P: Pmem>(
+        &mut self,
+        image: &Image,
+        worker: u32,
+        tx: u64,
+        args: &[i64],
+        dev: &P,
+    ) -> BeginAnswer
+        requires worker { worker < length self.old }
+        requires tasks { AreTasks image.now self.old }
+        requires lines { HasCompartments image.now self.old (P.device dev.now) }
+        requires first { 1 ≤ tx }
+        requires last { tx ≤ length image.now.parts.txs }
+        ensures busy { (t : Task) → task_at self.old worker ≡ Some t →
+            (result ≡ BeginAnswer.Busy) × (self.new ≡ self.old) }
+        ensures off { task_at self.old worker ≡ None → (P.device dev.now).on ≡ false →
+            (result ≡ BeginAnswer.Off) × (self.new ≡ self.old) }
+        ensures unusable { (kind : TrapKind) → task_at self.old worker ≡ None →
+            (P.device dev.now).on ≡ true →
+            standing_at image.now worker (P.device dev.now) ≡ stands.Unusable kind →
+            (result ≡ begins.Unusable kind) × (self.new ≡ self.old) }
+        ensures numbers { task_at self.old worker ≡ None → (P.device dev.now).on ≡ true →
+            standing_at image.now worker (P.device dev.now) ≡ stands.Numbers →
+            (result ≡ BeginAnswer.Numbers) × (self.new ≡ self.old) }
+        ensures ready { task_at self.old worker ≡ None → (P.device dev.now).on ≡ true →
+            standing_at image.now worker (P.device dev.now) ≡ stands.Ready →
+            Begins result image.now tx args.now (task_at self.new worker) }
+        ensures uncut { IsUncutOr (task_at self.old worker) → IsUncutOr (task_at self.new worker) }
+        ensures others { OthersStay worker self.old self.new }
+        ensures count { length self.new ≡ length self.old }
+        ensures tasks { AreTasks image.now self.new }
+    {
+        if let Some(_) = &self.tasks[worker as usize] {
+            return BeginAnswer::Busy;
+        }
+        match assess_at(image.sizes(), worker, dev) {
+            Standing::Ready => {}
+            Standing::Off => return BeginAnswer::Off,
+            Standing::Unusable(kind) => return BeginAnswer::Unusable(kind),
+            Standing::Numbers => return BeginAnswer::Numbers,
+        }
+        match new_task(self.alloc, image, tx, args) {
+            Ok(task) => {
+                self.put_task(worker, Some(task));
+                BeginAnswer::Started
+            }
+            Err(_) => BeginAnswer::NoMemory,
+        }
+    }
+}

@@ -1,0 +1,11 @@
+pub mod Asides
+pub mod Compartments
+pub mod Standings
+pub mod Fates
+pub mod CutsTurned
+pub mod Powers
+pub mod Rising
+pub mod Sealings
+pub mod Insides
+pub mod AsCalls
+pub mod Interleavings

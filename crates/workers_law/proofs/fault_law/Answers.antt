@@ -1,0 +1,5 @@
+use Rattle.workers_law.proofs.Rising.{turn_faults}
+use Rattle.workers_law.proofs.fault_law.Goals as goal
+
+pub returns : goal.returns
+returns c = turn_faults

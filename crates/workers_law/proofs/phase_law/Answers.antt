@@ -1,0 +1,5 @@
+use Rattle.workers_law.proofs.Sealings.{phases}
+use Rattle.workers_law.proofs.phase_law.Goals as goal
+
+pub returns : goal.returns
+returns c = phases

@@ -1,0 +1,13 @@
+pub mod Fenced
+pub mod Interleaved
+pub mod Compartments
+pub mod Inside
+pub mod Left
+pub mod Standing
+pub mod Fate
+pub mod AsCall
+pub mod CutTurns
+pub mod Faults
+pub mod Phases
+pub mod Power
+pub mod Interleaving

@@ -1,0 +1,10 @@
+use Rattle.std.proofs.Common.{◌≡◌, length}
+use Rattle.pool_workers.specs.Crew.{AreTasks, HasCompartments}
+use Rattle.workers_tables.proofs.runs.recover_all.Given as goal
+
+abbrev pub invariant-loop-worker : goal.invariant-loop-worker
+invariant-loop-worker g l = record {
+  tasks : AreTasks l.image l.workers;
+  lines : HasCompartments l.image l.workers (g.P.PmemWork.device l.dev);
+  count : length l.workers ≡ length l.initial.workers;
+}

@@ -1,0 +1,90 @@
+//! A program of two transactions over heap word 0.
+
+ghost use Rattle.std.specs.Prelude.{◌≡◌, ◌≤◌, ◌<◌, ◌^◌, length, IfOk, IfSome};
+ghost use Rattle.pm_machine.specs.Few.{AreFew};
+
+use nvm_base::BinOp;
+use pm_machine::{Code, Function, Functions, Image, ImageParts, Op, TxEntry, TxList};
+use pool_layout::Sizes;
+use std::alloc::{AllocError, Global};
+
+/// `n += d; return n;`: the old value is logged before it is overwritten.
+fn inc_code(alloc: Global) -> Result<Code, AllocError>
+    ensures { IfOk result (λ c. length c < 2 ^ 32) }
+{
+    let mut code = Code::new(alloc);
+    code.push(Op::Const { r: 1, v: 0 })?;
+    code.push(Op::Load { r: 2, a: 1, o: 0 })?;
+    code.push(Op::Bin {
+        op: BinOp::Add,
+        r: 2,
+        a: 2,
+        b: 0,
+    })?;
+    code.push(Op::Log { a: 1, o: 0 })?;
+    code.push(Op::Store { a: 1, o: 0, b: 2 })?;
+    code.push(Op::Flush)?;
+    code.push(Op::Fence)?;
+    code.push(Op::Halt { a: 2 })?;
+    Ok(code)
+}
+
+/// `n = d; abort();`
+fn abort_code(alloc: Global) -> Result<Code, AllocError>
+    ensures { IfOk result (λ c. length c < 2 ^ 32) }
+{
+    let mut code = Code::new(alloc);
+    code.push(Op::Const { r: 1, v: 0 })?;
+    code.push(Op::Store { a: 1, o: 0, b: 0 })?;
+    code.push(Op::Trap { k: 6 })?;
+    Ok(code)
+}
+
+fn parts(alloc: Global, sizes: Sizes) -> Result<ImageParts, AllocError>
+    ensures few { IfOk result (λ p. AreFew p.functions) }
+    ensures txs { IfOk result (λ p. 2 ≤ length p.txs) }
+{
+    let inc = inc_code(alloc)?;
+    let abort = abort_code(alloc)?;
+    let mut functions = Functions::new(alloc);
+    functions.push(Function {
+        parameters: 1,
+        registers: 3,
+        code: inc,
+    })?;
+    functions.push(Function {
+        parameters: 1,
+        registers: 3,
+        code: abort,
+    })?;
+    let mut txs = TxList::new(alloc);
+    txs.push(TxEntry {
+        function: 0,
+        parameters: 1,
+    })?;
+    txs.push(TxEntry {
+        function: 1,
+        parameters: 1,
+    })?;
+    Ok(ImageParts {
+        functions,
+        sizes,
+        txs,
+        structs: 0,
+        most: 1000,
+    })
+}
+
+/// The program, for the smallest compartments.
+pub fn program(alloc: Global) -> Option<Image>
+    ensures { IfSome result (λ i. 2 ≤ length i.parts.txs) }
+{
+    let sizes = Sizes::new(1, 1, 1, 100)?;
+    let Ok(parts) = parts(alloc, sizes) else {
+        return None;
+    };
+    match Image::new(alloc, parts) {
+        Ok(image) => Some(image),
+        Err(_) => None,
+    }
+}

@@ -1,0 +1,228 @@
+//! A run of workers in rounds, up to a cut, and the recovery of all compartments.
+
+ghost use Rattle.std.specs.Prelude.{◌≡◌, ◌≤◌, ◌<◌, true, false, length};
+ghost use Rattle.pool_workers.specs.Crew.{AreTasks, AreUncut, HasCompartments};
+ghost use Rattle.pool_workers.specs.Task.{IsGoing};
+
+use cache_model::{Choice, Picks, Rest};
+use nvm_base::Steps;
+use pm_machine::Image;
+use pmem::{Phase, Pmem, PmemWork};
+use pool_layout::{heap_start, pool_lines};
+use pool_workers::{TurnAnswer, Workers, first_line};
+use recovery::RecoverAnswer;
+use std::alloc::Global;
+use std::sync::ledger::Ledger;
+
+/// The last answers of the workers' turns, their phases, the answers of their recoveries, and heap
+/// word 0 of their compartments after these.
+#[derive(Clone, Copy, Debug, PartialEq, Eq)]
+pub struct Seen {
+    pub turns: [TurnAnswer; 8],
+    pub phases: [Option<Phase>; 8],
+    pub recovered: [RecoverAnswer; 8],
+    pub counters: [Option<i64>; 8],
+}
+
+/// Power, with each line left at its oldest version or at its newest.
+fn power<P: Pmem>(alloc: Global, dev: &mut P, rest: Rest)
+    ensures { (P.device dev.new).lines ≡ (P.device dev.old).lines }
+{
+    let choice = Choice {
+        rest,
+        picks: Picks::new(alloc),
+    };
+    let _ = dev.power(&choice);
+}
+
+/// A turn was refused.
+fn is_refused(answer: TurnAnswer) -> bool
+    ensures { result ≡ false → IsGoing answer }
+{
+    match answer {
+        TurnAnswer::Off | TurnAnswer::Failed | TurnAnswer::NoMemory => true,
+        TurnAnswer::Idle | TurnAnswer::Went | TurnAnswer::Done { .. } | TurnAnswer::Trap(_) =>
+            false,
+    }
+}
+
+/// One turn of each worker, up to the first that is refused. Where a worker wasn't idle its answer
+/// is put down.
+fn round<P: Pmem + Drop, L: Ledger>(
+    workers: &mut Workers,
+    image: &Image,
+    dev: &mut P,
+    steps: &mut Steps<L>,
+    seen: &mut [TurnAnswer; 8],
+) -> bool
+    requires tasks { AreTasks image.now workers.old }
+    requires uncut { AreUncut workers.old }
+    requires lines { HasCompartments image.now workers.old (P.device dev.old) }
+    ensures tasks { AreTasks image.now workers.new }
+    ensures uncut { result ≡ true → AreUncut workers.new }
+    ensures lines { HasCompartments image.now workers.new (P.device dev.new) }
+    ensures count { length workers.new ≡ length workers.old }
+{
+    for worker in 0..workers.count() {
+        let answer = workers.turn(image, worker, dev, steps);
+        if answer != TurnAnswer::Idle {
+            seen[(worker % 8) as usize] = answer;
+        }
+        if is_refused(answer) {
+            return false;
+        }
+    }
+    true
+}
+
+/// Rounds, up to the first turn that is refused.
+pub fn rounds<P: Pmem + Drop, L: Ledger>(
+    workers: &mut Workers,
+    image: &Image,
+    dev: &mut P,
+    steps: &mut Steps<L>,
+) -> [TurnAnswer; 8]
+    requires tasks { AreTasks image.now workers.old }
+    requires uncut { AreUncut workers.old }
+    requires lines { HasCompartments image.now workers.old (P.device dev.old) }
+    ensures tasks { AreTasks image.now workers.new }
+    ensures lines { HasCompartments image.now workers.new (P.device dev.new) }
+    ensures count { length workers.new ≡ length workers.old }
+{
+    let mut seen = [TurnAnswer::Idle; 8];
+    for _ in 0..20 {
+        if !round(workers, image, dev, steps, &mut seen) {
+            return seen;
+        }
+    }
+    seen
+}
+
+/// Each worker begins the first transaction with its own number and one more.
+pub fn begin_all<P: Pmem>(workers: &mut Workers, image: &Image, dev: &P)
+    requires txs { 1 ≤ length image.now.parts.txs }
+    requires tasks { AreTasks image.now workers.old }
+    requires uncut { AreUncut workers.old }
+    requires lines { HasCompartments image.now workers.old (P.device dev.now) }
+    ensures tasks { AreTasks image.now workers.new }
+    ensures uncut { AreUncut workers.new }
+    ensures lines { HasCompartments image.now workers.new (P.device dev.now) }
+    ensures count { length workers.new ≡ length workers.old }
+{
+    for worker in 0..workers.count() {
+        let _ = workers.begin(image, worker, 1, &[i64::from(worker) + 1], dev);
+    }
+}
+
+/// The recovery of each compartment, from 0 on.
+fn recover_all<P: Pmem + Drop, L: Ledger>(
+    workers: &mut Workers,
+    image: &Image,
+    dev: &mut P,
+    steps: &mut Steps<L>,
+) -> [RecoverAnswer; 8]
+    requires tasks { AreTasks image.now workers.old }
+    requires lines { HasCompartments image.now workers.old (P.device dev.old) }
+    ensures tasks { AreTasks image.now workers.new }
+    ensures lines { HasCompartments image.now workers.new (P.device dev.new) }
+    ensures count { length workers.new ≡ length workers.old }
+{
+    let mut seen = [RecoverAnswer::Clean; 8];
+    for worker in 0..workers.count() {
+        seen[(worker % 8) as usize] = workers.recover_one(image, worker, dev, steps);
+    }
+    seen
+}
+
+/// Heap word 0 of a compartment, where that lies on the device.
+fn counter_of<P: Pmem>(image: &Image, dev: &P, worker: u32) -> Option<i64>
+    requires { worker < 8 }
+{
+    let word = 8 * first_line(image.sizes(), worker) + heap_start(image.sizes());
+    if word / 8 < dev.lines() {
+        dev.load(word)
+    } else {
+        None
+    }
+}
+
+/// Heap word 0 of each compartment.
+fn counters<P: Pmem>(image: &Image, dev: &P) -> [Option<i64>; 8] {
+    let mut seen = [None; 8];
+    for worker in 0..8 {
+        seen[(worker % 8) as usize] = counter_of(image, dev, worker);
+    }
+    seen
+}
+
+/// The phases of the workers.
+fn phases(workers: &Workers) -> [Option<Phase>; 8] {
+    let mut seen = [None; 8];
+    for worker in 0..workers.count() {
+        seen[(worker % 8) as usize] = workers.phase(worker);
+    }
+    seen
+}
+
+/// Rounds up to a turn that is refused; then power, and the recovery of all compartments.
+pub fn cut_and_recover<P: Pmem + Drop, L: Ledger>(
+    alloc: Global,
+    workers: &mut Workers,
+    image: &Image,
+    rest: Rest,
+    dev: &mut P,
+    steps: &mut Steps<L>,
+) -> Seen
+    requires tasks { AreTasks image.now workers.old }
+    requires uncut { AreUncut workers.old }
+    requires lines { HasCompartments image.now workers.old (P.device dev.old) }
+    ensures tasks { AreTasks image.now workers.new }
+    ensures lines { HasCompartments image.now workers.new (P.device dev.new) }
+    ensures count { length workers.new ≡ length workers.old }
+{
+    let turns = rounds(workers, image, dev, steps);
+    let phases = phases(workers);
+    power(alloc, dev, rest);
+    dev.arm(1000);
+    let recovered = recover_all(workers, image, dev, steps);
+    let counters = counters(image, dev);
+    Seen {
+        turns,
+        phases,
+        recovered,
+        counters,
+    }
+}
+
+/// Whether a compartment holds what the phase of its worker's transaction and the power cut leave:
+/// of one that wasn't sealed nothing; of one that was sealed, or that ended, all.
+pub fn is_right(seen: &Seen, rest: Rest, worker: u32) -> bool {
+    let at = (worker % 8) as usize;
+    let value = i64::from(worker % 8) + 1;
+    let phase = seen.phases[at];
+    let recovered = seen.recovered[at];
+    let whole = match phase {
+        None | Some(Phase::Sealed) => true,
+        Some(Phase::Unsealed) => false,
+        Some(Phase::Sealing) => rest == Rest::New,
+    };
+    let answered = match recovered {
+        RecoverAnswer::Clean => phase.is_none() || rest == Rest::New || !whole,
+        RecoverAnswer::Redone { value: redone, .. } => whole && redone == value,
+        _ => false,
+    };
+    answered && seen.counters[at] == Some(if whole { value } else { 0 })
+}
+
+/// Whether a compartment holds its worker's transaction whole or not at all, as its recovery says.
+pub fn is_whole_or_not(seen: &Seen, worker: u32) -> bool {
+    let at = (worker % 8) as usize;
+    let value = i64::from(worker % 8) + 1;
+    let recovered = seen.recovered[at];
+    match recovered {
+        RecoverAnswer::Clean => seen.counters[at] == Some(0) || seen.counters[at] == Some(value),
+        RecoverAnswer::Redone { value: redone, .. } => redone == value
+            && seen.counters[at] == Some(value),
+        _ => false,
+    }
+}
