@@ -1,4 +1,4 @@
--- A marked run beside the run without the runner's records.
+-- A marked run compared with the run without the runner's records.
 use Rattle.std.proofs.Common.{◌≡◌, ◌⊎◌, ◌||◌, inl, inr, ⊎_elim, ℕ, zero, suc, ◌+◌, ◌/◌, ◌<◌, ◌≤◌}
 use Rattle.std.proofs.Common.{if◌then◌else◌, nat_lt, nat_eq, Bool, true, false, List, [], ◌∷◌}
 use Rattle.std.proofs.Common.{length, Option, Some, None, ℤ, refl, sym, ap, ◌∙◌, subst, arith}
@@ -17,8 +17,8 @@ use Rattle.pm_machine.specs.declared.effect.End.{End}
 use Rattle.pm_machine.specs.declared.effect.End.TheVariants.{Halted, Trapped}
 use Rattle.pm_machine.specs.declared.image.Image.{Image}
 use Rattle.pm_machine.specs.Effects.{heap_past, records_past, heap_end}
-use Rattle.pm_machine.specs.Machine.{State, Outcome, Goes, Ends, Run, Finished, began, follow}
-use Rattle.pm_machine.specs.Machine.{tally, step, act, fetch, log, store, target, read, stored}
+use Rattle.pm_machine.specs.Machine.{State, StepOutcome, Goes, Ends, Run, Finished, began, follow}
+use Rattle.pm_machine.specs.Machine.{tally, step, execute, fetch, log, store, target, read_register, stored}
 use Rattle.pm_machine.specs.Machine.{passed, stored_by, due_store, run}
 use Rattle.pm_machine.proofs.Fuel.{began_rest}
 use Rattle.crash_law.specs.Due.{is_listed}
@@ -32,8 +32,8 @@ use Rattle.pm_machine.specs.Machine.{start}
 use Rattle.abort_law.specs.Beside.{BesideLaw}
 use Rattle.abort_law.proofs.Marks.{step_stores}
 
--- the shape of what is left of a tidy run: stores may come; the lines are flushed; nothing comes;
--- or no flush and no fence comes
+-- the shape of the rest of a tidy run: stores may come; the lines are flushed; nothing comes; or no
+-- flush and no fence comes
 data Shape : Type 0 where
   Open Closing : List ℕ → Shape
   Over Still : Shape
@@ -144,7 +144,7 @@ log_before (Closing ds) w es may h = absurd may
 log_before Over w es may h = absurd may
 log_before Still w es may h = h
 
--- the marked run r beside one that ends so with effects fs
+-- the marked run r, compared with one that ends like this with effects fs
 record Shown (sh : Shape) (last : Option ℕ) (end0 : End) (h : Words) (fs : List Effect)
     (r : Run) : Type 0 where
   end : End
@@ -154,7 +154,7 @@ record Shown (sh : Shape) (last : Option ℕ) (end0 : End) (h : Words) (fs : Lis
   kind : ((end ≡ end0) × Fits sh es × (heap_end h es ≡ heap_end h fs))
       ⊎ ((end ≡ Trapped trap.LogFull) × IsStill es × MayStore sh)
 
--- an effect of both
+-- an effect of both runs
 shown_more : (sh : Shape) (last later : Option ℕ) (end0 : End) (h : Words) (e : Effect)
     (fs : List Effect) (r : Run) → Fits sh (e ∷ fs) →
     ((es : List Effect) → IsPaired later (seen_all es) → IsPaired last (seen_all (e ∷ es))) →
@@ -190,7 +190,7 @@ module _ (image : Image) where
 
   -- with more records a step is the same, or finds the log full
 
-  data Alike (o p : Outcome) : Type 0 where
+  data Alike (o p : StepOutcome) : Type 0 where
     Equal : p ≡ o → Alike o p
     Filled : (w : ℕ) (t : State) → o ≡ Goes (Logs w) t → p ≡ Ends (Trapped trap.LogFull) → Alike o p
 
@@ -209,7 +209,7 @@ module _ (image : Image) where
           absurd (omega arith)
 
   act_alike : (heap : Words) (n m : ℕ) (s : State) (i : Option Op) → n ≤ m →
-      Alike (tally (act image heap n s i)) (tally (act image heap m s i))
+      Alike (tally (execute image heap n s i)) (tally (execute image heap m s i))
   act_alike heap n m s (Some (op.Log a o)) le = log_alike n m s (target image s a o) le
   act_alike heap n m s i le = Equal refl
 
@@ -220,13 +220,16 @@ module _ (image : Image) where
   -- a store that is due is done
   record Stored (heap : Words) (n : ℕ) (s : State) (w : ℕ) (i : Option Op) : Type 0 where
     value : ℤ
-    done : tally (act image heap n s i) ≡ Goes (Stores w value) (stored s w)
+    done : tally (execute image heap n s i) ≡ Goes (Stores w value) (stored s w)
 
   due_done : (heap : Words) (n : ℕ) (s : State) (w : ℕ) (i : Option Op) →
       stored_by image s i ≡ Some w → Stored heap n s w i
   due_done heap n s w None e = absurd (cc (e))
   due_done heap n s w (Some (op.Store a o b)) e =
-      record { value = read s b; done = ap (λ (p : Option ℕ). tally (store s (read s b) p)) e }
+      record {
+        value = read_register s b;
+        done = ap (λ (p : Option ℕ). tally (store s (read_register s b) p)) e;
+      }
   due_done heap n s w (Some i) e = absurd (cc (e))
 
   not_due : (heap : Words) (n : ℕ) (s t : State) (e : Effect) → step image n s heap ≡ Goes e t →
@@ -255,7 +258,7 @@ module _ (image : Image) where
   abbrev rest : ℕ → List ℕ → State → Words → Run
   rest k ms t h = run_marked image k ms t h
 
-  -- an effect of both that is no store and no log
+  -- an effect of both runs that is neither a store nor a log
   plain : (k : ℕ) (known : Known k) (n : ℕ) (ls : List ℕ) (s t : State) (h : Words) (sh : Shape)
       (last : Option ℕ) (end0 : End) (e : Effect) (fs : List Effect) → n ≤ length ls →
       ((w : ℕ) → last ≡ Some w → is_listed w ls ≡ true) →
@@ -329,7 +332,7 @@ module _ (image : Image) where
   same_effect : (e f : Effect) (t u : State) → Goes e t ≡ Goes f u → e ≡ f
   same_effect e f t u h = cc (h)
 
-  -- with as many records or more a store is the same step
+  -- with at least as many records a store is the same step
   store_alike : (h : Words) (n m : ℕ) (s t : State) (w : ℕ) (x : ℤ) →
       step image n s h ≡ Goes (Stores w x) t → Alike (step image n s h) (step image m s h) →
       step image m s h ≡ Goes (Stores w x) t
@@ -351,8 +354,7 @@ module _ (image : Image) where
         es = [];
         ran = is;
         paired = tt;
-        kind =
-            inr (refl, tt, may);
+        kind = inr (refl, tt, may);
       }
 
   ended : (k : ℕ) (n : ℕ) (ls : List ℕ) (s : State) (h : Words) (sh : Shape) (last : Option ℕ)
@@ -386,7 +388,7 @@ module _ (image : Image) where
       due : due_store image s ≡ None
       due = not_due h n s t (Logs w) is (λ v x e. absurd (cc (e))) (due_store image s) refl
 
-      moved : (p : Outcome) → step image (length ls) s h ≡ p →
+      moved : (p : StepOutcome) → step image (length ls) s h ≡ p →
           turned image ls s h (rest k) (missing ls (due_store image s))
           ≡ follow (λ e t. rest k (logged_past ls e) t (heap_past h e)) p
       moved p e = ap (λ (o : Option ℕ). turned image ls s h (rest k) (missing ls o)) due
@@ -424,7 +426,7 @@ module _ (image : Image) where
       (turned image ls s h (rest k) (missing ls o))) (sym (step_stores image h n s t w x is))
       (go (is_listed w ls) refl)
     where
-      -- the store with these words logged
+      -- the store, with these words logged
       later : (ms : List ℕ) → n ≤ length ms →
           Shown (next sh (Stores w x)) None end0 (heap_past h (Stores w x)) fs
           (rest k ms t (heap_past h (Stores w x)))
@@ -509,7 +511,7 @@ module _ (image : Image) where
   by_outcome : (k : ℕ) (known : Known k) (n : ℕ) (ls : List ℕ) (s : State) (h : Words) (sh : Shape)
       (last : Option ℕ) (end0 : End) (fs : List Effect) → n ≤ length ls →
       ((w : ℕ) → last ≡ Some w → is_listed w ls ≡ true) →
-      (o : Outcome) → step image n s h ≡ o →
+      (o : StepOutcome) → step image n s h ≡ o →
       follow (λ e t. run image k (records_past n e) t (heap_past h e)) o ≡ Finished end0 fs →
       IsPaired last (seen_all fs) → Fits sh fs →
       Shown sh last end0 h fs (turned image ls s h (rest k) (missing ls (due_store image s)))
@@ -530,16 +532,16 @@ module _ (image : Image) where
       by_outcome k (λ n ls s h sh last end0 fs. beside k n ls s h sh last end0 fs) n ls s h sh last
       end0 fs le listed (step image n s h) refl ran paired fits
 
--- the shape of a run by its end
+-- the shape of a run, by its end
 abbrev shape : End → Shape
 shape (Halted v) = Open []
 shape (Trapped k) = Still
 
-fits_of : (end : End) (fs : List Effect) → IsTidyEnd end fs → Fits (shape end) fs
+fits_of : (end : End) (fs : List Effect) → IsTidyEnd [] end fs → Fits (shape end) fs
 fits_of (Halted v) fs h = h
 fits_of (Trapped k) fs h = h
 
-of_fits : (end : End) (fs : List Effect) → Fits (shape end) fs → IsTidyEnd end fs
+of_fits : (end : End) (fs : List Effect) → Fits (shape end) fs → IsTidyEnd [] end fs
 of_fits (Halted v) fs h = h
 of_fits (Trapped k) fs h = h
 
@@ -554,8 +556,9 @@ besides image k h tx args end0 fs ran sound =
       record {
         paired = shown.paired;
         tidy = ⊎_elim
-            (λ k. subst (λ (q : End). IsTidyEnd q shown.es) (sym k.0) (of_fits end0 shown.es k.1))
-            (λ k. subst (λ (q : End). IsTidyEnd q shown.es) (sym k.0) k.1)
+            (λ k. subst (λ (q : End). IsTidyEnd [] q shown.es) (sym k.0)
+            (of_fits end0 shown.es k.1))
+            (λ k. subst (λ (q : End). IsTidyEnd [] q shown.es) (sym k.0) k.1)
             shown.kind;
       },
       ⊎_elim (λ k. inl (k.0, k.2)) (λ k. inr k.0) shown.kind,

@@ -1,7 +1,7 @@
--- A marked run logs the first store of each word: its trace is one that the crash law of aborted
--- calls speaks of.
+-- A marked run logs the first store of each word: the crash law of aborted calls applies to its
+-- trace.
 use Rattle.std.proofs.Common.{◌≡◌, ◌≢◌, ◌⊎◌, ◌||◌, ◌==◌, inl, inr, ⊎_elim, ℕ, zero, suc, ◌+◌, ◌<◌}
-use Rattle.std.proofs.Common.{◌≤◌, cond, if◌then◌else◌, nat_lt, Bool, true, false, List, [], ◌∷◌}
+use Rattle.std.proofs.Common.{◌≤◌, if◌then◌else◌, nat_lt, Bool, true, false, List, [], ◌∷◌}
 use Rattle.std.proofs.Common.{length, Option, Some, None, ℤ, refl, sym, ap, ◌∙◌, subst, arith}
 use Rattle.std.proofs.Common.{eqb-true, eq-eqb}
 use Rattle.std.proofs.lemmas.Bool.{or_cases}
@@ -15,9 +15,10 @@ use Rattle.pm_machine.specs.declared.effect.End.{End}
 use Rattle.pm_machine.specs.declared.effect.End.TheVariants.{Trapped}
 use Rattle.pm_machine.specs.declared.image.Image.{Image}
 use Rattle.pm_machine.specs.Effects.{heap_past, records_past}
-use Rattle.pm_machine.specs.Machine.{State, Outcome, Goes, Ends, Finished, began, follow, step}
+use Rattle.pm_machine.specs.Machine.{State, StepOutcome, Goes, Ends, Finished, began, follow, step}
 use Rattle.pm_machine.specs.Machine.{fetch, due_store}
-use Rattle.pm_machine.specs.Runs.{IsInRange, AreLines, Keeps}
+use Rattle.pm_machine.specs.Runs.{AreLines}
+use Rattle.pm_machine.specs.inside.Runs.{IsInRange, StepKeeps}
 use Rattle.pm_machine.proofs.Fuel.{began_rest}
 use Rattle.pm_machine.proofs.Range.{keeps_step, records_fit}
 use Rattle.crash_law.specs.Due.{is_listed}
@@ -25,7 +26,7 @@ use Rattle.crash_law.specs.Effects.{IsOverwritten, IsLoggedFirst, logs_of}
 use Rattle.crash_law.proofs.Effects.{trace_from}
 use Rattle.run_law.specs.Seen.{seen_all, trace_in}
 use Rattle.run_law.specs.Sound.{IsPairedRun}
-use Rattle.undo_law.specs.Undo.{Every, IsMarked}
+use Rattle.undo_law.specs.Undo.{Every, IsMarkedTrace}
 use Rattle.run_law.proofs.Headers.{headers_over, logs_headers, first_headers}
 use Rattle.abort_law.specs.Machine.{logged_past, missing, stepped, turned, run_marked}
 use Rattle.abort_law.proofs.Marks.{step_stores, stored_below, length_past}
@@ -103,8 +104,8 @@ module _ (image : Image) (end : End) where
   none_good : (ls : List ℕ) → length ls ≤ R → Good ls []
   none_good ls le = (((λ w over. absurd over), omega arith), λ u over. absurd over)
 
-  step_on : (k : ℕ) (ls : List ℕ) (s : State) (h : Words) (o : Outcome) (es : List Effect) →
-      Known k → Keeps R H (length ls) s.logged o → length ls ≤ R →
+  step_on : (k : ℕ) (ls : List ℕ) (s : State) (h : Words) (o : StepOutcome) (es : List Effect) →
+      Known k → StepKeeps R H (length ls) s.logged o → length ls ≤ R →
       ((w : ℕ) (x : ℤ) (t : State) → o ≡ Goes (effect.Stores w x) t → is_listed w ls ≡ true) →
       follow (λ e t. run_marked image k (logged_past ls e) t (heap_past h e)) o ≡ Finished end es →
       Good ls es
@@ -175,10 +176,10 @@ module _ (image : Image) (end : End) where
       turn_good k ms t h (due_store image t) es (λ ms t h es. run_good k ms t h es) lines le refl
       ran
 
--- a marked run from no record, whose LOGs go on to their STOREs
+-- a marked run that starts with no record, whose LOGs are followed by their STOREs
 pub run_marks : (image : Image) (k : ℕ) (s : State) (h : Words) (end : End) (es : List Effect) →
     AreLines (heap_words image.parts.sizes) s.dirty → run_marked image k [] s h ≡ Finished end es →
-    IsPairedRun es → IsMarked image.parts.sizes (trace_in es)
+    IsPairedRun es → IsMarkedTrace image.parts.sizes (trace_in es)
 run_marks image k s h end es lines ran paired =
     let good = run_good image end k [] s h es lines (omega arith) ran in
     trace_from image.parts.sizes.records (heap_words image.parts.sizes) Every Every (seen_all es)

@@ -1,10 +1,10 @@
 pub mod Marks
-pub mod Owings
+pub mod Dues
 pub mod Firsts
 pub mod Lists
-pub mod Callings
-pub mod Redoings
-pub mod Leavings
+pub mod Calls
+pub mod Redoes
+pub mod AfterAnswers
 pub mod Besides
 pub mod Rollbacks
-pub mod Rising
+pub mod FaultCounts

@@ -1,6 +1,6 @@
--- What is due after a seal, on a cache, is the crash law's list.
+-- The due events after a seal, on a cache, are the crash law's list.
 use Rattle.std.proofs.Common.{◌≡◌, ◌≢◌, ◌⊎◌, ⊎_elim, ℕ, zero, suc, ◌+◌, ◌^◌, ◌<◌, ◌≤◌, List, []}
-use Rattle.std.proofs.Common.{◌∷◌, ◌++◌, Option, ℤ, pos, nat_abs, refl, sym, ap, ◌∙◌, subst, arith}
+use Rattle.std.proofs.Common.{◌∷◌, ◌++◌, Option, ℤ, pos, refl, sym, ap, ◌∙◌, subst, arith}
 use Rattle.std.proofs.Common.{append-nil}
 use Rattle.std.proofs.lemmas.Bool.{cases_eq}
 use Rattle.cache_model.specs.Event.{CacheEvent, Store, Flush, Fence}
@@ -8,15 +8,16 @@ use Rattle.cache_model.specs.Cache.{Words, Cache, put, view}
 use Rattle.cache_model.specs.Play.{apply, play}
 use Rattle.cache_model.proofs.Versions.{put_same, put_other}
 use Rattle.cache_model.proofs.Views.{view_same, view_other, view_flush, view_fence}
+use Rattle.pool_layout.specs.declared.places.TheConstants.{LAST, DONE, ATTEMPT}
 use Rattle.pool_layout.specs.declared.limits.Sizes.{Sizes}
 use Rattle.pool_layout.specs.declared.places.Layout.{Layout}
 use Rattle.pool_layout.specs.declared.places.Place.TheVariants.{RecordWord, RecordOld, RecordStamp}
 use Rattle.pool_layout.specs.declared.places.Place.TheVariants.{Heap}
 use Rattle.pool_layout.specs.Sizes.{heap_words}
-use Rattle.pool_layout.specs.Places.{at, line_of, pool_of}
+use Rattle.pool_layout.specs.Places.{at, pool_of}
 use Rattle.pool_layout.proofs.Records.{count_is}
 use Rattle.clobber_log.specs.Logs.{attempt_of, count_in}
-use Rattle.clobber_log.specs.Restore.{restore_events, first_events, word_in_record, old_in_record}
+use Rattle.clobber_log.specs.Restore.{as_heap_word, back_at, fence_after, back_events, restore_events, word_in_record, old_in_record}
 use Rattle.pool_layout.specs.Log.{count}
 use Rattle.args_log.specs.Retire.{retire_events}
 use Rattle.pool_map.specs.declared.trap.TrapKind.{TrapKind}
@@ -37,17 +38,17 @@ use Rattle.run_law.proofs.Runs.{due_run_is}
 use Rattle.cut_law.proofs.Misses.{view_missed, misses_run}
 use Rattle.cut_law.proofs.Dues.{next_is, attempt_small}
 use Rattle.cut_law.proofs.Backs.{misses_restore, restore_same}
-use Rattle.undo_law.specs.Undo.{Every, IsMarked, Records, no_records, with_record, records_after}
-use Rattle.undo_law.specs.Undo.{back_events, undo_events, due_undone}
-use Rattle.abort_mode.specs.Due.{due_on, retiring, due_undo, tail_events, due_run}
+use Rattle.undo_law.specs.Undo.{Every, IsMarkedTrace, Records, no_records, with_record, records_after}
+use Rattle.undo_law.specs.Undo.{undo_events, due_undone}
+use Rattle.abort_mode.specs.Due.{abort_due_on, retiring, due_undo, abort_tail_events, due_run}
 use Rattle.abort_law.specs.Machine.{run_marked}
-use Rattle.abort_law.proofs.Owings.{Owes, run_owes}
+use Rattle.abort_law.proofs.Dues.{Owes, run_owes}
 
 module _ (z : Sizes) (a : ℕ) where
   abbrev C : Layout
   C = pool_of z
 
-  -- the view has these records, and no more
+  -- the view has exactly these records
   pub record Holds (r : Records) (c : Cache) : Type 0 where
     pub room : r.n ≤ z.records
     pub in_heap : (j : ℕ) → j < r.n → (u : ℕ) × (r.word j ≡ pos u) × (u < heap_words z)
@@ -161,7 +162,7 @@ module _ (z : Sizes) (a : ℕ) where
 
   pub holds_run : (trace : List Entry) (r : Records) (heap : ℕ → ℤ) (stored : ℕ → Type 0)
       (c : Cache) → Holds r c → IsTrace z.records (heap_words z) Every Every r.n stored trace →
-      Holds (records_after r heap trace) (play c (run_events C a r.n heap trace))
+      Holds (records_after r heap trace) (play c (run_events z a r.n heap trace))
   holds_run [] r heap stored c h is = h
   holds_run (Plain w x ∷ trace) r heap stored c h is =
       holds_run trace r (put heap w x) (λ u. (u ≡ w) ⊎ stored u) (apply c (Store (at C (Heap w)) x))
@@ -176,27 +177,22 @@ module _ (z : Sizes) (a : ℕ) where
       (apply c5' (Store (at C (Heap w)) x))
       (holds_store (with_record r w (heap w)) c5' w x (holds_log r c w (heap w) h is.2 is.1)) is.3
 
-  -- restoring asks for the first n records alone
-  restore_cong : (word old word' old' : ℕ → ℤ) (n : ℕ) (rest : List CacheEvent) →
+  -- restoring depends only on the first n records
+  back_cong : (word old word' old' : ℕ → ℤ) (n : ℕ) →
       ((j : ℕ) → j < n → word j ≡ word' j) → ((j : ℕ) → j < n → old j ≡ old' j) →
-      crash.restore_events C word old n rest ≡ crash.restore_events C word' old' n rest
-  restore_cong word old word' old' zero rest hw ho = refl
-  restore_cong word old word' old' (suc n) rest hw ho =
-      let more = restore_cong word old word' old' n rest (λ j lt. hw j (omega arith))
+      back_events z word old n ≡ back_events z word' old' n
+  back_cong word old word' old' zero hw ho = refl
+  back_cong word old word' old' (suc n) hw ho =
+      let more = back_cong word old word' old' n (λ j lt. hw j (omega arith))
       (λ j lt. ho j (omega arith)) in
       let x = hw n (omega arith) in
       let o = ho n (omega arith) in
-      λ i. Store (at C (Heap (nat_abs (x i))))
-      (o i) ∷ Flush (line_of C (Heap (nat_abs (x i)))) ∷ more i
-
-  restore_none : (image : Words) → count_in z image ≡ 0 → restore_events z image ≡ []
-  unfolding restore_events
-  restore_none image none = ap (λ (n : ℕ). first_events z image n) none
+      λ i. back_at z (as_heap_word z (x i)) (o i) ++ more i
 
   -- the undo of a view with these records
   module _ (r : Records) (c : Cache) (h : Holds r c) (d : ℕ) (last : ℤ) (d_fits : d ≤ 2 ^ 62)
-      (a_fits : a ≤ 2 ^ 62) (last_is : view c 16 ≡ last) (done : view c 17 ≡ pos d)
-      (attempt : view c 18 ≡ pos a) where
+      (a_fits : a ≤ 2 ^ 62) (last_is : view c LAST ≡ last) (done : view c DONE ≡ pos d)
+      (attempt : view c ATTEMPT ≡ pos a) where
     pub counted : count_in z (view c) ≡ r.n
     counted =
         ap (λ (b : ℕ). count C b (view c)) (ap attempt_of attempt ∙ attempt_small a a_fits)
@@ -208,44 +204,38 @@ module _ (z : Sizes) (a : ℕ) where
     low : (p : ℕ) → p < 48 → view (play c back) p ≡ view c p
     low p lt = view_missed back c p (misses_restore z p (view c) (omega arith))
 
-    retiring_is : retiring (view (play c back) 16) (play c back)
-        ≡ crash.retire_events C a (suc d) last
+    retiring_is : retiring (view (play c back) LAST) (play c back)
+        ≡ retire_events last (pos (suc d)) (pos (suc a))
     unfolding retire_events
     retiring_is =
         let v = low 16 (omega arith) ∙ last_is in
-        let k = next_is (view (play c back) 17) d (low 17 (omega arith) ∙ done) d_fits in
-        let b = next_is (view (play c back) 18) a (low 18 (omega arith) ∙ attempt) a_fits in
-        λ i. Store 16 (v i) ∷ Store 17 (k i) ∷ Store 18 (b i) ∷ Flush 2 ∷ Fence ∷ []
+        let k = next_is (view (play c back) DONE) d (low 17 (omega arith) ∙ done) d_fits in
+        let b = next_is (view (play c back) ATTEMPT) a (low 18 (omega arith) ∙ attempt) a_fits in
+        λ i. Store LAST (v i) ∷ Store DONE (k i) ∷ Store ATTEMPT (b i) ∷ Flush 2 ∷ Fence ∷ []
 
-    pub undo_is : due_undo z c ≡ undo_events C a (suc d) r last
-    undo_is = ap (λ (rest : List CacheEvent). back ++ rest) retiring_is ∙ go r.n refl
-      where
-        go : (m : ℕ) → r.n ≡ m →
-            restore_events z (view c) ++ crash.retire_events C a (suc d) last
-            ≡ back_events C r.word r.old m (crash.retire_events C a (suc d) last)
-        go zero e = ap (λ (es : List CacheEvent). es ++ crash.retire_events C a (suc d) last)
-            (restore_none (view c) (counted ∙ e))
-        go (suc m) e =
-            restore_same z (view c) m (crash.retire_events C a (suc d) last) (counted ∙ e)
-            (λ j lt. let u = h.in_heap j (omega arith) in (u.0, h.words j (omega arith) ∙ u.1, u.2))
-            ∙ restore_cong (word_in_record z (view c))
-            (old_in_record z (view c)) r.word r.old (suc m)
-            (Fence ∷ crash.retire_events C a (suc d) last) (λ j lt. h.words j (omega arith))
-            (λ j lt. h.olds j (omega arith))
+    pub undo_is : due_undo z c ≡ undo_events z a (suc d) r last
+    undo_is =
+        let tail : List CacheEvent = retire_events last (pos (suc d)) (pos (suc a)) in
+        ap (λ (rest : List CacheEvent). back ++ rest) retiring_is
+        ∙ ap (λ (es : List CacheEvent). es ++ tail)
+        (restore_same z (view c) r.n counted
+        ∙ ap (λ (es : List CacheEvent). es ++ fence_after r.n)
+        (back_cong (word_in_record z (view c)) (old_in_record z (view c)) r.word r.old r.n
+        h.words h.olds))
 
--- the run after a seal, and what is due after it, from attempt a, no record and the heap g
+-- the run after a seal, and the due events after it, from attempt a, no record and the heap g
 module _ (image : Image) (s : State) (c : Cache) (d a : ℕ) (g : Words) (es : List Effect)
-    (d_fits : d ≤ 2 ^ 62) (a_fits : a ≤ 2 ^ 62) (done : view c 17 ≡ pos d)
-    (attempt : view c 18 ≡ pos a) (none : Holds image.parts.sizes a no_records c)
+    (d_fits : d ≤ 2 ^ 62) (a_fits : a ≤ 2 ^ 62) (done : view c DONE ≡ pos d)
+    (attempt : view c ATTEMPT ≡ pos a) (none : Holds image.parts.sizes a no_records c)
     (heap : heap_in image.parts.sizes c ≡ g) where
   abbrev z : Sizes
   z = image.parts.sizes
 
   empty : count_in z (view c) ≡ 0
-  empty = counted z a no_records c none d (view c 16) d_fits a_fits refl done attempt
+  empty = counted z a no_records c none d (view c LAST) d_fits a_fits refl done attempt
 
   owes : (end : End) → run_marked image image.parts.most [] s g ≡ Finished end es →
-      AreLines (heap_words z) s.dirty → Owes (due_on image s c) z a 0 g end es
+      AreLines (heap_words z) s.dirty → Owes (abort_due_on image s c) z a 0 g end es
   owes end ran lines =
       subst (λ (b : ℕ).
       Owes (due_marked image b image.parts.most (count_in z (view c)) s c) z a 0 g end es)
@@ -256,26 +246,26 @@ module _ (image : Image) (s : State) (c : Cache) (d a : ℕ) (g : Words) (es : L
       (run_owes image a image.parts.most [] s c end es lines (omega arith) tt
       (ap (λ (h : Words). run_marked image image.parts.most [] s h) heap ∙ ran))))
 
-  tails : (end : End) → Owes (due_on image s c) z a 0 g end es →
+  tails : (end : End) → Owes (abort_due_on image s c) z a 0 g end es →
       due_run image s c ≡ events_all z a 0 g es
-      ++ tail_events z end (play c (events_all z a 0 g es))
+      ++ abort_tail_events z end (play c (events_all z a 0 g es))
   tails end owed =
-      ap (λ (fs : List CacheEvent). fs ++ tail_events z (end_of (due_on image s c).fate)
+      ap (λ (fs : List CacheEvent). fs ++ abort_tail_events z (end_of (abort_due_on image s c).fate)
       (play c fs)) owed.0
-      ∙ ap (λ (f : Option End). events_all z a 0 g es ++ tail_events z (end_of f)
+      ∙ ap (λ (f : Option End). events_all z a 0 g es ++ abort_tail_events z (end_of f)
       (play c (events_all z a 0 g es))) owed.1
 
   -- a run that traps
   pub aborted_is : (k : TrapKind) →
       run_marked image image.parts.most [] s g ≡ Finished (Trapped k) es →
-      AreLines (heap_words z) s.dirty → IsSoundRun (Trapped k) es → IsMarked z (trace_in es) →
-      due_run image s c ≡ due_undone (pool_of z) a (suc d) g (trace_in es) (view c 16)
+      AreLines (heap_words z) s.dirty → IsSoundRun (Trapped k) es → IsMarkedTrace z (trace_in es) →
+      due_run image s c ≡ due_undone z a (suc d) g (trace_in es) (view c LAST)
   aborted_is k ran lines sound marks =
       let events : List CacheEvent = events_all z a 0 g es in
       let trace : List Entry = trace_in es in
-      let same : events ≡ run_events (pool_of z) a 0 g trace =
+      let same : events ≡ run_events z a 0 g trace =
       (join z a g (Trapped k) es sound.paired sound.tidy).0
-      ∙ append-nil (run_events (pool_of z) a 0 g trace) in
+      ∙ append-nil (run_events z a 0 g trace) in
       let low : (p : ℕ) → p < 48 → view (play c events) p ≡ view c p =
       λ p lt. view_missed events c p (misses_run z a 0 p g es lt) in
       let held : Holds z a (records_after no_records g trace) (play c events) =
@@ -284,23 +274,23 @@ module _ (image : Image) (s : State) (c : Cache) (d a : ℕ) (g : Words) (es : L
       tails (Trapped k) (owes (Trapped k) ran lines)
       ∙ ap (λ (rest : List CacheEvent). events ++ rest)
       (undo_is z a (records_after no_records g trace)
-      (play c events) held d (view c 16) d_fits a_fits (low 16 (omega arith))
+      (play c events) held d (view c LAST) d_fits a_fits (low 16 (omega arith))
       (low 17 (omega arith) ∙ done) (low 18 (omega arith) ∙ attempt))
-      ∙ ap (λ (fs : List CacheEvent). fs ++ undo_events (pool_of z) a (suc d)
-      (records_after no_records g trace) (view c 16)) same
+      ∙ ap (λ (fs : List CacheEvent). fs ++ undo_events z a (suc d)
+      (records_after no_records g trace) (view c LAST)) same
 
   -- a run that halts
-  retiring_of : (v : ℤ) (e : Cache) → view e 17 ≡ pos d → view e 18 ≡ pos a →
-      retiring v e ≡ crash.retire_events (pool_of z) a (suc d) v
+  retiring_of : (v : ℤ) (e : Cache) → view e DONE ≡ pos d → view e ATTEMPT ≡ pos a →
+      retiring v e ≡ retire_events v (pos (suc d)) (pos (suc a))
   unfolding retire_events
   retiring_of v e d_is a_is =
-      let k = next_is (view e 17) d d_is d_fits in
-      let b = next_is (view e 18) a a_is a_fits in
-      λ i. Store 16 v ∷ Store 17 (k i) ∷ Store 18 (b i) ∷ Flush 2 ∷ Fence ∷ []
+      let k = next_is (view e DONE) d d_is d_fits in
+      let b = next_is (view e ATTEMPT) a a_is a_fits in
+      λ i. Store LAST v ∷ Store DONE (k i) ∷ Store ATTEMPT (b i) ∷ Flush 2 ∷ Fence ∷ []
 
   pub done_is : (v : ℤ) → run_marked image image.parts.most [] s g ≡ Finished (Halted v) es →
       AreLines (heap_words z) s.dirty → IsSoundRun (Halted v) es →
-      due_run image s c ≡ crash.due_run (pool_of z) a (suc d) g (crash.Halted v) (trace_in es)
+      due_run image s c ≡ crash.due_run z a (suc d) g (crash.Halted v) (trace_in es)
   done_is v ran lines sound =
       let events : List CacheEvent = events_all z a 0 g es in
       let low : (p : ℕ) → p < 48 → view (play c events) p ≡ view c p =
@@ -311,8 +301,8 @@ module _ (image : Image) (s : State) (c : Cache) (d a : ℕ) (g : Words) (es : L
       (low 18 (omega arith) ∙ attempt))
       ∙ due_run_is z a (suc d) g (Halted v) es sound
 
-  -- what the run owes, told of its answer
+  -- what is due of the run, from its answer
   pub owes_of : (end : End) → run_marked image image.parts.most [] s g ≡ Finished end es →
-      AreLines (heap_words z) s.dirty → Owes (due_on image s c) z a 0 g end es
+      AreLines (heap_words z) s.dirty → Owes (abort_due_on image s c) z a 0 g end es
       × (count_in z (view c) ≡ 0)
   owes_of end ran lines = (owes end ran lines, empty)

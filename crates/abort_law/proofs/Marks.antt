@@ -1,5 +1,5 @@
--- The run of a marked transaction on a cache owes the events of the run on its heap, and logs the
--- first store of each word.
+-- The due events of the run of a marked transaction on a cache are those of the run on its heap,
+-- and it logs the first store of each word.
 use Rattle.std.proofs.Common.{◌≡◌, ◌≢◌, ◌||◌, ◌==◌, ⊎_elim, ℕ, zero, suc, ◌+◌, ◌-◌, ◌<◌, ◌≤◌}
 use Rattle.std.proofs.Common.{if◌then◌else◌, nat_lt, Bool, true, false, List, [], ◌∷◌, length}
 use Rattle.std.proofs.Common.{slice_get, Option, Some, None, ℤ, ◌+ℤ◌, pos, int_eq, w64, refl, sym}
@@ -28,18 +28,19 @@ use Rattle.pm_machine.specs.declared.effect.Effect.TheVariants.{Fences, Quiet}
 use Rattle.pm_machine.specs.declared.effect.End.TheVariants.{Trapped}
 use Rattle.pm_machine.specs.declared.image.Image.{Image}
 use Rattle.pm_machine.specs.Effects.{heap_past, records_past, events_of}
-use Rattle.pm_machine.specs.Machine.{State, Outcome, Goes, Ends, Run, Finished, began, follow}
-use Rattle.pm_machine.specs.Machine.{tally, step, act, fetch, load, store, log, flush, call, return}
-use Rattle.pm_machine.specs.Machine.{target, written, read, index_of, passed, entered, spent}
+use Rattle.pm_machine.specs.Machine.{State, StepOutcome, Goes, Ends, Run, Finished, began, follow}
+use Rattle.pm_machine.specs.Machine.{tally, step, execute, fetch, load, store, log, flush, call, return}
+use Rattle.pm_machine.specs.Machine.{target, read_register, address_index, passed, entered, tick_spent}
 use Rattle.pm_machine.specs.Machine.{stored_by, due_store}
-use Rattle.pm_machine.specs.Runs.{heap_in, effect_in, IsInRange}
+use Rattle.pm_machine.specs.Runs.{heap_in, effect_in}
+use Rattle.pm_machine.specs.inside.Runs.{IsInRange}
 use Rattle.pm_machine.proofs.Range.{inside_below}
 use Rattle.pm_machine.proofs.Agree.{act_same, header_below}
 use Rattle.crash_law.specs.Due.{is_listed}
-use Rattle.abort_mode.specs.Runs.{has_word, words_in, unlogged}
+use Rattle.abort_mode.specs.Runs.{has_record, words_in, unlogged}
 use Rattle.abort_law.specs.Machine.{logged_past, missing, stepped, turned, run_marked}
 
--- the view's records are of these words
+-- the view's records belong to these words
 abbrev pub AreRecorded : Sizes → List ℕ → Cache → Type 0
 AreRecorded z [] c = Unit {0}
 AreRecorded z (w ∷ ls) c = (words_in z (view c) (length ls) ≡ pos w) × AreRecorded z ls c
@@ -102,10 +103,7 @@ module _ (image : Image) where
       turned_same ls s h r (λ ms t g. run_marked image k ms t g) (missing ls (due_store image s))
       (λ ms t g f e. marked_same k ms t g f e) same
 
-  -- which word a step stores
-
-  none_stores : (o : Outcome) (w : ℕ) (x : ℤ) → effect_in o ≡ Quiet → effect_in o ≡ Stores w x → ⊥
-  none_stores o w x e f = absurd (cc (e, f))
+  -- which word a step stores to
 
   store_word : (s : State) (y : ℤ) (p : Option ℕ) (w : ℕ) (x : ℤ) →
       effect_in (store s y p) ≡ Stores w x → p ≡ Some w
@@ -148,41 +146,42 @@ module _ (image : Image) where
   return_none s v (Some caller) w x e = absurd (cc (e))
 
   tick_none : (s : State) (b : Bool) (w : ℕ) (x : ℤ) →
-      effect_in (if b then Ends (Trapped trap.Steps) else Goes Quiet (spent s)) ≡ Stores w x → ⊥
+      effect_in (if b then Ends (Trapped trap.Steps) else Goes Quiet (tick_spent s)) ≡ Stores w x
+      → ⊥
   tick_none s true w x e = absurd (cc (e))
   tick_none s false w x e = absurd (cc (e))
 
   act_stores : (heap : Words) (n : ℕ) (s : State) (i : Option Op) (w : ℕ) (x : ℤ) →
-      effect_in (act image heap n s i) ≡ Stores w x → stored_by image s i ≡ Some w
+      effect_in (execute image heap n s i) ≡ Stores w x → stored_by image s i ≡ Some w
   act_stores heap n s None w x e = absurd (cc (e))
   act_stores heap n s (Some (op.Store a o b)) w x e =
-      store_word s (read s b) (target image s a o) w x e
+      store_word s (read_register s b) (target image s a o) w x e
   act_stores heap n s (Some (op.Load r a o)) w x e =
       absurd (load_none heap s r (target image s a o) w x e)
   act_stores heap n s (Some (op.Log a o)) w x e = absurd (log_none n s (target image s a o) w x e)
   act_stores heap n s (Some op.Flush) w x e = absurd (flush_none s (slice_get s.dirty 0) w x e)
   act_stores heap n s (Some (op.Call r f args)) w x e = absurd (call_none s r f args w x e)
   act_stores heap n s (Some (op.Ret a)) w x e =
-      absurd (return_none s (read s a) (slice_get s.below (length s.below - 1)) w x e)
+      absurd (return_none s (read_register s a) (slice_get s.below (length s.below - 1)) w x e)
   act_stores heap n s (Some op.Tick) w x e = absurd (tick_none s (s.ticks == 0) w x e)
   act_stores heap n s (Some i) w x e = absurd (cc (e))
 
-  tally_effect : (o : Outcome) → effect_in (tally o) ≡ effect_in o
+  tally_effect : (o : StepOutcome) → effect_in (tally o) ≡ effect_in o
   tally_effect (Goes e t) = refl
   tally_effect (Ends end) = refl
 
-  -- a step that stores is due to store that word
+  -- a step that stores is due to store to that word
   pub step_stores : (heap : Words) (n : ℕ) (s t : State) (w : ℕ) (x : ℤ) →
       step image n s heap ≡ Goes (Stores w x) t → due_store image s ≡ Some w
   step_stores heap n s t w x e =
       act_stores heap n s (fetch image s) w x
-      (sym (tally_effect (act image heap n s (fetch image s))) ∙ ap effect_in e)
+      (sym (tally_effect (execute image heap n s (fetch image s))) ∙ ap effect_in e)
 
   -- the word that is due lies in the heap
   pub stored_below : (s : State) (i : Option Op) (w : ℕ) → stored_by image s i ≡ Some w → w < H
   stored_below s None w e = absurd (cc (e))
   stored_below s (Some (op.Store a o b)) w e =
-      inside_below H w (index_of (int_wrap w64 (read s a +ℤ o))) e
+      inside_below H w (address_index (int_wrap w64 (read_register s a +ℤ o))) e
   stored_below s (Some i) w e = absurd (cc (e))
 
   -- records as a list and in the view
@@ -200,12 +199,12 @@ module _ (image : Image) where
       false_of false never = refl
 
   has_same : (ls : List ℕ) (c : Cache) (w : ℕ) → AreRecorded image.parts.sizes ls c →
-      has_word (words_in image.parts.sizes (view c)) (length ls) w ≡ is_listed w ls
+      has_record (words_in image.parts.sizes (view c)) (length ls) w ≡ is_listed w ls
   has_same [] c w recorded = refl
   has_same (u ∷ ls) c w recorded =
-      ap (λ (x : ℤ). int_eq x (pos w) || has_word (words_in image.parts.sizes (view c))
+      ap (λ (x : ℤ). int_eq x (pos w) || has_record (words_in image.parts.sizes (view c))
       (length ls) w) recorded.0
-      ∙ ap (λ (b : Bool). b || has_word (words_in image.parts.sizes (view c)) (length ls) w)
+      ∙ ap (λ (b : Bool). b || has_record (words_in image.parts.sizes (view c)) (length ls) w)
       (name_same u w)
       ∙ ap (λ (b : Bool). (w == u) || b) (has_same ls c w recorded.1)
 

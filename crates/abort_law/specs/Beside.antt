@@ -1,4 +1,4 @@
--- A marked run beside the run of the same transaction without the runner's records.
+-- A marked run compared with the run of the same transaction without the runner's records.
 use Rattle.std.specs.Prelude.{ℕ, ◌≡◌, ◌⊎◌, List, ℤ}
 use Rattle.cache_model.specs.Cache.{Words}
 use Rattle.pool_map.specs.declared.trap.TrapKind.TheVariants.{LogFull}
@@ -12,17 +12,18 @@ use Rattle.run_law.specs.Sound.{IsSoundRun}
 use Rattle.abort_law.specs.Machine.{mrun_marked}
 use Rattle.abort_law.specs.Cuts.{IsTidyRun}
 
--- the marked run ends as the other one does, with the same heap; or no record was left first
-abbrev pub EndsAs : Words → (end0 end : End) → (fs es : List Effect) → Type 0
-EndsAs h end0 end fs es =
+-- the marked run ends as the other one does, with the same heap; or there was no room for a record
+-- first
+abbrev pub EndsBeside : Words → (end0 end : End) → (fs es : List Effect) → Type 0
+EndsBeside h end0 end fs es =
     ((end ≡ end0) × (heap_end h es ≡ heap_end h fs)) ⊎ (end ≡ Trapped LogFull)
 
--- Where the machine's run of a transaction finishes and is sound, its marked run finishes and is
--- tidy, and ends as it does, or with a full log. So the laws of marked calls hold where the image
--- is sound.
+-- If the machine's run of a transaction finishes and is sound, its marked run finishes and is tidy,
+-- and ends in the same way, or with a full log. So the laws of marked calls hold if the image is
+-- sound.
 abbrev pub BesideLaw : Type 0
 BesideLaw =
     (image : Image) (k : ℕ) (h : Words) (tx : ℕ) (args : List ℤ) (end0 : End) (fs : List Effect) →
     mrun image k h tx args ≡ Finished end0 fs → IsSoundRun end0 fs →
     (end : End) × (es : List Effect) × (mrun_marked image k h tx args ≡ Finished end es)
-    × IsTidyRun end es × EndsAs h end0 end fs es
+    × IsTidyRun end es × EndsBeside h end0 end fs es

@@ -25,21 +25,21 @@ logged_past ls (Flushes l) = ls
 logged_past ls Fences = ls
 logged_past ls Quiet = ls
 
--- the word, where it has none
+-- the word, if it has no record
 abbrev pub missing : List ℕ → Option ℕ → Option ℕ
 missing ls None = None
 missing ls (Some w) = if is_listed w ls then None else Some w
 
--- what is left of a run, by the words that have a record, the machine's state and the heap
+-- the rest of a run, from the words that have a record, the machine's state and the heap
 abbrev pub After : Type 0
 After = List ℕ → State → Words → Run
 
--- a step, and then the rest
+-- a step, followed by the rest
 abbrev pub stepped : Image → List ℕ → State → Words → After → Run
 stepped image ls s heap rest =
     follow (λ e t. rest (logged_past ls e) t (heap_past heap e)) (step image (length ls) s heap)
 
--- a record where one is missing, a step, and then the rest
+-- a record if one is missing, a step, and then the rest
 abbrev pub turned : Image → List ℕ → State → Words → After → Option ℕ → Run
 turned image ls s heap rest None = stepped image ls s heap rest
 turned image ls s heap rest (Some w) =
@@ -53,6 +53,6 @@ run_marked image zero ls s heap = Unfinished
 run_marked image (suc k) ls s heap =
     turned image ls s heap (λ ms t h. run_marked image k ms t h) (missing ls (due_store image s))
 
--- the run of a call, from no record
+-- the run of a call, starting with no record
 abbrev pub mrun_marked : Image → ℕ → Words → ℕ → List ℤ → Run
 mrun_marked image k heap tx args = run_marked image k [] (start image tx args) heap

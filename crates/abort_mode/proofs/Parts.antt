@@ -16,6 +16,7 @@ use Rattle.pmem.specs.declared.answer.Phase.{Phase}
 use Rattle.pmem.specs.declared.answer.Phase.TheVariants.{Unsealed, Sealing, Sealed}
 use Rattle.pmem.proofs.Glue.{all_append, part_left, part_right}
 use Rattle.pmem.proofs.Refused.{all_cache, all_on}
+use Rattle.pool_layout.specs.declared.places.TheConstants.{LAST, DONE}
 use Rattle.pool_layout.specs.declared.limits.Sizes.{Sizes}
 use Rattle.pool_map.specs.declared.trap.TrapKind.{TrapKind}
 use Rattle.pool_layout.specs.Log.{valid, count}
@@ -23,7 +24,7 @@ use Rattle.pool_layout.specs.declared.places.Place.TheVariants.{RecordStamp}
 use Rattle.pool_layout.specs.Places.{at, pool_of}
 use Rattle.clobber_log.specs.Logs.{attempt_in, count_in}
 use Rattle.clobber_log.specs.Restore.{restore_events}
-use Rattle.args_log.specs.Next.{next}
+use Rattle.args_log.specs.Next.{number_after}
 use Rattle.args_log.specs.Retire.{retire_events}
 use Rattle.args_log.specs.Seal.{payload_events, unsealed_events, sealing_events, seal_events}
 use Rattle.args_log.specs.Sealing as sealing
@@ -39,13 +40,14 @@ use Rattle.abort_mode.specs.declared.answer.AbortAnswer.{AbortAnswer}
 use Rattle.abort_mode.specs.declared.answer.AbortAnswer.TheVariants.{Done, Aborted, Off}
 use Rattle.abort_mode.specs.declared.answer.AbortAnswer.TheVariants.{Failed, Unusable}
 use Rattle.abort_mode.specs.declared.answer.AbortAnswer.TheVariants.{Numbers, NoMemory}
-use Rattle.abort_mode.specs.Due.{due_on, retiring, retiring_still, due_undo, tail_events}
-use Rattle.abort_mode.specs.Due.{due_run, due_call, due_redo, tail_steps, run_steps}
-use Rattle.abort_mode.specs.Closes.{HasClosed, Closes}
-use Rattle.abort_mode.specs.Answers.{done_answer, undo_answer, HasSettled, HasLogged, Settles}
+use Rattle.abort_mode.specs.Due.{abort_due_on, retiring, retiring_still, due_undo, abort_tail_events}
+use Rattle.abort_mode.specs.Due.{due_run, due_call, abort_due_redo, tail_steps, run_steps}
+use Rattle.abort_mode.specs.inside.Closes.{HasClosed, Closes}
+use Rattle.abort_mode.specs.Answers.{HasAbortSettled, HasAppended}
+use Rattle.abort_mode.specs.inside.Answers.{done_answer, undo_answer, AbortSettles}
 use Rattle.abort_mode.specs.Answers.{after_seal}
-use Rattle.abort_mode.specs.Answers.{call_steps, HasCalled, Called}
-use Rattle.abort_mode.specs.Answers.{after_back, redo_steps, HasRedone, Redid}
+use Rattle.abort_mode.specs.Answers.{call_steps, HasAbortCalled, AbortCalled}
+use Rattle.abort_mode.specs.Answers.{after_back, abort_redo_steps, HasAbortRedone, AbortRedid}
 
 -- there are no more valid records than records
 
@@ -76,18 +78,18 @@ short_retiring : (v : ℤ) (c : Cache) → MayBeShort (retiring v c)
 unfolding retire_events
 short_retiring v c = λ d. inl refl
 
-short_tail : (z : Sizes) (end : End) (c : Cache) → MayBeShort (tail_events z end c)
+short_tail : (z : Sizes) (end : End) (c : Cache) → MayBeShort (abort_tail_events z end c)
 short_tail z (Halted v) c = short_retiring v c
 short_tail z (Trapped k) c =
     let back : List CacheEvent = restore_events z (view c) in
     let put : Cache = play c back in
-    short_after back (retiring_still put) (short_retiring (view put 16) put)
+    short_after back (retiring_still put) (short_retiring (view put LAST) put)
 
 short_run : (image : Image) (s : State) (c : Cache) → MayBeShort (due_run image s c)
 short_run image s c =
-    let run : Due = due_on image s c in
+    let run : Due = abort_due_on image s c in
     short_after run.events
-    (tail_events image.parts.sizes (end_of run.fate) (play c run.events))
+    (abort_tail_events image.parts.sizes (end_of run.fate) (play c run.events))
     (short_tail image.parts.sizes (end_of run.fate) (play c run.events))
 
 -- the undo
@@ -120,7 +122,7 @@ module _ (z : Sizes) (d b : Device) where
     pub undo_on : m.on ≡ d.on
     undo_on = all_on restoring d m done
 
--- the answers of what is due after a run
+-- the answers of the events after a run
 
 pub closes_done : (z : Sizes) (v : ℤ) (l : ℕ) (d b : Device) (k k1 : ℕ) (a : LogAnswer) →
     Played a d (retiring v d.cache) b → k1 ≡ k →
@@ -140,11 +142,11 @@ closes_undo z t l d b k k1 log.Off played spent = played
 closes_undo z t l d b k k1 log.Failed played spent = played
 closes_undo z t l d b k k1 log.NoMemory played spent = played
 
--- the run, and what is due after it
+-- the run, and the events after it
 
 module _ (image : Image) (s : State) (d b : Device) where
   abbrev run : Due
-  run = due_on image s d.cache
+  run = abort_due_on image s d.cache
 
   abbrev z : Sizes
   z = image.parts.sizes
@@ -153,7 +155,7 @@ module _ (image : Image) (s : State) (d b : Device) where
   ran_to = play d.cache run.events
 
   abbrev tail : List CacheEvent
-  tail = tail_events z (end_of run.fate) ran_to
+  tail = abort_tail_events z (end_of run.fate) ran_to
 
   -- the run itself was cut
   pub run_cut : (why : Refusal) → PlaysPart why d run.events b →
@@ -165,18 +167,18 @@ module _ (image : Image) (s : State) (d b : Device) where
     cached : m.cache ≡ ran_to
     cached = all_cache run.events d m ran
 
-    tails : tail_events z end m.cache ≡ tail
-    tails = ap (tail_events z end) cached ∙ ap (λ (e : End). tail_events z e ran_to) is
+    tails : abort_tail_events z end m.cache ≡ tail
+    tails = ap (abort_tail_events z end) cached ∙ ap (λ (e : End). abort_tail_events z e ran_to) is
 
     tail_is : tail_steps z end m.cache ≡ tail_steps z (end_of run.fate) ran_to
     tail_is = ap (tail_steps z end) cached ∙ ap (λ (e : End). tail_steps z e ran_to) is
 
-    whole : PlaysAll m (tail_events z end m.cache) b → PlaysAll d (due_run image s d.cache) b
+    whole : PlaysAll m (abort_tail_events z end m.cache) b → PlaysAll d (due_run image s d.cache) b
     whole all =
         all_append run.events tail d m b ran
         (subst (λ (es : List CacheEvent). PlaysAll m es b) tails all)
 
-    part : (why : Refusal) → PlaysPart why m (tail_events z end m.cache) b →
+    part : (why : Refusal) → PlaysPart why m (abort_tail_events z end m.cache) b →
         PlaysPart why d (due_run image s d.cache) b
     part why p =
         part_right run.events tail why d m b ran
@@ -191,17 +193,20 @@ module _ (image : Image) (s : State) (d b : Device) where
     run_bound k j k1 first last = let same = tail_is in omega arith
 
     module _ (k j k1 : ℕ) (spent : j ≡ k + run.steps) where
-      closed : (e : End) → HasClosed e z end m b j k1 → HasSettled e image s d b k k1
+      closed : (e : End) → HasClosed e z end m b j k1 → HasAbortSettled e image s d b k k1
       closed e h = record {
         fate = sym is ∙ h.fate;
         played = whole h.played;
         steps = let last = h.steps in let same = tail_is in omega arith;
       }
 
-      pub settles_of : (a : AbortAnswer) (l : ℕ) → HasLogged l image s d.cache →
-          Closes a z end l m b j k1 → Settles a image s d b k k1
-      settles_of (Done v i) l counted h =
-          (closed (Halted v) h.0, subst (λ (j : ℕ). HasLogged j image s d.cache) (sym h.1) counted)
+      pub settles_of : (a : AbortAnswer) (l : ℕ) → HasAppended l image s d.cache →
+          Closes a z end l m b j k1 → AbortSettles a image s d b k k1
+      settles_of (Done v i) l counted h = (
+        closed (Halted v) h.0,
+        subst (λ (j : ℕ). HasAppended j image s d.cache)
+            (sym h.1) counted,
+      )
       settles_of (Aborted t) l counted h = closed (Trapped t) h
       settles_of (Off Sealed) l counted h = part refusal.Off h
       settles_of (Off Unsealed) l counted h = h
@@ -211,7 +216,7 @@ module _ (image : Image) (s : State) (d b : Device) where
       settles_of (Unusable t) l counted h = h
       settles_of Numbers l counted h = h
 
--- the seal, and what is due after it
+-- the seal, and the events after it
 
 module _ (image : Image) (tx : ℕ) (args : List ℤ) (d b : Device) (k k1 : ℕ) where
   abbrev state : State
@@ -234,8 +239,9 @@ module _ (image : Image) (tx : ℕ) (args : List ℤ) (d b : Device) (k k1 : ℕ
   short = short_after seal_of (due_run image state sealed) (short_run image state sealed) d
 
   pub seal_off : (p : Phase) →
-      sealing.Seals (seal.Off p) d (cast_signed w64 tx) (take 22 args) (next (view d.cache 17)) b →
-      Called (Off p) image tx args d b k k1
+      sealing.Seals (seal.Off p) d (cast_signed w64 tx) (take 22 args)
+      (number_after (view d.cache DONE)) b →
+      AbortCalled (Off p) image tx args d b k k1
   unfolding seal_events
   seal_off Unsealed h = (
     left refusal.Off (part_left (due_unsealed tx args d.cache) sealing_events refusal.Off d b h),
@@ -249,10 +255,11 @@ module _ (image : Image) (tx : ℕ) (args : List ℤ) (d b : Device) (k k1 : ℕ
   )
   seal_off Sealed h = absurd h
 
-  pub seal_failed : PlaysPart refusal.Failed d seal_of b → Called Failed image tx args d b k k1
+  pub seal_failed : PlaysPart refusal.Failed d seal_of b → AbortCalled Failed image tx args d b k k1
   seal_failed h = left refusal.Failed h
 
-  pub seal_short : PlaysPart refusal.NoMemory d seal_of b → Called NoMemory image tx args d b k k1
+  pub seal_short : PlaysPart refusal.NoMemory d seal_of b
+      → AbortCalled NoMemory image tx args d b k k1
   seal_short h = left refusal.NoMemory h
 
   module _ (m : Device) (done : PlaysAll d seal_of m) where
@@ -274,9 +281,10 @@ module _ (image : Image) (tx : ℕ) (args : List ℤ) (d b : Device) (k k1 : ℕ
     unfolding due_call
     right_of why h = part_right seal_of (due_run image state sealed) why d m b done (went why h)
 
-    ended : (e : End) → HasSettled e image state m b k k1 → HasCalled e image tx args d b k k1
+    ended : (e : End) → HasAbortSettled e image state m b k k1
+        → HasAbortCalled e image tx args d b k k1
     ended e h = record {
-      fate = subst (λ (c : Cache). end_of (due_on image state c).fate ≡ e) same h.fate;
+      fate = subst (λ (c : Cache). end_of (abort_due_on image state c).fate ≡ e) same h.fate;
       played = all h.played;
       steps = subst (λ (c : Cache). k1 ≡ k + run_steps image state c) same h.steps;
     }
@@ -287,9 +295,9 @@ module _ (image : Image) (tx : ℕ) (args : List ℤ) (d b : Device) (k k1 : ℕ
     pub seal_bound : k1 ≤ k + run_steps image state m.cache → k1 ≤ k + call_steps image tx args d
     seal_bound most = subst (λ (c : Cache). k1 ≤ k + run_steps image state c) same most
 
-    pub called_of : (a : AbortAnswer) → Settles a image state m b k k1 →
-        Called a image tx args d b k k1
-    called_of (Done v l) h = (ended (Halted v) h.0, subst (HasLogged l image state) same h.1)
+    pub called_of : (a : AbortAnswer) → AbortSettles a image state m b k k1 →
+        AbortCalled a image tx args d b k k1
+    called_of (Done v l) h = (ended (Halted v) h.0, subst (HasAppended l image state) same h.1)
     called_of (Aborted t) h = ended (Trapped t) h
     called_of (Off Sealed) h =
         (right_of refusal.Off h, record { between = m; done = done; went = went refusal.Off h })
@@ -300,7 +308,7 @@ module _ (image : Image) (tx : ℕ) (args : List ℤ) (d b : Device) (k k1 : ℕ
     called_of (Unusable t) h = h
     called_of Numbers h = h
 
--- what is put back, and the run after it
+-- the records restored, and the run after it
 
 module _ (image : Image) (tx : ℕ) (args : List ℤ) (n : ℕ) (d b : Device) where
   abbrev again : State
@@ -313,11 +321,11 @@ module _ (image : Image) (tx : ℕ) (args : List ℤ) (n : ℕ) (d b : Device) w
   put = after_back image n d.cache
 
   pub back_cut : (why : Refusal) → PlaysPart why d back b →
-      PlaysPart why d (due_redo image tx args n d.cache) b
+      PlaysPart why d (abort_due_redo image tx args n d.cache) b
   back_cut why p = part_left back (due_run image again put) why d b p
 
   -- memory may be short before the first event
-  pub back_short : PlaysPart refusal.NoMemory d (due_redo image tx args n d.cache) d
+  pub back_short : PlaysPart refusal.NoMemory d (abort_due_redo image tx args n d.cache) d
   back_short = short_after back (due_run image again put) (short_run image again put) d
 
   module _ (m : Device) (done : PlaysAll d back m) where
@@ -325,13 +333,13 @@ module _ (image : Image) (tx : ℕ) (args : List ℤ) (n : ℕ) (d b : Device) w
     same_put = all_cache back d m done
 
     all_put : PlaysAll m (due_run image again m.cache) b →
-        PlaysAll d (due_redo image tx args n d.cache) b
+        PlaysAll d (abort_due_redo image tx args n d.cache) b
     all_put h =
         all_append back (due_run image again put) d m b done
         (subst (λ (c : Cache). PlaysAll m (due_run image again c) b) same_put h)
 
     right_put : (why : Refusal) → PlaysPart why m (due_run image again m.cache) b →
-        PlaysPart why d (due_redo image tx args n d.cache) b
+        PlaysPart why d (abort_due_redo image tx args n d.cache) b
     right_put why h =
         part_right back (due_run image again put) why d m b done
         (subst (λ (c : Cache). PlaysPart why m (due_run image again c) b) same_put h)
@@ -339,28 +347,28 @@ module _ (image : Image) (tx : ℕ) (args : List ℤ) (n : ℕ) (d b : Device) w
     pub back_on : m.on ≡ d.on
     back_on = all_on back d m done
 
-    -- the steps of what is put back, and those of the call
+    -- the steps of restoring, and those of the call
     pub back_bound : (k j k1 : ℕ) → j ≤ k + n → k1 ≤ j + run_steps image again m.cache →
-        k1 ≤ k + redo_steps image tx args n d
+        k1 ≤ k + abort_redo_steps image tx args n d
     back_bound k j k1 first last =
         let all = subst (λ (c : Cache). k1 ≤ j + run_steps image again c) same_put last in
         omega arith
 
     module _ (k j k1 : ℕ) (spent : j ≡ k + n) where
-      ended_put : (e : End) → HasSettled e image again m b j k1 →
-          HasRedone e image tx args n d b k k1
+      ended_put : (e : End) → HasAbortSettled e image again m b j k1 →
+          HasAbortRedone e image tx args n d b k k1
       ended_put e h = record {
-        fate = subst (λ (c : Cache). end_of (due_on image again c).fate ≡ e) same_put h.fate;
+        fate = subst (λ (c : Cache). end_of (abort_due_on image again c).fate ≡ e) same_put h.fate;
         played = all_put h.played;
         steps =
             let all = subst (λ (c : Cache). k1 ≡ j + run_steps image again c) same_put h.steps in
             omega arith;
       }
 
-      pub redid_of : (a : AbortAnswer) → Settles a image again m b j k1 →
-          Redid a image tx args n d b k k1
+      pub redid_of : (a : AbortAnswer) → AbortSettles a image again m b j k1 →
+          AbortRedid a image tx args n d b k k1
       redid_of (Done v l) h =
-          (ended_put (Halted v) h.0, subst (HasLogged l image again) same_put h.1)
+          (ended_put (Halted v) h.0, subst (HasAppended l image again) same_put h.1)
       redid_of (Aborted t) h = ended_put (Trapped t) h
       redid_of (Off Sealed) h = right_put refusal.Off h
       redid_of (Off Unsealed) h = h

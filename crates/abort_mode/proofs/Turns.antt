@@ -24,42 +24,45 @@ use Rattle.pm_machine.specs.declared.machine.Progress.{Progress}
 use Rattle.pm_machine.specs.declared.machine.Progress.TheVariants.{Did, Ended}
 use Rattle.pm_machine.specs.declared.image.Image.{Image}
 use Rattle.pm_machine.specs.Effects.{events_of, records_past}
-use Rattle.pm_machine.specs.Machine.{State, Outcome, Goes, Ends, decide, tally, step}
-use Rattle.pm_machine.specs.Runs.{heap_in, outcome_of, effect_of, effect_in, IsInRange, AreLines}
-use Rattle.pm_machine.specs.Runs.{Due, before, owing, Leads}
+use Rattle.pm_machine.specs.Machine.{State, StepOutcome, Goes, Ends, decide, tally, step}
+use Rattle.pm_machine.specs.Runs.{heap_in, outcome_of, effect_of, effect_in, AreLines}
+use Rattle.pm_machine.specs.inside.Runs.{IsInRange}
+use Rattle.pm_machine.specs.Runs.{Due, due_before, owing}
+use Rattle.pm_machine.specs.inside.Runs.{DueLeads}
 use Rattle.pm_machine.specs.Known.{AreInUse, AreInUseOn}
 use Rattle.pm_machine.proofs.Dues.{heap_played}
 use Rattle.pm_machine.proofs.Range.{keeps_progress, records_fit}
 use Rattle.abort_mode.specs.declared.running.Logging.TheVariants.{Not, Added, Full}
 use Rattle.abort_mode.specs.declared.running.Turn.{Turn}
 use Rattle.abort_mode.specs.declared.running.Turn.TheVariants.{Went, Over}
-use Rattle.abort_mode.specs.Runs.{has_word, wanted, append_events, events_before, Rest, step_events}
+use Rattle.abort_mode.specs.Runs.{has_record, wanted, append_events, events_before, Rest, step_events}
 use Rattle.abort_mode.specs.Runs.{stepping, full}
 use Rattle.abort_mode.specs.Runs.{turning, due_marked}
-use Rattle.abort_mode.specs.Turns.{logging, first_events, due_first, Turned, Kept}
+use Rattle.abort_mode.specs.inside.Turns.{logging, first_events, due_first, TurnLeads, TurnKept}
 
--- records, from the last down
+-- records, from the last one down
 
 has_open : (word : ℕ → ℤ) (m w : ℕ) → 0 < m →
-    has_word word m w ≡ (int_eq (word (m - 1)) (pos w) || has_word word (m - 1) w)
+    has_record word m w ≡ (int_eq (word (m - 1)) (pos w) || has_record word (m - 1) w)
 has_open word zero w some = absurd (omega arith)
 has_open word (suc k) w some = let e : k ≡ suc k - 1 = omega arith in
-    ap (λ (i : ℕ). int_eq (word i) (pos w) || has_word word i w) e
+    ap (λ (i : ℕ). int_eq (word i) (pos w) || has_record word i w) e
 
 pub has_hit : (word : ℕ → ℤ) (m w : ℕ) → 0 < m → int_eq (word (m - 1)) (pos w) ≡ true →
-    has_word word m w ≡ true
+    has_record word m w ≡ true
 has_hit word m w some is = has_open word m w some
-    ∙ ap (λ (b : Bool). b || has_word word (m - 1) w) is
+    ∙ ap (λ (b : Bool). b || has_record word (m - 1) w) is
 
 pub has_missed : (word : ℕ → ℤ) (m w : ℕ) → 0 < m → int_eq (word (m - 1)) (pos w) ≡ false →
-    has_word word m w ≡ has_word word (m - 1) w
+    has_record word m w ≡ has_record word (m - 1) w
 has_missed word m w some is = has_open word m w some
-    ∙ ap (λ (b : Bool). b || has_word word (m - 1) w) is
+    ∙ ap (λ (b : Bool). b || has_record word (m - 1) w) is
 
--- events that are done lead on
+-- after events that are done, the rest of the run follows
 
 leads_next : (d : Device) (k : ℕ) (es : List CacheEvent) (x : Due) (d0 : Device) (k0 : ℕ) (x0 : Due)
-    (b : Device) → PlaysAll d es b → Leads d k (before es x) d0 k0 x0 → Leads b (k + 1) x d0 k0 x0
+    (b : Device) → PlaysAll d es b → DueLeads d k (due_before es x) d0 k0 x0
+    → DueLeads b (k + 1) x d0 k0 x0
 leads_next d k es x d0 k0 x0 b all h = record {
   fate = h.fate;
   whole = λ c p. h.whole c (all_append es x.events d b c all p);
@@ -69,8 +72,8 @@ leads_next d k es x d0 k0 x0 b all h = record {
 }
 
 leads_before : (d : Device) (k : ℕ) (es : List CacheEvent) (x : Due) (d0 : Device) (k0 : ℕ)
-    (x0 : Due) (b : Device) → PlaysAll d es b → Leads d k (events_before es x) d0 k0 x0 →
-    Leads b k x d0 k0 x0
+    (x0 : Due) (b : Device) → PlaysAll d es b → DueLeads d k (events_before es x) d0 k0 x0 →
+    DueLeads b k x d0 k0 x0
 leads_before d k es x d0 k0 x0 b all h = record {
   fate = h.fate;
   whole = λ c p. h.whole c (all_append es x.events d b c all p);
@@ -84,7 +87,7 @@ step_some : (image : Image) (a n : ℕ) (s : State) (c : Cache) (rest : Rest) �
     1 ≤ (stepping image a n s c rest).steps
 step_some image a n s c rest = go (step image n s (heap_in image.parts.sizes c))
   where
-    go : (o : Outcome) →
+    go : (o : StepOutcome) →
         1 ≤ (owing n (step_events image a n c)
         (λ e t. rest (records_past n e) t (play c (step_events image a n c e))) o).steps
     go (Goes e u) = omega arith
@@ -92,7 +95,7 @@ step_some image a n s c rest = go (step image n s (heap_in image.parts.sizes c))
 
 -- a step
 module _ (image : Image) (a n : ℕ) (s t : State) (d b : Device) where
-  abbrev taken : Outcome
+  abbrev taken : StepOutcome
   taken = step image n s (heap_in image.parts.sizes d.cache)
 
   abbrev events : Effect → List CacheEvent
@@ -104,27 +107,27 @@ module _ (image : Image) (a n : ℕ) (s t : State) (d b : Device) where
   abbrev next : Rest → Effect → State → Due
   next rest e t = rest (records_past n e) t (play d.cache (events e))
 
-  opened : (rest : Rest) (k : ℕ) (d0 : Device) (k0 : ℕ) (x0 : Due) (o : Outcome) → o ≡ taken →
-      Leads d k (All rest) d0 k0 x0 → Leads d k (owing n events (next rest) o) d0 k0 x0
+  opened : (rest : Rest) (k : ℕ) (d0 : Device) (k0 : ℕ) (x0 : Due) (o : StepOutcome) → o ≡ taken →
+      DueLeads d k (All rest) d0 k0 x0 → DueLeads d k (owing n events (next rest) o) d0 k0 x0
   opened rest k d0 k0 x0 o is h =
-      subst (λ (o : Outcome). Leads d k (owing n events (next rest) o) d0 k0 x0) (sym is) h
+      subst (λ (o : StepOutcome). DueLeads d k (owing n events (next rest) o) d0 k0 x0) (sym is) h
 
   pub step_did : (p : Progress) (e : Effect) (m : ℕ) → p ≡ Did e → outcome_of p t ≡ taken →
-      PlaysAll d (events (effect_of p)) b → m ≡ records_past n e → Turned (Ok (Went m)) All t d b
+      PlaysAll d (events (effect_of p)) b → m ≡ records_past n e → TurnLeads (Ok (Went m)) All t d b
   step_did p e m did is played past = λ rest k d0 k0 x0 h.
       let o : Goes e t ≡ taken = ap (λ (p : Progress). outcome_of p t) (sym did) ∙ is in
       let all : PlaysAll d (events e) b =
       subst (λ (p : Progress). PlaysAll d (events (effect_of p)) b) did played in
-      let led : Leads b (k + 1) (next rest e t) d0 k0 x0 =
+      let led : DueLeads b (k + 1) (next rest e t) d0 k0 x0 =
       leads_next d k (events e)
       (next rest e t) d0 k0 x0 b all (opened rest k d0 k0 x0 (Goes e t) o h) in
-      subst (λ (c : Cache). Leads b (k + 1) (rest m t c) d0 k0 x0)
+      subst (λ (c : Cache). DueLeads b (k + 1) (rest m t c) d0 k0 x0)
       (sym (all_cache (events e) d b all))
-      (subst (λ (i : ℕ). Leads b (k + 1) (rest i t (play d.cache (events e))) d0 k0 x0)
+      (subst (λ (i : ℕ). DueLeads b (k + 1) (rest i t (play d.cache (events e))) d0 k0 x0)
       (sym past) led)
 
   pub step_ended : (p : Progress) (end : End) → p ≡ Ended end → outcome_of p t ≡ taken →
-      PlaysAll d (events (effect_of p)) b → Turned (Ok (Over end n)) All t d b
+      PlaysAll d (events (effect_of p)) b → TurnLeads (Ok (Over end n)) All t d b
   step_ended p end ended is played = λ rest k d0 k0 x0 h.
       let o : Ends end ≡ taken = ap (λ (p : Progress). outcome_of p t) (sym ended) ∙ is in
       let all : PlaysAll d [] b =
@@ -132,14 +135,14 @@ module _ (image : Image) (a n : ℕ) (s t : State) (d b : Device) where
       let l = opened rest k d0 k0 x0 (Ends end) o h in
       (sym l.fate, l.whole b all, l.steps, sym l.records)
 
-  tally_effect : (o : Outcome) → effect_in (tally o) ≡ effect_in o
+  tally_effect : (o : StepOutcome) → effect_in (tally o) ≡ effect_in o
   tally_effect (Goes e t) = refl
   tally_effect (Ends end) = refl
 
   pub step_refused : (why : Refusal) →
       PlaysPart why d (events (effect_in (decide image n s (heap_in image.parts.sizes d.cache))))
       b →
-      Turned (Err why) All t d b
+      TurnLeads (Err why) All t d b
   step_refused why part = λ rest k d0 k0 x0 h. (
     go rest k d0 k0 x0 taken
         (subst (λ (e : Effect). PlaysPart why d (events e) b)
@@ -147,9 +150,9 @@ module _ (image : Image) (a n : ℕ) (s t : State) (d b : Device) where
     (let some = step_some image a n s d.cache rest in let led = h.steps in omega arith),
   )
     where
-      go : (rest : Rest) (k : ℕ) (d0 : Device) (k0 : ℕ) (x0 : Due) (o : Outcome) →
+      go : (rest : Rest) (k : ℕ) (d0 : Device) (k0 : ℕ) (x0 : Due) (o : StepOutcome) →
           PlaysPart why d (events (effect_in o)) b →
-          Leads d k (owing n events (next rest) o) d0 k0 x0 →
+          DueLeads d k (owing n events (next rest) o) d0 k0 x0 →
           PlaysPart why d0 x0.events b
       go rest k d0 k0 x0 (Goes e u) part l =
           l.part why b (part_left (events e) (next rest e u).events why d b part)
@@ -176,7 +179,7 @@ module _ (image : Image) (a n : ℕ) (s t : State) (d b : Device) where
   pub did_kept : (p : Progress) (e : Effect) (m : ℕ) → p ≡ Did e → outcome_of p t ≡ taken →
       PlaysAll d (events (effect_of p)) b → m ≡ records_past n e →
       AreLines (heap_words image.parts.sizes) s.dirty → n ≤ image.parts.sizes.records →
-      s.logged ≤ n → d.on ≡ true → Kept (Went m) image n t b
+      s.logged ≤ n → d.on ≡ true → TurnKept (Went m) image n t b
   did_kept p e m did is played past lines few logged on =
       let keeps = keeps_progress image (heap_in image.parts.sizes d.cache) n s p e t lines did is in
       let fit = records_fit image.parts.sizes.records (heap_words image.parts.sizes) n e keeps.0
@@ -192,7 +195,7 @@ module _ (image : Image) (a n : ℕ) (s t : State) (d b : Device) where
             ∙ on,
       )
 
--- a turn, by the word that is wanted
+-- a turn, by the word that needs a record
 module _ (image : Image) (a n : ℕ) (s t : State) (d b : Device) where
   abbrev z : Sizes
   z = image.parts.sizes
@@ -200,16 +203,16 @@ module _ (image : Image) (a n : ℕ) (s t : State) (d b : Device) where
   abbrev TurnAll : Option ℕ → Rest → Due
   TurnAll o rest = turning image a n s d.cache rest o
 
-  -- no record is left
+  -- no room for a record is left
   pub turn_full : (o : Option ℕ) → Full ≡ logging z n o →
       PlaysAll d (first_events z a n d.cache o) b →
-      Turned (Ok (Over (Trapped LogFull) n)) (TurnAll o) t d b
+      TurnLeads (Ok (Over (Trapped LogFull) n)) (TurnAll o) t d b
   turn_full None is played = absurd (cc (is))
   turn_full (Some w) is played = go (nat_lt n z.records) is played
     where
       go : (x : Bool) → Full ≡ (if x then Added else Full) →
           PlaysAll d (if x then append_events z a n w d.cache else []) b →
-          Turned (Ok (Over (Trapped LogFull) n))
+          TurnLeads (Ok (Over (Trapped LogFull) n))
           (λ rest. if x then events_before (append_events z a n w d.cache)
           (stepping image a (suc n) s (play d.cache (append_events z a n w d.cache)) rest)
           else full n) t d b
@@ -219,12 +222,12 @@ module _ (image : Image) (a n : ℕ) (s t : State) (d b : Device) where
 
   -- the append was cut
   pub turn_cut : (o : Option ℕ) (why : Refusal) → PlaysPart why d (first_events z a n d.cache o) b →
-      Turned (Err why) (TurnAll o) t d b
+      TurnLeads (Err why) (TurnAll o) t d b
   turn_cut None why part = absurd part
   turn_cut (Some w) why part = go (nat_lt n z.records) part
     where
       go : (x : Bool) → PlaysPart why d (if x then append_events z a n w d.cache else []) b →
-          Turned (Err why)
+          TurnLeads (Err why)
           (λ rest. if x then events_before (append_events z a n w d.cache)
           (stepping image a (suc n) s (play d.cache (append_events z a n w d.cache)) rest)
           else full n) t d b
@@ -240,22 +243,24 @@ module _ (image : Image) (a n : ℕ) (s t : State) (d b : Device) where
       go false part = absurd part
 
   module _ (m : Device) where
-    -- what leads from m leads from d
+    -- what follows from m follows from d
     led : (r : Result Turn Refusal) (all more : Rest → Due) →
-        ((rest : Rest) (k : ℕ) (d0 : Device) (k0 : ℕ) (x0 : Due) → Leads d k (more rest) d0 k0 x0 →
-        Leads m k (all rest) d0 k0 x0) → Turned r all t m b → Turned r more t d b
+        ((rest : Rest) (k : ℕ) (d0 : Device) (k0 : ℕ) (x0 : Due) → DueLeads d k (more rest) d0 k0 x0
+        →
+        DueLeads m k (all rest) d0 k0 x0) → TurnLeads r all t m b → TurnLeads r more t d b
     led (Ok (Went i)) all more f h = λ rest k d0 k0 x0 l. h rest k d0 k0 x0 (f rest k d0 k0 x0 l)
     led (Ok (Over e i)) all more f h = λ rest k d0 k0 x0 l. h rest k d0 k0 x0 (f rest k d0 k0 x0 l)
     led (Err why) all more f h = λ rest k d0 k0 x0 l. h rest k d0 k0 x0 (f rest k d0 k0 x0 l)
 
-    -- no record is wanted
+    -- no record is needed
     pub turn_plain : (o : Option ℕ) (r : Result Turn Refusal) → Not ≡ logging z n o →
         PlaysAll d (first_events z a n d.cache o) m →
-        Turned r (λ rest. stepping image a n s m.cache rest) t m b → Turned r (TurnAll o) t d b
+        TurnLeads r (λ rest. stepping image a n s m.cache rest) t m b
+        → TurnLeads r (TurnAll o) t d b
     turn_plain None r is played h =
         led r (λ rest. stepping image a n s m.cache rest) (TurnAll None)
         (λ rest k d0 k0 x0 l.
-        subst (λ (e : Device). Leads e k (stepping image a n s e.cache rest) d0 k0 x0)
+        subst (λ (e : Device). DueLeads e k (stepping image a n s e.cache rest) d0 k0 x0)
         (sym played) l) h
     turn_plain (Some w) r is played h = absurd (go (nat_lt n z.records) is)
       where
@@ -266,13 +271,14 @@ module _ (image : Image) (a n : ℕ) (s t : State) (d b : Device) where
     -- a record was appended
     pub turn_added : (o : Option ℕ) (i : ℕ) (r : Result Turn Refusal) → Added ≡ logging z n o →
         PlaysAll d (first_events z a n d.cache o) m → i ≡ suc n →
-        Turned r (λ rest. stepping image a i s m.cache rest) t m b → Turned r (TurnAll o) t d b
+        TurnLeads r (λ rest. stepping image a i s m.cache rest) t m b
+        → TurnLeads r (TurnAll o) t d b
     turn_added None i r is played one h = absurd (cc (is))
     turn_added (Some w) i r is played one h = go (nat_lt n z.records) is played
       where
         go : (x : Bool) → Added ≡ (if x then Added else Full) →
             PlaysAll d (if x then append_events z a n w d.cache else []) m →
-            Turned r (λ rest. if x then events_before (append_events z a n w d.cache)
+            TurnLeads r (λ rest. if x then events_before (append_events z a n w d.cache)
             (stepping image a (suc n) s (play d.cache (append_events z a n w d.cache)) rest)
             else full n) t d b
         go false is played = absurd (cc (is))
@@ -281,14 +287,14 @@ module _ (image : Image) (a n : ℕ) (s t : State) (d b : Device) where
             led r (λ rest. stepping image a i s m.cache rest)
             (λ rest. events_before es (stepping image a (suc n) s (play d.cache es) rest))
             (λ rest k d0 k0 x0 l.
-            subst (λ (j : ℕ). Leads m k (stepping image a j s m.cache rest) d0 k0 x0) (sym one)
-            (subst (λ (c : Cache). Leads m k (stepping image a (suc n) s c rest) d0 k0 x0)
+            subst (λ (j : ℕ). DueLeads m k (stepping image a j s m.cache rest) d0 k0 x0) (sym one)
+            (subst (λ (c : Cache). DueLeads m k (stepping image a (suc n) s c rest) d0 k0 x0)
             (sym (all_cache es d m played))
             (leads_before d k es (stepping image a (suc n) s (play d.cache es) rest) d0 k0 x0 m
             played l)))
             h
 
--- there is room where a record was appended
+-- a record was appended only if there was room
 pub added_room : (z : Sizes) (n : ℕ) (o : Option ℕ) → Added ≡ logging z n o → n < z.records
 added_room z n None is = absurd (cc (is))
 added_room z n (Some w) is = go (nat_lt n z.records) refl is
@@ -330,20 +336,20 @@ pub first_on : (z : Sizes) (a n : ℕ) (c : Cache) (o : Option ℕ) (d b : Devic
     PlaysAll d (first_events z a n c o) b → b.on ≡ d.on
 first_on z a n c o d b played = all_on (first_events z a n c o) d b played
 
--- where turns are left, the run is one and then the rest
+-- if turns are left, the run is one turn and then the rest
 pub turn_opened : (image : Image) (a m n : ℕ) (s : State) (c : Cache) (d : Device) (k : ℕ)
-    (d0 : Device) (k0 : ℕ) (x0 : Due) → 0 < m → Leads d k (due_marked image a m n s c) d0 k0 x0 →
-    Leads d k (turning image a n s c (λ i t e. due_marked image a (m - 1) i t e)
+    (d0 : Device) (k0 : ℕ) (x0 : Due) → 0 < m → DueLeads d k (due_marked image a m n s c) d0 k0 x0 →
+    DueLeads d k (turning image a n s c (λ i t e. due_marked image a (m - 1) i t e)
     (wanted image n s c)) d0 k0 x0
 turn_opened image a m n s c d k d0 k0 x0 some h =
     let e : m ≡ suc (m - 1) = omega arith in
-    subst (λ (i : ℕ). Leads d k (due_marked image a i n s c) d0 k0 x0) e h
+    subst (λ (i : ℕ). DueLeads d k (due_marked image a i n s c) d0 k0 x0) e h
 
 -- no turn is left
 pub turn_none : (image : Image) (a m n : ℕ) (s : State) (d : Device) (k : ℕ) (d0 : Device) (k0 : ℕ)
-    (x0 : Due) → m ≡ 0 → Leads d k (due_marked image a m n s d.cache) d0 k0 x0 →
+    (x0 : Due) → m ≡ 0 → DueLeads d k (due_marked image a m n s d.cache) d0 k0 x0 →
     (x0.fate ≡ None) × PlaysAll d0 x0.events d × (k ≡ k0 + x0.steps) × (x0.records ≡ n)
 turn_none image a m n s d k d0 k0 x0 none h =
-    let l = subst (λ (i : ℕ). Leads d k (due_marked image a i n s d.cache) d0 k0 x0) none h in
+    let l = subst (λ (i : ℕ). DueLeads d k (due_marked image a i n s d.cache) d0 k0 x0) none h in
     let same : k + 0 ≡ k0 + x0.steps = l.steps in
     (sym l.fate, l.whole d refl, omega arith, sym l.records)

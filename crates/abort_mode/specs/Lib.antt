@@ -1,5 +1,4 @@
 pub mod Runs
-pub mod Turns
 pub mod Due
-pub mod Closes
 pub mod Answers
+pub mod inside

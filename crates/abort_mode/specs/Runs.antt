@@ -1,5 +1,6 @@
--- The run of a marked transaction on a device's cache. Before a step that would store a heap word
--- without a record, a record of it is appended. Where no record is left, the run ends with logfull.
+-- The run of a marked transaction on a device's cache. Before a step that would store to a heap
+-- word without a record, a record of it is appended. If no room for a record is left, the run ends
+-- with the trap logfull.
 use Rattle.std.specs.Prelude.{ℕ, zero, suc, ◌+◌, ◌++◌, nat_lt, ℤ, pos}
 use Rattle.std.specs.Prelude.{Bool, false, ◌||◌, if◌then◌else◌, List, [], Option, Some, None}
 use Rattle.std.specs.Ordering.{int_eq}
@@ -18,34 +19,34 @@ use Rattle.pm_machine.specs.Effects.{events_of, records_past}
 use Rattle.pm_machine.specs.Machine.{State, due_store, step}
 use Rattle.pm_machine.specs.Runs.{heap_in, Due, owing}
 
--- one of the first n records is of the heap word
-abbrev pub has_word : (word : ℕ → ℤ) → ℕ → ℕ → Bool
-has_word word zero w = false
-has_word word (suc n) w = int_eq (word n) (pos w) || has_word word n w
+-- one of the first n records belongs to the heap word
+abbrev pub has_record : (word : ℕ → ℤ) → ℕ → ℕ → Bool
+has_record word zero w = false
+has_record word (suc n) w = int_eq (word n) (pos w) || has_record word n w
 
 -- the heap word that record j of an image holds
 abbrev pub words_in : Sizes → Words → ℕ → ℤ
 words_in z image j = image (at (pool_of z) (RecordWord j))
 
--- the word, where none of the first n records is of it
+-- the word, if none of the first n records belongs to it
 abbrev pub unlogged : (word : ℕ → ℤ) → ℕ → Option ℕ → Option ℕ
 unlogged word n None = None
-unlogged word n (Some w) = if has_word word n w then None else Some w
+unlogged word n (Some w) = if has_record word n w then None else Some w
 
 -- the word that has to be logged before the next step
 abbrev pub wanted : Image → (n : ℕ) → State → Cache → Option ℕ
 wanted image n s c = unlogged (words_in image.parts.sizes (view c)) n (due_store image s)
 
--- the events of its record, with attempt a and n records so far
+-- the events that append its record, with attempt a and n records so far
 abbrev pub append_events : Sizes → (a n w : ℕ) → Cache → List CacheEvent
 append_events z a n w c = record_events z n w (heap_in z c w) (a + 1)
 
--- these events, and then what a run owes
+-- these events, followed by what is due of a run
 abbrev pub events_before : List CacheEvent → Due → Due
 events_before es x =
     record { events = es ++ x.events; fate = x.fate; steps = x.steps; records = x.records }
 
--- what is left of a run, by its records, the machine's state and the cache
+-- the rest of a run, from its records, the machine's state and the cache
 abbrev pub Rest : Type 0
 Rest = ℕ → State → Cache → Due
 
@@ -53,14 +54,14 @@ Rest = ℕ → State → Cache → Due
 abbrev pub step_events : Image → (a n : ℕ) → Cache → Effect → List CacheEvent
 step_events image a n c e = events_of image.parts.sizes a n (heap_in image.parts.sizes c) e
 
--- a step, and then the rest
+-- a step, followed by the rest
 abbrev pub stepping : Image → (a n : ℕ) → State → Cache → Rest → Due
 stepping image a n s c rest =
     owing n (step_events image a n c)
     (λ e t. rest (records_past n e) t (play c (step_events image a n c e)))
     (step image n s (heap_in image.parts.sizes c))
 
--- no record is left, and the run ends before the step
+-- no room for a record is left, and the run ends before the step
 abbrev pub full : ℕ → Due
 full n = record { events = []; fate = Some (Trapped LogFull); steps = 1; records = n }
 
@@ -70,7 +71,7 @@ logging_first image a n w s c rest =
     events_before (append_events image.parts.sizes a n w c)
     (stepping image a (suc n) s (play c (append_events image.parts.sizes a n w c)) rest)
 
--- one turn, and then the rest: a record where one is wanted, and a step
+-- one turn, followed by the rest: a record if one is needed, and a step
 abbrev pub turning : Image → (a n : ℕ) → State → Cache → Rest → Option ℕ → Due
 turning image a n s c rest None = stepping image a n s c rest
 turning image a n s c rest (Some w) =

@@ -1,14 +1,9 @@
 //! A call of a marked transaction from its start to its end.
 
-ghost use Rattle.std.specs.Prelude.{◌≡◌, ◌+◌, ◌<◌, ◌≤◌, true, false, length};
-ghost use Rattle.cache_model.specs.Cache.{view};
+ghost use Rattle.std.specs.Prelude.{◌≡◌, ◌+◌, ◌≤◌, true, length};
 ghost use Rattle.pool_layout.specs.Sizes.{pool_lines};
-ghost use Rattle.pmem.specs.declared.answer.Phase.TheVariants as at_phase;
 ghost use Rattle.pm_machine.specs.Machine.{start};
-ghost use Rattle.pool_map.specs.declared.trap.TrapKind.{TrapKind};
-ghost use Rattle.tx_run.specs.declared.standing.Standing.TheVariants as stands;
-ghost use Rattle.tx_run.specs.Standing.{standing_of};
-ghost use Rattle.abort_mode.specs.Answers.{call_steps, Called};
+ghost use Rattle.abort_mode.specs.Answers.{call_steps, AbortCalled, IsAbortCalled};
 
 use crate::answer::AbortAnswer;
 use crate::settling::settle;
@@ -20,7 +15,7 @@ use std::alloc::Global;
 use std::sync::ledger::Ledger;
 use tx_run::{Standing, assess};
 
-/// Seals the call of a machine that stands at its start, and settles it.
+/// Seals the call of a machine that is at its start, and settles it.
 fn run<P: PmemWork, L: Ledger>(
     image: &Image,
     machine: &mut Machine,
@@ -32,7 +27,7 @@ fn run<P: PmemWork, L: Ledger>(
     requires lines { (P.device dev.old).lines ≡ pool_lines image.now.parts.sizes }
     requires start { machine.old ≡ start image.now tx args.now }
     requires on { (P.device dev.old).on ≡ true }
-    ensures called { Called result image.now tx args.now (P.device dev.old) (P.device dev.new)
+    ensures called { AbortCalled result image.now tx args.now (P.device dev.old) (P.device dev.new)
         steps.old steps.new }
     ensures bound { steps.new ≤ steps.old + call_steps image.now tx args.now (P.device dev.old) }
     ensures most { steps.new ≤ steps.old + image.now.parts.most + image.now.parts.sizes.records }
@@ -47,13 +42,13 @@ fn run<P: PmemWork, L: Ledger>(
 }
 
 /// Calls a transaction marked `abort`, counted from 1, with as many arguments as it has parameters,
-/// over the pool of the image.
+/// on the pool of the image.
 ///
-/// It is as a call, but that a record is appended before the first store of each heap word. Where
-/// the run traps, or wants a record and none is left, what is logged is put back, and the call is
-/// retired with the last value as it was. On a device that is off the answer is `Off(Unsealed)`,
-/// and nothing has changed. A call that is refused takes no step, and any other at most one for
-/// each instruction of its run and one for each record that an undo puts back.
+/// It is like a call, except that a record is appended before the first store to each heap word. If
+/// the run traps, or needs a record and there is no room, the logged words are restored, and the
+/// call is retired with the last value as it was. On a device that is off the answer is
+/// `Off(Unsealed)`, and nothing has changed. A call that is refused takes no step, and any other at
+/// most one for each instruction of its run and one for each record that an undo restores.
 pub fn call_abort<P: PmemWork, L: Ledger>(
     alloc: Global,
     image: &Image,
@@ -65,23 +60,8 @@ pub fn call_abort<P: PmemWork, L: Ledger>(
     requires lines { (P.device dev.old).lines ≡ pool_lines image.now.parts.sizes }
     requires first { 1 ≤ tx }
     requires last { tx ≤ length image.now.parts.txs }
-    ensures called { (P.device dev.old).on ≡ true →
-        standing_of (view (P.device dev.old).cache) ≡ stands.Ready →
-        Called result image.now tx args.now (P.device dev.old) (P.device dev.new)
-        steps.old steps.new }
-    ensures unusable { (kind : TrapKind) → (P.device dev.old).on ≡ true →
-        standing_of (view (P.device dev.old).cache) ≡ stands.Unusable kind →
-        (result ≡ AbortAnswer.Unusable kind) × (P.device dev.new ≡ P.device dev.old)
-        × (steps.new ≡ steps.old) }
-    ensures numbers { (P.device dev.old).on ≡ true →
-        standing_of (view (P.device dev.old).cache) ≡ stands.Numbers →
-        (result ≡ AbortAnswer.Numbers) × (P.device dev.new ≡ P.device dev.old)
-        × (steps.new ≡ steps.old) }
-    ensures off { (P.device dev.old).on ≡ false → result ≡ AbortAnswer.Off at_phase.Unsealed }
-    ensures same { (P.device dev.old).on ≡ false → P.device dev.new ≡ P.device dev.old }
-    ensures still { (P.device dev.old).on ≡ false → steps.new ≡ steps.old }
-    ensures bound { (P.device dev.old).on ≡ true →
-        steps.new ≤ steps.old + call_steps image.now tx args.now (P.device dev.old) }
+    ensures called { IsAbortCalled result image.now tx args.now (P.device dev.old)
+        (P.device dev.new) steps.old steps.new }
     ensures most { steps.new ≤ steps.old + image.now.parts.most + image.now.parts.sizes.records }
     ensures lines { (P.device dev.new).lines ≡ (P.device dev.old).lines }
 {

@@ -1,4 +1,4 @@
-//! What is due after a run: the call is retired, or undone.
+//! The events after a run: the call is retired, or undone.
 
 ghost use Rattle.std.specs.Prelude.{◌≡◌, ◌+◌, ◌≤◌, true, false};
 ghost use Rattle.cache_model.specs.Cache.{view};
@@ -6,8 +6,8 @@ ghost use Rattle.pmem.specs.Played.{Played};
 ghost use Rattle.pool_layout.specs.Sizes.{pool_lines};
 ghost use Rattle.clobber_log.specs.Logs.{count_in};
 ghost use Rattle.abort_mode.specs.Due.{retiring_still, due_undo, tail_steps};
-ghost use Rattle.abort_mode.specs.Closes.{Closes};
-ghost use Rattle.abort_mode.specs.Answers.{done_answer, undo_answer};
+ghost use Rattle.abort_mode.specs.inside.Closes.{Closes};
+ghost use Rattle.abort_mode.specs.inside.Answers.{done_answer, undo_answer};
 
 use crate::answer::AbortAnswer;
 use args_log::retire;
@@ -15,7 +15,7 @@ use clobber_log::restore;
 use nvm_base::Steps;
 use pm_machine::End;
 use pmem::{LogAnswer, Phase, PmemWork};
-use pool_layout::Sizes;
+use pool_layout::{LAST, Sizes};
 use pool_map::TrapKind;
 use std::sync::ledger::Ledger;
 
@@ -28,13 +28,13 @@ fn retire_still<P: PmemWork>(dev: &mut P) -> LogAnswer
         (P.device dev.new) }
     ensures lines { (P.device dev.new).lines ≡ (P.device dev.old).lines }
 {
-    match dev.load(16) {
+    match dev.load(LAST) {
         Some(last) => retire(dev, last),
         None => LogAnswer::Off,
     }
 }
 
-/// Puts the old value of each valid record back, and retires the call with the last value as it is.
+/// Restores the old value of each valid record, and retires the call with the last value as it is.
 /// Each record takes a step.
 fn undo<P: PmemWork, L: Ledger>(sizes: &Sizes, dev: &mut P, steps: &mut Steps<L>) -> LogAnswer
     requires lines { (P.device dev.old).lines ≡ pool_lines sizes.now }
@@ -55,7 +55,7 @@ fn undo<P: PmemWork, L: Ledger>(sizes: &Sizes, dev: &mut P, steps: &mut Steps<L>
     }
 }
 
-/// The answer where a call was retired.
+/// The answer after a call was retired.
 #[tactic(auto, using(std::proofs::lemmas::Int::wraps))]
 fn retired(answer: LogAnswer, value: i64, logged: u64) -> AbortAnswer
     ensures { result ≡ done_answer answer value logged }
@@ -68,7 +68,7 @@ fn retired(answer: LogAnswer, value: i64, logged: u64) -> AbortAnswer
     }
 }
 
-/// The answer where a call was undone.
+/// The answer after a call was undone.
 fn undone(answer: LogAnswer, kind: TrapKind) -> AbortAnswer
     ensures { result ≡ undo_answer answer kind }
 {

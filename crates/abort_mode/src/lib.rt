@@ -1,5 +1,5 @@
-//! The calls of a transaction marked `abort`: a run that traps is undone in place of marking the
-//! pool. It stands on `tx_run`, `recovery` and the two logs. Its one contract for the crates above:
+//! The calls of a transaction marked `abort`: a run that traps is undone instead of marking the
+//! pool. It rests on `tx_run`, `recovery` and the two logs. Its one contract for the crates above:
 //! a call and a recovery play exactly the events that `specs/Due.antt` gives, or the first of these
 //! up to the one that was refused.
 #![tactic(auto)]
@@ -10,8 +10,6 @@ mod closing;
 mod redoing;
 mod running;
 mod settling;
-#[cfg(test)]
-mod tests;
 
 pub use answer::AbortAnswer;
 pub use calling::call_abort;

@@ -1,4 +1,4 @@
-//! The run of a marked transaction: a record is appended before the first store of each heap word.
+//! The run of a marked transaction: a record is appended before the first store to each heap word.
 
 ghost use Rattle.std.specs.Prelude.{◌≡◌, ◌-◌, ◌+◌, ◌*◌, ◌^◌, ◌<◌, ◌≤◌, suc, pos, true, false};
 ghost use Rattle.std.specs.Prelude.{Some, None, OnOk, IfOk, IfErr, if◌then◌else◌, nat_lt};
@@ -10,8 +10,8 @@ ghost use Rattle.pool_layout.specs.Sizes.{heap_words, pool_lines};
 ghost use Rattle.pm_machine.specs.Effects.{records_past};
 ghost use Rattle.pm_machine.specs.Known.{AreInUseOn};
 ghost use Rattle.pm_machine.specs.Runs.{AreLines, end_of};
-ghost use Rattle.abort_mode.specs.Runs.{has_word, words_in, wanted, due_all};
-ghost use Rattle.abort_mode.specs.Turns.{logging, due_first, Stepped, TookTurn, Kept};
+ghost use Rattle.abort_mode.specs.Runs.{has_record, words_in, wanted, due_all};
+ghost use Rattle.abort_mode.specs.inside.Turns.{logging, due_first, TurnStepped, TookTurn, TurnKept};
 
 use clobber_log::append_record;
 use nvm_base::Steps;
@@ -21,7 +21,7 @@ use pool_layout::Sizes;
 use pool_map::TrapKind;
 use std::sync::ledger::Ledger;
 
-/// Whether record `i` is of a heap word.
+/// Whether record `i` belongs to a heap word.
 fn is_of<P: PmemWork>(sizes: &Sizes, dev: &P, i: u64, w: u64) -> bool
     requires room { i < sizes.now.records }
     requires inside { w < heap_words sizes.now }
@@ -35,13 +35,13 @@ fn is_of<P: PmemWork>(sizes: &Sizes, dev: &P, i: u64, w: u64) -> bool
     }
 }
 
-/// Whether one of the first `count` records is of a heap word.
+/// Whether one of the first `count` records belongs to a heap word.
 fn has_record<P: PmemWork>(sizes: &Sizes, dev: &P, count: u64, w: u64) -> bool
     requires room { count ≤ sizes.now.records }
     requires inside { w < heap_words sizes.now }
     requires lines { (P.device dev.now).lines ≡ pool_lines sizes.now }
     requires on { (P.device dev.now).on ≡ true }
-    ensures { result ≡ has_word (words_in sizes.now (view (P.device dev.now).cache)) count w }
+    ensures { result ≡ has_record (words_in sizes.now (view (P.device dev.now).cache)) count w }
 {
     let mut left = count;
     while left > 0 {
@@ -53,8 +53,8 @@ fn has_record<P: PmemWork>(sizes: &Sizes, dev: &P, count: u64, w: u64) -> bool
     false
 }
 
-/// The word that has to be logged before the next step: the one that it would store, where no
-/// record is of it.
+/// The word that has to be logged before the next step: the one that it would store to, if that has
+/// no record.
 fn unlogged<P: PmemWork>(image: &Image, machine: &Machine, dev: &P, count: u64) -> Option<u64>
     requires room { count ≤ image.now.parts.sizes.records }
     requires lines { (P.device dev.now).lines ≡ pool_lines image.now.parts.sizes }
@@ -79,11 +79,11 @@ fn unlogged<P: PmemWork>(image: &Image, machine: &Machine, dev: &P, count: u64) 
 pub enum Logging {
     Not,
     Added,
-    /// A record is wanted, and none is left.
+    /// A record is needed, and there is no room.
     Full,
 }
 
-/// Appends a record where one is wanted.
+/// Appends a record if one is needed.
 fn log_first<P: PmemWork>(
     image: &Image,
     machine: &Machine,
@@ -120,14 +120,14 @@ fn log_first<P: PmemWork>(
     }
 }
 
-/// How a turn went: so many records stand after it, or the run ended with so many.
+/// How a turn went: there are so many records after it, or the run ended with so many.
 #[derive(Clone, Copy, Debug, PartialEq, Eq, Drop)]
 pub enum Turn {
     Went(u64),
     Over(End, u64),
 }
 
-/// How many records there are after an effect.
+/// The number of records after an effect.
 fn records_past(count: u64, effect: Effect) -> u64
     requires { count < 2 ^ 63 }
     ensures { result ≡ records_past count effect }
@@ -159,9 +159,9 @@ fn step<P: PmemWork>(
     requires known { AreInUseOn image.now.parts.sizes (P.device dev.old) used.old }
     requires lines { (P.device dev.old).lines ≡ pool_lines image.now.parts.sizes }
     requires on { (P.device dev.old).on ≡ true }
-    ensures turned { Stepped result image.now attempt count machine.old machine.new
+    ensures turned { TurnStepped result image.now attempt count machine.old machine.new
         (P.device dev.old) (P.device dev.new) }
-    ensures kept { IfOk result (λ t. Kept t image.now count machine.new (P.device dev.new)) }
+    ensures kept { IfOk result (λ t. TurnKept t image.now count machine.new (P.device dev.new)) }
     ensures known { IfOk result (λ t.
         AreInUseOn image.now.parts.sizes (P.device dev.new) used.new) }
     ensures lines { (P.device dev.new).lines ≡ (P.device dev.old).lines }
@@ -173,7 +173,7 @@ fn step<P: PmemWork>(
     }
 }
 
-/// One turn: a record where one is wanted, and a step.
+/// One turn: a record if one is needed, and a step.
 #[tactic(auto, using(crate::proofs::Turns::first_known))]
 fn take_turn<P: PmemWork>(
     image: &Image,
@@ -192,7 +192,7 @@ fn take_turn<P: PmemWork>(
     requires on { (P.device dev.old).on ≡ true }
     ensures turned { TookTurn result image.now attempt count machine.old machine.new
         (P.device dev.old) (P.device dev.new) }
-    ensures kept { IfOk result (λ t. Kept t image.now count machine.new (P.device dev.new)) }
+    ensures kept { IfOk result (λ t. TurnKept t image.now count machine.new (P.device dev.new)) }
     ensures known { IfOk result (λ t.
         AreInUseOn image.now.parts.sizes (P.device dev.new) used.new) }
     ensures lines { (P.device dev.new).lines ≡ (P.device dev.old).lines }
@@ -212,8 +212,8 @@ pub struct Ran {
     pub records: u64,
 }
 
-/// Runs to the end, or to the refused event, in at most `most` turns. A run that isn't at its end
-/// by then ends as if it had no tick left. What it learns of the slots serves each later search.
+/// Runs to the end, or to the refused event, in at most `most` turns. A run that hasn't ended by
+/// then ends as if it had no tick left. What it learns of the slots speeds up each later search.
 pub(crate) fn run_marked<P: PmemWork, L: Ledger>(
     image: &Image,
     machine: &mut Machine,

@@ -6,8 +6,9 @@ ghost use Rattle.pmem.specs.Played.{PlaysAll, PlaysPart};
 ghost use Rattle.pool_layout.specs.Sizes.{heap_words, pool_lines};
 ghost use Rattle.clobber_log.specs.Logs.{count_in};
 ghost use Rattle.pm_machine.specs.Runs.{AreLines, end_of};
-ghost use Rattle.abort_mode.specs.Due.{due_on, run_steps};
-ghost use Rattle.abort_mode.specs.Answers.{HasLogged, Settles};
+ghost use Rattle.abort_mode.specs.Due.{abort_due_on, run_steps};
+ghost use Rattle.abort_mode.specs.Answers.{HasAppended};
+ghost use Rattle.abort_mode.specs.inside.Answers.{AbortSettles};
 
 use crate::answer::AbortAnswer;
 use crate::closing::close;
@@ -18,14 +19,14 @@ use pm_machine::{End, Image, Machine};
 use pmem::{Phase, PmemWork, Refusal};
 use std::sync::ledger::Ledger;
 
-/// How a run ended, and how many records it appended.
+/// How a run ended, and the number of records that it appended.
 #[derive(Clone, Copy, Debug, PartialEq, Eq, Drop)]
 pub struct Ended {
     pub end: End,
     pub logged: u64,
 }
 
-/// Runs a machine that stands at its start over the pool's own attempt and records.
+/// Runs a machine that is at its start, on the pool's own attempt and records.
 fn run<P: PmemWork, L: Ledger>(
     image: &Image,
     machine: &mut Machine,
@@ -37,17 +38,17 @@ fn run<P: PmemWork, L: Ledger>(
     requires dirty { AreLines (heap_words image.now.parts.sizes) machine.old.dirty }
     requires logged { machine.old.logged ≡ 0 }
     ensures meaning { IfOk result (λ r. r.end ≡
-        end_of (due_on image.now machine.old (P.device dev.old).cache).fate) }
+        end_of (abort_due_on image.now machine.old (P.device dev.old).cache).fate) }
     ensures logged { IfOk result (λ r.
-        HasLogged r.logged image.now machine.old (P.device dev.old).cache) }
+        HasAppended r.logged image.now machine.old (P.device dev.old).cache) }
     ensures whole { OnOk result (PlaysAll (P.device dev.old)
-        (due_on image.now machine.old (P.device dev.old).cache).events (P.device dev.new)) }
+        (abort_due_on image.now machine.old (P.device dev.old).cache).events (P.device dev.new)) }
     ensures part { IfErr result (λ why. PlaysPart why (P.device dev.old)
-        (due_on image.now machine.old (P.device dev.old).cache).events (P.device dev.new)) }
+        (abort_due_on image.now machine.old (P.device dev.old).cache).events (P.device dev.new)) }
     ensures cost { OnOk result (steps.new ≡
-        steps.old + (due_on image.now machine.old (P.device dev.old).cache).steps) }
+        steps.old + (abort_due_on image.now machine.old (P.device dev.old).cache).steps) }
     ensures bound { steps.new ≤
-        steps.old + (due_on image.now machine.old (P.device dev.old).cache).steps }
+        steps.old + (abort_due_on image.now machine.old (P.device dev.old).cache).steps }
     ensures most { steps.new ≤ steps.old + image.now.parts.most }
     ensures lines { (P.device dev.new).lines ≡ (P.device dev.old).lines }
 {
@@ -66,8 +67,8 @@ fn run<P: PmemWork, L: Ledger>(
     }
 }
 
-/// Runs the machine of a call that is sealed, and retires the call; where the run trapped, the call
-/// is undone first.
+/// Runs the machine of a sealed call, and retires the call; if the run trapped, the call is undone
+/// first.
 pub(crate) fn settle<P: PmemWork, L: Ledger>(
     image: &Image,
     machine: &mut Machine,
@@ -78,7 +79,8 @@ pub(crate) fn settle<P: PmemWork, L: Ledger>(
     requires on { (P.device dev.old).on ≡ true }
     requires dirty { AreLines (heap_words image.now.parts.sizes) machine.old.dirty }
     requires logged { machine.old.logged ≡ 0 }
-    ensures settled { Settles result image.now machine.old (P.device dev.old) (P.device dev.new)
+    ensures settled { AbortSettles result image.now machine.old (P.device dev.old)
+        (P.device dev.new)
         steps.old steps.new }
     ensures bound { steps.new ≤
         steps.old + run_steps image.now machine.old (P.device dev.old).cache }

@@ -1,11 +1,14 @@
--- The events that finish a call, and those that make a pool unusable. Line 2 has the value of the last call (word 16), the
--- number of finished calls (word 17), the attempt (word 18) and the mark (word 19).
+-- The events that finish a call, and those that make a pool unusable. Line 2 holds the value of the
+-- last call (word 16), the number of finished calls (word 17), the attempt (word 18) and the mark
+-- (word 19).
 use Rattle.std.specs.Prelude.{ℕ, ℤ, pos, List, [], ◌∷◌}
 use Rattle.cache_model.specs.Event.{CacheEvent, Store, Flush, Fence}
+use Rattle.pool_layout.specs.declared.places.TheConstants.{LAST, DONE, ATTEMPT, MARK}
 
--- the value, the number of finished calls, and the next attempt, so that no record of the log is valid any more
+-- stores the value, the number of finished calls, and the next attempt, so that no record of the
+-- log is valid any more
 unfoldable pub retire_events : (value done attempt : ℤ) → List CacheEvent
-retire_events v d a = Store 16 v ∷ Store 17 d ∷ Store 18 a ∷ Flush 2 ∷ Fence ∷ []
+retire_events v d a = Store LAST v ∷ Store DONE d ∷ Store ATTEMPT a ∷ Flush 2 ∷ Fence ∷ []
 
 unfoldable pub mark_events : (trap : ℕ) → List CacheEvent
-mark_events k = Store 19 (pos k) ∷ Flush 2 ∷ Fence ∷ []
+mark_events k = Store MARK (pos k) ∷ Flush 2 ∷ Fence ∷ []

@@ -3,13 +3,14 @@
 ghost use Rattle.std.specs.Prelude.{◌≡◌, ◌≤◌, ◌<◌, ◌+ℤ◌, pos, true, false, IfSome, IsSome, IsNone};
 ghost use Rattle.std.specs.Ordering.{int_eq};
 ghost use Rattle.cache_model.specs.Cache.{view};
-ghost use Rattle.args_log.specs.Pending.{number_of, HoldsArguments, is_sealed};
+ghost use Rattle.args_log.specs.Pending.{tx_number, HoldsArguments, is_sealed};
 ghost use Rattle.args_log.specs.Reading.{Reads};
 
 use pmem::PmemWork;
+use pool_layout::{DONE, FUNCTION, SEAL};
 
-/// What a pool's record holds: no sealed call, or the number of its transaction and its words,
-/// those behind the last argument included.
+/// The content of a pool's record: no sealed call, or the number of its transaction and its
+/// argument words, including those after the last argument.
 #[derive(Clone, Copy, Debug, PartialEq, Eq, Drop)]
 pub enum PendingAnswer {
     Nothing,
@@ -17,10 +18,10 @@ pub enum PendingAnswer {
     Off,
 }
 
-/// A function word as a transaction's number, and 0, which no transaction has, where it is below 0.
+/// A function word as a transaction's number; a word below 0 counts as 0, which no transaction has.
 #[tactic(auto, using(std::proofs::lemmas::Int::wraps))]
 fn number_of(word: i64) -> u64
-    ensures { result ≡ number_of word }
+    ensures { result ≡ tx_number word }
 {
     match u64::try_from(word) {
         Ok(number) => number,
@@ -35,15 +36,15 @@ fn is_next(seal: i64, done: i64) -> bool
     done < i64::MAX && seal == done + 1
 }
 
-/// Whether the record is sealed, or none while the device is off.
+/// Whether the record is sealed, or `None` while the device is off.
 fn sealed<P: PmemWork>(dev: &P) -> Option<bool>
     requires lines { 6 ≤ (P.device dev.now).lines }
     ensures value { IfSome result (λ b. b ≡ is_sealed (view (P.device dev.now).cache)) }
     ensures on { IsSome result → (P.device dev.now).on ≡ true }
     ensures off { IsNone result → (P.device dev.now).on ≡ false }
 {
-    let seal = dev.load(47)?;
-    let done = dev.load(17)?;
+    let seal = dev.load(SEAL)?;
+    let done = dev.load(DONE)?;
     Some(is_next(seal, done))
 }
 
@@ -80,13 +81,13 @@ fn record<P: PmemWork>(dev: &P) -> PendingAnswer
     requires sealed { is_sealed (view (P.device dev.now).cache) ≡ true }
     ensures { Reads result (view (P.device dev.now).cache) }
 {
-    let tx = number_of(word(dev, 24));
+    let tx = number_of(word(dev, FUNCTION));
     let args = arguments(dev);
     PendingAnswer::Sealed { tx, args }
 }
 
-/// The sealed call that waits in the pool's record, if one does. It takes no memory and makes no
-/// event.
+/// The sealed call that waits in the pool's record, if there is one. It takes no memory and plays
+/// no event.
 pub fn pending<P: PmemWork>(dev: &P) -> PendingAnswer
     requires lines { 6 ≤ (P.device dev.now).lines }
     ensures read { (P.device dev.now).on ≡ true → Reads result (view (P.device dev.now).cache) }

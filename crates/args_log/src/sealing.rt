@@ -1,4 +1,4 @@
-//! The seal of a call.
+//! Sealing a call.
 
 ghost use Rattle.std.specs.Prelude.{◌≡◌, ◌≤◌, ◌+◌, ◌<◌, ◌++◌, [], ◌∷◌, ℕ, suc, pos, true, false, OnOk, IfErr, length, take};
 ghost use Rattle.std.specs.Int.{w64, cast_signed};
@@ -6,19 +6,21 @@ ghost use Rattle.cache_model.specs.Cache.{view};
 ghost use Rattle.cache_model.specs.Event.{Store, Fence};
 ghost use Rattle.pmem.specs.Played.{PlaysAll, PlaysPart};
 ghost use Rattle.pmem.specs.declared.answer.Phase.TheVariants as at_phase;
-ghost use Rattle.args_log.specs.Next.{next};
+ghost use Rattle.pool_layout.specs.declared.places.TheConstants.{DONE};
+ghost use Rattle.args_log.specs.Next.{number_after};
 ghost use Rattle.args_log.specs.Seal.{stores_from, flushes_from, payload_lines, payload_events, unsealed_events, sealing_events, seal_events};
 ghost use Rattle.args_log.specs.Sealing.{Seals};
 
 use crate::following_number::following;
 use pmem::events::{fence, flush, store};
 use pmem::{Phase, PmemWork, Refusal};
+use pool_layout::{DONE, FUNCTION, SEAL};
 
-/// The most arguments that a record holds.
+/// The greatest number of arguments that a record holds.
 const ARGUMENTS: usize = 22;
 
-/// The answer of a seal. `Off` has the phase that the power left: `Sealing` where the seal was
-/// stored, else `Unsealed`.
+/// The answer of a seal. `Off` has the phase at the power cut: `Sealing` if the seal was stored,
+/// else `Unsealed`.
 #[derive(Clone, Copy, Debug, PartialEq, Eq, Drop)]
 pub enum SealAnswer {
     Done,
@@ -27,12 +29,14 @@ pub enum SealAnswer {
     NoMemory,
 }
 
-/// Stores the arguments behind the function, in order.
+/// Stores the arguments after the function, in order.
 fn store_arguments<P: PmemWork>(dev: &mut P, args: &[i64]) -> Result<(), Refusal>
     requires few { length args.now ≤ 22 }
     requires lines { 6 ≤ (P.device dev.old).lines }
-    ensures done { OnOk result (PlaysAll (P.device dev.old) (stores_from 25 args.now) (P.device dev.new)) }
-    ensures refused { IfErr result (λ why. PlaysPart why (P.device dev.old) (stores_from 25 args.now) (P.device dev.new)) }
+    ensures done { OnOk result (PlaysAll (P.device dev.old) (stores_from 25 args.now)
+        (P.device dev.new)) }
+    ensures refused { IfErr result
+        (λ why. PlaysPart why (P.device dev.old) (stores_from 25 args.now) (P.device dev.new)) }
     ensures lines { (P.device dev.new).lines ≡ (P.device dev.old).lines }
 {
     for (k, arg) in args.iter().enumerate() {
@@ -47,8 +51,10 @@ fn store_arguments<P: PmemWork>(dev: &mut P, args: &[i64]) -> Result<(), Refusal
 fn flush_payload<P: PmemWork>(dev: &mut P, count: u64) -> Result<(), Refusal>
     requires few { count ≤ 3 }
     requires lines { 6 ≤ (P.device dev.old).lines }
-    ensures done { OnOk result (PlaysAll (P.device dev.old) (flushes_from 3 count) (P.device dev.new)) }
-    ensures refused { IfErr result (λ why. PlaysPart why (P.device dev.old) (flushes_from 3 count) (P.device dev.new)) }
+    ensures done { OnOk result (PlaysAll (P.device dev.old) (flushes_from 3 count)
+        (P.device dev.new)) }
+    ensures refused { IfErr result (λ why. PlaysPart why (P.device dev.old) (flushes_from 3 count)
+        (P.device dev.new)) }
     ensures lines { (P.device dev.new).lines ≡ (P.device dev.old).lines }
 {
     for k in 0..count {
@@ -59,22 +65,25 @@ fn flush_payload<P: PmemWork>(dev: &mut P, count: u64) -> Result<(), Refusal>
     Ok(())
 }
 
-/// The function and its arguments, made durable.
+/// Stores the function and its arguments, and makes them durable.
 #[tactic(auto, using(pmem::proofs::Glue::all_append, pmem::proofs::Glue::part_left, pmem::proofs::Glue::part_right), unfolding(crate::specs::Seal::payload_events))]
 fn play_payload<P: PmemWork>(dev: &mut P, function: i64, args: &[i64]) -> Result<(), Refusal>
     requires few { length args.now ≤ 22 }
     requires lines { 6 ≤ (P.device dev.old).lines }
-    ensures done { OnOk result (PlaysAll (P.device dev.old) (payload_events function args.now) (P.device dev.new)) }
-    ensures refused { IfErr result (λ why. PlaysPart why (P.device dev.old) (payload_events function args.now) (P.device dev.new)) }
+    ensures done { OnOk result (PlaysAll (P.device dev.old) (payload_events function args.now)
+        (P.device dev.new)) }
+    ensures refused { IfErr result
+        (λ why. PlaysPart why (P.device dev.old) (payload_events function args.now)
+        (P.device dev.new)) }
     ensures lines { (P.device dev.new).lines ≡ (P.device dev.old).lines }
 {
-    store(dev, 24, function)?;
+    store(dev, FUNCTION, function)?;
     store_arguments(dev, args)?;
     flush_payload(dev, args.len() as u64 / 8 + 1)?;
     fence(dev)
 }
 
-/// All events up to the store of the seal.
+/// Plays all events up to and including the store of the seal.
 #[tactic(auto, using(pmem::proofs::Glue::all_append, pmem::proofs::Glue::part_left, pmem::proofs::Glue::part_right), unfolding(crate::specs::Seal::unsealed_events))]
 fn play_unsealed<P: PmemWork>(
     dev: &mut P,
@@ -84,20 +93,24 @@ fn play_unsealed<P: PmemWork>(
 ) -> Result<(), Refusal>
     requires few { length args.now ≤ 22 }
     requires lines { 6 ≤ (P.device dev.old).lines }
-    ensures done { OnOk result (PlaysAll (P.device dev.old) (unsealed_events function args.now number) (P.device dev.new)) }
-    ensures refused { IfErr result (λ why. PlaysPart why (P.device dev.old) (unsealed_events function args.now number) (P.device dev.new)) }
+    ensures done { OnOk result (PlaysAll (P.device dev.old)
+        (unsealed_events function args.now number) (P.device dev.new)) }
+    ensures refused { IfErr result
+        (λ why. PlaysPart why (P.device dev.old) (unsealed_events function args.now number)
+        (P.device dev.new)) }
     ensures lines { (P.device dev.new).lines ≡ (P.device dev.old).lines }
 {
     play_payload(dev, function, args)?;
-    store(dev, 47, number)
+    store(dev, SEAL, number)
 }
 
-/// The events behind the store of the seal.
+/// Plays the events after the store of the seal.
 #[tactic(auto, unfolding(crate::specs::Seal::sealing_events))]
 fn play_sealing<P: PmemWork>(dev: &mut P) -> Result<(), Refusal>
     requires lines { 6 ≤ (P.device dev.old).lines }
     ensures done { OnOk result (PlaysAll (P.device dev.old) sealing_events (P.device dev.new)) }
-    ensures refused { IfErr result (λ why. PlaysPart why (P.device dev.old) sealing_events (P.device dev.new)) }
+    ensures refused { IfErr result
+        (λ why. PlaysPart why (P.device dev.old) sealing_events (P.device dev.new)) }
     ensures lines { (P.device dev.new).lines ≡ (P.device dev.old).lines }
 {
     flush(dev, 5)?;
@@ -126,7 +139,7 @@ fn play_seal<P: PmemWork>(dev: &mut P, function: i64, args: &[i64], number: i64)
     }
 }
 
-/// The arguments that a record holds.
+/// The arguments that a record can hold.
 #[tactic(auto, using(std::proofs::lemmas::List::take_all))]
 fn recorded(args: &[i64]) -> &[i64]
     ensures value { result.now ≡ take 22 args.now }
@@ -139,17 +152,19 @@ fn recorded(args: &[i64]) -> &[i64]
     }
 }
 
-/// Seals the call of a transaction, which is numbered one more than the finished ones: m + p + 5
-/// events, with m arguments in p lines. A record holds 22 arguments; those behind them are left
+/// Seals the call of a transaction, whose number is one more than that of the finished ones: m + p
+/// + 5 events, with m arguments in p lines. A record holds 22 arguments; any after these are left
 /// out. On a device that is off the answer is `Off(Unsealed)`, and nothing has changed.
 pub fn seal<P: PmemWork>(dev: &mut P, tx: u64, args: &[i64]) -> SealAnswer
     requires lines { 6 ≤ (P.device dev.old).lines }
-    ensures played { (P.device dev.old).on ≡ true → Seals result (P.device dev.old) (cast_signed w64 tx) (take 22 args.now) (next (view (P.device dev.old).cache 17)) (P.device dev.new) }
+    ensures played { (P.device dev.old).on ≡ true
+        → Seals result (P.device dev.old) (cast_signed w64 tx) (take 22 args.now)
+        (number_after (view (P.device dev.old).cache DONE)) (P.device dev.new) }
     ensures off { (P.device dev.old).on ≡ false → result ≡ SealAnswer.Off at_phase.Unsealed }
     ensures same { (P.device dev.old).on ≡ false → P.device dev.new ≡ P.device dev.old }
     ensures lines { (P.device dev.new).lines ≡ (P.device dev.old).lines }
 {
-    let Some(done) = dev.load(17) else {
+    let Some(done) = dev.load(DONE) else {
         return SealAnswer::Off(Phase::Unsealed);
     };
     let function = tx.cast_signed();

@@ -1,4 +1,4 @@
--- Digits behind a value that is too large make no number.
+-- Digits after a value that is too large make no number.
 use Rattle.std.proofs.Common.{◌≡◌, ℕ, ℤ, ◌+◌, ◌*◌, ◌^◌, ◌<◌, ◌≤◌, List, [], ◌∷◌, length, drop, get_or, Bool, true, false, ◌&&◌, Option, arith, refl, add-one, drop-cons}
 use Rattle.std.proofs.Math.Nat.{mul-le-mul_left}
 use Rattle.std.specs.Prelude.{◌-◌, None, nat_le, if◌then◌else◌}
@@ -6,7 +6,8 @@ use Rattle.std.specs.Char.{digit_value}
 use Rattle.std.specs.Str.Parse.{digits_value_after}
 use Rattle.c_lexer.specs.Numbers.{digits_after}
 
-pub value_grows : (base before : ℕ) (digits : List ℕ) → 1 ≤ base → before ≤ digits_value_after base before digits
+pub value_grows : (base before : ℕ) (digits : List ℕ) → 1 ≤ base
+    → before ≤ digits_value_after base before digits
 value_grows base before [] some = omega arith
 value_grows base before (d ∷ ds) some =
     let more = value_grows base (before * base + digit_value d) ds some in
@@ -16,16 +17,20 @@ none_of_both : (b : Bool) (value : Option ℤ) → (if b && false then value els
 none_of_both true value = refl
 none_of_both false value = refl
 
-pub too_large : (base before d : ℕ) (ds : List ℕ) → 1 ≤ base → 2 ^ 63 ≤ before * base + digit_value d →
+pub too_large : (base before d : ℕ) (ds : List ℕ) → 1 ≤ base
+    → 2 ^ 63 ≤ before * base + digit_value d →
     digits_after base before (d ∷ ds) ≡ None
 too_large base before d ds some large =
     let more = value_grows base (before * base + digit_value d) ds some in
-    let over : nat_le (digits_value_after base (before * base + digit_value d) ds) (2 ^ 63 - 1) ≡ false = grind (arith, more) in
+    let over : nat_le (digits_value_after base (before * base + digit_value d) ds) (2 ^ 63 - 1)
+    ≡ false = grind (arith, more) in
     rw over (none_of_both _ _)
 
--- the same of the digits from a place on
+-- the same for the digits from a place on
 pub too_large_there : (base before at : ℕ) (digits : List ℕ) → 1 ≤ base → at < length digits →
-    2 ^ 63 ≤ before * base + digit_value (get_or digits at 0) → digits_after base before (drop at digits) ≡ None
+    2 ^ 63 ≤ before * base + digit_value (get_or digits at 0)
+    → digits_after base before (drop at digits) ≡ None
 too_large_there base before at digits some within large =
-    let cons : drop at digits ≡ get_or digits at 0 ∷ drop (at + 1) digits = rw (add-one, drop-cons digits at 0) refl in
+    let cons : drop at digits ≡ get_or digits at 0 ∷ drop (at + 1) digits =
+    rw (add-one, drop-cons digits at 0) refl in
     rw cons (too_large base before (get_or digits at 0) (drop (at + 1) digits) some large)

@@ -26,8 +26,9 @@ run_ascii left i = elim (cases_lt i (run_len left)) [
 pub run_utf8 : (left : List ℕ) → IsUtf8 (take (run_len left) left)
 run_utf8 left = IsUtf8-from_ascii _ (run_ascii left)
 
--- a digit, and what begins a name, is a byte of a run
-or_last : (digit upper lower under : Bool) → ((upper || lower) || under) ≡ true → (((digit || upper) || lower) || under) ≡ true
+-- a digit, or a byte that begins a name, is a byte of a run
+or_last : (digit upper lower under : Bool) → ((upper || lower) || under) ≡ true
+    → (((digit || upper) || lower) || under) ≡ true
 or_last true upper lower under h = refl
 or_last false upper lower under h = h
 
@@ -35,13 +36,15 @@ pub digit_in_word : (b : ℕ) → is_ascii_digit b ≡ true → is_word_byte b �
 digit_in_word b digit = rw digit refl
 
 pub begin_in_word : (b : ℕ) → begins_name b ≡ true → is_word_byte b ≡ true
-begin_in_word b begins = or_last (is_in_range 48 57 b) (is_in_range 65 90 b) (is_in_range 97 122 b) (b == 95) begins
+begin_in_word b begins = or_last (is_in_range 48 57 b) (is_in_range 65 90 b) (is_in_range 97 122 b)
+    (b == 95) begins
 
 pub run_some : (left : List ℕ) → is_word_byte (get_or left 0 0) ≡ true → 0 < run_len left
 run_some [] word = cc
 run_some (b ∷ bs) word = rw word (omega arith)
 
-pub line_some : (left : List ℕ) → 0 < length left → is_blank (get_or left 0 0) ≡ false → 0 < line_len left
+pub line_some : (left : List ℕ) → 0 < length left → is_blank (get_or left 0 0) ≡ false
+    → 0 < line_len left
 line_some [] some dark = absurd (omega arith)
 line_some (b ∷ bs) some dark = grind (arith, nat_tests)
 

@@ -1,10 +1,10 @@
--- The classes of bytes that the rules speak of. Letters are those of ASCII; 95 is `_`, 9 a tab, 10
--- LF, 13 CR, 32 a space.
+-- The classes of bytes in the rules. Letters are those of ASCII; 95 is `_`, 9 a tab, 10 LF, 13 CR,
+-- 32 a space.
 use Rattle.std.specs.Prelude.{ℕ, List, Bool, not, ◌||◌, ◌==◌}
 use Rattle.std.specs.Char.{is_ascii_alphabetic, is_ascii_alphanumeric}
 use Rattle.std.specs.List.{prefix_len}
 
--- a space or a tab, the only bytes that may stand before a `#` on its line
+-- a space or a tab: no other byte may come before a `#` on its line
 abbrev pub is_indent : ℕ → Bool
 is_indent b = b == 32 || b == 9
 
@@ -12,11 +12,11 @@ is_indent b = b == 32 || b == 9
 abbrev pub is_blank : ℕ → Bool
 is_blank b = is_indent b || (b == 13 || b == 10)
 
--- what may begin a name: a letter or `_`
+-- a byte that may begin a name: a letter or `_`
 abbrev pub begins_name : ℕ → Bool
 begins_name b = is_ascii_alphabetic b || b == 95
 
--- what a name or a number goes on with: a letter, a digit or `_`
+-- a byte that may continue a name or a number: a letter, a digit or `_`
 abbrev pub is_word_byte : ℕ → Bool
 is_word_byte b = is_ascii_alphanumeric b || b == 95
 
@@ -24,6 +24,6 @@ is_word_byte b = is_ascii_alphanumeric b || b == 95
 abbrev pub run_len : List ℕ → ℕ
 run_len left = prefix_len is_word_byte left
 
--- how many bytes stand before the line's end, which is its LF or the end of the text
+-- the number of bytes before the line's end, which is its LF or the end of the text
 abbrev pub line_len : List ℕ → ℕ
 line_len left = prefix_len (λ b. not (b == 10)) left

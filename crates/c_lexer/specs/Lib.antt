@@ -7,3 +7,4 @@ pub mod Numbers
 pub mod Spots
 pub mod TokenList
 pub mod Words
+pub mod inside

@@ -1,6 +1,6 @@
 -- The marks and their spellings. The mark at the front of a text is the longest that fits: the
--- table has the marks of two bytes before those of one, and the first that the text begins with is
--- taken.
+-- table lists the marks of two bytes before those of one, and the first one that the text begins
+-- with is taken.
 use Rattle.std.specs.Prelude.{ℕ, List, [], ◌∷◌, length, Option, Some, None, nat_eq, if◌then◌else◌, codes}
 use Rattle.std.specs.List.{starts_with}
 use Rattle.c_lexer.specs.declared.token.Mark.{Mark}
@@ -45,7 +45,7 @@ marks =
     (codes "]", mark.CloseSquare) ∷
     []
 
--- the first mark of a table that these bytes begin with, with its length
+-- the first mark of a table that these bytes begin with, and its length
 abbrev pub first_fit : List ℕ → List (List ℕ × Mark) → Option (ℕ × Mark)
 first_fit left [] = None
 first_fit left (row ∷ rows) =

@@ -1,6 +1,6 @@
--- The piece that stands at a place: a comment, a blank, a skipped line, a number, a name or word, or
--- the longest mark that fits; or the refusal of the byte there. `left` is the text from the place on,
--- which isn't at its end.
+-- The piece at a place: a comment, a blank, a skipped line, a number, a name or word, or the
+-- longest mark that fits; or the refusal of the byte there. `left` is the text from the place on,
+-- which isn't empty.
 use Rattle.std.specs.Prelude.{ℕ, ℤ, List, take, ◌<◌, ◌≤◌, Option, Some, None, nat_eq, ◌&&◌, ◌||◌, if◌then◌else◌, codes, slice_index}
 use Rattle.std.specs.List.{starts_with}
 use Rattle.std.specs.Char.{is_ascii_digit}
@@ -15,12 +15,6 @@ use Rattle.c_lexer.specs.Comments.{comment_len, begins_include}
 use Rattle.c_lexer.specs.Marks.{mark_at}
 use Rattle.c_lexer.specs.Numbers.{number_of}
 use Rattle.c_lexer.specs.Words.{word_token}
-
--- a piece has one byte at least, and no more than are left
-abbrev pub IsWithin : Piece → ℕ → Type 0
-IsWithin (Skips width) most = (0 < width) × (width ≤ most)
-IsWithin (Spells width token) most = (0 < width) × (width ≤ most)
-IsWithin (Refuses fault) most = Unit {0}
 
 -- the run of letters, digits and `_` at the front
 abbrev pub run_of : List ℕ → List ℕ
@@ -38,11 +32,13 @@ abbrev pub mark_piece : ℕ → Option (ℕ × Mark) → Piece
 mark_piece line None = Refuses (BadByte line)
 mark_piece line (Some (width, mark)) = Spells width (token.Mark mark)
 
-unfoldable pub next : Spot → List ℕ → Piece
-next spot left =
+unfoldable pub next_piece : Spot → List ℕ → Piece
+next_piece spot left =
     if is_blank (slice_index left 0) then Skips 1
-    else (if starts_with nat_eq left (codes "//") || (spot.fresh && begins_include left) then Skips (line_len left)
+    else (if starts_with nat_eq left (codes "//") || (spot.fresh && begins_include left)
+    then Skips (line_len left)
     else (if starts_with nat_eq left (codes "/*") then comment_piece spot.line (comment_len left)
-    else (if is_ascii_digit (slice_index left 0) then number_piece spot.line (run_len left) (number_of (run_of left))
+    else (if is_ascii_digit (slice_index left 0)
+    then number_piece spot.line (run_len left) (number_of (run_of left))
     else (if begins_name (slice_index left 0) then Spells (run_len left) (word_token (run_of left))
     else mark_piece spot.line (mark_at left)))))

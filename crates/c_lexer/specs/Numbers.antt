@@ -1,18 +1,20 @@
--- The numbers: `0`, or a digit from 1 to 9 and digits, or `0x` or `0X` and one hexadecimal digit or
--- more. The value is at most 9223372036854775807. Nothing else that begins with a digit is a number.
+-- The numbers: `0`; or a digit from 1 to 9 followed by digits; or `0x` or `0X` followed by at least
+-- one hexadecimal digit. The value is at most 9223372036854775807. Nothing else that begins with a
+-- digit is a number.
 use Rattle.std.specs.Prelude.{ℕ, ℤ, pos, List, length, drop, Option, Some, None, nat_eq, nat_lt, nat_le, ◌==◌, ◌&&◌, ◌||◌, ◌^◌, ◌-◌, if◌then◌else◌, codes, slice_index}
 use Rattle.std.specs.Char.{is_digit}
 use Rattle.std.specs.List.{list_all, starts_with}
 use Rattle.std.specs.Str.Parse.{digits_value_after}
 
--- the digits in a base, behind digits of the value `before`
+-- the value of the digits in a base, after digits of the value `before`
 abbrev pub digits_after : ℕ → ℕ → List ℕ → Option ℤ
 digits_after base before digits =
-    if list_all (λ d. is_digit d base) digits && nat_le (digits_value_after base before digits) (2 ^ 63 - 1)
+    if list_all (λ d. is_digit d base) digits && nat_le (digits_value_after base before digits)
+    (2 ^ 63 - 1)
     then Some (pos (digits_value_after base before digits))
     else None
 
--- one digit or more in a base, and no other byte
+-- at least one digit in a base, and no other byte
 abbrev pub numeral : ℕ → List ℕ → Option ℤ
 numeral base digits = if nat_lt 0 (length digits) then digits_after base 0 digits else None
 

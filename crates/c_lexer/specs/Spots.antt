@@ -1,6 +1,6 @@
--- What the bytes before a place say about it: its line, counted from 1 by LF, and whether only
--- spaces and tabs stand before it on the line.
-use Rattle.std.specs.Prelude.{ℕ, List, [], ◌∷◌, ◌+◌, true, ◌&&◌, ◌==◌, if◌then◌else◌}
+-- What the bytes before a place determine: its line, counted from 1 by LF, and whether only spaces
+-- and tabs come before it on that line.
+use Rattle.std.specs.Prelude.{ℕ, [], ◌∷◌, ◌+◌, true, ◌&&◌, ◌==◌, if◌then◌else◌}
 use Rattle.c_lexer.specs.declared.spot.Spot.{Spot}
 use Rattle.c_lexer.specs.Bytes.{is_indent}
 
@@ -11,7 +11,3 @@ abbrev pub past_byte : Spot → ℕ → Spot
 past_byte spot b =
     if b == 10 then record { line = spot.line + 1; fresh = true }
     else record { line = spot.line; fresh = spot.fresh && is_indent b }
-
-abbrev pub past : Spot → List ℕ → Spot
-past spot [] = spot
-past spot (b ∷ bs) = past (past_byte spot b) bs

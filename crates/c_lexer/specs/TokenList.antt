@@ -1,4 +1,4 @@
--- The tokens of a text with their lines, and the line at the text's end. The end counts as a place
+-- The tokens of a text with their lines, and the line of the text's end. The end counts as a place
 -- of its own: the line at the list's length is that of the end.
 use Rattle.std.specs.Prelude.{ℕ, List, slice_get}
 use Rattle.std.specs.Option.{option_map_or}

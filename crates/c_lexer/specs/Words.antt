@@ -1,5 +1,5 @@
--- The words that no name may be: those of the profile, and those that C reserves and the profile
--- never accepts. Any other run of letters, digits and `_` that doesn't begin with a digit is a name.
+-- The words that no name may be: the profile's own, and those that C reserves and the profile never
+-- accepts. Any other run of letters, digits and `_` that doesn't begin with a digit is a name.
 use Rattle.std.specs.Prelude.{ℕ, List, [], ◌∷◌, Option, Some, None, Bool, true, false, if◌then◌else◌, codes}
 use Rattle.std.specs.List.{list_any}
 use Rattle.std.specs.Str.{bytes_eq}
@@ -8,8 +8,8 @@ use Rattle.c_lexer.specs.declared.token.Word.TheVariants as word
 use Rattle.c_lexer.specs.declared.token.Token.{Token}
 use Rattle.c_lexer.specs.declared.token.Token.TheVariants as token
 
-abbrev pub words : List (List ℕ × Word)
-words =
+abbrev pub word_table : List (List ℕ × Word)
+word_table =
     (codes "int64_t", word.Int64) ∷
     (codes "void", word.Void) ∷
     (codes "struct", word.Struct) ∷
@@ -58,13 +58,13 @@ never_accepted =
     codes "volatile" ∷
     []
 
--- the word beside the first spelling of a table that the run is
+-- the word of the first row of a table whose spelling is the run
 abbrev pub beside : List ℕ → List (List ℕ × Word) → Option Word
 beside run [] = None
 beside run (row ∷ rows) = if bytes_eq run row.0 then Some row.1 else beside run rows
 
-unfoldable pub word_at : List ℕ → Option Word
-word_at run = beside run words
+unfoldable pub word_spelled : List ℕ → Option Word
+word_spelled run = beside run word_table
 
 unfoldable pub is_never_accepted : List ℕ → Bool
 is_never_accepted run = list_any (λ spelling. bytes_eq run spelling) never_accepted
@@ -76,4 +76,4 @@ spelled_by run None true = token.Reserved
 spelled_by run None false = token.Name run
 
 abbrev pub word_token : List ℕ → Token
-word_token run = spelled_by run (word_at run) (is_never_accepted run)
+word_token run = spelled_by run (word_spelled run) (is_never_accepted run)

@@ -41,7 +41,7 @@ pub(crate) fn run_len(left: &[u8]) -> usize
     left.iter().take_while(|byte| is_word_byte(**byte)).count()
 }
 
-/// How many bytes stand before the line's end.
+/// The number of bytes before the line's end.
 pub(crate) fn line_len(left: &[u8]) -> usize
     ensures width { result ≡ line_len left.now }
     ensures inside { result ≤ length left.now }

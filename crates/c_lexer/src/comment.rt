@@ -5,8 +5,8 @@ ghost use Rattle.c_lexer.specs.Comments.{comment_len, begins_include};
 
 use crate::byte::indent_len;
 
-/// The length of the `/*` comment that these bytes begin with; none where it is never closed.
-#[tactic(auto, using(crate::proofs::Comments::behind_step))]
+/// The length of the `/*` comment that these bytes begin with; `None` if it is never closed.
+#[tactic(auto, using(crate::proofs::Comments::after_step))]
 pub(crate) fn comment_len(left: &[u8]) -> Option<usize>
     requires { 2 ≤ length left.now }
     ensures width { result ≡ comment_len left.now }
@@ -28,6 +28,6 @@ pub(crate) fn begins_include(left: &[u8]) -> bool
     if !left.starts_with(b"#") {
         return false;
     }
-    let behind = &left[1..];
-    behind[indent_len(behind)..].starts_with(b"include")
+    let afterwards = &left[1..];
+    afterwards[indent_len(afterwards)..].starts_with(b"include")
 }

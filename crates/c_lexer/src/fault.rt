@@ -12,10 +12,10 @@ pub enum LexFault {
     /// A byte that begins no token, blank, comment or skipped line.
     #[error("line {0}: no token begins with this byte")]
     BadByte(u64),
-    /// A run of letters, digits and `_` that begins with a digit and is no number.
+    /// A run of letters, digits and `_` that begins with a digit but is no number.
     #[error("line {0}: not a number")]
     BadNumber(u64),
-    /// A comment that is never closed; the line is the one where it begins.
+    /// A comment that is never closed; the line is the one on which it begins.
     #[error("line {0}: the comment is never closed")]
     OpenComment(u64),
     /// More than 262,144 bytes, or more than 16,384 tokens.

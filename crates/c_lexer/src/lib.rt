@@ -1,4 +1,4 @@
-//! The tokens of a program text. It stands on `nvm_base`. Its one contract for the crates above:
+//! The tokens of a program text. It rests on `nvm_base`. Its one contract for the crates above:
 //! `tokens` answers exactly the tokens that a text spells, or the first refusal with its line.
 #![tactic(auto)]
 
@@ -11,8 +11,6 @@ mod number;
 mod piece;
 mod scan;
 mod spot;
-#[cfg(test)]
-mod tests;
 mod token;
 mod word;
 

@@ -1,4 +1,4 @@
-//! The tokens of a text, with their lines and the line at the text's end.
+//! The tokens of a text, with their lines and the line of the text's end.
 
 ghost use Rattle.std.specs.Prelude.{◌≡◌, ◌≤◌, length, slice_get};
 ghost use Rattle.std.specs.Option.{option_copied};
@@ -7,7 +7,7 @@ ghost use Rattle.c_lexer.specs.TokenList.{line_at};
 use crate::token::Placed;
 use std::marker::Model;
 
-/// The tokens of one text, in order, with the line at the text's end. Only `tokens` makes one.
+/// The tokens of one text, in order, with the line of the text's end. Only `tokens` makes one.
 #[derive(Drop)]
 pub struct TokenList {
     all: Vec<Placed>,
@@ -36,14 +36,14 @@ impl TokenList {
         self.all.len() as u64
     }
 
-    /// The token at a place, counted from 0, with its line; none from the list's length on.
+    /// The token at a place, counted from 0, with its line; `None` from the list's length on.
     pub fn get(&self, place: u64) -> Option<&Placed>
         ensures { option_copied result ≡ slice_get self.now.tokens place }
     {
         self.all.get(place as usize)
     }
 
-    /// The line of the token at a place, and at the list's length the line at the text's end.
+    /// The line of the token at a place; at the list's length, the line of the text's end.
     pub fn line(&self, token: u64) -> u64
         requires { token ≤ length self.now.tokens }
         ensures { result ≡ line_at self.now token }

@@ -1,4 +1,4 @@
-//! The marks by their spellings.
+//! The marks and their spellings.
 
 ghost use Rattle.std.specs.Prelude.{◌≡◌, ◌<◌, ◌≤◌, ℕ, List, length, map, IfSome};
 ghost use Rattle.std.specs.Borrow.{Bor};
@@ -7,7 +7,7 @@ ghost use Rattle.c_lexer.specs.Marks.{first_fit, mark_at};
 
 use crate::token::Mark;
 
-/// Those of two bytes stand first, so that the first that fits is the longest.
+/// Marks of two bytes come first, so that the first one that fits is the longest.
 const MARKS: [(&str, Mark); 35] = [
     ("->", Mark::Arrow),
     ("++", Mark::Increment),
@@ -46,10 +46,11 @@ const MARKS: [(&str, Mark); 35] = [
     ("]", Mark::CloseSquare),
 ];
 
-/// The first row of a table whose spelling stands at the front of these bytes.
+/// The mark of the first row of a table whose spelling these bytes begin with, and its length.
 fn first_fit(left: &[u8], table: &[(&str, Mark)]) -> Option<(usize, Mark)>
     ensures inside { IfSome result (λ found. found.0 ≤ length left.now) }
-    ensures fit { result ≡ first_fit left.now (map (λ (row : Bor (List ℕ) × Mark). (row.0.now, row.1)) table.now) }
+    ensures fit { result ≡ first_fit left.now
+        (map (λ (row : Bor (List ℕ) × Mark). (row.0.now, row.1)) table.now) }
 {
     for (spelling, mark) in table {
         if left.starts_with(spelling.as_bytes()) {
@@ -59,7 +60,7 @@ fn first_fit(left: &[u8], table: &[(&str, Mark)]) -> Option<(usize, Mark)>
     None
 }
 
-/// The longest mark at the front of these bytes, with its length.
+/// The longest mark that these bytes begin with, and its length.
 #[tactic(auto, unfolding(crate::specs::Marks::mark_at))]
 pub(crate) fn longest_mark(left: &[u8]) -> Option<(usize, Mark)>
     ensures some { IfSome result (λ found. 0 < found.0) }

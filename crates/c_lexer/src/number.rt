@@ -3,7 +3,7 @@
 ghost use Rattle.std.specs.Prelude.{◌≡◌, ◌+◌, ◌*◌, ◌^◌, ◌<◌, ◌≤◌, MatchOption};
 ghost use Rattle.c_lexer.specs.Numbers.{digits_after, numeral, number_of};
 
-/// One digit more behind a value; none where that is over 2^63 - 1.
+/// A value with one more digit; `None` if that is over 2^63 - 1.
 fn with_digit(value: u64, base: u32, digit: u32) -> Option<u64>
     ensures { MatchOption result (2 ^ 63 ≤ value * base + digit)
         (λ more. (more ≡ value * base + digit) × (more < 2 ^ 63)) }
@@ -17,7 +17,7 @@ fn with_digit(value: u64, base: u32, digit: u32) -> Option<u64>
     Some(more)
 }
 
-/// The value of digits in a base; none where a byte is no digit or the value is over 2^63 - 1.
+/// The value of digits in a base; `None` if a byte is no digit or the value is over 2^63 - 1.
 #[tactic(auto, using(crate::proofs::Numbers::too_large_there))]
 fn digits_value(digits: &[u8], base: u32) -> Option<i64>
     requires least { 2 ≤ base }
@@ -32,7 +32,7 @@ fn digits_value(digits: &[u8], base: u32) -> Option<i64>
     Some(value as i64)
 }
 
-/// The same, where one digit at least has to be there.
+/// The same, if there is at least one digit.
 fn numeral(digits: &[u8], base: u32) -> Option<i64>
     requires least { 2 ≤ base }
     requires most { base ≤ 16 }

@@ -1,10 +1,11 @@
-//! What stands at a place of the text.
+//! The piece at a place of the text.
 
 ghost use Rattle.std.specs.Prelude.{◌≡◌, ◌<◌, ◌≤◌, length, slice_index, true, IfOk};
 ghost use Rattle.c_lexer.specs.Bytes.{is_word_byte, run_len};
 ghost use Rattle.c_lexer.specs.Comments.{comment_len};
 ghost use Rattle.c_lexer.specs.Marks.{mark_at};
-ghost use Rattle.c_lexer.specs.Next.{next, IsWithin, number_piece, comment_piece, mark_piece, run_of};
+ghost use Rattle.c_lexer.specs.Next.{next_piece, number_piece, comment_piece, mark_piece, run_of};
+ghost use Rattle.c_lexer.specs.inside.Next.{PieceFits};
 ghost use Rattle.c_lexer.specs.Numbers.{number_of};
 ghost use Rattle.c_lexer.specs.Words.{word_token};
 
@@ -31,7 +32,7 @@ pub(crate) enum Piece {
 fn number_piece(left: &[u8], line: u64) -> Piece
     requires { is_word_byte (slice_index left.now 0) ≡ true }
     ensures piece { result ≡ number_piece line (run_len left.now) (number_of (run_of left.now)) }
-    ensures inside { IsWithin result (length left.now) }
+    ensures inside { PieceFits result (length left.now) }
 {
     let width = run_len(left);
     match number_of(&left[..width]) {
@@ -44,7 +45,7 @@ fn number_piece(left: &[u8], line: u64) -> Piece
 fn comment_piece(left: &[u8], line: u64) -> Piece
     requires { 2 ≤ length left.now }
     ensures piece { result ≡ comment_piece line (comment_len left.now) }
-    ensures inside { IsWithin result (length left.now) }
+    ensures inside { PieceFits result (length left.now) }
 {
     match comment_len(left) {
         Some(width) => Piece::Skips(width),
@@ -55,7 +56,7 @@ fn comment_piece(left: &[u8], line: u64) -> Piece
 /// The longest mark that these bytes begin with.
 fn mark_piece(left: &[u8], line: u64) -> Piece
     ensures piece { result ≡ mark_piece line (mark_at left.now) }
-    ensures inside { IsWithin result (length left.now) }
+    ensures inside { PieceFits result (length left.now) }
 {
     match longest_mark(left) {
         Some((width, mark)) => Piece::Spells(width, Token::Mark(mark)),
@@ -66,8 +67,9 @@ fn mark_piece(left: &[u8], line: u64) -> Piece
 /// The name or the reserved word that these bytes begin with.
 fn word_piece(alloc: Global, left: &[u8]) -> Result<Piece, AllocError>
     requires { is_word_byte (slice_index left.now 0) ≡ true }
-    ensures piece { IfOk result (λ piece. piece ≡ Piece.Spells (run_len left.now) (word_token (run_of left.now))) }
-    ensures inside { IfOk result (λ piece. IsWithin piece (length left.now)) }
+    ensures piece { IfOk result (λ piece.
+        piece ≡ Piece.Spells (run_len left.now) (word_token (run_of left.now))) }
+    ensures inside { IfOk result (λ piece. PieceFits piece (length left.now)) }
 {
     let width = run_len(left);
     let token = word_or_name(alloc, &left[..width])?;
@@ -75,11 +77,11 @@ fn word_piece(alloc: Global, left: &[u8]) -> Result<Piece, AllocError>
 }
 
 /// The piece that these bytes begin with.
-#[tactic(auto, using(crate::proofs::Runs::next_steps), unfolding(crate::specs::Next::next))]
+#[tactic(auto, using(crate::proofs::Runs::next_steps), unfolding(crate::specs::Next::next_piece))]
 pub(crate) fn next(alloc: Global, left: &[u8], spot: Spot) -> Result<Piece, AllocError>
     requires { 0 < length left.now }
-    ensures piece { IfOk result (λ piece. piece ≡ next spot left.now) }
-    ensures inside { IfOk result (λ piece. IsWithin piece (length left.now)) }
+    ensures piece { IfOk result (λ piece. piece ≡ next_piece spot left.now) }
+    ensures inside { IfOk result (λ piece. PieceFits piece (length left.now)) }
 {
     let first = left[0];
     if is_blank(first) {

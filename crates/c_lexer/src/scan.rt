@@ -1,9 +1,10 @@
 //! The text as tokens.
 
 ghost use Rattle.std.specs.Prelude.{◌≡◌, ◌⊎◌, ℕ, ◌-◌, ◌<◌, ◌≤◌, [], ◌∷◌, ◌++◌, length, IfOk, IfErr, OnOk};
-ghost use Rattle.c_lexer.specs.Cuts.{Cut, Cuts, IsWithinLimits, begin, behind, cut, limited, answer};
+ghost use Rattle.c_lexer.specs.Cuts.{Cut, Cuts, IsWithinLimits, begin_piece, cut, limited, answer};
+ghost use Rattle.c_lexer.specs.inside.Cuts.{after_tokens};
 ghost use Rattle.c_lexer.specs.TokenList.{Tokens};
-ghost use Rattle.c_lexer.specs.Next.{IsWithin};
+ghost use Rattle.c_lexer.specs.inside.Next.{PieceFits};
 
 use crate::fault::LexFault;
 use crate::list::TokenList;
@@ -18,9 +19,10 @@ const MOST_BYTES: usize = 262_144;
 /// The most tokens that a text may have.
 const MOST_TOKENS: usize = 16_384;
 
-/// Puts one more token at the end, if there is room.
+/// Appends one more token, if there is room.
 fn keep(all: &mut Vec<Placed>, token: Token, line: u64) -> Result<(), LexFault>
-    ensures ok { OnOk result (all.new.items ≡ all.old.items ++ record { token = token; line = line } ∷ []) }
+    ensures ok { OnOk result (all.new.items ≡ all.old.items ++ record { token = token; line = line }
+        ∷ []) }
     ensures room { OnOk result (length all.old.items < 16384) }
     ensures err { IfErr result (λ fault. (fault ≡ LexFault.NoMemory)
         ⊎ ((fault ≡ LexFault.TooLong) × (16384 ≤ length all.old.items))) }
@@ -32,16 +34,20 @@ fn keep(all: &mut Vec<Placed>, token: Token, line: u64) -> Result<(), LexFault>
     Ok(())
 }
 
-/// Keeps a piece's token, and gives the piece's length. Whatever cut follows, it is the same.
+/// Keeps a piece's token, and returns the piece's length. This doesn't change the cut as a whole,
+/// whatever follows.
 #[tactic(auto, using(crate::proofs::Limits::take_steps))]
 fn take(all: &mut Vec<Placed>, piece: Piece, line: u64) -> Result<usize, LexFault>
     requires { length all.old.items ≤ 16384 }
     ensures leads { IfOk result (λ width. (go : ℕ → Cut) →
-        behind all.old.items (begin piece line go) ≡ behind all.new.items (go (width - 1))) }
+        after_tokens all.old.items (begin_piece piece line go) ≡ after_tokens all.new.items
+        (go (width - 1))) }
     ensures room { OnOk result (length all.new.items ≤ 16384) }
-    ensures inside { IfOk result (λ width. (most : ℕ) → IsWithin piece most → (0 < width) × (width ≤ most)) }
+    ensures inside { IfOk result (λ width. (most : ℕ) → PieceFits piece most
+        → (0 < width) × (width ≤ most)) }
     ensures err { IfErr result (λ fault. (fault ≡ LexFault.NoMemory)
-        ⊎ ((go : ℕ → Cut) → limited (behind all.old.items (begin piece line go)) ≡ Err fault)) }
+        ⊎ ((go : ℕ → Cut) → limited (after_tokens all.old.items (begin_piece piece line go))
+        ≡ Err fault)) }
 {
     match piece {
         Piece::Skips(width) => Ok(width),
@@ -53,7 +59,7 @@ fn take(all: &mut Vec<Placed>, piece: Piece, line: u64) -> Result<usize, LexFaul
     }
 }
 
-/// The tokens of a text that has no more bytes than it may have.
+/// The tokens of a text that isn't longer than the limit.
 fn scan(alloc: Global, text: &[u8]) -> Result<TokenList, LexFault>
     requires { length text.now ≤ 262144 }
     ensures exact { (result ≡ Err LexFault.NoMemory) ⊎ (result ≡ limited (cut text.now)) }
@@ -67,15 +73,15 @@ fn scan(alloc: Global, text: &[u8]) -> Result<TokenList, LexFault>
     while !left.is_empty() {
         let piece = next(alloc, left, spot)?;
         let width = take(&mut all, piece, spot.line)?;
-        let (passed, behind) = left.split_at(width);
+        let (passed, afterwards) = left.split_at(width);
         spot.pass(passed);
-        left = behind;
+        left = afterwards;
     }
     Ok(TokenList::new(all, spot.line))
 }
 
 /// The tokens that a text spells, with their lines, or the first refusal in the order of its bytes.
-/// Only want of memory is answered whatever the text.
+/// Want of memory may be answered for any text.
 pub fn tokens(alloc: Global, text: &[u8]) -> Result<TokenList, LexFault>
     ensures exact { (result ≡ Err LexFault.NoMemory) ⊎ (result ≡ answer text.now) }
     ensures cuts { IfOk result (λ list. Cuts text.now list × IsWithinLimits text.now list) }

@@ -1,24 +1,24 @@
-//! Where the scanner stands.
+//! The scanner's position.
 
 ghost use Rattle.std.specs.Prelude.{◌≡◌, ◌+◌, ◌<◌, ◌≤◌, ◌^◌, length};
-ghost use Rattle.c_lexer.specs.Spots.{past};
+ghost use Rattle.c_lexer.specs.inside.Spots.{spot_past};
 
 use crate::byte::is_indent;
 
-/// What the bytes before a place say about it.
+/// What the bytes before a place determine.
 #[derive(Clone, Copy)]
 pub(crate) struct Spot {
     /// The line, counted from 1.
     pub(crate) line: u64,
-    /// Whether only spaces and tabs stand before the place on its line.
+    /// Whether only spaces and tabs come before the place on its line.
     pub(crate) fresh: bool,
 }
 
 impl Spot {
-    /// Goes on behind a piece of the text.
+    /// Moves past a piece of the text.
     pub(crate) fn pass(&mut self, piece: &[u8])
         requires { self.old.line + length piece.now < 2 ^ 64 }
-        ensures spot { self.new ≡ past self.old piece.now }
+        ensures spot { self.new ≡ spot_past self.old piece.now }
         ensures line { self.new.line ≤ self.old.line + length piece.now }
     {
         for byte in piece {

@@ -2,7 +2,7 @@
 
 use nvm_base::Text;
 
-/// A mark, by what C calls it.
+/// A mark, named as in C.
 #[derive(Clone, Copy, Debug, PartialEq, Eq)]
 pub enum Mark {
     /// `->`
@@ -129,7 +129,7 @@ pub enum Token {
     Reserved,
 }
 
-/// A token and the line where it begins, counted from 1.
+/// A token and the line on which it begins, counted from 1.
 #[derive(Drop)]
 pub struct Placed {
     pub token: Token,

@@ -1,11 +1,11 @@
-//! The reserved words by their spellings.
+//! The reserved words and their spellings.
 
 ghost use Rattle.std.specs.Prelude.{◌≡◌, ℕ, List, map, IfOk};
 ghost use Rattle.std.specs.Borrow.{Bor};
 ghost use Rattle.std.specs.List.{list_any};
 ghost use Rattle.c_lexer.specs.declared.token.Word.{Word};
 ghost use Rattle.std.specs.Str.{bytes_eq, IsUtf8};
-ghost use Rattle.c_lexer.specs.Words.{beside, word_at, is_never_accepted, word_token};
+ghost use Rattle.c_lexer.specs.Words.{beside, word_spelled, is_never_accepted, word_token};
 
 use crate::token::{Token, Word};
 use nvm_base::Text;
@@ -39,7 +39,8 @@ const NEVER_ACCEPTED: [&str; 25] = [
 ];
 
 fn first_spelled(run: &[u8], table: &[(&str, Word)]) -> Option<Word>
-    ensures { result ≡ beside run.now (map (λ (row : Bor (List ℕ) × Word). (row.0.now, row.1)) table.now) }
+    ensures { result ≡ beside run.now
+        (map (λ (row : Bor (List ℕ) × Word). (row.0.now, row.1)) table.now) }
 {
     for (spelling, word) in table {
         if run == spelling.as_bytes() {
@@ -50,7 +51,8 @@ fn first_spelled(run: &[u8], table: &[(&str, Word)]) -> Option<Word>
 }
 
 fn is_among(run: &[u8], table: &[&str]) -> bool
-    ensures { result ≡ list_any (λ spelling. bytes_eq run.now spelling) (map (λ s. s.now) table.now) }
+    ensures { result ≡ list_any (λ spelling. bytes_eq run.now spelling)
+        (map (λ s. s.now) table.now) }
 {
     for spelling in table {
         if run == spelling.as_bytes() {
@@ -61,15 +63,15 @@ fn is_among(run: &[u8], table: &[&str]) -> bool
 }
 
 /// The word of the profile that a run spells.
-#[tactic(auto, unfolding(crate::specs::Words::word_at))]
+#[tactic(auto, unfolding(crate::specs::Words::word_spelled))]
 fn profile_word(run: &[u8]) -> Option<Word>
-    ensures { result ≡ word_at run.now }
+    ensures { result ≡ word_spelled run.now }
 {
     let table: [(&str, Word); 17] = WORDS;
     first_spelled(run, table.as_slice())
 }
 
-/// Whether C reserves the word that a run spells, and the profile never accepts it.
+/// Whether the run is a word that C reserves and the profile never accepts.
 #[tactic(auto, unfolding(crate::specs::Words::is_never_accepted))]
 fn is_reserved(run: &[u8]) -> bool
     ensures { result ≡ is_never_accepted run.now }

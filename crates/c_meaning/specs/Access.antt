@@ -1,5 +1,5 @@
 -- How expressions reach the pool. A pointer is a slot's number, and 0 leads nowhere. The checks are
--- null, stale and index, in this order; a field of the root has the last alone.
+-- null, stale and index, in this order; a field of the root has only the last.
 use Rattle.std.specs.Prelude.{ℕ, zero, suc, ℤ, pos, negsuc, ◌+◌, ◌^◌, min, ◌-◌, length, List, Bool, false, Option, None, Some, Result, Ok, Err, option_map, option_and_then, slice_get, nat_lt, nat_eq, if◌then◌else◌}
 use Rattle.std.specs.Option.{option_map_or}
 use Rattle.c_parser.specs.ExprTree.{ExprTree}
@@ -7,7 +7,7 @@ use Rattle.c_parser.specs.ExprTree as expr
 use Rattle.c_types.specs.declared.value_type.ValueType.{ValueType}
 use Rattle.c_types.specs.declared.value_type.ValueType.TheVariants.{Int, Pointer, Null, Any}
 use Rattle.c_types.specs.Expressions.{type_of}
-use Rattle.c_types.specs.Tables.{Tables, StructTree, index_of, field_names, field_named, root_struct, struct_named, word_of, words_at, number_at}
+use Rattle.c_types.specs.Tables.{Tables, StructTree, index_of, field_names, field_named, root_struct, struct_named, field_start, words_at, number_at}
 use Rattle.pool_map.specs.declared.object.Object.{Object}
 use Rattle.pool_map.specs.declared.trap.TrapKind.{TrapKind}
 use Rattle.pool_map.specs.declared.trap.TrapKind.TheVariants as trap
@@ -16,83 +16,93 @@ use Rattle.c_meaning.specs.declared.word.Word.{Word}
 use Rattle.c_meaning.specs.declared.word.Word.TheVariants.{Root, Field}
 use Rattle.c_meaning.specs.Locals.{Local, scopes_of}
 
-abbrev pub load : PoolMap → Word → ℤ
-load p (Root i) = read_root p i
-load p (Field s i) = read p s i
+abbrev pub read_word : PoolMap → Word → ℤ
+read_word p (Root i) = read_root p i
+read_word p (Field s i) = read p s i
 
--- a word that the pool lacks isn't written
+-- whether an object has a word; a word that the pool lacks isn't written
 abbrev pub has_word : Option Object → ℕ → Bool
 has_word None i = false
 has_word (Some object) i = nat_lt i (length object.fields)
 
-abbrev pub store : PoolMap → Word → ℤ → PoolMap
-store p (Root i) v = write_root p i v
-store p (Field s i) v = if has_word (object_at p s) i then write p s i v else p
+abbrev pub write_word : PoolMap → Word → ℤ → PoolMap
+write_word p (Root i) v = write_root p i v
+write_word p (Field s i) v = if has_word (object_at p s) i then write p s i v else p
 
--- a result, and what follows where it is no trap
-abbrev pub then_on : {A B : Type 0} → Result A TrapKind → (A → Result B TrapKind) → Result B TrapKind
+-- a result, and what follows unless it is a trap
+abbrev pub then_on : {A B : Type 0} → Result A TrapKind → (A → Result B TrapKind)
+    → Result B TrapKind
 then_on (Ok a) go = go a
 then_on (Err k) go = Err k
 
 -- the place of the struct that an expression points to
-abbrev pub struct_of : ValueType → Option ℕ
-struct_of (Pointer i) = Some i
-struct_of Int = None
-struct_of Null = None
-struct_of Any = None
+abbrev pub pointed_struct : ValueType → Option ℕ
+pointed_struct (Pointer i) = Some i
+pointed_struct Int = None
+pointed_struct Null = None
+pointed_struct Any = None
 
-abbrev pub struct_behind : Tables → List Local → ExprTree → Option ℕ
-struct_behind t ls e = struct_of (type_of t (scopes_of ls) e)
+abbrev pub struct_pointed_by : Tables → List Local → ExprTree → Option ℕ
+struct_pointed_by t ls e = pointed_struct (type_of t (scopes_of ls) e)
 
 -- slot s has an object of this kind
-abbrev pub is_kind : Option Object → Option ℕ → Bool
-is_kind None kind = false
-is_kind (Some object) None = false
-is_kind (Some object) (Some kind) = nat_eq object.kind kind
+abbrev pub is_struct_kind : Option Object → Option ℕ → Bool
+is_struct_kind None kind = false
+is_struct_kind (Some object) None = false
+is_struct_kind (Some object) (Some kind) = nat_eq object.kind kind
 
 -- the checks null and stale
-abbrev pub slot_of : PoolMap → Option ℕ → ℤ → Result ℕ TrapKind
-slot_of p kind (pos zero) = Err trap.Null
-slot_of p kind (pos (suc n)) = if is_kind (object_at p (suc n)) kind then Ok (suc n) else Err trap.Stale
-slot_of p kind (negsuc n) = Err trap.Stale
+abbrev pub struct_slot : PoolMap → Option ℕ → ℤ → Result ℕ TrapKind
+struct_slot p kind (pos zero) = Err trap.Null
+struct_slot p kind (pos (suc n)) = if is_struct_kind (object_at p (suc n)) kind then Ok (suc n)
+    else Err trap.Stale
+struct_slot p kind (negsuc n) = Err trap.Stale
 
 -- the check index
 abbrev pub element_in : (len : ℕ) → ℤ → Result ℕ TrapKind
 element_in n (pos i) = if nat_lt i n then Ok i else Err trap.Index
 element_in n (negsuc i) = Err trap.Index
 
-abbrev pub length_of : ℤ → ℕ
-length_of (pos n) = n
-length_of (negsuc n) = 0
+abbrev pub array_length : ℤ → ℕ
+array_length (pos n) = n
+array_length (negsuc n) = 0
 
--- the elements of a field; one that is no array, or isn't there, has none
-abbrev pub elements : StructTree → List ℕ → ℕ
-elements s name = option_map_or (λ f. option_map_or (λ l. length_of l.value) f.len 0) (field_named s name) 0
+-- the number of elements of a field; 0 for a field that is no array or doesn't exist
+abbrev pub field_elements : StructTree → List ℕ → ℕ
+field_elements s name = option_map_or (λ f. option_map_or (λ l. array_length l.value) f.len 0)
+    (field_named s name) 0
 
 abbrev pub first_word : StructTree → List ℕ → ℕ
-first_word s name = option_map_or (word_of s) (index_of name (field_names s)) 0
+first_word s name = option_map_or (field_start s) (index_of name (field_names s)) 0
 
--- the word of a field of a struct, or of an element of it, counted in 64 bits
-abbrev pub word_in : StructTree → List ℕ → Option ℤ → Result ℕ TrapKind
-word_in s name None = Ok (first_word s name)
-word_in s name (Some index) = then_on (element_in (elements s name) index) (λ i. Ok (min (first_word s name + i) (2 ^ 64 - 1)))
+-- the word of a field of a struct, or of one of its elements, counted in 64 bits
+abbrev pub word_in_struct : StructTree → List ℕ → Option ℤ → Result ℕ TrapKind
+word_in_struct s name None = Ok (first_word s name)
+word_in_struct s name (Some index) =
+    then_on (element_in (field_elements s name) index)
+    (λ i. Ok (min (first_word s name + i) (2 ^ 64 - 1)))
 
-abbrev pub word_at : Tables → Option ℕ → List ℕ → Option ℤ → Result ℕ TrapKind
-word_at t at name index = option_map_or (λ s. word_in s name index) (option_and_then (slice_get t.structs) at) (Ok 0)
+abbrev pub struct_word_at : Tables → Option ℕ → List ℕ → Option ℤ → Result ℕ TrapKind
+struct_word_at t at name index =
+    option_map_or (λ s. word_in_struct s name index) (option_and_then (slice_get t.structs) at)
+    (Ok 0)
 
--- The word that a field names, or an element of it where there is an index: a field of the root, or
--- a field behind a pointer, which the expression `base` gave. Any other expression names no word and
--- leads nowhere.
-abbrev pub behind : Tables → PoolMap → Option ℕ → ℤ → List ℕ → Option ℤ → Result Word TrapKind
-behind t p at pointer name index =
-    then_on (slot_of p (option_map (number_at t) at) pointer) (λ s. then_on (word_at t at name index) (λ i. Ok (Field s i)))
+-- The word that a field names, or one of its elements if there is an index: a field of the root, or
+-- a field of the object named by the pointer that the expression `base` gave. Any other expression
+-- names no word and leads nowhere.
+abbrev pub pointed_word : Tables → PoolMap → Option ℕ → ℤ → List ℕ → Option ℤ → Result Word TrapKind
+pointed_word t p at pointer name index =
+    then_on (struct_slot p (option_map (number_at t) at) pointer)
+    (λ s. then_on (struct_word_at t at name index) (λ i. Ok (Field s i)))
 
 abbrev pub of_root : Tables → List ℕ → Option ℤ → Result Word TrapKind
-of_root t name index = then_on (word_at t (root_struct t) name index) (λ i. Ok (Root i))
+of_root t name index = then_on (struct_word_at t (root_struct t) name index) (λ i. Ok (Root i))
 
-abbrev pub word_named : Tables → List Local → PoolMap → ExprTree → (pointer : ℤ) → Option ℤ → Result Word TrapKind
+abbrev pub word_named : Tables → List Local → PoolMap → ExprTree → (pointer : ℤ) → Option ℤ
+    → Result Word TrapKind
 word_named t ls p (expr.Root name) pointer index = of_root t name.text index
-word_named t ls p (expr.Arrow base place name) pointer index = behind t p (struct_behind t ls base) pointer name.text index
+word_named t ls p (expr.Arrow base place name) pointer index =
+    pointed_word t p (struct_pointed_by t ls base) pointer name.text index
 word_named t ls p (expr.Number n) pointer index = Err trap.Stale
 word_named t ls p expr.Null pointer index = Err trap.Stale
 word_named t ls p (expr.Variable name) pointer index = Err trap.Stale
@@ -102,28 +112,31 @@ word_named t ls p (expr.Index a place i) pointer index = Err trap.Stale
 word_named t ls p (expr.Unary op place a) pointer index = Err trap.Stale
 word_named t ls p (expr.Binary op place a b) pointer index = Err trap.Stale
 
--- the field of a target, which may be an element of it
-abbrev pub field_of : ExprTree → ExprTree
-field_of (expr.Index a place i) = a
-field_of (expr.Root name) = expr.Root name
-field_of (expr.Arrow base place name) = expr.Arrow base place name
-field_of (expr.Number n) = expr.Number n
-field_of expr.Null = expr.Null
-field_of (expr.Variable name) = expr.Variable name
-field_of (expr.Call name all) = expr.Call name all
-field_of (expr.New place name) = expr.New place name
-field_of (expr.Unary op place a) = expr.Unary op place a
-field_of (expr.Binary op place a b) = expr.Binary op place a b
+-- the field of a target, which may be one of its elements
+abbrev pub target_field : ExprTree → ExprTree
+target_field (expr.Index a place i) = a
+target_field (expr.Root name) = expr.Root name
+target_field (expr.Arrow base place name) = expr.Arrow base place name
+target_field (expr.Number n) = expr.Number n
+target_field expr.Null = expr.Null
+target_field (expr.Variable name) = expr.Variable name
+target_field (expr.Call name all) = expr.Call name all
+target_field (expr.New place name) = expr.New place name
+target_field (expr.Unary op place a) = expr.Unary op place a
+target_field (expr.Binary op place a b) = expr.Binary op place a b
 
--- `pm_new`: the least free slot gets an object whose words are 0; where none is free nothing changes
--- and the pointer is 0
+-- `pm_new`: the least free slot gets an object whose words are 0; if no slot is free, nothing
+-- changes and the pointer is 0
 abbrev pub new_at : PoolMap → (kind words : ℕ) → Option ℕ → ℤ × PoolMap
 new_at p kind words None = (pos 0, p)
 new_at p kind words (Some s) = (pos s, new p s kind words)
 
 abbrev pub new_object : Tables → PoolMap → List ℕ → ℤ × PoolMap
-new_object t p name = option_map_or (λ i. new_at p (number_at t i) (words_at t i) (least_free p)) (struct_named t name) (pos 0, p)
+new_object t p name = option_map_or (λ i. new_at p (number_at t i) (words_at t i) (least_free p))
+    (struct_named t name) (pos 0, p)
 
--- `pm_free`: the checks, and then the slot is free
+-- `pm_free`: the checks, and then the slot becomes free
 abbrev pub free_object : Tables → List Local → PoolMap → ExprTree → ℤ → Result PoolMap TrapKind
-free_object t ls p e pointer = then_on (slot_of p (option_map (number_at t) (struct_behind t ls e)) pointer) (λ s. Ok (free p s))
+free_object t ls p e pointer =
+    then_on (struct_slot p (option_map (number_at t) (struct_pointed_by t ls e)) pointer)
+    (λ s. Ok (free p s))

@@ -1,5 +1,6 @@
--- The locals of an open function are a list, newest first. A name means the newest local that has it,
--- so an inner name hides an outer one; a scope's end leaves the locals that stood before it.
+-- The locals of an open function are a list, newest first. A name means the newest local that has
+-- it, so an inner name hides an outer one; at the end of a scope the locals from before it are
+-- left.
 use Rattle.std.specs.Prelude.{ℕ, ℤ, pos, ◌-◌, List, [], ◌∷◌, length, drop, slice_index_or, if◌then◌else◌, bytes_eq}
 use Rattle.c_parser.specs.ItemTree.{ParameterTree}
 use Rattle.c_types.specs.declared.value_type.ValueType.{ValueType}
@@ -11,28 +12,30 @@ pub record Local : Type 0 where
   pub ty : ValueType
   pub value : ℤ
 
--- the scopes by which the types of expressions are found: one for each local
+-- the scopes that give the types of expressions: one for each local
 abbrev pub scopes_of : List Local → List Scope
 scopes_of [] = []
 scopes_of (l ∷ ls) = record { names = l.name ∷ []; types = l.ty ∷ [] } ∷ scopes_of ls
 
--- 0 where no local has the name
+-- the word of the local with this name, or 0 if there is none
 abbrev pub value_named : List ℕ → List Local → ℤ
 value_named name [] = pos 0
 value_named name (l ∷ ls) = if bytes_eq name l.name then l.value else value_named name ls
 
 abbrev pub assigned : List ℕ → ℤ → List Local → List Local
 assigned name v [] = []
-assigned name v (l ∷ ls) = if bytes_eq name l.name then record { name = l.name; ty = l.ty; value = v } ∷ ls else l ∷ assigned name v ls
+assigned name v (l ∷ ls) = if bytes_eq name l.name
+    then record { name = l.name; ty = l.ty; value = v } ∷ ls else l ∷ assigned name v ls
 
 -- the oldest n locals
 abbrev pub oldest : ℕ → List Local → List Local
 oldest n ls = drop (length ls - n) ls
 
-abbrev pub declared : List ℕ → ValueType → ℤ → List Local → List Local
-declared name ty v ls = record { name = name; ty = ty; value = v } ∷ ls
+abbrev pub local_declared : List ℕ → ValueType → ℤ → List Local → List Local
+local_declared name ty v ls = record { name = name; ty = ty; value = v } ∷ ls
 
--- the parameters with their arguments, behind those that stand already; a missing argument is 0
+-- the parameters with their arguments, added to the locals that are there; a missing argument is 0
 abbrev pub bound : Tables → List ParameterTree → List ℤ → List Local → List Local
 bound t [] vs ls = ls
-bound t (p ∷ ps) vs ls = bound t ps (drop 1 vs) (declared p.name.text (declared_type t p.ty) (slice_index_or vs 0 (pos 0)) ls)
+bound t (p ∷ ps) vs ls = bound t ps (drop 1 vs)
+    (local_declared p.name.text (declared_type t p.ty) (slice_index_or vs 0 (pos 0)) ls)

@@ -1,13 +1,13 @@
--- What a program means, big step. An expression, from the locals, a pool and the ticks left, gives a
--- value, a pool and ticks; a statement gives locals too, and how it ended. Either may trap, which ends
--- all evaluation, and nothing is said of the pool then.
+-- The meaning of a program, as a big-step semantics. From the locals, a pool and the ticks left, an
+-- expression gives a value, a pool and ticks; a statement also gives locals, and how it ended.
+-- Either may trap, which ends the whole evaluation, and nothing is said of the pool then.
 --
--- The outer recursion is on `room`, how many functions may still be opened, and the inner one on the
--- tree, to which the calls are handed as a function. A loop is a recursion on the ticks that are left
--- where it begins, since each of its turns takes one.
+-- The outer recursion is on `room`, the number of functions that may still be opened, and the inner
+-- one on the tree, to which the calls are passed as a function. A loop is a recursion on the ticks
+-- left when it begins, since each of its turns takes one.
 use Rattle.std.specs.Prelude.{ℕ, zero, suc, ℤ, pos, negsuc, Bool, true, false, List, [], ◌∷◌, length, Option, None, Some, Result, Ok, Err, if◌then◌else◌}
 use Rattle.std.specs.Option.{option_map_or}
-use Rattle.c_parser.specs.ExprTree.{ExprTree, Arguments, Ident}
+use Rattle.c_parser.specs.ExprTree.{ExprTree, Arguments}
 use Rattle.c_parser.specs.ExprTree as expr
 use Rattle.c_parser.specs.StmtTree.{StmtTree, Statements, SimpleTree, FirstTree, DeclarationTree}
 use Rattle.c_parser.specs.StmtTree as stmt
@@ -22,9 +22,9 @@ use Rattle.c_types.specs.Tables.{Tables, function_named, declared_type}
 use Rattle.pool_map.specs.declared.trap.TrapKind.{TrapKind}
 use Rattle.pool_map.specs.declared.trap.TrapKind.TheVariants as trap
 use Rattle.pool_map.specs.PoolMap.{PoolMap}
-use Rattle.c_meaning.specs.Locals.{Local, value_named, assigned, oldest, declared, bound}
+use Rattle.c_meaning.specs.Locals.{Local, value_named, assigned, oldest, local_declared, bound}
 use Rattle.c_meaning.specs.declared.word.Word.{Word}
-use Rattle.c_meaning.specs.Access.{load, store, field_of, word_named, new_object, free_object}
+use Rattle.c_meaning.specs.Access.{read_word, write_word, target_field, word_named, new_object, free_object}
 use Rattle.c_meaning.specs.Operators.{unary_of, binary_of}
 
 -- a value, the pool and the ticks left; or a trap
@@ -32,15 +32,15 @@ pub data Out (A : Type 0) : Type 0 where
   Got : A → PoolMap → ℕ → Out A
   Stops : TrapKind → Out A
 
--- how a statement ends: with the next one, by `break`, `continue` or `return`, or by a trap
-pub data End : Type 0 where
-  Next : List Local → PoolMap → ℕ → End
-  Broke : List Local → PoolMap → ℕ → End
-  Again : List Local → PoolMap → ℕ → End
-  Gave : ℤ → PoolMap → ℕ → End
-  Traps : TrapKind → End
+-- how a statement ends: normally, by `break`, `continue` or `return`, or by a trap
+pub data StmtEnd : Type 0 where
+  Next : List Local → PoolMap → ℕ → StmtEnd
+  Broke : List Local → PoolMap → ℕ → StmtEnd
+  Again : List Local → PoolMap → ℕ → StmtEnd
+  Gave : ℤ → PoolMap → ℕ → StmtEnd
+  Traps : TrapKind → StmtEnd
 
--- what a call of a function does, from its arguments
+-- the effect of a function call, from its arguments
 abbrev pub Calls : Type 0
 Calls = FunctionTree → List ℤ → PoolMap → ℕ → Out ℤ
 
@@ -48,11 +48,11 @@ abbrev pub then_do : {A B : Type 0} → Out A → (A → PoolMap → ℕ → Out
 then_do (Got a p k) go = go a p k
 then_do (Stops trap) go = Stops trap
 
-abbrev pub with_value : {A : Type 0} → Out A → (A → PoolMap → ℕ → End) → End
+abbrev pub with_value : {A : Type 0} → Out A → (A → PoolMap → ℕ → StmtEnd) → StmtEnd
 with_value (Got v p k) go = go v p k
 with_value (Stops trap) go = Traps trap
 
-abbrev pub then_next : End → (List Local → PoolMap → ℕ → End) → End
+abbrev pub then_next : StmtEnd → (List Local → PoolMap → ℕ → StmtEnd) → StmtEnd
 then_next (Next ls p k) go = go ls p k
 then_next (Broke ls p k) go = Broke ls p k
 then_next (Again ls p k) go = Again ls p k
@@ -76,69 +76,77 @@ abbrev pub or_trap : {A : Type 0} → Option A → TrapKind → PoolMap → ℕ 
 or_trap None trap p k = Stops trap
 or_trap (Some a) trap p k = Got a p k
 
-abbrev pub found : {A : Type 0} → Result A TrapKind → PoolMap → ℕ → Out A
-found (Ok a) p k = Got a p k
-found (Err trap) p k = Stops trap
-
 abbrev pub loaded : Result Word TrapKind → PoolMap → ℕ → Out ℤ
-loaded (Ok w) p k = Got (load p w) p k
+loaded (Ok w) p k = Got (read_word p w) p k
 loaded (Err trap) p k = Stops trap
 
 abbrev pub made : ℤ × PoolMap → ℕ → Out ℤ
 made r k = Got r.0 r.1 k
 
--- `&&` and `||` evaluate their right side only where it decides
-abbrev pub joined : BinaryOp → Out ℤ → (PoolMap → ℕ → Out ℤ) → Out ℤ
-joined op a b = then_do a (λ x p k. then_do (b p k) (λ y p k. or_trap (binary_of op x y) trap.Divide p k))
+-- `&&` and `||` evaluate their right side only if the left side doesn't decide
+abbrev pub short_circuit : BinaryOp → Out ℤ → (PoolMap → ℕ → Out ℤ) → Out ℤ
+short_circuit op a b = then_do a
+    (λ x p k. then_do (b p k) (λ y p k. or_trap (binary_of op x y) trap.Divide p k))
 
 abbrev pub both : Out ℤ → (PoolMap → ℕ → Out ℤ) → Out ℤ
-both a b = then_do a (λ x p k. at_zero x (Got (pos 0) p k) (then_do (b p k) (λ y p k. Got (at_zero y (pos 0) (pos 1)) p k)))
+both a b = then_do a (λ x p k.
+    at_zero x (Got (pos 0) p k) (then_do (b p k) (λ y p k. Got (at_zero y (pos 0) (pos 1)) p k)))
 
 abbrev pub either : Out ℤ → (PoolMap → ℕ → Out ℤ) → Out ℤ
-either a b = then_do a (λ x p k. at_zero x (then_do (b p k) (λ y p k. Got (at_zero y (pos 0) (pos 1)) p k)) (Got (pos 1) p k))
+either a b = then_do a (λ x p k.
+    at_zero x (then_do (b p k) (λ y p k. Got (at_zero y (pos 0) (pos 1)) p k)) (Got (pos 1) p k))
 
 abbrev pub binary_means : BinaryOp → Out ℤ → (PoolMap → ℕ → Out ℤ) → Out ℤ
 binary_means binary.Both a b = both a b
 binary_means binary.Either a b = either a b
-binary_means binary.Mul a b = joined binary.Mul a b
-binary_means binary.Div a b = joined binary.Div a b
-binary_means binary.Rem a b = joined binary.Rem a b
-binary_means binary.Add a b = joined binary.Add a b
-binary_means binary.Sub a b = joined binary.Sub a b
-binary_means binary.ShiftLeft a b = joined binary.ShiftLeft a b
-binary_means binary.ShiftRight a b = joined binary.ShiftRight a b
-binary_means binary.Less a b = joined binary.Less a b
-binary_means binary.LessEqual a b = joined binary.LessEqual a b
-binary_means binary.Greater a b = joined binary.Greater a b
-binary_means binary.GreaterEqual a b = joined binary.GreaterEqual a b
-binary_means binary.Equal a b = joined binary.Equal a b
-binary_means binary.NotEqual a b = joined binary.NotEqual a b
-binary_means binary.And a b = joined binary.And a b
-binary_means binary.Xor a b = joined binary.Xor a b
-binary_means binary.Or a b = joined binary.Or a b
+binary_means binary.Mul a b = short_circuit binary.Mul a b
+binary_means binary.Div a b = short_circuit binary.Div a b
+binary_means binary.Rem a b = short_circuit binary.Rem a b
+binary_means binary.Add a b = short_circuit binary.Add a b
+binary_means binary.Sub a b = short_circuit binary.Sub a b
+binary_means binary.ShiftLeft a b = short_circuit binary.ShiftLeft a b
+binary_means binary.ShiftRight a b = short_circuit binary.ShiftRight a b
+binary_means binary.Less a b = short_circuit binary.Less a b
+binary_means binary.LessEqual a b = short_circuit binary.LessEqual a b
+binary_means binary.Greater a b = short_circuit binary.Greater a b
+binary_means binary.GreaterEqual a b = short_circuit binary.GreaterEqual a b
+binary_means binary.Equal a b = short_circuit binary.Equal a b
+binary_means binary.NotEqual a b = short_circuit binary.NotEqual a b
+binary_means binary.And a b = short_circuit binary.And a b
+binary_means binary.Xor a b = short_circuit binary.Xor a b
+binary_means binary.Or a b = short_circuit binary.Or a b
 
--- A call takes a tick behind its arguments and before its body. One of a function that isn't there
--- gives 0.
-abbrev pub called : Calls → Option FunctionTree → (FunctionTree → Out (List ℤ)) → PoolMap → ℕ → Out ℤ
+-- A call takes a tick after its arguments and before its body. A call of a function that doesn't
+-- exist gives 0.
+abbrev pub called : Calls → Option FunctionTree → (FunctionTree → Out (List ℤ)) → PoolMap
+    → ℕ → Out ℤ
 called calls None arguments p k = Got (pos 0) p k
-called calls (Some f) arguments p k = then_do (arguments f) (λ vs p k. tick k (Stops trap.Steps) (λ k. calls f vs p k))
+called calls (Some f) arguments p k =
+    then_do (arguments f) (λ vs p k. tick k (Stops trap.Steps) (λ k. calls f vs p k))
 
 abbrev mutual
   pub value_of : Tables → Calls → ExprTree → List Local → PoolMap → ℕ → Out ℤ
   value_of t calls (expr.Number n) ls p k = Got n p k
   value_of t calls expr.Null ls p k = Got (pos 0) p k
   value_of t calls (expr.Variable name) ls p k = Got (value_named name.text ls) p k
-  value_of t calls (expr.Call name all) ls p k = called calls (function_named t name.text) (λ f. values_of t calls all ls p k) p k
+  value_of t calls (expr.Call name all) ls p k =
+      called calls (function_named t name.text) (λ f. values_of t calls all ls p k) p k
   value_of t calls (expr.New place name) ls p k = made (new_object t p name.text) k
-  value_of t calls (expr.Root name) ls p k = loaded (word_named t ls p (expr.Root name) (pos 0) None) p k
+  value_of t calls (expr.Root name) ls p k =
+      loaded (word_named t ls p (expr.Root name) (pos 0) None) p k
   value_of t calls (expr.Arrow base place name) ls p k =
-      then_do (value_of t calls base ls p k) (λ b p k. loaded (word_named t ls p (expr.Arrow base place name) b None) p k)
+      then_do (value_of t calls base ls p k)
+      (λ b p k. loaded (word_named t ls p (expr.Arrow base place name) b None) p k)
   value_of t calls (expr.Index a place i) ls p k =
-      then_do (pointer_of t calls a ls p k) (λ b p k. then_do (value_of t calls i ls p k) (λ j p k. loaded (word_named t ls p a b (Some j)) p k))
-  value_of t calls (expr.Unary op place a) ls p k = then_do (value_of t calls a ls p k) (λ x p k. Got (unary_of op x) p k)
-  value_of t calls (expr.Binary op place a b) ls p k = binary_means op (value_of t calls a ls p k) (λ p k. value_of t calls b ls p k)
+      then_do (pointer_of t calls a ls p k)
+      (λ b p k. then_do (value_of t calls i ls p k)
+      (λ j p k. loaded (word_named t ls p a b (Some j)) p k))
+  value_of t calls (expr.Unary op place a) ls p k =
+      then_do (value_of t calls a ls p k) (λ x p k. Got (unary_of op x) p k)
+  value_of t calls (expr.Binary op place a b) ls p k =
+      binary_means op (value_of t calls a ls p k) (λ p k. value_of t calls b ls p k)
 
-  -- the pointer that leads to a field; 0 to one of the root
+  -- the pointer that leads to a field; 0 for a field of the root
   pub pointer_of : Tables → Calls → ExprTree → List Local → PoolMap → ℕ → Out ℤ
   pointer_of t calls (expr.Arrow base place name) ls p k = value_of t calls base ls p k
   pointer_of t calls (expr.Root name) ls p k = Got (pos 0) p k
@@ -155,13 +163,16 @@ abbrev mutual
   pub values_of : Tables → Calls → Arguments → List Local → PoolMap → ℕ → Out (List ℤ)
   values_of t calls expr.None ls p k = Got [] p k
   values_of t calls (expr.More first e rest) ls p k =
-      then_do (value_of t calls e ls p k) (λ v p k. then_do (values_of t calls rest ls p k) (λ vs p k. Got (v ∷ vs) p k))
+      then_do (value_of t calls e ls p k)
+      (λ v p k. then_do (values_of t calls rest ls p k) (λ vs p k. Got (v ∷ vs) p k))
 
--- what a target needs: the pointer that leads to it, and its index
+-- the operands of a target: the pointer that leads to it, and its index
 abbrev pub operands_of : Tables → Calls → ExprTree → List Local → PoolMap → ℕ → Out (ℤ × Option ℤ)
 operands_of t calls (expr.Index a place i) ls p k =
-    then_do (pointer_of t calls a ls p k) (λ b p k. then_do (value_of t calls i ls p k) (λ j p k. Got (b, Some j) p k))
-operands_of t calls (expr.Arrow base place name) ls p k = then_do (value_of t calls base ls p k) (λ b p k. Got (b, None) p k)
+    then_do (pointer_of t calls a ls p k)
+    (λ b p k. then_do (value_of t calls i ls p k) (λ j p k. Got (b, Some j) p k))
+operands_of t calls (expr.Arrow base place name) ls p k =
+    then_do (value_of t calls base ls p k) (λ b p k. Got (b, None) p k)
 operands_of t calls (expr.Root name) ls p k = Got (pos 0, None) p k
 operands_of t calls (expr.Number n) ls p k = Got (pos 0, None) p k
 operands_of t calls expr.Null ls p k = Got (pos 0, None) p k
@@ -172,84 +183,101 @@ operands_of t calls (expr.Unary op place a) ls p k = Got (pos 0, None) p k
 operands_of t calls (expr.Binary op place a b) ls p k = Got (pos 0, None) p k
 
 -- the checks, and then the store
-abbrev pub stored : Result Word TrapKind → ℤ → List Local → PoolMap → ℕ → End
-stored (Ok w) v ls p k = Next ls (store p w v) k
-stored (Err trap) v ls p k = Traps trap
+abbrev pub stored_end : Result Word TrapKind → ℤ → List Local → PoolMap → ℕ → StmtEnd
+stored_end (Ok w) v ls p k = Next ls (write_word p w v) k
+stored_end (Err trap) v ls p k = Traps trap
 
--- a local is given the value; else base and index come first, then the value, the checks and the store
-abbrev pub assign_to : Tables → Calls → Option (List ℕ) → ExprTree → (PoolMap → ℕ → Out ℤ) → List Local → PoolMap → ℕ → End
-assign_to t calls (Some name) target value ls p k = with_value (value p k) (λ v p k. Next (assigned name v ls) p k)
+-- a local gets the value; for any other target, base and index come first, then the value, the
+-- checks and the store
+abbrev pub assign_to : Tables → Calls → Option (List ℕ) → ExprTree → (PoolMap → ℕ → Out ℤ)
+    → List Local → PoolMap → ℕ → StmtEnd
+assign_to t calls (Some name) target value ls p k =
+    with_value (value p k) (λ v p k. Next (assigned name v ls) p k)
 assign_to t calls None target value ls p k = with_value (operands_of t calls target ls p k)
-    (λ o p k. with_value (value p k) (λ v p k. stored (word_named t ls p (field_of target) o.0 o.1) v ls p k))
+    (λ o p k. with_value (value p k)
+    (λ v p k. stored_end (word_named t ls p (target_field target) o.0 o.1) v ls p k))
 
--- base and index once, the checks and the load, the right side, and then the checks again and the store
-abbrev pub update : Tables → Calls → Option (List ℕ) → ExprTree → BinaryOp → (PoolMap → ℕ → Out ℤ) → List Local → PoolMap → ℕ → End
+-- base and index once, the checks and the load, the right side, and then the checks again and the
+-- store
+abbrev pub update : Tables → Calls → Option (List ℕ) → ExprTree → BinaryOp → (PoolMap → ℕ → Out ℤ)
+    → List Local → PoolMap → ℕ → StmtEnd
 update t calls (Some name) target op right ls p k =
-    with_value (right p k) (λ y p k. with_value (or_trap (binary_of op (value_named name ls) y) trap.Divide p k) (λ v p k. Next (assigned name v ls) p k))
+    with_value (right p k) (λ y p k.
+    with_value (or_trap (binary_of op (value_named name ls) y) trap.Divide p k)
+    (λ v p k. Next (assigned name v ls) p k))
 update t calls None target op right ls p k = with_value (operands_of t calls target ls p k)
-    (λ o p k. with_value (loaded (word_named t ls p (field_of target) o.0 o.1) p k)
+    (λ o p k. with_value (loaded (word_named t ls p (target_field target) o.0 o.1) p k)
     (λ x p k. with_value (right p k)
     (λ y p k. with_value (or_trap (binary_of op x y) trap.Divide p k)
-    (λ v p k. stored (word_named t ls p (field_of target) o.0 o.1) v ls p k))))
+    (λ v p k. stored_end (word_named t ls p (target_field target) o.0 o.1) v ls p k))))
 
 -- the local that a target is, if it is one
-abbrev pub local_of : ExprTree → Option (List ℕ)
-local_of (expr.Variable name) = Some name.text
-local_of (expr.Number n) = None
-local_of expr.Null = None
-local_of (expr.Call name all) = None
-local_of (expr.Root name) = None
-local_of (expr.New place name) = None
-local_of (expr.Arrow base place name) = None
-local_of (expr.Index a place i) = None
-local_of (expr.Unary op place a) = None
-local_of (expr.Binary op place a b) = None
+abbrev pub target_local : ExprTree → Option (List ℕ)
+target_local (expr.Variable name) = Some name.text
+target_local (expr.Number n) = None
+target_local expr.Null = None
+target_local (expr.Call name all) = None
+target_local (expr.Root name) = None
+target_local (expr.New place name) = None
+target_local (expr.Arrow base place name) = None
+target_local (expr.Index a place i) = None
+target_local (expr.Unary op place a) = None
+target_local (expr.Binary op place a b) = None
 
-abbrev pub freed : Result PoolMap TrapKind → List Local → ℕ → End
+abbrev pub freed : Result PoolMap TrapKind → List Local → ℕ → StmtEnd
 freed (Ok p) ls k = Next ls p k
 freed (Err trap) ls k = Traps trap
 
-abbrev pub assigns : Tables → Calls → AssignOp → ExprTree → ExprTree → List Local → PoolMap → ℕ → End
-assigns t calls assign.Set target e ls p k = assign_to t calls (local_of target) target (λ p k. value_of t calls e ls p k) ls p k
-assigns t calls assign.Add target e ls p k = update t calls (local_of target) target binary.Add (λ p k. value_of t calls e ls p k) ls p k
-assigns t calls assign.Sub target e ls p k = update t calls (local_of target) target binary.Sub (λ p k. value_of t calls e ls p k) ls p k
+abbrev pub assign_end : Tables → Calls → AssignOp → ExprTree → ExprTree → List Local → PoolMap
+    → ℕ → StmtEnd
+assign_end t calls assign.Set target e ls p k =
+    assign_to t calls (target_local target) target (λ p k. value_of t calls e ls p k) ls p k
+assign_end t calls assign.Add target e ls p k =
+    update t calls (target_local target) target binary.Add (λ p k. value_of t calls e ls p k) ls p k
+assign_end t calls assign.Sub target e ls p k =
+    update t calls (target_local target) target binary.Sub (λ p k. value_of t calls e ls p k) ls p k
 
-abbrev pub steps : Tables → Calls → StepOp → ExprTree → List Local → PoolMap → ℕ → End
-steps t calls step.Up target ls p k = update t calls (local_of target) target binary.Add (λ p k. Got (pos 1) p k) ls p k
-steps t calls step.Down target ls p k = update t calls (local_of target) target binary.Sub (λ p k. Got (pos 1) p k) ls p k
+abbrev pub steps : Tables → Calls → StepOp → ExprTree → List Local → PoolMap → ℕ → StmtEnd
+steps t calls step.Up target ls p k =
+    update t calls (target_local target) target binary.Add (λ p k. Got (pos 1) p k) ls p k
+steps t calls step.Down target ls p k =
+    update t calls (target_local target) target binary.Sub (λ p k. Got (pos 1) p k) ls p k
 
-abbrev pub simple_end : Tables → Calls → SimpleTree → List Local → PoolMap → ℕ → End
-simple_end t calls (stmt.Assign target op place e) ls p k = assigns t calls op target e ls p k
-simple_end t calls (stmt.Step target op place) ls p k = steps t calls op target ls p k
-simple_end t calls (stmt.Call name all) ls p k = with_value (value_of t calls (expr.Call name all) ls p k) (λ v p k. Next ls p k)
-simple_end t calls (stmt.Free place e) ls p k = with_value (value_of t calls e ls p k) (λ v p k. freed (free_object t ls p e v) ls k)
-simple_end t calls (stmt.Abort place) ls p k = Traps trap.Abort
+abbrev pub end_of_simple : Tables → Calls → SimpleTree → List Local → PoolMap → ℕ → StmtEnd
+end_of_simple t calls (stmt.Assign target op place e) ls p k = assign_end t calls op target e ls p k
+end_of_simple t calls (stmt.Step target op place) ls p k = steps t calls op target ls p k
+end_of_simple t calls (stmt.Call name all) ls p k =
+    with_value (value_of t calls (expr.Call name all) ls p k) (λ v p k. Next ls p k)
+end_of_simple t calls (stmt.Free place e) ls p k =
+    with_value (value_of t calls e ls p k) (λ v p k. freed (free_object t ls p e v) ls k)
+end_of_simple t calls (stmt.Abort place) ls p k = Traps trap.Abort
 
--- a local without an initial value begins at 0, each time that its declaration is reached
-abbrev pub declaration_end : Tables → Calls → DeclarationTree → List Local → PoolMap → ℕ → End
-declaration_end t calls d ls p k = with_value (option_map_or (λ i. value_of t calls i.value ls p k) d.initial (Got (pos 0) p k))
-    (λ v p k. Next (declared d.name.text (declared_type t d.ty) v ls) p k)
+-- a local without an initial value becomes 0 each time its declaration is reached
+abbrev pub declaration_end : Tables → Calls → DeclarationTree → List Local → PoolMap → ℕ → StmtEnd
+declaration_end t calls d ls p k =
+    with_value (option_map_or (λ i. value_of t calls i.value ls p k) d.initial (Got (pos 0) p k))
+    (λ v p k. Next (local_declared d.name.text (declared_type t d.ty) v ls) p k)
 
-abbrev pub first_end : Tables → Calls → Option FirstTree → List Local → PoolMap → ℕ → End
-first_end t calls None ls p k = Next ls p k
-first_end t calls (Some (stmt.Declare d)) ls p k = declaration_end t calls d ls p k
-first_end t calls (Some (stmt.Simply x)) ls p k = simple_end t calls x ls p k
+abbrev pub end_of_first : Tables → Calls → Option FirstTree → List Local → PoolMap → ℕ → StmtEnd
+end_of_first t calls None ls p k = Next ls p k
+end_of_first t calls (Some (stmt.Declare d)) ls p k = declaration_end t calls d ls p k
+end_of_first t calls (Some (stmt.Simply x)) ls p k = end_of_simple t calls x ls p k
 
-abbrev pub third_end : Tables → Calls → Option SimpleTree → List Local → PoolMap → ℕ → End
-third_end t calls None ls p k = Next ls p k
-third_end t calls (Some x) ls p k = simple_end t calls x ls p k
+abbrev pub end_of_third : Tables → Calls → Option SimpleTree → List Local → PoolMap → ℕ → StmtEnd
+end_of_third t calls None ls p k = Next ls p k
+end_of_third t calls (Some x) ls p k = end_of_simple t calls x ls p k
 
 -- an absent condition holds
 abbrev pub condition_of : Tables → Calls → Option ExprTree → List Local → PoolMap → ℕ → Out ℤ
 condition_of t calls None ls p k = Got (pos 1) p k
 condition_of t calls (Some e) ls p k = value_of t calls e ls p k
 
-abbrev pub return_end : Tables → Calls → Option ExprTree → List Local → PoolMap → ℕ → End
+abbrev pub return_end : Tables → Calls → Option ExprTree → List Local → PoolMap → ℕ → StmtEnd
 return_end t calls None ls p k = Gave (pos 0) p k
 return_end t calls (Some e) ls p k = with_value (value_of t calls e ls p k) (λ v p k. Gave v p k)
 
--- a scope's end: its locals are forgotten, and the n that stood before are left
-abbrev pub in_scope : ℕ → End → End
+-- the end of a scope: its locals are forgotten, and the n from before it are left
+abbrev pub in_scope : ℕ → StmtEnd → StmtEnd
 in_scope n (Next ls p k) = Next (oldest n ls) p k
 in_scope n (Broke ls p k) = Broke (oldest n ls) p k
 in_scope n (Again ls p k) = Again (oldest n ls) p k
@@ -257,7 +285,7 @@ in_scope n (Gave v p k) = Gave v p k
 in_scope n (Traps trap) = Traps trap
 
 -- what follows the body of a turn
-abbrev pub after_turn : End → (List Local → PoolMap → ℕ → End) → End
+abbrev pub after_turn : StmtEnd → (List Local → PoolMap → ℕ → StmtEnd) → StmtEnd
 after_turn (Next ls p k) go = go ls p k
 after_turn (Again ls p k) go = go ls p k
 after_turn (Broke ls p k) go = Next ls p k
@@ -265,47 +293,57 @@ after_turn (Gave v p k) go = Gave v p k
 after_turn (Traps trap) go = Traps trap
 
 -- at most n turns of a loop: a tick, the condition, the body, and the third part
-abbrev pub turns : ℕ → (List Local → PoolMap → ℕ → Out ℤ) → (List Local → PoolMap → ℕ → End) → (List Local → PoolMap → ℕ → End)
-    → List Local → PoolMap → ℕ → End
+abbrev pub turns : ℕ → (List Local → PoolMap → ℕ → Out ℤ) → (List Local → PoolMap → ℕ → StmtEnd)
+    → (List Local → PoolMap → ℕ → StmtEnd)
+    → List Local → PoolMap → ℕ → StmtEnd
 turns zero test body third ls p k = Traps trap.Steps
 turns (suc n) test body third ls p k = tick k (Traps trap.Steps) (λ k. with_value (test ls p k)
-    (λ v p k. at_zero v (Next ls p k) (after_turn (body ls p k) (λ ls p k. then_next (third ls p k) (λ ls p k. turns n test body third ls p k)))))
+    (λ v p k. at_zero v (Next ls p k)
+    (after_turn (body ls p k) (λ ls p k.
+    then_next (third ls p k) (λ ls p k. turns n test body third ls p k)))))
 
 abbrev mutual
-  pub end_of : Tables → Calls → StmtTree → List Local → PoolMap → ℕ → End
-  end_of t calls stmt.Empty ls p k = Next ls p k
-  end_of t calls (stmt.Declares d) ls p k = declaration_end t calls d ls p k
-  end_of t calls (stmt.Simple x) ls p k = simple_end t calls x ls p k
-  end_of t calls (stmt.Block all) ls p k = in_scope (length ls) (ends_of t calls all ls p k)
-  end_of t calls (stmt.If c a) ls p k =
-      with_value (value_of t calls c ls p k) (λ v p k. at_zero v (Next ls p k) (in_scope (length ls) (end_of t calls a ls p k)))
-  end_of t calls (stmt.IfElse c a b) ls p k =
-      with_value (value_of t calls c ls p k) (λ v p k. at_zero v (in_scope (length ls) (end_of t calls b ls p k)) (in_scope (length ls) (end_of t calls a ls p k)))
-  end_of t calls (stmt.While c a) ls p k = turns k (λ ls p k. value_of t calls c ls p k)
-      (λ ls p k. in_scope (length ls) (end_of t calls a ls p k)) (λ ls p k. Next ls p k) ls p k
-  -- a `for` is a scope round its parts
-  end_of t calls (stmt.For first c third a) ls p k = in_scope (length ls) (then_next (first_end t calls first ls p k) (λ ls p k. turns k
-      (λ ls p k. condition_of t calls c ls p k) (λ ls p k. in_scope (length ls) (end_of t calls a ls p k)) (λ ls p k. third_end t calls third ls p k) ls p k))
-  end_of t calls stmt.Break ls p k = Broke ls p k
-  end_of t calls stmt.Continue ls p k = Again ls p k
-  end_of t calls (stmt.Return place e) ls p k = return_end t calls e ls p k
+  pub end_of_stmt : Tables → Calls → StmtTree → List Local → PoolMap → ℕ → StmtEnd
+  end_of_stmt t calls stmt.Empty ls p k = Next ls p k
+  end_of_stmt t calls (stmt.Declares d) ls p k = declaration_end t calls d ls p k
+  end_of_stmt t calls (stmt.Simple x) ls p k = end_of_simple t calls x ls p k
+  end_of_stmt t calls (stmt.Block all) ls p k = in_scope (length ls) (ends_of t calls all ls p k)
+  end_of_stmt t calls (stmt.If c a) ls p k =
+      with_value (value_of t calls c ls p k)
+      (λ v p k. at_zero v (Next ls p k) (in_scope (length ls) (end_of_stmt t calls a ls p k)))
+  end_of_stmt t calls (stmt.IfElse c a b) ls p k =
+      with_value (value_of t calls c ls p k)
+      (λ v p k. at_zero v (in_scope (length ls) (end_of_stmt t calls b ls p k))
+      (in_scope (length ls) (end_of_stmt t calls a ls p k)))
+  end_of_stmt t calls (stmt.While c a) ls p k = turns k (λ ls p k. value_of t calls c ls p k)
+      (λ ls p k. in_scope (length ls) (end_of_stmt t calls a ls p k)) (λ ls p k. Next ls p k) ls p k
+  -- a `for` is a scope around its parts
+  end_of_stmt t calls (stmt.For first c third a) ls p k =
+      in_scope (length ls) (then_next (end_of_first t calls first ls p k) (λ ls p k. turns k
+      (λ ls p k. condition_of t calls c ls p k) (λ ls p k.
+      in_scope (length ls) (end_of_stmt t calls a ls p k)) (λ ls p k.
+      end_of_third t calls third ls p k) ls p k))
+  end_of_stmt t calls stmt.Break ls p k = Broke ls p k
+  end_of_stmt t calls stmt.Continue ls p k = Again ls p k
+  end_of_stmt t calls (stmt.Return place e) ls p k = return_end t calls e ls p k
 
-  pub ends_of : Tables → Calls → Statements → List Local → PoolMap → ℕ → End
+  pub ends_of : Tables → Calls → Statements → List Local → PoolMap → ℕ → StmtEnd
   ends_of t calls stmt.Nothing ls p k = Next ls p k
-  ends_of t calls (stmt.Then x xs) ls p k = then_next (end_of t calls x ls p k) (λ ls p k. ends_of t calls xs ls p k)
+  ends_of t calls (stmt.Then x xs) ls p k =
+      then_next (end_of_stmt t calls x ls p k) (λ ls p k. ends_of t calls xs ls p k)
 
 -- a body that does not return a value gives 0
-abbrev pub given : End → Out ℤ
+abbrev pub given : StmtEnd → Out ℤ
 given (Next ls p k) = Got (pos 0) p k
 given (Broke ls p k) = Got (pos 0) p k
 given (Again ls p k) = Got (pos 0) p k
 given (Gave v p k) = Got v p k
 given (Traps trap) = Stops trap
 
-abbrev pub entered : Tables → Calls → FunctionTree → List ℤ → PoolMap → ℕ → Out ℤ
-entered t calls f vs p k = given (ends_of t calls f.body (bound t f.parameters vs []) p k)
+abbrev pub function_value : Tables → Calls → FunctionTree → List ℤ → PoolMap → ℕ → Out ℤ
+function_value t calls f vs p k = given (ends_of t calls f.body (bound t f.parameters vs []) p k)
 
--- a call where so many more functions may be opened
+-- a call when so many more functions may be opened
 abbrev pub calls_of : Tables → ℕ → Calls
 calls_of t zero f vs p k = Stops trap.Depth
-calls_of t (suc room) f vs p k = entered t (calls_of t room) f vs p k
+calls_of t (suc room) f vs p k = function_value t (calls_of t room) f vs p k

@@ -1,5 +1,5 @@
--- The operators on words. `-e` is 0 - e and `~e` is -1 ^ e, all of whose bits differ from e's. A comparison,
--- `!`, `&&` and `||` give 0 or 1, and a quotient or a remainder by 0 is no word.
+-- The operators on words. `-e` is 0 - e, and `~e` is -1 ^ e, which differs from e in every bit. A
+-- comparison, `!`, `&&` and `||` give 0 or 1, and a quotient or a remainder by 0 is no word.
 use Rattle.std.specs.Prelude.{ℤ, pos, negsuc, ◌==◌, Option, None, Some, if◌then◌else◌}
 use Rattle.c_parser.specs.declared.expr.UnaryOp.{UnaryOp}
 use Rattle.c_parser.specs.declared.expr.UnaryOp.TheVariants.{Negate, Not, Complement}
@@ -15,8 +15,8 @@ unary_of Complement a = word.xor_of (negsuc 0) a
 abbrev pub unless_zero : ℤ → ℤ → Option ℤ
 unless_zero b v = if word.unsigned b == 0 then None else Some v
 
--- `&&` and `||` are told by `value_of`, since their right side may not be evaluated; here they join
--- two words that were
+-- `&&` and `||` are evaluated by `value_of`, since their right side may be left out; here they join
+-- two words that were evaluated
 abbrev pub binary_of : BinaryOp → ℤ → ℤ → Option ℤ
 binary_of binary.Div a b = unless_zero b (word.div a b)
 binary_of binary.Rem a b = unless_zero b (word.rem a b)

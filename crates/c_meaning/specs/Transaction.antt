@@ -1,13 +1,13 @@
--- A transaction: the meaning of its body, from its arguments, with itself open, where 255 more
--- functions may be opened. It knows no machine, log or cache. It is the pool behind it and its value,
--- or a trap.
+-- A transaction: the meaning of its body, from its arguments, with itself open, when 255 more
+-- functions may be opened. It knows no machine, log or cache. The outcome is the pool after it and
+-- its value, or a trap.
 use Rattle.std.specs.Prelude.{ℕ, zero, suc, ℤ, pos, List, Option, None, Some, slice_get}
 use Rattle.c_parser.specs.ItemTree.{FunctionTree}
 use Rattle.c_types.specs.Tables.{Tables}
 use Rattle.c_types.specs.Shapes.{transactions_in}
 use Rattle.pool_map.specs.declared.trap.TrapKind.{TrapKind}
 use Rattle.pool_map.specs.PoolMap.{PoolMap}
-use Rattle.c_meaning.specs.Meaning.{Out, Got, Stops, entered, calls_of}
+use Rattle.c_meaning.specs.Meaning.{Out, Got, Stops, function_value, calls_of}
 
 pub data Outcome : Type 0 where
   Done : PoolMap → ℤ → Outcome
@@ -17,7 +17,7 @@ abbrev pub outcome : Out ℤ → Outcome
 outcome (Got v p k) = Done p v
 outcome (Stops trap) = Trap trap
 
--- the transaction of that number, from 1 on, of these functions
+-- the transaction of that number, counted from 1, among these functions
 abbrev pub transaction_in : ℕ → List FunctionTree → Option FunctionTree
 transaction_in zero fs = None
 transaction_in (suc i) fs = slice_get (transactions_in fs) i
@@ -25,10 +25,10 @@ transaction_in (suc i) fs = slice_get (transactions_in fs) i
 abbrev pub transaction : Tables → ℕ → Option FunctionTree
 transaction t number = transaction_in number t.functions
 
--- one that isn't there does nothing and gives 0
-abbrev pub run : Tables → Option FunctionTree → PoolMap → List ℤ → ℕ → Outcome
-run t None p args ticks = Done p (pos 0)
-run t (Some f) p args ticks = outcome (entered t (calls_of t 255) f args p ticks)
+-- a transaction that doesn't exist does nothing and gives 0
+abbrev pub run_transaction : Tables → Option FunctionTree → PoolMap → List ℤ → ℕ → Outcome
+run_transaction t None p args ticks = Done p (pos 0)
+run_transaction t (Some f) p args ticks = outcome (function_value t (calls_of t 255) f args p ticks)
 
 abbrev pub transaction_means : Tables → PoolMap → (number : ℕ) → List ℤ → (ticks : ℕ) → Outcome
-transaction_means t p number args ticks = run t (transaction t number) p args ticks
+transaction_means t p number args ticks = run_transaction t (transaction t number) p args ticks

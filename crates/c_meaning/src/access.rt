@@ -6,8 +6,8 @@ ghost use Rattle.c_types.specs.Tables as tables;
 ghost use Rattle.c_types.specs.Views.{tables_in};
 ghost use Rattle.pool_map.specs.PoolMap.{object_at, least_free};
 ghost use Rattle.c_meaning.specs.Access as meaning;
-ghost use Rattle.c_meaning.specs.Answers.{QuietTrap};
-ghost use Rattle.c_meaning.specs.Resume.{Freed};
+ghost use Rattle.c_meaning.specs.inside.Answers.{QuietTrap};
+ghost use Rattle.c_meaning.specs.inside.Resume.{ObjectFreed};
 
 use crate::locals::Locals;
 use crate::word::Word;
@@ -16,9 +16,9 @@ use c_types::{Layout, Program, ValueType, type_of};
 use pool_map::{Pool, TrapKind};
 use std::alloc::AllocError;
 
-/// What stands at a word, and 0 where the pool has no such word.
+/// The word of the pool, or 0 if the pool has no such word.
 pub fn load(pool: &Pool, word: Word) -> i64
-    ensures { result ≡ meaning.load pool.now word }
+    ensures { result ≡ meaning.read_word pool.now word }
 {
     match word {
         Word::Root(word) => {
@@ -38,9 +38,9 @@ pub fn load(pool: &Pool, word: Word) -> i64
     }
 }
 
-/// Writes a word, where the pool has it.
+/// Writes a word, if the pool has it.
 pub fn store(pool: &mut Pool, word: Word, value: i64)
-    ensures { pool.new ≡ meaning.store pool.old word value }
+    ensures { pool.new ≡ meaning.write_word pool.old word value }
 {
     match word {
         Word::Root(word) => {
@@ -58,7 +58,7 @@ pub fn store(pool: &mut Pool, word: Word, value: i64)
 
 /// The place of the struct that a value of this type points to.
 fn struct_of(ty: ValueType) -> Option<u64>
-    ensures { result ≡ meaning.struct_of ty }
+    ensures { result ≡ meaning.pointed_struct ty }
 {
     match ty {
         ValueType::Pointer(at) => Some(at),
@@ -69,8 +69,9 @@ fn struct_of(ty: ValueType) -> Option<u64>
 }
 
 /// The place of the struct that an expression points to.
-fn struct_behind(program: &Program<'_>, locals: &Locals<'_>, pointer: &Expr) -> Option<u64>
-    ensures { result ≡ meaning.struct_behind (tables_in program.now) locals.now (expr_of pointer.now) }
+fn struct_reached(program: &Program<'_>, locals: &Locals<'_>, pointer: &Expr) -> Option<u64>
+    ensures { result ≡ meaning.struct_pointed_by (tables_in program.now) locals.now
+        (expr_of pointer.now) }
 {
     struct_of(type_of(program, locals.scopes(), pointer))
 }
@@ -85,9 +86,9 @@ fn kind_at(program: &Program<'_>, at: Option<u64>) -> Option<u64>
     }
 }
 
-/// The slot of an object that a pointer leads to: the checks null and stale.
+/// The slot of the object that a pointer leads to, after the checks null and stale.
 fn slot_of(pool: &Pool, kind: Option<u64>, pointer: i64) -> Result<u64, TrapKind>
-    ensures slot { result ≡ meaning.slot_of pool.now kind pointer }
+    ensures slot { result ≡ meaning.struct_slot pool.now kind pointer }
     ensures object { IfOk result (λ slot. IsSome (object_at pool.now slot)) }
     ensures quiet { QuietTrap result }
 {
@@ -108,7 +109,7 @@ fn slot_of(pool: &Pool, kind: Option<u64>, pointer: i64) -> Result<u64, TrapKind
 
 /// Whether a slot has an object of this kind.
 fn is_kind(pool: &Pool, slot: u64, kind: Option<u64>) -> bool
-    ensures { result ≡ meaning.is_kind (object_at pool.now slot) kind }
+    ensures { result ≡ meaning.is_struct_kind (object_at pool.now slot) kind }
 {
     match pool.kind(slot) {
         None => false,
@@ -119,9 +120,9 @@ fn is_kind(pool: &Pool, slot: u64, kind: Option<u64>) -> bool
     }
 }
 
-/// A word of a struct: that of a field, or of an element of it, with the check index.
+/// A word of a struct: that of a field, or of one of its elements after the check index.
 fn word_in(layout: &Layout<'_>, name: &str, index: Option<i64>) -> Result<u64, TrapKind>
-    ensures value { result ≡ meaning.word_in layout.now name.now index }
+    ensures value { result ≡ meaning.word_in_struct layout.now name.now index }
     ensures quiet { QuietTrap result }
 {
     let first = first_word(layout, name);
@@ -143,9 +144,9 @@ fn first_word(layout: &Layout<'_>, name: &str) -> u64
     }
 }
 
-/// The elements of an array field.
+/// The number of elements of an array field.
 fn elements(layout: &Layout<'_>, name: &str) -> u64
-    ensures { result ≡ meaning.elements layout.now name.now }
+    ensures { result ≡ meaning.field_elements layout.now name.now }
 {
     match layout.field(name) {
         None => 0,
@@ -157,7 +158,7 @@ fn elements(layout: &Layout<'_>, name: &str) -> u64
 }
 
 fn count_of(length: i64) -> u64
-    ensures { result ≡ meaning.length_of length }
+    ensures { result ≡ meaning.array_length length }
 {
     match u64::try_from(length) {
         Err(_) => 0,
@@ -189,7 +190,7 @@ fn word_at(
     name: &str,
     index: Option<i64>,
 ) -> Result<u64, TrapKind>
-    ensures value { result ≡ meaning.word_at (tables_in program.now) at name.now index }
+    ensures value { result ≡ meaning.struct_word_at (tables_in program.now) at name.now index }
     ensures quiet { QuietTrap result }
 {
     match at {
@@ -201,8 +202,8 @@ fn word_at(
     }
 }
 
-/// A word of the object that a pointer leads to, of the struct at a place.
-fn behind(
+/// A word of the object that a pointer leads to; its struct is the one at a place.
+fn reached(
     program: &Program<'_>,
     pool: &Pool,
     at: Option<u64>,
@@ -210,7 +211,8 @@ fn behind(
     name: &str,
     index: Option<i64>,
 ) -> Result<Word, TrapKind>
-    ensures value { result ≡ meaning.behind (tables_in program.now) pool.now at pointer name.now index }
+    ensures value { result ≡ meaning.pointed_word (tables_in program.now) pool.now at pointer
+        name.now index }
     ensures quiet { QuietTrap result }
 {
     match slot_of(pool, kind_at(program, at), pointer) {
@@ -233,9 +235,9 @@ fn of_root(program: &Program<'_>, name: &str, index: Option<i64>) -> Result<Word
     }
 }
 
-/// The word that a field names, or an element of it where there is an index: a field of the root, or
-/// a field behind a pointer, which the expression `base` gave. Any other expression names no word,
-/// and leads nowhere.
+/// The word that a field names, or one of its elements if there is an index: a field of the root,
+/// or a field of the object named by the pointer that the expression `base` gave. Any other
+/// expression names no word, and leads nowhere.
 pub fn word_named(
     program: &Program<'_>,
     locals: &Locals<'_>,
@@ -244,14 +246,15 @@ pub fn word_named(
     pointer: i64,
     index: Option<i64>,
 ) -> Result<Word, TrapKind>
-    ensures value { result ≡ meaning.word_named (tables_in program.now) locals.now pool.now (expr_of field.now) pointer index }
+    ensures value { result ≡ meaning.word_named (tables_in program.now) locals.now pool.now
+        (expr_of field.now) pointer index }
     ensures quiet { QuietTrap result }
 {
     match field {
         Expr::Root(name) => of_root(program, name.text.as_str(), index),
         Expr::Arrow { base, field, .. } => {
-            let at = struct_behind(program, locals, base);
-            behind(program, pool, at, pointer, field.text.as_str(), index)
+            let at = struct_reached(program, locals, base);
+            reached(program, pool, at, pointer, field.text.as_str(), index)
         }
         Expr::Number(_) => Err(TrapKind::Stale),
         Expr::Null => Err(TrapKind::Stale),
@@ -264,10 +267,11 @@ pub fn word_named(
     }
 }
 
-/// A new object in the least free slot, whose number it gives: 0 where no slot is free. A kind and a
-/// slot that a word couldn't hold would need more memory than there is.
+/// Makes a new object in the least free slot, and returns the slot's number, or 0 if no slot is
+/// free. A kind and a slot that a word couldn't hold would need more memory than there is.
 pub fn new_object(program: &Program<'_>, pool: &mut Pool, name: &Name) -> Result<i64, AllocError>
-    ensures { IfOk result (λ pointer. meaning.new_object (tables_in program.now) pool.old name.now.text ≡ (pointer, pool.new)) }
+    ensures { IfOk result (λ pointer. meaning.new_object (tables_in program.now) pool.old
+        name.now.text ≡ (pointer, pool.new)) }
 {
     match program.struct_named(name.text.as_str()) {
         None => Ok(0),
@@ -277,7 +281,8 @@ pub fn new_object(program: &Program<'_>, pool: &mut Pool, name: &Name) -> Result
 
 /// A new object of this kind, with so many words.
 fn put_object(pool: &mut Pool, kind: u64, words: u64) -> Result<i64, AllocError>
-    ensures { IfOk result (λ pointer. meaning.new_at pool.old kind words (least_free pool.old) ≡ (pointer, pool.new)) }
+    ensures { IfOk result (λ pointer. meaning.new_at pool.old kind words (least_free pool.old)
+        ≡ (pointer, pool.new)) }
 {
     pool_map::laws();
     let Some(slot) = pool.least_free() else {
@@ -290,7 +295,7 @@ fn put_object(pool: &mut Pool, kind: u64, words: u64) -> Result<i64, AllocError>
     Ok(pointer)
 }
 
-/// Takes away the object that a pointer leads to, which the expression gave.
+/// Frees the object named by the pointer that the expression gave.
 pub fn free_object(
     program: &Program<'_>,
     locals: &Locals<'_>,
@@ -298,10 +303,11 @@ pub fn free_object(
     expr: &Expr,
     pointer: i64,
 ) -> Result<(), TrapKind>
-    ensures value { Freed (meaning.free_object (tables_in program.now) locals.now pool.old (expr_of expr.now) pointer) result pool.new }
+    ensures value { ObjectFreed (meaning.free_object (tables_in program.now) locals.now pool.old
+        (expr_of expr.now) pointer) result pool.new }
     ensures quiet { QuietTrap result }
 {
-    let at = struct_behind(program, locals, expr);
+    let at = struct_reached(program, locals, expr);
     match slot_of(pool, kind_at(program, at), pointer) {
         Err(trap) => Err(trap),
         Ok(slot) => {

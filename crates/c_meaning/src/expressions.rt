@@ -1,4 +1,4 @@
-//! Expressions.
+//! Evaluating expressions.
 
 ghost use Rattle.std.specs.Prelude.{◌≡◌, OnOk};
 ghost use Rattle.c_parser.specs.ExprTree as tree;
@@ -8,9 +8,9 @@ ghost use Rattle.c_types.specs.Views.{tables_in};
 ghost use Rattle.c_meaning.specs.declared.work.ExprTask.TheVariants as task;
 ghost use Rattle.c_meaning.specs.declared.work.WordTask.TheVariants as word_task;
 ghost use Rattle.c_meaning.specs.Meaning.{value_of, binary_means};
-ghost use Rattle.c_meaning.specs.Todo as todo;
-ghost use Rattle.c_meaning.specs.Resume.{calls, begun, resumed, with_value, loaded_from, Does};
-ghost use Rattle.c_meaning.specs.Answers.{Quiet};
+ghost use Rattle.c_meaning.specs.inside.Todo as todo;
+ghost use Rattle.c_meaning.specs.inside.Resume.{calls, todo_begun, resumed, resumed_with, loaded_from, StepLeads};
+ghost use Rattle.c_meaning.specs.inside.Answers.{Quiet};
 
 use crate::access::{free_object, load, new_object, store};
 use crate::fault::Fault;
@@ -25,7 +25,9 @@ use std::alloc::AllocError;
 impl<'a> Run<'a> {
     /// Begins to evaluate an expression.
     pub fn eval(&mut self, program: &Program<'a>, expr: &'a Expr) -> Result<(), AllocError>
-        ensures { OnOk result (resumed (tables_in program.now) self.new ≡ begun (tables_in program.now) (todo.Expr task.Eval (expr_of expr.now)) self.old) }
+        ensures { OnOk result (resumed (tables_in program.now) self.new
+            ≡ todo_begun (tables_in program.now) (todo.Expr task.Eval (expr_of expr.now))
+            self.old) }
     {
         match expr {
             Expr::Number(value) => self.give(*value),
@@ -55,14 +57,18 @@ impl<'a> Run<'a> {
         }
     }
 
-    /// The right side of `&&` and `||` waits until the left side is known.
+    /// Plans `&&` and `||`, whose right side waits until the left side is known.
     fn plan_binary(
         &mut self,
         op: BinaryOp,
         left: &'a Expr,
         right: &'a Expr,
     ) -> Result<(), AllocError>
-        ensures { (t : Tables) → OnOk result (resumed t self.new ≡ with_value t self.old (binary_means op (value_of t (calls t self.old.below) (expr_of left.now) self.old.top self.old.pool self.old.ticks) (λ p k. value_of t (calls t self.old.below) (expr_of right.now) self.old.top p k))) }
+        ensures { (t : Tables) → OnOk result
+            (resumed t self.new ≡ resumed_with t self.old
+            (binary_means op (value_of t (calls t self.old.below) (expr_of left.now) self.old.top
+            self.old.pool self.old.ticks) (λ p k.
+            value_of t (calls t self.old.below) (expr_of right.now) self.old.top p k))) }
     {
         match op {
             BinaryOp::Both => {
@@ -82,20 +88,27 @@ impl<'a> Run<'a> {
     }
 
     fn plan_load(&mut self, expr: &'a Expr) -> Result<(), AllocError>
-        ensures { (t : Tables) → OnOk result (resumed t self.new ≡ with_value t self.old (loaded_from t (calls t self.old.below) (expr_of expr.now) self.old.top self.old.pool self.old.ticks)) }
+        ensures { (t : Tables) → OnOk result
+            (resumed t self.new ≡ resumed_with t self.old
+            (loaded_from t (calls t self.old.below) (expr_of expr.now) self.old.top self.old.pool
+            self.old.ticks)) }
     {
         self.plan_expr(ExprTask::Load, expr)?;
         self.plan_operands(expr)
     }
 
-    /// A call of a function that isn't there gives 0.
+    /// Plans a call. A call of a function that doesn't exist gives 0.
     pub fn plan_call(
         &mut self,
         program: &Program<'a>,
         name: &Name,
         arguments: &'a [Argument],
     ) -> Result<(), AllocError>
-        ensures { OnOk result (resumed (tables_in program.now) self.new ≡ with_value (tables_in program.now) self.old (value_of (tables_in program.now) (calls (tables_in program.now) self.old.below) (tree.Call (ident_of name.now) (arguments_in arguments.now)) self.old.top self.old.pool self.old.ticks)) }
+        ensures { OnOk result (resumed (tables_in program.now) self.new
+            ≡ resumed_with (tables_in program.now) self.old
+            (value_of (tables_in program.now) (calls (tables_in program.now) self.old.below)
+            (tree.Call (ident_of name.now) (arguments_in arguments.now)) self.old.top self.old.pool
+            self.old.ticks)) }
     {
         match program.function_named(name.text.as_str()) {
             None => self.give(0),
@@ -107,7 +120,8 @@ impl<'a> Run<'a> {
     }
 
     pub fn arguments(&mut self, all: &'a [Argument]) -> Result<(), AllocError>
-        ensures { (t : Tables) → OnOk result (resumed t self.new ≡ begun t (todo.Arguments (arguments_in all.now)) self.old) }
+        ensures { (t : Tables) → OnOk result
+            (resumed t self.new ≡ todo_begun t (todo.Arguments (arguments_in all.now)) self.old) }
     {
         match all.split_first() {
             None => Ok(()),
@@ -119,7 +133,8 @@ impl<'a> Run<'a> {
     }
 
     pub fn unary(&mut self, op: UnaryOp) -> Result<(), AllocError>
-        ensures { (t : Tables) → OnOk result (resumed t self.new ≡ begun t (todo.Word (word_task.Unary op)) self.old) }
+        ensures { (t : Tables) → OnOk result
+            (resumed t self.new ≡ todo_begun t (todo.Word (word_task.Unary op)) self.old) }
     {
         let operand = self.take();
         self.give(unary(op, operand))
@@ -127,7 +142,8 @@ impl<'a> Run<'a> {
 
     pub fn binary(&mut self, op: BinaryOp) -> Result<(), Fault>
         ensures quiet { Quiet result }
-        ensures does { (t : Tables) → Does t (todo.Word (word_task.Binary op)) self.old result self.new }
+        ensures does { (t : Tables) → StepLeads t (todo.Word (word_task.Binary op)) self.old result
+            self.new }
     {
         let right = self.take();
         let left = self.take();
@@ -141,7 +157,8 @@ impl<'a> Run<'a> {
     }
 
     pub fn both(&mut self, right: &'a Expr) -> Result<(), AllocError>
-        ensures { (t : Tables) → OnOk result (resumed t self.new ≡ begun t (todo.Expr task.Both (expr_of right.now)) self.old) }
+        ensures { (t : Tables) → OnOk result
+            (resumed t self.new ≡ todo_begun t (todo.Expr task.Both (expr_of right.now)) self.old) }
     {
         if self.take() == 0 {
             return self.give(0);
@@ -151,7 +168,9 @@ impl<'a> Run<'a> {
     }
 
     pub fn either(&mut self, right: &'a Expr) -> Result<(), AllocError>
-        ensures { (t : Tables) → OnOk result (resumed t self.new ≡ begun t (todo.Expr task.Either (expr_of right.now)) self.old) }
+        ensures { (t : Tables) → OnOk result
+            (resumed t self.new ≡ todo_begun t (todo.Expr task.Either (expr_of right.now))
+            self.old) }
     {
         if self.take() != 0 {
             return self.give(1);
@@ -161,7 +180,8 @@ impl<'a> Run<'a> {
     }
 
     pub fn truth(&mut self) -> Result<(), AllocError>
-        ensures { (t : Tables) → OnOk result (resumed t self.new ≡ begun t (todo.Word word_task.Truth) self.old) }
+        ensures { (t : Tables) → OnOk result
+            (resumed t self.new ≡ todo_begun t (todo.Word word_task.Truth) self.old) }
     {
         if self.take() == 0 {
             return self.give(0);
@@ -171,7 +191,8 @@ impl<'a> Run<'a> {
 
     pub fn load(&mut self, program: &Program<'a>, expr: &Expr) -> Result<(), Fault>
         ensures quiet { Quiet result }
-        ensures does { Does (tables_in program.now) (todo.Expr task.Load (expr_of expr.now)) self.old result self.new }
+        ensures does { StepLeads (tables_in program.now) (todo.Expr task.Load (expr_of expr.now))
+            self.old result self.new }
     {
         let operands = self.take_operands(expr);
         let word = self.locate(program, expr, operands)?;
@@ -182,7 +203,8 @@ impl<'a> Run<'a> {
 
     pub fn fetch(&mut self, program: &Program<'a>, expr: &Expr) -> Result<(), Fault>
         ensures quiet { Quiet result }
-        ensures does { Does (tables_in program.now) (todo.Expr task.Fetch (expr_of expr.now)) self.old result self.new }
+        ensures does { StepLeads (tables_in program.now) (todo.Expr task.Fetch (expr_of expr.now))
+            self.old result self.new }
     {
         let operands = self.take_operands(expr);
         let word = self.locate(program, expr, operands)?;
@@ -195,17 +217,19 @@ impl<'a> Run<'a> {
     #[tactic(auto, using(crate::proofs::Resume::traps))]
     pub fn store(&mut self, program: &Program<'a>, expr: &Expr) -> Result<(), Fault>
         ensures quiet { Quiet result }
-        ensures does { Does (tables_in program.now) (todo.Expr task.Store (expr_of expr.now)) self.old result self.new }
+        ensures does { StepLeads (tables_in program.now) (todo.Expr task.Store (expr_of expr.now))
+            self.old result self.new }
     {
         let value = self.take();
         let operands = self.take_operands(expr);
-        let word = self.locate(program, expr, operands)?;
-        store(&mut self.pool, word, value);
+        let place = self.locate(program, expr, operands)?;
+        store(&mut self.pool, place, value);
         Ok(())
     }
 
     pub fn assign(&mut self, name: &Name)
-        ensures { (t : Tables) → resumed t self.new ≡ begun t (todo.Assign name.now.text) self.old }
+        ensures { (t : Tables) → resumed t self.new ≡ todo_begun t (todo.Assign name.now.text)
+            self.old }
     {
         let value = self.take();
         self.top.assign(name.text.as_str(), value);
@@ -214,7 +238,8 @@ impl<'a> Run<'a> {
     #[tactic(auto, using(crate::proofs::Resume::traps))]
     pub fn free(&mut self, program: &Program<'a>, pointer: &Expr) -> Result<(), Fault>
         ensures quiet { Quiet result }
-        ensures does { Does (tables_in program.now) (todo.Expr task.Free (expr_of pointer.now)) self.old result self.new }
+        ensures does { StepLeads (tables_in program.now) (todo.Expr task.Free (expr_of pointer.now))
+            self.old result self.new }
     {
         let word = self.take();
         free_object(program, &self.top, &mut self.pool, pointer, word)?;

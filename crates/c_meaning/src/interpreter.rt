@@ -1,7 +1,7 @@
-//! A call of a transaction.
+//! Calling a transaction.
 
 ghost use Rattle.std.specs.Prelude.{◌≡◌, ◌≢◌, Some, IfOk, option_map};
-ghost use Rattle.c_parser.specs.ItemTree.{function_of};
+ghost use Rattle.c_parser.specs.ItemTree.{function_tree};
 ghost use Rattle.c_parser.specs.Program.{tree_of};
 ghost use Rattle.c_parser.specs.ExprTree.{expr_of};
 ghost use Rattle.c_parser.specs.StmtTree.{stmt_of};
@@ -9,14 +9,15 @@ ghost use Rattle.c_types.specs.Tables.{Tables, tables_of};
 ghost use Rattle.c_types.specs.Views.{tables_in};
 ghost use Rattle.pool_map.specs.declared.trap.TrapKind.TheVariants as trap;
 ghost use Rattle.c_meaning.specs.declared.answer.PlainAnswer.TheVariants as answer;
-ghost use Rattle.c_meaning.specs.Answers.{Answers, Quiet};
-ghost use Rattle.c_meaning.specs.Answers as answers;
+ghost use Rattle.c_meaning.specs.Answers.{PlainAnswers};
+ghost use Rattle.c_meaning.specs.inside.Answers.{Quiet};
+ghost use Rattle.c_meaning.specs.inside.Answers as inside_answers;
 ghost use Rattle.c_meaning.specs.declared.work.Flow.TheVariants as flow;
 ghost use Rattle.c_meaning.specs.Transaction as meaning;
 ghost use Rattle.c_meaning.specs.Transaction.{transaction, transaction_means, Done};
-ghost use Rattle.c_meaning.specs.Todo as todo;
-ghost use Rattle.c_meaning.specs.Todo.{todo_of};
-ghost use Rattle.c_meaning.specs.Resume.{begun, begun_at, resumed, resumed_at, newest, Leads, Does};
+ghost use Rattle.c_meaning.specs.inside.Todo as todo;
+ghost use Rattle.c_meaning.specs.inside.Todo.{todo_of};
+ghost use Rattle.c_meaning.specs.inside.Resume.{todo_begun, begun_at, resumed, resumed_at, newest, LeadsToOutcome, StepLeads};
 
 use crate::answer::PlainAnswer;
 use crate::fault::Fault;
@@ -31,9 +32,9 @@ use pool_map::Pool;
 use std::alloc::{AllocError, Global};
 
 /// Runs transaction `tx`, counted from 1, with these arguments, on a copy of the pool, with so many
-/// ticks. It goes over the tree, and knows no machine and no log; so the trap logfull never comes. A
-/// word that the pool lacks reads as 0 and is not written; an argument that is lacking is 0; a
-/// transaction that is lacking does nothing and gives 0.
+/// ticks. It interprets the tree, without machine or log; so the trap logfull never occurs. A word
+/// that the pool lacks reads as 0 and is not written; a missing argument is 0; a transaction that
+/// doesn't exist does nothing and gives 0.
 pub fn plain_call(
     alloc: Global,
     typed: &Typed,
@@ -43,7 +44,8 @@ pub fn plain_call(
     ticks: u64,
 ) -> PlainAnswer
     ensures quiet { result ≢ answer.Trap trap.LogFull }
-    ensures exact { Answers result (transaction_means (tables_of (tree_of typed.now)) pool.now tx args.now ticks) }
+    ensures exact { PlainAnswers result (transaction_means (tables_of (tree_of typed.now)) pool.now
+        tx args.now ticks) }
 {
     let Ok(program) = Program::new(alloc, typed.ast().items()) else {
         return PlainAnswer::NoMemory;
@@ -60,7 +62,7 @@ pub fn plain_call(
 fn answer_of(ended: Result<(Pool, i64), Fault>) -> PlainAnswer
     requires { Quiet ended }
     ensures quiet { result ≢ answer.Trap trap.LogFull }
-    ensures exact { result ≡ answers.answer_of ended }
+    ensures exact { result ≡ inside_answers.plain_answer ended }
 {
     match ended {
         Ok((pool, value)) => PlainAnswer::Done(pool, value),
@@ -78,7 +80,9 @@ fn run<'a>(
     ticks: u64,
 ) -> Result<(Pool, i64), Fault>
     ensures quiet { Quiet result }
-    ensures exact { Leads result (meaning.run (tables_in program.now) (Some (function_of function.now)) pool args.now ticks) (λ done. Done done.0 done.1) }
+    ensures exact { LeadsToOutcome result
+        (meaning.run_transaction (tables_in program.now) (Some (function_tree function.now)) pool
+        args.now ticks) (λ done. Done done.0 done.1) }
 {
     let top = bound(alloc, program, &function.parameters, args)?;
     let mut run = Run::new(alloc, pool, top, ticks);
@@ -91,7 +95,8 @@ fn run<'a>(
 /// The transaction of that number.
 #[tactic(auto, using(crate::proofs::Numbers::numbers))]
 fn transaction<'a>(program: &Program<'a>, tx: u64) -> Option<&'a Function>
-    ensures { option_map (λ f. function_of f.now) result ≡ transaction (tables_in program.now) tx }
+    ensures { option_map (λ f. function_tree f.now) result
+        ≡ transaction (tables_in program.now) tx }
 {
     let mut left = tx;
     for function in program.functions() {
@@ -105,11 +110,13 @@ fn transaction<'a>(program: &Program<'a>, tx: u64) -> Option<&'a Function>
     None
 }
 
-/// Does what is planned, until nothing is. Each turn of a loop and each call takes a tick, and
-/// between two ticks less than the program's nodes is done, so the last answer is never reached.
+/// Works off the work list until it is empty. Each turn of a loop and each call takes a tick, and
+/// between two ticks there are fewer items than the program has nodes, so the last answer is never
+/// reached.
 fn finish<'a>(alloc: Global, program: &Program<'a>, run: &mut Run<'a>) -> Result<(), Fault>
     ensures quiet { Quiet result }
-    ensures exact { Leads result (resumed (tables_in program.now) run.old) (λ _. Done run.new.pool (newest run.new.values)) }
+    ensures exact { LeadsToOutcome result (resumed (tables_in program.now) run.old)
+        (λ _. Done run.new.pool (newest run.new.values)) }
 {
     let mut how = Flow::Next;
     for _ in 0..u64::MAX {
@@ -122,7 +129,7 @@ fn finish<'a>(alloc: Global, program: &Program<'a>, run: &mut Run<'a>) -> Result
 }
 
 impl<'a> Run<'a> {
-    /// Does one thing, by how the last statement ended, and says how it ends now.
+    /// Does one item, according to how the last statement ended, and says how it ends now.
     fn go_on(
         &mut self,
         alloc: Global,
@@ -131,7 +138,9 @@ impl<'a> Run<'a> {
         work: Work<'a>,
     ) -> Result<Flow, Fault>
         ensures quiet { Quiet result }
-        ensures does { Leads result (begun_at (tables_in program.now) (todo_of work.entry) how self.old) (λ how. resumed_at (tables_in program.now) how self.new) }
+        ensures does { LeadsToOutcome result
+            (begun_at (tables_in program.now) (todo_of work.entry) how self.old)
+            (λ how. resumed_at (tables_in program.now) how self.new) }
     {
         match how {
             Flow::Next => self.step(alloc, program, work),
@@ -142,7 +151,9 @@ impl<'a> Run<'a> {
     }
 
     fn break_past(&mut self, alloc: Global, work: Work<'a>) -> Result<Flow, AllocError>
-        ensures { (t : Tables) → IfOk result (λ how. resumed_at t how self.new ≡ begun_at t (todo_of work.entry) flow.Break self.old) }
+        ensures { (t : Tables) → IfOk result
+            (λ how. resumed_at t how self.new ≡ begun_at t (todo_of work.entry) flow.Break
+            self.old) }
     {
         match work {
             Work::Close(count) => {
@@ -159,7 +170,9 @@ impl<'a> Run<'a> {
     }
 
     fn continue_past(&mut self, alloc: Global, work: Work<'a>) -> Result<Flow, AllocError>
-        ensures { (t : Tables) → IfOk result (λ how. resumed_at t how self.new ≡ begun_at t (todo_of work.entry) flow.Continue self.old) }
+        ensures { (t : Tables) → IfOk result
+            (λ how. resumed_at t how self.new ≡ begun_at t (todo_of work.entry) flow.Continue
+            self.old) }
     {
         match work {
             Work::Close(count) => {
@@ -179,7 +192,9 @@ impl<'a> Run<'a> {
     }
 
     fn return_past(&mut self, alloc: Global, value: i64, work: Work<'a>) -> Result<Flow, AllocError>
-        ensures { (t : Tables) → IfOk result (λ how. resumed_at t how self.new ≡ begun_at t (todo_of work.entry) (flow.Return value) self.old) }
+        ensures { (t : Tables) → IfOk result
+            (λ how. resumed_at t how self.new ≡ begun_at t (todo_of work.entry) (flow.Return value)
+            self.old) }
     {
         match work {
             Work::Leave => {
@@ -192,7 +207,9 @@ impl<'a> Run<'a> {
 
     fn step(&mut self, alloc: Global, program: &Program<'a>, work: Work<'a>) -> Result<Flow, Fault>
         ensures quiet { Quiet result }
-        ensures does { Leads result (begun (tables_in program.now) (todo_of work.entry) self.old) (λ how. resumed_at (tables_in program.now) how self.new) }
+        ensures does { LeadsToOutcome result
+            (todo_begun (tables_in program.now) (todo_of work.entry) self.old)
+            (λ how. resumed_at (tables_in program.now) how self.new) }
     {
         match work {
             Work::Expr(task, expr) => self.on_expr(program, task, expr)?,
@@ -218,7 +235,8 @@ impl<'a> Run<'a> {
         expr: &'a Expr,
     ) -> Result<(), Fault>
         ensures quiet { Quiet result }
-        ensures does { Does (tables_in program.now) (todo.Expr task (expr_of expr.now)) self.old result self.new }
+        ensures does { StepLeads (tables_in program.now) (todo.Expr task (expr_of expr.now))
+            self.old result self.new }
     {
         match task {
             ExprTask::Eval => Ok(self.eval(program, expr)?),
@@ -238,7 +256,9 @@ impl<'a> Run<'a> {
         stmt: &'a Stmt,
     ) -> Result<Flow, Fault>
         ensures quiet { Quiet result }
-        ensures does { Leads result (begun (tables_in program.now) (todo.Stmt task (stmt_of stmt.now)) self.old) (λ how. resumed_at (tables_in program.now) how self.new) }
+        ensures does { LeadsToOutcome result
+            (todo_begun (tables_in program.now) (todo.Stmt task (stmt_of stmt.now)) self.old)
+            (λ how. resumed_at (tables_in program.now) how self.new) }
     {
         match task {
             StmtTask::Exec => return self.exec(program, stmt),
@@ -252,7 +272,7 @@ impl<'a> Run<'a> {
 
     fn on_word(&mut self, task: WordTask) -> Result<(), Fault>
         ensures quiet { Quiet result }
-        ensures does { (t : Tables) → Does t (todo.Word task) self.old result self.new }
+        ensures does { (t : Tables) → StepLeads t (todo.Word task) self.old result self.new }
     {
         match task {
             WordTask::Put(word) => Ok(self.give(word)?),

@@ -1,6 +1,7 @@
-//! What a program means: an interpreter of the checked tree, to which every compiled run is compared.
-//! It stands on `c_types` and on the pool of `pool_map`, and knows no machine, log or device. Its one
-//! contract for the crates above: `plain_call` runs one transaction on a copy of a pool.
+//! The meaning of a program: an interpreter of the checked tree, with which every compiled run is
+//! compared. It rests on `c_types` and on the pool of `pool_map`, and knows no machine, log or
+//! device. Its one contract for the crates above: `plain_call` runs one transaction on a copy of a
+//! pool.
 #![tactic(auto)]
 
 mod access;
@@ -19,6 +20,3 @@ mod work;
 
 pub use answer::PlainAnswer;
 pub use interpreter::plain_call;
-
-#[cfg(test)]
-mod tests;

@@ -3,7 +3,7 @@
 ghost use Rattle.std.specs.Prelude.{◌≡◌, ◌<◌, [], IfOk, length, map, drop, pos, slice_index_or};
 ghost use Rattle.c_parser.specs.ItemTree.{parameter_of};
 ghost use Rattle.c_types.specs.Views.{tables_in};
-ghost use Rattle.c_meaning.specs.Entries.{seen, with_value, Found};
+ghost use Rattle.c_meaning.specs.inside.Entries.{seen_locals, with_entry_value, Found};
 ghost use Rattle.c_meaning.specs.Locals as meaning;
 ghost use Rattle.c_meaning.specs.Locals.{scopes_of};
 
@@ -13,8 +13,8 @@ use c_types::{Program, Scopes, ValueType};
 use std::alloc::{AllocError, Global};
 use std::marker::Model;
 
-/// The locals that can be seen, newest first. A name means the first of them that has it. Each has a
-/// scope of its own, by which its type is found.
+/// The visible locals, newest first. A name means the first of them that has it. Each has a scope
+/// of its own, which gives its type.
 #[derive(Drop)]
 pub struct Locals<'a> {
     scopes: Scopes<'a>,
@@ -24,13 +24,13 @@ pub struct Locals<'a> {
 impl<'a> Model for Locals<'a> {
     ghost use Rattle.std.specs.Prelude.{◌≡◌, List};
     ghost use Rattle.c_meaning.specs.Locals as meaning;
-    ghost use Rattle.c_meaning.specs.Entries.{seen};
+    ghost use Rattle.c_meaning.specs.inside.Entries.{seen_locals};
 
     ghost Value = { List meaning.Local };
 
-    ghost view = { λ l. seen l.all.items };
+    ghost view = { λ l. seen_locals l.all.items };
 
-    ghost invariant = { λ l. l.scopes ≡ meaning.scopes_of (seen l.all.items) };
+    ghost invariant = { λ l. l.scopes ≡ meaning.scopes_of (seen_locals l.all.items) };
 }
 
 impl<'a> Locals<'a> {
@@ -51,14 +51,14 @@ impl<'a> Locals<'a> {
         &self.scopes
     }
 
-    /// How many locals there are.
+    /// The number of locals.
     pub fn count(&self) -> usize
         ensures { result ≡ length self.now }
     {
         self.all.len()
     }
 
-    /// The locals with one more.
+    /// Adds one local.
     #[tactic(auto, using(crate::proofs::Ends::ends))]
     pub fn with(
         self,
@@ -67,7 +67,8 @@ impl<'a> Locals<'a> {
         ty: ValueType,
         value: i64,
     ) -> Result<Self, AllocError>
-        ensures { IfOk result (λ locals. locals ≡ meaning.declared name.now ty value self.entry) }
+        ensures { IfOk result (λ locals. locals ≡ meaning.local_declared name.now ty value
+            self.entry) }
     {
         let mut scopes = self.scopes;
         let mut all = self.all;
@@ -77,7 +78,7 @@ impl<'a> Locals<'a> {
         Ok(Locals { scopes, all })
     }
 
-    /// Forgets the newest locals, so that this many are left.
+    /// Forgets the newest locals, so that so many are left.
     #[tactic(auto, using(crate::proofs::Ends::ends))]
     pub fn close_to(&mut self, count: usize)
         ensures { self.new ≡ meaning.oldest count self.old }
@@ -96,14 +97,14 @@ impl<'a> Locals<'a> {
         self.scopes.close();
     }
 
-    /// The word of a local, and 0 where there is none of that name.
+    /// The word of the local with this name, or 0 if there is none.
     pub fn find(&self, name: &str) -> i64
         ensures { result ≡ meaning.value_named name.now self.now }
     {
         find_in(&self.all, name)
     }
 
-    /// Gives a local another word.
+    /// Assigns a word to a local.
     #[tactic(auto, using(crate::proofs::Ends::ends))]
     pub fn assign(&mut self, name: &str, value: i64)
         ensures { self.new ≡ meaning.assigned name.now value self.old }
@@ -116,7 +117,7 @@ impl<'a> Locals<'a> {
 
 #[tactic(auto, using(crate::proofs::Ends::ends))]
 fn find_in(all: &[Entry<'_>], name: &str) -> i64
-    ensures { result ≡ meaning.value_named name.now (seen all.now) }
+    ensures { result ≡ meaning.value_named name.now (seen_locals all.now) }
 {
     match all.split_last() {
         None => 0,
@@ -149,19 +150,20 @@ fn place_in(all: &[Entry<'_>], name: &str) -> Option<usize>
 #[tactic(auto, using(crate::proofs::Ends::ends))]
 fn set_in(all: &mut Vec<Entry<'_>>, at: usize, value: i64)
     requires { at < length all.old.items }
-    ensures { all.new.items ≡ with_value all.old.items at value }
+    ensures { all.new.items ≡ with_entry_value all.old.items at value }
 {
     all[at].value = value;
 }
 
-/// The locals of a function that begins: its parameters, with their arguments' words.
+/// The locals of a function at its start: its parameters, with the words of their arguments.
 pub fn bound<'a>(
     alloc: Global,
     program: &Program<'a>,
     parameters: &'a [Parameter],
     arguments: &[i64],
 ) -> Result<Locals<'a>, AllocError>
-    ensures { IfOk result (λ locals. locals ≡ meaning.bound (tables_in program.now) (map parameter_of parameters.now) arguments.now []) }
+    ensures { IfOk result (λ locals. locals ≡ meaning.bound (tables_in program.now)
+        (map parameter_of parameters.now) arguments.now []) }
 {
     let mut locals = Locals::new(alloc);
     let mut left = arguments;
@@ -174,7 +176,7 @@ pub fn bound<'a>(
     Ok(locals)
 }
 
-/// The first of some words, or 0 where there is none, and the others.
+/// The first of some words, or 0 if there is none, and the others.
 fn first_of(words: &[i64]) -> (i64, &[i64])
     ensures first { result.0 ≡ slice_index_or words.now 0 (pos 0) }
     ensures others { result.1.now ≡ drop 1 words.now }

@@ -7,7 +7,7 @@ ghost use Rattle.c_meaning.specs.Operators.{unary_of, binary_of};
 use c_parser::expr::{BinaryOp, UnaryOp};
 use nvm_base::{BinOp, div, rem, sub};
 
-/// What a unary operator makes of a word.
+/// The result of a unary operator on a word.
 #[tactic(auto, using(std::proofs::lemmas::Int::wraps))]
 pub fn unary(op: UnaryOp, a: i64) -> i64
     ensures { result ≡ unary_of op a }
@@ -19,7 +19,7 @@ pub fn unary(op: UnaryOp, a: i64) -> i64
     }
 }
 
-/// What a binary operator makes of two words, and nothing where the divisor is 0.
+/// The result of a binary operator on two words, or `None` if the divisor is 0.
 #[tactic(auto, using(std::proofs::lemmas::Int::wraps))]
 pub fn binary(op: BinaryOp, a: i64, b: i64) -> Option<i64>
     ensures { result ≡ binary_of op a b }

@@ -3,16 +3,16 @@
 ghost use Rattle.std.specs.Prelude.{◌≡◌, [], ◌∷◌, IfOk, OnOk, map, take, drop, reverse};
 ghost use Rattle.c_parser.specs.ExprTree.{expr_of};
 ghost use Rattle.c_parser.specs.StmtTree.{statements_in};
-ghost use Rattle.c_parser.specs.ItemTree.{function_of, parameter_of};
+ghost use Rattle.c_parser.specs.ItemTree.{function_tree, parameter_of};
 ghost use Rattle.c_types.specs.Tables.{Tables};
 ghost use Rattle.c_types.specs.Views.{tables_in};
 ghost use Rattle.c_meaning.specs.Locals as local;
 ghost use Rattle.c_meaning.specs.Meaning as meaning;
 ghost use Rattle.c_meaning.specs.Access as access;
-ghost use Rattle.c_meaning.specs.Todo as todo;
+ghost use Rattle.c_meaning.specs.inside.Todo as todo;
 ghost use Rattle.c_meaning.specs.declared.work.Work.TheVariants as work;
-ghost use Rattle.c_meaning.specs.Resume.{calls, newest, pointer_in, index_in, under, with_index, planned, going, resumed, with_value, with_operands, with_end, entering, left, Does, Taken, Ticked};
-ghost use Rattle.c_meaning.specs.Answers.{Quiet, QuietTrap};
+ghost use Rattle.c_meaning.specs.inside.Resume.{calls, newest, pointer_in, index_operand, under, with_index, planned, plan_going, resumed, resumed_with, with_operands, with_end, entering, left_function, StepLeads, Taken, Ticked};
+ghost use Rattle.c_meaning.specs.inside.Answers.{Quiet, QuietTrap};
 
 use crate::access::word_named;
 use crate::fault::Fault;
@@ -29,18 +29,18 @@ use std::alloc::{AllocError, Global};
 use std::marker::Model;
 use std::mem;
 
-/// How many functions may be open.
+/// The greatest number of open functions.
 const OPEN: usize = 256;
 
-/// What a target needs: the pointer that leads to it, and its index.
+/// The operands of a target: the pointer that leads to it, and its index.
 #[derive(Clone, Copy)]
 pub struct Operands {
     pub pointer: i64,
     pub index: Option<i64>,
 }
 
-/// A run in progress: what is still to be done, last first, and the values that wait; the locals of
-/// the open function and of those below it; the pool and the ticks left.
+/// A run in progress: the work list, last item first, and the waiting values; the locals of the
+/// open function and of those below it; the pool and the ticks left.
 #[derive(Drop)]
 pub struct Run<'a> {
     pub plan: Plan<'a>,
@@ -55,19 +55,33 @@ impl<'a> Model for Run<'a> {
     ghost use Rattle.std.specs.Coded.{codes};
     ghost use Rattle.c_parser.specs.contracts.expr.Expr as expression;
     ghost use Rattle.c_parser.specs.contracts.stmt.Stmt as statement;
-    ghost use Rattle.c_meaning.specs.Resume.{State};
+    ghost use Rattle.c_meaning.specs.inside.Resume.{ResumeState};
 
-    ghost Value = { State };
+    ghost Value = { ResumeState };
 
     ghost coded = { Prim.hlevel (codes, expression.the_row.coded, statement.the_row.coded) };
 
-    ghost view = { λ r. record { plan = r.plan; values = r.values; top = r.top; below = r.below; pool = r.pool; ticks = r.ticks } };
+    ghost view = { λ r. record {
+      plan = r.plan;
+      values = r.values;
+      top = r.top;
+      below = r.below;
+      pool = r.pool;
+      ticks = r.ticks;
+    } };
 }
 
 impl<'a> Run<'a> {
-    /// Nothing is to be done, and one function is open. It takes no memory.
+    /// A run with an empty work list and one open function. It takes no memory.
     pub fn new(alloc: Global, pool: Pool, top: Locals<'a>, ticks: u64) -> Self
-        ensures { result ≡ record { plan = []; values = []; top = top.entry; below = []; pool = pool; ticks = ticks } }
+        ensures { result ≡ record {
+          plan = [];
+          values = [];
+          top = top.entry;
+          below = [];
+          pool = pool;
+          ticks = ticks;
+        } }
     {
         Run {
             plan: Plan::new(alloc),
@@ -79,7 +93,7 @@ impl<'a> Run<'a> {
         }
     }
 
-    /// Puts something to be done before all else.
+    /// Puts an item at the front of the work list.
     pub fn plan(&mut self, work: Work<'a>) -> Result<(), AllocError>
         ensures { OnOk result (self.new ≡ planned work.entry self.old) }
     {
@@ -87,7 +101,7 @@ impl<'a> Run<'a> {
         Ok(())
     }
 
-    /// Takes what is to be done next.
+    /// Pops the next item of the work list.
     pub fn next(&mut self) -> Option<Work<'a>>
         ensures { Taken result self.new self.old }
     {
@@ -113,7 +127,7 @@ impl<'a> Run<'a> {
         Ok(())
     }
 
-    /// The newest value, or 0 where none waits.
+    /// Pops the newest value, or gives 0 if none waits.
     pub fn take(&mut self) -> i64
         ensures value { result ≡ newest self.old.values }
         ensures others { self.new ≡ record self.old { values = drop 1 self.old.values } }
@@ -134,10 +148,13 @@ impl<'a> Run<'a> {
         Ok(())
     }
 
-    /// Evaluates what a target needs: the pointer that leads to it, or 0 in its place, and then its
-    /// index.
+    /// Plans the evaluation of a target's operands: the pointer that leads to it, or 0 in its
+    /// place, and then its index.
     pub fn plan_operands(&mut self, target: &'a Expr) -> Result<(), AllocError>
-        ensures { (t : Tables) → OnOk result (resumed t self.new ≡ with_operands t self.old (meaning.operands_of t (calls t self.old.below) (expr_of target.now) self.old.top self.old.pool self.old.ticks)) }
+        ensures { (t : Tables) → OnOk result
+            (resumed t self.new ≡ with_operands t self.old
+            (meaning.operands_of t (calls t self.old.below) (expr_of target.now) self.old.top
+            self.old.pool self.old.ticks)) }
     {
         match target {
             Expr::Index { base, index, .. } => {
@@ -150,7 +167,10 @@ impl<'a> Run<'a> {
     }
 
     fn plan_pointer(&mut self, field: &'a Expr) -> Result<(), AllocError>
-        ensures { (t : Tables) → OnOk result (resumed t self.new ≡ with_value t self.old (meaning.pointer_of t (calls t self.old.below) (expr_of field.now) self.old.top self.old.pool self.old.ticks)) }
+        ensures { (t : Tables) → OnOk result
+            (resumed t self.new ≡ resumed_with t self.old
+            (meaning.pointer_of t (calls t self.old.below) (expr_of field.now) self.old.top
+            self.old.pool self.old.ticks)) }
     {
         match field {
             Expr::Arrow { base, .. } => self.plan_expr(ExprTask::Eval, base),
@@ -158,11 +178,12 @@ impl<'a> Run<'a> {
         }
     }
 
-    /// Takes a target's operands.
+    /// Pops a target's operands.
     pub fn take_operands(&mut self, target: &Expr) -> Operands
         ensures pointer { result.pointer ≡ pointer_in (expr_of target.now) self.old.values }
-        ensures index { result.index ≡ index_in (expr_of target.now) self.old.values }
-        ensures others { self.new ≡ record self.old { values = under (expr_of target.now) self.old.values } }
+        ensures index { result.index ≡ index_operand (expr_of target.now) self.old.values }
+        ensures others { self.new ≡ record self.old
+            { values = under (expr_of target.now) self.old.values } }
     {
         match target {
             Expr::Index { .. } => {
@@ -183,9 +204,10 @@ impl<'a> Run<'a> {
         }
     }
 
-    /// Puts a target's operands back.
+    /// Pushes a target's operands again.
     pub fn give_operands(&mut self, operands: Operands) -> Result<(), AllocError>
-        ensures { OnOk result (self.new ≡ record self.old { values = with_index operands.index (operands.pointer ∷ self.old.values) }) }
+        ensures { OnOk result (self.new ≡ record self.old
+            { values = with_index operands.index (operands.pointer ∷ self.old.values) }) }
     {
         self.give(operands.pointer)?;
         match operands.index {
@@ -194,14 +216,16 @@ impl<'a> Run<'a> {
         }
     }
 
-    /// The word that a target names, behind the checks.
+    /// The word that a target names, after the checks.
     pub fn locate(
         &self,
         program: &Program<'a>,
         target: &Expr,
         operands: Operands,
     ) -> Result<Word, TrapKind>
-        ensures value { result ≡ access.word_named (tables_in program.now) self.now.top self.now.pool (access.field_of (expr_of target.now)) operands.pointer operands.index }
+        ensures value { result ≡ access.word_named (tables_in program.now) self.now.top
+            self.now.pool (access.target_field (expr_of target.now)) operands.pointer
+            operands.index }
         ensures quiet { QuietTrap result }
     {
         let field = match target {
@@ -218,8 +242,8 @@ impl<'a> Run<'a> {
         )
     }
 
-    /// Opens a function whose arguments are the newest values, so many. It takes a tick, and then a
-    /// place among the open functions.
+    /// Opens a function, whose arguments are so many of the newest values. It takes a tick, and
+    /// then a place among the open functions.
     pub fn call(
         &mut self,
         alloc: Global,
@@ -228,7 +252,8 @@ impl<'a> Run<'a> {
         count: usize,
     ) -> Result<(), Fault>
         ensures quiet { Quiet result }
-        ensures does { Does (tables_in program.now) (todo.Call (function_of function.now) count) self.old result self.new }
+        ensures does { StepLeads (tables_in program.now)
+            (todo.Call (function_tree function.now) count) self.old result self.new }
     {
         self.tick()?;
         if self.below.count() >= OPEN - 1 {
@@ -246,14 +271,15 @@ impl<'a> Run<'a> {
         function: &'a Function,
         count: usize,
     ) -> Result<(), AllocError>
-        ensures { OnOk result (resumed (tables_in program.now) self.new ≡ entering (tables_in program.now) (function_of function.now) count self.old) }
+        ensures { OnOk result (resumed (tables_in program.now) self.new
+            ≡ entering (tables_in program.now) (function_tree function.now) count self.old) }
     {
         let locals = self.bind(alloc, program, function, count)?;
         self.enter(locals)?;
         self.begin(function)
     }
 
-    /// The locals with which a function begins: its parameters, with the newest values, so many.
+    /// The locals of a function at its start: its parameters, with so many of the newest values.
     fn bind(
         &mut self,
         alloc: Global,
@@ -261,8 +287,12 @@ impl<'a> Run<'a> {
         function: &'a Function,
         count: usize,
     ) -> Result<Locals<'a>, AllocError>
-        ensures locals { IfOk result (λ ls. ls ≡ local.bound (tables_in program.now) (map parameter_of function.now.parameters.items) (reverse (take count self.old.values)) []) }
-        ensures others { OnOk result (self.new ≡ record self.old { values = drop count self.old.values }) }
+        ensures locals { IfOk result (λ ls.
+            ls ≡ local.bound (tables_in program.now)
+            (map parameter_of function.now.parameters.items) (reverse (take count self.old.values))
+            []) }
+        ensures others { OnOk result (self.new ≡ record self.old
+            { values = drop count self.old.values }) }
     {
         let arguments = self.values.newest(count);
         let locals = bound(alloc, program, &function.parameters, arguments)?;
@@ -270,18 +300,25 @@ impl<'a> Run<'a> {
         Ok(locals)
     }
 
-    /// Another function is open now, with these locals.
+    /// Makes these the locals of the open function, above the others.
     fn enter(&mut self, locals: Locals<'a>) -> Result<(), AllocError>
-        ensures { OnOk result (self.new ≡ record self.old { top = locals.entry; below = self.old.top ∷ self.old.below }) }
+        ensures { OnOk result (self.new ≡ record self.old {
+          top = locals.entry;
+          below = self.old.top
+              ∷ self.old.below;
+        }) }
     {
         let caller = mem::replace(&mut self.top, locals);
         self.below.push(caller)?;
         Ok(())
     }
 
-    /// The body of a function whose parameters are bound.
+    /// Plans the body of a function whose parameters are bound.
     pub fn begin(&mut self, function: &'a Function) -> Result<(), AllocError>
-        ensures { (t : Tables) → OnOk result (resumed t self.new ≡ with_end t (planned work.Leave self.old) (meaning.ends_of t (calls t self.old.below) (statements_in function.now.body.items) self.old.top self.old.pool self.old.ticks)) }
+        ensures { (t : Tables) → OnOk result
+            (resumed t self.new ≡ with_end t (planned work.Leave self.old)
+            (meaning.ends_of t (calls t self.old.below) (statements_in function.now.body.items)
+            self.old.top self.old.pool self.old.ticks)) }
     {
         self.plan(Work::Leave)?;
         self.plan(Work::Rest(&function.body))
@@ -289,7 +326,9 @@ impl<'a> Run<'a> {
 
     /// Ends the open function.
     pub fn leave(&mut self, alloc: Global, value: i64) -> Result<(), AllocError>
-        ensures { (t : Tables) → OnOk result (resumed t self.new ≡ left (going t self.old) self.old.values self.old.below (meaning.Got value self.old.pool self.old.ticks)) }
+        ensures { (t : Tables) → OnOk result
+            (resumed t self.new ≡ left_function (plan_going t self.old) self.old.values
+            self.old.below (meaning.Got value self.old.pool self.old.ticks)) }
     {
         let caller = match self.below.pop() {
             None => Locals::new(alloc),

@@ -1,14 +1,14 @@
 //! The stacks of a run. Contracts see each as a list that begins with its top.
 
 ghost use Rattle.std.specs.Prelude.{◌≡◌, [], ◌∷◌, OnOk, length, reverse, take, drop};
-ghost use Rattle.c_meaning.specs.Stacks.{Popped};
+ghost use Rattle.c_meaning.specs.inside.Stacks.{Popped};
 
 use crate::locals::Locals;
 use crate::work::Work;
 use std::alloc::{AllocError, Global};
 use std::marker::Model;
 
-/// What is still to be done.
+/// The work list.
 #[derive(Drop)]
 pub struct Plan<'a> {
     all: Vec<Work<'a>>,
@@ -29,7 +29,7 @@ impl<'a> Model for Plan<'a> {
 }
 
 impl<'a> Plan<'a> {
-    /// Nothing is to be done. It takes no memory.
+    /// The empty work list. It takes no memory.
     pub fn new(alloc: Global) -> Self
         ensures { result ≡ [] }
     {
@@ -38,7 +38,7 @@ impl<'a> Plan<'a> {
         }
     }
 
-    /// Puts something before all else.
+    /// Puts an item at the front.
     #[tactic(auto, using(crate::proofs::Tops::tops))]
     pub fn push(&mut self, work: Work<'a>) -> Result<(), AllocError>
         ensures { OnOk result (self.new ≡ work.entry ∷ self.old) }
@@ -47,7 +47,7 @@ impl<'a> Plan<'a> {
         Ok(())
     }
 
-    /// Takes what is to be done next.
+    /// Pops the next item of the work list.
     #[tactic(auto, using(crate::proofs::Tops::tops))]
     pub fn pop(&mut self) -> Option<Work<'a>>
         ensures { Popped result self.new self.old }
@@ -56,7 +56,7 @@ impl<'a> Plan<'a> {
     }
 }
 
-/// The values that wait.
+/// The waiting values.
 #[derive(Drop)]
 pub struct Values {
     all: Vec<i64>,
@@ -71,7 +71,7 @@ impl Model for Values {
 }
 
 impl Values {
-    /// No value waits. It takes no memory.
+    /// No waiting value. It takes no memory.
     pub fn new(alloc: Global) -> Self
         ensures { result ≡ [] }
     {
@@ -80,7 +80,7 @@ impl Values {
         }
     }
 
-    /// Puts a value on top.
+    /// Pushes a value.
     #[tactic(auto, using(crate::proofs::Tops::tops))]
     pub fn push(&mut self, value: i64) -> Result<(), AllocError>
         ensures { OnOk result (self.new ≡ value ∷ self.old) }
@@ -89,7 +89,7 @@ impl Values {
         Ok(())
     }
 
-    /// Takes the value on top.
+    /// Pops a value.
     #[tactic(auto, using(crate::proofs::Tops::tops))]
     pub fn pop(&mut self) -> Option<i64>
         ensures { Popped result self.new self.old }
@@ -97,7 +97,7 @@ impl Values {
         self.all.pop()
     }
 
-    /// The newest values, so many of them where there are, from the oldest of them on.
+    /// So many of the newest values, as far as there are that many, oldest first.
     #[tactic(auto, using(crate::proofs::Tops::tops))]
     pub fn newest(&self, count: usize) -> &[i64]
         ensures { result.now ≡ reverse (take count self.now) }
@@ -106,7 +106,7 @@ impl Values {
         &self.all[first..]
     }
 
-    /// Takes the newest values off, so many of them where there are.
+    /// Pops so many of the newest values, as far as there are that many.
     #[tactic(auto, using(crate::proofs::Tops::tops))]
     pub fn forget(&mut self, count: usize)
         ensures { self.new ≡ drop count self.old }
@@ -116,7 +116,7 @@ impl Values {
     }
 }
 
-/// The locals of the functions that wait for the open one.
+/// The locals of the functions below the open one.
 #[derive(Drop)]
 pub struct Frames<'a> {
     all: Vec<Locals<'a>>,
@@ -132,7 +132,7 @@ impl<'a> Model for Frames<'a> {
 }
 
 impl<'a> Frames<'a> {
-    /// No function waits. It takes no memory.
+    /// No waiting function. It takes no memory.
     pub fn new(alloc: Global) -> Self
         ensures { result ≡ [] }
     {
@@ -141,14 +141,14 @@ impl<'a> Frames<'a> {
         }
     }
 
-    /// How many functions wait.
+    /// The number of waiting functions.
     pub fn count(&self) -> usize
         ensures { result ≡ length self.now }
     {
         self.all.len()
     }
 
-    /// Puts a function's locals on top.
+    /// Pushes a function's locals.
     #[tactic(auto, using(crate::proofs::Tops::tops))]
     pub fn push(&mut self, locals: Locals<'a>) -> Result<(), AllocError>
         ensures { OnOk result (self.new ≡ locals.entry ∷ self.old) }
@@ -157,7 +157,7 @@ impl<'a> Frames<'a> {
         Ok(())
     }
 
-    /// Takes the locals on top.
+    /// Pops a function's locals.
     #[tactic(auto, using(crate::proofs::Tops::tops))]
     pub fn pop(&mut self) -> Option<Locals<'a>>
         ensures { Popped result self.new self.old }

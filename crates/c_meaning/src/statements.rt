@@ -1,9 +1,9 @@
-//! Statements.
+//! Executing statements.
 
 ghost use Rattle.std.specs.Prelude.{◌≡◌, pos, OnOk, IfOk, option_map};
 ghost use Rattle.std.specs.Option.{option_map_or};
 ghost use Rattle.c_parser.specs.ExprTree.{expr_of};
-ghost use Rattle.c_parser.specs.StmtTree.{stmt_of, statements_in, simple_of, first_of, declaration_of};
+ghost use Rattle.c_parser.specs.StmtTree.{stmt_of, statements_in, simple_of, tree_of_first, declaration_of};
 ghost use Rattle.c_types.specs.Tables.{Tables};
 ghost use Rattle.c_types.specs.Views.{tables_in};
 ghost use Rattle.c_meaning.specs.declared.work.ExprTask.TheVariants as expr_task;
@@ -12,9 +12,9 @@ ghost use Rattle.c_meaning.specs.declared.work.Work.TheVariants as work;
 ghost use Rattle.c_meaning.specs.declared.work.WordTask.TheVariants as word_task;
 ghost use Rattle.c_meaning.specs.Meaning as meaning;
 ghost use Rattle.c_meaning.specs.Meaning.{value_of};
-ghost use Rattle.c_meaning.specs.Todo as todo;
-ghost use Rattle.c_meaning.specs.Resume.{calls, planned, begun, resumed, resumed_at, with_value, with_end, scoped, condition_in, body_end, right_of, Does, Leads};
-ghost use Rattle.c_meaning.specs.Answers.{Quiet};
+ghost use Rattle.c_meaning.specs.inside.Todo as todo;
+ghost use Rattle.c_meaning.specs.inside.Resume.{calls, planned, todo_begun, resumed, resumed_at, resumed_with, with_end, scoped, condition_in, body_end, right_of, StepLeads, LeadsToOutcome};
+ghost use Rattle.c_meaning.specs.inside.Answers.{Quiet};
 
 use crate::fault::Fault;
 use crate::locals::Locals;
@@ -29,7 +29,8 @@ use std::mem;
 
 /// The local that a target is, if it is one.
 fn local_of(target: &Expr) -> Option<&Name>
-    ensures { option_map (λ name. name.now.text) result ≡ meaning.local_of (expr_of target.now) }
+    ensures { option_map (λ name. name.now.text) result ≡ meaning.target_local
+        (expr_of target.now) }
 {
     match target {
         Expr::Variable(name) => Some(name),
@@ -41,7 +42,12 @@ impl<'a> Run<'a> {
     /// Begins a statement, and says how it ended, if it did.
     pub fn exec(&mut self, program: &Program<'a>, stmt: &'a Stmt) -> Result<Flow, Fault>
         ensures quiet { Quiet result }
-        ensures does { Leads result (with_end (tables_in program.now) self.old (meaning.end_of (tables_in program.now) (calls (tables_in program.now) self.old.below) (stmt_of stmt.now) self.old.top self.old.pool self.old.ticks)) (λ how. resumed_at (tables_in program.now) how self.new) }
+        ensures does { LeadsToOutcome result
+            (with_end (tables_in program.now) self.old
+            (meaning.end_of_stmt (tables_in program.now)
+            (calls (tables_in program.now) self.old.below) (stmt_of stmt.now) self.old.top
+            self.old.pool self.old.ticks))
+            (λ how. resumed_at (tables_in program.now) how self.new) }
     {
         match stmt {
             Stmt::Empty => Ok(Flow::Next),
@@ -76,7 +82,7 @@ impl<'a> Run<'a> {
         }
     }
 
-    /// The end of a scope that begins here.
+    /// Plans the end of a scope that begins here.
     fn plan_close(&mut self) -> Result<(), AllocError>
         ensures { OnOk result (self.new ≡ scoped self.old) }
     {
@@ -91,9 +97,13 @@ impl<'a> Run<'a> {
         self.plan(Work::Rest(all))
     }
 
-    /// A `for` is a scope round its parts.
+    /// Plans a `for`, which is a scope around its parts.
     fn plan_for(&mut self, stmt: &'a Stmt, first: &'a Option<First>) -> Result<(), AllocError>
-        ensures { (t : Tables) → OnOk result (resumed t self.new ≡ with_end t (planned (work.Stmt task.Turn stmt.entry) (scoped self.old)) (meaning.first_end t (calls t self.old.below) (option_map first_of first.now) self.old.top self.old.pool self.old.ticks)) }
+        ensures { (t : Tables) → OnOk result
+            (resumed t self.new ≡ with_end t
+            (planned (work.Stmt task.Turn stmt.entry) (scoped self.old))
+            (meaning.end_of_first t (calls t self.old.below) (option_map tree_of_first first.now)
+            self.old.top self.old.pool self.old.ticks)) }
     {
         self.plan_close()?;
         self.plan_stmt(StmtTask::Turn, stmt)?;
@@ -101,7 +111,10 @@ impl<'a> Run<'a> {
     }
 
     fn plan_return(&mut self, value: &'a Option<Expr>) -> Result<Flow, AllocError>
-        ensures { (t : Tables) → IfOk result (λ how. resumed_at t how self.new ≡ with_end t self.old (meaning.return_end t (calls t self.old.below) (option_map expr_of value.now) self.old.top self.old.pool self.old.ticks)) }
+        ensures { (t : Tables) → IfOk result
+            (λ how. resumed_at t how self.new ≡ with_end t self.old
+            (meaning.return_end t (calls t self.old.below) (option_map expr_of value.now)
+            self.old.top self.old.pool self.old.ticks)) }
     {
         match value {
             None => Ok(Flow::Return(0)),
@@ -114,7 +127,10 @@ impl<'a> Run<'a> {
     }
 
     fn plan_first(&mut self, first: &'a Option<First>) -> Result<(), AllocError>
-        ensures { (t : Tables) → OnOk result (resumed t self.new ≡ with_end t self.old (meaning.first_end t (calls t self.old.below) (option_map first_of first.now) self.old.top self.old.pool self.old.ticks)) }
+        ensures { (t : Tables) → OnOk result
+            (resumed t self.new ≡ with_end t self.old
+            (meaning.end_of_first t (calls t self.old.below) (option_map tree_of_first first.now)
+            self.old.top self.old.pool self.old.ticks)) }
     {
         match first {
             None => Ok(()),
@@ -125,9 +141,12 @@ impl<'a> Run<'a> {
         }
     }
 
-    /// A local without an initial value begins at 0.
+    /// Plans a declaration. A local without an initial value becomes 0.
     fn plan_declaration(&mut self, declaration: &'a Declaration) -> Result<(), AllocError>
-        ensures { (t : Tables) → OnOk result (resumed t self.new ≡ with_end t self.old (meaning.declaration_end t (calls t self.old.below) (declaration_of declaration.now) self.old.top self.old.pool self.old.ticks)) }
+        ensures { (t : Tables) → OnOk result
+            (resumed t self.new ≡ with_end t self.old
+            (meaning.declaration_end t (calls t self.old.below) (declaration_of declaration.now)
+            self.old.top self.old.pool self.old.ticks)) }
     {
         self.plan(Work::Declare(declaration))?;
         match &declaration.initial {
@@ -142,7 +161,9 @@ impl<'a> Run<'a> {
         program: &Program<'a>,
         declaration: &'a Declaration,
     ) -> Result<(), AllocError>
-        ensures { OnOk result (resumed (tables_in program.now) self.new ≡ begun (tables_in program.now) (todo.Declare (declaration_of declaration.now)) self.old) }
+        ensures { OnOk result (resumed (tables_in program.now) self.new
+            ≡ todo_begun (tables_in program.now) (todo.Declare (declaration_of declaration.now))
+            self.old) }
     {
         let value = self.take();
         let declared = program.declared_type(&declaration.ty);
@@ -154,7 +175,8 @@ impl<'a> Run<'a> {
     }
 
     pub fn rest(&mut self, all: &'a [Stmt]) -> Result<(), AllocError>
-        ensures { (t : Tables) → OnOk result (resumed t self.new ≡ begun t (todo.Rest (statements_in all.now)) self.old) }
+        ensures { (t : Tables) → OnOk result
+            (resumed t self.new ≡ todo_begun t (todo.Rest (statements_in all.now)) self.old) }
     {
         match all.split_first() {
             None => Ok(()),
@@ -166,7 +188,9 @@ impl<'a> Run<'a> {
     }
 
     pub fn choose(&mut self, stmt: &'a Stmt) -> Result<(), AllocError>
-        ensures { (t : Tables) → OnOk result (resumed t self.new ≡ begun t (todo.Stmt task.Choose (stmt_of stmt.now)) self.old) }
+        ensures { (t : Tables) → OnOk result
+            (resumed t self.new ≡ todo_begun t (todo.Stmt task.Choose (stmt_of stmt.now))
+            self.old) }
     {
         let condition = self.take();
         match stmt {
@@ -183,19 +207,21 @@ impl<'a> Run<'a> {
         }
     }
 
-    /// A body, whose locals are forgotten behind it.
+    /// Plans a body, after which its locals are forgotten.
     fn inside(&mut self, body: &'a Stmt) -> Result<(), AllocError>
-        ensures { OnOk result (self.new ≡ planned (work.Stmt task.Exec body.entry) (scoped self.old)) }
+        ensures { OnOk result (self.new ≡ planned (work.Stmt task.Exec body.entry)
+            (scoped self.old)) }
     {
         self.plan_close()?;
         self.plan_stmt(StmtTask::Exec, body)
     }
 
-    /// A turn takes a tick before its condition.
+    /// Plans a turn, which takes a tick before its condition.
     #[tactic(auto, using(crate::proofs::Resume::traps))]
     pub fn turn(&mut self, stmt: &'a Stmt) -> Result<(), Fault>
         ensures quiet { Quiet result }
-        ensures does { (t : Tables) → Does t (todo.Stmt task.Turn (stmt_of stmt.now)) self.old result self.new }
+        ensures does { (t : Tables) → StepLeads t (todo.Stmt task.Turn (stmt_of stmt.now)) self.old
+            result self.new }
     {
         self.tick()?;
         self.plan_stmt(StmtTask::Test, stmt)?;
@@ -203,9 +229,12 @@ impl<'a> Run<'a> {
         Ok(())
     }
 
-    /// The condition of a loop; an absent one holds.
+    /// Plans the condition of a loop; an absent one holds.
     fn plan_condition(&mut self, stmt: &'a Stmt) -> Result<(), AllocError>
-        ensures { (t : Tables) → OnOk result (resumed t self.new ≡ with_value t self.old (meaning.condition_of t (calls t self.old.below) (condition_in (stmt_of stmt.now)) self.old.top self.old.pool self.old.ticks)) }
+        ensures { (t : Tables) → OnOk result
+            (resumed t self.new ≡ resumed_with t self.old
+            (meaning.condition_of t (calls t self.old.below) (condition_in (stmt_of stmt.now))
+            self.old.top self.old.pool self.old.ticks)) }
     {
         match stmt {
             Stmt::While { condition, .. } => self.plan_expr(ExprTask::Eval, condition),
@@ -218,7 +247,8 @@ impl<'a> Run<'a> {
     }
 
     pub fn test(&mut self, stmt: &'a Stmt) -> Result<(), AllocError>
-        ensures { (t : Tables) → OnOk result (resumed t self.new ≡ begun t (todo.Stmt task.Test (stmt_of stmt.now)) self.old) }
+        ensures { (t : Tables) → OnOk result
+            (resumed t self.new ≡ todo_begun t (todo.Stmt task.Test (stmt_of stmt.now)) self.old) }
     {
         if self.take() == 0 {
             return Ok(());
@@ -227,9 +257,12 @@ impl<'a> Run<'a> {
         self.plan_body(stmt)
     }
 
-    /// The body of a loop.
+    /// Plans the body of a loop.
     fn plan_body(&mut self, stmt: &'a Stmt) -> Result<(), AllocError>
-        ensures { (t : Tables) → OnOk result (resumed t self.new ≡ with_end t self.old (body_end t (calls t self.old.below) (stmt_of stmt.now) self.old.top self.old.pool self.old.ticks)) }
+        ensures { (t : Tables) → OnOk result
+            (resumed t self.new ≡ with_end t self.old
+            (body_end t (calls t self.old.below) (stmt_of stmt.now) self.old.top self.old.pool
+            self.old.ticks)) }
     {
         match stmt {
             Stmt::While { body, .. } => self.inside(body),
@@ -238,9 +271,10 @@ impl<'a> Run<'a> {
         }
     }
 
-    /// The third part of a `for` stands between two turns.
+    /// Plans the third part of a `for`, which comes between two turns.
     pub fn again(&mut self, stmt: &'a Stmt) -> Result<(), AllocError>
-        ensures { (t : Tables) → OnOk result (resumed t self.new ≡ begun t (todo.Stmt task.Again (stmt_of stmt.now)) self.old) }
+        ensures { (t : Tables) → OnOk result
+            (resumed t self.new ≡ todo_begun t (todo.Stmt task.Again (stmt_of stmt.now)) self.old) }
     {
         self.plan_stmt(StmtTask::Turn, stmt)?;
         match stmt {
@@ -256,7 +290,8 @@ impl<'a> Run<'a> {
     #[tactic(auto, using(crate::proofs::Resume::traps))]
     pub fn simple(&mut self, program: &Program<'a>, simple: &'a Simple) -> Result<(), Fault>
         ensures quiet { Quiet result }
-        ensures does { Does (tables_in program.now) (todo.Simple (simple_of simple.now)) self.old result self.new }
+        ensures does { StepLeads (tables_in program.now) (todo.Simple (simple_of simple.now))
+            self.old result self.new }
     {
         match simple {
             Simple::Assign {
@@ -292,7 +327,10 @@ impl<'a> Run<'a> {
         op: AssignOp,
         value: &'a Expr,
     ) -> Result<(), AllocError>
-        ensures { (t : Tables) → OnOk result (resumed t self.new ≡ with_end t self.old (meaning.assigns t (calls t self.old.below) op (expr_of target.now) (expr_of value.now) self.old.top self.old.pool self.old.ticks)) }
+        ensures { (t : Tables) → OnOk result
+            (resumed t self.new ≡ with_end t self.old
+            (meaning.assign_end t (calls t self.old.below) op (expr_of target.now)
+            (expr_of value.now) self.old.top self.old.pool self.old.ticks)) }
     {
         match op {
             AssignOp::Set => self.plan_set(target, value),
@@ -302,7 +340,10 @@ impl<'a> Run<'a> {
     }
 
     fn plan_step(&mut self, target: &'a Expr, op: StepOp) -> Result<(), AllocError>
-        ensures { (t : Tables) → OnOk result (resumed t self.new ≡ with_end t self.old (meaning.steps t (calls t self.old.below) op (expr_of target.now) self.old.top self.old.pool self.old.ticks)) }
+        ensures { (t : Tables) → OnOk result
+            (resumed t self.new ≡ with_end t self.old
+            (meaning.steps t (calls t self.old.below) op (expr_of target.now) self.old.top
+            self.old.pool self.old.ticks)) }
     {
         match op {
             StepOp::Up => self.plan_update(target, BinaryOp::Add, None),
@@ -310,9 +351,14 @@ impl<'a> Run<'a> {
         }
     }
 
-    /// The target's base and index, the right side, and then the store with its checks.
+    /// Plans the target's base and index, the right side, and then the store with its checks.
     fn plan_set(&mut self, target: &'a Expr, value: &'a Expr) -> Result<(), AllocError>
-        ensures { (t : Tables) → OnOk result (resumed t self.new ≡ with_end t self.old (meaning.assign_to t (calls t self.old.below) (meaning.local_of (expr_of target.now)) (expr_of target.now) (λ p k. value_of t (calls t self.old.below) (expr_of value.now) self.old.top p k) self.old.top self.old.pool self.old.ticks)) }
+        ensures { (t : Tables) → OnOk result
+            (resumed t self.new ≡ with_end t self.old
+            (meaning.assign_to t (calls t self.old.below)
+            (meaning.target_local (expr_of target.now)) (expr_of target.now)
+            (λ p k. value_of t (calls t self.old.below) (expr_of value.now) self.old.top p k)
+            self.old.top self.old.pool self.old.ticks)) }
     {
         match local_of(target) {
             Some(name) => {
@@ -327,15 +373,20 @@ impl<'a> Run<'a> {
         }
     }
 
-    /// Base and index once; the word that stands there; the right side; and then the store, with the
-    /// checks again.
+    /// Plans base and index, once; the load of the word there; the right side; and then the store,
+    /// with the checks again.
     fn plan_update(
         &mut self,
         target: &'a Expr,
         op: BinaryOp,
         right: Option<&'a Expr>,
     ) -> Result<(), AllocError>
-        ensures { (t : Tables) → OnOk result (resumed t self.new ≡ with_end t self.old (meaning.update t (calls t self.old.below) (meaning.local_of (expr_of target.now)) (expr_of target.now) op (λ p k. right_of t (calls t self.old.below) (option_map (λ e. expr_of e.now) right.entry) self.old.top p k) self.old.top self.old.pool self.old.ticks)) }
+        ensures { (t : Tables) → OnOk result
+            (resumed t self.new ≡ with_end t self.old
+            (meaning.update t (calls t self.old.below) (meaning.target_local (expr_of target.now))
+            (expr_of target.now) op (λ p k.
+            right_of t (calls t self.old.below) (option_map (λ e. expr_of e.now) right.entry)
+            self.old.top p k) self.old.top self.old.pool self.old.ticks)) }
     {
         match local_of(target) {
             Some(name) => {
@@ -352,9 +403,12 @@ impl<'a> Run<'a> {
         }
     }
 
-    /// The right side of an operator, which is 1 where none is written.
+    /// Plans the right side of an operator, which is 1 if none is written.
     fn plan_right(&mut self, op: BinaryOp, right: Option<&'a Expr>) -> Result<(), AllocError>
-        ensures { OnOk result (self.new ≡ planned (option_map_or (λ e. work.Expr expr_task.Eval e) right.entry (work.Word (word_task.Put (pos 1)))) (planned (work.Word (word_task.Binary op)) self.old)) }
+        ensures { OnOk result (self.new
+            ≡ planned (option_map_or (λ e. work.Expr expr_task.Eval e) right.entry
+            (work.Word (word_task.Put (pos 1))))
+            (planned (work.Word (word_task.Binary op)) self.old)) }
     {
         self.plan(Work::Word(WordTask::Binary(op)))?;
         match right {

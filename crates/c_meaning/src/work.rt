@@ -1,83 +1,83 @@
-//! What an interpreter still has to do. Its frames stand in memory that it asks for, since a program
-//! may have 256 functions open, each in the midst of a deep expression.
+//! The work list of the interpreter. Its frames are in allocated memory, since a program may have
+//! 256 functions open, each in the middle of a deep expression.
 
 use c_parser::expr::{Argument, BinaryOp, Expr, Name, UnaryOp};
 use c_parser::item::Function;
 use c_parser::stmt::{Declaration, Simple, Stmt};
 
-/// What is to be done with an expression.
+/// A task on an expression.
 #[derive(Clone, Copy)]
 pub enum ExprTask {
-    /// Gives its value.
+    /// Pushes its value.
     Eval,
-    /// Takes the left side of `&&`, whose right side it is.
+    /// Pops the left side of `&&`; this is its right side.
     Both,
-    /// Takes the left side of `||`, whose right side it is.
+    /// Pops the left side of `||`; this is its right side.
     Either,
-    /// Takes what its target needs, makes the checks and gives the word that stands there.
+    /// Pops the target's operands, makes the checks and pushes the word there.
     Load,
-    /// Does as `Load` does, and leaves what it took where it was.
+    /// Does as `Load` does, but leaves the operands on the stack.
     Fetch,
-    /// Takes a word, and then what its target needs; makes the checks and stores the word.
+    /// Pops a word and then the target's operands; makes the checks and stores the word.
     Store,
-    /// Takes the pointer that it gave, and frees the object.
+    /// Pops the pointer that it gave, and frees the object.
     Free,
 }
 
-/// What is to be done with a statement.
+/// A task on a statement.
 #[derive(Clone, Copy)]
 pub enum StmtTask {
-    /// Does it.
+    /// Executes it.
     Exec,
-    /// Takes the condition of an `if`.
+    /// Pops the condition of an `if`, and chooses.
     Choose,
     /// Begins a turn of a loop.
     Turn,
-    /// Takes the condition of a turn.
+    /// Pops the condition of a turn.
     Test,
-    /// Stands behind the body of a turn.
+    /// Comes after the body of a turn.
     Again,
 }
 
-/// What is to be done with the words that wait.
+/// A task on the waiting words.
 #[derive(Clone, Copy)]
 pub enum WordTask {
-    /// Gives this word.
+    /// Pushes this word.
     Put(i64),
-    /// Takes a word and forgets it.
+    /// Pops a word and forgets it.
     Forget,
-    /// Takes an operand and gives what the operator makes of it.
+    /// Pops an operand and pushes the operator's result.
     Unary(UnaryOp),
-    /// Takes the right operand and the left one, and gives what the operator makes of them.
+    /// Pops the right operand and the left one, and pushes the operator's result.
     Binary(BinaryOp),
-    /// Takes a word and gives 1, or 0 where it is 0.
+    /// Pops a word and pushes 0 if it is 0, else 1.
     Truth,
 }
 
-/// One thing to be done. Values wait on a stack of their own; 'takes' says what comes off it, and
-/// 'gives' what is put there.
+/// One item of the work list. Values wait on a stack of their own; 'pops' and 'pushes' mean that
+/// stack.
 #[derive(Clone, Copy)]
 pub enum Work<'a> {
     Expr(ExprTask, &'a Expr),
     Stmt(StmtTask, &'a Stmt),
-    /// Gives the values of arguments, in their order.
+    /// Pushes the values of arguments, in their order.
     Arguments(&'a [Argument]),
-    /// The statements of a block that are left.
+    /// The remaining statements of a block.
     Rest(&'a [Stmt]),
     /// A simple statement.
     Simple(&'a Simple),
-    /// Takes the first word of a new local.
+    /// Pops the first word of a new local.
     Declare(&'a Declaration),
-    /// Takes a word and gives it to a local.
+    /// Pops a word and assigns it to a local.
     Assign(&'a Name),
-    /// Takes the arguments, so many, and opens the function.
+    /// Pops so many arguments, and opens the function.
     Call(&'a Function, usize),
-    /// Ends the open function, and gives its value.
+    /// Ends the open function, and pushes its value.
     Leave,
-    /// Forgets the locals of a scope; this many are left.
+    /// Forgets the locals of a scope, so that so many are left.
     Close(usize),
     Word(WordTask),
-    /// Takes the value of a `return`.
+    /// Pops the value of a `return`.
     Give,
 }
 

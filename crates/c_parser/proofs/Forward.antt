@@ -1,4 +1,4 @@
--- What is spelled is run through, where nothing is too deep.
+-- An expression that is spelled is run through, if nothing is too deep.
 use Rattle.std.proofs.Common.{ℕ, suc, ◌+◌, ◌≡◌, List, [], ◌∷◌, Some, None, Bool, true, false, nat_eq, if◌then◌else◌, refl, sym, ap, ◌∙◌, subst}
 use Rattle.c_lexer.specs.declared.token.Placed.{Placed}
 use Rattle.c_parser.specs.declared.expr.BinaryOp.{BinaryOp}
@@ -12,17 +12,17 @@ use Rattle.c_parser.specs.Kinds.{kind_at}
 use Rattle.c_parser.specs.Operators.{op_at, sign_of, level_of}
 use Rattle.c_parser.specs.ExprTree.{ExprTree}
 use Rattle.c_parser.specs.ExprTree as trees
-use Rattle.c_parser.specs.Spelling.{Level, level_zero, level_suc, Chain, chain_end, chain_more, Unary, signed, unsigned, Postfix, postfix, Parts, parts_end, field, element, Primary, number, null, variable, call, root, new, brackets, Arguments, no_arguments, arguments, MoreArguments as MoreOf, no_more, more}
-use Rattle.c_parser.specs.Wants.{Take, act, step, operand}
-use Rattle.c_parser.specs.Run.{run}
+use Rattle.c_parser.specs.Spelling.{Level, level_zero, level_suc, Chain, chain_end, chain_more, Unary, signed, unsigned, Postfix, postfix, Parts, parts_end, field, element, Primary, number, null, variable, call, root, new, brackets, SpellsArguments, no_arguments, arguments, MoreArguments as MoreOf, no_more, more}
+use Rattle.c_parser.specs.Wants.{Take, apply_move, parser_step, operand}
+use Rattle.c_parser.specs.inside.Run.{parse_run}
 use Rattle.c_parser.proofs.Steps.{IsToken, goes_on, alike}
 
--- behind an operand
-pub data Behind : Want → Type 0 where
-  behind_rest : (n : ℕ) → Behind (Rest n)
-  behind_name : (n : ℕ) → Behind (Named n)
+-- the wants after an operand
+pub data AfterWant : Want → Type 0 where
+  after_rest : (n : ℕ) → AfterWant (Rest n)
+  after_name : (n : ℕ) → AfterWant (Named n)
 
--- what ends an expression
+-- the tokens that end an expression
 abbrev pub IsEnder : Kind → Type 0
 IsEnder kind.CloseRound = Unit {0}
 IsEnder kind.CloseSquare = Unit {0}
@@ -30,28 +30,32 @@ IsEnder kind.Comma = Unit {0}
 IsEnder kind.Semicolon = Unit {0}
 IsEnder _ = ⊥
 
-behind_yields : {x : Want} → Behind x → (k : Kind) → IsEnder k → (below : List Want) → step (x ∷ below) k ≡ step below k
-behind_yields (behind_rest n) kind.CloseRound h below = refl
-behind_yields (behind_rest n) kind.CloseSquare h below = refl
-behind_yields (behind_rest n) kind.Comma h below = refl
-behind_yields (behind_rest n) kind.Semicolon h below = refl
-behind_yields (behind_name n) kind.CloseRound h below = refl
-behind_yields (behind_name n) kind.CloseSquare h below = refl
-behind_yields (behind_name n) kind.Comma h below = refl
-behind_yields (behind_name n) kind.Semicolon h below = refl
-behind_yields _ _ h below = absurd h
+after_yields : {x : Want} → AfterWant x → (k : Kind) → IsEnder k → (below : List Want)
+    → parser_step (x ∷ below) k ≡ parser_step below k
+after_yields (after_rest n) kind.CloseRound h below = refl
+after_yields (after_rest n) kind.CloseSquare h below = refl
+after_yields (after_rest n) kind.Comma h below = refl
+after_yields (after_rest n) kind.Semicolon h below = refl
+after_yields (after_name n) kind.CloseRound h below = refl
+after_yields (after_name n) kind.CloseSquare h below = refl
+after_yields (after_name n) kind.Comma h below = refl
+after_yields (after_name n) kind.Semicolon h below = refl
+after_yields _ _ h below = absurd h
 
-operator_behind : {x : Want} → Behind x → (o : BinaryOp) (k : List Want) → (n : ℕ) × (step (x ∷ k) (kind.Operator o) ≡ Some (Operand n ∷ k))
-operator_behind (behind_rest n) o k = (n + 1, refl)
-operator_behind (behind_name n) o k = (n + 1, refl)
+operator_after : {x : Want} → AfterWant x → (o : BinaryOp) (k : List Want)
+    → (n : ℕ) × (parser_step (x ∷ k) (kind.Operator o) ≡ Some (Operand n ∷ k))
+operator_after (after_rest n) o k = (n + 1, refl)
+operator_after (after_name n) o k = (n + 1, refl)
 
-field_behind : {x : Want} → Behind x → (k : List Want) → (n : ℕ) × (step (x ∷ k) kind.Arrow ≡ Some (Ident ∷ Rest n ∷ k))
-field_behind (behind_rest n) k = (n + 1, refl)
-field_behind (behind_name n) k = (n + 1, refl)
+field_after : {x : Want} → AfterWant x → (k : List Want)
+    → (n : ℕ) × (parser_step (x ∷ k) kind.Arrow ≡ Some (Ident ∷ Rest n ∷ k))
+field_after (after_rest n) k = (n + 1, refl)
+field_after (after_name n) k = (n + 1, refl)
 
-element_behind : {x : Want} → Behind x → (k : List Want) → (n : ℕ) × (step (x ∷ k) kind.OpenSquare ≡ Some (Operand 0 ∷ Square ∷ Rest n ∷ k))
-element_behind (behind_rest n) k = (n + 1, refl)
-element_behind (behind_name n) k = (n + 1, refl)
+element_after : {x : Want} → AfterWant x → (k : List Want)
+    → (n : ℕ) × (parser_step (x ∷ k) kind.OpenSquare ≡ Some (Operand 0 ∷ Square ∷ Rest n ∷ k))
+element_after (after_rest n) k = (n + 1, refl)
+element_after (after_name n) k = (n + 1, refl)
 
 if_same : (b : Bool) (p o : BinaryOp) → (if b then Some p else None) ≡ Some o → p ≡ o
 if_same true p o h = cc
@@ -61,7 +65,8 @@ pub is_operator : (l : ℕ) (k : Kind) (o : BinaryOp) → op_at l k ≡ Some o �
 is_operator l (kind.Operator p) o h = ap kind.Operator (if_same (nat_eq (level_of p) l) p o h)
 is_operator l _ o h = cc
 
-pub sign_steps : (n : ℕ) (k : Kind) (o : UnaryOp) → sign_of k ≡ Some o → operand n k ≡ Take (Operand (n + 1) ∷ [])
+pub sign_steps : (n : ℕ) (k : Kind) (o : UnaryOp) → sign_of k ≡ Some o
+    → operand n k ≡ Take (Operand (n + 1) ∷ [])
 sign_steps n (kind.Operator op.Sub) o h = refl
 sign_steps n kind.Not o h = refl
 sign_steps n kind.Tilde o h = refl
@@ -74,7 +79,8 @@ sign_token kind.Tilde o h = tt
 sign_token _ o h = cc
 
 abbrev pub Reaches : List Placed → ℕ → List Want → ℕ → List Want → Type 0
-Reaches ts i s j k = (x : Want) × Behind x × (run None ts i s ≡ run None ts j (x ∷ k))
+Reaches ts i s j k = (x : Want) × AfterWant x
+    × (parse_run None ts i s ≡ parse_run None ts j (x ∷ k))
 
 -- a token that begins an operand
 abbrev pub Begins : Kind → Type 0
@@ -95,7 +101,8 @@ sign_begins kind.Not o h = tt
 sign_begins kind.Tilde o h = tt
 sign_begins _ o h = cc
 
-pub primary_begins : {ts : List Placed} {i j : ℕ} {e : ExprTree} → Primary ts i j e → Begins (kind_at ts i)
+pub primary_begins : {ts : List Placed} {i j : ℕ} {e : ExprTree} → Primary ts i j e
+    → Begins (kind_at ts i)
 primary_begins (number is) = subst Begins (sym is) tt
 primary_begins (null is) = subst Begins (sym is) tt
 primary_begins (variable is) = subst Begins (sym is) tt
@@ -104,18 +111,22 @@ primary_begins (root is d n) = subst Begins (sym is) tt
 primary_begins (new is o s n c) = subst Begins (sym is) tt
 primary_begins (brackets is e c) = subst Begins (sym is) tt
 
-pub postfix_begins : {ts : List Placed} {i j : ℕ} {e : ExprTree} → Postfix ts i j e → Begins (kind_at ts i)
+pub postfix_begins : {ts : List Placed} {i j : ℕ} {e : ExprTree} → Postfix ts i j e
+    → Begins (kind_at ts i)
 postfix_begins (postfix p parts) = primary_begins p
 
-pub unary_begins : {ts : List Placed} {i j : ℕ} {e : ExprTree} → Unary ts i j e → Begins (kind_at ts i)
+pub unary_begins : {ts : List Placed} {i j : ℕ} {e : ExprTree} → Unary ts i j e
+    → Begins (kind_at ts i)
 unary_begins {ts} {i} (signed o is u) = sign_begins (kind_at ts i) o is
 unary_begins (unsigned p) = postfix_begins p
 
-pub level_begins : {ts : List Placed} {l i j : ℕ} {e : ExprTree} → Level ts l i j e → Begins (kind_at ts i)
+pub level_begins : {ts : List Placed} {l i j : ℕ} {e : ExprTree} → Level ts l i j e
+    → Begins (kind_at ts i)
 level_begins (level_zero u) = unary_begins u
 level_begins (level_suc a c) = level_begins a
 
-first_enters : (k : List Want) (t : Kind) → Begins t → step (FirstArgument ∷ k) t ≡ step (Operand 0 ∷ MoreArguments ∷ k) t
+first_enters : (k : List Want) (t : Kind) → Begins t → parser_step (FirstArgument ∷ k) t
+    ≡ parser_step (Operand 0 ∷ MoreArguments ∷ k) t
 first_enters k kind.Number h = refl
 first_enters k kind.Null h = refl
 first_enters k kind.Name h = refl
@@ -127,7 +138,8 @@ first_enters k kind.Not h = refl
 first_enters k kind.Tilde h = refl
 first_enters k _ h = absurd h
 
-pub value_enters : (k : List Want) (t : Kind) → Begins t → step (Value ∷ k) t ≡ step (Operand 0 ∷ k) t
+pub value_enters : (k : List Want) (t : Kind) → Begins t
+    → parser_step (Value ∷ k) t ≡ parser_step (Operand 0 ∷ k) t
 value_enters k kind.Number h = refl
 value_enters k kind.Null h = refl
 value_enters k kind.Name h = refl
@@ -139,14 +151,17 @@ value_enters k kind.Not h = refl
 value_enters k kind.Tilde h = refl
 value_enters k _ h = absurd h
 
--- an expression is over where its ender stands
-pub over : (ts : List Placed) (j : ℕ) (t : Kind) → kind_at ts j ≡ t → IsEnder t → {x : Want} → Behind x → (k : List Want) → run None ts j (x ∷ k) ≡ run None ts j k
-over ts j t is ender {x} b k = alike ts j None (x ∷ k) k (behind_yields b (kind_at ts j) (subst IsEnder (sym is) ender) k)
+-- an expression ends before such a token
+pub over : (ts : List Placed) (j : ℕ) (t : Kind) → kind_at ts j ≡ t → IsEnder t → {x : Want}
+    → AfterWant x → (k : List Want) → parse_run None ts j (x ∷ k) ≡ parse_run None ts j k
+over ts j t is ender {x} b k =
+    alike ts j None (x ∷ k) k (after_yields b (kind_at ts j) (subst IsEnder (sym is) ender) k)
 
 -- `( struct NAME )`
-pub new_run : (ts : List Placed) (i : ℕ) (k : List Want) → kind_at ts i ≡ kind.OpenRound → kind_at ts (i + 1) ≡ kind.Struct
+pub new_run : (ts : List Placed) (i : ℕ) (k : List Want) → kind_at ts i ≡ kind.OpenRound
+    → kind_at ts (i + 1) ≡ kind.Struct
     → kind_at ts (i + 1 + 1) ≡ kind.Name → kind_at ts (i + 1 + 1 + 1) ≡ kind.CloseRound
-    → run None ts i (NewOpen ∷ k) ≡ run None ts (i + 1 + 1 + 1 + 1) k
+    → parse_run None ts i (NewOpen ∷ k) ≡ parse_run None ts (i + 1 + 1 + 1 + 1) k
 new_run ts i k opens s name close =
     goes_on ts i (NewOpen ∷ k) (StructWord ∷ Ident ∷ Round ∷ k) kind.OpenRound opens tt refl
     ∙ goes_on ts (i + 1) (StructWord ∷ Ident ∷ Round ∷ k) (Ident ∷ Round ∷ k) kind.Struct s tt refl
@@ -154,99 +169,130 @@ new_run ts i k opens s name close =
     ∙ goes_on ts (i + 1 + 1 + 1) (Round ∷ k) k kind.CloseRound close tt refl
 
 mutual
-  pub level_runs : {ts : List Placed} {l i j : ℕ} {e : ExprTree} → Level ts l i j e → (n : ℕ) (k : List Want) → Reaches ts i (Operand n ∷ k) j k
+  pub level_runs : {ts : List Placed} {l i j : ℕ} {e : ExprTree} → Level ts l i j e
+      → (n : ℕ) (k : List Want) → Reaches ts i (Operand n ∷ k) j k
   level_runs (level_zero u) n k = unary_runs u n k
   level_runs (level_suc a c) n k =
       let r = level_runs a n k in let s = chain_runs c r.0 r.1 k in (s.0, s.1, r.2 ∙ s.2)
 
-  pub chain_runs : {ts : List Placed} {l i j : ℕ} {a e : ExprTree} → Chain ts l i j a e → (x : Want) → Behind x → (k : List Want) → Reaches ts i (x ∷ k) j k
+  pub chain_runs : {ts : List Placed} {l i j : ℕ} {a e : ExprTree} → Chain ts l i j a e → (x : Want)
+      → AfterWant x → (k : List Want) → Reaches ts i (x ∷ k) j k
   chain_runs chain_end x b k = (x, b, refl)
   chain_runs {ts} {l} {i} (chain_more o is lv tail) x b k =
-      let p = operator_behind b o k in
+      let p = operator_after b o k in
       let r = level_runs lv p.0 k in
-      let s = chain_runs tail r.0 r.1 k in
-      (s.0, s.1, goes_on ts i (x ∷ k) (Operand p.0 ∷ k) (kind.Operator o) (is_operator (suc l) (kind_at ts i) o is) tt p.1 ∙ r.2 ∙ s.2)
+      let s = chain_runs tail r.0 r.1 k in (
+        s.0,
+        s.1,
+        goes_on ts i (x ∷ k) (Operand p.0 ∷ k) (kind.Operator o)
+            (is_operator (suc l) (kind_at ts i) o is) tt p.1 ∙ r.2 ∙ s.2,
+      )
 
-  pub unary_runs : {ts : List Placed} {i j : ℕ} {e : ExprTree} → Unary ts i j e → (n : ℕ) (k : List Want) → Reaches ts i (Operand n ∷ k) j k
+  pub unary_runs : {ts : List Placed} {i j : ℕ} {e : ExprTree} → Unary ts i j e
+      → (n : ℕ) (k : List Want) → Reaches ts i (Operand n ∷ k) j k
   unary_runs {ts} {i} (signed o is u) n k =
       let r = unary_runs u (n + 1) k in (
         r.0,
         r.1,
-        goes_on ts i (Operand n ∷ k) (Operand (n + 1) ∷ k) (kind_at ts i) refl (sign_token (kind_at ts i) o is)
-            (ap (λ m. act m k (step k (kind_at ts i))) (sign_steps n (kind_at ts i) o is))
+        goes_on ts i (Operand n ∷ k) (Operand (n + 1) ∷ k) (kind_at ts i) refl
+            (sign_token (kind_at ts i) o is)
+            (ap (λ m. apply_move m k (parser_step k (kind_at ts i)))
+            (sign_steps n (kind_at ts i) o is))
             ∙ r.2,
       )
   unary_runs (unsigned p) n k = postfix_runs p n k
 
-  pub postfix_runs : {ts : List Placed} {i j : ℕ} {e : ExprTree} → Postfix ts i j e → (n : ℕ) (k : List Want) → Reaches ts i (Operand n ∷ k) j k
+  pub postfix_runs : {ts : List Placed} {i j : ℕ} {e : ExprTree} → Postfix ts i j e
+      → (n : ℕ) (k : List Want) → Reaches ts i (Operand n ∷ k) j k
   postfix_runs (postfix p parts) n k =
       let r = primary_runs p n k in let s = parts_run parts r.0 r.1 k in (s.0, s.1, r.2 ∙ s.2)
 
-  pub parts_run : {ts : List Placed} {i j : ℕ} {a e : ExprTree} → Parts ts i j a e → (x : Want) → Behind x → (k : List Want) → Reaches ts i (x ∷ k) j k
+  pub parts_run : {ts : List Placed} {i j : ℕ} {a e : ExprTree} → Parts ts i j a e → (x : Want)
+      → AfterWant x → (k : List Want) → Reaches ts i (x ∷ k) j k
   parts_run parts_end x b k = (x, b, refl)
   parts_run {ts} {i} (field is name tail) x b k =
-      let f = field_behind b k in
-      let s = parts_run tail (Rest f.0) (behind_rest f.0) k in
-      (s.0, s.1, goes_on ts i (x ∷ k) _ kind.Arrow is tt f.1 ∙ goes_on ts (i + 1) (Ident ∷ Rest f.0 ∷ k) (Rest f.0 ∷ k) kind.Name name tt refl ∙ s.2)
+      let f = field_after b k in
+      let s = parts_run tail (Rest f.0) (after_rest f.0) k in (
+        s.0,
+        s.1,
+        goes_on ts i (x ∷ k) _ kind.Arrow is tt f.1
+            ∙ goes_on ts (i + 1) (Ident ∷ Rest f.0 ∷ k) (Rest f.0 ∷ k) kind.Name name tt refl ∙ s.2,
+      )
   parts_run {ts} {i} (element {m = m} is lv close tail) x b k =
-      let f = element_behind b k in
-      let s = parts_run tail (Rest f.0) (behind_rest f.0) k in
+      let f = element_after b k in
+      let s = parts_run tail (Rest f.0) (after_rest f.0) k in
       let inner = level_runs lv 0 (Square ∷ Rest f.0 ∷ k) in (
         s.0,
         s.1,
-        goes_on ts i (x ∷ k) _ kind.OpenSquare is tt f.1 ∙ inner.2 ∙ over ts m kind.CloseSquare close tt inner.1 (Square ∷ Rest f.0 ∷ k)
-            ∙ goes_on ts m (Square ∷ Rest f.0 ∷ k) (Rest f.0 ∷ k) kind.CloseSquare close tt refl ∙ s.2,
+        goes_on ts i (x ∷ k) _ kind.OpenSquare is tt f.1 ∙ inner.2
+            ∙ over ts m kind.CloseSquare close tt inner.1 (Square ∷ Rest f.0 ∷ k)
+            ∙ goes_on ts m (Square ∷ Rest f.0 ∷ k) (Rest f.0 ∷ k) kind.CloseSquare close tt refl
+            ∙ s.2,
       )
 
-  pub primary_runs : {ts : List Placed} {i j : ℕ} {e : ExprTree} → Primary ts i j e → (n : ℕ) (k : List Want) → Reaches ts i (Operand n ∷ k) j k
-  primary_runs {ts} {i} (number is) n k = (Rest n, behind_rest n, goes_on ts i (Operand n ∷ k) (Rest n ∷ k) kind.Number is tt refl)
-  primary_runs {ts} {i} (null is) n k = (Rest n, behind_rest n, goes_on ts i (Operand n ∷ k) (Rest n ∷ k) kind.Null is tt refl)
-  primary_runs {ts} {i} (variable is) n k = (Named n, behind_name n, goes_on ts i (Operand n ∷ k) (Named n ∷ k) kind.Name is tt refl)
+  pub primary_runs : {ts : List Placed} {i j : ℕ} {e : ExprTree} → Primary ts i j e
+      → (n : ℕ) (k : List Want) → Reaches ts i (Operand n ∷ k) j k
+  primary_runs {ts} {i} (number is) n k =
+      (Rest n, after_rest n, goes_on ts i (Operand n ∷ k) (Rest n ∷ k) kind.Number is tt refl)
+  primary_runs {ts} {i} (null is) n k =
+      (Rest n, after_rest n, goes_on ts i (Operand n ∷ k) (Rest n ∷ k) kind.Null is tt refl)
+  primary_runs {ts} {i} (variable is) n k =
+      (Named n, after_name n, goes_on ts i (Operand n ∷ k) (Named n ∷ k) kind.Name is tt refl)
   primary_runs {ts} {i} (call is opens all) n k = (
     Rest n,
-    behind_rest n,
+    after_rest n,
     goes_on ts i (Operand n ∷ k) (Named n ∷ k) kind.Name is tt refl
         ∙ goes_on ts (i + 1) (Named n ∷ k) (FirstArgument ∷ Rest n ∷ k) kind.OpenRound opens tt refl
         ∙ arguments_run all (Rest n ∷ k),
   )
   primary_runs {ts} {i} (root is dot name) n k = (
     Rest (n + 1),
-    behind_rest (n + 1),
+    after_rest (n + 1),
     goes_on ts i (Operand n ∷ k) (Dot n ∷ k) kind.Root is tt refl
         ∙ goes_on ts (i + 1) (Dot n ∷ k) (Ident ∷ Rest (n + 1) ∷ k) kind.Dot dot tt refl
-        ∙ goes_on ts (i + 1 + 1) (Ident ∷ Rest (n + 1) ∷ k) (Rest (n + 1) ∷ k) kind.Name name tt refl,
+        ∙ goes_on ts (i + 1 + 1) (Ident ∷ Rest (n + 1) ∷ k) (Rest (n + 1) ∷ k) kind.Name
+        name tt refl,
   )
   primary_runs {ts} {i} (new is opens s name close) n k = (
     Rest n,
-    behind_rest n,
-    goes_on ts i (Operand n ∷ k) (NewOpen ∷ Rest n ∷ k) kind.PmNew is tt refl ∙ new_run ts (i + 1) (Rest n ∷ k) opens s name close,
+    after_rest n,
+    goes_on ts i (Operand n ∷ k) (NewOpen ∷ Rest n ∷ k) kind.PmNew is tt refl
+        ∙ new_run ts (i + 1) (Rest n ∷ k) opens s name close,
   )
   primary_runs {ts} {i} (brackets {m = m} is lv close) n k =
       let inner = level_runs lv 0 (Round ∷ Rest n ∷ k) in (
         Rest n,
-        behind_rest n,
+        after_rest n,
         goes_on ts i (Operand n ∷ k) (Operand 0 ∷ Round ∷ Rest n ∷ k) kind.OpenRound is tt refl
             ∙ inner.2 ∙ over ts m kind.CloseRound close tt inner.1 (Round ∷ Rest n ∷ k)
             ∙ goes_on ts m (Round ∷ Rest n ∷ k) (Rest n ∷ k) kind.CloseRound close tt refl,
       )
 
-  pub arguments_run : {ts : List Placed} {i j : ℕ} {all : trees.Arguments} → Arguments ts i j all → (k : List Want)
-      → run None ts i (FirstArgument ∷ k) ≡ run None ts j k
-  arguments_run {ts} {i} (no_arguments is) k = goes_on ts i (FirstArgument ∷ k) k kind.CloseRound is tt refl
+  pub arguments_run : {ts : List Placed} {i j : ℕ} {all : trees.Arguments}
+      → SpellsArguments ts i j all → (k : List Want)
+      → parse_run None ts i (FirstArgument ∷ k) ≡ parse_run None ts j k
+  arguments_run {ts} {i} (no_arguments is) k =
+      goes_on ts i (FirstArgument ∷ k) k kind.CloseRound is tt refl
   arguments_run {ts} {i} (arguments {m = m} lv tail) k =
       let r = level_runs lv 0 (MoreArguments ∷ k) in
-      alike ts i None (FirstArgument ∷ k) (Operand 0 ∷ MoreArguments ∷ k) (first_enters k (kind_at ts i) (level_begins lv))
+      alike ts i None (FirstArgument ∷ k) (Operand 0 ∷ MoreArguments ∷ k)
+      (first_enters k (kind_at ts i) (level_begins lv))
       ∙ r.2 ∙ more_run tail r.1 k
 
-  pub more_run : {ts : List Placed} {i j : ℕ} {all : trees.Arguments} → MoreOf ts i j all → {x : Want} → Behind x → (k : List Want)
-      → run None ts i (x ∷ MoreArguments ∷ k) ≡ run None ts j k
+  pub more_run : {ts : List Placed} {i j : ℕ} {all : trees.Arguments} → MoreOf ts i j all
+      → {x : Want} → AfterWant x → (k : List Want)
+      → parse_run None ts i (x ∷ MoreArguments ∷ k) ≡ parse_run None ts j k
   more_run {ts} {i} (no_more is) b k =
-      over ts i kind.CloseRound is tt b (MoreArguments ∷ k) ∙ goes_on ts i (MoreArguments ∷ k) k kind.CloseRound is tt refl
+      over ts i kind.CloseRound is tt b (MoreArguments ∷ k) ∙ goes_on ts i (MoreArguments ∷ k) k
+      kind.CloseRound is tt refl
   more_run {ts} {i} (more is lv tail) b k =
       let r = level_runs lv 0 (MoreArguments ∷ k) in
       over ts i kind.Comma is tt b (MoreArguments ∷ k)
-      ∙ goes_on ts i (MoreArguments ∷ k) (Operand 0 ∷ MoreArguments ∷ k) kind.Comma is tt refl ∙ r.2 ∙ more_run tail r.1 k
+      ∙ goes_on ts i (MoreArguments ∷ k) (Operand 0 ∷ MoreArguments ∷ k) kind.Comma is tt refl ∙ r.2
+      ∙ more_run tail r.1 k
 
-pub expression_runs : {ts : List Placed} {i j : ℕ} {e : ExprTree} → Level ts 10 i j e → (t : Kind) → kind_at ts j ≡ t → IsEnder t
-    → (n : ℕ) (k : List Want) → run None ts i (Operand n ∷ k) ≡ run None ts j k
-expression_runs {ts} {j = j} lv t is ender n k = let r = level_runs lv n k in r.2 ∙ over ts j t is ender r.1 k
+pub expression_runs : {ts : List Placed} {i j : ℕ} {e : ExprTree} → Level ts 10 i j e → (t : Kind)
+    → kind_at ts j ≡ t → IsEnder t
+    → (n : ℕ) (k : List Want) → parse_run None ts i (Operand n ∷ k) ≡ parse_run None ts j k
+expression_runs {ts} {j = j} lv t is ender n k = let r = level_runs lv n k in
+    r.2 ∙ over ts j t is ender r.1 k

@@ -1,4 +1,4 @@
--- What the answers of the parser mean.
+-- The meaning of the parser's answers.
 use Rattle.std.specs.Prelude.{ℕ, ◌+◌, ◌≡◌, ◌≤◌, ◌<◌, List, [], ◌∷◌, Option, Some, None, slice_get, Result, Ok, Err}
 use Rattle.c_lexer.specs.declared.token.Placed.{Placed}
 use Rattle.c_parser.specs.declared.fault.ParseFault.{ParseFault}
@@ -9,7 +9,7 @@ use Rattle.c_parser.specs.Kinds.{token_kind}
 use Rattle.c_parser.specs.ItemTree.{ItemTree}
 use Rattle.c_parser.specs.Program.{Program, tree_of}
 use Rattle.c_parser.specs.ItemSpelling.{SpellsProgram}
-use Rattle.c_parser.specs.Wants.{step}
+use Rattle.c_parser.specs.Wants.{parser_step}
 use Rattle.c_parser.specs.Weight.{weight}
 
 -- the weight of each token, as far as the tokens begin a program
@@ -19,7 +19,7 @@ weigh (Some k) others = weight k ∷ others k
 
 abbrev pub weights_from : List Placed → List Want → List ℕ
 weights_from [] k = []
-weights_from (x ∷ xs) k = weigh (step k (token_kind x.token)) (λ k. weights_from xs k)
+weights_from (x ∷ xs) k = weigh (parser_step k (token_kind x.token)) (λ k. weights_from xs k)
 
 unfoldable pub weights : List Placed → List ℕ
 weights ts = weights_from ts (Items ∷ [])
@@ -28,29 +28,29 @@ weights ts = weights_from ts (Items ∷ [])
 abbrev pub LightBefore : List ℕ → ℕ → Type 0
 LightBefore ws place = (i w : ℕ) → i < place → slice_get ws i ≡ Some w → w ≤ 64
 
--- the lists are one before that place; behind the end stands none
+-- the lists are the same before that place; no token comes after the end
 abbrev pub Agree : List Placed → List Placed → ℕ → Type 0
 Agree ts us place = (i : ℕ) → i < place → slice_get us i ≡ slice_get ts i
 
--- some tree spells these tokens
-abbrev pub Spelled : List Placed → Type 0
-Spelled ts = (xs : List ItemTree) × SpellsProgram ts xs
-
 -- no program begins with the tokens before that place
 abbrev pub NoneBegins : List Placed → ℕ → Type 0
-NoneBegins ts place = (us : List Placed) (xs : List ItemTree) → Agree ts us place → SpellsProgram us xs → ⊥
+NoneBegins ts place = (us : List Placed) (xs : List ItemTree) → Agree ts us place
+    → SpellsProgram us xs → ⊥
 
--- some program does, with none of them too heavy
+-- some program begins with the tokens before that place, and none of them is too heavy
 abbrev pub SomeBegins : List Placed → ℕ → Type 0
-SomeBegins ts place = (us : List Placed) × (xs : List ItemTree) × Agree ts us place × SpellsProgram us xs × LightBefore (weights us) place
+SomeBegins ts place = (us : List Placed) × (xs : List ItemTree) × Agree ts us place
+    × SpellsProgram us xs × LightBefore (weights us) place
 
--- some program begins with the token at that place too, the first that is too heavy
+-- some program begins with the tokens up to the one at that place, which is the first that is too
+-- heavy
 abbrev pub SomeSinks : List Placed → ℕ → Type 0
 SomeSinks ts place =
-    (us : List Placed) × (xs : List ItemTree) × Agree ts us (place + 1) × SpellsProgram us xs × LightBefore (weights us) place
+    (us : List Placed) × (xs : List ItemTree) × Agree ts us (place + 1) × SpellsProgram us xs
+    × LightBefore (weights us) place
     × (w : ℕ) × (slice_get (weights us) place ≡ Some w) × (64 < w)
 
 -- the answer is that tree, or memory ran out
-abbrev pub Gives : Result Program ParseFault → List ItemTree → Type 0
-Gives (Ok p) xs = tree_of p ≡ xs
-Gives (Err f) xs = f ≡ NoMemory
+abbrev pub ParseGives : Result Program ParseFault → List ItemTree → Type 0
+ParseGives (Ok p) xs = tree_of p ≡ xs
+ParseGives (Err f) xs = f ≡ NoMemory

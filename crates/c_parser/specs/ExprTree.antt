@@ -1,6 +1,6 @@
--- An expression as a tree without pointers: what is written, and where, and nothing of how it lies
--- in memory. Brackets leave no node, so two expressions that differ in their memory alone, or in
--- brackets that change nothing, have one tree.
+-- An expression as a tree without pointers: its content and the places of its tokens, independent
+-- of memory. Brackets leave no node, so two expressions that differ only in memory, or in brackets
+-- that change nothing, have the same tree.
 use Rattle.std.specs.Prelude.{ℕ, ℤ, List, [], ◌∷◌}
 use Rattle.c_parser.specs.declared.expr.Name.{Name}
 use Rattle.c_parser.specs.declared.expr.UnaryOp.{UnaryOp}
@@ -9,7 +9,7 @@ use Rattle.c_parser.specs.declared.expr.Argument.{Argument}
 use Rattle.c_parser.specs.declared.expr.Expr.{Expr, Row_of-Argument, end_of-Argument, more_of-Argument}
 use Rattle.c_parser.specs.declared.expr.Expr.TheVariants as node
 
--- a name, and the place where it stands
+-- a name and its place
 pub record Ident : Type 0 where
   pub text : List ℕ
   pub place : ℕ
@@ -55,8 +55,3 @@ abbrev mutual
 abbrev pub arguments_in : List Argument → Arguments
 arguments_in [] = None
 arguments_in (x ∷ xs) = More x.first (expr_of x.value) (arguments_in xs)
-
--- the one list, and then the other
-abbrev pub followed_by : Arguments → Arguments → Arguments
-followed_by None others = others
-followed_by (More first value rest) others = More first value (followed_by rest others)

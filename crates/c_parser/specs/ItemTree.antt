@@ -7,9 +7,9 @@ use Rattle.c_parser.specs.declared.item.Function as written
 use Rattle.c_parser.specs.declared.item.Item.{Item}
 use Rattle.c_parser.specs.declared.item.Item.TheVariants as node
 use Rattle.c_parser.specs.ExprTree.{Ident, ident_of}
-use Rattle.c_parser.specs.StmtTree.{TypeTree, type_of, Statements, statements_in}
+use Rattle.c_parser.specs.StmtTree.{TypeTree, type_tree, Statements, statements_in}
 
--- the length of an array, and where its number stands
+-- the length of an array, and the place of its number
 pub record LengthTree : Type 0 where
   pub value : ℤ
   pub place : ℕ
@@ -23,7 +23,7 @@ pub record ParameterTree : Type 0 where
   pub ty : TypeTree
   pub name : Ident
 
--- the result is absent where it is `void`
+-- the result is absent if it is `void`
 pub record FunctionTree : Type 0 where
   pub tx : Bool
   pub result_type : Option TypeTree
@@ -36,28 +36,32 @@ pub data ItemTree : Type 0 where
   Root : Ident → (place : ℕ) → ItemTree
   Function : FunctionTree → ItemTree
 
-abbrev pub length_of : Length → LengthTree
-length_of n = record { value = n.value; place = n.place }
+abbrev pub length_tree : Length → LengthTree
+length_tree n = record { value = n.value; place = n.place }
 
-abbrev pub field_of : Field → FieldTree
-field_of f = record { ty = type_of f.ty; name = ident_of f.name; len = option_map length_of f.length }
+abbrev pub field_tree : Field → FieldTree
+field_tree f = record {
+  ty = type_tree f.ty;
+  name = ident_of f.name;
+  len = option_map length_tree f.length;
+}
 
 abbrev pub parameter_of : Parameter → ParameterTree
-parameter_of p = record { ty = type_of p.ty; name = ident_of p.name }
+parameter_of p = record { ty = type_tree p.ty; name = ident_of p.name }
 
-abbrev pub function_of : written.Function → FunctionTree
-function_of f = record {
+abbrev pub function_tree : written.Function → FunctionTree
+function_tree f = record {
   tx = f.tx;
-  result_type = option_map type_of f.result_type;
+  result_type = option_map type_tree f.result_type;
   name = ident_of f.name;
   parameters = map parameter_of f.parameters.items;
   body = statements_in f.body.items;
 }
 
 abbrev pub item_of : Item → ItemTree
-item_of (node.Struct s) = Struct (ident_of s.name) (map field_of s.fields.items)
+item_of (node.Struct s) = Struct (ident_of s.name) (map field_tree s.fields.items)
 item_of (node.Root r) = Root (ident_of r.name) r.place
-item_of (node.Function f) = Function (function_of f)
+item_of (node.Function f) = Function (function_tree f)
 
 abbrev pub items_in : List Item → List ItemTree
 items_in = map item_of

@@ -1,6 +1,6 @@
--- What the grammar sees of a token: its kind, and of a name its text, of a number its value. Marks
--- that the grammar treats alike are one kind: the binary operators, the assignments, the steps. The
--- end of a list has a kind too.
+-- What the grammar sees of a token: its kind, the text of a name, the value of a number. Marks that
+-- the grammar treats alike are one kind: the binary operators, the assignments, the steps. The end
+-- of a list has a kind too.
 use Rattle.std.specs.Prelude.{ℕ, ℤ, pos, List, [], Option, Some, None, slice_get}
 use Rattle.c_lexer.specs.declared.token.Mark.{Mark}
 use Rattle.c_lexer.specs.declared.token.Mark.TheVariants as mark
@@ -79,9 +79,9 @@ token_kind (token.Mark m) = mark_kind m
 token_kind (token.Word w) = word_kind w
 token_kind token.Reserved = kind.Other
 
-abbrev pub kind_of : Option Placed → Kind
-kind_of None = kind.End
-kind_of (Some p) = token_kind p.token
+abbrev pub placed_kind : Option Placed → Kind
+placed_kind None = kind.End
+placed_kind (Some p) = token_kind p.token
 
 abbrev token_text : Token → List ℕ
 token_text (token.Name text) = text
@@ -91,22 +91,22 @@ abbrev token_value : Token → ℤ
 token_value (token.Number n) = n
 token_value _ = pos 0
 
-abbrev pub text_of : Option Placed → List ℕ
-text_of None = []
-text_of (Some p) = token_text p.token
+abbrev pub placed_text : Option Placed → List ℕ
+placed_text None = []
+placed_text (Some p) = token_text p.token
 
-abbrev pub value_of : Option Placed → ℤ
-value_of None = pos 0
-value_of (Some p) = token_value p.token
+abbrev pub placed_value : Option Placed → ℤ
+placed_value None = pos 0
+placed_value (Some p) = token_value p.token
 
 -- the kind of the token at a place
 abbrev pub kind_at : List Placed → ℕ → Kind
-kind_at ts i = kind_of (slice_get ts i)
+kind_at ts i = placed_kind (slice_get ts i)
 
 -- the name at a place
 abbrev pub ident_at : List Placed → ℕ → Ident
-ident_at ts i = record { text = text_of (slice_get ts i); place = i }
+ident_at ts i = record { text = placed_text (slice_get ts i); place = i }
 
 -- the number at a place
 abbrev pub value_at : List Placed → ℕ → ℤ
-value_at ts i = value_of (slice_get ts i)
+value_at ts i = placed_value (slice_get ts i)

@@ -5,11 +5,9 @@ pub mod Program
 pub mod Kinds
 pub mod Wants
 pub mod Weight
-pub mod Run
 pub mod Operators
 pub mod Spelling
 pub mod StmtSpelling
 pub mod ItemSpelling
 pub mod Exact
-pub mod Fixes
-pub mod Pieces
+pub mod inside

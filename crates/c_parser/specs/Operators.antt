@@ -1,4 +1,4 @@
--- The binary operators with their levels, of which the first binds tightest, and the unary ones.
+-- The binary operators with their levels, of which level 1 binds tightest, and the unary operators.
 use Rattle.std.specs.Prelude.{ℕ, Option, Some, None, nat_eq, option_and_then, if◌then◌else◌}
 use Rattle.c_parser.specs.declared.expr.BinaryOp.{BinaryOp}
 use Rattle.c_parser.specs.declared.expr.BinaryOp.TheVariants as op
@@ -31,11 +31,11 @@ abbrev pub op_of : Kind → Option BinaryOp
 op_of (kind.Operator o) = Some o
 op_of _ = None
 
--- the operator of that level that a token is
+-- the operator of that level that a token is, if it is one
 abbrev pub op_at : ℕ → Kind → Option BinaryOp
 op_at l k = option_and_then (λ o. if nat_eq (level_of o) l then Some o else None) (op_of k)
 
--- the unary operator that a token is
+-- the unary operator that a token is, if it is one
 abbrev pub sign_of : Kind → Option UnaryOp
 sign_of (kind.Operator op.Sub) = Some unary.Negate
 sign_of kind.Not = Some unary.Not

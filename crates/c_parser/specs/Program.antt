@@ -1,5 +1,5 @@
--- What a tree of a whole program holds: its items, the line of each of its tokens, and the line at
--- the text's end, which is the line at the number of tokens.
+-- A whole program: its items, the line of each of its tokens, and the line of the text's end, which
+-- is the line at the number of tokens.
 use Rattle.std.specs.Prelude.{ℕ, List, slice_get}
 use Rattle.std.specs.Option.{option_map_or}
 use Rattle.c_parser.specs.declared.item.Item.{Item}
@@ -10,8 +10,8 @@ pub record Program : Type 0 where
   pub lines : List ℕ
   pub last : ℕ
 
-abbrev pub line_of : Program → ℕ → ℕ
-line_of p place = option_map_or (λ line. line) (slice_get p.lines place) p.last
+abbrev pub source_line : Program → ℕ → ℕ
+source_line p place = option_map_or (λ line. line) (slice_get p.lines place) p.last
 
 -- the program's tree
 abbrev pub tree_of : Program → List ItemTree

@@ -1,7 +1,7 @@
--- Which tokens, from one place up to another, spell which expression. The list of tokens stays one
--- and whole, and each case is one line of the grammar: `kind_at ts i ≡ kind.Comma` reads 'at place i
--- stands a comma'. An operand grows to the left: a chain of operators of one level, and the parts
--- behind a primary, go from one place to another with the tree so far to the left.
+-- Which tokens, from one place up to another, spell which expression. The list of tokens is always
+-- the whole list, and each case is one line of the grammar: `kind_at ts i ≡ kind.Comma` reads 'at
+-- place i there is a comma'. An operand grows to the left: a chain of operators of one level, and
+-- the parts after a primary, go from one place to another with the tree so far as the left part.
 use Rattle.std.specs.Prelude.{ℕ, zero, suc, ◌+◌, ◌≡◌, List, Some}
 use Rattle.c_lexer.specs.declared.token.Placed.{Placed}
 use Rattle.c_parser.specs.declared.expr.BinaryOp.{BinaryOp}
@@ -16,7 +16,8 @@ mutual
   -- operators of levels 1 to l over unaries
   pub data Level (ts : List Placed) : ℕ → ℕ → ℕ → ExprTree → Type 0 where
     level_zero : {i j : ℕ} {e : ExprTree} → Unary ts i j e → Level ts zero i j e
-    level_suc : {l i m j : ℕ} {a e : ExprTree} → Level ts l i m a → Chain ts l m j a e → Level ts (suc l) i j e
+    level_suc : {l i m j : ℕ} {a e : ExprTree} → Level ts l i m a → Chain ts l m j a e
+        → Level ts (suc l) i j e
 
   pub data Chain (ts : List Placed) : ℕ → ℕ → ℕ → ExprTree → ExprTree → Type 0 where
     chain_end : {l i : ℕ} {a : ExprTree} → Chain ts l i i a a
@@ -32,7 +33,7 @@ mutual
   pub data Postfix (ts : List Placed) : ℕ → ℕ → ExprTree → Type 0 where
     postfix : {i m j : ℕ} {a e : ExprTree} → Primary ts i m a → Parts ts m j a e → Postfix ts i j e
 
-  -- fields and elements, taken of the tree so far
+  -- fields and elements of the tree so far
   pub data Parts (ts : List Placed) : ℕ → ℕ → ExprTree → ExprTree → Type 0 where
     parts_end : {i : ℕ} {a : ExprTree} → Parts ts i i a a
     field : {i j : ℕ} {a e : ExprTree}
@@ -43,17 +44,21 @@ mutual
         → Parts ts (m + 1) j (tree.Index a i b) e → Parts ts i j a e
 
   pub data Primary (ts : List Placed) : ℕ → ℕ → ExprTree → Type 0 where
-    number : {i : ℕ} → kind_at ts i ≡ kind.Number → Primary ts i (i + 1) (tree.Number (value_at ts i))
+    number : {i : ℕ} → kind_at ts i ≡ kind.Number
+        → Primary ts i (i + 1) (tree.Number (value_at ts i))
     null : {i : ℕ} → kind_at ts i ≡ kind.Null → Primary ts i (i + 1) tree.Null
-    variable : {i : ℕ} → kind_at ts i ≡ kind.Name → Primary ts i (i + 1) (tree.Variable (ident_at ts i))
+    variable : {i : ℕ} → kind_at ts i ≡ kind.Name
+        → Primary ts i (i + 1) (tree.Variable (ident_at ts i))
     call : {i j : ℕ} {all : tree.Arguments}
         → kind_at ts i ≡ kind.Name → kind_at ts (i + 1) ≡ kind.OpenRound
-        → Arguments ts (i + 1 + 1) j all → Primary ts i j (tree.Call (ident_at ts i) all)
+        → SpellsArguments ts (i + 1 + 1) j all → Primary ts i j (tree.Call (ident_at ts i) all)
     root : {i : ℕ}
-        → kind_at ts i ≡ kind.Root → kind_at ts (i + 1) ≡ kind.Dot → kind_at ts (i + 1 + 1) ≡ kind.Name
+        → kind_at ts i ≡ kind.Root → kind_at ts (i + 1) ≡ kind.Dot
+        → kind_at ts (i + 1 + 1) ≡ kind.Name
         → Primary ts i (i + 1 + 1 + 1) (tree.Root (ident_at ts (i + 1 + 1)))
     new : {i : ℕ}
-        → kind_at ts i ≡ kind.PmNew → kind_at ts (i + 1) ≡ kind.OpenRound → kind_at ts (i + 1 + 1) ≡ kind.Struct
+        → kind_at ts i ≡ kind.PmNew → kind_at ts (i + 1) ≡ kind.OpenRound
+        → kind_at ts (i + 1 + 1) ≡ kind.Struct
         → kind_at ts (i + 1 + 1 + 1) ≡ kind.Name → kind_at ts (i + 1 + 1 + 1 + 1) ≡ kind.CloseRound
         → Primary ts i (i + 1 + 1 + 1 + 1 + 1) (tree.New i (ident_at ts (i + 1 + 1 + 1)))
     -- brackets leave no node
@@ -61,19 +66,15 @@ mutual
         → kind_at ts i ≡ kind.OpenRound → Level ts 10 (i + 1) m e → kind_at ts m ≡ kind.CloseRound
         → Primary ts i (m + 1) e
 
-  -- from behind the opening bracket to behind the closing one
-  pub data Arguments (ts : List Placed) : ℕ → ℕ → tree.Arguments → Type 0 where
-    no_arguments : {i : ℕ} → kind_at ts i ≡ kind.CloseRound → Arguments ts i (i + 1) tree.None
+  -- from the place after the opening bracket to the place after the closing one
+  pub data SpellsArguments (ts : List Placed) : ℕ → ℕ → tree.Arguments → Type 0 where
+    no_arguments : {i : ℕ} → kind_at ts i ≡ kind.CloseRound → SpellsArguments ts i (i + 1) tree.None
     arguments : {i m j : ℕ} {e : ExprTree} {all : tree.Arguments}
-        → Level ts 10 i m e → MoreArguments ts m j all → Arguments ts i j (tree.More i e all)
+        → Level ts 10 i m e → MoreArguments ts m j all → SpellsArguments ts i j (tree.More i e all)
 
-  -- from behind an argument
+  -- from the place after an argument
   pub data MoreArguments (ts : List Placed) : ℕ → ℕ → tree.Arguments → Type 0 where
     no_more : {i : ℕ} → kind_at ts i ≡ kind.CloseRound → MoreArguments ts i (i + 1) tree.None
     more : {i m j : ℕ} {e : ExprTree} {all : tree.Arguments}
         → kind_at ts i ≡ kind.Comma → Level ts 10 (i + 1) m e → MoreArguments ts m j all
         → MoreArguments ts i j (tree.More (i + 1) e all)
-
--- operators of all levels
-abbrev pub Expression : List Placed → ℕ → ℕ → ExprTree → Type 0
-Expression ts = Level ts 10

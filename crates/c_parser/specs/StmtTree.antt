@@ -1,4 +1,4 @@
--- A statement as a tree without pointers, by the same rule as an expression's.
+-- A statement as a tree without pointers, in the same way as an expression.
 use Rattle.std.specs.Prelude.{ℕ, List, [], ◌∷◌, Option, option_map}
 use Rattle.c_parser.specs.declared.stmt.TypeName.{TypeName}
 use Rattle.c_parser.specs.declared.stmt.TypeName.TheVariants as written
@@ -18,7 +18,7 @@ pub data TypeTree : Type 0 where
   Int : TypeTree
   Pointer : Ident → TypeTree
 
--- what stands behind a `=`, and where the `=` stands
+-- the value after a `=`, and the place of the `=`
 pub record InitialTree : Type 0 where
   pub place : ℕ
   pub value : ExprTree
@@ -57,15 +57,19 @@ mutual
     Nothing : Statements
     Then : StmtTree → Statements → Statements
 
-abbrev pub type_of : TypeName → TypeTree
-type_of written.Int = Int
-type_of (written.Pointer n) = Pointer (ident_of n)
+abbrev pub type_tree : TypeName → TypeTree
+type_tree written.Int = Int
+type_tree (written.Pointer n) = Pointer (ident_of n)
 
 abbrev pub initial_of : Initial → InitialTree
 initial_of x = record { place = x.place; value = expr_of x.value }
 
 abbrev pub declaration_of : Declaration → DeclarationTree
-declaration_of d = record { ty = type_of d.ty; name = ident_of d.name; initial = option_map initial_of d.initial }
+declaration_of d = record {
+  ty = type_tree d.ty;
+  name = ident_of d.name;
+  initial = option_map initial_of d.initial;
+}
 
 abbrev pub simple_of : plain.Simple → SimpleTree
 simple_of (simple.Assign target op place value) = Assign (expr_of target) op place (expr_of value)
@@ -74,9 +78,9 @@ simple_of (simple.Call n all) = Call (ident_of n) (arguments_in all.items)
 simple_of (simple.Free place pointer) = Free place (expr_of pointer)
 simple_of (simple.Abort place) = Abort place
 
-abbrev pub first_of : First → FirstTree
-first_of (first.Declare d) = Declare (declaration_of d)
-first_of (first.Simple s) = Simply (simple_of s)
+abbrev pub tree_of_first : First → FirstTree
+tree_of_first (first.Declare d) = Declare (declaration_of d)
+tree_of_first (first.Simple s) = Simply (simple_of s)
 
 abbrev mutual
   pub stmt_of : Stmt → StmtTree
@@ -86,7 +90,9 @@ abbrev mutual
   stmt_of (node.Block' shape all) = Block (statements_of all)
   stmt_of (node.If' condition p body other) = with_else (expr_of condition) (stmt_of body) other
   stmt_of (node.While' condition p body) = While (expr_of condition) (stmt_of body)
-  stmt_of (node.For' f c t p body) = For (option_map first_of f) (option_map expr_of c) (option_map simple_of t) (stmt_of body)
+  stmt_of (node.For' f c t p body) =
+      For (option_map tree_of_first f) (option_map expr_of c) (option_map simple_of t)
+      (stmt_of body)
   stmt_of node.Break = Break
   stmt_of node.Continue = Continue
   stmt_of (node.Return place value) = Return place (option_map expr_of value)
@@ -102,8 +108,3 @@ abbrev mutual
 abbrev pub statements_in : List Stmt → Statements
 statements_in [] = Nothing
 statements_in (x ∷ xs) = Then (stmt_of x) (statements_in xs)
-
--- the one list, and then the other
-abbrev pub and_then : Statements → Statements → Statements
-and_then Nothing others = others
-and_then (Then x xs) others = Then x (and_then xs others)

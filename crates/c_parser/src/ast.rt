@@ -1,7 +1,7 @@
 //! The tree of a whole program.
 
 ghost use Rattle.std.specs.Prelude.{◌≡◌, IfOk, length, map};
-ghost use Rattle.c_parser.specs.Program.{line_of};
+ghost use Rattle.c_parser.specs.Program.{source_line};
 
 use crate::item::Item;
 use c_lexer::TokenList;
@@ -49,7 +49,7 @@ impl Ast {
         Ok(Ast { items, lines, end })
     }
 
-    /// The items of the program, in the text's order.
+    /// The items of the program, in the order of the text.
     pub fn items(&self) -> &[Item]
         ensures { result.now ≡ self.now.all }
     {
@@ -63,9 +63,9 @@ impl Ast {
         self.lines.len() as u64
     }
 
-    /// The line of the token at a place, and at the number of tokens the line at the text's end.
+    /// The line of the token at a place; at the number of tokens, the line of the text's end.
     pub fn line(&self, place: u64) -> u64
-        ensures { result ≡ line_of self.now place }
+        ensures { result ≡ source_line self.now place }
     {
         match self.lines.get(place as usize) {
             Some(line) => *line,

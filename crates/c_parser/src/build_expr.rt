@@ -1,16 +1,17 @@
-//! Expressions, built from tokens that were judged before. Where a token stands that no program
-//! has there, some tree is built all the same.
+//! Expressions, built from tokens that were accepted before. For tokens that form no program, some
+//! tree is built all the same.
 
 ghost use Rattle.std.specs.Prelude.{◌≡◌, ◌<◌, ◌≤◌, ◌+◌, length, IfOk, OnOk, IsSome};
 ghost use Rattle.c_parser.specs.Kinds as kinds;
 ghost use Rattle.c_parser.specs.Operators.{level_of, op_at, sign_of};
 ghost use Rattle.c_parser.specs.ExprTree as trees;
-ghost use Rattle.c_parser.specs.ExprTree.{ident_of, expr_of, arguments_in, followed_by};
-ghost use Rattle.c_parser.specs.Spelling.{Level, Unary, Postfix, Parts, Primary, Arguments};
-ghost use Rattle.c_parser.specs.Fixes.{Fixes, Ended, Over, Uncalled};
+ghost use Rattle.c_parser.specs.ExprTree.{ident_of, expr_of, arguments_in};
+ghost use Rattle.c_parser.specs.inside.ExprTree.{followed_by};
+ghost use Rattle.c_parser.specs.Spelling.{Level, Unary, Postfix, Parts, Primary, SpellsArguments};
+ghost use Rattle.c_parser.specs.inside.Fixes.{Fixes, IsFollowed, Over, Uncalled};
 
 use crate::expr::{Argument, BinaryOp, Expr, Name, UnaryOp};
-use crate::kind::{Kind, behind, kind_at, name_at, value_at};
+use crate::kind::{Kind, kind_at, name_at, place_after, value_at};
 use c_lexer::TokenList;
 use std::alloc::{AllocError, Global};
 
@@ -34,7 +35,7 @@ fn level(op: BinaryOp) -> u8
     }
 }
 
-/// The operator of a level that stands at a place.
+/// The operator of a level at a place, if there is one.
 fn operator_at(tokens: &TokenList, at: u64, wanted: u8) -> Option<BinaryOp>
     ensures op { result ≡ op_at wanted (kinds.kind_at tokens.now.tokens at) }
     ensures inside { IsSome result → at < length tokens.now.tokens }
@@ -45,7 +46,7 @@ fn operator_at(tokens: &TokenList, at: u64, wanted: u8) -> Option<BinaryOp>
     }
 }
 
-/// The unary operator that stands at a place.
+/// The unary operator at a place, if there is one.
 fn sign_at(tokens: &TokenList, at: u64) -> Option<UnaryOp>
     ensures sign { result ≡ sign_of (kinds.kind_at tokens.now.tokens at) }
     ensures inside { IsSome result → at < length tokens.now.tokens }
@@ -107,27 +108,32 @@ fn make_call(name: Name, arguments: Vec<Argument>) -> Expr
 
 #[tactic(auto, using(crate::proofs::FixesExpr::trees))]
 fn add_argument(all: &mut Vec<Argument>, first: u64, value: Expr) -> Result<(), AllocError>
-    ensures { OnOk result ((es : trees.Arguments) → followed_by (arguments_in all.new.items) es ≡ followed_by (arguments_in all.old.items) (trees.More first (expr_of value) es)) }
+    ensures { OnOk result ((es : trees.Arguments) → followed_by (arguments_in all.new.items) es
+        ≡ followed_by (arguments_in all.old.items) (trees.More first (expr_of value) es)) }
 {
     all.push(Argument { first, value })?;
     Ok(())
 }
 
-/// A whole expression, and the place behind it.
+/// A whole expression, and the place after it.
 #[cycle(expressions)]
 pub fn expression(alloc: Global, tokens: &TokenList, at: u64) -> Result<(Expr, u64), AllocError>
     ensures stays { IfOk result (λ r. at ≤ r.1) }
-    ensures fixes { IfOk result (λ r. Fixes (Ended tokens.now.tokens (Over 10) (Level tokens.now.tokens 10 at)) r.1 (expr_of r.0)) }
+    ensures fixes { IfOk result (λ r.
+        Fixes (IsFollowed tokens.now.tokens (Over 10) (Level tokens.now.tokens 10 at)) r.1
+        (expr_of r.0)) }
 {
     binary(alloc, tokens, at, LEVELS)
 }
 
-/// The operators of levels 1 to `level` over unaries.
+/// Unaries joined by operators of levels 1 to `level`.
 #[cycle(expressions)]
 #[tactic(auto, using(crate::proofs::FixesExpr::binaries))]
 fn binary(alloc: Global, tokens: &TokenList, at: u64, level: u8) -> Result<(Expr, u64), AllocError>
     ensures stays { IfOk result (λ r. at ≤ r.1) }
-    ensures fixes { IfOk result (λ r. Fixes (Ended tokens.now.tokens (Over level) (Level tokens.now.tokens level at)) r.1 (expr_of r.0)) }
+    ensures fixes { IfOk result (λ r.
+        Fixes (IsFollowed tokens.now.tokens (Over level) (Level tokens.now.tokens level at)) r.1
+        (expr_of r.0)) }
 {
     if level == 0 {
         return unary(alloc, tokens, at);
@@ -136,7 +142,7 @@ fn binary(alloc: Global, tokens: &TokenList, at: u64, level: u8) -> Result<(Expr
     let mut left = first;
     let mut place = next;
     while let Some(op) = operator_at(tokens, place, level) {
-        let (right, next) = binary(alloc, tokens, behind(tokens, place), level - 1)?;
+        let (right, next) = binary(alloc, tokens, place_after(tokens, place), level - 1)?;
         left = make_binary(alloc, op, place, left, right)?;
         place = next;
     }
@@ -147,44 +153,50 @@ fn binary(alloc: Global, tokens: &TokenList, at: u64, level: u8) -> Result<(Expr
 #[tactic(auto, using(crate::proofs::FixesExpr::unaries))]
 fn unary(alloc: Global, tokens: &TokenList, at: u64) -> Result<(Expr, u64), AllocError>
     ensures stays { IfOk result (λ r. at ≤ r.1) }
-    ensures fixes { IfOk result (λ r. Fixes (Ended tokens.now.tokens (Over 0) (Unary tokens.now.tokens at)) r.1 (expr_of r.0)) }
+    ensures fixes { IfOk result (λ r.
+        Fixes (IsFollowed tokens.now.tokens (Over 0) (Unary tokens.now.tokens at)) r.1
+        (expr_of r.0)) }
 {
     if let Some(op) = sign_at(tokens, at) {
-        let (operand, next) = unary(alloc, tokens, behind(tokens, at))?;
+        let (operand, next) = unary(alloc, tokens, place_after(tokens, at))?;
         return Ok((make_unary(alloc, op, at, operand)?, next));
     }
     postfix(alloc, tokens, at)
 }
 
-/// A primary with the fields and elements that are taken of it.
+/// A primary with the fields and elements taken from it.
 #[cycle(expressions)]
 #[tactic(auto, using(crate::proofs::FixesExpr::postfixes))]
 pub fn postfix(alloc: Global, tokens: &TokenList, at: u64) -> Result<(Expr, u64), AllocError>
     ensures stays { IfOk result (λ r. at ≤ r.1) }
-    ensures fixes { IfOk result (λ r. Fixes (Ended tokens.now.tokens (Over 0) (Postfix tokens.now.tokens at)) r.1 (expr_of r.0)) }
+    ensures fixes { IfOk result (λ r.
+        Fixes (IsFollowed tokens.now.tokens (Over 0) (Postfix tokens.now.tokens at)) r.1
+        (expr_of r.0)) }
 {
     let (base, next) = primary(alloc, tokens, at)?;
     parts(alloc, tokens, next, base)
 }
 
-/// What is taken of what was read so far.
+/// The fields and elements taken from the expression read so far.
 #[cycle(expressions)]
 #[tactic(auto, using(crate::proofs::FixesExpr::all_parts))]
 fn parts(alloc: Global, tokens: &TokenList, at: u64, base: Expr) -> Result<(Expr, u64), AllocError>
     ensures stays { IfOk result (λ r. at ≤ r.1) }
-    ensures fixes { IfOk result (λ r. Fixes (Ended tokens.now.tokens (Over 0) (λ k t. Parts tokens.now.tokens at k (expr_of base) t)) r.1 (expr_of r.0)) }
+    ensures fixes { IfOk result (λ r.
+        Fixes (IsFollowed tokens.now.tokens (Over 0)
+        (λ k t. Parts tokens.now.tokens at k (expr_of base) t)) r.1 (expr_of r.0)) }
 {
     match kind_at(tokens, at) {
         Kind::Arrow => {
-            let place = behind(tokens, at);
+            let place = place_after(tokens, at);
             let field = name_at(alloc, tokens, place)?;
             let base = make_arrow(alloc, base, at, field)?;
-            parts(alloc, tokens, behind(tokens, place), base)
+            parts(alloc, tokens, place_after(tokens, place), base)
         }
         Kind::OpenSquare => {
-            let (index, close) = expression(alloc, tokens, behind(tokens, at))?;
+            let (index, close) = expression(alloc, tokens, place_after(tokens, at))?;
             let base = make_index(alloc, base, at, index)?;
-            parts(alloc, tokens, behind(tokens, close), base)
+            parts(alloc, tokens, place_after(tokens, close), base)
         }
         _ => Ok((base, at)),
     }
@@ -194,57 +206,61 @@ fn parts(alloc: Global, tokens: &TokenList, at: u64, base: Expr) -> Result<(Expr
 #[tactic(auto, using(crate::proofs::FixesExpr::primaries))]
 fn primary(alloc: Global, tokens: &TokenList, at: u64) -> Result<(Expr, u64), AllocError>
     ensures stays { IfOk result (λ r. at ≤ r.1) }
-    ensures fixes { IfOk result (λ r. Fixes (Ended tokens.now.tokens Uncalled (Primary tokens.now.tokens at)) r.1 (expr_of r.0)) }
+    ensures fixes { IfOk result (λ r.
+        Fixes (IsFollowed tokens.now.tokens Uncalled (Primary tokens.now.tokens at)) r.1
+        (expr_of r.0)) }
 {
-    let next = behind(tokens, at);
+    let next = place_after(tokens, at);
     match kind_at(tokens, at) {
         Kind::Number => Ok((Expr::Number(value_at(tokens, at)), next)),
         Kind::Name => {
             let name = name_at(alloc, tokens, at)?;
             if kind_at(tokens, next) == Kind::OpenRound {
-                let (all, end) = arguments(alloc, tokens, behind(tokens, next))?;
+                let (all, end) = arguments(alloc, tokens, place_after(tokens, next))?;
                 return Ok((make_call(name, all), end));
             }
             Ok((Expr::Variable(name), next))
         }
         Kind::Root => {
-            let place = behind(tokens, next);
+            let place = place_after(tokens, next);
             let name = name_at(alloc, tokens, place)?;
-            Ok((Expr::Root(name), behind(tokens, place)))
+            Ok((Expr::Root(name), place_after(tokens, place)))
         }
         Kind::PmNew => {
-            let place = behind(tokens, behind(tokens, next));
+            let place = place_after(tokens, place_after(tokens, next));
             let name = name_at(alloc, tokens, place)?;
-            let end = behind(tokens, behind(tokens, place));
+            let end = place_after(tokens, place_after(tokens, place));
             Ok((Expr::New { place: at, name }, end))
         }
         Kind::OpenRound => {
             let (inner, close) = expression(alloc, tokens, next)?;
-            Ok((inner, behind(tokens, close)))
+            Ok((inner, place_after(tokens, close)))
         }
         _ => Ok((Expr::Null, next)),
     }
 }
 
-/// The arguments of a call, from behind its opening bracket to behind the closing one.
+/// The arguments of a call, from the place after its opening bracket to the place after the closing
+/// one.
 #[cycle(expressions)]
 #[tactic(auto, using(crate::proofs::FixesExpr::all_arguments))]
 fn arguments(alloc: Global, tokens: &TokenList, at: u64) -> Result<(Vec<Argument>, u64), AllocError>
     ensures stays { IfOk result (λ r. at ≤ r.1) }
-    ensures fixes { IfOk result (λ r. Fixes (Arguments tokens.now.tokens at) r.1 (arguments_in r.0.items)) }
+    ensures fixes { IfOk result (λ r. Fixes (SpellsArguments tokens.now.tokens at) r.1
+        (arguments_in r.0.items)) }
 {
     let mut all = Vec::new(alloc);
     if kind_at(tokens, at) == Kind::CloseRound {
-        return Ok((all, behind(tokens, at)));
+        return Ok((all, place_after(tokens, at)));
     }
     let (value, next) = expression(alloc, tokens, at)?;
     add_argument(&mut all, at, value)?;
     let mut place = next;
     'others: while kind_at(tokens, place) == Kind::Comma {
-        let first = behind(tokens, place);
+        let first = place_after(tokens, place);
         let (value, next) = expression(alloc, tokens, first)?;
         add_argument(&mut all, first, value)?;
         place = next;
     }
-    Ok((all, behind(tokens, place)))
+    Ok((all, place_after(tokens, place)))
 }

@@ -1,16 +1,16 @@
-//! Items, built from tokens that were judged before.
+//! Items, built from tokens that were accepted before.
 
 ghost use Rattle.std.specs.Prelude.{List, ◌≡◌, ◌<◌, ◌≤◌, ◌+◌, length, map, IfOk, OnOk, option_map, true, false};
 ghost use Rattle.c_parser.specs.Kinds as kinds;
-ghost use Rattle.c_parser.specs.StmtTree.{type_of};
-ghost use Rattle.c_parser.specs.ItemTree.{ItemTree, field_of, parameter_of, item_of, items_in};
+ghost use Rattle.c_parser.specs.StmtTree.{type_tree};
+ghost use Rattle.c_parser.specs.ItemTree.{ItemTree, field_tree, parameter_of, item_of, items_in};
 ghost use Rattle.c_parser.specs.ItemSpelling.{SpellsField, SpellsFields, Signature, ResultType, SpellsFunction, SpellsItem, SpellsProgram};
-ghost use Rattle.c_parser.specs.Fixes.{Fixes, Ended, Is};
-ghost use Rattle.c_parser.specs.Pieces.{goes_on, SpellsParameter, ParametersTo, SpellsStruct, SpellsRoot, Defines, DefinesNone};
+ghost use Rattle.c_parser.specs.inside.Fixes.{Fixes, IsFollowed, IsOfKind};
+ghost use Rattle.c_parser.specs.inside.Pieces.{goes_on, SpellsParameter, ParametersTo, SpellsStruct, SpellsRoot, Defines, DefinesNone};
 
 use crate::build_stmt::{block, type_name};
 use crate::item::{Field, Function, Item, Length, Parameter, RootDecl, StructDef};
-use crate::kind::{Kind, behind, kind_at, name_at, value_at};
+use crate::kind::{Kind, kind_at, name_at, place_after, value_at};
 use crate::stmt::TypeName;
 use c_lexer::TokenList;
 use std::alloc::{AllocError, Global};
@@ -19,19 +19,20 @@ use std::alloc::{AllocError, Global};
 #[tactic(auto, using(crate::proofs::FixesItem::field_reads))]
 fn field(alloc: Global, tokens: &TokenList, at: u64) -> Result<(Field, u64), AllocError>
     ensures stays { IfOk result (λ r. at ≤ r.1) }
-    ensures fixes { IfOk result (λ r. Fixes (SpellsField tokens.now.tokens at) r.1 (field_of r.0)) }
+    ensures fixes { IfOk result (λ r.
+        Fixes (SpellsField tokens.now.tokens at) r.1 (field_tree r.0)) }
     ensures moves { IfOk result (λ r. at < length tokens.now.tokens → at < r.1) }
 {
     let (ty, place) = type_name(alloc, tokens, at)?;
     let name = name_at(alloc, tokens, place)?;
-    let next = behind(tokens, place);
+    let next = place_after(tokens, place);
     if kind_at(tokens, next) == Kind::OpenSquare {
-        let number = behind(tokens, next);
+        let number = place_after(tokens, next);
         let length = Some(Length {
             value: value_at(tokens, number),
             place: number,
         });
-        let end = behind(tokens, behind(tokens, behind(tokens, number)));
+        let end = place_after(tokens, place_after(tokens, place_after(tokens, number)));
         return Ok((Field { ty, name, length }, end));
     }
     Ok((
@@ -40,11 +41,11 @@ fn field(alloc: Global, tokens: &TokenList, at: u64) -> Result<(Field, u64), All
             name,
             length: None,
         },
-        behind(tokens, next),
+        place_after(tokens, next),
     ))
 }
 
-/// Whether neither a closing brace nor the end stands there.
+/// Whether the token there is neither a closing brace nor the end.
 fn has_field(tokens: &TokenList, at: u64) -> bool
     ensures value { result ≡ goes_on (kinds.kind_at tokens.now.tokens at) }
     ensures inside { result ≡ true → at < length tokens.now.tokens }
@@ -55,11 +56,13 @@ fn has_field(tokens: &TokenList, at: u64) -> bool
     }
 }
 
-/// Fields from behind an opening brace up to the closing one.
+/// The fields from the place after an opening brace up to the closing one.
 #[tactic(auto, using(crate::proofs::FixesItem::fields_reads))]
 fn fields(alloc: Global, tokens: &TokenList, at: u64) -> Result<(Vec<Field>, u64), AllocError>
     ensures stays { IfOk result (λ r. at ≤ r.1) }
-    ensures fixes { IfOk result (λ r. Fixes (Ended tokens.now.tokens (Is Kind.CloseBrace) (SpellsFields tokens.now.tokens at)) r.1 (map field_of r.0.items)) }
+    ensures fixes { IfOk result (λ r.
+        Fixes (IsFollowed tokens.now.tokens (IsOfKind Kind.CloseBrace)
+        (SpellsFields tokens.now.tokens at)) r.1 (map field_tree r.0.items)) }
 {
     let mut all = Vec::new(alloc);
     let mut place = at;
@@ -74,14 +77,15 @@ fn fields(alloc: Global, tokens: &TokenList, at: u64) -> Result<(Vec<Field>, u64
 #[tactic(auto, using(crate::proofs::FixesItem::parameter_read))]
 fn parameter(alloc: Global, tokens: &TokenList, at: u64) -> Result<(Parameter, u64), AllocError>
     ensures stays { IfOk result (λ r. at ≤ r.1) }
-    ensures fixes { IfOk result (λ r. Fixes (SpellsParameter tokens.now.tokens at) r.1 (parameter_of r.0)) }
+    ensures fixes { IfOk result (λ r. Fixes (SpellsParameter tokens.now.tokens at) r.1
+        (parameter_of r.0)) }
 {
     let (ty, place) = type_name(alloc, tokens, at)?;
     let name = name_at(alloc, tokens, place)?;
-    Ok((Parameter { ty, name }, behind(tokens, place)))
+    Ok((Parameter { ty, name }, place_after(tokens, place)))
 }
 
-/// One parameter or more, up to the closing bracket.
+/// At least one parameter, up to the closing bracket.
 #[tactic(auto, using(crate::proofs::FixesItem::parameters_reads))]
 fn some_parameters(
     alloc: Global,
@@ -89,21 +93,23 @@ fn some_parameters(
     at: u64,
 ) -> Result<(Vec<Parameter>, u64), AllocError>
     ensures stays { IfOk result (λ r. at ≤ r.1) }
-    ensures fixes { IfOk result (λ r. Fixes (ParametersTo tokens.now.tokens at) r.1 (map parameter_of r.0.items)) }
+    ensures fixes { IfOk result (λ r.
+        Fixes (ParametersTo tokens.now.tokens at) r.1 (map parameter_of r.0.items)) }
 {
     let mut all = Vec::new(alloc);
     let (one, next) = parameter(alloc, tokens, at)?;
     all.push(one)?;
     let mut place = next;
     'others: while kind_at(tokens, place) == Kind::Comma {
-        let (one, next) = parameter(alloc, tokens, behind(tokens, place))?;
+        let (one, next) = parameter(alloc, tokens, place_after(tokens, place))?;
         all.push(one)?;
         place = next;
     }
     Ok((all, place))
 }
 
-/// The parameters of a function, from behind the opening bracket to behind the closing one.
+/// The parameters of a function, from the place after the opening bracket to the place after the
+/// closing one.
 #[tactic(auto, using(crate::proofs::FixesItem::signatures))]
 fn parameters(
     alloc: Global,
@@ -111,19 +117,23 @@ fn parameters(
     at: u64,
 ) -> Result<(Vec<Parameter>, u64), AllocError>
     ensures stays { IfOk result (λ r. at ≤ r.1) }
-    ensures fixes { IfOk result (λ r. Fixes (Signature tokens.now.tokens at) r.1 (map parameter_of r.0.items)) }
+    ensures fixes { IfOk result (λ r.
+        Fixes (Signature tokens.now.tokens at) r.1 (map parameter_of r.0.items)) }
 {
     match kind_at(tokens, at) {
-        Kind::CloseRound => Ok((Vec::new(alloc), behind(tokens, at))),
-        Kind::Void => Ok((Vec::new(alloc), behind(tokens, behind(tokens, at)))),
+        Kind::CloseRound => Ok((Vec::new(alloc), place_after(tokens, at))),
+        Kind::Void => Ok((
+            Vec::new(alloc),
+            place_after(tokens, place_after(tokens, at)),
+        )),
         _ => {
             let (all, close) = some_parameters(alloc, tokens, at)?;
-            Ok((all, behind(tokens, close)))
+            Ok((all, place_after(tokens, close)))
         }
     }
 }
 
-/// A function's result, absent where it is `void`.
+/// A function's result, absent if it is `void`.
 #[tactic(auto, using(crate::proofs::FixesItem::results))]
 fn result_type(
     alloc: Global,
@@ -131,11 +141,12 @@ fn result_type(
     at: u64,
 ) -> Result<(Option<TypeName>, u64), AllocError>
     ensures stays { IfOk result (λ r. at ≤ r.1) }
-    ensures fixes { IfOk result (λ r. Fixes (ResultType tokens.now.tokens at) r.1 (option_map type_of r.0)) }
+    ensures fixes { IfOk result (λ r.
+        Fixes (ResultType tokens.now.tokens at) r.1 (option_map type_tree r.0)) }
     ensures moves { IfOk result (λ r. at < length tokens.now.tokens → at < r.1) }
 {
     if kind_at(tokens, at) == Kind::Void {
-        return Ok((None, behind(tokens, at)));
+        return Ok((None, place_after(tokens, at)));
     }
     let (ty, end) = type_name(alloc, tokens, at)?;
     Ok((Some(ty), end))
@@ -145,14 +156,15 @@ fn result_type(
 #[tactic(auto, using(crate::proofs::FixesItem::function_read))]
 fn function(alloc: Global, tokens: &TokenList, at: u64, tx: bool) -> Result<(Item, u64), AllocError>
     ensures stays { IfOk result (λ r. at ≤ r.1) }
-    ensures fixes { IfOk result (λ r. Fixes (SpellsFunction tokens.now.tokens tx at) r.1 (item_of r.0)) }
+    ensures fixes { IfOk result (λ r. Fixes (SpellsFunction tokens.now.tokens tx at) r.1
+        (item_of r.0)) }
     ensures moves { IfOk result (λ r. at < length tokens.now.tokens → at < r.1) }
 {
     let (result_type, place) = result_type(alloc, tokens, at)?;
     let name = name_at(alloc, tokens, place)?;
-    let open = behind(tokens, place);
-    let (parameters, brace) = parameters(alloc, tokens, behind(tokens, open))?;
-    let (body, end) = block(alloc, tokens, behind(tokens, brace))?;
+    let open = place_after(tokens, place);
+    let (parameters, brace) = parameters(alloc, tokens, place_after(tokens, open))?;
+    let (body, end) = block(alloc, tokens, place_after(tokens, brace))?;
     let function = Function {
         tx,
         result_type,
@@ -170,11 +182,11 @@ fn struct_def(alloc: Global, tokens: &TokenList, at: u64) -> Result<(Item, u64),
     ensures fixes { IfOk result (λ r. Fixes (SpellsStruct tokens.now.tokens at) r.1 (item_of r.0)) }
     ensures moves { IfOk result (λ r. at < length tokens.now.tokens → at < r.1) }
 {
-    let place = behind(tokens, at);
+    let place = place_after(tokens, at);
     let name = name_at(alloc, tokens, place)?;
-    let open = behind(tokens, place);
-    let (fields, close) = fields(alloc, tokens, behind(tokens, open))?;
-    let end = behind(tokens, behind(tokens, close));
+    let open = place_after(tokens, place);
+    let (fields, close) = fields(alloc, tokens, place_after(tokens, open))?;
+    let end = place_after(tokens, place_after(tokens, close));
     Ok((Item::Struct(StructDef { name, fields }), end))
 }
 
@@ -185,24 +197,24 @@ fn root_decl(alloc: Global, tokens: &TokenList, at: u64) -> Result<(Item, u64), 
     ensures fixes { IfOk result (λ r. Fixes (SpellsRoot tokens.now.tokens at) r.1 (item_of r.0)) }
     ensures moves { IfOk result (λ r. at < length tokens.now.tokens → at < r.1) }
 {
-    let place = behind(tokens, behind(tokens, at));
+    let place = place_after(tokens, place_after(tokens, at));
     let name = name_at(alloc, tokens, place)?;
-    let root = behind(tokens, place);
-    let end = behind(tokens, behind(tokens, root));
+    let root = place_after(tokens, place);
+    let end = place_after(tokens, place_after(tokens, root));
     Ok((Item::Root(RootDecl { name, place: root }), end))
 }
 
-/// Whether `struct NAME {` stands there.
+/// Whether the tokens there are `struct NAME {`.
 #[tactic(auto, using(crate::proofs::FixesItem::defining))]
 fn defines(tokens: &TokenList, at: u64) -> bool
     ensures some { result ≡ true → Defines tokens.now.tokens at }
     ensures none { result ≡ false → DefinesNone tokens.now.tokens at }
 {
-    let third = behind(tokens, behind(tokens, at));
+    let third = place_after(tokens, place_after(tokens, at));
     kind_at(tokens, at) == Kind::Struct && kind_at(tokens, third) == Kind::OpenBrace
 }
 
-/// An item, and the place behind it.
+/// An item, and the place after it.
 #[tactic(auto, using(crate::proofs::FixesItem::items_of))]
 fn item(alloc: Global, tokens: &TokenList, at: u64) -> Result<(Item, u64), AllocError>
     ensures stays { IfOk result (λ r. at ≤ r.1) }
@@ -214,7 +226,7 @@ fn item(alloc: Global, tokens: &TokenList, at: u64) -> Result<(Item, u64), Alloc
     }
     match kind_at(tokens, at) {
         Kind::Persistent => root_decl(alloc, tokens, at),
-        Kind::Tx => function(alloc, tokens, behind(tokens, at), true),
+        Kind::Tx => function(alloc, tokens, place_after(tokens, at), true),
         _ => function(alloc, tokens, at, false),
     }
 }
@@ -222,7 +234,8 @@ fn item(alloc: Global, tokens: &TokenList, at: u64) -> Result<(Item, u64), Alloc
 /// The items of a program.
 #[tactic(auto, using(crate::proofs::FixesItem::items_reads))]
 pub fn items(alloc: Global, tokens: &TokenList) -> Result<Vec<Item>, AllocError>
-    ensures spelled { IfOk result (λ all. (xs : List ItemTree) → SpellsProgram tokens.now.tokens xs → items_in all.items ≡ xs) }
+    ensures spelled { IfOk result (λ all. (xs : List ItemTree) → SpellsProgram tokens.now.tokens xs
+        → items_in all.items ≡ xs) }
 {
     let mut all = Vec::new(alloc);
     let mut place = 0;

@@ -1,36 +1,37 @@
-//! Statements, built from tokens that were judged before.
+//! Statements, built from tokens that were accepted before.
 
 ghost use Rattle.std.specs.Prelude.{◌≡◌, ◌<◌, ◌≤◌, ◌+◌, length, IfOk, OnOk, option_map, true};
 ghost use Rattle.c_parser.specs.Kinds as kinds;
 ghost use Rattle.c_parser.specs.ExprTree as exprs;
 ghost use Rattle.c_parser.specs.ExprTree.{Ident, expr_of};
 ghost use Rattle.c_parser.specs.StmtTree as trees;
-ghost use Rattle.c_parser.specs.StmtTree.{Statements, type_of, declaration_of, simple_of, first_of, stmt_of, statements_in, and_then};
+ghost use Rattle.c_parser.specs.StmtTree.{Statements, type_tree, declaration_of, simple_of, tree_of_first, stmt_of, statements_in};
+ghost use Rattle.c_parser.specs.inside.StmtTree.{statements_then};
 ghost use Rattle.c_parser.specs.StmtSpelling.{Typed, Declares, Bracketed, Simply, FirstPart, ValuePart, ThirdPart};
-ghost use Rattle.c_parser.specs.Fixes.{Fixes, Ended, Over, Is, Closes};
-ghost use Rattle.c_parser.specs.Pieces as pieces;
-ghost use Rattle.c_parser.specs.Pieces.{ActsOrCalls, for_of, SpellsFor, Stated, StatedAll, SpellsChoice, SpellsWhile, SpellsCounted, SpellsPlain};
+ghost use Rattle.c_parser.specs.inside.Fixes.{Fixes, IsFollowed, Over, IsOfKind, ClosesSimple};
+ghost use Rattle.c_parser.specs.inside.Pieces as pieces;
+ghost use Rattle.c_parser.specs.inside.Pieces.{ActsOrCalls, for_of, SpellsFor, Stated, StatedAll, SpellsChoice, SpellsWhile, SpellsCounted, SpellsPlain};
 
 use crate::build_expr::{expression, postfix};
 use crate::expr::{Expr, Name};
-use crate::kind::{Kind, behind, kind_at, name_at};
+use crate::kind::{Kind, kind_at, name_at, place_after};
 use crate::stmt::{AssignOp, Declaration, First, Initial, Simple, StepOp, Stmt, TypeName};
 use c_lexer::TokenList;
 use std::alloc::{AllocError, Global};
 
-/// A type, and the place behind it.
+/// A type, and the place after it.
 #[tactic(auto, using(crate::proofs::FixesStmt::types))]
 pub fn type_name(alloc: Global, tokens: &TokenList, at: u64) -> Result<(TypeName, u64), AllocError>
     ensures stays { IfOk result (λ r. at ≤ r.1) }
-    ensures fixes { IfOk result (λ r. Fixes (Typed tokens.now.tokens at) r.1 (type_of r.0)) }
+    ensures fixes { IfOk result (λ r. Fixes (Typed tokens.now.tokens at) r.1 (type_tree r.0)) }
     ensures moves { IfOk result (λ r. at < length tokens.now.tokens → at < r.1) }
 {
-    let next = behind(tokens, at);
+    let next = place_after(tokens, at);
     if kind_at(tokens, at) == Kind::Struct {
         let name = name_at(alloc, tokens, next)?;
         return Ok((
             TypeName::Pointer(name),
-            behind(tokens, behind(tokens, next)),
+            place_after(tokens, place_after(tokens, next)),
         ));
     }
     Ok((TypeName::Int, next))
@@ -40,14 +41,16 @@ pub fn type_name(alloc: Global, tokens: &TokenList, at: u64) -> Result<(TypeName
 #[tactic(auto, using(crate::proofs::FixesStmt::declarations))]
 fn declaration(alloc: Global, tokens: &TokenList, at: u64) -> Result<(Declaration, u64), AllocError>
     ensures stays { IfOk result (λ r. at ≤ r.1) }
-    ensures fixes { IfOk result (λ r. Fixes (Ended tokens.now.tokens (Is Kind.Semicolon) (Declares tokens.now.tokens at)) r.1 (declaration_of r.0)) }
+    ensures fixes { IfOk result (λ r.
+        Fixes (IsFollowed tokens.now.tokens (IsOfKind Kind.Semicolon)
+        (Declares tokens.now.tokens at)) r.1 (declaration_of r.0)) }
     ensures moves { IfOk result (λ r. at < length tokens.now.tokens → at < r.1) }
 {
     let (ty, place) = type_name(alloc, tokens, at)?;
     let name = name_at(alloc, tokens, place)?;
-    let next = behind(tokens, place);
+    let next = place_after(tokens, place);
     if kind_at(tokens, next) == Kind::Assign(AssignOp::Set) {
-        let (value, end) = expression(alloc, tokens, behind(tokens, next))?;
+        let (value, end) = expression(alloc, tokens, place_after(tokens, next))?;
         let initial = Some(Initial { place: next, value });
         return Ok((Declaration { ty, name, initial }, end));
     }
@@ -61,19 +64,20 @@ fn declaration(alloc: Global, tokens: &TokenList, at: u64) -> Result<(Declaratio
     ))
 }
 
-/// An expression in brackets, and the place behind them.
+/// An expression in brackets, and the place after them.
 #[tactic(auto, using(crate::proofs::FixesStmt::bracketed_inner))]
 fn bracketed(alloc: Global, tokens: &TokenList, at: u64) -> Result<(Expr, u64), AllocError>
     ensures stays { IfOk result (λ r. at ≤ r.1) }
     ensures fixes { IfOk result (λ r. Fixes (Bracketed tokens.now.tokens at) r.1 (expr_of r.0)) }
 {
-    let (inner, close) = expression(alloc, tokens, behind(tokens, at))?;
-    Ok((inner, behind(tokens, close)))
+    let (inner, close) = expression(alloc, tokens, place_after(tokens, at))?;
+    Ok((inner, place_after(tokens, close)))
 }
 
-/// The statement that a call is where it stands alone.
+/// The statement for a call that stands alone.
 fn call_alone(target: Expr) -> Simple
-    ensures { (n : Ident) (all : exprs.Arguments) → expr_of target ≡ exprs.Call n all → simple_of result ≡ trees.Call n all }
+    ensures { (n : Ident) (all : exprs.Arguments) → expr_of target ≡ exprs.Call n all
+        → simple_of result ≡ trees.Call n all }
 {
     match target {
         Expr::Call { name, arguments } => Simple::Call { name, arguments },
@@ -85,7 +89,7 @@ fn call_alone(target: Expr) -> Simple
     }
 }
 
-/// What a statement does with its target.
+/// The action of a statement on its target.
 #[tactic(auto, using(crate::proofs::FixesStmt::acted_on))]
 fn acted(
     alloc: Global,
@@ -94,11 +98,13 @@ fn acted(
     target: Expr,
 ) -> Result<(Simple, u64), AllocError>
     ensures stays { IfOk result (λ r. at ≤ r.1) }
-    ensures fixes { IfOk result (λ r. Fixes (Ended tokens.now.tokens Closes (λ k t. ActsOrCalls tokens.now.tokens at k (expr_of target) t)) r.1 (simple_of r.0)) }
+    ensures fixes { IfOk result (λ r.
+        Fixes (IsFollowed tokens.now.tokens ClosesSimple
+        (λ k t. ActsOrCalls tokens.now.tokens at k (expr_of target) t)) r.1 (simple_of r.0)) }
 {
     match kind_at(tokens, at) {
         Kind::Assign(op) => {
-            let (value, end) = expression(alloc, tokens, behind(tokens, at))?;
+            let (value, end) = expression(alloc, tokens, place_after(tokens, at))?;
             Ok((
                 Simple::Assign {
                     target,
@@ -115,7 +121,7 @@ fn acted(
                 op,
                 place: at,
             },
-            behind(tokens, at),
+            place_after(tokens, at),
         )),
         _ => Ok((call_alone(target), at)),
     }
@@ -125,9 +131,11 @@ fn acted(
 #[tactic(auto, using(crate::proofs::FixesStmt::simples))]
 fn simple(alloc: Global, tokens: &TokenList, at: u64) -> Result<(Simple, u64), AllocError>
     ensures stays { IfOk result (λ r. at ≤ r.1) }
-    ensures fixes { IfOk result (λ r. Fixes (Ended tokens.now.tokens Closes (Simply tokens.now.tokens at)) r.1 (simple_of r.0)) }
+    ensures fixes { IfOk result (λ r.
+        Fixes (IsFollowed tokens.now.tokens ClosesSimple (Simply tokens.now.tokens at)) r.1
+        (simple_of r.0)) }
 {
-    let next = behind(tokens, at);
+    let next = place_after(tokens, at);
     match kind_at(tokens, at) {
         Kind::PmFree => {
             let (pointer, end) = bracketed(alloc, tokens, next)?;
@@ -135,7 +143,7 @@ fn simple(alloc: Global, tokens: &TokenList, at: u64) -> Result<(Simple, u64), A
         }
         Kind::Abort => Ok((
             Simple::Abort { place: at },
-            behind(tokens, behind(tokens, next)),
+            place_after(tokens, place_after(tokens, next)),
         )),
         _ => {
             let (target, end) = postfix(alloc, tokens, at)?;
@@ -155,7 +163,8 @@ fn make_if(condition: Expr, body: Box<Stmt>) -> Stmt
 }
 
 fn make_if_else(condition: Expr, body: Box<Stmt>, other: Box<Stmt>) -> Stmt
-    ensures { stmt_of result ≡ trees.IfElse (expr_of condition) (stmt_of body.value) (stmt_of other.value) }
+    ensures { stmt_of result ≡ trees.IfElse (expr_of condition) (stmt_of body.value)
+        (stmt_of other.value) }
 {
     Stmt::If {
         condition,
@@ -179,7 +188,8 @@ struct ForParts {
 }
 
 fn make_for(parts: ForParts, body: Box<Stmt>) -> Stmt
-    ensures { stmt_of result ≡ trees.For (for_of parts).first (for_of parts).condition (for_of parts).third (stmt_of body.value) }
+    ensures { stmt_of result ≡ trees.For (for_of parts).first (for_of parts).condition
+        (for_of parts).third (stmt_of body.value) }
 {
     let ForParts {
         first,
@@ -200,10 +210,11 @@ fn make_block(all: Vec<Stmt>) -> Stmt
     Stmt::Block(all)
 }
 
-/// Puts one statement at the end.
+/// Appends one statement.
 #[tactic(auto, using(crate::proofs::FixesStmt::stmt_trees))]
 pub fn add_statement(all: &mut Vec<Stmt>, one: Stmt) -> Result<(), AllocError>
-    ensures { OnOk result ((ss : Statements) → and_then (statements_in all.new.items) ss ≡ and_then (statements_in all.old.items) (trees.Then (stmt_of one) ss)) }
+    ensures { OnOk result ((ss : Statements) → statements_then (statements_in all.new.items) ss
+        ≡ statements_then (statements_in all.old.items) (trees.Then (stmt_of one) ss)) }
 {
     all.push(one)?;
     Ok(())
@@ -217,7 +228,9 @@ fn first_part(
     at: u64,
 ) -> Result<(Option<First>, u64), AllocError>
     ensures stays { IfOk result (λ r. at ≤ r.1) }
-    ensures fixes { IfOk result (λ r. Fixes (Ended tokens.now.tokens (Is Kind.Semicolon) (FirstPart tokens.now.tokens at)) r.1 (option_map first_of r.0)) }
+    ensures fixes { IfOk result (λ r.
+        Fixes (IsFollowed tokens.now.tokens (IsOfKind Kind.Semicolon)
+        (FirstPart tokens.now.tokens at)) r.1 (option_map tree_of_first r.0)) }
 {
     match kind_at(tokens, at) {
         Kind::Semicolon => Ok((None, at)),
@@ -232,11 +245,13 @@ fn first_part(
     }
 }
 
-/// An expression that may be absent before a semicolon.
+/// An optional expression before a semicolon.
 #[tactic(auto, using(crate::proofs::FixesStmt::value_parts))]
 fn value_part(alloc: Global, tokens: &TokenList, at: u64) -> Result<(Option<Expr>, u64), AllocError>
     ensures stays { IfOk result (λ r. at ≤ r.1) }
-    ensures fixes { IfOk result (λ r. Fixes (Ended tokens.now.tokens (Is Kind.Semicolon) (ValuePart tokens.now.tokens at)) r.1 (option_map expr_of r.0)) }
+    ensures fixes { IfOk result (λ r.
+        Fixes (IsFollowed tokens.now.tokens (IsOfKind Kind.Semicolon)
+        (ValuePart tokens.now.tokens at)) r.1 (option_map expr_of r.0)) }
 {
     if kind_at(tokens, at) == Kind::Semicolon {
         return Ok((None, at));
@@ -253,7 +268,9 @@ fn third_part(
     at: u64,
 ) -> Result<(Option<Simple>, u64), AllocError>
     ensures stays { IfOk result (λ r. at ≤ r.1) }
-    ensures fixes { IfOk result (λ r. Fixes (Ended tokens.now.tokens (Is Kind.CloseRound) (ThirdPart tokens.now.tokens at)) r.1 (option_map simple_of r.0)) }
+    ensures fixes { IfOk result (λ r.
+        Fixes (IsFollowed tokens.now.tokens (IsOfKind Kind.CloseRound)
+        (ThirdPart tokens.now.tokens at)) r.1 (option_map simple_of r.0)) }
 {
     if kind_at(tokens, at) == Kind::CloseRound {
         return Ok((None, at));
@@ -262,52 +279,52 @@ fn third_part(
     Ok((Some(one), end))
 }
 
-/// The three parts in their brackets, and the place behind them.
+/// The three parts in their brackets, and the place after them.
 #[tactic(auto, using(crate::proofs::FixesStmt::for_read))]
 fn for_parts(alloc: Global, tokens: &TokenList, at: u64) -> Result<(ForParts, u64), AllocError>
     ensures stays { IfOk result (λ r. at ≤ r.1) }
     ensures fixes { IfOk result (λ r. Fixes (SpellsFor tokens.now.tokens at) r.1 (for_of r.0)) }
 {
-    let (first, end) = first_part(alloc, tokens, behind(tokens, at))?;
-    let (condition, end) = value_part(alloc, tokens, behind(tokens, end))?;
-    let (third, close) = third_part(alloc, tokens, behind(tokens, end))?;
+    let (first, end) = first_part(alloc, tokens, place_after(tokens, at))?;
+    let (condition, end) = value_part(alloc, tokens, place_after(tokens, end))?;
+    let (third, close) = third_part(alloc, tokens, place_after(tokens, end))?;
     let parts = ForParts {
         first,
         condition,
         third,
     };
-    Ok((parts, behind(tokens, close)))
+    Ok((parts, place_after(tokens, close)))
 }
 
-/// The place behind a token, but none before the least.
+/// The place after a token, but at least `least`.
 fn beyond(tokens: &TokenList, at: u64, least: u64) -> u64
     ensures least { least ≤ result }
     ensures stays { at ≤ result }
     ensures moves { at < length tokens.now.tokens → least ≤ at + 1 → result ≡ at + 1 }
 {
-    let next = behind(tokens, at);
+    let next = place_after(tokens, at);
     if next < least { least } else { next }
 }
 
-/// A statement that has no other in it.
+/// A statement that contains no other.
 #[tactic(auto, using(crate::proofs::FixesStmt::plains))]
 fn plain(alloc: Global, tokens: &TokenList, at: u64) -> Result<(Stmt, u64), AllocError>
     ensures stays { IfOk result (λ r. at ≤ r.1) }
     ensures fixes { IfOk result (λ r. Fixes (SpellsPlain tokens.now.tokens at) r.1 (stmt_of r.0)) }
     ensures moves { IfOk result (λ r. at < length tokens.now.tokens → at < r.1) }
 {
-    let next = behind(tokens, at);
+    let next = place_after(tokens, at);
     match kind_at(tokens, at) {
         Kind::Semicolon => Ok((Stmt::Empty, next)),
         Kind::Int | Kind::Struct => {
             let (one, end) = declaration(alloc, tokens, at)?;
-            Ok((Stmt::Declare(one), behind(tokens, end)))
+            Ok((Stmt::Declare(one), place_after(tokens, end)))
         }
-        Kind::Break => Ok((Stmt::Break, behind(tokens, next))),
-        Kind::Continue => Ok((Stmt::Continue, behind(tokens, next))),
+        Kind::Break => Ok((Stmt::Break, place_after(tokens, next))),
+        Kind::Continue => Ok((Stmt::Continue, place_after(tokens, next))),
         Kind::Return => {
             let (value, end) = value_part(alloc, tokens, next)?;
-            Ok((Stmt::Return { place: at, value }, behind(tokens, end)))
+            Ok((Stmt::Return { place: at, value }, place_after(tokens, end)))
         }
         _ => {
             let (one, end) = simple(alloc, tokens, at)?;
@@ -316,7 +333,7 @@ fn plain(alloc: Global, tokens: &TokenList, at: u64) -> Result<(Stmt, u64), Allo
     }
 }
 
-/// A statement, and the place behind it.
+/// A statement, and the place after it.
 #[cycle(statements)]
 #[tactic(auto, using(crate::proofs::FixesStmt::statements))]
 pub fn statement(alloc: Global, tokens: &TokenList, at: u64) -> Result<(Stmt, u64), AllocError>
@@ -326,17 +343,17 @@ pub fn statement(alloc: Global, tokens: &TokenList, at: u64) -> Result<(Stmt, u6
 {
     match kind_at(tokens, at) {
         Kind::OpenBrace => {
-            let (all, end) = block(alloc, tokens, behind(tokens, at))?;
+            let (all, end) = block(alloc, tokens, place_after(tokens, at))?;
             Ok((make_block(all), end))
         }
-        Kind::If => choice(alloc, tokens, behind(tokens, at)),
-        Kind::While => repeated(alloc, tokens, behind(tokens, at)),
-        Kind::For => counted(alloc, tokens, behind(tokens, at)),
+        Kind::If => choice(alloc, tokens, place_after(tokens, at)),
+        Kind::While => repeated(alloc, tokens, place_after(tokens, at)),
+        Kind::For => counted(alloc, tokens, place_after(tokens, at)),
         _ => plain(alloc, tokens, at),
     }
 }
 
-/// A statement that belongs to another.
+/// A statement that is part of another.
 #[cycle(statements)]
 fn body(alloc: Global, tokens: &TokenList, at: u64) -> Result<(Box<Stmt>, u64), AllocError>
     ensures stays { IfOk result (λ r. at ≤ r.1) }
@@ -346,7 +363,7 @@ fn body(alloc: Global, tokens: &TokenList, at: u64) -> Result<(Box<Stmt>, u64), 
     Ok((Box::new(alloc, one)?, end))
 }
 
-/// A choice, from behind its `if`.
+/// A choice, from the place after its `if`.
 #[cycle(statements)]
 #[tactic(auto, using(crate::proofs::FixesStmt::choices))]
 fn choice(alloc: Global, tokens: &TokenList, at: u64) -> Result<(Stmt, u64), AllocError>
@@ -356,13 +373,13 @@ fn choice(alloc: Global, tokens: &TokenList, at: u64) -> Result<(Stmt, u64), All
     let (condition, place) = bracketed(alloc, tokens, at)?;
     let (first, end) = body(alloc, tokens, place)?;
     if kind_at(tokens, end) == Kind::Else {
-        let (other, end) = body(alloc, tokens, behind(tokens, end))?;
+        let (other, end) = body(alloc, tokens, place_after(tokens, end))?;
         return Ok((make_if_else(condition, first, other), end));
     }
     Ok((make_if(condition, first), end))
 }
 
-/// A loop, from behind its `while`.
+/// A loop, from the place after its `while`.
 #[cycle(statements)]
 #[tactic(auto, using(crate::proofs::FixesStmt::while_read))]
 fn repeated(alloc: Global, tokens: &TokenList, at: u64) -> Result<(Stmt, u64), AllocError>
@@ -374,24 +391,26 @@ fn repeated(alloc: Global, tokens: &TokenList, at: u64) -> Result<(Stmt, u64), A
     Ok((make_while(condition, body), end))
 }
 
-/// A loop with three parts, from behind its `for`.
+/// A loop with three parts, from the place after its `for`.
 #[cycle(statements)]
 #[tactic(auto, using(crate::proofs::FixesStmt::counted_read))]
 fn counted(alloc: Global, tokens: &TokenList, at: u64) -> Result<(Stmt, u64), AllocError>
     ensures stays { IfOk result (λ r. at ≤ r.1) }
-    ensures fixes { IfOk result (λ r. Fixes (SpellsCounted tokens.now.tokens at) r.1 (stmt_of r.0)) }
+    ensures fixes { IfOk result (λ r. Fixes (SpellsCounted tokens.now.tokens at) r.1
+        (stmt_of r.0)) }
 {
     let (parts, place) = for_parts(alloc, tokens, at)?;
     let (body, end) = body(alloc, tokens, place)?;
     Ok((make_for(parts, body), end))
 }
 
-/// Statements from behind an opening brace to behind the closing one.
+/// The statements from the place after an opening brace to the place after the closing one.
 #[cycle(statements)]
 #[tactic(auto, using(crate::proofs::FixesStmt::blocks))]
 pub fn block(alloc: Global, tokens: &TokenList, at: u64) -> Result<(Vec<Stmt>, u64), AllocError>
     ensures stays { IfOk result (λ r. at ≤ r.1) }
-    ensures fixes { IfOk result (λ r. Fixes (StatedAll tokens.now.tokens at) r.1 (statements_in r.0.items)) }
+    ensures fixes { IfOk result (λ r.
+        Fixes (StatedAll tokens.now.tokens at) r.1 (statements_in r.0.items)) }
 {
     let mut all = Vec::new(alloc);
     let mut place = at;
@@ -400,10 +419,10 @@ pub fn block(alloc: Global, tokens: &TokenList, at: u64) -> Result<(Vec<Stmt>, u
         add_statement(&mut all, one)?;
         place = next;
     }
-    Ok((all, behind(tokens, place)))
+    Ok((all, place_after(tokens, place)))
 }
 
-/// Whether neither a closing brace nor the end stands there.
+/// Whether the token there is neither a closing brace nor the end.
 pub fn goes_on(tokens: &TokenList, at: u64) -> bool
     ensures value { result ≡ pieces.goes_on (kinds.kind_at tokens.now.tokens at) }
     ensures inside { result ≡ true → at < length tokens.now.tokens }

@@ -1,9 +1,9 @@
-//! Expressions. A place is a token's place in the list of tokens, counted from 0. Brackets round an
-//! expression leave no node.
+//! Expressions. A place is a token's place in the list of tokens, counted from 0. Brackets around
+//! an expression leave no node.
 
 use nvm_base::Text;
 
-/// A name and the place where it stands.
+/// A name and its place.
 #[derive(Drop)]
 pub struct Name {
     pub text: Text,

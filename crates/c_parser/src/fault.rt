@@ -7,13 +7,13 @@ use std::alloc::{AllocError, AllocFailed};
 use thiserror::Error;
 
 /// Why no tree is answered. A place is that of a token, counted from 0; the list's length is the
-/// place of its end.
+/// place of the end.
 #[derive(Clone, Copy, Debug, PartialEq, Eq, Error)]
 pub enum ParseFault {
     /// No program begins with the tokens up to this one.
     #[error("the token at place {0} continues no program")]
     Syntax(u64),
-    /// This token is the first that weighs over 64.
+    /// This token is the first whose weight is over 64.
     #[error("the token at place {0} stands too deep")]
     TooDeep(u64),
     #[error("no memory")]

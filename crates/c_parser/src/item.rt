@@ -1,4 +1,4 @@
-//! What stands at the top of a program.
+//! The items at the top level of a program.
 
 use crate::expr::Name;
 use crate::stmt::{Stmt, TypeName};
@@ -39,7 +39,7 @@ pub struct Parameter {
     pub name: Name,
 }
 
-/// A function. Its result is absent where it is `void`.
+/// A function. Its result is absent if it is `void`.
 #[derive(Drop)]
 pub struct Function {
     pub tx: bool,

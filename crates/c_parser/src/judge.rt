@@ -1,9 +1,9 @@
-//! Whether a list of tokens is a program, and which token is refused where it isn't.
+//! Whether a list of tokens is a program, and which token is refused if it isn't.
 
 ghost use Rattle.std.specs.Prelude.{ℕ, List, [], ◌∷◌, ◌≡◌, ◌≤◌, ◌+◌, OnOk, IfOk, IfErr, Some, None};
 ghost use Rattle.c_parser.specs.Wants as wants;
 ghost use Rattle.c_parser.specs.Weight.{weight};
-ghost use Rattle.c_parser.specs.Run.{run, stepped, Accepted, Refuses};
+ghost use Rattle.c_parser.specs.inside.Run.{parse_run, parser_stepped, Accepted, ParseRefuses};
 
 use crate::fault::ParseFault;
 use crate::kind::{Kind, kind_at};
@@ -11,10 +11,10 @@ use crate::want::{Taken, Want, Wants};
 use c_lexer::TokenList;
 use std::alloc::{AllocError, Global};
 
-/// Lets the wants meet a token, and says whether it may stand there.
+/// Lets the wants take a token, and says whether it may come here.
 fn step(stack: &mut Wants, kind: Kind) -> Result<bool, AllocError>
     requires { weight stack.old ≤ 64 }
-    ensures { IfOk result (λ b. stepped b stack.new ≡ wants.step stack.old kind) }
+    ensures { IfOk result (λ b. parser_stepped b stack.new ≡ wants.parser_step stack.old kind) }
 {
     'next: while let Some(want) = stack.pop() {
         match stack.meet(want, kind)? {
@@ -26,12 +26,14 @@ fn step(stack: &mut Wants, kind: Kind) -> Result<bool, AllocError>
     Ok(kind == Kind::End)
 }
 
-/// Accepts exactly the lists that some program has and that nowhere weigh over 64, and names the
-/// first token that no program continues or that stands too deep.
+/// Accepts exactly the lists that spell some program and nowhere weigh over 64; otherwise names the
+/// first token that continues no program or is too deep.
 #[tactic(auto, using(crate::proofs::Steps::judging))]
 pub fn judge(alloc: Global, tokens: &TokenList) -> Result<(), ParseFault>
-    ensures accepted { OnOk result (run (Some 64) tokens.now.tokens 0 (Want.Items ∷ []) ≡ Accepted) }
-    ensures refused { IfErr result (λ f. Refuses f (run (Some 64) tokens.now.tokens 0 (Want.Items ∷ []))) }
+    ensures accepted { OnOk result (parse_run (Some 64) tokens.now.tokens 0 (Want.Items ∷ [])
+        ≡ Accepted) }
+    ensures refused { IfErr result
+        (λ f. ParseRefuses f (parse_run (Some 64) tokens.now.tokens 0 (Want.Items ∷ []))) }
 {
     let mut stack = Wants::new(alloc);
     stack.push(Want::Items)?;

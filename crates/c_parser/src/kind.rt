@@ -15,7 +15,7 @@ use std::alloc::{AllocError, Global};
 pub enum Kind {
     Name,
     Number,
-    /// A binary operator; `-` is a unary one too, and `*` belongs to types.
+    /// A binary operator; `-` is also a unary one, and `*` also belongs to types.
     Operator(BinaryOp),
     /// `!`
     Not,
@@ -146,7 +146,7 @@ pub fn kind_at(tokens: &TokenList, at: u64) -> Kind
     }
 }
 
-/// The name at a place, or an empty one where none is there.
+/// The name at a place, or an empty one if there is none.
 pub fn name_at(alloc: Global, tokens: &TokenList, at: u64) -> Result<Name, AllocError>
     ensures { IfOk result (λ n. ident_of n ≡ kinds.ident_at tokens.now.tokens at) }
 {
@@ -159,7 +159,7 @@ pub fn name_at(alloc: Global, tokens: &TokenList, at: u64) -> Result<Name, Alloc
     Ok(Name { text, place: at })
 }
 
-/// The number at a place, or 0 where none is there.
+/// The number at a place, or 0 if there is none.
 pub fn value_at(tokens: &TokenList, at: u64) -> i64
     ensures { result ≡ kinds.value_at tokens.now.tokens at }
 {
@@ -172,8 +172,8 @@ pub fn value_at(tokens: &TokenList, at: u64) -> i64
     }
 }
 
-/// The place behind a token; at the end of the list it stays.
-pub fn behind(tokens: &TokenList, at: u64) -> u64
+/// The place after a token; at the end of the list it stays.
+pub fn place_after(tokens: &TokenList, at: u64) -> u64
     ensures moves { at < length tokens.now.tokens → result ≡ at + 1 }
     ensures stays { at ≤ result }
 {

@@ -1,6 +1,6 @@
-//! The tree of a program. It stands on `c_lexer`. Its one contract for the crates above: `parse`
-//! answers exactly the tree that the tokens spell, no token of it being too heavy, and refuses any
-//! other list at the first token that no program continues or that stands too deep.
+//! The tree of a program. It rests on `c_lexer`. Its one contract for the crates above: `parse`
+//! answers exactly the tree that the tokens spell, if no token of it is too heavy, and refuses any
+//! other list at the first token that continues no program or is too deep.
 #![tactic(auto)]
 
 mod ast;
@@ -14,8 +14,6 @@ mod judge;
 mod kind;
 mod parser;
 pub mod stmt;
-#[cfg(test)]
-mod tests;
 mod want;
 
 pub use ast::Ast;

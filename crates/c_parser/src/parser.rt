@@ -1,7 +1,7 @@
 //! The parser.
 
 ghost use Rattle.std.specs.Prelude.{ℕ, List, ◌≡◌, ◌+◌, IfOk, IfErr, OnOk, length, map};
-ghost use Rattle.c_parser.specs.Exact.{weights, LightBefore, Gives, NoneBegins, SomeBegins, SomeSinks};
+ghost use Rattle.c_parser.specs.Exact.{weights, LightBefore, ParseGives, NoneBegins, SomeBegins, SomeSinks};
 ghost use Rattle.c_parser.specs.declared.fault.ParseFault.TheVariants.{Syntax, TooDeep};
 ghost use Rattle.c_parser.specs.ItemTree.{ItemTree};
 ghost use Rattle.c_parser.specs.Program.{tree_of};
@@ -16,20 +16,26 @@ use std::alloc::Global;
 
 /// The tree of a program, or the first token that is refused.
 ///
-/// The tokens are judged first, one by one; the tree is built from those that were accepted.
+/// The tokens are judged first, one by one; the tree is then built from the accepted tokens.
 pub fn parse(alloc: Global, tokens: &TokenList) -> Result<Ast, ParseFault>
     ensures lines { IfOk result (λ p. p.lines ≡ map (λ placed. placed.line) tokens.now.tokens) }
     ensures last { IfOk result (λ p. p.last ≡ tokens.now.last) }
-    // The answered tree is the one that the tokens spell, and no token of it is too heavy.
+    // The answered tree is the one that the tokens spell, and no token is too heavy.
     ensures found { IfOk result (λ p. SpellsProgram tokens.now.tokens (tree_of p)) }
-    ensures light { OnOk result (LightBefore (weights tokens.now.tokens) (length tokens.now.tokens)) }
-    // What some tree spells, with no token too heavy, is answered by that tree, or memory runs out.
-    ensures only { (xs : List ItemTree) → SpellsProgram tokens.now.tokens xs → LightBefore (weights tokens.now.tokens) (length tokens.now.tokens) → Gives result xs }
+    ensures light { OnOk result (LightBefore (weights tokens.now.tokens)
+        (length tokens.now.tokens)) }
+    // If some tree spells the tokens, and none is too heavy, the answer is that tree, or memory
+    // runs out.
+    ensures only { (xs : List ItemTree) → SpellsProgram tokens.now.tokens xs
+        → LightBefore (weights tokens.now.tokens) (length tokens.now.tokens)
+        → ParseGives result xs }
     // No program begins with the tokens up to a refused one.
-    ensures none { IfErr result (λ f. (t : ℕ) → f ≡ Syntax t → NoneBegins tokens.now.tokens (t + 1)) }
-    // Some program begins with those before it, none of them too heavy.
+    ensures none { IfErr result (λ f. (t : ℕ) → f ≡ Syntax t
+        → NoneBegins tokens.now.tokens (t + 1)) }
+    // Some program begins with the tokens before a refused one, and none of them is too heavy.
     ensures some { IfErr result (λ f. (t : ℕ) → f ≡ Syntax t → SomeBegins tokens.now.tokens t) }
-    // Some program begins with the tokens up to one that is too deep, the first that is too heavy.
+    // Some program begins with the tokens up to one that is too deep, which is the first that is
+    // too heavy.
     ensures deep { IfErr result (λ f. (t : ℕ) → f ≡ TooDeep t → SomeSinks tokens.now.tokens t) }
 {
     judge(alloc, tokens)?;

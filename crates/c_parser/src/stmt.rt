@@ -2,7 +2,7 @@
 
 use crate::expr::{Argument, Expr, Name};
 
-/// A type as it is written.
+/// A type as it is written in the text.
 #[derive(Drop)]
 pub enum TypeName {
     /// `int64_t`
@@ -11,14 +11,14 @@ pub enum TypeName {
     Pointer(Name),
 }
 
-/// The value behind a `=`, with the place of the `=`.
+/// The value after a `=`, with the place of the `=`.
 #[derive(Drop)]
 pub struct Initial {
     pub place: u64,
     pub value: Expr,
 }
 
-/// `TYPE NAME = VALUE`, the value being optional.
+/// `TYPE NAME = VALUE`, where the value is optional.
 #[derive(Drop)]
 pub struct Declaration {
     pub ty: TypeName,
@@ -26,7 +26,7 @@ pub struct Declaration {
     pub initial: Option<Initial>,
 }
 
-/// What an assignment does with its target.
+/// The action of an assignment on its target.
 #[derive(Clone, Copy, Debug, PartialEq, Eq)]
 pub enum AssignOp {
     /// `=`
@@ -37,7 +37,7 @@ pub enum AssignOp {
     Sub,
 }
 
-/// What a step does with its target.
+/// The action of a step on its target.
 #[derive(Clone, Copy, Debug, PartialEq, Eq)]
 pub enum StepOp {
     /// `++`
@@ -107,7 +107,7 @@ pub enum Stmt {
     },
     Break,
     Continue,
-    /// The place is that of `return`.
+    /// A `return`; the place is that of the word.
     Return {
         place: u64,
         value: Option<Expr>,

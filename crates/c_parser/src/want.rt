@@ -1,8 +1,9 @@
-//! What must still come, as a stack, and what a token does to it.
+//! What must still come, as a stack, and the effect of a token on it.
 
 ghost use Rattle.std.specs.Prelude.{ℕ, List, [], ◌∷◌, ◌++◌, ◌≡◌, ◌≤◌, ◌<◌, ◌+◌, OnOk, IfOk, reverse, nat_lt};
 ghost use Rattle.c_parser.specs.Wants as wants;
-ghost use Rattle.c_parser.specs.Wants.{made, done};
+ghost use Rattle.c_parser.specs.inside.Wants as inside_wants;
+ghost use Rattle.c_parser.specs.inside.Wants.{moves_to, done};
 ghost use Rattle.c_parser.specs.Weight as weights;
 ghost use Rattle.c_parser.specs.Weight.{weight};
 
@@ -12,17 +13,17 @@ use crate::stmt::{AssignOp, StepOp};
 use std::alloc::{AllocError, Global};
 use std::marker::Model;
 
-/// One piece of what must still come. A number counts the operators so far of the expression that
-/// the piece belongs to; a truth value says whether a statement stands in a loop.
+/// A part of what must still come. A number counts the operators so far in the expression that the
+/// part belongs to; a truth value says whether a statement is inside a loop.
 #[derive(Clone, Copy)]
 pub enum Want {
     /// An operand.
     Operand(u64),
     /// What may follow an operand.
     Rest(u64),
-    /// The same behind a name, which may be called.
+    /// The same after a name, which may be called.
     Named(u64),
-    /// The `.` behind `root`.
+    /// The `.` after `root`.
     Dot(u64),
     /// The first argument, or the `)`.
     FirstArgument,
@@ -40,27 +41,27 @@ pub enum Want {
     Round,
     /// The `]` of an open bracket.
     Square,
-    /// What a statement does with a target, of which more may come.
+    /// An action on a target, before which more of the target may come.
     Target(u64),
-    /// The same behind a name, which may be called.
+    /// The same after a name, which may be called.
     NamedTarget,
-    /// The same behind a call, which may stand alone.
+    /// The same after a call, which may stand alone.
     Called,
-    /// The `.` behind a target's `root`.
+    /// The `.` after a target's `root`.
     DotTarget,
     /// `( EXPRESSION )`
     OpenExpression,
     /// `( )`
     OpenNothing,
-    /// Perhaps a `=` and an expression.
+    /// An optional `=` and its expression.
     Initial,
-    /// Perhaps an expression.
+    /// An optional expression.
     Value,
-    /// The statement that belongs to an `if`, `else`, `while` or `for`.
+    /// The statement of an `if`, `else`, `while` or `for`.
     Body(bool),
-    /// The end of a body without braces. No token stands for it.
+    /// The end of a body without braces. No token marks it.
     Bare,
-    /// Perhaps an `else` and its statement.
+    /// An optional `else` and its statement.
     Else(bool),
     /// Statements, and the `}` of an open block.
     Block(bool),
@@ -71,7 +72,7 @@ pub enum Want {
     TypeName,
     /// Fields, and the `}` of an open struct.
     Fields,
-    /// Perhaps a length in brackets.
+    /// An optional length in brackets.
     Length,
     /// `void` or a type.
     Result,
@@ -88,12 +89,12 @@ pub enum Want {
     Items,
 }
 
-/// How much a token may weigh.
+/// The greatest weight that a token may have.
 const LIMIT: u64 = 64;
 
-/// The weight that a want adds to what stands open.
+/// The weight that a want adds.
 fn own(want: Want) -> u64
-    ensures { result ≡ weights.own want }
+    ensures { result ≡ weights.own_weight want }
 {
     match want {
         Want::Operand(n) | Want::Rest(n) | Want::Named(n) | Want::Dot(n) | Want::Target(n) => n,
@@ -104,14 +105,14 @@ fn own(want: Want) -> u64
     }
 }
 
-/// What a token does to the want on top.
+/// The effect of a token on the want on top.
 #[derive(Clone, Copy)]
 pub enum Taken {
-    /// It may not stand here.
+    /// The token may not come here.
     Refused,
-    /// Nothing: the want may stay unmet, and the token is the next one's.
+    /// The want stays unmet, and the token goes to the next one.
     Yielded,
-    /// It belongs to it.
+    /// The want takes the token.
     Taken,
 }
 
@@ -131,7 +132,7 @@ impl Model for Wants {
 }
 
 impl Wants {
-    /// Nothing is wanted. It takes no memory.
+    /// The empty stack. It takes no memory.
     pub fn new(alloc: Global) -> Self
         ensures { result ≡ [] }
     {
@@ -140,7 +141,7 @@ impl Wants {
         }
     }
 
-    /// Puts one want on top.
+    /// Pushes one want.
     #[tactic(auto, using(crate::proofs::Stack::stack))]
     pub fn push(&mut self, want: Want) -> Result<(), AllocError>
         ensures { OnOk result (self.new ≡ want ∷ self.old) }
@@ -149,15 +150,15 @@ impl Wants {
         Ok(())
     }
 
-    /// Takes the want on top.
+    /// Pops the want on top.
     #[tactic(auto, using(crate::proofs::Stack::stack))]
     pub fn pop(&mut self) -> Option<Want>
-        ensures { wants.Popped result self.new self.old }
+        ensures { inside_wants.WantPopped result self.new self.old }
     {
         self.all.pop()
     }
 
-    /// Puts wants on top, the first of them topmost.
+    /// Pushes wants, so that the first of them is on top.
     fn put(&mut self, more: &[Want]) -> Result<(), AllocError>
         ensures { OnOk result (self.new ≡ more.now ++ self.old) }
     {
@@ -168,7 +169,7 @@ impl Wants {
         Ok(())
     }
 
-    /// Whether what stands open weighs over the limit.
+    /// Whether what is open weighs over the limit.
     #[tactic(auto, using(crate::proofs::Stack::heavy))]
     pub fn is_heavy(&self) -> bool
         ensures { result ≡ nat_lt 64 (weight self.now) }
@@ -177,7 +178,7 @@ impl Wants {
     }
 
     fn take(&mut self, more: &[Want]) -> Result<Taken, AllocError>
-        ensures { IfOk result (λ t. done t self.new ≡ wants.Takes (more.now ++ self.old)) }
+        ensures { IfOk result (λ t. done t self.new ≡ inside_wants.Takes (more.now ++ self.old)) }
     {
         self.put(more)?;
         Ok(Taken::Taken)
@@ -185,7 +186,8 @@ impl Wants {
 
     fn operand(&mut self, n: u64, kind: Kind) -> Result<Taken, AllocError>
         requires { n ≤ 64 }
-        ensures meets { IfOk result (λ t. done t self.new ≡ made (wants.operand n kind) self.old) }
+        ensures meets { IfOk result (λ t. done t self.new ≡ moves_to (wants.operand n kind)
+            self.old) }
         ensures kept { IfOk result (λ t. t ≡ Taken.Refused → self.new ≡ self.old) }
     {
         match kind {
@@ -203,7 +205,7 @@ impl Wants {
 
     fn rest(&mut self, n: u64, kind: Kind) -> Result<Taken, AllocError>
         requires { n ≤ 64 }
-        ensures { IfOk result (λ t. done t self.new ≡ made (wants.rest n kind) self.old) }
+        ensures { IfOk result (λ t. done t self.new ≡ moves_to (wants.rest n kind) self.old) }
     {
         match kind {
             Kind::Operator(_) => self.take(&[Want::Operand(n + 1)]),
@@ -215,7 +217,7 @@ impl Wants {
 
     fn named(&mut self, n: u64, kind: Kind) -> Result<Taken, AllocError>
         requires { n ≤ 64 }
-        ensures { IfOk result (λ t. done t self.new ≡ made (wants.named n kind) self.old) }
+        ensures { IfOk result (λ t. done t self.new ≡ moves_to (wants.named n kind) self.old) }
     {
         if kind == Kind::OpenRound {
             return self.take(&[Want::FirstArgument, Want::Rest(n)]);
@@ -225,7 +227,7 @@ impl Wants {
 
     fn dot(&mut self, n: u64, kind: Kind) -> Result<Taken, AllocError>
         requires { n ≤ 64 }
-        ensures { IfOk result (λ t. done t self.new ≡ made (wants.dot n kind) self.old) }
+        ensures { IfOk result (λ t. done t self.new ≡ moves_to (wants.dot n kind) self.old) }
     {
         match kind {
             Kind::Dot => self.take(&[Want::Ident, Want::Rest(n + 1)]),
@@ -234,7 +236,8 @@ impl Wants {
     }
 
     fn first_argument(&mut self, kind: Kind) -> Result<Taken, AllocError>
-        ensures { IfOk result (λ t. done t self.new ≡ made (wants.first_argument kind) self.old) }
+        ensures { IfOk result (λ t. done t self.new ≡ moves_to (wants.first_argument kind)
+            self.old) }
     {
         if kind == Kind::CloseRound {
             return self.take(&[]);
@@ -244,7 +247,8 @@ impl Wants {
     }
 
     fn more_arguments(&mut self, kind: Kind) -> Result<Taken, AllocError>
-        ensures { IfOk result (λ t. done t self.new ≡ made (wants.more_arguments kind) self.old) }
+        ensures { IfOk result (λ t. done t self.new ≡ moves_to (wants.more_arguments kind)
+            self.old) }
     {
         match kind {
             Kind::CloseRound => self.take(&[]),
@@ -254,7 +258,7 @@ impl Wants {
     }
 
     fn new_open(&mut self, kind: Kind) -> Result<Taken, AllocError>
-        ensures { IfOk result (λ t. done t self.new ≡ made (wants.new_open kind) self.old) }
+        ensures { IfOk result (λ t. done t self.new ≡ moves_to (wants.new_open kind) self.old) }
     {
         match kind {
             Kind::OpenRound => self.take(&[Want::StructWord, Want::Ident, Want::Round]),
@@ -264,7 +268,8 @@ impl Wants {
 
     fn target(&mut self, n: u64, kind: Kind) -> Result<Taken, AllocError>
         requires { n ≤ 64 }
-        ensures meets { IfOk result (λ t. done t self.new ≡ made (wants.target n kind) self.old) }
+        ensures meets { IfOk result (λ t. done t self.new ≡ moves_to (wants.target_move n kind)
+            self.old) }
         ensures kept { IfOk result (λ t. t ≡ Taken.Refused → self.new ≡ self.old) }
     {
         match kind {
@@ -277,7 +282,7 @@ impl Wants {
     }
 
     fn named_target(&mut self, kind: Kind) -> Result<Taken, AllocError>
-        ensures { IfOk result (λ t. done t self.new ≡ made (wants.named_target kind) self.old) }
+        ensures { IfOk result (λ t. done t self.new ≡ moves_to (wants.named_target kind) self.old) }
     {
         if kind == Kind::OpenRound {
             return self.take(&[Want::FirstArgument, Want::Called]);
@@ -286,7 +291,7 @@ impl Wants {
     }
 
     fn dot_target(&mut self, kind: Kind) -> Result<Taken, AllocError>
-        ensures { IfOk result (λ t. done t self.new ≡ made (wants.dot_target kind) self.old) }
+        ensures { IfOk result (λ t. done t self.new ≡ moves_to (wants.dot_target kind) self.old) }
     {
         match kind {
             Kind::Dot => self.take(&[Want::Ident, Want::Target(1)]),
@@ -295,7 +300,7 @@ impl Wants {
     }
 
     fn initial(&mut self, kind: Kind) -> Result<Taken, AllocError>
-        ensures { IfOk result (λ t. done t self.new ≡ made (wants.initial kind) self.old) }
+        ensures { IfOk result (λ t. done t self.new ≡ moves_to (wants.initial kind) self.old) }
     {
         match kind {
             Kind::Assign(AssignOp::Set) => self.take(&[Want::Operand(0)]),
@@ -304,7 +309,7 @@ impl Wants {
     }
 
     fn type_begins(&mut self, kind: Kind) -> Result<Taken, AllocError>
-        ensures { IfOk result (λ t. done t self.new ≡ made (wants.type_begins kind) self.old) }
+        ensures { IfOk result (λ t. done t self.new ≡ moves_to (wants.type_begins kind) self.old) }
     {
         match kind {
             Kind::Int => self.take(&[]),
@@ -314,7 +319,8 @@ impl Wants {
     }
 
     fn simple_begins(&mut self, kind: Kind) -> Result<Taken, AllocError>
-        ensures meets { IfOk result (λ t. done t self.new ≡ made (wants.simple_begins kind) self.old) }
+        ensures meets { IfOk result (λ t. done t self.new ≡ moves_to (wants.simple_begins kind)
+            self.old) }
         ensures kept { IfOk result (λ t. t ≡ Taken.Refused → self.new ≡ self.old) }
     {
         match kind {
@@ -330,7 +336,7 @@ impl Wants {
     }
 
     fn leaves(&mut self, in_loop: bool) -> Result<Taken, AllocError>
-        ensures { IfOk result (λ t. done t self.new ≡ made (wants.leaves in_loop) self.old) }
+        ensures { IfOk result (λ t. done t self.new ≡ moves_to (wants.leaves in_loop) self.old) }
     {
         if !in_loop {
             return Ok(Taken::Refused);
@@ -339,7 +345,8 @@ impl Wants {
     }
 
     fn statement(&mut self, in_loop: bool, kind: Kind) -> Result<Taken, AllocError>
-        ensures { IfOk result (λ t. done t self.new ≡ made (wants.statement in_loop kind) self.old) }
+        ensures { IfOk result (λ t. done t self.new ≡ moves_to (wants.statement in_loop kind)
+            self.old) }
     {
         match kind {
             Kind::Semicolon => self.take(&[]),
@@ -369,7 +376,7 @@ impl Wants {
     }
 
     fn body(&mut self, in_loop: bool, kind: Kind) -> Result<Taken, AllocError>
-        ensures { IfOk result (λ t. done t self.new ≡ made (wants.body in_loop kind) self.old) }
+        ensures { IfOk result (λ t. done t self.new ≡ moves_to (wants.body in_loop kind) self.old) }
     {
         if kind == Kind::OpenBrace {
             return self.take(&[Want::Block(in_loop)]);
@@ -379,7 +386,8 @@ impl Wants {
     }
 
     fn or_else(&mut self, in_loop: bool, kind: Kind) -> Result<Taken, AllocError>
-        ensures { IfOk result (λ t. done t self.new ≡ made (wants.or_else in_loop kind) self.old) }
+        ensures { IfOk result (λ t. done t self.new ≡ moves_to (wants.else_move in_loop kind)
+            self.old) }
     {
         match kind {
             Kind::Else => self.take(&[Want::Body(in_loop)]),
@@ -388,7 +396,8 @@ impl Wants {
     }
 
     fn block(&mut self, in_loop: bool, kind: Kind) -> Result<Taken, AllocError>
-        ensures { IfOk result (λ t. done t self.new ≡ made (wants.block in_loop kind) self.old) }
+        ensures { IfOk result (λ t. done t self.new ≡ moves_to (wants.block in_loop kind)
+            self.old) }
     {
         if kind == Kind::CloseBrace {
             return self.take(&[]);
@@ -398,7 +407,7 @@ impl Wants {
     }
 
     fn open_for(&mut self, kind: Kind) -> Result<Taken, AllocError>
-        ensures { IfOk result (λ t. done t self.new ≡ made (wants.open_for kind) self.old) }
+        ensures { IfOk result (λ t. done t self.new ≡ moves_to (wants.open_for kind) self.old) }
     {
         match kind {
             Kind::OpenRound => self.take(&[
@@ -414,28 +423,30 @@ impl Wants {
     }
 
     fn value(&mut self, kind: Kind) -> Result<Taken, AllocError>
-        ensures { IfOk result (λ t. done t self.new ≡ made (wants.perhaps (wants.operand 0 kind)) self.old) }
+        ensures { IfOk result (λ t. done t self.new
+            ≡ moves_to (wants.perhaps (wants.operand 0 kind)) self.old) }
     {
         let taken = self.operand(0, kind)?;
         Ok(or_absent(taken))
     }
 
     fn called(&mut self, kind: Kind) -> Result<Taken, AllocError>
-        ensures { IfOk result (λ t. done t self.new ≡ made (wants.called kind) self.old) }
+        ensures { IfOk result (λ t. done t self.new ≡ moves_to (wants.called_move kind) self.old) }
     {
         let taken = self.target(0, kind)?;
         Ok(or_absent(taken))
     }
 
     fn for_third(&mut self, kind: Kind) -> Result<Taken, AllocError>
-        ensures { IfOk result (λ t. done t self.new ≡ made (wants.perhaps (wants.simple_begins kind)) self.old) }
+        ensures { IfOk result (λ t. done t self.new
+            ≡ moves_to (wants.perhaps (wants.simple_begins kind)) self.old) }
     {
         let taken = self.simple_begins(kind)?;
         Ok(or_absent(taken))
     }
 
     fn for_first(&mut self, kind: Kind) -> Result<Taken, AllocError>
-        ensures { IfOk result (λ t. done t self.new ≡ made (wants.for_first kind) self.old) }
+        ensures { IfOk result (λ t. done t self.new ≡ moves_to (wants.for_first kind) self.old) }
     {
         match kind {
             Kind::Int => self.take(&[Want::Ident, Want::Initial]),
@@ -445,7 +456,7 @@ impl Wants {
     }
 
     fn fields(&mut self, kind: Kind) -> Result<Taken, AllocError>
-        ensures { IfOk result (λ t. done t self.new ≡ made (wants.fields kind) self.old) }
+        ensures { IfOk result (λ t. done t self.new ≡ moves_to (wants.fields kind) self.old) }
     {
         if kind == Kind::CloseBrace {
             return self.take(&[]);
@@ -455,7 +466,7 @@ impl Wants {
     }
 
     fn array_length(&mut self, kind: Kind) -> Result<Taken, AllocError>
-        ensures { IfOk result (λ t. done t self.new ≡ made (wants.length_of kind) self.old) }
+        ensures { IfOk result (λ t. done t self.new ≡ moves_to (wants.length_move kind) self.old) }
     {
         match kind {
             Kind::OpenSquare => self.take(&[Want::Digits, Want::Square]),
@@ -464,7 +475,8 @@ impl Wants {
     }
 
     fn result_begins(&mut self, kind: Kind) -> Result<Taken, AllocError>
-        ensures { IfOk result (λ t. done t self.new ≡ made (wants.result_begins kind) self.old) }
+        ensures { IfOk result (λ t. done t self.new ≡ moves_to (wants.result_begins kind)
+            self.old) }
     {
         if kind == Kind::Void {
             return self.take(&[]);
@@ -473,7 +485,8 @@ impl Wants {
     }
 
     fn parameters(&mut self, kind: Kind) -> Result<Taken, AllocError>
-        ensures { IfOk result (λ t. done t self.new ≡ made (wants.parameters kind) self.old) }
+        ensures { IfOk result (λ t. done t self.new ≡ moves_to (wants.parameters_move kind)
+            self.old) }
     {
         match kind {
             Kind::CloseRound => self.take(&[]),
@@ -486,7 +499,8 @@ impl Wants {
     }
 
     fn more_parameters(&mut self, kind: Kind) -> Result<Taken, AllocError>
-        ensures { IfOk result (λ t. done t self.new ≡ made (wants.more_parameters kind) self.old) }
+        ensures { IfOk result (λ t. done t self.new ≡ moves_to (wants.more_parameters kind)
+            self.old) }
     {
         match kind {
             Kind::CloseRound => self.take(&[]),
@@ -496,7 +510,8 @@ impl Wants {
     }
 
     fn struct_or_function(&mut self, kind: Kind) -> Result<Taken, AllocError>
-        ensures { IfOk result (λ t. done t self.new ≡ made (wants.struct_or_function kind) self.old) }
+        ensures { IfOk result (λ t. done t self.new ≡ moves_to (wants.struct_or_function kind)
+            self.old) }
     {
         match kind {
             Kind::OpenBrace => self.take(&[
@@ -517,7 +532,7 @@ impl Wants {
     }
 
     fn item(&mut self, kind: Kind) -> Result<Taken, AllocError>
-        ensures { IfOk result (λ t. done t self.new ≡ made (wants.item kind) self.old) }
+        ensures { IfOk result (λ t. done t self.new ≡ moves_to (wants.item kind) self.old) }
     {
         match kind {
             Kind::Struct => self.take(&[Want::Ident, Want::StructOrFunction]),
@@ -543,7 +558,7 @@ impl Wants {
     }
 
     fn items(&mut self, kind: Kind) -> Result<Taken, AllocError>
-        ensures { IfOk result (λ t. done t self.new ≡ made (wants.items kind) self.old) }
+        ensures { IfOk result (λ t. done t self.new ≡ moves_to (wants.items kind) self.old) }
     {
         if kind == Kind::End {
             return Ok(Taken::Yielded);
@@ -552,9 +567,10 @@ impl Wants {
         self.item(kind)
     }
 
-    /// One token that a want stands for alone, and what is wanted behind it.
+    /// A want for one token, and the wants after it.
     fn only(&mut self, is: bool, more: &[Want]) -> Result<Taken, AllocError>
-        ensures { IfOk result (λ t. done t self.new ≡ made (wants.only is more.now) self.old) }
+        ensures { IfOk result (λ t. done t self.new ≡ moves_to (inside_wants.token_then is more.now)
+            self.old) }
     {
         if !is {
             return Ok(Taken::Refused);
@@ -564,8 +580,8 @@ impl Wants {
 
     /// Lets the want that was on top meet a token.
     pub fn meet(&mut self, want: Want, kind: Kind) -> Result<Taken, AllocError>
-        requires { weights.own want ≤ 64 }
-        ensures { IfOk result (λ t. done t self.new ≡ made (wants.move want kind) self.old) }
+        requires { weights.own_weight want ≤ 64 }
+        ensures { IfOk result (λ t. done t self.new ≡ moves_to (wants.move want kind) self.old) }
     {
         match want {
             Want::Operand(n) => self.operand(n, kind),
@@ -615,9 +631,9 @@ impl Wants {
     }
 }
 
-/// A part that may be absent isn't refused: it stays unmet.
+/// A part that may be absent isn't refused but stays unmet.
 fn or_absent(taken: Taken) -> Taken
-    ensures { result ≡ wants.left taken }
+    ensures { result ≡ inside_wants.perhaps_taken taken }
 {
     match taken {
         Taken::Refused | Taken::Yielded => Taken::Yielded,

@@ -4,10 +4,10 @@ use Rattle.std.specs.Prelude.{◌&&◌}
 use Rattle.c_parser.specs.declared.expr.Argument.{Argument}
 use Rattle.c_parser.specs.ExprTree.{More, expr_of, arguments_in}
 use Rattle.c_parser.proofs.Trees.{expr_of-Call}
-use Rattle.c_types.specs.Expressions.{count}
+use Rattle.c_types.specs.Expressions.{argument_count}
 use Rattle.c_types.proofs.Told.{told_append}
 
-pub count_arguments : (xs : List Argument) → count (arguments_in xs) ≡ length xs
+pub count_arguments : (xs : List Argument) → argument_count (arguments_in xs) ≡ length xs
 count_arguments [] = refl
 count_arguments (x ∷ xs) = ap suc (count_arguments xs)
 
@@ -21,7 +21,8 @@ arguments_at (y ∷ ys) zero x lt is = rw (is, one_drop ys y) refl
 arguments_at (y ∷ ys) (suc i) x lt is =
     rw (suc_drop ys i y) (arguments_at ys i x (omega arith) is)
   where
-    suc_drop : (ys : List Argument) (i : ℕ) (y : Argument) → drop (suc i + 1) (y ∷ ys) ≡ drop (i + 1) ys
+    suc_drop : (ys : List Argument) (i : ℕ) (y : Argument)
+        → drop (suc i + 1) (y ∷ ys) ≡ drop (i + 1) ys
     suc_drop ys i y = let e : suc i + 1 ≡ suc (i + 1) = omega arith in ap (λ n. drop n (y ∷ ys)) e
 
 pub and_assoc : (a b c : Bool) → ((a && b) && c) ≡ (a && (b && c))

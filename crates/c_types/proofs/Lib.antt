@@ -2,6 +2,6 @@ pub mod Index
 pub mod Gathered
 pub mod Told
 pub mod Arguments
-pub mod Behind
+pub mod After
 pub mod Elements
 pub mod Least

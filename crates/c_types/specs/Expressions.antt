@@ -11,8 +11,8 @@ use Rattle.c_types.specs.declared.value_type.Kind.TheVariants.{Value, Array}
 use Rattle.c_types.specs.declared.fault.LimitKind.TheVariants as limit
 use Rattle.c_types.specs.declared.broken.Rule.TheVariants.{UnknownName, Mismatch, Arity, TooBig, BadTx}
 use Rattle.c_types.specs.declared.broken.Broken.{Broken}
-use Rattle.c_types.specs.Broken.{at, unless}
-use Rattle.c_types.specs.Fits.{is_any, is_int, takes, joins, applies}
+use Rattle.c_types.specs.Broken.{broken_at, unless}
+use Rattle.c_types.specs.Fits.{is_any, is_int, type_takes, joins_types, applies}
 use Rattle.c_types.specs.Tables.{Tables, index_of, struct_named, function_named, field_named, root_struct, is_length, words_at, pointer_type, declared_type}
 
 -- the names that a scope declares, in order, and the type of each
@@ -28,7 +28,7 @@ abbrev pub or_else : Option ValueType → Option ValueType → Option ValueType
 or_else None other = other
 or_else (Some ty) other = Some ty
 
--- the scopes stand from the innermost out
+-- the scopes, from the innermost out
 abbrev pub variable_type : List ℕ → List Scope → Option ValueType
 variable_type name [] = None
 variable_type name (s ∷ ss) = or_else (type_in name s) (variable_type name ss)
@@ -40,18 +40,19 @@ abbrev pub variable_broken : List Scope → Ident → List Broken
 variable_broken s name = unless (is_some (variable_type name.text s)) name.place UnknownName
 
 -- an array field is no value
-abbrev pub value_of : Kind → ValueType
-value_of (Value ty) = ty
-value_of (Array element place) = Any
+abbrev pub type_of_kind : Kind → ValueType
+type_of_kind (Value ty) = ty
+type_of_kind (Array element place) = Any
 
 abbrev pub unindexed : Kind → List Broken
 unindexed (Value ty) = []
-unindexed (Array element place) = at place Mismatch
+unindexed (Array element place) = broken_at place Mismatch
 
--- what a field denotes, named at that place
+-- what a field denotes that is named at that place
 abbrev pub field_kind : Tables → ℕ → FieldTree → Kind
 field_kind t place f = let ty = declared_type t f.ty in
-    option_map_or (λ l. if is_any ty || not (is_length l.value) then Value Any else Array ty place) f.len (Value ty)
+    option_map_or (λ l. if is_any ty || not (is_length l.value) then Value Any else Array ty place)
+    f.len (Value ty)
 
 -- a field of the struct at place i
 abbrev pub member : Tables → ℕ → Ident → Option FieldTree
@@ -63,14 +64,15 @@ member_kind t i name = option_map_or (field_kind t name.place) (member t i name)
 abbrev pub member_broken : Tables → ℕ → Ident → List Broken
 member_broken t i name = unless (is_some (member t i name)) name.place UnknownName
 
--- a field of the root: where nothing declares the root, it isn't there
+-- a field of the root; without a root declaration there is none
 abbrev pub root_kind : Tables → Ident → Kind
 root_kind t name = option_map_or (λ i. member_kind t i name) (root_struct t) (Value Any)
 
 abbrev pub root_broken : Tables → Ident → List Broken
-root_broken t name = option_map_or (λ i. member_broken t i name) (root_struct t) (unless (is_some (slice_get t.roots 0)) name.place UnknownName)
+root_broken t name = option_map_or (λ i. member_broken t i name) (root_struct t)
+    (unless (is_some (slice_get t.roots 0)) name.place UnknownName)
 
--- a field behind a pointer
+-- a field of the object that a pointer leads to
 abbrev pub arrow_kind : Tables → ValueType → Ident → Kind
 arrow_kind t (Pointer i) name = member_kind t i name
 arrow_kind t Int name = Value Any
@@ -79,8 +81,8 @@ arrow_kind t Any name = Value Any
 
 abbrev pub arrow_broken : Tables → ValueType → ℕ → Ident → List Broken
 arrow_broken t (Pointer i) place name = member_broken t i name
-arrow_broken t Int place name = at place Mismatch
-arrow_broken t Null place name = at place Mismatch
+arrow_broken t Int place name = broken_at place Mismatch
+arrow_broken t Null place name = broken_at place Mismatch
 arrow_broken t Any place name = []
 
 -- an array field is indexed by an int
@@ -95,44 +97,47 @@ abbrev pub element_of : Kind → ValueType
 element_of (Array element place) = element
 element_of (Value ty) = Any
 
--- a result where the rule is kept and no part was refused
-abbrev pub given : Bool → ValueType → ValueType
-given good ty = if good then ty else Any
+-- the type of a result if the rule is kept and no part was refused; else any
+abbrev pub type_if : Bool → ValueType → ValueType
+type_if good ty = if good then ty else Any
 
--- a type where it is written, as `struct NAME *` or in `pm_new(struct NAME)`
+-- a type as it is written, in `struct NAME *` or `pm_new(struct NAME)`
 abbrev pub pointer_broken : Tables → Ident → List Broken
-pointer_broken t name = option_map_or (λ i. unless (nat_le (words_at t i) 15) name.place (TooBig limit.Pointer (words_at t i))) (struct_named t name.text) (at name.place UnknownName)
+pointer_broken t name = option_map_or
+    (λ i. unless (nat_le (words_at t i) 15) name.place (TooBig limit.Pointer (words_at t i)))
+    (struct_named t name.text) (broken_at name.place UnknownName)
 
--- the result of a function; that of a void one is used nowhere
+-- the type of a function's result; the result of a void function is used nowhere
 abbrev pub result_type : Tables → FunctionTree → ValueType
 result_type t f = option_map_or (declared_type t) f.result_type Any
 
--- a call, used as a value where `wanted`, with n arguments
+-- whether a call with n arguments is allowed; `wanted` says that its value is used
 abbrev pub may_call : Bool → FunctionTree → ℕ → Bool
-may_call wanted f n = (not wanted || is_some f.result_type) && nat_eq n (length f.parameters) && not f.tx
+may_call wanted f n = (not wanted || is_some f.result_type) && nat_eq n (length f.parameters)
+    && not f.tx
 
 abbrev pub callee_broken : Bool → FunctionTree → ℕ → ℕ → List Broken
 callee_broken wanted f n place = unless (not wanted || is_some f.result_type) place Mismatch
     ++ (unless (nat_eq n (length f.parameters)) place Arity ++ unless (not f.tx) place BadTx)
 
 abbrev pub call_broken : Bool → Option FunctionTree → ℕ → ℕ → List Broken
-call_broken wanted None n place = at place UnknownName
+call_broken wanted None n place = broken_at place UnknownName
 call_broken wanted (Some f) n place = callee_broken wanted f n place
 
 abbrev pub call_type : Tables → Bool → Option FunctionTree → ℕ → Bool → ValueType
 call_type t wanted None n taken = Any
-call_type t wanted (Some f) n taken = given (may_call wanted f n && taken) (result_type t f)
+call_type t wanted (Some f) n taken = type_if (may_call wanted f n && taken) (result_type t f)
 
 abbrev pub parameters_of : Option FunctionTree → List ParameterTree
 parameters_of f = option_map_or (λ f. f.parameters) f []
 
--- the type of parameter i; one that isn't there takes any argument
+-- the type of parameter i; a missing parameter takes any argument
 abbrev pub parameter_type : Tables → List ParameterTree → ℕ → ValueType
 parameter_type t ps i = option_map_or (λ p. declared_type t p.ty) (slice_get ps i) Any
 
-abbrev pub count : Arguments → ℕ
-count expr.None = 0
-count (expr.More first value rest) = suc (count rest)
+abbrev pub argument_count : Arguments → ℕ
+argument_count expr.None = 0
+argument_count (expr.More first value rest) = suc (argument_count rest)
 
 abbrev mutual
   -- what an expression denotes
@@ -141,62 +146,70 @@ abbrev mutual
   kind_of t s expr.Null = Value Null
   kind_of t s (expr.Variable name) = Value (variable_kind s name)
   kind_of t s (expr.Call name all) = let f = function_named t name.text in
-      Value (call_type t true f (count all) (all_taken t s (parameters_of f) 0 all))
+      Value (call_type t true f (argument_count all) (all_taken t s (parameters_of f) 0 all))
   kind_of t s (expr.Root name) = root_kind t name
   kind_of t s (expr.New place name) = Value (pointer_type t name.text)
-  kind_of t s (expr.Arrow base place name) = arrow_kind t (value_of (kind_of t s base)) name
-  kind_of t s (expr.Index base place index) = let i = value_of (kind_of t s index) in
-      Value (given (is_indexed (kind_of t s base) && is_int i && not (is_any i)) (element_of (kind_of t s base)))
-  kind_of t s (expr.Unary op place a) = let x = value_of (kind_of t s a) in
-      Value (given (applies op x && not (is_any x)) Int)
-  kind_of t s (expr.Binary op place a b) = let x = value_of (kind_of t s a) in let y = value_of (kind_of t s b) in
-      Value (given (joins op x y && not (is_any x) && not (is_any y)) Int)
+  kind_of t s (expr.Arrow base place name) = arrow_kind t (type_of_kind (kind_of t s base)) name
+  kind_of t s (expr.Index base place index) = let i = type_of_kind (kind_of t s index) in
+      Value (type_if (is_indexed (kind_of t s base) && is_int i && not (is_any i))
+      (element_of (kind_of t s base)))
+  kind_of t s (expr.Unary op place a) = let x = type_of_kind (kind_of t s a) in
+      Value (type_if (applies op x && not (is_any x)) Int)
+  kind_of t s (expr.Binary op place a b) = let x = type_of_kind (kind_of t s a) in
+      let y = type_of_kind (kind_of t s b) in
+      Value (type_if (joins_types op x y && not (is_any x) && not (is_any y)) Int)
 
-  -- each argument from place i on has a type, which its parameter takes
+  -- each argument from place i on has a type that its parameter takes
   pub all_taken : Tables → List Scope → List ParameterTree → ℕ → Arguments → Bool
   all_taken t s ps i expr.None = true
-  all_taken t s ps i (expr.More first value rest) = let x = value_of (kind_of t s value) in
-      (takes (parameter_type t ps i) x && not (is_any x)) && all_taken t s ps (i + 1) rest
+  all_taken t s ps i (expr.More first value rest) = let x = type_of_kind (kind_of t s value) in
+      (type_takes (parameter_type t ps i) x && not (is_any x)) && all_taken t s ps (i + 1) rest
 
 -- the type of an expression that is used as a value
 abbrev pub type_of : Tables → List Scope → ExprTree → ValueType
-type_of t s e = value_of (kind_of t s e)
+type_of t s e = type_of_kind (kind_of t s e)
 
--- the rules broken by an expression that is used as a value: its own, and that an array field is indexed
-abbrev pub used : List Broken → Kind → List Broken
-used broken kind = broken ++ unindexed kind
+-- the rules broken by an expression that is used as a value: its own, and that an array field must
+-- be indexed
+abbrev pub with_unindexed : List Broken → Kind → List Broken
+with_unindexed broken kind = broken ++ unindexed kind
 
 abbrev mutual
-  -- the rules that an expression breaks, where a whole array field is no broken rule yet
+  -- the rules that an expression breaks, not yet counting a whole array field as a fault
   pub broken_in : Tables → List Scope → ExprTree → List Broken
   broken_in t s (expr.Number n) = []
   broken_in t s expr.Null = []
   broken_in t s (expr.Variable name) = variable_broken s name
   broken_in t s (expr.Call name all) = let f = function_named t name.text in
-      call_broken true f (count all) name.place ++ broken_in_all t s (parameters_of f) 0 all
+      call_broken true f (argument_count all) name.place
+      ++ broken_in_all t s (parameters_of f) 0 all
   broken_in t s (expr.Root name) = root_broken t name
   broken_in t s (expr.New place name) = pointer_broken t name
-  broken_in t s (expr.Arrow base place name) = used (broken_in t s base) (kind_of t s base) ++ arrow_broken t (type_of t s base) place name
-  broken_in t s (expr.Index base place index) = broken_in t s base ++ (used (broken_in t s index) (kind_of t s index)
+  broken_in t s (expr.Arrow base place name) =
+      with_unindexed (broken_in t s base) (kind_of t s base) ++ arrow_broken t (type_of t s base)
+      place name
+  broken_in t s (expr.Index base place index) =
+      broken_in t s base ++ (with_unindexed (broken_in t s index) (kind_of t s index)
       ++ unless (is_indexed (kind_of t s base) && is_int (type_of t s index)) place Mismatch)
-  broken_in t s (expr.Unary op place a) = used (broken_in t s a) (kind_of t s a) ++ unless (applies op (type_of t s a)) place Mismatch
-  broken_in t s (expr.Binary op place a b) = used (broken_in t s a) (kind_of t s a) ++ (used (broken_in t s b) (kind_of t s b)
-      ++ unless (joins op (type_of t s a) (type_of t s b)) place Mismatch)
+  broken_in t s (expr.Unary op place a) = with_unindexed (broken_in t s a) (kind_of t s a)
+      ++ unless (applies op (type_of t s a)) place Mismatch
+  broken_in t s (expr.Binary op place a b) = with_unindexed (broken_in t s a) (kind_of t s a)
+      ++ (with_unindexed (broken_in t s b) (kind_of t s b)
+      ++ unless (joins_types op (type_of t s a) (type_of t s b)) place Mismatch)
 
   -- the arguments from place i on
   pub broken_in_all : Tables → List Scope → List ParameterTree → ℕ → Arguments → List Broken
   broken_in_all t s ps i expr.None = []
-  broken_in_all t s ps i (expr.More first value rest) = used (broken_in t s value) (kind_of t s value)
-      ++ (unless (takes (parameter_type t ps i) (type_of t s value)) first Mismatch ++ broken_in_all t s ps (i + 1) rest)
+  broken_in_all t s ps i (expr.More first value rest) =
+      with_unindexed (broken_in t s value) (kind_of t s value)
+      ++ (unless (type_takes (parameter_type t ps i) (type_of t s value)) first Mismatch
+      ++ broken_in_all t s ps (i + 1) rest)
 
 abbrev pub value_broken : Tables → List Scope → ExprTree → List Broken
-value_broken t s e = used (broken_in t s e) (kind_of t s e)
+value_broken t s e = with_unindexed (broken_in t s e) (kind_of t s e)
 
--- a call, whose result is used where `wanted`: as a statement it isn't
+-- a call; `wanted` says that its result is used, which it isn't in a statement
 abbrev pub call_rules : Tables → List Scope → Bool → Ident → Arguments → List Broken
 call_rules t s wanted name all = let f = function_named t name.text in
-    call_broken wanted f (count all) name.place ++ broken_in_all t s (parameters_of f) 0 all
-
-abbrev pub call_kind : Tables → List Scope → Bool → Ident → Arguments → ValueType
-call_kind t s wanted name all = let f = function_named t name.text in
-    call_type t wanted f (count all) (all_taken t s (parameters_of f) 0 all)
+    call_broken wanted f (argument_count all) name.place
+    ++ broken_in_all t s (parameters_of f) 0 all

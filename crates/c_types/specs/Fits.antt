@@ -1,5 +1,5 @@
--- Which types fit where. The types of values are int, pointer to a struct, and null; a pointer's
--- struct is told by its place among the structs. A node with a refused part has the type any, which
+-- Which types fit where. The types of values are int, pointer to a struct, and null; the struct is
+-- identified by its place among the structs. A node with a refused part has the type any, which
 -- fits everywhere.
 use Rattle.std.specs.Prelude.{ℕ, Bool, true, false, ◌&&◌, nat_eq}
 use Rattle.c_parser.specs.declared.expr.UnaryOp.{UnaryOp}
@@ -17,14 +17,14 @@ is_any (Pointer s) = false
 is_any Null = false
 is_any Any = true
 
--- fits where an int is needed
+-- the type fits where an int is needed
 abbrev pub is_int : ValueType → Bool
 is_int Int = true
 is_int (Pointer s) = false
 is_int Null = false
 is_int Any = true
 
--- fits where a pointer is needed
+-- the type fits where a pointer is needed
 abbrev pub is_pointer : ValueType → Bool
 is_pointer Int = false
 is_pointer (Pointer s) = true
@@ -37,7 +37,7 @@ is_null (Pointer s) = false
 is_null Null = true
 is_null Any = true
 
--- fits where a pointer to the struct s, or null, is needed
+-- the type fits where a pointer to the struct s, or null, is needed
 abbrev pub is_pointer_to : ℕ → ValueType → Bool
 is_pointer_to s Int = false
 is_pointer_to s (Pointer t) = nat_eq s t
@@ -45,13 +45,13 @@ is_pointer_to s Null = true
 is_pointer_to s Any = true
 
 -- a target takes a value of its own type, and a pointer takes null
-abbrev pub takes : (target value : ValueType) → Bool
-takes Int value = is_int value
-takes (Pointer s) value = is_pointer_to s value
-takes Null value = is_null value
-takes Any value = true
+abbrev pub type_takes : (target value : ValueType) → Bool
+type_takes Int value = is_int value
+type_takes (Pointer s) value = is_pointer_to s value
+type_takes Null value = is_null value
+type_takes Any value = true
 
--- may be compared: both int, pointers to one struct, or pointer or null with null
+-- two values may be compared: both int, pointers to the same struct, or null with a pointer or null
 abbrev pub comparable : ValueType → ValueType → Bool
 comparable Int b = is_int b
 comparable (Pointer s) b = is_pointer_to s b
@@ -61,36 +61,36 @@ comparable Null Null = true
 comparable Null Any = true
 comparable Any b = true
 
--- the operands that a binary operator takes: `&&` and `||` all, `==` and `!=` what may be compared,
--- the others ints
-abbrev pub joins : BinaryOp → ValueType → ValueType → Bool
-joins binary.Both a b = true
-joins binary.Either a b = true
-joins binary.Equal a b = comparable a b
-joins binary.NotEqual a b = comparable a b
-joins binary.Mul a b = is_int a && is_int b
-joins binary.Div a b = is_int a && is_int b
-joins binary.Rem a b = is_int a && is_int b
-joins binary.Add a b = is_int a && is_int b
-joins binary.Sub a b = is_int a && is_int b
-joins binary.ShiftLeft a b = is_int a && is_int b
-joins binary.ShiftRight a b = is_int a && is_int b
-joins binary.Less a b = is_int a && is_int b
-joins binary.LessEqual a b = is_int a && is_int b
-joins binary.Greater a b = is_int a && is_int b
-joins binary.GreaterEqual a b = is_int a && is_int b
-joins binary.And a b = is_int a && is_int b
-joins binary.Xor a b = is_int a && is_int b
-joins binary.Or a b = is_int a && is_int b
+-- the operands that a binary operator takes: `&&` and `||` take all, `==` and `!=` take what may be
+-- compared, the others take ints
+abbrev pub joins_types : BinaryOp → ValueType → ValueType → Bool
+joins_types binary.Both a b = true
+joins_types binary.Either a b = true
+joins_types binary.Equal a b = comparable a b
+joins_types binary.NotEqual a b = comparable a b
+joins_types binary.Mul a b = is_int a && is_int b
+joins_types binary.Div a b = is_int a && is_int b
+joins_types binary.Rem a b = is_int a && is_int b
+joins_types binary.Add a b = is_int a && is_int b
+joins_types binary.Sub a b = is_int a && is_int b
+joins_types binary.ShiftLeft a b = is_int a && is_int b
+joins_types binary.ShiftRight a b = is_int a && is_int b
+joins_types binary.Less a b = is_int a && is_int b
+joins_types binary.LessEqual a b = is_int a && is_int b
+joins_types binary.Greater a b = is_int a && is_int b
+joins_types binary.GreaterEqual a b = is_int a && is_int b
+joins_types binary.And a b = is_int a && is_int b
+joins_types binary.Xor a b = is_int a && is_int b
+joins_types binary.Or a b = is_int a && is_int b
 
--- the operand that a unary operator takes: `!` all, the others an int
+-- the operand that a unary operator takes: `!` takes all, the others an int
 abbrev pub applies : UnaryOp → ValueType → Bool
 applies unary.Not a = true
 applies unary.Negate a = is_int a
 applies unary.Complement a = is_int a
 
--- `=` takes what the target takes, `+=` and `-=` stand on an int with an int
+-- `=` takes what the target takes; `+=` and `-=` need an int on both sides
 abbrev pub assigns : AssignOp → (target value : ValueType) → Bool
-assigns assign.Set target value = takes target value
+assigns assign.Set target value = type_takes target value
 assigns assign.Add target value = is_int target && is_int value
 assigns assign.Sub target value = is_int target && is_int value

@@ -1,8 +1,9 @@
--- The law of `least`: where nothing is told nothing is broken; else the one that is told is among the
+-- The law of `least_broken`: if it reports nothing, no rule is broken; else the reported one is
+-- among the
 -- broken ones, and none of them comes before it.
 use Rattle.std.specs.Prelude.{List, [], ◌∷◌, ◌≡◌, ◌⊎◌, false, Option, None, Some}
 use Rattle.c_types.specs.declared.broken.Broken.{Broken}
-use Rattle.c_types.specs.Broken.{is_before, least}
+use Rattle.c_types.specs.Broken.{is_before, least_broken}
 
 abbrev pub IsAmong : Broken → List Broken → Type 0
 IsAmong a [] = ⊥
@@ -16,5 +17,5 @@ abbrev pub IsTold : Option Broken → List Broken → Type 0
 IsTold None bs = bs ≡ []
 IsTold (Some a) bs = IsAmong a bs × NoneBefore a bs
 
-abbrev pub IsLeast : Type 0
-IsLeast = (bs : List Broken) → IsTold (least bs) bs
+abbrev pub LeastIsTold : Type 0
+LeastIsTold = (bs : List Broken) → IsTold (least_broken bs) bs

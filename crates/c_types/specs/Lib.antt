@@ -9,3 +9,4 @@ pub mod Fault
 pub mod Shapes
 pub mod Transactions
 pub mod LeastLaw
+pub mod inside

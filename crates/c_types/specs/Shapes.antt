@@ -1,5 +1,5 @@
--- What a typed program tells: the shapes of its root and of its numbered structs, which are those of
--- at most 15 words, and its transactions, each in the order of the text.
+-- What a typed program provides: the shapes of its root and of its numbered structs, which are
+-- those of at most 15 words, and its transactions, each in the order of the text.
 use Rattle.std.specs.Prelude.{List, [], ◌∷◌, map, if◌then◌else◌, nat_le, option_map, option_and_then, slice_get}
 use Rattle.std.specs.Option.{option_map_or}
 use Rattle.std.specs.Int.{w64, cast_unsigned}
@@ -8,23 +8,30 @@ use Rattle.c_parser.specs.Program.{Program, tree_of}
 use Rattle.pool_map.specs.declared.shapes.FieldShape.{FieldShape}
 use Rattle.pool_map.specs.declared.shapes.StructShape.{StructShape}
 use Rattle.pool_map.specs.declared.shapes.Shapes.{Shapes}
-use Rattle.c_types.specs.Tables.{Tables, StructTree, tables_of, words_of, root_struct}
+use Rattle.c_types.specs.Tables.{Tables, StructTree, tables_of, words_of_struct, root_struct}
 
 abbrev pub field_shape : FieldTree → FieldShape
-field_shape f = record { name = f.name.text; length = option_map (λ l. cast_unsigned w64 l.value) f.len }
+field_shape f = record {
+  name = f.name.text;
+  length = option_map (λ l. cast_unsigned w64 l.value) f.len;
+}
 
 abbrev pub struct_shape : StructTree → StructShape
 struct_shape s = record { name = s.name.text; fields = map field_shape s.fields }
 
 abbrev pub numbered : List StructTree → List StructTree
 numbered [] = []
-numbered (s ∷ ss) = if nat_le (words_of s) 15 then s ∷ numbered ss else numbered ss
+numbered (s ∷ ss) = if nat_le (words_of_struct s) 15 then s ∷ numbered ss else numbered ss
 
 abbrev pub root_fields : Tables → List FieldTree
-root_fields t = option_map_or (λ s. s.fields) (option_and_then (slice_get t.structs) (root_struct t)) []
+root_fields t = option_map_or (λ s. s.fields)
+    (option_and_then (slice_get t.structs) (root_struct t)) []
 
 abbrev pub shapes_in : Tables → Shapes
-shapes_in t = record { root = map field_shape (root_fields t); structs = map struct_shape (numbered t.structs) }
+shapes_in t = record {
+  root = map field_shape (root_fields t);
+  structs = map struct_shape (numbered t.structs);
+}
 
 abbrev pub transactions_in : List FunctionTree → List FunctionTree
 transactions_in [] = []

@@ -1,5 +1,5 @@
--- The structs, root declarations and functions of a program, each in the order of the text, and what
--- a name means: its first declaration.
+-- The structs, root declarations and functions of a program, each in the order of the text, and the
+-- meaning of a name: its first declaration.
 use Rattle.std.specs.Prelude.{ℕ, ℤ, pos, negsuc, suc, ◌+◌, ◌-◌, ◌^◌, min, List, [], ◌∷◌, map, Bool, false, ◌&&◌, nat_le, nat_lt, nat_eq, if◌then◌else◌, Option, None, Some, option_map, option_and_then, bytes_eq, slice_get}
 use Rattle.std.specs.Option.{option_map_or}
 use Rattle.c_parser.specs.ExprTree.{Ident}
@@ -34,16 +34,20 @@ roots_of (Struct name fields ∷ items) = roots_of items
 roots_of (Root name place ∷ items) = record { name = name; place = place } ∷ roots_of items
 roots_of (Function f ∷ items) = roots_of items
 
-abbrev pub functions_of : List ItemTree → List FunctionTree
-functions_of [] = []
-functions_of (Struct name fields ∷ items) = functions_of items
-functions_of (Root name place ∷ items) = functions_of items
-functions_of (Function f ∷ items) = f ∷ functions_of items
+abbrev pub function_trees : List ItemTree → List FunctionTree
+function_trees [] = []
+function_trees (Struct name fields ∷ items) = function_trees items
+function_trees (Root name place ∷ items) = function_trees items
+function_trees (Function f ∷ items) = f ∷ function_trees items
 
 abbrev pub tables_of : List ItemTree → Tables
-tables_of items = record { structs = structs_of items; roots = roots_of items; functions = functions_of items }
+tables_of items = record {
+  structs = structs_of items;
+  roots = roots_of items;
+  functions = function_trees items;
+}
 
--- the place of the first of these names that is this one
+-- the place of the first of these names that equals this one
 abbrev pub index_of : List ℕ → List (List ℕ) → Option ℕ
 index_of name [] = None
 index_of name (n ∷ ns) = if bytes_eq name n then Some 0 else option_map suc (index_of name ns)
@@ -80,7 +84,7 @@ abbrev pub is_length : ℤ → Bool
 is_length (pos n) = nat_le 1 n && nat_le n 512
 is_length (negsuc n) = false
 
--- the words of a field; a refused array counts as one
+-- the words of a field; an array of a refused length counts as one
 abbrev pub length_words : ℤ → ℕ
 length_words (pos n) = if is_length (pos n) then n else 1
 length_words (negsuc n) = 1
@@ -88,46 +92,50 @@ length_words (negsuc n) = 1
 abbrev pub field_words : FieldTree → ℕ
 field_words f = option_map_or (λ l. length_words l.value) f.len 1
 
--- the words of the field at place i of a struct with these names; one declared again counts for nothing
-abbrev pub counted : List (List ℕ) → ℕ → FieldTree → ℕ
-counted names i f = if is_first (index_of f.name.text names) i then field_words f else 0
+-- the words of the field at place i of a struct with these names; a field that is declared again
+-- counts for nothing
+abbrev pub words_counted : List (List ℕ) → ℕ → FieldTree → ℕ
+words_counted names i f = if is_first (index_of f.name.text names) i then field_words f else 0
 
 -- the words of the fields from place i on
 abbrev pub words_from : List (List ℕ) → ℕ → List FieldTree → ℕ
 words_from names i [] = 0
-words_from names i (f ∷ fs) = counted names i f + words_from names (i + 1) fs
+words_from names i (f ∷ fs) = words_counted names i f + words_from names (i + 1) fs
 
--- the words of a struct, counted in 64 bits: a longer count stands at the last number
-abbrev pub words_of : StructTree → ℕ
-words_of s = min (words_from (field_names s) 0 s.fields) (2 ^ 64 - 1)
+-- the words of a struct, counted in 64 bits: a longer count stays at the greatest number
+abbrev pub words_of_struct : StructTree → ℕ
+words_of_struct s = min (words_from (field_names s) 0 s.fields) (2 ^ 64 - 1)
 
 -- the words of the struct at place i
 abbrev pub words_at : Tables → ℕ → ℕ
-words_at t i = option_map_or words_of (slice_get t.structs i) 0
+words_at t i = option_map_or words_of_struct (slice_get t.structs i) 0
 
 -- a pointer leads to a struct of at most 15 words
 abbrev pub pointer_type : Tables → List ℕ → ValueType
-pointer_type t name = option_map_or (λ i. if nat_le (words_at t i) 15 then Pointer i else Any) (struct_named t name) Any
+pointer_type t name = option_map_or (λ i. if nat_le (words_at t i) 15 then Pointer i else Any)
+    (struct_named t name) Any
 
--- what is declared with a type has it, or any where the type is refused
+-- the type of what is declared with a type, which is any if the type is refused
 abbrev pub declared_type : Tables → TypeTree → ValueType
 declared_type t stmt.Int = Int
 declared_type t (stmt.Pointer name) = pointer_type t name.text
 
--- the words of the fields from place i on that stand before the field at place n
-abbrev pub words_before : ℕ → ℕ → List FieldTree → ℕ
-words_before n i [] = 0
-words_before n i (f ∷ fs) = (if nat_lt i n then field_words f else 0) + words_before n (i + 1) fs
+-- the words of the fields from place i on that come before the field at place n
+abbrev pub field_words_before : ℕ → ℕ → List FieldTree → ℕ
+field_words_before n i [] = 0
+field_words_before n i (f ∷ fs) =
+    (if nat_lt i n then field_words f else 0) + field_words_before n (i + 1) fs
 
--- the word at which the field at place n of a struct begins, counted as the words are
-abbrev pub word_of : StructTree → ℕ → ℕ
-word_of s n = min (words_before n 0 s.fields) (2 ^ 64 - 1)
+-- the word at which the field at place n of a struct begins, counted in the same way
+abbrev pub field_start : StructTree → ℕ → ℕ
+field_start s n = min (field_words_before n 0 s.fields) (2 ^ 64 - 1)
 
--- how many structs from place i on, up to the one at place n, have at most 15 words
+-- how many structs, from place i up to and including place n, have at most 15 words
 abbrev pub numbered_up_to : ℕ → ℕ → List StructTree → ℕ
 numbered_up_to n i [] = 0
-numbered_up_to n i (s ∷ ss) = (if nat_le i n && nat_le (words_of s) 15 then 1 else 0) + numbered_up_to n (i + 1) ss
+numbered_up_to n i (s ∷ ss) = (if nat_le i n && nat_le (words_of_struct s) 15 then 1 else 0)
+    + numbered_up_to n (i + 1) ss
 
--- the number of the struct at place n, which has at most 15 words
+-- the number of the struct at place n, which must have at most 15 words
 abbrev pub number_at : Tables → ℕ → ℕ
 number_at t n = numbered_up_to n 0 t.structs

@@ -1,7 +1,7 @@
-//! Broken rules, and the one that is told.
+//! Broken rules, and which one is reported.
 
 ghost use Rattle.std.specs.Prelude.{◌≡◌, List, [], ◌∷◌};
-ghost use Rattle.c_types.specs.Broken.{limit_rank, rank, is_before, lesser, told, at, unless};
+ghost use Rattle.c_types.specs.Broken.{rule_number, limit_number, limit_in, rule_before, is_before, lesser, least_from, broken_at, unless};
 
 use crate::fault::LimitKind;
 
@@ -13,7 +13,7 @@ pub enum Rule {
     Mismatch,
     NotAssignable,
     Arity,
-    /// A limit, with the value that is past it.
+    /// A limit, and the value that exceeds it.
     TooBig(LimitKind, u64),
     NoRoot,
     BadTx,
@@ -26,23 +26,9 @@ pub struct Broken {
     pub rule: Rule,
 }
 
-fn rank_of_limit(limit: LimitKind) -> u64
-    ensures { result ≡ limit_rank limit }
-{
-    match limit {
-        LimitKind::Array => 6,
-        LimitKind::Struct => 7,
-        LimitKind::Root => 8,
-        LimitKind::Pointer => 9,
-        LimitKind::Structs => 10,
-        LimitKind::Functions => 11,
-        LimitKind::Parameters => 12,
-    }
-}
-
-/// The order in which rules broken at one token are told: by number, and limits as they are listed.
-fn rank_of(rule: Rule) -> u64
-    ensures { result ≡ rank rule }
+/// The number of a rule in the table of typing rules.
+fn rule_number(rule: Rule) -> u64
+    ensures { result ≡ rule_number rule }
 {
     match rule {
         Rule::UnknownName => 1,
@@ -50,22 +36,62 @@ fn rank_of(rule: Rule) -> u64
         Rule::Mismatch => 3,
         Rule::NotAssignable => 4,
         Rule::Arity => 5,
-        Rule::TooBig(limit, _) => rank_of_limit(limit),
-        Rule::NoRoot => 13,
-        Rule::BadTx => 14,
+        Rule::TooBig(_, _) => 6,
+        Rule::NoRoot => 7,
+        Rule::BadTx => 8,
     }
 }
 
-/// Whether the one is told rather than the other.
+/// The place of a limit in the table of limits.
+fn limit_number(limit: LimitKind) -> u64
+    ensures { result ≡ limit_number limit }
+{
+    match limit {
+        LimitKind::Array => 1,
+        LimitKind::Struct => 2,
+        LimitKind::Root => 3,
+        LimitKind::Pointer => 4,
+        LimitKind::Structs => 5,
+        LimitKind::Functions => 6,
+        LimitKind::Parameters => 7,
+    }
+}
+
+/// That of the limit that a rule names, or 0.
+fn limit_in(rule: Rule) -> u64
+    ensures { result ≡ limit_in rule }
+{
+    match rule {
+        Rule::TooBig(limit, _) => limit_number(limit),
+        Rule::UnknownName => 0,
+        Rule::Twice => 0,
+        Rule::Mismatch => 0,
+        Rule::NotAssignable => 0,
+        Rule::Arity => 0,
+        Rule::NoRoot => 0,
+        Rule::BadTx => 0,
+    }
+}
+
+/// Whether at one token the one rule is told rather than the other: the one with the less number, and
+/// of two limits the one listed first.
+fn rule_before(one: Rule, other: Rule) -> bool
+    ensures { result ≡ rule_before one other }
+{
+    let (number, against) = (rule_number(one), rule_number(other));
+    number < against || (number == against && limit_in(one) < limit_in(other))
+}
+
+/// Whether the first is reported rather than the second.
 fn comes_before(one: Broken, other: Broken) -> bool
     ensures { result ≡ is_before one other }
 {
-    one.place < other.place || (one.place == other.place && rank_of(one.rule) < rank_of(other.rule))
+    one.place < other.place || (one.place == other.place && rule_before(one.rule, other.rule))
 }
 
-/// Keeps of the broken rules the one that is told.
+/// Notes a rule as broken: of the broken rules the one that is told is kept.
 pub fn note(least: &mut Option<Broken>, place: u64, rule: Rule)
-    ensures { least.new ≡ told least.old (at place rule) }
+    ensures { least.new ≡ least_from least.old (broken_at place rule) }
 {
     let broken = Broken { place, rule };
     match *least {
@@ -80,11 +106,11 @@ pub fn note(least: &mut Option<Broken>, place: u64, rule: Rule)
     }
 }
 
-/// Notes a rule as broken unless it is kept.
-pub fn expect(least: &mut Option<Broken>, kept: bool, place: u64, rule: Rule)
-    ensures { least.new ≡ told least.old (unless kept place rule) }
+/// Notes a rule as broken unless this holds.
+pub fn expect(least: &mut Option<Broken>, holds: bool, place: u64, rule: Rule)
+    ensures { least.new ≡ least_from least.old (unless holds place rule) }
 {
-    if !kept {
+    if !holds {
         note(least, place, rule);
     }
 }

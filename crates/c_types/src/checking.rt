@@ -1,9 +1,9 @@
-//! The check of a whole tree.
+//! Checking a whole tree.
 
 ghost use Rattle.std.specs.Prelude.{◌≡◌, [], None, Some, OnOk, IfOk, IfErr, ◌⊎◌};
 ghost use Rattle.c_parser.specs.ItemTree.{items_in};
 ghost use Rattle.c_types.specs.declared.fault.TypeFault.TheVariants.{NoMemory};
-ghost use Rattle.c_types.specs.Broken.{told, least};
+ghost use Rattle.c_types.specs.Broken.{least_from, least_broken};
 ghost use Rattle.c_types.specs.Declarations.{broken_of, broken};
 ghost use Rattle.c_types.specs.Fault.{fault_of, breaks, refusal};
 ghost use Rattle.c_types.specs.Views.{tables_in};
@@ -17,9 +17,9 @@ use c_parser::Ast;
 use c_parser::item::Item;
 use std::alloc::{AllocError, Global};
 
-/// Checks a tree against the typing rules. Ok comes where no rule is broken, with the tree that was
-/// handed in; otherwise it is the rule that is broken at the least token, and at that token the one
-/// with the least number, with the token's line. The tree is spent on a refusal too.
+/// Checks a tree against the typing rules. If no rule is broken, the answer is `Ok` with the given
+/// tree; otherwise it is the rule broken at the least token, and at that token the one with the
+/// least number, with the token's line. The tree is consumed also if it is refused.
 #[tactic(auto, using(crate::proofs::Told::laws))]
 pub fn check(alloc: Global, ast: Ast) -> Result<Typed, TypeFault>
     ensures kept { IfOk result (λ typed. breaks ast ≡ []) }
@@ -50,9 +50,9 @@ fn fault_at(rule: Rule, line: u64) -> TypeFault
     }
 }
 
-/// The broken rule that is told, if one is broken; `end` is the place behind the last token.
+/// The broken rule to report, if one is broken; `end` is the place after the last token.
 fn least_broken(alloc: Global, items: &[Item], end: u64) -> Result<Option<Broken>, AllocError>
-    ensures { IfOk result (λ found. found ≡ least (broken end (items_in items.now))) }
+    ensures { IfOk result (λ found. found ≡ least_broken (broken end (items_in items.now))) }
 {
     let program = Program::new(alloc, items)?;
     let mut found = None;
@@ -67,7 +67,8 @@ fn examine(
     end: u64,
     found: &mut Option<Broken>,
 ) -> Result<(), AllocError>
-    ensures { OnOk result (found.new ≡ told found.old (broken_of end (tables_in program.now))) }
+    ensures { OnOk result (found.new ≡ least_from found.old
+        (broken_of end (tables_in program.now))) }
 {
     structs(program, program.structs(), found);
     roots(program, program.roots(), found);

@@ -3,8 +3,8 @@
 ghost use Rattle.std.specs.Prelude.{◌≡◌, ℕ, List, [], OnOk, map, option_map};
 ghost use Rattle.std.specs.Option.{option_map_or};
 ghost use Rattle.c_parser.specs.StmtTree as stmt;
-ghost use Rattle.c_parser.specs.ItemTree.{field_of, length_of, parameter_of, function_of};
-ghost use Rattle.c_types.specs.Broken.{told};
+ghost use Rattle.c_parser.specs.ItemTree.{field_tree, length_tree, parameter_of, function_tree};
+ghost use Rattle.c_types.specs.Broken.{least_from};
 ghost use Rattle.c_types.specs.Tables.{field_names};
 ghost use Rattle.c_types.specs.Statements as statements;
 ghost use Rattle.c_types.specs.Declarations as meaning;
@@ -24,7 +24,8 @@ use std::alloc::{AllocError, Global};
 
 #[tactic(auto, using(crate::proofs::Told::told_append))]
 pub fn structs(program: &Program<'_>, structs: &[Layout<'_>], least: &mut Option<Broken>)
-    ensures { least.new ≡ told least.old (meaning.structs_broken (tables_in program.now) 0 structs.now) }
+    ensures { least.new ≡ least_from least.old
+        (meaning.structs_broken (tables_in program.now) 0 structs.now) }
 {
     let mut at = 0u64;
     for layout in structs {
@@ -35,7 +36,8 @@ pub fn structs(program: &Program<'_>, structs: &[Layout<'_>], least: &mut Option
 
 #[tactic(auto, using(crate::proofs::Told::told_append))]
 fn whole_struct(program: &Program<'_>, at: u64, layout: &Layout<'_>, least: &mut Option<Broken>)
-    ensures { least.new ≡ told least.old (meaning.whole_struct_broken (tables_in program.now) at layout.now) }
+    ensures { least.new ≡ least_from least.old
+        (meaning.whole_struct_broken (tables_in program.now) at layout.now) }
 {
     struct_at(program, at, layout, least);
     fields(program, layout, layout.fields(), least);
@@ -43,7 +45,8 @@ fn whole_struct(program: &Program<'_>, at: u64, layout: &Layout<'_>, least: &mut
 
 #[tactic(auto, using(crate::proofs::Told::told_append))]
 fn struct_at(program: &Program<'_>, at: u64, layout: &Layout<'_>, least: &mut Option<Broken>)
-    ensures { least.new ≡ told least.old (meaning.struct_broken (tables_in program.now) at layout.now) }
+    ensures { least.new ≡ least_from least.old
+        (meaning.struct_broken (tables_in program.now) at layout.now) }
 {
     let name = layout.name();
     let words = layout.words();
@@ -60,7 +63,9 @@ fn struct_at(program: &Program<'_>, at: u64, layout: &Layout<'_>, least: &mut Op
 
 #[tactic(auto, using(crate::proofs::Told::told_append))]
 fn fields(program: &Program<'_>, layout: &Layout<'_>, fields: &[Field], least: &mut Option<Broken>)
-    ensures { least.new ≡ told least.old (meaning.fields_broken (tables_in program.now) (field_names layout.now) 0 (map field_of fields.now)) }
+    ensures { least.new ≡ least_from least.old
+        (meaning.fields_broken (tables_in program.now) (field_names layout.now) 0
+        (map field_tree fields.now)) }
 {
     let mut at = 0u64;
     for field in fields {
@@ -77,7 +82,9 @@ fn field_at(
     field: &Field,
     least: &mut Option<Broken>,
 )
-    ensures { least.new ≡ told least.old (meaning.field_broken (tables_in program.now) (field_names layout.now) at (field_of field.now)) }
+    ensures { least.new ≡ least_from least.old
+        (meaning.field_broken (tables_in program.now) (field_names layout.now)
+        at (field_tree field.now)) }
 {
     written_type(program, &field.ty, least);
     let first = is_at(layout.place_of(field.name.text.as_str()), at);
@@ -86,7 +93,8 @@ fn field_at(
 }
 
 fn length(length: &Option<Length>, least: &mut Option<Broken>)
-    ensures { least.new ≡ told least.old (option_map_or meaning.length_broken (option_map length_of length.now) []) }
+    ensures { least.new ≡ least_from least.old
+        (option_map_or meaning.length_broken (option_map length_tree length.now) []) }
 {
     match length {
         None => {}
@@ -97,10 +105,11 @@ fn length(length: &Option<Length>, least: &mut Option<Broken>)
     }
 }
 
-/// The root declarations.
+/// Checks the root declarations.
 #[tactic(auto, using(crate::proofs::Told::told_append))]
 pub fn roots(program: &Program<'_>, roots: &[&RootDecl], least: &mut Option<Broken>)
-    ensures { least.new ≡ told least.old (meaning.roots_broken (tables_in program.now) 0 (map (λ r. root_of r.now) roots.now)) }
+    ensures { least.new ≡ least_from least.old
+        (meaning.roots_broken (tables_in program.now) 0 (map (λ r. root_of r.now) roots.now)) }
 {
     let mut at = 0u64;
     for root in roots {
@@ -111,7 +120,8 @@ pub fn roots(program: &Program<'_>, roots: &[&RootDecl], least: &mut Option<Brok
 
 #[tactic(auto, using(crate::proofs::Told::told_append))]
 fn root_at(program: &Program<'_>, at: u64, root: &RootDecl, least: &mut Option<Broken>)
-    ensures { least.new ≡ told least.old (meaning.root_broken (tables_in program.now) at (root_of root.now)) }
+    ensures { least.new ≡ least_from least.old
+        (meaning.root_item_broken (tables_in program.now) at (root_of root.now)) }
 {
     let known = program.struct_named(root.name.text.as_str()).is_some();
     expect(least, known, root.name.place, Rule::UnknownName);
@@ -125,7 +135,9 @@ pub fn functions<'a>(
     functions: &[&'a Function],
     least: &mut Option<Broken>,
 ) -> Result<(), AllocError>
-    ensures { OnOk result (least.new ≡ told least.old (meaning.functions_broken (tables_in program.now) 0 (map function_of (map (λ f. f.now) functions.now)))) }
+    ensures { OnOk result (least.new ≡ least_from least.old
+        (meaning.functions_broken (tables_in program.now) 0
+        (map function_tree (map (λ f. f.now) functions.now)))) }
 {
     let mut at = 0u64;
     for function in functions {
@@ -143,7 +155,8 @@ fn whole_function<'a>(
     function: &'a Function,
     least: &mut Option<Broken>,
 ) -> Result<(), AllocError>
-    ensures { OnOk result (least.new ≡ told least.old (meaning.whole_function_broken (tables_in program.now) at (function_of function.now))) }
+    ensures { OnOk result (least.new ≡ least_from least.old
+        (meaning.whole_function_broken (tables_in program.now) at (function_tree function.now))) }
 {
     function_at(program, at, function, least);
     body(alloc, program, function, least)
@@ -151,7 +164,8 @@ fn whole_function<'a>(
 
 #[tactic(auto, using(crate::proofs::Told::told_append))]
 fn function_at(program: &Program<'_>, at: u64, function: &Function, least: &mut Option<Broken>)
-    ensures { least.new ≡ told least.old (meaning.function_broken (tables_in program.now) at (function_of function.now)) }
+    ensures { least.new ≡ least_from least.old
+        (meaning.function_broken (tables_in program.now) at (function_tree function.now)) }
 {
     written_result(program, &function.result_type, least);
     let name = &function.name;
@@ -164,7 +178,9 @@ fn function_at(program: &Program<'_>, at: u64, function: &Function, least: &mut 
 }
 
 fn written_result(program: &Program<'_>, ty: &Option<TypeName>, least: &mut Option<Broken>)
-    ensures { least.new ≡ told least.old (option_map_or (statements.type_broken (tables_in program.now)) (option_map stmt.type_of ty.now) []) }
+    ensures { least.new ≡ least_from least.old
+        (option_map_or (statements.type_broken (tables_in program.now))
+        (option_map stmt.type_tree ty.now) []) }
 {
     match ty {
         None => {}
@@ -174,7 +190,7 @@ fn written_result(program: &Program<'_>, ty: &Option<TypeName>, least: &mut Opti
 
 /// Whether a function gives an int and takes ints.
 fn is_transaction(program: &Program<'_>, function: &Function) -> bool
-    ensures { result ≡ meaning.is_transaction (tables_in program.now) (function_of function.now) }
+    ensures { result ≡ meaning.is_transaction (tables_in program.now) (function_tree function.now) }
 {
     match &function.result_type {
         None => false,
@@ -193,7 +209,7 @@ fn take_ints(program: &Program<'_>, parameters: &[Parameter]) -> bool
     true
 }
 
-/// The parameters and the outermost block, which are one scope.
+/// Checks the parameters and the outermost block, which share one scope.
 #[tactic(auto, using(crate::proofs::Told::told_append))]
 fn body<'a>(
     alloc: Global,
@@ -201,7 +217,8 @@ fn body<'a>(
     function: &'a Function,
     least: &mut Option<Broken>,
 ) -> Result<(), AllocError>
-    ensures { OnOk result (least.new ≡ told least.old (meaning.body_broken (tables_in program.now) (function_of function.now))) }
+    ensures { OnOk result (least.new ≡ least_from least.old
+        (meaning.body_broken (tables_in program.now) (function_tree function.now))) }
 {
     let mut scopes = Scopes::new(alloc);
     scopes.open(alloc)?;
@@ -211,7 +228,8 @@ fn body<'a>(
 }
 
 fn gives(program: &Program<'_>, ty: &Option<TypeName>) -> Option<ValueType>
-    ensures { result ≡ meaning.gives (tables_in program.now) (option_map stmt.type_of ty.now) }
+    ensures { result ≡ meaning.type_given (tables_in program.now)
+        (option_map stmt.type_tree ty.now) }
 {
     match ty {
         None => None,
@@ -226,8 +244,11 @@ fn parameters<'a>(
     parameters: &'a [Parameter],
     least: &mut Option<Broken>,
 ) -> Result<(), AllocError>
-    ensures scopes { OnOk result (scopes.new ≡ meaning.behind_parameters (tables_in program.now) scopes.old (map parameter_of parameters.now)) }
-    ensures told { OnOk result (least.new ≡ told least.old (meaning.parameters_broken (tables_in program.now) scopes.old 0 (map parameter_of parameters.now))) }
+    ensures scopes { OnOk result (scopes.new ≡ meaning.scopes_after_parameters
+        (tables_in program.now) scopes.old (map parameter_of parameters.now)) }
+    ensures told { OnOk result (least.new ≡ least_from least.old
+        (meaning.parameters_broken (tables_in program.now) scopes.old 0
+        (map parameter_of parameters.now))) }
 {
     let mut at = 0u64;
     for parameter in parameters {
@@ -245,8 +266,11 @@ fn parameter_at<'a>(
     parameter: &'a Parameter,
     least: &mut Option<Broken>,
 ) -> Result<(), AllocError>
-    ensures scopes { OnOk result (scopes.new ≡ meaning.behind_parameter (tables_in program.now) scopes.old (parameter_of parameter.now)) }
-    ensures told { least.new ≡ told least.old (meaning.parameter_broken (tables_in program.now) scopes.old at (parameter_of parameter.now)) }
+    ensures scopes { OnOk result (scopes.new ≡ meaning.scopes_after_parameter
+        (tables_in program.now) scopes.old (parameter_of parameter.now)) }
+    ensures told { least.new ≡ least_from least.old
+        (meaning.parameter_broken (tables_in program.now) scopes.old
+        at (parameter_of parameter.now)) }
 {
     written_type(program, &parameter.ty, least);
     let rule = Rule::TooBig(LimitKind::Parameters, 23);

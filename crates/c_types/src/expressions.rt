@@ -2,18 +2,19 @@
 
 ghost use Rattle.std.specs.Prelude.{◌≡◌, ◌++◌, ◌&&◌, not, length, map, is_some, option_map, [], ◌∷◌};
 ghost use Rattle.c_parser.specs.ExprTree.{expr_of, ident_of, arguments_in};
-ghost use Rattle.c_parser.specs.ItemTree.{field_of, function_of, parameter_of};
-ghost use Rattle.c_types.specs.Broken.{told, unless};
+ghost use Rattle.c_parser.specs.ItemTree.{field_tree, function_tree, parameter_of};
+ghost use Rattle.c_types.specs.Broken.{least_from, unless};
 ghost use Rattle.c_types.specs.Fits as fits;
 ghost use Rattle.c_types.specs.Tables as tables;
 ghost use Rattle.c_types.specs.Expressions as meaning;
+ghost use Rattle.c_types.specs.inside.Expressions as inside_meaning;
 ghost use Rattle.c_types.specs.Views.{tables_in};
 
 use crate::broken::{Broken, Rule, expect, note};
 use crate::fault::LimitKind;
 use crate::layout::is_length;
 use crate::program::Program;
-use crate::rules::{applies, is_any, is_int, joins, takes};
+use crate::rules::{applies, is_any, is_int, joins_types, type_takes};
 use crate::scopes::Scopes;
 use crate::value_type::{Kind, ValueType};
 use c_parser::expr::{Argument, BinaryOp, Expr, Name, UnaryOp};
@@ -29,7 +30,8 @@ pub fn kind(
     least: &mut Option<Broken>,
 ) -> Kind
     ensures kind { result ≡ meaning.kind_of (tables_in program.now) scopes.now (expr_of expr.now) }
-    ensures told { least.new ≡ told least.old (meaning.broken_in (tables_in program.now) scopes.now (expr_of expr.now)) }
+    ensures told { least.new ≡ least_from least.old
+        (meaning.broken_in (tables_in program.now) scopes.now (expr_of expr.now)) }
 {
     match expr {
         Expr::Number(_) => Kind::Value(ValueType::Int),
@@ -76,15 +78,16 @@ pub fn value(
     least: &mut Option<Broken>,
 ) -> ValueType
     ensures kind { result ≡ meaning.type_of (tables_in program.now) scopes.now (expr_of expr.now) }
-    ensures told { least.new ≡ told least.old (meaning.value_broken (tables_in program.now) scopes.now (expr_of expr.now)) }
+    ensures told { least.new ≡ least_from least.old
+        (meaning.value_broken (tables_in program.now) scopes.now (expr_of expr.now)) }
 {
     let found = kind(program, scopes, expr, least);
     as_value(found, least)
 }
 
 fn as_value(found: Kind, least: &mut Option<Broken>) -> ValueType
-    ensures kind { result ≡ meaning.value_of found }
-    ensures told { least.new ≡ told least.old (meaning.unindexed found) }
+    ensures kind { result ≡ meaning.type_of_kind found }
+    ensures told { least.new ≡ least_from least.old (meaning.unindexed found) }
 {
     match found {
         Kind::Value(given) => given,
@@ -106,8 +109,11 @@ pub fn call(
     wanted: bool,
     least: &mut Option<Broken>,
 ) -> ValueType
-    ensures kind { result ≡ meaning.call_kind (tables_in program.now) scopes.now wanted (ident_of name.now) (arguments_in arguments.now) }
-    ensures told { least.new ≡ told least.old (meaning.call_rules (tables_in program.now) scopes.now wanted (ident_of name.now) (arguments_in arguments.now)) }
+    ensures kind { result ≡ inside_meaning.call_kind (tables_in program.now) scopes.now wanted
+        (ident_of name.now) (arguments_in arguments.now) }
+    ensures told { least.new ≡ least_from least.old
+        (meaning.call_rules (tables_in program.now) scopes.now wanted (ident_of name.now)
+        (arguments_in arguments.now)) }
 {
     match program.function_named(name.text.as_str()) {
         None => {
@@ -128,7 +134,7 @@ pub fn call(
     }
 }
 
-/// Whether every argument has a type, which its parameter takes.
+/// Whether every argument has a type that its parameter takes.
 #[cycle(expressions)]
 #[tactic(auto, using(crate::proofs::Arguments::expressions))]
 fn pass(
@@ -138,15 +144,18 @@ fn pass(
     arguments: &[Argument],
     least: &mut Option<Broken>,
 ) -> bool
-    ensures kind { result ≡ meaning.all_taken (tables_in program.now) scopes.now (map parameter_of parameters.now) 0 (arguments_in arguments.now) }
-    ensures told { least.new ≡ told least.old (meaning.broken_in_all (tables_in program.now) scopes.now (map parameter_of parameters.now) 0 (arguments_in arguments.now)) }
+    ensures kind { result ≡ meaning.all_taken (tables_in program.now) scopes.now
+        (map parameter_of parameters.now) 0 (arguments_in arguments.now) }
+    ensures told { least.new ≡ least_from least.old
+        (meaning.broken_in_all (tables_in program.now) scopes.now (map parameter_of parameters.now)
+        0 (arguments_in arguments.now)) }
 {
     let mut passed = true;
     let mut at = 0u64;
     for argument in arguments {
         let given = value(program, scopes, &argument.value, least);
         let target = parameter_type(program, parameters, at);
-        let taken = takes(target, given);
+        let taken = type_takes(target, given);
         expect(least, taken, argument.first, Rule::Mismatch);
         passed = and_passed(passed, taken, given);
         at += 1;
@@ -161,7 +170,8 @@ fn and_passed(passed: bool, taken: bool, given: ValueType) -> bool
 }
 
 fn parameter_type(program: &Program<'_>, parameters: &[Parameter], at: u64) -> ValueType
-    ensures { result ≡ meaning.parameter_type (tables_in program.now) (map parameter_of parameters.now) at }
+    ensures { result ≡ meaning.parameter_type (tables_in program.now)
+        (map parameter_of parameters.now) at }
 {
     match parameters.get(at as usize) {
         None => ValueType::Any,
@@ -169,7 +179,7 @@ fn parameter_type(program: &Program<'_>, parameters: &[Parameter], at: u64) -> V
     }
 }
 
-/// Whether a function may be called so, arguments aside.
+/// Whether a function may be called like this, apart from its arguments.
 #[tactic(auto, using(crate::proofs::Told::told_append))]
 fn may_call(
     function: &Function,
@@ -178,8 +188,9 @@ fn may_call(
     wanted: bool,
     least: &mut Option<Broken>,
 ) -> bool
-    ensures kind { result ≡ meaning.may_call wanted (function_of function.now) arguments }
-    ensures told { least.new ≡ told least.old (meaning.callee_broken wanted (function_of function.now) arguments place) }
+    ensures kind { result ≡ meaning.may_call wanted (function_tree function.now) arguments }
+    ensures told { least.new ≡ least_from least.old
+        (meaning.callee_broken wanted (function_tree function.now) arguments place) }
 {
     let gives = !wanted || function.result_type.is_some();
     let counted = arguments == function.parameters.len() as u64;
@@ -189,9 +200,9 @@ fn may_call(
     gives && counted && !function.tx
 }
 
-/// The type of a function's result. That of a void function is used nowhere.
+/// The type of a function's result. The result of a void function is used nowhere.
 pub fn result_type(program: &Program<'_>, function: &Function) -> ValueType
-    ensures { result ≡ meaning.result_type (tables_in program.now) (function_of function.now) }
+    ensures { result ≡ meaning.result_type (tables_in program.now) (function_tree function.now) }
 {
     match &function.result_type {
         None => ValueType::Any,
@@ -201,7 +212,8 @@ pub fn result_type(program: &Program<'_>, function: &Function) -> ValueType
 
 fn variable(scopes: &Scopes<'_>, name: &Name, least: &mut Option<Broken>) -> ValueType
     ensures kind { result ≡ meaning.variable_kind scopes.now (ident_of name.now) }
-    ensures told { least.new ≡ told least.old (meaning.variable_broken scopes.now (ident_of name.now)) }
+    ensures told { least.new ≡ least_from least.old
+        (meaning.variable_broken scopes.now (ident_of name.now)) }
 {
     match scopes.find(name.text.as_str()) {
         None => {
@@ -215,7 +227,8 @@ fn variable(scopes: &Scopes<'_>, name: &Name, least: &mut Option<Broken>) -> Val
 /// The type of a pointer to the struct of that name, at the name's place.
 pub fn pointer_to(program: &Program<'_>, name: &Name, least: &mut Option<Broken>) -> ValueType
     ensures kind { result ≡ tables.pointer_type (tables_in program.now) name.now.text }
-    ensures told { least.new ≡ told least.old (meaning.pointer_broken (tables_in program.now) (ident_of name.now)) }
+    ensures told { least.new ≡ least_from least.old
+        (meaning.pointer_broken (tables_in program.now) (ident_of name.now)) }
 {
     match program.struct_named(name.text.as_str()) {
         None => note(least, name.place, Rule::UnknownName),
@@ -230,7 +243,8 @@ pub fn pointer_to(program: &Program<'_>, name: &Name, least: &mut Option<Broken>
 
 fn root_field(program: &Program<'_>, field: &Name, least: &mut Option<Broken>) -> Kind
     ensures kind { result ≡ meaning.root_kind (tables_in program.now) (ident_of field.now) }
-    ensures told { least.new ≡ told least.old (meaning.root_broken (tables_in program.now) (ident_of field.now)) }
+    ensures told { least.new ≡ least_from least.old
+        (meaning.root_broken (tables_in program.now) (ident_of field.now)) }
 {
     match program.root_struct() {
         None => {
@@ -249,7 +263,8 @@ fn arrow(
     least: &mut Option<Broken>,
 ) -> Kind
     ensures kind { result ≡ meaning.arrow_kind (tables_in program.now) base (ident_of field.now) }
-    ensures told { least.new ≡ told least.old (meaning.arrow_broken (tables_in program.now) base place (ident_of field.now)) }
+    ensures told { least.new ≡ least_from least.old
+        (meaning.arrow_broken (tables_in program.now) base place (ident_of field.now)) }
 {
     match base {
         ValueType::Pointer(at) => member(program, at, field, least),
@@ -268,7 +283,8 @@ fn arrow(
 /// What a field of the struct at that place denotes.
 fn member(program: &Program<'_>, at: u64, name: &Name, least: &mut Option<Broken>) -> Kind
     ensures kind { result ≡ meaning.member_kind (tables_in program.now) at (ident_of name.now) }
-    ensures told { least.new ≡ told least.old (meaning.member_broken (tables_in program.now) at (ident_of name.now)) }
+    ensures told { least.new ≡ least_from least.old
+        (meaning.member_broken (tables_in program.now) at (ident_of name.now)) }
 {
     match find_member(program, at, name) {
         None => {
@@ -280,7 +296,8 @@ fn member(program: &Program<'_>, at: u64, name: &Name, least: &mut Option<Broken
 }
 
 fn find_member<'a>(program: &Program<'a>, at: u64, name: &Name) -> Option<&'a Field>
-    ensures { option_map (λ f. field_of f.now) result ≡ meaning.member (tables_in program.now) at (ident_of name.now) }
+    ensures { option_map (λ f. field_tree f.now) result ≡ meaning.member (tables_in program.now)
+        at (ident_of name.now) }
 {
     match program.struct_at(at) {
         None => None,
@@ -289,7 +306,7 @@ fn find_member<'a>(program: &Program<'a>, at: u64, name: &Name) -> Option<&'a Fi
 }
 
 fn field_kind(program: &Program<'_>, place: u64, field: &Field) -> Kind
-    ensures { result ≡ meaning.field_kind (tables_in program.now) place (field_of field.now) }
+    ensures { result ≡ meaning.field_kind (tables_in program.now) place (field_tree field.now) }
 {
     let declared = program.declared_type(&field.ty);
     match &field.length {
@@ -328,28 +345,32 @@ fn element_of(base: Kind) -> ValueType
     }
 }
 
-fn given(good: bool, ty: ValueType) -> ValueType
-    ensures { result ≡ meaning.given good ty }
+fn type_if(good: bool, ty: ValueType) -> ValueType
+    ensures { result ≡ meaning.type_if good ty }
 {
     if good { ty } else { ValueType::Any }
 }
 
 fn element(base: Kind, place: u64, index: ValueType, least: &mut Option<Broken>) -> ValueType
-    ensures kind { result ≡ meaning.given (meaning.is_indexed base && fits.is_int index && not (fits.is_any index)) (meaning.element_of base) }
-    ensures told { least.new ≡ told least.old (unless (meaning.is_indexed base && fits.is_int index) place Rule.Mismatch) }
+    ensures kind { result ≡ meaning.type_if (meaning.is_indexed base && fits.is_int index
+        && not (fits.is_any index)) (meaning.element_of base) }
+    ensures told { least.new ≡ least_from least.old
+        (unless (meaning.is_indexed base && fits.is_int index) place Rule.Mismatch) }
 {
     let indexed = is_indexed(base) && is_int(index);
     expect(least, indexed, place, Rule::Mismatch);
-    given(indexed && !is_any(index), element_of(base))
+    type_if(indexed && !is_any(index), element_of(base))
 }
 
 fn unary(op: UnaryOp, place: u64, operand: ValueType, least: &mut Option<Broken>) -> ValueType
-    ensures kind { result ≡ meaning.given (fits.applies op operand && not (fits.is_any operand)) ValueType.Int }
-    ensures told { least.new ≡ told least.old (unless (fits.applies op operand) place Rule.Mismatch) }
+    ensures kind { result ≡ meaning.type_if (fits.applies op operand && not (fits.is_any operand))
+        ValueType.Int }
+    ensures told { least.new ≡ least_from least.old
+        (unless (fits.applies op operand) place Rule.Mismatch) }
 {
     let applied = applies(op, operand);
     expect(least, applied, place, Rule::Mismatch);
-    given(applied && !is_any(operand), ValueType::Int)
+    type_if(applied && !is_any(operand), ValueType::Int)
 }
 
 fn binary(
@@ -359,10 +380,12 @@ fn binary(
     right: ValueType,
     least: &mut Option<Broken>,
 ) -> ValueType
-    ensures kind { result ≡ meaning.given (fits.joins op left right && not (fits.is_any left) && not (fits.is_any right)) ValueType.Int }
-    ensures told { least.new ≡ told least.old (unless (fits.joins op left right) place Rule.Mismatch) }
+    ensures kind { result ≡ meaning.type_if (fits.joins_types op left right
+        && not (fits.is_any left) && not (fits.is_any right)) ValueType.Int }
+    ensures told { least.new ≡ least_from least.old
+        (unless (fits.joins_types op left right) place Rule.Mismatch) }
 {
-    let joined = joins(op, left, right);
+    let joined = joins_types(op, left, right);
     expect(least, joined, place, Rule::Mismatch);
-    given(joined && !is_any(left) && !is_any(right), ValueType::Int)
+    type_if(joined && !is_any(left) && !is_any(right), ValueType::Int)
 }

@@ -11,7 +11,7 @@ use thiserror::Error;
 pub enum LimitKind {
     /// The length of an array is from 1 to 512.
     Array,
-    /// A struct has at most 15 words, the root's aside.
+    /// A struct has at most 15 words; the root's struct may have more.
     Struct,
     /// The root's struct has at most 512 words.
     Root,
@@ -29,22 +29,22 @@ pub enum LimitKind {
 /// first number of each is the token's line.
 #[derive(Clone, Copy, Debug, PartialEq, Eq, Error)]
 pub enum TypeFault {
-    /// The variable, function, struct or field isn't there.
+    /// The variable, function, struct or field doesn't exist.
     #[error("line {0}: no such name")]
     UnknownName(u64),
     /// A struct, a function, a field, a name in one scope or the root is declared again.
     #[error("line {0}: declared twice")]
     Twice(u64),
-    /// A value doesn't have the type that its place needs.
+    /// A value doesn't have the type that is needed there.
     #[error("line {0}: the types don't fit")]
     Mismatch(u64),
-    /// What is assigned to is no variable, field or element.
+    /// The target of an assignment is no variable, field or element.
     #[error("line {0}: this can't be assigned to")]
     NotAssignable(u64),
-    /// A call with another number of arguments than the function has parameters.
+    /// A call with a number of arguments that differs from the number of the function's parameters.
     #[error("line {0}: wrong number of arguments")]
     Arity(u64),
-    /// More than a limit allows: the line, the limit and the value that breaks it.
+    /// More than a limit allows: the line, the limit and the value that exceeds it.
     #[error("line {0}: the limit {1:?} doesn't allow {2}")]
     TooBig(u64, LimitKind, u64),
     /// There is no root declaration.

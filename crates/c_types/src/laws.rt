@@ -1,8 +1,8 @@
 //! Laws of the definitions, as clauses.
 
-ghost use Rattle.c_types.specs.LeastLaw.{IsLeast};
+ghost use Rattle.c_types.specs.LeastLaw.{LeastIsTold};
 
-/// The broken rule that is told is the least of those that are broken.
+/// The broken rule that is reported is the least of those that are broken.
 pub fn least_law()
-    ensures { IsLeast }
+    ensures { LeastIsTold }
 {}

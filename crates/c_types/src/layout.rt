@@ -2,9 +2,9 @@
 
 ghost use Rattle.std.specs.Prelude.{◌≡◌, ◌-◌, ◌^◌, min, IfOk, map, option_map, if◌then◌else◌};
 ghost use Rattle.c_parser.specs.ExprTree.{ident_of};
-ghost use Rattle.c_parser.specs.ItemTree.{FieldTree, field_of};
+ghost use Rattle.c_parser.specs.ItemTree.{FieldTree, field_tree};
 ghost use Rattle.c_types.specs.Tables as tables;
-ghost use Rattle.c_types.specs.Views.{struct_of};
+ghost use Rattle.c_types.specs.Views.{struct_tree};
 
 use crate::names::Names;
 use c_parser::expr::Name;
@@ -22,19 +22,19 @@ pub struct Layout<'a> {
 
 impl<'a> Model for Layout<'a> {
     ghost use Rattle.std.specs.Prelude.{◌≡◌};
-    ghost use Rattle.c_types.specs.Tables.{StructTree, field_names, words_of};
-    ghost use Rattle.c_types.specs.Views.{struct_of};
+    ghost use Rattle.c_types.specs.Tables.{StructTree, field_names, words_of_struct};
+    ghost use Rattle.c_types.specs.Views.{struct_tree};
 
     ghost Value = { StructTree };
 
-    ghost view = { λ l. struct_of l.definition.now };
+    ghost view = { λ l. struct_tree l.definition.now };
 
-    ghost invariant = { λ l. (l.names ≡ field_names (struct_of l.definition.now)) × (l.words ≡ words_of (struct_of l.definition.now)) };
+    ghost invariant = { λ l. (l.names ≡ field_names (struct_tree l.definition.now)) × (l.words ≡ words_of_struct (struct_tree l.definition.now)) };
 }
 
 impl<'a> Layout<'a> {
     pub fn new(alloc: Global, definition: &'a StructDef) -> Result<Self, AllocError>
-        ensures { IfOk result (λ l. l ≡ struct_of definition.now) }
+        ensures { IfOk result (λ l. l ≡ struct_tree definition.now) }
     {
         let names = field_names(alloc, &definition.fields)?;
         let words = words_of(&names, &definition.fields);
@@ -52,13 +52,13 @@ impl<'a> Layout<'a> {
     }
 
     pub fn fields(&self) -> &'a [Field]
-        ensures { map field_of result.now ≡ self.now.fields }
+        ensures { map field_tree result.now ≡ self.now.fields }
     {
         &self.definition.fields
     }
 
     pub fn words(&self) -> u64
-        ensures { result ≡ tables.words_of self.now }
+        ensures { result ≡ tables.words_of_struct self.now }
     {
         self.words
     }
@@ -72,14 +72,14 @@ impl<'a> Layout<'a> {
 
     /// The word at which the field at a place begins.
     pub fn word_of(&self, place: u64) -> u64
-        ensures { result ≡ tables.word_of self.now place }
+        ensures { result ≡ tables.field_start self.now place }
     {
         words_before(place, &self.definition.fields)
     }
 
     /// The first field of that name.
     pub fn field(&self, name: &str) -> Option<&'a Field>
-        ensures { option_map (λ f. field_of f.now) result ≡ tables.field_named self.now name.now }
+        ensures { option_map (λ f. field_tree f.now) result ≡ tables.field_named self.now name.now }
     {
         let at = self.names.find(name)?;
         self.definition.fields.get(at as usize)
@@ -87,7 +87,8 @@ impl<'a> Layout<'a> {
 }
 
 fn field_names<'a>(alloc: Global, fields: &'a [Field]) -> Result<Names<'a>, AllocError>
-    ensures { IfOk result (λ n. n ≡ map (λ (f : FieldTree). f.name.text) (map field_of fields.now)) }
+    ensures { IfOk result (λ n. n ≡ map (λ (f : FieldTree). f.name.text)
+        (map field_tree fields.now)) }
 {
     let mut names = Names::new(alloc);
     for field in fields {
@@ -96,9 +97,10 @@ fn field_names<'a>(alloc: Global, fields: &'a [Field]) -> Result<Names<'a>, Allo
     Ok(names)
 }
 
-/// The words of a struct's fields. One declared again counts for nothing.
+/// The words of a struct's fields. A field that is declared again counts for nothing.
 fn words_of(names: &Names<'_>, fields: &[Field]) -> u64
-    ensures { result ≡ min (tables.words_from names.now 0 (map field_of fields.now)) (2 ^ 64 - 1) }
+    ensures { result ≡ min (tables.words_from names.now 0 (map field_tree fields.now))
+        (2 ^ 64 - 1) }
 {
     let mut words = 0u64;
     let mut at = 0u64;
@@ -110,7 +112,8 @@ fn words_of(names: &Names<'_>, fields: &[Field]) -> u64
 }
 
 fn words_before(place: u64, fields: &[Field]) -> u64
-    ensures { result ≡ min (tables.words_before place 0 (map field_of fields.now)) (2 ^ 64 - 1) }
+    ensures { result ≡ min (tables.field_words_before place 0 (map field_tree fields.now))
+        (2 ^ 64 - 1) }
 {
     let mut words = 0u64;
     let mut at = 0u64;
@@ -122,13 +125,13 @@ fn words_before(place: u64, fields: &[Field]) -> u64
 }
 
 fn words_if(counts: bool, field: &Field) -> u64
-    ensures { result ≡ (if counts then tables.field_words (field_of field.now) else 0) }
+    ensures { result ≡ (if counts then tables.field_words (field_tree field.now) else 0) }
 {
     if counts { field_words(field) } else { 0 }
 }
 
 fn counted_words(names: &Names<'_>, at: u64, field: &Field) -> u64
-    ensures { result ≡ tables.counted names.now at (field_of field.now) }
+    ensures { result ≡ tables.words_counted names.now at (field_tree field.now) }
 {
     if is_at(names.find(field.name.text.as_str()), at) {
         field_words(field)
@@ -137,7 +140,7 @@ fn counted_words(names: &Names<'_>, at: u64, field: &Field) -> u64
     }
 }
 
-/// Whether a name was found at this place.
+/// Whether a name was found at exactly this place.
 pub fn is_at(found: Option<u64>, at: u64) -> bool
     ensures { result ≡ tables.is_first found at }
 {
@@ -147,9 +150,9 @@ pub fn is_at(found: Option<u64>, at: u64) -> bool
     }
 }
 
-/// The words of a field. A refused array counts as one.
+/// The words of a field. An array of a refused length counts as one.
 fn field_words(field: &Field) -> u64
-    ensures { result ≡ tables.field_words (field_of field.now) }
+    ensures { result ≡ tables.field_words (field_tree field.now) }
 {
     match &field.length {
         None => 1,

@@ -1,6 +1,6 @@
-//! The typing rules of a program. It stands on `c_parser`'s tree and gives `pool_map`'s shapes. Its
-//! one contract for the crates above: `check` answers a tree that breaks no rule, or the rule that is
-//! broken at the least token, and at that token the one with the least number.
+//! The typing rules of a program. It rests on `c_parser`'s tree and gives `pool_map`'s shapes. Its
+//! one contract for the crates above: `check` answers a tree that breaks no rule, or the rule that
+//! is broken at the least token, and at that token the one with the least number.
 #![tactic(auto)]
 
 mod broken;
@@ -16,8 +16,6 @@ mod rules;
 mod scopes;
 mod shapes;
 mod statements;
-#[cfg(test)]
-mod tests;
 mod transactions;
 mod typed;
 mod typing;

@@ -1,4 +1,4 @@
-//! A list of names that is looked up by name.
+//! A list of names, to be looked up by name.
 
 ghost use Rattle.std.specs.Prelude.{◌≡◌, [], ◌∷◌, ◌++◌, OnOk};
 ghost use Rattle.c_types.specs.Tables.{index_of};
@@ -29,7 +29,7 @@ impl<'a> Model for Names<'a> {
 }
 
 impl<'a> Names<'a> {
-    /// No names. It takes no memory.
+    /// The empty list. It takes no memory.
     pub fn new(alloc: Global) -> Self
         ensures { result ≡ [] }
     {
@@ -39,7 +39,7 @@ impl<'a> Names<'a> {
         }
     }
 
-    /// Puts a name at the end.
+    /// Appends a name.
     pub fn push(&mut self, name: &'a str) -> Result<(), AllocError>
         ensures { OnOk result (self.new ≡ self.old ++ name.now ∷ []) }
     {

@@ -3,10 +3,10 @@
 ghost use Rattle.std.specs.Prelude.{◌≡◌, IfOk, is_some, map, option_map, slice_get};
 ghost use Rattle.c_parser.specs.ExprTree.{ident_of};
 ghost use Rattle.c_parser.specs.StmtTree as stmt;
-ghost use Rattle.c_parser.specs.ItemTree.{FunctionTree, function_of, items_in};
+ghost use Rattle.c_parser.specs.ItemTree.{FunctionTree, function_tree, items_in};
 ghost use Rattle.c_types.specs.Tables as tables;
 ghost use Rattle.c_types.specs.Tables.{StructTree};
-ghost use Rattle.c_types.specs.Views.{root_of, struct_of, tables_in};
+ghost use Rattle.c_types.specs.Views.{root_of, struct_tree, tables_in};
 
 use crate::layout::Layout;
 use crate::names::Names;
@@ -32,7 +32,7 @@ impl<'a> Model for Program<'a> {
     ghost use Rattle.std.specs.Coded.{codes};
     ghost use Rattle.c_parser.specs.contracts.expr.Expr as expression;
     ghost use Rattle.c_parser.specs.contracts.stmt.Stmt as statement;
-    ghost use Rattle.c_parser.specs.ItemTree.{FunctionTree, function_of};
+    ghost use Rattle.c_parser.specs.ItemTree.{FunctionTree, function_tree};
     ghost use Rattle.c_types.specs.Tables.{StructTree};
     ghost use Rattle.c_types.specs.Views.{Gathered, root_of};
 
@@ -40,9 +40,13 @@ impl<'a> Model for Program<'a> {
 
     ghost coded = { Prim.hlevel (codes, expression.the_row.coded, statement.the_row.coded) };
 
-    ghost view = { λ p. record { structs = p.structs.items; roots = map (λ r. root_of r.now) p.roots.items; functions = map (λ f. f.now) p.functions.items } };
+    ghost view = { λ p. record {
+      structs = p.structs.items;
+      roots = map (λ r. root_of r.now) p.roots.items;
+      functions = map (λ f. f.now) p.functions.items;
+    } };
 
-    ghost invariant = { λ p. (p.struct_names ≡ map (λ (s : StructTree). s.name.text) p.structs.items) × (p.function_names ≡ map (λ (f : FunctionTree). f.name.text) (map function_of (map (λ f. f.now) p.functions.items))) };
+    ghost invariant = { λ p. (p.struct_names ≡ map (λ (s : StructTree). s.name.text) p.structs.items) × (p.function_names ≡ map (λ (f : FunctionTree). f.name.text) (map function_tree (map (λ f. f.now) p.functions.items))) };
 }
 
 impl<'a> Program<'a> {
@@ -99,7 +103,8 @@ impl<'a> Program<'a> {
     /// The first function of that name.
     #[tactic(auto, using(crate::proofs::Gathered::gathered))]
     pub fn function_named(&self, name: &str) -> Option<&'a Function>
-        ensures { option_map (λ f. function_of f.now) result ≡ tables.function_named (tables_in self.now) name.now }
+        ensures { option_map (λ f. function_tree f.now) result ≡ tables.function_named
+            (tables_in self.now) name.now }
     {
         let at = self.function_names.find(name)?;
         match self.functions.get(at as usize) {
@@ -108,7 +113,7 @@ impl<'a> Program<'a> {
         }
     }
 
-    /// The place of the root's struct, where both are there.
+    /// The place of the root's struct, if both are declared.
     #[tactic(auto, using(crate::proofs::Gathered::gathered))]
     pub fn root_struct(&self) -> Option<u64>
         ensures { result ≡ tables.root_struct (tables_in self.now) }
@@ -167,7 +172,7 @@ impl<'a> Program<'a> {
 
     /// The type of what is declared with this type.
     pub fn declared_type(&self, ty: &TypeName) -> ValueType
-        ensures { result ≡ tables.declared_type (tables_in self.now) (stmt.type_of ty.now) }
+        ensures { result ≡ tables.declared_type (tables_in self.now) (stmt.type_tree ty.now) }
     {
         match ty {
             TypeName::Int => ValueType::Int,
@@ -189,7 +194,8 @@ fn gather_structs<'a>(alloc: Global, items: &'a [Item]) -> Result<Vec<Layout<'a>
 }
 
 fn gather_roots<'a>(alloc: Global, items: &'a [Item]) -> Result<Vec<&'a RootDecl>, AllocError>
-    ensures { IfOk result (λ v. map (λ r. root_of r.now) v.items ≡ tables.roots_of (items_in items.now)) }
+    ensures { IfOk result (λ v. map (λ r. root_of r.now) v.items ≡ tables.roots_of
+        (items_in items.now)) }
 {
     let mut roots = Vec::new(alloc);
     for item in items {
@@ -201,7 +207,8 @@ fn gather_roots<'a>(alloc: Global, items: &'a [Item]) -> Result<Vec<&'a RootDecl
 }
 
 fn gather_functions<'a>(alloc: Global, items: &'a [Item]) -> Result<Vec<&'a Function>, AllocError>
-    ensures { IfOk result (λ v. map function_of (map (λ f. f.now) v.items) ≡ tables.functions_of (items_in items.now)) }
+    ensures { IfOk result (λ v. map function_tree (map (λ f. f.now) v.items) ≡ tables.function_trees
+        (items_in items.now)) }
 {
     let mut functions = Vec::new(alloc);
     for item in items {
@@ -223,7 +230,8 @@ fn struct_names<'a>(alloc: Global, structs: &[Layout<'a>]) -> Result<Names<'a>, 
 }
 
 fn function_names<'a>(alloc: Global, functions: &[&'a Function]) -> Result<Names<'a>, AllocError>
-    ensures { IfOk result (λ n. n ≡ map (λ (f : FunctionTree). f.name.text) (map function_of (map (λ f. f.now) functions.now))) }
+    ensures { IfOk result (λ n. n ≡ map (λ (f : FunctionTree). f.name.text)
+        (map function_tree (map (λ f. f.now) functions.now))) }
 {
     let mut names = Names::new(alloc);
     for function in functions {

@@ -65,9 +65,10 @@ fn is_pointer_to(target: u64, value: ValueType) -> bool
     }
 }
 
-/// Whether a value may be given to a target: it has the target's type, or is null for a pointer.
-pub fn takes(target: ValueType, value: ValueType) -> bool
-    ensures { result ≡ fits.takes target value }
+/// Whether a value may be given to a target: it has the target's type, or it is null and the target
+/// is a pointer.
+pub fn type_takes(target: ValueType, value: ValueType) -> bool
+    ensures { result ≡ fits.type_takes target value }
 {
     match target {
         ValueType::Any => true,
@@ -77,8 +78,8 @@ pub fn takes(target: ValueType, value: ValueType) -> bool
     }
 }
 
-/// Whether two values may be compared by `==`: both int, pointers to one struct, or null with a
-/// pointer or null.
+/// Whether two values may be compared with `==`: both int, pointers to the same struct, or null
+/// with a pointer or null.
 fn comparable(left: ValueType, right: ValueType) -> bool
     ensures { result ≡ fits.comparable left right }
 {
@@ -96,8 +97,8 @@ fn comparable(left: ValueType, right: ValueType) -> bool
 }
 
 /// Whether a binary operator takes these operands.
-pub fn joins(op: BinaryOp, left: ValueType, right: ValueType) -> bool
-    ensures { result ≡ fits.joins op left right }
+pub fn joins_types(op: BinaryOp, left: ValueType, right: ValueType) -> bool
+    ensures { result ≡ fits.joins_types op left right }
 {
     match op {
         BinaryOp::Both => true,
@@ -137,7 +138,7 @@ pub fn assigns(op: AssignOp, target: ValueType, value: ValueType) -> bool
     ensures { result ≡ fits.assigns op target value }
 {
     match op {
-        AssignOp::Set => takes(target, value),
+        AssignOp::Set => type_takes(target, value),
         AssignOp::Add => is_int(target) && is_int(value),
         AssignOp::Sub => is_int(target) && is_int(value),
     }

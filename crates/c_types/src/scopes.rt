@@ -36,7 +36,7 @@ impl<'a> Scope<'a> {
     }
 
     fn push(&mut self, name: &'a str, ty: ValueType) -> Result<(), AllocError>
-        ensures { OnOk result (self.new ≡ statements.with_local name.now ty self.old) }
+        ensures { OnOk result (self.new ≡ statements.scope_with name.now ty self.old) }
     {
         self.types.push(ty)?;
         self.names.push(name)?;
@@ -75,7 +75,7 @@ impl<'a> Model for Scopes<'a> {
 }
 
 impl<'a> Scopes<'a> {
-    /// No scope is open. It takes no memory.
+    /// No open scope. It takes no memory.
     pub fn new(alloc: Global) -> Self
         ensures { result ≡ [] }
     {
@@ -86,7 +86,7 @@ impl<'a> Scopes<'a> {
 
     /// Opens a scope inside the others.
     pub fn open(&mut self, alloc: Global) -> Result<(), AllocError>
-        ensures { OnOk result (self.new ≡ statements.inside self.old) }
+        ensures { OnOk result (self.new ≡ statements.inner_scopes self.old) }
     {
         self.open.push(Scope::new(alloc))?;
         Ok(())
@@ -94,7 +94,7 @@ impl<'a> Scopes<'a> {
 
     /// Closes the innermost scope.
     pub fn close(&mut self)
-        ensures { self.new ≡ statements.outer self.old }
+        ensures { self.new ≡ statements.outer_scopes self.old }
     {
         self.open.pop();
     }
@@ -109,9 +109,10 @@ impl<'a> Scopes<'a> {
         }
     }
 
-    /// Declares a name in the innermost scope. Of two declarations the first counts.
+    /// Declares a name in the innermost scope. If a scope declares a name twice, the first
+    /// declaration counts.
     pub fn declare(&mut self, name: &'a str, ty: ValueType) -> Result<(), AllocError>
-        ensures { OnOk result (self.new ≡ statements.declared name.now ty self.old) }
+        ensures { OnOk result (self.new ≡ statements.scope_declared name.now ty self.old) }
     {
         match self.open.pop() {
             None => Ok(()),

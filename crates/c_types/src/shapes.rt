@@ -2,7 +2,7 @@
 
 ghost use Rattle.std.specs.Prelude.{◌≡◌, IfOk, map, option_map};
 ghost use Rattle.std.specs.Int.{w64, cast_unsigned};
-ghost use Rattle.c_parser.specs.ItemTree.{field_of, length_of};
+ghost use Rattle.c_parser.specs.ItemTree.{field_tree, length_tree};
 ghost use Rattle.c_types.specs.Shapes as meaning;
 ghost use Rattle.c_types.specs.Views.{tables_in};
 
@@ -22,7 +22,8 @@ pub fn program_shapes(alloc: Global, program: &Program<'_>) -> Result<Shapes, Al
 }
 
 fn root_shapes(alloc: Global, program: &Program<'_>) -> Result<FieldShapes, AllocError>
-    ensures { IfOk result (λ s. s ≡ map meaning.field_shape (meaning.root_fields (tables_in program.now))) }
+    ensures { IfOk result (λ s. s ≡ map meaning.field_shape
+        (meaning.root_fields (tables_in program.now))) }
 {
     match program.root_struct() {
         None => Ok(FieldShapes::new(alloc)),
@@ -54,7 +55,7 @@ fn struct_shape(alloc: Global, layout: &Layout<'_>) -> Result<StructShape, Alloc
 }
 
 fn field_shapes(alloc: Global, fields: &[Field]) -> Result<FieldShapes, AllocError>
-    ensures { IfOk result (λ s. s ≡ map meaning.field_shape (map field_of fields.now)) }
+    ensures { IfOk result (λ s. s ≡ map meaning.field_shape (map field_tree fields.now)) }
 {
     let mut shapes = FieldShapes::new(alloc);
     for field in fields {
@@ -64,7 +65,7 @@ fn field_shapes(alloc: Global, fields: &[Field]) -> Result<FieldShapes, AllocErr
 }
 
 fn field_shape(alloc: Global, field: &Field) -> Result<FieldShape, AllocError>
-    ensures { IfOk result (λ s. s ≡ meaning.field_shape (field_of field.now)) }
+    ensures { IfOk result (λ s. s ≡ meaning.field_shape (field_tree field.now)) }
 {
     let name = copied(alloc, field.name.text.as_str())?;
     let length = length_shape(&field.length);
@@ -72,7 +73,8 @@ fn field_shape(alloc: Global, field: &Field) -> Result<FieldShape, AllocError>
 }
 
 fn length_shape(length: &Option<Length>) -> Option<u64>
-    ensures { result ≡ option_map (λ l. cast_unsigned w64 l.value) (option_map length_of length.now) }
+    ensures { result ≡ option_map (λ l. cast_unsigned w64 l.value)
+        (option_map length_tree length.now) }
 {
     match length {
         None => None,
@@ -80,7 +82,7 @@ fn length_shape(length: &Option<Length>) -> Option<u64>
     }
 }
 
-/// A text of its own with this content.
+/// A copy of a text.
 pub fn copied(alloc: Global, text: &str) -> Result<Text, AllocError>
     ensures { IfOk result (λ t. t ≡ text.now) }
 {

@@ -4,27 +4,28 @@ ghost use Rattle.std.specs.Prelude.{◌≡◌, [], false, OnOk, not, is_some, op
 ghost use Rattle.std.specs.Option.{option_map_or};
 ghost use Rattle.c_parser.specs.ExprTree.{expr_of, ident_of};
 ghost use Rattle.c_parser.specs.StmtTree as tree;
-ghost use Rattle.c_types.specs.Broken.{told, unless};
+ghost use Rattle.c_types.specs.Broken.{least_from, unless};
 ghost use Rattle.c_types.specs.Fits as fits;
 ghost use Rattle.c_types.specs.Tables as tables;
 ghost use Rattle.c_types.specs.Expressions as expressions;
 ghost use Rattle.c_types.specs.Statements as meaning;
+ghost use Rattle.c_types.specs.inside.Statements as inside_meaning;
 ghost use Rattle.c_types.specs.Views.{tables_in};
 
 use crate::broken::{Broken, Rule, expect};
 use crate::expressions::{call, pointer_to, value};
 use crate::program::Program;
-use crate::rules::{assigns, is_int, is_pointer, takes};
+use crate::rules::{assigns, is_int, is_pointer, type_takes};
 use crate::scopes::Scopes;
 use crate::value_type::ValueType;
 use c_parser::expr::{Expr, Name};
 use c_parser::stmt::{Declaration, First, Initial, Simple, Stmt, TypeName};
 use std::alloc::{AllocError, Global};
 
-/// The statements of one block, in the innermost scope, in a function that gives a value of that type
-/// or none.
+/// Checks the statements of one block in the innermost scope, in a function whose result has that
+/// type or none.
 #[cycle(statements)]
-#[tactic(auto, using(crate::proofs::Behind::statements))]
+#[tactic(auto, using(crate::proofs::After::statements))]
 pub fn statements<'a>(
     alloc: Global,
     program: &Program<'a>,
@@ -33,8 +34,11 @@ pub fn statements<'a>(
     all: &'a [Stmt],
     least: &mut Option<Broken>,
 ) -> Result<(), AllocError>
-    ensures scopes { OnOk result (scopes.new ≡ meaning.behind_all (tables_in program.now) (tree.statements_in all.now) scopes.old) }
-    ensures told { OnOk result (least.new ≡ told least.old (meaning.statements_broken (tables_in program.now) gives scopes.old (tree.statements_in all.now))) }
+    ensures scopes { OnOk result (scopes.new ≡ inside_meaning.scopes_after_all
+        (tables_in program.now) (tree.statements_in all.now) scopes.old) }
+    ensures told { OnOk result (least.new ≡ least_from least.old
+        (meaning.statements_broken (tables_in program.now) gives scopes.old
+        (tree.statements_in all.now))) }
 {
     for stmt in all {
         statement(alloc, program, gives, scopes, stmt, least)?;
@@ -43,7 +47,7 @@ pub fn statements<'a>(
 }
 
 #[cycle(statements)]
-#[tactic(auto, using(crate::proofs::Behind::statements))]
+#[tactic(auto, using(crate::proofs::After::statements))]
 fn statement<'a>(
     alloc: Global,
     program: &Program<'a>,
@@ -52,8 +56,11 @@ fn statement<'a>(
     stmt: &'a Stmt,
     least: &mut Option<Broken>,
 ) -> Result<(), AllocError>
-    ensures scopes { OnOk result (scopes.new ≡ meaning.behind (tables_in program.now) (tree.stmt_of stmt.now) scopes.old) }
-    ensures told { OnOk result (least.new ≡ told least.old (meaning.statement_broken (tables_in program.now) gives scopes.old (tree.stmt_of stmt.now))) }
+    ensures scopes { OnOk result (scopes.new ≡ meaning.scopes_after (tables_in program.now)
+        (tree.stmt_of stmt.now) scopes.old) }
+    ensures told { OnOk result (least.new ≡ least_from least.old
+        (meaning.statement_broken (tables_in program.now) gives scopes.old
+        (tree.stmt_of stmt.now))) }
 {
     match stmt {
         Stmt::Empty => Ok(()),
@@ -102,9 +109,9 @@ fn statement<'a>(
     }
 }
 
-/// A block in a scope of its own.
+/// Checks a block in a scope of its own.
 #[cycle(statements)]
-#[tactic(auto, using(crate::proofs::Behind::statements))]
+#[tactic(auto, using(crate::proofs::After::statements))]
 fn block<'a>(
     alloc: Global,
     program: &Program<'a>,
@@ -114,7 +121,9 @@ fn block<'a>(
     least: &mut Option<Broken>,
 ) -> Result<(), AllocError>
     ensures scopes { OnOk result (scopes.new ≡ scopes.old) }
-    ensures told { OnOk result (least.new ≡ told least.old (meaning.statements_broken (tables_in program.now) gives (meaning.inside scopes.old) (tree.statements_in all.now))) }
+    ensures told { OnOk result (least.new ≡ least_from least.old
+        (meaning.statements_broken (tables_in program.now) gives (meaning.inner_scopes scopes.old)
+        (tree.statements_in all.now))) }
 {
     scopes.open(alloc)?;
     statements(alloc, program, gives, scopes, all, least)?;
@@ -122,9 +131,9 @@ fn block<'a>(
     Ok(())
 }
 
-/// A body in a scope of its own.
+/// Checks a body in a scope of its own.
 #[cycle(statements)]
-#[tactic(auto, using(crate::proofs::Behind::statements))]
+#[tactic(auto, using(crate::proofs::After::statements))]
 fn inside<'a>(
     alloc: Global,
     program: &Program<'a>,
@@ -134,7 +143,9 @@ fn inside<'a>(
     least: &mut Option<Broken>,
 ) -> Result<(), AllocError>
     ensures scopes { OnOk result (scopes.new ≡ scopes.old) }
-    ensures told { OnOk result (least.new ≡ told least.old (meaning.statement_broken (tables_in program.now) gives (meaning.inside scopes.old) (tree.stmt_of body.now))) }
+    ensures told { OnOk result (least.new ≡ least_from least.old
+        (meaning.statement_broken (tables_in program.now) gives (meaning.inner_scopes scopes.old)
+        (tree.stmt_of body.now))) }
 {
     scopes.open(alloc)?;
     statement(alloc, program, gives, scopes, body, least)?;
@@ -142,15 +153,19 @@ fn inside<'a>(
     Ok(())
 }
 
-/// The first part of a `for`.
+/// Checks the first part of a `for`.
 fn begin<'a>(
     program: &Program<'a>,
     scopes: &mut Scopes<'a>,
     first: &'a Option<First>,
     least: &mut Option<Broken>,
 ) -> Result<(), AllocError>
-    ensures scopes { OnOk result (scopes.new ≡ option_map_or (λ f. meaning.behind_first (tables_in program.now) f scopes.old) (option_map tree.first_of first.now) scopes.old) }
-    ensures told { OnOk result (least.new ≡ told least.old (option_map_or (meaning.first_broken (tables_in program.now) scopes.old) (option_map tree.first_of first.now) [])) }
+    ensures scopes { OnOk result (scopes.new
+        ≡ option_map_or (λ f. meaning.scopes_after_first (tables_in program.now) f scopes.old)
+        (option_map tree.tree_of_first first.now) scopes.old) }
+    ensures told { OnOk result (least.new ≡ least_from least.old
+        (option_map_or (meaning.first_broken (tables_in program.now) scopes.old)
+        (option_map tree.tree_of_first first.now) [])) }
 {
     match first {
         None => Ok(()),
@@ -164,14 +179,16 @@ fn begin<'a>(
     }
 }
 
-/// The condition of a `for`.
+/// Checks the condition of a `for`.
 fn optional(
     program: &Program<'_>,
     scopes: &Scopes<'_>,
     expr: &Option<Expr>,
     least: &mut Option<Broken>,
 )
-    ensures { least.new ≡ told least.old (option_map_or (expressions.value_broken (tables_in program.now) scopes.now) (option_map expr_of expr.now) []) }
+    ensures { least.new ≡ least_from least.old
+        (option_map_or (expressions.value_broken (tables_in program.now) scopes.now)
+        (option_map expr_of expr.now) []) }
 {
     match expr {
         None => {}
@@ -181,14 +198,16 @@ fn optional(
     }
 }
 
-/// The third part of a `for`.
+/// Checks the third part of a `for`.
 fn step(
     program: &Program<'_>,
     scopes: &Scopes<'_>,
     third: &Option<Simple>,
     least: &mut Option<Broken>,
 )
-    ensures { least.new ≡ told least.old (option_map_or (meaning.simple_broken (tables_in program.now) scopes.now) (option_map tree.simple_of third.now) []) }
+    ensures { least.new ≡ least_from least.old
+        (option_map_or (meaning.simple_broken (tables_in program.now) scopes.now)
+        (option_map tree.simple_of third.now) []) }
 {
     match third {
         None => {}
@@ -196,7 +215,7 @@ fn step(
     }
 }
 
-/// `return`, with a value exactly in a function that gives one.
+/// Checks a `return`, which has a value exactly in a function that gives one.
 #[tactic(auto, using(crate::proofs::Told::told_append))]
 fn give(
     program: &Program<'_>,
@@ -206,7 +225,9 @@ fn give(
     given: &Option<Expr>,
     least: &mut Option<Broken>,
 )
-    ensures { least.new ≡ told least.old (meaning.return_broken (tables_in program.now) gives scopes.now place (option_map expr_of given.now)) }
+    ensures { least.new ≡ least_from least.old
+        (meaning.return_broken (tables_in program.now) gives scopes.now place
+        (option_map expr_of given.now)) }
 {
     match given {
         None => expect(least, !gives.is_some(), place, Rule::Mismatch),
@@ -218,17 +239,18 @@ fn give(
 }
 
 fn gives_back(gives: Option<ValueType>, given: ValueType) -> bool
-    ensures { result ≡ option_map_or (λ ty. fits.takes ty given) gives false }
+    ensures { result ≡ option_map_or (λ ty. fits.type_takes ty given) gives false }
 {
     match gives {
         None => false,
-        Some(target) => takes(target, given),
+        Some(target) => type_takes(target, given),
     }
 }
 
-/// The rules that a type breaks where it is written.
+/// Checks a type as it is written.
 pub fn written_type(program: &Program<'_>, ty: &TypeName, least: &mut Option<Broken>)
-    ensures { least.new ≡ told least.old (meaning.type_broken (tables_in program.now) (tree.type_of ty.now)) }
+    ensures { least.new ≡ least_from least.old
+        (meaning.type_broken (tables_in program.now) (tree.type_tree ty.now)) }
 {
     match ty {
         TypeName::Int => {}
@@ -246,8 +268,10 @@ pub fn declare_name<'a>(
     name: &'a Name,
     least: &mut Option<Broken>,
 ) -> Result<(), AllocError>
-    ensures scopes { OnOk result (scopes.new ≡ meaning.declared name.now.text (tables.declared_type (tables_in program.now) (tree.type_of ty.now)) scopes.old) }
-    ensures told { least.new ≡ told least.old (unless (not (meaning.is_declared name.now.text scopes.old)) name.now.place Rule.Twice) }
+    ensures scopes { OnOk result (scopes.new ≡ meaning.scope_declared name.now.text
+        (tables.declared_type (tables_in program.now) (tree.type_tree ty.now)) scopes.old) }
+    ensures told { least.new ≡ least_from least.old
+        (unless (not (meaning.is_declared name.now.text scopes.old)) name.now.place Rule.Twice) }
 {
     let again = scopes.is_declared(name.text.as_str());
     expect(least, !again, name.place, Rule::Twice);
@@ -262,8 +286,11 @@ fn declare<'a>(
     declaration: &'a Declaration,
     least: &mut Option<Broken>,
 ) -> Result<(), AllocError>
-    ensures scopes { OnOk result (scopes.new ≡ meaning.behind_declaration (tables_in program.now) (tree.declaration_of declaration.now) scopes.old) }
-    ensures told { least.new ≡ told least.old (meaning.declaration_broken (tables_in program.now) scopes.old (tree.declaration_of declaration.now)) }
+    ensures scopes { OnOk result (scopes.new ≡ meaning.scopes_after_declaration
+        (tables_in program.now) (tree.declaration_of declaration.now) scopes.old) }
+    ensures told { least.new ≡ least_from least.old
+        (meaning.declaration_broken (tables_in program.now) scopes.old
+        (tree.declaration_of declaration.now)) }
 {
     let target = program.declared_type(&declaration.ty);
     written_type(program, &declaration.ty, least);
@@ -279,21 +306,29 @@ fn initialize(
     initial: &Option<Initial>,
     least: &mut Option<Broken>,
 )
-    ensures { least.new ≡ told least.old (option_map_or (meaning.initial_broken (tables_in program.now) scopes.now target) (option_map tree.initial_of initial.now) []) }
+    ensures { least.new ≡ least_from least.old
+        (option_map_or (meaning.initial_broken (tables_in program.now) scopes.now target)
+        (option_map tree.initial_of initial.now) []) }
 {
     match initial {
         None => {}
         Some(initial) => {
             let given = value(program, scopes, &initial.value, least);
-            expect(least, takes(target, given), initial.place, Rule::Mismatch);
+            expect(
+                least,
+                type_takes(target, given),
+                initial.place,
+                Rule::Mismatch,
+            );
         }
     }
 }
 
-/// A simple statement.
+/// Checks a simple statement.
 #[tactic(auto, using(crate::proofs::Told::told_append))]
 fn simple(program: &Program<'_>, scopes: &Scopes<'_>, stmt: &Simple, least: &mut Option<Broken>)
-    ensures { least.new ≡ told least.old (meaning.simple_broken (tables_in program.now) scopes.now (tree.simple_of stmt.now)) }
+    ensures { least.new ≡ least_from least.old
+        (meaning.simple_broken (tables_in program.now) scopes.now (tree.simple_of stmt.now)) }
 {
     match stmt {
         Simple::Assign {
@@ -323,7 +358,7 @@ fn simple(program: &Program<'_>, scopes: &Scopes<'_>, stmt: &Simple, least: &mut
     }
 }
 
-/// Whether an expression is a variable, a field or an element.
+/// Whether an expression can be assigned to: a variable, a field, or an element of a field.
 fn is_target(expr: &Expr) -> bool
     ensures { result ≡ meaning.is_target (expr_of expr.now) }
 {
@@ -331,7 +366,25 @@ fn is_target(expr: &Expr) -> bool
         Expr::Variable(_) => true,
         Expr::Root(_) => true,
         Expr::Arrow { .. } => true,
-        Expr::Index { .. } => true,
+        Expr::Index { base, .. } => is_field(base),
+        Expr::Number(_) => false,
+        Expr::Null => false,
+        Expr::Call { .. } => false,
+        Expr::New { .. } => false,
+        Expr::Unary { .. } => false,
+        Expr::Binary { .. } => false,
+    }
+}
+
+/// Whether an expression is a field of the root, or one reached by `->`.
+fn is_field(expr: &Expr) -> bool
+    ensures { result ≡ meaning.is_field (expr_of expr.now) }
+{
+    match expr {
+        Expr::Root(_) => true,
+        Expr::Arrow { .. } => true,
+        Expr::Variable(_) => false,
+        Expr::Index { .. } => false,
         Expr::Number(_) => false,
         Expr::Null => false,
         Expr::Call { .. } => false,

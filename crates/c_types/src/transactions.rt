@@ -1,7 +1,7 @@
 //! The transactions of a program, by name and number.
 
 ghost use Rattle.std.specs.Prelude.{◌≡◌, IfOk, map};
-ghost use Rattle.c_parser.specs.ItemTree.{function_of};
+ghost use Rattle.c_parser.specs.ItemTree.{function_tree};
 ghost use Rattle.c_types.specs.Shapes.{transactions_in};
 ghost use Rattle.c_types.specs.Transactions.{entry_of};
 
@@ -18,7 +18,8 @@ pub struct Transaction {
 }
 
 pub fn transactions(alloc: Global, functions: &[&Function]) -> Result<Vec<Transaction>, AllocError>
-    ensures { IfOk result (λ v. v.items ≡ map entry_of (transactions_in (map function_of (map (λ f. f.now) functions.now)))) }
+    ensures { IfOk result (λ v. v.items
+        ≡ map entry_of (transactions_in (map function_tree (map (λ f. f.now) functions.now)))) }
 {
     let mut all = Vec::new(alloc);
     for function in functions {
@@ -30,7 +31,7 @@ pub fn transactions(alloc: Global, functions: &[&Function]) -> Result<Vec<Transa
 }
 
 fn entry(alloc: Global, function: &Function) -> Result<Transaction, AllocError>
-    ensures { IfOk result (λ t. t ≡ entry_of (function_of function.now)) }
+    ensures { IfOk result (λ t. t ≡ entry_of (function_tree function.now)) }
 {
     let name = copied(alloc, function.name.text.as_str())?;
     let parameters = function.parameters.len() as u64;

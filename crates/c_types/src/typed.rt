@@ -1,4 +1,4 @@
-//! A tree that breaks no typing rule, and what is told of it.
+//! A tree that breaks no typing rule, and what it provides.
 
 ghost use Rattle.std.specs.Prelude.{◌≡◌, ◌≤◌, ◌-◌, IfOk, length, map, option_map, suc, slice_get, Some};
 ghost use Rattle.c_parser.specs.ItemTree.{FunctionTree};
@@ -15,7 +15,7 @@ use pool_map::Shapes;
 use std::alloc::{AllocError, Global};
 use std::marker::Model;
 
-/// A tree that `check` accepted, seen as the tree. Its calls take no memory.
+/// A tree that `check` accepted, seen as the tree. Its methods take no memory.
 #[derive(Drop)]
 pub struct Typed {
     ast: Ast,
@@ -42,7 +42,7 @@ impl Model for Typed {
 }
 
 impl Typed {
-    /// The tree, whatever rules it breaks.
+    /// Wraps the tree, whatever rules it breaks.
     pub(crate) fn new(alloc: Global, ast: Ast) -> Result<Typed, AllocError>
         ensures { IfOk result (λ t. t ≡ ast) }
     {
@@ -70,7 +70,9 @@ impl Typed {
 
     /// The number of the transaction of that name, counted from 1.
     pub fn tx_number(&self, name: &str) -> Option<u64>
-        ensures { result ≡ option_map suc (index_of name.now (map (λ (f : FunctionTree). f.name.text) (transactions_of self.now))) }
+        ensures { result ≡ option_map suc
+            (index_of name.now (map (λ (f : FunctionTree). f.name.text)
+            (transactions_of self.now))) }
     {
         number_of(&self.transactions, name)
     }
@@ -86,7 +88,8 @@ impl Typed {
     pub fn tx_name(&self, tx: u64) -> &str
         requires from { 1 ≤ tx }
         requires to { tx ≤ length (transactions_of self.now) }
-        ensures { Some result.now ≡ option_map (λ f. f.name.text) (slice_get (transactions_of self.now) (tx - 1)) }
+        ensures { Some result.now ≡ option_map (λ f. f.name.text)
+            (slice_get (transactions_of self.now) (tx - 1)) }
     {
         self.transactions[(tx - 1) as usize].name.as_str()
     }
@@ -95,7 +98,8 @@ impl Typed {
     pub fn parameters(&self, tx: u64) -> u64
         requires from { 1 ≤ tx }
         requires to { tx ≤ length (transactions_of self.now) }
-        ensures { Some result ≡ option_map (λ f. length f.parameters) (slice_get (transactions_of self.now) (tx - 1)) }
+        ensures { Some result ≡ option_map (λ f. length f.parameters)
+            (slice_get (transactions_of self.now) (tx - 1)) }
     {
         self.transactions[(tx - 1) as usize].parameters
     }
@@ -126,7 +130,8 @@ fn told(alloc: Global, ast: &Ast) -> Result<(Shapes, Vec<Transaction>), AllocErr
 }
 
 fn number_of(transactions: &[Transaction], name: &str) -> Option<u64>
-    ensures { result ≡ option_map suc (index_of name.now (map (λ (t : kept.Transaction). t.name) transactions.now)) }
+    ensures { result ≡ option_map suc
+        (index_of name.now (map (λ (t : kept.Transaction). t.name) transactions.now)) }
 {
     let mut number = 1u64;
     for transaction in transactions {

@@ -1,4 +1,4 @@
-//! What an expression denotes, for the crates above.
+//! The types of expressions, for the crates above.
 
 ghost use Rattle.std.specs.Prelude.{◌≡◌};
 ghost use Rattle.c_parser.specs.ExprTree.{expr_of};

@@ -1,12 +1,12 @@
 //! The types of values, and what an expression denotes.
 
-/// The type of a value. Where a part of an expression was refused its type is `Any`, which breaks
-/// no rule.
+/// The type of a value. If a part of an expression was refused, its type is `Any`, which breaks no
+/// rule.
 #[derive(Clone, Copy, Debug, PartialEq, Eq)]
 pub enum ValueType {
     /// `int64_t`
     Int,
-    /// A pointer to the struct that is defined at this place among the structs, counted from 0.
+    /// A pointer to the struct at this place among the structs, counted from 0.
     Pointer(u64),
     /// `NULL`
     Null,

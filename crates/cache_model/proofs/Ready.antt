@@ -1,4 +1,4 @@
--- A line that is ready: a fence leaves it its newest version alone.
+-- A line is ready if a fence leaves it only its newest version.
 use Rattle.std.proofs.Common.{◌≡◌, ◌≢◌, inl, inr, ℕ, ◌==◌, cond, Bool, true, false, List, [], ◌∷◌, length, Some, None, Option, refl, subst, arith}
 use Rattle.std.proofs.lemmas.Bool.{eqb-false}
 use Rattle.std.proofs.lemmas.List.{drop_all}
@@ -7,7 +7,8 @@ use Rattle.cache_model.specs.Cache.{Words, Line, Cache}
 use Rattle.cache_model.specs.Play.{flush_line, fence_at, apply, IsReady}
 use Rattle.cache_model.specs.Image.{Among, IsVersion}
 
-ready_flush : (older : List Words) (newest : Words) (m : Option ℕ) → IsReady (flush_line (record { older = older; newest = newest; mark = m }))
+ready_flush : (older : List Words) (newest : Words) (m : Option ℕ)
+    → IsReady (flush_line (record { older = older; newest = newest; mark = m }))
 ready_flush [] n None = refl
 ready_flush [] n (Some k) = drop_all k [] (omega arith)
 ready_flush (v ∷ vs) n m = drop_all (length (v ∷ vs)) (v ∷ vs) (omega arith)
@@ -20,12 +21,14 @@ pub flush_ready : (c : Cache) (k l : ℕ) → (l ≢ k → IsReady (c l)) → Is
 unfolding apply
 flush_ready c k l h = flush_ready_of (l == k) (c l) (λ off. h (eqb-false l k off))
 
-single_of : (m : Option ℕ) (l : Line) (v : Words) → (fence_at m l).older ≡ [] → IsVersion (fence_at m l) v → v ≡ l.newest
+single_of : (m : Option ℕ) (l : Line) (v : Words) → (fence_at m l).older ≡ []
+    → IsVersion (fence_at m l) v → v ≡ l.newest
 single_of m l v e (inr h) = absurd (subst (λ (us : List Words). Among us v) e h)
 single_of None l v e (inl s) = s
 single_of (Some k) l v e (inl s) = s
 
--- behind the fence such a line has its newest version alone
-pub fence_single : (c : Cache) (l : ℕ) (v : Words) → IsReady (c l) → IsVersion (apply c Fence l) v → v ≡ (c l).newest
+-- after the fence, the only version of a ready line is its newest one
+pub fence_single : (c : Cache) (l : ℕ) (v : Words) → IsReady (c l) → IsVersion (apply c Fence l) v
+    → v ≡ (c l).newest
 unfolding apply
 fence_single c l v ready h = single_of (c l).mark (c l) v ready h

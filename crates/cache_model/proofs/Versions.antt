@@ -1,4 +1,4 @@
--- What a store, a flush and a fence do to the versions of a line.
+-- The effect of a store, a flush and a fence on the versions of a line.
 use Rattle.std.proofs.Common.{◌≡◌, ◌≢◌, ◌⊎◌, inl, inr, ⊎_elim, ℕ, zero, suc, ◌/◌, ◌==◌, cond, Bool, true, false, List, [], ◌∷◌, ◌++◌, drop, Some, None, Option, ℤ, refl, ap, eqb-true, eq-eqb, ne_eqb}
 use Rattle.cache_model.specs.Event.{Store, Flush, Fence}
 use Rattle.cache_model.specs.Cache.{Words, put, Line, Cache}
@@ -28,21 +28,28 @@ among_drop zero us v h = h
 among_drop (suc k) [] v h = h
 among_drop (suc k) (u ∷ us) v h = inr (among_drop k us v h)
 
-store_of : (b : Bool) (l : Line) (p : ℕ) (x : ℤ) (v : Words) → IsVersion (cond b (store_line l p x) l) v → IsVersion l v ⊎ ((b ≡ true) × (v ≡ put l.newest p x))
+store_of : (b : Bool) (l : Line) (p : ℕ) (x : ℤ) (v : Words)
+    → IsVersion (cond b (store_line l p x) l) v
+    → IsVersion l v ⊎ ((b ≡ true) × (v ≡ put l.newest p x))
 store_of true l p x v (inl e) = inr (refl, e)
-store_of true l p x v (inr h) = inl (⊎_elim (λ a. inr a) (λ e. inl e) (among_push l.older l.newest v h))
+store_of true l p x v (inr h) =
+    inl (⊎_elim (λ a. inr a) (λ e. inl e) (among_push l.older l.newest v h))
 store_of false l p x v h = inl h
 
 -- a store adds one version to its line
-pub store_version : (c : Cache) (p : ℕ) (x : ℤ) (l : ℕ) (v : Words) → IsVersion (apply c (Store p x) l) v → IsVersion (c l) v ⊎ ((l ≡ p / 8) × (v ≡ put (c l).newest p x))
+pub store_version : (c : Cache) (p : ℕ) (x : ℤ) (l : ℕ) (v : Words)
+    → IsVersion (apply c (Store p x) l) v → IsVersion (c l) v
+    ⊎ ((l ≡ p / 8) × (v ≡ put (c l).newest p x))
 unfolding apply
-store_version c p x l v h = ⊎_elim (λ old. inl old) (λ new. inr (eqb-true l (p / 8) new.0, new.1)) (store_of (l == p / 8) (c l) p x v h)
+store_version c p x l v h = ⊎_elim (λ old. inl old) (λ new. inr (eqb-true l (p / 8) new.0, new.1))
+    (store_of (l == p / 8) (c l) p x v h)
 
 flush_of : (b : Bool) (l : Line) (v : Words) → IsVersion (cond b (flush_line l) l) v → IsVersion l v
 flush_of true l v h = h
 flush_of false l v h = h
 
-pub flush_version : (c : Cache) (k l : ℕ) (v : Words) → IsVersion (apply c (Flush k) l) v → IsVersion (c l) v
+pub flush_version : (c : Cache) (k l : ℕ) (v : Words) → IsVersion (apply c (Flush k) l) v
+    → IsVersion (c l) v
 unfolding apply
 flush_version c k l v h = flush_of (l == k) (c l) v h
 
@@ -51,7 +58,8 @@ fence_of None l v h = h
 fence_of (Some k) l v (inl e) = inl e
 fence_of (Some k) l v (inr h) = inr (among_drop k l.older v h)
 
-pub fence_version : (c : Cache) (l : ℕ) (v : Words) → IsVersion (apply c Fence l) v → IsVersion (c l) v
+pub fence_version : (c : Cache) (l : ℕ) (v : Words) → IsVersion (apply c Fence l) v
+    → IsVersion (c l) v
 unfolding apply
 fence_version c l v h = fence_of (c l).mark (c l) v h
 
@@ -59,7 +67,7 @@ store_other_of : (b : Bool) (l : Line) (p : ℕ) (x : ℤ) → b ≡ false → c
 store_other_of true l p x e = absurd (cc)
 store_other_of false l p x e = refl
 
--- a store leaves the other lines
+-- a store leaves the other lines unchanged
 pub store_other : (c : Cache) (p l : ℕ) (x : ℤ) → l ≢ p / 8 → apply c (Store p x) l ≡ c l
 unfolding apply
 store_other c p l x ne = store_other_of (l == p / 8) (c l) p x (ne_eqb l (p / 8) ne)

@@ -1,4 +1,4 @@
--- What a store, a flush and a fence do to the view.
+-- The effect of a store, a flush and a fence on the view.
 use Rattle.std.proofs.Common.{◌≡◌, ◌≢◌, inl, ℕ, ◌/◌, ◌==◌, cond, Bool, true, false, Some, None, Option, ℤ, refl, sym, ap, ◌∙◌}
 use Rattle.std.proofs.lemmas.Bool.{eqb-false}
 use Rattle.cache_model.specs.Event.{Store, Flush, Fence}
@@ -10,13 +10,15 @@ use Rattle.cache_model.proofs.Versions.{put_same, put_other}
 pub view_version : (c : Cache) (p : ℕ) → IsVersion (c (p / 8)) (c (p / 8)).newest
 view_version c p = inl refl
 
-view_store_of : (b : Bool) (l : Line) (p q : ℕ) (x : ℤ) → (b ≡ false → q ≢ p) → (cond b (store_line l p x) l).newest q ≡ put l.newest p x q
+view_store_of : (b : Bool) (l : Line) (p q : ℕ) (x : ℤ) → (b ≡ false → q ≢ p)
+    → (cond b (store_line l p x) l).newest q ≡ put l.newest p x q
 view_store_of true l p q x ne = refl
 view_store_of false l p q x ne = sym (put_other l.newest p q x (ne refl))
 
 pub view_store : (c : Cache) (p q : ℕ) (x : ℤ) → view (apply c (Store p x)) q ≡ put (view c) p x q
 unfolding view apply put
-view_store c p q x = view_store_of (q / 8 == p / 8) (c (q / 8)) p q x (λ off e. eqb-false (q / 8) (p / 8) off (ap (λ (n : ℕ). n / 8) e))
+view_store c p q x = view_store_of (q / 8 == p / 8) (c (q / 8)) p q x
+    (λ off e. eqb-false (q / 8) (p / 8) off (ap (λ (n : ℕ). n / 8) e))
 
 pub view_same : (c : Cache) (p : ℕ) (x : ℤ) → view (apply c (Store p x)) p ≡ x
 view_same c p x = view_store c p p x ∙ put_same (view c) p x

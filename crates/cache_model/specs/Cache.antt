@@ -1,15 +1,17 @@
--- A cache gives each line a list of versions, oldest first and never empty, and perhaps a mark on one of them.
+-- A cache gives each line a list of versions, oldest first and never empty, and perhaps a mark on
+-- one of them.
 use Rattle.std.specs.Prelude.{ℕ, ◌/◌, ◌==◌, cond, List, [], ◌∷◌, ◌++◌, Option, None, ℤ, pos}
 
--- Words by their numbers in the memory. Of a version of a line only the words of that line count.
+-- Words by their numbers in the memory. In a version of a line, only the words of that line matter.
 abbrev pub Words : Type 0
 Words = ℕ → ℤ
 
--- the words with one replaced
+-- the words, with one replaced
 unfoldable pub put : Words → ℕ → ℤ → Words
 put v p x q = cond (q == p) x (v q)
 
--- The versions older than the newest, oldest first; the newest; and the mark, the place of a version counted from the oldest.
+-- The versions older than the newest, oldest first; the newest version; and the mark, which is the
+-- index of a version counted from the oldest.
 pub record Line : Type 0 where
   pub older : List Words
   pub newest : Words

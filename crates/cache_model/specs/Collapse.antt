@@ -1,6 +1,7 @@
--- What a power cut leaves by a choice. A line with a pick keeps the picked version, counted from 0 at the oldest; any other
--- line keeps its first version where the rest is old, its newest where the rest is new. What is kept is the line's only
--- version, with no mark. A pick is bad where its line isn't there or its version is past that line's list.
+-- The memory after a power cut with a given choice. A line with a pick keeps the picked version,
+-- counted from 0 at the oldest. Any other line keeps its oldest version if the rest is old, and its
+-- newest if the rest is new. The kept version becomes the line's only one, with no mark. A pick is
+-- bad if the memory doesn't have its line or the line doesn't have its version.
 use Rattle.std.specs.Prelude.{ℕ, ◌==◌, cond, List, [], ◌∷◌, length, slice_index_or, Option, Some, None, ◌+◌, ◌≤◌, nat_lt, ◌&&◌, Bool}
 use Rattle.cache_model.specs.Cache.{Words, Line, Cache, Memory, versions}
 use Rattle.cache_model.specs.declared.choice.Rest.{Rest}
@@ -27,20 +28,20 @@ left_line rest pick l = record { older = []; newest = kept rest pick l; mark = N
 unfoldable pub left_cache : Cache → Rest → List Pick → Cache
 left_cache c rest picks l = left_line rest (picked picks l) (c l)
 
--- the line is there, and has that version
-abbrev pub is_good : Memory → Pick → Bool
-is_good m p = nat_lt p.line m.lines && nat_lt p.version (length (versions (m.cache p.line)))
+-- the memory has the line, and the line has that version
+abbrev pub is_good_pick : Memory → Pick → Bool
+is_good_pick m p = nat_lt p.line m.lines && nat_lt p.version (length (versions (m.cache p.line)))
 
 -- the line of the first bad pick
 abbrev pub bad : Memory → List Pick → Option ℕ
 bad m [] = None
-bad m (p ∷ ps) = cond (is_good m p) (bad m ps) (Some p.line)
+bad m (p ∷ ps) = cond (is_good_pick m p) (bad m ps) (Some p.line)
 
--- the memory that the choice leaves
+-- the memory after a power cut with this choice
 abbrev pub collapse : Memory → Choice → Memory
 collapse m choice = record { lines = m.lines; cache = left_cache m.cache choice.rest choice.picks }
 
--- the lines of the picks rise strictly, from this one
+-- the lines of the picks rise strictly, and the first is at least this one
 abbrev pub RisesFrom : ℕ → List Pick → Type 0
 RisesFrom n [] = Unit {0}
 RisesFrom n (p ∷ ps) = (n ≤ p.line) × RisesFrom (p.line + 1) ps

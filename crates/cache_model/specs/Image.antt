@@ -12,10 +12,10 @@ IsVersion l v = (v ≡ l.newest) ⊎ Among l.older v
 abbrev pub IsImage : Cache → Words → Type 0
 IsImage c image = (l : ℕ) → (v : Words) × IsVersion (c l) v × ((p : ℕ) → p / 8 ≡ l → image p ≡ v p)
 
--- each image of the cache
+-- the property holds of every image of the cache
 abbrev pub Images : (Words → Type 0) → Cache → Type 0
 Images P c = (image : Words) → IsImage c image → P image
 
--- each image is this one, word for word
+-- every image equals this one, word for word
 abbrev pub HasOne : Cache → Words → Type 0
 HasOne c one = (image : Words) → IsImage c image → (p : ℕ) → image p ≡ one p

@@ -6,3 +6,4 @@ pub mod During
 pub mod Collapse
 pub mod Lists
 pub mod Laws
+pub mod inside

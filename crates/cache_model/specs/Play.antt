@@ -1,13 +1,19 @@
--- What an event, and a list of events in order, does to a cache.
+-- The effect of an event, and of a list of events in order, on a cache.
 use Rattle.std.specs.Prelude.{ℕ, ◌/◌, ◌≡◌, ◌==◌, cond, List, [], ◌∷◌, ◌++◌, length, drop, Option, Some, None, ℤ}
 use Rattle.cache_model.specs.Event.{CacheEvent, Store, Flush, Fence}
 use Rattle.cache_model.specs.Cache.{Words, put, Line, Cache, Memory}
 
--- A store appends a version to its line: the newest one with one word replaced, also where the value is the same.
+-- A store appends a version to its line: the newest one with one word replaced, even if the value
+-- is the same.
 abbrev pub store_line : Line → ℕ → ℤ → Line
-store_line l p x = record { older = l.older ++ l.newest ∷ []; newest = put l.newest p x; mark = l.mark }
+store_line l p x = record {
+  older = l.older ++ l.newest ∷ [];
+  newest = put l.newest p x;
+  mark = l.mark;
+}
 
--- A flush marks the newest version of its line where the line has more than one version; else it changes nothing.
+-- A flush marks the newest version of its line if the line has more than one version; else it
+-- changes nothing.
 abbrev pub mark_of : List Words → Option ℕ → Option ℕ
 mark_of [] m = m
 mark_of (v ∷ vs) m = Some (length (v ∷ vs))
@@ -15,7 +21,8 @@ mark_of (v ∷ vs) m = Some (length (v ∷ vs))
 abbrev pub flush_line : Line → Line
 flush_line l = record { older = l.older; newest = l.newest; mark = mark_of l.older l.mark }
 
--- A fence drops, in every line with a mark, the versions older than the marked one, and clears the mark.
+-- In every line with a mark, a fence drops the versions older than the marked one and clears the
+-- mark.
 abbrev pub fence_at : Option ℕ → Line → Line
 fence_at None l = l
 fence_at (Some k) l = record { older = drop k l.older; newest = l.newest; mark = None }
@@ -23,7 +30,7 @@ fence_at (Some k) l = record { older = drop k l.older; newest = l.newest; mark =
 abbrev pub fence_line : Line → Line
 fence_line l = fence_at l.mark l
 
--- a line that a fence leaves its newest version alone
+-- a fence leaves this line only its newest version
 abbrev pub IsReady : Line → Type 0
 IsReady l = (fence_line l).older ≡ []
 
@@ -36,6 +43,6 @@ abbrev pub play : Cache → List CacheEvent → Cache
 play c [] = c
 play c (e ∷ es) = play (apply c e) es
 
--- the memory behind an event
+-- the memory after an event
 abbrev pub after : Memory → CacheEvent → Memory
 after m e = record { lines = m.lines; cache = apply m.cache e }

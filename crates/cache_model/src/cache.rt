@@ -4,8 +4,9 @@ ghost use Rattle.std.specs.Prelude.{◌≡◌, ◌*◌, ◌<◌, Some, None, OnO
 ghost use Rattle.cache_model.specs.Cache.{blank, view};
 ghost use Rattle.cache_model.specs.Event.{Store, Flush, Fence};
 ghost use Rattle.cache_model.specs.Play.{after};
-ghost use Rattle.cache_model.specs.Collapse.{bad, is_good, collapse, Rises};
-ghost use Rattle.cache_model.specs.Lists.{blank_list, cache_from, memory_from, list_fence, list_picked, list_rest, IsWhole, AreIn};
+ghost use Rattle.cache_model.specs.Collapse.{bad, is_good_pick, collapse, Rises};
+ghost use Rattle.cache_model.specs.Lists.{blank_list, cache_from, memory_from, IsWhole};
+ghost use Rattle.cache_model.specs.inside.Lists.{list_fence, list_picked, list_rest, AreIn};
 
 use crate::choice::{BadPick, Choice, Pick, Rest};
 use crate::line::Versions;
@@ -30,7 +31,7 @@ impl Model for Cache {
 }
 
 impl Cache {
-    /// Blank lines.
+    /// Makes so many blank lines.
     pub fn new(alloc: Global, lines: u64) -> Result<Self, AllocError>
         ensures done { IfOk result (λ c. memory_from c ≡ record { lines = lines; cache = blank }) }
         ensures lines { IfOk result (λ c. length c ≡ lines) }
@@ -42,7 +43,7 @@ impl Cache {
         Ok(Cache { all })
     }
 
-    /// No line. It takes no memory.
+    /// A memory of no lines. It allocates nothing.
     pub fn empty(alloc: Global) -> Self
         ensures { memory_from result ≡ record { lines = 0; cache = blank } }
     {
@@ -71,7 +72,8 @@ impl Cache {
     #[tactic(auto, using(std::proofs::lemmas::Int::wraps, crate::proofs::Lists::store_memory))]
     pub fn store(&mut self, word: u64, value: i64) -> Result<(), AllocError>
         requires { word < 8 * length self.old }
-        ensures done { OnOk result (memory_from self.new ≡ after (memory_from self.old) (Store word value)) }
+        ensures done { OnOk result (memory_from self.new ≡ after (memory_from self.old)
+            (Store word value)) }
         ensures refused { OnErr result (self.new ≡ self.old) }
         ensures lines { length self.new ≡ length self.old }
     {
@@ -90,7 +92,7 @@ impl Cache {
         versions.flush();
     }
 
-    /// Drops the versions that are older than a mark, in every line.
+    /// Drops the versions older than the mark, in every line that has one.
     pub fn fence(&mut self)
         ensures done { memory_from self.new ≡ after (memory_from self.old) Fence }
         ensures lines { length self.new ≡ length self.old }
@@ -98,7 +100,7 @@ impl Cache {
         fence_all(&mut self.all);
     }
 
-    /// The line of the first pick whose line or version isn't there.
+    /// The line of the first pick whose line or version doesn't exist.
     fn bad_pick(&self, picks: &[Pick]) -> Option<u64>
         ensures { result ≡ bad (memory_from self.now) picks.now }
     {
@@ -118,9 +120,9 @@ impl Cache {
         self.all[line as usize].len()
     }
 
-    /// Whether the pick's line is there, and has that version.
+    /// Whether the line exists and has the picked version.
     fn has(&self, pick: Pick) -> bool
-        ensures { result ≡ is_good (memory_from self.now) pick }
+        ensures { result ≡ is_good_pick (memory_from self.now) pick }
     {
         if pick.line >= self.lines() {
             return false;
@@ -128,13 +130,15 @@ impl Cache {
         pick.version < self.all[pick.line as usize].len()
     }
 
-    /// Leaves each line by the choice. On `BadPick`, which names the first pick whose line or version
-    /// isn't there, nothing changes. It takes no memory.
+    /// Cuts the power: each line keeps the version that the choice says. On `BadPick`, which names
+    /// the first pick whose line or version doesn't exist, nothing changes. It takes no memory.
     pub fn collapse(&mut self, choice: &Choice) -> Result<(), BadPick>
         requires { Rises choice.now.picks }
         ensures fits { OnOk result (bad (memory_from self.old) choice.now.picks ≡ None) }
-        ensures done { OnOk result (memory_from self.new ≡ collapse (memory_from self.old) choice.now) }
-        ensures bad { IfErr result (λ pick. bad (memory_from self.old) choice.now.picks ≡ Some pick.line) }
+        ensures done { OnOk result (memory_from self.new ≡ collapse (memory_from self.old)
+            choice.now) }
+        ensures bad { IfErr result (λ pick. bad (memory_from self.old) choice.now.picks
+            ≡ Some pick.line) }
         ensures refused { OnErr result (self.new ≡ self.old) }
         ensures lines { length self.new ≡ length self.old }
     {
@@ -148,7 +152,7 @@ impl Cache {
     }
 }
 
-/// A fence on each line.
+/// Fences each line.
 fn fence_all(lines: &mut Vec<Versions>)
     ensures { lines.new.items ≡ map list_fence lines.old.items }
 {
@@ -157,7 +161,7 @@ fn fence_all(lines: &mut Vec<Versions>)
     }
 }
 
-/// Each picked line keeps what its pick names.
+/// Each picked line keeps the version that its pick names.
 fn keep_picked(lines: &mut Vec<Versions>, picks: &[Pick])
     requires picks { AreIn (length lines.old.items) picks.now }
     requires whole { IsWhole lines.old.items }

@@ -1,11 +1,12 @@
-//! What a power cut leaves: a rest for all lines, and a version for each line that is picked.
+//! The choice of a power cut: a version for each picked line, and the oldest or newest for the
+//! rest.
 
 ghost use Rattle.std.specs.Prelude.{List, [], ◌∷◌, ◌++◌, ◌≡◌, OnOk, OnErr};
 
 use std::alloc::{AllocError, Global};
 use std::marker::Model;
 
-/// The version that a line without a pick keeps: its oldest or its newest.
+/// The version that lines without a pick keep: the oldest or the newest.
 #[derive(Clone, Copy, Debug, PartialEq, Eq, Drop)]
 pub enum Rest {
     Old,
@@ -19,7 +20,7 @@ pub struct Pick {
     pub version: u64,
 }
 
-/// The first pick whose line isn't there, or whose version isn't.
+/// The line of the first pick whose line or version doesn't exist.
 #[derive(Clone, Copy, Debug, PartialEq, Eq, Drop)]
 pub struct BadPick {
     pub line: u64,
@@ -50,7 +51,7 @@ impl Picks {
         }
     }
 
-    /// Puts one pick at the end.
+    /// Appends one pick.
     pub fn push(&mut self, pick: Pick) -> Result<(), AllocError>
         ensures ok { OnOk result (self.new ≡ self.old ++ pick ∷ []) }
         ensures err { OnErr result (self.new ≡ self.old) }
@@ -66,7 +67,7 @@ impl Picks {
     }
 }
 
-/// What a power cut leaves of each line.
+/// The version that each line keeps at a power cut.
 #[derive(Drop)]
 pub struct Choice {
     pub rest: Rest,

@@ -2,7 +2,7 @@
 
 ghost use Rattle.cache_model.specs.Laws.{StoreLaw, FlushLaw, FenceLaw, PlayLaw, CollapseLaw};
 
-/// The laws of events and of power cuts. It does nothing.
+/// The laws of events and of power cuts. The function does nothing.
 pub fn laws()
     ensures store { StoreLaw }
     ensures flush { FlushLaw }

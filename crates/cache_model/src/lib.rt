@@ -1,6 +1,7 @@
-//! A model of persistent memory: lines of eight words that keep their older versions until a fence
-//! drops them. It stands on the standard library alone. Its one contract for the crates above: each
-//! call does to the cache what `specs/Play.antt` and `specs/Collapse.antt` say, and nothing else.
+//! A model of persistent memory: cache lines of eight words that keep their older versions until a
+//! fence drops them. It rests on the standard library alone. Its one contract for the crates above:
+//! each call does to the cache what `specs/Play.antt` and `specs/Collapse.antt` say, and nothing
+//! else.
 #![tactic(auto)]
 
 mod cache;
@@ -11,6 +12,3 @@ mod line;
 pub use cache::Cache;
 pub use choice::{BadPick, Choice, Pick, Picks, Rest};
 pub use law::laws;
-
-#[cfg(test)]
-mod tests;

@@ -1,7 +1,7 @@
 //! One line with its versions.
 
 ghost use Rattle.std.specs.Prelude.{◌≡◌, ◌<◌, ◌≤◌, ◌+◌, OnOk, OnErr, length, slice_index_or, pos, IsTrue};
-ghost use Rattle.cache_model.specs.Lists.{zero_list, list_store, list_flush, list_fence, list_keep, list_rest};
+ghost use Rattle.cache_model.specs.inside.Lists.{zero_list, list_store, list_flush, list_fence, list_keep, list_rest};
 
 use crate::choice::Rest;
 use std::alloc::{AllocError, Global};
@@ -66,7 +66,7 @@ impl Versions {
         Ok(())
     }
 
-    /// Marks the newest version where there is an older one.
+    /// Marks the newest version, if there is an older one.
     pub fn flush(&mut self)
         ensures { self.new ≡ list_flush self.old }
     {
@@ -75,7 +75,7 @@ impl Versions {
         }
     }
 
-    /// Drops what is older than the mark, and the mark.
+    /// Drops the versions older than the mark, and clears the mark.
     pub fn fence(&mut self)
         ensures { self.new ≡ list_fence self.old }
     {
@@ -85,7 +85,8 @@ impl Versions {
         }
     }
 
-    /// Keeps one version alone, counted from the oldest; past the older ones the newest.
+    /// Keeps only the version at this index, counted from the oldest; an index past the older ones
+    /// means the newest.
     pub fn keep(&mut self, version: usize)
         ensures kept { self.new ≡ list_keep version self.old }
         ensures whole { length self.new.newest ≡ 8 }
@@ -97,7 +98,7 @@ impl Versions {
         self.mark = None;
     }
 
-    /// Keeps the oldest or the newest version alone.
+    /// Keeps only the oldest or only the newest version.
     pub fn keep_rest(&mut self, rest: Rest)
         ensures kept { self.new ≡ list_rest rest self.old }
         ensures whole { length self.new.newest ≡ 8 }

@@ -11,18 +11,18 @@ use Rattle.c_lexer.specs.declared.fault.LexFault.TheVariants.{TooLong}
 use Rattle.c_lexer.specs.declared.token.Placed.{Placed}
 use Rattle.c_lexer.specs.Bytes.{is_blank, begins_name, run_len, line_len}
 use Rattle.c_lexer.specs.Comments.{comment_len, begins_include}
-use Rattle.c_lexer.specs.Cuts.{Cut, begin, cut_left, cut, ended, limited, answer}
+use Rattle.c_lexer.specs.Cuts.{Cut, begin_piece, cut_left, cut, lex_answer, limited, answer}
 use Rattle.c_lexer.specs.Marks.{mark_at}
-use Rattle.c_lexer.specs.Next.{run_of, comment_piece, number_piece, mark_piece, next}
+use Rattle.c_lexer.specs.Next.{run_of, comment_piece, number_piece, mark_piece, next_piece}
 use Rattle.c_lexer.specs.Numbers.{digits_after, numeral, number_of}
 use Rattle.c_lexer.specs.Spots.{text_start, past_byte}
 use Rattle.c_lexer.specs.TokenList.{Tokens}
-use Rattle.c_lexer.specs.Words.{spelled_by, word_at, is_never_accepted}
-use Rattle.c_parser.specs.Kinds.{value_of, value_at}
+use Rattle.c_lexer.specs.Words.{spelled_by, word_spelled, is_never_accepted}
+use Rattle.c_parser.specs.Kinds.{placed_value, value_at}
 use Rattle.lower.proofs.Few.{and_right, le_from}
 
 abbrev IsWordToken : Placed → Type 0
-IsWordToken p = IsWord (value_of (Some p))
+IsWordToken p = IsWord (placed_value (Some p))
 
 pub small_word : (n : ℕ) → n ≤ 2 ^ 63 - 1 → IsWord (pos n)
 small_word n le = (omega (arith, ints), omega (arith, ints, le))
@@ -32,10 +32,17 @@ IsWordOr None = Unit {0}
 IsWordOr (Some v) = IsWord v
 
 digits_words : (base before : ℕ) (digits : List ℕ) → IsWordOr (digits_after base before digits)
-digits_words base before digits = by_test (list_all (λ d. is_digit d base) digits && nat_le (digits_value_after base before digits) (2 ^ 63 - 1)) refl
+digits_words base before digits =
+    by_test (list_all (λ d. is_digit d base) digits
+    && nat_le (digits_value_after base before digits) (2 ^ 63 - 1)) refl
   where
-    by_test : (b : Bool) → (list_all (λ d. is_digit d base) digits && nat_le (digits_value_after base before digits) (2 ^ 63 - 1)) ≡ b → IsWordOr (if b then Some (pos (digits_value_after base before digits)) else None)
-    by_test true at = small_word (digits_value_after base before digits) (le_from (digits_value_after base before digits) (2 ^ 63 - 1) (and_right (list_all (λ d. is_digit d base) digits) (nat_le (digits_value_after base before digits) (2 ^ 63 - 1)) at))
+    by_test : (b : Bool) → (list_all (λ d. is_digit d base) digits
+        && nat_le (digits_value_after base before digits) (2 ^ 63 - 1)) ≡ b
+        → IsWordOr (if b then Some (pos (digits_value_after base before digits)) else None)
+    by_test true at = small_word (digits_value_after base before digits)
+        (le_from (digits_value_after base before digits) (2 ^ 63 - 1)
+        (and_right (list_all (λ d. is_digit d base) digits)
+        (nat_le (digits_value_after base before digits) (2 ^ 63 - 1)) at))
     by_test false at = tt
 
 either_words : (b : Bool) (x y : Option ℤ) → IsWordOr x → IsWordOr y → IsWordOr (if b then x else y)
@@ -43,59 +50,80 @@ either_words true x y a c = a
 either_words false x y a c = c
 
 numeral_words : (base : ℕ) (digits : List ℕ) → IsWordOr (numeral base digits)
-numeral_words base digits = either_words (nat_lt 0 (length digits)) (digits_after base 0 digits) None (digits_words base 0 digits) tt
+numeral_words base digits = either_words (nat_lt 0 (length digits)) (digits_after base 0 digits)
+    None (digits_words base 0 digits) tt
 
 number_words : (run : List ℕ) → IsWordOr (number_of run)
 unfolding number_of
 number_words run =
-    either_words (starts_with nat_eq run (codes "0x") || starts_with nat_eq run (codes "0X")) (numeral 16 (drop 2 run)) _ (numeral_words 16 (drop 2 run))
-    (either_words (slice_index run 0 == 48 && nat_lt 1 (length run)) None (numeral 10 run) tt (numeral_words 10 run))
+    either_words (starts_with nat_eq run (codes "0x") || starts_with nat_eq run (codes "0X"))
+    (numeral 16 (drop 2 run)) _ (numeral_words 16 (drop 2 run))
+    (either_words (slice_index run 0 == 48 && nat_lt 1 (length run)) None (numeral 10 run) tt
+    (numeral_words 10 run))
 
 abbrev AreWordTokens : List Placed → Type 0
 AreWordTokens ts = AllByRecursion IsWordToken ts
 
--- a cut that begins with a piece keeps to words
+-- a cut that begins with a piece has only words as numbers
 record KeepsWords {P : Type 0} (begun : P → ℕ → (ℕ → Cut) → Cut) (x : P) : Type 0 where
-  holds : (line : ℕ) (go : ℕ → Cut) → ((n : ℕ) → AreWordTokens (go n).tokens) → AreWordTokens (begun x line go).tokens
+  holds : (line : ℕ) (go : ℕ → Cut) → ((n : ℕ) → AreWordTokens (go n).tokens)
+      → AreWordTokens (begun x line go).tokens
 
-either_piece : {P : Type 0} {begun : P → ℕ → (ℕ → Cut) → Cut} (b : Bool) {x y : P} → KeepsWords begun x → KeepsWords begun y → KeepsWords begun (if b then x else y)
+either_piece : {P : Type 0} {begun : P → ℕ → (ℕ → Cut) → Cut} (b : Bool) {x y : P}
+    → KeepsWords begun x → KeepsWords begun y → KeepsWords begun (if b then x else y)
 either_piece true a c = a
 either_piece false a c = c
 
-comment_words : (at : ℕ) (o : Option ℕ) → KeepsWords begin (comment_piece at o)
+comment_words : (at : ℕ) (o : Option ℕ) → KeepsWords begin_piece (comment_piece at o)
 comment_words at None = record { holds = λ line go h. tt }
 comment_words at (Some width) = record { holds = λ line go h. h (width - 1) }
 
-number_piece_words : (at width : ℕ) (o : Option ℤ) → IsWordOr o → KeepsWords begin (number_piece at width o)
+number_piece_words : (at width : ℕ) (o : Option ℤ) → IsWordOr o
+    → KeepsWords begin_piece (number_piece at width o)
 number_piece_words at width None w = record { holds = λ line go h. tt }
 number_piece_words at width (Some v) w = record { holds = λ line go h. (w, h (width - 1)) }
 
-mark_words : (at : ℕ) (o : Option (ℕ × _)) → KeepsWords begin (mark_piece at o)
+mark_words : (at : ℕ) (o : Option (ℕ × _)) → KeepsWords begin_piece (mark_piece at o)
 mark_words at None = record { holds = λ line go h. tt }
-mark_words at (Some (width, mark)) = record { holds = λ line go h. (small_word 0 (omega arith), h (width - 1)) }
+mark_words at (Some (width, mark)) =
+    record { holds = λ line go h. (small_word 0 (omega arith), h (width - 1)) }
 
-spelled_words : (run : List ℕ) (o : Option _) (reserved : Bool) (line : ℕ) → IsWordToken (record { token = spelled_by run o reserved; line = line })
+spelled_words : (run : List ℕ) (o : Option _) (reserved : Bool) (line : ℕ)
+    → IsWordToken (record { token = spelled_by run o reserved; line = line })
 spelled_words run (Some word) reserved line = small_word 0 (omega arith)
 spelled_words run None true line = small_word 0 (omega arith)
 spelled_words run None false line = small_word 0 (omega arith)
 
-next_words : (spot : _) (left : List ℕ) → KeepsWords begin (next spot left)
-unfolding next
+next_words : (spot : _) (left : List ℕ) → KeepsWords begin_piece (next_piece spot left)
+unfolding next_piece
 next_words spot left =
     either_piece (is_blank (slice_index left 0)) (record { holds = λ line go h. h 0 })
-    (either_piece (starts_with nat_eq left (codes "//") || (spot.fresh && begins_include left)) (record { holds = λ line go h. h (line_len left - 1) })
-    (either_piece (starts_with nat_eq left (codes "/*")) (comment_words spot.line (comment_len left))
-    (either_piece (is_ascii_digit (slice_index left 0)) (number_piece_words spot.line (run_len left) (number_of (run_of left)) (number_words (run_of left)))
+    (either_piece (starts_with nat_eq left (codes "//") || (spot.fresh && begins_include left))
+    (record { holds = λ line go h. h (line_len left - 1) })
+    (either_piece (starts_with nat_eq left (codes "/*"))
+    (comment_words spot.line (comment_len left))
+    (either_piece (is_ascii_digit (slice_index left 0))
+    (number_piece_words spot.line (run_len left) (number_of (run_of left))
+    (number_words (run_of left)))
     (either_piece (begins_name (slice_index left 0))
-    (record { holds = λ line go h. (spelled_words (run_of left) (word_at (run_of left)) (is_never_accepted (run_of left)) line, h (run_len left - 1)) })
+    (record {
+      holds = λ line go h. (
+        spelled_words (run_of left) (word_spelled (run_of left)) (is_never_accepted (run_of left))
+            line,
+        h (run_len left - 1),
+      );
+    })
     (mark_words spot.line (mark_at left))))))
 
-cut_words : (inside : ℕ) (spot : _) (left : List ℕ) → AreWordTokens (cut_left inside spot left).tokens
+cut_words : (inside : ℕ) (spot : _) (left : List ℕ)
+    → AreWordTokens (cut_left inside spot left).tokens
 unfolding cut_left
 cut_words zero spot [] = tt
 cut_words (suc inside) spot [] = tt
 cut_words (suc inside) spot (b ∷ bs) = cut_words inside (past_byte spot b) bs
-cut_words zero spot (b ∷ bs) = (next_words spot (b ∷ bs)).holds spot.line (λ inside. cut_left inside (past_byte spot b) bs) (λ n. cut_words n (past_byte spot b) bs)
+cut_words zero spot (b ∷ bs) =
+    (next_words spot (b ∷ bs)).holds spot.line (λ inside. cut_left inside (past_byte spot b) bs)
+    (λ n. cut_words n (past_byte spot b) bs)
 
 value_word : (ts : List Placed) (i : ℕ) → AreWordTokens ts → IsWord (value_at ts i)
 value_word [] i h = small_word 0 (omega arith)
@@ -106,7 +134,8 @@ abbrev Answers : Result Tokens LexFault → Tokens → Type 0
 Answers r list = r ≡ Ok list
 
 -- the number at a place
-pub answer_words : (text : List ℕ) (list : Tokens) → answer text ≡ Ok list → (i : ℕ) → IsWord (value_at list.tokens i)
+pub answer_words : (text : List ℕ) (list : Tokens) → answer text ≡ Ok list → (i : ℕ)
+    → IsWord (value_at list.tokens i)
 answer_words text list e i = value_word list.tokens i (by_bytes (nat_lt 262144 (length text)) e)
   where
     err_ok : (f : LexFault) → Answers (Err f) list → ⊥
@@ -115,14 +144,20 @@ answer_words text list e i = value_word list.tokens i (by_bytes (nat_lt 262144 (
     same : (x : Tokens) → Answers (Ok x) list → x ≡ list
     same x e = cc
 
-    by_end : (ts : List Placed) (r : Result ℕ LexFault) → AreWordTokens ts → Answers (ended ts r) list → AreWordTokens list.tokens
-    by_end ts (Ok last) h e = subst (λ (x : Tokens). AreWordTokens x.tokens) (same (record { tokens = ts; last = last }) e) h
+    by_end : (ts : List Placed) (r : Result ℕ LexFault) → AreWordTokens ts
+        → Answers (lex_answer ts r) list → AreWordTokens list.tokens
+    by_end ts (Ok last) h e = subst (λ (x : Tokens). AreWordTokens x.tokens)
+        (same (record { tokens = ts; last = last }) e) h
     by_end ts (Err fault) h e = absurd (err_ok fault e)
 
-    by_count : (b : Bool) (c : Cut) → AreWordTokens c.tokens → Answers (if b then Err TooLong else ended c.tokens c.ending) list → AreWordTokens list.tokens
+    by_count : (b : Bool) (c : Cut) → AreWordTokens c.tokens
+        → Answers (if b then Err TooLong else lex_answer c.tokens c.ending) list
+        → AreWordTokens list.tokens
     by_count true c h e = absurd (err_ok TooLong e)
     by_count false c h e = by_end c.tokens c.ending h e
 
-    by_bytes : (b : Bool) → Answers (if b then Err TooLong else limited (cut text)) list → AreWordTokens list.tokens
+    by_bytes : (b : Bool) → Answers (if b then Err TooLong else limited (cut text)) list
+        → AreWordTokens list.tokens
     by_bytes true e = absurd (err_ok TooLong e)
-    by_bytes false e = by_count (nat_lt 16384 (length (cut text).tokens)) (cut text) (cut_words 0 text_start text) e
+    by_bytes false e = by_count (nat_lt 16384 (length (cut text).tokens)) (cut text)
+        (cut_words 0 text_start text) e

@@ -1,4 +1,5 @@
--- The words of a program's shapes are those that the typing rules count, where the program breaks none.
+-- The words of a program's shapes are those that the typing rules count, if the program breaks
+-- none.
 use Rattle.std.proofs.Common.{◌≡◌, ℕ, zero, suc, ◌+◌, ◌-◌, ◌^◌, ◌≤◌, ℤ, pos, negsuc, min, Bool, true, false, List, [], ◌∷◌, ◌++◌, length, map, refl, ap, ◌∙◌, subst, arith, rules}
 use Rattle.std.specs.Prelude.{nat_le, nat_eq, ◌||◌, not, if◌then◌else◌, slice_get, Option, None, Some, option_map, unwrap_or}
 use Rattle.std.specs.Option.{option_map_or}
@@ -19,11 +20,12 @@ use Rattle.c_types.specs.Declarations.{length_broken, field_broken, fields_broke
 use Rattle.pool_map.specs.PoolFits.{words_of_field, words_of}
 use Rattle.lower.proofs.Few.{none_left, none_right, kept, and_left, and_right, le_from}
 
--- a field has as many words as its shape, and has one
+-- a field has as many words as its shape, and at least one
 abbrev pub IsCountedField : FieldTree → Type 0
 IsCountedField f = (words_of_field (field_shape f) ≡ field_words f) × (1 ≤ field_words f)
 
-array_words : (n : ℤ) → is_length n ≡ true → (cast_unsigned w64 n ≡ length_words n) × (1 ≤ length_words n)
+array_words : (n : ℤ) → is_length n ≡ true → (cast_unsigned w64 n ≡ length_words n)
+    × (1 ≤ length_words n)
 array_words (pos n) e =
     let one : 1 ≤ n = le_from 1 n (and_left (nat_le 1 n) (nat_le n 512) e) in
     let most : n ≤ 512 = le_from n 512 (and_right (nat_le 1 n) (nat_le n 512) e) in
@@ -40,92 +42,139 @@ field_counted : (f : FieldTree) → option_map_or length_broken f.len [] ≡ [] 
 field_counted f e = by_length f.len e
   where
     by_length : (l : Option LengthTree) → option_map_or length_broken l [] ≡ []
-        → (unwrap_or (option_map (λ (l : LengthTree). cast_unsigned w64 l.value) l) 1 ≡ option_map_or (λ (l : LengthTree). length_words l.value) l 1) × (1 ≤ option_map_or (λ (l : LengthTree). length_words l.value) l 1)
+        → (unwrap_or (option_map (λ (l : LengthTree). cast_unsigned w64 l.value) l) 1
+        ≡ option_map_or (λ (l : LengthTree). length_words l.value) l 1)
+        × (1 ≤ option_map_or (λ (l : LengthTree). length_words l.value) l 1)
     by_length None e = (refl, omega arith)
-    by_length (Some l) e = array_words l.value (kept (is_length l.value) l.place (TooBig limit.Array (cast_unsigned w64 l.value)) e)
+    by_length (Some l) e = array_words l.value
+        (kept (is_length l.value) l.place (TooBig limit.Array (cast_unsigned w64 l.value)) e)
 
 -- the fields from place i on
-pub fields_counted : (t : Tables) (names : List (List ℕ)) (i : ℕ) (fs : List FieldTree) → fields_broken t names i fs ≡ [] → (words_of (map field_shape fs) ≡ words_from names i fs) × (length fs ≤ words_from names i fs)
+pub fields_counted : (t : Tables) (names : List (List ℕ)) (i : ℕ) (fs : List FieldTree)
+    → fields_broken t names i fs ≡ [] → (words_of (map field_shape fs) ≡ words_from names i fs)
+    × (length fs ≤ words_from names i fs)
 fields_counted t names i [] e = (refl, omega arith)
 fields_counted t names i (f ∷ fs) e =
-    let own : field_broken t names i f ≡ [] = none_left (field_broken t names i f) (fields_broken t names (i + 1) fs) e in
-    let later : unless (is_first (index_of f.name.text names) i) f.name.place Twice ++ option_map_or length_broken f.len [] ≡ [] = none_right (type_broken t f.ty) _ own in
-    let first : is_first (index_of f.name.text names) i ≡ true = kept (is_first (index_of f.name.text names) i) f.name.place Twice (none_left (unless (is_first (index_of f.name.text names) i) f.name.place Twice) _ later) in
-    let here : IsCountedField f = field_counted f (none_right (unless (is_first (index_of f.name.text names) i) f.name.place Twice) (option_map_or length_broken f.len []) later) in
-    let rest = fields_counted t names (i + 1) fs (none_right (field_broken t names i f) (fields_broken t names (i + 1) fs) e) in
-    let sum : words_of (map field_shape (f ∷ fs)) ≡ words_of_field (field_shape f) + words_of (map field_shape fs) = sum_by-cons words_of_field (field_shape f) (map field_shape fs) in
-    rw first (added (words_of (map field_shape (f ∷ fs))) (words_of_field (field_shape f)) (words_of (map field_shape fs)) (field_words f) (words_from names (i + 1) fs) sum here.0 rest.0, omega (arith, here.1, rest.1))
+    let own : field_broken t names i f ≡ [] =
+    none_left (field_broken t names i f) (fields_broken t names (i + 1) fs) e in
+    let later : unless (is_first (index_of f.name.text names) i) f.name.place Twice
+    ++ option_map_or length_broken f.len [] ≡ [] = none_right (type_broken t f.ty) _ own in
+    let first : is_first (index_of f.name.text names) i ≡ true =
+    kept (is_first (index_of f.name.text names) i) f.name.place Twice
+    (none_left (unless (is_first (index_of f.name.text names) i) f.name.place Twice) _ later) in
+    let here : IsCountedField f = field_counted f
+    (none_right (unless (is_first (index_of f.name.text names) i) f.name.place Twice)
+    (option_map_or length_broken f.len []) later) in
+    let rest = fields_counted t names (i + 1) fs
+    (none_right (field_broken t names i f) (fields_broken t names (i + 1) fs) e) in
+    let sum : words_of (map field_shape (f ∷ fs)) ≡ words_of_field (field_shape f)
+    + words_of (map field_shape fs) =
+    sum_by-cons words_of_field (field_shape f) (map field_shape fs) in
+    rw first (
+      added (words_of (map field_shape (f ∷ fs))) (words_of_field (field_shape f))
+          (words_of (map field_shape fs)) (field_words f) (words_from names (i + 1) fs) sum here.0
+          rest.0,
+      omega (arith, here.1, rest.1),
+    )
   where
     added : (w a b c d : ℕ) → w ≡ a + b → a ≡ c → b ≡ d → w ≡ c + d
     added w a b c d e one two = omega (arith, e, one, two)
 
--- a struct whose words are counted as small has no more
+-- a struct whose counted words are few has no more words
 counted_words : (w n m : ℕ) → nat_le (min w (2 ^ 64 - 1)) n ≡ true → n ≤ 512 → w ≤ n
-counted_words w n m e le = let small : min w (2 ^ 64 - 1) ≤ n = le_from (min w (2 ^ 64 - 1)) n e in omega (arith, small, le)
+counted_words w n m e le = let small : min w (2 ^ 64 - 1) ≤ n = le_from (min w (2 ^ 64 - 1)) n e in
+    omega (arith, small, le)
 
-pub struct_words : (t : Tables) (s : StructTree) (n : ℕ) → fields_broken t (field_names s) 0 s.fields ≡ [] → nat_le (counted.words_of s) n ≡ true → n ≤ 512 → words_of (map field_shape s.fields) ≤ n
+pub struct_words : (t : Tables) (s : StructTree) (n : ℕ)
+    → fields_broken t (field_names s) 0 s.fields ≡ [] → nat_le (counted.words_of_struct s) n ≡ true
+    → n ≤ 512 → words_of (map field_shape s.fields) ≤ n
 struct_words t s n e small le =
     let same = fields_counted t (field_names s) 0 s.fields e in
-    let few : words_from (field_names s) 0 s.fields ≤ n = counted_words (words_from (field_names s) 0 s.fields) n 0 small le in
+    let few : words_from (field_names s) 0 s.fields ≤ n =
+    counted_words (words_from (field_names s) 0 s.fields) n 0 small le in
     omega (arith, same.0, few)
 
--- a numbered struct is one of the structs, and is counted as small
-pub numbered_one : (ss : List StructTree) (k : ℕ) (s : StructTree) → slice_get (numbered ss) k ≡ Some s → (j : ℕ) × (slice_get ss j ≡ Some s) × (nat_le (counted.words_of s) 15 ≡ true)
+-- a numbered struct is one of the structs, and its counted words are few
+pub numbered_one : (ss : List StructTree) (k : ℕ) (s : StructTree)
+    → slice_get (numbered ss) k ≡ Some s → (j : ℕ) × (slice_get ss j ≡ Some s)
+    × (nat_le (counted.words_of_struct s) 15 ≡ true)
 numbered_one [] k s is = absurd (none_some is)
   where
     none_some : None ≡ Some s → ⊥
     none_some e = cc
-numbered_one (x ∷ ss) k s is = by_test (nat_le (counted.words_of x) 15) refl (λ j at. later (numbered_one ss j s at)) k is
+numbered_one (x ∷ ss) k s is =
+    by_test (nat_le (counted.words_of_struct x) 15) refl (λ j at. later (numbered_one ss j s at)) k
+    is
   where
-    later : (j : ℕ) × (slice_get ss j ≡ Some s) × (nat_le (counted.words_of s) 15 ≡ true) → (j : ℕ) × (slice_get (x ∷ ss) j ≡ Some s) × (nat_le (counted.words_of s) 15 ≡ true)
+    later : (j : ℕ) × (slice_get ss j ≡ Some s) × (nat_le (counted.words_of_struct s) 15 ≡ true)
+        → (j : ℕ) × (slice_get (x ∷ ss) j ≡ Some s) × (nat_le (counted.words_of_struct s) 15 ≡ true)
     later h = (suc h.0, h.1, h.2)
 
     some_same : Some x ≡ Some s → x ≡ s
     some_same e = cc
 
-    by_test : (b : Bool) → nat_le (counted.words_of x) 15 ≡ b
-        → ((j : ℕ) → slice_get (numbered ss) j ≡ Some s → (j : ℕ) × (slice_get (x ∷ ss) j ≡ Some s) × (nat_le (counted.words_of s) 15 ≡ true))
+    by_test : (b : Bool) → nat_le (counted.words_of_struct x) 15 ≡ b
+        → ((j : ℕ) → slice_get (numbered ss) j ≡ Some s → (j : ℕ) × (slice_get (x ∷ ss) j ≡ Some s)
+        × (nat_le (counted.words_of_struct s) 15 ≡ true))
         → (k : ℕ) → slice_get (if b then x ∷ numbered ss else numbered ss) k ≡ Some s
-        → (j : ℕ) × (slice_get (x ∷ ss) j ≡ Some s) × (nat_le (counted.words_of s) 15 ≡ true)
-    by_test true at rest zero is = let same : x ≡ s = some_same is in (0, is, subst (λ (y : StructTree). nat_le (counted.words_of y) 15 ≡ true) same at)
+        → (j : ℕ) × (slice_get (x ∷ ss) j ≡ Some s) × (nat_le (counted.words_of_struct s) 15 ≡ true)
+    by_test true at rest zero is = let same : x ≡ s = some_same is in
+        (0, is, subst (λ (y : StructTree). nat_le (counted.words_of_struct y) 15 ≡ true) same at)
     by_test true at rest (suc k) is = rest k is
     by_test false at rest k is = rest k is
 
 pub numbered_few : (ss : List StructTree) → length (numbered ss) ≤ length ss
 numbered_few [] = omega arith
-numbered_few (x ∷ ss) = by_test (nat_le (counted.words_of x) 15) (numbered_few ss)
+numbered_few (x ∷ ss) = by_test (nat_le (counted.words_of_struct x) 15) (numbered_few ss)
   where
-    by_test : (b : Bool) → length (numbered ss) ≤ length ss → length (if b then x ∷ numbered ss else numbered ss) ≤ suc (length ss)
+    by_test : (b : Bool) → length (numbered ss) ≤ length ss
+        → length (if b then x ∷ numbered ss else numbered ss) ≤ suc (length ss)
     by_test true rest = omega (arith, rest)
     by_test false rest = omega (arith, rest)
 
--- of structs that keep rules, each does
-pub struct_at : (t : Tables) (i : ℕ) (ss : List StructTree) (j : ℕ) (s : StructTree) → structs_broken t i ss ≡ [] → slice_get ss j ≡ Some s → whole_struct_broken t (i + j) s ≡ []
+-- if a list of structs breaks no rule, none of them does
+pub struct_at : (t : Tables) (i : ℕ) (ss : List StructTree) (j : ℕ) (s : StructTree)
+    → structs_broken t i ss ≡ [] → slice_get ss j ≡ Some s → whole_struct_broken t (i + j) s ≡ []
 struct_at t i [] j s e is = absurd (none_some is)
   where
     none_some : None ≡ Some s → ⊥
     none_some e = cc
-struct_at t i (x ∷ ss) zero s e is = rw (← some_same is, plus_zero i) (none_left (whole_struct_broken t i x) (structs_broken t (i + 1) ss) e)
+struct_at t i (x ∷ ss) zero s e is =
+    rw (← some_same is, plus_zero i)
+    (none_left (whole_struct_broken t i x) (structs_broken t (i + 1) ss) e)
   where
     some_same : Some x ≡ Some s → x ≡ s
     some_same e = cc
 
     plus_zero : (i : ℕ) → i + 0 ≡ i
     plus_zero i = omega arith
-struct_at t i (x ∷ ss) (suc j) s e is = rw (next i j) (struct_at t (i + 1) ss j s (none_right (whole_struct_broken t i x) (structs_broken t (i + 1) ss) e) is)
+struct_at t i (x ∷ ss) (suc j) s e is =
+    rw (next i j) (struct_at t (i + 1) ss j s
+    (none_right (whole_struct_broken t i x) (structs_broken t (i + 1) ss) e) is)
   where
     next : (i j : ℕ) → i + suc j ≡ (i + 1) + j
     next i j = omega arith
 
 -- the root's struct is counted as having at most 512 words
-pub root_counted : (t : Tables) (i : ℕ) (s : StructTree) → root_struct t ≡ Some i → whole_struct_broken t i s ≡ [] → nat_le (counted.words_of s) 512 ≡ true
+pub root_counted : (t : Tables) (i : ℕ) (s : StructTree) → root_struct t ≡ Some i
+    → whole_struct_broken t i s ≡ [] → nat_le (counted.words_of_struct s) 512 ≡ true
 root_counted t i s is e =
     let root : Bool = is_first (root_struct t) i in
-    let own : struct_broken t i s ≡ [] = none_left (struct_broken t i s) (fields_broken t (field_names s) 0 s.fields) e in
-    let third : unless (root || nat_le (counted.words_of s) 15) s.name.place (TooBig limit.Struct (counted.words_of s)) ++ unless (not root || nat_le (counted.words_of s) 512) s.name.place (TooBig limit.Root (counted.words_of s)) ≡ [] =
-    none_right (unless (not (nat_eq i 255)) s.name.place (TooBig limit.Structs 256)) _ (none_right (unless (is_first (struct_named t s.name.text) i) s.name.place Twice) _ own) in
-    let last : (not root || nat_le (counted.words_of s) 512) ≡ true = kept (not root || nat_le (counted.words_of s) 512) s.name.place (TooBig limit.Root (counted.words_of s)) (none_right (unless (root || nat_le (counted.words_of s) 15) s.name.place (TooBig limit.Struct (counted.words_of s))) _ third) in
-    where_root root (nat_le (counted.words_of s) 512) (ap (λ o. is_first o i) is ∙ same i) last
+    let own : struct_broken t i s ≡ [] =
+    none_left (struct_broken t i s) (fields_broken t (field_names s) 0 s.fields) e in
+    let third : unless (root || nat_le (counted.words_of_struct s) 15) s.name.place
+    (TooBig limit.Struct (counted.words_of_struct s))
+    ++ unless (not root || nat_le (counted.words_of_struct s) 512) s.name.place
+    (TooBig limit.Root (counted.words_of_struct s)) ≡ [] =
+    none_right (unless (not (nat_eq i 255)) s.name.place (TooBig limit.Structs 256)) _
+    (none_right (unless (is_first (struct_named t s.name.text) i) s.name.place Twice) _ own) in
+    let last : (not root || nat_le (counted.words_of_struct s) 512) ≡ true =
+    kept (not root || nat_le (counted.words_of_struct s) 512) s.name.place
+    (TooBig limit.Root (counted.words_of_struct s))
+    (none_right (unless (root || nat_le (counted.words_of_struct s) 15) s.name.place
+    (TooBig limit.Struct (counted.words_of_struct s))) _ third) in
+    where_root root (nat_le (counted.words_of_struct s) 512) (ap (λ o. is_first o i) is
+    ∙ same i) last
   where
     same : (i : ℕ) → nat_eq i i ≡ true
     same i = search (rules)
@@ -141,23 +190,30 @@ root_counted t i s is e =
 abbrev pub HaveFields : List StructTree → Type 0
 HaveFields ss = (j : ℕ) (s : StructTree) → slice_get ss j ≡ Some s → 1 ≤ length s.fields
 
-more_have : (x : StructTree) (ss : List StructTree) → 1 ≤ length x.fields → HaveFields ss → HaveFields (x ∷ ss)
-more_have x ss one rest zero s is = let same : x ≡ s = some_same is in subst (λ (y : StructTree). 1 ≤ length y.fields) same one
+more_have : (x : StructTree) (ss : List StructTree) → 1 ≤ length x.fields → HaveFields ss
+    → HaveFields (x ∷ ss)
+more_have x ss one rest zero s is = let same : x ≡ s = some_same is in
+    subst (λ (y : StructTree). 1 ≤ length y.fields) same one
   where
     some_same : Some x ≡ Some s → x ≡ s
     some_same e = cc
 more_have x ss one rest (suc j) s is = rest j s is
 
-function_none : {ts : List Placed} {tx : Bool} {i j : ℕ} {x : ItemTree} (xs : List ItemTree) → SpellsFunction ts tx i j x → HaveFields (structs_of xs) → HaveFields (structs_of (x ∷ xs))
+function_none : {ts : List Placed} {tx : Bool} {i j : ℕ} {x : ItemTree} (xs : List ItemTree)
+    → SpellsFunction ts tx i j x → HaveFields (structs_of xs) → HaveFields (structs_of (x ∷ xs))
 function_none xs (function result name opens signature brace body closes) rest = rest
 
-item_has : {ts : List Placed} {i j : ℕ} {x : ItemTree} (xs : List ItemTree) → SpellsItem ts i j x → HaveFields (structs_of xs) → HaveFields (structs_of (x ∷ xs))
-item_has {ts} {i} xs (struct_def {f = f} {fs = fs} is name opens field fields closes ends) rest = more_have (record { name = ident_at ts (i + 1); fields = f ∷ fs }) (structs_of xs) (omega arith) rest
+item_has : {ts : List Placed} {i j : ℕ} {x : ItemTree} (xs : List ItemTree) → SpellsItem ts i j x
+    → HaveFields (structs_of xs) → HaveFields (structs_of (x ∷ xs))
+item_has {ts} {i} xs (struct_def {f = f} {fs = fs} is name opens field fields closes ends) rest =
+    more_have (record { name = ident_at ts (i + 1); fields = f ∷ fs }) (structs_of xs)
+    (omega arith) rest
 item_has xs (root_decl is word name root ends) rest = rest
 item_has xs (transaction is h) rest = function_none xs h rest
 item_has xs (plain_function h) rest = function_none xs h rest
 
-pub spelled_have : {ts : List Placed} {i j : ℕ} {xs : List ItemTree} → SpellsItems ts i j xs → HaveFields (structs_of xs)
+pub spelled_have : {ts : List Placed} {i j : ℕ} {xs : List ItemTree} → SpellsItems ts i j xs
+    → HaveFields (structs_of xs)
 spelled_have items_end = none_have
   where
     none_some : (s : StructTree) → None ≡ Some s → ⊥

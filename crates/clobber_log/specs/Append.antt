@@ -1,4 +1,5 @@
--- What an append answers on a device that is on: Full where all records are valid, and else how its events were played.
+-- The answer of an append on a device that is on: Full if all records are valid, else the answer of
+-- playing its events.
 use Rattle.std.specs.Prelude.{List}
 use Rattle.cache_model.specs.Event.{CacheEvent}
 use Rattle.pmem.specs.Device.{Device}

@@ -3,3 +3,4 @@ pub mod Reset
 pub mod Logs
 pub mod Append
 pub mod Restore
+pub mod inside

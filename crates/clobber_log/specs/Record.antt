@@ -1,6 +1,6 @@
--- The events that append record i: its heap word, the word's old value and its stamp are stored, and then its line is
--- flushed and fenced. The three words lie in one line, and the stamp is stored last: so an image has the whole record,
--- or the record isn't valid in it.
+-- The events that append record i: its heap word, the word's old value and its stamp are stored,
+-- and then its line is flushed and fenced. The three words share one cache line, and the stamp is
+-- stored last: so an image holds the whole record, or the record isn't valid in it.
 use Rattle.std.specs.Prelude.{ℕ, ◌+◌, ℤ, pos, List, [], ◌∷◌}
 use Rattle.cache_model.specs.Event.{CacheEvent, Store, Flush, Fence}
 use Rattle.pool_layout.specs.declared.limits.Sizes.{Sizes}

@@ -1,5 +1,5 @@
--- The events that begin the next attempt: the attempt's word is stored one more, and its line is flushed and fenced. The
--- records of the attempt before are valid no longer.
+-- The events that begin the next attempt: the attempt's word is increased by one, and its line is
+-- flushed and fenced. This makes the records of the attempt before invalid.
 use Rattle.std.specs.Prelude.{ℕ, ◌+◌, pos, List, [], ◌∷◌}
 use Rattle.cache_model.specs.Event.{CacheEvent, Store, Flush, Fence}
 use Rattle.pool_layout.specs.declared.limits.Sizes.{Sizes}

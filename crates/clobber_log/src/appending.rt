@@ -1,4 +1,4 @@
-//! A record at the end of the log.
+//! Appending a record to the log.
 
 ghost use Rattle.std.specs.Prelude.{◌≡◌, ◌≢◌, ◌≤◌, ◌<◌, ◌+◌, ◌^◌, ◌↔◌, ℕ, true, false};
 ghost use Rattle.cache_model.specs.Cache.{view};
@@ -18,7 +18,7 @@ use pool_layout::Sizes;
 #[derive(Clone, Copy, Debug, PartialEq, Eq, Drop)]
 pub enum AppendAnswer {
     Done,
-    /// The log has no place for another record; there was no event.
+    /// The log has no room for another record; there was no event.
     Full,
     Off,
     Failed,
@@ -30,9 +30,16 @@ pub enum AppendAnswer {
 pub fn append<P: PmemWork>(sizes: &Sizes, dev: &mut P, heap_word: u64) -> AppendAnswer
     requires lines { (P.device dev.old).lines ≡ pool_lines sizes.now }
     requires inside { heap_word < heap_words sizes.now }
-    ensures full { (P.device dev.old).on ≡ true → count_in sizes.now (view (P.device dev.old).cache) ≡ sizes.now.records → (result ≡ AppendAnswer.Full) × (P.device dev.new ≡ P.device dev.old) }
-    ensures played { (P.device dev.old).on ≡ true → count_in sizes.now (view (P.device dev.old).cache) ≢ sizes.now.records → Appended result (P.device dev.old) (record_events sizes.now (count_in sizes.now (view (P.device dev.old).cache)) heap_word (view (P.device dev.old).cache (at (pool_of sizes.now) (Heap heap_word))) (attempt_in sizes.now (view (P.device dev.old).cache) + 1)) (P.device dev.new) }
-    ensures off { (P.device dev.old).on ≡ false → (result ≡ AppendAnswer.Off) × (P.device dev.new ≡ P.device dev.old) }
+    ensures full { (P.device dev.old).on ≡ true → count_in sizes.now (view (P.device dev.old).cache)
+        ≡ sizes.now.records → (result ≡ AppendAnswer.Full) × (P.device dev.new ≡ P.device dev.old) }
+    ensures played { (P.device dev.old).on ≡ true
+        → count_in sizes.now (view (P.device dev.old).cache) ≢ sizes.now.records
+        → Appended result (P.device dev.old)
+        (record_events sizes.now (count_in sizes.now (view (P.device dev.old).cache)) heap_word
+        (view (P.device dev.old).cache (at (pool_of sizes.now) (Heap heap_word)))
+        (attempt_in sizes.now (view (P.device dev.old).cache) + 1)) (P.device dev.new) }
+    ensures off { (P.device dev.old).on ≡ false → (result ≡ AppendAnswer.Off)
+        × (P.device dev.new ≡ P.device dev.old) }
     ensures lines { (P.device dev.new).lines ≡ (P.device dev.old).lines }
 {
     let Some(attempt) = attempt(sizes, dev) else {

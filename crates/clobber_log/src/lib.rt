@@ -1,6 +1,6 @@
-//! The log of old values. It stands on `pmem` and `pool_layout`. Its one contract for the crates
-//! above: appending a record, restoring the records and resetting the log play exactly the events
-//! that `specs/` gives them, or the first of these up to the one that was refused.
+//! The undo log, which keeps old values. It rests on `pmem` and `pool_layout`. Its one contract for
+//! the crates above: appending a record, restoring the records and resetting the log play exactly
+//! the events that `specs/` gives them, or the first of these up to the one that was refused.
 #![tactic(auto)]
 
 mod appending;

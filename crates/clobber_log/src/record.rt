@@ -1,4 +1,4 @@
-//! One record of the log.
+//! One undo record of the log.
 
 ghost use Rattle.std.specs.Prelude.{◌≡◌, ◌-◌, ◌+◌, ◌*◌, ◌^◌, ◌<◌, ◌≤◌, true, OnOk, IfErr};
 ghost use Rattle.cache_model.specs.Cache.{view};
@@ -26,8 +26,15 @@ pub fn append_record<P: PmemWork>(
     requires inside { heap_word < heap_words sizes.now }
     requires lines { (P.device dev.old).lines ≡ pool_lines sizes.now }
     requires on { (P.device dev.old).on ≡ true }
-    ensures done { OnOk result (PlaysAll (P.device dev.old) (record_events sizes.now i heap_word (view (P.device dev.old).cache (at (pool_of sizes.now) (Heap heap_word))) (attempt + 1)) (P.device dev.new)) }
-    ensures refused { IfErr result (λ why. PlaysPart why (P.device dev.old) (record_events sizes.now i heap_word (view (P.device dev.old).cache (at (pool_of sizes.now) (Heap heap_word))) (attempt + 1)) (P.device dev.new)) }
+    ensures done { OnOk result (PlaysAll (P.device dev.old)
+        (record_events sizes.now i heap_word
+        (view (P.device dev.old).cache (at (pool_of sizes.now) (Heap heap_word))) (attempt + 1))
+        (P.device dev.new)) }
+    ensures refused { IfErr result
+        (λ why. PlaysPart why (P.device dev.old)
+        (record_events sizes.now i heap_word
+        (view (P.device dev.old).cache (at (pool_of sizes.now) (Heap heap_word))) (attempt + 1))
+        (P.device dev.new)) }
     ensures lines { (P.device dev.new).lines ≡ (P.device dev.old).lines }
 {
     let Some(old) = dev.load(heap_start(sizes) + heap_word) else {

@@ -10,17 +10,20 @@ ghost use Rattle.clobber_log.specs.Logs.{attempt_in};
 use crate::valid::attempt;
 use pmem::events::{fence, flush, store};
 use pmem::{LogAnswer, PmemWork, Refusal};
-use pool_layout::Sizes;
+use pool_layout::{ATTEMPT, Sizes};
 
-/// The three events behind attempt number `attempt`.
+/// Begins the attempt after `attempt`: three events.
 fn begin_next<P: PmemWork>(sizes: &Sizes, dev: &mut P, attempt: u64) -> Result<(), Refusal>
     requires attempt { attempt ≤ 2 ^ 63 - 2 }
     requires lines { (P.device dev.old).lines ≡ pool_lines sizes.now }
-    ensures done { OnOk result (PlaysAll (P.device dev.old) (reset_events sizes.now attempt) (P.device dev.new)) }
-    ensures refused { IfErr result (λ why. PlaysPart why (P.device dev.old) (reset_events sizes.now attempt) (P.device dev.new)) }
+    ensures done { OnOk result (PlaysAll (P.device dev.old) (reset_events sizes.now attempt)
+        (P.device dev.new)) }
+    ensures refused { IfErr result
+        (λ why. PlaysPart why (P.device dev.old) (reset_events sizes.now attempt)
+        (P.device dev.new)) }
     ensures lines { (P.device dev.new).lines ≡ (P.device dev.old).lines }
 {
-    store(dev, 18, (attempt + 1) as i64)?;
+    store(dev, ATTEMPT, (attempt + 1) as i64)?;
     flush(dev, 2)?;
     fence(dev)
 }
@@ -29,7 +32,10 @@ fn begin_next<P: PmemWork>(sizes: &Sizes, dev: &mut P, attempt: u64) -> Result<(
 /// answer is `Off`, and nothing has changed.
 pub fn reset<P: PmemWork>(sizes: &Sizes, dev: &mut P) -> LogAnswer
     requires lines { (P.device dev.old).lines ≡ pool_lines sizes.now }
-    ensures played { (P.device dev.old).on ≡ true → Played result (P.device dev.old) (reset_events sizes.now (attempt_in sizes.now (view (P.device dev.old).cache))) (P.device dev.new) }
+    ensures played { (P.device dev.old).on ≡ true
+        → Played result (P.device dev.old)
+        (reset_events sizes.now (attempt_in sizes.now (view (P.device dev.old).cache)))
+        (P.device dev.new) }
     ensures off { (P.device dev.old).on ≡ false → result ≡ LogAnswer.Off }
     ensures same { (P.device dev.old).on ≡ false → P.device dev.new ≡ P.device dev.old }
     ensures lines { (P.device dev.new).lines ≡ (P.device dev.old).lines }

@@ -1,4 +1,4 @@
-//! The old values of the log, put back into the heap.
+//! Restoring the old values of the log into the heap.
 
 ghost use Rattle.std.specs.Prelude.{◌≡◌, ◌+◌, ◌*◌, ◌<◌, ◌≤◌, ℕ, true, false, Some, IfSome, OnOk, IfErr};
 ghost use Rattle.std.specs.Option.{ForSome};
@@ -9,7 +9,7 @@ ghost use Rattle.pool_layout.specs.Places.{at, pool_of};
 ghost use Rattle.pool_layout.specs.declared.places.Place.TheVariants.{Heap};
 ghost use Rattle.pool_layout.specs.Restored.{undo, undone, restored};
 ghost use Rattle.clobber_log.specs.Logs.{attempt_in, count_in};
-ghost use Rattle.clobber_log.specs.Restore.{heap_word, back_at, back_events, word_in_record, old_in_record, fence_behind, first_events, restore_events};
+ghost use Rattle.clobber_log.specs.Restore.{as_heap_word, back_at, back_events, word_in_record, old_in_record, fence_after, first_events, restore_events};
 
 use crate::valid::{attempt, count};
 use nvm_base::Steps;
@@ -18,10 +18,10 @@ use pmem::{LogAnswer, PmemWork, Refusal};
 use pool_layout::{Sizes, heap_start, heap_words};
 use std::sync::ledger::Ledger;
 
-/// A word as a heap word, where it is one.
+/// The heap word that a word names, if it names one.
 #[tactic(auto, using(std::proofs::lemmas::Int::wraps))]
 fn heap_word(sizes: &Sizes, word: i64) -> Option<u64>
-    ensures value { result ≡ heap_word sizes.now word }
+    ensures value { result ≡ as_heap_word sizes.now word }
     ensures within { ForSome result (λ w. w < heap_words sizes.now) }
 {
     match u64::try_from(word) {
@@ -34,8 +34,11 @@ fn heap_word(sizes: &Sizes, word: i64) -> Option<u64>
 fn put_back<P: PmemWork>(sizes: &Sizes, dev: &mut P, w: u64, old: i64) -> Result<(), Refusal>
     requires inside { w < heap_words sizes.now }
     requires lines { (P.device dev.old).lines ≡ pool_lines sizes.now }
-    ensures done { OnOk result (PlaysAll (P.device dev.old) (back_at sizes.now (Some w) old) (P.device dev.new)) }
-    ensures refused { IfErr result (λ why. PlaysPart why (P.device dev.old) (back_at sizes.now (Some w) old) (P.device dev.new)) }
+    ensures done { OnOk result (PlaysAll (P.device dev.old) (back_at sizes.now (Some w) old)
+        (P.device dev.new)) }
+    ensures refused { IfErr result
+        (λ why. PlaysPart why (P.device dev.old) (back_at sizes.now (Some w) old)
+        (P.device dev.new)) }
     ensures lines { (P.device dev.new).lines ≡ (P.device dev.old).lines }
 {
     let word = heap_start(sizes) + w;
@@ -43,13 +46,20 @@ fn put_back<P: PmemWork>(sizes: &Sizes, dev: &mut P, w: u64, old: i64) -> Result
     flush(dev, word / 8)
 }
 
-/// Restores record `i`: two events, or none where its word lies outside the heap.
+/// Restores record `i`: two events, or none if its word lies outside the heap.
 fn restore_record<P: PmemWork>(sizes: &Sizes, dev: &mut P, i: u64) -> Result<(), Refusal>
     requires room { i < sizes.now.records }
     requires lines { (P.device dev.old).lines ≡ pool_lines sizes.now }
     requires on { (P.device dev.old).on ≡ true }
-    ensures done { OnOk result (PlaysAll (P.device dev.old) (back_at sizes.now (heap_word sizes.now (word_in_record sizes.now (view (P.device dev.old).cache) i)) (old_in_record sizes.now (view (P.device dev.old).cache) i)) (P.device dev.new)) }
-    ensures refused { IfErr result (λ why. PlaysPart why (P.device dev.old) (back_at sizes.now (heap_word sizes.now (word_in_record sizes.now (view (P.device dev.old).cache) i)) (old_in_record sizes.now (view (P.device dev.old).cache) i)) (P.device dev.new)) }
+    ensures done { OnOk result (PlaysAll (P.device dev.old)
+        (back_at sizes.now (as_heap_word sizes.now
+        (word_in_record sizes.now (view (P.device dev.old).cache) i))
+        (old_in_record sizes.now (view (P.device dev.old).cache) i)) (P.device dev.new)) }
+    ensures refused { IfErr result
+        (λ why. PlaysPart why (P.device dev.old)
+        (back_at sizes.now (as_heap_word sizes.now
+        (word_in_record sizes.now (view (P.device dev.old).cache) i))
+        (old_in_record sizes.now (view (P.device dev.old).cache) i)) (P.device dev.new)) }
     ensures lines { (P.device dev.new).lines ≡ (P.device dev.old).lines }
 {
     let first = 8 * (6 + i);
@@ -65,7 +75,7 @@ fn restore_record<P: PmemWork>(sizes: &Sizes, dev: &mut P, i: u64) -> Result<(),
     }
 }
 
-/// Restores the first `count` records, the newest first. Each takes a step.
+/// Restores the first `count` records, the newest first. Each takes one step.
 fn restore_records<P: PmemWork, L: Ledger>(
     sizes: &Sizes,
     dev: &mut P,
@@ -75,9 +85,18 @@ fn restore_records<P: PmemWork, L: Ledger>(
     requires room { count ≤ sizes.now.records }
     requires lines { (P.device dev.old).lines ≡ pool_lines sizes.now }
     requires on { (P.device dev.old).on ≡ true }
-    ensures done { OnOk result (PlaysAll (P.device dev.old) (back_events sizes.now (word_in_record sizes.now (view (P.device dev.old).cache)) (old_in_record sizes.now (view (P.device dev.old).cache)) count) (P.device dev.new)) }
-    ensures refused { IfErr result (λ why. PlaysPart why (P.device dev.old) (back_events sizes.now (word_in_record sizes.now (view (P.device dev.old).cache)) (old_in_record sizes.now (view (P.device dev.old).cache)) count) (P.device dev.new)) }
-    ensures heap { OnOk result ((w : ℕ) → w < heap_words sizes.now → view (P.device dev.new).cache (at (pool_of sizes.now) (Heap w)) ≡ undone (word_in_record sizes.now (view (P.device dev.old).cache)) (old_in_record sizes.now (view (P.device dev.old).cache)) count (λ v. view (P.device dev.old).cache (at (pool_of sizes.now) (Heap v))) w) }
+    ensures done { OnOk result (PlaysAll (P.device dev.old)
+        (back_events sizes.now (word_in_record sizes.now (view (P.device dev.old).cache))
+        (old_in_record sizes.now (view (P.device dev.old).cache)) count) (P.device dev.new)) }
+    ensures refused { IfErr result
+        (λ why. PlaysPart why (P.device dev.old)
+        (back_events sizes.now (word_in_record sizes.now (view (P.device dev.old).cache))
+        (old_in_record sizes.now (view (P.device dev.old).cache)) count) (P.device dev.new)) }
+    ensures heap { OnOk result ((w : ℕ) → w < heap_words sizes.now
+        → view (P.device dev.new).cache (at (pool_of sizes.now) (Heap w))
+        ≡ undone (word_in_record sizes.now (view (P.device dev.old).cache))
+        (old_in_record sizes.now (view (P.device dev.old).cache)) count
+        (λ v. view (P.device dev.old).cache (at (pool_of sizes.now) (Heap v))) w) }
     ensures cost { OnOk result (steps.new ≡ steps.old + count) }
     ensures bound { steps.new ≤ steps.old + count }
     ensures lines { (P.device dev.new).lines ≡ (P.device dev.old).lines }
@@ -93,12 +112,15 @@ fn restore_records<P: PmemWork, L: Ledger>(
     Ok(())
 }
 
-/// The fence behind restored records, where there was one.
+/// Fences, if any record was restored.
 #[tactic(auto, using(cache_model::proofs::Views::view_fence))]
-fn fence_behind<P: PmemWork>(dev: &mut P, count: u64) -> Result<(), Refusal>
-    ensures done { OnOk result (PlaysAll (P.device dev.old) (fence_behind count) (P.device dev.new)) }
-    ensures refused { IfErr result (λ why. PlaysPart why (P.device dev.old) (fence_behind count) (P.device dev.new)) }
-    ensures kept { OnOk result ((p : ℕ) → view (P.device dev.new).cache p ≡ view (P.device dev.old).cache p) }
+fn fence_after<P: PmemWork>(dev: &mut P, count: u64) -> Result<(), Refusal>
+    ensures done { OnOk result (PlaysAll (P.device dev.old) (fence_after count)
+        (P.device dev.new)) }
+    ensures refused { IfErr result (λ why. PlaysPart why (P.device dev.old) (fence_after count)
+        (P.device dev.new)) }
+    ensures kept { OnOk result ((p : ℕ)
+        → view (P.device dev.new).cache p ≡ view (P.device dev.old).cache p) }
     ensures lines { (P.device dev.new).lines ≡ (P.device dev.old).lines }
 {
     if count == 0 {
@@ -118,34 +140,47 @@ fn restore_first<P: PmemWork, L: Ledger>(
     requires room { count ≤ sizes.now.records }
     requires lines { (P.device dev.old).lines ≡ pool_lines sizes.now }
     requires on { (P.device dev.old).on ≡ true }
-    ensures done { OnOk result (PlaysAll (P.device dev.old) (first_events sizes.now (view (P.device dev.old).cache) count) (P.device dev.new)) }
-    ensures refused { IfErr result (λ why. PlaysPart why (P.device dev.old) (first_events sizes.now (view (P.device dev.old).cache) count) (P.device dev.new)) }
-    ensures heap { OnOk result ((w : ℕ) → w < heap_words sizes.now → view (P.device dev.new).cache (at (pool_of sizes.now) (Heap w)) ≡ undone (word_in_record sizes.now (view (P.device dev.old).cache)) (old_in_record sizes.now (view (P.device dev.old).cache)) count (λ v. view (P.device dev.old).cache (at (pool_of sizes.now) (Heap v))) w) }
+    ensures done { OnOk result (PlaysAll (P.device dev.old)
+        (first_events sizes.now (view (P.device dev.old).cache) count) (P.device dev.new)) }
+    ensures refused { IfErr result
+        (λ why. PlaysPart why (P.device dev.old)
+        (first_events sizes.now (view (P.device dev.old).cache) count) (P.device dev.new)) }
+    ensures heap { OnOk result ((w : ℕ) → w < heap_words sizes.now
+        → view (P.device dev.new).cache (at (pool_of sizes.now) (Heap w))
+        ≡ undone (word_in_record sizes.now (view (P.device dev.old).cache))
+        (old_in_record sizes.now (view (P.device dev.old).cache)) count
+        (λ v. view (P.device dev.old).cache (at (pool_of sizes.now) (Heap v))) w) }
     ensures cost { OnOk result (steps.new ≡ steps.old + count) }
     ensures bound { steps.new ≤ steps.old + count }
     ensures lines { (P.device dev.new).lines ≡ (P.device dev.old).lines }
 {
     match restore_records(sizes, dev, count, steps) {
         Err(why) => Err(why),
-        Ok(()) => fence_behind(dev, count),
+        Ok(()) => fence_after(dev, count),
     }
 }
 
-/// Puts the old value of each valid record back, from the newest to the oldest: two events for each,
-/// and one fence where there is a record. Each record takes one step. A record whose word lies
-/// outside the heap, which no pool holds, is passed over. On a device that is off the answer is
-/// `Off`, and nothing has changed.
+/// Restores the old value of each valid record, from the newest to the oldest: two events for each,
+/// and one fence if there is a record. Each record takes one step. A record whose word lies outside
+/// the heap, which no pool holds, is skipped. On a device that is off the answer is `Off`, and
+/// nothing has changed.
 pub fn restore<P: PmemWork, L: Ledger>(
     sizes: &Sizes,
     dev: &mut P,
     steps: &mut Steps<L>,
 ) -> LogAnswer
     requires lines { (P.device dev.old).lines ≡ pool_lines sizes.now }
-    ensures played { (P.device dev.old).on ≡ true → Played result (P.device dev.old) (restore_events sizes.now (view (P.device dev.old).cache)) (P.device dev.new) }
-    ensures heap { result ≡ LogAnswer.Done → (w : ℕ) → w < heap_words sizes.now → view (P.device dev.new).cache (at (pool_of sizes.now) (Heap w)) ≡ restored (pool_of sizes.now) (attempt_in sizes.now (view (P.device dev.old).cache)) (view (P.device dev.old).cache) w }
+    ensures played { (P.device dev.old).on ≡ true
+        → Played result (P.device dev.old)
+        (restore_events sizes.now (view (P.device dev.old).cache)) (P.device dev.new) }
+    ensures heap { result ≡ LogAnswer.Done → (w : ℕ) → w < heap_words sizes.now
+        → view (P.device dev.new).cache (at (pool_of sizes.now) (Heap w))
+        ≡ restored (pool_of sizes.now) (attempt_in sizes.now (view (P.device dev.old).cache))
+        (view (P.device dev.old).cache) w }
     ensures off { (P.device dev.old).on ≡ false → result ≡ LogAnswer.Off }
     ensures same { (P.device dev.old).on ≡ false → P.device dev.new ≡ P.device dev.old }
-    ensures cost { result ≡ LogAnswer.Done → steps.new ≡ steps.old + count_in sizes.now (view (P.device dev.old).cache) }
+    ensures cost { result ≡ LogAnswer.Done
+        → steps.new ≡ steps.old + count_in sizes.now (view (P.device dev.old).cache) }
     ensures bound { steps.new ≤ steps.old + count_in sizes.now (view (P.device dev.old).cache) }
     ensures lines { (P.device dev.new).lines ≡ (P.device dev.old).lines }
 {

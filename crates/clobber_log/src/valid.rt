@@ -1,4 +1,4 @@
-//! How many records of the log are valid.
+//! The number of valid records of the log.
 
 ghost use Rattle.std.specs.Prelude.{◌≡◌, ◌-◌, ◌*◌, ◌+◌, ◌^◌, ◌<◌, ◌≤◌, true, false, IfSome, IsSome, IsNone};
 ghost use Rattle.cache_model.specs.Cache.{view};
@@ -9,27 +9,29 @@ ghost use Rattle.clobber_log.specs.Logs.{attempt_of, attempt_in};
 ghost use Rattle.pool_layout.specs.Log.{count};
 
 use pmem::PmemWork;
-use pool_layout::Sizes;
+use pool_layout::{ATTEMPT, Sizes};
 
-/// The greatest attempt whose records have a stamp, which is one more.
+/// The greatest attempt whose stamp, which is one more, fits a word.
 const MOST: u64 = 9223372036854775806;
 
-/// The stamp of record `i`, or none while the device is off.
+/// The stamp of record `i`, or `None` while the device is off.
 fn stamp<P: PmemWork>(sizes: &Sizes, dev: &P, i: u64) -> Option<i64>
     requires room { i < sizes.now.records }
     requires lines { (P.device dev.now).lines ≡ pool_lines sizes.now }
-    ensures value { IfSome result (λ x. x ≡ view (P.device dev.now).cache (at (pool_of sizes.now) (RecordStamp i))) }
+    ensures value { IfSome result (λ x.
+        x ≡ view (P.device dev.now).cache (at (pool_of sizes.now) (RecordStamp i))) }
     ensures off { IsNone result → (P.device dev.now).on ≡ false }
 {
     dev.load(8 * (6 + i) + 2)
 }
 
-/// How many records are valid, or none while the device is off. It reads each stamp once.
+/// The number of valid records, or `None` while the device is off. It reads each stamp once.
 #[tactic(auto, unfolding(pool_layout::specs::Log::count))]
 pub fn count<P: PmemWork>(sizes: &Sizes, dev: &P, attempt: u64) -> Option<u64>
     requires lines { (P.device dev.now).lines ≡ pool_lines sizes.now }
     requires attempt { attempt ≤ 2 ^ 63 - 2 }
-    ensures value { IfSome result (λ n. n ≡ count (pool_of sizes.now) attempt (view (P.device dev.now).cache)) }
+    ensures value { IfSome result (λ n.
+        n ≡ count (pool_of sizes.now) attempt (view (P.device dev.now).cache)) }
     ensures few { IfSome result (λ n. n ≤ sizes.now.records) }
     ensures off { IsNone result → (P.device dev.now).on ≡ false }
 {
@@ -43,8 +45,8 @@ pub fn count<P: PmemWork>(sizes: &Sizes, dev: &P, attempt: u64) -> Option<u64>
     Some(found)
 }
 
-/// A word as the number of an attempt. A word that is none, which a pool never holds, stands for
-/// the greatest.
+/// A word as the number of an attempt. A word that is no attempt, which a pool never holds, counts
+/// as the greatest.
 fn attempt_of(word: i64) -> u64
     ensures value { result ≡ attempt_of word }
     ensures fits { result ≤ 2 ^ 63 - 2 }
@@ -55,7 +57,7 @@ fn attempt_of(word: i64) -> u64
     }
 }
 
-/// The attempt of a pool, or none while the device is off.
+/// The attempt of a pool, or `None` while the device is off.
 pub fn attempt<P: PmemWork>(sizes: &Sizes, dev: &P) -> Option<u64>
     requires lines { (P.device dev.now).lines ≡ pool_lines sizes.now }
     ensures value { IfSome result (λ a. a ≡ attempt_in sizes.now (view (P.device dev.now).cache)) }
@@ -63,7 +65,7 @@ pub fn attempt<P: PmemWork>(sizes: &Sizes, dev: &P) -> Option<u64>
     ensures on { IsSome result → (P.device dev.now).on ≡ true }
     ensures off { IsNone result → (P.device dev.now).on ≡ false }
 {
-    match dev.load(18) {
+    match dev.load(ATTEMPT) {
         Some(word) => Some(attempt_of(word)),
         None => None,
     }

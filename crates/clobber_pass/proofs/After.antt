@@ -14,9 +14,10 @@ use Rattle.ir.specs.WellFormed.{IsInstruction}
 use Rattle.ir.specs.Table.{origins}
 use Rattle.clobber_pass.specs.declared.topic.Topic.{Topic}
 use Rattle.clobber_pass.specs.declared.topic.Topic.TheVariants.{Frees, Root as Roots, Field as Fields}
-use Rattle.clobber_pass.specs.Class.{class_at, is_about, slot}
-use Rattle.clobber_pass.specs.Row.{word, mask, without, has_bit, tells, with_read, after_row}
-use Rattle.clobber_pass.specs.Told.{tells_any, width}
+use Rattle.clobber_pass.specs.inside.Class.{class_at, is_about, slot}
+use Rattle.clobber_pass.specs.Row.{word, has_bit, tells}
+use Rattle.clobber_pass.specs.inside.Row.{mask, without, with_read, after_row}
+use Rattle.clobber_pass.specs.inside.Told.{tells_any, row_width}
 use Rattle.clobber_pass.proofs.Bits.{has_bit_or, has_bit_and, has_bit_without, has_bit_mask}
 use Rattle.clobber_pass.proofs.Steps.{at_same, at_other, given_start, given_sought, read_length, register_after, start_after, sought_after}
 
@@ -39,7 +40,7 @@ module _ (row : List ℕ) (x : ℕ) (long : 2 ≤ length row) where
   zero_inside : 0 < length row
   zero_inside = omega arith
 
-  -- whether a walk comes, and whether past a free
+  -- whether a walk reaches a place, and whether one does after a free
   here_after : (i : Instruction) → tells (after_row Frees i row) x 0 ≡ tells row x 0
   here_after (Const to v) = given_start row x to _
   here_after (Bin op to left right) = given_start row x to _
@@ -49,7 +50,8 @@ module _ (row : List ℕ) (x : ℕ) (long : 2 ≤ length row) where
   here_after (Free from k line) = ap (has_bit x) (at_other row 1 0 _ (λ (e : 0 ≡ 1). omega arith))
   here_after _ = refl
 
-  freed_after : (i : Instruction) → tells (after_row Frees i row) x 1 ≡ tells_any row x (origins i Freed)
+  freed_after : (i : Instruction) → tells (after_row Frees i row) x 1 ≡ tells_any row x
+      (origins i Freed)
   freed_after (Const to v) = given_sought row x to _
   freed_after (Bin op to left right) = given_sought row x to _
   freed_after (Copy to from) = given_sought row x to _
@@ -59,22 +61,26 @@ module _ (row : List ℕ) (x : ℕ) (long : 2 ≤ length row) where
   freed_after _ = refl
 
   module _ (f : ℕ) (few : x < 64) where
-    root_written : (y : ℕ) → tells (slice_set row 0 (without (word row 0) (mask f y))) x 0 ≡ tells_any row x (if f + x == y then Nowhere else One (RootUnwritten (f + x)))
+    root_written : (y : ℕ) → tells (slice_set row 0 (without (word row 0) (mask f y))) x 0
+        ≡ tells_any row x (if f + x == y then Nowhere else One (RootUnwritten (f + x)))
     root_written y =
         ap (has_bit x) (at_same row 0 _ zero_inside)
         ∙ has_bit_without x (word row 0) (mask f y)
         ∙ ap (λ m. has_bit x (word row 0) && not m) (has_bit_mask x f y few)
         ∙ of_field (f + x == y)
       where
-        of_field : (m : Bool) → (has_bit x (word row 0) && not m) ≡ tells_any row x (if m then Nowhere else One (RootUnwritten (f + x)))
+        of_field : (m : Bool) → (has_bit x (word row 0) && not m) ≡ tells_any row x
+            (if m then Nowhere else One (RootUnwritten (f + x)))
         of_field true = and_false (has_bit x (word row 0))
         of_field false = and_true (has_bit x (word row 0))
 
-    root_start : (i : Instruction) → tells (after_row (Roots f) i row) x 0 ≡ tells_any row x (origins i (RootUnwritten (f + x)))
+    root_start : (i : Instruction) → tells (after_row (Roots f) i row) x 0 ≡ tells_any row x
+        (origins i (RootUnwritten (f + x)))
     root_start (Const to v) = given_start row x to _
     root_start (Bin op to left right) = given_start row x to _
     root_start (Copy to from) = given_start row x to _
-    root_start (Load to (Root y i)) = given_start (with_read (Roots f) (Root y i) row) x to _ ∙ ap (has_bit x) (at_other row 1 0 _ (λ (e : 0 ≡ 1). omega arith))
+    root_start (Load to (Root y i)) = given_start (with_read (Roots f) (Root y i) row) x to _
+        ∙ ap (has_bit x) (at_other row 1 0 _ (λ (e : 0 ≡ 1). omega arith))
     root_start (Load to (Field b t y i)) = given_start row x to _
     root_start (New to k log_fill line) = given_start row x to _
     root_start (Store (Root y None) from line) = root_written y
@@ -82,31 +88,45 @@ module _ (row : List ℕ) (x : ℕ) (long : 2 ≤ length row) where
     root_start (Store (Field b t y i) from line) = refl
     root_start _ = refl
 
-    root_loaded : (y : ℕ) → tells (slice_set row 1 (bit_or (word row 1) (bit_and (word row 0) (mask f y)))) x 1 ≡ tells_any row x (if f + x == y then Two (ReadRoot (f + x)) (RootUnwritten (f + x)) else One (ReadRoot (f + x)))
+    root_loaded : (y : ℕ) → tells (slice_set row 1
+        (bit_or (word row 1) (bit_and (word row 0) (mask f y)))) x 1 ≡ tells_any row x
+        (if f + x == y
+        then Two (ReadRoot (f + x)) (RootUnwritten (f + x)) else One (ReadRoot (f + x)))
     root_loaded y =
         ap (has_bit x) (at_same row 1 _ one_inside)
         ∙ has_bit_or x (word row 1) (bit_and (word row 0) (mask f y))
-        ∙ ap (λ c. has_bit x (word row 1) || c) (has_bit_and x (word row 0) (mask f y) ∙ ap (λ m. has_bit x (word row 0) && m) (has_bit_mask x f y few))
+        ∙ ap (λ c. has_bit x (word row 1) || c) (has_bit_and x (word row 0) (mask f y)
+        ∙ ap (λ m. has_bit x (word row 0) && m) (has_bit_mask x f y few))
         ∙ of_field (f + x == y)
       where
-        of_field : (m : Bool) → (has_bit x (word row 1) || (has_bit x (word row 0) && m)) ≡ tells_any row x (if m then Two (ReadRoot (f + x)) (RootUnwritten (f + x)) else One (ReadRoot (f + x)))
+        of_field : (m : Bool) → (has_bit x (word row 1) || (has_bit x (word row 0) && m))
+            ≡ tells_any row x (if m then Two (ReadRoot (f + x)) (RootUnwritten (f + x))
+            else One (ReadRoot (f + x)))
         of_field true = ap (λ c. has_bit x (word row 1) || c) (and_true (has_bit x (word row 0)))
-        of_field false = ap (λ c. has_bit x (word row 1) || c) (and_false (has_bit x (word row 0))) ∙ or_false (has_bit x (word row 1))
+        of_field false = ap (λ c. has_bit x (word row 1) || c) (and_false (has_bit x (word row 0)))
+            ∙ or_false (has_bit x (word row 1))
 
-    root_sought : (i : Instruction) → tells (after_row (Roots f) i row) x 1 ≡ tells_any row x (origins i (ReadRoot (f + x)))
+    root_sought : (i : Instruction) → tells (after_row (Roots f) i row) x 1 ≡ tells_any row x
+        (origins i (ReadRoot (f + x)))
     root_sought (Const to v) = given_sought row x to _
     root_sought (Bin op to left right) = given_sought row x to _
     root_sought (Copy to from) = given_sought row x to _
-    root_sought (Load to (Root y i)) = given_sought (with_read (Roots f) (Root y i) row) x to _ ∙ root_loaded y
+    root_sought (Load to (Root y i)) = given_sought (with_read (Roots f) (Root y i) row) x to _
+        ∙ root_loaded y
     root_sought (Load to (Field b t y i)) = given_sought row x to _
     root_sought (New to k log_fill line) = given_sought row x to _
-    root_sought (Store (Root y None) from line) = ap (has_bit x) (at_other row 0 1 _ (λ (e : 1 ≡ 0). omega arith))
+    root_sought (Store (Root y None) from line) =
+        ap (has_bit x) (at_other row 0 1 _ (λ (e : 1 ≡ 0). omega arith))
     root_sought (Store (Root y (Some i)) from line) = refl
     root_sought (Store (Field b t y i) from line) = refl
     root_sought _ = refl
 
--- What a row tells of a fact after an instruction that is no call is what it told of one of the fact's origins.
-pub after_told : (ir : Ir) (topic : Topic) (registers n x : ℕ) (row : List ℕ) (i : Instruction) (b : Fact) → x < 64 → length row ≡ width topic registers → IsInstruction ir registers n i → is_about (class_at topic x) b ≡ true → tells (after_row topic i row) x (slot b) ≡ tells_any row x (origins i b)
+-- After an instruction that is no call, a row records a fact exactly if it recorded one of the
+-- fact's origins before.
+pub after_told : (ir : Ir) (topic : Topic) (registers n x : ℕ) (row : List ℕ) (i : Instruction)
+    (b : Fact) → x < 64 → length row ≡ row_width topic registers → IsInstruction ir registers n i
+    → is_about (class_at topic x) b ≡ true → tells (after_row topic i row) x (slot b)
+    ≡ tells_any row x (origins i b)
 after_told ir Frees registers n x row i Here few long ok h = here_after row x (omega arith) i
 after_told ir Frees registers n x row i Freed few long ok h = freed_after row x (omega arith) i
 after_told ir Frees registers n x row i (Unwritten r s y) few long ok h = absurd (false≢true h)
@@ -114,32 +134,45 @@ after_told ir Frees registers n x row i (RootUnwritten y) few long ok h = absurd
 after_told ir Frees registers n x row i (ReadRoot y) few long ok h = absurd (false≢true h)
 after_told ir Frees registers n x row i (ReadField s y) few long ok h = absurd (false≢true h)
 after_told ir (Roots f) registers n x row i (RootUnwritten y) few long ok h =
-    subst (λ z. tells (after_row (Roots f) i row) x 0 ≡ tells_any row x (origins i (RootUnwritten z))) (sym (eqb-true y (f + x) h)) (root_start row x (omega arith) f few i)
+    subst (λ z. tells (after_row (Roots f) i row) x 0 ≡ tells_any row x
+    (origins i (RootUnwritten z))) (sym (eqb-true y (f + x) h))
+    (root_start row x (omega arith) f few i)
 after_told ir (Roots f) registers n x row i (ReadRoot y) few long ok h =
-    subst (λ z. tells (after_row (Roots f) i row) x 1 ≡ tells_any row x (origins i (ReadRoot z))) (sym (eqb-true y (f + x) h)) (root_sought row x (omega arith) f few i)
+    subst (λ z. tells (after_row (Roots f) i row) x 1 ≡ tells_any row x (origins i (ReadRoot z)))
+    (sym (eqb-true y (f + x) h)) (root_sought row x (omega arith) f few i)
 after_told ir (Roots f) registers n x row i Here few long ok h = absurd (false≢true h)
 after_told ir (Roots f) registers n x row i (Unwritten r s y) few long ok h = absurd (false≢true h)
 after_told ir (Roots f) registers n x row i (ReadField s y) few long ok h = absurd (false≢true h)
 after_told ir (Roots f) registers n x row i Freed few long ok h = absurd (false≢true h)
-after_told ir (Fields k f) registers n x row i Here few long ok h = start_after ir k f row x registers n few long i
+after_told ir (Fields k f) registers n x row i Here few long ok h =
+    start_after ir k f row x registers n few long i
 after_told ir (Fields k f) registers n x row i (Unwritten r s y) few long ok h =
     let parts = and_parts (s == k) (y == f + x) h in
-    subst (λ q. tells (after_row (Fields k f) i row) x (r + 2) ≡ tells_any row x (origins i (Unwritten r q y))) (sym (eqb-true s k parts.0))
-    (subst (λ z. tells (after_row (Fields k f) i row) x (r + 2) ≡ tells_any row x (origins i (Unwritten r k z))) (sym (eqb-true y (f + x) parts.1)) (register_after ir k f row x registers n few long i r ok))
+    subst (λ q. tells (after_row (Fields k f) i row) x (r + 2) ≡ tells_any row x
+    (origins i (Unwritten r q y))) (sym (eqb-true s k parts.0))
+    (subst (λ z. tells (after_row (Fields k f) i row) x (r + 2) ≡ tells_any row x
+    (origins i (Unwritten r k z))) (sym (eqb-true y (f + x) parts.1))
+    (register_after ir k f row x registers n few long i r ok))
 after_told ir (Fields k f) registers n x row i (ReadField s y) few long ok h =
     let parts = and_parts (s == k) (y == f + x) h in
-    subst (λ q. tells (after_row (Fields k f) i row) x 1 ≡ tells_any row x (origins i (ReadField q y))) (sym (eqb-true s k parts.0))
-    (subst (λ z. tells (after_row (Fields k f) i row) x 1 ≡ tells_any row x (origins i (ReadField k z))) (sym (eqb-true y (f + x) parts.1)) (sought_after ir k f row x registers n few long i))
-after_told ir (Fields k f) registers n x row i (RootUnwritten y) few long ok h = absurd (false≢true h)
+    subst (λ q. tells (after_row (Fields k f) i row) x 1 ≡ tells_any row x
+    (origins i (ReadField q y))) (sym (eqb-true s k parts.0))
+    (subst (λ z. tells (after_row (Fields k f) i row) x 1 ≡ tells_any row x
+    (origins i (ReadField k z))) (sym (eqb-true y (f + x) parts.1))
+    (sought_after ir k f row x registers n few long i))
+after_told ir (Fields k f) registers n x row i (RootUnwritten y) few long ok h =
+    absurd (false≢true h)
 after_told ir (Fields k f) registers n x row i (ReadRoot y) few long ok h = absurd (false≢true h)
 after_told ir (Fields k f) registers n x row i Freed few long ok h = absurd (false≢true h)
 
 -- the row keeps its length
-pub length_after : (topic : Topic) (i : Instruction) (row : List ℕ) → length (after_row topic i row) ≡ length row
+pub length_after : (topic : Topic) (i : Instruction) (row : List ℕ)
+    → length (after_row topic i row) ≡ length row
 length_after topic (Const to v) row = length-set row (to + 2) _
 length_after topic (Copy to from) row = length-set row (to + 2) _
 length_after topic (Bin op to left right) row = length-set row (to + 2) _
-length_after topic (Load to target) row = length-set (with_read topic target row) (to + 2) _ ∙ read_length topic target row
+length_after topic (Load to target) row = length-set (with_read topic target row) (to + 2) _
+    ∙ read_length topic target row
 length_after topic (New to kind log_fill line) row = length-set row (to + 2) 0
 length_after topic (Jump place) row = refl
 length_after topic (Branch on place) row = refl
@@ -159,6 +192,8 @@ length_after (Fields k f) (Store (Root y i) from line) row = refl
 length_after (Fields k f) (Store (Field b t y (Some i)) from line) row = refl
 length_after (Fields k f) (Store (Field b t y None) from line) row = by_cases (k == t)
   where
-    by_cases : (c : Bool) → length (if c then slice_set row (b + 2) (without (word row (b + 2)) (mask f y)) else row) ≡ length row
+    by_cases : (c : Bool) → length
+        (if c then slice_set row (b + 2) (without (word row (b + 2)) (mask f y)) else row)
+        ≡ length row
     by_cases true = length-set row (b + 2) _
     by_cases false = refl

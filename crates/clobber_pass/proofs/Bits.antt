@@ -5,10 +5,12 @@ use Rattle.std.specs.Int.{bit_at}
 use Rattle.std.proofs.lemmas.Nat.Bits.{bit_at-zero, bit_at-lt, bit_at_and, bit_at_or, bit_at_xor, bit_at-pow_same, bit_at-pow_other, bit_at_ones}
 use Rattle.std.proofs.lemmas.Bool.{false≢true, cases_lt, eqb-true, eq-eqb, lt-ltb, le-ltb}
 use mathlib.Core.Logic.{◌⊎◌}
-use Rattle.clobber_pass.specs.Row.{mask, without, has_bit}
+use Rattle.clobber_pass.specs.Row.{has_bit}
+use Rattle.clobber_pass.specs.inside.Row.{mask, without}
 
 -- writing outside a row does nothing
-pub set_past : {X : Type 0} (row : List X) (s : ℕ) (w : X) → length row ≤ s → slice_set row s w ≡ row
+pub set_past : {X : Type 0} (row : List X) (s : ℕ) (w : X) → length row ≤ s
+    → slice_set row s w ≡ row
 set_past [] s w past = refl
 set_past (v ∷ row) zero w past = absurd (omega arith)
 set_past (v ∷ row) (suc s) w past = ap (λ rest. v ∷ rest) (set_past row s w (omega arith))
@@ -29,31 +31,39 @@ pub has_bit_or : (x a b : ℕ) → has_bit x (bit_or a b) ≡ (has_bit x a || ha
 unfolding has_bit
 has_bit_or x a b =
     ⊎_elim
-    (λ (p : bit_at a x ≡ 0). ⊎_elim (λ (q : bit_at b x ≡ 0). rw (bit_at_or a b x, p, q) refl) (λ (q : bit_at b x ≡ 1). rw (bit_at_or a b x, p, q) refl) (bit_cases b x))
-    (λ (p : bit_at a x ≡ 1). ⊎_elim (λ (q : bit_at b x ≡ 0). rw (bit_at_or a b x, p, q) refl) (λ (q : bit_at b x ≡ 1). rw (bit_at_or a b x, p, q) refl) (bit_cases b x))
+    (λ (p : bit_at a x ≡ 0). ⊎_elim (λ (q : bit_at b x ≡ 0). rw (bit_at_or a b x, p, q) refl)
+    (λ (q : bit_at b x ≡ 1). rw (bit_at_or a b x, p, q) refl) (bit_cases b x))
+    (λ (p : bit_at a x ≡ 1). ⊎_elim (λ (q : bit_at b x ≡ 0). rw (bit_at_or a b x, p, q) refl)
+    (λ (q : bit_at b x ≡ 1). rw (bit_at_or a b x, p, q) refl) (bit_cases b x))
     (bit_cases a x)
 
 pub has_bit_and : (x a b : ℕ) → has_bit x (bit_and a b) ≡ (has_bit x a && has_bit x b)
 unfolding has_bit
 has_bit_and x a b =
     ⊎_elim
-    (λ (p : bit_at a x ≡ 0). ⊎_elim (λ (q : bit_at b x ≡ 0). rw (bit_at_and a b x, p, q) refl) (λ (q : bit_at b x ≡ 1). rw (bit_at_and a b x, p, q) refl) (bit_cases b x))
-    (λ (p : bit_at a x ≡ 1). ⊎_elim (λ (q : bit_at b x ≡ 0). rw (bit_at_and a b x, p, q) refl) (λ (q : bit_at b x ≡ 1). rw (bit_at_and a b x, p, q) refl) (bit_cases b x))
+    (λ (p : bit_at a x ≡ 0). ⊎_elim (λ (q : bit_at b x ≡ 0). rw (bit_at_and a b x, p, q) refl)
+    (λ (q : bit_at b x ≡ 1). rw (bit_at_and a b x, p, q) refl) (bit_cases b x))
+    (λ (p : bit_at a x ≡ 1). ⊎_elim (λ (q : bit_at b x ≡ 0). rw (bit_at_and a b x, p, q) refl)
+    (λ (q : bit_at b x ≡ 1). rw (bit_at_and a b x, p, q) refl) (bit_cases b x))
     (bit_cases a x)
 
 pub has_bit_without : (x a b : ℕ) → has_bit x (without a b) ≡ (has_bit x a && not (has_bit x b))
 unfolding has_bit without
 has_bit_without x a b =
     ⊎_elim
-    (λ (p : bit_at a x ≡ 0). ⊎_elim (λ (q : bit_at b x ≡ 0). rw (bit_at_xor a (bit_and a b) x, bit_at_and a b x, p, q) refl) (λ (q : bit_at b x ≡ 1). rw (bit_at_xor a (bit_and a b) x, bit_at_and a b x, p, q) refl) (bit_cases b x))
-    (λ (p : bit_at a x ≡ 1). ⊎_elim (λ (q : bit_at b x ≡ 0). rw (bit_at_xor a (bit_and a b) x, bit_at_and a b x, p, q) refl) (λ (q : bit_at b x ≡ 1). rw (bit_at_xor a (bit_and a b) x, bit_at_and a b x, p, q) refl) (bit_cases b x))
+    (λ (p : bit_at a x ≡ 0). ⊎_elim (λ (q : bit_at b x ≡ 0).
+    rw (bit_at_xor a (bit_and a b) x, bit_at_and a b x, p, q) refl) (λ (q : bit_at b x ≡ 1).
+    rw (bit_at_xor a (bit_and a b) x, bit_at_and a b x, p, q) refl) (bit_cases b x))
+    (λ (p : bit_at a x ≡ 1). ⊎_elim (λ (q : bit_at b x ≡ 0).
+    rw (bit_at_xor a (bit_and a b) x, bit_at_and a b x, p, q) refl) (λ (q : bit_at b x ≡ 1).
+    rw (bit_at_xor a (bit_and a b) x, bit_at_and a b x, p, q) refl) (bit_cases b x))
     (bit_cases a x)
 
 pub has_bit_ones : (x : ℕ) → x < 64 → has_bit x (2 ^ 64 - 1) ≡ true
 unfolding has_bit
 has_bit_ones x less = rw (bit_at_ones 64 x less) refl
 
--- a bit of a power
+-- the bits of a power of 2
 has_bit_pow : (x k : ℕ) → has_bit x (2 ^ k) ≡ (x == k)
 unfolding has_bit
 has_bit_pow x k = by_cases (x == k) refl
@@ -81,25 +91,32 @@ shifted x first y more = by_cases (x == y - first) refl
         let there : first + x ≡ y = omega arith in
         is ∙ sym (eq-eqb (first + x) y there)
     by_cases false is =
-        let unlike : (first + x ≡ y → ⊥) = λ (e : first + x ≡ y). false≢true (sym is ∙ eq-eqb x (y - first) (omega arith)) in
+        let unlike : (first + x ≡ y → ⊥) = λ (e : first + x ≡ y).
+        false≢true (sym is ∙ eq-eqb x (y - first) (omega arith)) in
         is ∙ sym (apart (first + x) y unlike)
 
 pub has_bit_mask : (x first y : ℕ) → x < 64 → has_bit x (mask first y) ≡ (first + x == y)
 unfolding mask
 has_bit_mask x first y few = ⊎_elim below above (cases_lt y first)
   where
-    below : y < first → has_bit x (if nat_lt y first then 0 else (if nat_lt (y - first) 64 then 2 ^ (y - first) else 0)) ≡ (first + x == y)
+    below : y < first → has_bit x (if nat_lt y first then 0
+        else (if nat_lt (y - first) 64 then 2 ^ (y - first) else 0)) ≡ (first + x == y)
     below less =
         let unlike : (first + x ≡ y → ⊥) = λ (e : first + x ≡ y). omega arith in
         rw (lt-ltb y first less, has_bit_zero x) (sym (apart (first + x) y unlike))
 
-    above : first ≤ y → has_bit x (if nat_lt y first then 0 else (if nat_lt (y - first) 64 then 2 ^ (y - first) else 0)) ≡ (first + x == y)
+    above : first ≤ y → has_bit x (if nat_lt y first then 0
+        else (if nat_lt (y - first) 64 then 2 ^ (y - first) else 0)) ≡ (first + x == y)
     above more = ⊎_elim near far (cases_lt (y - first) 64)
       where
-        near : y - first < 64 → has_bit x (if nat_lt y first then 0 else (if nat_lt (y - first) 64 then 2 ^ (y - first) else 0)) ≡ (first + x == y)
-        near less = rw (le-ltb y first more, lt-ltb (y - first) 64 less) (has_bit_pow x (y - first) ∙ shifted x first y more)
+        near : y - first < 64 → has_bit x (if nat_lt y first then 0
+            else (if nat_lt (y - first) 64 then 2 ^ (y - first) else 0)) ≡ (first + x == y)
+        near less = rw (le-ltb y first more, lt-ltb (y - first) 64 less) (has_bit_pow x (y - first)
+            ∙ shifted x first y more)
 
-        far : 64 ≤ y - first → has_bit x (if nat_lt y first then 0 else (if nat_lt (y - first) 64 then 2 ^ (y - first) else 0)) ≡ (first + x == y)
+        far : 64 ≤ y - first → has_bit x (if nat_lt y first then 0
+            else (if nat_lt (y - first) 64 then 2 ^ (y - first) else 0)) ≡ (first + x == y)
         far past =
             let unlike : (first + x ≡ y → ⊥) = λ (e : first + x ≡ y). omega arith in
-            rw (le-ltb y first more, le-ltb (y - first) 64 past, has_bit_zero x) (sym (apart (first + x) y unlike))
+            rw (le-ltb y first more, le-ltb (y - first) 64 past, has_bit_zero x)
+            (sym (apart (first + x) y unlike))

@@ -1,4 +1,4 @@
--- Where two words meet in a field's bit.
+-- Two words that have a field's bit in common.
 use Rattle.std.proofs.Common.{◌≡◌, ◌<◌, ◌≤◌, ◌+◌, ◌-◌, ◌*◌, ◌^◌, ℕ, Bool, true, false, refl, sym, ◌∙◌, ap, arith, ⊎_elim}
 use Rattle.std.specs.Prelude.{◌==◌, not, bit_and}
 use Rattle.std.specs.Int.{bit_at}
@@ -6,18 +6,21 @@ use Rattle.std.proofs.lemmas.Nat.Bits.{and_pow}
 use Rattle.std.proofs.lemmas.Nat.{pow_pos}
 use Rattle.std.specs.Int.Bits.{and_zero_r}
 use Rattle.std.proofs.lemmas.Bool.{false≢true, and_parts, and_from, cases_lt, eqb-true, lt-ltb, le-ltb}
-use Rattle.clobber_pass.specs.Row.{mask, has_bit}
-use Rattle.clobber_pass.specs.Marking.{meets}
+use Rattle.clobber_pass.specs.Row.{has_bit}
+use Rattle.clobber_pass.specs.inside.Row.{mask}
+use Rattle.clobber_pass.specs.inside.Marking.{meets}
 use Rattle.clobber_pass.proofs.Bits.{bit_cases, has_bit_and}
 
--- a word meets a power where it has the bit
+-- a word that meets a power of 2 has its bit
 power_out : (w k : ℕ) → not (bit_and w (2 ^ k) == 0) ≡ true → has_bit k w ≡ true
 unfolding has_bit
-power_out w k h = ⊎_elim (λ (is : bit_at w k ≡ 0). absurd (false≢true (sym (nothing is) ∙ h))) (λ (is : bit_at w k ≡ 1). rw is refl) (bit_cases w k)
+power_out w k h = ⊎_elim (λ (is : bit_at w k ≡ 0). absurd (false≢true (sym (nothing is) ∙ h)))
+    (λ (is : bit_at w k ≡ 1). rw is refl) (bit_cases w k)
   where
     nothing : bit_at w k ≡ 0 → not (bit_and w (2 ^ k) == 0) ≡ false
     nothing is =
-        let zero_word : bit_and w (2 ^ k) ≡ 0 = and_pow w k ∙ ap (λ b. b * 2 ^ k) is ∙ omega arith in
+        let zero_word : bit_and w (2 ^ k) ≡ 0 = and_pow w k ∙ ap (λ b. b * 2 ^ k) is
+        ∙ omega arith in
         rw zero_word refl
 
 power_in : (w k : ℕ) → has_bit k w ≡ true → not (bit_and w (2 ^ k) == 0) ≡ true
@@ -45,7 +48,8 @@ mask_is f x y few is =
     let at : y - f ≡ x = omega arith in
     rw (le-ltb y f from, at, lt-ltb x 64 few) refl
 
-pub meets_in : (a b f x y : ℕ) → x < 64 → f + x ≡ y → has_bit x a ≡ true → has_bit x b ≡ true → meets a b (mask f y) ≡ true
+pub meets_in : (a b f x y : ℕ) → x < 64 → f + x ≡ y → has_bit x a ≡ true → has_bit x b ≡ true
+    → meets a b (mask f y) ≡ true
 unfolding meets
 meets_in a b f x y few is h j =
     ap (λ m. not (bit_and (bit_and a b) m == 0)) (mask_is f x y few is)
@@ -72,26 +76,34 @@ unfolding meets
 meets_out a b f y h = ⊎_elim below above (cases_lt y f)
   where
     none : mask f y ≡ 0 → Met a b f y
-    none is = absurd (false≢true (sym (ap (λ m. not (bit_and (bit_and a b) m == 0)) is ∙ zero_out (bit_and a b)) ∙ h))
+    none is = absurd (false≢true (sym (ap (λ m. not (bit_and (bit_and a b) m == 0)) is
+        ∙ zero_out (bit_and a b)) ∙ h))
 
     below : y < f → Met a b f y
     below less = none (outside_below f y less)
 
     above : f ≤ y → Met a b f y
-    above from = ⊎_elim near (λ (past : 64 ≤ y - f). none (outside_above f y from past)) (cases_lt (y - f) 64)
+    above from = ⊎_elim near (λ (past : 64 ≤ y - f). none (outside_above f y from past))
+        (cases_lt (y - f) 64)
       where
         near : y - f < 64 → Met a b f y
         near few =
             let sum : f + (y - f) ≡ y = omega arith in
-            let both : has_bit (y - f) (bit_and a b) ≡ true = power_out (bit_and a b) (y - f) (ap (λ m. not (bit_and (bit_and a b) m == 0)) (sym (mask_is f (y - f) y few sum)) ∙ h) in
-            let parts = and_parts (has_bit (y - f) a) (has_bit (y - f) b) (sym (has_bit_and (y - f) a b) ∙ both) in
+            let both : has_bit (y - f) (bit_and a b) ≡ true =
+            power_out (bit_and a b) (y - f)
+            (ap (λ m. not (bit_and (bit_and a b) m == 0)) (sym (mask_is f (y - f) y few sum))
+            ∙ h) in
+            let parts = and_parts (has_bit (y - f) a) (has_bit (y - f) b)
+            (sym (has_bit_and (y - f) a b) ∙ both) in
             record { x = y - f; few = few; is = sum; one = parts.0; other = parts.1 }
 
 -- bit 0 alone
 pub first_out : (a : ℕ) → meets a a 1 ≡ true → has_bit 0 a ≡ true
 unfolding meets
-first_out a h = (and_parts (has_bit 0 a) (has_bit 0 a) (sym (has_bit_and 0 a a) ∙ power_out (bit_and a a) 0 h)).0
+first_out a h = (and_parts (has_bit 0 a) (has_bit 0 a)
+    (sym (has_bit_and 0 a a) ∙ power_out (bit_and a a) 0 h)).0
 
 pub first_in : (a : ℕ) → has_bit 0 a ≡ true → meets a a 1 ≡ true
 unfolding meets
-first_in a h = power_in (bit_and a a) 0 (has_bit_and 0 a a ∙ and_from (has_bit 0 a) (has_bit 0 a) h h)
+first_in a h = power_in (bit_and a a) 0
+    (has_bit_and 0 a a ∙ and_from (has_bit 0 a) (has_bit 0 a) h h)

@@ -1,4 +1,4 @@
--- The marks of a function's places about a topic say what is derived.
+-- The marks of a function's places for a topic agree with the derived facts.
 use Rattle.std.proofs.Common.{◌≡◌, ◌<◌, ◌+◌, ◌-◌, ◌%◌, ℕ, zero, suc, Bool, true, false, List, [], ◌∷◌, Option, Some, length, refl, sym, ◌∙◌, ap, subst, arith, inl, inr}
 use Rattle.std.specs.Prelude.{◌==◌, ◌&&◌, slice_get, if◌then◌else◌}
 use Rattle.std.proofs.lemmas.Bool.{false≢true, and_from, eqb-true, eq-eqb}
@@ -13,20 +13,23 @@ use Rattle.ir.specs.declared.function.Ir.{Ir}
 use Rattle.ir.specs.declared.fact.Fact.{Fact}
 use Rattle.ir.specs.declared.fact.Fact.TheVariants.{Unwritten, RootUnwritten, ReadRoot, ReadField, Freed}
 use Rattle.ir.specs.Places.{instruction_at}
-use Rattle.ir.specs.Clobber.{unwritten, read}
+use Rattle.ir.specs.Clobber.{unwritten, read_fact}
 use Rattle.ir.specs.Derived.{Flows}
 use Rattle.ir.specs.WellFormed.{IsInstruction, IsFunction, IsWellFormed}
 use Rattle.clobber_pass.specs.declared.topic.Topic.{Topic}
 use Rattle.clobber_pass.specs.declared.topic.Topic.TheVariants.{Frees, Root as Roots, Field as Fields}
-use Rattle.clobber_pass.specs.Class.{class_at, is_about, slot}
-use Rattle.clobber_pass.specs.Row.{word, mask, has_bit, tells}
-use Rattle.clobber_pass.specs.Told.{registers_at, Fits}
-use Rattle.clobber_pass.specs.Sweep.{row_in, exits_of, next_row, pick}
-use Rattle.clobber_pass.specs.Closed.{reach, seen}
-use Rattle.clobber_pass.specs.Calling.{CalledEnded}
-use Rattle.clobber_pass.specs.Sound.{SoundExits}
-use Rattle.clobber_pass.specs.Flow.{Entries, StartEntries, at_entry, AllFlow}
-use Rattle.clobber_pass.specs.Marking.{meets, store_word, fill_word, mark_word, marks_from, part, Logged, topic_of}
+use Rattle.clobber_pass.specs.inside.Class.{class_at, is_about, slot}
+use Rattle.clobber_pass.specs.Row.{word, has_bit, tells}
+use Rattle.clobber_pass.specs.inside.Row.{mask}
+use Rattle.clobber_pass.specs.inside.Told.{registers_at, Fits}
+use Rattle.clobber_pass.specs.Sweep.{row_in}
+use Rattle.clobber_pass.specs.inside.Sweep.{exits_of, next_row, row_or}
+use Rattle.clobber_pass.specs.inside.Closed.{row_reaching, seen_in_row}
+use Rattle.clobber_pass.specs.inside.Calling.{CalledEnded}
+use Rattle.clobber_pass.specs.inside.Sound.{SoundExits}
+use Rattle.clobber_pass.specs.inside.Flow.{Entries, StartEntries, at_entry, AllFlow}
+use Rattle.clobber_pass.specs.Marking.{part}
+use Rattle.clobber_pass.specs.inside.Marking.{meets, store_word, fill_word, mark_word, marks_from, Logged, topic_of}
 use Rattle.clobber_pass.proofs.Bits.{has_bit_zero}
 use Rattle.clobber_pass.proofs.Fits.{all_at, registers_there}
 use Rattle.clobber_pass.proofs.Flowing.{GoodAt, AllGood, pick_is_good, next_is_good, flow_good, entry_is_good}
@@ -49,7 +52,7 @@ test_fill_store : has_bit 0 2 ≡ false
 unfolding has_bit
 test_fill_store = refl
 
--- a word that is 1 or 0 speaks of a store alone
+-- a word that is 1 or 0 concerns only a store
 abbrev when : Bool → ℕ → ℕ
 when b w = if b then w else 0
 
@@ -75,7 +78,8 @@ nothing_set fill h = false≢true (sym (has_bit_zero (part fill)) ∙ h)
 pub same_true : (y : ℕ) → (y == y) ≡ true
 same_true y = eq-eqb y y refl
 
-module _ (ir : Ir) (well : IsWellFormed ir) (topic : Topic) (exits : List (List (List ℕ))) (sound : SoundExits ir.functions topic exits)
+module _ (ir : Ir) (well : IsWellFormed ir) (topic : Topic) (exits : List (List (List ℕ)))
+    (sound : SoundExits ir.functions topic exits)
     (f : ℕ) (u : IrFunction) (there : slice_get ir.functions f ≡ Some u) where
   abbrev end : ℕ
   end = length u.code
@@ -83,35 +87,65 @@ module _ (ir : Ir) (well : IsWellFormed ir) (topic : Topic) (exits : List (List 
   abbrev Good : ℕ → List ℕ → Type 0
   Good p row = GoodAt ir well topic exits sound f u there p row
 
-  code_at : (p : ℕ) (i : Instruction) → slice_get u.code p ≡ Some i → instruction_at ir.functions f p ≡ Some i
+  code_at : (p : ℕ) (i : Instruction) → slice_get u.code p ≡ Some i
+      → instruction_at ir.functions f p ≡ Some i
   code_at p i is = rw there is
 
-  flow_of : (p : ℕ) (i : Instruction) (b : Fact) → slice_get u.code p ≡ Some i → Flows ir.functions f p b ⊎ (p ≡ end) → Flows ir.functions f p b
+  flow_of : (p : ℕ) (i : Instruction) (b : Fact) → slice_get u.code p ≡ Some i
+      → Flows ir.functions f p b ⊎ (p ≡ end) → Flows ir.functions f p b
   flow_of p i b is (inl d) = d
-  flow_of p i b is (inr same) = let less : p < end = slice_get_within u.code p i is in absurd (omega arith)
+  flow_of p i b is (inr same) = let less : p < end = slice_get_within u.code p i is in
+      absurd (omega arith)
 
-  told_flow : (p : ℕ) (i : Instruction) (row : List ℕ) (x : ℕ) (b : Fact) → slice_get u.code p ≡ Some i → Good p row → x < 64 → is_about (class_at topic x) b ≡ true → tells row x (slot b) ≡ true → Flows ir.functions f p b
+  told_flow : (p : ℕ) (i : Instruction) (row : List ℕ) (x : ℕ) (b : Fact)
+      → slice_get u.code p ≡ Some i → Good p row → x < 64 → is_about (class_at topic x) b ≡ true
+      → tells row x (slot b) ≡ true → Flows ir.functions f p b
   told_flow p i row x b is good few about h = flow_of p i b is ((good x few).1 b about h)
 
-  store_of : (p : ℕ) (target : Target) (from line : ℕ) → slice_get u.code p ≡ Some (Store target from line) → Flows ir.functions f p (unwritten target) → Flows ir.functions f p (read target) → Logged ir.functions false f p
-  store_of p target from line is bare seen_before = inl (target, from, line, code_at p (Store target from line) is, bare, seen_before)
+  store_of : (p : ℕ) (target : Target) (from line : ℕ)
+      → slice_get u.code p ≡ Some (Store target from line)
+      → Flows ir.functions f p (unwritten target)
+      → Flows ir.functions f p (read_fact target) → Logged ir.functions false f p
+  store_of p target from line is bare seen_before =
+      inl (target, from, line, code_at p (Store target from line) is, bare, seen_before)
 
-  root_logged : (first : ℕ) → topic ≡ Roots first → (p y : ℕ) (i : Option ℕ) (from line : ℕ) (row : List ℕ) → slice_get u.code p ≡ Some (Store (Root y i) from line) → Good p row → Met (word row 0) (word row 1) first y → Logged ir.functions false f p
+  root_logged : (first : ℕ) → topic ≡ Roots first
+      → (p y : ℕ) (i : Option ℕ) (from line : ℕ) (row : List ℕ)
+      → slice_get u.code p ≡ Some (Store (Root y i) from line) → Good p row
+      → Met (word row 0) (word row 1) first y → Logged ir.functions false f p
   root_logged first topic_is p y i from line row is good met =
-      let about : is_about (class_at topic met.x) (RootUnwritten y) ≡ true = ap (λ t. is_about (class_at t met.x) (RootUnwritten y)) topic_is ∙ eq-eqb y (first + met.x) (sym met.is) in
-      let about_read : is_about (class_at topic met.x) (ReadRoot y) ≡ true = ap (λ t. is_about (class_at t met.x) (ReadRoot y)) topic_is ∙ eq-eqb y (first + met.x) (sym met.is) in
-      store_of p (Root y i) from line is (told_flow p _ row met.x (RootUnwritten y) is good met.few about met.one) (told_flow p _ row met.x (ReadRoot y) is good met.few about_read met.other)
+      let about : is_about (class_at topic met.x) (RootUnwritten y) ≡ true =
+      ap (λ t. is_about (class_at t met.x) (RootUnwritten y)) topic_is
+      ∙ eq-eqb y (first + met.x) (sym met.is) in
+      let about_read : is_about (class_at topic met.x) (ReadRoot y) ≡ true =
+      ap (λ t. is_about (class_at t met.x) (ReadRoot y)) topic_is
+      ∙ eq-eqb y (first + met.x) (sym met.is) in
+      store_of p (Root y i) from line is (told_flow p _ row met.x (RootUnwritten y) is good met.few
+      about met.one) (told_flow p _ row met.x (ReadRoot y) is good met.few about_read met.other)
 
-  field_about : (kind first t x y : ℕ) → kind ≡ t → first + x ≡ y → ((t == kind) && (y == first + x)) ≡ true
-  field_about kind first t x y same is = and_from (t == kind) (y == first + x) (eq-eqb t kind (sym same)) (eq-eqb y (first + x) (sym is))
+  field_about : (kind first t x y : ℕ) → kind ≡ t → first + x ≡ y
+      → ((t == kind) && (y == first + x)) ≡ true
+  field_about kind first t x y same is =
+      and_from (t == kind) (y == first + x) (eq-eqb t kind (sym same))
+      (eq-eqb y (first + x) (sym is))
 
-  field_logged : (kind first : ℕ) → topic ≡ Fields kind first → (p b t y : ℕ) (i : Option ℕ) (from line : ℕ) (row : List ℕ) → kind ≡ t → slice_get u.code p ≡ Some (Store (Field b t y i) from line) → Good p row → Met (word row (b + 2)) (word row 1) first y → Logged ir.functions false f p
+  field_logged : (kind first : ℕ) → topic ≡ Fields kind first
+      → (p b t y : ℕ) (i : Option ℕ) (from line : ℕ) (row : List ℕ) → kind ≡ t
+      → slice_get u.code p ≡ Some (Store (Field b t y i) from line) → Good p row
+      → Met (word row (b + 2)) (word row 1) first y → Logged ir.functions false f p
   field_logged kind first topic_is p b t y i from line row same is good met =
-      let about : is_about (class_at topic met.x) (Unwritten b t y) ≡ true = ap (λ c. is_about (class_at c met.x) (Unwritten b t y)) topic_is ∙ field_about kind first t met.x y same met.is in
-      let about_read : is_about (class_at topic met.x) (ReadField t y) ≡ true = ap (λ c. is_about (class_at c met.x) (ReadField t y)) topic_is ∙ field_about kind first t met.x y same met.is in
-      store_of p (Field b t y i) from line is (told_flow p _ row met.x (Unwritten b t y) is good met.few about met.one) (told_flow p _ row met.x (ReadField t y) is good met.few about_read met.other)
+      let about : is_about (class_at topic met.x) (Unwritten b t y) ≡ true =
+      ap (λ c. is_about (class_at c met.x) (Unwritten b t y)) topic_is
+      ∙ field_about kind first t met.x y same met.is in
+      let about_read : is_about (class_at topic met.x) (ReadField t y) ≡ true =
+      ap (λ c. is_about (class_at c met.x) (ReadField t y)) topic_is
+      ∙ field_about kind first t met.x y same met.is in
+      store_of p (Field b t y i) from line is
+      (told_flow p _ row met.x (Unwritten b t y) is good met.few about met.one)
+      (told_flow p _ row met.x (ReadField t y) is good met.few about_read met.other)
 
-  field_word : (kind t : ℕ) (c : Bool) (m : Bool) → (kind == t) ≡ c → has_bit 0 (if c then when m 1 else 0) ≡ true → (kind ≡ t) × (m ≡ true)
+  field_word : (kind t : ℕ) (c : Bool) (m : Bool) → (kind == t) ≡ c
+      → has_bit 0 (if c then when m 1 else 0) ≡ true → (kind ≡ t) × (m ≡ true)
   field_word kind t true m is h = (eqb-true kind t is, when_store m h)
   field_word kind t false m is h = absurd (false≢true (sym (has_bit_zero 0) ∙ h))
 
@@ -119,29 +153,57 @@ module _ (ir : Ir) (well : IsWellFormed ir) (topic : Topic) (exits : List (List 
   field_no_fill true m h = when_no_fill m h
   field_no_fill false m h = false≢true (sym (has_bit_zero 1) ∙ h)
 
-  store_sound : (t : Topic) → topic ≡ t → (p : ℕ) (target : Target) (from line : ℕ) (row : List ℕ) (fill : Bool) → slice_get u.code p ≡ Some (Store target from line) → Good p row → has_bit (part fill) (store_word t target row) ≡ true → Logged ir.functions fill f p
-  store_sound (Roots first) topic_is p (Root y i) from line row false is good h = root_logged first topic_is p y i from line row is good (meets_out (word row 0) (word row 1) first y (when_store (meets (word row 0) (word row 1) (mask first y)) h))
-  store_sound (Roots first) topic_is p (Root y i) from line row true is good h = absurd (when_no_fill (meets (word row 0) (word row 1) (mask first y)) h)
-  store_sound (Roots first) topic_is p (Field b t y i) from line row fill is good h = absurd (nothing_set fill h)
+  store_sound : (t : Topic) → topic ≡ t → (p : ℕ) (target : Target) (from line : ℕ) (row : List ℕ)
+      (fill : Bool) → slice_get u.code p ≡ Some (Store target from line) → Good p row
+      → has_bit (part fill) (store_word t target row) ≡ true → Logged ir.functions fill f p
+  store_sound (Roots first) topic_is p (Root y i) from line row false is good h =
+      root_logged first topic_is p y i from line row is good
+      (meets_out (word row 0) (word row 1) first y
+      (when_store (meets (word row 0) (word row 1) (mask first y)) h))
+  store_sound (Roots first) topic_is p (Root y i) from line row true is good h =
+      absurd (when_no_fill (meets (word row 0) (word row 1) (mask first y)) h)
+  store_sound (Roots first) topic_is p (Field b t y i) from line row fill is good h =
+      absurd (nothing_set fill h)
   store_sound (Fields kind first) topic_is p (Field b t y i) from line row false is good h =
-      let parts = field_word kind t (kind == t) (meets (word row (b + 2)) (word row 1) (mask first y)) refl h in
-      field_logged kind first topic_is p b t y i from line row parts.0 is good (meets_out (word row (b + 2)) (word row 1) first y parts.1)
-  store_sound (Fields kind first) topic_is p (Field b t y i) from line row true is good h = absurd (field_no_fill (kind == t) (meets (word row (b + 2)) (word row 1) (mask first y)) h)
-  store_sound (Fields kind first) topic_is p (Root y i) from line row fill is good h = absurd (nothing_set fill h)
+      let parts = field_word kind t (kind == t)
+      (meets (word row (b + 2)) (word row 1) (mask first y)) refl h in
+      field_logged kind first topic_is p b t y i from line row parts.0 is good
+      (meets_out (word row (b + 2)) (word row 1) first y parts.1)
+  store_sound (Fields kind first) topic_is p (Field b t y i) from line row true is good h =
+      absurd (field_no_fill (kind == t) (meets (word row (b + 2)) (word row 1) (mask first y)) h)
+  store_sound (Fields kind first) topic_is p (Root y i) from line row fill is good h =
+      absurd (nothing_set fill h)
   store_sound Frees topic_is p target from line row fill is good h = absurd (nothing_set fill h)
 
-  fill_sound : (t : Topic) → topic ≡ t → (p to kind : ℕ) (log_fill : Bool) (line : ℕ) (row : List ℕ) (fill : Bool) → slice_get u.code p ≡ Some (New to kind log_fill line) → Good p row → has_bit (part fill) (fill_word t row) ≡ true → Logged ir.functions fill f p
+  fill_sound : (t : Topic) → topic ≡ t → (p to kind : ℕ) (log_fill : Bool) (line : ℕ) (row : List ℕ)
+      (fill : Bool) → slice_get u.code p ≡ Some (New to kind log_fill line) → Good p row
+      → has_bit (part fill) (fill_word t row) ≡ true → Logged ir.functions fill f p
   fill_sound Frees topic_is p to kind log_fill line row true is good h =
-      let set : has_bit 0 (word row 1) ≡ true = first_out (word row 1) (when_fill (meets (word row 1) (word row 1) 1) h) in
-      let about : is_about (class_at topic 0) Freed ≡ true = ap (λ c. is_about (class_at c 0) Freed) topic_is in
-      (to, kind, log_fill, line, code_at p (New to kind log_fill line) is, told_flow p _ row 0 Freed is good (omega arith) about set)
-  fill_sound Frees topic_is p to kind log_fill line row false is good h = absurd (when_no_store (meets (word row 1) (word row 1) 1) h)
-  fill_sound (Roots first) topic_is p to kind log_fill line row fill is good h = absurd (nothing_set fill h)
-  fill_sound (Fields k first) topic_is p to kind log_fill line row fill is good h = absurd (nothing_set fill h)
+      let set : has_bit 0 (word row 1) ≡ true =
+      first_out (word row 1) (when_fill (meets (word row 1) (word row 1) 1) h) in
+      let about : is_about (class_at topic 0) Freed ≡ true =
+      ap (λ c. is_about (class_at c 0) Freed) topic_is in (
+        to,
+        kind,
+        log_fill,
+        line,
+        code_at p (New to kind log_fill line) is,
+        told_flow p _ row 0 Freed is good (omega arith) about set,
+      )
+  fill_sound Frees topic_is p to kind log_fill line row false is good h =
+      absurd (when_no_store (meets (word row 1) (word row 1) 1) h)
+  fill_sound (Roots first) topic_is p to kind log_fill line row fill is good h =
+      absurd (nothing_set fill h)
+  fill_sound (Fields k first) topic_is p to kind log_fill line row fill is good h =
+      absurd (nothing_set fill h)
 
-  word_sound : (p : ℕ) (i : Instruction) (row : List ℕ) (fill : Bool) → slice_get u.code p ≡ Some i → Good p row → has_bit (part fill) (mark_word topic i row) ≡ true → Logged ir.functions fill f p
-  word_sound p (Store target from line) row fill is good h = store_sound topic refl p target from line row fill is good h
-  word_sound p (New to kind log_fill line) row fill is good h = fill_sound topic refl p to kind log_fill line row fill is good h
+  word_sound : (p : ℕ) (i : Instruction) (row : List ℕ) (fill : Bool) → slice_get u.code p ≡ Some i
+      → Good p row → has_bit (part fill) (mark_word topic i row) ≡ true
+      → Logged ir.functions fill f p
+  word_sound p (Store target from line) row fill is good h =
+      store_sound topic refl p target from line row fill is good h
+  word_sound p (New to kind log_fill line) row fill is good h =
+      fill_sound topic refl p to kind log_fill line row fill is good h
   word_sound p (Const to v) row fill is good h = absurd (nothing_set fill h)
   word_sound p (Copy to from) row fill is good h = absurd (nothing_set fill h)
   word_sound p (Bin op to left right) row fill is good h = absurd (nothing_set fill h)
@@ -158,63 +220,105 @@ module _ (ir : Ir) (well : IsWellFormed ir) (topic : Topic) (exits : List (List 
   abbrev RestOf : ℕ → List Instruction → Type 0
   RestOf p rest = (k : ℕ) → slice_get rest k ≡ slice_get u.code (p + k)
 
-  first_at : (p : ℕ) (i : Instruction) (is : List Instruction) → RestOf p (i ∷ is) → slice_get u.code p ≡ Some i
-  first_at p i is same = let first : p + 0 ≡ p = omega arith in subst (λ q. slice_get u.code q ≡ Some i) first (sym (same 0))
+  first_at : (p : ℕ) (i : Instruction) (is : List Instruction) → RestOf p (i ∷ is)
+      → slice_get u.code p ≡ Some i
+  first_at p i is same = let first : p + 0 ≡ p = omega arith in
+      subst (λ q. slice_get u.code q ≡ Some i) first (sym (same 0))
 
-  later_from : (p : ℕ) (i : Instruction) (is : List Instruction) → RestOf p (i ∷ is) → RestOf (p + 1) is
-  later_from p i is same k = let moved : p + suc k ≡ (p + 1) + k = omega arith in same (suc k) ∙ ap (slice_get u.code) moved
+  later_from : (p : ℕ) (i : Instruction) (is : List Instruction) → RestOf p (i ∷ is)
+      → RestOf (p + 1) is
+  later_from p i is same k = let moved : p + suc k ≡ (p + 1) + k = omega arith in
+      same (suc k) ∙ ap (slice_get u.code) moved
 
-  here_good : (p : ℕ) (i : Instruction) (is : List Instruction) (rows : List (List ℕ)) (row : List ℕ) → RestOf p (i ∷ is) → AllGood ir well topic exits sound f u there rows → (p < end → Good p row) → Good p (pick (row_in rows p) row)
-  here_good p i is rows row same all one = pick_is_good ir well topic exits sound f u there rows row p all (one (slice_get_within u.code p i (first_at p i is same)))
+  here_good : (p : ℕ) (i : Instruction) (is : List Instruction) (rows : List (List ℕ))
+      (row : List ℕ) → RestOf p (i ∷ is) → AllGood ir well topic exits sound f u there rows
+      → (p < end → Good p row) → Good p (row_or (row_in rows p) row)
+  here_good p i is rows row same all one =
+      pick_is_good ir well topic exits sound f u there rows row p all
+      (one (slice_get_within u.code p i (first_at p i is same)))
 
-  next_good : (p : ℕ) (i : Instruction) (is : List Instruction) (rows : List (List ℕ)) (row : List ℕ) → RestOf p (i ∷ is) → AllGood ir well topic exits sound f u there rows → (p < end → Good p row) → p + 1 < end → Good (p + 1) (next_row topic exits i (pick (row_in rows p) row))
+  next_good : (p : ℕ) (i : Instruction) (is : List Instruction) (rows : List (List ℕ))
+      (row : List ℕ) → RestOf p (i ∷ is) → AllGood ir well topic exits sound f u there rows
+      → (p < end → Good p row) → p + 1 < end
+      → Good (p + 1) (next_row topic exits i (row_or (row_in rows p) row))
   next_good p i is rows row same all one less =
       let next : suc p ≡ p + 1 = omega arith in
-      subst (λ q. Good q (next_row topic exits i (pick (row_in rows p) row))) next
-      (next_is_good ir well topic exits sound f u there (pick (row_in rows p) row) p i (first_at p i is same) (subst (λ q. q < end) (sym next) less) (here_good p i is rows row same all one))
+      subst (λ q. Good q (next_row topic exits i (row_or (row_in rows p) row))) next
+      (next_is_good ir well topic exits sound f u there (row_or (row_in rows p) row) p i
+      (first_at p i is same) (subst (λ q. q < end) (sym next) less)
+      (here_good p i is rows row same all one))
 
-  marks_sound_from : (rest : List Instruction) (rows : List (List ℕ)) (row : List ℕ) (p k : ℕ) (fill : Bool) → RestOf p rest → AllGood ir well topic exits sound f u there rows → (p < end → Good p row) → tells (marks_from topic exits rows row p rest) (part fill) k ≡ true → Logged ir.functions fill f (p + k)
+  marks_sound_from : (rest : List Instruction) (rows : List (List ℕ)) (row : List ℕ) (p k : ℕ)
+      (fill : Bool) → RestOf p rest → AllGood ir well topic exits sound f u there rows
+      → (p < end → Good p row) → tells (marks_from topic exits rows row p rest) (part fill) k ≡ true
+      → Logged ir.functions fill f (p + k)
   marks_sound_from [] rows row p k fill same all one h = absurd (nothing_set fill h)
   marks_sound_from (i ∷ is) rows row p zero fill same all one h =
       let first : p + 0 ≡ p = omega arith in
-      subst (λ q. Logged ir.functions fill f q) (sym first) (word_sound p i (pick (row_in rows p) row) fill (first_at p i is same) (here_good p i is rows row same all one) h)
+      subst (λ q. Logged ir.functions fill f q) (sym first)
+      (word_sound p i (row_or (row_in rows p) row) fill (first_at p i is same)
+      (here_good p i is rows row same all one) h)
   marks_sound_from (i ∷ is) rows row p (suc k) fill same all one h =
       let moved : (p + 1) + k ≡ p + suc k = omega arith in
       subst (λ q. Logged ir.functions fill f q) moved
-      (marks_sound_from is rows (next_row topic exits i (pick (row_in rows p) row)) (p + 1) k fill (later_from p i is same) all (next_good p i is rows row same all one) h)
+      (marks_sound_from is rows (next_row topic exits i (row_or (row_in rows p) row)) (p + 1) k fill
+      (later_from p i is same) all (next_good p i is rows row same all one) h)
 
-  pub marks_sound : (rows : List (List ℕ)) (row : List ℕ) (p : ℕ) (fill : Bool) → AllGood ir well topic exits sound f u there rows → Good 0 row → tells (marks_from topic exits rows row 0 u.code) (part fill) p ≡ true → Logged ir.functions fill f p
+  pub marks_sound : (rows : List (List ℕ)) (row : List ℕ) (p : ℕ) (fill : Bool)
+      → AllGood ir well topic exits sound f u there rows → Good 0 row
+      → tells (marks_from topic exits rows row 0 u.code) (part fill) p ≡ true
+      → Logged ir.functions fill f p
   marks_sound rows row p fill all one h =
       let first : 0 + p ≡ p = omega arith in
-      subst (λ q. Logged ir.functions fill f q) first (marks_sound_from u.code rows row 0 p fill (λ k. let e : k ≡ 0 + k = omega arith in ap (slice_get u.code) e) all (λ inside. one) h)
+      subst (λ q. Logged ir.functions fill f q) first
+      (marks_sound_from u.code rows row 0 p fill (λ k. let e : k ≡ 0 + k = omega arith in
+      ap (slice_get u.code) e) all (λ inside. one) h)
 
--- the mark at a place is that of the row that comes there
-pub record MarkAt (topic : Topic) (i : Instruction) (before : Option (List ℕ)) (mark : ℕ) : Type 0 where
+-- the mark at a place is that of the row that reaches it
+pub record MarkAt (topic : Topic) (i : Instruction) (before : Option (List ℕ)) (mark : ℕ) :
+    Type 0 where
   pub here : List ℕ
   pub is : before ≡ Some here
   pub marked : mark ≡ mark_word topic i here
 
-pub mark_at : (topic : Topic) (exits : List (List (List ℕ))) (rows : List (List ℕ)) (rest : List Instruction) (row : List ℕ) (p k : ℕ) (i : Instruction) → slice_get rest k ≡ Some i → MarkAt topic i (reach topic exits rows row p rest k) (word (marks_from topic exits rows row p rest) k)
+pub mark_at : (topic : Topic) (exits : List (List (List ℕ))) (rows : List (List ℕ))
+    (rest : List Instruction) (row : List ℕ) (p k : ℕ) (i : Instruction) → slice_get rest k ≡ Some i
+    → MarkAt topic i (row_reaching topic exits rows row p rest k)
+    (word (marks_from topic exits rows row p rest) k)
 mark_at topic exits rows [] row p k i is = absurd cc
 mark_at topic exits rows (j ∷ js) row p zero i is =
     let same : j ≡ i = cc in
-    record { here = pick (row_in rows p) row; is = refl; marked = ap (λ k. mark_word topic k (pick (row_in rows p) row)) same }
-mark_at topic exits rows (j ∷ js) row p (suc k) i is = mark_at topic exits rows js (next_row topic exits j (pick (row_in rows p) row)) (p + 1) k i is
+    record {
+      here = row_or (row_in rows p) row;
+      is = refl;
+      marked = ap (λ k. mark_word topic k (row_or (row_in rows p) row)) same;
+    }
+mark_at topic exits rows (j ∷ js) row p (suc k) i is =
+    mark_at topic exits rows js (next_row topic exits j (row_or (row_in rows p) row)) (p + 1) k i is
 
-pub length_marks : (topic : Topic) (exits : List (List (List ℕ))) (rows : List (List ℕ)) (rest : List Instruction) (row : List ℕ) (p : ℕ) → length (marks_from topic exits rows row p rest) ≡ length rest
+pub length_marks : (topic : Topic) (exits : List (List (List ℕ))) (rows : List (List ℕ))
+    (rest : List Instruction) (row : List ℕ) (p : ℕ)
+    → length (marks_from topic exits rows row p rest)
+    ≡ length rest
 length_marks topic exits rows [] row p = refl
-length_marks topic exits rows (i ∷ is) row p = ap suc (length_marks topic exits rows is (next_row topic exits i (pick (row_in rows p) row)) (p + 1))
+length_marks topic exits rows (i ∷ is) row p =
+    ap suc (length_marks topic exits rows is (next_row topic exits i (row_or (row_in rows p) row))
+    (p + 1))
 
--- the bit of a field among its topic's
+-- the bit of a field in its topic
 pub low : (y : ℕ) → (y - y % 64) + y % 64 ≡ y
 low y = omega arith
 
 pub low_few : (y : ℕ) → y % 64 < 64
 low_few y = omega arith
 
-module _ (ir : Ir) (well : IsWellFormed ir) (topic : Topic) (exits : List (List (List ℕ))) (sound : SoundExits ir.functions topic exits) (ended : CalledEnded ir.functions topic exits)
-    (entries : List (List ℕ)) (all : Entries ir.functions topic entries) (start : StartEntries ir.functions topic entries)
-    (tables : List (List (List ℕ))) (flow : AllFlow ir.functions topic exits entries tables) (f : ℕ) (u : IrFunction) (there : slice_get ir.functions f ≡ Some u) (reached : row_in entries f ≡ [] → ⊥) where
+module _ (ir : Ir) (well : IsWellFormed ir) (topic : Topic) (exits : List (List (List ℕ)))
+    (sound : SoundExits ir.functions topic exits) (ended : CalledEnded ir.functions topic exits)
+    (entries : List (List ℕ)) (all : Entries ir.functions topic entries)
+    (start : StartEntries ir.functions topic entries)
+    (tables : List (List (List ℕ))) (flow : AllFlow ir.functions topic exits entries tables) (f : ℕ)
+    (u : IrFunction) (there : slice_get ir.functions f ≡ Some u) (reached : row_in entries f ≡ []
+    → ⊥) where
   abbrev rows : List (List ℕ)
   rows = exits_of tables f
 
@@ -224,50 +328,89 @@ module _ (ir : Ir) (well : IsWellFormed ir) (topic : Topic) (exits : List (List 
   abbrev marks : List ℕ
   marks = marks_from topic exits rows entry 0 u.code
 
-  pub row_sound : (p : ℕ) (fill : Bool) → tells marks (part fill) p ≡ true → Logged ir.functions fill f p
+  pub row_sound : (p : ℕ) (fill : Bool) → tells marks (part fill) p ≡ true
+      → Logged ir.functions fill f p
   row_sound p fill h =
       let made = ((flow f (slice_get_within ir.functions f u there)).ends u there reached).made in
-      marks_sound ir well topic exits sound f u there rows entry p fill (λ x few. flow_good ir well topic exits sound f u there entries all.sound all.shaped x few made) (entry_is_good ir well topic exits sound f u there entries all.sound all.shaped) h
+      marks_sound ir well topic exits sound f u there rows entry p fill
+      (λ x few. flow_good ir well topic exits sound f u there entries all.sound all.shaped x few
+      made) (entry_is_good ir well topic exits sound f u there entries all.sound all.shaped) h
 
-  -- what is derived is told of the row that comes to a place
-  here_tells : (p x : ℕ) (i : Instruction) (b : Fact) → x < 64 → is_about (class_at topic x) b ≡ true → Fits (registers_at ir.functions f) b → (m : MarkAt topic i (reach topic exits rows entry 0 u.code p) (word marks p)) → Flows ir.functions f p b → tells m.here x (slot b) ≡ true
+  -- what is derived is recorded in the row that reaches a place
+  here_tells : (p x : ℕ) (i : Instruction) (b : Fact) → x < 64
+      → is_about (class_at topic x) b ≡ true → Fits (registers_at ir.functions f) b
+      → (m : MarkAt topic i (row_reaching topic exits rows entry 0 u.code p) (word marks p))
+      → Flows ir.functions f p b → tells m.here x (slot b) ≡ true
   here_tells p x i b few about fits m d =
-      subst (λ o. seen x (slot b) o ≡ true) m.is (told_there ir well topic exits sound ended entries all.sound all.shaped start tables flow x few u there d (about, fits))
+      subst (λ o. seen_in_row x (slot b) o ≡ true) m.is
+      (told_there ir well topic exits sound ended entries all.sound all.shaped start tables flow x
+      few u there d (about, fits))
 
-  pub root_marked : (p y : ℕ) (index : Option ℕ) (from line : ℕ) → topic ≡ Roots (y - y % 64) → slice_get u.code p ≡ Some (Store (Root y index) from line) → Flows ir.functions f p (RootUnwritten y) → Flows ir.functions f p (ReadRoot y) → tells marks 0 p ≡ true
+  pub root_marked : (p y : ℕ) (index : Option ℕ) (from line : ℕ) → topic ≡ Roots (y - y % 64)
+      → slice_get u.code p ≡ Some (Store (Root y index) from line)
+      → Flows ir.functions f p (RootUnwritten y) → Flows ir.functions f p (ReadRoot y)
+      → tells marks 0 p ≡ true
   root_marked p y index from line topic_is is bare before =
       let m = mark_at topic exits rows u.code entry 0 p (Store (Root y index) from line) is in
       let x = y % 64 in
-      let about : is_about (class_at topic x) (RootUnwritten y) ≡ true = ap (λ t. is_about (class_at t x) (RootUnwritten y)) topic_is ∙ eq-eqb y ((y - y % 64) + x) (sym (low y)) in
-      let about_read : is_about (class_at topic x) (ReadRoot y) ≡ true = ap (λ t. is_about (class_at t x) (ReadRoot y)) topic_is ∙ eq-eqb y ((y - y % 64) + x) (sym (low y)) in
+      let about : is_about (class_at topic x) (RootUnwritten y) ≡ true =
+      ap (λ t. is_about (class_at t x) (RootUnwritten y)) topic_is
+      ∙ eq-eqb y ((y - y % 64) + x) (sym (low y)) in
+      let about_read : is_about (class_at topic x) (ReadRoot y) ≡ true =
+      ap (λ t. is_about (class_at t x) (ReadRoot y)) topic_is
+      ∙ eq-eqb y ((y - y % 64) + x) (sym (low y)) in
       let one = here_tells p x _ (RootUnwritten y) (low_few y) about tt m bare in
       let other = here_tells p x _ (ReadRoot y) (low_few y) about_read tt m before in
-      let met = meets_in (word m.here 0) (word m.here 1) (y - y % 64) x y (low_few y) (low y) one other in
-      ap (has_bit 0) (m.marked ∙ ap (λ t. store_word t (Root y index) m.here) topic_is ∙ ap (λ b. when b 1) met) ∙ test_store
+      let met = meets_in (word m.here 0) (word m.here 1) (y - y % 64) x y (low_few y) (low y)
+      one other in
+      ap (has_bit 0) (m.marked ∙ ap (λ t. store_word t (Root y index) m.here) topic_is
+      ∙ ap (λ b. when b 1) met) ∙ test_store
 
-  pub field_marked : (p b k y : ℕ) (index : Option ℕ) (from line : ℕ) → topic ≡ Fields k (y - y % 64) → slice_get u.code p ≡ Some (Store (Field b k y index) from line) → b < u.registers → Flows ir.functions f p (Unwritten b k y) → Flows ir.functions f p (ReadField k y) → tells marks 0 p ≡ true
+  pub field_marked : (p b k y : ℕ) (index : Option ℕ) (from line : ℕ)
+      → topic ≡ Fields k (y - y % 64)
+      → slice_get u.code p ≡ Some (Store (Field b k y index) from line) → b < u.registers
+      → Flows ir.functions f p (Unwritten b k y) → Flows ir.functions f p (ReadField k y)
+      → tells marks 0 p ≡ true
   field_marked p b k y index from line topic_is is inside bare before =
       let m = mark_at topic exits rows u.code entry 0 p (Store (Field b k y index) from line) is in
       let x = y % 64 in
-      let both : ((k == k) && (y == (y - y % 64) + x)) ≡ true = and_from (k == k) (y == (y - y % 64) + x) (same_true k) (eq-eqb y ((y - y % 64) + x) (sym (low y))) in
-      let about : is_about (class_at topic x) (Unwritten b k y) ≡ true = ap (λ t. is_about (class_at t x) (Unwritten b k y)) topic_is ∙ both in
-      let about_read : is_about (class_at topic x) (ReadField k y) ≡ true = ap (λ t. is_about (class_at t x) (ReadField k y)) topic_is ∙ both in
-      let fits : b < registers_at ir.functions f = subst (λ n. b < n) (sym (registers_there ir well f u there)) inside in
+      let both : ((k == k) && (y == (y - y % 64) + x)) ≡ true =
+      and_from (k == k) (y == (y - y % 64) + x) (same_true k)
+      (eq-eqb y ((y - y % 64) + x) (sym (low y))) in
+      let about : is_about (class_at topic x) (Unwritten b k y) ≡ true =
+      ap (λ t. is_about (class_at t x) (Unwritten b k y)) topic_is ∙ both in
+      let about_read : is_about (class_at topic x) (ReadField k y) ≡ true =
+      ap (λ t. is_about (class_at t x) (ReadField k y)) topic_is ∙ both in
+      let fits : b < registers_at ir.functions f =
+      subst (λ n. b < n) (sym (registers_there ir well f u there)) inside in
       let one = here_tells p x _ (Unwritten b k y) (low_few y) about fits m bare in
       let other = here_tells p x _ (ReadField k y) (low_few y) about_read tt m before in
-      let met = meets_in (word m.here (b + 2)) (word m.here 1) (y - y % 64) x y (low_few y) (low y) one other in
-      ap (has_bit 0) (m.marked ∙ ap (λ t. store_word t (Field b k y index) m.here) topic_is ∙ ap (λ c. if c then when (meets (word m.here (b + 2)) (word m.here 1) (mask (y - y % 64) y)) 1 else 0) (same_true k) ∙ ap (λ b. when b 1) met) ∙ test_store
+      let met = meets_in (word m.here (b + 2)) (word m.here 1) (y - y % 64) x y (low_few y) (low y)
+      one other in
+      ap (has_bit 0) (m.marked ∙ ap (λ t. store_word t (Field b k y index) m.here) topic_is
+      ∙ ap (λ c. if c then when (meets (word m.here (b + 2)) (word m.here 1)
+      (mask (y - y % 64) y)) 1 else 0) (same_true k) ∙ ap (λ b. when b 1) met) ∙ test_store
 
-  pub fill_marked : (p to kind : ℕ) (log_fill : Bool) (line : ℕ) → topic ≡ Frees → slice_get u.code p ≡ Some (New to kind log_fill line) → Flows ir.functions f p Freed → tells marks 1 p ≡ true
+  pub fill_marked : (p to kind : ℕ) (log_fill : Bool) (line : ℕ) → topic ≡ Frees
+      → slice_get u.code p ≡ Some (New to kind log_fill line) → Flows ir.functions f p Freed
+      → tells marks 1 p ≡ true
   fill_marked p to kind log_fill line topic_is is before =
       let m = mark_at topic exits rows u.code entry 0 p (New to kind log_fill line) is in
-      let about : is_about (class_at topic 0) Freed ≡ true = ap (λ t. is_about (class_at t 0) Freed) topic_is in
+      let about : is_about (class_at topic 0) Freed ≡ true =
+      ap (λ t. is_about (class_at t 0) Freed) topic_is in
       let one = here_tells p 0 _ Freed (omega arith) about tt m before in
-      ap (has_bit 1) (m.marked ∙ ap (λ t. fill_word t m.here) topic_is ∙ ap (λ b. when b 2) (first_in (word m.here 1) one)) ∙ test_fill
+      ap (has_bit 1) (m.marked ∙ ap (λ t. fill_word t m.here) topic_is
+      ∙ ap (λ b. when b 2) (first_in (word m.here 1) one)) ∙ test_fill
 
-  pub store_marked : (p : ℕ) (target : Target) (from line : ℕ) → topic_of target ≡ topic → slice_get u.code p ≡ Some (Store target from line) → Flows ir.functions f p (unwritten target) → Flows ir.functions f p (read target) → tells marks 0 p ≡ true
-  store_marked p (Root y index) from line topic_is is bare before = root_marked p y index from line (sym topic_is) is bare before
+  pub store_marked : (p : ℕ) (target : Target) (from line : ℕ) → topic_of target ≡ topic
+      → slice_get u.code p ≡ Some (Store target from line)
+      → Flows ir.functions f p (unwritten target)
+      → Flows ir.functions f p (read_fact target) → tells marks 0 p ≡ true
+  store_marked p (Root y index) from line topic_is is bare before =
+      root_marked p y index from line (sym topic_is) is bare before
   store_marked p (Field b k y index) from line topic_is is bare before =
       let whole : IsFunction ir u = all_at (IsFunction ir) ir.functions f u well.1 there in
-      let ok : IsInstruction ir u.registers (length u.code) (Store (Field b k y index) from line) = all_at (IsInstruction ir u.registers (length u.code)) u.code p (Store (Field b k y index) from line) whole.3 is in
+      let ok : IsInstruction ir u.registers (length u.code) (Store (Field b k y index) from line) =
+      all_at (IsInstruction ir u.registers (length u.code)) u.code p
+      (Store (Field b k y index) from line) whole.3 is in
       field_marked p b k y index from line (sym topic_is) is ok.1.0 bare before

@@ -3,35 +3,42 @@ use Rattle.std.proofs.Common.{◌≡◌, ◌<◌, ◌≤◌, ◌+◌, ◌-◌, �
 use Rattle.std.specs.Prelude.{bit_or, slice_index_or}
 use Rattle.std.proofs.lemmas.List.{get_or-map, map-set}
 use Rattle.clobber_pass.specs.Row.{word}
-use Rattle.clobber_pass.specs.Sweep.{row_in, or_from}
-use Rattle.clobber_pass.specs.Room.{words_room, row_room, room, all_room}
+use Rattle.clobber_pass.specs.Sweep.{row_in}
+use Rattle.clobber_pass.specs.inside.Sweep.{or_from}
+use Rattle.clobber_pass.specs.inside.Room.{words_room, row_room, room, all_room}
 
--- a word that rises
-pub words_room_less : (row : List ℕ) (s w : ℕ) → s < length row → word row s < w → word row s < 2 ^ 64 → words_room (slice_set row s w) < words_room row
+-- a word that grows
+pub words_room_less : (row : List ℕ) (s w : ℕ) → s < length row → word row s < w
+    → word row s < 2 ^ 64 → words_room (slice_set row s w) < words_room row
 words_room_less [] s w inside more fits = absurd (omega arith)
 words_room_less (v ∷ row) zero w inside more fits = omega arith
 words_room_less (v ∷ row) (suc s) w inside more fits =
-    let less : words_room (slice_set row s w) < words_room row = words_room_less row s w (omega arith) more fits in
+    let less : words_room (slice_set row s w) < words_room row =
+    words_room_less row s w (omega arith) more fits in
     omega arith
 
--- a row where the word that stood there is written again
+-- writing the word that is already there
 pub set_again : (row : List ℕ) (s w : ℕ) → w ≡ word row s → slice_set row s w ≡ row
 set_again [] s w is = refl
 set_again (v ∷ row) zero w is = ap (λ x. x ∷ row) is
 set_again (v ∷ row) (suc s) w is = ap (λ rest. v ∷ rest) (set_again row s w is)
 
-pub words_room_most : (row : List ℕ) (s w : ℕ) → s < length row → word row s < w → words_room (slice_set row s w) ≤ words_room row
+pub words_room_most : (row : List ℕ) (s w : ℕ) → s < length row → word row s < w
+    → words_room (slice_set row s w) ≤ words_room row
 words_room_most [] s w inside more = absurd (omega arith)
 words_room_most (v ∷ row) zero w inside more = omega arith
 words_room_most (v ∷ row) (suc s) w inside more =
-    let less : words_room (slice_set row s w) ≤ words_room row = words_room_most row s w (omega arith) more in
+    let less : words_room (slice_set row s w) ≤ words_room row =
+    words_room_most row s w (omega arith) more in
     omega arith
 
 pub ruleset raising = (words_room_less, words_room_most, set_again)
 
--- one word more of a row is joined
+-- one more word of a row is joined
 pub or_step : (more row : List ℕ) (k s : ℕ) → s < length row
-    → take (s + 1) (slice_set row s (bit_or (word row s) (word more (k + s)))) ++ or_from more (k + s + 1) (drop (s + 1) (slice_set row s (bit_or (word row s) (word more (k + s)))))
+    → take (s + 1) (slice_set row s (bit_or (word row s) (word more (k + s))))
+    ++ or_from more (k + s + 1) (drop (s + 1)
+    (slice_set row s (bit_or (word row s) (word more (k + s)))))
     ≡ take s row ++ or_from more (k + s) (drop s row)
 or_step more [] k s inside = absurd (omega arith)
 or_step more (v ∷ row) k zero inside = refl
@@ -40,27 +47,31 @@ or_step more (v ∷ row) k (suc s) inside =
     let e : k + suc s ≡ (k + 1) + s = omega arith in
     rw (next, e) (ap (λ rest. v ∷ rest) (or_step more row (k + 1) s (omega arith)))
 
--- a row of a table that leaves less
-pub room_less : (rows : List (List ℕ)) (p : ℕ) (row : List ℕ) → p < length rows → row_room row < row_room (row_in rows p) → room (slice_set rows p row) < room rows
+-- a row of a table that leaves less room
+pub room_less : (rows : List (List ℕ)) (p : ℕ) (row : List ℕ) → p < length rows
+    → row_room row < row_room (row_in rows p) → room (slice_set rows p row) < room rows
 room_less [] p row inside less = absurd (omega arith)
 room_less (r ∷ rows) zero row inside less = omega arith
 room_less (r ∷ rows) (suc p) row inside less =
     let rest : room (slice_set rows p row) < room rows = room_less rows p row (omega arith) less in
     omega arith
 
-pub room_most : (rows : List (List ℕ)) (p : ℕ) (row : List ℕ) → row_room row ≤ row_room (row_in rows p) → room (slice_set rows p row) ≤ room rows
+pub room_most : (rows : List (List ℕ)) (p : ℕ) (row : List ℕ)
+    → row_room row ≤ row_room (row_in rows p) → room (slice_set rows p row) ≤ room rows
 room_most [] p row less = omega arith
 room_most (r ∷ rows) zero row less = omega arith
 room_most (r ∷ rows) (suc p) row less =
     let rest : room (slice_set rows p row) ≤ room rows = room_most rows p row less in
     omega arith
 
--- joined words are those of a row where there was one
-pub or_room_less : (more row : List ℕ) → words_room (or_from more 0 row) < words_room row → row_room (or_from more 0 row) < row_room row
+-- joining words to a row that isn't empty
+pub or_room_less : (more row : List ℕ) → words_room (or_from more 0 row) < words_room row
+    → row_room (or_from more 0 row) < row_room row
 or_room_less more [] less = absurd (omega arith)
 or_room_less more (w ∷ ws) less = less
 
-pub or_room_most : (more row : List ℕ) → words_room (or_from more 0 row) ≤ words_room row → row_room (or_from more 0 row) ≤ row_room row
+pub or_room_most : (more row : List ℕ) → words_room (or_from more 0 row) ≤ words_room row
+    → row_room (or_from more 0 row) ≤ row_room row
 or_room_most more [] less = omega arith
 or_room_most more (w ∷ ws) less = less
 
@@ -68,57 +79,77 @@ words_few : (row : List ℕ) → words_room row ≤ length row * 2 ^ 64
 words_few [] = omega arith
 words_few (w ∷ ws) = let rest : words_room ws ≤ length ws * 2 ^ 64 = words_few ws in omega arith
 
--- any row leaves less than an empty one
+-- any row leaves less room than an empty one
 pub filled_less : (row : List ℕ) → 0 < length row → length row < 2 ^ 64 → row_room row < row_room []
 filled_less [] some few = absurd (omega arith)
-filled_less (w ∷ ws) some few = let all : words_room (w ∷ ws) ≤ length (w ∷ ws) * 2 ^ 64 = words_few (w ∷ ws) in omega arith
+filled_less (w ∷ ws) some few = let all : words_room (w ∷ ws) ≤ length (w ∷ ws) * 2 ^ 64 =
+    words_few (w ∷ ws) in omega arith
 
-row_again : (rows : List (List ℕ)) (p : ℕ) (row : List ℕ) → row ≡ row_in rows p → slice_set rows p row ≡ rows
+row_again : (rows : List (List ℕ)) (p : ℕ) (row : List ℕ) → row ≡ row_in rows p
+    → slice_set rows p row ≡ rows
 row_again [] p row is = refl
 row_again (r ∷ rows) zero row is = ap (λ x. x ∷ rows) is
 row_again (r ∷ rows) (suc p) row is = ap (λ rest. r ∷ rest) (row_again rows p row is)
 
 -- the tables of all functions
-pub all_room_less : (tables : List (List (List ℕ))) (g : ℕ) (rows : List (List ℕ)) (old : List (List ℕ)) → g < length tables → old ≡ slice_index_or tables g [] → room rows < room old → all_room (slice_set tables g rows) < all_room tables
+pub all_room_less : (tables : List (List (List ℕ))) (g : ℕ) (rows : List (List ℕ))
+    (old : List (List ℕ)) → g < length tables → old ≡ slice_index_or tables g []
+    → room rows < room old → all_room (slice_set tables g rows) < all_room tables
 all_room_less [] g rows old inside is less = absurd (omega arith)
-all_room_less (t ∷ tables) zero rows old inside is less = let e : room old ≡ room t = ap room is in omega arith
+all_room_less (t ∷ tables) zero rows old inside is less = let e : room old ≡ room t = ap room is in
+    omega arith
 all_room_less (t ∷ tables) (suc g) rows old inside is less =
-    let rest : all_room (slice_set tables g rows) < all_room tables = all_room_less tables g rows old (omega arith) is less in
+    let rest : all_room (slice_set tables g rows) < all_room tables =
+    all_room_less tables g rows old (omega arith) is less in
     omega arith
 
-pub all_room_most : (tables : List (List (List ℕ))) (g : ℕ) (rows : List (List ℕ)) (old : List (List ℕ)) → old ≡ slice_index_or tables g [] → room rows ≤ room old → all_room (slice_set tables g rows) ≤ all_room tables
+pub all_room_most : (tables : List (List (List ℕ))) (g : ℕ) (rows : List (List ℕ))
+    (old : List (List ℕ)) → old ≡ slice_index_or tables g [] → room rows ≤ room old
+    → all_room (slice_set tables g rows) ≤ all_room tables
 all_room_most [] g rows old is less = omega arith
-all_room_most (t ∷ tables) zero rows old is less = let e : room old ≡ room t = ap room is in omega arith
+all_room_most (t ∷ tables) zero rows old is less = let e : room old ≡ room t = ap room is in
+    omega arith
 all_room_most (t ∷ tables) (suc g) rows old is less =
-    let rest : all_room (slice_set tables g rows) ≤ all_room tables = all_room_most tables g rows old is less in
+    let rest : all_room (slice_set tables g rows) ≤ all_room tables =
+    all_room_most tables g rows old is less in
     omega arith
 
--- the table where a row was written
-pub written : (rows : List (Vec ℕ Global)) (table : List (List ℕ)) → map (λ (v : Vec ℕ Global). v.items) rows ≡ table → (p : ℕ) (new : Vec ℕ Global)
+-- the table after a row was written
+pub written : (rows : List (Vec ℕ Global)) (table : List (List ℕ))
+    → map (λ (v : Vec ℕ Global). v.items) rows ≡ table → (p : ℕ) (new : Vec ℕ Global)
     → map (λ (v : Vec ℕ Global). v.items) (slice_set rows p new) ≡ slice_set table p new.items
 written rows table view p new =
-    map-set (λ (v : Vec ℕ Global). v.items) rows p new ∙ ap (λ (t : List (List ℕ)). slice_set t p new.items) view
+    map-set (λ (v : Vec ℕ Global). v.items) rows p new
+    ∙ ap (λ (t : List (List ℕ)). slice_set t p new.items) view
 
 size : (vs : List (Vec ℕ Global)) → length (map (λ (v : Vec ℕ Global). v.items) vs) ≡ length vs
 size [] = refl
 size (v ∷ vs) = ap suc (size vs)
 
--- the row of a place that has none is written
-pub filled_room : (rows : List (Vec ℕ Global)) (table : List (List ℕ)) → map (λ (v : Vec ℕ Global). v.items) rows ≡ table → (p : ℕ) (row : List ℕ)
-    → p < length rows → row_in table p ≡ [] → 0 < length row → length row < 2 ^ 64 → room (slice_set table p row) < room table
+-- writing the row of a place that has none
+pub filled_room : (rows : List (Vec ℕ Global)) (table : List (List ℕ))
+    → map (λ (v : Vec ℕ Global). v.items) rows ≡ table → (p : ℕ) (row : List ℕ)
+    → p < length rows → row_in table p ≡ [] → 0 < length row → length row < 2 ^ 64
+    → room (slice_set table p row) < room table
 filled_room rows table view p row inside none some few =
-    let inside_table : p < length table = subst (λ (t : List (List ℕ)). p < length t) view (subst (λ n. p < n) (sym (size rows)) inside) in
-    room_less table p row inside_table (subst (λ r. row_room row < row_room r) (sym none) (filled_less row some few))
+    let inside_table : p < length table =
+    subst (λ (t : List (List ℕ)). p < length t) view
+    (subst (λ n. p < n) (sym (size rows)) inside) in
+    room_less table p row inside_table
+    (subst (λ r. row_room row < row_room r) (sym none) (filled_less row some few))
 
--- a row of a table that was joined in place, as the code finds it
-module _ (rows : List (Vec ℕ Global)) (table : List (List ℕ)) (view : map (λ (v : Vec ℕ Global). v.items) rows ≡ table) (p : ℕ) (inside : p < length rows)
-    (was : Vec ℕ Global) (was_is : was ≡ get_or rows p was) (more row : List ℕ) (joined : row ≡ or_from more 0 was.items) where
+-- a row of a table that was joined in place, as the code has it
+module _ (rows : List (Vec ℕ Global)) (table : List (List ℕ))
+    (view : map (λ (v : Vec ℕ Global). v.items) rows ≡ table) (p : ℕ) (inside : p < length rows)
+    (was : Vec ℕ Global) (was_is : was ≡ get_or rows p was) (more row : List ℕ)
+    (joined : row ≡ or_from more 0 was.items) where
   inside_table : p < length table
   inside_table = subst (λ t. p < length t) view (subst (λ n. p < n) (sym (size rows)) inside)
 
   stands : was.items ≡ row_in table p
   stands =
-      ap (λ (v : Vec ℕ Global). v.items) was_is ∙ sym (get_or-map (λ (v : Vec ℕ Global). v.items) rows p was [] inside)
+      ap (λ (v : Vec ℕ Global). v.items) was_is
+      ∙ sym (get_or-map (λ (v : Vec ℕ Global). v.items) rows p was [] inside)
       ∙ ap (λ t. row_in t p) view
 
   pub joined_row : row ≡ or_from more 0 (row_in table p)
@@ -127,16 +158,23 @@ module _ (rows : List (Vec ℕ Global)) (table : List (List ℕ)) (view : map (�
   pub joined_same : row ≡ was.items → slice_set table p row ≡ table
   joined_same same = row_again table p row (same ∙ stands)
 
-  pub joined_less : words_room row < words_room was.items → room (slice_set table p row) < room table
+  pub joined_less : words_room row < words_room was.items
+      → room (slice_set table p row) < room table
   joined_less less =
       let rises : words_room (or_from more 0 (row_in table p)) < words_room (row_in table p) =
-      subst (λ r. words_room r < words_room (row_in table p)) joined_row (subst (λ r. words_room row < words_room r) stands less) in
-      room_less table p row inside_table (subst (λ r. row_room r < row_room (row_in table p)) (sym joined_row) (or_room_less more (row_in table p) rises))
+      subst (λ r. words_room r < words_room (row_in table p)) joined_row
+      (subst (λ r. words_room row < words_room r) stands less) in
+      room_less table p row inside_table
+      (subst (λ r. row_room r < row_room (row_in table p)) (sym joined_row)
+      (or_room_less more (row_in table p) rises))
 
-  pub joined_most : words_room row ≤ words_room was.items → room (slice_set table p row) ≤ room table
+  pub joined_most : words_room row ≤ words_room was.items
+      → room (slice_set table p row) ≤ room table
   joined_most most =
       let rises : words_room (or_from more 0 (row_in table p)) ≤ words_room (row_in table p) =
-      subst (λ r. words_room r ≤ words_room (row_in table p)) joined_row (subst (λ r. words_room row ≤ words_room r) stands most) in
-      room_most table p row (subst (λ r. row_room r ≤ row_room (row_in table p)) (sym joined_row) (or_room_most more (row_in table p) rises))
+      subst (λ r. words_room r ≤ words_room (row_in table p)) joined_row
+      (subst (λ r. words_room row ≤ words_room r) stands most) in
+      room_most table p row (subst (λ r. row_room r ≤ row_room (row_in table p)) (sym joined_row)
+      (or_room_most more (row_in table p) rises))
 
 pub ruleset all_rooms = (all_room_less, all_room_most)

@@ -1,5 +1,6 @@
--- What a table of marks says of a site. The mark of a place is a word: bit 0 for its store, or the store of
--- its header, bit 1 for the fill of its new object. A site that isn't there isn't logged.
+-- What a table of marks says of a site. The mark of a place is a word: bit 0 for its store, or the
+-- store of its header, bit 1 for the fill of its new object. A site that doesn't exist isn't
+-- logged.
 use Rattle.std.specs.Prelude.{◌≡◌, ◌↔◌, Bool, true, List}
 use Rattle.ir.specs.declared.function.IrFunction.{IrFunction}
 use Rattle.ir.specs.declared.site.Site.{Site}

@@ -1,73 +1,14 @@
--- A row, and what an instruction that is no call makes of it.
-use Rattle.std.specs.Prelude.{◌==◌, ◌+◌, ◌-◌, ◌^◌, ℕ, Bool, List, Some, None, slice_index_or, slice_set, bit_and, bit_or, bit_xor, nat_lt, if◌then◌else◌}
+-- A row, and the effect on it of an instruction that is no call.
+use Rattle.std.specs.Prelude.{◌==◌, ◌+◌, ◌-◌, ◌^◌, ℕ, Bool, List, slice_index_or, if◌then◌else◌}
 use Rattle.std.specs.Int.{bit_at}
-use Rattle.ir.specs.declared.instruction.Target.{Target}
-use Rattle.ir.specs.declared.instruction.Target.TheVariants.{Root, Field}
-use Rattle.ir.specs.declared.instruction.Instruction.{Instruction}
-use Rattle.ir.specs.declared.instruction.Instruction.TheVariants.{Const, Copy, Bin, Jump, Branch, Load, Store, New, Free, Call, Return, Tick, Trap, Log}
-use Rattle.clobber_pass.specs.declared.topic.Topic.{Topic}
-use Rattle.clobber_pass.specs.declared.topic.Topic.TheVariants.{Frees, Root as Roots, Field as Fields}
 
 abbrev pub word : List ℕ → ℕ → ℕ
 word row s = slice_index_or row s 0
 
--- the bit of a field, counted from a topic's first one
-unfoldable pub mask : ℕ → ℕ → ℕ
-mask first field = if nat_lt field first then 0 else (if nat_lt (field - first) 64 then 2 ^ (field - first) else 0)
-
-unfoldable pub without : ℕ → ℕ → ℕ
-without w bits = bit_xor w (bit_and w bits)
-
--- one bit of a word
+-- whether a bit of a word is set
 unfoldable pub has_bit : ℕ → ℕ → Bool
 has_bit x w = bit_at w x == 1
 
--- whether a row tells of a slot in a class, by the class's bit
+-- whether a row records the slot's fact, for the class of a bit
 abbrev pub tells : List ℕ → ℕ → ℕ → Bool
 tells row x s = has_bit x (word row s)
-
--- a load adds its field where it isn't surely written
-abbrev pub with_read : Topic → Target → List ℕ → List ℕ
-with_read (Roots first) (Root y i) row = slice_set row 1 (bit_or (word row 1) (bit_and (word row 0) (mask first y)))
-with_read (Roots first) (Field b t y i) row = row
-with_read (Fields kind first) (Field b t y i) row = if kind == t then slice_set row 1 (bit_or (word row 1) (bit_and (word row (b + 2)) (mask first y))) else row
-with_read (Fields kind first) (Root y i) row = row
-with_read Frees target row = row
-
--- a store to a field that isn't an array makes it surely written
-abbrev pub with_write : Topic → Target → List ℕ → List ℕ
-with_write (Roots first) (Root y None) row = slice_set row 0 (without (word row 0) (mask first y))
-with_write (Roots first) (Root y (Some i)) row = row
-with_write (Roots first) (Field b t y i) row = row
-with_write (Fields kind first) (Field b t y None) row = if kind == t then slice_set row (b + 2) (without (word row (b + 2)) (mask first y)) else row
-with_write (Fields kind first) (Field b t y (Some i)) row = row
-with_write (Fields kind first) (Root y i) row = row
-with_write Frees target row = row
-
-abbrev pub with_free : Topic → List ℕ → List ℕ
-with_free Frees row = slice_set row 1 (word row 0)
-with_free (Roots first) row = row
-with_free (Fields kind first) row = row
-
--- a register that holds what no register held
-abbrev pub given : List ℕ → ℕ → ℕ → List ℕ
-given row r w = slice_set row (r + 2) w
-
-abbrev pub begun : ℕ → List ℕ → List ℕ
-begun to row = slice_set row (to + 2) (word row 0)
-
-abbrev pub after_row : Topic → Instruction → List ℕ → List ℕ
-after_row topic (Const to v) row = begun to row
-after_row topic (Copy to from) row = slice_set row (to + 2) (word row (from + 2))
-after_row topic (Bin op to left right) row = begun to row
-after_row topic (Load to target) row = begun to (with_read topic target row)
-after_row topic (Store target from line) row = with_write topic target row
-after_row topic (New to kind log_fill line) row = slice_set row (to + 2) 0
-after_row topic (Free from kind line) row = with_free topic row
-after_row topic (Jump place) row = row
-after_row topic (Branch on place) row = row
-after_row topic (Call to g args) row = row
-after_row topic (Return from) row = row
-after_row topic Tick row = row
-after_row topic (Trap kind) row = row
-after_row topic (Log target) row = row

@@ -1,12 +1,12 @@
-//! Which function calls which.
+//! The call graph.
 
 ghost use Rattle.std.specs.Prelude.{◌≡◌, ◌++◌, ◌∷◌, [], ◌==◌, ◌<◌, true, false, length, replicate, slice_set, if◌then◌else◌, IfOk, OnOk};
-ghost use Rattle.clobber_pass.specs.Calling.{all_called, edges_at, edges_from, edges_in, woken};
+ghost use Rattle.clobber_pass.specs.inside.Calling.{all_called, edges_at, edges_from, edges_in, woken};
 
 use crate::waiting::wake;
 use ir::{Instruction, IrFunction};
+use nvm_base::List;
 use std::alloc::{AllocError, Global};
-use std::marker::Model;
 
 /// One function calls another. Both are numbers of functions.
 #[derive(Clone, Copy, Debug, PartialEq, Eq)]
@@ -15,66 +15,30 @@ pub struct Edge {
     pub called: usize,
 }
 
-/// The calls of a program, seen as a list.
-#[derive(Drop)]
-pub struct Edges {
-    all: Vec<Edge>,
+/// The calls of a program.
+pub type Edges = List<Edge>;
+
+/// Adds the call of an instruction, if it is one.
+fn add_call(edges: &mut Edges, caller: usize, instruction: &Instruction) -> Result<(), AllocError>
+    ensures { OnOk result (edges.new ≡ edges.old ++ edges_at caller instruction.now) }
+{
+    match instruction {
+        Instruction::Call { function, .. } => edges.push(Edge {
+            caller,
+            called: *function as usize,
+        }),
+        _ => Ok(()),
+    }
 }
 
-impl Model for Edges {
-    ghost use Rattle.std.specs.Prelude.{List};
-    ghost use Rattle.clobber_pass.specs.declared.calling.Edge.{Edge};
-
-    ghost Value = { List Edge };
-
-    ghost view = { λ e. e.all.items };
-}
-
-impl Edges {
-    /// No calls. It takes no memory.
-    fn new(alloc: Global) -> Self
-        ensures { result ≡ [] }
-    {
-        Edges {
-            all: Vec::new(alloc),
-        }
+/// Adds the calls of a code.
+fn add_code(edges: &mut Edges, caller: usize, code: &[Instruction]) -> Result<(), AllocError>
+    ensures { OnOk result (edges.new ≡ edges.old ++ edges_in caller code.now) }
+{
+    for instruction in code {
+        add_call(edges, caller, instruction)?;
     }
-
-    pub fn as_slice(&self) -> &[Edge]
-        ensures { result.now ≡ self.now }
-    {
-        &self.all
-    }
-
-    fn push(&mut self, edge: Edge) -> Result<(), AllocError>
-        ensures { OnOk result (self.new ≡ self.old ++ edge ∷ []) }
-    {
-        self.all.push(edge)?;
-        Ok(())
-    }
-
-    /// Adds the call of an instruction, where it is one.
-    fn add(&mut self, caller: usize, instruction: &Instruction) -> Result<(), AllocError>
-        ensures { OnOk result (self.new ≡ self.old ++ edges_at caller instruction.now) }
-    {
-        match instruction {
-            Instruction::Call { function, .. } => self.push(Edge {
-                caller,
-                called: *function as usize,
-            }),
-            _ => Ok(()),
-        }
-    }
-
-    /// Adds the calls of a code.
-    fn add_code(&mut self, caller: usize, code: &[Instruction]) -> Result<(), AllocError>
-        ensures { OnOk result (self.new ≡ self.old ++ edges_in caller code.now) }
-    {
-        for instruction in code {
-            self.add(caller, instruction)?;
-        }
-        Ok(())
-    }
+    Ok(())
 }
 
 /// The calls of all functions.
@@ -83,12 +47,12 @@ pub fn call_edges(alloc: Global, functions: &[IrFunction]) -> Result<Edges, Allo
 {
     let mut edges = Edges::new(alloc);
     for (caller, body) in functions.iter().enumerate() {
-        edges.add_code(caller, body.code.as_slice())?;
+        add_code(&mut edges, caller, body.code.as_slice())?;
     }
     Ok(edges)
 }
 
-/// Each caller of a function waits from now on.
+/// Makes each caller of a function wait.
 pub fn wake_callers(edges: &[Edge], called: usize, waiting: &mut [bool])
     ensures { waiting.new ≡ woken edges.now called waiting.old }
 {
@@ -98,16 +62,18 @@ pub fn wake_callers(edges: &[Edge], called: usize, waiting: &mut [bool])
 }
 
 fn wake_caller(edge: &Edge, called: usize, waiting: &mut [bool])
-    ensures { waiting.new ≡ (if edge.now.called == called then slice_set waiting.old edge.now.caller true else waiting.old) }
+    ensures { waiting.new ≡ (if edge.now.called == called
+        then slice_set waiting.old edge.now.caller true else waiting.old) }
 {
     if edge.called == called {
         wake(waiting, edge.caller);
     }
 }
 
-/// Each called function waits, of so many.
+/// The waiting list, of so many functions, in which each called function waits.
 pub fn called_wait(alloc: Global, edges: &[Edge], count: usize) -> Result<Vec<bool>, AllocError>
-    ensures { IfOk result (λ waiting. waiting.items ≡ all_called edges.now (replicate count false)) }
+    ensures { IfOk result (λ waiting.
+        waiting.items ≡ all_called edges.now (replicate count false)) }
 {
     let mut waiting = vec![in alloc; false; count]?;
     for edge in edges {

@@ -1,15 +1,15 @@
 //! The rows at a function's entry.
 
 ghost use Rattle.std.specs.Prelude.{◌≡◌, ◌<◌, ◌^◌, IfOk};
-ghost use Rattle.clobber_pass.specs.Told as told;
-ghost use Rattle.clobber_pass.specs.Closed.{entry_row, entry_word};
+ghost use Rattle.clobber_pass.specs.inside.Told as told;
+ghost use Rattle.clobber_pass.specs.inside.Closed.{entry_row, entry_word};
 
 use crate::topic::Topic;
 use std::alloc::{AllocError, Global};
 
-/// How many words a row has.
+/// The number of words of a row.
 pub fn width(topic: Topic, registers: u32) -> usize
-    ensures { result ≡ told.width topic registers }
+    ensures { result ≡ told.row_width topic registers }
 {
     match topic {
         Topic::Frees | Topic::Root { .. } => 2,
@@ -18,7 +18,7 @@ pub fn width(topic: Topic, registers: u32) -> usize
 }
 
 /// The column of a slot at the entry of a function with so many parameters. A register that is no
-/// parameter gives what a walk gives.
+/// parameter has the column of the walk itself.
 fn column_of(parameters: u32, slot: usize) -> usize
     ensures { result ≡ told.column_of parameters slot }
 {

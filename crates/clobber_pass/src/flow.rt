@@ -1,14 +1,15 @@
-//! What all walks from transactions bring to each function's entry, and to each place.
+//! What walks from transactions bring to each function's entry, and to each place.
 
 ghost use Rattle.std.specs.Prelude.{◌≡◌, ◌<◌, ◌≤◌, ◌+◌, ◌^◌, ℕ, List, length, true, false, Some, slice_get, slice_set, Ok, IfOk, OnOk};
 ghost use Rattle.ir.specs.declared.function.IrFunction.{IrFunction};
 ghost use Rattle.ir.specs.WellFormed.{IsWellFormed};
-ghost use Rattle.clobber_pass.specs.Told.{registers_at};
+ghost use Rattle.clobber_pass.specs.inside.Told.{registers_at};
 ghost use Rattle.clobber_pass.specs.Sweep as sweeps;
-ghost use Rattle.clobber_pass.specs.Room.{room};
-ghost use Rattle.clobber_pass.specs.Sound.{SoundExits};
-ghost use Rattle.clobber_pass.specs.Flow as flows;
-ghost use Rattle.clobber_pass.specs.Flow.{AllFlow, Entries, FlowEnded, Flowing, Wakes, waits, ShapedEntries, SoundEntries, StartEntries, StartsAt};
+ghost use Rattle.clobber_pass.specs.inside.Sweep as inside_sweeps;
+ghost use Rattle.clobber_pass.specs.inside.Room.{room};
+ghost use Rattle.clobber_pass.specs.inside.Sound.{SoundExits};
+ghost use Rattle.clobber_pass.specs.inside.Flow as flows;
+ghost use Rattle.clobber_pass.specs.inside.Flow.{AllFlow, Entries, FlowEnded, Flowing, Wakes, waits, ShapedEntries, SoundEntries, StartEntries, StartsAt};
 
 use crate::entry::{entry_row, width};
 use crate::row::word;
@@ -20,7 +21,7 @@ use crate::waiting::{waiting_at, wake};
 use ir::{Instruction, Ir, IrFunction};
 use std::alloc::{AllocError, Global};
 
-/// How many registers a function has.
+/// The number of registers of a function.
 fn registers_at(functions: &[IrFunction], function: usize) -> u32
     ensures { result ≡ registers_at functions.now function }
 {
@@ -30,7 +31,8 @@ fn registers_at(functions: &[IrFunction], function: usize) -> u32
     }
 }
 
-/// A parameter has what its argument has, another register what a walk gives.
+/// The word of a parameter, which is that of its argument; any other register has that of the walk
+/// itself.
 fn argument_word(row: &[u64], argument: Option<u32>) -> u64
     ensures { result ≡ flows.argument_word row.now argument }
 {
@@ -68,8 +70,8 @@ fn enter_row(
     Ok(new)
 }
 
-/// Brings a row to a function's entry. Where that is new the function waits. The answer says whether it
-/// was.
+/// Joins a row to a function's entry. If the entry grew, the function waits. Returns whether it
+/// grew.
 #[tactic(auto, using(crate::proofs::Waking::waking))]
 fn bring(
     alloc: Global,
@@ -78,7 +80,8 @@ fn bring(
     entries: &mut Rows,
     waiting: &mut [bool],
 ) -> Result<bool, AllocError>
-    ensures entries { IfOk result (λ _. entries.new ≡ sweeps.join_in entries.old function row.now) }
+    ensures entries { IfOk result (λ _. entries.new ≡ inside_sweeps.join_in entries.old function
+        row.now) }
     ensures same { result ≡ Ok false → (entries.new ≡ entries.old) × (waiting.new ≡ waiting.old) }
     ensures wakes { IfOk result (λ _. Wakes waiting.old waiting.new entries.old entries.new) }
     ensures grew { result ≡ Ok true → room entries.new < room entries.old }
@@ -91,7 +94,7 @@ fn bring(
     Ok(false)
 }
 
-/// Brings the row at a call to the called function's entry.
+/// Joins the row at a call to the called function's entry.
 #[tactic(auto, using(crate::proofs::Waking::waking))]
 fn enter(
     alloc: Global,
@@ -102,7 +105,8 @@ fn enter(
     entries: &mut Rows,
     waiting: &mut [bool],
 ) -> Result<bool, AllocError>
-    ensures entries { IfOk result (λ _. entries.new ≡ flows.called ir.now.functions topic entries.old instruction.now row.now) }
+    ensures entries { IfOk result (λ _. entries.new ≡ flows.entries_after_call ir.now.functions
+        topic entries.old instruction.now row.now) }
     ensures same { result ≡ Ok false → (entries.new ≡ entries.old) × (waiting.new ≡ waiting.old) }
     ensures wakes { IfOk result (λ _. Wakes waiting.old waiting.new entries.old entries.new) }
     ensures grew { result ≡ Ok true → room entries.new < room entries.old }
@@ -119,7 +123,7 @@ fn enter(
     }
 }
 
-/// One place of a pass over a table that sweeps left.
+/// One place of a pass over a table that is a fixpoint.
 fn enter_at(
     alloc: Global,
     ir: &Ir,
@@ -132,8 +136,11 @@ fn enter_at(
     entries: &mut Rows,
     waiting: &mut [bool],
 ) -> Result<bool, AllocError>
-    ensures entries { IfOk result (λ _. entries.new ≡ flows.called ir.now.functions topic entries.old instruction.now (sweeps.pick (sweeps.row_in rows.now place) row.old.items)) }
-    ensures row { IfOk result (λ _. row.new.items ≡ sweeps.next_row topic exits.now instruction.now (sweeps.pick (sweeps.row_in rows.now place) row.old.items)) }
+    ensures entries { IfOk result (λ _. entries.new ≡ flows.entries_after_call ir.now.functions
+        topic entries.old instruction.now
+        (inside_sweeps.row_or (sweeps.row_in rows.now place) row.old.items)) }
+    ensures row { IfOk result (λ _. row.new.items ≡ inside_sweeps.next_row topic exits.now
+        instruction.now (inside_sweeps.row_or (sweeps.row_in rows.now place) row.old.items)) }
     ensures same { result ≡ Ok false → (entries.new ≡ entries.old) × (waiting.new ≡ waiting.old) }
     ensures wakes { IfOk result (λ _. Wakes waiting.old waiting.new entries.old entries.new) }
     ensures grew { result ≡ Ok true → room entries.new < room entries.old }
@@ -145,7 +152,7 @@ fn enter_at(
     Ok(grew)
 }
 
-/// Brings the rows at all calls of a function to the entries of the called ones.
+/// Joins the rows at all calls of a function to the entries of the called ones.
 #[tactic(auto, using(crate::proofs::Waking::waking))]
 fn enter_all(
     alloc: Global,
@@ -158,7 +165,8 @@ fn enter_all(
     entries: &mut Rows,
     waiting: &mut [bool],
 ) -> Result<bool, AllocError>
-    ensures entries { IfOk result (λ _. entries.new ≡ flows.entered ir.now.functions topic exits.now rows.now entries.old entry.now 0 code.now) }
+    ensures entries { IfOk result (λ _. entries.new ≡ flows.entries_after_calls ir.now.functions
+        topic exits.now rows.now entries.old entry.now 0 code.now) }
     ensures same { result ≡ Ok false → (entries.new ≡ entries.old) × (waiting.new ≡ waiting.old) }
     ensures wakes { IfOk result (λ _. Wakes waiting.old waiting.new entries.old entries.new) }
     ensures grew { result ≡ Ok true → room entries.new < room entries.old }
@@ -185,7 +193,7 @@ fn enter_all(
     Ok(grew)
 }
 
-/// The row at a function's entry, with nothing told where nothing came yet.
+/// The row at a function's entry; a row that records nothing, if nothing reached it yet.
 pub fn at_entry(
     alloc: Global,
     topic: Topic,
@@ -201,7 +209,7 @@ pub fn at_entry(
     }
 }
 
-/// The sweeps from a function's entry, and what its calls bring. The answer says whether that was new.
+/// Sweeps from a function's entry, and joins what its calls bring. Returns whether any entry grew.
 fn flow_through(
     alloc: Global,
     ir: &Ir,
@@ -216,7 +224,8 @@ fn flow_through(
     requires exits { SoundExits ir.now.functions topic exits.now }
     requires inside { function < length ir.now.functions }
     requires flow { Flowing ir.now.functions topic exits.now entries.old tables.old waiting.old }
-    ensures flow { IfOk result (λ _. Flowing ir.now.functions topic exits.now entries.new tables.new waiting.new) }
+    ensures flow { IfOk result (λ _. Flowing ir.now.functions topic exits.now entries.new tables.new
+        waiting.new) }
     ensures quiet { result ≡ Ok false → waiting.new ≡ slice_set waiting.old function false }
     ensures grew { result ≡ Ok true → room entries.new < room entries.old }
     ensures room { IfOk result (λ _. room entries.new ≤ room entries.old) }
@@ -233,7 +242,7 @@ fn flow_through(
     Ok(grew)
 }
 
-/// The same where the function waits.
+/// The same, if the function waits.
 #[tactic(auto, using(crate::proofs::Waking::settling))]
 fn flow_where(
     alloc: Global,
@@ -249,8 +258,10 @@ fn flow_where(
     requires exits { SoundExits ir.now.functions topic exits.now }
     requires inside { function < length ir.now.functions }
     requires flow { Flowing ir.now.functions topic exits.now entries.old tables.old waiting.old }
-    ensures flow { IfOk result (λ _. Flowing ir.now.functions topic exits.now entries.new tables.new waiting.new) }
-    ensures quiet { result ≡ Ok false → (waits waiting.new function ≡ false) × ((f : ℕ) → waits waiting.old f ≡ false → waits waiting.new f ≡ false) }
+    ensures flow { IfOk result (λ _. Flowing ir.now.functions topic exits.now entries.new tables.new
+        waiting.new) }
+    ensures quiet { result ≡ Ok false → (waits waiting.new function ≡ false)
+        × ((f : ℕ) → waits waiting.old f ≡ false → waits waiting.new f ≡ false) }
     ensures grew { result ≡ Ok true → room entries.new < room entries.old }
     ensures room { IfOk result (λ _. room entries.new ≤ room entries.old) }
 {
@@ -260,7 +271,7 @@ fn flow_where(
     flow_through(alloc, ir, topic, exits, function, entries, tables, waiting)
 }
 
-/// The same of each function.
+/// The same for each function.
 fn flow_round(
     alloc: Global,
     ir: &Ir,
@@ -273,8 +284,10 @@ fn flow_round(
     requires well { IsWellFormed ir.now }
     requires exits { SoundExits ir.now.functions topic exits.now }
     requires flow { Flowing ir.now.functions topic exits.now entries.old tables.old waiting.old }
-    ensures flow { IfOk result (λ _. Flowing ir.now.functions topic exits.now entries.new tables.new waiting.new) }
-    ensures quiet { result ≡ Ok false → (f : ℕ) → f < length ir.now.functions → waits waiting.new f ≡ false }
+    ensures flow { IfOk result (λ _. Flowing ir.now.functions topic exits.now entries.new tables.new
+        waiting.new) }
+    ensures quiet { result ≡ Ok false → (f : ℕ) → f < length ir.now.functions
+        → waits waiting.new f ≡ false }
     ensures grew { result ≡ Ok true → room entries.new < room entries.old }
     ensures room { IfOk result (λ _. room entries.new ≤ room entries.old) }
 {
@@ -287,7 +300,7 @@ fn flow_round(
     Ok(grew)
 }
 
-/// Begins at a function's entry, where it is a transaction.
+/// Starts at a function's entry, if it is a transaction.
 fn start_at(
     alloc: Global,
     ir: &Ir,
@@ -298,7 +311,8 @@ fn start_at(
     requires entries { Entries ir.now.functions topic entries.old }
     requires inside { function < length ir.now.functions }
     ensures entries { OnOk result (Entries ir.now.functions topic entries.new) }
-    ensures kept { OnOk result ((f : ℕ) → StartsAt ir.now.functions topic entries.old f → StartsAt ir.now.functions topic entries.new f) }
+    ensures kept { OnOk result ((f : ℕ) → StartsAt ir.now.functions topic entries.old f
+        → StartsAt ir.now.functions topic entries.new f) }
     ensures start { OnOk result (StartsAt ir.now.functions topic entries.new function) }
 {
     let body = &ir.functions.as_slice()[function];
@@ -329,13 +343,14 @@ pub struct Flow {
     pub tables: Tables,
 }
 
-/// What all walks from transactions bring to each place, about a topic.
+/// What walks from transactions bring to each place, for a topic.
 pub fn flows(alloc: Global, ir: &Ir, topic: Topic, exits: &Tables) -> Result<Flow, AllocError>
     requires well { IsWellFormed ir.now }
     requires exits { SoundExits ir.now.functions topic exits.now }
     ensures entries { IfOk result (λ flow. Entries ir.now.functions topic flow.entries) }
     ensures start { IfOk result (λ flow. StartEntries ir.now.functions topic flow.entries) }
-    ensures ended { IfOk result (λ flow. AllFlow ir.now.functions topic exits.now flow.entries flow.tables) }
+    ensures ended { IfOk result (λ flow. AllFlow ir.now.functions topic exits.now flow.entries
+        flow.tables) }
 {
     let mut entries = starts(alloc, ir, topic)?;
     let count = ir.functions.as_slice().len();

@@ -13,13 +13,13 @@ use crate::topics::stored_topics;
 use ir::{Ir, Site};
 use std::alloc::{AllocError, Global};
 
-/// For each store site whether it is logged.
+/// For each store site, whether it is logged.
 #[derive(Drop)]
 pub struct MarkTable {
     rows: Rows,
 }
 
-/// One bit of a word.
+/// Whether a bit of a word is set.
 #[tactic(auto, using(std::proofs::lemmas::Nat::Bits::shr_and_one), unfolding(crate::specs::Row::has_bit))]
 fn has_bit(bit: u32, word: u64) -> bool
     requires { bit < 64 }
@@ -29,7 +29,7 @@ fn has_bit(bit: u32, word: u64) -> bool
 }
 
 impl MarkTable {
-    /// Whether the store at a site is logged. It isn't where there is no such site.
+    /// Whether the store at a site is logged. A site that doesn't exist isn't logged.
     pub fn logged(&self, site: Site) -> bool
         ensures { result ≡ is_logged self.now site }
     {
@@ -42,10 +42,10 @@ impl MarkTable {
     }
 }
 
-/// Marks the sites whose old values have to be logged: a store where a walk comes with its target not
-/// surely written, and a walk comes with its class read before; the fill of a new object where a walk
-/// comes past a free; and each header's store. These sites are marked and no others. `Err` says that
-/// the allocator refused memory, and nothing else.
+/// Marks the sites whose old values have to be logged, and no others: a store, if some walk reaches
+/// it with its target not surely written, and some walk reaches it with its class read before; the
+/// fill of a new object, if some walk reaches it after a free; and each store to a header. `Err`
+/// means only that the allocator refused memory.
 pub fn marks(alloc: Global, ir: &Ir) -> Result<MarkTable, AllocError>
     requires { IsWellFormed ir.now }
     ensures { IfOk result (λ table. IsExact ir.now.functions table) }

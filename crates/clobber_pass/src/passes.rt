@@ -2,12 +2,12 @@
 
 ghost use Rattle.std.specs.Prelude.{◌≡◌, ◌<◌, ◌≤◌, ◌+◌, ℕ, length, true, false, Some, slice_get, slice_set, Ok, IfOk, OnOk};
 ghost use Rattle.ir.specs.WellFormed.{IsWellFormed};
-ghost use Rattle.clobber_pass.specs.Told.{parameters_at};
-ghost use Rattle.clobber_pass.specs.Closed.{AllColumns, Ended, ShapedExits};
-ghost use Rattle.clobber_pass.specs.Room.{all_room};
-ghost use Rattle.clobber_pass.specs.Sound.{SoundExits};
-ghost use Rattle.clobber_pass.specs.Flow.{waits};
-ghost use Rattle.clobber_pass.specs.Calling.{Apart, CalledEnded, Passing, edges_from};
+ghost use Rattle.clobber_pass.specs.inside.Told.{parameters_at};
+ghost use Rattle.clobber_pass.specs.inside.Closed.{AllColumns, Ended, ShapedExits};
+ghost use Rattle.clobber_pass.specs.inside.Room.{all_room};
+ghost use Rattle.clobber_pass.specs.inside.Sound.{SoundExits};
+ghost use Rattle.clobber_pass.specs.inside.Flow.{waits};
+ghost use Rattle.clobber_pass.specs.inside.Calling.{Apart, CalledEnded, Passing, edges_from};
 
 use crate::calling::{Edge, called_wait, wake_callers};
 use crate::entry::entry_row;
@@ -17,8 +17,7 @@ use crate::topic::Topic;
 use ir::{Ir, IrFunction};
 use std::alloc::{AllocError, Global};
 
-/// The sweeps from one column of a function's entry. The answer says whether they told something new of
-/// its returns.
+/// Sweeps from one column of a function's entry. Returns whether the exits grew.
 fn column(
     alloc: Global,
     ir: &Ir,
@@ -48,7 +47,7 @@ fn column(
     exits.join(alloc, function, column, rows.row(code.len()))
 }
 
-/// How many parameters a function has.
+/// The number of parameters of a function.
 fn parameters_at(functions: &[IrFunction], function: usize) -> u32
     ensures { result ≡ parameters_at functions.now function }
 {
@@ -58,7 +57,7 @@ fn parameters_at(functions: &[IrFunction], function: usize) -> u32
     }
 }
 
-/// The sweeps from each column of a function's entry.
+/// Sweeps from each column of a function's entry.
 fn columns(
     alloc: Global,
     ir: &Ir,
@@ -86,7 +85,7 @@ fn columns(
     Ok(grew)
 }
 
-/// The sweeps of a function that waits. Where its exits grew its callers wait, and it waits still.
+/// Sweeps a function that waits. If its exits grew, its callers wait, and it still waits.
 #[tactic(auto, using(crate::proofs::Recalling::passing, crate::proofs::Waking::settling))]
 fn pass_through(
     alloc: Global,
@@ -115,7 +114,7 @@ fn pass_through(
     Ok(false)
 }
 
-/// The same where the function waits.
+/// The same, if the function waits.
 #[tactic(auto, using(crate::proofs::Waking::settling))]
 fn pass_where(
     alloc: Global,
@@ -131,7 +130,8 @@ fn pass_where(
     requires inside { function < length ir.now.functions }
     requires passing { Passing ir.now.functions topic exits.old waiting.old }
     ensures passing { IfOk result (λ _. Passing ir.now.functions topic exits.new waiting.new) }
-    ensures quiet { result ≡ Ok false → (waits waiting.new function ≡ false) × ((f : ℕ) → waits waiting.old f ≡ false → waits waiting.new f ≡ false) }
+    ensures quiet { result ≡ Ok false → (waits waiting.new function ≡ false)
+        × ((f : ℕ) → waits waiting.old f ≡ false → waits waiting.new f ≡ false) }
     ensures grew { result ≡ Ok true → all_room exits.new < all_room exits.old }
     ensures room { IfOk result (λ _. all_room exits.new ≤ all_room exits.old) }
 {
@@ -141,7 +141,7 @@ fn pass_where(
     pass_through(alloc, ir, topic, edges, function, exits, waiting)
 }
 
-/// The same of each function.
+/// The same for each function.
 fn round(
     alloc: Global,
     ir: &Ir,
@@ -154,7 +154,8 @@ fn round(
     requires edges { edges.now ≡ edges_from 0 ir.now.functions }
     requires passing { Passing ir.now.functions topic exits.old waiting.old }
     ensures passing { IfOk result (λ _. Passing ir.now.functions topic exits.new waiting.new) }
-    ensures quiet { result ≡ Ok false → (f : ℕ) → f < length ir.now.functions → waits waiting.new f ≡ false }
+    ensures quiet { result ≡ Ok false → (f : ℕ) → f < length ir.now.functions
+        → waits waiting.new f ≡ false }
     ensures grew { result ≡ Ok true → all_room exits.new < all_room exits.old }
     ensures room { IfOk result (λ _. all_room exits.new ≤ all_room exits.old) }
 {
@@ -167,8 +168,8 @@ fn round(
     Ok(grew)
 }
 
-/// What passes through each function about a topic: the exits of each that is called, from each column
-/// of its entry.
+/// What passes through each function, for a topic: the exits of each called function, from each
+/// column of its entry.
 pub fn passes(alloc: Global, ir: &Ir, topic: Topic, edges: &[Edge]) -> Result<Tables, AllocError>
     requires well { IsWellFormed ir.now }
     requires edges { edges.now ≡ edges_from 0 ir.now.functions }

@@ -2,7 +2,7 @@
 
 ghost use Rattle.std.specs.Prelude.{◌≡◌, ◌++◌, ◌∷◌, [], ◌==◌, ◌<◌, ◌^◌, ℕ, true, false, length, IfOk, OnOk};
 ghost use Rattle.clobber_pass.specs.Sweep as sweeps;
-ghost use Rattle.clobber_pass.specs.Marking as marking;
+ghost use Rattle.clobber_pass.specs.inside.Marking as inside_marking;
 
 use crate::row::{mask, word};
 use crate::rows::{Rows, copied};
@@ -13,17 +13,17 @@ use ir::{Instruction, Target};
 use std::alloc::{AllocError, Global};
 
 /// Whether two words and a mask have a bit in common.
-#[tactic(auto, unfolding(crate::specs::Marking::meets))]
+#[tactic(auto, unfolding(crate::specs::inside::Marking::meets))]
 fn meets(one: u64, other: u64, mask: u64) -> bool
-    ensures { result ≡ marking.meets one other mask }
+    ensures { result ≡ inside_marking.meets one other mask }
 {
     !(one & other & mask == 0)
 }
 
-/// The mark of a store, where its class is one of the topic's: it is set where the class may be
-/// unwritten there, and may have been read.
+/// The mark of a store, if its class belongs to the topic: it is set if the class may be unwritten
+/// there, and may have been read.
 fn store_word(topic: Topic, target: Target, row: &[u64]) -> u64
-    ensures { result ≡ marking.store_word topic target row.now }
+    ensures { result ≡ inside_marking.store_word topic target row.now }
 {
     match (topic, target) {
         (Topic::Root { first }, Target::Root { field, .. }) => {
@@ -62,7 +62,7 @@ fn store_word(topic: Topic, target: Target, row: &[u64]) -> u64
 
 /// The mark of a new object's fill.
 fn fill_word(topic: Topic, row: &[u64]) -> u64
-    ensures { result ≡ marking.fill_word topic row.now }
+    ensures { result ≡ inside_marking.fill_word topic row.now }
 {
     match topic {
         Topic::Frees => {
@@ -77,7 +77,7 @@ fn fill_word(topic: Topic, row: &[u64]) -> u64
 }
 
 fn mark_word(topic: Topic, instruction: &Instruction, row: &[u64]) -> u64
-    ensures { result ≡ marking.mark_word topic instruction.now row.now }
+    ensures { result ≡ inside_marking.mark_word topic instruction.now row.now }
 {
     match instruction {
         Instruction::Store { target, .. } => store_word(topic, *target, row),
@@ -86,7 +86,7 @@ fn mark_word(topic: Topic, instruction: &Instruction, row: &[u64]) -> u64
     }
 }
 
-/// The marks of a function's places about a topic.
+/// The marks of a function's places for a topic.
 pub fn mark_row(
     alloc: Global,
     topic: Topic,
@@ -95,7 +95,8 @@ pub fn mark_row(
     entry: &[u64],
     code: &[Instruction],
 ) -> Result<Vec<u64>, AllocError>
-    ensures { IfOk result (λ marks. marks.items ≡ marking.marks_from topic exits.now rows.now entry.now 0 code.now) }
+    ensures { IfOk result (λ marks. marks.items ≡ inside_marking.marks_from topic exits.now rows.now
+        entry.now 0 code.now) }
 {
     let mut row = copied(alloc, entry)?;
     let mut marks = Vec::new(alloc);
@@ -109,7 +110,7 @@ pub fn mark_row(
 
 /// The mark of each header's store.
 fn header_word(instruction: &Instruction) -> u64
-    ensures { result ≡ marking.header_word instruction.now }
+    ensures { result ≡ inside_marking.header_mark instruction.now }
 {
     match instruction {
         Instruction::New { .. } | Instruction::Free { .. } => 1,
@@ -118,7 +119,7 @@ fn header_word(instruction: &Instruction) -> u64
 }
 
 pub fn headers(alloc: Global, code: &[Instruction]) -> Result<Vec<u64>, AllocError>
-    ensures { IfOk result (λ marks. marks.items ≡ marking.headers code.now) }
+    ensures { IfOk result (λ marks. marks.items ≡ inside_marking.headers code.now) }
 {
     let mut marks = Vec::new(alloc);
     for instruction in code {
@@ -129,7 +130,7 @@ pub fn headers(alloc: Global, code: &[Instruction]) -> Result<Vec<u64>, AllocErr
 
 /// The topic of a target's class.
 pub fn topic_of(target: Target) -> Topic
-    ensures { result ≡ marking.topic_of target }
+    ensures { result ≡ inside_marking.topic_of target }
 {
     match target {
         Target::Root { field, .. } => Topic::Root {

@@ -1,10 +1,11 @@
-//! Rows of words. A row tells of one place: a word for a walk's start, one for what is sought, and one
-//! for each register. The bits of a word are the fields of a topic.
+//! Rows of words. A row belongs to one place: it has a word for the start of a walk, one for the
+//! sought fact, and one for each register. The bits of a word are the fields of a topic.
 
 ghost use Rattle.std.specs.Prelude.{◌≡◌, slice_set};
 ghost use Rattle.clobber_pass.specs.Row as rows;
+ghost use Rattle.clobber_pass.specs.inside.Row as inside_rows;
 
-/// The word of a slot, 0 where there is none.
+/// The word of a slot, or 0 if there is none.
 #[tactic(auto, using(crate::proofs::Lookup::lookup))]
 pub fn word(row: &[u64], slot: usize) -> u64
     ensures { result ≡ rows.word row.now slot }
@@ -12,7 +13,7 @@ pub fn word(row: &[u64], slot: usize) -> u64
     row.get(slot).copied().unwrap_or(0)
 }
 
-/// Writes the word of a slot, where there is one.
+/// Writes the word of a slot, if there is one.
 #[tactic(auto, using(crate::proofs::Bits::set_past))]
 pub fn put(row: &mut [u64], slot: usize, word: u64)
     ensures { row.new ≡ slice_set row.old slot word }
@@ -22,10 +23,10 @@ pub fn put(row: &mut [u64], slot: usize, word: u64)
     }
 }
 
-/// The bit of a field, counted from a topic's first one.
-#[tactic(auto, using(std::proofs::lemmas::Nat::one_shl), unfolding(crate::specs::Row::mask))]
+/// The bit of a field, counted from the first field of a topic.
+#[tactic(auto, using(std::proofs::lemmas::Nat::one_shl), unfolding(crate::specs::inside::Row::mask))]
 pub fn mask(first: u32, field: u32) -> u64
-    ensures { result ≡ rows.mask first field }
+    ensures { result ≡ inside_rows.mask first field }
 {
     if field < first {
         return 0;
@@ -38,9 +39,9 @@ pub fn mask(first: u32, field: u32) -> u64
 }
 
 /// A word without some of its bits.
-#[tactic(auto, unfolding(crate::specs::Row::without))]
+#[tactic(auto, unfolding(crate::specs::inside::Row::without))]
 pub fn without(word: u64, bits: u64) -> u64
-    ensures { result ≡ rows.without word bits }
+    ensures { result ≡ inside_rows.without word bits }
 {
     word ^ (word & bits)
 }

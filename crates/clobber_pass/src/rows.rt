@@ -3,13 +3,14 @@
 ghost use Rattle.std.specs.Prelude.{◌≡◌, ◌<◌, ◌≤◌, ◌∷◌, ◌++◌, [], false, true, length, replicate, slice_set, bit_or, ◌^◌, None, IfSome, Ok, IfOk, OnOk};
 ghost use Rattle.clobber_pass.specs.Row as words;
 ghost use Rattle.clobber_pass.specs.Sweep as sweeps;
-ghost use Rattle.clobber_pass.specs.Room.{room, words_room};
+ghost use Rattle.clobber_pass.specs.inside.Sweep as inside_sweeps;
+ghost use Rattle.clobber_pass.specs.inside.Room.{room, words_room};
 
 use crate::row::word;
 use std::alloc::{AllocError, Global};
 use std::marker::Model;
 
-/// A row for each place, empty where nothing came yet.
+/// A row for each place, empty if nothing reached it yet.
 #[derive(Drop)]
 pub struct Rows {
     rows: Vec<Vec<u64>>,
@@ -44,7 +45,7 @@ impl Rows {
         }
     }
 
-    /// Puts one row at the end.
+    /// Appends one row.
     pub fn push(&mut self, row: Vec<u64>) -> Result<(), AllocError>
         ensures { OnOk result (self.new ≡ self.old ++ row.items ∷ []) }
     {
@@ -59,7 +60,7 @@ impl Rows {
         Ok(())
     }
 
-    /// The row of a place, empty where there is none.
+    /// The row of a place, empty if there is none.
     #[tactic(auto, using(crate::proofs::Lookup::lookup))]
     pub fn row(&self, place: usize) -> &[u64]
         ensures { result.now ≡ sweeps.row_in self.now place }
@@ -70,9 +71,10 @@ impl Rows {
         }
     }
 
-    /// Takes what is told at a place, where there is a row of it.
+    /// Replaces `row` by the row of a place, if there is one.
     pub fn take(&self, place: usize, row: &mut Vec<u64>) -> Result<(), AllocError>
-        ensures { OnOk result (row.new.items ≡ sweeps.pick (sweeps.row_in self.now place) row.old.items) }
+        ensures { OnOk result (row.new.items ≡ inside_sweeps.row_or (sweeps.row_in self.now place)
+            row.old.items) }
     {
         if self.row(place).is_empty() {
             return Ok(());
@@ -80,10 +82,10 @@ impl Rows {
         rewrite(row, self.row(place))
     }
 
-    /// Adds to the row of a place what another row tells. An empty row becomes that other one. The
-    /// answer says whether the table grew.
+    /// Joins another row to the row of a place. An empty row becomes the other one. Returns whether
+    /// the table grew.
     pub fn join(&mut self, alloc: Global, place: usize, more: &[u64]) -> Result<bool, AllocError>
-        ensures row { IfOk result (λ _. self.new ≡ sweeps.join_in self.old place more.now) }
+        ensures row { IfOk result (λ _. self.new ≡ inside_sweeps.join_in self.old place more.now) }
         ensures same { result ≡ Ok false → self.new ≡ self.old }
         ensures grew { result ≡ Ok true → room self.new < room self.old }
         ensures room { IfOk result (λ _. room self.new ≤ room self.old) }
@@ -95,9 +97,9 @@ impl Rows {
         }
     }
 
-    /// Adds to the row of a place what another row tells, in the slots that it has.
+    /// Joins another row to the row of a place, in the slots that it has.
     pub fn meet(&mut self, place: usize, more: &[u64]) -> bool
-        ensures row { self.new ≡ sweeps.meet_in self.old place more.now }
+        ensures row { self.new ≡ inside_sweeps.meet_in self.old place more.now }
         ensures same { result ≡ false → self.new ≡ self.old }
         ensures grew { result ≡ true → room self.new < room self.old }
         ensures room { room self.new ≤ room self.old }
@@ -124,9 +126,9 @@ impl Rows {
     }
 }
 
-/// Adds to a row what another tells, in the slots that it has. The answer says whether it grew.
+/// Joins another row to a row, in the slots that it has. Returns whether it grew.
 fn join_words(row: &mut [u64], more: &[u64]) -> bool
-    ensures row { row.new ≡ sweeps.or_from more.now 0 row.old }
+    ensures row { row.new ≡ inside_sweeps.or_from more.now 0 row.old }
     ensures same { result ≡ false → row.new ≡ row.old }
     ensures grew { result ≡ true → words_room row.new < words_room row.old }
     ensures room { words_room row.new ≤ words_room row.old }
@@ -140,7 +142,7 @@ fn join_words(row: &mut [u64], more: &[u64]) -> bool
     grew
 }
 
-/// Adds bits to a word. The answer says whether they were new.
+/// Adds bits to a word. Returns whether any was new.
 #[tactic(auto, using(crate::proofs::Rooms::raising))]
 fn raise(row: &mut [u64], slot: usize, bits: u64) -> bool
     requires { slot < length row.old }
@@ -158,7 +160,7 @@ fn raise(row: &mut [u64], slot: usize, bits: u64) -> bool
     }
 }
 
-/// A word with more bits, which is greater, and `None` where it has them already.
+/// The word with more bits, which is greater, or `None` if it has them already.
 #[tactic(auto, using(std::proofs::lemmas::Nat::le_or_l))]
 fn raised(word: u64, bits: u64) -> Option<u64>
     ensures more { IfSome result (λ more. more ≡ bit_or word bits) }
@@ -169,7 +171,7 @@ fn raised(word: u64, bits: u64) -> Option<u64>
     if more > word { Some(more) } else { None }
 }
 
-/// Writes other words into a row.
+/// Replaces the words of a row.
 fn rewrite(row: &mut Vec<u64>, words: &[u64]) -> Result<(), AllocError>
     ensures { OnOk result (row.new.items ≡ words.now) }
 {
@@ -178,7 +180,7 @@ fn rewrite(row: &mut Vec<u64>, words: &[u64]) -> Result<(), AllocError>
     Ok(())
 }
 
-/// The same row once more.
+/// A copy of the row.
 pub fn copied(alloc: Global, row: &[u64]) -> Result<Vec<u64>, AllocError>
     ensures { IfOk result (λ all. all.items ≡ row.now) }
 {

@@ -1,15 +1,15 @@
-//! What an instruction makes of a row.
+//! The effect of an instruction on a row.
 
 ghost use Rattle.std.specs.Prelude.{◌≡◌};
-ghost use Rattle.clobber_pass.specs.Row as rows;
+ghost use Rattle.clobber_pass.specs.inside.Row as inside_rows;
 
 use crate::row::{mask, put, without, word};
 use crate::topic::Topic;
 use ir::{Instruction, Target};
 
-/// A load adds its field where it isn't surely written.
+/// A load adds its field unless the field is surely written.
 fn read(topic: Topic, target: Target, row: &mut [u64])
-    ensures { row.new ≡ rows.with_read topic target row.old }
+    ensures { row.new ≡ inside_rows.with_read topic target row.old }
 {
     match (topic, target) {
         (Topic::Root { first }, Target::Root { field, .. }) => {
@@ -36,7 +36,7 @@ fn read(topic: Topic, target: Target, row: &mut [u64])
 
 /// A store to a field that isn't an array makes it surely written.
 fn write(topic: Topic, target: Target, row: &mut [u64])
-    ensures { row.new ≡ rows.with_write topic target row.old }
+    ensures { row.new ≡ inside_rows.with_write topic target row.old }
 {
     match (topic, target) {
         (Topic::Root { first }, Target::Root { field, index: None }) => {
@@ -62,14 +62,14 @@ fn write(topic: Topic, target: Target, row: &mut [u64])
 
 /// A register takes a word.
 fn set(row: &mut [u64], register: u32, word: u64)
-    ensures { row.new ≡ rows.given row.old register word }
+    ensures { row.new ≡ inside_rows.row_given row.old register word }
 {
     put(row, register as usize + 2, word);
 }
 
-/// What an instruction that is no call makes of a row.
+/// The effect on a row of an instruction that is no call.
 pub fn step(topic: Topic, instruction: &Instruction, row: &mut [u64])
-    ensures { row.new ≡ rows.after_row topic instruction.now row.old }
+    ensures { row.new ≡ inside_rows.after_row topic instruction.now row.old }
 {
     match instruction {
         Instruction::Const { to, .. } | Instruction::Bin { to, .. } => set(row, *to, word(row, 0)),

@@ -1,9 +1,9 @@
 //! One sweep through a function.
 
 ghost use Rattle.std.specs.Prelude.{◌≡◌, ◌<◌, ◌≤◌, ◌^◌, true, false, length, option_map, ◌==◌, position, Ok, IfOk, OnOk};
-ghost use Rattle.clobber_pass.specs.Closed.{Closed, Made};
-ghost use Rattle.clobber_pass.specs.Room.{room};
-ghost use Rattle.clobber_pass.specs.Sweep as sweeps;
+ghost use Rattle.clobber_pass.specs.inside.Closed.{Closed, Made};
+ghost use Rattle.clobber_pass.specs.inside.Room.{room};
+ghost use Rattle.clobber_pass.specs.inside.Sweep as inside_sweeps;
 
 use crate::row::word;
 use crate::rows::{Rows, copied};
@@ -13,7 +13,7 @@ use crate::topic::Topic;
 use ir::Instruction;
 use std::alloc::{AllocError, Global};
 
-/// What a called function's returns tell of a slot, by what is told of one slot at the call.
+/// What a called function's returns record in a slot, as far as the call records one slot.
 fn comes(
     exits: &Tables,
     function: usize,
@@ -22,14 +22,16 @@ fn comes(
     at_call: usize,
     slot: usize,
 ) -> u64
-    ensures { result ≡ sweeps.comes (sweeps.exits_of exits.now function) row.now column at_call slot }
+    ensures { result ≡ inside_sweeps.comes (inside_sweeps.exits_of exits.now function) row.now
+        column at_call slot }
 {
     exits.word(function, column, slot) & word(row, at_call)
 }
 
-/// The same by all that is told at the call.
+/// The same, from everything that the call records.
 fn gather(exits: &Tables, function: usize, row: &[u64], args: &[u32], slot: usize) -> u64
-    ensures { result ≡ sweeps.gather (sweeps.exits_of exits.now function) row.now args.now slot }
+    ensures { result ≡ inside_sweeps.gather (inside_sweeps.exits_of exits.now function) row.now
+        args.now slot }
 {
     let start = comes(exits, function, row, 0, 0, slot);
     let sought = comes(exits, function, row, 1, 1, slot);
@@ -47,7 +49,7 @@ fn gather(exits: &Tables, function: usize, row: &[u64], args: &[u32], slot: usiz
     bits
 }
 
-/// The first place of a register among arguments.
+/// The first place of a register among the arguments.
 fn first_at(args: &[u32], register: usize) -> Option<usize>
     ensures { result ≡ position (λ a. a == register) args.now }
 {
@@ -64,7 +66,8 @@ fn register_after(
     register: usize,
 ) -> u64
     requires { register < 2 ^ 63 }
-    ensures { result ≡ sweeps.register_after (sweeps.exits_of exits.now function) to args.now row.now register }
+    ensures { result ≡ inside_sweeps.register_after (inside_sweeps.exits_of exits.now function) to
+        args.now row.now register }
 {
     if register == to {
         return gather(exits, function, row, args, 0);
@@ -85,7 +88,8 @@ fn slot_after(
     slot: usize,
 ) -> u64
     requires { slot < 2 ^ 63 }
-    ensures { result ≡ sweeps.slot_after (sweeps.exits_of exits.now function) to args.now row.now slot }
+    ensures { result ≡ inside_sweeps.slot_after (inside_sweeps.exits_of exits.now function) to
+        args.now row.now slot }
 {
     if slot < 2 {
         gather(exits, function, row, args, slot)
@@ -103,7 +107,8 @@ fn call(
     args: &[u32],
     row: &[u64],
 ) -> Result<Vec<u64>, AllocError>
-    ensures { IfOk result (λ new. new.items ≡ sweeps.call_from (sweeps.exits_of exits.now function) to args.now row.now 0 row.now) }
+    ensures { IfOk result (λ new. new.items ≡ inside_sweeps.call_from
+        (inside_sweeps.exits_of exits.now function) to args.now row.now 0 row.now) }
 {
     let mut new = Vec::new(alloc);
     for (slot, _) in row.iter().enumerate() {
@@ -120,7 +125,8 @@ pub fn advance(
     instruction: &Instruction,
     row: &mut Vec<u64>,
 ) -> Result<(), AllocError>
-    ensures { OnOk result (row.new.items ≡ sweeps.next_row topic exits.now instruction.now row.old.items) }
+    ensures { OnOk result (row.new.items ≡ inside_sweeps.next_row topic exits.now instruction.now
+        row.old.items) }
 {
     match instruction {
         Instruction::Jump { .. } | Instruction::Return { .. } | Instruction::Trap { .. } =>
@@ -140,9 +146,10 @@ pub fn advance(
     Ok(())
 }
 
-/// Where else an instruction leads: a jump's target, or after the last place for a return.
+/// The other place to which an instruction leads: a jump's target, or for a return the place after
+/// the last.
 fn target(end: usize, instruction: &Instruction) -> Option<usize>
-    ensures { result ≡ sweeps.target end instruction.now }
+    ensures { result ≡ inside_sweeps.jump_target end instruction.now }
 {
     match instruction {
         Instruction::Jump { place } | Instruction::Branch { place, .. } => Some(*place as usize),
@@ -151,11 +158,15 @@ fn target(end: usize, instruction: &Instruction) -> Option<usize>
     }
 }
 
-/// Brings a row to a place, and takes what is told there. The answer says whether that was new.
+/// Joins a row to that of a place, and continues with the result. Returns whether the place's row
+/// grew.
 fn meet(rows: &mut Rows, place: usize, row: &mut Vec<u64>) -> Result<bool, AllocError>
-    ensures rows { IfOk result (λ _. rows.new ≡ sweeps.meet_in rows.old place row.old.items) }
-    ensures row { IfOk result (λ _. row.new.items ≡ sweeps.here_in rows.old place row.old.items) }
-    ensures same { result ≡ Ok false → (rows.new ≡ rows.old) × (sweeps.meet_in rows.old place row.old.items ≡ rows.old) }
+    ensures rows { IfOk result (λ _. rows.new ≡ inside_sweeps.meet_in rows.old place
+        row.old.items) }
+    ensures row { IfOk result (λ _. row.new.items ≡ inside_sweeps.here_in rows.old place
+        row.old.items) }
+    ensures same { result ≡ Ok false → (rows.new ≡ rows.old)
+        × (inside_sweeps.meet_in rows.old place row.old.items ≡ rows.old) }
     ensures grew { result ≡ Ok true → room rows.new < room rows.old }
     ensures room { IfOk result (λ _. room rows.new ≤ room rows.old) }
 {
@@ -164,10 +175,11 @@ fn meet(rows: &mut Rows, place: usize, row: &mut Vec<u64>) -> Result<bool, Alloc
     Ok(grew)
 }
 
-/// Brings a row to where an instruction leads, other than the next place.
+/// Joins a row to that of the other place to which an instruction leads.
 fn lead(alloc: Global, rows: &mut Rows, to: Option<usize>, row: &[u64]) -> Result<bool, AllocError>
-    ensures rows { IfOk result (λ _. rows.new ≡ sweeps.led rows.old to row.now) }
-    ensures same { result ≡ Ok false → (rows.new ≡ rows.old) × (sweeps.led rows.old to row.now ≡ rows.old) }
+    ensures rows { IfOk result (λ _. rows.new ≡ inside_sweeps.rows_led rows.old to row.now) }
+    ensures same { result ≡ Ok false → (rows.new ≡ rows.old)
+        × (inside_sweeps.rows_led rows.old to row.now ≡ rows.old) }
     ensures grew { result ≡ Ok true → room rows.new < room rows.old }
     ensures room { IfOk result (λ _. room rows.new ≤ room rows.old) }
 {
@@ -188,11 +200,18 @@ fn visit(
     place: usize,
     instruction: &Instruction,
 ) -> Result<bool, AllocError>
-    ensures rows { IfOk result (λ _. rows.new ≡ sweeps.led (sweeps.meet_in rows.old place row.old.items) (sweeps.target end instruction.now) (sweeps.here_in rows.old place row.old.items)) }
-    ensures row { IfOk result (λ _. row.new.items ≡ sweeps.next_row topic exits.now instruction.now (sweeps.here_in rows.old place row.old.items)) }
+    ensures rows { IfOk result (λ _.
+        rows.new ≡ inside_sweeps.rows_led (inside_sweeps.meet_in rows.old place row.old.items)
+        (inside_sweeps.jump_target end instruction.now)
+        (inside_sweeps.here_in rows.old place row.old.items)) }
+    ensures row { IfOk result (λ _. row.new.items ≡ inside_sweeps.next_row topic exits.now
+        instruction.now (inside_sweeps.here_in rows.old place row.old.items)) }
     ensures same { result ≡ Ok false → rows.new ≡ rows.old }
-    ensures met { result ≡ Ok false → sweeps.meet_in rows.old place row.old.items ≡ rows.old }
-    ensures led { result ≡ Ok false → sweeps.led rows.old (sweeps.target end instruction.now) (sweeps.here_in rows.old place row.old.items) ≡ rows.old }
+    ensures met { result ≡ Ok false → inside_sweeps.meet_in rows.old place row.old.items
+        ≡ rows.old }
+    ensures led { result ≡ Ok false
+        → inside_sweeps.rows_led rows.old (inside_sweeps.jump_target end instruction.now)
+        (inside_sweeps.here_in rows.old place row.old.items) ≡ rows.old }
     ensures grew { result ≡ Ok true → room rows.new < room rows.old }
     ensures room { IfOk result (λ _. room rows.new ≤ room rows.old) }
 {
@@ -202,7 +221,7 @@ fn visit(
     Ok(met || led)
 }
 
-/// One sweep through a function's code. The answer says whether the table of its rows grew.
+/// One sweep through a function's code. Returns whether the table of its rows grew.
 pub fn sweep(
     alloc: Global,
     topic: Topic,
@@ -211,9 +230,11 @@ pub fn sweep(
     entry: &[u64],
     rows: &mut Rows,
 ) -> Result<bool, AllocError>
-    ensures rows { IfOk result (λ _. rows.new ≡ sweeps.swept topic exits.now (length code.now) rows.old entry.now 0 code.now) }
+    ensures rows { IfOk result (λ _. rows.new ≡ inside_sweeps.swept topic exits.now
+        (length code.now) rows.old entry.now 0 code.now) }
     ensures same { result ≡ Ok false → rows.new ≡ rows.old }
-    ensures closed { result ≡ Ok false → Closed topic exits.now (length code.now) rows.old entry.now 0 code.now }
+    ensures closed { result ≡ Ok false → Closed topic exits.now (length code.now) rows.old entry.now
+        0 code.now }
     ensures grew { result ≡ Ok true → room rows.new < room rows.old }
     ensures room { IfOk result (λ _. room rows.new ≤ room rows.old) }
 {
@@ -236,7 +257,7 @@ pub fn sweep(
     Ok(grew)
 }
 
-/// Sweeps through a function's code from a row at its entry until its table grows no more.
+/// Sweeps through a function's code, from a row at its entry, until a fixpoint is reached.
 pub fn run(
     alloc: Global,
     topic: Topic,
@@ -245,7 +266,8 @@ pub fn run(
     entry: &[u64],
 ) -> Result<Rows, AllocError>
     requires { length code.now < 2 ^ 31 }
-    ensures closed { IfOk result (λ rows. Closed topic exits.now (length code.now) rows entry.now 0 code.now) }
+    ensures closed { IfOk result (λ rows. Closed topic exits.now (length code.now) rows entry.now 0
+        code.now) }
     ensures made { IfOk result (λ rows. Made topic exits.now entry.now code.now rows) }
 {
     let mut rows = Rows::new(alloc, code.len() + 1)?;

@@ -4,10 +4,11 @@ ghost use Rattle.std.specs.Prelude.{◌≡◌, ◌<◌, ◌≤◌, ◌^◌, ℕ,
 ghost use Rattle.ir.specs.WellFormed.{IsWellFormed};
 ghost use Rattle.clobber_pass.specs.Row.{has_bit};
 ghost use Rattle.clobber_pass.specs.Sweep as sweeps;
-ghost use Rattle.clobber_pass.specs.Calling.{CalledEnded, edges_from};
-ghost use Rattle.clobber_pass.specs.Sound.{SoundExits};
-ghost use Rattle.clobber_pass.specs.Flow.{AllFlow, Entries, StartEntries};
-ghost use Rattle.clobber_pass.specs.Marking.{AllMarked, Headers, Keeps, Marked, Marks, headers_of, marks_from};
+ghost use Rattle.clobber_pass.specs.inside.Sweep as inside_sweeps;
+ghost use Rattle.clobber_pass.specs.inside.Calling.{CalledEnded, edges_from};
+ghost use Rattle.clobber_pass.specs.inside.Sound.{SoundExits};
+ghost use Rattle.clobber_pass.specs.inside.Flow.{AllFlow, Entries, StartEntries};
+ghost use Rattle.clobber_pass.specs.inside.Marking.{AllMarked, Headers, KeepsRows, Marked, Marks, headers_of, marks_from};
 
 use crate::calling::Edge;
 use crate::flow::{Flow, at_entry, flows};
@@ -19,7 +20,7 @@ use crate::topic::Topic;
 use ir::{Instruction, Ir, IrFunction};
 use std::alloc::{AllocError, Global};
 
-/// The marks of the headers' stores.
+/// The marks of the stores to headers.
 pub fn header_table(alloc: Global, functions: &[IrFunction]) -> Result<Rows, AllocError>
     ensures { IfOk result (λ table. table ≡ headers_of functions.now) }
 {
@@ -30,7 +31,7 @@ pub fn header_table(alloc: Global, functions: &[IrFunction]) -> Result<Rows, All
     Ok(table)
 }
 
-/// The marks of a function's places about a topic, by the table of its rows.
+/// The marks of a function's places for a topic, from the table of its rows.
 fn function_row(
     alloc: Global,
     topic: Topic,
@@ -40,7 +41,9 @@ fn function_row(
     entry: &[u64],
     code: &[Instruction],
 ) -> Result<Vec<u64>, AllocError>
-    ensures { IfOk result (λ marks. marks.items ≡ marks_from topic exits.now (sweeps.exits_of tables.now function) entry.now 0 code.now) }
+    ensures { IfOk result (λ marks.
+        marks.items ≡ marks_from topic exits.now (inside_sweeps.exits_of tables.now function)
+        entry.now 0 code.now) }
 {
     match tables.table(function) {
         Some(rows) => mark_row(alloc, topic, exits, rows, entry, code),
@@ -48,7 +51,7 @@ fn function_row(
     }
 }
 
-/// Marks what a topic has in a function to whose entry something came.
+/// Marks for a topic a function whose entry has a row.
 fn mark_reached(
     alloc: Global,
     ir: &Ir,
@@ -68,7 +71,7 @@ fn mark_reached(
     requires flow { AllFlow ir.now.functions topic exits.now flow.now.entries flow.now.tables }
     requires marks { Marks ir.now.functions table.old }
     ensures marks { OnOk result (Marks ir.now.functions table.new) }
-    ensures kept { OnOk result (Keeps table.old table.new) }
+    ensures kept { OnOk result (KeepsRows table.old table.new) }
     ensures marked { OnOk result (Marked ir.now.functions topic table.new function) }
 {
     let body = &ir.functions.as_slice()[function];
@@ -79,7 +82,7 @@ fn mark_reached(
     Ok(())
 }
 
-/// Marks what a topic has in one function. No walk comes to one to whose entry nothing came.
+/// Marks for a topic one function. No walk reaches a function whose entry has no row.
 #[tactic(auto, using(crate::proofs::Tabled::keeps_all))]
 fn mark_function(
     alloc: Global,
@@ -99,7 +102,7 @@ fn mark_function(
     requires flow { AllFlow ir.now.functions topic exits.now flow.now.entries flow.now.tables }
     requires marks { Marks ir.now.functions table.old }
     ensures marks { OnOk result (Marks ir.now.functions table.new) }
-    ensures kept { OnOk result (Keeps table.old table.new) }
+    ensures kept { OnOk result (KeepsRows table.old table.new) }
     ensures marked { OnOk result (Marked ir.now.functions topic table.new function) }
 {
     if flow.entries.row(function).is_empty() {
@@ -108,7 +111,7 @@ fn mark_function(
     mark_reached(alloc, ir, topic, exits, flow, function, table)
 }
 
-/// Marks what a topic has in each function.
+/// Marks each function for a topic.
 pub fn mark_topic(
     alloc: Global,
     ir: &Ir,
@@ -120,7 +123,7 @@ pub fn mark_topic(
     requires edges { edges.now ≡ edges_from 0 ir.now.functions }
     requires marks { Marks ir.now.functions table.old }
     ensures marks { OnOk result (Marks ir.now.functions table.new) }
-    ensures kept { OnOk result (Keeps table.old table.new) }
+    ensures kept { OnOk result (KeepsRows table.old table.new) }
     ensures marked { OnOk result (AllMarked ir.now.functions topic table.new) }
 {
     let exits = passes(alloc, ir, topic, edges)?;

@@ -1,9 +1,9 @@
 //! The rows of each function.
 
 ghost use Rattle.std.specs.Prelude.{◌≡◌, ◌<◌, ◌≤◌, ◌∷◌, ◌++◌, [], true, false, Ok, IfOk, OnOk, option_map, slice_get, slice_set, length};
-ghost use Rattle.clobber_pass.specs.Closed.{joined_exits, no_exits};
-ghost use Rattle.clobber_pass.specs.Room.{all_room};
-ghost use Rattle.clobber_pass.specs.Sweep as sweeps;
+ghost use Rattle.clobber_pass.specs.inside.Closed.{joined_exits, no_exits};
+ghost use Rattle.clobber_pass.specs.inside.Room.{all_room};
+ghost use Rattle.clobber_pass.specs.inside.Sweep as inside_sweeps;
 
 use crate::row::word;
 use crate::rows::Rows;
@@ -26,10 +26,10 @@ impl Model for Tables {
 }
 
 impl Tables {
-    /// A word of a function's row, 0 where there is none.
+    /// A word of a function's row, or 0 if there is none.
     #[tactic(auto, using(crate::proofs::Lookup::lookup))]
     pub fn word(&self, function: usize, row: usize, slot: usize) -> u64
-        ensures { result ≡ sweeps.exit (sweeps.exits_of self.now function) row slot }
+        ensures { result ≡ inside_sweeps.exit (inside_sweeps.exits_of self.now function) row slot }
     {
         match self.functions.get(function) {
             Some(rows) => word(rows.row(row), slot),
@@ -37,7 +37,7 @@ impl Tables {
         }
     }
 
-    /// Adds to a row of a function what another tells. The answer says whether that was new.
+    /// Joins another row to a row of a function. Returns whether it grew.
     #[tactic(auto, using(crate::proofs::Rooms::all_rooms))]
     pub fn join(
         &mut self,
@@ -47,7 +47,8 @@ impl Tables {
         more: &[u64],
     ) -> Result<bool, AllocError>
         ensures row { IfOk result (λ _. self.new ≡ joined_exits self.old function row more.now) }
-        ensures same { result ≡ Ok false → (self.new ≡ self.old) × (joined_exits self.old function row more.now ≡ self.old) }
+        ensures same { result ≡ Ok false → (self.new ≡ self.old)
+            × (joined_exits self.old function row more.now ≡ self.old) }
         ensures grew { result ≡ Ok true → all_room self.new < all_room self.old }
         ensures room { IfOk result (λ _. all_room self.new ≤ all_room self.old) }
     {
@@ -57,7 +58,7 @@ impl Tables {
         self.functions[function].join(alloc, row, more)
     }
 
-    /// Empty rows: for each function one for each column of its entry.
+    /// Empty rows, one for each column of each function's entry.
     pub fn new(alloc: Global, functions: &[IrFunction]) -> Result<Self, AllocError>
         ensures { IfOk result (λ t. t ≡ no_exits functions.now) }
     {
@@ -106,7 +107,7 @@ impl Tables {
         self.functions[function] = rows;
     }
 
-    /// Puts the table of one more function at the end.
+    /// Appends the table of one more function.
     pub fn push(&mut self, rows: Rows) -> Result<(), AllocError>
         ensures { OnOk result (self.new ≡ self.old ++ rows ∷ []) }
     {

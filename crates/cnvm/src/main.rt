@@ -1,5 +1,5 @@
-//! Runs the transactions of a program on a persistent pool: `cnvm run PROGRAM SCRIPT`. It stands on
-//! cnvm_cli, which does the work. It ends with the status of the run.
+//! Runs the transactions of a program on a persistent pool: `cnvm run PROGRAM SCRIPT`. It rests on
+//! `cnvm_cli`, which does the work, and ends with the status of the run.
 #![tactic(auto)]
 
 use std::process::ExitCode;

@@ -68,7 +68,7 @@ struct Item *merge(struct Item *a, struct Item *b) {
     return first;
 }
 
-// Cuts a list behind its first n items, and gives the rest.
+// Cuts a list after its first n items, and gives the rest.
 struct Item *cut(struct Item *list, int64_t n) {
     for (int64_t i = 1; i < n; i++) {
         list = list->next;

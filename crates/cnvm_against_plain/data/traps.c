@@ -1,4 +1,4 @@
-// Every trap of the source, most behind stores that it leaves in the pool, and long argument lists.
+// Every trap of the source, most after stores that it leaves in the pool, and long argument lists.
 #include <stdint.h>
 
 struct Box {
@@ -46,7 +46,7 @@ tx int64_t pop() {
     return value;
 }
 
-// Null behind a store.
+// Null after a store.
 tx int64_t follow(int64_t value) {
     struct Box *box = add(value);
     box->next->value += value;

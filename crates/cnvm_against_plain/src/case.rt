@@ -19,17 +19,17 @@ pub(crate) struct Before {
     pub(crate) value: i64,
 }
 
-/// What a call must answer and leave, by the interpreter.
+/// What a call must answer and leave, as the interpreter says.
 #[derive(Drop)]
 pub(crate) struct Wanted {
-    /// The call's number, one more than the transactions before it.
+    /// The call's number, one more than the number of transactions before it.
     pub(crate) number: i64,
     /// The answer of the call, and of a recovery that runs it again.
     pub(crate) done: Text,
     pub(crate) redone: Text,
     /// The answer of a recovery that finds the mark, empty where there is none.
     pub(crate) marked: Text,
-    /// What `show` and `last` answer behind it, and without it.
+    /// What `show` and `last` answer after the call, and without it.
     pub(crate) shown: Text,
     pub(crate) last: Text,
     pub(crate) shown_before: Text,
@@ -48,7 +48,7 @@ pub(crate) struct Case<'a> {
     pub(crate) wanted: &'a Wanted,
 }
 
-/// How many LOGs the answer tells.
+/// How many log records the answer shows.
 pub(crate) fn logged_of(answer: &Answer) -> u64 {
     match answer {
         Answer::Done { logged, .. } => *logged,
@@ -56,7 +56,7 @@ pub(crate) fn logged_of(answer: &Answer) -> u64 {
     }
 }
 
-/// What is wanted of a call, where it writes so many records.
+/// What is wanted of a call that writes this many records.
 pub(crate) fn wanted_of(
     alloc: Global,
     program: &Program,
@@ -110,9 +110,9 @@ fn trapped(alloc: Global, before: &Before, kind: TrapKind) -> Result<Wanted, All
     })
 }
 
-/// The phase of a call with so many arguments that is cut behind so many events: the arguments and
-/// the function are stored, their lines are flushed and fenced, and then the seal is stored, flushed
-/// and fenced.
+/// The phase of a call with this many arguments that is cut after this many events: the arguments
+/// and the function are stored, their lines are flushed and fenced, and then the seal is stored,
+/// flushed and fenced.
 pub(crate) fn phase_at(at: u64, arguments: u64) -> Phase {
     let lines = if arguments <= 7 {
         1
@@ -132,12 +132,12 @@ pub(crate) fn phase_at(at: u64, arguments: u64) -> Phase {
 }
 
 impl Wanted {
-    /// Whether the call is in the pool that power left.
+    /// Whether the call is in the pool that the power cut left.
     pub(crate) fn is_in(&self, left: Left) -> bool {
         left.seal == self.number
     }
 
-    /// What the recovery of what power left must answer.
+    /// What the recovery of what the power cut left must answer.
     pub(crate) fn recovery(&self, left: Left) -> &str {
         if left.mark != 0 {
             self.marked.as_str()
@@ -148,7 +148,7 @@ impl Wanted {
         }
     }
 
-    /// What `show` must answer then.
+    /// What `show` must then answer.
     pub(crate) fn shown(&self, left: Left) -> &str {
         if self.is_in(left) {
             self.shown.as_str()
@@ -157,7 +157,7 @@ impl Wanted {
         }
     }
 
-    /// What `last` must answer then.
+    /// What `last` must then answer.
     pub(crate) fn last(&self, left: Left) -> &str {
         if self.is_in(left) {
             self.last.as_str()
@@ -167,7 +167,8 @@ impl Wanted {
     }
 }
 
-/// Whether the seal that power left is the call's, as the phase of the cut says.
+/// The text that says whether the seal must be there, by the phase of the cut; in phase sealing it
+/// may be there or not.
 pub(crate) fn seal_told(phase: Phase, is_in: bool) -> &'static str {
     match phase {
         Phase::Unsealed => "no seal\n",
@@ -176,7 +177,7 @@ pub(crate) fn seal_told(phase: Phase, is_in: bool) -> &'static str {
     }
 }
 
-/// The same, as it is seen.
+/// The text that says whether the call's seal is in what the power cut left.
 pub(crate) fn seal_seen(is_in: bool) -> &'static str {
     if is_in { "the seal\n" } else { "no seal\n" }
 }

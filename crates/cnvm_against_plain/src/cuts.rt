@@ -1,4 +1,4 @@
-//! A call that is cut behind each number of its events, and recovered.
+//! A call that is cut after each number of its events, and recovered.
 
 use crate::case::{Case, phase_at, seal_seen, seal_told};
 use crate::picks::rest_choice;
@@ -12,14 +12,14 @@ use nvm_base::Steps;
 use std::alloc::{AllocError, Global};
 use std::sync::ledger::Ledger;
 
-/// More events than a call of the scripts has.
+/// More events than any call of the scripts has.
 const MOST_EVENTS: u64 = 100_000;
 
 /// A number of events that is never reached.
 const NEVER: u64 = 4_294_967_295;
 
 /// What a cut leaves of each line: the oldest version, the newest, versions in turn, or versions in
-/// turn where the recovery is cut as well.
+/// turn with the recovery cut as well.
 #[derive(Clone, Copy, Debug, PartialEq, Eq)]
 enum Keeps {
     Old,
@@ -39,7 +39,7 @@ impl Keeps {
     }
 }
 
-/// Cuts the call behind each number of its events.
+/// Cuts the call after each number of its events.
 pub(crate) fn cut_all<L: Ledger>(
     alloc: Global,
     case: Case,
@@ -55,7 +55,8 @@ pub(crate) fn cut_all<L: Ledger>(
     Ok(())
 }
 
-/// Cuts the call behind so many events, in each way. Whether it has more events than these.
+/// Cuts the call after this many events, in each way. The answer says whether it has more events
+/// than these.
 fn cut_at<L: Ledger>(
     alloc: Global,
     case: Case,
@@ -71,7 +72,8 @@ fn cut_at<L: Ledger>(
     Ok(true)
 }
 
-/// One cut, and all that is compared behind it. Whether the call has more events than these.
+/// Makes one cut, and compares everything after it. The answer says whether the call has more
+/// events than these.
 fn cut<L: Ledger>(
     alloc: Global,
     case: Case,
@@ -108,7 +110,7 @@ fn cut<L: Ledger>(
     Ok(true)
 }
 
-/// The pool before the call.
+/// Opens the pool as it was before the call.
 pub(crate) fn opened<L: Ledger>(
     alloc: Global,
     case: Case,
@@ -129,7 +131,8 @@ pub(crate) fn opened<L: Ledger>(
     }
 }
 
-/// Gives power, as is to be kept. Nothing is recovered but for a recovery that is itself cut.
+/// Gives power, with the versions that are to be kept. Nothing is recovered, except in a recovery
+/// that is itself cut.
 fn leave<L: Ledger>(
     alloc: Global,
     case: Case,
@@ -154,7 +157,7 @@ fn choice_of(alloc: Global, at: u64, keeps: Keeps, rig: &Rig) -> Result<Choice, 
     }
 }
 
-/// Gives power, and cuts the recovery behind some of its events, where it has so many.
+/// Gives power, and cuts the recovery after some of its events, if it has that many.
 fn cut_recovery<L: Ledger>(
     alloc: Global,
     case: Case,
@@ -170,7 +173,7 @@ fn cut_recovery<L: Ledger>(
     Ok(())
 }
 
-/// Recovers what power left, and compares.
+/// Recovers what the power cut left, and compares.
 fn settle<L: Ledger>(
     alloc: Global,
     case: Case,

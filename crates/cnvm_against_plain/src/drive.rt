@@ -1,4 +1,4 @@
-//! A script's calls on a program's pool, one after another.
+//! Makes a script's calls on a program's pool, one after another.
 
 use crate::case::{Before, Case, logged_of, wanted_of};
 use crate::cuts::{compare_pool, cut_all};
@@ -6,7 +6,7 @@ use crate::rig::Rig;
 use crate::tally::{Place, Tally};
 use crate::texts::{answer_line, pool_lines_of};
 use c_meaning::{PlainAnswer, plain_call};
-use cnvm_compile::compile;
+use cnvm_compile::{Asked, compile};
 use cnvm_script::{Command, read_script};
 use cnvm_session::{Answer, Program};
 use nvm_base::{Steps, Words};
@@ -14,14 +14,20 @@ use pool_map::Pool;
 use std::alloc::{AllocError, Global};
 use std::sync::ledger::Ledger;
 
-/// The slots of each pool, its log records, and the ticks of a call.
+/// The slots of each pool.
 const SLOTS: u64 = 16;
 
-const RECORDS: u64 = 72;
-
+/// The ticks of a call.
 const TICKS: u64 = 3000;
 
-/// What is compared of a program and a script. Where they are refused, that is a difference.
+/// What each program is compiled for.
+const ASKED: Asked = Asked {
+    slots: SLOTS,
+    records: 72,
+    ticks: TICKS,
+};
+
+/// Compares what a program and a script do. If one of them is refused, that is a difference.
 pub(crate) fn drive<L: Ledger>(
     alloc: Global,
     text: &[u8],
@@ -29,7 +35,7 @@ pub(crate) fn drive<L: Ledger>(
     steps: &mut Steps<L>,
 ) -> Result<Tally, AllocError> {
     let mut tally = Tally::new(alloc);
-    let Ok(compiled) = compile(alloc, text, SLOTS, RECORDS, TICKS) else {
+    let Ok(compiled) = compile(alloc, text, ASKED) else {
         refused(alloc, "program", &mut tally)?;
         return Ok(tally);
     };
@@ -72,7 +78,7 @@ fn refused(alloc: Global, what: &'static str, tally: &mut Tally) -> Result<(), A
     tally.compare(alloc, place, "accepted\n", "refused\n")
 }
 
-/// One command of the script. Only a call does something.
+/// Takes one command of the script. Only a call does something.
 fn step<L: Ledger>(
     alloc: Global,
     program: &Program,
@@ -114,7 +120,7 @@ fn step<L: Ledger>(
     Ok(())
 }
 
-/// Compares one call, uncut and cut, and gives the words of the pool behind it.
+/// Compares one call, uncut and cut, and gives the words of the pool after it.
 fn compared<L: Ledger>(
     alloc: Global,
     program: &Program,
@@ -143,7 +149,7 @@ fn compared<L: Ledger>(
     rig.words(alloc)
 }
 
-/// The call without a cut.
+/// Makes the call without a cut.
 fn uncut<L: Ledger>(
     alloc: Global,
     case: Case,

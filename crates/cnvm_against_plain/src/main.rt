@@ -1,9 +1,10 @@
-//! Compares what is compiled with what the source means. For each call of each script it runs the
-//! compiled transaction and the interpreter of the typed tree on the same pool, and compares value,
-//! trap and pool: uncut, and cut behind each number of the call's events and recovered, with the
-//! oldest versions left, with the newest, with versions in turn, and with the recovery cut as well.
-//! Behind a cut the pool must be that before the call or that of the interpreter, and docs/PROTOCOL.md
-//! says which. A program is two files, `NAME.c` and `NAME.txt`; of its script only the calls count.
+//! Compares the compiled code with what the source means. For each call of each script it runs the
+//! compiled transaction and the interpreter of the typed tree on the same pool, and compares the
+//! value, the trap and the pool: uncut, and cut after each number of the call's events and
+//! recovered. A cut leaves the oldest versions, the newest, or versions in turn; for the last way
+//! the recovery is cut as well. After a cut the pool must be that before the call or that of the
+//! interpreter; docs/PROTOCOL.md says which. A program is two files, `NAME.c` and `NAME.txt`; of
+//! its script only the calls count.
 #![tactic(auto)]
 
 mod case;
@@ -23,7 +24,7 @@ use std::rt::{Env, Files};
 use std::sync::ledger::{Blank, Ledger};
 use std::{env, fs, io};
 
-/// One program: its line, and the differences before it.
+/// Compares one program, and prints its line after its differences.
 fn drive_one<R: Files + Print + AllocGlobal, L: Ledger>(
     rt: &R,
     name: &str,
@@ -42,7 +43,7 @@ fn drive_one<R: Files + Print + AllocGlobal, L: Ledger>(
     println!(rt; "{name} {line}")
 }
 
-/// The programs that the words name.
+/// Compares the programs that the words name.
 fn drive_all<R: Files + Print + Env + AllocGlobal, L: Ledger>(
     rt: &R,
     blank: Blank,

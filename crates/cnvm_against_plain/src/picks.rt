@@ -7,7 +7,7 @@ use cache_model::{Choice, Pick, Picks, Rest};
 use pmem::{Pmem, PmemWork, SimPmem};
 use std::alloc::{AllocError, Global};
 
-/// The oldest version of each line, or the newest.
+/// Keeps the oldest version of each line, or the newest.
 pub(crate) fn rest_choice(alloc: Global, rest: Rest) -> Choice {
     Choice {
         rest,
@@ -15,8 +15,8 @@ pub(crate) fn rest_choice(alloc: Global, rest: Rest) -> Choice {
     }
 }
 
-/// A version of each line that has several, in turn: the first such line keeps the version numbered
-/// `turn`, the next one the version behind it, each counted round.
+/// Keeps versions in turn of the lines that have several: the k-th such line, counted from 0, keeps
+/// version `turn + k` modulo its number of versions.
 pub(crate) fn turning_choice(
     alloc: Global,
     dev: &SimPmem,
@@ -54,7 +54,7 @@ fn rises(picks: &[Pick]) -> bool
     true
 }
 
-/// Gives power by the choice. Whether its picks are there.
+/// Gives power by the choice. The answer says whether its picks exist.
 pub(crate) fn power(dev: &mut SimPmem, choice: &Choice) -> bool {
     if !rises(choice.picks.as_slice()) {
         return false;

@@ -6,7 +6,7 @@ use cnvm_script::Command;
 use cnvm_session::{Answer, Program, Session, create, start_from};
 use nvm_base::{Steps, Words};
 use pmem::{PmemWork, SimPmem};
-use pool_layout::pool_lines;
+use pool_layout::{DONE, MARK, SEAL, pool_lines};
 use std::alloc::{AllocError, Global};
 use std::sync::ledger::Ledger;
 
@@ -17,7 +17,7 @@ pub(crate) struct Rig {
     session: Session,
 }
 
-/// Words of the pool behind a power cut: the finished transactions, the mark and the seal.
+/// Words of the pool after a power cut: the number of finished transactions, the mark and the seal.
 #[derive(Clone, Copy, Debug, PartialEq, Eq)]
 pub(crate) struct Left {
     pub(crate) done: i64,
@@ -26,7 +26,7 @@ pub(crate) struct Left {
 }
 
 impl Rig {
-    /// A new pool.
+    /// Creates a new pool.
     pub(crate) fn create(alloc: Global, program: &Program) -> Option<Rig> {
         let mut dev = SimPmem::new(alloc);
         match create(program, &mut dev) {
@@ -35,7 +35,7 @@ impl Rig {
         }
     }
 
-    /// The pool of these words, and the answer of its opening.
+    /// Opens the pool of these words, and gives the answer of its opening.
     pub(crate) fn open<L: Ledger>(
         alloc: Global,
         program: &Program,
@@ -49,8 +49,8 @@ impl Rig {
         }
     }
 
-    /// The answer of a command; want of memory on a device that hasn't the pool's lines, which never
-    /// comes.
+    /// The answer of a command. On a device without the pool's lines, which never occurs, it is
+    /// want of memory.
     pub(crate) fn command<L: Ledger>(
         &mut self,
         alloc: Global,
@@ -65,7 +65,7 @@ impl Rig {
             .command(alloc, program, command, &mut self.dev, steps)
     }
 
-    /// The recovery of what power has left.
+    /// Recovers what the power cut has left.
     pub(crate) fn recover<L: Ledger>(
         &mut self,
         alloc: Global,
@@ -76,17 +76,17 @@ impl Rig {
         self.command(alloc, program, &Command::Power(choice), steps)
     }
 
-    /// Gives power by a choice, and recovers nothing. Whether the choice fits.
+    /// Gives power by a choice, and recovers nothing. The answer says whether the choice fits.
     pub(crate) fn power(&mut self, choice: &Choice) -> bool {
         picks::power(&mut self.dev, choice)
     }
 
-    /// Versions in turn.
+    /// The choice that keeps versions in turn.
     pub(crate) fn turning_choice(&self, alloc: Global, turn: u64) -> Result<Choice, AllocError> {
         picks::turning_choice(alloc, &self.dev, turn)
     }
 
-    /// A word of the pool; 0 where it isn't there, and while the device is off.
+    /// A word of the pool; 0 if it doesn't exist, and while the device is off.
     fn word(&self, place: u64) -> i64 {
         if place / 8 >= self.dev.lines() {
             return 0;
@@ -100,9 +100,9 @@ impl Rig {
     /// What a power cut left.
     pub(crate) fn left(&self) -> Left {
         Left {
-            done: self.word(17),
-            mark: self.word(19),
-            seal: self.word(47),
+            done: self.word(DONE),
+            mark: self.word(MARK),
+            seal: self.word(SEAL),
         }
     }
 

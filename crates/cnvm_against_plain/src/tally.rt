@@ -3,11 +3,11 @@
 use nvm_base::Text;
 use std::alloc::{AllocError, Global};
 
-/// The most differences of a program that are told.
+/// The most differences of a program that are printed.
 const MOST_TOLD: u64 = 8;
 
-/// Where something is compared: the number of the call, counted from 1, the events behind which it is
-/// cut, what the cut leaves, and what is compared.
+/// Where something is compared: the number of the call, counted from 1, the number of events after
+/// which it is cut, what the cut leaves, and what is compared.
 #[derive(Clone, Copy, Debug, PartialEq, Eq)]
 pub(crate) struct Place {
     pub(crate) call: u64,
@@ -39,18 +39,18 @@ impl Tally {
         }
     }
 
-    /// One call more; its number.
+    /// Counts one more call, and gives its number.
     pub(crate) fn begin(&mut self) -> u64 {
         self.calls = self.calls.saturating_add(1);
         self.calls
     }
 
-    /// The call traps.
+    /// Counts a call that traps.
     pub(crate) fn trap(&mut self) {
         self.traps = self.traps.saturating_add(1);
     }
 
-    /// A call was cut behind one more number of events.
+    /// Counts one more number of events after which a call is cut.
     pub(crate) fn cut(&mut self) {
         self.events = self.events.saturating_add(1);
     }
@@ -91,12 +91,12 @@ impl Tally {
         self.told.push(head.as_str())
     }
 
-    /// The differences that are told, each with its line feed.
+    /// The differences that are printed, each with its line feed.
     pub(crate) fn told(&self) -> &str {
         self.told.as_str()
     }
 
-    /// The numbers.
+    /// The line with the numbers.
     pub(crate) fn line(&self, alloc: Global) -> Result<String, AllocError> {
         let calls = self.calls;
         let traps = self.traps;

@@ -5,7 +5,7 @@ use nvm_base::Text;
 use pool_map::{Pool, Shapes, fits, show_text};
 use std::alloc::{AllocError, Global};
 
-/// A text of its own.
+/// The line as a text of its own.
 pub(crate) fn text_of(alloc: Global, line: &str) -> Result<Text, AllocError> {
     let mut text = Text::new(alloc);
     text.push(line)?;

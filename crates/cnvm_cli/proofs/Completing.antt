@@ -1,12 +1,16 @@
--- What is accepted isn't refused.
-use Rattle.std.proofs.Common.{◌≡◌, ℕ, ℤ, ◌<◌, List, Bool, true, false, Option, Some, None, IfSome, is_some, Err, length, ⊎_elim, refl, sym, subst, ◌∙◌, arith}
+-- A text or an image that is accepted isn't refused.
+use Rattle.std.proofs.Common.{◌≡◌, ℕ, ℤ, ◌<◌, List, Bool, true, false, Option, Some, None, is_some, Err, length, inl, inr, ⊎_elim, refl, sym, subst, ◌∙◌, arith}
+use Rattle.std.specs.Io.KnownBytes.{Appends, Keeps}
+use Rattle.nvm_base.specs.Parts.{AppendsPart}
 use Rattle.pmem.specs.Device.{Device}
 use Rattle.pool_layout.specs.declared.wanted.ImageFault.{ImageFault}
 use Rattle.pool_layout.specs.declared.wanted.ImageFault.TheVariants as image
 use Rattle.pool_layout.specs.declared.wanted.Wanted.{Wanted}
-use Rattle.pool_layout.specs.Fault.{early_fault, Accepts, Refuses}
+use Rattle.pool_layout.specs.Fault.{early_fault, Accepts, IsFirstFault}
 use Rattle.cnvm_compile.specs.declared.front_end.ProgramFault.{ProgramFault}
 use Rattle.cnvm_compile.specs.declared.front_end.ProgramFault.TheVariants.{NoMemory}
+use Rattle.cnvm_compile.specs.declared.compiling.Compiled.{Compiled}
+use Rattle.cnvm_compile.specs.Compilation.{IsCompiled}
 use Rattle.cnvm_compile.specs.Told.{told_of}
 use Rattle.cnvm_compile.proofs.Once.{once}
 use Rattle.cnvm_script.specs.declared.command.Command.{Command}
@@ -14,52 +18,74 @@ use Rattle.cnvm_script.specs.Commands.{script_meaning}
 use Rattle.cnvm_session.specs.declared.program.Program.{Program}
 use Rattle.cnvm_words.specs.declared.plan.Plan.{Plan}
 use Rattle.cnvm_words.specs.declared.plan.Plan.TheVariants as plan
-use Rattle.cnvm_cli.specs.declared.asked.Asked.{Asked}
+use Rattle.cnvm_compile.specs.declared.asked.Asked.{Asked}
 use Rattle.cnvm_cli.specs.declared.refused.Refused.{Refused}
 use Rattle.cnvm_cli.specs.declared.refused.Refused.TheVariants as refused
 use Rattle.cnvm_cli.specs.declared.status.Status.{Status}
 use Rattle.cnvm_cli.specs.declared.status.Status.TheVariants as status
 use Rattle.cnvm_cli.specs.RefusalText.{has_line}
-use Rattle.cnvm_cli.specs.Verdict.{refused_by, CompiledFrom, IsRefused, IsAccepted, HasCommands, ProgramRefuses, TextsRefuse}
-use Rattle.cnvm_cli.specs.Run.{RanAs, TellsAs, RefusedAs}
-use Rattle.cnvm_cli.specs.Opened.{wanted_of, read_part, ImageRefuses, OpenedAs}
+use Rattle.cnvm_cli.specs.Verdict.{refused_by, IsTextRefused, IsAccepted, HasCommands, ProgramRefuses, ScriptRefuses, TextsRefuse, asked_by}
+use Rattle.cnvm_cli.specs.Run.{Uncreated, TellsAs, RefusedAs}
+use Rattle.cnvm_cli.specs.Opened.{wanted_of, read_part, ImageRefuses, Unopened}
 use Rattle.cnvm_cli.specs.Saved.{SavedAs}
-use Rattle.cnvm_cli.specs.Stormed.{StormedAs}
-use Rattle.cnvm_cli.specs.Ends.{Sources, Outside, Start, Fresh, FromImage, PoolEnds, JobEnds, start_if, ListEnds, RunEnds, StormEnds, PlanEnds, listed}
-use Rattle.cnvm_cli.specs.Complete.{HasProgram, HasScript, HasImage, IsRunServed, IsServed, IsRefusal}
+use Rattle.cnvm_cli.specs.World.{Sources, Outside}
+use Rattle.cnvm_cli.specs.Meant.{Start, Fresh, FromImage, start_if}
+use Rattle.cnvm_cli.specs.inside.Ends.{PoolEnds, JobEnds, RunEnds, StormEnds, PlanEnds}
+use Rattle.cnvm_cli.specs.Listed.{ListEnds, WrittenAs, listing_sizes}
+use Rattle.cnvm_cli.specs.inside.Opened.{OpensAll, OpensPart, OpenedAs}
+use Rattle.cnvm_cli.specs.inside.Run.{CreatedAll, CreatedPart, RanAs}
+use Rattle.cnvm_cli.specs.inside.Stormed.{StormedAll, StormedPart, StormedStarved, StormedAs}
+use Rattle.cnvm_cli.specs.Complete.{HasProgram, HasScript, HasImage, IsRunServed, IsPlanServed, IsServed, IsRefusalStatus}
+use Rattle.cnvm_cli.proofs.Statuses.{status_kept}
 
 not_true : (let a : Bool = true in let b : Bool = false in a ≡ b) → ⊥
 not_true is = cc
 
--- a refusal of which nothing is told is of none of the texts
-quiet_kept : (why : Refused) (result : Status) (w w' : Option (List ℕ)) → has_line why ≡ false → RefusedAs why result w w' → IsRefusal result → ⊥
-quiet_kept refused.ReadFault result w w' quiet told refuses = subst (λ (s : Status). IsRefusal s) told.0 refuses
-quiet_kept refused.NoMemory result w w' quiet told refuses = subst (λ (s : Status). IsRefusal s) told.0 refuses
-quiet_kept refused.Device result w w' quiet told refuses = subst (λ (s : Status). IsRefusal s) told.0 refuses
-quiet_kept (refused.Image image.NoMemory) result w w' quiet told refuses = subst (λ (s : Status). IsRefusal s) told.0 refuses
-quiet_kept (refused.Image (image.Short a b)) result w w' quiet told refuses = absurd (not_true quiet)
-quiet_kept (refused.Image (image.Magic a b)) result w w' quiet told refuses = absurd (not_true quiet)
-quiet_kept (refused.Image (image.Version a b)) result w w' quiet told refuses = absurd (not_true quiet)
-quiet_kept (refused.Image (image.Sizes a b)) result w w' quiet told refuses = absurd (not_true quiet)
-quiet_kept (refused.Image (image.Digest a b)) result w w' quiet told refuses = absurd (not_true quiet)
-quiet_kept (refused.Image (image.Content a b)) result w w' quiet told refuses = absurd (not_true quiet)
+-- a refusal without a line refuses none of the texts
+quiet_kept : (why : Refused) (result : Status) (w w' : Option (List ℕ)) → has_line why ≡ false
+    → RefusedAs why result w w' → IsRefusalStatus result → ⊥
+quiet_kept refused.ReadFault result w w' quiet told refuses =
+    subst (λ (s : Status). IsRefusalStatus s) told.0 refuses
+quiet_kept refused.NoMemory result w w' quiet told refuses =
+    subst (λ (s : Status). IsRefusalStatus s) told.0 refuses
+quiet_kept refused.Device result w w' quiet told refuses =
+    subst (λ (s : Status). IsRefusalStatus s) told.0 refuses
+quiet_kept (refused.Image image.NoMemory) result w w' quiet told refuses =
+    subst (λ (s : Status). IsRefusalStatus s) told.0 refuses
+quiet_kept (refused.Image (image.Short a b)) result w w' quiet told refuses =
+    absurd (not_true quiet)
+quiet_kept (refused.Image (image.Magic a b)) result w w' quiet told refuses =
+    absurd (not_true quiet)
+quiet_kept (refused.Image (image.Version a b)) result w w' quiet told refuses =
+    absurd (not_true quiet)
+quiet_kept (refused.Image (image.Sizes a b)) result w w' quiet told refuses =
+    absurd (not_true quiet)
+quiet_kept (refused.Image (image.Digest a b)) result w w' quiet told refuses =
+    absurd (not_true quiet)
+quiet_kept (refused.Image (image.Content a b)) result w w' quiet told refuses =
+    absurd (not_true quiet)
 quiet_kept refused.Usage result w w' quiet told refuses = absurd (not_true quiet)
 quiet_kept refused.LongProgram result w w' quiet told refuses = absurd (not_true quiet)
 quiet_kept (refused.Program line complaint) result w w' quiet told refuses = absurd (not_true quiet)
 quiet_kept refused.LongScript result w w' quiet told refuses = absurd (not_true quiet)
 quiet_kept (refused.Script number) result w w' quiet told refuses = absurd (not_true quiet)
 
--- an accepted text is refused for want of memory alone
-text_quiet : (asked : Asked) (text : List ℕ) (why : Refused) → IsAccepted asked text → IsRefused text why → has_line why ≡ false
+-- an accepted text is refused only for want of memory
+text_quiet : (asked : Asked) (text : List ℕ) (why : Refused) → IsAccepted asked text
+    → IsTextRefused text why → has_line why ≡ false
 text_quiet asked text why is told =
-    let none : told.0 ≡ NoMemory = once.accepted text is.0.typed told.0 is.1.tree told.1 in
+    let none : told.0 ≡ NoMemory =
+    once.accepted text is.0.program.typed told.0 is.1.accepted told.1 in
     subst (λ (y : Refused). has_line y ≡ false) told.2
     (subst (λ (f : ProgramFault). has_line (refused_by (told_of f)) ≡ false) (sym none) refl)
 
-program_quiet : (asked : Asked) (p : Option (List ℕ)) → HasProgram asked p → (why : Refused) → ProgramRefuses p why → has_line why ≡ false
+program_quiet : (asked : Asked) (p : Option (List ℕ)) → HasProgram asked p → (why : Refused)
+    → ProgramRefuses p why → has_line why ≡ false
 program_quiet asked None has why told = absurd has
-program_quiet asked (Some text) has refused.LongProgram told = text_quiet asked text refused.LongProgram has told
-program_quiet asked (Some text) has (refused.Program line complaint) told = text_quiet asked text (refused.Program line complaint) has told
+program_quiet asked (Some text) has refused.LongProgram told =
+    text_quiet asked text refused.LongProgram has told
+program_quiet asked (Some text) has (refused.Program line complaint) told =
+    text_quiet asked text (refused.Program line complaint) has told
 program_quiet asked (Some text) has refused.ReadFault told = refl
 program_quiet asked (Some text) has refused.NoMemory told = refl
 program_quiet asked (Some text) has refused.LongScript told = absurd told
@@ -68,47 +94,61 @@ program_quiet asked (Some text) has refused.Usage told = absurd told
 program_quiet asked (Some text) has (refused.Image fault) told = absurd told
 program_quiet asked (Some text) has refused.Device told = absurd told
 
-not_long : (text : List ℕ) (commands : List Command) → HasCommands commands text → 1048576 < length text → ⊥
+not_long : (text : List ℕ) (commands : List Command) → HasCommands commands text
+    → 1048576 < length text → ⊥
 not_long text commands has long = let short = has.0 in omega (arith, short, long)
 
-not_bad : (text : List ℕ) (commands : List Command) (number : ℕ) → HasCommands commands text → script_meaning text ≡ Err number → ⊥
+not_bad : (text : List ℕ) (commands : List Command) (number : ℕ) → HasCommands commands text
+    → script_meaning text ≡ Err number → ⊥
 not_bad text commands number has bad = let good = has.1 in cc
 
-script_quiet : (asked : Asked) (p : Option (List ℕ)) (text : List ℕ) (commands : List Command) → HasCommands commands text → (why : Refused)
-    → HasProgram asked p → TextsRefuse asked p (Some text) why → has_line why ≡ false
-script_quiet asked p text commands is refused.LongProgram has told = program_quiet asked p has refused.LongProgram told
-script_quiet asked p text commands is (refused.Program line complaint) has told = program_quiet asked p has (refused.Program line complaint) told
-script_quiet asked p text commands is refused.LongScript has told = absurd (not_long text commands is told.1)
-script_quiet asked p text commands is (refused.Script number) has told = let bad = told.1 in absurd (not_bad text commands number is bad.1)
-script_quiet asked p text commands is refused.ReadFault has told = refl
-script_quiet asked p text commands is refused.NoMemory has told = refl
-script_quiet asked p text commands is refused.Usage has told = absurd told
-script_quiet asked p text commands is (refused.Image fault) has told = absurd told
-script_quiet asked p text commands is refused.Device has told = absurd told
+script_quiet : (text : List ℕ) (commands : List Command) → HasCommands commands text
+    → (why : Refused) → ScriptRefuses (Some text) why → has_line why ≡ false
+script_quiet text commands is refused.LongScript told = absurd (not_long text commands is told)
+script_quiet text commands is (refused.Script number) told =
+    absurd (not_bad text commands number is told.1)
+script_quiet text commands is refused.ReadFault told = refl
+script_quiet text commands is refused.NoMemory told = refl
+script_quiet text commands is refused.Usage told = absurd told
+script_quiet text commands is refused.LongProgram told = absurd told
+script_quiet text commands is (refused.Program line complaint) told = absurd told
+script_quiet text commands is (refused.Image fault) told = absurd told
+script_quiet text commands is refused.Device told = absurd told
 
-texts_quiet : (asked : Asked) (p s : Option (List ℕ)) → HasProgram asked p → HasScript s → (why : Refused) → TextsRefuse asked p s why
+texts_quiet : (asked : Asked) (p s : Option (List ℕ)) → HasProgram asked p → HasScript s
+    → (why : Refused) → TextsRefuse asked p s why
     → has_line why ≡ false
 texts_quiet asked p None has script why told = absurd script
-texts_quiet asked p (Some text) has script why told = script_quiet asked p text script.0 script.1 why has told
+texts_quiet asked p (Some text) has script why (inl told) = program_quiet asked p has why told
+texts_quiet asked p (Some text) has script why (inr told) =
+    script_quiet text script.0 script.1 why told.1
 
--- of an accepted image no fault applies
+-- an accepted image has no fault
 no_fault : (o : Option ImageFault) (fault : ImageFault) → o ≡ None → o ≡ Some fault → ⊥
 no_fault o fault none some = cc
 
-fault_quiet : (wanted : Wanted) (bytes : List ℕ) → Accepts wanted bytes → (fault : ImageFault) → Refuses wanted bytes fault
+fault_quiet : (wanted : Wanted) (bytes : List ℕ) → Accepts wanted bytes → (fault : ImageFault)
+    → IsFirstFault wanted bytes fault
     → has_line (refused.Image fault) ≡ false
 fault_quiet wanted bytes is image.NoMemory told = refl
-fault_quiet wanted bytes is (image.Short a b) told = absurd (no_fault (early_fault wanted bytes) (image.Short a b) is.early told)
-fault_quiet wanted bytes is (image.Magic a b) told = absurd (no_fault (early_fault wanted bytes) (image.Magic a b) is.early told)
-fault_quiet wanted bytes is (image.Version a b) told = absurd (no_fault (early_fault wanted bytes) (image.Version a b) is.early told)
-fault_quiet wanted bytes is (image.Sizes a b) told = absurd (no_fault (early_fault wanted bytes) (image.Sizes a b) is.early told)
-fault_quiet wanted bytes is (image.Digest a b) told = absurd (no_fault (early_fault wanted bytes) (image.Digest a b) is.early told)
+fault_quiet wanted bytes is (image.Short a b) told =
+    absurd (no_fault (early_fault wanted bytes) (image.Short a b) is.early told)
+fault_quiet wanted bytes is (image.Magic a b) told =
+    absurd (no_fault (early_fault wanted bytes) (image.Magic a b) is.early told)
+fault_quiet wanted bytes is (image.Version a b) told =
+    absurd (no_fault (early_fault wanted bytes) (image.Version a b) is.early told)
+fault_quiet wanted bytes is (image.Sizes a b) told =
+    absurd (no_fault (early_fault wanted bytes) (image.Sizes a b) is.early told)
+fault_quiet wanted bytes is (image.Digest a b) told =
+    absurd (no_fault (early_fault wanted bytes) (image.Digest a b) is.early told)
 fault_quiet wanted bytes is (image.Content word value) told =
     absurd (not_true (sym told.first.broken ∙ is.content told.first.place told.first.inside))
 
-image_quiet : (program : Program) (bytes : List ℕ) → Accepts (wanted_of program) (read_part program bytes) → (why : Refused)
+image_quiet : (program : Program) (bytes : List ℕ)
+    → Accepts (wanted_of program) (read_part program bytes) → (why : Refused)
     → ImageRefuses program (Some bytes) why → has_line why ≡ false
-image_quiet program bytes is (refused.Image fault) told = fault_quiet (wanted_of program) (read_part program bytes) is fault told
+image_quiet program bytes is (refused.Image fault) told =
+    fault_quiet (wanted_of program) (read_part program bytes) is fault told
 image_quiet program bytes is refused.ReadFault told = refl
 image_quiet program bytes is refused.NoMemory told = refl
 image_quiet program bytes is refused.Usage told = absurd told
@@ -118,123 +158,150 @@ image_quiet program bytes is refused.LongScript told = absurd told
 image_quiet program bytes is (refused.Script number) told = absurd told
 image_quiet program bytes is refused.Device told = absurd told
 
--- what runs ends with none of these statuses
-ran_kept : (result : Status) (program : Program) (commands : List Command) (w w' : Option (List ℕ)) (d d' : Device) (k k' : ℕ)
-    → RanAs program commands result w w' d d' k k' → IsRefusal result → ⊥
-ran_kept status.Usage program commands w w' d d' k k' ran refuses = ran
-ran_kept status.Program program commands w w' d d' k k' ran refuses = ran
-ran_kept status.Script program commands w w' d d' k k' ran refuses = ran
-ran_kept status.Image program commands w w' d d' k k' ran refuses = ran
-ran_kept status.Done program commands w w' d d' k k' ran refuses = refuses
-ran_kept status.NoMemory program commands w w' d d' k k' ran refuses = refuses
-ran_kept status.ReadFault program commands w w' d d' k k' ran refuses = refuses
-ran_kept status.WriteFault program commands w w' d d' k k' ran refuses = refuses
-ran_kept status.DeviceFault program commands w w' d d' k k' ran refuses = refuses
-
-opened_kept : (result : Status) (program : Program) (commands : List Command) (words : List ℤ) (w w' : Option (List ℕ)) (d d' : Device) (k k' : ℕ)
-    → OpenedAs program commands words result w w' d d' k k' → IsRefusal result → ⊥
-opened_kept status.Usage program commands words w w' d d' k k' ran refuses = ran
-opened_kept status.Program program commands words w w' d d' k k' ran refuses = ran
-opened_kept status.Script program commands words w w' d d' k k' ran refuses = ran
-opened_kept status.Image program commands words w w' d d' k k' ran refuses = ran
-opened_kept status.Done program commands words w w' d d' k k' ran refuses = refuses
-opened_kept status.NoMemory program commands words w w' d d' k k' ran refuses = refuses
-opened_kept status.ReadFault program commands words w w' d d' k k' ran refuses = refuses
-opened_kept status.WriteFault program commands words w w' d d' k k' ran refuses = refuses
-opened_kept status.DeviceFault program commands words w w' d d' k k' ran refuses = refuses
-
-stormed_kept : (result : Status) (program : Program) (start count : ℕ) (w w' : Option (List ℕ)) (d d' : Device) (k k' : ℕ)
-    → StormedAs program start count result w w' d d' k k' → IsRefusal result → ⊥
-stormed_kept status.Usage program start count w w' d d' k k' ran refuses = ran
-stormed_kept status.Program program start count w w' d d' k k' ran refuses = ran
-stormed_kept status.Script program start count w w' d d' k k' ran refuses = ran
-stormed_kept status.Image program start count w w' d d' k k' ran refuses = ran
-stormed_kept status.Done program start count w w' d d' k k' ran refuses = refuses
-stormed_kept status.NoMemory program start count w w' d d' k k' ran refuses = refuses
-stormed_kept status.ReadFault program start count w w' d d' k k' ran refuses = refuses
-stormed_kept status.WriteFault program start count w w' d d' k k' ran refuses = refuses
-stormed_kept status.DeviceFault program start count w w' d d' k k' ran refuses = refuses
-
-tells_kept : (line : List ℕ) (result : Status) (w w' : Option (List ℕ)) → TellsAs status.Done line result w w' → IsRefusal result → ⊥
+tells_kept : (line : List ℕ) (result : Status) (w w' : Option (List ℕ))
+    → TellsAs status.Done line result w w' → IsRefusalStatus result → ⊥
 tells_kept line result w w' tells refuses =
-    ⊎_elim (λ all. subst (λ (s : Status). IsRefusal s) all.0 refuses)
-    (⊎_elim (λ none. subst (λ (s : Status). IsRefusal s) none.0 refuses) (λ part. subst (λ (s : Status). IsRefusal s) part.0 refuses))
+    ⊎_elim (λ all. subst (λ (s : Status). IsRefusalStatus s) all.0 refuses)
+    (⊎_elim (λ none. subst (λ (s : Status). IsRefusalStatus s) none.0 refuses)
+    (λ part. subst (λ (s : Status). IsRefusalStatus s) part.0 refuses))
     tells
 
--- saving refuses nothing
-saved_kept : (ran result : Status) (o o' : Option (List ℕ)) (d d' : Device) → (IsRefusal ran → ⊥) → SavedAs ran result o o' d d' → IsRefusal result → ⊥
-saved_kept status.Done result o o' d d' kept saved refuses = tells_kept _ result o o' saved.1 refuses
-saved_kept status.NoMemory result o o' d d' kept saved refuses = subst (λ (s : Status). IsRefusal s) saved.0 refuses
+-- saving a pool refuses nothing
+saved_kept : (ran result : Status) (o o' : Option (List ℕ)) (d d' : Device)
+    → (IsRefusalStatus ran → ⊥) → SavedAs ran result o o' d d' → IsRefusalStatus result → ⊥
+saved_kept status.Done result o o' d d' kept saved refuses =
+    tells_kept _ result o o' saved.1 refuses
+saved_kept status.NoMemory result o o' d d' kept saved refuses =
+    subst (λ (s : Status). IsRefusalStatus s) saved.0 refuses
 saved_kept status.Usage result o o' d d' kept saved refuses = kept tt
 saved_kept status.Program result o o' d d' kept saved refuses = kept tt
 saved_kept status.Script result o o' d d' kept saved refuses = kept tt
 saved_kept status.Image result o o' d d' kept saved refuses = kept tt
-saved_kept status.ReadFault result o o' d d' kept saved refuses = subst (λ (s : Status). IsRefusal s) saved.0 refuses
-saved_kept status.WriteFault result o o' d d' kept saved refuses = subst (λ (s : Status). IsRefusal s) saved.0 refuses
-saved_kept status.DeviceFault result o o' d d' kept saved refuses = subst (λ (s : Status). IsRefusal s) saved.0 refuses
+saved_kept status.ReadFault result o o' d d' kept saved refuses =
+    subst (λ (s : Status). IsRefusalStatus s) saved.0 refuses
+saved_kept status.WriteFault result o o' d d' kept saved refuses =
+    subst (λ (s : Status). IsRefusalStatus s) saved.0 refuses
+saved_kept status.DeviceFault result o o' d d' kept saved refuses =
+    subst (λ (s : Status). IsRefusalStatus s) saved.0 refuses
 
--- the pool's image, where there is one, is accepted
+created_kept : (result : Status) (program : Program) (commands : List Command)
+    (w w' : Option (List ℕ)) (d d' : Device) (k k' : ℕ)
+    → RanAs program commands result w w' d d' k k' → IsRefusalStatus result → ⊥
+created_kept result program commands w w' d d' k k' =
+    status_kept (λ why. Uncreated program why w w' d d' k k')
+    (CreatedPart program commands w w' d d' k k') (CreatedAll program commands w w' d d' k k')
+    (CreatedPart program commands w w' d d' k k') result
+
+opened_kept : (result : Status) (program : Program) (commands : List Command) (words : List ℤ)
+    (w w' : Option (List ℕ)) (d d' : Device) (k k' : ℕ)
+    → OpenedAs program commands words result w w' d d' k k' → IsRefusalStatus result → ⊥
+opened_kept result program commands words w w' d d' k k' =
+    status_kept (λ why. Unopened program words why w w' d d' k k')
+    (OpensPart program commands words w w' d d' k k')
+    (OpensAll program commands words w w' d d' k k')
+    (OpensPart program commands words w w' d d' k k') result
+
+stormed_kept : (result : Status) (program : Program) (start count : ℕ) (w w' : Option (List ℕ))
+    (d d' : Device) (k k' : ℕ)
+    → StormedAs program start count result w w' d d' k k' → IsRefusalStatus result → ⊥
+stormed_kept result program start count w w' d d' k k' =
+    status_kept (λ why. Uncreated program why w w' d d' k k')
+    (StormedStarved program start count w w' d d' k k')
+    (StormedAll program start count w w' d d' k k')
+    (StormedPart program start count w w' d d' k k') result
+
+written_kept : (text : List ℕ) (result : Status) (w w' : Option (List ℕ))
+    → WrittenAs text result w w' → IsRefusalStatus result → ⊥
+written_kept text result w w' =
+    status_kept (λ why. ⊥) (Keeps w w') (Appends w w' text) (AppendsPart w w' text) result
+
+-- the pool's image, if there is one, is accepted
 abbrev StartIs : Program → Start → Type 0
 StartIs program Fresh = Unit {0}
 StartIs program (FromImage None) = ⊥
 StartIs program (FromImage (Some bytes)) = Accepts (wanted_of program) (read_part program bytes)
 
-pool_kept : (start : Start) (program : Program) (commands : List Command) (result : Status) (w w' : Option (List ℕ)) (d d' : Device) (k k' : ℕ)
-    → StartIs program start → PoolEnds start program commands result w w' d d' k k' → IsRefusal result → ⊥
-pool_kept Fresh program commands result w w' d d' k k' is ends refuses = ran_kept result program commands w w' d d' k k' ends refuses
+pool_kept : (start : Start) (program : Program) (commands : List Command) (result : Status)
+    (w w' : Option (List ℕ)) (d d' : Device) (k k' : ℕ)
+    → StartIs program start → PoolEnds start program commands result w w' d d' k k'
+    → IsRefusalStatus result → ⊥
+pool_kept Fresh program commands result w w' d d' k k' is ends refuses =
+    created_kept result program commands w w' d d' k k' ends refuses
 pool_kept (FromImage None) program commands result w w' d d' k k' is ends refuses = is
 pool_kept (FromImage (Some bytes)) program commands result w w' d d' k k' is ends refuses =
-    ⊎_elim (λ told. quiet_kept told.0 result w w' (image_quiet program bytes is told.0 told.1) told.2 refuses)
+    ⊎_elim (λ told. quiet_kept told.0 result w w' (image_quiet program bytes is told.0 told.1)
+    told.2 refuses)
     (λ ran. opened_kept result program commands ran.0 w w' d d' k k' ran.2 refuses) ends
 
-job_kept : (saves : Bool) (start : Start) (program : Program) (commands : List Command) (result : Status) (before behind : Outside)
-    → StartIs program start → JobEnds saves start program commands result before behind → IsRefusal result → ⊥
-job_kept false start program commands result before behind is ends refuses =
-    pool_kept start program commands result before.out behind.out before.dev behind.dev before.steps behind.steps is ends.0 refuses
-job_kept true start program commands result before behind is ends refuses =
-    saved_kept ends.0 result before.image behind.image ends.1 behind.dev
-    (λ (r : IsRefusal ends.0). pool_kept start program commands ends.0 before.out behind.out before.dev ends.1 before.steps behind.steps is ends.2 r)
+job_kept : (saves : Bool) (start : Start) (program : Program) (commands : List Command)
+    (result : Status) (before after : Outside)
+    → StartIs program start → JobEnds saves start program commands result before after
+    → IsRefusalStatus result → ⊥
+job_kept false start program commands result before after is ends refuses =
+    pool_kept start program commands result before.out after.out before.dev after.dev before.steps
+    after.steps is ends.0 refuses
+job_kept true start program commands result before after is ends refuses =
+    saved_kept ends.0 result before.image after.image ends.1 after.dev
+    (λ (r : IsRefusalStatus ends.0). pool_kept start program commands ends.0 before.out after.out
+    before.dev ends.1 before.steps after.steps is ends.2 r)
     ends.3 refuses
 
-start_is : (asked : Asked) (opens : Bool) (text : List ℕ) (image : Option (List ℕ)) (program : Program) → CompiledFrom asked text program
-    → (opens ≡ true → HasImage asked (Some text) image) → StartIs program (start_if opens image)
-start_is asked false text image program is has = tt
-start_is asked true text None program is has = has refl
-start_is asked true text (Some bytes) program is has = has refl program is
+start_is : (asked : Asked) (opens : Bool) (text : List ℕ) (image : Option (List ℕ))
+    (compiled : Compiled) → IsCompiled asked text compiled
+    → (opens ≡ true → HasImage asked (Some text) image)
+    → StartIs compiled.program (start_if opens image)
+start_is asked false text image compiled is has = tt
+start_is asked true text None compiled is has = has refl
+start_is asked true text (Some bytes) compiled is has = has refl compiled is
 
-run_kept : (asked : Asked) (p s image : Option (List ℕ)) (opens saves : Bool) (result : Status) (before behind : Outside)
+run_kept : (asked : Asked) (p s image : Option (List ℕ)) (opens saves : Bool) (result : Status)
+    (before after : Outside)
     → IsRunServed asked (record { program = p; script = s; image = image }) opens
-    → RunEnds asked (record { program = p; script = s; image = image }) opens saves result before behind → IsRefusal result → ⊥
-run_kept asked None s image opens saves result before behind has ends refuses = has.0
-run_kept asked (Some text) s image opens saves result before behind has ends refuses =
-    ⊎_elim (λ told. quiet_kept told.0 result before.out behind.out (texts_quiet asked (Some text) s has.0 has.1 told.0 told.1) told.2 refuses)
-    (λ ran. job_kept saves (start_if opens image) ran.0 ran.1 result before behind
+    → RunEnds asked (record { program = p; script = s; image = image }) opens saves result before
+    after → IsRefusalStatus result → ⊥
+run_kept asked None s image opens saves result before after has ends refuses = has.0
+run_kept asked (Some text) s image opens saves result before after has ends refuses =
+    ⊎_elim (λ told. quiet_kept told.0 result before.out after.out
+    (texts_quiet asked (Some text) s has.0 has.1 told.0 told.1) told.2 refuses)
+    (λ ran. job_kept saves (start_if opens image) ran.0.program ran.1 result before after
     (start_is asked opens text image ran.0 (let gives = ran.2 in gives.0) has.2) ran.3 refuses) ends
 
-list_kept : (p : Option (List ℕ)) (result : Status) (w w' : Option (List ℕ)) → HasProgram listed p → ListEnds p result w w' → IsRefusal result → ⊥
+list_kept : (p : Option (List ℕ)) (result : Status) (w w' : Option (List ℕ))
+    → HasProgram listing_sizes p → ListEnds p result w w' → IsRefusalStatus result → ⊥
 list_kept p result w w' has ends refuses =
-    ⊎_elim (λ told. quiet_kept told.0 result w w' (program_quiet listed p has told.0 told.1) told.2 refuses)
-    (λ ran. tells_kept _ result w w' ran.3 refuses) ends
+    ⊎_elim (λ told. quiet_kept told.0 result w w' (program_quiet listing_sizes p has told.0 told.1)
+    told.2 refuses)
+    (λ ran. written_kept _ result w w' ran.2 refuses) ends
 
-storm_kept : (asked : Asked) (start count : ℕ) (p : Option (List ℕ)) (result : Status) (w w' : Option (List ℕ)) (d d' : Device) (k k' : ℕ)
-    → HasProgram asked p → StormEnds asked start count p result w w' d d' k k' → IsRefusal result → ⊥
+storm_kept : (asked : Asked) (start count : ℕ) (p : Option (List ℕ)) (result : Status)
+    (w w' : Option (List ℕ)) (d d' : Device) (k k' : ℕ)
+    → HasProgram asked p → StormEnds asked start count p result w w' d d' k k'
+    → IsRefusalStatus result → ⊥
 storm_kept asked start count p result w w' d d' k k' has ends refuses =
-    ⊎_elim (λ told. quiet_kept told.0 result w w' (program_quiet asked p has told.0 told.1) told.2 refuses)
-    (λ ran. stormed_kept result ran.0 start count w w' d d' k k' ran.2 refuses) ends
+    ⊎_elim (λ told. quiet_kept told.0 result w w' (program_quiet asked p has told.0 told.1)
+    told.2 refuses)
+    (λ ran. stormed_kept result ran.0.program start count w w' d d' k k' ran.2 refuses) ends
 
-plan_kept : (asked : Plan) (told : Sources) (result : Status) (before behind : Outside) → IsServed asked told
-    → PlanEnds asked told result before behind → IsRefusal result → ⊥
-plan_kept (plan.Run p s slots records ticks from save) told result before behind has ends refuses =
-    run_kept (record { slots = slots; records = records; ticks = ticks }) told.program told.script told.image (is_some from) (is_some save)
-    result before behind has ends refuses
-plan_kept (plan.List p) told result before behind has ends refuses = list_kept told.program result before.out behind.out has ends.0 refuses
-plan_kept (plan.Storm p start count slots records ticks) told result before behind has ends refuses =
-    storm_kept (record { slots = slots; records = records; ticks = ticks }) start count told.program result before.out behind.out before.dev
-    behind.dev before.steps behind.steps has ends.0 refuses
+plan_kept : (asked : Plan) (told : Sources) (result : Status) (before after : Outside)
+    → IsPlanServed asked told
+    → PlanEnds asked told result before after → IsRefusalStatus result → ⊥
+plan_kept (plan.Run p s slots records ticks from save) told result before after has ends refuses =
+    run_kept (asked_by slots records ticks) told.program told.script
+    told.image (is_some from) (is_some save)
+    result before after has ends refuses
+plan_kept (plan.List p) told result before after has ends refuses =
+    list_kept told.program result before.out after.out has ends.0 refuses
+plan_kept (plan.Storm p start count slots records ticks) told result before after has
+    ends refuses =
+    storm_kept (asked_by slots records ticks) start count told.program
+    result before.out after.out before.dev
+    after.dev before.steps after.steps has ends.0 refuses
 
--- where all is accepted, the status is no refusal
-pub plan_kept_as : (words : Option Plan) (asked : Plan) (told : Sources) (result : Status) (before behind : Outside) → words ≡ Some asked
-    → PlanEnds asked told result before behind → IfSome words (λ asked. IsServed asked told → IsRefusal result → ⊥)
-plan_kept_as words asked told result before behind is ends =
-    subst (λ (w : Option Plan). IfSome w (λ asked. IsServed asked told → IsRefusal result → ⊥)) (sym is)
-    (λ has refuses. plan_kept asked told result before behind has ends refuses)
+-- if everything is accepted, the status is no refusal
+pub plan_kept_as : (words : Option Plan) (asked : Plan) (told : Sources) (result : Status)
+    (before after : Outside) → words ≡ Some asked
+    → PlanEnds asked told result before after
+    → IsServed words told → IsRefusalStatus result → ⊥
+plan_kept_as words asked told result before after is ends has refuses =
+    plan_kept asked told result before after
+    (subst (λ (w : Option Plan). IsServed w told) is has) ends refuses

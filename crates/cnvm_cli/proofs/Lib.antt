@@ -1,8 +1,10 @@
 pub mod Completing
 pub mod Digits
-pub mod Ending
+pub mod Exiting
 pub mod Meaning
-pub mod StormMeaning
 pub mod Raging
 pub mod Running
+pub mod Sources
+pub mod Statuses
+pub mod StormMeaning
 pub mod Verdicts

@@ -1,11 +1,11 @@
 -- A run means what its program's source says.
-use Rattle.std.proofs.Common.{◌≡◌, ℕ, ℤ, List, [], ◌∷◌, Bool, true, false, Option, Some, None, IfSome, is_some, inl, inr, length, append-nil, refl, sym, ap, subst}
+use Rattle.std.proofs.Common.{◌≡◌, ℕ, ℤ, List, [], ◌∷◌, Bool, true, false, Option, Some, None, is_some, inl, inr, length, append-nil, refl, sym, ap, subst}
 use Rattle.std.specs.List.{AllByRecursion}
 use Rattle.std.specs.Io.KnownBytes.{Appends, Keeps}
 use Rattle.nvm_base.proofs.Pieces.{appends_more}
 use Rattle.pmem.specs.Device.{Device}
 use Rattle.pool_layout.specs.declared.limits.Sizes.{Sizes}
-use Rattle.pool_layout.specs.Image.{Words, words_of}
+use Rattle.pool_layout.specs.Image.{Words, image_words}
 use Rattle.pool_layout.specs.Opened.{IsOpened}
 use Rattle.c_types.specs.Shapes.{shapes_of, transactions_of}
 use Rattle.cnvm_script.specs.declared.command.Command.{Command}
@@ -14,33 +14,38 @@ use Rattle.cnvm_session.specs.AnswerText.{answer_text}
 use Rattle.cnvm_session.specs.declared.mode.Mode.{Mode}
 use Rattle.cnvm_session.specs.declared.mode.Mode.TheVariants.{Ready}
 use Rattle.cnvm_session.specs.declared.program.Program.{Program}
-use Rattle.session_law.specs.Source.{Counts}
 use Rattle.session_law.specs.Agrees.{Agrees}
-use Rattle.session_law.specs.State.{State}
+use Rattle.session_law.specs.State.{SourceState}
 use Rattle.session_law.specs.Holds.{Holds}
 use Rattle.session_law.specs.Words.{AreWords}
 use Rattle.session_law.specs.Opened as session
 use Rattle.session_law.specs.History.{recovered_by, history_after}
-use Rattle.session_law.specs.Ran.{found_by, Moment, begun}
+use Rattle.session_law.specs.Ran.{found_by, Moment, fresh_moment}
 use Rattle.session_law.specs.Law.{IsWordCommand, super_words}
 use Rattle.session_law.proofs.Chains.{steps_on, open_step}
 use Rattle.session_law.proofs.Commands.{each_command}
 use Rattle.session_law.proofs.Creating.{created_rests}
 use Rattle.session_law.proofs.Opening.{opened_answers}
 use Rattle.session_law.proofs.Scripts.{script_words}
-use Rattle.compiled_law.specs.Counts.{counts_of}
 use Rattle.cnvm_words.specs.declared.plan.Plan.{Plan}
 use Rattle.cnvm_words.specs.declared.plan.Plan.TheVariants as plan
-use Rattle.cnvm_cli.specs.declared.asked.Asked.{Asked}
+use Rattle.cnvm_compile.specs.declared.asked.Asked.{Asked}
+use Rattle.cnvm_compile.specs.declared.compiling.Compiled.{Compiled}
+use Rattle.cnvm_compile.specs.Compilation.{IsCompiled}
 use Rattle.cnvm_cli.specs.declared.refused.Refused.TheVariants as refused
 use Rattle.cnvm_cli.specs.declared.status.Status.{Status}
 use Rattle.cnvm_cli.specs.declared.status.Status.TheVariants as status
-use Rattle.cnvm_cli.specs.Verdict.{CompiledFrom, HasCommands, TextsGive}
-use Rattle.cnvm_cli.specs.Opened as cli
-use Rattle.cnvm_cli.specs.Opened.{wanted_of, ImageGives, OpensAll, OpenedAs}
-use Rattle.cnvm_cli.specs.Run.{Created, RunsAll, RunsPart, RanAs}
-use Rattle.cnvm_cli.specs.Ends.{Sources, Outside, IsUntouched, Start, Fresh, FromImage, PoolEnds, JobEnds, start_if, RunEnds, PlanEnds}
-use Rattle.cnvm_cli.specs.Meant.{text_of, RanAll, RanPart, MeansAll, MeansPart, MeantAs, OpensMeant, OpensPart, OpenedMeantAs, StartMeant, JobMeant, RunMeant, PlanMeant}
+use Rattle.cnvm_cli.specs.Verdict.{HasCommands, TextsGive, asked_by}
+use Rattle.cnvm_cli.specs.Opened.{wanted_of, ImageGives, Unopened}
+use Rattle.cnvm_cli.specs.inside.Opened.{OpensAll, OpenedAs}
+use Rattle.cnvm_cli.specs.Run.{Uncreated, RefusedAs}
+use Rattle.cnvm_cli.specs.inside.Run.{RunsAndWrites, RunsPart, CreatedAll, CreatedPart, RanAs}
+use Rattle.cnvm_cli.specs.World.{Sources, Outside, IsUntouched}
+use Rattle.cnvm_cli.specs.Meant.{Start, Fresh, FromImage, start_if, text_of, RanAll, RanPart, MeansAll, MeansPart, MeantAs, OpensMeant, OpenMeansPart, OpenedMeantAs, StartMeant, JobMeant, RunMeant, PlanMeant, CallMeant}
+use Rattle.cnvm_cli.specs.inside.Ends.{PoolEnds, JobEnds, RunEnds, PlanEnds}
+use Rattle.cnvm_cli.specs.inside.Opened as cli
+use Rattle.cnvm_cli.proofs.Sources.{known_bytes}
+use Rattle.cnvm_cli.proofs.Statuses.{status_map}
 use Rattle.cnvm_cli.proofs.StormMeaning.{storm_meant}
 
 -- nothing is written
@@ -51,21 +56,36 @@ none_written w w' is = subst (λ (v : Option (List ℕ)). Appends w v []) (sym i
     same None = tt
     same (Some bytes) = sym (append-nil bytes)
 
-module _ (program : Program) (counts : Counts) (super : Words) (agrees : Agrees program counts) where
+module _ (program : Program) (super : Words)
+    (agrees : Agrees program) where
   -- the moment after a command
   abbrev next_to : (c : Command) (x : Moment) (a : Answer) (n : Mode) (b : Device) (k1 : ℕ) →
-      State → Moment
-  next_to c x a n b k1 t = record { mode = n; device = b; steps = k1; state = t; history = history_after program x.state (found_by c x.device) c a x.history }
+      SourceState → Moment
+  next_to c x a n b k1 t = record {
+    mode = n;
+    device = b;
+    steps = k1;
+    state = t;
+    history = history_after program x.state (found_by c x.device) c a x.history;
+  }
 
   run_all : (commands : List Command) → AllByRecursion IsWordCommand commands →
       (x : Moment) (d' : Device) (w w' : Option (List ℕ)) (k' : ℕ) →
       Holds program super x.mode x.device x.state
-      → RunsAll program commands x.mode x.device w x.steps d' w' k' →
-      RanAll program counts super commands x w w' d' k'
+      → RunsAndWrites program commands x.mode x.device w x.steps d' w' k' →
+      RanAll program super commands x w w' d' k'
   run_all [] words x d' w w' k' holds r =
-      record { answers = []; last = x; ran = refl; device = sym r.0; steps = sym r.2; written = none_written w w' r.1 }
+      record {
+        answers = [];
+        last = x;
+        ran = refl;
+        device = sym r.0;
+        steps = sym r.2;
+        written = none_written w w' r.1;
+      }
   run_all (c ∷ commands) words x d' w w' k' holds r =
-      let one = steps_on each_command program counts super agrees c x r.0 r.1 r.2 r.4 words.0 holds r.5 in
+      let one = steps_on each_command program super agrees c x r.0 r.1 r.2 r.4 words.0
+      holds r.5 in
       let y : Moment = next_to c x r.0 r.1 r.2 r.4 one.0 in
       let rest = run_all commands words.1 y d' r.3 w' k' one.1.holds r.7 in
       record {
@@ -81,10 +101,11 @@ module _ (program : Program) (counts : Counts) (super : Words) (agrees : Agrees 
       (x : Moment) (d' : Device) (w w' : Option (List ℕ)) (k' : ℕ) →
       Holds program super x.mode x.device x.state
       → RunsPart program commands x.mode x.device w x.steps d' w' k' →
-      RanPart program counts super commands x w w' d' k'
+      RanPart program super commands x w w' d' k'
   run_part [] words x d' w w' k' holds r = absurd r
   run_part (c ∷ commands) words x d' w w' k' holds (inl r) =
-      let one = steps_on each_command program counts super agrees c x r.0 r.1 d' k' words.0 holds r.2 in
+      let one = steps_on each_command program super agrees c x r.0 r.1 d' k' words.0
+      holds r.2 in
       record {
         first = [];
         next = c;
@@ -103,7 +124,8 @@ module _ (program : Program) (counts : Counts) (super : Words) (agrees : Agrees 
         part = r.3;
       }
   run_part (c ∷ commands) words x d' w w' k' holds (inr r) =
-      let one = steps_on each_command program counts super agrees c x r.0 r.1 r.2 r.4 words.0 holds r.5 in
+      let one = steps_on each_command program super agrees c x r.0 r.1 r.2 r.4 words.0
+      holds r.5 in
       let y : Moment = next_to c x r.0 r.1 r.2 r.4 one.0 in
       let rest = run_part commands words.1 y d' r.3 w' k' one.1.holds r.7 in
       record {
@@ -125,132 +147,195 @@ module _ (program : Program) (counts : Counts) (super : Words) (agrees : Agrees 
         part = rest.part;
       }
 
-module _ (program : Program) (counts : Counts) (agrees : Agrees program counts) (commands : List Command) (words : AllByRecursion IsWordCommand commands) where
+module _ (program : Program) (agrees : Agrees program)
+    (commands : List Command) (words : AllByRecursion IsWordCommand commands) where
   created_all : (w w' : Option (List ℕ)) (d d' : Device) (k k' : ℕ) →
-      (b : Device) × Created program d b × RunsAll program commands Ready b w k d' w' k' →
-      MeansAll program counts commands w w' d d' k k'
+      CreatedAll program commands w w' d d' k k' →
+      MeansAll program commands w w' d d' k k'
   created_all w w' d d' k k' r =
-      let holds = created_rests program d r.0 r.1 in
-      (r.0, r.1, holds, run_all program counts (super_words program) agrees commands words (begun program r.0 k) d' w w' k' holds r.2)
+      let holds = created_rests program d r.0 r.1 in (
+        r.0,
+        r.1,
+        holds,
+        run_all program (super_words program) agrees commands words
+            (fresh_moment program r.0 k) d' w w' k' holds r.2,
+      )
 
   created_part : (w w' : Option (List ℕ)) (d d' : Device) (k k' : ℕ) →
-      (b : Device) × Created program d b × RunsPart program commands Ready b w k d' w' k' →
-      MeansPart program counts commands w w' d d' k k'
+      CreatedPart program commands w w' d d' k k' →
+      MeansPart program commands w w' d d' k k'
   created_part w w' d d' k k' r =
-      let holds = created_rests program d r.0 r.1 in
-      (r.0, r.1, holds, run_part program counts (super_words program) agrees commands words (begun program r.0 k) d' w w' k' holds r.2)
+      let holds = created_rests program d r.0 r.1 in (
+        r.0,
+        r.1,
+        holds,
+        run_part program (super_words program) agrees commands words
+            (fresh_moment program r.0 k) d' w w' k' holds r.2,
+      )
 
   ran_meant : (result : Status) (w w' : Option (List ℕ)) (d d' : Device) (k k' : ℕ) →
       RanAs program commands result w w' d d' k k' →
-      MeantAs program counts commands result w w' d d' k k'
-  ran_meant status.Done w w' d d' k k' r = created_all w w' d d' k k' r
-  ran_meant status.WriteFault w w' d d' k k' r = created_part w w' d d' k k' r
-  ran_meant status.NoMemory w w' d d' k k' (inl keeps) = inl keeps
-  ran_meant status.NoMemory w w' d d' k k' (inr r) = inr (created_part w w' d d' k k' r)
-  ran_meant status.DeviceFault w w' d d' k k' r = r
-  ran_meant status.ReadFault w w' d d' k k' r = absurd r
-  ran_meant status.Usage w w' d d' k k' r = absurd r
-  ran_meant status.Program w w' d d' k k' r = absurd r
-  ran_meant status.Script w w' d d' k k' r = absurd r
-  ran_meant status.Image w w' d d' k k' r = absurd r
+      MeantAs program commands result w w' d d' k k'
+  ran_meant result w w' d d' k k' r =
+      status_map (λ why. Uncreated program why w w' d d' k k') (created_part w w' d d' k k')
+      (created_all w w' d d' k k') (created_part w w' d d' k k') result r
 
-  -- the pool of an image
-  abbrev opened_to : List ℤ → Answer → Mode → Device → ℕ → State → Moment
-  opened_to list a m b k1 t = record { mode = m; device = b; steps = k1; state = t; history = recovered_by (session.opened program (words_of list)) (words_of list) a }
+  -- the moment after the pool of an image was opened
+  abbrev opened_to : List ℤ → Answer → Mode → Device → ℕ → SourceState → Moment
+  opened_to list a m b k1 t = record {
+    mode = m;
+    device = b;
+    steps = k1;
+    state = t;
+    history = recovered_by (session.opened program (image_words list)) (image_words list) a;
+  }
 
   opens_meant : (words : List ℤ) → AreWords words → IsOpened (session.wanted_of program) words →
       (w w' : Option (List ℕ)) (d d' : Device) (k k' : ℕ) →
       OpensAll program commands words w w' d d' k k' →
-      OpensMeant program counts commands words w w' d d' k k'
+      OpensMeant program commands words w w' d d' k k'
   opens_meant list are opened w w' d d' k k' r =
-      let first = open_step opened_answers program counts list r.1 d r.2 r.0 k r.4 agrees are opened r.5 in
-      let x : Moment = opened_to list r.0 r.1 r.2 r.4 first.0 in
-      (r.0, x, r.3, first.1, r.6, run_all program counts (words_of list) agrees commands words x d' r.3 w' k' first.1.holds r.7)
+      let first = open_step opened_answers program list r.1 d r.2 r.0 k r.4 agrees are
+      opened r.5 in
+      let x : Moment = opened_to list r.0 r.1 r.2 r.4 first.0 in (
+        r.0,
+        x,
+        r.3,
+        first.1,
+        r.6,
+        run_all program (image_words list) agrees commands words x
+            d' r.3 w' k' first.1.holds r.7,
+      )
 
   part_meant : (words : List ℤ) → AreWords words → IsOpened (session.wanted_of program) words →
       (w w' : Option (List ℕ)) (d d' : Device) (k k' : ℕ) →
       cli.OpensPart program commands words w w' d d' k k' →
-      OpensPart program counts commands words w w' d d' k k'
+      OpenMeansPart program commands words w w' d d' k k'
   part_meant list are opened w w' d d' k k' (inl r) =
-      let first = open_step opened_answers program counts list r.1 d d' r.0 k k' agrees are opened r.2 in
+      let first = open_step opened_answers program list r.1 d d' r.0 k k' agrees are
+      opened r.2 in
       inl (r.0, opened_to list r.0 r.1 d' k' first.0, first.1, refl, refl, r.3)
   part_meant list are opened w w' d d' k k' (inr r) =
-      let first = open_step opened_answers program counts list r.1 d r.2 r.0 k r.4 agrees are opened r.5 in
+      let first = open_step opened_answers program list r.1 d r.2 r.0 k r.4 agrees are
+      opened r.5 in
       let x : Moment = opened_to list r.0 r.1 r.2 r.4 first.0 in
-      inr (r.0, x, r.3, first.1, r.6, run_part program counts (words_of list) agrees commands words x d' r.3 w' k' first.1.holds r.7)
+      inr (
+        r.0,
+        x,
+        r.3,
+        first.1,
+        r.6,
+        run_part program (image_words list) agrees commands
+            words x d' r.3 w' k' first.1.holds r.7,
+      )
 
   opened_meant : (words : List ℤ) → AreWords words → IsOpened (session.wanted_of program) words →
       (result : Status) (w w' : Option (List ℕ)) (d d' : Device) (k k' : ℕ) →
       OpenedAs program commands words result w w' d d' k k' →
-      OpenedMeantAs program counts commands words result w w' d d' k k'
-  opened_meant list are opened status.Done w w' d d' k k' r = opens_meant list are opened w w' d d' k k' r
-  opened_meant list are opened status.WriteFault w w' d d' k k' r = part_meant list are opened w w' d d' k k' r
-  opened_meant list are opened status.NoMemory w w' d d' k k' (inl keeps) = inl keeps
-  opened_meant list are opened status.NoMemory w w' d d' k k' (inr r) = inr (part_meant list are opened w w' d d' k k' r)
-  opened_meant list are opened status.DeviceFault w w' d d' k k' r = r
-  opened_meant list are opened status.ReadFault w w' d d' k k' r = absurd r
-  opened_meant list are opened status.Usage w w' d d' k k' r = absurd r
-  opened_meant list are opened status.Program w w' d d' k k' r = absurd r
-  opened_meant list are opened status.Script w w' d d' k k' r = absurd r
-  opened_meant list are opened status.Image w w' d d' k k' r = absurd r
+      OpenedMeantAs program commands words result w w' d d' k k'
+  opened_meant list are opened result w w' d d' k k' r =
+      status_map (λ why. Unopened program list why w w' d d' k k')
+      (part_meant list are opened w w' d d' k k') (opens_meant list are opened w w' d d' k k')
+      (part_meant list are opened w w' d d' k k') result r
 
   module _ (sizes : program.image.parts.sizes ≡ program.sizes) where
-    wanted_same : (list : List ℤ) → IsOpened (wanted_of program) list → IsOpened (session.wanted_of program) list
+    wanted_same : (list : List ℤ) → IsOpened (wanted_of program) list
+        → IsOpened (session.wanted_of program) list
     wanted_same list is =
-        subst (λ (z : Sizes). IsOpened (record { sizes = z; digest = program.digest; txs = length (transactions_of program.typed); structs = length (shapes_of program.typed).structs }) list) (sym sizes) is
+        subst (λ (z : Sizes). IsOpened
+        (record {
+          sizes = z;
+          digest = program.digest;
+          txs = length (transactions_of program.typed);
+          structs = length (shapes_of program.typed).structs;
+        }) list) (sym sizes) is
 
     start_meant :
         (start : Start) (result : Status) (w w' : Option (List ℕ)) (d d' : Device) (k k' : ℕ) →
         PoolEnds start program commands result w w' d d' k k' →
-        StartMeant start program counts commands result w w' d d' k k'
+        StartMeant start program commands result w w' d d' k k'
     start_meant Fresh result w w' d d' k k' ends = ran_meant result w w' d d' k k' ends
     start_meant (FromImage image) result w w' d d' k k' (inl refused) =
         inl (refused.0, refused.1, refused.2, refused.3, refused.4)
     start_meant (FromImage image) result w w' d d' k k' (inr ran) =
         let gives : ImageGives program image ran.0 = ran.1 in
-        inr (ran.0, gives, opened_meant ran.0 gives.1 (wanted_same ran.0 gives.0) result w w' d d' k k' ran.2)
+        inr (
+          ran.0,
+          gives,
+          opened_meant ran.0 gives.1 (wanted_same ran.0 gives.0) result w w' d d'
+              k k' ran.2,
+        )
 
-    job_meant : (saves : Bool) (start : Start) (result : Status) (before behind : Outside) → JobEnds saves start program commands result before behind → JobMeant saves start program counts commands result before behind
-    job_meant false start result before behind ends = start_meant start result before.out behind.out before.dev behind.dev before.steps behind.steps ends.0
-    job_meant true start result before behind ends =
-        (ends.0, ends.1, start_meant start ends.0 before.out behind.out before.dev ends.1 before.steps behind.steps ends.2, ends.3)
+    job_meant : (saves : Bool) (start : Start) (result : Status) (before after : Outside)
+        → JobEnds saves start program commands result before after
+        → JobMeant saves start program commands result before after
+    job_meant false start result before after ends = (
+      start_meant start result before.out after.out before.dev after.dev before.steps
+          after.steps ends.0,
+      ends.1,
+    )
+    job_meant true start result before after ends = (
+      ends.0,
+      ends.1,
+      start_meant start ends.0 before.out after.out before.dev ends.1
+          before.steps after.steps ends.2,
+      ends.3,
+    )
 
--- where the sources tell both texts
-texts_meant : (asked : Asked) (p s : Option (List ℕ)) (start : Start) (saves : Bool) (program : Program) (commands : List Command) (result : Status) (before behind : Outside) → TextsGive asked p s program commands → JobEnds saves start program commands result before behind →
-    IfSome p (λ text. IfSome s (λ script. (from : CompiledFrom asked text program) × JobMeant saves start program (counts_of program from.code.marks) commands result before behind))
-texts_meant asked None s start saves program commands result before behind gives ends = tt
-texts_meant asked (Some text) None start saves program commands result before behind gives ends = tt
-texts_meant asked (Some text) (Some script) start saves program commands result before behind gives ends =
-    let from : CompiledFrom asked text program = gives.0 in
-    let has : HasCommands commands script = gives.1 in
-    (from, job_meant program (counts_of program from.code.marks) from.agrees commands (script_words script commands has.1) from.image saves start result before behind ends)
-
-run_meant : (asked : Asked) (told : Sources) (opens saves : Bool) (result : Status) (before behind : Outside) → RunEnds asked told opens saves result before behind → RunMeant asked told opens saves result before behind
-run_meant asked told opens saves result before behind (inl refused) =
+run_meant : (asked : Asked) (told : Sources) (opens saves : Bool) (result : Status)
+    (before after : Outside) → RunEnds asked told opens saves result before after
+    → RunMeant asked told opens saves result before after
+run_meant asked told opens saves result before after (inl refused) =
     inl (refused.0, refused.1, refused.2, refused.3)
-run_meant asked told opens saves result before behind (inr ran) =
-    inr (ran.0, ran.1, ran.2, texts_meant asked told.program told.script (start_if opens told.image) saves ran.0 ran.1 result before behind ran.2 ran.3)
+run_meant asked told opens saves result before after (inr ran) =
+    let compiled : Compiled = ran.0 in
+    let gives : TextsGive asked told.program told.script compiled ran.1 = ran.2 in
+    let from = known_bytes told.program (λ text. IsCompiled asked text compiled) gives.0 in
+    let has = known_bytes told.script (HasCommands ran.1) gives.1 in
+    inr (
+      compiled,
+      ran.1,
+      gives,
+      job_meant compiled.program from.1.agrees ran.1 (script_words has.0 ran.1 has.1.1)
+          from.1.image saves (start_if opens told.image) result before after ran.3,
+    )
 
-plan_meant : (asked : Plan) (told : Sources) (result : Status) (before behind : Outside) → PlanEnds asked told result before behind → PlanMeant asked told result before behind
-plan_meant (plan.Run p s slots records ticks from save) told result before behind ends =
-    run_meant (record { slots = slots; records = records; ticks = ticks }) told (is_some from) (is_some save) result before behind ends
-plan_meant (plan.List p) told result before behind ends = tt
-plan_meant (plan.Storm p start count slots records ticks) told result before behind ends =
-    storm_meant (record { slots = slots; records = records; ticks = ticks }) start count told.program result before.out behind.out before.dev behind.dev before.steps behind.steps ends.0
+plan_meant : (asked : Plan) (told : Sources) (result : Status) (before after : Outside)
+    → PlanEnds asked told result before after → PlanMeant asked told result before after
+plan_meant (plan.Run p s slots records ticks from save) told result before after ends =
+    run_meant (asked_by slots records ticks) told (is_some from) (is_some save) result before
+    after ends
+plan_meant (plan.List p) told result before after ends = ends
+plan_meant (plan.Storm p start count slots records ticks) told result before after ends = (
+  storm_meant (asked_by slots records ticks) start count told.program result before.out after.out
+      before.dev after.dev before.steps after.steps ends.0,
+  ends.1,
+)
 
--- of words that are a plan
-pub plan_meant_as : (words : Option Plan) (asked : Plan) (told : Sources) (result : Status) (before behind : Outside) → words ≡ Some asked
-    → PlanEnds asked told result before behind → IfSome words (λ asked. PlanMeant asked told result before behind)
-plan_meant_as words asked told result before behind is ends =
-    subst (λ (w : Option Plan). IfSome w (λ asked. PlanMeant asked told result before behind)) (sym is) (plan_meant asked told result before behind ends)
+-- words that make a plan
+pub plan_meant_as : (words : Option Plan) (asked : Plan) (told : Sources) (result : Status)
+    (before after : Outside) → words ≡ Some asked
+    → PlanEnds asked told result before after → CallMeant words told result before after
+plan_meant_as words asked told result before after is ends =
+    subst (λ (w : Option Plan). CallMeant w told result before after) (sym is)
+    (plan_meant asked told result before after ends)
 
--- a call that finds no memory for its words
-pub memory_meant : (words : Option Plan) (told : Sources) (before behind : Outside) →
-    Keeps before.out behind.out → IsUntouched before behind →
-    IfSome words (λ asked. PlanMeant asked told status.NoMemory before behind)
-memory_meant None told before behind keeps same = tt
-memory_meant (Some (plan.Run p s slots records ticks from save)) told before behind keeps same =
-    inl (refused.NoMemory, tt, (refl, keeps), same)
-memory_meant (Some (plan.List p)) told before behind keeps same = tt
-memory_meant (Some (plan.Storm p start count slots records ticks)) told before behind keeps same =
-    inl (refused.NoMemory, tt, (refl, keeps), same.1, same.2)
+-- words that make none
+pub usage_meant : (words : Option Plan) (told : Sources) (result : Status)
+    (before after : Outside) → words ≡ None
+    → RefusedAs refused.Usage result before.out after.out → IsUntouched before after
+    → CallMeant words told result before after
+usage_meant words told result before after is tells same =
+    subst (λ (w : Option Plan). CallMeant w told result before after) (sym is) (tells, same)
+
+-- a call that finds no memory to read its words
+pub memory_meant : (words : Option Plan) (told : Sources) (before after : Outside) →
+    Keeps before.out after.out → IsUntouched before after →
+    CallMeant words told status.NoMemory before after
+memory_meant None told before after keeps same = (inr (inl (refl, keeps)), same)
+memory_meant (Some (plan.Run p s slots records ticks from save)) told before after keeps same =
+    inl (refused.NoMemory, inl tt, (refl, keeps), same)
+memory_meant (Some (plan.List p)) told before after keeps same =
+    (inl (refused.NoMemory, tt, (refl, keeps)), same)
+memory_meant (Some (plan.Storm p start count slots records ticks)) told before after keeps same =
+    (inl (refused.NoMemory, tt, (refl, keeps), same.1, same.2), same.0)

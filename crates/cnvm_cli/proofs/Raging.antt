@@ -1,5 +1,5 @@
--- The rounds of a storm, one behind the other.
-use Rattle.std.proofs.Common.{◌≡◌, ℕ, suc, ◌+◌, ◌<◌, ◌≤◌, List, [], ◌∷◌, Some, length, drop, get_or, refl, sym, subst, arith}
+-- The rounds of a storm, one after another.
+use Rattle.std.proofs.Common.{◌≡◌, ℕ, suc, ◌+◌, ◌-◌, ◌^◌, ◌<◌, ◌≤◌, min, List, [], ◌∷◌, Some, length, drop, get_or, Result, Ok, Err, OnErr, refl, sym, subst, arith}
 use Rattle.std.proofs.lemmas.List.{drop_all}
 use Rattle.pmem.specs.Device.{Device}
 use Rattle.c_parser.specs.ItemTree.{FunctionTree}
@@ -11,37 +11,105 @@ use Rattle.cnvm_session.specs.declared.mode.Mode.{Mode}
 use Rattle.cnvm_session.specs.declared.program.Program.{Program}
 use Rattle.cnvm_session.specs.Commands.{Commanded}
 use Rattle.cnvm_cli.specs.declared.storm.Tally.{Tally}
-use Rattle.cnvm_cli.specs.Stormed.{counted, Counts, Rounds, RoundsOf}
+use Rattle.cnvm_cli.specs.Stormed.{counted}
+use Rattle.cnvm_cli.specs.inside.Stormed.{CountsAnswers, Rounds, RoundsPart, RoundsOf, RagesPart}
 use Rattle.cnvm_cli.proofs.Running.{commands_at}
 
--- one command counts, and then the rest
-pub counts_more : (p : Program) (cs : List Command) (i : ℕ) (x : Command) (t t' : Tally) (m m1 m' : Mode) (d d1 d' : Device) (k k1 k' : ℕ) (a : Answer)
+-- one command is counted, followed by the rest
+pub counts_more : (p : Program) (cs : List Command) (i : ℕ) (x : Command) (t t' : Tally)
+    (m m1 m' : Mode) (d d1 d' : Device) (k k1 k' : ℕ) (a : Answer)
     → i < length cs → x ≡ get_or cs i x → Commanded p x m d a m1 d1 k k1
-    → Counts p (drop (i + 1) cs) (counted x a t) m1 d1 k1 t' m' d' k' → Counts p (drop i cs) t m d k t' m' d' k'
+    → CountsAnswers p (drop (i + 1) cs) (counted x a t) m1 d1 k1 t' m' d' k'
+    → CountsAnswers p (drop i cs) t m d k t' m' d' k'
 counts_more p cs i x t t' m m1 m' d d1 d' k k1 k' a less is one rest =
-    subst (λ (l : List Command). Counts p l t m d k t' m' d' k') (sym (commands_at cs i x less is)) (a, m1, d1, k1, one, rest)
+    subst (λ (l : List Command). CountsAnswers p l t m d k t' m' d' k')
+    (sym (commands_at cs i x less is)) (a, m1, d1, k1, one, rest)
 
-pub counts_none : (p : Program) (cs : List Command) (i : ℕ) (t : Tally) (m : Mode) (d : Device) (k : ℕ)
-    → length cs ≤ i → Counts p (drop i cs) t m d k t m d k
+pub counts_none : (p : Program) (cs : List Command) (i : ℕ) (t : Tally) (m : Mode)
+    (d : Device) (k : ℕ)
+    → length cs ≤ i → CountsAnswers p (drop i cs) t m d k t m d k
 counts_none p cs i t m d k none =
-    subst (λ (l : List Command). Counts p l t m d k t m d k) (sym (drop_all i cs none)) (refl, refl, refl, refl)
+    subst (λ (l : List Command). CountsAnswers p l t m d k t m d k) (sym (drop_all i cs none))
+    (refl, refl, refl, refl)
 
--- one round, and then the rest
-pub rounds_more : (p : Program) (x y n less : ℕ) (cs : List Command) (t t1 t' : Tally) (m m1 m' : Mode) (d d1 d' : Device) (k k1 k' : ℕ)
-    → n ≡ suc less → Some cs ≡ storm_round x (transactions_of p.typed) → Some y ≡ storm_after x (transactions_of p.typed)
-    → Counts p cs t m d k t1 m1 d1 k1 → Rounds p y less t1 m1 d1 k1 t' m' d' k' → Rounds p x n t m d k t' m' d' k'
+-- one round, followed by the rest
+pub rounds_more : (p : Program) (x y n less : ℕ) (cs : List Command) (t t1 t' : Tally)
+    (m m1 m' : Mode) (d d1 d' : Device) (k k1 k' : ℕ)
+    → n ≡ suc less → Some cs ≡ storm_round x (transactions_of p.typed)
+    → Some y ≡ storm_after x (transactions_of p.typed)
+    → CountsAnswers p cs t m d k t1 m1 d1 k1 → Rounds p y less t1 m1 d1 k1 t' m' d' k'
+    → Rounds p x n t m d k t' m' d' k'
 rounds_more p x y n less cs t t1 t' m m1 m' d d1 d' k k1 k' is commands next one rest =
-    subst (λ (i : ℕ). Rounds p x i t m d k t' m' d' k') (sym is) (cs, y, commands, next, t1, m1, d1, k1, one, rest)
+    subst (λ (i : ℕ). Rounds p x i t m d k t' m' d' k') (sym is) (
+      cs,
+      y,
+      commands,
+      next,
+      t1,
+      m1,
+      d1,
+      k1,
+      one,
+      rest,
+    )
 
-pub rounds_none : (p : Program) (x n : ℕ) (t : Tally) (m : Mode) (d : Device) (k : ℕ) → n ≡ 0 → Rounds p x n t m d k t m d k
-rounds_none p x n t m d k is = subst (λ (i : ℕ). Rounds p x i t m d k t m d k) (sym is) (refl, refl, refl, refl)
+pub rounds_none : (p : Program) (x n : ℕ) (t : Tally) (m : Mode) (d : Device) (k : ℕ) → n ≡ 0
+    → Rounds p x n t m d k t m d k
+rounds_none p x n t m d k is =
+    subst (λ (i : ℕ). Rounds p x i t m d k t m d k) (sym is) (refl, refl, refl, refl)
 
-pub some_rounds : (fs : List FunctionTree) (p : Program) (x n : ℕ) (t t' : Tally) (m m' : Mode) (d d' : Device) (k k' : ℕ)
+-- one round, followed by fewer than the rest
+pub rounds_part_more : (p : Program) (x y n less : ℕ) (cs : List Command) (t t1 : Tally)
+    (m m1 : Mode) (d d1 d' : Device) (k k1 k' : ℕ)
+    → n ≡ suc less → Some cs ≡ storm_round x (transactions_of p.typed)
+    → Some y ≡ storm_after x (transactions_of p.typed)
+    → CountsAnswers p cs t m d k t1 m1 d1 k1 → RoundsPart p y less t1 m1 d1 k1 d' k'
+    → RoundsPart p x n t m d k d' k'
+rounds_part_more p x y n less cs t t1 m m1 d d1 d' k k1 k' is commands next one rest =
+    subst (λ (i : ℕ). RoundsPart p x i t m d k d' k') (sym is) (
+      suc rest.0,
+      omega (arith, rest.1),
+      rest.2,
+      rest.3,
+      (cs, y, commands, next, t1, m1, d1, k1, one, rest.4),
+    )
+
+-- no round of some
+pub rounds_part_none : (p : Program) (x n : ℕ) (t : Tally) (m : Mode) (d : Device) (k : ℕ) → 0 < n
+    → RoundsPart p x n t m d k d k
+rounds_part_none p x n t m d k some = (0, some, t, m, (refl, refl, refl, refl))
+
+pub some_rounds : (fs : List FunctionTree) (p : Program) (x n : ℕ) (t t' : Tally) (m m' : Mode)
+    (d d' : Device) (k k' : ℕ)
     → 0 < length fs → Rounds p x n t m d k t' m' d' k' → RoundsOf fs p x n t m d k t' m' d' k'
 some_rounds [] p x n t t' m m' d d' k k' some rounds = let no : ⊥ = omega (arith, some) in absurd no
 some_rounds (f ∷ fs) p x n t t' m m' d d' k k' some rounds = rounds
 
-pub no_rounds : (fs : List FunctionTree) (p : Program) (x n : ℕ) (t : Tally) (m : Mode) (d : Device) (k : ℕ)
+pub no_rounds : (fs : List FunctionTree) (p : Program) (x n : ℕ) (t : Tally) (m : Mode)
+    (d : Device) (k : ℕ)
     → length fs ≡ 0 → RoundsOf fs p x n t m d k t m d k
 no_rounds [] p x n t m d k none = (refl, refl, refl, refl)
 no_rounds (f ∷ fs) p x n t m d k none = let no : ⊥ = omega (arith, none) in absurd no
+
+pub some_rages : (p : Program) (start n : ℕ) (t : Tally) (m : Mode) (d d' : Device) (k k' : ℕ)
+    → 0 < length (transactions_of p.typed)
+    → RoundsPart p (min start (2 ^ 32 - 1)) n t m d k d' k' → RagesPart p start n t m d k d' k'
+some_rages p start n t m d d' k k' some part = (
+  part.0,
+  part.1,
+  part.2,
+  part.3,
+  some_rounds (transactions_of p.typed) p (min start (2 ^ 32 - 1)) part.0 t part.2 m
+      part.3 d d' k k'
+      some part.4,
+)
+
+-- a storm whose rounds end early, by its answer
+pub rages_part : {A E : Type 0} (r : Result A E) (p : Program) (start x n : ℕ) (t : Tally)
+    (m : Mode) (d d' : Device) (k k' : ℕ) → x ≡ min start (2 ^ 32 - 1)
+    → 0 < length (transactions_of p.typed) → OnErr r (RoundsPart p x n t m d k d' k')
+    → OnErr r (RagesPart p start n t m d k d' k')
+rages_part (Ok v) p start x n t m d d' k k' same some part = tt
+rages_part (Err e) p start x n t m d d' k k' same some part =
+    some_rages p start n t m d d' k k' some
+    (subst (λ (y : ℕ). RoundsPart p y n t m d k d' k') same part)

@@ -1,54 +1,60 @@
--- Completeness: where the texts and the image are accepted, no status says that one of them is refused.
+-- Completeness: if the texts and the image are accepted, no status says that one of them is
+-- refused.
 use Rattle.std.specs.Prelude.{ℕ, List, Bool, true, Option, Some, None, is_some, ◌≡◌, ⊤}
 use Rattle.pool_layout.specs.Fault.{Accepts}
 use Rattle.cnvm_script.specs.declared.command.Command.{Command}
-use Rattle.cnvm_session.specs.declared.program.Program.{Program}
+use Rattle.cnvm_compile.specs.declared.compiling.Compiled.{Compiled}
+use Rattle.cnvm_compile.specs.Compilation.{IsCompiled}
 use Rattle.cnvm_words.specs.declared.plan.Plan.{Plan}
 use Rattle.cnvm_words.specs.declared.plan.Plan.TheVariants as plan
-use Rattle.cnvm_cli.specs.declared.asked.Asked.{Asked}
+use Rattle.cnvm_compile.specs.declared.asked.Asked.{Asked}
 use Rattle.cnvm_cli.specs.declared.status.Status.{Status}
 use Rattle.cnvm_cli.specs.declared.status.Status.TheVariants as status
-use Rattle.cnvm_cli.specs.Ends.{Sources, listed}
+use Rattle.cnvm_cli.specs.Listed.{listing_sizes}
 use Rattle.cnvm_cli.specs.Opened.{wanted_of, read_part}
-use Rattle.cnvm_cli.specs.Verdict.{CompiledFrom, IsAccepted, HasCommands}
+use Rattle.cnvm_cli.specs.Verdict.{asked_by, IsAccepted, HasCommands}
+use Rattle.cnvm_cli.specs.World.{Sources}
 
--- the source tells a program's text, and a tree that breaks no rule spells its tokens
+-- the source shows a program's text whose tokens spell a tree that breaks no rule
 abbrev pub HasProgram : Asked → Option (List ℕ) → Type 0
 HasProgram asked None = ⊥
 HasProgram asked (Some text) = IsAccepted asked text
 
--- the source tells a script of commands
+-- the source shows a script of commands
 abbrev pub HasScript : Option (List ℕ) → Type 0
 HasScript None = ⊥
 HasScript (Some text) = (commands : List Command) × HasCommands commands text
 
--- the source tells an image that each program of this text accepts
+-- the source shows an image that each program of this text accepts
 abbrev pub HasImage : Asked → (program image : Option (List ℕ)) → Type 0
 HasImage asked None image = ⊥
 HasImage asked (Some text) None = ⊥
 HasImage asked (Some text) (Some bytes) =
-    (program : Program) → CompiledFrom asked text program → Accepts (wanted_of program) (read_part program bytes)
+    (compiled : Compiled) → IsCompiled asked text compiled →
+    Accepts (wanted_of compiled.program) (read_part compiled.program bytes)
 
 abbrev pub IsRunServed : Asked → Sources → (opens : Bool) → Type 0
 IsRunServed asked told opens =
-    HasProgram asked told.program × HasScript told.script × (opens ≡ true → HasImage asked told.program told.image)
+    HasProgram asked told.program × HasScript told.script
+    × (opens ≡ true → HasImage asked told.program told.image)
 
--- all that the plan reads is there and is accepted
-abbrev pub IsServed : Plan → Sources → Type 0
-IsServed (plan.Run p s slots records ticks from save) told =
-    IsRunServed (record { slots = slots; records = records; ticks = ticks }) told (is_some from)
-IsServed (plan.List p) told = HasProgram listed told.program
-IsServed (plan.Storm p start count slots records ticks) told =
-    HasProgram (record { slots = slots; records = records; ticks = ticks }) told.program
+-- everything that the plan reads is there and is accepted
+abbrev pub IsPlanServed : Plan → Sources → Type 0
+IsPlanServed (plan.Run p s slots records ticks from save) told =
+    IsRunServed (asked_by slots records ticks) told (is_some from)
+IsPlanServed (plan.List p) told = HasProgram listing_sizes told.program
+IsPlanServed (plan.Storm p start count slots records ticks) told =
+    HasProgram (asked_by slots records ticks) told.program
+
+-- the words ask for something, and all that they ask for is served
+abbrev pub IsServed : Option Plan → Sources → Type 0
+IsServed None told = ⊥
+IsServed (Some asked) told = IsPlanServed asked told
 
 -- the words, the program, the script or the image were refused
-abbrev pub IsRefusal : Status → Type 0
-IsRefusal status.Usage = ⊤
-IsRefusal status.Program = ⊤
-IsRefusal status.Script = ⊤
-IsRefusal status.Image = ⊤
-IsRefusal status.Done = ⊥
-IsRefusal status.NoMemory = ⊥
-IsRefusal status.ReadFault = ⊥
-IsRefusal status.WriteFault = ⊥
-IsRefusal status.DeviceFault = ⊥
+abbrev pub IsRefusalStatus : Status → Type 0
+IsRefusalStatus status.Usage = ⊤
+IsRefusalStatus status.Program = ⊤
+IsRefusalStatus status.Script = ⊤
+IsRefusalStatus status.Image = ⊤
+IsRefusalStatus _ = ⊥

@@ -1,5 +1,5 @@
--- What is told where there is nothing to run: the line, and the status. Of a source or a device that failed, and of want of
--- memory, nothing is told.
+-- What is reported if there is nothing to run: the line, and the status. Of a source or a device
+-- that failed, and of want of memory, nothing is reported.
 use Rattle.std.specs.Prelude.{ℕ, ℤ, ◌/◌, ◌%◌, zero, suc, List, [], ◌∷◌, ◌++◌, Bool, true, false, codes, slice_index}
 use Rattle.std.specs.Fmt.{decimal, signed_decimal}
 use Rattle.std.specs.Int.{w64, cast_unsigned}
@@ -15,7 +15,7 @@ use Rattle.cnvm_cli.specs.declared.status.Status.TheVariants as status
 abbrev pub digit : ℕ → ℕ
 digit n = slice_index (codes "0123456789abcdef") n
 
--- the k least bytes of a number, two digits each
+-- the k lowest bytes of a number, lowest first, two digits each
 abbrev pub hex : (k n : ℕ) → List ℕ
 hex zero n = []
 hex (suc k) n = digit (n / 16 % 16) ∷ digit (n % 16) ∷ hex k (n / 256)
@@ -28,21 +28,28 @@ abbrev pub digest_text : List ℤ → List ℕ
 digest_text [] = []
 digest_text (word ∷ words) = word_text (cast_unsigned w64 word) ++ digest_text words
 
--- two values behind the name of the fault
+-- the name of the fault, followed by two values
 abbrev pub image_line : List ℕ → List ℕ → List ℕ → List ℕ
-image_line name found wanted = codes "image " ++ (name ++ (32 ∷ (found ++ (32 ∷ (wanted ++ 10 ∷ [])))))
+image_line name found wanted =
+    codes "image " ++ (name ++ (32 ∷ (found ++ (32 ∷ (wanted ++ 10 ∷ [])))))
 
 abbrev pub fault_line : ImageFault → List ℕ
 fault_line (image.Short found needed) = image_line (codes "short") (decimal found) (decimal needed)
-fault_line (image.Magic found wanted) = image_line (codes "magic") (signed_decimal found) (signed_decimal wanted)
-fault_line (image.Version found wanted) = image_line (codes "version") (signed_decimal found) (signed_decimal wanted)
-fault_line (image.Sizes found wanted) = image_line (codes "sizes") (signed_decimal found) (signed_decimal wanted)
-fault_line (image.Digest found wanted) = image_line (codes "digest") (digest_text found) (digest_text wanted)
-fault_line (image.Content word value) = image_line (codes "content") (decimal word) (signed_decimal value)
+fault_line (image.Magic found wanted) =
+    image_line (codes "magic") (signed_decimal found) (signed_decimal wanted)
+fault_line (image.Version found wanted) =
+    image_line (codes "version") (signed_decimal found) (signed_decimal wanted)
+fault_line (image.Sizes found wanted) =
+    image_line (codes "sizes") (signed_decimal found) (signed_decimal wanted)
+fault_line (image.Digest found wanted) =
+    image_line (codes "digest") (digest_text found) (digest_text wanted)
+fault_line (image.Content word value) =
+    image_line (codes "content") (decimal word) (signed_decimal value)
 fault_line image.NoMemory = []
 
 abbrev pub refusal_line : Refused → List ℕ
-refusal_line refused.Usage = codes "usage: cnvm run PROGRAM SCRIPT | list PROGRAM | storm PROGRAM START COUNT\n"
+refusal_line refused.Usage = codes
+    "usage: cnvm run PROGRAM SCRIPT | list PROGRAM | storm PROGRAM START COUNT\n"
 refusal_line refused.LongProgram = codes "program too long\n"
 refusal_line (refused.Program line complaint) = complaint_line line complaint
 refusal_line refused.LongScript = codes "script too long\n"

@@ -1,5 +1,5 @@
--- What a run saves: the newest version of every line. A device that is off is first given power, each line with its newest
--- version.
+-- What a run saves: the newest version of every line. A device that is off is first powered on, and
+-- each line keeps its newest version.
 use Rattle.std.specs.Prelude.{ℕ, ◌*◌, List, [], Option, ◌≡◌, if◌then◌else◌}
 use Rattle.std.specs.Io.KnownBytes.{Keeps}
 use Rattle.cache_model.specs.Cache.{view}
@@ -18,15 +18,11 @@ on_again d = if d.on then d else powered (record { rest = New; picks = [] }) d
 abbrev pub saved_bytes : Device → List ℕ
 saved_bytes d = bytes_of (words_from (view (on_again d).cache) 0 (8 * d.lines))
 
--- What is saved behind a run that ended so, and how that ends: all of it behind a run whose commands are all answered, but for
--- want of memory and a sink that fails; and nothing behind any other run.
-abbrev pub SavedAs : (ran : Status) → Status → Option (List ℕ) → Option (List ℕ) → Device → Device → Type 0
-SavedAs status.Done result o o' d d' = (d' ≡ on_again d) × TellsAs status.Done (saved_bytes d) result o o'
-SavedAs status.NoMemory result o o' d d' = (result ≡ status.NoMemory) × (d' ≡ d) × Keeps o o'
-SavedAs status.Usage result o o' d d' = (result ≡ status.Usage) × (d' ≡ d) × Keeps o o'
-SavedAs status.Program result o o' d d' = (result ≡ status.Program) × (d' ≡ d) × Keeps o o'
-SavedAs status.Script result o o' d d' = (result ≡ status.Script) × (d' ≡ d) × Keeps o o'
-SavedAs status.ReadFault result o o' d d' = (result ≡ status.ReadFault) × (d' ≡ d) × Keeps o o'
-SavedAs status.WriteFault result o o' d d' = (result ≡ status.WriteFault) × (d' ≡ d) × Keeps o o'
-SavedAs status.DeviceFault result o o' d d' = (result ≡ status.DeviceFault) × (d' ≡ d) × Keeps o o'
-SavedAs status.Image result o o' d d' = (result ≡ status.Image) × (d' ≡ d) × Keeps o o'
+-- What is saved after a run that ended with this status, and how that ends. After a run whose
+-- commands are all answered everything is saved, unless there is no memory or the sink fails; after
+-- any other run nothing is.
+abbrev pub SavedAs : (ran : Status) → Status → Option (List ℕ) → Option (List ℕ) → Device
+    → Device → Type 0
+SavedAs status.Done result o o' d d' =
+    (d' ≡ on_again d) × TellsAs status.Done (saved_bytes d) result o o'
+SavedAs ran result o o' d d' = (result ≡ ran) × (d' ≡ d) × Keeps o o'

@@ -1,7 +1,7 @@
--- What a storm means by the source of its program: it is one chain of steps on the device over the
--- commands that are drawn, each answered as the source says to the image that is found there, and
--- it is these answers that are counted.
-use Rattle.std.specs.Prelude.{ℕ, zero, suc, ◌-◌, ◌^◌, min, List, [], ◌∷◌, ◌++◌, Option, Some, IfSome, ◌≡◌, ◌⊎◌}
+-- What a storm means by the source of its program. It is one chain of steps on the device over the
+-- commands that are drawn, each answered as the source says to the image that is found there; these
+-- answers are counted.
+use Rattle.std.specs.Prelude.{ℕ, zero, suc, ◌<◌, ◌-◌, ◌^◌, min, List, [], ◌∷◌, ◌++◌, Option, Some, ◌≡◌, ◌⊎◌}
 use Rattle.std.specs.Io.KnownBytes.{Appends, Keeps}
 use Rattle.nvm_base.specs.Parts.{AppendsPart}
 use Rattle.pmem.specs.Device.{Device}
@@ -14,22 +14,22 @@ use Rattle.cnvm_session.specs.declared.answer.Answer.{Answer}
 use Rattle.cnvm_session.specs.declared.mode.Mode.TheVariants.{Ready}
 use Rattle.cnvm_session.specs.declared.program.Program.{Program}
 use Rattle.cnvm_session.specs.AnswerText.{answer_text}
-use Rattle.session_law.specs.Source.{Counts}
 use Rattle.session_law.specs.State.{created}
 use Rattle.session_law.specs.Holds.{Holds}
-use Rattle.session_law.specs.Ran.{Moment, Step, Ran, begun}
+use Rattle.session_law.specs.Ran.{Moment, SessionStep, Ran, fresh_moment}
 use Rattle.session_law.specs.Law.{super_words}
-use Rattle.compiled_law.specs.Counts.{counts_of}
-use Rattle.cnvm_cli.specs.declared.asked.Asked.{Asked}
+use Rattle.cnvm_compile.specs.declared.asked.Asked.{Asked}
+use Rattle.cnvm_compile.specs.declared.compiling.Compiled.{Compiled}
+use Rattle.cnvm_compile.specs.Compilation.{IsCompiled}
 use Rattle.cnvm_cli.specs.declared.refused.Refused.{Refused}
 use Rattle.cnvm_cli.specs.declared.status.Status.{Status}
-use Rattle.cnvm_cli.specs.declared.status.Status.TheVariants as status
 use Rattle.cnvm_cli.specs.declared.storm.Tally.{Tally}
-use Rattle.cnvm_cli.specs.Verdict.{CompiledFrom, ProgramRefuses}
-use Rattle.cnvm_cli.specs.Run.{Created, RefusedAs}
+use Rattle.cnvm_cli.specs.AsStatus.{AsStatus}
+use Rattle.cnvm_cli.specs.Verdict.{OfBytes, ProgramRefuses}
+use Rattle.cnvm_cli.specs.Run.{Created, Uncreated, RefusedAs}
 use Rattle.cnvm_cli.specs.Stormed.{counted, no_tally, tally_text}
 
--- the commands of so many rounds of the generator that stands at this number
+-- the commands of this many rounds of the generator, from this number on
 abbrev pub Drawn : List FunctionTree → ℕ → (count : ℕ) → List Command → Type 0
 Drawn fs x zero commands = commands ≡ []
 Drawn fs x (suc count) commands =
@@ -37,7 +37,7 @@ Drawn fs x (suc count) commands =
     × (Some y ≡ storm_after x fs)
     × (commands ≡ round ++ others) × Drawn fs y count others
 
--- of a program without a transaction nothing is drawn
+-- for a program without a transaction nothing is drawn
 abbrev pub DrawnOf : List FunctionTree → Program → ℕ → (count : ℕ) → List Command → Type 0
 DrawnOf [] program x count commands = commands ≡ []
 DrawnOf (f ∷ fs) program x count commands = Drawn (transactions_of program.typed) x count commands
@@ -54,66 +54,77 @@ tally_of (c ∷ commands) [] t = t
 tally_of (c ∷ commands) (a ∷ answers) t = tally_of commands answers (counted c a t)
 
 -- a chain of steps over all commands of a storm
-pub record Storms (program : Program) (counts : Counts) (start count : ℕ) (x : Moment) : Type 0 where
+pub record Storms (program : Program) (start count : ℕ) (x : Moment) :
+    Type 0 where
   pub commands : List Command
   pub drawn : AreDrawn program start count commands
   pub answers : List Answer
   pub last : Moment
-  pub ran : Ran program counts (super_words program) commands answers x last
+  pub ran : Ran program (super_words program) commands answers x last
 
 -- The summary is written, and then the answer of `last`.
-abbrev pub SummaryMeant : Program → Counts → Tally → Moment → Option (List ℕ) → Option (List ℕ) →
+abbrev pub SummaryMeant : Program → Tally → Moment → Option (List ℕ) → Option (List ℕ) →
     Device → (k' : ℕ) → Type 0
-SummaryMeant program counts t x w w' d' k' =
+SummaryMeant program t x w w' d' k' =
     (a : Answer) × (y : Moment) × (w1 : Option (List ℕ)) × Appends w w1 (tally_text t)
-    × Step program counts (super_words program) command.Last x a y × Appends w1 w' (answer_text a)
+    × SessionStep program (super_words program) command.Last x a y
+    × Appends w1 w' (answer_text a)
     × (y.device ≡ d') × (y.steps ≡ k')
 
--- a part of this is written
-abbrev pub SummaryPart : Program → Counts → Tally → Moment → Option (List ℕ) → Option (List ℕ) →
+-- a part of the summary is written, or all of it and a part of the answer of `last`
+abbrev pub SummaryPart : Program → Tally → Moment → Option (List ℕ) → Option (List ℕ) →
     Device → (k' : ℕ) → Type 0
-SummaryPart program counts t x w w' d' k' =
+SummaryPart program t x w w' d' k' =
     (AppendsPart w w' (tally_text t) × (x.device ≡ d') × (x.steps ≡ k'))
     ⊎ ((a : Answer) × (y : Moment) × (w1 : Option (List ℕ)) × Appends w w1 (tally_text t)
-    × Step program counts (super_words program) command.Last x a y
+    × SessionStep program (super_words program) command.Last x a y
     × AppendsPart w1 w' (answer_text a) × (y.device ≡ d') × (y.steps ≡ k'))
 
--- A new pool is made, and holds the empty one; then the storm is run on it, and this is written of
--- it.
-abbrev pub CountsMeant : Program → Counts → (start count : ℕ) → Option (List ℕ) → Option (List ℕ) →
+-- A new pool is made, and holds the empty pool; then the storm is run on it, and this much of its
+-- summary is written.
+abbrev pub CountsMeant : Program → (start count : ℕ) → Option (List ℕ) → Option (List ℕ) →
     Device → Device → (k k' : ℕ) → Type 0
-CountsMeant program counts start count w w' d d' k k' =
+CountsMeant program start count w w' d d' k k' =
     (b : Device) × Created program d b
     × Holds program (super_words program) Ready b (created program)
-    × ((storm : Storms program counts start count (begun program b k)) × SummaryMeant program counts (tally_of storm.commands storm.answers no_tally) storm.last w w' d' k')
+    × ((storm : Storms program start count (fresh_moment program b k))
+    × SummaryMeant program (tally_of storm.commands storm.answers no_tally) storm.last
+    w w' d' k')
 
-abbrev pub CountsPart : Program → Counts → (start count : ℕ) → Option (List ℕ) → Option (List ℕ) →
+abbrev pub CountsPart : Program → (start count : ℕ) → Option (List ℕ) → Option (List ℕ) →
     Device → Device → (k k' : ℕ) → Type 0
-CountsPart program counts start count w w' d d' k k' =
+CountsPart program start count w w' d d' k k' =
     (b : Device) × Created program d b
     × Holds program (super_words program) Ready b (created program)
-    × ((storm : Storms program counts start count (begun program b k)) × SummaryPart program counts (tally_of storm.commands storm.answers no_tally) storm.last w w' d' k')
+    × ((storm : Storms program start count (fresh_moment program b k))
+    × SummaryPart program (tally_of storm.commands storm.answers no_tally) storm.last
+    w w' d' k')
 
--- by the status
-abbrev pub StormMeantAs : Program → Counts → (start count : ℕ) → Status → Option (List ℕ) →
+-- There was no memory for the commands of a round: fewer rounds are run, and nothing is written.
+abbrev pub CountsCut : Program → (start count : ℕ) → Option (List ℕ) → Option (List ℕ) →
+    Device → Device → (k k' : ℕ) → Type 0
+CountsCut program start count w w' d d' k k' =
+    (b : Device) × Created program d b
+    × Holds program (super_words program) Ready b (created program)
+    × (fewer : ℕ) × (fewer < count)
+    × ((storm : Storms program start fewer (fresh_moment program b k))
+    × (storm.last.device ≡ d') × (storm.last.steps ≡ k') × Keeps w w')
+
+-- what a storm on a new pool means, by its status
+abbrev pub StormMeantAs : Program → (start count : ℕ) → Status → Option (List ℕ) →
     Option (List ℕ) → Device → Device → (k k' : ℕ) → Type 0
-StormMeantAs program counts start count status.Done w w' d d' k k' =
-    CountsMeant program counts start count w w' d d' k k'
-StormMeantAs program counts start count status.WriteFault w w' d d' k k' =
-    CountsPart program counts start count w w' d d' k k'
-StormMeantAs program counts start count status.NoMemory w w' d d' k k' =
-    Keeps w w' ⊎ CountsPart program counts start count w w' d d' k k'
-StormMeantAs program counts start count status.DeviceFault w w' d d' k k' = Keeps w w'
-StormMeantAs program counts start count status.ReadFault w w' d d' k k' = ⊥
-StormMeantAs program counts start count status.Usage w w' d d' k k' = ⊥
-StormMeantAs program counts start count status.Program w w' d d' k k' = ⊥
-StormMeantAs program counts start count status.Script w w' d d' k k' = ⊥
-StormMeantAs program counts start count status.Image w w' d d' k k' = ⊥
+StormMeantAs program start count result w w' d d' k k' =
+    AsStatus (λ why. Uncreated program why w w' d d' k k')
+    (CountsCut program start count w w' d d' k k'
+    ⊎ CountsPart program start count w w' d d' k k')
+    (CountsMeant program start count w w' d d' k k')
+    (CountsPart program start count w w' d d' k k') result
 
--- The program is refused; or, where the source tells it, the storm means what the program's source says.
+-- What a storm means: the program is refused, this is reported, and nothing is run; or the storm
+-- means what the source of the compiled program says.
 abbrev pub StormMeant : Asked → (start count : ℕ) → (program : Option (List ℕ)) → Status →
     Option (List ℕ) → Option (List ℕ) → Device → Device → (k k' : ℕ) → Type 0
 StormMeant asked start count told result w w' d d' k k' =
     ((why : Refused) × ProgramRefuses told why × RefusedAs why result w w' × (d' ≡ d) × (k' ≡ k))
-    ⊎ ((program : Program) × IfSome told (λ text. (from : CompiledFrom asked text program)
-    × StormMeantAs program (counts_of program from.code.marks) start count result w w' d d' k k'))
+    ⊎ ((compiled : Compiled) × OfBytes told (λ text. IsCompiled asked text compiled)
+    × StormMeantAs compiled.program start count result w w' d d' k k')

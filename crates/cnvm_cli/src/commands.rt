@@ -1,9 +1,9 @@
-//! The commands of a script, each answered before the next.
+//! Runs a script's commands and answers each before the next.
 
 ghost use Rattle.std.specs.Prelude.{◌≡◌, ◌≤◌, OnOk, OnErr, IsErrOf};
 ghost use Rattle.nvm_base.specs.Rose.{Rose};
 ghost use Rattle.pool_layout.specs.Sizes.{pool_lines};
-ghost use Rattle.cnvm_cli.specs.Run.{RunsAll, RunsPart};
+ghost use Rattle.cnvm_cli.specs.inside.Run.{RunsAndWrites, RunsPart};
 
 use crate::writing::{Unwritten, put_answer};
 use cnvm_script::Command;
@@ -24,9 +24,13 @@ pub(crate) fn answer_all<K: Sink, P: Pmem, L: Ledger>(
     steps: &mut Steps<L>,
 ) -> Result<(), Unwritten>
     requires lines { (P.device dev.old).lines ≡ pool_lines program.now.image.parts.sizes }
-    ensures whole { OnOk result (RunsAll program.now commands.now session.old (P.device dev.old) (K.written out.old) steps.old (P.device dev.new) (K.written out.new) steps.new) }
-    ensures part { OnErr result (RunsPart program.now commands.now session.old (P.device dev.old) (K.written out.old) steps.old (P.device dev.new) (K.written out.new) steps.new) }
-    ensures write { IsErrOf result Unwritten.WriteFault → Rose (K.faults out.old) (K.faults out.new) }
+    ensures whole { OnOk result (RunsAndWrites program.now commands.now session.old
+        (P.device dev.old) (K.written out.old) steps.old (P.device dev.new) (K.written out.new)
+        steps.new) }
+    ensures part { OnErr result (RunsPart program.now commands.now session.old (P.device dev.old)
+        (K.written out.old) steps.old (P.device dev.new) (K.written out.new) steps.new) }
+    ensures write { IsErrOf result Unwritten.WriteFault
+        → Rose (K.faults out.old) (K.faults out.new) }
     ensures lines { (P.device dev.new).lines ≡ pool_lines program.now.image.parts.sizes }
 {
     for given in commands {

@@ -1,13 +1,14 @@
-//! The program's edge: the words of the command line, files, standard output and a device in memory.
+//! The program's edge: the words of the command line, files, standard output and a device in
+//! memory.
 
-ghost use Rattle.std.specs.Prelude.{◌≡◌, ◌⊎◌, ◌<◌, map, string_bytes, None};
-ghost use Rattle.cnvm_words.specs.Asked.{plan_of};
-ghost use Rattle.cnvm_cli.specs.Ends.{Sources, Outside, WordsEnd};
-ghost use Rattle.cnvm_cli.specs.StatusNumber.{number_of};
+ghost use Rattle.std.specs.Prelude.{◌≡◌, ◌⊎◌, ◌<◌, map, string_bytes, None, Some, IfSome};
+ghost use Rattle.cnvm_cli.specs.Exits.{EndsCall, Exits};
+ghost use Rattle.cnvm_cli.specs.Paths.{path_or_none, program_alone, paths_in};
+ghost use Rattle.cnvm_cli.specs.World.{plan_in};
 
 use crate::run::cnvm;
 use crate::status::{Status, World};
-use cnvm_words::{Plan, plan_of};
+use cnvm_words::{Plan, WordsFault, plan_of};
 use nvm_base::{StdSink, StdSource, Steps, Text};
 use pmem::SparsePmem;
 use std::alloc::Global;
@@ -18,7 +19,7 @@ use std::sync::ledger::{Blank, Ledger};
 
 /// Runs the program on the words of the command line; the answer is its exit status.
 pub fn exit_code<R: Files + Print + Env + AllocGlobal>(rt: &R) -> u8
-    ensures { (status : Status) × (result ≡ number_of status) }
+    ensures { Exits result }
 {
     match words_of(rt) {
         Some(words) => run_on(rt, &words).number(),
@@ -43,37 +44,55 @@ struct Paths {
     image_out: Text,
 }
 
-fn paths_of(alloc: Global, words: &[String]) -> Paths {
-    let none = Paths {
-        program: Text::new(alloc),
-        script: Text::new(alloc),
-        image_in: Text::new(alloc),
-        image_out: Text::new(alloc),
-    };
+/// The paths that the words name. `None` if there was no memory.
+fn paths_of(alloc: Global, words: &[String]) -> Option<Paths>
+    ensures { IfSome result (λ paths. paths ≡ paths_in (plan_in words.entry.now)) }
+{
     match plan_of(alloc, words) {
-        Ok(
-            Plan::Run {
-                program_path,
-                script_path,
-                start_image,
-                end_image,
-                ..
-            },
-        ) => Paths {
+        Ok(plan) => Some(paths_in(alloc, plan)),
+        Err(WordsFault::Usage) => Some(program_alone(alloc, Text::new(alloc))),
+        Err(WordsFault::NoMemory) => None,
+    }
+}
+
+/// The paths that the plan names.
+fn paths_in(alloc: Global, plan: Plan) -> Paths
+    ensures { result ≡ paths_in (Some plan) }
+{
+    match plan {
+        Plan::Run {
+            program_path,
+            script_path,
+            start_image,
+            end_image,
+            ..
+        } => Paths {
             program: program_path,
             script: script_path,
             image_in: given_or_empty(alloc, start_image),
             image_out: given_or_empty(alloc, end_image),
         },
-        Ok(Plan::List { program_path } | Plan::Storm { program_path, .. }) => Paths {
-            program: program_path,
-            ..none
-        },
-        Err(_) => none,
+        Plan::List { program_path } => program_alone(alloc, program_path),
+        Plan::Storm { program_path, .. } => program_alone(alloc, program_path),
     }
 }
 
-fn given_or_empty(alloc: Global, path: Option<Text>) -> Text {
+/// The path of the program; the others are empty.
+fn program_alone(alloc: Global, program: Text) -> Paths
+    ensures { result ≡ program_alone program }
+{
+    Paths {
+        program,
+        script: Text::new(alloc),
+        image_in: Text::new(alloc),
+        image_out: Text::new(alloc),
+    }
+}
+
+/// The path, or an empty one.
+fn given_or_empty(alloc: Global, path: Option<Text>) -> Text
+    ensures { result ≡ path_or_none path }
+{
     match path {
         Some(path) => path,
         None => Text::new(alloc),
@@ -82,27 +101,34 @@ fn given_or_empty(alloc: Global, path: Option<Text>) -> Text {
 
 /// Runs what these words ask for on the files that they name.
 pub fn run_on<R: Files + Print + AllocGlobal>(rt: &R, words: &[String]) -> Status
-    ensures usage { result ≡ Status.Usage → plan_of (map string_bytes words.entry.now) ≡ None }
-    ensures wrong { plan_of (map string_bytes words.entry.now) ≡ None → (result ≡ Status.Usage) ⊎ ((result ≡ Status.NoMemory) ⊎ (result ≡ Status.WriteFault)) }
-    ensures ends { (told : Sources) × (before : Outside) × (behind : Outside) × WordsEnd (plan_of (map string_bytes words.entry.now)) told result before behind }
+    ensures usage { result ≡ Status.Usage → plan_in words.entry.now ≡ None }
+    ensures wrong { plan_in words.entry.now ≡ None → (result ≡ Status.Usage)
+        ⊎ ((result ≡ Status.NoMemory) ⊎ (result ≡ Status.WriteFault)) }
+    ensures source { EndsCall (map string_bytes words.entry.now) result }
 {
-    run_with::<R, Brand>(rt, words, Blank::new(1))
+    match paths_of(rt.alloc(), words) {
+        Some(paths) => run_with::<R, Brand>(rt, words, &paths, Blank::new(1)),
+        None => Status::NoMemory,
+    }
 }
 
+/// Runs what the words ask for on the files of these paths.
 fn run_with<R: Files + Print + AllocGlobal, L: Ledger>(
     rt: &R,
     words: &[String],
+    paths: &Paths,
     blank: Blank,
 ) -> Status
     requires name { blank.name ≡ L.name }
     requires parts { blank.parts ≡ L.parts }
     requires some { 0 < blank.parts }
-    ensures usage { result ≡ Status.Usage → plan_of (map string_bytes words.entry.now) ≡ None }
-    ensures wrong { plan_of (map string_bytes words.entry.now) ≡ None → (result ≡ Status.Usage) ⊎ ((result ≡ Status.NoMemory) ⊎ (result ≡ Status.WriteFault)) }
-    ensures ends { (told : Sources) × (before : Outside) × (behind : Outside) × WordsEnd (plan_of (map string_bytes words.entry.now)) told result before behind }
+    requires paths { paths.now ≡ paths_in (plan_in words.now) }
+    ensures usage { result ≡ Status.Usage → plan_in words.entry.now ≡ None }
+    ensures wrong { plan_in words.entry.now ≡ None → (result ≡ Status.Usage)
+        ⊎ ((result ≡ Status.NoMemory) ⊎ (result ≡ Status.WriteFault)) }
+    ensures source { EndsCall (map string_bytes words.entry.now) result }
 {
     let alloc = rt.alloc();
-    let paths = paths_of(alloc, words);
     let mut world = World {
         program: StdSource::new(rt, paths.program.as_str()),
         script: StdSource::new(rt, paths.script.as_str()),

@@ -1,4 +1,4 @@
-//! A pool as an image.
+//! Saves a pool as an image.
 
 ghost use Rattle.std.specs.Prelude.{◌≡◌, ◌⊎◌, ◌*◌, ◌<◌, true, IfOk};
 ghost use Rattle.nvm_base.specs.Rose.{Rose};
@@ -16,7 +16,7 @@ use pool_layout::{Sizes, image_bytes, pool_lines};
 use std::alloc::{AllocError, Global};
 
 /// Saves the newest version of every line of a pool of these sizes. A device that is off is first
-/// given power, each line with its newest version.
+/// powered on, and each line keeps its newest version.
 #[tactic(auto, using(crate::proofs::Running::keeps_same))]
 pub(crate) fn save<O: Sink, P: Pmem>(
     alloc: Global,
@@ -26,8 +26,10 @@ pub(crate) fn save<O: Sink, P: Pmem>(
 ) -> Status
     requires lines { (P.device dev.old).lines ≡ sizes_of.pool_lines sizes.now }
     ensures power { P.device dev.new ≡ on_again (P.device dev.old) }
-    ensures saved { TellsAs Status.Done (saved_bytes (P.device dev.old)) result (O.written out.old) (O.written out.new) }
-    ensures status { (result ≡ Status.Done) ⊎ ((result ≡ Status.NoMemory) ⊎ (result ≡ Status.WriteFault)) }
+    ensures saved { TellsAs Status.Done (saved_bytes (P.device dev.old)) result (O.written out.old)
+        (O.written out.new) }
+    ensures status { (result ≡ Status.Done)
+        ⊎ ((result ≡ Status.NoMemory) ⊎ (result ≡ Status.WriteFault)) }
     ensures write { result ≡ Status.WriteFault → Rose (O.faults out.old) (O.faults out.new) }
 {
     power_on(alloc, dev);
@@ -43,7 +45,7 @@ pub(crate) fn save<O: Sink, P: Pmem>(
     }
 }
 
-/// Gives power to a device that is off, each line with its newest version.
+/// Powers on a device that is off; each line keeps its newest version.
 fn power_on<P: Pmem>(alloc: Global, dev: &mut P)
     requires lines { 0 < (P.device dev.old).lines }
     ensures { P.device dev.new ≡ on_again (P.device dev.old) }
@@ -66,7 +68,8 @@ fn power_on<P: Pmem>(alloc: Global, dev: &mut P)
 fn words_of<P: PmemWork>(alloc: Global, sizes: &Sizes, dev: &P) -> Result<Words, AllocError>
     requires on { (P.device dev.now).on ≡ true }
     requires lines { (P.device dev.now).lines ≡ sizes_of.pool_lines sizes.now }
-    ensures { IfOk result (λ words. words ≡ words_from (view (P.device dev.now).cache) 0 (8 * (P.device dev.now).lines)) }
+    ensures { IfOk result (λ words. words ≡ words_from (view (P.device dev.now).cache) 0
+        (8 * (P.device dev.now).lines)) }
 {
     let mut words = Words::new(alloc);
     for k in 0..8 * pool_lines(sizes) {
@@ -83,7 +86,7 @@ fn newest<P: PmemWork>(dev: &P, word: u64) -> i64
 {
     match dev.load(word) {
         Some(value) => value,
-        // It never comes: the device is on.
+        // This never happens: the device is on.
         None => 0,
     }
 }

@@ -1,10 +1,9 @@
-//! The top call: it compiles a program, runs a script's commands on its pool and answers each line,
-//! lists its log marks, or runs a storm. Below it stand the words, the compiler and the session. Its
-//! one contract for the program above: the status and the lines written are those that the words, the
-//! program, the script and the image call for.
+//! The top call: it compiles a program, and then runs a script's commands on its pool and answers
+//! each line, lists the program's log marks, or runs a storm. It rests on the words, the compiler
+//! and the session. Its one contract for the program above: the status and the lines written are
+//! those that the words, the program, the script and the image call for.
 #![tactic(auto)]
 
-mod asked;
 mod commands;
 mod exit;
 mod image;
@@ -15,11 +14,8 @@ mod status;
 mod storm;
 mod writing;
 
-pub use cnvm_compile::{Compiled, ProgramFault, compile, list_text};
+pub use cnvm_compile::{Asked, Compiled, ProgramFault, compile, list_text};
 pub use cnvm_words::{Plan, WordsFault, plan_of};
 pub use exit::{exit_code, run_on};
 pub use run::cnvm;
 pub use status::{Status, World};
-
-#[cfg(test)]
-mod tests;

@@ -1,18 +1,16 @@
-//! What the sources hold: the program, the script, and an image.
+//! Reads the program, the script and an image from their sources.
 
-ghost use Rattle.std.specs.Prelude.{◌≡◌, ◌≤◌, ◌^◌, ℕ, List, Some, IfOk, IfErr, OnOk, IsErrOf};
+ghost use Rattle.std.specs.Prelude.{◌≡◌, ◌≤◌, ◌^◌, ℕ, List, Some, length, IfOk, OnOk, IsErrOf};
 ghost use Rattle.std.specs.Io.KnownBytes.{IsAtEnd};
 ghost use Rattle.nvm_base.specs.Rose.{Rose};
-ghost use Rattle.lower.specs.Program.{lowered};
-ghost use Rattle.clobber_pass.specs.Logged.{IsExact};
 ghost use Rattle.session_law.specs.Words.{AreWords};
 ghost use Rattle.cnvm_cli.specs.Verdict.{refused_by};
-ghost use Rattle.cnvm_cli.specs.Opened.{wanted_of, ImageIs, ImageReadAs};
-ghost use Rattle.cnvm_cli.specs.Texts.{TextIs, ProgramIs, CommandsAre, ScriptIs, IsOfProgram, IsOfScript};
+ghost use Rattle.cnvm_cli.specs.Opened.{wanted_of};
+ghost use Rattle.cnvm_cli.specs.inside.Opened.{ImageIs, ImageReadAs};
+ghost use Rattle.cnvm_cli.specs.inside.Texts.{TextIs, ProgramReadAs, ScriptReadAs};
 
-use crate::asked::Asked;
 use crate::refused::Refused;
-use cnvm_compile::{Compiled, Told, compile, told_of};
+use cnvm_compile::{Asked, Compiled, Told, compile, told_of};
 use cnvm_script::{Script, ScriptFault, read_script};
 use cnvm_session::Program;
 use nvm_base::{Bytes, ReadAllFault, Source, UpToFault, Words, read_all, read_up_to};
@@ -25,12 +23,14 @@ const PROGRAM_LIMIT: usize = 262144;
 /// The most bytes of a script.
 const SCRIPT_LIMIT: usize = 1048576;
 
-/// All bytes of the source, where they are within the limit.
+/// All bytes of the source, if they are within the limit.
 fn read_text<S: Source>(alloc: Global, source: &mut S, limit: usize) -> Result<Bytes, ReadAllFault>
     requires { limit ≤ 2 ^ 31 }
     ensures told { (text : List ℕ) → S.left source.old ≡ Some text → TextIs limit result text }
+    ensures within { IfOk result (λ bytes. length bytes ≤ limit) }
     ensures end { OnOk result (IsAtEnd (S.left source.new)) }
-    ensures read { IsErrOf result ReadAllFault.ReadFault → Rose (S.faults source.old) (S.faults source.new) }
+    ensures read { IsErrOf result ReadAllFault.ReadFault
+        → Rose (S.faults source.old) (S.faults source.new) }
 {
     read_all(alloc, source, limit)
 }
@@ -41,14 +41,12 @@ pub(crate) fn read_program<S: Source>(
     source: &mut S,
     asked: Asked,
 ) -> Result<Compiled, Refused>
-    ensures told { (text : List ℕ) → S.left source.old ≡ Some text → ProgramIs asked result text }
-    ensures ir { IfOk result (λ compiled. compiled.ir ≡ lowered compiled.program.typed) }
-    ensures marks { IfOk result (λ compiled. IsExact compiled.ir.functions compiled.marks) }
+    ensures told { ProgramReadAs asked result (S.left source.old) }
     ensures end { OnOk result (IsAtEnd (S.left source.new)) }
-    ensures read { IsErrOf result Refused.ReadFault → Rose (S.faults source.old) (S.faults source.new) }
+    ensures read { IsErrOf result Refused.ReadFault
+        → Rose (S.faults source.old) (S.faults source.new) }
     ensures usage { IsErrOf result Refused.Usage → ⊥ }
     ensures device { IsErrOf result Refused.Device → ⊥ }
-    ensures only { IfErr result IsOfProgram }
 {
     let text = match read_text(alloc, source, PROGRAM_LIMIT) {
         Ok(text) => text,
@@ -59,17 +57,14 @@ pub(crate) fn read_program<S: Source>(
     program_of(alloc, text.as_slice(), asked)
 }
 
-/// The program that a text is.
+/// Compiles a text to a program.
 fn program_of(alloc: Global, text: &[u8], asked: Asked) -> Result<Compiled, Refused>
-    ensures is { ProgramIs asked result text.now }
-    ensures ir { IfOk result (λ compiled. compiled.ir ≡ lowered compiled.program.typed) }
-    ensures marks { IfOk result (λ compiled. IsExact compiled.ir.functions compiled.marks) }
+    ensures is { ProgramReadAs asked result (Some text.now) }
     ensures read { IsErrOf result Refused.ReadFault → ⊥ }
     ensures usage { IsErrOf result Refused.Usage → ⊥ }
     ensures device { IsErrOf result Refused.Device → ⊥ }
-    ensures only { IfErr result IsOfProgram }
 {
-    match compile(alloc, text, asked.slots, asked.records, asked.ticks) {
+    match compile(alloc, text, asked) {
         Ok(compiled) => Ok(compiled),
         Err(fault) => Err(refused_by(told_of(fault))),
     }
@@ -80,7 +75,6 @@ fn refused_by(told: Told) -> Refused
     ensures read { result ≡ Refused.ReadFault → ⊥ }
     ensures usage { result ≡ Refused.Usage → ⊥ }
     ensures device { result ≡ Refused.Device → ⊥ }
-    ensures only { IsOfProgram result }
 {
     match told {
         Told::Long => Refused::LongProgram,
@@ -91,12 +85,12 @@ fn refused_by(told: Told) -> Refused
 
 /// Reads the script to its end.
 pub(crate) fn read_commands<T: Source>(alloc: Global, source: &mut T) -> Result<Script, Refused>
-    ensures told { (text : List ℕ) → T.left source.old ≡ Some text → ScriptIs result text }
+    ensures told { ScriptReadAs result (T.left source.old) }
     ensures end { OnOk result (IsAtEnd (T.left source.new)) }
-    ensures read { IsErrOf result Refused.ReadFault → Rose (T.faults source.old) (T.faults source.new) }
+    ensures read { IsErrOf result Refused.ReadFault
+        → Rose (T.faults source.old) (T.faults source.new) }
     ensures usage { IsErrOf result Refused.Usage → ⊥ }
     ensures device { IsErrOf result Refused.Device → ⊥ }
-    ensures only { IfErr result IsOfScript }
 {
     let text = match read_text(alloc, source, SCRIPT_LIMIT) {
         Ok(text) => text,
@@ -109,11 +103,11 @@ pub(crate) fn read_commands<T: Source>(alloc: Global, source: &mut T) -> Result<
 
 /// The commands of a script's text.
 fn commands_of(alloc: Global, text: &[u8]) -> Result<Script, Refused>
-    ensures are { CommandsAre result text.now }
+    requires { length text.now ≤ 1048576 }
+    ensures are { ScriptReadAs result (Some text.now) }
     ensures read { IsErrOf result Refused.ReadFault → ⊥ }
     ensures usage { IsErrOf result Refused.Usage → ⊥ }
     ensures device { IsErrOf result Refused.Device → ⊥ }
-    ensures only { IfErr result IsOfScript }
 {
     match read_script(alloc, text) {
         Ok(script) => Ok(script),
@@ -122,14 +116,15 @@ fn commands_of(alloc: Global, text: &[u8]) -> Result<Script, Refused>
     }
 }
 
-/// Reads an image of a pool of the program, and no more than one byte past its length.
+/// Reads an image of a pool of the program, at most one byte past its length.
 pub(crate) fn read_words<I: Source>(
     alloc: Global,
     source: &mut I,
     program: &Program,
 ) -> Result<Words, Refused>
     ensures told { ImageReadAs program.now result (I.left source.old) }
-    ensures read { IsErrOf result Refused.ReadFault → Rose (I.faults source.old) (I.faults source.new) }
+    ensures read { IsErrOf result Refused.ReadFault
+        → Rose (I.faults source.old) (I.faults source.new) }
     ensures usage { IsErrOf result Refused.Usage → ⊥ }
     ensures device { IsErrOf result Refused.Device → ⊥ }
 {
@@ -158,7 +153,8 @@ fn words_of(alloc: Global, bytes: &[u8], program: &Program) -> Result<Words, Ref
     }
 }
 
-/// Reads each word, so that it is known to be one, from -2^63 to 2^63 - 1. It changes nothing.
+/// Reads each word and so learns that it is a word, from -2^63 to 2^63 - 1. The function changes
+/// nothing.
 fn are_words(words: &[i64])
     ensures { AreWords words.now }
 {
@@ -167,7 +163,7 @@ fn are_words(words: &[i64])
     }
 }
 
-/// The pool that an image must be of.
+/// The pool that an image must fit.
 fn wanted_of(program: &Program) -> Wanted
     ensures { result ≡ wanted_of program.now }
 {

@@ -1,4 +1,4 @@
-//! Why there is nothing to run, and what is told of it.
+//! Why there is nothing to run, and what is reported of it.
 
 ghost use Rattle.std.specs.Prelude.{◌≡◌, ◌≢◌, ◌⊎◌, ◌<◌, ◌++◌, ◌∷◌, [], IfOk, OnOk, string_bytes};
 ghost use Rattle.nvm_base.specs.Rose.{Rose};
@@ -34,14 +34,16 @@ pub enum Refused {
 /// The usage line.
 const USAGE: &str = "usage: cnvm run PROGRAM SCRIPT | list PROGRAM | storm PROGRAM START COUNT\n";
 
-/// Tells of a refusal; the status is the refusal's. Of a source or a device that failed, and of want
-/// of memory, nothing is told.
+/// Reports a refusal; the status is the refusal's. Of a source or a device that failed, and of want
+/// of memory, nothing is reported.
 #[tactic(auto, using(crate::proofs::Running::keeps_same))]
 pub(crate) fn refuse<K: Sink>(alloc: Global, refused: Refused, out: &mut K) -> Status
     ensures refused { RefusedAs refused result (K.written out.old) (K.written out.new) }
-    ensures status { (result ≡ refusal_status refused) ⊎ ((result ≡ Status.NoMemory) ⊎ (result ≡ Status.WriteFault)) }
+    ensures status { (result ≡ refusal_status refused)
+        ⊎ ((result ≡ Status.NoMemory) ⊎ (result ≡ Status.WriteFault)) }
     ensures undone { result ≢ Status.Done }
-    ensures write { result ≡ Status.WriteFault → (refusal_status refused ≡ Status.WriteFault) ⊎ Rose (K.faults out.old) (K.faults out.new) }
+    ensures write { result ≡ Status.WriteFault → (refusal_status refused ≡ Status.WriteFault)
+        ⊎ Rose (K.faults out.old) (K.faults out.new) }
 {
     if has_line(refused) {
         tell(out, refusal_line(alloc, refused), refusal_status(refused))
@@ -50,7 +52,7 @@ pub(crate) fn refuse<K: Sink>(alloc: Global, refused: Refused, out: &mut K) -> S
     }
 }
 
-/// Whether there is a line that tells of it.
+/// Whether the refusal has a line.
 fn has_line(refused: Refused) -> bool
     ensures { result ≡ has_line refused }
 {
@@ -196,7 +198,8 @@ fn content_line(alloc: Global, word: u64, value: i64) -> Result<String, AllocErr
 
 /// Two digests, each as 64 hexadecimal digits in the order of its bytes.
 fn digest_line(alloc: Global, found: &[i64; 4], wanted: &[i64; 4]) -> Result<String, AllocError>
-    ensures { IfOk result (λ s. string_bytes s ≡ fault_line (ImageFault.Digest found.now wanted.now)) }
+    ensures { IfOk result (λ s. string_bytes s
+        ≡ fault_line (ImageFault.Digest found.now wanted.now)) }
 {
     let mut line = text_of(alloc, "image digest ")?;
     push_digest(&mut line, found.as_slice())?;
@@ -207,7 +210,8 @@ fn digest_line(alloc: Global, found: &[i64; 4], wanted: &[i64; 4]) -> Result<Str
 }
 
 fn push_digest(line: &mut String, digest: &[i64]) -> Result<(), AllocError>
-    ensures { OnOk result (string_bytes line.new ≡ string_bytes line.old ++ digest_text digest.now) }
+    ensures { OnOk result (string_bytes line.new ≡ string_bytes line.old
+        ++ digest_text digest.now) }
 {
     for word in digest {
         push_word(line, word.cast_unsigned())?;
@@ -215,7 +219,7 @@ fn push_digest(line: &mut String, digest: &[i64]) -> Result<(), AllocError>
     Ok(())
 }
 
-/// The eight bytes of a word from the least on, two digits each.
+/// The eight bytes of a word, the lowest first, two digits each.
 fn push_word(line: &mut String, word: u64) -> Result<(), AllocError>
     ensures { OnOk result (string_bytes line.new ≡ string_bytes line.old ++ word_text word) }
 {
@@ -224,7 +228,7 @@ fn push_word(line: &mut String, word: u64) -> Result<(), AllocError>
     Ok(())
 }
 
-/// The four least bytes of a word from the least on, two digits each.
+/// The four lowest bytes of a word, the lowest first, two digits each.
 fn push_half(line: &mut String, word: u64) -> Result<(), AllocError>
     ensures { OnOk result (string_bytes line.new ≡ string_bytes line.old ++ hex 4 word) }
 {
@@ -235,7 +239,7 @@ fn push_half(line: &mut String, word: u64) -> Result<(), AllocError>
     Ok(())
 }
 
-/// The least byte of a word, two digits.
+/// The lowest byte of a word, two digits.
 fn push_byte(line: &mut String, word: u64) -> Result<(), AllocError>
     ensures { OnOk result (string_bytes line.new ≡ string_bytes line.old ++ hex 1 word) }
 {

@@ -1,9 +1,9 @@
 //! What a run reads and writes, and how it ends.
 
 ghost use Rattle.std.specs.Prelude.{◌≡◌};
-ghost use Rattle.cnvm_cli.specs.StatusNumber.{number_of};
+ghost use Rattle.cnvm_cli.specs.StatusNumber.{status_number};
 
-/// What a run reads and writes: the program, the script and an image, the answers and an image, and
+/// What a run reads and writes: the program, the script and an image; the answers and an image; and
 /// the device.
 #[derive(Drop)]
 pub struct World<S, T, I, K, O, P> {
@@ -18,11 +18,11 @@ pub struct World<S, T, I, K, O, P> {
 /// How a run ended. Its number is the program's exit status.
 #[derive(Clone, Copy, Debug, PartialEq, Eq)]
 pub enum Status {
-    /// Every line of the script was answered, and the image was saved where asked; of a listing or a
-    /// storm, all was written.
+    /// Every line of the script was answered, and the image was saved if asked; of a listing or a
+    /// storm everything was written.
     Done,
     NoMemory,
-    /// The words ask for nothing that there is.
+    /// The words ask for nothing that exists.
     Usage,
     /// The program's text was refused.
     Program,
@@ -41,7 +41,7 @@ pub enum Status {
 impl Status {
     /// The exit status.
     pub fn number(self) -> u8
-        ensures { result ≡ number_of self }
+        ensures { result ≡ status_number self }
     {
         match self {
             Status::Done => 0,

@@ -1,12 +1,13 @@
 //! A storm: a generated script, and how its commands were answered.
 
-ghost use Rattle.std.specs.Prelude.{◌≡◌, ◌<◌, ◌≤◌, ◌-◌, ◌^◌, min, length, Some, OnOk, OnErr, IfOk, IsErrOf, ◌⊎◌, string_bytes};
-ghost use Rattle.std.specs.Io.KnownBytes.{Appends, Keeps};
+ghost use Rattle.std.specs.Prelude.{◌≡◌, ◌<◌, ◌≤◌, ◌-◌, ◌^◌, min, length, Some, OnOk, OnErr, IfOk, IsErrOf, string_bytes};
+ghost use Rattle.std.specs.Io.KnownBytes.{Appends};
 ghost use Rattle.nvm_base.specs.Parts.{AppendsPart};
 ghost use Rattle.nvm_base.specs.Rose.{Rose};
 ghost use Rattle.pool_layout.specs.Sizes.{pool_lines};
 ghost use Rattle.c_types.specs.Shapes.{transactions_of};
-ghost use Rattle.cnvm_cli.specs.Stormed.{command_counted, answer_counted, counted, with_count, tally_text, no_tally, Counts, Rounds, Rages, TallyAll, TallyPart, StormsAll, StormsPart};
+ghost use Rattle.cnvm_cli.specs.Stormed.{command_counted, answer_counted, counted, with_count, tally_text, no_tally};
+ghost use Rattle.cnvm_cli.specs.inside.Stormed.{CountsAnswers, Rounds, RoundsPart, Rages, RagesPart, TallyAll, TallyPart, StormsAll, StormsPart, StormStarves};
 
 use crate::writing::{Unwritten, put_answer};
 use cnvm_script::{Command, Storm};
@@ -82,7 +83,7 @@ impl Tally {
     }
 }
 
-/// Runs so many rounds, and writes the summary and the answer of `last`.
+/// Runs this many rounds, and writes the summary and the answer of `last`.
 pub(crate) fn storm<K: Sink, P: Pmem, L: Ledger>(
     alloc: Global,
     program: &Program,
@@ -94,10 +95,16 @@ pub(crate) fn storm<K: Sink, P: Pmem, L: Ledger>(
     steps: &mut Steps<L>,
 ) -> Result<(), Unwritten>
     requires lines { (P.device dev.old).lines ≡ pool_lines program.now.image.parts.sizes }
-    ensures whole { OnOk result (StormsAll program.now start count session.old (P.device dev.old) (K.written out.old) steps.old (P.device dev.new) (K.written out.new) steps.new) }
-    ensures part { OnErr result (Keeps (K.written out.old) (K.written out.new) ⊎ StormsPart program.now start count session.old (P.device dev.old) (K.written out.old) steps.old (P.device dev.new) (K.written out.new) steps.new) }
-    ensures fault { IsErrOf result Unwritten.WriteFault → StormsPart program.now start count session.old (P.device dev.old) (K.written out.old) steps.old (P.device dev.new) (K.written out.new) steps.new }
-    ensures write { IsErrOf result Unwritten.WriteFault → Rose (K.faults out.old) (K.faults out.new) }
+    ensures whole { OnOk result (StormsAll program.now start count session.old (P.device dev.old)
+        (K.written out.old) steps.old (P.device dev.new) (K.written out.new) steps.new) }
+    ensures part { OnErr result (StormStarves program.now start count session.old
+        (P.device dev.old) (K.written out.old) steps.old (P.device dev.new) (K.written out.new)
+        steps.new) }
+    ensures fault { IsErrOf result Unwritten.WriteFault
+        → StormsPart program.now start count session.old (P.device dev.old) (K.written out.old)
+        steps.old (P.device dev.new) (K.written out.new) steps.new }
+    ensures write { IsErrOf result Unwritten.WriteFault
+        → Rose (K.faults out.old) (K.faults out.new) }
 {
     let mut tally = Tally::new();
     if rounds(
@@ -121,9 +128,12 @@ fn put_counts<K: Sink, P: Pmem, L: Ledger>(
     steps: &mut Steps<L>,
 ) -> Result<(), Unwritten>
     requires lines { (P.device dev.old).lines ≡ pool_lines program.now.image.parts.sizes }
-    ensures whole { OnOk result (TallyAll program.now tally.now session.old (P.device dev.old) (K.written out.old) steps.old (P.device dev.new) (K.written out.new) steps.new) }
-    ensures part { OnErr result (TallyPart program.now tally.now session.old (P.device dev.old) (K.written out.old) steps.old (P.device dev.new) (K.written out.new) steps.new) }
-    ensures write { IsErrOf result Unwritten.WriteFault → Rose (K.faults out.old) (K.faults out.new) }
+    ensures whole { OnOk result (TallyAll program.now tally.now session.old (P.device dev.old)
+        (K.written out.old) steps.old (P.device dev.new) (K.written out.new) steps.new) }
+    ensures part { OnErr result (TallyPart program.now tally.now session.old (P.device dev.old)
+        (K.written out.old) steps.old (P.device dev.new) (K.written out.new) steps.new) }
+    ensures write { IsErrOf result Unwritten.WriteFault
+        → Rose (K.faults out.old) (K.faults out.new) }
 {
     if let Err(why) = put_tally(alloc, tally, out) {
         return Err(why);
@@ -132,7 +142,7 @@ fn put_counts<K: Sink, P: Pmem, L: Ledger>(
     put_answer(alloc, &last, out)
 }
 
-/// The rounds, of a program that has a transaction; where it has none, nothing is run.
+/// Runs the rounds if the program has a transaction; else nothing is run.
 fn rounds<P: Pmem, L: Ledger>(
     alloc: Global,
     program: &Program,
@@ -144,7 +154,10 @@ fn rounds<P: Pmem, L: Ledger>(
     steps: &mut Steps<L>,
 ) -> Result<(), AllocError>
     requires lines { (P.device dev.old).lines ≡ pool_lines program.now.image.parts.sizes }
-    ensures rages { OnOk result (Rages program.now start count tally.old session.old (P.device dev.old) steps.old tally.new session.new (P.device dev.new) steps.new) }
+    ensures rages { OnOk result (Rages program.now start count tally.old session.old
+        (P.device dev.old) steps.old tally.new session.new (P.device dev.new) steps.new) }
+    ensures part { OnErr result (RagesPart program.now start count tally.old session.old
+        (P.device dev.old) steps.old (P.device dev.new) steps.new) }
     ensures lines { (P.device dev.new).lines ≡ (P.device dev.old).lines }
 {
     if program.typed.txs() == 0 {
@@ -156,7 +169,7 @@ fn rounds<P: Pmem, L: Ledger>(
     )
 }
 
-/// The number that the generator starts at.
+/// The number at which the generator starts.
 fn seed(start: u64) -> u32
     ensures { result ≡ min start (2 ^ 32 - 1) }
 {
@@ -166,7 +179,7 @@ fn seed(start: u64) -> u32
     }
 }
 
-/// So many rounds, of a program that has a transaction.
+/// Runs this many rounds of a program that has a transaction.
 fn run_rounds<P: Pmem, L: Ledger>(
     alloc: Global,
     program: &Program,
@@ -179,7 +192,10 @@ fn run_rounds<P: Pmem, L: Ledger>(
 ) -> Result<(), AllocError>
     requires lines { (P.device dev.old).lines ≡ pool_lines program.now.image.parts.sizes }
     requires some { 0 < length (transactions_of program.now.typed) }
-    ensures rounds { OnOk result (Rounds program.now storm.old count tally.old session.old (P.device dev.old) steps.old tally.new session.new (P.device dev.new) steps.new) }
+    ensures rounds { OnOk result (Rounds program.now storm.old count tally.old session.old
+        (P.device dev.old) steps.old tally.new session.new (P.device dev.new) steps.new) }
+    ensures part { OnErr result (RoundsPart program.now storm.old count tally.old session.old
+        (P.device dev.old) steps.old (P.device dev.new) steps.new) }
     ensures lines { (P.device dev.new).lines ≡ (P.device dev.old).lines }
 {
     for _ in 0..count {
@@ -197,7 +213,7 @@ fn run_rounds<P: Pmem, L: Ledger>(
     Ok(())
 }
 
-/// The commands of a round, each of which counts.
+/// Runs the commands of a round, and counts each.
 fn run_round<P: Pmem, L: Ledger>(
     alloc: Global,
     program: &Program,
@@ -208,7 +224,8 @@ fn run_round<P: Pmem, L: Ledger>(
     steps: &mut Steps<L>,
 )
     requires lines { (P.device dev.old).lines ≡ pool_lines program.now.image.parts.sizes }
-    ensures counts { Counts program.now commands.now tally.old session.old (P.device dev.old) steps.old tally.new session.new (P.device dev.new) steps.new }
+    ensures counts { CountsAnswers program.now commands.now tally.old session.old (P.device dev.old)
+        steps.old tally.new session.new (P.device dev.new) steps.new }
     ensures lines { (P.device dev.new).lines ≡ (P.device dev.old).lines }
 {
     for command in commands {
@@ -217,11 +234,14 @@ fn run_round<P: Pmem, L: Ledger>(
     }
 }
 
-/// The summary's line.
+/// Writes the summary's line.
 fn put_tally<K: Sink>(alloc: Global, tally: &Tally, out: &mut K) -> Result<(), Unwritten>
-    ensures whole { OnOk result (Appends (K.written out.old) (K.written out.new) (tally_text tally.now)) }
-    ensures part { OnErr result (AppendsPart (K.written out.old) (K.written out.new) (tally_text tally.now)) }
-    ensures write { IsErrOf result Unwritten.WriteFault → Rose (K.faults out.old) (K.faults out.new) }
+    ensures whole { OnOk result (Appends (K.written out.old) (K.written out.new)
+        (tally_text tally.now)) }
+    ensures part { OnErr result (AppendsPart (K.written out.old) (K.written out.new)
+        (tally_text tally.now)) }
+    ensures write { IsErrOf result Unwritten.WriteFault
+        → Rose (K.faults out.old) (K.faults out.new) }
     ensures count { K.faults out.old ≤ K.faults out.new }
 {
     let Ok(line) = tally_line(alloc, tally) else {
@@ -257,9 +277,10 @@ fn tally_line(alloc: Global, tally: &Tally) -> Result<String, AllocError>
     Ok(line)
 }
 
-/// One count, behind its name.
+/// Appends the name of a count, followed by the count.
 fn push_count(alloc: Global, line: &mut String, name: &str, count: u64) -> Result<(), AllocError>
-    ensures { OnOk result (string_bytes line.new ≡ with_count (string_bytes line.old) name.now count) }
+    ensures { OnOk result (string_bytes line.new ≡ with_count (string_bytes line.old)
+        name.now count) }
 {
     let number = format!(in alloc; "{count}")?;
     line.push_str(name)?;

@@ -1,4 +1,4 @@
-//! Lines on the way out.
+//! Writes lines.
 
 ghost use Rattle.std.specs.Prelude.{◌≡◌, ◌≢◌, ◌⊎◌, ◌≤◌, ℕ, List, OnOk, OnErr, IfOk, IsErrOf, string_bytes};
 ghost use Rattle.std.specs.Io.KnownBytes.{Appends};
@@ -23,7 +23,8 @@ pub(crate) enum Unwritten {
 pub(crate) fn put<K: Sink>(out: &mut K, text: &str, status: Status) -> Status
     ensures tells { TellsAs status text.now result (K.written out.old) (K.written out.new) }
     ensures status { (result ≡ status) ⊎ (result ≡ Status.WriteFault) }
-    ensures write { result ≡ Status.WriteFault → (status ≡ Status.WriteFault) ⊎ Rose (K.faults out.old) (K.faults out.new) }
+    ensures write { result ≡ Status.WriteFault → (status ≡ Status.WriteFault)
+        ⊎ Rose (K.faults out.old) (K.faults out.new) }
 {
     match write_all(out, text.as_bytes()) {
         Ok(()) => status,
@@ -31,12 +32,15 @@ pub(crate) fn put<K: Sink>(out: &mut K, text: &str, status: Status) -> Status
     }
 }
 
-/// Writes a line that may not have been made for want of memory.
+/// Writes a line; there may have been no memory to make it.
 #[tactic(auto, using(crate::proofs::Running::keeps_same))]
 pub(crate) fn tell<K: Sink>(out: &mut K, line: Result<String, AllocError>, status: Status) -> Status
-    ensures tells { (text : List ℕ) → IfOk line (λ s. string_bytes s ≡ text) → TellsAs status text result (K.written out.old) (K.written out.new) }
-    ensures status { (result ≡ status) ⊎ ((result ≡ Status.NoMemory) ⊎ (result ≡ Status.WriteFault)) }
-    ensures write { result ≡ Status.WriteFault → (status ≡ Status.WriteFault) ⊎ Rose (K.faults out.old) (K.faults out.new) }
+    ensures tells { (text : List ℕ) → IfOk line (λ s. string_bytes s ≡ text)
+        → TellsAs status text result (K.written out.old) (K.written out.new) }
+    ensures status { (result ≡ status)
+        ⊎ ((result ≡ Status.NoMemory) ⊎ (result ≡ Status.WriteFault)) }
+    ensures write { result ≡ Status.WriteFault → (status ≡ Status.WriteFault)
+        ⊎ Rose (K.faults out.old) (K.faults out.new) }
 {
     match line {
         Ok(line) => put(out, line.as_str(), status),
@@ -44,15 +48,18 @@ pub(crate) fn tell<K: Sink>(out: &mut K, line: Result<String, AllocError>, statu
     }
 }
 
-/// The lines of an answer, written whole.
+/// Writes the whole lines of an answer.
 pub(crate) fn put_answer<K: Sink>(
     alloc: Global,
     answer: &Answer,
     out: &mut K,
 ) -> Result<(), Unwritten>
-    ensures whole { OnOk result (Appends (K.written out.old) (K.written out.new) (answer_text answer.now)) }
-    ensures part { OnErr result (AppendsPart (K.written out.old) (K.written out.new) (answer_text answer.now)) }
-    ensures write { IsErrOf result Unwritten.WriteFault → Rose (K.faults out.old) (K.faults out.new) }
+    ensures whole { OnOk result (Appends (K.written out.old) (K.written out.new)
+        (answer_text answer.now)) }
+    ensures part { OnErr result (AppendsPart (K.written out.old) (K.written out.new)
+        (answer_text answer.now)) }
+    ensures write { IsErrOf result Unwritten.WriteFault
+        → Rose (K.faults out.old) (K.faults out.new) }
     ensures count { K.faults out.old ≤ K.faults out.new }
 {
     let Ok(text) = answer_text(alloc, answer) else {

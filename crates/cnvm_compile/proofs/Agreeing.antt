@@ -11,45 +11,55 @@ use Rattle.clobber_pass.specs.declared.marking.MarkTable.{MarkTable}
 use Rattle.checked_law.proofs.Laws as checked
 use Rattle.cnvm_session.specs.declared.program.Program.{Program}
 use Rattle.session_law.specs.Agrees.{Agrees}
-use Rattle.compiled_law.specs.Counts.{counts_of}
 use Rattle.compiled_law.proofs.Agreeing.{compiled}
-use Rattle.cnvm_compile.specs.FrontEnd.{Accepts}
+use Rattle.cnvm_compile.specs.FrontEnd.{AcceptsText}
 use Rattle.cnvm_compile.specs.Made.{image_of}
 use Rattle.clobber_pass.specs.Logged.{IsExact}
 use Rattle.cnvm_compile.specs.SizesAsked.{within, HasRoot}
 
--- a number within limits stays as it is
+-- `within` leaves a number within the limits as it is
 within_same : (most n : ℕ) → 1 ≤ n → n ≤ most → within 1 most n ≡ n
 within_same most n low high = by_least (nat_lt n 1) refl (nat_lt most n) refl
   where
-    by_least : (a : Bool) → nat_lt n 1 ≡ a → (b : Bool) → nat_lt most n ≡ b → (if a then 1 else (if b then most else n)) ≡ n
+    by_least : (a : Bool) → nat_lt n 1 ≡ a → (b : Bool) → nat_lt most n ≡ b
+        → (if a then 1 else (if b then most else n)) ≡ n
     by_least true e b f = absurd (omega (arith, ltb-true n 1 e, low))
     by_least false e true f = absurd (omega (arith, ltb-true most n f, high))
     by_least false e false f = refl
 
 module _ (text : List ℕ) (marks : MarkTable) (program : Program) where
-  agreed_of : (ir : Ir) → Accepts text program.typed → lowered program.typed ≡ ir → IsExact (lowered program.typed).functions marks → IsWellFormed (lowered program.typed)
-      → program.image.parts.sizes ≡ program.sizes → HasRoot (shapes_of program.typed) program.sizes → program.image.parts ≡ image_of marks (lowered program.typed) program.sizes (length program.typed.lines)
-      → Agrees program (counts_of program marks)
+  agreed_of : (ir : Ir) → AcceptsText text program.typed → lowered program.typed ≡ ir
+      → IsExact (lowered program.typed).functions marks → IsWellFormed (lowered program.typed)
+      → program.image.parts.sizes ≡ program.sizes → HasRoot (shapes_of program.typed) program.sizes
+      → program.image.parts ≡ image_of marks (lowered program.typed) program.sizes
+      (length program.typed.lines)
+      → Agrees program
   agreed_of ir accepted is marked formed sizes root made =
       let tree = accepted.0 in
-      let least : 1 ≤ words_of (shapes_of program.typed).root = checked.root program.typed tree.0.tokens tree.2.spelled accepted.1 in
-      let most : words_of (shapes_of program.typed).root ≤ 512 = (checked.shapes program.typed accepted.1).root in
-      compiled text tree.0 marks program (record {
+      let least : 1 ≤ words_of (shapes_of program.typed).root =
+      checked.root program.typed tree.0.tokens tree.2.spelled accepted.1 in
+      let most : words_of (shapes_of program.typed).root ≤ 512 =
+      (checked.shapes program.typed accepted.1).root in
+      compiled text tree.0 program (record {
         cut = tree.1;
         spelled = tree.2.spelled;
         lines = tree.2.lines;
         checked = accepted.1;
         formed = formed;
-        whole = λ site logged. (marked site).1 logged;
+        marks = marks;
+        exact = marked;
         sizes = sizes;
         root = root ∙ within_same 512 (words_of (shapes_of program.typed).root) least most;
         made = made;
       })
 
-  -- with the code under a name of its own
-  pub agreed : (ir : Ir) → Accepts text program.typed → ir ≡ lowered program.typed → IsExact ir.functions marks → IsWellFormed ir
-      → program.image.parts.sizes ≡ program.sizes → HasRoot (shapes_of program.typed) program.sizes → program.image.parts ≡ image_of marks ir program.sizes (length program.typed.lines)
-      → Agrees program (counts_of program marks)
+  -- a program agrees with its source, for any name of its code
+  pub agreed : (ir : Ir) → AcceptsText text program.typed → ir ≡ lowered program.typed
+      → IsExact ir.functions marks → IsWellFormed ir
+      → program.image.parts.sizes ≡ program.sizes → HasRoot (shapes_of program.typed) program.sizes
+      → program.image.parts ≡ image_of marks ir program.sizes (length program.typed.lines)
+      → Agrees program
   agreed ir accepted is marked formed sizes root made =
-      agreed_of ir accepted (sym is) (subst (λ (x : Ir). IsExact x.functions marks) is marked) (subst IsWellFormed is formed) sizes root (made ∙ ap (λ (x : Ir). image_of marks x program.sizes (length program.typed.lines)) is)
+      agreed_of ir accepted (sym is) (subst (λ (x : Ir). IsExact x.functions marks) is marked)
+      (subst IsWellFormed is formed) sizes root
+      (made ∙ ap (λ (x : Ir). image_of marks x program.sizes (length program.typed.lines)) is)

@@ -1,4 +1,4 @@
--- How a complaint about a program is told: `program line L KIND`.
+-- The line that reports a complaint about a program: `program line L KIND`.
 use Rattle.std.specs.Prelude.{ℕ, List, [], ◌∷◌, ◌++◌, codes}
 use Rattle.std.specs.Fmt.{decimal}
 use Rattle.c_types.specs.declared.fault.LimitKind.{LimitKind}
@@ -15,24 +15,24 @@ limit_name limit.Structs = codes "structs"
 limit_name limit.Functions = codes "functions"
 limit_name limit.Parameters = codes "parameters"
 
--- a limit is told with its name and the value that breaks it
-abbrev pub kind_of : Complaint → List ℕ
-kind_of BadByte = codes "bad byte"
-kind_of BadNumber = codes "bad number"
-kind_of OpenComment = codes "open comment"
-kind_of Syntax = codes "syntax"
-kind_of TooDeep = codes "too deep"
-kind_of UnknownName = codes "unknown name"
-kind_of Twice = codes "twice"
-kind_of Mismatch = codes "mismatch"
-kind_of NotAssignable = codes "not assignable"
-kind_of Arity = codes "arity"
-kind_of (TooBig limit value) = codes "too big " ++ (limit_name limit ++ (32 ∷ decimal value))
-kind_of NoRoot = codes "no root"
-kind_of BadTx = codes "bad tx"
+-- the kind of a complaint; a broken limit is reported with its name and the value that breaks it
+abbrev pub complaint_kind : Complaint → List ℕ
+complaint_kind BadByte = codes "bad byte"
+complaint_kind BadNumber = codes "bad number"
+complaint_kind OpenComment = codes "open comment"
+complaint_kind Syntax = codes "syntax"
+complaint_kind TooDeep = codes "too deep"
+complaint_kind UnknownName = codes "unknown name"
+complaint_kind Twice = codes "twice"
+complaint_kind Mismatch = codes "mismatch"
+complaint_kind NotAssignable = codes "not assignable"
+complaint_kind Arity = codes "arity"
+complaint_kind (TooBig limit value) = codes "too big " ++ (limit_name limit ++ (32 ∷ decimal value))
+complaint_kind NoRoot = codes "no root"
+complaint_kind BadTx = codes "bad tx"
 
-abbrev pub line_of : ℕ → List ℕ → List ℕ
-line_of line kind = codes "program line " ++ (decimal line ++ (32 ∷ (kind ++ 10 ∷ [])))
+abbrev pub program_line : ℕ → List ℕ → List ℕ
+program_line line kind = codes "program line " ++ (decimal line ++ (32 ∷ (kind ++ 10 ∷ [])))
 
 abbrev pub complaint_line : ℕ → Complaint → List ℕ
-complaint_line line complaint = line_of line (kind_of complaint)
+complaint_line line complaint = program_line line (complaint_kind complaint)

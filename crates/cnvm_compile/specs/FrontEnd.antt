@@ -1,5 +1,5 @@
--- What the front end makes of a program's text: its tokens, their tree, and whether the tree breaks a
--- typing rule; or the first of these that is refused.
+-- What the front end makes of a program's text: its tokens, their tree, and the typing rules that
+-- the tree breaks; or the refusal of the first of these stages that refuses.
 use Rattle.std.specs.Prelude.{ℕ, ◌+◌, List, [], ◌≡◌, ◌≢◌, map, length, Some, Ok, Err, ⊤}
 use Rattle.c_lexer.specs.declared.fault.LexFault.TheVariants as lex
 use Rattle.c_lexer.specs.Cuts.{answer}
@@ -14,52 +14,37 @@ use Rattle.c_types.specs.Fault.{breaks, refusal}
 use Rattle.cnvm_compile.specs.declared.front_end.ProgramFault.{ProgramFault}
 use Rattle.cnvm_compile.specs.declared.front_end.ProgramFault.TheVariants.{Lex, Parse, Types, NoMemory}
 
--- The tokens spell the tree, none of them too heavy, and the tree has their lines.
+-- The tree of a list of tokens: the tokens spell it, none of them is too heavy, and it has their
+-- lines.
 pub record IsTree (list : Tokens) (tree : Program) : Type 0 where
   pub spelled : SpellsProgram list.tokens (tree_of tree)
   pub light : LightBefore (weights list.tokens) (length list.tokens)
   pub lines : tree.lines ≡ map (λ placed. placed.line) list.tokens
   pub last : tree.last ≡ list.last
 
--- each tree of these tokens is this one
-abbrev pub IsOnlyTree : Tokens → Program → Type 0
-IsOnlyTree list tree = (other : Program) → IsTree list other → tree_of tree ≡ tree_of other
-
 abbrev pub HasTree : List ℕ → Program → Type 0
 HasTree text tree = (list : Tokens) × (answer text ≡ Ok list) × IsTree list tree
 
 -- the text has this tree, and it breaks no rule
-abbrev pub Accepts : List ℕ → Program → Type 0
-Accepts text tree = HasTree text tree × (breaks tree ≡ [])
+abbrev pub AcceptsText : List ℕ → Program → Type 0
+AcceptsText text tree = HasTree text tree × (breaks tree ≡ [])
 
--- the text has a tree, and each tree that it has is refused for this
+-- the text has a tree, and each of its trees is refused for this fault
 pub record RefusesTrees (text : List ℕ) (fault : TypeFault) : Type 0 where
   pub tree : Program
   pub has : HasTree text tree
   pub each : (other : Program) → HasTree text other → refusal other ≡ Some fault
 
--- the first token that continues no program, or stands too deep
+-- the refused token: the first with which the list begins no program, or one that stands too deep
 abbrev pub RefusesToken : Tokens → ParseFault → ℕ → Type 0
 RefusesToken list (parse.Syntax t) line =
     NoneBegins list.tokens (t + 1) × SomeBegins list.tokens t × (line ≡ line_at list t)
 RefusesToken list (parse.TooDeep t) line = SomeSinks list.tokens t × (line ≡ line_at list t)
 RefusesToken list parse.NoMemory line = ⊥
 
--- Want of memory says nothing.
-abbrev pub RefusesList : Tokens → ProgramFault → Type 0
-RefusesList list (Parse fault line) = RefusesToken list fault line
-RefusesList list NoMemory = ⊤
-RefusesList list (Lex fault) = ⊥
-RefusesList list (Types fault) = ⊥
-
-abbrev pub RefusesTree : Program → ProgramFault → Type 0
-RefusesTree tree (Types fault) = refusal tree ≡ Some fault
-RefusesTree tree NoMemory = ⊤
-RefusesTree tree (Lex fault) = ⊥
-RefusesTree tree (Parse fault line) = ⊥
-
 abbrev pub RefusesText : List ℕ → ProgramFault → Type 0
 RefusesText text (Lex fault) = (answer text ≡ Err fault) × (fault ≢ lex.NoMemory)
-RefusesText text (Parse fault line) = (list : Tokens) × (answer text ≡ Ok list) × RefusesToken list fault line
+RefusesText text (Parse fault line) = (list : Tokens) × (answer text ≡ Ok list)
+    × RefusesToken list fault line
 RefusesText text (Types fault) = RefusesTrees text fault
 RefusesText text NoMemory = ⊤

@@ -1,3 +1,4 @@
+pub mod Compilation
 pub mod ComplaintText
 pub mod FrontEnd
 pub mod Listing
@@ -5,3 +6,4 @@ pub mod Made
 pub mod OneAnswer
 pub mod SizesAsked
 pub mod Told
+pub mod inside

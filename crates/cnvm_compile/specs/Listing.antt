@@ -1,7 +1,8 @@
--- A listing has one line for each store site, in code order: `F line L TARGET log` where the site is logged, and
--- `F line L TARGET plain` where it isn't. F is the name of its function, L the line of its store, and TARGET what is
--- written there: `root.f`, `S.f`, `new S header`, `new S fields` or `free S header`, the header of a new before its
--- fields. The last line is `sites A logged B`, with the number of sites and that of the logged ones. Each line ends with LF.
+-- A listing has one line for each store site, in code order: `F line L TARGET log` for a logged
+-- site, and `F line L TARGET plain` for any other. F is the name of the function, L the line of the
+-- store, and TARGET what is written there: `root.f`, `S.f`, `new S header`, `new S fields` or `free
+-- S header`; of a `new` the header comes before its fields. The last line is `sites A logged B`,
+-- with the number of sites and of logged ones. Each line ends with LF.
 use Rattle.std.specs.Prelude.{ℕ, ◌+◌, List, [], ◌∷◌, ◌++◌, Bool, true, false, slice_get, length, codes, flat_map}
 use Rattle.std.specs.Option.{option_map_or}
 use Rattle.std.specs.List.{filter}
@@ -16,12 +17,12 @@ use Rattle.ir.specs.declared.instruction.Instruction.TheVariants.{Const, Copy, B
 use Rattle.ir.specs.declared.function.IrFunction.{IrFunction}
 use Rattle.ir.specs.declared.function.Ir.{Ir}
 use Rattle.ir.specs.declared.site.Site.{Site}
-use Rattle.ir.specs.WellFormed.{struct_of, field_of}
+use Rattle.ir.specs.WellFormed.{struct_of, shape_field}
 use Rattle.clobber_pass.specs.declared.marking.MarkTable.{MarkTable}
 use Rattle.clobber_pass.specs.Logged.{is_logged}
 use Rattle.cnvm_compile.specs.declared.site_rows.Row.{Row}
 
--- a name is empty where there is nothing that has it
+-- the name of a function, empty if there is none
 abbrev pub function_name : List IrFunction → ℕ → List ℕ
 function_name functions f = option_map_or (λ (u : IrFunction). u.name) (slice_get functions f) []
 
@@ -32,16 +33,18 @@ abbrev pub field_name : List FieldShape → ℕ → List ℕ
 field_name fields field = option_map_or (λ (f : FieldShape). f.name) (slice_get fields field) []
 
 abbrev pub field_of_struct : Shapes → ℕ → ℕ → List ℕ
-field_of_struct shapes kind field = option_map_or (λ (f : FieldShape). f.name) (field_of shapes kind field) []
+field_of_struct shapes kind field =
+    option_map_or (λ (f : FieldShape). f.name) (shape_field shapes kind field) []
 
 abbrev pub target_name : Shapes → Target → List ℕ
 target_name shapes (Root field index) = codes "root." ++ field_name shapes.root field
-target_name shapes (Field base kind field index) = struct_name shapes kind ++ (codes "." ++ field_of_struct shapes kind field)
+target_name shapes (Field base kind field index) =
+    struct_name shapes kind ++ (codes "." ++ field_of_struct shapes kind field)
 
 abbrev pub row : Site → ℕ → List ℕ → Row
 row site line target = record { site = site; line = line; target = target }
 
--- the site of the fill of the new whose header's site this is
+-- the site of a new object's fill, from that of its header
 abbrev pub fill_of : Site → Site
 fill_of site = record { function = site.function; place = site.place; fill = true }
 
@@ -51,7 +54,8 @@ rows_at shapes site (Store target from line) = row site line (target_name shapes
 rows_at shapes site (New to kind log_fill line) =
     row site line (codes "new " ++ (struct_name shapes kind ++ codes " header"))
     ∷ row (fill_of site) line (codes "new " ++ (struct_name shapes kind ++ codes " fields")) ∷ []
-rows_at shapes site (Free from kind line) = row site line (codes "free " ++ (struct_name shapes kind ++ codes " header")) ∷ []
+rows_at shapes site (Free from kind line) =
+    row site line (codes "free " ++ (struct_name shapes kind ++ codes " header")) ∷ []
 rows_at shapes site (Const to value) = []
 rows_at shapes site (Copy to from) = []
 rows_at shapes site (Bin op to left right) = []
@@ -67,7 +71,8 @@ rows_at shapes site (Log target) = []
 -- the rows of the instructions from place p of function f on
 abbrev pub rows_from : Shapes → ℕ → ℕ → List Instruction → List Row
 rows_from shapes f p [] = []
-rows_from shapes f p (i ∷ is) = rows_at shapes (record { function = f; place = p; fill = false }) i ++ rows_from shapes f (p + 1) is
+rows_from shapes f p (i ∷ is) = rows_at shapes (record { function = f; place = p; fill = false }) i
+    ++ rows_from shapes f (p + 1) is
 
 -- the rows of the functions from function f on
 abbrev pub rows_of : Shapes → ℕ → List IrFunction → List Row
@@ -81,10 +86,12 @@ mark_text false = codes " plain\n"
 abbrev pub row_line : MarkTable → List IrFunction → Row → List ℕ
 row_line marks functions r =
     function_name functions r.site.function
-    ++ (codes " line " ++ (decimal r.line ++ (codes " " ++ (r.target ++ mark_text (is_logged marks r.site)))))
+    ++ (codes " line " ++ (decimal r.line
+    ++ (codes " " ++ (r.target ++ mark_text (is_logged marks r.site)))))
 
 abbrev pub last_line : (sites logged : ℕ) → List ℕ
-last_line sites logged = codes "sites " ++ (decimal sites ++ (codes " logged " ++ (decimal logged ++ codes "\n")))
+last_line sites logged = codes "sites "
+    ++ (decimal sites ++ (codes " logged " ++ (decimal logged ++ codes "\n")))
 
 -- the rows of a program whose sites are logged
 abbrev pub logged_rows : MarkTable → List Row → List Row
@@ -93,4 +100,5 @@ logged_rows marks rows = filter (λ r. is_logged marks r.site) rows
 abbrev pub listing : MarkTable → Ir → List ℕ
 listing marks ir =
     flat_map (row_line marks ir.functions) (rows_of ir.shapes 0 ir.functions)
-    ++ last_line (length (rows_of ir.shapes 0 ir.functions)) (length (logged_rows marks (rows_of ir.shapes 0 ir.functions)))
+    ++ last_line (length (rows_of ir.shapes 0 ir.functions))
+    (length (logged_rows marks (rows_of ir.shapes 0 ir.functions)))

@@ -1,5 +1,6 @@
--- The image of a program: the machine's code of its three-address code with its logs, its transactions and structs, and the
--- bound on steps, for a pool of these sizes and a text of so many tokens.
+-- The image of a program: the machine's code for its intermediate code with its logs, its
+-- transactions and structs, and the bound on steps, for a pool of these sizes and a text of this
+-- many tokens.
 use Rattle.std.specs.Prelude.{ℕ}
 use Rattle.pool_layout.specs.declared.limits.Sizes.{Sizes}
 use Rattle.ir.specs.declared.function.Ir.{Ir}
@@ -9,4 +10,5 @@ use Rattle.pm_machine.specs.declared.image.ImageParts.{ImageParts}
 use Rattle.codegen.specs.Emit.{functions_of, parts_of}
 
 abbrev pub image_of : MarkTable → Ir → Sizes → (tokens : ℕ) → ImageParts
-image_of marks ir sizes tokens = parts_of (logged_program marks ir) sizes tokens (functions_of sizes (logged_program marks ir))
+image_of marks ir sizes tokens =
+    parts_of (logged_program marks ir) sizes tokens (functions_of sizes (logged_program marks ir))

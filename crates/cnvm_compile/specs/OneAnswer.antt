@@ -1,11 +1,11 @@
--- One text, one answer of the front end.
+-- One text has one answer of the front end.
 use Rattle.std.specs.Prelude.{ℕ, List, ◌≡◌, ⊤}
 use Rattle.c_parser.specs.Program.{Program}
 use Rattle.cnvm_compile.specs.declared.front_end.ProgramFault.{ProgramFault}
 use Rattle.cnvm_compile.specs.declared.front_end.ProgramFault.TheVariants.{Lex, Parse, Types, NoMemory}
-use Rattle.cnvm_compile.specs.FrontEnd.{HasTree, Accepts, RefusesText}
+use Rattle.cnvm_compile.specs.FrontEnd.{HasTree, AcceptsText, RefusesText}
 
--- Two refusals are one. Want of memory says nothing.
+-- Two refusals are the same. Want of memory says nothing.
 abbrev pub IsSame : ProgramFault → ProgramFault → Type 0
 IsSame NoMemory g = ⊤
 IsSame (Lex fault) NoMemory = ⊤
@@ -15,7 +15,7 @@ IsSame (Lex fault) g = Lex fault ≡ g
 IsSame (Parse fault line) g = Parse fault line ≡ g
 IsSame (Types fault) g = Types fault ≡ g
 
--- only a broken rule, or want of memory
+-- the refusal is a broken rule, or want of memory
 abbrev pub IsOfTree : ProgramFault → Type 0
 IsOfTree (Types fault) = ⊤
 IsOfTree NoMemory = ⊤
@@ -23,6 +23,9 @@ IsOfTree (Lex fault) = ⊥
 IsOfTree (Parse fault line) = ⊥
 
 pub record OneAnswer : Type 0 where
-  pub refused : (text : List ℕ) (f g : ProgramFault) → RefusesText text f → RefusesText text g → IsSame f g
-  pub tree : (text : List ℕ) (tree : Program) (f : ProgramFault) → HasTree text tree → RefusesText text f → IsOfTree f
-  pub accepted : (text : List ℕ) (tree : Program) (f : ProgramFault) → Accepts text tree → RefusesText text f → f ≡ NoMemory
+  pub refused : (text : List ℕ) (f g : ProgramFault) → RefusesText text f → RefusesText text g
+      → IsSame f g
+  pub tree : (text : List ℕ) (tree : Program) (f : ProgramFault) → HasTree text tree
+      → RefusesText text f → IsOfTree f
+  pub accepted : (text : List ℕ) (tree : Program) (f : ProgramFault) → AcceptsText text tree
+      → RefusesText text f → f ≡ NoMemory

@@ -1,5 +1,5 @@
--- The sizes of the pool that a compiled program is for: the numbers that were asked for, each within its limits, a number
--- outside them standing for the nearest limit; and as many root words as the program's root has.
+-- The sizes of the pool of a compiled program: the numbers that were asked for, or the nearest
+-- limit for a number outside its limits; and as many root words as the program's root has.
 use Rattle.std.specs.Prelude.{ℕ, ◌≡◌, ◌≤◌, nat_lt, if◌then◌else◌}
 use Rattle.pool_map.specs.declared.shapes.Shapes.{Shapes}
 use Rattle.pool_map.specs.PoolFits.{words_of}
@@ -8,10 +8,11 @@ use Rattle.pool_layout.specs.declared.limits.Sizes.{Sizes}
 abbrev pub within : (least most n : ℕ) → ℕ
 within least most n = if nat_lt n least then least else (if nat_lt most n then most else n)
 
--- the words of the shapes' root, of which a checked program has 1 to 512
+-- the pool has the words of the shapes' root, of which a checked program has 1 to 512
 abbrev pub HasRoot : Shapes → Sizes → Type 0
 HasRoot shapes sizes = sizes.root_words ≡ within 1 512 (words_of shapes.root)
 
 abbrev pub HasSizes : (slots records ticks : ℕ) → Sizes → Type 0
 HasSizes slots records ticks sizes =
-    (sizes.slots ≡ within 1 65535 slots) × (sizes.records ≡ within 1 4096 records) × (sizes.ticks ≡ within 1 1000000 ticks)
+    (sizes.slots ≡ within 1 65535 slots) × (sizes.records ≡ within 1 4096 records)
+    × (sizes.ticks ≡ within 1 1000000 ticks)

@@ -1,4 +1,4 @@
--- What is told of a program that the front end refuses: a complaint with its line.
+-- What is reported of a program that the front end refuses: a complaint with its line.
 use Rattle.std.specs.Prelude.{ℕ}
 use Rattle.c_lexer.specs.declared.fault.LexFault.{LexFault}
 use Rattle.c_lexer.specs.declared.fault.LexFault.TheVariants as lex

@@ -1,19 +1,17 @@
-//! From a text to its program.
+//! Compiles a text to a program.
 
 ghost use Rattle.std.specs.Prelude.{◌≡◌, ◌≤◌, [], IfOk, IfErr, length};
-ghost use Rattle.pool_layout.specs.Digest.{digest_of};
 ghost use Rattle.ir.specs.WellFormed.{IsWellFormed};
 ghost use Rattle.clobber_pass.specs.Logged.{IsExact};
 ghost use Rattle.c_types.specs.Fault.{breaks};
 ghost use Rattle.lower.specs.Program.{lowered};
-ghost use Rattle.cnvm_compile.specs.FrontEnd.{Accepts, RefusesText};
+ghost use Rattle.cnvm_compile.specs.Compilation.{IsCompiled};
+ghost use Rattle.cnvm_compile.specs.FrontEnd.{RefusesText};
 ghost use Rattle.cnvm_compile.specs.Made.{image_of};
-ghost use Rattle.c_types.specs.Shapes.{shapes_of};
 ghost use Rattle.pool_map.specs.PoolFits.{words_of};
-ghost use Rattle.session_law.specs.Agrees.{Agrees};
-ghost use Rattle.compiled_law.specs.Counts.{counts_of};
 ghost use Rattle.cnvm_compile.specs.SizesAsked.{within, HasRoot, HasSizes};
 
+use crate::asked::Asked;
 use crate::front_end::{ProgramFault, typed_of};
 use c_types::Typed;
 use clobber_pass::{MarkTable, marks};
@@ -26,7 +24,7 @@ use pool_layout::{Sizes, digest};
 use pool_map::Shapes;
 use std::alloc::{AllocError, Global};
 
-/// A compiled program, with its three-address code without logs, and the marks of its stores.
+/// A compiled program, with its intermediate code without logs, and the marks of its stores.
 #[derive(Drop)]
 pub struct Compiled {
     pub program: Program,
@@ -34,7 +32,7 @@ pub struct Compiled {
     pub marks: MarkTable,
 }
 
-/// The number, or the nearest that lies within these limits.
+/// The number, or the nearest one within these limits.
 fn within(n: u64, least: u64, most: u64) -> u64
     requires { least ≤ most }
     ensures value { result ≡ within least most n }
@@ -63,29 +61,13 @@ fn root_words(shapes: &Shapes) -> u64
     within(words, 1, 512)
 }
 
-/// The program that a text is, for a pool of so many slots and records, and calls of so many ticks.
-/// A number outside the limits of a pool stands for the nearest limit.
-pub fn compile(
-    alloc: Global,
-    text: &[u8],
-    slots: u64,
-    records: u64,
-    ticks: u64,
-) -> Result<Compiled, ProgramFault>
-    ensures accepted { IfOk result (λ compiled. Accepts text.now compiled.program.typed) }
+/// The program that a text is, for a pool of the sizes that are asked for.
+pub fn compile(alloc: Global, text: &[u8], asked: Asked) -> Result<Compiled, ProgramFault>
+    ensures compiled { IfOk result (λ compiled. IsCompiled asked text.now compiled) }
     ensures refused { IfErr result (λ fault. RefusesText text.now fault) }
-    ensures sizes { IfOk result (λ compiled. HasSizes slots records ticks compiled.program.sizes) }
-    ensures image { IfOk result (λ compiled. compiled.program.image.parts.sizes ≡ compiled.program.sizes) }
-    ensures root { IfOk result (λ compiled. HasRoot (shapes_of compiled.program.typed) compiled.program.sizes) }
-    ensures digest { IfOk result (λ compiled. compiled.program.digest ≡ digest_of text.now) }
-    ensures ir { IfOk result (λ compiled. compiled.ir ≡ lowered compiled.program.typed) }
-    ensures marks { IfOk result (λ compiled. IsExact compiled.ir.functions compiled.marks) }
-    ensures well_formed { IfOk result (λ compiled. IsWellFormed compiled.ir) }
-    ensures code { IfOk result (λ compiled. compiled.program.image.parts ≡ image_of compiled.marks compiled.ir compiled.program.sizes (length compiled.program.typed.lines)) }
-    ensures agrees { IfOk result (λ compiled. Agrees compiled.program (counts_of compiled.program compiled.marks)) }
 {
     let typed = typed_of(alloc, text)?;
-    let sizes = sizes_of(typed.shapes(), slots, records, ticks);
+    let sizes = sizes_of(typed.shapes(), asked.slots, asked.records, asked.ticks);
     match back_end(alloc, typed, sizes, digest(text)) {
         Ok(compiled) => Ok(compiled),
         Err(_) => Err(ProgramFault::NoMemory),
@@ -121,7 +103,8 @@ fn back_end(
     ensures ir { IfOk result (λ compiled. breaks typed ≡ [] → compiled.ir ≡ lowered typed) }
     ensures marks { IfOk result (λ compiled. IsExact compiled.ir.functions compiled.marks) }
     ensures well_formed { IfOk result (λ compiled. IsWellFormed compiled.ir) }
-    ensures code { IfOk result (λ compiled. compiled.program.image.parts ≡ image_of compiled.marks compiled.ir sizes (length typed.lines)) }
+    ensures code { IfOk result (λ compiled. compiled.program.image.parts ≡
+        image_of compiled.marks compiled.ir sizes (length typed.lines)) }
 {
     let ir = lower(alloc, &typed)?;
     let marks = marks(alloc, &ir)?;

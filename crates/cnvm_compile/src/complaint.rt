@@ -1,7 +1,7 @@
-//! What is told of a program that the front end refuses: `program line L KIND`.
+//! The line that reports a refused program: `program line L KIND`.
 
 ghost use Rattle.std.specs.Prelude.{◌≡◌, IfOk, string_bytes};
-ghost use Rattle.cnvm_compile.specs.ComplaintText.{complaint_line, line_of, kind_of, limit_name};
+ghost use Rattle.cnvm_compile.specs.ComplaintText.{complaint_line, program_line, complaint_kind, limit_name};
 
 use c_types::LimitKind;
 use std::alloc::{AllocError, Global};
@@ -25,7 +25,7 @@ pub enum Complaint {
     BadTx,
 }
 
-/// The line that tells of a complaint.
+/// The line that reports a complaint.
 pub fn complaint_line(alloc: Global, line: u64, complaint: Complaint) -> Result<String, AllocError>
     ensures { IfOk result (λ text. string_bytes text ≡ complaint_line line complaint) }
 {
@@ -49,16 +49,17 @@ pub fn complaint_line(alloc: Global, line: u64, complaint: Complaint) -> Result<
     }
 }
 
-/// The line with a kind.
+/// The line for a kind of complaint.
 fn line_of(alloc: Global, line: u64, kind: &str) -> Result<String, AllocError>
-    ensures { IfOk result (λ text. string_bytes text ≡ line_of line kind.now) }
+    ensures { IfOk result (λ text. string_bytes text ≡ program_line line kind.now) }
 {
     format!(in alloc; "program line {line} {kind}\n")
 }
 
 /// The kind of a broken limit.
 fn limit_kind(alloc: Global, limit: LimitKind, value: u64) -> Result<String, AllocError>
-    ensures { IfOk result (λ text. string_bytes text ≡ kind_of (Complaint.TooBig limit value)) }
+    ensures { IfOk result (λ text.
+        string_bytes text ≡ complaint_kind (Complaint.TooBig limit value)) }
 {
     let name = limit_name(limit);
     format!(in alloc; "too big {name} {value}")

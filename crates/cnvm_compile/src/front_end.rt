@@ -1,17 +1,20 @@
-//! The front end: a program's text, its tokens, its tree, and the tree that breaks no typing rule.
+//! The front end: from a program's text to its tokens, to their tree, and to a tree that breaks no
+//! typing rule.
 
 ghost use Rattle.std.specs.Prelude.{◌≡◌, ◌≤◌, [], Ok, IfOk, IfErr, length};
 ghost use Rattle.c_lexer.specs.Cuts.{answer};
 ghost use Rattle.c_lexer.specs.TokenList.{line_at};
 ghost use Rattle.c_types.specs.Fault.{breaks};
-ghost use Rattle.cnvm_compile.specs.FrontEnd.{IsTree, IsOnlyTree, Accepts, RefusesList, RefusesTree, RefusesText};
+ghost use Rattle.cnvm_compile.specs.FrontEnd.{IsTree, AcceptsText, RefusesText};
+ghost use Rattle.cnvm_compile.specs.inside.FrontEnd.{IsOnlyTree, RefusesList, RefusesTree};
 
 use c_lexer::{LexFault, TokenList, tokens};
 use c_parser::{Ast, ParseFault, parse};
 use c_types::{TypeFault, Typed, check};
 use std::alloc::Global;
 
-/// Why a text is no program. Want of memory in any part is `NoMemory`, and no other variant holds it.
+/// Why a text is no program. Want of memory in any stage is `NoMemory`, and no other variant holds
+/// it.
 #[derive(Clone, Copy, Debug, PartialEq, Eq)]
 pub enum ProgramFault {
     /// It has no tokens.
@@ -26,7 +29,7 @@ pub enum ProgramFault {
 /// The checked tree of a text.
 #[tactic(auto, using(crate::proofs::Trees::text_refused))]
 pub(crate) fn typed_of(alloc: Global, text: &[u8]) -> Result<Typed, ProgramFault>
-    ensures accepted { IfOk result (λ typed. Accepts text.now typed) }
+    ensures accepted { IfOk result (λ typed. AcceptsText text.now typed) }
     ensures refused { IfErr result (λ fault. RefusesText text.now fault) }
 {
     let list = list_of(alloc, text)?;
@@ -71,7 +74,7 @@ fn refused_at(list: &TokenList, fault: ParseFault, place: u64) -> ProgramFault
     ProgramFault::Parse(fault, list.line(place))
 }
 
-/// The tree, where it breaks no typing rule.
+/// The tree, if it breaks no typing rule.
 fn checked(alloc: Global, ast: Ast) -> Result<Typed, ProgramFault>
     ensures kept { IfOk result (λ typed. breaks ast ≡ []) }
     ensures tree { IfOk result (λ typed. typed ≡ ast) }

@@ -1,9 +1,10 @@
-//! The compiler: from a program's text to its image, with its code and its marks. It stands on the
+//! The compiler: from a program's text to its image, with its code and its marks. It rests on the
 //! front end, the passes and `codegen`. Its one contract for the crates above: a text is refused
-//! exactly where a part of the front end refuses it, with that part's refusal, and the program of an
-//! accepted text is made from the one tree of its tokens.
+//! only as a stage of the front end refuses it, or for want of memory; and the program of an
+//! accepted text is made from the one tree of its tokens, and agrees with its source.
 #![tactic(auto)]
 
+mod asked;
 mod compiling;
 mod complaint;
 mod front_end;
@@ -13,6 +14,7 @@ mod site_rows;
 mod target_name;
 mod told;
 
+pub use asked::Asked;
 pub use compiling::{Compiled, compile};
 pub use complaint::{Complaint, complaint_line};
 pub use front_end::ProgramFault;

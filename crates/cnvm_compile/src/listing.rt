@@ -10,7 +10,8 @@ use ir::IrFunction;
 use nvm_base::Text;
 use std::alloc::{AllocError, Global};
 
-/// One line for each store site, in code order, and a last one with their numbers.
+/// The listing: one line for each store site, in code order, and a last line with the number of
+/// sites and of logged ones.
 pub fn list_text(alloc: Global, compiled: &Compiled) -> Result<Text, AllocError>
     ensures { IfOk result (λ text. text ≡ listing compiled.now.marks compiled.now.ir) }
 {
@@ -32,7 +33,8 @@ fn push_lines(
     compiled: &Compiled,
     rows: &[Row],
 ) -> Result<(), AllocError>
-    ensures { OnOk result (text.new ≡ text.old ++ flat_map (row_line compiled.now.marks compiled.now.ir.functions) rows.now) }
+    ensures { OnOk result (text.new ≡ text.old
+        ++ flat_map (row_line compiled.now.marks compiled.now.ir.functions) rows.now) }
 {
     for row in rows {
         push_line(alloc, text, compiled, row)?;
@@ -47,7 +49,8 @@ fn push_line(
     compiled: &Compiled,
     row: &Row,
 ) -> Result<(), AllocError>
-    ensures { OnOk result (text.new ≡ text.old ++ row_line compiled.now.marks compiled.now.ir.functions row.now) }
+    ensures { OnOk result (text.new ≡ text.old ++ row_line compiled.now.marks
+        compiled.now.ir.functions row.now) }
 {
     let line = row.line;
     let number = format!(in alloc; " line {line} ")?;
@@ -62,7 +65,7 @@ fn push_line(
     }
 }
 
-/// The name of the function of a number, empty where there is none.
+/// The name of the function with that number, empty if there is none.
 fn function_name(functions: &[IrFunction], number: u32) -> &str
     ensures { result.now ≡ function_name functions.now number }
 {

@@ -19,7 +19,7 @@ pub(crate) struct Row {
     pub(crate) target: Text,
 }
 
-/// Rows, seen as a list.
+/// A list of rows.
 #[derive(Drop)]
 pub(crate) struct Rows {
     all: Vec<Row>,
@@ -35,9 +35,10 @@ impl Model for Rows {
 }
 
 impl Rows {
-    /// Puts one row at the end.
+    /// Appends one row.
     fn push(&mut self, site: Site, line: u64, target: Text) -> Result<(), AllocError>
-        ensures { OnOk result (self.new ≡ self.old ++ record { site = site; line = line; target = target } ∷ []) }
+        ensures { OnOk result (self.new ≡ self.old
+            ++ record { site = site; line = line; target = target } ∷ []) }
     {
         self.all.push(Row { site, line, target })?;
         Ok(())
@@ -64,7 +65,7 @@ pub(crate) fn rows_of(alloc: Global, ir: &Ir) -> Result<Rows, AllocError>
     Ok(rows)
 }
 
-/// Puts the rows of one function at the end.
+/// Appends the rows of one function.
 fn push_function(
     alloc: Global,
     rows: &mut Rows,
@@ -81,10 +82,11 @@ fn push_function(
     Ok(())
 }
 
-/// The site of a place, not that of a fill. Code whose places 32 bits don't hold, which no text gives,
+/// The site of a place, for anything but a fill. A place of 2^32 or more, which no text gives,
 /// counts as want of memory.
 fn site_at(function: usize, place: usize) -> Result<Site, AllocError>
-    ensures { IfOk result (λ site. site ≡ record { function = function; place = place; fill = false }) }
+    ensures { IfOk result (λ site.
+        site ≡ record { function = function; place = place; fill = false }) }
 {
     let (Ok(function), Ok(place)) = (u32::try_from(function), u32::try_from(place)) else {
         return Err(AllocError);
@@ -96,7 +98,7 @@ fn site_at(function: usize, place: usize) -> Result<Site, AllocError>
     })
 }
 
-/// Puts the rows of one instruction at the end: none, one, or two of a `new`.
+/// Appends the rows of one instruction: none, one, or two for a `new`.
 fn push_rows(
     alloc: Global,
     rows: &mut Rows,

@@ -8,7 +8,7 @@ use nvm_base::Text;
 use pool_map::{FieldShapes, Shapes};
 use std::alloc::{AllocError, Global};
 
-/// Three pieces of text, one behind the other.
+/// Three pieces of text, one after another.
 pub(crate) fn joined(
     alloc: Global,
     first: &str,
@@ -43,7 +43,7 @@ pub(crate) fn target_name(
     }
 }
 
-/// The name of a field, empty where there is none.
+/// The name of a field, empty if there is none.
 fn field_name(fields: &FieldShapes, field: u32) -> &str
     ensures { result.now ≡ field_name fields.now field }
 {
@@ -53,7 +53,7 @@ fn field_name(fields: &FieldShapes, field: u32) -> &str
     }
 }
 
-/// The name of the struct of a number, empty where there is none.
+/// The name of the struct with that number, empty if there is none.
 pub(crate) fn struct_name(shapes: &Shapes, kind: u32) -> &str
     ensures { result.now ≡ struct_name shapes.now kind }
 {
@@ -66,7 +66,7 @@ pub(crate) fn struct_name(shapes: &Shapes, kind: u32) -> &str
     }
 }
 
-/// The name of a struct's field, empty where there is none.
+/// The name of a struct's field, empty if there is none.
 fn field_of_struct(shapes: &Shapes, kind: u32, field: u32) -> &str
     ensures { result.now ≡ field_of_struct shapes.now kind field }
 {

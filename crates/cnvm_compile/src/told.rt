@@ -1,4 +1,4 @@
-//! What is told of a program that is refused.
+//! What is reported of a program that is refused.
 
 ghost use Rattle.std.specs.Prelude.{◌≡◌};
 ghost use Rattle.cnvm_compile.specs.Told.{by_lexer, by_parser, by_types, told_of};
@@ -9,14 +9,14 @@ use c_lexer::LexFault;
 use c_parser::ParseFault;
 use c_types::TypeFault;
 
-/// What is told of a program that is refused.
+/// What is reported of a program that is refused.
 #[derive(Clone, Copy, Debug, PartialEq, Eq)]
 pub enum Told {
     /// It has too many bytes, or too many tokens.
     Long,
     /// What is wrong at a line.
     At(u64, Complaint),
-    /// Nothing: there was no memory.
+    /// Nothing is reported, since there was no memory.
     NoMemory,
 }
 

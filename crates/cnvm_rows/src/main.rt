@@ -1,14 +1,15 @@
-//! Runs worked rows of the product and prints what comes of each: the row's name, what the run wrote,
-//! and its status. It stands on cnvm_cli. A row is some files: `NAME.words` has the words, one a line,
-//! which name the others. Rows share the folder, in their order, so a row opens what one before it has
-//! saved; the words `words IMAGE` run nothing and show what an image holds.
+//! Runs worked rows of the product and prints what each does: the row's name, what the run wrote,
+//! and its status. It rests on `cnvm_cli`. A row is a set of files: `NAME.words` has the words, one
+//! on each line, and the words name the other files. Rows share the folder and run in order, so a
+//! row can open what an earlier one has saved; the words `words IMAGE` run nothing and show what an
+//! image holds.
 #![tactic(auto)]
 
 use std::process::ExitCode;
 use std::rt::{Env, Files};
 use std::{env, fs, io};
 
-/// The words of a row, one a line.
+/// The words of a row, one on each line.
 fn words_of<R: Files + AllocGlobal>(rt: &R, name: &str) -> io::Result<Vec<String>> {
     let path = format!(in rt.alloc(); "{name}.words")?;
     let text = fs::read_to_string(rt, path.as_str())?;
@@ -19,7 +20,7 @@ fn words_of<R: Files + AllocGlobal>(rt: &R, name: &str) -> io::Result<Vec<String
     Ok(words)
 }
 
-/// The image that the words of a row ask to be shown, if they do.
+/// The image that the words of a row ask to show, if they do.
 fn shown_image(words: &[String]) -> Option<&str> {
     match words {
         [first, image] if first.as_str() == "words" => Some(image.as_str()),
@@ -49,7 +50,7 @@ fn show_image<R: Files + Print + AllocGlobal>(rt: &R, image: &str) -> io::Result
     println!(rt; "bytes {length}")
 }
 
-/// One row.
+/// Runs one row.
 fn run_row<R: Files + Print + AllocGlobal>(rt: &R, name: &str) -> io::Result<()> {
     let words = words_of(rt, name)?;
     println!(rt; "row {name}")?;
@@ -60,7 +61,7 @@ fn run_row<R: Files + Print + AllocGlobal>(rt: &R, name: &str) -> io::Result<()>
     println!(rt; "status {status}")
 }
 
-/// The rows that the words name.
+/// Runs the rows that the words name.
 fn run_rows<R: Files + Print + Env + AllocGlobal>(rt: &R) -> io::Result<()> {
     let mut names = env::args(rt)?;
     names.next();

@@ -1,29 +1,30 @@
--- A name is ASCII.
-use Rattle.std.proofs.Common.{◌≡◌, ℕ, zero, suc, ◌<◌, Bool, true, false, ◌&&◌, List, [], ◌∷◌, slice_index, arith, lit<, IsUtf8, refl}
-use Rattle.std.specs.List.{list_all}
-use Rattle.std.proofs.lemmas.Bool.Decides.{nat_tests}
-use Rattle.std.proofs.lemmas.Str.{IsUtf8-from_ascii}
-use Rattle.cnvm_script.specs.Name.{begins_name, continues_name, is_spelled, is_name}
+-- What the lexer answers of a word says whether it is a name.
+use Rattle.std.proofs.Common.{◌≡◌, ℕ, List, false, ◌⊎◌, ⊎_elim, sym, ap}
+use Rattle.std.specs.Prelude.{Result, Ok, Err}
+use Rattle.c_lexer.specs.declared.fault.LexFault.{LexFault}
+use Rattle.c_lexer.specs.declared.fault.LexFault.TheVariants.{NoMemory}
+use Rattle.c_lexer.specs.Cuts.{answer}
+use Rattle.c_lexer.specs.TokenList.{Tokens}
+use Rattle.cnvm_script.specs.Name.{is_read}
 
-both : (a b : Bool) → (a && b) ≡ true → (a ≡ true) × (b ≡ true)
-both true b h = (refl, h)
-both false b h = absurd (cc)
+abbrev Answer : Type 0
+Answer = Result Tokens LexFault
 
-begins_ascii : (b : ℕ) → begins_name b ≡ true → b < 128
-begins_ascii b h = grind (arith, nat_tests)
+pub read_tokens : (word : List ℕ) (list : Tokens) → (◌≡◌ {A = Answer} (Ok list) (Err NoMemory))
+    ⊎ (Ok list ≡ answer word) → is_read (answer word) word ≡ is_read (Ok list) word
+read_tokens word list exact = ⊎_elim
+    (λ (e : ◌≡◌ {A = Answer} (Ok list) (Err NoMemory)). absurd (ok_err e))
+    (λ (e : Ok list ≡ answer word). ap (λ (r : Answer). is_read r word) (sym e)) exact
+  where
+    ok_err : ◌≡◌ {A = Answer} (Ok list) (Err NoMemory) → ⊥
+    ok_err e = cc
 
-continues_ascii : (b : ℕ) → continues_name b ≡ true → b < 128
-continues_ascii b h = grind (arith, nat_tests)
+pub read_fault : (word : List ℕ) (fault : LexFault)
+    → (◌≡◌ {A = Answer} (Err fault) (Err NoMemory) → ⊥)
+    → (◌≡◌ {A = Answer} (Err fault) (Err NoMemory)) ⊎ (Err fault ≡ answer word)
+    → is_read (answer word) word ≡ false
+read_fault word fault other exact = ⊎_elim
+    (λ (e : ◌≡◌ {A = Answer} (Err fault) (Err NoMemory)). absurd (other e))
+    (λ (e : Err fault ≡ answer word). ap (λ (r : Answer). is_read r word) (sym e)) exact
 
-all_ascii : (bs : List ℕ) → list_all continues_name bs ≡ true → (i : ℕ) → slice_index bs i < 128
-all_ascii [] h i = lit< tt
-all_ascii (b ∷ bs) h zero = continues_ascii b (both _ _ h).0
-all_ascii (b ∷ bs) h (suc i) = all_ascii bs (both _ _ h).1 i
-
-spelled_ascii : (bs : List ℕ) → is_spelled bs ≡ true → (i : ℕ) → slice_index bs i < 128
-spelled_ascii [] h i = lit< tt
-spelled_ascii (b ∷ bs) h zero = begins_ascii b (both _ _ h).0
-spelled_ascii (b ∷ bs) h (suc i) = all_ascii bs (both _ _ h).1 i
-
-pub is_name-utf8 : (bs : List ℕ) → is_name bs ≡ true → IsUtf8 bs
-is_name-utf8 bs h = IsUtf8-from_ascii bs (spelled_ascii bs (both _ _ h).0)
+pub ruleset read = (read_tokens, read_fault)

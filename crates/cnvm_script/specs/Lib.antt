@@ -5,3 +5,4 @@ pub mod Number
 pub mod Pieces
 pub mod Reads
 pub mod Storm
+pub mod inside

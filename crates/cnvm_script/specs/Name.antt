@@ -1,30 +1,29 @@
--- A name is a letter or `_`, and then letters, digits and `_`. It is none of the words that C or this profile reserves.
-use Rattle.std.specs.Prelude.{ℕ, Bool, false, not, ◌&&◌, ◌||◌, List, [], ◌∷◌, ◌==◌, codes, bytes_eq}
-use Rattle.std.specs.List.{list_all, list_any}
-use Rattle.std.specs.Char.{is_ascii_alphabetic, is_ascii_alphanumeric}
+-- A name is a word that a program text reads as one name, from its first byte to its last: the
+-- first
+-- token of the word's text is a name, and that is the whole word. So scripts and programs have one
+-- reading of names, and one list of words that are none.
+use Rattle.std.specs.Prelude.{ℕ, List, Bool, false, Option, None, Some, Result, Ok, Err, if◌then◌else◌, bytes_eq, slice_get}
+use Rattle.c_lexer.specs.declared.fault.LexFault.{LexFault}
+use Rattle.c_lexer.specs.declared.token.Placed.{Placed}
+use Rattle.c_lexer.specs.declared.token.Token.{Token}
+use Rattle.c_lexer.specs.declared.token.Token.TheVariants as token
+use Rattle.c_lexer.specs.Cuts.{answer}
+use Rattle.c_lexer.specs.TokenList.{Tokens}
 
-abbrev pub begins_name : ℕ → Bool
-begins_name b = is_ascii_alphabetic b || b == 95
+abbrev pub is_name_token : Token → List ℕ → Bool
+is_name_token (token.Name text) word = bytes_eq text word
+is_name_token (token.Number value) word = false
+is_name_token (token.Mark mark) word = false
+is_name_token (token.Word reserved) word = false
+is_name_token token.Reserved word = false
 
-abbrev pub continues_name : ℕ → Bool
-continues_name b = is_ascii_alphanumeric b || b == 95
+abbrev pub begins_with : Option Placed → List ℕ → Bool
+begins_with None word = false
+begins_with (Some first) word = is_name_token first.token word
 
-abbrev pub is_spelled : List ℕ → Bool
-is_spelled [] = false
-is_spelled (b ∷ bs) = begins_name b && list_all continues_name bs
+abbrev pub is_read : Result Tokens LexFault → List ℕ → Bool
+is_read (Err fault) word = false
+is_read (Ok list) word = begins_with (slice_get list.tokens 0) word
 
-unfoldable pub reserved_words : List (List ℕ)
-reserved_words =
-    codes "NULL" ∷ codes "abort" ∷ codes "auto" ∷ codes "break" ∷ codes "case" ∷ codes "char" ∷ codes "const"
-    ∷ codes "continue" ∷ codes "default" ∷ codes "do" ∷ codes "double" ∷ codes "else" ∷ codes "enum" ∷ codes "extern"
-    ∷ codes "float" ∷ codes "for" ∷ codes "goto" ∷ codes "if" ∷ codes "inline" ∷ codes "int" ∷ codes "int64_t"
-    ∷ codes "long" ∷ codes "persistent" ∷ codes "pm_free" ∷ codes "pm_new" ∷ codes "register" ∷ codes "restrict"
-    ∷ codes "return" ∷ codes "root" ∷ codes "short" ∷ codes "signed" ∷ codes "sizeof" ∷ codes "static"
-    ∷ codes "struct" ∷ codes "switch" ∷ codes "tx" ∷ codes "typedef" ∷ codes "union" ∷ codes "unsigned"
-    ∷ codes "void" ∷ codes "volatile" ∷ codes "while" ∷ []
-
-abbrev pub is_reserved : List ℕ → Bool
-is_reserved word = list_any (bytes_eq word) reserved_words
-
-abbrev pub is_name : List ℕ → Bool
-is_name word = is_spelled word && not (is_reserved word)
+unfoldable pub is_name : List ℕ → Bool
+is_name word = is_read (answer word) word

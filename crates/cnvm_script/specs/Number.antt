@@ -1,5 +1,6 @@
--- A numeral is one digit or more, up to a number of digits that its place allows; leading zeros count as digits.
---     An argument is an optional `-` and 1 to 19 digits, and fits into 64 bits with a sign.
+-- A numeral is at least one digit, up to a greatest number of digits that depends on its place;
+-- leading zeros count as digits.
+--     An argument is an optional `-` and 1 to 19 digits, and fits 64 bits with a sign.
 --     The number of `stop` and `fault` has 1 to 10 digits and is at most 4294967295.
 --     A pick is `LINE:VERSION`, two numbers of 1 to 10 digits.
 use Rattle.std.specs.Prelude.{ℕ, ◌^◌, List, [], ◌∷◌, ◌&&◌, Option, None, Some, nat_lt, nat_le, if◌then◌else◌, ℤ, pos, neg_ℤ, length, codes, drop, option_and_then}
@@ -9,10 +10,11 @@ use Rattle.std.specs.Str.Parse.{digits_value, starts_with_minus}
 use Rattle.cache_model.specs.declared.choice.Pick.{Pick}
 use Rattle.cnvm_script.specs.Pieces.{pieces}
 
--- what a numeral of at most so many digits writes
-abbrev pub numeral : (most : ℕ) → List ℕ → Option ℕ
-numeral most word =
-    if nat_lt 0 (length word) && (nat_le (length word) most && list_all is_ascii_digit word) then Some (digits_value 10 word)
+-- the value of a numeral of at most so many digits
+abbrev pub bounded_numeral : (most : ℕ) → List ℕ → Option ℕ
+bounded_numeral most word =
+    if nat_lt 0 (length word) && (nat_le (length word) most && list_all is_ascii_digit word)
+    then Some (digits_value 10 word)
     else None
 
 abbrev pub at_most : ℕ → ℕ → Option ℕ
@@ -26,19 +28,19 @@ as_negative n = if nat_le n (2 ^ 63) then Some (neg_ℤ (pos n)) else None
 
 abbrev pub argument : List ℕ → Option ℤ
 argument word =
-    if starts_with_minus word then option_and_then as_negative (numeral 19 (drop 1 word))
-    else option_and_then as_positive (numeral 19 word)
+    if starts_with_minus word then option_and_then as_negative (bounded_numeral 19 (drop 1 word))
+    else option_and_then as_positive (bounded_numeral 19 word)
 
 abbrev pub event_number : List ℕ → Option ℕ
-event_number word = option_and_then (at_most 4294967295) (numeral 10 word)
+event_number word = option_and_then (at_most 4294967295) (bounded_numeral 10 word)
 
-abbrev pub picked : Option ℕ → Option ℕ → Option Pick
-picked (Some line) (Some version) = Some (record { line = line; version = version })
-picked (Some line) None = None
-picked None version = None
+abbrev pub pick_read : Option ℕ → Option ℕ → Option Pick
+pick_read (Some line) (Some version) = Some (record { line = line; version = version })
+pick_read (Some line) None = None
+pick_read None version = None
 
 abbrev pub pick_of : List (List ℕ) → Option Pick
-pick_of (line ∷ version ∷ []) = picked (numeral 10 line) (numeral 10 version)
+pick_of (line ∷ version ∷ []) = pick_read (bounded_numeral 10 line) (bounded_numeral 10 version)
 pick_of (line ∷ version ∷ other ∷ others) = None
 pick_of (line ∷ []) = None
 pick_of [] = None

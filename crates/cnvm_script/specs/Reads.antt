@@ -1,4 +1,5 @@
--- A reader answers what the text means, or that it is bad, or want of memory, of which nothing is said.
+-- A reader answers the text's meaning, or that the text is bad, or want of memory, of which nothing
+-- is promised.
 use Rattle.std.specs.Prelude.{ℕ, ◌≡◌, List, Option, None, Some, Result, Ok, Err, ⊤}
 use Rattle.cnvm_script.specs.declared.command.Command.{Command}
 use Rattle.cnvm_script.specs.declared.fault.LineFault.{LineFault}

@@ -1,16 +1,18 @@
-//! Texts cut into lines and words.
+//! Cutting texts into lines and words.
 
 ghost use Rattle.std.specs.Prelude.{◌≡◌, ◌<◌, ◌≤◌, ◌∷◌, [], length, IfOk, map, codes, MatchOption};
 ghost use Rattle.cnvm_script.specs.Pieces.{pieces};
-ghost use Rattle.cnvm_script.specs.Lines.{lines, words, without_cr};
+ghost use Rattle.cnvm_script.specs.Lines.{lines, words_of_line, without_cr};
 
 use std::alloc::{AllocError, Global};
 
-/// The text up to the first stop, and what is behind that stop.
+/// The text up to the first stop, and the text after that stop.
 #[tactic(auto, using(crate::proofs::Cuts::cut_start, crate::proofs::Cuts::cut_step, crate::proofs::Cuts::cut_stop, crate::proofs::Cuts::cut_end))]
 pub(crate) fn cut<'a>(text: &'a [u8], stops: &[u8]) -> (&'a [u8], Option<&'a [u8]>)
-    ensures pieces { MatchOption result.1 (pieces stops.now text.now ≡ result.0.now ∷ []) (λ rest. pieces stops.now text.now ≡ result.0.now ∷ pieces stops.now rest.now) }
-    ensures shorter { MatchOption result.1 (length result.0.now ≡ length text.now) (λ rest. length rest.now < length text.now) }
+    ensures pieces { MatchOption result.1 (pieces stops.now text.now ≡ result.0.now ∷ [])
+        (λ rest. pieces stops.now text.now ≡ result.0.now ∷ pieces stops.now rest.now) }
+    ensures shorter { MatchOption result.1 (length result.0.now ≡ length text.now)
+        (λ rest. length rest.now < length text.now) }
 {
     for (at, byte) in text.iter().enumerate() {
         if stops.contains(byte) {
@@ -20,9 +22,9 @@ pub(crate) fn cut<'a>(text: &'a [u8], stops: &[u8]) -> (&'a [u8], Option<&'a [u8
     (text, None)
 }
 
-/// The first line of a text that isn't empty, and what is behind it.
+/// The first line of a text that isn't empty, and the text after it.
 #[tactic(auto, using(crate::proofs::Cuts::ended_cut, crate::proofs::Cuts::ended_last))]
-pub(crate) fn next_line<'a>(text: &'a [u8]) -> (&'a [u8], &'a [u8])
+pub fn next_line<'a>(text: &'a [u8]) -> (&'a [u8], &'a [u8])
     requires { 0 < length text.now }
     ensures lines { lines text.now ≡ result.0.now ∷ lines result.1.now }
     ensures shorter { length result.1.now < length text.now }
@@ -33,7 +35,7 @@ pub(crate) fn next_line<'a>(text: &'a [u8]) -> (&'a [u8], &'a [u8])
     }
 }
 
-/// The line without the CR that may be its last byte.
+/// The line without a CR as its last byte.
 fn before_cr(line: &[u8]) -> &[u8]
     ensures { result.now ≡ without_cr line.now }
 {
@@ -45,8 +47,8 @@ fn before_cr(line: &[u8]) -> &[u8]
 }
 
 /// The words of a line.
-pub(crate) fn words_of<'a>(alloc: Global, line: &'a [u8]) -> Result<Vec<&'a [u8]>, AllocError>
-    ensures { IfOk result (λ all. map (λ word. word.now) all.items ≡ words line.now) }
+pub fn words_of<'a>(alloc: Global, line: &'a [u8]) -> Result<Vec<&'a [u8]>, AllocError>
+    ensures { IfOk result (λ all. map (λ word. word.now) all.items ≡ words_of_line line.now) }
 {
     let mut all = Vec::new(alloc);
     let mut rest = line;

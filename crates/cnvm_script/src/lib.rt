@@ -1,6 +1,6 @@
-//! The script that a program's transactions are run by: its lines, and the commands that they give. It
-//! stands on `c_types`, `cache_model` and `nvm_base`. Its one contract for the crates above: `read_script` gives
-//! exactly the commands of the grammar in `specs/Commands.antt`, or the first bad line.
+//! The script that runs a program's transactions: its lines, and their commands. It rests on
+//! `c_types`, `cache_model` and `nvm_base`. Its one contract for the crates above: `read_script`
+//! gives exactly the commands of the grammar in `specs/Commands.antt`, or the first bad line.
 #![tactic(auto)]
 
 mod command;
@@ -12,10 +12,8 @@ mod read;
 mod storm;
 
 pub use command::{Command, Script};
+pub use cut::{next_line, words_of};
 pub use fault::{LineFault, ScriptFault};
 pub use number::numeral;
-pub use read::{read_line, read_script};
+pub use read::{is_word, read_call, read_event, read_line, read_power, read_script};
 pub use storm::Storm;
-
-#[cfg(test)]
-mod tests;

@@ -1,112 +1,49 @@
 //! Words that are names.
 
-ghost use Rattle.std.specs.Prelude.{◌≡◌, true, map, IfOk, bytes_eq};
-ghost use Rattle.std.specs.List.{list_all};
-ghost use Rattle.cnvm_script.specs.Name.{begins_name, continues_name, is_spelled, is_reserved, is_name, reserved_words};
+ghost use Rattle.std.specs.Prelude.{◌≡◌, Some, None, if◌then◌else◌, slice_get};
+ghost use Rattle.cnvm_script.specs.Name.{is_name_token, begins_with};
+ghost use Rattle.cnvm_script.specs.inside.Name.{name_in};
+ghost use Rattle.cnvm_script.specs.Reads.{Gives};
 
+use crate::fault::LineFault;
+use c_lexer::{LexFault, Token, TokenList, tokens};
 use nvm_base::Text;
-use std::alloc::{AllocError, Global};
+use std::alloc::Global;
 
-/// Whether the word is a name.
-pub(crate) fn is_name(word: &[u8]) -> bool
-    ensures { result ≡ is_name word.now }
+/// The name that a word is, as a program text reads it.
+#[tactic(auto, using(crate::proofs::Names::read), unfolding(crate::specs::Name::is_name))]
+pub(crate) fn name_of(alloc: Global, word: &[u8]) -> Result<Text, LineFault>
+    ensures { Gives result (name_in word.now) }
 {
-    is_spelled(word) && !is_reserved(word)
-}
-
-fn is_spelled(word: &[u8]) -> bool
-    ensures { result ≡ is_spelled word.now }
-{
-    match word {
-        [] => false,
-        [first, others @ ..] => begins_name(*first) && all_continue(others),
+    match tokens(alloc, word) {
+        Ok(list) => first_name(alloc, &list, word),
+        Err(LexFault::NoMemory) => Err(LineFault::NoMemory),
+        Err(_) => Err(LineFault::Bad),
     }
 }
 
-fn begins_name(byte: u8) -> bool
-    ensures { result ≡ begins_name byte }
+/// The word, if it is the first token of its own text.
+fn first_name(alloc: Global, list: &TokenList, word: &[u8]) -> Result<Text, LineFault>
+    ensures { Gives result (if begins_with (slice_get list.now.tokens 0) word.now then Some word.now
+        else None) }
 {
-    byte.is_ascii_alphabetic() || byte == b'_'
-}
-
-fn all_continue(bytes: &[u8]) -> bool
-    ensures { result ≡ list_all continues_name bytes.now }
-{
-    bytes
-        .iter()
-        .all(|byte| byte.is_ascii_alphanumeric() || *byte == b'_')
-}
-
-fn is_reserved(word: &[u8]) -> bool
-    ensures { result ≡ is_reserved word.now }
-{
-    for reserved in reserved_words() {
-        if word == reserved.as_bytes() {
-            return true;
-        }
+    match list.get(0) {
+        None => Err(LineFault::Bad),
+        Some(first) => named(alloc, &first.token, word),
     }
-    false
 }
 
-#[tactic(auto, unfolding(crate::specs::Name::reserved_words))]
-fn reserved_words() -> [&'static str; 42]
-    ensures { map (λ word. word.now) result ≡ reserved_words }
+/// The word, if it is this token, a name.
+fn named(alloc: Global, token: &Token, word: &[u8]) -> Result<Text, LineFault>
+    ensures { Gives result (if is_name_token token.now word.now then Some word.now else None) }
 {
-    [
-        "NULL",
-        "abort",
-        "auto",
-        "break",
-        "case",
-        "char",
-        "const",
-        "continue",
-        "default",
-        "do",
-        "double",
-        "else",
-        "enum",
-        "extern",
-        "float",
-        "for",
-        "goto",
-        "if",
-        "inline",
-        "int",
-        "int64_t",
-        "long",
-        "persistent",
-        "pm_free",
-        "pm_new",
-        "register",
-        "restrict",
-        "return",
-        "root",
-        "short",
-        "signed",
-        "sizeof",
-        "static",
-        "struct",
-        "switch",
-        "tx",
-        "typedef",
-        "union",
-        "unsigned",
-        "void",
-        "volatile",
-        "while",
-    ]
-}
-
-/// The text of a name.
-pub(crate) fn text_of(alloc: Global, name: &[u8]) -> Result<Text, AllocError>
-    requires { is_name name.now ≡ true }
-    ensures { IfOk result (λ text. text ≡ name.now) }
-{
+    let Token::Name(name) = token else {
+        return Err(LineFault::Bad);
+    };
+    if name.as_str().as_bytes() != word {
+        return Err(LineFault::Bad);
+    }
     let mut text = Text::new(alloc);
-    match str::from_utf8(name) {
-        Ok(name) => text.push(name)?,
-        Err(_) => unreachable!(),
-    }
+    text.push(name.as_str())?;
     Ok(text)
 }

@@ -2,15 +2,15 @@
 
 ghost use Rattle.std.specs.Prelude.{◌≡◌, ◌≤◌, ◌<◌, ◌*◌, ◌+◌, ◌^◌, IfSome, Some, None, if◌then◌else◌};
 ghost use Rattle.std.specs.Char.{is_ascii_digit, digit_value};
-ghost use Rattle.cnvm_script.specs.Number.{numeral, at_most, as_positive, as_negative, argument, event_number, picked, pick};
+ghost use Rattle.cnvm_script.specs.Number.{bounded_numeral, at_most, as_positive, as_negative, argument, event_number, pick_read, pick};
 
 use crate::cut::cut;
 use cache_model::Pick;
 
-/// What a numeral of at most `most` digits writes; leading zeros count as digits.
+/// The value of a numeral of at most `most` digits; leading zeros count as digits.
 pub fn numeral(word: &[u8], most: usize) -> Option<u64>
     requires { most ≤ 19 }
-    ensures { result ≡ numeral most word.now }
+    ensures { result ≡ bounded_numeral most word.now }
 {
     if word.is_empty() || word.len() > most {
         return None;
@@ -88,7 +88,7 @@ pub(crate) fn pick(word: &[u8]) -> Option<Pick>
 
 /// The pick of a line and a version.
 fn picked(line: &[u8], version: &[u8]) -> Option<Pick>
-    ensures { result ≡ picked (numeral 10 line.now) (numeral 10 version.now) }
+    ensures { result ≡ pick_read (bounded_numeral 10 line.now) (bounded_numeral 10 version.now) }
 {
     Some(Pick {
         line: numeral(line, 10)?,

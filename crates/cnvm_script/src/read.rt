@@ -1,21 +1,21 @@
-//! The commands that lines and scripts give.
+//! Reading the commands of lines and scripts.
 
 ghost use Rattle.std.specs.Prelude.{◌≡◌, ◌∷◌, ◌++◌, map, bytes_eq, OnOk, option_to_list};
-ghost use Rattle.cnvm_script.specs.Commands.{alone, call_of, choice_of, command, each, event_of, line_meaning, meaning, power_of, rise, script_meaning};
+ghost use Rattle.cnvm_script.specs.Commands.{alone, call_command, choice_of, command, each, event_of, line_meaning, meaning, power_of, rise, script_meaning};
 ghost use Rattle.cnvm_script.specs.Number.{argument, pick};
 ghost use Rattle.cnvm_script.specs.Reads.{Gives, GivesScript};
 
 use crate::command::{Command, Script};
 use crate::cut::{next_line, words_of};
 use crate::fault::{LineFault, ScriptFault};
-use crate::name::{is_name, text_of};
+use crate::name::name_of;
 use crate::number::{argument, event_number, pick};
 use cache_model::{Choice, Pick, Picks, Rest};
 use nvm_base::Words;
 use std::alloc::{AllocError, Global};
 
 /// The commands of a script, in order. `BadLine` names the first line that isn't in the grammar.
-#[tactic(auto, using(crate::proofs::Scripts::behind_nothing))]
+#[tactic(auto, using(crate::proofs::Scripts::after_nothing))]
 pub fn read_script(alloc: Global, bytes: &[u8]) -> Result<Script, ScriptFault>
     ensures { GivesScript result (script_meaning bytes.now) }
 {
@@ -36,7 +36,7 @@ pub fn read_script(alloc: Global, bytes: &[u8]) -> Result<Script, ScriptFault>
     Ok(script)
 }
 
-/// Puts a line's command at the end, if the line has one.
+/// Appends a line's command, if the line has one.
 fn add(script: &mut Script, read: Option<Command>) -> Result<(), AllocError>
     ensures { OnOk result (script.new ≡ script.old ++ option_to_list read) }
 {
@@ -46,7 +46,7 @@ fn add(script: &mut Script, read: Option<Command>) -> Result<(), AllocError>
     }
 }
 
-/// The command of a line, and `None` for a line without words and for a remark.
+/// The command of a line, or `None` for a line without words and for a remark.
 pub fn read_line(alloc: Global, line: &[u8]) -> Result<Option<Command>, LineFault>
     ensures { Gives result (line_meaning line.now) }
 {
@@ -95,14 +95,15 @@ fn read_command(alloc: Global, word: &[u8], others: &[&[u8]]) -> Result<Command,
     Err(LineFault::Bad)
 }
 
-fn is_word(word: &[u8], text: &str) -> bool
+/// Whether a word is this text.
+pub fn is_word(word: &[u8], text: &str) -> bool
     ensures { result ≡ bytes_eq word.now text.now }
 {
     word == text.as_bytes()
 }
 
-/// The one number behind `stop` and `fault`.
-fn read_event(words: &[&[u8]]) -> Result<u64, LineFault>
+/// The single number after `stop` and `fault`.
+pub fn read_event(words: &[&[u8]]) -> Result<u64, LineFault>
     ensures { Gives result (event_of (map (λ word. word.now) words.now)) }
 {
     match words {
@@ -111,18 +112,15 @@ fn read_event(words: &[&[u8]]) -> Result<u64, LineFault>
     }
 }
 
-/// The name and the arguments behind `call`.
-fn read_call(alloc: Global, words: &[&[u8]]) -> Result<Command, LineFault>
-    ensures { Gives result (call_of (map (λ word. word.now) words.now)) }
+/// The name and the arguments after `call`.
+pub fn read_call(alloc: Global, words: &[&[u8]]) -> Result<Command, LineFault>
+    ensures { Gives result (call_command (map (λ word. word.now) words.now)) }
 {
     let [name, args @ ..] = words else {
         return Err(LineFault::Bad);
     };
-    if !is_name(name) {
-        return Err(LineFault::Bad);
-    }
+    let name = name_of(alloc, name)?;
     let args = read_args(alloc, args)?;
-    let name = text_of(alloc, name)?;
     Ok(Command::Call { name, args })
 }
 
@@ -139,8 +137,8 @@ fn read_args(alloc: Global, words: &[&[u8]]) -> Result<Words, LineFault>
     Ok(args)
 }
 
-/// What the power leaves: `old` or `new`, and the picks.
-fn read_power(alloc: Global, words: &[&[u8]]) -> Result<Command, LineFault>
+/// The choice of a power cut: `old` or `new`, and the picks.
+pub fn read_power(alloc: Global, words: &[&[u8]]) -> Result<Command, LineFault>
     ensures { Gives result (power_of (map (λ word. word.now) words.now)) }
 {
     let [word, picks @ ..] = words else {

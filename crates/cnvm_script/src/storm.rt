@@ -1,8 +1,8 @@
 //! A generator of scripts: rounds of calls, some of them cut by a power failure.
 
-ghost use Rattle.std.specs.Prelude.{◌≡◌, ◌<◌, ◌≤◌, ◌+◌, ◌*◌, ◌%◌, ◌^◌, ◌∷◌, ◌++◌, [], pos, IfOk, OnOk, Some, length};
+ghost use Rattle.std.specs.Prelude.{◌≡◌, ◌<◌, ◌≤◌, ◌+◌, ◌*◌, ◌%◌, ◌^◌, ◌∷◌, ◌++◌, [], pos, IfOk, OnOk, OnErr, Some, length};
 ghost use Rattle.c_types.specs.Shapes.{transactions_of};
-ghost use Rattle.cnvm_script.specs.Storm.{next, drawn, after, is_cut, chosen, arguments, power, cut_round, round, after_round, storm_round, storm_after};
+ghost use Rattle.cnvm_script.specs.Storm.{next_draw, drawn, after_draws, is_cut, chosen, arguments, power, cut_round, round, after_round, storm_round, storm_after};
 ghost use Rattle.cnvm_script.specs.declared.command.Command.TheVariants.{Call};
 
 use crate::command::{Command, Script};
@@ -26,12 +26,12 @@ impl Model for Storm {
     ghost view = { λ s. s.state };
 }
 
-/// What the first two draws of a round choose.
+/// The choice that the first two draws of a round make.
 #[derive(Clone, Copy, Debug, PartialEq, Eq)]
 struct Chosen {
     /// Whether the power fails in the round.
     cut: bool,
-    /// The transaction's number, from 1 on.
+    /// The transaction's number, counted from 1.
     transaction: u64,
 }
 
@@ -43,12 +43,29 @@ impl Storm {
         Storm { state: start }
     }
 
-    /// The commands of the next round, over the transactions of the program. After an error some of the
-    /// round's draws are made.
+    /// The commands of the next round, over the transactions of the program. Where memory lacks, the
+    /// generator stands where it stood.
     pub fn round(&mut self, alloc: Global, typed: &Typed) -> Result<Script, AllocError>
         requires { 0 < length (transactions_of typed.now) }
-        ensures commands { IfOk result (λ script. Some script ≡ storm_round self.old (transactions_of typed.now)) }
-        ensures state { OnOk result (Some self.new ≡ storm_after self.old (transactions_of typed.now)) }
+        ensures commands { IfOk result (λ script.
+            Some script ≡ storm_round self.old (transactions_of typed.now)) }
+        ensures state { OnOk result (Some self.new ≡ storm_after self.old
+            (transactions_of typed.now)) }
+        ensures err { OnErr result (self.new ≡ self.old) }
+    {
+        let mut next = Storm { state: self.state };
+        let script = next.draw_round(alloc, typed)?;
+        self.state = next.state;
+        Ok(script)
+    }
+
+    /// The same. After an error some of the round's draws are made.
+    fn draw_round(&mut self, alloc: Global, typed: &Typed) -> Result<Script, AllocError>
+        requires { 0 < length (transactions_of typed.now) }
+        ensures commands { IfOk result (λ script.
+            Some script ≡ storm_round self.old (transactions_of typed.now)) }
+        ensures state { OnOk result (Some self.new ≡ storm_after self.old
+            (transactions_of typed.now)) }
     {
         let chosen = self.choose(typed.txs());
         let name = typed.tx_name(chosen.transaction);
@@ -63,7 +80,7 @@ impl Storm {
         ensures first { 1 ≤ result.transaction }
         ensures last { result.transaction ≤ transactions }
         ensures transaction { result.transaction ≡ chosen self.old transactions }
-        ensures state { self.new ≡ next (next self.old) }
+        ensures state { self.new ≡ next_draw (next_draw self.old) }
     {
         let cut = self.draw() % 4 == 2;
         let transaction = 1 + self.draw() % transactions;
@@ -71,7 +88,7 @@ impl Storm {
     }
 
     /// The commands of a round whose choice is made, for a transaction with this name and so many
-    /// parameters. After an error some of its draws are made.
+    /// parameters. After an error some of its draws have been made.
     fn round_of(
         &mut self,
         alloc: Global,
@@ -93,7 +110,7 @@ impl Storm {
 
     fn draw(&mut self) -> u64
         ensures value { result ≡ drawn self.old }
-        ensures state { self.new ≡ next self.old }
+        ensures state { self.new ≡ next_draw self.old }
         ensures small { result < 2 ^ 15 }
     {
         let next = (1_103_515_245 * self.state as u64 + 12_345) % (1 << 31);
@@ -103,7 +120,7 @@ impl Storm {
 
     fn call(&mut self, alloc: Global, name: &str, parameters: u64) -> Result<Command, AllocError>
         ensures call { IfOk result (λ call. call ≡ Call name.now (arguments self.old parameters)) }
-        ensures state { OnOk result (self.new ≡ after self.old parameters) }
+        ensures state { OnOk result (self.new ≡ after_draws self.old parameters) }
     {
         let args = self.arguments(alloc, parameters)?;
         let mut text = Text::new(alloc);
@@ -113,7 +130,7 @@ impl Storm {
 
     fn arguments(&mut self, alloc: Global, parameters: u64) -> Result<Words, AllocError>
         ensures arguments { IfOk result (λ args. args ≡ arguments self.old parameters) }
-        ensures state { OnOk result (self.new ≡ after self.old parameters) }
+        ensures state { OnOk result (self.new ≡ after_draws self.old parameters) }
     {
         let mut args = Words::new(alloc);
         for _ in 0..parameters {
@@ -125,7 +142,7 @@ impl Storm {
     #[tactic(auto, using(std::proofs::lemmas::Int::wraps))]
     fn push_argument(&mut self, args: &mut Words) -> Result<(), AllocError>
         ensures argument { OnOk result (args.new ≡ args.old ++ pos (drawn self.old % 16) ∷ []) }
-        ensures state { self.new ≡ next self.old }
+        ensures state { self.new ≡ next_draw self.old }
     {
         args.push((self.draw() % 16) as i64)?;
         Ok(())
@@ -133,7 +150,7 @@ impl Storm {
 
     fn cut_round(&mut self, alloc: Global, call: Command) -> Result<Script, AllocError>
         ensures commands { IfOk result (λ script. script ≡ cut_round self.old call) }
-        ensures state { OnOk result (self.new ≡ next (next self.old)) }
+        ensures state { OnOk result (self.new ≡ next_draw (next_draw self.old)) }
     {
         let mut script = Script::new(alloc);
         script.push(Command::Stop(self.draw() % 32))?;
@@ -145,7 +162,7 @@ impl Storm {
 
     fn power(&mut self, alloc: Global) -> Command
         ensures power { result ≡ power self.old }
-        ensures state { self.new ≡ next self.old }
+        ensures state { self.new ≡ next_draw self.old }
     {
         let picks = Picks::new(alloc);
         if self.draw() % 2 == 0 {

@@ -13,7 +13,7 @@ use Rattle.cnvm_session.specs.declared.mode.Mode.{Mode}
 use Rattle.cnvm_session.specs.declared.mode.Mode.TheVariants.{Ready, Down, Unusable}
 use Rattle.cnvm_session.specs.declared.answer.Answer.{Answer}
 use Rattle.cnvm_session.specs.declared.program.Program.{Program}
-use Rattle.cnvm_session.specs.Commands.{Shows, Lasts, number_of, parameters_of, CallsWith, CallsTo, CallsNamed, Calls, fallen, Powers}
+use Rattle.cnvm_session.specs.Commands.{Shows, Lasts, call_number, tx_parameters, CallsWith, CallsTo, CallsNamed, Calls, fallen, Powers}
 use Rattle.cnvm_session.specs.Laws.{MostLaw}
 
 abbrev Few : Image → (k k1 : ℕ) → Type 0
@@ -22,7 +22,8 @@ Few image k k1 = k1 ≤ k + image.parts.sizes.records + image.parts.most
 none : (image : Image) (k k1 : ℕ) → k1 ≡ k → Few image k k1
 none image k k1 same = omega (arith, same)
 
-module _ (image : Image) (args : List ℤ) (d : Device) (a : Answer) (n : Mode) (b : Device) (k k1 : ℕ) where
+module _ (image : Image) (args : List ℤ) (d : Device) (a : Answer) (n : Mode) (b : Device)
+    (k k1 : ℕ) where
   with_count : (same : Bool) (tx : ℕ) → CallsWith same image tx args d a n b k k1 → Few image k k1
   with_count true tx h = let most = h.called.most in omega (arith, most)
   with_count false tx h = none image k k1 h.3
@@ -34,16 +35,18 @@ module _ (image : Image) (args : List ℤ) (d : Device) (a : Answer) (n : Mode) 
 
   by_name : (number : Option ℕ) → CallsNamed number image args d a n b k k1 → Few image k k1
   by_name None h = none image k k1 h.3
-  by_name (Some tx) h = to_number (parameters_of image tx) tx h
+  by_name (Some tx) h = to_number (tx_parameters image tx) tx h
 
-call_most : (program : Program) (name : List ℕ) (args : List ℤ) (m : Mode) (d : Device) (a : Answer) (n : Mode) (b : Device) (k k1 : ℕ) →
+call_most : (program : Program) (name : List ℕ) (args : List ℤ) (m : Mode) (d : Device) (a : Answer)
+    (n : Mode) (b : Device) (k k1 : ℕ) →
     Calls program name args m d a n b k k1 → Few program.image k k1
 call_most program name args Ready d a n b k k1 h =
-    by_name program.image args d a n b k k1 (number_of program name) h
+    by_name program.image args d a n b k k1 (call_number program name) h
 call_most program name args Down d a n b k k1 h = none program.image k k1 h.3
 call_most program name args (Unusable kind) d a n b k k1 h = none program.image k k1 h.3
 
-power_most : (image : Image) (choice : Choice) (m : Mode) (d : Device) (a : Answer) (n : Mode) (b : Device) (k k1 : ℕ) (first pick : Option ℕ) →
+power_most : (image : Image) (choice : Choice) (m : Mode) (d : Device) (a : Answer) (n : Mode)
+    (b : Device) (k k1 : ℕ) (first pick : Option ℕ) →
     fallen 0 choice.picks ≡ first → bad (memory_of d) choice.picks ≡ pick →
     Powers image choice m d a n b k k1 → Few image k k1
 power_most image choice m d a n b k k1 (Some line) pick falls is h =
@@ -52,7 +55,8 @@ power_most image choice m d a n b k k1 None (Some line) rise is h =
     none image k k1 (h.1 line rise is).3
 power_most image choice m d a n b k k1 None None rise is h = (h.2 rise is).recovered.most
 
-show_most : (image : Image) (shapes : Shapes) (s : Sizes) (m : Mode) (d : Device) (a : Answer) (n : Mode) (b : Device) (k k1 : ℕ) →
+show_most : (image : Image) (shapes : Shapes) (s : Sizes) (m : Mode) (d : Device) (a : Answer)
+    (n : Mode) (b : Device) (k k1 : ℕ) →
     Shows shapes s m d a n b k k1 → Few image k k1
 show_most image shapes s Ready d a n b k k1 h = none image k k1 h.2
 show_most image shapes s Down d a n b k k1 h = none image k k1 h.3
@@ -71,7 +75,8 @@ command_most program (command.Call name args) m n d b a k k1 h =
 command_most program (command.Stop left) m n d b a k k1 h = none program.image k k1 h.3
 command_most program (command.Fault at) m n d b a k k1 h = none program.image k k1 h.3
 command_most program (command.Power choice) m n d b a k k1 h =
-    power_most program.image choice m d a n b k k1 (fallen 0 choice.picks) (bad (memory_of d) choice.picks) refl refl h
+    power_most program.image choice m d a n b k k1 (fallen 0 choice.picks)
+    (bad (memory_of d) choice.picks) refl refl h
 command_most program command.Show m n d b a k k1 h =
     show_most program.image (shapes_of program.typed) program.image.parts.sizes m d a n b k k1 h
 command_most program command.Last m n d b a k k1 h = last_most program.image m d a n b k k1 h

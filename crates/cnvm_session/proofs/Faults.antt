@@ -1,8 +1,8 @@
--- The count of a device's faults only rises, and a call that failed raised it.
+-- A device's count of faults only rises, and it rises in each call that failed.
 use Rattle.std.proofs.Common.{◌≡◌, ◌≤◌, ℕ, Bool, true, false, inl, inr, if◌then◌else◌, List, [], ◌∷◌, ℤ, refl, ap, subst, arith}
 use Rattle.cache_model.specs.Event.{CacheEvent}
 use Rattle.cache_model.specs.Cache.{Words, view}
-use Rattle.pmem.specs.Device.{Device, Rose, spent}
+use Rattle.pmem.specs.Device.{Device, FaultsRose, spent}
 use Rattle.pmem.specs.Played.{PlaysAll, PlaysPart, Refuses}
 use Rattle.pmem.specs.declared.answer.Refusal.{Refusal}
 use Rattle.pmem.specs.declared.answer.Refusal.TheVariants as refusal
@@ -11,14 +11,14 @@ use Rattle.pm_machine.specs.declared.image.Image.{Image}
 use Rattle.tx_run.specs.declared.standing.Standing.{Standing}
 use Rattle.tx_run.specs.declared.standing.Standing.TheVariants as stands
 use Rattle.tx_run.specs.Standing.{standing_of}
-use Rattle.tx_run.specs.Called.{Called}
+use Rattle.tx_run.specs.Called.{Called, IsTxCalled}
 use Rattle.tx_run.specs.declared.answer.CallAnswer.{CallAnswer}
 use Rattle.tx_run.specs.declared.answer.CallAnswer.TheVariants as called
 use Rattle.cnvm_session.specs.declared.answer.Answer.TheVariants as answer
-use Rattle.cnvm_session.specs.Outcomes.{IsCalled, answer_of_call}
+use Rattle.cnvm_session.specs.Outcomes.{answer_of_call}
 use Rattle.cnvm_session.proofs.Switch.{rose_part}
 
-rose_le : (a b : ℕ) → Rose a b → a ≤ b
+rose_le : (a b : ℕ) → FaultsRose a b → a ≤ b
 rose_le a b (inl less) = omega arith
 rose_le a b (inr last) = let same = last.0 in omega arith
 
@@ -26,20 +26,24 @@ pub same_le : (d b : Device) → b ≡ d → d.faults ≤ b.faults
 same_le d b e = let same : b.faults ≡ d.faults = ap (λ (k : Device). k.faults) e in omega arith
 
 refused_le : (why : Refusal) (d b : Device) → Refuses why d b → d.faults ≤ b.faults
-refused_le refusal.Off d b refused = let same : b.faults ≡ d.faults = ap (λ (k : Device). k.faults) refused.1 in omega arith
+refused_le refusal.Off d b refused = let same : b.faults ≡ d.faults =
+    ap (λ (k : Device). k.faults) refused.1 in omega arith
 refused_le refusal.Failed d b refused = rose_le d.faults b.faults refused.2
 refused_le refusal.NoMemory d b refused = same_le d b refused
 
-pub all_le : (d : Device) (es : List CacheEvent) (b : Device) → PlaysAll d es b → d.faults ≤ b.faults
+pub all_le : (d : Device) (es : List CacheEvent) (b : Device) → PlaysAll d es b
+    → d.faults ≤ b.faults
 all_le d [] b all = same_le d b all
 all_le d (e ∷ es) b all = all_le (spent d e) es b all.1
 
-pub part_le : (why : Refusal) (d : Device) (es : List CacheEvent) (b : Device) → PlaysPart why d es b → d.faults ≤ b.faults
+pub part_le : (why : Refusal) (d : Device) (es : List CacheEvent) (b : Device)
+    → PlaysPart why d es b → d.faults ≤ b.faults
 part_le why d [] b part = absurd part
 part_le why d (e ∷ es) b (inl refused) = refused_le why d b refused
 part_le why d (e ∷ es) b (inr rest) = part_le why (spent d e) es b rest.1
 
-called_le : (r : CallAnswer) (image : Image) (tx : ℕ) (args : List ℤ) (d b : Device) (k k1 : ℕ) → Called r image tx args d b k k1 → d.faults ≤ b.faults
+called_le : (r : CallAnswer) (image : Image) (tx : ℕ) (args : List ℤ) (d b : Device) (k k1 : ℕ)
+    → Called r image tx args d b k k1 → d.faults ≤ b.faults
 called_le (called.Done v l) image tx args d b k k1 h = all_le d _ b h.0.played
 called_le (called.Trap t) image tx args d b k k1 h = all_le d _ b h.played
 called_le (called.Off p) image tx args d b k k1 h = part_le refusal.Off d _ b h.0
@@ -48,36 +52,49 @@ called_le called.NoMemory image tx args d b k k1 h = part_le refusal.NoMemory d 
 called_le (called.Unusable t) image tx args d b k k1 h = absurd h
 called_le called.Numbers image tx args d b k k1 h = absurd h
 
-called_rose : (r : CallAnswer) (image : Image) (tx : ℕ) (args : List ℤ) (d b : Device) (k k1 : ℕ) → r ≡ called.Failed → Called r image tx args d b k k1 → Rose d.faults b.faults
+called_rose : (r : CallAnswer) (image : Image) (tx : ℕ) (args : List ℤ) (d b : Device) (k k1 : ℕ)
+    → r ≡ called.Failed → Called r image tx args d b k k1 → FaultsRose d.faults b.faults
 called_rose r image tx args d b k k1 is h =
-    rose_part refusal.Failed d _ b refl (subst (λ (x : CallAnswer). Called x image tx args d b k k1) is h)
+    rose_part refusal.Failed d _ b refl
+    (subst (λ (x : CallAnswer). Called x image tx args d b k k1) is h)
 
 not_off : (w : Words) → standing_of w ≡ stands.Off → ⊥
 not_off w e = one _ _ _ e
   where
-    one : (mark fits : Bool) (kind : TrapKind) → (if mark then (if fits then stands.Ready else stands.Numbers) else stands.Unusable kind) ≡ stands.Off → ⊥
+    one : (mark fits : Bool) (kind : TrapKind)
+        → (if mark then (if fits then stands.Ready else stands.Numbers) else stands.Unusable kind)
+        ≡ stands.Off → ⊥
     one true true kind e = cc
     one true false kind e = cc
     one false fits kind e = cc
 
--- on a device that is on, by what the pool's line 2 says
-on_faults : (s : Standing) (r : CallAnswer) (image : Image) (tx : ℕ) (args : List ℤ) (d b : Device) (k k1 : ℕ) → IsCalled r image tx args d b k k1
-    → d.on ≡ true → standing_of (view d.cache) ≡ s → (d.faults ≤ b.faults) × (r ≡ called.Failed → Rose d.faults b.faults)
-on_faults stands.Ready r image tx args d b k k1 h on is =
-    (called_le r image tx args d b k k1 (h.ready on is), λ failed. called_rose r image tx args d b k k1 failed (h.ready on is))
+-- a call on a device that is on, by what the pool's line 2 says
+on_faults : (s : Standing) (r : CallAnswer) (image : Image) (tx : ℕ) (args : List ℤ) (d b : Device)
+    (k k1 : ℕ) → IsTxCalled r image tx args d b k k1
+    → d.on ≡ true → standing_of (view d.cache) ≡ s → (d.faults ≤ b.faults)
+    × (r ≡ called.Failed → FaultsRose d.faults b.faults)
+on_faults stands.Ready r image tx args d b k k1 h on is = (
+  called_le r image tx args d b k k1 (h.ready on is),
+  λ failed.
+      called_rose r image tx args d b k k1 failed (h.ready on is),
+)
 on_faults (stands.Unusable kind) r image tx args d b k k1 h on is =
-    let same = h.unusable kind on is in (same_le d b same.1, λ failed. let is_not = same.0 in absurd cc)
+    let same = h.unusable kind on is in
+    (same_le d b same.1, λ failed. let is_not = same.0 in absurd cc)
 on_faults stands.Numbers r image tx args d b k k1 h on is =
     let same = h.numbers on is in (same_le d b same.1, λ failed. let is_not = same.0 in absurd cc)
 on_faults stands.Off r image tx args d b k k1 h on is = absurd (not_off (view d.cache) is)
 
-faults_of : (on : Bool) (r : CallAnswer) (image : Image) (tx : ℕ) (args : List ℤ) (d b : Device) (k k1 : ℕ) → IsCalled r image tx args d b k k1
-    → d.on ≡ on → (d.faults ≤ b.faults) × (r ≡ called.Failed → Rose d.faults b.faults)
-faults_of true r image tx args d b k k1 h on = on_faults (standing_of (view d.cache)) r image tx args d b k k1 h on refl
+faults_of : (on : Bool) (r : CallAnswer) (image : Image) (tx : ℕ) (args : List ℤ) (d b : Device)
+    (k k1 : ℕ) → IsTxCalled r image tx args d b k k1
+    → d.on ≡ on → (d.faults ≤ b.faults) × (r ≡ called.Failed → FaultsRose d.faults b.faults)
+faults_of true r image tx args d b k k1 h on =
+    on_faults (standing_of (view d.cache)) r image tx args d b k k1 h on refl
 faults_of false r image tx args d b k k1 h off =
     let same = h.off off in (same_le d b same.1, λ failed. let is_not = same.0 in absurd cc)
 
-pub call_le : (r : CallAnswer) (image : Image) (tx : ℕ) (args : List ℤ) (d b : Device) (k k1 : ℕ) → IsCalled r image tx args d b k k1 → d.faults ≤ b.faults
+pub call_le : (r : CallAnswer) (image : Image) (tx : ℕ) (args : List ℤ) (d b : Device) (k k1 : ℕ)
+    → IsTxCalled r image tx args d b k k1 → d.faults ≤ b.faults
 call_le r image tx args d b k k1 h = (faults_of d.on r image tx args d b k k1 h refl).0
 
 failed_is : (r : CallAnswer) → answer_of_call r ≡ answer.DeviceFault → r ≡ called.Failed
@@ -89,6 +106,8 @@ failed_is called.NoMemory e = absurd cc
 failed_is (called.Unusable t) e = absurd cc
 failed_is called.Numbers e = absurd cc
 
-pub call_rose : (r : CallAnswer) (image : Image) (tx : ℕ) (args : List ℤ) (d b : Device) (k k1 : ℕ) → IsCalled r image tx args d b k k1
-    → answer_of_call r ≡ answer.DeviceFault → Rose d.faults b.faults
-call_rose r image tx args d b k k1 h e = (faults_of d.on r image tx args d b k k1 h refl).1 (failed_is r e)
+pub call_rose : (r : CallAnswer) (image : Image) (tx : ℕ) (args : List ℤ) (d b : Device) (k k1 : ℕ)
+    → IsTxCalled r image tx args d b k k1
+    → answer_of_call r ≡ answer.DeviceFault → FaultsRose d.faults b.faults
+call_rose r image tx args d b k k1 h e =
+    (faults_of d.on r image tx args d b k k1 h refl).1 (failed_is r e)

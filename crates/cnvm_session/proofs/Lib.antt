@@ -1,9 +1,9 @@
-pub mod Playing
+pub mod Plays
 pub mod Switch
 pub mod Holding
 pub mod Faults
 pub mod Recoveries
-pub mod Resting
+pub mod Rest
 pub mod Refusing
-pub mod Quieting
+pub mod Quiets
 pub mod Bounding

@@ -1,18 +1,19 @@
--- A refused command changes nothing.
+-- A refused command changes nothing on the device, and takes no step.
 use Rattle.std.proofs.Common.{◌≡◌, ◌≢◌, inl, inr, ℕ, Bool, true, false, ◌==◌, ◌&&◌, if◌then◌else◌, List, Option, Some, None, length, ℤ, pos, refl, ap, ◌∙◌, subst, int_eq}
 use Rattle.std.proofs.lemmas.Bool.Decides.{Decides-int_eq}
 use Rattle.cache_model.specs.Cache.{Words, view}
 use Rattle.cache_model.specs.Collapse.{bad}
 use Rattle.cache_model.specs.declared.choice.Choice.{Choice}
 use Rattle.pmem.specs.Device.{Device, memory_of}
+use Rattle.pool_layout.specs.declared.places.TheConstants.{DONE, ATTEMPT, MARK}
 use Rattle.pool_layout.specs.declared.limits.Sizes.{Sizes}
 use Rattle.pool_map.specs.declared.shapes.Shapes.{Shapes}
 use Rattle.pool_map.specs.declared.trap.TrapKind.{TrapKind}
 use Rattle.pm_machine.specs.declared.image.Image.{Image}
 use Rattle.tx_run.specs.declared.standing.Standing.{Standing}
 use Rattle.tx_run.specs.declared.standing.Standing.TheVariants as stands
-use Rattle.tx_run.specs.Standing.{standing_of, is_number, kind_of}
-use Rattle.tx_run.specs.Called.{Called}
+use Rattle.tx_run.specs.Standing.{standing_of, is_number, trap_of_mark}
+use Rattle.tx_run.specs.Called.{Called, IsTxCalled}
 use Rattle.tx_run.specs.declared.answer.CallAnswer.{CallAnswer}
 use Rattle.tx_run.specs.declared.answer.CallAnswer.TheVariants as called
 use Rattle.recovery.specs.declared.answer.RecoverAnswer.{RecoverAnswer}
@@ -25,8 +26,8 @@ use Rattle.cnvm_session.specs.declared.mode.Mode.TheVariants.{Ready, Down, Unusa
 use Rattle.cnvm_session.specs.declared.answer.Answer.{Answer}
 use Rattle.cnvm_session.specs.declared.answer.Answer.TheVariants as answer
 use Rattle.cnvm_session.specs.declared.program.Program.{Program}
-use Rattle.cnvm_session.specs.Outcomes.{Runs, IsCalled, answer_of_call, mode_of_call, answer_of_recovery}
-use Rattle.cnvm_session.specs.Commands.{Refused, Tells, Shows, Lasts, number_of, parameters_of, CallsWith, CallsTo, CallsNamed, Calls, fallen, Powers, Commanded}
+use Rattle.cnvm_session.specs.Outcomes.{Runs, answer_of_call, mode_of_call, answer_of_recovery}
+use Rattle.cnvm_session.specs.Commands.{Refused, Tells, Shows, Lasts, call_number, tx_parameters, CallsWith, CallsTo, CallsNamed, Calls, fallen, Powers, Commanded}
 use Rattle.cnvm_session.specs.Laws.{IsRefusal, IsBadPick, IsRefused, StaysOrMarks}
 
 abbrev Kept : Mode → Device → Mode → Device → (k k1 : ℕ) → Type 0
@@ -37,25 +38,35 @@ refused_kept :
     Refused why m d a n b k k1 → Kept m d n b k k1
 refused_kept why m d a n b k k1 h = (h.2, inl h.1, h.3)
 
--- the standing of a marked pool, and no other, is its mark's
-marked_of : (marked fit : Bool) (kind t : TrapKind) → (if marked then (if fit then stands.Ready else stands.Numbers) else stands.Unusable kind) ≡ stands.Unusable t → (marked ≡ false) × (t ≡ kind)
+-- an unusable pool's trap is that of its mark
+marked_of : (marked fit : Bool) (kind t : TrapKind)
+    → (if marked then (if fit then stands.Ready else stands.Numbers) else stands.Unusable kind)
+    ≡ stands.Unusable t → (marked ≡ false) × (t ≡ kind)
 marked_of true true kind t e = absurd cc
 marked_of true false kind t e = absurd cc
 marked_of false fit kind t e = (refl, cc)
 
--- an answered standing is never that of a device that is off
-never_off : (marked fit : Bool) (kind : TrapKind) → (if marked then (if fit then stands.Ready else stands.Numbers) else stands.Unusable kind) ≡ stands.Off → ⊥
+-- what line 2 of a pool says is never that the device is off
+never_off : (marked fit : Bool) (kind : TrapKind)
+    → (if marked then (if fit then stands.Ready else stands.Numbers) else stands.Unusable kind)
+    ≡ stands.Off → ⊥
 never_off true true kind e = absurd cc
 never_off true false kind e = absurd cc
 never_off false fit kind e = absurd cc
 
-marked : (w : Words) (t : TrapKind) → standing_of w ≡ stands.Unusable t → (w 19 ≢ pos 0) × (t ≡ kind_of (w 19))
+marked : (w : Words) (t : TrapKind) → standing_of w ≡ stands.Unusable t → (w MARK ≢ pos 0)
+    × (t ≡ trap_of_mark (w MARK))
 marked w t e =
-    let of = marked_of (int_eq (w 19) (pos 0)) (is_number (w 17) && is_number (w 18)) (kind_of (w 19)) t e in
-    ((λ is. let yes : int_eq (w 19) (pos 0) ≡ true = (Decides-int_eq (w 19) (pos 0)).1 is in let no = of.0 in absurd cc), of.1)
+    let of = marked_of (int_eq (w MARK) (pos 0)) (is_number (w DONE) && is_number (w ATTEMPT))
+    (trap_of_mark (w MARK)) t e in (
+      (λ is. let yes : int_eq (w MARK) (pos 0) ≡ true = (Decides-int_eq (w MARK) (pos 0)).1 is in
+          let no = of.0 in absurd cc),
+      of.1,
+    )
 
--- an accepted call is answered by a refusal only for the pool's mark or its numbers
-by_answer : (r : CallAnswer) (image : Image) (tx : ℕ) (args : List ℤ) (d b : Device) (k k1 : ℕ) → IsRefusal (answer_of_call r) → Called r image tx args d b k k1 → ⊥
+-- an accepted call is refused only for the pool's mark or its numbers
+by_answer : (r : CallAnswer) (image : Image) (tx : ℕ) (args : List ℤ) (d b : Device) (k k1 : ℕ)
+    → IsRefusal (answer_of_call r) → Called r image tx args d b k k1 → ⊥
 by_answer (called.Done v l) image tx args d b k k1 is h = is
 by_answer (called.Trap t) image tx args d b k k1 is h = is
 by_answer (called.Off p) image tx args d b k k1 is h = is
@@ -64,11 +75,15 @@ by_answer called.NoMemory image tx args d b k k1 is h = is
 by_answer (called.Unusable t) image tx args d b k k1 is h = h
 by_answer called.Numbers image tx args d b k k1 is h = h
 
-module _ (r : CallAnswer) (image : Image) (tx : ℕ) (args : List ℤ) (d : Device) (n : Mode) (b : Device) (k k1 : ℕ)
-    (h : IsCalled r image tx args d b k k1) (mode : n ≡ mode_of_call r) (is : IsRefusal (answer_of_call r)) where
+module _ (r : CallAnswer) (image : Image) (tx : ℕ) (args : List ℤ) (d : Device) (n : Mode)
+    (b : Device) (k k1 : ℕ)
+    (h : IsTxCalled r image tx args d b k k1) (mode : n ≡ mode_of_call r)
+    (is : IsRefusal (answer_of_call r)) where
   by_standing : (standing : Standing) → d.on ≡ true → standing_of (view d.cache) ≡ standing →
       Kept Ready d n b k k1
-  by_standing stands.Off on e = absurd (never_off (int_eq (view d.cache 19) (pos 0)) (is_number (view d.cache 17) && is_number (view d.cache 18)) (kind_of (view d.cache 19)) e)
+  by_standing stands.Off on e = absurd
+      (never_off (int_eq (view d.cache MARK) (pos 0)) (is_number (view d.cache DONE)
+      && is_number (view d.cache ATTEMPT)) (trap_of_mark (view d.cache MARK)) e)
   by_standing stands.Ready on e = absurd (by_answer r image tx args d b k k1 is (h.ready on e))
   by_standing (stands.Unusable t) on e =
       let same = h.unusable t on e in
@@ -80,14 +95,19 @@ module _ (r : CallAnswer) (image : Image) (tx : ℕ) (args : List ℤ) (d : Devi
 
   by_switch : (on : Bool) → d.on ≡ on → Kept Ready d n b k k1
   by_switch true on = by_standing (standing_of (view d.cache)) on refl
-  by_switch false off = absurd (subst (λ (x : CallAnswer). IsRefusal (answer_of_call x)) ((h.off off).0) is)
+  by_switch false off = absurd (subst (λ (x : CallAnswer). IsRefusal (answer_of_call x))
+      ((h.off off).0) is)
 
 runs_kept :
-    (image : Image) (tx : ℕ) (args : List ℤ) (d : Device) (a : Answer) (n : Mode) (b : Device) (k k1 : ℕ) →
+    (image : Image) (tx : ℕ) (args : List ℤ) (d : Device) (a : Answer) (n : Mode) (b : Device)
+    (k k1 : ℕ) →
     IsRefusal a → Runs image tx args d a n b k k1 → Kept Ready d n b k k1
-runs_kept image tx args d a n b k k1 is h = by_switch h.behind image tx args d n b k k1 h.called h.mode (subst IsRefusal h.answer is) d.on refl
+runs_kept image tx args d a n b k k1 is h =
+    by_switch h.tx_answer image tx args d n b k k1 h.called h.mode
+    (subst IsRefusal h.answer is) d.on refl
 
-module _ (image : Image) (args : List ℤ) (d : Device) (a : Answer) (n : Mode) (b : Device) (k k1 : ℕ) (is : IsRefusal a) where
+module _ (image : Image) (args : List ℤ) (d : Device) (a : Answer) (n : Mode) (b : Device)
+    (k k1 : ℕ) (is : IsRefusal a) where
   by_count : (same : Bool) (tx : ℕ) → CallsWith same image tx args d a n b k k1 →
       Kept Ready d n b k k1
   by_count true tx h = runs_kept image tx args d a n b k k1 is h
@@ -100,17 +120,20 @@ module _ (image : Image) (args : List ℤ) (d : Device) (a : Answer) (n : Mode) 
 
   by_name : (number : Option ℕ) → CallsNamed number image args d a n b k k1 → Kept Ready d n b k k1
   by_name None h = refused_kept answer.RefusedUnknown Ready d a n b k k1 h
-  by_name (Some tx) h = by_parameters (parameters_of image tx) tx h
+  by_name (Some tx) h = by_parameters (tx_parameters image tx) tx h
 
-calls_kept : (program : Program) (name : List ℕ) (args : List ℤ) (m : Mode) (d : Device) (a : Answer) (n : Mode) (b : Device) (k k1 : ℕ) → IsRefusal a
+calls_kept : (program : Program) (name : List ℕ) (args : List ℤ) (m : Mode) (d : Device)
+    (a : Answer) (n : Mode) (b : Device) (k k1 : ℕ) → IsRefusal a
     → Calls program name args m d a n b k k1 → Kept m d n b k k1
-calls_kept program name args Ready d a n b k k1 is h = by_name program.image args d a n b k k1 is (number_of program name) h
+calls_kept program name args Ready d a n b k k1 is h =
+    by_name program.image args d a n b k k1 is (call_number program name) h
 calls_kept program name args Down d a n b k k1 is h =
     refused_kept answer.RefusedDown Down d a n b k k1 h
 calls_kept program name args (Unusable kind) d a n b k k1 is h =
     refused_kept (answer.RefusedUnusable kind) (Unusable kind) d a n b k k1 h
 
-tells_ready : (shapes : Shapes) (s : Sizes) (d : Device) (a : Answer) (n : Mode) → IsRefusal a → Tells shapes s d a n → n ≡ Ready
+tells_ready : (shapes : Shapes) (s : Sizes) (d : Device) (a : Answer) (n : Mode) → IsRefusal a
+    → Tells shapes s d a n → n ≡ Ready
 tells_ready shapes s d (answer.Shown text) n is h = h.1
 tells_ready shapes s d answer.NoMemory n is h = absurd is
 tells_ready shapes s d answer.Silent n is h = absurd h
@@ -130,7 +153,8 @@ tells_ready shapes s d answer.RefusedNumbers n is h = absurd h
 tells_ready shapes s d (answer.RefusedPick l) n is h = absurd h
 
 shows_kept :
-    (shapes : Shapes) (s : Sizes) (m : Mode) (d : Device) (a : Answer) (n : Mode) (b : Device) (k k1 : ℕ) →
+    (shapes : Shapes) (s : Sizes) (m : Mode) (d : Device) (a : Answer) (n : Mode) (b : Device)
+    (k k1 : ℕ) →
     IsRefusal a →
     Shows shapes s m d a n b k k1 → Kept m d n b k k1
 shows_kept shapes s Ready d a n b k k1 is h = (h.1, inl (tells_ready shapes s d a n is h.0), h.2)
@@ -145,7 +169,7 @@ lasts_kept Down d a n b k k1 h = refused_kept answer.RefusedDown Down d a n b k 
 lasts_kept (Unusable kind) d a n b k k1 h =
     refused_kept (answer.RefusedUnusable kind) (Unusable kind) d a n b k k1 h
 
--- a recovery's answer is never that of a bad pick
+-- a recovery never answers that a pick is bad
 no_pick : (r : RecoverAnswer) → IsBadPick (answer_of_recovery r) → ⊥
 no_pick recovered.Clean is = is
 no_pick (recovered.Redone v l) is = is
@@ -156,7 +180,8 @@ no_pick (recovered.Off p) is = is
 no_pick recovered.Failed is = is
 no_pick recovered.NoMemory is = is
 
-powers_kept : (image : Image) (choice : Choice) (m : Mode) (d : Device) (a : Answer) (n : Mode) (b : Device) (k k1 : ℕ) (first pick : Option ℕ) → fallen 0 choice.picks ≡ first
+powers_kept : (image : Image) (choice : Choice) (m : Mode) (d : Device) (a : Answer) (n : Mode)
+    (b : Device) (k k1 : ℕ) (first pick : Option ℕ) → fallen 0 choice.picks ≡ first
     → bad (memory_of d) choice.picks ≡ pick → IsBadPick a → Powers image choice m d a n b k k1 →
     Kept m d n b k k1
 powers_kept image choice m d a n b k k1 (Some line) pick falls e is h =
@@ -164,15 +189,19 @@ powers_kept image choice m d a n b k k1 (Some line) pick falls e is h =
 powers_kept image choice m d a n b k k1 None (Some line) rise e is h =
     refused_kept (answer.RefusedPick line) m d a n b k k1 (h.1 line rise e)
 powers_kept image choice m d a n b k k1 None None rise e is h =
-    let recovers = h.2 rise e in absurd (no_pick recovers.behind (subst IsBadPick recovers.answer is))
+    let recovers = h.2 rise e in absurd
+    (no_pick recovers.tx_answer (subst IsBadPick recovers.answer is))
 
 pub command_kept :
     (program : Program) (c : Command) (m n : Mode) (d b : Device) (a : Answer) (k k1 : ℕ) →
     IsRefused c a → Commanded program c m d a n b k k1 → Kept m d n b k k1
-command_kept program (command.Call name args) m n d b a k k1 is h = calls_kept program name args m d a n b k k1 is h
+command_kept program (command.Call name args) m n d b a k k1 is h =
+    calls_kept program name args m d a n b k k1 is h
 command_kept program (command.Stop left) m n d b a k k1 is h = absurd (subst IsRefusal h.0 is)
 command_kept program (command.Fault at) m n d b a k k1 is h = absurd (subst IsRefusal h.0 is)
-command_kept program (command.Power choice) m n d b a k k1 is h = powers_kept program.image choice m d a n b k k1 (fallen 0 choice.picks) (bad (memory_of d) choice.picks) refl refl is h
+command_kept program (command.Power choice) m n d b a k k1 is h =
+    powers_kept program.image choice m d a n b k k1 (fallen 0 choice.picks)
+    (bad (memory_of d) choice.picks) refl refl is h
 command_kept program command.Show m n d b a k k1 is h =
     shows_kept (shapes_of program.typed) program.image.parts.sizes m d a n b k k1 is h
 command_kept program command.Last m n d b a k k1 is h = lasts_kept m d a n b k k1 h

@@ -1,5 +1,5 @@
--- Each answer is one line that ends with LF, but for two. The answer of `stop` and `fault` has no line, and that of
--- `show` has the lines of the pool.
+-- Each answer is one line that ends with LF, with two exceptions: the answer of `stop` and `fault`
+-- has no line, and that of `show` has the lines of the pool.
 use Rattle.std.specs.Prelude.{ℕ, List, [], ◌++◌, codes}
 use Rattle.std.specs.Fmt.{decimal, signed_decimal}
 use Rattle.pmem.specs.declared.answer.Phase.{Phase}
@@ -15,16 +15,19 @@ phase_name Sealed = codes "sealed"
 
 abbrev pub answer_text : Answer → List ℕ
 answer_text Silent = []
-answer_text (Done value logged) = codes "= " ++ (signed_decimal value ++ (codes " log " ++ (decimal logged ++ codes "\n")))
+answer_text (Done value logged) =
+    codes "= " ++ (signed_decimal value ++ (codes " log " ++ (decimal logged ++ codes "\n")))
 answer_text (Trap kind) = codes "trap " ++ (trap_name kind ++ codes "\n")
 answer_text (Stopped phase) = codes "stopped " ++ (phase_name phase ++ codes "\n")
 answer_text DeviceFault = codes "device fault\n"
 answer_text RecoveredNone = codes "recovered none\n"
 answer_text (RecoveredRedone value logged) =
-    codes "recovered redone " ++ (signed_decimal value ++ (codes " log " ++ (decimal logged ++ codes "\n")))
+    codes "recovered redone " ++ (signed_decimal value
+    ++ (codes " log " ++ (decimal logged ++ codes "\n")))
 answer_text (RecoveredTrap kind) = codes "recovered trap " ++ (trap_name kind ++ codes "\n")
 answer_text (Shown lines) = lines
-answer_text (Last done value) = codes "last " ++ (signed_decimal done ++ (codes " " ++ (signed_decimal value ++ codes "\n")))
+answer_text (Last done value) =
+    codes "last " ++ (signed_decimal done ++ (codes " " ++ (signed_decimal value ++ codes "\n")))
 answer_text NoMemory = codes "no memory\n"
 answer_text RefusedDown = codes "refused down\n"
 answer_text (RefusedUnusable kind) = codes "refused unusable " ++ (trap_name kind ++ codes "\n")

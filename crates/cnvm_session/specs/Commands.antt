@@ -1,4 +1,4 @@
--- What each command does in a session: its answer, whether the session takes calls then, the
+-- What each command does in a session: its answer, whether the session takes calls after it, the
 -- device, and the count of steps, which rises from k to k1.
 use Rattle.std.specs.Prelude.{ℕ, zero, suc, ◌+◌, ◌≡◌, ◌==◌, nat_lt, if◌then◌else◌, true, false, Bool, List, [], ◌∷◌, Option, Some, None, length, map, option_map, slice_get, ℤ}
 use Rattle.cache_model.specs.Cache.{view}
@@ -6,6 +6,7 @@ use Rattle.cache_model.specs.Collapse.{bad}
 use Rattle.cache_model.specs.declared.choice.Pick.{Pick}
 use Rattle.cache_model.specs.declared.choice.Choice.{Choice}
 use Rattle.pmem.specs.Device.{Device, memory_of, powered, with_left, with_armed}
+use Rattle.pool_layout.specs.declared.places.TheConstants.{LAST, DONE}
 use Rattle.pool_layout.specs.declared.limits.Sizes.{Sizes}
 use Rattle.pool_map.specs.declared.shapes.Shapes.{Shapes}
 use Rattle.pool_map.specs.PoolFits.{PoolFits}
@@ -24,18 +25,20 @@ use Rattle.cnvm_session.specs.declared.program.Program.{Program}
 use Rattle.cnvm_session.specs.Outcomes.{Runs, Recovers}
 use Rattle.cnvm_session.specs.Shown.{heap_of, pool_in}
 
--- this answer, and nothing changes, nor is a step taken
+-- the answer is this one, nothing changes, and no step is taken
 abbrev pub Refused : Answer → Mode → Device → Answer → Mode → Device → (k k1 : ℕ) → Type 0
 Refused why m d a n b k k1 = (a ≡ why) × (n ≡ m) × (b ≡ d) × (k1 ≡ k)
 
 abbrev pub Lasts : Mode → Device → Answer → Mode → Device → (k k1 : ℕ) → Type 0
 Lasts Ready d a n b k k1 =
-    (d.on ≡ true → a ≡ Last (view d.cache 17) (view d.cache 16)) × (n ≡ Ready) × (b ≡ d) × (k1 ≡ k)
+    (d.on ≡ true → a ≡ Last (view d.cache DONE) (view d.cache LAST)) × (n ≡ Ready) × (b ≡ d)
+    × (k1 ≡ k)
 Lasts Down d a n b k k1 = Refused RefusedDown Down d a n b k k1
 Lasts (Unusable kind) d a n b k k1 =
     Refused (RefusedUnusable kind) (Unusable kind) d a n b k k1
 
--- the text of the pool that the heap holds, where it fits the shapes; or there was no memory for it
+-- the text of the pool that the heap holds, if the heap fits the shapes; or there was no memory for
+-- it
 abbrev pub Tells : Shapes → Sizes → Device → Answer → Mode → Type 0
 Tells shapes s d (Shown text) n =
     (d.on ≡ true → PoolFits shapes (pool_in shapes s (heap_of s (view d.cache)))
@@ -49,29 +52,38 @@ Shows shapes s Down d a n b k k1 = Refused RefusedDown Down d a n b k k1
 Shows shapes s (Unusable kind) d a n b k k1 =
     Refused (RefusedUnusable kind) (Unusable kind) d a n b k k1
 
--- the transaction of that name, from 1 on, and how many parameters a transaction of the image has
-abbrev pub number_of : Program → List ℕ → Option ℕ
-number_of program name = option_map suc (index_of name (map (λ (f : FunctionTree). f.name.text) (transactions_of program.typed)))
+-- the number of the transaction of that name, counted from 1, and how many parameters a transaction
+-- of the image has
+abbrev pub call_number : Program → List ℕ → Option ℕ
+call_number program name = option_map suc
+    (index_of name (map (λ (f : FunctionTree). f.name.text) (transactions_of program.typed)))
 
-abbrev pub parameters_of : Image → ℕ → Option ℕ
-parameters_of image zero = None
-parameters_of image (suc i) = option_map (λ e. e.parameters) (slice_get image.parts.txs i)
+abbrev pub tx_parameters : Image → ℕ → Option ℕ
+tx_parameters image zero = None
+tx_parameters image (suc i) = option_map (λ e. e.parameters) (slice_get image.parts.txs i)
 
--- with as many arguments as the transaction has parameters, or not
-abbrev pub CallsWith : Bool → Image → ℕ → List ℤ → Device → Answer → Mode → Device → (k k1 : ℕ) → Type 0
+-- a call, by whether it has as many arguments as the transaction has parameters
+abbrev pub CallsWith : Bool → Image → ℕ → List ℤ → Device → Answer → Mode → Device
+    → (k k1 : ℕ) → Type 0
 CallsWith true image tx args d a n b k k1 = Runs image tx args d a n b k k1
 CallsWith false image tx args d a n b k k1 = Refused RefusedArity Ready d a n b k k1
 
-abbrev pub CallsTo : Option ℕ → Image → ℕ → List ℤ → Device → Answer → Mode → Device → (k k1 : ℕ) → Type 0
+abbrev pub CallsTo : Option ℕ → Image → ℕ → List ℤ → Device → Answer → Mode → Device
+    → (k k1 : ℕ) → Type 0
 CallsTo None image tx args d a n b k k1 = Refused RefusedUnknown Ready d a n b k k1
-CallsTo (Some count) image tx args d a n b k k1 = CallsWith (count == length args) image tx args d a n b k k1
+CallsTo (Some count) image tx args d a n b k k1 =
+    CallsWith (count == length args) image tx args d a n b k k1
 
-abbrev pub CallsNamed : Option ℕ → Image → List ℤ → Device → Answer → Mode → Device → (k k1 : ℕ) → Type 0
+abbrev pub CallsNamed : Option ℕ → Image → List ℤ → Device → Answer → Mode → Device
+    → (k k1 : ℕ) → Type 0
 CallsNamed None image args d a n b k k1 = Refused RefusedUnknown Ready d a n b k k1
-CallsNamed (Some tx) image args d a n b k k1 = CallsTo (parameters_of image tx) image tx args d a n b k k1
+CallsNamed (Some tx) image args d a n b k k1 =
+    CallsTo (tx_parameters image tx) image tx args d a n b k k1
 
-abbrev pub Calls : Program → List ℕ → List ℤ → Mode → Device → Answer → Mode → Device → (k k1 : ℕ) → Type 0
-Calls program name args Ready d a n b k k1 = CallsNamed (number_of program name) program.image args d a n b k k1
+abbrev pub Calls : Program → List ℕ → List ℤ → Mode → Device → Answer → Mode → Device
+    → (k k1 : ℕ) → Type 0
+Calls program name args Ready d a n b k k1 =
+    CallsNamed (call_number program name) program.image args d a n b k k1
 Calls program name args Down d a n b k k1 = Refused RefusedDown Down d a n b k k1
 Calls program name args (Unusable kind) d a n b k k1 =
     Refused (RefusedUnusable kind) (Unusable kind) d a n b k k1
@@ -81,16 +93,18 @@ abbrev pub fallen : ℕ → List Pick → Option ℕ
 fallen n [] = None
 fallen n (p ∷ ps) = if nat_lt p.line n then Some p.line else fallen (p.line + 1) ps
 
--- A choice with a pick that doesn't rise, or a bad one, changes nothing. Any other leaves the lines, and what is left is
--- recovered.
+-- A choice with a pick that doesn't rise, or with a bad pick, changes nothing. With any other
+-- choice the power is cut, and what is left of the lines is recovered.
 abbrev pub Powers : Image → Choice → Mode → Device → Answer → Mode → Device → (k k1 : ℕ) → Type 0
 Powers image choice m d a n b k k1 =
     ((line : ℕ) → fallen 0 choice.picks ≡ Some line → Refused (RefusedPick line) m d a n b k k1)
     × ((line : ℕ) → fallen 0 choice.picks ≡ None → bad (memory_of d) choice.picks ≡ Some line →
     Refused (RefusedPick line) m d a n b k k1)
-    × (fallen 0 choice.picks ≡ None → bad (memory_of d) choice.picks ≡ None → Recovers image (powered choice d) a n b k k1)
+    × (fallen 0 choice.picks ≡ None → bad (memory_of d) choice.picks ≡ None
+    → Recovers image (powered choice d) a n b k k1)
 
-abbrev pub Commanded : Program → Command → Mode → Device → Answer → Mode → Device → (k k1 : ℕ) → Type 0
+abbrev pub Commanded : Program → Command → Mode → Device → Answer → Mode → Device
+    → (k k1 : ℕ) → Type 0
 Commanded program (command.Call name args) m d a n b k k1 = Calls program name args m d a n b k k1
 Commanded program (command.Stop left) m d a n b k k1 =
     Refused Silent m (with_left left d) a n b k k1

@@ -1,7 +1,9 @@
 pub mod AnswerText
 pub mod Created
 pub mod Opening
+pub mod Unmade
 pub mod Shown
 pub mod Outcomes
 pub mod Commands
 pub mod Laws
+pub mod inside

@@ -1,6 +1,6 @@
--- The pool that a heap holds, under given shapes: its root words, and in each slot whose header is a struct's number an
--- object with as many of the words behind the header as that struct has. Struct numbers go to 255, and an object has at most
--- 15 words. Any other slot is free.
+-- The pool that a heap holds, under given shapes: its root words, and an object in each slot whose
+-- header is a struct's number. The object has the words after the header, as many as that struct
+-- has. Struct numbers go up to 255, and an object has at most 15 words. Any other slot is free.
 use Rattle.std.specs.Prelude.{ℕ, zero, suc, ◌+◌, if◌then◌else◌, nat_lt, List, [], ◌∷◌, Option, Some, None, ℤ, pos, negsuc}
 use Rattle.pool_layout.specs.declared.limits.Sizes.{Sizes}
 use Rattle.pool_layout.specs.declared.places.Place.TheVariants.{Heap}
@@ -29,7 +29,7 @@ object_with h w kind (Some shape) =
     if nat_lt 15 (words_of shape.fields) then None
     else Some (record { kind = kind; fields = words_from h (w + 1) (words_of shape.fields) })
 
--- a header as a struct's number, where it may be one
+-- the struct number in a header, if it may be one
 abbrev pub kind_in : ℤ → Option ℕ
 kind_in (pos kind) = if nat_lt kind 256 then Some kind else None
 kind_in (negsuc n) = None
@@ -49,4 +49,7 @@ objects_from s structs h slot (suc n) =
     object_in structs h (slot_word s slot) ∷ objects_from s structs h (suc slot) n
 
 abbrev pub pool_in : Shapes → Sizes → (ℕ → ℤ) → PoolMap
-pool_in shapes s h = record { root = words_from h 0 s.root_words; slots = objects_from s shapes.structs h 1 s.slots }
+pool_in shapes s h = record {
+  root = words_from h 0 s.root_words;
+  slots = objects_from s shapes.structs h 1 s.slots;
+}

@@ -9,7 +9,7 @@ use pool_map::TrapKind;
 pub enum Answer {
     /// `stop` and `fault` have no answer line.
     Silent,
-    /// The transaction ended with a value, and wrote so many log records.
+    /// The transaction ended with this value, and its run wrote this many log records.
     Done { value: i64, logged: u64 },
     /// The transaction trapped.
     Trap(TrapKind),
@@ -35,10 +35,10 @@ pub enum Answer {
     RefusedUnusable(TrapKind),
     /// No transaction has the name.
     RefusedUnknown,
-    /// The transaction takes another number of arguments.
+    /// The transaction takes a different number of arguments.
     RefusedArity,
     /// The number of transactions done, or of attempts, is at its limit.
     RefusedNumbers,
-    /// The first pick whose line or version isn't there, by its line.
+    /// The line of the first pick whose line or version doesn't exist.
     RefusedPick(u64),
 }

@@ -1,16 +1,17 @@
-//! A new pool.
+//! Creates a new pool.
 
 ghost use Rattle.std.specs.Prelude.{◌≡◌, ◌≤◌, OnOk, IfErr, IsErrOf};
-ghost use Rattle.pmem.specs.Device.{Rose, blanked};
+ghost use Rattle.pmem.specs.Device.{FaultsRose, blanked};
 ghost use Rattle.pmem.specs.Played.{PlaysAll, PlaysPart};
 ghost use Rattle.pool_layout.specs.Sizes as sizes_of;
 ghost use Rattle.cnvm_session.specs.Created.{sizes_events, digest_events, head_events, creation_events};
+ghost use Rattle.cnvm_session.specs.Unmade.{IsUnmade};
 
 use pmem::events::{fence, flush, store};
 use pmem::{Pmem, PmemWork, Refusal};
 use pool_layout::{Sizes, pool_lines};
 
-/// The eight bytes `CNVMPOOL` as a word, the lowest first.
+/// The eight bytes `CNVMPOOL` as a word, the lowest byte first.
 const MAGIC: i64 = 5498700876356144707;
 
 /// Why a pool couldn't be created or opened.
@@ -21,12 +22,14 @@ pub enum StartFault {
     NoMemory,
 }
 
-/// The words of the first line.
-#[tactic(auto, unfolding(crate::specs::Created::sizes_events))]
+/// Stores the words of the first line.
+#[tactic(auto, unfolding(crate::specs::Created::sizes_events, pool_layout::specs::Bytes::word_from))]
 fn store_sizes<P: PmemWork>(sizes: &Sizes, dev: &mut P) -> Result<(), Refusal>
     requires { 6 ≤ (P.device dev.old).lines }
-    ensures done { OnOk result (PlaysAll (P.device dev.old) (sizes_events sizes.now) (P.device dev.new)) }
-    ensures refused { IfErr result (λ why. PlaysPart why (P.device dev.old) (sizes_events sizes.now) (P.device dev.new)) }
+    ensures done { OnOk result (PlaysAll (P.device dev.old) (sizes_events sizes.now)
+        (P.device dev.new)) }
+    ensures refused { IfErr result (λ why. PlaysPart why (P.device dev.old) (sizes_events sizes.now)
+        (P.device dev.new)) }
     ensures lines { (P.device dev.new).lines ≡ (P.device dev.old).lines }
 {
     store(dev, 0, MAGIC)?;
@@ -37,12 +40,14 @@ fn store_sizes<P: PmemWork>(sizes: &Sizes, dev: &mut P) -> Result<(), Refusal>
     store(dev, 5, sizes.ticks() as i64)
 }
 
-/// The words of the second line.
+/// Stores the words of the second line.
 #[tactic(auto, unfolding(crate::specs::Created::digest_events))]
 fn store_digest<P: PmemWork>(digest: &[i64; 4], dev: &mut P) -> Result<(), Refusal>
     requires { 6 ≤ (P.device dev.old).lines }
-    ensures done { OnOk result (PlaysAll (P.device dev.old) (digest_events digest.now) (P.device dev.new)) }
-    ensures refused { IfErr result (λ why. PlaysPart why (P.device dev.old) (digest_events digest.now) (P.device dev.new)) }
+    ensures done { OnOk result (PlaysAll (P.device dev.old) (digest_events digest.now)
+        (P.device dev.new)) }
+    ensures refused { IfErr result
+        (λ why. PlaysPart why (P.device dev.old) (digest_events digest.now) (P.device dev.new)) }
     ensures lines { (P.device dev.new).lines ≡ (P.device dev.old).lines }
 {
     store(dev, 8, digest[0])?;
@@ -55,7 +60,8 @@ fn store_digest<P: PmemWork>(digest: &[i64; 4], dev: &mut P) -> Result<(), Refus
 fn settle<P: PmemWork>(dev: &mut P) -> Result<(), Refusal>
     requires { 6 ≤ (P.device dev.old).lines }
     ensures done { OnOk result (PlaysAll (P.device dev.old) head_events (P.device dev.new)) }
-    ensures refused { IfErr result (λ why. PlaysPart why (P.device dev.old) head_events (P.device dev.new)) }
+    ensures refused { IfErr result
+        (λ why. PlaysPart why (P.device dev.old) head_events (P.device dev.new)) }
     ensures lines { (P.device dev.new).lines ≡ (P.device dev.old).lines }
 {
     flush(dev, 0)?;
@@ -63,12 +69,15 @@ fn settle<P: PmemWork>(dev: &mut P) -> Result<(), Refusal>
     fence(dev)
 }
 
-/// The events of a new pool.
+/// Plays the events that create a pool.
 #[tactic(auto, using(pmem::proofs::Glue::all_append, pmem::proofs::Glue::part_left, pmem::proofs::Glue::part_right))]
 fn play_creation<P: PmemWork>(sizes: &Sizes, digest: &[i64; 4], dev: &mut P) -> Result<(), Refusal>
     requires { 6 ≤ (P.device dev.old).lines }
-    ensures done { OnOk result (PlaysAll (P.device dev.old) (creation_events sizes.now digest.now) (P.device dev.new)) }
-    ensures refused { IfErr result (λ why. PlaysPart why (P.device dev.old) (creation_events sizes.now digest.now) (P.device dev.new)) }
+    ensures done { OnOk result (PlaysAll (P.device dev.old) (creation_events sizes.now digest.now)
+        (P.device dev.new)) }
+    ensures refused { IfErr result
+        (λ why. PlaysPart why (P.device dev.old) (creation_events sizes.now digest.now)
+        (P.device dev.new)) }
     ensures lines { (P.device dev.new).lines ≡ (P.device dev.old).lines }
 {
     store_sizes(sizes, dev)?;
@@ -76,11 +85,16 @@ fn play_creation<P: PmemWork>(sizes: &Sizes, digest: &[i64; 4], dev: &mut P) -> 
     settle(dev)
 }
 
-/// A pool of these sizes on blank lines, for the program with this digest.
+/// Creates a pool of these sizes on blank lines, for the program with this digest.
 pub fn create_pool<P: Pmem>(sizes: &Sizes, digest: &[i64; 4], dev: &mut P) -> Result<(), StartFault>
-    ensures done { OnOk result (PlaysAll (blanked (sizes_of.pool_lines sizes.now) (P.device dev.old)) (creation_events sizes.now digest.now) (P.device dev.new)) }
+    ensures done { OnOk result (PlaysAll
+        (blanked (sizes_of.pool_lines sizes.now) (P.device dev.old))
+        (creation_events sizes.now digest.now) (P.device dev.new)) }
     ensures lines { OnOk result ((P.device dev.new).lines ≡ sizes_of.pool_lines sizes.now) }
-    ensures failed { IsErrOf result StartFault.Failed → Rose (P.device dev.old).faults (P.device dev.new).faults }
+    ensures refused { IfErr result (λ why. IsUnmade why (sizes_of.pool_lines sizes.now)
+        (creation_events sizes.now digest.now) (P.device dev.old) (P.device dev.new)) }
+    ensures failed { IsErrOf result StartFault.Failed
+        → FaultsRose (P.device dev.old).faults (P.device dev.new).faults }
 {
     if let Err(_) = dev.blank(pool_lines(sizes)) {
         return Err(StartFault::NoMemory);
@@ -89,7 +103,7 @@ pub fn create_pool<P: Pmem>(sizes: &Sizes, digest: &[i64; 4], dev: &mut P) -> Re
         Ok(()) => Ok(()),
         Err(Refusal::NoMemory) => Err(StartFault::NoMemory),
         Err(Refusal::Failed) => Err(StartFault::Failed),
-        // It never comes: the device was switched on.
+        // This never happens: the device was switched on.
         Err(Refusal::Off) => Err(StartFault::Failed),
     }
 }

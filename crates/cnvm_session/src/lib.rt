@@ -1,7 +1,7 @@
-//! The commands of a script, run on the pool of a program, and what they answer. It stands on `tx_run`
-//! and `recovery`, and on `c_types` for the program's names and shapes. Its one contract for the crates
-//! above: each command does to the session and the device what `specs/Commands.antt` says, and
-//! `answer_text` writes exactly the line of each answer.
+//! The commands of a script, run on the pool of a program, and their answers. It rests on `tx_run`
+//! and `recovery`, and on `c_types` for the program's names and shapes. Its one contract for the
+//! crates above: each command does to the session and the device what `specs/Commands.antt` says,
+//! and `answer_text` writes exactly the line of each answer.
 #![tactic(auto)]
 
 mod answer;
@@ -19,9 +19,8 @@ pub use answer::Answer;
 pub use creating::StartFault;
 pub use law::laws;
 pub use mode::Mode;
+pub use outcome::answer_of_recovery;
 pub use program::Program;
-pub use session::{Session, create, start_from};
+pub use session::{Session, create, first_fallen, parameters, start_from};
+pub use showing::pool_text;
 pub use text::answer_text;
-
-#[cfg(test)]
-mod tests;

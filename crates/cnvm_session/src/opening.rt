@@ -1,23 +1,26 @@
-//! A pool that is read from an image.
+//! Opens a pool from an image.
 
 ghost use Rattle.std.specs.Prelude.{◌≡◌, ◌≤◌, ◌+◌, ◌*◌, ◌<◌, take, drop, length, OnOk, IfErr, IsErrOf};
 ghost use Rattle.std.specs.List.{list_any};
-ghost use Rattle.pmem.specs.Device.{Rose, blanked};
+ghost use Rattle.pmem.specs.Device.{FaultsRose, blanked};
 ghost use Rattle.pmem.specs.Played.{PlaysAll, PlaysPart};
 ghost use Rattle.pool_layout.specs.Sizes as sizes_of;
 ghost use Rattle.cnvm_session.specs.Opening.{is_other, store_of, stores_of, has_other, flush_of, flushes_of, opening_events};
+ghost use Rattle.cnvm_session.specs.Unmade.{IsUnmade};
 
 use crate::creating::StartFault;
 use pmem::events::{fence, flush, store};
 use pmem::{Pmem, PmemWork, Refusal};
 use pool_layout::{Sizes, pool_lines};
 
-/// Stores a word that isn't 0.
+/// Stores a word, unless it is 0.
 fn store_word<P: PmemWork>(dev: &mut P, words: &[i64], place: u64) -> Result<(), Refusal>
     requires place { place < 8 * (P.device dev.old).lines }
     requires words { place < length words.now }
-    ensures done { OnOk result (PlaysAll (P.device dev.old) (store_of words.now place) (P.device dev.new)) }
-    ensures refused { IfErr result (λ why. PlaysPart why (P.device dev.old) (store_of words.now place) (P.device dev.new)) }
+    ensures done { OnOk result (PlaysAll (P.device dev.old) (store_of words.now place)
+        (P.device dev.new)) }
+    ensures refused { IfErr result
+        (λ why. PlaysPart why (P.device dev.old) (store_of words.now place) (P.device dev.new)) }
     ensures lines { (P.device dev.new).lines ≡ (P.device dev.old).lines }
 {
     let word = words[place as usize];
@@ -30,8 +33,11 @@ fn store_word<P: PmemWork>(dev: &mut P, words: &[i64], place: u64) -> Result<(),
 /// Stores the words that aren't 0, in order.
 fn store_words<P: PmemWork>(dev: &mut P, words: &[i64]) -> Result<(), Refusal>
     requires { length words.now ≤ 8 * (P.device dev.old).lines }
-    ensures done { OnOk result (PlaysAll (P.device dev.old) (stores_of words.now 0 (length words.now)) (P.device dev.new)) }
-    ensures refused { IfErr result (λ why. PlaysPart why (P.device dev.old) (stores_of words.now 0 (length words.now)) (P.device dev.new)) }
+    ensures done { OnOk result (PlaysAll (P.device dev.old)
+        (stores_of words.now 0 (length words.now)) (P.device dev.new)) }
+    ensures refused { IfErr result
+        (λ why. PlaysPart why (P.device dev.old) (stores_of words.now 0 (length words.now))
+        (P.device dev.new)) }
     ensures lines { (P.device dev.new).lines ≡ (P.device dev.old).lines }
 {
     for place in 0..words.len() as u64 {
@@ -64,12 +70,14 @@ fn line_words(words: &[i64], line: u64) -> &[i64]
     own
 }
 
-/// Flushes a line that has a word other than 0.
+/// Flushes a line if it has a word other than 0.
 fn flush_line<P: PmemWork>(dev: &mut P, words: &[i64], line: u64) -> Result<(), Refusal>
     requires line { line < (P.device dev.old).lines }
     requires words { 8 * line + 8 ≤ length words.now }
-    ensures done { OnOk result (PlaysAll (P.device dev.old) (flush_of words.now line) (P.device dev.new)) }
-    ensures refused { IfErr result (λ why. PlaysPart why (P.device dev.old) (flush_of words.now line) (P.device dev.new)) }
+    ensures done { OnOk result (PlaysAll (P.device dev.old) (flush_of words.now line)
+        (P.device dev.new)) }
+    ensures refused { IfErr result
+        (λ why. PlaysPart why (P.device dev.old) (flush_of words.now line) (P.device dev.new)) }
     ensures lines { (P.device dev.new).lines ≡ (P.device dev.old).lines }
 {
     if any_other(line_words(words, line)) {
@@ -83,8 +91,11 @@ fn flush_line<P: PmemWork>(dev: &mut P, words: &[i64], line: u64) -> Result<(), 
 fn flush_lines<P: PmemWork>(dev: &mut P, words: &[i64], lines: u64) -> Result<(), Refusal>
     requires lines { lines ≤ (P.device dev.old).lines }
     requires words { 8 * lines ≤ length words.now }
-    ensures done { OnOk result (PlaysAll (P.device dev.old) (flushes_of words.now 0 lines) (P.device dev.new)) }
-    ensures refused { IfErr result (λ why. PlaysPart why (P.device dev.old) (flushes_of words.now 0 lines) (P.device dev.new)) }
+    ensures done { OnOk result (PlaysAll (P.device dev.old) (flushes_of words.now 0 lines)
+        (P.device dev.new)) }
+    ensures refused { IfErr result
+        (λ why. PlaysPart why (P.device dev.old) (flushes_of words.now 0 lines)
+        (P.device dev.new)) }
     ensures lines { (P.device dev.new).lines ≡ (P.device dev.old).lines }
 {
     for line in 0..lines {
@@ -95,13 +106,16 @@ fn flush_lines<P: PmemWork>(dev: &mut P, words: &[i64], lines: u64) -> Result<()
     Ok(())
 }
 
-/// The events that write an image.
+/// Plays the events that write an image.
 #[tactic(auto, using(pmem::proofs::Glue::all_append, pmem::proofs::Glue::part_left, pmem::proofs::Glue::part_right), unfolding(crate::specs::Opening::opening_events))]
 fn play_opening<P: PmemWork>(dev: &mut P, words: &[i64], lines: u64) -> Result<(), Refusal>
     requires lines { lines ≡ (P.device dev.old).lines }
     requires words { length words.now ≡ 8 * lines }
-    ensures done { OnOk result (PlaysAll (P.device dev.old) (opening_events lines words.now) (P.device dev.new)) }
-    ensures refused { IfErr result (λ why. PlaysPart why (P.device dev.old) (opening_events lines words.now) (P.device dev.new)) }
+    ensures done { OnOk result (PlaysAll (P.device dev.old) (opening_events lines words.now)
+        (P.device dev.new)) }
+    ensures refused { IfErr result
+        (λ why. PlaysPart why (P.device dev.old) (opening_events lines words.now)
+        (P.device dev.new)) }
     ensures lines { (P.device dev.new).lines ≡ (P.device dev.old).lines }
 {
     store_words(dev, words)?;
@@ -109,13 +123,19 @@ fn play_opening<P: PmemWork>(dev: &mut P, words: &[i64], lines: u64) -> Result<(
     fence(dev)
 }
 
-/// A pool of these sizes that holds the words of an image, on blank lines. An image that hasn't as
-/// many words as the pool, which reading one never gives, is answered as `NoMemory` and changes
-/// nothing.
+/// Opens a pool of these sizes on blank lines, with the words of an image. An image with another
+/// number of words than the pool is answered as `NoMemory` and changes nothing; reading an image
+/// never gives one.
 pub fn open_pool<P: Pmem>(sizes: &Sizes, words: &[i64], dev: &mut P) -> Result<(), StartFault>
-    ensures done { OnOk result (PlaysAll (blanked (sizes_of.pool_lines sizes.now) (P.device dev.old)) (opening_events (sizes_of.pool_lines sizes.now) words.now) (P.device dev.new)) }
+    ensures done { OnOk result (PlaysAll
+        (blanked (sizes_of.pool_lines sizes.now) (P.device dev.old))
+        (opening_events (sizes_of.pool_lines sizes.now) words.now) (P.device dev.new)) }
     ensures lines { OnOk result ((P.device dev.new).lines ≡ sizes_of.pool_lines sizes.now) }
-    ensures failed { IsErrOf result StartFault.Failed → Rose (P.device dev.old).faults (P.device dev.new).faults }
+    ensures refused { IfErr result (λ why. IsUnmade why (sizes_of.pool_lines sizes.now)
+        (opening_events (sizes_of.pool_lines sizes.now) words.now) (P.device dev.old)
+        (P.device dev.new)) }
+    ensures failed { IsErrOf result StartFault.Failed
+        → FaultsRose (P.device dev.old).faults (P.device dev.new).faults }
 {
     let lines = pool_lines(sizes);
     if words.len() as u64 != 8 * lines {
@@ -128,7 +148,7 @@ pub fn open_pool<P: Pmem>(sizes: &Sizes, words: &[i64], dev: &mut P) -> Result<(
         Ok(()) => Ok(()),
         Err(Refusal::NoMemory) => Err(StartFault::NoMemory),
         Err(Refusal::Failed) => Err(StartFault::Failed),
-        // It never comes: the device was switched on.
+        // This never happens: the device was switched on.
         Err(Refusal::Off) => Err(StartFault::Failed),
     }
 }

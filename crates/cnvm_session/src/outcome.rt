@@ -1,4 +1,4 @@
-//! What the answer of a call or of a recovery makes of a session.
+//! How the answer of a call or of a recovery leaves a session.
 
 ghost use Rattle.std.specs.Prelude.{◌≡◌};
 ghost use Rattle.cnvm_session.specs.Outcomes.{answer_of_call, mode_of_call, answer_of_recovery, mode_of_recovery};
@@ -8,12 +8,12 @@ use crate::mode::Mode;
 use recovery::RecoverAnswer;
 use tx_run::CallAnswer;
 
-/// What a command answers behind a call.
+/// What a command answers after a call.
 #[tactic(auto, using(std::proofs::lemmas::Int::wraps))]
-pub fn answer_of_call(behind: CallAnswer) -> Answer
-    ensures { result ≡ answer_of_call behind }
+pub fn answer_of_call(tx_answer: CallAnswer) -> Answer
+    ensures { result ≡ answer_of_call tx_answer }
 {
-    match behind {
+    match tx_answer {
         CallAnswer::Done { value, logged } => Answer::Done { value, logged },
         CallAnswer::Trap(kind) => Answer::Trap(kind),
         CallAnswer::Off(phase) => Answer::Stopped(phase),
@@ -24,11 +24,11 @@ pub fn answer_of_call(behind: CallAnswer) -> Answer
     }
 }
 
-/// A session that was ready, behind a call.
-pub fn mode_of_call(behind: CallAnswer) -> Mode
-    ensures { result ≡ mode_of_call behind }
+/// The mode after a call of a session that was ready.
+pub fn mode_of_call(tx_answer: CallAnswer) -> Mode
+    ensures { result ≡ mode_of_call tx_answer }
 {
-    match behind {
+    match tx_answer {
         CallAnswer::Done { .. } | CallAnswer::Numbers => Mode::Ready,
         CallAnswer::Trap(kind) => Mode::Unusable(kind),
         CallAnswer::Unusable(kind) => Mode::Unusable(kind),
@@ -36,12 +36,12 @@ pub fn mode_of_call(behind: CallAnswer) -> Mode
     }
 }
 
-/// What a command answers behind a recovery.
+/// What a command answers after a recovery.
 #[tactic(auto, using(std::proofs::lemmas::Int::wraps))]
-pub fn answer_of_recovery(behind: RecoverAnswer) -> Answer
-    ensures { result ≡ answer_of_recovery behind }
+pub fn answer_of_recovery(tx_answer: RecoverAnswer) -> Answer
+    ensures { result ≡ answer_of_recovery tx_answer }
 {
-    match behind {
+    match tx_answer {
         RecoverAnswer::Clean => Answer::RecoveredNone,
         RecoverAnswer::Redone { value, logged } => Answer::RecoveredRedone { value, logged },
         RecoverAnswer::Trap(kind) => Answer::RecoveredTrap(kind),
@@ -53,11 +53,11 @@ pub fn answer_of_recovery(behind: RecoverAnswer) -> Answer
     }
 }
 
-/// The session behind a recovery.
-pub fn mode_of_recovery(behind: RecoverAnswer) -> Mode
-    ensures { result ≡ mode_of_recovery behind }
+/// The mode after a recovery.
+pub fn mode_of_recovery(tx_answer: RecoverAnswer) -> Mode
+    ensures { result ≡ mode_of_recovery tx_answer }
 {
-    match behind {
+    match tx_answer {
         RecoverAnswer::Clean | RecoverAnswer::Redone { .. } => Mode::Ready,
         RecoverAnswer::Trap(kind) => Mode::Unusable(kind),
         RecoverAnswer::Unusable(kind) => Mode::Unusable(kind),

@@ -1,15 +1,18 @@
 //! A session: a pool of a program, and what each command does to it.
 
-ghost use Rattle.std.specs.Prelude.{ℕ, ◌≡◌, ◌+◌, ◌≤◌, ◌<◌, true, length, IfOk, IfNone, IsSome, OnOk, IsErrOf};
+ghost use Rattle.std.specs.Prelude.{ℕ, ◌≡◌, ◌+◌, ◌≤◌, ◌<◌, true, length, IfOk, IfErr, IfNone, IsSome, OnOk, OnErr, IsErrOf};
 ghost use Rattle.cache_model.specs.Cache.{view};
 ghost use Rattle.cache_model.specs.Collapse.{Rises};
-ghost use Rattle.pmem.specs.Device.{Rose, blanked};
+ghost use Rattle.pmem.specs.Device.{FaultsRose, blanked};
 ghost use Rattle.pmem.specs.Played.{PlaysAll};
+ghost use Rattle.pool_layout.specs.declared.places.TheConstants.{FUNCTION};
 ghost use Rattle.pool_layout.specs.Sizes.{pool_lines};
 ghost use Rattle.cnvm_session.specs.Created.{creation_events};
+ghost use Rattle.cnvm_session.specs.Opening.{opening_events};
+ghost use Rattle.cnvm_session.specs.Unmade.{IsUnmade};
 ghost use Rattle.c_types.specs.Shapes.{shapes_of};
 ghost use Rattle.cnvm_session.specs.Outcomes.{Runs, Recovers, Opens};
-ghost use Rattle.cnvm_session.specs.Commands.{Lasts, Shows, parameters_of, CallsTo, Calls, fallen, Powers, Commanded};
+ghost use Rattle.cnvm_session.specs.Commands.{Lasts, Shows, tx_parameters, CallsTo, Calls, fallen, Powers, Commanded};
 
 use crate::answer::Answer;
 use crate::creating::{StartFault, create_pool};
@@ -17,19 +20,21 @@ use crate::mode::Mode;
 use crate::opening::open_pool;
 use crate::outcome::{answer_of_call, answer_of_recovery, mode_of_call, mode_of_recovery};
 use crate::program::Program;
-use crate::showing::shown;
+use crate::showing::pool_text;
 use cache_model::{Choice, Pick};
 use cnvm_script::Command;
 use nvm_base::Steps;
 use pm_machine::Image;
 use pmem::{Pmem, PmemWork};
+use pool_layout::{DONE, LAST};
 use recovery::recover;
 use std::alloc::Global;
 use std::marker::Model;
 use std::sync::ledger::Ledger;
 use tx_run::call;
 
-/// A pool of a program and whether it takes calls, seen as that. The words are on the device.
+/// A pool of a program and whether it takes calls, seen as the latter. The pool's words are on the
+/// device.
 #[derive(Drop)]
 pub struct Session {
     mode: Mode,
@@ -43,14 +48,21 @@ impl Model for Session {
     ghost view = { λ s. s.mode };
 }
 
-/// A session over a new pool of the program: its root words are 0, its slots are free, and no
-/// transaction is finished. After a fault the events so far stand; where there was no memory for the
-/// lines, nothing has changed.
+/// Starts a session on a new pool of the program: its root words are 0, its slots are free, and no
+/// transaction is finished. After a fault the events before it stay done; if there was no memory
+/// for the lines, nothing has changed.
 pub fn create<P: Pmem>(program: &Program, dev: &mut P) -> Result<Session, StartFault>
     ensures ready { IfOk result (λ session. session ≡ Mode.Ready) }
-    ensures done { OnOk result (PlaysAll (blanked (pool_lines program.now.image.parts.sizes) (P.device dev.old)) (creation_events program.now.image.parts.sizes program.now.digest) (P.device dev.new)) }
-    ensures lines { OnOk result ((P.device dev.new).lines ≡ pool_lines program.now.image.parts.sizes) }
-    ensures failed { IsErrOf result StartFault.Failed → Rose (P.device dev.old).faults (P.device dev.new).faults }
+    ensures done { OnOk result (PlaysAll
+        (blanked (pool_lines program.now.image.parts.sizes) (P.device dev.old))
+        (creation_events program.now.image.parts.sizes program.now.digest) (P.device dev.new)) }
+    ensures lines { OnOk result ((P.device dev.new).lines
+        ≡ pool_lines program.now.image.parts.sizes) }
+    ensures refused { IfErr result (λ why. IsUnmade why (pool_lines program.now.image.parts.sizes)
+        (creation_events program.now.image.parts.sizes program.now.digest) (P.device dev.old)
+        (P.device dev.new)) }
+    ensures failed { IsErrOf result StartFault.Failed
+        → FaultsRose (P.device dev.old).faults (P.device dev.new).faults }
 {
     match create_pool(program.image.sizes(), &program.digest, dev) {
         Ok(()) => Ok(Session { mode: Mode::Ready }),
@@ -58,9 +70,9 @@ pub fn create<P: Pmem>(program: &Program, dev: &mut P) -> Result<Session, StartF
     }
 }
 
-/// A session over the pool that an image's words are, and the answer of the recovery that opens it.
-/// After a fault the events so far stand; where there was no memory for the lines, nothing has
-/// changed.
+/// Starts a session on the pool of an image's words, and gives the answer of the recovery that
+/// opens it. After a fault the events before it stay done; if there was no memory for the lines,
+/// nothing has changed.
 pub fn start_from<P: Pmem, L: Ledger>(
     alloc: Global,
     program: &Program,
@@ -68,10 +80,18 @@ pub fn start_from<P: Pmem, L: Ledger>(
     dev: &mut P,
     steps: &mut Steps<L>,
 ) -> Result<(Session, Answer), StartFault>
-    ensures opens { IfOk result (λ r. Opens program.now.image words.now (P.device dev.old) r.1 r.0 (P.device dev.new) steps.old steps.new) }
-    ensures most { OnOk result (steps.new ≤ steps.old + program.now.image.parts.sizes.records + program.now.image.parts.most) }
-    ensures lines { OnOk result ((P.device dev.new).lines ≡ pool_lines program.now.image.parts.sizes) }
-    ensures failed { IsErrOf result StartFault.Failed → Rose (P.device dev.old).faults (P.device dev.new).faults }
+    ensures opens { IfOk result (λ r. Opens program.now.image words.now (P.device dev.old) r.1 r.0
+        (P.device dev.new) steps.old steps.new) }
+    ensures most { OnOk result (steps.new ≤ steps.old + program.now.image.parts.sizes.records
+        + program.now.image.parts.most) }
+    ensures lines { OnOk result ((P.device dev.new).lines
+        ≡ pool_lines program.now.image.parts.sizes) }
+    ensures refused { IfErr result (λ why. IsUnmade why (pool_lines program.now.image.parts.sizes)
+        (opening_events (pool_lines program.now.image.parts.sizes) words.now) (P.device dev.old)
+        (P.device dev.new)) }
+    ensures unstepped { OnErr result (steps.new ≡ steps.old) }
+    ensures failed { IsErrOf result StartFault.Failed
+        → FaultsRose (P.device dev.old).faults (P.device dev.new).faults }
 {
     match open_pool(program.image.sizes(), words, dev) {
         Err(fault) => Err(fault),
@@ -84,8 +104,8 @@ pub fn start_from<P: Pmem, L: Ledger>(
 }
 
 /// How many parameters a transaction of the image has, for any number.
-fn parameters(image: &Image, tx: u64) -> Option<u64>
-    ensures value { result ≡ parameters_of image.now tx }
+pub fn parameters(image: &Image, tx: u64) -> Option<u64>
+    ensures value { result ≡ tx_parameters image.now tx }
     ensures first { IsSome result → 1 ≤ tx }
     ensures last { IsSome result → tx ≤ length image.now.parts.txs }
 {
@@ -97,7 +117,7 @@ fn parameters(image: &Image, tx: u64) -> Option<u64>
 }
 
 /// The line of the first pick whose line isn't above that of the pick before it.
-fn first_fallen(picks: &[Pick]) -> Option<u64>
+pub fn first_fallen(picks: &[Pick]) -> Option<u64>
     ensures value { result ≡ fallen 0 picks.now }
     ensures none { IfNone result (Rises picks.now) }
 {
@@ -112,9 +132,9 @@ fn first_fallen(picks: &[Pick]) -> Option<u64>
 }
 
 impl Session {
-    /// What a command of the script does, and its answer. A choice whose picks don't rise, which no
-    /// script gives, is refused with the first pick that doesn't. A transaction that the image hasn't
-    /// is unknown.
+    /// Does a command of the script, and gives its answer. A choice whose picks don't rise is
+    /// refused with the first pick that doesn't; no script gives one. A transaction that the image
+    /// doesn't have is unknown.
     pub fn command<P: Pmem, L: Ledger>(
         &mut self,
         alloc: Global,
@@ -124,10 +144,13 @@ impl Session {
         steps: &mut Steps<L>,
     ) -> Answer
         requires lines { (P.device dev.old).lines ≡ pool_lines program.now.image.parts.sizes }
-        ensures does { Commanded program.now command.now self.old (P.device dev.old) result self.new (P.device dev.new) steps.old steps.new }
+        ensures does { Commanded program.now command.now self.old (P.device dev.old) result self.new
+            (P.device dev.new) steps.old steps.new }
         ensures count { (P.device dev.old).faults ≤ (P.device dev.new).faults }
-        ensures fault { result ≡ Answer.DeviceFault → Rose (P.device dev.old).faults (P.device dev.new).faults }
-        ensures most { steps.new ≤ steps.old + program.now.image.parts.sizes.records + program.now.image.parts.most }
+        ensures fault { result ≡ Answer.DeviceFault
+            → FaultsRose (P.device dev.old).faults (P.device dev.new).faults }
+        ensures most { steps.new ≤ steps.old + program.now.image.parts.sizes.records
+            + program.now.image.parts.most }
         ensures lines { (P.device dev.new).lines ≡ (P.device dev.old).lines }
     {
         match command {
@@ -148,7 +171,7 @@ impl Session {
         }
     }
 
-    /// A call of the transaction of that name.
+    /// Calls the transaction of that name.
     fn call<P: PmemWork, L: Ledger>(
         &mut self,
         alloc: Global,
@@ -159,9 +182,11 @@ impl Session {
         steps: &mut Steps<L>,
     ) -> Answer
         requires lines { (P.device dev.old).lines ≡ pool_lines program.now.image.parts.sizes }
-        ensures calls { Calls program.now name.now args.now self.old (P.device dev.old) result self.new (P.device dev.new) steps.old steps.new }
+        ensures calls { Calls program.now name.now args.now self.old (P.device dev.old) result
+            self.new (P.device dev.new) steps.old steps.new }
         ensures count { (P.device dev.old).faults ≤ (P.device dev.new).faults }
-        ensures fault { result ≡ Answer.DeviceFault → Rose (P.device dev.old).faults (P.device dev.new).faults }
+        ensures fault { result ≡ Answer.DeviceFault
+            → FaultsRose (P.device dev.old).faults (P.device dev.new).faults }
         ensures most { steps.new ≤ steps.old + program.now.image.parts.most }
         ensures lines { (P.device dev.new).lines ≡ (P.device dev.old).lines }
     {
@@ -175,7 +200,7 @@ impl Session {
         }
     }
 
-    /// A call of a transaction by its number, in a session that is ready.
+    /// Calls a transaction by its number, in a session that is ready.
     fn call_to<P: PmemWork, L: Ledger>(
         &mut self,
         alloc: Global,
@@ -187,9 +212,11 @@ impl Session {
     ) -> Answer
         requires ready { self.old ≡ Mode.Ready }
         requires lines { (P.device dev.old).lines ≡ pool_lines image.now.parts.sizes }
-        ensures calls { CallsTo (parameters_of image.now tx) image.now tx args.now (P.device dev.old) result self.new (P.device dev.new) steps.old steps.new }
+        ensures calls { CallsTo (tx_parameters image.now tx) image.now tx args.now
+            (P.device dev.old) result self.new (P.device dev.new) steps.old steps.new }
         ensures count { (P.device dev.old).faults ≤ (P.device dev.new).faults }
-        ensures fault { result ≡ Answer.DeviceFault → Rose (P.device dev.old).faults (P.device dev.new).faults }
+        ensures fault { result ≡ Answer.DeviceFault
+            → FaultsRose (P.device dev.old).faults (P.device dev.new).faults }
         ensures most { steps.new ≤ steps.old + image.now.parts.most }
         ensures lines { (P.device dev.new).lines ≡ (P.device dev.old).lines }
     {
@@ -202,7 +229,7 @@ impl Session {
         self.run(alloc, image, tx, args, dev, steps)
     }
 
-    /// A call that is accepted.
+    /// Runs a call that is accepted.
     fn run<P: PmemWork, L: Ledger>(
         &mut self,
         alloc: Global,
@@ -216,18 +243,20 @@ impl Session {
         requires first { 1 ≤ tx }
         requires last { tx ≤ length image.now.parts.txs }
         requires lines { (P.device dev.old).lines ≡ pool_lines image.now.parts.sizes }
-        ensures runs { Runs image.now tx args.now (P.device dev.old) result self.new (P.device dev.new) steps.old steps.new }
+        ensures runs { Runs image.now tx args.now (P.device dev.old) result self.new
+            (P.device dev.new) steps.old steps.new }
         ensures count { (P.device dev.old).faults ≤ (P.device dev.new).faults }
-        ensures fault { result ≡ Answer.DeviceFault → Rose (P.device dev.old).faults (P.device dev.new).faults }
+        ensures fault { result ≡ Answer.DeviceFault
+            → FaultsRose (P.device dev.old).faults (P.device dev.new).faults }
         ensures most { steps.new ≤ steps.old + image.now.parts.most }
         ensures lines { (P.device dev.new).lines ≡ (P.device dev.old).lines }
     {
-        let behind = call(alloc, image, tx, args, dev, steps);
-        self.mode = mode_of_call(behind);
-        answer_of_call(behind)
+        let tx_answer = call(alloc, image, tx, args, dev, steps);
+        self.mode = mode_of_call(tx_answer);
+        answer_of_call(tx_answer)
     }
 
-    /// A power cut, and the recovery of what it leaves.
+    /// Cuts the power, and recovers what the cut leaves.
     fn power<P: Pmem, L: Ledger>(
         &mut self,
         alloc: Global,
@@ -237,10 +266,13 @@ impl Session {
         steps: &mut Steps<L>,
     ) -> Answer
         requires lines { (P.device dev.old).lines ≡ pool_lines program.now.image.parts.sizes }
-        ensures powers { Powers program.now.image choice.now self.old (P.device dev.old) result self.new (P.device dev.new) steps.old steps.new }
+        ensures powers { Powers program.now.image choice.now self.old (P.device dev.old) result
+            self.new (P.device dev.new) steps.old steps.new }
         ensures count { (P.device dev.old).faults ≤ (P.device dev.new).faults }
-        ensures fault { result ≡ Answer.DeviceFault → Rose (P.device dev.old).faults (P.device dev.new).faults }
-        ensures most { steps.new ≤ steps.old + program.now.image.parts.sizes.records + program.now.image.parts.most }
+        ensures fault { result ≡ Answer.DeviceFault
+            → FaultsRose (P.device dev.old).faults (P.device dev.new).faults }
+        ensures most { steps.new ≤ steps.old + program.now.image.parts.sizes.records
+            + program.now.image.parts.most }
         ensures lines { (P.device dev.new).lines ≡ (P.device dev.old).lines }
     {
         if let Some(line) = first_fallen(choice.picks.as_slice()) {
@@ -252,7 +284,7 @@ impl Session {
         }
     }
 
-    /// The recovery of what a power cut left.
+    /// Recovers what a power cut left.
     fn recover<P: PmemWork, L: Ledger>(
         &mut self,
         alloc: Global,
@@ -261,27 +293,31 @@ impl Session {
         steps: &mut Steps<L>,
     ) -> Answer
         requires lines { (P.device dev.old).lines ≡ pool_lines image.now.parts.sizes }
-        ensures recovers { Recovers image.now (P.device dev.old) result self.new (P.device dev.new) steps.old steps.new }
+        ensures recovers { Recovers image.now (P.device dev.old) result self.new (P.device dev.new)
+            steps.old steps.new }
         ensures count { (P.device dev.old).faults ≤ (P.device dev.new).faults }
-        ensures fault { result ≡ Answer.DeviceFault → Rose (P.device dev.old).faults (P.device dev.new).faults }
-        ensures most { steps.new ≤ steps.old + image.now.parts.sizes.records + image.now.parts.most }
+        ensures fault { result ≡ Answer.DeviceFault
+            → FaultsRose (P.device dev.old).faults (P.device dev.new).faults }
+        ensures most { steps.new ≤ steps.old + image.now.parts.sizes.records
+            + image.now.parts.most }
         ensures lines { (P.device dev.new).lines ≡ (P.device dev.old).lines }
     {
-        let behind = recover(alloc, image, dev, steps);
-        self.mode = mode_of_recovery(behind);
-        answer_of_recovery(behind)
+        let tx_answer = recover(alloc, image, dev, steps);
+        self.mode = mode_of_recovery(tx_answer);
+        answer_of_recovery(tx_answer)
     }
 
     /// The lines of the pool.
     fn show<P: PmemWork>(&mut self, alloc: Global, program: &Program, dev: &P) -> Answer
         requires lines { (P.device dev.now).lines ≡ pool_lines program.now.image.parts.sizes }
         ensures fault { result ≡ Answer.DeviceFault → ⊥ }
-        ensures shows { (k : ℕ) → Shows (shapes_of program.now.typed) program.now.image.parts.sizes self.old (P.device dev.now) result self.new (P.device dev.now) k k }
+        ensures shows { (k : ℕ) → Shows (shapes_of program.now.typed) program.now.image.parts.sizes
+            self.old (P.device dev.now) result self.new (P.device dev.now) k k }
     {
         match self.mode {
             Mode::Down => Answer::RefusedDown,
             Mode::Unusable(kind) => Answer::RefusedUnusable(kind),
-            Mode::Ready => match shown(alloc, program.image.sizes(), dev, program.typed.shapes()) {
+            Mode::Ready => match pool_text(alloc, program, dev) {
                 Ok(text) => Answer::Shown(text),
                 Err(_) => {
                     self.mode = Mode::Down;
@@ -295,14 +331,15 @@ impl Session {
     fn last<P: PmemWork>(&self, dev: &P) -> Answer
         requires lines { 6 ≤ (P.device dev.now).lines }
         ensures fault { result ≡ Answer.DeviceFault → ⊥ }
-        ensures lasts { (k : ℕ) → Lasts self.now (P.device dev.now) result self.now (P.device dev.now) k k }
+        ensures lasts { (k : ℕ) → Lasts self.now (P.device dev.now) result self.now
+            (P.device dev.now) k k }
     {
         match self.mode {
             Mode::Down => Answer::RefusedDown,
             Mode::Unusable(kind) => Answer::RefusedUnusable(kind),
             Mode::Ready => {
-                let done = word(dev, 17);
-                let value = word(dev, 16);
+                let done = word(dev, DONE);
+                let value = word(dev, LAST);
                 Answer::Last { done, value }
             }
         }
@@ -311,7 +348,7 @@ impl Session {
 
 /// A word of line 2, and 0 while the device is off.
 fn word<P: PmemWork>(dev: &P, place: u64) -> i64
-    requires place { place < 24 }
+    requires place { place < FUNCTION }
     requires lines { 6 ≤ (P.device dev.now).lines }
     ensures { (P.device dev.now).on ≡ true → result ≡ view (P.device dev.now).cache place }
 {

@@ -3,10 +3,12 @@
 ghost use Rattle.std.specs.Prelude.{◌≡◌, ◌+◌, ◌++◌, ◌^◌, ◌<◌, ◌≤◌, Some, IfOk, OnOk, IfSome, IfNone, true, option_map};
 ghost use Rattle.cache_model.specs.Cache.{view};
 ghost use Rattle.pool_layout.specs.Sizes.{pool_lines};
+ghost use Rattle.c_types.specs.Shapes.{shapes_of};
 ghost use Rattle.pool_map.specs.PoolFits.{words_of, struct_at, PoolFits};
 ghost use Rattle.pool_map.specs.PoolText.{pool_text};
 ghost use Rattle.cnvm_session.specs.Shown.{heap_of, words_from, kind_in, object_with, object_in, objects_from, pool_in};
 
+use crate::program::Program;
 use nvm_base::{Text, Words};
 use pmem::PmemWork;
 use pool_layout::{Sizes, heap_start, heap_words, slot_word};
@@ -16,7 +18,8 @@ use std::alloc::{AllocError, Global};
 /// A heap word; 0 past the heap's end, and while the device is off.
 fn heap_word<P: PmemWork>(sizes: &Sizes, dev: &P, w: u64) -> i64
     requires lines { (P.device dev.now).lines ≡ pool_lines sizes.now }
-    ensures { (P.device dev.now).on ≡ true → result ≡ heap_of sizes.now (view (P.device dev.now).cache) w }
+    ensures { (P.device dev.now).on ≡ true
+        → result ≡ heap_of sizes.now (view (P.device dev.now).cache) w }
 {
     if w >= heap_words(sizes) {
         return 0;
@@ -27,7 +30,7 @@ fn heap_word<P: PmemWork>(sizes: &Sizes, dev: &P, w: u64) -> i64
     }
 }
 
-/// So many heap words, from word `first` on.
+/// The given number of heap words, from word `first` on.
 fn heap_slice<P: PmemWork>(
     alloc: Global,
     sizes: &Sizes,
@@ -38,7 +41,9 @@ fn heap_slice<P: PmemWork>(
     requires first { first < 2 ^ 32 }
     requires count { count < 2 ^ 32 }
     requires lines { (P.device dev.now).lines ≡ pool_lines sizes.now }
-    ensures { (P.device dev.now).on ≡ true → IfOk result (λ all. all ≡ words_from (heap_of sizes.now (view (P.device dev.now).cache)) first count) }
+    ensures { (P.device dev.now).on ≡ true
+        → IfOk result (λ all. all ≡ words_from (heap_of sizes.now (view (P.device dev.now).cache))
+        first count) }
 {
     let mut all = Words::new(alloc);
     for k in 0..count {
@@ -47,7 +52,7 @@ fn heap_slice<P: PmemWork>(
     Ok(all)
 }
 
-/// How many words fields have, where these are at most 15.
+/// How many words these fields have, if there are at most 15.
 fn few_words(fields: &[FieldShape]) -> Option<u64>
     ensures some { IfSome result (λ n. n ≡ words_of fields.now) }
     ensures few { IfSome result (λ n. n ≤ 15) }
@@ -64,7 +69,7 @@ fn few_words(fields: &[FieldShape]) -> Option<u64>
     Some(all)
 }
 
-/// A header as a struct's number, where it may be one.
+/// The struct number in a header, if it may be one.
 #[tactic(auto, using(std::proofs::lemmas::Int::wraps))]
 fn kind_in(header: i64) -> Option<u32>
     ensures { result ≡ kind_in header }
@@ -96,7 +101,9 @@ fn object_with<P: PmemWork>(
 ) -> Result<Option<Object>, AllocError>
     requires start { start < 2 ^ 31 }
     requires lines { (P.device dev.now).lines ≡ pool_lines sizes.now }
-    ensures { (P.device dev.now).on ≡ true → IfOk result (λ o. o ≡ object_with (heap_of sizes.now (view (P.device dev.now).cache)) start kind (Some shape.now)) }
+    ensures { (P.device dev.now).on ≡ true
+        → IfOk result (λ o. o ≡ object_with (heap_of sizes.now (view (P.device dev.now).cache))
+        start kind (Some shape.now)) }
 {
     match few_words(shape.fields.as_slice()) {
         None => Ok(None),
@@ -117,7 +124,9 @@ fn object_in<P: PmemWork>(
 ) -> Result<Option<Object>, AllocError>
     requires start { start < 2 ^ 31 }
     requires lines { (P.device dev.now).lines ≡ pool_lines sizes.now }
-    ensures { (P.device dev.now).on ≡ true → IfOk result (λ o. o ≡ object_in structs.now (heap_of sizes.now (view (P.device dev.now).cache)) start) }
+    ensures { (P.device dev.now).on ≡ true
+        → IfOk result (λ o. o ≡ object_in structs.now
+        (heap_of sizes.now (view (P.device dev.now).cache)) start) }
 {
     let Some(kind) = kind_in(heap_word(sizes, dev, start)) else {
         return Ok(None);
@@ -128,7 +137,7 @@ fn object_in<P: PmemWork>(
     }
 }
 
-/// Puts the objects of all slots behind a pool's root.
+/// Appends the objects of all slots to a pool.
 fn push_objects<P: PmemWork>(
     alloc: Global,
     sizes: &Sizes,
@@ -137,7 +146,14 @@ fn push_objects<P: PmemWork>(
     pool: &mut Pool,
 ) -> Result<(), AllocError>
     requires lines { (P.device dev.now).lines ≡ pool_lines sizes.now }
-    ensures { (P.device dev.now).on ≡ true → OnOk result (pool.new ≡ record { root = pool.old.root; slots = pool.old.slots ++ objects_from sizes.now structs.now (heap_of sizes.now (view (P.device dev.now).cache)) 1 sizes.now.slots }) }
+    ensures { (P.device dev.now).on ≡ true
+        → OnOk result (pool.new ≡ record {
+          root = pool.old.root;
+          slots = pool.old.slots
+              ++ objects_from sizes.now structs.now
+              (heap_of sizes.now (view (P.device dev.now).cache)) 1
+              sizes.now.slots;
+        }) }
 {
     for k in 0..sizes.slots() {
         let object = object_in(alloc, sizes, dev, structs, slot_word(sizes, k + 1))?;
@@ -154,7 +170,9 @@ fn pool_in<P: PmemWork>(
     shapes: &Shapes,
 ) -> Result<Pool, AllocError>
     requires lines { (P.device dev.now).lines ≡ pool_lines sizes.now }
-    ensures { (P.device dev.now).on ≡ true → IfOk result (λ pool. pool ≡ pool_in shapes.now sizes.now (heap_of sizes.now (view (P.device dev.now).cache))) }
+    ensures { (P.device dev.now).on ≡ true
+        → IfOk result (λ pool. pool ≡ pool_in shapes.now sizes.now
+        (heap_of sizes.now (view (P.device dev.now).cache))) }
 {
     let root = heap_slice(alloc, sizes, dev, 0, sizes.root_words())?;
     let mut pool = Pool::of_root(alloc, root);
@@ -162,16 +180,20 @@ fn pool_in<P: PmemWork>(
     Ok(pool)
 }
 
-/// The text of the pool that a device holds. Where its root isn't as large as the shapes say, it is
-/// empty.
-pub fn shown<P: PmemWork>(
+/// The text of the pool that a device holds. If its root isn't as large as the shapes say, the text
+/// is empty.
+fn shown<P: PmemWork>(
     alloc: Global,
     sizes: &Sizes,
     dev: &P,
     shapes: &Shapes,
 ) -> Result<Text, AllocError>
     requires lines { (P.device dev.now).lines ≡ pool_lines sizes.now }
-    ensures { (P.device dev.now).on ≡ true → PoolFits shapes.now (pool_in shapes.now sizes.now (heap_of sizes.now (view (P.device dev.now).cache))) → IfOk result (λ text. text ≡ pool_text shapes.now (pool_in shapes.now sizes.now (heap_of sizes.now (view (P.device dev.now).cache)))) }
+    ensures { (P.device dev.now).on ≡ true
+        → PoolFits shapes.now (pool_in shapes.now sizes.now
+        (heap_of sizes.now (view (P.device dev.now).cache)))
+        → IfOk result (λ text. text ≡ pool_text shapes.now
+        (pool_in shapes.now sizes.now (heap_of sizes.now (view (P.device dev.now).cache)))) }
 {
     let pool = pool_in(alloc, sizes, dev, shapes)?;
     if fits(shapes, &pool) {
@@ -179,4 +201,19 @@ pub fn shown<P: PmemWork>(
     } else {
         Ok(Text::new(alloc))
     }
+}
+
+/// The text of the pool that a device holds, under the program's shapes. The device is on and holds
+/// a pool of the program's sizes whose headers are valid; elsewhere nothing is said of the text.
+pub fn pool_text<P: PmemWork>(alloc: Global, program: &Program, dev: &P) -> Result<Text, AllocError>
+    requires lines { (P.device dev.now).lines ≡ pool_lines program.now.image.parts.sizes }
+    ensures { (P.device dev.now).on ≡ true
+        → PoolFits (shapes_of program.now.typed)
+        (pool_in (shapes_of program.now.typed) program.now.image.parts.sizes
+        (heap_of program.now.image.parts.sizes (view (P.device dev.now).cache)))
+        → IfOk result (λ text. text ≡ pool_text (shapes_of program.now.typed)
+        (pool_in (shapes_of program.now.typed) program.now.image.parts.sizes
+        (heap_of program.now.image.parts.sizes (view (P.device dev.now).cache)))) }
+{
+    shown(alloc, program.image.sizes(), dev, program.typed.shapes())
 }

@@ -56,7 +56,7 @@ fn text_of(alloc: Global, line: &str) -> Result<Text, AllocError>
     Ok(text)
 }
 
-/// A head and a name.
+/// The head, followed by the name.
 fn name_text(alloc: Global, head: &str, name: &str) -> Result<Text, AllocError>
     ensures { IfOk result (λ text. text ≡ head.now ++ (name.now ++ codes "\n")) }
 {
@@ -66,16 +66,20 @@ fn name_text(alloc: Global, head: &str, name: &str) -> Result<Text, AllocError>
     Ok(text)
 }
 
-/// A head, a value and the number of log records.
+/// The head, followed by a value and the number of log records.
 fn number_text(alloc: Global, head: &str, value: i64, logged: u64) -> Result<Text, AllocError>
-    ensures { IfOk result (λ text. text ≡ head.now ++ (signed_decimal value ++ (codes " log " ++ (decimal logged ++ codes "\n")))) }
+    ensures { IfOk result (λ text.
+        text ≡ head.now ++ (signed_decimal value
+        ++ (codes " log " ++ (decimal logged ++ codes "\n")))) }
 {
     let line = format!(in alloc; "{head}{value} log {logged}\n")?;
     text_of(alloc, line.as_str())
 }
 
 fn last_text(alloc: Global, done: i64, value: i64) -> Result<Text, AllocError>
-    ensures { IfOk result (λ text. text ≡ codes "last " ++ (signed_decimal done ++ (codes " " ++ (signed_decimal value ++ codes "\n")))) }
+    ensures { IfOk result (λ text.
+        text ≡ codes "last " ++ (signed_decimal done
+        ++ (codes " " ++ (signed_decimal value ++ codes "\n")))) }
 {
     let line = format!(in alloc; "last {done} {value}\n")?;
     text_of(alloc, line.as_str())

@@ -1,4 +1,4 @@
-//! A sink that takes one byte a write.
+//! A sink that takes one byte per write.
 
 ghost use Rattle.std.specs.Prelude.{◌≡◌, ◌<◌, ◌≤◌, Some, length, take};
 ghost use Rattle.std.specs.Io.KnownBytes.{Appends, Keeps};
@@ -8,7 +8,7 @@ ghost use Rattle.nvm_base.specs.Rose.{Rose};
 use nvm_base::{Sink, WriteAnswer};
 use std::alloc::Global;
 
-/// A sink that takes one byte a write, and fails one of its writes, numbered from 0.
+/// A sink that takes one byte per write, and fails one of its writes; writes are numbered from 0.
 #[derive(Drop)]
 pub(crate) struct ByteSink {
     bytes: Vec<u8>,
@@ -18,7 +18,7 @@ pub(crate) struct ByteSink {
 }
 
 impl ByteSink {
-    /// An empty sink that fails the write of that number.
+    /// An empty sink that fails the write with this number.
     pub(crate) fn new(alloc: Global, fail: u64) -> Self {
         ByteSink {
             bytes: Vec::new(alloc),
@@ -43,8 +43,11 @@ impl Sink for ByteSink {
         requires { 0 < length piece.now }
         ensures some { IfWritten result (λ n. 0 < n) }
         ensures within { IfWritten result (λ n. n ≤ length piece.now) }
-        ensures bytes { IfWritten result (λ n. Appends (Some self.old.bytes.items) (Some self.new.bytes.items) (take n piece.now)) }
-        ensures kept { OnWriteFailed result (Keeps (Some self.old.bytes.items) (Some self.new.bytes.items)) }
+        ensures bytes { IfWritten result
+            (λ n. Appends (Some self.old.bytes.items) (Some self.new.bytes.items)
+            (take n piece.now)) }
+        ensures kept { OnWriteFailed result
+            (Keeps (Some self.old.bytes.items) (Some self.new.bytes.items)) }
         ensures failed { OnWriteFailed result (Rose self.old.faults self.new.faults) }
         ensures count { self.old.faults ≤ self.new.faults }
     {

@@ -23,7 +23,7 @@ enum Port {
     ImageOut,
 }
 
-/// The read or write of that number fails at the port.
+/// The failure of the port's read or write with this number.
 fn fails_at(port: Port, at: u64) -> Fails {
     let mut fails = NONE;
     match port {
@@ -36,7 +36,7 @@ fn fails_at(port: Port, at: u64) -> Fails {
     fails
 }
 
-/// How a run ends where the port fails.
+/// How a run ends if the port fails.
 fn status_of(port: Port) -> Status {
     match port {
         Port::Program | Port::Script | Port::ImageIn => Status::ReadFault,
@@ -45,11 +45,11 @@ fn status_of(port: Port) -> Status {
 }
 
 /// A port, the number of its read or write that fails, and how many bytes of the output and of the
-/// image are written.
+/// image are then written.
 type Row = (Port, u64, usize, usize);
 
-/// A call on a new pool that is saved. The program has 117 bytes, the script 11, the output 10, the
-/// image 640; a source's last read finds its end.
+/// A call on a new pool that is saved. The program has 117 bytes, the script 11, the output 10 and
+/// the image 640; a source's last read finds its end.
 const SAVED: [Row; 12] = [
     (Port::Program, 0, 0, 0),
     (Port::Program, 1, 0, 0),
@@ -91,12 +91,13 @@ struct Whole<'a> {
     saved: &'a [u8],
 }
 
-/// Whether these are so many bytes, and the first of the whole.
+/// Whether the bytes have this length and are the first ones of the whole.
 fn is_front(bytes: &[u8], count: usize, whole: &[u8]) -> bool {
     bytes.len() == count && whole.starts_with(bytes)
 }
 
-/// Whether a run with these failures ends so, with the first bytes of what it writes as a whole.
+/// Whether a run with these failures ends as the row says, with the first bytes of what a run
+/// without failures writes.
 fn ends<L: Ledger>(
     alloc: Global,
     whole: Whole,
@@ -125,7 +126,7 @@ fn ends<L: Ledger>(
     )
 }
 
-/// The first row that ends otherwise.
+/// The first row whose run ends differently.
 fn wrong_row<L: Ledger>(
     alloc: Global,
     whole: Whole,
@@ -142,7 +143,8 @@ fn wrong_row<L: Ledger>(
     Ok(None)
 }
 
-/// A run that saves: whether it does where nothing fails, and the first row that ends otherwise.
+/// A run that saves its pool: whether it ends well if nothing fails, and the first row that ends
+/// differently.
 fn saves<L: Ledger>(
     alloc: Global,
     steps: &mut Steps<L>,
@@ -159,7 +161,7 @@ fn saves<L: Ledger>(
     Ok((done, wrong_row(alloc, whole, &SAVED, steps)?))
 }
 
-/// The same of a run that opens.
+/// The same for a run that opens an image.
 fn opens<L: Ledger>(
     alloc: Global,
     steps: &mut Steps<L>,
@@ -176,10 +178,11 @@ fn opens<L: Ledger>(
     Ok((done, wrong_row(alloc, whole, &OPENED, steps)?))
 }
 
-/// What is shown of a run.
+/// What a run shows: whether it ends well if nothing fails, and the first row that ends
+/// differently.
 type Shown = (bool, Option<Row>);
 
-/// Both.
+/// Both runs.
 fn both<L: Ledger>(alloc: Global, blank: Blank) -> Result<(Shown, Shown), AllocError>
     requires name { blank.name ≡ L.name }
     requires parts { blank.parts ≡ L.parts }
@@ -198,7 +201,7 @@ fn each_port_may_fail(rt: HostRuntime) -> Result<(), Fail> {
     Ok(())
 }
 
-/// So many blanks.
+/// A text of this many blanks.
 fn blanks(alloc: Global, count: usize) -> Result<String, AllocError> {
     let mut text = String::new(alloc);
     for _ in 0..count {
@@ -207,8 +210,8 @@ fn blanks(alloc: Global, count: usize) -> Result<String, AllocError> {
     Ok(text)
 }
 
-/// How many blanks the program has, and how many the script, and how the run ends. A script of blanks
-/// stands beside the counter.
+/// How many blanks the program and the script have, how the run ends, and what it writes. A script
+/// of blanks goes with the counter's program.
 const LIMITS: [(usize, usize, Status, &str); 4] = [
     (262_144, 0, Status::Program, "program line 1 no root\n"),
     (262_145, 0, Status::Program, "program too long\n"),
@@ -216,7 +219,7 @@ const LIMITS: [(usize, usize, Status, &str); 4] = [
     (0, 1_048_577, Status::Script, "script too long\n"),
 ];
 
-/// So many blanks, or the counter for none.
+/// This many blanks, or the counter's program for none.
 fn program_text(alloc: Global, count: usize) -> Result<String, AllocError> {
     if 0 < count {
         return blanks(alloc, count);
@@ -226,7 +229,7 @@ fn program_text(alloc: Global, count: usize) -> Result<String, AllocError> {
     Ok(text)
 }
 
-/// The first of these runs that ends otherwise.
+/// The first of these runs that ends differently.
 fn wrong_limit<L: Ledger>(alloc: Global, blank: Blank) -> Result<Option<&'static str>, AllocError>
     requires name { blank.name ≡ L.name }
     requires parts { blank.parts ≡ L.parts }

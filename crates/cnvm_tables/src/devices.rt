@@ -1,4 +1,4 @@
-//! Devices that fail at one event, for each event.
+//! Devices that fail at one event, tried for each event.
 
 ghost use Rattle.std.specs.Prelude.{◌≡◌, ◌<◌};
 
@@ -12,8 +12,8 @@ use std::marker::Brand;
 use std::sync::ledger::{Blank, Ledger};
 use std::test::Fail;
 
-/// What stands before and behind the number of `fault`, the first number and the one past the last,
-/// and the answers.
+/// What comes before and after the number of `fault` in the script, the first number and the one
+/// past the last, and the answers.
 type Armed = (&'static str, &'static str, u64, u64, &'static str);
 
 const ARMED: [Armed; 8] = [
@@ -76,7 +76,7 @@ const ARMED: [Armed; 8] = [
     ),
 ];
 
-/// The first number of a row whose run ends otherwise than the row says.
+/// The first number of a row whose run ends differently from what the row says.
 fn wrong_armed<L: Ledger>(
     alloc: Global,
     row: Armed,
@@ -104,7 +104,7 @@ fn wrong_armed<L: Ledger>(
     Ok(None)
 }
 
-/// The first row that has such a number, with it.
+/// The first row with such a number, and the number.
 fn wrong_row<L: Ledger>(
     alloc: Global,
     blank: Blank,
@@ -128,7 +128,7 @@ fn faults_are_answered(rt: HostRuntime) -> Result<(), Fail> {
     Ok(())
 }
 
-/// The first event and the one past the last, and how a run ends whose device fails there.
+/// The first event and the one past the last, and how a run ends if its device fails there.
 type Failing = (u64, u64, Status, &'static str);
 
 /// Creation has 13 events and a call 20.
@@ -139,14 +139,15 @@ const CREATED: [Failing; 4] = [
     (53, 54, Status::Done, "= 5 log 1\n= 6 log 1\n"),
 ];
 
-/// An image with 15 words other than 0, in 6 lines, is written by 22 events, and its recovery has 19.
+/// An image with 15 words other than 0, in 6 lines, is written by 22 events, and its recovery has
+/// 19.
 const OPENED: [Failing; 3] = [
     (0, 22, Status::DeviceFault, ""),
     (22, 41, Status::Done, "device fault\nrefused down\n"),
     (41, 42, Status::Done, "recovered redone 5 log 1\nlast 1 5\n"),
 ];
 
-/// The first event of a row where the run ends otherwise than the row says.
+/// The first event of a row at which the run ends differently from what the row says.
 fn wrong_failing<L: Ledger>(
     alloc: Global,
     more: &[&str],
@@ -166,7 +167,7 @@ fn wrong_failing<L: Ledger>(
     Ok(None)
 }
 
-/// The first such event of a run that creates a pool.
+/// The first such event for a run that creates a pool.
 fn wrong_created<L: Ledger>(
     alloc: Global,
     steps: &mut Steps<L>,
@@ -180,7 +181,7 @@ fn wrong_created<L: Ledger>(
     Ok(None)
 }
 
-/// The first such event of a run that opens an image.
+/// The first such event for a run that opens an image.
 fn wrong_opened<L: Ledger>(alloc: Global, steps: &mut Steps<L>) -> Result<Option<u64>, AllocError> {
     let image = stopped_image(alloc)?;
     let more = ["--open", "Z"];
@@ -192,7 +193,7 @@ fn wrong_opened<L: Ledger>(alloc: Global, steps: &mut Steps<L>) -> Result<Option
     Ok(None)
 }
 
-/// Both.
+/// Both runs.
 fn wrong_events<L: Ledger>(
     alloc: Global,
     blank: Blank,

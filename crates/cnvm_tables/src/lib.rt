@@ -1,6 +1,6 @@
 //! Tables of runs in memory: devices that fail at each event, sources and sinks that fail at each
-//! byte, two devices beside each other, and an image in another's place. It stands on cnvm_cli and
-//! holds nothing but tests.
+//! byte, worked rows, two devices beside each other, and an image in another's place. It stands on
+//! cnvm_cli and holds nothing but tests.
 #![tactic(auto)]
 
 #[cfg(test)]
@@ -11,6 +11,8 @@ mod bytes;
 mod devices;
 #[cfg(test)]
 mod program;
+#[cfg(test)]
+mod rows;
 #[cfg(test)]
 mod runs;
 #[cfg(test)]

@@ -7,7 +7,7 @@ use std::alloc::{AllocError, Global};
 pub(crate) const COUNTER: &str =
     "struct R { int64_t n; };\npersistent struct R root;\ntx int64_t inc(int64_t d) { root.n = root.n + d; return root.n; }\n";
 
-/// The words, other than 0 and the digest, of the counter's pool with one slot and one record behind
+/// The words, other than 0 and the digest, of the counter's pool with one slot and one record after
 /// one call of `inc` with 5.
 const CALLED: [(usize, i64); 14] = [
     (0, 5498700876356144707),
@@ -26,7 +26,7 @@ const CALLED: [(usize, i64); 14] = [
     (56, 5),
 ];
 
-/// The same pool where that call was cut behind the store of the counter.
+/// The same pool after that call was cut right after the store of the counter.
 const STOPPED: [(usize, i64); 14] = [
     (0, 5498700876356144707),
     (1, 2),
@@ -44,17 +44,17 @@ const STOPPED: [(usize, i64); 14] = [
     (56, 5),
 ];
 
-/// The image of the pool behind a call.
+/// The image of the pool after a call.
 pub(crate) fn called_image(alloc: Global) -> Result<Vec<u8>, AllocError> {
     image_of(alloc, CALLED)
 }
 
-/// The image of the pool behind a call that was cut.
+/// The image of the pool after a call that was cut.
 pub(crate) fn stopped_image(alloc: Global) -> Result<Vec<u8>, AllocError> {
     image_of(alloc, STOPPED)
 }
 
-/// The image that has these words.
+/// The image with these words.
 fn image_of(alloc: Global, words: [(usize, i64); 14]) -> Result<Vec<u8>, AllocError> {
     let mut all = vec![in alloc; 0i64; 80]?;
     let own = digest(COUNTER.as_bytes());

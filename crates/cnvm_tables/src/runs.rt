@@ -12,7 +12,7 @@ use std::sync::ledger::Ledger;
 /// A number that no read or write has.
 pub(crate) const NEVER: u64 = 1_000_000_000;
 
-/// Which read or write fails, of each source and sink.
+/// Which read or write of each source and sink fails.
 #[derive(Clone, Copy, Debug, PartialEq, Eq)]
 pub(crate) struct Fails {
     pub(crate) program: u64,
@@ -40,7 +40,7 @@ pub(crate) struct Ended {
 }
 
 impl Ended {
-    /// Whether it ended so, with this output.
+    /// Whether the run ended so, with this output.
     pub(crate) fn is(&self, status: Status, out: &[u8]) -> bool {
         self.status == status && self.out.as_slice() == out
     }
@@ -53,8 +53,8 @@ fn push_words(alloc: Global, words: &mut Vec<String>, more: &[&str]) -> Result<(
     Ok(())
 }
 
-/// A run of a script with these words behind the two paths, on one slot and one record. Each read
-/// gives at most so many bytes, and each write takes one.
+/// A run of a script with these words after the two paths, on one slot and one record. Each read
+/// gives at most the given number of bytes, and each write takes one.
 pub(crate) fn run<P: Pmem + Drop, L: Ledger>(
     alloc: Global,
     most: usize,

@@ -3,7 +3,7 @@
 ghost use Rattle.std.specs.Prelude.{◌≡◌, ◌<◌};
 
 use crate::program::COUNTER;
-use cnvm_cli::compile;
+use cnvm_cli::{Asked, compile};
 use cnvm_script::{Command, read_script};
 use cnvm_session::{Answer, Program, Session, answer_text, create};
 use nvm_base::{Steps, Text};
@@ -13,6 +13,13 @@ use std::alloc::{AllocError, Global};
 use std::marker::Brand;
 use std::sync::ledger::{Blank, Ledger};
 use std::test::Fail;
+
+/// What the programs are compiled for.
+const ASKED: Asked = Asked {
+    slots: 1024,
+    records: 256,
+    ticks: 100_000,
+};
 
 /// How many lines of a device have more than one version.
 trait Unsettled {
@@ -37,7 +44,7 @@ impl Unsettled for SimPmem {
     }
 }
 
-/// A command's answer; on a device with another number of lines there is none.
+/// A command's answer; none on a device with another number of lines.
 fn answer<P: Pmem, L: Ledger>(
     alloc: Global,
     session: &mut Session,
@@ -52,7 +59,8 @@ fn answer<P: Pmem, L: Ledger>(
     Some(session.command(alloc, program, command, dev, steps))
 }
 
-/// The answer's line, with a star where a call is done and a line of the device isn't settled.
+/// The answer's line, with a star if a call is done and a line of the device has more than one
+/// version.
 fn push_line<P: Unsettled>(
     alloc: Global,
     text: &mut Text,
@@ -90,7 +98,7 @@ fn answers<P: Pmem + Unsettled + Drop, L: Ledger>(
 }
 
 /// Scripts of the counter with their answers.
-const ROWS: [(&str, &str); 12] = [
+const ROWS: [(&str, &str); 18] = [
     (
         "stop 0\ncall inc 5\npower new\n",
         "stopped unsealed\nrecovered none\n",
@@ -139,9 +147,30 @@ const ROWS: [(&str, &str); 12] = [
         "call inc 5\npower old\nshow\n",
         "= 5 log 1\nrecovered none\nroot n=5\n",
     ),
+    ("call inc 5", "= 5 log 1\n"),
+    (
+        "call dec 1\ncall inc\nlast",
+        "refused unknown\nrefused arity\nlast 0 0\n",
+    ),
+    (
+        "call inc 5\nlast\ncall inc 1 2\nshow\nlast",
+        "= 5 log 1\nlast 1 5\nrefused arity\nroot n=5\nlast 1 5\n",
+    ),
+    (
+        "call inc 5\npower old 0:0\npower new 0:1\npower old 2311:0\nshow",
+        "= 5 log 1\nrecovered none\nrefused pick 0\nrefused pick 2311\nroot n=5\n",
+    ),
+    (
+        "stop 13\ncall inc 5\nshow\nlast\npower old",
+        "stopped sealed\nrefused down\nrefused down\nrecovered redone 5 log 1\n",
+    ),
+    (
+        "call inc -5\nlast\nshow",
+        "= -5 log 1\nlast 1 -5\nroot n=-5\n",
+    ),
 ];
 
-/// The first script that one of the two devices answers otherwise, with that device's number.
+/// The first script that one of the two devices answers differently, with that device's number.
 fn wrong_device<L: Ledger>(
     alloc: Global,
     program: &Program,
@@ -160,7 +189,7 @@ fn wrong_device<L: Ledger>(
     Ok(None)
 }
 
-/// What the devices show wrong.
+/// What the devices get wrong.
 fn devices<L: Ledger>(
     alloc: Global,
     blank: Blank,
@@ -170,7 +199,7 @@ fn devices<L: Ledger>(
     requires some { 0 < blank.parts }
 {
     let mut steps: Steps<L> = Steps::new(blank);
-    match compile(alloc, COUNTER.as_bytes(), 1024, 256, 100_000) {
+    match compile(alloc, COUNTER.as_bytes(), ASKED) {
         Ok(compiled) => wrong_device(alloc, &compiled.program, &mut steps),
         Err(_) => Ok(Some(("compile", 0))),
     }
@@ -186,16 +215,16 @@ fn two_devices_answer_the_same(rt: HostRuntime) -> Result<(), Fail> {
 const DOWN: &str =
     "struct R { int64_t n; };\npersistent struct R root;\ntx int64_t inc(int64_t d) { root.n = root.n - d; return root.n; }\n";
 
-/// The counter's program with the image of the other.
+/// The counter's program with the image of the other program.
 fn exchanged(alloc: Global) -> Option<Program> {
-    let up = compile(alloc, COUNTER.as_bytes(), 1024, 256, 100_000).ok()?;
-    let down = compile(alloc, DOWN.as_bytes(), 1024, 256, 100_000).ok()?;
+    let up = compile(alloc, COUNTER.as_bytes(), ASKED).ok()?;
+    let down = compile(alloc, DOWN.as_bytes(), ASKED).ok()?;
     let mut program = up.program;
     program.image = down.program.image;
     Some(program)
 }
 
-/// What its sessions answer.
+/// The answers of that program's sessions.
 fn exchanged_answers<L: Ledger>(alloc: Global, blank: Blank) -> Result<Text, AllocError>
     requires name { blank.name ≡ L.name }
     requires parts { blank.parts ≡ L.parts }

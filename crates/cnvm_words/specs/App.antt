@@ -1,5 +1,5 @@
--- The words in clap's terms: one command with the subcommands run, list and storm; each option is named in full, takes one
--- value and is given at most once; help and version are off.
+-- The words in clap's terms: one command with the subcommands run, list and storm. Each option is
+-- named in full, takes one value and is given at most once; help and version are off.
 use Rattle.std.specs.Prelude.{Some, true, codes}
 use Rattle.clap.specs.Words.{App, Rule, Text, new_app, new_rule, with_rule, with_subcommand}
 use Rattle.clap.specs.declared.builder.action.ArgAction.TheVariants.{Set}
@@ -10,15 +10,17 @@ option_rule name = record (new_rule name) { long = Some name; action = Some Set 
 abbrev pub place_rule : Text → Rule
 place_rule name = record (new_rule name) { action = Some Set; required = true }
 
--- with the sizes of a pool
+-- a command with the options for the sizes of a pool
 abbrev pub sized : App → App
-sized app = with_rule (with_rule (with_rule app (option_rule (codes "slots"))) (option_rule (codes "log"))) (option_rule (codes "ticks"))
+sized app = with_rule (with_rule (with_rule app (option_rule (codes "slots")))
+    (option_rule (codes "log"))) (option_rule (codes "ticks"))
 
 abbrev pub run_app : App
 run_app =
     sized
     (with_rule
-    (with_rule (with_rule (with_rule (new_app (codes "run")) (place_rule (codes "program"))) (place_rule (codes "script")))
+    (with_rule (with_rule (with_rule (new_app (codes "run")) (place_rule (codes "program")))
+    (place_rule (codes "script")))
     (option_rule (codes "open")))
     (option_rule (codes "save")))
 
@@ -29,10 +31,11 @@ abbrev pub storm_app : App
 storm_app =
     sized
     (with_rule
-    (with_rule (with_rule (new_app (codes "storm")) (place_rule (codes "program"))) (place_rule (codes "start")))
+    (with_rule (with_rule (new_app (codes "storm")) (place_rule (codes "program")))
+    (place_rule (codes "start")))
     (place_rule (codes "count")))
 
--- the words have no program name, and a subcommand is wanted
+-- the words have no program name, and a subcommand is required
 abbrev pub bare_app : App
 bare_app = let a = new_app (codes "cnvm") in record a {
   top = record a.top {
@@ -45,4 +48,5 @@ bare_app = let a = new_app (codes "cnvm") in record a {
 }
 
 abbrev pub cnvm_app : App
-cnvm_app = with_subcommand (with_subcommand (with_subcommand bare_app run_app.top) list_app.top) storm_app.top
+cnvm_app = with_subcommand (with_subcommand (with_subcommand bare_app run_app.top) list_app.top)
+    storm_app.top

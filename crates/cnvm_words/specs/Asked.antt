@@ -1,9 +1,10 @@
--- What the words ask for: clap's reading of them, and then each number, which has 1 to 10 digits and lies within its limits.
+-- What the words ask for: they are read by clap, and then each number is read, which has 1 to 10
+-- digits and lies within its limits.
 use Rattle.std.specs.Prelude.{ℕ, List, Option, None, Some, Bool, nat_le, ◌&&◌, if◌then◌else◌, codes, option_and_then, option_map}
 use Rattle.std.specs.Str.{bytes_eq}
 use Rattle.clap.specs.Walk.{is_empty}
 use Rattle.clap.specs.Words.{Text, Row, first_of, fault_of, subcommand_of}
-use Rattle.cnvm_script.specs.Number.{numeral}
+use Rattle.cnvm_script.specs.Number.{bounded_numeral}
 use Rattle.cnvm_words.specs.App.{cnvm_app}
 use Rattle.cnvm_words.specs.declared.plan.Plan.{Plan}
 use Rattle.cnvm_words.specs.declared.plan.Plan.TheVariants.{Run, List as Listing, Storm}
@@ -11,19 +12,20 @@ use Rattle.cnvm_words.specs.declared.plan.Plan.TheVariants.{Run, List as Listing
 abbrev pub in_limits : (least most n : ℕ) → Option ℕ
 in_limits least most n = if nat_le least n && nat_le n most then Some n else None
 
--- a number that has to be given
-abbrev pub number : (least most : ℕ) → List ℕ → Option ℕ
-number least most text = option_and_then (in_limits least most) (numeral 10 text)
+-- a required number
+abbrev pub number_between : (least most : ℕ) → List ℕ → Option ℕ
+number_between least most text = option_and_then (in_limits least most) (bounded_numeral 10 text)
 
--- a number that may be left out
+-- an optional number
 abbrev pub number_or : (default least most : ℕ) → Option (List ℕ) → Option ℕ
 number_or default least most None = Some default
-number_or default least most (Some text) = number least most text
+number_or default least most (Some text) = number_between least most text
 
--- slots, records and ticks
-abbrev pub pool_of : List Row → Option (ℕ × ℕ × ℕ)
-pool_of rows =
-    option_and_then (λ slots. option_and_then (λ records. option_map (λ ticks. (slots, records, ticks))
+-- the slots, records and ticks
+abbrev pub asked_pool : List Row → Option (ℕ × ℕ × ℕ)
+asked_pool rows =
+    option_and_then (λ slots. option_and_then (λ records.
+    option_map (λ ticks. (slots, records, ticks))
     (number_or 100000 1 1000000 (first_of (codes "ticks") rows)))
     (number_or 256 1 4096 (first_of (codes "log") rows)))
     (number_or 1024 1 65535 (first_of (codes "slots") rows))
@@ -31,8 +33,9 @@ pool_of rows =
 abbrev pub run_plan : List Row → Option Plan
 run_plan rows =
     option_and_then (λ program. option_and_then (λ script. option_map (λ pool.
-    Run program script pool.0 pool.1 pool.2 (first_of (codes "open") rows) (first_of (codes "save") rows))
-    (pool_of rows))
+    Run program script pool.0 pool.1 pool.2 (first_of (codes "open") rows)
+    (first_of (codes "save") rows))
+    (asked_pool rows))
     (first_of (codes "script") rows))
     (first_of (codes "program") rows)
 
@@ -41,20 +44,22 @@ list_plan rows = option_map (λ program. Listing program) (first_of (codes "prog
 
 abbrev pub storm_plan : List Row → Option Plan
 storm_plan rows =
-    option_and_then (λ program. option_and_then (λ start. option_and_then (λ count. option_map (λ pool.
+    option_and_then (λ program. option_and_then
+    (λ start. option_and_then (λ count. option_map (λ pool.
     Storm program start count pool.0 pool.1 pool.2)
-    (pool_of rows))
-    (option_and_then (number 0 20000) (first_of (codes "count") rows)))
-    (option_and_then (number 0 2147483647) (first_of (codes "start") rows)))
+    (asked_pool rows))
+    (option_and_then (number_between 0 20000) (first_of (codes "count") rows)))
+    (option_and_then (number_between 0 2147483647) (first_of (codes "start") rows)))
     (first_of (codes "program") rows)
 
 -- the plan of a subcommand with these rows
-abbrev pub planned : Text → List Row → Option Plan
-planned name rows =
+abbrev pub subcommand_plan : Text → List Row → Option Plan
+subcommand_plan name rows =
     if bytes_eq name (codes "run") then run_plan rows
     else (if bytes_eq name (codes "list") then list_plan rows else storm_plan rows)
 
--- the plan of the words, none where they ask for nothing that there is
+-- the plan of the words; none if they ask for nothing that exists
 abbrev pub plan_of : List Text → Option Plan
 plan_of words =
-    if is_empty (fault_of cnvm_app words) then option_and_then (λ p. planned p.0 p.1) (subcommand_of cnvm_app words) else None
+    if is_empty (fault_of cnvm_app words) then option_and_then (λ p. subcommand_plan p.0 p.1)
+    (subcommand_of cnvm_app words) else None

@@ -1,6 +1,6 @@
-//! What the command line asks for. It stands on `clap`, which reads the words, on `cnvm_script` for
+//! What the command line asks for. It rests on `clap`, which reads the words, on `cnvm_script` for
 //! numerals, and on `nvm_base`. Its one contract for the crates above: `plan_of` gives exactly the
-//! plan of the words, which is `clap`'s reading of them followed by the reading of each number.
+//! plan of the words: `clap` reads them, and then each number is read.
 #![tactic(auto)]
 
 mod command;

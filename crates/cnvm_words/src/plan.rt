@@ -3,7 +3,7 @@
 use nvm_base::Text;
 use std::alloc::AllocError;
 
-/// What the command line asks for. The limits of the numbers are kept by `plan_of`.
+/// What the command line asks for. `plan_of` keeps the numbers within their limits.
 #[derive(Drop)]
 pub enum Plan {
     /// Runs the script's commands on the program. `slots` is from 1 to 65,535, `records` from 1 to
@@ -35,7 +35,7 @@ pub enum Plan {
 /// Why words give no plan.
 #[derive(Clone, Copy, Debug, PartialEq, Eq)]
 pub enum WordsFault {
-    /// The words ask for nothing that there is.
+    /// The words ask for nothing that exists.
     Usage,
     NoMemory,
 }

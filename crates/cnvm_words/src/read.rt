@@ -1,10 +1,10 @@
-//! From the words to the plan.
+//! Reads the words and makes the plan.
 
 ghost use Rattle.std.specs.Prelude.{◌≡◌, ◌<◌, ◌≤◌, Some, None, IfOk, IfErr, Err, option_map, option_and_then, map, string_bytes, false, []};
 ghost use Rattle.clap.specs.Walk.{is_empty};
 ghost use Rattle.clap.specs.Words.{rows_of, found_of, first_of, fault_of, subcommand_of, subcommand_rows_of};
 ghost use Rattle.cnvm_words.specs.App.{cnvm_app};
-ghost use Rattle.cnvm_words.specs.Asked.{in_limits, number, number_or, pool_of, run_plan, list_plan, storm_plan, planned, plan_of};
+ghost use Rattle.cnvm_words.specs.Asked.{in_limits, number_between, number_or, asked_pool, run_plan, list_plan, storm_plan, subcommand_plan, plan_of};
 
 use crate::command::cnvm_command;
 use crate::plan::{Plan, WordsFault};
@@ -14,7 +14,7 @@ use cnvm_script::numeral;
 use nvm_base::Text;
 use std::alloc::{AllocError, Global};
 
-/// The value that stands under a name.
+/// The value of the option with this name.
 fn text_at<'a>(matches: &ArgMatches<'a>, id: &str) -> Option<&'a str>
     ensures { option_map (λ s. s.now) result ≡ first_of id.now (rows_of (found_of matches.now)) }
 {
@@ -29,10 +29,11 @@ fn copied(alloc: Global, text: &str) -> Result<Text, AllocError>
     Ok(copy)
 }
 
-/// A path that has to be given.
+/// A required path.
 fn path_at(alloc: Global, matches: &ArgMatches<'_>, id: &str) -> Result<Text, WordsFault>
     ensures ok { IfOk result (λ t. first_of id.now (rows_of (found_of matches.now)) ≡ Some t) }
-    ensures usage { result ≡ Err WordsFault.Usage → first_of id.now (rows_of (found_of matches.now)) ≡ None }
+    ensures usage { result ≡ Err WordsFault.Usage
+        → first_of id.now (rows_of (found_of matches.now)) ≡ None }
 {
     match text_at(matches, id) {
         Some(text) => Ok(copied(alloc, text)?),
@@ -40,7 +41,7 @@ fn path_at(alloc: Global, matches: &ArgMatches<'_>, id: &str) -> Result<Text, Wo
     }
 }
 
-/// A path that may be left out.
+/// An optional path.
 fn image_at(alloc: Global, matches: &ArgMatches<'_>, id: &str) -> Result<Option<Text>, AllocError>
     ensures { IfOk result (λ t. t ≡ first_of id.now (rows_of (found_of matches.now))) }
 {
@@ -60,21 +61,23 @@ fn in_limits(least: u64, most: u64, n: u64) -> Option<u64>
 }
 
 fn number(least: u64, most: u64, text: &str) -> Option<u64>
-    ensures { result ≡ number least most text.now }
+    ensures { result ≡ number_between least most text.now }
 {
     in_limits(least, most, numeral(text.as_bytes(), 10)?)
 }
 
-/// A number that has to be given.
+/// A required number.
 fn number_at(matches: &ArgMatches<'_>, id: &str, least: u64, most: u64) -> Option<u64>
-    ensures { result ≡ option_and_then (number least most) (first_of id.now (rows_of (found_of matches.now))) }
+    ensures { result ≡ option_and_then (number_between least most)
+        (first_of id.now (rows_of (found_of matches.now))) }
 {
     number(least, most, text_at(matches, id)?)
 }
 
-/// A number that may be left out.
+/// An optional number.
 fn number_or(matches: &ArgMatches<'_>, id: &str, default: u64, least: u64, most: u64) -> Option<u64>
-    ensures { result ≡ number_or default least most (first_of id.now (rows_of (found_of matches.now))) }
+    ensures { result ≡ number_or default least most
+        (first_of id.now (rows_of (found_of matches.now))) }
 {
     match text_at(matches, id) {
         Some(text) => number(least, most, text),
@@ -84,7 +87,7 @@ fn number_or(matches: &ArgMatches<'_>, id: &str, default: u64, least: u64, most:
 
 /// Slots, records and ticks.
 fn pool_of(matches: &ArgMatches<'_>) -> Option<(u64, u64, u64)>
-    ensures { result ≡ pool_of (rows_of (found_of matches.now)) }
+    ensures { result ≡ asked_pool (rows_of (found_of matches.now)) }
 {
     let slots = number_or(matches, "slots", 1_024, 1, 65_535)?;
     let records = number_or(matches, "log", 256, 1, 4_096)?;
@@ -94,7 +97,8 @@ fn pool_of(matches: &ArgMatches<'_>) -> Option<(u64, u64, u64)>
 
 fn run_plan(alloc: Global, matches: &ArgMatches<'_>) -> Result<Plan, WordsFault>
     ensures ok { IfOk result (λ p. run_plan (rows_of (found_of matches.now)) ≡ Some p) }
-    ensures usage { result ≡ Err WordsFault.Usage → run_plan (rows_of (found_of matches.now)) ≡ None }
+    ensures usage { result ≡ Err WordsFault.Usage
+        → run_plan (rows_of (found_of matches.now)) ≡ None }
 {
     let program_path = path_at(alloc, matches, "program")?;
     let script_path = path_at(alloc, matches, "script")?;
@@ -114,7 +118,8 @@ fn run_plan(alloc: Global, matches: &ArgMatches<'_>) -> Result<Plan, WordsFault>
 
 fn list_plan(alloc: Global, matches: &ArgMatches<'_>) -> Result<Plan, WordsFault>
     ensures ok { IfOk result (λ p. list_plan (rows_of (found_of matches.now)) ≡ Some p) }
-    ensures usage { result ≡ Err WordsFault.Usage → list_plan (rows_of (found_of matches.now)) ≡ None }
+    ensures usage { result ≡ Err WordsFault.Usage
+        → list_plan (rows_of (found_of matches.now)) ≡ None }
 {
     Ok(Plan::List {
         program_path: path_at(alloc, matches, "program")?,
@@ -123,7 +128,8 @@ fn list_plan(alloc: Global, matches: &ArgMatches<'_>) -> Result<Plan, WordsFault
 
 fn storm_plan(alloc: Global, matches: &ArgMatches<'_>) -> Result<Plan, WordsFault>
     ensures ok { IfOk result (λ p. storm_plan (rows_of (found_of matches.now)) ≡ Some p) }
-    ensures usage { result ≡ Err WordsFault.Usage → storm_plan (rows_of (found_of matches.now)) ≡ None }
+    ensures usage { result ≡ Err WordsFault.Usage
+        → storm_plan (rows_of (found_of matches.now)) ≡ None }
 {
     let program_path = path_at(alloc, matches, "program")?;
     let Some(start) = number_at(matches, "start", 0, 2_147_483_647) else {
@@ -147,8 +153,10 @@ fn storm_plan(alloc: Global, matches: &ArgMatches<'_>) -> Result<Plan, WordsFaul
 
 /// The plan of a subcommand.
 fn planned(alloc: Global, name: &str, matches: &ArgMatches<'_>) -> Result<Plan, WordsFault>
-    ensures ok { IfOk result (λ p. planned name.now (rows_of (found_of matches.now)) ≡ Some p) }
-    ensures usage { result ≡ Err WordsFault.Usage → planned name.now (rows_of (found_of matches.now)) ≡ None }
+    ensures ok { IfOk result (λ p. subcommand_plan name.now (rows_of (found_of matches.now))
+        ≡ Some p) }
+    ensures usage { result ≡ Err WordsFault.Usage
+        → subcommand_plan name.now (rows_of (found_of matches.now)) ≡ None }
 {
     if name == "run" {
         return run_plan(alloc, matches);
@@ -159,11 +167,13 @@ fn planned(alloc: Global, name: &str, matches: &ArgMatches<'_>) -> Result<Plan, 
     storm_plan(alloc, matches)
 }
 
-/// What `clap` makes of the words.
+/// The words as `clap` reads them.
 fn matches_of<'a>(alloc: Global, words: &'a [String]) -> Result<ArgMatches<'a>, WordsFault>
     ensures free { IfOk result (λ m. fault_of cnvm_app (map string_bytes words.entry.now) ≡ []) }
-    ensures rows { IfOk result (λ m. subcommand_rows_of m ≡ subcommand_of cnvm_app (map string_bytes words.entry.now)) }
-    ensures usage { result ≡ Err WordsFault.Usage → is_empty (fault_of cnvm_app (map string_bytes words.entry.now)) ≡ false }
+    ensures rows { IfOk result (λ m.
+        subcommand_rows_of m ≡ subcommand_of cnvm_app (map string_bytes words.entry.now)) }
+    ensures usage { result ≡ Err WordsFault.Usage
+        → is_empty (fault_of cnvm_app (map string_bytes words.entry.now)) ≡ false }
 {
     let command = cnvm_command(alloc)?;
     match command.try_get_matches_from(words) {
@@ -177,7 +187,8 @@ fn matches_of<'a>(alloc: Global, words: &'a [String]) -> Result<ArgMatches<'a>, 
 /// numbers outside their limits, are `Usage`.
 pub fn plan_of(alloc: Global, words: &[String]) -> Result<Plan, WordsFault>
     ensures ok { IfOk result (λ p. plan_of (map string_bytes words.entry.now) ≡ Some p) }
-    ensures usage { result ≡ Err WordsFault.Usage → plan_of (map string_bytes words.entry.now) ≡ None }
+    ensures usage { result ≡ Err WordsFault.Usage
+        → plan_of (map string_bytes words.entry.now) ≡ None }
 {
     let matches = matches_of(alloc, words)?;
     match matches.subcommand() {

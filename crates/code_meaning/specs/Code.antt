@@ -1,10 +1,10 @@
--- What three-address code does, one instruction a step: the table of instructions over pools. Functions
--- are open one in another, each with its place and its registers, and at most 256 of them. The
--- registers of a function are read as a map from all numbers; those that nobody wrote hold 0, and its
--- arguments are the first ones.
+-- The meaning of intermediate code, one instruction per step: a table of the instructions over
+-- pools. The call stack holds the open functions, each with its place and its registers, at most
+-- 256 of them. The registers of a function are a map from all numbers; those that were never
+-- written hold 0, and the first ones hold its arguments.
 --
--- A load, a store and a free make their checks: null and stale of the pointer, then index. A log has
--- no effect, and neither has the flag of a new.
+-- A load, a store and a free make their checks: null and stale of the pointer, then index. A log
+-- has no effect, and neither has the flag of a new.
 use Rattle.std.specs.Prelude.{◌≡◌, ℕ, zero, suc, ◌+◌, ℤ, pos, negsuc, ◌==◌, Bool, true, false, List, [], ◌∷◌, map, length, Option, None, Some, Result, Ok, Err, option_map, if◌then◌else◌, nat_lt, nat_eq, slice_get}
 use Rattle.std.specs.Option.{option_map_or}
 use Rattle.nvm_base.specs.declared.op.BinOp.{BinOp}
@@ -27,37 +27,37 @@ use Rattle.ir.specs.declared.function.Ir.{Ir}
 use Rattle.ir.specs.WellFormed.{struct_of}
 use Rattle.ir.specs.Places.{instruction_at}
 
--- a caller: its function, the place to go on at, its registers, and the register for the result
+-- a caller: its function, the place to return to, its registers, and the register for the result
 pub data Frame : Type 0 where
   frame : (f p : ℕ) → List ℤ → (to : ℕ) → Frame
 
--- the innermost open function, its place and its registers, the functions that called, the innermost
--- of them first, the pool, and the ticks left
-pub data State : Type 0 where
-  Here : (f p : ℕ) → List ℤ → List Frame → PoolMap → (ticks : ℕ) → State
+-- the innermost open function, its place and its registers, its callers, the innermost first, the
+-- pool, and the ticks left
+pub data CodeState : Type 0 where
+  Here : (f p : ℕ) → List ℤ → List Frame → PoolMap → (ticks : ℕ) → CodeState
 
-pub data End : Type 0 where
-  Ended : PoolMap → ℤ → (ticks : ℕ) → End
-  Trapped : TrapKind → End
-  Unfinished : End
-  -- at a place where no instruction stands, or at a call of no function
-  Stuck : End
+pub data CodeEnd : Type 0 where
+  Ended : PoolMap → ℤ → (ticks : ℕ) → CodeEnd
+  Trapped : TrapKind → CodeEnd
+  Unfinished : CodeEnd
+  -- the run is at a place without an instruction, or at a call of no function
+  Stuck : CodeEnd
 
 pub data Move : Type 0 where
-  Goes : State → Move
-  Ends : End → Move
+  Goes : CodeState → Move
+  Ends : CodeEnd → Move
 
 -- registers
-abbrev pub at : List ℤ → ℕ → ℤ
-at [] n = pos 0
-at (v ∷ vs) zero = v
-at (v ∷ vs) (suc n) = at vs n
+abbrev pub register_at : List ℤ → ℕ → ℤ
+register_at [] n = pos 0
+register_at (v ∷ vs) zero = v
+register_at (v ∷ vs) (suc n) = register_at vs n
 
-abbrev pub put : List ℤ → ℕ → ℤ → List ℤ
-put [] zero v = v ∷ []
-put [] (suc n) v = pos 0 ∷ put [] n v
-put (u ∷ us) zero v = v ∷ us
-put (u ∷ us) (suc n) v = u ∷ put us n v
+abbrev pub put_register : List ℤ → ℕ → ℤ → List ℤ
+put_register [] zero v = v ∷ []
+put_register [] (suc n) v = pos 0 ∷ put_register [] n v
+put_register (u ∷ us) zero v = v ∷ us
+put_register (u ∷ us) (suc n) v = u ∷ put_register us n v
 
 -- a quotient or a remainder by 0 is no word
 abbrev pub unless_zero : ℤ → ℤ → Option ℤ
@@ -85,20 +85,21 @@ pub data Spot : Type 0 where
   InRoot : ℕ → Spot
   InSlot : (slot word : ℕ) → Spot
 
-abbrev pub load : PoolMap → Spot → ℤ
-load p (InRoot i) = read_root p i
-load p (InSlot s i) = read p s i
+abbrev pub load_spot : PoolMap → Spot → ℤ
+load_spot p (InRoot i) = read_root p i
+load_spot p (InSlot s i) = read p s i
 
--- a word that the object lacks isn't written
+-- whether an object has a word; a word that it lacks isn't written
 abbrev pub has_word : Option Object → ℕ → Bool
 has_word None i = false
 has_word (Some object) i = nat_lt i (length object.fields)
 
-abbrev pub store : PoolMap → Spot → ℤ → PoolMap
-store p (InRoot i) v = write_root p i v
-store p (InSlot s i) v = if has_word (object_at p s) i then write p s i v else p
+abbrev pub store_spot : PoolMap → Spot → ℤ → PoolMap
+store_spot p (InRoot i) v = write_root p i v
+store_spot p (InSlot s i) v = if has_word (object_at p s) i then write p s i v else p
 
-abbrev pub then_on : {A B : Type 0} → Result A TrapKind → (A → Result B TrapKind) → Result B TrapKind
+abbrev pub then_on : {A B : Type 0} → Result A TrapKind → (A → Result B TrapKind)
+    → Result B TrapKind
 then_on (Ok a) go = go a
 then_on (Err k) go = Err k
 
@@ -109,7 +110,8 @@ is_kind (Some object) kind = nat_eq object.kind kind
 -- the checks null and stale
 abbrev pub slot_of : PoolMap → (kind : ℕ) → ℤ → Result ℕ TrapKind
 slot_of p kind (pos zero) = Err trap.Null
-slot_of p kind (pos (suc n)) = if is_kind (object_at p (suc n)) kind then Ok (suc n) else Err trap.Stale
+slot_of p kind (pos (suc n)) = if is_kind (object_at p (suc n)) kind then Ok (suc n)
+    else Err trap.Stale
 slot_of p kind (negsuc n) = Err trap.Stale
 
 -- the check index
@@ -127,28 +129,33 @@ abbrev pub elements : Option FieldShape → ℕ
 elements None = 0
 elements (Some f) = option_map_or (λ n. n) f.length 0
 
-abbrev pub word_in : List FieldShape → ℕ → Option ℤ → Result ℕ TrapKind
-word_in fs n None = Ok (words_before n fs)
-word_in fs n (Some index) = then_on (element_in (elements (slice_get fs n)) index) (λ i. Ok (words_before n fs + i))
+abbrev pub word_in_shape : List FieldShape → ℕ → Option ℤ → Result ℕ TrapKind
+word_in_shape fs n None = Ok (words_before n fs)
+word_in_shape fs n (Some index) =
+    then_on (element_in (elements (slice_get fs n)) index) (λ i. Ok (words_before n fs + i))
 
 abbrev pub fields_of : Shapes → ℕ → List FieldShape
 fields_of shapes kind = option_map_or (λ (s : StructShape). s.fields) (struct_of shapes kind) []
 
--- the word that a target names, where its base holds a pointer and its index, if it has one, a number
+-- the word that a target names, given the pointer in its base and the number in its index, if it
+-- has one
 abbrev pub spot_of : Shapes → PoolMap → Target → (pointer : ℤ) → Option ℤ → Result Spot TrapKind
-spot_of shapes p (Root field index) pointer j = then_on (word_in shapes.root field j) (λ i. Ok (InRoot i))
+spot_of shapes p (Root field index) pointer j =
+    then_on (word_in_shape shapes.root field j) (λ i. Ok (InRoot i))
 spot_of shapes p (Field base kind field index) pointer j =
-    then_on (slot_of p kind pointer) (λ s. then_on (word_in (fields_of shapes kind) field j) (λ i. Ok (InSlot s i)))
+    then_on (slot_of p kind pointer) (λ s. then_on (word_in_shape (fields_of shapes kind) field j)
+    (λ i. Ok (InSlot s i)))
 
 abbrev pub base_in : List ℤ → Target → ℤ
 base_in regs (Root field index) = pos 0
-base_in regs (Field base kind field index) = at regs base
+base_in regs (Field base kind field index) = register_at regs base
 
 abbrev pub index_in : List ℤ → Target → Option ℤ
-index_in regs (Root field index) = option_map (at regs) index
-index_in regs (Field base kind field index) = option_map (at regs) index
+index_in regs (Root field index) = option_map (register_at regs) index
+index_in regs (Field base kind field index) = option_map (register_at regs) index
 
--- a new object is blank, in the least free slot; where none is free nothing changes and the pointer is 0
+-- a new object is blank, in the least free slot; if no slot is free, nothing changes and the
+-- pointer is 0
 abbrev pub new_at : PoolMap → (kind words : ℕ) → Option ℕ → ℤ × PoolMap
 new_at p kind words None = (pos 0, p)
 new_at p kind words (Some s) = (pos s, new p s kind words)
@@ -176,61 +183,76 @@ abbrev pub takes_tick : ℕ → (ℕ → Move) → Move
 takes_tick zero go = Ends (Trapped trap.Steps)
 takes_tick (suc t) go = go t
 
--- the innermost function gives a word
+-- the innermost function returns a word
 abbrev pub gives : List Frame → ℤ → PoolMap → ℕ → Move
 gives [] v w t = Ends (Ended w v t)
-gives (frame f p regs to ∷ below) v w t = Goes (Here f p (put regs to v) below w t)
+gives (frame f p regs to ∷ below) v w t = Goes (Here f p (put_register regs to v) below w t)
 
--- so many functions may be open
+-- the greatest number of open functions
 abbrev pub open_limit : ℕ
 open_limit = 256
 
--- a function is opened above those that are open
+-- opens a function above those that are open
 abbrev pub opens : Option IrFunction → ℕ → List ℤ → List Frame → PoolMap → ℕ → Move
 opens None g args below w t = Ends Stuck
-opens (Some u) g args below w t = if nat_lt (length below) open_limit then Goes (Here g 0 args below w t) else Ends (Trapped trap.Depth)
+opens (Some u) g args below w t = if nat_lt (length below) open_limit
+    then Goes (Here g 0 args below w t) else Ends (Trapped trap.Depth)
 
-abbrev pub act : Ir → Option Instruction → (f p : ℕ) → List ℤ → List Frame → PoolMap → (ticks : ℕ) → Move
+abbrev pub act : Ir → Option Instruction → (f p : ℕ) → List ℤ → List Frame → PoolMap
+    → (ticks : ℕ) → Move
 act ir None f p regs below w t = Ends Stuck
-act ir (Some (Const to v)) f p regs below w t = Goes (Here f (suc p) (put regs to v) below w t)
-act ir (Some (Copy to from)) f p regs below w t = Goes (Here f (suc p) (put regs to (at regs from)) below w t)
-act ir (Some (Bin o to a b)) f p regs below w t = with_word (word_of o (at regs a) (at regs b)) (λ v. Goes (Here f (suc p) (put regs to v) below w t))
+act ir (Some (Const to v)) f p regs below w t =
+    Goes (Here f (suc p) (put_register regs to v) below w t)
+act ir (Some (Copy to from)) f p regs below w t =
+    Goes (Here f (suc p) (put_register regs to (register_at regs from)) below w t)
+act ir (Some (Bin o to a b)) f p regs below w t =
+    with_word (word_of o (register_at regs a) (register_at regs b))
+    (λ v. Goes (Here f (suc p) (put_register regs to v) below w t))
 act ir (Some (Jump q)) f p regs below w t = Goes (Here f q regs below w t)
-act ir (Some (Branch on q)) f p regs below w t = if is_zero (at regs on) then Goes (Here f q regs below w t) else Goes (Here f (suc p) regs below w t)
+act ir (Some (Branch on q)) f p regs below w t = if is_zero (register_at regs on)
+    then Goes (Here f q regs below w t) else Goes (Here f (suc p) regs below w t)
 act ir (Some (Load to x)) f p regs below w t =
-    with_ok (spot_of ir.shapes w x (base_in regs x) (index_in regs x)) (λ s. Goes (Here f (suc p) (put regs to (load w s)) below w t))
+    with_ok (spot_of ir.shapes w x (base_in regs x) (index_in regs x))
+    (λ s. Goes (Here f (suc p) (put_register regs to (load_spot w s)) below w t))
 act ir (Some (Store x from line)) f p regs below w t =
-    with_ok (spot_of ir.shapes w x (base_in regs x) (index_in regs x)) (λ s. Goes (Here f (suc p) regs below (store w s (at regs from)) t))
-act ir (Some (New to kind log_fill line)) f p regs below w t = Goes (Here f (suc p) (put regs to (new_in ir.shapes w kind).0) below (new_in ir.shapes w kind).1 t)
-act ir (Some (Free from kind line)) f p regs below w t = with_ok (free_in w kind (at regs from)) (λ w. Goes (Here f (suc p) regs below w t))
-act ir (Some (Call to g args)) f p regs below w t = opens (slice_get ir.functions g) g (map (at regs) args) (frame f (suc p) regs to ∷ below) w t
-act ir (Some (Return from)) f p regs below w t = gives below (at regs from) w t
+    with_ok (spot_of ir.shapes w x (base_in regs x) (index_in regs x))
+    (λ s. Goes (Here f (suc p) regs below (store_spot w s (register_at regs from)) t))
+act ir (Some (New to kind log_fill line)) f p regs below w t =
+    Goes (Here f (suc p) (put_register regs to (new_in ir.shapes w kind).0) below
+    (new_in ir.shapes w kind).1 t)
+act ir (Some (Free from kind line)) f p regs below w t =
+    with_ok (free_in w kind (register_at regs from)) (λ w. Goes (Here f (suc p) regs below w t))
+act ir (Some (Call to g args)) f p regs below w t =
+    opens (slice_get ir.functions g) g (map (register_at regs) args)
+    (frame f (suc p) regs to ∷ below) w t
+act ir (Some (Return from)) f p regs below w t = gives below (register_at regs from) w t
 act ir (Some Tick) f p regs below w t = takes_tick t (λ t. Goes (Here f (suc p) regs below w t))
 act ir (Some (Trap k)) f p regs below w t = Ends (Trapped k)
 act ir (Some (Log x)) f p regs below w t = Goes (Here f (suc p) regs below w t)
 
-abbrev pub step : Ir → State → Move
-step ir (Here f p regs below w t) = act ir (instruction_at ir.functions f p) f p regs below w t
+abbrev pub instruction_step : Ir → CodeState → Move
+instruction_step ir (Here f p regs below w t) =
+    act ir (instruction_at ir.functions f p) f p regs below w t
 
-abbrev pub go_on : (State → End) → Move → End
+abbrev pub go_on : (CodeState → CodeEnd) → Move → CodeEnd
 go_on rest (Goes c) = rest c
 go_on rest (Ends e) = e
 
 -- at most k steps
-abbrev pub exec : Ir → ℕ → State → End
+abbrev pub exec : Ir → ℕ → CodeState → CodeEnd
 exec ir zero c = Unfinished
-exec ir (suc k) c = go_on (exec ir k) (step ir c)
+exec ir (suc k) c = go_on (exec ir k) (instruction_step ir c)
 
-abbrev pub IsOver : End → Type 0
+abbrev pub IsOver : CodeEnd → Type 0
 IsOver (Ended w v t) = Unit {0}
 IsOver (Trapped k) = Unit {0}
 IsOver Unfinished = ⊥
 IsOver Stuck = Unit {0}
 
--- function f alone is open, at its entry
-abbrev pub start : ℕ → List ℤ → PoolMap → ℕ → State
-start f args w t = Here f 0 args [] w t
+-- only function f is open, at its entry
+abbrev pub code_start : ℕ → List ℤ → PoolMap → ℕ → CodeState
+code_start f args w t = Here f 0 args [] w t
 
--- the code's meaning: within some number of steps its run is over, with this end
-abbrev pub Means : Ir → ℕ → List ℤ → PoolMap → ℕ → End → Type 0
-Means ir f args w t e = IsOver e × ((k : ℕ) × (exec ir k (start f args w t) ≡ e))
+-- the code's meaning: within some number of steps its run ends like this
+abbrev pub Means : Ir → ℕ → List ℤ → PoolMap → ℕ → CodeEnd → Type 0
+Means ir f args w t e = IsOver e × ((k : ℕ) × (exec ir k (code_start f args w t) ≡ e))

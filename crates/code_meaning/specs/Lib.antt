@@ -1,5 +1,7 @@
 pub mod Code
 pub mod Deeds
 pub mod Law
+pub mod Calls
+pub mod Constants
 pub mod Parameters
 pub mod Whole

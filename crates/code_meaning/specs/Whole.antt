@@ -1,4 +1,4 @@
--- The length of all code of a program: that of each function, added up.
+-- The total length of a program's code, summed over its functions.
 use Rattle.std.specs.Prelude.{ℕ, ◌+◌, List, [], ◌∷◌, length}
 use Rattle.ir.specs.declared.function.IrFunction.{IrFunction}
 

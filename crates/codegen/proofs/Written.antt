@@ -1,4 +1,4 @@
--- Lists that the emission writes, one instruction after the other.
+-- The lists that the emission writes, one instruction after another.
 use Rattle.std.proofs.Common.{◌≡◌, ℕ, zero, suc, ◌+◌, Bool, List, [], ◌∷◌, ◌++◌, drop, Option, Some, sym, ap, ◌∙◌, arith, append_assoc}
 use Rattle.std.specs.Prelude.{slice_get}
 use Rattle.pool_map.specs.declared.shapes.Shapes.{Shapes}
@@ -9,30 +9,45 @@ use Rattle.pm_alloc.specs.Placing.{sum}
 use Rattle.pm_alloc.specs.declared.local.Local.{Local}
 use Rattle.pm_alloc.specs.Pieces.{pointer_check}
 use Rattle.codegen.specs.declared.fields.Reach.{Reach}
-use Rattle.codegen.specs.Emit.{at_code, object_code, is_log, width, places, instruction_code, code_from}
+use Rattle.codegen.specs.Emit.{at_code, object_code, is_log, piece_width, instruction_places, instruction_code, code_from}
 
-drop_at : (code : List Instruction) (k : ℕ) (i : Instruction) → slice_get code k ≡ Some i → drop k code ≡ i ∷ drop (k + 1) code
+drop_at : (code : List Instruction) (k : ℕ) (i : Instruction) → slice_get code k ≡ Some i
+    → drop k code ≡ i ∷ drop (k + 1) code
 drop_at [] k i e = absurd (cc)
 drop_at (j ∷ code) zero i e = let same : j ≡ i = cc in ap (λ (l : Instruction). l ∷ code) same
 drop_at (j ∷ code) (suc k) i e =
     let n : suc k + 1 ≡ suc (k + 1) = omega arith in
     drop_at code k i e ∙ ap (λ (m : ℕ). i ∷ drop m (j ∷ code)) (sym n)
 
-pub places_step : (s : Sizes) (h : Shapes) (tx : Bool) (table : List ℕ) (p q k : ℕ) (b : Bool) (code : List Instruction) (i : Instruction) → slice_get code k ≡ Some i → q ≡ sum p (width s h tx b i) → (table ++ p ∷ []) ++ places s h tx q (is_log i) (drop (k + 1) code) ≡ table ++ places s h tx p b (drop k code)
+pub places_step : (s : Sizes) (h : Shapes) (tx : Bool) (table : List ℕ) (p q k : ℕ) (b : Bool)
+    (code : List Instruction) (i : Instruction) → slice_get code k ≡ Some i
+    → q ≡ sum p (piece_width s h tx b i)
+    → (table ++ p ∷ []) ++ instruction_places s h tx q (is_log i)
+    (drop (k + 1) code) ≡ table ++ instruction_places s h tx p b (drop k code)
 places_step s h tx table p q k b code i at e =
-    append_assoc table (p ∷ []) (places s h tx q (is_log i) (drop (k + 1) code))
-    ∙ ap (λ (n : ℕ). table ++ p ∷ places s h tx n (is_log i) (drop (k + 1) code)) e
-    ∙ ap (λ (l : List Instruction). table ++ places s h tx p b l) (sym (drop_at code k i at))
+    append_assoc table (p ∷ []) (instruction_places s h tx q (is_log i) (drop (k + 1) code))
+    ∙ ap (λ (n : ℕ). table ++ p ∷ instruction_places s h tx n (is_log i) (drop (k + 1) code)) e
+    ∙ ap (λ (l : List Instruction). table ++ instruction_places s h tx p b l)
+    (sym (drop_at code k i at))
 
-pub code_step : (s : Sizes) (h : Shapes) (tx : Bool) (base : ℕ) (table : List ℕ) (out : List Op) (p q k : ℕ) (b : Bool) (code : List Instruction) (i : Instruction) → slice_get code k ≡ Some i → q ≡ sum p (width s h tx b i) → (out ++ instruction_code s h tx base table p b i) ++ code_from s h tx base table q (is_log i) (drop (k + 1) code) ≡ out ++ code_from s h tx base table p b (drop k code)
+pub code_step : (s : Sizes) (h : Shapes) (tx : Bool) (base : ℕ) (table : List ℕ) (out : List Op)
+    (p q k : ℕ) (b : Bool) (code : List Instruction) (i : Instruction) → slice_get code k ≡ Some i
+    → q ≡ sum p (piece_width s h tx b i) → (out ++ instruction_code s h tx base table p b i)
+    ++ code_from s h tx base table q (is_log i) (drop (k + 1) code) ≡ out ++ code_from s h tx base
+    table p b (drop k code)
 code_step s h tx base table out p q k b code i at e =
-    append_assoc out (instruction_code s h tx base table p b i) (code_from s h tx base table q (is_log i) (drop (k + 1) code))
-    ∙ ap (λ (n : ℕ). out ++ (instruction_code s h tx base table p b i ++ code_from s h tx base table n (is_log i) (drop (k + 1) code))) e
-    ∙ ap (λ (l : List Instruction). out ++ code_from s h tx base table p b l) (sym (drop_at code k i at))
+    append_assoc out (instruction_code s h tx base table p b i)
+    (code_from s h tx base table q (is_log i) (drop (k + 1) code))
+    ∙ ap (λ (n : ℕ). out ++ (instruction_code s h tx base table p b i ++ code_from s h tx base table
+    n (is_log i) (drop (k + 1) code))) e
+    ∙ ap (λ (l : List Instruction). out ++ code_from s h tx base table p b l)
+    (sym (drop_at code k i at))
 
--- the checks of a pointer, and behind them the check of an index
-pub object_found : (old mid new : List Local) (s : Sizes) (base kind : ℕ) (o : Option Reach) (x : Reach) → o ≡ Some x → mid ≡ old ++ pointer_check s base kind → new ≡ mid ++ at_code 16 x.at → new ≡ old ++ object_code s base kind o
+-- the checks of a pointer, followed by the check of an index
+pub object_found : (old mid new : List Local) (s : Sizes) (base kind : ℕ) (o : Option Reach)
+    (x : Reach) → o ≡ Some x → mid ≡ old ++ pointer_check s base kind → new ≡ mid ++ at_code 12 x.at
+    → new ≡ old ++ object_code s base kind o
 object_found old mid new s base kind o x is first second =
-    second ∙ ap (λ (p : List Local). p ++ at_code 16 x.at) first
-    ∙ append_assoc old (pointer_check s base kind) (at_code 16 x.at)
+    second ∙ ap (λ (p : List Local). p ++ at_code 12 x.at) first
+    ∙ append_assoc old (pointer_check s base kind) (at_code 12 x.at)
     ∙ ap (λ (r : Option Reach). old ++ object_code s base kind r) (sym is)

@@ -1,7 +1,8 @@
--- The machine's code of three-address code. Each instruction is either code that leads elsewhere (`control`) or a piece of
--- code that stays in its function (`local_code`); a log has none, since its store has the LOG between its checks and its
--- STORE. The pieces stand one behind the other; a jump to an instruction goes to where its piece begins. A function's
--- temporary registers stand behind its own.
+-- The machine code of intermediate code. An instruction is either code that leads elsewhere
+-- (`control`) or a piece of code that stays in its function (`local_code`). A log has no code of
+-- its own: its store has the LOG between its checks and its STORE. The pieces follow one another; a
+-- jump to an instruction goes to the beginning of its piece. A function's temporary registers come
+-- after its own.
 use Rattle.std.specs.Prelude.{ℕ, ◌+◌, ◌-◌, ◌*◌, ◌^◌, Bool, true, false, ◌&&◌, if◌then◌else◌, nat_lt, nat_le, List, [], ◌∷◌, ◌++◌, length, map, slice_index_or, ℤ, pos, Option, Some, None, option_map}
 use Rattle.std.specs.List.{list_all}
 use Rattle.nvm_base.specs.declared.op.BinOp.{BinOp}
@@ -31,12 +32,13 @@ use Rattle.codegen.specs.declared.fields.Reach.{Reach}
 use Rattle.codegen.specs.Fields.{root_reach, struct_reach, object_words}
 use Rattle.codegen.specs.Names.{is_below}
 
--- the check of an index, where there is one, from place p of a piece on
+-- the check of an index, if there is one, from place p of a piece on
 abbrev pub at_code : ℕ → At → List Local
 at_code p Word = []
 at_code p (Element index len) = index_check p index len
 
--- The checks of a target, which is a trap where it isn't there; behind them the word's address is temporary 0 and an offset.
+-- The checks of a target, which is a trap if it doesn't exist; after them the word's address is
+-- temporary 0 plus an offset.
 abbrev pub root_code : Option Reach → List Local
 root_code None = Trap 3 ∷ []
 root_code (Some r) = Const (Temp 0) (pos 0) ∷ at_code 1 r.at
@@ -46,20 +48,21 @@ root_offset reach = option_map (λ (r : Reach). pos r.first) reach
 
 abbrev pub object_code : Sizes → (base kind : ℕ) → Option Reach → List Local
 object_code s base kind None = Trap 3 ∷ []
-object_code s base kind (Some r) = pointer_check s base kind ++ at_code 16 r.at
+object_code s base kind (Some r) = pointer_check s base kind ++ at_code 12 r.at
 
 abbrev pub object_offset : Sizes → Option Reach → Option ℤ
 object_offset s reach = option_map (λ (r : Reach). offset s (sum r.first 1)) reach
 
 abbrev pub address_code : Sizes → Shapes → Target → List Local
 address_code s h (Root field index) = root_code (root_reach s h field index)
-address_code s h (Field base kind field index) = object_code s base kind (struct_reach h kind field index)
+address_code s h (Field base kind field index) =
+    object_code s base kind (struct_reach h kind field index)
 
 abbrev pub address_offset : Sizes → Shapes → Target → Option ℤ
 address_offset s h (Root field index) = root_offset (root_reach s h field index)
 address_offset s h (Field base kind field index) = object_offset s (struct_reach h kind field index)
 
--- what follows the checks
+-- the code after the checks
 abbrev pub load_at : ℕ → Option ℤ → List Local
 load_at to None = []
 load_at to (Some o) = Load (Own to) (Temp 0) o ∷ []
@@ -103,7 +106,7 @@ bin_code o to left right =
     if divides o then Jz (Own right) 2 ∷ Jmp 3 ∷ Trap 4 ∷ Bin o (Own to) (Own left) (Own right) ∷ []
     else Bin o (Own to) (Own left) (Own right) ∷ []
 
--- an instruction that stays in its function; b: a log stands right before it
+-- an instruction that stays in its function; b: a log comes right before it
 abbrev pub local_code : Sizes → Shapes → Bool → Instruction → List Local
 local_code s h b (ir.Const to value) = Const (Own to) value ∷ []
 local_code s h b (ir.Copy to from) = Mov (Own to) (Own from) ∷ []
@@ -144,9 +147,9 @@ control tx to ir.Tick = []
 control tx to (ir.Trap kind) = []
 control tx to (ir.Log t) = []
 
--- how many instructions of the machine it takes
-abbrev pub width : Sizes → Shapes → Bool → Bool → Instruction → ℕ
-width s h tx b i = sum (length (control tx (λ q. 0) i)) (length (local_code s h b i))
+-- the number of machine instructions of an instruction
+abbrev pub piece_width : Sizes → Shapes → Bool → Bool → Instruction → ℕ
+piece_width s h tx b i = sum (length (control tx (λ q. 0) i)) (length (local_code s h b i))
 
 abbrev pub is_log : Instruction → Bool
 is_log (ir.Log t) = true
@@ -164,52 +167,62 @@ is_log (ir.Free from kind line) = false
 is_log ir.Tick = false
 is_log (ir.Trap kind) = false
 
--- the places where the instructions begin, and the end's place; p: that of the first
-abbrev pub places : Sizes → Shapes → Bool → (p : ℕ) → Bool → List Instruction → List ℕ
-places s h tx p b [] = p ∷ []
-places s h tx p b (i ∷ code) = p ∷ places s h tx (sum p (width s h tx b i)) (is_log i) code
+-- the places where the instructions begin, and the place of the end; p: the place of the first
+abbrev pub instruction_places : Sizes → Shapes → Bool → (p : ℕ) → Bool → List Instruction → List ℕ
+instruction_places s h tx p b [] = p ∷ []
+instruction_places s h tx p b (i ∷ code) =
+    p ∷ instruction_places s h tx (sum p (piece_width s h tx b i)) (is_log i) code
 
--- the place of instruction q; one of no function where there is no such instruction
+-- the place of instruction q; if there is no such instruction, a place that no function has
 abbrev pub place_in : List ℕ → ℕ → ℕ
 place_in table q = slice_index_or table q (2 ^ 32 - 1)
 
 -- the instruction at place p; base: the first temporary register
-abbrev pub instruction_code : Sizes → Shapes → Bool → (base : ℕ) → List ℕ → (p : ℕ) → Bool → Instruction → List Op
-instruction_code s h tx base table p b i = control tx (place_in table) i ++ map (placed base p) (local_code s h b i)
+abbrev pub instruction_code : Sizes → Shapes → Bool → (base : ℕ) → List ℕ → (p : ℕ) → Bool
+    → Instruction → List Op
+instruction_code s h tx base table p b i =
+    control tx (place_in table) i ++ map (placed base p) (local_code s h b i)
 
-abbrev pub code_from : Sizes → Shapes → Bool → (base : ℕ) → List ℕ → (p : ℕ) → Bool → List Instruction → List Op
+abbrev pub code_from : Sizes → Shapes → Bool → (base : ℕ) → List ℕ → (p : ℕ) → Bool
+    → List Instruction → List Op
 code_from s h tx base table p b [] = []
 code_from s h tx base table p b (i ∷ code) =
-    instruction_code s h tx base table p b i ++ code_from s h tx base table (sum p (width s h tx b i)) (is_log i) code
+    instruction_code s h tx base table p b i ++ code_from s h tx base table
+    (sum p (piece_width s h tx b i)) (is_log i) code
 
-abbrev pub function_code : Sizes → Shapes → Bool → (base : ℕ) → List Instruction → List Op
-function_code s h tx base code = code_from s h tx base (places s h tx 0 false code) 0 false code
+abbrev pub emitted_code : Sizes → Shapes → Bool → (base : ℕ) → List Instruction → List Op
+emitted_code s h tx base code =
+    code_from s h tx base (instruction_places s h tx 0 false code) 0 false code
 
--- there is room for the temporary registers, and the instructions name the function's own
+-- there is room for the temporary registers, and the instructions name only the function's own
+-- registers
 abbrev pub has_room : (registers : ℕ) → List Instruction → Bool
 has_room registers code = nat_le registers (2 ^ 32 - 9) && list_all (is_below registers) code
 
--- a function that does nothing but trap
+-- a function that only traps
 abbrev pub trap_function : ℕ → Function
-trap_function parameters = record { parameters = parameters; registers = parameters; code = op.Trap 6 ∷ [] }
+trap_function parameters = record {
+  parameters = parameters;
+  registers = parameters;
+  code = op.Trap 6 ∷ [];
+}
 
--- with its code, where that is short enough for a function
+-- a function with its code, if that is short enough
 abbrev pub with_code : IrFunction → List Op → Function
-with_code u ops = if nat_lt (length ops) (2 ^ 32) then record { parameters = u.parameters; registers = u.registers + 8; code = ops } else trap_function u.parameters
+with_code u ops = if nat_lt (length ops) (2 ^ 32)
+    then record { parameters = u.parameters; registers = u.registers + 8; code = ops }
+    else trap_function u.parameters
 
 abbrev pub function_of : Sizes → Shapes → IrFunction → Function
-function_of s h u = if has_room u.registers u.code then with_code u (function_code s h u.tx u.registers u.code) else trap_function u.parameters
+function_of s h u = if has_room u.registers u.code
+    then with_code u (emitted_code s h u.tx u.registers u.code) else trap_function u.parameters
 
--- an image has fewer than 2^32 functions; a program with more has none in it
+-- an image has fewer than 2^32 functions; of a program with more it has none
 abbrev pub known : List IrFunction → List IrFunction
 known functions = if nat_lt (length functions) (2 ^ 32) then functions else []
 
 abbrev pub functions_of : Sizes → Ir → List Function
 functions_of s program = map (function_of s program.shapes) (known program.functions)
-
--- the same functions, each of which does nothing but trap
-abbrev pub traps_of : Ir → List Function
-traps_of program = map (λ (u : IrFunction). trap_function u.parameters) (known program.functions)
 
 -- a function marked tx, with its parameters
 abbrev pub tx_of : ℕ → IrFunction → List TxEntry
@@ -220,11 +233,17 @@ abbrev pub txs_from : ℕ → List IrFunction → List TxEntry
 txs_from f [] = []
 txs_from f (u ∷ us) = tx_of f u ++ txs_from (f + 1) us
 
--- A number of steps that no run goes past, with q tokens: 80 for each instruction, of which at most
--- 40 are its own and 40 flush the lines that it makes dirty.
+-- A number of steps that no run exceeds, for a program of q tokens: 80 for each instruction, of
+-- which at most 40 are its own and 40 flush the lines that it makes dirty.
 abbrev pub most_steps : Sizes → ℕ → ℕ
 most_steps s q = 256 * (s.ticks + 1) * (64 * q + 256) * 80
 
 abbrev pub parts_of : Ir → Sizes → (tokens : ℕ) → List Function → ImageParts
 parts_of program s q functions =
-    record { functions = functions; sizes = s; txs = txs_from 0 (known program.functions); structs = length program.shapes.structs; most = most_steps s q }
+    record {
+      functions = functions;
+      sizes = s;
+      txs = txs_from 0 (known program.functions);
+      structs = length program.shapes.structs;
+      most = most_steps s q;
+    }

@@ -1,5 +1,6 @@
--- Where the words of a field stand, counted from the first field word of the root or of an object, in the order of the
--- fields, an array taking its length. A field that isn't there, or that has no room within a limit of words, has no place.
+-- The places of a field's words, counted from the first field word of the root or of an object, in
+-- the order of the fields; an array takes its length. A field that doesn't exist, or doesn't fit
+-- within a limit of words, has no place.
 use Rattle.std.specs.Prelude.{ℕ, ◌+◌, ◌-◌, ◌==◌, nat_le, if◌then◌else◌, List, [], ◌∷◌, Option, Some, None, option_map, option_and_then}
 use Rattle.pool_map.specs.declared.shapes.FieldShape.{FieldShape}
 use Rattle.pool_map.specs.declared.shapes.StructShape.{StructShape}
@@ -11,34 +12,38 @@ use Rattle.codegen.specs.declared.fields.At.{At}
 use Rattle.codegen.specs.declared.fields.At.TheVariants.{Word, Element}
 use Rattle.codegen.specs.declared.fields.Reach.{Reach}
 
--- the word behind a field that begins at word n
-abbrev pub past : (limit n : ℕ) → FieldShape → Option ℕ
-past limit n field = if nat_le (n + words_of_field field) limit then Some (n + words_of_field field) else None
+-- the word after a field that begins at word n
+abbrev pub word_after_field : (limit n : ℕ) → FieldShape → Option ℕ
+word_after_field limit n field = if nat_le (n + words_of_field field) limit
+    then Some (n + words_of_field field) else None
 
--- the word behind fields that begin at word n
+-- the word after fields that begin at word n
 abbrev pub words_from : (limit n : ℕ) → List FieldShape → Option ℕ
 words_from limit n [] = Some n
-words_from limit n (field ∷ fields) = option_and_then (λ (m : ℕ). words_from limit m fields) (past limit n field)
+words_from limit n (field ∷ fields) =
+    option_and_then (λ (m : ℕ). words_from limit m fields) (word_after_field limit n field)
 
 abbrev pub place_at : (n : ℕ) → FieldShape → FieldPlace
 place_at n field = record { first = n; length = field.length }
 
--- field f of fields that begin at word n
+-- field f among fields that begin at word n
 abbrev pub field_at : (limit n : ℕ) → List FieldShape → ℕ → Option FieldPlace
 field_at limit n [] f = None
 field_at limit n (field ∷ fields) f =
-    option_and_then (λ (m : ℕ). if f == 0 then Some (place_at n field) else field_at limit m fields (f - 1)) (past limit n field)
+    option_and_then (λ (m : ℕ). if f == 0 then Some (place_at n field)
+    else field_at limit m fields (f - 1)) (word_after_field limit n field)
 
--- an index is meant exactly at an array
-abbrev pub element : Option ℕ → Option ℕ → Option At
-element None None = Some Word
-element None (Some index) = None
-element (Some length) None = None
-element (Some length) (Some index) = Some (Element index length)
+-- an index is given exactly for an array
+abbrev pub element_at : Option ℕ → Option ℕ → Option At
+element_at None None = Some Word
+element_at None (Some index) = None
+element_at (Some length) None = None
+element_at (Some length) (Some index) = Some (Element index length)
 
 abbrev pub reach : Option FieldPlace → Option ℕ → Option Reach
 reach None index = None
-reach (Some place) index = option_map (λ (a : At). record { first = place.first; at = a }) (element place.length index)
+reach (Some place) index = option_map (λ (a : At). record { first = place.first; at = a })
+    (element_at place.length index)
 
 -- the root has the sizes' number of words
 abbrev pub root_reach : Sizes → Shapes → ℕ → Option ℕ → Option Reach
@@ -46,10 +51,12 @@ root_reach s shapes field index = reach (field_at s.root_words 0 shapes.root fie
 
 -- a slot has room for 15 words
 abbrev pub struct_place : Shapes → (kind field : ℕ) → Option FieldPlace
-struct_place shapes kind field = option_and_then (λ (u : StructShape). field_at 15 0 u.fields field) (struct_at shapes.structs kind)
+struct_place shapes kind field = option_and_then (λ (u : StructShape). field_at 15 0 u.fields field)
+    (struct_at shapes.structs kind)
 
 abbrev pub struct_reach : Shapes → (kind field : ℕ) → Option ℕ → Option Reach
 struct_reach shapes kind field index = reach (struct_place shapes kind field) index
 
 abbrev pub object_words : Shapes → ℕ → Option ℕ
-object_words shapes kind = option_and_then (λ (u : StructShape). words_from 15 0 u.fields) (struct_at shapes.structs kind)
+object_words shapes kind = option_and_then (λ (u : StructShape). words_from 15 0 u.fields)
+    (struct_at shapes.structs kind)

@@ -7,4 +7,5 @@ use Rattle.pm_machine.specs.Checked.{bad_of}
 use Rattle.codegen.specs.Emit.{functions_of}
 
 abbrev pub EmitsGood : Type 0
-EmitsGood = (s : Sizes) (program : Ir) → IsWellFormed program → bad_of (functions_of s program) 0 (functions_of s program) ≡ None
+EmitsGood = (s : Sizes) (program : Ir) → IsWellFormed program
+    → bad_of (functions_of s program) 0 (functions_of s program) ≡ None

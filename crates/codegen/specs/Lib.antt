@@ -2,3 +2,4 @@ pub mod Fields
 pub mod Names
 pub mod Emit
 pub mod Law
+pub mod inside

@@ -1,4 +1,4 @@
--- An instruction names registers below r alone.
+-- An instruction names only registers below r.
 use Rattle.std.specs.Prelude.{ℕ, Bool, true, ◌&&◌, nat_lt, Option, Some, None}
 use Rattle.std.specs.List.{list_all}
 use Rattle.ir.specs.declared.instruction.Target.{Target}

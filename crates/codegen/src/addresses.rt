@@ -1,4 +1,4 @@
-//! The code that finds the word of a target: behind it, temporary 0 and an offset make its address.
+//! The code that finds the word of a target: after it, temporary 0 and an offset make its address.
 
 ghost use Rattle.std.specs.Prelude.{◌≡◌, ◌++◌, ◌∷◌, [], ◌<◌, ◌^◌, pos, OnOk, IfOk};
 ghost use Rattle.pm_alloc.specs.declared.local.Local.TheVariants.{Trap};
@@ -11,7 +11,7 @@ use pool_layout::Sizes;
 use pool_map::Shapes;
 use std::alloc::AllocError;
 
-/// Puts the check of an index, where there is one, from place `place` of a piece on.
+/// Appends the check of an index, if there is one, from place `place` of a piece on.
 fn push_at(piece: &mut Locals, place: u32, at: At) -> Result<(), AllocError>
     requires { place < 2 ^ 31 }
     ensures { OnOk result (piece.new ≡ piece.old ++ at_code place at) }
@@ -22,7 +22,7 @@ fn push_at(piece: &mut Locals, place: u32, at: At) -> Result<(), AllocError>
     }
 }
 
-/// Puts the code of a target that isn't there.
+/// Appends the code of a target that doesn't exist.
 fn push_nowhere(piece: &mut Locals) -> Result<(), AllocError>
     ensures { OnOk result (piece.new ≡ piece.old ++ Trap 3 ∷ []) }
 {
@@ -65,21 +65,22 @@ fn push_object(
         }
         Some(reach) => {
             push_pointer_check(piece, sizes, base, kind)?;
-            push_at(piece, 16, reach.at)?;
+            push_at(piece, 12, reach.at)?;
             Ok(Some(field_offset(sizes, reach.first.saturating_add(1))))
         }
     }
 }
 
-/// Puts the checks of a target, and gives the offset of its word from temporary 0; gives none where
-/// the target isn't there and the code is a trap.
+/// Appends the checks of a target, and returns the offset of its word from temporary 0; `None` if
+/// the target doesn't exist and the code is a trap.
 pub fn push_address(
     piece: &mut Locals,
     sizes: &Sizes,
     shapes: &Shapes,
     target: &Target,
 ) -> Result<Option<i64>, AllocError>
-    ensures code { OnOk result (piece.new ≡ piece.old ++ address_code sizes.now shapes.now target.now) }
+    ensures code { OnOk result (piece.new ≡ piece.old ++ address_code sizes.now shapes.now
+        target.now) }
     ensures offset { IfOk result (λ o. o ≡ address_offset sizes.now shapes.now target.now) }
 {
     match *target {

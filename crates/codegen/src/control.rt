@@ -19,8 +19,8 @@ fn copied(alloc: Global, registers: &Registers) -> Result<Registers, AllocError>
     Ok(copy)
 }
 
-/// The place where an instruction's code begins, by its number; a place of no function where there
-/// is no such instruction.
+/// The place where an instruction's code begins, by its number; if there is no such instruction, a
+/// place that no function has.
 fn place_of(table: &[u32], instruction: u32) -> u32
     ensures { result ≡ place_in table.now instruction }
 {
@@ -30,7 +30,7 @@ fn place_of(table: &[u32], instruction: u32) -> u32
     }
 }
 
-/// Puts a return: a transaction's dirty lines are flushed and fenced, and then the run halts.
+/// Appends a return: a transaction's dirty lines are flushed and fenced, and then the run halts.
 fn push_return(code: &mut Code, tx: bool, from: u32) -> Result<(), AllocError>
     ensures { OnOk result (code.new ≡ code.old ++ return_code tx from) }
 {
@@ -59,7 +59,8 @@ fn push_call(
     })
 }
 
-/// Puts the code of an instruction that leads elsewhere; of another there is none here.
+/// Appends the code of an instruction that leads elsewhere; for any other instruction there is none
+/// here.
 pub fn push_control(
     alloc: Global,
     code: &mut Code,
@@ -92,7 +93,7 @@ pub fn push_control(
     }
 }
 
-/// How many instructions of the machine that code has.
+/// The number of machine instructions of that code.
 pub fn control_width(tx: bool, instruction: &Instruction) -> u32
     ensures value { result ≡ length (control tx (λ q. 0) instruction.now) }
     ensures small { result < 4 }

@@ -5,7 +5,8 @@ ghost use Rattle.pm_machine.specs.Checked.{bad_of};
 ghost use Rattle.pm_machine.specs.Few.{AreFew};
 ghost use Rattle.ir.specs.WellFormed.{IsWellFormed};
 ghost use Rattle.codegen.specs.Emit as definitions;
-ghost use Rattle.codegen.specs.Emit.{known, functions_of, traps_of, txs_from, most_steps};
+ghost use Rattle.codegen.specs.Emit.{known, functions_of, txs_from, most_steps};
+ghost use Rattle.codegen.specs.inside.Emit.{traps_of};
 
 use crate::functions::{machine_function, trap_function};
 use ir::{Ir, IrFunction};
@@ -13,7 +14,7 @@ use pm_machine::{Functions, Image, ImageParts, ImageRefused, TxEntry, TxList};
 use pool_layout::Sizes;
 use std::alloc::{AllocError, Global};
 
-/// The functions, where there are few enough for an image.
+/// The functions, if there are few enough for an image.
 #[tactic(auto, using(crate::proofs::Traps::known_few))]
 fn known(functions: &[IrFunction]) -> &[IrFunction]
     ensures value { result.now ≡ known functions.now }
@@ -36,7 +37,7 @@ fn machine_functions(alloc: Global, ir: &Ir, sizes: &Sizes) -> Result<Functions,
     Ok(functions)
 }
 
-/// Functions that do nothing but trap, in place of these.
+/// Functions that only trap, in place of these.
 fn trap_functions(alloc: Global, ir: &Ir) -> Result<Functions, AllocError>
     ensures { IfOk result (λ f. f ≡ traps_of ir.now) }
 {
@@ -99,14 +100,15 @@ fn image_parts(
     })
 }
 
-/// The image of a program, where its code breaks no rule of the machine; else the image of traps.
+/// The image of a program, if its code breaks no rule of the machine; else the image of traps.
 #[tactic(auto, using(crate::proofs::Traps::functions_few))]
 fn checked_image(alloc: Global, ir: &Ir, sizes: &Sizes, tokens: u64) -> Result<Image, AllocError>
     ensures sizes { IfOk result (λ i. i.parts.sizes ≡ sizes.now) }
     ensures structs { IfOk result (λ i. i.parts.structs ≡ length ir.now.shapes.structs) }
     ensures most { IfOk result (λ i. i.parts.most ≡ most_steps sizes.now tokens) }
     ensures txs { IfOk result (λ i. i.parts.txs ≡ txs_from 0 (known ir.now.functions)) }
-    ensures exact { bad_of (functions_of sizes.now ir.now) 0 (functions_of sizes.now ir.now) ≡ None → IfOk result (λ i. i.parts.functions ≡ functions_of sizes.now ir.now) }
+    ensures exact { bad_of (functions_of sizes.now ir.now) 0 (functions_of sizes.now ir.now) ≡ None
+        → IfOk result (λ i. i.parts.functions ≡ functions_of sizes.now ir.now) }
 {
     let functions = machine_functions(alloc, ir, sizes)?;
     let parts = image_parts(alloc, ir, sizes, tokens, functions)?;
@@ -119,24 +121,27 @@ fn checked_image(alloc: Global, ir: &Ir, sizes: &Sizes, tokens: u64) -> Result<I
 
 /// The image of a program, for a pool of these sizes and a text of so many tokens.
 ///
-/// Its code is that of the definition for all code that is well formed, and wherever else that
-/// breaks no rule of the machine. Where it would break one, each function does nothing but trap, and
-/// all else is the same.
+/// Its code is that of the definition for all well formed code, and for any other code whose
+/// emission breaks no rule of the machine. If it would break one, each function only traps, and all
+/// else is the same.
 pub fn emit(alloc: Global, ir: &Ir, sizes: &Sizes, tokens: u64) -> Result<Image, AllocError>
     ensures sizes { IfOk result (λ i. i.parts.sizes ≡ sizes.now) }
     ensures structs { IfOk result (λ i. i.parts.structs ≡ length ir.now.shapes.structs) }
     ensures most { IfOk result (λ i. i.parts.most ≡ most_steps sizes.now tokens) }
     ensures txs { IfOk result (λ i. i.parts.txs ≡ txs_from 0 (known ir.now.functions)) }
-    ensures exact { bad_of (functions_of sizes.now ir.now) 0 (functions_of sizes.now ir.now) ≡ None → IfOk result (λ i. i.parts.functions ≡ functions_of sizes.now ir.now) }
-    ensures code { IsWellFormed ir.now → IfOk result (λ i. i.parts.functions ≡ functions_of sizes.now ir.now) }
+    ensures exact { bad_of (functions_of sizes.now ir.now) 0 (functions_of sizes.now ir.now) ≡ None
+        → IfOk result (λ i. i.parts.functions ≡ functions_of sizes.now ir.now) }
+    ensures code { IsWellFormed ir.now
+        → IfOk result (λ i. i.parts.functions ≡ functions_of sizes.now ir.now) }
 {
     checked_image(alloc, ir, sizes, tokens)
 }
 
-/// The image of the same transactions, whose functions do nothing but trap.
+/// The image of the same transactions, whose functions only trap.
 #[tactic(auto, using(crate::proofs::Traps::traps_good, crate::proofs::Traps::traps_few))]
 fn trap_image(alloc: Global, ir: &Ir, sizes: &Sizes, tokens: u64) -> Result<Image, AllocError>
-    ensures { IfOk result (λ i. i.parts ≡ definitions.parts_of ir.now sizes.now tokens (traps_of ir.now)) }
+    ensures { IfOk result (λ i. i.parts ≡ definitions.parts_of ir.now sizes.now tokens
+        (traps_of ir.now)) }
 {
     let functions = trap_functions(alloc, ir)?;
     let parts = image_parts(alloc, ir, sizes, tokens, functions)?;

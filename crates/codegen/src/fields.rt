@@ -1,14 +1,14 @@
-//! Where the words of a field stand, counted from the first field word of the root or of an object.
+//! The places of a field's words, counted from the first field word of the root or of an object.
 
 ghost use Rattle.std.specs.Prelude.{◌≡◌, ◌+◌, ◌≤◌, IfSome, option_copied, option_map};
 ghost use Rattle.pool_map.specs.PoolFits.{words_of_field, struct_at};
 ghost use Rattle.codegen.specs.Fields as definitions;
-ghost use Rattle.codegen.specs.Fields.{words_from, field_at, reach, element, object_words};
+ghost use Rattle.codegen.specs.Fields.{words_from, field_at, reach, element_at, object_words};
 
 use pool_layout::Sizes;
 use pool_map::{FieldShape, Shapes, StructShape};
 
-/// A field's first word, and the number of its elements where it is an array.
+/// A field's first word, and its number of elements if it is an array.
 #[derive(Clone, Copy, Debug, PartialEq, Eq)]
 pub struct FieldPlace {
     pub first: u32,
@@ -22,16 +22,16 @@ pub enum At {
     Element(u32, u32),
 }
 
-/// A field's first word, and what of it is meant.
+/// A field's first word, and which part of the field is meant.
 #[derive(Clone, Copy, Debug, PartialEq, Eq)]
 pub struct Reach {
     pub first: u32,
     pub at: At,
 }
 
-/// The word behind a field that begins at `first`, where there is room for the field.
+/// The word after a field that begins at `first`, if there is room for the field.
 fn past(limit: u32, first: u32, field: &FieldShape) -> Option<u32>
-    ensures value { result ≡ definitions.past limit first field.now }
+    ensures value { result ≡ definitions.word_after_field limit first field.now }
     ensures within { IfSome result (λ _. first + words_of_field field.now ≤ limit) }
 {
     let end = u64::from(first).checked_add(field.length.unwrap_or(1))?;
@@ -42,7 +42,7 @@ fn past(limit: u32, first: u32, field: &FieldShape) -> Option<u32>
     }
 }
 
-/// How many words the fields have, where there is room for them.
+/// The number of words of the fields, if there is room for them.
 pub fn words_of(limit: u32, fields: &[FieldShape]) -> Option<u32>
     ensures { result ≡ words_from limit 0 fields.now }
 {
@@ -63,7 +63,7 @@ fn elements(limit: u32, field: &FieldShape) -> Option<u32>
     }
 }
 
-/// The place of a field, where it is there and has room.
+/// The place of a field, if it exists and has room.
 pub fn field_place(limit: u32, fields: &[FieldShape], field: u32) -> Option<FieldPlace>
     ensures { result ≡ field_at limit 0 fields.now field }
 {
@@ -81,9 +81,9 @@ pub fn field_place(limit: u32, fields: &[FieldShape], field: u32) -> Option<Fiel
     None
 }
 
-/// An index is meant exactly at an array.
+/// An index is given exactly for an array.
 fn element_of(length: Option<u32>, index: Option<u32>) -> Option<At>
-    ensures { result ≡ element length index }
+    ensures { result ≡ element_at length index }
 {
     match (length, index) {
         (None, None) => Some(At::Word),
@@ -112,7 +112,7 @@ fn struct_shape(shapes: &Shapes, kind: u32) -> Option<&StructShape>
     shapes.structs.as_slice().get(kind as usize - 1)
 }
 
-/// How many words a struct has, where it is there and a slot has room for it.
+/// The number of words of a struct, if it exists and a slot has room for it.
 pub fn struct_words(shapes: &Shapes, kind: u32) -> Option<u32>
     ensures { result ≡ object_words shapes.now kind }
 {
@@ -120,7 +120,7 @@ pub fn struct_words(shapes: &Shapes, kind: u32) -> Option<u32>
     words_of(15, shape.fields.as_slice())
 }
 
-/// What a field of the root means, where it is there.
+/// The place that a field of the root means, if it exists.
 pub fn root_reach(sizes: &Sizes, shapes: &Shapes, field: u32, index: Option<u32>) -> Option<Reach>
     ensures { result ≡ definitions.root_reach sizes.now shapes.now field index }
 {
@@ -135,7 +135,7 @@ fn struct_place(shapes: &Shapes, kind: u32, field: u32) -> Option<FieldPlace>
     field_place(15, shape.fields.as_slice(), field)
 }
 
-/// What a field of a struct means, where it is there.
+/// The place that a field of a struct means, if it exists.
 pub fn struct_reach(shapes: &Shapes, kind: u32, field: u32, index: Option<u32>) -> Option<Reach>
     ensures { result ≡ definitions.struct_reach shapes.now kind field index }
 {

@@ -3,7 +3,7 @@
 ghost use Rattle.std.specs.Prelude.{◌≡◌, ◌++◌, ◌∷◌, [], ◌<◌, ◌+◌, ◌^◌, length, false, true, OnOk, IfOk, if◌then◌else◌, nat_lt};
 ghost use Rattle.pm_alloc.specs.Placing as placing;
 ghost use Rattle.codegen.specs.Emit as definitions;
-ghost use Rattle.codegen.specs.Emit.{width, places, instruction_code, code_from, function_code, has_room, trap_function, with_code, function_of};
+ghost use Rattle.codegen.specs.Emit.{piece_width, instruction_places, instruction_code, code_from, emitted_code, has_room, trap_function, with_code, function_of};
 
 use crate::control::{control_width, push_control};
 use crate::instructions::local_piece;
@@ -46,7 +46,7 @@ fn total(control: u32, piece: &[Local]) -> u32
     }
 }
 
-/// How many instructions of the machine an instruction takes.
+/// The number of machine instructions of an instruction.
 fn width_of(
     alloc: Global,
     sizes: &Sizes,
@@ -55,7 +55,7 @@ fn width_of(
     logged: bool,
     instruction: &Instruction,
 ) -> Result<u32, AllocError>
-    ensures { IfOk result (λ n. n ≡ width sizes.now shapes.now tx logged instruction.now) }
+    ensures { IfOk result (λ n. n ≡ piece_width sizes.now shapes.now tx logged instruction.now) }
 {
     let piece = local_piece(alloc, sizes, shapes, logged, instruction)?;
     Ok(total(control_width(tx, instruction), piece.as_slice()))
@@ -68,7 +68,7 @@ fn push_place(table: &mut Vec<u32>, place: u32) -> Result<(), AllocError>
     Ok(())
 }
 
-/// Where each instruction's code begins, and where the last one's ends.
+/// The place where each instruction's code begins, and where the last one's ends.
 #[tactic(auto, using(crate::proofs::Written::places_step))]
 fn places_of(
     alloc: Global,
@@ -77,7 +77,8 @@ fn places_of(
     tx: bool,
     code: &[Instruction],
 ) -> Result<Vec<u32>, AllocError>
-    ensures { IfOk result (λ t. t.items ≡ places sizes.now shapes.now tx 0 false code.now) }
+    ensures { IfOk result (λ t. t.items ≡ instruction_places sizes.now shapes.now tx 0 false
+        code.now) }
 {
     let mut table = Vec::new(alloc);
     let mut place = 0;
@@ -92,7 +93,7 @@ fn places_of(
     Ok(table)
 }
 
-/// Puts the code of an instruction, and gives its length.
+/// Appends the code of an instruction, and returns its length.
 fn push_instruction(
     alloc: Global,
     out: &mut Code,
@@ -105,8 +106,10 @@ fn push_instruction(
     logged: bool,
     instruction: &Instruction,
 ) -> Result<u32, AllocError>
-    ensures code { OnOk result (out.new ≡ out.old ++ instruction_code sizes.now shapes.now tx base table.now place logged instruction.now) }
-    ensures width { IfOk result (λ n. n ≡ width sizes.now shapes.now tx logged instruction.now) }
+    ensures code { OnOk result (out.new ≡ out.old ++ instruction_code sizes.now shapes.now tx base
+        table.now place logged instruction.now) }
+    ensures width { IfOk result (λ n. n ≡ piece_width sizes.now shapes.now tx logged
+        instruction.now) }
 {
     push_control(alloc, out, tx, table, instruction)?;
     let piece = local_piece(alloc, sizes, shapes, logged, instruction)?;
@@ -125,7 +128,8 @@ fn push_code(
     table: &[u32],
     code: &[Instruction],
 ) -> Result<(), AllocError>
-    ensures { OnOk result (out.new ≡ out.old ++ code_from sizes.now shapes.now tx base table.now 0 false code.now) }
+    ensures { OnOk result (out.new ≡ out.old ++ code_from sizes.now shapes.now tx base table.now 0
+        false code.now) }
 {
     let mut place = 0;
     let mut logged = false;
@@ -157,7 +161,7 @@ fn code_of(
     base: u32,
     code: &[Instruction],
 ) -> Result<Code, AllocError>
-    ensures { IfOk result (λ c. c ≡ function_code sizes.now shapes.now tx base code.now) }
+    ensures { IfOk result (λ c. c ≡ emitted_code sizes.now shapes.now tx base code.now) }
 {
     let table = places_of(alloc, sizes, shapes, tx, code)?;
     let mut out = Code::new(alloc);
@@ -172,7 +176,7 @@ fn has_room(registers: u32, code: &[Instruction]) -> bool
     registers <= u32::MAX - 8 && all_below(registers, code)
 }
 
-/// A function of so many parameters that does nothing but trap.
+/// A function of so many parameters that only traps.
 pub fn trap_function(alloc: Global, parameters: u32) -> Result<Function, AllocError>
     ensures { IfOk result (λ f. f ≡ trap_function parameters) }
 {
@@ -199,8 +203,8 @@ fn with_code(alloc: Global, function: &IrFunction, code: Code) -> Result<Functio
     })
 }
 
-/// The machine's function. Where a function has no room for its temporary registers, names others
-/// than its own, or has code that is too long for the machine, it does nothing but trap.
+/// The machine's function. If a function has no room for its temporary registers, names registers
+/// other than its own, or has code that is too long for the machine, it only traps.
 pub fn machine_function(
     alloc: Global,
     sizes: &Sizes,

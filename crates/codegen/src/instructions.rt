@@ -33,7 +33,7 @@ fn divides(op: BinOp) -> bool
     }
 }
 
-/// Puts an operation, behind a check of the divisor where it has one: trap 4 where that is 0.
+/// Appends an operation, after a check of the divisor if it has one: trap 4 if that is 0.
 fn push_bin(piece: &mut Locals, op: BinOp, to: u32, left: u32, right: u32) -> Result<(), AllocError>
     ensures { OnOk result (piece.new ≡ piece.old ++ bin_code op to left right) }
 {
@@ -74,7 +74,8 @@ fn push_assignment(
     target: &Target,
     from: u32,
 ) -> Result<(), AllocError>
-    ensures { OnOk result (piece.new ≡ piece.old ++ assign_code sizes.now shapes.now logged target.now from) }
+    ensures { OnOk result (piece.new ≡ piece.old ++ assign_code sizes.now shapes.now logged
+        target.now from) }
 {
     match push_address(piece, sizes, shapes, target)? {
         None => Ok(()),
@@ -82,7 +83,7 @@ fn push_assignment(
     }
 }
 
-/// Puts the code of a `pm_new`, which is a trap where the struct isn't there.
+/// Appends the code of a `pm_new`, which is a trap if the struct doesn't exist.
 fn push_make(
     piece: &mut Locals,
     sizes: &Sizes,
@@ -99,8 +100,8 @@ fn push_make(
     }
 }
 
-/// Puts the code of an instruction; `logged` says whether a log stands right before it. An
-/// instruction that leads elsewhere has none here, and a log has its code with its store.
+/// Appends the code of an instruction; `logged` says whether a log comes right before it. An
+/// instruction that leads elsewhere has no code here, and a log has its code in its store.
 #[tactic(auto, using(std::proofs::lemmas::Int::wraps))]
 fn push_local(
     piece: &mut Locals,
@@ -109,7 +110,8 @@ fn push_local(
     logged: bool,
     instruction: &Instruction,
 ) -> Result<(), AllocError>
-    ensures { OnOk result (piece.new ≡ piece.old ++ local_code sizes.now shapes.now logged instruction.now) }
+    ensures { OnOk result (piece.new ≡ piece.old ++ local_code sizes.now shapes.now logged
+        instruction.now) }
 {
     match instruction {
         Instruction::Const { to, value } => piece.push(Local::constant(Reg::Own(*to), *value)),

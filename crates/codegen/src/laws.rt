@@ -2,7 +2,7 @@
 
 ghost use Rattle.codegen.specs.Law.{EmitsGood};
 
-/// No place of the code of a program that is well formed is bad code for the machine.
+/// No place of the code of a well formed program is bad code for the machine.
 pub fn good_law()
     ensures { EmitsGood }
 {}

@@ -1,6 +1,6 @@
-//! The machine's code of three-address code. It stands on `ir`, on the pieces of `pm_alloc` and on
-//! the images of `pm_machine`. Its one contract for the crates above: the image is that of the
-//! code's definition, instruction by instruction, with these sizes, transactions and bound.
+//! The machine code of intermediate code. It rests on `ir`, on the pieces of `pm_alloc` and on the
+//! images of `pm_machine`. Its one contract for the crates above: the image is that of the code's
+//! definition, instruction by instruction, with these sizes, transactions and bound.
 #![tactic(auto)]
 
 mod addresses;
@@ -11,8 +11,6 @@ mod functions;
 mod instructions;
 mod laws;
 mod names;
-#[cfg(test)]
-mod tests;
 
 pub use emission::emit;
 pub use laws::good_law;

@@ -1,4 +1,4 @@
-//! Whether a function's instructions name its own registers alone, so that none of them is taken for
+//! Whether a function's instructions name only its own registers, so that none of them is taken for
 //! a temporary one.
 
 ghost use Rattle.std.specs.Prelude.{◌≡◌, ◌<◌, ◌≤◌, nat_lt};
@@ -36,7 +36,7 @@ fn target_below(count: u32, target: &Target) -> bool
     }
 }
 
-/// The instruction's registers are below that number.
+/// Whether the instruction's registers are below that number.
 fn is_below(count: u32, instruction: &Instruction) -> bool
     ensures { result ≡ names.is_below count instruction.now }
 {
@@ -59,7 +59,7 @@ fn is_below(count: u32, instruction: &Instruction) -> bool
     }
 }
 
-/// All instructions' registers are below that number.
+/// Whether all instructions' registers are below that number.
 pub fn all_below(count: u32, code: &[Instruction]) -> bool
     ensures { result ≡ list_all (names.is_below count) code.now }
 {

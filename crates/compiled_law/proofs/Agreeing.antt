@@ -14,15 +14,17 @@ use Rattle.c_parser.specs.ItemTree.{FunctionTree}
 use Rattle.c_parser.specs.Program as parser
 use Rattle.c_types.specs.Tables.{Tables, tables_of}
 use Rattle.c_types.specs.Shapes.{shapes_of}
-use Rattle.c_meaning.specs.Meaning.{Out, Got, Stops, entered, calls_of}
+use Rattle.c_meaning.specs.Meaning.{Out, Got, Stops, function_value, calls_of}
 use Rattle.c_meaning.specs.Transaction as meaning
-use Rattle.c_meaning.specs.Transaction.{Outcome, outcome, run}
+use Rattle.c_meaning.specs.Transaction.{Outcome, outcome, run_transaction}
 use Rattle.pool_map.specs.declared.trap.TrapKind.TheVariants.{LogFull}
 use Rattle.ir.specs.declared.instruction.Target.{Target}
 use Rattle.ir.specs.declared.instruction.Instruction.{Instruction}
 use Rattle.ir.specs.declared.instruction.Instruction.TheVariants.{Const, Copy, Bin, Jump, Branch, Load, Store, New, Free, Call, Return, Tick, Trap, Log}
 use Rattle.ir.specs.declared.function.IrFunction.{IrFunction}
 use Rattle.ir.specs.declared.function.Ir.{Ir}
+use Rattle.ir.specs.declared.site.Site.{Site}
+use Rattle.ir.specs.Clobber.{IsLogged}
 use Rattle.ir.specs.Places.{IsTransaction}
 use Rattle.ir.specs.Short.{IsShort}
 use Rattle.ir.specs.WellFormed.{IsFunction, IsWellFormed}
@@ -30,6 +32,8 @@ use Rattle.lower.specs.Program.{lowered_function, lowered}
 use Rattle.lower_law.specs.Law as lower
 use Rattle.lower_law.proofs.Laws as lowering
 use Rattle.code_meaning.proofs.Lists.{all_at}
+use Rattle.code_meaning.specs.Calls.{CallsNoTransaction}
+use Rattle.code_meaning.specs.Constants.{HasWordConstants}
 use Rattle.code_meaning.specs.Whole.{whole}
 use Rattle.size_law.proofs.ProgramShort.{allowed}
 use Rattle.checked_law.proofs.Laws.{shapes, calls, limits, constants, logs}
@@ -37,12 +41,12 @@ use Rattle.clobber_pass.specs.declared.marking.MarkTable.{MarkTable}
 use Rattle.clobber_pass.specs.Logged as table
 use Rattle.instrument.specs.Insert.{led, logged_function, logged_program}
 use Rattle.instrument.proofs.LoggedCode.{answer_well_formed}
-use Rattle.insert_law.specs.Law.{IsDone}
+use Rattle.insert_law.specs.Law.{HasResult}
 use Rattle.insert_law.proofs.Standing.{function_at}
 use Rattle.insert_law.proofs.Origins.{origin}
-use Rattle.code_meaning.specs.Code.{End, Ended, Trapped, start, exec, at, load}
+use Rattle.code_meaning.specs.Code.{CodeEnd, Ended, Trapped, code_start, exec, register_at, load_spot}
 use Rattle.code_meaning.specs.Code as code
-use Rattle.code_meaning.specs.Deeds.{deeds}
+use Rattle.code_meaning.specs.Deeds.{Deed, deeds}
 use Rattle.pm_machine.specs.declared.effect.End as machine_end
 use Rattle.pm_machine.specs.declared.image.ImageParts.{ImageParts}
 use Rattle.pm_machine.specs.declared.op.TxEntry.{TxEntry}
@@ -60,27 +64,31 @@ use Rattle.piece_law.proofs.PoolIn.{pool_is, headers_are}
 use Rattle.piece_law.proofs.Shown.{shown, cut}
 use Rattle.piece_law.proofs.WordState.{words_stay}
 use Rattle.cover_law.proofs.Cover.{covered}
-use Rattle.match_law.specs.Compiled.{IsCompiled, CallsNoTransaction}
+use Rattle.match_law.specs.Compiled.{IsCompiled}
 use Rattle.match_law.specs.Law.{KeepLaw}
 use Rattle.match_law.specs.Match.{most}
 use Rattle.match_law.proofs.Keep.{kept_all}
 use Rattle.cnvm_session.specs.declared.program.Program.{Program}
-use Rattle.cnvm_session.specs.Commands.{parameters_of}
-use Rattle.session_law.specs.Source.{parameters, means, comes_to, pool_of, HasHeaders}
-use Rattle.session_law.specs.Words.{AreWords, HasWords}
+use Rattle.cnvm_session.specs.Commands.{tx_parameters}
+use Rattle.session_law.specs.Logged.{stored_at, AreLogged}
+use Rattle.session_law.specs.Source.{source_parameters, means, deeds_in, LogsStores, outcome_with, ComesTo, source_pool, HasSourceHeaders}
+use Rattle.session_law.specs.Words.{AreWords, HasPoolWords}
 use Rattle.session_law.specs.Agrees.{Matches, RunsAs, Agrees}
-use Rattle.compiled_law.specs.Runs.{EndsAs, EndsIf}
-use Rattle.compiled_law.specs.Counts.{records_of, deeds_in, counts_of}
-use Rattle.compiled_law.specs.Law.{IsCompiledFrom, CompiledLaw}
+use Rattle.compiled_law.specs.inside.Runs.{EndsAs, EndsIf}
+use Rattle.compiled_law.specs.inside.Records.{records_of}
+use Rattle.compiled_law.specs.Law.{IsCompiledFrom, CompiledLaw, ComesLaw}
 use Rattle.compiled_law.proofs.Apart.{heap_apart}
+use Rattle.compiled_law.proofs.Exact.{are_logged}
+use Rattle.compiled_law.proofs.Marked.{all_stores}
 use Rattle.compiled_law.proofs.Entering.{code_of, parameters_same, entries_same, entry_is}
 use Rattle.compiled_law.proofs.Numbers.{few_tokens, part_of_whole, all_below, logged_long, functions_long, all_known, is_pool, enough_steps}
 use Rattle.compiled_law.proofs.Pools.{pool_same}
 use Rattle.compiled_law.proofs.Room.{has_room_for}
 use Rattle.compiled_law.proofs.Sounding.{compiled_run}
 
--- an instruction of the code, by the same one of the code with its logs
-led_const : (table : List ℕ) (flag : Bool) (i : Instruction) (to : ℕ) (v : ℤ) → Const to v ≡ led table flag i → i ≡ Const to v
+-- an instruction of the code is the same one in the code with its logs
+led_const : (table : List ℕ) (flag : Bool) (i : Instruction) (to : ℕ) (v : ℤ)
+    → Const to v ≡ led table flag i → i ≡ Const to v
 led_const table flag (Const t x) to v e = sym e
 led_const table flag (Copy t from) to v e = absurd (cc)
 led_const table flag (Bin o t a b) to v e = absurd (cc)
@@ -96,7 +104,8 @@ led_const table flag Tick to v e = absurd (cc)
 led_const table flag (Trap k) to v e = absurd (cc)
 led_const table flag (Log x) to v e = absurd (cc)
 
-led_call : (table : List ℕ) (flag : Bool) (i : Instruction) (to g : ℕ) (args : List ℕ) → Call to g args ≡ led table flag i → i ≡ Call to g args
+led_call : (table : List ℕ) (flag : Bool) (i : Instruction) (to g : ℕ) (args : List ℕ)
+    → Call to g args ≡ led table flag i → i ≡ Call to g args
 led_call table flag (Call t h others) to g args e = sym e
 led_call table flag (Const t x) to g args e = absurd (cc)
 led_call table flag (Copy t from) to g args e = absurd (cc)
@@ -113,7 +122,7 @@ led_call table flag (Trap k) to g args e = absurd (cc)
 led_call table flag (Log x) to g args e = absurd (cc)
 
 -- words of a list, read from either side
-at_slice : (vs : List ℤ) (i : ℕ) → at vs i ≡ slice_index_or vs i (pos 0)
+at_slice : (vs : List ℤ) (i : ℕ) → register_at vs i ≡ slice_index_or vs i (pos 0)
 at_slice [] i = refl
 at_slice (v ∷ vs) zero = refl
 at_slice (v ∷ vs) (suc i) = at_slice vs i
@@ -121,33 +130,43 @@ at_slice (v ∷ vs) (suc i) = at_slice vs i
 hold_words : (args : List ℤ) → AreWords args → words.HoldWords args
 hold_words args are r = subst IsWord (sym (at_slice args r)) (are r)
 
-word_in : (w : PoolMap) → HasWords w → (x : code.Spot) → IsWord (load w x)
+word_in : (w : PoolMap) → HasPoolWords w → (x : code.Spot) → IsWord (load_spot w x)
 word_in w has (code.InRoot i) = has.root i
 word_in w has (code.InSlot q i) = has.objects q i
 
-have_words : (w : PoolMap) → length w.slots < 2 ^ 63 → HasWords w → words.HasWords w
+have_words : (w : PoolMap) → length w.slots < 2 ^ 63 → HasPoolWords w → words.HasWords w
 have_words w few has = record { word = word_in w has; slots = few }
 
-words_had : (w : PoolMap) → words.HasWords w → HasWords w
-words_had w has = record { root = λ i. has.word (code.InRoot i); objects = λ q i. has.word (code.InSlot q i) }
+words_had : (w : PoolMap) → words.HasWords w → HasPoolWords w
+words_had w has = record {
+  root = λ i. has.word (code.InRoot i);
+  objects = λ q i.
+      has.word (code.InSlot q i);
+}
 
 -- there are no more transactions than functions
 txs_few : (k : ℕ) (us : List IrFunction) → length (txs_from k us) ≤ length us
 txs_few k [] = omega arith
 txs_few k (u ∷ us) = by_test u.tx (txs_few (k + 1) us)
   where
-    by_test : (b : Bool) → length (txs_from (k + 1) us) ≤ length us → length ((if b then record { function = k; parameters = u.parameters } ∷ [] else []) ++ txs_from (k + 1) us) ≤ suc (length us)
+    by_test : (b : Bool) → length (txs_from (k + 1) us) ≤ length us
+        → length ((if b then record { function = k; parameters = u.parameters } ∷ [] else [])
+        ++ txs_from (k + 1) us) ≤ suc (length us)
     by_test true le = omega (arith, le)
     by_test false le = omega (arith, le)
 
 one_less : (i : ℕ) → suc i - 1 ≡ i
 one_less i = omega arith
 
-done_end : (o : Out ℤ) → IsDone (lower.end_of o)
+done_end : (o : Out ℤ) → HasResult (lower.call_end o)
 done_end (Got v w t) = tt
 done_end (Stops k) = tt
 
-module _ (text : List ℕ) (list : Tokens) (marks : MarkTable) (program : Program) (c : IsCompiledFrom text list marks program) where
+module _ (text : List ℕ) (list : Tokens) (program : Program)
+    (c : IsCompiledFrom text list program) where
+  abbrev marks : MarkTable
+  marks = c.marks
+
   abbrev tree : parser.Program
   tree = program.typed
 
@@ -168,7 +187,8 @@ module _ (text : List ℕ) (list : Tokens) (marks : MarkTable) (program : Progra
 
   few : length tree.lines ≤ 16384
   few =
-      let same : length tree.lines ≡ length list.tokens = ap (λ (ls : List ℕ). length ls) c.lines ∙ length-map list.tokens (λ placed. placed.line) in
+      let same : length tree.lines ≡ length list.tokens = ap (λ (ls : List ℕ). length ls) c.lines
+      ∙ length-map list.tokens (λ placed. placed.line) in
       omega (arith, same, few_tokens text list c.cut)
 
   short : IsShort plain
@@ -189,14 +209,19 @@ module _ (text : List ℕ) (list : Tokens) (marks : MarkTable) (program : Progra
 
   has_code : HasCode program.image s L
   has_code = record {
-    functions = ap (λ (p : ImageParts). p.functions) c.made ∙ ap (λ (z : Sizes). functions_of z L) (sym c.sizes);
+    functions = ap (λ (p : ImageParts). p.functions) c.made ∙ ap (λ (z : Sizes). functions_of z L)
+        (sym c.sizes);
     txs = ap (λ (p : ImageParts). p.txs) c.made;
   }
 
-  found_logged : (f : ℕ) (v : IrFunction) → slice_get L.functions f ≡ Some v → (u : IrFunction) × (slice_get plain.functions f ≡ Some u) × (v ≡ logged_function marks f u)
-  found_logged f v e = by_option (slice_get plain.functions f) refl (sym (function_at marks 0 plain.functions f) ∙ e)
+  found_logged : (f : ℕ) (v : IrFunction) → slice_get L.functions f ≡ Some v → (u : IrFunction)
+      × (slice_get plain.functions f ≡ Some u) × (v ≡ logged_function marks f u)
+  found_logged f v e = by_option (slice_get plain.functions f) refl
+      (sym (function_at marks 0 plain.functions f) ∙ e)
     where
-      by_option : (o : Option IrFunction) → slice_get plain.functions f ≡ o → option_map (logged_function marks (0 + f)) o ≡ Some v → (u : IrFunction) × (slice_get plain.functions f ≡ Some u) × (v ≡ logged_function marks f u)
+      by_option : (o : Option IrFunction) → slice_get plain.functions f ≡ o
+          → option_map (logged_function marks (0 + f)) o ≡ Some v → (u : IrFunction)
+          × (slice_get plain.functions f ≡ Some u) × (v ≡ logged_function marks f u)
       by_option None found h = absurd (cc)
       by_option (Some u) found h =
           let same : logged_function marks (0 + f) u ≡ v = cc in
@@ -207,10 +232,20 @@ module _ (text : List ℕ) (list : Tokens) (marks : MarkTable) (program : Progra
   room f v e =
       let u = found_logged f v e in
       let registers : v.registers ≡ u.0.registers = ap (λ (x : IrFunction). x.registers) u.2 in
-      let code_long : length v.code ≤ 2 * length u.0.code = subst (λ (x : IrFunction). length x.code ≤ 2 * length u.0.code) (sym u.2) (logged_long marks f u.0.code) in
+      let code_long : length v.code ≤ 2 * length u.0.code =
+      subst (λ (x : IrFunction). length x.code ≤ 2 * length u.0.code) (sym u.2)
+      (logged_long marks f u.0.code) in
       let part = part_of_whole plain.functions f u.0 u.1 in
       has_room_for s L v (all_at (IsFunction L) L.functions f v formed.1 e)
-      (omega (arith, registers, (limits tree c.checked).registers f u.0 u.1, (limits tree c.checked).parameters f u.0 u.1, part, long, few))
+      (omega (
+        arith,
+        registers,
+        (limits tree c.checked).registers f u.0 u.1,
+        (limits tree c.checked).parameters f u.0 u.1,
+        part,
+        long,
+        few,
+      ))
       (omega (arith, code_long, part, long, few))
 
   calls_logged : CallsNoTransaction L.functions
@@ -218,16 +253,17 @@ module _ (text : List ℕ) (list : Tokens) (marks : MarkTable) (program : Progra
       let v_is = found_logged g v found in
       ⊎_elim (λ log. absurd (no_log to g args log.1 log.4))
       (λ from. let i : from.1 ≡ Call to g args = led_call from.2 from.3 from.1 to g args from.5 in
-      ap (λ (x : IrFunction). x.tx) v_is.2 ∙ calls tree c.checked f from.0 to g args v_is.0 (from.4 ∙ ap (λ (x : Instruction). Some x) i) v_is.1)
+      ap (λ (x : IrFunction). x.tx) v_is.2 ∙ calls tree c.checked f from.0 to g args v_is.0
+      (from.4 ∙ ap (λ (x : Instruction). Some x) i) v_is.1)
       (origin marks plain c.formed f p (Call to g args) call)
     where
       no_log : (to g : ℕ) (args : List ℕ) (x : Target) → Call to g args ≡ Log x → ⊥
       no_log to g args x e = cc
 
-  constants_plain : words.HasWordConstants plain.functions
+  constants_plain : HasWordConstants plain.functions
   constants_plain = constants text list tree c.cut c.spelled
 
-  constants_logged : words.HasWordConstants L.functions
+  constants_logged : HasWordConstants L.functions
   constants_logged f p to v e =
       ⊎_elim (λ log. absurd (no_log to v log.1 log.4))
       (λ from. let i : from.1 ≡ Const to v = led_const from.2 from.3 from.1 to v from.5 in
@@ -238,118 +274,199 @@ module _ (text : List ℕ) (list : Tokens) (marks : MarkTable) (program : Progra
       no_log to v x e = cc
 
   is_compiled : IsCompiled program.image L
-  is_compiled = record { code = has_code; well = formed; room = room; calls = calls_logged; constants = constants_logged; fits = fit }
+  is_compiled = record {
+    code = has_code;
+    well = formed;
+    room = room;
+    calls = calls_logged;
+    constants = constants_logged;
+    fits = fit;
+  }
 
-  -- the transactions
+  -- the image's transactions are those of the code with its logs
   txs_are : program.image.parts.txs ≡ txs_from 0 (code_of marks t tree 0 t.functions)
   txs_are = has_code.txs ∙ ap (txs_from 0) (all_known L.functions functions_few)
 
-  parameters_are : (tx : ℕ) → parameters_of program.image tx ≡ parameters program tx
+  parameters_are : (tx : ℕ) → tx_parameters program.image tx ≡ source_parameters program tx
   parameters_are zero = refl
   parameters_are (suc i) =
-      ap (λ (es : List TxEntry). option_map (λ (e : TxEntry). e.parameters) (slice_get es i)) txs_are
+      ap (λ (es : List TxEntry). option_map (λ (e : TxEntry). e.parameters) (slice_get es i))
+      txs_are
       ∙ parameters_same marks t tree 0 0 t.functions i
 
   keep : KeepLaw
   keep = kept_all piece_does stays_fit shown cut words_stay
 
-  -- a run, from what the code does
-  matched : (o : Out ℤ) (end : machine_end.End) (h : Words) → EndsAs program.image L (lower.end_of o) end h → Matches program (outcome o) end h
+  -- how a run matches its outcome, from what the code does
+  matched : (o : Out ℤ) (end : machine_end.End) (h : Words)
+      → EndsAs program.image L (lower.call_end o) end h → Matches program (outcome o) end h
   matched (Got v w k) end h e =
       let head = headers_are s (shapes_of tree) h w e.2 e.1 in
-      let pool : pool_of program h ≡ w = pool_same s (shapes_of tree) fit (shapes tree c.checked).few h head.0 ∙ sym head.1 in
-      subst (λ (x : machine_end.End). Matches program (outcome (Got v w k)) x h) (sym e.0) (refl, head.0, pool, words_had w e.3)
+      let pool : source_pool program h ≡ w =
+      pool_same s (shapes_of tree) fit (shapes tree c.checked).few h head.0 ∙ sym head.1 in
+      subst (λ (x : machine_end.End). Matches program (outcome (Got v w k)) x h) (sym e.0)
+      (refl, head.0, pool, words_had w e.3)
   matched (Stops kind) end h e =
       subst (λ (x : machine_end.End). Matches program (outcome (Stops kind)) x h) (sym e) refl
 
-  -- by the room that its logged stores have
+  -- the same, by whether the log has room for the run's logged stores
   matched_if : (full : Bool) (o : Out ℤ) (end : machine_end.End) (h : Words) →
-      EndsIf full program.image L (lower.end_of o) end h →
+      EndsIf full program.image L (lower.call_end o) end h →
       Matches program (if full then meaning.Trap LogFull else outcome o) end h
   matched_if true o end h e =
       subst (λ (x : machine_end.End). Matches program (meaning.Trap LogFull) x h) (sym e) refl
   matched_if false o end h e = matched o end h e
 
-  -- the logged stores of the run of a transaction that is there
+  -- each site for which the walks call is marked
+  all_marked : (a : Site) → IsLogged plain.functions a → table.is_logged marks a ≡ true
+  all_marked a logged = (c.exact a).1 logged
+
+  -- what the run of a function does; nothing if there is none
+  abbrev deeds_by : PoolMap → List ℤ → Option ℕ → List Deed
+  deeds_by w args o = option_map_or (deeds_in plain s.ticks w args) o []
+
+  -- the logged stores of the run of a function
+  abbrev number_by : PoolMap → List ℤ → Option ℕ → ℕ
+  number_by w args o = records_of (table.is_logged marks) (deeds_by w args o)
+
+  logs_by : (w : PoolMap) (args : List ℤ) (o : Option ℕ) →
+      AreLogged plain.functions (stored_at (deeds_by w args o)) (number_by w args o)
+  logs_by w args None = refl
+  logs_by w args (Some g) =
+      are_logged marks plain c.exact (deeds_in plain s.ticks w args g)
+      (all_stores plain ((s.ticks + 1) * whole plain.functions) (code_start g args w s.ticks))
+
+  pub comes : (w : PoolMap) (tx : ℕ) (args : List ℤ) →
+      (logged : ℕ) × (o : Outcome) × ComesTo program w tx args logged o
+  comes w tx args =
+      let number : ℕ = number_by w args (lower.entry_in tx plain.functions) in (
+        number,
+        outcome_with program w tx args number,
+        record { logs = logs_by w args (lower.entry_in tx plain.functions); is = refl },
+      )
+
+  -- the logged stores of the run of a transaction that the image has
   counted : (i : ℕ) (args : List ℤ) (w : PoolMap) (entry : TxEntry) →
       slice_get program.image.parts.txs i ≡ Some entry →
-      records_of (table.is_logged marks) (deeds plain ((s.ticks + 1) * whole plain.functions) (start entry.function args w s.ticks)) ≡ counts_of program marks w (suc i) args
+      LogsStores program w (suc i) args (number_by w args (Some entry.function))
   counted i args w entry found =
       let function : slice_get (lower.entries_from 0 plain.functions) i ≡ Some entry.function =
-      sym (entries_same marks t tree 0 0 t.functions i) ∙ ap (λ (es : List TxEntry). option_map (λ (e : TxEntry). e.function) (slice_get es i)) (sym txs_are) ∙ ap (option_map (λ (e : TxEntry). e.function)) found in
-      sym (ap (λ (o : Option ℕ). records_of (table.is_logged marks) (option_map_or (deeds_in plain s.ticks w args) o [])) function)
+      sym (entries_same marks t tree 0 0 t.functions i)
+      ∙ ap (λ (es : List TxEntry). option_map (λ (e : TxEntry). e.function) (slice_get es i))
+      (sym txs_are) ∙ ap (option_map (λ (e : TxEntry). e.function)) found in
+      subst (λ (o : Option ℕ).
+      AreLogged plain.functions (stored_at (deeds_by w args o))
+      (number_by w args (Some entry.function))) (sym function)
+      (logs_by w args (Some entry.function))
 
-  runs : (h : Words) (tx : ℕ) (args : List ℤ) → HasHeaders program h → HasWords (pool_of program h) → AreWords args → parameters_of program.image tx ≡ Some (length args) → RunsAs program (counts_of program marks) h tx args
+  runs : (h : Words) (tx : ℕ) (args : List ℤ) → HasSourceHeaders program h
+      → HasPoolWords (source_pool program h) → AreWords args
+      → tx_parameters program.image tx ≡ Some (length args)
+      → RunsAs program h tx args
   runs h zero args head pool are takes = absurd (cc)
   runs h (suc i) args head pool are takes =
       by_entry (slice_get program.image.parts.txs i) refl
     where
-      by_entry : (o : Option TxEntry) → slice_get program.image.parts.txs i ≡ o → RunsAs program (counts_of program marks) h (suc i) args
-      by_entry None found = absurd (none_some (length args) (sym (ap (option_map (λ (e : TxEntry). e.parameters)) found) ∙ takes))
+      by_entry : (o : Option TxEntry) → slice_get program.image.parts.txs i ≡ o
+          → RunsAs program h (suc i) args
+      by_entry None found = absurd (none_some (length args)
+          (sym (ap (option_map (λ (e : TxEntry). e.parameters)) found) ∙ takes))
         where
           none_some : (n : ℕ) → None ≡ Some n → ⊥
           none_some n e = cc
       by_entry (Some entry) found =
-          let e = entry_is marks t tree 0 0 t.functions i entry (sym (ap (λ (es : List TxEntry). slice_get es i) txs_are) ∙ found) in
+          let e = entry_is marks t tree 0 0 t.functions i entry
+          (sym (ap (λ (es : List TxEntry). slice_get es i) txs_are) ∙ found) in
           let g : ℕ = e.g in
           let function : entry.function ≡ g = e.function ∙ (let z : 0 + g ≡ g = omega arith in z) in
           let n : ℕ = s.ticks in
           let k : ℕ = (n + 1) * whole plain.functions in
           let valid : HasValidHeaders s (length (shapes_of tree).structs) h = head in
-          let same : pool_of program h ≡ pool_in (shapes_of tree) s h = pool_same s (shapes_of tree) fit (shapes tree c.checked).few h valid in
+          let same : source_pool program h ≡ pool_in (shapes_of tree) s h =
+          pool_same s (shapes_of tree) fit (shapes tree c.checked).few h valid in
           let stood = pool_is s (shapes_of tree) h fit valid in
-          let w : PoolMap = pool_of program h in
+          let w : PoolMap = source_pool program h in
           let stands : Stands s h w = subst (Stands s h) (sym same) stood.0 in
           let slots_few : length w.slots < 2 ^ 63 = omega (arith, stands.slots, s.slots_fit.1) in
-          let o : Out ℤ = entered t (calls_of t 255) e.f args w n in
-          let ends : exec plain k (start entry.function args w n) ≡ lower.end_of o = ap (λ (x : ℕ). exec plain k (start x args w n)) function ∙ (lowering.lower tree c.checked).ends g e.f args w n e.found in
+          let o : Out ℤ = function_value t (calls_of t 255) e.f args w n in
+          let ends : exec plain k (code_start entry.function args w n) ≡ lower.call_end o =
+          ap (λ (x : ℕ). exec plain k (code_start x args w n)) function
+          ∙ (lowering.lower tree c.checked).ends g e.f args w n e.found in
           let transaction_is : IsTransaction plain.functions entry.function = (
             lowered_function t tree e.f,
-            ap (slice_get plain.functions) function ∙ slice_get-map (lowered_function t tree) t.functions g ∙ ap (option_map (lowered_function t tree)) e.found,
+            ap (slice_get plain.functions) function ∙ slice_get-map (lowered_function t tree)
+                t.functions g ∙ ap (option_map (lowered_function t tree)) e.found,
             e.marked,
           ) in
           let enough : 2 * k * most ≤ program.image.parts.most =
-          subst (λ (x : ℕ). 2 * k * most ≤ x) (sym (ap (λ (p : ImageParts). p.most) c.made ∙ ap (λ (z : Sizes). most_steps z (length tree.lines)) (sym c.sizes)))
+          subst (λ (x : ℕ). 2 * k * most ≤ x)
+          (sym (ap (λ (p : ImageParts). p.most) c.made
+          ∙ ap (λ (z : Sizes). most_steps z (length tree.lines)) (sym c.sizes)))
           (enough_steps s (length tree.lines) (whole plain.functions) long) in
-          let ran = compiled_run heap_apart covered keep words_stay marks plain c.formed (lowering.parameters tree c.checked) c.whole constants_plain (logs tree c.checked) program.image is_compiled (suc i) entry (ap (slice_get program.image.parts.txs) (one_less i) ∙ found) transaction_is args h w (hold_words args are) (have_words w slots_few pool)
-          stands (subst (PoolFits (shapes_of tree)) (sym same) stood.1) k program.image.parts.most (subst IsDone (sym ends) (done_end o)) enough in
-          let means_is : means program w (suc i) args ≡ outcome o = ap (λ (x : Option FunctionTree). run t x w args n) e.named in
-          let number : ℕ = records_of (table.is_logged marks) (deeds plain k (start entry.function args w n)) in
-          let number_is : number ≡ counts_of program marks w (suc i) args = counted i args w entry found in
-          let comes : (if nat_lt s.records number then meaning.Trap LogFull else outcome o) ≡ comes_to program (counts_of program marks) w (suc i) args =
-          ap (λ (x : ℕ). if nat_lt s.records x then meaning.Trap LogFull else outcome o) number_is
-          ∙ ap (λ (x : Outcome). if nat_lt s.records (counts_of program marks w (suc i) args) then meaning.Trap LogFull else x) (sym means_is) in
+          let ran = compiled_run heap_apart covered keep words_stay marks plain c.formed
+          (lowering.parameters tree c.checked) all_marked constants_plain (logs tree c.checked)
+          program.image is_compiled (suc i) entry
+          (ap (slice_get program.image.parts.txs) (one_less i) ∙ found) transaction_is args h w
+          (hold_words args are) (have_words w slots_few pool)
+          stands (subst (PoolFits (shapes_of tree)) (sym same) stood.1) k program.image.parts.most
+          (subst HasResult (sym ends) (done_end o)) enough in
+          let means_is : means program w (suc i) args ≡ outcome o =
+          ap (λ (x : Option FunctionTree). run_transaction t x w args n) e.named in
+          let number : ℕ = records_of (table.is_logged marks)
+          (deeds plain k (code_start entry.function args w n)) in
+          let same_outcome : (if nat_lt s.records number then meaning.Trap LogFull else outcome o)
+          ≡ outcome_with program w (suc i) args number =
+          ap (λ (x : Outcome). if nat_lt s.records number then meaning.Trap LogFull else x)
+          (sym means_is) in
           record {
             end = ran.end;
             effects = ran.effects;
             ran = ran.is;
             sound = ran.sound;
-            counted = λ value halted. ran.records value halted ∙ number_is;
+            logged = number;
+            logs = counted i args w entry found;
+            counted = ran.records;
             matches =
-                subst (λ (x : Outcome). Matches program x ran.end (heap_end h ran.effects)) comes
+                subst (λ (x : Outcome). Matches program x ran.end (heap_end h ran.effects))
+                same_outcome
                 (matched_if (nat_lt s.records number) o ran.end (heap_end h ran.effects)
-                (subst (λ (x : End). EndsIf (nat_lt s.records number) program.image L x ran.end (heap_end h ran.effects)) ends ran.agrees));
+                (subst (λ (x : CodeEnd). EndsIf (nat_lt s.records number) program.image L x ran.end
+                (heap_end h ran.effects)) ends ran.agrees));
           }
 
-  few_are : (tx n : ℕ) → parameters_of program.image tx ≡ Some n → (tx < 2 ^ 63) × (n ≤ 22)
+  few_are : (tx n : ℕ) → tx_parameters program.image tx ≡ Some n → (tx < 2 ^ 63) × (n ≤ 22)
   few_are zero n takes = absurd (cc)
   few_are (suc i) n takes = by_entry (slice_get program.image.parts.txs i) refl
     where
       none_some : (m : ℕ) → None ≡ Some m → ⊥
       none_some m e = cc
 
-      by_entry : (o : Option TxEntry) → slice_get program.image.parts.txs i ≡ o → (suc i < 2 ^ 63) × (n ≤ 22)
-      by_entry None found = absurd (none_some n (sym (ap (option_map (λ (e : TxEntry). e.parameters)) found) ∙ takes))
+      by_entry : (o : Option TxEntry) → slice_get program.image.parts.txs i ≡ o → (suc i < 2 ^ 63)
+          × (n ≤ 22)
+      by_entry None found = absurd (none_some n
+          (sym (ap (option_map (λ (e : TxEntry). e.parameters)) found) ∙ takes))
       by_entry (Some entry) found =
-          let in_order : slice_get (txs_from 0 (code_of marks t tree 0 t.functions)) i ≡ Some entry = sym (ap (λ (es : List TxEntry). slice_get es i) txs_are) ∙ found in
+          let in_order : slice_get (txs_from 0 (code_of marks t tree 0 t.functions)) i
+          ≡ Some entry = sym (ap (λ (es : List TxEntry). slice_get es i) txs_are) ∙ found in
           let e = entry_is marks t tree 0 0 t.functions i entry in_order in
-          let taken : Some entry.parameters ≡ Some n = sym (ap (option_map (λ (e : TxEntry). e.parameters)) found) ∙ takes in
+          let taken : Some entry.parameters ≡ Some n =
+          sym (ap (option_map (λ (e : TxEntry). e.parameters)) found) ∙ takes in
           let same : entry.parameters ≡ n = cc in
-          let lowered_is : slice_get plain.functions e.g ≡ Some (lowered_function t tree e.f) = slice_get-map (lowered_function t tree) t.functions e.g ∙ ap (option_map (lowered_function t tree)) e.found in
-          let inside = slice_get_within (txs_from 0 (code_of marks t tree 0 t.functions)) i entry in_order in
-          (omega (arith, inside, txs_few 0 L.functions, functions_few), omega (arith, same, e.parameters, (limits tree c.checked).parameters e.g (lowered_function t tree e.f) lowered_is))
+          let lowered_is : slice_get plain.functions e.g ≡ Some (lowered_function t tree e.f) =
+          slice_get-map (lowered_function t tree) t.functions e.g
+          ∙ ap (option_map (lowered_function t tree)) e.found in
+          let inside = slice_get_within (txs_from 0 (code_of marks t tree 0 t.functions)) i entry
+          in_order in (
+            omega (arith, inside, txs_few 0 L.functions, functions_few),
+            omega (
+              arith,
+              same,
+              e.parameters,
+              (limits tree c.checked).parameters e.g (lowered_function t tree e.f) lowered_is,
+            ),
+          )
 
-  pub agrees : Agrees program (counts_of program marks)
+  pub agrees : Agrees program
   agrees = record {
     root = fit.root;
     parameters = parameters_are;
@@ -358,4 +475,7 @@ module _ (text : List ℕ) (list : Tokens) (marks : MarkTable) (program : Progra
   }
 
 pub compiled : CompiledLaw
-compiled text list marks program c = agrees text list marks program c
+compiled = agrees
+
+pub compiled_comes : ComesLaw
+compiled_comes = comes

@@ -1,4 +1,4 @@
--- The log records of a run are its stores at sites that the marks log.
+-- A run writes one log record for each of its stores at sites that the marks log.
 use Rattle.std.proofs.Common.{◌≡◌, ℕ, zero, suc, ◌+◌, ◌<◌, Bool, true, false, List, [], ◌∷◌, ◌++◌, Option, Some, None, refl, sym, ap, ◌∙◌, subst, arith}
 use Rattle.std.specs.Prelude.{slice_get, option_and_then, if◌then◌else◌}
 use Rattle.pool_layout.specs.declared.limits.Sizes.{Sizes}
@@ -14,7 +14,7 @@ use Rattle.clobber_pass.specs.declared.marking.MarkTable.{MarkTable}
 use Rattle.clobber_pass.specs.Logged as table
 use Rattle.instrument.specs.Insert as insert
 use Rattle.instrument.specs.Insert.{logs, led, place_in, places_from, flags_from, flagged, logged_program}
-use Rattle.code_meaning.specs.Code.{State}
+use Rattle.code_meaning.specs.Code.{CodeState}
 use Rattle.code_meaning.specs.Deeds.{Deed, Reads, Writes, Heads, site, deeds}
 use Rattle.insert_law.specs.Moved.{code_in, begins, stands, moved_site, moved_deeds}
 use Rattle.insert_law.proofs.Standing.{standing, fill_stands}
@@ -23,10 +23,10 @@ use Rattle.pm_machine.specs.declared.effect.Effect.TheVariants.{Loads, Scans, St
 use Rattle.pm_machine.specs.Effects.{records_end}
 use Rattle.codegen.specs.Emit.{is_log}
 use Rattle.piece_law.specs.Shows as shows
-use Rattle.piece_law.specs.Shows.{Shows, done, looks, scans, reads, plain, heads, TakesLog, IsCut}
+use Rattle.piece_law.specs.Shows.{ShowsDeeds, done, looks, scans, reads, plain, heads, TakesLog, IsCutAtStore}
 use Rattle.match_law.specs.Accesses.{accesses}
-use Rattle.match_law.specs.Compiled.{logs_at, is_logged}
-use Rattle.compiled_law.specs.Counts.{records_of}
+use Rattle.match_law.specs.Compiled.{logs_at, is_logged_in_code}
+use Rattle.compiled_law.specs.inside.Records.{records_of}
 use Rattle.compiled_law.proofs.Marked.{IsStoreAt, AreStores, all_stores, logged_at, fill_at, moved_logged_true}
 
 records_accesses : (n : ℕ) (es : List Effect) → records_end n (accesses es) ≡ records_end n es
@@ -43,36 +43,46 @@ next : (n m : ℕ) → suc n + m ≡ n + suc m
 next n m = omega arith
 
 module _ (s : Sizes) (logged : Site → Bool) where
-  records_shown : (n : ℕ) (ds : List Deed) (es : List Effect) → Shows s logged ds es → records_end n es ≡ n + records_of logged ds
+  records_shown : (n : ℕ) (ds : List Deed) (es : List Effect) → ShowsDeeds s logged ds es
+      → records_end n es ≡ n + records_of logged ds
   records_shown n ds es done = omega arith
   records_shown n ds es (looks {ds = a} {es = b} q there rest) = records_shown n a b rest
   records_shown n ds es (scans {ds = a} {es = b} k few rest) = records_shown n a b rest
   records_shown n ds es (reads {ds = a} {es = b} x there rest) = records_shown n a b rest
   records_shown n ds es (plain {ds = a} {es = b} site x v there unlogged rest) =
-      records_shown n a b rest ∙ ap (λ (c : Bool). n + (if c then suc (records_of logged a) else records_of logged a)) (sym unlogged)
+      records_shown n a b rest ∙ ap (λ (c : Bool).
+      n + (if c then suc (records_of logged a) else records_of logged a)) (sym unlogged)
   records_shown n ds es (shows.logs {ds = a} {es = b} site x v there log rest) =
-      records_shown (suc n) a b rest ∙ next n (records_of logged a) ∙ ap (λ (c : Bool). n + (if c then suc (records_of logged a) else records_of logged a)) (sym log)
-  records_shown n ds es (heads {ds = a} {es = b} site q v there rest) = records_shown (suc n) a b rest ∙ next n (records_of logged a)
+      records_shown (suc n) a b rest ∙ next n (records_of logged a)
+      ∙ ap (λ (c : Bool). n + (if c then suc (records_of logged a) else records_of logged a))
+      (sym log)
+  records_shown n ds es (heads {ds = a} {es = b} site q v there rest) =
+      records_shown (suc n) a b rest ∙ next n (records_of logged a)
 
--- after a first part, a store that is logged counts as one more
+-- after a first part of a run, a store that is logged counts as one more record
 pub records_before : (logged : Site → Bool) (before : List Deed) (due : Deed) (later : List Deed) →
     TakesLog logged due → records_of logged before < records_of logged (before ++ due ∷ later)
 records_before logged [] (Reads x) later takes = absurd takes
 records_before logged [] (Writes site x v) later takes =
-    subst (λ (b : Bool). 0 < (if b then suc (records_of logged later) else records_of logged later)) (sym takes) (omega arith)
+    subst (λ (b : Bool). 0 < (if b then suc (records_of logged later) else records_of logged later))
+    (sym takes) (omega arith)
 records_before logged [] (Heads site q v) later takes = omega arith
 records_before logged (Reads x ∷ ds) due later takes = records_before logged ds due later takes
 records_before logged (Writes site x v ∷ ds) due later takes =
     by_test (logged site) (records_before logged ds due later takes)
   where
     by_test : (b : Bool) → records_of logged ds < records_of logged (ds ++ due ∷ later) →
-        (if b then suc (records_of logged ds) else records_of logged ds) < (if b then suc (records_of logged (ds ++ due ∷ later)) else records_of logged (ds ++ due ∷ later))
+        (if b then suc (records_of logged ds) else records_of logged ds)
+        < (if b then suc (records_of logged (ds ++ due ∷ later))
+        else records_of logged (ds ++ due ∷ later))
     by_test true less = omega (arith, less)
     by_test false less = less
-records_before logged (Heads site q v ∷ ds) due later takes = let less = records_before logged ds due later takes in omega (arith, less)
+records_before logged (Heads site q v ∷ ds) due later takes = let less =
+    records_before logged ds due later takes in omega (arith, less)
 
--- no log but those of the marks
-no_log : (table : List ℕ) (flag : Bool) (i : Instruction) → ((x : Target) → i ≡ Log x → ⊥) → is_log (led table flag i) ≡ false
+-- the only logs are those of the marks
+no_log : (table : List ℕ) (flag : Bool) (i : Instruction) → ((x : Target) → i ≡ Log x → ⊥)
+    → is_log (led table flag i) ≡ false
 no_log table flag (Log x) none = absurd (none x refl)
 no_log table flag (Const to v) none = refl
 no_log table flag (Copy to from) none = refl
@@ -88,7 +98,7 @@ no_log table flag (Return from) none = refl
 no_log table flag Tick none = refl
 no_log table flag (Trap k) none = refl
 
--- an instruction that is no log keeps its place
+-- an instruction that is no log stays at its place
 plain_at : (i : Instruction) → ((x : Target) → i ≡ Log x → ⊥) → insert.is_log i ≡ false
 plain_at (Log x) none = absurd (none x refl)
 plain_at (Const to v) none = refl
@@ -105,84 +115,123 @@ plain_at (Return from) none = refl
 plain_at Tick none = refl
 plain_at (Trap k) none = refl
 
-behind : (o : Option IrFunction) (q : ℕ) (i : Instruction) → option_and_then (λ (u : IrFunction). slice_get u.code q) o ≡ Some i → logs_at o (suc q) false ≡ is_log i
-behind None q i e = absurd (cc)
-behind (Some u) q i e = logged_at false u.code q i e
+logged_after : (o : Option IrFunction) (q : ℕ) (i : Instruction)
+    → option_and_then (λ (u : IrFunction). slice_get u.code q) o ≡ Some i
+    → logs_at o (suc q) false ≡ is_log i
+logged_after None q i e = absurd (cc)
+logged_after (Some u) q i e = logged_at false u.code q i e
 
 first_unlogged : (o : Option IrFunction) → logs_at o 0 false ≡ false
 first_unlogged None = refl
 first_unlogged (Some u) = refl
 
--- an instruction before another
-before_it : (us : List IrFunction) (f p : ℕ) (i : Instruction) → instruction_at us f (suc p) ≡ Some i → (j : Instruction) × (instruction_at us f p ≡ Some j)
+-- each instruction but the first has one before it
+before_it : (us : List IrFunction) (f p : ℕ) (i : Instruction)
+    → instruction_at us f (suc p) ≡ Some i → (j : Instruction) × (instruction_at us f p ≡ Some j)
 before_it us f p i e = by_function (slice_get us f) e
   where
-    in_code : (code : List Instruction) (p : ℕ) → slice_get code (suc p) ≡ Some i → (j : Instruction) × (slice_get code p ≡ Some j)
+    in_code : (code : List Instruction) (p : ℕ) → slice_get code (suc p) ≡ Some i
+        → (j : Instruction) × (slice_get code p ≡ Some j)
     in_code [] p e = absurd (cc)
     in_code (x ∷ code) zero e = (x, refl)
     in_code (x ∷ code) (suc p) e = in_code code p e
 
-    by_function : (o : Option IrFunction) → option_and_then (λ (u : IrFunction). slice_get u.code (suc p)) o ≡ Some i → (j : Instruction) × (option_and_then (λ (u : IrFunction). slice_get u.code p) o ≡ Some j)
+    by_function : (o : Option IrFunction)
+        → option_and_then (λ (u : IrFunction). slice_get u.code (suc p)) o ≡ Some i
+        → (j : Instruction) × (option_and_then (λ (u : IrFunction). slice_get u.code p) o ≡ Some j)
     by_function None e = absurd (cc)
     by_function (Some u) e = in_code u.code p e
 
-module _ (marks : MarkTable) (ir : Ir) (formed : IsWellFormed ir) (bare : (f p : ℕ) (x : Target) → instruction_at ir.functions f p ≡ Some (Log x) → ⊥) where
+module _ (marks : MarkTable) (ir : Ir) (formed : IsWellFormed ir) (bare : (f p : ℕ) (x : Target)
+    → instruction_at ir.functions f p ≡ Some (Log x) → ⊥) where
   abbrev L : Ir
   L = logged_program marks ir
 
-  unlogged : (f p : ℕ) (x : Target) (from line : ℕ) → instruction_at ir.functions f p ≡ Some (Store x from line) → table.is_logged marks (site f p false) ≡ false → logs_at (slice_get L.functions f) (stands marks ir.functions f p) false ≡ false
+  unlogged : (f p : ℕ) (x : Target) (from line : ℕ)
+      → instruction_at ir.functions f p ≡ Some (Store x from line)
+      → table.is_logged marks (site f p false) ≡ false
+      → logs_at (slice_get L.functions f) (stands marks ir.functions f p) false ≡ false
   unlogged f p x from line e off =
       let s = standing marks ir formed f p (Store x from line) e in
-      ap (λ (q : ℕ). logs_at (slice_get L.functions f) q false) (s.none (ap (λ (b : Bool). logs b (Store x from line)) off)) ∙ by_place p refl
+      ap (λ (q : ℕ). logs_at (slice_get L.functions f) q false)
+      (s.none (ap (λ (b : Bool). logs b (Store x from line)) off)) ∙ by_place p refl
     where
-      first : (flags : List Bool) (code : List Instruction) → place_in (places_from flags 0 0 code) 0 ≡ 0
+      first : (flags : List Bool) (code : List Instruction)
+          → place_in (places_from flags 0 0 code) 0 ≡ 0
       first flags [] = refl
       first flags (i ∷ code) = refl
 
-      by_place : (q : ℕ) → p ≡ q → logs_at (slice_get L.functions f) (begins marks ir.functions f q) false ≡ false
-      by_place zero is = ap (λ (n : ℕ). logs_at (slice_get L.functions f) n false) (first (flags_from marks f 0 (code_in ir.functions f)) (code_in ir.functions f)) ∙ first_unlogged (slice_get L.functions f)
+      by_place : (q : ℕ) → p ≡ q → logs_at (slice_get L.functions f) (begins marks ir.functions f q)
+          false ≡ false
+      by_place zero is = ap (λ (n : ℕ). logs_at (slice_get L.functions f) n false)
+          (first (flags_from marks f 0 (code_in ir.functions f)) (code_in ir.functions f))
+          ∙ first_unlogged (slice_get L.functions f)
       by_place (suc q) is =
-          let j = before_it ir.functions f q (Store x from line) (ap (instruction_at ir.functions f) (sym is) ∙ e) in
+          let j = before_it ir.functions f q (Store x from line)
+          (ap (instruction_at ir.functions f) (sym is) ∙ e) in
           let s = standing marks ir formed f q j.0 j.1 in
-          let bare_at : (y : Target) → j.0 ≡ Log y → ⊥ = λ y h. bare f q y (j.1 ∙ ap (λ (i : Instruction). Some i) h) in
+          let bare_at : (y : Target) → j.0 ≡ Log y → ⊥ =
+          λ y h. bare f q y (j.1 ∙ ap (λ (i : Instruction). Some i) h) in
           let own = plain_at j.0 bare_at in
           ap (λ (n : ℕ). logs_at (slice_get L.functions f) n false) (s.next own)
-          ∙ behind (slice_get L.functions f) (stands marks ir.functions f q) (led (places_from (flags_from marks f 0 (code_in ir.functions f)) 0 0 (code_in ir.functions f)) (flagged marks f q j.0) j.0) (s.self own)
-          ∙ no_log (places_from (flags_from marks f 0 (code_in ir.functions f)) 0 0 (code_in ir.functions f)) (flagged marks f q j.0) j.0 bare_at
+          ∙ logged_after (slice_get L.functions f) (stands marks ir.functions f q)
+          (led (places_from (flags_from marks f 0 (code_in ir.functions f)) 0 0
+          (code_in ir.functions f)) (flagged marks f q j.0) j.0) (s.self own)
+          ∙ no_log (places_from (flags_from marks f 0 (code_in ir.functions f)) 0 0
+          (code_in ir.functions f)) (flagged marks f q j.0) j.0 bare_at
 
-  logged_same : (fill : Bool) (f p : ℕ) → IsStoreAt ir.functions fill f p → is_logged L (moved_site marks ir.functions (site f p fill)) ≡ table.is_logged marks (site f p fill)
-  logged_same true f p fill = fill_at (slice_get L.functions f) (stands marks ir.functions f p) fill.0 fill.1 fill.3 (table.is_logged marks (site f p true)) (fill_stands marks ir formed f p fill.0 fill.1 fill.3 fill.2 fill.4)
+  logged_same : (fill : Bool) (f p : ℕ) → IsStoreAt ir.functions fill f p
+      → is_logged_in_code L (moved_site marks ir.functions (site f p fill)) ≡ table.is_logged marks
+      (site f p fill)
+  logged_same true f p fill = fill_at (slice_get L.functions f) (stands marks ir.functions f p)
+      fill.0 fill.1 fill.3 (table.is_logged marks (site f p true))
+      (fill_stands marks ir formed f p fill.0 fill.1 fill.3 fill.2 fill.4)
   logged_same false f p store = by_test (table.is_logged marks (site f p false)) refl
     where
-      by_test : (b : Bool) → table.is_logged marks (site f p false) ≡ b → is_logged L (moved_site marks ir.functions (site f p false)) ≡ table.is_logged marks (site f p false)
+      by_test : (b : Bool) → table.is_logged marks (site f p false) ≡ b
+          → is_logged_in_code L (moved_site marks ir.functions (site f p false)) ≡ table.is_logged
+          marks (site f p false)
       by_test true on = moved_logged_true marks ir formed f p store on ∙ sym on
       by_test false off = unlogged f p store.0 store.1 store.2 store.3 off ∙ sym off
 
-  records_moved : (ds : List Deed) → AreStores ir ds → records_of (is_logged L) (moved_deeds marks ir.functions ds) ≡ records_of (table.is_logged marks) ds
+  records_moved : (ds : List Deed) → AreStores ir ds
+      → records_of (is_logged_in_code L) (moved_deeds marks ir.functions ds)
+      ≡ records_of (table.is_logged marks) ds
   records_moved [] are = refl
   records_moved (Reads x ∷ ds) are = records_moved ds are
   records_moved (Writes a x v ∷ ds) are =
-      ap (λ (n : ℕ). if is_logged L (moved_site marks ir.functions a) then suc n else n) (records_moved ds are.1)
-      ∙ ap (λ (b : Bool). if b then suc (records_of (table.is_logged marks) ds) else records_of (table.is_logged marks) ds) (logged_same a.fill a.function a.place are.0)
-  records_moved (Heads a q v ∷ ds) are = ap suc (records_moved ds are)
+      ap (λ (n : ℕ). if is_logged_in_code L (moved_site marks ir.functions a) then suc n else n)
+      (records_moved ds are.1)
+      ∙ ap (λ (b : Bool). if b then suc (records_of (table.is_logged marks) ds)
+      else records_of (table.is_logged marks) ds) (logged_same a.fill a.function a.place are.0)
+  records_moved (Heads a q v ∷ ds) are = ap suc (records_moved ds are.1)
 
-  pub records_are : (s : Sizes) (k : ℕ) (c : State) (es : List Effect) → Shows s (is_logged L) (moved_deeds marks ir.functions (deeds ir k c)) (accesses es) → records_end 0 es ≡ records_of (table.is_logged marks) (deeds ir k c)
+  pub records_are : (s : Sizes) (k : ℕ) (c : CodeState) (es : List Effect)
+      → ShowsDeeds s (is_logged_in_code L) (moved_deeds marks ir.functions (deeds ir k c))
+      (accesses es) → records_end 0 es ≡ records_of (table.is_logged marks) (deeds ir k c)
   records_are s k c es shown =
-      sym (records_accesses 0 es) ∙ records_shown s (is_logged L) 0 (moved_deeds marks ir.functions (deeds ir k c)) (accesses es) shown
-      ∙ zero_plus (records_of (is_logged L) (moved_deeds marks ir.functions (deeds ir k c))) ∙ records_moved (deeds ir k c) (all_stores ir k c)
+      sym (records_accesses 0 es) ∙ records_shown s (is_logged_in_code L) 0
+      (moved_deeds marks ir.functions (deeds ir k c)) (accesses es) shown
+      ∙ zero_plus (records_of (is_logged_in_code L) (moved_deeds marks ir.functions (deeds ir k c)))
+      ∙ records_moved (deeds ir k c) (all_stores ir k c)
     where
       zero_plus : (n : ℕ) → 0 + n ≡ n
       zero_plus n = omega arith
 
-  -- one that is cut before a store that is logged has written fewer than the whole
-  pub records_cut : (s : Sizes) (k : ℕ) (c : State) (es : List Effect) →
-      IsCut s (is_logged L) (moved_deeds marks ir.functions (deeds ir k c)) (accesses es) →
+  -- a run that is cut before a logged store has written fewer records than the whole run
+  pub records_cut : (s : Sizes) (k : ℕ) (c : CodeState) (es : List Effect) →
+      IsCutAtStore s (is_logged_in_code L) (moved_deeds marks ir.functions (deeds ir k c))
+      (accesses es) →
       records_end 0 es < records_of (table.is_logged marks) (deeds ir k c)
   records_cut s k c es cut =
       let own : records_end 0 es ≡ records_end 0 (accesses es) = sym (records_accesses 0 es) in
-      let first : records_end 0 (accesses es) ≡ 0 + records_of (is_logged L) cut.before = records_shown s (is_logged L) 0 cut.before (accesses es) cut.shows in
-      let less : records_of (is_logged L) cut.before < records_of (is_logged L) (cut.before ++ cut.due ∷ cut.later) = records_before (is_logged L) cut.before cut.due cut.later cut.takes_log in
-      let whole : records_of (is_logged L) (cut.before ++ cut.due ∷ cut.later) ≡ records_of (table.is_logged marks) (deeds ir k c) =
-      ap (records_of (is_logged L)) (sym cut.is)
+      let first : records_end 0 (accesses es) ≡ 0 + records_of (is_logged_in_code L) cut.before =
+      records_shown s (is_logged_in_code L) 0 cut.before (accesses es) cut.shows in
+      let less : records_of (is_logged_in_code L) cut.before < records_of (is_logged_in_code L)
+      (cut.before ++ cut.due ∷ cut.later) =
+      records_before (is_logged_in_code L) cut.before cut.due cut.later cut.takes_log in
+      let whole : records_of (is_logged_in_code L) (cut.before ++ cut.due ∷ cut.later)
+      ≡ records_of (table.is_logged marks) (deeds ir k c) =
+      ap (records_of (is_logged_in_code L)) (sym cut.is)
       ∙ records_moved (deeds ir k c) (all_stores ir k c) in
       omega (arith, own, first, less, whole)

@@ -1,4 +1,4 @@
--- The numbers of a compiled program: few tokens, little code, and the bound on steps.
+-- The numbers of a compiled program: its tokens, the length of its code, and the bound on steps.
 use Rattle.std.proofs.Common.{◌≡◌, ℕ, zero, suc, ◌+◌, ◌*◌, ◌<◌, ◌≤◌, ◌^◌, Bool, true, false, List, [], ◌∷◌, ◌++◌, length, Some, refl, sym, ap, arith, length-append, ⊎_elim}
 use Rattle.std.specs.Prelude.{slice_get, nat_lt, if◌then◌else◌, Result, Ok, Err}
 use Rattle.std.specs.List.{AllByRecursion}
@@ -8,7 +8,7 @@ use Rattle.pool_layout.specs.declared.limits.Sizes.{Sizes}
 use Rattle.c_lexer.specs.declared.fault.LexFault.{LexFault}
 use Rattle.c_lexer.specs.declared.fault.LexFault.TheVariants.{TooLong}
 use Rattle.c_lexer.specs.declared.token.Placed.{Placed}
-use Rattle.c_lexer.specs.Cuts.{Cut, cut, ended, limited, answer}
+use Rattle.c_lexer.specs.Cuts.{Cut, cut, lex_answer, limited, answer}
 use Rattle.c_lexer.specs.TokenList.{Tokens}
 use Rattle.ir.specs.declared.instruction.Instruction.{Instruction}
 use Rattle.ir.specs.declared.function.IrFunction.{IrFunction}
@@ -20,40 +20,53 @@ use Rattle.codegen.specs.Emit.{most_steps, known}
 use Rattle.code_meaning.specs.Whole.{whole}
 
 -- a text has at most 16,384 tokens
-ended_tokens : (tokens : List Placed) (r : Result ℕ LexFault) (list : Tokens) → ended tokens r ≡ Ok list → list.tokens ≡ tokens
-ended_tokens tokens (Ok last) list e = let same : record { tokens = tokens; last = last } ≡ list = cc in ap (λ (l : Tokens). l.tokens) (sym same)
+ended_tokens : (tokens : List Placed) (r : Result ℕ LexFault) (list : Tokens)
+    → lex_answer tokens r ≡ Ok list → list.tokens ≡ tokens
+ended_tokens tokens (Ok last) list e = let same : record { tokens = tokens; last = last } ≡ list =
+    cc in ap (λ (l : Tokens). l.tokens) (sym same)
 ended_tokens tokens (Err fault) list e = absurd (cc)
 
 limited_few : (c : Cut) (list : Tokens) → limited c ≡ Ok list → length list.tokens ≤ 16384
 limited_few c list e = by_test (nat_lt 16384 (length c.tokens)) refl e
   where
-    by_test : (b : Bool) → nat_lt 16384 (length c.tokens) ≡ b → (if b then Err TooLong else ended c.tokens c.ending) ≡ Ok list → length list.tokens ≤ 16384
+    by_test : (b : Bool) → nat_lt 16384 (length c.tokens) ≡ b
+        → (if b then Err TooLong else lex_answer c.tokens c.ending) ≡ Ok list
+        → length list.tokens ≤ 16384
     by_test true t e = absurd (cc)
     by_test false t e =
-        let same : length list.tokens ≡ length c.tokens = ap (λ (ts : List Placed). length ts) (ended_tokens c.tokens c.ending list e) in
+        let same : length list.tokens ≡ length c.tokens =
+        ap (λ (ts : List Placed). length ts) (ended_tokens c.tokens c.ending list e) in
         omega (arith, ltb-false 16384 (length c.tokens) t, same)
 
-pub few_tokens : (text : List ℕ) (list : Tokens) → answer text ≡ Ok list → length list.tokens ≤ 16384
+pub few_tokens : (text : List ℕ) (list : Tokens) → answer text ≡ Ok list
+    → length list.tokens ≤ 16384
 few_tokens text list e = by_test (nat_lt 262144 (length text)) e
   where
-    by_test : (b : Bool) → (if b then Err TooLong else limited (cut text)) ≡ Ok list → length list.tokens ≤ 16384
+    by_test : (b : Bool) → (if b then Err TooLong else limited (cut text)) ≡ Ok list
+        → length list.tokens ≤ 16384
     by_test true e = absurd (cc)
     by_test false e = limited_few (cut text) list e
 
--- a function's code is a part of all
-pub part_of_whole : (us : List IrFunction) (f : ℕ) (u : IrFunction) → slice_get us f ≡ Some u → length u.code ≤ whole us
+-- a function's code is a part of all code
+pub part_of_whole : (us : List IrFunction) (f : ℕ) (u : IrFunction) → slice_get us f ≡ Some u
+    → length u.code ≤ whole us
 part_of_whole [] f u e = absurd (cc)
-part_of_whole (v ∷ us) zero u e = let same : v ≡ u = cc in let long : length v.code ≡ length u.code = ap (λ (x : IrFunction). length x.code) same in omega arith
+part_of_whole (v ∷ us) zero u e = let same : v ≡ u = cc in
+    let long : length v.code ≡ length u.code = ap (λ (x : IrFunction). length x.code) same in
+    omega arith
 part_of_whole (v ∷ us) (suc f) u e = omega (arith, part_of_whole us f u e)
 
-pub all_below : (n : ℕ) (us : List IrFunction) → whole us < n → AllByRecursion (λ (u : IrFunction). length u.code < n) us
+pub all_below : (n : ℕ) (us : List IrFunction) → whole us < n
+    → AllByRecursion (λ (u : IrFunction). length u.code < n) us
 all_below n [] low = tt
 all_below n (u ∷ us) low = (omega (arith, low), all_below n us (omega (arith, low)))
 
--- logs double code at most
+-- logs at most double the code
 one_long : (flag : Bool) (i : Instruction) → length (logs flag i) ≤ 1
-one_long flag i = ⊎_elim (λ (none : logs flag i ≡ []). let e : length (logs flag i) ≡ 0 = ap (λ (ls : List Instruction). length ls) none in omega arith)
-    (λ (one : (x : Instruction) × (logs flag i ≡ x ∷ [])). let e : length (logs flag i) ≡ 1 = ap (λ (ls : List Instruction). length ls) one.1 in omega arith) (one_log flag i)
+one_long flag i = ⊎_elim (λ (none : logs flag i ≡ []). let e : length (logs flag i) ≡ 0 =
+    ap (λ (ls : List Instruction). length ls) none in omega arith)
+    (λ (one : (x : Instruction) × (logs flag i ≡ x ∷ [])). let e : length (logs flag i) ≡ 1 =
+    ap (λ (ls : List Instruction). length ls) one.1 in omega arith) (one_log flag i)
 
 own_long : (table : List ℕ) (flag : Bool) (i : Instruction) → length (own table flag i) ≤ 1
 own_long table flag i = by_test (is_log i)
@@ -62,35 +75,52 @@ own_long table flag i = by_test (is_log i)
     by_test true = omega arith
     by_test false = omega arith
 
-from_long : (table : List ℕ) (flags : List Bool) (k : ℕ) (code : List Instruction) → length (logged_from table flags k code) ≤ 2 * length code
+from_long : (table : List ℕ) (flags : List Bool) (k : ℕ) (code : List Instruction)
+    → length (logged_from table flags k code) ≤ 2 * length code
 from_long table flags k [] = omega arith
 from_long table flags k (i ∷ code) =
     let rest : List Instruction = logged_from table flags (suc k) code in
     let mine : List Instruction = own table (flag_at flags k) i in
-    let cut : length (logs (flag_at flags k) i ++ (mine ++ rest)) ≡ length (logs (flag_at flags k) i) + length (mine ++ rest) =
+    let cut : length (logs (flag_at flags k) i ++ (mine ++ rest))
+    ≡ length (logs (flag_at flags k) i) + length (mine ++ rest) =
     length-append (logs (flag_at flags k) i) (mine ++ rest) in
     let joined : length (mine ++ rest) ≡ length mine + length rest = length-append mine rest in
-    omega (arith, cut, joined, one_long (flag_at flags k) i, own_long table (flag_at flags k) i, from_long table flags (suc k) code)
+    omega (
+      arith,
+      cut,
+      joined,
+      one_long (flag_at flags k) i,
+      own_long table (flag_at flags k) i,
+      from_long table flags (suc k) code,
+    )
 
-pub logged_long : (marks : MarkTable) (f : ℕ) (code : List Instruction) → length (logged_code marks f code) ≤ 2 * length code
+pub logged_long : (marks : MarkTable) (f : ℕ) (code : List Instruction)
+    → length (logged_code marks f code) ≤ 2 * length code
 logged_long marks f code = by_test (nat_lt (length code) (2 ^ 31))
   where
-    by_test : (b : Bool) → length (if b then with_flags (flags_from marks f 0 code) code else code) ≤ 2 * length code
-    by_test true = from_long (places_from (flags_from marks f 0 code) 0 0 code) (flags_from marks f 0 code) 0 code
+    by_test : (b : Bool) → length (if b then with_flags (flags_from marks f 0 code) code else code)
+        ≤ 2 * length code
+    by_test true = from_long (places_from (flags_from marks f 0 code) 0 0 code)
+        (flags_from marks f 0 code) 0 code
     by_test false = omega arith
 
-pub functions_long : (marks : MarkTable) (k : ℕ) (us : List IrFunction) → length (logged_functions marks k us) ≡ length us
+pub functions_long : (marks : MarkTable) (k : ℕ) (us : List IrFunction)
+    → length (logged_functions marks k us) ≡ length us
 functions_long marks k [] = refl
 functions_long marks k (u ∷ us) = ap suc (functions_long marks (suc k) us)
 
 pub all_known : (us : List IrFunction) → length us < 2 ^ 32 → known us ≡ us
 all_known us few = ap (λ (b : Bool). if b then us else []) (lt-ltb (length us) (2 ^ 32) few)
 
--- the sizes of a pool have room for the search for a slot
+-- a pool of these sizes has room for the search for a slot
 pub is_pool : (s : Sizes) → IsPool s
-is_pool s = record { some = s.slots_fit.0; few = s.slots_fit.1; lines = omega (arith, s.root_words_fit.1) }
+is_pool s = record {
+  some = s.slots_fit.0;
+  few = s.slots_fit.1;
+  lines = omega (arith, s.root_words_fit.1);
+}
 
--- steps of the machine for twice the steps of the code
+-- the bound on the machine's steps suffices for twice the steps of the code
 pub enough_steps : (s : Sizes) (q w : ℕ) → w ≤ 64 * q + 256 →
     2 * ((s.ticks + 1) * w) * 80 ≤ most_steps s q
 enough_steps s q w few =

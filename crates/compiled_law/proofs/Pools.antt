@@ -24,17 +24,27 @@ small n le = by_test (nat_lt 15 n) refl
     by_test false e = refl
     by_test true e = absurd (omega (arith, Rattle.std.proofs.lemmas.Bool.ltb-true 15 n e, le))
 
-with_same : (h : Words) (w k : ℕ) (o : Option StructShape) → ((shape : StructShape) → o ≡ Some shape → words_of shape.fields ≤ 15) → shown.object_with h w k o ≡ option_map (object_with h w k) o
+with_same : (h : Words) (w k : ℕ) (o : Option StructShape)
+    → ((shape : StructShape) → o ≡ Some shape → words_of shape.fields ≤ 15)
+    → shown.object_with h w k o ≡ option_map (object_with h w k) o
 with_same h w k None short = refl
 with_same h w k (Some shape) short =
-    ap (λ (b : Bool). if b then None else Some (record { kind = k; fields = shown.words_from h (w + 1) (words_of shape.fields) })) (small (words_of shape.fields) (short shape refl))
-    ∙ ap (λ (vs : List ℤ). Some (record { kind = k; fields = vs })) (words_same h (w + 1) (words_of shape.fields))
+    ap (λ (b : Bool). if b then None
+    else Some (record { kind = k; fields = shown.words_from h (w + 1) (words_of shape.fields) }))
+    (small (words_of shape.fields) (short shape refl))
+    ∙ ap (λ (vs : List ℤ). Some (record { kind = k; fields = vs }))
+    (words_same h (w + 1) (words_of shape.fields))
 
-struct_short : (structs : List StructShape) → ((k : ℕ) (shape : StructShape) → slice_get structs k ≡ Some shape → words_of shape.fields ≤ 15) → (k : ℕ) (shape : StructShape) → struct_at structs k ≡ Some shape → words_of shape.fields ≤ 15
+struct_short : (structs : List StructShape)
+    → ((k : ℕ) (shape : StructShape) → slice_get structs k ≡ Some shape
+    → words_of shape.fields ≤ 15)
+    → (k : ℕ) (shape : StructShape) → struct_at structs k ≡ Some shape → words_of shape.fields ≤ 15
 struct_short structs short zero shape e = absurd (cc)
 struct_short structs short (suc k) shape e = short k shape e
 
-object_same : (s : Sizes) (shapes : Shapes) → IsFit s shapes → length shapes.structs ≤ 255 → (h : Words) (w k : ℕ) → k ≤ length shapes.structs → h w ≡ pos k → shown.object_in shapes.structs h w ≡ object_in shapes.structs h w (h w)
+object_same : (s : Sizes) (shapes : Shapes) → IsFit s shapes → length shapes.structs ≤ 255
+    → (h : Words) (w k : ℕ) → k ≤ length shapes.structs → h w ≡ pos k
+    → shown.object_in shapes.structs h w ≡ object_in shapes.structs h w (h w)
 object_same s shapes fit few h w k le e =
     let few : nat_lt k 256 ≡ true = lt-ltb k 256 (omega (arith, le, few)) in
     ap (λ (v : ℤ). shown.object_of shapes.structs h w (shown.kind_in v)) e
@@ -42,12 +52,21 @@ object_same s shapes fit few h w k le e =
     ∙ with_same h w k (struct_at shapes.structs k) (struct_short shapes.structs fit.short k)
     ∙ ap (λ (v : ℤ). object_in shapes.structs h w v) (sym e)
 
-slots_same : (s : Sizes) (shapes : Shapes) → IsFit s shapes → length shapes.structs ≤ 255 → (h : Words) → HasValidHeaders s (length shapes.structs) h → (n q : ℕ) → 1 ≤ q → q + n ≤ suc s.slots → shown.objects_from s shapes.structs h q n ≡ slots_from s shapes.structs h q n
+slots_same : (s : Sizes) (shapes : Shapes) → IsFit s shapes → length shapes.structs ≤ 255
+    → (h : Words) → HasValidHeaders s (length shapes.structs) h → (n q : ℕ) → 1 ≤ q
+    → q + n ≤ suc s.slots → shown.objects_from s shapes.structs h q n
+    ≡ slots_from s shapes.structs h q n
 slots_same s shapes fit few h valid zero q one le = refl
 slots_same s shapes fit few h valid (suc n) q one le =
     let k = valid q one (omega (arith, le)) in
-    ap₂ (λ (o : Option Object) (os : List (Option Object)). o ∷ os) (object_same s shapes fit few h (slot_word s q) k.0 k.1 k.2) (slots_same s shapes fit few h valid n (suc q) (omega arith) (omega (arith, le)))
+    ap₂ (λ (o : Option Object) (os : List (Option Object)). o ∷ os)
+    (object_same s shapes fit few h (slot_word s q) k.0 k.1 k.2)
+    (slots_same s shapes fit few h valid n (suc q) (omega arith) (omega (arith, le)))
 
-pub pool_same : (s : Sizes) (shapes : Shapes) → IsFit s shapes → length shapes.structs ≤ 255 → (h : Words) → HasValidHeaders s (length shapes.structs) h → shown.pool_in shapes s h ≡ pool_in shapes s h
+pub pool_same : (s : Sizes) (shapes : Shapes) → IsFit s shapes → length shapes.structs ≤ 255
+    → (h : Words) → HasValidHeaders s (length shapes.structs) h
+    → shown.pool_in shapes s h ≡ pool_in shapes s h
 pool_same s shapes fit few h valid =
-    ap₂ (λ (vs : List ℤ) (os : List (Option Object)). record { root = vs; slots = os }) (words_same h 0 s.root_words) (slots_same s shapes fit few h valid s.slots 1 (omega arith) (omega arith))
+    ap₂ (λ (vs : List ℤ) (os : List (Option Object)). record { root = vs; slots = os })
+    (words_same h 0 s.root_words) (slots_same s shapes fit few h valid s.slots 1 (omega arith)
+    (omega arith))

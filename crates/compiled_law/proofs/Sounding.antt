@@ -1,5 +1,5 @@
 -- The machine's run of a compiled transaction is sound, and ends as its code does, or with a full
--- log where the code's logged stores are more than its records.
+-- log if the code does more logged stores than the log has records.
 use Rattle.std.proofs.Common.{◌≡◌, ℕ, zero, suc, ◌*◌, ◌-◌, ◌<◌, ◌≤◌, Bool, ℤ, true, false, nat_lt, List, Some, refl, sym, subst, inl, inr, arith}
 use Rattle.std.specs.Prelude.{slice_get}
 use Rattle.std.proofs.lemmas.Bool.{lt-ltb, le-ltb}
@@ -19,11 +19,12 @@ use Rattle.ir.specs.WellFormed.{IsWellFormed}
 use Rattle.clobber_pass.specs.declared.marking.MarkTable.{MarkTable}
 use Rattle.clobber_pass.specs.Logged as table
 use Rattle.instrument.specs.Insert.{logged_program}
-use Rattle.code_meaning.specs.Code.{Spot, start, exec}
+use Rattle.code_meaning.specs.Code.{Spot, code_start, exec}
 use Rattle.code_meaning.specs.Code as code
 use Rattle.code_meaning.specs.Deeds.{Deed, deeds}
+use Rattle.code_meaning.specs.Constants.{HasWordConstants}
 use Rattle.code_meaning.specs.Parameters.{KeepsParameters}
-use Rattle.insert_law.specs.Law.{IsDone}
+use Rattle.insert_law.specs.Law.{HasResult}
 use Rattle.insert_law.proofs.Follows.{same_end, same_deeds}
 use Rattle.cover_law.specs.Covered.{IsInput, FirstStore}
 use Rattle.cover_law.specs.Law.{CoverLaw}
@@ -36,17 +37,17 @@ use Rattle.pm_machine.specs.Machine.{Run, Finished, mrun}
 use Rattle.pm_machine.specs.Machine as machine
 use Rattle.pm_machine.specs.Effects.{heap_end, records_end}
 use Rattle.pm_machine.proofs.Fuel.{more_fuel}
-use Rattle.run_law.specs.Sound.{IsCovered, IsSoundRun}
+use Rattle.run_law.specs.Sound.{IsCoveredRun, IsSoundRun}
 use Rattle.emit_law.proofs.SoundRun.{sound_run}
 use Rattle.piece_law.specs.Stands.{Stands}
-use Rattle.piece_law.specs.Words.{HoldWords, HasWords, IsWordState, IsWordEnd, IsWordMove, HasWordConstants, WordsLaw}
-use Rattle.piece_law.specs.Shows.{Shows, IsCut}
+use Rattle.piece_law.specs.Words.{HoldWords, HasWords, IsWordState, IsWordEnd, IsWordMove, WordsLaw}
+use Rattle.piece_law.specs.Shows.{ShowsDeeds, IsCutAtStore}
 use Rattle.match_law.specs.Accesses.{accesses}
-use Rattle.match_law.specs.Compiled.{IsCompiled, is_logged}
-use Rattle.match_law.specs.Law.{Keeps, RunFull, KeepLaw}
+use Rattle.match_law.specs.Compiled.{IsCompiled, is_logged_in_code}
+use Rattle.match_law.specs.Law.{RunMatches, RunFull, KeepLaw}
 use Rattle.match_law.specs.Match.{most}
-use Rattle.compiled_law.specs.Counts.{records_of}
-use Rattle.compiled_law.specs.Runs.{EndsAs, EndsIf, RunIs}
+use Rattle.compiled_law.specs.inside.Records.{records_of}
+use Rattle.compiled_law.specs.inside.Runs.{EndsAs, EndsIf, RunIs}
 use Rattle.compiled_law.proofs.Bounded.{run_bounded}
 use Rattle.compiled_law.proofs.Counting.{records_are, records_cut}
 use Rattle.compiled_law.proofs.Covering.{covered_run, covered_cut}
@@ -55,49 +56,65 @@ use Rattle.compiled_law.proofs.Marked.{inputs_logged}
 trapped : (k : TrapKind) (v : ℤ) → Trapped k ≡ Halted v → ⊥
 trapped k v e = cc
 
-module _ (apart : HeapApart) (image : Image) (L : Ir) (compiled : IsCompiled image L) (tx : ℕ) (entry : TxEntry) (found : slice_get image.parts.txs (tx - 1) ≡ Some entry) (args : List ℤ) (heap : Words) (m : ℕ) (ds : List Deed) (need : (x : Spot) (a : Site) → IsInput ds x → FirstStore ds x a → is_logged L a ≡ true)
-    (n : ℕ) (count : (es : List Effect) → Shows image.parts.sizes (is_logged L) ds (accesses es) → records_end 0 es ≡ n) (more : (es : List Effect) → IsCut image.parts.sizes (is_logged L) ds (accesses es) → records_end 0 es < n) where
-  sound_end : (end : End) (es : List Effect) → mrun image m heap tx args ≡ Finished end es → IsCovered es → IsSoundRun end es
+module _ (apart : HeapApart) (image : Image) (L : Ir) (compiled : IsCompiled image L) (tx : ℕ)
+    (entry : TxEntry) (found : slice_get image.parts.txs (tx - 1) ≡ Some entry) (args : List ℤ)
+    (heap : Words) (m : ℕ) (ds : List Deed) (need : (x : Spot) (a : Site) → IsInput ds x
+    → FirstStore ds x a → is_logged_in_code L a ≡ true)
+    (n : ℕ) (count : (es : List Effect) → ShowsDeeds image.parts.sizes (is_logged_in_code L) ds
+    (accesses es) → records_end 0 es ≡ n) (more : (es : List Effect)
+    → IsCutAtStore image.parts.sizes (is_logged_in_code L) ds (accesses es)
+    → records_end 0 es < n) where
+  sound_end : (end : End) (es : List Effect) → mrun image m heap tx args ≡ Finished end es
+      → IsCoveredRun es → IsSoundRun end es
   sound_end end es is covered =
-      let shape = sound_run image image.parts.sizes L m heap tx entry args end es compiled.code found is in
+      let shape = sound_run image image.parts.sizes L m heap tx entry args end es compiled.code
+      found is in
       record { covered = covered; paired = shape.0; tidy = shape.1 }
 
-  -- all records are written, and a store is logged after them
+  -- all records are written, and one more store is to be logged
   too_many : (r : RunFull image L ds (mrun image m heap tx args)) →
       nat_lt image.parts.sizes.records n ≡ true
   too_many r = lt-ltb image.parts.sizes.records n (omega (arith, r.records, more r.effects r.cut))
 
-  -- the records that are written are those of the whole run
+  -- a run that finishes writes as many records as the whole run has logged stores
   has_room : (end : End) (es : List Effect) → mrun image m heap tx args ≡ Finished end es →
-      Shows image.parts.sizes (is_logged L) ds (accesses es) →
+      ShowsDeeds image.parts.sizes (is_logged_in_code L) ds (accesses es) →
       nat_lt image.parts.sizes.records n ≡ false
   has_room end es is shows =
-      le-ltb image.parts.sizes.records n (omega (arith, count es shows, run_bounded image m tx args heap end es is))
+      le-ltb image.parts.sizes.records n
+      (omega (arith, count es shows, run_bounded image m tx args heap end es is))
 
-  with_room : (e : code.End) (end : End) (h : Words) → nat_lt image.parts.sizes.records n ≡ false →
+  with_room : (e : code.CodeEnd) (end : End) (h : Words)
+      → nat_lt image.parts.sizes.records n ≡ false →
       EndsAs image L e end h → EndsIf (nat_lt image.parts.sizes.records n) image L e end h
   with_room e end h room ends = subst (λ (b : Bool). EndsIf b image L e end h) (sym room) ends
 
-  full : (e : code.End) → RunFull image L ds (mrun image m heap tx args) →
+  full : (e : code.CodeEnd) → RunFull image L ds (mrun image m heap tx args) →
       RunIs image L heap e n (mrun image m heap tx args)
   full e r = record {
     end = Trapped LogFull;
     effects = r.effects;
     is = r.is;
-    sound = sound_end (Trapped LogFull) r.effects r.is (covered_cut apart image.parts.sizes (is_logged L) ds r.effects r.cut need);
+    sound = sound_end (Trapped LogFull) r.effects r.is
+        (covered_cut apart image.parts.sizes (is_logged_in_code L) ds r.effects r.cut need);
     agrees =
-        subst (λ (b : Bool). EndsIf b image L e (Trapped LogFull) (heap_end heap r.effects)) (sym (too_many r)) refl;
+        subst (λ (b : Bool). EndsIf b image L e (Trapped LogFull) (heap_end heap r.effects))
+        (sym (too_many r)) refl;
     records = λ v e. absurd (trapped LogFull v e);
   }
 
-  run_is : (e : code.End) → IsDone e → IsWordEnd e → Keeps image L heap ds e (mrun image m heap tx args) → RunIs image L heap e n (mrun image m heap tx args)
+  run_is : (e : code.CodeEnd) → HasResult e → IsWordEnd e
+      → RunMatches image L heap ds e (mrun image m heap tx args)
+      → RunIs image L heap e n (mrun image m heap tx args)
   run_is (code.Ended w v t) over words (inl r) = record {
     end = Halted v;
     effects = r.effects;
     is = r.is;
-    sound = sound_end (Halted v) r.effects r.is (covered_run apart image.parts.sizes (is_logged L) ds r.effects r.shows need);
+    sound = sound_end (Halted v) r.effects r.is
+        (covered_run apart image.parts.sizes (is_logged_in_code L) ds r.effects r.shows need);
     agrees =
-        with_room (code.Ended w v t) (Halted v) (heap_end heap r.effects) (has_room (Halted v) r.effects r.is r.shows) (refl, r.stands, r.fits, words.0);
+        with_room (code.Ended w v t) (Halted v) (heap_end heap r.effects)
+        (has_room (Halted v) r.effects r.is r.shows) (refl, r.stands, r.fits, words.0);
     records = λ x e. count r.effects r.shows;
   }
   run_is (code.Ended w v t) over words (inr r) = full (code.Ended w v t) r
@@ -105,17 +122,21 @@ module _ (apart : HeapApart) (image : Image) (L : Ir) (compiled : IsCompiled ima
     end = Trapped k;
     effects = r.effects;
     is = r.is;
-    sound = sound_end (Trapped k) r.effects r.is (covered_run apart image.parts.sizes (is_logged L) ds r.effects r.shows need);
+    sound = sound_end (Trapped k) r.effects r.is
+        (covered_run apart image.parts.sizes (is_logged_in_code L) ds r.effects r.shows need);
     agrees =
-        with_room (code.Trapped k) (Trapped k) (heap_end heap r.effects) (has_room (Trapped k) r.effects r.is r.shows) refl;
+        with_room (code.Trapped k) (Trapped k) (heap_end heap r.effects)
+        (has_room (Trapped k) r.effects r.is r.shows) refl;
     records = λ v e. absurd (trapped k v e);
   }
   run_is (code.Trapped k) over words (inr r) = full (code.Trapped k) r
   run_is code.Unfinished over words r = absurd over
   run_is code.Stuck over words r = absurd over
 
--- more instructions change nothing
-run_more : (image : Image) (L : Ir) (heap : Words) (e : code.End) (n k m tx : ℕ) (args : List ℤ) → k ≤ m → RunIs image L heap e n (mrun image k heap tx args) → RunIs image L heap e n (mrun image m heap tx args)
+-- a larger bound on steps changes nothing
+run_more : (image : Image) (L : Ir) (heap : Words) (e : code.CodeEnd) (n k m tx : ℕ) (args : List ℤ)
+    → k ≤ m → RunIs image L heap e n (mrun image k heap tx args)
+    → RunIs image L heap e n (mrun image m heap tx args)
 run_more image L heap e n k m tx args le r = record {
   end = r.end;
   effects = r.effects;
@@ -125,33 +146,66 @@ run_more image L heap e n k m tx args le r = record {
   records = r.records;
 }
 
--- a run of words ends with words
-words_on : (ir : Ir) (k : ℕ) (v : code.Move) → ((c : code.State) → IsWordState c → IsWordEnd (exec ir k c)) → IsWordMove v → IsWordEnd (code.go_on (exec ir k) v)
+-- a run on words ends with words
+words_on : (ir : Ir) (k : ℕ) (v : code.Move)
+    → ((c : code.CodeState) → IsWordState c → IsWordEnd (exec ir k c)) → IsWordMove v
+    → IsWordEnd (code.go_on (exec ir k) v)
 words_on ir k (code.Goes c) next h = next c h
 words_on ir k (code.Ends e) next h = h
 
-words_end : WordsLaw → (ir : Ir) → HasWordConstants ir.functions → (k : ℕ) (c : code.State) → IsWordState c → IsWordEnd (exec ir k c)
+words_end : WordsLaw → (ir : Ir) → HasWordConstants ir.functions → (k : ℕ) (c : code.CodeState)
+    → IsWordState c → IsWordEnd (exec ir k c)
 words_end law ir constants zero c h = tt
-words_end law ir constants (suc k) c h = words_on ir k (code.step ir c) (λ d. words_end law ir constants k d) (law ir c constants h)
+words_end law ir constants (suc k) c h =
+    words_on ir k (code.instruction_step ir c) (λ d. words_end law ir constants k d)
+    (law ir c constants h)
 
-pub compiled_run : HeapApart → CoverLaw → KeepLaw → WordsLaw → (marks : MarkTable) (ir : Ir) → IsWellFormed ir → KeepsParameters ir.functions → ((a : Site) → IsLogged ir.functions a → table.is_logged marks a ≡ true) → HasWordConstants ir.functions → ((f p : ℕ) (x : Target) → instruction_at ir.functions f p ≡ Some (Log x) → ⊥) →
-    (image : Image) → IsCompiled image (logged_program marks ir) → (tx : ℕ) (entry : TxEntry) → slice_get image.parts.txs (tx - 1) ≡ Some entry → IsTransaction ir.functions entry.function →
+pub compiled_run : HeapApart → CoverLaw → KeepLaw → WordsLaw → (marks : MarkTable) (ir : Ir)
+    → IsWellFormed ir → KeepsParameters ir.functions
+    → ((a : Site) → IsLogged ir.functions a → table.is_logged marks a ≡ true)
+    → HasWordConstants ir.functions
+    → ((f p : ℕ) (x : Target) → instruction_at ir.functions f p ≡ Some (Log x) → ⊥) →
+    (image : Image) → IsCompiled image (logged_program marks ir) → (tx : ℕ) (entry : TxEntry)
+    → slice_get image.parts.txs (tx - 1) ≡ Some entry → IsTransaction ir.functions entry.function
+    →
     (args : List ℤ) (heap : Words) (w : PoolMap) → HoldWords args → HasWords w →
     Stands image.parts.sizes heap w → PoolFits ir.shapes w → (k m : ℕ) →
-    IsDone (exec ir k (start entry.function args w image.parts.sizes.ticks)) → 2 * k * most ≤ m →
-    RunIs image (logged_program marks ir) heap (exec ir k (start entry.function args w image.parts.sizes.ticks)) (records_of (table.is_logged marks) (deeds ir k (start entry.function args w image.parts.sizes.ticks))) (mrun image m heap tx args)
-compiled_run apart cover keep law marks ir formed keeps whole constants bare image compiled tx entry found transaction args heap w words pool stands fits k m over enough =
+    HasResult (exec ir k (code_start entry.function args w image.parts.sizes.ticks))
+    → 2 * k * most ≤ m →
+    RunIs image (logged_program marks ir) heap
+    (exec ir k (code_start entry.function args w image.parts.sizes.ticks))
+    (records_of (table.is_logged marks)
+    (deeds ir k (code_start entry.function args w image.parts.sizes.ticks)))
+    (mrun image m heap tx args)
+compiled_run apart cover keep law marks ir formed keeps whole constants bare image compiled tx entry
+    found transaction args heap w words pool stands fits k m over enough =
     let L : Ir = logged_program marks ir in
     let t : ℕ = image.parts.sizes.ticks in
     let same = same_end marks ir formed entry.function args w t k over in
     let kept = keep image L (2 * k) tx entry args heap w compiled found words pool stands fits in
-    let n : ℕ = records_of (table.is_logged marks) (deeds ir k (start entry.function args w t)) in
-    let count : (es : List Effect) → Shows image.parts.sizes (is_logged L) (deeds L (2 * k) (start entry.function args w t)) (accesses es) → records_end 0 es ≡ n = λ es shows.
-    records_are marks ir formed bare image.parts.sizes k (start entry.function args w t) es (subst (λ (ds : List Deed). Shows image.parts.sizes (is_logged L) ds (accesses es)) (same_deeds marks ir formed entry.function args w t k over) shows) in
-    let more : (es : List Effect) → IsCut image.parts.sizes (is_logged L) (deeds L (2 * k) (start entry.function args w t)) (accesses es) → records_end 0 es < n = λ es cut.
-    records_cut marks ir formed bare image.parts.sizes k (start entry.function args w t) es (subst (λ (ds : List Deed). IsCut image.parts.sizes (is_logged L) ds (accesses es)) (same_deeds marks ir formed entry.function args w t k over) cut) in
-    run_more image L heap (exec ir k (start entry.function args w t)) n (2 * k * most) m tx args enough
-    (run_is apart image L compiled tx entry found args heap (2 * k * most) (deeds L (2 * k) (start entry.function args w t))
-    (inputs_logged cover marks ir formed keeps whole entry.function transaction args w t k over) n count more
-    (exec ir k (start entry.function args w t)) over (words_end law ir constants k (start entry.function args w t) (words, tt, pool))
-    (subst (λ (e : code.End). Keeps image L heap (deeds L (2 * k) (start entry.function args w t)) e (mrun image (2 * k * most) heap tx args)) same kept))
+    let n : ℕ = records_of (table.is_logged marks)
+    (deeds ir k (code_start entry.function args w t)) in
+    let count : (es : List Effect)
+    → ShowsDeeds image.parts.sizes (is_logged_in_code L)
+    (deeds L (2 * k) (code_start entry.function args w t)) (accesses es) → records_end 0 es ≡ n =
+    λ es shows.
+    records_are marks ir formed bare image.parts.sizes k (code_start entry.function args w t) es
+    (subst (λ (ds : List Deed). ShowsDeeds image.parts.sizes (is_logged_in_code L) ds
+    (accesses es)) (same_deeds marks ir formed entry.function args w t k over) shows) in
+    let more : (es : List Effect) → IsCutAtStore image.parts.sizes (is_logged_in_code L)
+    (deeds L (2 * k) (code_start entry.function args w t)) (accesses es) → records_end 0 es < n =
+    λ es cut.
+    records_cut marks ir formed bare image.parts.sizes k (code_start entry.function args w t) es
+    (subst (λ (ds : List Deed). IsCutAtStore image.parts.sizes (is_logged_in_code L) ds
+    (accesses es)) (same_deeds marks ir formed entry.function args w t k over) cut) in
+    run_more image L heap (exec ir k (code_start entry.function args w t)) n (2 * k * most) m tx
+    args enough
+    (run_is apart image L compiled tx entry found args heap (2 * k * most)
+    (deeds L (2 * k) (code_start entry.function args w t))
+    (inputs_logged cover marks ir formed keeps whole entry.function transaction args w t k over) n
+    count more
+    (exec ir k (code_start entry.function args w t)) over
+    (words_end law ir constants k (code_start entry.function args w t) (words, tt, pool))
+    (subst (λ (e : code.CodeEnd). RunMatches image L heap
+    (deeds L (2 * k) (code_start entry.function args w t)) e
+    (mrun image (2 * k * most) heap tx args)) same kept))

@@ -1,3 +1,2 @@
-pub mod Counts
 pub mod Law
-pub mod Runs
+pub mod inside

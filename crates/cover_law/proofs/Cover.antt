@@ -14,11 +14,19 @@ use Rattle.cover_law.specs.Law.{CoverLaw}
 use Rattle.cover_law.proofs.Moments.{Later}
 use Rattle.cover_law.proofs.Steps.{act_covers}
 
-run_covers : (ir : Ir) → IsWellFormed ir → KeepsParameters ir.functions → (u : Spot) (a : Site) (n : ℕ) → Later ir u a (deeds ir n)
-run_covers ir well keeps u a zero f p regs below w t k calls comes agrees = λ known first. absurd first
+run_covers : (ir : Ir) → IsWellFormed ir → KeepsParameters ir.functions
+    → (u : Spot) (a : Site) (n : ℕ) → Later ir u a (deeds ir n)
+run_covers ir well keeps u a zero f p regs below w t k calls comes agrees =
+    λ known first. absurd first
 run_covers ir well keeps u a (suc n) f p regs below w t k calls comes agrees =
-    act_covers ir well keeps u a (deeds ir n) (run_covers ir well keeps u a n) f p regs below w t k calls comes agrees (instruction_at ir.functions f p) refl
+    act_covers ir well keeps u a (deeds ir n) (run_covers ir well keeps u a n) f p regs below w t k
+    calls comes agrees (instruction_at ir.functions f p) refl
 
 pub covered : CoverLaw
 covered ir well keeps f tx args w t n u a input first =
-    run_covers ir well keeps u a n f 0 args [] w t at_start [] (f, tx, none) (λ r s x h named l. false≢true h, λ x h l. false≢true h, tt) (inr input) first
+    run_covers ir well keeps u a n f 0 args [] w t at_start [] (f, tx, none) (
+      λ r s x h named l.
+          false≢true h,
+      λ x h l. false≢true h,
+      tt,
+    ) (inr input) first

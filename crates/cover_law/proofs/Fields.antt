@@ -9,14 +9,14 @@ use Rattle.pool_map.specs.declared.shapes.Shapes.{Shapes}
 use Rattle.pool_map.specs.declared.trap.TrapKind.{TrapKind}
 use Rattle.pool_map.specs.declared.trap.TrapKind.TheVariants as trap
 use Rattle.pool_map.specs.PoolFits.{words_of, words_of_field}
-use Rattle.ir.specs.WellFormed.{IsIndexed, struct_of, field_of}
-use Rattle.code_meaning.specs.Code.{at, words_before, word_in, element_in, elements, fields_of, then_on}
+use Rattle.ir.specs.WellFormed.{IsIndexed, struct_of, shape_field}
+use Rattle.code_meaning.specs.Code.{register_at, words_before, word_in_shape, element_in, elements, fields_of, then_on}
 
 abbrev pub width : Option FieldShape → ℕ
 width None = 0
 width (Some f) = words_of_field f
 
--- word i is one of field x
+-- word i belongs to field x
 abbrev pub InField : List FieldShape → (x i : ℕ) → Type 0
 InField fs x i = (words_before x fs ≤ i) × (i < words_before x fs + width (slice_get fs x))
 
@@ -25,25 +25,30 @@ field_one [] x y i a b = absurd (omega arith)
 field_one (f ∷ fs) zero zero i a b = refl
 field_one (f ∷ fs) zero (suc y) i a b = absurd (omega arith)
 field_one (f ∷ fs) (suc x) zero i a b = absurd (omega arith)
-field_one (f ∷ fs) (suc x) (suc y) i a b = ap suc (field_one fs x y (i - words_of_field f) (omega arith) (omega arith))
+field_one (f ∷ fs) (suc x) (suc y) i a b =
+    ap suc (field_one fs x y (i - words_of_field f) (omega arith) (omega arith))
 
 pub field_below : (fs : List FieldShape) (x i : ℕ) → InField fs x i → i < words_of fs
 field_below [] x i a = absurd (omega arith)
 field_below (f ∷ fs) zero i a = omega (arith, sum_by-cons words_of_field f fs)
 field_below (f ∷ fs) (suc x) i a =
-    let below : i - words_of_field f < words_of fs = field_below fs x (i - words_of_field f) (omega arith) in
+    let below : i - words_of_field f < words_of fs =
+    field_below fs x (i - words_of_field f) (omega arith) in
     omega (arith, sum_by-cons words_of_field f fs)
 
--- a field of one word has only its first
-pub field_only : (fs : List FieldShape) (x i : ℕ) → width (slice_get fs x) ≡ 1 → InField fs x i → words_before x fs ≡ i
+-- a field of one word has only its first word
+pub field_only : (fs : List FieldShape) (x i : ℕ) → width (slice_get fs x) ≡ 1 → InField fs x i
+    → words_before x fs ≡ i
 field_only fs x i one a = omega arith
 
 -- results of checks
-pub then_ok : {A B : Type 0} (r : Result A TrapKind) (go : A → Result B TrapKind) (b : B) → then_on r go ≡ Ok b → (a : A) × (r ≡ Ok a) × (go a ≡ Ok b)
+pub then_ok : {A B : Type 0} (r : Result A TrapKind) (go : A → Result B TrapKind) (b : B)
+    → then_on r go ≡ Ok b → (a : A) × (r ≡ Ok a) × (go a ≡ Ok b)
 then_ok (Ok a) go b e = (a, refl, e)
 then_ok (Err k) go b e = absurd (cc)
 
-element_below : (t : Bool) (n i j : ℕ) (k : TrapKind) → nat_lt i n ≡ t → (if t then Ok i else Err k) ≡ Ok j → j < n
+element_below : (t : Bool) (n i j : ℕ) (k : TrapKind) → nat_lt i n ≡ t
+    → (if t then Ok i else Err k) ≡ Ok j → j < n
 element_below true n i j k e h =
     let same : i ≡ j = cc in
     omega (arith, ltb-true i n e)
@@ -62,27 +67,38 @@ elements_width None = omega arith
 elements_width (Some f) = length_width f.length
 
 -- a target's word lies in its field
-pub word_in_field : (fs : List FieldShape) (x n : ℕ) (index : Option ℤ) → (index ≡ None → width (slice_get fs x) ≡ 1) → word_in fs x index ≡ Ok n → InField fs x n
+pub word_in_field : (fs : List FieldShape) (x n : ℕ) (index : Option ℤ)
+    → (index ≡ None → width (slice_get fs x) ≡ 1) → word_in_shape fs x index ≡ Ok n → InField fs x n
 word_in_field fs x n None one e =
     let same : words_before x fs ≡ n = cc in
     omega (arith, one refl)
 word_in_field fs x n (Some index) one e =
-    let r = then_ok (element_in (elements (slice_get fs x)) index) (λ i. Ok (words_before x fs + i)) n e in
+    let r = then_ok (element_in (elements (slice_get fs x)) index)
+    (λ i. Ok (words_before x fs + i)) n e in
     let same : words_before x fs + r.0 ≡ n = cc (r.2) in
-    omega (arith, element_within (elements (slice_get fs x)) index r.0 r.1, elements_width (slice_get fs x))
+    omega (
+      arith,
+      element_within (elements (slice_get fs x)) index r.0 r.1,
+      elements_width (slice_get fs x),
+    )
 
--- without an index it is the field's first
-pub word_in_first : (fs : List FieldShape) (x n : ℕ) → word_in fs x None ≡ Ok n → words_before x fs ≡ n
+-- without an index it is the field's first word
+pub word_in_first : (fs : List FieldShape) (x n : ℕ) → word_in_shape fs x None ≡ Ok n
+    → words_before x fs ≡ n
 word_in_first fs x n e = cc
 
-pub indexed_one : (r : ℕ) (o : Option FieldShape) (index : Option ℕ) (regs : List ℤ) → IsIndexed r o index → option_map (at regs) index ≡ None → width o ≡ 1
+pub indexed_one : (r : ℕ) (o : Option FieldShape) (index : Option ℕ) (regs : List ℤ)
+    → IsIndexed r o index → option_map (register_at regs) index ≡ None → width o ≡ 1
 indexed_one r None index regs h e = absurd h
 indexed_one r (Some shape) None regs h e = rw h refl
 indexed_one r (Some shape) (Some i) regs h e = absurd (cc)
 
-field_of_some : (o : Option StructShape) (x : ℕ) → option_and_then (λ (s : StructShape). slice_get s.fields x) o ≡ slice_get (option_map_or (λ (s : StructShape). s.fields) o []) x
+field_of_some : (o : Option StructShape) (x : ℕ)
+    → option_and_then (λ (s : StructShape). slice_get s.fields x) o
+    ≡ slice_get (option_map_or (λ (s : StructShape). s.fields) o []) x
 field_of_some None x = refl
 field_of_some (Some s) x = refl
 
-pub field_of_is : (shapes : Shapes) (kind x : ℕ) → field_of shapes kind x ≡ slice_get (fields_of shapes kind) x
+pub field_of_is : (shapes : Shapes) (kind x : ℕ)
+    → shape_field shapes kind x ≡ slice_get (fields_of shapes kind) x
 field_of_is shapes kind x = field_of_some (struct_of shapes kind) x

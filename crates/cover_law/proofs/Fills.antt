@@ -1,4 +1,5 @@
--- The deeds of a fill: the first store to a word comes from the fill where the fill stores it, and else from what follows.
+-- The deeds of a fill: the first store to a word comes from the fill if the fill stores to it, else
+-- from what follows.
 use Rattle.std.proofs.Common.{◌≡◌, ◌≢◌, ◌<◌, ◌≤◌, ◌+◌, ℕ, zero, suc, List, ◌++◌, refl, sym, subst, inl, inr, arith}
 use mathlib.Core.Logic.{◌⊎◌}
 use Rattle.ir.specs.declared.site.Site.{Site}
@@ -6,7 +7,7 @@ use Rattle.code_meaning.specs.Code.{Spot, InRoot, InSlot}
 use Rattle.code_meaning.specs.Deeds.{Deed, zeros}
 use Rattle.cover_law.specs.Covered.{IsInput, FirstStore}
 
--- the word is one of n words of slot q from word j on
+-- the word is one of n words of slot q, from word j on
 abbrev pub Filled : Spot → (q j n : ℕ) → Type 0
 Filled (InRoot i) q j n = ⊥
 Filled (InSlot p i) q j n = (p ≡ q) × (j ≤ i) × (i < j + n)
@@ -37,7 +38,8 @@ filled_rest (InSlot p i) q j n other h =
     let far : j ≢ i = λ e. other (cc) in
     (same, omega arith, omega arith)
 
-pub first_zeros : (site : Site) (q j n : ℕ) (ds : List Deed) (u : Spot) (a : Site) → FirstStore (zeros site q j n ++ ds) u a
+pub first_zeros : (site : Site) (q j n : ℕ) (ds : List Deed) (u : Spot) (a : Site)
+    → FirstStore (zeros site q j n ++ ds) u a
     → (Filled u q j n × (site ≡ a)) ⊎ ((Filled u q j n → ⊥) × FirstStore ds u a)
 first_zeros site q j zero ds u a h = inr (filled_none u q j, h)
 first_zeros site q j (suc n) ds u a (inl e) = inl (filled_first u q j n e.0, e.1)
@@ -47,7 +49,8 @@ first_zeros site q j (suc n) ds u a (inr h) =
       | inr l ↦ inr (λ f. l.0 (filled_rest u q j n h.0 f), l.1)
     ]
 
-pub input_zeros : (site : Site) (q j n : ℕ) (ds : List Deed) (u : Spot) → IsInput (zeros site q j n ++ ds) u → (Filled u q j n → ⊥) × IsInput ds u
+pub input_zeros : (site : Site) (q j n : ℕ) (ds : List Deed) (u : Spot)
+    → IsInput (zeros site q j n ++ ds) u → (Filled u q j n → ⊥) × IsInput ds u
 input_zeros site q j zero ds u h = (filled_none u q j, h)
 input_zeros site q j (suc n) ds u h =
     let r = input_zeros site q (suc j) n ds u h.1 in

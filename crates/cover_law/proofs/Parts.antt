@@ -37,7 +37,8 @@ input_append (Reads s ∷ ds) es u (inr h) = inr (input_append ds es u h)
 input_append (Writes b s v ∷ ds) es u h = (h.0, input_append ds es u h.1)
 input_append (Heads b q v ∷ ds) es u h = input_append ds es u h
 
-pub first_append : (ds es : List Deed) (u : Spot) (a : Site) → FirstStore ds u a → FirstStore (ds ++ es) u a
+pub first_append : (ds es : List Deed) (u : Spot) (a : Site) → FirstStore ds u a
+    → FirstStore (ds ++ es) u a
 first_append [] es u a h = absurd h
 first_append (Reads s ∷ ds) es u a h = first_append ds es u a h
 first_append (Writes b s v ∷ ds) es u a (inl e) = inl e
@@ -45,4 +46,5 @@ first_append (Writes b s v ∷ ds) es u a (inr h) = inr (h.0, first_append ds es
 first_append (Heads b q v ∷ ds) es u a h = first_append ds es u a h
 
 pub part : PartLaw
-part functions ds es covered u a input first = covered u a (input_append ds es u input) (first_append ds es u a first)
+part functions ds es covered u a input first =
+    covered u a (input_append ds es u input) (first_append ds es u a first)

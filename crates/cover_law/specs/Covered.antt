@@ -1,6 +1,7 @@
--- What a list of loads and stores tells of one word of the pool: whether it is an input, which is loaded before any store to
--- it, whether it is stored, and the site of its first store; and the sites that store headers. The list is covered where the
--- first store to each input comes from a logged site.
+-- Properties of a list of loads and stores, for one word of the pool: whether it is an input, which
+-- means loaded before any store to it; whether it is stored; the site of its first store; and the
+-- sites that store headers. The list is covered if the first store to each input comes from a
+-- logged site.
 use Rattle.std.specs.Prelude.{◌≡◌, ◌≢◌, List, [], ◌∷◌}
 use mathlib.Core.Logic.{◌⊎◌}
 use Rattle.ir.specs.declared.function.IrFunction.{IrFunction}
@@ -38,4 +39,5 @@ StoresHeader (Writes site s v ∷ ds) a = StoresHeader ds a
 StoresHeader (Heads site slot v ∷ ds) a = (site ≡ a) ⊎ StoresHeader ds a
 
 abbrev pub IsCovered : List IrFunction → List Deed → Type 0
-IsCovered functions ds = (u : Spot) (a : Site) → IsInput ds u → FirstStore ds u a → IsLogged functions a
+IsCovered functions ds = (u : Spot) (a : Site) → IsInput ds u → FirstStore ds u a
+    → IsLogged functions a

@@ -5,6 +5,7 @@ pub mod Run
 pub mod Finish
 pub mod Seal
 pub mod Restore
+pub mod Walks
 pub mod Whole
 pub mod Redo
 pub mod Clean

@@ -1,19 +1,23 @@
--- The whole recovery of an image that is owed.
+-- The whole recovery of an image in which a call is owed.
 use Rattle.pool_layout.specs.Sizes.{heap_words}
-use Rattle.std.proofs.Common.{◌≡◌, ◌⊎◌, inl, inr, ℕ, zero, suc, ◌^◌, ◌<◌, ◌≤◌, List, ◌∷◌, Option, Some, None, ℤ, pos, refl, sym, ap, ◌∙◌, subst, arith, unwrap_or}
+use Rattle.std.proofs.Common.{length, ◌≡◌, ◌⊎◌, inl, inr, ℕ, zero, suc, ◌^◌, ◌<◌, ◌≤◌, List, ◌∷◌, ◌++◌, Option, Some, None, ℤ, pos, refl, sym, ap, ◌∙◌, subst, arith, unwrap_or}
 use Rattle.cache_model.specs.Event.{CacheEvent, Fence}
 use Rattle.cache_model.specs.Cache.{Words, Cache, view}
 use Rattle.cache_model.specs.Image.{Images, HasOne}
 use Rattle.pool_layout.specs.declared.places.Place.{Place}
 use Rattle.pool_layout.specs.declared.places.Place.TheVariants.{Super, Last, Done, Attempt, Mark, Argument, Seal, RecordWord, RecordOld, RecordStamp, Heap, Spare, RecordSpare}
+use Rattle.pool_layout.specs.declared.limits.Sizes.{Sizes}
 use Rattle.pool_layout.specs.declared.places.Layout.{Layout}
 use Rattle.pool_layout.specs.Places.{at, IsPlace, pool_of}
 use Rattle.pool_layout.specs.Log.{count}
 use Rattle.pool_layout.specs.Restored.{restored, undone}
 use Rattle.crash_law.specs.Pools.{Pool, Call, Good, Owed}
-use Rattle.crash_law.specs.Due.{Entry, Result, Halted, Trapped, heap_after, due_run, restore_events, reset_events, redo_events}
+use Rattle.crash_law.specs.Due.{Entry, Result, Halted, Trapped, heap_after, due_run, redo_events}
+use Rattle.clobber_log.specs.Reset.{reset_events}
+use Rattle.clobber_log.specs.Restore.{first_events}
+use Rattle.crash_law.proofs.Walks.{restore_walk, reset_walk, reset_same, first_same}
 use Rattle.crash_law.specs.Law.{IsRun, IsEnd, CutRedo}
-use Rattle.cache_model.specs.During.{Through}
+use Rattle.cache_model.specs.inside.During.{Through}
 use Rattle.cache_model.proofs.During.{through_more, through_during, through_end}
 use Rattle.crash_law.proofs.Held.{cover_more, cover_view}
 use Rattle.pool_layout.proofs.Records.{LogIs, log_is}
@@ -24,7 +28,9 @@ use Rattle.crash_law.proofs.Seal.{one_cover}
 use Rattle.crash_law.proofs.Restore.{restoring, restore_part, reset_part}
 use Rattle.crash_law.proofs.Whole.{same_after, OwedOrEnd, due_run_part}
 
-good_same : (pool : Pool) (d : ℕ) (h h' : ℕ → ℤ) (image : Words) → ((w : ℕ) → w < heap_words pool.sizes → h w ≡ h' w) → Good pool d h image → Good pool d h' image
+good_same : (pool : Pool) (d : ℕ) (h h' : ℕ → ℤ) (image : Words)
+    → ((w : ℕ) → w < heap_words pool.sizes → h w ≡ h' w) → Good pool d h image
+    → Good pool d h' image
 good_same pool d h h' image same g = record {
   super = g.super;
   mark = g.mark;
@@ -38,8 +44,10 @@ good_same pool d h h' image same g = record {
   heap = λ w lt. g.heap w lt ∙ same w lt;
 }
 
--- the same end, by heaps that agree in the pool
-pub end_same : (pool : Pool) (call : Call) (result : Result) (h h' : ℕ → ℤ) (image : Words) → ((w : ℕ) → w < heap_words pool.sizes → h w ≡ h' w) → IsEnd pool call h result image → IsEnd pool call h' result image
+-- heaps that agree in the pool have the same end
+pub end_same : (pool : Pool) (call : Call) (result : Result) (h h' : ℕ → ℤ) (image : Words)
+    → ((w : ℕ) → w < heap_words pool.sizes → h w ≡ h' w) → IsEnd pool call h result image
+    → IsEnd pool call h' result image
 end_same pool call (Halted value) h h' image same is = record {
   good = good_same pool (suc call.done) h h' image same is.good;
   last_is = is.last_is;
@@ -47,8 +55,14 @@ end_same pool call (Halted value) h h' image same is = record {
 }
 end_same pool call (Trapped trap) h h' image same is = is
 
--- the whole recovery of an image that is owed
-module _ (pool : Pool) (call : Call) (E W : ℕ → Type 0) (h : ℕ → ℤ) (result : Result) (trace : List Entry) (given_fits : call.given < 23) (is : IsRun pool E W result trace) (one : Words) (owed : Owed pool call E W h one) (n : ℕ) (counted : count (pool_of pool.sizes) owed.attempt one ≡ n) where
+-- the whole recovery of an image in which a call is owed
+module _ (pool : Pool) (call : Call) (E W : ℕ → Type 0) (h : ℕ →
+    ℤ) (result : Result) (trace : List Entry) (given_fits : length call.args < 23)
+    (is : IsRun pool E W result trace) (one : Words) (owed : Owed pool call E W h one) (n : ℕ)
+    (counted : count (pool_of pool.sizes) owed.attempt one ≡ n) where
+  abbrev z : Sizes
+  z = pool.sizes
+
   abbrev C : Layout
   C = pool_of pool.sizes
 
@@ -71,7 +85,17 @@ module _ (pool : Pool) (call : Call) (E W : ℕ → Type 0) (h : ℕ → ℤ) (r
   heap_now = λ w. one (at C (Heap w))
 
   abbrev redo : Setting
-  redo = record { pool = pool; call = call; E = E; W = W; h = h; r = r; done_fits = owed.done_fits; given_fits = given_fits; from = owed.restores }
+  redo = record {
+    pool = pool;
+    call = call;
+    E = E;
+    W = W;
+    h = h;
+    r = r;
+    done_fits = owed.done_fits;
+    given_fits = given_fits;
+    from = owed.restores;
+  }
 
   log : LogIs C a n one
   log = log_is C a n one owed.log counted
@@ -117,32 +141,43 @@ module _ (pool : Pool) (call : Call) (E W : ℕ → Type 0) (h : ℕ → ℤ) (r
   after_h = heap_after h trace
 
   agree : (w : ℕ) → w < H → after_r w ≡ after_h w
-  agree w lt = same_after trace r h w (λ absent. owed.restores w lt (inl (λ over. absent (is.all_stored w over))))
+  agree w lt = same_after trace r h w (λ absent.
+      owed.restores w lt (inl (λ over. absent (is.all_stored w over))))
 
   abbrev OwedOrEnd' : Words → Type 0
   OwedOrEnd' image = Owed pool call E W h image ⊎ IsEnd pool call after_h result image
 
-  from_there : (image : Words) → Owed pool call E W h image ⊎ IsEnd pool call after_r result image → OwedOrEnd' image
+  from_there : (image : Words) → Owed pool call E W h image ⊎ IsEnd pool call after_r result image
+      → OwedOrEnd' image
   from_there image (inl o) = inl o
   from_there image (inr e) = inr (end_same pool call result after_r after_h image agree e)
 
-  -- behind restoring and reset, or where there is nothing to restore
-  pub run_again : (b : ℕ) (b_fits : b ≤ 2 ^ 62) (c : Cache) → Running redo b b_fits 0 nothing nothing r c → Through (Images OwedOrEnd') (Images (IsEnd pool call after_h result)) c (due_run C b (suc call.done) r result trace)
+  -- after restoring and reset, or if there is nothing to restore
+  pub run_again : (b : ℕ) (b_fits : b ≤ 2 ^ 62) (c : Cache) →
+      Running redo b b_fits 0 nothing nothing r c →
+      Through (Images OwedOrEnd') (Images (IsEnd pool call after_h result)) c
+      (due_run z b (suc call.done) r result trace)
   run_again b b_fits c run =
-      through_more (Images (OwedOrEnd redo b b_fits (pos 0) after_r result)) (Images OwedOrEnd') (Images (IsEnd pool call after_r result)) (Images (IsEnd pool call after_h result)) c (due_run C b (suc call.done) r result trace)
-      (λ d q image im. from_there image (q image im)) (λ d q image im. end_same pool call result after_r after_h image agree (q image im))
+      through_more (Images (OwedOrEnd redo b b_fits (pos 0) after_r result)) (Images OwedOrEnd')
+      (Images (IsEnd pool call after_r result)) (Images (IsEnd pool call after_h result)) c
+      (due_run z b (suc call.done) r result trace)
+      (λ d q image im. from_there image (q image im)) (λ d q image im.
+      end_same pool call result after_r after_h image agree (q image im))
       (due_run_part redo b b_fits (pos 0) result trace c is run)
 
   one_heap : (c : Cache) → HasOne c one → (w : ℕ) → w < H → view c (at C (Heap w)) ≡ heap_now w
-  one_heap c only w lt = cover_view C (ok start) c (one_cover C start c one only start_fine) (Heap w) lt lt
+  one_heap c only w lt = cover_view C (ok start) c (one_cover C start c one only start_fine)
+      (Heap w) lt lt
 
   -- no record
 
-  to_running : (a_fits : a ≤ 2 ^ 62) → n ≡ 0 → (q : Place) → IsPlace C q → (x : ℤ) → ok start q x → ok (running redo a a_fits 0 nothing nothing) q x
+  to_running : (a_fits : a ≤ 2 ^ 62) → n ≡ 0 → (q : Place) → IsPlace C q → (x : ℤ) → ok start q x
+      → ok (running redo a a_fits 0 nothing nothing) q x
   to_running a_fits e (RecordWord j) place x fine = λ lt. absurd (omega arith)
   to_running a_fits e (RecordOld j) place x fine = λ lt. absurd (omega arith)
   to_running a_fits e (RecordStamp j) place x fine = subst (λ (m : ℕ). StampIs a m j x) e fine
-  to_running a_fits e (Heap w) place x fine = λ lt. inl (fine lt ∙ no_record w (found_zero words olds n w e))
+  to_running a_fits e (Heap w) place x fine =
+      λ lt. inl (fine lt ∙ no_record w (found_zero words olds n w e))
   to_running a_fits e q place x fine = fine
 
   no_facts : (a_fits : a ≤ 2 ^ 62) → Recorded redo a a_fits 0 nothing nothing
@@ -152,47 +187,87 @@ module _ (pool : Pool) (call : Call) (E W : ℕ → Type 0) (h : ℕ → ℤ) (r
     oldest = λ w lt input y there. absurd (cc (there, found_zero nothing nothing 0 w refl));
   }
 
-  pub nothing_to_restore : (c : Cache) → HasOne c one → n ≡ 0 → Through (Images OwedOrEnd') (Images (IsEnd pool call after_h result)) c (due_run C a (suc call.done) r result trace)
+  pub nothing_to_restore : (c : Cache) → HasOne c one → n ≡ 0 →
+      Through (Images OwedOrEnd') (Images (IsEnd pool call after_h result)) c
+      (due_run z a (suc call.done) r result trace)
   nothing_to_restore c only e =
       let a_fits : a ≤ 2 ^ 62 = owed.attempt_fits in
       run_again a a_fits c (record {
         facts = no_facts a_fits;
-        cover = cover_more C (ok start) (ok (running redo a a_fits 0 nothing nothing)) c (to_running a_fits e) (one_cover C start c one only start_fine);
+        cover = cover_more C (ok start) (ok (running redo a a_fits 0 nothing nothing)) c
+            (to_running a_fits e) (one_cover C start c one only start_fine);
         heap_is = λ w lt. one_heap c only w lt ∙ no_record w (found_zero words olds n w e);
       })
 
   -- some records
 
-  to_restoring : (q : Place) → IsPlace C q → (x : ℤ) → ok start q x → ok (restoring redo a owed.attempt_fits n words olds log.room in_heap recorded) q x
+  to_restoring : (q : Place) → IsPlace C q → (x : ℤ) → ok start q x
+      → ok (restoring redo a owed.attempt_fits n words olds log.room in_heap recorded) q x
   to_restoring (Heap w) place x fine = λ lt absent. fine lt ∙ no_record w absent
   to_restoring q place x fine = fine
 
-  pub restore_first : (c : Cache) → HasOne c one → a < 2 ^ 62 → Through (Images OwedOrEnd') (Images (IsEnd pool call after_h result)) c (restore_events C words olds n (Fence ∷ reset_events C a (due_run C (suc a) (suc call.done) r result trace)))
+  pub restore_first : (c : Cache) → HasOne c one → a < 2 ^ 62 →
+      Through (Images OwedOrEnd') (Images (IsEnd pool call after_h result)) c
+      (restore_walk C words olds n
+      (Fence ∷ reset_walk C a (due_run z (suc a) (suc call.done) r result trace)))
   restore_first c only lt62 =
       let a_fits : a ≤ 2 ^ 62 = owed.attempt_fits in
       let Q : Cache → Type 0 = Images OwedOrEnd' in
       let F : Cache → Type 0 = Images (IsEnd pool call after_h result) in
-      let inside : (d : Cache) → Images (Owed pool call E W h) d → Q d = λ d q image im. inl (q image im) in
-      let rest : List CacheEvent = due_run C (suc a) (suc call.done) r result trace in
+      let inside : (d : Cache) → Images (Owed pool call E W h) d → Q d =
+      λ d q image im. inl (q image im) in
+      let rest : List CacheEvent = due_run z (suc a) (suc call.done) r result trace in
       let next_fits : suc a ≤ 2 ^ 62 = omega arith in
-      restore_part redo a a_fits n words olds log.room in_heap recorded Q F inside n (Fence ∷ reset_events C a rest) c (omega arith)
-      (cover_more C (ok start) (ok (restoring redo a a_fits n words olds log.room in_heap recorded)) c to_restoring (one_cover C start c one only start_fine))
-      (λ w lt. undone_cong words olds n (λ u. view c (at C (Heap u))) heap_now w (one_heap c only w lt) ∙ sym (r_undone w))
+      restore_part redo a a_fits n words olds log.room in_heap recorded Q F inside n
+      (Fence ∷ reset_walk C a rest) c (omega arith)
+      (cover_more C (ok start) (ok (restoring redo a a_fits n words olds log.room in_heap recorded))
+      c to_restoring (one_cover C start c one only start_fine))
+      (λ w lt. undone_cong words olds n (λ u. view c (at C (Heap u))) heap_now w
+      (one_heap c only w lt) ∙ sym (r_undone w))
       (λ j low high. absurd (omega arith))
-      (λ d cover new ready. reset_part redo a a_fits n words olds log.room in_heap recorded next_fits Q F inside rest d cover new ready
+      (λ d cover new ready. reset_part redo a a_fits n words olds log.room in_heap recorded
+      next_fits Q F inside rest d cover new ready
       (λ e run. run_again (suc a) next_fits e run))
 
+  -- the same by the log's own lists
+  pub back_first : (c : Cache) → HasOne c one → (m : ℕ) → n ≡ suc m → a < 2 ^ 62 →
+      Through (Images OwedOrEnd') (Images (IsEnd pool call after_h result)) c
+      (first_events z one (suc m)
+      ++ (reset_events z a ++ due_run z (suc a) (suc call.done) r result trace))
+  back_first c only m e lt62 =
+      let again : List CacheEvent = due_run z (suc a) (suc call.done) r result trace in
+      subst (λ (es : List CacheEvent).
+      Through (Images OwedOrEnd') (Images (IsEnd pool call after_h result)) c es)
+      (ap (λ (k : ℕ). restore_walk C words olds k (Fence ∷ reset_walk C a again)) e
+      ∙ sym (first_same z one m (reset_walk C a again) (λ j lt. in_heap j (omega arith)))
+      ∙ ap (λ (es : List CacheEvent). first_events z one (suc m) ++ es)
+      (sym (reset_same z a again)))
+      (restore_first c only lt62)
+
 -- the recovery of a sealed image
-pub cut_redo : (pool : Pool) (call : Call) (E W : ℕ → Type 0) (h : ℕ → ℤ) (result : Result) (trace : List Entry) → call.given < 23 → IsRun pool E W result trace → (one : Words) (owed : Owed pool call E W h one) (n : ℕ) → count (pool_of pool.sizes) owed.attempt one ≡ n → (0 < n → owed.attempt < 2 ^ 62) → (c : Cache) → HasOne c one → CutRedo pool call E W h result trace c one owed.attempt n
+pub cut_redo : (pool : Pool) (call : Call) (E W : ℕ → Type 0) (h : ℕ →
+    ℤ) (result : Result) (trace : List Entry) → length call.args < 23 →
+    IsRun pool E W result trace → (one : Words) (owed : Owed pool call E W h one) (n : ℕ) →
+    count (pool_of pool.sizes) owed.attempt one ≡ n → (0 < n → owed.attempt < 2 ^ 62) →
+    (c : Cache) → HasOne c one → CutRedo pool call E W h result trace c one owed.attempt n
 cut_redo pool call E W h result trace given_fits is one owed zero counted room c only =
-    let all = nothing_to_restore pool call E W h result trace given_fits is one owed zero counted c only refl in
-    let Q : Words → Type 0 = λ image. Owed pool call E W h image ⊎ IsEnd pool call (heap_after h trace) result image in
+    let all = nothing_to_restore pool call E W h result trace given_fits is one owed zero counted c
+    only refl in
+    let Q : Words → Type 0 = λ image. Owed pool call E W h image
+    ⊎ IsEnd pool call (heap_after h trace) result image in
     let F : Words → Type 0 = IsEnd pool call (heap_after h trace) result in
-    let events = redo_events (pool_of pool.sizes) owed.attempt (suc call.done) one zero result trace in
-    (through_during (Images Q) (Images F) c events all, through_end (Images Q) (Images F) c events all)
+    let events = redo_events pool.sizes owed.attempt (suc call.done) one zero result trace in (
+      through_during (Images Q) (Images F) c events all,
+      through_end (Images Q) (Images F) c events all,
+    )
 cut_redo pool call E W h result trace given_fits is one owed (suc m) counted room c only =
-    let all = restore_first pool call E W h result trace given_fits is one owed (suc m) counted c only (room (omega arith)) in
-    let Q : Words → Type 0 = λ image. Owed pool call E W h image ⊎ IsEnd pool call (heap_after h trace) result image in
+    let all =
+    back_first pool call E W h result trace given_fits is one owed (suc m) counted c only m refl
+    (room (omega arith)) in
+    let Q : Words → Type 0 = λ image. Owed pool call E W h image
+    ⊎ IsEnd pool call (heap_after h trace) result image in
     let F : Words → Type 0 = IsEnd pool call (heap_after h trace) result in
-    let events = redo_events (pool_of pool.sizes) owed.attempt (suc call.done) one (suc m) result trace in
-    (through_during (Images Q) (Images F) c events all, through_end (Images Q) (Images F) c events all)
+    let events = redo_events pool.sizes owed.attempt (suc call.done) one (suc m) result trace in (
+      through_during (Images Q) (Images F) c events all,
+      through_end (Images Q) (Images F) c events all,
+    )

@@ -1,20 +1,21 @@
 -- The effects of a machine's run, and what the crash law uses of them.
-use Rattle.std.specs.Prelude.{ℕ, suc, ◌<◌, ◌≤◌, ◌≡◌, ◌≢◌, ◌⊎◌, ◌==◌, cond, List, [], ◌∷◌, Option, Some, None, ℤ}
-use Rattle.crash_law.specs.Due.{Entry, Plain, Logged, log_events}
+use Rattle.std.specs.Prelude.{ℕ, suc, ◌<◌, ◌≤◌, ◌≡◌, ◌≢◌, ◌⊎◌, ◌==◌, cond, List, [], ◌∷◌, ◌++◌, Option, Some, None, ℤ}
+use Rattle.crash_law.specs.Due.{Entry, Plain, Logged}
+use Rattle.clobber_log.specs.Record.{record_events}
 use Rattle.cache_model.specs.Event.{CacheEvent, Store}
 use Rattle.cache_model.specs.Cache.{put}
 use Rattle.pool_layout.specs.declared.places.Place.TheVariants.{Heap}
-use Rattle.pool_layout.specs.declared.places.Layout.{Layout}
-use Rattle.pool_layout.specs.Places.{at}
+use Rattle.pool_layout.specs.declared.limits.Sizes.{Sizes}
+use Rattle.pool_layout.specs.Places.{at, pool_of}
 
--- what one step of the machine does inside the heap; Still: a flush, a fence or nothing
+-- the effect of one machine step inside the heap; Still is a flush, a fence or nothing
 pub data Effect : Type 0 where
   Loads : (word : ℕ) → Effect
   Stores : (word : ℕ) (value : ℤ) → Effect
   Logs : (word : ℕ) → Effect
   Still : Effect
 
--- the entry of a store, by the word of the LOG that was the last LOG or STORE before it
+-- the entry of a store, given the word of the LOG that was the last LOG or STORE before it
 abbrev pub entry : Option ℕ → ℕ → ℤ → Entry
 entry None w x = Plain w x
 entry (Some u) w x = cond (u == w) (Logged w x) (Plain w x)
@@ -50,7 +51,7 @@ IsLoggedFirst (Stores w x ∷ es) u = (u ≢ w) × IsLoggedFirst es u
 IsLoggedFirst (Logs w ∷ es) u = (u ≡ w) ⊎ IsLoggedFirst es u
 IsLoggedFirst (Still ∷ es) u = IsLoggedFirst es u
 
--- each LOG goes on to a store of its word, with no other LOG or STORE between
+-- after each LOG, the next LOG or STORE is a store to its word
 abbrev pub IsPaired : Option ℕ → List Effect → Type 0
 IsPaired None [] = Unit {0}
 IsPaired (Some u) [] = ⊥
@@ -76,9 +77,11 @@ pub record IsSound (C H : ℕ) (es : List Effect) : Type 0 where
   pub fits : logs_of es ≤ C
 
 -- the events of a run step by step: those of one effect, and then those of the rest
-abbrev pub effect_events : (C : Layout) (a n : ℕ) → (ℕ → ℤ) → List Effect → List CacheEvent
-effect_events C a n heap [] = []
-effect_events C a n heap (Loads w ∷ es) = effect_events C a n heap es
-effect_events C a n heap (Stores w x ∷ es) = Store (at C (Heap w)) x ∷ effect_events C a n (put heap w x) es
-effect_events C a n heap (Logs w ∷ es) = log_events C a n w (heap w) (effect_events C a (suc n) heap es)
-effect_events C a n heap (Still ∷ es) = effect_events C a n heap es
+abbrev pub effect_events : (z : Sizes) (a n : ℕ) → (ℕ → ℤ) → List Effect → List CacheEvent
+effect_events z a n heap [] = []
+effect_events z a n heap (Loads w ∷ es) = effect_events z a n heap es
+effect_events z a n heap (Stores w x ∷ es) =
+    Store (at (pool_of z) (Heap w)) x ∷ effect_events z a n (put heap w x) es
+effect_events z a n heap (Logs w ∷ es) =
+    record_events z n w (heap w) (suc a) ++ effect_events z a (suc n) heap es
+effect_events z a n heap (Still ∷ es) = effect_events z a n heap es

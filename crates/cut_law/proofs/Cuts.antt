@@ -1,10 +1,11 @@
--- Each event of a call leaves one of the images that the crash law names.
+-- After each event of a call the image is one of those that the crash law names.
 use Rattle.std.proofs.Common.{◌≡◌, ℕ, ◌^◌, ◌<◌, ◌≤◌, List, length, ℤ, pos, sym, ap, ◌∙◌, subst, arith}
 use Rattle.cache_model.specs.Event.{CacheEvent}
 use Rattle.cache_model.specs.Cache.{Words, Cache, view}
 use Rattle.cache_model.specs.Play.{play}
 use Rattle.cache_model.specs.Image.{Images, HasOne}
 use Rattle.cache_model.specs.During.{during}
+use Rattle.pool_layout.specs.declared.places.TheConstants.{ATTEMPT}
 use Rattle.pool_layout.specs.declared.limits.Sizes.{Sizes}
 use Rattle.pool_layout.specs.declared.places.Place.TheVariants.{Last}
 use Rattle.pool_layout.specs.Places.{at, pool_of}
@@ -31,11 +32,14 @@ use Rattle.cut_law.specs.Law.{call_of, pool_with}
 use Rattle.cut_law.proofs.Misses.{view_one}
 use Rattle.cut_law.proofs.Dues.{attempt_small, count_same, call_is}
 
-module _ (image : Image) (super : Words) (tx : ℕ) (args : List ℤ) (c : Cache) (one : Words) (d : ℕ) (end : End) (es : List Effect)
+module _ (image : Image) (super : Words) (tx : ℕ) (args : List ℤ) (c : Cache) (one : Words) (d : ℕ)
+    (end : End) (es : List Effect)
     (tx_fits : tx < 2 ^ 63) (few : length args ≤ 22) (d_fits : d < 2 ^ 62) (only : HasOne c one)
-    (good : Good (pool_with image super) d (heap_in image.parts.sizes c) one) (a_fits : good.attempt < 2 ^ 62)
+    (good : Good (pool_with image super) d (heap_in image.parts.sizes c) one)
+    (a_fits : good.attempt < 2 ^ 62)
     (empty : count (pool_of image.parts.sizes) good.attempt one ≡ 0)
-    (ran : mrun image image.parts.most (heap_in image.parts.sizes c) tx args ≡ Finished end es) (sound : IsSoundRun end es) where
+    (ran : mrun image image.parts.most (heap_in image.parts.sizes c) tx args ≡ Finished end es)
+    (sound : IsSoundRun end es) where
   abbrev z : Sizes
   z = image.parts.sizes
 
@@ -51,32 +55,43 @@ module _ (image : Image) (super : Words) (tx : ℕ) (args : List ℤ) (c : Cache
   abbrev last : ℤ
   last = one (at (pool_of z) Last)
 
-  pub attempt : view c 18 ≡ pos good.attempt
+  pub attempt : view c ATTEMPT ≡ pos good.attempt
   attempt = view_one c one only 18 ∙ good.attempt_is
 
   pub none : count_in z (view c) ≡ 0
   none =
-      ap (λ (b : ℕ). count (pool_of z) b (view c)) (ap attempt_of attempt ∙ attempt_small good.attempt (omega arith))
+      ap (λ (b : ℕ). count (pool_of z) b (view c))
+      (ap attempt_of attempt ∙ attempt_small good.attempt (omega arith))
       ∙ count_same z good.attempt (view c) one (λ p more. view_one c one only p) ∙ empty
 
-  same : due_call image tx args c ≡ crash.due_call (pool_of z) good.attempt call h (result_of end) (trace_in es)
-  same = call_is image tx args c d good.attempt end es tx_fits few d_fits a_fits (view_one c one only 17 ∙ good.done) attempt none ran sound
+  same : due_call image tx args c
+      ≡ crash.due_call z good.attempt call h (result_of end) (trace_in es)
+  same = call_is image tx args c d good.attempt end es tx_fits few d_fits a_fits
+      (view_one c one only 17 ∙ good.done) attempt none ran sound
 
   pub cut_call :
-      during c (due_call image tx args c) (Images (IsCut pool call (E es) (W es) h (heap_end h es) last (result_of end)))
+      during c (due_call image tx args c)
+      (Images (IsCut pool call (E es) (W es) h (heap_end h es) last (result_of end)))
       × Images (IsEnd pool call (heap_end h es) (result_of end)) (play c (due_call image tx args c))
   cut_call =
-      subst (λ (g : Words). during c (due_call image tx args c) (Images (IsCut pool call (E es) (W es) h g last (result_of end)))
+      subst (λ (g : Words). during c (due_call image tx args c)
+      (Images (IsCut pool call (E es) (W es) h g last (result_of end)))
       × Images (IsEnd pool call g (result_of end)) (play c (due_call image tx args c)))
       (sym (join z good.attempt h end es sound.paired sound.tidy).1)
-      (subst (λ (events : List CacheEvent). during c events (Images (IsCut pool call (E es) (W es) h (crash.heap_after h (trace_in es)) last (result_of end)))
+      (subst (λ (events : List CacheEvent).
+      during c events (Images (IsCut pool call (E es) (W es) h (crash.heap_after h (trace_in es))
+      last (result_of end)))
       × Images (IsEnd pool call (crash.heap_after h (trace_in es)) (result_of end)) (play c events))
       (sym same)
-      (whole.cut_call pool call (E es) (W es) h (result_of end) (trace_in es) (omega arith) (omega arith)
-      (run_is image super image.parts.most (start image tx args) h end es tt ran sound) c one only good (omega arith) empty))
+      (whole.cut_call pool call (E es) (W es) h (result_of end) (trace_in es) (omega arith)
+      (omega arith)
+      (run_is image super image.parts.most (start image tx args) h end es tt ran sound) c one only
+      good (omega arith) empty))
 
-  pub call_at_rest : (v : ℤ) → end ≡ Halted v → IsAtRest c → IsAtRest (play c (due_call image tx args c))
+  pub call_at_rest : (v : ℤ) → end ≡ Halted v → IsAtRest c
+      → IsAtRest (play c (due_call image tx args c))
   call_at_rest v is rest =
       subst (λ (events : List CacheEvent). IsAtRest (play c events))
-      (sym (same ∙ ap (λ (e : End). crash.due_call (pool_of z) good.attempt call h (result_of e) (trace_in es)) is))
+      (sym (same
+      ∙ ap (λ (e : End). crash.due_call z good.attempt call h (result_of e) (trace_in es)) is))
       (call_rest z good.attempt call h v (trace_in es) c rest)

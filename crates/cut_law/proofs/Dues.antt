@@ -1,5 +1,5 @@
--- What a call plays is the crash law's due list.
-use Rattle.std.proofs.Common.{◌≡◌, ℕ, zero, suc, ◌+◌, ◌-◌, ◌/◌, ◌^◌, ◌<◌, ◌≤◌, if◌then◌else◌, Bool, true, false, ltb, w64, List, [], ◌∷◌, ◌++◌, length, slice_index_or, take, Some, ℤ, pos, ◌+ℤ◌, FitsSigned, ◌⊎◌, inl, inr, refl, sym, ap, ◌∙◌, subst, arith, append_assoc}
+-- The events that a call plays are the crash law's due list.
+use Rattle.std.proofs.Common.{◌≡◌, ℕ, suc, ◌+◌, ◌-◌, ◌^◌, ◌<◌, ◌≤◌, if◌then◌else◌, Bool, true, false, ltb, w64, List, [], ◌∷◌, ◌++◌, length, take, Some, ℤ, pos, ◌+ℤ◌, FitsSigned, ◌⊎◌, inl, inr, refl, sym, ap, ◌∙◌, subst, arith}
 use Rattle.std.specs.Int.{int_wrap, cast_signed}
 use Rattle.std.proofs.lemmas.Int.{ints, to_z_pos, int_wrap_fits}
 use Rattle.std.proofs.lemmas.Bool.{ltb-false}
@@ -7,15 +7,15 @@ use Rattle.std.proofs.lemmas.List.{take_all}
 use Rattle.cache_model.specs.Event.{CacheEvent, Store, Flush, Fence}
 use Rattle.cache_model.specs.Cache.{Words, Cache, view}
 use Rattle.cache_model.specs.Play.{play}
+use Rattle.pool_layout.specs.declared.places.TheConstants.{LAST, DONE, ATTEMPT}
 use Rattle.pool_layout.specs.declared.limits.Sizes.{Sizes}
-use Rattle.pool_layout.specs.declared.places.Layout.{Layout}
 use Rattle.pool_layout.specs.declared.places.Place.TheVariants.{RecordStamp, Heap}
 use Rattle.pool_layout.specs.Places.{at, pool_of}
 use Rattle.pool_layout.specs.Sizes.{heap_words}
 use Rattle.pool_layout.specs.Log.{valid, count}
 use Rattle.clobber_log.specs.Logs.{attempt_of, attempt_in, count_in}
-use Rattle.args_log.specs.Next.{next}
-use Rattle.args_log.specs.Seal.{stores_from, flushes_from, payload_lines, payload_events, unsealed_events, sealing_events, seal_events}
+use Rattle.args_log.specs.Next.{number_after}
+use Rattle.args_log.specs.Seal.{seal_events}
 use Rattle.args_log.specs.Retire.{retire_events, mark_events}
 use Rattle.pm_machine.specs.declared.effect.Effect.{Effect}
 use Rattle.pm_machine.specs.declared.effect.End.{End}
@@ -37,12 +37,13 @@ use Rattle.cut_law.proofs.Misses.{Misses, view_missed, misses_seal, misses_run}
 
 -- numbers
 
-pub next_is : (x : ℤ) (n : ℕ) → x ≡ pos n → n ≤ 2 ^ 62 → next x ≡ pos (suc n)
-unfolding next
+pub next_is : (x : ℤ) (n : ℕ) → x ≡ pos n → n ≤ 2 ^ 62 → number_after x ≡ pos (suc n)
+unfolding number_after
 next_is x n is less =
     let fits : FitsSigned w64 (pos (n + 1)) = omega (arith, ints) in
     let one_more : n + 1 ≡ suc n = omega arith in
-    ap (λ (y : ℤ). int_wrap w64 (y +ℤ pos 1)) is ∙ int_wrap_fits w64 (pos (n + 1)) fits ∙ ap pos one_more
+    ap (λ (y : ℤ). int_wrap w64 (y +ℤ pos 1)) is ∙ int_wrap_fits w64 (pos (n + 1)) fits
+    ∙ ap pos one_more
 
 pub attempt_small : (a : ℕ) → a ≤ 2 ^ 62 → attempt_of (pos a) ≡ a
 attempt_small a less = go (ltb a (2 ^ 63 - 2)) refl
@@ -51,70 +52,61 @@ attempt_small a less = go (ltb a (2 ^ 63 - 2)) refl
     go true is = refl
     go false is = let more : 2 ^ 63 - 2 ≤ a = ltb-false a (2 ^ 63 - 2) is in absurd (omega arith)
 
--- the seal
+-- the events after the run
 
-stores_same : (l : Layout) (xs : List ℤ) (j : ℕ) (word : ℕ → ℤ) (rest : List CacheEvent) → ((i : ℕ) → i < length xs → slice_index_or xs i (pos 0) ≡ word (j + i)) →
-    stores_from (24 + j) xs ++ rest ≡ crash.store_words l word j (length xs) rest
-stores_same l [] j word rest same = refl
-stores_same l (x ∷ xs) j word rest same =
-    let head : x ≡ word j = same 0 (omega arith) ∙ ap word (omega arith) in
-    let place : suc (24 + j) ≡ 24 + suc j = omega arith in
-    ap (λ (y : ℤ). Store (24 + j) y ∷ (stores_from (suc (24 + j)) xs ++ rest)) head
-    ∙ ap (λ (p : ℕ). Store (24 + j) (word j) ∷ (stores_from p xs ++ rest)) place
-    ∙ ap (λ (r : List CacheEvent). Store (24 + j) (word j) ∷ r) (stores_same l xs (suc j) word rest (λ i less. same (suc i) (omega arith) ∙ ap word (omega arith)))
-
-flushes_same : (k n : ℕ) (rest : List CacheEvent) → flushes_from k n ++ rest ≡ crash.flush_from k n rest
-flushes_same k zero rest = refl
-flushes_same k (suc n) rest = ap (λ (r : List CacheEvent). Flush k ∷ r) (flushes_same (suc k) n rest)
-
-pub seal_same : (l : Layout) (f : ℤ) (args : List ℤ) (k : ℤ) (word : ℕ → ℤ) (rest : List CacheEvent) → ((i : ℕ) → i < length (f ∷ args) → slice_index_or (f ∷ args) i (pos 0) ≡ word (0 + i)) →
-    seal_events f args k ++ rest ≡ crash.store_words l word 0 (suc (length args)) (crash.flush_from 3 (length args / 8 + 1) (Fence ∷ Store 47 k ∷ Flush 5 ∷ Fence ∷ rest))
-unfolding seal_events unsealed_events payload_events sealing_events
-seal_same l f args k word rest same =
-    let xs : List CacheEvent = stores_from 24 (f ∷ args) in
-    let ys : List CacheEvent = flushes_from 3 (payload_lines (length args)) in
-    let tail : List CacheEvent = Store 47 k ∷ Flush 5 ∷ Fence ∷ rest in
-    append_assoc ((xs ++ (ys ++ Fence ∷ [])) ++ Store 47 k ∷ []) (Flush 5 ∷ Fence ∷ []) rest
-    ∙ append_assoc (xs ++ (ys ++ Fence ∷ [])) (Store 47 k ∷ []) (Flush 5 ∷ Fence ∷ rest)
-    ∙ append_assoc xs (ys ++ Fence ∷ []) tail
-    ∙ ap (λ (r : List CacheEvent). xs ++ r) (append_assoc ys (Fence ∷ []) tail ∙ flushes_same 3 (payload_lines (length args)) (Fence ∷ tail))
-    ∙ stores_same l (f ∷ args) 0 word (crash.flush_from 3 (length args / 8 + 1) (Fence ∷ tail)) same
-
--- behind the run
-
-tail_is : (z : Sizes) (d a : ℕ) (end : End) (c : Cache) → view c 17 ≡ pos d → view c 18 ≡ pos a → d ≤ 2 ^ 62 → a ≤ 2 ^ 62 → plays.tail_events end c ≡ close_events (pool_of z) a (suc d) end
+tail_is : (z : Sizes) (d a : ℕ) (end : End) (c : Cache) → view c DONE ≡ pos d
+    → view c ATTEMPT ≡ pos a →
+    d ≤ 2 ^ 62 → a ≤ 2 ^ 62 → plays.tail_events end c ≡ close_events a (suc d) end
 unfolding retire_events mark_events
 tail_is z d a (Halted v) c done attempt d_fits a_fits =
-    let finished = next_is (view c 17) d done d_fits in
-    let begun = next_is (view c 18) a attempt a_fits in
-    λ i. Store 16 v ∷ Store 17 (finished i) ∷ Store 18 (begun i) ∷ Flush 2 ∷ Fence ∷ []
+    let finished = next_is (view c DONE) d done d_fits in
+    let begun = next_is (view c ATTEMPT) a attempt a_fits in
+    λ i. Store LAST v ∷ Store DONE (finished i) ∷ Store ATTEMPT (begun i) ∷ Flush 2 ∷ Fence ∷ []
 tail_is z d a (Trapped k) c done attempt d_fits a_fits = refl
 
-pub count_same : (z : Sizes) (a : ℕ) (u v : Words) → ((p : ℕ) → 48 ≤ p → u p ≡ v p) → count (pool_of z) a u ≡ count (pool_of z) a v
+pub count_same : (z : Sizes) (a : ℕ) (u v : Words) → ((p : ℕ) → 48 ≤ p → u p ≡ v p)
+    → count (pool_of z) a u ≡ count (pool_of z) a v
 unfolding count
-count_same z a u v same = ap (λ (stamps : ℕ → ℤ). valid stamps a z.records) (λ i j. same (at (pool_of z) (RecordStamp j)) (omega arith) i)
+count_same z a u v same = ap (λ (stamps : ℕ → ℤ). valid stamps a z.records)
+    (λ i j. same (at (pool_of z) (RecordStamp j)) (omega arith) i)
 
--- what a run on a cache owes, from a heap r that is alike for the run from h
-pub owes_same : (image : Image) (tx : ℕ) (args : List ℤ) (c : Cache) (a : ℕ) (h r : Words) (end : End) (es : List Effect) →
-    a ≤ 2 ^ 62 → view c 18 ≡ pos a → count_in image.parts.sizes (view c) ≡ 0 → heap_in image.parts.sizes c ≡ r →
-    AreAlike (heap_words image.parts.sizes) es h r → run image image.parts.most 0 (start image tx args) h ≡ Finished end es →
-    plays.due_on image (start image tx args) c ≡ record { events = events_all image.parts.sizes a 0 r es; fate = Some end; steps = suc (length es); records = records_end 0 es }
+-- what is due of a run on a cache, from a heap r that is alike for the run from h
+pub owes_same : (image : Image) (tx : ℕ) (args : List ℤ) (c : Cache) (a : ℕ) (h r : Words)
+    (end : End) (es : List Effect) →
+    a ≤ 2 ^ 62 → view c ATTEMPT ≡ pos a → count_in image.parts.sizes (view c) ≡ 0
+    → heap_in image.parts.sizes c ≡ r →
+    AreAlike (heap_words image.parts.sizes) es h r
+    → run image image.parts.most 0 (start image tx args) h ≡ Finished end es →
+    plays.due_on image (start image tx args) c
+    ≡ record {
+      events = events_all image.parts.sizes a 0 r es;
+      fate = Some end;
+      steps = suc (length es);
+      records = records_end 0 es;
+    }
 owes_same image tx args c a h r end es a_fits attempt empty heap alike ran =
     let z : Sizes = image.parts.sizes in
     let s : State = start image tx args in
-    ap (λ (b : ℕ). due image b image.parts.most (count_in z (view c)) s c) (ap attempt_of attempt ∙ attempt_small a a_fits)
+    ap (λ (b : ℕ). due image b image.parts.most (count_in z (view c)) s c)
+    (ap attempt_of attempt ∙ attempt_small a a_fits)
     ∙ ap (λ (n : ℕ). due image a image.parts.most n s c) empty
-    ∙ alike_due image end a image.parts.most 0 s c h es tt ran (subst (λ (g : Words). AreAlike (heap_words z) es h g) (sym heap) alike)
+    ∙ alike_due image end a image.parts.most 0 s c h es tt ran
+    (subst (λ (g : Words). AreAlike (heap_words z) es h g) (sym heap) alike)
     ∙ ap (λ (g : Words). owed z a 0 g (Finished end es)) heap
 
--- the run, and what is behind it
-pub run_same : (image : Image) (tx : ℕ) (args : List ℤ) (c : Cache) (d a : ℕ) (h r : Words) (end : End) (es : List Effect) →
-    d ≤ 2 ^ 62 → a ≤ 2 ^ 62 → view c 17 ≡ pos d → view c 18 ≡ pos a → count_in image.parts.sizes (view c) ≡ 0 → heap_in image.parts.sizes c ≡ r →
-    AreAlike (heap_words image.parts.sizes) es h r → run image image.parts.most 0 (start image tx args) h ≡ Finished end es → IsSoundRun end es →
-    plays.due_run image (start image tx args) c ≡ crash.due_run (pool_of image.parts.sizes) a (suc d) r (result_of end) (trace_in es)
+-- the run, and the events after it
+pub run_same : (image : Image) (tx : ℕ) (args : List ℤ) (c : Cache) (d a : ℕ) (h r : Words)
+    (end : End) (es : List Effect) →
+    d ≤ 2 ^ 62 → a ≤ 2 ^ 62 → view c DONE ≡ pos d → view c ATTEMPT ≡ pos a
+    → count_in image.parts.sizes (view c) ≡ 0 → heap_in image.parts.sizes c ≡ r →
+    AreAlike (heap_words image.parts.sizes) es h r
+    → run image image.parts.most 0 (start image tx args) h ≡ Finished end es → IsSoundRun end es →
+    plays.due_run image (start image tx args) c
+    ≡ crash.due_run image.parts.sizes a (suc d) r (result_of end) (trace_in es)
 run_same image tx args c d a h r end es d_fits a_fits done attempt empty heap alike ran sound =
     let z : Sizes = image.parts.sizes in
-    ap (λ (x : Due). x.events ++ plays.tail_events (end_of x.fate) (play c x.events)) (owes_same image tx args c a h r end es a_fits attempt empty heap alike ran)
+    ap (λ (x : Due). x.events ++ plays.tail_events (end_of x.fate) (play c x.events))
+    (owes_same image tx args c a h r end es a_fits attempt empty heap alike ran)
     ∙ ap (λ (rest : List CacheEvent). events_all z a 0 r es ++ rest)
     (tail_is z d a end (play c (events_all z a 0 r es))
     (view_missed (events_all z a 0 r es) c 17 (misses_run z a 0 17 r es (omega arith)) ∙ done)
@@ -122,10 +114,13 @@ run_same image tx args c d a h r end es d_fits a_fits done attempt empty heap al
     d_fits a_fits)
     ∙ due_run_is z a (suc d) r end es sound
 
-module _ (image : Image) (tx : ℕ) (args : List ℤ) (c : Cache) (d a : ℕ) (end : End) (es : List Effect)
+module _ (image : Image) (tx : ℕ) (args : List ℤ) (c : Cache) (d a : ℕ) (end : End)
+    (es : List Effect)
     (tx_fits : tx < 2 ^ 63) (few : length args ≤ 22) (d_fits : d < 2 ^ 62) (a_fits : a < 2 ^ 62)
-    (done : view c 17 ≡ pos d) (attempt : view c 18 ≡ pos a) (empty : count_in image.parts.sizes (view c) ≡ 0)
-    (ran : mrun image image.parts.most (heap_in image.parts.sizes c) tx args ≡ Finished end es) (sound : IsSoundRun end es) where
+    (done : view c DONE ≡ pos d) (attempt : view c ATTEMPT ≡ pos a)
+    (empty : count_in image.parts.sizes (view c) ≡ 0)
+    (ran : mrun image image.parts.most (heap_in image.parts.sizes c) tx args ≡ Finished end es)
+    (sound : IsSoundRun end es) where
   abbrev z : Sizes
   z = image.parts.sizes
 
@@ -138,43 +133,57 @@ module _ (image : Image) (tx : ℕ) (args : List ℤ) (c : Cache) (d a : ℕ) (e
   abbrev sealing : List CacheEvent
   sealing = plays.due_seal tx args c
 
-  abbrev behind : Cache
-  behind = play c sealing
+  abbrev cache_after : Cache
+  cache_after = play c sealing
 
   missed : (p : ℕ) → (p < 24) ⊎ (48 ≤ p) → Misses p sealing
-  missed p out = misses_seal (cast_signed w64 tx) (take 22 args) (next (view c 17)) p (subst (λ (xs : List ℤ). length xs ≤ 22) (sym (take_all 22 args few)) few) out
+  missed p out = misses_seal (cast_signed w64 tx) (take 22 args) (number_after (view c DONE)) p
+      (subst (λ (xs : List ℤ). length xs ≤ 22) (sym (take_all 22 args few)) few) out
 
-  seen : (p : ℕ) → (p < 24) ⊎ (48 ≤ p) → view behind p ≡ view c p
+  seen : (p : ℕ) → (p < 24) ⊎ (48 ≤ p) → view cache_after p ≡ view c p
   seen p out = view_missed sealing c p (missed p out)
 
-  same_heap : heap_in z behind ≡ h
+  same_heap : heap_in z cache_after ≡ h
   same_heap = λ i w. seen (at (pool_of z) (Heap w)) (inr (omega arith)) i
 
   attempt_before : attempt_in z (view c) ≡ a
   attempt_before = ap attempt_of attempt ∙ attempt_small a (omega arith)
 
-  attempt_behind : attempt_in z (view behind) ≡ a
-  attempt_behind = ap attempt_of (seen 18 (inl (omega arith))) ∙ attempt_before
+  attempt_after : attempt_in z (view cache_after) ≡ a
+  attempt_after = ap attempt_of (seen 18 (inl (omega arith))) ∙ attempt_before
 
-  pub empty_behind : count_in z (view behind) ≡ 0
-  empty_behind =
-      ap (λ (b : ℕ). count (pool_of z) b (view behind)) (attempt_behind ∙ sym attempt_before)
-      ∙ count_same z (attempt_in z (view c)) (view behind) (view c) (λ p more. seen p (inr more)) ∙ empty
+  pub empty_after : count_in z (view cache_after) ≡ 0
+  empty_after =
+      ap (λ (b : ℕ). count (pool_of z) b (view cache_after)) (attempt_after ∙ sym attempt_before)
+      ∙ count_same z (attempt_in z (view c)) (view cache_after) (view c) (λ p more.
+      seen p (inr more)) ∙ empty
 
-  run_is : plays.due_run image s behind ≡ crash.due_run (pool_of z) a (suc d) h (result_of end) (trace_in es)
+  run_is : plays.due_run image s cache_after ≡ crash.due_run z a (suc d) h (result_of end)
+      (trace_in es)
   run_is =
-      run_same image tx args behind d a h h end es (omega arith) (omega arith) (seen 17 (inl (omega arith)) ∙ done) (seen 18 (inl (omega arith)) ∙ attempt)
-      empty_behind same_heap (λ u less kept. refl) ran sound
+      run_same image tx args cache_after d a h h end es (omega arith) (omega arith)
+      (seen 17 (inl (omega arith)) ∙ done) (seen 18 (inl (omega arith)) ∙ attempt)
+      empty_after same_heap (λ u less kept. refl) ran sound
 
-  pub owes_behind : plays.due_on image s behind ≡ record { events = events_all z a 0 h es; fate = Some end; steps = suc (length es); records = records_end 0 es }
-  owes_behind = owes_same image tx args behind a h h end es (omega arith) (seen 18 (inl (omega arith)) ∙ attempt) empty_behind same_heap (λ u less kept. refl) ran
+  pub owes_after : plays.due_on image s cache_after
+      ≡ record {
+        events = events_all z a 0 h es;
+        fate = Some end;
+        steps = suc (length es);
+        records = records_end 0 es;
+      }
+  owes_after = owes_same image tx args cache_after a h h end es (omega arith)
+      (seen 18 (inl (omega arith)) ∙ attempt) empty_after same_heap (λ u less kept. refl) ran
 
-  pub call_is : plays.due_call image tx args c ≡ crash.due_call (pool_of z) a (call_of d tx args) h (result_of end) (trace_in es)
+  pub call_is : plays.due_call image tx args c
+      ≡ crash.due_call z a (call_of d tx args) h (result_of end) (trace_in es)
   unfolding plays.due_call
   call_is =
-      let rest : List CacheEvent = crash.due_run (pool_of z) a (suc d) h (result_of end) (trace_in es) in
+      let rest : List CacheEvent = crash.due_run z a (suc d) h (result_of end) (trace_in es) in
       ap (λ (r : List CacheEvent). sealing ++ r) run_is
-      ∙ ap (λ (f : ℤ). seal_events f (take 22 args) (next (view c 17)) ++ rest) (to_z_pos w64 tx tx_fits)
-      ∙ ap (λ (xs : List ℤ). seal_events (pos tx) xs (next (view c 17)) ++ rest) (take_all 22 args few)
-      ∙ ap (λ (k : ℤ). seal_events (pos tx) args k ++ rest) (next_is (view c 17) d done (omega arith))
-      ∙ seal_same (pool_of z) (pos tx) args (pos (suc d)) (call_of d tx args).word rest (λ i less. ap (λ (j : ℕ). slice_index_or (pos tx ∷ args) j (pos 0)) (omega arith))
+      ∙ ap (λ (f : ℤ). seal_events f (take 22 args) (number_after (view c DONE)) ++ rest)
+      (to_z_pos w64 tx tx_fits)
+      ∙ ap (λ (xs : List ℤ). seal_events (pos tx) xs (number_after (view c DONE)) ++ rest)
+      (take_all 22 args few)
+      ∙ ap (λ (k : ℤ). seal_events (pos tx) args k ++ rest)
+      (next_is (view c DONE) d done (omega arith))

@@ -1,4 +1,4 @@
--- What the answers of a call and of a recovery leave on the device.
+-- The effect of a call and of a recovery on the device, by their answers.
 use Rattle.std.proofs.Common.{◌≡◌, ◌⊎◌, inl, inr, ⊎_elim, ℕ, suc, ◌+◌, ◌^◌, ◌<◌, ◌≤◌, List, [], ◌∷◌, length, Some, ℤ, pos, sym, ap, ◌∙◌, subst, arith}
 use Rattle.cache_model.specs.Event.{CacheEvent}
 use Rattle.cache_model.specs.Cache.{Words, Cache, view}
@@ -12,6 +12,7 @@ use Rattle.pmem.specs.declared.answer.Refusal.{Refusal}
 use Rattle.pmem.specs.declared.answer.Refusal.TheVariants.{Off, Failed, NoMemory}
 use Rattle.pmem.specs.declared.answer.Phase.TheVariants as phase
 use Rattle.pmem.proofs.Refused.{all_cache}
+use Rattle.pool_layout.specs.declared.places.TheConstants.{DONE}
 use Rattle.pool_layout.specs.declared.places.Place.TheVariants.{Last}
 use Rattle.pool_layout.specs.Places.{at, pool_of}
 use Rattle.pool_layout.specs.Log.{count}
@@ -34,41 +35,48 @@ use Rattle.recovery.specs.declared.answer.RecoverAnswer.TheVariants as recover
 use Rattle.recovery.specs.Due.{due_redo}
 use Rattle.recovery.specs.Recovered.{Redid}
 use Rattle.cut_law.specs.Law.{call_of, pool_with}
-use Rattle.cut_law.specs.Leaves.{Tells, Retells}
+use Rattle.cut_law.specs.Leaves.{AnswerTells, Retells}
 use Rattle.cut_law.proofs.Misses.{view_one}
-use Rattle.cut_law.proofs.Dues.{owes_behind, empty_behind}
+use Rattle.cut_law.proofs.Dues.{owes_after, empty_after}
 use Rattle.cut_law.proofs.Cuts.{attempt, none, cut_call}
 use Rattle.cut_law.proofs.Redoes.{redo_owes, cut_redo}
 
--- what holds during a list of events
+-- a property that holds during a list of events
 
 refused_cache : (why : Refusal) (d b : Device) → Refuses why d b → b.cache ≡ d.cache
 refused_cache Off d b h = ap (λ (x : Device). x.cache) h.1
 refused_cache Failed d b h = ap (λ (x : Device). x.cache) h.3
 refused_cache NoMemory d b h = ap (λ (x : Device). x.cache) h
 
-part_during : (Q : Cache → Type 0) (why : Refusal) (es : List CacheEvent) (d b : Device) → PlaysPart why d es b → during d.cache es Q → Q b.cache
+part_during : (Q : Cache → Type 0) (why : Refusal) (es : List CacheEvent) (d b : Device)
+    → PlaysPart why d es b → during d.cache es Q → Q b.cache
 part_during Q why [] d b part h = absurd part
 part_during Q why (e ∷ es) d b (inl refused) h = subst Q (sym (refused_cache why d b refused)) h.0
 part_during Q why (e ∷ es) d b (inr rest) h = part_during Q why es (spent d e) b rest.1 h.1
 
-all_during : (Q : Cache → Type 0) (es : List CacheEvent) (d b : Device) → PlaysAll d es b → during d.cache es Q → Q b.cache
+all_during : (Q : Cache → Type 0) (es : List CacheEvent) (d b : Device) → PlaysAll d es b
+    → during d.cache es Q → Q b.cache
 all_during Q es d b all h = subst Q (sym (all_cache es d b all)) (during_end d.cache es Q h)
 
 during_start : (Q : Cache → Type 0) (es : List CacheEvent) (c : Cache) → during c es Q → Q c
 during_start Q [] c h = h
 during_start Q (e ∷ es) c h = h.0
 
-module _ (image : Image) (super : Words) (tx : ℕ) (args : List ℤ) (d b : Device) (one : Words) (n : ℕ) (end : End) (es : List Effect)
-    (tx_fits : tx < 2 ^ 63) (few : length args ≤ 22) (n_fits : n < 2 ^ 62) (only : HasOne d.cache one)
-    (good : Good (pool_with image super) n (heap_in image.parts.sizes d.cache) one) (a_fits : good.attempt < 2 ^ 62)
+module _ (image : Image) (super : Words) (tx : ℕ) (args : List ℤ) (d b : Device) (one : Words)
+    (n : ℕ) (end : End) (es : List Effect)
+    (tx_fits : tx < 2 ^ 63) (few : length args ≤ 22) (n_fits : n < 2 ^ 62)
+    (only : HasOne d.cache one)
+    (good : Good (pool_with image super) n (heap_in image.parts.sizes d.cache) one)
+    (a_fits : good.attempt < 2 ^ 62)
     (empty : count (pool_of image.parts.sizes) good.attempt one ≡ 0)
-    (ran : mrun image image.parts.most (heap_in image.parts.sizes d.cache) tx args ≡ Finished end es) (sound : IsSoundRun end es) where
+    (ran : mrun image image.parts.most (heap_in image.parts.sizes d.cache) tx args
+    ≡ Finished end es) (sound : IsSoundRun end es) where
   abbrev h : Words
   h = heap_in image.parts.sizes d.cache
 
   abbrev Cut : Words → Type 0
-  Cut = IsCut (pool_with image super) (call_of n tx args) (E es) (W es) h (heap_end h es) (one (at (pool_of image.parts.sizes) Last)) (result_of end)
+  Cut = IsCut (pool_with image super) (call_of n tx args) (E es) (W es) h (heap_end h es)
+      (one (at (pool_of image.parts.sizes) Last)) (result_of end)
 
   abbrev Ended : Words → Type 0
   Ended = IsEnd (pool_with image super) (call_of n tx args) (heap_end h es) (result_of end)
@@ -77,16 +85,25 @@ module _ (image : Image) (super : Words) (tx : ℕ) (args : List ℤ) (d b : Dev
   events = plays.due_call image tx args d.cache
 
   cuts : during d.cache events (Images Cut) × Images Ended (play d.cache events)
-  cuts = cut_call image super tx args d.cache one n end es tx_fits few n_fits only good a_fits empty ran sound
+  cuts = cut_call image super tx args d.cache one n end es tx_fits few n_fits only good a_fits
+      empty ran sound
 
-  done : view d.cache 17 ≡ pos n
+  done : view d.cache DONE ≡ pos n
   done = view_one d.cache one only 17 ∙ good.done
 
-  owes : called_run image tx args d ≡ record { events = events_all image.parts.sizes good.attempt 0 h es; fate = Some end; steps = suc (length es); records = records_end 0 es }
+  owes : called_run image tx args d
+      ≡ record {
+        events = events_all image.parts.sizes good.attempt 0 h es;
+        fate = Some end;
+        steps = suc (length es);
+        records = records_end 0 es;
+      }
   owes =
-      owes_behind image tx args d.cache n good.attempt end es tx_fits few n_fits a_fits done
-      (attempt image super tx args d.cache one n end es tx_fits few n_fits only good a_fits empty ran sound)
-      (none image super tx args d.cache one n end es tx_fits few n_fits only good a_fits empty ran sound) ran sound
+      owes_after image tx args d.cache n good.attempt end es tx_fits few n_fits a_fits done
+      (attempt image super tx args d.cache one n end es tx_fits few n_fits only good a_fits empty
+      ran sound)
+      (none image super tx args d.cache one n end es tx_fits few n_fits only good a_fits empty ran
+      sound) ran sound
 
   whole : PlaysAll d events b → Images Cut b.cache
   whole all = all_during (Images Cut) events d b all cuts.0
@@ -103,37 +120,51 @@ module _ (image : Image) (super : Words) (tx : ℕ) (args : List ℤ) (d b : Dev
   taken : (k k1 : ℕ) → k1 ≡ k + (called_run image tx args d).steps → k1 ≡ k + suc (length es)
   taken k k1 is = is ∙ ap (λ (x : Due). k + x.steps) owes
 
-  pub call_leaves : (answer : CallAnswer) (k k1 : ℕ) → Called answer image tx args d b k k1 → Images Cut b.cache × Tells answer end es (Images Ended b.cache) k k1
+  pub call_leaves : (answer : CallAnswer) (k k1 : ℕ) → Called answer image tx args d b k k1
+      → Images Cut b.cache × AnswerTells answer end es (Images Ended b.cache) k k1
   call_leaves (call.Done v l) k k1 called =
       let clear =
-      empty_behind image tx args d.cache n good.attempt end es tx_fits few n_fits a_fits done
-      (attempt image super tx args d.cache one n end es tx_fits few n_fits only good a_fits empty ran sound)
-      (none image super tx args d.cache one n end es tx_fits few n_fits only good a_fits empty ran sound) ran sound in
+      empty_after image tx args d.cache n good.attempt end es tx_fits few n_fits a_fits done
+      (attempt image super tx args d.cache one n end es tx_fits few n_fits only good a_fits empty
+      ran sound)
+      (none image super tx args d.cache one n end es tx_fits few n_fits only good a_fits empty ran
+      sound) ran sound in
       let logs = called.1 in
-      let records = ap (λ (x : Due). x.records) owes in
-      (whole called.0.played, (sym fate ∙ called.0.fate, (omega arith, ended called.0.played, taken k k1 called.0.steps)))
-  call_leaves (call.Trap t) k k1 called = (whole called.played, (sym fate ∙ called.fate, ended called.played, taken k k1 called.steps))
+      let records = ap (λ (x : Due). x.records) owes in (
+        whole called.0.played,
+        (
+          sym fate ∙ called.0.fate,
+          (omega arith, ended called.0.played, taken k k1 called.0.steps),
+        ),
+      )
+  call_leaves (call.Trap t) k k1 called =
+      (whole called.played, (sym fate ∙ called.fate, ended called.played, taken k k1 called.steps))
   call_leaves (call.Off p) k k1 called = (part Off called.0, tt)
   call_leaves call.Failed k k1 called = (part Failed called, tt)
   call_leaves call.NoMemory k k1 called = (part NoMemory called, tt)
   call_leaves (call.Unusable t) k k1 called = absurd called
   call_leaves call.Numbers k k1 called = absurd called
 
-module _ (image : Image) (super : Words) (tx : ℕ) (args : List ℤ) (d b : Device) (one : Words) (n : ℕ) (g : Words) (end : End) (es : List Effect)
-    (few : length args ≤ 22) (only : HasOne d.cache one) (owed : Owed (pool_with image super) (call_of n tx args) (E es) (W es) g one)
+module _ (image : Image) (super : Words) (tx : ℕ) (args : List ℤ) (d b : Device) (one : Words)
+    (n : ℕ) (g : Words) (end : End) (es : List Effect)
+    (few : length args ≤ 22) (only : HasOne d.cache one)
+    (owed : Owed (pool_with image super) (call_of n tx args) (E es) (W es) g one)
     (ran : mrun image image.parts.most g tx args ≡ Finished end es) (sound : IsSoundRun end es)
-    (m : ℕ) (counted : count (pool_of image.parts.sizes) owed.attempt one ≡ m) (room : 0 < m → owed.attempt < 2 ^ 62) where
+    (m : ℕ) (counted : count (pool_of image.parts.sizes) owed.attempt one ≡ m) (room : 0 < m
+    → owed.attempt < 2 ^ 62) where
   abbrev Finished' : Words → Type 0
   Finished' = IsEnd (pool_with image super) (call_of n tx args) (heap_end g es) (result_of end)
 
   abbrev Left : Words → Type 0
-  Left other = Owed (pool_with image super) (call_of n tx args) (E es) (W es) g other ⊎ Finished' other
+  Left other = Owed (pool_with image super) (call_of n tx args) (E es) (W es) g other
+      ⊎ Finished' other
 
   abbrev list : List CacheEvent
   list = due_redo image tx args m d.cache
 
   redo_cuts : during d.cache list (Images Left) × Images Finished' (play d.cache list)
-  redo_cuts = cut_redo image super tx args d.cache one n g end es few only owed ran sound m counted room
+  redo_cuts = cut_redo image super tx args d.cache one n g end es few only owed ran sound m
+      counted room
 
   redo_part : (why : Refusal) → PlaysPart why d list b → Images Left b.cache
   redo_part why p = part_during (Images Left) why list d b p redo_cuts.0
@@ -144,26 +175,41 @@ module _ (image : Image) (super : Words) (tx : ℕ) (args : List ℤ) (d b : Dev
   redo_ended : PlaysAll d list b → Images Finished' b.cache
   redo_ended all = subst (Images Finished') (sym (all_cache list d b all)) redo_cuts.1
 
-  pub redo_leaves : (answer : RecoverAnswer) (k k1 : ℕ) → Redid answer image tx args m d b k k1 → Images Left b.cache × Retells answer end es (Images Finished' b.cache) (k + m) k1
+  pub redo_leaves : (answer : RecoverAnswer) (k k1 : ℕ) → Redid answer image tx args m d b k k1
+      → Images Left b.cache × Retells answer end es (Images Finished' b.cache) (k + m) k1
   redo_leaves (recover.Redone v l) k k1 redid =
-      let own = redo_owes image super tx args d.cache one n g end es few only owed ran sound m counted room in
+      let own = redo_owes image super tx args d.cache one n g end es few only owed ran sound m
+      counted room in
       let none = own.none in
       let logs = redid.1 in
       let records = own.records in
       let steps = own.steps in
-      let taken = redid.0.steps in
-      (redo_whole redid.0.played, (sym (ap end_of own.fate) ∙ redid.0.fate, (omega arith, redo_ended redid.0.played, omega arith)))
+      let taken = redid.0.steps in (
+        redo_whole redid.0.played,
+        (
+          sym (ap end_of own.fate) ∙ redid.0.fate,
+          (omega arith, redo_ended redid.0.played, omega arith),
+        ),
+      )
   redo_leaves (recover.Trap t) k k1 redid =
-      let own = redo_owes image super tx args d.cache one n g end es few only owed ran sound m counted room in
+      let own = redo_owes image super tx args d.cache one n g end es few only owed ran sound m
+      counted room in
       let steps = own.steps in
-      let taken = redid.steps in
-      (redo_whole redid.played, (sym (ap end_of own.fate) ∙ redid.fate, redo_ended redid.played, omega arith))
+      let taken = redid.steps in (
+        redo_whole redid.played,
+        (
+          sym (ap end_of own.fate) ∙ redid.fate,
+          redo_ended redid.played,
+          omega arith,
+        ),
+      )
   redo_leaves (recover.Off phase.Sealed) k k1 redid = (redo_part Off redid, tt)
   redo_leaves (recover.Off phase.Unsealed) k k1 redid = absurd redid
   redo_leaves (recover.Off phase.Sealing) k k1 redid = absurd redid
   redo_leaves recover.Failed k k1 redid = (redo_part Failed redid, tt)
   redo_leaves recover.NoMemory k k1 redid = (
-    ⊎_elim (λ (same : b ≡ d). subst (Images Left) (sym (ap (λ (x : Device). x.cache) same)) (during_start (Images Left) list d.cache redo_cuts.0)) (λ p. redo_part NoMemory p) redid,
+    ⊎_elim (λ (same : b ≡ d). subst (Images Left) (sym (ap (λ (x : Device). x.cache) same))
+        (during_start (Images Left) list d.cache redo_cuts.0)) (λ p. redo_part NoMemory p) redid,
     tt,
   )
   redo_leaves recover.Clean k k1 redid = absurd redid

@@ -6,4 +6,4 @@ pub mod Redoes
 pub mod Cleans
 pub mod Recoveries
 pub mod Leaving
-pub mod Rising
+pub mod FaultCounts

@@ -1,4 +1,4 @@
--- However often a recovery is cut.
+-- A recovery that is cut any number of times.
 use Rattle.std.proofs.Common.{◌≡◌, ◌⊎◌, inl, ℕ, zero, suc, ◌≤◌, List, length, ℤ, subst}
 use Rattle.cache_model.specs.Cache.{Words}
 use Rattle.pm_machine.specs.declared.effect.Effect.{Effect}
@@ -7,28 +7,36 @@ use Rattle.pm_machine.specs.declared.image.Image.{Image}
 use Rattle.pm_machine.specs.Effects.{heap_end}
 use Rattle.pm_machine.specs.Machine.{Finished, mrun}
 use Rattle.crash_law.specs.Pools.{Owed}
-use Rattle.crash_law.specs.Law.{IsEnd, collapsed}
+use Rattle.crash_law.specs.Law.{IsEnd, collapsed, AreInARow}
 use Rattle.crash_law.proofs.Again.{collapsed_one, left_image}
 use Rattle.run_law.specs.Seen.{result_of, E, W}
 use Rattle.run_law.specs.Sound.{IsSoundRun}
 use Rattle.recovery.specs.Due.{due_redo}
-use Rattle.cut_law.specs.Law.{call_of, pool_with, IsRecoveredTo, AreRecoveredTo}
+use Rattle.cut_law.specs.Law.{call_of, pool_with, IsRecoveredTo}
 use Rattle.cut_law.proofs.Redoes.{cut_redo}
 
-module _ (image : Image) (super : Words) (tx : ℕ) (args : List ℤ) (d : ℕ) (h : Words) (end : End) (es : List Effect)
-    (few : length args ≤ 22) (ran : mrun image image.parts.most h tx args ≡ Finished end es) (sound : IsSoundRun end es) where
+module _ (image : Image) (super : Words) (tx : ℕ) (args : List ℤ) (d : ℕ) (h : Words) (end : End)
+    (es : List Effect)
+    (few : length args ≤ 22) (ran : mrun image image.parts.most h tx args ≡ Finished end es)
+    (sound : IsSoundRun end es) where
   abbrev Recoverable : Words → Type 0
-  Recoverable other = Owed (pool_with image super) (call_of d tx args) (E es) (W es) h other ⊎ IsEnd (pool_with image super) (call_of d tx args) (heap_end h es) (result_of end) other
+  Recoverable other = Owed (pool_with image super) (call_of d tx args) (E es) (W es) h other
+      ⊎ IsEnd (pool_with image super) (call_of d tx args) (heap_end h es) (result_of end) other
 
-  recovered : (one other : Words) → IsRecoveredTo image super tx args d h es one other → Recoverable other
+  recovered : (one other : Words) → IsRecoveredTo image super tx args d h es one other
+      → Recoverable other
   recovered one other cut =
       left_image Recoverable (collapsed one) (due_redo image tx args cut.n (collapsed one)) other
-      (cut_redo image super tx args (collapsed one) one d h end es few (collapsed_one one) cut.owed ran sound cut.n cut.counted cut.room).0
+      (cut_redo image super tx args (collapsed one) one d h end es few (collapsed_one one)
+      cut.owes.owed ran sound cut.n cut.owes.counted cut.owes.room).0
       cut.left
 
-  again : (k : ℕ) (one other : Words) → Recoverable one → AreRecoveredTo image super tx args d h es k one other → Recoverable other
+  again : (k : ℕ) (one other : Words) → Recoverable one →
+      AreInARow (IsRecoveredTo image super tx args d h es) k one other → Recoverable other
   again zero one other now same = subst Recoverable same now
   again (suc k) one other now cuts = again k cuts.0 other (recovered one cuts.0 cuts.1) cuts.2
 
-  pub cut_again : (k : ℕ) (one other : Words) → Owed (pool_with image super) (call_of d tx args) (E es) (W es) h one → AreRecoveredTo image super tx args d h es k one other → Recoverable other
+  pub cut_again : (k : ℕ) (one other : Words) →
+      Owed (pool_with image super) (call_of d tx args) (E es) (W es) h one →
+      AreInARow (IsRecoveredTo image super tx args d h es) k one other → Recoverable other
   cut_again k one other owed cuts = again k one other (inl owed) cuts

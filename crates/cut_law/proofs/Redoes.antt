@@ -1,12 +1,13 @@
--- What a recovery of a sealed pool plays is the crash law's list, and what its cuts leave.
-use Rattle.std.proofs.Common.{◌≡◌, ◌≢◌, ◌⊎◌, ℕ, zero, suc, ◌+◌, ◌^◌, ◌<◌, ◌≤◌, List, ◌∷◌, ◌++◌, length, Some, ℤ, pos, sym, ap, ◌∙◌, subst, arith, append_assoc}
-use Rattle.cache_model.specs.Event.{CacheEvent, Store, Flush, Fence}
+-- The events that a recovery of a sealed pool plays are the crash law's list; what its cuts leave.
+use Rattle.std.proofs.Common.{◌≡◌, ◌≢◌, ◌⊎◌, ℕ, zero, suc, ◌+◌, ◌^◌, ◌<◌, ◌≤◌, List, ◌++◌, length, Some, ℤ, pos, sym, ap, ◌∙◌, subst, arith, append_assoc}
+use Rattle.cache_model.specs.Event.{CacheEvent, Store, Flush}
 use Rattle.cache_model.specs.Cache.{Words, Cache, view}
 use Rattle.cache_model.specs.Play.{apply, play}
 use Rattle.cache_model.specs.Image.{Images, HasOne}
 use Rattle.cache_model.specs.During.{during}
 use Rattle.cache_model.proofs.Views.{view_same, view_other, view_flush, view_fence}
 use Rattle.cache_model.proofs.During.{play_append}
+use Rattle.pool_layout.specs.declared.places.TheConstants.{DONE, ATTEMPT}
 use Rattle.pool_layout.specs.declared.limits.Sizes.{Sizes}
 use Rattle.pool_layout.specs.declared.places.Layout.{Layout}
 use Rattle.pool_layout.specs.declared.places.Place.TheVariants.{RecordWord, RecordOld, RecordStamp, Heap}
@@ -40,9 +41,12 @@ use Rattle.cut_law.proofs.Misses.{view_missed, view_one}
 use Rattle.cut_law.proofs.Dues.{attempt_small, owes_same, run_same}
 use Rattle.cut_law.proofs.Backs.{misses_restore, restore_same, heap_restored}
 
-module _ (image : Image) (super : Words) (tx : ℕ) (args : List ℤ) (c : Cache) (one : Words) (d : ℕ) (h : Words) (end : End) (es : List Effect)
-    (few : length args ≤ 22) (only : HasOne c one) (owed : Owed (pool_with image super) (call_of d tx args) (E es) (W es) h one)
-    (ran : mrun image image.parts.most h tx args ≡ Finished end es) (sound : IsSoundRun end es) where
+module _ (image : Image) (super : Words) (tx : ℕ) (args : List ℤ) (c : Cache) (one : Words) (d : ℕ)
+    (h : Words) (end : End) (es : List Effect)
+    (few : length args ≤ 22) (only : HasOne c one)
+    (owed : Owed (pool_with image super) (call_of d tx args) (E es) (W es) h one)
+    (ran : mrun image image.parts.most h tx args ≡ Finished end es)
+    (sound : IsSoundRun end es) where
   abbrev z : Sizes
   z = image.parts.sizes
 
@@ -84,24 +88,27 @@ module _ (image : Image) (super : Words) (tx : ℕ) (args : List ℤ) (c : Cache
   restored_is n counted w = ap (λ (m : ℕ). undone words olds m heap_now w) counted
 
   abbrev run_list : ℕ → List CacheEvent
-  run_list b = crash.due_run l b (suc d) r (result_of end) (trace_in es)
+  run_list b = crash.due_run z b (suc d) r (result_of end) (trace_in es)
 
   -- no record is valid
   pub none_same : count l a one ≡ 0 → plays.due_run image (start image tx args) c ≡ run_list a
   none_same counted =
       run_same image tx args c d a h r end es owed.done_fits attempt_fits
-      (ap (λ (v : Words). v 17) seen ∙ owed.done) (ap (λ (v : Words). v 18) seen ∙ owed.attempt_is)
+      (ap (λ (v : Words). v DONE) seen ∙ owed.done) (ap (λ (v : Words). v ATTEMPT) seen
+      ∙ owed.attempt_is)
       (ap (λ (v : Words). count_in z v) seen ∙ counted_in 0 counted)
-      (λ i w. (view_one c one only (at l (Heap w)) ∙ sym (restored_is 0 counted w)) i) alike ran sound
+      (λ i w. (view_one c one only (at l (Heap w)) ∙ sym (restored_is 0 counted w)) i)
+      alike ran sound
 
-  -- what the run of the recovery owes, and that no record is valid where it begins
+  -- what is due of the run of the recovery; no record is valid when it begins
   pub record Owes (b : Cache) : Type 0 where
     pub fate : (plays.due_on image (start image tx args) b).fate ≡ Some end
     pub steps : (plays.due_on image (start image tx args) b).steps ≡ suc (length es)
     pub records : (plays.due_on image (start image tx args) b).records ≡ records_end 0 es
     pub none : count_in z (view b) ≡ 0
 
-  owing : (b : Cache) (k : ℕ) → k ≤ 2 ^ 62 → view b 18 ≡ pos k → count_in z (view b) ≡ 0 → heap_in z b ≡ r → Owes b
+  owing : (b : Cache) (k : ℕ) → k ≤ 2 ^ 62 → view b ATTEMPT ≡ pos k → count_in z (view b) ≡ 0
+      → heap_in z b ≡ r → Owes b
   owing b k fits attempt none heap =
       let is = owes_same image tx args b k h r end es fits attempt none heap alike ran in
       record {
@@ -113,11 +120,11 @@ module _ (image : Image) (super : Words) (tx : ℕ) (args : List ℤ) (c : Cache
 
   none_owes : count l a one ≡ 0 → Owes c
   none_owes counted =
-      owing c a attempt_fits (ap (λ (v : Words). v 18) seen ∙ owed.attempt_is)
+      owing c a attempt_fits (ap (λ (v : Words). v ATTEMPT) seen ∙ owed.attempt_is)
       (ap (λ (v : Words). count_in z v) seen ∙ counted_in 0 counted)
       (λ i w. (view_one c one only (at l (Heap w)) ∙ sym (restored_is 0 counted w)) i)
 
-  -- some are
+  -- some records are valid
   module _ (m : ℕ) (counted : count l a one ≡ suc m) (lower : a < 2 ^ 62) where
     log : LogIs l a (suc m) one
     log = log_is l a (suc m) one owed.log counted
@@ -134,93 +141,120 @@ module _ (image : Image) (super : Words) (tx : ℕ) (args : List ℤ) (c : Cache
     abbrev middle : Cache
     middle = play c first
 
-    abbrev behind : Cache
-    behind = play middle reset
+    abbrev cache_after : Cache
+    cache_after = play middle reset
 
     attempt_middle : attempt_in z (view middle) ≡ a
-    attempt_middle = ap attempt_of (view_missed first c 18 (misses_restore z 18 one (omega arith)) ∙ ap (λ (v : Words). v 18) seen) ∙ attempt_one
+    attempt_middle = ap attempt_of (view_missed first c 18 (misses_restore z 18 one (omega arith))
+        ∙ ap (λ (v : Words). v ATTEMPT) seen) ∙ attempt_one
 
     back_is : due_back z (suc m) c ≡ first ++ reset
     back_is =
         ap (λ (v : Words). restore_events z v ++ due_reset z (play c (restore_events z v))) seen
         ∙ ap (λ (b : ℕ). first ++ reset_events z b) attempt_middle
 
-    -- behind the reset
-    reset_other : (p : ℕ) → p ≢ 18 → view behind p ≡ view middle p
+    -- after the reset
+    reset_other : (p : ℕ) → p ≢ 18 → view cache_after p ≡ view middle p
     reset_other p ne =
-        view_fence (apply (apply middle (Store 18 (pos (a + 1)))) (Flush 2)) p ∙ view_flush (apply middle (Store 18 (pos (a + 1)))) 2 p ∙ view_other middle 18 p (pos (a + 1)) ne
+        view_fence (apply (apply middle (Store ATTEMPT (pos (a + 1)))) (Flush 2)) p
+        ∙ view_flush (apply middle (Store ATTEMPT (pos (a + 1)))) 2 p
+        ∙ view_other middle 18 p (pos (a + 1)) ne
 
-    attempt_behind : view behind 18 ≡ pos (suc a)
-    attempt_behind =
-        view_fence (apply (apply middle (Store 18 (pos (a + 1)))) (Flush 2)) 18 ∙ view_flush (apply middle (Store 18 (pos (a + 1)))) 2 18 ∙ view_same middle 18 (pos (a + 1))
+    attempt_after : view cache_after ATTEMPT ≡ pos (suc a)
+    attempt_after =
+        view_fence (apply (apply middle (Store ATTEMPT (pos (a + 1)))) (Flush 2)) 18
+        ∙ view_flush (apply middle (Store ATTEMPT (pos (a + 1)))) 2 18
+        ∙ view_same middle 18 (pos (a + 1))
         ∙ ap pos (let e : a + 1 ≡ suc a = omega arith in e)
 
-    low_behind : (p : ℕ) → p < 48 → p ≢ 18 → view behind p ≡ one p
-    low_behind p less ne = reset_other p ne ∙ view_missed first c p (misses_restore z p one (omega arith)) ∙ view_one c one only p
+    low_after : (p : ℕ) → p < 48 → p ≢ 18 → view cache_after p ≡ one p
+    low_after p less ne = reset_other p ne
+        ∙ view_missed first c p (misses_restore z p one (omega arith)) ∙ view_one c one only p
 
-    heap_behind : heap_in z behind ≡ r
-    heap_behind = λ i w. (
+    heap_of_after : heap_in z cache_after ≡ r
+    heap_of_after = λ i w. (
         reset_other (at l (Heap w)) (λ e. absurd (omega arith))
         ∙ heap_restored z one (suc m) c w (counted_in (suc m) counted) in_heap
-        ∙ ap (λ (g : Words). undone words olds (suc m) g w) (λ j v. view_one c one only (at l (Heap v)) j)
+        ∙ ap (λ (g : Words). undone words olds (suc m) g w)
+        (λ j v. view_one c one only (at l (Heap v)) j)
         ∙ sym (restored_is (suc m) counted w)
         ) i
 
-    attempt_in_behind : attempt_in z (view behind) ≡ suc a
-    attempt_in_behind = ap attempt_of attempt_behind ∙ attempt_small (suc a) (omega arith)
+    attempt_in_after : attempt_in z (view cache_after) ≡ suc a
+    attempt_in_after = ap attempt_of attempt_after ∙ attempt_small (suc a) (omega arith)
 
     -- no stamp is that of the next attempt
-    none_valid : (j : ℕ) → 0 ≤ j → j < z.records → view behind (at l (RecordStamp j)) ≡ pos (suc (suc a)) → ⊥
+    none_valid : (j : ℕ) → 0 ≤ j → j < z.records → view cache_after (at l (RecordStamp j))
+        ≡ pos (suc (suc a)) → ⊥
     none_valid j ge less e =
         let stamp = owed.log.stamps j less in
-        let same : view behind (at l (RecordStamp j)) ≡ one (at l (RecordStamp j)) =
-        reset_other (at l (RecordStamp j)) (λ f. absurd (omega arith)) ∙ view_missed first c (at l (RecordStamp j)) (misses_restore z (at l (RecordStamp j)) one (omega arith)) ∙ view_one c one only (at l (RecordStamp j)) in
-        let is : stamp.0 ≡ suc (suc a) = pos_inj stamp.0 (suc (suc a)) (sym stamp.2 ∙ sym same ∙ e) in
+        let same : view cache_after (at l (RecordStamp j)) ≡ one (at l (RecordStamp j)) =
+        reset_other (at l (RecordStamp j)) (λ f. absurd (omega arith))
+        ∙ view_missed first c (at l (RecordStamp j))
+        (misses_restore z (at l (RecordStamp j)) one (omega arith))
+        ∙ view_one c one only (at l (RecordStamp j)) in
+        let is : stamp.0 ≡ suc (suc a) =
+        pos_inj stamp.0 (suc (suc a)) (sym stamp.2 ∙ sym same ∙ e) in
         let most = stamp.1 in
         absurd (omega arith)
 
-    empty_behind : count_in z (view behind) ≡ 0
-    empty_behind =
-        ap (λ (b : ℕ). count l b (view behind)) attempt_in_behind
-        ∙ count_is l (suc a) 0 (view behind) (omega arith) (λ j less. absurd (omega arith)) none_valid
+    empty_after : count_in z (view cache_after) ≡ 0
+    empty_after =
+        ap (λ (b : ℕ). count l b (view cache_after)) attempt_in_after
+        ∙ count_is l (suc a) 0 (view cache_after) (omega arith) (λ j less. absurd (omega arith))
+        none_valid
 
-    behind_is : play c (due_back z (suc m) c) ≡ behind
-    behind_is = ap (play c) back_is ∙ play_append c first reset
+    after_is : play c (due_back z (suc m) c) ≡ cache_after
+    after_is = ap (play c) back_is ∙ play_append c first reset
 
-    pub some_same : due_redo image tx args (suc m) c ≡ crash.redo_events l a (suc d) one (suc m) (result_of end) (trace_in es)
+    pub some_same : due_redo image tx args (suc m) c
+        ≡ crash.redo_events z a (suc d) one (suc m) (result_of end) (trace_in es)
     some_same =
-        ap (λ (b : Cache). due_back z (suc m) c ++ plays.due_run image (start image tx args) b) behind_is
-        ∙ ap (λ (es : List CacheEvent). es ++ plays.due_run image (start image tx args) behind) back_is
+        ap (λ (b : Cache). due_back z (suc m) c ++ plays.due_run image (start image tx args) b)
+        after_is
+        ∙ ap (λ (es : List CacheEvent). es ++ plays.due_run image (start image tx args) cache_after)
+        back_is
         ∙ ap (λ (rest : List CacheEvent). (first ++ reset) ++ rest)
-        (run_same image tx args behind d (suc a) h r end es owed.done_fits (omega arith)
-        (low_behind 17 (omega arith) (λ e. absurd (omega arith)) ∙ owed.done) attempt_behind empty_behind heap_behind alike ran sound)
+        (run_same image tx args cache_after d (suc a) h r end es owed.done_fits (omega arith)
+        (low_after 17 (omega arith) (λ e. absurd (omega arith)) ∙ owed.done) attempt_after
+        empty_after heap_of_after alike ran sound)
         ∙ append_assoc first reset (run_list (suc a))
-        ∙ restore_same z one m (reset ++ run_list (suc a)) (counted_in (suc m) counted) in_heap
-        ∙ ap (λ (b : ℕ). crash.restore_events l words olds (suc m) (Fence ∷ Store 18 (pos b) ∷ Flush 2 ∷ Fence ∷ run_list (suc a))) (let e : a + 1 ≡ suc a = omega arith in e)
+        ∙ ap (λ (es : List CacheEvent). es ++ (reset ++ run_list (suc a)))
+        (restore_same z one (suc m) (counted_in (suc m) counted))
 
     pub some_owes : Owes (play c (due_back z (suc m) c))
-    some_owes = subst Owes (sym behind_is) (owing behind (suc a) (omega arith) attempt_behind empty_behind heap_behind)
+    some_owes = subst Owes (sym after_is)
+        (owing cache_after (suc a) (omega arith) attempt_after empty_after heap_of_after)
 
-  pub redo_owes : (n : ℕ) → count l a one ≡ n → (0 < n → a < 2 ^ 62) → Owes (play c (due_back z n c))
+  pub redo_owes : (n : ℕ) → count l a one ≡ n → (0 < n → a < 2 ^ 62)
+      → Owes (play c (due_back z n c))
   redo_owes zero counted room = none_owes counted
   redo_owes (suc m) counted room = some_owes m counted (room (omega arith))
 
-  events_same : (n : ℕ) → count l a one ≡ n → (0 < n → a < 2 ^ 62) → due_redo image tx args n c ≡ crash.redo_events l a (suc d) one n (result_of end) (trace_in es)
+  events_same : (n : ℕ) → count l a one ≡ n → (0 < n → a < 2 ^ 62) →
+      due_redo image tx args n c ≡ crash.redo_events z a (suc d) one n (result_of end) (trace_in es)
   events_same zero counted room = none_same counted
   events_same (suc m) counted room = some_same m counted (room (omega arith))
 
   abbrev Left : Words → Words → Type 0
-  Left g other = Owed (pool_with image super) (call_of d tx args) (E es) (W es) h other ⊎ IsEnd (pool_with image super) (call_of d tx args) g (result_of end) other
+  Left g other = Owed (pool_with image super) (call_of d tx args) (E es) (W es) h other
+      ⊎ IsEnd (pool_with image super) (call_of d tx args) g (result_of end) other
 
   pub cut_redo : (n : ℕ) → count l a one ≡ n → (0 < n → a < 2 ^ 62) →
       during c (due_redo image tx args n c) (Images (Left (heap_end h es)))
-      × Images (IsEnd (pool_with image super) (call_of d tx args) (heap_end h es) (result_of end)) (play c (due_redo image tx args n c))
+      × Images (IsEnd (pool_with image super) (call_of d tx args) (heap_end h es) (result_of end))
+      (play c (due_redo image tx args n c))
   cut_redo n counted room =
       subst (λ (g : Words). during c (due_redo image tx args n c) (Images (Left g))
-      × Images (IsEnd (pool_with image super) (call_of d tx args) g (result_of end)) (play c (due_redo image tx args n c)))
+      × Images (IsEnd (pool_with image super) (call_of d tx args) g (result_of end))
+      (play c (due_redo image tx args n c)))
       (sym (join z a h end es sound.paired sound.tidy).1)
-      (subst (λ (events : List CacheEvent). during c events (Images (Left (crash.heap_after h (trace_in es))))
-      × Images (IsEnd (pool_with image super) (call_of d tx args) (crash.heap_after h (trace_in es)) (result_of end)) (play c events))
+      (subst (λ (events : List CacheEvent).
+      during c events (Images (Left (crash.heap_after h (trace_in es))))
+      × Images (IsEnd (pool_with image super) (call_of d tx args) (crash.heap_after h (trace_in es))
+      (result_of end)) (play c events))
       (sym (events_same n counted room))
-      (whole.cut_redo (pool_with image super) (call_of d tx args) (E es) (W es) h (result_of end) (trace_in es) (omega arith)
-      (run_is image super image.parts.most (start image tx args) h end es tt ran sound) one owed n counted room c only))
+      (whole.cut_redo (pool_with image super) (call_of d tx args) (E es) (W es) h (result_of end)
+      (trace_in es) (omega arith)
+      (run_is image super image.parts.most (start image tx args) h end es tt ran sound) one owed n
+      counted room c only))

@@ -1,7 +1,7 @@
--- The count of faults never falls in a call or a recovery, and Failed comes only where it rose.
+-- The count of faults never falls in a call or a recovery, and Failed is answered only if it rose.
 use Rattle.std.specs.Prelude.{ℕ, ◌≤◌, List, ℤ}
 use Rattle.cache_model.specs.Event.{CacheEvent}
-use Rattle.pmem.specs.Device.{Device, Rose}
+use Rattle.pmem.specs.Device.{Device, FaultsRose}
 use Rattle.pm_machine.specs.declared.image.Image.{Image}
 use Rattle.tx_run.specs.declared.answer.CallAnswer.{CallAnswer}
 use Rattle.tx_run.specs.declared.answer.CallAnswer.TheVariants as call
@@ -14,16 +14,16 @@ abbrev pub CallFaults : Type 0
 CallFaults =
     (image : Image) (tx : ℕ) (args : List ℤ) (d b : Device) (k k1 : ℕ) →
     ((answer : CallAnswer) → Called answer image tx args d b k k1 → d.faults ≤ b.faults)
-    × (Called call.Failed image tx args d b k k1 → Rose d.faults b.faults)
+    × (Called call.Failed image tx args d b k k1 → FaultsRose d.faults b.faults)
 
 abbrev pub RedoFaults : Type 0
 RedoFaults =
     (image : Image) (tx : ℕ) (args : List ℤ) (m : ℕ) (d b : Device) (k k1 : ℕ) →
     ((answer : RecoverAnswer) → Redid answer image tx args m d b k k1 → d.faults ≤ b.faults)
-    × (Redid recover.Failed image tx args m d b k k1 → Rose d.faults b.faults)
+    × (Redid recover.Failed image tx args m d b k k1 → FaultsRose d.faults b.faults)
 
 abbrev pub CleanFaults : Type 0
 CleanFaults =
     (d b : Device) (es : List CacheEvent) →
     ((answer : RecoverAnswer) → Cleaned answer d es b → d.faults ≤ b.faults)
-    × (Cleaned recover.Failed d es b → Rose d.faults b.faults)
+    × (Cleaned recover.Failed d es b → FaultsRose d.faults b.faults)

@@ -1,27 +1,28 @@
-//! What a cut of a call or of a recovery leaves. It stands on `tx_run` and `recovery`, whose calls play
-//! exactly what is due, and on the laws of `run_law` and `crash_law`. Its one contract for the crates
-//! above: each event leaves the pool as it was, or the call owed, or at its end.
+//! What a power cut during a call or a recovery leaves. It rests on `tx_run` and `recovery`, whose
+//! calls play exactly the due events, and on the laws of `run_law` and `crash_law`. Its one
+//! contract for the crates above: after each event the pool is as it was, or the call is owed, or
+//! has come to its end.
 #![tactic(auto)]
 
-ghost use Rattle.cut_law.specs.Law.{DueCallLaw, CutCallLaw, CutRedoLaw, CutCleanLaw, RestCallLaw, AgainLaw};
+ghost use Rattle.cut_law.specs.Law.{DueCallLaw, CutCallLaw, CutRedoLaw, CutCleanLaw, RestCallLaw, CutAgainLaw};
 ghost use Rattle.cut_law.specs.Leaves.{CallLeavesLaw, RedoLeavesLaw};
 ghost use Rattle.cut_law.specs.Faults.{CallFaults, RedoFaults, CleanFaults};
 
-/// What a call and a recovery play are the crash law's due lists; so each of their events leaves only
-/// images that the law names. It does nothing.
+/// The events that a call and a recovery play are the crash law's due lists; so after each of them
+/// every image is one that the law names. The function does nothing.
 pub fn law()
     ensures due { DueCallLaw }
     ensures cut { CutCallLaw }
     ensures redo { CutRedoLaw }
     ensures clean { CutCleanLaw }
     ensures rest { RestCallLaw }
-    ensures again { AgainLaw }
+    ensures again { CutAgainLaw }
     ensures called { CallLeavesLaw }
     ensures redid { RedoLeavesLaw }
 {}
 
-/// The count of faults never falls in a call or a recovery, and `Failed` comes only where it rose. It
-/// does nothing.
+/// The count of faults never falls in a call or a recovery, and `Failed` is answered only if it
+/// rose. The function does nothing.
 pub fn faults()
     ensures call { CallFaults }
     ensures redo { RedoFaults }

@@ -1,4 +1,4 @@
--- The emitted code has a STORE right behind each LOG.
+-- In emitted code a STORE comes right after each LOG.
 use Rattle.std.proofs.Common.{ℕ, zero, suc, ◌+◌, ◌^◌, Bool, true, false, List, [], ◌∷◌, ◌++◌, length, map, Option, Some, None, ℤ, refl, sym, subst}
 use Rattle.std.specs.Prelude.{if◌then◌else◌, nat_lt}
 use Rattle.std.specs.List.{AllByRecursion}
@@ -22,7 +22,7 @@ use Rattle.codegen.specs.declared.fields.At.{At}
 use Rattle.codegen.specs.declared.fields.At.TheVariants.{Word, Element}
 use Rattle.codegen.specs.declared.fields.Reach.{Reach}
 use Rattle.codegen.specs.Fields.{root_reach, struct_reach, object_words}
-use Rattle.codegen.specs.Emit.{at_code, root_code, object_code, address_code, address_offset, load_at, store_at, make_words, divides, local_code, control, return_code, width, is_log, places, place_in, instruction_code, code_from, function_code, has_room, trap_function, with_code, function_of, known}
+use Rattle.codegen.specs.Emit.{at_code, root_code, object_code, address_code, address_offset, load_at, store_at, make_words, divides, local_code, control, return_code, piece_width, is_log, instruction_places, place_in, instruction_code, code_from, emitted_code, has_room, trap_function, with_code, function_of, known}
 use Rattle.emit_law.specs.Pairs.{IsStoreFirst, ArePaired, HasPairs, EmitsPairs}
 
 first_append : (a : ℕ) (o : ℤ) (xs ys : List Op) → IsStoreFirst a o xs → IsStoreFirst a o (xs ++ ys)
@@ -39,7 +39,8 @@ module _ (s : Sizes) (base p : ℕ) where
   at piece = map (placed base p) piece
 
   joined : (xs ys : List Local) → ArePaired (at xs) → ArePaired (at ys) → ArePaired (at (xs ++ ys))
-  joined xs ys hx hy = subst ArePaired (sym (map-append (placed base p) xs ys)) (pairs_append (at xs) (at ys) hx hy)
+  joined xs ys hx hy = subst ArePaired (sym (map-append (placed base p) xs ys))
+      (pairs_append (at xs) (at ys) hx hy)
 
   at_pairs : (q : ℕ) (x : At) → ArePaired (at (at_code q x))
   at_pairs q Word = tt
@@ -51,7 +52,7 @@ module _ (s : Sizes) (base p : ℕ) where
 
   object_pairs : (b kind : ℕ) (o : Option Reach) → ArePaired (at (object_code s b kind o))
   object_pairs b kind None = tt
-  object_pairs b kind (Some r) = at_pairs 16 r.at
+  object_pairs b kind (Some r) = at_pairs 12 r.at
 
   address_pairs : (h : Shapes) (t : Target) → ArePaired (at (address_code s h t))
   address_pairs h (Root field index) = root_pairs (root_reach s h field index)
@@ -77,10 +78,12 @@ module _ (s : Sizes) (base p : ℕ) where
   new_pairs : (to kind c : ℕ) (b : Bool) → ArePaired (at (new_code s to kind c b))
   new_pairs to kind c b =
       let fill : List Local = fill_code s b 1 c in
-      joined (new_head s kind (length fill)) (fill ++ Mov (Own to) (Temp 0) ∷ []) (head_pairs kind (length fill))
+      joined (new_head s kind (length fill)) (fill ++ Mov (Own to) (Temp 0) ∷ [])
+      (head_pairs kind (length fill))
       (joined fill (Mov (Own to) (Temp 0) ∷ []) (fill_pairs b 1 c) tt)
 
-  made_if : (to kind c : ℕ) (b d : Bool) → ArePaired (at (if d then Trap 2 ∷ [] else new_code s to kind c b))
+  made_if : (to kind c : ℕ) (b d : Bool)
+      → ArePaired (at (if d then Trap 2 ∷ [] else new_code s to kind c b))
   made_if to kind c b true = tt
   made_if to kind c b false = new_pairs to kind c b
 
@@ -88,7 +91,9 @@ module _ (s : Sizes) (base p : ℕ) where
   made_pairs to kind b None = tt
   made_pairs to kind b (Some c) = made_if to kind c b (nat_lt 15 c)
 
-  bin_pairs : (o : BinOp) (to left right : ℕ) (d : Bool) → ArePaired (at (if d then Jz (Own right) 2 ∷ Jmp 3 ∷ Trap 4 ∷ Bin o (Own to) (Own left) (Own right) ∷ [] else Bin o (Own to) (Own left) (Own right) ∷ []))
+  bin_pairs : (o : BinOp) (to left right : ℕ) (d : Bool)
+      → ArePaired (at (if d then Jz (Own right) 2 ∷ Jmp 3 ∷ Trap 4 ∷ Bin o (Own to) (Own left)
+      (Own right) ∷ [] else Bin o (Own to) (Own left) (Own right) ∷ []))
   bin_pairs o to left right true = tt
   bin_pairs o to left right false = tt
 
@@ -96,8 +101,12 @@ module _ (s : Sizes) (base p : ℕ) where
   local_pairs h b (ir.Const to value) = tt
   local_pairs h b (ir.Copy to from) = tt
   local_pairs h b (ir.Bin o to left right) = bin_pairs o to left right (divides o)
-  local_pairs h b (ir.Load to t) = joined (address_code s h t) (load_at to (address_offset s h t)) (address_pairs h t) (load_pairs to (address_offset s h t))
-  local_pairs h b (ir.Store t from line) = joined (address_code s h t) (store_at b from (address_offset s h t)) (address_pairs h t) (store_pairs b from (address_offset s h t))
+  local_pairs h b (ir.Load to t) =
+      joined (address_code s h t) (load_at to (address_offset s h t)) (address_pairs h t)
+      (load_pairs to (address_offset s h t))
+  local_pairs h b (ir.Store t from line) =
+      joined (address_code s h t) (store_at b from (address_offset s h t)) (address_pairs h t)
+      (store_pairs b from (address_offset s h t))
   local_pairs h b (ir.New to kind fill line) = made_pairs to kind fill (object_words h kind)
   local_pairs h b (ir.Free from kind line) = ((refl, refl), tt)
   local_pairs h b ir.Tick = tt
@@ -128,23 +137,36 @@ control_pairs tx to ir.Tick = tt
 control_pairs tx to (ir.Trap kind) = tt
 control_pairs tx to (ir.Log t) = tt
 
-code_pairs : (s : Sizes) (h : Shapes) (tx : Bool) (base : ℕ) (table : List ℕ) (p : ℕ) (b : Bool) (code : List Instruction) → ArePaired (code_from s h tx base table p b code)
+code_pairs : (s : Sizes) (h : Shapes) (tx : Bool) (base : ℕ) (table : List ℕ) (p : ℕ) (b : Bool)
+    (code : List Instruction) → ArePaired (code_from s h tx base table p b code)
 code_pairs s h tx base table p b [] = tt
 code_pairs s h tx base table p b (i ∷ code) =
-    let rest : List Op = code_from s h tx base table (sum p (width s h tx b i)) (is_log i) code in
+    let rest : List Op = code_from s h tx base table (sum p (piece_width s h tx b i))
+    (is_log i) code in
     pairs_append (instruction_code s h tx base table p b i) rest
-    (pairs_append (control tx (place_in table) i) (map (placed base p) (local_code s h b i)) (control_pairs tx (place_in table) i) (local_pairs s base p h b i))
-    (code_pairs s h tx base table (sum p (width s h tx b i)) (is_log i) code)
+    (pairs_append (control tx (place_in table) i) (map (placed base p) (local_code s h b i))
+    (control_pairs tx (place_in table) i) (local_pairs s base p h b i))
+    (code_pairs s h tx base table (sum p (piece_width s h tx b i)) (is_log i) code)
 
-with_if : (u : IrFunction) (ops : List Op) (d : Bool) → ArePaired ops → HasPairs (if d then record { parameters = u.parameters; registers = u.registers + 8; code = ops } else trap_function u.parameters)
+with_if : (u : IrFunction) (ops : List Op) (d : Bool) → ArePaired ops
+    → HasPairs (if d then record {
+      parameters = u.parameters;
+      registers = u.registers + 8;
+      code = ops;
+    } else trap_function u.parameters)
 with_if u ops true h = h
 with_if u ops false h = tt
 
-function_if : (s : Sizes) (h : Shapes) (u : IrFunction) (d : Bool) → HasPairs (if d then with_code u (function_code s h u.tx u.registers u.code) else trap_function u.parameters)
-function_if s h u true = with_if u (function_code s h u.tx u.registers u.code) (nat_lt (length (function_code s h u.tx u.registers u.code)) (2 ^ 32)) (code_pairs s h u.tx u.registers (places s h u.tx 0 false u.code) 0 false u.code)
+function_if : (s : Sizes) (h : Shapes) (u : IrFunction) (d : Bool)
+    → HasPairs (if d then with_code u (emitted_code s h u.tx u.registers u.code)
+    else trap_function u.parameters)
+function_if s h u true = with_if u (emitted_code s h u.tx u.registers u.code)
+    (nat_lt (length (emitted_code s h u.tx u.registers u.code)) (2 ^ 32))
+    (code_pairs s h u.tx u.registers (instruction_places s h u.tx 0 false u.code) 0 false u.code)
 function_if s h u false = tt
 
-all_pairs : (s : Sizes) (h : Shapes) (us : List IrFunction) → AllByRecursion HasPairs (map (function_of s h) us)
+all_pairs : (s : Sizes) (h : Shapes) (us : List IrFunction)
+    → AllByRecursion HasPairs (map (function_of s h) us)
 all_pairs s h [] = tt
 all_pairs s h (u ∷ us) = (function_if s h u (has_room u.registers u.code), all_pairs s h us)
 

@@ -9,9 +9,6 @@ use Rattle.ir.specs.declared.instruction.Instruction.{Instruction}
 use Rattle.ir.specs.declared.instruction.Instruction.TheVariants as ir
 use Rattle.ir.specs.declared.function.IrFunction.{IrFunction}
 use Rattle.ir.specs.declared.function.Ir.{Ir}
-use Rattle.pm_machine.specs.declared.effect.Effect.{Effect}
-use Rattle.pm_machine.specs.declared.effect.End.{End}
-use Rattle.pm_machine.specs.declared.effect.End.TheVariants.{Halted, Trapped}
 use Rattle.pm_machine.specs.declared.image.Image.{Image}
 use Rattle.pm_machine.specs.declared.op.Op.{Op}
 use Rattle.pm_machine.specs.declared.op.Op.TheVariants as op
@@ -22,10 +19,9 @@ use Rattle.pm_machine.specs.Machine.{start}
 use Rattle.pm_alloc.specs.declared.local.Local.{Local}
 use Rattle.pm_alloc.specs.declared.local.Local.TheVariants.{Const, Mov, Bin, Jmp, Jz, Load, Store, Find, Log, Tick, Trap}
 use Rattle.pm_alloc.specs.Placing.{sum, placed}
-use Rattle.codegen.specs.Emit.{local_code, control, return_code, width, is_log, places, place_in, instruction_code, code_from, function_code, has_room, trap_function, with_code, function_of, txs_from, known}
-use Rattle.run_law.specs.Sound.{IsTidyEnd}
+use Rattle.codegen.specs.Emit.{local_code, control, return_code, piece_width, is_log, instruction_places, place_in, instruction_code, code_from, emitted_code, has_room, trap_function, with_code, function_of, txs_from, known}
 use Rattle.emit_law.specs.Pairs.{HasPairs}
-use Rattle.emit_law.specs.Tidy.{IsTidyCode, IsReturnless, IsOpen, Tidies}
+use Rattle.emit_law.specs.Tidy.{IsTidyCode, IsReturnless, OpenFramesTidy}
 use Rattle.emit_law.specs.TidyCode.{HasCode, SoundRunLaw}
 use Rattle.emit_law.proofs.Pairs.{paired_all}
 use Rattle.emit_law.proofs.PairedCode.{emits_pairs}
@@ -71,7 +67,8 @@ return_stays : (c : Bool) (from : ℕ) → c ≡ true → AllByRecursion IsNoRet
 return_stays true from e = (tt, (tt, (tt, tt)))
 return_stays false from e = absurd (cc)
 
-control_stays : (tx : Bool) (to : ℕ → ℕ) (i : Instruction) → tx ≡ true → AllByRecursion IsNoReturn (control tx to i)
+control_stays : (tx : Bool) (to : ℕ → ℕ) (i : Instruction) → tx ≡ true
+    → AllByRecursion IsNoReturn (control tx to i)
 control_stays tx to (ir.Jump place) e = (tt, tt)
 control_stays tx to (ir.Branch on place) e = (tt, tt)
 control_stays tx to (ir.Call r function args) e = (tt, tt)
@@ -87,27 +84,41 @@ control_stays tx to ir.Tick e = tt
 control_stays tx to (ir.Trap kind) e = tt
 control_stays tx to (ir.Log t) e = tt
 
-code_stays : (s : Sizes) (h : Shapes) (tx : Bool) (r : ℕ) (table : List ℕ) (p : ℕ) (b : Bool) (code : List Instruction) → tx ≡ true → AllByRecursion IsNoReturn (code_from s h tx r table p b code)
+code_stays : (s : Sizes) (h : Shapes) (tx : Bool) (r : ℕ) (table : List ℕ) (p : ℕ) (b : Bool)
+    (code : List Instruction) → tx ≡ true
+    → AllByRecursion IsNoReturn (code_from s h tx r table p b code)
 code_stays s h tx r table p b [] e = tt
 code_stays s h tx r table p b (i ∷ code) e =
-    ops_append IsNoReturn (instruction_code s h tx r table p b i) (code_from s h tx r table (sum p (width s h tx b i)) (is_log i) code)
-    (ops_append IsNoReturn (control tx (place_in table) i) (map (placed r p) (local_code s h b i)) (control_stays tx (place_in table) i e) (piece_stays r p (local_code s h b i)))
-    (code_stays s h tx r table (sum p (width s h tx b i)) (is_log i) code e)
+    ops_append IsNoReturn (instruction_code s h tx r table p b i)
+    (code_from s h tx r table (sum p (piece_width s h tx b i)) (is_log i) code)
+    (ops_append IsNoReturn (control tx (place_in table) i) (map (placed r p) (local_code s h b i))
+    (control_stays tx (place_in table) i e) (piece_stays r p (local_code s h b i)))
+    (code_stays s h tx r table (sum p (piece_width s h tx b i)) (is_log i) code e)
 
 returnless_from : (u : Function) → AllByRecursion IsNoReturn u.code → IsReturnless (Some u)
 returnless_from u all = λ p a e. op_at IsNoReturn u.code p (op.Ret a) all e
 
-with_if : (u : IrFunction) (ops : List Op) (d : Bool) → AllByRecursion IsNoReturn ops → IsReturnless (Some (if d then record { parameters = u.parameters; registers = u.registers + 8; code = ops } else trap_function u.parameters))
-with_if u ops true all = returnless_from (record { parameters = u.parameters; registers = u.registers + 8; code = ops }) all
+with_if : (u : IrFunction) (ops : List Op) (d : Bool) → AllByRecursion IsNoReturn ops
+    → IsReturnless (Some (if d then record {
+      parameters = u.parameters;
+      registers = u.registers
+          + 8;
+      code = ops;
+    } else trap_function u.parameters))
+with_if u ops true all = returnless_from
+    (record { parameters = u.parameters; registers = u.registers + 8; code = ops }) all
 with_if u ops false all = returnless_from (trap_function u.parameters) (tt, tt)
 
-function_if : (s : Sizes) (h : Shapes) (u : IrFunction) (d : Bool) → u.tx ≡ true → IsReturnless (Some (if d then with_code u (function_code s h u.tx u.registers u.code) else trap_function u.parameters))
+function_if : (s : Sizes) (h : Shapes) (u : IrFunction) (d : Bool) → u.tx ≡ true
+    → IsReturnless (Some (if d then with_code u (emitted_code s h u.tx u.registers u.code)
+    else trap_function u.parameters))
 function_if s h u true e =
-    with_if u (function_code s h u.tx u.registers u.code) (nat_lt (length (function_code s h u.tx u.registers u.code)) (2 ^ 32))
-    (code_stays s h u.tx u.registers (places s h u.tx 0 false u.code) 0 false u.code e)
+    with_if u (emitted_code s h u.tx u.registers u.code)
+    (nat_lt (length (emitted_code s h u.tx u.registers u.code)) (2 ^ 32))
+    (code_stays s h u.tx u.registers (instruction_places s h u.tx 0 false u.code) 0 false u.code e)
 function_if s h u false e = returnless_from (trap_function u.parameters) (tt, tt)
 
--- an entry is that of a function marked tx
+-- an entry belongs to a function marked tx
 record IsTx (f : ℕ) (us : List IrFunction) (entry : TxEntry) : Type 0 where
   pub number : ℕ
   pub u : IrFunction
@@ -115,51 +126,78 @@ record IsTx (f : ℕ) (us : List IrFunction) (entry : TxEntry) : Type 0 where
   pub marked : u.tx ≡ true
   pub is : entry.function ≡ f + number
 
-tx_behind : (f : ℕ) (v : IrFunction) (us : List IrFunction) (entry : TxEntry) → IsTx (f + 1) us entry → IsTx f (v ∷ us) entry
-tx_behind f v us entry h = record { number = suc h.number; u = h.u; there = h.there; marked = h.marked; is = omega (arith, h.is) }
+tx_after : (f : ℕ) (v : IrFunction) (us : List IrFunction) (entry : TxEntry) → IsTx (f + 1) us entry
+    → IsTx f (v ∷ us) entry
+tx_after f v us entry h = record {
+  number = suc h.number;
+  u = h.u;
+  there = h.there;
+  marked = h.marked;
+  is = omega (arith, h.is);
+}
 
-tx_first : (f : ℕ) (v : IrFunction) (us : List IrFunction) (first entry : TxEntry) → first.function ≡ f → v.tx ≡ true → Some first ≡ Some entry → IsTx f (v ∷ us) entry
+tx_first : (f : ℕ) (v : IrFunction) (us : List IrFunction) (first entry : TxEntry)
+    → first.function ≡ f → v.tx ≡ true → Some first ≡ Some entry → IsTx f (v ∷ us) entry
 tx_first f v us first entry at marked e =
     let same : first ≡ entry = cc in
     let is : entry.function ≡ f = sym (ap (λ (x : TxEntry). x.function) same) ∙ at in
     record { number = zero; u = v; there = refl; marked = marked; is = omega arith }
 
-entry_if : (f : ℕ) (v : IrFunction) (us : List IrFunction) → ((k : ℕ) (entry : TxEntry) → slice_get (txs_from (f + 1) us) k ≡ Some entry → IsTx (f + 1) us entry) → (d : Bool) → v.tx ≡ d → (k : ℕ) (entry : TxEntry) → slice_get ((if d then record { function = f; parameters = v.parameters } ∷ [] else []) ++ txs_from (f + 1) us) k ≡ Some entry → IsTx f (v ∷ us) entry
-entry_if f v us next true marked zero entry e = tx_first f v us (record { function = f; parameters = v.parameters }) entry refl marked e
-entry_if f v us next true marked (suc k) entry e = tx_behind f v us entry (next k entry e)
-entry_if f v us next false marked k entry e = tx_behind f v us entry (next k entry e)
+entry_if : (f : ℕ) (v : IrFunction) (us : List IrFunction)
+    → ((k : ℕ) (entry : TxEntry) → slice_get (txs_from (f + 1) us) k ≡ Some entry
+    → IsTx (f + 1) us entry) → (d : Bool) → v.tx ≡ d → (k : ℕ) (entry : TxEntry)
+    → slice_get ((if d then record { function = f; parameters = v.parameters } ∷ [] else [])
+    ++ txs_from (f + 1) us) k ≡ Some entry → IsTx f (v ∷ us) entry
+entry_if f v us next true marked zero entry e =
+    tx_first f v us (record { function = f; parameters = v.parameters }) entry refl marked e
+entry_if f v us next true marked (suc k) entry e = tx_after f v us entry (next k entry e)
+entry_if f v us next false marked k entry e = tx_after f v us entry (next k entry e)
 
-entry_is : (f : ℕ) (us : List IrFunction) (k : ℕ) (entry : TxEntry) → slice_get (txs_from f us) k ≡ Some entry → IsTx f us entry
+entry_is : (f : ℕ) (us : List IrFunction) (k : ℕ) (entry : TxEntry)
+    → slice_get (txs_from f us) k ≡ Some entry → IsTx f us entry
 entry_is f [] k entry e = absurd (cc)
 entry_is f (v ∷ us) k entry e = entry_if f v us (λ j x. entry_is (f + 1) us j x) v.tx refl k entry e
 
 -- the function of an entry has no RET
-entry_returnless : (s : Sizes) (h : Shapes) (us : List IrFunction) (entry : TxEntry) → IsTx 0 us entry → IsReturnless (slice_get (map (function_of s h) us) entry.function)
+entry_returnless : (s : Sizes) (h : Shapes) (us : List IrFunction) (entry : TxEntry)
+    → IsTx 0 us entry → IsReturnless (slice_get (map (function_of s h) us) entry.function)
 entry_returnless s h us entry tx =
     let same : tx.number ≡ entry.function = omega (arith, tx.is) in
-    let found : slice_get (map (function_of s h) us) tx.number ≡ Some (function_of s h tx.u) = slice_get-map (function_of s h) us tx.number ∙ ap (λ (o : Option IrFunction). option_map (function_of s h) o) tx.there in
+    let found : slice_get (map (function_of s h) us) tx.number ≡ Some (function_of s h tx.u) =
+    slice_get-map (function_of s h) us tx.number
+    ∙ ap (λ (o : Option IrFunction). option_map (function_of s h) o) tx.there in
     subst (λ (n : ℕ). IsReturnless (slice_get (map (function_of s h) us) n)) same
-    (subst IsReturnless (sym found) (function_if s h tx.u (has_room tx.u.registers tx.u.code) tx.marked))
+    (subst IsReturnless (sym found) (function_if s h tx.u (has_room tx.u.registers tx.u.code)
+    tx.marked))
 
-tidy_end : (end : End) (es : List Effect) → Tidies [] end es → IsTidyEnd end es
-tidy_end (Halted v) es h = h
-tidy_end (Trapped k) es h = h
-
-start_open : (image : Image) (s : Sizes) (program : Ir) (tx : ℕ) (entry : TxEntry) (args : List ℤ) → HasCode image s program → slice_get image.parts.txs (tx - 1) ≡ Some entry → ((f : ℕ) → IsTidyCode (slice_get image.parts.functions f)) → IsOpen image (start image tx args)
+start_open : (image : Image) (s : Sizes) (program : Ir) (tx : ℕ) (entry : TxEntry) (args : List ℤ)
+    → HasCode image s program → slice_get image.parts.txs (tx - 1) ≡ Some entry
+    → ((f : ℕ) → IsTidyCode (slice_get image.parts.functions f))
+    → OpenFramesTidy image (start image tx args)
 start_open image s program tx entry args has found tidy =
-    let listed : slice_get (txs_from 0 (known program.functions)) (tx - 1) ≡ Some entry = subst (λ (ts : List TxEntry). slice_get ts (tx - 1) ≡ Some entry) has.txs found in
+    let listed : slice_get (txs_from 0 (known program.functions)) (tx - 1) ≡ Some entry =
+    subst (λ (ts : List TxEntry). slice_get ts (tx - 1) ≡ Some entry) has.txs found in
     let last : IsReturnless (slice_get image.parts.functions entry.function) =
     subst (λ (us : List Function). IsReturnless (slice_get us entry.function)) (sym has.functions)
-    (entry_returnless s program.shapes (known program.functions) entry (entry_is 0 (known program.functions) (tx - 1) entry listed)) in
+    (entry_returnless s program.shapes (known program.functions) entry
+    (entry_is 0 (known program.functions) (tx - 1) entry listed)) in
     record {
-      here = (tidy (transactions.function_of (slice_get image.parts.txs (tx - 1)))).first;
+      here = (tidy (transactions.entry_function (slice_get image.parts.txs (tx - 1)))).first;
       below = tt;
-      last = subst (λ (o : Option TxEntry). IsReturnless (slice_get image.parts.functions (transactions.function_of o))) (sym found) last;
+      last = subst (λ (o : Option TxEntry).
+          IsReturnless (slice_get image.parts.functions (transactions.entry_function o)))
+          (sym found) last;
     }
 
 pub sound_run : SoundRunLaw
 sound_run image s program k heap tx entry args end es has found ran =
-    let tidy : (f : ℕ) → IsTidyCode (slice_get image.parts.functions f) = λ f. subst (λ (us : List Function). IsTidyCode (slice_get us f)) (sym has.functions) (emits_tidy s program f) in
-    let pairs : AllByRecursion HasPairs image.parts.functions = subst (AllByRecursion HasPairs) (sym has.functions) (emits_pairs s program) in
-    let opened : IsOpen image (start image tx args) = start_open image s program tx entry args has found tidy in
-    (paired_all image k 0 (start image tx args) heap end es pairs ran, tidy_end end es (tidy_all image k 0 (start image tx args) heap end es tidy opened ran))
+    let tidy : (f : ℕ) → IsTidyCode (slice_get image.parts.functions f) =
+    λ f. subst (λ (us : List Function). IsTidyCode (slice_get us f)) (sym has.functions)
+    (emits_tidy s program f) in
+    let pairs : AllByRecursion HasPairs image.parts.functions =
+    subst (AllByRecursion HasPairs) (sym has.functions) (emits_pairs s program) in
+    let opened : OpenFramesTidy image (start image tx args) =
+    start_open image s program tx entry args has found tidy in (
+      paired_all image k 0 (start image tx args) heap end es pairs ran,
+      tidy_all image k 0 (start image tx args) heap end es tidy opened ran,
+    )

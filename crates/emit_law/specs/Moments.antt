@@ -1,13 +1,14 @@
--- A run of the machine by moments: the state, the heap, how many records there are, and the effects so far, the newest first.
+-- A run of the machine, moment by moment: the state, the heap, the number of records, and the
+-- effects so far, the newest first.
 use Rattle.std.specs.Prelude.{ℕ, zero, suc, ◌≡◌, List, [], ◌∷◌}
 use Rattle.cache_model.specs.Cache.{Words}
 use Rattle.pm_machine.specs.declared.effect.Effect.{Effect}
 use Rattle.pm_machine.specs.declared.effect.End.{End}
 use Rattle.pm_machine.specs.declared.image.Image.{Image}
 use Rattle.pm_machine.specs.Effects.{heap_past, records_past}
-use Rattle.pm_machine.specs.Machine.{State, Outcome, Goes, Ends, step, Finished, run}
+use Rattle.pm_machine.specs.Machine.{State, StepOutcome, Goes, Ends, step, Finished, run}
 
-pub record Moment : Type 0 where
+pub record RunMoment : Type 0 where
   pub state : State
   pub heap : Words
   pub records : ℕ
@@ -15,34 +16,40 @@ pub record Moment : Type 0 where
 
 -- a run goes on, or has ended
 pub data Stage : Type 0 where
-  On : Moment → Stage
-  Over : End → Moment → Stage
+  On : RunMoment → Stage
+  Over : End → RunMoment → Stage
 
-abbrev pub behind : Moment → Effect → State → Moment
-behind m e t = record { state = t; heap = heap_past m.heap e; records = records_past m.records e; seen = e ∷ m.seen }
+abbrev pub moment_after : RunMoment → Effect → State → RunMoment
+moment_after m e t = record {
+  state = t;
+  heap = heap_past m.heap e;
+  records = records_past m.records e;
+  seen = e ∷ m.seen;
+}
 
-abbrev pub staged : Moment → Outcome → Stage
-staged m (Goes e t) = On (behind m e t)
+abbrev pub staged : RunMoment → StepOutcome → Stage
+staged m (Goes e t) = On (moment_after m e t)
 staged m (Ends end) = Over end m
 
-abbrev pub one : Image → Moment → Stage
+abbrev pub one : Image → RunMoment → Stage
 one image m = staged m (step image m.records m.state m.heap)
 
-abbrev pub and_then : Stage → (Moment → Stage) → Stage
-and_then (On m) f = f m
-and_then (Over end m) f = Over end m
+abbrev pub stage_then : Stage → (RunMoment → Stage) → Stage
+stage_then (On m) f = f m
+stage_then (Over end m) f = Over end m
 
 -- at most n steps
-abbrev pub go : Image → ℕ → Moment → Stage
+abbrev pub go : Image → ℕ → RunMoment → Stage
 go image zero m = On m
-go image (suc n) m = and_then (one image m) (go image n)
+go image (suc n) m = stage_then (one image m) (go image n)
 
--- the effects of a run, in order, put before those so far
+-- the effects of a run, in order, added to those so far
 abbrev pub onto : List Effect → List Effect → List Effect
 onto [] seen = seen
 onto (e ∷ es) seen = onto es (e ∷ seen)
 
--- A run by moments that is over within k steps is the machine's run of at most k instructions.
+-- A run by moments that ends within k steps is the machine's run of at most k instructions.
 abbrev pub RunsLaw : Type 0
-RunsLaw = (image : Image) (k : ℕ) (m b : Moment) (end : End) → go image k m ≡ Over end b →
-    (es : List Effect) × (b.seen ≡ onto es m.seen) × (run image k m.records m.state m.heap ≡ Finished end es)
+RunsLaw = (image : Image) (k : ℕ) (m b : RunMoment) (end : End) → go image k m ≡ Over end b →
+    (es : List Effect) × (b.seen ≡ onto es m.seen)
+    × (run image k m.records m.state m.heap ≡ Finished end es)

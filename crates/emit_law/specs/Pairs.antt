@@ -1,4 +1,5 @@
--- Each LOG of emitted code has a STORE to its word right behind it, and so each LOG of a run goes on to its STORE.
+-- In emitted code a STORE to its word comes right after each LOG, and so in a run each LOG is
+-- followed by its STORE.
 use Rattle.std.specs.Prelude.{ℕ, ◌≡◌, List, [], ◌∷◌, ℤ}
 use Rattle.std.specs.List.{AllByRecursion}
 use Rattle.cache_model.specs.Cache.{Words}
@@ -59,12 +60,13 @@ ArePaired (Halt a ∷ ops) = ArePaired ops
 abbrev pub HasPairs : Function → Type 0
 HasPairs u = ArePaired u.code
 
--- The emitted code of any three-address code has a STORE right behind each LOG.
+-- The emitted code of any intermediate code has a STORE right after each LOG.
 abbrev pub EmitsPairs : Type 0
 EmitsPairs = (s : Sizes) (program : Ir) → AllByRecursion HasPairs (functions_of s program)
 
--- In each run of such code, from any state and heap, each LOG that appends a record goes on to a STORE of its word, with no
--- other LOG or STORE between.
+-- In each run of such code, from any state and heap, each LOG that appends a record is followed by
+-- a STORE of its word, with no other LOG or STORE between.
 abbrev pub PairedLaw : Type 0
 PairedLaw = (image : Image) (k n : ℕ) (s : State) (heap : Words) (end : End) (es : List Effect) →
-    AllByRecursion HasPairs image.parts.functions → run image k n s heap ≡ Finished end es → IsPairedRun es
+    AllByRecursion HasPairs image.parts.functions → run image k n s heap ≡ Finished end es
+    → IsPairedRun es

@@ -1,5 +1,5 @@
--- A piece of code in its place: it stands in a function from place p on, its jumps moved by p and its temporary registers from
--- base on, and the machine runs it there as it runs alone.
+-- A piece of code in its place: it is in a function from place p on, its jumps moved by p and its
+-- temporary registers from base on, and the machine runs it there as it runs alone.
 use Rattle.std.specs.Prelude.{ℕ, ◌+◌, ◌<◌, ◌≤◌, ◌^◌, ◌≡◌, List, [], ◌∷◌, length, Some, ℤ, pos, get_or, slice_get}
 use Rattle.std.specs.List.{AllByRecursion}
 use Rattle.cache_model.specs.Cache.{Words}
@@ -15,11 +15,11 @@ use Rattle.pm_alloc.specs.declared.local.Reg.TheVariants.{Own, Temp}
 use Rattle.pm_alloc.specs.declared.local.Local.{Local}
 use Rattle.pm_alloc.specs.declared.local.Local.TheVariants.{Const, Mov, Bin, Jmp, Jz, Load, Store, Find, Log, Tick, Trap}
 use Rattle.pm_alloc.specs.Placing.{placed}
-use Rattle.pm_alloc.specs.Runs.{Next, Goes, Traps, Off, run}
-use Rattle.pm_alloc.specs.LocalRun.{World, Loc, step}
-use Rattle.emit_law.specs.Moments.{Moment, Stage, On, Over, go}
+use Rattle.pm_alloc.specs.Runs.{Next, Goes, Traps, Off, local_run}
+use Rattle.pm_alloc.specs.LocalRun.{World, Loc, local_step}
+use Rattle.emit_law.specs.Moments.{RunMoment, Stage, On, Over, go}
 
--- the effects but for the quiet ones
+-- the effects without the quiet ones
 abbrev pub heard : List Effect → List Effect
 heard [] = []
 heard (Loads w ∷ es) = Loads w ∷ heard es
@@ -35,7 +35,8 @@ abbrev pub IsReg : ℕ → Reg → Type 0
 IsReg base (Own r) = r < base
 IsReg base (Temp j) = j < 8
 
--- the registers that an instruction names are there, and a jump leads at most to the end of n instructions
+-- the registers that an instruction names exist, and a jump leads at most to the end of n
+-- instructions
 abbrev pub IsFine : (n base : ℕ) → Local → Type 0
 IsFine n base (Const r v) = IsReg base r
 IsFine n base (Mov r a) = IsReg base r × IsReg base a
@@ -49,21 +50,22 @@ IsFine n base (Log a o) = IsReg base a
 IsFine n base Tick = Unit {0}
 IsFine n base (Trap k) = Unit {0}
 
--- a piece stands in function f from place p on
+-- a piece is in function f from place p on
 pub record IsPlaced (image : Image) (f base p : ℕ) (piece : List Local) : Type 0 where
-  pub there : (k : ℕ) (l : Local) → slice_get piece k ≡ Some l → fetch_in (p + k) (slice_get image.parts.functions f) ≡ Some (placed base p l)
+  pub there : (k : ℕ) (l : Local) → slice_get piece k ≡ Some l
+      → fetch_in (p + k) (slice_get image.parts.functions f) ≡ Some (placed base p l)
   pub fine : AllByRecursion (IsFine (length piece) base) piece
   pub room : base + 8 < 2 ^ 32
   pub short : p + length piece < 2 ^ 32
 
--- a frame's registers hold those of the piece
-pub record Holds (base : ℕ) (own : Words) (temp regs : List ℤ) : Type 0 where
+-- a frame's registers hold the values of the piece's
+pub record FrameHolds (base : ℕ) (own : Words) (temp regs : List ℤ) : Type 0 where
   pub eight : length temp ≡ 8
   pub room : base + 8 ≤ length regs
   pub own_is : (r : ℕ) → r < base → get_or regs r (pos 0) ≡ own r
   pub temp_is : (j : ℕ) → j < 8 → get_or regs (base + j) (pos 0) ≡ get_or temp j (pos 0)
 
--- what isn't the piece's own: its function, where it stands, the frames below it
+-- what surrounds the piece: its function, its place, the frames below it
 pub record Setting : Type 0 where
   pub function : ℕ
   pub base : ℕ
@@ -72,7 +74,8 @@ pub record Setting : Type 0 where
   pub below : List Frame
   pub size : ℕ
 
-abbrev pub moment : Setting → (at : ℕ) → List ℤ → World → (dirty : List ℕ) → (logged : ℕ) → List Effect → Moment
+abbrev pub moment : Setting → (at : ℕ) → List ℤ → World → (dirty : List ℕ) → (logged : ℕ)
+    → List Effect → RunMoment
 moment x at regs w dirty logged seen = record {
   state = record {
     top = record { function = x.function; place = at; to = x.to; registers = regs };
@@ -87,23 +90,24 @@ moment x at regs w dirty logged seen = record {
   seen = seen;
 }
 
--- the machine at a place of the piece: the same heap, ticks, records and effects, and the same registers
-pub record Same (x : Setting) (l : Loc) (m : Moment) : Type 0 where
+-- the machine is at a place of the piece, with the same heap, ticks, records and effects, and the
+-- same registers
+pub record Same (x : Setting) (l : Loc) (m : RunMoment) : Type 0 where
   pub regs : List ℤ
   pub dirty : List ℕ
   pub logged : ℕ
   pub seen : List Effect
-  pub holds : Holds x.base l.own l.temp regs
+  pub holds : FrameHolds x.base l.own l.temp regs
   pub heard_is : heard seen ≡ l.world.seen
   pub is : m ≡ moment x (x.place + l.at) regs l.world dirty logged seen
 
-pub record IsShared (w : World) (m : Moment) : Type 0 where
+pub record IsShared (w : World) (m : RunMoment) : Type 0 where
   pub heap_is : m.heap ≡ w.heap
   pub ticks_is : m.state.ticks ≡ w.ticks
   pub records_is : m.records ≡ w.records
   pub heard_is : heard m.seen ≡ w.seen
 
--- where the piece alone goes on or traps, so does the machine
+-- if the piece alone goes on or traps, so does the machine
 abbrev pub Follows : Setting → Next World Loc → Stage → Type 0
 Follows x (Goes l) (On m) = Same x l m
 Follows x (Goes l) (Over end m) = ⊥
@@ -113,5 +117,6 @@ Follows x Off g = Unit {0}
 
 -- A piece in its place runs as it runs alone, step for step.
 abbrev pub PlacedLaw : Type 0
-PlacedLaw = (image : Image) (x : Setting) (piece : List Local) (n : ℕ) (l : Loc) (m : Moment) →
-    IsPlaced image x.function x.base x.place piece → Same x l m → Follows x (run (step image.parts.sizes piece) n l) (go image n m)
+PlacedLaw = (image : Image) (x : Setting) (piece : List Local) (n : ℕ) (l : Loc) (m : RunMoment) →
+    IsPlaced image x.function x.base x.place piece → Same x l m
+    → Follows x (local_run (local_step image.parts.sizes piece) n l) (go image n m)

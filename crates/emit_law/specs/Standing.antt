@@ -1,5 +1,5 @@
--- Where an instruction of three-address code stands: its piece is placed in its function, at the place that the table of places
--- names.
+-- The place of an instruction of intermediate code: its piece is in its function, at the place
+-- given by the table of places.
 use Rattle.std.specs.Prelude.{ℕ, zero, suc, ◌<◌, ◌^◌, ◌≡◌, Bool, true, false, List, [], ◌∷◌, length, Some, slice_get}
 use Rattle.pool_map.specs.declared.shapes.Shapes.{Shapes}
 use Rattle.pool_layout.specs.declared.limits.Sizes.{Sizes}
@@ -8,10 +8,10 @@ use Rattle.ir.specs.declared.instruction.Instruction.TheVariants as ir
 use Rattle.ir.specs.declared.function.IrFunction.{IrFunction}
 use Rattle.ir.specs.declared.function.Ir.{Ir}
 use Rattle.pm_machine.specs.declared.image.Image.{Image}
-use Rattle.codegen.specs.Emit.{local_code, is_log, places, place_in, function_code, has_room, functions_of, known}
+use Rattle.codegen.specs.Emit.{local_code, is_log, instruction_places, place_in, emitted_code, has_room, functions_of, known}
 use Rattle.emit_law.specs.Placed.{IsPlaced}
 
--- whether a log stands right before instruction q; b: before the first one
+-- whether a log comes right before instruction q; b: whether one comes before the first
 abbrev pub logged_before : Bool → List Instruction → ℕ → Bool
 logged_before b code zero = b
 logged_before b [] (suc q) = b
@@ -35,16 +35,19 @@ Stays (ir.Trap kind) = Unit {0}
 Stays (ir.Log t) = Unit {0}
 
 abbrev pub table_of : Sizes → Shapes → IrFunction → List ℕ
-table_of s h u = places s h u.tx 0 false u.code
+table_of s h u = instruction_places s h u.tx 0 false u.code
 
 -- there is room for the function's registers and its code
 pub record HasRoom (s : Sizes) (h : Shapes) (u : IrFunction) : Type 0 where
   pub registers : has_room u.registers u.code ≡ true
-  pub code : length (function_code s h u.tx u.registers u.code) < 2 ^ 32
+  pub code : length (emitted_code s h u.tx u.registers u.code) < 2 ^ 32
 
--- The piece of each instruction that stays stands in its function.
+-- The piece of each instruction that stays in its function is in that function.
 abbrev pub StandsLaw : Type 0
-StandsLaw = (image : Image) (s : Sizes) (program : Ir) (f : ℕ) (u : IrFunction) (q : ℕ) (i : Instruction) →
-    image.parts.functions ≡ functions_of s program → slice_get (known program.functions) f ≡ Some u → HasRoom s program.shapes u →
+StandsLaw = (image : Image) (s : Sizes) (program : Ir) (f : ℕ) (u : IrFunction) (q : ℕ)
+    (i : Instruction) →
+    image.parts.functions ≡ functions_of s program → slice_get (known program.functions) f ≡ Some u
+    → HasRoom s program.shapes u →
     slice_get u.code q ≡ Some i → Stays i →
-    IsPlaced image f u.registers (place_in (table_of s program.shapes u) q) (local_code s program.shapes (logged_before false u.code q) i)
+    IsPlaced image f u.registers (place_in (table_of s program.shapes u) q)
+    (local_code s program.shapes (logged_before false u.code q) i)

@@ -1,5 +1,5 @@
--- A piece of code whose jumps all lead forward is left, or traps, within as many steps as it has instructions; each instruction
--- that stays in its function has such a piece.
+-- A piece of code whose jumps all lead forward ends, or traps, within as many steps as it has
+-- instructions; each instruction that stays in its function has such a piece.
 use Rattle.std.specs.Prelude.{ℕ, suc, ◌+◌, ◌<◌, ◌≤◌, ◌≡◌, Bool, List, [], ◌∷◌, length}
 use Rattle.pool_map.specs.declared.shapes.Shapes.{Shapes}
 use Rattle.pool_layout.specs.declared.limits.Sizes.{Sizes}
@@ -9,10 +9,10 @@ use Rattle.pm_alloc.specs.declared.local.Local.{Local}
 use Rattle.pm_alloc.specs.declared.local.Local.TheVariants.{Const, Mov, Bin, Jmp, Jz, Load, Store, Find, Log, Tick, Trap}
 use Rattle.pm_alloc.specs.LocalRun.{Loc}
 use Rattle.codegen.specs.Emit.{local_code}
-use Rattle.emit_law.specs.Moments.{Moment, Stage, On, Over, go}
+use Rattle.emit_law.specs.Moments.{RunMoment, Stage, On, Over, go}
 use Rattle.emit_law.specs.Placed.{Setting, Same, IsPlaced}
 
--- the jumps of a piece, whose first instruction is at place k of all, lead behind themselves
+-- the jumps of a piece, whose first instruction is at place k, lead forward
 abbrev pub AreForward : ℕ → List Local → Type 0
 AreForward k [] = Unit {0}
 AreForward k (Jmp t ∷ ls) = (k < t) × AreForward (suc k) ls
@@ -27,16 +27,18 @@ AreForward k (Log a o ∷ ls) = AreForward (suc k) ls
 AreForward k (Tick ∷ ls) = AreForward (suc k) ls
 AreForward k (Trap t ∷ ls) = AreForward (suc k) ls
 
--- the machine is right behind the piece, or its run is over
-abbrev pub Settles : Setting → List Local → Stage → Type 0
-Settles x piece (On b) = (k : Loc) × (k.at ≡ length piece) × Same x k b
-Settles x piece (Over end b) = Unit {0}
+-- the machine is right after the piece, or its run has ended
+abbrev pub PieceSettles : Setting → List Local → Stage → Type 0
+PieceSettles x piece (On b) = (k : Loc) × (k.at ≡ length piece) × Same x k b
+PieceSettles x piece (Over end b) = Unit {0}
 
--- From any place of a forward piece the machine comes behind it, or to an end, in at most as many steps as are left of it.
+-- From any place of a forward piece the machine reaches the place after it, or an end, in at most
+-- as many steps as the piece has instructions left.
 abbrev pub ForwardLaw : Type 0
-ForwardLaw = (image : Image) (x : Setting) (piece : List Local) (l : Loc) (m : Moment) →
-    IsPlaced image x.function x.base x.place piece → AreForward 0 piece → Same x l m → l.at ≤ length piece →
-    (n : ℕ) × (n + l.at ≤ length piece) × Settles x piece (go image n m)
+ForwardLaw = (image : Image) (x : Setting) (piece : List Local) (l : Loc) (m : RunMoment) →
+    IsPlaced image x.function x.base x.place piece → AreForward 0 piece → Same x l m
+    → l.at ≤ length piece →
+    (n : ℕ) × (n + l.at ≤ length piece) × PieceSettles x piece (go image n m)
 
 -- The piece of each instruction is forward, and has at most 39 instructions.
 abbrev pub ForwardCode : Type 0

@@ -1,18 +1,17 @@
--- A run of tidy code flushes and fences at its end alone: FLUSH stands before FENCE and FENCE before HALT, and nothing else
--- leads to a FENCE or a HALT.
+-- A run of tidy code flushes and fences only at its end: FLUSH comes before FENCE and FENCE before
+-- HALT, and nothing else leads to a FENCE or a HALT.
 use Rattle.std.specs.Prelude.{ℕ, ◌+◌, ◌≡◌, List, [], ◌∷◌, Option, Some, None, slice_get}
 use Rattle.std.specs.List.{AllByRecursion}
 use Rattle.cache_model.specs.Cache.{Words}
 use Rattle.pm_machine.specs.declared.effect.Effect.{Effect}
 use Rattle.pm_machine.specs.declared.effect.End.{End}
-use Rattle.pm_machine.specs.declared.effect.End.TheVariants.{Halted, Trapped}
 use Rattle.pm_machine.specs.declared.frame.Frame.{Frame}
 use Rattle.pm_machine.specs.declared.image.Image.{Image}
 use Rattle.pm_machine.specs.declared.op.Op.{Op}
 use Rattle.pm_machine.specs.declared.op.Op.TheVariants.{Const, Mov, Bin, Jmp, Jz, Load, Store, Find, Log, Flush, Fence, Call, Ret, Tick, Trap, Halt}
 use Rattle.pm_machine.specs.declared.op.Function.{Function}
 use Rattle.pm_machine.specs.Machine.{State, Finished, run, fetch, fetch_in}
-use Rattle.run_law.specs.Sound.{IsTidy, IsStill}
+use Rattle.run_law.specs.Sound.{IsTidyEnd}
 
 -- neither FENCE nor HALT
 abbrev pub IsPlain : Op → Type 0
@@ -37,26 +36,26 @@ abbrev pub IsPlainAt : Option Op → Type 0
 IsPlainAt None = Unit {0}
 IsPlainAt (Some o) = IsPlain o
 
--- what stands behind an instruction
-abbrev pub IsBefore : Op → Option Op → Type 0
-IsBefore (Const r v) next = IsPlainAt next
-IsBefore (Mov r a) next = IsPlainAt next
-IsBefore (Bin o r a b) next = IsPlainAt next
-IsBefore (Jmp t) next = Unit {0}
-IsBefore (Jz a t) next = IsPlainAt next
-IsBefore (Load r a o) next = IsPlainAt next
-IsBefore (Find r) next = IsPlainAt next
-IsBefore (Store a o b) next = IsPlainAt next
-IsBefore (Log a o) next = IsPlainAt next
-IsBefore Flush next = next ≡ Some Fence
-IsBefore Fence next = (a : ℕ) × (next ≡ Some (Halt a))
-IsBefore (Call r f args) next = IsPlainAt next
-IsBefore (Ret a) next = Unit {0}
-IsBefore Tick next = IsPlainAt next
-IsBefore (Trap k) next = Unit {0}
-IsBefore (Halt a) next = Unit {0}
+-- the next instruction may come after this one
+abbrev pub MayPrecede : Op → Option Op → Type 0
+MayPrecede (Const r v) next = IsPlainAt next
+MayPrecede (Mov r a) next = IsPlainAt next
+MayPrecede (Bin o r a b) next = IsPlainAt next
+MayPrecede (Jmp t) next = Unit {0}
+MayPrecede (Jz a t) next = IsPlainAt next
+MayPrecede (Load r a o) next = IsPlainAt next
+MayPrecede (Find r) next = IsPlainAt next
+MayPrecede (Store a o b) next = IsPlainAt next
+MayPrecede (Log a o) next = IsPlainAt next
+MayPrecede Flush next = next ≡ Some Fence
+MayPrecede Fence next = (a : ℕ) × (next ≡ Some (Halt a))
+MayPrecede (Call r f args) next = IsPlainAt next
+MayPrecede (Ret a) next = Unit {0}
+MayPrecede Tick next = IsPlainAt next
+MayPrecede (Trap k) next = Unit {0}
+MayPrecede (Halt a) next = Unit {0}
 
--- where a jump leads
+-- the target of a jump is neither FENCE nor HALT
 abbrev pub LeadsPlain : Option Function → Op → Type 0
 LeadsPlain found (Jmp t) = IsPlainAt (fetch_in t found)
 LeadsPlain found (Jz a t) = IsPlainAt (fetch_in t found)
@@ -77,31 +76,28 @@ LeadsPlain found (Halt a) = Unit {0}
 
 pub record IsTidyCode (found : Option Function) : Type 0 where
   pub first : IsPlainAt (fetch_in 0 found)
-  pub next : (p : ℕ) (o : Op) → fetch_in p found ≡ Some o → IsBefore o (fetch_in (p + 1) found)
+  pub next : (p : ℕ) (o : Op) → fetch_in p found ≡ Some o → MayPrecede o (fetch_in (p + 1) found)
   pub leads : (p : ℕ) (o : Op) → fetch_in p found ≡ Some o → LeadsPlain found o
 
 -- no RET, as in a transaction
 abbrev pub IsReturnless : Option Function → Type 0
 IsReturnless found = (p a : ℕ) → fetch_in p found ≡ Some (Ret a) → ⊥
 
--- the function of the first open frame
+-- the function of the outermost frame
 abbrev pub bottom : List Frame → ℕ → ℕ
 bottom [] f = f
 bottom (b ∷ bs) f = b.function
 
--- no open function stands at a FENCE or a HALT, and the first one has no RET
-pub record IsOpen (image : Image) (s : State) : Type 0 where
+-- no open function is at a FENCE or a HALT, and the outermost one has no RET
+pub record OpenFramesTidy (image : Image) (s : State) : Type 0 where
   pub here : IsPlainAt (fetch image s)
-  pub below : AllByRecursion (λ (f : Frame). IsPlainAt (fetch_in f.place (slice_get image.parts.functions f.function))) s.below
+  pub below : AllByRecursion (λ (f : Frame).
+      IsPlainAt (fetch_in f.place (slice_get image.parts.functions f.function))) s.below
   pub last : IsReturnless (slice_get image.parts.functions (bottom s.below s.top.function))
 
--- with these lines dirty
-abbrev pub Tidies : List ℕ → End → List Effect → Type 0
-Tidies ls (Halted v) es = IsTidy ls es
-Tidies ls (Trapped k) es = IsStill es
-
--- A run from an open state that halts flushes each dirty line once, in their order, and fences, at its end alone; one that traps
--- has no flush and no fence.
+-- A run from an open state that halts flushes each dirty line once, in their order, and fences,
+-- only at its end; a run that traps has no flush and no fence.
 abbrev pub TidyLaw : Type 0
 TidyLaw = (image : Image) (k n : ℕ) (s : State) (heap : Words) (end : End) (es : List Effect) →
-    ((f : ℕ) → IsTidyCode (slice_get image.parts.functions f)) → IsOpen image s → run image k n s heap ≡ Finished end es → Tidies s.dirty end es
+    ((f : ℕ) → IsTidyCode (slice_get image.parts.functions f)) → OpenFramesTidy image s
+    → run image k n s heap ≡ Finished end es → IsTidyEnd s.dirty end es

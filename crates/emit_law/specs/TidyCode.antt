@@ -1,5 +1,6 @@
--- Emitted code is tidy, and that of a transaction has no RET; so its run flushes and fences at its end alone.
-use Rattle.std.specs.Prelude.{ℕ, ◌-◌, ◌≡◌, List, Some, slice_get, ℤ}
+-- Emitted code is tidy, and that of a transaction has no RET; so its run flushes and fences only at
+-- its end.
+use Rattle.std.specs.Prelude.{ℕ, ◌-◌, ◌≡◌, List, [], Some, slice_get, ℤ}
 use Rattle.cache_model.specs.Cache.{Words}
 use Rattle.pool_layout.specs.declared.limits.Sizes.{Sizes}
 use Rattle.ir.specs.declared.function.Ir.{Ir}
@@ -12,7 +13,7 @@ use Rattle.codegen.specs.Emit.{functions_of, txs_from, known}
 use Rattle.run_law.specs.Sound.{IsPairedRun, IsTidyEnd}
 use Rattle.emit_law.specs.Tidy.{IsTidyCode}
 
--- the emitted code of any three-address code is tidy
+-- the emitted code of any intermediate code is tidy
 abbrev pub EmitsTidy : Type 0
 EmitsTidy = (s : Sizes) (program : Ir) (f : ℕ) → IsTidyCode (slice_get (functions_of s program) f)
 
@@ -21,8 +22,11 @@ pub record HasCode (image : Image) (s : Sizes) (program : Ir) : Type 0 where
   pub functions : image.parts.functions ≡ functions_of s program
   pub txs : image.parts.txs ≡ txs_from 0 (known program.functions)
 
--- Each run of a transaction of emitted code, from any heap: each LOG goes on to its STORE; where it halts it flushes each stored
--- line once, in the order of first stores, behind its last store, and fences right before; where it traps it does neither.
+-- Each run of a transaction of emitted code, from any heap: each LOG is followed by its STORE; if
+-- it halts, it flushes each stored line once, in the order of first stores, after its last store,
+-- and then fences and halts; if it traps, it does neither.
 abbrev pub SoundRunLaw : Type 0
-SoundRunLaw = (image : Image) (s : Sizes) (program : Ir) (k : ℕ) (heap : Words) (tx : ℕ) (entry : TxEntry) (args : List ℤ) (end : End) (es : List Effect) →
-    HasCode image s program → slice_get image.parts.txs (tx - 1) ≡ Some entry → mrun image k heap tx args ≡ Finished end es → IsPairedRun es × IsTidyEnd end es
+SoundRunLaw = (image : Image) (s : Sizes) (program : Ir) (k : ℕ) (heap : Words) (tx : ℕ)
+    (entry : TxEntry) (args : List ℤ) (end : End) (es : List Effect) →
+    HasCode image s program → slice_get image.parts.txs (tx - 1) ≡ Some entry
+    → mrun image k heap tx args ≡ Finished end es → IsPairedRun es × IsTidyEnd [] end es

@@ -1,9 +1,9 @@
-//! What the machine's run of emitted code does, and that it's sound but for what is logged. It stands
-//! on `pm_machine`, `pm_alloc` and `codegen`. Its one contract for the crates above: the laws of
-//! `specs/`, each a clause of a function that does nothing.
+//! What the machine's run of emitted code does, and that it is sound, apart from which stores are
+//! logged. It rests on `pm_machine`, `pm_alloc` and `codegen`. Its one contract for the crates
+//! above: the laws of `specs/`, each a clause of a function that does nothing.
 #![tactic(auto)]
 
-ghost use Rattle.emit_law.specs.Dirty.{CleanLaw, FewLines, GrowLaw};
+ghost use Rattle.emit_law.specs.Dirty.{StaysCleanLaw, FewLines, GrowLaw};
 ghost use Rattle.emit_law.specs.Moments.{RunsLaw};
 ghost use Rattle.emit_law.specs.Pairs.{EmitsPairs, PairedLaw};
 ghost use Rattle.emit_law.specs.Placed.{PlacedLaw};
@@ -23,31 +23,33 @@ pub fn placed_law()
     ensures { PlacedLaw }
 {}
 
-/// Emitted code has a STORE right behind each LOG, and each LOG of its run goes on to its STORE.
+/// In emitted code a STORE comes right after each LOG, and in its run each LOG is followed by its
+/// STORE.
 pub fn paired_law()
     ensures code { EmitsPairs }
     ensures run { PairedLaw }
 {}
 
-/// A run of tidy code flushes and fences at its end alone.
+/// A run of tidy code flushes and fences only at its end.
 pub fn tidy_law()
     ensures { TidyLaw }
 {}
 
-/// The piece of each instruction that stays in its function stands at its place in the emitted code.
+/// The piece of each instruction that stays in its function is at its place in the emitted code.
 pub fn stands_law()
     ensures { StandsLaw }
 {}
 
-/// Emitted code is tidy, and each run of a transaction of it is sound but for what is logged.
+/// Emitted code is tidy, and each run of one of its transactions is sound, apart from which stores
+/// are logged.
 pub fn sound_law()
     ensures code { EmitsTidy }
     ensures run { SoundRunLaw }
 {}
 
-/// Each instruction that stays in its function has a piece of at most 39 instructions that only leads
-/// forward; from any place of such a piece the machine comes behind it, or to an end, in at
-/// most as many steps as are left of it.
+/// Each instruction that stays in its function has a piece of at most 39 instructions that only
+/// leads forward; from any place of such a piece the machine reaches the place after it, or an end,
+/// in at most as many steps as the piece has instructions left.
 pub fn forward_law()
     ensures code { ForwardCode }
     ensures run { ForwardLaw }
@@ -59,10 +61,10 @@ pub fn return_law()
     ensures { ReturnLaw }
 {}
 
-/// In a run no line is dirty twice, and each is one of the heap's; so there are at most as many as the
-/// heap has lines. A step makes at most one more dirty.
+/// In a run no line is dirty twice, and each is a line of the heap; so at most as many lines are
+/// dirty as the heap has. A step makes at most one more dirty.
 pub fn dirty_law()
-    ensures run { CleanLaw }
+    ensures run { StaysCleanLaw }
     ensures few { FewLines }
     ensures grow { GrowLaw }
 {}

@@ -1,6 +1,6 @@
--- Code with its logs does what the code does: the same end, and the same loads and stores, whose sites have moved. It takes at most
--- twice the steps. Where the marks say that a store is logged, a log of its target stands right before it; the flag of a new says
--- whether its fill is logged.
+-- Code with its logs does what the code does: it has the same end, and the same loads and stores,
+-- at moved sites. It takes at most twice the steps. If the marks say that a store is logged, a log
+-- of its target comes right before it; the flag of a new says whether its fill is logged.
 use Rattle.std.specs.Prelude.{◌≡◌, ◌⊎◌, ◌*◌, ◌+◌, ℕ, suc, ℤ, List, Bool, true, false, Some}
 use Rattle.pool_map.specs.PoolMap.{PoolMap}
 use Rattle.ir.specs.declared.instruction.Target.{Target}
@@ -12,44 +12,58 @@ use Rattle.ir.specs.WellFormed.{IsWellFormed}
 use Rattle.clobber_pass.specs.declared.marking.MarkTable.{MarkTable}
 use Rattle.clobber_pass.specs.Logged.{is_logged}
 use Rattle.instrument.specs.Insert.{led, logged_program}
-use Rattle.code_meaning.specs.Code.{End, Ended, Trapped, Unfinished, Stuck, start, exec}
+use Rattle.code_meaning.specs.Code.{CodeEnd, Ended, Trapped, Unfinished, Stuck, code_start, exec}
 use Rattle.code_meaning.specs.Deeds.{deeds, site}
 use Rattle.insert_law.specs.Moved.{begins, stands, moved_deeds}
 
 -- the run gave a word or trapped
-abbrev pub IsDone : End → Type 0
-IsDone (Ended w v t) = Unit {0}
-IsDone (Trapped k) = Unit {0}
-IsDone Unfinished = ⊥
-IsDone Stuck = ⊥
+abbrev pub HasResult : CodeEnd → Type 0
+HasResult (Ended w v t) = Unit {0}
+HasResult (Trapped k) = Unit {0}
+HasResult Unfinished = ⊥
+HasResult Stuck = ⊥
 
-abbrev pub EndLaw : Type 0
-EndLaw = (marks : MarkTable) (ir : Ir) → IsWellFormed ir → (f : ℕ) (args : List ℤ) (w : PoolMap) (t k : ℕ) →
-    IsDone (exec ir k (start f args w t)) → exec (logged_program marks ir) (2 * k) (start f args w t) ≡ exec ir k (start f args w t)
+abbrev pub LoggedEndLaw : Type 0
+LoggedEndLaw = (marks : MarkTable) (ir : Ir) → IsWellFormed ir
+    → (f : ℕ) (args : List ℤ) (w : PoolMap) (t k : ℕ) →
+    HasResult (exec ir k (code_start f args w t))
+    → exec (logged_program marks ir) (2 * k) (code_start f args w t)
+    ≡ exec ir k (code_start f args w t)
 
-abbrev pub DeedsLaw : Type 0
-DeedsLaw = (marks : MarkTable) (ir : Ir) → IsWellFormed ir → (f : ℕ) (args : List ℤ) (w : PoolMap) (t k : ℕ) →
-    IsDone (exec ir k (start f args w t)) → deeds (logged_program marks ir) (2 * k) (start f args w t) ≡ moved_deeds marks ir.functions (deeds ir k (start f args w t))
+abbrev pub MovedDeedsLaw : Type 0
+MovedDeedsLaw = (marks : MarkTable) (ir : Ir) → IsWellFormed ir
+    → (f : ℕ) (args : List ℤ) (w : PoolMap) (t k : ℕ) →
+    HasResult (exec ir k (code_start f args w t))
+    → deeds (logged_program marks ir) (2 * k) (code_start f args w t) ≡ moved_deeds marks
+    ir.functions (deeds ir k (code_start f args w t))
 
--- a store that the marks name stands right behind a log of its target
-abbrev pub StoreLaw : Type 0
-StoreLaw = (marks : MarkTable) (ir : Ir) → IsWellFormed ir → (f p : ℕ) (x : Target) (from line : ℕ) →
-    instruction_at ir.functions f p ≡ Some (Store x from line) → is_logged marks (site f p false) ≡ true →
+-- a store that the marks name comes right after a log of its target
+abbrev pub LoggedStoreLaw : Type 0
+LoggedStoreLaw = (marks : MarkTable) (ir : Ir) → IsWellFormed ir
+    → (f p : ℕ) (x : Target) (from line : ℕ) →
+    instruction_at ir.functions f p ≡ Some (Store x from line)
+    → is_logged marks (site f p false) ≡ true →
     (stands marks ir.functions f p ≡ begins marks ir.functions f p + 1)
-    × (instruction_at (logged_program marks ir).functions f (begins marks ir.functions f p) ≡ Some (Log x))
-    × (instruction_at (logged_program marks ir).functions f (stands marks ir.functions f p) ≡ Some (Store x from line))
+    × (instruction_at (logged_program marks ir).functions f (begins marks ir.functions f p)
+    ≡ Some (Log x))
+    × (instruction_at (logged_program marks ir).functions f (stands marks ir.functions f p)
+    ≡ Some (Store x from line))
 
 -- a new has the flag of its fill
 abbrev pub FillLaw : Type 0
 FillLaw = (marks : MarkTable) (ir : Ir) → IsWellFormed ir → (f p to kind line : ℕ) (flag : Bool) →
     instruction_at ir.functions f p ≡ Some (New to kind flag line) →
-    instruction_at (logged_program marks ir).functions f (stands marks ir.functions f p) ≡ Some (New to kind (is_logged marks (site f p true)) line)
+    instruction_at (logged_program marks ir).functions f (stands marks ir.functions f p)
+    ≡ Some (New to kind (is_logged marks (site f p true)) line)
 
--- each log stands right before a store that the marks name; each other instruction is one of the code, with its jumps and its
--- flag led to where they belong
+-- each log comes right before a store that the marks name; each other instruction is one of the
+-- code, with its jumps and its flag changed as they should be
 abbrev pub OriginLaw : Type 0
 OriginLaw = (marks : MarkTable) (ir : Ir) → IsWellFormed ir → (f q : ℕ) (j : Instruction) →
     instruction_at (logged_program marks ir).functions f q ≡ Some j →
-    ((p : ℕ) × (x : Target) × (from : ℕ) × (line : ℕ) × (j ≡ Log x) × (instruction_at ir.functions f p ≡ Some (Store x from line))
-    × (is_logged marks (site f p false) ≡ true) × (instruction_at (logged_program marks ir).functions f (suc q) ≡ Some (Store x from line)))
-    ⊎ ((p : ℕ) × (i : Instruction) × (table : List ℕ) × (flag : Bool) × (instruction_at ir.functions f p ≡ Some i) × (j ≡ led table flag i))
+    ((p : ℕ) × (x : Target) × (from : ℕ) × (line : ℕ) × (j ≡ Log x)
+    × (instruction_at ir.functions f p ≡ Some (Store x from line))
+    × (is_logged marks (site f p false) ≡ true)
+    × (instruction_at (logged_program marks ir).functions f (suc q) ≡ Some (Store x from line)))
+    ⊎ ((p : ℕ) × (i : Instruction) × (table : List ℕ) × (flag : Bool)
+    × (instruction_at ir.functions f p ≡ Some i) × (j ≡ led table flag i))

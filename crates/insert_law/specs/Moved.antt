@@ -1,5 +1,6 @@
--- Where things stand in code with its logs. The instruction at a place begins, with its log, at another place, and stands behind
--- that log, where it has one. A site moves with its instruction, and a state of a run with the places of its open functions.
+-- Where things are in code with its logs. The instruction at a place, with its log, begins at
+-- another place; the instruction itself comes after the log, if it has one. A site moves with its
+-- instruction, and a state of a run with the places of its open functions.
 use Rattle.std.specs.Prelude.{ℕ, ◌+◌, List, [], ◌∷◌, length, Option, Some, None, slice_get}
 use Rattle.std.specs.Option.{option_map_or}
 use Rattle.ir.specs.declared.instruction.Instruction.{Instruction}
@@ -8,26 +9,32 @@ use Rattle.ir.specs.declared.site.Site.{Site}
 use Rattle.ir.specs.Places.{instruction_at}
 use Rattle.clobber_pass.specs.declared.marking.MarkTable.{MarkTable}
 use Rattle.instrument.specs.Insert.{logs, places_from, place_in, flagged, flags_from}
-use Rattle.code_meaning.specs.Code.{Frame, frame, State, Here, Move, Goes, Ends}
 use Rattle.code_meaning.specs.Deeds.{Deed, Reads, Writes, Heads}
 
 abbrev pub code_in : List IrFunction → ℕ → List Instruction
 code_in functions f = option_map_or (λ (u : IrFunction). u.code) (slice_get functions f) []
 
--- where the instruction at place p of function f begins, with its log
+-- the new place at which the instruction at place p of function f begins, with its log
 abbrev pub begins : MarkTable → List IrFunction → (f p : ℕ) → ℕ
-begins marks functions f p = place_in (places_from (flags_from marks f 0 (code_in functions f)) 0 0 (code_in functions f)) p
+begins marks functions f p = place_in (places_from (flags_from marks f 0 (code_in functions f)) 0 0
+    (code_in functions f)) p
 
 abbrev pub logs_before : MarkTable → (f p : ℕ) → Option Instruction → List Instruction
 logs_before marks f p None = []
 logs_before marks f p (Some i) = logs (flagged marks f p i) i
 
--- where it stands itself
+-- the new place of the instruction itself
 abbrev pub stands : MarkTable → List IrFunction → (f p : ℕ) → ℕ
-stands marks functions f p = begins marks functions f p + length (logs_before marks f p (instruction_at functions f p))
+stands marks functions f p = begins marks functions f p
+    + length (logs_before marks f p (instruction_at functions f p))
 
 abbrev pub moved_site : MarkTable → List IrFunction → Site → Site
-moved_site marks functions s = record { function = s.function; place = stands marks functions s.function s.place; fill = s.fill }
+moved_site marks functions s =
+    record {
+      function = s.function;
+      place = stands marks functions s.function s.place;
+      fill = s.fill;
+    }
 
 abbrev pub moved_deed : MarkTable → List IrFunction → Deed → Deed
 moved_deed marks functions (Reads u) = Reads u
@@ -37,17 +44,3 @@ moved_deed marks functions (Heads s q v) = Heads (moved_site marks functions s) 
 abbrev pub moved_deeds : MarkTable → List IrFunction → List Deed → List Deed
 moved_deeds marks functions [] = []
 moved_deeds marks functions (d ∷ ds) = moved_deed marks functions d ∷ moved_deeds marks functions ds
-
-abbrev pub moved_frame : MarkTable → List IrFunction → Frame → Frame
-moved_frame marks functions (frame f p regs to) = frame f (begins marks functions f p) regs to
-
-abbrev pub moved_frames : MarkTable → List IrFunction → List Frame → List Frame
-moved_frames marks functions [] = []
-moved_frames marks functions (c ∷ below) = moved_frame marks functions c ∷ moved_frames marks functions below
-
-abbrev pub moved_state : MarkTable → List IrFunction → State → State
-moved_state marks functions (Here f p regs below w t) = Here f (begins marks functions f p) regs (moved_frames marks functions below) w t
-
-abbrev pub moved : MarkTable → List IrFunction → Move → Move
-moved marks functions (Goes c) = Goes (moved_state marks functions c)
-moved marks functions (Ends e) = Ends e

@@ -1,6 +1,7 @@
--- Code with its logs. A flag at a store says that a log stands right before it; a flag at a `new` says
--- that its fill is logged. A jump or a branch that led to a store leads to its log. A log that stood in
--- the code before is left out, and what led to it leads to the next instruction. All else stays as it was.
+-- Code with its logs. A flag at a store means that a log comes right before it; a flag at a `new`
+-- means that its fill is logged. A jump or a branch that led to a store leads to its log. A log
+-- that was in the code before is left out, and what led to it leads to the next instruction. All
+-- else stays as it was.
 use Rattle.std.specs.Prelude.{ℕ, suc, ◌+◌, ◌^◌, ◌-◌, ◌++◌, Bool, true, false, List, [], ◌∷◌, if◌then◌else◌, nat_lt, length}
 use Rattle.std.specs.List.{slice_index_or}
 use Rattle.ir.specs.declared.instruction.Instruction.{Instruction}
@@ -10,7 +11,7 @@ use Rattle.ir.specs.declared.function.Ir.{Ir}
 use Rattle.clobber_pass.specs.declared.marking.MarkTable.{MarkTable}
 use Rattle.clobber_pass.specs.Logged.{is_logged}
 
--- the logs that stand before an instruction, where this is its flag
+-- the logs before an instruction with this flag
 abbrev pub logs : Bool → Instruction → List Instruction
 logs false i = []
 logs true (Store target from line) = Log target ∷ []
@@ -44,23 +45,24 @@ is_log (Return from) = false
 is_log Tick = false
 is_log (Trap kind) = false
 
--- how many places an instruction takes, with its log. A log that stood there takes none
-abbrev pub width : Bool → Instruction → ℕ
-width flag i = length (logs flag i) + (if is_log i then 0 else 1)
+-- the number of places of an instruction with its log; a log that was there before takes none
+abbrev pub logged_width : Bool → Instruction → ℕ
+logged_width flag i = length (logs flag i) + (if is_log i then 0 else 1)
 
 abbrev pub flag_at : List Bool → ℕ → Bool
 flag_at flags k = slice_index_or flags k false
 
--- where the instructions from the k-th on stand, and the end, where the k-th stands at the place at
+-- the places of the instructions from the k-th on, and of the end, if the k-th is at place `at`
 abbrev pub places_from : (flags : List Bool) (k at : ℕ) → List Instruction → List ℕ
 places_from flags k at [] = at ∷ []
-places_from flags k at (i ∷ is) = at ∷ places_from flags (suc k) (at + width (flag_at flags k) i) is
+places_from flags k at (i ∷ is) =
+    at ∷ places_from flags (suc k) (at + logged_width (flag_at flags k) i) is
 
--- a place that isn't in the code stays outside
+-- a place outside the code stays outside
 abbrev pub place_in : List ℕ → ℕ → ℕ
 place_in places t = slice_index_or places t (2 ^ 32 - 1)
 
--- the same instruction with its jumps led to their places, and with the flag of a fill
+-- the instruction with its jumps mapped to their new places, and with the flag of a fill
 abbrev pub led : List ℕ → Bool → Instruction → Instruction
 led places flag (Jump place) = Jump (place_in places place)
 led places flag (Branch on place) = Branch on (place_in places place)
@@ -77,19 +79,23 @@ led places flag Tick = Tick
 led places flag (Trap kind) = Trap kind
 led places flag (Log target) = Log target
 
--- the instruction itself, where it is no log
+-- the instruction itself, unless it is a log
 abbrev pub own : List ℕ → Bool → Instruction → List Instruction
 own places flag i = if is_log i then [] else led places flag i ∷ []
 
-abbrev pub logged_from : List ℕ → (flags : List Bool) → (k : ℕ) → List Instruction → List Instruction
+abbrev pub logged_from : List ℕ → (flags : List Bool) → (k : ℕ) → List Instruction
+    → List Instruction
 logged_from places flags k [] = []
 logged_from places flags k (i ∷ is) =
-    logs (flag_at flags k) i ++ (own places (flag_at flags k) i ++ logged_from places flags (suc k) is)
+    logs (flag_at flags k) i ++ (own places (flag_at flags k) i ++ logged_from places flags
+    (suc k) is)
 
 -- whether the marks say that this instruction's store, or its fill, is logged
 abbrev pub flagged : MarkTable → (function place : ℕ) → Instruction → Bool
-flagged marks f p (Store target from line) = is_logged marks (record { function = f; place = p; fill = false })
-flagged marks f p (New to kind log_fill line) = is_logged marks (record { function = f; place = p; fill = true })
+flagged marks f p (Store target from line) =
+    is_logged marks (record { function = f; place = p; fill = false })
+flagged marks f p (New to kind log_fill line) =
+    is_logged marks (record { function = f; place = p; fill = true })
 flagged marks f p (Jump place) = false
 flagged marks f p (Branch on place) = false
 flagged marks f p (Const to value) = false
@@ -112,7 +118,8 @@ with_flags flags code = logged_from (places_from flags 0 0 code) flags 0 code
 
 -- the code of function f with its logs; code too long to count is left as it is
 abbrev pub logged_code : MarkTable → (f : ℕ) → List Instruction → List Instruction
-logged_code marks f code = if nat_lt (length code) (2 ^ 31) then with_flags (flags_from marks f 0 code) code else code
+logged_code marks f code = if nat_lt (length code) (2 ^ 31)
+    then with_flags (flags_from marks f 0 code) code else code
 
 abbrev pub logged_function : MarkTable → (f : ℕ) → IrFunction → IrFunction
 logged_function marks f u = record u { code = logged_code marks f u.code }

@@ -1,4 +1,4 @@
-//! The logs of a program.
+//! Adding the logs to a program.
 
 ghost use Rattle.std.specs.Prelude.{◌≡◌, ◌++◌, ◌<◌, ◌^◌, length, IfOk, OnOk};
 ghost use Rattle.instrument.specs.Insert.{logs, led, own, logged_from, with_flags, logged_code, logged_function, logged_program};
@@ -19,7 +19,7 @@ fn text_copy(alloc: Global, text: &Text) -> Result<Text, AllocError>
     Ok(copy)
 }
 
-/// The instruction with its jumps led to their places, and with the flag of a fill.
+/// The instruction with its jumps mapped to their new places, and with the flag of a fill.
 fn led(
     alloc: Global,
     places: &[u32],
@@ -46,7 +46,7 @@ fn led(
     }
 }
 
-/// Puts the log of an instruction at the end, where there is one.
+/// Appends the log of an instruction, if it has one.
 fn push_log(
     code: &mut Instructions,
     flag: bool,
@@ -62,7 +62,7 @@ fn push_log(
     }
 }
 
-/// Puts the instruction itself at the end. A log that stood in the code is left out.
+/// Appends the instruction itself. A log that was in the code before is left out.
 fn push_own(
     alloc: Global,
     code: &mut Instructions,
@@ -78,7 +78,7 @@ fn push_own(
     }
 }
 
-/// The instructions with their logs; all places are known.
+/// The instructions with their logs, given all new places.
 fn logged_from(
     alloc: Global,
     places: &[u32],
@@ -106,7 +106,7 @@ fn copied(alloc: Global, code: &[Instruction]) -> Result<Instructions, AllocErro
     Ok(copy)
 }
 
-/// The code with the logs that these flags ask for.
+/// The code with the logs for these flags.
 fn with_flags(
     alloc: Global,
     flags: &[bool],
@@ -152,8 +152,8 @@ fn logged_function(
     })
 }
 
-/// The program with its logs. Functions past the 2^32nd, which no well formed program has, are read
-/// under the marks of the last.
+/// The program with its logs. For functions past the 2^32nd, which no well formed program has, it
+/// uses the marks of the last.
 fn logged_program(alloc: Global, ir: &Ir, marks: &MarkTable) -> Result<Ir, AllocError>
     ensures { IsWellFormed ir.now → IfOk result (λ r. r ≡ logged_program marks.now ir.now) }
 {
@@ -170,9 +170,9 @@ fn logged_program(alloc: Global, ir: &Ir, marks: &MarkTable) -> Result<Ir, Alloc
 }
 
 /// The program with a log right before each store that the marks name, and with the flag of each
-/// `new` whose fill they name. A log that stood in the program before, and a flag that was set, are
-/// left out. Each jump that led to such a store leads to its log. Where each function has fewer than
-/// 2^30 instructions, the program is well formed with its logs too.
+/// `new` whose fill they name. A log that was in the program before, and a flag that was set, are
+/// left out. Each jump to such a store leads to its log. If each function has fewer than 2^30
+/// instructions, the program is well formed with its logs too.
 pub fn add_logs(alloc: Global, ir: &Ir, marks: &MarkTable) -> Result<Ir, AllocError>
     ensures code { IsWellFormed ir.now → IfOk result (λ r. r ≡ logged_program marks.now ir.now) }
     ensures well_formed { IsWellFormed ir.now → IsShort ir.now → IfOk result (λ r. IsWellFormed r) }

@@ -1,6 +1,6 @@
-//! Puts the logs into the code. It stands on `ir` and `clobber_pass`, whose marks say which stores
-//! are logged. Its one contract for the crates above: a log stands right before a store, and a `new`
-//! has its flag, exactly where the marks say so, and nothing else of the code is changed.
+//! Adding the logs to the code. It rests on `ir` and `clobber_pass`, whose marks say which stores
+//! are logged. Its one contract for the crates above: a log comes right before a store, and a `new`
+//! has its flag, exactly if the marks say so, and nothing else of the code is changed.
 #![tactic(auto)]
 
 mod add;

@@ -1,7 +1,7 @@
-//! Where the instructions of a function stand once its logs are in.
+//! The places of a function's instructions after its logs are added.
 
 ghost use Rattle.std.specs.Prelude.{◌≡◌, ◌<◌, ◌≤◌, ◌+◌, ◌^◌, length, IfOk};
-ghost use Rattle.instrument.specs.Insert.{width, flag_at, flagged, flags_from, places_from, place_in};
+ghost use Rattle.instrument.specs.Insert.{logged_width, flag_at, flagged, flags_from, places_from, place_in};
 
 use clobber_pass::MarkTable;
 use ir::{Instruction, Site};
@@ -53,10 +53,10 @@ pub(crate) fn flags(
     Ok(flags)
 }
 
-/// How many places the instruction takes with its log, where this is its flag. A log that stood in the
-/// code takes none.
+/// The number of places that an instruction with this flag takes with its log. A log that was in
+/// the code before takes none.
 pub(crate) fn width(flag: bool, instruction: &Instruction) -> u32
-    ensures exact { result ≡ width flag instruction.now }
+    ensures exact { result ≡ logged_width flag instruction.now }
     ensures few { result ≤ 2 }
 {
     match instruction {
@@ -66,7 +66,7 @@ pub(crate) fn width(flag: bool, instruction: &Instruction) -> u32
     }
 }
 
-/// The place of each instruction, and of the end.
+/// The new place of each instruction, and of the end.
 pub(crate) fn places(
     alloc: Global,
     flags: &[bool],
@@ -85,7 +85,7 @@ pub(crate) fn places(
     Ok(places)
 }
 
-/// Where a jump to this place leads now.
+/// The new target of a jump to this place.
 pub(crate) fn place_in(places: &[u32], place: u32) -> u32
     ensures { result ≡ place_in places.now place }
 {

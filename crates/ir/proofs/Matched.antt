@@ -1,4 +1,4 @@
--- The summaries, in terms of walks.
+-- The meaning of summaries, in terms of walks.
 use Rattle.std.proofs.Common.{◌≡◌, ◌&&◌, ℕ, Bool, true, false, List, refl, inl, inr, ⊎_elim, subst}
 use Rattle.std.specs.Prelude.{◌==◌, ◌↔◌, not}
 use mathlib.Core.Logic.{◌⊎◌}
@@ -43,14 +43,18 @@ only_holds Freed Freed h = inl refl
 only_holds Here (Unwritten q t y) h = absurd (false≢true h)
 only_holds _ _ h = absurd (false≢true h)
 
-pub summary_exact : (functions : List IrFunction) (f p : ℕ) (e b : Fact) → MatchedWalk functions f e p b ↔ (Passes functions f 0 e p b ⊎ Passes functions f 0 Here p b)
+pub summary_exact : (functions : List IrFunction) (f p : ℕ) (e b : Fact)
+    → MatchedWalk functions f e p b ↔ (Passes functions f 0 e p b ⊎ Passes functions f 0 Here p b)
 summary_exact functions f p e b = (to, from)
   where
     to : MatchedWalk functions f e p b → Passes functions f 0 e p b ⊎ Passes functions f 0 Here p b
     to w =
         let m = matched functions f p (only e) w.0 w.1 b w.2 in
-        ⊎_elim (λ (s : m.0 ≡ e). inl (subst (λ a. Passes functions f 0 a p b) s m.2)) (λ (s : m.0 ≡ Here). inr (subst (λ a. Passes functions f 0 a p b) s m.2)) (only_holds e m.0 m.1)
+        ⊎_elim (λ (s : m.0 ≡ e). inl (subst (λ a. Passes functions f 0 a p b) s m.2))
+        (λ (s : m.0 ≡ Here). inr (subst (λ a. Passes functions f 0 a p b) s m.2))
+        (only_holds e m.0 m.1)
 
-    from : Passes functions f 0 e p b ⊎ Passes functions f 0 Here p b → MatchedWalk functions f e p b
+    from : Passes functions f 0 e p b ⊎ Passes functions f 0 Here p b
+        → MatchedWalk functions f e p b
     from (inl d) = walks functions d (only e) _ (holds-only e)
     from (inr d) = walks functions d (only e) _ refl

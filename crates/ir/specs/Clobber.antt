@@ -1,4 +1,4 @@
--- Which stores are logged: those that may overwrite what was read before.
+-- Which stores are logged: those that may overwrite a word that was read before.
 use Rattle.std.specs.Prelude.{◌≡◌, ℕ, Bool, true, false, List, Some}
 use mathlib.Core.Logic.{◌⊎◌}
 use Rattle.ir.specs.declared.function.IrFunction.{IrFunction}
@@ -16,32 +16,40 @@ abbrev pub unwritten : Target → Fact
 unwritten (Root x i) = RootUnwritten x
 unwritten (Field b s x i) = Unwritten b s x
 
-abbrev pub read : Target → Fact
-read (Root x i) = ReadRoot x
-read (Field b s x i) = ReadField s x
+abbrev pub read_fact : Target → Fact
+read_fact (Root x i) = ReadRoot x
+read_fact (Field b s x i) = ReadField s x
 
 -- some walk reaches the place with the fact
 abbrev pub SomeWalk : List IrFunction → ℕ → ℕ → Fact → Type 0
-SomeWalk functions f p a = (k : Kept) × (calls : List Open) × Comes functions (at f p k calls) × (holds k a ≡ true)
+SomeWalk functions f p a = (k : Kept) × (calls : List Open) × Comes functions (at f p k calls)
+    × (holds k a ≡ true)
 
--- A store is clobber where some walk reaches it with its target not surely written, and some walk,
--- the same or another, reaches it with its class read before.
+-- A store is clobber if some walk reaches it with its target not surely written, and some walk, the
+-- same or another, reaches it with its class read before.
 abbrev pub IsClobber : List IrFunction → ℕ → ℕ → Type 0
-IsClobber functions f p = (target : Target) × (from : ℕ) × (line : ℕ) × (instruction_at functions f p ≡ Some (Store target from line)) × SomeWalk functions f p (unwritten target) × SomeWalk functions f p (read target)
+IsClobber functions f p = (target : Target) × (from : ℕ) × (line : ℕ)
+    × (instruction_at functions f p ≡ Some (Store target from line))
+    × SomeWalk functions f p (unwritten target) × SomeWalk functions f p (read_fact target)
 
--- The fill of a new object is clobber where some walk reaches it past a free.
+-- The fill of a new object is clobber if some walk reaches it after a free.
 abbrev pub IsClobberFill : List IrFunction → ℕ → ℕ → Type 0
-IsClobberFill functions f p = (to : ℕ) × (kind : ℕ) × (log_fill : Bool) × (line : ℕ) × (instruction_at functions f p ≡ Some (New to kind log_fill line)) × SomeWalk functions f p Freed
+IsClobberFill functions f p = (to : ℕ) × (kind : ℕ) × (log_fill : Bool) × (line : ℕ)
+    × (instruction_at functions f p ≡ Some (New to kind log_fill line))
+    × SomeWalk functions f p Freed
 
--- A header's store always counts as clobber, that of a new object and that of a free, reached or not.
-abbrev pub IsHeader : List IrFunction → ℕ → ℕ → Type 0
-IsHeader functions f p =
-    ((to : ℕ) × (kind : ℕ) × (log_fill : Bool) × (line : ℕ) × (instruction_at functions f p ≡ Some (New to kind log_fill line)))
-    ⊎ ((from : ℕ) × (kind : ℕ) × (line : ℕ) × (instruction_at functions f p ≡ Some (Free from kind line)))
+-- A store to a header always counts as clobber, that of a new object and that of a free, whether a
+-- walk reaches it or not.
+abbrev pub WritesHeader : List IrFunction → ℕ → ℕ → Type 0
+WritesHeader functions f p =
+    ((to : ℕ) × (kind : ℕ) × (log_fill : Bool) × (line : ℕ)
+    × (instruction_at functions f p ≡ Some (New to kind log_fill line)))
+    ⊎ ((from : ℕ) × (kind : ℕ) × (line : ℕ)
+    × (instruction_at functions f p ≡ Some (Free from kind line)))
 
 abbrev pub LoggedAt : List IrFunction → Bool → ℕ → ℕ → Type 0
 LoggedAt functions true f p = IsClobberFill functions f p
-LoggedAt functions false f p = IsClobber functions f p ⊎ IsHeader functions f p
+LoggedAt functions false f p = IsClobber functions f p ⊎ WritesHeader functions f p
 
 -- The sites whose old values are logged.
 abbrev pub IsLogged : List IrFunction → Site → Type 0

@@ -7,3 +7,4 @@ pub mod Derived
 pub mod Matched
 pub mod Clobber
 pub mod Short
+pub mod inside

@@ -1,5 +1,6 @@
 -- The places of a code, and which place leads to which: an instruction leads to the next place, a
--- jump to its target, a branch to both; a call, a return and a trap lead nowhere within a function.
+-- jump to its target, a branch to both; a call, a return and a trap lead nowhere within their
+-- function.
 use Rattle.std.specs.Prelude.{◌≡◌, ℕ, suc, true, List, Option, Some, slice_get, option_and_then}
 use mathlib.Core.Logic.{◌⊎◌}
 use Rattle.ir.specs.declared.function.IrFunction.{IrFunction}
@@ -8,7 +9,8 @@ use Rattle.ir.specs.declared.instruction.Instruction.TheVariants.{Const, Copy, B
 
 -- the instruction at a place of a function
 abbrev pub instruction_at : List IrFunction → ℕ → ℕ → Option Instruction
-instruction_at functions f p = option_and_then (λ (u : IrFunction). slice_get u.code p) (slice_get functions f)
+instruction_at functions f p =
+    option_and_then (λ (u : IrFunction). slice_get u.code p) (slice_get functions f)
 
 -- a function is a transaction
 abbrev pub IsTransaction : List IrFunction → ℕ → Type 0
@@ -31,10 +33,10 @@ Leads (Free from kind line) p q = q ≡ suc p
 Leads Tick p q = q ≡ suc p
 Leads (Log t) p q = q ≡ suc p
 
--- a call stands at a place
+-- there is a call at this place
 abbrev pub CallsAt : List IrFunction → ℕ → ℕ → ℕ → ℕ → List ℕ → Type 0
 CallsAt functions f p to g args = instruction_at functions f p ≡ Some (Call to g args)
 
--- a return stands at a place
+-- there is a return at this place
 abbrev pub ReturnsAt : List IrFunction → ℕ → ℕ → Type 0
 ReturnsAt functions f p = (from : ℕ) × (instruction_at functions f p ≡ Some (Return from))

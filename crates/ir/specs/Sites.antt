@@ -1,5 +1,6 @@
--- The store sites of a program, in code order: each function in turn, and in it each instruction.
--- A store and a free have one site each; a new has two, its header's and then its fill's.
+-- The store sites of a program, in code order: function by function, and in each function
+-- instruction by instruction. A store and a free have one site each; a new has two, first its
+-- header's and then its fill's.
 use Rattle.std.specs.Prelude.{ℕ, ◌+◌, List, [], ◌∷◌, ◌++◌, true, false}
 use Rattle.ir.specs.declared.instruction.Instruction.{Instruction}
 use Rattle.ir.specs.declared.instruction.Instruction.TheVariants.{Const, Copy, Bin, Jump, Branch, Load, Store, New, Free, Call, Return, Tick, Trap, Log}
@@ -9,7 +10,8 @@ use Rattle.ir.specs.declared.site.Site.{Site}
 -- the sites of the instruction at place p of function f
 abbrev pub sites_at : ℕ → ℕ → Instruction → List Site
 sites_at f p (Store target from line) = record { function = f; place = p; fill = false } ∷ []
-sites_at f p (New to kind log_fill line) = record { function = f; place = p; fill = false } ∷ record { function = f; place = p; fill = true } ∷ []
+sites_at f p (New to kind log_fill line) = record { function = f; place = p; fill = false }
+    ∷ record { function = f; place = p; fill = true } ∷ []
 sites_at f p (Free from kind line) = record { function = f; place = p; fill = false } ∷ []
 sites_at f p (Const to value) = []
 sites_at f p (Copy to from) = []

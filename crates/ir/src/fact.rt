@@ -1,7 +1,8 @@
-//! What may hold at a place of the code, over all walks that come there.
+//! The facts of the static analysis: what may hold at a place of the code, over all walks that
+//! reach it.
 
-/// One fact: a walk is here; a field isn't surely written through a register; a root field isn't
-/// surely written; a class was read before; a `pm_free` was passed.
+/// One fact: some walk reaches this place; a field isn't surely written through a register; a root
+/// field isn't surely written; a class was read before; a `pm_free` was passed.
 #[derive(Clone, Copy, PartialEq, Eq, Debug)]
 pub enum Fact {
     Here,
@@ -23,7 +24,7 @@ pub enum Fact {
     Freed,
 }
 
-/// The facts before an instruction, each of which gives the fact behind it.
+/// The facts before an instruction, any of which gives the fact after it.
 #[derive(Clone, Copy, PartialEq, Eq, Debug)]
 pub enum Origins {
     Nowhere,
@@ -31,7 +32,7 @@ pub enum Origins {
     Two(Fact, Fact),
 }
 
-/// Where a fact behind a call comes from: the callee's return, or the place of the call.
+/// The origin of a fact after a call: the callee's return, or the place of the call.
 #[derive(Clone, Copy, PartialEq, Eq, Debug)]
 pub enum Back {
     FromReturn(Fact),

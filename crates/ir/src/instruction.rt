@@ -8,7 +8,7 @@ use pool_map::TrapKind;
 use std::alloc::{AllocError, Global};
 
 /// What a load reads and a store writes: a field of the root, or a field of the object in the slot
-/// that `base` holds. There is an index register exactly where the field is an array.
+/// that `base` holds. It has an index register exactly if the field is an array.
 #[derive(Clone, Copy, Debug, PartialEq, Eq)]
 pub enum Target {
     Root {
@@ -46,38 +46,38 @@ pub enum Instruction {
     Jump {
         place: u32,
     },
-    /// Goes to `place` where `on` is 0.
+    /// Goes to `place` if `on` is 0.
     Branch {
         on: u32,
         place: u32,
     },
-    /// `to` := the word at the target, behind the target's checks.
+    /// `to` := the word at the target, after the target's checks.
     Load {
         to: u32,
         target: Target,
     },
-    /// The word at the target := `from`, behind the target's checks. The line is that of the
+    /// The word at the target := `from`, after the target's checks. The line is that of the
     /// assigning operator.
     Store {
         target: Target,
         from: u32,
         line: u64,
     },
-    /// `to` := the least free slot, which now holds a blank object, or 0 where no slot is free.
-    /// The line is that of `pm_new`.
+    /// `to` := the least free slot, which now holds a blank object, or 0 if no slot is free. The
+    /// line is that of `pm_new`.
     New {
         to: u32,
         kind: u32,
         log_fill: bool,
         line: u64,
     },
-    /// Frees the slot that `from` holds, behind its checks. The line is that of `pm_free`.
+    /// Frees the slot that `from` holds, after its checks. The line is that of `pm_free`.
     Free {
         from: u32,
         kind: u32,
         line: u64,
     },
-    /// `to` := what the function gives for these registers; a trap where 256 functions are open.
+    /// `to` := the result of the function for these registers; a trap if 256 functions are open.
     Call {
         to: u32,
         function: u32,
@@ -86,12 +86,12 @@ pub enum Instruction {
     Return {
         from: u32,
     },
-    /// Takes a tick; a trap where none is left.
+    /// Takes a tick; a trap if none is left.
     Tick,
     Trap {
         kind: TrapKind,
     },
-    /// The old value of the store that follows is logged. It has no effect on the pool.
+    /// Logs the old value of the store that follows. It has no effect on the pool.
     Log {
         target: Target,
     },
@@ -108,7 +108,7 @@ fn registers_copy(alloc: Global, registers: &Registers) -> Result<Registers, All
 }
 
 impl Instruction {
-    /// The same instruction once more. A call alone takes memory.
+    /// A copy of the instruction. Only a call takes memory.
     pub fn copy(&self, alloc: Global) -> Result<Instruction, AllocError>
         ensures { IfOk result (λ i. i ≡ self.now) }
     {

@@ -1,6 +1,6 @@
-//! Three-address code: what a program is between its tree and the machine. It stands on `pool_map`
-//! and `nvm_base`. Its one contract for the crates above: the code's meaning over pools, its store
-//! sites, and the walks through it.
+//! Intermediate code (three-address code): a program between its tree and the machine. It rests on
+//! `pool_map` and `nvm_base`. Its one contract for the crates above: the form of the code, its
+//! store sites, and the walks through it.
 #![tactic(auto)]
 
 mod fact;

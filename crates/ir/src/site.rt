@@ -1,16 +1,16 @@
-//! The store sites of a program: where it writes into the pool.
+//! The store sites of a program: the places where it writes into the pool.
 
-ghost use Rattle.std.specs.Prelude.{[], ◌∷◌, ◌++◌, ◌≡◌, ◌<◌, ◌≤◌, ◌+◌, ◌^◌, length, OnOk, OnErr, IfOk};
+ghost use Rattle.std.specs.Prelude.{◌++◌, ◌≡◌, ◌<◌, ◌^◌, length, OnOk, IfOk};
 ghost use Rattle.ir.specs.Sites.{sites_at, sites_from, sites_of};
 ghost use Rattle.ir.specs.WellFormed.{IsWellFormed};
 
 use crate::function::{Ir, IrFunction};
 use crate::instruction::Instruction;
+use nvm_base::List;
 use std::alloc::{AllocError, Global};
-use std::marker::Model;
 
 /// A store, a `pm_free`, or the header or the fill of a `pm_new`, by its function and place. `fill`
-/// is true for the field words of a `pm_new` alone.
+/// is true only for the field words of a `pm_new`.
 #[derive(Clone, Copy, Debug, PartialEq, Eq)]
 pub struct Site {
     pub function: u32,
@@ -18,48 +18,10 @@ pub struct Site {
     pub fill: bool,
 }
 
-/// Store sites, seen as a list.
-#[derive(Drop)]
-pub struct Sites {
-    all: Vec<Site>,
-}
+/// Store sites.
+pub type Sites = List<Site>;
 
-impl Model for Sites {
-    ghost use Rattle.std.specs.Prelude.{List};
-    ghost use Rattle.ir.specs.declared.site.Site.{Site};
-
-    ghost Value = { List Site };
-
-    ghost view = { λ s. s.all.items };
-}
-
-impl Sites {
-    /// The empty list. It takes no memory.
-    pub fn new(alloc: Global) -> Self
-        ensures { result ≡ [] }
-    {
-        Sites {
-            all: Vec::new(alloc),
-        }
-    }
-
-    /// Puts one site at the end.
-    pub fn push(&mut self, site: Site) -> Result<(), AllocError>
-        ensures ok { OnOk result (self.new ≡ self.old ++ site ∷ []) }
-        ensures err { OnErr result (self.new ≡ self.old) }
-    {
-        self.all.push(site)?;
-        Ok(())
-    }
-
-    pub fn as_slice(&self) -> &[Site]
-        ensures { result.now ≡ self.now }
-    {
-        &self.all
-    }
-}
-
-/// Puts the sites of one instruction at the end.
+/// Appends the sites of one instruction.
 fn push_sites(
     sites: &mut Sites,
     function: u32,
@@ -97,7 +59,7 @@ fn push_sites(
     }
 }
 
-/// Puts the sites of one function at the end.
+/// Appends the sites of one function.
 fn push_function(sites: &mut Sites, function: u32, code: &[Instruction]) -> Result<(), AllocError>
     requires { length code.now < 2 ^ 31 }
     ensures { OnOk result (sites.new ≡ sites.old ++ sites_from function 0 code.now) }

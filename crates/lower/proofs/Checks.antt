@@ -1,22 +1,26 @@
--- From tests of lists to what holds of each element.
+-- From tests of lists to facts about each element.
 use Rattle.std.proofs.Common.{◌≡◌, ℕ, suc, ◌+◌, ◌-◌, ◌<◌, List, [], ◌∷◌, length, get_or, drop, arith}
 use Rattle.std.specs.Prelude.{None, Some, slice_get}
 use Rattle.std.specs.List.{AllByRecursion}
 use Rattle.c_types.proofs.Elements.{drop_at}
 use Rattle.ir.specs.declared.instruction.Instruction.{Instruction}
-use Rattle.ir.specs.WellFormed.{EndsWell, IsEnd}
+use Rattle.ir.specs.WellFormed.{EndsWell, StopsRun}
 
--- what holds of the element here and of those behind it
-pub all_from : {A : Type 0} (P : A → Type 0) (xs : List A) (i : ℕ) (x : A) → i < length xs → x ≡ get_or xs i x → P x → AllByRecursion P (drop (i + 1) xs) → AllByRecursion P (drop i xs)
-all_from P xs i x lt is here behind = rw (drop_at xs i x lt is) (here, behind)
+-- what holds of the element here and of those after it
+pub all_from : {A : Type 0} (P : A → Type 0) (xs : List A) (i : ℕ) (x : A) → i < length xs
+    → x ≡ get_or xs i x → P x → AllByRecursion P (drop (i + 1) xs) → AllByRecursion P (drop i xs)
+all_from P xs i x lt is here afterwards = rw (drop_at xs i x lt is) (here, afterwards)
 
-pub all_behind : {A : Type 0} (P : A → Type 0) (xs : List A) (i : ℕ) (x : A) → i < length xs → x ≡ get_or xs i x → AllByRecursion P (drop i xs) → AllByRecursion P (drop (i + 1) xs)
-all_behind P xs i x lt is all = (rw (drop_at xs i x lt is) at all).1
+pub all_after : {A : Type 0} (P : A → Type 0) (xs : List A) (i : ℕ) (x : A) → i < length xs
+    → x ≡ get_or xs i x → AllByRecursion P (drop i xs) → AllByRecursion P (drop (i + 1) xs)
+all_after P xs i x lt is all = (rw (drop_at xs i x lt is) at all).1
 
-pub all_here : {A : Type 0} (P : A → Type 0) (xs : List A) (i : ℕ) (x : A) → i < length xs → x ≡ get_or xs i x → AllByRecursion P (drop i xs) → P x
+pub all_here : {A : Type 0} (P : A → Type 0) (xs : List A) (i : ℕ) (x : A) → i < length xs
+    → x ≡ get_or xs i x → AllByRecursion P (drop i xs) → P x
 all_here P xs i x lt is all = (rw (drop_at xs i x lt is) at all).0
 
-pub ends_well : (xs : List Instruction) (x : Instruction) → slice_get xs (length xs - 1) ≡ Some x → IsEnd x → EndsWell xs
+pub ends_well : (xs : List Instruction) (x : Instruction) → slice_get xs (length xs - 1) ≡ Some x
+    → StopsRun x → EndsWell xs
 ends_well [] x is end = absurd (some_none is)
   where
     some_none : {x : Instruction} → None ≡ Some x → ⊥
@@ -27,11 +31,14 @@ ends_well (y ∷ []) x is end = rw (some_same is) end
     some_same e = cc
 ends_well (y ∷ z ∷ zs) x is end = ends_well (z ∷ zs) x (one_less is) end
   where
-    one_less : slice_get (y ∷ z ∷ zs) (length (y ∷ z ∷ zs) - 1) ≡ Some x → slice_get (z ∷ zs) (length (z ∷ zs) - 1) ≡ Some x
-    one_less e = let n : length (y ∷ z ∷ zs) - 1 ≡ suc (length (z ∷ zs) - 1) = omega arith in rw n at e
+    one_less : slice_get (y ∷ z ∷ zs) (length (y ∷ z ∷ zs) - 1) ≡ Some x
+        → slice_get (z ∷ zs) (length (z ∷ zs) - 1) ≡ Some x
+    one_less e = let n : length (y ∷ z ∷ zs) - 1 ≡ suc (length (z ∷ zs) - 1) = omega arith in
+        rw n at e
 
--- and back
-pub last_ends : (xs : List Instruction) (x : Instruction) → slice_get xs (length xs - 1) ≡ Some x → EndsWell xs → IsEnd x
+-- and the converse
+pub last_ends : (xs : List Instruction) (x : Instruction) → slice_get xs (length xs - 1) ≡ Some x
+    → EndsWell xs → StopsRun x
 last_ends [] x is end = absurd end
 last_ends (y ∷ []) x is end = rw (← some_same is) end
   where
@@ -39,8 +46,10 @@ last_ends (y ∷ []) x is end = rw (← some_same is) end
     some_same e = cc
 last_ends (y ∷ z ∷ zs) x is end = last_ends (z ∷ zs) x (one_less is) end
   where
-    one_less : slice_get (y ∷ z ∷ zs) (length (y ∷ z ∷ zs) - 1) ≡ Some x → slice_get (z ∷ zs) (length (z ∷ zs) - 1) ≡ Some x
-    one_less e = let n : length (y ∷ z ∷ zs) - 1 ≡ suc (length (z ∷ zs) - 1) = omega arith in rw n at e
+    one_less : slice_get (y ∷ z ∷ zs) (length (y ∷ z ∷ zs) - 1) ≡ Some x
+        → slice_get (z ∷ zs) (length (z ∷ zs) - 1) ≡ Some x
+    one_less e = let n : length (y ∷ z ∷ zs) - 1 ≡ suc (length (z ∷ zs) - 1) = omega arith in
+        rw n at e
 
 pub none_ends : (xs : List Instruction) → slice_get xs (length xs - 1) ≡ None → EndsWell xs → ⊥
 none_ends [] is end = end
@@ -50,7 +59,9 @@ none_ends (y ∷ []) is end = some_none is
     some_none e = cc
 none_ends (y ∷ z ∷ zs) is end = none_ends (z ∷ zs) (one_less is) end
   where
-    one_less : slice_get (y ∷ z ∷ zs) (length (y ∷ z ∷ zs) - 1) ≡ None → slice_get (z ∷ zs) (length (z ∷ zs) - 1) ≡ None
-    one_less e = let n : length (y ∷ z ∷ zs) - 1 ≡ suc (length (z ∷ zs) - 1) = omega arith in rw n at e
+    one_less : slice_get (y ∷ z ∷ zs) (length (y ∷ z ∷ zs) - 1) ≡ None
+        → slice_get (z ∷ zs) (length (z ∷ zs) - 1) ≡ None
+    one_less e = let n : length (y ∷ z ∷ zs) - 1 ≡ suc (length (z ∷ zs) - 1) = omega arith in
+        rw n at e
 
 pub ruleset ends = (ends_well, last_ends, none_ends)

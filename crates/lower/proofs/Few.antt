@@ -10,10 +10,10 @@ use Rattle.c_types.specs.declared.fault.LimitKind.TheVariants as limit
 use Rattle.c_types.specs.Broken.{unless}
 use Rattle.c_types.specs.Tables.{Tables, tables_of}
 use Rattle.c_types.specs.Expressions.{Scope}
-use Rattle.c_types.specs.Statements.{inside, type_broken, is_declared}
+use Rattle.c_types.specs.Statements.{inner_scopes, type_broken, is_declared}
 use Rattle.c_types.specs.Fault.{breaks}
-use Rattle.c_types.specs.Declarations.{structs_broken, roots_broken, function_broken, body_broken, parameter_broken, parameters_broken, functions_broken, behind_parameter}
-use Rattle.lower.specs.Program.{take_few}
+use Rattle.c_types.specs.Declarations.{structs_broken, roots_broken, function_broken, body_broken, parameter_broken, parameters_broken, functions_broken, scopes_after_parameter}
+use Rattle.lower.specs.inside.Program.{take_few}
 
 -- a list that is empty has no parts
 pub none_left : {A : Type 0} (xs ys : List A) → xs ++ ys ≡ [] → xs ≡ []
@@ -59,29 +59,46 @@ le_true a b le = search (rules)
 pub lt_true : (a b : ℕ) → a < b → nat_lt a b ≡ true
 lt_true a b lt = search (rules)
 
-pub few_parameters : (t : Tables) (s : List Scope) (i : ℕ) (ps : List ParameterTree) → i ≤ 22 → parameters_broken t s i ps ≡ [] → i + length ps ≤ 22
+pub few_parameters : (t : Tables) (s : List Scope) (i : ℕ) (ps : List ParameterTree) → i ≤ 22
+    → parameters_broken t s i ps ≡ [] → i + length ps ≤ 22
 few_parameters t s i [] le e = omega (arith, le)
 few_parameters t s i (p ∷ ps) le e =
-    let here : parameter_broken t s i p ≡ [] = none_left (parameter_broken t s i p) (parameters_broken t (behind_parameter t s p) (i + 1) ps) e in
-    let rest : parameters_broken t (behind_parameter t s p) (i + 1) ps ≡ [] = none_right (parameter_broken t s i p) (parameters_broken t (behind_parameter t s p) (i + 1) ps) e in
-    let room : i + 1 ≤ 22 = not_at 22 i le (kept (not (nat_eq i 22)) p.name.place (TooBig limit.Parameters 23)
-    (none_left (unless (not (nat_eq i 22)) p.name.place (TooBig limit.Parameters 23)) (unless (not (is_declared p.name.text s)) p.name.place Twice) (none_right (type_broken t p.ty) _ here))) in
-    let less : (i + 1) + length ps ≤ 22 = few_parameters t (behind_parameter t s p) (i + 1) ps room rest in
+    let here : parameter_broken t s i p ≡ [] =
+    none_left (parameter_broken t s i p)
+    (parameters_broken t (scopes_after_parameter t s p) (i + 1) ps) e in
+    let rest : parameters_broken t (scopes_after_parameter t s p) (i + 1) ps ≡ [] =
+    none_right (parameter_broken t s i p)
+    (parameters_broken t (scopes_after_parameter t s p) (i + 1) ps) e in
+    let room : i + 1 ≤ 22 = not_at 22 i le
+    (kept (not (nat_eq i 22)) p.name.place (TooBig limit.Parameters 23)
+    (none_left (unless (not (nat_eq i 22)) p.name.place (TooBig limit.Parameters 23))
+    (unless (not (is_declared p.name.text s)) p.name.place Twice)
+    (none_right (type_broken t p.ty) _ here))) in
+    let less : (i + 1) + length ps ≤ 22 =
+    few_parameters t (scopes_after_parameter t s p) (i + 1) ps room rest in
     omega (arith, less)
 
-few_from : (t : Tables) (i : ℕ) (fs : List FunctionTree) → functions_broken t i fs ≡ [] → take_few fs ≡ true
+few_from : (t : Tables) (i : ℕ) (fs : List FunctionTree) → functions_broken t i fs ≡ []
+    → take_few fs ≡ true
 few_from t i [] e = refl
 few_from t i (f ∷ fs) e =
-    let here : function_broken t i f ++ body_broken t f ≡ [] = none_left (function_broken t i f ++ body_broken t f) (functions_broken t (i + 1) fs) e in
+    let here : function_broken t i f ++ body_broken t f ≡ [] =
+    none_left (function_broken t i f ++ body_broken t f) (functions_broken t (i + 1) fs) e in
     let body : body_broken t f ≡ [] = none_right (function_broken t i f) (body_broken t f) here in
-    let few : 0 + length f.parameters ≤ 22 = few_parameters t (inside []) 0 f.parameters (omega arith) (none_left (parameters_broken t (inside []) 0 f.parameters) _ body) in
-    let rest : take_few fs ≡ true = few_from t (i + 1) fs (none_right (function_broken t i f ++ body_broken t f) (functions_broken t (i + 1) fs) e) in
+    let few : 0 + length f.parameters ≤ 22 =
+    few_parameters t (inner_scopes []) 0 f.parameters (omega arith)
+    (none_left (parameters_broken t (inner_scopes []) 0 f.parameters) _ body) in
+    let rest : take_few fs ≡ true =
+    few_from t (i + 1) fs (none_right (function_broken t i f ++ body_broken t f)
+    (functions_broken t (i + 1) fs) e) in
     rw (rest, lt_true (length f.parameters) 65536 (omega (arith, few))) refl
 
-pub few_functions : (tree : Program) → breaks tree ≡ [] → take_few (tables_of (tree_of tree)).functions ≡ true
+pub few_functions : (tree : Program) → breaks tree ≡ []
+    → take_few (tables_of (tree_of tree)).functions ≡ true
 few_functions tree e =
     let t : Tables = tables_of (tree_of tree) in
-    few_from t 0 t.functions (none_right (unless (is_some (slice_get t.roots 0)) (length tree.lines) NoRoot) (functions_broken t 0 t.functions)
+    few_from t 0 t.functions (none_right (unless (is_some (slice_get t.roots 0)) (length tree.lines)
+    NoRoot) (functions_broken t 0 t.functions)
     (none_right (roots_broken t 0 t.roots) _ (none_right (structs_broken t 0 t.structs) _ e)))
 
 pub ruleset few = (few_functions)

@@ -1,4 +1,4 @@
--- What is written for a function, put together.
+-- The code written for a function, put together.
 use Rattle.std.proofs.Common.{◌≡◌, ℕ, suc, ◌<◌, ◌≤◌, ◌^◌, pos, Bool, true, false, List, [], ◌∷◌, ◌++◌, length, map, refl, ap, ◌∙◌, arith, append_assoc}
 use Rattle.std.specs.Prelude.{if◌then◌else◌}
 use Rattle.std.proofs.lemmas.List.{map-append}
@@ -7,117 +7,175 @@ use Rattle.c_parser.specs.ItemTree.{FunctionTree, ParameterTree}
 use Rattle.c_types.specs.Tables.{declared_type}
 use Rattle.ir.specs.declared.instruction.Instruction.{Instruction}
 use Rattle.ir.specs.declared.instruction.Instruction.TheVariants.{Const, Copy, Return}
-use Rattle.lower.specs.Names.{Variables, declared}
+use Rattle.lower.specs.Names.{Variables, variable_declared}
 use Rattle.lower.specs.Assigned.{is_assigned}
-use Rattle.lower.specs.Holes.{leave, filled, fill_from}
+use Rattle.lower.specs.inside.Holes.{leave, hole_filled, fill_from}
 use Rattle.lower.specs.Lowers.{Context, statements_end, statements_code}
-use Rattle.lower.specs.Program.{parameters_end, parameters_code, behind_parameters, no_variables, function_code, function_end}
-use Rattle.lower.specs.Added.{Put, StatementsAdded, ParameterAdded, ParametersAdded}
+use Rattle.lower.specs.Program.{parameters_end, parameters_code, variables_after_parameters, no_variables, function_code}
+use Rattle.lower.specs.inside.Program.{function_end}
+use Rattle.lower.specs.inside.Added.{Put, StatementsAdded, ParameterAdded, ParametersAdded}
 use Rattle.lower.proofs.ExprAdds.{put_long, one_more, seam}
 use Rattle.lower.proofs.StmtAdds.{fill_from_long}
-use Rattle.lower.proofs.Filled.{statements_filled, fill_from_behind}
+use Rattle.lower.proofs.Filled.{statements_filled, fill_from_after}
 
-parameters_code_case : (b : Bool) (k : Context) (body : Statements) (n : ℕ) (xs : List ParameterTree) (c c1 : List Instruction)
+parameters_code_case : (b : Bool) (k : Context) (body : Statements) (n : ℕ)
+    (xs : List ParameterTree) (c c1 : List Instruction)
     → c1 ≡ (if b then c ++ Copy (k.node (suc (length c))) n ∷ [] else c)
     → c1 ++ parameters_code k body (suc n) xs (length c1)
-    ≡ c ++ (if b then Copy (k.node (suc (length c))) n ∷ parameters_code k body (suc n) xs (suc (length c)) else parameters_code k body (suc n) xs (length c))
+    ≡ c ++ (if b then Copy (k.node (suc (length c))) n ∷ parameters_code k body (suc n) xs
+    (suc (length c)) else parameters_code k body (suc n) xs (length c))
 parameters_code_case true k body n xs c c1 e =
     let long : length c1 ≡ suc (length c) = one_more c c1 (Copy (k.node (suc (length c))) n) e in
     ap (λ q. c1 ++ parameters_code k body (suc n) xs q) long
     ∙ ap (λ l. l ++ parameters_code k body (suc n) xs (suc (length c))) e
-    ∙ append_assoc c (Copy (k.node (suc (length c))) n ∷ []) (parameters_code k body (suc n) xs (suc (length c)))
-parameters_code_case false k body n xs c c1 e = ap (λ l. l ++ parameters_code k body (suc n) xs (length l)) e
+    ∙ append_assoc c (Copy (k.node (suc (length c))) n ∷ [])
+    (parameters_code k body (suc n) xs (suc (length c)))
+parameters_code_case false k body n xs c c1 e =
+    ap (λ l. l ++ parameters_code k body (suc n) xs (length l)) e
 
-pub parameters_code_more : (k : Context) (body : Statements) (n : ℕ) (x : ParameterTree) (xs : List ParameterTree) (b : Bool) (c c1 : List Instruction) (r : ℕ)
+pub parameters_code_more : (k : Context) (body : Statements) (n : ℕ) (x : ParameterTree)
+    (xs : List ParameterTree) (b : Bool) (c c1 : List Instruction) (r : ℕ)
     → b ≡ is_assigned x.name.text body → ParameterAdded k b n c c1 r
-    → c1 ++ parameters_code k body (suc n) xs (length c1) ≡ c ++ parameters_code k body n (x ∷ xs) (length c)
+    → c1 ++ parameters_code k body (suc n) xs (length c1) ≡ c ++ parameters_code k body n (x ∷ xs)
+    (length c)
 parameters_code_more k body n x xs b c c1 r is h =
     parameters_code_case b k body n xs c c1 h.code
-    ∙ ap (λ (a : Bool). c ++ (if a then Copy (k.node (suc (length c))) n ∷ parameters_code k body (suc n) xs (suc (length c)) else parameters_code k body (suc n) xs (length c))) is
+    ∙ ap (λ (a : Bool). c ++ (if a then Copy (k.node (suc (length c))) n ∷ parameters_code k body
+    (suc n) xs (suc (length c)) else parameters_code k body (suc n) xs (length c))) is
 
-parameters_end_case : (b : Bool) (k : Context) (body : Statements) (n : ℕ) (xs : List ParameterTree) (c c1 : List Instruction)
+parameters_end_case : (b : Bool) (k : Context) (body : Statements) (n : ℕ) (xs : List ParameterTree)
+    (c c1 : List Instruction)
     → c1 ≡ (if b then c ++ Copy (k.node (suc (length c))) n ∷ [] else c)
-    → parameters_end body xs (length c1) ≡ parameters_end body xs (if b then suc (length c) else length c)
-parameters_end_case true k body n xs c c1 e = ap (parameters_end body xs) (one_more c c1 (Copy (k.node (suc (length c))) n) e)
+    → parameters_end body xs (length c1) ≡ parameters_end body xs (if b then suc (length c)
+    else length c)
+parameters_end_case true k body n xs c c1 e =
+    ap (parameters_end body xs) (one_more c c1 (Copy (k.node (suc (length c))) n) e)
 parameters_end_case false k body n xs c c1 e = ap (λ l. parameters_end body xs (length l)) e
 
-pub parameters_end_more : (k : Context) (body : Statements) (n : ℕ) (x : ParameterTree) (xs : List ParameterTree) (b : Bool) (c c1 : List Instruction) (r : ℕ)
+pub parameters_end_more : (k : Context) (body : Statements) (n : ℕ) (x : ParameterTree)
+    (xs : List ParameterTree) (b : Bool) (c c1 : List Instruction) (r : ℕ)
     → b ≡ is_assigned x.name.text body → ParameterAdded k b n c c1 r
     → parameters_end body xs (length c1) ≡ parameters_end body (x ∷ xs) (length c)
 parameters_end_more k body n x xs b c c1 r is h =
-    parameters_end_case b k body n xs c c1 h.code ∙ ap (λ (a : Bool). parameters_end body xs (if a then suc (length c) else length c)) is
+    parameters_end_case b k body n xs c c1 h.code
+    ∙ ap (λ (a : Bool). parameters_end body xs (if a then suc (length c) else length c)) is
 
-behind_case : (b : Bool) (k : Context) (body : Statements) (n : ℕ) (x : ParameterTree) (xs : List ParameterTree) (c c1 : List Instruction) (r : ℕ) (v : Variables)
-    → c1 ≡ (if b then c ++ Copy (k.node (suc (length c))) n ∷ [] else c) → r ≡ (if b then k.node (suc (length c)) else n)
-    → behind_parameters k body (suc n) xs (length c1) (declared x.name.text (declared_type k.tables x.ty) r v)
-    ≡ (if b then behind_parameters k body (suc n) xs (suc (length c)) (declared x.name.text (declared_type k.tables x.ty) (k.node (suc (length c))) v)
-    else behind_parameters k body (suc n) xs (length c) (declared x.name.text (declared_type k.tables x.ty) n v))
-behind_case true k body n x xs c c1 r v e er =
-    ap (λ q. behind_parameters k body (suc n) xs q (declared x.name.text (declared_type k.tables x.ty) r v)) (one_more c c1 (Copy (k.node (suc (length c))) n) e)
-    ∙ ap (λ y. behind_parameters k body (suc n) xs (suc (length c)) (declared x.name.text (declared_type k.tables x.ty) y v)) er
-behind_case false k body n x xs c c1 r v e er =
-    ap (λ l. behind_parameters k body (suc n) xs (length l) (declared x.name.text (declared_type k.tables x.ty) r v)) e
-    ∙ ap (λ y. behind_parameters k body (suc n) xs (length c) (declared x.name.text (declared_type k.tables x.ty) y v)) er
+after_case : (b : Bool) (k : Context) (body : Statements) (n : ℕ) (x : ParameterTree)
+    (xs : List ParameterTree) (c c1 : List Instruction) (r : ℕ) (v : Variables)
+    → c1 ≡ (if b then c ++ Copy (k.node (suc (length c))) n ∷ [] else c)
+    → r ≡ (if b then k.node (suc (length c)) else n)
+    → variables_after_parameters k body (suc n) xs (length c1)
+    (variable_declared x.name.text (declared_type k.tables x.ty) r v)
+    ≡ (if b then variables_after_parameters k body (suc n) xs (suc (length c))
+    (variable_declared x.name.text (declared_type k.tables x.ty) (k.node (suc (length c))) v)
+    else variables_after_parameters k body (suc n) xs (length c)
+    (variable_declared x.name.text (declared_type k.tables x.ty) n v))
+after_case true k body n x xs c c1 r v e er =
+    ap (λ q. variables_after_parameters k body (suc n) xs q
+    (variable_declared x.name.text (declared_type k.tables x.ty) r v))
+    (one_more c c1 (Copy (k.node (suc (length c))) n) e)
+    ∙ ap (λ y. variables_after_parameters k body (suc n) xs (suc (length c))
+    (variable_declared x.name.text (declared_type k.tables x.ty) y v)) er
+after_case false k body n x xs c c1 r v e er =
+    ap (λ l. variables_after_parameters k body (suc n) xs (length l)
+    (variable_declared x.name.text (declared_type k.tables x.ty) r v)) e
+    ∙ ap (λ y. variables_after_parameters k body (suc n) xs (length c)
+    (variable_declared x.name.text (declared_type k.tables x.ty) y v)) er
 
-pub behind_parameters_more : (k : Context) (body : Statements) (n : ℕ) (x : ParameterTree) (xs : List ParameterTree) (b : Bool) (c c1 : List Instruction) (r : ℕ) (v u : Variables)
-    → b ≡ is_assigned x.name.text body → ParameterAdded k b n c c1 r → u ≡ declared x.name.text (declared_type k.tables x.ty) r v
-    → behind_parameters k body (suc n) xs (length c1) u ≡ behind_parameters k body n (x ∷ xs) (length c) v
-behind_parameters_more k body n x xs b c c1 r v u is h eu =
-    ap (behind_parameters k body (suc n) xs (length c1)) eu
-    ∙ behind_case b k body n x xs c c1 r v h.code h.register
-    ∙ ap (λ (a : Bool). if a then behind_parameters k body (suc n) xs (suc (length c)) (declared x.name.text (declared_type k.tables x.ty) (k.node (suc (length c))) v)
-    else behind_parameters k body (suc n) xs (length c) (declared x.name.text (declared_type k.tables x.ty) n v)) is
+pub after_parameters_more : (k : Context) (body : Statements) (n : ℕ) (x : ParameterTree)
+    (xs : List ParameterTree) (b : Bool) (c c1 : List Instruction) (r : ℕ) (v u : Variables)
+    → b ≡ is_assigned x.name.text body → ParameterAdded k b n c c1 r
+    → u ≡ variable_declared x.name.text (declared_type k.tables x.ty) r v
+    → variables_after_parameters k body (suc n) xs (length c1) u ≡ variables_after_parameters k body
+    n (x ∷ xs) (length c) v
+after_parameters_more k body n x xs b c c1 r v u is h eu =
+    ap (variables_after_parameters k body (suc n) xs (length c1)) eu
+    ∙ after_case b k body n x xs c c1 r v h.code h.register
+    ∙ ap (λ (a : Bool). if a then variables_after_parameters k body (suc n) xs (suc (length c))
+    (variable_declared x.name.text (declared_type k.tables x.ty) (k.node (suc (length c))) v)
+    else variables_after_parameters k body (suc n) xs (length c)
+    (variable_declared x.name.text (declared_type k.tables x.ty) n v)) is
 
 -- copies have no holes
-copy_filled : (b : Bool) (h place : ℕ) (i : Instruction) (then_code else_code : List Instruction) → filled h place i ≡ i → map (filled h place) then_code ≡ then_code → map (filled h place) else_code ≡ else_code
-    → map (filled h place) (if b then i ∷ then_code else else_code) ≡ (if b then i ∷ then_code else else_code)
-copy_filled true h place i then_code else_code ei ey en = ap (λ x. x ∷ map (filled h place) then_code) ei ∙ ap (λ l. i ∷ l) ey
+copy_filled : (b : Bool) (h place : ℕ) (i : Instruction) (then_code else_code : List Instruction)
+    → hole_filled h place i ≡ i → map (hole_filled h place) then_code ≡ then_code
+    → map (hole_filled h place) else_code ≡ else_code
+    → map (hole_filled h place) (if b then i ∷ then_code else else_code)
+    ≡ (if b then i ∷ then_code else else_code)
+copy_filled true h place i then_code else_code ei ey en =
+    ap (λ x. x ∷ map (hole_filled h place) then_code) ei ∙ ap (λ l. i ∷ l) ey
 copy_filled false h place i then_code else_code ei ey en = en
 
-parameters_filled : (k : Context) (body : Statements) (n : ℕ) (xs : List ParameterTree) (p h place : ℕ) → map (filled h place) (parameters_code k body n xs p) ≡ parameters_code k body n xs p
+parameters_filled : (k : Context) (body : Statements) (n : ℕ) (xs : List ParameterTree)
+    (p h place : ℕ) → map (hole_filled h place) (parameters_code k body n xs p) ≡ parameters_code k
+    body n xs p
 parameters_filled k body n [] p h place = refl
-parameters_filled k body n (x ∷ xs) p h place = copy_filled (is_assigned x.name.text body) h place (Copy (k.node (suc p)) n) (parameters_code k body (suc n) xs (suc p)) (parameters_code k body (suc n) xs p)
-    refl (parameters_filled k body (suc n) xs (suc p) h place) (parameters_filled k body (suc n) xs p h place)
+parameters_filled k body n (x ∷ xs) p h place =
+    copy_filled (is_assigned x.name.text body) h place (Copy (k.node (suc p)) n)
+    (parameters_code k body (suc n) xs (suc p)) (parameters_code k body (suc n) xs p)
+    refl (parameters_filled k body (suc n) xs (suc p) h place)
+    (parameters_filled k body (suc n) xs p h place)
 
-pub function_added : (k : Context) (f : FunctionTree) (c c1 c2 c3 c4 c5 : List Instruction) (v0 v u : Variables) (end from : ℕ)
-    → c ≡ [] → v0 ≡ no_variables → ParametersAdded k f.body f.parameters v0 c c1 v → StatementsAdded k v f.body leave leave c1 c2 u → end ≡ length c2 → length c2 ≤ 2 ^ 29
-    → c3 ≡ fill_from leave 0 end c2 → Put k (λ to. Const to (pos 0)) c3 c4 from → c5 ≡ c4 ++ Return from ∷ [] → c5 ≡ function_code k f
+pub function_added : (k : Context) (f : FunctionTree) (c c1 c2 c3 c4 c5 : List Instruction)
+    (v0 v u : Variables) (end from : ℕ)
+    → c ≡ [] → v0 ≡ no_variables → ParametersAdded k f.body f.parameters v0 c c1 v
+    → StatementsAdded k v f.body leave leave c1 c2 u → end ≡ length c2 → length c2 ≤ 2 ^ 29
+    → c3 ≡ fill_from leave 0 end c2 → Put k (λ to. Const to (pos 0)) c3 c4 from
+    → c5 ≡ c4 ++ Return from ∷ [] → c5 ≡ function_code k f
 function_added k f c c1 c2 c3 c4 c5 v0 v u end from h0 hv hp hs he small h3 hz h5 =
     let xs : List ParameterTree = f.parameters in
     let p : ℕ = parameters_end f.body xs 0 in
     let q : ℕ = statements_end f.body p in
     let P : List Instruction = parameters_code k f.body 0 xs 0 in
-    let W : Variables = behind_parameters k f.body 0 xs 0 no_variables in
+    let W : Variables = variables_after_parameters k f.body 0 xs 0 no_variables in
     let S : List Instruction = statements_code k W f.body leave leave p in
     let F : List Instruction = statements_code k W f.body q q p in
     let e1 : c1 ≡ P = hp.code ∙ ap (λ l. l ++ parameters_code k f.body 0 xs (length l)) h0 in
-    let l1 : length c1 ≡ p = hp.long ∙ ap (λ (l : List Instruction). parameters_end f.body xs (length l)) h0 in
-    let v' : v ≡ W = hp.variables ∙ ap (λ (l : List Instruction). behind_parameters k f.body 0 xs (length l) v0) h0 ∙ ap (behind_parameters k f.body 0 xs 0) hv in
-    let e2 : c2 ≡ P ++ S = hs.code ∙ ap (λ x. c1 ++ statements_code k x f.body leave leave (length c1)) v'
+    let l1 : length c1 ≡ p = hp.long
+    ∙ ap (λ (l : List Instruction). parameters_end f.body xs (length l)) h0 in
+    let v' : v ≡ W = hp.variables ∙ ap (λ (l : List Instruction).
+    variables_after_parameters k f.body 0 xs (length l) v0) h0
+    ∙ ap (variables_after_parameters k f.body 0 xs 0) hv in
+    let e2 : c2 ≡ P ++ S = hs.code
+    ∙ ap (λ x. c1 ++ statements_code k x f.body leave leave (length c1)) v'
     ∙ ap (λ n. c1 ++ statements_code k W f.body leave leave n) l1 ∙ ap (λ l. l ++ S) e1 in
     let l2 : length c2 ≡ q = hs.long ∙ ap (statements_end f.body) l1 in
     let qe : end ≡ q = he ∙ l2 in
     let room : statements_end f.body p < leave = omega (arith, l2, small) in
-    let e3 : c3 ≡ map (filled leave end) (P ++ S) = h3 ∙ ap (fill_from leave 0 end) e2 ∙ fill_from_behind leave [] (P ++ S) end in
-    let fs : map (filled leave end) S ≡ F = statements_filled k W f.body leave leave p leave end room ∙ ap (λ i. statements_code k W f.body i i p) qe in
-    let fp : map (filled leave end) P ≡ P = parameters_filled k f.body 0 xs 0 leave end in
-    let f3 : c3 ≡ P ++ F = e3 ∙ map-append (filled leave end) P S ∙ ap (λ l. l ++ map (filled leave end) S) fp ∙ ap (λ l. P ++ l) fs in
+    let e3 : c3 ≡ map (hole_filled leave end) (P ++ S) =
+    h3 ∙ ap (fill_from leave 0 end) e2 ∙ fill_from_after leave [] (P ++ S) end in
+    let fs : map (hole_filled leave end) S ≡ F =
+    statements_filled k W f.body leave leave p leave end room
+    ∙ ap (λ i. statements_code k W f.body i i p) qe in
+    let fp : map (hole_filled leave end) P ≡ P = parameters_filled k f.body 0 xs 0 leave end in
+    let f3 : c3 ≡ P ++ F = e3 ∙ map-append (hole_filled leave end) P S
+    ∙ ap (λ l. l ++ map (hole_filled leave end) S) fp ∙ ap (λ l. P ++ l) fs in
     let l3 : length c3 ≡ q = fill_from_long leave 0 end c2 c3 h3 ∙ l2 in
     let from' : from ≡ k.node (suc q) = hz.register ∙ ap (λ n. k.node (suc n)) l3 in
-    let s5 : c5 ≡ c3 ++ (Const from (pos 0) ∷ Return from ∷ []) = seam c3 c4 c5 (Const from (pos 0) ∷ []) (Return from ∷ []) hz.code h5 in
-    s5 ∙ ap (λ l. l ++ (Const from (pos 0) ∷ Return from ∷ [])) f3 ∙ append_assoc P F (Const from (pos 0) ∷ Return from ∷ [])
+    let s5 : c5 ≡ c3 ++ (Const from (pos 0) ∷ Return from ∷ []) =
+    seam c3 c4 c5 (Const from (pos 0) ∷ []) (Return from ∷ []) hz.code h5 in
+    s5 ∙ ap (λ l. l ++ (Const from (pos 0) ∷ Return from ∷ [])) f3
+    ∙ append_assoc P F (Const from (pos 0) ∷ Return from ∷ [])
     ∙ ap (λ x. P ++ (F ++ Const x (pos 0) ∷ Return x ∷ [])) from'
 
-pub function_long : (k : Context) (f : FunctionTree) (c c1 c2 c3 c4 c5 : List Instruction) (v0 v u : Variables) (end from : ℕ)
-    → c ≡ [] → ParametersAdded k f.body f.parameters v0 c c1 v → StatementsAdded k v f.body leave leave c1 c2 u
-    → c3 ≡ fill_from leave 0 end c2 → Put k (λ to. Const to (pos 0)) c3 c4 from → c5 ≡ c4 ++ Return from ∷ [] → length c5 ≡ function_end f
+pub function_long : (k : Context) (f : FunctionTree) (c c1 c2 c3 c4 c5 : List Instruction)
+    (v0 v u : Variables) (end from : ℕ)
+    → c ≡ [] → ParametersAdded k f.body f.parameters v0 c c1 v
+    → StatementsAdded k v f.body leave leave c1 c2 u
+    → c3 ≡ fill_from leave 0 end c2 → Put k (λ to. Const to (pos 0)) c3 c4 from
+    → c5 ≡ c4 ++ Return from ∷ [] → length c5 ≡ function_end f
 function_long k f c c1 c2 c3 c4 c5 v0 v u end from h0 hp hs h3 hz h5 =
-    let l1 : length c1 ≡ parameters_end f.body f.parameters 0 = hp.long ∙ ap (λ (l : List Instruction). parameters_end f.body f.parameters (length l)) h0 in
-    let l2 : length c2 ≡ statements_end f.body (parameters_end f.body f.parameters 0) = hs.long ∙ ap (statements_end f.body) l1 in
-    one_more c4 c5 (Return from) h5 ∙ ap suc (put_long k (λ to. Const to (pos 0)) c3 c4 from hz ∙ ap suc (fill_from_long leave 0 end c2 c3 h3 ∙ l2))
+    let l1 : length c1 ≡ parameters_end f.body f.parameters 0 =
+    hp.long ∙ ap (λ (l : List Instruction). parameters_end f.body f.parameters (length l)) h0 in
+    let l2 : length c2 ≡ statements_end f.body (parameters_end f.body f.parameters 0) =
+    hs.long ∙ ap (statements_end f.body) l1 in
+    one_more c4 c5 (Return from) h5 ∙ ap suc (put_long k (λ to. Const to (pos 0)) c3 c4 from hz
+    ∙ ap suc (fill_from_long leave 0 end c2 c3 h3 ∙ l2))
 
-pub parameter_copied : (k : Context) (n : ℕ) (c c1 : List Instruction) (r : ℕ) → Put k (λ to. Copy to n) c c1 r → ParameterAdded k true n c c1 r
-parameter_copied k n c c1 r h = record { code = h.code ∙ ap (λ x. c ++ Copy x n ∷ []) h.register; register = h.register }
+pub parameter_copied : (k : Context) (n : ℕ) (c c1 : List Instruction) (r : ℕ)
+    → Put k (λ to. Copy to n) c c1 r → ParameterAdded k true n c c1 r
+parameter_copied k n c c1 r h =
+    record { code = h.code ∙ ap (λ x. c ++ Copy x n ∷ []) h.register; register = h.register }
 
 pub parameter_kept : (k : Context) (n : ℕ) (c : List Instruction) → ParameterAdded k false n c c n
 parameter_kept k n c = record { code = refl; register = refl }

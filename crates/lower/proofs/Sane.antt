@@ -1,4 +1,4 @@
--- What holds of the tables of a program that breaks no rule: what names mean is there.
+-- Facts on the tables of a program that breaks no rule: what names mean exists.
 use Rattle.std.proofs.Common.{◌≡◌, ℕ, zero, suc, ◌+◌, ◌-◌, ◌^◌, ◌≤◌, ◌<◌, min, pos, negsuc, Bool, true, false, List, [], ◌∷◌, ◌++◌, length, map, refl, ap, ◌∙◌, arith, rules}
 use Rattle.std.specs.Prelude.{nat_le, nat_eq, ◌&&◌, ◌||◌, not, if◌then◌else◌, is_some, slice_get, Option, None, Some, option_map, option_and_then, bytes_eq}
 use Rattle.std.specs.Option.{option_map_or}
@@ -8,30 +8,36 @@ use Rattle.c_parser.specs.Program.{Program, tree_of}
 use Rattle.c_types.specs.declared.broken.Rule.TheVariants.{UnknownName, Twice, TooBig, NoRoot, BadTx}
 use Rattle.c_types.specs.declared.fault.LimitKind.TheVariants as limit
 use Rattle.c_types.specs.Broken.{unless}
-use Rattle.c_types.specs.Tables.{Tables, StructTree, RootTree, tables_of, index_of, function_names, field_names, struct_named, field_named, is_first, is_length, length_words, field_words, words_from, words_of, root_struct, number_at, numbered_up_to}
+use Rattle.c_types.specs.Tables.{Tables, StructTree, RootTree, tables_of, index_of, function_names, field_names, struct_named, field_named, is_first, is_length, length_words, field_words, words_from, words_of_struct, root_struct, number_at, numbered_up_to}
 use Rattle.c_types.specs.Statements.{type_broken}
 use Rattle.c_types.specs.Fault.{breaks}
 use Rattle.c_types.specs.Shapes.{struct_shape, numbered, shapes_in}
-use Rattle.c_types.specs.Declarations.{length_broken, field_broken, fields_broken, struct_broken, whole_struct_broken, structs_broken, root_broken, roots_broken, function_broken, body_broken, whole_function_broken, functions_broken}
+use Rattle.c_types.specs.Declarations.{length_broken, field_broken, fields_broken, struct_broken, whole_struct_broken, structs_broken, root_item_broken, roots_broken, function_broken, body_broken, whole_function_broken, functions_broken}
 use Rattle.ir.specs.WellFormed.{struct_of, IsKind}
-use Rattle.lower.specs.Names.{number_of, kind_at, field_at}
+use Rattle.lower.specs.Names.{found_number, struct_kind_at, field_number}
 use Rattle.lower.proofs.Few.{none_left, none_right, kept, not_at, and_left, le_from, le_true}
 
--- what holds of a program's tables where it breaks no rule
+-- what holds of the tables of a program that breaks no rule
 pub record IsSane (t : Tables) : Type 0 where
   pub structs : length t.structs ≤ 255
   pub functions : length t.functions ≤ 1024
-  pub fields : (i : ℕ) (s : StructTree) → slice_get t.structs i ≡ Some s → (length s.fields ≤ 512) × (fields_broken t (field_names s) 0 s.fields ≡ [])
-  pub results : (i : ℕ) (f : FunctionTree) → slice_get t.functions i ≡ Some f → option_map_or (type_broken t) f.result_type [] ≡ []
-  pub root : (i : ℕ) × (s : StructTree) × (root_struct t ≡ Some i) × (slice_get t.structs i ≡ Some s)
+  pub fields : (i : ℕ) (s : StructTree) → slice_get t.structs i ≡ Some s → (length s.fields ≤ 512)
+      × (fields_broken t (field_names s) 0 s.fields ≡ [])
+  pub results : (i : ℕ) (f : FunctionTree) → slice_get t.functions i ≡ Some f
+      → option_map_or (type_broken t) f.result_type [] ≡ []
+  pub root : (i : ℕ) × (s : StructTree) × (root_struct t ≡ Some i)
+      × (slice_get t.structs i ≡ Some s)
 
--- a name that is found is that of an element
-pub index_of_in : {A : Type 0} (name_of : A → List ℕ) (name : List ℕ) (xs : List A) (i : ℕ) → index_of name (map name_of xs) ≡ Some i → (x : A) × (slice_get xs i ≡ Some x)
+-- a name that is found is the name of an element
+pub index_of_in : {A : Type 0} (name_of : A → List ℕ) (name : List ℕ) (xs : List A) (i : ℕ)
+    → index_of name (map name_of xs) ≡ Some i → (x : A) × (slice_get xs i ≡ Some x)
 index_of_in {A} name_of name [] i e = absurd (none_some e)
   where
     none_some : None ≡ Some i → ⊥
     none_some e = cc
-index_of_in {A} name_of name (x ∷ xs) i e = by_test (bytes_eq name (name_of x)) (index_of name (map name_of xs)) (λ j is. index_of_in name_of name xs j is) e
+index_of_in {A} name_of name (x ∷ xs) i e =
+    by_test (bytes_eq name (name_of x)) (index_of name (map name_of xs))
+    (λ j is. index_of_in name_of name xs j is) e
   where
     none_some : None ≡ Some i → ⊥
     none_some e = cc
@@ -42,7 +48,10 @@ index_of_in {A} name_of name (x ∷ xs) i e = by_test (bytes_eq name (name_of x)
     zero_same : Some 0 ≡ Some i → 0 ≡ i
     zero_same e = cc
 
-    by_test : (b : Bool) (o : Option ℕ) → ((j : ℕ) → o ≡ Some j → (y : A) × (slice_get xs j ≡ Some y)) → (if b then Some 0 else option_map suc o) ≡ Some i → (y : A) × (slice_get (x ∷ xs) i ≡ Some y)
+    by_test : (b : Bool) (o : Option ℕ)
+        → ((j : ℕ) → o ≡ Some j → (y : A) × (slice_get xs j ≡ Some y))
+        → (if b then Some 0 else option_map suc o) ≡ Some i
+        → (y : A) × (slice_get (x ∷ xs) i ≡ Some y)
     by_test true o rest e = let at : 0 ≡ i = zero_same e in (x, rw (← at) refl)
     by_test false None rest e = absurd (none_some e)
     by_test false (Some j) rest e =
@@ -50,82 +59,115 @@ index_of_in {A} name_of name (x ∷ xs) i e = by_test (bytes_eq name (name_of x)
         let at : suc j ≡ i = later_same j e in
         (here.0, rw (← at) here.1)
 
--- of elements that keep rules, each does
-struct_at : (t : Tables) (i : ℕ) (ss : List StructTree) (j : ℕ) (s : StructTree) → structs_broken t i ss ≡ [] → slice_get ss j ≡ Some s → whole_struct_broken t (i + j) s ≡ []
+-- if no rule is broken in a list, none is broken by an element
+struct_at : (t : Tables) (i : ℕ) (ss : List StructTree) (j : ℕ) (s : StructTree)
+    → structs_broken t i ss ≡ [] → slice_get ss j ≡ Some s → whole_struct_broken t (i + j) s ≡ []
 struct_at t i [] j s e is = absurd (none_some is)
   where
     none_some : None ≡ Some s → ⊥
     none_some e = cc
-struct_at t i (x ∷ ss) zero s e is = rw (← some_same is, plus_zero i) (none_left (whole_struct_broken t i x) (structs_broken t (i + 1) ss) e)
+struct_at t i (x ∷ ss) zero s e is =
+    rw (← some_same is, plus_zero i)
+    (none_left (whole_struct_broken t i x) (structs_broken t (i + 1) ss) e)
   where
     some_same : Some x ≡ Some s → x ≡ s
     some_same e = cc
 
     plus_zero : (i : ℕ) → i + 0 ≡ i
     plus_zero i = omega arith
-struct_at t i (x ∷ ss) (suc j) s e is = rw (next i j) (struct_at t (i + 1) ss j s (none_right (whole_struct_broken t i x) (structs_broken t (i + 1) ss) e) is)
+struct_at t i (x ∷ ss) (suc j) s e is =
+    rw (next i j) (struct_at t (i + 1) ss j s
+    (none_right (whole_struct_broken t i x) (structs_broken t (i + 1) ss) e) is)
   where
     next : (i j : ℕ) → i + suc j ≡ (i + 1) + j
     next i j = omega arith
 
-pub field_at_place : (t : Tables) (names : List (List ℕ)) (i : ℕ) (fs : List FieldTree) (j : ℕ) (f : FieldTree) → fields_broken t names i fs ≡ [] → slice_get fs j ≡ Some f → field_broken t names (i + j) f ≡ []
+pub field_at_place : (t : Tables) (names : List (List ℕ)) (i : ℕ) (fs : List FieldTree) (j : ℕ)
+    (f : FieldTree) → fields_broken t names i fs ≡ [] → slice_get fs j ≡ Some f
+    → field_broken t names (i + j) f ≡ []
 field_at_place t names i [] j f e is = absurd (none_some is)
   where
     none_some : None ≡ Some f → ⊥
     none_some e = cc
-field_at_place t names i (x ∷ fs) zero f e is = rw (← some_same is, plus_zero i) (none_left (field_broken t names i x) (fields_broken t names (i + 1) fs) e)
+field_at_place t names i (x ∷ fs) zero f e is =
+    rw (← some_same is, plus_zero i)
+    (none_left (field_broken t names i x) (fields_broken t names (i + 1) fs) e)
   where
     some_same : Some x ≡ Some f → x ≡ f
     some_same e = cc
 
     plus_zero : (i : ℕ) → i + 0 ≡ i
     plus_zero i = omega arith
-field_at_place t names i (x ∷ fs) (suc j) f e is = rw (next i j) (field_at_place t names (i + 1) fs j f (none_right (field_broken t names i x) (fields_broken t names (i + 1) fs) e) is)
+field_at_place t names i (x ∷ fs) (suc j) f e is =
+    rw (next i j) (field_at_place t names (i + 1) fs j f
+    (none_right (field_broken t names i x) (fields_broken t names (i + 1) fs) e) is)
   where
     next : (i j : ℕ) → i + suc j ≡ (i + 1) + j
     next i j = omega arith
 
-pub function_at_place : (t : Tables) (i : ℕ) (fs : List FunctionTree) (j : ℕ) (f : FunctionTree) → functions_broken t i fs ≡ [] → slice_get fs j ≡ Some f → whole_function_broken t (i + j) f ≡ []
+pub function_at_place : (t : Tables) (i : ℕ) (fs : List FunctionTree) (j : ℕ) (f : FunctionTree)
+    → functions_broken t i fs ≡ [] → slice_get fs j ≡ Some f
+    → whole_function_broken t (i + j) f ≡ []
 function_at_place t i [] j f e is = absurd (none_some is)
   where
     none_some : None ≡ Some f → ⊥
     none_some e = cc
-function_at_place t i (x ∷ fs) zero f e is = rw (← some_same is, plus_zero i) (none_left (whole_function_broken t i x) (functions_broken t (i + 1) fs) e)
+function_at_place t i (x ∷ fs) zero f e is =
+    rw (← some_same is, plus_zero i)
+    (none_left (whole_function_broken t i x) (functions_broken t (i + 1) fs) e)
   where
     some_same : Some x ≡ Some f → x ≡ f
     some_same e = cc
 
     plus_zero : (i : ℕ) → i + 0 ≡ i
     plus_zero i = omega arith
-function_at_place t i (x ∷ fs) (suc j) f e is = rw (next i j) (function_at_place t (i + 1) fs j f (none_right (whole_function_broken t i x) (functions_broken t (i + 1) fs) e) is)
+function_at_place t i (x ∷ fs) (suc j) f e is =
+    rw (next i j) (function_at_place t (i + 1) fs j f
+    (none_right (whole_function_broken t i x) (functions_broken t (i + 1) fs) e) is)
   where
     next : (i j : ℕ) → i + suc j ≡ (i + 1) + j
     next i j = omega arith
 
 -- how many there are
-structs_few : (t : Tables) (i : ℕ) (ss : List StructTree) → i ≤ 255 → structs_broken t i ss ≡ [] → i + length ss ≤ 255
+structs_few : (t : Tables) (i : ℕ) (ss : List StructTree) → i ≤ 255 → structs_broken t i ss ≡ []
+    → i + length ss ≤ 255
 structs_few t i [] le e = omega (arith, le)
 structs_few t i (s ∷ ss) le e =
-    let whole : whole_struct_broken t i s ≡ [] = none_left (whole_struct_broken t i s) (structs_broken t (i + 1) ss) e in
+    let whole : whole_struct_broken t i s ≡ [] =
+    none_left (whole_struct_broken t i s) (structs_broken t (i + 1) ss) e in
     let own : struct_broken t i s ≡ [] = none_left (struct_broken t i s) _ whole in
-    let room : i + 1 ≤ 255 = not_at 255 i le (kept (not (nat_eq i 255)) s.name.place (TooBig limit.Structs 256)
-    (none_left (unless (not (nat_eq i 255)) s.name.place (TooBig limit.Structs 256)) _ (none_right (unless (is_first (struct_named t s.name.text) i) s.name.place Twice) _ own))) in
-    let less : (i + 1) + length ss ≤ 255 = structs_few t (i + 1) ss room (none_right (whole_struct_broken t i s) (structs_broken t (i + 1) ss) e) in
+    let room : i + 1 ≤ 255 = not_at 255 i le
+    (kept (not (nat_eq i 255)) s.name.place (TooBig limit.Structs 256)
+    (none_left (unless (not (nat_eq i 255)) s.name.place (TooBig limit.Structs 256)) _
+    (none_right (unless (is_first (struct_named t s.name.text) i) s.name.place Twice) _ own))) in
+    let less : (i + 1) + length ss ≤ 255 =
+    structs_few t (i + 1) ss room (none_right (whole_struct_broken t i s)
+    (structs_broken t (i + 1) ss) e) in
     omega (arith, less)
 
-functions_few : (t : Tables) (i : ℕ) (fs : List FunctionTree) → i ≤ 1024 → functions_broken t i fs ≡ [] → i + length fs ≤ 1024
+functions_few : (t : Tables) (i : ℕ) (fs : List FunctionTree) → i ≤ 1024
+    → functions_broken t i fs ≡ [] → i + length fs ≤ 1024
 functions_few t i [] le e = omega (arith, le)
 functions_few t i (f ∷ fs) le e =
-    let whole : whole_function_broken t i f ≡ [] = none_left (whole_function_broken t i f) (functions_broken t (i + 1) fs) e in
-    let own : function_broken t i f ≡ [] = none_left (function_broken t i f) (body_broken t f) whole in
+    let whole : whole_function_broken t i f ≡ [] =
+    none_left (whole_function_broken t i f) (functions_broken t (i + 1) fs) e in
+    let own : function_broken t i f ≡ [] =
+    none_left (function_broken t i f) (body_broken t f) whole in
     let later : unless (is_first (index_of f.name.text (function_names t)) i) f.name.place Twice
-    ++ (unless (not (nat_eq i 1024)) f.name.place (TooBig limit.Functions 1025) ++ unless (not f.tx || _) f.name.place BadTx) ≡ [] = none_right (option_map_or (type_broken t) f.result_type []) _ own in
-    let room : i + 1 ≤ 1024 = not_at 1024 i le (kept (not (nat_eq i 1024)) f.name.place (TooBig limit.Functions 1025)
-    (none_left (unless (not (nat_eq i 1024)) f.name.place (TooBig limit.Functions 1025)) _ (none_right (unless (is_first (index_of f.name.text (function_names t)) i) f.name.place Twice) _ later))) in
-    let less : (i + 1) + length fs ≤ 1024 = functions_few t (i + 1) fs room (none_right (whole_function_broken t i f) (functions_broken t (i + 1) fs) e) in
+    ++ (unless (not (nat_eq i 1024)) f.name.place (TooBig limit.Functions 1025)
+    ++ unless (not f.tx || _) f.name.place BadTx) ≡ [] =
+    none_right (option_map_or (type_broken t) f.result_type []) _ own in
+    let room : i + 1 ≤ 1024 = not_at 1024 i le
+    (kept (not (nat_eq i 1024)) f.name.place (TooBig limit.Functions 1025)
+    (none_left (unless (not (nat_eq i 1024)) f.name.place (TooBig limit.Functions 1025)) _
+    (none_right (unless (is_first (index_of f.name.text (function_names t)) i) f.name.place Twice)
+    _ later))) in
+    let less : (i + 1) + length fs ≤ 1024 =
+    functions_few t (i + 1) fs room
+    (none_right (whole_function_broken t i f) (functions_broken t (i + 1) fs) e) in
     omega (arith, less)
 
--- each field has a word
+-- each field has at least one word
 length_some : (n : _) → is_length n ≡ true → 1 ≤ length_words n
 length_some (pos n) e =
     let one : 1 ≤ n = le_from 1 n (and_left (nat_le 1 n) (nat_le n 512) e) in
@@ -135,35 +177,63 @@ length_some (negsuc n) e = absurd (false_true e)
     false_true : false ≡ true → ⊥
     false_true e = cc
 
-words_some : (l : Option LengthTree) → option_map_or length_broken l [] ≡ [] → 1 ≤ option_map_or (λ l. length_words l.value) l 1
+words_some : (l : Option LengthTree) → option_map_or length_broken l [] ≡ []
+    → 1 ≤ option_map_or (λ l. length_words l.value) l 1
 words_some None e = omega arith
 words_some (Some l) e = length_some l.value (kept (is_length l.value) l.place _ e)
 
-fields_few : (t : Tables) (names : List (List ℕ)) (i : ℕ) (fs : List FieldTree) → fields_broken t names i fs ≡ [] → length fs ≤ words_from names i fs
+fields_few : (t : Tables) (names : List (List ℕ)) (i : ℕ) (fs : List FieldTree)
+    → fields_broken t names i fs ≡ [] → length fs ≤ words_from names i fs
 fields_few t names i [] e = omega arith
 fields_few t names i (f ∷ fs) e =
-    let own : field_broken t names i f ≡ [] = none_left (field_broken t names i f) (fields_broken t names (i + 1) fs) e in
-    let later : unless (is_first (index_of f.name.text names) i) f.name.place Twice ++ option_map_or length_broken f.len [] ≡ [] = none_right (type_broken t f.ty) _ own in
-    let first : is_first (index_of f.name.text names) i ≡ true = kept (is_first (index_of f.name.text names) i) f.name.place Twice (none_left (unless (is_first (index_of f.name.text names) i) f.name.place Twice) _ later) in
-    let one : 1 ≤ field_words f = words_some f.len (none_right (unless (is_first (index_of f.name.text names) i) f.name.place Twice) (option_map_or length_broken f.len []) later) in
-    let less : length fs ≤ words_from names (i + 1) fs = fields_few t names (i + 1) fs (none_right (field_broken t names i f) (fields_broken t names (i + 1) fs) e) in
+    let own : field_broken t names i f ≡ [] =
+    none_left (field_broken t names i f) (fields_broken t names (i + 1) fs) e in
+    let later : unless (is_first (index_of f.name.text names) i) f.name.place Twice
+    ++ option_map_or length_broken f.len [] ≡ [] = none_right (type_broken t f.ty) _ own in
+    let first : is_first (index_of f.name.text names) i ≡ true =
+    kept (is_first (index_of f.name.text names) i) f.name.place Twice
+    (none_left (unless (is_first (index_of f.name.text names) i) f.name.place Twice) _ later) in
+    let one : 1 ≤ field_words f = words_some f.len
+    (none_right (unless (is_first (index_of f.name.text names) i) f.name.place Twice)
+    (option_map_or length_broken f.len []) later) in
+    let less : length fs ≤ words_from names (i + 1) fs =
+    fields_few t names (i + 1) fs (none_right (field_broken t names i f)
+    (fields_broken t names (i + 1) fs) e) in
     rw first (omega (arith, one, less))
 
-words_small : (root : Bool) (w : ℕ) → (root || nat_le w 15) ≡ true → (not root || nat_le w 512) ≡ true → w ≤ 512
+words_small : (root : Bool) (w : ℕ) → (root || nat_le w 15) ≡ true
+    → (not root || nat_le w 512) ≡ true → w ≤ 512
 words_small true w a b = le_from w 512 b
 words_small false w a b = let small : w ≤ 15 = le_from w 15 a in omega (arith, small)
 
-struct_fields : (t : Tables) (i : ℕ) (s : StructTree) → whole_struct_broken t i s ≡ [] → (length s.fields ≤ 512) × (fields_broken t (field_names s) 0 s.fields ≡ [])
+struct_fields : (t : Tables) (i : ℕ) (s : StructTree) → whole_struct_broken t i s ≡ []
+    → (length s.fields ≤ 512) × (fields_broken t (field_names s) 0 s.fields ≡ [])
 struct_fields t i s e =
     let root : Bool = is_first (root_struct t) i in
-    let own : struct_broken t i s ≡ [] = none_left (struct_broken t i s) (fields_broken t (field_names s) 0 s.fields) e in
-    let fields : fields_broken t (field_names s) 0 s.fields ≡ [] = none_right (struct_broken t i s) (fields_broken t (field_names s) 0 s.fields) e in
-    let third : unless (root || nat_le (words_of s) 15) s.name.place (TooBig limit.Struct (words_of s)) ++ unless (not root || nat_le (words_of s) 512) s.name.place (TooBig limit.Root (words_of s)) ≡ [] =
-    none_right (unless (not (nat_eq i 255)) s.name.place (TooBig limit.Structs 256)) _ (none_right (unless (is_first (struct_named t s.name.text) i) s.name.place Twice) _ own) in
-    let a : (root || nat_le (words_of s) 15) ≡ true = kept (root || nat_le (words_of s) 15) s.name.place (TooBig limit.Struct (words_of s)) (none_left (unless (root || nat_le (words_of s) 15) s.name.place (TooBig limit.Struct (words_of s))) _ third) in
-    let b : (not root || nat_le (words_of s) 512) ≡ true = kept (not root || nat_le (words_of s) 512) s.name.place (TooBig limit.Root (words_of s)) (none_right (unless (root || nat_le (words_of s) 15) s.name.place (TooBig limit.Struct (words_of s))) _ third) in
-    let small : min (words_from (field_names s) 0 s.fields) (2 ^ 64 - 1) ≤ 512 = words_small root (words_of s) a b in
-    let less : length s.fields ≤ words_from (field_names s) 0 s.fields = fields_few t (field_names s) 0 s.fields fields in
+    let own : struct_broken t i s ≡ [] =
+    none_left (struct_broken t i s) (fields_broken t (field_names s) 0 s.fields) e in
+    let fields : fields_broken t (field_names s) 0 s.fields ≡ [] =
+    none_right (struct_broken t i s) (fields_broken t (field_names s) 0 s.fields) e in
+    let third : unless (root || nat_le (words_of_struct s) 15) s.name.place
+    (TooBig limit.Struct (words_of_struct s))
+    ++ unless (not root || nat_le (words_of_struct s) 512) s.name.place
+    (TooBig limit.Root (words_of_struct s)) ≡ [] =
+    none_right (unless (not (nat_eq i 255)) s.name.place (TooBig limit.Structs 256)) _
+    (none_right (unless (is_first (struct_named t s.name.text) i) s.name.place Twice) _ own) in
+    let a : (root || nat_le (words_of_struct s) 15) ≡ true =
+    kept (root || nat_le (words_of_struct s) 15) s.name.place
+    (TooBig limit.Struct (words_of_struct s))
+    (none_left (unless (root || nat_le (words_of_struct s) 15) s.name.place
+    (TooBig limit.Struct (words_of_struct s))) _ third) in
+    let b : (not root || nat_le (words_of_struct s) 512) ≡ true =
+    kept (not root || nat_le (words_of_struct s) 512) s.name.place
+    (TooBig limit.Root (words_of_struct s))
+    (none_right (unless (root || nat_le (words_of_struct s) 15) s.name.place
+    (TooBig limit.Struct (words_of_struct s))) _ third) in
+    let small : min (words_from (field_names s) 0 s.fields) (2 ^ 64 - 1) ≤ 512 =
+    words_small root (words_of_struct s) a b in
+    let less : length s.fields ≤ words_from (field_names s) 0 s.fields =
+    fields_few t (field_names s) 0 s.fields fields in
     (omega (arith, small, less), fields)
 
 pub some_of : {A : Type 0} (o : Option A) → is_some o ≡ true → (x : A) × (o ≡ Some x)
@@ -174,38 +244,56 @@ some_of None e = absurd (false_true e)
 some_of (Some x) e = (x, refl)
 
 -- the root's struct
-root_there : (t : Tables) (rs : List RootTree) → is_some (slice_get rs 0) ≡ true → roots_broken t 0 rs ≡ []
-    → (i : ℕ) × (s : StructTree) × (option_and_then (λ (r : RootTree). struct_named t r.name.text) (slice_get rs 0) ≡ Some i) × (slice_get t.structs i ≡ Some s)
+root_there : (t : Tables) (rs : List RootTree) → is_some (slice_get rs 0) ≡ true
+    → roots_broken t 0 rs ≡ []
+    → (i : ℕ) × (s : StructTree) × (option_and_then (λ (r : RootTree). struct_named t r.name.text)
+    (slice_get rs 0) ≡ Some i) × (slice_get t.structs i ≡ Some s)
 root_there t [] e b = absurd (false_true e)
   where
     false_true : false ≡ true → ⊥
     false_true e = cc
 root_there t (r ∷ rs) e b =
-    let i : (i : ℕ) × (struct_named t r.name.text ≡ Some i) = some_of (struct_named t r.name.text) (kept (is_some (struct_named t r.name.text)) r.name.place UnknownName
-    (none_left (unless (is_some (struct_named t r.name.text)) r.name.place UnknownName) _ (none_left (root_broken t 0 r) (roots_broken t (0 + 1) rs) b))) in
-    let s : (s : StructTree) × (slice_get t.structs i.0 ≡ Some s) = index_of_in (λ (s : StructTree). s.name.text) r.name.text t.structs i.0 i.1 in
+    let i : (i : ℕ) × (struct_named t r.name.text ≡ Some i) =
+    some_of (struct_named t r.name.text) (kept (is_some (struct_named t r.name.text)) r.name.place
+    UnknownName
+    (none_left (unless (is_some (struct_named t r.name.text)) r.name.place UnknownName) _
+    (none_left (root_item_broken t 0 r) (roots_broken t (0 + 1) rs) b))) in
+    let s : (s : StructTree) × (slice_get t.structs i.0 ≡ Some s) =
+    index_of_in (λ (s : StructTree). s.name.text) r.name.text t.structs i.0 i.1 in
     (i.0, s.0, i.1, s.1)
 
-pub broken_functions : (tree : Program) → breaks tree ≡ [] → functions_broken (tables_of (tree_of tree)) 0 (tables_of (tree_of tree)).functions ≡ []
+pub broken_functions : (tree : Program) → breaks tree ≡ []
+    → functions_broken (tables_of (tree_of tree)) 0 (tables_of (tree_of tree)).functions ≡ []
 broken_functions tree e =
     let t : Tables = tables_of (tree_of tree) in
-    none_right (unless (is_some (slice_get t.roots 0)) (length tree.lines) NoRoot) (functions_broken t 0 t.functions)
+    none_right (unless (is_some (slice_get t.roots 0)) (length tree.lines) NoRoot)
+    (functions_broken t 0 t.functions)
     (none_right (roots_broken t 0 t.roots) _ (none_right (structs_broken t 0 t.structs) _ e))
 
 pub sane : (tree : Program) → breaks tree ≡ [] → IsSane (tables_of (tree_of tree))
 sane tree e =
     let t : Tables = tables_of (tree_of tree) in
     let e1 : structs_broken t 0 t.structs ≡ [] = none_left (structs_broken t 0 t.structs) _ e in
-    let l1 : roots_broken t 0 t.roots ++ (unless (is_some (slice_get t.roots 0)) (length tree.lines) NoRoot ++ functions_broken t 0 t.functions) ≡ [] = none_right (structs_broken t 0 t.structs) _ e in
+    let l1 : roots_broken t 0 t.roots
+    ++ (unless (is_some (slice_get t.roots 0)) (length tree.lines) NoRoot ++ functions_broken t 0
+    t.functions) ≡ [] = none_right (structs_broken t 0 t.structs) _ e in
     let e2 : roots_broken t 0 t.roots ≡ [] = none_left (roots_broken t 0 t.roots) _ l1 in
-    let l2 : unless (is_some (slice_get t.roots 0)) (length tree.lines) NoRoot ++ functions_broken t 0 t.functions ≡ [] = none_right (roots_broken t 0 t.roots) _ l1 in
-    let e3 : is_some (slice_get t.roots 0) ≡ true = kept (is_some (slice_get t.roots 0)) (length tree.lines) NoRoot (none_left (unless (is_some (slice_get t.roots 0)) (length tree.lines) NoRoot) (functions_broken t 0 t.functions) l2) in
-    let e4 : functions_broken t 0 t.functions ≡ [] = none_right (unless (is_some (slice_get t.roots 0)) (length tree.lines) NoRoot) (functions_broken t 0 t.functions) l2 in
+    let l2 : unless (is_some (slice_get t.roots 0)) (length tree.lines) NoRoot ++ functions_broken t
+    0 t.functions ≡ [] = none_right (roots_broken t 0 t.roots) _ l1 in
+    let e3 : is_some (slice_get t.roots 0) ≡ true =
+    kept (is_some (slice_get t.roots 0)) (length tree.lines) NoRoot
+    (none_left (unless (is_some (slice_get t.roots 0)) (length tree.lines) NoRoot)
+    (functions_broken t 0 t.functions) l2) in
+    let e4 : functions_broken t 0 t.functions ≡ [] =
+    none_right (unless (is_some (slice_get t.roots 0)) (length tree.lines) NoRoot)
+    (functions_broken t 0 t.functions) l2 in
     record {
       structs = omega (arith, structs_few t 0 t.structs (omega arith) e1);
       functions = omega (arith, functions_few t 0 t.functions (omega arith) e4);
       fields = λ i s is. struct_fields t (0 + i) s (struct_at t 0 t.structs i s e1 is);
-      results = λ i f is. none_left (option_map_or (type_broken t) f.result_type []) _ (none_left (function_broken t (0 + i) f) (body_broken t f) (function_at_place t 0 t.functions i f e4 is));
+      results = λ i f is. none_left (option_map_or (type_broken t) f.result_type []) _
+          (none_left (function_broken t (0 + i) f) (body_broken t f)
+          (function_at_place t 0 t.functions i f e4 is));
       root = root_there t t.roots e3 e2;
     }
 
@@ -220,26 +308,31 @@ none_later n i (s ∷ ss) lt =
     le_false : (i n : ℕ) → n < i → nat_le i n ≡ false
     le_false i n lt = search (rules)
 
-numbered_at : (i j : ℕ) (ss : List StructTree) (s : StructTree) → slice_get ss j ≡ Some s → nat_le (words_of s) 15 ≡ true
-    → (m : ℕ) × (numbered_up_to (i + j) i ss ≡ suc m) × (slice_get (numbered ss) m ≡ Some s) × (m < length ss)
+numbered_at : (i j : ℕ) (ss : List StructTree) (s : StructTree) → slice_get ss j ≡ Some s
+    → nat_le (words_of_struct s) 15 ≡ true
+    → (m : ℕ) × (numbered_up_to (i + j) i ss ≡ suc m) × (slice_get (numbered ss) m ≡ Some s)
+    × (m < length ss)
 numbered_at i j [] s is ok = absurd (none_some is)
   where
     none_some : None ≡ Some s → ⊥
     none_some e = cc
 numbered_at i zero (x ∷ ss) s is ok =
     let same : x ≡ s = some_same is in
-    let okx : nat_le (words_of x) 15 ≡ true = rw same ok in
+    let okx : nat_le (words_of_struct x) 15 ≡ true = rw same ok in
     let here : nat_le i (i + 0) ≡ true = le_true i (i + 0) (omega arith) in
-    let rest : numbered_up_to (i + 0) (i + 1) ss ≡ 0 = none_later (i + 0) (i + 1) ss (omega arith) in
+    let rest : numbered_up_to (i + 0) (i + 1) ss ≡ 0 =
+    none_later (i + 0) (i + 1) ss (omega arith) in
     (0, rw (here, okx, rest) refl, rw okx (ap Some same), omega arith)
   where
     some_same : Some x ≡ Some s → x ≡ s
     some_same e = cc
 numbered_at i (suc j) (x ∷ ss) s is ok =
-    let h : (m : ℕ) × (numbered_up_to ((i + 1) + j) (i + 1) ss ≡ suc m) × (slice_get (numbered ss) m ≡ Some s) × (m < length ss) = numbered_at (i + 1) j ss s is ok in
+    let h : (m : ℕ) × (numbered_up_to ((i + 1) + j) (i + 1) ss ≡ suc m)
+    × (slice_get (numbered ss) m ≡ Some s) × (m < length ss) = numbered_at (i + 1) j ss s is ok in
     let here : nat_le i (i + suc j) ≡ true = le_true i (i + suc j) (omega arith) in
-    let up : numbered_up_to (i + suc j) (i + 1) ss ≡ suc h.0 = ap (λ n. numbered_up_to n (i + 1) ss) (next i j) ∙ h.1 in
-    rw (here, up) (by_test (nat_le (words_of x) 15) h.0 h.2 h.3)
+    let up : numbered_up_to (i + suc j) (i + 1) ss ≡ suc h.0 =
+    ap (λ n. numbered_up_to n (i + 1) ss) (next i j) ∙ h.1 in
+    rw (here, up) (by_test (nat_le (words_of_struct x) 15) h.0 h.2 h.3)
   where
     next : (i j : ℕ) → i + suc j ≡ (i + 1) + j
     next i j = omega arith
@@ -251,22 +344,31 @@ numbered_at i (suc j) (x ∷ ss) s is ok =
     none_more m = omega arith
 
     by_test : (b : Bool) (m : ℕ) → slice_get (numbered ss) m ≡ Some s → m < length ss
-        → (k : ℕ) × ((if true && b then 1 else 0) + suc m ≡ suc k) × (slice_get (if b then x ∷ numbered ss else numbered ss) k ≡ Some s) × (k < suc (length ss))
+        → (k : ℕ) × ((if true && b then 1 else 0) + suc m ≡ suc k)
+        × (slice_get (if b then x ∷ numbered ss else numbered ss) k ≡ Some s)
+        × (k < suc (length ss))
     by_test true m is lt = (suc m, one_more m, is, omega (arith, lt))
     by_test false m is lt = (m, none_more m, is, omega (arith, lt))
 
 -- the kind of the objects of a struct, and the struct of that kind
 pub record IsKindOf (t : Tables) (i : ℕ) (s : StructTree) : Type 0 where
-  pub kind : IsKind (shapes_in t) (kind_at t (Some i))
-  pub shape : struct_of (shapes_in t) (kind_at t (Some i)) ≡ Some (struct_shape s)
+  pub kind : IsKind (shapes_in t) (struct_kind_at t (Some i))
+  pub shape : struct_of (shapes_in t) (struct_kind_at t (Some i)) ≡ Some (struct_shape s)
 
-pub kind_of_struct : (t : Tables) (i : ℕ) (s : StructTree) → length t.structs ≤ 255 → slice_get t.structs i ≡ Some s → nat_le (words_of s) 15 ≡ true → IsKindOf t i s
+pub kind_of_struct : (t : Tables) (i : ℕ) (s : StructTree) → length t.structs ≤ 255
+    → slice_get t.structs i ≡ Some s → nat_le (words_of_struct s) 15 ≡ true → IsKindOf t i s
 kind_of_struct t i s few is ok =
-    let h : (m : ℕ) × (numbered_up_to (0 + i) 0 t.structs ≡ suc m) × (slice_get (numbered t.structs) m ≡ Some s) × (m < length t.structs) = numbered_at 0 i t.structs s is ok in
-    let counted : numbered_up_to i 0 t.structs ≡ suc h.0 = ap (λ n. numbered_up_to n 0 t.structs) (zero_plus i) ∙ h.1 in
-    let number : kind_at t (Some i) ≡ suc h.0 = small_number (number_at t i) h.0 counted (omega (arith, few, h.3)) in
-    let get : slice_get (map struct_shape (numbered t.structs)) h.0 ≡ Some (struct_shape s) = slice_get-map struct_shape (numbered t.structs) h.0 ∙ ap (option_map struct_shape) h.2 in
-    let within : h.0 < length (map struct_shape (numbered t.structs)) = slice_get_within (map struct_shape (numbered t.structs)) h.0 (struct_shape s) get in
+    let h : (m : ℕ) × (numbered_up_to (0 + i) 0 t.structs ≡ suc m)
+    × (slice_get (numbered t.structs) m ≡ Some s) × (m < length t.structs) =
+    numbered_at 0 i t.structs s is ok in
+    let counted : numbered_up_to i 0 t.structs ≡ suc h.0 =
+    ap (λ n. numbered_up_to n 0 t.structs) (zero_plus i) ∙ h.1 in
+    let number : struct_kind_at t (Some i) ≡ suc h.0 =
+    small_number (number_at t i) h.0 counted (omega (arith, few, h.3)) in
+    let get : slice_get (map struct_shape (numbered t.structs)) h.0 ≡ Some (struct_shape s) =
+    slice_get-map struct_shape (numbered t.structs) h.0 ∙ ap (option_map struct_shape) h.2 in
+    let within : h.0 < length (map struct_shape (numbered t.structs)) =
+    slice_get_within (map struct_shape (numbered t.structs)) h.0 (struct_shape s) get in
     record {
       kind = rw number (omega (arith, within), omega (arith, within));
       shape = rw number get;
@@ -275,29 +377,34 @@ kind_of_struct t i s few is ok =
     zero_plus : (i : ℕ) → i ≡ 0 + i
     zero_plus i = omega arith
 
-    small_number : (n m : ℕ) → n ≡ suc m → m < 255 → number_of (Some n) ≡ suc m
+    small_number : (n m : ℕ) → n ≡ suc m → m < 255 → found_number (Some n) ≡ suc m
     small_number n m e lt = omega (arith, e, lt)
 
 -- a field of a struct that has the name
-pub record IsFieldOf (t : Tables) (i : ℕ) (s : StructTree) (name : List ℕ) (f : FieldTree) : Type 0 where
+pub record IsFieldOf (t : Tables) (i : ℕ) (s : StructTree) (name : List ℕ) (f : FieldTree) :
+    Type 0 where
   pub place : ℕ
   pub found : slice_get s.fields place ≡ Some f
-  pub number : field_at t name (Some i) ≡ place
+  pub number : field_number t name (Some i) ≡ place
   pub kept : field_broken t (field_names s) (0 + place) f ≡ []
 
-pub field_of_struct : (t : Tables) (i : ℕ) (s : StructTree) (name : List ℕ) (f : FieldTree) → IsSane t → slice_get t.structs i ≡ Some s → field_named s name ≡ Some f → IsFieldOf t i s name f
+pub field_of_struct : (t : Tables) (i : ℕ) (s : StructTree) (name : List ℕ) (f : FieldTree)
+    → IsSane t → slice_get t.structs i ≡ Some s → field_named s name ≡ Some f
+    → IsFieldOf t i s name f
 field_of_struct t i s name f h is named = by_index (index_of name (field_names s)) refl named
   where
-    small_number : (n : ℕ) → n < 512 → number_of (Some n) ≡ n
+    small_number : (n : ℕ) → n < 512 → found_number (Some n) ≡ n
     small_number n lt = omega (arith, lt)
 
     none_some : None ≡ Some f → ⊥
     none_some e = cc
 
-    by_index : (o : Option ℕ) → index_of name (field_names s) ≡ o → option_and_then (slice_get s.fields) o ≡ Some f → IsFieldOf t i s name f
+    by_index : (o : Option ℕ) → index_of name (field_names s) ≡ o
+        → option_and_then (slice_get s.fields) o ≡ Some f → IsFieldOf t i s name f
     by_index None at e = absurd (none_some e)
     by_index (Some j) at e =
-        let fields : (length s.fields ≤ 512) × (fields_broken t (field_names s) 0 s.fields ≡ []) = h.fields i s is in
+        let fields : (length s.fields ≤ 512) × (fields_broken t (field_names s) 0 s.fields ≡ []) =
+        h.fields i s is in
         let within : j < length s.fields = slice_get_within s.fields j f e in
         record {
           place = j;

@@ -1,4 +1,5 @@
--- Whether statements assign a variable. Behind a declaration of its name the name means another one.
+-- Whether statements assign a variable. After another declaration of its name, the name means
+-- another variable.
 use Rattle.std.specs.Prelude.{ℕ, List, Bool, true, false, ◌||◌, bytes_eq, if◌then◌else◌, Option, None, Some}
 use Rattle.std.specs.Option.{option_map_or}
 use Rattle.c_parser.specs.ExprTree.{ExprTree, Ident}
@@ -7,7 +8,8 @@ use Rattle.c_parser.specs.StmtTree.{StmtTree, Statements, SimpleTree, FirstTree}
 use Rattle.lower.specs.Names.{variable_of}
 
 abbrev pub is_named : List ℕ → ExprTree → Bool
-is_named name target = option_map_or (λ (n : Ident). bytes_eq n.text name) (variable_of target) false
+is_named name target = option_map_or (λ (n : Ident). bytes_eq n.text name)
+    (variable_of target) false
 
 abbrev pub is_assignment : List ℕ → SimpleTree → Bool
 is_assignment name (stmt.Assign target op place value) = is_named name target
@@ -44,20 +46,22 @@ third_assigns name None = false
 third_assigns name (Some x) = is_assignment name x
 
 abbrev mutual
-  pub assigns : List ℕ → StmtTree → Bool
-  assigns name (stmt.Declares d) = false
-  assigns name stmt.Empty = false
-  assigns name (stmt.Simple x) = is_assignment name x
-  assigns name (stmt.Block all) = is_assigned name all
-  assigns name (stmt.If c a) = assigns name a
-  assigns name (stmt.IfElse c a b) = if assigns name a then true else assigns name b
-  assigns name (stmt.While c a) = assigns name a
-  assigns name (stmt.For first c third a) = if first_declares name first then false else (first_assigns name first || third_assigns name third || assigns name a)
-  assigns name stmt.Break = false
-  assigns name stmt.Continue = false
-  assigns name (stmt.Return place value) = false
+  pub assigns_name : List ℕ → StmtTree → Bool
+  assigns_name name (stmt.Declares d) = false
+  assigns_name name stmt.Empty = false
+  assigns_name name (stmt.Simple x) = is_assignment name x
+  assigns_name name (stmt.Block all) = is_assigned name all
+  assigns_name name (stmt.If c a) = assigns_name name a
+  assigns_name name (stmt.IfElse c a b) = if assigns_name name a then true else assigns_name name b
+  assigns_name name (stmt.While c a) = assigns_name name a
+  assigns_name name (stmt.For first c third a) = if first_declares name first then false
+      else (first_assigns name first || third_assigns name third || assigns_name name a)
+  assigns_name name stmt.Break = false
+  assigns_name name stmt.Continue = false
+  assigns_name name (stmt.Return place value) = false
 
   -- the statements of one block
   pub is_assigned : List ℕ → Statements → Bool
   is_assigned name stmt.Nothing = false
-  is_assigned name (stmt.Then x xs) = if declares name x then false else if assigns name x then true else is_assigned name xs
+  is_assigned name (stmt.Then x xs) = if declares name x then false else if assigns_name name x
+      then true else is_assigned name xs

@@ -1,4 +1,4 @@
--- Which code belongs to a tree: everything but the numbers of registers is fixed.
+-- The code of a tree. It is fixed except for the numbers of registers.
 use Rattle.std.specs.Prelude.{ℕ, suc, ℤ, pos, negsuc, List, [], ◌∷◌, ◌++◌, false, Option, None, Some}
 use Rattle.nvm_base.specs.declared.op.BinOp.{BinOp}
 use Rattle.nvm_base.specs.declared.op.BinOp.TheVariants as op
@@ -11,7 +11,7 @@ use Rattle.c_parser.specs.ExprTree as expr
 use Rattle.c_parser.specs.ExprTree.{ExprTree, Arguments, Ident}
 use Rattle.c_parser.specs.StmtTree as stmt
 use Rattle.c_parser.specs.StmtTree.{StmtTree, Statements, SimpleTree, FirstTree, DeclarationTree, InitialTree}
-use Rattle.c_parser.specs.Program.{Program, line_of}
+use Rattle.c_parser.specs.Program.{Program, source_line}
 use Rattle.c_types.specs.Tables.{Tables, declared_type}
 use Rattle.c_types.specs.Expressions.{type_of}
 use Rattle.ir.specs.declared.instruction.Target.{Target}
@@ -20,16 +20,16 @@ use Rattle.ir.specs.declared.instruction.Instruction.TheVariants.{Const, Copy, B
 use Rattle.lower.specs.declared.form.Form.{Form}
 use Rattle.lower.specs.declared.form.Form.TheVariants.{Both, Either, Direct, Exchanged}
 use Rattle.lower.specs.Forms.{form_of}
-use Rattle.lower.specs.Names.{Variables, inside, declared, register_of, function_number, kind_named, kind_at, struct_behind, root_target, field_target, element, no_target, variable_of}
+use Rattle.lower.specs.Names.{Variables, inner_variables, variable_declared, register_of, function_number, kind_named, struct_kind_at, struct_pointed_to, root_target, field_target, element_target, no_target, variable_of}
 
--- what code is made from: what the names of structs and functions mean, the tree with its lines, and
--- the register of what ends at a place of the code
+-- what code is made from: the meaning of the names of structs and functions, the tree with its
+-- lines, and the register of the value whose code ends at a place
 pub record Context : Type 0 where
   pub tables : Tables
   pub tree : Program
   pub node : ℕ → ℕ
 
--- where the code of an operator with its right side ends, which begins at p
+-- the end of the code of an operator and its right side that begins at p
 abbrev pub form_end : Form → (ℕ → ℕ) → ℕ → ℕ
 form_end Both right p = suc (suc (suc (suc (right (suc p)))))
 form_end Either right p = suc (suc (suc (suc (right (suc (suc p))))))
@@ -37,7 +37,7 @@ form_end (Direct o) right p = suc (right p)
 form_end (Exchanged o) right p = suc (right p)
 
 abbrev mutual
-  -- where the code of an expression ends that begins at p
+  -- the end of the code of an expression that begins at p
   pub exp_end : ExprTree → ℕ → ℕ
   exp_end (expr.Number n) p = suc p
   exp_end expr.Null p = suc p
@@ -52,7 +52,7 @@ abbrev mutual
   exp_end (expr.Unary unary.Not place a) p = suc (suc (exp_end a p))
   exp_end (expr.Binary o place a b) p = form_end (form_of o) (exp_end b) (exp_end a p)
 
-  -- where the code of the base and of the index of a field or an element ends
+  -- the end of the code of the base and the index of a field or an element
   pub target_end : ExprTree → ℕ → ℕ
   target_end (expr.Arrow base place name) p = exp_end base p
   target_end (expr.Index base place index) p = exp_end index (target_end base p)
@@ -69,7 +69,7 @@ abbrev mutual
   arguments_end expr.None p = p
   arguments_end (expr.More first value rest) p = arguments_end rest (exp_end value p)
 
--- the register of an expression whose code ends at q: a variable's is its own
+-- the register of an expression whose code ends at q; a variable has its own
 abbrev pub reg_of : Context → Variables → ExprTree → ℕ → ℕ
 reg_of s v (expr.Variable name) q = register_of name.text v
 reg_of s v (expr.Number n) q = s.node q
@@ -85,13 +85,17 @@ reg_of s v (expr.Binary o place a b) q = s.node q
 -- the registers of arguments whose code begins at p
 abbrev pub registers_of : Context → Variables → Arguments → ℕ → List ℕ
 registers_of s v expr.None p = []
-registers_of s v (expr.More first value rest) p = reg_of s v value (exp_end value p) ∷ registers_of s v rest (exp_end value p)
+registers_of s v (expr.More first value rest) p =
+    reg_of s v value (exp_end value p) ∷ registers_of s v rest (exp_end value p)
 
 -- the target of a field or an element whose code begins at p
 abbrev pub target_of : Context → Variables → ExprTree → ℕ → Target
 target_of s v (expr.Root name) p = root_target s.tables name.text
-target_of s v (expr.Arrow base place name) p = field_target s.tables (type_of s.tables v.scopes base) (reg_of s v base (exp_end base p)) name.text
-target_of s v (expr.Index base place index) p = element (target_of s v base p) (reg_of s v index (exp_end index (target_end base p)))
+target_of s v (expr.Arrow base place name) p =
+    field_target s.tables (type_of s.tables v.scopes base)
+    (reg_of s v base (exp_end base p)) name.text
+target_of s v (expr.Index base place index) p =
+    element_target (target_of s v base p) (reg_of s v index (exp_end index (target_end base p)))
 target_of s v (expr.Number n) p = no_target
 target_of s v expr.Null p = no_target
 target_of s v (expr.Variable name) p = no_target
@@ -100,20 +104,26 @@ target_of s v (expr.New place name) p = no_target
 target_of s v (expr.Unary o place a) p = no_target
 target_of s v (expr.Binary o place a b) p = no_target
 
--- 1 where a register isn't 0, and else 0
-abbrev pub outcome : (on to p : ℕ) → List Instruction
-outcome on to p = Branch on (suc (suc (suc p))) ∷ Const to (pos 1) ∷ Jump (suc (suc (suc (suc p)))) ∷ Const to (pos 0) ∷ []
+-- 1 if a register isn't 0, else 0
+abbrev pub truth_code : (on to p : ℕ) → List Instruction
+truth_code on to p = Branch on (suc (suc (suc p))) ∷ Const to (pos 1)
+    ∷ Jump (suc (suc (suc (suc p)))) ∷ Const to (pos 0) ∷ []
 
--- the code of an operator with its right side, from p on, behind that of its left side
-abbrev pub form_code : Form → (node : ℕ → ℕ) → (code : ℕ → List Instruction) → (end reg : ℕ → ℕ) → (on p : ℕ) → List Instruction
+-- the code of an operator and its right side, from p on, after that of its left side
+abbrev pub form_code : Form → (node : ℕ → ℕ) → (code : ℕ → List Instruction) → (end reg : ℕ → ℕ)
+    → (on p : ℕ) → List Instruction
 form_code Both node code end reg on p =
     let q : ℕ = end (suc p) in
-    Branch on (suc (suc (suc q))) ∷ (code (suc p) ++ outcome (reg q) (node (suc (suc (suc (suc q))))) q)
+    Branch on (suc (suc (suc q))) ∷
+    (code (suc p) ++ truth_code (reg q) (node (suc (suc (suc (suc q))))) q)
 form_code Either node code end reg on p =
     let q : ℕ = end (suc (suc p)) in
-    Branch on (suc (suc p)) ∷ Jump (suc q) ∷ (code (suc (suc p)) ++ outcome (reg q) (node (suc (suc (suc (suc q))))) q)
-form_code (Direct o) node code end reg on p = code p ++ Bin o (node (suc (end p))) on (reg (end p)) ∷ []
-form_code (Exchanged o) node code end reg on p = code p ++ Bin o (node (suc (end p))) (reg (end p)) on ∷ []
+    Branch on (suc (suc p)) ∷ Jump (suc q)
+    ∷ (code (suc (suc p)) ++ truth_code (reg q) (node (suc (suc (suc (suc q))))) q)
+form_code (Direct o) node code end reg on p =
+    code p ++ Bin o (node (suc (end p))) on (reg (end p)) ∷ []
+form_code (Exchanged o) node code end reg on p =
+    code p ++ Bin o (node (suc (end p))) (reg (end p)) on ∷ []
 
 abbrev mutual
   -- the code of an expression, from p on
@@ -122,30 +132,42 @@ abbrev mutual
   exp_code s v expr.Null p = Const (s.node (suc p)) (pos 0) ∷ []
   exp_code s v (expr.Variable name) p = []
   exp_code s v (expr.Call name all) p =
-      arguments_code s v all p ++ Tick ∷ Call (s.node (suc (suc (arguments_end all p)))) (function_number s.tables name.text) (registers_of s v all p) ∷ []
+      arguments_code s v all p ++ Tick ∷ Call (s.node (suc (suc (arguments_end all p))))
+      (function_number s.tables name.text) (registers_of s v all p) ∷ []
   exp_code s v (expr.Root name) p = Load (s.node (suc p)) (root_target s.tables name.text) ∷ []
-  exp_code s v (expr.New place name) p = New (s.node (suc p)) (kind_named s.tables name.text) false (line_of s.tree place) ∷ []
+  exp_code s v (expr.New place name) p =
+      New (s.node (suc p)) (kind_named s.tables name.text) false (source_line s.tree place) ∷ []
   exp_code s v (expr.Arrow base place name) p =
-      exp_code s v base p ++ Load (s.node (suc (exp_end base p))) (target_of s v (expr.Arrow base place name) p) ∷ []
+      exp_code s v base p ++ Load (s.node (suc (exp_end base p)))
+      (target_of s v (expr.Arrow base place name) p) ∷ []
   exp_code s v (expr.Index base place index) p =
-      (target_code s v base p ++ exp_code s v index (target_end base p)) ++ Load (s.node (suc (exp_end index (target_end base p)))) (target_of s v (expr.Index base place index) p) ∷ []
+      (target_code s v base p ++ exp_code s v index (target_end base p))
+      ++ Load (s.node (suc (exp_end index (target_end base p))))
+      (target_of s v (expr.Index base place index) p) ∷ []
   exp_code s v (expr.Unary unary.Negate place a) p =
       let q : ℕ = exp_end a (suc p) in
-      Const (s.node (suc p)) (pos 0) ∷ (exp_code s v a (suc p) ++ Bin op.Sub (s.node (suc q)) (s.node (suc p)) (reg_of s v a q) ∷ [])
+      Const (s.node (suc p)) (pos 0)
+      ∷ (exp_code s v a (suc p) ++ Bin op.Sub (s.node (suc q)) (s.node (suc p)) (reg_of s v a q)
+      ∷ [])
   exp_code s v (expr.Unary unary.Complement place a) p =
       let q : ℕ = exp_end a (suc p) in
-      Const (s.node (suc p)) (negsuc 0) ∷ (exp_code s v a (suc p) ++ Bin op.Xor (s.node (suc q)) (s.node (suc p)) (reg_of s v a q) ∷ [])
+      Const (s.node (suc p)) (negsuc 0)
+      ∷ (exp_code s v a (suc p) ++ Bin op.Xor (s.node (suc q)) (s.node (suc p)) (reg_of s v a q)
+      ∷ [])
   exp_code s v (expr.Unary unary.Not place a) p =
       let q : ℕ = exp_end a p in
-      exp_code s v a p ++ Const (s.node (suc q)) (pos 0) ∷ Bin op.Eq (s.node (suc (suc q))) (reg_of s v a q) (s.node (suc q)) ∷ []
+      exp_code s v a p ++ Const (s.node (suc q)) (pos 0) ∷ Bin op.Eq (s.node (suc (suc q)))
+      (reg_of s v a q) (s.node (suc q)) ∷ []
   exp_code s v (expr.Binary o place a b) p =
       let q : ℕ = exp_end a p in
-      exp_code s v a p ++ form_code (form_of o) s.node (exp_code s v b) (exp_end b) (reg_of s v b) (reg_of s v a q) q
+      exp_code s v a p ++ form_code (form_of o) s.node (exp_code s v b) (exp_end b) (reg_of s v b)
+      (reg_of s v a q) q
 
   -- the code of the base and of the index of a field or an element
   pub target_code : Context → Variables → ExprTree → ℕ → List Instruction
   target_code s v (expr.Arrow base place name) p = exp_code s v base p
-  target_code s v (expr.Index base place index) p = target_code s v base p ++ exp_code s v index (target_end base p)
+  target_code s v (expr.Index base place index) p =
+      target_code s v base p ++ exp_code s v index (target_end base p)
   target_code s v (expr.Root name) p = []
   target_code s v (expr.Number n) p = []
   target_code s v expr.Null p = []
@@ -157,9 +179,10 @@ abbrev mutual
 
   pub arguments_code : Context → Variables → Arguments → ℕ → List Instruction
   arguments_code s v expr.None p = []
-  arguments_code s v (expr.More first value rest) p = exp_code s v value p ++ arguments_code s v rest (exp_end value p)
+  arguments_code s v (expr.More first value rest) p =
+      exp_code s v value p ++ arguments_code s v rest (exp_end value p)
 
--- a value that may be absent, and is a constant then
+-- an optional value; if absent, it is a constant
 abbrev pub or_end : Option ExprTree → ℕ → ℕ
 or_end None p = suc p
 or_end (Some e) p = exp_end e p
@@ -177,51 +200,66 @@ abbrev pub set_end : Option Ident → ExprTree → ExprTree → ℕ → ℕ
 set_end (Some name) target value p = suc (exp_end value p)
 set_end None target value p = suc (exp_end value (target_end target p))
 
-abbrev pub set_code : Context → Variables → Option Ident → ExprTree → (place : ℕ) → ExprTree → ℕ → List Instruction
-set_code s v (Some name) target place value p = exp_code s v value p ++ Copy (register_of name.text v) (reg_of s v value (exp_end value p)) ∷ []
+abbrev pub set_code : Context → Variables → Option Ident → ExprTree → (place : ℕ) → ExprTree → ℕ
+    → List Instruction
+set_code s v (Some name) target place value p =
+    exp_code s v value p ++ Copy (register_of name.text v) (reg_of s v value (exp_end value p)) ∷ []
 set_code s v None target place value p =
     let p1 : ℕ = target_end target p in
     let p2 : ℕ = exp_end value p1 in
-    target_code s v target p ++ (exp_code s v value p1 ++ Store (target_of s v target p) (reg_of s v value p2) (line_of s.tree place) ∷ [])
+    target_code s v target p ++ (exp_code s v value p1 ++ Store (target_of s v target p)
+    (reg_of s v value p2) (source_line s.tree place) ∷ [])
 
 -- `+=`, `-=`, and `++` and `--`, which have no value and mean 1: base and index are evaluated once
 abbrev pub update_end : Option Ident → ExprTree → Option ExprTree → ℕ → ℕ
 update_end (Some name) target value p = suc (suc (or_end value p))
 update_end None target value p = suc (suc (or_end value (suc (target_end target p))))
 
-abbrev pub update_code : Context → Variables → Option Ident → ExprTree → (place : ℕ) → BinOp → Option ExprTree → ℕ → List Instruction
+abbrev pub update_code : Context → Variables → Option Ident → ExprTree → (place : ℕ) → BinOp
+    → Option ExprTree → ℕ → List Instruction
 update_code s v (Some name) target place o value p =
     let p1 : ℕ = or_end value p in
     let r : ℕ = register_of name.text v in
-    or_code s v (pos 1) value p ++ Bin o (s.node (suc p1)) r (or_reg s v value p1) ∷ Copy r (s.node (suc p1)) ∷ []
+    or_code s v (pos 1) value p ++ Bin o (s.node (suc p1)) r (or_reg s v value p1)
+    ∷ Copy r (s.node (suc p1)) ∷ []
 update_code s v None target place o value p =
     let p1 : ℕ = target_end target p in
     let p2 : ℕ = or_end value (suc p1) in
     let t : Target = target_of s v target p in
     target_code s v target p ++ (Load (s.node (suc p1)) t ∷ (or_code s v (pos 1) value (suc p1)
-    ++ Bin o (s.node (suc p2)) (s.node (suc p1)) (or_reg s v value p2) ∷ Store t (s.node (suc p2)) (line_of s.tree place) ∷ []))
+    ++ Bin o (s.node (suc p2)) (s.node (suc p1)) (or_reg s v value p2) ∷ Store t (s.node (suc p2))
+    (source_line s.tree place) ∷ []))
 
 abbrev pub step_operation : StepOp → BinOp
 step_operation step.Up = op.Add
 step_operation step.Down = op.Sub
 
 abbrev pub simple_end : SimpleTree → ℕ → ℕ
-simple_end (stmt.Assign target assign.Set place value) p = set_end (variable_of target) target value p
-simple_end (stmt.Assign target assign.Add place value) p = update_end (variable_of target) target (Some value) p
-simple_end (stmt.Assign target assign.Sub place value) p = update_end (variable_of target) target (Some value) p
+simple_end (stmt.Assign target assign.Set place value) p =
+    set_end (variable_of target) target value p
+simple_end (stmt.Assign target assign.Add place value) p =
+    update_end (variable_of target) target (Some value) p
+simple_end (stmt.Assign target assign.Sub place value) p =
+    update_end (variable_of target) target (Some value) p
 simple_end (stmt.Step target o place) p = update_end (variable_of target) target None p
 simple_end (stmt.Call name all) p = exp_end (expr.Call name all) p
 simple_end (stmt.Free place pointer) p = suc (exp_end pointer p)
 simple_end (stmt.Abort place) p = suc p
 
 abbrev pub simple_code : Context → Variables → SimpleTree → ℕ → List Instruction
-simple_code s v (stmt.Assign target assign.Set place value) p = set_code s v (variable_of target) target place value p
-simple_code s v (stmt.Assign target assign.Add place value) p = update_code s v (variable_of target) target place op.Add (Some value) p
-simple_code s v (stmt.Assign target assign.Sub place value) p = update_code s v (variable_of target) target place op.Sub (Some value) p
-simple_code s v (stmt.Step target o place) p = update_code s v (variable_of target) target place (step_operation o) None p
+simple_code s v (stmt.Assign target assign.Set place value) p =
+    set_code s v (variable_of target) target place value p
+simple_code s v (stmt.Assign target assign.Add place value) p =
+    update_code s v (variable_of target) target place op.Add (Some value) p
+simple_code s v (stmt.Assign target assign.Sub place value) p =
+    update_code s v (variable_of target) target place op.Sub (Some value) p
+simple_code s v (stmt.Step target o place) p =
+    update_code s v (variable_of target) target place (step_operation o) None p
 simple_code s v (stmt.Call name all) p = exp_code s v (expr.Call name all) p
 simple_code s v (stmt.Free place pointer) p =
-    exp_code s v pointer p ++ Free (reg_of s v pointer (exp_end pointer p)) (kind_at s.tables (struct_behind (type_of s.tables v.scopes pointer))) (line_of s.tree place) ∷ []
+    exp_code s v pointer p ++ Free (reg_of s v pointer (exp_end pointer p))
+    (struct_kind_at s.tables (struct_pointed_to (type_of s.tables v.scopes pointer)))
+    (source_line s.tree place) ∷ []
 simple_code s v (stmt.Abort place) p = Trap trap.Abort ∷ []
 
 -- a declared variable has the register of the instruction that gives it its first value
@@ -231,13 +269,15 @@ initial_end (Some i) p = suc (exp_end i.value p)
 
 abbrev pub initial_code : Context → Variables → Option InitialTree → ℕ → List Instruction
 initial_code s v None p = Const (s.node (suc p)) (pos 0) ∷ []
-initial_code s v (Some i) p = exp_code s v i.value p ++ Copy (s.node (suc (exp_end i.value p))) (reg_of s v i.value (exp_end i.value p)) ∷ []
+initial_code s v (Some i) p = exp_code s v i.value p ++ Copy (s.node (suc (exp_end i.value p)))
+    (reg_of s v i.value (exp_end i.value p)) ∷ []
 
--- the variables behind a declaration whose code begins at p
-abbrev pub behind_declaration : Context → DeclarationTree → ℕ → Variables → Variables
-behind_declaration s d p v = declared d.name.text (declared_type s.tables d.ty) (s.node (initial_end d.initial p)) v
+-- the variables after a declaration whose code begins at p
+abbrev pub variables_after_declaration : Context → DeclarationTree → ℕ → Variables → Variables
+variables_after_declaration s d p v =
+    variable_declared d.name.text (declared_type s.tables d.ty) (s.node (initial_end d.initial p)) v
 
--- the first part of a `for`, which may be absent
+-- the optional first part of a `for`
 abbrev pub first_end : Option FirstTree → ℕ → ℕ
 first_end None p = p
 first_end (Some (stmt.Declare d)) p = initial_end d.initial p
@@ -248,12 +288,12 @@ first_code s v None p = []
 first_code s v (Some (stmt.Declare d)) p = initial_code s v d.initial p
 first_code s v (Some (stmt.Simply x)) p = simple_code s v x p
 
-abbrev pub behind_first : Context → Option FirstTree → ℕ → Variables → Variables
-behind_first s None p v = v
-behind_first s (Some (stmt.Declare d)) p v = behind_declaration s d p v
-behind_first s (Some (stmt.Simply x)) p v = v
+abbrev pub variables_after_first : Context → Option FirstTree → ℕ → Variables → Variables
+variables_after_first s None p v = v
+variables_after_first s (Some (stmt.Declare d)) p v = variables_after_declaration s d p v
+variables_after_first s (Some (stmt.Simply x)) p v = v
 
--- the third part of a `for`, which may be absent
+-- the optional third part of a `for`
 abbrev pub third_end : Option SimpleTree → ℕ → ℕ
 third_end None p = p
 third_end (Some x) p = simple_end x p
@@ -262,24 +302,19 @@ abbrev pub third_code : Context → Variables → Option SimpleTree → ℕ → 
 third_code s v None p = []
 third_code s v (Some x) p = simple_code s v x p
 
--- the variables behind a statement whose code begins at p: only a declaration changes them
-abbrev pub behind : Context → StmtTree → ℕ → Variables → Variables
-behind s (stmt.Declares d) p v = behind_declaration s d p v
-behind s stmt.Empty p v = v
-behind s (stmt.Simple x) p v = v
-behind s (stmt.Block all) p v = v
-behind s (stmt.If c a) p v = v
-behind s (stmt.IfElse c a b) p v = v
-behind s (stmt.While c a) p v = v
-behind s (stmt.For first c third a) p v = v
-behind s stmt.Break p v = v
-behind s stmt.Continue p v = v
-behind s (stmt.Return place value) p v = v
-
--- a `for` behind its first part: a tick, the condition, the body, the third part and the way back; the
--- codes of condition, body and third part are handed in
-abbrev pub loop_code : (on p : ℕ) → (condition body third : List Instruction) → (out : ℕ) → List Instruction
-loop_code on p condition body third out = Tick ∷ (condition ++ (Branch on out ∷ (body ++ (third ++ Jump p ∷ []))))
+-- the variables after a statement whose code begins at p: only a declaration changes them
+abbrev pub variables_after : Context → StmtTree → ℕ → Variables → Variables
+variables_after s (stmt.Declares d) p v = variables_after_declaration s d p v
+variables_after s stmt.Empty p v = v
+variables_after s (stmt.Simple x) p v = v
+variables_after s (stmt.Block all) p v = v
+variables_after s (stmt.If c a) p v = v
+variables_after s (stmt.IfElse c a b) p v = v
+variables_after s (stmt.While c a) p v = v
+variables_after s (stmt.For first c third a) p v = v
+variables_after s stmt.Break p v = v
+variables_after s stmt.Continue p v = v
+variables_after s (stmt.Return place value) p v = v
 
 abbrev mutual
   pub stmt_end : StmtTree → ℕ → ℕ
@@ -290,7 +325,8 @@ abbrev mutual
   stmt_end (stmt.If c a) p = stmt_end a (suc (exp_end c p))
   stmt_end (stmt.IfElse c a b) p = stmt_end b (suc (stmt_end a (suc (exp_end c p))))
   stmt_end (stmt.While c a) p = suc (stmt_end a (suc (exp_end c (suc p))))
-  stmt_end (stmt.For first c third a) p = suc (third_end third (stmt_end a (suc (or_end c (suc (first_end first p))))))
+  stmt_end (stmt.For first c third a) p =
+      suc (third_end third (stmt_end a (suc (or_end c (suc (first_end first p))))))
   stmt_end stmt.Break p = suc p
   stmt_end stmt.Continue p = suc p
   stmt_end (stmt.Return place value) p = suc (or_end value p)
@@ -299,51 +335,47 @@ abbrev mutual
   statements_end stmt.Nothing p = p
   statements_end (stmt.Then x xs) p = statements_end xs (stmt_end x p)
 
-abbrev pub behind_all : Context → Statements → ℕ → Variables → Variables
-behind_all s stmt.Nothing p v = v
-behind_all s (stmt.Then x xs) p v = behind_all s xs (stmt_end x p) (behind s x p v)
-
 abbrev mutual
-  -- the code of a statement, from p on; break leads to the place out, continue to the place again
+  -- the code of a statement, from p on; break goes to the place `out`, continue to the place
+  -- `again`
   pub stmt_code : Context → Variables → StmtTree → (out again p : ℕ) → List Instruction
   stmt_code s v stmt.Empty out again p = []
   stmt_code s v (stmt.Declares d) out again p = initial_code s v d.initial p
   stmt_code s v (stmt.Simple x) out again p = simple_code s v x p
-  stmt_code s v (stmt.Block all) out again p = statements_code s (inside v) all out again p
+  stmt_code s v (stmt.Block all) out again p = statements_code s (inner_variables v) all out again p
   stmt_code s v (stmt.If c a) out again p =
       let p1 : ℕ = exp_end c p in
-      exp_code s v c p ++ (Branch (reg_of s v c p1) (stmt_end a (suc p1)) ∷ stmt_code s (inside v) a out again (suc p1))
+      exp_code s v c p ++ (Branch (reg_of s v c p1) (stmt_end a (suc p1))
+      ∷ stmt_code s (inner_variables v) a out again (suc p1))
   stmt_code s v (stmt.IfElse c a b) out again p =
       let p1 : ℕ = exp_end c p in
       let p2 : ℕ = stmt_end a (suc p1) in
-      exp_code s v c p ++ (Branch (reg_of s v c p1) (suc p2) ∷ (stmt_code s (inside v) a out again (suc p1) ++ Jump (stmt_end b (suc p2)) ∷ stmt_code s (inside v) b out again (suc p2)))
+      exp_code s v c p ++ (Branch (reg_of s v c p1) (suc p2)
+      ∷ (stmt_code s (inner_variables v) a out again (suc p1) ++ Jump (stmt_end b (suc p2))
+      ∷ stmt_code s (inner_variables v) b out again (suc p2)))
   stmt_code s v (stmt.While c a) out again p =
       let p1 : ℕ = exp_end c (suc p) in
       let p2 : ℕ = stmt_end a (suc p1) in
-      Tick ∷ (exp_code s v c (suc p) ++ (Branch (reg_of s v c p1) (suc p2) ∷ (stmt_code s (inside v) a (suc p2) p (suc p1) ++ Jump p ∷ [])))
+      Tick ∷ (exp_code s v c (suc p)
+      ++ (Branch (reg_of s v c p1) (suc p2)
+      ∷ (stmt_code s (inner_variables v) a (suc p2) p (suc p1) ++ Jump p ∷ [])))
   stmt_code s v (stmt.For first c third a) out again p =
-      let u : Variables = behind_first s first p (inside v) in
+      let u : Variables = variables_after_first s first p (inner_variables v) in
       let p0 : ℕ = first_end first p in
       let p1 : ℕ = or_end c (suc p0) in
       let p2 : ℕ = stmt_end a (suc p1) in
       let p3 : ℕ = third_end third p2 in
-      first_code s (inside v) first p ++ (Tick ∷ (or_code s u (pos 1) c (suc p0) ++ (Branch (or_reg s u c p1) (suc p3)
-      ∷ (stmt_code s (inside u) a (suc p3) p2 (suc p1) ++ (third_code s u third p2 ++ Jump p0 ∷ [])))))
+      first_code s (inner_variables v) first p
+      ++ (Tick ∷ (or_code s u (pos 1) c (suc p0) ++ (Branch (or_reg s u c p1) (suc p3)
+      ∷ (stmt_code s (inner_variables u) a (suc p3) p2 (suc p1)
+      ++ (third_code s u third p2 ++ Jump p0 ∷ [])))))
   stmt_code s v stmt.Break out again p = Jump out ∷ []
   stmt_code s v stmt.Continue out again p = Jump again ∷ []
-  stmt_code s v (stmt.Return place value) out again p = or_code s v (pos 0) value p ++ Return (or_reg s v value (or_end value p)) ∷ []
+  stmt_code s v (stmt.Return place value) out again p =
+      or_code s v (pos 0) value p ++ Return (or_reg s v value (or_end value p)) ∷ []
 
   pub statements_code : Context → Variables → Statements → (out again p : ℕ) → List Instruction
   statements_code s v stmt.Nothing out again p = []
-  statements_code s v (stmt.Then x xs) out again p = stmt_code s v x out again p ++ statements_code s (behind s x p v) xs out again (stmt_end x p)
-
--- the parts of a `for` behind the first one, from p on
-abbrev pub for_end : Option ExprTree → Option SimpleTree → StmtTree → ℕ → ℕ
-for_end c third a p = suc (third_end third (stmt_end a (suc (or_end c (suc p)))))
-
-abbrev pub for_code : Context → Variables → Option ExprTree → Option SimpleTree → StmtTree → ℕ → List Instruction
-for_code s v c third a p =
-    let p1 : ℕ = or_end c (suc p) in
-    let p2 : ℕ = stmt_end a (suc p1) in
-    let p3 : ℕ = third_end third p2 in
-    loop_code (or_reg s v c p1) p (or_code s v (pos 1) c (suc p)) (stmt_code s (inside v) a (suc p3) p2 (suc p1)) (third_code s v third p2) (suc p3)
+  statements_code s v (stmt.Then x xs) out again p =
+      stmt_code s v x out again p ++ statements_code s (variables_after s x p v) xs out again
+      (stmt_end x p)

@@ -1,4 +1,4 @@
--- The variables that can be seen at a place of a function, and what names mean in the code.
+-- The variables that are visible at a place of a function, and what names mean in the code.
 use Rattle.std.specs.Prelude.{ℕ, ◌-◌, ◌^◌, min, List, [], ◌∷◌, ◌++◌, bytes_eq, if◌then◌else◌, Option, None, Some, slice_get, unwrap_or}
 use Rattle.std.specs.Option.{option_map_or}
 use Rattle.c_parser.specs.ExprTree.{ExprTree, Ident}
@@ -12,106 +12,101 @@ use Rattle.ir.specs.declared.instruction.Target.{Target}
 use Rattle.ir.specs.declared.instruction.Target.TheVariants.{Root, Field}
 
 -- a variable and its register
-pub record Local : Type 0 where
+pub record LocalRegister : Type 0 where
   pub name : List ℕ
   pub register : ℕ
 
--- the open scopes from the innermost out
+-- the open scopes, from the innermost out
 pub record Variables : Type 0 where
   pub scopes : List Scope
-  pub locals : List (List Local)
+  pub locals : List (List LocalRegister)
 
--- the number of what isn't there
+-- the number for what doesn't exist
 abbrev pub nowhere : ℕ
 nowhere = 2 ^ 32 - 1
 
-abbrev pub with_local : List ℕ → ℕ → List Local → List Local
+abbrev pub with_local : List ℕ → ℕ → List LocalRegister → List LocalRegister
 with_local name register ls = ls ++ record { name = name; register = register } ∷ []
 
--- a scope of its own inside the others
-abbrev pub inside : Variables → Variables
-inside v = record { scopes = scopes.inside v.scopes; locals = [] ∷ v.locals }
+-- a new scope inside the others
+abbrev pub inner_variables : Variables → Variables
+inner_variables v = record { scopes = scopes.inner_scopes v.scopes; locals = [] ∷ v.locals }
 
-abbrev pub others : List (List Local) → List (List Local)
-others [] = []
-others (l ∷ ls) = ls
-
--- the scopes round the innermost one
-abbrev pub outer : Variables → Variables
-outer v = record { scopes = scopes.outer v.scopes; locals = others v.locals }
-
-abbrev pub with_name : List ℕ → ℕ → List (List Local) → List (List Local)
+abbrev pub with_name : List ℕ → ℕ → List (List LocalRegister) → List (List LocalRegister)
 with_name name register [] = []
 with_name name register (l ∷ ls) = with_local name register l ∷ ls
 
--- a name of the innermost scope, declared with that type, in that register
-abbrev pub declared : List ℕ → ValueType → ℕ → Variables → Variables
-declared name ty register v = record {
-  scopes = scopes.declared name ty v.scopes;
+-- the innermost scope with a name declared with that type, in that register
+abbrev pub variable_declared : List ℕ → ValueType → ℕ → Variables → Variables
+variable_declared name ty register v = record {
+  scopes = scopes.scope_declared name ty v.scopes;
   locals = with_name name register v.locals;
 }
 
--- of two declarations in a scope the first counts
-abbrev pub register_in : List ℕ → List Local → Option ℕ
+-- if a scope declares a name twice, the first declaration counts
+abbrev pub register_in : List ℕ → List LocalRegister → Option ℕ
 register_in name [] = None
 register_in name (l ∷ ls) = if bytes_eq name l.name then Some l.register else register_in name ls
 
-abbrev pub or_else : Option ℕ → Option ℕ → Option ℕ
-or_else None other = other
-or_else (Some r) other = Some r
+abbrev pub register_or_else : Option ℕ → Option ℕ → Option ℕ
+register_or_else None other = other
+register_or_else (Some r) other = Some r
 
-abbrev pub variable_register : List ℕ → List (List Local) → Option ℕ
+abbrev pub variable_register : List ℕ → List (List LocalRegister) → Option ℕ
 variable_register name [] = None
-variable_register name (l ∷ ls) = or_else (register_in name l) (variable_register name ls)
+variable_register name (l ∷ ls) = register_or_else (register_in name l) (variable_register name ls)
 
 -- the register of the innermost variable of that name
 abbrev pub register_of : List ℕ → Variables → ℕ
 register_of name v = unwrap_or (variable_register name v.locals) nowhere
 
--- the number of what is found at a place
-abbrev pub number_of : Option ℕ → ℕ
-number_of found = option_map_or (λ n. min n nowhere) found nowhere
+-- the number of what was found at a place
+abbrev pub found_number : Option ℕ → ℕ
+found_number found = option_map_or (λ n. min n nowhere) found nowhere
 
 -- the number of a function
 abbrev pub function_number : Tables → List ℕ → ℕ
-function_number t name = number_of (index_of name (function_names t))
+function_number t name = found_number (index_of name (function_names t))
 
 -- the kind of the objects of a struct
-abbrev pub kind_at : Tables → Option ℕ → ℕ
-kind_at t found = option_map_or (λ i. number_of (Some (number_at t i))) found nowhere
+abbrev pub struct_kind_at : Tables → Option ℕ → ℕ
+struct_kind_at t found = option_map_or (λ i. found_number (Some (number_at t i))) found nowhere
 
 abbrev pub kind_named : Tables → List ℕ → ℕ
-kind_named t name = kind_at t (struct_named t name)
+kind_named t name = struct_kind_at t (struct_named t name)
 
 -- the number of a field of the struct at a place
-abbrev pub field_at : Tables → List ℕ → Option ℕ → ℕ
-field_at t name found = option_map_or (λ i. option_map_or (λ s. number_of (index_of name (field_names s))) (slice_get t.structs i) nowhere) found nowhere
+abbrev pub field_number : Tables → List ℕ → Option ℕ → ℕ
+field_number t name found = option_map_or
+    (λ i. option_map_or (λ s. found_number (index_of name (field_names s))) (slice_get t.structs i)
+    nowhere) found nowhere
 
--- where a pointer leads
-abbrev pub struct_behind : ValueType → Option ℕ
-struct_behind (Pointer i) = Some i
-struct_behind Int = None
-struct_behind Null = None
-struct_behind Any = None
+-- the struct that a pointer leads to
+abbrev pub struct_pointed_to : ValueType → Option ℕ
+struct_pointed_to (Pointer i) = Some i
+struct_pointed_to Int = None
+struct_pointed_to Null = None
+struct_pointed_to Any = None
 
 -- a field of the root
 abbrev pub root_target : Tables → List ℕ → Target
-root_target t name = Root (field_at t name (root_struct t)) None
+root_target t name = Root (field_number t name (root_struct t)) None
 
 -- a field of the object that a pointer of that type leads to
 abbrev pub field_target : Tables → ValueType → ℕ → List ℕ → Target
-field_target t ty base name = Field base (kind_at t (struct_behind ty)) (field_at t name (struct_behind ty)) None
+field_target t ty base name = Field base (struct_kind_at t (struct_pointed_to ty))
+    (field_number t name (struct_pointed_to ty)) None
 
 -- the element of an array field at the index in a register
-abbrev pub element : Target → ℕ → Target
-element (Root field index) r = Root field (Some r)
-element (Field base kind field index) r = Field base kind field (Some r)
+abbrev pub element_target : Target → ℕ → Target
+element_target (Root field index) r = Root field (Some r)
+element_target (Field base kind field index) r = Field base kind field (Some r)
 
--- what isn't there
+-- the target for what doesn't exist
 abbrev pub no_target : Target
 no_target = Root nowhere None
 
--- the name of a variable that stands alone
+-- the name, if the expression is just a variable
 abbrev pub variable_of : ExprTree → Option Ident
 variable_of (expr.Variable name) = Some name
 variable_of (expr.Number n) = None

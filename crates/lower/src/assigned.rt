@@ -9,8 +9,8 @@ use crate::names::as_variable;
 use c_parser::expr::Expr;
 use c_parser::stmt::{First, Simple, Stmt};
 
-/// Whether the statements of one block assign the variable of that name. Behind a declaration of the
-/// name it means another variable.
+/// Whether the statements of one block assign the variable of that name. After another declaration
+/// of the name it means another variable.
 #[cycle(assigned)]
 #[tactic(auto, using(crate::proofs::Blocks::blocks))]
 pub fn is_assigned(all: &[Stmt], name: &str) -> bool
@@ -47,7 +47,7 @@ fn declares(stmt: &Stmt, name: &str) -> bool
 #[cycle(assigned)]
 #[tactic(auto, using(crate::proofs::Blocks::blocks))]
 fn assigns(stmt: &Stmt, name: &str) -> bool
-    ensures { result ≡ meaning.assigns name.now (tree.stmt_of stmt.now) }
+    ensures { result ≡ meaning.assigns_name name.now (tree.stmt_of stmt.now) }
 {
     match stmt {
         Stmt::Simple(simple) => is_assignment(simple, name),
@@ -82,7 +82,7 @@ fn assigns(stmt: &Stmt, name: &str) -> bool
 }
 
 fn first_declares(first: &Option<First>, name: &str) -> bool
-    ensures { result ≡ meaning.first_declares name.now (option_map tree.first_of first.now) }
+    ensures { result ≡ meaning.first_declares name.now (option_map tree.tree_of_first first.now) }
 {
     match first {
         None => false,
@@ -94,7 +94,7 @@ fn first_declares(first: &Option<First>, name: &str) -> bool
 }
 
 fn first_assigns(first: &Option<First>, name: &str) -> bool
-    ensures { result ≡ meaning.first_assigns name.now (option_map tree.first_of first.now) }
+    ensures { result ≡ meaning.first_assigns name.now (option_map tree.tree_of_first first.now) }
 {
     match first {
         None => false,

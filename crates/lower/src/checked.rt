@@ -1,5 +1,5 @@
-//! Whether code is well formed: whether what its instructions name is there. Each test is true exactly
-//! where its definition holds.
+//! Whether code is well formed: whether all that its instructions name exists. Each test is true
+//! exactly if its definition holds.
 
 ghost use Rattle.std.specs.Prelude.{ℕ, ◌≡◌, ◌<◌, ◌≤◌, ◌^◌, true, Some, length, option_map, slice_get};
 ghost use Rattle.std.specs.List.{AllByRecursion};
@@ -8,7 +8,7 @@ ghost use Rattle.ir.specs.WellFormed as well;
 use ir::{Instruction, Ir, IrFunction, Target};
 use pool_map::{FieldShape, Shapes};
 
-/// The most functions of a program, and the most instructions of a function.
+/// The greatest number of functions of a program, and of instructions of a function.
 const MOST: usize = (1 << 31) - 1;
 
 /// Whether code is well formed.
@@ -42,7 +42,7 @@ fn is_function(ir: &Ir, function: &IrFunction) -> bool
         && are_instructions(ir, function.registers, code)
 }
 
-/// Whether the run doesn't go on behind the last instruction.
+/// Whether the run doesn't go on past the last instruction.
 #[tactic(auto, using(crate::proofs::Checks::ends))]
 fn ends_well(code: &[Instruction]) -> bool
     ensures sound { result ≡ true → well.EndsWell code.now }
@@ -55,8 +55,8 @@ fn ends_well(code: &[Instruction]) -> bool
 }
 
 fn is_end(instruction: &Instruction) -> bool
-    ensures sound { result ≡ true → well.IsEnd instruction.now }
-    ensures complete { well.IsEnd instruction.now → result ≡ true }
+    ensures sound { result ≡ true → well.StopsRun instruction.now }
+    ensures complete { well.StopsRun instruction.now → result ≡ true }
 {
     match instruction {
         Instruction::Jump { .. } => true,
@@ -78,8 +78,10 @@ fn is_end(instruction: &Instruction) -> bool
 
 fn are_instructions(ir: &Ir, registers: u32, code: &[Instruction]) -> bool
     requires { length code.now < 2 ^ 31 }
-    ensures sound { result ≡ true → AllByRecursion (well.IsInstruction ir.now registers (length code.now)) code.now }
-    ensures complete { AllByRecursion (well.IsInstruction ir.now registers (length code.now)) code.now → result ≡ true }
+    ensures sound { result ≡ true →
+        AllByRecursion (well.IsInstruction ir.now registers (length code.now)) code.now }
+    ensures complete { AllByRecursion (well.IsInstruction ir.now registers (length code.now))
+        code.now → result ≡ true }
 {
     for instruction in code {
         if !is_instruction(ir, registers, code.len() as u32, instruction) {
@@ -89,7 +91,8 @@ fn are_instructions(ir: &Ir, registers: u32, code: &[Instruction]) -> bool
     true
 }
 
-/// Whether what an instruction names is there, in a function with so many registers and instructions.
+/// Whether all that an instruction names exists, in a function with so many registers and
+/// instructions.
 fn is_instruction(ir: &Ir, registers: u32, length: u32, instruction: &Instruction) -> bool
     ensures sound { result ≡ true → well.IsInstruction ir.now registers length instruction.now }
     ensures complete { well.IsInstruction ir.now registers length instruction.now → result ≡ true }
@@ -140,7 +143,8 @@ fn are_below(args: &[u32], registers: u32) -> bool
 /// Whether there is a function of that number, with so many parameters.
 fn takes(ir: &Ir, function: u32, args: &[u32]) -> bool
     ensures sound { result ≡ true → well.TakesArgs (slice_get ir.now.functions function) args.now }
-    ensures complete { well.TakesArgs (slice_get ir.now.functions function) args.now → result ≡ true }
+    ensures complete { well.TakesArgs (slice_get ir.now.functions function) args.now
+        → result ≡ true }
 {
     match ir.functions.as_slice().get(function as usize) {
         None => false,
@@ -177,7 +181,7 @@ fn is_target(shapes: &Shapes, registers: u32, target: Target) -> bool
 }
 
 fn field_of(shapes: &Shapes, kind: u32, field: u32) -> Option<&FieldShape>
-    ensures { option_map (λ f. f.now) result ≡ well.field_of shapes.now kind field }
+    ensures { option_map (λ f. f.now) result ≡ well.shape_field shapes.now kind field }
 {
     if kind == 0 {
         return None;

@@ -1,24 +1,24 @@
-//! The code of a function while it is written. A jump whose place isn't known yet leads to a hole,
-//! a place that no code has, and is filled once the place is known.
+//! The code of a function while it is written. A jump whose target isn't known yet leads to a hole,
+//! which is a place that no code has, and is filled once the place is known.
 
 ghost use Rattle.std.specs.Prelude.{◌≡◌, ◌≤◌, ◌+◌, ◌^◌, [], ◌∷◌, ◌++◌, length, OnOk, slice_set};
-ghost use Rattle.lower.specs.Holes as holes;
-ghost use Rattle.lower.specs.Holes.{fill_from};
+ghost use Rattle.lower.specs.inside.Holes as holes;
+ghost use Rattle.lower.specs.inside.Holes.{fill_from};
 
 use ir::{Instruction, Instructions};
 use std::alloc::{AllocError, Global};
 use std::marker::Model;
 
-/// The place of a jump out of the innermost loop.
+/// The hole for a jump out of the innermost loop.
 pub const LEAVE: u32 = u32::MAX;
 
-/// The place of a jump to the third part of the innermost `for`.
+/// The hole for a jump to the third part of the innermost `for`.
 pub const NEXT: u32 = u32::MAX - 1;
 
-/// The most instructions of a function. No text of the language comes near it.
+/// The greatest number of instructions of a function. No text of the language comes near it.
 const MOST: usize = 1 << 29;
 
-/// The instructions that were written so far, seen as the list of them.
+/// The instructions written so far, seen as a list.
 #[derive(Drop)]
 pub struct Code {
     all: Instructions,
@@ -45,7 +45,7 @@ impl Code {
         }
     }
 
-    /// The place behind the last instruction.
+    /// The place after the last instruction.
     pub fn end(&self) -> u32
         ensures place { result ≡ length self.now }
         ensures small { length self.now ≤ 2 ^ 29 }
@@ -53,7 +53,7 @@ impl Code {
         self.all.as_slice().len() as u32
     }
 
-    /// Puts one instruction at the end. A function of over 2^29 instructions counts as want of memory.
+    /// Appends one instruction. A function of over 2^29 instructions counts as want of memory.
     pub fn push(&mut self, instruction: Instruction) -> Result<(), AllocError>
         ensures { OnOk result (self.new ≡ self.old ++ instruction ∷ []) }
     {
@@ -63,17 +63,17 @@ impl Code {
         self.all.push(instruction)
     }
 
-    /// Writes an instruction anew. Where there is none it changes nothing.
+    /// Overwrites an instruction. At a place without one it changes nothing.
     pub fn set(&mut self, place: u32, instruction: Instruction)
         ensures code { self.new ≡ slice_set self.old place instruction }
         ensures long { length self.new ≡ length self.old }
     {
         if (place as usize) < self.all.as_slice().len() {
-            self.all.set(place, instruction);
+            self.all.set(place as usize, instruction);
         }
     }
 
-    /// Lets the jumps to a hole lead to a place, from a place of the code on.
+    /// Makes the jumps to a hole, from a place of the code on, lead to a place.
     #[tactic(auto, using(crate::proofs::Fills::fills))]
     pub fn fill(&mut self, hole: u32, from: u32, place: u32)
         ensures { self.new ≡ fill_from hole from place self.old }

@@ -1,17 +1,17 @@
-//! The code of expressions. Each function puts code behind what is there and answers the register
-//! that then holds the value: the variable's own, or one that no other expression has.
+//! The code of expressions. Each function appends code and returns the register that then holds the
+//! value: the variable's own, or one that no other expression has.
 
 ghost use Rattle.std.specs.Prelude.{◌≡◌, ℕ, false, ◌++◌, length, option_map, IfOk, OnOk};
 ghost use Rattle.c_parser.specs.ExprTree.{expr_of, ident_of, arguments_in};
 ghost use Rattle.c_parser.specs.ExprTree as tree;
 ghost use Rattle.ir.specs.declared.instruction.Instruction.TheVariants as put;
 ghost use Rattle.lower.specs.declared.form.Form.TheVariants as form;
-ghost use Rattle.lower.specs.Added.{Put, ExprAdded, RightAdded, TargetAdded, ReadAdded, ArgumentsAdded, OrAdded, context_of};
-ghost use Rattle.c_parser.specs.Program.{line_of};
+ghost use Rattle.lower.specs.inside.Added.{Put, ExprAdded, RightAdded, TargetAdded, ReadAdded, ArgumentsAdded, OrAdded, context_of};
+ghost use Rattle.c_parser.specs.Program.{source_line};
 ghost use Rattle.c_types.specs.Views.{tables_in};
-ghost use Rattle.lower.specs.Added as added;
+ghost use Rattle.lower.specs.inside.Added as added;
 ghost use Rattle.lower.specs.Forms as forms;
-ghost use Rattle.lower.specs.Lowers.{outcome};
+ghost use Rattle.lower.specs.Lowers.{truth_code};
 ghost use Rattle.lower.specs.Names as names;
 
 use crate::code::Code;
@@ -24,7 +24,7 @@ use ir::{Instruction, Target};
 use nvm_base::{BinOp, Registers};
 use std::alloc::AllocError;
 
-/// The code of an expression.
+/// Appends the code of an expression.
 #[cycle(expressions)]
 #[tactic(auto, using(crate::proofs::ExprAdds::expressions))]
 pub fn add_expression(
@@ -33,7 +33,8 @@ pub fn add_expression(
     code: &mut Code,
     expr: &Expr,
 ) -> Result<u32, AllocError>
-    ensures { IfOk result (λ r. ExprAdded (context_of source.now) variables.now (expr_of expr.now) code.old code.new r) }
+    ensures { IfOk result (λ r. ExprAdded (context_of source.now) variables.now (expr_of expr.now)
+        code.old code.new r) }
 {
     match expr {
         Expr::Number(value) => add_constant(source, code, *value),
@@ -57,16 +58,17 @@ pub fn add_expression(
     }
 }
 
-/// A constant.
+/// Appends a constant.
 pub fn add_constant(source: &Source<'_, '_>, code: &mut Code, value: i64) -> Result<u32, AllocError>
-    ensures { IfOk result (λ r. Put (context_of source.now) (λ to. put.Const to value) code.old code.new r) }
+    ensures { IfOk result (λ r. Put (context_of source.now) (λ to. put.Const to value) code.old
+        code.new r) }
 {
     let to = source.register(code.end() + 1);
     code.push(Instruction::Const { to, value })?;
     Ok(to)
 }
 
-/// An operation on two registers.
+/// Appends an operation on two registers.
 pub fn add_operation(
     source: &Source<'_, '_>,
     code: &mut Code,
@@ -74,7 +76,8 @@ pub fn add_operation(
     left: u32,
     right: u32,
 ) -> Result<u32, AllocError>
-    ensures { IfOk result (λ r. Put (context_of source.now) (λ to. put.Bin op to left right) code.old code.new r) }
+    ensures { IfOk result (λ r. Put (context_of source.now) (λ to. put.Bin op to left right)
+        code.old code.new r) }
 {
     let to = source.register(code.end() + 1);
     code.push(Instruction::Bin {
@@ -86,25 +89,27 @@ pub fn add_operation(
     Ok(to)
 }
 
-/// A load.
+/// Appends a load.
 pub fn add_load(source: &Source<'_, '_>, code: &mut Code, target: Target) -> Result<u32, AllocError>
-    ensures { IfOk result (λ r. Put (context_of source.now) (λ to. put.Load to target) code.old code.new r) }
+    ensures { IfOk result (λ r. Put (context_of source.now) (λ to. put.Load to target) code.old
+        code.new r) }
 {
     let to = source.register(code.end() + 1);
     code.push(Instruction::Load { to, target })?;
     Ok(to)
 }
 
-/// A copy of a register in one of its own.
+/// Appends a copy of a register into a new one.
 pub fn add_copy(source: &Source<'_, '_>, code: &mut Code, from: u32) -> Result<u32, AllocError>
-    ensures { IfOk result (λ r. Put (context_of source.now) (λ to. put.Copy to from) code.old code.new r) }
+    ensures { IfOk result (λ r. Put (context_of source.now) (λ to. put.Copy to from) code.old
+        code.new r) }
 {
     let to = source.register(code.end() + 1);
     code.push(Instruction::Copy { to, from })?;
     Ok(to)
 }
 
-/// A value that may be absent, and is a constant then.
+/// Appends an optional value, which is a constant if absent.
 #[tactic(auto, using(crate::proofs::ExprAdds::expressions))]
 pub fn add_or_constant(
     source: &Source<'_, '_>,
@@ -113,7 +118,8 @@ pub fn add_or_constant(
     value: &Option<Expr>,
     absent: i64,
 ) -> Result<u32, AllocError>
-    ensures { IfOk result (λ r. OrAdded (context_of source.now) variables.now absent (option_map expr_of value.now) code.old code.new r) }
+    ensures { IfOk result (λ r. OrAdded (context_of source.now) variables.now absent
+        (option_map expr_of value.now) code.old code.new r) }
 {
     match value {
         None => add_constant(source, code, absent),
@@ -121,7 +127,7 @@ pub fn add_or_constant(
     }
 }
 
-/// A call: the arguments from left to right, a tick, and the call.
+/// Appends a call: the arguments from left to right, a tick, and the call.
 #[cycle(expressions)]
 #[tactic(auto, using(crate::proofs::ExprAdds::expressions))]
 pub fn add_call(
@@ -131,7 +137,8 @@ pub fn add_call(
     name: &Name,
     arguments: &[Argument],
 ) -> Result<u32, AllocError>
-    ensures { IfOk result (λ r. ExprAdded (context_of source.now) variables.now (tree.Call (ident_of name.now) (arguments_in arguments.now)) code.old code.new r) }
+    ensures { IfOk result (λ r. ExprAdded (context_of source.now) variables.now
+        (tree.Call (ident_of name.now) (arguments_in arguments.now)) code.old code.new r) }
 {
     let args = add_arguments(source, variables, code, arguments)?;
     let to = source.register(code.end() + 2);
@@ -149,7 +156,8 @@ fn add_arguments(
     code: &mut Code,
     arguments: &[Argument],
 ) -> Result<Registers, AllocError>
-    ensures { IfOk result (λ rs. ArgumentsAdded (context_of source.now) variables.now (arguments_in arguments.now) code.old code.new rs) }
+    ensures { IfOk result (λ rs. ArgumentsAdded (context_of source.now) variables.now
+        (arguments_in arguments.now) code.old code.new rs) }
 {
     let mut registers = Registers::new(source.alloc);
     for argument in arguments {
@@ -159,14 +167,16 @@ fn add_arguments(
     Ok(registers)
 }
 
-/// A new object. The line is that of `pm_new`.
+/// Appends a new object. The line is that of `pm_new`.
 fn add_new(
     source: &Source<'_, '_>,
     code: &mut Code,
     place: u64,
     name: &Name,
 ) -> Result<u32, AllocError>
-    ensures { IfOk result (λ r. Put (context_of source.now) (λ to. put.New to (names.kind_named (tables_in source.now.program.now) name.now.text) false (line_of source.now.ast.now place)) code.old code.new r) }
+    ensures { IfOk result (λ r. Put (context_of source.now)
+        (λ to. put.New to (names.kind_named (tables_in source.now.program.now) name.now.text) false
+        (source_line source.now.ast.now place)) code.old code.new r) }
 {
     let to = source.register(code.end() + 1);
     code.push(Instruction::New {
@@ -178,7 +188,7 @@ fn add_new(
     Ok(to)
 }
 
-/// A field or an element as a value: one load.
+/// Appends a field or an element as a value: one load.
 #[cycle(expressions)]
 #[tactic(auto, using(crate::proofs::ExprAdds::expressions))]
 fn add_read(
@@ -187,13 +197,14 @@ fn add_read(
     code: &mut Code,
     expr: &Expr,
 ) -> Result<u32, AllocError>
-    ensures { IfOk result (λ r. ReadAdded (context_of source.now) variables.now (expr_of expr.now) code.old code.new r) }
+    ensures { IfOk result (λ r. ReadAdded (context_of source.now) variables.now (expr_of expr.now)
+        code.old code.new r) }
 {
     let target = add_target(source, variables, code, expr)?;
     add_load(source, code, target)
 }
 
-/// What a field or an element is, behind the code of its base and of its index.
+/// Appends the code of the base and the index of a field or an element, and returns its target.
 #[cycle(expressions)]
 #[tactic(auto, using(crate::proofs::ExprAdds::expressions))]
 pub fn add_target(
@@ -202,7 +213,8 @@ pub fn add_target(
     code: &mut Code,
     expr: &Expr,
 ) -> Result<Target, AllocError>
-    ensures { IfOk result (λ t. TargetAdded (context_of source.now) variables.now (expr_of expr.now) code.old code.new t) }
+    ensures { IfOk result (λ t. TargetAdded (context_of source.now) variables.now (expr_of expr.now)
+        code.old code.new t) }
 {
     match expr {
         Expr::Root(field) => Ok(root_target(source.program, field)),
@@ -226,7 +238,7 @@ pub fn add_target(
     }
 }
 
-/// `-e` is 0 - e, `~e` is -1 ^ e, and `!e` is e == 0.
+/// Appends a unary operation: `-e` is 0 - e, `~e` is -1 ^ e, and `!e` is e == 0.
 #[cycle(expressions)]
 #[tactic(auto, using(crate::proofs::ExprAdds::expressions))]
 fn add_unary(
@@ -236,7 +248,9 @@ fn add_unary(
     op: UnaryOp,
     operand: &Expr,
 ) -> Result<u32, AllocError>
-    ensures { IfOk result (λ r. (place : ℕ) → ExprAdded (context_of source.now) variables.now (tree.Unary op place (expr_of operand.now)) code.old code.new r) }
+    ensures { IfOk result (λ r. (place : ℕ)
+        → ExprAdded (context_of source.now) variables.now
+        (tree.Unary op place (expr_of operand.now)) code.old code.new r) }
 {
     match op {
         UnaryOp::Negate => add_constant_first(source, variables, code, 0, BinOp::Sub, operand),
@@ -249,7 +263,7 @@ fn add_unary(
     }
 }
 
-/// An operation on a constant and an expression.
+/// Appends an operation on a constant and an expression.
 #[cycle(expressions)]
 #[tactic(auto, using(crate::proofs::ExprAdds::expressions))]
 fn add_constant_first(
@@ -260,14 +274,15 @@ fn add_constant_first(
     op: BinOp,
     operand: &Expr,
 ) -> Result<u32, AllocError>
-    ensures { IfOk result (λ r. added.FirstConstant (context_of source.now) variables.now value op (expr_of operand.now) code.old code.new r) }
+    ensures { IfOk result (λ r. added.FirstConstant (context_of source.now) variables.now value op
+        (expr_of operand.now) code.old code.new r) }
 {
     let left = add_constant(source, code, value)?;
     let right = add_expression(source, variables, code, operand)?;
     add_operation(source, code, op, left, right)
 }
 
-/// An operator behind its left side, which is in the register `on`.
+/// Appends an operator and its right side; the left side is in the register `on`.
 #[cycle(expressions)]
 #[tactic(auto, using(crate::proofs::ExprAdds::expressions))]
 fn add_right(
@@ -278,7 +293,8 @@ fn add_right(
     on: u32,
     right: &Expr,
 ) -> Result<u32, AllocError>
-    ensures { IfOk result (λ r. RightAdded (context_of source.now) variables.now (forms.form_of op) on (expr_of right.now) code.old code.new r) }
+    ensures { IfOk result (λ r. RightAdded (context_of source.now) variables.now (forms.form_of op)
+        on (expr_of right.now) code.old code.new r) }
 {
     match form_of(op) {
         Form::Both => add_both(source, variables, code, on, right),
@@ -294,7 +310,7 @@ fn add_right(
     }
 }
 
-/// `&&`: where one side is 0 the rest is left out and the value is 0, and else it is 1.
+/// Appends `&&`: if one side is 0 the rest is skipped and the value is 0, else it is 1.
 #[cycle(expressions)]
 #[tactic(auto, using(crate::proofs::ExprAdds::expressions))]
 fn add_both(
@@ -304,7 +320,8 @@ fn add_both(
     on: u32,
     right: &Expr,
 ) -> Result<u32, AllocError>
-    ensures { IfOk result (λ r. RightAdded (context_of source.now) variables.now form.Both on (expr_of right.now) code.old code.new r) }
+    ensures { IfOk result (λ r. RightAdded (context_of source.now) variables.now form.Both on
+        (expr_of right.now) code.old code.new r) }
 {
     let first = code.end();
     code.push(Instruction::Branch { on, place: 0 })?;
@@ -317,7 +334,7 @@ fn add_both(
     Ok(to)
 }
 
-/// `||`: where the left side isn't 0 the right side is left out.
+/// Appends `||`: if the left side isn't 0 the right side is skipped.
 #[cycle(expressions)]
 #[tactic(auto, using(crate::proofs::ExprAdds::expressions))]
 fn add_either(
@@ -327,7 +344,8 @@ fn add_either(
     on: u32,
     right: &Expr,
 ) -> Result<u32, AllocError>
-    ensures { IfOk result (λ r. RightAdded (context_of source.now) variables.now form.Either on (expr_of right.now) code.old code.new r) }
+    ensures { IfOk result (λ r. RightAdded (context_of source.now) variables.now form.Either on
+        (expr_of right.now) code.old code.new r) }
 {
     let first = code.end();
     let place = first + 2;
@@ -342,11 +360,11 @@ fn add_either(
     Ok(to)
 }
 
-/// 1 where a register isn't 0, and else 0: four instructions, of which the second is where 1 is
-/// assigned, and the last where 0 is.
+/// Appends 1 if a register isn't 0, else 0: four instructions, of which the second assigns 1 and
+/// the last assigns 0.
 #[tactic(auto, using(crate::proofs::ExprAdds::expressions))]
 fn add_outcome(code: &mut Code, on: u32, to: u32) -> Result<(), AllocError>
-    ensures { OnOk result (code.new ≡ code.old ++ outcome on to (length code.old)) }
+    ensures { OnOk result (code.new ≡ code.old ++ truth_code on to (length code.old)) }
 {
     let first = code.end();
     let place = first + 3;

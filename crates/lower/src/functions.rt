@@ -2,14 +2,15 @@
 
 ghost use Rattle.std.specs.Prelude.{◌≡◌, ◌<◌, [], true, length, map, IfOk, OnOk};
 ghost use Rattle.std.specs.List.{AllByRecursion};
-ghost use Rattle.c_parser.specs.ItemTree.{function_of, parameter_of};
+ghost use Rattle.c_parser.specs.ItemTree.{function_tree, parameter_of};
 ghost use Rattle.c_parser.specs.StmtTree.{statements_in};
 ghost use Rattle.c_types.specs.Fault.{breaks};
 ghost use Rattle.c_types.specs.Shapes.{shapes_of};
 ghost use Rattle.c_types.specs.Views.{tables_in};
 ghost use Rattle.ir.specs.WellFormed.{IsWellFormed};
-ghost use Rattle.lower.specs.Added.{ParameterAdded, ParametersAdded, context_of};
+ghost use Rattle.lower.specs.inside.Added.{ParameterAdded, ParametersAdded, context_of};
 ghost use Rattle.lower.specs.Program as programs;
+ghost use Rattle.lower.specs.inside.Program as inside_programs;
 ghost use Rattle.lower.specs.Program.{lowered};
 ghost use Rattle.ir.specs.Short.{IsShort};
 
@@ -28,10 +29,10 @@ use nvm_base::Text;
 use pool_map::Shapes;
 use std::alloc::{AllocError, Global};
 
-/// The code of a program: a function of it for each of the program, in their order, with no log and
-/// every flag off. A tree that breaks a typing rule may have code that isn't well formed, or a function
-/// with 65,536 parameters; the answer then has no functions. The error is want of memory, and it is
-/// answered too where a function has over 2^29 instructions.
+/// The code of a program: one function for each of the program's, in their order, with no log and
+/// every flag off. A tree that breaks a typing rule may have code that isn't well formed, or a
+/// function with 65,536 parameters; the answer then has no functions. The error is want of memory,
+/// which is also answered if a function has over 2^29 instructions.
 #[tactic(auto, using(crate::proofs::Whole::whole))]
 pub fn lower(alloc: Global, typed: &Typed) -> Result<Ir, AllocError>
     ensures code { IfOk result (λ ir. breaks typed.now ≡ [] → ir ≡ lowered typed.now) }
@@ -49,8 +50,8 @@ pub fn lower(alloc: Global, typed: &Typed) -> Result<Ir, AllocError>
     Ok(kept(alloc, Ir { functions, shapes }))
 }
 
-/// The code, if it is well formed. The code of a tree that was checked always is; for any other the
-/// answer has no functions.
+/// The code, if it is well formed. The code of a checked tree always is; for any other the answer
+/// has no functions.
 fn kept(alloc: Global, ir: Ir) -> Ir
     ensures same { IsWellFormed ir → result ≡ ir }
     ensures well_formed { IsWellFormed result }
@@ -63,7 +64,7 @@ fn kept(alloc: Global, ir: Ir) -> Ir
     nothing(alloc, ir.shapes)
 }
 
-/// No functions, which are well formed and short.
+/// A program without functions, which is well formed and short.
 fn nothing(alloc: Global, shapes: Shapes) -> Ir
     ensures well_formed { IsWellFormed result }
     ensures short { IsShort result }
@@ -75,10 +76,11 @@ fn nothing(alloc: Global, shapes: Shapes) -> Ir
     }
 }
 
-/// Whether each function has fewer than 65,536 parameters. Those of a checked tree have 22 at most.
+/// Whether each function has fewer than 65,536 parameters. Those of a checked tree have at most 22.
 #[tactic(auto, using(crate::proofs::Whole::parameters))]
 fn take_few(functions: &[&Function]) -> bool
-    ensures { result ≡ programs.take_few (map function_of (map (λ f. f.now) functions.now)) }
+    ensures { result ≡ inside_programs.take_few
+        (map function_tree (map (λ f. f.now) functions.now)) }
 {
     for function in functions {
         if function.parameters.len() >= 65_536 {
@@ -95,9 +97,14 @@ fn lower_functions<'s, 'a>(
     program: &'s Program<'a>,
     functions: &[&'a Function],
 ) -> Result<IrFunctions, AllocError>
-    requires few { programs.take_few (map function_of (map (λ f. f.now) functions.now)) ≡ true }
-    ensures code { IfOk result (λ us. us ≡ map (programs.lowered_function (tables_in program.now) ast.now) (map function_of (map (λ f. f.now) functions.now))) }
-    ensures counted { IfOk result (λ us. AllByRecursion (programs.IsCounted (tables_in program.now) ast.now) (map function_of (map (λ f. f.now) functions.now))) }
+    requires few { inside_programs.take_few (map function_tree (map (λ f. f.now) functions.now))
+        ≡ true }
+    ensures code { IfOk result (λ us.
+        us ≡ map (programs.lowered_function (tables_in program.now) ast.now)
+        (map function_tree (map (λ f. f.now) functions.now))) }
+    ensures counted { IfOk result (λ us.
+        AllByRecursion (inside_programs.IsCounted (tables_in program.now) ast.now)
+        (map function_tree (map (λ f. f.now) functions.now))) }
 {
     let mut lowered = IrFunctions::new(alloc);
     for function in functions {
@@ -115,8 +122,10 @@ fn lower_function<'s, 'a>(
     function: &'a Function,
 ) -> Result<IrFunction, AllocError>
     requires few { length function.now.parameters.items < 65536 }
-    ensures code { IfOk result (λ u. u ≡ programs.lowered_function (tables_in program.now) ast.now (function_of function.now)) }
-    ensures counted { IfOk result (λ u. programs.IsCounted (tables_in program.now) ast.now (function_of function.now)) }
+    ensures code { IfOk result (λ u. u ≡ programs.lowered_function (tables_in program.now) ast.now
+        (function_tree function.now)) }
+    ensures counted { IfOk result (λ u. inside_programs.IsCounted (tables_in program.now) ast.now
+        (function_tree function.now)) }
 {
     let source = Source {
         alloc,
@@ -139,8 +148,10 @@ fn lower_function<'s, 'a>(
 /// The code of a function: copies of the parameters that it assigns, its body, and the return of 0.
 fn function_code<'a>(source: &Source<'_, 'a>, function: &'a Function) -> Result<Code, AllocError>
     requires few { length function.now.parameters.items < 65536 }
-    ensures code { IfOk result (λ c. c ≡ programs.function_code (context_of source.now) (function_of function.now)) }
-    ensures long { IfOk result (λ c. length c ≡ programs.function_end (function_of function.now)) }
+    ensures code { IfOk result (λ c. c ≡ programs.function_code (context_of source.now)
+        (function_tree function.now)) }
+    ensures long { IfOk result (λ c.
+        length c ≡ inside_programs.function_end (function_tree function.now)) }
 {
     let mut variables = Variables::new(source.alloc);
     let mut code = Code::new(source.alloc);
@@ -162,7 +173,9 @@ fn add_parameters<'a>(
     function: &'a Function,
 ) -> Result<(), AllocError>
     requires few { length function.now.parameters.items < 65536 }
-    ensures { OnOk result (ParametersAdded (context_of source.now) (statements_in function.now.body.items) (map parameter_of function.now.parameters.items) variables.old code.old code.new variables.new) }
+    ensures { OnOk result (ParametersAdded (context_of source.now)
+        (statements_in function.now.body.items) (map parameter_of function.now.parameters.items)
+        variables.old code.old code.new variables.new) }
 {
     let mut number = 0u32;
     for parameter in &function.parameters {
@@ -176,8 +189,8 @@ fn add_parameters<'a>(
     Ok(())
 }
 
-/// The register of a parameter. One that the function assigns gets a second register, which every use
-/// means, so that the first is never assigned.
+/// The register of a parameter. A parameter that the function assigns gets a second register, which
+/// every use means, so the first is never assigned.
 #[tactic(auto, using(crate::proofs::FunctionAdds::functions))]
 fn add_parameter(
     source: &Source<'_, '_>,
@@ -185,7 +198,8 @@ fn add_parameter(
     assigned: bool,
     number: u32,
 ) -> Result<u32, AllocError>
-    ensures { IfOk result (λ r. ParameterAdded (context_of source.now) assigned number code.old code.new r) }
+    ensures { IfOk result (λ r. ParameterAdded (context_of source.now) assigned number code.old
+        code.new r) }
 {
     if assigned {
         return add_copy(source, code, number);

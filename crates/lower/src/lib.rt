@@ -1,7 +1,7 @@
-//! From a checked tree to three-address code. It stands on `c_types`, whose tables say what a name
+//! From a checked tree to intermediate code. It rests on `c_types`, whose tables say what a name
 //! means, and on `ir`, whose instructions it writes. Its one contract for the crates above: `lower`
-//! answers the code that the definition gives of a tree that keeps the typing rules, a function of it
-//! for each function of the program, in their order, and that code is well formed.
+//! answers the code that the definition gives for a tree that keeps the typing rules, one function
+//! for each of the program's, in their order, and that code is well formed.
 #![tactic(auto)]
 
 mod assigned;
@@ -13,8 +13,6 @@ mod functions;
 mod names;
 mod source;
 mod statements;
-#[cfg(test)]
-mod tests;
 mod variables;
 
 pub use functions::lower;

@@ -10,12 +10,12 @@ use c_parser::expr::{Expr, Name};
 use c_types::{Program, Scopes, ValueType, type_of};
 use ir::Target;
 
-/// The number of what isn't there. No code has so many functions, kinds, fields or registers.
+/// The number for what doesn't exist. No code has so many functions, kinds, fields or registers.
 pub const NOWHERE: u32 = u32::MAX;
 
-/// The number of what is found at this place.
+/// The number of what was found at this place.
 fn number_of(found: Option<u64>) -> u32
-    ensures { result ≡ names.number_of found }
+    ensures { result ≡ names.found_number found }
 {
     match found {
         None => NOWHERE,
@@ -32,7 +32,7 @@ pub fn function_number(program: &Program<'_>, name: &Name) -> u32
 
 /// The kind of the objects of the struct at that place.
 fn kind_at(program: &Program<'_>, found: Option<u64>) -> u32
-    ensures { result ≡ names.kind_at (tables_in program.now) found }
+    ensures { result ≡ names.struct_kind_at (tables_in program.now) found }
 {
     match found {
         None => NOWHERE,
@@ -48,8 +48,8 @@ pub fn kind_named(program: &Program<'_>, name: &Name) -> u32
 }
 
 /// The place of the struct that a value of this type points to.
-fn struct_behind(ty: ValueType) -> Option<u64>
-    ensures { result ≡ names.struct_behind ty }
+fn struct_reached(ty: ValueType) -> Option<u64>
+    ensures { result ≡ names.struct_pointed_to ty }
 {
     match ty {
         ValueType::Pointer(at) => Some(at),
@@ -61,14 +61,16 @@ fn struct_behind(ty: ValueType) -> Option<u64>
 
 /// The kind of the objects that an expression points to.
 pub fn kind_of_object(program: &Program<'_>, scopes: &Scopes<'_>, object: &Expr) -> u32
-    ensures { result ≡ names.kind_at (tables_in program.now) (names.struct_behind (expressions.type_of (tables_in program.now) scopes.now (expr_of object.now))) }
+    ensures { result ≡ names.struct_kind_at (tables_in program.now)
+        (names.struct_pointed_to (expressions.type_of (tables_in program.now) scopes.now
+        (expr_of object.now))) }
 {
-    kind_at(program, struct_behind(type_of(program, scopes, object)))
+    kind_at(program, struct_reached(type_of(program, scopes, object)))
 }
 
 /// The number of a field of the struct at that place.
 fn field_number(program: &Program<'_>, field: &Name, found: Option<u64>) -> u32
-    ensures { result ≡ names.field_at (tables_in program.now) field.now.text found }
+    ensures { result ≡ names.field_number (tables_in program.now) field.now.text found }
 {
     match found {
         None => NOWHERE,
@@ -97,9 +99,11 @@ pub fn field_target(
     base: u32,
     field: &Name,
 ) -> Target
-    ensures { result ≡ names.field_target (tables_in program.now) (expressions.type_of (tables_in program.now) scopes.now (expr_of object.now)) base field.now.text }
+    ensures { result ≡ names.field_target (tables_in program.now)
+        (expressions.type_of (tables_in program.now) scopes.now (expr_of object.now)) base
+        field.now.text }
 {
-    let found = struct_behind(type_of(program, scopes, object));
+    let found = struct_reached(type_of(program, scopes, object));
     Target::Field {
         base,
         kind: kind_at(program, found),
@@ -110,7 +114,7 @@ pub fn field_target(
 
 /// The element of an array field at the index in a register.
 pub fn element(array: Target, register: u32) -> Target
-    ensures { result ≡ names.element array register }
+    ensures { result ≡ names.element_target array register }
 {
     match array {
         Target::Root { field, .. } => Target::Root {
@@ -131,7 +135,7 @@ pub fn element(array: Target, register: u32) -> Target
     }
 }
 
-/// What isn't there.
+/// The target for what doesn't exist.
 pub fn no_target() -> Target
     ensures { result ≡ names.no_target }
 {
@@ -141,7 +145,7 @@ pub fn no_target() -> Target
     }
 }
 
-/// The name of a variable that stands alone.
+/// The name, if the expression is just a variable.
 pub fn as_variable(expr: &Expr) -> Option<&Name>
     ensures { option_map (λ n. ident_of n.now) result ≡ names.variable_of (expr_of expr.now) }
 {

@@ -1,7 +1,7 @@
-//! What the code of a function is made from, and its registers.
+//! The source of a function's code, and its registers.
 //!
 //! A function's first registers hold its arguments. Every other register is named by a place of the
-//! code: what is written up to that place comes into it. So no two variables or values share one.
+//! code: the value whose code ends at that place. So no two variables or values share one.
 
 ghost use Rattle.std.specs.Prelude.{◌≡◌, ◌+◌, ◌<◌, ◌^◌};
 
@@ -9,7 +9,7 @@ use c_parser::Ast;
 use c_types::Program;
 use std::alloc::Global;
 
-/// The tree with its lines, what its names mean, and how many parameters the function has.
+/// The tree with its lines, the meaning of its names, and the number of the function's parameters.
 #[derive(Drop)]
 pub struct Source<'s, 'a> {
     pub alloc: Global,
@@ -19,7 +19,7 @@ pub struct Source<'s, 'a> {
 }
 
 impl<'s, 'a> Source<'s, 'a> {
-    /// The register of what ends at this place of the code.
+    /// The register of the value whose code ends at this place.
     pub fn register(&self, place: u32) -> u32
         requires { place < 2 ^ 31 }
         ensures { result ≡ self.now.parameters + place }

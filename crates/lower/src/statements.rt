@@ -1,13 +1,13 @@
-//! The code of statements. Each function puts code behind what is there. `again` is where `continue`
-//! leads; `break` leads to a hole, which the loop fills.
+//! The code of statements. Each function appends code. `again` is the target of `continue`; `break`
+//! leads to a hole, which the loop fills.
 
 ghost use Rattle.std.specs.Prelude.{◌≡◌, ◌≤◌, pos, option_map, Some, OnOk, IfOk};
 ghost use Rattle.c_parser.specs.ExprTree.{expr_of};
 ghost use Rattle.c_parser.specs.StmtTree as tree;
 ghost use Rattle.c_parser.specs.declared.stmt.AssignOp.TheVariants as assign;
-ghost use Rattle.lower.specs.Added as added;
-ghost use Rattle.lower.specs.Added.{context_of};
-ghost use Rattle.lower.specs.Holes as holes;
+ghost use Rattle.lower.specs.inside.Added as added;
+ghost use Rattle.lower.specs.inside.Added.{context_of};
+ghost use Rattle.lower.specs.inside.Holes as holes;
 ghost use Rattle.lower.specs.Lowers as lowers;
 
 use crate::code::{Code, LEAVE, NEXT};
@@ -25,7 +25,7 @@ use nvm_base::BinOp;
 use pool_map::TrapKind;
 use std::alloc::AllocError;
 
-/// The statements of one block, in the innermost scope.
+/// Appends the statements of one block, in the innermost scope.
 #[cycle(statements)]
 #[tactic(auto, using(crate::proofs::StmtAdds::statements))]
 pub fn add_statements<'a>(
@@ -35,7 +35,8 @@ pub fn add_statements<'a>(
     again: u32,
     all: &'a [Stmt],
 ) -> Result<(), AllocError>
-    ensures { OnOk result (added.StatementsAdded (context_of source.now) variables.old (tree.statements_in all.now) holes.leave again code.old code.new variables.new) }
+    ensures { OnOk result (added.StatementsAdded (context_of source.now) variables.old
+        (tree.statements_in all.now) holes.leave again code.old code.new variables.new) }
 {
     for stmt in all {
         add_statement(source, variables, code, again, stmt)?;
@@ -52,7 +53,8 @@ fn add_statement<'a>(
     again: u32,
     stmt: &'a Stmt,
 ) -> Result<(), AllocError>
-    ensures { OnOk result (added.StmtAdded (context_of source.now) variables.old (tree.stmt_of stmt.now) holes.leave again code.old code.new variables.new) }
+    ensures { OnOk result (added.StmtAdded (context_of source.now) variables.old
+        (tree.stmt_of stmt.now) holes.leave again code.old code.new variables.new) }
 {
     match stmt {
         Stmt::Empty => Ok(()),
@@ -89,7 +91,7 @@ fn add_statement<'a>(
     }
 }
 
-/// A block in a scope of its own.
+/// Appends a block in a scope of its own.
 #[cycle(statements)]
 #[tactic(auto, using(crate::proofs::StmtAdds::statements))]
 fn add_block<'a>(
@@ -99,7 +101,9 @@ fn add_block<'a>(
     again: u32,
     all: &'a [Stmt],
 ) -> Result<(), AllocError>
-    ensures { OnOk result (added.StmtAdded (context_of source.now) variables.old (tree.Block (tree.statements_in all.now)) holes.leave again code.old code.new variables.new) }
+    ensures { OnOk result (added.StmtAdded (context_of source.now) variables.old
+        (tree.Block (tree.statements_in all.now)) holes.leave again code.old code.new
+        variables.new) }
 {
     variables.open(source.alloc)?;
     add_statements(source, variables, code, again, all)?;
@@ -107,7 +111,7 @@ fn add_block<'a>(
     Ok(())
 }
 
-/// A body in a scope of its own.
+/// Appends a body in a scope of its own.
 #[cycle(statements)]
 #[tactic(auto, using(crate::proofs::StmtAdds::statements))]
 fn add_body<'a>(
@@ -117,7 +121,8 @@ fn add_body<'a>(
     again: u32,
     body: &'a Stmt,
 ) -> Result<(), AllocError>
-    ensures { OnOk result (added.BodyAdded (context_of source.now) variables.old (tree.stmt_of body.now) holes.leave again code.old code.new variables.new) }
+    ensures { OnOk result (added.BodyAdded (context_of source.now) variables.old
+        (tree.stmt_of body.now) holes.leave again code.old code.new variables.new) }
 {
     variables.open(source.alloc)?;
     add_statement(source, variables, code, again, body)?;
@@ -125,7 +130,8 @@ fn add_body<'a>(
     Ok(())
 }
 
-/// A condition and the body. Where the condition is 0 the code goes on so many places behind the body.
+/// Appends a condition and the body. If the condition is 0, the code goes on so many places after
+/// the body.
 #[cycle(statements)]
 #[tactic(auto, using(crate::proofs::StmtAdds::statements))]
 fn add_if<'a>(
@@ -135,22 +141,25 @@ fn add_if<'a>(
     again: u32,
     body: &'a Stmt,
     condition: &Expr,
-    behind: u32,
+    afterwards: u32,
 ) -> Result<(), AllocError>
-    requires { behind ≤ 1 }
-    ensures { OnOk result (added.IfAdded (context_of source.now) variables.old (expr_of condition.now) (tree.stmt_of body.now) holes.leave again behind code.old code.new variables.new) }
+    requires { afterwards ≤ 1 }
+    ensures { OnOk result (added.IfAdded (context_of source.now) variables.old
+        (expr_of condition.now) (tree.stmt_of body.now) holes.leave again afterwards
+        code.old code.new
+        variables.new) }
 {
     let on = add_expression(source, variables, code, condition)?;
     let first = code.end();
     code.push(Instruction::Branch { on, place: 0 })?;
     add_body(source, variables, code, again, body)?;
     let second = code.end();
-    let place = second + behind;
+    let place = second + afterwards;
     code.set(first, Instruction::Branch { on, place });
     Ok(())
 }
 
-/// The `else` part, behind a jump over it.
+/// Appends the `else` part, preceded by a jump over it.
 #[cycle(statements)]
 #[tactic(auto, using(crate::proofs::StmtAdds::statements))]
 fn add_else<'a>(
@@ -160,7 +169,8 @@ fn add_else<'a>(
     again: u32,
     other: &'a Stmt,
 ) -> Result<(), AllocError>
-    ensures { OnOk result (added.ElseAdded (context_of source.now) variables.old (tree.stmt_of other.now) holes.leave again code.old code.new variables.new) }
+    ensures { OnOk result (added.ElseAdded (context_of source.now) variables.old
+        (tree.stmt_of other.now) holes.leave again code.old code.new variables.new) }
 {
     let first = code.end();
     code.push(Instruction::Jump { place: 0 })?;
@@ -170,7 +180,7 @@ fn add_else<'a>(
     Ok(())
 }
 
-/// A tick, the condition, the body, and back.
+/// Appends a tick, the condition, the body, and the jump back.
 #[cycle(statements)]
 #[tactic(auto, using(crate::proofs::StmtAdds::statements))]
 fn add_while<'a>(
@@ -180,7 +190,8 @@ fn add_while<'a>(
     body: &'a Stmt,
     condition: &Expr,
 ) -> Result<(), AllocError>
-    ensures { OnOk result (added.WhileAdded (context_of source.now) variables.old (expr_of condition.now) (tree.stmt_of body.now) code.old code.new variables.new) }
+    ensures { OnOk result (added.WhileAdded (context_of source.now) variables.old
+        (expr_of condition.now) (tree.stmt_of body.now) code.old code.new variables.new) }
 {
     let top = code.end();
     code.push(Instruction::Tick)?;
@@ -196,8 +207,8 @@ fn add_while<'a>(
     Ok(())
 }
 
-/// A `for` behind its first part: a tick, the condition, the body, the third part, and back. The third
-/// part is where `continue` leads.
+/// Appends a `for` after its first part: a tick, the condition, the body, the third part, and the
+/// jump back. `continue` leads to the third part.
 #[cycle(statements)]
 #[tactic(auto, using(crate::proofs::StmtAdds::statements))]
 fn add_for<'a>(
@@ -208,7 +219,9 @@ fn add_for<'a>(
     third: &Option<Simple>,
     body: &'a Stmt,
 ) -> Result<(), AllocError>
-    ensures { OnOk result (added.ForAdded (context_of source.now) variables.old (option_map expr_of condition.now) (option_map tree.simple_of third.now) (tree.stmt_of body.now) code.old code.new variables.new) }
+    ensures { OnOk result (added.ForAdded (context_of source.now) variables.old
+        (option_map expr_of condition.now) (option_map tree.simple_of third.now)
+        (tree.stmt_of body.now) code.old code.new variables.new) }
 {
     let top = code.end();
     code.push(Instruction::Tick)?;
@@ -227,7 +240,7 @@ fn add_for<'a>(
     Ok(())
 }
 
-/// The first part of a `for`.
+/// Appends the first part of a `for`.
 #[tactic(auto, using(crate::proofs::StmtAdds::statements))]
 fn add_first<'a>(
     source: &Source<'_, 'a>,
@@ -235,7 +248,8 @@ fn add_first<'a>(
     code: &mut Code,
     first: &'a Option<First>,
 ) -> Result<(), AllocError>
-    ensures { OnOk result (added.FirstAdded (context_of source.now) variables.old (option_map tree.first_of first.now) code.old code.new variables.new) }
+    ensures { OnOk result (added.FirstAdded (context_of source.now) variables.old
+        (option_map tree.tree_of_first first.now) code.old code.new variables.new) }
 {
     match first {
         None => Ok(()),
@@ -246,7 +260,7 @@ fn add_first<'a>(
     }
 }
 
-/// The third part of a `for`.
+/// Appends the third part of a `for`.
 #[tactic(auto, using(crate::proofs::StmtAdds::statements))]
 fn add_third(
     source: &Source<'_, '_>,
@@ -254,7 +268,8 @@ fn add_third(
     code: &mut Code,
     third: &Option<Simple>,
 ) -> Result<(), AllocError>
-    ensures { OnOk result (added.ThirdAdded (context_of source.now) variables.now (option_map tree.simple_of third.now) code.old code.new) }
+    ensures { OnOk result (added.ThirdAdded (context_of source.now) variables.now
+        (option_map tree.simple_of third.now) code.old code.new) }
 {
     match third {
         None => Ok(()),
@@ -262,7 +277,7 @@ fn add_third(
     }
 }
 
-/// `return`, of 0 where it has no value.
+/// Appends a `return`, of 0 if it has no value.
 #[tactic(auto, using(crate::proofs::StmtAdds::statements))]
 fn add_return(
     source: &Source<'_, '_>,
@@ -270,13 +285,14 @@ fn add_return(
     code: &mut Code,
     value: &Option<Expr>,
 ) -> Result<(), AllocError>
-    ensures { OnOk result (added.ReturnAdded (context_of source.now) variables.now (option_map expr_of value.now) code.old code.new) }
+    ensures { OnOk result (added.ReturnAdded (context_of source.now) variables.now
+        (option_map expr_of value.now) code.old code.new) }
 {
     let from = add_or_constant(source, variables, code, value, 0)?;
     code.push(Instruction::Return { from })
 }
 
-/// A declared name is known behind its first value.
+/// Appends a declaration. The name is known only after its first value.
 #[tactic(auto, using(crate::proofs::StmtAdds::statements))]
 fn add_declaration<'a>(
     source: &Source<'_, 'a>,
@@ -284,14 +300,16 @@ fn add_declaration<'a>(
     code: &mut Code,
     declaration: &'a Declaration,
 ) -> Result<(), AllocError>
-    ensures { OnOk result (added.FirstAdded (context_of source.now) variables.old (Some (tree.Declare (tree.declaration_of declaration.now))) code.old code.new variables.new) }
+    ensures { OnOk result (added.FirstAdded (context_of source.now) variables.old
+        (Some (tree.Declare (tree.declaration_of declaration.now))) code.old code.new
+        variables.new) }
 {
     let register = add_initial(source, variables, code, &declaration.initial)?;
     let ty = source.program.declared_type(&declaration.ty);
     variables.declare(declaration.name.text.as_str(), ty, register)
 }
 
-/// The first value of a variable, in the register that is the variable's from then on.
+/// Appends the first value of a variable; its register becomes the variable's.
 #[tactic(auto, using(crate::proofs::StmtAdds::statements))]
 fn add_initial(
     source: &Source<'_, '_>,
@@ -299,7 +317,8 @@ fn add_initial(
     code: &mut Code,
     initial: &Option<Initial>,
 ) -> Result<u32, AllocError>
-    ensures { IfOk result (λ r. added.InitialAdded (context_of source.now) variables.now (option_map tree.initial_of initial.now) code.old code.new r) }
+    ensures { IfOk result (λ r. added.InitialAdded (context_of source.now) variables.now
+        (option_map tree.initial_of initial.now) code.old code.new r) }
 {
     match initial {
         None => add_constant(source, code, 0),
@@ -310,7 +329,7 @@ fn add_initial(
     }
 }
 
-/// A simple statement.
+/// Appends a simple statement.
 #[tactic(auto, using(crate::proofs::StmtAdds::statements))]
 fn add_simple(
     source: &Source<'_, '_>,
@@ -318,7 +337,8 @@ fn add_simple(
     code: &mut Code,
     simple: &Simple,
 ) -> Result<(), AllocError>
-    ensures { OnOk result (added.SimpleAdded (context_of source.now) variables.now (tree.simple_of simple.now) code.old code.new) }
+    ensures { OnOk result (added.SimpleAdded (context_of source.now) variables.now
+        (tree.simple_of simple.now) code.old code.new) }
 {
     match simple {
         Simple::Assign {
@@ -342,7 +362,7 @@ fn add_simple(
     }
 }
 
-/// `=`, `+=` or `-=`.
+/// Appends `=`, `+=` or `-=`.
 #[tactic(auto, using(crate::proofs::StmtAdds::statements))]
 fn add_assign(
     source: &Source<'_, '_>,
@@ -353,7 +373,8 @@ fn add_assign(
     place: u64,
     value: &Expr,
 ) -> Result<(), AllocError>
-    ensures { OnOk result (added.SimpleAdded (context_of source.now) variables.now (tree.Assign (expr_of target.now) op place (expr_of value.now)) code.old code.new) }
+    ensures { OnOk result (added.SimpleAdded (context_of source.now) variables.now
+        (tree.Assign (expr_of target.now) op place (expr_of value.now)) code.old code.new) }
 {
     match op {
         AssignOp::Set => add_assignment(source, variables, code, target, place, value),
@@ -377,7 +398,7 @@ fn step_operation(op: StepOp) -> BinOp
     }
 }
 
-/// `pm_free`. The line is that of the word.
+/// Appends `pm_free`. The line is that of the word.
 #[tactic(auto, using(crate::proofs::StmtAdds::statements))]
 fn add_free(
     source: &Source<'_, '_>,
@@ -386,7 +407,8 @@ fn add_free(
     place: u64,
     pointer: &Expr,
 ) -> Result<(), AllocError>
-    ensures { OnOk result (added.SimpleAdded (context_of source.now) variables.now (tree.Free place (expr_of pointer.now)) code.old code.new) }
+    ensures { OnOk result (added.SimpleAdded (context_of source.now) variables.now
+        (tree.Free place (expr_of pointer.now)) code.old code.new) }
 {
     let from = add_expression(source, variables, code, pointer)?;
     let kind = kind_of_object(source.program, variables.scopes(), pointer);
@@ -394,7 +416,7 @@ fn add_free(
     code.push(Instruction::Free { from, kind, line })
 }
 
-/// `=`. The line is that of the operator.
+/// Appends `=`. The line is that of the operator.
 #[tactic(auto, using(crate::proofs::StmtAdds::statements))]
 fn add_assignment(
     source: &Source<'_, '_>,
@@ -404,7 +426,8 @@ fn add_assignment(
     place: u64,
     value: &Expr,
 ) -> Result<(), AllocError>
-    ensures { OnOk result (added.SimpleAdded (context_of source.now) variables.now (tree.Assign (expr_of target.now) assign.Set place (expr_of value.now)) code.old code.new) }
+    ensures { OnOk result (added.SimpleAdded (context_of source.now) variables.now
+        (tree.Assign (expr_of target.now) assign.Set place (expr_of value.now)) code.old code.new) }
 {
     match as_variable(target) {
         Some(name) => {
@@ -421,8 +444,8 @@ fn add_assignment(
     }
 }
 
-/// `+=`, `-=`, `++` and `--`. On a variable it is an operation and a copy, and on a field one load, an
-/// operation and one store.
+/// Appends `+=`, `-=`, `++` or `--`: for a variable an operation and a copy, for a field one load,
+/// an operation and one store.
 #[tactic(auto, using(crate::proofs::StmtAdds::statements))]
 fn add_update(
     source: &Source<'_, '_>,
@@ -433,7 +456,9 @@ fn add_update(
     op: BinOp,
     value: Option<&Expr>,
 ) -> Result<(), AllocError>
-    ensures { OnOk result (added.UpdateAdded (context_of source.now) variables.now (expr_of target.now) place op (option_map (λ e. expr_of e.now) value.entry) code.old code.new) }
+    ensures { OnOk result (added.UpdateAdded (context_of source.now) variables.now
+        (expr_of target.now) place op (option_map (λ e. expr_of e.now) value.entry) code.old
+        code.new) }
 {
     match as_variable(target) {
         Some(name) => {
@@ -453,7 +478,7 @@ fn add_update(
     }
 }
 
-/// By how much a target changes: `++` and `--` have no value, and mean 1.
+/// Appends the amount by which a target changes: `++` and `--` have no value, and mean 1.
 #[tactic(auto, using(crate::proofs::StmtAdds::statements))]
 fn add_amount(
     source: &Source<'_, '_>,
@@ -461,7 +486,8 @@ fn add_amount(
     code: &mut Code,
     value: Option<&Expr>,
 ) -> Result<u32, AllocError>
-    ensures { IfOk result (λ r. added.OrAdded (context_of source.now) variables.now (pos 1) (option_map (λ e. expr_of e.now) value.entry) code.old code.new r) }
+    ensures { IfOk result (λ r. added.OrAdded (context_of source.now) variables.now (pos 1)
+        (option_map (λ e. expr_of e.now) value.entry) code.old code.new r) }
 {
     match value {
         None => add_constant(source, code, 1),

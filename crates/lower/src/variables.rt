@@ -1,7 +1,8 @@
-//! The variables that can be seen at a place of a function, with their registers.
+//! The variables that are visible at a place of a function, with their registers.
 
 ghost use Rattle.std.specs.Prelude.{◌≡◌, [], OnOk, map, reverse};
 ghost use Rattle.lower.specs.Names as names;
+ghost use Rattle.lower.specs.inside.Names as inside_names;
 
 use crate::names::NOWHERE;
 use c_types::{Scopes, ValueType};
@@ -25,9 +26,10 @@ impl<'a> Model for Locals<'a> {
     ghost use Rattle.std.specs.Prelude.{List, map};
     ghost use Rattle.lower.specs.Names as names;
 
-    ghost Value = { List names.Local };
+    ghost Value = { List names.LocalRegister };
 
-    ghost view = { λ l. map (λ x. record { name = x.name.now; register = x.register }) l.all.items };
+    ghost view = { λ l. map (λ x. record { name = x.name.now; register = x.register })
+        l.all.items };
 }
 
 impl<'a> Locals<'a> {
@@ -54,7 +56,8 @@ impl<'a> Locals<'a> {
 }
 
 fn find_local(all: &[Local<'_>], name: &str) -> Option<u32>
-    ensures { result ≡ names.register_in name.now (map (λ x. record { name = x.name.now; register = x.register }) all.now) }
+    ensures { result ≡ names.register_in name.now
+        (map (λ x. record { name = x.name.now; register = x.register }) all.now) }
 {
     for local in all {
         if name == local.name {
@@ -81,7 +84,7 @@ impl<'a> Model for Variables<'a> {
 }
 
 impl<'a> Variables<'a> {
-    /// No scope is open. It takes no memory.
+    /// No open scope. It takes no memory.
     pub fn new(alloc: Global) -> Self
         ensures { result ≡ record { scopes = []; locals = [] } }
     {
@@ -100,7 +103,7 @@ impl<'a> Variables<'a> {
 
     /// Opens a scope inside the others.
     pub fn open(&mut self, alloc: Global) -> Result<(), AllocError>
-        ensures { OnOk result (self.new ≡ names.inside self.old) }
+        ensures { OnOk result (self.new ≡ names.inner_variables self.old) }
     {
         self.locals.push(Locals::new(alloc))?;
         self.scopes.open(alloc)
@@ -108,7 +111,7 @@ impl<'a> Variables<'a> {
 
     /// Closes the innermost scope.
     pub fn close(&mut self)
-        ensures { self.new ≡ names.outer self.old }
+        ensures { self.new ≡ inside_names.outer_variables self.old }
     {
         self.scopes.close();
         self.locals.pop();
@@ -116,7 +119,7 @@ impl<'a> Variables<'a> {
 
     /// Declares a name in the innermost scope.
     pub fn declare(&mut self, name: &'a str, ty: ValueType, register: u32) -> Result<(), AllocError>
-        ensures { OnOk result (self.new ≡ names.declared name.now ty register self.old) }
+        ensures { OnOk result (self.new ≡ names.variable_declared name.now ty register self.old) }
     {
         self.scopes.declare(name, ty)?;
         match self.locals.pop() {

@@ -8,11 +8,11 @@ use Rattle.c_types.specs.declared.value_type.ValueType.{ValueType}
 use Rattle.c_types.specs.declared.value_type.Kind.TheVariants.{Value, Array}
 use Rattle.c_types.specs.declared.broken.Rule.TheVariants.{UnknownName, Mismatch}
 use Rattle.c_types.specs.Broken.{unless}
-use Rattle.c_types.specs.Fits.{takes, is_pointer}
+use Rattle.c_types.specs.Fits.{type_takes, is_pointer}
 use Rattle.c_types.specs.Tables.{Tables, function_named, number_at}
 use Rattle.c_types.specs.Shapes.{shapes_in}
 use Rattle.c_types.specs.Expressions as types
-use Rattle.c_types.specs.Expressions.{Scope, variable_type, kind_of, type_of, broken_in, broken_in_all, value_broken, used, call_broken, parameters_of, parameter_type, count, root_broken, arrow_broken, pointer_broken}
+use Rattle.c_types.specs.Expressions.{Scope, variable_type, kind_of, type_of, broken_in, broken_in_all, value_broken, with_unindexed, call_broken, parameters_of, parameter_type, argument_count, root_broken, arrow_broken, pointer_broken}
 use Rattle.c_types.specs.Statements.{is_target}
 use Rattle.pool_map.specs.declared.shapes.Shapes.{Shapes}
 use Rattle.pool_map.specs.PoolMap.{free}
@@ -20,7 +20,7 @@ use Rattle.c_meaning.specs.Access as access
 use Rattle.c_meaning.specs.Locals.{scopes_of}
 use Rattle.c_meaning.specs.Locals as locals
 use Rattle.ir.specs.declared.function.Ir.{Ir}
-use Rattle.lower.specs.Names.{Variables, Local, variable_of, root_target, field_target, kind_named}
+use Rattle.lower.specs.Names.{Variables, LocalRegister, variable_of, root_target, field_target, kind_named}
 use Rattle.lower.specs.Lowers.{Context, exp_end, reg_of}
 use Rattle.lower.proofs.Few.{none_left, none_right, kept}
 use Rattle.lower.proofs.Sane.{IsSane}
@@ -34,7 +34,7 @@ use Rattle.lower_law.proofs.StmtFits.{TargetFits, FreeFits}
 use Rattle.lower_law.proofs.Typed.{call_fits}
 use Rattle.lower_law.proofs.Fields.{root_word, arrow_word, new_word, free_word}
 
--- the types of entries are good
+-- the types of the entries are good
 abbrev pub AreGood : Tables → List Entry → Type 0
 AreGood t [] = Unit {0}
 AreGood t (e ∷ es) = IsGood t e.ty × AreGood t es
@@ -44,17 +44,20 @@ pub record Sees (t : Tables) (v : Variables) (es : List Entry) : Type 0 where
   pub agrees : Agrees v es
   pub good : AreGood t es
 
-entry_scopes : (name : List ℕ) (es : List Entry) → variable_type name (scopes_in es) ≡ entry_type name es
+entry_scopes : (name : List ℕ) (es : List Entry) → variable_type name (scopes_in es)
+    ≡ entry_type name es
 entry_scopes name [] = refl
 entry_scopes name (e ∷ es) = by_test (bytes_eq name e.name) (entry_scopes name es)
   where
     by_test : (b : Bool) → variable_type name (scopes_in es) ≡ entry_type name es
-        → types.or_else (option_and_then (slice_get (e.ty ∷ [])) (if b then Some 0 else option_map suc None)) (variable_type name (scopes_in es)) ≡ (if b then Some e.ty else entry_type name es)
+        → types.or_else (option_and_then (slice_get (e.ty ∷ [])) (if b then Some 0
+        else option_map suc None)) (variable_type name (scopes_in es))
+        ≡ (if b then Some e.ty else entry_type name es)
     by_test true rest = refl
     by_test false rest = rest
 
 -- the entries as variables of the code
-abbrev locals_in : List Entry → List (List Local)
+abbrev locals_in : List Entry → List (List LocalRegister)
 locals_in [] = []
 locals_in (e ∷ es) = (record { name = e.name; register = 0 } ∷ []) ∷ locals_in es
 
@@ -65,14 +68,19 @@ good_agree : (t : Tables) (es : List Entry) → AreGood t es → Agree t 1 (scop
 good_agree t [] g = tt
 good_agree t (e ∷ es) g = let lt : 0 < 1 = omega arith in ((refl, g.0, lt, tt), good_agree t es g.1)
 
-register_there : (name : List ℕ) (es : List Entry) → is_some (entry_type name es) ≡ true → (r : ℕ) × (entry_register name es ≡ Some r)
+register_there : (name : List ℕ) (es : List Entry) → is_some (entry_type name es) ≡ true
+    → (r : ℕ) × (entry_register name es ≡ Some r)
 register_there name [] e = absurd (false_true e)
   where
     false_true : false ≡ true → ⊥
     false_true e = cc
-register_there name (x ∷ es) e = by_test (bytes_eq name x.name) (λ rest. register_there name es rest) e
+register_there name (x ∷ es) e =
+    by_test (bytes_eq name x.name) (λ rest. register_there name es rest) e
   where
-    by_test : (b : Bool) → (is_some (entry_type name es) ≡ true → (r : ℕ) × (entry_register name es ≡ Some r)) → is_some (if b then Some x.ty else entry_type name es) ≡ true → (r : ℕ) × ((if b then Some x.register else entry_register name es) ≡ Some r)
+    by_test : (b : Bool) → (is_some (entry_type name es) ≡ true
+        → (r : ℕ) × (entry_register name es ≡ Some r))
+        → is_some (if b then Some x.ty else entry_type name es) ≡ true
+        → (r : ℕ) × ((if b then Some x.register else entry_register name es) ≡ Some r)
     by_test true rest e = (x.register, refl)
     by_test false rest e = rest e
 
@@ -82,30 +90,42 @@ value_array ty el place e = cc
 false_true : false ≡ true → ⊥
 false_true e = cc
 
-module _ (k : Context) (ir : Ir) (sane : IsSane k.tables) (shaped : ir.shapes ≡ shapes_in k.tables) (v : Variables) (es : List Entry) (sees : Sees k.tables v es) where
+module _ (k : Context) (ir : Ir) (sane : IsSane k.tables) (shaped : ir.shapes ≡ shapes_in k.tables)
+    (v : Variables) (es : List Entry) (sees : Sees k.tables v es) where
   scopes_same : IsSame v.scopes (scopes_in es)
   scopes_same name = (sees.agrees name).0 ∙ sym (entry_scopes name es)
 
-  kind_is_good : (e : ExprTree) → broken_in k.tables v.scopes e ≡ [] → IsGoodKind k.tables (kind_of k.tables v.scopes e)
+  kind_is_good : (e : ExprTree) → broken_in k.tables v.scopes e ≡ []
+      → IsGoodKind k.tables (kind_of k.tables v.scopes e)
   kind_is_good e b =
       subst (IsGoodKind k.tables) (sym (kind_same k.tables v.scopes (scopes_in es) scopes_same e))
-      (kind_good k.tables 1 (variables_in es) e sane (good_agree k.tables es sees.good) (sym (broken_same k.tables v.scopes (scopes_in es) scopes_same e) ∙ b))
+      (kind_good k.tables 1 (variables_in es) e sane (good_agree k.tables es sees.good)
+      (sym (broken_same k.tables v.scopes (scopes_in es) scopes_same e) ∙ b))
 
-  type_is_good : (e : ExprTree) → value_broken k.tables v.scopes e ≡ [] → IsGood k.tables (type_of k.tables v.scopes e)
-  type_is_good e b = value_good k.tables (broken_in k.tables v.scopes e) (kind_of k.tables v.scopes e) (kind_is_good e (none_left (broken_in k.tables v.scopes e) _ b)) b
+  type_is_good : (e : ExprTree) → value_broken k.tables v.scopes e ≡ []
+      → IsGood k.tables (type_of k.tables v.scopes e)
+  type_is_good e b = value_good k.tables (broken_in k.tables v.scopes e)
+      (kind_of k.tables v.scopes e) (kind_is_good e (none_left (broken_in k.tables v.scopes e) _ b))
+      b
 
   -- the type that the tree's meaning finds
-  type_met : (ls : List locals.Local) (e : ExprTree) → scopes_of ls ≡ scopes_in es → type_of k.tables (scopes_of ls) e ≡ type_of k.tables v.scopes e
-  type_met ls e is = ap (λ (s : List Scope). type_of k.tables s e) is ∙ sym (ap types.value_of (kind_same k.tables v.scopes (scopes_in es) scopes_same e))
+  type_met : (ls : List locals.Local) (e : ExprTree) → scopes_of ls ≡ scopes_in es
+      → type_of k.tables (scopes_of ls) e ≡ type_of k.tables v.scopes e
+  type_met ls e is = ap (λ (s : List Scope). type_of k.tables s e) is
+      ∙ sym (ap types.type_of_kind (kind_same k.tables v.scopes (scopes_in es) scopes_same e))
 
   root_fits : (name : Ident) → root_broken k.tables name ≡ [] → FieldFits k ir v es (expr.Root name)
-  root_fits name b p ls is w c j = root_word k.tables name w c j sane b ∙ ap (λ (x : Shapes). spot_of x w (root_target k.tables name.text) c j) (sym shaped)
+  root_fits name b p ls is w c j = root_word k.tables name w c j sane b
+      ∙ ap (λ (x : Shapes). spot_of x w (root_target k.tables name.text) c j) (sym shaped)
 
-  arrow_fits : (base : ExprTree) (place : ℕ) (name : Ident) → value_broken k.tables v.scopes base ≡ [] → arrow_broken k.tables (type_of k.tables v.scopes base) place name ≡ [] → FieldFits k ir v es (expr.Arrow base place name)
+  arrow_fits : (base : ExprTree) (place : ℕ) (name : Ident) → value_broken k.tables v.scopes base
+      ≡ [] → arrow_broken k.tables (type_of k.tables v.scopes base) place name ≡ []
+      → FieldFits k ir v es (expr.Arrow base place name)
   arrow_fits base place name b e p ls is w c j =
       let ty : ValueType = type_of k.tables v.scopes base in
       let reg : ℕ = reg_of k v base (exp_end base p) in
-      ap (λ (y : ValueType). spot_in (access.behind k.tables w (access.struct_of y) c name.text j)) (type_met ls base is)
+      ap (λ (y : ValueType). spot_in (access.pointed_word k.tables w (access.pointed_struct y) c
+      name.text j)) (type_met ls base is)
       ∙ arrow_word k.tables ty place name reg w c j sane (type_is_good base b) e
       ∙ ap (λ (x : Shapes). spot_of x w (field_target k.tables ty reg name.text) c j) (sym shaped)
 
@@ -117,27 +137,39 @@ module _ (k : Context) (ir : Ir) (sane : IsSane k.tables) (shaped : ir.shapes �
     exp_fits (expr.Number n) b = tt
     exp_fits expr.Null b = tt
     exp_fits (expr.Variable name) b =
-        register_there name.text es (subst (λ (o : Option ValueType). is_some o ≡ true) (sees.agrees name.text).0 (kept (is_some (variable_type name.text v.scopes)) name.place UnknownName b))
+        register_there name.text es (subst (λ (o : Option ValueType). is_some o ≡ true)
+        (sees.agrees name.text).0 (kept (is_some (variable_type name.text v.scopes)) name.place
+        UnknownName b))
     exp_fits (expr.Call name all) b =
         let f : Option FunctionTree = function_named k.tables name.text in (
-          call_fits k.tables true name (count all) sane (none_left (call_broken true f (count all) name.place) _ b),
-          arguments_fit (parameters_of f) 0 all (none_right (call_broken true f (count all) name.place) _ b),
+          call_fits k.tables true name (argument_count all) sane
+              (none_left (call_broken true f (argument_count all) name.place) _ b),
+          arguments_fit (parameters_of f) 0 all
+              (none_right (call_broken true f (argument_count all) name.place) _ b),
         )
     exp_fits (expr.Root name) b = root_fits name b
-    exp_fits (expr.New place name) b = λ w. new_word k.tables name w sane b ∙ ap (λ (x : Shapes). new_in x w (kind_named k.tables name.text)) (sym shaped)
+    exp_fits (expr.New place name) b = λ w. new_word k.tables name w sane b
+        ∙ ap (λ (x : Shapes). new_in x w (kind_named k.tables name.text)) (sym shaped)
     exp_fits (expr.Arrow base place name) b =
         let parts = arrow_parts k.tables v.scopes base place name b in
         (exp_fits base (own base parts.0), arrow_fits base place name parts.0 parts.1)
     exp_fits (expr.Index base place index) b =
         let parts = index_parts k.tables v.scopes base place index b in
-        let array = indexed_array k.tables (kind_of k.tables v.scopes base) (kind_is_good base parts.0) parts.2 in
+        let array = indexed_array k.tables (kind_of k.tables v.scopes base)
+        (kind_is_good base parts.0) parts.2 in
         (pointer_fits base array.0 array.1 array.2 parts.0, exp_fits index (own index parts.1))
-    exp_fits (expr.Unary o place a) b = exp_fits a (own a (none_left (value_broken k.tables v.scopes a) _ b))
-    exp_fits (expr.Binary o place a c) b =
-        (exp_fits a (own a (none_left (value_broken k.tables v.scopes a) _ b)), exp_fits c (own c (none_left (value_broken k.tables v.scopes c) _ (none_right (value_broken k.tables v.scopes a) _ b))))
+    exp_fits (expr.Unary o place a) b =
+        exp_fits a (own a (none_left (value_broken k.tables v.scopes a) _ b))
+    exp_fits (expr.Binary o place a c) b = (
+      exp_fits a (own a (none_left (value_broken k.tables v.scopes a) _ b)),
+      exp_fits c (own c (none_left (value_broken k.tables v.scopes c) _
+          (none_right (value_broken k.tables v.scopes a) _ b))),
+    )
 
-    -- an array, whose element is meant
-    pointer_fits : (e : ExprTree) (el : ValueType) (place : ℕ) → kind_of k.tables v.scopes e ≡ Array el place → broken_in k.tables v.scopes e ≡ [] → PointerFits k ir v es e
+    -- an array, one of whose elements is meant
+    pointer_fits : (e : ExprTree) (el : ValueType) (place : ℕ)
+        → kind_of k.tables v.scopes e ≡ Array el place → broken_in k.tables v.scopes e ≡ []
+        → PointerFits k ir v es e
     pointer_fits (expr.Root name) el at is b = root_fits name b
     pointer_fits (expr.Arrow base place name) el at is b =
         let parts = arrow_parts k.tables v.scopes base place name b in
@@ -151,18 +183,25 @@ module _ (k : Context) (ir : Ir) (sane : IsSane k.tables) (shaped : ir.shapes �
     pointer_fits (expr.Unary o place a) el at is b = value_array _ el at is
     pointer_fits (expr.Binary o place a c) el at is b = value_array _ el at is
 
-    pub arguments_fit : (ps : List ParameterTree) (i : ℕ) (all : Arguments) → broken_in_all k.tables v.scopes ps i all ≡ [] → ArgumentsFit k ir v es all
+    pub arguments_fit : (ps : List ParameterTree) (i : ℕ) (all : Arguments)
+        → broken_in_all k.tables v.scopes ps i all ≡ [] → ArgumentsFit k ir v es all
     arguments_fit ps i expr.None b = tt
     arguments_fit ps i (expr.More first e rest) b =
-        let later : broken_in_all k.tables v.scopes ps (i + 1) rest ≡ [] = none_right (unless (takes (parameter_type k.tables ps i) (type_of k.tables v.scopes e)) first Mismatch) _ (none_right (value_broken k.tables v.scopes e) _ b) in
-        (exp_fits e (own e (none_left (value_broken k.tables v.scopes e) _ b)), arguments_fit ps (i + 1) rest later)
+        let later : broken_in_all k.tables v.scopes ps (i + 1) rest ≡ [] =
+        none_right (unless (type_takes (parameter_type k.tables ps i)
+        (type_of k.tables v.scopes e)) first Mismatch) _
+        (none_right (value_broken k.tables v.scopes e) _ b) in (
+          exp_fits e (own e (none_left (value_broken k.tables v.scopes e) _ b)),
+          arguments_fit ps (i + 1) rest later,
+        )
 
-  -- what is used as a value
+  -- an expression that is used as a value
   pub value_fits : (e : ExprTree) → value_broken k.tables v.scopes e ≡ [] → ExpFits k ir v es e
   value_fits e b = exp_fits e (own e b)
 
-  -- what is assigned to
-  pub target_fits : (e : ExprTree) → is_target e ≡ true → value_broken k.tables v.scopes e ≡ [] → TargetFits k ir v es (variable_of e) e
+  -- the target of an assignment
+  pub target_fits : (e : ExprTree) → is_target e ≡ true → value_broken k.tables v.scopes e ≡ []
+      → TargetFits k ir v es (variable_of e) e
   target_fits (expr.Variable name) is b = value_fits (expr.Variable name) b
   target_fits (expr.Root name) is b = value_fits (expr.Root name) b
   target_fits (expr.Arrow base place name) is b = value_fits (expr.Arrow base place name) b
@@ -174,8 +213,11 @@ module _ (k : Context) (ir : Ir) (sane : IsSane k.tables) (shaped : ir.shapes �
   target_fits (expr.Unary o place a) is b = absurd (false_true is)
   target_fits (expr.Binary o place a c) is b = absurd (false_true is)
 
-  -- what is freed
-  pub free_fits : (e : ExprTree) → value_broken k.tables v.scopes e ≡ [] → is_pointer (type_of k.tables v.scopes e) ≡ true → FreeFits k ir v es e
+  -- the operand of `pm_free`
+  pub free_fits : (e : ExprTree) → value_broken k.tables v.scopes e ≡ []
+      → is_pointer (type_of k.tables v.scopes e) ≡ true → FreeFits k ir v es e
   free_fits e b pointer ls is w c =
-      ap (λ (y : ValueType). access.then_on (access.slot_of w (option_map (number_at k.tables) (access.struct_of y)) c) (λ s. Ok (free w s))) (type_met ls e is)
+      ap (λ (y : ValueType). access.then_on
+      (access.struct_slot w (option_map (number_at k.tables) (access.pointed_struct y)) c)
+      (λ s. Ok (free w s))) (type_met ls e is)
       ∙ free_word k.tables (type_of k.tables v.scopes e) w c sane (type_is_good e b) pointer

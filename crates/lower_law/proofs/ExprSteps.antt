@@ -1,4 +1,5 @@
--- The steps of an expression's code: values in registers, one after another, and what each instruction adds.
+-- The steps of an expression's code: values in registers, one after another, and the effect of each
+-- instruction.
 use Rattle.std.proofs.Common.{◌≡◌, ℕ, zero, suc, ◌<◌, ◌≤◌, ℤ, pos, negsuc, List, ◌∷◌, ◌++◌, map, refl, sym, ap, ◌∙◌, subst, arith, zero-add, append_assoc, ⊎_elim}
 use Rattle.std.specs.Prelude.{Option, None, Some, Result, Ok, Err, if◌then◌else◌, slice_get}
 use Rattle.std.proofs.lemmas.Bool.{cases_lt}
@@ -23,31 +24,42 @@ use Rattle.ir.specs.declared.function.Ir.{Ir}
 use Rattle.lower.specs.declared.form.Form.{Form}
 use Rattle.lower.specs.declared.form.Form.TheVariants.{Both, Either, Direct, Exchanged}
 use Rattle.lower.specs.Forms.{form_of}
-use Rattle.lower.specs.Names.{element}
-use Rattle.lower.specs.Lowers.{Context, form_end, form_code, outcome}
-use Rattle.code_meaning.specs.Code.{Frame, Here, Trapped, Goes, Ends, Move, Spot, at, put, act, step, exec, is_zero, word_of, with_word, with_ok, spot_of, base_in, index_in, load}
+use Rattle.lower.specs.Names.{element_target}
+use Rattle.lower.specs.Lowers.{Context, form_end, form_code, truth_code}
+use Rattle.code_meaning.specs.Code.{Frame, Here, Trapped, Goes, Ends, Move, Spot, register_at, put_register, act, instruction_step, exec, is_zero, word_of, with_word, with_ok, spot_of, base_in, index_in, load_spot}
 use Rattle.lower_law.proofs.Paths.{Path, path_then, path_more, path_step, path_ends, path_tick, at-put_same, at-put_other}
 use Rattle.lower_law.proofs.Has.{At, HasAt}
 use Rattle.lower_law.proofs.Locals.{Entry, Holds, Same, scopes_held}
 use Rattle.lower_law.proofs.Fits.{spot_in, WordFits}
 
 -- a call of a function, from its instruction on: at most m steps and its own
-abbrev pub Called : Ir → (m f : ℕ) → List Frame → (to p : ℕ) (regs : List ℤ) (w : PoolMap) (t : ℕ) → Out ℤ → Type 0
-Called ir m f below to p regs w t (Got v w' t') = Path ir m (Here f p regs below w t) (Goes (Here f (suc p) (put regs to v) below w' t')) 0 t (suc m) t'
-Called ir m f below to p regs w t (Stops k) = Path ir m (Here f p regs below w t) (Ends (Trapped k)) 0 t (suc m) 0
+abbrev pub Called : Ir → (m f : ℕ) → List Frame → (to p : ℕ) (regs : List ℤ) (w : PoolMap) (t : ℕ)
+    → Out ℤ → Type 0
+Called ir m f below to p regs w t (Got v w' t') =
+    Path ir m (Here f p regs below w t) (Goes (Here f (suc p) (put_register regs to v) below w' t'))
+    0 t (suc m) t'
+Called ir m f below to p regs w t (Stops k) =
+    Path ir m (Here f p regs below w t) (Ends (Trapped k)) 0 t (suc m) 0
 
 -- every call that a function makes does what the trees say
 abbrev pub CallsRun : Tables → Ir → (m f : ℕ) → List Frame → Calls → Type 0
-CallsRun tables ir m f below calls = (to g : ℕ) (fn : FunctionTree) (rs : List ℕ) (p : ℕ) (regs : List ℤ) (w : PoolMap) (t : ℕ) → slice_get tables.functions g ≡ Some fn → At ir f p (Call to g rs) → Called ir m f below to p regs w t (calls fn (map (at regs) rs) w t)
+CallsRun tables ir m f below calls =
+    (to g : ℕ) (fn : FunctionTree) (rs : List ℕ) (p : ℕ) (regs : List ℤ) (w : PoolMap) (t : ℕ)
+    → slice_get tables.functions g ≡ Some fn → At ir f p (Call to g rs)
+    → Called ir m f below to p regs w t (calls fn (map (register_at regs) rs) w t)
 
--- what an operator gives behind its left side
+-- the value of an operator, given its left side
 abbrev pub form_value : Form → ℤ → (PoolMap → ℕ → Out ℤ) → PoolMap → ℕ → Out ℤ
-form_value Both x b w t = at_zero x (Got (pos 0) w t) (then_do (b w t) (λ y w t. Got (at_zero y (pos 0) (pos 1)) w t))
-form_value Either x b w t = at_zero x (then_do (b w t) (λ y w t. Got (at_zero y (pos 0) (pos 1)) w t)) (Got (pos 1) w t)
+form_value Both x b w t = at_zero x (Got (pos 0) w t)
+    (then_do (b w t) (λ y w t. Got (at_zero y (pos 0) (pos 1)) w t))
+form_value Either x b w t = at_zero x
+    (then_do (b w t) (λ y w t. Got (at_zero y (pos 0) (pos 1)) w t)) (Got (pos 1) w t)
 form_value (Direct o) x b w t = then_do (b w t) (λ y w t. or_trap (word_of o x y) trap.Divide w t)
-form_value (Exchanged o) x b w t = then_do (b w t) (λ y w t. or_trap (word_of o y x) trap.Divide w t)
+form_value (Exchanged o) x b w t =
+    then_do (b w t) (λ y w t. or_trap (word_of o y x) trap.Divide w t)
 
-pub form_means : (o : BinaryOp) (a : Out ℤ) (b : PoolMap → ℕ → Out ℤ) → binary_means o a b ≡ then_do a (λ x w t. form_value (form_of o) x b w t)
+pub form_means : (o : BinaryOp) (a : Out ℤ) (b : PoolMap → ℕ → Out ℤ)
+    → binary_means o a b ≡ then_do a (λ x w t. form_value (form_of o) x b w t)
 form_means binary.Mul a b = refl
 form_means binary.Div a b = refl
 form_means binary.Rem a b = refl
@@ -68,21 +80,26 @@ form_means binary.Both a b = refl
 form_means binary.Either a b = refl
 
 -- an element's target is its field's with an index
-pub element_fits : (tables : Tables) (ir : Ir) (es : List Entry) (e : ExprTree) (x : Target) (r : ℕ) → WordFits tables ir.shapes es e x → WordFits tables ir.shapes es e (element x r)
+pub element_fits : (tables : Tables) (ir : Ir) (es : List Entry) (e : ExprTree) (x : Target) (r : ℕ)
+    → WordFits tables ir.shapes es e x → WordFits tables ir.shapes es e (element_target x r)
 element_fits tables ir es e (aim.Root field index) r fits = λ ls s w b j. fits ls s w b j
 element_fits tables ir es e (aim.Field base kind field index) r fits = λ ls s w b j. fits ls s w b j
 
-pub element_base : (x : Target) (r : ℕ) (regs : List ℤ) → base_in regs (element x r) ≡ base_in regs x
+pub element_base : (x : Target) (r : ℕ) (regs : List ℤ) → base_in regs (element_target x r)
+    ≡ base_in regs x
 element_base (aim.Root field index) r regs = refl
 element_base (aim.Field base kind field index) r regs = refl
 
-pub element_index : (x : Target) (r : ℕ) (regs : List ℤ) → index_in regs (element x r) ≡ Some (at regs r)
+pub element_index : (x : Target) (r : ℕ) (regs : List ℤ) → index_in regs (element_target x r)
+    ≡ Some (register_at regs r)
 element_index (aim.Root field index) r regs = refl
 element_index (aim.Field base kind field index) r regs = refl
 
-module _ (ir : Ir) (m f : ℕ) (k : Context) (rises : (p q : ℕ) → p < q → k.node p < k.node q) (below : List Frame) where
+module _ (ir : Ir) (m f : ℕ) (k : Context) (rises : (p q : ℕ) → p < q → k.node p < k.node q)
+    (below : List Frame) where
   pub grows : (p q : ℕ) → p ≤ q → k.node p ≤ k.node q
-  grows p q le = ⊎_elim (λ (lt : p < q). less p q (rises p q lt)) (λ (ge : q ≤ p). same p q (omega (arith, le, ge))) (cases_lt p q)
+  grows p q le = ⊎_elim (λ (lt : p < q). less p q (rises p q lt)) (λ (ge : q ≤ p).
+      same p q (omega (arith, le, ge))) (cases_lt p q)
     where
       less : (p q : ℕ) → k.node p < k.node q → k.node p ≤ k.node q
       less p q lt = omega (arith, lt)
@@ -90,72 +107,98 @@ module _ (ir : Ir) (m f : ℕ) (k : Context) (rises : (p q : ℕ) → p < q → 
       same : (p q : ℕ) → p ≡ q → k.node p ≤ k.node q
       same p q e = subst (λ n. k.node p ≤ k.node n) e (omega arith)
 
-  pub record Given {A : Type 0} (is : List ℤ → A → Type 0) (p q : ℕ) (regs : List ℤ) (w : PoolMap) (t : ℕ) (v : A) (w' : PoolMap) (t' : ℕ) : Type 0 where
+  pub record Given {A : Type 0} (is : List ℤ → A → Type 0) (p q : ℕ) (regs : List ℤ) (w : PoolMap)
+      (t : ℕ) (v : A) (w' : PoolMap) (t' : ℕ) : Type 0 where
     pub regs' : List ℤ
     pub path : Path ir m (Here f p regs below w t) (Goes (Here f q regs' below w' t')) p t q t'
     pub same : Same (k.node p) regs regs'
     pub value : is regs' v
 
-  -- from p the code goes to q, with the value where it is to be, or traps
-  abbrev pub Gives : {A : Type 0} (is : List ℤ → A → Type 0) (p q : ℕ) (regs : List ℤ) (w : PoolMap) (t : ℕ) → Out A → Type 0
+  -- from p the code goes to q, with the value in its register, or traps
+  abbrev pub Gives : {A : Type 0} (is : List ℤ → A → Type 0) (p q : ℕ) (regs : List ℤ) (w : PoolMap)
+      (t : ℕ) → Out A → Type 0
   Gives is p q regs w t (Got v w' t') = Given is p q regs w t v w' t'
-  Gives is p q regs w t (Stops trap) = Path ir m (Here f p regs below w t) (Ends (Trapped trap)) p t q 0
+  Gives is p q regs w t (Stops trap) =
+      Path ir m (Here f p regs below w t) (Ends (Trapped trap)) p t q 0
 
   abbrev pub word_at : ℕ → List ℤ → ℤ → Type 0
-  word_at r regs v = at regs r ≡ v
+  word_at r regs v = register_at regs r ≡ v
 
   abbrev pub words_at : List ℕ → List ℤ → List ℤ → Type 0
-  words_at rs regs vs = map (at regs) rs ≡ vs
+  words_at rs regs vs = map (register_at regs) rs ≡ vs
 
   abbrev pub base_at : Target → List ℤ → ℤ → Type 0
   base_at x regs b = base_in regs x ≡ b
 
-  -- what comes first, and what follows
-  pub after : {A : Type 0} (is : List ℤ → A → Type 0) (p p1 q : ℕ) (regs regs1 : List ℤ) (w w1 : PoolMap) (t t1 : ℕ) → p ≤ p1 → Path ir m (Here f p regs below w t) (Goes (Here f p1 regs1 below w1 t1)) p t p1 t1 → Same (k.node p) regs regs1 → (o : Out A)
+  -- a first part, and what follows
+  pub after : {A : Type 0} (is : List ℤ → A → Type 0) (p p1 q : ℕ) (regs regs1 : List ℤ)
+      (w w1 : PoolMap) (t t1 : ℕ) → p ≤ p1
+      → Path ir m (Here f p regs below w t) (Goes (Here f p1 regs1 below w1 t1)) p t p1 t1
+      → Same (k.node p) regs regs1 → (o : Out A)
       → Gives is p1 q regs1 w1 t1 o → Gives is p q regs w t o
   after is p p1 q regs regs1 w w1 t t1 le path same (Got v w' t') g = record {
     regs' = g.regs';
     path = path_then path g.path;
-    same = λ r small. let up : k.node p ≤ k.node p1 = grows p p1 le in g.same r (omega (arith, small, up)) ∙ same r small;
+    same = λ r small. let up : k.node p ≤ k.node p1 = grows p p1 le in
+        g.same r (omega (arith, small, up)) ∙ same r small;
     value = g.value;
   }
   after is p p1 q regs regs1 w w1 t t1 le path same (Stops trap) g = path_then path g
 
-  pub gives_then : {A B : Type 0} (is : List ℤ → A → Type 0) (is' : List ℤ → B → Type 0) (p p1 q : ℕ) (regs : List ℤ) (w : PoolMap) (t : ℕ) (o : Out A) (go : A → PoolMap → ℕ → Out B) → p ≤ p1 → p1 ≤ q → Gives is p p1 regs w t o
-      → ((v : A) (w1 : PoolMap) (t1 : ℕ) (regs1 : List ℤ) → Same (k.node p) regs regs1 → is regs1 v → Gives is' p1 q regs1 w1 t1 (go v w1 t1)) → Gives is' p q regs w t (then_do o go)
+  pub gives_then : {A B : Type 0} (is : List ℤ → A → Type 0) (is' : List ℤ → B → Type 0)
+      (p p1 q : ℕ) (regs : List ℤ) (w : PoolMap) (t : ℕ) (o : Out A) (go : A → PoolMap → ℕ → Out B)
+      → p ≤ p1 → p1 ≤ q → Gives is p p1 regs w t o
+      → ((v : A) (w1 : PoolMap) (t1 : ℕ) (regs1 : List ℤ) → Same (k.node p) regs regs1 → is regs1 v
+      → Gives is' p1 q regs1 w1 t1 (go v w1 t1)) → Gives is' p q regs w t (then_do o go)
   gives_then is is' p p1 q regs w t (Got v w1 t1) go le le1 g cont =
-      after is' p p1 q regs g.regs' w w1 t t1 le g.path g.same (go v w1 t1) (cont v w1 t1 g.regs' g.same g.value)
+      after is' p p1 q regs g.regs' w w1 t t1 le g.path g.same (go v w1 t1)
+      (cont v w1 t1 g.regs' g.same g.value)
   gives_then is is' p p1 q regs w t (Stops trap) go le le1 g cont = path_more le1 g
 
-  -- a write to the register of a place behind p
-  pub put_same : (p q : ℕ) (v : ℤ) (regs : List ℤ) → p < q → Same (k.node p) regs (put regs (k.node q) v)
-  put_same p q v regs lt r small = at-put_other regs (k.node q) r v (λ e. let up : k.node p < k.node q = rises p q lt in let same : k.node q ≡ r = e in absurd (omega (arith, small, up, same)))
+  -- a write to the register of a place after p
+  pub put_same : (p q : ℕ) (v : ℤ) (regs : List ℤ) → p < q
+      → Same (k.node p) regs (put_register regs (k.node q) v)
+  put_same p q v regs lt r small =
+      at-put_other regs (k.node q) r v (λ e. let up : k.node p < k.node q = rises p q lt in
+      let same : k.node q ≡ r = e in absurd (omega (arith, small, up, same)))
 
-  pub puts : (p q : ℕ) (v : ℤ) (regs : List ℤ) (w : PoolMap) (t : ℕ) → p < q → step ir (Here f p regs below w t) ≡ Goes (Here f (suc p) (put regs (k.node q) v) below w t) → Gives (word_at (k.node q)) p (suc p) regs w t (Got v w t)
+  pub puts : (p q : ℕ) (v : ℤ) (regs : List ℤ) (w : PoolMap) (t : ℕ) → p < q
+      → instruction_step ir (Here f p regs below w t)
+      ≡ Goes (Here f (suc p) (put_register regs (k.node q) v) below w t)
+      → Gives (word_at (k.node q)) p (suc p) regs w t (Got v w t)
   puts p q v regs w t lt st = record {
-    regs' = put regs (k.node q) v;
+    regs' = put_register regs (k.node q) v;
     path = path_step p t st;
     same = put_same p q v regs lt;
     value = at-put_same regs (k.node q) v;
   }
 
   -- a last instruction that may trap
-  pub last_gives : (p : ℕ) (o : Option ℤ) (regs : List ℤ) (w : PoolMap) (t : ℕ) → step ir (Here f p regs below w t) ≡ with_word o (λ v. Goes (Here f (suc p) (put regs (k.node (suc p)) v) below w t))
+  pub last_gives : (p : ℕ) (o : Option ℤ) (regs : List ℤ) (w : PoolMap) (t : ℕ)
+      → instruction_step ir (Here f p regs below w t)
+      ≡ with_word o (λ v. Goes (Here f (suc p) (put_register regs (k.node (suc p)) v) below w t))
       → Gives (word_at (k.node (suc p))) p (suc p) regs w t (or_trap o trap.Divide w t)
   last_gives p None regs w t st = path_ends p t st
   last_gives p (Some v) regs w t st = puts p (suc p) v regs w t (omega arith) st
 
-  pub load_gives : (p : ℕ) (o : Result Word TrapKind) (regs : List ℤ) (w : PoolMap) (t : ℕ) → step ir (Here f p regs below w t) ≡ with_ok (spot_in o) (λ s. Goes (Here f (suc p) (put regs (k.node (suc p)) (load w s)) below w t))
+  pub load_gives : (p : ℕ) (o : Result Word TrapKind) (regs : List ℤ) (w : PoolMap) (t : ℕ)
+      → instruction_step ir (Here f p regs below w t) ≡ with_ok (spot_in o)
+      (λ s. Goes (Here f (suc p) (put_register regs (k.node (suc p)) (load_spot w s)) below w t))
       → Gives (word_at (k.node (suc p))) p (suc p) regs w t (loaded o w t)
   load_gives p (Err trap) regs w t st = path_ends p t st
   load_gives p (Ok (Root i)) regs w t st = puts p (suc p) (read_root w i) regs w t (omega arith) st
   load_gives p (Ok (Field s i)) regs w t st = puts p (suc p) (read w s i) regs w t (omega arith) st
 
-  -- a load of a field's word, whose base and index were found
-  pub field_gives : (es : List Entry) (ls : List Local) (p : ℕ) (e : ExprTree) (x : Target) (b : ℤ) (j : Option ℤ) (regs : List ℤ) (w : PoolMap) (t : ℕ) → WordFits k.tables ir.shapes es e x → base_in regs x ≡ b → index_in regs x ≡ j
-      → At ir f p (Load (k.node (suc p)) x) → Holds es ls regs → Gives (word_at (k.node (suc p))) p (suc p) regs w t (loaded (word_named k.tables ls w e b j) w t)
+  -- a load of a field's word, after its base and index
+  pub field_gives : (es : List Entry) (ls : List Local) (p : ℕ) (e : ExprTree) (x : Target) (b : ℤ)
+      (j : Option ℤ) (regs : List ℤ) (w : PoolMap) (t : ℕ) → WordFits k.tables ir.shapes es e x
+      → base_in regs x ≡ b → index_in regs x ≡ j
+      → At ir f p (Load (k.node (suc p)) x) → Holds es ls regs
+      → Gives (word_at (k.node (suc p))) p (suc p) regs w t
+      (loaded (word_named k.tables ls w e b j) w t)
   field_gives es ls p e x b j regs w t fits eb ej st held =
-      let go : Spot → Move = λ s. Goes (Here f (suc p) (put regs (k.node (suc p)) (load w s)) below w t) in
+      let go : Spot → Move = λ s. Goes
+      (Here f (suc p) (put_register regs (k.node (suc p)) (load_spot w s)) below w t) in
       load_gives p (word_named k.tables ls w e b j) regs w t
       (ap (λ i. act ir i f p regs below w t) st
       ∙ ap (λ c. with_ok (spot_of ir.shapes w x c (index_in regs x)) go) eb
@@ -163,89 +206,147 @@ module _ (ir : Ir) (m f : ℕ) (k : Context) (rises : (p q : ℕ) → p < q → 
       ∙ ap (λ o. with_ok o go) (sym (fits ls (scopes_held es ls regs held) w b j)))
 
   -- the same registers, another place
-  pub moves : {A : Type 0} (is : List ℤ → A → Type 0) (p p1 q : ℕ) (regs : List ℤ) (w : PoolMap) (t : ℕ) (o : Out A) → p < p1 → step ir (Here f p regs below w t) ≡ Goes (Here f p1 regs below w t) → Gives is p1 q regs w t o → Gives is p q regs w t o
+  pub moves : {A : Type 0} (is : List ℤ → A → Type 0) (p p1 q : ℕ) (regs : List ℤ) (w : PoolMap)
+      (t : ℕ) (o : Out A) → p < p1 → instruction_step ir (Here f p regs below w t)
+      ≡ Goes (Here f p1 regs below w t) → Gives is p1 q regs w t o → Gives is p q regs w t o
   moves is p p1 q regs w t o lt st g =
-      after is p p1 q regs regs w w t t (omega (arith, lt)) (path_more lt (path_step p t st)) (λ r small. refl) o g
+      after is p p1 q regs regs w w t t (omega (arith, lt)) (path_more lt (path_step p t st))
+      (λ r small. refl) o g
 
-  pub at_branch : (p off r : ℕ) (x : ℤ) (regs : List ℤ) (w : PoolMap) (t : ℕ) → At ir f p (Branch r off) → at regs r ≡ x → step ir (Here f p regs below w t) ≡ (if is_zero x then Goes (Here f off regs below w t) else Goes (Here f (suc p) regs below w t))
-  at_branch p off r x regs w t st e = ap (λ i. act ir i f p regs below w t) st ∙ ap (λ v. if is_zero v then Goes (Here f off regs below w t) else Goes (Here f (suc p) regs below w t)) e
+  pub at_branch : (p off r : ℕ) (x : ℤ) (regs : List ℤ) (w : PoolMap) (t : ℕ)
+      → At ir f p (Branch r off) → register_at regs r ≡ x
+      → instruction_step ir (Here f p regs below w t)
+      ≡ (if is_zero x then Goes (Here f off regs below w t)
+      else Goes (Here f (suc p) regs below w t))
+  at_branch p off r x regs w t st e = ap (λ i. act ir i f p regs below w t) st
+      ∙ ap (λ v. if is_zero v then Goes (Here f off regs below w t)
+      else Goes (Here f (suc p) regs below w t)) e
 
-  pub branch_gives : {A : Type 0} (is : List ℤ → A → Type 0) (p off q : ℕ) (x : ℤ) (regs : List ℤ) (w : PoolMap) (t : ℕ) (a b : Out A) → p < off
-      → step ir (Here f p regs below w t) ≡ (if is_zero x then Goes (Here f off regs below w t) else Goes (Here f (suc p) regs below w t)) → Gives is off q regs w t a → Gives is (suc p) q regs w t b → Gives is p q regs w t (at_zero x a b)
+  pub branch_gives : {A : Type 0} (is : List ℤ → A → Type 0) (p off q : ℕ) (x : ℤ) (regs : List ℤ)
+      (w : PoolMap) (t : ℕ) (a b : Out A) → p < off
+      → instruction_step ir (Here f p regs below w t)
+      ≡ (if is_zero x then Goes (Here f off regs below w t)
+      else Goes (Here f (suc p) regs below w t)) → Gives is off q regs w t a
+      → Gives is (suc p) q regs w t b → Gives is p q regs w t (at_zero x a b)
   branch_gives is p off q (pos zero) regs w t a b lt st ga gb = moves is p off q regs w t a lt st ga
-  branch_gives is p off q (pos (suc n)) regs w t a b lt st ga gb = moves is p (suc p) q regs w t b (omega arith) st gb
-  branch_gives is p off q (negsuc n) regs w t a b lt st ga gb = moves is p (suc p) q regs w t b (omega arith) st gb
+  branch_gives is p off q (pos (suc n)) regs w t a b lt st ga gb =
+      moves is p (suc p) q regs w t b (omega arith) st gb
+  branch_gives is p off q (negsuc n) regs w t a b lt st ga gb =
+      moves is p (suc p) q regs w t b (omega arith) st gb
 
-  pub stays : {A : Type 0} (is : List ℤ → A → Type 0) (p : ℕ) (regs : List ℤ) (w : PoolMap) (t : ℕ) (v : A) → is regs v → Gives is p p regs w t (Got v w t)
+  pub stays : {A : Type 0} (is : List ℤ → A → Type 0) (p : ℕ) (regs : List ℤ) (w : PoolMap) (t : ℕ)
+      (v : A) → is regs v → Gives is p p regs w t (Got v w t)
   stays is p regs w t v value = record {
     regs' = regs;
-    path = record { n = 0; comes = λ j. ap (λ i. exec ir i (Here f p regs below w t)) (zero-add j); falls = omega arith; cost = omega arith };
+    path = record {
+      n = 0;
+      comes = λ j. ap (λ i. exec ir i (Here f p regs below w t)) (zero-add j);
+      falls = omega arith;
+      cost = omega arith;
+    };
     same = λ r small. refl;
     value = value;
   }
 
-  -- the two instructions that give 1 and go over the one that gives 0
-  pub one_gives : (p : ℕ) (regs : List ℤ) (w : PoolMap) (t : ℕ) → At ir f (suc p) (Const (k.node (suc (suc (suc (suc p))))) (pos 1)) → At ir f (suc (suc p)) (Jump (suc (suc (suc (suc p)))))
-      → Gives (word_at (k.node (suc (suc (suc (suc p)))))) (suc p) (suc (suc (suc (suc p)))) regs w t (Got (pos 1) w t)
+  -- the two instructions that give 1 and jump over the one that gives 0
+  pub one_gives : (p : ℕ) (regs : List ℤ) (w : PoolMap) (t : ℕ)
+      → At ir f (suc p) (Const (k.node (suc (suc (suc (suc p))))) (pos 1))
+      → At ir f (suc (suc p)) (Jump (suc (suc (suc (suc p)))))
+      → Gives (word_at (k.node (suc (suc (suc (suc p)))))) (suc p) (suc (suc (suc (suc p)))) regs w
+      t (Got (pos 1) w t)
   one_gives p regs w t st st1 =
       let q : ℕ = suc (suc (suc (suc p))) in
-      let g = puts (suc p) q (pos 1) regs w t (omega arith) (ap (λ i. act ir i f (suc p) regs below w t) st) in
+      let g = puts (suc p) q (pos 1) regs w t (omega arith)
+      (ap (λ i. act ir i f (suc p) regs below w t) st) in
       record {
         regs' = g.regs';
-        path = path_then g.path (path_more (omega arith) (path_step (suc (suc p)) t (ap (λ i. act ir i f (suc (suc p)) g.regs' below w t) st1)));
+        path = path_then g.path (path_more (omega arith)
+            (path_step (suc (suc p)) t (ap (λ i. act ir i f (suc (suc p)) g.regs' below w t) st1)));
         same = g.same;
         value = g.value;
       }
 
-  pub zero_gives : (p : ℕ) (regs : List ℤ) (w : PoolMap) (t : ℕ) → At ir f p (Const (k.node (suc p)) (pos 0)) → Gives (word_at (k.node (suc p))) p (suc p) regs w t (Got (pos 0) w t)
-  zero_gives p regs w t st = puts p (suc p) (pos 0) regs w t (omega arith) (ap (λ i. act ir i f p regs below w t) st)
+  pub zero_gives : (p : ℕ) (regs : List ℤ) (w : PoolMap) (t : ℕ)
+      → At ir f p (Const (k.node (suc p)) (pos 0))
+      → Gives (word_at (k.node (suc p))) p (suc p) regs w t (Got (pos 0) w t)
+  zero_gives p regs w t st = puts p (suc p) (pos 0) regs w t (omega arith)
+      (ap (λ i. act ir i f p regs below w t) st)
 
-  -- 1 where a register isn't 0, and else 0
-  pub outcome_gives : (p r : ℕ) (y : ℤ) (rest : List Instruction) (regs : List ℤ) (w : PoolMap) (t : ℕ) → at regs r ≡ y → HasAt ir f p (outcome r (k.node (suc (suc (suc (suc p))))) p ++ rest)
-      → Gives (word_at (k.node (suc (suc (suc (suc p)))))) p (suc (suc (suc (suc p)))) regs w t (Got (at_zero y (pos 0) (pos 1)) w t)
+  -- 1 if a register isn't 0, else 0
+  pub outcome_gives : (p r : ℕ) (y : ℤ) (rest : List Instruction) (regs : List ℤ) (w : PoolMap)
+      (t : ℕ) → register_at regs r ≡ y
+      → HasAt ir f p (truth_code r (k.node (suc (suc (suc (suc p))))) p ++ rest)
+      → Gives (word_at (k.node (suc (suc (suc (suc p)))))) p (suc (suc (suc (suc p)))) regs w t
+      (Got (at_zero y (pos 0) (pos 1)) w t)
   outcome_gives p r (pos zero) rest regs w t e h =
       let off : ℕ = suc (suc (suc p)) in
-      moves (word_at (k.node (suc off))) p off (suc off) regs w t (Got (pos 0) w t) (omega arith) (at_branch p off r (pos 0) regs w t h.0 e) (zero_gives off regs w t h.1.1.1.0)
+      moves (word_at (k.node (suc off))) p off (suc off) regs w t (Got (pos 0) w t) (omega arith)
+      (at_branch p off r (pos 0) regs w t h.0 e) (zero_gives off regs w t h.1.1.1.0)
   outcome_gives p r (pos (suc n)) rest regs w t e h =
       let off : ℕ = suc (suc (suc p)) in
-      moves (word_at (k.node (suc off))) p (suc p) (suc off) regs w t (Got (pos 1) w t) (omega arith) (at_branch p off r (pos (suc n)) regs w t h.0 e) (one_gives p regs w t h.1.0 h.1.1.0)
+      moves (word_at (k.node (suc off))) p (suc p) (suc off) regs w t (Got (pos 1) w t)
+      (omega arith) (at_branch p off r (pos (suc n)) regs w t h.0 e)
+      (one_gives p regs w t h.1.0 h.1.1.0)
   outcome_gives p r (negsuc n) rest regs w t e h =
       let off : ℕ = suc (suc (suc p)) in
-      moves (word_at (k.node (suc off))) p (suc p) (suc off) regs w t (Got (pos 1) w t) (omega arith) (at_branch p off r (negsuc n) regs w t h.0 e) (one_gives p regs w t h.1.0 h.1.1.0)
+      moves (word_at (k.node (suc off))) p (suc p) (suc off) regs w t (Got (pos 1) w t)
+      (omega arith) (at_branch p off r (negsuc n) regs w t h.0 e)
+      (one_gives p regs w t h.1.0 h.1.1.0)
 
-  pub call_gives : (p : ℕ) (regs : List ℤ) (w : PoolMap) (t : ℕ) (o : Out ℤ) → step ir (Here f p regs below w (suc t)) ≡ Goes (Here f (suc p) regs below w t) → Called ir m f below (k.node (suc (suc p))) (suc p) regs w t o
+  pub call_gives : (p : ℕ) (regs : List ℤ) (w : PoolMap) (t : ℕ) (o : Out ℤ)
+      → instruction_step ir (Here f p regs below w (suc t)) ≡ Goes (Here f (suc p) regs below w t)
+      → Called ir m f below (k.node (suc (suc p))) (suc p) regs w t o
       → Gives (word_at (k.node (suc (suc p)))) p (suc (suc p)) regs w (suc t) o
   call_gives p regs w t (Got v w' t') st c = record {
-    regs' = put regs (k.node (suc (suc p))) v;
+    regs' = put_register regs (k.node (suc (suc p))) v;
     path = path_tick p (suc (suc p)) (omega arith) st c;
     same = put_same p (suc (suc p)) v regs (omega arith);
     value = at-put_same regs (k.node (suc (suc p))) v;
   }
   call_gives p regs w t (Stops trap) st c = path_tick p (suc (suc p)) (omega arith) st c
 
-  pub tick_gives : (calls : Calls) (p g : ℕ) (fn : FunctionTree) (rs : List ℕ) (vs regs : List ℤ) (w : PoolMap) (t : ℕ) → CallsRun k.tables ir m f below calls → slice_get k.tables.functions g ≡ Some fn → words_at rs regs vs → At ir f p Tick
-      → At ir f (suc p) (Call (k.node (suc (suc p))) g rs) → Gives (word_at (k.node (suc (suc p)))) p (suc (suc p)) regs w t (tick t (Stops trap.Steps) (λ t. calls fn vs w t))
-  tick_gives calls p g fn rs vs regs w zero run is args st st1 = path_more (omega arith) (path_ends p zero (ap (λ i. act ir i f p regs below w zero) st))
+  pub tick_gives : (calls : Calls) (p g : ℕ) (fn : FunctionTree) (rs : List ℕ) (vs regs : List ℤ)
+      (w : PoolMap) (t : ℕ) → CallsRun k.tables ir m f below calls
+      → slice_get k.tables.functions g ≡ Some fn → words_at rs regs vs → At ir f p Tick
+      → At ir f (suc p) (Call (k.node (suc (suc p))) g rs)
+      → Gives (word_at (k.node (suc (suc p)))) p (suc (suc p)) regs w t
+      (tick t (Stops trap.Steps) (λ t. calls fn vs w t))
+  tick_gives calls p g fn rs vs regs w zero run is args st st1 =
+      path_more (omega arith) (path_ends p zero (ap (λ i. act ir i f p regs below w zero) st))
   tick_gives calls p g fn rs vs regs w (suc t) run is args st st1 =
       let to : ℕ = k.node (suc (suc p)) in
       let c = run to g fn rs (suc p) regs w t is st1 in
-      call_gives p regs w t (calls fn vs w t) (ap (λ i. act ir i f p regs below w (suc t)) st) (subst (λ l. Called ir m f below to (suc p) regs w t (calls fn l w t)) args c)
+      call_gives p regs w t (calls fn vs w t) (ap (λ i. act ir i f p regs below w (suc t)) st)
+      (subst (λ l. Called ir m f below to (suc p) regs w t (calls fn l w t)) args c)
 
-  -- an operator with its right side, behind its left side; what is asked of the right side is asked at every place behind
-  pub form_runs : (form : Form) (code : ℕ → List Instruction) (end reg : ℕ → ℕ) (b : PoolMap → ℕ → Out ℤ) (on p : ℕ) (x : ℤ) (rest : List Instruction) (regs : List ℤ) (w : PoolMap) (t : ℕ)
-      → ((z : ℕ) → z ≤ end z) → ((z : ℕ) (r : List Instruction) → HasAt ir f z (code z ++ r) → HasAt ir f (end z) r)
-      → ((z : ℕ) (r : List Instruction) → p ≤ z → HasAt ir f z (code z ++ r) → Gives (word_at (reg (end z))) z (end z) regs w t (b w t))
-      → on ≤ k.node p → at regs on ≡ x → HasAt ir f p (form_code form k.node code end reg on p ++ rest) → Gives (word_at (k.node (form_end form end p))) p (form_end form end p) regs w t (form_value form x b w t)
+  -- an operator and its right side, after its left side; the conditions on the right side hold at
+  -- every later place
+  pub form_runs : (form : Form) (code : ℕ → List Instruction) (end reg : ℕ → ℕ) (b : PoolMap → ℕ
+      → Out ℤ) (on p : ℕ) (x : ℤ) (rest : List Instruction) (regs : List ℤ) (w : PoolMap) (t : ℕ)
+      → ((z : ℕ) → z ≤ end z) → ((z : ℕ) (r : List Instruction) → HasAt ir f z (code z ++ r)
+      → HasAt ir f (end z) r)
+      → ((z : ℕ) (r : List Instruction) → p ≤ z → HasAt ir f z (code z ++ r)
+      → Gives (word_at (reg (end z))) z (end z) regs w t (b w t))
+      → on ≤ k.node p → register_at regs on ≡ x
+      → HasAt ir f p (form_code form k.node code end reg on p ++ rest)
+      → Gives (word_at (k.node (form_end form end p))) p (form_end form end p) regs w t
+      (form_value form x b w t)
   form_runs Both code end reg b on p x rest regs w t le has right small is h =
       let q : ℕ = end (suc p) in
       let off : ℕ = suc (suc (suc q)) in
       let to : ℕ = k.node (suc off) in
       let leq : suc p ≤ q = le (suc p) in
-      let hb : HasAt ir f (suc p) (code (suc p) ++ (outcome (reg q) to q ++ rest)) = simp append_assoc at h.1 in
-      let hq : HasAt ir f q (outcome (reg q) to q ++ rest) = has (suc p) (outcome (reg q) to q ++ rest) hb in
-      branch_gives (word_at to) p off (suc off) x regs w t (Got (pos 0) w t) (then_do (b w t) (λ y w t. Got (at_zero y (pos 0) (pos 1)) w t)) (omega (arith, leq)) (at_branch p off on x regs w t h.0 is)
+      let hb : HasAt ir f (suc p) (code (suc p) ++ (truth_code (reg q) to q ++ rest)) =
+      simp append_assoc at h.1 in
+      let hq : HasAt ir f q (truth_code (reg q) to q ++ rest) =
+      has (suc p) (truth_code (reg q) to q ++ rest) hb in
+      branch_gives (word_at to) p off (suc off) x regs w t (Got (pos 0) w t)
+      (then_do (b w t) (λ y w t. Got (at_zero y (pos 0) (pos 1)) w t)) (omega (arith, leq))
+      (at_branch p off on x regs w t h.0 is)
       (zero_gives off regs w t hq.1.1.1.0)
-      (gives_then (word_at (reg q)) (word_at to) (suc p) q (suc off) regs w t (b w t) (λ y w t. Got (at_zero y (pos 0) (pos 1)) w t) leq (omega arith) (right (suc p) (outcome (reg q) to q ++ rest) (omega arith) hb)
+      (gives_then (word_at (reg q)) (word_at to) (suc p) q (suc off) regs w t (b w t)
+      (λ y w t. Got (at_zero y (pos 0) (pos 1)) w t) leq (omega arith)
+      (right (suc p) (truth_code (reg q) to q ++ rest) (omega arith) hb)
       (λ y w1 t1 regs1 s1 e1. outcome_gives q (reg q) y rest regs1 w1 t1 e1 hq))
   form_runs Either code end reg b on p x rest regs w t le has right small is h =
       let p2 : ℕ = suc (suc p) in
@@ -253,27 +354,44 @@ module _ (ir : Ir) (m f : ℕ) (k : Context) (rises : (p q : ℕ) → p < q → 
       let off : ℕ = suc (suc (suc q)) in
       let to : ℕ = k.node (suc off) in
       let leq : p2 ≤ q = le p2 in
-      let hb : HasAt ir f p2 (code p2 ++ (outcome (reg q) to q ++ rest)) = simp append_assoc at h.1.1 in
-      let hq : HasAt ir f q (outcome (reg q) to q ++ rest) = has p2 (outcome (reg q) to q ++ rest) hb in
-      branch_gives (word_at to) p p2 (suc off) x regs w t (then_do (b w t) (λ y w t. Got (at_zero y (pos 0) (pos 1)) w t)) (Got (pos 1) w t) (omega arith) (at_branch p p2 on x regs w t h.0 is)
-      (gives_then (word_at (reg q)) (word_at to) p2 q (suc off) regs w t (b w t) (λ y w t. Got (at_zero y (pos 0) (pos 1)) w t) leq (omega arith) (right p2 (outcome (reg q) to q ++ rest) (omega arith) hb)
+      let hb : HasAt ir f p2 (code p2 ++ (truth_code (reg q) to q ++ rest)) =
+      simp append_assoc at h.1.1 in
+      let hq : HasAt ir f q (truth_code (reg q) to q ++ rest) =
+      has p2 (truth_code (reg q) to q ++ rest) hb in
+      branch_gives (word_at to) p p2 (suc off) x regs w t
+      (then_do (b w t) (λ y w t. Got (at_zero y (pos 0) (pos 1)) w t)) (Got (pos 1) w t)
+      (omega arith) (at_branch p p2 on x regs w t h.0 is)
+      (gives_then (word_at (reg q)) (word_at to) p2 q (suc off) regs w t (b w t)
+      (λ y w t. Got (at_zero y (pos 0) (pos 1)) w t) leq (omega arith)
+      (right p2 (truth_code (reg q) to q ++ rest) (omega arith) hb)
       (λ y w1 t1 regs1 s1 e1. outcome_gives q (reg q) y rest regs1 w1 t1 e1 hq))
-      (moves (word_at to) (suc p) (suc q) (suc off) regs w t (Got (pos 1) w t) (omega (arith, leq)) (ap (λ i. act ir i f (suc p) regs below w t) h.1.0) (one_gives q regs w t hq.1.0 hq.1.1.0))
+      (moves (word_at to) (suc p) (suc q) (suc off) regs w t (Got (pos 1) w t) (omega (arith, leq))
+      (ap (λ i. act ir i f (suc p) regs below w t) h.1.0) (one_gives q regs w t hq.1.0 hq.1.1.0))
   form_runs (Direct o) code end reg b on p x rest regs w t le has right small is h =
       let q : ℕ = end p in
       let to : ℕ = k.node (suc q) in
       let i : Instruction = Bin o to on (reg q) in
       let hb : HasAt ir f p (code p ++ i ∷ rest) = simp append_assoc at h in
       let hq : HasAt ir f q (i ∷ rest) = has p (i ∷ rest) hb in
-      gives_then (word_at (reg q)) (word_at to) p q (suc q) regs w t (b w t) (λ y w t. or_trap (word_of o x y) trap.Divide w t) (le p) (omega arith) (right p (i ∷ rest) (omega arith) hb)
-      (λ y w1 t1 regs1 s1 e1. let go : ℤ → Move = λ v. Goes (Here f (suc q) (put regs1 to v) below w1 t1) in
-      last_gives q (word_of o x y) regs1 w1 t1 (ap (λ i. act ir i f q regs1 below w1 t1) hq.0 ∙ ap (λ u. with_word (word_of o u (at regs1 (reg q))) go) (s1 on small ∙ is) ∙ ap (λ u. with_word (word_of o x u) go) e1))
+      gives_then (word_at (reg q)) (word_at to) p q (suc q) regs w t (b w t)
+      (λ y w t. or_trap (word_of o x y) trap.Divide w t) (le p) (omega arith)
+      (right p (i ∷ rest) (omega arith) hb)
+      (λ y w1 t1 regs1 s1 e1. let go : ℤ → Move = λ v.
+      Goes (Here f (suc q) (put_register regs1 to v) below w1 t1) in
+      last_gives q (word_of o x y) regs1 w1 t1 (ap (λ i. act ir i f q regs1 below w1 t1) hq.0
+      ∙ ap (λ u. with_word (word_of o u (register_at regs1 (reg q))) go) (s1 on small ∙ is)
+      ∙ ap (λ u. with_word (word_of o x u) go) e1))
   form_runs (Exchanged o) code end reg b on p x rest regs w t le has right small is h =
       let q : ℕ = end p in
       let to : ℕ = k.node (suc q) in
       let i : Instruction = Bin o to (reg q) on in
       let hb : HasAt ir f p (code p ++ i ∷ rest) = simp append_assoc at h in
       let hq : HasAt ir f q (i ∷ rest) = has p (i ∷ rest) hb in
-      gives_then (word_at (reg q)) (word_at to) p q (suc q) regs w t (b w t) (λ y w t. or_trap (word_of o y x) trap.Divide w t) (le p) (omega arith) (right p (i ∷ rest) (omega arith) hb)
-      (λ y w1 t1 regs1 s1 e1. let go : ℤ → Move = λ v. Goes (Here f (suc q) (put regs1 to v) below w1 t1) in
-      last_gives q (word_of o y x) regs1 w1 t1 (ap (λ i. act ir i f q regs1 below w1 t1) hq.0 ∙ ap (λ u. with_word (word_of o (at regs1 (reg q)) u) go) (s1 on small ∙ is) ∙ ap (λ u. with_word (word_of o u x) go) e1))
+      gives_then (word_at (reg q)) (word_at to) p q (suc q) regs w t (b w t)
+      (λ y w t. or_trap (word_of o y x) trap.Divide w t) (le p) (omega arith)
+      (right p (i ∷ rest) (omega arith) hb)
+      (λ y w1 t1 regs1 s1 e1. let go : ℤ → Move = λ v.
+      Goes (Here f (suc q) (put_register regs1 to v) below w1 t1) in
+      last_gives q (word_of o y x) regs1 w1 t1 (ap (λ i. act ir i f q regs1 below w1 t1) hq.0
+      ∙ ap (λ u. with_word (word_of o (register_at regs1 (reg q)) u) go) (s1 on small ∙ is)
+      ∙ ap (λ u. with_word (word_of o u x) go) e1))

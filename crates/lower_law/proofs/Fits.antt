@@ -1,5 +1,6 @@
--- What the run of a tree's code asks of its names: variables, functions, structs and fields are there,
--- and mean the same in the tree and in the code. A tree that breaks no rule has all this.
+-- The conditions on the names of a tree under which its code does what it means: variables,
+-- functions, structs and fields exist, and mean the same in the tree and in the code. A tree that
+-- breaks no rule meets them.
 use Rattle.std.proofs.Common.{◌≡◌, ℕ, ℤ, List}
 use Rattle.std.specs.Prelude.{Option, Some, Result, Ok, Err, slice_get}
 use Rattle.c_parser.specs.ExprTree as expr
@@ -20,7 +21,7 @@ use Rattle.lower.specs.Lowers.{Context, target_of}
 use Rattle.code_meaning.specs.Code.{Spot, InRoot, InSlot, spot_of, new_in}
 use Rattle.lower_law.proofs.Locals.{Entry, entry_register, scopes_in}
 
--- a word of the tree's meaning as one of the code's
+-- a word of the tree's meaning as a word of the code's
 abbrev pub spot_in : Result Word TrapKind → Result Spot TrapKind
 spot_in (Ok (Root i)) = Ok (InRoot i)
 spot_in (Ok (Field s i)) = Ok (InSlot s i)
@@ -28,9 +29,11 @@ spot_in (Err k) = Err k
 
 -- a field names the same word in the tree and in the code
 abbrev pub WordFits : Tables → Shapes → List Entry → ExprTree → Target → Type 0
-WordFits t shapes es e x = (ls : List Local) → scopes_of ls ≡ scopes_in es → (w : PoolMap) (b : ℤ) (j : Option ℤ) → spot_in (word_named t ls w e b j) ≡ spot_of shapes w x b j
+WordFits t shapes es e x = (ls : List Local) → scopes_of ls ≡ scopes_in es
+    → (w : PoolMap) (b : ℤ) (j : Option ℤ) → spot_in (word_named t ls w e b j)
+    ≡ spot_of shapes w x b j
 
--- a function that is called is there, at its number
+-- a function that is called exists, at its number
 pub record CallFits (t : Tables) (name : Ident) : Type 0 where
   pub fn : FunctionTree
   pub named : function_named t name.text ≡ Some fn
@@ -47,7 +50,9 @@ module _ (k : Context) (ir : Ir) (v : Variables) (es : List Entry) where
     ExpFits (expr.Variable name) = (r : ℕ) × (entry_register name.text es ≡ Some r)
     ExpFits (expr.Call name all) = CallFits k.tables name × ArgumentsFit all
     ExpFits (expr.Root name) = FieldFits (expr.Root name)
-    ExpFits (expr.New place name) = (w : PoolMap) → new_object k.tables w name.text ≡ new_in ir.shapes w (kind_named k.tables name.text)
+    ExpFits (expr.New place name) =
+        (w : PoolMap) → new_object k.tables w name.text ≡ new_in ir.shapes w
+        (kind_named k.tables name.text)
     ExpFits (expr.Arrow base place name) = ExpFits base × FieldFits (expr.Arrow base place name)
     ExpFits (expr.Index a place i) = PointerFits a × ExpFits i
     ExpFits (expr.Unary o place a) = ExpFits a

@@ -1,11 +1,11 @@
--- Stretches of a run, and lists read as maps.
+-- Parts of a run, and lists read as maps.
 use Rattle.std.proofs.Common.{◌≡◌, ◌≢◌, ℕ, zero, suc, ◌+◌, ◌*◌, ◌≤◌, ℤ, List, [], ◌∷◌, refl, ap, ◌∙◌, arith, add_assoc}
 use Rattle.std.proofs.Math.Numerals.{one-add}
 use Rattle.ir.specs.declared.function.Ir.{Ir}
-use Rattle.code_meaning.specs.Code.{State, Move, Goes, step, go_on, exec, at, put}
+use Rattle.code_meaning.specs.Code.{CodeState, Move, Goes, instruction_step, go_on, exec, register_at, put_register}
 
--- after n steps from c, what follows is what follows d. With at most m steps for a tick, n is no more than the way from p to q.
-pub record Path (ir : Ir) (m : ℕ) (c : State) (d : Move) (p t q t' : ℕ) : Type 0 where
+-- c leads to d in n steps. If each tick pays for m steps, n is at most the way from p to q.
+pub record Path (ir : Ir) (m : ℕ) (c : CodeState) (d : Move) (p t q t' : ℕ) : Type 0 where
   pub n : ℕ
   pub comes : (k : ℕ) → exec ir (n + k) c ≡ go_on (exec ir k) d
   pub falls : t' ≤ t
@@ -15,7 +15,8 @@ suc_add : (n k : ℕ) → suc n + k ≡ suc (n + k)
 suc_add n k = omega arith
 
 module _ {ir : Ir} {m : ℕ} where
-  pub path_then : {c d : State} {e : Move} {p t q t' r t'' : ℕ} → Path ir m c (Goes d) p t q t' → Path ir m d e q t' r t'' → Path ir m c e p t r t''
+  pub path_then : {c d : CodeState} {e : Move} {p t q t' r t'' : ℕ} → Path ir m c (Goes d) p t q t'
+      → Path ir m d e q t' r t'' → Path ir m c e p t r t''
   path_then {c} a b = record {
     n = a.n + b.n;
     comes = λ k. ap (λ j. exec ir j c) (add_assoc a.n b.n k) ∙ a.comes (b.n + k) ∙ b.comes k;
@@ -23,10 +24,17 @@ module _ {ir : Ir} {m : ℕ} where
     cost = omega (arith, a.cost, b.cost);
   }
 
-  pub path_more : {c : State} {e : Move} {p t q t' q' : ℕ} → q ≤ q' → Path ir m c e p t q t' → Path ir m c e p t q' t'
-  path_more le a = record { n = a.n; comes = a.comes; falls = a.falls; cost = omega (arith, a.cost) }
+  pub path_more : {c : CodeState} {e : Move} {p t q t' q' : ℕ} → q ≤ q' → Path ir m c e p t q t'
+      → Path ir m c e p t q' t'
+  path_more le a = record {
+    n = a.n;
+    comes = a.comes;
+    falls = a.falls;
+    cost = omega (arith, a.cost);
+  }
 
-  pub path_step : {c : State} {e : Move} (p t : ℕ) → step ir c ≡ e → Path ir m c e p t (suc p) t
+  pub path_step : {c : CodeState} {e : Move} (p t : ℕ) → instruction_step ir c ≡ e
+      → Path ir m c e p t (suc p) t
   path_step {c} p t h = record {
     n = 1;
     comes = λ k. ap (λ j. exec ir j c) (one-add k) ∙ ap (go_on (exec ir k)) h;
@@ -35,7 +43,8 @@ module _ {ir : Ir} {m : ℕ} where
   }
 
   -- a step that ends the run
-  pub path_ends : {c : State} {e : Move} (p t : ℕ) → step ir c ≡ e → Path ir m c e p t (suc p) 0
+  pub path_ends : {c : CodeState} {e : Move} (p t : ℕ) → instruction_step ir c ≡ e
+      → Path ir m c e p t (suc p) 0
   path_ends {c} p t h = record {
     n = 1;
     comes = λ k. ap (λ j. exec ir j c) (one-add k) ∙ ap (go_on (exec ir k)) h;
@@ -44,31 +53,36 @@ module _ {ir : Ir} {m : ℕ} where
   }
 
   -- a tick pays for m steps
-  pub path_tick : {c d : State} {e : Move} {p0 t q t' : ℕ} (p q' : ℕ) → p + suc q ≤ m + q' + p0 → step ir c ≡ Goes d → Path ir m d e p0 t q t' → Path ir m c e p (suc t) q' t'
+  pub path_tick : {c d : CodeState} {e : Move} {p0 t q t' : ℕ} (p q' : ℕ) → p + suc q ≤ m + q' + p0
+      → instruction_step ir c ≡ Goes d → Path ir m d e p0 t q t' → Path ir m c e p (suc t) q' t'
   path_tick {c} p q' le h a = record {
     n = suc a.n;
-    comes = λ k. ap (λ j. exec ir j c) (suc_add a.n k) ∙ ap (go_on (exec ir (a.n + k))) h ∙ a.comes k;
+    comes = λ k. ap (λ j. exec ir j c) (suc_add a.n k) ∙ ap (go_on (exec ir (a.n + k))) h
+        ∙ a.comes k;
     falls = omega (arith, a.falls);
     cost = omega (arith, a.cost);
   }
 
-  -- a first step, on other marks
-  pub path_first : {c d : State} {e : Move} {p0 t q t' : ℕ} (p q' : ℕ) → p + suc q ≤ q' + p0 → step ir c ≡ Goes d → Path ir m d e p0 t q t' → Path ir m c e p t q' t'
+  -- a first step, with other marks
+  pub path_first : {c d : CodeState} {e : Move} {p0 t q t' : ℕ} (p q' : ℕ) → p + suc q ≤ q' + p0
+      → instruction_step ir c ≡ Goes d → Path ir m d e p0 t q t' → Path ir m c e p t q' t'
   path_first {c} p q' le h a = record {
     n = suc a.n;
-    comes = λ k. ap (λ j. exec ir j c) (suc_add a.n k) ∙ ap (go_on (exec ir (a.n + k))) h ∙ a.comes k;
+    comes = λ k. ap (λ j. exec ir j c) (suc_add a.n k) ∙ ap (go_on (exec ir (a.n + k))) h
+        ∙ a.comes k;
     falls = a.falls;
     cost = omega (arith, a.cost);
   }
 
 -- lists read as maps
-pub at-put_same : (l : List ℤ) (x : ℕ) (v : ℤ) → at (put l x v) x ≡ v
+pub at-put_same : (l : List ℤ) (x : ℕ) (v : ℤ) → register_at (put_register l x v) x ≡ v
 at-put_same [] zero v = refl
 at-put_same [] (suc x) v = at-put_same [] x v
 at-put_same (a ∷ l) zero v = refl
 at-put_same (a ∷ l) (suc x) v = at-put_same l x v
 
-pub at-put_other : (l : List ℤ) (x y : ℕ) (v : ℤ) → x ≢ y → at (put l x v) y ≡ at l y
+pub at-put_other : (l : List ℤ) (x y : ℕ) (v : ℤ) → x ≢ y → register_at (put_register l x v) y
+    ≡ register_at l y
 at-put_other [] zero zero v ne = absurd (ne refl)
 at-put_other [] zero (suc y) v ne = refl
 at-put_other [] (suc x) zero v ne = refl

@@ -1,4 +1,4 @@
--- What the run of a statement's code asks of its names.
+-- The conditions on the names of a statement under which its code does what it means.
 use Rattle.std.proofs.Common.{◌≡◌, ℕ, suc, ℤ, List, ◌∷◌}
 use Rattle.std.specs.Prelude.{Option, None, Some}
 use Rattle.c_parser.specs.ExprTree as expr
@@ -11,17 +11,18 @@ use Rattle.pool_map.specs.PoolMap.{PoolMap}
 use Rattle.c_meaning.specs.Locals.{Local, scopes_of}
 use Rattle.c_meaning.specs.Access.{free_object}
 use Rattle.ir.specs.declared.function.Ir.{Ir}
-use Rattle.lower.specs.Names.{Variables, inside, declared, variable_of, kind_at, struct_behind}
-use Rattle.lower.specs.Lowers.{Context, exp_end, or_end, initial_end, first_end, behind_first, behind, stmt_end}
+use Rattle.lower.specs.Names.{Variables, inner_variables, variable_declared, variable_of, struct_kind_at, struct_pointed_to}
+use Rattle.lower.specs.Lowers.{Context, exp_end, or_end, initial_end, first_end, variables_after_first, variables_after, stmt_end}
 use Rattle.code_meaning.specs.Code.{free_in}
 use Rattle.lower_law.proofs.Locals.{Entry, Agrees, entry_register, scopes_in}
 use Rattle.lower_law.proofs.Fits.{ExpFits, PointerFits, FieldFits}
 
 module _ (k : Context) (ir : Ir) where
-  -- what is assigned to and is no variable
+  -- a target that is no variable
   abbrev pub PlaceFits : Variables → List Entry → ExprTree → Type 0
   PlaceFits v es (expr.Root name) = FieldFits k ir v es (expr.Root name)
-  PlaceFits v es (expr.Arrow base place name) = ExpFits k ir v es base × FieldFits k ir v es (expr.Arrow base place name)
+  PlaceFits v es (expr.Arrow base place name) =
+      ExpFits k ir v es base × FieldFits k ir v es (expr.Arrow base place name)
   PlaceFits v es (expr.Index a place i) = PointerFits k ir v es a × ExpFits k ir v es i
   PlaceFits v es (expr.Number n) = ⊥
   PlaceFits v es expr.Null = ⊥
@@ -40,10 +41,13 @@ module _ (k : Context) (ir : Ir) where
   OrFits v es (Some e) = ExpFits k ir v es e
 
   abbrev pub FreeFits : Variables → List Entry → ExprTree → Type 0
-  FreeFits v es e = (ls : List Local) → scopes_of ls ≡ scopes_in es → (w : PoolMap) (b : ℤ) → free_object k.tables ls w e b ≡ free_in w (kind_at k.tables (struct_behind (type_of k.tables v.scopes e))) b
+  FreeFits v es e = (ls : List Local) → scopes_of ls ≡ scopes_in es → (w : PoolMap) (b : ℤ)
+      → free_object k.tables ls w e b
+      ≡ free_in w (struct_kind_at k.tables (struct_pointed_to (type_of k.tables v.scopes e))) b
 
   abbrev pub SimpleFits : Variables → List Entry → SimpleTree → Type 0
-  SimpleFits v es (stmt.Assign target o place value) = TargetFits v es (variable_of target) target × ExpFits k ir v es value
+  SimpleFits v es (stmt.Assign target o place value) = TargetFits v es (variable_of target) target
+      × ExpFits k ir v es value
   SimpleFits v es (stmt.Step target o place) = TargetFits v es (variable_of target) target
   SimpleFits v es (stmt.Call name all) = ExpFits k ir v es (expr.Call name all)
   SimpleFits v es (stmt.Free place pointer) = ExpFits k ir v es pointer × FreeFits v es pointer
@@ -56,9 +60,11 @@ module _ (k : Context) (ir : Ir) where
   abbrev pub entry_in : DeclarationTree → ℕ → Entry
   entry_in d r = record { name = d.name.text; ty = declared_type k.tables d.ty; register = r }
 
-  -- a declared name means the new local, and other names mean what they meant
+  -- a declared name means the new local, and other names keep their meaning
   abbrev pub DeclarationFits : Variables → List Entry → DeclarationTree → Type 0
-  DeclarationFits v es d = InitialFits v es d.initial × ((r : ℕ) → Agrees (declared d.name.text (declared_type k.tables d.ty) r v) (entry_in d r ∷ es))
+  DeclarationFits v es d = InitialFits v es d.initial
+      × ((r : ℕ) → Agrees (variable_declared d.name.text (declared_type k.tables d.ty) r v)
+      (entry_in d r ∷ es))
 
   abbrev pub FirstFits : Variables → List Entry → Option FirstTree → Type 0
   FirstFits v es None = Unit {0}
@@ -69,42 +75,49 @@ module _ (k : Context) (ir : Ir) where
   ThirdFits v es None = Unit {0}
   ThirdFits v es (Some x) = SimpleFits v es x
 
-  -- the entries behind a declaration, whose code begins at p
+  -- the entries after a declaration whose code begins at p
   abbrev pub first_entries : Option FirstTree → ℕ → List Entry → List Entry
   first_entries None p es = es
   first_entries (Some (stmt.Declare d)) p es = entry_in d (k.node (initial_end d.initial p)) ∷ es
   first_entries (Some (stmt.Simply x)) p es = es
 
-  abbrev pub entries_behind : StmtTree → ℕ → List Entry → List Entry
-  entries_behind (stmt.Declares d) p es = entry_in d (k.node (initial_end d.initial p)) ∷ es
-  entries_behind stmt.Empty p es = es
-  entries_behind (stmt.Simple x) p es = es
-  entries_behind (stmt.Block all) p es = es
-  entries_behind (stmt.If c a) p es = es
-  entries_behind (stmt.IfElse c a b) p es = es
-  entries_behind (stmt.While c a) p es = es
-  entries_behind (stmt.For first c third a) p es = es
-  entries_behind stmt.Break p es = es
-  entries_behind stmt.Continue p es = es
-  entries_behind (stmt.Return place value) p es = es
+  abbrev pub entries_after : StmtTree → ℕ → List Entry → List Entry
+  entries_after (stmt.Declares d) p es = entry_in d (k.node (initial_end d.initial p)) ∷ es
+  entries_after stmt.Empty p es = es
+  entries_after (stmt.Simple x) p es = es
+  entries_after (stmt.Block all) p es = es
+  entries_after (stmt.If c a) p es = es
+  entries_after (stmt.IfElse c a b) p es = es
+  entries_after (stmt.While c a) p es = es
+  entries_after (stmt.For first c third a) p es = es
+  entries_after stmt.Break p es = es
+  entries_after stmt.Continue p es = es
+  entries_after (stmt.Return place value) p es = es
 
   abbrev mutual
     pub StmtFits : Variables → List Entry → StmtTree → ℕ → Type 0
     StmtFits v es stmt.Empty p = Unit {0}
     StmtFits v es (stmt.Declares d) p = DeclarationFits v es d
     StmtFits v es (stmt.Simple x) p = SimpleFits v es x
-    StmtFits v es (stmt.Block all) p = StatementsFit (inside v) es all p
-    StmtFits v es (stmt.If c a) p = ExpFits k ir v es c × StmtFits (inside v) es a (suc (exp_end c p))
-    StmtFits v es (stmt.IfElse c a b) p = ExpFits k ir v es c × StmtFits (inside v) es a (suc (exp_end c p)) × StmtFits (inside v) es b (suc (stmt_end a (suc (exp_end c p))))
-    StmtFits v es (stmt.While c a) p = ExpFits k ir v es c × StmtFits (inside v) es a (suc (exp_end c (suc p)))
+    StmtFits v es (stmt.Block all) p = StatementsFit (inner_variables v) es all p
+    StmtFits v es (stmt.If c a) p =
+        ExpFits k ir v es c × StmtFits (inner_variables v) es a (suc (exp_end c p))
+    StmtFits v es (stmt.IfElse c a b) p =
+        ExpFits k ir v es c × StmtFits (inner_variables v) es a (suc (exp_end c p))
+        × StmtFits (inner_variables v) es b (suc (stmt_end a (suc (exp_end c p))))
+    StmtFits v es (stmt.While c a) p =
+        ExpFits k ir v es c × StmtFits (inner_variables v) es a (suc (exp_end c (suc p)))
     StmtFits v es (stmt.For first c third a) p =
-        let u : Variables = behind_first k first p (inside v) in
+        let u : Variables = variables_after_first k first p (inner_variables v) in
         let us : List Entry = first_entries first p es in
-        FirstFits (inside v) es first × OrFits u us c × ThirdFits u us third × StmtFits (inside u) us a (suc (or_end c (suc (first_end first p))))
+        FirstFits (inner_variables v) es first × OrFits u us c × ThirdFits u us third
+        × StmtFits (inner_variables u) us a (suc (or_end c (suc (first_end first p))))
     StmtFits v es stmt.Break p = Unit {0}
     StmtFits v es stmt.Continue p = Unit {0}
     StmtFits v es (stmt.Return place value) p = OrFits v es value
 
     pub StatementsFit : Variables → List Entry → Statements → ℕ → Type 0
     StatementsFit v es stmt.Nothing p = Unit {0}
-    StatementsFit v es (stmt.Then x xs) p = StmtFits v es x p × StatementsFit (behind k x p v) (entries_behind x p es) xs (stmt_end x p)
+    StatementsFit v es (stmt.Then x xs) p =
+        StmtFits v es x p × StatementsFit (variables_after k x p v) (entries_after x p es) xs
+        (stmt_end x p)

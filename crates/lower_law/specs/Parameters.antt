@@ -1,6 +1,6 @@
--- Lowering leaves parameters as they came: a parameter that a function assigns is copied at its entry into a register
--- of its own, which every use of its name means. Where a name is declared twice in one scope its uses would mean the
--- first, so the rules are needed.
+-- The lowered code never assigns parameters: a parameter that a function assigns is copied at its
+-- entry into a register of its own, which every use of its name means. If a name were declared
+-- twice in one scope, its uses would mean the first, so the rules are needed.
 use Rattle.std.specs.Prelude.{◌≡◌, []}
 use Rattle.c_parser.specs.Program.{Program}
 use Rattle.c_types.specs.Fault.{breaks}

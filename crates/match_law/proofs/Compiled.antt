@@ -1,4 +1,4 @@
--- What stands in an image with emitted code.
+-- The content of an image with emitted code.
 use Rattle.std.proofs.Common.{◌≡◌, ℕ, zero, suc, ◌+◌, ◌<◌, ◌≤◌, ◌^◌, Bool, true, false, List, [], ◌∷◌, length, slice_get, Option, Some, refl, sym, ap, ◌∙◌, subst, arith}
 use Rattle.std.specs.Prelude.{option_map, if◌then◌else◌, nat_lt}
 use Rattle.std.specs.List.{AllByRecursion}
@@ -16,8 +16,9 @@ use Rattle.code_meaning.proofs.Lists.{all_at}
 use Rattle.match_law.specs.Compiled.{IsCompiled}
 use Rattle.match_law.proofs.Places.{made, made_is}
 
--- the largest number of registers
-greater : (n r : ℕ) (b : Bool) → nat_lt n r ≡ b → (n ≤ (if b then r else n)) × (r ≤ (if b then r else n))
+-- the greatest number of registers
+greater : (n r : ℕ) (b : Bool) → nat_lt n r ≡ b → (n ≤ (if b then r else n))
+    × (r ≤ (if b then r else n))
 greater n r true e = let low : n < r = ltb-true n r e in (omega arith, omega arith)
 greater n r false e = let high : r ≤ n = ltb-false n r e in (omega arith, high)
 
@@ -29,7 +30,8 @@ most_past n (v ∷ us) =
     let low : n ≤ m = (greater n v.registers (nat_lt n v.registers) refl).0 in
     omega (arith, rest, low)
 
-most_at : (n : ℕ) (us : List Function) (k : ℕ) (u : Function) → slice_get us k ≡ Some u → u.registers ≤ most_registers n us
+most_at : (n : ℕ) (us : List Function) (k : ℕ) (u : Function) → slice_get us k ≡ Some u
+    → u.registers ≤ most_registers n us
 most_at n [] k u e = absurd (cc)
 most_at n (v ∷ us) zero u e =
     let same : v ≡ u = cc in
@@ -43,7 +45,8 @@ most_at n (v ∷ us) (suc k) u e = most_at (if nat_lt n v.registers then v.regis
 module _ (image : Image) (ir : Ir) (c : IsCompiled image ir) where
   pub known_is : known ir.functions ≡ ir.functions
   known_is =
-      let few : nat_lt (length ir.functions) (2 ^ 32) ≡ true = lt-ltb (length ir.functions) (2 ^ 32) (omega (arith, c.well.0)) in
+      let few : nat_lt (length ir.functions) (2 ^ 32) ≡ true =
+      lt-ltb (length ir.functions) (2 ^ 32) (omega (arith, c.well.0)) in
       ap (λ (b : Bool). if b then ir.functions else []) few
 
   module _ (f : ℕ) (u : IrFunction) (found : slice_get ir.functions f ≡ Some u) where
@@ -57,13 +60,17 @@ module _ (image : Image) (ir : Ir) (c : IsCompiled image ir) where
     function_is =
         ap (λ (us : List Function). slice_get us f) c.code.functions
         ∙ slice_get-map (function_of image.parts.sizes ir.shapes) (known ir.functions) f
-        ∙ ap (λ (o : Option IrFunction). option_map (function_of image.parts.sizes ir.shapes) o) known_at
+        ∙ ap (λ (o : Option IrFunction). option_map (function_of image.parts.sizes ir.shapes) o)
+        known_at
         ∙ ap (λ (v : Function). Some v) (made_is image.parts.sizes ir.shapes u (c.room f u found))
 
     pub largest_room : u.registers + 8 ≤ image.largest
     largest_room =
-        let at : made_here.registers ≤ most_registers 0 image.parts.functions = most_at 0 image.parts.functions f made_here function_is in
+        let at : made_here.registers ≤ most_registers 0 image.parts.functions =
+        most_at 0 image.parts.functions f made_here function_is in
         subst (λ (n : ℕ). u.registers + 8 ≤ n) (sym image.most) at
 
-    pub well_at : (p : ℕ) (i : Instruction) → slice_get u.code p ≡ Some i → IsInstruction ir u.registers (length u.code) i
-    well_at p i e = all_at (IsInstruction ir u.registers (length u.code)) u.code p i (all_at (IsFunction ir) ir.functions f u c.well.1 found).3 e
+    pub well_at : (p : ℕ) (i : Instruction) → slice_get u.code p ≡ Some i
+        → IsInstruction ir u.registers (length u.code) i
+    well_at p i e = all_at (IsInstruction ir u.registers (length u.code)) u.code p i
+        (all_at (IsFunction ir) ir.functions f u c.well.1 found).3 e

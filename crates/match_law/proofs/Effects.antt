@@ -1,4 +1,4 @@
--- Lists of effects, from the first on and from the newest on.
+-- Lists of effects, with the first or with the newest at the front.
 use Rattle.std.proofs.Common.{◌≡◌, List, [], ◌∷◌, ◌++◌, refl, sym, ap, ◌∙◌}
 use Rattle.pm_machine.specs.declared.effect.Effect.{Effect}
 use Rattle.pm_machine.specs.declared.effect.Effect.TheVariants.{Loads, Scans, Stores, Logs, Flushes, Fences, Quiet}
@@ -17,7 +17,8 @@ accesses_heard (Flushes l ∷ es) = accesses_heard es
 accesses_heard (Fences ∷ es) = accesses_heard es
 accesses_heard (Quiet ∷ es) = accesses_heard es
 
-pub accesses_onto : (es seen : List Effect) → accesses (onto es seen) ≡ onto (accesses es) (accesses seen)
+pub accesses_onto : (es seen : List Effect)
+    → accesses (onto es seen) ≡ onto (accesses es) (accesses seen)
 accesses_onto [] seen = refl
 accesses_onto (Loads w ∷ es) seen = accesses_onto es (Loads w ∷ seen)
 accesses_onto (Scans w many ∷ es) seen = accesses_onto es (Scans w many ∷ seen)
@@ -42,6 +43,6 @@ append_none (e ∷ es) = ap (λ (fs : List Effect). e ∷ fs) (append_none es)
 back_again : (es : List Effect) → onto (onto es []) [] ≡ es
 back_again es = onto_onto es [] [] ∙ append_none es
 
--- a list put before none is known by it
+-- a list is determined by what adding it to the empty list gives
 pub onto_same : (es fs : List Effect) → onto es [] ≡ onto fs [] → es ≡ fs
 onto_same es fs e = sym (back_again es) ∙ ap (λ (gs : List Effect). onto gs []) e ∙ back_again fs

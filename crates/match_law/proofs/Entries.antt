@@ -13,7 +13,7 @@ use Rattle.pm_machine.specs.declared.op.TxEntry.{TxEntry}
 use Rattle.pm_machine.specs.Machine.{start}
 use Rattle.pm_machine.specs.Transactions as transactions
 use Rattle.codegen.specs.Emit.{txs_from}
-use Rattle.emit_law.specs.Moments.{Moment}
+use Rattle.emit_law.specs.Moments.{RunMoment}
 use Rattle.piece_law.specs.Stands.{Stands}
 use Rattle.match_law.specs.Compiled.{IsCompiled}
 use Rattle.match_law.specs.Match.{AreMatched}
@@ -26,7 +26,7 @@ none_dirty : IsDistinct nat_eq []
 unfolding IsDistinct
 none_dirty = tt
 
--- an entry is that of a function marked tx
+-- an entry belongs to a function marked tx
 record IsTx (f : ℕ) (us : List IrFunction) (entry : TxEntry) : Type 0 where
   pub number : ℕ
   pub u : IrFunction
@@ -34,50 +34,70 @@ record IsTx (f : ℕ) (us : List IrFunction) (entry : TxEntry) : Type 0 where
   pub marked : u.tx ≡ true
   pub is : entry.function ≡ f + number
 
-behind : (f : ℕ) (v : IrFunction) (us : List IrFunction) (entry : TxEntry) → IsTx (f + 1) us entry → IsTx f (v ∷ us) entry
-behind f v us entry h = record { number = suc h.number; u = h.u; there = h.there; marked = h.marked; is = omega (arith, h.is) }
+tx_after : (f : ℕ) (v : IrFunction) (us : List IrFunction) (entry : TxEntry) → IsTx (f + 1) us entry
+    → IsTx f (v ∷ us) entry
+tx_after f v us entry h = record {
+  number = suc h.number;
+  u = h.u;
+  there = h.there;
+  marked = h.marked;
+  is = omega (arith, h.is);
+}
 
-entry_if : (f : ℕ) (v : IrFunction) (us : List IrFunction) → ((k : ℕ) (entry : TxEntry) → slice_get (txs_from (f + 1) us) k ≡ Some entry → IsTx (f + 1) us entry) → (d : Bool) → v.tx ≡ d → (k : ℕ) (entry : TxEntry) →
-    slice_get ((if d then record { function = f; parameters = v.parameters } ∷ [] else []) ++ txs_from (f + 1) us) k ≡ Some entry → IsTx f (v ∷ us) entry
+entry_if : (f : ℕ) (v : IrFunction) (us : List IrFunction)
+    → ((k : ℕ) (entry : TxEntry) → slice_get (txs_from (f + 1) us) k ≡ Some entry
+    → IsTx (f + 1) us entry) → (d : Bool) → v.tx ≡ d → (k : ℕ) (entry : TxEntry) →
+    slice_get ((if d then record { function = f; parameters = v.parameters } ∷ [] else [])
+    ++ txs_from (f + 1) us) k ≡ Some entry → IsTx f (v ∷ us) entry
 entry_if f v us next true marked zero entry e =
     let same : Some (record { function = f; parameters = v.parameters }) ≡ Some entry = e in
-    let at : f ≡ entry.function = ap (λ (o : Option TxEntry). transactions.function_of o) same in
+    let at : f ≡ entry.function = ap (λ (o : Option TxEntry). transactions.entry_function o) same in
     record { number = zero; u = v; there = refl; marked = marked; is = omega (arith, at) }
-entry_if f v us next true marked (suc k) entry e = behind f v us entry (next k entry e)
-entry_if f v us next false marked k entry e = behind f v us entry (next k entry e)
+entry_if f v us next true marked (suc k) entry e = tx_after f v us entry (next k entry e)
+entry_if f v us next false marked k entry e = tx_after f v us entry (next k entry e)
 
-entry_is : (f : ℕ) (us : List IrFunction) (k : ℕ) (entry : TxEntry) → slice_get (txs_from f us) k ≡ Some entry → IsTx f us entry
+entry_is : (f : ℕ) (us : List IrFunction) (k : ℕ) (entry : TxEntry)
+    → slice_get (txs_from f us) k ≡ Some entry → IsTx f us entry
 entry_is f [] k entry e = absurd (cc)
 entry_is f (v ∷ us) k entry e = entry_if f v us (λ j x. entry_is (f + 1) us j x) v.tx refl k entry e
 
-module _ (image : Image) (program : Ir) (c : IsCompiled image program) (tx : ℕ) (entry : TxEntry) (found : slice_get image.parts.txs (tx - 1) ≡ Some entry) (args : List ℤ) (heap : Words) (w : PoolMap) where
-  abbrev pub first_moment : Moment
+module _ (image : Image) (program : Ir) (c : IsCompiled image program) (tx : ℕ) (entry : TxEntry)
+    (found : slice_get image.parts.txs (tx - 1) ≡ Some entry) (args : List ℤ) (heap : Words)
+    (w : PoolMap) where
+  abbrev pub first_moment : RunMoment
   first_moment = record { state = start image tx args; heap = heap; records = 0; seen = [] }
 
   entered : IsTx 0 program.functions entry
   entered =
       let listed : slice_get (txs_from 0 program.functions) (tx - 1) ≡ Some entry =
-      ap (λ (us : List IrFunction). slice_get (txs_from 0 us) (tx - 1)) (sym (known_is image program c)) ∙ ap (λ (ts : List TxEntry). slice_get ts (tx - 1)) (sym c.code.txs) ∙ found in
+      ap (λ (us : List IrFunction). slice_get (txs_from 0 us) (tx - 1))
+      (sym (known_is image program c)) ∙ ap (λ (ts : List TxEntry). slice_get ts (tx - 1))
+      (sym c.code.txs) ∙ found in
       entry_is 0 program.functions (tx - 1) entry listed
 
   at_entry : slice_get program.functions entry.function ≡ Some entered.u
-  at_entry = (let at : entry.function ≡ entered.number = omega (arith, entered.is) in ap (slice_get program.functions) at ∙ entered.there)
+  at_entry = (let at : entry.function ≡ entered.number = omega (arith, entered.is) in
+      ap (slice_get program.functions) at ∙ entered.there)
 
   pub begins_within : IsPlace program.functions entry.function 0
   begins_within = entry_within program c.well entry.function entered.u at_entry
 
-  pub begins : Stands image.parts.sizes heap w → PoolFits program.shapes w → AreMatched image program entry.function 0 args [] w image.parts.sizes.ticks first_moment
+  pub begins : Stands image.parts.sizes heap w → PoolFits program.shapes w
+      → AreMatched image program entry.function 0 args [] w image.parts.sizes.ticks first_moment
   begins stands fits =
-      let room : entered.u.registers + 8 ≤ image.largest = largest_room image program c entry.function entered.u at_entry in
+      let room : entered.u.registers + 8 ≤ image.largest =
+      largest_room image program c entry.function entered.u at_entry in
       let blank : List ℤ = replicate image.largest (pos 0) in
-      let long : length first_moment.state.top.registers ≡ image.largest = filled_length args blank 0 ∙ length-replicate image.largest (pos 0) in
+      let long : length first_moment.state.top.registers ≡ image.largest =
+      filled_length args blank 0 ∙ length-replicate image.largest (pos 0) in
       record {
         top = record {
           u = entered.u;
           found = at_entry;
           tx = entered.marked;
-          function = ap transactions.function_of found;
-          place = sym (first_is image.parts.sizes program.shapes entered.u (c.room entry.function entered.u at_entry));
+          function = ap transactions.entry_function found;
+          place = sym (first_is image.parts.sizes program.shapes entered.u
+              (c.room entry.function entered.u at_entry));
           holds = λ r low. filled_is args image.largest r (omega arith);
           room = omega arith;
         };

@@ -1,4 +1,4 @@
--- Frames below, the nearest last.
+-- The frames below, the innermost last.
 use Rattle.std.proofs.Common.{◌≡◌, ℕ, ◌-◌, List, [], ◌∷◌, ◌++◌, length, take, slice_get, Some, refl, ap, ◌∙◌, arith, length-append}
 use Rattle.ir.specs.declared.function.Ir.{Ir}
 use Rattle.pool_layout.specs.declared.limits.Sizes.{Sizes}
@@ -19,13 +19,17 @@ one_less hs gs g e =
     let all : length gs ≡ length (hs ++ g ∷ []) = ap (λ (ks : List Frame). length ks) e in
     omega (arith, length-append hs (g ∷ []))
 
-pub nearest : (hs gs : List Frame) (g : Frame) → gs ≡ hs ++ g ∷ [] → slice_get gs (length gs - 1) ≡ Some g
-nearest hs gs g e = ap (slice_get gs) (one_less hs gs g e) ∙ ap (λ (ks : List Frame). slice_get ks (length hs)) e ∙ last_at hs g
+pub nearest : (hs gs : List Frame) (g : Frame) → gs ≡ hs ++ g ∷ []
+    → slice_get gs (length gs - 1) ≡ Some g
+nearest hs gs g e = ap (slice_get gs) (one_less hs gs g e)
+    ∙ ap (λ (ks : List Frame). slice_get ks (length hs)) e ∙ last_at hs g
 
 pub others : (hs gs : List Frame) (g : Frame) → gs ≡ hs ++ g ∷ [] → take (length gs - 1) gs ≡ hs
-others hs gs g e = ap (λ (n : ℕ). take n gs) (one_less hs gs g e) ∙ ap (take (length hs)) e ∙ take_all hs g
+others hs gs g e = ap (λ (n : ℕ). take n gs) (one_less hs gs g e) ∙ ap (take (length hs)) e
+    ∙ take_all hs g
 
-pub as_many : (s : Sizes) (ir : Ir) (to : ℕ) (cs : List code.Frame) (gs : List Frame) → Waits s ir to cs gs → length gs ≡ length cs
+pub as_many : (s : Sizes) (ir : Ir) (to : ℕ) (cs : List code.Frame) (gs : List Frame)
+    → Waits s ir to cs gs → length gs ≡ length cs
 as_many s ir to [] gs waits = ap (λ (ks : List Frame). length ks) waits
 as_many s ir to (code.frame f p regs r ∷ cs) gs waits =
     let hs = waits.0 in

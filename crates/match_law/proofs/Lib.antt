@@ -9,7 +9,7 @@ pub mod Moves
 pub mod Places
 pub mod Registers
 pub mod Runs
-pub mod Staying
+pub mod Locals
 pub mod Steps
 pub mod Whole
 pub mod Within

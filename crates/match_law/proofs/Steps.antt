@@ -7,10 +7,10 @@ use Rattle.ir.specs.declared.instruction.Instruction.TheVariants as ir
 use Rattle.ir.specs.declared.function.IrFunction.{IrFunction}
 use Rattle.ir.specs.declared.function.Ir.{Ir}
 use Rattle.ir.specs.Places.{instruction_at}
-use Rattle.code_meaning.specs.Code.{State, Here, Move, at, put, gives, opens, is_zero, open_limit}
+use Rattle.code_meaning.specs.Code.{register_at}
 use Rattle.code_meaning.specs.Code as code
 use Rattle.pm_machine.specs.declared.image.Image.{Image}
-use Rattle.emit_law.specs.Moments.{Moment}
+use Rattle.emit_law.specs.Moments.{RunMoment}
 use Rattle.emit_law.specs.Standing.{Stays}
 use Rattle.piece_law.specs.Law.{PieceLaw}
 use Rattle.piece_law.specs.Pools.{FitsLaw}
@@ -19,9 +19,13 @@ use Rattle.match_law.specs.Compiled.{IsCompiled}
 use Rattle.match_law.specs.Match.{AreMatched}
 use Rattle.match_law.proofs.Moves.{Steps}
 use Rattle.match_law.proofs.Controls.{jump_step, branch_step, call_step, return_step}
-use Rattle.match_law.proofs.Staying.{stays}
+use Rattle.match_law.proofs.Locals.{stays}
 
-module _ (piece_law : PieceLaw) (fits_law : FitsLaw) (image : Image) (program : Ir) (c : IsCompiled image program) (f p : ℕ) (regs : List ℤ) (callers : List code.Frame) (w : PoolMap) (t : ℕ) (m : Moment) (words : HoldWords regs) (same : AreMatched image program f p regs callers w t m) where
+module _ (piece_law : PieceLaw) (fits_law : FitsLaw) (image : Image) (program : Ir)
+    (c : IsCompiled image program) (f p : ℕ) (regs : List ℤ) (callers : List code.Frame)
+    (w : PoolMap)
+    (t : ℕ) (m : RunMoment) (words : HoldWords regs)
+    (same : AreMatched image program f p regs callers w t m) where
   abbrev u : IrFunction
   u = same.top.u
 
@@ -29,14 +33,18 @@ module _ (piece_law : PieceLaw) (fits_law : FitsLaw) (image : Image) (program : 
   Step o = Steps image program f p regs callers w t m o
 
   stays_here : (i : Instruction) → slice_get u.code p ≡ Some i → Stays i → Step (Some i)
-  stays_here i e is = stays piece_law fits_law image program c f p regs callers w t m words same i e is
+  stays_here i e is = stays piece_law fits_law image program c f p regs callers w t m words
+      same i e is
 
   act_meets : (o : Option Instruction) → slice_get u.code p ≡ o → Step o
   act_meets None e = (0, omega arith, tt)
   act_meets (Some (ir.Jump q)) e = jump_step image program c f p regs callers w t m same q e
-  act_meets (Some (ir.Branch on q)) e = branch_step image program c f p regs callers w t m same on q e
-  act_meets (Some (ir.Call r g args)) e = call_step image program c f p regs callers w t m same r g args e
-  act_meets (Some (ir.Return from)) e = return_step image program c f p regs callers w t m same from e
+  act_meets (Some (ir.Branch on q)) e =
+      branch_step image program c f p regs callers w t m same on q e
+  act_meets (Some (ir.Call r g args)) e =
+      call_step image program c f p regs callers w t m same r g args e
+  act_meets (Some (ir.Return from)) e =
+      return_step image program c f p regs callers w t m same from e
   act_meets (Some (ir.Const to v)) e = stays_here (ir.Const to v) e tt
   act_meets (Some (ir.Copy to from)) e = stays_here (ir.Copy to from) e tt
   act_meets (Some (ir.Bin o to a b)) e = stays_here (ir.Bin o to a b) e tt
@@ -50,5 +58,7 @@ module _ (piece_law : PieceLaw) (fits_law : FitsLaw) (image : Image) (program : 
 
   pub step_meets : Step (instruction_at program.functions f p)
   step_meets =
-      let at : instruction_at program.functions f p ≡ slice_get u.code p = ap (λ (o : Option IrFunction). option_and_then (λ (v : IrFunction). slice_get v.code p) o) same.top.found in
-      subst Step (sym at) (act_meets (slice_get u.code p) refl)
+      let register_at : instruction_at program.functions f p ≡ slice_get u.code p =
+      ap (λ (o : Option IrFunction). option_and_then (λ (v : IrFunction). slice_get v.code p) o)
+      same.top.found in
+      subst Step (sym register_at) (act_meets (slice_get u.code p) refl)

@@ -1,5 +1,5 @@
--- What a run of the machine does to the words of the heap: its loads, its stores and its logs, without its quiet steps, its
--- flushes and its fences.
+-- The effects of a machine's run on the words of the heap: its loads, its stores and its logs,
+-- without its quiet steps, its flushes and its fences.
 use Rattle.std.specs.Prelude.{List, [], ◌∷◌}
 use Rattle.pm_machine.specs.declared.effect.Effect.{Effect}
 use Rattle.pm_machine.specs.declared.effect.Effect.TheVariants.{Loads, Scans, Stores, Logs, Flushes, Fences, Quiet}

@@ -1,27 +1,25 @@
--- An image with the emitted code of a program, as a compiled program has it; and which of the program's stores are logged.
-use Rattle.std.specs.Prelude.{◌≡◌, ℕ, Bool, true, false, List, Option, None, Some, slice_get}
+-- An image with the emitted code of a program, as a compiled program has it; and which of the
+-- program's stores are logged.
+use Rattle.std.specs.Prelude.{◌≡◌, ℕ, Bool, true, false, Option, None, Some, slice_get}
 use Rattle.ir.specs.declared.instruction.Instruction.{Instruction}
 use Rattle.ir.specs.declared.instruction.Instruction.TheVariants.{New}
 use Rattle.ir.specs.declared.site.Site.{Site}
 use Rattle.ir.specs.declared.function.IrFunction.{IrFunction}
 use Rattle.ir.specs.declared.function.Ir.{Ir}
-use Rattle.ir.specs.Places.{CallsAt}
 use Rattle.ir.specs.WellFormed.{IsWellFormed}
+use Rattle.code_meaning.specs.Calls.{CallsNoTransaction}
+use Rattle.code_meaning.specs.Constants.{HasWordConstants}
 use Rattle.pm_machine.specs.declared.image.Image.{Image}
 use Rattle.emit_law.specs.Standing.{logged_before, HasRoom}
 use Rattle.emit_law.specs.TidyCode.{HasCode}
 use Rattle.piece_law.specs.Fits.{IsFit}
-use Rattle.piece_law.specs.Words.{HasWordConstants}
 
--- a transaction is not called
-abbrev pub CallsNoTransaction : List IrFunction → Type 0
-CallsNoTransaction functions = (f p to g : ℕ) (args : List ℕ) (u : IrFunction) → CallsAt functions f p to g args → slice_get functions g ≡ Some u → u.tx ≡ false
-
--- Each compiled program is such: the front end and the code generator see to it.
+-- The properties of each compiled program; the front end and the code generator ensure them.
 pub record IsCompiled (image : Image) (ir : Ir) : Type 0 where
   pub code : HasCode image image.parts.sizes ir
   pub well : IsWellFormed ir
-  pub room : (f : ℕ) (u : IrFunction) → slice_get ir.functions f ≡ Some u → HasRoom image.parts.sizes ir.shapes u
+  pub room : (f : ℕ) (u : IrFunction) → slice_get ir.functions f ≡ Some u
+      → HasRoom image.parts.sizes ir.shapes u
   pub calls : CallsNoTransaction ir.functions
   pub constants : HasWordConstants ir.functions
   pub fits : IsFit image.parts.sizes ir.shapes
@@ -36,6 +34,7 @@ logs_at None p fill = false
 logs_at (Some u) p true = logs_fill (slice_get u.code p)
 logs_at (Some u) p false = logged_before false u.code p
 
--- a store is logged where a log stands right before it, and the fill of a new object where its flag says so
-abbrev pub is_logged : Ir → Site → Bool
-is_logged ir x = logs_at (slice_get ir.functions x.function) x.place x.fill
+-- a store is logged if a log comes right before it, and the fill of a new object if its flag says
+-- so
+abbrev pub is_logged_in_code : Ir → Site → Bool
+is_logged_in_code ir x = logs_at (slice_get ir.functions x.function) x.place x.fill

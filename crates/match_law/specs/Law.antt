@@ -1,4 +1,4 @@
--- Emitted code keeps the meaning of three-address code, from every heap that stands for the pool.
+-- Emitted code keeps the meaning of intermediate code, from every heap that stands for the pool.
 use Rattle.std.specs.Prelude.{◌≡◌, ◌⊎◌, ℕ, ◌*◌, ◌-◌, ℤ, List, Some, slice_get}
 use Rattle.cache_model.specs.Cache.{Words}
 use Rattle.pool_map.specs.declared.trap.TrapKind.{TrapKind}
@@ -6,7 +6,7 @@ use Rattle.pool_map.specs.declared.trap.TrapKind.TheVariants.{LogFull}
 use Rattle.pool_map.specs.PoolFits.{PoolFits}
 use Rattle.pool_map.specs.PoolMap.{PoolMap}
 use Rattle.ir.specs.declared.function.Ir.{Ir}
-use Rattle.code_meaning.specs.Code.{start, exec}
+use Rattle.code_meaning.specs.Code.{code_start, exec}
 use Rattle.code_meaning.specs.Code as code
 use Rattle.code_meaning.specs.Deeds.{Deed, deeds}
 use Rattle.pm_machine.specs.declared.effect.Effect.{Effect}
@@ -15,48 +15,58 @@ use Rattle.pm_machine.specs.declared.image.Image.{Image}
 use Rattle.pm_machine.specs.declared.op.TxEntry.{TxEntry}
 use Rattle.pm_machine.specs.Effects.{heap_end, records_end}
 use Rattle.pm_machine.specs.Machine.{Run, Finished, mrun}
-use Rattle.piece_law.specs.Shows.{Shows, IsCut}
+use Rattle.piece_law.specs.Shows.{ShowsDeeds, IsCutAtStore}
 use Rattle.piece_law.specs.Stands.{Stands}
 use Rattle.piece_law.specs.Words.{HoldWords, HasWords}
 use Rattle.match_law.specs.Accesses.{accesses}
-use Rattle.match_law.specs.Compiled.{IsCompiled, is_logged}
+use Rattle.match_law.specs.Compiled.{IsCompiled, is_logged_in_code}
 use Rattle.match_law.specs.Match.{most}
 
--- the run halts with the code's value, its heap stands for the code's pool, and its effects show what the code did
-pub record RunHalts (image : Image) (ir : Ir) (heap : Words) (ds : List Deed) (w : PoolMap) (v : ℤ) (run : Run) : Type 0 where
+-- the run halts with the code's value, its heap stands for the code's pool, and its effects show
+-- the code's deeds
+pub record RunHalts (image : Image) (ir : Ir) (heap : Words) (ds : List Deed) (w : PoolMap) (v : ℤ)
+    (run : Run) : Type 0 where
   pub effects : List Effect
   pub is : run ≡ Finished (Halted v) effects
   pub stands : Stands image.parts.sizes (heap_end heap effects) w
   pub fits : PoolFits ir.shapes w
   pub words : HasWords w
-  pub shows : Shows image.parts.sizes (is_logged ir) ds (accesses effects)
+  pub shows : ShowsDeeds image.parts.sizes (is_logged_in_code ir) ds (accesses effects)
 
-pub record RunTraps (image : Image) (ir : Ir) (ds : List Deed) (k : TrapKind) (run : Run) : Type 0 where
+pub record RunTraps (image : Image) (ir : Ir) (ds : List Deed) (k : TrapKind) (run : Run) :
+    Type 0 where
   pub effects : List Effect
   pub is : run ≡ Finished (Trapped k) effects
-  pub shows : Shows image.parts.sizes (is_logged ir) ds (accesses effects)
+  pub shows : ShowsDeeds image.parts.sizes (is_logged_in_code ir) ds (accesses effects)
 
--- the run ends with a full log: its effects show what the code did up to a store that is logged, and all records are written
+-- the run ends with a full log: its effects show the code's deeds up to a store that is logged, and
+-- all records are written
 pub record RunFull (image : Image) (ir : Ir) (ds : List Deed) (run : Run) : Type 0 where
   pub effects : List Effect
   pub is : run ≡ Finished (Trapped LogFull) effects
   pub records : records_end 0 effects ≡ image.parts.sizes.records
-  pub cut : IsCut image.parts.sizes (is_logged ir) ds (accesses effects)
+  pub cut : IsCutAtStore image.parts.sizes (is_logged_in_code ir) ds (accesses effects)
 
--- how the machine's run from a heap goes where that of the code, with these deeds, ends so; code that is well formed never
--- gets stuck
-abbrev pub Keeps : Image → Ir → Words → List Deed → code.End → Run → Type 0
-Keeps image ir heap ds (code.Ended w v t) run = RunHalts image ir heap ds w v run ⊎ RunFull image ir ds run
-Keeps image ir heap ds (code.Trapped k) run = RunTraps image ir ds k run ⊎ RunFull image ir ds run
-Keeps image ir heap ds code.Unfinished run = Unit {0}
-Keeps image ir heap ds code.Stuck run = ⊥
+-- what the machine's run from a heap does if that of the code, with these deeds, ends like this;
+-- well formed code never gets stuck
+abbrev pub RunMatches : Image → Ir → Words → List Deed → code.CodeEnd → Run → Type 0
+RunMatches image ir heap ds (code.Ended w v t) run = RunHalts image ir heap ds w v run
+    ⊎ RunFull image ir ds run
+RunMatches image ir heap ds (code.Trapped k) run =
+    RunTraps image ir ds k run ⊎ RunFull image ir ds run
+RunMatches image ir heap ds code.Unfinished run = Unit {0}
+RunMatches image ir heap ds code.Stuck run = ⊥
 
--- Where k steps of the code of a transaction come to an end, at most 80 steps of the machine for
--- each of them come to one too, from every heap that stands for the pool: to the same end, with a
+-- If k steps of the code of a transaction lead to an end, at most 80 steps of the machine for each
+-- of them lead to an end too, from every heap that stands for the pool. It is the same end, with a
 -- heap that stands for the code's pool, and with loads, stores and logs that show the code's. Or
 -- the machine ends with a full log, and these show the code's up to the store that found it full.
 -- The arguments and the pool's words are words.
 abbrev pub KeepLaw : Type 0
-KeepLaw = (image : Image) (ir : Ir) (k tx : ℕ) (entry : TxEntry) (args : List ℤ) (heap : Words) (w : PoolMap) →
-    IsCompiled image ir → slice_get image.parts.txs (tx - 1) ≡ Some entry → HoldWords args → HasWords w → Stands image.parts.sizes heap w → PoolFits ir.shapes w →
-    Keeps image ir heap (deeds ir k (start entry.function args w image.parts.sizes.ticks)) (exec ir k (start entry.function args w image.parts.sizes.ticks)) (mrun image (k * most) heap tx args)
+KeepLaw = (image : Image) (ir : Ir) (k tx : ℕ) (entry : TxEntry) (args : List ℤ) (heap : Words)
+    (w : PoolMap) →
+    IsCompiled image ir → slice_get image.parts.txs (tx - 1) ≡ Some entry → HoldWords args
+    → HasWords w → Stands image.parts.sizes heap w → PoolFits ir.shapes w →
+    RunMatches image ir heap (deeds ir k (code_start entry.function args w image.parts.sizes.ticks))
+    (exec ir k (code_start entry.function args w image.parts.sizes.ticks))
+    (mrun image (k * most) heap tx args)

@@ -1,4 +1,5 @@
--- Lemmas on bytes that move in pieces: what was taken from a source, and what was appended to a sink.
+-- Lemmas on bytes that are moved piece by piece: those taken from a source, and those appended to a
+-- sink.
 use Rattle.std.proofs.Common.{◌≡◌, ap, ℕ, ◌+◌, ◌-◌, ◌≤◌, List, ◌++◌, length, take, drop, Option, Some, None, Result, Ok, Err, sym, ◌∙◌, arith, append_assoc, length-append}
 use Rattle.std.specs.Prelude.{OnErr}
 use Rattle.std.specs.Io.KnownBytes.{Appends, Consumes, Keeps}
@@ -7,39 +8,43 @@ use Rattle.std.proofs.lemmas.List.{take-append-drop, drop-drop}
 use Rattle.std.proofs.Math.Seq.{take-append_seam, take-add}
 use Rattle.nvm_base.specs.Parts.{AppendsPart, Takes}
 
--- n bytes copied from the front of what is left to the front of a piece are what was taken
+-- the first n bytes of a source, copied to the front of a piece, are the bytes taken
 pub left_copied : (left piece copied bytes : List ℕ) (at n : ℕ)
     → left ≡ drop at bytes → copied ≡ take n left → length copied ≡ n
     → left ≡ take n (copied ++ drop n piece) ++ drop (at + n) bytes
 left_copied left piece copied bytes at n is copy size =
-    rw (← drop-drop n at bytes, ← is, ← size, take-append_seam, size, copy) (sym (take-append-drop n left))
+    rw (← drop-drop n at bytes, ← is, ← size, take-append_seam, size, copy)
+    (sym (take-append-drop n left))
 
--- bytes appended after bytes appended
-pub appends_more : (a b c : Option (List ℕ)) (xs ys : List ℕ) → Appends a b xs → Appends b c ys → Appends a c (xs ++ ys)
+-- two appends in a row append both lists
+pub appends_more : (a b c : Option (List ℕ)) (xs ys : List ℕ) → Appends a b xs → Appends b c ys
+    → Appends a c (xs ++ ys)
 appends_more None b c xs ys first next = tt
 appends_more (Some us) None c xs ys first next = absurd first
 appends_more (Some us) (Some vs) None xs ys first next = absurd next
 appends_more (Some us) (Some vs) (Some ws) xs ys first next = grind (arith, append_assoc)
 
--- nothing appended after bytes appended
-pub appends_keeps : (a b c : Option (List ℕ)) (xs : List ℕ) → Appends a b xs → Keeps b c → Appends a c xs
+-- appending nothing keeps what was appended before
+pub appends_keeps : (a b c : Option (List ℕ)) (xs : List ℕ) → Appends a b xs → Keeps b c
+    → Appends a c xs
 appends_keeps None b c xs first next = tt
 appends_keeps (Some us) None c xs first next = absurd first
 appends_keeps (Some us) (Some vs) None xs first next = absurd next
 appends_keeps (Some us) (Some vs) (Some ws) xs first next = next ∙ first
 
--- the bytes from a place to the end, as `&bytes[at..]` gives them
+-- the bytes from place `at` to the end are those of `&bytes[at..]`
 pub slice_drop : (at : ℕ) (bs : List ℕ) → take (length bs - at) (drop at bs) ≡ drop at bs
 slice_drop at bs = grind (arith, common_steps)
 
--- n bytes more of bs were appended after its first `at`
-pub appends_take_more : (a b c : Option (List ℕ)) (bs : List ℕ) (at n : ℕ) → Appends a b (take at bs)
+-- appending the next n bytes of bs extends the part that was appended
+pub appends_take_more : (a b c : Option (List ℕ)) (bs : List ℕ) (at n : ℕ)
+    → Appends a b (take at bs)
     → Appends b c (take n (take (length bs - at) (drop at bs))) → Appends a c (take (at + n) bs)
 appends_take_more a b c bs at n first next =
     let rest : Appends b c (take n (drop at bs)) = rw slice_drop at next in
     rw take-add (appends_more a b c (take at bs) (take n (drop at bs)) first rest)
 
--- nothing more of bs was appended after its first `at`
+-- appending nothing more leaves a first part of bs appended
 pub appends_part : (a b c : Option (List ℕ)) (bs : List ℕ) (at : ℕ)
     → Appends a b (take at bs) → Keeps b c → AppendsPart a c bs
 appends_part a b c bs at first next = record {
@@ -49,8 +54,9 @@ appends_part a b c bs at first next = record {
   appended = appends_keeps a b c (take at bs) first next;
 }
 
--- a first part appended after all of what came before
-pub appends_part_after : (a b c : Option (List ℕ)) (xs ys : List ℕ) → Appends a b xs → AppendsPart b c ys
+-- a first part of ys, appended after the whole of xs
+pub appends_part_after : (a b c : Option (List ℕ)) (xs ys : List ℕ) → Appends a b xs
+    → AppendsPart b c ys
     → AppendsPart a c (xs ++ ys)
 appends_part_after a b c xs ys first next = record {
   part = xs ++ next.part;
@@ -59,8 +65,9 @@ appends_part_after a b c xs ys first next = record {
   appended = appends_more a b c xs next.part first next.appended;
 }
 
--- a first part is also a first part of what goes on behind
-pub appends_part_before : (a b : Option (List ℕ)) (xs ys : List ℕ) → AppendsPart a b xs → AppendsPart a b (xs ++ ys)
+-- a first part of xs is also a first part of xs followed by ys
+pub appends_part_before : (a b : Option (List ℕ)) (xs ys : List ℕ) → AppendsPart a b xs
+    → AppendsPart a b (xs ++ ys)
 appends_part_before a b xs ys some = record {
   part = some.part;
   rest = some.rest ++ ys;
@@ -68,22 +75,25 @@ appends_part_before a b xs ys some = record {
   appended = some.appended;
 }
 
--- bytes taken after bytes taken
-pub consumes_more : (a b c : Option (List ℕ)) (xs ys : List ℕ) → Consumes a b xs → Consumes b c ys → Consumes a c (xs ++ ys)
+-- two reads in a row take both lists
+pub consumes_more : (a b c : Option (List ℕ)) (xs ys : List ℕ) → Consumes a b xs → Consumes b c ys
+    → Consumes a c (xs ++ ys)
 consumes_more None b c xs ys first next = tt
 consumes_more (Some us) None c xs ys first next = absurd first
 consumes_more (Some us) (Some vs) None xs ys first next = absurd next
 consumes_more (Some us) (Some vs) (Some ws) xs ys first next = grind (arith, append_assoc)
 
--- nothing taken after bytes taken
-pub consumes_keeps : (a b c : Option (List ℕ)) (xs : List ℕ) → Consumes a b xs → Keeps b c → Consumes a c xs
+-- taking nothing keeps what was taken before
+pub consumes_keeps : (a b c : Option (List ℕ)) (xs : List ℕ) → Consumes a b xs → Keeps b c
+    → Consumes a c xs
 consumes_keeps None b c xs first next = tt
 consumes_keeps (Some us) None c xs first next = absurd first
 consumes_keeps (Some us) (Some vs) None xs first next = absurd next
 consumes_keeps (Some us) (Some vs) (Some ws) xs first next = grind (arith, next)
 
--- bytes that were taken, and then some more of which a bound is known
-pub takes_more : (a b c : Option (List ℕ)) (xs : List ℕ) (most : ℕ) (P : ℕ → Type 0) → Consumes a b xs
+-- taking bytes, and then a bounded number more
+pub takes_more : (a b c : Option (List ℕ)) (xs : List ℕ) (most : ℕ) (P : ℕ → Type 0)
+    → Consumes a b xs
     → Takes b c P → ((n : ℕ) → P n → length xs + n ≤ most) → Takes a c (λ n. n ≤ most)
 takes_more a b c xs most P first next bound = record {
   taken = xs ++ next.taken;
@@ -91,7 +101,7 @@ takes_more a b c xs most P first next bound = record {
   count = rw length-append (bound (length next.taken) next.count);
 }
 
--- what holds anyway holds where there is an error
+-- a fact that always holds also holds after an error
 pub on_err_anyway : {T E P : Type 0} (r : Result T E) → P → OnErr r P
 on_err_anyway (Ok v) holds = tt
 on_err_anyway (Err e) holds = holds

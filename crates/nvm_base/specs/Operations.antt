@@ -1,8 +1,10 @@
--- The operations on words. Each is a formula over whole numbers followed by one `wrap`; the tests give 1
--- where they hold and else 0; the bitwise ones work on the 64 bits of two's complement.
+-- The operations on words. Each is a formula over whole numbers, followed by one `wrap`.
+-- Comparisons give 1 if they hold, else 0; the bitwise operations work on the 64 bits of two's
+-- complement.
 --
--- Division truncates toward zero, so -2^63 / -1 wraps to -2^63 and its remainder is 0. A shift's count is
--- taken modulo 64; a shift to the right divides and rounds down, so the sign comes in.
+-- Division truncates toward zero, so -2^63 / -1 wraps to -2^63 and its remainder is 0. The count of
+-- a shift is taken modulo 64. A shift to the right divides and rounds down, so it copies the sign
+-- bit.
 use Rattle.std.specs.Prelude.{◌+ℤ◌, ◌-ℤ◌, ◌*ℤ◌, ◌^◌, ◌%◌, ◌==◌, ℕ, ℤ, pos, Bool, not, nat_lt, int_div, int_lt, int_le, if◌then◌else◌}
 use Rattle.std.specs.Int.{w64, cast_unsigned, int_div_euclid, int_bit_and, int_bit_or, int_bit_xor}
 use Rattle.nvm_base.specs.Wrap.{wrap}
@@ -11,11 +13,11 @@ use Rattle.nvm_base.specs.Wrap.{wrap}
 abbrev pub unsigned : ℤ → ℕ
 unsigned a = cast_unsigned w64 a
 
--- by how many places a shift by b shifts: b modulo 64
-abbrev pub places : ℤ → ℕ
-places b = unsigned b % 64
+-- the number of places that a shift by b moves: b modulo 64
+abbrev pub shift_places : ℤ → ℕ
+shift_places b = unsigned b % 64
 
--- the word of a test
+-- the word of a comparison: 1 if it holds, else 0
 abbrev pub truth : Bool → ℤ
 truth holds = if holds then pos 1 else pos 0
 
@@ -32,16 +34,16 @@ mul a b = wrap (a *ℤ b)
 abbrev pub div : ℤ → ℤ → ℤ
 div a b = wrap (int_div a b)
 
--- a - b q, with q the quotient truncated toward zero
+-- the remainder a - b q, where q is the quotient truncated toward zero
 abbrev pub rem : ℤ → ℤ → ℤ
 rem a b = wrap (a -ℤ int_div a b *ℤ b)
 
 abbrev pub shl : ℤ → ℤ → ℤ
-shl a b = wrap (a *ℤ pos (2 ^ places b))
+shl a b = wrap (a *ℤ pos (2 ^ shift_places b))
 
 -- `int_div_euclid` by a number above 0 rounds down
 abbrev pub shr : ℤ → ℤ → ℤ
-shr a b = wrap (int_div_euclid a (pos (2 ^ places b)))
+shr a b = wrap (int_div_euclid a (pos (2 ^ shift_places b)))
 
 abbrev pub and_of : ℤ → ℤ → ℤ
 and_of a b = int_bit_and w64 a b
@@ -64,6 +66,6 @@ eq a b = truth (unsigned a == unsigned b)
 abbrev pub ne : ℤ → ℤ → ℤ
 ne a b = truth (not (unsigned a == unsigned b))
 
--- as `less`, of the two as unsigned numbers
+-- `less` of the two words as unsigned numbers
 abbrev pub ult : ℤ → ℤ → ℤ
 ult a b = truth (nat_lt (unsigned a) (unsigned b))

@@ -1,6 +1,6 @@
--- The sink in memory. Its writes are numbered from 0, and the number stops at 2^64 - 1. A write fails
--- where its number is in `fail` or no room is left, and nowhere else. A write that doesn't fail appends
--- as many of the piece's bytes as have room.
+-- The sink in memory. Its writes are numbered from 0, and the number stops at 2^64 - 1. A write
+-- fails if its number is in `fail` or no room is left, and otherwise it doesn't. A write that
+-- doesn't fail appends as many of the piece's bytes as there is room for.
 use Rattle.std.specs.Prelude.{ℕ, ◌-◌, Bool, ◌||◌, ◌==◌, List, length, ◌++◌, take, min, nat_eq, if◌then◌else◌}
 use Rattle.std.specs.List.{list_any}
 use Rattle.nvm_base.specs.Rose.{raised}
@@ -14,19 +14,20 @@ pub record Writer : Type 0 where
   pub calls : ℕ
   pub faults : ℕ
 
--- so many bytes still have room
+-- the number of bytes that there is still room for
 abbrev pub room_left : Writer → ℕ
 room_left w = w.room - length w.written
 
--- the next write's number is one of those that fail, or no room is left
-abbrev pub fails : Writer → Bool
-fails w = list_any (λ n. nat_eq n w.calls) w.fail || (room_left w == 0)
+-- whether the next write fails: its number is in `fail`, or no room is left
+abbrev pub write_fails : Writer → Bool
+write_fails w = list_any (λ n. nat_eq n w.calls) w.fail || (room_left w == 0)
 
--- what the next write answers, for a piece of `size` bytes
+-- the answer of the next write, for a piece of `size` bytes
 abbrev pub write_of : Writer → (size : ℕ) → WriteAnswer
-write_of w size = if fails w then Failed else Count (min size (room_left w))
+write_of w size = if write_fails w then Failed else Count (min size (room_left w))
 
--- what stands after a write of that piece with that answer
+-- the sink after a write of that piece with that answer
 abbrev pub after_write : Writer → List ℕ → WriteAnswer → Writer
-after_write w piece (Count n) = record w { written = w.written ++ take n piece; calls = raised w.calls }
+after_write w piece (Count n) =
+    record w { written = w.written ++ take n piece; calls = raised w.calls }
 after_write w piece Failed = record w { calls = raised w.calls; faults = raised w.faults }

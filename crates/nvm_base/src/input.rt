@@ -23,7 +23,7 @@ pub enum UpToFault {
 pub enum ReadAllFault {
     /// A read failed, and the source's count of faults rose.
     ReadFault,
-    /// The source had more bytes than the limit, of which one more than the limit was taken.
+    /// The source had more bytes than the limit; one more than the limit was taken.
     Long,
     NoMemory,
 }
@@ -36,11 +36,11 @@ impl From<AllocError> for UpToFault {
     }
 }
 
-/// The most bytes that one read is asked for.
+/// The most bytes that one read asks for.
 const PIECE: usize = 4096;
 
-/// Reads into the piece, and puts what came behind the bytes that were taken before. Answers how
-/// many bytes came, 0 at the end of input.
+/// Reads one piece and appends its bytes to those taken before. Returns the number of bytes read, 0
+/// at the end of input.
 fn read_piece<S: Source>(
     source: &mut S,
     piece: &mut [u8],
@@ -48,12 +48,16 @@ fn read_piece<S: Source>(
 ) -> Result<usize, UpToFault>
     requires { 0 < length piece.old }
     ensures taken { IfOk result (λ n. taken.new ≡ taken.old ++ take n piece.new) }
-    ensures bytes { IfOk result (λ n. Consumes (S.left source.old) (S.left source.new) (take n piece.new)) }
+    ensures bytes { IfOk result (λ n. Consumes (S.left source.old) (S.left source.new)
+        (take n piece.new)) }
     ensures within { IfOk result (λ n. n ≤ length piece.new) }
     ensures end { result ≡ Ok 0 → IsAtEnd (S.left source.new) }
-    ensures fault { IsErrOf result UpToFault.ReadFault → Rose (S.faults source.old) (S.faults source.new) }
-    ensures none { IsErrOf result UpToFault.ReadFault → Keeps (S.left source.old) (S.left source.new) }
-    ensures gave { OnErr result (Takes (S.left source.old) (S.left source.new) (λ n. n ≤ length piece.new)) }
+    ensures fault { IsErrOf result UpToFault.ReadFault
+        → Rose (S.faults source.old) (S.faults source.new) }
+    ensures none { IsErrOf result UpToFault.ReadFault
+        → Keeps (S.left source.old) (S.left source.new) }
+    ensures gave { OnErr result (Takes (S.left source.old) (S.left source.new)
+        (λ n. n ≤ length piece.new)) }
     ensures count { S.faults source.old ≤ S.faults source.new }
 {
     match source.read(piece) {
@@ -65,15 +69,18 @@ fn read_piece<S: Source>(
     }
 }
 
-/// Reads to the end of the source, or its first `most` bytes. After a fault the source has given
-/// what it gave.
+/// Reads to the end of the source, or its first `most` bytes. After a fault, the bytes read so far
+/// have been taken from the source.
 pub fn read_up_to<S: Source>(alloc: Global, source: &mut S, most: usize) -> Result<Bytes, UpToFault>
-    ensures first { IfOk result (λ bytes. IfSome (S.left source.old) (λ all. bytes ≡ take most all)) }
+    ensures first { IfOk result (λ bytes.
+        IfSome (S.left source.old) (λ all. bytes ≡ take most all)) }
     ensures taken { IfOk result (λ bytes. Consumes (S.left source.old) (S.left source.new) bytes) }
     ensures within { IfOk result (λ bytes. length bytes ≤ most) }
     ensures end { IfOk result (λ bytes. length bytes < most → IsAtEnd (S.left source.new)) }
-    ensures fault { IsErrOf result UpToFault.ReadFault → Rose (S.faults source.old) (S.faults source.new) }
-    ensures short { IsErrOf result UpToFault.ReadFault → Takes (S.left source.old) (S.left source.new) (λ n. n < most) }
+    ensures fault { IsErrOf result UpToFault.ReadFault
+        → Rose (S.faults source.old) (S.faults source.new) }
+    ensures short { IsErrOf result UpToFault.ReadFault
+        → Takes (S.left source.old) (S.left source.new) (λ n. n < most) }
     ensures gave { OnErr result (Takes (S.left source.old) (S.left source.new) (λ n. n ≤ most)) }
     ensures count { S.faults source.old ≤ S.faults source.new }
 {
@@ -88,8 +95,8 @@ pub fn read_up_to<S: Source>(alloc: Global, source: &mut S, most: usize) -> Resu
     Ok(taken)
 }
 
-/// Reads all of the source, up to its end, which is within the limit of bytes. After a fault the
-/// source has given what it gave.
+/// Reads the whole source, which may have at most the limit of bytes. After a fault, the bytes read
+/// so far have been taken from the source.
 pub fn read_all<S: Source>(
     alloc: Global,
     source: &mut S,
@@ -100,9 +107,12 @@ pub fn read_all<S: Source>(
     ensures taken { IfOk result (λ bytes. Consumes (S.left source.old) (S.left source.new) bytes) }
     ensures within { IfOk result (λ bytes. length bytes ≤ limit) }
     ensures end { OnOk result (IsAtEnd (S.left source.new)) }
-    ensures long { IsErrOf result ReadAllFault.Long → Takes (S.left source.old) (S.left source.new) (λ n. n ≡ limit + 1) }
-    ensures fault { IsErrOf result ReadAllFault.ReadFault → Rose (S.faults source.old) (S.faults source.new) }
-    ensures gave { IsErrOf result ReadAllFault.ReadFault → Takes (S.left source.old) (S.left source.new) (λ n. n ≤ limit) }
+    ensures long { IsErrOf result ReadAllFault.Long
+        → Takes (S.left source.old) (S.left source.new) (λ n. n ≡ limit + 1) }
+    ensures fault { IsErrOf result ReadAllFault.ReadFault
+        → Rose (S.faults source.old) (S.faults source.new) }
+    ensures gave { IsErrOf result ReadAllFault.ReadFault
+        → Takes (S.left source.old) (S.left source.new) (λ n. n ≤ limit) }
     ensures count { S.faults source.old ≤ S.faults source.new }
 {
     match read_up_to(alloc, source, limit + 1) {

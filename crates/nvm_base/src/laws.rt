@@ -9,7 +9,7 @@ pub fn wrap_law()
     ensures { (x : ℤ) → Wraps x }
 {}
 
-/// What the words of the operations mean.
+/// The meaning of the operations' words.
 pub fn word_laws()
     ensures unsigned { UnsignedIsModulo }
     ensures places { PlacesIsModulo }

@@ -1,7 +1,7 @@
-//! The base of every layer: lists that contracts see as lists, bytes in and out, and operations on
-//! 64-bit words. Nothing stands below it but the standard library. Its one contract for the crates
-//! above: the operations are those of `specs/Operations.antt`, and a port fails only where its
-//! count of faults rose.
+//! The base of every layer: lists whose clauses see plain lists, input and output of bytes, and
+//! operations on 64-bit words. It rests on the standard library alone. Its one contract for the
+//! crates above: the operations are those of `specs/Operations.antt`, and a source or sink fails
+//! only if its count of faults rose.
 #![tactic(auto)]
 
 mod input;
@@ -16,13 +16,12 @@ mod source;
 mod std_sink;
 mod std_source;
 mod steps;
-#[cfg(test)]
-mod tests;
+mod text;
 mod word;
 
 pub use input::{ReadAllFault, UpToFault, read_all, read_up_to};
 pub use laws::{word_laws, wrap_law};
-pub use list::{Bytes, Registers, Text, Words};
+pub use list::{Bytes, List, Registers, Words};
 pub use mem_sink::MemSink;
 pub use mem_source::MemSource;
 pub use op::BinOp;
@@ -32,4 +31,5 @@ pub use source::{ReadAnswer, Source};
 pub use std_sink::StdSink;
 pub use std_source::StdSource;
 pub use steps::Steps;
+pub use text::Text;
 pub use word::{add, div, less, mul, rem, shl, shr, sub, ult};

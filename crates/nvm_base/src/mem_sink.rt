@@ -1,4 +1,4 @@
-//! A sink in memory, with room for so many bytes, which fails at the writes that it is told.
+//! A sink in memory, with room for a fixed number of bytes, which fails at chosen writes.
 
 ghost use Rattle.std.specs.Prelude.{◌≡◌, ◌<◌, ◌≤◌, [], List, Some, length, take, IfOk};
 ghost use Rattle.std.specs.Io.KnownBytes.{Appends, Keeps};
@@ -10,8 +10,8 @@ use crate::sink::{Sink, WriteAnswer};
 use std::alloc::{AllocError, Global};
 use std::marker::Model;
 
-/// A sink in memory. It tells all that was written. Of its writes, numbered from 0, it fails those
-/// that it was told, and those that find no room.
+/// A sink in memory, which shows clauses all that was written. Of its writes, numbered from 0,
+/// those fail that were chosen, and those that find no room.
 #[derive(Drop)]
 pub struct MemSink {
     bytes: Vec<u8>,
@@ -27,16 +27,28 @@ impl Model for MemSink {
 
     ghost Value = { Writer };
 
-    ghost view = { λ s. record { written = take s.used s.bytes.items; room = vec_len s.bytes; fail = s.fail.items; calls = s.calls; faults = s.faults } };
+    ghost view = { λ s. record {
+      written = take s.used s.bytes.items;
+      room = vec_len s.bytes;
+      fail = s.fail.items;
+      calls = s.calls;
+      faults = s.faults;
+    } };
 
     ghost invariant = { λ s. s.used ≤ vec_len s.bytes };
 }
 
 impl MemSink {
-    /// An empty sink with room for `room` bytes, whose memory it takes, that fails the writes whose
+    /// An empty sink with room for `room` bytes, which it allocates here. It fails the writes whose
     /// numbers are in `fail`.
     pub fn new(alloc: Global, room: usize, fail: &[u64]) -> Result<Self, AllocError>
-        ensures { IfOk result (λ s. s ≡ record { written = []; room = room; fail = fail.now; calls = 0; faults = 0 }) }
+        ensures { IfOk result (λ s. s ≡ record {
+          written = [];
+          room = room;
+          fail = fail.now;
+          calls = 0;
+          faults = 0;
+        }) }
     {
         let bytes = vec![in alloc; 0; room]?;
         let fail = Vec::from_slice(alloc, fail)?;
@@ -68,8 +80,10 @@ impl Sink for MemSink {
         ensures after { self.new ≡ after_write self.old piece.now result }
         ensures some { IfWritten result (λ n. 0 < n) }
         ensures within { IfWritten result (λ n. n ≤ length piece.now) }
-        ensures bytes { IfWritten result (λ n. Appends (Some self.old.written) (Some self.new.written) (take n piece.now)) }
-        ensures kept { OnWriteFailed result (Keeps (Some self.old.written) (Some self.new.written)) }
+        ensures bytes { IfWritten result
+            (λ n. Appends (Some self.old.written) (Some self.new.written) (take n piece.now)) }
+        ensures kept { OnWriteFailed result
+            (Keeps (Some self.old.written) (Some self.new.written)) }
         ensures failed { OnWriteFailed result (Rose self.old.faults self.new.faults) }
         ensures count { self.old.faults ≤ self.new.faults }
     {

@@ -1,4 +1,4 @@
-//! A source over bytes in memory, which fails at the reads that it is told.
+//! A source over bytes in memory, which fails at chosen reads.
 
 ghost use Rattle.std.specs.Prelude.{◌≡◌, ◌<◌, ◌≤◌, List, Some, length, take, IfOk, slice_range};
 ghost use Rattle.std.specs.Io.KnownBytes.{Consumes, IsAtEnd, Keeps};
@@ -10,8 +10,8 @@ use crate::source::{ReadAnswer, Source};
 use std::alloc::{AllocError, Global};
 use std::marker::Model;
 
-/// A source over bytes in memory. It tells all that it has left. Of its reads, numbered from 0, it
-/// fails exactly those that it was told, and it gives at most so many bytes a read.
+/// A source over bytes in memory, which shows clauses all the bytes that are left. Of its reads,
+/// numbered from 0, exactly the chosen ones fail; each gives at most a fixed number of bytes.
 #[derive(Drop)]
 pub struct MemSource {
     bytes: Vec<u8>,
@@ -28,17 +28,29 @@ impl Model for MemSource {
 
     ghost Value = { Reader };
 
-    ghost view = { λ s. record { left = drop s.at s.bytes.items; most = s.most; fail = s.fail.items; calls = s.calls; faults = s.faults } };
+    ghost view = { λ s. record {
+      left = drop s.at s.bytes.items;
+      most = s.most;
+      fail = s.fail.items;
+      calls = s.calls;
+      faults = s.faults;
+    } };
 
     ghost invariant = { λ s. (s.at ≤ vec_len s.bytes) × (0 < s.most) };
 }
 
 impl MemSource {
-    /// A source of these bytes that gives at most `most` of them a read, and fails the reads whose
-    /// numbers are in `fail`.
+    /// A source of these bytes that gives at most `most` of them per read, and fails the reads
+    /// whose numbers are in `fail`.
     pub fn new(alloc: Global, bytes: &[u8], most: usize, fail: &[u64]) -> Result<Self, AllocError>
         requires { 0 < most }
-        ensures { IfOk result (λ s. s ≡ record { left = bytes.now; most = most; fail = fail.now; calls = 0; faults = 0 }) }
+        ensures { IfOk result (λ s. s ≡ record {
+          left = bytes.now;
+          most = most;
+          fail = fail.now;
+          calls = 0;
+          faults = 0;
+        }) }
     {
         let bytes = Vec::from_slice(alloc, bytes)?;
         let fail = Vec::from_slice(alloc, fail)?;
@@ -64,7 +76,8 @@ impl Source for MemSource {
         ensures after { self.new ≡ after_read self.old result }
         ensures moved { IfRead result (λ n. take n piece.new ≡ take n self.old.left) }
         ensures within { IfRead result (λ n. n ≤ length piece.new) }
-        ensures bytes { IfRead result (λ n. Consumes (Some self.old.left) (Some self.new.left) (take n piece.new)) }
+        ensures bytes { IfRead result (λ n. Consumes (Some self.old.left) (Some self.new.left)
+            (take n piece.new)) }
         ensures end { result ≡ ReadAnswer.Count 0 → IsAtEnd (Some self.new.left) }
         ensures kept { OnReadFailed result (Keeps (Some self.old.left) (Some self.new.left)) }
         ensures failed { OnReadFailed result (Rose self.old.faults self.new.faults) }

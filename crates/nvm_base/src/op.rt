@@ -1,4 +1,4 @@
-//! The binary operations, shared by the three-address code and the machine.
+//! The binary operations, shared by the intermediate code and the machine.
 
 ghost use Rattle.std.specs.Prelude.{◌≡◌};
 ghost use Rattle.nvm_base.specs.Applied.{applied};
@@ -27,7 +27,7 @@ pub enum BinOp {
 }
 
 impl BinOp {
-    /// What the operation makes of the two words. A quotient and a remainder by 0 are 0.
+    /// The result of the operation on two words. A quotient and a remainder by 0 are 0.
     #[tactic(auto, using(std::proofs::lemmas::Int::wraps))]
     pub fn apply(self, a: i64, b: i64) -> i64
         ensures { result ≡ applied self a b }

@@ -1,4 +1,4 @@
-//! Writing a list of bytes to a sink, all of it.
+//! Writing a whole list of bytes to a sink.
 
 ghost use Rattle.std.specs.Prelude.{◌≡◌, ℕ, ◌≤◌, List, length, take, OnOk, OnErr};
 ghost use Rattle.std.specs.Io.KnownBytes.{Appends};
@@ -11,7 +11,8 @@ use crate::sink::{Sink, WriteAnswer};
 #[derive(Clone, Copy, Debug, PartialEq, Eq)]
 pub struct WriteFault;
 
-/// Writes all of the bytes. After a fault a first part of them was written. It takes no memory.
+/// Writes all of the bytes. After a fault, some first part of them has been written. It takes no
+/// memory.
 pub fn write_all<K: Sink>(sink: &mut K, bytes: &[u8]) -> Result<(), WriteFault>
     ensures ok { OnOk result (Appends (K.written sink.old) (K.written sink.new) bytes.now) }
     ensures part { OnErr result (AppendsPart (K.written sink.old) (K.written sink.new) bytes.now) }

@@ -1,32 +1,33 @@
-//! Where bytes go: a trait whose writers may fail at any write, and the sink in memory.
+//! Where bytes go: a trait of sinks, whose writes may fail.
 
 ghost use Rattle.std.specs.Prelude.{◌≡◌, ℕ, List, Option, Some, None, ◌<◌, ◌≤◌, length, take};
 ghost use Rattle.std.specs.Io.KnownBytes.{Appends, Keeps};
 ghost use Rattle.nvm_base.specs.Answers.{IfWritten, OnWriteFailed};
 ghost use Rattle.nvm_base.specs.Rose.{Rose};
 
-/// What a write answers.
+/// The answer of a write.
 #[derive(Clone, Copy, Debug, PartialEq, Eq)]
 pub enum WriteAnswer {
-    /// So many bytes of the piece's front were written, at least one.
+    /// So many bytes from the front of the piece were written, at least one.
     Count(usize),
     /// Nothing was written, and the sink's count of faults rose.
     Failed,
 }
 
-/// A sink of bytes. Clauses see the bytes that were written to it, where it tells them (`None`
-/// tells nothing), and its count of faults.
+/// A sink of bytes. Clauses see its count of faults, and the bytes that were written to it (`None`
+/// if the sink doesn't show them).
 pub trait Sink {
     ghost written: { Self → Option (List ℕ) };
 
     ghost faults: { Self → ℕ };
 
-    /// Appends the first bytes of the piece to what was written, as many as it answers.
+    /// Writes the first bytes of the piece, as many as it answers.
     fn write(&mut self, piece: &[u8]) -> WriteAnswer
         requires { 0 < length piece.now }
         ensures some { IfWritten result (λ n. 0 < n) }
         ensures within { IfWritten result (λ n. n ≤ length piece.now) }
-        ensures bytes { IfWritten result (λ n. Appends (written self.old) (written self.new) (take n piece.now)) }
+        ensures bytes { IfWritten result
+            (λ n. Appends (written self.old) (written self.new) (take n piece.now)) }
         ensures kept { OnWriteFailed result (Keeps (written self.old) (written self.new)) }
         ensures failed { OnWriteFailed result (Rose (faults self.old) (faults self.new)) }
         ensures count { faults self.old ≤ faults self.new };

@@ -1,4 +1,4 @@
-//! A file, or standard output, as a sink. It tells no content.
+//! A file, or standard output, as a sink. It shows clauses no content.
 
 ghost use Rattle.std.specs.Prelude.{◌≡◌, ◌<◌, ◌≤◌, None, length, IfSome};
 
@@ -7,19 +7,19 @@ use std::fs;
 use std::io::{self, ErrorKind, Write};
 use std::rt::Files;
 
-/// A file, which is made or emptied at the first write, or standard output. Its count of faults
+/// A file, which is created or emptied at the first write, or standard output. Its count of faults
 /// rises at each error, want of memory included.
 #[derive(Drop)]
 pub struct StdSink<'a, R: Files + Print> {
     rt: &'a R,
-    /// The file's path; standard output has none.
+    /// The file's path, or `None` for standard output.
     path: Option<&'a str>,
     file: Option<R::File>,
     faults: u64,
 }
 
 impl<'a, R: Files + Print> StdSink<'a, R> {
-    /// The file of this path, which is made or emptied at the first write.
+    /// The file of this path, which is created or emptied at the first write.
     pub fn file(rt: &'a R, path: &'a str) -> Self
         ensures { result.faults ≡ 0 }
     {
@@ -62,8 +62,7 @@ impl<'a, R: Files + Print> StdSink<'a, R> {
     }
 }
 
-/// One write, tried again where it was interrupted. `None` is an error, or a taker that takes
-/// nothing.
+/// One write, tried again if it was interrupted. `None` is an error, or a writer that took no byte.
 fn write_once<W: Write>(to: &mut W, piece: &[u8]) -> Option<usize>
     ensures some { IfSome result (λ n. 0 < n) }
     ensures within { IfSome result (λ n. n ≤ length piece.now) }

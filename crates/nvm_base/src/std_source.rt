@@ -1,4 +1,4 @@
-//! A file as a source. It tells no content.
+//! A file as a source. It shows clauses no content.
 
 ghost use Rattle.std.specs.Prelude.{◌≡◌, ◌≤◌, None, length, IfSome};
 
@@ -18,7 +18,7 @@ pub struct StdSource<'a, R: Files> {
 }
 
 impl<'a, R: Files> StdSource<'a, R> {
-    /// The file is opened at the first read.
+    /// The file of this path, which is opened at the first read.
     pub fn new(rt: &'a R, path: &'a str) -> Self
         ensures { result.faults ≡ 0 }
     {
@@ -30,7 +30,7 @@ impl<'a, R: Files> StdSource<'a, R> {
         }
     }
 
-    /// One read of the file, which is opened before if need be. `None` is an error.
+    /// One read of the file, which is opened first if need be. `None` is an error.
     fn read_file(&mut self, piece: &mut [u8]) -> Option<usize>
         ensures within { IfSome result (λ n. n ≤ length piece.new) }
         ensures same { self.new.faults ≡ self.old.faults }
@@ -45,7 +45,7 @@ impl<'a, R: Files> StdSource<'a, R> {
     }
 }
 
-/// One read, tried again where it was interrupted. `None` is an error.
+/// One read, tried again if it was interrupted. `None` is an error.
 fn read_once<F: Read>(file: &mut F, piece: &mut [u8]) -> Option<usize>
     ensures { IfSome result (λ n. n ≤ length piece.new) }
 {

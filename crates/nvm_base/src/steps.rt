@@ -1,12 +1,12 @@
-//! A count of steps that only contracts see: it costs nothing when the program runs.
+//! A count of steps that only contracts see; it costs nothing at run time.
 
 ghost use Rattle.std.specs.Prelude.{◌≡◌, ◌+◌, ◌<◌, ℕ};
 
 use std::marker::Model;
 use std::sync::ledger::{Blank, Book, Ledger, Share};
 
-/// How many steps were taken, seen as a number. Only `tick` changes it. One step is one instruction
-/// of the machine, or one restored record of the log.
+/// The number of steps so far. Only `tick` changes it. A step is one instruction of the machine, or
+/// one undo record that is restored.
 #[derive(Drop)]
 pub struct Steps<L: Ledger> {
     book: Book<L>,
@@ -22,7 +22,7 @@ impl<L: Ledger> Model for Steps<L> {
 }
 
 impl<L: Ledger> Steps<L> {
-    /// No step was taken yet. The blank is one of this ledger.
+    /// No steps so far. `blank` is a blank of this ledger.
     pub fn new(blank: Blank) -> Self
         requires name { blank.name ≡ L.name }
         requires parts { blank.parts ≡ L.parts }
@@ -33,7 +33,7 @@ impl<L: Ledger> Steps<L> {
         Steps { book, share }
     }
 
-    /// One step more.
+    /// Counts one more step.
     pub fn tick(&mut self)
         ensures { self.new ≡ self.old + 1 }
     {

@@ -36,7 +36,7 @@ pub fn div(a: i64, b: i64) -> i64
     a.wrapping_div(b)
 }
 
-/// What `a / b` leaves, with the sign of `a`.
+/// The remainder of `a / b`, with the sign of `a`.
 #[tactic(auto, using(crate::proofs::WordLemmas::words))]
 pub fn rem(a: i64, b: i64) -> i64
     requires { b ≢ pos 0 }
@@ -53,7 +53,7 @@ pub fn shl(a: i64, b: i64) -> i64
     a.wrapping_shl((b.cast_unsigned() % 64) as u32)
 }
 
-/// `a` shifted to the right by `b` modulo 64; the sign comes in.
+/// `a` shifted to the right by `b` modulo 64, copying the sign bit.
 #[tactic(auto, using(crate::proofs::WordLemmas::words))]
 pub fn shr(a: i64, b: i64) -> i64
     ensures { result ≡ word.shr a b }
@@ -61,14 +61,14 @@ pub fn shr(a: i64, b: i64) -> i64
     a.wrapping_shr((b.cast_unsigned() % 64) as u32)
 }
 
-/// 1 where `a < b`, else 0.
+/// 1 if `a < b`, else 0.
 pub fn less(a: i64, b: i64) -> i64
     ensures { result ≡ word.less a b }
 {
     i64::from(a < b)
 }
 
-/// 1 where `a < b` as unsigned numbers, else 0.
+/// 1 if `a < b` as unsigned numbers, else 0.
 pub fn ult(a: i64, b: i64) -> i64
     ensures { result ≡ word.ult a b }
 {

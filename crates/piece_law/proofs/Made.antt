@@ -15,7 +15,7 @@ use Rattle.pool_map.specs.PoolMap.{PoolMap, least_free, new}
 use Rattle.pool_map.proofs.Least.{least_free-some}
 use Rattle.ir.specs.declared.site.Site.{Site}
 use Rattle.ir.specs.WellFormed.{IsKind}
-use Rattle.code_meaning.specs.Code.{Frame, Move, at, put, new_at, new_in, fields_of}
+use Rattle.code_meaning.specs.Code.{Frame, Move, register_at, put_register, new_at, new_in, fields_of}
 use Rattle.code_meaning.specs.Code as code
 use Rattle.code_meaning.specs.Deeds.{Deed, Heads, zeros, deeds_new, site}
 use Rattle.pm_machine.specs.declared.effect.Effect.{Effect}
@@ -25,15 +25,15 @@ use Rattle.pm_alloc.specs.declared.local.Reg.TheVariants.{Own, Temp}
 use Rattle.pm_alloc.specs.declared.local.Local.{Local}
 use Rattle.pm_alloc.specs.declared.local.Local.TheVariants.{Mov, Trap}
 use Rattle.pm_alloc.specs.Pieces.{offset, fill_code, new_head, new_code}
-use Rattle.pm_alloc.specs.Runs.{Goes, run}
-use Rattle.pm_alloc.specs.LocalRun.{World, Loc, step}
-use Rattle.pm_alloc.specs.Free.{begin}
+use Rattle.pm_alloc.specs.Runs.{Goes, local_run}
+use Rattle.pm_alloc.specs.LocalRun.{World, Loc, local_step}
+use Rattle.pm_alloc.specs.Free.{local_start}
 use Rattle.pm_alloc.proofs.Search.{small, header_address}
 use Rattle.codegen.specs.Emit.{make_words, make_code}
 use Rattle.codegen.specs.Fields.{words_from}
 use Rattle.piece_law.specs.Stands.{Stands, header_word}
 use Rattle.piece_law.specs.Fits.{IsFit}
-use Rattle.piece_law.specs.Shows.{Shows}
+use Rattle.piece_law.specs.Shows.{ShowsDeeds}
 use Rattle.piece_law.specs.Law.{onward}
 use Rattle.piece_law.proofs.Shown.{heap_append, looks_heap, looks_records}
 use Rattle.piece_law.proofs.Comes.{Comes, comes, comes_on, comes_quiet, done_by}
@@ -43,12 +43,15 @@ use Rattle.piece_law.proofs.Fields.{words_is}
 use Rattle.piece_law.proofs.Locals.{written_is, Done}
 use Rattle.piece_law.proofs.Looks.{number_of, looks_of, looks_show, least_is}
 
-module _ (s : Sizes) (logged : Site → Bool) (shapes : Shapes) (f p : ℕ) (regs : List ℤ) (below : List Frame) (x : ℕ → ℤ) (v : World) (w : PoolMap) (fit : IsFit s shapes) (fits : PoolFits shapes w) (stands : Stands s v.heap w) (few : v.records ≤ s.records) where
+module _ (s : Sizes) (logged : Site → Bool) (shapes : Shapes) (f p : ℕ) (regs : List ℤ)
+    (below : List Frame) (x : ℕ → ℤ) (v : World) (w : PoolMap) (fit : IsFit s shapes)
+    (fits : PoolFits shapes w) (stands : Stands s v.heap w) (few : v.records ≤ s.records) where
   abbrev first : Loc
-  first = begin (at regs) x v
+  first = local_start (register_at regs) x v
 
   abbrev Does_all : List Local → List Deed → Move → Type 0
-  Does_all piece ds move = Done s logged shapes f p regs below x v w fit fits stands few piece ds move
+  Does_all piece ds move = Done s logged shapes f p regs below x v w fit fits stands few
+      piece ds move
 
   module _ (to kind c : ℕ) (b : Bool) (marked : logged (site f p true) ≡ b) (short : c ≤ 15) where
     abbrev piece : List Local
@@ -63,42 +66,66 @@ module _ (s : Sizes) (logged : Site → Bool) (shapes : Shapes) (f p : ℕ) (reg
     abbrev loc : ℕ → Words → List ℤ → World → Loc
     loc k own temp u = record { at = k; own = own; temp = temp; world = u }
 
-    -- behind a search that finds q
+    -- after a search that finds q
     abbrev found : ℕ → List ℤ
     found q = pos q ∷ x 1 ∷ x 2 ∷ x 3 ∷ x 4 ∷ x 5 ∷ x 6 ∷ x 7 ∷ []
 
     search : (q : ℕ) → least s v.heap ≡ q →
-        run (step s piece) 1 first ≡ Goes (loc 1 (at regs) (found q) (onward v es v.ticks))
-    search q is = ap (λ (n : ℕ). Goes (loc 1 (at regs) (found n) (onward v es v.ticks))) is
+        local_run (local_step s piece) 1 first
+        ≡ Goes (loc 1 (register_at regs) (found q) (onward v es v.ticks))
+    search q is = ap (λ (n : ℕ). Goes (loc 1 (register_at regs) (found n) (onward v es v.ticks))) is
 
-    shows : Shows s logged [] es
+    shows : ShowsDeeds s logged [] es
     shows = looks_show s v.heap logged
 
     still_few : records_end v.records es ≤ s.records
-    still_few = subst (λ (n : ℕ). n ≤ s.records) (sym (looks_records s logged [] es v.records shows refl)) few
+    still_few = subst (λ (n : ℕ). n ≤ s.records)
+        (sym (looks_records s logged [] es v.records shows refl)) few
 
     whole : 8 + length fill + 1 ≡ length piece
     whole =
-        omega (arith, length-append (new_head s kind (length fill)) (fill ++ Mov (Own to) (Temp 0) ∷ []), length-append fill (Mov (Own to) (Temp 0) ∷ []))
+        omega (
+          arith,
+          length-append (new_head s kind (length fill))
+              (fill ++ Mov (Own to) (Temp 0) ∷ []),
+          length-append fill (Mov (Own to) (Temp 0) ∷ []),
+        )
 
     rest_here : Here piece 8 (fill ++ Mov (Own to) (Temp 0) ∷ [])
     rest_here = here_all (fill ++ Mov (Own to) (Temp 0) ∷ []) (new_head s kind (length fill))
 
     mov : (temp : List ℤ) (u : World) →
-        run (step s piece) 1 (loc (8 + length fill) (at regs) temp u) ≡ Goes (loc (8 + length fill + 1) (cache.put (at regs) to (get_or temp 0 (pos 0))) temp u)
+        local_run (local_step s piece) 1 (loc (8 + length fill) (register_at regs) temp u)
+        ≡ Goes (loc (8 + length fill + 1)
+        (cache.put (register_at regs) to (get_or temp 0 (pos 0))) temp u)
     mov temp u = rw (here_back piece 8 fill (Mov (Own to) (Temp 0) ∷ []) rest_here).0 refl
 
     -- no slot is free
     none_left : least s v.heap ≡ 0 →
-        Does_all piece [] (code.Goes (code.Here f (suc p) (put regs to (pos 0)) below w v.ticks))
+        Does_all piece [] (code.Goes (code.Here f (suc p) (put_register regs to (pos 0)) below
+        w v.ticks))
     none_left is = (
       1 + 1 + 1,
       omega arith,
-      done_by s logged piece (1 + 1 + 1) first v [] es (loc (8 + length fill + 1) (cache.put (at regs) to (pos 0)) (found 0)) f (suc p) (put regs to (pos 0)) below w v.ticks
-          (comes_quiet s logged piece (1 + 1) 1 first v [] es (loc (8 + length fill) (at regs) (found 0)) (loc (8 + length fill + 1) (cache.put (at regs) to (pos 0)) (found 0))
-          (comes_quiet s logged piece 1 1 first v [] es (loc 1 (at regs) (found 0)) (loc (8 + length fill) (at regs) (found 0)) (comes shows still_few (search 0 is)) (λ u. refl))
+      done_by s logged piece (1 + 1 + 1) first v [] es
+          (loc (8 + length fill + 1) (cache.put (register_at regs) to (pos 0)) (found 0)) f (suc p)
+          (put_register regs to (pos 0)) below w v.ticks
+          (comes_quiet s logged piece (1 + 1) 1 first v [] es
+          (loc (8 + length fill) (register_at regs) (found 0))
+          (loc (8 + length fill + 1) (cache.put (register_at regs) to (pos 0)) (found 0))
+          (comes_quiet s logged piece 1 1 first v [] es (loc 1 (register_at regs) (found 0))
+          (loc (8 + length fill) (register_at regs) (found 0))
+          (comes shows still_few (search 0 is)) (λ u. refl))
           (mov (found 0)))
-          (λ room. record { place = whole; temp = refl; own = written_is regs to (pos 0); world = refl; stands = subst (λ (h : Words). Stands s h w) (sym (looks_heap s logged [] es v.heap shows refl)) stands; records = room }),
+          (λ room. record {
+            place = whole;
+            temp = refl;
+            own = written_is regs to (pos 0);
+            world = refl;
+            stands = subst (λ (h : Words). Stands s h w)
+                (sym (looks_heap s logged [] es v.heap shows refl)) stands;
+            records = room;
+          }),
     )
 
     -- slot q is free
@@ -132,70 +159,135 @@ module _ (s : Sizes) (logged : Site → Bool) (shapes : Shapes) (f p : ℕ) (reg
           header_address s q (16 * q) refl low (omega (arith, within, fit.pool.few)) fit.pool.lines
 
       scaled : (u : World) →
-          run (step s piece) 4 (loc 1 (at regs) (found q) u) ≡ Goes (loc 5 (at regs) temp1 u)
+          local_run (local_step s piece) 4 (loc 1 (register_at regs) (found q) u)
+          ≡ Goes (loc 5 (register_at regs) temp1 u)
       scaled u =
-          ap (λ (z : ℤ). Goes (loc 5 (at regs) (pos q ∷ z ∷ x 2 ∷ x 3 ∷ x 4 ∷ pos kind ∷ x 6 ∷ x 7 ∷ []) u)) times
+          ap (λ (z : ℤ). Goes (loc 5 (register_at regs) (pos q ∷ z ∷ x 2 ∷ x 3 ∷ x 4 ∷ pos kind
+          ∷ x 6 ∷ x 7 ∷ []) u)) times
 
-      to_head : Comes s logged v [] es (loc 5 (at regs) temp1) (run (step s piece) (1 + 4) first)
+      to_head : Comes s logged v [] es (loc 5 (register_at regs) temp1)
+          (local_run (local_step s piece) (1 + 4) first)
       to_head =
-          comes_quiet s logged piece 1 4 first v [] es (loc 1 (at regs) (found q)) (loc 5 (at regs) temp1) (comes shows still_few (search q is)) scaled
+          comes_quiet s logged piece 1 4 first v [] es (loc 1 (register_at regs) (found q))
+          (loc 5 (register_at regs) temp1) (comes shows still_few (search q is)) scaled
 
-      headed : Comes s logged v (Heads (site f p false) q (pos kind) ∷ []) (es ++ head) (loc 7 (at regs) temp1) (run (step s piece) (1 + 4 + 2) first)
+      headed : Comes s logged v (Heads (site f p false) q (pos kind) ∷ []) (es ++ head)
+          (loc 7 (register_at regs) temp1) (local_run (local_step s piece) (1 + 4 + 2) first)
       headed =
-          comes_on s logged piece (1 + 4) 2 first v [] (Heads (site f p false) q (pos kind) ∷ []) es head (loc 5 (at regs) temp1) (loc 7 (at regs) temp1) to_head
-          (λ room. head_comes s logged piece (at regs) temp1 5 q (onward v es v.ticks) (Temp 1) (Temp 5) (offset s 0) (pos kind) (site f p false) (refl, (refl, tt)) address (low, within) room refl)
+          comes_on s logged piece (1 + 4) 2 first v [] (Heads (site f p false) q (pos kind) ∷ []) es
+          head (loc 5 (register_at regs) temp1) (loc 7 (register_at regs) temp1) to_head
+          (λ room. head_comes s logged piece (register_at regs) temp1 5 q (onward v es v.ticks)
+          (Temp 1) (Temp 5) (offset s 0) (pos kind) (site f p false) (refl, (refl, tt)) address
+          (low, within) room refl)
 
-      to_fill : Comes s logged v (Heads (site f p false) q (pos kind) ∷ []) (es ++ head) (loc 8 (at regs) temp2) (run (step s piece) (1 + 4 + 2 + 1) first)
+      to_fill : Comes s logged v (Heads (site f p false) q (pos kind) ∷ []) (es ++ head)
+          (loc 8 (register_at regs) temp2) (local_run (local_step s piece) (1 + 4 + 2 + 1) first)
       to_fill =
-          comes_quiet s logged piece (1 + 4 + 2) 1 first v (Heads (site f p false) q (pos kind) ∷ []) (es ++ head) (loc 7 (at regs) temp1) (loc 8 (at regs) temp2) headed (λ u. refl)
+          comes_quiet s logged piece (1 + 4 + 2) 1 first v (Heads (site f p false) q (pos kind)
+          ∷ []) (es ++ head) (loc 7 (register_at regs) temp1) (loc 8 (register_at regs) temp2)
+          headed (λ u. refl)
 
-      filled : Comes s logged v (Heads (site f p false) q (pos kind) ∷ zeros (site f p true) q 0 c) ((es ++ head) ++ zeros_in) (loc (8 + length fill) (at regs) temp2) (run (step s piece) (1 + 4 + 2 + 1 + fill_steps b c) first)
+      filled : Comes s logged v (Heads (site f p false) q (pos kind) ∷ zeros (site f p true) q 0 c)
+          ((es ++ head) ++ zeros_in) (loc (8 + length fill) (register_at regs) temp2)
+          (local_run (local_step s piece) (1 + 4 + 2 + 1 + fill_steps b c) first)
       filled =
-          comes_on s logged piece (1 + 4 + 2 + 1) (fill_steps b c) first v (Heads (site f p false) q (pos kind) ∷ []) (zeros (site f p true) q 0 c) (es ++ head) zeros_in (loc 8 (at regs) temp2) (loc (8 + length fill) (at regs) temp2) to_fill
-          (λ room. fill_comes s logged piece (at regs) temp2 fit.pool b (site f p true) marked q low within refl refl c 0 8 (onward v (es ++ head) v.ticks) (Mov (Own to) (Temp 0) ∷ []) rest_here (omega arith) room)
+          comes_on s logged piece (1 + 4 + 2 + 1) (fill_steps b c) first v
+          (Heads (site f p false) q (pos kind) ∷ []) (zeros (site f p true) q 0 c) (es ++ head)
+          zeros_in (loc 8 (register_at regs) temp2)
+          (loc (8 + length fill) (register_at regs) temp2) to_fill
+          (λ room. fill_comes s logged piece (register_at regs) temp2 fit.pool b (site f p true)
+          marked q low within refl refl c 0 8 (onward v (es ++ head) v.ticks)
+          (Mov (Own to) (Temp 0) ∷ []) rest_here (omega arith) room)
 
       heap_is : heap_end v.heap ((es ++ head) ++ zeros_in) ≡ heap_end v.heap (head ++ zeros_in)
-      heap_is = ap (heap_end v.heap) (append_assoc es head zeros_in) ∙ heap_append es (head ++ zeros_in) v.heap ∙ ap (λ (h : Words). heap_end h (head ++ zeros_in)) (looks_heap s logged [] es v.heap shows refl)
+      heap_is = ap (heap_end v.heap) (append_assoc es head zeros_in)
+          ∙ heap_append es (head ++ zeros_in) v.heap
+          ∙ ap (λ (h : Words). heap_end h (head ++ zeros_in))
+          (looks_heap s logged [] es v.heap shows refl)
 
-      one_made : Does_all piece (Heads (site f p false) q (pos kind) ∷ zeros (site f p true) q 0 c) (code.Goes (code.Here f (suc p) (put regs to (pos q)) below (new w q kind c) v.ticks))
+      one_made : Does_all piece (Heads (site f p false) q (pos kind) ∷ zeros (site f p true) q 0 c)
+          (code.Goes (code.Here f (suc p) (put_register regs to (pos q)) below
+          (new w q kind c) v.ticks))
       one_made = (
         1 + 4 + 2 + 1 + fill_steps b c + 1,
         omega (arith, fill_few b c),
-        done_by s logged piece (1 + 4 + 2 + 1 + fill_steps b c + 1) first v (Heads (site f p false) q (pos kind) ∷ zeros (site f p true) q 0 c) ((es ++ head) ++ zeros_in) (loc (8 + length fill + 1) (cache.put (at regs) to (pos q)) temp2) f (suc p) (put regs to (pos q)) below (new w q kind c) v.ticks
-            (comes_quiet s logged piece (1 + 4 + 2 + 1 + fill_steps b c) 1 first v (Heads (site f p false) q (pos kind) ∷ zeros (site f p true) q 0 c) ((es ++ head) ++ zeros_in) (loc (8 + length fill) (at regs) temp2) (loc (8 + length fill + 1) (cache.put (at regs) to (pos q)) temp2) filled (mov temp2))
-            (λ room. record { place = whole; temp = refl; own = written_is regs to (pos q); world = refl; stands = subst (λ (h : Words). Stands s h (new w q kind c)) (sym heap_is) (stands_new s shapes v.heap w fit fits stands b q kind c (low, high) short); records = room }),
+        done_by s logged piece (1 + 4 + 2 + 1 + fill_steps b c + 1) first v
+            (Heads (site f p false) q (pos kind) ∷ zeros (site f p true) q 0 c)
+            ((es ++ head) ++ zeros_in) (loc (8 + length fill + 1)
+            (cache.put (register_at regs) to (pos q)) temp2) f (suc p)
+            (put_register regs to (pos q))
+            below (new w q kind c) v.ticks
+            (comes_quiet s logged piece (1 + 4 + 2 + 1 + fill_steps b c) 1 first v
+            (Heads (site f p false) q (pos kind) ∷ zeros (site f p true) q 0 c)
+            ((es ++ head) ++ zeros_in) (loc (8 + length fill) (register_at regs) temp2)
+            (loc (8 + length fill + 1) (cache.put (register_at regs) to (pos q)) temp2) filled
+            (mov temp2))
+            (λ room. record {
+              place = whole;
+              temp = refl;
+              own = written_is regs to (pos q);
+              world = refl;
+              stands = subst (λ (h : Words). Stands s h (new w q kind c)) (sym heap_is)
+                  (stands_new s shapes v.heap w fit fits stands b q kind c (low, high) short);
+              records = room;
+            }),
       )
 
     by_free : (o : Option ℕ) → least_free w ≡ o →
-        Does_all piece (deeds_new f p kind c o) (code.Goes (code.Here f (suc p) (put regs to (new_at w kind c o).0) below (new_at w kind c o).1 v.ticks))
+        Does_all piece (deeds_new f p kind c o)
+        (code.Goes (code.Here f (suc p) (put_register regs to (new_at w kind c o).0) below
+        (new_at w kind c o).1 v.ticks))
     by_free None is = none_left (least_is s shapes v.heap w fits stands ∙ ap number_of is)
     by_free (Some zero) is = let slot = (least_free-some w 0 is).0 in absurd (omega (arith, slot.0))
-    by_free (Some (suc r)) is = let slot = (least_free-some w (suc r) is).0 in one_made r slot.1 (least_is s shapes v.heap w fits stands ∙ ap number_of is)
+    by_free (Some (suc r)) is = let slot = (least_free-some w (suc r) is).0 in
+        one_made r slot.1 (least_is s shapes v.heap w fits stands ∙ ap number_of is)
 
-    code_does : Does_all piece (deeds_new f p kind c (least_free w)) (code.Goes (code.Here f (suc p) (put regs to (new_at w kind c (least_free w)).0) below (new_at w kind c (least_free w)).1 v.ticks))
+    code_does : Does_all piece (deeds_new f p kind c (least_free w))
+        (code.Goes (code.Here f (suc p) (put_register regs to (new_at w kind c (least_free w)).0)
+        below (new_at w kind c (least_free w)).1 v.ticks))
     code_does = by_free (least_free w) refl
 
   pub new_does : (to kind : ℕ) (b : Bool) → IsKind shapes kind → logged (site f p true) ≡ b →
-      Does_all (make_code s shapes to kind b) (deeds_new f p kind (words_of (fields_of shapes kind)) (least_free w)) (code.Goes (code.Here f (suc p) (put regs to (new_in shapes w kind).0) below (new_in shapes w kind).1 v.ticks))
+      Does_all (make_code s shapes to kind b)
+      (deeds_new f p kind (words_of (fields_of shapes kind)) (least_free w))
+      (code.Goes (code.Here f (suc p) (put_register regs to (new_in shapes w kind).0) below
+      (new_in shapes w kind).1 v.ticks))
   new_does to zero b is marked = absurd (omega (arith, is.0))
   new_does to (suc k) b is marked = ⊎_elim
-      (λ g. subst Made (sym g.2) (subst (λ (o : Option ℕ). Made_words o g.0) (sym (words_is 15 0 g.0.fields (omega (arith, fit.short k g.0 g.2)))) (with_words g.0 (fit.short k g.0 g.2))))
+      (λ g. subst Made (sym g.2) (subst (λ (o : Option ℕ). Made_words o g.0)
+      (sym (words_is 15 0 g.0.fields (omega (arith, fit.short k g.0 g.2))))
+      (with_words g.0 (fit.short k g.0 g.2))))
       (λ g. absurd (omega (arith, is.1, g.0)))
       (slice_get_cases shapes.structs k).1
     where
       Made_words : Option ℕ → StructShape → Type 0
-      Made_words o u = Does_all (make_words s to (suc k) b o) (deeds_new f p (suc k) (words_of u.fields) (least_free w)) (code.Goes (code.Here f (suc p) (put regs to (new_at w (suc k) (words_of u.fields) (least_free w)).0) below (new_at w (suc k) (words_of u.fields) (least_free w)).1 v.ticks))
+      Made_words o u = Does_all (make_words s to (suc k) b o)
+          (deeds_new f p (suc k) (words_of u.fields) (least_free w))
+          (code.Goes (code.Here f (suc p)
+          (put_register regs to (new_at w (suc k) (words_of u.fields) (least_free w)).0) below
+          (new_at w (suc k) (words_of u.fields) (least_free w)).1 v.ticks))
 
       fields_in : Option StructShape → List FieldShape
       fields_in o = option_map_or (λ (u : StructShape). u.fields) o []
 
       Made : Option StructShape → Type 0
-      Made o = Does_all (make_words s to (suc k) b (option_and_then (λ (u : StructShape). words_from 15 0 u.fields) o)) (deeds_new f p (suc k) (words_of (fields_in o)) (least_free w)) (code.Goes (code.Here f (suc p) (put regs to (new_at w (suc k) (words_of (fields_in o)) (least_free w)).0) below (new_at w (suc k) (words_of (fields_in o)) (least_free w)).1 v.ticks))
+      Made o = Does_all (make_words s to (suc k) b
+          (option_and_then (λ (u : StructShape). words_from 15 0 u.fields) o))
+          (deeds_new f p (suc k) (words_of (fields_in o)) (least_free w))
+          (code.Goes (code.Here f (suc p)
+          (put_register regs to (new_at w (suc k) (words_of (fields_in o)) (least_free w)).0) below
+          (new_at w (suc k) (words_of (fields_in o)) (least_free w)).1 v.ticks))
 
-      with_words : (u : StructShape) → words_of u.fields ≤ 15 → Made_words (Some (0 + words_of u.fields)) u
+      with_words : (u : StructShape) → words_of u.fields ≤ 15
+          → Made_words (Some (0 + words_of u.fields)) u
       with_words u short =
           let zero_on : 0 + words_of u.fields ≡ words_of u.fields = omega arith in
           let test : ltb 15 (words_of u.fields) ≡ false = le-ltb 15 (words_of u.fields) short in
           subst (λ (n : ℕ). Made_words (Some n) u) (sym zero_on)
-          (subst (λ (t : Bool). Does_all (if t then Trap 2 ∷ [] else new_code s to (suc k) (words_of u.fields) b) (deeds_new f p (suc k) (words_of u.fields) (least_free w)) (code.Goes (code.Here f (suc p) (put regs to (new_at w (suc k) (words_of u.fields) (least_free w)).0) below (new_at w (suc k) (words_of u.fields) (least_free w)).1 v.ticks))) (sym test)
+          (subst (λ (t : Bool). Does_all (if t then Trap 2 ∷ []
+          else new_code s to (suc k) (words_of u.fields) b)
+          (deeds_new f p (suc k) (words_of u.fields) (least_free w))
+          (code.Goes (code.Here f (suc p)
+          (put_register regs to (new_at w (suc k) (words_of u.fields) (least_free w)).0) below
+          (new_at w (suc k) (words_of u.fields) (least_free w)).1 v.ticks))) (sym test)
           (code_does to (suc k) (words_of u.fields) b marked short))

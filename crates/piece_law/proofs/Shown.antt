@@ -1,4 +1,4 @@
--- What is shown one behind the other is shown together.
+-- Deeds that effects show one after another are shown together.
 use Rattle.std.proofs.Common.{◌≡◌, ℕ, Bool, List, [], ◌∷◌, ◌++◌, refl, sym, ap, ◌∙◌, append_assoc}
 use Rattle.cache_model.specs.Cache.{Words}
 use Rattle.pool_layout.specs.declared.limits.Sizes.{Sizes}
@@ -8,18 +8,23 @@ use Rattle.pm_machine.specs.declared.effect.Effect.{Effect}
 use Rattle.pm_machine.specs.Effects.{heap_past, heap_end, records_past, records_end}
 use Rattle.emit_law.specs.Moments.{onto}
 use Rattle.pm_alloc.specs.LocalRun.{World}
-use Rattle.piece_law.specs.Shows.{Shows, done, looks, scans, reads, plain, logs, heads, IsCut, ShowsLaw, CutsLaw}
+use Rattle.piece_law.specs.Shows.{ShowsDeeds, done, looks, scans, reads, plain, logs, heads, IsCutAtStore, ShowsLaw, CutsLaw}
 use Rattle.piece_law.specs.Law.{onward}
 
 pub shown : ShowsLaw
 shown s logged ds cs es fs done more = more
-shown s logged ds cs es fs (looks {ds = ds'} {es = es'} q there rest) more = looks q there (shown s logged ds' cs es' fs rest more)
+shown s logged ds cs es fs (looks {ds = ds'} {es = es'} q there rest) more =
+    looks q there (shown s logged ds' cs es' fs rest more)
 shown s logged ds cs es fs (scans {ds = ds'} {es = es'} n few rest) more =
     scans n few (shown s logged ds' cs es' fs rest more)
-shown s logged ds cs es fs (reads {ds = ds'} {es = es'} x there rest) more = reads x there (shown s logged ds' cs es' fs rest more)
-shown s logged ds cs es fs (plain {ds = ds'} {es = es'} site x v there is rest) more = plain site x v there is (shown s logged ds' cs es' fs rest more)
-shown s logged ds cs es fs (logs {ds = ds'} {es = es'} site x v there is rest) more = logs site x v there is (shown s logged ds' cs es' fs rest more)
-shown s logged ds cs es fs (heads {ds = ds'} {es = es'} site q v there rest) more = heads site q v there (shown s logged ds' cs es' fs rest more)
+shown s logged ds cs es fs (reads {ds = ds'} {es = es'} x there rest) more =
+    reads x there (shown s logged ds' cs es' fs rest more)
+shown s logged ds cs es fs (plain {ds = ds'} {es = es'} site x v there is rest) more =
+    plain site x v there is (shown s logged ds' cs es' fs rest more)
+shown s logged ds cs es fs (logs {ds = ds'} {es = es'} site x v there is rest) more =
+    logs site x v there is (shown s logged ds' cs es' fs rest more)
+shown s logged ds cs es fs (heads {ds = ds'} {es = es'} site q v there rest) more =
+    heads site q v there (shown s logged ds' cs es' fs rest more)
 
 pub cut : CutsLaw
 cut s logged ds cs es fs first c = record {
@@ -31,8 +36,9 @@ cut s logged ds cs es fs first c = record {
   shows = shown s logged ds c.before es fs first c.shows;
 }
 
--- a part of a cut list may be put behind it
-pub cut_later : (s : Sizes) (logged : Site → Bool) (ds cs : List Deed) (es : List Effect) → IsCut s logged ds es → IsCut s logged (ds ++ cs) es
+-- more deeds may follow a list that is cut
+pub cut_later : (s : Sizes) (logged : Site → Bool) (ds cs : List Deed) (es : List Effect)
+    → IsCutAtStore s logged ds es → IsCutAtStore s logged (ds ++ cs) es
 cut_later s logged ds cs es c = record {
   before = c.before;
   due = c.due;
@@ -42,11 +48,13 @@ cut_later s logged ds cs es c = record {
   shows = c.shows;
 }
 
-pub heap_append : (es fs : List Effect) (heap : Words) → heap_end heap (es ++ fs) ≡ heap_end (heap_end heap es) fs
+pub heap_append : (es fs : List Effect) (heap : Words)
+    → heap_end heap (es ++ fs) ≡ heap_end (heap_end heap es) fs
 heap_append [] fs heap = refl
 heap_append (e ∷ es) fs heap = heap_append es fs (heap_past heap e)
 
-pub records_append : (es fs : List Effect) (n : ℕ) → records_end (records_end n es) fs ≡ records_end n (es ++ fs)
+pub records_append : (es fs : List Effect) (n : ℕ) → records_end (records_end n es) fs
+    ≡ records_end n (es ++ fs)
 records_append [] fs n = refl
 records_append (e ∷ es) fs n = records_append es fs (records_past n e)
 
@@ -54,7 +62,8 @@ onto_append : (es fs seen : List Effect) → onto (es ++ fs) seen ≡ onto fs (o
 onto_append [] fs seen = refl
 onto_append (e ∷ es) fs seen = onto_append es fs (e ∷ seen)
 
-pub onward_append : (v : World) (es fs : List Effect) (t u : ℕ) → onward (onward v es t) fs u ≡ onward v (es ++ fs) u
+pub onward_append : (v : World) (es fs : List Effect) (t u : ℕ)
+    → onward (onward v es t) fs u ≡ onward v (es ++ fs) u
 onward_append v es fs t u = λ i. record {
   heap = sym (heap_append es fs v.heap) i;
   seen = sym (onto_append es fs v.seen) i;
@@ -62,10 +71,12 @@ onward_append v es fs t u = λ i. record {
   records = records_append es fs v.records i;
 }
 
--- looks change nothing
-pub looks_heap : (s : Sizes) (logged : Site → Bool) (ds : List Deed) (es : List Effect) (heap : Words) → Shows s logged ds es → ds ≡ [] → heap_end heap es ≡ heap
+-- loads of headers change nothing
+pub looks_heap : (s : Sizes) (logged : Site → Bool) (ds : List Deed) (es : List Effect)
+    (heap : Words) → ShowsDeeds s logged ds es → ds ≡ [] → heap_end heap es ≡ heap
 looks_heap s logged ds es heap done e = refl
-looks_heap s logged ds es heap (looks {ds = ds'} {es = es'} q there rest) e = looks_heap s logged ds' es' heap rest e
+looks_heap s logged ds es heap (looks {ds = ds'} {es = es'} q there rest) e =
+    looks_heap s logged ds' es' heap rest e
 looks_heap s logged ds es heap (scans {ds = ds'} {es = es'} n few rest) e =
     looks_heap s logged ds' es' heap rest e
 looks_heap s logged ds es heap (reads x there rest) e = absurd (cc)
@@ -73,9 +84,11 @@ looks_heap s logged ds es heap (plain site x v there is rest) e = absurd (cc)
 looks_heap s logged ds es heap (logs site x v there is rest) e = absurd (cc)
 looks_heap s logged ds es heap (heads site q v there rest) e = absurd (cc)
 
-pub looks_records : (s : Sizes) (logged : Site → Bool) (ds : List Deed) (es : List Effect) (n : ℕ) → Shows s logged ds es → ds ≡ [] → records_end n es ≡ n
+pub looks_records : (s : Sizes) (logged : Site → Bool) (ds : List Deed) (es : List Effect) (n : ℕ)
+    → ShowsDeeds s logged ds es → ds ≡ [] → records_end n es ≡ n
 looks_records s logged ds es n done e = refl
-looks_records s logged ds es n (looks {ds = ds'} {es = es'} q there rest) e = looks_records s logged ds' es' n rest e
+looks_records s logged ds es n (looks {ds = ds'} {es = es'} q there rest) e =
+    looks_records s logged ds' es' n rest e
 looks_records s logged ds es n (scans {ds = ds'} {es = es'} k few rest) e =
     looks_records s logged ds' es' n rest e
 looks_records s logged ds es n (reads x there rest) e = absurd (cc)

@@ -1,6 +1,7 @@
--- What a pool's sizes and a program's shapes have to fit: the pool has at least one slot and at most 65,535, the root's words are
--- those of its fields and take at most 64 lines, and a struct has at most 15 words. Each program that passes the front end has
--- such shapes, with the sizes that are asked for it.
+-- What a pool's sizes and a program's shapes must satisfy: the pool has at least one slot and at
+-- most 65,535, the root's words are those of its fields and take at most 64 lines, and a struct has
+-- at most 15 words. Each program that passes the front end has such shapes, with the sizes that are
+-- asked for it.
 use Rattle.std.specs.Prelude.{ℕ, ◌≤◌, ◌≡◌, Some, slice_get}
 use Rattle.pool_layout.specs.declared.limits.Sizes.{Sizes}
 use Rattle.pool_map.specs.declared.shapes.StructShape.{StructShape}
@@ -11,4 +12,5 @@ use Rattle.pm_alloc.specs.Search.{IsPool}
 pub record IsFit (s : Sizes) (shapes : Shapes) : Type 0 where
   pub pool : IsPool s
   pub root : words_of shapes.root ≡ s.root_words
-  pub short : (k : ℕ) (shape : StructShape) → slice_get shapes.structs k ≡ Some shape → words_of shape.fields ≤ 15
+  pub short : (k : ℕ) (shape : StructShape) → slice_get shapes.structs k ≡ Some shape
+      → words_of shape.fields ≤ 15

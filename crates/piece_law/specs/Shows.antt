@@ -1,6 +1,6 @@
--- How the machine's loads, stores and logs show what the code does, in order: a load of a word by a load, a store by a store, with
--- a LOG of the word right before it where the code has the store's site logged. A header's store is always logged; a load of a
--- header, or of the first headers, shows nothing.
+-- How the machine's loads, stores and logs show the code's deeds, in order: a load of a word by a
+-- load, a store by a store, right after a LOG of the word if the store's site is logged. A store to
+-- a header is always logged; a load of a header, or of the first headers, shows no deed.
 use Rattle.std.specs.Prelude.{ℕ, ◌≤◌, ◌≡◌, Bool, true, false, List, [], ◌∷◌, ◌++◌, ℤ}
 use Rattle.pool_layout.specs.declared.limits.Sizes.{Sizes}
 use Rattle.pool_layout.specs.declared.places.HeapPlace.TheVariants.{Header}
@@ -12,19 +12,29 @@ use Rattle.pm_machine.specs.declared.effect.Effect.{Effect}
 use Rattle.pm_machine.specs.declared.effect.Effect.TheVariants.{Loads, Scans, Stores, Logs}
 use Rattle.piece_law.specs.Stands.{place_of, heap_word, header_word}
 
--- the word is one of the heap's
+-- the word is a word of the heap
 abbrev pub IsThere : Sizes → Spot → Type 0
 IsThere s x = IsHeapPlace s (place_of x)
 
-pub data Shows (s : Sizes) (logged : Site → Bool) : List Deed → List Effect → Type 0 where
-  done : Shows s logged [] []
-  looks : {ds : List Deed} {es : List Effect} (q : ℕ) → IsHeapPlace s (Header q) → Shows s logged ds es → Shows s logged ds (Loads (header_word s q) ∷ es)
-  scans : {ds : List Deed} {es : List Effect} (n : ℕ) → n ≤ s.slots → Shows s logged ds es →
-      Shows s logged ds (Scans (header_word s 1) n ∷ es)
-  reads : {ds : List Deed} {es : List Effect} (x : Spot) → IsThere s x → Shows s logged ds es → Shows s logged (Reads x ∷ ds) (Loads (heap_word s x) ∷ es)
-  plain : {ds : List Deed} {es : List Effect} (site : Site) (x : Spot) (v : ℤ) → IsThere s x → logged site ≡ false → Shows s logged ds es → Shows s logged (Writes site x v ∷ ds) (Stores (heap_word s x) v ∷ es)
-  logs : {ds : List Deed} {es : List Effect} (site : Site) (x : Spot) (v : ℤ) → IsThere s x → logged site ≡ true → Shows s logged ds es → Shows s logged (Writes site x v ∷ ds) (Logs (heap_word s x) ∷ Stores (heap_word s x) v ∷ es)
-  heads : {ds : List Deed} {es : List Effect} (site : Site) (q : ℕ) (v : ℤ) → IsHeapPlace s (Header q) → Shows s logged ds es → Shows s logged (Heads site q v ∷ ds) (Logs (header_word s q) ∷ Stores (header_word s q) v ∷ es)
+pub data ShowsDeeds (s : Sizes) (logged : Site → Bool) : List Deed → List Effect → Type 0 where
+  done : ShowsDeeds s logged [] []
+  looks : {ds : List Deed} {es : List Effect} (q : ℕ) → IsHeapPlace s (Header q)
+      → ShowsDeeds s logged ds es → ShowsDeeds s logged ds (Loads (header_word s q) ∷ es)
+  scans : {ds : List Deed} {es : List Effect} (n : ℕ) → n ≤ s.slots → ShowsDeeds s logged ds es →
+      ShowsDeeds s logged ds (Scans (header_word s 1) n ∷ es)
+  reads : {ds : List Deed} {es : List Effect} (x : Spot) → IsThere s x → ShowsDeeds s logged ds es
+      → ShowsDeeds s logged (Reads x ∷ ds) (Loads (heap_word s x) ∷ es)
+  plain : {ds : List Deed} {es : List Effect} (site : Site) (x : Spot) (v : ℤ) → IsThere s x
+      → logged site ≡ false → ShowsDeeds s logged ds es
+      → ShowsDeeds s logged (Writes site x v ∷ ds) (Stores (heap_word s x) v ∷ es)
+  logs : {ds : List Deed} {es : List Effect} (site : Site) (x : Spot) (v : ℤ) → IsThere s x
+      → logged site ≡ true → ShowsDeeds s logged ds es
+      → ShowsDeeds s logged (Writes site x v ∷ ds)
+      (Logs (heap_word s x) ∷ Stores (heap_word s x) v ∷ es)
+  heads : {ds : List Deed} {es : List Effect} (site : Site) (q : ℕ) (v : ℤ)
+      → IsHeapPlace s (Header q) → ShowsDeeds s logged ds es
+      → ShowsDeeds s logged (Heads site q v ∷ ds)
+      (Logs (header_word s q) ∷ Stores (header_word s q) v ∷ es)
 
 -- a store that is logged
 abbrev pub TakesLog : (Site → Bool) → Deed → Type 0
@@ -32,20 +42,23 @@ TakesLog logged (Reads x) = ⊥
 TakesLog logged (Writes site x v) = logged site ≡ true
 TakesLog logged (Heads site q v) = Unit {0}
 
--- the effects show what the code does up to a store that is logged
-pub record IsCut (s : Sizes) (logged : Site → Bool) (ds : List Deed) (es : List Effect) : Type 0 where
+-- the effects show the code's deeds up to a store that is logged
+pub record IsCutAtStore (s : Sizes) (logged : Site → Bool) (ds : List Deed) (es : List Effect) :
+    Type 0 where
   pub before : List Deed
   pub due : Deed
   pub later : List Deed
   pub is : ds ≡ before ++ due ∷ later
   pub takes_log : TakesLog logged due
-  pub shows : Shows s logged before es
+  pub shows : ShowsDeeds s logged before es
 
--- what is shown one behind the other is shown together
+-- deeds that effects show one after another are shown together
 abbrev pub ShowsLaw : Type 0
 ShowsLaw = (s : Sizes) (logged : Site → Bool) (ds cs : List Deed) (es fs : List Effect) →
-    Shows s logged ds es → Shows s logged cs fs → Shows s logged (ds ++ cs) (es ++ fs)
+    ShowsDeeds s logged ds es → ShowsDeeds s logged cs fs
+    → ShowsDeeds s logged (ds ++ cs) (es ++ fs)
 
 abbrev pub CutsLaw : Type 0
 CutsLaw = (s : Sizes) (logged : Site → Bool) (ds cs : List Deed) (es fs : List Effect) →
-    Shows s logged ds es → IsCut s logged cs fs → IsCut s logged (ds ++ cs) (es ++ fs)
+    ShowsDeeds s logged ds es → IsCutAtStore s logged cs fs
+    → IsCutAtStore s logged (ds ++ cs) (es ++ fs)

@@ -1,5 +1,6 @@
--- The heap that stands for a pool: its first words are the root's, each slot's header is the kind of the slot's object or 0 where
--- there is none, and an object's fields are the first words behind its header. All other words are free.
+-- The heap that stands for a pool: its first words are the root's, each slot's header is the kind
+-- of the slot's object, or 0 if there is none, and an object's fields are the first words after its
+-- header. All other words may have any value.
 use Rattle.std.specs.Prelude.{ℕ, ◌≤◌, ◌<◌, ◌≡◌, length, Option, None, Some, ℤ, pos}
 use Rattle.cache_model.specs.Cache.{Words}
 use Rattle.pool_layout.specs.declared.limits.Sizes.{Sizes}
@@ -8,9 +9,9 @@ use Rattle.pool_layout.specs.declared.places.HeapPlace.TheVariants.{Root, Header
 use Rattle.pool_layout.specs.Places.{heap_at}
 use Rattle.pool_map.specs.declared.object.Object.{Object}
 use Rattle.pool_map.specs.PoolMap.{PoolMap, object_at, HasField}
-use Rattle.code_meaning.specs.Code.{Spot, InRoot, InSlot, load}
+use Rattle.code_meaning.specs.Code.{Spot, InRoot, InSlot, load_spot}
 
--- where a word of a pool stands in the heap
+-- the place in the heap of a word of a pool
 abbrev pub place_of : Spot → HeapPlace
 place_of (InRoot i) = Root i
 place_of (InSlot q i) = Field q i
@@ -34,4 +35,4 @@ pub record Stands (s : Sizes) (heap : Words) (w : PoolMap) : Type 0 where
   pub root_words : length w.root ≡ s.root_words
   pub slots : length w.slots ≡ s.slots
   pub headers : (q : ℕ) → 1 ≤ q → q ≤ s.slots → heap (header_word s q) ≡ header_of (object_at w q)
-  pub words : (x : Spot) → HasWord w x → heap (heap_word s x) ≡ load w x
+  pub words : (x : Spot) → HasWord w x → heap (heap_word s x) ≡ load_spot w x

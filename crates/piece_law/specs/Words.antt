@@ -1,30 +1,29 @@
--- Code at words: its registers, those of its callers, the pool's words and the code's constants are words, from -2^63 to 2^63 - 1.
--- A run of such code from such a state has words alone.
-use Rattle.std.specs.Prelude.{ℕ, ◌≡◌, ◌<◌, ◌^◌, List, length, Some, ℤ}
+-- Code whose values are words: its registers, those of its callers, the pool's words and the code's
+-- constants are from -2^63 to 2^63 - 1. A run of such code from such a state has only words.
+use Rattle.std.specs.Prelude.{ℕ, ◌<◌, ◌^◌, List, length, ℤ}
 use Rattle.std.specs.List.{AllByRecursion}
 use Rattle.nvm_base.specs.Wrap.{IsWord}
 use Rattle.pool_map.specs.PoolMap.{PoolMap}
 use Rattle.ir.specs.declared.function.Ir.{Ir}
-use Rattle.ir.specs.declared.function.IrFunction.{IrFunction}
-use Rattle.ir.specs.declared.instruction.Instruction.TheVariants.{Const}
-use Rattle.ir.specs.Places.{instruction_at}
-use Rattle.code_meaning.specs.Code.{Spot, Frame, frame, State, Here, End, Ended, Trapped, Unfinished, Stuck, Move, Goes, Ends, at, load, step}
+use Rattle.code_meaning.specs.Code.{Spot, Frame, frame, CodeState, Here, CodeEnd, Ended, Trapped, Unfinished, Stuck, Move, Goes, Ends, register_at, load_spot, instruction_step}
+use Rattle.code_meaning.specs.Constants.{HasWordConstants}
 
 abbrev pub HoldWords : List ℤ → Type 0
-HoldWords regs = (r : ℕ) → IsWord (at regs r)
+HoldWords regs = (r : ℕ) → IsWord (register_at regs r)
 
--- the words of a pool, and the numbers of its slots
+-- the words of a pool, and the numbers of its slots, are words
 pub record HasWords (w : PoolMap) : Type 0 where
-  pub word : (x : Spot) → IsWord (load w x)
+  pub word : (x : Spot) → IsWord (load_spot w x)
   pub slots : length w.slots < 2 ^ 63
 
 abbrev pub IsWordFrame : Frame → Type 0
 IsWordFrame (frame f p regs to) = HoldWords regs
 
-abbrev pub IsWordState : State → Type 0
-IsWordState (Here f p regs below w t) = HoldWords regs × AllByRecursion IsWordFrame below × HasWords w
+abbrev pub IsWordState : CodeState → Type 0
+IsWordState (Here f p regs below w t) = HoldWords regs × AllByRecursion IsWordFrame below
+    × HasWords w
 
-abbrev pub IsWordEnd : End → Type 0
+abbrev pub IsWordEnd : CodeEnd → Type 0
 IsWordEnd (Ended w v t) = HasWords w × IsWord v
 IsWordEnd (Trapped k) = Unit {0}
 IsWordEnd Unfinished = Unit {0}
@@ -34,9 +33,6 @@ abbrev pub IsWordMove : Move → Type 0
 IsWordMove (Goes c) = IsWordState c
 IsWordMove (Ends e) = IsWordEnd e
 
--- the constants of code are words
-abbrev pub HasWordConstants : List IrFunction → Type 0
-HasWordConstants functions = (f p to : ℕ) (v : ℤ) → instruction_at functions f p ≡ Some (Const to v) → IsWord v
-
 abbrev pub WordsLaw : Type 0
-WordsLaw = (ir : Ir) (c : State) → HasWordConstants ir.functions → IsWordState c → IsWordMove (step ir c)
+WordsLaw = (ir : Ir) (c : CodeState) → HasWordConstants ir.functions → IsWordState c
+    → IsWordMove (instruction_step ir c)

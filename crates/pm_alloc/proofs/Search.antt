@@ -15,15 +15,19 @@ pub small : (n : ℕ) → n < 2 ^ 62 → int_wrap w64 (pos n) ≡ pos n
 small n h = let fits : FitsSigned w64 (pos n) = search rules in int_wrap_fits w64 (pos n) fits
 
 -- the address of a word of slot q, from 16 times q
-pub address_is : (s : Sizes) (q j : ℕ) → 1 ≤ q → q ≤ 65536 → root_lines s ≤ 64 → j ≤ 15 → int_wrap w64 (pos (16 * q) +ℤ offset s j) ≡ pos (slot_word s q + j)
+pub address_is : (s : Sizes) (q j : ℕ) → 1 ≤ q → q ≤ 65536 → root_lines s ≤ 64 → j ≤ 15
+    → int_wrap w64 (pos (16 * q) +ℤ offset s j) ≡ pos (slot_word s q + j)
 address_is s q j some few lines short =
-    let e : pos (16 * q) +ℤ (pos (8 * root_lines s + j) -ℤ pos 16) ≡ pos (8 * root_lines s + 16 * (q - 1) + j) = omega (arith, ints) in
+    let e : pos (16 * q) +ℤ (pos (8 * root_lines s + j) -ℤ pos 16)
+    ≡ pos (8 * root_lines s + 16 * (q - 1) + j) = omega (arith, ints) in
     ap (λ (z : ℤ). int_wrap w64 z) e ∙ small (8 * root_lines s + 16 * (q - 1) + j) (omega arith)
 
-pub header_address : (s : Sizes) (q a : ℕ) → a ≡ 16 * q → 1 ≤ q → q ≤ 65536 → root_lines s ≤ 64 → int_wrap w64 (pos a +ℤ offset s 0) ≡ pos (slot_word s q)
+pub header_address : (s : Sizes) (q a : ℕ) → a ≡ 16 * q → 1 ≤ q → q ≤ 65536 → root_lines s ≤ 64
+    → int_wrap w64 (pos a +ℤ offset s 0) ≡ pos (slot_word s q)
 header_address s q a is some few lines =
     let e : slot_word s q + 0 ≡ slot_word s q = omega arith in
-    ap (λ (n : ℕ). int_wrap w64 (pos n +ℤ offset s 0)) is ∙ address_is s q 0 some few lines (omega arith) ∙ ap pos e
+    ap (λ (n : ℕ). int_wrap w64 (pos n +ℤ offset s 0)) is ∙ address_is s q 0 some few lines
+    (omega arith) ∙ ap pos e
 
 pub searched_least : SearchLaw
 searched_least s to kind c b own x w = refl

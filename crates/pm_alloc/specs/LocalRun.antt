@@ -1,5 +1,6 @@
--- A piece of code alone, over a heap: its place is counted from its start, its function's registers are words by their
--- numbers, and its temporary ones a list. The effects on the heap and on the log are kept, the newest first.
+-- Running a piece of code alone on a heap: places are counted from its start, the function's
+-- registers are words by their numbers, and its temporary registers a list. The effects on the heap
+-- and on the log are kept, the newest first.
 use Rattle.std.specs.Prelude.{ℕ, zero, suc, ◌+◌, if◌then◌else◌, nat_lt, List, ◌∷◌, Option, Some, None, ℤ, pos, negsuc, ◌+ℤ◌, slice_get, get_or, set}
 use Rattle.std.specs.Int.{w64, int_wrap}
 use Rattle.nvm_base.specs.Applied.{applied}
@@ -16,7 +17,7 @@ use Rattle.pm_alloc.specs.declared.local.Local.{Local}
 use Rattle.pm_alloc.specs.declared.local.Local.TheVariants.{Const, Mov, Bin, Jmp, Jz, Load, Store, Find, Log, Tick, Trap}
 use Rattle.pm_alloc.specs.Runs.{Next, Goes, Traps, Off}
 
--- what the piece shares with all other code
+-- the state that the piece shares with all other code
 pub record World : Type 0 where
   pub heap : Words
   pub seen : List Effect
@@ -29,24 +30,24 @@ pub record Loc : Type 0 where
   pub temp : List ℤ
   pub world : World
 
-abbrev pub at_zero : {A : Type 0} → ℤ → A → A → A
-at_zero (pos zero) a b = a
-at_zero (pos (suc n)) a b = b
-at_zero (negsuc n) a b = b
+abbrev pub branch_at_zero : {A : Type 0} → ℤ → A → A → A
+branch_at_zero (pos zero) a b = a
+branch_at_zero (pos (suc n)) a b = b
+branch_at_zero (negsuc n) a b = b
 
-abbrev pub read : Words → List ℤ → Reg → ℤ
-read own temp (Own r) = own r
-read own temp (Temp j) = get_or temp j (pos 0)
+abbrev pub local_read : Words → List ℤ → Reg → ℤ
+local_read own temp (Own r) = own r
+local_read own temp (Temp j) = get_or temp j (pos 0)
 
-abbrev pub write : ℕ → Words → List ℤ → World → Reg → ℤ → Loc
-write at own temp w (Own r) x = record { at = at; own = put own r x; temp = temp; world = w }
-write at own temp w (Temp j) x = record { at = at; own = own; temp = set temp j x; world = w }
+abbrev pub local_write : ℕ → Words → List ℤ → World → Reg → ℤ → Loc
+local_write at own temp w (Own r) x = record { at = at; own = put own r x; temp = temp; world = w }
+local_write at own temp w (Temp j) x = record { at = at; own = own; temp = set temp j x; world = w }
 
 abbrev pub go_to : Loc → ℕ → Loc
 go_to l at = record { at = at; own = l.own; temp = l.temp; world = l.world }
 
-abbrev pub go_on : Loc → World → Loc
-go_on l w = record { at = l.at + 1; own = l.own; temp = l.temp; world = w }
+abbrev pub local_next : Loc → World → Loc
+local_next l w = record { at = l.at + 1; own = l.own; temp = l.temp; world = w }
 
 abbrev pub see : World → Effect → World
 see w e = record { heap = w.heap; seen = e ∷ w.seen; ticks = w.ticks; records = w.records }
@@ -56,47 +57,66 @@ abbrev pub searched : Sizes → World → World
 searched s w = see w (Scans (slot_word s 1) (looks s w.heap))
 
 -- a word stored; the word's record appended to the log
-abbrev pub stored : World → ℕ → ℤ → World
-stored w q v = record { heap = put w.heap q v; seen = Stores q v ∷ w.seen; ticks = w.ticks; records = w.records }
+abbrev pub local_stored : World → ℕ → ℤ → World
+local_stored w q v = record {
+  heap = put w.heap q v;
+  seen = Stores q v ∷ w.seen;
+  ticks = w.ticks;
+  records = w.records;
+}
 
 abbrev pub logged : World → ℕ → World
-logged w q = record { heap = w.heap; seen = Logs q ∷ w.seen; ticks = w.ticks; records = w.records + 1 }
+logged w q = record {
+  heap = w.heap;
+  seen = Logs q ∷ w.seen;
+  ticks = w.ticks;
+  records = w.records + 1;
+}
 
-abbrev pub load : Loc → Reg → Option ℕ → Next World Loc
-load l r None = Goes (write (l.at + 1) l.own l.temp l.world r (pos 0))
-load l r (Some w) = Goes (write (l.at + 1) l.own l.temp (see l.world (Loads w)) r (l.world.heap w))
+abbrev pub local_load : Loc → Reg → Option ℕ → Next World Loc
+local_load l r None = Goes (local_write (l.at + 1) l.own l.temp l.world r (pos 0))
+local_load l r (Some w) = Goes (local_write (l.at + 1) l.own l.temp (see l.world (Loads w)) r
+    (l.world.heap w))
 
-abbrev pub store : Loc → ℤ → Option ℕ → Next World Loc
-store l x None = Goes (go_on l l.world)
-store l x (Some w) = Goes (go_on l (stored l.world w x))
+abbrev pub local_store : Loc → ℤ → Option ℕ → Next World Loc
+local_store l x None = Goes (local_next l l.world)
+local_store l x (Some w) = Goes (local_next l (local_stored l.world w x))
 
--- with C records: trap 7 where the log is full
-abbrev pub log : ℕ → Loc → Option ℕ → Next World Loc
-log C l None = Goes (go_on l l.world)
-log C l (Some w) = if nat_lt l.world.records C then Goes (go_on l (logged l.world w)) else Traps 7 l.world
+-- LOG in a log of C records: trap 7 if it is full
+abbrev pub local_log : ℕ → Loc → Option ℕ → Next World Loc
+local_log C l None = Goes (local_next l l.world)
+local_log C l (Some w) = if nat_lt l.world.records C then Goes (local_next l (logged l.world w))
+    else Traps 7 l.world
 
-abbrev pub tick : Loc → ℕ → Next World Loc
-tick l zero = Traps 5 l.world
-tick l (suc n) = Goes (go_on l (record { heap = l.world.heap; seen = l.world.seen; ticks = n; records = l.world.records }))
+abbrev pub local_tick : Loc → ℕ → Next World Loc
+local_tick l zero = Traps 5 l.world
+local_tick l (suc n) = Goes (local_next l
+    (record { heap = l.world.heap; seen = l.world.seen; ticks = n; records = l.world.records }))
 
--- the heap word at a + o, which wraps
-abbrev pub target : Sizes → ℤ → ℤ → Option ℕ
-target s a o = word_at (heap_words s) (int_wrap w64 (a +ℤ o))
+-- the heap word at a + o, where the sum wraps
+abbrev pub local_target : Sizes → ℤ → ℤ → Option ℕ
+local_target s a o = word_at (heap_words s) (int_wrap w64 (a +ℤ o))
 
-abbrev pub act : Sizes → Loc → Option Local → Next World Loc
-act s l None = Off
-act s l (Some (Const r v)) = Goes (write (l.at + 1) l.own l.temp l.world r v)
-act s l (Some (Mov r a)) = Goes (write (l.at + 1) l.own l.temp l.world r (read l.own l.temp a))
-act s l (Some (Bin o r a b)) = Goes (write (l.at + 1) l.own l.temp l.world r (applied o (read l.own l.temp a) (read l.own l.temp b)))
-act s l (Some (Jmp t)) = Goes (go_to l t)
-act s l (Some (Jz a t)) = at_zero (read l.own l.temp a) (Goes (go_to l t)) (Goes (go_to l (l.at + 1)))
-act s l (Some (Load r a o)) = load l r (target s (read l.own l.temp a) o)
-act s l (Some (Store a o b)) = store l (read l.own l.temp b) (target s (read l.own l.temp a) o)
-act s l (Some (Find r)) =
-    Goes (write (l.at + 1) l.own l.temp (searched s l.world) r (pos (least s l.world.heap)))
-act s l (Some (Log a o)) = log s.records l (target s (read l.own l.temp a) o)
-act s l (Some Tick) = tick l l.world.ticks
-act s l (Some (Trap k)) = Traps k l.world
+abbrev pub local_act : Sizes → Loc → Option Local → Next World Loc
+local_act s l None = Off
+local_act s l (Some (Const r v)) = Goes (local_write (l.at + 1) l.own l.temp l.world r v)
+local_act s l (Some (Mov r a)) =
+    Goes (local_write (l.at + 1) l.own l.temp l.world r (local_read l.own l.temp a))
+local_act s l (Some (Bin o r a b)) =
+    Goes (local_write (l.at + 1) l.own l.temp l.world r
+    (applied o (local_read l.own l.temp a) (local_read l.own l.temp b)))
+local_act s l (Some (Jmp t)) = Goes (go_to l t)
+local_act s l (Some (Jz a t)) =
+    branch_at_zero (local_read l.own l.temp a) (Goes (go_to l t)) (Goes (go_to l (l.at + 1)))
+local_act s l (Some (Load r a o)) = local_load l r (local_target s (local_read l.own l.temp a) o)
+local_act s l (Some (Store a o b)) =
+    local_store l (local_read l.own l.temp b) (local_target s (local_read l.own l.temp a) o)
+local_act s l (Some (Find r)) =
+    Goes (local_write (l.at + 1) l.own l.temp (searched s l.world) r (pos (least s l.world.heap)))
+local_act s l (Some (Log a o)) =
+    local_log s.records l (local_target s (local_read l.own l.temp a) o)
+local_act s l (Some Tick) = local_tick l l.world.ticks
+local_act s l (Some (Trap k)) = Traps k l.world
 
-abbrev pub step : Sizes → List Local → Loc → Next World Loc
-step s code l = act s l (slice_get code l.at)
+abbrev pub local_step : Sizes → List Local → Loc → Next World Loc
+local_step s code l = local_act s l (slice_get code l.at)

@@ -1,7 +1,8 @@
--- The code that reaches objects, before it has a place. Temporary registers: 0 is an address (16 times a slot, and then an
--- index more) or, in `pm_new`, the slot; 1 and 2 are used by the checks; 1, 5 and 6 by `pm_new`.
-use Rattle.std.specs.Prelude.{ℕ, zero, suc, ◌+◌, ◌*◌, Bool, true, false, if◌then◌else◌, nat_lt, List, [], ◌∷◌, ◌++◌, length, ℤ, pos, negsuc, ◌-ℤ◌}
-use Rattle.nvm_base.specs.declared.op.BinOp.TheVariants.{Add, Mul, Lt, Eq}
+-- The code that reaches objects, before it has a place. Temporary registers: 0 is an address (16
+-- times a slot, to which an index may be added) or, in `pm_new`, the slot; 1 and 2 are used by the
+-- checks; 1, 5 and 6 by `pm_new`.
+use Rattle.std.specs.Prelude.{ℕ, zero, suc, ◌+◌, ◌*◌, Bool, true, false, if◌then◌else◌, nat_lt, List, [], ◌∷◌, ◌++◌, length, ℤ, pos, ◌-ℤ◌}
+use Rattle.nvm_base.specs.declared.op.BinOp.TheVariants.{Add, Mul, Ne, Ult}
 use Rattle.pool_layout.specs.declared.limits.Sizes.{Sizes}
 use Rattle.pool_layout.specs.Sizes.{root_lines}
 use Rattle.pm_alloc.specs.declared.local.Reg.{Reg}
@@ -13,44 +14,49 @@ use Rattle.pm_alloc.specs.declared.local.Local.TheVariants.{Const, Mov, Bin, Jmp
 abbrev pub offset : Sizes → ℕ → ℤ
 offset s j = pos (8 * root_lines s + j) -ℤ pos 16
 
--- a store, with its log or without
+-- a store, with or without its log
 abbrev pub store_code : Bool → Reg → ℤ → Reg → List Local
 store_code false x o a = Store x o a ∷ []
 store_code true x o a = Log x o ∷ Store x o a ∷ []
 
--- the checks of a pointer, at the start of a piece: null to 14, stale to 15, else on at 16 with 16 times the slot in temporary 0
+-- The checks of a pointer, at the start of a piece: null goes to 11, stale to 10, else the code
+-- goes on at 12 with 16 times the slot in temporary 0. As an unsigned number a negative word is
+-- greater than each slot's.
 abbrev pub pointer_steps : (past header : ℤ) → (p kind : ℕ) → List Local
 pointer_steps past header p kind =
-    Jz (Own p) 14
-    ∷ Const (Temp 1) (pos 0) ∷ Bin Lt (Temp 2) (Temp 1) (Own p) ∷ Jz (Temp 2) 15
-    ∷ Const (Temp 1) past ∷ Bin Lt (Temp 2) (Own p) (Temp 1) ∷ Jz (Temp 2) 15
+    Jz (Own p) 11
+    ∷ Const (Temp 1) past ∷ Bin Ult (Temp 2) (Own p) (Temp 1) ∷ Jz (Temp 2) 10
     ∷ Const (Temp 0) (pos 16) ∷ Bin Mul (Temp 0) (Own p) (Temp 0) ∷ Load (Temp 1) (Temp 0) header
-    ∷ Const (Temp 2) (pos kind) ∷ Bin Eq (Temp 1) (Temp 1) (Temp 2) ∷ Jz (Temp 1) 15 ∷ Jmp 16 ∷ Trap 1 ∷ Trap 2 ∷ []
+    ∷ Const (Temp 2) (pos kind) ∷ Bin Ne (Temp 1) (Temp 1) (Temp 2) ∷ Jz (Temp 1) 12
+    ∷ Trap 2 ∷ Trap 1 ∷ []
 
 abbrev pub pointer_check : Sizes → (p kind : ℕ) → List Local
 pointer_check s p kind = pointer_steps (pos (s.slots + 1)) (offset s 0) p kind
 
--- the check of an index, from place at of a piece on, and the sum: on at at + 9
+-- the check of an index, from place at of a piece on, and the addition: the code goes on at at + 6
 abbrev pub index_steps : (bad good i len : ℕ) → List Local
 index_steps bad good i len =
-    Const (Temp 1) (negsuc 0) ∷ Bin Lt (Temp 2) (Temp 1) (Own i) ∷ Jz (Temp 2) bad
-    ∷ Const (Temp 1) (pos len) ∷ Bin Lt (Temp 2) (Own i) (Temp 1) ∷ Jz (Temp 2) bad ∷ Jmp good ∷ Trap 3
+    Const (Temp 1) (pos len) ∷ Bin Ult (Temp 2) (Own i) (Temp 1) ∷ Jz (Temp 2) bad
+    ∷ Jmp good ∷ Trap 3
     ∷ Bin Add (Temp 0) (Temp 0) (Own i) ∷ []
 
 abbrev pub index_check : (at i len : ℕ) → List Local
-index_check at i len = index_steps (at + 7) (at + 8) i len
+index_check at i len = index_steps (at + 4) (at + 5) i len
 
--- zeros into c words from word j of the object on whose slot temporary 1 holds 16 times
+-- stores 0 to c words of an object, from word j on; temporary 1 holds 16 times the object's slot
 abbrev pub fill_code : Sizes → Bool → (j c : ℕ) → List Local
 fill_code s b j zero = []
 fill_code s b j (suc c) = store_code b (Temp 1) (offset s j) (Temp 6) ++ fill_code s b (j + 1) c
 
--- The search for the least free slot, and its header; n is how long the fill is. Temporary 0: the
--- slot, 1: 16 times it, 5: the header, 6: 0. Where no slot is free the code goes behind the fill.
+-- The search for the least free slot, and the store of its header; n is the length of the fill.
+-- Temporary 0: the slot, 1: 16 times it, 5: the header, 6: 0. If no slot is free the code jumps
+-- past the fill.
 abbrev pub new_head : Sizes → (kind n : ℕ) → List Local
 new_head s kind n =
-    Find (Temp 0) ∷ Jz (Temp 0) (8 + n) ∷ Const (Temp 1) (pos 16) ∷ Bin Mul (Temp 1) (Temp 0) (Temp 1)
-    ∷ Const (Temp 5) (pos kind) ∷ Log (Temp 1) (offset s 0) ∷ Store (Temp 1) (offset s 0) (Temp 5) ∷ Const (Temp 6) (pos 0) ∷ []
+    Find (Temp 0) ∷ Jz (Temp 0) (8 + n) ∷ Const (Temp 1) (pos 16)
+    ∷ Bin Mul (Temp 1) (Temp 0) (Temp 1)
+    ∷ Const (Temp 5) (pos kind) ∷ Log (Temp 1) (offset s 0) ∷ Store (Temp 1) (offset s 0) (Temp 5)
+    ∷ Const (Temp 6) (pos 0) ∷ []
 
 -- a new object of a kind with c words, whose fill is logged or not
 abbrev pub new_code : Sizes → (to kind c : ℕ) → Bool → List Local
@@ -58,9 +64,10 @@ new_code s to kind c b =
     new_head s kind (length (fill_code s b 1 c))
     ++ (fill_code s b 1 c ++ Mov (Own to) (Temp 0) ∷ [])
 
--- a slot has room for 15 words
+-- a slot has room for 15 words; for more, the code is a trap
 abbrev pub new_or_trap : Sizes → (to kind c : ℕ) → Bool → List Local
 new_or_trap s to kind c b = if nat_lt 15 c then Trap 2 ∷ [] else new_code s to kind c b
 
 abbrev pub free_code : Sizes → (p kind : ℕ) → List Local
-free_code s p kind = pointer_check s p kind ++ (Const (Temp 1) (pos 0) ∷ store_code true (Temp 0) (offset s 0) (Temp 1))
+free_code s p kind = pointer_check s p kind
+    ++ (Const (Temp 1) (pos 0) ∷ store_code true (Temp 0) (offset s 0) (Temp 1))

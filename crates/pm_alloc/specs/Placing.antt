@@ -1,5 +1,6 @@
--- A piece of code at a place p of a function: its jumps are moved by p, and its temporary registers stand from base on. A
--- sum that has no room in 32 bits is the last number; no function with room for its code and its registers has such a sum.
+-- A piece of code at a place p of a function: its jumps are moved by p, and its temporary registers
+-- begin at base. A sum that doesn't fit 32 bits is the last number; no function with room for its
+-- code and its registers has such a sum.
 use Rattle.std.specs.Prelude.{ℕ, ◌+◌, ◌-◌, ◌^◌, min}
 use Rattle.pm_machine.specs.declared.op.Op.{Op}
 use Rattle.pm_machine.specs.declared.op.Op.TheVariants as op
@@ -11,19 +12,20 @@ use Rattle.pm_alloc.specs.declared.local.Local.TheVariants.{Const, Mov, Bin, Jmp
 abbrev pub sum : ℕ → ℕ → ℕ
 sum a b = min (a + b) (2 ^ 32 - 1)
 
-abbrev pub number : ℕ → Reg → ℕ
-number base (Own r) = r
-number base (Temp j) = sum base j
+abbrev pub register_number : ℕ → Reg → ℕ
+register_number base (Own r) = r
+register_number base (Temp j) = sum base j
 
 abbrev pub placed : (base p : ℕ) → Local → Op
-placed base p (Const r v) = op.Const (number base r) v
-placed base p (Mov r a) = op.Mov (number base r) (number base a)
-placed base p (Bin o r a b) = op.Bin o (number base r) (number base a) (number base b)
+placed base p (Const r v) = op.Const (register_number base r) v
+placed base p (Mov r a) = op.Mov (register_number base r) (register_number base a)
+placed base p (Bin o r a b) = op.Bin o (register_number base r) (register_number base a)
+    (register_number base b)
 placed base p (Jmp t) = op.Jmp (sum p t)
-placed base p (Jz a t) = op.Jz (number base a) (sum p t)
-placed base p (Load r a o) = op.Load (number base r) (number base a) o
-placed base p (Store a o b) = op.Store (number base a) o (number base b)
-placed base p (Find r) = op.Find (number base r)
-placed base p (Log a o) = op.Log (number base a) o
+placed base p (Jz a t) = op.Jz (register_number base a) (sum p t)
+placed base p (Load r a o) = op.Load (register_number base r) (register_number base a) o
+placed base p (Store a o b) = op.Store (register_number base a) o (register_number base b)
+placed base p (Find r) = op.Find (register_number base r)
+placed base p (Log a o) = op.Log (register_number base a) o
 placed base p Tick = op.Tick
 placed base p (Trap k) = op.Trap k

@@ -1,4 +1,4 @@
--- Steps, one after another, each of which goes on, traps or is off the code.
+-- Steps, one after another, each of which goes on, traps or leaves the code.
 use Rattle.std.specs.Prelude.{ℕ, zero, suc}
 
 pub data Next (W A : Type 0) : Type 0 where
@@ -12,6 +12,6 @@ then (Traps k w) f = Traps k w
 then Off f = Off
 
 -- at most n steps
-abbrev pub run : {W A : Type 0} → (A → Next W A) → ℕ → A → Next W A
-run step zero a = Goes a
-run step (suc n) a = then (step a) (run step n)
+abbrev pub local_run : {W A : Type 0} → (A → Next W A) → ℕ → A → Next W A
+local_run step zero a = Goes a
+local_run step (suc n) a = then (step a) (local_run step n)

@@ -9,7 +9,7 @@ use nvm_base::BinOp;
 use pool_layout::Sizes;
 use std::alloc::AllocError;
 
-/// The first number behind the slots.
+/// The first number after those of the slots.
 fn past_slots(sizes: &Sizes) -> i64
     ensures { result ≡ pos (sizes.now.slots + 1) }
 {
@@ -26,27 +26,23 @@ fn push_pointer_steps(
     ensures { OnOk result (piece.new ≡ piece.old ++ pointer_steps past header pointer kind) }
 {
     piece.extend(&[
-        Local::Jz(Reg::Own(pointer), 14),
-        Local::Const(Reg::Temp(1), 0),
-        Local::Bin(BinOp::Lt, Reg::Temp(2), Reg::Temp(1), Reg::Own(pointer)),
-        Local::Jz(Reg::Temp(2), 15),
+        Local::Jz(Reg::Own(pointer), 11),
         Local::Const(Reg::Temp(1), past),
-        Local::Bin(BinOp::Lt, Reg::Temp(2), Reg::Own(pointer), Reg::Temp(1)),
-        Local::Jz(Reg::Temp(2), 15),
+        Local::Bin(BinOp::Ult, Reg::Temp(2), Reg::Own(pointer), Reg::Temp(1)),
+        Local::Jz(Reg::Temp(2), 10),
         Local::Const(Reg::Temp(0), 16),
         Local::Bin(BinOp::Mul, Reg::Temp(0), Reg::Own(pointer), Reg::Temp(0)),
         Local::Load(Reg::Temp(1), Reg::Temp(0), header),
         Local::Const(Reg::Temp(2), i64::from(kind)),
-        Local::Bin(BinOp::Eq, Reg::Temp(1), Reg::Temp(1), Reg::Temp(2)),
-        Local::Jz(Reg::Temp(1), 15),
-        Local::Jmp(16),
-        Local::Trap(1),
+        Local::Bin(BinOp::Ne, Reg::Temp(1), Reg::Temp(1), Reg::Temp(2)),
+        Local::Jz(Reg::Temp(1), 12),
         Local::Trap(2),
+        Local::Trap(1),
     ])
 }
 
-/// Puts the checks of a pointer to a struct, at the start of a piece: trap 1 where it is 0, trap 2
-/// where it isn't a slot or the slot has no such object. Behind them temporary 0 holds 16 times the
+/// Appends the checks of a pointer to a struct, at the start of a piece: trap 1 if it is 0, trap 2
+/// if it isn't a slot or the slot has no such object. After them temporary 0 holds 16 times the
 /// slot.
 #[tactic(auto, using(std::proofs::lemmas::Int::wraps))]
 pub fn push_pointer_check(
@@ -72,11 +68,8 @@ fn push_index_steps(
     ensures { OnOk result (piece.new ≡ piece.old ++ index_steps bad good index length) }
 {
     piece.extend(&[
-        Local::Const(Reg::Temp(1), -1),
-        Local::Bin(BinOp::Lt, Reg::Temp(2), Reg::Temp(1), Reg::Own(index)),
-        Local::Jz(Reg::Temp(2), bad),
         Local::Const(Reg::Temp(1), i64::from(length)),
-        Local::Bin(BinOp::Lt, Reg::Temp(2), Reg::Own(index), Reg::Temp(1)),
+        Local::Bin(BinOp::Ult, Reg::Temp(2), Reg::Own(index), Reg::Temp(1)),
         Local::Jz(Reg::Temp(2), bad),
         Local::Jmp(good),
         Local::Trap(3),
@@ -84,8 +77,8 @@ fn push_index_steps(
     ])
 }
 
-/// Puts the check of an index, from place `at` of a piece on: trap 3 where it isn't below the
-/// length. Behind it temporary 0 is greater by the index.
+/// Appends the check of an index, from place `at` of a piece on: trap 3 if it isn't below the
+/// length. After it temporary 0 is greater by the index.
 pub fn push_index_check(
     piece: &mut Locals,
     at: u32,
@@ -95,5 +88,5 @@ pub fn push_index_check(
     requires { at < 2 ^ 31 }
     ensures { OnOk result (piece.new ≡ piece.old ++ index_check at index length) }
 {
-    push_index_steps(piece, at + 7, at + 8, index, length)
+    push_index_steps(piece, at + 4, at + 5, index, length)
 }

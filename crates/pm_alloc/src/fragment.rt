@@ -1,4 +1,5 @@
-//! The code of a `pm_new` or a `pm_free` alone.
+//! The code of a `pm_new` or a `pm_free` alone. A jump's target is counted from its start, and its
+//! length as a target means the instruction after it.
 
 ghost use Rattle.std.specs.Prelude.{◌≡◌, IfOk, map};
 ghost use Rattle.pm_alloc.specs.Pieces.{new_or_trap, free_code};
@@ -7,37 +8,12 @@ ghost use Rattle.pm_alloc.specs.Placing.{placed};
 use crate::local::Locals;
 use crate::objects::{push_free, push_new};
 use crate::placing::push_placed;
-use pm_machine::{Code, Op};
+use pm_machine::Code;
 use pool_layout::Sizes;
 use std::alloc::{AllocError, Global};
-use std::marker::Model;
 
-/// Code of the machine, seen as a list. A jump's target is counted from its start, and its length as
-/// a target means the instruction behind it.
-#[derive(Drop)]
-pub struct Fragment {
-    code: Code,
-}
-
-impl Model for Fragment {
-    ghost use Rattle.std.specs.Prelude.{List};
-    ghost use Rattle.pm_machine.specs.declared.op.Op.{Op};
-
-    ghost Value = { List Op };
-
-    ghost view = { λ f. f.code };
-}
-
-impl Fragment {
-    pub fn as_slice(&self) -> &[Op]
-        ensures { result.now ≡ self.now }
-    {
-        self.code.as_slice()
-    }
-}
-
-/// A `pm_new`: the struct's number and its words, whether the fill is logged, the first free
-/// register, and the register of the result. Only a struct of at most 15 words has room.
+/// A `pm_new`: the struct's number and its number of words, whether the fill is logged, the first
+/// free register, and the register of the result. Only a struct of at most 15 words has room.
 #[derive(Clone, Copy, Debug, PartialEq, Eq)]
 pub struct NewShape {
     pub sizes: Sizes,
@@ -57,18 +33,21 @@ pub struct FreeShape {
     pub from: u32,
 }
 
-fn place_alone(alloc: Global, base: u32, piece: &Locals) -> Result<Fragment, AllocError>
-    ensures { IfOk result (λ f. f ≡ map (placed base 0) piece.now) }
+fn place_alone(alloc: Global, base: u32, piece: &Locals) -> Result<Code, AllocError>
+    ensures { IfOk result (λ code. code ≡ map (placed base 0) piece.now) }
 {
     let mut code = Code::new(alloc);
     push_placed(&mut code, base, 0, piece.as_slice())?;
-    Ok(Fragment { code })
+    Ok(code)
 }
 
-/// The code of a `pm_new`. It takes the least free slot, writes its header and zeros; where no slot
+/// The code of a `pm_new`. It takes the least free slot and writes its header and zeros; if no slot
 /// is free it stores nothing and gives 0.
-pub fn new_fragment(alloc: Global, shape: &NewShape) -> Result<Fragment, AllocError>
-    ensures { IfOk result (λ f. f ≡ map (placed shape.now.base 0) (new_or_trap shape.now.sizes shape.now.to shape.now.kind shape.now.words shape.now.log_fill)) }
+pub fn new_fragment(alloc: Global, shape: &NewShape) -> Result<Code, AllocError>
+    ensures { IfOk result (λ code.
+        code ≡ map (placed shape.now.base 0)
+        (new_or_trap shape.now.sizes shape.now.to shape.now.kind shape.now.words
+        shape.now.log_fill)) }
 {
     let mut piece = Locals::new(alloc);
     push_new(
@@ -83,8 +62,10 @@ pub fn new_fragment(alloc: Global, shape: &NewShape) -> Result<Fragment, AllocEr
 }
 
 /// The code of a `pm_free`. It makes the checks of the pointer and writes 0 to the header.
-pub fn free_fragment(alloc: Global, shape: &FreeShape) -> Result<Fragment, AllocError>
-    ensures { IfOk result (λ f. f ≡ map (placed shape.now.base 0) (free_code shape.now.sizes shape.now.from shape.now.kind)) }
+pub fn free_fragment(alloc: Global, shape: &FreeShape) -> Result<Code, AllocError>
+    ensures { IfOk result (λ code.
+        code ≡ map (placed shape.now.base 0)
+        (free_code shape.now.sizes shape.now.from shape.now.kind)) }
 {
     let mut piece = Locals::new(alloc);
     push_free(&mut piece, &shape.sizes, shape.from, shape.kind)?;

@@ -1,28 +1,28 @@
-//! What the code of `pm_new`, of `pm_free` and of the checks of a pointer does when it is run alone,
-//! as clauses.
+//! Laws about the code of `pm_new`, of `pm_free` and of the checks of a pointer, run alone, as
+//! clauses.
 
 ghost use Rattle.pm_alloc.specs.Free.{FreeLaw, PointerLaw};
-ghost use Rattle.pm_alloc.specs.New.{NewLaw};
+ghost use Rattle.pm_alloc.specs.New.{NewCodeLaw};
 ghost use Rattle.pm_alloc.specs.Search.{SearchLaw};
 
-/// The code of `pm_new` finds the least free slot in its first step, and loads headers alone for it.
+/// The code of `pm_new` finds the least free slot in its first step, which only loads headers.
 pub fn search_law()
     ensures { SearchLaw }
 {}
 
-/// The code of `pm_new` makes an object in the least free slot, or gives 0 where none is free, in at
-/// most 39 steps, where the log has room.
+/// The code of `pm_new` makes an object in the least free slot, or gives 0 if none is free, in at
+/// most 39 steps, if the log has room.
 pub fn new_law()
-    ensures { NewLaw }
+    ensures { NewCodeLaw }
 {}
 
-/// The checks of a pointer trap as null or stale, or go on with 16 times its slot, in at most 14
+/// The checks of a pointer trap as null or stale, or go on with 16 times its slot, in at most 11
 /// steps.
 pub fn pointer_law()
     ensures { PointerLaw }
 {}
 
-/// The code of `pm_free` traps as the checks do, or sets the header to 0, in at most 17 steps, where
+/// The code of `pm_free` traps as the checks do, or sets the header to 0, in at most 14 steps, if
 /// the log has room.
 pub fn free_law()
     ensures { FreeLaw }

@@ -1,6 +1,7 @@
-//! The machine's code for `pm_new` and `pm_free`, and the checks and stores that they share with all
-//! other code that reaches objects. It stands on `pm_machine` and `pool_layout`. Its one contract for
-//! the crates above: each piece of code is that of its definition, whatever shape it is asked for.
+//! The machine's code for `pm_new` and `pm_free`, and the checks and stores that they share with
+//! all other code that reaches objects. It rests on `pm_machine` and `pool_layout`. Its one
+//! contract for the crates above: each piece of code is that of its definition, whatever shape it
+//! is asked for.
 #![tactic(auto)]
 
 mod checks;
@@ -12,7 +13,7 @@ mod placing;
 mod stores;
 
 pub use checks::{push_index_check, push_pointer_check};
-pub use fragment::{Fragment, FreeShape, NewShape, free_fragment, new_fragment};
+pub use fragment::{FreeShape, NewShape, free_fragment, new_fragment};
 pub use laws::{free_law, new_law, pointer_law, search_law};
 pub use local::{Local, Locals, Reg};
 pub use objects::{push_free, push_new};

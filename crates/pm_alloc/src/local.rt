@@ -1,14 +1,12 @@
-//! Code before it has a place: its jumps are counted from its own start, and its temporary registers
-//! have names of their own.
+//! Code before it has a place: its jumps are counted from its own start, and its temporary
+//! registers have names of their own.
 
-ghost use Rattle.std.specs.Prelude.{[], ◌∷◌, ◌++◌, ◌≡◌, OnOk, OnErr};
+ghost use Rattle.std.specs.Prelude.{◌≡◌};
 ghost use Rattle.pm_alloc.specs.declared.local.Local.TheVariants.{Const, Load};
 
-use nvm_base::BinOp;
-use std::alloc::{AllocError, Global};
-use std::marker::Model;
+use nvm_base::{BinOp, List};
 
-/// A register: one of the function's own, or a temporary one, of which there are eight.
+/// A register: one of the function's own, or one of eight temporary ones.
 #[derive(Clone, Copy, Debug, PartialEq, Eq)]
 pub enum Reg {
     Own(u32),
@@ -32,8 +30,8 @@ pub enum Local {
 }
 
 impl Local {
-    /// `r := value`. A word is handed over by a call, so that it stands in a list of instructions as
-    /// the number that it is.
+    /// `r := value`. The value is passed through a call, so that in a list of instructions it is
+    /// the plain number.
     #[tactic(auto, using(std::proofs::lemmas::Int::wraps))]
     pub fn constant(r: Reg, value: i64) -> Local
         ensures { result ≡ Const r value }
@@ -50,53 +48,5 @@ impl Local {
     }
 }
 
-/// A piece of such code, seen as a list. The piece's length as a jump's target means the instruction
-/// behind it.
-#[derive(Drop)]
-pub struct Locals {
-    all: Vec<Local>,
-}
-
-impl Model for Locals {
-    ghost use Rattle.std.specs.Prelude.{List};
-    ghost use Rattle.pm_alloc.specs.declared.local.Local.{Local};
-
-    ghost Value = { List Local };
-
-    ghost view = { λ l. l.all.items };
-}
-
-impl Locals {
-    /// The empty piece. It takes no memory.
-    pub fn new(alloc: Global) -> Self
-        ensures { result ≡ [] }
-    {
-        Locals {
-            all: Vec::new(alloc),
-        }
-    }
-
-    /// Puts one instruction at the end.
-    pub fn push(&mut self, local: Local) -> Result<(), AllocError>
-        ensures ok { OnOk result (self.new ≡ self.old ++ local ∷ []) }
-        ensures err { OnErr result (self.new ≡ self.old) }
-    {
-        self.all.push(local)?;
-        Ok(())
-    }
-
-    /// Puts several at the end.
-    pub fn extend(&mut self, locals: &[Local]) -> Result<(), AllocError>
-        ensures ok { OnOk result (self.new ≡ self.old ++ locals.now) }
-        ensures err { OnErr result (self.new ≡ self.old) }
-    {
-        self.all.extend_from_slice(locals)?;
-        Ok(())
-    }
-
-    pub fn as_slice(&self) -> &[Local]
-        ensures { result.now ≡ self.now }
-    {
-        &self.all
-    }
-}
+/// A piece of such code. Its length as a jump's target means the instruction after it.
+pub type Locals = List<Local>;

@@ -11,7 +11,7 @@ use nvm_base::BinOp;
 use pool_layout::Sizes;
 use std::alloc::AllocError;
 
-/// Puts zeros into the field words of a new object, whose slot temporary 1 holds 16 times.
+/// Appends zeros for the field words of a new object; temporary 1 holds 16 times its slot.
 #[tactic(auto, using(crate::proofs::Pieces::fill_code_step))]
 fn push_fill(piece: &mut Locals, sizes: &Sizes, logged: bool, words: u32) -> Result<(), AllocError>
     requires { words ≤ 15 }
@@ -24,7 +24,7 @@ fn push_fill(piece: &mut Locals, sizes: &Sizes, logged: bool, words: u32) -> Res
     Ok(())
 }
 
-/// How many instructions the fill has.
+/// The number of instructions of the fill.
 #[tactic(auto, using(crate::proofs::Pieces::fill_code_length))]
 fn fill_length(logged: bool, words: u32) -> u32
     requires { words ≤ 15 }
@@ -34,8 +34,8 @@ fn fill_length(logged: bool, words: u32) -> u32
     if logged { 2 * words } else { words }
 }
 
-/// Puts the search for the least free slot and the store of the header. Temporary 0 is the slot,
-/// temporary 1 is 16 times it; where no slot is free the code goes behind the fill, with no store.
+/// Appends the search for the least free slot and the store of the header. Temporary 0 is the slot,
+/// temporary 1 is 16 times it; if no slot is free the code jumps past the fill, with no store.
 fn push_search(piece: &mut Locals, sizes: &Sizes, kind: u32, fill: u32) -> Result<(), AllocError>
     requires { fill ≤ 30 }
     ensures { OnOk result (piece.new ≡ piece.old ++ new_head sizes.now kind fill) }
@@ -53,8 +53,8 @@ fn push_search(piece: &mut Locals, sizes: &Sizes, kind: u32, fill: u32) -> Resul
     ])
 }
 
-/// Puts the search, the logged store of the header, and the fill, each of whose stores is logged
-/// where `logged` says so.
+/// Appends the search, the logged store of the header, and the fill, whose stores are logged if
+/// `logged` is true.
 #[tactic(auto, using(crate::proofs::Pieces::new_code_parts))]
 fn push_object(
     piece: &mut Locals,
@@ -72,8 +72,8 @@ fn push_object(
     piece.push(Local::Mov(Reg::Own(to), Reg::Temp(0)))
 }
 
-/// Puts the code of a `pm_new` of a struct with so many words, at the start of a piece. No slot has
-/// room for more than 15 words: the code of such a struct is a trap.
+/// Appends the code of a `pm_new` of a struct with so many words, at the start of a piece. No slot
+/// has room for more than 15 words: the code of such a struct is a trap.
 pub fn push_new(
     piece: &mut Locals,
     sizes: &Sizes,
@@ -90,8 +90,8 @@ pub fn push_new(
     push_object(piece, sizes, to, kind, words as u32, logged)
 }
 
-/// Puts the code of a `pm_free`, at the start of a piece: the checks of the pointer, and a logged
-/// store of 0 to the header.
+/// Appends the code of a `pm_free`, at the start of a piece: the checks of the pointer, and a
+/// logged store of 0 to the header.
 pub fn push_free(piece: &mut Locals, sizes: &Sizes, from: u32, kind: u32) -> Result<(), AllocError>
     ensures { OnOk result (piece.new ≡ piece.old ++ free_code sizes.now from kind) }
 {

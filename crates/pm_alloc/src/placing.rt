@@ -1,4 +1,4 @@
-//! A piece of code at a place of a function, with its temporary registers behind the function's own.
+//! A piece of code at a place of a function, with its temporary registers after the function's own.
 
 ghost use Rattle.std.specs.Prelude.{◌≡◌, ◌++◌, ◌∷◌, [], map, OnOk};
 ghost use Rattle.pm_alloc.specs.Placing as placing;
@@ -7,7 +7,7 @@ use crate::local::{Local, Reg};
 use pm_machine::{Code, Op};
 use std::alloc::AllocError;
 
-/// The sum, or the last number where there is no room for it.
+/// The sum, or the last number if it doesn't fit.
 pub fn sum(a: u32, b: u32) -> u32
     ensures { result ≡ placing.sum a b }
 {
@@ -15,7 +15,7 @@ pub fn sum(a: u32, b: u32) -> u32
 }
 
 fn number(base: u32, register: Reg) -> u32
-    ensures { result ≡ placing.number base register }
+    ensures { result ≡ placing.register_number base register }
 {
     match register {
         Reg::Own(r) => r,
@@ -23,8 +23,8 @@ fn number(base: u32, register: Reg) -> u32
     }
 }
 
-/// An instruction at its place: jumps are moved by `place`, and the temporary registers stand from
-/// `base` on.
+/// An instruction at its place: jumps are moved by `place`, and the temporary registers begin at
+/// `base`.
 #[tactic(auto, using(std::proofs::lemmas::Int::wraps))]
 fn placed(base: u32, place: u32, local: Local) -> Op
     ensures { result ≡ placing.placed base place local }
@@ -69,7 +69,7 @@ fn placed(base: u32, place: u32, local: Local) -> Op
     }
 }
 
-/// Puts a piece at the end of a function's code, where that is place `place`.
+/// Appends a piece to a function's code, whose end is place `place`.
 pub fn push_placed(
     code: &mut Code,
     base: u32,

@@ -1,4 +1,4 @@
-//! A store with its log or without, and where the words of an object stand.
+//! A store with or without its log, and the places of an object's words.
 
 ghost use Rattle.std.specs.Prelude.{◌≡◌, ◌≤◌, ◌^◌, ◌++◌, OnOk};
 ghost use Rattle.pm_alloc.specs.Pieces.{store_code, offset};
@@ -15,7 +15,7 @@ pub fn field_offset(sizes: &Sizes, word: u32) -> i64
     (slot_word(sizes, 1) + u64::from(word)) as i64 - 16
 }
 
-/// Puts a store of `from` at `to + offset`, with its log right before it where it is logged.
+/// Appends a store of `from` at `to + offset`, right after its log if it is logged.
 #[tactic(auto, using(std::proofs::lemmas::Int::wraps))]
 pub fn push_store(
     piece: &mut Locals,

@@ -1,4 +1,4 @@
--- The dirty lines: those that were stored to, but for the first ones, which are flushed.
+-- The dirty lines: those that were stored to, without the first ones, which are flushed.
 use Rattle.std.proofs.Common.{◌≡◌, ℕ, zero, suc, ◌+◌, List, [], ◌∷◌, drop, refl, ◌∙◌}
 use Rattle.std.specs.Prelude.{slice_get, remove}
 use Rattle.std.proofs.lemmas.List.{drop-drop}

@@ -8,7 +8,8 @@ use Rattle.pool_layout.specs.Sizes.{heap_words}
 use Rattle.pm_machine.specs.declared.effect.Effect.{Effect}
 use Rattle.pm_machine.specs.Effects.{events_of, heap_past}
 use Rattle.pm_machine.specs.Known.{AreInUse, AreInUseOn}
-use Rattle.pm_machine.specs.Runs.{heap_in, IsInRange}
+use Rattle.pm_machine.specs.Runs.{heap_in}
+use Rattle.pm_machine.specs.inside.Runs.{IsInRange}
 use Rattle.pm_machine.proofs.Dues.{heap_played}
 use Rattle.pm_machine.proofs.Leads.{all_cache}
 

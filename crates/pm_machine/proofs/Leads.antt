@@ -1,4 +1,5 @@
--- The loop of a run: what is left leads where all of it leads.
+-- The loop of a run: playing the remaining events gives what playing all of them gives from the
+-- start.
 use Rattle.std.proofs.Common.{◌≡◌, ℕ, suc, ◌+◌, ◌-◌, ◌<◌, ◌≤◌, List, [], ◌∷◌, Some, None, refl, sym, ap, ◌∙◌, subst, arith}
 use Rattle.cache_model.specs.Event.{CacheEvent}
 use Rattle.cache_model.specs.Cache.{Cache}
@@ -13,8 +14,9 @@ use Rattle.pm_machine.specs.declared.machine.Progress.{Progress}
 use Rattle.pm_machine.specs.declared.machine.Progress.TheVariants.{Did, Ended}
 use Rattle.pm_machine.specs.declared.image.Image.{Image}
 use Rattle.pm_machine.specs.Effects.{events_of, records_past}
-use Rattle.pm_machine.specs.Machine.{State, Outcome, Goes, Ends, decide, tally, step}
-use Rattle.pm_machine.specs.Runs.{heap_in, outcome_of, effect_of, effect_in, Due, before, owing, due, Leads}
+use Rattle.pm_machine.specs.Machine.{State, StepOutcome, Goes, Ends, decide, tally, step}
+use Rattle.pm_machine.specs.Runs.{heap_in, outcome_of, effect_of, effect_in, Due, due_before, owing, due}
+use Rattle.pm_machine.specs.inside.Runs.{DueLeads}
 
 pub all_cache : (es : List CacheEvent) (d b : Device) → PlaysAll d es b → b.cache ≡ play d.cache es
 all_cache [] d b all = ap (λ (x : Device). x.cache) all
@@ -24,7 +26,9 @@ pub all_on : (es : List CacheEvent) (d b : Device) → PlaysAll d es b → b.on 
 all_on [] d b all = ap (λ (x : Device). x.on) all
 all_on (e ∷ es) d b all = all_on es (spent d e) b all.1
 
-leads_next : (d : Device) (k : ℕ) (es : List CacheEvent) (x : Due) (d0 : Device) (k0 : ℕ) (x0 : Due) (b : Device) → PlaysAll d es b → Leads d k (before es x) d0 k0 x0 → Leads b (k + 1) x d0 k0 x0
+leads_next : (d : Device) (k : ℕ) (es : List CacheEvent) (x : Due) (d0 : Device) (k0 : ℕ) (x0 : Due)
+    (b : Device) → PlaysAll d es b → DueLeads d k (due_before es x) d0 k0 x0
+    → DueLeads b (k + 1) x d0 k0 x0
 leads_next d k es x d0 k0 x0 b all h = record {
   fate = h.fate;
   whole = λ c p. h.whole c (all_append es x.events d b c all p);
@@ -33,12 +37,13 @@ leads_next d k es x d0 k0 x0 b all h = record {
   records = h.records;
 }
 
--- a step of the loop, with m steps left
-module _ (image : Image) (a m n : ℕ) (s : State) (d : Device) (k : ℕ) (d0 : Device) (k0 : ℕ) (x0 : Due) where
+-- one step of the loop, with m steps left
+module _ (image : Image) (a m n : ℕ) (s : State) (d : Device) (k : ℕ) (d0 : Device) (k0 : ℕ)
+    (x0 : Due) where
   abbrev Left : ℕ → Type 0
-  Left m = Leads d k (due image a m n s d.cache) d0 k0 x0
+  Left m = DueLeads d k (due image a m n s d.cache) d0 k0 x0
 
-  abbrev taken : Outcome
+  abbrev taken : StepOutcome
   taken = step image n s (heap_in image.parts.sizes d.cache)
 
   abbrev events : Effect → List CacheEvent
@@ -48,49 +53,68 @@ module _ (image : Image) (a m n : ℕ) (s : State) (d : Device) (k : ℕ) (d0 : 
   rest e t = due image a (m - 1) (records_past n e) t (play d.cache (events e))
 
   -- m isn't 0, and the step is known
-  opened : (o : Outcome) → 0 < m → Left m → o ≡ taken → Leads d k (owing n events rest o) d0 k0 x0
+  opened : (o : StepOutcome) → 0 < m → Left m → o ≡ taken
+      → DueLeads d k (owing n events rest o) d0 k0 x0
   opened o some h is =
       let e : m ≡ suc (m - 1) = omega arith in
-      subst (λ (o : Outcome). Leads d k (owing n events rest o) d0 k0 x0) (sym is) (subst Left e h)
+      subst (λ (o : StepOutcome). DueLeads d k (owing n events rest o) d0 k0 x0) (sym is)
+      (subst Left e h)
 
   pub leads_did : (p : Progress) (e : Effect) (t : State) (b : Device) (k1 : ℕ) →
-      p ≡ Did e → outcome_of p t ≡ taken → PlaysAll d (events (effect_of p)) b → k1 ≡ k + 1 → 0 < m → Left m →
-      Leads b k1 (due image a (m - 1) (records_past n e) t b.cache) d0 k0 x0 × (b.on ≡ d.on)
+      p ≡ Did e → outcome_of p t ≡ taken → PlaysAll d (events (effect_of p)) b → k1 ≡ k + 1 → 0 < m
+      → Left m →
+      DueLeads b k1 (due image a (m - 1) (records_past n e) t b.cache) d0 k0 x0 × (b.on ≡ d.on)
   leads_did p e t b k1 did is played tick some h =
       let o : Goes e t ≡ taken = ap (λ (p : Progress). outcome_of p t) (sym did) ∙ is in
-      let all : PlaysAll d (events e) b = subst (λ (p : Progress). PlaysAll d (events (effect_of p)) b) did played in (
-        subst (λ (c : Cache). Leads b k1 (due image a (m - 1) (records_past n e) t c) d0 k0 x0) (sym (all_cache (events e) d b all))
-            (subst (λ (i : ℕ). Leads b i (rest e t) d0 k0 x0) (sym tick) (leads_next d k (events e) (rest e t) d0 k0 x0 b all (opened (Goes e t) some h o))),
+      let all : PlaysAll d (events e) b =
+      subst (λ (p : Progress). PlaysAll d (events (effect_of p)) b) did played in (
+        subst (λ (c : Cache). DueLeads b k1 (due image a (m - 1) (records_past n e) t c) d0 k0 x0)
+            (sym (all_cache (events e) d b all))
+            (subst (λ (i : ℕ). DueLeads b i (rest e t) d0 k0 x0) (sym tick)
+            (leads_next d k (events e) (rest e t) d0 k0 x0 b all (opened (Goes e t) some h o))),
         all_on (events e) d b all,
       )
 
   pub leads_ended : (p : Progress) (end : End) (t : State) (b : Device) (k1 : ℕ) →
-      p ≡ Ended end → outcome_of p t ≡ taken → PlaysAll d (events (effect_of p)) b → k1 ≡ k + 1 → 0 < m → Left m →
+      p ≡ Ended end → outcome_of p t ≡ taken → PlaysAll d (events (effect_of p)) b → k1 ≡ k + 1
+      → 0 < m → Left m →
       (x0.fate ≡ Some end) × PlaysAll d0 x0.events b × (k1 ≡ k0 + x0.steps) × (x0.records ≡ n)
   leads_ended p end t b k1 ended is played tick some h =
       let o : Ends end ≡ taken = ap (λ (p : Progress). outcome_of p t) (sym ended) ∙ is in
-      let all : PlaysAll d [] b = subst (λ (p : Progress). PlaysAll d (events (effect_of p)) b) ended played in
+      let all : PlaysAll d [] b = subst (λ (p : Progress). PlaysAll d (events (effect_of p)) b)
+      ended played in
       let l = opened (Ends end) some h o in
       let same : k + 1 ≡ k0 + x0.steps = l.steps in
       (sym l.fate, l.whole b all, tick ∙ same, sym l.records)
 
   -- no step is left
-  pub leads_over : m ≡ 0 → Left m → (x0.fate ≡ None) × PlaysAll d0 x0.events d × (k ≡ k0 + x0.steps) × (x0.records ≡ n)
+  pub leads_over : m ≡ 0 → Left m → (x0.fate ≡ None) × PlaysAll d0 x0.events d × (k ≡ k0 + x0.steps)
+      × (x0.records ≡ n)
   leads_over none h =
       let l = subst Left none h in
       let same : k + 0 ≡ k0 + x0.steps = l.steps in
       (sym l.fate, l.whole d refl, omega arith, sym l.records)
 
-  -- the count of LOGs leaves the effect
-  tally_effect : (o : Outcome) → effect_in (tally o) ≡ effect_in o
+  -- the count of LOGs doesn't change the effect
+  tally_effect : (o : StepOutcome) → effect_in (tally o) ≡ effect_in o
   tally_effect (Goes e t) = refl
   tally_effect (Ends end) = refl
 
-  pub leads_refused : (why : Refusal) (b : Device) (k1 : ℕ) → PlaysPart why d (events (effect_in (decide image n s (heap_in image.parts.sizes d.cache)))) b → k1 ≡ k + 1 → 0 < m → Left m →
+  pub leads_refused : (why : Refusal) (b : Device) (k1 : ℕ)
+      → PlaysPart why d (events (effect_in (decide image n s (heap_in image.parts.sizes d.cache))))
+      b
+      → k1 ≡ k + 1 → 0 < m → Left m →
       PlaysPart why d0 x0.events b × (k1 ≤ k0 + x0.steps)
   leads_refused why b k1 part tick some h =
-      go taken (subst (λ (e : Effect). PlaysPart why d (events e) b) (sym (tally_effect (decide image n s (heap_in image.parts.sizes d.cache)))) part) (opened taken some h refl)
+      go taken (subst (λ (e : Effect). PlaysPart why d (events e) b)
+      (sym (tally_effect (decide image n s (heap_in image.parts.sizes d.cache)))) part)
+      (opened taken some h refl)
     where
-      go : (o : Outcome) → PlaysPart why d (events (effect_in o)) b → Leads d k (owing n events rest o) d0 k0 x0 → PlaysPart why d0 x0.events b × (k1 ≤ k0 + x0.steps)
-      go (Goes e t) part l = (l.part why b (part_left (events e) (rest e t).events why d b part), let q = l.steps in omega arith)
+      go : (o : StepOutcome) → PlaysPart why d (events (effect_in o)) b
+          → DueLeads d k (owing n events rest o) d0 k0 x0 → PlaysPart why d0 x0.events b
+          × (k1 ≤ k0 + x0.steps)
+      go (Goes e t) part l = (
+        l.part why b (part_left (events e) (rest e t).events why d b part),
+        let q = l.steps in omega arith,
+      )
       go (Ends end) part l = absurd part

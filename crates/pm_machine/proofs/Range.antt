@@ -1,4 +1,5 @@
--- A step's effect is in range, dirty lines are lines of the heap, and there are no more records than the log holds.
+-- The effect of a step is in range, dirty lines are lines of the heap, and there are no more
+-- records than the log holds.
 use Rattle.std.proofs.Common.{◌≡◌, ℕ, zero, suc, ◌+◌, ◌-◌, ◌*◌, ◌/◌, ◌<◌, ◌≤◌, ◌++◌, ◌==◌, if◌then◌else◌, Bool, true, false, List, [], ◌∷◌, drop, length, slice_get, Option, Some, None, ℤ, pos, ltb, w64, ◌+ℤ◌, refl, sym, ap, ◌∙◌, subst, arith, nat_eq}
 use Rattle.std.specs.List.{list_any}
 use Rattle.std.specs.Ordering.{int_eq}
@@ -19,11 +20,12 @@ use Rattle.pm_machine.specs.declared.effect.End.TheVariants.{Trapped}
 use Rattle.pm_machine.specs.declared.machine.Progress.{Progress}
 use Rattle.pm_machine.specs.declared.machine.Progress.TheVariants.{Did}
 use Rattle.pm_machine.specs.Effects.{records_past}
-use Rattle.pm_machine.specs.Machine.{State, Outcome, Goes, Ends, step, decide, tally, act, fetch, read, load, store, log, flush, call, return, target, moved, passed, spent, entered, index_of, inside}
+use Rattle.pm_machine.specs.Machine.{State, StepOutcome, Goes, Ends, step, decide, tally, execute, fetch, read_register, load, store, log, flush, call, return, target, moved_to, passed, tick_spent, entered, address_index, word_inside}
 use Rattle.pm_machine.specs.Find.{tried, looks}
-use Rattle.pm_machine.specs.Runs.{AreLines, IsInRange, Keeps, outcome_of}
+use Rattle.pm_machine.specs.Runs.{AreLines, outcome_of}
+use Rattle.pm_machine.specs.inside.Runs.{IsInRange, StepKeeps}
 
-pub inside_below : (H w : ℕ) (o : Option ℕ) → inside H o ≡ Some w → w < H
+pub inside_below : (H w : ℕ) (o : Option ℕ) → word_inside H o ≡ Some w → w < H
 inside_below H w None is = absurd (cc)
 inside_below H w (Some v) is = go (ltb v H) refl is
   where
@@ -48,21 +50,23 @@ lines_push : (H : ℕ) (ls : List ℕ) (l : ℕ) → AreLines H ls → 8 * l < H
 lines_push H [] l lines lt = (lt, tt)
 lines_push H (k ∷ ks) l lines lt = (lines.0, lines_push H ks l lines.1 lt)
 
-lines_insert : (H : ℕ) (ls : List ℕ) (l : ℕ) → AreLines H ls → 8 * l < H → AreLines H (insert_key nat_eq ls l)
+lines_insert : (H : ℕ) (ls : List ℕ) (l : ℕ) → AreLines H ls → 8 * l < H
+    → AreLines H (insert_key nat_eq ls l)
 lines_insert H ls l lines lt = go (list_any (nat_eq l) ls)
   where
     go : (b : Bool) → AreLines H (if b then ls else ls ++ l ∷ [])
     go true = lines
     go false = lines_push H ls l lines lt
 
-module _ (image : Image) (heap : Words) (n : ℕ) (s : State) (lines : AreLines (heap_words image.parts.sizes) s.dirty) where
+module _ (image : Image) (heap : Words) (n : ℕ) (s : State)
+    (lines : AreLines (heap_words image.parts.sizes) s.dirty) where
   abbrev H : ℕ
   H = heap_words image.parts.sizes
 
   abbrev C : ℕ
   C = image.parts.sizes.records
 
-  abbrev Kept : Outcome → Type 0
+  abbrev Kept : StepOutcome → Type 0
   Kept (Goes e t) = IsInRange C H n e × AreLines H t.dirty × (t.logged ≡ s.logged)
   Kept (Ends end) = Unit {0}
 
@@ -72,13 +76,15 @@ module _ (image : Image) (heap : Words) (n : ℕ) (s : State) (lines : AreLines 
 
   keeps_store : (x : ℤ) (p : Option ℕ) → ((w : ℕ) → p ≡ Some w → w < H) → Kept (store s x p)
   keeps_store x None below = (tt, lines, refl)
-  keeps_store x (Some w) below = let lt : w < H = below w refl in (lt, lines_insert H s.dirty (w / 8) lines (omega arith), refl)
+  keeps_store x (Some w) below = let lt : w < H = below w refl in
+      (lt, lines_insert H s.dirty (w / 8) lines (omega arith), refl)
 
   keeps_log : (p : Option ℕ) → ((w : ℕ) → p ≡ Some w → w < H) → Kept (log C n s p)
   keeps_log None below = (tt, lines, refl)
   keeps_log (Some w) below = go (ltb n C) refl
     where
-      go : (b : Bool) → ltb n C ≡ b → Kept (if b then Goes (Logs w) (passed s) else Ends (Trapped trap.LogFull))
+      go : (b : Bool) → ltb n C ≡ b →
+          Kept (if b then Goes (Logs w) (passed s) else Ends (Trapped trap.LogFull))
       go true is = ((below w refl, ltb-true n C is), lines, refl)
       go false is = tt
 
@@ -91,7 +97,8 @@ module _ (image : Image) (heap : Words) (n : ℕ) (s : State) (lines : AreLines 
   keeps_call : (r f : ℕ) (args : List ℕ) → Kept (call s r f args)
   keeps_call r f args = go (ltb (length s.below + 1) 256)
     where
-      go : (b : Bool) → Kept (if b then Goes Quiet (entered s r f args) else Ends (Trapped trap.Depth))
+      go : (b : Bool) → Kept (if b then Goes Quiet (entered s r f args)
+          else Ends (Trapped trap.Depth))
       go true = (tt, lines, refl)
       go false = tt
 
@@ -99,30 +106,37 @@ module _ (image : Image) (heap : Words) (n : ℕ) (s : State) (lines : AreLines 
   keeps_return v None = tt
   keeps_return v (Some caller) = (tt, lines, refl)
 
-  keeps_tick : (b : Bool) → Kept (if b then Ends (Trapped trap.Steps) else Goes Quiet (spent s))
+  keeps_tick : (b : Bool) → Kept (if b then Ends (Trapped trap.Steps)
+      else Goes Quiet (tick_spent s))
   keeps_tick true = tt
   keeps_tick false = (tt, lines, refl)
 
-  keeps_branch : (t : ℕ) (b : Bool) → Kept (Goes Quiet (if b then moved s t else passed s))
+  keeps_branch : (t : ℕ) (b : Bool) → Kept (Goes Quiet (if b then moved_to s t else passed s))
   keeps_branch t true = (tt, lines, refl)
   keeps_branch t false = (tt, lines, refl)
 
-  keeps_act : (i : Option Op) → Kept (act image heap n s i)
+  keeps_act : (i : Option Op) → Kept (execute image heap n s i)
   keeps_act None = tt
-  keeps_act (Some (Jz a t)) = keeps_branch t (int_eq (read s a) (pos 0))
-  keeps_act (Some (Load r a o)) = keeps_load r (target image s a o) (λ w. inside_below H w (index_of (int_wrap w64 (read s a +ℤ o))))
-  keeps_act (Some (Store a o b)) = keeps_store (read s b) (target image s a o) (λ w. inside_below H w (index_of (int_wrap w64 (read s a +ℤ o))))
+  keeps_act (Some (Jz a t)) = keeps_branch t (int_eq (read_register s a) (pos 0))
+  keeps_act (Some (Load r a o)) =
+      keeps_load r (target image s a o)
+      (λ w. inside_below H w (address_index (int_wrap w64 (read_register s a +ℤ o))))
+  keeps_act (Some (Store a o b)) =
+      keeps_store (read_register s b) (target image s a o)
+      (λ w. inside_below H w (address_index (int_wrap w64 (read_register s a +ℤ o))))
   keeps_act (Some (Find r)) = (looks_within image.parts.sizes heap, lines, refl)
-  keeps_act (Some (Log a o)) = keeps_log (target image s a o) (λ w. inside_below H w (index_of (int_wrap w64 (read s a +ℤ o))))
+  keeps_act (Some (Log a o)) = keeps_log (target image s a o)
+      (λ w. inside_below H w (address_index (int_wrap w64 (read_register s a +ℤ o))))
   keeps_act (Some Flush) = keeps_flush s.dirty refl
   keeps_act (Some (Call r f args)) = keeps_call r f args
-  keeps_act (Some (Ret a)) = keeps_return (read s a) (slice_get s.below (length s.below - 1))
+  keeps_act (Some (Ret a)) = keeps_return (read_register s a)
+      (slice_get s.below (length s.below - 1))
   keeps_act (Some Tick) = keeps_tick (s.ticks == 0)
   keeps_act (Some (Trap k)) = tt
   keeps_act (Some (Halt a)) = tt
   keeps_act (Some i) = (tt, lines, refl)
 
-  keeps_tally : (o : Outcome) → Kept o → Keeps C H n s.logged (tally o)
+  keeps_tally : (o : StepOutcome) → Kept o → StepKeeps C H n s.logged (tally o)
   keeps_tally (Ends end) keeps = tt
   keeps_tally (Goes (Loads w) t) keeps = keeps
   keeps_tally (Goes (Scans w m) t) keeps = keeps
@@ -132,10 +146,13 @@ module _ (image : Image) (heap : Words) (n : ℕ) (s : State) (lines : AreLines 
   keeps_tally (Goes Fences t) keeps = keeps
   keeps_tally (Goes Quiet t) keeps = keeps
 
-pub keeps_step : (image : Image) (heap : Words) (n : ℕ) (s : State) (o : Outcome) → AreLines (heap_words image.parts.sizes) s.dirty → o ≡ step image n s heap → Keeps image.parts.sizes.records (heap_words image.parts.sizes) n s.logged o
+pub keeps_step : (image : Image) (heap : Words) (n : ℕ) (s : State) (o : StepOutcome)
+    → AreLines (heap_words image.parts.sizes) s.dirty → o ≡ step image n s heap
+    → StepKeeps image.parts.sizes.records (heap_words image.parts.sizes) n s.logged o
 keeps_step image heap n s o lines is =
-    subst (Keeps image.parts.sizes.records (heap_words image.parts.sizes) n s.logged) (sym is)
-    (keeps_tally image heap n s lines (decide image n s heap) (keeps_act image heap n s lines (fetch image s)))
+    subst (StepKeeps image.parts.sizes.records (heap_words image.parts.sizes) n s.logged) (sym is)
+    (keeps_tally image heap n s lines (decide image n s heap)
+    (keeps_act image heap n s lines (fetch image s)))
 
 pub range_progress :
     (image : Image) (heap : Words) (n : ℕ) (s : State) (p : Progress) (e : Effect) (t : State) →
@@ -143,12 +160,18 @@ pub range_progress :
     outcome_of p t ≡ decide image n s heap →
     IsInRange image.parts.sizes.records (heap_words image.parts.sizes) n e
 range_progress image heap n s p e t lines did is =
-    (subst (Kept image heap n s lines) (sym (ap (λ (p : Progress). outcome_of p t) (sym did) ∙ is)) (keeps_act image heap n s lines (fetch image s))).0
+    (subst (Kept image heap n s lines) (sym (ap (λ (p : Progress). outcome_of p t) (sym did) ∙ is))
+    (keeps_act image heap n s lines (fetch image s))).0
 
-pub keeps_progress : (image : Image) (heap : Words) (n : ℕ) (s : State) (p : Progress) (e : Effect) (t : State) → AreLines (heap_words image.parts.sizes) s.dirty → p ≡ Did e → outcome_of p t ≡ step image n s heap → Keeps image.parts.sizes.records (heap_words image.parts.sizes) n s.logged (Goes e t)
-keeps_progress image heap n s p e t lines did is = keeps_step image heap n s (Goes e t) lines (ap (λ (p : Progress). outcome_of p t) (sym did) ∙ is)
+pub keeps_progress : (image : Image) (heap : Words) (n : ℕ) (s : State) (p : Progress) (e : Effect)
+    (t : State) → AreLines (heap_words image.parts.sizes) s.dirty → p ≡ Did e
+    → outcome_of p t ≡ step image n s heap
+    → StepKeeps image.parts.sizes.records (heap_words image.parts.sizes) n s.logged (Goes e t)
+keeps_progress image heap n s p e t lines did is =
+    keeps_step image heap n s (Goes e t) lines
+    (ap (λ (p : Progress). outcome_of p t) (sym did) ∙ is)
 
--- the records behind an effect fit the log
+-- the records after an effect fit the log
 pub records_fit : (C H n : ℕ) (e : Effect) → IsInRange C H n e → n ≤ C → records_past n e ≤ C
 records_fit C H n (Loads w) fits le = le
 records_fit C H n (Scans w m) fits le = le
@@ -158,8 +181,9 @@ records_fit C H n (Flushes l) fits le = le
 records_fit C H n Fences fits le = le
 records_fit C H n Quiet fits le = le
 
--- one more LOG is one more record
-pub logged_fit : (k n c m : ℕ) (e : Effect) → k + c ≡ n + m → records_past k e + c ≡ records_past n e + m
+-- one more LOG makes one more record
+pub logged_fit : (k n c m : ℕ) (e : Effect) → k + c ≡ n + m
+    → records_past k e + c ≡ records_past n e + m
 logged_fit k n c m (Loads w) same = same
 logged_fit k n c m (Scans w h) same = same
 logged_fit k n c m (Stores w x) same = same

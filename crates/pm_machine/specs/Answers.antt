@@ -1,39 +1,24 @@
--- What a step and a run answer: what the definition says, with its events played, or the refusal of one of them.
-use Rattle.std.specs.Prelude.{ℕ, ◌+◌, ◌≡◌, List, Result, Ok, Err}
+-- The answers of a step and a run: what the definition says, with its events played, or the refusal
+-- of one of them.
+use Rattle.std.specs.Prelude.{ℕ, ◌+◌, ◌≡◌, List}
 use Rattle.pmem.specs.Device.{Device}
 use Rattle.pmem.specs.Played.{PlaysAll, PlaysPart}
-use Rattle.pmem.specs.declared.answer.Refusal.{Refusal}
 use Rattle.pmem.specs.declared.answer.Refusal.TheVariants as refusal
 use Rattle.cache_model.specs.Event.{CacheEvent}
 use Rattle.pm_machine.specs.declared.effect.Effect.{Effect}
 use Rattle.pm_machine.specs.declared.effect.End.{End}
 use Rattle.pm_machine.specs.declared.effect.End.TheVariants as end
-use Rattle.pm_machine.specs.declared.machine.Progress.{Progress}
-use Rattle.pm_machine.specs.declared.machine.Progress.TheVariants.{Did, Ended}
 use Rattle.pm_machine.specs.declared.answer.StepAnswer.{StepAnswer}
 use Rattle.pm_machine.specs.declared.answer.StepAnswer.TheVariants as step
 use Rattle.pm_machine.specs.declared.answer.RunAnswer.{RunAnswer}
 use Rattle.pm_machine.specs.declared.answer.RunAnswer.TheVariants as run
-use Rattle.pm_machine.specs.Machine.{State, Outcome, Goes, Ends}
+use Rattle.pm_machine.specs.Machine.{State, StepOutcome, Goes, Ends}
 use Rattle.pm_machine.specs.Runs.{Due, end_of, effect_in}
 
-abbrev pub step_answer : Result Progress Refusal → StepAnswer
-step_answer (Ok (Did e)) = step.Next
-step_answer (Ok (Ended (end.Halted v))) = step.Halted v
-step_answer (Ok (Ended (end.Trapped k))) = step.Trapped k
-step_answer (Err refusal.Off) = step.Off
-step_answer (Err refusal.Failed) = step.Failed
-step_answer (Err refusal.NoMemory) = step.NoMemory
-
-abbrev pub run_answer : Result End Refusal → RunAnswer
-run_answer (Ok (end.Halted v)) = run.Halted v
-run_answer (Ok (end.Trapped k)) = run.Trapped k
-run_answer (Err refusal.Off) = run.Off
-run_answer (Err refusal.Failed) = run.Failed
-run_answer (Err refusal.NoMemory) = run.NoMemory
-
--- A step that is due, of outcome o, was answered, on a device d that is b behind it; the machine is then t.
-abbrev pub Stepped : StepAnswer → Outcome → (Effect → List CacheEvent) → State → Device → Device → Type 0
+-- The answer of a due step with outcome o, on a device that is d before and b after it; the
+-- machine's state is then t.
+abbrev pub Stepped : StepAnswer → StepOutcome → (Effect → List CacheEvent) → State → Device
+    → Device → Type 0
 Stepped step.Next o events t d b = (o ≡ Goes (effect_in o) t) × PlaysAll d (events (effect_in o)) b
 Stepped (step.Halted v) o events t d b = (o ≡ Ends (end.Halted v)) × (b ≡ d)
 Stepped (step.Trapped k) o events t d b = (o ≡ Ends (end.Trapped k)) × (b ≡ d)
@@ -41,18 +26,19 @@ Stepped step.Off o events t d b = PlaysPart refusal.Off d (events (effect_in o))
 Stepped step.Failed o events t d b = PlaysPart refusal.Failed d (events (effect_in o)) b
 Stepped step.NoMemory o events t d b = PlaysPart refusal.NoMemory d (events (effect_in o)) b
 
--- A run that is due, with n records at its start, came to this end: all its events were played, the counter rose by its steps
--- from k to k1, and the machine's count of LOGs rose from l to l1 by its records.
+-- A due run, with n records at its start, came to this end: all its events were played, the step
+-- counter rose from k to k1 by its steps, and the machine's count of LOGs rose from l to l1 by its
+-- records.
 pub record HasRun (e : End) (x : Due) (n : ℕ) (d b : Device) (k k1 l l1 : ℕ) : Type 0 where
   pub fate : end_of x.fate ≡ e
   pub played : PlaysAll d x.events b
   pub steps : k1 ≡ k + x.steps
   pub logged : l1 + n ≡ x.records + l
 
--- A run that is due was answered.
-abbrev pub Ran : RunAnswer → Due → ℕ → (d b : Device) → (k k1 l l1 : ℕ) → Type 0
-Ran (run.Halted v) x n d b k k1 l l1 = HasRun (end.Halted v) x n d b k k1 l l1
-Ran (run.Trapped t) x n d b k k1 l l1 = HasRun (end.Trapped t) x n d b k k1 l l1
-Ran run.Off x n d b k k1 l l1 = PlaysPart refusal.Off d x.events b
-Ran run.Failed x n d b k k1 l l1 = PlaysPart refusal.Failed d x.events b
-Ran run.NoMemory x n d b k k1 l l1 = PlaysPart refusal.NoMemory d x.events b
+-- The answer of a due run.
+abbrev pub RunAnswered : RunAnswer → Due → ℕ → (d b : Device) → (k k1 l l1 : ℕ) → Type 0
+RunAnswered (run.Halted v) x n d b k k1 l l1 = HasRun (end.Halted v) x n d b k k1 l l1
+RunAnswered (run.Trapped t) x n d b k k1 l l1 = HasRun (end.Trapped t) x n d b k k1 l l1
+RunAnswered run.Off x n d b k k1 l l1 = PlaysPart refusal.Off d x.events b
+RunAnswered run.Failed x n d b k k1 l l1 = PlaysPart refusal.Failed d x.events b
+RunAnswered run.NoMemory x n d b k k1 l l1 = PlaysPart refusal.NoMemory d x.events b

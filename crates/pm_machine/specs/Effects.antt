@@ -1,5 +1,5 @@
--- The effects of the machine's steps: what each does to the heap, how many records it appends, and which events of the
--- device it is.
+-- The effects of the machine's steps: what each does to the heap, how many records it appends, and
+-- which events of the device it plays.
 use Rattle.std.specs.Prelude.{ℕ, suc, ◌+◌, List, [], ◌∷◌, ◌++◌}
 use Rattle.cache_model.specs.Event.{CacheEvent, Store, Flush, Fence}
 use Rattle.cache_model.specs.Cache.{Words, put}
@@ -10,7 +10,7 @@ use Rattle.clobber_log.specs.Record.{record_events}
 use Rattle.pm_machine.specs.declared.effect.Effect.{Effect}
 use Rattle.pm_machine.specs.declared.effect.Effect.TheVariants.{Loads, Scans, Stores, Logs, Flushes, Fences, Quiet}
 
--- the heap behind a step
+-- the heap after a step
 abbrev pub heap_past : Words → Effect → Words
 heap_past heap (Loads w) = heap
 heap_past heap (Scans w m) = heap
@@ -20,12 +20,12 @@ heap_past heap (Flushes l) = heap
 heap_past heap Fences = heap
 heap_past heap Quiet = heap
 
--- the heap behind a run
+-- the heap after a run
 abbrev pub heap_end : Words → List Effect → Words
 heap_end heap [] = heap
 heap_end heap (e ∷ es) = heap_end (heap_past heap e) es
 
--- how many records there are behind a step, where n were there before
+-- the number of records after a step that began with n
 abbrev pub records_past : ℕ → Effect → ℕ
 records_past n (Loads w) = n
 records_past n (Scans w m) = n
@@ -35,7 +35,7 @@ records_past n (Flushes l) = n
 records_past n Fences = n
 records_past n Quiet = n
 
--- how many records there are behind a run
+-- the number of records after a run
 abbrev pub records_end : ℕ → List Effect → ℕ
 records_end n [] = n
 records_end n (e ∷ es) = records_end (records_past n e) es
@@ -53,4 +53,5 @@ events_of s a n heap Quiet = []
 -- the events of a run: those of this step, then those of the rest
 abbrev pub events_all : Sizes → (a n : ℕ) → Words → List Effect → List CacheEvent
 events_all s a n heap [] = []
-events_all s a n heap (e ∷ es) = events_of s a n heap e ++ events_all s a (records_past n e) (heap_past heap e) es
+events_all s a n heap (e ∷ es) =
+    events_of s a n heap e ++ events_all s a (records_past n e) (heap_past heap e) es

@@ -1,4 +1,5 @@
--- The inputs and the overwrites of a run, by its effects, one heap word at a time. The load inside LOG doesn't count.
+-- The inputs and the overwrites of a run, from its effects, for each heap word. The load inside LOG
+-- doesn't count.
 use Rattle.std.specs.Prelude.{ℕ, ◌<◌, ◌≡◌, ◌≢◌, ◌⊎◌, List, [], ◌∷◌}
 use Rattle.cache_model.specs.Cache.{Words}
 use Rattle.pm_machine.specs.declared.effect.Effect.{Effect}
@@ -27,6 +28,6 @@ IsOverwritten (Flushes l ∷ es) u = IsOverwritten es u
 IsOverwritten (Fences ∷ es) u = IsOverwritten es u
 IsOverwritten (Quiet ∷ es) u = IsOverwritten es u
 
--- heaps of H words that are equal but on words that the run stores and doesn't load before
+-- heaps of H words that differ only in words that the run stores and doesn't load before
 abbrev pub AreAlike : (H : ℕ) → List Effect → (h r : Words) → Type 0
 AreAlike H es h r = (u : ℕ) → u < H → (IsOverwritten es u → ⊥) ⊎ IsInput es u → h u ≡ r u

@@ -1,7 +1,6 @@
--- What is known of the slots in use. It is true of one heap, and holds after an effect as far as is
--- said here.
-use Rattle.std.specs.Prelude.{ℕ, ◌-◌, ◌/◌, ◌%◌, ◌==◌, ◌&&◌, nat_le, min, ℤ, ◌≤◌, if◌then◌else◌, ◌≢◌, pos}
-use Rattle.std.specs.Ordering.{int_eq}
+-- What is known of the slots in use. It is true of one heap; after an effect as much remains known
+-- as this says.
+use Rattle.std.specs.Prelude.{ℕ, ◌-◌, ◌/◌, ◌%◌, ◌==◌, ◌&&◌, ◌≤◌, if◌then◌else◌, ◌≢◌, pos}
 use Rattle.cache_model.specs.Cache.{Words}
 use Rattle.pmem.specs.Device.{Device}
 use Rattle.pool_layout.specs.declared.limits.Sizes.{Sizes}
@@ -16,22 +15,17 @@ abbrev pub AreInUse : Sizes → Words → ℕ → Type 0
 AreInUse s heap n =
     (n ≤ s.slots) × ((p : ℕ) → 1 ≤ p → p ≤ n → heap (slot_word s p) ≢ pos 0)
 
--- none of them is in the heap of a device
+-- none of the first n slots is free in the heap of a device
 abbrev pub AreInUseOn : Sizes → Device → ℕ → Type 0
 AreInUseOn s d n = AreInUse s (heap_in s d.cache) n
 
--- what is known before an effect leaves this much known after it, of each heap
+-- what is known before an effect, in any heap, leaves this much known after it
 abbrev pub StaysKnown : Sizes → Effect → (before after : ℕ) → Type 0
 StaysKnown s e before after =
     (heap : Words) → AreInUse s heap before → AreInUse s (heap_past heap e) after
 
--- n first slots are in use, headers stand from word h on, and x is stored to word w: a header of 0
--- frees its slot
-abbrev pub past_store : (n h w : ℕ) → ℤ → ℕ
-past_store n h w x =
-    if int_eq x (pos 0) && (nat_le h w && ((w - h) % 16 == 0)) then min n ((w - h) / 16) else n
-
--- the least free slot in the heap of a device, or 0, and how many headers are loaded for it
+-- the least free slot in the heap of a device, or 0, and the number of headers that the search
+-- loads
 abbrev pub least_on : Sizes → Device → ℕ
 least_on s d = least s (heap_in s d.cache)
 

@@ -10,3 +10,4 @@ pub mod Known
 pub mod Answers
 pub mod Inputs
 pub mod Law
+pub mod inside

@@ -1,5 +1,5 @@
--- The machine: its state, one step, and a run. The heap isn't in the state: a step is told the heap, and its effect says
--- what becomes of it.
+-- The machine: its state, one step, and a run. The heap isn't in the state: a step is given the
+-- heap, and its effect says how the heap changes.
 use Rattle.std.specs.Prelude.{ℕ, zero, suc, ◌+◌, ◌-◌, ◌/◌, ◌==◌, List, [], ◌∷◌, ◌++◌, length, take, drop, replicate, slice_get, slice_index_or, slice_set, Option, Some, None, if◌then◌else◌, nat_lt, nat_eq, ℤ, pos, negsuc, ◌+ℤ◌}
 use Rattle.std.specs.Int.{w64, int_wrap}
 use Rattle.std.specs.Ordering.{int_eq}
@@ -17,14 +17,15 @@ use Rattle.pm_machine.specs.declared.effect.End.TheVariants.{Halted, Trapped}
 use Rattle.pm_machine.specs.declared.op.Op.{Op}
 use Rattle.pm_machine.specs.declared.op.Op.TheVariants.{Const, Mov, Bin, Jmp, Jz, Load, Store, Find, Log, Flush, Fence, Call, Ret, Tick, Trap, Halt}
 use Rattle.pm_machine.specs.declared.op.Function.{Function}
-use Rattle.pm_machine.specs.Transactions.{function_of}
+use Rattle.pm_machine.specs.Transactions.{entry_function}
 use Rattle.pm_machine.specs.declared.image.Image.{Image}
 use Rattle.pm_machine.specs.declared.frame.Frame.{Frame}
 use Rattle.pm_machine.specs.Effects.{heap_past, records_past}
 use Rattle.pm_machine.specs.Find.{least, looks}
 
--- The open function, the frames below it (the nearest last), the ticks left, the LOG instructions done, and the heap
--- lines stored to and not yet flushed, in the order of first stores; and how many registers a frame has.
+-- The open function, the frames below it (the innermost last), the ticks left, the LOG instructions
+-- done, the heap lines stored to and not yet flushed, in the order of first stores, and the number
+-- of registers of a frame.
 pub record State : Type 0 where
   pub top : Frame
   pub below : List Frame
@@ -33,88 +34,123 @@ pub record State : Type 0 where
   pub dirty : List ℕ
   pub size : ℕ
 
--- a step goes on with an effect, or the run ends
-pub data Outcome : Type 0 where
-  Goes : Effect → State → Outcome
-  Ends : End → Outcome
+-- a step goes on with an effect, or ends the run
+pub data StepOutcome : Type 0 where
+  Goes : Effect → State → StepOutcome
+  Ends : End → StepOutcome
 
-abbrev pub read : State → ℕ → ℤ
-read s r = slice_index_or s.top.registers r (pos 0)
+abbrev pub read_register : State → ℕ → ℤ
+read_register s r = slice_index_or s.top.registers r (pos 0)
 
 abbrev pub with_top : State → Frame → State
-with_top s f = record { top = f; below = s.below; ticks = s.ticks; logged = s.logged; dirty = s.dirty; size = s.size }
+with_top s f = record {
+  top = f;
+  below = s.below;
+  ticks = s.ticks;
+  logged = s.logged;
+  dirty = s.dirty;
+  size = s.size;
+}
 
 abbrev pub frame_at : Frame → ℕ → Frame
 frame_at f p = record { function = f.function; place = p; to = f.to; registers = f.registers }
 
-abbrev pub moved : State → ℕ → State
-moved s p = with_top s (frame_at s.top p)
+abbrev pub moved_to : State → ℕ → State
+moved_to s p = with_top s (frame_at s.top p)
 
--- on to the next place
+-- goes on to the next place
 abbrev pub passed : State → State
-passed s = moved s (s.top.place + 1)
+passed s = moved_to s (s.top.place + 1)
 
--- a register written, and on to the next place
+-- a register is written, and the run goes on to the next place
 abbrev pub frame_with : Frame → ℕ → ℤ → Frame
-frame_with f r v = record { function = f.function; place = f.place + 1; to = f.to; registers = slice_set f.registers r v }
+frame_with f r v = record {
+  function = f.function;
+  place = f.place + 1;
+  to = f.to;
+  registers = slice_set f.registers r v;
+}
 
 abbrev pub written : State → ℕ → ℤ → State
 written s r v = with_top s (frame_with s.top r v)
 
 -- the heap word at an address, of H words
-abbrev pub index_of : ℤ → Option ℕ
-index_of (pos n) = Some n
-index_of (negsuc n) = None
+abbrev pub address_index : ℤ → Option ℕ
+address_index (pos n) = Some n
+address_index (negsuc n) = None
 
-abbrev pub inside : ℕ → Option ℕ → Option ℕ
-inside H None = None
-inside H (Some w) = if nat_lt w H then Some w else None
+abbrev pub word_inside : ℕ → Option ℕ → Option ℕ
+word_inside H None = None
+word_inside H (Some w) = if nat_lt w H then Some w else None
 
 abbrev pub word_at : ℕ → ℤ → Option ℕ
-word_at H x = inside H (index_of x)
+word_at H x = word_inside H (address_index x)
 
--- the heap word at R[a] + o, which wraps
+-- the heap word at R[a] + o, where the sum wraps
 abbrev pub target : Image → State → ℕ → ℤ → Option ℕ
-target image s a o = word_at (heap_words image.parts.sizes) (int_wrap w64 (read s a +ℤ o))
+target image s a o = word_at (heap_words image.parts.sizes) (int_wrap w64 (read_register s a +ℤ o))
 
-abbrev pub load : Words → State → ℕ → Option ℕ → Outcome
+abbrev pub load : Words → State → ℕ → Option ℕ → StepOutcome
 load heap s r None = Goes Quiet (written s r (pos 0))
 load heap s r (Some w) = Goes (Loads w) (written s r (heap w))
 
--- the least free slot to a register
-abbrev pub find : Image → Words → State → ℕ → Outcome
+-- writes the least free slot to a register
+abbrev pub find : Image → Words → State → ℕ → StepOutcome
 find image heap s r =
-    Goes (Scans (slot_word image.parts.sizes 1) (looks image.parts.sizes heap)) (written s r (pos (least image.parts.sizes heap)))
+    Goes (Scans (slot_word image.parts.sizes 1) (looks image.parts.sizes heap))
+    (written s r (pos (least image.parts.sizes heap)))
 
--- on to the next place, and the word's line is dirty
+-- goes on to the next place, with the word's line dirty
 abbrev pub stored : State → ℕ → State
-stored s w = record { top = frame_at s.top (s.top.place + 1); below = s.below; ticks = s.ticks; logged = s.logged; dirty = insert_key nat_eq s.dirty (w / 8); size = s.size }
+stored s w = record {
+  top = frame_at s.top (s.top.place + 1);
+  below = s.below;
+  ticks = s.ticks;
+  logged = s.logged;
+  dirty = insert_key nat_eq s.dirty (w / 8);
+  size = s.size;
+}
 
-abbrev pub store : State → ℤ → Option ℕ → Outcome
+abbrev pub store : State → ℤ → Option ℕ → StepOutcome
 store s x None = Goes Quiet (passed s)
 store s x (Some w) = Goes (Stores w x) (stored s w)
 
--- with n records of C
-abbrev pub log : (C n : ℕ) → State → Option ℕ → Outcome
+-- LOG, with n records in a log of C
+abbrev pub log : (C n : ℕ) → State → Option ℕ → StepOutcome
 log C n s None = Goes Quiet (passed s)
 log C n s (Some w) = if nat_lt n C then Goes (Logs w) (passed s) else Ends (Trapped LogFull)
 
 abbrev pub cleaned : State → State
-cleaned s = record { top = s.top; below = s.below; ticks = s.ticks; logged = s.logged; dirty = drop 1 s.dirty; size = s.size }
+cleaned s = record {
+  top = s.top;
+  below = s.below;
+  ticks = s.ticks;
+  logged = s.logged;
+  dirty = drop 1 s.dirty;
+  size = s.size;
+}
 
-abbrev pub flush : State → Option ℕ → Outcome
+abbrev pub flush : State → Option ℕ → StepOutcome
 flush s None = Goes Quiet (passed s)
 flush s (Some l) = Goes (Flushes l) (cleaned s)
 
--- registers that hold the values of others, one after another from number i on
-abbrev pub placed : List ℤ → List ℤ → ℕ → List ℕ → List ℤ
-placed from to i [] = to
-placed from to i (a ∷ rest) = placed from (slice_set to i (slice_index_or from a (pos 0))) (i + 1) rest
+-- writes the values of the named registers into the registers from number i on
+abbrev pub registers_placed : List ℤ → List ℤ → ℕ → List ℕ → List ℤ
+registers_placed from to i [] = to
+registers_placed from to i (a ∷ rest) =
+    registers_placed from (slice_set to i (slice_index_or from a (pos 0))) (i + 1) rest
 
--- a called function's frame: its first registers hold the arguments, all others 0
+-- the state with the frame of a called function on top: its first registers hold the arguments, all
+-- others 0
 abbrev pub entered : State → ℕ → ℕ → List ℕ → State
 entered s r f args = record {
-  top = record { function = f; place = 0; to = r; registers = placed s.top.registers (replicate s.size (pos 0)) 0 args };
+  top = record {
+    function = f;
+    place = 0;
+    to = r;
+    registers = registers_placed s.top.registers
+        (replicate s.size (pos 0)) 0 args;
+  };
   below = s.below ++ frame_at s.top (s.top.place + 1) ∷ [];
   ticks = s.ticks;
   logged = s.logged;
@@ -122,12 +158,18 @@ entered s r f args = record {
   size = s.size;
 }
 
-abbrev pub call : State → ℕ → ℕ → List ℕ → Outcome
-call s r f args = if nat_lt (length s.below + 1) 256 then Goes Quiet (entered s r f args) else Ends (Trapped Depth)
+abbrev pub call : State → ℕ → ℕ → List ℕ → StepOutcome
+call s r f args = if nat_lt (length s.below + 1) 256 then Goes Quiet (entered s r f args)
+    else Ends (Trapped Depth)
 
 abbrev pub returned : State → ℤ → Frame → State
 returned s v caller = record {
-  top = record { function = caller.function; place = caller.place; to = caller.to; registers = slice_set caller.registers s.top.to v };
+  top = record {
+    function = caller.function;
+    place = caller.place;
+    to = caller.to;
+    registers = slice_set caller.registers s.top.to v;
+  };
   below = take (length s.below - 1) s.below;
   ticks = s.ticks;
   logged = s.logged;
@@ -135,38 +177,50 @@ returned s v caller = record {
   size = s.size;
 }
 
-abbrev pub return : State → ℤ → Option Frame → Outcome
+abbrev pub return : State → ℤ → Option Frame → StepOutcome
 return s v None = Ends (Halted v)
 return s v (Some caller) = Goes Quiet (returned s v caller)
 
-abbrev pub spent : State → State
-spent s = record { top = frame_at s.top (s.top.place + 1); below = s.below; ticks = s.ticks - 1; logged = s.logged; dirty = s.dirty; size = s.size }
+abbrev pub tick_spent : State → State
+tick_spent s = record {
+  top = frame_at s.top (s.top.place + 1);
+  below = s.below;
+  ticks = s.ticks
+      - 1;
+  logged = s.logged;
+  dirty = s.dirty;
+  size = s.size;
+}
 
--- the trap of a number; a checked image has no other numbers than those of traps
+-- the trap of a number; a checked image has only numbers of traps
 abbrev pub trap_at : Option TrapKind → TrapKind
 trap_at None = Depth
 trap_at (Some kind) = kind
 
--- One line of the table, with the heap and n records. Behind the code the run ends with the trap depth, which a checked
--- image never comes to.
-abbrev pub act : Image → Words → ℕ → State → Option Op → Outcome
-act image heap n s None = Ends (Trapped Depth)
-act image heap n s (Some (Const r v)) = Goes Quiet (written s r v)
-act image heap n s (Some (Mov r a)) = Goes Quiet (written s r (read s a))
-act image heap n s (Some (Bin op r a b)) = Goes Quiet (written s r (applied op (read s a) (read s b)))
-act image heap n s (Some (Jmp t)) = Goes Quiet (moved s t)
-act image heap n s (Some (Jz a t)) = Goes Quiet (if int_eq (read s a) (pos 0) then moved s t else passed s)
-act image heap n s (Some (Load r a o)) = load heap s r (target image s a o)
-act image heap n s (Some (Store a o b)) = store s (read s b) (target image s a o)
-act image heap n s (Some (Find r)) = find image heap s r
-act image heap n s (Some (Log a o)) = log image.parts.sizes.records n s (target image s a o)
-act image heap n s (Some Flush) = flush s (slice_get s.dirty 0)
-act image heap n s (Some Fence) = Goes Fences (passed s)
-act image heap n s (Some (Call r f args)) = call s r f args
-act image heap n s (Some (Ret a)) = return s (read s a) (slice_get s.below (length s.below - 1))
-act image heap n s (Some Tick) = if s.ticks == 0 then Ends (Trapped Steps) else Goes Quiet (spent s)
-act image heap n s (Some (Trap k)) = Ends (Trapped (trap_at (trap_of k)))
-act image heap n s (Some (Halt a)) = Ends (Halted (read s a))
+-- One line of the machine's table, given the heap and n records. Past the end of the code the run
+-- ends with the trap depth, which never happens in a checked image.
+abbrev pub execute : Image → Words → ℕ → State → Option Op → StepOutcome
+execute image heap n s None = Ends (Trapped Depth)
+execute image heap n s (Some (Const r v)) = Goes Quiet (written s r v)
+execute image heap n s (Some (Mov r a)) = Goes Quiet (written s r (read_register s a))
+execute image heap n s (Some (Bin op r a b)) =
+    Goes Quiet (written s r (applied op (read_register s a) (read_register s b)))
+execute image heap n s (Some (Jmp t)) = Goes Quiet (moved_to s t)
+execute image heap n s (Some (Jz a t)) =
+    Goes Quiet (if int_eq (read_register s a) (pos 0) then moved_to s t else passed s)
+execute image heap n s (Some (Load r a o)) = load heap s r (target image s a o)
+execute image heap n s (Some (Store a o b)) = store s (read_register s b) (target image s a o)
+execute image heap n s (Some (Find r)) = find image heap s r
+execute image heap n s (Some (Log a o)) = log image.parts.sizes.records n s (target image s a o)
+execute image heap n s (Some Flush) = flush s (slice_get s.dirty 0)
+execute image heap n s (Some Fence) = Goes Fences (passed s)
+execute image heap n s (Some (Call r f args)) = call s r f args
+execute image heap n s (Some (Ret a)) =
+    return s (read_register s a) (slice_get s.below (length s.below - 1))
+execute image heap n s (Some Tick) = if s.ticks == 0 then Ends (Trapped Steps)
+    else Goes Quiet (tick_spent s)
+execute image heap n s (Some (Trap k)) = Ends (Trapped (trap_at (trap_of k)))
+execute image heap n s (Some (Halt a)) = Ends (Halted (read_register s a))
 
 abbrev pub fetch_in : ℕ → Option Function → Option Op
 fetch_in p None = None
@@ -175,7 +229,7 @@ fetch_in p (Some f) = slice_get f.code p
 abbrev pub fetch : Image → State → Option Op
 fetch image s = fetch_in s.top.place (slice_get image.parts.functions s.top.function)
 
--- the heap word that an instruction would store; none where it isn't a STORE inside the heap
+-- the heap word that an instruction would store to; none if it isn't a STORE inside the heap
 abbrev pub stored_by : Image → State → Option Op → Option ℕ
 stored_by image s None = None
 stored_by image s (Some (Store a o b)) = target image s a o
@@ -184,9 +238,17 @@ stored_by image s (Some op) = None
 abbrev pub due_store : Image → State → Option ℕ
 due_store image s = stored_by image s (fetch image s)
 
--- a LOG that is done is counted
+-- counts a LOG that was done
 abbrev pub tallied : Effect → State → State
-tallied (Logs w) s = record { top = s.top; below = s.below; ticks = s.ticks; logged = s.logged + 1; dirty = s.dirty; size = s.size }
+tallied (Logs w) s = record {
+  top = s.top;
+  below = s.below;
+  ticks = s.ticks;
+  logged = s.logged
+      + 1;
+  dirty = s.dirty;
+  size = s.size;
+}
 tallied (Loads w) s = s
 tallied (Scans w m) s = s
 tallied (Stores w x) s = s
@@ -194,18 +256,18 @@ tallied (Flushes l) s = s
 tallied Fences s = s
 tallied Quiet s = s
 
-abbrev pub tally : Outcome → Outcome
+abbrev pub tally : StepOutcome → StepOutcome
 tally (Goes e s) = Goes e (tallied e s)
 tally (Ends end) = Ends end
 
--- one step, but for the count of LOGs
-abbrev pub decide : Image → ℕ → State → Words → Outcome
-decide image n s heap = act image heap n s (fetch image s)
+-- one step, without counting LOGs
+abbrev pub decide : Image → ℕ → State → Words → StepOutcome
+decide image n s heap = execute image heap n s (fetch image s)
 
-abbrev pub step : Image → ℕ → State → Words → Outcome
+abbrev pub step : Image → ℕ → State → Words → StepOutcome
 step image n s heap = tally (decide image n s heap)
 
--- a run: its end and its effects; the instructions are the effects and the last one
+-- a run: its end and its effects; its instructions are as many as the effects, and the last one
 pub data Run : Type 0 where
   Unfinished : Run
   Finished : End → List Effect → Run
@@ -214,28 +276,31 @@ abbrev pub began : Effect → Run → Run
 began e Unfinished = Unfinished
 began e (Finished end es) = Finished end (e ∷ es)
 
-abbrev pub follow : (Effect → State → Run) → Outcome → Run
+abbrev pub follow : (Effect → State → Run) → StepOutcome → Run
 follow rest (Goes e s) = began e (rest e s)
 follow rest (Ends end) = Finished end []
 
--- the run of at most k instructions, from n records
+-- the run of at most k instructions, starting with n records
 abbrev pub run : Image → (k n : ℕ) → State → Words → Run
 run image zero n s heap = Unfinished
-run image (suc k) n s heap = follow (λ e t. run image k (records_past n e) t (heap_past heap e)) (step image n s heap)
+run image (suc k) n s heap = follow (λ e t. run image k (records_past n e) t (heap_past heap e))
+    (step image n s heap)
 
-abbrev pub effects_of : Run → List Effect
-effects_of Unfinished = []
-effects_of (Finished end es) = es
+-- writes the words into the registers of a frame from number i on
+abbrev pub registers_filled : List ℤ → ℕ → List ℤ → List ℤ
+registers_filled to i [] = to
+registers_filled to i (v ∷ vs) = registers_filled (slice_set to i v) (i + 1) vs
 
--- words in the first registers of a frame, one after another from number i on
-abbrev pub filled : List ℤ → ℕ → List ℤ → List ℤ
-filled to i [] = to
-filled to i (v ∷ vs) = filled (slice_set to i v) (i + 1) vs
-
--- A transaction begins at its function's first place. Its parameters hold the arguments, all other registers 0.
+-- A transaction begins at its function's first place. Its parameters hold the arguments, and all
+-- other registers 0.
 abbrev pub start : Image → ℕ → List ℤ → State
 start image tx args = record {
-  top = record { function = function_of (slice_get image.parts.txs (tx - 1)); place = 0; to = 0; registers = filled (replicate image.largest (pos 0)) 0 args };
+  top = record {
+    function = entry_function (slice_get image.parts.txs (tx - 1));
+    place = 0;
+    to = 0;
+    registers = registers_filled (replicate image.largest (pos 0)) 0 args;
+  };
   below = [];
   ticks = image.parts.sizes.ticks;
   logged = 0;
@@ -243,6 +308,6 @@ start image tx args = record {
   size = image.largest;
 }
 
--- the run of a transaction from a heap, with no record, of at most k instructions
+-- the run of a transaction on a heap, starting with no record, of at most k instructions
 abbrev pub mrun : Image → ℕ → Words → ℕ → List ℤ → Run
 mrun image k heap tx args = run image k 0 (start image tx args) heap

@@ -1,4 +1,4 @@
--- Open functions, the latest last, each with the same number of registers.
+-- The call stack: open functions, the latest last, each with the same number of registers.
 use Rattle.std.specs.Prelude.{ℕ, ℤ, List, [], ◌∷◌, take, drop}
 use Rattle.pm_machine.specs.declared.frame.Frame.{Frame}
 use Rattle.pm_machine.specs.declared.frames.Waiting.{Waiting}
@@ -9,9 +9,14 @@ pub record Stack : Type 0 where
 
 -- an open function with its registers
 abbrev pub frame_of : Waiting → List ℤ → Frame
-frame_of w registers = record { function = w.function; place = w.place; to = w.to; registers = registers }
+frame_of w registers = record {
+  function = w.function;
+  place = w.place;
+  to = w.to;
+  registers = registers;
+}
 
--- open functions whose registers, n of each, stand in one list
+-- open functions whose registers, n of each, are in one list
 abbrev pub frames_of : ℕ → List Waiting → List ℤ → List Frame
 frames_of n [] words = []
 frames_of n (w ∷ ws) words = frame_of w (take n words) ∷ frames_of n ws (drop n words)

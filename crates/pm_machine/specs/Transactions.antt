@@ -2,6 +2,6 @@
 use Rattle.std.specs.Prelude.{ℕ, Option, Some, None}
 use Rattle.pm_machine.specs.declared.op.TxEntry.{TxEntry}
 
-abbrev pub function_of : Option TxEntry → ℕ
-function_of None = 0
-function_of (Some entry) = entry.function
+abbrev pub entry_function : Option TxEntry → ℕ
+entry_function None = 0
+entry_function (Some entry) = entry.function

@@ -1,15 +1,15 @@
-//! What a step and a run answer.
+//! The answers of a step and a run.
 
 ghost use Rattle.std.specs.Prelude.{◌≡◌};
-ghost use Rattle.pm_machine.specs.Answers.{step_answer, run_answer};
+ghost use Rattle.pm_machine.specs.inside.Answers.{step_answer, run_answer};
 
 use crate::effect::End;
 use crate::machine::Progress;
 use pmem::Refusal;
 use pool_map::TrapKind;
 
-/// The answer of a step: the run goes on, or is at its end, or an event was refused. Want of memory
-/// comes from STORE and LOG alone.
+/// The answer of a step: the run goes on, or has ended, or an event was refused. Only STORE and LOG
+/// answer want of memory.
 #[derive(Clone, Copy, Debug, PartialEq, Eq, Drop)]
 pub enum StepAnswer {
     Next,
@@ -31,7 +31,7 @@ pub enum RunAnswer {
 }
 
 impl StepAnswer {
-    /// The answer of a step whose result is known.
+    /// The answer of a step with this result.
     #[tactic(auto, using(std::proofs::lemmas::Int::wraps))]
     pub(crate) fn of(stepped: Result<Progress, Refusal>) -> StepAnswer
         ensures { result ≡ step_answer stepped }
@@ -48,7 +48,7 @@ impl StepAnswer {
 }
 
 impl RunAnswer {
-    /// The answer of a run whose result is known.
+    /// The answer of a run with this result.
     #[tactic(auto, using(std::proofs::lemmas::Int::wraps))]
     pub(crate) fn of(ran: Result<End, Refusal>) -> RunAnswer
         ensures { result ≡ run_answer ran }

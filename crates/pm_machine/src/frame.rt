@@ -5,7 +5,7 @@ ghost use Rattle.std.specs.Prelude.{◌≡◌, ◌++◌, length, pos, replicate,
 use std::alloc::{AllocError, Global};
 use std::marker::Model;
 
-/// The words of a frame's registers, seen as a list. A register that isn't there reads as 0.
+/// The words of a frame's registers, seen as a list. A register that doesn't exist reads as 0.
 #[derive(Drop)]
 pub struct RegisterWords {
     all: Vec<i64>,
@@ -20,7 +20,7 @@ impl Model for RegisterWords {
 }
 
 impl RegisterWords {
-    /// So many registers that hold 0.
+    /// So many registers, all 0.
     pub fn blank(alloc: Global, count: u32) -> Result<Self, AllocError>
         ensures { IfOk result (λ w. w ≡ replicate count (pos 0)) }
     {
@@ -28,7 +28,7 @@ impl RegisterWords {
         Ok(RegisterWords { all })
     }
 
-    /// The word of a register, 0 where there is none.
+    /// The word of a register, or 0 if there is no such register.
     pub fn get(&self, register: usize) -> i64
         ensures { result ≡ slice_index_or self.now register (pos 0) }
     {
@@ -38,7 +38,7 @@ impl RegisterWords {
         }
     }
 
-    /// Writes a register, where there is one.
+    /// Writes a register, if it exists.
     pub fn set(&mut self, register: usize, word: i64)
         ensures { self.new ≡ slice_set self.old register word }
     {
@@ -54,7 +54,7 @@ impl RegisterWords {
         &self.all
     }
 
-    /// Takes the words of as many other registers.
+    /// Copies the words of as many other registers.
     pub fn copy_from(&mut self, words: &[i64])
         requires { length words.now ≡ length self.old }
         ensures { self.new ≡ words.now }
@@ -62,7 +62,7 @@ impl RegisterWords {
         self.all.copy_from_slice(words);
     }
 
-    /// All registers hold 0 again.
+    /// Sets all registers to 0.
     pub fn clear(&mut self)
         ensures { self.new ≡ replicate (length self.old) (pos 0) }
     {
@@ -70,7 +70,7 @@ impl RegisterWords {
     }
 }
 
-/// An open function: its number, the place in it, the caller's register that gets its result, and its
+/// An open function: its number, the place in it, the caller's register for its result, and its
 /// registers.
 #[derive(Drop)]
 pub struct Frame {

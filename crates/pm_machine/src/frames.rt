@@ -1,4 +1,4 @@
-//! A stack of frames that has its room from the start, so that a call takes no memory.
+//! The call stack. All its memory is allocated at the start, so a call takes none.
 
 ghost use Rattle.std.specs.Prelude.{◌≡◌, ◌+◌, ◌-◌, ◌*◌, ◌<◌, ◌≤◌, ◌++◌, ◌∷◌, [], Some, true, false, IfOk, length, take, slice_get, vec_capacity};
 ghost use Rattle.pm_machine.specs.Stack.{Stack};
@@ -7,10 +7,10 @@ use crate::frame::Frame;
 use std::alloc::{AllocError, Global};
 use std::marker::Model;
 
-/// How many callers the open function may have.
+/// The greatest number of callers of the open function.
 pub const CALLERS: usize = 255;
 
-/// A frame but for its registers.
+/// A frame without its registers.
 #[derive(Clone, Copy, Debug, PartialEq, Eq)]
 pub struct Waiting {
     pub function: u32,
@@ -18,8 +18,8 @@ pub struct Waiting {
     pub to: u32,
 }
 
-/// Frames of one size, seen with that size, the latest last. The words of their registers stand in one
-/// list, frame behind frame.
+/// Frames of one size, the latest last, seen with that size. The words of their registers are in
+/// one list, frame after frame.
 #[derive(Drop)]
 pub struct Frames {
     waiting: Vec<Waiting>,
@@ -33,7 +33,10 @@ impl Model for Frames {
 
     ghost Value = { Stack };
 
-    ghost view = { λ s. record { frames = frames_of s.size s.waiting.items s.words.items; size = s.size } };
+    ghost view = { λ s. record {
+      frames = frames_of s.size s.waiting.items s.words.items;
+      size = s.size;
+    } };
 
     ghost invariant = { λ s. (255 ≤ vec_capacity s.waiting) × (length s.waiting.items ≤ 255) × (255 * s.size ≤ vec_capacity s.words) × (length s.words.items ≡ s.size * length s.waiting.items) };
 }
@@ -60,7 +63,7 @@ impl Frames {
         self.waiting.len()
     }
 
-    /// Puts a frame on top. There is room, so it takes no memory.
+    /// Pushes a frame. There is room, so it takes no memory.
     pub fn push(&mut self, frame: &Frame)
         requires room { length self.old.frames < 255 }
         requires size { length frame.now.registers ≡ self.old.size }
@@ -78,11 +81,13 @@ impl Frames {
         );
     }
 
-    /// Takes the frame on top, and whether there is one.
+    /// Pops the frame on top, and says whether there was one.
     pub fn pop(&mut self, frame: &mut Frame) -> bool
         requires size { length frame.old.registers ≡ self.old.size }
-        ensures some { result ≡ true → slice_get self.old.frames (length self.old.frames - 1) ≡ Some frame.new }
-        ensures others { result ≡ true → self.new.frames ≡ take (length self.old.frames - 1) self.old.frames }
+        ensures some { result ≡ true → slice_get self.old.frames (length self.old.frames - 1)
+            ≡ Some frame.new }
+        ensures others { result ≡ true → self.new.frames ≡ take (length self.old.frames - 1)
+            self.old.frames }
         ensures sized { length frame.new.registers ≡ self.old.size }
         ensures none { result ≡ false → self.old.frames ≡ [] }
         ensures left { result ≡ false → frame.new ≡ frame.old }
@@ -102,7 +107,7 @@ impl Frames {
     }
 }
 
-/// Puts a frame's rest at the end, for which there is room.
+/// Appends a frame without its registers; there is room for it.
 fn push_waiting(to: &mut Vec<Waiting>, waiting: Waiting)
     requires { length to.old.items < vec_capacity to.old }
     ensures items { to.new.items ≡ to.old.items ++ waiting ∷ [] }
@@ -111,7 +116,7 @@ fn push_waiting(to: &mut Vec<Waiting>, waiting: Waiting)
     let _ = to.push(waiting);
 }
 
-/// Puts a word at the end, for which there is room.
+/// Appends a word; there is room for it.
 fn push_word(to: &mut Vec<i64>, word: i64)
     requires { length to.old.items < vec_capacity to.old }
     ensures items { to.new.items ≡ to.old.items ++ word ∷ [] }
@@ -120,7 +125,7 @@ fn push_word(to: &mut Vec<i64>, word: i64)
     let _ = to.push(word);
 }
 
-/// Puts words at the end, for which there is room.
+/// Appends words; there is room for them.
 fn push_words(to: &mut Vec<i64>, words: &[i64])
     requires { length to.old.items + length words.now ≤ vec_capacity to.old }
     ensures items { to.new.items ≡ to.old.items ++ words.now }

@@ -2,15 +2,15 @@
 
 ghost use Rattle.std.specs.Prelude.{◌≡◌, ◌<◌, ◌≤◌, ◌^◌, ◌+◌, Some, None, IfSome, IfNone, IfOk, IfErr, OnOk, length, slice_get, nat_lt, ◌-◌, IsErrOf, IsSomeAnd, ℕ};
 ghost use Rattle.std.specs.List.{list_all, AllByRecursion};
-ghost use Rattle.pm_machine.specs.Checked.{takes, is_there, is_end, is_good, bad_from, bad_in, bad_of, most_registers};
-ghost use Rattle.pm_machine.specs.Transactions.{function_of};
+ghost use Rattle.pm_machine.specs.Checked.{takes_arguments, op_is_there, is_end, is_good_op, bad_from, bad_in, bad_of, most_registers};
+ghost use Rattle.pm_machine.specs.Transactions.{entry_function};
 ghost use Rattle.pm_machine.specs.Few.{AreFew};
 
 use crate::op::{Function, Functions, Op, TxList};
 use pool_layout::Sizes;
 use std::alloc::Global;
 
-/// What an image is made of. `most` is a number of steps that no run of it goes past.
+/// The parts of an image. `most` is a number of steps that no run of it exceeds.
 #[derive(Drop)]
 pub struct ImageParts {
     pub functions: Functions,
@@ -31,7 +31,7 @@ pub enum ImageRefused {
 #[derive(Drop)]
 pub struct Image {
     parts: ImageParts,
-    /// The registers of the largest function, which every frame has.
+    /// The number of registers of the largest function, which every frame has.
     largest: u32,
     ghost good: { bad_of parts.functions 0 parts.functions ≡ None },
     ghost most: { largest ≡ most_registers 0 parts.functions },
@@ -48,19 +48,20 @@ fn all_below(registers: &[u32], count: u32) -> bool
     true
 }
 
-/// The function is there, and has so many parameters.
+/// Whether the function exists and has so many parameters.
 fn takes(functions: &Functions, number: u32, arguments: usize) -> bool
-    ensures { result ≡ takes (slice_get functions.now number) arguments }
+    ensures { result ≡ takes_arguments (slice_get functions.now number) arguments }
 {
-    match functions.get(number) {
+    match functions.get(number as usize) {
         None => false,
         Some(function) => function.parameters as usize == arguments,
     }
 }
 
-/// What the instruction names is there, in a function of so many registers and instructions.
+/// Whether all that the instruction names exists, in a function of so many registers and
+/// instructions.
 fn is_there(functions: &Functions, registers: u32, places: usize, op: &Op) -> bool
-    ensures { result ≡ is_there functions.now registers places op.now }
+    ensures { result ≡ op_is_there functions.now registers places op.now }
 {
     match op {
         Op::Const { r, .. } | Op::Find { r } => *r < registers,
@@ -81,7 +82,7 @@ fn is_there(functions: &Functions, registers: u32, places: usize, op: &Op) -> bo
     }
 }
 
-/// The run doesn't go on behind the instruction.
+/// Whether the run doesn't go on to the place after the instruction.
 fn is_end(op: &Op) -> bool
     ensures { result ≡ is_end op.now }
 {
@@ -104,7 +105,7 @@ fn is_end(op: &Op) -> bool
 
 fn is_good(functions: &Functions, function: &Function, place: usize, op: &Op) -> bool
     requires { place < length function.now.code }
-    ensures { result ≡ is_good functions.now function.now place op.now }
+    ensures { result ≡ is_good_op functions.now function.now place op.now }
 {
     let places = function.code.as_slice().len();
     is_there(functions, function.registers, places, op) && (place + 1 < places || is_end(op))
@@ -154,13 +155,14 @@ fn most_registers(functions: &Functions) -> u32
 }
 
 impl Image {
-    /// The image of parts that break no rule; the parts are spent on a refusal too. It takes no
-    /// memory.
+    /// The image of parts that break no rule; the parts are consumed also if they are refused. It
+    /// takes no memory.
     pub fn new(_alloc: Global, parts: ImageParts) -> Result<Image, ImageRefused>
         requires few { AreFew parts.functions }
         ensures ok { IfOk result (λ i. i.parts ≡ parts) }
         ensures good { OnOk result (bad_of parts.functions 0 parts.functions ≡ None) }
-        ensures bad { (f p : ℕ) → IsErrOf result (ImageRefused.BadCode f p) → bad_of parts.functions 0 parts.functions ≡ Some (f, p) }
+        ensures bad { (f p : ℕ) → IsErrOf result (ImageRefused.BadCode f p)
+            → bad_of parts.functions 0 parts.functions ≡ Some (f, p) }
     {
         if let Some((function, place)) = first_bad(&parts.functions) {
             return Err(ImageRefused::BadCode(function, place));
@@ -169,7 +171,7 @@ impl Image {
         Ok(Image { parts, largest })
     }
 
-    /// The functions, which `Image::new` found to be good.
+    /// The functions, which `Image::new` has checked.
     pub(crate) fn functions(&self) -> &Functions
         ensures { result.now ≡ self.now.parts.functions }
     {
@@ -182,14 +184,14 @@ impl Image {
         &self.parts.sizes
     }
 
-    /// A number of steps that no run goes past.
+    /// A number of steps that no run exceeds.
     pub fn most(&self) -> u128
         ensures { result ≡ self.now.parts.most }
     {
         self.parts.most
     }
 
-    /// How many registers a frame has.
+    /// The number of registers of a frame.
     pub(crate) fn largest(&self) -> u32
         ensures { result ≡ self.now.largest }
     {
@@ -200,19 +202,19 @@ impl Image {
     pub(crate) fn function(&self, tx: u64) -> u32
         requires first { 1 ≤ tx }
         requires last { tx ≤ length self.now.parts.txs }
-        ensures { result ≡ function_of (slice_get self.now.parts.txs (tx - 1)) }
+        ensures { result ≡ entry_function (slice_get self.now.parts.txs (tx - 1)) }
     {
         self.parts.txs.as_slice()[tx as usize - 1].function
     }
 
-    /// How many transactions there are.
+    /// The number of transactions.
     pub fn txs(&self) -> u64
         ensures { result ≡ length self.now.parts.txs }
     {
         self.parts.txs.as_slice().len() as u64
     }
 
-    /// How many parameters a transaction has. Transactions are counted from 1.
+    /// The number of parameters of a transaction. Transactions are counted from 1.
     pub fn parameters(&self, tx: u64) -> u64
         requires first { 1 ≤ tx }
         requires last { tx ≤ length self.now.parts.txs }
@@ -221,7 +223,7 @@ impl Image {
         self.parts.txs.as_slice()[tx as usize - 1].parameters as u64
     }
 
-    /// How many structs have a number.
+    /// The number of numbered structs.
     pub fn structs(&self) -> u64
         ensures { result ≡ self.now.parts.structs }
     {

@@ -3,9 +3,9 @@
 ghost use Rattle.pm_machine.specs.Find.{FindLaw};
 ghost use Rattle.pm_machine.specs.Law.{FuelLaw, Agreement, DueLaw, AlikeDueLaw};
 
-/// More fuel changes no run that finished; heaps that are alike for a run have the same one; and what
-/// a run on a cache owes is what the run on its heap owes; and FIND finds the least free slot. It does
-/// nothing.
+/// More fuel doesn't change a run that finished; heaps that are alike for a run have the same run;
+/// the due events of a run on a cache are those of the run on its heap; and FIND finds the least
+/// free slot. The function does nothing.
 pub fn laws()
     ensures fuel { FuelLaw }
     ensures agreement { Agreement }

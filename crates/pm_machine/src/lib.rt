@@ -1,6 +1,6 @@
-//! The machine: its instructions, a checked program of them, and a run over a device. It stands on
-//! `clobber_log`, `pool_map` and `nvm_base`. Its one contract for the crates above: each step is one
-//! line of the machine's table, on the device's view.
+//! The machine: its instructions, a checked program of them, and a run on a device. It rests on
+//! `clobber_log`, `pool_map` and `nvm_base`. Its one contract for the crates above: each step is
+//! one line of the machine's table, on the device's view.
 #![tactic(auto)]
 
 mod answer;

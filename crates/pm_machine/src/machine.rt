@@ -1,4 +1,5 @@
-//! A run in progress: what one line of the machine's table does to it, and what it asks of the device.
+//! A run in progress: the effect of one line of the machine's table on it, and what it asks of the
+//! device.
 
 ghost use Rattle.std.specs.Prelude.{◌≡◌, ◌≢◌, IfErr, IsOk, true, List, suc, ◌+◌, ◌-◌, ◌*◌, ◌/◌, ◌^◌, replicate, ◌<◌, ◌≤◌, ◌++◌, ◌∷◌, [], ℕ, pos, Option, Some, None, IfOk, IfSome, IfNone, OnOk, OnErr, IsErrOf, length, take, drop, map, slice_get, option_copied, IsSome, if◌then◌else◌, ◌==◌};
 ghost use Rattle.std.specs.Option.{ForSome};
@@ -10,10 +11,11 @@ ghost use Rattle.pmem.specs.Played.{PlaysAll, PlaysPart};
 ghost use Rattle.pm_machine.specs.declared.effect.Effect.TheVariants.{Quiet};
 ghost use Rattle.pm_machine.specs.declared.machine.Progress.TheVariants as progress;
 ghost use Rattle.pm_machine.specs.declared.effect.End.TheVariants.{Halted, Trapped};
-ghost use Rattle.pm_machine.specs.Machine.{State, read, passed, moved, written, stored, cleaned, placed, entered, returned, return, load, find, store, log, flush, call, act, Goes, Ends, spent, index_of, word_at, target, fetch, decide, tallied, step, trap_at, start, filled, stored_by, due_store};
+ghost use Rattle.pm_machine.specs.Machine.{State, read_register, passed, moved_to, written, stored, cleaned, registers_placed, entered, returned, return, load, find, store, log, flush, call, execute, Goes, Ends, tick_spent, address_index, word_at, target, fetch, decide, tallied, step, trap_at, start, registers_filled, stored_by, due_store};
 ghost use Rattle.pm_machine.specs.Effects.{events_of, records_past};
 ghost use Rattle.pm_machine.specs.Known.{AreInUseOn};
-ghost use Rattle.pm_machine.specs.Runs.{heap_in, outcome_of, effect_of, effect_in, IsStore, IsInRange, AreLines, due, end_of};
+ghost use Rattle.pm_machine.specs.Runs.{heap_in, outcome_of, effect_of, effect_in, AreLines, due, end_of};
+ghost use Rattle.pm_machine.specs.inside.Runs.{IsStore, IsInRange};
 
 use crate::effect::{Effect, End};
 use crate::find::InUse;
@@ -41,8 +43,8 @@ pub enum Progress {
 }
 
 /// A run in progress: the open function, those below it, the ticks left, the LOG instructions done,
-/// and the dirty lines. The room for its frames is there from the start; the next function to be opened
-/// gets the registers that are spare.
+/// and the dirty lines. The memory for its frames is allocated at the start; the next function to
+/// be opened gets the spare registers.
 #[derive(Drop)]
 pub struct Machine {
     top: Frame,
@@ -50,7 +52,7 @@ pub struct Machine {
     spare: RegisterWords,
     ticks: u64,
     logged: u64,
-    /// The lines stored to, in the order of first stores, and how many of them are flushed again.
+    /// The lines stored to, in the order of first stores, and how many of them have been flushed.
     lines: IndexSet<u64>,
     flushed: usize,
 }
@@ -61,13 +63,20 @@ impl Model for Machine {
 
     ghost Value = { State };
 
-    ghost view = { λ m. record { top = m.top; below = m.below.frames; ticks = m.ticks; logged = m.logged; dirty = drop m.flushed m.lines.keys; size = length m.top.registers } };
+    ghost view = { λ m. record {
+      top = m.top;
+      below = m.below.frames;
+      ticks = m.ticks;
+      logged = m.logged;
+      dirty = drop m.flushed m.lines.keys;
+      size = length m.top.registers;
+    } };
 
     ghost invariant = { λ m. (m.below.size ≡ length m.top.registers) × (length m.spare ≡ length m.top.registers) × (m.flushed ≤ length m.lines.keys) };
 }
 
 fn index_of(x: i64) -> Option<u64>
-    ensures { result ≡ index_of x }
+    ensures { result ≡ address_index x }
 {
     match u64::try_from(x) {
         Ok(w) => Some(w),
@@ -86,7 +95,7 @@ fn word_at(heap_words: u64, x: i64) -> Option<u64>
     }
 }
 
-/// Takes the first lines out of a set. Compiled code stores nothing after its flushes, so there are
+/// Removes the first lines of a set. Compiled code stores nothing after its flushes, so there are
 /// none.
 #[tactic(auto, using(crate::proofs::DirtyLines::one_out))]
 fn drop_first(lines: &mut IndexSet<u64>, count: usize)
@@ -113,7 +122,7 @@ fn line_at(lines: &IndexSet<u64>, at: usize) -> Option<u64>
 
 impl Machine {
     fn read(&self, r: u32) -> i64
-        ensures { result ≡ read self.now r }
+        ensures { result ≡ read_register self.now r }
     {
         self.top.registers.get(r as usize)
     }
@@ -134,7 +143,7 @@ impl Machine {
     }
 
     fn jump(&mut self, t: u32)
-        ensures { self.new ≡ moved self.old t }
+        ensures { self.new ≡ moved_to self.old t }
     {
         self.top.place = t as usize;
     }
@@ -173,16 +182,16 @@ impl Machine {
     fn spend(&mut self)
         requires place { self.old.top.place < 2 ^ 63 }
         requires some { 0 < self.old.ticks }
-        ensures { self.new ≡ spent self.old }
+        ensures { self.new ≡ tick_spent self.old }
     {
         self.top.place += 1;
         self.ticks -= 1;
     }
 }
 
-/// Writes the words of other registers, one after another from register 0 on.
+/// Writes the words of the named registers, one after another, from register 0 on.
 fn place(from: &RegisterWords, to: &mut RegisterWords, args: &[u32])
-    ensures placed { to.new ≡ placed from.now to.old 0 args.now }
+    ensures placed { to.new ≡ registers_placed from.now to.old 0 args.now }
     ensures size { length to.new ≡ length to.old }
 {
     for (i, arg) in args.iter().enumerate() {
@@ -191,10 +200,11 @@ fn place(from: &RegisterWords, to: &mut RegisterWords, args: &[u32])
 }
 
 impl Machine {
-    /// Opens a function on the spare registers, where there is room for its caller.
+    /// Opens a function on the spare registers, if there is room for its caller.
     fn enter(&mut self, r: u32, f: u32, args: &[u32]) -> bool
         requires { self.old.top.place < 2 ^ 63 }
-        ensures meaning { (if result then Goes Quiet self.new else Ends (Trapped trap.Depth)) ≡ call self.old r f args.now }
+        ensures meaning { (if result then Goes Quiet self.new else Ends (Trapped trap.Depth))
+            ≡ call self.old r f args.now }
         ensures logged { self.new.logged ≡ self.old.logged }
     {
         if self.below.len() == CALLERS {
@@ -211,9 +221,10 @@ impl Machine {
         true
     }
 
-    /// Ends the open function with the value of a register, or the run.
+    /// Ends the open function, or the run, with the value of a register.
     fn leave(&mut self, a: u32) -> Progress
-        ensures meaning { outcome_of result self.new ≡ return self.old (read self.old a) (slice_get self.old.below (length self.old.below - 1)) }
+        ensures meaning { outcome_of result self.new ≡ return self.old (read_register self.old a)
+            (slice_get self.old.below (length self.old.below - 1)) }
         ensures logged { self.new.logged ≡ self.old.logged }
     {
         let value = self.read(a);
@@ -232,7 +243,7 @@ fn fetch<'a>(image: &'a Image, machine: &Machine) -> Option<&'a Op>
     ensures value { option_copied result ≡ fetch image.now machine.now }
     ensures inside { IsSome result → machine.now.top.place < 2 ^ 63 }
 {
-    let function = image.functions().get(machine.top.function)?;
+    let function = image.functions().get(machine.top.function as usize)?;
     function.code.get(machine.top.place)
 }
 
@@ -248,7 +259,9 @@ impl Machine {
         requires lines { (P.device dev.now).lines ≡ pool_lines image.now.parts.sizes }
         requires on { (P.device dev.now).on ≡ true }
         requires within { ForSome word (λ w. w < heap_words image.now.parts.sizes) }
-        ensures meaning { IfOk result (λ p. outcome_of p self.new ≡ load (heap_in image.now.parts.sizes (P.device dev.now).cache) self.old r word) }
+        ensures meaning { IfOk result (λ p.
+            outcome_of p self.new ≡ load (heap_in image.now.parts.sizes (P.device dev.now).cache)
+            self.old r word) }
         ensures never { IsOk result }
         ensures logged { self.new.logged ≡ self.old.logged }
     {
@@ -279,7 +292,9 @@ impl Machine {
         requires lines { (P.device dev.now).lines ≡ pool_lines image.now.parts.sizes }
         requires on { (P.device dev.now).on ≡ true }
         ensures known { AreInUseOn image.now.parts.sizes (P.device dev.now) used.new }
-        ensures meaning { IfOk result (λ p. outcome_of p self.new ≡ find image.now (heap_in image.now.parts.sizes (P.device dev.now).cache) self.old r) }
+        ensures meaning { IfOk result (λ p.
+            outcome_of p self.new ≡ find image.now
+            (heap_in image.now.parts.sizes (P.device dev.now).cache) self.old r) }
         ensures never { IsOk result }
         ensures logged { self.new.logged ≡ self.old.logged }
     {
@@ -312,7 +327,7 @@ impl Machine {
         }
     }
 
-    /// The record is counted once its events were done.
+    /// Decides a LOG. The record is counted once its events were done.
     fn log(&mut self, records: u64, count: u64, word: Option<u64>) -> Progress
         requires { self.old.top.place < 2 ^ 63 }
         ensures meaning { outcome_of result self.new ≡ log records count self.old word }
@@ -362,7 +377,9 @@ impl Machine {
 
     fn tick(&mut self) -> Progress
         requires { self.old.top.place < 2 ^ 63 }
-        ensures meaning { outcome_of result self.new ≡ (if self.old.ticks == 0 then Ends (Trapped trap.Steps) else Goes Quiet (spent self.old)) }
+        ensures meaning { outcome_of result self.new
+            ≡ (if self.old.ticks == 0 then Ends (Trapped trap.Steps)
+            else Goes Quiet (tick_spent self.old)) }
         ensures logged { self.new.logged ≡ self.old.logged }
     {
         if self.ticks == 0 {
@@ -375,7 +392,8 @@ impl Machine {
 
     fn branch(&mut self, a: u32, t: u32)
         requires { self.old.top.place < 2 ^ 63 }
-        ensures { self.new ≡ (if int_eq (read self.old a) (pos 0) then moved self.old t else passed self.old) }
+        ensures { self.new ≡ (if int_eq (read_register self.old a) (pos 0) then moved_to self.old t
+            else passed self.old) }
     {
         if self.read(a) == 0 {
             self.jump(t);
@@ -395,8 +413,8 @@ fn trapped(k: u32) -> Progress
 }
 
 impl Machine {
-    /// One line of the table, but for its events and for the count of records, of which there are
-    /// `count`.
+    /// One line of the table, without its events and without counting its record; there are `count`
+    /// records.
     fn act<P: PmemWork>(
         &mut self,
         dev: &P,
@@ -410,9 +428,13 @@ impl Machine {
         requires lines { (P.device dev.now).lines ≡ pool_lines image.now.parts.sizes }
         requires on { (P.device dev.now).on ≡ true }
         ensures known { AreInUseOn image.now.parts.sizes (P.device dev.now) used.new }
-        ensures meaning { IfOk result (λ p. outcome_of p self.new ≡ act image.now (heap_in image.now.parts.sizes (P.device dev.now).cache) count self.old (Some op.now)) }
+        ensures meaning { IfOk result (λ p.
+            outcome_of p self.new ≡ execute image.now
+            (heap_in image.now.parts.sizes (P.device dev.now).cache) count self.old (Some op.now)) }
         ensures only { OnErr result (IsErrOf result Refusal.NoMemory) }
-        ensures wants { OnErr result (IsStore (effect_in (act image.now (heap_in image.now.parts.sizes (P.device dev.now).cache) count self.old (Some op.now)))) }
+        ensures wants { OnErr result (IsStore
+            (effect_in (execute image.now (heap_in image.now.parts.sizes (P.device dev.now).cache)
+            count self.old (Some op.now)))) }
         ensures err { OnErr result (self.new ≡ self.old) }
         ensures logged { self.new.logged ≡ self.old.logged }
     {
@@ -466,7 +488,7 @@ impl Machine {
         }
     }
 
-    /// One step, but for its events and for the count of records.
+    /// One step, without its events and without counting its record.
     fn decide<P: PmemWork>(
         &mut self,
         dev: &P,
@@ -478,9 +500,12 @@ impl Machine {
         requires lines { (P.device dev.now).lines ≡ pool_lines image.now.parts.sizes }
         requires on { (P.device dev.now).on ≡ true }
         ensures known { AreInUseOn image.now.parts.sizes (P.device dev.now) used.new }
-        ensures meaning { IfOk result (λ p. outcome_of p self.new ≡ decide image.now count self.old (heap_in image.now.parts.sizes (P.device dev.now).cache)) }
+        ensures meaning { IfOk result (λ p. outcome_of p self.new ≡ decide image.now count self.old
+            (heap_in image.now.parts.sizes (P.device dev.now).cache)) }
         ensures only { OnErr result (IsErrOf result Refusal.NoMemory) }
-        ensures wants { OnErr result (IsStore (effect_in (decide image.now count self.old (heap_in image.now.parts.sizes (P.device dev.now).cache)))) }
+        ensures wants { OnErr result (IsStore
+            (effect_in (decide image.now count self.old
+            (heap_in image.now.parts.sizes (P.device dev.now).cache)))) }
         ensures err { OnErr result (self.new ≡ self.old) }
         ensures logged { self.new.logged ≡ self.old.logged }
     {
@@ -492,8 +517,8 @@ impl Machine {
 }
 
 impl Machine {
-    /// A machine at the first place of a transaction. The room for all its frames is reserved here.
-    /// Transactions are counted from 1.
+    /// A machine at the first place of a transaction. The memory for all its frames is allocated
+    /// here. Transactions are counted from 1.
     pub fn new(alloc: Global, image: &Image, tx: u64, args: &[i64]) -> Result<Machine, AllocError>
         requires first { 1 ≤ tx }
         requires last { tx ≤ length image.now.parts.txs }
@@ -518,8 +543,8 @@ impl Machine {
         })
     }
 
-    /// The heap word that the next instruction would store; none where it isn't a STORE inside the heap.
-    /// The image is the one that the machine was made for.
+    /// The heap word that the next instruction would store to; `None` if it isn't a STORE inside
+    /// the heap. The image is the one that the machine was made for.
     pub fn due_store(&self, image: &Image) -> Option<u64>
         ensures value { result ≡ due_store image.now self.now }
         ensures within { ForSome result (λ w. w < heap_words image.now.parts.sizes) }
@@ -530,7 +555,7 @@ impl Machine {
         }
     }
 
-    /// The heap word that an instruction would store.
+    /// The heap word that an instruction would store to.
     fn stored_by(&self, image: &Image, op: &Op) -> Option<u64>
         ensures value { result ≡ stored_by image.now self.now (Some op.now) }
         ensures within { ForSome result (λ w. w < heap_words image.now.parts.sizes) }
@@ -541,7 +566,7 @@ impl Machine {
         }
     }
 
-    /// How many LOG instructions were done.
+    /// The number of LOG instructions done.
     pub fn logged(&self) -> u64
         ensures { result ≡ self.now.logged }
     {
@@ -551,7 +576,7 @@ impl Machine {
 
 /// Writes words into the first registers, one after another.
 fn fill(to: &mut RegisterWords, words: &[i64])
-    ensures filled { to.new ≡ filled to.old 0 words.now }
+    ensures filled { to.new ≡ registers_filled to.old 0 words.now }
     ensures size { length to.new ≡ length to.old }
 {
     for (i, word) in words.iter().enumerate() {
@@ -559,7 +584,7 @@ fn fill(to: &mut RegisterWords, words: &[i64])
     }
 }
 
-/// Plays the events of an effect, with so many records so far.
+/// Plays the events of an effect; there are `count` records so far.
 fn perform<P: PmemWork>(
     dev: &mut P,
     sizes: &Sizes,
@@ -571,8 +596,13 @@ fn perform<P: PmemWork>(
     requires attempt { attempt ≤ 2 ^ 63 - 2 }
     requires lines { (P.device dev.old).lines ≡ pool_lines sizes.now }
     requires on { (P.device dev.old).on ≡ true }
-    ensures done { OnOk result (PlaysAll (P.device dev.old) (events_of sizes.now attempt count (heap_in sizes.now (P.device dev.old).cache) effect) (P.device dev.new)) }
-    ensures refused { IfErr result (λ why. PlaysPart why (P.device dev.old) (events_of sizes.now attempt count (heap_in sizes.now (P.device dev.old).cache) effect) (P.device dev.new)) }
+    ensures done { OnOk result (PlaysAll (P.device dev.old)
+        (events_of sizes.now attempt count (heap_in sizes.now (P.device dev.old).cache) effect)
+        (P.device dev.new)) }
+    ensures refused { IfErr result
+        (λ why. PlaysPart why (P.device dev.old)
+        (events_of sizes.now attempt count (heap_in sizes.now (P.device dev.old).cache) effect)
+        (P.device dev.new)) }
     ensures lines { (P.device dev.new).lines ≡ (P.device dev.old).lines }
 {
     match effect {
@@ -585,9 +615,9 @@ fn perform<P: PmemWork>(
 }
 
 impl Machine {
-    /// One step, over a pool of that attempt with so many records. What is known of the slots in use is
-    /// used and kept. After an end or a refusal the machine is of no more use, nor is what was known after
-    /// a refusal.
+    /// One step, on a pool with that attempt and so many records. It uses and updates what is known
+    /// of the slots in use. After an end or a refusal the machine must not be used again, nor,
+    /// after a refusal, what was known.
     pub fn step_on<P: PmemWork>(
         &mut self,
         image: &Image,
@@ -602,11 +632,22 @@ impl Machine {
         requires attempt { attempt ≤ 2 ^ 63 - 2 }
         requires dirty { AreLines (heap_words image.now.parts.sizes) self.old.dirty }
         requires logged { self.old.logged < 2 ^ 63 }
-        ensures known { IfOk result (λ p. AreInUseOn image.now.parts.sizes (P.device dev.new) used.new) }
-        ensures meaning { IfOk result (λ p. outcome_of p self.new ≡ step image.now count self.old (heap_in image.now.parts.sizes (P.device dev.old).cache)) }
-        ensures done { IfOk result (λ p. PlaysAll (P.device dev.old) (events_of image.now.parts.sizes attempt count (heap_in image.now.parts.sizes (P.device dev.old).cache) (effect_of p)) (P.device dev.new)) }
-        ensures refused { IfErr result (λ why. PlaysPart why (P.device dev.old) (events_of image.now.parts.sizes attempt count (heap_in image.now.parts.sizes (P.device dev.old).cache) (effect_in (decide image.now count self.old (heap_in image.now.parts.sizes (P.device dev.old).cache)))) (P.device dev.new)) }
-        ensures counted { IfOk result (λ p. self.new.logged ≡ records_past self.old.logged (effect_of p)) }
+        ensures known { IfOk result (λ p. AreInUseOn image.now.parts.sizes (P.device dev.new)
+            used.new) }
+        ensures meaning { IfOk result (λ p. outcome_of p self.new ≡ step image.now count self.old
+            (heap_in image.now.parts.sizes (P.device dev.old).cache)) }
+        ensures done { IfOk result (λ p.
+            PlaysAll (P.device dev.old) (events_of image.now.parts.sizes attempt count
+            (heap_in image.now.parts.sizes (P.device dev.old).cache) (effect_of p))
+            (P.device dev.new)) }
+        ensures refused { IfErr result
+            (λ why. PlaysPart why (P.device dev.old)
+            (events_of image.now.parts.sizes attempt count
+            (heap_in image.now.parts.sizes (P.device dev.old).cache)
+            (effect_in (decide image.now count self.old
+            (heap_in image.now.parts.sizes (P.device dev.old).cache)))) (P.device dev.new)) }
+        ensures counted { IfOk result (λ p. self.new.logged ≡ records_past self.old.logged
+            (effect_of p)) }
         ensures logged { OnErr result (self.new.logged ≡ self.old.logged) }
         ensures lines { (P.device dev.new).lines ≡ (P.device dev.old).lines }
     {
@@ -636,7 +677,7 @@ impl Machine {
     }
 }
 
-/// How many records there are after an effect.
+/// The number of records after an effect.
 fn records_past(count: u64, effect: Effect) -> u64
     requires { count < 2 ^ 63 }
     ensures { result ≡ records_past count effect }
@@ -653,7 +694,7 @@ fn records_past(count: u64, effect: Effect) -> u64
 }
 
 impl Machine {
-    /// Runs to the end, or to the refused event, in at most `most` steps. A run that isn't at its end
+    /// Runs to the end, or to the refused event, in at most `most` steps. A run that hasn't ended
     /// by then ends as if it had no tick left.
     pub(crate) fn run_on<P: PmemWork, L: Ledger>(
         &mut self,
@@ -669,13 +710,26 @@ impl Machine {
         requires dirty { AreLines (heap_words image.now.parts.sizes) self.old.dirty }
         requires count { count ≤ image.now.parts.sizes.records }
         requires logged { self.old.logged < 2 ^ 62 }
-        ensures meaning { IfOk result (λ e. e ≡ end_of (due image.now attempt image.now.parts.most count self.old (P.device dev.old).cache).fate) }
-        ensures whole { OnOk result (PlaysAll (P.device dev.old) (due image.now attempt image.now.parts.most count self.old (P.device dev.old).cache).events (P.device dev.new)) }
-        ensures part { IfErr result (λ why. PlaysPart why (P.device dev.old) (due image.now attempt image.now.parts.most count self.old (P.device dev.old).cache).events (P.device dev.new)) }
-        ensures cost { OnOk result (steps.new ≡ steps.old + (due image.now attempt image.now.parts.most count self.old (P.device dev.old).cache).steps) }
-        ensures bound { steps.new ≤ steps.old + (due image.now attempt image.now.parts.most count self.old (P.device dev.old).cache).steps }
+        ensures meaning { IfOk result (λ e.
+            e ≡ end_of (due image.now attempt image.now.parts.most count self.old
+            (P.device dev.old).cache).fate) }
+        ensures whole { OnOk result (PlaysAll (P.device dev.old)
+            (due image.now attempt image.now.parts.most count self.old
+            (P.device dev.old).cache).events (P.device dev.new)) }
+        ensures part { IfErr result (λ why.
+            PlaysPart why (P.device dev.old)
+            (due image.now attempt image.now.parts.most count self.old
+            (P.device dev.old).cache).events (P.device dev.new)) }
+        ensures cost { OnOk result (steps.new ≡ steps.old
+            + (due image.now attempt image.now.parts.most count self.old
+            (P.device dev.old).cache).steps) }
+        ensures bound { steps.new ≤ steps.old
+            + (due image.now attempt image.now.parts.most count self.old
+            (P.device dev.old).cache).steps }
         ensures most { steps.new ≤ steps.old + image.now.parts.most }
-        ensures logged { OnOk result (self.new.logged + count ≡ (due image.now attempt image.now.parts.most count self.old (P.device dev.old).cache).records + self.old.logged) }
+        ensures logged { OnOk result (self.new.logged + count
+            ≡ (due image.now attempt image.now.parts.most count self.old
+            (P.device dev.old).cache).records + self.old.logged) }
         ensures lines { (P.device dev.new).lines ≡ (P.device dev.old).lines }
     {
         let mut used = InUse::unknown();

@@ -1,4 +1,4 @@
-//! A machine over a pool: one step, or a run to its end.
+//! A machine on a pool: one step, or a run to its end.
 
 ghost use Rattle.std.specs.Prelude.{◌≡◌, ◌+◌, ◌-◌, ◌^◌, ◌<◌, ◌≤◌, true, false};
 ghost use Rattle.cache_model.specs.Cache.{view};
@@ -7,7 +7,7 @@ ghost use Rattle.clobber_log.specs.Logs.{attempt_in, count_in};
 ghost use Rattle.pm_machine.specs.Effects.{events_of};
 ghost use Rattle.pm_machine.specs.Machine.{step};
 ghost use Rattle.pm_machine.specs.Runs.{heap_in, AreLines, due};
-ghost use Rattle.pm_machine.specs.Answers.{Stepped, Ran};
+ghost use Rattle.pm_machine.specs.Answers.{Stepped, RunAnswered};
 
 use crate::answer::{RunAnswer, StepAnswer};
 use crate::find::InUse;
@@ -19,17 +19,26 @@ use pmem::PmemWork;
 use std::sync::ledger::Ledger;
 
 impl Machine {
-    /// One step, over the pool of the image that the machine was made for. Behind an end or a
-    /// refusal the machine is of no more use. On a device that is off the answer is `Off`, and
-    /// nothing has changed.
+    /// One step, on the pool of the image that the machine was made for. After an end or a refusal
+    /// the machine must not be used again. On a device that is off the answer is `Off`, and nothing
+    /// has changed.
     pub fn step<P: PmemWork>(&mut self, image: &Image, dev: &mut P) -> StepAnswer
         requires lines { (P.device dev.old).lines ≡ pool_lines image.now.parts.sizes }
         requires dirty { AreLines (heap_words image.now.parts.sizes) self.old.dirty }
         requires logged { self.old.logged < 2 ^ 62 }
-        ensures stepped { (P.device dev.old).on ≡ true → Stepped result (step image.now (count_in image.now.parts.sizes (view (P.device dev.old).cache)) self.old (heap_in image.now.parts.sizes (P.device dev.old).cache)) (events_of image.now.parts.sizes (attempt_in image.now.parts.sizes (view (P.device dev.old).cache)) (count_in image.now.parts.sizes (view (P.device dev.old).cache)) (heap_in image.now.parts.sizes (P.device dev.old).cache)) self.new (P.device dev.old) (P.device dev.new) }
+        ensures stepped { (P.device dev.old).on ≡ true
+            → Stepped result (step image.now
+            (count_in image.now.parts.sizes (view (P.device dev.old).cache)) self.old
+            (heap_in image.now.parts.sizes (P.device dev.old).cache))
+            (events_of image.now.parts.sizes
+            (attempt_in image.now.parts.sizes (view (P.device dev.old).cache))
+            (count_in image.now.parts.sizes (view (P.device dev.old).cache))
+            (heap_in image.now.parts.sizes (P.device dev.old).cache)) self.new (P.device dev.old)
+            (P.device dev.new) }
         ensures off { (P.device dev.old).on ≡ false → result ≡ StepAnswer.Off }
         ensures same { (P.device dev.old).on ≡ false → P.device dev.new ≡ P.device dev.old }
-        ensures dirty { result ≡ StepAnswer.Next → AreLines (heap_words image.now.parts.sizes) self.new.dirty }
+        ensures dirty { result ≡ StepAnswer.Next
+            → AreLines (heap_words image.now.parts.sizes) self.new.dirty }
         ensures logged { self.new.logged ≤ self.old.logged + 1 }
         ensures faults { (P.device dev.old).faults ≤ (P.device dev.new).faults }
         ensures lines { (P.device dev.new).lines ≡ (P.device dev.old).lines }
@@ -44,8 +53,8 @@ impl Machine {
     }
 
     /// Runs to the end, or to the refused event, in at most `most` steps of the image. A run that
-    /// isn't at its end by then, which no compiled program has, traps for its steps. The answers are
-    /// otherwise those of `step`.
+    /// hasn't ended by then, which no compiled program has, ends with the trap steps. Otherwise the
+    /// answers are those of `step`.
     pub fn run<P: PmemWork, L: Ledger>(
         &mut self,
         image: &Image,
@@ -55,8 +64,18 @@ impl Machine {
         requires lines { (P.device dev.old).lines ≡ pool_lines image.now.parts.sizes }
         requires dirty { AreLines (heap_words image.now.parts.sizes) self.old.dirty }
         requires logged { self.old.logged < 2 ^ 62 }
-        ensures ran { (P.device dev.old).on ≡ true → Ran result (due image.now (attempt_in image.now.parts.sizes (view (P.device dev.old).cache)) image.now.parts.most (count_in image.now.parts.sizes (view (P.device dev.old).cache)) self.old (P.device dev.old).cache) (count_in image.now.parts.sizes (view (P.device dev.old).cache)) (P.device dev.old) (P.device dev.new) steps.old steps.new self.old.logged self.new.logged }
-        ensures bound { (P.device dev.old).on ≡ true → steps.new ≤ steps.old + (due image.now (attempt_in image.now.parts.sizes (view (P.device dev.old).cache)) image.now.parts.most (count_in image.now.parts.sizes (view (P.device dev.old).cache)) self.old (P.device dev.old).cache).steps }
+        ensures ran { (P.device dev.old).on ≡ true
+            → RunAnswered result (due image.now
+            (attempt_in image.now.parts.sizes (view (P.device dev.old).cache)) image.now.parts.most
+            (count_in image.now.parts.sizes (view (P.device dev.old).cache)) self.old
+            (P.device dev.old).cache) (count_in image.now.parts.sizes
+            (view (P.device dev.old).cache)) (P.device dev.old) (P.device dev.new) steps.old
+            steps.new self.old.logged self.new.logged }
+        ensures bound { (P.device dev.old).on ≡ true
+            → steps.new ≤ steps.old + (due image.now
+            (attempt_in image.now.parts.sizes (view (P.device dev.old).cache)) image.now.parts.most
+            (count_in image.now.parts.sizes (view (P.device dev.old).cache)) self.old
+            (P.device dev.old).cache).steps }
         ensures most { steps.new ≤ steps.old + image.now.parts.most }
         ensures off { (P.device dev.old).on ≡ false → result ≡ RunAnswer.Off }
         ensures same { (P.device dev.old).on ≡ false → P.device dev.new ≡ P.device dev.old }

@@ -1,4 +1,4 @@
--- The answer of a list of events, of what its events gave as a result.
+-- The answer of a list of events, from the result of playing it.
 use Rattle.std.specs.Prelude.{Result, Ok, Err}
 use Rattle.pmem.specs.declared.answer.Refusal.{Refusal}
 use Rattle.pmem.specs.declared.answer.Refusal.TheVariants.{Off, Failed, NoMemory}

@@ -1,16 +1,17 @@
--- What is known of a device behind a list of events: how many were done, which one was refused, and what stands. The numbers of
--- the cases exclude each other, so of a device that is on, and where want of memory doesn't come, the events that are left and
--- the armed number decide the answer: all are done exactly where both numbers, as far as they are there, are at least the
--- length; Off comes exactly where the events left are fewer, and the armed number isn't below them; else Failed comes.
+-- What is known of a device after a list of events: how many were done, which one was refused, and
+-- the device now. The cases exclude each other. So if the device is on and memory doesn't run
+-- short, the number of events left and the fault countdown decide the answer: all events are done
+-- exactly if both numbers, as far as they exist, are at least the length of the list; Off comes
+-- exactly if fewer events are left and the countdown isn't below that number; else Failed comes.
 use Rattle.std.specs.Prelude.{ℕ, ◌-◌, ◌<◌, ◌≤◌, ◌≡◌, true, false, Option, Some, None, List, [], ◌++◌, length, take}
 use Rattle.cache_model.specs.Event.{CacheEvent}
 use Rattle.cache_model.specs.Play.{play}
-use Rattle.pmem.specs.Device.{Device, Rose}
+use Rattle.pmem.specs.Device.{Device, FaultsRose}
 use Rattle.pmem.specs.Played.{PlaysAll, PlaysPart}
 use Rattle.pmem.specs.declared.answer.Refusal.{Refusal}
 use Rattle.pmem.specs.declared.answer.Refusal.TheVariants.{Off, Failed, NoMemory}
 
--- All were done.
+-- All events were done.
 pub record AllDone (d : Device) (es : List CacheEvent) (b : Device) : Type 0 where
   pub lines : b.lines ≡ d.lines
   pub cache : b.cache ≡ play d.cache es
@@ -18,11 +19,13 @@ pub record AllDone (d : Device) (es : List CacheEvent) (b : Device) : Type 0 whe
   pub faults : b.faults ≡ d.faults
   pub left : (n : ℕ) → d.left ≡ Some n → (length es ≤ n) × (b.left ≡ Some (n - length es))
   pub endless : d.left ≡ None → b.left ≡ None
-  pub armed : (i : ℕ) → d.armed ≡ Some (Some i) → (length es ≤ i) × (b.armed ≡ Some (Some (i - length es)))
+  pub armed : (i : ℕ) → d.armed ≡ Some (Some i) → (length es ≤ i)
+      × (b.armed ≡ Some (Some (i - length es)))
   pub unarmed : d.armed ≡ Some None → b.armed ≡ Some None
   pub untold : d.armed ≡ None → b.armed ≡ None
 
--- The power went at event n, counted from 0: so many were left, and no fault was armed for an earlier one.
+-- The power went at event n, counted from 0: n events were left, and no fault was armed for an
+-- earlier one.
 pub record WentOff (d : Device) (es : List CacheEvent) (b : Device) : Type 0 where
   pub n : ℕ
   pub left : d.left ≡ Some n
@@ -34,7 +37,8 @@ pub record WentOff (d : Device) (es : List CacheEvent) (b : Device) : Type 0 whe
   pub none : b.left ≡ None
   pub faults : b.faults ≡ d.faults
 
--- Event n failed, counted from 0: more were left, the count rose, and where the armed number is told it was n.
+-- Event n failed, counted from 0: more than n events were left, the count of faults rose, and a
+-- visible fault countdown was n.
 pub record HasFailed (d : Device) (es : List CacheEvent) (b : Device) : Type 0 where
   pub n : ℕ
   pub fewer : n < length es
@@ -46,9 +50,9 @@ pub record HasFailed (d : Device) (es : List CacheEvent) (b : Device) : Type 0 w
   pub lines : b.lines ≡ d.lines
   pub was_on : d.on ≡ true
   pub on : b.on ≡ true
-  pub rose : Rose d.faults b.faults
+  pub rose : FaultsRose d.faults b.faults
 
--- Memory was short before event n: those before it are done, and nothing else has changed.
+-- Memory ran short before event n: the events before it are done, and nothing else has changed.
 pub record WasShort (d : Device) (es : List CacheEvent) (b : Device) : Type 0 where
   pub n : ℕ
   pub fewer : n < length es
@@ -66,7 +70,8 @@ FailedLaw = (d b : Device) (es : List CacheEvent) → PlaysPart Failed d es b �
 abbrev pub MemoryLaw : Type 0
 MemoryLaw = (d b : Device) (es : List CacheEvent) → PlaysPart NoMemory d es b → WasShort d es b
 
--- A device that is off does no event: it refuses the first one with Off, or memory is short before it, and its lines stay.
+-- A device that is off does no event: it refuses the first one with Off, or memory runs short
+-- before it, and its lines stay.
 abbrev pub DownLaw : Type 0
 DownLaw =
     (d b : Device) (es : List CacheEvent) → d.on ≡ false →
@@ -75,7 +80,8 @@ DownLaw =
     × (PlaysPart Failed d es b → ⊥)
     × (PlaysPart NoMemory d es b → b ≡ d)
 
--- Lists of events one behind the other: all of both, or a part of the first, or all of the first and a part of the next.
+-- Two lists of events in a row: all of both, or a part of the first, or all of the first and a part
+-- of the next.
 abbrev pub GlueLaw : Type 0
 GlueLaw =
     (es fs : List CacheEvent) (d b c : Device) →

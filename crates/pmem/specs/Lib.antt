@@ -2,9 +2,8 @@ pub mod Device
 pub mod Played
 pub mod Answer
 pub mod Switch
-pub mod Sim
 pub mod Law
 pub mod Fail
 pub mod Sparse
 pub mod Kept
-pub mod SparseDevice
+pub mod inside

@@ -20,7 +20,8 @@ pub enum StoreEvent {
     NoMemory,
 }
 
-/// The answer of a list of events: all were done, or the first was refused for this cause.
+/// The answer of a list of events: all were done, or some event was the first refused, for this
+/// cause.
 #[derive(Clone, Copy, Debug, PartialEq, Eq, Drop)]
 pub enum LogAnswer {
     Done,
@@ -37,7 +38,8 @@ pub enum Refusal {
     NoMemory,
 }
 
-/// How far the seal of a call has come: no version of its line has it, some have, or all have.
+/// How far the seal of a call has come: no version of its line has it, some versions have it, or
+/// all have it.
 #[derive(Clone, Copy, Debug, PartialEq, Eq, Drop)]
 pub enum Phase {
     Unsealed,
@@ -46,7 +48,7 @@ pub enum Phase {
 }
 
 impl LogAnswer {
-    /// The answer of a list of events whose result is known.
+    /// The answer for this result of a list of events.
     pub fn of(played: Result<(), Refusal>) -> LogAnswer
         ensures { result ≡ answer_of played }
     {

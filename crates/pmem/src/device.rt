@@ -1,4 +1,5 @@
-//! The two parts of a device: what a running transaction uses, and what owns the switch.
+//! The two parts of a device: the one that a running transaction uses, and the one for the owner of
+//! the switch.
 
 ghost use Rattle.std.specs.Prelude.{◌≡◌, ◌*◌, ◌<◌, ◌≤◌, true, false, Some, None, IsSome, IsNone, IfSome, OnOk, OnErr, IfErr};
 ghost use Rattle.cache_model.specs.Cache.{view};
@@ -11,7 +12,7 @@ use crate::answer::{Event, StoreEvent};
 use cache_model::{BadPick, Choice};
 use std::alloc::{AllocError, Global};
 
-/// Loads, and the three events.
+/// Loads, and the three events: store, flush and fence.
 pub trait PmemWork {
     ghost device: { Self → Device };
 
@@ -19,7 +20,8 @@ pub trait PmemWork {
     fn lines(&self) -> u64
         ensures { result ≡ (device self.now).lines };
 
-    /// The word in the newest version of its line. It is no event.
+    /// The word in the newest version of its line, or `None` while the device is off. A load is no
+    /// event.
     fn load(&self, word: u64) -> Option<i64>
         requires { word < 8 * (device self.now).lines }
         ensures value { IfSome result (λ v. v ≡ view (device self.now).cache word) }
@@ -38,38 +40,43 @@ pub trait PmemWork {
         ensures answer { Answered result (device self.old) (Flush line) (device self.new) }
         ensures lines { (device self.new).lines ≡ (device self.old).lines };
 
-    /// Drops the versions that are older than a mark, in every line.
+    /// In every line with a mark, drops the versions older than the marked one.
     fn fence(&mut self) -> Event
         ensures answer { Answered result (device self.old) Fence (device self.new) }
         ensures lines { (device self.new).lines ≡ (device self.old).lines };
 }
 
-/// The switch, and what a test arms.
+/// The switch, and the faults that a test arms.
 pub trait Pmem: PmemWork {
-    /// Blank lines, switched on, with nothing armed. After `AllocError` all is as before.
+    /// Makes all lines blank and switches the device on, with nothing armed. After `AllocError` all
+    /// is as before.
     fn blank(&mut self, lines: u64) -> Result<(), AllocError>
         ensures done { OnOk result (Self.device self.new ≡ blanked lines (Self.device self.old)) }
         ensures refused { OnErr result (Self.device self.new ≡ Self.device self.old) };
 
-    /// Leaves each line by the choice and switches the device on. On `BadPick`, which names the first
-    /// pick whose line or version isn't there, nothing changes.
+    /// Cuts each line to the version that the choice says and switches the device on. On `BadPick`,
+    /// which names the first pick whose line or version doesn't exist, nothing changes.
     fn power(&mut self, choice: &Choice) -> Result<(), BadPick>
         requires { Rises choice.now.picks }
-        ensures fits { OnOk result (bad (memory_of (Self.device self.old)) choice.now.picks ≡ None) }
-        ensures done { OnOk result (Self.device self.new ≡ powered choice.now (Self.device self.old)) }
-        ensures bad { IfErr result (λ pick. bad (memory_of (Self.device self.old)) choice.now.picks ≡ Some pick.line) }
+        ensures fits { OnOk result (bad (memory_of (Self.device self.old))
+            choice.now.picks ≡ None) }
+        ensures done { OnOk result (Self.device self.new ≡ powered choice.now
+            (Self.device self.old)) }
+        ensures bad { IfErr result (λ pick. bad (memory_of (Self.device self.old)) choice.now.picks
+            ≡ Some pick.line) }
         ensures refused { OnErr result (Self.device self.new ≡ Self.device self.old) };
 
-    /// After `k` more events that are done the device goes off at the next one.
+    /// Arms a power cut: after `k` more events are done, the device goes off at the next one.
     fn arm(&mut self, k: u64)
         ensures { Self.device self.new ≡ with_left k (Self.device self.old) };
 
-    /// After `k` more events that are done the next one fails, where the device tells this.
+    /// Arms a fault: after `k` more events are done, the next one fails, if the device shows its
+    /// armed fault.
     fn arm_fault(&mut self, k: u64)
         ensures { Self.device self.new ≡ with_armed k (Self.device self.old) };
 
-    /// This device whole. In its place it leaves one of 0 lines that is on, has nothing armed and
-    /// has the same count of faults. It is no event and takes no memory.
+    /// Moves the whole device out. In its place it leaves a device of 0 lines that is on, has
+    /// nothing armed and has the same count of faults. It is no event and takes no memory.
     fn take(&mut self) -> Self
         ensures taken { Self.device result ≡ Self.device self.old }
         ensures left { Self.device self.new ≡ blanked 0 (Self.device self.old) };

@@ -1,4 +1,4 @@
-//! The three events of a device as results, so that a list of them reads as lines that end in `?`.
+//! The three events of a device as results, so that code can play a list of them with `?`.
 
 ghost use Rattle.std.specs.Prelude.{◌≡◌, ◌*◌, ◌<◌, [], ◌∷◌, OnOk, IfErr};
 ghost use Rattle.cache_model.specs.Event.{Store, Flush, Fence};
@@ -7,10 +7,11 @@ ghost use Rattle.pmem.specs.Played.{PlaysAll, Refuses};
 use crate::answer::{Event, Refusal, StoreEvent};
 use crate::device::PmemWork;
 
-/// A store.
+/// Stores a value at a word.
 pub fn store<P: PmemWork>(dev: &mut P, word: u64, value: i64) -> Result<(), Refusal>
     requires { word < 8 * (P.device dev.old).lines }
-    ensures done { OnOk result (PlaysAll (P.device dev.old) (Store word value ∷ []) (P.device dev.new)) }
+    ensures done { OnOk result (PlaysAll (P.device dev.old) (Store word value ∷ [])
+        (P.device dev.new)) }
     ensures refused { IfErr result (λ why. Refuses why (P.device dev.old) (P.device dev.new)) }
     ensures lines { (P.device dev.new).lines ≡ (P.device dev.old).lines }
 {
@@ -22,7 +23,7 @@ pub fn store<P: PmemWork>(dev: &mut P, word: u64, value: i64) -> Result<(), Refu
     }
 }
 
-/// A flush.
+/// Flushes a line.
 pub fn flush<P: PmemWork>(dev: &mut P, line: u64) -> Result<(), Refusal>
     requires { line < (P.device dev.old).lines }
     ensures done { OnOk result (PlaysAll (P.device dev.old) (Flush line ∷ []) (P.device dev.new)) }
@@ -36,7 +37,7 @@ pub fn flush<P: PmemWork>(dev: &mut P, line: u64) -> Result<(), Refusal>
     }
 }
 
-/// A fence.
+/// Fences all lines.
 pub fn fence<P: PmemWork>(dev: &mut P) -> Result<(), Refusal>
     ensures done { OnOk result (PlaysAll (P.device dev.old) (Fence ∷ []) (P.device dev.new)) }
     ensures refused { IfErr result (λ why. Refuses why (P.device dev.old) (P.device dev.new)) }

@@ -1,4 +1,4 @@
-//! A device in memory that fails at one chosen event, for tests. It doesn't tell its armed fault.
+//! A device in memory that fails at one chosen event, for tests. It doesn't show its armed fault.
 
 ghost use Rattle.std.specs.Prelude.{◌≡◌, ◌*◌, ◌<◌, ◌+◌, ◌-◌, ◌^◌, min, length, true, false, Some, None, [], IsSome, IsNone, IfSome, OnOk, OnErr, IfErr};
 ghost use Rattle.cache_model.specs.Cache.{blank, view};
@@ -6,7 +6,7 @@ ghost use Rattle.cache_model.specs.Event.{Store, Flush, Fence};
 ghost use Rattle.cache_model.specs.Collapse.{bad, Rises};
 ghost use Rattle.pmem.specs.Device.{Device, memory_of, blanked, powered, with_left, with_armed};
 ghost use Rattle.pmem.specs.Played.{Answered, Stored};
-ghost use Rattle.pmem.specs.Switch.{told};
+ghost use Rattle.pmem.specs.Switch.{told_device, fresh_switch};
 ghost use Rattle.pmem.specs.Fail.{fail_device, fail_inside, next_number, FailAnswered, FailStored};
 
 use crate::answer::{Event, StoreEvent};
@@ -16,7 +16,8 @@ use cache_model::{BadPick, Cache, Choice};
 use std::alloc::{AllocError, Global};
 use std::mem;
 
-/// Lines with all their versions, a switch, the number of the event that fails, and that of the next event.
+/// Lines with all their versions, a switch, the number of the event that fails, and the number of
+/// the next event.
 #[derive(Drop)]
 pub struct FailPmem {
     alloc: Global,
@@ -27,9 +28,11 @@ pub struct FailPmem {
 }
 
 impl FailPmem {
-    /// No line, on, nothing armed, no fault; the event numbered `at` will fail. It takes no memory.
+    /// A device with no line, on, with nothing armed and no fault; the event numbered `at` will
+    /// fail. It takes no memory.
     pub fn new(alloc: Global, at: u64) -> Self
-        ensures device { fail_inside result ≡ told 0 blank (record { on = true; left = None; armed = None; faults = 0 }) }
+        ensures device { fail_inside result ≡ told_device (record { lines = 0; cache = blank })
+            (fresh_switch 0) }
         ensures number { result.number ≡ 0 }
         ensures at { result.at ≡ at }
     {
@@ -59,7 +62,8 @@ impl PmemWork for FailPmem {
 
     fn store(&mut self, word: u64, value: i64) -> StoreEvent
         requires { word < 8 * (fail_device self.old).lines }
-        ensures answer { Stored result (fail_device self.old) (Store word value) (fail_device self.new) }
+        ensures answer { Stored result (fail_device self.old) (Store word value)
+            (fail_device self.new) }
         ensures lines { (fail_device self.new).lines ≡ (fail_device self.old).lines }
         ensures rule { FailStored result self.old (Store word value) self.new }
     {
@@ -82,7 +86,8 @@ impl PmemWork for FailPmem {
 
     fn flush(&mut self, line: u64) -> Event
         requires { line < (fail_device self.old).lines }
-        ensures answer { Answered result (fail_device self.old) (Flush line) (fail_device self.new) }
+        ensures answer { Answered result (fail_device self.old) (Flush line)
+            (fail_device self.new) }
         ensures lines { (fail_device self.new).lines ≡ (fail_device self.old).lines }
         ensures rule { FailAnswered result self.old (Flush line) self.new }
     {
@@ -136,9 +141,12 @@ impl Pmem for FailPmem {
 
     fn power(&mut self, choice: &Choice) -> Result<(), BadPick>
         requires { Rises choice.now.picks }
-        ensures fits { OnOk result (bad (memory_of (fail_device self.old)) choice.now.picks ≡ None) }
-        ensures done { OnOk result (fail_device self.new ≡ powered choice.now (fail_device self.old)) }
-        ensures bad { IfErr result (λ pick. bad (memory_of (fail_device self.old)) choice.now.picks ≡ Some pick.line) }
+        ensures fits { OnOk result (bad (memory_of (fail_device self.old))
+            choice.now.picks ≡ None) }
+        ensures done { OnOk result (fail_device self.new ≡ powered choice.now
+            (fail_device self.old)) }
+        ensures bad { IfErr result (λ pick. bad (memory_of (fail_device self.old)) choice.now.picks
+            ≡ Some pick.line) }
         ensures refused { OnErr result (fail_device self.new ≡ fail_device self.old) }
         ensures armed { self.new.switch.armed ≡ self.old.switch.armed }
         ensures number { (self.new.number ≡ self.old.number) × (self.new.at ≡ self.old.at) }

@@ -2,7 +2,7 @@
 
 ghost use Rattle.pmem.specs.Law.{AllLaw, OffLaw, FailedLaw, MemoryLaw, DownLaw, GlueLaw};
 
-/// What is known behind a list of events, by the answer. It does nothing.
+/// What is known after a list of events, by its answer. The function does nothing.
 pub fn laws()
     ensures all { AllLaw }
     ensures off { OffLaw }

@@ -1,7 +1,7 @@
-//! What a line keeps besides its newest version.
+//! The older versions of a line.
 
 ghost use Rattle.std.specs.Prelude.{◌≡◌, ◌<◌, ◌^◌, ◌++◌, ◌∷◌, [], OnOk, OnErr, IfOk, length, slice_get, None};
-ghost use Rattle.pmem.specs.Sparse.{flush_older, fence_older, has_older, left_older};
+ghost use Rattle.pmem.specs.inside.Sparse.{flush_older, fence_older, has_older, left_older};
 
 use cache_model::Rest;
 use std::alloc::{AllocError, Global};
@@ -54,14 +54,14 @@ impl Kept {
         !self.versions.is_empty()
     }
 
-    /// The version of this index, from the oldest.
+    /// The version at this index, counted from the oldest.
     pub fn version(&self, at: u64) -> Option<[i64; 8]>
         ensures { result ≡ slice_get self.now.older at }
     {
         self.versions.get(at as usize).copied()
     }
 
-    /// The older version that a power cut leaves; none where it leaves the newest.
+    /// The older version that a power cut leaves; none if it leaves the newest.
     pub fn left(&self, rest: Rest, pick: Option<u64>) -> Option<[i64; 8]>
         ensures { result ≡ left_older rest pick self.now }
     {
@@ -76,7 +76,8 @@ impl Kept {
 
     /// Appends a version.
     pub fn push(&mut self, version: [i64; 8]) -> Result<(), AllocError>
-        ensures done { OnOk result (self.new ≡ record { older = self.old.older ++ version ∷ []; mark = self.old.mark }) }
+        ensures done { OnOk result (self.new
+            ≡ record { older = self.old.older ++ version ∷ []; mark = self.old.mark }) }
         ensures refused { OnErr result (self.new ≡ self.old) }
     {
         self.versions.push(version)?;
@@ -92,7 +93,7 @@ impl Kept {
         }
     }
 
-    /// Drops what is older than the mark, and the mark.
+    /// Drops the versions older than the mark, and clears the mark.
     pub fn fence(&mut self)
         ensures { self.new ≡ fence_older self.old }
     {

@@ -1,9 +1,10 @@
-//! The part of a device in memory that isn't its lines: the switch, the numbers of events until the
-//! power goes or a fault comes, and the count of faults.
+//! A device in memory without its lines: the switch, the numbers of events until the power goes or
+//! a fault comes, and the count of faults.
 
 ghost use Rattle.std.specs.Prelude.{◌≡◌, true, false, Some, None};
-ghost use Rattle.pmem.specs.Device.{less};
-ghost use Rattle.pmem.specs.Switch.{Gate, Fails, spent_switch};
+ghost use Rattle.pmem.specs.Device.{less_one};
+ghost use Rattle.pmem.specs.Switch.{fresh_switch};
+ghost use Rattle.pmem.specs.inside.Switch.{Gate, Fails, spent_switch};
 
 use crate::answer::Event;
 
@@ -15,9 +16,9 @@ pub struct Switch {
     pub faults: u64,
 }
 
-/// One less, where there is a number.
+/// One less, if there is a number.
 fn less_of(number: Option<u64>) -> Option<u64>
-    ensures { result ≡ less number }
+    ensures { result ≡ less_one number }
 {
     match number {
         Some(k) => Some(k.saturating_sub(1)),
@@ -26,9 +27,9 @@ fn less_of(number: Option<u64>) -> Option<u64>
 }
 
 impl Switch {
-    /// On, with nothing armed, and so many faults.
+    /// A switch that is on, with nothing armed and so many faults counted.
     pub fn fresh(faults: u64) -> Self
-        ensures { result ≡ record { on = true; left = None; armed = None; faults = faults } }
+        ensures { result ≡ fresh_switch faults }
     {
         Switch {
             on: true,
@@ -38,8 +39,8 @@ impl Switch {
         }
     }
 
-    /// Whether the next event goes on; if not, what it leaves. A fault comes where one is armed now, or
-    /// where it is due for another cause.
+    /// Answers whether the next event goes on, and if not, changes the switch accordingly. A fault
+    /// comes if one is armed for now, or if it is due for another cause.
     pub fn gate(&mut self, due: bool) -> Event
         ensures { Gate due result self.old self.new }
     {
@@ -55,7 +56,7 @@ impl Switch {
         Event::Done
     }
 
-    /// A fault.
+    /// Counts a fault.
     fn fail(&mut self)
         ensures { Fails self.old self.new }
     {
@@ -65,7 +66,7 @@ impl Switch {
         }
     }
 
-    /// An event is done.
+    /// Counts an event that is done.
     pub fn spend(&mut self)
         ensures { self.new ≡ spent_switch self.old }
     {

@@ -1,4 +1,4 @@
--- The words of a read image hold what a recovery needs.
+-- The words of an image that was read hold what a recovery needs.
 use Rattle.std.proofs.Common.{◌≡◌, ◌≢◌, ℕ, suc, ◌+◌, ◌*◌, ◌^◌, ◌≤◌, ◌==◌, cond, Result, Ok, Err, IfOk, List, length, ℤ, pos, ◌+ℤ◌, refl, sym, ap, ◌∙◌, subst, arith}
 use Rattle.pool_layout.specs.declared.places.Version.{Version}
 use Rattle.pool_layout.specs.declared.places.Version.TheVariants.{First, Second}
@@ -8,11 +8,11 @@ use Rattle.pool_layout.specs.declared.wanted.Wanted.{Wanted}
 use Rattle.pool_layout.specs.Sizes.{pool_lines, slot_word}
 use Rattle.pool_layout.specs.Places.{at, log_line, pool_of}
 use Rattle.pool_layout.specs.Bytes.{word_in}
-use Rattle.pool_layout.specs.Image.{Words, words_of, IsSealed, IsUpTo}
+use Rattle.pool_layout.specs.Image.{Words, image_words, IsSealed, IsUpTo}
 use Rattle.pool_layout.specs.Log.{WellMade}
 use Rattle.pool_layout.specs.Good.{HasSuper, Good}
-use Rattle.pool_layout.specs.Opens.{Opens}
-use Rattle.pool_layout.specs.Moved.{moved, first_of, AreMoved}
+use Rattle.pool_layout.specs.Opens.{IsOpenable}
+use Rattle.pool_layout.specs.Moved.{moved, first_layout, AreMoved}
 use Rattle.pool_layout.specs.Fault.{Accepts, rules_of, version_of, needed}
 use Rattle.pool_layout.specs.Opened.{IsOpened, wanted_rules}
 use Rattle.pool_layout.proofs.Moving.{moved_keeps, moved_unsealed}
@@ -20,26 +20,42 @@ use Rattle.pool_layout.proofs.Kept.{slot_inside}
 use Rattle.pool_layout.proofs.Opening.{kept_opens}
 use Rattle.pool_layout.proofs.Superblock.{HasHead, has_head, digest_word, sizes_word, second_word}
 
--- the second version: the answer's words are the image's
+-- second version: the words that are answered are the image's
 
-rules_second : (wanted : Wanted) (bytes : List ℕ) → version_of bytes ≡ Second → rules_of wanted bytes ≡ wanted_rules wanted
-rules_second wanted bytes is = ap (λ (v : Version). let r : Rules = record { layout = record { version = v; sizes = wanted.sizes }; txs = wanted.txs; structs = wanted.structs } in r) is
+rules_second : (wanted : Wanted) (bytes : List ℕ) → version_of bytes ≡ Second
+    → rules_of wanted bytes ≡ wanted_rules wanted
+rules_second wanted bytes is =
+    ap (λ (v : Version). let r : Rules =
+    record {
+      layout = record { version = v; sizes = wanted.sizes };
+      txs = wanted.txs;
+      structs = wanted.structs;
+    } in r) is
 
-pub opened_second : (wanted : Wanted) (bytes : List ℕ) (all : List ℤ) → Accepts wanted bytes → version_of bytes ≡ Second → length all ≡ 8 * pool_lines wanted.sizes → 16 ≤ length bytes → words_of all ≡ word_in bytes → IsOpened wanted all
+pub opened_second : (wanted : Wanted) (bytes : List ℕ) (all : List ℤ) → Accepts wanted bytes
+    → version_of bytes ≡ Second → length all ≡ 8 * pool_lines wanted.sizes → 16 ≤ length bytes
+    → image_words all ≡ word_in bytes → IsOpened wanted all
 opened_second wanted bytes all accepts is len long agree =
     let head : HasHead wanted bytes = has_head wanted bytes accepts.early in
     let super : HasSuper wanted.sizes wanted.digest (word_in bytes) = record {
-      sizes_are = sizes_word wanted bytes (word_in bytes) head (second_word wanted bytes head long is) (λ k lt ne. refl);
+      sizes_are = sizes_word wanted bytes (word_in bytes) head
+          (second_word wanted bytes head long is) (λ k lt ne. refl);
       digest_is = digest_word wanted bytes head;
     } in
-    let opens : Opens (wanted_rules wanted) (word_in bytes) = subst (λ (r : Rules). Opens r (word_in bytes)) (rules_second wanted bytes is) (kept_opens (rules_of wanted bytes) (word_in bytes) accepts.content) in
+    let opens : IsOpenable (wanted_rules wanted) (word_in bytes) =
+    subst (λ (r : Rules). IsOpenable r (word_in bytes)) (rules_second wanted bytes is)
+    (kept_opens (rules_of wanted bytes) (word_in bytes) accepts.content) in
     record {
       whole = len;
       super = subst (λ (i : Words). HasSuper wanted.sizes wanted.digest i) (sym agree) super;
-      opens = subst (λ (i : Words). Opens (wanted_rules wanted) i) (sym agree) opens;
+      opens = subst (λ (i : Words). IsOpenable (wanted_rules wanted) i) (sym agree) opens;
     }
 
-pub opened_read : {E : Type 0} (wanted : Wanted) (bytes : List ℕ) (r : Result (List ℤ) E) → Accepts wanted bytes → version_of bytes ≡ Second → length bytes ≡ needed wanted bytes → IfOk r (λ all. 8 * length all ≡ length bytes) → IfOk r (λ all. words_of all ≡ word_in bytes) → IfOk r (λ all. IsOpened wanted all)
+pub opened_read : {E : Type 0} (wanted : Wanted) (bytes : List ℕ) (r : Result (List ℤ) E)
+    → Accepts wanted bytes → version_of bytes ≡ Second → length bytes ≡ needed wanted bytes
+    → IfOk r (λ all. 8 * length all ≡ length bytes)
+    → IfOk r (λ all. image_words all ≡ word_in bytes)
+    → IfOk r (λ all. IsOpened wanted all)
 opened_read wanted bytes (Ok all) accepts is whole len agree =
     let lines : log_line (version_of bytes) ≡ 6 = ap log_line is in
     let long : 16 ≤ length bytes = omega arith in
@@ -47,47 +63,77 @@ opened_read wanted bytes (Ok all) accepts is whole len agree =
     opened_second wanted bytes all accepts is room long agree
 opened_read wanted bytes (Err e) accepts is whole len agree = tt
 
--- the first version: the answer's words are moved
+-- first version: the words that are answered are the moved pool's
 
-rules_first : (wanted : Wanted) (bytes : List ℕ) → version_of bytes ≡ First → Opens (rules_of wanted bytes) (word_in bytes) → (r : Rules) → r ≡ record { layout = first_of wanted.sizes; txs = wanted.txs; structs = wanted.structs } → Opens r (word_in bytes)
-rules_first wanted bytes is opens r e = subst (λ (q : Rules). Opens q (word_in bytes)) (ap (λ (v : Version). let q : Rules = record { layout = record { version = v; sizes = wanted.sizes }; txs = wanted.txs; structs = wanted.structs } in q) is ∙ sym e) opens
+rules_first : (wanted : Wanted) (bytes : List ℕ) → version_of bytes ≡ First
+    → IsOpenable (rules_of wanted bytes) (word_in bytes) → (r : Rules)
+    → r ≡ record { layout = first_layout wanted.sizes; txs = wanted.txs; structs = wanted.structs }
+    → IsOpenable r (word_in bytes)
+rules_first wanted bytes is opens r e =
+    subst (λ (q : Rules). IsOpenable q (word_in bytes))
+    (ap (λ (v : Version). let q : Rules =
+    record {
+      layout = record { version = v; sizes = wanted.sizes };
+      txs = wanted.txs;
+      structs = wanted.structs;
+    } in q) is ∙ sym e) opens
 
-moved_super : (wanted : Wanted) (bytes : List ℕ) (all : List ℤ) → HasHead wanted bytes → AreMoved wanted.sizes (word_in bytes) all → HasSuper wanted.sizes wanted.digest (words_of all)
+moved_super : (wanted : Wanted) (bytes : List ℕ) (all : List ℤ) → HasHead wanted bytes
+    → AreMoved wanted.sizes (word_in bytes) all
+    → HasSuper wanted.sizes wanted.digest (image_words all)
 unfolding moved
 moved_super wanted bytes all head are = record {
-  sizes_are = sizes_word wanted bytes (words_of all) head (are.each (Super 1) (omega arith)) (λ k lt ne. are.each (Super k) (omega arith) ∙ other k ne);
-  digest_is = λ k lt. are.each (Super (8 + k)) (omega arith) ∙ other (8 + k) (omega arith) ∙ digest_word wanted bytes head k lt;
+  sizes_are = sizes_word wanted bytes (image_words all) head (are.each (Super 1) (omega arith))
+      (λ k lt ne. are.each (Super k) (omega arith) ∙ other k ne);
+  digest_is = λ k lt. are.each (Super (8 + k)) (omega arith) ∙ other (8 + k) (omega arith)
+      ∙ digest_word wanted bytes head k lt;
 }
   where
     other : (k : ℕ) → k ≢ 1 → cond (k == 1) (pos 2) (word_in bytes k) ≡ word_in bytes k
     other k ne = grind (arith)
 
-pub opened_first : (wanted : Wanted) (bytes : List ℕ) (all : List ℤ) → Accepts wanted bytes → version_of bytes ≡ First → AreMoved wanted.sizes (word_in bytes) all → IsOpened wanted all
+pub opened_first : (wanted : Wanted) (bytes : List ℕ) (all : List ℤ) → Accepts wanted bytes
+    → version_of bytes ≡ First → AreMoved wanted.sizes (word_in bytes) all → IsOpened wanted all
 opened_first wanted bytes all accepts is are =
     let s = wanted.sizes in
-    let was = rules_first wanted bytes is (kept_opens (rules_of wanted bytes) (word_in bytes) accepts.content) (record { layout = first_of s; txs = wanted.txs; structs = wanted.structs }) refl in
+    let was = rules_first wanted bytes is
+    (kept_opens (rules_of wanted bytes) (word_in bytes) accepts.content)
+    (record { layout = first_layout s; txs = wanted.txs; structs = wanted.structs }) refl in
     let keeps = moved_keeps s (word_in bytes) all are in
-    let opens : Opens (wanted_rules wanted) (words_of all) = record {
+    let opens : IsOpenable (wanted_rules wanted) (image_words all) = record {
       mark = subst (IsUpTo 8) (sym keeps.mark) was.mark;
       done = subst (IsUpTo (2 ^ 62)) (sym keeps.done) was.done;
       attempt = 0;
       attempt_is = keeps.attempt;
       attempt_fits = omega arith;
       log = keeps.log;
-      headers = λ slot low high. subst (IsUpTo wanted.structs) (sym (keeps.heap (slot_word s slot) (slot_inside s slot low high))) (was.headers slot low high);
-      sealed = λ sealed. absurd (moved_unsealed s (word_in bytes) all was.done.0 are was.done.2 sealed);
-      first_unsealed = λ first sealed. moved_unsealed s (word_in bytes) all was.done.0 are was.done.2 sealed;
+      headers = λ slot low high. subst (IsUpTo wanted.structs)
+          (sym (keeps.heap (slot_word s slot) (slot_inside s slot low high)))
+          (was.headers slot low high);
+      sealed = λ sealed. absurd (moved_unsealed s (word_in bytes) all was.done.0 are
+          was.done.2 sealed);
+      first_unsealed = λ first sealed. moved_unsealed s (word_in bytes) all was.done.0 are
+          was.done.2 sealed;
     } in
-    record { whole = are.whole; super = moved_super wanted bytes all (has_head wanted bytes accepts.early) are; opens = opens }
+    record {
+      whole = are.whole;
+      super = moved_super wanted bytes all
+          (has_head wanted bytes accepts.early) are;
+      opens = opens;
+    }
 
-pub opened_moved : {E : Type 0} (wanted : Wanted) (bytes : List ℕ) (r : Result (List ℤ) E) → Accepts wanted bytes → version_of bytes ≡ First → IfOk r (λ all. AreMoved wanted.sizes (word_in bytes) all) → IfOk r (λ all. IsOpened wanted all)
+pub opened_moved : {E : Type 0} (wanted : Wanted) (bytes : List ℕ) (r : Result (List ℤ) E)
+    → Accepts wanted bytes → version_of bytes ≡ First
+    → IfOk r (λ all. AreMoved wanted.sizes (word_in bytes) all)
+    → IfOk r (λ all. IsOpened wanted all)
 opened_moved wanted bytes (Ok all) accepts is are = opened_first wanted bytes all accepts is are
 opened_moved wanted bytes (Err e) accepts is are = tt
 
--- at rest
+-- an image at rest
 
 next_of : (x y : ℤ) (d : ℕ) → y ≡ pos d → x ≡ pos (suc d) → x ≡ y +ℤ pos 1
-next_of x y d is e = let n : suc d ≡ d + 1 = omega arith in e ∙ ap pos n ∙ sym (ap (λ (z : ℤ). z +ℤ pos 1) is)
+next_of x y d is e = let n : suc d ≡ d + 1 = omega arith in
+    e ∙ ap pos n ∙ sym (ap (λ (z : ℤ). z +ℤ pos 1) is)
 
 up_to_is : (n d : ℕ) (x : ℤ) → IsUpTo n x → x ≡ pos d → d ≤ n
 up_to_is n d x up is = let e : up.0 ≡ d = inj up.0 d (sym up.2 ∙ is) in omega (arith, up.1)
@@ -95,18 +141,27 @@ up_to_is n d x up is = let e : up.0 ≡ d = inj up.0 d (sym up.2 ∙ is) in omeg
     inj : (a b : ℕ) → pos a ≡ pos b → a ≡ b
     inj a b e = cc
 
-pub opened_rests : (wanted : Wanted) (all : List ℤ) (a d : ℕ) → IsOpened wanted all → words_of all (at (pool_of wanted.sizes) Mark) ≡ pos 0 → words_of all (at (pool_of wanted.sizes) Attempt) ≡ pos a → words_of all (at (pool_of wanted.sizes) Done) ≡ pos d → (IsSealed (pool_of wanted.sizes) (words_of all) → ⊥) → Good wanted.sizes wanted.digest a d (λ w. words_of all (at (pool_of wanted.sizes) (Heap w))) (words_of all)
+pub opened_rests : (wanted : Wanted) (all : List ℤ) (a d : ℕ) → IsOpened wanted all
+    → image_words all (at (pool_of wanted.sizes) Mark) ≡ pos 0
+    → image_words all (at (pool_of wanted.sizes) Attempt) ≡ pos a
+    → image_words all (at (pool_of wanted.sizes) Done) ≡ pos d
+    → (IsSealed (pool_of wanted.sizes) (image_words all) → ⊥)
+    → Good wanted.sizes wanted.digest a d
+    (λ w. image_words all (at (pool_of wanted.sizes) (Heap w)))
+    (image_words all)
 opened_rests wanted all a d opened mark attempt done unsealed =
-    let image : Words = words_of all in
+    let image : Words = image_words all in
     let o = opened.opens in
     let same : o.attempt ≡ a = inj o.attempt a (sym o.attempt_is ∙ attempt) in
-    let done_fits : d ≤ 2 ^ 62 = up_to_is (2 ^ 62) d (image (at (pool_of wanted.sizes) Done)) o.done done in
+    let done_fits : d ≤ 2 ^ 62 = up_to_is (2 ^ 62) d (image (at (pool_of wanted.sizes) Done))
+    o.done done in
     record {
       super = opened.super;
       mark = mark;
       done = done;
       done_fits = omega arith;
-      unsealed = λ e. unsealed (next_of (image (at (pool_of wanted.sizes) Seal)) (image (at (pool_of wanted.sizes) Done)) d done e);
+      unsealed = λ e. unsealed (next_of (image (at (pool_of wanted.sizes) Seal))
+          (image (at (pool_of wanted.sizes) Done)) d done e);
       attempt_is = attempt;
       attempt_fits = omega (arith, o.attempt_fits);
       log = subst (λ (k : ℕ). WellMade (pool_of wanted.sizes) k image) same o.log;

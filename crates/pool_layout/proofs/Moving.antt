@@ -1,4 +1,4 @@
--- A moved pool keeps what it stands for.
+-- A moved pool keeps its content.
 use Rattle.std.proofs.Common.{◌≡◌, ◌≢◌, ⊎_elim, ℕ, suc, ◌+◌, ◌<◌, List, [], ◌∷◌, ◌++◌, length, get_or, ℤ, pos, ◌+ℤ◌, sym, ap, ◌∙◌, arith}
 use Rattle.std.proofs.Math.ListN.{get_or-append}
 use Rattle.std.proofs.Math.Seq.{get_or-append_seam}
@@ -7,26 +7,30 @@ use Rattle.pool_layout.specs.declared.limits.Sizes.{Sizes}
 use Rattle.pool_layout.specs.declared.places.Place.TheVariants.{Last, Done, Attempt, Mark, Seal, RecordStamp, Heap}
 use Rattle.pool_layout.specs.declared.places.Place.{Place}
 use Rattle.pool_layout.specs.Places.{at, pool_of, IsPlace}
-use Rattle.pool_layout.specs.Image.{Words, words_of, IsSealed}
+use Rattle.pool_layout.specs.Image.{Words, image_words, IsSealed}
 use Rattle.pool_layout.specs.Log.{WellMade}
-use Rattle.pool_layout.specs.Moved.{moved, first_of, AreMoved, KeepsPool}
+use Rattle.pool_layout.specs.Moved.{moved, first_layout, AreMoved, KeepsPool}
 use Rattle.pool_layout.proofs.Apart.{same_place}
 use Rattle.pool_layout.proofs.Records.{count_is}
 
-moved_stamp : (s : Sizes) (image : Words) (words : List ℤ) → AreMoved s image words → (j : ℕ) → j < s.records → words_of words (at (pool_of s) (RecordStamp j)) ≡ pos 0
+moved_stamp : (s : Sizes) (image : Words) (words : List ℤ) → AreMoved s image words → (j : ℕ)
+    → j < s.records → image_words words (at (pool_of s) (RecordStamp j)) ≡ pos 0
 unfolding moved
 moved_stamp s image words are j lt = are.each (RecordStamp j) lt
 
 not_next : (x : ℤ) (a : ℕ) → x ≡ pos 0 → x ≡ pos (suc a) → ⊥
 not_next x a none is = absurd (cc)
 
-moved_log : (s : Sizes) (image : Words) (words : List ℤ) → AreMoved s image words → WellMade (pool_of s) 0 (words_of words)
+moved_log : (s : Sizes) (image : Words) (words : List ℤ) → AreMoved s image words
+    → WellMade (pool_of s) 0 (image_words words)
 moved_log s image words are = record {
   stamps = λ j lt. (0, omega arith, moved_stamp s image words are j lt);
-  first = λ j k jk lt is. absurd (not_next (words_of words (at (pool_of s) (RecordStamp k))) 0 (moved_stamp s image words are k lt) is);
+  first = λ j k jk lt is. absurd (not_next (image_words words (at (pool_of s) (RecordStamp k))) 0
+      (moved_stamp s image words are k lt) is);
 }
 
-pub moved_keeps : (s : Sizes) (image : Words) (words : List ℤ) → AreMoved s image words → KeepsPool s image (words_of words)
+pub moved_keeps : (s : Sizes) (image : Words) (words : List ℤ) → AreMoved s image words
+    → KeepsPool s image (image_words words)
 unfolding moved
 moved_keeps s image words are = record {
   last = are.each Last tt;
@@ -35,7 +39,9 @@ moved_keeps s image words are = record {
   attempt = are.each Attempt tt;
   heap = λ w lt. are.each (Heap w) lt;
   log = moved_log s image words are;
-  empty = count_is (pool_of s) 0 0 (words_of words) (omega arith) (λ j lt. absurd (omega arith)) (λ j ge lt is. not_next (words_of words (at (pool_of s) (RecordStamp j))) 0 (moved_stamp s image words are j lt) is);
+  empty = count_is (pool_of s) 0 0 (image_words words) (omega arith) (λ j lt. absurd (omega arith))
+      (λ j ge lt is. not_next (image_words words (at (pool_of s) (RecordStamp j))) 0
+      (moved_stamp s image words are j lt) is);
 }
 
 no_sum : (x y : ℤ) (d : ℕ) → x ≡ pos 0 → y ≡ pos d → x ≡ y +ℤ pos 1 → ⊥
@@ -43,19 +49,25 @@ no_sum x y d none is sealed =
     let e : pos 0 ≡ pos (d + 1) = sym none ∙ sealed ∙ ap (λ (z : ℤ). z +ℤ pos 1) is in
     let n : 0 ≡ d + 1 = cc in absurd (omega arith)
 
-pub moved_unsealed : (s : Sizes) (image : Words) (words : List ℤ) (d : ℕ) → AreMoved s image words → image (at (first_of s) Done) ≡ pos d → IsSealed (pool_of s) (words_of words) → ⊥
+pub moved_unsealed : (s : Sizes) (image : Words) (words : List ℤ) (d : ℕ) → AreMoved s image words
+    → image (at (first_layout s) Done) ≡ pos d → IsSealed (pool_of s) (image_words words) → ⊥
 unfolding moved
 moved_unsealed s image words d are is sealed =
-    no_sum (words_of words (at (pool_of s) Seal)) (words_of words (at (pool_of s) Done)) d (are.each Seal tt) (are.each Done tt ∙ is) sealed
+    no_sum (image_words words (at (pool_of s) Seal)) (image_words words (at (pool_of s) Done)) d
+    (are.each Seal tt) (are.each Done tt ∙ is) sealed
 
--- one word more of a moved pool
-pub moved_more : (s : Sizes) (image : Words) (words : List ℤ) (n : ℕ) (p : Place) (x : ℤ) → length words ≡ n
-    → ((q : Place) → IsPlace (pool_of s) q → at (pool_of s) q < n → words_of words (at (pool_of s) q) ≡ moved s image q)
+-- one more word of a moved pool
+pub moved_more : (s : Sizes) (image : Words) (words : List ℤ) (n : ℕ) (p : Place) (x : ℤ)
+    → length words ≡ n
+    → ((q : Place) → IsPlace (pool_of s) q → at (pool_of s) q < n
+    → image_words words (at (pool_of s) q) ≡ moved s image q)
     → IsPlace (pool_of s) p → at (pool_of s) p ≡ n → x ≡ moved s image p
-    → (q : Place) → IsPlace (pool_of s) q → at (pool_of s) q < n + 1 → words_of (words ++ x ∷ []) (at (pool_of s) q) ≡ moved s image q
+    → (q : Place) → IsPlace (pool_of s) q → at (pool_of s) q < n + 1
+    → image_words (words ++ x ∷ []) (at (pool_of s) q) ≡ moved s image q
 moved_more s image words n p x len each inside here is q hq lt = ⊎_elim
     (λ (same : at (pool_of s) q ≡ n).
-    ap (λ (k : ℕ). get_or (words ++ x ∷ []) k (pos 0)) (same ∙ sym len) ∙ get_or-append_seam words x [] (pos 0) ∙ is
+    ap (λ (k : ℕ). get_or (words ++ x ∷ []) k (pos 0)) (same ∙ sym len)
+    ∙ get_or-append_seam words x [] (pos 0) ∙ is
     ∙ ap (moved s image) (same_place (pool_of s) p q inside hq (here ∙ sym same)))
     (λ (ne : at (pool_of s) q ≢ n).
     get_or-append words (x ∷ []) (pos 0) (at (pool_of s) q) (omega arith) ∙ each q hq (omega arith))

@@ -10,42 +10,52 @@ use Rattle.pool_layout.specs.Places.{at, seal_word}
 use Rattle.pool_layout.specs.Image.{Words, IsSealed, IsUpTo}
 use Rattle.pool_layout.specs.Log.{WellMade, count}
 use Rattle.pool_layout.specs.Restored.{restored}
-use Rattle.pool_layout.specs.Content.{Keeps, breaks, is_within, is_sealed, is_valid, are_valid, is_stamp, in_heap, is_header, names_header, is_first}
-use Rattle.pool_layout.specs.Opens.{Opens, IsOwed, IsBelow, HasHeaders}
+use Rattle.pool_layout.specs.Content.{KeepsRules, breaks_rule, is_within, is_sealed, is_valid, are_valid, is_stamp, in_heap, is_header, names_header, is_first_version}
+use Rattle.pool_layout.specs.Opens.{IsOpenable, NamesOwed, IsBelow, HasHeaders}
 use Rattle.pool_layout.proofs.Records.{LogIs, log_is}
 use Rattle.pool_layout.proofs.Undone.{undone_each}
 use Rattle.pool_layout.proofs.Kept.{and_rest, or_left, or_right, not_false, within_is, up_to, below_is, slot_header, slot_inside, slot_named, valid_is, is_valid_of, stamp_is, are_valid_below}
 
-done_fits : (r : Rules) (image : Words) → Keeps r image → IsUpTo (2 ^ 62) (image (at r.layout Done))
-unfolding breaks
+done_fits : (r : Rules) (image : Words) → KeepsRules r image
+    → IsUpTo (2 ^ 62) (image (at r.layout Done))
+unfolding breaks_rule
 done_fits r image keeps = up_to (2 ^ 62) (image (at r.layout Done)) (keeps Done tt)
 
-attempt_fits : (r : Rules) (image : Words) → Keeps r image → IsUpTo (2 ^ 62) (image (at r.layout Attempt))
-unfolding breaks
+attempt_fits : (r : Rules) (image : Words) → KeepsRules r image
+    → IsUpTo (2 ^ 62) (image (at r.layout Attempt))
+unfolding breaks_rule
 attempt_fits r image keeps = up_to (2 ^ 62) (image (at r.layout Attempt)) (keeps Attempt tt)
 
-mark_fits : (r : Rules) (image : Words) → Keeps r image → IsUpTo 8 (image (at r.layout Mark))
-unfolding breaks
+mark_fits : (r : Rules) (image : Words) → KeepsRules r image → IsUpTo 8 (image (at r.layout Mark))
+unfolding breaks_rule
 mark_fits r image keeps = up_to 8 (image (at r.layout Mark)) (keeps Mark tt)
 
-well_made : (r : Rules) (image : Words) → Keeps r image → (a : ℕ) → image (at r.layout Attempt) ≡ pos a → WellMade r.layout a image
-unfolding breaks
+well_made : (r : Rules) (image : Words) → KeepsRules r image → (a : ℕ)
+    → image (at r.layout Attempt) ≡ pos a → WellMade r.layout a image
+unfolding breaks_rule
 well_made r image keeps a is = record {
   stamps = λ j lt. stamp_is (image (at r.layout Attempt)) (image (at r.layout (RecordStamp j))) a is
-      (or_left (not (is_stamp (image (at r.layout Attempt)) (image (at r.layout (RecordStamp j))))) (is_valid r.layout image j && not (are_valid r.layout image j))
+      (or_left (not (is_stamp (image (at r.layout Attempt)) (image (at r.layout (RecordStamp j)))))
+      (is_valid r.layout image j && not (are_valid r.layout image j))
       (keeps (RecordStamp j) lt));
-  first = λ j k jk lt valid_k. valid_is (image (at r.layout (RecordStamp j))) (image (at r.layout Attempt)) a is
+  first = λ j k jk lt valid_k. valid_is (image (at r.layout (RecordStamp j)))
+      (image (at r.layout Attempt)) a is
       (are_valid_below r.layout image j k jk (not_false (are_valid r.layout image k)
       (and_rest (is_valid r.layout image k) (not (are_valid r.layout image k))
-      (or_right (not (is_stamp (image (at r.layout Attempt)) (image (at r.layout (RecordStamp k))))) (is_valid r.layout image k && not (are_valid r.layout image k))
+      (or_right (not (is_stamp (image (at r.layout Attempt)) (image (at r.layout (RecordStamp k)))))
+      (is_valid r.layout image k && not (are_valid r.layout image k))
       (keeps (RecordStamp k) lt))
-      (is_valid_of (image (at r.layout (RecordStamp k))) (image (at r.layout Attempt)) a is valid_k))));
+      (is_valid_of (image (at r.layout (RecordStamp k))) (image (at r.layout Attempt)) a is
+      valid_k))));
 }
 
-headers_fit : (r : Rules) (image : Words) → Keeps r image → HasHeaders r (λ w. image (at r.layout (Heap w)))
-unfolding breaks
-headers_fit r image keeps = λ slot low high. up_to r.structs (image (at r.layout (Heap (slot_word r.layout.sizes slot))))
-    (and_rest (is_header r.layout.sizes (slot_word r.layout.sizes slot)) (not (is_within 0 r.structs (image (at r.layout (Heap (slot_word r.layout.sizes slot))))))
+headers_fit : (r : Rules) (image : Words) → KeepsRules r image
+    → HasHeaders r (λ w. image (at r.layout (Heap w)))
+unfolding breaks_rule
+headers_fit r image keeps = λ slot low high.
+    up_to r.structs (image (at r.layout (Heap (slot_word r.layout.sizes slot))))
+    (and_rest (is_header r.layout.sizes (slot_word r.layout.sizes slot))
+    (not (is_within 0 r.structs (image (at r.layout (Heap (slot_word r.layout.sizes slot))))))
     (keeps (Heap (slot_word r.layout.sizes slot)) (slot_inside r.layout.sizes slot low high))
     (slot_header r.layout.sizes slot low high))
 
@@ -55,59 +65,86 @@ function_inside : (v : Version) → 24 + 0 < seal_word v
 function_inside First = omega arith
 function_inside Second = omega arith
 
-function_is : (r : Rules) (image : Words) → Keeps r image → is_sealed r.layout image ≡ true → (f : ℕ) × (1 ≤ f) × (f ≤ r.txs) × (image (at r.layout (Argument 0)) ≡ pos f)
-unfolding breaks
+function_is : (r : Rules) (image : Words) → KeepsRules r image → is_sealed r.layout image ≡ true
+    → (f : ℕ) × (1 ≤ f) × (f ≤ r.txs) × (image (at r.layout (Argument 0)) ≡ pos f)
+unfolding breaks_rule
 function_is r image keeps sealed = within_is 1 r.txs (image (at r.layout (Argument 0)))
     (not_false (is_within 1 r.txs (image (at r.layout (Argument 0))))
-    (and_rest (is_sealed r.layout image) (not (is_within 1 r.txs (image (at r.layout (Argument 0))))) (keeps (Argument 0) (function_inside r.layout.version)) sealed))
+    (and_rest (is_sealed r.layout image)
+    (not (is_within 1 r.txs (image (at r.layout (Argument 0)))))
+    (keeps (Argument 0) (function_inside r.layout.version)) sealed))
 
-record_inside : (r : Rules) (image : Words) → Keeps r image → is_sealed r.layout image ≡ true → (j : ℕ) → j < r.layout.sizes.records → is_valid r.layout image j ≡ true → IsBelow (heap_words r.layout.sizes) (image (at r.layout (RecordWord j)))
-unfolding breaks
-record_inside r image keeps sealed j lt valid_j = below_is r.layout.sizes (image (at r.layout (RecordWord j)))
-    (and_rest (is_valid r.layout image j) (not (in_heap r.layout.sizes (image (at r.layout (RecordWord j)))))
-    (and_rest (is_sealed r.layout image) (is_valid r.layout image j && not (in_heap r.layout.sizes (image (at r.layout (RecordWord j))))) (keeps (RecordWord j) lt) sealed)
+record_inside : (r : Rules) (image : Words) → KeepsRules r image → is_sealed r.layout image ≡ true
+    → (j : ℕ) → j < r.layout.sizes.records → is_valid r.layout image j ≡ true
+    → IsBelow (heap_words r.layout.sizes) (image (at r.layout (RecordWord j)))
+unfolding breaks_rule
+record_inside r image keeps sealed j lt valid_j =
+    below_is r.layout.sizes (image (at r.layout (RecordWord j)))
+    (and_rest (is_valid r.layout image j)
+    (not (in_heap r.layout.sizes (image (at r.layout (RecordWord j)))))
+    (and_rest (is_sealed r.layout image) (is_valid r.layout image j
+    && not (in_heap r.layout.sizes (image (at r.layout (RecordWord j)))))
+    (keeps (RecordWord j) lt) sealed)
     valid_j)
 
-old_fits : (r : Rules) (image : Words) → Keeps r image → is_sealed r.layout image ≡ true → (j : ℕ) → j < r.layout.sizes.records → is_valid r.layout image j ≡ true → names_header r.layout.sizes (image (at r.layout (RecordWord j))) ≡ true → IsUpTo r.structs (image (at r.layout (RecordOld j)))
-unfolding breaks
+old_fits : (r : Rules) (image : Words) → KeepsRules r image → is_sealed r.layout image ≡ true
+    → (j : ℕ) → j < r.layout.sizes.records → is_valid r.layout image j ≡ true
+    → names_header r.layout.sizes (image (at r.layout (RecordWord j))) ≡ true
+    → IsUpTo r.structs (image (at r.layout (RecordOld j)))
+unfolding breaks_rule
 old_fits r image keeps sealed j lt valid_j named =
     let x : ℤ = image (at r.layout (RecordWord j)) in
     let old : ℤ = image (at r.layout (RecordOld j)) in
     up_to r.structs old
     (and_rest (names_header r.layout.sizes x) (not (is_within 0 r.structs old))
-    (and_rest (is_valid r.layout image j) (names_header r.layout.sizes x && not (is_within 0 r.structs old))
-    (and_rest (is_sealed r.layout image) (is_valid r.layout image j && (names_header r.layout.sizes x && not (is_within 0 r.structs old))) (keeps (RecordOld j) lt) sealed)
+    (and_rest (is_valid r.layout image j) (names_header r.layout.sizes x
+    && not (is_within 0 r.structs old))
+    (and_rest (is_sealed r.layout image) (is_valid r.layout image j
+    && (names_header r.layout.sizes x && not (is_within 0 r.structs old)))
+    (keeps (RecordOld j) lt) sealed)
     valid_j) named)
 
-restored_headers : (r : Rules) (image : Words) → Keeps r image → (a : ℕ) → image (at r.layout Attempt) ≡ pos a → LogIs r.layout a (count r.layout a image) image → is_sealed r.layout image ≡ true → HasHeaders r (restored r.layout a image)
+restored_headers : (r : Rules) (image : Words) → KeepsRules r image → (a : ℕ)
+    → image (at r.layout Attempt) ≡ pos a → LogIs r.layout a (count r.layout a image) image
+    → is_sealed r.layout image ≡ true → HasHeaders r (restored r.layout a image)
 unfolding restored
 restored_headers r image keeps a is log sealed = λ slot low high.
-    undone_each (IsUpTo r.structs) (λ (j : ℕ). image (at r.layout (RecordWord j))) (λ (j : ℕ). image (at r.layout (RecordOld j))) (count r.layout a image) (λ (w : ℕ). image (at r.layout (Heap w))) (slot_word r.layout.sizes slot)
+    undone_each (IsUpTo r.structs) (λ (j : ℕ). image (at r.layout (RecordWord j))) (λ (j : ℕ).
+    image (at r.layout (RecordOld j))) (count r.layout a image) (λ (w : ℕ).
+    image (at r.layout (Heap w))) (slot_word r.layout.sizes slot)
     (λ j lt word_is. old_fits r image keeps sealed j (omega (arith, log.room))
-    (is_valid_of (image (at r.layout (RecordStamp j))) (image (at r.layout Attempt)) a is (log.valid_stamp j lt))
+    (is_valid_of (image (at r.layout (RecordStamp j))) (image (at r.layout Attempt)) a is
+    (log.valid_stamp j lt))
     (slot_named r.layout.sizes slot (image (at r.layout (RecordWord j))) low high word_is))
     (headers_fit r image keeps slot low high)
 
-owed : (r : Rules) (image : Words) → Keeps r image → (a : ℕ) → image (at r.layout Attempt) ≡ pos a → is_sealed r.layout image ≡ true → IsOwed r a image
+owed : (r : Rules) (image : Words) → KeepsRules r image → (a : ℕ)
+    → image (at r.layout Attempt) ≡ pos a → is_sealed r.layout image ≡ true → NamesOwed r a image
 owed r image keeps a is sealed =
-    let log : LogIs r.layout a (count r.layout a image) image = log_is r.layout a (count r.layout a image) image (well_made r image keeps a is) refl in
+    let log : LogIs r.layout a (count r.layout a image) image =
+    log_is r.layout a (count r.layout a image) image (well_made r image keeps a is) refl in
     record {
       function = function_is r image keeps sealed;
       in_heap = λ j lt. record_inside r image keeps sealed j (omega (arith, log.room))
-          (is_valid_of (image (at r.layout (RecordStamp j))) (image (at r.layout Attempt)) a is (log.valid_stamp j lt));
+          (is_valid_of (image (at r.layout (RecordStamp j))) (image (at r.layout Attempt)) a is
+          (log.valid_stamp j lt));
       headers = restored_headers r image keeps a is log sealed;
     }
 
 sealed_is : (r : Rules) (image : Words) → IsSealed r.layout image → is_sealed r.layout image ≡ true
-sealed_is r image sealed = (Decides-int_eq (image (at r.layout Seal)) (image (at r.layout Done) +ℤ pos 1)).1 sealed
+sealed_is r image sealed = (Decides-int_eq (image (at r.layout Seal))
+    (image (at r.layout Done) +ℤ pos 1)).1 sealed
 
-first_open : (r : Rules) (image : Words) → Keeps r image → r.layout.version ≡ First → is_sealed r.layout image ≡ true → ⊥
-unfolding breaks
+first_open : (r : Rules) (image : Words) → KeepsRules r image → r.layout.version ≡ First
+    → is_sealed r.layout image ≡ true → ⊥
+unfolding breaks_rule
 first_open r image keeps first sealed =
-    let e : is_sealed r.layout image ≡ false = and_rest (is_first r.layout.version) (is_sealed r.layout image) (keeps Seal tt) (ap is_first first) in
+    let e : is_sealed r.layout image ≡ false =
+    and_rest (is_first_version r.layout.version) (is_sealed r.layout image) (keeps Seal tt)
+    (ap is_first_version first) in
     absurd (cc)
 
-pub kept_opens : (r : Rules) (image : Words) → Keeps r image → Opens r image
+pub kept_opens : (r : Rules) (image : Words) → KeepsRules r image → IsOpenable r image
 kept_opens r image keeps =
     let a = attempt_fits r image keeps in
     record {

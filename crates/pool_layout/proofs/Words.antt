@@ -1,4 +1,4 @@
--- Words as bytes, there and back.
+-- Words to bytes, and back.
 use Rattle.std.proofs.Common.{◌≡◌, ◌<◌, ◌≤◌, ◌++◌, ◌+◌, ◌*◌, ◌^◌, ◌∷◌, [], ℕ, ℤ, pos, zero, suc, List, length, take, drop, get_or, refl, sym, ap, ◌∙◌, append_assoc, add-one, arith, length-drop, ◌≢◌, ⊎_elim}
 use Rattle.std.specs.Int.{w64, cast_signed, cast_unsigned, from_le_bytes, to_le_bytes}
 use Rattle.std.proofs.Math.Seq.{drop-cons, take-add, get_or-append_seam}
@@ -7,26 +7,31 @@ use Rattle.std.proofs.lemmas.Nat.{le_bytes_8}
 use Rattle.std.proofs.lemmas.Int.{of_z-to_z}
 use Rattle.std.proofs.Math.ListN.{get_or-append}
 use Rattle.std.proofs.lemmas.Bool.{cases_eq, cases_lt}
-use Rattle.pool_layout.specs.Image.{words_of}
+use Rattle.pool_layout.specs.Image.{image_words}
 use Rattle.pool_layout.specs.Bytes.{bytes_of, bytes_of_word, word_from, word_in}
 
--- one word more of those that are left
-pub bytes_of-drop : (xs : List ℤ) (i : ℕ) (out : List ℕ) → i < length xs → (out ++ bytes_of_word (get_or xs i (pos 0))) ++ bytes_of (drop (i + 1) xs) ≡ out ++ bytes_of (drop i xs)
+-- one more of the words that are left
+pub bytes_of-drop : (xs : List ℤ) (i : ℕ) (out : List ℕ) → i < length xs
+    → (out ++ bytes_of_word (get_or xs i (pos 0))) ++ bytes_of (drop (i + 1) xs) ≡ out
+    ++ bytes_of (drop i xs)
 bytes_of-drop xs i out lt = rw (add-one, drop-cons xs i (pos 0) lt, append_assoc) refl
 
 bytes_of-append : (xs ys : List ℤ) → bytes_of (xs ++ ys) ≡ bytes_of xs ++ bytes_of ys
 bytes_of-append [] ys = refl
-bytes_of-append (x ∷ xs) ys = ap (λ (bs : List ℕ). bytes_of_word x ++ bs) (bytes_of-append xs ys) ∙ sym (append_assoc (bytes_of_word x) (bytes_of xs) (bytes_of ys))
+bytes_of-append (x ∷ xs) ys = ap (λ (bs : List ℕ). bytes_of_word x ++ bs) (bytes_of-append xs ys)
+    ∙ sym (append_assoc (bytes_of_word x) (bytes_of xs) (bytes_of ys))
 
 -- the first eight of a list
 abbrev eight : List ℕ → List ℕ
-eight xs = get_or xs 0 0 ∷ get_or xs 1 0 ∷ get_or xs 2 0 ∷ get_or xs 3 0 ∷ get_or xs 4 0 ∷ get_or xs 5 0 ∷ get_or xs 6 0 ∷ get_or xs 7 0 ∷ []
+eight xs = get_or xs 0 0 ∷ get_or xs 1 0 ∷ get_or xs 2 0 ∷ get_or xs 3 0 ∷ get_or xs 4 0
+    ∷ get_or xs 5 0 ∷ get_or xs 6 0 ∷ get_or xs 7 0 ∷ []
 
 eight_take : (xs : List ℕ) → 8 ≤ length xs → eight xs ≡ take 8 xs
 eight_take (a ∷ b ∷ c ∷ d ∷ e ∷ f ∷ g ∷ h ∷ xs) le = refl
 eight_take xs le = absurd (omega arith)
 
-eight_bytes : (xs : List ℕ) → ((i : ℕ) → get_or xs i 0 < 256) → (i : ℕ) → get_or (eight xs) i 0 < 256
+eight_bytes : (xs : List ℕ) → ((i : ℕ) → get_or xs i 0 < 256) → (i : ℕ)
+    → get_or (eight xs) i 0 < 256
 eight_bytes xs all zero = all 0
 eight_bytes xs all (suc zero) = all 1
 eight_bytes xs all (suc (suc zero)) = all 2
@@ -37,43 +42,70 @@ eight_bytes xs all (suc (suc (suc (suc (suc (suc zero)))))) = all 6
 eight_bytes xs all (suc (suc (suc (suc (suc (suc (suc zero))))))) = all 7
 eight_bytes xs all (suc (suc (suc (suc (suc (suc (suc (suc i)))))))) = omega arith
 
-sum_fits : (a b c d e f g h : ℕ) → a < 256 → b < 256 → c < 256 → d < 256 → e < 256 → f < 256 → g < 256 → h < 256 → from_le_bytes w64 (a ∷ b ∷ c ∷ d ∷ e ∷ f ∷ g ∷ h ∷ []) < 2 ^ 64
+sum_fits : (a b c d e f g h : ℕ) → a < 256 → b < 256 → c < 256 → d < 256 → e < 256 → f < 256
+    → g < 256 → h < 256 → from_le_bytes w64 (a ∷ b ∷ c ∷ d ∷ e ∷ f ∷ g ∷ h ∷ []) < 2 ^ 64
 sum_fits a b c d e f g h ha hb hc hd he hf hg hh = omega arith
 
-eight_word : (xs : List ℕ) → 8 ≤ length xs → ((i : ℕ) → get_or xs i 0 < 256) → to_le_bytes w64 (cast_unsigned w64 (cast_signed w64 (from_le_bytes w64 (eight xs)))) ≡ take 8 xs
+eight_word : (xs : List ℕ) → 8 ≤ length xs → ((i : ℕ) → get_or xs i 0 < 256)
+    → to_le_bytes w64 (cast_unsigned w64 (cast_signed w64 (from_le_bytes w64 (eight xs))))
+    ≡ take 8 xs
 eight_word xs le all =
-    let fits : from_le_bytes w64 (eight xs) < 2 ^ 64 = sum_fits (get_or xs 0 0) (get_or xs 1 0) (get_or xs 2 0) (get_or xs 3 0) (get_or xs 4 0) (get_or xs 5 0) (get_or xs 6 0) (get_or xs 7 0) (all 0) (all 1) (all 2) (all 3) (all 4) (all 5) (all 6) (all 7) in
-    le_bytes_8 (eight xs) (cast_unsigned w64 (cast_signed w64 (from_le_bytes w64 (eight xs)))) refl (eight_bytes xs all) (of_z-to_z w64 (from_le_bytes w64 (eight xs)) fits) ∙ eight_take xs le
+    let fits : from_le_bytes w64 (eight xs) < 2 ^ 64 =
+    sum_fits (get_or xs 0 0) (get_or xs 1 0) (get_or xs 2 0) (get_or xs 3 0) (get_or xs 4 0)
+    (get_or xs 5 0) (get_or xs 6 0) (get_or xs 7 0) (all 0) (all 1) (all 2) (all 3) (all 4)
+    (all 5) (all 6) (all 7) in
+    le_bytes_8 (eight xs) (cast_unsigned w64 (cast_signed w64 (from_le_bytes w64 (eight xs)))) refl
+    (eight_bytes xs all) (of_z-to_z w64 (from_le_bytes w64 (eight xs)) fits) ∙ eight_take xs le
 
-eight_at : (bytes : List ℕ) (at : ℕ) → eight (drop at bytes) ≡ get_or bytes at 0 ∷ get_or bytes (at + 1) 0 ∷ get_or bytes (at + 2) 0 ∷ get_or bytes (at + 3) 0 ∷ get_or bytes (at + 4) 0 ∷ get_or bytes (at + 5) 0 ∷ get_or bytes (at + 6) 0 ∷ get_or bytes (at + 7) 0 ∷ []
+eight_at : (bytes : List ℕ) (at : ℕ) → eight (drop at bytes) ≡ get_or bytes at 0
+    ∷ get_or bytes (at + 1) 0 ∷ get_or bytes (at + 2) 0 ∷ get_or bytes (at + 3) 0
+    ∷ get_or bytes (at + 4) 0 ∷ get_or bytes (at + 5) 0 ∷ get_or bytes (at + 6) 0
+    ∷ get_or bytes (at + 7) 0 ∷ []
 eight_at bytes at =
     let none : at + 0 ≡ at = omega arith in
-    rw (get_or-drop at bytes 0 0, get_or-drop at bytes 1 0, get_or-drop at bytes 2 0, get_or-drop at bytes 3 0, get_or-drop at bytes 4 0, get_or-drop at bytes 5 0, get_or-drop at bytes 6 0, get_or-drop at bytes 7 0, none) refl
+    rw (
+      get_or-drop at bytes 0 0,
+      get_or-drop at bytes 1 0,
+      get_or-drop at bytes 2 0,
+      get_or-drop at bytes 3 0,
+      get_or-drop at bytes 4 0,
+      get_or-drop at bytes 5 0,
+      get_or-drop at bytes 6 0,
+      get_or-drop at bytes 7 0,
+      none,
+    ) refl
 
-word_bytes : (bytes : List ℕ) (at : ℕ) → at + 8 ≤ length bytes → ((i : ℕ) → get_or bytes i 0 < 256) → bytes_of_word (word_from bytes at) ≡ take 8 (drop at bytes)
+word_bytes : (bytes : List ℕ) (at : ℕ) → at + 8 ≤ length bytes → ((i : ℕ) → get_or bytes i 0 < 256)
+    → bytes_of_word (word_from bytes at) ≡ take 8 (drop at bytes)
 unfolding word_from bytes_of_word
 word_bytes bytes at le all =
     let room : 8 ≤ length (drop at bytes) = rw length-drop (omega arith) in
-    ap (λ (bs : List ℕ). to_le_bytes w64 (cast_unsigned w64 (cast_signed w64 (from_le_bytes w64 bs)))) (sym (eight_at bytes at))
+    ap (λ (bs : List ℕ). to_le_bytes w64
+    (cast_unsigned w64 (cast_signed w64 (from_le_bytes w64 bs)))) (sym (eight_at bytes at))
     ∙ eight_word (drop at bytes) room (λ i. rw get_or-drop (all (at + i)))
 
--- one word more of those that are read
-pub bytes_of-more : (bytes : List ℕ) (ws : List ℤ) (k : ℕ) → ((i : ℕ) → get_or bytes i 0 < 256) → 8 * k + 8 ≤ length bytes → bytes_of ws ≡ take (8 * k) bytes → bytes_of (ws ++ word_in bytes k ∷ []) ≡ take (8 * (k + 1)) bytes
+-- one more of the words that are read
+pub bytes_of-more : (bytes : List ℕ) (ws : List ℤ) (k : ℕ) → ((i : ℕ) → get_or bytes i 0 < 256)
+    → 8 * k + 8 ≤ length bytes → bytes_of ws ≡ take (8 * k) bytes
+    → bytes_of (ws ++ word_in bytes k ∷ []) ≡ take (8 * (k + 1)) bytes
 bytes_of-more bytes ws k all le so_far =
     let next : 8 * (k + 1) ≡ 8 * k + 8 = omega arith in
     bytes_of-append ws (word_in bytes k ∷ [])
     ∙ rw (append-nil, so_far, word_bytes bytes (8 * k) le all, next, take-add (8 * k) 8 bytes) refl
 
-pub each-more : (bytes : List ℕ) (ws : List ℤ) (k : ℕ) (x : ℤ) → length ws ≡ k → ((p : ℕ) → p < k → get_or ws p (pos 0) ≡ word_in bytes p) → x ≡ word_in bytes k → (p : ℕ) → p < k + 1 → get_or (ws ++ x ∷ []) p (pos 0) ≡ word_in bytes p
+pub each-more : (bytes : List ℕ) (ws : List ℤ) (k : ℕ) (x : ℤ) → length ws ≡ k
+    → ((p : ℕ) → p < k → get_or ws p (pos 0) ≡ word_in bytes p) → x ≡ word_in bytes k → (p : ℕ)
+    → p < k + 1 → get_or (ws ++ x ∷ []) p (pos 0) ≡ word_in bytes p
 each-more bytes ws k x len each is p lt = ⊎_elim
-    (λ (same : p ≡ k). ap (λ (i : ℕ). get_or (ws ++ x ∷ []) i (pos 0)) (same ∙ sym len) ∙ get_or-append_seam ws x [] (pos 0) ∙ is ∙ ap (word_in bytes) (sym same))
+    (λ (same : p ≡ k). ap (λ (i : ℕ). get_or (ws ++ x ∷ []) i (pos 0)) (same ∙ sym len)
+    ∙ get_or-append_seam ws x [] (pos 0) ∙ is ∙ ap (word_in bytes) (sym same))
     (λ (ne : p ≢ k). get_or-append ws (x ∷ []) (pos 0) p (omega arith) ∙ each p (omega arith))
     (cases_eq p k)
 
--- behind the bytes a word is 0
-word_behind : (bytes : List ℕ) (at : ℕ) → length bytes ≤ at → word_from bytes at ≡ pos 0
+-- past the end of the bytes, a word is 0
+word_after : (bytes : List ℕ) (at : ℕ) → length bytes ≤ at → word_from bytes at ≡ pos 0
 unfolding word_from
-word_behind bytes at le =
+word_after bytes at le =
     rw (
       get_or_past bytes at 0 le,
       get_or_past bytes (at + 1) 0 (omega arith),
@@ -86,11 +118,13 @@ word_behind bytes at le =
     ) refl
 
 -- the words of all bytes, as functions
-pub words_agree : (bytes : List ℕ) (ws : List ℤ) (k : ℕ) → length bytes ≤ 8 * k → length ws ≡ k → ((p : ℕ) → p < k → get_or ws p (pos 0) ≡ word_in bytes p) → words_of ws ≡ word_in bytes
+pub words_agree : (bytes : List ℕ) (ws : List ℤ) (k : ℕ) → length bytes ≤ 8 * k → length ws ≡ k
+    → ((p : ℕ) → p < k → get_or ws p (pos 0) ≡ word_in bytes p) → image_words ws ≡ word_in bytes
 words_agree bytes ws k whole len each = λ i p. one p i
   where
     one : (p : ℕ) → get_or ws p (pos 0) ≡ word_in bytes p
     one p = ⊎_elim
         (λ (lt : p < k). each p lt)
-        (λ (ge : k ≤ p). get_or_past ws p (pos 0) (omega arith) ∙ sym (word_behind bytes (8 * p) (omega arith)))
+        (λ (ge : k ≤ p). get_or_past ws p (pos 0) (omega arith)
+        ∙ sym (word_after bytes (8 * p) (omega arith)))
         (cases_lt p k)

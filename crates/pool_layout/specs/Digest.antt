@@ -4,4 +4,5 @@ use Rattle.sha2.specs.Sha256.{sha256}
 use Rattle.pool_layout.specs.Bytes.{word_in}
 
 abbrev pub digest_of : List ℕ → List ℤ
-digest_of text = word_in (sha256 text) 0 ∷ word_in (sha256 text) 1 ∷ word_in (sha256 text) 2 ∷ word_in (sha256 text) 3 ∷ []
+digest_of text = word_in (sha256 text) 0 ∷ word_in (sha256 text) 1 ∷ word_in (sha256 text) 2
+    ∷ word_in (sha256 text) 3 ∷ []

@@ -1,4 +1,4 @@
--- What an image of a pool at rest holds (Good), and one that a trap made unusable (Lost).
+-- The content of an image of a pool at rest (Good), and of one that a trap made unusable (Lost).
 use Rattle.std.specs.Prelude.{ℕ, suc, ◌+◌, ◌^◌, ◌<◌, ◌≤◌, ◌≡◌, List, [], ◌∷◌, ℤ, pos, codes, slice_index_or}
 use Rattle.pool_layout.specs.declared.limits.Sizes.{Sizes}
 use Rattle.pool_layout.specs.declared.places.Place.TheVariants.{Super, Done, Attempt, Mark, Seal, Heap}
@@ -16,12 +16,16 @@ magic = word_in (codes "CNVMPOOL") 0
 abbrev pub sizes_words : Sizes → List ℤ
 sizes_words s = magic ∷ pos 2 ∷ pos s.slots ∷ pos s.records ∷ pos s.root_words ∷ pos s.ticks ∷ []
 
--- Words 0 to 5 are those of the sizes, and words 8 to 11 the digest's. The other words of lines 0 and 1 are any.
+-- Words 0 to 5 are the sizes', and words 8 to 11 the digest's. The other words of lines 0 and 1 may
+-- have any value.
 pub record HasSuper (s : Sizes) (digest : List ℤ) (image : Words) : Type 0 where
-  pub sizes_are : (k : ℕ) → k < 6 → image (at (pool_of s) (Super k)) ≡ slice_index_or (sizes_words s) k (pos 0)
-  pub digest_is : (k : ℕ) → k < 4 → image (at (pool_of s) (Super (8 + k))) ≡ slice_index_or digest k (pos 0)
+  pub sizes_are : (k : ℕ) → k < 6
+      → image (at (pool_of s) (Super k)) ≡ slice_index_or (sizes_words s) k (pos 0)
+  pub digest_is : (k : ℕ) → k < 4 → image (at (pool_of s) (Super (8 + k)))
+      ≡ slice_index_or digest k (pos 0)
 
--- An image at rest, with attempt a, d finished transactions and heap h. The function, argument and unread words are any.
+-- An image at rest, with attempt a, d finished transactions and heap h. The function, the arguments
+-- and the unread words may have any value.
 pub record Good (s : Sizes) (digest : List ℤ) (a d : ℕ) (h : ℕ → ℤ) (image : Words) : Type 0 where
   pub super : HasSuper s digest image
   pub mark : image (at (pool_of s) Mark) ≡ pos 0

@@ -4,14 +4,14 @@ use Rattle.pool_layout.specs.declared.places.Layout.{Layout}
 use Rattle.pool_layout.specs.declared.places.Place.TheVariants.{Done, Seal}
 use Rattle.pool_layout.specs.Places.{at}
 
--- An image: words by their numbers in the pool. Those past the pool's end don't count.
+-- An image: the words of a pool by their numbers. Words past the pool's end don't matter.
 abbrev pub Words : Type 0
 Words = ℕ → ℤ
 
-abbrev pub words_of : List ℤ → Words
-words_of xs p = slice_index_or xs p (pos 0)
+abbrev pub image_words : List ℤ → Words
+image_words xs p = slice_index_or xs p (pos 0)
 
--- Sealed: the seal is done plus 1, as whole numbers.
+-- The image is sealed: its seal is done plus 1, as whole numbers.
 abbrev pub IsSealed : Layout → Words → Type 0
 IsSealed l image = image (at l Seal) ≡ image (at l Done) +ℤ pos 1
 

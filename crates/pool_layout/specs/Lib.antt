@@ -12,3 +12,4 @@ pub mod Opens
 pub mod Fault
 pub mod Moved
 pub mod Opened
+pub mod inside

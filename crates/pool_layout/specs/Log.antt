@@ -1,5 +1,6 @@
--- The log of an image whose attempt is a. A record is valid where its stamp is a + 1. The count is the number of valid records.
--- The log is well made where each stamp is from 0 to a + 1 and the valid records are the first ones.
+-- The log of an image whose attempt is a. A record is valid if its stamp is a + 1. The count is the
+-- number of valid records. The log is well made if each stamp is from 0 to a + 1 and the valid
+-- records come first.
 use Rattle.std.specs.Prelude.{ℕ, zero, suc, ◌+◌, ◌<◌, ◌≡◌, cond, ℤ, pos}
 use Rattle.std.specs.Ordering.{int_eq}
 use Rattle.pool_layout.specs.declared.places.Layout.{Layout}
@@ -9,7 +10,8 @@ use Rattle.pool_layout.specs.Image.{Words, IsUpTo}
 
 pub record WellMade (l : Layout) (a : ℕ) (image : Words) : Type 0 where
   pub stamps : (j : ℕ) → j < l.sizes.records → IsUpTo (suc a) (image (at l (RecordStamp j)))
-  pub first : (j k : ℕ) → j < k → k < l.sizes.records → image (at l (RecordStamp k)) ≡ pos (suc a) → image (at l (RecordStamp j)) ≡ pos (suc a)
+  pub first : (j k : ℕ) → j < k → k < l.sizes.records → image (at l (RecordStamp k)) ≡ pos (suc a)
+      → image (at l (RecordStamp j)) ≡ pos (suc a)
 
 -- how many of the first n stamps are valid
 abbrev pub valid : (ℕ → ℤ) → ℕ → ℕ → ℕ

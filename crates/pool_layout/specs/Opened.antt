@@ -1,29 +1,34 @@
--- What the words of a read image hold, whichever version it was of: as many words as the pool has, the superblock of the wanted
--- pool, and what a recovery needs of an image.
+-- The words of an image that was read, whatever its version: as many as the pool has, with the
+-- superblock of the wanted pool, and all that a recovery needs.
 use Rattle.std.specs.Prelude.{ℕ, ◌*◌, ◌≡◌, List, length, ℤ, pos}
 use Rattle.pool_layout.specs.declared.places.Place.TheVariants.{Done, Attempt, Mark, Heap}
 use Rattle.pool_layout.specs.declared.rules.Rules.{Rules}
 use Rattle.pool_layout.specs.declared.wanted.Wanted.{Wanted}
 use Rattle.pool_layout.specs.Sizes.{pool_lines}
 use Rattle.pool_layout.specs.Places.{at, pool_of}
-use Rattle.pool_layout.specs.Image.{words_of, IsSealed}
+use Rattle.pool_layout.specs.Image.{image_words, IsSealed}
 use Rattle.pool_layout.specs.Good.{HasSuper, Good}
-use Rattle.pool_layout.specs.Opens.{Opens}
+use Rattle.pool_layout.specs.Opens.{IsOpenable}
 
 -- the rules of a pool that is created or saved
 abbrev pub wanted_rules : Wanted → Rules
-wanted_rules wanted = record { layout = pool_of wanted.sizes; txs = wanted.txs; structs = wanted.structs }
+wanted_rules wanted = record {
+  layout = pool_of wanted.sizes;
+  txs = wanted.txs;
+  structs = wanted.structs;
+}
 
 pub record IsOpened (wanted : Wanted) (all : List ℤ) : Type 0 where
   pub whole : length all ≡ 8 * pool_lines wanted.sizes
-  pub super : HasSuper wanted.sizes wanted.digest (words_of all)
-  pub opens : Opens (wanted_rules wanted) (words_of all)
+  pub super : HasSuper wanted.sizes wanted.digest (image_words all)
+  pub opens : IsOpenable (wanted_rules wanted) (image_words all)
 
--- where the mark is 0 and the image isn't sealed, it is at rest with its own heap
+-- if the mark is 0 and the image isn't sealed, it is at rest with its own heap
 abbrev pub OpenedRests : Type 0
 OpenedRests = (wanted : Wanted) (all : List ℤ) (a d : ℕ) → IsOpened wanted all
-    → words_of all (at (pool_of wanted.sizes) Mark) ≡ pos 0
-    → words_of all (at (pool_of wanted.sizes) Attempt) ≡ pos a
-    → words_of all (at (pool_of wanted.sizes) Done) ≡ pos d
-    → (IsSealed (pool_of wanted.sizes) (words_of all) → ⊥)
-    → Good wanted.sizes wanted.digest a d (λ w. words_of all (at (pool_of wanted.sizes) (Heap w))) (words_of all)
+    → image_words all (at (pool_of wanted.sizes) Mark) ≡ pos 0
+    → image_words all (at (pool_of wanted.sizes) Attempt) ≡ pos a
+    → image_words all (at (pool_of wanted.sizes) Done) ≡ pos d
+    → (IsSealed (pool_of wanted.sizes) (image_words all) → ⊥)
+    → Good wanted.sizes wanted.digest a d
+    (λ w. image_words all (at (pool_of wanted.sizes) (Heap w))) (image_words all)

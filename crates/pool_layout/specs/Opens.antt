@@ -1,4 +1,4 @@
--- What a recovery needs of an image, and what reading it checks: one follows from the other.
+-- What a recovery needs of an image. Reading an image checks conditions from which this follows.
 use Rattle.std.specs.Prelude.{ℕ, ◌^◌, ◌<◌, ◌≤◌, ◌≡◌, ℤ, pos}
 use Rattle.pool_layout.specs.declared.places.Version.TheVariants.{First}
 use Rattle.pool_layout.specs.declared.places.Place.TheVariants.{Done, Attempt, Mark, Argument, RecordWord, Heap}
@@ -8,7 +8,7 @@ use Rattle.pool_layout.specs.Places.{at}
 use Rattle.pool_layout.specs.Image.{Words, IsSealed, IsUpTo}
 use Rattle.pool_layout.specs.Log.{WellMade, count}
 use Rattle.pool_layout.specs.Restored.{restored}
-use Rattle.pool_layout.specs.Content.{Keeps}
+use Rattle.pool_layout.specs.Content.{KeepsRules}
 
 -- a number below n
 abbrev pub IsBelow : ℕ → ℤ → Type 0
@@ -16,17 +16,20 @@ IsBelow n x = (u : ℕ) × (u < n) × (x ≡ pos u)
 
 -- each slot's header is from 0 to the number of structs
 abbrev pub HasHeaders : Rules → (ℕ → ℤ) → Type 0
-HasHeaders r h = (slot : ℕ) → 1 ≤ slot → slot ≤ r.layout.sizes.slots → IsUpTo r.structs (h (slot_word r.layout.sizes slot))
+HasHeaders r h = (slot : ℕ) → 1 ≤ slot → slot ≤ r.layout.sizes.slots
+    → IsUpTo r.structs (h (slot_word r.layout.sizes slot))
 
--- A sealed image names one of the transactions, its valid records lie in the heap, and what they restore has valid headers.
-pub record IsOwed (r : Rules) (a : ℕ) (image : Words) : Type 0 where
+-- If an image is sealed, it names one of the transactions, its valid records lie in the heap, and
+-- the heap that they restore has valid headers.
+pub record NamesOwed (r : Rules) (a : ℕ) (image : Words) : Type 0 where
   pub function : (f : ℕ) × (1 ≤ f) × (f ≤ r.txs) × (image (at r.layout (Argument 0)) ≡ pos f)
-  pub in_heap : (j : ℕ) → j < count r.layout a image → IsBelow (heap_words r.layout.sizes) (image (at r.layout (RecordWord j)))
+  pub in_heap : (j : ℕ) → j < count r.layout a image
+      → IsBelow (heap_words r.layout.sizes) (image (at r.layout (RecordWord j)))
   pub headers : HasHeaders r (restored r.layout a image)
 
--- Mark, done and attempt are in their ranges, the log is well made and the headers are valid; and, where the image is sealed,
--- it holds what the interrupted transaction needs.
-pub record Opens (r : Rules) (image : Words) : Type 0 where
+-- The mark, done and the attempt are in their ranges, the log is well made and the headers are
+-- valid. If the image is sealed, it also holds what the interrupted transaction needs.
+pub record IsOpenable (r : Rules) (image : Words) : Type 0 where
   pub mark : IsUpTo 8 (image (at r.layout Mark))
   pub done : IsUpTo (2 ^ 62) (image (at r.layout Done))
   pub attempt : ℕ
@@ -34,8 +37,8 @@ pub record Opens (r : Rules) (image : Words) : Type 0 where
   pub attempt_fits : attempt ≤ 2 ^ 62
   pub log : WellMade r.layout attempt image
   pub headers : HasHeaders r (λ w. image (at r.layout (Heap w)))
-  pub sealed : IsSealed r.layout image → IsOwed r attempt image
+  pub sealed : IsSealed r.layout image → NamesOwed r attempt image
   pub first_unsealed : r.layout.version ≡ First → IsSealed r.layout image → ⊥
 
 abbrev pub KeptOpens : Type 0
-KeptOpens = (r : Rules) (image : Words) → Keeps r image → Opens r image
+KeptOpens = (r : Rules) (image : Words) → KeepsRules r image → IsOpenable r image

@@ -1,23 +1,23 @@
--- What follows from a pool's sizes: N slots, C records, R root words.
+-- Numbers that follow from a pool's sizes: N slots, C records, R root words.
 use Rattle.std.specs.Prelude.{ℕ, ◌+◌, ◌-◌, ◌*◌, ◌/◌}
 use Rattle.pool_layout.specs.declared.limits.Sizes.{Sizes}
 
--- RL, the lines that hold the root words: R divided by 8, rounded up
+-- RL, the number of lines that hold the root words: R divided by 8, rounded up
 abbrev pub root_lines : Sizes → ℕ
 root_lines s = (s.root_words + 7) / 8
 
--- 6 + C + RL + 2 N
+-- the number of lines: 6 + C + RL + 2 N
 abbrev pub pool_lines : Sizes → ℕ
 pool_lines s = 6 + s.records + root_lines s + 2 * s.slots
 
--- the heap stands behind the records
+-- the pool's word where the heap begins, after the records
 abbrev pub heap_start : Sizes → ℕ
 heap_start s = 8 * (6 + s.records)
 
--- 8 RL + 16 N
+-- the number of heap words: 8 RL + 16 N
 abbrev pub heap_words : Sizes → ℕ
 heap_words s = 8 * root_lines s + 16 * s.slots
 
--- slots are counted from 1
+-- the heap word where a slot begins; slots are counted from 1
 abbrev pub slot_word : Sizes → ℕ → ℕ
 slot_word s slot = 8 * root_lines s + 16 * (slot - 1)

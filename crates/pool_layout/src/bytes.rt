@@ -1,4 +1,4 @@
-//! Words as bytes: eight to a word, the lowest byte first.
+//! Words as bytes: eight bytes to a word, the lowest first.
 
 ghost use Rattle.std.specs.Prelude.{◌≡◌, ◌≤◌, ◌+◌, ◌*◌, ◌++◌, IfOk, OnOk, length};
 ghost use Rattle.pool_layout.specs.Bytes as bytes_are;
@@ -24,7 +24,7 @@ fn push_word(bytes: &mut Bytes, word: i64) -> Result<(), AllocError>
     bytes.extend(&word.to_le_bytes())
 }
 
-/// Word `k` of bytes that hold words.
+/// Word `k` of these bytes.
 #[tactic(auto, unfolding(crate::specs::Bytes::word_from))]
 pub fn word_in(bytes: &[u8], k: u64) -> i64
     requires { 8 * k + 8 ≤ length bytes.now }

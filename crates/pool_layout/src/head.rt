@@ -9,7 +9,7 @@ use crate::places::{Layout, Version};
 use crate::rules::Rules;
 use crate::wanted::{ImageFault, Wanted};
 
-/// What the rules of content speak of in an image with these bytes.
+/// The rules of content for an image with these bytes.
 pub fn rules_for(bytes: &[u8], wanted: &Wanted) -> Rules
     ensures { result ≡ fault_of.rules_of wanted.now bytes.now }
 {
@@ -33,7 +33,7 @@ fn version_of(bytes: &[u8]) -> Version
     }
 }
 
-/// The first fault that applies before those of content.
+/// The first fault before those of content that applies.
 #[tactic(auto, unfolding(crate::specs::Fault::early_fault))]
 pub fn early_fault(bytes: &[u8], wanted: &Wanted) -> Option<ImageFault>
     ensures value { result ≡ fault_of.early_fault wanted.now bytes.now }
@@ -119,7 +119,7 @@ fn sizes_fault(bytes: &[u8], wanted: &Wanted) -> Option<ImageFault>
     length_fault(bytes, wanted)
 }
 
-/// Whether word `k` of the first line is this size.
+/// The fault if word `k` of the first line isn't this size.
 fn size_fault(bytes: &[u8], k: u64, wanted: u64) -> Option<ImageFault>
     requires line { k < 6 }
     requires whole { 48 ≤ length bytes.now }
@@ -158,7 +158,7 @@ fn digest_fault(bytes: &[u8], wanted: &Wanted) -> Option<ImageFault>
     }
 }
 
-/// Words 8 to 11.
+/// The digest: words 8 to 11.
 fn digest_in(bytes: &[u8]) -> [i64; 4]
     requires { 96 ≤ length bytes.now }
     ensures { result ≡ fault_of.digest_in bytes.now }
@@ -171,7 +171,7 @@ fn digest_in(bytes: &[u8]) -> [i64; 4]
     ]
 }
 
-/// How many bytes an image of the version that these bytes begin with has.
+/// The number of bytes of an image of the version that these bytes begin with.
 fn needed(bytes: &[u8], wanted: &Wanted) -> u64
     ensures value { result ≡ fault_of.needed wanted.now bytes.now }
     ensures least { 640 ≤ result + 128 }

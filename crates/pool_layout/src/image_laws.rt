@@ -1,18 +1,19 @@
-//! The laws of images, as far as they speak of words alone.
+//! The laws of images that speak of words alone.
 
 ghost use Rattle.pool_layout.specs.Restored.{OldestDecides, OthersStay};
 ghost use Rattle.pool_layout.specs.Opens.{KeptOpens};
 ghost use Rattle.pool_layout.specs.Opened.{OpenedRests};
 ghost use Rattle.pool_layout.specs.Moved.{MovedKeeps, MovedUnsealed};
 
-/// Of a heap word the oldest valid record decides what is restored, and else the heap's own word.
+/// The oldest valid record of a heap word decides its restored value; a heap word without a record
+/// stays.
 pub fn restored_law()
     ensures oldest { OldestDecides }
     ensures others { OthersStay }
 {}
 
-/// What reading an image checks is what a recovery from it needs, and where nothing is to be
-/// recovered the image is at rest.
+/// An image that passes the checks of reading holds what a recovery needs, and if there is nothing
+/// to recover, it is at rest.
 pub fn opens_law()
     ensures kept { KeptOpens }
     ensures rests { OpenedRests }

@@ -1,7 +1,7 @@
 //! The layout of a pool: its sizes, the place of each of its words, the digest of a program's text
-//! and the bytes of a saved image. It stands on the lists of `nvm_base` and on SHA-256. Its one
-//! contract for those above: different places are different words, each word of a pool has a place,
-//! and an image is read exactly where it is valid.
+//! and the bytes of a saved image. It rests on the lists of `nvm_base` and on SHA-256. Its one
+//! contract for the crates above: different places are different words, each word of a pool has a
+//! place, and an image is read exactly if it is valid.
 #![tactic(auto)]
 
 mod bytes;
@@ -13,8 +13,6 @@ mod measures;
 mod places;
 mod read;
 mod rules;
-#[cfg(test)]
-mod tests;
 mod wanted;
 
 pub use bytes::image_bytes;
@@ -22,7 +20,9 @@ pub use fingerprint::digest;
 pub use image_laws::{moved_law, opens_law, restored_law};
 pub use limits::Sizes;
 pub use measures::{heap_start, heap_words, pool_lines, slot_word};
-pub use places::{HeapPlace, Layout, Place, Version, places_law};
+pub use places::{
+    ATTEMPT, DONE, FUNCTION, HeapPlace, LAST, Layout, MARK, Place, SEAL, Version, places_law,
+};
 pub use read::read_image;
 pub use rules::Rules;
 pub use wanted::{ImageFault, Wanted};

@@ -18,7 +18,7 @@ pub struct Sizes {
 }
 
 impl Sizes {
-    /// The pool's sizes, or `None` where one of them is outside its limit.
+    /// The pool's sizes, or `None` if one of them is outside its limit.
     pub fn new(slots: u64, records: u64, root_words: u64, ticks: u64) -> Option<Sizes>
         ensures slots { IfSome result (λ s. s.slots ≡ slots) }
         ensures records { IfSome result (λ s. s.records ≡ records) }

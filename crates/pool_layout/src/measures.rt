@@ -1,32 +1,32 @@
-//! What follows from a pool's sizes: its lines, and where its heap and its slots stand.
+//! Numbers that follow from a pool's sizes: its lines, and where its heap and its slots begin.
 
 ghost use Rattle.std.specs.Prelude.{◌≡◌, ◌≤◌};
 ghost use Rattle.pool_layout.specs.Sizes as sizes_of;
 
 use crate::limits::Sizes;
 
-/// How many lines of eight words the pool has.
+/// The number of lines, of eight words each, of the pool.
 pub fn pool_lines(sizes: &Sizes) -> u64
     ensures { result ≡ sizes_of.pool_lines sizes.now }
 {
     6 + sizes.records() + root_lines(sizes) + 2 * sizes.slots()
 }
 
-/// The pool's word where the heap starts.
+/// The pool's word where the heap begins.
 pub fn heap_start(sizes: &Sizes) -> u64
     ensures { result ≡ sizes_of.heap_start sizes.now }
 {
     8 * (6 + sizes.records())
 }
 
-/// How many words the heap has: those of the root's lines and sixteen for each slot.
+/// The number of heap words: those of the root's lines, and sixteen for each slot.
 pub fn heap_words(sizes: &Sizes) -> u64
     ensures { result ≡ sizes_of.heap_words sizes.now }
 {
     8 * root_lines(sizes) + 16 * sizes.slots()
 }
 
-/// The heap word where a slot starts, which is its header. Slots are counted from 1.
+/// The heap word where a slot begins, which is its header. Slots are counted from 1.
 pub fn slot_word(sizes: &Sizes, slot: u64) -> u64
     requires first { 1 ≤ slot }
     requires last { slot ≤ sizes.now.slots }

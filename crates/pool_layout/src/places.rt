@@ -1,21 +1,39 @@
-//! The places of a pool: each word by its name, and the number of the word where it stands.
+//! The places of a pool: each word by its name, and its number in the pool.
 
 ghost use Rattle.std.specs.Prelude.{◌≡◌, ◌<◌, ◌≤◌, ◌*◌};
 ghost use Rattle.pool_layout.specs.Sizes.{heap_words};
-ghost use Rattle.pool_layout.specs.Places.{at, words, log_line, seal_word, pool_of, heap_at, IsPlace, IsHeapPlace, PlacesApart, PlacesFit, HeapLines, HeapApart, HeapFits, SizesAgree};
+ghost use Rattle.pool_layout.specs.Places.{at, layout_words, log_line, seal_word, pool_of, heap_at, IsPlace, IsHeapPlace, PlacesApart, PlacesFit, HeapLines, HeapApart, HeapFits, SizesAgree};
 
 use crate::limits::Sizes;
 use crate::measures::{heap_words, slot_word};
 
-/// The two versions of the layout. A pool is created and saved in the second. In the first the
-/// argument record is one line, in the second three.
+/// The word of the last value.
+pub const LAST: u64 = 16;
+
+/// The word that counts the finished calls.
+pub const DONE: u64 = 17;
+
+/// The word of the attempt.
+pub const ATTEMPT: u64 = 18;
+
+/// The word of the mark.
+pub const MARK: u64 = 19;
+
+/// The word of the function, at the start of the argument record.
+pub const FUNCTION: u64 = 24;
+
+/// The word of the seal, at the end of the argument record.
+pub const SEAL: u64 = 47;
+
+/// The two versions of the layout. A pool is created and saved in the second. The argument record
+/// is one line in the first version, and three lines in the second.
 #[derive(Clone, Copy, Debug, PartialEq, Eq)]
 pub enum Version {
     First,
     Second,
 }
 
-/// Where the words of a pool of these sizes stand.
+/// The layout of a pool of these sizes.
 #[derive(Clone, Copy, Debug, PartialEq, Eq)]
 pub struct Layout {
     pub version: Version,
@@ -62,13 +80,13 @@ impl Version {
         }
     }
 
-    /// The pool's word that is the seal.
+    /// The number of the seal's word in the pool.
     fn seal_word(self) -> u64
         ensures { result ≡ seal_word self }
     {
         match self {
             Version::First => 31,
-            Version::Second => 47,
+            Version::Second => SEAL,
         }
     }
 }
@@ -84,28 +102,28 @@ impl Layout {
         }
     }
 
-    /// How many words the pool has.
+    /// The number of words of the pool.
     pub fn words(&self) -> u64
-        ensures { result ≡ words self.now }
+        ensures { result ≡ layout_words self.now }
     {
         8 * (self.version.log_line() + self.sizes.records()) + heap_words(&self.sizes)
     }
 
-    /// The number of the pool's word that is this place.
+    /// The number of the word at this place.
     pub fn word(&self, place: Place) -> u64
         requires { IsPlace self.now place }
         ensures value { result ≡ at self.now place }
-        ensures within { result < words self.now }
+        ensures within { result < layout_words self.now }
     {
         let log = self.version.log_line();
         match place {
             Place::Super(k) => k,
-            Place::Last => 16,
-            Place::Done => 17,
-            Place::Attempt => 18,
-            Place::Mark => 19,
+            Place::Last => LAST,
+            Place::Done => DONE,
+            Place::Attempt => ATTEMPT,
+            Place::Mark => MARK,
             Place::Spare(k) => 20 + k,
-            Place::Argument(k) => 24 + k,
+            Place::Argument(k) => FUNCTION + k,
             Place::Seal => self.version.seal_word(),
             Place::RecordWord(i) => 8 * (log + i),
             Place::RecordOld(i) => 8 * (log + i) + 1,
@@ -117,15 +135,15 @@ impl Layout {
 
     /// The place of a word of the pool. Each word has one.
     pub fn place(&self, word: u64) -> Place
-        requires { word < words self.now }
+        requires { word < layout_words self.now }
         ensures valid { IsPlace self.now result }
         ensures same { at self.now result ≡ word }
     {
         let seal = self.version.seal_word();
-        if word < 24 {
+        if word < FUNCTION {
             self.head_place(word)
         } else if word < seal {
-            Place::Argument(word - 24)
+            Place::Argument(word - FUNCTION)
         } else if word == seal {
             Place::Seal
         } else {
@@ -133,7 +151,7 @@ impl Layout {
         }
     }
 
-    /// The place of a word of the heap within the heap. Each heap word has one.
+    /// The place of a heap word within the heap. Each heap word has one.
     pub fn heap_place(&self, word: u64) -> HeapPlace
         requires { word < heap_words self.now.sizes }
         ensures valid { IsHeapPlace self.now.sizes result }
@@ -152,24 +170,24 @@ impl Layout {
 
     /// The place of a word of lines 0 to 2.
     fn head_place(&self, word: u64) -> Place
-        requires { word < 24 }
+        requires { word < FUNCTION }
         ensures valid { IsPlace self.now result }
         ensures same { at self.now result ≡ word }
     {
         match word {
-            16 => Place::Last,
-            17 => Place::Done,
-            18 => Place::Attempt,
-            19 => Place::Mark,
-            k if k < 16 => Place::Super(k),
+            LAST => Place::Last,
+            DONE => Place::Done,
+            ATTEMPT => Place::Attempt,
+            MARK => Place::Mark,
+            k if k < LAST => Place::Super(k),
             k => Place::Spare(k - 20),
         }
     }
 
-    /// The place of a word behind the seal.
+    /// The place of a word after the seal.
     fn tail_place(&self, word: u64) -> Place
-        requires behind { 8 * log_line self.now.version ≤ word }
-        requires inside { word < words self.now }
+        requires after { 8 * log_line self.now.version ≤ word }
+        requires inside { word < layout_words self.now }
         ensures valid { IsPlace self.now result }
         ensures same { at self.now result ≡ word }
     {
@@ -188,7 +206,7 @@ impl Layout {
     }
 }
 
-/// Different places are different words, each within the pool, and a heap word has one line.
+/// Different places are different words, each within the pool, and each heap word has one line.
 pub fn places_law()
     ensures apart { PlacesApart }
     ensures fit { PlacesFit }

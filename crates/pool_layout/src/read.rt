@@ -2,11 +2,12 @@
 
 ghost use Rattle.std.specs.Prelude.{◌≡◌, ◌≤◌, ◌*◌, IfOk, IfErr, OnOk, length};
 ghost use Rattle.pool_layout.specs.Bytes as bytes_are;
-ghost use Rattle.pool_layout.specs.Places.{words, pool_of, IsPlace};
+ghost use Rattle.pool_layout.specs.inside.Bytes as inside_bytes_are;
+ghost use Rattle.pool_layout.specs.Places.{layout_words, pool_of, IsPlace};
 ghost use Rattle.pool_layout.specs.Image as image_is;
 ghost use Rattle.pool_layout.specs.Moved as moved_are;
 ghost use Rattle.pool_layout.specs.Opened.{IsOpened};
-ghost use Rattle.pool_layout.specs.Fault.{version_of, needed, Accepts, Refuses};
+ghost use Rattle.pool_layout.specs.Fault.{version_of, needed, Accepts, IsFirstFault};
 
 use crate::bytes::word_in;
 use crate::head::{early_fault, rules_for};
@@ -18,11 +19,12 @@ use std::alloc::{AllocError, Global};
 
 /// The words of a saved pool, or why these bytes are no image of the wanted pool: the first fault
 /// that applies, with its two values. A pool of the first version is moved to the second. Want of
-/// memory comes only where no fault applies.
+/// memory is answered only if no fault applies.
 pub fn read_image(alloc: Global, bytes: &[u8], wanted: &Wanted) -> Result<Words, ImageFault>
-    ensures refused { IfErr result (λ fault. Refuses wanted.now bytes.now fault) }
+    ensures refused { IfErr result (λ fault. IsFirstFault wanted.now bytes.now fault) }
     ensures accepted { OnOk result (Accepts wanted.now bytes.now) }
-    ensures second { IfOk result (λ all. version_of bytes.now ≡ Version.Second → bytes_are.bytes_of all ≡ bytes.now) }
+    ensures second { IfOk result (λ all. version_of bytes.now ≡ Version.Second
+        → bytes_are.bytes_of all ≡ bytes.now) }
     ensures first { IfOk result (λ all. version_of bytes.now ≡ Version.First
         → moved_are.AreMoved wanted.now.sizes (bytes_are.word_in bytes.now) all) }
     ensures opened { IfOk result (λ all. IsOpened wanted.now all) }
@@ -40,18 +42,19 @@ pub fn read_image(alloc: Global, bytes: &[u8], wanted: &Wanted) -> Result<Words,
     }
 }
 
-/// The answer for an image of the first version that no fault applies to.
+/// The answer for an image of the first version to which no fault applies.
 fn read_first(alloc: Global, bytes: &[u8], wanted: &Wanted) -> Result<Words, AllocError>
     requires accepted { Accepts wanted.now bytes.now }
     requires whole { length bytes.now ≡ needed wanted.now bytes.now }
     requires version { version_of bytes.now ≡ Version.First }
-    ensures moved { IfOk result (λ all. moved_are.AreMoved wanted.now.sizes (bytes_are.word_in bytes.now) all) }
+    ensures moved { IfOk result (λ all.
+        moved_are.AreMoved wanted.now.sizes (bytes_are.word_in bytes.now) all) }
     ensures opened { IfOk result (λ all. IsOpened wanted.now all) }
 {
     moved_words(alloc, bytes, &wanted.sizes)
 }
 
-/// The answer for an image of the second version that no fault applies to.
+/// The answer for an image of the second version to which no fault applies.
 fn read_second(alloc: Global, bytes: &[u8], wanted: &Wanted) -> Result<Words, AllocError>
     requires accepted { Accepts wanted.now bytes.now }
     requires whole { length bytes.now ≡ needed wanted.now bytes.now }
@@ -64,10 +67,10 @@ fn read_second(alloc: Global, bytes: &[u8], wanted: &Wanted) -> Result<Words, Al
 
 /// The words of these bytes.
 fn all_words(alloc: Global, bytes: &[u8]) -> Result<Words, AllocError>
-    requires { bytes_are.HasWords bytes.now }
+    requires { inside_bytes_are.AreWholeWords bytes.now }
     ensures bytes { IfOk result (λ all. bytes_are.bytes_of all ≡ bytes.now) }
     ensures whole { IfOk result (λ all. 8 * length all ≡ length bytes.now) }
-    ensures words { IfOk result (λ all. image_is.words_of all ≡ bytes_are.word_in bytes.now) }
+    ensures words { IfOk result (λ all. image_is.image_words all ≡ bytes_are.word_in bytes.now) }
 {
     let mut all = Words::new(alloc);
     let count = bytes.len() as u64 / 8;
@@ -79,7 +82,7 @@ fn all_words(alloc: Global, bytes: &[u8]) -> Result<Words, AllocError>
 
 /// The words of a pool of the first version, moved to the second.
 fn moved_words(alloc: Global, bytes: &[u8], sizes: &Sizes) -> Result<Words, AllocError>
-    requires { 8 * words (moved_are.first_of sizes.now) ≤ length bytes.now }
+    requires { 8 * layout_words (moved_are.first_layout sizes.now) ≤ length bytes.now }
     ensures { IfOk result (λ all. moved_are.AreMoved sizes.now (bytes_are.word_in bytes.now) all) }
 {
     let to = Layout::new(sizes);
@@ -93,7 +96,7 @@ fn moved_words(alloc: Global, bytes: &[u8], sizes: &Sizes) -> Result<Words, Allo
 /// The word at a place of the moved pool.
 #[tactic(auto, unfolding(crate::specs::Moved::moved))]
 fn moved_word(bytes: &[u8], sizes: &Sizes, place: Place) -> i64
-    requires whole { 8 * words (moved_are.first_of sizes.now) ≤ length bytes.now }
+    requires whole { 8 * layout_words (moved_are.first_layout sizes.now) ≤ length bytes.now }
     requires inside { IsPlace (pool_of sizes.now) place }
     ensures { result ≡ moved_are.moved sizes.now (bytes_are.word_in bytes.now) place }
 {

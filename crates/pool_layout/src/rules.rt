@@ -1,18 +1,19 @@
-//! The rules of content of an image, and the least word that breaks one. An image is read in its
-//! bytes, with no memory.
+//! The rules of content of an image, and the least word that breaks one. The image is checked in
+//! its bytes, and no memory is allocated.
 
 ghost use Rattle.std.specs.Prelude.{ℕ, ◌≡◌, ◌<◌, ◌≤◌, ◌*◌, ◌+◌, IfSome, IfNone, length, nat_le};
 ghost use Rattle.pool_layout.specs.Bytes as bytes_are;
-ghost use Rattle.pool_layout.specs.Places.{at, words, IsPlace};
+ghost use Rattle.pool_layout.specs.Places.{at, layout_words, IsPlace};
 ghost use Rattle.pool_layout.specs.Content as content;
+ghost use Rattle.pool_layout.specs.inside.Content as inside_content;
 
 use crate::bytes::word_in;
 use crate::limits::Sizes;
 use crate::measures::{heap_words, slot_word};
 use crate::places::{Layout, Place, Version};
 
-/// What the rules of content speak of: where the words stand, how many transactions the program
-/// has, and how many structs.
+/// What the rules of content depend on: the layout, the number of transactions of the program, and
+/// the number of its structs.
 #[derive(Clone, Copy, Debug, PartialEq, Eq)]
 pub struct Rules {
     pub layout: Layout,
@@ -21,11 +22,12 @@ pub struct Rules {
 }
 
 impl Rules {
-    /// The least word of the image that breaks a rule, or `None` where no word does.
+    /// The least word of the image that breaks a rule, or `None` if no word does.
     pub fn first_break(&self, bytes: &[u8]) -> Option<u64>
-        requires { 8 * words self.now.layout ≤ length bytes.now }
-        ensures broken { IfSome result (λ w. content.IsFirstBreak self.now (bytes_are.word_in bytes.now) w) }
-        ensures kept { IfNone result (content.Keeps self.now (bytes_are.word_in bytes.now)) }
+        requires { 8 * layout_words self.now.layout ≤ length bytes.now }
+        ensures broken { IfSome result
+            (λ w. content.IsFirstBreak self.now (bytes_are.word_in bytes.now) w) }
+        ensures kept { IfNone result (content.KeepsRules self.now (bytes_are.word_in bytes.now)) }
     {
         let leading = self.leading(bytes);
         for word in 0..self.layout.words() {
@@ -36,10 +38,10 @@ impl Rules {
         None
     }
 
-    /// How many of the first records are valid.
+    /// How many records, from the first on, are valid.
     fn leading(&self, bytes: &[u8]) -> u64
-        requires { 8 * words self.now.layout ≤ length bytes.now }
-        ensures { content.IsLeading self.now.layout (bytes_are.word_in bytes.now) result }
+        requires { 8 * layout_words self.now.layout ≤ length bytes.now }
+        ensures { inside_content.IsLeading self.now.layout (bytes_are.word_in bytes.now) result }
     {
         for i in 0..self.layout.sizes.records() {
             if !self.is_valid(bytes, i) {
@@ -50,12 +52,13 @@ impl Rules {
     }
 
     /// Whether the word at this place breaks a rule.
-    #[tactic(auto, unfolding(crate::specs::Content::breaks))]
+    #[tactic(auto, unfolding(crate::specs::Content::breaks_rule))]
     fn breaks(&self, bytes: &[u8], leading: u64, place: Place) -> bool
-        requires whole { 8 * words self.now.layout ≤ length bytes.now }
+        requires whole { 8 * layout_words self.now.layout ≤ length bytes.now }
         requires inside { IsPlace self.now.layout place }
-        requires led { content.IsLeading self.now.layout (bytes_are.word_in bytes.now) leading }
-        ensures { result ≡ content.breaks self.now (bytes_are.word_in bytes.now) place }
+        requires led { inside_content.IsLeading self.now.layout
+            (bytes_are.word_in bytes.now) leading }
+        ensures { result ≡ content.breaks_rule self.now (bytes_are.word_in bytes.now) place }
     {
         match place {
             Place::Done => !is_within(0, 1 << 62, self.word(bytes, Place::Done)),
@@ -71,33 +74,36 @@ impl Rules {
         }
     }
 
-    #[tactic(auto, unfolding(crate::specs::Content::breaks))]
+    #[tactic(auto, unfolding(crate::specs::Content::breaks_rule))]
     fn breaks_argument(&self, bytes: &[u8], k: u64) -> bool
-        requires whole { 8 * words self.now.layout ≤ length bytes.now }
+        requires whole { 8 * layout_words self.now.layout ≤ length bytes.now }
         requires inside { IsPlace self.now.layout (Place.Argument k) }
-        ensures { result ≡ content.breaks self.now (bytes_are.word_in bytes.now) (Place.Argument k) }
+        ensures { result ≡ content.breaks_rule self.now (bytes_are.word_in bytes.now)
+            (Place.Argument k) }
     {
         k == 0
             && self.is_sealed(bytes)
             && !is_within(1, self.txs, self.word(bytes, Place::Argument(k)))
     }
 
-    #[tactic(auto, unfolding(crate::specs::Content::breaks))]
+    #[tactic(auto, unfolding(crate::specs::Content::breaks_rule))]
     fn breaks_word(&self, bytes: &[u8], i: u64) -> bool
-        requires whole { 8 * words self.now.layout ≤ length bytes.now }
+        requires whole { 8 * layout_words self.now.layout ≤ length bytes.now }
         requires inside { i < self.now.layout.sizes.records }
-        ensures { result ≡ content.breaks self.now (bytes_are.word_in bytes.now) (Place.RecordWord i) }
+        ensures { result ≡ content.breaks_rule self.now (bytes_are.word_in bytes.now)
+            (Place.RecordWord i) }
     {
         self.is_sealed(bytes)
             && self.is_valid(bytes, i)
             && !in_heap(&self.layout.sizes, self.word(bytes, Place::RecordWord(i)))
     }
 
-    #[tactic(auto, unfolding(crate::specs::Content::breaks))]
+    #[tactic(auto, unfolding(crate::specs::Content::breaks_rule))]
     fn breaks_old(&self, bytes: &[u8], i: u64) -> bool
-        requires whole { 8 * words self.now.layout ≤ length bytes.now }
+        requires whole { 8 * layout_words self.now.layout ≤ length bytes.now }
         requires inside { i < self.now.layout.sizes.records }
-        ensures { result ≡ content.breaks self.now (bytes_are.word_in bytes.now) (Place.RecordOld i) }
+        ensures { result ≡ content.breaks_rule self.now (bytes_are.word_in bytes.now)
+            (Place.RecordOld i) }
     {
         self.is_sealed(bytes)
             && self.is_valid(bytes, i)
@@ -105,12 +111,14 @@ impl Rules {
             && !is_within(0, self.structs, self.word(bytes, Place::RecordOld(i)))
     }
 
-    #[tactic(auto, unfolding(crate::specs::Content::breaks))]
+    #[tactic(auto, unfolding(crate::specs::Content::breaks_rule))]
     fn breaks_stamp(&self, bytes: &[u8], leading: u64, i: u64) -> bool
-        requires whole { 8 * words self.now.layout ≤ length bytes.now }
+        requires whole { 8 * layout_words self.now.layout ≤ length bytes.now }
         requires inside { i < self.now.layout.sizes.records }
-        requires led { content.IsLeading self.now.layout (bytes_are.word_in bytes.now) leading }
-        ensures { result ≡ content.breaks self.now (bytes_are.word_in bytes.now) (Place.RecordStamp i) }
+        requires led { inside_content.IsLeading self.now.layout
+            (bytes_are.word_in bytes.now) leading }
+        ensures { result ≡ content.breaks_rule self.now (bytes_are.word_in bytes.now)
+            (Place.RecordStamp i) }
     {
         !is_stamp(
             self.word(bytes, Place::Attempt),
@@ -118,11 +126,12 @@ impl Rules {
         ) || (self.is_valid(bytes, i) && i > leading)
     }
 
-    #[tactic(auto, unfolding(crate::specs::Content::breaks))]
+    #[tactic(auto, unfolding(crate::specs::Content::breaks_rule))]
     fn breaks_heap(&self, bytes: &[u8], w: u64) -> bool
-        requires whole { 8 * words self.now.layout ≤ length bytes.now }
+        requires whole { 8 * layout_words self.now.layout ≤ length bytes.now }
         requires inside { IsPlace self.now.layout (Place.Heap w) }
-        ensures { result ≡ content.breaks self.now (bytes_are.word_in bytes.now) (Place.Heap w) }
+        ensures { result ≡ content.breaks_rule self.now (bytes_are.word_in bytes.now)
+            (Place.Heap w) }
     {
         is_header(&self.layout.sizes, w)
             && !is_within(0, self.structs, self.word(bytes, Place::Heap(w)))
@@ -131,7 +140,7 @@ impl Rules {
     /// Whether the seal is done plus 1.
     #[tactic(auto, using(std::proofs::lemmas::Int::wraps))]
     fn is_sealed(&self, bytes: &[u8]) -> bool
-        requires { 8 * words self.now.layout ≤ length bytes.now }
+        requires { 8 * layout_words self.now.layout ≤ length bytes.now }
         ensures { result ≡ content.is_sealed self.now.layout (bytes_are.word_in bytes.now) }
     {
         is_next(self.word(bytes, Place::Seal), self.word(bytes, Place::Done))
@@ -140,7 +149,7 @@ impl Rules {
     /// Whether record `i` is valid.
     #[tactic(auto, using(std::proofs::lemmas::Int::wraps))]
     fn is_valid(&self, bytes: &[u8], i: u64) -> bool
-        requires whole { 8 * words self.now.layout ≤ length bytes.now }
+        requires whole { 8 * layout_words self.now.layout ≤ length bytes.now }
         requires inside { i < self.now.layout.sizes.records }
         ensures { result ≡ content.is_valid self.now.layout (bytes_are.word_in bytes.now) i }
     {
@@ -152,7 +161,7 @@ impl Rules {
 
     /// The word at this place.
     fn word(&self, bytes: &[u8], place: Place) -> i64
-        requires whole { 8 * words self.now.layout ≤ length bytes.now }
+        requires whole { 8 * layout_words self.now.layout ≤ length bytes.now }
         requires inside { IsPlace self.now.layout place }
         ensures { result ≡ bytes_are.word_in bytes.now (at self.now.layout place) }
     {

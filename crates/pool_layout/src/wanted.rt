@@ -1,4 +1,4 @@
-//! What an image is read for, and how it may be refused.
+//! The pool that an image must be of, and the reasons for which it may be refused.
 
 ghost use Rattle.std.specs.Prelude.{◌≡◌};
 ghost use Rattle.pool_layout.specs.declared.wanted.ImageFault.TheVariants.{NoMemory};
@@ -16,7 +16,7 @@ pub struct Wanted {
     pub structs: u64,
 }
 
-/// Why an image is refused: the first of these that applies, with what was found and what was
+/// Why an image is refused: the first of these that applies, with the value found and the value
 /// wanted. `Content` has the least word that breaks a rule of content, and its value.
 #[derive(Clone, Copy, Debug, PartialEq, Eq)]
 pub enum ImageFault {

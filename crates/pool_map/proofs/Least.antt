@@ -16,15 +16,23 @@ used_next n s object slots from used zero below = refl
 used_next n s object slots from used (suc i) below = used i (omega arith)
 
 free_next : (n s : ℕ) (slot : Option Object) (slots : List (Option Object)) → suc n ≤ s
-    → slice_index_or slots (s - suc n) None ≡ None → slice_index_or (slot ∷ slots) (s - n) None ≡ None
+    → slice_index_or slots (s - suc n) None ≡ None
+    → slice_index_or (slot ∷ slots) (s - n) None ≡ None
 free_next n s slot slots from free = let e : s - n ≡ suc (s - suc n) = omega arith in rw e free
 
-first : (n : ℕ) (slots : List (Option Object)) (s : ℕ) → first_free n slots ≡ Some s → IsFirst n slots s
+first : (n : ℕ) (slots : List (Option Object)) (s : ℕ) → first_free n slots ≡ Some s
+    → IsFirst n slots s
 first n [] s e = absurd (cc)
 first n (None ∷ slots) s e =
     let same : n ≡ s = cc in
     let none : s - n ≡ 0 = omega arith in
-    record { from = omega arith; below = omega arith; free = rw none refl; used = λ i h. absurd (omega arith) }
+    record {
+      from = omega arith;
+      below = omega arith;
+      free = rw none refl;
+      used = λ i h.
+          absurd (omega arith);
+    }
 first n (Some object ∷ slots) s e =
     let rest = first (suc n) slots s e in
     record {
@@ -34,7 +42,8 @@ first n (Some object ∷ slots) s e =
       used = used_next n s object slots rest.from rest.used;
     }
 
-full : (n : ℕ) (slots : List (Option Object)) → first_free n slots ≡ None → (i : ℕ) → i < length slots
+full : (n : ℕ) (slots : List (Option Object)) → first_free n slots ≡ None → (i : ℕ)
+    → i < length slots
     → IsSome (slice_index_or slots i None)
 full n [] e i below = absurd (omega arith)
 full n (None ∷ slots) e i below = absurd (cc)
@@ -54,5 +63,6 @@ least_free-some p s e =
       λ t some below. rw (at p t some) (is.used (t - 1) (omega arith)),
     )
 
-pub least_free-none : (p : PoolMap) → least_free p ≡ None → (s : ℕ) → IsSlot p s → IsSome (object_at p s)
+pub least_free-none : (p : PoolMap) → least_free p ≡ None → (s : ℕ) → IsSlot p s
+    → IsSome (object_at p s)
 least_free-none p e s slot = rw (at p s slot.0) (full 1 p.slots e (s - 1) (omega arith))

@@ -3,3 +3,4 @@ pub mod PoolFits
 pub mod PoolMap
 pub mod PoolText
 pub mod Trap
+pub mod inside

@@ -1,9 +1,9 @@
--- A pool, as the source sees it, is a list of root words and a map from the slots 1 to N to objects. An object has
--- a kind, which is its struct's number, and field words.
---     new    puts an object of a kind, with a number of words that are all 0, at a slot
---     free   takes a slot's object out of the map
---     read, write    speak of one field word of the object in a slot
---     read_root, write_root    speak of one root word
+-- A pool, as the source sees it, is a list of root words and a map from the slots 1 to N to
+-- objects. An object has a kind, which is its struct's number, and field words.
+--     new    puts an object of a kind, with a number of words that are all 0, into a slot
+--     free   takes the object out of a slot
+--     read, write    act on one field word of the object in a slot
+--     read_root, write_root    act on one root word
 -- The least free slot is the least from 1 to N that has no object.
 use Rattle.std.specs.Prelude.{ℕ, zero, suc, ◌-◌, ◌<◌, ◌≤◌, List, [], ◌∷◌, Option, None, Some, ℤ, pos, replicate, length, slice_set, slice_index_or, option_map, IsSomeAnd}
 use Rattle.pool_map.specs.declared.object.Object.{Object}
@@ -13,20 +13,20 @@ pub record PoolMap : Type 0 where
   pub root : List ℤ
   pub slots : List (Option Object)
 
--- the pool of root words that are 0, and of slots that are free
+-- the pool whose root words are all 0 and whose slots are all free
 abbrev pub empty_pool : (root_words slots : ℕ) → PoolMap
 empty_pool r n = record { root = replicate r (pos 0); slots = replicate n None }
 
--- slot s is one of the pool's
+-- the pool has a slot s
 abbrev pub IsSlot : PoolMap → ℕ → Type 0
 IsSlot p s = (1 ≤ s) × (s ≤ length p.slots)
 
--- the object in slot s; none at 0 and past the last slot
+-- the object in slot s; none for slot 0 and past the last slot
 abbrev pub object_at : PoolMap → ℕ → Option Object
 object_at p zero = None
 object_at p (suc i) = slice_index_or p.slots i None
 
--- the first slot without an object of a list of slots whose first has the number s
+-- the number of the first slot without an object, in a list of slots that begins with slot s
 abbrev pub first_free : ℕ → List (Option Object) → Option ℕ
 first_free s [] = None
 first_free s (None ∷ objects) = Some s
@@ -48,7 +48,7 @@ new p s kind words = with_object p s (Some (blank_object kind words))
 abbrev pub free : PoolMap → ℕ → PoolMap
 free p s = with_object p s None
 
--- field i of the object, 0 where there is none
+-- field i of the object, or 0 if there is none
 abbrev pub field_of : Option Object → ℕ → ℤ
 field_of None i = pos 0
 field_of (Some object) i = slice_index_or object.fields i (pos 0)
@@ -56,7 +56,7 @@ field_of (Some object) i = slice_index_or object.fields i (pos 0)
 abbrev pub with_field : ℕ → ℤ → Object → Object
 with_field i value object = record { kind = object.kind; fields = slice_set object.fields i value }
 
--- slot s has an object, and the object has a field i
+-- slot s has an object, and that object has a field i
 abbrev pub HasField : PoolMap → (slot field : ℕ) → Type 0
 HasField p s i = IsSomeAnd (object_at p s) (λ object. i < length object.fields)
 

@@ -1,7 +1,8 @@
--- The text of a pool has a line `root` and, from the least slot on, a line `slot S T` for each slot S with an object,
--- T being the name of its struct. On a line follows ` F=V` for each field F in its order. A value V is a number, in
--- decimal and with `-` where it is negative; an array's is its elements between `[` and `]`, with `,` between each
--- two. Each line ends with LF.
+-- The text of a pool has a line `root` and, from the least slot on, a line `slot S T` for each slot
+-- S with an object, where T is the name of the object's struct. Each line continues with ` F=V` for
+-- each field F, in the fields' order. A value V is a number in decimal, with `-` if it is negative;
+-- the value of an array is its elements between `[` and `]`, separated by `,`. Each line ends with
+-- LF.
 use Rattle.std.specs.Prelude.{ℕ, suc, ◌++◌, List, [], ◌∷◌, Option, None, Some, ℤ, pos, take, drop, slice_index_or, codes}
 use Rattle.std.specs.List.{join_by}
 use Rattle.std.specs.Fmt.{decimal, signed_decimal}
@@ -12,7 +13,7 @@ use Rattle.pool_map.specs.declared.shapes.Shapes.{Shapes}
 use Rattle.pool_map.specs.PoolMap.{PoolMap}
 use Rattle.pool_map.specs.PoolFits.{words_of_field, struct_at}
 
--- the value of a field with these words, by whether it is an array
+-- the text of a field's value with these words; the option is the length of an array
 abbrev pub value_text : Option ℕ → List ℤ → List ℕ
 value_text None words = signed_decimal (slice_index_or words 0 (pos 0))
 value_text (Some _) words = codes "[" ++ (join_by signed_decimal (codes ",") words ++ codes "]")
@@ -20,11 +21,12 @@ value_text (Some _) words = codes "[" ++ (join_by signed_decimal (codes ",") wor
 abbrev pub field_text : FieldShape → List ℤ → List ℕ
 field_text field words = codes " " ++ (field.name ++ (codes "=" ++ value_text field.length words))
 
--- the fields' texts, the words lying in the fields' order
+-- the texts of the fields, whose words come in the fields' order
 abbrev pub fields_text : List FieldShape → List ℤ → List ℕ
 fields_text [] words = []
 fields_text (field ∷ fields) words =
-    field_text field (take (words_of_field field) words) ++ fields_text fields (drop (words_of_field field) words)
+    field_text field (take (words_of_field field) words) ++ fields_text fields
+    (drop (words_of_field field) words)
 
 abbrev pub root_line : List FieldShape → List ℤ → List ℕ
 root_line fields words = codes "root" ++ (fields_text fields words ++ codes "\n")
@@ -32,14 +34,15 @@ root_line fields words = codes "root" ++ (fields_text fields words ++ codes "\n"
 abbrev pub struct_line : (slot : ℕ) → Option StructShape → List ℤ → List ℕ
 struct_line s None words = []
 struct_line s (Some shape) words =
-    codes "slot " ++ (decimal s ++ (codes " " ++ (shape.name ++ (fields_text shape.fields words ++ codes "\n"))))
+    codes "slot " ++ (decimal s ++ (codes " "
+    ++ (shape.name ++ (fields_text shape.fields words ++ codes "\n"))))
 
--- the line of slot s, and nothing where it has no object
+-- the line of slot s, or nothing if it has no object
 abbrev pub slot_line : List StructShape → (slot : ℕ) → Option Object → List ℕ
 slot_line structs s None = []
 slot_line structs s (Some object) = struct_line s (struct_at structs object.kind) object.fields
 
--- the lines of a list of slots whose first has the number s
+-- the lines of a list of slots that begins with slot s
 abbrev pub slot_lines : List StructShape → (slot : ℕ) → List (Option Object) → List ℕ
 slot_lines structs s [] = []
 slot_lines structs s (slot ∷ slots) = slot_line structs s slot ++ slot_lines structs (suc s) slots

@@ -1,4 +1,4 @@
--- The traps have the numbers 1 to 8 and the names that answers print; a number means the trap that has it.
+-- The traps have the numbers 1 to 8 and the names that answers print.
 use Rattle.std.specs.Prelude.{ℕ, List, [], ◌∷◌, Option, ◌==◌, codes, find}
 use Rattle.pool_map.specs.declared.trap.TrapKind.{TrapKind}
 use Rattle.pool_map.specs.declared.trap.TrapKind.TheVariants.{Null, Stale, Index, Divide, Steps, Abort, LogFull, Depth}

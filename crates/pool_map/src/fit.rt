@@ -1,9 +1,10 @@
-//! Whether a pool has the words that shapes ask for.
+//! Whether a pool has the words that the shapes ask for.
 
 ghost use Rattle.std.specs.Prelude.{◌≡◌, ◌==◌, length};
 ghost use Rattle.std.specs.Bool.{Decides};
 ghost use Rattle.std.specs.List.{list_all};
-ghost use Rattle.pool_map.specs.PoolFits.{words_of, struct_at, object_fits, slot_fits, pool_fits, PoolFits};
+ghost use Rattle.pool_map.specs.PoolFits.{words_of, struct_at, PoolFits};
+ghost use Rattle.pool_map.specs.inside.PoolFits.{object_fits, slot_fits, pool_fits};
 
 use crate::object::Object;
 use crate::pool::Pool;
@@ -49,7 +50,7 @@ fn object_fits(structs: &[StructShape], object: &Object) -> bool
     }
 }
 
-/// Whether the words are as many as the fields have.
+/// Whether there are as many words as the fields have.
 fn has_words(fields: &[FieldShape], words: &[i64]) -> bool
     ensures { result ≡ (length words.now == words_of fields.now) }
 {

@@ -2,7 +2,7 @@
 
 ghost use Rattle.pool_map.specs.Laws.{ObjectLaw, NewLaw, FieldLaw, RootLaw, LeastLaw};
 
-/// The laws of the pool's map. It does nothing.
+/// The laws of the pool's map. The function does nothing.
 pub fn laws()
     ensures object { ObjectLaw }
     ensures new { NewLaw }

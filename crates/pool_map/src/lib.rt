@@ -1,4 +1,4 @@
-//! The pool as the source sees it: root words, and objects in numbered slots. It stands on
+//! The pool as the source sees it: root words, and objects in numbered slots. It rests on
 //! `nvm_base`. Its one contract for the crates above: each call of `Pool` does what the map of
 //! `specs/PoolMap.antt` does, and `show_text` writes the text of a pool.
 #![tactic(auto)]
@@ -18,6 +18,3 @@ pub use pool::Pool;
 pub use shapes::{FieldShape, FieldShapes, Shapes, StructShape, StructShapes};
 pub use show::show_text;
 pub use trap::TrapKind;
-
-#[cfg(test)]
-mod tests;

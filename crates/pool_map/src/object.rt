@@ -15,7 +15,7 @@ pub struct Object {
     pub fields: Words,
 }
 
-/// So many words, all of them 0.
+/// So many words, all 0.
 pub(crate) fn zeros(alloc: Global, words: u64) -> Result<Words, AllocError>
     ensures { IfOk result (λ all. all ≡ replicate words (pos 0)) }
 {
@@ -26,7 +26,7 @@ pub(crate) fn zeros(alloc: Global, words: u64) -> Result<Words, AllocError>
     Ok(all)
 }
 
-/// The same words again.
+/// A copy of the words.
 pub(crate) fn copied(alloc: Global, words: &Words) -> Result<Words, AllocError>
     ensures { IfOk result (λ all. all ≡ words.now) }
 {

@@ -25,7 +25,7 @@ impl Model for Pool {
 }
 
 impl Pool {
-    /// The pool of so many root words, all 0, and so many slots, all free.
+    /// A pool of so many root words, all 0, and so many slots, all free.
     pub fn empty(alloc: Global, root_words: u64, slots: u64) -> Result<Pool, AllocError>
         ensures { IfOk result (λ pool. pool ≡ empty_pool root_words slots) }
     {
@@ -34,7 +34,7 @@ impl Pool {
         Ok(Pool { root, slots })
     }
 
-    /// The pool of these root words, with no slot yet. It takes no memory.
+    /// A pool with these root words and no slot yet. It takes no memory.
     pub fn of_root(alloc: Global, root: Words) -> Pool
         ensures { result ≡ record { root = root; slots = [] } }
     {
@@ -44,16 +44,20 @@ impl Pool {
         }
     }
 
-    /// Puts one slot behind the last. After an error the pool is as before.
+    /// Appends one slot. After an error the pool is as before.
     pub fn push_slot(&mut self, slot: Option<Object>) -> Result<(), AllocError>
-        ensures ok { OnOk result (self.new ≡ record { root = self.old.root; slots = self.old.slots ++ slot ∷ [] }) }
+        ensures ok { OnOk result (self.new ≡ record {
+          root = self.old.root;
+          slots = self.old.slots
+              ++ slot ∷ [];
+        }) }
         ensures err { OnErr result (self.new ≡ self.old) }
     {
         self.slots.push(slot)?;
         Ok(())
     }
 
-    /// The same pool again.
+    /// A copy of the pool.
     pub fn copy(&self) -> Result<Pool, AllocError>
         ensures { IfOk result (λ pool. pool ≡ self.now) }
     {
@@ -63,7 +67,7 @@ impl Pool {
         Ok(Pool { root, slots })
     }
 
-    /// The least slot that has no object. It takes no memory.
+    /// The least slot that has no object, if there is one. It takes no memory.
     pub fn least_free(&self) -> Option<u64>
         ensures { result ≡ least_free self.now }
     {
@@ -84,14 +88,14 @@ impl Pool {
         self.root.as_slice()
     }
 
-    /// The slots from 1 on.
+    /// The slots, from slot 1 on.
     pub(crate) fn slots(&self) -> &[Option<Object>]
         ensures { result.now ≡ self.now.slots }
     {
         &self.slots
     }
 
-    /// The object in a slot, for any number.
+    /// The object in a slot; any number may be asked for.
     fn object(&self, slot: u64) -> Option<&Object>
         ensures { option_map (λ object. object.now) result ≡ object_at self.now slot }
     {
@@ -101,8 +105,8 @@ impl Pool {
         self.slots[(slot - 1) as usize].as_ref()
     }
 
-    /// The kind of the object in a slot, and `None` where there is none, for any number. It takes no
-    /// memory.
+    /// The kind of the object in a slot, or `None` if there is none; any number may be asked for.
+    /// It takes no memory.
     pub fn kind(&self, slot: u64) -> Option<u32>
         ensures { result ≡ option_map (λ object. object.kind) (object_at self.now slot) }
     {
@@ -112,7 +116,8 @@ impl Pool {
         }
     }
 
-    /// Puts an object into a free slot; its words are 0. After an error the pool is as before.
+    /// Puts an object into a free slot, with words that are all 0. After an error the pool is as
+    /// before.
     pub fn new_object(&mut self, slot: u64, kind: u32, words: u64) -> Result<(), AllocError>
         requires slot { IsSlot self.old slot }
         requires free { object_at self.old slot ≡ None }
@@ -149,12 +154,13 @@ impl Pool {
         ensures { self.new ≡ write self.old slot field value }
     {
         match &mut self.slots[(slot - 1) as usize] {
-            Some(object) => object.fields.set(field, value),
+            Some(object) => object.fields.set(field as usize, value),
             None => unreachable!(),
         }
     }
 
-    /// Whether the object in a slot has this field word, for any numbers. It takes no memory.
+    /// Whether the object in a slot has this field word; any numbers may be asked for. It takes no
+    /// memory.
     pub fn has_field(&self, slot: u64, field: u64) -> bool
         ensures { Decides result (HasField self.now slot field) }
     {
@@ -164,7 +170,7 @@ impl Pool {
         }
     }
 
-    /// Whether there is this root word. It takes no memory.
+    /// Whether the pool has this root word. It takes no memory.
     pub fn has_root_word(&self, word: u64) -> bool
         ensures { Decides result (word < length self.now.root) }
     {
@@ -184,7 +190,7 @@ impl Pool {
         requires { word < length self.old.root }
         ensures { self.new ≡ write_root self.old word value }
     {
-        self.root.set(word, value);
+        self.root.set(word as usize, value);
     }
 }
 
@@ -199,7 +205,7 @@ fn free_slots(alloc: Global, slots: u64) -> Result<Vec<Option<Object>>, AllocErr
     Ok(all)
 }
 
-/// The same slots again.
+/// A copy of the slots.
 fn copied_slots(alloc: Global, slots: &[Option<Object>]) -> Result<Vec<Option<Object>>, AllocError>
     ensures { IfOk result (λ all. all.items ≡ slots.now) }
 {
@@ -210,7 +216,7 @@ fn copied_slots(alloc: Global, slots: &[Option<Object>]) -> Result<Vec<Option<Ob
     Ok(all)
 }
 
-/// The same slot again.
+/// A copy of the slot.
 fn copied_slot(alloc: Global, slot: &Option<Object>) -> Result<Option<Object>, AllocError>
     ensures { IfOk result (λ same. same ≡ slot.now) }
 {

@@ -1,23 +1,22 @@
 //! The shapes of a program's structs: their names, and their fields' names and lengths.
 
-ghost use Rattle.std.specs.Prelude.{[], ◌∷◌, ◌++◌, ◌≡◌, OnOk, OnErr, IfOk};
+ghost use Rattle.std.specs.Prelude.{◌≡◌, IfOk};
 
-use nvm_base::Text;
+use nvm_base::{List, Text};
 use std::alloc::{AllocError, Global};
-use std::marker::Model;
 
 /// A field: one word, or an array of `length` words.
 #[derive(Drop)]
 pub struct FieldShape {
     pub name: Text,
-    /// The number of elements of an array, and `None` for a field that isn't one.
+    /// The number of elements of an array, or `None` for a field that isn't an array.
     pub length: Option<u64>,
 }
 
 impl FieldShape {
     ghost use Rattle.pool_map.specs.PoolFits.{words_of_field};
 
-    /// How many words the field has.
+    /// The number of words of the field.
     pub(crate) fn words(&self) -> u64
         ensures { result ≡ words_of_field self.now }
     {
@@ -25,46 +24,8 @@ impl FieldShape {
     }
 }
 
-/// A list of fields, in the order of their declarations.
-#[derive(Drop)]
-pub struct FieldShapes {
-    all: Vec<FieldShape>,
-}
-
-impl Model for FieldShapes {
-    ghost use Rattle.std.specs.Prelude.{List};
-    ghost use Rattle.pool_map.specs.declared.shapes.FieldShape.{FieldShape};
-
-    ghost Value = { List FieldShape };
-
-    ghost view = { λ s. s.all.items };
-}
-
-impl FieldShapes {
-    /// The empty list. It takes no memory.
-    pub fn new(alloc: Global) -> Self
-        ensures { result ≡ [] }
-    {
-        FieldShapes {
-            all: Vec::new(alloc),
-        }
-    }
-
-    /// Puts one field at the end.
-    pub fn push(&mut self, field: FieldShape) -> Result<(), AllocError>
-        ensures ok { OnOk result (self.new ≡ self.old ++ field ∷ []) }
-        ensures err { OnErr result (self.new ≡ self.old) }
-    {
-        self.all.push(field)?;
-        Ok(())
-    }
-
-    pub fn as_slice(&self) -> &[FieldShape]
-        ensures { result.now ≡ self.now }
-    {
-        &self.all
-    }
-}
+/// Fields, in the order of their declarations.
+pub type FieldShapes = List<FieldShape>;
 
 /// A struct that objects may have.
 #[derive(Drop)]
@@ -73,46 +34,8 @@ pub struct StructShape {
     pub fields: FieldShapes,
 }
 
-/// A list of structs, in the order of their numbers, from number 1 on.
-#[derive(Drop)]
-pub struct StructShapes {
-    all: Vec<StructShape>,
-}
-
-impl Model for StructShapes {
-    ghost use Rattle.std.specs.Prelude.{List};
-    ghost use Rattle.pool_map.specs.declared.shapes.StructShape.{StructShape};
-
-    ghost Value = { List StructShape };
-
-    ghost view = { λ s. s.all.items };
-}
-
-impl StructShapes {
-    /// The empty list. It takes no memory.
-    pub fn new(alloc: Global) -> Self
-        ensures { result ≡ [] }
-    {
-        StructShapes {
-            all: Vec::new(alloc),
-        }
-    }
-
-    /// Puts one struct at the end.
-    pub fn push(&mut self, shape: StructShape) -> Result<(), AllocError>
-        ensures ok { OnOk result (self.new ≡ self.old ++ shape ∷ []) }
-        ensures err { OnErr result (self.new ≡ self.old) }
-    {
-        self.all.push(shape)?;
-        Ok(())
-    }
-
-    pub fn as_slice(&self) -> &[StructShape]
-        ensures { result.now ≡ self.now }
-    {
-        &self.all
-    }
-}
+/// Structs, in the order of their numbers, from number 1 on.
+pub type StructShapes = List<StructShape>;
 
 /// The shapes that a program's pool has: the fields of the root, and the structs.
 #[derive(Drop)]
@@ -141,16 +64,14 @@ impl FieldShape {
     }
 }
 
-impl FieldShapes {
-    fn copy(&self, alloc: Global) -> Result<FieldShapes, AllocError>
-        ensures { IfOk result (λ f. f ≡ self.now) }
-    {
-        let mut copy = FieldShapes::new(alloc);
-        for field in self.as_slice() {
-            copy.push(field.copy(alloc)?)?;
-        }
-        Ok(copy)
+fn fields_copy(alloc: Global, fields: &FieldShapes) -> Result<FieldShapes, AllocError>
+    ensures { IfOk result (λ f. f ≡ fields.now) }
+{
+    let mut copy = FieldShapes::new(alloc);
+    for field in fields.as_slice() {
+        copy.push(field.copy(alloc)?)?;
     }
+    Ok(copy)
 }
 
 impl StructShape {
@@ -159,31 +80,29 @@ impl StructShape {
     {
         Ok(StructShape {
             name: text_copy(alloc, &self.name)?,
-            fields: self.fields.copy(alloc)?,
+            fields: fields_copy(alloc, &self.fields)?,
         })
     }
 }
 
-impl StructShapes {
-    fn copy(&self, alloc: Global) -> Result<StructShapes, AllocError>
-        ensures { IfOk result (λ s. s ≡ self.now) }
-    {
-        let mut copy = StructShapes::new(alloc);
-        for shape in self.as_slice() {
-            copy.push(shape.copy(alloc)?)?;
-        }
-        Ok(copy)
+fn structs_copy(alloc: Global, structs: &StructShapes) -> Result<StructShapes, AllocError>
+    ensures { IfOk result (λ s. s ≡ structs.now) }
+{
+    let mut copy = StructShapes::new(alloc);
+    for shape in structs.as_slice() {
+        copy.push(shape.copy(alloc)?)?;
     }
+    Ok(copy)
 }
 
 impl Shapes {
-    /// The same shapes once more.
+    /// A copy of the shapes.
     pub fn copy(&self, alloc: Global) -> Result<Shapes, AllocError>
         ensures { IfOk result (λ s. s ≡ self.now) }
     {
         Ok(Shapes {
-            root: self.root.copy(alloc)?,
-            structs: self.structs.copy(alloc)?,
+            root: fields_copy(alloc, &self.root)?,
+            structs: structs_copy(alloc, &self.structs)?,
         })
     }
 }

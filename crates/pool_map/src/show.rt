@@ -25,7 +25,7 @@ pub fn show_text(alloc: Global, shapes: &Shapes, pool: &Pool) -> Result<Text, Al
     Ok(text)
 }
 
-/// Writes the lines of the slots, the first of which has number 1.
+/// Writes the lines of the slots, the first of which is slot 1.
 fn push_slots(
     alloc: Global,
     text: &mut Text,
@@ -78,7 +78,7 @@ fn struct_of<'a>(structs: &'a [StructShape], object: &Object) -> &'a StructShape
     &structs[(object.kind - 1) as usize]
 }
 
-/// Writes ` F=V` for each field; the words lie in the fields' order.
+/// Writes ` F=V` for each field; the words come in the fields' order.
 fn push_fields(
     alloc: Global,
     text: &mut Text,
@@ -118,7 +118,8 @@ fn push_field(
 
 /// Writes an array's elements in brackets.
 fn push_array(alloc: Global, text: &mut Text, words: &[i64]) -> Result<(), AllocError>
-    ensures { OnOk result (text.new ≡ text.old ++ (codes "[" ++ (join_by signed_decimal (codes ",") words.now ++ codes "]"))) }
+    ensures { OnOk result (text.new ≡ text.old
+        ++ (codes "[" ++ (join_by signed_decimal (codes ",") words.now ++ codes "]"))) }
 {
     text.push("[")?;
     push_elements(alloc, text, words)?;
@@ -126,7 +127,7 @@ fn push_array(alloc: Global, text: &mut Text, words: &[i64]) -> Result<(), Alloc
     Ok(())
 }
 
-/// Writes an array's elements, with a comma between each two.
+/// Writes an array's elements, separated by commas.
 fn push_elements(alloc: Global, text: &mut Text, words: &[i64]) -> Result<(), AllocError>
     ensures { OnOk result (text.new ≡ text.old ++ join_by signed_decimal (codes ",") words.now) }
 {

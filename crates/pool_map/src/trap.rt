@@ -14,13 +14,13 @@ pub enum TrapKind {
     Index,
     /// A division by 0.
     Divide,
-    /// A transaction that needs more ticks than it has.
+    /// A transaction needs more ticks than it has.
     Steps,
     /// `abort()` was reached.
     Abort,
-    /// The log has no place for another record.
+    /// The log has no room for another record.
     LogFull,
-    /// More functions open than may be.
+    /// Too many functions are open.
     Depth,
 }
 
@@ -41,7 +41,7 @@ impl TrapKind {
         }
     }
 
-    /// The trap that has this number, if one has.
+    /// The trap that has this number, if there is one.
     pub fn of_number(number: u32) -> Option<TrapKind>
         ensures { result ≡ trap_of number }
     {

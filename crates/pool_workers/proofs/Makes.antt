@@ -1,17 +1,18 @@
--- The events that create one compartment, and then those of the rest.
+-- The events that create one compartment, followed by those of the rest.
 use Rattle.std.proofs.Common.{◌≡◌, inl, inr, ℕ, suc, ◌+◌, ◌*◌, ◌-◌, ◌<◌, ◌≤◌, true, false, ℤ, List, [], ◌∷◌, ◌++◌, None, refl, sym, ap, ap₂, ◌∙◌, subst, arith}
 use Rattle.std.proofs.Math.Nat.{mul-le-mul_left}
 use Rattle.std.proofs.lemmas.Option.{none-some}
 use Rattle.cache_model.specs.Event.{CacheEvent}
-use Rattle.pmem.specs.Device.{Device, Rose, IsDown, spent, less}
+use Rattle.pmem.specs.Device.{Device, FaultsRose, IsDown, spent, less_one}
 use Rattle.pmem.specs.Played.{PlaysAll, PlaysPart}
 use Rattle.pmem.specs.declared.answer.Refusal.{Refusal}
 use Rattle.pmem.specs.declared.answer.Refusal.TheVariants.{Off, Failed}
 use Rattle.pmem.proofs.Glue.{all_append, part_left, part_right}
 use Rattle.pool_layout.specs.declared.limits.Sizes.{Sizes}
 use Rattle.pool_layout.specs.Sizes.{pool_lines}
-use Rattle.pool_workers.specs.Compartment.{lifted, first_of}
-use Rattle.pool_workers.specs.Making.{sizes_events, digest_events, head_events, creation_events, parts_at, lifted_all, creations}
+use Rattle.pool_workers.specs.Compartment.{lifted, first_line}
+use Rattle.pool_workers.specs.Making.{sizes_events, digest_events, head_events, creation_events, lifted_all, creations}
+use Rattle.pool_workers.specs.inside.Making.{parts_at}
 
 lifted_append : (f : ℕ) (es fs : List CacheEvent) →
     lifted_all f (es ++ fs) ≡ lifted_all f es ++ lifted_all f fs
@@ -26,25 +27,26 @@ parts f s digest =
     (lifted_append f (digest_events digest) head_events)
 
 creations_at : (s : Sizes) (digest : List ℤ) (worker n : ℕ) → worker < n →
-    creations s digest worker (n - worker) ≡ parts_at (first_of s worker) s digest
+    creations s digest worker (n - worker) ≡ parts_at (first_line s worker) s digest
     ++ creations s digest (worker + 1) (n - (worker + 1))
-creations_at s digest worker n less =
+creations_at s digest worker n less_one =
     let left : n - worker ≡ suc (n - (worker + 1)) = omega arith in
     ap (creations s digest worker) left
     ∙ ap₂ (λ (es : List CacheEvent) (w : ℕ). es ++ creations s digest w (n - (worker + 1)))
-    (parts (first_of s worker) s digest) (add_one worker)
+    (parts (first_line s worker) s digest) (add_one worker)
   where
     add_one : (w : ℕ) → suc w ≡ w + 1
     add_one w = omega arith
 
-module _ (s : Sizes) (digest : List ℤ) (worker n first : ℕ) (less : worker < n)
-    (is : first ≡ first_of s worker) (d : Device) where
+module _ (s : Sizes) (digest : List ℤ) (worker n first : ℕ) (less_one : worker < n)
+    (is : first ≡ first_line s worker) (d : Device) where
   pub all_next : (a b : Device) → PlaysAll d (parts_at first s digest) a →
       PlaysAll a (creations s digest (worker + 1) (n - (worker + 1))) b →
       PlaysAll d (creations s digest worker (n - worker)) b
   all_next a b one rest =
-      subst (λ (es : List CacheEvent). PlaysAll d es b) (sym (creations_at s digest worker n less))
-      (all_append (parts_at (first_of s worker) s digest)
+      subst (λ (es : List CacheEvent). PlaysAll d es b)
+      (sym (creations_at s digest worker n less_one))
+      (all_append (parts_at (first_line s worker) s digest)
       (creations s digest (worker + 1) (n - (worker + 1))) d a b
       (subst (λ (f : ℕ). PlaysAll d (parts_at f s digest) a) is one) rest)
 
@@ -53,8 +55,8 @@ module _ (s : Sizes) (digest : List ℤ) (worker n first : ℕ) (less : worker <
       PlaysPart why d (creations s digest worker (n - worker)) b
   part_next why a b one rest =
       subst (λ (es : List CacheEvent). PlaysPart why d es b)
-      (sym (creations_at s digest worker n less))
-      (part_right (parts_at (first_of s worker) s digest)
+      (sym (creations_at s digest worker n less_one))
+      (part_right (parts_at (first_line s worker) s digest)
       (creations s digest (worker + 1) (n - (worker + 1))) why d a b
       (subst (λ (f : ℕ). PlaysAll d (parts_at f s digest) a) is one) rest)
 
@@ -62,8 +64,8 @@ module _ (s : Sizes) (digest : List ℤ) (worker n first : ℕ) (less : worker <
       PlaysPart why d (creations s digest worker (n - worker)) b
   part_first why b one =
       subst (λ (es : List CacheEvent). PlaysPart why d es b)
-      (sym (creations_at s digest worker n less))
-      (part_left (parts_at (first_of s worker) s digest)
+      (sym (creations_at s digest worker n less_one))
+      (part_left (parts_at (first_line s worker) s digest)
       (creations s digest (worker + 1) (n - (worker + 1))) why d b
       (subst (λ (f : ℕ). PlaysPart why d (parts_at f s digest) b) is one))
 
@@ -74,7 +76,7 @@ module _ (s : Sizes) (digest : List ℤ) (worker n first : ℕ) (less : worker <
       mul-le-mul_left (pool_lines s) some in
       omega arith
 
--- a device that is on, with nothing armed that would switch it off
+-- the device is on, and nothing is armed that would switch it off
 abbrev IsOn : Device → Type 0
 IsOn d = (d.on ≡ true) × (d.left ≡ None)
 
@@ -85,10 +87,11 @@ not_down d on (inr none) = none-some 0 (sym on.1 ∙ none)
 never_off_of : (d : Device) (es : List CacheEvent) (b : Device) → IsOn d → PlaysPart Off d es b → ⊥
 never_off_of d [] b on part = part
 never_off_of d (e ∷ es) b on (inl refused) = not_down d on refused.0
-never_off_of d (e ∷ es) b on (inr rest) = never_off_of (spent d e) es b (on.0, ap less on.1) rest.1
+never_off_of d (e ∷ es) b on (inr rest) =
+    never_off_of (spent d e) es b (on.0, ap less_one on.1) rest.1
 
 rose_part_of : (d : Device) (es : List CacheEvent) (b : Device) → PlaysPart Failed d es b →
-    Rose d.faults b.faults
+    FaultsRose d.faults b.faults
 rose_part_of d [] b part = absurd part
 rose_part_of d (e ∷ es) b (inl refused) = refused.2
 rose_part_of d (e ∷ es) b (inr rest) = rose_part_of (spent d e) es b rest.1
@@ -98,5 +101,5 @@ pub never_off : (why : Refusal) (d : Device) (es : List CacheEvent) (b : Device)
 never_off why d es b is on part = never_off_of d es b on (subst (λ w. PlaysPart w d es b) is part)
 
 pub rose_part : (why : Refusal) (d : Device) (es : List CacheEvent) (b : Device) → why ≡ Failed →
-    PlaysPart why d es b → Rose d.faults b.faults
+    PlaysPart why d es b → FaultsRose d.faults b.faults
 rose_part why d es b is part = rose_part_of d es b (subst (λ w. PlaysPart w d es b) is part)

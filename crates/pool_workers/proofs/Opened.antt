@@ -1,4 +1,4 @@
--- What an answered event of the whole device is for the window, and what it leaves outside.
+-- An answered event of the whole device, as the window sees it, and its effect outside.
 use Rattle.std.proofs.Common.{◌≡◌, ◌≢◌, ◌⊎◌, inl, inr, ℕ, ◌+◌, ◌*◌, ◌<◌, Bool, true, Option, Some, None, IfSome, ℤ, refl, sym, ap, ◌∙◌, subst}
 use Rattle.cache_model.specs.Event.{CacheEvent, Store, Flush, Fence}
 use Rattle.cache_model.specs.Cache.{Cache, view}

@@ -1,4 +1,4 @@
--- What a turn of a transaction comes to.
+-- The effect of a turn of a transaction.
 use Rattle.std.proofs.Common.{◌≡◌, ◌≢◌, ℕ, ◌-◌, ◌≤◌, ◌^◌, ◌==◌, if◌then◌else◌, Bool, true, false, List, take, Option, Some, ℤ, w64, refl, sym, ap, ◌∙◌, subst, arith}
 use Rattle.std.specs.Int.{cast_signed}
 use Rattle.std.proofs.lemmas.Bool.{eqb-false}
@@ -10,8 +10,9 @@ use Rattle.pmem.specs.declared.answer.Phase.TheVariants.{Unsealed, Sealing, Seal
 use Rattle.pmem.specs.declared.answer.Refusal.TheVariants as refusal
 use Rattle.pmem.proofs.Glue.{part_left, part_right}
 use Rattle.pmem.proofs.Refused.{all_cache}
+use Rattle.pool_layout.specs.declared.places.TheConstants.{DONE}
 use Rattle.pool_layout.specs.Sizes.{heap_words}
-use Rattle.args_log.specs.Next.{next}
+use Rattle.args_log.specs.Next.{number_after}
 use Rattle.args_log.specs.Seal.{sealing_events, seal_events}
 use Rattle.args_log.specs.Sealing as sealing
 use Rattle.args_log.specs.declared.sealing.SealAnswer.TheVariants as seal
@@ -55,7 +56,8 @@ module _ (image : Image) (tx : ℕ) (args : List ℤ) (s : State) (d b : Device)
 
   seal_part : (p : Phase) →
       sealing.Seals (seal.Off p) d (cast_signed w64 tx) (take 22 args)
-      (next (view d.cache 17)) b → Turned answer.Off image (Begun tx args s) (Some (Cut p)) d b
+      (number_after (view d.cache DONE)) b
+      → Turned answer.Off image (Begun tx args s) (Some (Cut p)) d b
   unfolding seal_events
   seal_part Unsealed h =
       (part_left (due_unsealed tx args d.cache) sealing_events refusal.Off d b h, h)
@@ -69,13 +71,13 @@ module _ (image : Image) (tx : ℕ) (args : List ℤ) (s : State) (d b : Device)
   pub seal_cut : (p : Phase) (a : TurnAnswer) (o : Option Task) → a ≡ answer.Off →
       o ≡ Some (Cut p) →
       sealing.Seals (seal.Off p) d (cast_signed w64 tx) (take 22 args)
-      (next (view d.cache 17)) b → Turned a image (Begun tx args s) o d b
+      (number_after (view d.cache DONE)) b → Turned a image (Begun tx args s) o d b
   seal_cut p a o is_off is_cut h =
       subst (λ (x : TurnAnswer). Turned x image (Begun tx args s) o d b) (sym is_off)
       (subst (λ (x : Option Task). Turned answer.Off image (Begun tx args s) x d b) (sym is_cut)
       (seal_part p h))
 
--- no more LOGs than records
+-- there are no more LOGs than records
 few_past : (l n : ℕ) (e : Effect) → l ≤ n → records_past l e ≤ records_past n e
 few_past l n (Loads w) le = le
 few_past l n (Scans w m) le = le

@@ -1,11 +1,11 @@
--- An event of the whole device, seen from a compartment: its own events are those that it makes, of
--- another's only fences are seen.
+-- An event of the whole device, seen from a compartment: it sees all of its own events, and of
+-- another compartment's only the fences.
 use Rattle.std.proofs.Common.{◌≡◌, ◌≢◌, inl, inr, ⊎_elim, ℕ, zero, suc, ◌+◌, ◌*◌, ◌/◌, ◌<◌, ◌≤◌, ◌==◌, nat_lt, cond, Bool, true, false, List, [], ◌∷◌, ◌++◌, drop, map, length, Option, Some, None, ℤ, refl, sym, ap, ◌∙◌, arith, eq-eqb, ne_eqb}
 use Rattle.std.proofs.lemmas.Bool.{cases_eq, ltb-false, lt-ltb}
 use Rattle.cache_model.specs.Event.{CacheEvent, Store, Flush, Fence}
 use Rattle.cache_model.specs.Cache.{Words, put, Line, Cache, blank_line, view}
 use Rattle.cache_model.specs.Play.{store_line, mark_of, flush_line, fence_at, fence_line, apply}
-use Rattle.pool_workers.specs.Compartment.{words_from, line_from, cache_in, lifted, IsInside, IsOutside, fenced_if, AreAside}
+use Rattle.pool_workers.specs.Compartment.{words_from, line_counted_from, cache_in, lifted, IsInside, IsOutside, fenced_if, AreAside}
 
 pub map_push : (f : ℕ) (us : List Words) (v : Words) →
     map (words_from f) (us ++ v ∷ []) ≡ map (words_from f) us ++ words_from f v ∷ []
@@ -40,7 +40,7 @@ unfolding put
 put_from f w x v p = ap (λ (b : Bool). cond b x (v (8 * f + p))) (same_test f p w)
 
 store_from : (f w : ℕ) (x : ℤ) (l : Line) →
-    line_from f (store_line l (8 * f + w) x) ≡ store_line (line_from f l) w x
+    line_counted_from f (store_line l (8 * f + w) x) ≡ store_line (line_counted_from f l) w x
 store_from f w x l =
     λ i. record {
       older = map_push f l.older l.newest i;
@@ -57,7 +57,8 @@ mark_from f (u ∷ us) m = ap (λ (n : ℕ). Some (suc n)) (long us)
     long [] = refl
     long (v ∷ vs) = ap suc (long vs)
 
-flush_from : (f : ℕ) (l : Line) → line_from f (flush_line l) ≡ flush_line (line_from f l)
+flush_from : (f : ℕ) (l : Line) → line_counted_from f (flush_line l)
+    ≡ flush_line (line_counted_from f l)
 flush_from f l =
     λ i. record {
       older = map (words_from f) l.older;
@@ -66,15 +67,16 @@ flush_from f l =
     }
 
 fence_from_at : (f : ℕ) (m : Option ℕ) (l : Line) →
-    line_from f (fence_at m l) ≡ fence_at m (line_from f l)
+    line_counted_from f (fence_at m l) ≡ fence_at m (line_counted_from f l)
 fence_from_at f None l = refl
 fence_from_at f (Some k) l =
     λ i. record { older = map_drop f k l.older i; newest = words_from f l.newest; mark = None }
 
-pub fence_from : (f : ℕ) (l : Line) → line_from f (fence_line l) ≡ fence_line (line_from f l)
+pub fence_from : (f : ℕ) (l : Line) → line_counted_from f (fence_line l)
+    ≡ fence_line (line_counted_from f l)
 fence_from f l = fence_from_at f l.mark l
 
--- its own events
+-- the compartment's own events
 
 past_store : (n l w : ℕ) → w < 8 * n → nat_lt l n ≡ false → (l == w / 8) ≡ false
 past_store n l w lt past =
@@ -82,21 +84,23 @@ past_store n l w lt past =
     (λ e. let more : n ≤ l = ltb-false l n past in absurd (let h : ⊥ = omega arith in h))
 
 store_case : (f n w l : ℕ) (x : ℤ) (c : Cache) (b : Bool) → nat_lt l n ≡ b → w < 8 * n →
-    cond b (line_from f
+    cond b (line_counted_from f
     (cond (f + l == (8 * f + w) / 8) (store_line (c (f + l)) (8 * f + w) x) (c (f + l))))
     blank_line
-    ≡ cond (l == w / 8) (store_line (cond b (line_from f (c (f + l))) blank_line) w x)
-    (cond b (line_from f (c (f + l))) blank_line)
+    ≡ cond (l == w / 8) (store_line (cond b (line_counted_from f (c (f + l))) blank_line) w x)
+    (cond b (line_counted_from f (c (f + l))) blank_line)
 store_case f n w l x c true is lt =
-    ap (λ (k : ℕ). line_from f
+    ap (λ (k : ℕ). line_counted_from f
     (cond (f + l == k) (store_line (c (f + l)) (8 * f + w) x) (c (f + l)))) (word_line f w)
-    ∙ ap (λ (t : Bool). line_from f (cond t (store_line (c (f + l)) (8 * f + w) x) (c (f + l))))
+    ∙ ap (λ (t : Bool). line_counted_from f
+    (cond t (store_line (c (f + l)) (8 * f + w) x) (c (f + l))))
     (line_test f l (w / 8))
     ∙ by_test (l == w / 8)
   where
     by_test : (t : Bool) →
-        line_from f (cond t (store_line (c (f + l)) (8 * f + w) x) (c (f + l)))
-        ≡ cond t (store_line (line_from f (c (f + l))) w x) (line_from f (c (f + l)))
+        line_counted_from f (cond t (store_line (c (f + l)) (8 * f + w) x) (c (f + l)))
+        ≡ cond t (store_line (line_counted_from f (c (f + l))) w x)
+        (line_counted_from f (c (f + l)))
     by_test true = store_from f w x (c (f + l))
     by_test false = refl
 store_case f n w l x c false is lt =
@@ -109,24 +113,26 @@ past_flush n l k lt past =
     absurd (let h : ⊥ = omega arith in h))
 
 flush_case : (f n k l : ℕ) (c : Cache) (b : Bool) → nat_lt l n ≡ b → k < n →
-    cond b (line_from f (cond (f + l == f + k) (flush_line (c (f + l))) (c (f + l)))) blank_line
-    ≡ cond (l == k) (flush_line (cond b (line_from f (c (f + l))) blank_line))
-    (cond b (line_from f (c (f + l))) blank_line)
+    cond b (line_counted_from f (cond (f + l == f + k) (flush_line (c (f + l))) (c (f + l))))
+    blank_line
+    ≡ cond (l == k) (flush_line (cond b (line_counted_from f (c (f + l))) blank_line))
+    (cond b (line_counted_from f (c (f + l))) blank_line)
 flush_case f n k l c true is lt =
-    ap (λ (t : Bool). line_from f (cond t (flush_line (c (f + l))) (c (f + l)))) (line_test f l k)
+    ap (λ (t : Bool). line_counted_from f (cond t (flush_line (c (f + l))) (c (f + l))))
+    (line_test f l k)
     ∙ by_test (l == k)
   where
     by_test : (t : Bool) →
-        line_from f (cond t (flush_line (c (f + l))) (c (f + l)))
-        ≡ cond t (flush_line (line_from f (c (f + l)))) (line_from f (c (f + l)))
+        line_counted_from f (cond t (flush_line (c (f + l))) (c (f + l)))
+        ≡ cond t (flush_line (line_counted_from f (c (f + l)))) (line_counted_from f (c (f + l)))
     by_test true = flush_from f (c (f + l))
     by_test false = refl
 flush_case f n k l c false is lt =
     sym (ap (λ (t : Bool). cond t (flush_line blank_line) blank_line) (past_flush n l k lt is))
 
 fence_case : (f l : ℕ) (c : Cache) (b : Bool) →
-    cond b (line_from f (fence_line (c (f + l)))) blank_line
-    ≡ fence_line (cond b (line_from f (c (f + l))) blank_line)
+    cond b (line_counted_from f (fence_line (c (f + l)))) blank_line
+    ≡ fence_line (cond b (line_counted_from f (c (f + l))) blank_line)
 fence_case f l c true = fence_from f (c (f + l))
 fence_case f l c false = refl
 
@@ -168,7 +174,7 @@ unfolding apply
 outside_flush f n k l c lt out =
     cond_off (l == f + k) (flush_line (c l)) (c l) (ne_eqb l (f + k) (far_flush f n k l lt out))
 
--- a fence of a line that is fenced does nothing
+-- a second fence of a line does nothing
 fence_again_at : (m : Option ℕ) (l : Line) → l.mark ≡ m → fence_line (fence_at m l) ≡ fence_at m l
 fence_again_at None l is = ap (λ (o : Option ℕ). fence_at o l) is
 fence_again_at (Some k) l is = refl
@@ -199,6 +205,6 @@ aside_fence f n k c b aside l out = ap fence_line (aside l out) ∙ fence_either
 pub view_in : (f n w : ℕ) (c : Cache) → w < 8 * n → view (cache_in f n c) w ≡ view c (8 * f + w)
 unfolding view cache_in
 view_in f n w c lt =
-    ap (λ (b : Bool). (cond b (line_from f (c (f + w / 8))) blank_line).newest w)
+    ap (λ (b : Bool). (cond b (line_counted_from f (c (f + w / 8))) blank_line).newest w)
     (lt-ltb (w / 8) n (omega arith))
     ∙ ap (λ (l : ℕ). (c l).newest (8 * f + w)) (sym (word_line f w))

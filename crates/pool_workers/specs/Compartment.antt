@@ -11,20 +11,20 @@ use Rattle.pool_layout.specs.Sizes.{pool_lines}
 abbrev pub words_from : ℕ → Words → Words
 words_from f v p = v (8 * f + p)
 
--- a line with its versions, their words counted from line f
-abbrev pub line_from : ℕ → Line → Line
-line_from f l = record {
+-- a line with its versions, whose words are counted from line f
+abbrev pub line_counted_from : ℕ → Line → Line
+line_counted_from f l = record {
   older = map (words_from f) l.older;
   newest = words_from f l.newest;
   mark = l.mark;
 }
 
--- The cache of the compartment. The lines past it are blank, as they are past each memory.
+-- The cache of the compartment. The lines past it are blank, as in every memory.
 unfoldable pub cache_in : (f n : ℕ) → Cache → Cache
-cache_in f n c l = cond (nat_lt l n) (line_from f (c (f + l))) blank_line
+cache_in f n c l = cond (nat_lt l n) (line_counted_from f (c (f + l))) blank_line
 
--- The device of the compartment: its lines, and of the whole device the switch, the events left,
--- the armed fault and the count of faults.
+-- The device of the compartment: its own lines, and the whole device's switch, events left, armed
+-- fault and count of faults.
 abbrev pub device_in : (f n : ℕ) → Device → Device
 device_in f n d = record {
   lines = n;
@@ -51,21 +51,21 @@ IsInside n Fence = Unit {0}
 abbrev pub IsOutside : (f n l : ℕ) → Type 0
 IsOutside f n l = (l < f) ⊎ (f + n ≤ l)
 
--- a line as it was, or as fences left it, of which one does all that more do
+-- a line as it was, or after fences, of which one does all that several do
 abbrev pub fenced_if : Bool → Line → Line
 fenced_if b l = cond b (fence_line l) l
 
--- The lines outside are as they were, but for fences.
+-- The lines outside are as they were, except for fences.
 abbrev pub AreAside : (f n : ℕ) → Bool → (c b : Cache) → Type 0
 AreAside f n fenced c b = (l : ℕ) → IsOutside f n l → b l ≡ fenced_if fenced (c l)
 
--- What the calls of a compartment leave of the whole device: as many lines, and those outside are
--- as they were, but for fences.
+-- The effect of a compartment's calls on the whole device: it has as many lines, and those outside
+-- are as they were, except for fences.
 pub record Aside (f n : ℕ) (d b : Device) : Type 0 where
   pub lines : b.lines ≡ d.lines
   pub fenced : Bool
   pub others : AreAside f n fenced d.cache b.cache
 
 -- the first line of a worker's compartment
-abbrev pub first_of : Sizes → ℕ → ℕ
-first_of s worker = pool_lines s * worker
+abbrev pub first_line : Sizes → ℕ → ℕ
+first_line s worker = pool_lines s * worker

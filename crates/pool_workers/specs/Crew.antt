@@ -1,4 +1,4 @@
--- The workers' transactions: of each worker the one that isn't finished, if there is one.
+-- The workers' transactions: for each worker its unfinished transaction, if there is one.
 use Rattle.std.specs.Prelude.{ℕ, ◌≡◌, ◌≢◌, ◌≤◌, ◌+◌, ◌*◌, List, Option, Some, None, slice_index_or, length, ℤ}
 use Rattle.std.specs.List.{AllByRecursion}
 use Rattle.cache_model.specs.Cache.{view}
@@ -13,8 +13,8 @@ use Rattle.pool_workers.specs.declared.answer.BeginAnswer.TheVariants as begin
 use Rattle.pool_workers.specs.declared.answer.TurnAnswer.{TurnAnswer}
 use Rattle.pool_workers.specs.declared.task.Task.{Task}
 use Rattle.pool_workers.specs.declared.task.Task.TheVariants.{Begun}
-use Rattle.pool_workers.specs.Compartment.{device_in, first_of, Aside}
-use Rattle.pool_workers.specs.Task.{IsTaskOr, IsUncutOr, Turned}
+use Rattle.pool_workers.specs.Compartment.{device_in, first_line, Aside}
+use Rattle.pool_workers.specs.Task.{IsTaskOr, Turned}
 
 abbrev pub Tasks : Type 0
 Tasks = List (Option Task)
@@ -27,38 +27,29 @@ task_at ts worker = slice_index_or ts worker None
 abbrev pub AreTasks : Image → Tasks → Type 0
 AreTasks image ts = AllByRecursion (IsTaskOr image) ts
 
--- no turn of any was refused
-abbrev pub AreUncut : Tasks → Type 0
-AreUncut ts = (worker : ℕ) → IsUncutOr (task_at ts worker)
-
--- the other workers' stay
-abbrev pub OthersStay : ℕ → Tasks → Tasks → Type 0
-OthersStay worker old new = (j : ℕ) → j ≢ worker → task_at new j ≡ task_at old j
+-- the other workers' transactions stay
+abbrev pub OtherTasksStay : ℕ → Tasks → Tasks → Type 0
+OtherTasksStay worker old new = (j : ℕ) → j ≢ worker → task_at new j ≡ task_at old j
 
 -- a worker's compartment of the whole device
 abbrev pub compartment : Image → ℕ → Device → Device
 compartment image worker d =
-    device_in (first_of image.parts.sizes worker) (pool_lines image.parts.sizes) d
+    device_in (first_line image.parts.sizes worker) (pool_lines image.parts.sizes) d
 
--- it lies on the device
-abbrev pub HasCompartment : Image → ℕ → Device → Type 0
-HasCompartment image worker d =
-    first_of image.parts.sizes worker + pool_lines image.parts.sizes ≤ d.lines
-
--- all lines outside it are as they were, but for fences
+-- all lines outside the compartment are as they were, except for fences
 abbrev pub StaysAside : Image → ℕ → (d b : Device) → Type 0
 StaysAside image worker d b =
-    Aside (first_of image.parts.sizes worker) (pool_lines image.parts.sizes) d b
+    Aside (first_line image.parts.sizes worker) (pool_lines image.parts.sizes) d b
 
 -- as many compartments as workers
 abbrev pub HasCompartments : Image → Tasks → Device → Type 0
 HasCompartments image ts d = d.lines ≡ pool_lines image.parts.sizes * length ts
 
--- whether its pool takes a transaction
+-- whether the compartment's pool takes a transaction
 abbrev pub standing_at : Image → ℕ → Device → Standing
 standing_at image worker d = standing_of (view (compartment image worker d).cache)
 
--- the answer where the worker has no transaction and its pool takes one
+-- the answer for a worker without a transaction whose pool takes one
 abbrev pub Begins : BeginAnswer → Image → (tx : ℕ) → List ℤ → Option Task → Type 0
 Begins begin.Started image tx args o = o ≡ Some (Begun tx args (start image tx args))
 Begins begin.NoMemory image tx args o = o ≡ None
@@ -67,8 +58,8 @@ Begins (begin.Unusable k) image tx args o = ⊥
 Begins begin.Numbers image tx args o = ⊥
 Begins begin.Off image tx args o = ⊥
 
--- A turn of a worker that has a transaction, on a device that is on: in its own compartment it is
--- as `Turned` says, and all else stays, but for fences.
+-- A turn of a worker that has a transaction, on a device that is on: in its own compartment
+-- `Turned` holds, and all else stays, except for fences.
 pub record TurnOf (image : Image) (worker : ℕ) (answer : TurnAnswer) (ts us : Tasks) (d b : Device)
     : Type 0 where
   pub task : Task
@@ -77,5 +68,5 @@ pub record TurnOf (image : Image) (worker : ℕ) (answer : TurnAnswer) (ts us : 
       Turned answer image task (task_at us worker)
       (compartment image worker d) (compartment image worker b)
   pub is_task : IsTaskOr image (task_at us worker)
-  pub others : OthersStay worker ts us
+  pub others : OtherTasksStay worker ts us
   pub aside : StaysAside image worker d b

@@ -1,6 +1,6 @@
 -- The events that create a pool of compartments on blank lines. Each compartment is created as a
--- pool of its own: its first line has the magic word, the version and the sizes, its second the
--- digest of the program, and both are then flushed and fenced.
+-- pool of its own: its first line gets the magic word, the version and the sizes, its second the
+-- digest of the program, and then both are flushed and fenced.
 use Rattle.std.specs.Prelude.{ℕ, zero, suc, ◌*◌, ◌≡◌, ◌⊎◌, ℤ, pos, List, [], ◌∷◌, ◌++◌, slice_index_or}
 use Rattle.cache_model.specs.Event.{CacheEvent, Store, Flush, Fence}
 use Rattle.pmem.specs.Device.{Device, blanked}
@@ -11,7 +11,7 @@ use Rattle.pool_layout.specs.declared.limits.Sizes.{Sizes}
 use Rattle.pool_layout.specs.Sizes.{pool_lines}
 use Rattle.pool_workers.specs.declared.answer.MakeFault.{MakeFault}
 use Rattle.pool_workers.specs.declared.answer.MakeFault.TheVariants.{Failed, NoMemory}
-use Rattle.pool_workers.specs.Compartment.{lifted, first_of}
+use Rattle.pool_workers.specs.Compartment.{lifted, first_line}
 
 -- the eight bytes CNVMPOOL as a word, the lowest first
 abbrev pub magic_word : ℤ
@@ -39,25 +39,19 @@ abbrev pub lifted_all : ℕ → List CacheEvent → List CacheEvent
 lifted_all f [] = []
 lifted_all f (e ∷ es) = lifted f e ∷ lifted_all f es
 
--- the creation of the compartment that begins at line f, in its three parts
-abbrev pub parts_at : ℕ → Sizes → List ℤ → List CacheEvent
-parts_at f s digest =
-    lifted_all f (sizes_events s)
-    ++ (lifted_all f (digest_events digest) ++ lifted_all f head_events)
-
--- the compartments of n workers, from this one on
+-- the events that create the compartments of n workers, from this one on
 abbrev pub creations : Sizes → List ℤ → (worker n : ℕ) → List CacheEvent
 creations s digest worker zero = []
 creations s digest worker (suc n) =
-    lifted_all (first_of s worker) (creation_events s digest) ++ creations s digest (suc worker) n
+    lifted_all (first_line s worker) (creation_events s digest) ++ creations s digest (suc worker) n
 
 -- the first events of the creation of so many compartments, up to the one that was refused
 abbrev pub MadePart : Refusal → Sizes → List ℤ → (count : ℕ) → (d b : Device) → Type 0
 MadePart why s digest count d b =
     PlaysPart why (blanked (pool_lines s * count) d) (creations s digest 0 count) b
 
--- What stands where no pool could be created: some first events, and for want of memory perhaps
--- none.
+-- The device if the pool could not be created: some first events are done, and for want of memory
+-- perhaps none.
 abbrev pub Unmade : MakeFault → Sizes → List ℤ → (count : ℕ) → (d b : Device) → Type 0
 Unmade Failed s digest count d b = MadePart refusal.Failed s digest count d b
 Unmade NoMemory s digest count d b = (b ≡ d) ⊎ MadePart refusal.NoMemory s digest count d b

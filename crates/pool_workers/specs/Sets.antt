@@ -1,4 +1,5 @@
--- That the lines outside are as they were, but for fences, has one proof at most: lines are a set.
+-- The fact that the lines outside are as they were, except for fences, has at most one proof: lines
+-- are a set.
 use Rattle.std.specs.Prelude.{ℕ, Bool}
 use mathlib.Core.HLevel.{Π_prop, Π_set}
 use mathlib.Core.List as list

@@ -1,13 +1,11 @@
--- A transaction of a worker that isn't finished: the next piece of its due list, and what it is
--- after that piece.
+-- An unfinished transaction of a worker: the next piece of its due list, and the transaction after
+-- that piece.
 use Rattle.std.specs.Prelude.{ℕ, ◌-◌, ◌^◌, ◌<◌, ◌≤◌, ◌≡◌, ◌==◌, if◌then◌else◌, List, [], Option, Some, None}
 use Rattle.cache_model.specs.Event.{CacheEvent}
 use Rattle.cache_model.specs.Cache.{Cache, view}
 use Rattle.cache_model.specs.Play.{play}
 use Rattle.pmem.specs.Device.{Device}
 use Rattle.pmem.specs.Played.{PlaysAll, PlaysPart}
-use Rattle.pmem.specs.declared.answer.LogAnswer.{LogAnswer}
-use Rattle.pmem.specs.declared.answer.LogAnswer.TheVariants as log
 use Rattle.pmem.specs.declared.answer.Phase.{Phase}
 use Rattle.pmem.specs.declared.answer.Phase.TheVariants.{Unsealed, Sealing, Sealed}
 use Rattle.pmem.specs.declared.answer.Refusal.TheVariants as refusal
@@ -20,7 +18,7 @@ use Rattle.pm_machine.specs.declared.effect.End.{End}
 use Rattle.pm_machine.specs.declared.effect.End.TheVariants.{Halted, Trapped}
 use Rattle.pm_machine.specs.declared.image.Image.{Image}
 use Rattle.pm_machine.specs.Effects.{events_of, records_past}
-use Rattle.pm_machine.specs.Machine.{State, Outcome, Goes, Ends, step, start}
+use Rattle.pm_machine.specs.Machine.{State, StepOutcome, Goes, Ends, step, start}
 use Rattle.pm_machine.specs.Runs.{heap_in, AreLines}
 use Rattle.tx_run.specs.Due.{tail_events, due_seal, due_unsealed}
 use Rattle.tx_run.specs.Called.{WentIn}
@@ -29,29 +27,29 @@ use Rattle.pool_workers.specs.declared.answer.TurnAnswer.TheVariants as answer
 use Rattle.pool_workers.specs.declared.task.Task.{Task}
 use Rattle.pool_workers.specs.declared.task.Task.TheVariants.{Begun, Running, Ending, Cut}
 
--- how far the seal has come, as `phase` tells it
-abbrev pub phase_of : Task → Phase
-phase_of (Begun tx args s) = Unsealed
-phase_of (Running s a n k) = Sealed
-phase_of (Ending end l) = Sealed
-phase_of (Cut p) = p
+-- how far the seal has come, as `phase` answers it
+abbrev pub task_phase : Task → Phase
+task_phase (Begun tx args s) = Unsealed
+task_phase (Running s a n k) = Sealed
+task_phase (Ending end l) = Sealed
+task_phase (Cut p) = p
 
--- A run that goes on. Where no instruction may come any more it ends as if it had no tick left.
+-- A run that goes on. If no more instructions are allowed it ends as if it had no tick left.
 abbrev pub going : State → (a n k : ℕ) → Task
 going s a n k = if k == 0 then Ending (Trapped Steps) s.logged else Running s a n k
 
--- after the seal: the attempt and the records are those that the pool then has
+-- after the seal, with the attempt and the records that the pool then has
 abbrev pub sealed_task : Image → State → Cache → Task
 sealed_task image s c =
     going s (attempt_in image.parts.sizes (view c)) (count_in image.parts.sizes (view c))
     image.parts.most
 
--- after an instruction, before which there were n records, k instructions left and l LOGs done
-abbrev pub stepped_task : (a n k l : ℕ) → Outcome → Task
+-- after an instruction, with n records, k instructions left and l LOGs done before it
+abbrev pub stepped_task : (a n k l : ℕ) → StepOutcome → Task
 stepped_task a n k l (Goes e t) = going t a (records_past n e) (k - 1)
 stepped_task a n k l (Ends end) = Ending end l
 
-abbrev pub events_in : (Effect → List CacheEvent) → Outcome → List CacheEvent
+abbrev pub events_in : (Effect → List CacheEvent) → StepOutcome → List CacheEvent
 events_in events (Goes e t) = events e
 events_in events (Ends end) = []
 
@@ -65,7 +63,7 @@ piece_of image (Running s a n k) c =
 piece_of image (Ending end l) c = tail_events end c
 piece_of image (Cut p) c = []
 
--- what the transaction is after the whole piece
+-- the transaction after the whole piece
 abbrev pub task_past : Image → Task → Cache → Option Task
 task_past image (Begun tx args s) c = Some (sealed_task image s (play c (due_seal tx args c)))
 task_past image (Running s a n k) c =
@@ -73,7 +71,7 @@ task_past image (Running s a n k) c =
 task_past image (Ending end l) c = None
 task_past image (Cut p) c = Some (Cut p)
 
--- what a turn that played the whole piece answers
+-- the answer of a turn that played the whole piece
 abbrev pub end_answer : End → ℕ → TurnAnswer
 end_answer (Halted v) l = answer.Done v l
 end_answer (Trapped k) l = answer.Trap k
@@ -84,28 +82,15 @@ answer_past (Running s a n k) = answer.Went
 answer_past (Ending end l) = end_answer end l
 answer_past (Cut p) = answer.Off
 
--- the instructions of a turn
+-- the number of instructions of a turn
 abbrev pub ticks_of : Task → ℕ
 ticks_of (Begun tx args s) = 0
 ticks_of (Running s a n k) = 1
 ticks_of (Ending end l) = 0
 ticks_of (Cut p) = 0
 
--- the last turn, where its events were played with this answer
-abbrev pub last_answer : LogAnswer → TurnAnswer → TurnAnswer
-last_answer log.Done a = a
-last_answer log.Off a = answer.Off
-last_answer log.Failed a = answer.Failed
-last_answer log.NoMemory a = answer.NoMemory
-
-abbrev pub last_task : LogAnswer → Option Task
-last_task log.Done = None
-last_task log.Off = Some (Cut Sealed)
-last_task log.Failed = Some (Cut Sealed)
-last_task log.NoMemory = Some (Cut Sealed)
-
--- The power went in a piece. In a seal it went before the store of the seal was done, or between it
--- and the end of the seal; in any other piece the call is sealed.
+-- The power went during a piece. In a seal it went before the store of the seal was done, or
+-- between it and the end of the seal; in any other piece the call is sealed.
 abbrev pub CutAt : Image → Task → Phase → (d b : Device) → Type 0
 CutAt image (Begun tx args s) Unsealed d b =
     PlaysPart refusal.Off d (due_unsealed tx args d.cache) b
@@ -119,12 +104,12 @@ IsCutAt image t None d b = ⊥
 IsCutAt image t (Some (Cut p)) d b = CutAt image t p d b
 IsCutAt image t (Some o) d b = ⊥
 
--- A turn that played its whole piece has this answer and leaves this of the transaction.
+-- A turn that played its whole piece has this answer and leaves this transaction.
 abbrev pub WentWhole : TurnAnswer → Image → Task → Option Task → (d b : Device) → Type 0
 WentWhole a image t o d b =
     (a ≡ answer_past t) × (o ≡ task_past image t d.cache) × PlaysAll d (piece_of image t d.cache) b
 
--- How a turn of a transaction is answered, on a device that is on.
+-- The answer of a turn of a transaction, on a device that is on.
 abbrev pub Turned : TurnAnswer → Image → Task → Option Task → (d b : Device) → Type 0
 Turned answer.Idle image t o d b = ⊥
 Turned answer.Went image t o d b = WentWhole answer.Went image t o d b
@@ -135,7 +120,7 @@ Turned answer.Off image t o d b =
 Turned answer.Failed image t o d b = PlaysPart refusal.Failed d (piece_of image t d.cache) b
 Turned answer.NoMemory image t o d b = PlaysPart refusal.NoMemory d (piece_of image t d.cache) b
 
--- What is so of a transaction of the image.
+-- The invariant of a transaction of the image.
 abbrev pub IsTask : Image → Task → Type 0
 IsTask image (Begun tx args s) = s ≡ start image tx args
 IsTask image (Running s a n k) =

@@ -1,8 +1,8 @@
-//! What the calls answer.
+//! The answers of the calls.
 
 use pool_map::TrapKind;
 
-/// Why a pool of compartments couldn't be created. The events so far stand.
+/// Why a pool of compartments couldn't be created. The events so far are done.
 #[derive(Clone, Copy, Debug, PartialEq, Eq, Drop)]
 pub enum MakeFault {
     /// The device failed at an event.
@@ -10,11 +10,11 @@ pub enum MakeFault {
     NoMemory,
 }
 
-/// The answer where a worker is to begin a transaction. But for `Started` nothing has changed.
+/// The answer when a worker is to begin a transaction. Only `Started` changes anything.
 #[derive(Clone, Copy, Debug, PartialEq, Eq, Drop)]
 pub enum BeginAnswer {
     Started,
-    /// The worker has a transaction that isn't finished.
+    /// The worker has an unfinished transaction.
     Busy,
     /// The compartment has a mark.
     Unusable(TrapKind),
@@ -24,7 +24,8 @@ pub enum BeginAnswer {
     NoMemory,
 }
 
-/// The answer of a turn. At `Off`, `Failed` and `NoMemory` the events before the refused one stand.
+/// The answer of a turn. At `Off`, `Failed` and `NoMemory` the events before the refused one are
+/// done.
 #[derive(Clone, Copy, Debug, PartialEq, Eq, Drop)]
 pub enum TurnAnswer {
     /// The worker has no transaction.

@@ -2,11 +2,12 @@
 
 ghost use Rattle.std.specs.Prelude.{◌≡◌, ◌≤◌, ◌<◌, ◌+◌, ◌*◌, ◌^◌, [], ◌∷◌, ◌++◌, None, replicate, OnOk, IfOk, IfErr, IsErrOf};
 ghost use Rattle.cache_model.specs.Event.{Store, Flush};
-ghost use Rattle.pmem.specs.Device.{Rose, blanked};
+ghost use Rattle.pmem.specs.Device.{FaultsRose, blanked};
 ghost use Rattle.pmem.specs.Played.{PlaysAll, PlaysPart};
 ghost use Rattle.pool_layout.specs.Sizes as sizes_of;
-ghost use Rattle.pool_workers.specs.Compartment.{first_of};
-ghost use Rattle.pool_workers.specs.Making.{sizes_events, digest_events, head_events, parts_at, lifted_all, creations, Unmade};
+ghost use Rattle.pool_workers.specs.Compartment.{first_line};
+ghost use Rattle.pool_workers.specs.Making.{sizes_events, digest_events, head_events, lifted_all, creations, Unmade};
+ghost use Rattle.pool_workers.specs.inside.Making.{parts_at};
 
 use crate::answer::MakeFault;
 use crate::task::Task;
@@ -19,7 +20,7 @@ use std::alloc::{AllocError, Global};
 /// The eight bytes `CNVMPOOL` as a word, the lowest first.
 const MAGIC: i64 = 5498700876356144707;
 
-/// A store in the compartment that begins at line `first`.
+/// Stores in the compartment that begins at line `first`.
 fn put<P: PmemWork>(dev: &mut P, first: u64, word: u64, value: i64) -> Result<(), Refusal>
     requires small { first ≤ 2 ^ 22 }
     requires lines { first + 6 ≤ (P.device dev.old).lines }
@@ -34,7 +35,7 @@ fn put<P: PmemWork>(dev: &mut P, first: u64, word: u64, value: i64) -> Result<()
     store(dev, 8 * first + word, value)
 }
 
-/// A flush in the compartment that begins at line `first`.
+/// Flushes in the compartment that begins at line `first`.
 fn flush_in<P: PmemWork>(dev: &mut P, first: u64, line: u64) -> Result<(), Refusal>
     requires small { first ≤ 2 ^ 22 }
     requires lines { first + 6 ≤ (P.device dev.old).lines }
@@ -103,7 +104,7 @@ fn settle<P: PmemWork>(first: u64, dev: &mut P) -> Result<(), Refusal>
     fence(dev)
 }
 
-/// The events of one compartment.
+/// Plays the events that create one compartment.
 #[tactic(auto, using(pmem::proofs::Glue::all_append, pmem::proofs::Glue::part_left, pmem::proofs::Glue::part_right))]
 fn create_at<P: PmemWork>(
     sizes: &Sizes,
@@ -125,7 +126,7 @@ fn create_at<P: PmemWork>(
     settle(first, dev)
 }
 
-/// The events of all compartments.
+/// Plays the events that create all compartments.
 fn create_all<P: PmemWork>(
     sizes: &Sizes,
     digest: &[i64; 4],
@@ -161,7 +162,7 @@ pub(crate) fn idle(alloc: Global, count: u32) -> Result<Vec<Option<Task>>, Alloc
     Ok(tasks)
 }
 
-/// The pools of so many compartments on blank lines. After a fault the events so far stand.
+/// Creates so many pools on blank lines. After a fault the events so far are done.
 pub(crate) fn create_pools<P: Pmem>(
     sizes: &Sizes,
     digest: &[i64; 4],
@@ -176,7 +177,7 @@ pub(crate) fn create_pools<P: Pmem>(
     ensures refused { IfErr result (λ why. Unmade why sizes.now digest.now count (P.device dev.old)
         (P.device dev.new)) }
     ensures failed { IsErrOf result MakeFault.Failed →
-        Rose (P.device dev.old).faults (P.device dev.new).faults }
+        FaultsRose (P.device dev.old).faults (P.device dev.new).faults }
 {
     if let Err(_) = dev.blank(pool_lines(sizes) * u64::from(count)) {
         return Err(MakeFault::NoMemory);
@@ -185,7 +186,7 @@ pub(crate) fn create_pools<P: Pmem>(
         Ok(()) => Ok(()),
         Err(Refusal::NoMemory) => Err(MakeFault::NoMemory),
         Err(Refusal::Failed) => Err(MakeFault::Failed),
-        // It never comes: the device was switched on.
+        // This never happens: the device was switched on.
         Err(Refusal::Off) => Err(MakeFault::Failed),
     }
 }

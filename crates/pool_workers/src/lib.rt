@@ -1,8 +1,8 @@
 //! Several workers on one device: its pool has a compartment for each, which is a whole pool of its
-//! own, and a worker's transaction is held between turns. It stands on `recovery` and what is below
-//! it. Its one contract for the crates above: a turn plays the next piece of what is due in its
-//! worker's compartment, or the first events of it up to the refused one, and of these events the
-//! other compartments see the fences alone.
+//! own, and a worker's transaction is kept between turns. It rests on `recovery` and the crates
+//! below it. Its one contract for the crates above: a turn plays the next piece of the due events
+//! of its worker's compartment, or the first events of it up to the refused one, and of these
+//! events the other compartments see only the fences.
 #![tactic(auto)]
 
 mod answer;

@@ -3,10 +3,11 @@
 ghost use Rattle.std.specs.Prelude.{◌≡◌, ◌+◌, ◌≤◌, ◌<◌, true, false, Some};
 ghost use Rattle.pool_layout.specs.Sizes.{pool_lines};
 ghost use Rattle.pmem.specs.declared.answer.Phase.TheVariants as at_phase;
-ghost use Rattle.pool_workers.specs.Compartment.{first_of};
+ghost use Rattle.recovery.specs.Recovered.{IsRecovered};
+ghost use Rattle.pool_workers.specs.Compartment.{first_line};
 ghost use Rattle.pool_workers.specs.Task.{Turned, IsTask, IsTaskOr, IsUncut, IsUncutOr, IsGoing, ticks_of};
-ghost use Rattle.pool_workers.specs.Crew.{compartment, HasCompartment, StaysAside};
-ghost use Rattle.pool_workers.specs.Recovers.{Recovers};
+ghost use Rattle.pool_workers.specs.Crew.{compartment, StaysAside};
+ghost use Rattle.pool_workers.specs.inside.Crew.{HasCompartment};
 
 use crate::answer::TurnAnswer;
 use crate::task::{Task, Turn};
@@ -15,6 +16,7 @@ use crate::window::{Origin, Window};
 use nvm_base::Steps;
 use pm_machine::Image;
 use pmem::{Phase, Pmem};
+use pool_layout::LAST;
 use recovery::{RecoverAnswer, recover};
 use std::alloc::Global;
 use std::sync::ledger::Ledger;
@@ -28,7 +30,7 @@ pub(crate) fn turn_on<P: Pmem + Drop, L: Ledger, O: Origin>(
     steps: &mut Steps<L>,
 ) -> Turn
     requires worker { worker < 8 }
-    requires first { O.first ≡ first_of image.now.parts.sizes worker }
+    requires first { O.first ≡ first_line image.now.parts.sizes worker }
     requires lines { O.lines ≡ pool_lines image.now.parts.sizes }
     requires whole { O.whole ≡ P.device dev.old }
     requires inside { HasCompartment image.now worker (P.device dev.old) }
@@ -47,7 +49,7 @@ pub(crate) fn turn_on<P: Pmem + Drop, L: Ledger, O: Origin>(
     ensures task { IsTaskOr image.now result.task }
     ensures aside { StaysAside image.now worker (P.device dev.old) (P.device dev.new) }
 {
-    let Some(_) = dev.load(16) else {
+    let Some(_) = dev.load(LAST) else {
         return Turn {
             answer: TurnAnswer::Off,
             task: Some(task),
@@ -68,12 +70,11 @@ pub(crate) fn recover_on<P: Pmem + Drop, L: Ledger, O: Origin>(
     steps: &mut Steps<L>,
 ) -> RecoverAnswer
     requires worker { worker < 8 }
-    requires first { O.first ≡ first_of image.now.parts.sizes worker }
+    requires first { O.first ≡ first_line image.now.parts.sizes worker }
     requires lines { O.lines ≡ pool_lines image.now.parts.sizes }
     requires whole { O.whole ≡ P.device dev.old }
     requires inside { HasCompartment image.now worker (P.device dev.old) }
-    ensures recovered { (P.device dev.old).on ≡ true →
-        Recovers result image.now
+    ensures recovered { IsRecovered result image.now
         (compartment image.now worker (P.device dev.old))
         (compartment image.now worker (P.device dev.new)) steps.old steps.new }
     ensures off { (P.device dev.old).on ≡ false → result ≡ RecoverAnswer.Off at_phase.Unsealed }
@@ -82,7 +83,7 @@ pub(crate) fn recover_on<P: Pmem + Drop, L: Ledger, O: Origin>(
     ensures most { steps.new ≤ steps.old + image.now.parts.sizes.records + image.now.parts.most }
     ensures aside { StaysAside image.now worker (P.device dev.old) (P.device dev.new) }
 {
-    let Some(_) = dev.load(16) else {
+    let Some(_) = dev.load(LAST) else {
         return RecoverAnswer::Off(Phase::Unsealed);
     };
     let mut window: Window<P, O> = Window::new(dev.take(), image.sizes(), worker);

@@ -1,8 +1,9 @@
-//! A transaction that isn't finished.
+//! An unfinished transaction.
 
 ghost use Rattle.std.specs.Prelude.{◌≡◌, ◌<◌, ◌^◌, Some};
 ghost use Rattle.pm_machine.specs.Effects.{records_past};
-ghost use Rattle.pool_workers.specs.Task.{IsUncut, going, last_answer, last_task, phase_of};
+ghost use Rattle.pool_workers.specs.Task.{IsUncut, going, task_phase};
+ghost use Rattle.pool_workers.specs.inside.Task.{last_answer, last_task};
 
 use crate::answer::TurnAnswer;
 use nvm_base::Words;
@@ -10,17 +11,17 @@ use pm_machine::{Effect, End, Machine};
 use pmem::{LogAnswer, Phase};
 use pool_map::TrapKind;
 
-/// A transaction that isn't finished, by what its next turn plays.
+/// An unfinished transaction, by what its next turn plays.
 #[derive(Drop)]
 pub enum Task {
-    /// The seal. The machine stands at its start.
+    /// The seal. The machine is at its start.
     Begun {
         tx: u64,
         args: Words,
         machine: Machine,
     },
-    /// An instruction, in a pool with this attempt and so many records. So many instructions may
-    /// still come.
+    /// An instruction, in a pool with this attempt and so many records. At most so many
+    /// instructions are left.
     Running {
         machine: Machine,
         attempt: u64,
@@ -38,14 +39,14 @@ pub enum Task {
     },
 }
 
-/// What a turn comes to: its answer, and the transaction where it isn't finished.
+/// The result of a turn: its answer, and the transaction unless it is finished.
 #[derive(Drop)]
 pub struct Turn {
     pub answer: TurnAnswer,
     pub task: Option<Task>,
 }
 
-/// A run that goes on. Where no instruction may come any more it ends as if it had no tick left.
+/// A run that goes on. If no more instructions are allowed it ends as if it had no tick left.
 pub(crate) fn going(machine: Machine, attempt: u64, records: u64, left: u128) -> Task
     ensures going { result ≡ going machine attempt records left }
     ensures uncut { IsUncut result }
@@ -75,7 +76,7 @@ pub(crate) fn cut(answer: TurnAnswer, phase: Phase) -> Turn
     }
 }
 
-/// The last turn, which has this answer where all of it was played.
+/// The last turn, which has this answer if all of it was played.
 pub(crate) fn last(played: LogAnswer, answer: TurnAnswer) -> Turn
     ensures answer { result.answer ≡ last_answer played answer }
     ensures task { result.task ≡ last_task played }
@@ -88,7 +89,7 @@ pub(crate) fn last(played: LogAnswer, answer: TurnAnswer) -> Turn
     }
 }
 
-/// How many records there are after an effect.
+/// The number of records after an effect.
 pub(crate) fn records_past(count: u64, effect: Effect) -> u64
     requires { count < 2 ^ 63 }
     ensures { result ≡ records_past count effect }
@@ -106,7 +107,7 @@ pub(crate) fn records_past(count: u64, effect: Effect) -> u64
 
 /// How far the seal has come.
 pub(crate) fn phase_of(task: &Task) -> Phase
-    ensures { result ≡ phase_of task.now }
+    ensures { result ≡ task_phase task.now }
 {
     match task {
         Task::Begun { .. } => Phase::Unsealed,

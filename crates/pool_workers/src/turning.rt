@@ -1,4 +1,4 @@
-//! One turn of a transaction, over the pool of its compartment.
+//! One turn of a transaction, on the pool of its compartment.
 
 ghost use Rattle.std.specs.Prelude.{◌≡◌, ◌+◌, true, Some, []};
 ghost use Rattle.pool_layout.specs.Sizes.{pool_lines};
@@ -61,7 +61,7 @@ fn seal_turn<P: PmemWork>(
     }
 }
 
-/// The turn of one instruction. Nothing is known of the slots, so a search begins at the first.
+/// The turn of one instruction. Nothing is known of the slots, so a search begins at the first one.
 fn step_turn<P: PmemWork>(
     image: &Image,
     machine: Machine,

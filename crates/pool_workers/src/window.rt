@@ -5,15 +5,15 @@ ghost use Rattle.cache_model.specs.Cache.{view};
 ghost use Rattle.cache_model.specs.Event.{Store, Flush, Fence};
 ghost use Rattle.pmem.specs.Played.{Answered, Stored};
 ghost use Rattle.pool_layout.specs.Sizes as sizes_of;
-ghost use Rattle.pool_workers.specs.Compartment.{device_in, first_of, AreAside, Aside};
+ghost use Rattle.pool_workers.specs.Compartment.{device_in, first_line, AreAside, Aside};
 ghost use Rattle.pool_workers.specs.Sets.{AreAside-prop};
 
 use pmem::{Event, Pmem, PmemWork, StoreEvent};
 use pool_layout::{Sizes, pool_lines};
 use std::marker::{Brand, PhantomData};
 
-/// Where a window lies, and the whole device as it was when the window was opened. It has no calls;
-/// the call that opens a window picks these three.
+/// Where a window lies, and the whole device as it was when the window was opened. The trait has no
+/// methods; the call that opens a window chooses the three values.
 pub trait Origin {
     ghost use Rattle.std.specs.Prelude.{ℕ};
     ghost use Rattle.pmem.specs.Device.{Device};
@@ -43,8 +43,8 @@ impl Origin for Brand {
     } };
 }
 
-/// The lines of one compartment of a device, which it owns. The switch, what is left and armed, and
-/// the count of faults are the device's.
+/// The lines of one compartment of a device, which the window owns. The switch, the events left,
+/// the armed fault and the count of faults are the device's.
 pub struct Window<P: Pmem, O: Origin> {
     dev: P,
     first: u64,
@@ -64,7 +64,7 @@ pub struct Window<P: Pmem, O: Origin> {
 /// The first line of a worker's compartment: the worker's number times a pool's lines.
 pub fn first_line(sizes: &Sizes, worker: u32) -> u64
     requires worker { worker < 8 }
-    ensures first { result ≡ first_of sizes.now worker }
+    ensures first { result ≡ first_line sizes.now worker }
     ensures small { result + sizes_of.pool_lines sizes.now ≤ 2 ^ 22 }
 {
     pool_lines(sizes) * u64::from(worker)
@@ -74,7 +74,7 @@ impl<P: Pmem, O: Origin> Window<P, O> {
     /// The compartment of a worker. It takes no memory.
     pub fn new(dev: P, sizes: &Sizes, worker: u32) -> Self
         requires worker { worker < 8 }
-        requires first { O.first ≡ first_of sizes.now worker }
+        requires first { O.first ≡ first_line sizes.now worker }
         requires lines { O.lines ≡ sizes_of.pool_lines sizes.now }
         requires whole { O.whole ≡ P.device dev }
         requires inside { O.first + O.lines ≤ (P.device dev).lines }
@@ -89,8 +89,8 @@ impl<P: Pmem, O: Origin> Window<P, O> {
         }
     }
 
-    /// The device as the window's calls left it. All lines outside the compartment are as they
-    /// were, but for fences. It takes no memory.
+    /// The device after the window's calls. All lines outside the compartment are as they were,
+    /// except for fences. It takes no memory.
     pub fn into_device(self) -> P
         ensures device { P.device result ≡ P.device self.dev }
         ensures aside { Aside O.first O.lines O.whole (P.device result) }

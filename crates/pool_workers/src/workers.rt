@@ -1,20 +1,20 @@
 //! The workers of a device.
 
 ghost use Rattle.std.specs.Prelude.{◌≡◌, ◌≢◌, ◌+◌, ◌*◌, ◌≤◌, ◌<◌, true, false, Some, None, length, slice_set, option_map, IfOk, IfErr, OnOk, IsErrOf, replicate};
-ghost use Rattle.pmem.specs.Device.{Rose, blanked};
+ghost use Rattle.pmem.specs.Device.{FaultsRose, blanked};
 ghost use Rattle.pmem.specs.Played.{PlaysAll};
 ghost use Rattle.pool_layout.specs.Sizes.{pool_lines};
 ghost use Rattle.pool_map.specs.declared.trap.TrapKind.{TrapKind};
 ghost use Rattle.pmem.specs.declared.answer.Phase.TheVariants as at_phase;
 ghost use Rattle.pm_machine.specs.Machine.{start};
 ghost use Rattle.tx_run.specs.declared.standing.Standing.TheVariants as stands;
+ghost use Rattle.recovery.specs.Recovered.{IsRecovered};
 ghost use Rattle.pool_workers.specs.declared.answer.BeginAnswer.TheVariants as begins;
 ghost use Rattle.pool_workers.specs.declared.task.Task.{Task};
 ghost use Rattle.pool_workers.specs.declared.task.Task.TheVariants as task_of;
-ghost use Rattle.pool_workers.specs.Task.{IsUncutOr, IsGoing, ticks_of, phase_of};
+ghost use Rattle.pool_workers.specs.Task.{IsUncutOr, IsGoing, ticks_of, task_phase};
 ghost use Rattle.pool_workers.specs.Making.{creations, Unmade};
-ghost use Rattle.pool_workers.specs.Crew.{task_at, AreTasks, OthersStay, compartment, HasCompartments, StaysAside, standing_at, Begins, TurnOf};
-ghost use Rattle.pool_workers.specs.Recovers.{Recovers};
+ghost use Rattle.pool_workers.specs.Crew.{task_at, AreTasks, OtherTasksStay, compartment, HasCompartments, StaysAside, standing_at, Begins, TurnOf};
 
 use crate::answer::{BeginAnswer, MakeFault, TurnAnswer};
 use crate::creating::{create_pools, idle};
@@ -32,8 +32,8 @@ use std::mem;
 use std::sync::ledger::Ledger;
 use tx_run::Standing;
 
-/// The workers of a device, one for each compartment, from 1 to 8, and of each the transaction that
-/// isn't finished. It is seen as the list of these.
+/// The workers of a device, one for each compartment, from 1 to 8, with the unfinished transaction
+/// of each. It is seen as the list of these.
 #[derive(Drop)]
 pub struct Workers {
     alloc: Global,
@@ -51,7 +51,7 @@ impl Model for Workers {
     ghost invariant = { λ w. vec_len w.tasks ≤ 8 };
 }
 
-/// A list with the same words.
+/// A copy of a list of words.
 fn copied(alloc: Global, words: &[i64]) -> Result<Words, AllocError>
     ensures { IfOk result (λ all. all ≡ words.now) }
 {
@@ -62,7 +62,7 @@ fn copied(alloc: Global, words: &[i64]) -> Result<Words, AllocError>
     Ok(all)
 }
 
-/// A transaction at its start. The machine's frames are reserved here.
+/// A transaction at its start. The memory for the machine's frames is allocated here.
 fn new_task(alloc: Global, image: &Image, tx: u64, args: &[i64]) -> Result<Task, AllocError>
     requires first { 1 ≤ tx }
     requires last { tx ≤ length image.now.parts.txs }
@@ -74,7 +74,7 @@ fn new_task(alloc: Global, image: &Image, tx: u64, args: &[i64]) -> Result<Task,
 }
 
 impl Workers {
-    /// The worker's transaction is taken out.
+    /// Takes the worker's transaction out.
     fn take_task(&mut self, worker: u32) -> Option<Task>
         requires { worker < length self.old }
         ensures task { result ≡ task_at self.old worker }
@@ -91,11 +91,11 @@ impl Workers {
         self.tasks[worker as usize] = task;
     }
 
-    /// How far the seal of the worker's transaction has come, and `None` exactly where it has none.
-    /// It takes no memory.
+    /// How far the seal of the worker's transaction has come, and `None` exactly if it has no
+    /// transaction. It takes no memory.
     pub fn phase(&self, worker: u32) -> Option<Phase>
         requires worker { worker < length self.now }
-        ensures { result ≡ option_map phase_of (task_at self.now worker) }
+        ensures { result ≡ option_map task_phase (task_at self.now worker) }
     {
         match &self.tasks[worker as usize] {
             None => None,
@@ -103,9 +103,9 @@ impl Workers {
         }
     }
 
-    /// Creates the pools of so many compartments on blank lines, for the program with this digest.
-    /// No worker has a transaction. After a fault the events so far stand; `Failed` comes only
-    /// where the device's count of faults rose.
+    /// Creates so many pools on blank lines, for the program with this digest. No worker has a
+    /// transaction. After a fault the events so far are done; `Failed` is answered only if the
+    /// device's count of faults rose.
     pub fn create<P: Pmem>(
         alloc: Global,
         image: &Image,
@@ -124,7 +124,7 @@ impl Workers {
         ensures refused { IfErr result (λ why.
             Unmade why image.now.parts.sizes digest count (P.device dev.old) (P.device dev.new)) }
         ensures failed { IsErrOf result MakeFault.Failed →
-            Rose (P.device dev.old).faults (P.device dev.new).faults }
+            FaultsRose (P.device dev.old).faults (P.device dev.new).faults }
     {
         let Ok(tasks) = idle(alloc, count) else {
             return Err(MakeFault::NoMemory);
@@ -135,7 +135,7 @@ impl Workers {
         }
     }
 
-    /// How many workers there are.
+    /// The number of workers.
     pub fn count(&self) -> u32
         ensures value { result ≡ length self.now }
         ensures few { result ≤ 8 }
@@ -143,9 +143,10 @@ impl Workers {
         self.tasks.len() as u32
     }
 
-    /// The next turn of a worker: the seal, one instruction, or the retirement or the mark. `Idle`
-    /// comes exactly where it has no transaction. `Off` comes on a device that is off, where
-    /// nothing has changed, and where the power went at an event. An instruction is one step.
+    /// The next turn of a worker: the seal, one instruction, or the retirement or the mark. The
+    /// answer is `Idle` exactly if the worker has no transaction. It is `Off` on a device that is
+    /// off, where nothing has changed, and if the power went at an event. An instruction is one
+    /// step.
     pub fn turn<P: Pmem + Drop, L: Ledger>(
         &mut self,
         image: &Image,
@@ -170,7 +171,7 @@ impl Workers {
             × (P.device dev.new ≡ P.device dev.old) × (steps.new ≡ steps.old) }
         ensures uncut { IsGoing result → IsUncutOr (task_at self.new worker) }
         ensures most { steps.new ≤ steps.old + 1 }
-        ensures others { OthersStay worker self.old self.new }
+        ensures others { OtherTasksStay worker self.old self.new }
         ensures count { length self.new ≡ length self.old }
         ensures tasks { AreTasks image.now self.new }
         ensures aside { StaysAside image.now worker (P.device dev.old) (P.device dev.new) }
@@ -184,9 +185,8 @@ impl Workers {
         turn.answer
     }
 
-    /// The recovery of a worker's compartment, with the answers of `recover`. It first drops the
-    /// worker's transaction, whatever the answer is then. On a device that is off no line has
-    /// changed.
+    /// Recovers a worker's compartment, with the answers of `recover`. It first drops the worker's
+    /// transaction, whatever the answer is then. On a device that is off no line has changed.
     pub fn recover_one<P: Pmem + Drop, L: Ledger>(
         &mut self,
         image: &Image,
@@ -197,8 +197,7 @@ impl Workers {
         requires worker { worker < length self.old }
         requires tasks { AreTasks image.now self.old }
         requires lines { HasCompartments image.now self.old (P.device dev.old) }
-        ensures recovered { (P.device dev.old).on ≡ true →
-            Recovers result image.now
+        ensures recovered { IsRecovered result image.now
             (compartment image.now worker (P.device dev.old))
             (compartment image.now worker (P.device dev.new)) steps.old steps.new }
         ensures off { (P.device dev.old).on ≡ false →
@@ -207,7 +206,7 @@ impl Workers {
         ensures dropped { task_at self.new worker ≡ None }
         ensures most { steps.new ≤
             steps.old + image.now.parts.sizes.records + image.now.parts.most }
-        ensures others { OthersStay worker self.old self.new }
+        ensures others { OtherTasksStay worker self.old self.new }
         ensures count { length self.new ≡ length self.old }
         ensures tasks { AreTasks image.now self.new }
         ensures aside { StaysAside image.now worker (P.device dev.old) (P.device dev.new) }
@@ -217,9 +216,9 @@ impl Workers {
         recover_on::<P, L, Brand>(self.alloc, image, worker, dev, steps)
     }
 
-    /// Begins a transaction, counted from 1, with as many arguments as it has parameters. Whether
-    /// the worker is busy is looked at first, then the device, then the mark of its compartment,
-    /// then the numbers. No event.
+    /// Begins a transaction, counted from 1, with as many arguments as it has parameters. It checks
+    /// first whether the worker is busy, then the device, then the mark of its compartment, then
+    /// the numbers. It plays no event.
     pub fn begin<P: Pmem>(
         &mut self,
         image: &Image,
@@ -248,7 +247,7 @@ impl Workers {
             standing_at image.now worker (P.device dev.now) ≡ stands.Ready →
             Begins result image.now tx args.now (task_at self.new worker) }
         ensures uncut { IsUncutOr (task_at self.old worker) → IsUncutOr (task_at self.new worker) }
-        ensures others { OthersStay worker self.old self.new }
+        ensures others { OtherTasksStay worker self.old self.new }
         ensures count { length self.new ≡ length self.old }
         ensures tasks { AreTasks image.now self.new }
     {

@@ -1,4 +1,4 @@
--- Old values put back, and the next attempt behind them.
+-- Restoring old values, and then the next attempt.
 use Rattle.std.proofs.Common.{◌≡◌, ◌≢◌, ℕ, zero, suc, ◌++◌, List, true, refl, sym, ◌∙◌, subst}
 use Rattle.cache_model.specs.Cache.{Cache, view}
 use Rattle.cache_model.specs.Event.{CacheEvent}
@@ -27,24 +27,34 @@ back_some s (suc n) c ne = refl
 
 module _ (s : Sizes) (n : ℕ) (some : n ≢ 0) (d b : Device) where
   -- the restoring was cut
-  pub restore_cut : (why : Refusal) → PlaysPart why d (restoring s d.cache) b → PlaysPart why d (due_back s n d.cache) b
+  pub restore_cut : (why : Refusal) → PlaysPart why d (restoring s d.cache) b
+      → PlaysPart why d (due_back s n d.cache) b
   restore_cut why p =
       subst (λ (es : List CacheEvent). PlaysPart why d es b) (back_some s n d.cache some)
       (part_left (restoring s d.cache) (due_reset s (play d.cache (restoring s d.cache))) why d b p)
 
   module _ (m : Device) (done : PlaysAll d (restoring s d.cache) m) where
-    right : (why : Refusal) → PlaysPart why m (due_reset s m.cache) b → PlaysPart why d (due_back s n d.cache) b
+    right : (why : Refusal) → PlaysPart why m (due_reset s m.cache) b
+        → PlaysPart why d (due_back s n d.cache) b
     right why p =
         subst (λ (es : List CacheEvent). PlaysPart why d es b) (back_some s n d.cache some)
-        (part_right (restoring s d.cache) (due_reset s (play d.cache (restoring s d.cache))) why d m b done
-        (subst (λ (c : Cache). PlaysPart why m (due_reset s c) b) (all_cache (restoring s d.cache) d m done) p))
+        (part_right (restoring s d.cache) (due_reset s (play d.cache (restoring s d.cache))) why
+        d m b done
+        (subst (λ (c : Cache). PlaysPart why m (due_reset s c) b)
+        (all_cache (restoring s d.cache) d m done) p))
 
-    -- the attempt was begun, or that was cut
-    pub back_of : (a : LogAnswer) → d.on ≡ true → (m.on ≡ true → Played a m (due_reset s m.cache) b) → Played a d (due_back s n d.cache) b
+    -- the next attempt was begun, or its beginning was cut
+    pub back_of : (a : LogAnswer) → d.on ≡ true → (m.on ≡ true → Played a m (due_reset s m.cache) b)
+        → Played a d (due_back s n d.cache) b
     back_of Done on reset =
         subst (λ (es : List CacheEvent). PlaysAll d es b) (back_some s n d.cache some)
-        (all_append (restoring s d.cache) (due_reset s (play d.cache (restoring s d.cache))) d m b done
-        (subst (λ (c : Cache). PlaysAll m (due_reset s c) b) (all_cache (restoring s d.cache) d m done) (reset (all_on (restoring s d.cache) d m done ∙ on))))
+        (all_append (restoring s d.cache) (due_reset s (play d.cache (restoring s d.cache)))
+        d m b done
+        (subst (λ (c : Cache). PlaysAll m (due_reset s c) b)
+        (all_cache (restoring s d.cache) d m done)
+        (reset (all_on (restoring s d.cache) d m done ∙ on))))
     back_of Off on reset = right refusal.Off (reset (all_on (restoring s d.cache) d m done ∙ on))
-    back_of Failed on reset = right refusal.Failed (reset (all_on (restoring s d.cache) d m done ∙ on))
-    back_of NoMemory on reset = right refusal.NoMemory (reset (all_on (restoring s d.cache) d m done ∙ on))
+    back_of Failed on reset = right refusal.Failed
+        (reset (all_on (restoring s d.cache) d m done ∙ on))
+    back_of NoMemory on reset = right refusal.NoMemory
+        (reset (all_on (restoring s d.cache) d m done ∙ on))

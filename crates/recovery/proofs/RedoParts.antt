@@ -1,4 +1,4 @@
--- What is put back, and the run behind it.
+-- The records restored, and then the run.
 use Rattle.std.proofs.Common.{◌≡◌, ◌≤◌, ℕ, ◌+◌, ◌++◌, List, ℤ, inr, sym, ap, ◌∙◌, subst, arith}
 use Rattle.cache_model.specs.Cache.{Cache}
 use Rattle.cache_model.specs.Event.{CacheEvent}
@@ -18,7 +18,8 @@ use Rattle.tx_run.specs.declared.answer.Settled.TheVariants.{Done, Trap, Off, Fa
 use Rattle.tx_run.specs.Due.{due_on, due_run}
 use Rattle.tx_run.specs.Settled.{HasSettled, HasLogged, Settles}
 use Rattle.recovery.specs.Due.{due_back, due_redo}
-use Rattle.recovery.specs.Recovered.{redo_answer, redo_run, HasRedone, Redid}
+use Rattle.recovery.specs.Recovered.{redo_run, HasRedone, Redid}
+use Rattle.recovery.specs.inside.Recovered.{redo_answer}
 
 module _ (image : Image) (tx : ℕ) (args : List ℤ) (n : ℕ) (d b : Device) where
   abbrev state : State
@@ -27,28 +28,35 @@ module _ (image : Image) (tx : ℕ) (args : List ℤ) (n : ℕ) (d b : Device) w
   abbrev back : List CacheEvent
   back = due_back image.parts.sizes n d.cache
 
-  abbrev behind : Cache
-  behind = play d.cache back
+  abbrev cache_after : Cache
+  cache_after = play d.cache back
 
-  -- the putting back was cut
-  pub back_cut : (why : Refusal) → PlaysPart why d back b → PlaysPart why d (due_redo image tx args n d.cache) b
-  back_cut why p = part_left back (due_run image state behind) why d b p
+  -- the restoring was cut
+  pub back_cut : (why : Refusal) → PlaysPart why d back b
+      → PlaysPart why d (due_redo image tx args n d.cache) b
+  back_cut why p = part_left back (due_run image state cache_after) why d b p
 
   module _ (m : Device) (done : PlaysAll d back m) where
-    same : m.cache ≡ behind
+    same : m.cache ≡ cache_after
     same = all_cache back d m done
 
-    all : PlaysAll m (due_run image state m.cache) b → PlaysAll d (due_redo image tx args n d.cache) b
-    all h = all_append back (due_run image state behind) d m b done (subst (λ (c : Cache). PlaysAll m (due_run image state c) b) same h)
+    all : PlaysAll m (due_run image state m.cache) b
+        → PlaysAll d (due_redo image tx args n d.cache) b
+    all h = all_append back (due_run image state cache_after) d m b done
+        (subst (λ (c : Cache). PlaysAll m (due_run image state c) b) same h)
 
-    right : (why : Refusal) → PlaysPart why m (due_run image state m.cache) b → PlaysPart why d (due_redo image tx args n d.cache) b
-    right why h = part_right back (due_run image state behind) why d m b done (subst (λ (c : Cache). PlaysPart why m (due_run image state c) b) same h)
+    right : (why : Refusal) → PlaysPart why m (due_run image state m.cache) b
+        → PlaysPart why d (due_redo image tx args n d.cache) b
+    right why h = part_right back (due_run image state cache_after) why d m b done
+        (subst (λ (c : Cache). PlaysPart why m (due_run image state c) b) same h)
 
-    ended : (e : End) (k j k1 : ℕ) → j ≡ k + n → HasSettled e image state m b j k1 → HasRedone e image tx args n d b k k1
+    ended : (e : End) (k j k1 : ℕ) → j ≡ k + n → HasSettled e image state m b j k1
+        → HasRedone e image tx args n d b k k1
     ended e k j k1 back_steps h = record {
       fate = subst (λ (c : Cache). end_of (due_on image state c).fate ≡ e) same h.fate;
       played = all h.played;
-      steps = subst (λ (i : ℕ). k1 ≡ i + (due_on image state behind).steps) back_steps (subst (λ (c : Cache). k1 ≡ j + (due_on image state c).steps) same h.steps);
+      steps = subst (λ (i : ℕ). k1 ≡ i + (due_on image state cache_after).steps) back_steps
+          (subst (λ (c : Cache). k1 ≡ j + (due_on image state c).steps) same h.steps);
     }
 
     pub still_on : m.on ≡ d.on
@@ -57,11 +65,13 @@ module _ (image : Image) (tx : ℕ) (args : List ℤ) (n : ℕ) (d b : Device) w
     pub spent_of : (k j k1 : ℕ) → j ≡ k + n → k1 ≤ j + (due_on image state m.cache).steps →
         k1 ≤ k + n + (redo_run image tx args n d).steps
     spent_of k j k1 back_steps h =
-        subst (λ (i : ℕ). k1 ≤ i + (due_on image state behind).steps) back_steps
+        subst (λ (i : ℕ). k1 ≤ i + (due_on image state cache_after).steps) back_steps
         (subst (λ (c : Cache). k1 ≤ j + (due_on image state c).steps) same h)
 
-    pub redid_of : (a : Settled) (k j k1 : ℕ) → j ≡ k + n → Settles a image state m b j k1 → Redid (redo_answer a) image tx args n d b k k1
-    redid_of (Done v l) k j k1 is h = (ended _ k j k1 is h.0, subst (HasLogged l image state) same h.1)
+    pub redid_of : (a : Settled) (k j k1 : ℕ) → j ≡ k + n → Settles a image state m b j k1
+        → Redid (redo_answer a) image tx args n d b k k1
+    redid_of (Done v l) k j k1 is h =
+        (ended _ k j k1 is h.0, subst (HasLogged l image state) same h.1)
     redid_of (Trap t) k j k1 is h = ended _ k j k1 is h
     redid_of Off k j k1 is h = right refusal.Off h
     redid_of Failed k j k1 is h = right refusal.Failed h

@@ -1,4 +1,5 @@
--- The events that are due for a recovery, by what the pool holds. Each part is a function of the cache where it begins.
+-- The due events of a recovery, by the content of the pool. Each part is a function of the cache in
+-- which it begins.
 use Rattle.std.specs.Prelude.{ℕ, zero, suc, ◌+◌, Bool, true, false, if◌then◌else◌, ◌++◌, List, [], ◌∷◌, ℤ, pos}
 use Rattle.std.specs.Ordering.{int_eq}
 use Rattle.cache_model.specs.Event.{CacheEvent}
@@ -8,7 +9,7 @@ use Rattle.pool_layout.specs.declared.limits.Sizes.{Sizes}
 use Rattle.clobber_log.specs.Logs.{attempt_in, count_in}
 use Rattle.clobber_log.specs.Reset.{reset_events}
 use Rattle.clobber_log.specs.Restore.{restore_events}
-use Rattle.args_log.specs.Pending.{is_sealed, number_of}
+use Rattle.args_log.specs.Pending.{is_sealed, tx_number}
 use Rattle.pm_machine.specs.declared.image.Image.{Image}
 use Rattle.pm_machine.specs.Machine.{start}
 use Rattle.tx_run.specs.Due.{due_run}
@@ -18,12 +19,12 @@ use Rattle.recovery.specs.Found.{has_numbers, names_tx}
 abbrev pub due_reset : Sizes → Cache → List CacheEvent
 due_reset s c = reset_events s (attempt_in s (view c))
 
--- of a pool that isn't sealed, with n valid records
+-- for a pool that isn't sealed, with n valid records
 abbrev pub due_clean : Sizes → ℕ → Cache → List CacheEvent
 due_clean s zero c = []
 due_clean s (suc n) c = due_reset s c
 
--- n valid records are put back, and the next attempt begins
+-- n valid records are restored, and the next attempt begins
 abbrev pub due_back : Sizes → ℕ → Cache → List CacheEvent
 due_back s zero c = []
 due_back s (suc n) c = restore_events s (view c) ++ due_reset s (play c (restore_events s (view c)))
@@ -31,4 +32,5 @@ due_back s (suc n) c = restore_events s (view c) ++ due_reset s (play c (restore
 -- the sealed call runs again
 abbrev pub due_redo : Image → (tx : ℕ) → List ℤ → ℕ → Cache → List CacheEvent
 due_redo image tx args n c =
-    due_back image.parts.sizes n c ++ due_run image (start image tx args) (play c (due_back image.parts.sizes n c))
+    due_back image.parts.sizes n c ++ due_run image (start image tx args)
+    (play c (due_back image.parts.sizes n c))

@@ -1,15 +1,17 @@
--- What a recovery finds in a pool: its mark, its valid records and what its argument record holds.
+-- What a recovery finds in a pool: its mark, its valid records and the content of its argument
+-- record.
 use Rattle.std.specs.Prelude.{ℕ, zero, suc, ◌+◌, ◌-◌, ◌^◌, ◌<◌, ◌≤◌, ◌≡◌, ◌≢◌, ◌⊎◌, Bool, true, false, ◌&&◌, nat_le, nat_lt, min, List, [], ◌∷◌, length, slice_get, Option, Some, None, ℤ, pos}
 use Rattle.cache_model.specs.Cache.{Words}
+use Rattle.pool_layout.specs.declared.places.TheConstants.{MARK, FUNCTION}
 use Rattle.clobber_log.specs.Logs.{attempt_in, count_in}
-use Rattle.args_log.specs.Pending.{is_sealed, number_of, HoldsArguments}
+use Rattle.args_log.specs.Pending.{is_sealed, tx_number, HoldsArguments}
 use Rattle.pm_machine.specs.declared.image.Image.{Image}
 use Rattle.pm_machine.specs.declared.op.TxEntry.{TxEntry}
-use Rattle.tx_run.specs.Standing.{kind_of}
+use Rattle.tx_run.specs.Standing.{trap_of_mark}
 use Rattle.recovery.specs.declared.looking.Found.{Found}
 use Rattle.recovery.specs.declared.looking.Found.TheVariants.{Off, Unusable, Numbers, Unsealed, Sealed}
 
--- there are valid records, and the attempt isn't below 2^62: so no attempt can follow
+-- there are valid records, and the attempt isn't below 2^62, so no attempt can follow
 abbrev pub has_numbers : (count attempt : ℕ) → Bool
 has_numbers count attempt = nat_lt 0 count && nat_le (2 ^ 62) attempt
 
@@ -19,28 +21,31 @@ names_tx image tx = nat_le 1 tx && nat_le tx (length image.parts.txs)
 
 -- a pool without a mark, with so many valid records, which can be restored
 pub record IsOpen (image : Image) (count : ℕ) (w : Words) : Type 0 where
-  pub mark : w 19 ≡ pos 0
+  pub mark : w MARK ≡ pos 0
   pub count_is : count ≡ count_in image.parts.sizes w
   pub numbers : has_numbers count (attempt_in image.parts.sizes w) ≡ false
 
--- What is found in a pool of these words, on a device that is on.
+-- What a recovery finds in a pool of these words, on a device that is on.
 abbrev pub Finds : Found → Image → Words → Type 0
 Finds Off image w = ⊥
-Finds (Unusable kind) image w = (w 19 ≢ pos 0) × (kind ≡ kind_of (w 19))
-Finds Numbers image w = (w 19 ≡ pos 0) × ((has_numbers (count_in image.parts.sizes w) (attempt_in image.parts.sizes w) ≡ true) ⊎ ((is_sealed w ≡ true) × (names_tx image (number_of (w 24)) ≡ false)))
+Finds (Unusable kind) image w = (w MARK ≢ pos 0) × (kind ≡ trap_of_mark (w MARK))
+Finds Numbers image w = (w MARK ≡ pos 0)
+    × ((has_numbers (count_in image.parts.sizes w) (attempt_in image.parts.sizes w) ≡ true)
+    ⊎ ((is_sealed w ≡ true) × (names_tx image (tx_number (w FUNCTION)) ≡ false)))
 Finds (Unsealed n) image w = IsOpen image n w × (is_sealed w ≡ false)
-Finds (Sealed tx args n) image w = IsOpen image n w × (is_sealed w ≡ true) × (tx ≡ number_of (w 24)) × (names_tx image tx ≡ true) × HoldsArguments w args
+Finds (Sealed tx args n) image w = IsOpen image n w × (is_sealed w ≡ true)
+    × (tx ≡ tx_number (w FUNCTION)) × (names_tx image tx ≡ true) × HoldsArguments w args
 
 -- so many words from word p on
 abbrev pub words_from : (p : ℕ) → ℕ → Words → List ℤ
 words_from p zero w = []
 words_from p (suc m) w = w p ∷ words_from (suc p) m w
 
--- how many of the 22 argument words a transaction's entry takes
-abbrev pub taken : Option TxEntry → ℕ
-taken None = 0
-taken (Some entry) = min entry.parameters 22
+-- the number of argument words, of the 22, that a transaction's entry takes
+abbrev pub entry_words : Option TxEntry → ℕ
+entry_words None = 0
+entry_words (Some entry) = min entry.parameters 22
 
 -- the arguments that a pool's record holds for a transaction
 abbrev pub recorded : Image → (tx : ℕ) → Words → List ℤ
-recorded image tx w = words_from 25 (taken (slice_get image.parts.txs (tx - 1))) w
+recorded image tx w = words_from 25 (entry_words (slice_get image.parts.txs (tx - 1))) w

@@ -1,3 +1,4 @@
 pub mod Found
 pub mod Due
 pub mod Recovered
+pub mod inside

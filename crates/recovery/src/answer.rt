@@ -1,7 +1,7 @@
-//! What a recovery answers.
+//! The answers of a recovery.
 
 ghost use Rattle.std.specs.Prelude.{◌≡◌};
-ghost use Rattle.recovery.specs.Recovered.{redo_answer, clean_answer};
+ghost use Rattle.recovery.specs.inside.Recovered.{redo_answer, clean_answer};
 
 use pmem::{LogAnswer, Phase};
 use pool_map::TrapKind;
@@ -9,13 +9,14 @@ use tx_run::Settled;
 
 /// The answer of a recovery.
 ///
-/// Behind `Off`, `Failed` and `NoMemory` the events before the refused one stand. `Off` tells whether
-/// the pool is sealed; on a device that was off it is `Unsealed`.
+/// After `Off`, `Failed` and `NoMemory` the events before the refused one are done. `Off` says
+/// whether the pool is sealed; on a device that was off it is `Unsealed`.
 #[derive(Clone, Copy, Debug, PartialEq, Eq, Drop)]
 pub enum RecoverAnswer {
-    /// No call was cut behind its seal.
+    /// No call was cut after its seal.
     Clean,
-    /// The sealed call ran again and is retired; `logged` is the number of its LOG instructions.
+    /// The sealed call ran again and is retired; `logged` is the number of LOG instructions of its
+    /// run.
     Redone { value: i64, logged: u64 },
     /// The sealed call trapped, and the mark is durable.
     Trap(TrapKind),
@@ -29,7 +30,7 @@ pub enum RecoverAnswer {
 }
 
 impl RecoverAnswer {
-    /// The answer where the sealed call was settled.
+    /// The answer after the sealed call was settled.
     #[tactic(auto, using(std::proofs::lemmas::Int::wraps))]
     pub(crate) fn redone(settled: Settled) -> RecoverAnswer
         ensures { result ≡ redo_answer settled }

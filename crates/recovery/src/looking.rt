@@ -1,4 +1,4 @@
-//! What a pool holds behind a power cut.
+//! What a recovery finds in a pool.
 
 ghost use Rattle.std.specs.Prelude.{◌≡◌, ◌≤◌, ◌<◌, ℕ, ℤ, List, length, true, false};
 ghost use Rattle.cache_model.specs.Cache.{view};
@@ -9,21 +9,22 @@ use args_log::{PendingAnswer, pending};
 use clobber_log::{attempt, count};
 use pm_machine::Image;
 use pmem::PmemWork;
+use pool_layout::MARK;
 use pool_map::TrapKind;
 use tx_run::marked_kind;
 
-/// What a pool holds behind a power cut.
+/// The content of a pool after a power cut.
 #[derive(Clone, Copy, Debug, PartialEq, Eq, Drop)]
 pub enum Found {
     Off,
     Unusable(TrapKind),
-    /// Its records can't be restored, or its record names no transaction of the image.
+    /// Its records can't be restored, or its argument record names no transaction of the image.
     Numbers,
-    /// No call was cut behind its seal; so many records are valid.
+    /// No call was cut after its seal; so many records are valid.
     Unsealed {
         count: u64,
     },
-    /// A call that was cut behind its seal, with all argument words; so many records are valid.
+    /// A call was cut after its seal; it has all argument words, and so many records are valid.
     Sealed {
         tx: u64,
         args: [i64; 22],
@@ -31,17 +32,19 @@ pub enum Found {
     },
 }
 
-/// The number of attempts ends here.
+/// The numbers of attempts are below this.
 const NUMBERS: u64 = 4611686018427387904;
 
-/// What the pool's record holds, with so many valid records.
+/// The content of the pool's argument record, if so many records are valid.
 fn record<P: PmemWork>(image: &Image, dev: &P, count: u64) -> Found
     requires lines { (P.device dev.now).lines ≡ pool_lines image.now.parts.sizes }
     requires few { count ≤ image.now.parts.sizes.records }
     requires open { IsOpen image.now count (view (P.device dev.now).cache) }
-    ensures found { (P.device dev.now).on ≡ true → Finds result image.now (view (P.device dev.now).cache) }
+    ensures found { (P.device dev.now).on ≡ true
+        → Finds result image.now (view (P.device dev.now).cache) }
     ensures off { (P.device dev.now).on ≡ false → result ≡ Found.Off }
-    ensures names { (tx n : ℕ) (args : List ℤ) → result ≡ Found.Sealed tx args n → (1 ≤ tx) × (tx ≤ length image.now.parts.txs) × (n ≤ image.now.parts.sizes.records) }
+    ensures names { (tx n : ℕ) (args : List ℤ) → result ≡ Found.Sealed tx args n
+        → (1 ≤ tx) × (tx ≤ length image.now.parts.txs) × (n ≤ image.now.parts.sizes.records) }
 {
     match pending(dev) {
         PendingAnswer::Off => Found::Off,
@@ -55,14 +58,16 @@ fn record<P: PmemWork>(image: &Image, dev: &P, count: u64) -> Found
     }
 }
 
-/// The mark is looked at first, then the numbers, then the record. It is no event.
+/// Checks the mark first, then the numbers, then the argument record. It plays no event.
 pub fn look<P: PmemWork>(image: &Image, dev: &P) -> Found
     requires lines { (P.device dev.now).lines ≡ pool_lines image.now.parts.sizes }
-    ensures found { (P.device dev.now).on ≡ true → Finds result image.now (view (P.device dev.now).cache) }
+    ensures found { (P.device dev.now).on ≡ true
+        → Finds result image.now (view (P.device dev.now).cache) }
     ensures off { (P.device dev.now).on ≡ false → result ≡ Found.Off }
-    ensures names { (tx n : ℕ) (args : List ℤ) → result ≡ Found.Sealed tx args n → (1 ≤ tx) × (tx ≤ length image.now.parts.txs) × (n ≤ image.now.parts.sizes.records) }
+    ensures names { (tx n : ℕ) (args : List ℤ) → result ≡ Found.Sealed tx args n
+        → (1 ≤ tx) × (tx ≤ length image.now.parts.txs) × (n ≤ image.now.parts.sizes.records) }
 {
-    let Some(mark) = dev.load(19) else {
+    let Some(mark) = dev.load(MARK) else {
         return Found::Off;
     };
     if mark != 0 {

@@ -1,16 +1,14 @@
 //! A recovery from its start to its end.
 
-ghost use Rattle.std.specs.Prelude.{◌≡◌, ◌≢◌, ◌+◌, ◌≤◌, ◌<◌, ℕ, ℤ, pos, true, false, length};
+ghost use Rattle.std.specs.Prelude.{◌≡◌, ◌+◌, ◌≤◌, ℕ, ℤ, true, length};
 ghost use Rattle.cache_model.specs.Cache.{view};
 ghost use Rattle.pool_layout.specs.Sizes.{pool_lines};
-ghost use Rattle.pmem.specs.declared.answer.Phase.TheVariants as at_phase;
 ghost use Rattle.pmem.specs.Played.{Played};
-ghost use Rattle.clobber_log.specs.Logs.{attempt_in, count_in};
-ghost use Rattle.args_log.specs.Pending.{is_sealed, number_of, HoldsArguments};
-ghost use Rattle.tx_run.specs.Standing.{kind_of};
-ghost use Rattle.recovery.specs.Found.{has_numbers, names_tx, recorded};
+ghost use Rattle.clobber_log.specs.Logs.{count_in};
+ghost use Rattle.args_log.specs.Pending.{HoldsArguments};
+ghost use Rattle.recovery.specs.Found.{recorded};
 ghost use Rattle.recovery.specs.Due.{due_clean, due_back};
-ghost use Rattle.recovery.specs.Recovered.{redo_run, redo_steps, Cleaned, Redid};
+ghost use Rattle.recovery.specs.Recovered.{redo_run, Cleaned, Redid, IsRecovered};
 
 use crate::answer::RecoverAnswer;
 use crate::looking::{Found, look};
@@ -23,11 +21,12 @@ use std::alloc::Global;
 use std::sync::ledger::Ledger;
 use tx_run::settle;
 
-/// Begins the next attempt where a record is valid.
+/// Begins the next attempt, if a record is valid.
 fn clean<P: PmemWork>(sizes: &Sizes, dev: &mut P, count: u64) -> RecoverAnswer
     requires lines { (P.device dev.old).lines ≡ pool_lines sizes.now }
     requires on { (P.device dev.old).on ≡ true }
-    ensures cleaned { Cleaned result (P.device dev.old) (due_clean sizes.now count (P.device dev.old).cache) (P.device dev.new) }
+    ensures cleaned { Cleaned result (P.device dev.old)
+        (due_clean sizes.now count (P.device dev.old).cache) (P.device dev.new) }
     ensures lines { (P.device dev.new).lines ≡ (P.device dev.old).lines }
 {
     if count == 0 {
@@ -36,7 +35,7 @@ fn clean<P: PmemWork>(sizes: &Sizes, dev: &mut P, count: u64) -> RecoverAnswer
     RecoverAnswer::cleaned(reset(sizes, dev))
 }
 
-/// Puts the logged words back and begins the next attempt, where a record is valid.
+/// If a record is valid, restores the logged words and begins the next attempt.
 pub fn put_back<P: PmemWork, L: Ledger>(
     sizes: &Sizes,
     dev: &mut P,
@@ -46,7 +45,8 @@ pub fn put_back<P: PmemWork, L: Ledger>(
     requires lines { (P.device dev.old).lines ≡ pool_lines sizes.now }
     requires on { (P.device dev.old).on ≡ true }
     requires count { count ≡ count_in sizes.now (view (P.device dev.old).cache) }
-    ensures played { Played result (P.device dev.old) (due_back sizes.now count (P.device dev.old).cache) (P.device dev.new) }
+    ensures played { Played result (P.device dev.old)
+        (due_back sizes.now count (P.device dev.old).cache) (P.device dev.new) }
     ensures cost { result ≡ LogAnswer.Done → steps.new ≡ steps.old + count }
     ensures bound { steps.new ≤ steps.old + count }
     ensures lines { (P.device dev.new).lines ≡ (P.device dev.old).lines }
@@ -62,7 +62,7 @@ pub fn put_back<P: PmemWork, L: Ledger>(
     }
 }
 
-/// The first words of the 22, as many as the transaction has parameters.
+/// The first of the 22 words, as many as the transaction has parameters.
 pub fn given<'a>(image: &Image, tx: u64, args: &'a [i64; 22]) -> &'a [i64]
     requires first { 1 ≤ tx }
     requires last { tx ≤ length image.now.parts.txs }
@@ -76,7 +76,7 @@ pub fn given<'a>(image: &Image, tx: u64, args: &'a [i64; 22]) -> &'a [i64]
     }
 }
 
-/// Runs a sealed call again. The machine's frames are reserved before the first event.
+/// Runs a sealed call again. Memory for the machine's frames is allocated before the first event.
 fn redo<P: PmemWork, L: Ledger>(
     alloc: Global,
     image: &Image,
@@ -91,8 +91,10 @@ fn redo<P: PmemWork, L: Ledger>(
     requires count { count ≡ count_in image.now.parts.sizes (view (P.device dev.old).cache) }
     requires first { 1 ≤ tx }
     requires last { tx ≤ length image.now.parts.txs }
-    ensures redid { Redid result image.now tx args.now count (P.device dev.old) (P.device dev.new) steps.old steps.new }
-    ensures bound { steps.new ≤ steps.old + count + (redo_run image.now tx args.now count (P.device dev.old)).steps }
+    ensures redid { Redid result image.now tx args.now count (P.device dev.old) (P.device dev.new)
+        steps.old steps.new }
+    ensures bound { steps.new ≤
+        steps.old + count + (redo_run image.now tx args.now count (P.device dev.old)).steps }
     ensures most { steps.new ≤ steps.old + count + image.now.parts.most }
     ensures lines { (P.device dev.new).lines ≡ (P.device dev.old).lines }
 {
@@ -108,14 +110,14 @@ fn redo<P: PmemWork, L: Ledger>(
     }
 }
 
-/// Recovers the pool of the image behind a power cut.
+/// Recovers the pool of the image after a power cut.
 ///
-/// A pool with a mark stays as it is. Else, where records are valid, their old values are put back if
-/// a call was sealed, and the next attempt begins; and a call that was sealed runs again from its
-/// recorded arguments and is settled. A sealed record that names no transaction of the image, which
-/// no pool of the image holds, is answered as `Numbers`, without an event. On a device that is off
-/// the answer is `Off(Unsealed)`, and nothing has changed. Where no call was sealed it takes no
-/// step, and else at most one for each valid record and those of the run.
+/// A pool with a mark stays as it is. Otherwise, if records are valid, their old values are
+/// restored if a call was sealed, and the next attempt begins; and a sealed call runs again from
+/// its recorded arguments and is settled. A sealed record that names no transaction of the image,
+/// which no pool of the image holds, is answered with `Numbers`, without an event. On a device that
+/// is off the answer is `Off(Unsealed)`, and nothing has changed. If no call was sealed it takes no
+/// step, else at most one for each valid record and those of the run.
 pub fn recover<P: PmemWork, L: Ledger>(
     alloc: Global,
     image: &Image,
@@ -123,16 +125,8 @@ pub fn recover<P: PmemWork, L: Ledger>(
     steps: &mut Steps<L>,
 ) -> RecoverAnswer
     requires lines { (P.device dev.old).lines ≡ pool_lines image.now.parts.sizes }
-    ensures unusable { (P.device dev.old).on ≡ true → view (P.device dev.old).cache 19 ≢ pos 0 → (result ≡ RecoverAnswer.Unusable (kind_of (view (P.device dev.old).cache 19))) × (P.device dev.new ≡ P.device dev.old) × (steps.new ≡ steps.old) }
-    ensures numbers { (P.device dev.old).on ≡ true → view (P.device dev.old).cache 19 ≡ pos 0 → has_numbers (count_in image.now.parts.sizes (view (P.device dev.old).cache)) (attempt_in image.now.parts.sizes (view (P.device dev.old).cache)) ≡ true → (result ≡ RecoverAnswer.Numbers) × (P.device dev.new ≡ P.device dev.old) × (steps.new ≡ steps.old) }
-    ensures clean { (P.device dev.old).on ≡ true → view (P.device dev.old).cache 19 ≡ pos 0 → has_numbers (count_in image.now.parts.sizes (view (P.device dev.old).cache)) (attempt_in image.now.parts.sizes (view (P.device dev.old).cache)) ≡ false → is_sealed (view (P.device dev.old).cache) ≡ false → Cleaned result (P.device dev.old) (due_clean image.now.parts.sizes (count_in image.now.parts.sizes (view (P.device dev.old).cache)) (P.device dev.old).cache) (P.device dev.new) }
-    ensures idle { is_sealed (view (P.device dev.old).cache) ≡ false → steps.new ≡ steps.old }
-    ensures redid { (P.device dev.old).on ≡ true → view (P.device dev.old).cache 19 ≡ pos 0 → has_numbers (count_in image.now.parts.sizes (view (P.device dev.old).cache)) (attempt_in image.now.parts.sizes (view (P.device dev.old).cache)) ≡ false → is_sealed (view (P.device dev.old).cache) ≡ true → names_tx image.now (number_of (view (P.device dev.old).cache 24)) ≡ true → Redid result image.now (number_of (view (P.device dev.old).cache 24)) (recorded image.now (number_of (view (P.device dev.old).cache 24)) (view (P.device dev.old).cache)) (count_in image.now.parts.sizes (view (P.device dev.old).cache)) (P.device dev.old) (P.device dev.new) steps.old steps.new }
-    ensures bound { steps.new ≤ steps.old + redo_steps image.now (P.device dev.old) }
-    ensures unnamed { (P.device dev.old).on ≡ true → view (P.device dev.old).cache 19 ≡ pos 0 → has_numbers (count_in image.now.parts.sizes (view (P.device dev.old).cache)) (attempt_in image.now.parts.sizes (view (P.device dev.old).cache)) ≡ false → is_sealed (view (P.device dev.old).cache) ≡ true → names_tx image.now (number_of (view (P.device dev.old).cache 24)) ≡ false → (result ≡ RecoverAnswer.Numbers) × (P.device dev.new ≡ P.device dev.old) × (steps.new ≡ steps.old) }
-    ensures off { (P.device dev.old).on ≡ false → result ≡ RecoverAnswer.Off at_phase.Unsealed }
-    ensures same { (P.device dev.old).on ≡ false → P.device dev.new ≡ P.device dev.old }
-    ensures still { (P.device dev.old).on ≡ false → steps.new ≡ steps.old }
+    ensures recovered { IsRecovered result image.now (P.device dev.old) (P.device dev.new)
+        steps.old steps.new }
     ensures most { steps.new ≤ steps.old + image.now.parts.sizes.records + image.now.parts.most }
     ensures lines { (P.device dev.new).lines ≡ (P.device dev.old).lines }
 {

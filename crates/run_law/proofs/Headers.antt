@@ -1,16 +1,14 @@
--- The loads of headers change nothing of what the crash law sees of a run, but for its inputs.
-use Rattle.std.proofs.Common.{◌≡◌, ◌⊎◌, inl, inr, ⊎_elim, ℕ, zero, suc, ◌+◌, List, [], ◌∷◌, Option, Some, None, ℤ, refl}
-use Rattle.cache_model.specs.Event.{CacheEvent}
-use Rattle.pool_layout.specs.declared.places.Layout.{Layout}
-use Rattle.crash_law.specs.Due.{Entry}
+-- The loads of headers change only the inputs of a run as the crash law sees it.
+use Rattle.std.proofs.Common.{◌≡◌, ◌⊎◌, inl, inr, ⊎_elim, ℕ, zero, suc, ◌+◌, List, Option, Some, None, ℤ, refl}
+use Rattle.pool_layout.specs.declared.limits.Sizes.{Sizes}
 use Rattle.crash_law.specs.Effects.{Effect, IsInput, IsOverwritten, IsLoggedFirst, IsPaired, trace_of, logs_of, effect_events}
 use Rattle.pm_machine.specs.Find.{IsHeader}
 use Rattle.run_law.specs.Seen.{headers_before}
 
-pub events_headers : (C : Layout) (a n : ℕ) (heap : ℕ → ℤ) (w k : ℕ) (es : List Effect) →
-    effect_events C a n heap (headers_before w k es) ≡ effect_events C a n heap es
-events_headers C a n heap w zero es = refl
-events_headers C a n heap w (suc k) es = events_headers C a n heap (w + 16) k es
+pub events_headers : (z : Sizes) (a n : ℕ) (heap : ℕ → ℤ) (w k : ℕ) (es : List Effect) →
+    effect_events z a n heap (headers_before w k es) ≡ effect_events z a n heap es
+events_headers z a n heap w zero es = refl
+events_headers z a n heap w (suc k) es = events_headers z a n heap (w + 16) k es
 
 pub trace_headers : (last : Option ℕ) (w k : ℕ) (es : List Effect) →
     trace_of last (headers_before w k es) ≡ trace_of last es

@@ -1,4 +1,5 @@
 pub mod Headers
+pub mod Inputs
 pub mod Join
 pub mod Sounds
 pub mod Runs

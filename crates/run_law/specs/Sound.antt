@@ -1,22 +1,25 @@
--- What is asked of a run's effects: it is covered, its LOGs go on to their STOREs, and it flushes and fences at its end alone.
+-- The conditions on a run's effects: it is covered, each LOG is followed by its STORE, and it
+-- flushes and fences only at its end.
 use Rattle.std.specs.Prelude.{ℕ, ◌/◌, ◌≡◌, List, [], ◌∷◌, nat_eq, None}
 use Rattle.indexmap.specs.IndexSet.{insert_key}
-use Rattle.crash_law.specs.Effects.{IsInput, IsOverwritten, IsLoggedFirst, IsPaired}
+use Rattle.crash_law.specs.Effects.{IsLoggedFirst, IsPaired}
 use Rattle.pm_machine.specs.declared.effect.Effect.{Effect}
 use Rattle.pm_machine.specs.declared.effect.Effect.TheVariants.{Loads, Scans, Stores, Logs, Flushes, Fences, Quiet}
 use Rattle.pm_machine.specs.declared.effect.End.{End}
 use Rattle.pm_machine.specs.declared.effect.End.TheVariants.{Halted, Trapped}
+use Rattle.pm_machine.specs.Inputs.{IsInput, IsOverwritten}
 use Rattle.run_law.specs.Seen.{seen_all}
 
--- the first store to each word that is loaded before and stored has a LOG of that word before it
-abbrev pub IsCovered : List Effect → Type 0
-IsCovered es = (w : ℕ) → IsInput (seen_all es) w → IsOverwritten (seen_all es) w → IsLoggedFirst (seen_all es) w
+-- for each word that is loaded before any store to it and stored later, a LOG of the word comes
+-- before its first store
+abbrev pub IsCoveredRun : List Effect → Type 0
+IsCoveredRun es = (w : ℕ) → IsInput es w → IsOverwritten es w → IsLoggedFirst (seen_all es) w
 
--- each LOG goes on to its STORE
+-- each LOG is followed by its STORE
 abbrev pub IsPairedRun : List Effect → Type 0
 IsPairedRun es = IsPaired None (seen_all es)
 
--- no flush and no fence
+-- the effects have no flush and no fence
 abbrev pub IsStill : List Effect → Type 0
 IsStill [] = Unit {0}
 IsStill (Loads w ∷ es) = IsStill es
@@ -27,7 +30,7 @@ IsStill (Flushes l ∷ es) = ⊥
 IsStill (Fences ∷ es) = ⊥
 IsStill (Quiet ∷ es) = IsStill es
 
--- these lines are flushed in order, then comes the fence and nothing else
+-- these lines are flushed in order, followed by the fence and nothing else
 abbrev pub IsFlushed : List ℕ → List Effect → Type 0
 IsFlushed ls [] = ⊥
 IsFlushed ls (Loads w ∷ es) = IsFlushed ls es
@@ -40,7 +43,8 @@ IsFlushed (k ∷ ks) (Flushes l ∷ es) = (l ≡ k) × IsFlushed ks es
 IsFlushed [] (Fences ∷ es) = es ≡ []
 IsFlushed (k ∷ ks) (Fences ∷ es) = ⊥
 
--- with these lines stored so far: no flush and no fence, then each stored line flushed in the order of first stores, then the fence
+-- given the lines stored so far: no flush and no fence, then each stored line flushed in the order
+-- of first stores, then the fence
 abbrev pub IsTidy : List ℕ → List Effect → Type 0
 IsTidy ls [] = ⊥
 IsTidy ls (Loads w ∷ es) = IsTidy ls es
@@ -51,12 +55,13 @@ IsTidy ls (Flushes l ∷ es) = IsFlushed ls (Flushes l ∷ es)
 IsTidy ls (Fences ∷ es) = IsFlushed ls (Fences ∷ es)
 IsTidy ls (Quiet ∷ es) = IsTidy ls es
 
-abbrev pub IsTidyEnd : End → List Effect → Type 0
-IsTidyEnd (Halted v) es = IsTidy [] es
-IsTidyEnd (Trapped k) es = IsStill es
+-- the effects and the end of a tidy run, given the lines that it began with
+abbrev pub IsTidyEnd : List ℕ → End → List Effect → Type 0
+IsTidyEnd ls (Halted v) es = IsTidy ls es
+IsTidyEnd ls (Trapped k) es = IsStill es
 
--- The parts of Sound that speak of one run.
+-- The parts of Sound that concern one run.
 pub record IsSoundRun (end : End) (es : List Effect) : Type 0 where
-  pub covered : IsCovered es
+  pub covered : IsCoveredRun es
   pub paired : IsPairedRun es
-  pub tidy : IsTidyEnd end es
+  pub tidy : IsTidyEnd [] end es

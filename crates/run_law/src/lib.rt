@@ -1,11 +1,11 @@
-//! The machine's runs, as the crash law asks: a sound run is one that its laws speak of, and what is
-//! due for it are their events. It stands on `pm_machine` and `crash_law`. Its one contract for the
-//! crates above: the laws of `specs/Law.antt`.
+//! The machine's runs in terms of the crash law: its laws apply to a sound run, and the due events
+//! are those of the run. It rests on `pm_machine` and `crash_law`. Its one contract for the crates
+//! above: the laws of `specs/Law.antt`.
 #![tactic(auto)]
 
 ghost use Rattle.run_law.specs.Law.{JoinLaw, RunLaw, DueRunLaw, RestoredLaw};
 
-/// A sound run's events, and those behind it, are the crash law's. It does nothing.
+/// A sound run's events, and those after it, are those of the crash law. The function does nothing.
 pub fn law()
     ensures join { JoinLaw }
     ensures run { RunLaw }

@@ -1,4 +1,4 @@
--- What it says of the source and of the log that a transaction comes to a value, or to a trap.
+-- What follows for the source and the log where a transaction comes to a value, or to a trap.
 use Rattle.std.proofs.Common.{◌≡◌, ◌⊎◌, inl, inr, ℕ, ◌<◌, ◌≤◌, Bool, true, false, if◌then◌else◌, nat_lt, List, ℤ, refl, sym, arith}
 use Rattle.std.proofs.lemmas.Bool.{ltb-true, ltb-false}
 use Rattle.pool_map.specs.declared.trap.TrapKind.{TrapKind}
@@ -6,23 +6,21 @@ use Rattle.pool_map.specs.declared.trap.TrapKind.TheVariants.{LogFull}
 use Rattle.pool_map.specs.PoolMap.{PoolMap}
 use Rattle.c_meaning.specs.Transaction.{Outcome, Done, Trap}
 use Rattle.cnvm_session.specs.declared.program.Program.{Program}
-use Rattle.session_law.specs.Source.{Counts, sizes_of, means, comes_to}
+use Rattle.session_law.specs.Source.{sizes_of, means, outcome_with}
 
 trap_done : (kind : TrapKind) (p : PoolMap) (v : ℤ) → Trap kind ≡ Done p v → ⊥
 trap_done kind p v e = cc
 
-module _ (program : Program) (counts : Counts) (pool : PoolMap) (tx : ℕ) (args : List ℤ) where
+module _ (program : Program) (pool : PoolMap) (tx : ℕ) (args : List ℤ) (n : ℕ) where
   abbrev records : ℕ
   records = (sizes_of program).records
-
-  abbrev n : ℕ
-  n = counts pool tx args
 
   abbrev o : Outcome
   o = means program pool tx args
 
-  -- one that is done has room for its logs, and the source gives its value and its pool
-  pub comes_done : (p : PoolMap) (v : ℤ) → comes_to program counts pool tx args ≡ Done p v →
+  -- one that comes to a value has room for its log records, and the source gives its value and its
+  -- pool
+  pub comes_done : (p : PoolMap) (v : ℤ) → outcome_with program pool tx args n ≡ Done p v →
       (n ≤ records) × (o ≡ Done p v)
   comes_done p v is = by_test (nat_lt records n) refl is
     where
@@ -31,8 +29,9 @@ module _ (program : Program) (counts : Counts) (pool : PoolMap) (tx : ℕ) (args
       by_test true e is = absurd (trap_done LogFull p v is)
       by_test false e is = (omega (arith, ltb-false records n e), is)
 
-  -- one that traps has a full log where it has no room for its logs, and else the source's trap
-  pub comes_trap : (kind : TrapKind) → comes_to program counts pool tx args ≡ Trap kind →
+  -- one that comes to a trap has a full log where its log records have no room, and else the
+  -- source's trap
+  pub comes_trap : (kind : TrapKind) → outcome_with program pool tx args n ≡ Trap kind →
       ((records < n) × (kind ≡ LogFull)) ⊎ ((n ≤ records) × (o ≡ Trap kind))
   comes_trap kind is = by_test (nat_lt records n) refl is
     where

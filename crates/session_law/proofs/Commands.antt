@@ -10,7 +10,9 @@ use Rattle.c_types.specs.Shapes.{shapes_of}
 use Rattle.clobber_log.specs.Logs.{count_in}
 use Rattle.pm_machine.specs.Effects.{heap_end}
 use Rattle.pm_machine.specs.Runs.{heap_in}
-use Rattle.crash_law.specs.Pools.{IsBefore, Lost}
+use Rattle.pool_layout.specs.declared.places.TheConstants.{LAST, DONE}
+use Rattle.pool_layout.specs.Good.{Lost}
+use Rattle.crash_law.specs.Pools.{IsBefore}
 use Rattle.crash_law.specs.Law.{IsAtRest, IsCut}
 use Rattle.run_law.specs.Seen.{result_of, E, W}
 use Rattle.cut_law.specs.Law.{call_of, pool_with}
@@ -22,11 +24,11 @@ use Rattle.cnvm_session.specs.declared.answer.Answer.TheVariants as answer
 use Rattle.cnvm_session.specs.declared.program.Program.{Program}
 use Rattle.cnvm_session.specs.Shown.{heap_of}
 use Rattle.cnvm_session.specs.Commands as commanded
-use Rattle.cnvm_session.specs.Commands.{number_of, parameters_of}
-use Rattle.session_law.specs.Source.{Counts, sizes_of, pool_of}
+use Rattle.cnvm_session.specs.Commands.{call_number, tx_parameters}
+use Rattle.session_law.specs.Source.{sizes_of, source_pool}
 use Rattle.session_law.specs.Words.{AreWords}
 use Rattle.session_law.specs.Agrees.{Agrees}
-use Rattle.session_law.specs.State.{Pending, Standing, Ready, Down, Unusable, State, standing_as}
+use Rattle.session_law.specs.State.{Pending, Standing, Ready, Down, Unusable, SourceState, standing_as}
 use Rattle.session_law.specs.Answers.{Refused, Runs, CallsWith, CallsTo, CallsNamed, Calls, Tells, Shows, Lasts}
 use Rattle.session_law.specs.Holds.{HoldsPool, IsResting, OwesNone, HoldsAs, Holds}
 use Rattle.session_law.specs.Law.{SessionLaw}
@@ -36,8 +38,9 @@ use Rattle.session_law.proofs.Calls.{call_runs}
 use Rattle.session_law.proofs.Powers.{power_answers}
 
 module _ (program : Program) (super : Words) where
-  -- the same cache, and the same switch
-  same_as : (m : Mode) (d e : Device) (s : State) → e.on ≡ d.on → e.cache ≡ d.cache → (st : Standing) → HoldsAs st program super m d s → HoldsAs st program super m e s
+  -- a device with the same cache and the same switch holds the same
+  same_as : (m : Mode) (d e : Device) (s : SourceState) → e.on ≡ d.on → e.cache ≡ d.cache
+      → (st : Standing) → HoldsAs st program super m d s → HoldsAs st program super m e s
   same_as m d e s on cache Ready holds =
       let r = holds.1 in
       let back : d.cache ≡ e.cache = sym cache in (
@@ -45,9 +48,11 @@ module _ (program : Program) (super : Words) where
         record {
           on = on ∙ r.on;
           rest = subst IsAtRest back r.rest;
-          before = subst (λ (c : Cache). IsBefore (pool_with program.image super) s.done (heap_in (sizes_of program) c) s.last (view c)) back r.before;
+          before = subst (λ (c : Cache). IsBefore (pool_with program.image super) s.done
+              (heap_in (sizes_of program) c) s.last (view c)) back r.before;
           empty = subst (λ (c : Cache). count_in (sizes_of program) (view c) ≡ 0) back r.empty;
-          holds = subst (λ (c : Cache). HoldsPool program (heap_in (sizes_of program) c) s) back r.holds;
+          holds = subst (λ (c : Cache). HoldsPool program (heap_in (sizes_of program) c) s)
+              back r.holds;
         },
       )
   same_as m d e s on cache (Down None) holds =
@@ -56,7 +61,8 @@ module _ (program : Program) (super : Words) where
         record {
           heap = r.heap;
           holds = r.holds;
-          left = subst (Images (IsBefore (pool_with program.image super) s.done r.heap s.last)) (sym cache) r.left;
+          left = subst (Images (IsBefore (pool_with program.image super) s.done r.heap s.last))
+              (sym cache) r.left;
         },
       )
   same_as m d e s on cache (Down (Some owed)) holds =
@@ -70,79 +76,118 @@ module _ (program : Program) (super : Words) where
           end = r.end;
           effects = r.effects;
           ran = r.ran;
-          left = subst (Images (IsCut (pool_with program.image super) (call_of s.done owed.tx owed.args) (E r.effects) (W r.effects) r.heap (heap_end r.heap r.effects) s.last (result_of r.end))) (sym cache) r.left;
+          left = subst (Images (IsCut (pool_with program.image super)
+              (call_of s.done owed.tx owed.args) (E r.effects) (W r.effects) r.heap
+              (heap_end r.heap r.effects) s.last (result_of r.end))) (sym cache) r.left;
         },
       )
-  same_as m d e s on cache (Unusable kind) holds = (holds.0, subst (Images (Lost (pool_with program.image super) (trap_number kind))) (sym cache) holds.1)
+  same_as m d e s on cache (Unusable kind) holds = (
+    holds.0,
+    subst (Images (Lost program.image.parts.sizes (trap_number kind)))
+        (sym cache) holds.1,
+  )
 
-  moved : (m n : Mode) (d b : Device) (s : State) → n ≡ m → b ≡ d → Holds program super m d s → Holds program super n b s
+  moved : (m n : Mode) (d b : Device) (s : SourceState) → n ≡ m → b ≡ d → Holds program super m d s
+      → Holds program super n b s
   moved m n d b s modes devices holds =
-      subst (λ (x : Mode). Holds program super x b s) (sym modes) (subst (λ (x : Device). Holds program super m x s) (sym devices) holds)
+      subst (λ (x : Mode). Holds program super x b s) (sym modes)
+      (subst (λ (x : Device). Holds program super m x s) (sym devices) holds)
 
   -- a command that is refused
-  refused_as : (why : Answer) (m n : Mode) (d b : Device) (s : State) (a : Answer) (k k1 : ℕ) →
+  refused_as : (why : Answer) (m n : Mode) (d b : Device) (s : SourceState) (a : Answer) (k k1 : ℕ)
+      →
       Holds program super m d s → commanded.Refused why m d a n b k k1 →
-      (t : State) × Refused why s a t × Holds program super n b t
+      (t : SourceState) × Refused why s a t × Holds program super n b t
   refused_as why m n d b s a k k1 holds h = (s, (h.0, refl), moved m n d b s h.1 h.2 holds)
 
-  down_mode : (owed : Option Pending) (m : Mode) (d : Device) (s : State) → HoldsAs (Down owed) program super m d s → m ≡ mode.Down
+  down_mode : (owed : Option Pending) (m : Mode) (d : Device) (s : SourceState)
+      → HoldsAs (Down owed) program super m d s → m ≡ mode.Down
   down_mode None m d s holds = holds.0
   down_mode (Some owed) m d s holds = holds.0
 
-  module _ (counts : Counts) (agrees : Agrees program counts) (n : Mode) (d b : Device) (s : State) (a : Answer) (args : List ℤ) (words : AreWords args) (k k1 : ℕ)
+  module _ (agrees : Agrees program) (n : Mode) (d b : Device)
+      (s : SourceState) (a : Answer) (args : List ℤ) (words : AreWords args) (k k1 : ℕ)
       (ready : s.standing ≡ Ready) (resting : IsResting program super d s) where
     at_ready : Holds program super mode.Ready d s
-    at_ready = subst (λ (x : Standing). HoldsAs x program super mode.Ready d s) (sym ready) (refl, resting)
+    at_ready = subst (λ (x : Standing). HoldsAs x program super mode.Ready d s) (sym ready)
+        (refl, resting)
 
-    by_count : (tx count : ℕ) (same : Bool) → (count == length args) ≡ same → parameters_of program.image tx ≡ Some count
-        → commanded.CallsWith same program.image tx args d a n b k k1 → (t : State) × CallsWith same program counts s (view d.cache) tx args a t × Holds program super n b t
+    by_count : (tx count : ℕ) (same : Bool) → (count == length args) ≡ same
+        → tx_parameters program.image tx ≡ Some count
+        → commanded.CallsWith same program.image tx args d a n b k k1 → (t : SourceState)
+        × CallsWith same program s (view d.cache) tx args a t × Holds program super n b t
     by_count tx count true same takes h =
-        let exact : parameters_of program.image tx ≡ Some (length args) = takes ∙ ap (λ (c : ℕ). Some c) (eqb-true count (length args) same) in
-        let done = call_runs program counts super agrees d s resting tx args exact words h.behind b k k1 ready h.called in (
+        let exact : tx_parameters program.image tx ≡ Some (length args) =
+        takes ∙ ap (λ (c : ℕ). Some c) (eqb-true count (length args) same) in
+        let done = call_runs program super agrees d s resting tx args exact words
+        h.tx_answer b
+        k k1 ready h.called in (
           done.0,
-          subst (λ (x : Answer). Runs program counts s (view d.cache) tx args x done.0) (sym h.answer) done.1,
+          subst (λ (x : Answer). Runs program s (view d.cache) tx args x done.0)
+              (sym h.answer) done.1,
           subst (λ (x : Mode). Holds program super x b done.0) (sym h.mode) done.2,
         )
     by_count tx count false same takes h =
         refused_as answer.RefusedArity mode.Ready n d b s a k k1 at_ready h
 
-    by_parameters : (tx : ℕ) (count : Option ℕ) → parameters_of program.image tx ≡ count → commanded.CallsTo count program.image tx args d a n b k k1
-        → (t : State) × CallsTo count program counts s (view d.cache) tx args a t × Holds program super n b t
+    by_parameters : (tx : ℕ) (count : Option ℕ) → tx_parameters program.image tx ≡ count
+        → commanded.CallsTo count program.image tx args d a n b k k1
+        → (t : SourceState) × CallsTo count program s (view d.cache) tx args a t
+        × Holds program super n b t
     by_parameters tx None takes h =
         refused_as answer.RefusedUnknown mode.Ready n d b s a k k1 at_ready h
     by_parameters tx (Some count) takes h = by_count tx count (count == length args) refl takes h
 
     by_name : (number : Option ℕ) → commanded.CallsNamed number program.image args d a n b k k1
-        → (t : State) × CallsNamed number program counts s (view d.cache) args a t × Holds program super n b t
+        → (t : SourceState) × CallsNamed number program s (view d.cache) args a t
+        × Holds program super n b t
     by_name None h = refused_as answer.RefusedUnknown mode.Ready n d b s a k k1 at_ready h
     by_name (Some tx) h =
-        let done = by_parameters tx (parameters_of program.image tx) refl h in
-        (done.0, subst (λ (count : Option ℕ). CallsTo count program counts s (view d.cache) tx args a done.0) (agrees.parameters tx) done.1, done.2)
+        let done = by_parameters tx (tx_parameters program.image tx) refl h in (
+          done.0,
+          subst (λ (count : Option ℕ). CallsTo count program s (view d.cache) tx args
+              a done.0) (agrees.parameters tx) done.1,
+          done.2,
+        )
 
-  calls_as : (counts : Counts) (agrees : Agrees program counts) (name : List ℕ) (args : List ℤ) (words : AreWords args) (m n : Mode) (d b : Device) (s : State) (a : Answer) (k k1 : ℕ) (st : Standing) → s.standing ≡ st
-      → HoldsAs st program super m d s → Holds program super m d s → commanded.Calls program name args m d a n b k k1
-      → (t : State) × Calls st program counts s (view d.cache) name args a t × Holds program super n b t
-  calls_as counts agrees name args words m n d b s a k k1 Ready standing here holds h =
-      by_name counts agrees n d b s a args words k k1 standing here.1 (number_of program name) (subst (λ (x : Mode). commanded.Calls program name args x d a n b k k1) here.0 h)
-  calls_as counts agrees name args words m n d b s a k k1 (Down owed) standing here holds h =
+  calls_as : (agrees : Agrees program) (name : List ℕ) (args : List ℤ)
+      (words : AreWords args) (m n : Mode) (d b : Device) (s : SourceState) (a : Answer) (k k1 : ℕ)
+      (st : Standing) → s.standing ≡ st
+      → HoldsAs st program super m d s → Holds program super m d s
+      → commanded.Calls program name args m d a n b k k1
+      → (t : SourceState) × Calls st program s (view d.cache) name args a t
+      × Holds program super n b t
+  calls_as agrees name args words m n d b s a k k1 Ready standing here holds h =
+      by_name agrees n d b s a args words k k1 standing here.1 (call_number program name)
+      (subst (λ (x : Mode). commanded.Calls program name args x d a n b k k1) here.0 h)
+  calls_as agrees name args words m n d b s a k k1 (Down owed) standing here holds h =
       let is : m ≡ mode.Down = down_mode owed m d s here in
-      refused_as answer.RefusedDown mode.Down n d b s a k k1 (subst (λ (x : Mode). Holds program super x d s) is holds) (subst (λ (x : Mode). commanded.Calls program name args x d a n b k k1) is h)
-  calls_as counts agrees name args words m n d b s a k k1 (Unusable kind) standing here holds h =
-      refused_as (answer.RefusedUnusable kind) (mode.Unusable kind) n d b s a k k1 (subst (λ (x : Mode). Holds program super x d s) here.0 holds)
+      refused_as answer.RefusedDown mode.Down n d b s a k k1
+      (subst (λ (x : Mode). Holds program super x d s) is holds)
+      (subst (λ (x : Mode). commanded.Calls program name args x d a n b k k1) is h)
+  calls_as agrees name args words m n d b s a k k1 (Unusable kind) standing here holds h =
+      refused_as (answer.RefusedUnusable kind) (mode.Unusable kind) n d b s a k k1
+      (subst (λ (x : Mode). Holds program super x d s) here.0 holds)
       (subst (λ (x : Mode). commanded.Calls program name args x d a n b k k1) here.0 h)
 
-  -- `show`
-  module _ (counts : Counts) (agrees : Agrees program counts) (n : Mode) (d : Device) (s : State) (ready : s.standing ≡ Ready) (resting : IsResting program super d s) where
-    text_as : (text : List ℕ) → commanded.Tells (shapes_of program.typed) (sizes_of program) d (answer.Shown text) n → text ≡ pool_text (shapes_of program.typed) s.pool
+  -- the answer of `show`
+  module _ (agrees : Agrees program) (n : Mode) (d : Device)
+      (s : SourceState) (ready : s.standing ≡ Ready) (resting : IsResting program super d s) where
+    text_as : (text : List ℕ) → commanded.Tells (shapes_of program.typed) (sizes_of program) d
+        (answer.Shown text) n → text ≡ pool_text (shapes_of program.typed) s.pool
     text_as text h =
         let shown : Words = heap_of (sizes_of program) (view d.cache) in
-        let same : pool_of program shown ≡ s.pool = pool_same program shown (heap_in (sizes_of program) d.cache) (shown_same (sizes_of program) d.cache) ∙ resting.holds.pool in
-        h.0 resting.on (pool_fits program shown agrees.root) ∙ ap (pool_text (shapes_of program.typed)) same
+        let same : source_pool program shown ≡ s.pool =
+        pool_same program shown (heap_in (sizes_of program) d.cache)
+        (shown_same (sizes_of program) d.cache) ∙ resting.holds.pool in
+        h.0 resting.on (pool_fits program shown agrees.root)
+        ∙ ap (pool_text (shapes_of program.typed)) same
 
     ready_as : n ≡ mode.Ready → Holds program super n d s
     ready_as is = subst (λ (x : Standing). HoldsAs x program super n d s) (sym ready) (is, resting)
 
-    tells_as : (a : Answer) → commanded.Tells (shapes_of program.typed) (sizes_of program) d a n → (t : State) × Tells program s a t × Holds program super n d t
+    tells_as : (a : Answer) → commanded.Tells (shapes_of program.typed) (sizes_of program) d a n
+        → (t : SourceState) × Tells program s a t × Holds program super n d t
     tells_as (answer.Shown text) h = (s, (text_as text h, refl), ready_as h.1)
     tells_as answer.NoMemory h = (standing_as (Down None) s, refl, (h, down_now))
       where
@@ -150,7 +195,16 @@ module _ (program : Program) (super : Words) where
         owes = resting_owes program super d s resting
 
         down_now : OwesNone program super d (standing_as (Down None) s)
-        down_now = record { heap = owes.heap; holds = record { headers = owes.holds.headers; pool = owes.holds.pool; words = owes.holds.words }; left = owes.left }
+        down_now = record {
+          heap = owes.heap;
+          holds =
+              record {
+                headers = owes.holds.headers;
+                pool = owes.holds.pool;
+                words = owes.holds.words;
+              };
+          left = owes.left;
+        }
     tells_as answer.Silent h = absurd h
     tells_as (answer.Done v l) h = absurd h
     tells_as (answer.Trap t) h = absurd h
@@ -168,45 +222,67 @@ module _ (program : Program) (super : Words) where
     tells_as (answer.RefusedPick l) h = absurd h
 
   shows_as :
-      (counts : Counts) (agrees : Agrees program counts) (m n : Mode) (d b : Device) (s : State) (a : Answer) (k k1 : ℕ) (st : Standing) →
+      (agrees : Agrees program) (m n : Mode) (d b : Device)
+      (s : SourceState) (a : Answer) (k k1 : ℕ) (st : Standing) →
       s.standing ≡ st → HoldsAs st program super m d s → Holds program super m d s
       → commanded.Shows (shapes_of program.typed) (sizes_of program) m d a n b k k1 →
-      (t : State) × Shows st program s a t × Holds program super n b t
-  shows_as counts agrees m n d b s a k k1 Ready standing here holds h =
-      let at = subst (λ (x : Mode). commanded.Shows (shapes_of program.typed) (sizes_of program) x d a n b k k1) here.0 h in
-      let done = tells_as counts agrees n d s standing here.1 a at.0 in
+      (t : SourceState) × Shows st program s a t × Holds program super n b t
+  shows_as agrees m n d b s a k k1 Ready standing here holds h =
+      let at = subst (λ (x : Mode). commanded.Shows (shapes_of program.typed) (sizes_of program) x d
+      a n b k k1) here.0 h in
+      let done = tells_as agrees n d s standing here.1 a at.0 in
       (done.0, done.1, subst (λ (x : Device). Holds program super n x done.0) (sym at.1) done.2)
-  shows_as counts agrees m n d b s a k k1 (Down owed) standing here holds h =
+  shows_as agrees m n d b s a k k1 (Down owed) standing here holds h =
       let is : m ≡ mode.Down = down_mode owed m d s here in
-      refused_as answer.RefusedDown mode.Down n d b s a k k1 (subst (λ (x : Mode). Holds program super x d s) is holds)
-      (subst (λ (x : Mode). commanded.Shows (shapes_of program.typed) (sizes_of program) x d a n b k k1) is h)
-  shows_as counts agrees m n d b s a k k1 (Unusable kind) standing here holds h =
-      refused_as (answer.RefusedUnusable kind) (mode.Unusable kind) n d b s a k k1 (subst (λ (x : Mode). Holds program super x d s) here.0 holds)
-      (subst (λ (x : Mode). commanded.Shows (shapes_of program.typed) (sizes_of program) x d a n b k k1) here.0 h)
+      refused_as answer.RefusedDown mode.Down n d b s a k k1
+      (subst (λ (x : Mode). Holds program super x d s) is holds)
+      (subst (λ (x : Mode). commanded.Shows (shapes_of program.typed) (sizes_of program) x d a n b
+      k k1) is h)
+  shows_as agrees m n d b s a k k1 (Unusable kind) standing here holds h =
+      refused_as (answer.RefusedUnusable kind) (mode.Unusable kind) n d b s a k k1
+      (subst (λ (x : Mode). Holds program super x d s) here.0 holds)
+      (subst (λ (x : Mode). commanded.Shows (shapes_of program.typed) (sizes_of program) x d a n b k
+      k1) here.0 h)
 
-  -- `last`
-  lasts_as : (m n : Mode) (d b : Device) (s : State) (a : Answer) (k k1 : ℕ) (st : Standing) →
+  -- the answer of `last`
+  lasts_as : (m n : Mode) (d b : Device) (s : SourceState) (a : Answer) (k k1 : ℕ) (st : Standing) →
       s.standing ≡ st → HoldsAs st program super m d s → Holds program super m d s
-      → commanded.Lasts m d a n b k k1 → (t : State) × Lasts st s a t × Holds program super n b t
+      → commanded.Lasts m d a n b k k1 → (t : SourceState) × Lasts st s a t
+      × Holds program super n b t
   lasts_as m n d b s a k k1 Ready standing here holds h =
       let at = subst (λ (x : Mode). commanded.Lasts x d a n b k k1) here.0 h in
-      let words : answer.Last (view d.cache 17) (view d.cache 16) ≡ answer.Last (pos s.done) s.last = λ i. answer.Last (here.1.before.good.done i) (here.1.before.last_is i) in
+      let words : answer.Last (view d.cache DONE) (view d.cache LAST) ≡ answer.Last (pos s.done)
+      s.last = λ i. answer.Last (here.1.before.good.done i) (here.1.before.last_is i) in
       (s, (at.0 here.1.on ∙ words, refl), moved m n d b s (at.1 ∙ sym here.0) at.2 holds)
   lasts_as m n d b s a k k1 (Down owed) standing here holds h =
       let is : m ≡ mode.Down = down_mode owed m d s here in
-      refused_as answer.RefusedDown mode.Down n d b s a k k1 (subst (λ (x : Mode). Holds program super x d s) is holds) (subst (λ (x : Mode). commanded.Lasts x d a n b k k1) is h)
+      refused_as answer.RefusedDown mode.Down n d b s a k k1
+      (subst (λ (x : Mode). Holds program super x d s) is holds)
+      (subst (λ (x : Mode). commanded.Lasts x d a n b k k1) is h)
   lasts_as m n d b s a k k1 (Unusable kind) standing here holds h =
-      refused_as (answer.RefusedUnusable kind) (mode.Unusable kind) n d b s a k k1 (subst (λ (x : Mode). Holds program super x d s) here.0 holds)
+      refused_as (answer.RefusedUnusable kind) (mode.Unusable kind) n d b s a k k1
+      (subst (λ (x : Mode). Holds program super x d s) here.0 holds)
       (subst (λ (x : Mode). commanded.Lasts x d a n b k k1) here.0 h)
 
 pub each_command : SessionLaw
-each_command program counts super (command.Call name args) m n d b s a k k1 agrees words holds h = calls_as program super counts agrees name args words m n d b s a k k1 s.standing refl holds holds h
-each_command program counts super (command.Stop left) m n d b s a k k1 agrees words holds h =
-    (s, (h.0, refl), moved program super m n (with_left left d) b s h.1 h.2 (same_as program super m d (with_left left d) s refl refl s.standing holds))
-each_command program counts super (command.Fault at) m n d b s a k k1 agrees words holds h =
-    (s, (h.0, refl), moved program super m n (with_armed at d) b s h.1 h.2 (same_as program super m d (with_armed at d) s refl refl s.standing holds))
-each_command program counts super (command.Power choice) m n d b s a k k1 agrees words holds h = power_answers program counts super agrees choice m n d b s a k k1 holds h
-each_command program counts super command.Show m n d b s a k k1 agrees words holds h =
-    shows_as program super counts agrees m n d b s a k k1 s.standing refl holds holds h
-each_command program counts super command.Last m n d b s a k k1 agrees words holds h =
+each_command program super (command.Call name args) m n d b s a k k1 agrees words holds h =
+    calls_as program super agrees name args words m n d b s a k k1 s.standing refl
+    holds holds h
+each_command program super (command.Stop left) m n d b s a k k1 agrees words holds h = (
+  s,
+  (h.0, refl),
+  moved program super m n (with_left left d) b s h.1 h.2
+      (same_as program super m d (with_left left d) s refl refl s.standing holds),
+)
+each_command program super (command.Fault at) m n d b s a k k1 agrees words holds h = (
+  s,
+  (h.0, refl),
+  moved program super m n (with_armed at d) b s h.1 h.2
+      (same_as program super m d (with_armed at d) s refl refl s.standing holds),
+)
+each_command program super (command.Power choice) m n d b s a k k1 agrees words holds h =
+    power_answers program super agrees choice m n d b s a k k1 holds h
+each_command program super command.Show m n d b s a k k1 agrees words holds h =
+    shows_as program super agrees m n d b s a k k1 s.standing refl holds holds h
+each_command program super command.Last m n d b s a k k1 agrees words holds h =
     lasts_as program super m n d b s a k k1 s.standing refl holds holds h

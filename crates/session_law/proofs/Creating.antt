@@ -29,7 +29,7 @@ use Rattle.session_law.proofs.Words.{empty_words}
 use Rattle.session_law.proofs.Retired.{count_at}
 use Rattle.session_law.proofs.Resting.{resting_at}
 
--- a blank line that isn't stored to stays blank
+-- events that store nothing to line l; a blank line that isn't stored to stays blank
 
 abbrev Avoids : ℕ → List CacheEvent → Type 0
 Avoids l [] = Unit {0}
@@ -49,11 +49,15 @@ blank_fence : (c : Cache) (l : ℕ) → c l ≡ blank_line → apply c Fence l �
 unfolding apply
 blank_fence c l is = ap fence_line is
 
-stays_blank : (es : List CacheEvent) (c : Cache) (l : ℕ) → Avoids l es → c l ≡ blank_line → play c es l ≡ blank_line
+stays_blank : (es : List CacheEvent) (c : Cache) (l : ℕ) → Avoids l es → c l ≡ blank_line
+    → play c es l ≡ blank_line
 stays_blank [] c l avoids is = is
-stays_blank (Store p x ∷ es) c l avoids is = stays_blank es (apply c (Store p x)) l avoids.1 (store_other c p l x avoids.0 ∙ is)
-stays_blank (Flush k ∷ es) c l avoids is = stays_blank es (apply c (Flush k)) l avoids (blank_flush c k l is)
-stays_blank (Fence ∷ es) c l avoids is = stays_blank es (apply c Fence) l avoids (blank_fence c l is)
+stays_blank (Store p x ∷ es) c l avoids is =
+    stays_blank es (apply c (Store p x)) l avoids.1 (store_other c p l x avoids.0 ∙ is)
+stays_blank (Flush k ∷ es) c l avoids is =
+    stays_blank es (apply c (Flush k)) l avoids (blank_flush c k l is)
+stays_blank (Fence ∷ es) c l avoids is =
+    stays_blank es (apply c Fence) l avoids (blank_fence c l is)
 
 abbrev zeros : Words
 zeros w = pos 0
@@ -71,13 +75,30 @@ module _ (program : Program) where
   abbrev new : Cache
   new = play blank events
 
-  -- lines 0 and 1 alone are stored to
+  -- only lines 0 and 1 are stored to
   avoids : (l : ℕ) → 2 ≤ l → Avoids l events
   unfolding sizes_events digest_events
   avoids l far =
       let zero_line : l ≢ 0 = λ e. absurd (omega arith) in
-      let one_line : l ≢ 1 = λ e. absurd (omega arith) in
-      (zero_line, (zero_line, (zero_line, (zero_line, (zero_line, (zero_line, (one_line, (one_line, (one_line, (one_line, tt))))))))))
+      let one_line : l ≢ 1 = λ e. absurd (omega arith) in (
+        zero_line,
+        (
+          zero_line,
+          (
+            zero_line,
+            (
+              zero_line,
+              (
+                zero_line,
+                (
+                  zero_line,
+                  (one_line, (one_line, (one_line, (one_line, tt)))),
+                ),
+              ),
+            ),
+          ),
+        ),
+      )
 
   far_line : (l : ℕ) → 2 ≤ l → new l ≡ blank_line
   far_line l far = stays_blank events blank l (avoids l far) refl
@@ -108,10 +129,16 @@ module _ (program : Program) where
   super_is (suc (suc (suc (suc (suc (suc (suc (suc (suc (suc zero)))))))))) less = refl
   super_is (suc (suc (suc (suc (suc (suc (suc (suc (suc (suc (suc zero))))))))))) less = refl
   super_is (suc (suc (suc (suc (suc (suc (suc (suc (suc (suc (suc (suc zero)))))))))))) less = refl
-  super_is (suc (suc (suc (suc (suc (suc (suc (suc (suc (suc (suc (suc (suc zero))))))))))))) less = refl
-  super_is (suc (suc (suc (suc (suc (suc (suc (suc (suc (suc (suc (suc (suc (suc zero)))))))))))))) less = refl
-  super_is (suc (suc (suc (suc (suc (suc (suc (suc (suc (suc (suc (suc (suc (suc (suc zero))))))))))))))) less = refl
-  super_is (suc (suc (suc (suc (suc (suc (suc (suc (suc (suc (suc (suc (suc (suc (suc (suc k)))))))))))))))) less = absurd (omega arith)
+  super_is (suc (suc (suc (suc (suc (suc (suc (suc (suc (suc (suc (suc (suc zero))))))))))))) less =
+      refl
+  super_is (suc (suc (suc (suc (suc (suc (suc (suc (suc (suc (suc (suc (suc (suc zero))))))))))))))
+      less = refl
+  super_is (suc
+      (suc (suc (suc (suc (suc (suc (suc (suc (suc (suc (suc (suc (suc (suc zero)))))))))))))))
+      less = refl
+  super_is (suc
+      (suc (suc (suc (suc (suc (suc (suc (suc (suc (suc (suc (suc (suc (suc (suc k))))))))))))))))
+      less = absurd (omega arith)
 
   stamp_is : (j : ℕ) → view new (places.at (places.pool_of z) (RecordStamp j)) ≡ pos 0
   stamp_is j = far_word (places.at (places.pool_of z) (RecordStamp j)) (omega arith)
@@ -139,32 +166,46 @@ module _ (program : Program) where
   none : count_in z (view new) ≡ 0
   none =
       count_at z (view new) 0 (far_word 18 (omega arith)) (omega arith)
-      ∙ count_is (places.pool_of z) 0 0 (view new) (omega arith) (λ j less. absurd (omega arith)) (λ j ge less e. not_valid j e)
+      ∙ count_is (places.pool_of z) 0 0 (view new) (omega arith) (λ j less. absurd (omega arith))
+      (λ j ge less e. not_valid j e)
 
   words_are : (w n : ℕ) → words_from zeros w n ≡ replicate n (pos 0)
   words_are w zero = refl
   words_are w (suc n) = ap (λ (xs : List ℤ). pos 0 ∷ xs) (words_are (suc w) n)
 
-  objects_are : (structs : List StructShape) (slot n : ℕ) → objects_from z structs zeros slot n ≡ replicate n None
+  objects_are : (structs : List StructShape) (slot n : ℕ) → objects_from z structs zeros slot n
+      ≡ replicate n None
   objects_are structs slot zero = refl
-  objects_are structs slot (suc n) = ap (λ (xs : List (Option Object)). None ∷ xs) (objects_are structs (suc slot) n)
+  objects_are structs slot (suc n) =
+      ap (λ (xs : List (Option Object)). None ∷ xs) (objects_are structs (suc slot) n)
 
   holds : HoldsPool program zeros (created program)
   holds = record {
     headers = λ slot first last. (0, omega arith, refl);
-    pool = λ i. record { root = words_are 0 z.root_words i; slots = objects_are (shapes_of program.typed).structs 1 z.slots i };
+    pool = λ i. record {
+      root = words_are 0 z.root_words i;
+      slots = objects_are (shapes_of program.typed).structs 1 z.slots i;
+    };
     words = empty_words z.root_words z.slots;
   }
 
 pub created_rests : CreatedLaw
 created_rests program d b all =
     let events : List CacheEvent = creation_events (sizes_of program) program.digest in
-    let played : b.cache ≡ play blank events = all_cache events (blanked (pool_lines (sizes_of program)) d) b all in
-    let before : IsBefore (pool_with program.image (super_words program)) 0 zeros (pos 0) (view (play blank events)) = record { good = good program; last_is = far_word program 16 (omega arith) } in (
+    let played : b.cache ≡ play blank events =
+    all_cache events (blanked (pool_lines (sizes_of program)) d) b all in
+    let before : IsBefore (pool_with program.image (super_words program)) 0 zeros (pos 0)
+    (view (play blank events)) = record {
+      good = good program;
+      last_is = far_word program 16 (omega arith);
+    } in (
       refl,
-      resting_at program (super_words program) b (created program) zeros (all_on events (blanked (pool_lines (sizes_of program)) d) b all)
+      resting_at program (super_words program) b (created program) zeros
+          (all_on events (blanked (pool_lines (sizes_of program)) d) b all)
           (subst IsAtRest (sym played) (rest program))
-          (subst (λ (c : Cache). IsBefore (pool_with program.image (super_words program)) 0 zeros (pos 0) (view c)) (sym played) before)
-          (subst (λ (c : Cache). count_in (sizes_of program) (view c) ≡ 0) (sym played) (none program))
+          (subst (λ (c : Cache). IsBefore (pool_with program.image (super_words program)) 0 zeros
+          (pos 0) (view c)) (sym played) before)
+          (subst (λ (c : Cache). count_in (sizes_of program) (view c) ≡ 0) (sym played)
+          (none program))
           (holds program),
     )

@@ -1,6 +1,7 @@
 -- Which transactions a session has done.
 use Rattle.std.proofs.Common.{◌≡◌, ◌≢◌, inl, inr, ⊎_elim, ℕ, suc, ◌+◌, ◌==◌, Bool, true, false, ◌&&◌, if◌then◌else◌, List, [], ◌∷◌, ◌++◌, length, Option, Some, None, ℤ, pos, int_eq, refl, sym, ap, ◌∙◌, subst, arith, append_assoc, append-nil, length-append}
 use Rattle.std.proofs.lemmas.Bool.Decides.{Decides-int_eq}
+use Rattle.pool_layout.specs.declared.places.TheConstants.{DONE, MARK, SEAL}
 use Rattle.pool_layout.specs.Image.{Words}
 use Rattle.pool_map.specs.PoolMap.{PoolMap}
 use Rattle.c_meaning.specs.Transaction.{Outcome, Done, Trap}
@@ -9,11 +10,11 @@ use Rattle.cnvm_script.specs.declared.command.Command.TheVariants as command
 use Rattle.cnvm_session.specs.declared.answer.Answer.{Answer}
 use Rattle.cnvm_session.specs.declared.answer.Answer.TheVariants as answer
 use Rattle.cnvm_session.specs.declared.program.Program.{Program}
-use Rattle.cnvm_session.specs.Commands.{number_of}
-use Rattle.session_law.specs.Source.{Counts, means, parameters}
-use Rattle.session_law.specs.State.{Pending, Standing, Ready, Down, Unusable, State, standing_as}
-use Rattle.session_law.specs.Answers.{Refused, IsDoneWith, Runs, CallsWith, CallsTo, CallsNamed, Calls, Tells, Shows, Lasts, FindsOf, Finds, Rests, Redoes, Recovers, Powers, Answers}
-use Rattle.session_law.specs.History.{after, after_one, waiting_of, call_to, call_in, called_by, is_retired, recovered_by, done_by, IsPart, HasDone}
+use Rattle.cnvm_session.specs.Commands.{call_number}
+use Rattle.session_law.specs.Source.{means, source_parameters}
+use Rattle.session_law.specs.State.{Pending, Standing, Ready, Down, Unusable, SourceState, standing_as}
+use Rattle.session_law.specs.Answers.{Refused, IsDoneWith, Runs, CallsWith, CallsTo, CallsNamed, Calls, Tells, Shows, Lasts, FindsOf, FindsOwed, Rests, Redoes, Recovers, Powers, Answers}
+use Rattle.session_law.specs.History.{pool_after, after_one, waiting_of, call_to, call_in, called_by, is_retired, recovered_by, done_by, IsPart, HasDone}
 use Rattle.session_law.proofs.Coming.{comes_done}
 
 -- parts of lists
@@ -28,34 +29,46 @@ part_same (x ∷ xs) = inr (xs, refl, part_same xs)
 
 pub part_append : (xs ys us vs : List Pending) → IsPart xs ys → IsPart us vs →
     IsPart (xs ++ us) (ys ++ vs)
-part_append xs [] us vs none second = subst (λ (zs : List Pending). IsPart (zs ++ us) vs) (sym none) second
+part_append xs [] us vs none second =
+    subst (λ (zs : List Pending). IsPart (zs ++ us) vs) (sym none) second
 part_append xs (y ∷ ys) us vs (inl rest) second = inl (part_append xs ys us vs rest second)
-part_append xs (y ∷ ys) us vs (inr kept) second = inr (kept.0 ++ us, ap (λ (zs : List Pending). zs ++ us) kept.1, part_append kept.0 ys us vs kept.2 second)
+part_append xs (y ∷ ys) us vs (inr kept) second =
+    inr (
+      kept.0 ++ us,
+      ap (λ (zs : List Pending). zs ++ us) kept.1,
+      part_append kept.0 ys us vs kept.2 second,
+    )
 
 pub part_trans : (xs ys zs : List Pending) → IsPart xs ys → IsPart ys zs → IsPart xs zs
 part_trans xs ys [] first none = subst (IsPart xs) none first
 part_trans xs ys (z ∷ zs) first (inl rest) = inl (part_trans xs ys zs first rest)
 part_trans xs ys (z ∷ zs) first (inr kept) = ⊎_elim
     (λ (rest : IsPart xs kept.0). inl (part_trans xs kept.0 zs rest kept.2))
-    (λ (both : (us : List Pending) × (xs ≡ z ∷ us) × IsPart us kept.0). inr (both.0, both.1, part_trans both.0 kept.0 zs both.2 kept.2))
+    (λ (both : (us : List Pending) × (xs ≡ z ∷ us) × IsPart us kept.0).
+    inr (both.0, both.1, part_trans both.0 kept.0 zs both.2 kept.2))
     (subst (IsPart xs) kept.1 first)
 
 part_left : (xs ys : List Pending) → IsPart xs (xs ++ ys)
-part_left xs ys = subst (λ (zs : List Pending). IsPart zs (xs ++ ys)) (append-nil xs) (part_append xs xs [] ys (part_same xs) (part_none ys))
+part_left xs ys = subst (λ (zs : List Pending). IsPart zs (xs ++ ys)) (append-nil xs)
+    (part_append xs xs [] ys (part_same xs) (part_none ys))
 
 module _ (program : Program) where
-  pub after_append : (p q : PoolMap) (xs ys : List Pending) → after program p xs ≡ Some q →
-      after program p (xs ++ ys) ≡ after program q ys
-  after_append p q [] ys is = let same : p ≡ q = cc in ap (λ (x : PoolMap). after program x ys) same
-  after_append p q (x ∷ xs) ys is = go (means program p x.tx x.args) (λ r e. after_append r q xs ys e) is
+  pub after_append : (p q : PoolMap) (xs ys : List Pending) → pool_after program p xs ≡ Some q →
+      pool_after program p (xs ++ ys) ≡ pool_after program q ys
+  after_append p q [] ys is = let same : p ≡ q = cc in
+      ap (λ (x : PoolMap). pool_after program x ys) same
+  after_append p q (x ∷ xs) ys is =
+      go (means program p x.tx x.args) (λ r e. after_append r q xs ys e) is
     where
-      go : (o : Outcome) → ((r : PoolMap) → after program r xs ≡ Some q → after program r (xs ++ ys) ≡ after program q ys)
-          → after_one o (λ r. after program r xs) ≡ Some q → after_one o (λ r. after program r (xs ++ ys)) ≡ after program q ys
+      go : (o : Outcome) → ((r : PoolMap) → pool_after program r xs ≡ Some q
+          → pool_after program r (xs ++ ys) ≡ pool_after program q ys)
+          → after_one o (λ r. pool_after program r xs) ≡ Some q
+          → after_one o (λ r. pool_after program r (xs ++ ys)) ≡ pool_after program q ys
       go (Done r v) next e = next r e
       go (Trap kind) next e = absurd cc
 
-  -- one behind the other
-  pub both : (s u t : State) (D F xs ys : List Pending) → HasDone program s u D xs →
+  -- the transactions of two stretches, one after the other
+  pub both : (s u t : SourceState) (D F xs ys : List Pending) → HasDone program s u D xs →
       HasDone program u t F ys → HasDone program s t (D ++ F) (xs ++ ys)
   both s u t D F xs ys first second =
       let wu : List Pending = waiting_of u.standing in
@@ -63,68 +76,86 @@ module _ (program : Program) where
       let long : length (D ++ F) ≡ length D + length F = length-append D F in
       let one = first.count in
       let two = second.count in
-      let middle : IsPart (D ++ (F ++ wt)) (D ++ (wu ++ ys)) = part_append D D (F ++ wt) (wu ++ ys) (part_same D) second.part in
-      let outer : IsPart ((D ++ wu) ++ ys) ((waiting_of s.standing ++ xs) ++ ys) = part_append (D ++ wu) (waiting_of s.standing ++ xs) ys ys first.part (part_same ys) in
+      let middle : IsPart (D ++ (F ++ wt)) (D ++ (wu ++ ys)) =
+      part_append D D (F ++ wt) (wu ++ ys) (part_same D) second.part in
+      let outer : IsPart ((D ++ wu) ++ ys) ((waiting_of s.standing ++ xs) ++ ys) =
+      part_append (D ++ wu) (waiting_of s.standing ++ xs) ys ys first.part (part_same ys) in
       record {
         pool = after_append s.pool u.pool D F first.pool ∙ second.pool;
         count = omega arith;
         part =
-            subst (λ (zs : List Pending). IsPart zs (waiting_of s.standing ++ (xs ++ ys))) (sym (append_assoc D F wt))
+            subst (λ (zs : List Pending). IsPart zs (waiting_of s.standing ++ (xs ++ ys)))
+            (sym (append_assoc D F wt))
             (subst (IsPart (D ++ (F ++ wt))) (append_assoc (waiting_of s.standing) xs ys)
-            (part_trans (D ++ (F ++ wt)) (D ++ (wu ++ ys)) ((waiting_of s.standing ++ xs) ++ ys) middle
-            (subst (λ (zs : List Pending). IsPart zs ((waiting_of s.standing ++ xs) ++ ys)) (append_assoc D wu ys) outer)));
+            (part_trans (D ++ (F ++ wt)) (D ++ (wu ++ ys)) ((waiting_of s.standing ++ xs) ++ ys)
+            middle
+            (subst (λ (zs : List Pending). IsPart zs ((waiting_of s.standing ++ xs) ++ ys))
+            (append_assoc D wu ys) outer)));
       }
 
-  -- nothing is done, and what is owed is owed still, or isn't any more
-  pub same_done : (s t : State) (calls : List Pending) → t ≡ s → HasDone program s t [] calls
+  -- nothing is done, and what was owed is still owed, or no longer is
+  pub same_done : (s t : SourceState) (calls : List Pending) → t ≡ s → HasDone program s t [] calls
   same_done s t calls is =
-      subst (λ (x : State). HasDone program s x [] calls) (sym is)
+      subst (λ (x : SourceState). HasDone program s x [] calls) (sym is)
       (record { pool = refl; count = omega arith; part = part_left (waiting_of s.standing) calls })
 
-  only_standing : (s t : State) (st : Standing) (calls : List Pending) → t ≡ standing_as st s →
+  only_standing : (s t : SourceState) (st : Standing) (calls : List Pending)
+      → t ≡ standing_as st s →
       IsPart (waiting_of st) (waiting_of s.standing ++ calls) → HasDone program s t [] calls
   only_standing s t st calls is part =
-      subst (λ (x : State). HasDone program s x [] calls) (sym is) (record { pool = refl; count = omega arith; part = part })
+      subst (λ (x : SourceState). HasDone program s x [] calls) (sym is)
+      (record { pool = refl; count = omega arith; part = part })
 
   -- one transaction is done
   one_done :
-      (counts : Counts) (s t : State) (tx : ℕ) (args : List ℤ) (value : ℤ) (st : Standing) (calls : List Pending) →
-      waiting_of st ≡ [] → IsDoneWith program counts s tx args value st t
+      (s t : SourceState) (tx : ℕ) (args : List ℤ) (value : ℤ) (logged : ℕ) (st : Standing)
+      (calls : List Pending) →
+      waiting_of st ≡ [] → IsDoneWith program s tx args value logged st t
       → IsPart (record { tx = tx; args = args } ∷ []) (waiting_of s.standing ++ calls) →
       HasDone program s t (record { tx = tx; args = args } ∷ []) calls
-  one_done counts s t tx args value st calls none is part =
-      subst (λ (x : State). HasDone program s x (record { tx = tx; args = args } ∷ []) calls) (sym is.2)
+  one_done s t tx args value logged st calls none is part =
+      subst (λ (x : SourceState). HasDone program s x (record { tx = tx; args = args } ∷ []) calls)
+      (sym is.2)
       (record {
         pool =
-            ap (λ (o : Outcome). after_one o (λ (p : PoolMap). Some p)) (comes_done program counts s.pool tx args is.0 value is.1).1;
+            ap (λ (o : Outcome). after_one o (λ (p : PoolMap). Some p))
+            (comes_done program s.pool tx args logged is.0 value is.1.is).1;
         count = omega arith;
-        part = subst (λ (ws : List Pending). IsPart (record { tx = tx; args = args } ∷ ws) (waiting_of s.standing ++ calls)) (sym none) part;
+        part = subst (λ (ws : List Pending).
+            IsPart (record { tx = tx; args = args } ∷ ws) (waiting_of s.standing ++ calls))
+            (sym none) part;
       })
 
-  -- a refusal
-  refused_done : (s t : State) (why a : Answer) (calls : List Pending) → called_by calls why ≡ [] →
+  -- a refused command does nothing
+  refused_done : (s t : SourceState) (why a : Answer) (calls : List Pending)
+      → called_by calls why ≡ [] →
       Refused why s a t → HasDone program s t (called_by calls a) calls
   refused_done s t why a calls none is =
       subst (λ (x : Answer). HasDone program s t (called_by calls x) calls) (sym is.0)
-      (subst (λ (ds : List Pending). HasDone program s t ds calls) (sym none) (same_done s t calls is.1))
+      (subst (λ (ds : List Pending). HasDone program s t ds calls) (sym none)
+      (same_done s t calls is.1))
 
-  -- a call on a session that was ready
-  module _ (counts : Counts) (s t : State) (image : Words) (args : List ℤ) where
+  -- a call of a session that was ready
+  module _ (s t : SourceState) (image : Words) (args : List ℤ) where
     abbrev called : ℕ → List Pending
     called tx = record { tx = tx; args = args } ∷ []
 
     right : (tx : ℕ) → IsPart (called tx) (waiting_of s.standing ++ called tx)
-    right tx = part_append [] (waiting_of s.standing) (called tx) (called tx) (part_none (waiting_of s.standing)) (part_same (called tx))
+    right tx = part_append [] (waiting_of s.standing) (called tx) (called tx)
+        (part_none (waiting_of s.standing)) (part_same (called tx))
 
     cut : (tx : ℕ) → t ≡ standing_as (Down (Some (record { tx = tx; args = args }))) s →
         HasDone program s t [] (called tx)
-    cut tx is = only_standing s t (Down (Some (record { tx = tx; args = args }))) (called tx) is (right tx)
+    cut tx is = only_standing s t (Down (Some (record { tx = tx; args = args }))) (called tx) is
+        (right tx)
 
-    runs_done : (tx : ℕ) (a : Answer) → Runs program counts s image tx args a t →
+    runs_done : (tx : ℕ) (a : Answer) → Runs program s image tx args a t →
         HasDone program s t (called_by (called tx) a) (called tx)
     runs_done tx (answer.Done value logged) is =
-        one_done counts s t tx args value Ready (called tx) refl is.1 (right tx)
-    runs_done tx (answer.Trap kind) is = only_standing s t (Unusable kind) (called tx) is.1 (part_none (waiting_of s.standing ++ called tx))
+        one_done s t tx args value logged Ready (called tx) refl is (right tx)
+    runs_done tx (answer.Trap kind) is =
+        only_standing s t (Unusable kind) (called tx) is.1
+        (part_none (waiting_of s.standing ++ called tx))
     runs_done tx (answer.Stopped p) is = cut tx is
     runs_done tx answer.DeviceFault is = cut tx is
     runs_done tx answer.NoMemory is = cut tx is
@@ -142,42 +173,46 @@ module _ (program : Program) where
     runs_done tx (answer.RefusedPick line) is = absurd is
 
     with_done : (tx : ℕ) (same : Bool) (a : Answer) →
-        CallsWith same program counts s image tx args a t →
+        CallsWith same program s image tx args a t →
         HasDone program s t (called_by (called tx) a) (called tx)
     with_done tx true a is = runs_done tx a is
     with_done tx false a is = refused_done s t answer.RefusedArity a (called tx) refl is
 
     to_done : (tx : ℕ) (count : Option ℕ) (a : Answer) →
-        CallsTo count program counts s image tx args a t →
+        CallsTo count program s image tx args a t →
         HasDone program s t (called_by (called tx) a) (called tx)
     to_done tx None a is = refused_done s t answer.RefusedUnknown a (called tx) refl is
     to_done tx (Some count) a is = with_done tx (count == length args) a is
 
     named_done : (number : Option ℕ) (a : Answer) →
-        CallsNamed number program counts s image args a t →
+        CallsNamed number program s image args a t →
         HasDone program s t (called_by (call_to number args) a) (call_to number args)
     named_done None a is = refused_done s t answer.RefusedUnknown a [] refl is
-    named_done (Some tx) a is = to_done tx (parameters program tx) a is
+    named_done (Some tx) a is = to_done tx (source_parameters program tx) a is
 
     calls_done : (st : Standing) (name : List ℕ) (a : Answer) →
-        Calls st program counts s image name args a t →
-        HasDone program s t (called_by (call_to (number_of program name) args) a) (call_to (number_of program name) args)
-    calls_done Ready name a is = named_done (number_of program name) a is
+        Calls st program s image name args a t →
+        HasDone program s t (called_by (call_to (call_number program name) args) a)
+        (call_to (call_number program name) args)
+    calls_done Ready name a is = named_done (call_number program name) a is
     calls_done (Down owed) name a is =
-        refused_done s t answer.RefusedDown a (call_to (number_of program name) args) refl is
+        refused_done s t answer.RefusedDown a (call_to (call_number program name) args) refl is
     calls_done (Unusable kind) name a is =
-        refused_done s t (answer.RefusedUnusable kind) a (call_to (number_of program name) args) refl is
+        refused_done s t (answer.RefusedUnusable kind) a (call_to (call_number program name) args)
+        refl is
 
-  -- a power cut
+  -- what a power cut leaves owed is a part of what was owed
 
-  part_at : (s : State) (st : Standing) (xs : List Pending) → s.standing ≡ st → IsPart xs (waiting_of st ++ []) → IsPart xs (waiting_of s.standing ++ [])
+  part_at : (s : SourceState) (st : Standing) (xs : List Pending) → s.standing ≡ st
+      → IsPart xs (waiting_of st ++ []) → IsPart xs (waiting_of s.standing ++ [])
   part_at s st xs is part = subst (λ (x : Standing). IsPart xs (waiting_of x ++ [])) (sym is) part
 
-  -- what the image shows as done
-  abbrev retired_by : State → Words → List Pending
+  -- the owed transaction, if the image shows that it is done
+  abbrev retired_by : SourceState → Words → List Pending
   retired_by s image = if is_retired s image then waiting_of s.standing else []
 
-  retired_none : (s : State) (image : Words) → waiting_of s.standing ≡ [] → retired_by s image ≡ []
+  retired_none : (s : SourceState) (image : Words) → waiting_of s.standing ≡ []
+      → retired_by s image ≡ []
   retired_none s image none = by_test (is_retired s image)
     where
       by_test : (b : Bool) → (if b then waiting_of s.standing else []) ≡ []
@@ -195,68 +230,81 @@ module _ (program : Program) where
   and_false true = refl
   and_false false = refl
 
-  pub fresh_shows : (s : State) (image : Words) → image 47 ≢ pos (suc s.done) →
+  pub fresh_shows : (s : SourceState) (image : Words) → image SEAL ≢ pos (suc s.done) →
       is_retired s image ≡ false
   fresh_shows s image fresh =
-      ap (λ (b : Bool). b && int_eq (image 17) (pos (suc s.done))) (not_eq (image 47) (pos (suc s.done)) fresh)
+      ap (λ (b : Bool). b && int_eq (image DONE) (pos (suc s.done)))
+      (not_eq (image SEAL) (pos (suc s.done)) fresh)
 
-  pub retired_shows : (s : State) (image : Words) → image 47 ≡ pos (suc s.done) →
-      image 17 ≡ pos (suc s.done) → is_retired s image ≡ true
+  pub retired_shows : (s : SourceState) (image : Words) → image SEAL ≡ pos (suc s.done) →
+      image DONE ≡ pos (suc s.done) → is_retired s image ≡ true
   retired_shows s image seal done =
-      ap (λ (b : Bool). b && int_eq (image 17) (pos (suc s.done))) ((Decides-int_eq (image 47) (pos (suc s.done))).1 seal)
-      ∙ (Decides-int_eq (image 17) (pos (suc s.done))).1 done
+      ap (λ (b : Bool). b && int_eq (image DONE) (pos (suc s.done)))
+      ((Decides-int_eq (image SEAL) (pos (suc s.done))).1 seal)
+      ∙ (Decides-int_eq (image DONE) (pos (suc s.done))).1 done
 
-  pub sealed_shows : (s : State) (image : Words) → image 17 ≡ pos s.done →
+  pub sealed_shows : (s : SourceState) (image : Words) → image DONE ≡ pos s.done →
       is_retired s image ≡ false
   sealed_shows s image done =
-      ap (λ (b : Bool). int_eq (image 47) (pos (suc s.done)) && b) (not_eq (image 17) (pos (suc s.done)) (λ e. apart s.done (sym done ∙ e)))
-      ∙ and_false (int_eq (image 47) (pos (suc s.done)))
+      ap (λ (b : Bool). int_eq (image SEAL) (pos (suc s.done)) && b)
+      (not_eq (image DONE) (pos (suc s.done)) (λ e. apart s.done (sym done ∙ e)))
+      ∙ and_false (int_eq (image SEAL) (pos (suc s.done)))
     where
       apart : (n : ℕ) → pos n ≡ pos (suc n) → ⊥
       apart n e = let same : n ≡ suc n = cc in omega (arith, same)
 
-  -- what a recovery ran to a value
+  -- the owed transaction, if the recovery ran it to a value
   abbrev redone_by : Standing → Answer → List Pending
   redone_by st (answer.RecoveredRedone value logged) = waiting_of st
   redone_by st a = []
 
-  by_retired : (s : State) (image : Words) (b : Bool) (found : State) → is_retired s image ≡ b →
+  by_retired : (s : SourceState) (image : Words) (b : Bool) (found : SourceState)
+      → is_retired s image ≡ b →
       HasDone program s found (if b then waiting_of s.standing else []) [] →
       HasDone program s found (retired_by s image) []
   by_retired s image b found is h =
-      subst (λ (x : Bool). HasDone program s found (if x then waiting_of s.standing else []) []) (sym is) h
+      subst (λ (x : Bool). HasDone program s found (if x then waiting_of s.standing else []) [])
+      (sym is) h
 
-  -- what is found
-  module _ (counts : Counts) (s found : State) (image : Words) where
+  -- the state that is found after a power cut
+  module _ (s found : SourceState) (image : Words) where
     abbrev Found : Type 0
     Found = HasDone program s found (retired_by s image) []
 
     finds_none : waiting_of s.standing ≡ [] → found ≡ standing_as (Down None) s → Found
     finds_none none is =
-        subst (λ (ds : List Pending). HasDone program s found ds []) (sym (retired_none s image none)) (only_standing s found (Down None) [] is (part_none (waiting_of s.standing ++ [])))
+        subst (λ (ds : List Pending). HasDone program s found ds [])
+        (sym (retired_none s image none))
+        (only_standing s found (Down None) [] is (part_none (waiting_of s.standing ++ [])))
 
     finds_of : (owed : Pending) → s.standing ≡ Down (Some owed) →
-        FindsOf (Some owed) program counts s image found → Found
+        FindsOf (Some owed) program s image found → Found
     finds_of owed is (inl fresh) =
-        by_retired s image false found (fresh_shows s image fresh.0) (only_standing s found (Down None) [] fresh.1 (part_none (waiting_of s.standing ++ [])))
+        by_retired s image false found (fresh_shows s image fresh.0)
+        (only_standing s found (Down None) [] fresh.1 (part_none (waiting_of s.standing ++ [])))
     finds_of owed is (inr (inl retired)) =
         let done = retired.2 in
         let waiting : waiting_of s.standing ≡ owed ∷ [] = ap waiting_of is in
         by_retired s image true found (retired_shows s image retired.0 retired.1)
         (subst (λ (ds : List Pending). HasDone program s found ds []) (sym waiting)
-        (one_done counts s found owed.tx owed.args done.0 (Down None) [] refl done.1 (part_at s (Down (Some owed)) (owed ∷ []) is (part_same (owed ∷ [])))))
+        (one_done s found owed.tx owed.args done.0 done.1 (Down None) [] refl done.2
+        (part_at s (Down (Some owed)) (owed ∷ []) is (part_same (owed ∷ [])))))
     finds_of owed is (inr (inr sealed)) =
-        by_retired s image false found (sealed_shows s image sealed.1) (only_standing s found (Down (Some owed)) [] sealed.2 (part_at s (Down (Some owed)) (owed ∷ []) is (part_same (owed ∷ []))))
+        by_retired s image false found (sealed_shows s image sealed.1)
+        (only_standing s found (Down (Some owed)) [] sealed.2
+        (part_at s (Down (Some owed)) (owed ∷ []) is (part_same (owed ∷ []))))
 
-    finds_done : (st : Standing) → s.standing ≡ st → Finds st program counts s image found → Found
+    finds_done : (st : Standing) → s.standing ≡ st → FindsOwed st program s image found
+        → Found
     finds_done Ready is finds = finds_none (ap waiting_of is) finds
     finds_done (Down None) is finds = finds_none (ap waiting_of is) finds
     finds_done (Down (Some owed)) is finds = finds_of owed is finds
     finds_done (Unusable kind) is finds = absurd finds
 
-  rests_done : (s t : State) (image : Words) (a : Answer) → Rests program s image a t →
+  rests_done : (s t : SourceState) (image : Words) (a : Answer) → Rests program s image a t →
       HasDone program s t (redone_by (Down None) a) []
-  rests_done s t image answer.RecoveredNone is = only_standing s t Ready [] is (part_none (waiting_of s.standing ++ []))
+  rests_done s t image answer.RecoveredNone is =
+      only_standing s t Ready [] is (part_none (waiting_of s.standing ++ []))
   rests_done s t image answer.RefusedNumbers is = same_done s t [] is.1
   rests_done s t image (answer.Stopped p) is = same_done s t [] is.1
   rests_done s t image answer.DeviceFault is = same_done s t [] is
@@ -274,92 +322,110 @@ module _ (program : Program) where
   rests_done s t image answer.RefusedArity is = absurd is
   rests_done s t image (answer.RefusedPick line) is = absurd is
 
-  redoes_done : (counts : Counts) (owed : Pending) (s t : State) (image : Words) (a : Answer) →
-      s.standing ≡ Down (Some owed) → Redoes program counts owed s image a t →
+  redoes_done : (owed : Pending) (s t : SourceState) (image : Words) (a : Answer)
+      →
+      s.standing ≡ Down (Some owed) → Redoes program owed s image a t →
       HasDone program s t (redone_by (Down (Some owed)) a) []
-  redoes_done counts owed s t image (answer.RecoveredRedone value logged) at is =
-      one_done counts s t owed.tx owed.args value Ready [] refl is.1 (part_at s (Down (Some owed)) (owed ∷ []) at (part_same (owed ∷ [])))
-  redoes_done counts owed s t image (answer.RecoveredTrap kind) at is = only_standing s t (Unusable kind) [] is.1 (part_none (waiting_of s.standing ++ []))
-  redoes_done counts owed s t image answer.RefusedNumbers at is = same_done s t [] is.1
-  redoes_done counts owed s t image (answer.Stopped p) at is = same_done s t [] is.1
-  redoes_done counts owed s t image answer.DeviceFault at is = same_done s t [] is
-  redoes_done counts owed s t image answer.NoMemory at is = same_done s t [] is
-  redoes_done counts owed s t image answer.Silent at is = absurd is
-  redoes_done counts owed s t image (answer.Done value logged) at is = absurd is
-  redoes_done counts owed s t image (answer.Trap kind) at is = absurd is
-  redoes_done counts owed s t image answer.RecoveredNone at is = absurd is
-  redoes_done counts owed s t image (answer.Shown text) at is = absurd is
-  redoes_done counts owed s t image (answer.Last n value) at is = absurd is
-  redoes_done counts owed s t image answer.RefusedDown at is = absurd is
-  redoes_done counts owed s t image (answer.RefusedUnusable kind) at is = absurd is
-  redoes_done counts owed s t image answer.RefusedUnknown at is = absurd is
-  redoes_done counts owed s t image answer.RefusedArity at is = absurd is
-  redoes_done counts owed s t image (answer.RefusedPick line) at is = absurd is
+  redoes_done owed s t image (answer.RecoveredRedone value logged) at is =
+      one_done s t owed.tx owed.args value logged Ready [] refl is
+      (part_at s (Down (Some owed)) (owed ∷ []) at (part_same (owed ∷ [])))
+  redoes_done owed s t image (answer.RecoveredTrap kind) at is =
+      only_standing s t (Unusable kind) [] is.1 (part_none (waiting_of s.standing ++ []))
+  redoes_done owed s t image answer.RefusedNumbers at is = same_done s t [] is.1
+  redoes_done owed s t image (answer.Stopped p) at is = same_done s t [] is.1
+  redoes_done owed s t image answer.DeviceFault at is = same_done s t [] is
+  redoes_done owed s t image answer.NoMemory at is = same_done s t [] is
+  redoes_done owed s t image answer.Silent at is = absurd is
+  redoes_done owed s t image (answer.Done value logged) at is = absurd is
+  redoes_done owed s t image (answer.Trap kind) at is = absurd is
+  redoes_done owed s t image answer.RecoveredNone at is = absurd is
+  redoes_done owed s t image (answer.Shown text) at is = absurd is
+  redoes_done owed s t image (answer.Last n value) at is = absurd is
+  redoes_done owed s t image answer.RefusedDown at is = absurd is
+  redoes_done owed s t image (answer.RefusedUnusable kind) at is = absurd is
+  redoes_done owed s t image answer.RefusedUnknown at is = absurd is
+  redoes_done owed s t image answer.RefusedArity at is = absurd is
+  redoes_done owed s t image (answer.RefusedPick line) at is = absurd is
 
-  recovers_done : (counts : Counts) (s t : State) (image : Words) (a : Answer) (st : Standing) →
-      s.standing ≡ st → Recovers st program counts s image a t →
+  recovers_done : (s t : SourceState) (image : Words) (a : Answer) (st : Standing)
+      →
+      s.standing ≡ st → Recovers st program s image a t →
       HasDone program s t (redone_by st a) []
-  recovers_done counts s t image a Ready at is = absurd is
-  recovers_done counts s t image a (Down None) at is = rests_done s t image a is
-  recovers_done counts s t image a (Down (Some owed)) at is = redoes_done counts owed s t image a at is
-  recovers_done counts s t image a (Unusable kind) at is = absurd is
+  recovers_done s t image a Ready at is = absurd is
+  recovers_done s t image a (Down None) at is = rests_done s t image a is
+  recovers_done s t image a (Down (Some owed)) at is =
+      redoes_done owed s t image a at is
+  recovers_done s t image a (Unusable kind) at is = absurd is
 
-  -- the two together are what the cut has done
-  abbrev Parts : State → State → Words → Answer → Type 0
+  -- together the two lists are what the cut has done
+  abbrev Parts : SourceState → SourceState → Words → Answer → Type 0
   Parts s found image a = retired_by s image ++ redone_by found.standing a ≡ recovered_by s image a
 
   redone_none :
-      (counts : Counts) (owed : Option Pending) (found t : State) (image : Words) (value : ℤ) (logged : ℕ) →
+      (owed : Option Pending) (found t : SourceState) (image : Words) (value : ℤ)
+      (logged : ℕ) →
       found.standing ≡ Down None →
-      Recovers found.standing program counts found image (answer.RecoveredRedone value logged) t → ⊥
-  redone_none counts owed found t image value logged is recovers =
-      subst (λ (st : Standing). Recovers st program counts found image (answer.RecoveredRedone value logged) t) is recovers
+      Recovers found.standing program found image (answer.RecoveredRedone value logged) t → ⊥
+  redone_none owed found t image value logged is recovers =
+      subst (λ (st : Standing). Recovers st program found image
+      (answer.RecoveredRedone value logged) t) is recovers
 
-  down_none : (found s : State) → found ≡ standing_as (Down None) s → found.standing ≡ Down None
-  down_none found s is = ap (λ (x : State). x.standing) is
+  down_none : (found s : SourceState) → found ≡ standing_as (Down None) s
+      → found.standing ≡ Down None
+  down_none found s is = ap (λ (x : SourceState). x.standing) is
 
   redone_parts :
-      (counts : Counts) (s found t : State) (image : Words) (value : ℤ) (logged : ℕ) (st : Standing) →
-      s.standing ≡ st → Finds st program counts s image found
-      → Recovers found.standing program counts found image (answer.RecoveredRedone value logged) t →
+      (s found t : SourceState) (image : Words) (value : ℤ) (logged : ℕ)
+      (st : Standing) →
+      s.standing ≡ st → FindsOwed st program s image found
+      → Recovers found.standing program found image (answer.RecoveredRedone value logged) t →
       Parts s found image (answer.RecoveredRedone value logged)
-  redone_parts counts s found t image value logged Ready is finds recovers =
-      absurd (redone_none counts None found t image value logged (down_none found s finds) recovers)
-  redone_parts counts s found t image value logged (Down None) is finds recovers =
-      absurd (redone_none counts None found t image value logged (down_none found s finds) recovers)
-  redone_parts counts s found t image value logged (Down (Some owed)) is (inl fresh) recovers =
-      absurd (redone_none counts None found t image value logged (down_none found s fresh.1) recovers)
-  redone_parts counts s found t image value logged (Down (Some owed)) is (inr (inl retired)) recovers =
-      absurd (redone_none counts None found t image value logged (ap (λ (x : State). x.standing) retired.2.1.2) recovers)
-  redone_parts counts s found t image value logged (Down (Some owed)) is (inr (inr sealed)) recovers =
-      ap (λ (b : Bool). (if b then waiting_of s.standing else []) ++ waiting_of found.standing) (sealed_shows s image sealed.1)
-      ∙ ap waiting_of (ap (λ (x : State). x.standing) sealed.2 ∙ sym is)
-  redone_parts counts s found t image value logged (Unusable kind) is finds recovers = absurd finds
+  redone_parts s found t image value logged Ready is finds recovers =
+      absurd (redone_none None found t image value logged (down_none found s finds) recovers)
+  redone_parts s found t image value logged (Down None) is finds recovers =
+      absurd (redone_none None found t image value logged (down_none found s finds) recovers)
+  redone_parts s found t image value logged (Down (Some owed)) is (inl fresh) recovers =
+      absurd (redone_none None found t image value logged
+      (down_none found s fresh.1) recovers)
+  redone_parts s found t image value logged (Down (Some owed)) is (inr (inl retired))
+      recovers =
+      absurd (redone_none None found t image value logged
+      (ap (λ (x : SourceState). x.standing) retired.2.2.2) recovers)
+  redone_parts s found t image value logged (Down (Some owed)) is (inr (inr sealed))
+      recovers =
+      ap (λ (b : Bool). (if b then waiting_of s.standing else []) ++ waiting_of found.standing)
+      (sealed_shows s image sealed.1)
+      ∙ ap waiting_of (ap (λ (x : SourceState). x.standing) sealed.2 ∙ sym is)
+  redone_parts s found t image value logged (Unusable kind) is finds recovers = absurd finds
 
   -- where the recovery ran nothing to a value
-  module _ (counts : Counts) (s t : State) (image : Words) where
+  module _ (s t : SourceState) (image : Words) where
     abbrev Back : Answer → Type 0
     Back a =
-        (image 19 ≡ pos 0)
-        × ((found : State) × Finds s.standing program counts s image found × Recovers found.standing program counts found image a t)
+        (image MARK ≡ pos 0)
+        × ((found : SourceState) × FindsOwed s.standing program s image found
+        × Recovers found.standing program found image a t)
 
     back_with : (a : Answer) (is : Back a) → Parts s is.1.0 image a →
         HasDone program s t (recovered_by s image a) []
     back_with a is parts =
-        let found : State = is.1.0 in
+        let found : SourceState = is.1.0 in
         subst (λ (ds : List Pending). HasDone program s t ds []) parts
-        (both s found t (retired_by s image) (redone_by found.standing a) [] [] (finds_done counts s found image s.standing refl is.1.1) (recovers_done counts found t image a found.standing refl is.1.2))
+        (both s found t (retired_by s image) (redone_by found.standing a) [] []
+        (finds_done s found image s.standing refl is.1.1)
+        (recovers_done found t image a found.standing refl is.1.2))
 
     none : retired_by s image ++ [] ≡ retired_by s image
     none = append-nil (retired_by s image)
 
-    pub powers_done : (a : Answer) → Powers program counts s image a t →
+    pub powers_done : (a : Answer) → Powers program s image a t →
         HasDone program s t (recovered_by s image a) []
     powers_done (answer.RefusedPick line) is = same_done s t [] is
     powers_done (answer.RefusedUnusable kind) is =
         only_standing s t (Unusable kind) [] is.2 (part_none (waiting_of s.standing ++ []))
     powers_done (answer.RecoveredRedone value logged) is =
-        back_with (answer.RecoveredRedone value logged) is (redone_parts counts s is.1.0 t image value logged s.standing refl is.1.1 is.1.2)
+        back_with (answer.RecoveredRedone value logged) is
+        (redone_parts s is.1.0 t image value logged s.standing refl is.1.1 is.1.2)
     powers_done answer.Silent is = back_with answer.Silent is none
     powers_done (answer.Done value logged) is = back_with (answer.Done value logged) is none
     powers_done (answer.Trap kind) is = back_with (answer.Trap kind) is none
@@ -375,11 +441,12 @@ module _ (program : Program) where
     powers_done answer.RefusedArity is = back_with answer.RefusedArity is none
     powers_done answer.RefusedNumbers is = back_with answer.RefusedNumbers is none
 
-  -- `show` and `last`
+  -- `show` and `last` do nothing to the history
 
-  tells_done : (s t : State) (a : Answer) → Tells program s a t → HasDone program s t [] []
+  tells_done : (s t : SourceState) (a : Answer) → Tells program s a t → HasDone program s t [] []
   tells_done s t (answer.Shown text) is = same_done s t [] is.1
-  tells_done s t answer.NoMemory is = only_standing s t (Down None) [] is (part_none (waiting_of s.standing ++ []))
+  tells_done s t answer.NoMemory is =
+      only_standing s t (Down None) [] is (part_none (waiting_of s.standing ++ []))
   tells_done s t answer.Silent is = absurd is
   tells_done s t (answer.Done value logged) is = absurd is
   tells_done s t (answer.Trap kind) is = absurd is
@@ -396,24 +463,26 @@ module _ (program : Program) where
   tells_done s t answer.RefusedNumbers is = absurd is
   tells_done s t (answer.RefusedPick line) is = absurd is
 
-  shows_done : (s t : State) (a : Answer) (st : Standing) → Shows st program s a t →
+  shows_done : (s t : SourceState) (a : Answer) (st : Standing) → Shows st program s a t →
       HasDone program s t [] []
   shows_done s t a Ready is = tells_done s t a is
   shows_done s t a (Down owed) is = same_done s t [] is.1
   shows_done s t a (Unusable kind) is = same_done s t [] is.1
 
-  lasts_done : (s t : State) (a : Answer) (st : Standing) → Lasts st s a t →
+  lasts_done : (s t : SourceState) (a : Answer) (st : Standing) → Lasts st s a t →
       HasDone program s t [] []
   lasts_done s t a Ready is = same_done s t [] is.1
   lasts_done s t a (Down owed) is = same_done s t [] is.1
   lasts_done s t a (Unusable kind) is = same_done s t [] is.1
 
-  pub answer_done : (counts : Counts) (s t : State) (image : Words) (c : Command) (a : Answer) →
-      Answers program counts s image c a t →
+  pub answer_done : (s t : SourceState) (image : Words) (c : Command) (a : Answer)
+      →
+      Answers program s image c a t →
       HasDone program s t (done_by program s image c a) (call_in program c)
-  answer_done counts s t image (command.Call name args) a is = calls_done counts s t image args s.standing name a is
-  answer_done counts s t image (command.Stop left) a is = same_done s t [] is.1
-  answer_done counts s t image (command.Fault at) a is = same_done s t [] is.1
-  answer_done counts s t image (command.Power choice) a is = powers_done counts s t image a is
-  answer_done counts s t image command.Show a is = shows_done s t a s.standing is
-  answer_done counts s t image command.Last a is = lasts_done s t a s.standing is
+  answer_done s t image (command.Call name args) a is =
+      calls_done s t image args s.standing name a is
+  answer_done s t image (command.Stop left) a is = same_done s t [] is.1
+  answer_done s t image (command.Fault at) a is = same_done s t [] is.1
+  answer_done s t image (command.Power choice) a is = powers_done s t image a is
+  answer_done s t image command.Show a is = shows_done s t a s.standing is
+  answer_done s t image command.Last a is = lasts_done s t a s.standing is

@@ -1,5 +1,6 @@
 pub mod Words
 pub mod Coming
+pub mod Logging
 pub mod Scripts
 pub mod Ones
 pub mod Retired

@@ -1,4 +1,4 @@
--- A cache at rest has one image, its view, and so has what a power cut leaves.
+-- A cache at rest has one image, its view, and a power cut leaves a cache with that image alone.
 use Rattle.std.proofs.Common.{◌≡◌, inl, ⊎_elim, ℕ, ◌/◌, List, refl, sym, ap, ◌∙◌, subst}
 use Rattle.cache_model.specs.Cache.{Words, Cache, view}
 use Rattle.cache_model.specs.Image.{Among, IsVersion, IsImage, Images, HasOne}
@@ -13,8 +13,10 @@ unfolding view
 view_image c l = ((c l).newest, inl refl, λ p on. ap (λ (i : ℕ). (c i).newest p) on)
 
 -- each version of a line at rest is its newest
-pub rest_newest : (c : Cache) → IsAtRest c → (l : ℕ) (v : Words) → IsVersion (c l) v → v ≡ (c l).newest
-rest_newest c rest l v is = ⊎_elim (λ (e : v ≡ (c l).newest). e) (λ among. absurd (subst (λ (us : List Words). Among us v) (rest l) among)) is
+pub rest_newest : (c : Cache) → IsAtRest c → (l : ℕ) (v : Words) → IsVersion (c l) v
+    → v ≡ (c l).newest
+rest_newest c rest l v is = ⊎_elim (λ (e : v ≡ (c l).newest). e)
+    (λ among. absurd (subst (λ (us : List Words). Among us v) (rest l) among)) is
 
 pub rest_one : (c : Cache) → IsAtRest c → HasOne c (view c)
 unfolding view
@@ -32,5 +34,6 @@ pub left_rest : (c : Cache) (rest : Rest) (picks : List Pick) → IsAtRest (left
 unfolding left_cache
 left_rest c rest picks l = refl
 
-pub at_left : (P : Words → Type 0) (c : Cache) (rest : Rest) (picks : List Pick) → Images P c → P (view (left_cache c rest picks))
+pub at_left : (P : Words → Type 0) (c : Cache) (rest : Rest) (picks : List Pick) → Images P c
+    → P (view (left_cache c rest picks))
 at_left P c rest picks all = all (view (left_cache c rest picks)) (left_image c rest picks)

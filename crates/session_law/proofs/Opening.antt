@@ -6,13 +6,14 @@ use Rattle.cache_model.specs.Play.{play}
 use Rattle.cache_model.specs.Image.{Images}
 use Rattle.pmem.specs.Device.{Device, blanked}
 use Rattle.pmem.proofs.Refused.{all_cache, all_on}
+use Rattle.pool_layout.specs.declared.places.TheConstants.{DONE, MARK, FUNCTION, SEAL}
 use Rattle.pool_layout.specs.declared.limits.Sizes.{Sizes}
 use Rattle.pool_layout.specs.declared.places.Place.TheVariants.{Heap}
 use Rattle.pool_layout.specs.Places as places
 use Rattle.pool_layout.specs.Sizes.{pool_lines}
-use Rattle.pool_layout.specs.Image.{words_of}
+use Rattle.pool_layout.specs.Image.{image_words}
 use Rattle.pool_layout.specs.Restored.{restored}
-use Rattle.pool_layout.specs.Opens.{Opens, IsOwed}
+use Rattle.pool_layout.specs.Opens.{IsOpenable, NamesOwed}
 use Rattle.pool_layout.specs.Opened.{IsOpened, wanted_rules}
 use Rattle.pool_map.specs.declared.trap.TrapKind.{TrapKind}
 use Rattle.pool_map.specs.declared.trap.TrapKind.TheVariants as trap
@@ -20,25 +21,26 @@ use Rattle.pool_map.specs.Trap.{trap_number}
 use Rattle.c_parser.specs.ItemTree.{FunctionTree}
 use Rattle.c_types.specs.Shapes.{transactions_of}
 use Rattle.clobber_log.specs.Logs.{attempt_of, attempt_in}
-use Rattle.args_log.specs.Pending.{is_sealed, number_of}
+use Rattle.args_log.specs.Pending.{is_sealed, tx_number}
 use Rattle.pm_machine.specs.Effects.{heap_end}
-use Rattle.crash_law.specs.Pools.{Pool, Owed, IsBefore, Lost}
+use Rattle.pool_layout.specs.Good.{Lost}
+use Rattle.crash_law.specs.Pools.{Pool, Owed, IsBefore}
 use Rattle.crash_law.specs.Law.{IsAtRest, IsCut}
 use Rattle.run_law.specs.Seen.{result_of, E, W}
 use Rattle.recovery.specs.Found.{words_from, recorded}
-use Rattle.tx_run.specs.Standing.{kind_of}
+use Rattle.tx_run.specs.Standing.{trap_of_mark}
 use Rattle.cut_law.specs.Law.{call_of, pool_with}
 use Rattle.cnvm_session.specs.declared.mode.Mode.{Mode}
 use Rattle.cnvm_session.specs.declared.answer.Answer.{Answer}
 use Rattle.cnvm_session.specs.declared.program.Program.{Program}
 use Rattle.cnvm_session.specs.Outcomes.{answer_of_recovery}
-use Rattle.cnvm_session.specs.Commands.{parameters_of}
+use Rattle.cnvm_session.specs.Commands.{tx_parameters}
 use Rattle.cnvm_session.specs.Opening.{opening_events}
 use Rattle.cnvm_session.specs.Outcomes as outcomes
-use Rattle.session_law.specs.Source.{Counts, sizes_of, pool_of}
-use Rattle.session_law.specs.Words.{AreWords, HasWords}
+use Rattle.session_law.specs.Source.{sizes_of, source_pool}
+use Rattle.session_law.specs.Words.{AreWords, HasPoolWords}
 use Rattle.session_law.specs.Agrees.{Agrees, RunsAs}
-use Rattle.session_law.specs.State.{Down, Unusable, State}
+use Rattle.session_law.specs.State.{Down, Unusable, SourceState}
 use Rattle.session_law.specs.Answers.{Powers}
 use Rattle.session_law.specs.Opened.{wanted_of, opened_heap, recorded_in, opened}
 use Rattle.session_law.specs.Holds.{OwesNone, OwesOne, Holds}
@@ -49,7 +51,7 @@ use Rattle.session_law.proofs.Reading.{kind_read, trap_some, taken_is, next_done
 use Rattle.session_law.proofs.Powers.{HeldAs, held_recovers}
 use Rattle.session_law.proofs.Writing.{written_word, written_rest}
 
--- each mark from 1 to 8 is a trap's
+-- each mark from 1 to 8 is the number of a trap
 trap_with : (n : ℕ) → 0 < n → n ≤ 8 → (kind : TrapKind) × (n ≡ trap_number kind)
 trap_with zero some few = absurd (omega arith)
 trap_with (suc zero) some few = (trap.Null, refl)
@@ -62,15 +64,18 @@ trap_with (suc (suc (suc (suc (suc (suc (suc zero))))))) some few = (trap.LogFul
 trap_with (suc (suc (suc (suc (suc (suc (suc (suc zero)))))))) some few = (trap.Depth, refl)
 trap_with (suc (suc (suc (suc (suc (suc (suc (suc (suc n))))))))) some few = absurd (omega arith)
 
--- the transaction is there
-there : (fs : List FunctionTree) (i : ℕ) → i < length fs → (n : ℕ) × (option_map (λ (f : FunctionTree). length f.parameters) (slice_get fs i) ≡ Some n)
+-- the image has the transaction
+there : (fs : List FunctionTree) (i : ℕ) → i < length fs
+    → (n : ℕ) × (option_map (λ (f : FunctionTree). length f.parameters) (slice_get fs i) ≡ Some n)
 there [] i less = absurd (omega arith)
 there (f ∷ fs) zero less = (length f.parameters, refl)
 there (f ∷ fs) (suc i) less = there fs i (omega arith)
 
-takes_some : (program : Program) (counts : Counts) → Agrees program counts → (tx : ℕ) → 1 ≤ tx → tx ≤ length (transactions_of program.typed) → (n : ℕ) × (parameters_of program.image tx ≡ Some n)
-takes_some program counts agrees zero first last = absurd (omega arith)
-takes_some program counts agrees (suc i) first last =
+takes_some : (program : Program) → Agrees program → (tx : ℕ) → 1 ≤ tx
+    → tx ≤ length (transactions_of program.typed)
+    → (n : ℕ) × (tx_parameters program.image tx ≡ Some n)
+takes_some program agrees zero first last = absurd (omega arith)
+takes_some program agrees (suc i) first last =
     let found = there (transactions_of program.typed) i (omega arith) in
     (found.0, agrees.parameters (suc i) ∙ found.1)
 
@@ -81,20 +86,24 @@ length_words p (suc n) w = ap suc (length_words (suc p) n w)
 word_at : (n p j : ℕ) (w : Words) → j < n → slice_index_or (words_from p n w) j (pos 0) ≡ w (p + j)
 word_at zero p j w less = absurd (omega arith)
 word_at (suc n) p zero w less = ap w (let e : p ≡ p + 0 = omega arith in e)
-word_at (suc n) p (suc j) w less = word_at n (suc p) j w (omega arith) ∙ ap w (let e : suc p + j ≡ p + suc j = omega arith in e)
+word_at (suc n) p (suc j) w less = word_at n (suc p) j w (omega arith)
+    ∙ ap w (let e : suc p + j ≡ p + suc j = omega arith in e)
 
-module _ (program : Program) (counts : Counts) (agrees : Agrees program counts) (words : List ℤ) (are : AreWords words) (opens : Opens (wanted_rules (wanted_of program)) (words_of words)) (e : Device) (rest : IsAtRest e.cache)
-    (seen : view e.cache ≡ words_of words) where
+module _ (program : Program) (agrees : Agrees program) (words : List ℤ)
+    (are : AreWords words) (opens : IsOpenable (wanted_rules (wanted_of program))
+    (image_words words))
+    (e : Device) (rest : IsAtRest e.cache)
+    (seen : view e.cache ≡ image_words words) where
   abbrev z : Sizes
   z = sizes_of program
 
   abbrev image : Words
-  image = words_of words
+  image = image_words words
 
   abbrev pool : Pool
   pool = pool_with program.image image
 
-  abbrev s : State
+  abbrev s : SourceState
   s = opened program image
 
   abbrev d : ℕ
@@ -104,36 +113,48 @@ module _ (program : Program) (counts : Counts) (agrees : Agrees program counts) 
   a = opens.attempt
 
   done_is : s.done ≡ d
-  done_is = ap number_of opens.done.2
+  done_is = ap tx_number opens.done.2
 
   attempt_is : attempt_in z image ≡ a
-  attempt_is = ap attempt_of opens.attempt_is ∙ attempt_small a (let fits = opens.attempt_fits in omega arith)
+  attempt_is = ap attempt_of opens.attempt_is ∙ attempt_small a (let fits = opens.attempt_fits in
+      omega arith)
 
   all_of : (P : Words → Type 0) → P image → Images P e.cache
   all_of P holds = rest_images P e.cache rest (subst P (sym seen) holds)
 
-  -- the pool is of the image's words
-  opened_words : HasWords s.pool
+  -- the words of the opened pool are those of the image
+  opened_words : HasPoolWords s.pool
   opened_words = pool_words program (opened_heap program image) (by_case (is_sealed image))
     where
-      by_case : (b : Bool) → AreAll (if b then restored (places.pool_of z) (attempt_in z image) image else (λ w. image (places.at (places.pool_of z) (Heap w))))
+      by_case : (b : Bool) → AreAll (if b then restored (places.pool_of z) (attempt_in z image)
+          image else (λ w. image (places.at (places.pool_of z) (Heap w))))
       by_case true = restored_words (places.pool_of z) (attempt_in z image) image are
       by_case false = λ w. are (places.at (places.pool_of z) (Heap w))
 
   -- the pool has a mark
-  lost : (n : ℕ) → image 19 ≡ pos n → 0 < n → n ≤ 8 → Images (Lost pool (trap_number (kind_of (image 19)))) e.cache
+  lost : (n : ℕ) → image MARK ≡ pos n → 0 < n → n ≤ 8 →
+      Images (Lost pool.sizes (trap_number (trap_of_mark (image MARK)))) e.cache
   lost n is some few =
       let kind = trap_with n some few in
-      let read : kind_of (image 19) ≡ kind.0 = kind_read (image 19) kind.0 (is ∙ ap pos kind.1) in
-      let number : n ≡ trap_number (kind_of (image 19)) = kind.1 ∙ ap trap_number (sym read) in
-      all_of (Lost pool (trap_number (kind_of (image 19)))) (is ∙ ap pos number, trap_some (kind_of (image 19)))
+      let read : trap_of_mark (image MARK) ≡ kind.0 =
+      kind_read (image MARK) kind.0 (is ∙ ap pos kind.1) in
+      let number : n ≡ trap_number (trap_of_mark (image MARK)) =
+      kind.1 ∙ ap trap_number (sym read) in
+      all_of (Lost pool.sizes (trap_number (trap_of_mark (image MARK)))) (
+        is
+            ∙ ap pos number,
+        trap_some (trap_of_mark (image MARK)),
+      )
 
-  module _ (mark : image 19 ≡ pos 0) where
-    -- not sealed
+  module _ (mark : image MARK ≡ pos 0) where
+    -- the image isn't sealed
     module _ (unsealed : is_sealed image ≡ false) where
-      none_sealed : image 47 ≡ pos (suc s.done) → ⊥
+      none_sealed : image SEAL ≡ pos (suc s.done) → ⊥
       none_sealed seal =
-          let is : is_sealed image ≡ true = (Decides-int_eq (image 47) (image 17 +ℤ pos 1)).1 (seal ∙ ap (λ (n : ℕ). pos (suc n)) done_is ∙ sym (next_done (image 17) d opens.done.2)) in
+          let is : is_sealed image ≡ true =
+          (Decides-int_eq (image SEAL) (image DONE +ℤ pos 1)).1
+          (seal ∙ ap (λ (n : ℕ). pos (suc n)) done_is
+          ∙ sym (next_done (image DONE) d opens.done.2)) in
           let clash : true ≡ false = sym is ∙ unsealed in
           absurd cc
 
@@ -159,23 +180,28 @@ module _ (program : Program) (counts : Counts) (agrees : Agrees program counts) 
           }
 
       heap_is : opened_heap program image ≡ own
-      heap_is = ap (λ (b : Bool). if b then restored (places.pool_of z) (attempt_in z image) image else own) unsealed
+      heap_is = ap (λ (b : Bool). if b then restored (places.pool_of z) (attempt_in z image) image
+          else own) unsealed
 
       owes_none : OwesNone program image e s
       owes_none =
           record {
             heap = own;
-            holds = record { headers = opens.headers; pool = ap (pool_of program) (sym heap_is); words = opened_words };
+            holds = record {
+              headers = opens.headers;
+              pool = ap (source_pool program) (sym heap_is);
+              words = opened_words;
+            };
             left = all_of (IsBefore pool s.done own s.last) before;
           }
 
-    -- sealed
+    -- the image is sealed
     module _ (sealed : is_sealed image ≡ true) where
-      is_owed : IsOwed (wanted_rules (wanted_of program)) a image
-      is_owed = opens.sealed ((Decides-int_eq (image 47) (image 17 +ℤ pos 1)).0 sealed)
+      is_owed : NamesOwed (wanted_rules (wanted_of program)) a image
+      is_owed = opens.sealed ((Decides-int_eq (image SEAL) (image DONE +ℤ pos 1)).0 sealed)
 
       abbrev tx : ℕ
-      tx = number_of (image 24)
+      tx = tx_number (image FUNCTION)
 
       abbrev args : List ℤ
       args = recorded program.image tx image
@@ -184,10 +210,12 @@ module _ (program : Program) (counts : Counts) (agrees : Agrees program counts) 
       h = restored (places.pool_of z) a image
 
       tx_is : tx ≡ is_owed.function.0
-      tx_is = ap number_of is_owed.function.3
+      tx_is = ap tx_number is_owed.function.3
 
-      some : (n : ℕ) × (parameters_of program.image tx ≡ Some n)
-      some = takes_some program counts agrees tx (let is = tx_is in let first = is_owed.function.1 in omega arith) (let is = tx_is in let last = is_owed.function.2 in omega arith)
+      some : (n : ℕ) × (tx_parameters program.image tx ≡ Some n)
+      some = takes_some program agrees tx (let is = tx_is in
+          let first = is_owed.function.1 in omega arith) (let is = tx_is in
+          let last = is_owed.function.2 in omega arith)
 
       few : some.0 ≤ 22
       few = (agrees.few tx some.0 some.1).1
@@ -198,11 +226,12 @@ module _ (program : Program) (counts : Counts) (agrees : Agrees program counts) 
       long : length args ≡ some.0
       long = ap (λ (xs : List ℤ). length xs) args_is ∙ length_words 25 some.0 image
 
-      takes : parameters_of program.image tx ≡ Some (length args)
+      takes : tx_parameters program.image tx ≡ Some (length args)
       takes = some.1 ∙ ap (λ (n : ℕ). Some n) (sym long)
 
       called : (k : ℕ) → k ≤ length args → image (24 + k) ≡ slice_index_or (pos tx ∷ args) k (pos 0)
-      called zero less = ap image (let f : 24 + 0 ≡ 24 = omega arith in f) ∙ is_owed.function.3 ∙ ap pos (sym tx_is)
+      called zero less = ap image (let f : 24 + 0 ≡ 24 = omega arith in f) ∙ is_owed.function.3
+          ∙ ap pos (sym tx_is)
       called (suc j) less =
           ap image (let f : 24 + suc j ≡ 25 + j = omega arith in f)
           ∙ sym (word_at some.0 25 j image (let is = long in omega arith))
@@ -210,14 +239,17 @@ module _ (program : Program) (counts : Counts) (agrees : Agrees program counts) 
 
       heap_restored : opened_heap program image ≡ h
       heap_restored =
-          ap (λ (b : Bool). if b then restored (places.pool_of z) (attempt_in z image) image else (λ w. image (places.at (places.pool_of z) (Heap w)))) sealed
+          ap (λ (b : Bool). if b then restored (places.pool_of z) (attempt_in z image) image
+          else (λ w. image (places.at (places.pool_of z) (Heap w)))) sealed
           ∙ ap (λ (n : ℕ). restored (places.pool_of z) n image) attempt_is
 
       args_are : AreWords args
       args_are = recorded_words program.image tx image are
 
-      runs : RunsAs program counts h tx args
-      runs = agrees.runs h tx args is_owed.headers (subst (λ (g : Words). HasWords (pool_of program g)) heap_restored opened_words) args_are takes
+      runs : RunsAs program h tx args
+      runs = agrees.runs h tx args is_owed.headers
+          (subst (λ (g : Words). HasPoolWords (source_pool program g)) heap_restored opened_words)
+          args_are takes
 
       owed : Owed pool (call_of s.done tx args) (E runs.effects) (W runs.effects) h image
       owed =
@@ -226,7 +258,8 @@ module _ (program : Program) (counts : Counts) (agrees : Agrees program counts) 
             mark = mark;
             done = opens.done.2 ∙ ap pos (sym done_is);
             done_fits = (let fits = opens.done.1 in let is = done_is in omega arith);
-            sealed = (Decides-int_eq (image 47) (image 17 +ℤ pos 1)).0 sealed ∙ next_done (image 17) d opens.done.2 ∙ ap (λ (n : ℕ). pos (suc n)) (sym done_is);
+            sealed = (Decides-int_eq (image SEAL) (image DONE +ℤ pos 1)).0 sealed
+                ∙ next_done (image DONE) d opens.done.2 ∙ ap (λ (n : ℕ). pos (suc n)) (sym done_is);
             call_is = called;
             attempt = a;
             attempt_is = opens.attempt_is;
@@ -240,60 +273,76 @@ module _ (program : Program) (counts : Counts) (agrees : Agrees program counts) 
       owes_one =
           record {
             heap = h;
-            holds = record { headers = is_owed.headers; pool = ap (pool_of program) (sym heap_restored); words = opened_words };
+            holds = record {
+              headers = is_owed.headers;
+              pool = ap (source_pool program) (sym heap_restored);
+              words = opened_words;
+            };
             takes = takes;
             words = args_are;
             end = runs.end;
             effects = runs.effects;
             ran = runs.ran;
-            left = all_of (IsCut pool (call_of s.done tx args) (E runs.effects) (W runs.effects) h (heap_end h runs.effects) s.last (result_of runs.end)) (inr (inl owed));
+            left = all_of (IsCut pool (call_of s.done tx args) (E runs.effects) (W runs.effects) h
+                (heap_end h runs.effects) s.last (result_of runs.end)) (inr (inl owed));
           }
 
-  -- by the mark and the seal
-  by_seal : image 19 ≡ pos 0 → (b : Bool) → is_sealed image ≡ b → HeldAs (Down (if b then Some (recorded_in program image) else None)) program image e s
+  -- what the device holds, by the mark and the seal
+  by_seal : image MARK ≡ pos 0 → (b : Bool) → is_sealed image ≡ b
+      → HeldAs (Down (if b then Some (recorded_in program image) else None)) program image e s
   by_seal mark true is = owes_one mark is
   by_seal mark false is = owes_none mark is
 
-  by_mark : (b : Bool) → int_eq (image 19) (pos 0) ≡ b
-      → HeldAs (if b then Down (if is_sealed image then Some (recorded_in program image) else None) else Unusable (kind_of (image 19))) program image e s
-  by_mark true is = by_seal ((Decides-int_eq (image 19) (pos 0)).0 is) (is_sealed image) refl
+  by_mark : (b : Bool) → int_eq (image MARK) (pos 0) ≡ b
+      → HeldAs (if b then Down (if is_sealed image then Some (recorded_in program image) else None)
+      else Unusable (trap_of_mark (image MARK))) program image e s
+  by_mark true is = by_seal ((Decides-int_eq (image MARK) (pos 0)).0 is) (is_sealed image) refl
   by_mark false is =
       let mark = opens.mark in
       lost mark.0 mark.2 (some_of mark.0 mark.2) mark.1
     where
-      some_of : (n : ℕ) → image 19 ≡ pos n → 0 < n
+      some_of : (n : ℕ) → image MARK ≡ pos n → 0 < n
       some_of zero none =
-          let yes : int_eq (image 19) (pos 0) ≡ true = (Decides-int_eq (image 19) (pos 0)).1 none in
+          let yes : int_eq (image MARK) (pos 0) ≡ true =
+          (Decides-int_eq (image MARK) (pos 0)).1 none in
           let clash : true ≡ false = sym yes ∙ is in
           absurd cc
       some_of (suc n) more = omega arith
 
   pub opened_held : HeldAs s.standing program image e s
-  opened_held = by_mark (int_eq (image 19) (pos 0)) refl
+  opened_held = by_mark (int_eq (image MARK) (pos 0)) refl
 
 -- what the recovery of an image's pool answers
 abbrev pub OpenedAnswers : Type 0
 OpenedAnswers =
-    (program : Program) (counts : Counts) (words : List ℤ) (n : Mode) (d b : Device) (a : Answer) (k k1 : ℕ) →
-    Agrees program counts → AreWords words → IsOpened (wanted_of program) words →
+    (program : Program) (words : List ℤ) (n : Mode) (d b : Device) (a : Answer)
+    (k k1 : ℕ) →
+    Agrees program → AreWords words → IsOpened (wanted_of program) words →
     outcomes.Opens program.image words d a n b k k1 →
-    (t : State) × Powers program counts (opened program (words_of words)) (words_of words) a t
-    × Holds program (words_of words) n b t
+    (t : SourceState) × Powers program (opened program (image_words words))
+    (image_words words) a t
+    × Holds program (image_words words) n b t
 
 pub opened_answers : OpenedAnswers
-opened_answers program counts words n d b a k k1 agrees are is opens =
+opened_answers program words n d b a k k1 agrees are is opens =
     let z : Sizes = sizes_of program in
     let e : Device = opens.opened in
     let lines : ℕ = pool_lines z in
-    let played : e.cache ≡ play blank (opening_events lines words) = all_cache (opening_events lines words) (blanked lines d) e opens.written in
+    let played : e.cache ≡ play blank (opening_events lines words) =
+    all_cache (opening_events lines words) (blanked lines d) e opens.written in
     let on = all_on (opening_events lines words) (blanked lines d) e opens.written in
     let rest : IsAtRest e.cache = subst IsAtRest (sym played) (written_rest words lines is.whole) in
-    let seen : view e.cache ≡ words_of words = ap view played ∙ (λ i p. written_word words lines p i) in
-    let held = opened_held program counts agrees words are is.opens e rest seen in
+    let seen : view e.cache ≡ image_words words =
+    ap view played ∙ (λ i p. written_word words lines p i) in
+    let held = opened_held program agrees words are is.opens e rest seen in
     let recovers = opens.recovers in
-    let done = held_recovers program counts (words_of words) agrees e (opened program (words_of words)) on rest recovers.behind b k k1 recovers.recovered held in (
+    let done = held_recovers program (image_words words) agrees e
+    (opened program (image_words words)) on rest recovers.tx_answer b k k1
+    recovers.recovered held in (
       done.0,
-      subst (λ (x : Answer). Powers program counts (opened program (words_of words)) (words_of words) x done.0) (sym recovers.answer)
-          (subst (λ (image : Words). Powers program counts (opened program (words_of words)) image (answer_of_recovery recovers.behind) done.0) seen done.1),
-      subst (λ (x : Mode). Holds program (words_of words) x b done.0) (sym recovers.mode) done.2,
+      subst (λ (x : Answer). Powers program (opened program (image_words words))
+          (image_words words) x done.0) (sym recovers.answer)
+          (subst (λ (image : Words). Powers program (opened program (image_words words))
+          image (answer_of_recovery recovers.tx_answer) done.0) seen done.1),
+      subst (λ (x : Mode). Holds program (image_words words) x b done.0) (sym recovers.mode) done.2,
     )

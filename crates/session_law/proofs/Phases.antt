@@ -1,5 +1,6 @@
--- In which phase a call was stopped, and whether its seal is in what a power cut leaves.
-use Rattle.std.proofs.Common.{◌≡◌, inl, inr, ℕ, zero, suc, ◌+◌, ◌^◌, ◌<◌, ◌≤◌, ◌==◌, Bool, true, false, ◌&&◌, w64, List, [], ◌∷◌, ◌++◌, length, take, slice_index_or, Option, Some, None, ℤ, pos, refl, sym, ap, ◌∙◌, subst, arith, append-nil}
+-- In which phase a call was stopped, and whether the images that a power cut may leave have its
+-- seal.
+use Rattle.std.proofs.Common.{◌≡◌, inl, inr, ℕ, zero, suc, ◌+◌, ◌^◌, ◌<◌, ◌≤◌, ◌==◌, Bool, true, false, ◌&&◌, w64, List, [], ◌∷◌, ◌++◌, length, take, Option, Some, None, ℤ, pos, refl, sym, ap, ◌∙◌, subst, arith, append-nil}
 use Rattle.std.specs.Int.{cast_signed}
 use Rattle.std.proofs.lemmas.Bool.{eqb-true}
 use Rattle.std.proofs.lemmas.List.{take_all}
@@ -17,9 +18,9 @@ use Rattle.pmem.specs.declared.answer.Refusal.TheVariants as refusal
 use Rattle.pmem.specs.declared.answer.Phase.{Phase}
 use Rattle.pmem.specs.declared.answer.Phase.TheVariants as phase
 use Rattle.pmem.proofs.Refused.{all_cache}
+use Rattle.pool_layout.specs.declared.places.TheConstants.{DONE, ATTEMPT, FUNCTION, SEAL}
 use Rattle.pool_layout.specs.declared.limits.Sizes.{Sizes}
-use Rattle.pool_layout.specs.Places as places
-use Rattle.args_log.specs.Next.{next}
+use Rattle.args_log.specs.Next.{number_after}
 use Rattle.args_log.specs.Seal.{stores_from, flushes_from, payload_lines, payload_events, unsealed_events, sealing_events, seal_events}
 use Rattle.args_log.specs.Retire.{retire_events, mark_events}
 use Rattle.pm_machine.specs.declared.effect.End.{End}
@@ -27,27 +28,25 @@ use Rattle.pm_machine.specs.declared.effect.End.TheVariants.{Halted, Trapped}
 use Rattle.pm_machine.specs.Machine.{start}
 use Rattle.pm_machine.specs.Runs.{Due, end_of}
 use Rattle.crash_law.specs.Pools.{Call}
-use Rattle.crash_law.specs.Due as crash
 use Rattle.crash_law.specs.Law.{IsAtRest}
-use Rattle.crash_law.proofs.Rest.{seal_rest}
+use Rattle.crash_law.proofs.Rest.{due_seal_rest}
 use Rattle.tx_run.specs.Standing.{is_number}
 use Rattle.tx_run.specs.Due.{due_on, due_run, due_seal, due_unsealed, tail_events}
-use Rattle.tx_run.specs.Called.{Called, WentAt}
+use Rattle.tx_run.specs.Called.{Called, WentAt, IsTxCalled}
 use Rattle.tx_run.specs.declared.answer.CallAnswer.{CallAnswer}
 use Rattle.tx_run.specs.declared.answer.CallAnswer.TheVariants as called
 use Rattle.cut_law.proofs.Misses.{Misses, misses_append}
-use Rattle.cut_law.proofs.Dues.{seal_same}
 use Rattle.cnvm_session.specs.declared.mode.Mode.{Mode}
 use Rattle.cnvm_session.specs.declared.mode.Mode.TheVariants as mode
 use Rattle.cnvm_session.specs.declared.answer.Answer.TheVariants as answer
 use Rattle.cnvm_session.specs.declared.program.Program.{Program}
-use Rattle.cnvm_session.specs.Outcomes.{IsCalled, answer_of_call}
+use Rattle.cnvm_session.specs.Outcomes.{answer_of_call}
 use Rattle.cnvm_session.specs.Commands as commanded
-use Rattle.cnvm_session.specs.Commands.{number_of, parameters_of}
-use Rattle.session_law.specs.Source.{Counts, sizes_of}
+use Rattle.cnvm_session.specs.Commands.{call_number, tx_parameters}
+use Rattle.session_law.specs.Source.{sizes_of}
 use Rattle.session_law.specs.Words.{AreWords}
 use Rattle.session_law.specs.Agrees.{Agrees}
-use Rattle.session_law.specs.State.{Standing, Ready, Down, Unusable, State}
+use Rattle.session_law.specs.State.{Standing, Ready, Down, Unusable, SourceState}
 use Rattle.session_law.specs.Holds.{IsResting, HoldsAs}
 use Rattle.session_law.specs.Law.{HasPhase, PhaseLaw}
 use Rattle.session_law.proofs.Cleaning.{missed_at, rest_at}
@@ -56,8 +55,10 @@ use Rattle.session_law.proofs.Reading.{numbers_small, stands_ready, stands_numbe
 use Rattle.session_law.proofs.Resting.{part_during, refused_cache}
 use Rattle.session_law.proofs.Calls.{ran_events}
 
--- the last event wasn't done
-part_before : (Q : Cache → Type 0) (why : Refusal) (es : List CacheEvent) (x : CacheEvent) (d b : Device) → PlaysPart why d (es ++ x ∷ []) b → during d.cache es Q → Q b.cache
+-- if a list of events is refused at one of them, what holds during all but its last event still
+-- holds
+part_before : (Q : Cache → Type 0) (why : Refusal) (es : List CacheEvent) (x : CacheEvent)
+    (d b : Device) → PlaysPart why d (es ++ x ∷ []) b → during d.cache es Q → Q b.cache
 part_before Q why [] x d b (inl refused) h = subst Q (sym (refused_cache why d b refused)) h
 part_before Q why [] x d b (inr rest) h = absurd rest.1
 part_before Q why (e ∷ es) x d b (inl refused) h = subst Q (sym (refused_cache why d b refused)) h.0
@@ -76,81 +77,112 @@ misses_flushes l (suc n) = misses_flushes (suc l) n
 misses_payload : (f : ℤ) (args : List ℤ) → length args ≤ 22 → Misses 47 (payload_events f args)
 unfolding payload_events
 misses_payload f args few =
-    misses_append 47 (stores_from 24 (f ∷ args)) (flushes_from 3 (payload_lines (length args)) ++ Fence ∷ []) (misses_stores (f ∷ args) 24 (omega arith))
-    (misses_append 47 (flushes_from 3 (payload_lines (length args))) (Fence ∷ []) (misses_flushes 3 (payload_lines (length args))) tt)
+    misses_append 47 (stores_from FUNCTION (f ∷ args)) (flushes_from 3 (payload_lines (length args))
+    ++ Fence ∷ []) (misses_stores (f ∷ args) 24 (omega arith))
+    (misses_append 47 (flushes_from 3 (payload_lines (length args))) (Fence ∷ [])
+    (misses_flushes 3 (payload_lines (length args))) tt)
 
 misses_tail : (end : End) (c : Cache) → Misses 47 (tail_events end c)
 unfolding retire_events mark_events
-misses_tail (Halted v) c = ((λ e. absurd (omega arith)), ((λ e. absurd (omega arith)), ((λ e. absurd (omega arith)), tt)))
+misses_tail (Halted v) c = (
+  (λ e. absurd (omega arith)),
+  ((λ e. absurd (omega arith)), ((λ e. absurd (omega arith)), tt)),
+)
 misses_tail (Trapped kind) c = ((λ e. absurd (omega arith)), tt)
 
--- behind the seal each line has one version, and the seal is there
+-- after the seal each line has one version, and the seal is there
 
-sealed_rest : (z : Sizes) (f : ℤ) (args : List ℤ) (done : ℕ) (c : Cache) → IsAtRest c → IsAtRest (play c (seal_events f args (pos (suc done))))
+sealed_rest : (z : Sizes) (f : ℤ) (args : List ℤ) (done : ℕ) (c : Cache) → IsAtRest c
+    → IsAtRest (play c (seal_events f args (pos (suc done))))
 sealed_rest z f args done c rest =
-    let call : Call = record { done = done; given = length args; word = λ k. slice_index_or (f ∷ args) k (pos 0) } in
-    let same : seal_events f args (pos (suc done)) ≡ crash.seal_events (places.pool_of z) call [] =
-    sym (append-nil (seal_events f args (pos (suc done)))) ∙ seal_same (places.pool_of z) f args (pos (suc done)) call.word [] (λ i less. ap call.word (let e : i ≡ 0 + i = omega arith in e)) in
-    subst (λ (es : List CacheEvent). IsAtRest (play c es)) (sym same) (seal_rest z 0 call [] c rest (λ d at_rest. at_rest))
+    let call : Call = record { done = done; function = f; args = args } in
+    subst (λ (es : List CacheEvent). IsAtRest (play c es))
+    (append-nil (seal_events f args (pos (suc done))))
+    (due_seal_rest z 0 call [] c rest (λ d at_rest. at_rest))
 
-sealed_word : (f : ℤ) (args : List ℤ) (k : ℤ) (c : Cache) → view (play c (seal_events f args k)) 47 ≡ k
+sealed_word : (f : ℤ) (args : List ℤ) (k : ℤ) (c : Cache)
+    → view (play c (seal_events f args k)) 47 ≡ k
 unfolding seal_events unsealed_events sealing_events
 sealed_word f args k c =
     let paid : Cache = play c (payload_events f args) in
-    ap (λ (d : Cache). view d 47) (play_append c (payload_events f args ++ Store 47 k ∷ []) (Flush 5 ∷ Fence ∷ []) ∙ ap (λ (d : Cache). play d (Flush 5 ∷ Fence ∷ [])) (play_append c (payload_events f args) (Store 47 k ∷ [])))
-    ∙ view_fence (apply (apply paid (Store 47 k)) (Flush 5)) 47
-    ∙ view_flush (apply paid (Store 47 k)) 5 47
+    ap (λ (d : Cache). view d SEAL) (play_append c (payload_events f args ++ Store SEAL k ∷ [])
+    (Flush 5 ∷ Fence ∷ []) ∙ ap (λ (d : Cache). play d (Flush 5 ∷ Fence ∷ []))
+    (play_append c (payload_events f args) (Store SEAL k ∷ [])))
+    ∙ view_fence (apply (apply paid (Store SEAL k)) (Flush 5)) 47
+    ∙ view_flush (apply paid (Store SEAL k)) 5 47
     ∙ view_same paid 47 k
 
-module _ (program : Program) (counts : Counts) (super : Words) (agrees : Agrees program counts) (d b : Device) (s : State) (resting : IsResting program super d s) where
-  module _ (tx : ℕ) (args : List ℤ) (takes : parameters_of program.image tx ≡ Some (length args)) (words : AreWords args) (small : (s.done < 2 ^ 62) × (resting.before.good.attempt < 2 ^ 62)) where
-    abbrev c : Cache
-    c = d.cache
+module _ (program : Program) (super : Words) (agrees : Agrees program)
+    (d b : Device) (s : SourceState) (resting : IsResting program super d s) where
+  module _ (tx : ℕ) (args : List ℤ) (takes : tx_parameters program.image tx ≡ Some (length args))
+      (words : AreWords args) (small : (s.done < 2 ^ 62) × (resting.before.good.attempt < 2 ^ 62))
+    where
+      abbrev c : Cache
+      c = d.cache
 
-    few : length (take 22 args) ≤ 22
-    few = let fits = (agrees.few tx (length args) takes).1 in subst (λ (xs : List ℤ). length xs ≤ 22) (sym (take_all 22 args fits)) fits
+      few : length (take 22 args) ≤ 22
+      few = let fits = (agrees.few tx (length args) takes).1 in
+          subst (λ (xs : List ℤ). length xs ≤ 22) (sym (take_all 22 args fits)) fits
 
-    number : next (view c 17) ≡ pos (suc s.done)
-    number = next_small (view c 17) s.done resting.before.good.done (let fits = resting.before.good.done_fits in omega arith)
+      number : number_after (view c DONE) ≡ pos (suc s.done)
+      number = next_small (view c DONE) s.done resting.before.good.done
+          (let fits = resting.before.good.done_fits in omega arith)
 
-    unsealed : PlaysPart refusal.Off d (due_unsealed tx args c) b → Images (HasPhase phase.Unsealed s) b.cache
-    unfolding unsealed_events
-    unsealed part image is seal =
-        let kept : Images (λ (other : Words). other 47 ≡ view c 47) b.cache =
-        part_before (Images (λ (other : Words). other 47 ≡ view c 47)) refusal.Off (payload_events (cast_signed w64 tx) (take 22 args)) (Store 47 (next (view c 17))) d b part
-        (missed_at 47 (view c 47) (payload_events (cast_signed w64 tx) (take 22 args)) c (misses_payload (cast_signed w64 tx) (take 22 args) few) (rest_at 47 c resting.rest)) in
-        resting.before.good.unsealed (sym (kept image is) ∙ seal)
+      unsealed : PlaysPart refusal.Off d (due_unsealed tx args c) b
+          → Images (HasPhase phase.Unsealed s) b.cache
+      unfolding unsealed_events
+      unsealed part image is seal =
+          let kept : Images (λ (other : Words). other 47 ≡ view c SEAL) b.cache =
+          part_before (Images (λ (other : Words). other 47 ≡ view c SEAL)) refusal.Off
+          (payload_events (cast_signed w64 tx) (take 22 args))
+          (Store SEAL (number_after (view c DONE))) d b part
+          (missed_at 47 (view c SEAL) (payload_events (cast_signed w64 tx) (take 22 args)) c
+          (misses_payload (cast_signed w64 tx) (take 22 args) few) (rest_at 47 c resting.rest)) in
+          resting.before.good.unsealed (sym (kept image is) ∙ seal)
 
-    abbrev behind : Cache
-    behind = play c (due_seal tx args c)
+      abbrev cache_after : Cache
+      cache_after = play c (due_seal tx args c)
 
-    behind_rest : IsAtRest behind
-    behind_rest =
-        subst (λ (k : ℤ). IsAtRest (play c (seal_events (cast_signed w64 tx) (take 22 args) k))) (sym number) (sealed_rest (sizes_of program) (cast_signed w64 tx) (take 22 args) s.done c resting.rest)
+      after_rest : IsAtRest cache_after
+      after_rest =
+          subst (λ (k : ℤ). IsAtRest (play c (seal_events (cast_signed w64 tx) (take 22 args) k)))
+          (sym number) (sealed_rest (sizes_of program) (cast_signed w64 tx) (take 22 args) s.done c
+          resting.rest)
 
-    behind_seal : view behind 47 ≡ pos (suc s.done)
-    behind_seal = sealed_word (cast_signed w64 tx) (take 22 args) (next (view c 17)) c ∙ number
+      seal_after : view cache_after SEAL ≡ pos (suc s.done)
+      seal_after = sealed_word (cast_signed w64 tx) (take 22 args) (number_after (view c DONE))
+          c ∙ number
 
-    run_misses : Misses 47 (due_run program.image (start program.image tx args) behind)
-    run_misses =
-        let ran : Due = due_on program.image (start program.image tx args) behind in
-        misses_append 47 ran.events (tail_events (end_of ran.fate) (play behind ran.events)) (ran_events program counts super agrees d s resting tx args takes words small 47 (omega arith))
-        (misses_tail (end_of ran.fate) (play behind ran.events))
+      run_misses : Misses 47 (due_run program.image (start program.image tx args) cache_after)
+      run_misses =
+          let ran : Due = due_on program.image (start program.image tx args) cache_after in
+          misses_append 47 ran.events (tail_events (end_of ran.fate) (play cache_after ran.events))
+          (ran_events program super agrees d s resting tx args takes words small 47
+          (omega arith))
+          (misses_tail (end_of ran.fate) (play cache_after ran.events))
 
-    sealed : (between : Device) → between.cache ≡ behind → PlaysPart refusal.Off between (due_run program.image (start program.image tx args) behind) b → Images (HasPhase phase.Sealed s) b.cache
-    sealed between same part =
-        let list : List CacheEvent = due_run program.image (start program.image tx args) behind in
-        let Q : Cache → Type 0 = Images (λ (other : Words). other 47 ≡ view behind 47) in
-        let all : during behind list Q = missed_at 47 (view behind 47) list behind run_misses (rest_at 47 behind behind_rest) in
-        let kept : Q b.cache = part_during Q refusal.Off list between b part (subst (λ (x : Cache). during x list Q) (sym same) all) in
-        λ image is. kept image is ∙ behind_seal
+      sealed : (between : Device) → between.cache ≡ cache_after
+          → PlaysPart refusal.Off between
+          (due_run program.image (start program.image tx args) cache_after) b
+          → Images (HasPhase phase.Sealed s) b.cache
+      sealed between same part =
+          let list : List CacheEvent = due_run program.image (start program.image tx args)
+          cache_after in
+          let Q : Cache → Type 0 = Images (λ (other : Words). other 47 ≡ view cache_after SEAL) in
+          let all : during cache_after list Q =
+          missed_at 47 (view cache_after SEAL) list cache_after run_misses
+          (rest_at 47 cache_after after_rest) in
+          let kept : Q b.cache = part_during Q refusal.Off list between b part
+          (subst (λ (x : Cache). during x list Q) (sym same) all) in
+          λ image is. kept image is ∙ seal_after
 
-    went : (at : Phase) → WentAt at program.image tx args d b → Images (HasPhase at s) b.cache
-    went phase.Unsealed h = unsealed h
-    went phase.Sealing h = λ image is. tt
-    went phase.Sealed h = sealed h.between (all_cache (due_seal tx args c) d h.between h.done) h.went
+      went : (at : Phase) → WentAt at program.image tx args d b → Images (HasPhase at s) b.cache
+      went phase.Unsealed h = unsealed h
+      went phase.Sealing h = λ image is. tt
+      went phase.Sealed h = sealed h.between (all_cache (due_seal tx args c) d h.between h.done)
+          h.went
 
-  -- by the call's answer
+  -- the phase, from the call's answer
   off_of : (r : CallAnswer) (at : Phase) → answer.Stopped at ≡ answer_of_call r → r ≡ called.Off at
   off_of (called.Done v l) at e = absurd cc
   off_of (called.Trap kind) at e = absurd cc
@@ -160,47 +192,71 @@ module _ (program : Program) (counts : Counts) (super : Words) (agrees : Agrees 
   off_of called.Numbers at e = absurd cc
   off_of called.NoMemory at e = absurd cc
 
-  by_call : (tx : ℕ) (args : List ℤ) (r : CallAnswer) (at : Phase) (k k1 : ℕ) → parameters_of program.image tx ≡ Some (length args) → AreWords args → r ≡ called.Off at → IsCalled r program.image tx args d b k k1
+  by_call : (tx : ℕ) (args : List ℤ) (r : CallAnswer) (at : Phase) (k k1 : ℕ)
+      → tx_parameters program.image tx ≡ Some (length args) → AreWords args → r ≡ called.Off at →
+      IsTxCalled r program.image tx args d b k k1
       → Images (HasPhase at s) b.cache
-  by_call tx args r at k k1 takes words off is = go (is_number (view d.cache 17) && is_number (view d.cache 18)) refl
+  by_call tx args r at k k1 takes words off is =
+      go (is_number (view d.cache DONE) && is_number (view d.cache ATTEMPT)) refl
     where
-      go : (numbers : Bool) → (is_number (view d.cache 17) && is_number (view d.cache 18)) ≡ numbers → Images (HasPhase at s) b.cache
+      go : (numbers : Bool) → (is_number (view d.cache DONE) && is_number (view d.cache ATTEMPT))
+          ≡ numbers → Images (HasPhase at s) b.cache
       go true numbers =
           let good = resting.before.good in
           let ran = is.ready resting.on (stands_ready (view d.cache) good.mark numbers) in
-          went tx args takes words (numbers_small (view d.cache) s.done good.attempt good.done good.attempt_is numbers) at (subst (λ (x : CallAnswer). Called x program.image tx args d b k k1) off ran).1
+          went tx args takes words (numbers_small (view d.cache) s.done good.attempt good.done
+          good.attempt_is numbers) at (subst (λ (x : CallAnswer).
+          Called x program.image tx args d b k k1) off ran).1
       go false numbers =
-          let same = (is.numbers resting.on (stands_numbers (view d.cache) resting.before.good.mark numbers)).0 in
+          let same = (is.numbers resting.on
+          (stands_numbers (view d.cache) resting.before.good.mark numbers)).0 in
           let clash : called.Numbers ≡ called.Off at = sym same ∙ off in
           absurd cc
 
   module _ (args : List ℤ) (words : AreWords args) (at : Phase) (n : Mode) (k k1 : ℕ) where
-    by_count : (tx count : ℕ) (same : Bool) → (count == length args) ≡ same → parameters_of program.image tx ≡ Some count
-        → commanded.CallsWith same program.image tx args d (answer.Stopped at) n b k k1 → Images (HasPhase at s) b.cache
+    by_count : (tx count : ℕ) (same : Bool) → (count == length args) ≡ same
+        → tx_parameters program.image tx ≡ Some count
+        → commanded.CallsWith same program.image tx args d (answer.Stopped at) n b k k1
+        → Images (HasPhase at s) b.cache
     by_count tx count true same takes h =
-        by_call tx args h.behind at k k1 (takes ∙ ap (λ (i : ℕ). Some i) (eqb-true count (length args) same)) words (off_of h.behind at h.answer) h.called
+        by_call tx args h.tx_answer at k k1
+        (takes ∙ ap (λ (i : ℕ). Some i) (eqb-true count (length args) same)) words
+        (off_of h.tx_answer at h.answer) h.called
     by_count tx count false same takes h = let e = h.0 in absurd cc
 
-    by_parameters : (tx : ℕ) (count : Option ℕ) → parameters_of program.image tx ≡ count → commanded.CallsTo count program.image tx args d (answer.Stopped at) n b k k1 → Images (HasPhase at s) b.cache
+    by_parameters : (tx : ℕ) (count : Option ℕ) → tx_parameters program.image tx ≡ count
+        → commanded.CallsTo count program.image tx args d (answer.Stopped at) n b k k1
+        → Images (HasPhase at s) b.cache
     by_parameters tx None takes h = let e = h.0 in absurd cc
     by_parameters tx (Some count) takes h = by_count tx count (count == length args) refl takes h
 
-    by_name : (number : Option ℕ) → commanded.CallsNamed number program.image args d (answer.Stopped at) n b k k1 → Images (HasPhase at s) b.cache
+    by_name : (number : Option ℕ) → commanded.CallsNamed number program.image args d
+        (answer.Stopped at) n b k k1 → Images (HasPhase at s) b.cache
     by_name None h = let e = h.0 in absurd cc
-    by_name (Some tx) h = by_parameters tx (parameters_of program.image tx) refl h
+    by_name (Some tx) h = by_parameters tx (tx_parameters program.image tx) refl h
 
-module _ (program : Program) (counts : Counts) (super : Words) (agrees : Agrees program counts) (name : List ℕ) (args : List ℤ) (words : AreWords args) (n : Mode) (d b : Device) (s : State) (at : Phase) (k k1 : ℕ) where
-  in_mode : (m : Mode) → commanded.Calls program name args m d (answer.Stopped at) n b k k1 → (m ≡ mode.Ready → IsResting program super d s) → Images (HasPhase at s) b.cache
-  in_mode mode.Ready h resting = by_name program counts super agrees d b s (resting refl) args words at n k k1 (number_of program name) h
+module _ (program : Program) (super : Words) (agrees : Agrees program)
+    (name : List ℕ) (args : List ℤ) (words : AreWords args) (n : Mode) (d b : Device)
+    (s : SourceState) (at : Phase) (k k1 : ℕ) where
+  in_mode : (m : Mode) → commanded.Calls program name args m d (answer.Stopped at) n b k k1
+      → (m ≡ mode.Ready → IsResting program super d s) → Images (HasPhase at s) b.cache
+  in_mode mode.Ready h resting = by_name program super agrees d b s (resting refl) args words
+      at n k k1 (call_number program name) h
   in_mode mode.Down h resting = let e = h.0 in absurd cc
   in_mode (mode.Unusable kind) h resting = let e = h.0 in absurd cc
 
-  at_rest : (m : Mode) (st : Standing) → HoldsAs st program super m d s → m ≡ mode.Ready → IsResting program super d s
+  at_rest : (m : Mode) (st : Standing) → HoldsAs st program super m d s → m ≡ mode.Ready
+      → IsResting program super d s
   at_rest m Ready holds is = holds.1
-  at_rest m (Down None) holds is = let clash : mode.Down ≡ mode.Ready = sym holds.0 ∙ is in absurd cc
-  at_rest m (Down (Some owed)) holds is = let clash : mode.Down ≡ mode.Ready = sym holds.0 ∙ is in absurd cc
-  at_rest m (Unusable kind) holds is = let clash : mode.Unusable kind ≡ mode.Ready = sym holds.0 ∙ is in absurd cc
+  at_rest m (Down None) holds is = let clash : mode.Down ≡ mode.Ready = sym holds.0 ∙ is in
+      absurd cc
+  at_rest m (Down (Some owed)) holds is = let clash : mode.Down ≡ mode.Ready = sym holds.0 ∙ is in
+      absurd cc
+  at_rest m (Unusable kind) holds is = let clash : mode.Unusable kind ≡ mode.Ready =
+      sym holds.0 ∙ is in absurd cc
 
 pub stopped_phase : PhaseLaw
-stopped_phase program counts super name args m n d b s at k k1 agrees words holds h =
-    in_mode program counts super agrees name args words n d b s at k k1 m h (λ is. at_rest program counts super agrees name args words n d b s at k k1 m s.standing holds is)
+stopped_phase program super name args m n d b s at k k1 agrees words holds h =
+    in_mode program super agrees name args words n d b s at k k1 m h
+    (λ is. at_rest program super agrees name args words n d b s at k k1 m
+    s.standing holds is)

@@ -26,17 +26,19 @@ use Rattle.crash_law.specs.Law.{IsAtRest}
 use Rattle.run_law.specs.Sound.{IsSoundRun}
 use Rattle.cut_law.specs.Law.{pool_with}
 use Rattle.cnvm_session.specs.declared.program.Program.{Program}
-use Rattle.session_law.specs.Source.{Counts, sizes_of, comes_to, pool_of, HasHeaders}
-use Rattle.session_law.specs.Words.{HasWords}
+use Rattle.session_law.specs.Source.{sizes_of, LogsStores, outcome_with, ComesTo, source_pool, HasSourceHeaders}
+use Rattle.session_law.specs.Words.{HasPoolWords}
 use Rattle.session_law.specs.Agrees.{Matches, RunsAs}
-use Rattle.session_law.specs.State.{Pending, State}
+use Rattle.session_law.specs.State.{Pending, SourceState}
 use Rattle.session_law.specs.Answers.{TrapsAs}
 use Rattle.session_law.specs.Holds.{HoldsPool, IsResting, OwesNone}
 use Rattle.session_law.proofs.Ones.{rest_images}
 use Rattle.session_law.proofs.Heaps.{pool_same, headers_same}
 
--- the same image, whose heap is this one too
-good_with : (pool : Pool) (d : ℕ) (h g image : Words) → ((w : ℕ) → w < heap_words pool.sizes → image (at (places.pool_of pool.sizes) (Heap w)) ≡ g w) → Good pool d h image → Good pool d g image
+-- an image that is good with one heap is good with another if its heap has the words of that one
+good_with : (pool : Pool) (d : ℕ) (h g image : Words)
+    → ((w : ℕ) → w < heap_words pool.sizes → image (at (places.pool_of pool.sizes) (Heap w)) ≡ g w)
+    → Good pool d h image → Good pool d g image
 good_with pool d h g image same good =
     record {
       super = good.super;
@@ -52,26 +54,40 @@ good_with pool d h g image same good =
     }
 
 -- a heap that the view has is the view's own
-pub resting_at : (program : Program) (super : Words) (d : Device) (s : State) (h : Words) → d.on ≡ true → IsAtRest d.cache
-    → IsBefore (pool_with program.image super) s.done h s.last (view d.cache) → count_in (sizes_of program) (view d.cache) ≡ 0 → HoldsPool program h s → IsResting program super d s
+pub resting_at : (program : Program) (super : Words) (d : Device) (s : SourceState) (h : Words)
+    → d.on ≡ true → IsAtRest d.cache
+    → IsBefore (pool_with program.image super) s.done h s.last (view d.cache)
+    → count_in (sizes_of program) (view d.cache) ≡ 0 → HoldsPool program h s
+    → IsResting program super d s
 resting_at program super d s h on rest before empty holds =
     let g : Words = heap_in (sizes_of program) d.cache in
-    let same : (w : ℕ) → w < heap_words (sizes_of program) → h w ≡ g w = λ w less. sym (before.good.heap w less) in
+    let same : (w : ℕ) → w < heap_words (sizes_of program) → h w ≡ g w =
+    λ w less. sym (before.good.heap w less) in
     record {
       on = on;
       rest = rest;
-      before = record { good = good_with (pool_with program.image super) s.done h g (view d.cache) (λ w less. refl) before.good; last_is = before.last_is };
+      before = record {
+        good = good_with (pool_with program.image super) s.done h g (view d.cache)
+            (λ w less. refl) before.good;
+        last_is = before.last_is;
+      };
       empty = empty;
-      holds = record { headers = headers_same program h g same holds.headers; pool = sym (pool_same program h g same) ∙ holds.pool; words = holds.words };
+      holds = record {
+        headers = headers_same program h g same holds.headers;
+        pool = sym (pool_same program h g same) ∙ holds.pool;
+        words = holds.words;
+      };
     }
 
 -- at rest nothing is owed
-pub resting_owes : (program : Program) (super : Words) (d : Device) (s : State) → IsResting program super d s → OwesNone program super d s
+pub resting_owes : (program : Program) (super : Words) (d : Device) (s : SourceState)
+    → IsResting program super d s → OwesNone program super d s
 resting_owes program super d s resting =
     record {
       heap = heap_in (sizes_of program) d.cache;
       holds = resting.holds;
-      left = rest_images (IsBefore (pool_with program.image super) s.done (heap_in (sizes_of program) d.cache) s.last) d.cache resting.rest resting.before;
+      left = rest_images (IsBefore (pool_with program.image super) s.done
+          (heap_in (sizes_of program) d.cache) s.last) d.cache resting.rest resting.before;
     }
 
 -- what holds during a list of events holds where one of them is refused
@@ -81,56 +97,113 @@ refused_cache Off d b h = ap (λ (x : Device). x.cache) h.1
 refused_cache Failed d b h = ap (λ (x : Device). x.cache) h.3
 refused_cache NoMemory d b h = ap (λ (x : Device). x.cache) h
 
-pub part_during : (Q : Cache → Type 0) (why : Refusal) (es : List CacheEvent) (d b : Device) → PlaysPart why d es b → during d.cache es Q → Q b.cache
+pub part_during : (Q : Cache → Type 0) (why : Refusal) (es : List CacheEvent) (d b : Device)
+    → PlaysPart why d es b → during d.cache es Q → Q b.cache
 part_during Q why [] d b part h = absurd part
 part_during Q why (e ∷ es) d b (inl refused) h = subst Q (sym (refused_cache why d b refused)) h.0
 part_during Q why (e ∷ es) d b (inr rest) h = part_during Q why es (spent d e) b rest.1 h.1
 
--- how the run of a transaction ends, by what the source says
+-- a run that ends with this value and heap, as the source says
 
 pub record HasHalted (program : Program) (o : Outcome) (v : ℤ) (h : Words) : Type 0 where
   pub pool : PoolMap
   pub is : o ≡ Done pool v
-  pub headers : HasHeaders program h
-  pub holds : pool_of program h ≡ pool
-  pub words : HasWords pool
+  pub headers : HasSourceHeaders program h
+  pub holds : source_pool program h ≡ pool
+  pub words : HasPoolWords pool
 
-halted_of : (program : Program) (o : Outcome) (v : ℤ) (h : Words) → Matches program o (Halted v) h → HasHalted program o v h
-halted_of program (Done pool value) v h is = record { pool = pool; is = ap (Done pool) (sym is.0); headers = is.1; holds = is.2; words = is.3 }
+halted_of : (program : Program) (o : Outcome) (v : ℤ) (h : Words) → Matches program o (Halted v) h
+    → HasHalted program o v h
+halted_of program (Done pool value) v h is =
+    record {
+      pool = pool;
+      is = ap (Done pool) (sym is.0);
+      headers = is.1;
+      holds = is.2;
+      words = is.3;
+    }
 halted_of program (Trap trap) v h is = absurd is
 
-trapped_of : (program : Program) (o : Outcome) (kind : TrapKind) (h : Words) → Matches program o (Trapped kind) h → TrapsAs o kind
+trapped_of : (program : Program) (o : Outcome) (kind : TrapKind) (h : Words)
+    → Matches program o (Trapped kind) h → o ≡ Trap kind
 trapped_of program (Done pool value) kind h is = absurd is
-trapped_of program (Trap trap) kind h is = is
+trapped_of program (Trap trap) kind h is = ap Trap (sym is)
 
-pub halted : (program : Program) (o : Outcome) (end : End) (v : ℤ) (h : Words) → end ≡ Halted v → Matches program o end h → HasHalted program o v h
-halted program o end v h is matches = halted_of program o v h (subst (λ (e : End). Matches program o e h) is matches)
+halted : (program : Program) (o : Outcome) (end : End) (v : ℤ) (h : Words) → end ≡ Halted v
+    → Matches program o end h → HasHalted program o v h
+halted program o end v h is matches =
+    halted_of program o v h (subst (λ (e : End). Matches program o e h) is matches)
 
-pub trapped : (program : Program) (o : Outcome) (end : End) (kind : TrapKind) (h : Words) → end ≡ Trapped kind → Matches program o end h → TrapsAs o kind
-trapped program o end kind h is matches = trapped_of program o kind h (subst (λ (e : End). Matches program o e h) is matches)
+trapped : (program : Program) (o : Outcome) (end : End) (kind : TrapKind) (h : Words)
+    → end ≡ Trapped kind → Matches program o end h → o ≡ Trap kind
+trapped program o end kind h is matches =
+    trapped_of program o kind h (subst (λ (e : End). Matches program o e h) is matches)
 
--- what the source says of the run that is known
-pub record Meant (program : Program) (counts : Counts) (s : State) (owed : Pending) (h : Words) (end : End) (es : List Effect) : Type 0 where
+-- what the source says of a known run of the machine
+pub record Meant (program : Program) (s : SourceState) (owed : Pending)
+    (h : Words) (end : End) (es : List Effect) : Type 0 where
   pub sound : IsSoundRun end es
+  pub logged : ℕ
+  pub logs : LogsStores program s.pool owed.tx owed.args logged
   pub matches :
-      Matches program (comes_to program counts s.pool owed.tx owed.args) end (heap_end h es)
-  pub counted : (v : ℤ) → end ≡ Halted v → records_end 0 es ≡ counts s.pool owed.tx owed.args
+      Matches program (outcome_with program s.pool owed.tx owed.args logged) end (heap_end h es)
+  pub counted : (v : ℤ) → end ≡ Halted v → records_end 0 es ≡ logged
 
-pub meant : (program : Program) (counts : Counts) (s : State) (owed : Pending) (h : Words) (end : End) (es : List Effect) → HoldsPool program h s → RunsAs program counts h owed.tx owed.args
-    → mrun program.image program.image.parts.most h owed.tx owed.args ≡ Finished end es → Meant program counts s owed h end es
-meant program counts s owed h end es holds runs ran =
+pub meant : (program : Program) (s : SourceState) (owed : Pending) (h : Words)
+    (end : End) (es : List Effect) → HoldsPool program h s
+    → RunsAs program h owed.tx owed.args
+    → mrun program.image program.image.parts.most h owed.tx owed.args ≡ Finished end es
+    → Meant program s owed h end es
+meant program s owed h end es holds runs ran =
     let same_end : runs.end ≡ end = let e = sym runs.ran ∙ ran in cc in
     let same_effects : runs.effects ≡ es = let e = sym runs.ran ∙ ran in cc in
-    let sound : IsSoundRun end es = subst (λ (e : End). IsSoundRun e es) same_end (subst (λ (fs : List Effect). IsSoundRun runs.end fs) same_effects runs.sound) in
-    let o : Outcome = comes_to program counts (pool_of program h) owed.tx owed.args in
+    let sound : IsSoundRun end es =
+    subst (λ (e : End). IsSoundRun e es) same_end
+    (subst (λ (fs : List Effect). IsSoundRun runs.end fs) same_effects runs.sound) in
+    let o : Outcome = outcome_with program (source_pool program h) owed.tx owed.args runs.logged in
     let own : Matches program o end (heap_end h es) =
-    subst (λ (e : End). Matches program o e (heap_end h es)) same_end (subst (λ (fs : List Effect). Matches program o runs.end (heap_end h fs)) same_effects runs.matches) in
-    let number : (v : ℤ) → end ≡ Halted v → records_end 0 es ≡ counts (pool_of program h) owed.tx owed.args =
-    λ v is. subst (λ (fs : List Effect). records_end 0 fs ≡ counts (pool_of program h) owed.tx owed.args) same_effects (runs.counted v (same_end ∙ is)) in
+    subst (λ (e : End). Matches program o e (heap_end h es)) same_end
+    (subst (λ (fs : List Effect). Matches program o runs.end (heap_end h fs)) same_effects
+    runs.matches) in
     record {
       sound = sound;
+      logged = runs.logged;
+      logs = subst (λ (p : PoolMap). LogsStores program p owed.tx owed.args runs.logged) holds.pool
+          runs.logs;
       matches =
-          subst (λ (p : PoolMap). Matches program (comes_to program counts p owed.tx owed.args) end (heap_end h es)) holds.pool own;
+          subst (λ (p : PoolMap).
+          Matches program (outcome_with program p owed.tx owed.args runs.logged) end
+          (heap_end h es)) holds.pool own;
       counted =
-          λ v is. subst (λ (p : PoolMap). records_end 0 es ≡ counts p owed.tx owed.args) holds.pool (number v is);
+          λ v is. subst (λ (fs : List Effect). records_end 0 fs ≡ runs.logged) same_effects
+          (runs.counted v (same_end ∙ is));
     }
+
+module _ (program : Program) (s : SourceState) (owed : Pending) (h : Words) (end : End)
+    (es : List Effect) (own : Meant program s owed h end es) where
+  -- a run that ends with a value
+  pub run_halted : (v : ℤ) → end ≡ Halted v →
+      HasHalted program (outcome_with program s.pool owed.tx owed.args own.logged) v (heap_end h es)
+  run_halted v is = halted program (outcome_with program s.pool owed.tx owed.args own.logged) end v
+      (heap_end h es) is own.matches
+
+  -- what its transaction comes to, with as many logged stores as the run has records
+  pub run_done : (v : ℤ) (is : end ≡ Halted v) (l : ℕ) → l ≡ records_end 0 es →
+      ComesTo program s.pool owed.tx owed.args l (Done (run_halted v is).pool v)
+  run_done v is l records =
+      subst (λ (n : ℕ).
+      ComesTo program s.pool owed.tx owed.args n (Done (run_halted v is).pool v))
+      (sym (records ∙ own.counted v is))
+      (record { logs = own.logs; is = (run_halted v is).is })
+
+  -- a run that traps
+  pub run_trapped : (kind : TrapKind) → end ≡ Trapped kind →
+      TrapsAs program s owed.tx owed.args kind
+  run_trapped kind is = (
+    own.logged,
+    record {
+      logs = own.logs;
+      is = trapped program (outcome_with program s.pool owed.tx owed.args own.logged) end kind
+          (heap_end h es) is own.matches;
+    },
+  )

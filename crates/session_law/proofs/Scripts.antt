@@ -14,12 +14,13 @@ use Rattle.cnvm_script.specs.declared.command.Command.TheVariants.{Call, Stop, F
 use Rattle.cnvm_script.specs.Lines.{lines}
 use Rattle.cnvm_script.specs.Lines as line_of
 use Rattle.cnvm_script.specs.Name.{is_name}
-use Rattle.cnvm_script.specs.Number.{numeral, as_positive, as_negative, argument, pick}
-use Rattle.cnvm_script.specs.Commands.{with_first, each, rising, call_of, event_of, choice_of, power_of, alone, command, is_remark, meaning, line_meaning, joined, commands_from}
+use Rattle.cnvm_script.specs.Number.{bounded_numeral, as_positive, as_negative, argument, pick}
+use Rattle.cnvm_script.specs.Commands.{with_first, each, rising, call_command, event_of, choice_of, power_of, alone, command, is_remark, meaning, line_meaning, joined_commands, commands_from}
 use Rattle.session_law.specs.Words.{AreWords}
 use Rattle.session_law.specs.Law.{IsWordCommand, ScriptLaw}
 
-either : {A : Type 0} (P : A → Type 0) (b : Bool) (x y : Option A) → IfSome x P → IfSome y P → IfSome (if b then x else y) P
+either : {A : Type 0} (P : A → Type 0) (b : Bool) (x y : Option A) → IfSome x P → IfSome y P
+    → IfSome (if b then x else y) P
 either P true x y first second = first
 either P false x y first second = second
 
@@ -29,7 +30,8 @@ positive_word : (n : ℕ) → IfSome (as_positive n) IsWord
 positive_word n = go (ltb n (2 ^ 63)) refl
   where
     go : (b : Bool) → ltb n (2 ^ 63) ≡ b → IfSome (if b then Some (pos n) else None) IsWord
-    go true is = let less : n < 2 ^ 63 = ltb-true n (2 ^ 63) is in (omega (arith, ints), omega (arith, ints))
+    go true is = let less : n < 2 ^ 63 = ltb-true n (2 ^ 63) is in
+        (omega (arith, ints), omega (arith, ints))
     go false is = tt
 
 minus_word : (n : ℕ) → n ≤ 2 ^ 63 → IsWord (neg_ℤ (pos n))
@@ -43,17 +45,21 @@ negative_word n = go (leb n (2 ^ 63)) refl
     go true is = minus_word n (leb-true n (2 ^ 63) is)
     go false is = tt
 
-then_word : (f : ℕ → Option ℤ) (o : Option ℕ) → ((n : ℕ) → IfSome (f n) IsWord) → IfSome (option_and_then f o) IsWord
+then_word : (f : ℕ → Option ℤ) (o : Option ℕ) → ((n : ℕ) → IfSome (f n) IsWord)
+    → IfSome (option_and_then f o) IsWord
 then_word f None each_is = tt
 then_word f (Some n) each_is = each_is n
 
 argument_word : (word : List ℕ) → IfSome (argument word) IsWord
 argument_word word =
-    either IsWord (starts_with_minus word) (option_and_then as_negative (numeral 19 (drop 1 word))) (option_and_then as_positive (numeral 19 word))
-    (then_word as_negative (numeral 19 (drop 1 word)) negative_word)
-    (then_word as_positive (numeral 19 word) positive_word)
+    either IsWord (starts_with_minus word)
+    (option_and_then as_negative (bounded_numeral 19 (drop 1 word)))
+    (option_and_then as_positive (bounded_numeral 19 word))
+    (then_word as_negative (bounded_numeral 19 (drop 1 word)) negative_word)
+    (then_word as_positive (bounded_numeral 19 word) positive_word)
 
-first_words : (first : Option ℤ) (others : Option (List ℤ)) → IfSome first IsWord → IfSome others AreWords → IfSome (with_first first others) AreWords
+first_words : (first : Option ℤ) (others : Option (List ℤ)) → IfSome first IsWord
+    → IfSome others AreWords → IfSome (with_first first others) AreWords
 first_words None others is are = tt
 first_words (Some x) None is are = tt
 first_words (Some x) (Some xs) is are = both
@@ -67,70 +73,86 @@ none_words i = (omega (arith, ints), omega (arith, ints))
 
 each_words : (words : List (List ℕ)) → IfSome (each argument words) AreWords
 each_words [] = none_words
-each_words (word ∷ words) = first_words (argument word) (each argument words) (argument_word word) (each_words words)
+each_words (word ∷ words) = first_words (argument word) (each argument words) (argument_word word)
+    (each_words words)
 
--- a command
+-- a call
 
-called_words : (name : List ℕ) (o : Option (List ℤ)) → IfSome o AreWords → IfSome (option_map (Call name) o) IsWordCommand
+called_words : (name : List ℕ) (o : Option (List ℤ)) → IfSome o AreWords
+    → IfSome (option_map (Call name) o) IsWordCommand
 called_words name None are = tt
 called_words name (Some args) are = are
 
-call_words : (words : List (List ℕ)) → IfSome (call_of words) IsWordCommand
+call_words : (words : List (List ℕ)) → IfSome (call_command words) IsWordCommand
 call_words [] = tt
 call_words (name ∷ args) =
-    either IsWordCommand (is_name name) (option_map (Call name) (each argument args)) None (called_words name (each argument args) (each_words args)) tt
+    either IsWordCommand (is_name name) (option_map (Call name) (each argument args)) None
+    (called_words name (each argument args) (each_words args)) tt
 
--- one without arguments
-other_words : {A : Type 0} (f : A → Command) (o : Option A) → ((x : A) → IsWordCommand (f x)) → IfSome (option_map f o) IsWordCommand
+-- a command that has no arguments to check
+other_words : {A : Type 0} (f : A → Command) (o : Option A) → ((x : A) → IsWordCommand (f x))
+    → IfSome (option_map f o) IsWordCommand
 other_words f None is = tt
 other_words f (Some x) is = is x
 
-alone_words : (c : Command) (words : List (List ℕ)) → IsWordCommand c → IfSome (alone c words) IsWordCommand
+alone_words : (c : Command) (words : List (List ℕ)) → IsWordCommand c
+    → IfSome (alone c words) IsWordCommand
 alone_words c [] is = is
 alone_words c (word ∷ words) is = tt
 
 choice_words : (rest : Rest) (picks : List (List ℕ)) → IfSome (choice_of rest picks) IsWordCommand
-choice_words rest picks = other_words (λ (ps : List Pick). Power (record { rest = rest; picks = ps })) (rising (each pick picks)) (λ ps. tt)
+choice_words rest picks = other_words (λ (ps : List Pick).
+    Power (record { rest = rest; picks = ps })) (rising (each pick picks)) (λ ps. tt)
 
 power_words : (words : List (List ℕ)) → IfSome (power_of words) IsWordCommand
 power_words [] = tt
 power_words (word ∷ picks) =
-    either IsWordCommand (bytes_eq word (codes "old")) (choice_of Old picks) (if bytes_eq word (codes "new") then choice_of New picks else None) (choice_words Old picks)
-    (either IsWordCommand (bytes_eq word (codes "new")) (choice_of New picks) None (choice_words New picks) tt)
+    either IsWordCommand (bytes_eq word (codes "old")) (choice_of Old picks)
+    (if bytes_eq word (codes "new") then choice_of New picks else None) (choice_words Old picks)
+    (either IsWordCommand (bytes_eq word (codes "new")) (choice_of New picks) None
+    (choice_words New picks) tt)
 
-command_words : (word : List ℕ) (others : List (List ℕ)) → IfSome (command word others) IsWordCommand
+command_words : (word : List ℕ) (others : List (List ℕ))
+    → IfSome (command word others) IsWordCommand
 command_words word others =
-    either IsWordCommand (bytes_eq word (codes "call")) (call_of others) _ (call_words others)
-    (either IsWordCommand (bytes_eq word (codes "stop")) (option_map Stop (event_of others)) _ (other_words Stop (event_of others) (λ n. tt))
-    (either IsWordCommand (bytes_eq word (codes "fault")) (option_map Fault (event_of others)) _ (other_words Fault (event_of others) (λ n. tt))
+    either IsWordCommand (bytes_eq word (codes "call")) (call_command others) _ (call_words others)
+    (either IsWordCommand (bytes_eq word (codes "stop")) (option_map Stop (event_of others)) _
+    (other_words Stop (event_of others) (λ n. tt))
+    (either IsWordCommand (bytes_eq word (codes "fault")) (option_map Fault (event_of others)) _
+    (other_words Fault (event_of others) (λ n. tt))
     (either IsWordCommand (bytes_eq word (codes "power")) (power_of others) _ (power_words others)
-    (either IsWordCommand (bytes_eq word (codes "show")) (alone Show others) _ (alone_words Show others tt)
-    (either IsWordCommand (bytes_eq word (codes "last")) (alone Last others) None (alone_words Last others tt) tt)))))
+    (either IsWordCommand (bytes_eq word (codes "show")) (alone Show others) _
+    (alone_words Show others tt)
+    (either IsWordCommand (bytes_eq word (codes "last")) (alone Last others) None
+    (alone_words Last others tt) tt)))))
 
 -- a line, and the lines
 
 abbrev AreAllSome : Option (Option Command) → Type 0
 AreAllSome found = IfSome found (λ (o : Option Command). IfSome o IsWordCommand)
 
-found_words : (o : Option Command) → IfSome o IsWordCommand → AreAllSome (option_map (λ (c : Command). Some c) o)
+found_words : (o : Option Command) → IfSome o IsWordCommand
+    → AreAllSome (option_map (λ (c : Command). Some c) o)
 found_words None is = tt
 found_words (Some c) is = is
 
 meaning_words : (words : List (List ℕ)) → AreAllSome (meaning words)
 meaning_words [] = tt
 meaning_words (word ∷ others) =
-    either (λ (o : Option Command). IfSome o IsWordCommand) (is_remark word) (Some None) (option_map (λ (c : Command). Some c) (command word others)) tt
+    either (λ (o : Option Command). IfSome o IsWordCommand) (is_remark word) (Some None)
+    (option_map (λ (c : Command). Some c) (command word others)) tt
     (found_words (command word others) (command_words word others))
 
 abbrev AreAll : List Command → Type 0
 AreAll commands = AllByRecursion IsWordCommand commands
 
--- of all commands that a result has
+-- the condition on each command of a result, if it has commands
 abbrev HasAll : Result (List Command) ℕ → Type 0
 HasAll (Ok commands) = AreAll commands
 HasAll (Err bad) = Unit {0}
 
-joined_words : (n : ℕ) (found : Option (Option Command)) (others : Result (List Command) ℕ) → AreAllSome found → HasAll others → HasAll (joined n found others)
+joined_words : (n : ℕ) (found : Option (Option Command)) (others : Result (List Command) ℕ)
+    → AreAllSome found → HasAll others → HasAll (joined_commands n found others)
 joined_words n None others is all = tt
 joined_words n (Some None) others is all = all
 joined_words n (Some (Some c)) (Ok commands) is all = (is, all)
@@ -138,7 +160,8 @@ joined_words n (Some (Some c)) (Err bad) is all = tt
 
 from_words : (n : ℕ) (ls : List (List ℕ)) → HasAll (commands_from n ls)
 from_words n [] = tt
-from_words n (line ∷ ls) = joined_words n (line_meaning line) (commands_from (n + 1) ls) (meaning_words (line_of.words line)) (from_words (n + 1) ls)
+from_words n (line ∷ ls) = joined_words n (line_meaning line) (commands_from (n + 1) ls)
+    (meaning_words (line_of.words_of_line line)) (from_words (n + 1) ls)
 
 pub script_words : ScriptLaw
 script_words text commands is = subst HasAll is (from_words 1 (lines text))

@@ -1,9 +1,10 @@
--- How many steps a recovery takes that runs an owed transaction to its end.
+-- How many steps a recovery takes if it runs an owed transaction to its end.
 use Rattle.std.proofs.Common.{◌≡◌, inl, inr, ℕ, suc, ◌+◌, Bool, true, false, List, length, Option, Some, None, refl, subst, arith}
 use Rattle.cache_model.specs.Cache.{Words, view}
 use Rattle.cache_model.specs.Collapse.{bad}
 use Rattle.cache_model.specs.declared.choice.Choice.{Choice}
 use Rattle.pmem.specs.Device.{Device, memory_of, powered}
+use Rattle.pool_layout.specs.declared.places.TheConstants.{MARK}
 use Rattle.pool_map.specs.Trap.{trap_number}
 use Rattle.clobber_log.specs.Logs.{count_in}
 use Rattle.pm_machine.specs.declared.effect.Effect.{Effect}
@@ -13,7 +14,7 @@ use Rattle.pm_machine.specs.Effects.{heap_end}
 use Rattle.crash_law.specs.Pools.{Pool, Call, Good}
 use Rattle.crash_law.specs.Law.{IsCut, IsEnd}
 use Rattle.run_law.specs.Seen.{result_of, E, W}
-use Rattle.recovery.specs.Recovered.{Cleaned}
+use Rattle.recovery.specs.Recovered.{Cleaned, IsRecovered, numbers_out}
 use Rattle.recovery.specs.declared.answer.RecoverAnswer.{RecoverAnswer}
 use Rattle.recovery.specs.declared.answer.RecoverAnswer.TheVariants as recovered
 use Rattle.recovery.specs.Due.{due_clean}
@@ -23,12 +24,12 @@ use Rattle.cnvm_session.specs.declared.mode.Mode.{Mode}
 use Rattle.cnvm_session.specs.declared.answer.Answer.{Answer}
 use Rattle.cnvm_session.specs.declared.answer.Answer.TheVariants as answer
 use Rattle.cnvm_session.specs.declared.program.Program.{Program}
-use Rattle.cnvm_session.specs.Outcomes.{IsRecovered, numbers_out, answer_of_recovery}
+use Rattle.cnvm_session.specs.Outcomes.{answer_of_recovery}
 use Rattle.cnvm_session.specs.Commands as commanded
 use Rattle.cnvm_session.specs.Commands.{fallen}
-use Rattle.session_law.specs.Source.{Counts, sizes_of}
+use Rattle.session_law.specs.Source.{sizes_of}
 use Rattle.session_law.specs.Agrees.{Agrees}
-use Rattle.session_law.specs.State.{Pending, State}
+use Rattle.session_law.specs.State.{Pending, SourceState}
 use Rattle.session_law.specs.Holds.{OwesOne}
 use Rattle.session_law.specs.Law.{IsRedone, StepsLaw}
 use Rattle.session_law.proofs.Ones.{left_rest, at_left}
@@ -36,14 +37,18 @@ use Rattle.session_law.proofs.Reading.{is_marked, is_unsealed}
 use Rattle.session_law.proofs.Recoveries.{marked_recovers, redo_tells}
 
 -- a recovery of a pool where nothing is owed runs no transaction
-module _ (program : Program) (e b : Device) (r : RecoverAnswer) (k k1 : ℕ) (redone : IsRedone (answer_of_recovery r)) where
+module _ (program : Program) (e b : Device) (r : RecoverAnswer) (k k1 : ℕ)
+    (redone : IsRedone (answer_of_recovery r)) where
   not_numbers : r ≡ recovered.Numbers → ⊥
   not_numbers is = subst (λ (x : RecoverAnswer). IsRedone (answer_of_recovery x)) is redone
 
-  not_good : (pool : Pool) (d : ℕ) (h : Words) → e.on ≡ true → Good pool d h (view e.cache) → IsRecovered r program.image e b k k1 → ⊥
+  not_good : (pool : Pool) (d : ℕ) (h : Words) → e.on ≡ true → Good pool d h (view e.cache)
+      → IsRecovered r program.image e b k k1 → ⊥
   not_good pool d h on good is = go (numbers_out program.image e) refl
     where
-      clean : (x : RecoverAnswer) → IsRedone (answer_of_recovery x) → Cleaned x e (due_clean (sizes_of program) (count_in (sizes_of program) (view e.cache)) e.cache) b → ⊥
+      clean : (x : RecoverAnswer) → IsRedone (answer_of_recovery x)
+          → Cleaned x e (due_clean (sizes_of program) (count_in (sizes_of program) (view e.cache))
+          e.cache) b → ⊥
       clean recovered.Clean some h = some
       clean (recovered.Redone v l) some h = h
       clean (recovered.Trap kind) some h = h
@@ -55,9 +60,11 @@ module _ (program : Program) (e b : Device) (r : RecoverAnswer) (k k1 : ℕ) (re
 
       go : (out : Bool) → numbers_out program.image e ≡ out → ⊥
       go true out = not_numbers (is.numbers on good.mark out).0
-      go false in_range = clean r redone (is.clean on good.mark in_range (is_unsealed (view e.cache) d good.done good.unsealed))
+      go false in_range = clean r redone
+          (is.clean on good.mark in_range (is_unsealed (view e.cache) d good.done good.unsealed))
 
-module _ (program : Program) (counts : Counts) (super : Words) (agrees : Agrees program counts) (choice : Choice) (owed : Pending) (d b : Device) (s : State) (k k1 : ℕ)
+module _ (program : Program) (super : Words) (agrees : Agrees program)
+    (choice : Choice) (owed : Pending) (d b : Device) (s : SourceState) (k k1 : ℕ)
     (owes : OwesOne program super owed d s) where
   abbrev e : Device
   e = powered choice d
@@ -80,13 +87,19 @@ module _ (program : Program) (counts : Counts) (super : Words) (agrees : Agrees 
   abbrev Taken : Type 0
   Taken = k1 ≡ k + (m + suc (length es))
 
-  ended : (x : End) (r : RecoverAnswer) → IsRedone (answer_of_recovery r) → IsEnd pool call (heap_end h es) (result_of x) (view e.cache) → IsRecovered r program.image e b k k1 → Taken
-  ended (Halted v) r redone seen is = absurd (not_good program e b r k k1 redone pool (suc s.done) (heap_end h es) refl seen.good is)
+  ended : (x : End) (r : RecoverAnswer) → IsRedone (answer_of_recovery r)
+      → IsEnd pool call (heap_end h es) (result_of x) (view e.cache)
+      → IsRecovered r program.image e b k k1 → Taken
+  ended (Halted v) r redone seen is =
+      absurd (not_good program e b r k k1 redone pool (suc s.done) (heap_end h es) refl
+      seen.good is)
   ended (Trapped kind) r redone lost is =
-      let marked = marked_recovers program e b kind r k k1 refl lost.0 (is_marked (view e.cache 19) (trap_number kind) lost.0 lost.1) is in
+      let marked = marked_recovers program e b kind r k k1 refl lost.0
+      (is_marked (view e.cache MARK) (trap_number kind) lost.0 lost.1) is in
       absurd (subst (λ (x : RecoverAnswer). IsRedone (answer_of_recovery x)) marked.0 redone)
 
-  taken : (r : RecoverAnswer) (x : Type 0) → IsRedone (answer_of_recovery r) → leaves.Retells r owes.end es x (k + m) k1 → Taken
+  taken : (r : RecoverAnswer) (x : Type 0) → IsRedone (answer_of_recovery r)
+      → leaves.Retells r owes.end es x (k + m) k1 → Taken
   taken (recovered.Redone v l) x redone tells = let count = tells.1.2 in omega arith
   taken (recovered.Trap kind) x redone tells = let count = tells.2 in omega arith
   taken recovered.Clean x redone tells = absurd redone
@@ -96,26 +109,40 @@ module _ (program : Program) (counts : Counts) (super : Words) (agrees : Agrees 
   taken recovered.Failed x redone tells = absurd redone
   taken recovered.NoMemory x redone tells = absurd redone
 
-  at_cut : (r : RecoverAnswer) → IsRedone (answer_of_recovery r) → IsCut pool call (E es) (W es) h (heap_end h es) s.last (result_of owes.end) (view e.cache) → IsRecovered r program.image e b k k1 → Taken
-  at_cut r redone (inl before) is = absurd (not_good program e b r k k1 redone pool s.done h refl before.good is)
+  at_cut : (r : RecoverAnswer) → IsRedone (answer_of_recovery r)
+      → IsCut pool call (E es) (W es) h (heap_end h es) s.last (result_of owes.end) (view e.cache)
+      → IsRecovered r program.image e b k k1 → Taken
+  at_cut r redone (inl before) is =
+      absurd (not_good program e b r k k1 redone pool s.done h refl before.good is)
   at_cut r redone (inr (inl sealed)) is =
       taken r _ redone
-      (redo_tells program counts super agrees e s owed h owes.end es refl (left_rest d.cache choice.rest choice.picks) owes.holds owes.takes owes.words owes.ran sealed r b k k1 (not_numbers program e b r k k1 redone) is)
+      (redo_tells program super agrees e s owed h owes.end es refl
+      (left_rest d.cache choice.rest choice.picks) owes.holds owes.takes owes.words owes.ran
+      sealed r b k k1 (not_numbers program e b r k k1 redone) is)
   at_cut r redone (inr (inr seen)) is = ended owes.end r redone seen is
 
-  by_answer : (r : RecoverAnswer) → IsRedone (answer_of_recovery r) → IsRecovered r program.image e b k k1 → Taken
-  by_answer r redone is = at_cut r redone (at_left (IsCut pool call (E es) (W es) h (heap_end h es) s.last (result_of owes.end)) d.cache choice.rest choice.picks owes.left) is
+  by_answer : (r : RecoverAnswer) → IsRedone (answer_of_recovery r)
+      → IsRecovered r program.image e b k k1 → Taken
+  by_answer r redone is = at_cut r redone
+      (at_left (IsCut pool call (E es) (W es) h (heap_end h es) s.last (result_of owes.end)) d.cache
+      choice.rest choice.picks owes.left) is
 
   not_pick : (m n : Mode) (a : Answer) (line : ℕ) → IsRedone a →
       commanded.Refused (answer.RefusedPick line) m d a n b k k1 → ⊥
   not_pick m n a line redone refused = subst IsRedone refused.0 redone
 
-  by_picks : (m n : Mode) (a : Answer) → IsRedone a → commanded.Powers program.image choice m d a n b k k1 → (first pick : Option ℕ) → fallen 0 choice.picks ≡ first → bad (memory_of d) choice.picks ≡ pick → Taken
-  by_picks m n a redone powers (Some line) pick falls is = absurd (not_pick m n a line redone (powers.0 line falls))
-  by_picks m n a redone powers None (Some line) rises is = absurd (not_pick m n a line redone (powers.1 line rises is))
+  by_picks : (m n : Mode) (a : Answer) → IsRedone a
+      → commanded.Powers program.image choice m d a n b k k1 → (first pick : Option ℕ)
+      → fallen 0 choice.picks ≡ first → bad (memory_of d) choice.picks ≡ pick → Taken
+  by_picks m n a redone powers (Some line) pick falls is =
+      absurd (not_pick m n a line redone (powers.0 line falls))
+  by_picks m n a redone powers None (Some line) rises is =
+      absurd (not_pick m n a line redone (powers.1 line rises is))
   by_picks m n a redone powers None None rises fits =
-      let recovers = powers.2 rises fits in by_answer recovers.behind (subst IsRedone recovers.answer redone) recovers.recovered
+      let recovers = powers.2 rises fits in
+      by_answer recovers.tx_answer (subst IsRedone recovers.answer redone) recovers.recovered
 
 pub redone_steps : StepsLaw
-redone_steps program counts super choice owed m n d b s a k k1 agrees owes redone powers =
-    by_picks program counts super agrees choice owed d b s k k1 owes m n a redone powers (fallen 0 choice.picks) (bad (memory_of d) choice.picks) refl refl
+redone_steps program super choice owed m n d b s a k k1 agrees owes redone powers =
+    by_picks program super agrees choice owed d b s k k1 owes m n a redone powers
+    (fallen 0 choice.picks) (bad (memory_of d) choice.picks) refl refl

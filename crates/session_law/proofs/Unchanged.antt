@@ -6,11 +6,11 @@ use Rattle.cnvm_script.specs.declared.command.Command.TheVariants as command
 use Rattle.cnvm_session.specs.declared.answer.Answer.{Answer}
 use Rattle.cnvm_session.specs.declared.answer.Answer.TheVariants as answer
 use Rattle.cnvm_session.specs.declared.program.Program.{Program}
-use Rattle.cnvm_session.specs.Commands.{number_of}
+use Rattle.cnvm_session.specs.Commands.{call_number}
 use Rattle.cnvm_session.specs.Laws.{IsRefusal, IsBadPick, IsRefused}
 use Rattle.cnvm_session.proofs.Refusing.{command_kept}
-use Rattle.session_law.specs.Source.{Counts, parameters}
-use Rattle.session_law.specs.State.{Pending, Standing, Ready, Down, Unusable, State}
+use Rattle.session_law.specs.Source.{source_parameters}
+use Rattle.session_law.specs.State.{Pending, Standing, Ready, Down, Unusable, SourceState}
 use Rattle.session_law.specs.Answers.{Runs, CallsWith, CallsTo, CallsNamed, Calls, Tells, Shows, Lasts, Powers, Answers}
 use Rattle.session_law.specs.History.{call_to, called_by, recovered_by, done_by}
 use Rattle.session_law.specs.Ran.{found_by}
@@ -35,9 +35,9 @@ none_called call answer.RefusedArity is = refl
 none_called call answer.RefusedNumbers is = refl
 none_called call (answer.RefusedPick line) is = absurd is
 
-module _ (program : Program) (counts : Counts) (s t : State) (image : Words) where
+module _ (program : Program) (s t : SourceState) (image : Words) where
   runs_same : (tx : ℕ) (args : List ℤ) (a : Answer) → IsRefusal a →
-      Runs program counts s image tx args a t → t ≡ s
+      Runs program s image tx args a t → t ≡ s
   runs_same tx args answer.Silent refused is = absurd refused
   runs_same tx args (answer.Done value logged) refused is = absurd refused
   runs_same tx args (answer.Trap kind) refused is = absurd refused
@@ -57,23 +57,24 @@ module _ (program : Program) (counts : Counts) (s t : State) (image : Words) whe
   runs_same tx args (answer.RefusedPick line) refused is = absurd refused
 
   with_same : (tx : ℕ) (args : List ℤ) (same : Bool) (a : Answer) → IsRefusal a →
-      CallsWith same program counts s image tx args a t → t ≡ s
+      CallsWith same program s image tx args a t → t ≡ s
   with_same tx args true a refused is = runs_same tx args a refused is
   with_same tx args false a refused is = is.1
 
   to_same : (tx : ℕ) (args : List ℤ) (count : Option ℕ) (a : Answer) → IsRefusal a →
-      CallsTo count program counts s image tx args a t → t ≡ s
+      CallsTo count program s image tx args a t → t ≡ s
   to_same tx args None a refused is = is.1
   to_same tx args (Some count) a refused is = with_same tx args (count == length args) a refused is
 
   named_same : (args : List ℤ) (number : Option ℕ) (a : Answer) → IsRefusal a →
-      CallsNamed number program counts s image args a t → t ≡ s
+      CallsNamed number program s image args a t → t ≡ s
   named_same args None a refused is = is.1
-  named_same args (Some tx) a refused is = to_same tx args (parameters program tx) a refused is
+  named_same args (Some tx) a refused is =
+      to_same tx args (source_parameters program tx) a refused is
 
   calls_same : (name : List ℕ) (args : List ℤ) (st : Standing) (a : Answer) → IsRefusal a →
-      Calls st program counts s image name args a t → t ≡ s
-  calls_same name args Ready a refused is = named_same args (number_of program name) a refused is
+      Calls st program s image name args a t → t ≡ s
+  calls_same name args Ready a refused is = named_same args (call_number program name) a refused is
   calls_same name args (Down owed) a refused is = is.1
   calls_same name args (Unusable kind) a refused is = is.1
 
@@ -106,7 +107,7 @@ module _ (program : Program) (counts : Counts) (s t : State) (image : Words) whe
   lasts_same (Down owed) a is = is.1
   lasts_same (Unusable kind) a is = is.1
 
-  picks_same : (a : Answer) → IsBadPick a → Powers program counts s image a t →
+  picks_same : (a : Answer) → IsBadPick a → Powers program s image a t →
       (t ≡ s) × (recovered_by s image a ≡ [])
   picks_same answer.Silent refused is = absurd refused
   picks_same (answer.Done value logged) refused is = absurd refused
@@ -126,10 +127,12 @@ module _ (program : Program) (counts : Counts) (s t : State) (image : Words) whe
   picks_same answer.RefusedNumbers refused is = absurd refused
   picks_same (answer.RefusedPick line) refused is = (is, refl)
 
-  answers_same : (c : Command) (a : Answer) → IsRefused c a → Answers program counts s image c a t →
+  answers_same : (c : Command) (a : Answer) → IsRefused c a → Answers program s image c a t →
       (t ≡ s) × (done_by program s image c a ≡ [])
-  answers_same (command.Call name args) a refused is =
-      (calls_same name args s.standing a refused is, none_called (call_to (number_of program name) args) a refused)
+  answers_same (command.Call name args) a refused is = (
+    calls_same name args s.standing a refused is,
+    none_called (call_to (call_number program name) args) a refused,
+  )
   answers_same (command.Stop left) a refused is = (is.1, refl)
   answers_same (command.Fault at) a refused is = (is.1, refl)
   answers_same (command.Power choice) a refused is = picks_same a refused is
@@ -137,9 +140,11 @@ module _ (program : Program) (counts : Counts) (s t : State) (image : Words) whe
   answers_same command.Last a refused is = (lasts_same s.standing a is, refl)
 
 pub step_unchanged : UnchangedLaw
-step_unchanged program counts super c x a y refused step =
-    let same = answers_same program counts x.state y.state (found_by c x.device) c a refused step.meant in
-    let kept = command_kept program c x.mode y.mode x.device y.device a x.steps y.steps refused step.did in (
+step_unchanged program super c x a y refused step =
+    let same = answers_same program x.state y.state (found_by c x.device) c a refused
+    step.meant in
+    let kept = command_kept program c x.mode y.mode x.device y.device a x.steps y.steps refused
+    step.did in (
       kept.0,
       same.0,
       step.history ∙ ap (λ (ds : List Pending). x.history ++ ds) same.1 ∙ append-nil x.history,

@@ -1,4 +1,5 @@
--- Pools and arguments of words: a new pool's, those of a heap whose numbers are words, and those of an image's record.
+-- Pools and arguments are made of words: a new pool's, those of a heap whose numbers are words, and
+-- those of an image's record.
 use Rattle.std.proofs.Common.{ℕ, zero, suc, ◌+◌, ◌-◌, Bool, true, false, cond, if◌then◌else◌, nat_lt, List, replicate, slice_index_or, slice_get, Option, Some, None, ℤ, pos, int_eq, sym, subst, arith}
 use Rattle.std.proofs.lemmas.Int.{ints}
 use Rattle.nvm_base.specs.Wrap.{IsWord}
@@ -17,12 +18,12 @@ use Rattle.pool_map.specs.PoolMap.{field_of, empty_pool, read}
 use Rattle.c_types.specs.Shapes.{shapes_of}
 use Rattle.pm_machine.specs.declared.image.Image.{Image}
 use Rattle.recovery.specs.Found as record_of
-use Rattle.recovery.specs.Found.{taken, recorded}
+use Rattle.recovery.specs.Found.{entry_words, recorded}
 use Rattle.cnvm_session.specs.declared.program.Program.{Program}
 use Rattle.cnvm_session.specs.Shown.{words_from, object_with, kind_in, object_of, objects_from}
-use Rattle.session_law.specs.Source.{sizes_of, pool_of}
-use Rattle.session_law.specs.Words.{AreWords, HasWords}
-use Rattle.session_law.specs.State.{State}
+use Rattle.session_law.specs.Source.{sizes_of, source_pool}
+use Rattle.session_law.specs.Words.{AreWords, HasPoolWords}
+use Rattle.session_law.specs.State.{SourceState}
 use Rattle.session_law.specs.Holds.{HoldsPool}
 
 zero_word : IsWord (pos 0)
@@ -32,10 +33,11 @@ zero_word = (omega (arith, ints), omega (arith, ints))
 abbrev pub AreAll : Words → Type 0
 AreAll h = (w : ℕ) → IsWord (h w)
 
-pub held_words : (program : Program) (h : Words) (s : State) → HoldsPool program h s → HasWords (pool_of program h)
-held_words program h s holds = subst HasWords (sym holds.pool) holds.words
+pub held_words : (program : Program) (h : Words) (s : SourceState) → HoldsPool program h s
+    → HasPoolWords (source_pool program h)
+held_words program h s holds = subst HasPoolWords (sym holds.pool) holds.words
 
--- each field of an object is a word, and each of the objects' fields
+-- each field of an object is a word
 
 abbrev OfWords : Option Object → Type 0
 OfWords o = (i : ℕ) → IsWord (field_of o i)
@@ -43,14 +45,15 @@ OfWords o = (i : ℕ) → IsWord (field_of o i)
 abbrev AreOfWords : List (Option Object) → Type 0
 AreOfWords os = (n : ℕ) → OfWords (slice_index_or os n None)
 
-has_words : (root : List ℤ) (slots : List (Option Object)) → AreWords root → AreOfWords slots → HasWords (record { root = root; slots = slots })
+has_words : (root : List ℤ) (slots : List (Option Object)) → AreWords root → AreOfWords slots
+    → HasPoolWords (record { root = root; slots = slots })
 has_words root slots are all = record { root = are; objects = objects }
   where
     objects : (slot i : ℕ) → IsWord (read (record { root = root; slots = slots }) slot i)
     objects zero i = zero_word
     objects (suc n) i = all n i
 
--- a new pool
+-- the words of a new pool
 
 zeros_words : (n : ℕ) → AreWords (replicate n (pos 0))
 zeros_words zero i = zero_word
@@ -62,10 +65,12 @@ free_words zero slot i = zero_word
 free_words (suc n) zero i = zero_word
 free_words (suc n) (suc slot) i = free_words n slot i
 
-pub empty_words : (root_words slots : ℕ) → HasWords (empty_pool root_words slots)
-empty_words root_words slots = has_words (replicate root_words (pos 0)) (replicate slots None) (zeros_words root_words) (free_words slots)
+pub empty_words : (root_words slots : ℕ) → HasPoolWords (empty_pool root_words slots)
+empty_words root_words slots =
+    has_words (replicate root_words (pos 0)) (replicate slots None) (zeros_words root_words)
+    (free_words slots)
 
--- the pool of a heap
+-- the words of a heap's pool
 
 module _ (h : Words) (are : AreAll h) where
   list_words : (w n : ℕ) → AreWords (words_from h w n)
@@ -77,7 +82,9 @@ module _ (h : Words) (are : AreAll h) where
   with_words w kind None i = zero_word
   with_words w kind (Some shape) i = go (nat_lt 15 (words_of shape.fields))
     where
-      go : (b : Bool) → IsWord (field_of (if b then None else Some (record { kind = kind; fields = words_from h (w + 1) (words_of shape.fields) })) i)
+      go : (b : Bool) → IsWord (field_of (if b then None
+          else Some (record { kind = kind; fields = words_from h (w + 1) (words_of shape.fields) }))
+          i)
       go true = zero_word
       go false = list_words (w + 1) (words_of shape.fields) i
 
@@ -85,18 +92,21 @@ module _ (h : Words) (are : AreAll h) where
   of_words structs w None i = zero_word
   of_words structs w (Some kind) i = with_words w kind (struct_at structs kind) i
 
-  objects_words : (s : Sizes) (structs : List StructShape) (slot n : ℕ) → AreOfWords (objects_from s structs h slot n)
+  objects_words : (s : Sizes) (structs : List StructShape) (slot n : ℕ)
+      → AreOfWords (objects_from s structs h slot n)
   objects_words s structs slot zero j i = zero_word
-  objects_words s structs slot (suc n) zero i = of_words structs (slot_word s slot) (kind_in (h (slot_word s slot))) i
+  objects_words s structs slot (suc n) zero i =
+      of_words structs (slot_word s slot) (kind_in (h (slot_word s slot))) i
   objects_words s structs slot (suc n) (suc j) i = objects_words s structs (suc slot) n j i
 
-pub pool_words : (program : Program) (h : Words) → AreAll h → HasWords (pool_of program h)
+pub pool_words : (program : Program) (h : Words) → AreAll h → HasPoolWords (source_pool program h)
 pool_words program h are =
     let z : Sizes = sizes_of program in
     let structs : List StructShape = (shapes_of program.typed).structs in
-    has_words (words_from h 0 z.root_words) (objects_from z structs h 1 z.slots) (list_words h are 0 z.root_words) (objects_words h are z structs 1 z.slots)
+    has_words (words_from h 0 z.root_words) (objects_from z structs h 1 z.slots)
+    (list_words h are 0 z.root_words) (objects_words h are z structs 1 z.slots)
 
--- the heap that a log restores
+-- the words of the heap that a log restores
 
 undo_words : (x old : ℤ) (h : Words) → IsWord old → AreAll h → AreAll (undo x old h)
 undo_words x old h is are w = go (int_eq x (pos w))
@@ -105,22 +115,29 @@ undo_words x old h is are w = go (int_eq x (pos w))
     go true = is
     go false = are w
 
-undone_words : (word old : Words) (n : ℕ) (h : Words) → AreAll old → AreAll h → AreAll (undone word old n h)
+undone_words : (word old : Words) (n : ℕ) (h : Words) → AreAll old → AreAll h
+    → AreAll (undone word old n h)
 undone_words word old zero h olds are = are
-undone_words word old (suc n) h olds are = undone_words word old n (undo (word n) (old n) h) olds (undo_words (word n) (old n) h (olds n) are)
+undone_words word old (suc n) h olds are =
+    undone_words word old n (undo (word n) (old n) h) olds
+    (undo_words (word n) (old n) h (olds n) are)
 
-pub restored_words : (l : Layout) (a : ℕ) (image : Words) → AreAll image → AreAll (restored l a image)
+pub restored_words : (l : Layout) (a : ℕ) (image : Words) → AreAll image
+    → AreAll (restored l a image)
 unfolding restored
 restored_words l a image are =
-    undone_words (λ j. image (at l (RecordWord j))) (λ j. image (at l (RecordOld j))) (count l a image) (λ w. image (at l (Heap w)))
+    undone_words (λ j. image (at l (RecordWord j))) (λ j. image (at l (RecordOld j)))
+    (count l a image) (λ w. image (at l (Heap w)))
     (λ j. are (at l (RecordOld j))) (λ w. are (at l (Heap w)))
 
--- the arguments of a record
+-- the words of a record's arguments
 
 from_words : (p n : ℕ) (image : Words) → AreAll image → AreWords (record_of.words_from p n image)
 from_words p zero image are i = zero_word
 from_words p (suc n) image are zero = are p
 from_words p (suc n) image are (suc i) = from_words (suc p) n image are i
 
-pub recorded_words : (image : Image) (tx : ℕ) (w : Words) → AreAll w → AreWords (recorded image tx w)
-recorded_words image tx w are = from_words 25 (taken (slice_get image.parts.txs (tx - 1))) w are
+pub recorded_words : (image : Image) (tx : ℕ) (w : Words) → AreAll w
+    → AreWords (recorded image tx w)
+recorded_words image tx w are =
+    from_words 25 (entry_words (slice_get image.parts.txs (tx - 1))) w are

@@ -1,4 +1,4 @@
--- The events that write an image on blank lines leave its words, and each line one version.
+-- The events that write an image on blank lines leave its words, and each line has one version.
 use Rattle.std.proofs.Common.{◌≡◌, ◌≢◌, ◌⊎◌, inl, inr, ⊎_elim, ℕ, zero, suc, ◌+◌, ◌*◌, ◌/◌, ◌%◌, ◌<◌, ◌≤◌, Bool, true, false, not, if◌then◌else◌, List, [], ◌∷◌, ◌++◌, length, take, drop, get_or, slice_index_or, Option, Some, None, ℤ, pos, int_eq, refl, sym, ap, ◌∙◌, subst, arith}
 use Rattle.std.proofs.lemmas.Bool.{cases_eq, cases_lt}
 use Rattle.std.proofs.lemmas.Bool.Decides.{Decides-int_eq}
@@ -11,11 +11,11 @@ use Rattle.cache_model.proofs.Views.{view_same, view_other, view_flush, view_fen
 use Rattle.cache_model.proofs.Versions.{store_other}
 use Rattle.cache_model.proofs.Ready.{flush_ready}
 use Rattle.cache_model.proofs.During.{play_append}
-use Rattle.pool_layout.specs.Image.{words_of}
+use Rattle.pool_layout.specs.Image.{image_words}
 use Rattle.crash_law.specs.Law.{IsAtRest}
 use Rattle.cnvm_session.specs.Opening.{is_other, store_of, stores_of, has_other, flush_of, flushes_of, opening_events}
 
--- a fence makes each line single, but for those of D
+-- each line has one version after the next fence, except those of D
 
 abbrev Clean : (ℕ → Type 0) → Cache → Type 0
 Clean D c = (l : ℕ) → IsReady (c l) ⊎ D l
@@ -30,16 +30,20 @@ single_ready_of (Some k) l e = drop_all k l.older (omega (arith, ap (length {A =
 clean_more : (D M : ℕ → Type 0) (c : Cache) → ((l : ℕ) → D l → M l) → Clean D c → Clean M c
 clean_more D M c f clean l = ⊎_elim (λ r. inl r) (λ d. inr (f l d)) (clean l)
 
-clean_store : (D : ℕ → Type 0) (c : Cache) (p : ℕ) (x : ℤ) → D (p / 8) → Clean D c → Clean D (apply c (Store p x))
+clean_store : (D : ℕ → Type 0) (c : Cache) (p : ℕ) (x : ℤ) → D (p / 8) → Clean D c
+    → Clean D (apply c (Store p x))
 clean_store D c p x there clean l = ⊎_elim
     (λ (e : l ≡ p / 8). inr (subst D (sym e) there))
-    (λ (ne : l ≢ p / 8). ⊎_elim (λ r. inl (subst IsReady (sym (store_other c p l x ne)) r)) (λ d. inr d) (clean l))
+    (λ (ne : l ≢ p / 8). ⊎_elim (λ r. inl (subst IsReady (sym (store_other c p l x ne)) r))
+    (λ d. inr d) (clean l))
     (cases_eq l (p / 8))
 
-clean_flush : (D M : ℕ → Type 0) (c : Cache) (k : ℕ) → ((l : ℕ) → D l → (l ≡ k) ⊎ M l) → Clean D c → Clean M (apply c (Flush k))
+clean_flush : (D M : ℕ → Type 0) (c : Cache) (k : ℕ) → ((l : ℕ) → D l → (l ≡ k) ⊎ M l) → Clean D c
+    → Clean M (apply c (Flush k))
 clean_flush D M c k f clean l = ⊎_elim
     (λ r. inl (flush_ready c k l (λ ne. r)))
-    (λ d. ⊎_elim (λ (e : l ≡ k). inl (flush_ready c k l (λ ne. absurd (ne e)))) (λ m. inr m) (f l d))
+    (λ d. ⊎_elim (λ (e : l ≡ k). inl (flush_ready c k l (λ ne. absurd (ne e))))
+    (λ m. inr m) (f l d))
     (clean l)
 
 fence_rest : (c : Cache) → Clean Nowhere c → IsAtRest (apply c Fence)
@@ -58,7 +62,7 @@ not_other x is = go (int_eq x (pos 0)) refl is
 
 module _ (words : List ℤ) where
   abbrev word : ℕ → ℤ
-  word = words_of words
+  word = image_words words
 
   abbrev event_of : Bool → ℕ → List CacheEvent
   event_of b w = if b then Store w (word w) ∷ [] else []
@@ -69,20 +73,27 @@ module _ (words : List ℤ) where
   other_by true c w p ne = view_other c w p (word w) ne
   other_by false c w p ne = refl
 
-  same_by : (b : Bool) (c : Cache) (w : ℕ) → is_other (word w) ≡ b → view c w ≡ pos 0 → view (play c (event_of b w)) w ≡ word w
+  same_by : (b : Bool) (c : Cache) (w : ℕ) → is_other (word w) ≡ b → view c w ≡ pos 0
+      → view (play c (event_of b w)) w ≡ word w
   same_by true c w is none = view_same c w (word w)
   same_by false c w is none = none ∙ sym (not_other (word w) is)
 
-  -- the stores
+  -- the stores of a stretch of words
 
-  stored_other : (n w : ℕ) (c : Cache) (p : ℕ) → (p < w) ⊎ (w + n ≤ p) → view (play c (stores_of words w n)) p ≡ view c p
+  stored_other : (n w : ℕ) (c : Cache) (p : ℕ) → (p < w) ⊎ (w + n ≤ p)
+      → view (play c (stores_of words w n)) p ≡ view c p
   stored_other zero w c p out = refl
   stored_other (suc n) w c p out =
       ap (λ (d : Cache). view d p) (play_append c (store_of words w) (stores_of words (suc w) n))
-      ∙ stored_other n (suc w) (play c (store_of words w)) p (⊎_elim (λ (less : p < w). inl (omega arith)) (λ (more : w + suc n ≤ p). inr (omega arith)) out)
-      ∙ other_by (is_other (word w)) c w p (⊎_elim (λ (less : p < w). λ e. absurd (omega arith)) (λ (more : w + suc n ≤ p). λ e. absurd (omega arith)) out)
+      ∙ stored_other n (suc w) (play c (store_of words w)) p
+      (⊎_elim (λ (less : p < w). inl (omega arith)) (λ (more : w + suc n ≤ p).
+      inr (omega arith)) out)
+      ∙ other_by (is_other (word w)) c w p
+      (⊎_elim (λ (less : p < w). λ e. absurd (omega arith)) (λ (more : w + suc n ≤ p). λ e.
+      absurd (omega arith)) out)
 
-  stored_at : (n w : ℕ) (c : Cache) (p : ℕ) → ((q : ℕ) → w ≤ q → view c q ≡ pos 0) → w ≤ p → p < w + n → view (play c (stores_of words w n)) p ≡ word p
+  stored_at : (n w : ℕ) (c : Cache) (p : ℕ) → ((q : ℕ) → w ≤ q → view c q ≡ pos 0) → w ≤ p
+      → p < w + n → view (play c (stores_of words w n)) p ≡ word p
   stored_at zero w c p none first last = absurd (omega arith)
   stored_at (suc n) w c p none first last =
       let d : Cache = play c (store_of words w) in
@@ -90,13 +101,17 @@ module _ (words : List ℤ) where
       ∙ ⊎_elim
       (λ (e : p ≡ w).
       stored_other n (suc w) d p (inl (omega arith))
-      ∙ subst (λ (q : ℕ). view d q ≡ word q) (sym e) (same_by (is_other (word w)) c w refl (none w (omega arith))))
-      (λ (ne : p ≢ w). stored_at n (suc w) d p (λ q more. other_by (is_other (word w)) c w q (λ e. absurd (omega arith)) ∙ none q (omega arith)) (omega arith) (omega arith))
+      ∙ subst (λ (q : ℕ). view d q ≡ word q) (sym e)
+      (same_by (is_other (word w)) c w refl (none w (omega arith))))
+      (λ (ne : p ≢ w). stored_at n (suc w) d p (λ q more.
+      other_by (is_other (word w)) c w q (λ e. absurd (omega arith)) ∙ none q (omega arith))
+      (omega arith) (omega arith))
       (cases_eq p w)
 
   -- flushes and the fence leave the view
 
-  flush_by : (b : Bool) (c : Cache) (k p : ℕ) → view (play c (if b then Flush k ∷ [] else [])) p ≡ view c p
+  flush_by : (b : Bool) (c : Cache) (k p : ℕ) → view (play c (if b then Flush k ∷ [] else [])) p
+      ≡ view c p
   flush_by true c k p = view_flush c k p
   flush_by false c k p = refl
 
@@ -122,15 +137,18 @@ module _ (words : List ℤ) where
       let stores : List CacheEvent = stores_of words 0 (length words) in
       let flushes : List CacheEvent = flushes_of words 0 lines in
       let c : Cache = play blank stores in
-      ap (λ (d : Cache). view d p) (play_append blank stores (flushes ++ Fence ∷ []) ∙ play_append c flushes (Fence ∷ []))
+      ap (λ (d : Cache). view d p) (play_append blank stores (flushes ++ Fence ∷ [])
+      ∙ play_append c flushes (Fence ∷ []))
       ∙ view_fence (play c flushes) p
       ∙ flushed_view lines 0 c p
       ∙ ⊎_elim
-      (λ (less : p < length words). stored_at (length words) 0 blank p (λ q more. blank_word q) (omega arith) (omega arith))
-      (λ (more : length words ≤ p). stored_other (length words) 0 blank p (inr (omega arith)) ∙ blank_word p ∙ sym (past words p more))
+      (λ (less : p < length words). stored_at (length words) 0 blank p (λ q more. blank_word q)
+      (omega arith) (omega arith))
+      (λ (more : length words ≤ p). stored_other (length words) 0 blank p (inr (omega arith))
+      ∙ blank_word p ∙ sym (past words p more))
       (cases_lt p (length words))
 
-  -- lines that were stored to
+  -- the lines that were stored to
 
   module _ (lines : ℕ) (whole : length words ≡ 8 * lines) where
     abbrev Dirty : ℕ → Type 0
@@ -144,39 +162,52 @@ module _ (words : List ℤ) where
         let some : List ℤ = drop (8 * l) words in
         let long : o < length (take 8 some) = rw (length-take, length-drop) (omega arith) in
         let found : get_or (take 8 some) o (pos 0) ≡ word w =
-        get_or-take 8 some o (pos 0) (omega arith) ∙ get_or-drop (8 * l) words o (pos 0) ∙ ap word place in
+        get_or-take 8 some o (pos 0) (omega arith) ∙ get_or-drop (8 * l) words o (pos 0)
+        ∙ ap word place in
         (omega arith, list_any_at is_other (take 8 some) o (pos 0) long (ap is_other found ∙ is))
 
-    store_clean : (b : Bool) (c : Cache) (w : ℕ) → is_other (word w) ≡ b → w < length words → Clean Dirty c → Clean Dirty (play c (event_of b w))
+    store_clean : (b : Bool) (c : Cache) (w : ℕ) → is_other (word w) ≡ b → w < length words
+        → Clean Dirty c → Clean Dirty (play c (event_of b w))
     store_clean true c w is less clean = clean_store Dirty c w (word w) (dirty_at w less is) clean
     store_clean false c w is less clean = clean
 
-    stores_clean : (n w : ℕ) (c : Cache) → w + n ≤ length words → Clean Dirty c → Clean Dirty (play c (stores_of words w n))
+    stores_clean : (n w : ℕ) (c : Cache) → w + n ≤ length words → Clean Dirty c
+        → Clean Dirty (play c (stores_of words w n))
     stores_clean zero w c fits clean = clean
     stores_clean (suc n) w c fits clean =
         subst (Clean Dirty) (sym (play_append c (store_of words w) (stores_of words (suc w) n)))
-        (stores_clean n (suc w) (play c (store_of words w)) (omega arith) (store_clean (is_other (word w)) c w refl (omega arith) clean))
+        (stores_clean n (suc w) (play c (store_of words w)) (omega arith)
+        (store_clean (is_other (word w)) c w refl (omega arith) clean))
 
     abbrev From : ℕ → ℕ → Type 0
     From k l = (k ≤ l) × Dirty l
 
-    flush_clean : (b : Bool) (c : Cache) (k : ℕ) → has_other words k ≡ b → Clean (From k) c → Clean (From (suc k)) (play c (if b then Flush k ∷ [] else []))
+    flush_clean : (b : Bool) (c : Cache) (k : ℕ) → has_other words k ≡ b → Clean (From k) c
+        → Clean (From (suc k)) (play c (if b then Flush k ∷ [] else []))
     flush_clean true c k is clean =
-        clean_flush (From k) (From (suc k)) c k (λ l d. ⊎_elim (λ (e : l ≡ k). inl e) (λ (ne : l ≢ k). let more = d.0 in inr (omega arith, d.1)) (cases_eq l k)) clean
+        clean_flush (From k) (From (suc k)) c k
+        (λ l d. ⊎_elim (λ (e : l ≡ k). inl e) (λ (ne : l ≢ k). let more = d.0 in
+        inr (omega arith, d.1)) (cases_eq l k)) clean
     flush_clean false c k is clean =
         clean_more (From k) (From (suc k)) c
         (λ l d. ⊎_elim
-        (λ (e : l ≡ k). let clash : true ≡ false = sym d.1.1 ∙ ap (has_other words) e ∙ is in absurd cc)
+        (λ (e : l ≡ k). let clash : true ≡ false = sym d.1.1 ∙ ap (has_other words) e ∙ is in
+        absurd cc)
         (λ (ne : l ≢ k). let more = d.0 in (omega arith, d.1))
         (cases_eq l k))
         clean
 
-    flushes_clean : (n k : ℕ) (c : Cache) → Clean (From k) c → Clean (From (k + n)) (play c (flushes_of words k n))
-    flushes_clean zero k c clean = clean_more (From k) (From (k + 0)) c (λ l d. let more = d.0 in (omega arith, d.1)) clean
+    flushes_clean : (n k : ℕ) (c : Cache) → Clean (From k) c
+        → Clean (From (k + n)) (play c (flushes_of words k n))
+    flushes_clean zero k c clean = clean_more (From k) (From (k + 0)) c (λ l d. let more = d.0 in
+        (omega arith, d.1)) clean
     flushes_clean (suc n) k c clean =
-        clean_more (From (suc k + n)) (From (k + suc n)) (play c (flushes_of words k (suc n))) (λ l d. let more = d.0 in (omega arith, d.1))
-        (subst (Clean (From (suc k + n))) (sym (play_append c (flush_of words k) (flushes_of words (suc k) n)))
-        (flushes_clean n (suc k) (play c (flush_of words k)) (flush_clean (has_other words k) c k refl clean)))
+        clean_more (From (suc k + n)) (From (k + suc n)) (play c (flushes_of words k (suc n)))
+        (λ l d. let more = d.0 in (omega arith, d.1))
+        (subst (Clean (From (suc k + n)))
+        (sym (play_append c (flush_of words k) (flushes_of words (suc k) n)))
+        (flushes_clean n (suc k) (play c (flush_of words k))
+        (flush_clean (has_other words k) c k refl clean)))
 
     pub written_rest : IsAtRest (play blank (opening_events lines words))
     unfolding opening_events
@@ -184,7 +215,11 @@ module _ (words : List ℤ) where
         let stores : List CacheEvent = stores_of words 0 (length words) in
         let flushes : List CacheEvent = flushes_of words 0 lines in
         let c : Cache = play blank stores in
-        let stored : Clean Dirty c = stores_clean (length words) 0 blank (omega arith) (blank_clean Dirty) in
-        let flushed : Clean (From (0 + lines)) (play c flushes) = flushes_clean lines 0 c (clean_more Dirty (From 0) c (λ l d. (omega arith, d)) stored) in
-        subst IsAtRest (sym (play_append blank stores (flushes ++ Fence ∷ []) ∙ play_append c flushes (Fence ∷ [])))
-        (fence_rest (play c flushes) (clean_more (From (0 + lines)) Nowhere (play c flushes) (λ l d. let more = d.0 in let less = d.1 in omega arith) flushed))
+        let stored : Clean Dirty c = stores_clean (length words) 0 blank (omega arith)
+        (blank_clean Dirty) in
+        let flushed : Clean (From (0 + lines)) (play c flushes) =
+        flushes_clean lines 0 c (clean_more Dirty (From 0) c (λ l d. (omega arith, d)) stored) in
+        subst IsAtRest (sym (play_append blank stores (flushes ++ Fence ∷ [])
+        ∙ play_append c flushes (Fence ∷ [])))
+        (fence_rest (play c flushes) (clean_more (From (0 + lines)) Nowhere (play c flushes)
+        (λ l d. let more = d.0 in let less = d.1 in omega arith) flushed))

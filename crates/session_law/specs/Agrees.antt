@@ -1,7 +1,7 @@
--- A program whose image agrees with its source: from every heap with valid headers the machine's
--- run of a transaction is sound, and ends as the transaction comes to on the heap's pool: as the
--- source says, or with a full log exactly where its logged stores are more than the log has
--- records. Each compiled program is such.
+-- A program's image agrees with its source if the run of each transaction, from every heap with
+-- valid headers, is sound and ends as the transaction comes to on the heap's pool: as the source
+-- says, or with a full log exactly where its logged stores are more than the log has records. Each
+-- compiled program agrees with its source.
 use Rattle.std.specs.Prelude.{ℕ, ◌^◌, ◌<◌, ◌≤◌, ◌≡◌, List, length, Some, ℤ}
 use Rattle.pool_layout.specs.Image.{Words}
 use Rattle.pool_map.specs.PoolFits.{words_of}
@@ -14,33 +14,39 @@ use Rattle.pm_machine.specs.Effects.{heap_end, records_end}
 use Rattle.pm_machine.specs.Machine.{Finished, mrun}
 use Rattle.run_law.specs.Sound.{IsSoundRun}
 use Rattle.cnvm_session.specs.declared.program.Program.{Program}
-use Rattle.cnvm_session.specs.Commands.{parameters_of}
-use Rattle.session_law.specs.Words.{AreWords, HasWords}
-use Rattle.session_law.specs.Source.{Counts, sizes_of, parameters, comes_to, pool_of, HasHeaders}
+use Rattle.cnvm_session.specs.Commands.{tx_parameters}
+use Rattle.session_law.specs.Words.{AreWords, HasPoolWords}
+use Rattle.session_law.specs.Source.{sizes_of, source_parameters, LogsStores, outcome_with, source_pool, HasSourceHeaders}
 
--- a run ends as the outcome says: with its value and on a heap that holds its pool, or with its
--- trap
+-- a run ends as the outcome says: with its value, on a heap that holds its pool, or with its trap
 abbrev pub Matches : Program → Outcome → End → Words → Type 0
-Matches program (Done pool value) (Halted v) h = (v ≡ value) × HasHeaders program h × (pool_of program h ≡ pool) × HasWords pool
+Matches program (Done pool value) (Halted v) h = (v ≡ value) × HasSourceHeaders program h
+    × (source_pool program h ≡ pool) × HasPoolWords pool
 Matches program (Done pool value) (Trapped k) h = ⊥
 Matches program (Trap trap) (Halted v) h = ⊥
 Matches program (Trap trap) (Trapped k) h = k ≡ trap
 
--- the run of a transaction from a heap; one that ends with a value writes as many log records as are counted
-pub record RunsAs (program : Program) (counts : Counts) (h : Words) (tx : ℕ) (args : List ℤ) : Type 0 where
+-- the run of a transaction from a heap; a run that ends with a value writes a log record for each of
+-- its logged stores
+pub record RunsAs (program : Program) (h : Words) (tx : ℕ) (args : List ℤ) : Type 0 where
   pub end : End
   pub effects : List Effect
   pub ran : mrun program.image program.image.parts.most h tx args ≡ Finished end effects
   pub sound : IsSoundRun end effects
+  pub logged : ℕ
+  pub logs : LogsStores program (source_pool program h) tx args logged
   pub matches :
-      Matches program (comes_to program counts (pool_of program h) tx args) end (heap_end h effects)
-  pub counted : (value : ℤ) → end ≡ Halted value →
-      records_end 0 effects ≡ counts (pool_of program h) tx args
+      Matches program (outcome_with program (source_pool program h) tx args logged) end
+      (heap_end h effects)
+  pub counted : (value : ℤ) → end ≡ Halted value → records_end 0 effects ≡ logged
 
--- The root has as many words as the source's root struct, and the image the transactions of the source, each with as many
--- parameters; they are few, as the front end and the pool's record of arguments ask.
-pub record Agrees (program : Program) (counts : Counts) : Type 0 where
+-- The root has as many words as the source's root struct. The image has the transactions of the
+-- source, each with as many parameters. A transaction's number is below 2^63 and it has at most 22
+-- parameters, as the front end and the pool's argument record require.
+pub record Agrees (program : Program) : Type 0 where
   pub root : words_of (shapes_of program.typed).root ≡ (sizes_of program).root_words
-  pub parameters : (tx : ℕ) → parameters_of program.image tx ≡ parameters program tx
-  pub few : (tx n : ℕ) → parameters_of program.image tx ≡ Some n → (tx < 2 ^ 63) × (n ≤ 22)
-  pub runs : (h : Words) (tx : ℕ) (args : List ℤ) → HasHeaders program h → HasWords (pool_of program h) → AreWords args → parameters_of program.image tx ≡ Some (length args) → RunsAs program counts h tx args
+  pub parameters : (tx : ℕ) → tx_parameters program.image tx ≡ source_parameters program tx
+  pub few : (tx n : ℕ) → tx_parameters program.image tx ≡ Some n → (tx < 2 ^ 63) × (n ≤ 22)
+  pub runs : (h : Words) (tx : ℕ) (args : List ℤ) → HasSourceHeaders program h
+      → HasPoolWords (source_pool program h) → AreWords args
+      → tx_parameters program.image tx ≡ Some (length args) → RunsAs program h tx args

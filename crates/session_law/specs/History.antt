@@ -1,7 +1,8 @@
--- The history of a session: the transactions that are done, in order. Commands, answers and the
--- images that the commands find decide it.
+-- The history of a session is the list of transactions that are done, in order. The commands, the
+-- answers and the images that the commands find determine it.
 use Rattle.std.specs.Prelude.{ℕ, suc, ◌+◌, ◌≡◌, ◌⊎◌, ◌&&◌, Bool, if◌then◌else◌, List, [], ◌∷◌, ◌++◌, length, Option, Some, None, ℤ, pos}
 use Rattle.std.specs.Ordering.{int_eq}
+use Rattle.pool_layout.specs.declared.places.TheConstants.{DONE, SEAL}
 use Rattle.pool_layout.specs.Image.{Words}
 use Rattle.pool_map.specs.PoolMap.{PoolMap}
 use Rattle.c_meaning.specs.Transaction.{Outcome, Done, Trap}
@@ -10,11 +11,11 @@ use Rattle.cnvm_script.specs.declared.command.Command.TheVariants as command
 use Rattle.cnvm_session.specs.declared.answer.Answer.{Answer}
 use Rattle.cnvm_session.specs.declared.answer.Answer.TheVariants as answer
 use Rattle.cnvm_session.specs.declared.program.Program.{Program}
-use Rattle.cnvm_session.specs.Commands.{number_of}
+use Rattle.cnvm_session.specs.Commands.{call_number}
 use Rattle.session_law.specs.Source.{means}
-use Rattle.session_law.specs.State.{Pending, Standing, Ready, Down, Unusable, State}
+use Rattle.session_law.specs.State.{Pending, Standing, Ready, Down, Unusable, SourceState}
 
--- the transaction that is owed
+-- the transaction that is owed, if any
 abbrev pub waiting_of : Standing → List Pending
 waiting_of Ready = []
 waiting_of (Down None) = []
@@ -27,7 +28,7 @@ call_to None args = []
 call_to (Some tx) args = record { tx = tx; args = args } ∷ []
 
 abbrev pub call_in : Program → Command → List Pending
-call_in program (command.Call name args) = call_to (number_of program name) args
+call_in program (command.Call name args) = call_to (call_number program name) args
 call_in program c = []
 
 abbrev pub calls_in : Program → List Command → List Pending
@@ -41,31 +42,34 @@ called_by call a = []
 
 -- The image that a power cut left has the seal of the next transaction and counts it as done: it
 -- was done before the cut.
-abbrev pub is_retired : State → Words → Bool
-is_retired s image = int_eq (image 47) (pos (suc s.done)) && int_eq (image 17) (pos (suc s.done))
+abbrev pub is_retired : SourceState → Words → Bool
+is_retired s image = int_eq (image SEAL) (pos (suc s.done))
+    && int_eq (image DONE) (pos (suc s.done))
 
--- After a power cut the transaction that was owed is done where the recovery ran it to a value,
--- and where the image shows that it was done before. A cut that is refused is none, and one that
--- finds a mark has done nothing.
-abbrev pub recovered_by : State → Words → Answer → List Pending
+-- After a power cut the owed transaction is done if the recovery ran it to a value, or if the image
+-- shows that it was done before. A refused cut does nothing, and neither does one that finds a
+-- mark.
+abbrev pub recovered_by : SourceState → Words → Answer → List Pending
 recovered_by s image (answer.RecoveredRedone value logged) = waiting_of s.standing
 recovered_by s image (answer.RefusedPick line) = []
 recovered_by s image (answer.RefusedUnusable kind) = []
 recovered_by s image a = if is_retired s image then waiting_of s.standing else []
 
 -- what a command has done, by its answer and the image that it found
-abbrev pub done_by : Program → State → Words → Command → Answer → List Pending
+abbrev pub done_by : Program → SourceState → Words → Command → Answer → List Pending
 done_by program s image (command.Call name args) a =
-    called_by (call_to (number_of program name) args) a
+    called_by (call_to (call_number program name) args) a
 done_by program s image (command.Power choice) a = recovered_by s image a
 done_by program s image c a = []
 
-abbrev pub history_after : Program → State → Words → Command → Answer → List Pending → List Pending
+abbrev pub history_after : Program → SourceState → Words → Command → Answer → List Pending
+    → List Pending
 history_after program s image c a history = history ++ done_by program s image c a
 
 -- the calls that were answered with a value
 abbrev pub answered_by : Program → Command → Answer → List Pending
-answered_by program (command.Call name args) a = called_by (call_to (number_of program name) args) a
+answered_by program (command.Call name args) a =
+    called_by (call_to (call_number program name) args) a
 answered_by program c a = []
 
 abbrev pub answered_in : Program → List Command → List Answer → List Pending
@@ -74,24 +78,26 @@ answered_in program (c ∷ commands) [] = []
 answered_in program (c ∷ commands) (a ∷ answers) =
     answered_by program c a ++ answered_in program commands answers
 
--- the pool after these transactions, in order, where the source gives each of them a value
+-- the pool after these transactions, in order, if the source gives each of them a value
 abbrev pub after_one : Outcome → (PoolMap → Option PoolMap) → Option PoolMap
 after_one (Done pool value) next = next pool
 after_one (Trap kind) next = None
 
-abbrev pub after : Program → PoolMap → List Pending → Option PoolMap
-after program pool [] = Some pool
-after program pool (call ∷ calls) = after_one (means program pool call.tx call.args) (λ p. after program p calls)
+abbrev pub pool_after : Program → PoolMap → List Pending → Option PoolMap
+pool_after program pool [] = Some pool
+pool_after program pool (call ∷ calls) =
+    after_one (means program pool call.tx call.args) (λ p. pool_after program p calls)
 
--- some of the second list's, in their order
+-- a sublist of the second list, in the same order
 abbrev pub IsPart : List Pending → List Pending → Type 0
 IsPart xs [] = xs ≡ []
 IsPart xs (y ∷ ys) = IsPart xs ys ⊎ ((zs : List Pending) × (xs ≡ y ∷ zs) × IsPart zs ys)
 
--- From state to state these transactions were done: the source gives the pool after them, and they
--- are counted. They are of the one that was owed and of the calls after it, each at most once, in
--- their order; and so is what is owed then, after them.
-pub record HasDone (program : Program) (s t : State) (done calls : List Pending) : Type 0 where
-  pub pool : after program s.pool done ≡ Some t.pool
+-- These transactions were done between the two states: the source gives the pool after them, and
+-- they are counted. Together with what is owed at the end they are a sublist of what was owed
+-- before and the calls after it, so each occurs at most once, in order.
+pub record HasDone (program : Program) (s t : SourceState) (done calls : List Pending) :
+    Type 0 where
+  pub pool : pool_after program s.pool done ≡ Some t.pool
   pub count : t.done ≡ s.done + length done
   pub part : IsPart (done ++ waiting_of t.standing) (waiting_of s.standing ++ calls)

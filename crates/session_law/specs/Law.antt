@@ -1,5 +1,5 @@
 -- A session of a program does what the program's source says.
-use Rattle.std.specs.Prelude.{ℕ, suc, ◌+◌, ◌*◌, ◌≤◌, ◌≡◌, ◌≢◌, ◌⊎◌, List, [], ◌∷◌, ◌++◌, length, Some, Ok, ℤ, pos, slice_index_or}
+use Rattle.std.specs.Prelude.{ℕ, suc, ◌+◌, ◌*◌, ◌<◌, ◌≤◌, ◌≡◌, ◌≢◌, ◌⊎◌, List, [], ◌∷◌, ◌++◌, length, Some, Ok, ℤ, pos, slice_index_or}
 use Rattle.std.specs.List.{AllByRecursion}
 use Rattle.cache_model.specs.Cache.{view}
 use Rattle.cache_model.specs.Image.{Images}
@@ -8,8 +8,10 @@ use Rattle.pmem.specs.Device.{Device, powered, blanked}
 use Rattle.pmem.specs.Played.{PlaysAll}
 use Rattle.pmem.specs.declared.answer.Phase.{Phase}
 use Rattle.pmem.specs.declared.answer.Phase.TheVariants as phase
+use Rattle.pool_layout.specs.declared.places.TheConstants.{SEAL}
 use Rattle.pool_layout.specs.Sizes.{pool_lines}
-use Rattle.pool_layout.specs.Image.{Words, words_of}
+use Rattle.pool_layout.specs.Image.{Words, image_words}
+use Rattle.pool_layout.specs.Good.{magic}
 use Rattle.pool_layout.specs.Opened.{IsOpened}
 use Rattle.pool_map.specs.PoolMap.{PoolMap, empty_pool}
 use Rattle.clobber_log.specs.Logs.{count_in}
@@ -25,33 +27,57 @@ use Rattle.cnvm_session.specs.declared.program.Program.{Program}
 use Rattle.cnvm_session.specs.Commands.{Commanded}
 use Rattle.cnvm_session.specs.Laws.{IsRefused}
 use Rattle.cnvm_session.specs.Outcomes.{Opens}
-use Rattle.cnvm_session.specs.Created.{magic_word, creation_events}
-use Rattle.session_law.specs.Source.{Counts, sizes_of, pool_of}
+use Rattle.cnvm_session.specs.Created.{creation_events}
+use Rattle.c_meaning.specs.Transaction.{Outcome}
+use Rattle.ir.specs.declared.function.IrFunction.{IrFunction}
+use Rattle.ir.specs.declared.site.Site.{Site}
+use Rattle.session_law.specs.Logged.{AreLogged, FillsLog}
+use Rattle.session_law.specs.Source.{sizes_of, ComesTo, source_pool}
 use Rattle.session_law.specs.Words.{AreWords}
 use Rattle.session_law.specs.Agrees.{Agrees}
-use Rattle.session_law.specs.State.{Pending, Down, State, standing_as, created}
+use Rattle.session_law.specs.State.{Pending, Down, SourceState, standing_as, created}
 use Rattle.session_law.specs.State as state
 use Rattle.session_law.specs.Answers.{HasSeal, IsDoneWith, Answers}
 use Rattle.session_law.specs.Opened.{wanted_of, opened}
 use Rattle.session_law.specs.Holds.{OwesOne, Holds}
-use Rattle.session_law.specs.History.{recovered_by, after, calls_in, answered_in, IsPart, HasDone}
-use Rattle.session_law.specs.Ran.{found_by, Moment, Step, Ran, begun, OpenStep}
+use Rattle.session_law.specs.History.{recovered_by, pool_after, calls_in, answered_in, IsPart, HasDone}
+use Rattle.session_law.specs.Ran.{found_by, Moment, SessionStep, Ran, fresh_moment, OpenStep}
 
 -- the arguments of a command are words
 abbrev pub IsWordCommand : Command → Type 0
 IsWordCommand (command.Call name args) = AreWords args
 IsWordCommand c = Unit {0}
 
--- Each command of a script is such, since a script's argument fits a word.
+-- The commands of each script have words as arguments, since a script's argument fits a word.
 abbrev pub ScriptLaw : Type 0
-ScriptLaw = (text : List ℕ) (commands : List Command) → script_meaning text ≡ Ok commands → AllByRecursion IsWordCommand commands
+ScriptLaw = (text : List ℕ) (commands : List Command) → script_meaning text ≡ Ok commands
+    → AllByRecursion IsWordCommand commands
 
--- Whatever a command answers whose arguments are words, the source answers so too, and the device holds what the source knows then.
+-- How many stores a transaction logs on a pool, and what it comes to there, is determined by the
+-- program, the pool and the arguments.
+abbrev pub DeterminedLaw : Type 0
+DeterminedLaw =
+    (program : Program) (pool : PoolMap) (tx : ℕ) (args : List ℤ) (n m : ℕ) (o p : Outcome) →
+    ComesTo program pool tx args n o → ComesTo program pool tx args m p → (n ≡ m) × (o ≡ p)
+
+-- A run has more logged stores than the log has records exactly if one of them, before the run's
+-- end, finds the log full.
+abbrev pub FullLaw : Type 0
+FullLaw =
+    (functions : List IrFunction) (sites : List Site) (n records : ℕ) →
+    AreLogged functions sites n →
+    (records < n → FillsLog functions records sites)
+    × (FillsLog functions records sites → records < n)
+
+-- Each answer to a command whose arguments are words is one that the source gives, and the device
+-- then holds what the source knows.
 abbrev pub SessionLaw : Type 0
 SessionLaw =
-    (program : Program) (counts : Counts) (super : Words) (c : Command) (m n : Mode) (d b : Device) (s : State) (a : Answer) (k k1 : ℕ) →
-    Agrees program counts → IsWordCommand c → Holds program super m d s → Commanded program c m d a n b k k1 →
-    (t : State) × Answers program counts s (found_by c d) c a t × Holds program super n b t
+    (program : Program) (super : Words) (c : Command) (m n : Mode) (d b : Device) (s : SourceState)
+    (a : Answer) (k k1 : ℕ) →
+    Agrees program → IsWordCommand c → Holds program super m d s
+    → Commanded program c m d a n b k k1 →
+    (t : SourceState) × Answers program s (found_by c d) c a t × Holds program super n b t
 
 -- the recovery came to its end, and the pool takes calls again
 abbrev pub IsCompleted : Answer → Type 0
@@ -59,28 +85,35 @@ IsCompleted answer.RecoveredNone = Unit {0}
 IsCompleted (answer.RecoveredRedone value logged) = Unit {0}
 IsCompleted a = ⊥
 
--- Exactly if sealed: after the next completed recovery an owed transaction is done, and in the
--- history, where the image that the power cut left has its seal; else nothing of it was done, and
--- the history is as it was.
+-- Exactly if sealed: after the next completed recovery an owed transaction is done and in the
+-- history if its seal is in the image that the power cut left. Else nothing of it is done, and the
+-- history is unchanged.
 abbrev pub SealedLaw : Type 0
 SealedLaw =
-    (program : Program) (counts : Counts) (super : Words) (choice : Choice) (owed : Pending) (x y : Moment) (a : Answer) →
+    (program : Program) (super : Words) (choice : Choice) (owed : Pending) (x y : Moment)
+    (a : Answer) →
     x.state.standing ≡ Down (Some owed) → IsCompleted a →
-    Step program counts super (command.Power choice) x a y →
-    (HasSeal x.state (view (powered choice x.device).cache) × (y.history ≡ x.history ++ owed ∷ []) × ((value : ℤ) × IsDoneWith program counts x.state owed.tx owed.args value state.Ready y.state))
-    ⊎ ((view (powered choice x.device).cache 47 ≢ pos (suc x.state.done)) × (y.history ≡ x.history) × (y.state ≡ standing_as state.Ready x.state))
+    SessionStep program super (command.Power choice) x a y →
+    (HasSeal x.state (view (powered choice x.device).cache) × (y.history ≡ x.history ++ owed ∷ [])
+    × ((value : ℤ) × (logged : ℕ)
+    × IsDoneWith program x.state owed.tx owed.args value logged state.Ready y.state))
+    ⊎ ((view (powered choice x.device).cache SEAL ≢ pos (suc x.state.done))
+    × (y.history ≡ x.history) × (y.state ≡ standing_as state.Ready x.state))
 
--- what the phase in which a call was stopped tells of an image that a power cut leaves
-abbrev pub HasPhase : Phase → State → Words → Type 0
-HasPhase phase.Unsealed s image = image 47 ≢ pos (suc s.done)
+-- what the phase of a stopped call says of an image that a power cut leaves
+abbrev pub HasPhase : Phase → SourceState → Words → Type 0
+HasPhase phase.Unsealed s image = image SEAL ≢ pos (suc s.done)
 HasPhase phase.Sealing s image = Unit {0}
 HasPhase phase.Sealed s image = HasSeal s image
 
--- Behind a call that was stopped in phase sealed each image has the seal, and in phase unsealed none has it.
+-- After a call that was stopped in phase sealed each image has the seal, and in phase unsealed none
+-- has it.
 abbrev pub PhaseLaw : Type 0
 PhaseLaw =
-    (program : Program) (counts : Counts) (super : Words) (name : List ℕ) (args : List ℤ) (m n : Mode) (d b : Device) (s : State) (at : Phase) (k k1 : ℕ) →
-    Agrees program counts → AreWords args → Holds program super m d s → Commanded program (command.Call name args) m d (answer.Stopped at) n b k k1 →
+    (program : Program) (super : Words) (name : List ℕ) (args : List ℤ) (m n : Mode) (d b : Device)
+    (s : SourceState) (at : Phase) (k k1 : ℕ) →
+    Agrees program → AreWords args → Holds program super m d s
+    → Commanded program (command.Call name args) m d (answer.Stopped at) n b k k1 →
     Images (HasPhase at s) b.cache
 
 -- the owed transaction was run to its end
@@ -89,118 +122,148 @@ IsRedone (answer.RecoveredRedone value logged) = Unit {0}
 IsRedone (answer.RecoveredTrap kind) = Unit {0}
 IsRedone a = ⊥
 
--- Such a recovery takes a step for each valid record of the image that the power cut left, and one for each instruction of the
--- transaction's run, of which the last has no effect.
+-- A recovery that runs the owed transaction to its end takes one step for each valid record of the
+-- image that the power cut left, and one for each instruction of the transaction's run; the last
+-- instruction has no effect.
 abbrev pub StepsLaw : Type 0
 StepsLaw =
-    (program : Program) (counts : Counts) (super : Words) (choice : Choice) (owed : Pending) (m n : Mode) (d b : Device) (s : State) (a : Answer) (k k1 : ℕ) →
-    Agrees program counts → (owes : OwesOne program super owed d s) → IsRedone a → Commanded program (command.Power choice) m d a n b k k1 →
-    k1 ≡ k + (count_in (sizes_of program) (view (powered choice d).cache) + suc (length owes.effects))
+    (program : Program) (super : Words) (choice : Choice) (owed : Pending) (m n : Mode)
+    (d b : Device) (s : SourceState) (a : Answer) (k k1 : ℕ) →
+    Agrees program → (owes : OwesOne program super owed d s) → IsRedone a
+    → Commanded program (command.Power choice) m d a n b k k1 →
+    k1 ≡ k + (count_in (sizes_of program) (view (powered choice d).cache)
+    + suc (length owes.effects))
 
 -- the words of lines 0 and 1 of a new pool
 abbrev pub super_words : Program → Words
 super_words program k =
     slice_index_or
-    (magic_word ∷ pos 2 ∷ pos (sizes_of program).slots ∷ pos (sizes_of program).records ∷ pos (sizes_of program).root_words ∷ pos (sizes_of program).ticks
-    ∷ pos 0 ∷ pos 0 ∷ slice_index_or program.digest 0 (pos 0) ∷ slice_index_or program.digest 1 (pos 0) ∷ slice_index_or program.digest 2 (pos 0)
+    (magic ∷ pos 2 ∷ pos (sizes_of program).slots ∷ pos (sizes_of program).records
+    ∷ pos (sizes_of program).root_words ∷ pos (sizes_of program).ticks
+    ∷ pos 0 ∷ pos 0 ∷ slice_index_or program.digest 0 (pos 0) ∷ slice_index_or program.digest 1
+    (pos 0) ∷ slice_index_or program.digest 2 (pos 0)
     ∷ slice_index_or program.digest 3 (pos 0) ∷ [])
     k (pos 0)
 
--- A new pool holds the empty one.
+-- A new pool holds the empty pool.
 abbrev pub CreatedLaw : Type 0
 CreatedLaw =
     (program : Program) (d b : Device) →
-    PlaysAll (blanked (pool_lines (sizes_of program)) d) (creation_events (sizes_of program) program.digest) b →
+    PlaysAll (blanked (pool_lines (sizes_of program)) d)
+    (creation_events (sizes_of program) program.digest) b →
     Holds program (super_words program) Ready b (created program)
 
--- A pool that is opened from an image, whose numbers are words, is recovered as the source says, from what it knows of the image.
+-- A pool opened from an image of words is recovered as the source says, starting from what the
+-- source knows of the image.
 abbrev pub OpenedLaw : Type 0
 OpenedLaw =
-    (program : Program) (counts : Counts) (words : List ℤ) (n : Mode) (d b : Device) (a : Answer) (k k1 : ℕ) →
-    Agrees program counts → AreWords words → IsOpened (wanted_of program) words → Opens program.image words d a n b k k1 →
-    (t : State)
-    × OpenStep program counts words d k a (record { mode = n; device = b; steps = k1; state = t; history = recovered_by (opened program (words_of words)) (words_of words) a })
+    (program : Program) (words : List ℤ) (n : Mode) (d b : Device) (a : Answer) (k k1 : ℕ) →
+    Agrees program → AreWords words → IsOpened (wanted_of program) words
+    → Opens program.image words d a n b k k1 →
+    (t : SourceState)
+    × OpenStep program words d k a
+    (record {
+      mode = n;
+      device = b;
+      steps = k1;
+      state = t;
+      history = recovered_by (opened program (image_words words)) (image_words words) a;
+    })
 
--- The commands of a session, one after another, with their answers.
-abbrev pub RunsAll : Program → List Command → List Answer → Mode → Device → ℕ → Mode → Device → ℕ → Type 0
+-- The commands of a session run one after another, with their answers.
+abbrev pub RunsAll : Program → List Command → List Answer → Mode → Device → ℕ → Mode → Device
+    → ℕ → Type 0
 RunsAll program [] [] m d k n b k1 = (n ≡ m) × (b ≡ d) × (k1 ≡ k)
 RunsAll program [] (a ∷ answers) m d k n b k1 = ⊥
 RunsAll program (c ∷ commands) [] m d k n b k1 = ⊥
 RunsAll program (c ∷ commands) (a ∷ answers) m d k n b k1 =
-    (m1 : Mode) × (d1 : Device) × (k2 : ℕ) × Commanded program c m d a m1 d1 k k2 × RunsAll program commands answers m1 d1 k2 n b k1
+    (m1 : Mode) × (d1 : Device) × (k2 : ℕ) × Commanded program c m d a m1 d1 k k2
+    × RunsAll program commands answers m1 d1 k2 n b k1
 
--- They are a chain of steps, each answered as the source says.
-abbrev pub RunLaw : Type 0
-RunLaw =
-    (program : Program) (counts : Counts) (super : Words) (commands : List Command) (answers : List Answer) (x : Moment) (n : Mode) (b : Device) (k1 : ℕ) →
-    Agrees program counts → AllByRecursion IsWordCommand commands →
+-- A session's commands are a chain of steps, each answered as the source says.
+abbrev pub SessionRunLaw : Type 0
+SessionRunLaw =
+    (program : Program) (super : Words) (commands : List Command) (answers : List Answer)
+    (x : Moment) (n : Mode) (b : Device) (k1 : ℕ) →
+    Agrees program → AllByRecursion IsWordCommand commands →
     Holds program super x.mode x.device x.state →
     RunsAll program commands answers x.mode x.device x.steps n b k1 →
-    (t : State) × (history : List Pending)
-    × Ran program counts super commands answers x (record { mode = n; device = b; steps = k1; state = t; history = history })
+    (t : SourceState) × (history : List Pending)
+    × Ran program super commands answers x
+    (record { mode = n; device = b; steps = k1; state = t; history = history })
 
--- At each moment of a chain the device holds what the source knows.
+-- At the end of each chain the device holds what the source knows.
 abbrev pub KeptLaw : Type 0
 KeptLaw =
-    (program : Program) (counts : Counts) (super : Words) (commands : List Command) (answers : List Answer) (x y : Moment) →
-    Holds program super x.mode x.device x.state → Ran program counts super commands answers x y →
+    (program : Program) (super : Words) (commands : List Command) (answers : List Answer)
+    (x y : Moment) →
+    Holds program super x.mode x.device x.state → Ran program super commands answers x y →
     Holds program super y.mode y.device y.state
 
 -- What a chain has done: the history has grown by these transactions, and each call that was
--- answered with a value is one of them.
-pub record HasGrown (program : Program) (commands : List Command) (answers : List Answer) (x y : Moment) : Type 0 where
+-- answered with a value is among them.
+pub record HasGrown (program : Program) (commands : List Command) (answers : List Answer)
+    (x y : Moment) : Type 0 where
   pub done : List Pending
   pub history : y.history ≡ x.history ++ done
   pub does : HasDone program x.state y.state done (calls_in program commands)
   pub answered : IsPart (answered_in program commands answers) done
 
--- Never twice: each call is in the history at most once, and it is there if it was answered with a
--- value.
+-- Never twice: each call adds at most one entry to the history, and adds one if it was answered
+-- with a value.
 abbrev pub HistoryLaw : Type 0
 HistoryLaw =
-    (program : Program) (counts : Counts) (super : Words) (commands : List Command) (answers : List Answer) (x y : Moment) →
-    Ran program counts super commands answers x y → HasGrown program commands answers x y
+    (program : Program) (super : Words) (commands : List Command) (answers : List Answer)
+    (x y : Moment) →
+    Ran program super commands answers x y → HasGrown program commands answers x y
 
--- The pool that the source knows is what it gives from the first one after the history, of which
--- each transaction is counted.
+-- The pool that the source knows is the one that it gives after the history, from the first pool,
+-- and each transaction of the history is counted.
 abbrev pub IsAfter : Program → (first : PoolMap) → (count : ℕ) → Moment → Type 0
 IsAfter program first count x =
-    (after program first x.history ≡ Some x.state.pool) × (x.state.done ≡ count + length x.history)
+    (pool_after program first x.history ≡ Some x.state.pool)
+    × (x.state.done ≡ count + length x.history)
 
--- Whole or not at all: wherever a session takes calls, the device's own heap holds the pool that
+-- Whole or not at all: whenever a session takes calls, the device's own heap holds the pool that
 -- the source gives after the history.
 abbrev pub WholeLaw : Type 0
 WholeLaw =
-    (program : Program) (counts : Counts) (super : Words) (first : PoolMap) (count : ℕ) (commands : List Command) (answers : List Answer) (x y : Moment) →
+    (program : Program) (super : Words) (first : PoolMap) (count : ℕ) (commands : List Command)
+    (answers : List Answer) (x y : Moment) →
     Holds program super x.mode x.device x.state → IsAfter program first count x →
-    Ran program counts super commands answers x y →
+    Ran program super commands answers x y →
     IsAfter program first count y
-    × (y.state.standing ≡ state.Ready → after program first y.history ≡ Some (pool_of program (heap_in (sizes_of program) y.device.cache)))
+    × (y.state.standing ≡ state.Ready → pool_after program first y.history
+    ≡ Some (source_pool program (heap_in (sizes_of program) y.device.cache)))
 
--- Both beginnings: a new pool is the empty one with nothing done; an opened one is what the source
--- gives from the image's pool.
+-- Both first moments: a new pool is the empty one with nothing done; an opened one is what the
+-- source gives from the image's pool.
 abbrev pub BegunLaw : Type 0
 BegunLaw =
-    ((program : Program) (d : Device) (k : ℕ) → IsAfter program (empty_pool (sizes_of program).root_words (sizes_of program).slots) 0 (begun program d k))
-    × ((program : Program) (counts : Counts) (words : List ℤ) (d : Device) (k : ℕ) (a : Answer) (y : Moment) → OpenStep program counts words d k a y →
-    IsAfter program (opened program (words_of words)).pool (opened program (words_of words)).done y)
+    ((program : Program) (d : Device) (k : ℕ)
+    → IsAfter program (empty_pool (sizes_of program).root_words (sizes_of program).slots) 0
+    (fresh_moment program d k))
+    × ((program : Program) (words : List ℤ) (d : Device) (k : ℕ) (a : Answer) (y : Moment) →
+    OpenStep program words d k a y →
+    IsAfter program (opened program (image_words words)).pool
+    (opened program (image_words words)).done y)
 
--- A command that is refused, as a power cut is whose pick doesn't fit, changes nothing: not the
--- device, not what the source knows, and not the history; nor does it take a step.
+-- A refused command, including a power cut whose pick doesn't fit, changes nothing: neither the
+-- device, nor what the source knows, nor the history, nor the count of steps.
 abbrev pub UnchangedLaw : Type 0
 UnchangedLaw =
-    (program : Program) (counts : Counts) (super : Words) (c : Command) (x : Moment) (a : Answer) (y : Moment) →
-    IsRefused c a → Step program counts super c x a y →
+    (program : Program) (super : Words) (c : Command) (x : Moment) (a : Answer) (y : Moment) →
+    IsRefused c a → SessionStep program super c x a y →
     (y.device ≡ x.device) × (y.state ≡ x.state) × (y.history ≡ x.history) × (y.steps ≡ x.steps)
 
--- the most steps of a command: one for each record of the log, and those that the image allows a
--- run
-abbrev pub most_steps : Program → ℕ
-most_steps program = (sizes_of program).records + program.image.parts.most
+-- the most steps of a command: one for each record of the log, plus the image's bound on a run
+abbrev pub most_command_steps : Program → ℕ
+most_command_steps program = (sizes_of program).records + program.image.parts.most
 
--- Each command of a chain ends within so many steps.
+-- A chain takes at most this many steps for each of its commands.
 abbrev pub BoundLaw : Type 0
 BoundLaw =
-    (program : Program) (counts : Counts) (super : Words) (commands : List Command) (answers : List Answer) (x y : Moment) →
-    Ran program counts super commands answers x y →
-    y.steps ≤ x.steps + length commands * most_steps program
+    (program : Program) (super : Words) (commands : List Command) (answers : List Answer)
+    (x y : Moment) →
+    Ran program super commands answers x y →
+    y.steps ≤ x.steps + length commands * most_command_steps program

@@ -1,7 +1,9 @@
--- What the source knows of an image that is opened. Where it is sealed, the transaction of its record is owed, on the pool that
--- its log restores; else nothing is, and the pool is its own. Where it has a mark, the pool is of no use.
+-- What the source knows of an image that is opened. If the image is sealed, the transaction of its
+-- record is owed, on the pool that its log restores; else nothing is owed, and the pool is the
+-- image's own. If it has a mark, the pool is unusable.
 use Rattle.std.specs.Prelude.{if◌then◌else◌, length, Some, None, pos}
 use Rattle.std.specs.Ordering.{int_eq}
+use Rattle.pool_layout.specs.declared.places.TheConstants.{LAST, DONE, MARK, FUNCTION}
 use Rattle.pool_layout.specs.declared.places.Place.TheVariants.{Heap}
 use Rattle.pool_layout.specs.declared.wanted.Wanted.{Wanted}
 use Rattle.pool_layout.specs.Places as places
@@ -9,32 +11,47 @@ use Rattle.pool_layout.specs.Image.{Words}
 use Rattle.pool_layout.specs.Restored.{restored}
 use Rattle.c_types.specs.Shapes.{shapes_of, transactions_of}
 use Rattle.clobber_log.specs.Logs.{attempt_in}
-use Rattle.args_log.specs.Pending.{is_sealed, number_of}
-use Rattle.tx_run.specs.Standing.{kind_of}
+use Rattle.args_log.specs.Pending.{is_sealed, tx_number}
+use Rattle.tx_run.specs.Standing.{trap_of_mark}
 use Rattle.recovery.specs.Found.{recorded}
 use Rattle.cnvm_session.specs.declared.program.Program.{Program}
-use Rattle.session_law.specs.Source.{sizes_of, pool_of}
-use Rattle.session_law.specs.State.{Pending, Standing, Down, Unusable, State}
+use Rattle.session_law.specs.Source.{sizes_of, source_pool}
+use Rattle.session_law.specs.State.{Pending, Standing, Down, Unusable, SourceState}
 
--- the pool that an image must be of
+-- the pool that an image must fit
 abbrev pub wanted_of : Program → Wanted
 wanted_of program =
-    record { sizes = sizes_of program; digest = program.digest; txs = length (transactions_of program.typed); structs = length (shapes_of program.typed).structs }
+    record {
+      sizes = sizes_of program;
+      digest = program.digest;
+      txs = length (transactions_of program.typed);
+      structs = length (shapes_of program.typed).structs;
+    }
 
 abbrev pub opened_heap : Program → Words → Words
 opened_heap program image =
-    if is_sealed image then restored (places.pool_of (sizes_of program)) (attempt_in (sizes_of program) image) image
+    if is_sealed image then restored (places.pool_of (sizes_of program))
+    (attempt_in (sizes_of program) image) image
     else (λ w. image (places.at (places.pool_of (sizes_of program)) (Heap w)))
 
 -- the transaction and the arguments that the record names
 abbrev pub recorded_in : Program → Words → Pending
-recorded_in program image = record { tx = number_of (image 24); args = recorded program.image (number_of (image 24)) image }
+recorded_in program image = record {
+  tx = tx_number (image FUNCTION);
+  args = recorded program.image (tx_number (image FUNCTION)) image;
+}
 
 abbrev pub opened_standing : Program → Words → Standing
 opened_standing program image =
-    if int_eq (image 19) (pos 0) then Down (if is_sealed image then Some (recorded_in program image) else None)
-    else Unusable (kind_of (image 19))
+    if int_eq (image MARK) (pos 0)
+    then Down (if is_sealed image then Some (recorded_in program image) else None)
+    else Unusable (trap_of_mark (image MARK))
 
-abbrev pub opened : Program → Words → State
+abbrev pub opened : Program → Words → SourceState
 opened program image =
-    record { pool = pool_of program (opened_heap program image); done = number_of (image 17); last = image 16; standing = opened_standing program image }
+    record {
+      pool = source_pool program (opened_heap program image);
+      done = tx_number (image DONE);
+      last = image LAST;
+      standing = opened_standing program image;
+    }

@@ -1,6 +1,8 @@
 -- What the source of a program says: how many parameters a transaction has, what it means on a pool
--- and what it comes to, and the pool that a heap holds under the program's shapes.
-use Rattle.std.specs.Prelude.{ℕ, ◌≤◌, if◌then◌else◌, nat_lt, List, length, Option, option_map, ℤ}
+-- and what it comes to there, with how many logged stores, and the pool that a heap holds under the
+-- program's shapes.
+use Rattle.std.specs.Prelude.{ℕ, ◌+◌, ◌*◌, ◌≤◌, ◌≡◌, if◌then◌else◌, nat_lt, List, [], length, Option, option_map, ℤ}
+use Rattle.std.specs.Option.{option_map_or}
 use Rattle.pool_layout.specs.declared.limits.Sizes.{Sizes}
 use Rattle.pool_layout.specs.Sizes.{slot_word}
 use Rattle.pool_layout.specs.Image.{Words, IsUpTo}
@@ -11,39 +13,67 @@ use Rattle.c_parser.specs.Program.{tree_of}
 use Rattle.c_types.specs.Tables.{Tables, tables_of}
 use Rattle.c_types.specs.Shapes.{shapes_of}
 use Rattle.c_meaning.specs.Transaction.{Outcome, Trap, transaction, transaction_means}
+use Rattle.ir.specs.declared.function.Ir.{Ir}
+use Rattle.ir.specs.declared.site.Site.{Site}
+use Rattle.code_meaning.specs.Code.{code_start}
+use Rattle.code_meaning.specs.Deeds.{Deed, deeds}
+use Rattle.code_meaning.specs.Whole.{whole}
+use Rattle.lower.specs.Program.{lowered}
+use Rattle.lower_law.specs.Law.{entry_in}
 use Rattle.cnvm_session.specs.declared.program.Program.{Program}
 use Rattle.cnvm_session.specs.Shown.{pool_in}
-
--- How many logged stores the run of a transaction on a pool does until it ends. Which stores are
--- logged is given with a program, since its source doesn't tell it.
-abbrev pub Counts : Type 0
-Counts = PoolMap → (tx : ℕ) → List ℤ → ℕ
+use Rattle.session_law.specs.Logged.{stored_at, AreLogged}
 
 abbrev pub sizes_of : Program → Sizes
 sizes_of program = program.image.parts.sizes
 
-abbrev pub tables_in : Program → Tables
-tables_in program = tables_of (tree_of program.typed)
+abbrev pub program_tables : Program → Tables
+program_tables program = tables_of (tree_of program.typed)
 
--- how many parameters the transaction of that number has, from 1 on
-abbrev pub parameters : Program → ℕ → Option ℕ
-parameters program tx = option_map (λ (f : FunctionTree). length f.parameters) (transaction (tables_in program) tx)
+-- the number of parameters of a transaction; transactions are numbered from 1
+abbrev pub source_parameters : Program → ℕ → Option ℕ
+source_parameters program tx =
+    option_map (λ (f : FunctionTree). length f.parameters) (transaction (program_tables program) tx)
 
 -- what a transaction does on a pool, with the pool's ticks
 abbrev pub means : Program → PoolMap → (tx : ℕ) → List ℤ → Outcome
-means program pool tx args = transaction_means (tables_in program) pool tx args (sizes_of program).ticks
+means program pool tx args = transaction_means (program_tables program) pool tx args
+    (sizes_of program).ticks
 
--- What a transaction comes to on a pool whose log has C records: a full log, where the run's logged
--- stores are more than C, so that one comes before its end which finds no record; else what the
--- source says.
-abbrev pub comes_to : Program → Counts → PoolMap → (tx : ℕ) → List ℤ → Outcome
-comes_to program counts pool tx args =
-    if nat_lt (sizes_of program).records (counts pool tx args) then Trap LogFull else means program pool tx args
+-- what the run of function g does on a pool until it ends, which these ticks bound
+abbrev pub deeds_in : Ir → (ticks : ℕ) → PoolMap → List ℤ → (g : ℕ) → List Deed
+deeds_in ir ticks pool args g =
+    deeds ir ((ticks + 1) * whole ir.functions) (code_start g args pool ticks)
 
-abbrev pub pool_of : Program → Words → PoolMap
-pool_of program h = pool_in (shapes_of program.typed) (sizes_of program) h
+-- the sites of the stores of a transaction's run, in the code of the program's tree without logs
+abbrev pub store_sites : Program → PoolMap → (tx : ℕ) → List ℤ → List Site
+store_sites program pool tx args =
+    stored_at (option_map_or (deeds_in (lowered program.typed) (sizes_of program).ticks pool args)
+    (entry_in tx (lowered program.typed).functions) [])
+
+-- the transaction's run does this many logged stores until it ends
+abbrev pub LogsStores : Program → PoolMap → (tx : ℕ) → List ℤ → (logged : ℕ) → Type 0
+LogsStores program pool tx args logged =
+    AreLogged (lowered program.typed).functions (store_sites program pool tx args) logged
+
+-- The outcome on a pool whose log has C records: a full log if there are more than C logged stores,
+-- since one of them then finds no free record; else what the source says.
+abbrev pub outcome_with : Program → PoolMap → (tx : ℕ) → List ℤ → (logged : ℕ) → Outcome
+outcome_with program pool tx args logged =
+    if nat_lt (sizes_of program).records logged then Trap LogFull else means program pool tx args
+
+-- What a transaction comes to on a pool. The program, the pool and the arguments determine both the
+-- number of logged stores and the outcome.
+pub record ComesTo (program : Program) (pool : PoolMap) (tx : ℕ) (args : List ℤ) (logged : ℕ)
+    (outcome : Outcome) : Type 0 where
+  pub logs : LogsStores program pool tx args logged
+  pub is : outcome_with program pool tx args logged ≡ outcome
+
+abbrev pub source_pool : Program → Words → PoolMap
+source_pool program h = pool_in (shapes_of program.typed) (sizes_of program) h
 
 -- each slot's header is from 0 to the number of structs
-abbrev pub HasHeaders : Program → Words → Type 0
-HasHeaders program h =
-    (slot : ℕ) → 1 ≤ slot → slot ≤ (sizes_of program).slots → IsUpTo (length (shapes_of program.typed).structs) (h (slot_word (sizes_of program) slot))
+abbrev pub HasSourceHeaders : Program → Words → Type 0
+HasSourceHeaders program h =
+    (slot : ℕ) → 1 ≤ slot → slot ≤ (sizes_of program).slots
+    → IsUpTo (length (shapes_of program.typed).structs) (h (slot_word (sizes_of program) slot))

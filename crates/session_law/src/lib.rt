@@ -1,13 +1,14 @@
-//! A session does what the source says. It stands on `cnvm_session`, whose commands are answered as the
-//! machine's image and the device make it, on the meaning of `c_meaning`, and on the laws of `cut_law`.
-//! Its one contract for the crates above: where the image agrees with its source, a session is a chain
-//! of steps, each answered as the source says; a transaction that was cut is done exactly if it was
-//! sealed, each is done at most once, and the pool is what the source gives after those that are done.
+//! A session does what the source says. It rests on `cnvm_session`, whose commands are answered by
+//! the machine's image and the device, on the meaning of `c_meaning`, and on the laws of `cut_law`.
+//! Its one contract for the crates above: where the image agrees with its source, a session is a
+//! chain of steps, each answered as the source says; a transaction that was cut is done exactly if
+//! it was sealed, each is done at most once, and the pool is what the source gives after those that
+//! are done.
 #![tactic(auto)]
 
-ghost use Rattle.session_law.specs.Law.{SessionLaw, SealedLaw, PhaseLaw, StepsLaw, CreatedLaw, OpenedLaw, RunLaw, KeptLaw, HistoryLaw, BegunLaw, WholeLaw, UnchangedLaw, BoundLaw, ScriptLaw};
+ghost use Rattle.session_law.specs.Law.{SessionLaw, SealedLaw, PhaseLaw, StepsLaw, CreatedLaw, OpenedLaw, SessionRunLaw, KeptLaw, HistoryLaw, BegunLaw, WholeLaw, UnchangedLaw, BoundLaw, ScriptLaw, DeterminedLaw, FullLaw};
 
-/// Each command of a session is answered as the source says. It does nothing.
+/// Each command of a session is answered as the source says. The function does nothing.
 pub fn law()
     ensures session { SessionLaw }
     ensures sealed { SealedLaw }
@@ -15,7 +16,7 @@ pub fn law()
     ensures steps { StepsLaw }
     ensures created { CreatedLaw }
     ensures opened { OpenedLaw }
-    ensures run { RunLaw }
+    ensures run { SessionRunLaw }
     ensures kept { KeptLaw }
     ensures history { HistoryLaw }
     ensures begun { BegunLaw }
@@ -23,4 +24,6 @@ pub fn law()
     ensures unchanged { UnchangedLaw }
     ensures bound { BoundLaw }
     ensures script { ScriptLaw }
+    ensures determined { DeterminedLaw }
+    ensures full { FullLaw }
 {}

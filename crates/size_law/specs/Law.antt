@@ -1,6 +1,6 @@
--- How long lowered code is: a tree's code has at most four instructions for each token that spells the
--- tree. Every token counts, also those that make no code, and each stands in the list once; the end of
--- the text is none of them.
+-- The length of lowered code: a tree's code has at most four instructions for each token that
+-- spells the tree. Every token counts, also those without code, and each is in the list once; the
+-- end of the text is not one of them.
 use Rattle.std.specs.Prelude.{◌≡◌, ◌≤◌, ◌+◌, ◌*◌, List, map, length}
 use Rattle.c_lexer.specs.declared.token.Placed.{Placed}
 use Rattle.c_parser.specs.ItemSpelling.{SpellsProgram}
@@ -8,12 +8,14 @@ use Rattle.c_parser.specs.Program.{Program, tree_of}
 use Rattle.lower.specs.Program.{lowered}
 use Rattle.code_meaning.specs.Whole.{whole}
 
--- no rule of types is asked for
+-- the tree need not keep the typing rules
 abbrev pub SizeLaw : Type 0
-SizeLaw = (tree : Program) (tokens : List Placed) → SpellsProgram tokens (tree_of tree) → whole (lowered tree).functions ≤ 4 * length tokens
+SizeLaw = (tree : Program) (tokens : List Placed) → SpellsProgram tokens (tree_of tree)
+    → whole (lowered tree).functions ≤ 4 * length tokens
 
 -- the bound on a call's steps allows for so many instructions; it counts the tokens by their lines,
 -- which the parsed tree keeps
 abbrev pub AllowedLaw : Type 0
-AllowedLaw = (tree : Program) (tokens : List Placed) → SpellsProgram tokens (tree_of tree) → tree.lines ≡ map (λ placed. placed.line) tokens
+AllowedLaw = (tree : Program) (tokens : List Placed) → SpellsProgram tokens (tree_of tree)
+    → tree.lines ≡ map (λ placed. placed.line) tokens
     → whole (lowered tree).functions ≤ 64 * length tree.lines + 256

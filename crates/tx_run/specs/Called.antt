@@ -1,5 +1,5 @@
--- How a call is answered, on a device that is on, of a pool that takes calls.
-use Rattle.std.specs.Prelude.{ℕ, ◌+◌, ◌≡◌, ℤ, List}
+-- How a call is answered: by what the pool's line 2 says, and then by its due events.
+use Rattle.std.specs.Prelude.{ℕ, ◌+◌, ◌≤◌, ◌≡◌, true, false, ℤ, List}
 use Rattle.pmem.specs.Device.{Device}
 use Rattle.pmem.specs.Played.{PlaysAll, PlaysPart}
 use Rattle.pmem.specs.declared.answer.Phase.{Phase}
@@ -15,36 +15,66 @@ use Rattle.pm_machine.specs.Runs.{Due, end_of}
 use Rattle.tx_run.specs.declared.answer.CallAnswer.{CallAnswer}
 use Rattle.tx_run.specs.declared.answer.CallAnswer.TheVariants.{Done, Trap, Off, Failed, Unusable, Numbers, NoMemory}
 use Rattle.cache_model.specs.Event.{CacheEvent}
+use Rattle.cache_model.specs.Cache.{view}
+use Rattle.pool_map.specs.declared.trap.TrapKind.{TrapKind}
+use Rattle.tx_run.specs.declared.standing.Standing.TheVariants as stands
+use Rattle.tx_run.specs.Standing.{standing_of}
 use Rattle.tx_run.specs.Settled.{HasLogged}
 use Rattle.tx_run.specs.Due.{due_on, due_run, due_seal, due_unsealed, due_call}
 
--- the run of a call, on the cache behind its seal
+-- the run of a call, on the cache after its seal
 abbrev pub called_run : Image → (tx : ℕ) → List ℤ → Device → Due
-called_run image tx args d = due_on image (start image tx args) (play d.cache (due_seal tx args d.cache))
+called_run image tx args d = due_on image (start image tx args)
+    (play d.cache (due_seal tx args d.cache))
 
--- The run came to this end, and all that is due was played; the counter rose from k to k1 by the run's instructions.
-pub record HasCalled (e : End) (image : Image) (tx : ℕ) (args : List ℤ) (d b : Device) (k k1 : ℕ) : Type 0 where
+-- The run came to this end, and all due events were played; the step counter rose from k to k1 by
+-- the run's instructions.
+pub record HasCalled (e : End) (image : Image) (tx : ℕ) (args : List ℤ) (d b : Device) (k k1 : ℕ) :
+    Type 0 where
   pub fate : end_of (called_run image tx args d).fate ≡ e
   pub played : PlaysAll d (due_call image tx args d.cache) b
   pub steps : k1 ≡ k + (called_run image tx args d).steps
 
--- the power went behind these events, and at one of the next
+-- the power went after all of the first events, at one of the next
 pub record WentIn (d : Device) (b : Device) (first next : List CacheEvent) : Type 0 where
   pub between : Device
   pub done : PlaysAll d first between
   pub went : PlaysPart refusal.Off between next b
 
--- The power went: before the store of the seal was done, between it and the end of the seal, or behind the seal.
+-- The power went: before the store of the seal was done, between it and the end of the seal, or
+-- after the seal.
 abbrev pub WentAt : Phase → Image → (tx : ℕ) → List ℤ → (d b : Device) → Type 0
 WentAt phase.Unsealed image tx args d b = PlaysPart refusal.Off d (due_unsealed tx args d.cache) b
 WentAt phase.Sealing image tx args d b = WentIn d b (due_unsealed tx args d.cache) sealing_events
-WentAt phase.Sealed image tx args d b = WentIn d b (due_seal tx args d.cache) (due_run image (start image tx args) (play d.cache (due_seal tx args d.cache)))
+WentAt phase.Sealed image tx args d b =
+    WentIn d b (due_seal tx args d.cache)
+    (due_run image (start image tx args) (play d.cache (due_seal tx args d.cache)))
 
+-- on a device that is on, of a pool that takes calls
 abbrev pub Called : CallAnswer → Image → (tx : ℕ) → List ℤ → (d b : Device) → (k k1 : ℕ) → Type 0
-Called (Done v l) image tx args d b k k1 = HasCalled (Halted v) image tx args d b k k1 × HasLogged l image (start image tx args) (play d.cache (due_seal tx args d.cache))
+Called (Done v l) image tx args d b k k1 = HasCalled (Halted v) image tx args d b k k1
+    × HasLogged l image (start image tx args) (play d.cache (due_seal tx args d.cache))
 Called (Trap t) image tx args d b k k1 = HasCalled (Trapped t) image tx args d b k k1
-Called (Off p) image tx args d b k k1 = PlaysPart refusal.Off d (due_call image tx args d.cache) b × WentAt p image tx args d b
+Called (Off p) image tx args d b k k1 = PlaysPart refusal.Off d (due_call image tx args d.cache) b
+    × WentAt p image tx args d b
 Called Failed image tx args d b k k1 = PlaysPart refusal.Failed d (due_call image tx args d.cache) b
-Called NoMemory image tx args d b k k1 = PlaysPart refusal.NoMemory d (due_call image tx args d.cache) b
+Called NoMemory image tx args d b k k1 =
+    PlaysPart refusal.NoMemory d (due_call image tx args d.cache) b
 Called (Unusable t) image tx args d b k k1 = ⊥
 Called Numbers image tx args d b k k1 = ⊥
+
+-- A call over device d was answered by r; b is the device after it, and the counter rose from k to
+-- k1. A pool that takes no call and a device that is off are left as they are, without a step. A
+-- call takes at most the steps of its run, and at most the image's bound.
+pub record IsTxCalled (r : CallAnswer) (image : Image) (tx : ℕ) (args : List ℤ) (d b : Device)
+    (k k1 : ℕ) : Type 0 where
+  pub ready : d.on ≡ true → standing_of (view d.cache) ≡ stands.Ready →
+      Called r image tx args d b k k1
+  pub unusable : (kind : TrapKind) → d.on ≡ true → standing_of (view d.cache) ≡ stands.Unusable kind
+      →
+      (r ≡ Unusable kind) × (b ≡ d) × (k1 ≡ k)
+  pub numbers : d.on ≡ true → standing_of (view d.cache) ≡ stands.Numbers →
+      (r ≡ Numbers) × (b ≡ d) × (k1 ≡ k)
+  pub off : d.on ≡ false → (r ≡ Off phase.Unsealed) × (b ≡ d) × (k1 ≡ k)
+  pub bound : d.on ≡ true → k1 ≤ k + (called_run image tx args d).steps
+  pub most : k1 ≤ k + image.parts.most

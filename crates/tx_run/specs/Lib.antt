@@ -2,3 +2,4 @@ pub mod Standing
 pub mod Due
 pub mod Settled
 pub mod Called
+pub mod inside

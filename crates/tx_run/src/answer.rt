@@ -1,16 +1,16 @@
-//! What a call answers, and what is answered of the part of it behind the seal.
+//! The answers of a call, and of its part after the seal.
 
 ghost use Rattle.std.specs.Prelude.{◌≡◌};
-ghost use Rattle.tx_run.specs.Settled.{call_answer};
+ghost use Rattle.tx_run.specs.inside.Settled.{call_answer};
 
 use pmem::Phase;
 use pool_map::TrapKind;
 
 /// The answer of a call.
 ///
-/// Behind `Off`, `Failed` and `NoMemory` the events before the refused one stand. `Off` tells how far
-/// the seal had come, which is `Unsealed` where the device was off. `NoMemory` may come before the
-/// first event too.
+/// After `Off`, `Failed` and `NoMemory` the events before the refused one are done. `Off` says how
+/// far the seal had come, which is `Unsealed` if the device was off. `NoMemory` may also come
+/// before the first event.
 #[derive(Clone, Copy, Debug, PartialEq, Eq, Drop)]
 pub enum CallAnswer {
     /// The call is retired; `logged` is the number of LOG instructions of its run.
@@ -26,8 +26,8 @@ pub enum CallAnswer {
     NoMemory,
 }
 
-/// How a sealed call was settled: retired with the value of its run, or marked with its trap; or
-/// which refusal cut it.
+/// How a sealed call was settled: it was retired with the value of its run, or marked with its
+/// trap, or a refusal cut it short.
 #[derive(Clone, Copy, Debug, PartialEq, Eq, Drop)]
 pub enum Settled {
     Done { value: i64, logged: u64 },

@@ -1,14 +1,9 @@
 //! A call from its start to its end.
 
-ghost use Rattle.std.specs.Prelude.{◌≡◌, ◌+◌, ◌<◌, ◌≤◌, true, false, length};
-ghost use Rattle.cache_model.specs.Cache.{view};
+ghost use Rattle.std.specs.Prelude.{◌≡◌, ◌+◌, ◌≤◌, true, length};
 ghost use Rattle.pool_layout.specs.Sizes.{pool_lines};
-ghost use Rattle.pmem.specs.declared.answer.Phase.TheVariants as at_phase;
 ghost use Rattle.pm_machine.specs.Machine.{start};
-ghost use Rattle.pool_map.specs.declared.trap.TrapKind.{TrapKind};
-ghost use Rattle.tx_run.specs.declared.standing.Standing.TheVariants as stands;
-ghost use Rattle.tx_run.specs.Standing.{standing_of};
-ghost use Rattle.tx_run.specs.Called.{called_run, Called};
+ghost use Rattle.tx_run.specs.Called.{called_run, Called, IsTxCalled};
 
 use crate::answer::CallAnswer;
 use crate::settling::settle;
@@ -20,7 +15,7 @@ use pmem::{Phase, PmemWork};
 use std::alloc::Global;
 use std::sync::ledger::Ledger;
 
-/// Seals the call of a machine that stands at its start, and settles it.
+/// Seals the call of a machine that is at its start, and settles it.
 fn run<P: PmemWork, L: Ledger>(
     image: &Image,
     machine: &mut Machine,
@@ -32,8 +27,10 @@ fn run<P: PmemWork, L: Ledger>(
     requires lines { (P.device dev.old).lines ≡ pool_lines image.now.parts.sizes }
     requires start { machine.old ≡ start image.now tx args.now }
     requires on { (P.device dev.old).on ≡ true }
-    ensures called { Called result image.now tx args.now (P.device dev.old) (P.device dev.new) steps.old steps.new }
-    ensures bound { steps.new ≤ steps.old + (called_run image.now tx args.now (P.device dev.old)).steps }
+    ensures called { Called result image.now tx args.now (P.device dev.old) (P.device dev.new)
+        steps.old steps.new }
+    ensures bound { steps.new ≤
+        steps.old + (called_run image.now tx args.now (P.device dev.old)).steps }
     ensures most { steps.new ≤ steps.old + image.now.parts.most }
     ensures lines { (P.device dev.new).lines ≡ (P.device dev.old).lines }
 {
@@ -45,11 +42,11 @@ fn run<P: PmemWork, L: Ledger>(
     }
 }
 
-/// Calls a transaction, counted from 1, with as many arguments as it has parameters, over the pool of
-/// the image. The mark is looked at first, then the numbers; then the machine's frames are reserved,
-/// the arguments are sealed, the machine runs, and its value is retired, or its trap marked. On a
-/// device that is off the answer is `Off(Unsealed)`, and nothing has changed. A call that is refused
-/// takes no step, and any other at most those of its run.
+/// Calls a transaction, counted from 1, with as many arguments as it has parameters, on the pool of
+/// the image. The mark is checked first, then the numbers; then memory for the machine's frames is
+/// allocated, the arguments are sealed, the machine runs, and its value is retired, or its trap
+/// marked. On a device that is off the answer is `Off(Unsealed)`, and nothing has changed. A call
+/// that is refused takes no step, and any other at most those of its run.
 pub fn call<P: PmemWork, L: Ledger>(
     alloc: Global,
     image: &Image,
@@ -61,13 +58,8 @@ pub fn call<P: PmemWork, L: Ledger>(
     requires lines { (P.device dev.old).lines ≡ pool_lines image.now.parts.sizes }
     requires first { 1 ≤ tx }
     requires last { tx ≤ length image.now.parts.txs }
-    ensures called { (P.device dev.old).on ≡ true → standing_of (view (P.device dev.old).cache) ≡ stands.Ready → Called result image.now tx args.now (P.device dev.old) (P.device dev.new) steps.old steps.new }
-    ensures unusable { (kind : TrapKind) → (P.device dev.old).on ≡ true → standing_of (view (P.device dev.old).cache) ≡ stands.Unusable kind → (result ≡ CallAnswer.Unusable kind) × (P.device dev.new ≡ P.device dev.old) × (steps.new ≡ steps.old) }
-    ensures numbers { (P.device dev.old).on ≡ true → standing_of (view (P.device dev.old).cache) ≡ stands.Numbers → (result ≡ CallAnswer.Numbers) × (P.device dev.new ≡ P.device dev.old) × (steps.new ≡ steps.old) }
-    ensures off { (P.device dev.old).on ≡ false → result ≡ CallAnswer.Off at_phase.Unsealed }
-    ensures same { (P.device dev.old).on ≡ false → P.device dev.new ≡ P.device dev.old }
-    ensures still { (P.device dev.old).on ≡ false → steps.new ≡ steps.old }
-    ensures bound { (P.device dev.old).on ≡ true → steps.new ≤ steps.old + (called_run image.now tx args.now (P.device dev.old)).steps }
+    ensures called { IsTxCalled result image.now tx args.now (P.device dev.old) (P.device dev.new)
+        steps.old steps.new }
     ensures most { steps.new ≤ steps.old + image.now.parts.most }
     ensures lines { (P.device dev.new).lines ≡ (P.device dev.old).lines }
 {

@@ -1,4 +1,4 @@
-//! The part of a call behind its seal.
+//! The part of a call after its seal.
 
 ghost use Rattle.std.specs.Prelude.{◌≡◌, ◌+◌, ◌^◌, ◌<◌, ◌≤◌, true, false};
 ghost use Rattle.cache_model.specs.Cache.{view};
@@ -7,7 +7,8 @@ ghost use Rattle.pool_map.specs.Trap.{trap_number};
 ghost use Rattle.args_log.specs.Retire.{retire_events, mark_events};
 ghost use Rattle.pm_machine.specs.Runs.{AreLines};
 ghost use Rattle.tx_run.specs.Due.{due_on};
-ghost use Rattle.tx_run.specs.Settled.{log_done, log_trap, Settles};
+ghost use Rattle.tx_run.specs.Settled.{Settles};
+ghost use Rattle.tx_run.specs.inside.Settled.{log_done, log_trap};
 
 use crate::answer::Settled;
 use args_log::{mark_unusable, retire};
@@ -42,8 +43,8 @@ fn marked(answer: LogAnswer, kind: TrapKind) -> Settled
     }
 }
 
-/// Runs the machine of a call that is sealed, and retires the call, or marks the pool where the run
-/// trapped. On a device that is off the answer is `Off`, and nothing has changed.
+/// Runs the machine of a sealed call, and retires the call, or marks the pool if the run trapped.
+/// On a device that is off the answer is `Off`, and nothing has changed.
 pub fn settle<P: PmemWork, L: Ledger>(
     image: &Image,
     machine: &mut Machine,
@@ -53,8 +54,11 @@ pub fn settle<P: PmemWork, L: Ledger>(
     requires lines { (P.device dev.old).lines ≡ pool_lines image.now.parts.sizes }
     requires dirty { AreLines (heap_words image.now.parts.sizes) machine.old.dirty }
     requires logged { machine.old.logged < 2 ^ 62 }
-    ensures settled { (P.device dev.old).on ≡ true → Settles result image.now machine.old (P.device dev.old) (P.device dev.new) steps.old steps.new }
-    ensures bound { (P.device dev.old).on ≡ true → steps.new ≤ steps.old + (due_on image.now machine.old (P.device dev.old).cache).steps }
+    ensures settled { (P.device dev.old).on ≡ true
+        → Settles result image.now machine.old (P.device dev.old) (P.device dev.new) steps.old
+        steps.new }
+    ensures bound { (P.device dev.old).on ≡ true
+        → steps.new ≤ steps.old + (due_on image.now machine.old (P.device dev.old).cache).steps }
     ensures most { steps.new ≤ steps.old + image.now.parts.most }
     ensures off { (P.device dev.old).on ≡ false → result ≡ Settled.Off }
     ensures same { (P.device dev.old).on ≡ false → P.device dev.new ≡ P.device dev.old }

@@ -4,12 +4,13 @@ ghost use Rattle.std.specs.Prelude.{◌≡◌, ◌≤◌, true, false, IfSome, I
 ghost use Rattle.cache_model.specs.Cache.{view};
 ghost use Rattle.pool_map.specs.Trap.{trap_of};
 ghost use Rattle.pm_machine.specs.Machine.{trap_at};
-ghost use Rattle.tx_run.specs.Standing.{kind_of, is_number, standing_of};
+ghost use Rattle.tx_run.specs.Standing.{trap_of_mark, is_number, standing_of};
 
 use pmem::PmemWork;
+use pool_layout::{ATTEMPT, DONE, MARK};
 use pool_map::TrapKind;
 
-/// Whether a pool takes a call, as its line 2 says.
+/// Whether a pool takes a call, according to its line 2.
 #[derive(Clone, Copy, Debug, PartialEq, Eq, Drop)]
 pub enum Standing {
     Ready,
@@ -18,10 +19,10 @@ pub enum Standing {
     Off,
 }
 
-/// The trap of a mark. A mark that is no trap's number, which no pool holds, reads as `Depth`.
+/// The trap of a mark. A mark that is no trap's number, which no pool holds, counts as `Depth`.
 #[tactic(auto, using(std::proofs::lemmas::Int::wraps))]
 pub fn marked_kind(mark: i64) -> TrapKind
-    ensures { result ≡ kind_of mark }
+    ensures { result ≡ trap_of_mark mark }
 {
     match u32::try_from(mark) {
         Ok(number) => kind_at(number),
@@ -29,7 +30,7 @@ pub fn marked_kind(mark: i64) -> TrapKind
     }
 }
 
-/// The trap of a number, and `Depth` where there is none.
+/// The trap of a number, or `Depth` if there is none.
 fn kind_at(number: u32) -> TrapKind
     ensures { result ≡ trap_at (trap_of number) }
 {
@@ -39,7 +40,7 @@ fn kind_at(number: u32) -> TrapKind
     }
 }
 
-/// A number from 0 up that is below 2^62.
+/// Whether a word is a number from 0 to 2^62 - 1.
 fn is_number(word: i64) -> bool
     ensures { result ≡ is_number word }
 {
@@ -49,25 +50,27 @@ fn is_number(word: i64) -> bool
     }
 }
 
-/// The numbers of calls and attempts end here.
+/// The numbers of calls and attempts are below this.
 const NUMBERS: u64 = 4611686018427387904;
 
-/// What a pool's mark, number of finished calls and attempt say, in this order.
+/// Whether a pool takes a call: checks its mark, its number of finished calls and its attempt, in
+/// this order.
 pub fn assess<P: PmemWork>(dev: &P) -> Standing
     requires lines { 6 ≤ (P.device dev.now).lines }
-    ensures on { (P.device dev.now).on ≡ true → result ≡ standing_of (view (P.device dev.now).cache) }
+    ensures on { (P.device dev.now).on ≡ true
+        → result ≡ standing_of (view (P.device dev.now).cache) }
     ensures off { (P.device dev.now).on ≡ false → result ≡ Standing.Off }
 {
-    let Some(mark) = dev.load(19) else {
+    let Some(mark) = dev.load(MARK) else {
         return Standing::Off;
     };
     if mark != 0 {
         return Standing::Unusable(marked_kind(mark));
     }
-    let Some(done) = dev.load(17) else {
+    let Some(done) = dev.load(DONE) else {
         return Standing::Off;
     };
-    let Some(attempt) = dev.load(18) else {
+    let Some(attempt) = dev.load(ATTEMPT) else {
         return Standing::Off;
     };
     if is_number(done) && is_number(attempt) {

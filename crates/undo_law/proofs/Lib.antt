@@ -1,8 +1,9 @@
 pub mod Logs
-pub mod Undoing
-pub mod Keeping
+pub mod Undone
+pub mod Kept
+pub mod Inside
 pub mod Whole
 pub mod Reabort
-pub mod Marking
-pub mod Resting
-pub mod Counting
+pub mod MarkedCalls
+pub mod Rest
+pub mod EventCounts

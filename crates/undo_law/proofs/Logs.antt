@@ -1,4 +1,4 @@
--- The run part once more, with the records that it leaves.
+-- The run once more, with the records that it leaves.
 use Rattle.pool_layout.specs.Sizes.{heap_words}
 use Rattle.std.proofs.Common.{◌≡◌, ◌⊎◌, inl, inr, ⊎_elim, ℕ, suc, ◌^◌, ◌≤◌, List, [], ◌∷◌, ℤ, pos}
 use Rattle.std.proofs.Common.{refl, sym, subst, arith}
@@ -8,6 +8,7 @@ use Rattle.cache_model.specs.Play.{apply, play}
 use Rattle.cache_model.specs.During.{during}
 use Rattle.pool_layout.specs.declared.places.Place.{Place}
 use Rattle.pool_layout.specs.declared.places.Place.TheVariants.{RecordWord, RecordOld, Heap}
+use Rattle.pool_layout.specs.declared.limits.Sizes.{Sizes}
 use Rattle.pool_layout.specs.declared.places.Layout.{Layout}
 use Rattle.pool_layout.specs.Places.{at, IsPlace, pool_of}
 use Rattle.crash_law.specs.Due.{Entry, Plain, Logged, run_events, heap_after, IsTrace}
@@ -19,6 +20,9 @@ use Rattle.crash_law.proofs.Run.{logged}
 use Rattle.undo_law.specs.Undo.{Records, no_records, with_record, records_after}
 
 module _ (s : Setting) (a : ℕ) (a_fits : a ≤ 2 ^ 62) where
+  abbrev z : Sizes
+  z = s.pool.sizes
+
   abbrev C : Layout
   C = pool_of s.pool.sizes
 
@@ -33,9 +37,9 @@ module _ (s : Setting) (a : ℕ) (a_fits : a ≤ 2 ^ 62) where
       (c : Cache) → Holding r heap c →
       ((u : ℕ) → stored u → s.E u → HasRecord (found r.word r.old r.n u)) →
       IsTrace C.sizes.records H s.E s.W r.n stored trace →
-      during c (run_events C a r.n heap trace) (Q s a a_fits)
+      during c (run_events z a r.n heap trace) (Q s a a_fits)
       × Holding (records_after r heap trace) (heap_after heap trace)
-      (play c (run_events C a r.n heap trace))
+      (play c (run_events z a r.n heap trace))
   run_logs [] r heap stored c run has ok_trace =
       (covered s a a_fits r.n r.word r.old c run.facts run.cover, run)
   run_logs (Plain w x ∷ trace) r heap stored c run has ok_trace =
@@ -67,12 +71,12 @@ module _ (s : Setting) (a : ℕ) (a_fits : a ≤ 2 ^ 62) where
       (sym e) fresh_one)
       (λ st. found_grows r.word r.old r.n (pos w) (heap w) u (has u st input)) before)
       ok_trace.3 in (
-        step.0 (Store (at C (Heap w)) x ∷ run_events C a (suc r.n) (put heap w x) trace)
+        step.0 (Store (at C (Heap w)) x ∷ run_events z a (suc r.n) (put heap w x) trace)
             (covered s a a_fits (suc r.n) r'.word r'.old c5 step.1.facts step.1.cover, rest.0),
         rest.1,
       )
 
-  -- no record, by other functions
+  -- no record, with other functions
   none_fine : (q : Place) → IsPlace C q → (x : ℤ) → ok (running s a a_fits 0 nothing nothing) q x →
       ok (running s a a_fits 0 no_records.word no_records.old) q x
   none_fine (RecordWord j) is x fine = λ lt. absurd (omega arith)

@@ -1,27 +1,32 @@
--- The whole recovery of an image that is owed, whose run is aborted again.
+-- The whole recovery of an image in which a call is owed, whose run is aborted again.
 use Rattle.pool_layout.specs.Sizes.{heap_words}
-use Rattle.std.proofs.Common.{◌≡◌, ◌⊎◌, inl, inr, ℕ, zero, suc, ◌^◌, ◌<◌, ◌≤◌, List, ◌∷◌, Option}
+use Rattle.std.proofs.Common.{◌++◌, length, ◌≡◌, ◌⊎◌, inl, inr, ℕ, zero, suc, ◌^◌, ◌<◌, ◌≤◌, List, ◌∷◌, Option}
 use Rattle.std.proofs.Common.{Some, None, ℤ, pos, refl, sym, ap, ◌∙◌, subst, arith, unwrap_or}
 use Rattle.cache_model.specs.Event.{CacheEvent, Fence}
 use Rattle.cache_model.specs.Cache.{Words, Cache, view}
 use Rattle.cache_model.specs.Play.{play}
 use Rattle.cache_model.specs.Image.{Images, HasOne}
-use Rattle.cache_model.specs.During.{during, Through}
+use Rattle.cache_model.specs.During.{during}
+use Rattle.cache_model.specs.inside.During.{Through}
 use Rattle.cache_model.proofs.During.{through_more, through_during, through_end}
 use Rattle.pool_layout.specs.declared.places.Place.{Place}
 use Rattle.pool_layout.specs.declared.places.Place.TheVariants.{Super, Last, Done, Attempt, Mark}
 use Rattle.pool_layout.specs.declared.places.Place.TheVariants.{Argument, Seal, RecordWord}
 use Rattle.pool_layout.specs.declared.places.Place.TheVariants.{RecordOld, RecordStamp, Heap, Spare}
 use Rattle.pool_layout.specs.declared.places.Place.TheVariants.{RecordSpare}
+use Rattle.pool_layout.specs.declared.limits.Sizes.{Sizes}
 use Rattle.pool_layout.specs.declared.places.Layout.{Layout}
 use Rattle.pool_layout.specs.Places.{at, IsPlace, pool_of}
 use Rattle.pool_layout.specs.Log.{count}
 use Rattle.pool_layout.specs.Restored.{restored, undone}
 use Rattle.pool_layout.proofs.Records.{LogIs, log_is}
 use Rattle.crash_law.specs.Pools.{Pool, Call, Owed, IsDone}
-use Rattle.crash_law.specs.Due.{Entry, Halted, restore_events, reset_events}
+use Rattle.clobber_log.specs.Reset.{reset_events}
+use Rattle.clobber_log.specs.Restore.{first_events}
+use Rattle.crash_law.specs.Due.{Entry, Halted}
+use Rattle.crash_law.proofs.Walks.{restore_walk, reset_walk, reset_same, first_same}
 use Rattle.crash_law.proofs.Redo.{end_same}
-use Rattle.crash_law.specs.Law.{collapsed}
+use Rattle.crash_law.specs.Law.{collapsed, AreInARow}
 use Rattle.crash_law.proofs.Held.{cover_more, cover_view}
 use Rattle.crash_law.proofs.Records.{found, found_zero, nothing, undone_found, undone_cong}
 use Rattle.crash_law.proofs.Fine.{Fine, ok, Setting, owing, IsFine, StampIs}
@@ -29,16 +34,18 @@ use Rattle.crash_law.proofs.Run.{Running, Recorded, running}
 use Rattle.crash_law.proofs.Seal.{one_cover}
 use Rattle.crash_law.proofs.Restore.{restoring, restore_part, reset_part}
 use Rattle.crash_law.proofs.Again.{collapsed_one, left_image}
-use Rattle.undo_law.specs.Undo.{Every, IsMarked, due_undone, due_reabort}
-use Rattle.undo_law.specs.Law.{IsOwed, IsOwedStill, IsUndone, IsEmptied, IsReabortCut, IsCutTo}
-use Rattle.undo_law.specs.Law.{AreCutTo}
+use Rattle.undo_law.specs.Undo.{Every, IsMarkedTrace, due_undone, due_reabort}
+use Rattle.undo_law.specs.Law.{IsOwed, IsOwedStill, IsUndone, IsEmptied, IsReabortCut, IsUndoCutTo}
 use Rattle.undo_law.proofs.Whole.{OwedOrUndone, Undone, undone_part}
-use Rattle.undo_law.proofs.Keeping.{has_play, has_one, both_during, images_during, still_reabort}
+use Rattle.undo_law.proofs.Kept.{has_play, has_one, both_during, images_during, still_reabort}
 
 module _ (pool : Pool) (call : Call) (h : ℕ → ℤ) (trace : List Entry) (last : ℤ)
-    (given_fits : call.given < 23) (is : IsMarked pool.sizes trace) (one : Words)
+    (given_fits : length call.args < 23) (is : IsMarkedTrace pool.sizes trace) (one : Words)
     (owed : IsOwed pool call h one) (n : ℕ)
     (counted : count (pool_of pool.sizes) owed.attempt one ≡ n) where
+  abbrev z : Sizes
+  z = pool.sizes
+
   abbrev C : Layout
   C = pool_of pool.sizes
 
@@ -71,8 +78,7 @@ module _ (pool : Pool) (call : Call) (h : ℕ → ℤ) (trace : List Entry) (las
     W = Every;
     h = h;
     r = r;
-    done_fits =
-        owed.done_fits;
+    done_fits = owed.done_fits;
     given_fits = given_fits;
     from = owed.restores;
   }
@@ -125,15 +131,15 @@ module _ (pool : Pool) (call : Call) (h : ℕ → ℤ) (trace : List Entry) (las
   from_there image (inl o) = inl o
   from_there image (inr e) = inr (end_same pool call (Halted last) r h image agree e)
 
-  -- behind restoring and reset, or where there is nothing to restore
+  -- after restoring and reset, or if there is nothing to restore
   run_again : (b : ℕ) (b_fits : b ≤ 2 ^ 62) (c : Cache) →
       Running redo b b_fits 0 nothing nothing r c →
       Through (Images OwedOrEnd)
-      (Images (IsEmptied pool call h last)) c (due_undone C b k r trace last)
+      (Images (IsEmptied pool call h last)) c (due_undone z b k r trace last)
   run_again b b_fits c run =
       through_more (Images (OwedOrUndone redo b b_fits (λ w. refl) last)) (Images OwedOrEnd)
       (Images (Undone redo b b_fits (λ w. refl) last))
-      (Images (IsEmptied pool call h last)) c (due_undone C b k r trace last)
+      (Images (IsEmptied pool call h last)) c (due_undone z b k r trace last)
       (λ d q image im. from_there image (q image im))
       (λ d q image im. let u = q image im in
       record { undone = end_same pool call (Halted last) r h image agree u.0; empty = u.1 })
@@ -163,7 +169,7 @@ module _ (pool : Pool) (call : Call) (h : ℕ → ℤ) (trace : List Entry) (las
 
   pub nothing_to_restore : (c : Cache) → HasOne c one → n ≡ 0 →
       Through (Images OwedOrEnd)
-      (Images (IsEmptied pool call h last)) c (due_undone C a k r trace last)
+      (Images (IsEmptied pool call h last)) c (due_undone z a k r trace last)
   nothing_to_restore c only e =
       let a_fits : a ≤ 2 ^ 62 = owed.attempt_fits in
       run_again a a_fits c (record {
@@ -184,18 +190,18 @@ module _ (pool : Pool) (call : Call) (h : ℕ → ℤ) (trace : List Entry) (las
   pub restore_first : (c : Cache) → HasOne c one → a < 2 ^ 62 →
       Through (Images OwedOrEnd)
       (Images (IsEmptied pool call h last)) c
-      (restore_events C words olds n
-      (Fence ∷ reset_events C a (due_undone C (suc a) k r trace last)))
+      (restore_walk C words olds n
+      (Fence ∷ reset_walk C a (due_undone z (suc a) k r trace last)))
   restore_first c only lt62 =
       let a_fits : a ≤ 2 ^ 62 = owed.attempt_fits in
       let Q : Cache → Type 0 = Images OwedOrEnd in
       let F : Cache → Type 0 = Images (IsEmptied pool call h last) in
       let inside : (d : Cache) → Images (Owed pool call Every Every h) d → Q d =
       λ d q image im. inl (q image im) in
-      let rest : List CacheEvent = due_undone C (suc a) k r trace last in
+      let rest : List CacheEvent = due_undone z (suc a) k r trace last in
       let next_fits : suc a ≤ 2 ^ 62 = omega arith in
       restore_part redo a a_fits n words olds log.room in_heap recorded Q F inside n
-      (Fence ∷ reset_events C a rest) c (omega arith)
+      (Fence ∷ reset_walk C a rest) c (omega arith)
       (cover_more C (ok start)
       (ok (restoring redo a a_fits n words olds log.room in_heap recorded)) c to_restoring
       (one_cover C start c one only start_fine))
@@ -207,19 +213,34 @@ module _ (pool : Pool) (call : Call) (h : ℕ → ℤ) (trace : List Entry) (las
       d cover new ready
       (λ e run. run_again (suc a) next_fits e run))
 
--- each cut, and all of it
+  -- the same by the log's own lists
+  pub back_first : (c : Cache) → HasOne c one → (m : ℕ) → n ≡ suc m → a < 2 ^ 62 →
+      Through (Images OwedOrEnd)
+      (Images (IsEmptied pool call h last)) c
+      (first_events z one (suc m) ++ (reset_events z a ++ due_undone z (suc a) k r trace last))
+  back_first c only m e lt62 =
+      let again : List CacheEvent = due_undone z (suc a) k r trace last in
+      subst (λ (es : List CacheEvent).
+      Through (Images OwedOrEnd) (Images (IsEmptied pool call h last)) c es)
+      (ap (λ (i : ℕ). restore_walk C words olds i (Fence ∷ reset_walk C a again)) e
+      ∙ sym (first_same z one m (reset_walk C a again) (λ j lt. in_heap j (omega arith)))
+      ∙ ap (λ (es : List CacheEvent). first_events z one (suc m) ++ es)
+      (sym (reset_same z a again)))
+      (restore_first c only lt62)
+
+-- each cut, and the whole recovery
 through_reabort : (pool : Pool) (call : Call) (h : ℕ → ℤ) (trace : List Entry) (last : ℤ) →
-    call.given < 23 → IsMarked pool.sizes trace →
+    length call.args < 23 → IsMarkedTrace pool.sizes trace →
     (one : Words) (owed : IsOwed pool call h one) (n : ℕ) →
     count (pool_of pool.sizes) owed.attempt one ≡ n → (0 < n → owed.attempt < 2 ^ 62) →
     (c : Cache) → HasOne c one →
     Through (Images (λ image. Owed pool call Every Every h image ⊎ IsUndone pool call h last image))
     (Images (IsEmptied pool call h last)) c
-    (due_reabort (pool_of pool.sizes) owed.attempt (suc call.done) one n trace last)
+    (due_reabort pool.sizes owed.attempt (suc call.done) one n trace last)
 through_reabort pool call h trace last given_fits is one owed zero counted room c only =
     nothing_to_restore pool call h trace last given_fits is one owed zero counted c only refl
 through_reabort pool call h trace last given_fits is one owed (suc m) counted room c only =
-    restore_first pool call h trace last given_fits is one owed (suc m) counted c only
+    back_first pool call h trace last given_fits is one owed (suc m) counted c only m refl
     (room (omega arith))
 
 still : (pool : Pool) (call : Call) (h : ℕ → ℤ) (last : ℤ) (image : Words) →
@@ -229,19 +250,19 @@ still pool call h last image (inl owed) e = inl (record { owed = owed; last_is =
 still pool call h last image (inr undone) e = inr undone
 
 pub cut_reabort : (pool : Pool) (call : Call) (h : ℕ → ℤ) (trace : List Entry) (last : ℤ) →
-    call.given < 23 → IsMarked pool.sizes trace →
+    length call.args < 23 → IsMarkedTrace pool.sizes trace →
     (one : Words) (owed : IsOwedStill pool call h last one) (n : ℕ) →
     count (pool_of pool.sizes) owed.owed.attempt one ≡ n → (0 < n → owed.owed.attempt < 2 ^ 62) →
     (c : Cache) → HasOne c one →
-    during c (due_reabort (pool_of pool.sizes) owed.owed.attempt (suc call.done) one n trace last)
+    during c (due_reabort pool.sizes owed.owed.attempt (suc call.done) one n trace last)
     (Images (IsReabortCut pool call h last))
     × Images (IsEmptied pool call h last)
-    (play c (due_reabort (pool_of pool.sizes) owed.owed.attempt (suc call.done) one n trace
+    (play c (due_reabort pool.sizes owed.owed.attempt (suc call.done) one n trace
     last))
 cut_reabort pool call h trace last given_fits is one owed n counted room c only =
     let p : ℕ = at (pool_of pool.sizes) Last in
     let events : List CacheEvent =
-    due_reabort (pool_of pool.sizes) owed.owed.attempt (suc call.done) one n trace last in
+    due_reabort pool.sizes owed.owed.attempt (suc call.done) one n trace last in
     let Q : Words → Type 0 = λ image. Owed pool call Every Every h image
     ⊎ IsUndone pool call h last image in
     let F : Words → Type 0 = IsEmptied pool call h last in
@@ -259,19 +280,20 @@ cut_reabort pool call h trace last given_fits is one owed n counted room c only 
 
 -- however often it is cut
 module _ (pool : Pool) (call : Call) (h : ℕ → ℤ) (trace : List Entry) (last : ℤ)
-    (given_fits : call.given < 23) (is : IsMarked pool.sizes trace) where
-  cut_once : (one other : Words) → IsCutTo pool call h trace last one other →
+    (given_fits : length call.args < 23) (is : IsMarkedTrace pool.sizes trace) where
+  cut_once : (one other : Words) → IsUndoCutTo pool call h trace last one other →
       IsReabortCut pool call h last other
   cut_once one other cut =
       left_image (IsReabortCut pool call h last) (collapsed one)
-      (due_reabort (pool_of pool.sizes) cut.still.owed.attempt (suc call.done) one cut.n trace
+      (due_reabort pool.sizes cut.still.owed.attempt (suc call.done) one cut.n trace
       last) other
       (cut_reabort pool call h trace last given_fits is one cut.still cut.n cut.counted cut.room
       (collapsed one) (collapsed_one one)).0
       cut.left
 
   pub cut_again : (k : ℕ) (one other : Words) → IsReabortCut pool call h last one →
-      AreCutTo pool call h trace last k one other → IsReabortCut pool call h last other
+      AreInARow (IsUndoCutTo pool call h trace last) k one other
+      → IsReabortCut pool call h last other
   cut_again zero one other now same = subst (IsReabortCut pool call h last) same now
   cut_again (suc k) one other now cuts =
       cut_again k cuts.0 other (cut_once one cuts.0 cuts.1) cuts.2

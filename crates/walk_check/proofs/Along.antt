@@ -1,4 +1,5 @@
--- What comes to the end of a piece that keeps the rules; and the pieces that pass calls are sound.
+-- Every fact that a piece of a valid certificate reaches holds; and the pieces that pass calls are
+-- sound.
 use Rattle.std.proofs.Common.{◌≡◌, ◌<◌, ◌+◌, ◌&&◌, ℕ, zero, suc, Bool, true, false, List, [], ◌∷◌}
 use Rattle.std.proofs.Common.{Option, Some, None, refl, subst, arith, inl, inr, ⊎_elim}
 use Rattle.std.specs.Prelude.{slice_get, take, if◌then◌else◌}
@@ -16,24 +17,24 @@ use Rattle.ir.specs.WellFormed.{IsWellFormed}
 use Rattle.walk_check.specs.declared.certificate.Step.{Step}
 use Rattle.walk_check.specs.declared.certificate.Piece.{Piece}
 use Rattle.walk_check.specs.Facts.{fact_of}
-use Rattle.walk_check.specs.Keeps.{blank, first_step, last_step, first_fact, last_place, last_fact}
-use Rattle.walk_check.specs.Keeps.{follows, begun, begins, chain, steps_keep, piece_keeps}
+use Rattle.walk_check.specs.Keeps.{blank_step, first_step, last_step, first_fact, last_place, last_fact}
+use Rattle.walk_check.specs.Keeps.{follows, holds_at_entry, begins_piece, chain, steps_keep, piece_keeps}
 use Rattle.walk_check.specs.Keeps.{is_return, passing_keeps, bad_piece}
 use Rattle.walk_check.proofs.Tests.{slice_get-take}
 use Rattle.walk_check.proofs.Reach.{Reach, Passed, pass_reach}
 use Rattle.walk_check.proofs.Bound.{PassSound, AllSound, follows_there}
 
--- what a walk has at an entry is there
+-- what a walk has at an entry holds there
 abbrev pub Begins : Ir → ℕ → (opens : Bool) → (ℕ → Fact → Type 0) → Type 0
 Begins ir f opens At = (u : IrFunction) (b : Fact) → slice_get ir.functions f ≡ Some u
-    → begun opens u b ≡ true → At 0 b
+    → holds_at_entry opens u b ≡ true → At 0 b
 
 module _ (ir : Ir) (well : IsWellFormed ir) (passed : List Piece) (sound : AllSound ir passed)
   where
     module _ (f : ℕ) (At : ℕ → Fact → Type 0) (reach : Reach ir f At) (opens : Bool)
         (entry_there : Begins ir f opens At) where
       begins_there : (u : IrFunction) (a b : Step) → slice_get ir.functions f ≡ Some u
-          → begins opens u a b ≡ true → At b.place (fact_of b.fact)
+          → begins_piece opens u a b ≡ true → At b.place (fact_of b.fact)
       begins_there u a b there h =
           let parts = and_parts _ _ h in
           let second = and_parts _ _ parts.1 in
@@ -50,14 +51,14 @@ module _ (ir : Ir) (well : IsWellFormed ir) (passed : List Piece) (sound : AllSo
           let parts = and_parts _ _ h in
           let here : At b.place (fact_of b.fact) =
           ⊎_elim
-          (λ e. begins_there u a b there (and_parts entry (begins opens u a b) e).1)
+          (λ e. begins_there u a b there (and_parts entry (begins_piece opens u a b) e).1)
           (λ e. follows_there ir well f At reach passed u a b a.through there sound e d)
-          (or_cases (entry && begins opens u a b) (follows passed u a b a.through) parts.0) in
+          (or_cases (entry && begins_piece opens u a b) (follows passed u a b a.through) parts.0) in
           chain_there u false b rest there parts.1 here
 
       steps_there : (steps : List Step) (u : Option IrFunction) → slice_get ir.functions f ≡ u
           → steps_keep ir passed opens steps u ≡ true → At 0 (fact_of (first_step steps).fact)
-          → At (last_step blank steps).place (fact_of (last_step blank steps).fact)
+          → At (last_step blank_step steps).place (fact_of (last_step blank_step steps).fact)
       steps_there steps None there h d = absurd (false≢true h)
       steps_there [] (Some u) there h d = absurd (false≢true h)
       steps_there (a ∷ rest) (Some u) there h d =
@@ -109,7 +110,7 @@ module _ (ir : Ir) (well : IsWellFormed ir) (passed : List Piece) (sound : AllSo
         )
 
 module _ (ir : Ir) (well : IsWellFormed ir) (passed : List Piece) where
-  -- each piece keeps the rules, with those before it
+  -- each piece keeps the rules, together with those before it
   each_keeps : (n : ℕ) (rest : List Piece) → bad_piece ir passed n rest ≡ None
       → (k : ℕ) (piece : Piece) → slice_get rest k ≡ Some piece
       → passing_keeps ir (take (n + k) passed) piece ≡ true

@@ -1,4 +1,4 @@
--- Where the next step follows, its fact comes to its place.
+-- If the next step follows, its fact reaches its place.
 use Rattle.std.proofs.Common.{◌≡◌, ℕ, suc, true, List, Option, Some, None, refl, ◌∙◌, ap, subst}
 use Rattle.std.proofs.Common.{inl, inr, ⊎_elim}
 use Rattle.std.specs.Prelude.{slice_get}
@@ -14,20 +14,20 @@ use Rattle.ir.specs.declared.fact.Fact.TheVariants.{ReadField, Freed}
 use Rattle.ir.specs.declared.fact.Back.{Back}
 use Rattle.ir.specs.declared.fact.Back.TheVariants.{FromReturn, Stays}
 use Rattle.ir.specs.Places.{instruction_at, Leads, CallsAt, ReturnsAt}
-use Rattle.ir.specs.Table.{Among, origins, argument, at_call, back}
+use Rattle.ir.specs.Table.{AmongOrigins, origins, argument_fact, at_call, back}
 use Rattle.ir.specs.Derived.{Passes}
 use Rattle.ir.specs.WellFormed.{IsWellFormed}
 use Rattle.walk_check.specs.declared.certificate.Step.{Step}
 use Rattle.walk_check.specs.declared.certificate.Piece.{Piece}
 use Rattle.walk_check.specs.Facts.{fact_of}
 use Rattle.walk_check.specs.Follow.{leads, array_read, bound_argument, binds, passes}
-use Rattle.walk_check.specs.Keeps.{goes, past_call, goes_past, follows, first_fact, last_fact}
+use Rattle.walk_check.specs.Keeps.{goes_along, past_call, goes_past, follows, first_fact, last_fact}
 use Rattle.walk_check.proofs.Tests.{same-true, among-true, leads-true, next}
 use Rattle.walk_check.proofs.Standing.{no_argument, array_never_loaded}
 use Rattle.walk_check.proofs.Reach.{Reach, Enters, Inner, NeverRoot, here_too}
 
--- a piece that passes calls: what its first fact brings to the entry passes to a return with its
--- last fact
+-- a piece that passes calls is sound: what its first fact brings to the entry passes to a return
+-- with its last fact
 abbrev pub PassSound : Ir → Piece → Type 0
 PassSound ir piece =
     (e : Fact) × (q : ℕ) × Enters ir piece.function (first_fact piece) e
@@ -45,7 +45,7 @@ module _ (ir : Ir) (well : IsWellFormed ir) (f : ℕ) (At : ℕ → Fact → Typ
   bound_there p args a Here d h = reach.is_here p a d
   bound_there p args a (Unwritten j s x) d h = from (slice_get args j) h
     where
-      from : (o : Option ℕ) → bound_argument o s x a ≡ true → At p (argument o s x)
+      from : (o : Option ℕ) → bound_argument o s x a ≡ true → At p (argument_fact o s x)
       from None h = absurd (false≢true h)
       from (Some r) h = subst (At p) (same-true a (Unwritten r s x) h) d
   bound_there p args a (RootUnwritten x) d h = subst (At p) (same-true a (RootUnwritten x) h) d
@@ -88,18 +88,19 @@ module _ (ir : Ir) (well : IsWellFormed ir) (f : ℕ) (At : ℕ → Fact → Typ
       let x_is : x ≡ y = eqb-true x y h in
       let before : At p (RootUnwritten y) =
       reach.is_root p y Here (array_never_loaded ir f p y i to well is) d in
-      let origin : Among (RootUnwritten y) (origins (Load to (Root y (Some i))) (ReadRoot x)) =
+      let origin : AmongOrigins (RootUnwritten y)
+      (origins (Load to (Root y (Some i))) (ReadRoot x)) =
       rw (x_is) (read_again y) in
       reach.goes_on p q (Load to (Root y (Some i))) (RootUnwritten y) (ReadRoot x) is leads origin
       before
     where
       read_again : (y : ℕ)
-          → Among (RootUnwritten y) (origins (Load to (Root y (Some i))) (ReadRoot y))
+          → AmongOrigins (RootUnwritten y) (origins (Load to (Root y (Some i))) (ReadRoot y))
       read_again y = rw (eq-eqb y y refl) (inr refl)
   array_along p q _ a b is leads h d = absurd (false≢true h)
 
   pub goes_there : (o : Option Instruction) (a b : Step)
-      → instruction_at ir.functions f a.place ≡ o → goes o a b ≡ true
+      → instruction_at ir.functions f a.place ≡ o → goes_along o a b ≡ true
       → At a.place (fact_of a.fact) → At b.place (fact_of b.fact)
   goes_there None a b is h d = absurd (false≢true h)
   goes_there (Some i) a b is h d =

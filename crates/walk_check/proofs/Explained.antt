@@ -18,10 +18,10 @@ use Rattle.ir.specs.declared.fact.Origins.{Origins}
 use Rattle.ir.specs.declared.fact.Origins.TheVariants.{One}
 use Rattle.ir.specs.Places.{instruction_at, IsTransaction}
 use Rattle.ir.specs.Walk.{at_start}
-use Rattle.ir.specs.Table.{holds, Among, at_call}
+use Rattle.ir.specs.Table.{holds, AmongOrigins, at_call}
 use Rattle.ir.specs.Derived.{Flows}
 use Rattle.ir.specs.Derived.Flows.{first, called, on, across, beside}
-use Rattle.ir.specs.Clobber.{unwritten, read, SomeWalk, IsClobber, IsClobberFill, IsHeader}
+use Rattle.ir.specs.Clobber.{unwritten, read_fact, SomeWalk, IsClobber, IsClobberFill, WritesHeader}
 use Rattle.ir.specs.Clobber.{LoggedAt, IsLogged}
 use Rattle.ir.specs.WellFormed.{IsWellFormed}
 use Rattle.ir.proofs.Law.{exact}
@@ -30,7 +30,7 @@ use Rattle.walk_check.specs.declared.certificate.Reason.{Reason}
 use Rattle.walk_check.specs.declared.certificate.Reason.TheVariants.{Always, PastFree, Clobber}
 use Rattle.walk_check.specs.Facts.{same}
 use Rattle.walk_check.specs.Follow.{binds, unwritten_ends}
-use Rattle.walk_check.specs.Keeps.{first_fact, last_place, last_fact, is_transaction, by_call}
+use Rattle.walk_check.specs.Keeps.{first_fact, last_place, last_fact, is_tx, by_call}
 use Rattle.walk_check.specs.Keeps.{pieces_keep, walk_keeps, gives_reason, reason_keeps, bad_reason}
 use Rattle.walk_check.specs.Law.{LoggedHaveCertificates}
 use Rattle.walk_check.proofs.Named.{There, there_origins, called_at, well_at, call_there}
@@ -54,9 +54,9 @@ module _ (ir : Ir) (well : IsWellFormed ir) where
   body f p i there = body_of ir.functions f p i (slice_get ir.functions f) refl there
 
   module _ (site : Site) (ends : Origins) where
-    -- the pieces of a walk after one that ends at q with z
+    -- the pieces of a walk after a piece that ends at q with z
     abbrev Later : List Piece → (f q : ℕ) → WalkFact → List Piece → Type 0
-    Later ps f q z [] = (f ≡ site.function) × (q ≡ site.place) × Among z ends
+    Later ps f q z [] = (f ≡ site.function) × (q ≡ site.place) × AmongOrigins z ends
     Later ps f q z (b ∷ rest) =
         (to : ℕ) × (args : List ℕ) × (instruction_at ir.functions f q
         ≡ Some (Call to b.function args)) × (binds args z (first_fact b) ≡ true)
@@ -101,13 +101,12 @@ module _ (ir : Ir) (well : IsWellFormed ir) where
           pieces = w.pieces;
           all = w.all;
           grown = grows_on g w.grown;
-          walk =
-              w.walk;
+          walk = w.walk;
           keeps = w.keeps;
         }
 
     is_transaction-from : (f : ℕ) (o : Option IrFunction) → slice_get ir.functions f ≡ o
-        → IsTransaction ir.functions f → is_transaction o ≡ true
+        → IsTransaction ir.functions f → is_tx o ≡ true
     is_transaction-from f None is t = absurd (let no : None ≡ Some t.0 = sym is ∙ t.1 in absurd cc)
     is_transaction-from f (Some u) is t = let e : u ≡ t.0 = let some : Some u ≡ Some t.0 =
         sym is ∙ t.1 in cc in rw e t.2
@@ -116,7 +115,7 @@ module _ (ir : Ir) (well : IsWellFormed ir) where
         (c : Closed ir ps true f Here q z) → Passing ir ps → IsTransaction ir.functions f
         → Later ps f q z later → WalkBuilt ps
     opens_with ps f q z later c all t h =
-        let transaction : is_transaction (slice_get ir.functions c.piece.function) ≡ true =
+        let transaction : is_tx (slice_get ir.functions c.piece.function) ≡ true =
         rw c.named (is_transaction-from f (slice_get ir.functions f) refl t) in
         let start : same (first_fact c.piece) Here ≡ true = rw c.first_is refl in
         record {
@@ -201,7 +200,7 @@ module _ (ir : Ir) (well : IsWellFormed ir) where
     -- a walk to the site
     to_site : (ps : List Piece) (u : IrFunction) (b : WalkFact) → Passing ir ps
         → slice_get ir.functions site.function ≡ Some u → There ir.shapes u.registers b
-        → Among b ends → SomeWalk ir.functions site.function site.place b → WalkBuilt ps
+        → AmongOrigins b ends → SomeWalk ir.functions site.function site.place b → WalkBuilt ps
     to_site ps u b all there fits m w =
         build_walk ((exact ir.functions site.function site.place b).0 w) ps u site.place b [] all
         there fits (tail_end ir ps u site.place b fits) (refl, refl, m)
@@ -214,7 +213,7 @@ module _ (ir : Ir) (well : IsWellFormed ir) where
     pub reason : Reason
     pub keeps : reason_keeps ir pieces site reason ≡ true
 
-  pub target_end : (target : Target) → Among (unwritten target) (unwritten_ends target)
+  pub target_end : (target : Target) → AmongOrigins (unwritten target) (unwritten_ends target)
   target_end (Root x None) = refl
   target_end (Root x (Some i)) = inl refl
   target_end (Field b s x i) = refl
@@ -236,7 +235,7 @@ module _ (ir : Ir) (well : IsWellFormed ir) where
       (unwrites reads : List Piece)
       → instruction_at ir.functions site.function site.place ≡ Some (Store target from line)
       → site.fill ≡ false → walk_keeps ir ps site (unwritten_ends target) unwrites ≡ true
-      → walk_keeps ir ps site (One (read target)) reads ≡ true
+      → walk_keeps ir ps site (One (read_fact target)) reads ≡ true
       → reason_keeps ir ps site (Clobber (record { pieces = unwrites })
       (record { pieces = reads })) ≡ true
   clobber_keeps ps site target from line unwrites reads is fill u r =
@@ -254,7 +253,7 @@ module _ (ir : Ir) (well : IsWellFormed ir) where
       to_site site (unwritten_ends target) ps u.0 (unwritten target) all u.1
       (target_unwritten ir.shapes u.0.registers target ok.1) (target_end target) h.4 in
       let reads =
-      to_site site (One (read target)) unwrites.pieces u.0 (read target) unwrites.all u.1
+      to_site site (One (read_fact target)) unwrites.pieces u.0 (read_fact target) unwrites.all u.1
       (target_read ir.shapes u.0.registers target ok.1) refl h.5 in
       record {
         pieces = reads.pieces;
@@ -268,7 +267,7 @@ module _ (ir : Ir) (well : IsWellFormed ir) where
       }
 
   header_reason : (ps : List Piece) (site : Site) → Passing ir ps → site.fill ≡ false
-      → IsHeader ir.functions site.function site.place → ReasonBuilt ps site
+      → WritesHeader ir.functions site.function site.place → ReasonBuilt ps site
   header_reason ps site all fill h = record {
     pieces = ps;
     all = all;
@@ -277,7 +276,7 @@ module _ (ir : Ir) (well : IsWellFormed ir) where
     keeps = header h;
   }
     where
-      header : IsHeader ir.functions site.function site.place
+      header : WritesHeader ir.functions site.function site.place
           → reason_keeps ir ps site Always ≡ true
       header (inl e) = rw e.4 (ap not fill)
       header (inr e) = rw e.3 (ap not fill)
@@ -300,7 +299,7 @@ module _ (ir : Ir) (well : IsWellFormed ir) where
       let parts = and_parts _ _ h in
       let walks = and_parts _ _ parts.1 in
       and_from _ _ parts.0 (and_from _ _ (walk_grown ir site (unwritten_ends target)
-      unwrites.pieces g walks.0) (walk_grown ir site (One (read target)) reads.pieces g
+      unwrites.pieces g walks.0) (walk_grown ir site (One (read_fact target)) reads.pieces g
       walks.1))
   gives_grown site (Some _) (Clobber unwrites reads) g h = absurd (false≢true (and_parts _ _ h).1)
 
@@ -322,8 +321,7 @@ module _ (ir : Ir) (well : IsWellFormed ir) where
         grown = stays;
         reasons = [];
         lists = refl;
-        keep =
-            λ n. refl;
+        keep = λ n. refl;
       }
   reasons_of ps (site ∷ sites) all h =
       let r = reason_of ps site site.fill all refl h.0 in

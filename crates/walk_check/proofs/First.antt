@@ -1,4 +1,4 @@
--- What the checker names is the first that breaks a rule.
+-- The checker names the first fault.
 use Rattle.std.proofs.Common.{◌≡◌, ◌<◌, ◌+◌, ℕ, zero, suc, Bool, true, false, List, [], ◌∷◌}
 use Rattle.std.proofs.Common.{Option, Some, None, refl, subst, arith}
 use Rattle.std.specs.Prelude.{slice_get, if◌then◌else◌}
@@ -8,7 +8,7 @@ use Rattle.walk_check.specs.Keeps.{first_bad, keeps_piece, keeps_reason, fault_f
 use Rattle.walk_check.specs.Law.{AllKeep, IsFirstBad, Names, FaultsAreFirst}
 
 module _ {X : Type 0} (keeps : ℕ → X → Bool) where
-  -- the k-th of the rest, which is number n + k of all
+  -- the k-th of the remaining ones, which is number n + k of all
   abbrev Keeping : ℕ → List X → Type 0
   Keeping n xs = (k : ℕ) (x : X) → slice_get xs k ≡ Some x → keeps (n + k) x ≡ true
 

@@ -1,4 +1,4 @@
--- More pieces that pass calls leave what keeps the rules.
+-- With more pieces that pass calls, what kept the rules still keeps them.
 use Rattle.std.proofs.Common.{◌≡◌, ◌<◌, ◌+◌, ◌&&◌, ◌||◌, ◌++◌, ℕ, zero, suc, Bool, true, false}
 use Rattle.std.proofs.Common.{List, [], ◌∷◌, Option, Some, None, length, refl, sym, ap, subst}
 use Rattle.std.proofs.Common.{arith, inl, inr, ⊎_elim}
@@ -14,7 +14,7 @@ use Rattle.ir.specs.declared.fact.Origins.{Origins}
 use Rattle.ir.specs.declared.site.Site.{Site}
 use Rattle.walk_check.specs.declared.certificate.Step.{Step}
 use Rattle.walk_check.specs.declared.certificate.Piece.{Piece}
-use Rattle.walk_check.specs.Keeps.{goes_past, follows, begins, chain, steps_keep, piece_keeps}
+use Rattle.walk_check.specs.Keeps.{goes_past, follows, begins_piece, chain, steps_keep, piece_keeps}
 use Rattle.walk_check.specs.Keeps.{passing_keeps, pieces_keep, walk_keeps, bad_piece}
 
 -- pieces that pass calls: none, or one more that keeps the rules
@@ -61,10 +61,11 @@ chain_more : (ps : List Piece) (p : Piece) (opens : Bool) (u : IrFunction) (entr
 chain_more ps p opens u entry a [] h = h
 chain_more ps p opens u entry a (b ∷ rest) h =
     let parts = and_parts _ _ h in
-    let link : ((entry && begins opens u a b) || follows (ps ++ p ∷ []) u a b a.through) ≡ true =
+    let link : ((entry && begins_piece opens u a b) || follows (ps ++ p ∷ []) u a b a.through)
+    ≡ true =
     ⊎_elim
-    (λ e. or_left (entry && begins opens u a b) (follows (ps ++ p ∷ []) u a b a.through) e)
-    (λ e. or_right (entry && begins opens u a b) (follows (ps ++ p ∷ []) u a b a.through)
+    (λ e. or_left (entry && begins_piece opens u a b) (follows (ps ++ p ∷ []) u a b a.through) e)
+    (λ e. or_right (entry && begins_piece opens u a b) (follows (ps ++ p ∷ []) u a b a.through)
     (follows_more ps p u a b a.through e))
     (or_cases _ _ parts.0) in
     and_from _ _ link (chain_more ps p opens u false b rest parts.1)

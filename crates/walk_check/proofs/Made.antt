@@ -1,5 +1,5 @@
--- A certificate for what is derived: steps are put before the steps that are there, and pieces for
--- the calls that are passed.
+-- A certificate for what is derived: steps are added before the steps so far, and pieces for the
+-- calls that are passed.
 use Rattle.std.proofs.Common.{◌≡◌, ◌≤◌, ◌+◌, ◌++◌, ℕ, suc, Bool, true, false, List, [], ◌∷◌}
 use Rattle.std.proofs.Common.{Option, Some, None, length, refl, sym, ◌∙◌, ap, arith, inl, inr}
 use Rattle.std.proofs.Common.{⊎_elim}
@@ -17,7 +17,7 @@ use Rattle.ir.specs.declared.fact.Origins.{Origins}
 use Rattle.ir.specs.declared.fact.Origins.TheVariants.{Nowhere, One, Two}
 use Rattle.ir.specs.declared.fact.Back.TheVariants.{FromReturn, Stays}
 use Rattle.ir.specs.Places.{instruction_at, Leads, ReturnsAt}
-use Rattle.ir.specs.Table.{Among, origins, at_call, back}
+use Rattle.ir.specs.Table.{AmongOrigins, origins, at_call, back}
 use Rattle.ir.specs.Derived.{Passes}
 use Rattle.ir.specs.Derived.Passes.{starts, along, through, past}
 use Rattle.ir.specs.WellFormed.{IsWellFormed}
@@ -30,8 +30,8 @@ use Rattle.walk_check.specs.declared.certificate.Step.{Step}
 use Rattle.walk_check.specs.declared.certificate.Piece.{Piece}
 use Rattle.walk_check.specs.Facts.{fact_of, same, among}
 use Rattle.walk_check.specs.Follow.{leads, array_read, binds, passes}
-use Rattle.walk_check.specs.Keeps.{is_there, all_there, last_step, first_fact, last_place}
-use Rattle.walk_check.specs.Keeps.{last_fact, goes, goes_past, follows, begun, begins, chain}
+use Rattle.walk_check.specs.Keeps.{fact_is_there, all_there, last_step, first_fact, last_place}
+use Rattle.walk_check.specs.Keeps.{last_fact, goes_along, goes_past, follows, holds_at_entry, begins_piece, chain}
 use Rattle.walk_check.specs.Keeps.{piece_keeps, is_return, passing_keeps}
 use Rattle.walk_check.proofs.Named.{There, is_there-from, there_origins, Called, called_at}
 use Rattle.walk_check.proofs.Named.{well_at, call_there, return_there}
@@ -47,7 +47,7 @@ same-refl (ReadRoot x) = eq-eqb x x refl
 same-refl (ReadField s x) = and_from _ _ (eq-eqb s s refl) (eq-eqb x x refl)
 same-refl Freed = refl
 
-pub among-from : (a : WalkFact) (o : Origins) → Among a o → among a o ≡ true
+pub among-from : (a : WalkFact) (o : Origins) → AmongOrigins a o → among a o ≡ true
 among-from a Nowhere m = absurd m
 among-from a (One b) m = rw m (same-refl b)
 among-from a (Two b c) (inl m) = or_left (same a b) (same a c) (rw m (same-refl b))
@@ -65,7 +65,7 @@ leads-from (Return from) p q h = absurd h
 leads-from (Trap kind) p q h = absurd h
 leads-from _ p q h = next-from p q h
 
--- a certificate's fact for one of walks
+-- a certificate's fact as a fact of walks
 abbrev pub told : WalkFact → Fact
 told Here = Start
 told (Unwritten r s x) = NotWritten r s x
@@ -103,7 +103,7 @@ module _ (ir : Ir) where
     pub last : last_step (step_at p b passing) rest ≡ step_at q z None
 
   fact_there : (u : IrFunction) (b : WalkFact) → There ir.shapes u.registers b
-      → is_there ir.shapes u (fact_of (told b)) ≡ true
+      → fact_is_there ir.shapes u (fact_of (told b)) ≡ true
   fact_there u b h = rw (told-is b) (is_there-from ir.shapes u b h)
 
   pub tail_end : (ps : List Piece) (u : IrFunction) (q : ℕ) (z : WalkFact)
@@ -121,22 +121,21 @@ module _ (ir : Ir) where
   tail_grown u p b q z g t = record {
     passing = t.passing;
     rest = t.rest;
-    chained =
-        λ opens. chain_grown opens u false (step_at p b t.passing) t.rest g (t.chained opens);
+    chained = λ opens. chain_grown opens u false (step_at p b t.passing) t.rest g (t.chained opens);
     there = t.there;
     last = t.last;
   }
 
   goes-from : (o : Option Instruction) (i : Instruction) (p p' : ℕ) (a b : WalkFact)
-      (t t' : Option ℕ) → o ≡ Some i → Leads i p p' → Among a (origins i b)
-      → goes o (step_at p a t) (step_at p' b t') ≡ true
+      (t t' : Option ℕ) → o ≡ Some i → Leads i p p' → AmongOrigins a (origins i b)
+      → goes_along o (step_at p a t) (step_at p' b t') ≡ true
   goes-from o i p p' a b t t' is to m =
       rw (is, told-is a, told-is b) (and_from _ _ (leads-from i p p' to)
       (or_left _ (array_read i a b) (among-from a (origins i b) m)))
 
   pub before_along : (ps : List Piece) (u : IrFunction) (p p' : ℕ) (i : Instruction)
       (a b : WalkFact) (q : ℕ) (z : WalkFact) → slice_get u.code p ≡ Some i → Leads i p p'
-      → Among a (origins i b) → There ir.shapes u.registers a → Tail ps u p' b q z
+      → AmongOrigins a (origins i b) → There ir.shapes u.registers a → Tail ps u p' b q z
       → Tail ps u p a q z
   before_along ps u p p' i a b q z is to m fits t = record {
     passing = None;
@@ -187,7 +186,8 @@ module _ (ir : Ir) where
   chain_entry ps opens u a [] h = h
   chain_entry ps opens u a (b ∷ rest) h =
       let parts = and_parts _ _ h in
-      and_from _ _ (or_right (begins opens u a b) (follows ps u a b a.through) parts.0) parts.1
+      and_from _ _ (or_right (begins_piece opens u a b) (follows ps u a b a.through) parts.0)
+      parts.1
 
   pub close : (ps : List Piece) (opens : Bool) (g : ℕ) (v : IrFunction) (x : WalkFact) (q : ℕ)
       (y : WalkFact) → slice_get ir.functions g ≡ Some v → Tail ps v 0 x q y
@@ -204,11 +204,12 @@ module _ (ir : Ir) where
   }
 
   begins-from : (opens : Bool) (v : IrFunction) (x : WalkFact) (t : Option ℕ)
-      → begun opens v x ≡ true → begins opens v (step_at 0 Here None) (step_at 0 x t) ≡ true
+      → holds_at_entry opens v x ≡ true
+      → begins_piece opens v (step_at 0 Here None) (step_at 0 x t) ≡ true
   begins-from opens v x t h = rw (told-is x) h
 
   pub close_begun : (ps : List Piece) (opens : Bool) (g : ℕ) (v : IrFunction) (x : WalkFact)
-      (q : ℕ) (y : WalkFact) → slice_get ir.functions g ≡ Some v → begun opens v x ≡ true
+      (q : ℕ) (y : WalkFact) → slice_get ir.functions g ≡ Some v → holds_at_entry opens v x ≡ true
       → Tail ps v 0 x q y → Closed ps opens g Here q y
   close_begun ps opens g v x q y there h t = record {
     piece = record { function = g; steps = step_at 0 Here None ∷ step_at 0 x t.passing ∷ t.rest };
@@ -260,22 +261,19 @@ module _ (ir : Ir) where
   entry ps g v args (RootUnwritten x) q y there count t =
       record {
         first = RootUnwritten x;
-        closed =
-            close ps false g v (RootUnwritten x) q y there t;
+        closed = close ps false g v (RootUnwritten x) q y there t;
         binding = same-refl (RootUnwritten x);
       }
   entry ps g v args (ReadRoot x) q y there count t =
       record {
         first = ReadRoot x;
         closed = close ps false g v (ReadRoot x) q y there t;
-        binding =
-            same-refl (ReadRoot x);
+        binding = same-refl (ReadRoot x);
       }
   entry ps g v args (ReadField s x) q y there count t =
       record {
         first = ReadField s x;
-        closed =
-            close ps false g v (ReadField s x) q y there t;
+        closed = close ps false g v (ReadField s x) q y there t;
         binding = same-refl (ReadField s x);
       }
   entry ps g v args Freed q y there count t =
@@ -355,8 +353,7 @@ module _ (ir : Ir) where
         pieces = r.pieces;
         all = r.all;
         grown = grows_on s.grown r.grown;
-        tail =
-            r.tail;
+        tail = r.tail;
         fits = r.fits;
       }
 

@@ -1,4 +1,4 @@
--- What gives a fact that is there in a function is there too.
+-- If what a fact names exists, so does what its origins name.
 use Rattle.std.proofs.Common.{◌≡◌, ◌<◌, ◌≤◌, ℕ, Bool, true, false, cond, List, Option, Some, None}
 use Rattle.std.proofs.Common.{length, refl, sym, subst, arith, inl, inr}
 use Rattle.std.specs.Prelude.{◌==◌, ◌&&◌, slice_get, position, is_some}
@@ -20,23 +20,24 @@ use Rattle.ir.specs.declared.fact.Fact.TheVariants.{ReadField, Freed}
 use Rattle.ir.specs.declared.fact.Origins.{Origins}
 use Rattle.ir.specs.declared.fact.Origins.TheVariants.{Nowhere, One, Two}
 use Rattle.ir.specs.declared.fact.Back.TheVariants.{FromReturn}
-use Rattle.ir.specs.Table.{Among, origins, argument, at_call, from_parameter, back}
-use Rattle.ir.specs.Clobber.{unwritten, read}
-use Rattle.ir.specs.WellFormed.{IsIndexed, IsTarget, field_of, IsInstruction, TakesArgs}
+use Rattle.ir.specs.Table.{AmongOrigins, origins, argument_fact, at_call, from_parameter, back}
+use Rattle.ir.specs.Clobber.{unwritten, read_fact}
+use Rattle.ir.specs.WellFormed.{IsIndexed, IsTarget, shape_field, IsInstruction, TakesArgs}
 use Rattle.ir.specs.WellFormed.{IsFunction, IsWellFormed}
-use Rattle.walk_check.specs.Keeps.{is_there}
+use Rattle.walk_check.specs.Keeps.{fact_is_there}
 use Rattle.walk_check.proofs.Standing.{all_at}
 
 abbrev pub There : Shapes → (registers : ℕ) → Fact → Type 0
 There shapes registers Here = Unit {0}
-There shapes registers (Unwritten r s x) = (r < registers) × (is_some (field_of shapes s x) ≡ true)
+There shapes registers (Unwritten r s x) =
+    (r < registers) × (is_some (shape_field shapes s x) ≡ true)
 There shapes registers (RootUnwritten x) = is_some (slice_get shapes.root x) ≡ true
 There shapes registers (ReadRoot x) = is_some (slice_get shapes.root x) ≡ true
-There shapes registers (ReadField s x) = is_some (field_of shapes s x) ≡ true
+There shapes registers (ReadField s x) = is_some (shape_field shapes s x) ≡ true
 There shapes registers Freed = Unit {0}
 
 pub is_there-from : (shapes : Shapes) (u : IrFunction) (b : Fact) → There shapes u.registers b
-    → is_there shapes u b ≡ true
+    → fact_is_there shapes u b ≡ true
 is_there-from shapes u Here h = refl
 is_there-from shapes u (Unwritten r s x) h = and_from _ _ (lt-ltb r u.registers h.0) h.1
 is_there-from shapes u (RootUnwritten x) h = h
@@ -49,7 +50,7 @@ module _ (ir : Ir) (registers n : ℕ) where
   Fits b = There ir.shapes registers b
 
   abbrev AllFit : Origins → Type 0
-  AllFit o = (a : Fact) → Among a o → Fits a
+  AllFit o = (a : Fact) → AmongOrigins a o → Fits a
 
   fit_one : (b : Fact) → Fits b → AllFit (One b)
   fit_one b h a is = subst Fits (sym is) h
@@ -110,7 +111,7 @@ module _ (ir : Ir) (registers n : ℕ) where
   fit_freed _ = fit_one Freed tt
 
   pub there_origins : (i : Instruction) (b : Fact) → IsInstruction ir registers n i
-      → There ir.shapes registers b → (a : Fact) → Among a (origins i b)
+      → There ir.shapes registers b → (a : Fact) → AmongOrigins a (origins i b)
       → There ir.shapes registers a
   there_origins i Here ok h = fit_one Here tt
   there_origins i (Unwritten r s x) ok h = fit_unwritten i r s x ok h
@@ -121,7 +122,7 @@ module _ (ir : Ir) (registers n : ℕ) where
 
 there_argument : (shapes : Shapes) (registers : ℕ) (args : List ℕ) (a : Option ℕ) (r s x : ℕ)
     → slice_get args r ≡ a → AllByRecursion (λ a. a < registers) args
-    → is_some (field_of shapes s x) ≡ true → There shapes registers (argument a s x)
+    → is_some (shape_field shapes s x) ≡ true → There shapes registers (argument_fact a s x)
 there_argument shapes registers args None r s x is all h = tt
 there_argument shapes registers args (Some a) r s x is all h =
     (all_at (λ a. a < registers) args r a all is, h)
@@ -143,7 +144,7 @@ position_inside : (args : List ℕ) (r j : ℕ) → position (λ a. a == r) args
 position_inside args r j is = (position-Some (λ a. a == r) args j 0 is).0
 
 there_parameter : (shapes : Shapes) (args : List ℕ) (r s x registers : ℕ) (j : Option ℕ)
-    (y : Fact) → length args ≤ registers → is_some (field_of shapes s x) ≡ true
+    (y : Fact) → length args ≤ registers → is_some (shape_field shapes s x) ≡ true
     → position (λ a. a == r) args ≡ j → from_parameter j s x ≡ FromReturn y
     → There shapes registers y
 there_parameter shapes args r s x registers None y few h is same = absurd cc
@@ -154,7 +155,7 @@ there_parameter shapes args r s x registers (Some j) y few h is same =
     subst (There shapes registers) e (within, h)
 
 there_result : (shapes : Shapes) (args : List ℕ) (r s x registers : ℕ) (test : Bool) (y : Fact)
-    → length args ≤ registers → is_some (field_of shapes s x) ≡ true
+    → length args ≤ registers → is_some (shape_field shapes s x) ≡ true
     → cond test (FromReturn Here) (from_parameter (position (λ a. a == r) args) s x)
     ≡ FromReturn y → There shapes registers y
 there_result shapes args r s x registers true y few h same = let e : Here ≡ y = cc in
@@ -236,9 +237,9 @@ indexed r (Some shape) index h = refl
 pub target_unwritten : (shapes : Shapes) (r : ℕ) (target : Target) → IsTarget shapes r target
     → There shapes r (unwritten target)
 target_unwritten shapes r (Root x i) h = indexed r (slice_get shapes.root x) i h
-target_unwritten shapes r (Field b s x i) h = (h.0, indexed r (field_of shapes s x) i h.1)
+target_unwritten shapes r (Field b s x i) h = (h.0, indexed r (shape_field shapes s x) i h.1)
 
 pub target_read : (shapes : Shapes) (r : ℕ) (target : Target) → IsTarget shapes r target
-    → There shapes r (read target)
+    → There shapes r (read_fact target)
 target_read shapes r (Root x i) h = indexed r (slice_get shapes.root x) i h
-target_read shapes r (Field b s x i) h = indexed r (field_of shapes s x) i h.1
+target_read shapes r (Field b s x i) h = indexed r (shape_field shapes s x) i h.1

@@ -1,4 +1,4 @@
--- The places of one function to which a fact comes: over all walks, or from a fact at the entry.
+-- The places of one function that a fact reaches: over all walks, or from a fact at the entry.
 use Rattle.std.proofs.Common.{◌≡◌, ◌≤◌, ℕ, suc, Bool, true, false, List, Some, None, refl, ap, inl}
 use Rattle.std.proofs.Common.{inr}
 use Rattle.std.specs.Prelude.{◌==◌, not, slice_get, if◌then◌else◌}
@@ -14,10 +14,10 @@ use Rattle.ir.specs.declared.fact.Fact.TheVariants.{Here, Unwritten, RootUnwritt
 use Rattle.ir.specs.declared.fact.Origins.TheVariants.{Nowhere, One}
 use Rattle.ir.specs.declared.fact.Back.TheVariants.{FromReturn, Stays}
 use Rattle.ir.specs.Places.{instruction_at, Leads, CallsAt, ReturnsAt}
-use Rattle.ir.specs.Walk.{Kept, after, Spot, at, Step, Walk}
-use Rattle.ir.specs.Walk.Step.{goes, enters, returns}
+use Rattle.ir.specs.Walk.{Kept, facts_after, WalkSpot, at, WalkStep, Walk}
+use Rattle.ir.specs.Walk.WalkStep.{goes, enters, returns}
 use Rattle.ir.specs.Walk.Walk.{none, more}
-use Rattle.ir.specs.Table.{Among, origins, at_call, back}
+use Rattle.ir.specs.Table.{AmongOrigins, origins, at_call, back}
 use Rattle.ir.specs.Derived.{Passes, Flows}
 use Rattle.ir.specs.Derived.Passes.{starts, along, through, past}
 use Rattle.ir.specs.Derived.Flows.{on, across, beside}
@@ -27,11 +27,11 @@ use Rattle.walk_check.proofs.Standing.{NeverWritten}
 -- a root field that no store writes stays unwritten, along an instruction
 root_stays : (ir : Ir) (f p x : ℕ) (i : Instruction) → NeverWritten ir x
     → instruction_at ir.functions f p ≡ Some i
-    → Among (RootUnwritten x) (origins i (RootUnwritten x))
+    → AmongOrigins (RootUnwritten x) (origins i (RootUnwritten x))
 root_stays ir f p x (Store (Root y None) from line) never is = other (x == y) refl
   where
     other : (t : Bool) → (x == y) ≡ t
-        → Among (RootUnwritten x) (if t then Nowhere else One (RootUnwritten x))
+        → AmongOrigins (RootUnwritten x) (if t then Nowhere else One (RootUnwritten x))
     other true same = let y_is : x ≡ y = eqb-true x y same in
         absurd (never f p from line (rw y_is is))
     other false same = refl
@@ -40,11 +40,11 @@ root_stays ir f p x (Store (Field b s y i) from line) never is = refl
 root_stays ir f p x _ never is = refl
 
 -- .. and in each walk
-abbrev RootKept : ℕ → Spot → Type 0
+abbrev RootKept : ℕ → WalkSpot → Type 0
 RootKept x (at f p k calls) = k.root x ≡ false
 
 root_after : (ir : Ir) (f p x : ℕ) (k : Kept) (i : Instruction) → NeverWritten ir x
-    → instruction_at ir.functions f p ≡ Some i → k.root x ≡ false → (after i k).root x ≡ false
+    → instruction_at ir.functions f p ≡ Some i → k.root x ≡ false → (facts_after i k).root x ≡ false
 root_after ir f p x k (Store (Root y None) from line) never is kept = other (x == y) refl
   where
     other : (t : Bool) → (x == y) ≡ t → (if t then true else k.root x) ≡ false
@@ -58,20 +58,20 @@ root_after ir f p x k (Load to (Root y i)) never is kept = kept
 root_after ir f p x k (Load to (Field b s y i)) never is kept = kept
 root_after ir f p x k _ never is kept = kept
 
-root_step : (ir : Ir) (x : ℕ) {a b : Spot} → NeverWritten ir x → Step ir.functions a b
+root_step : (ir : Ir) (x : ℕ) {a b : WalkSpot} → NeverWritten ir x → WalkStep ir.functions a b
     → RootKept x a → RootKept x b
 root_step ir x never (goes {f = f} {p = p} {k = k} i is to) kept =
     root_after ir f p x k i never is kept
 root_step ir x never (enters call) kept = kept
 root_step ir x never (returns ret) kept = kept
 
-root_walk : (ir : Ir) (x : ℕ) {a b : Spot} → NeverWritten ir x → Walk ir.functions a b
+root_walk : (ir : Ir) (x : ℕ) {a b : WalkSpot} → NeverWritten ir x → Walk ir.functions a b
     → RootKept x a → RootKept x b
 root_walk ir x never none kept = kept
 root_walk ir x never (more w s) kept = root_step ir x never s (root_walk ir x never w kept)
 
--- where a fact passes, that a walk is here passes too, and that a root field is unwritten that no
--- store writes
+-- if a fact passes, then so do the fact that a walk is here, and the fact that a root field without
+-- stores is unwritten
 pub here_too : (functions : List IrFunction) {f o p : ℕ} {e b : Fact} → Passes functions f o e p b
     → Passes functions f o Here p Here
 here_too functions starts = starts
@@ -90,10 +90,12 @@ root_too ir x never (through d call r ret same) =
 root_too ir x never (past d call r ret same) =
     through (root_too ir x never d) call (root_too ir x never r) ret refl
 
--- A fact is at some places of f. The rules of the table lead on, and a weaker fact is there too
+-- Where facts of f hold: they are closed under the rules of the table, and with a fact the weaker
+-- ones hold too.
 pub record Reach (ir : Ir) (f : ℕ) (At : ℕ → Fact → Type 0) : Type 0 where
   pub goes_on : (p q : ℕ) (i : Instruction) (a b : Fact)
-      → instruction_at ir.functions f p ≡ Some i → Leads i p q → Among a (origins i b) → At p a
+      → instruction_at ir.functions f p ≡ Some i → Leads i p q
+      → AmongOrigins a (origins i b) → At p a
       → At q b
   pub goes_through : (p g q to : ℕ) (args : List ℕ) (x y b : Fact)
       → CallsAt ir.functions f p to g args → At p (at_call args x) → Passes ir.functions g 0 x q y
@@ -104,7 +106,7 @@ pub record Reach (ir : Ir) (f : ℕ) (At : ℕ → Fact → Type 0) : Type 0 whe
   pub is_here : (p : ℕ) (a : Fact) → At p a → At p Here
   pub is_root : (p x : ℕ) (a : Fact) → NeverWritten ir x → At p a → At p (RootUnwritten x)
 
--- what is at each entry of a called function
+-- the facts at each entry of a called function
 abbrev pub Inner : Ir → ℕ → Fact → Type 0
 Inner ir g (Unwritten r s x) =
     (u : IrFunction) × (slice_get ir.functions g ≡ Some u) × (u.parameters ≤ r)
@@ -117,7 +119,7 @@ NeverRoot ir _ = ⊥
 abbrev pub AtEntries : Ir → ℕ → Fact → Type 0
 AtEntries ir g e = (e ≡ Here) ⊎ (Inner ir g e ⊎ NeverRoot ir e)
 
--- e is at the entry of g where a is
+-- e is at the entry of g if a is
 abbrev pub Enters : Ir → ℕ → (a e : Fact) → Type 0
 Enters ir g a e = (e ≡ a) ⊎ AtEntries ir g e
 

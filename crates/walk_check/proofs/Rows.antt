@@ -14,7 +14,7 @@ use Rattle.walk_check.specs.declared.certificate.Piece.{Piece}
 use Rattle.walk_check.specs.declared.certificate.Reason.TheVariants.{Always, Clobber}
 use Rattle.walk_check.specs.declared.certificate.Certificate.{Certificate}
 use Rattle.walk_check.specs.declared.checker.CheckFault.TheVariants.{BadPiece, BadReason}
-use Rattle.walk_check.specs.Keeps.{fault_of}
+use Rattle.walk_check.specs.Keeps.{certificate_fault}
 
 shapes : Shapes
 shapes = record { root = record { name = []; length = None } ∷ []; structs = [] }
@@ -65,26 +65,29 @@ certificate end = record {
   ) ∷ [];
 }
 
-good : fault_of inc (certificate 3) ≡ None
+good : certificate_fault inc (certificate 3) ≡ None
 unfolding certificate unwrites reads step inc shapes
 good = refl
 
--- the store's place in the first walk raised by 1
-raised : fault_of inc (certificate 4) ≡ Some (BadReason 0)
+-- the store's place in the first walk, raised by 1
+raised : certificate_fault inc (certificate 4) ≡ Some (BadReason 0)
 unfolding certificate unwrites reads step inc shapes
 raised = refl
 
--- no header stands there
-no_header : fault_of inc (record {
+-- there is no header at that place
+no_header : certificate_fault inc (record {
   passed = [];
-  reasons =
-      (record { function = 0; place = 3; fill = false }, Always) ∷ [];
+  reasons = (record { function = 0; place = 3; fill = false }, Always) ∷ [];
 }) ≡ Some (BadReason 0)
 unfolding inc shapes
 no_header = refl
 
 -- a piece without steps
-empty : fault_of inc (record { passed = record { function = 0; steps = [] } ∷ []; reasons = [] })
+empty : certificate_fault inc (record {
+  passed = record { function = 0; steps = [] }
+      ∷ [];
+  reasons = [];
+})
     ≡ Some (BadPiece 0)
 unfolding inc shapes
 empty = refl

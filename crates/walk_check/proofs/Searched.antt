@@ -1,11 +1,11 @@
--- A search that is closed finds each derived fact that matters.
+-- A closed search finds each derived fact that matters.
 use Rattle.std.proofs.Common.{◌≡◌, ℕ, List, refl, subst}
 use Rattle.ir.specs.declared.function.IrFunction.{IrFunction}
 use Rattle.ir.specs.declared.fact.Fact.{Fact}
 use Rattle.ir.specs.Derived.{Passes, Flows}
 use Rattle.ir.specs.Derived.Passes.{starts, along, through, past}
 use Rattle.ir.specs.Derived.Flows.{first, called, on, across, beside}
-use Rattle.walk_check.specs.Search.{Sought, NotesPasses, NotesFlows, Is, Inside, SearchesFind}
+use Rattle.walk_check.specs.Search.{Sought, NotesPasses, NotesFlows, IsToldAt, Inside, SearchesFind}
 
 module _ (functions : List IrFunction) (Matters : ℕ → ℕ → Fact → Type 0)
     (Within : ℕ → Fact → ℕ → Fact → Type 0) (sought : Sought functions Matters)
@@ -56,4 +56,5 @@ module _ (functions : List IrFunction) (Matters : ℕ → ℕ → Fact → Type 
 
 pub searches_find : SearchesFind
 searches_find functions matters inside noted sought passes flows f p b d m =
-    flows_noted functions (Is matters) (Inside inside) sought passes (Is noted) flows d m
+    flows_noted functions (IsToldAt matters) (Inside inside) sought passes
+    (IsToldAt noted) flows d m

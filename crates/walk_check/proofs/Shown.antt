@@ -1,4 +1,4 @@
--- Where the checker finds no fault, each listed site is logged.
+-- If the checker finds no fault, each listed site is logged.
 use Rattle.std.proofs.Common.{◌≡◌, ◌+◌, ℕ, Bool, true, false, List, [], ◌∷◌, Option, Some, None}
 use Rattle.std.proofs.Common.{refl, sym, subst, inl, inr, ⊎_elim}
 use Rattle.std.specs.Prelude.{not, slice_get, if◌then◌else◌}
@@ -17,10 +17,10 @@ use Rattle.ir.specs.declared.fact.Fact.TheVariants.{ReadField, Freed}
 use Rattle.ir.specs.declared.fact.Origins.{Origins}
 use Rattle.ir.specs.declared.fact.Origins.TheVariants.{One}
 use Rattle.ir.specs.Places.{instruction_at, IsTransaction}
-use Rattle.ir.specs.Table.{Among}
+use Rattle.ir.specs.Table.{AmongOrigins}
 use Rattle.ir.specs.Derived.{Flows}
 use Rattle.ir.specs.Derived.Flows.{first, called}
-use Rattle.ir.specs.Clobber.{unwritten, read, SomeWalk, IsClobber, IsHeader, LoggedAt, IsLogged}
+use Rattle.ir.specs.Clobber.{unwritten, read_fact, SomeWalk, IsClobber, WritesHeader, LoggedAt, IsLogged}
 use Rattle.ir.specs.WellFormed.{IsWellFormed}
 use Rattle.ir.proofs.Law.{exact}
 use Rattle.walk_check.specs.declared.certificate.Piece.{Piece}
@@ -29,10 +29,10 @@ use Rattle.walk_check.specs.declared.certificate.Reason.{Reason}
 use Rattle.walk_check.specs.declared.certificate.Reason.TheVariants.{Always, PastFree, Clobber}
 use Rattle.walk_check.specs.declared.certificate.Certificate.{Certificate}
 use Rattle.walk_check.specs.Follow.{binds, unwritten_ends}
-use Rattle.walk_check.specs.Keeps.{first_fact, last_place, last_fact, begun, is_transaction}
-use Rattle.walk_check.specs.Keeps.{by_call, ends_at, pieces_keep, walk_keeps, is_header, is_new}
+use Rattle.walk_check.specs.Keeps.{first_fact, last_place, last_fact, holds_at_entry, is_tx}
+use Rattle.walk_check.specs.Keeps.{by_call, ends_at, pieces_keep, walk_keeps, writes_header, is_new}
 use Rattle.walk_check.specs.Keeps.{clobbers, gives_reason, reason_keeps, bad_piece, bad_reason}
-use Rattle.walk_check.specs.Keeps.{fault_from, fault_of}
+use Rattle.walk_check.specs.Keeps.{fault_from, certificate_fault}
 use Rattle.walk_check.specs.Law.{AllLogged}
 use Rattle.walk_check.proofs.Tests.{same-true, among-true}
 use Rattle.walk_check.proofs.Standing.{array_never_stored}
@@ -45,10 +45,10 @@ module _ (ir : Ir) (well : IsWellFormed ir) (passed : List Piece) (sound : AllSo
     abbrev Flow : ℕ → ℕ → Fact → Type 0
     Flow f p b = Flows ir.functions f p b
 
-    -- a walk's pieces: the fact at each one's end, at each next one's entry, and at last at the
+    -- a walk's pieces: the fact at the end of each, at the entry of the next, and at last at the
     -- site
     abbrev Ends : Site → Origins → Type 0
-    Ends site ends = (b : Fact) × Among b ends × Flow site.function site.place b
+    Ends site ends = (b : Fact) × AmongOrigins b ends × Flow site.function site.place b
 
     ends_there : (site : Site) (ends : Origins) (piece : Piece) → ends_at site ends piece ≡ true
         → Flow piece.function (last_place piece) (last_fact piece) → Ends site ends
@@ -65,7 +65,7 @@ module _ (ir : Ir) (well : IsWellFormed ir) (passed : List Piece) (sound : AllSo
               (subst (λ f. Flow f (last_place piece) (last_fact piece)) function_is d),
         )
 
-    -- the next piece's first fact, and what is at its entry besides
+    -- the next piece's first fact, and what else holds at its entry
     record Entered (b : Piece) : Type 0 where
       pub first_there : Flow b.function 0 (first_fact b)
       pub inner_there : Begins ir b.function false (Flows ir.functions b.function)
@@ -87,7 +87,7 @@ module _ (ir : Ir) (well : IsWellFormed ir) (passed : List Piece) (sound : AllSo
         }
       where
         inner : (u : IrFunction) (c : Fact) → slice_get ir.functions b.function ≡ Some u
-            → begun false u c ≡ true → (to : ℕ) (args : List ℕ)
+            → holds_at_entry false u c ≡ true → (to : ℕ) (args : List ℕ)
             → instruction_at ir.functions a.function (last_place a)
             ≡ Some (Call to b.function args)
             → binds args (last_fact a) (first_fact b) ≡ true → Flow b.function 0 c
@@ -123,7 +123,7 @@ module _ (ir : Ir) (well : IsWellFormed ir) (passed : List Piece) (sound : AllSo
 
     -- the first piece begins at a transaction's entry
     transaction : (f : ℕ) (o : Option IrFunction) → slice_get ir.functions f ≡ o
-        → is_transaction o ≡ true → IsTransaction ir.functions f
+        → is_tx o ≡ true → IsTransaction ir.functions f
     transaction f None is h = absurd (false≢true h)
     transaction f (Some u) is h = (u, is, h)
 
@@ -165,7 +165,7 @@ module _ (ir : Ir) (well : IsWellFormed ir) (passed : List Piece) (sound : AllSo
         e.1
 
     is_header_there : (f p : ℕ) (i : Instruction) → instruction_at ir.functions f p ≡ Some i
-        → is_header i ≡ true → IsHeader ir.functions f p
+        → writes_header i ≡ true → WritesHeader ir.functions f p
     is_header_there f p (New to kind log_fill line) is h = inl (to, kind, log_fill, line, is)
     is_header_there f p (Free from kind line) is h = inr (from, kind, line, is)
     is_header_there f p _ is h = absurd (false≢true h)
@@ -177,14 +177,14 @@ module _ (ir : Ir) (well : IsWellFormed ir) (passed : List Piece) (sound : AllSo
     clobber_there site (Store target from line) unwrites reads is h =
         let parts = and_parts _ _ h in
         let u = walk_there site (unwritten_ends target) unwrites.pieces parts.0 in
-        let r = walk_there site (One (read target)) reads.pieces parts.1 in (
+        let r = walk_there site (One (read_fact target)) reads.pieces parts.1 in (
           target,
           from,
           line,
           is,
           some_walk site.function site.place (unwritten target)
               (target_there site target from line is u),
-          some_walk site.function site.place (read target)
+          some_walk site.function site.place (read_fact target)
               (subst (λ b. Flow site.function site.place b) r.1 r.2),
         )
     clobber_there site _ unwrites reads is h = absurd (false≢true h)
@@ -252,7 +252,7 @@ no_fault (Some n) b h = absurd cc
 no_fault None (Some n) h = absurd cc
 no_fault None None h = (refl, refl)
 
-pub all_logged : (ir : Ir) (c : Certificate) → IsWellFormed ir → fault_of ir c ≡ None
+pub all_logged : (ir : Ir) (c : Certificate) → IsWellFormed ir → certificate_fault ir c ≡ None
     → AllLogged ir c
 all_logged ir c well none =
     let parts =

@@ -1,4 +1,4 @@
--- What well formed code names is there; and a root's array field is never surely written.
+-- All that well formed code names exists; and a root's array field is never surely written.
 use Rattle.std.proofs.Common.{◌≡◌, ◌≤◌, ℕ, zero, suc, List, [], ◌∷◌, Option, Some, None, length}
 use Rattle.std.proofs.Common.{refl, sym, ◌∙◌, ap, subst, arith}
 use Rattle.std.specs.Prelude.{slice_get, option_and_then}
@@ -32,8 +32,7 @@ standing_of ir f p i (Some u) well there is =
     let whole : IsFunction ir u = all_at (IsFunction ir) ir.functions f u well.1 there in
     record {
       body = u;
-      well =
-          all_at (IsInstruction ir u.registers (length u.code)) u.code p i whole.3 is;
+      well = all_at (IsInstruction ir u.registers (length u.code)) u.code p i whole.3 is;
     }
 
 pub standing : (ir : Ir) (f p : ℕ) (i : Instruction) → IsWellFormed ir

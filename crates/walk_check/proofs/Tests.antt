@@ -1,4 +1,4 @@
--- What each test of the checker tells.
+-- The meaning of each test of the checker.
 use Rattle.std.proofs.Common.{◌≡◌, ◌<◌, ◌+◌, ℕ, zero, suc, true, List, [], ◌∷◌, Some, refl, ap}
 use Rattle.std.proofs.Common.{arith, inl, inr, ⊎_elim}
 use Rattle.std.specs.Prelude.{◌==◌, slice_get, take}
@@ -11,7 +11,7 @@ use Rattle.ir.specs.declared.fact.Fact.TheVariants.{ReadField, Freed}
 use Rattle.ir.specs.declared.fact.Origins.{Origins}
 use Rattle.ir.specs.declared.fact.Origins.TheVariants.{Nowhere, One, Two}
 use Rattle.ir.specs.Places.{Leads}
-use Rattle.ir.specs.Table.{Among}
+use Rattle.ir.specs.Table.{AmongOrigins}
 use Rattle.walk_check.specs.Facts.{same, among}
 use Rattle.walk_check.specs.Follow.{leads}
 
@@ -34,7 +34,7 @@ same-true (ReadField t y) (ReadField s x) h =
 same-true Freed Freed h = refl
 same-true _ _ h = absurd (false≢true h)
 
-pub among-true : (a : Fact) (o : Origins) → among a o ≡ true → Among a o
+pub among-true : (a : Fact) (o : Origins) → among a o ≡ true → AmongOrigins a o
 among-true a Nowhere h = absurd (false≢true h)
 among-true a (One b) h = same-true a b h
 among-true a (Two b c) h =
@@ -53,7 +53,7 @@ leads-true (Return from) p q h = absurd (false≢true h)
 leads-true (Trap kind) p q h = absurd (false≢true h)
 leads-true _ p q h = next p q h
 
--- what stands in the first m of a list stands in the list, below m
+-- an element among the first m of a list is an element of the list, below m
 pub slice_get-take : {X : Type 0} (m : ℕ) (xs : List X) (n : ℕ) (x : X)
     → slice_get (take m xs) n ≡ Some x → (n < m) × (slice_get xs n ≡ Some x)
 slice_get-take zero xs n x is = absurd cc

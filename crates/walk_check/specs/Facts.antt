@@ -1,4 +1,4 @@
--- A certificate's facts are those of walks.
+-- A certificate's facts, as facts of walks.
 use Rattle.std.specs.Prelude.{◌==◌, ◌&&◌, ◌||◌, Bool, true, false}
 use Rattle.ir.specs.declared.fact.Fact.{Fact as WalkFact}
 use Rattle.ir.specs.declared.fact.Fact.TheVariants.{Here, Unwritten, RootUnwritten, ReadRoot}
@@ -19,7 +19,7 @@ fact_of (Read (Root x)) = ReadRoot x
 fact_of (Read (Field s x)) = ReadField s x
 fact_of Passed = Freed
 
--- two facts are the same
+-- whether two facts are the same
 abbrev pub same : WalkFact → WalkFact → Bool
 same Here Here = true
 same (Unwritten q t y) (Unwritten r s x) = (q == r) && ((t == s) && (y == x))
@@ -29,7 +29,7 @@ same (ReadField t y) (ReadField s x) = (t == s) && (y == x)
 same Freed Freed = true
 same _ _ = false
 
--- a fact is one of those named
+-- whether a fact is one of those named
 abbrev pub among : WalkFact → Origins → Bool
 among a Nowhere = false
 among a (One b) = same a b

@@ -1,6 +1,5 @@
--- Which fact follows from which: along one instruction, into a call, and past one. An
--- instruction's table is that
--- of ir (origins); a call's are at_call and back.
+-- Which fact follows from which: along one instruction, into a call, and past one. The table for an
+-- instruction is that of ir (origins); those for a call are at_call and back.
 use Rattle.std.specs.Prelude.{◌==◌, ◌&&◌, ◌||◌, ◌+◌, ℕ, Bool, true, false, List, Option, Some}
 use Rattle.std.specs.Prelude.{None, slice_get, position}
 use Rattle.ir.specs.declared.instruction.Target.{Target}
@@ -26,7 +25,7 @@ leads (Return from) p q = false
 leads (Trap kind) p q = false
 leads _ p q = q == p + 1
 
--- a load of an element of the root's array field x: its target counts as unwritten from Start
+-- a load of an element of the root's array field x: its target counts as unwritten from Start on
 abbrev pub array_read : Instruction → Fact → Fact → Bool
 array_read (Load to (Root y (Some i))) Here (ReadRoot x) = x == y
 array_read _ _ _ = false
@@ -35,7 +34,7 @@ array_read _ _ _ = false
 abbrev pub along : Instruction → Fact → Fact → Bool
 along i a b = among a (origins i b) || array_read i a b
 
--- the fact a is on no argument, or is Start
+-- the fact a isn't about an argument, or is Start
 abbrev pub unpassed : List ℕ → Fact → Bool
 unpassed args Here = true
 unpassed args (Unwritten r s x) = no_place (position (λ a. a == r) args)
@@ -49,22 +48,21 @@ abbrev pub bound_argument : Option ℕ → ℕ → ℕ → Fact → Bool
 bound_argument None s x a = false
 bound_argument (Some r) s x a = same a (Unwritten r s x)
 
--- the fact a at a call is bound as b at the called function's entry. What is on no argument is
--- bound as Start
+-- the fact a at a call is bound as b at the called function's entry. A fact that isn't about an
+-- argument is bound as Start.
 abbrev pub binds : List ℕ → Fact → Fact → Bool
 binds args a (Unwritten j s x) = bound_argument (slice_get args j) s x a
 binds args a Here = unpassed args a
 binds args a b = same a b
 
--- past a call, b follows from a by a piece from x to y: b is what the return gives back, or it is
--- on no argument and
--- stands as before
+-- past a call, b follows from a through a piece from x to y: b is what the return gives back, or it
+-- isn't about an argument and holds as before
 abbrev pub passes : List ℕ → (a x y b : Fact) → Back → Bool
 passes args a x y b (FromReturn z) = same z y && binds args a x
 passes args a x y b Stays = same a b && (same x Here && same y Here)
 
--- with which facts a store's target is unwritten. In an array of the root it counts as unwritten
--- from Start
+-- the facts with which a store's target is unwritten. In an array of the root it counts as
+-- unwritten from Start on.
 abbrev pub unwritten_ends : Target → Origins
 unwritten_ends (Root x None) = One (RootUnwritten x)
 unwritten_ends (Root x (Some i)) = Two (RootUnwritten x) Here

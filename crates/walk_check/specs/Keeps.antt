@@ -13,10 +13,10 @@ use Rattle.ir.specs.declared.fact.Fact.TheVariants.{Here, Unwritten, RootUnwritt
 use Rattle.ir.specs.declared.fact.Fact.TheVariants.{ReadField, Freed}
 use Rattle.ir.specs.declared.fact.Origins.{Origins}
 use Rattle.ir.specs.declared.fact.Origins.TheVariants.{One}
-use Rattle.ir.specs.WellFormed.{field_of}
+use Rattle.ir.specs.WellFormed.{shape_field}
 use Rattle.ir.specs.Places.{instruction_at}
 use Rattle.ir.specs.Table.{back}
-use Rattle.ir.specs.Clobber.{read}
+use Rattle.ir.specs.Clobber.{read_fact}
 use Rattle.walk_check.specs.declared.certificate.Fact.TheVariants.{Start}
 use Rattle.walk_check.specs.declared.certificate.Step.{Step}
 use Rattle.walk_check.specs.declared.certificate.Piece.{Piece}
@@ -29,25 +29,25 @@ use Rattle.walk_check.specs.declared.checker.CheckFault.TheVariants.{BadPiece, B
 use Rattle.walk_check.specs.Facts.{fact_of, same, among}
 use Rattle.walk_check.specs.Follow.{leads, along, binds, passes, unwritten_ends}
 
--- the register, the struct and the field that a fact names are there
-abbrev pub is_there : Shapes → IrFunction → WalkFact → Bool
-is_there shapes u Here = true
-is_there shapes u (Unwritten r s x) = nat_lt r u.registers && is_some (field_of shapes s x)
-is_there shapes u (RootUnwritten x) = is_some (slice_get shapes.root x)
-is_there shapes u (ReadRoot x) = is_some (slice_get shapes.root x)
-is_there shapes u (ReadField s x) = is_some (field_of shapes s x)
-is_there shapes u Freed = true
+-- the register, the struct and the field that a fact names exist
+abbrev pub fact_is_there : Shapes → IrFunction → WalkFact → Bool
+fact_is_there shapes u Here = true
+fact_is_there shapes u (Unwritten r s x) = nat_lt r u.registers && is_some (shape_field shapes s x)
+fact_is_there shapes u (RootUnwritten x) = is_some (slice_get shapes.root x)
+fact_is_there shapes u (ReadRoot x) = is_some (slice_get shapes.root x)
+fact_is_there shapes u (ReadField s x) = is_some (shape_field shapes s x)
+fact_is_there shapes u Freed = true
 
 abbrev pub all_there : Shapes → IrFunction → List Step → Bool
 all_there shapes u [] = true
-all_there shapes u (a ∷ rest) = is_there shapes u (fact_of a.fact) && all_there shapes u rest
+all_there shapes u (a ∷ rest) = fact_is_there shapes u (fact_of a.fact) && all_there shapes u rest
 
 -- the first and the last step of a piece
-abbrev pub blank : Step
-blank = record { place = 0; fact = Start; through = None }
+abbrev pub blank_step : Step
+blank_step = record { place = 0; fact = Start; through = None }
 
 abbrev pub first_step : List Step → Step
-first_step [] = blank
+first_step [] = blank_step
 first_step (a ∷ rest) = a
 
 abbrev pub last_step : Step → List Step → Step
@@ -58,17 +58,17 @@ abbrev pub first_fact : Piece → WalkFact
 first_fact piece = fact_of (first_step piece.steps).fact
 
 abbrev pub last_place : Piece → ℕ
-last_place piece = (last_step blank piece.steps).place
+last_place piece = (last_step blank_step piece.steps).place
 
 abbrev pub last_fact : Piece → WalkFact
-last_fact piece = fact_of (last_step blank piece.steps).fact
+last_fact piece = fact_of (last_step blank_step piece.steps).fact
 
 -- along the instruction at the step's place
-abbrev pub goes : Option Instruction → (a b : Step) → Bool
-goes None a b = false
-goes (Some i) a b = leads i a.place b.place && along i (fact_of a.fact) (fact_of b.fact)
+abbrev pub goes_along : Option Instruction → (a b : Step) → Bool
+goes_along None a b = false
+goes_along (Some i) a b = leads i a.place b.place && along i (fact_of a.fact) (fact_of b.fact)
 
--- past the call at the step's place, by a piece of the called function
+-- past the call at the step's place, through a piece of the called function
 abbrev pub past_call : Instruction → Piece → (a b : Step) → Bool
 past_call (Call to g args) piece a b =
     (piece.function == g) && ((b.place == a.place + 1)
@@ -83,28 +83,28 @@ goes_past (Some i) (Some piece) a b = past_call i piece a b
 
 -- the next step follows
 abbrev pub follows : List Piece → IrFunction → (a b : Step) → Option ℕ → Bool
-follows passed u a b None = goes (slice_get u.code a.place) a b
+follows passed u a b None = goes_along (slice_get u.code a.place) a b
 follows passed u a b (Some n) = goes_past (slice_get u.code a.place) (slice_get passed n) a b
 
--- what a walk has at an entry: in the first piece whatever isn't written, in another what isn't on
--- a parameter
-abbrev pub begun : (opens : Bool) → IrFunction → WalkFact → Bool
-begun opens u (Unwritten r s x) = opens || nat_le u.parameters r
-begun opens u (RootUnwritten x) = opens
-begun opens u _ = false
+-- what a walk has at an entry: in the first piece everything that isn't written, in any other
+-- everything that isn't about a parameter
+abbrev pub holds_at_entry : (opens : Bool) → IrFunction → WalkFact → Bool
+holds_at_entry opens u (Unwritten r s x) = opens || nat_le u.parameters r
+holds_at_entry opens u (RootUnwritten x) = opens
+holds_at_entry opens u _ = false
 
 -- the second step may be at the entry too
-abbrev pub begins : (opens : Bool) → IrFunction → (a b : Step) → Bool
-begins opens u a b =
+abbrev pub begins_piece : (opens : Bool) → IrFunction → (a b : Step) → Bool
+begins_piece opens u a b =
     not (is_some a.through) && ((b.place == 0)
-    && (same (fact_of a.fact) Here && begun opens u (fact_of b.fact)))
+    && (same (fact_of a.fact) Here && holds_at_entry opens u (fact_of b.fact)))
 
 -- each step follows from the one before, and no call is passed at the last one
 abbrev pub chain : List Piece → (opens : Bool) → IrFunction → (entry : Bool) → Step → List Step
     → Bool
 chain passed opens u entry a [] = not (is_some a.through)
 chain passed opens u entry a (b ∷ rest) =
-    ((entry && begins opens u a b) || follows passed u a b a.through)
+    ((entry && begins_piece opens u a b) || follows passed u a b a.through)
     && chain passed opens u false b rest
 
 abbrev pub steps_keep : Ir → List Piece → (opens : Bool) → List Step → Option IrFunction → Bool
@@ -122,15 +122,15 @@ abbrev pub is_return : Option Instruction → Bool
 is_return (Some (Return from)) = true
 is_return _ = false
 
--- a piece that passes calls ends at a return
+-- a piece that passes calls, which ends at a return
 abbrev pub passing_keeps : Ir → List Piece → Piece → Bool
 passing_keeps ir earlier piece =
     piece_keeps ir earlier false piece && is_return
     (instruction_at ir.functions piece.function (last_place piece))
 
-abbrev pub is_transaction : Option IrFunction → Bool
-is_transaction None = false
-is_transaction (Some u) = u.tx
+abbrev pub is_tx : Option IrFunction → Bool
+is_tx None = false
+is_tx (Some u) = u.tx
 
 abbrev pub by_call : Option Instruction → (a b : Piece) → Bool
 by_call (Some (Call to g args)) a b = (b.function == g) && binds args (last_fact a) (first_fact b)
@@ -140,7 +140,7 @@ by_call _ a b = false
 abbrev pub enters : Ir → (a b : Piece) → Bool
 enters ir a b = by_call (instruction_at ir.functions a.function (last_place a)) a b
 
--- the last piece ends at a place, with one of the named facts
+-- the last piece ends at this place, with one of the named facts
 abbrev pub ends_at : Site → Origins → Piece → Bool
 ends_at site ends piece =
     (piece.function == site.function) && ((last_place piece == site.place)
@@ -153,17 +153,17 @@ pieces_keep ir passed site ends opens a (b ∷ rest) =
     piece_keeps ir passed opens a && (enters ir a b
     && pieces_keep ir passed site ends false b rest)
 
--- a walk keeps the rules, and comes to the site's place with one of the named facts
+-- a walk keeps the rules, and reaches the site's place with one of the named facts
 abbrev pub walk_keeps : Ir → List Piece → Site → Origins → List Piece → Bool
 walk_keeps ir passed site ends [] = false
 walk_keeps ir passed site ends (a ∷ rest) =
-    (is_transaction (slice_get ir.functions a.function) && same (first_fact a) Here)
+    (is_tx (slice_get ir.functions a.function) && same (first_fact a) Here)
     && pieces_keep ir passed site ends true a rest
 
-abbrev pub is_header : Instruction → Bool
-is_header (New to kind log_fill line) = true
-is_header (Free from kind line) = true
-is_header _ = false
+abbrev pub writes_header : Instruction → Bool
+writes_header (New to kind log_fill line) = true
+writes_header (Free from kind line) = true
+writes_header _ = false
 
 abbrev pub is_new : Instruction → Bool
 is_new (New to kind log_fill line) = true
@@ -172,12 +172,12 @@ is_new _ = false
 abbrev pub clobbers : Ir → List Piece → Site → Instruction → Walk → Walk → Bool
 clobbers ir passed site (Store target from line) unwrites reads =
     walk_keeps ir passed site (unwritten_ends target) unwrites.pieces
-    && walk_keeps ir passed site (One (read target)) reads.pieces
+    && walk_keeps ir passed site (One (read_fact target)) reads.pieces
 clobbers ir passed site _ unwrites reads = false
 
 abbrev pub gives_reason : Ir → List Piece → Site → Option Instruction → Reason → Bool
 gives_reason ir passed site None reason = false
-gives_reason ir passed site (Some i) Always = is_header i && not site.fill
+gives_reason ir passed site (Some i) Always = writes_header i && not site.fill
 gives_reason ir passed site (Some i) (PastFree walk) =
     (is_new i && site.fill) && walk_keeps ir passed site (One Freed) walk.pieces
 gives_reason ir passed site (Some i) (Clobber unwrites reads) =
@@ -188,7 +188,7 @@ abbrev pub reason_keeps : Ir → List Piece → Site → Reason → Bool
 reason_keeps ir passed site reason =
     gives_reason ir passed site (instruction_at ir.functions site.function site.place) reason
 
--- the number of the first that doesn't keep, counted from n on
+-- the number of the first element that fails the test, counted from n on
 abbrev pub first_bad : {X : Type 0} → (ℕ → X → Bool) → ℕ → List X → Option ℕ
 first_bad keeps n [] = None
 first_bad keeps n (x ∷ xs) = if keeps n x then first_bad keeps (n + 1) xs else Some n
@@ -213,6 +213,7 @@ fault_from (Some n) reasons = Some (BadPiece n)
 fault_from None (Some n) = Some (BadReason n)
 fault_from None None = None
 
--- what is wrong with a certificate first
-abbrev pub fault_of : Ir → Certificate → Option CheckFault
-fault_of ir c = fault_from (bad_piece ir c.passed 0 c.passed) (bad_reason ir c.passed 0 c.reasons)
+-- the first fault of a certificate
+abbrev pub certificate_fault : Ir → Certificate → Option CheckFault
+certificate_fault ir c = fault_from (bad_piece ir c.passed 0 c.passed)
+    (bad_reason ir c.passed 0 c.reasons)

@@ -14,7 +14,7 @@ use crate::there::instruction_at;
 use crate::walk::walk_keeps;
 use ir::{Fact as WalkFact, Instruction, Ir, Origins, Site, Target};
 
-/// What is wrong with a certificate, by its number: the first bad piece of those that pass calls,
+/// The first fault of a certificate, by number: the first bad piece among those that pass calls,
 /// else the first bad reason.
 #[derive(Clone, Copy, Debug, PartialEq, Eq)]
 pub enum CheckFault {
@@ -22,9 +22,9 @@ pub enum CheckFault {
     BadReason(u64),
 }
 
-/// With which fact a store's class is read.
+/// The fact with which a store's class is read.
 fn read_ends(target: Target) -> Origins
-    ensures { result ≡ Origins.One (clobber.read target) }
+    ensures { result ≡ Origins.One (clobber.read_fact target) }
 {
     match target {
         Target::Root { field, .. } => Origins::One(WalkFact::ReadRoot { field }),
@@ -33,7 +33,7 @@ fn read_ends(target: Target) -> Origins
 }
 
 fn is_header(instruction: &Instruction) -> bool
-    ensures { result ≡ keeps.is_header instruction.now }
+    ensures { result ≡ keeps.writes_header instruction.now }
 {
     match instruction {
         Instruction::New { .. } | Instruction::Free { .. } => true,
@@ -133,13 +133,13 @@ fn bad_reason(ir: &Ir, passed: &[Piece], reasons: &[(Site, Reason)]) -> Option<u
     None
 }
 
-/// Whether a certificate keeps the rules, else what breaks them first. It takes no memory, and
-/// reads the code and the certificate alone.
+/// Whether a certificate keeps the rules, and if not, what breaks them first. It takes no memory,
+/// and reads only the code and the certificate.
 #[tactic(auto, using(crate::proofs::Shown::all_logged))]
 pub fn check(ir: &Ir, certificate: &Certificate) -> Result<(), CheckFault>
     requires { IsWellFormed ir.now }
-    ensures ok { OnOk result (keeps.fault_of ir.now certificate.now ≡ None) }
-    ensures err { IfErr result (λ e. keeps.fault_of ir.now certificate.now ≡ Some e) }
+    ensures ok { OnOk result (keeps.certificate_fault ir.now certificate.now ≡ None) }
+    ensures err { IfErr result (λ e. keeps.certificate_fault ir.now certificate.now ≡ Some e) }
     ensures logged { OnOk result (AllLogged ir.now certificate.now) }
 {
     let passed = certificate.passed.as_slice();

@@ -10,7 +10,7 @@ use crate::certificate::{Class, Fact};
 use crate::table::origins;
 use ir::{Fact as WalkFact, Instruction, Origins, Target};
 
-/// A certificate's fact as one of walks.
+/// A certificate's fact as a fact of walks.
 pub fn fact_of(fact: Fact) -> WalkFact
     ensures { result ≡ facts.fact_of fact }
 {
@@ -115,14 +115,14 @@ pub fn along(instruction: &Instruction, a: WalkFact, b: WalkFact) -> bool
     among(a, origins(instruction, b)) || array_read(instruction, a, b)
 }
 
-/// The first place of a register among arguments.
+/// The first place of a register among the arguments.
 fn first_at(args: &[u32], register: u32) -> Option<usize>
     ensures { result ≡ position (λ a. a == register) args.now }
 {
     args.iter().position(|a| *a == register)
 }
 
-/// Whether a fact is on no argument, or is Start.
+/// Whether a fact isn't about an argument, or is Start.
 fn unpassed(args: &[u32], fact: WalkFact) -> bool
     ensures { result ≡ follow.unpassed args.now fact }
 {
@@ -161,7 +161,7 @@ pub fn binds(args: &[u32], a: WalkFact, b: WalkFact) -> bool
     }
 }
 
-/// Whether a fact is that a field isn't written through the parameter at this place.
+/// Whether a fact says that a field isn't written through the parameter at this place.
 fn is_parameter(place: usize, kind: u32, field: u32, fact: WalkFact) -> bool
     ensures { result ≡ facts.same (NotWritten place kind field) fact }
 {
@@ -175,7 +175,7 @@ fn is_parameter(place: usize, kind: u32, field: u32, fact: WalkFact) -> bool
     }
 }
 
-/// Whether past a call one fact follows from another, by a piece between these two facts.
+/// Whether one fact follows from another past a call, through a piece between these two facts.
 pub fn passes(to: u32, args: &[u32], a: WalkFact, x: WalkFact, y: WalkFact, b: WalkFact) -> bool
     ensures { result ≡ follow.passes args.now a x y b (back to args.now b) }
 {
@@ -197,7 +197,7 @@ pub fn passes(to: u32, args: &[u32], a: WalkFact, x: WalkFact, y: WalkFact, b: W
     }
 }
 
-/// With which facts a store's target is unwritten.
+/// The facts with which a store's target is unwritten.
 pub fn unwritten_ends(target: Target) -> Origins
     ensures { result ≡ follow.unwritten_ends target }
 {

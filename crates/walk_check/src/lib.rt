@@ -1,6 +1,6 @@
-//! Certificates of why a store is logged, and their checker. It stands on `ir` alone, and knows no
-//! analysis. Its one contract for the crates above: `check` says what is wrong first, exactly, and
-//! where it says Ok each listed site is logged. Its rules are public, for who makes certificates.
+//! Certificates of why a store is logged, and their checker. It rests on `ir` alone, and knows no
+//! analysis. Its one contract for the crates above: `check` says exactly what is wrong first, and
+//! if it answers Ok, each listed site is logged. Its rules are public, for makers of certificates.
 #![tactic(auto)]
 
 mod certificate;

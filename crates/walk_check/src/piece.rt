@@ -25,7 +25,7 @@ fn first_step(steps: &[Step]) -> Step
 /// The last step of a piece.
 #[tactic(auto, using(crate::proofs::Last::last_step_get))]
 fn last_step(steps: &[Step]) -> Step
-    ensures { result ≡ keeps.last_step keeps.blank steps.now }
+    ensures { result ≡ keeps.last_step keeps.blank_step steps.now }
 {
     match steps.last() {
         Some(step) => *step,
@@ -60,7 +60,7 @@ pub fn last_fact(piece: &Piece) -> WalkFact
 
 /// Whether the next step follows along an instruction.
 fn goes(code: &[Instruction], a: Step, b: Step) -> bool
-    ensures { result ≡ keeps.goes (slice_get code.now a.place) a b }
+    ensures { result ≡ keeps.goes_along (slice_get code.now a.place) a b }
 {
     match code.get(a.place as usize) {
         None => false,
@@ -71,7 +71,7 @@ fn goes(code: &[Instruction], a: Step, b: Step) -> bool
     }
 }
 
-/// Whether the next step follows past a call, by a piece.
+/// Whether the next step follows past a call, through a piece.
 fn past_call(instruction: &Instruction, piece: &Piece, a: Step, b: Step) -> bool
     ensures { result ≡ keeps.past_call instruction.now piece.now a b }
 {
@@ -92,7 +92,7 @@ fn past_call(instruction: &Instruction, piece: &Piece, a: Step, b: Step) -> bool
     }
 }
 
-/// Whether the next step follows past the call at the first one's place, by one of the pieces.
+/// Whether the next step follows past the call at the first one's place, through one of the pieces.
 fn goes_past(code: &[Instruction], passed: &[Piece], n: u64, a: Step, b: Step) -> bool
     ensures { result ≡ keeps.goes_past (slice_get code.now a.place) (slice_get passed.now n) a b }
 {
@@ -117,7 +117,7 @@ pub fn follows(passed: &[Piece], body: &IrFunction, a: Step, b: Step) -> bool
 
 /// Whether a walk has a fact at an entry.
 pub fn begun(opens: bool, body: &IrFunction, fact: WalkFact) -> bool
-    ensures { result ≡ keeps.begun opens body.now fact }
+    ensures { result ≡ keeps.holds_at_entry opens body.now fact }
 {
     match fact {
         WalkFact::Unwritten { register, .. } => opens || body.parameters <= register,
@@ -126,9 +126,9 @@ pub fn begun(opens: bool, body: &IrFunction, fact: WalkFact) -> bool
     }
 }
 
-/// Whether the second step is at the entry too, with a fact that a walk has there.
+/// Whether the second step is also at the entry, with a fact that a walk has there.
 fn begins(opens: bool, body: &IrFunction, a: Step, b: Step) -> bool
-    ensures { result ≡ keeps.begins opens body.now a b }
+    ensures { result ≡ keeps.begins_piece opens body.now a b }
 {
     !a.through.is_some()
         && (b.place == 0

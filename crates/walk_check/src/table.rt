@@ -1,11 +1,11 @@
-//! The table of facts: what each fact after an instruction comes from.
+//! The table of facts: the origins of each fact after an instruction.
 
 ghost use Rattle.std.specs.Prelude.{◌≡◌};
 ghost use Rattle.ir.specs.Table as table;
 
 use ir::{Fact, Instruction, Origins, Target};
 
-/// The facts before an instruction that is no call and no return, each of which gives the fact
+/// The facts before an instruction that is neither a call nor a return, any of which gives the fact
 /// after it.
 pub fn origins(instruction: &Instruction, after: Fact) -> Origins
     ensures { result ≡ table.origins instruction.now after }

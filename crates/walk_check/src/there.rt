@@ -1,7 +1,7 @@
-//! What a fact or a place names is there.
+//! Whether all that a fact or a place names exists.
 
 ghost use Rattle.std.specs.Prelude.{◌≡◌, option_map, slice_get, is_some};
-ghost use Rattle.ir.specs.WellFormed.{field_of};
+ghost use Rattle.ir.specs.WellFormed.{shape_field};
 ghost use Rattle.ir.specs.Places.{instruction_at};
 ghost use Rattle.walk_check.specs.Keeps as keeps;
 
@@ -12,7 +12,7 @@ use pool_map::{FieldShape, Shapes};
 
 /// A field of a struct.
 fn field_of(shapes: &Shapes, kind: u32, field: u32) -> Option<&FieldShape>
-    ensures { option_map (λ f. f.now) result ≡ field_of shapes.now kind field }
+    ensures { option_map (λ f. f.now) result ≡ shape_field shapes.now kind field }
 {
     if kind == 0 {
         return None;
@@ -24,7 +24,7 @@ fn field_of(shapes: &Shapes, kind: u32, field: u32) -> Option<&FieldShape>
 }
 
 fn is_field(shapes: &Shapes, kind: u32, field: u32) -> bool
-    ensures { result ≡ is_some (field_of shapes.now kind field) }
+    ensures { result ≡ is_some (shape_field shapes.now kind field) }
 {
     field_of(shapes, kind, field).is_some()
 }
@@ -35,9 +35,9 @@ fn is_root(shapes: &Shapes, field: u32) -> bool
     shapes.root.as_slice().get(field as usize).is_some()
 }
 
-/// Whether the register, the struct and the field that a fact names are there.
+/// Whether the register, the struct and the field that a fact names exist.
 pub fn is_there(shapes: &Shapes, body: &IrFunction, fact: WalkFact) -> bool
-    ensures { result ≡ keeps.is_there shapes.now body.now fact }
+    ensures { result ≡ keeps.fact_is_there shapes.now body.now fact }
 {
     match fact {
         WalkFact::Here | WalkFact::Freed => true,
@@ -51,7 +51,7 @@ pub fn is_there(shapes: &Shapes, body: &IrFunction, fact: WalkFact) -> bool
     }
 }
 
-/// Whether what each step's fact names is there.
+/// Whether all that each step's fact names exists.
 pub fn all_there(shapes: &Shapes, body: &IrFunction, steps: &[Step]) -> bool
     ensures { result ≡ keeps.all_there shapes.now body.now steps.now }
 {

@@ -10,7 +10,7 @@ use Rattle.pm_machine.specs.declared.effect.Effect.{Effect}
 use Rattle.pm_machine.specs.declared.effect.Effect.TheVariants.{Loads, Scans, Stores, Logs, Flushes, Fences, Quiet}
 use Rattle.pm_machine.specs.declared.image.Image.{Image}
 use Rattle.pm_machine.specs.Effects.{events_of, records_past}
-use Rattle.pm_machine.specs.Machine.{State, Outcome, Goes, Ends, step, start}
+use Rattle.pm_machine.specs.Machine.{State, StepOutcome, Goes, Ends, step, start}
 use Rattle.pm_machine.specs.Runs.{heap_in, due, owing}
 use Rattle.tx_run.specs.Due.{due_on, due_seal, due_call}
 use Rattle.tx_run.specs.Settled.{HasLogged}
@@ -30,7 +30,7 @@ past_more n (Flushes l) = omega arith
 past_more n Fences = omega arith
 past_more n Quiet = omega arith
 
-owing_more : (image : Image) (a k n : ℕ) (c : Cache) (o : Outcome) →
+owing_more : (image : Image) (a k n : ℕ) (c : Cache) (o : StepOutcome) →
     ((m : ℕ) (t : State) (d : Cache) → m ≤ (due image a k m t d).records) →
     n ≤ (owing n (events_of image.parts.sizes a n (heap_in image.parts.sizes c))
     (λ e t. due image a k (records_past n e) t

@@ -6,12 +6,12 @@ use Rattle.cache_model.specs.Event.{CacheEvent, Store, Flush, Fence}
 use Rattle.cache_model.specs.Cache.{Words, Cache}
 use Rattle.cache_model.specs.Play.{apply, play}
 use Rattle.cache_model.specs.Image.{IsImage}
-use Rattle.crash_law.specs.Law.{IsAtRest, IsLeft, IsFenced, Empty, Kept, Added}
+use Rattle.crash_law.specs.Law.{IsAtRest, IsLeft, IsFenced, Empty, Kept, Added, AreMarked}
 use Rattle.crash_law.proofs.Fences.{fences_add_none}
 use Rattle.pool_workers.specs.Compartment.{cache_in, lifted, IsInside}
-use Rattle.workers_law.specs.Interleaved.{Step, Piece, steps_by, steps_of, whole_events, own_events, own_pieces, fence_of, seen_events, AreInside, IsPrefix, Interleaves}
+use Rattle.workers_law.specs.Interleaved.{WorkerEvent, Piece, steps_by, worker_events, whole_events, own_events, own_pieces, fence_of, seen_events, AreInside, IsPrefix, Interleaves}
 use Rattle.workers_law.specs.Compartments.{CompartmentLaw, CompartmentImagesLaw}
-use Rattle.workers_law.specs.Fenced.{AreApart, AreMarked}
+use Rattle.workers_law.specs.Fenced.{AreApart}
 use Rattle.pool_workers.proofs.Windows.{own_event, outside_store, outside_flush}
 use Rattle.workers_law.proofs.Asides.{inside_part, cache_cong, marked_in}
 
@@ -29,7 +29,7 @@ apart n i j ne = by_order (nat_lt i j) refl
         let more : n * (j + 1) ≤ n * i = mul-le-mul_left n lt in
         inr (omega arith)
 
--- another's event
+-- an event of another compartment
 other_event : (n w i : ℕ) (c : Cache) (e : CacheEvent) → w ≢ i → IsInside n e →
     cache_in (n * i) n (apply c (lifted (n * w) e)) ≡ play (cache_in (n * i) n c) (fence_of e [])
 other_event n w i c (Store p x) ne lt =
@@ -42,7 +42,7 @@ other_event n w i c (Flush k) ne lt =
     (inside_part (n * w) n (n * i) n l (apart n w i ne) less))
 other_event n w i c Fence ne lt = own_event (n * i) n c Fence tt
 
-abbrev pub AllInside : ℕ → List Step → Type 0
+abbrev pub AllInside : ℕ → List WorkerEvent → Type 0
 AllInside n [] = Unit {0}
 AllInside n (s ∷ ss) = IsInside n s.event × AllInside n ss
 
@@ -52,7 +52,8 @@ play_fence c (Store p x) es = refl
 play_fence c (Flush k) es = refl
 play_fence c Fence es = refl
 
-seen_case : (b : Bool) (n i : ℕ) (c : Cache) (s : Step) (ss : List Step) → (s.worker == i) ≡ b →
+seen_case : (b : Bool) (n i : ℕ) (c : Cache) (s : WorkerEvent) (ss : List WorkerEvent)
+    → (s.worker == i) ≡ b →
     IsInside n s.event →
     cache_in (n * i) n (play (apply c (lifted (n * s.worker) s.event)) (whole_events n ss))
     ≡ play (cache_in (n * i) n (apply c (lifted (n * s.worker) s.event))) (seen_events i ss) →
@@ -71,7 +72,7 @@ seen_case false n i c s ss is lt rest =
     (other_event n s.worker i c s.event (eqb-false s.worker i is) lt)
     ∙ sym (play_fence (cache_in (n * i) n c) s.event (seen_events i ss))
 
-pub seen_cache : (n i : ℕ) (ss : List Step) (c : Cache) → AllInside n ss →
+pub seen_cache : (n i : ℕ) (ss : List WorkerEvent) (c : Cache) → AllInside n ss →
     cache_in (n * i) n (play c (whole_events n ss))
     ≡ play (cache_in (n * i) n c) (seen_events i ss)
 seen_cache n i [] c lt = refl
@@ -86,7 +87,7 @@ fenced_case false (Store p x) es fs is = is
 fenced_case false (Flush k) es fs is = is
 fenced_case false Fence es fs is = Added is
 
-pub seen_fenced : (i : ℕ) (ss : List Step) → IsFenced (own_events i ss) (seen_events i ss)
+pub seen_fenced : (i : ℕ) (ss : List WorkerEvent) → IsFenced (own_events i ss) (seen_events i ss)
 seen_fenced i [] = Empty
 seen_fenced i (s ∷ ss) =
     fenced_case (s.worker == i) s.event (own_events i ss) (seen_events i ss) (seen_fenced i ss)
@@ -96,14 +97,14 @@ own_case : (b : Bool) (e : CacheEvent) (es fs : List CacheEvent) →
 own_case true e es fs = refl
 own_case false e es fs = refl
 
-own_append : (i : ℕ) (ss ts : List Step) →
+own_append : (i : ℕ) (ss ts : List WorkerEvent) →
     own_events i (ss ++ ts) ≡ own_events i ss ++ own_events i ts
 own_append i [] ts = refl
 own_append i (s ∷ ss) ts =
     ap (λ (es : List CacheEvent). cond (s.worker == i) (s.event ∷ es) es) (own_append i ss ts)
     ∙ own_case (s.worker == i) s.event (own_events i ss) (own_events i ts)
 
-pub own_by : (b : Bool) (w i : ℕ) (es : List CacheEvent) (rest : List Step) → (w == i) ≡ b →
+pub own_by : (b : Bool) (w i : ℕ) (es : List CacheEvent) (rest : List WorkerEvent) → (w == i) ≡ b →
     own_events i (steps_by w es rest) ≡ cond b (es ++ own_events i rest) (own_events i rest)
 own_by true w i [] rest is = refl
 own_by false w i [] rest is = refl
@@ -115,10 +116,10 @@ own_by false w i (e ∷ es) rest is =
     ap (λ (b : Bool). cond b (e ∷ own_events i (steps_by w es rest))
     (own_events i (steps_by w es rest))) is ∙ own_by false w i es rest is
 
-own_pieces_steps : (i : ℕ) (ps : List Piece) → own_events i (steps_of ps) ≡ own_pieces i ps
+own_pieces_steps : (i : ℕ) (ps : List Piece) → own_events i (worker_events ps) ≡ own_pieces i ps
 own_pieces_steps i [] = refl
 own_pieces_steps i (p ∷ ps) =
-    own_by (p.worker == i) p.worker i p.events (steps_of ps) refl
+    own_by (p.worker == i) p.worker i p.events (worker_events ps) refl
     ∙ ap (λ (es : List CacheEvent). cond (p.worker == i) (p.events ++ es) es)
     (own_pieces_steps i ps)
 
@@ -136,7 +137,8 @@ inside_tail : (n : ℕ) (b : Bool) (e : CacheEvent) (es : List CacheEvent) →
 inside_tail n true e es lt = lt.1
 inside_tail n false e es lt = lt
 
-all_inside : (n : ℕ) (ss : List Step) → ((i : ℕ) → AreInside n (own_events i ss)) → AllInside n ss
+all_inside : (n : ℕ) (ss : List WorkerEvent) → ((i : ℕ) → AreInside n (own_events i ss))
+    → AllInside n ss
 all_inside n [] lt = tt
 all_inside n (s ∷ ss) lt = (
   inside_head n (s.worker == s.worker) s.event (own_events s.worker ss)
@@ -145,8 +147,8 @@ all_inside n (s ∷ ss) lt = (
 )
 
 module _ (n : ℕ) (c : Cache) (due : ℕ → List CacheEvent) (ps : List Piece)
-    (first rest : List Step) (inside : (i : ℕ) → AreInside n (due i))
-    (pieces : Interleaves due ps) (is : first ++ rest ≡ steps_of ps) where
+    (first rest : List WorkerEvent) (inside : (i : ℕ) → AreInside n (due i))
+    (pieces : Interleaves due ps) (is : first ++ rest ≡ worker_events ps) where
   own_first : (i : ℕ) → IsPrefix (own_events i first) (due i)
   own_first i =
       let more = pieces i in (

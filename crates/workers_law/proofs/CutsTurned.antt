@@ -21,16 +21,16 @@ use Rattle.run_law.specs.Sound.{IsSoundRun}
 use Rattle.tx_run.specs.Due.{due_on, due_seal, due_call}
 use Rattle.cut_law.specs.Law.{pool_with}
 use Rattle.cut_law.proofs.Misses.{view_one}
-use Rattle.cut_law.proofs.Dues.{owes_behind, empty_behind}
+use Rattle.cut_law.proofs.Dues.{owes_after, empty_after}
 use Rattle.cut_law.proofs.Cuts.{attempt, none, cut_call, call_at_rest}
 use Rattle.cut_law.proofs.Cleans.{cut_clean}
 use Rattle.cut_law.proofs.Redoes.{cut_redo}
 use Rattle.pool_workers.specs.declared.task.Task.TheVariants.{Begun}
 use Rattle.pool_workers.specs.Compartment.{cache_in}
 use Rattle.workers_law.specs.CutTurns.{CutTurnsLaw, CutPiecesLaw}
-use Rattle.workers_law.specs.Fate.{fate_of, logs_of}
+use Rattle.workers_law.specs.Fate.{fate_of, task_logs}
 use Rattle.workers_law.proofs.Compartments.{compartment_images}
-use Rattle.workers_law.proofs.Standings.{shown_images}
+use Rattle.workers_law.proofs.Stands.{shown_images}
 
 module _ (image : Image) (tx : ℕ) (args : List ℤ) (c : Cache) (one : Words) (n : ℕ) (end : End)
     (es : List Effect) (super : Words)
@@ -46,11 +46,10 @@ module _ (image : Image) (tx : ℕ) (args : List ℤ) (c : Cache) (one : Words) 
             (heap_in image.parts.sizes c) es;
         fate = Some end;
         steps = suc (length es);
-        records =
-            records_end 0 es;
+        records = records_end 0 es;
       }
   owes =
-      owes_behind image tx args c n good.attempt end es tx_fits few n_fits a_fits
+      owes_after image tx args c n good.attempt end es tx_fits few n_fits a_fits
       (view_one c one only 17 ∙ good.done)
       (attempt image super tx args c one n end es tx_fits few n_fits only good a_fits empty ran
       sound)
@@ -59,7 +58,7 @@ module _ (image : Image) (tx : ℕ) (args : List ℤ) (c : Cache) (one : Words) 
 
   none_left : count_in image.parts.sizes (view (play c (due_seal tx args c))) ≡ 0
   none_left =
-      empty_behind image tx args c n good.attempt end es tx_fits few n_fits a_fits
+      empty_after image tx args c n good.attempt end es tx_fits few n_fits a_fits
       (view_one c one only 17 ∙ good.done)
       (attempt image super tx args c one n end es tx_fits few n_fits only good a_fits empty ran
       sound)
@@ -69,7 +68,7 @@ module _ (image : Image) (tx : ℕ) (args : List ℤ) (c : Cache) (one : Words) 
   pub fate : fate_of image (Begun tx args (start image tx args)) c ≡ end
   fate = ap (λ (x : Due). end_of x.fate) owes
 
-  pub logs : logs_of image (Begun tx args (start image tx args)) c ≡ records_end 0 es
+  pub logs : task_logs image (Begun tx args (start image tx args)) c ≡ records_end 0 es
   logs = ap₂ (λ (x : Due) (m : ℕ). x.records + 0 - m) owes none_left ∙ plain (records_end 0 es)
     where
       plain : (r : ℕ) → r + 0 - 0 ≡ r

@@ -1,4 +1,4 @@
--- What a transaction comes to stays so turn by turn.
+-- The end of a transaction stays the same turn by turn.
 use Rattle.std.proofs.Common.{◌≡◌, ℕ, zero, suc, ◌+◌, ◌-◌, ◌<◌, ◌≤◌, ◌==◌, if◌then◌else◌, Bool, false, List, ℤ, Option, Some, None, ne_eqb, refl, sym, ap, ap₂, ◌∙◌, subst, arith}
 use Rattle.cache_model.specs.Event.{CacheEvent}
 use Rattle.cache_model.specs.Cache.{Words, Cache, view}
@@ -11,19 +11,21 @@ use Rattle.pm_machine.specs.declared.effect.End.{End}
 use Rattle.pm_machine.specs.declared.effect.End.TheVariants.{Trapped}
 use Rattle.pm_machine.specs.declared.image.Image.{Image}
 use Rattle.pm_machine.specs.Effects.{events_of, records_past}
-use Rattle.pm_machine.specs.Machine.{State, Outcome, Goes, Ends, step}
-use Rattle.pm_machine.specs.Runs.{Due, heap_in, due, end_of, owing, Keeps}
+use Rattle.pm_machine.specs.Machine.{State, StepOutcome, Goes, Ends, step}
+use Rattle.pm_machine.specs.Runs.{Due, heap_in, due, end_of, owing}
+use Rattle.pm_machine.specs.inside.Runs.{StepKeeps}
 use Rattle.pm_machine.proofs.Range.{keeps_step}
 use Rattle.pool_layout.specs.Sizes.{heap_words}
 use Rattle.tx_run.specs.Due.{due_on, due_seal}
 use Rattle.pool_workers.specs.declared.task.Task.{Task}
 use Rattle.pool_workers.specs.declared.task.Task.TheVariants.{Begun, Running, Ending, Cut}
 use Rattle.pool_workers.specs.Task.{going, stepped_task, events_in, piece_of, task_past, end_answer, answer_past, ticks_of, IsTask, IsUncut}
-use Rattle.workers_law.specs.Fate.{fate_of, logs_of, steps_of, FateLaw}
-use Rattle.workers_law.proofs.Standings.{same_due, same_play, same_seal}
+use Rattle.workers_law.specs.Fate.{fate_of, task_logs, task_steps, FateLaw}
+use Rattle.workers_law.proofs.Stands.{same_due, same_play, same_seal}
 
 abbrev Comes : Image → Task → Cache → End → (r m : ℕ) → Type 0
-Comes image t c e r m = (fate_of image t c ≡ e) × (logs_of image t c ≡ r) × (steps_of image t c ≡ m)
+Comes image t c e r m = (fate_of image t c ≡ e) × (task_logs image t c ≡ r)
+    × (task_steps image t c ≡ m)
 
 going_comes : (image : Image) (s : State) (a n k : ℕ) (c : Cache) →
     Comes image (going s a n k) c (end_of (due image a k n s c).fate)
@@ -46,8 +48,8 @@ past_logs (Flushes p) r l n = refl
 past_logs Fences r l n = refl
 past_logs Quiet r l n = refl
 
-step_comes : (image : Image) (s : State) (a n k : ℕ) (c : Cache) (o : Outcome) →
-    Keeps image.parts.sizes.records (heap_words image.parts.sizes) n s.logged o →
+step_comes : (image : Image) (s : State) (a n k : ℕ) (c : Cache) (o : StepOutcome) →
+    StepKeeps image.parts.sizes.records (heap_words image.parts.sizes) n s.logged o →
     let x = owing n (events_of image.parts.sizes a n (heap_in image.parts.sizes c))
     (λ e t. due image a k (records_past n e) t
     (play c (events_of image.parts.sizes a n (heap_in image.parts.sizes c) e))) o in
@@ -70,11 +72,11 @@ step_comes image s a n k c (Goes e t) keeps =
     pred : (j : ℕ) → j ≡ suc j - 1
     pred j = omega arith
 
--- what the task is after its piece, of those that go on
+-- the task after its piece, for tasks that go on
 past_comes : (image : Image) (t : Task) (c : Cache) (u : Task) → IsTask image t → IsUncut t →
     task_past image t c ≡ Some u →
-    Comes image u (play c (piece_of image t c)) (fate_of image t c) (logs_of image t c)
-    (steps_of image t c - ticks_of t)
+    Comes image u (play c (piece_of image t c)) (fate_of image t c) (task_logs image t c)
+    (task_steps image t c - ticks_of t)
 past_comes image (Begun tx args s) c u task uncut is =
     let b = play c (due_seal tx args c) in
     let z = image.parts.sizes in
@@ -133,8 +135,8 @@ same_begun image tx args s c d same =
     )
 
 same_fate : (image : Image) (t : Task) (c d : Cache) → view c ≡ view d →
-    (fate_of image t c ≡ fate_of image t d) × (logs_of image t c ≡ logs_of image t d)
-    × (steps_of image t c ≡ steps_of image t d)
+    (fate_of image t c ≡ fate_of image t d) × (task_logs image t c ≡ task_logs image t d)
+    × (task_steps image t c ≡ task_steps image t d)
 same_fate image (Begun tx args s) c d same =
     let b = same_begun image tx args s c d same in (
       ap (λ (x : Due). end_of x.fate) b.0,
@@ -151,26 +153,26 @@ same_fate image (Ending end l) c d same = (refl, refl, refl)
 same_fate image (Cut p) c d same = (refl, refl, refl)
 
 last_fate : (image : Image) (t : Task) (c : Cache) → task_past image t c ≡ None →
-    answer_past t ≡ end_answer (fate_of image t c) (logs_of image t c)
+    answer_past t ≡ end_answer (fate_of image t c) (task_logs image t c)
 last_fate image (Begun tx args s) c is = absurd (cc)
 last_fate image (Running s a n k) c is = absurd (cc)
 last_fate image (Ending end l) c is = refl
 last_fate image (Cut p) c is = absurd (cc)
 
--- a run has at least one instruction where one may come
+-- a run has at least one instruction if one is allowed
 some_steps : (image : Image) (s : State) (a n k : ℕ) (c : Cache) → 0 < k →
     0 < (due image a k n s c).steps
 some_steps image s a n zero c some = absurd (let none : ⊥ = omega arith in none)
 some_steps image s a n (suc k) c some = by_step (step image n s (heap_in image.parts.sizes c))
   where
-    by_step : (o : Outcome) →
+    by_step : (o : StepOutcome) →
         0 < (owing n (events_of image.parts.sizes a n (heap_in image.parts.sizes c))
         (λ e t. due image a k (records_past n e) t
         (play c (events_of image.parts.sizes a n (heap_in image.parts.sizes c) e))) o).steps
     by_step (Goes e t) = omega arith
     by_step (Ends end) = omega arith
 
-enough : (image : Image) (t : Task) (c : Cache) → IsTask image t → ticks_of t ≤ steps_of image t c
+enough : (image : Image) (t : Task) (c : Cache) → IsTask image t → ticks_of t ≤ task_steps image t c
 enough image (Begun tx args s) c task = omega arith
 enough image (Running s a n k) c task = some_steps image s a n k c task.4
 enough image (Ending end l) c task = omega arith

@@ -4,10 +4,11 @@ use Rattle.std.specs.Int.{cast_signed}
 use Rattle.cache_model.specs.Event.{CacheEvent, Store, Flush, Fence}
 use Rattle.cache_model.specs.Cache.{Words, Cache, view}
 use Rattle.cache_model.specs.Play.{play}
+use Rattle.pool_layout.specs.declared.places.TheConstants.{DONE, FUNCTION, SEAL}
 use Rattle.pool_layout.specs.declared.limits.Sizes.{Sizes}
 use Rattle.pool_layout.specs.Sizes.{heap_words, pool_lines}
 use Rattle.clobber_log.specs.Logs.{attempt_in, count_in}
-use Rattle.args_log.specs.Next.{next}
+use Rattle.args_log.specs.Next.{number_after}
 use Rattle.args_log.specs.Retire.{retire_events, mark_events}
 use Rattle.args_log.specs.Seal.{stores_from, flushes_from, payload_lines, payload_events, unsealed_events, sealing_events, seal_events}
 use Rattle.pm_machine.specs.declared.effect.Effect.{Effect}
@@ -16,14 +17,15 @@ use Rattle.pm_machine.specs.declared.effect.End.{End}
 use Rattle.pm_machine.specs.declared.effect.End.TheVariants.{Halted, Trapped}
 use Rattle.pm_machine.specs.declared.image.Image.{Image}
 use Rattle.pm_machine.specs.Effects.{events_of, records_past}
-use Rattle.pm_machine.specs.Machine.{State, Outcome, Goes, Ends, step, start}
-use Rattle.pm_machine.specs.Runs.{heap_in, AreLines, IsInRange, Keeps, due, end_of, owing}
+use Rattle.pm_machine.specs.Machine.{State, StepOutcome, Goes, Ends, step, start}
+use Rattle.pm_machine.specs.Runs.{heap_in, AreLines, due, end_of, owing}
+use Rattle.pm_machine.specs.inside.Runs.{IsInRange, StepKeeps}
 use Rattle.pm_machine.proofs.Range.{keeps_step}
 use Rattle.tx_run.specs.Due.{due_on, tail_events, due_run, due_seal, due_call}
 use Rattle.recovery.specs.Due.{due_clean}
 use Rattle.pool_workers.specs.declared.task.Task.{Task}
 use Rattle.pool_workers.specs.declared.task.Task.TheVariants.{Begun, Running, Ending, Cut}
-use Rattle.workers_law.specs.Inside.{InsideLaw}
+use Rattle.workers_law.specs.WithinPool.{InsideLaw}
 use Rattle.workers_law.specs.Interleaved.{AreInside}
 use Rattle.pool_workers.specs.Task.{events_in, piece_of, IsTask}
 
@@ -49,13 +51,13 @@ inside_seal : (n : ℕ) (f : ℤ) (args : List ℤ) (k : ℤ) → 6 ≤ n → le
     AreInside n (seal_events f args k)
 unfolding seal_events unsealed_events payload_events sealing_events
 inside_seal n f args k le m =
-    inside_append n ((stores_from 24 (f ∷ args)
-    ++ (flushes_from 3 (payload_lines (length args)) ++ Fence ∷ [])) ++ Store 47 k ∷ [])
+    inside_append n ((stores_from FUNCTION (f ∷ args)
+    ++ (flushes_from 3 (payload_lines (length args)) ++ Fence ∷ [])) ++ Store SEAL k ∷ [])
     (Flush 5 ∷ Fence ∷ [])
     (inside_append n
-    (stores_from 24 (f ∷ args)
-    ++ (flushes_from 3 (payload_lines (length args)) ++ Fence ∷ [])) (Store 47 k ∷ [])
-    (inside_append n (stores_from 24 (f ∷ args))
+    (stores_from FUNCTION (f ∷ args)
+    ++ (flushes_from 3 (payload_lines (length args)) ++ Fence ∷ [])) (Store SEAL k ∷ [])
+    (inside_append n (stores_from FUNCTION (f ∷ args))
     (flushes_from 3 (payload_lines (length args)) ++ Fence ∷ [])
     (inside_stores n 24 (f ∷ args) (omega arith))
     (inside_append n (flushes_from 3 (payload_lines (length args))) (Fence ∷ [])
@@ -79,14 +81,14 @@ unfolding retire_events mark_events
 inside_tail z (Halted v) c = (omega arith, (omega arith, (omega arith, (omega arith, (tt, tt)))))
 inside_tail z (Trapped k) c = (omega arith, (omega arith, (tt, tt)))
 
-inside_step : (z : Sizes) (a n l : ℕ) (h : Words) (o : Outcome) →
-    Keeps z.records (heap_words z) n l o →
+inside_step : (z : Sizes) (a n l : ℕ) (h : Words) (o : StepOutcome) →
+    StepKeeps z.records (heap_words z) n l o →
     AreInside (pool_lines z) (events_in (events_of z a n h) o)
 inside_step z a n l h (Goes e t) keeps = inside_effect z a n h e keeps.0
 inside_step z a n l h (Ends end) keeps = tt
 
-inside_owing : (image : Image) (a k n : ℕ) (s : State) (c : Cache) (o : Outcome) →
-    Keeps image.parts.sizes.records (heap_words image.parts.sizes) n s.logged o →
+inside_owing : (image : Image) (a k n : ℕ) (s : State) (c : Cache) (o : StepOutcome) →
+    StepKeeps image.parts.sizes.records (heap_words image.parts.sizes) n s.logged o →
     ((m : ℕ) (t : State) (d : Cache) → AreLines (heap_words image.parts.sizes) t.dirty →
     AreInside (pool_lines image.parts.sizes) (due image a k m t d).events) →
     AreInside (pool_lines image.parts.sizes)
@@ -119,7 +121,7 @@ inside_call image tx args c =
     let c1 = play c (due_seal tx args c) in
     let s = start image tx args in
     inside_append (pool_lines z) (due_seal tx args c) (due_run image s c1)
-    (inside_seal (pool_lines z) (cast_signed w64 tx) (take 22 args) (next (view c 17))
+    (inside_seal (pool_lines z) (cast_signed w64 tx) (take 22 args) (number_after (view c DONE))
     (omega arith) (few 22 args))
     (inside_append (pool_lines z) (due_on image s c1).events
     (tail_events (end_of (due_on image s c1).fate) (play c1 (due_on image s c1).events))
@@ -130,7 +132,7 @@ inside_piece : (image : Image) (t : Task) (c : Cache) → IsTask image t →
     AreInside (pool_lines image.parts.sizes) (piece_of image t c)
 inside_piece image (Begun tx args s) c task =
     inside_seal (pool_lines image.parts.sizes) (cast_signed w64 tx) (take 22 args)
-    (next (view c 17)) (omega arith) (few 22 args)
+    (number_after (view c DONE)) (omega arith) (few 22 args)
 inside_piece image (Running s a n k) c task =
     let h = heap_in image.parts.sizes c in
     inside_step image.parts.sizes a n s.logged h (step image n s h)

@@ -10,13 +10,13 @@ use Rattle.tx_run.specs.Due.{due_call}
 use Rattle.pool_workers.specs.declared.answer.TurnAnswer.{TurnAnswer}
 use Rattle.pool_workers.specs.declared.answer.TurnAnswer.TheVariants as answer
 use Rattle.pool_workers.specs.declared.task.Task.{Task}
-use Rattle.pool_workers.specs.Compartment.{first_of}
+use Rattle.pool_workers.specs.Compartment.{first_line}
 use Rattle.pool_workers.specs.Crew.{Tasks, task_at, compartment, TurnOf}
-use Rattle.workers_law.specs.Interleaving.{Start, Turns, StandsFor, AllStand, InterleavingLaw}
-use Rattle.workers_law.specs.Standing.{ShowsSome, Stands, StandsOr}
+use Rattle.workers_law.specs.Interleaving.{TaskStart, Turns, StandsFor, AllStand, InterleavingLaw}
+use Rattle.workers_law.specs.Standing.{ShowsSome, TaskStands, StandsOr}
 use Rattle.pool_workers.specs.Task.{IsTask, IsTaskOr, IsGoing, WentWhole, Turned}
 use Rattle.workers_law.proofs.Compartments.{apart}
-use Rattle.workers_law.proofs.Standings.{turns, shows_fence, shown_images}
+use Rattle.workers_law.proofs.Stands.{turns, shows_fence, shown_images}
 use Rattle.workers_law.specs.Fenced.{fenced_cache}
 use Rattle.workers_law.specs.Left.{left_or}
 use Rattle.workers_law.proofs.Asides.{aside_in}
@@ -32,26 +32,26 @@ going_whole answer.Failed image t o d b going h = absurd going
 going_whole answer.NoMemory image t o d b going h = absurd going
 
 module _ (image : Image) where
-  waits_for : (s : Option Start) (o : Option Task) (c : Cache) (k : Bool) →
+  waits_for : (s : Option TaskStart) (o : Option Task) (c : Cache) (k : Bool) →
       StandsFor image s o c → StandsFor image s o (fenced_cache k c)
   waits_for None o c k h = h
   waits_for (Some s) None c k h = shows_fence k (due_call image s.tx s.args s.cache) [] s.cache c h
   waits_for (Some s) (Some t) c k h = (turns image s.tx s.args s.cache).2 t c k h
 
-  goes_for : (s : Option Start) (a : TurnAnswer) (t : Task) (o : Option Task) (d b : Device) →
+  goes_for : (s : Option TaskStart) (a : TurnAnswer) (t : Task) (o : Option Task) (d b : Device) →
       IsTask image t → StandsFor image s (Some t) d.cache → WentWhole a image t o d b →
       StandsFor image s o b.cache
   goes_for None a t o d b task h went = h
   goes_for (Some s) a t o d b task h went =
       (turns image s.tx s.args s.cache).1 a t o d b task h went
 
-  some_shows : (s : Start) (o : Option Task) (c : Cache) →
+  some_shows : (s : TaskStart) (o : Option Task) (c : Cache) →
       StandsOr image s.tx s.args s.cache o c →
       ShowsSome (due_call image s.tx s.args s.cache) s.cache c
   some_shows s o c h = record { left = left_or image o c; shows = h }
 
-  turned_shows : (s : Start) (a : TurnAnswer) (t : Task) (o : Option Task) (d b : Device) →
-      IsTask image t → Stands image s.tx s.args s.cache t d.cache → Turned a image t o d b →
+  turned_shows : (s : TaskStart) (a : TurnAnswer) (t : Task) (o : Option Task) (d b : Device) →
+      IsTask image t → TaskStands image s.tx s.args s.cache t d.cache → Turned a image t o d b →
       ShowsSome (due_call image s.tx s.args s.cache) s.cache b.cache
   turned_shows s answer.Idle t o d b task h turned = absurd turned
   turned_shows s answer.Went t o d b task h turned =
@@ -70,7 +70,7 @@ module _ (image : Image) where
   turned_shows s answer.NoMemory t o d b task h turned =
       (turns image s.tx s.args s.cache).3 NoMemory t d b task h turned
 
-  module _ (starts : ℕ → Option Start) (worker : ℕ) (a : TurnAnswer) (ts us : Tasks)
+  module _ (starts : ℕ → Option TaskStart) (worker : ℕ) (a : TurnAnswer) (ts us : Tasks)
       (d b : Device) (all : AllStand image starts ts d)
       (turn : TurnOf image worker a ts us d b) where
     own_task : IsTask image turn.task
@@ -85,8 +85,8 @@ module _ (image : Image) where
         (compartment image j b).cache
         ≡ fenced_cache turn.aside.fenced (compartment image j d).cache
     other_cache j ne =
-        aside_in (first_of image.parts.sizes worker) (pool_lines image.parts.sizes)
-        (first_of image.parts.sizes j)
+        aside_in (first_line image.parts.sizes worker) (pool_lines image.parts.sizes)
+        (first_line image.parts.sizes j)
         (pool_lines image.parts.sizes) turn.aside.fenced d.cache b.cache
         (apart (pool_lines image.parts.sizes) worker j ne) turn.aside.others
 
@@ -115,7 +115,7 @@ module _ (image : Image) where
         (subst (IsTaskOr image) (sym (turn.others j ne)) (all j).0, other_stands j ne))
         (cases_eq j worker)
 
-    shows : (j : ℕ) (s : Start) → starts j ≡ Some s →
+    shows : (j : ℕ) (s : TaskStart) → starts j ≡ Some s →
         ShowsSome (due_call image s.tx s.args s.cache) s.cache (compartment image j b).cache
     shows j s is = ⊎_elim
         (λ (e : j ≡ worker). subst
@@ -123,14 +123,14 @@ module _ (image : Image) where
         (compartment image i b).cache) (sym e)
         (turned_shows s a turn.task (task_at us worker) (compartment image worker d)
         (compartment image worker b) own_task
-        (subst (λ (o : Option Start). StandsFor image o (Some turn.task)
+        (subst (λ (o : Option TaskStart). StandsFor image o (Some turn.task)
         (compartment image worker d).cache) (ap starts (sym e) ∙ is) own_stands) turn.turned))
         (λ (ne : j ≢ worker). some_shows s (task_at us j) (compartment image j b).cache
-        (subst (λ (o : Option Start). StandsFor image o (task_at us j)
+        (subst (λ (o : Option TaskStart). StandsFor image o (task_at us j)
         (compartment image j b).cache) is (other_stands j ne)))
         (cases_eq j worker)
 
-  turns_stand : (starts : ℕ → Option Start) (workers : List ℕ) (ts us : Tasks) (d b : Device) →
+  turns_stand : (starts : ℕ → Option TaskStart) (workers : List ℕ) (ts us : Tasks) (d b : Device) →
       AllStand image starts ts d → Turns image workers ts d us b → AllStand image starts us b
   turns_stand starts [] ts us d b all h =
       subst (λ (x : Tasks). AllStand image starts x b) (sym h.0)

@@ -1,11 +1,11 @@
 pub mod Asides
 pub mod Compartments
-pub mod Standings
+pub mod Stands
 pub mod Fates
 pub mod CutsTurned
 pub mod Powers
-pub mod Rising
-pub mod Sealings
+pub mod FaultCounts
+pub mod Phases
 pub mod Insides
 pub mod AsCalls
 pub mod Interleavings

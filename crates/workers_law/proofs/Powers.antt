@@ -1,5 +1,5 @@
--- What a power cut, a fence and a creation leave of a compartment.
-use Rattle.std.proofs.Common.{◌≡◌, ◌≢◌, ⊎_elim, ℕ, zero, suc, ◌+◌, ◌-◌, ◌*◌, ◌/◌, ◌<◌, ◌≤◌, ◌==◌, nat_lt, cond, Bool, true, false, List, [], ◌∷◌, ◌++◌, append-nil, map, length, drop, slice_index_or, Option, Some, None, ℤ, pos, refl, sym, ap, ◌∙◌, subst, arith, eq-eqb, ne_eqb, length-append}
+-- The effect of a power cut, a fence and a creation on a compartment.
+use Rattle.std.proofs.Common.{◌≡◌, ◌≢◌, ⊎_elim, ℕ, zero, suc, ◌+◌, ◌-◌, ◌*◌, ◌/◌, ◌<◌, ◌≤◌, ◌==◌, nat_lt, cond, Bool, true, false, List, [], ◌∷◌, ◌++◌, append-nil, map, length, drop, slice_index_or, Option, Some, None, ℤ, refl, sym, ap, ◌∙◌, subst, arith, eq-eqb, ne_eqb, length-append}
 use Rattle.std.proofs.lemmas.Bool.{cases_eq, ltb-true, ltb-false}
 use Rattle.cache_model.specs.Event.{CacheEvent, Store, Flush, Fence}
 use Rattle.cache_model.specs.Cache.{Words, Line, Cache, blank_line, blank, versions, view}
@@ -16,13 +16,13 @@ use Rattle.pmem.specs.Device.{blanked}
 use Rattle.pmem.proofs.Refused.{all_cache}
 use Rattle.pool_layout.specs.declared.limits.Sizes.{Sizes}
 use Rattle.pool_layout.specs.Sizes.{pool_lines}
-use Rattle.crash_law.specs.Law.{IsAtRest, IsMarkIn}
-use Rattle.pool_workers.specs.Compartment.{words_from, line_from, cache_in, lifted, IsInside, first_of}
-use Rattle.workers_law.specs.Interleaved.{Step, steps_by, whole_events, own_events, seen_events}
+use Rattle.crash_law.specs.Law.{IsAtRest, IsMarkIn, AreMarked}
+use Rattle.pool_workers.specs.Compartment.{words_from, line_counted_from, cache_in, lifted, IsInside, first_line}
+use Rattle.workers_law.specs.Interleaved.{WorkerEvent, steps_by, whole_events, own_events, seen_events}
 use Rattle.pool_workers.specs.Making.{sizes_events, digest_events, creation_events, lifted_all, creations}
-use Rattle.workers_law.specs.Power.{picks_in, PowerLaw, FencedLaw, MarksLaw, CreatedLaw}
+use Rattle.workers_law.specs.Power.{picks_in, PowerLaw, FencedLaw, MarksLaw, CompartmentsCreatedLaw}
 use Rattle.workers_law.proofs.Compartments.{AllInside, seen_cache, seen_fenced, own_by}
-use Rattle.workers_law.specs.Fenced.{fenced_cache, AreMarked}
+use Rattle.workers_law.specs.Fenced.{fenced_cache}
 use Rattle.pool_workers.proofs.Windows.{map_push}
 use Rattle.workers_law.proofs.Asides.{marked_in}
 
@@ -34,20 +34,17 @@ index_map f (v ∷ vs) zero d = refl
 index_map f (v ∷ vs) (suc k) d = index_map f vs k d
 
 index_in : (f k : ℕ) (l : Line) →
-    slice_index_or (versions (line_from f l)) k (words_from f l.newest)
+    slice_index_or (versions (line_counted_from f l)) k (words_from f l.newest)
     ≡ words_from f (slice_index_or (versions l) k l.newest)
 index_in f k l =
     ap (λ (vs : List Words). slice_index_or vs k (words_from f l.newest))
     (sym (map_push f l.older l.newest)) ∙ index_map f (versions l) k l.newest
 
 kept_in : (f : ℕ) (rest : Rest) (pick : Option ℕ) (l : Line) →
-    kept rest pick (line_from f l) ≡ words_from f (kept rest pick l)
+    kept rest pick (line_counted_from f l) ≡ words_from f (kept rest pick l)
 kept_in f Old None l = index_in f 0 l
 kept_in f New None l = refl
 kept_in f rest (Some k) l = index_in f k l
-
-zero_words : Words
-zero_words p = pos 0
 
 kept_blank : (rest : Rest) (pick : Option ℕ) → kept rest pick blank_line ≡ blank_line.newest
 kept_blank Old None = refl
@@ -88,17 +85,17 @@ picked_in f n l (p ∷ ps) lt =
     (picked_in f n l ps lt)
 
 left_in : (f : ℕ) (rest : Rest) (pick : Option ℕ) (l : Line) →
-    line_from f (left_line rest pick l) ≡ left_line rest pick (line_from f l)
+    line_counted_from f (left_line rest pick l) ≡ left_line rest pick (line_counted_from f l)
 left_in f rest pick l =
     λ i. record { older = []; newest = sym (kept_in f rest pick l) i; mark = None }
 
 power_case : (f n l : ℕ) (c : Cache) (rest : Rest) (ps : List Pick) (b : Bool) → nat_lt l n ≡ b →
-    cond b (line_from f (left_line rest (picked ps (f + l)) (c (f + l)))) blank_line
+    cond b (line_counted_from f (left_line rest (picked ps (f + l)) (c (f + l)))) blank_line
     ≡ left_line rest (picked (picks_in f n ps) l)
-    (cond b (line_from f (c (f + l))) blank_line)
+    (cond b (line_counted_from f (c (f + l))) blank_line)
 power_case f n l c rest ps true is =
     left_in f rest (picked ps (f + l)) (c (f + l))
-    ∙ ap (λ (o : Option ℕ). left_line rest o (line_from f (c (f + l))))
+    ∙ ap (λ (o : Option ℕ). left_line rest o (line_counted_from f (c (f + l))))
     (sym (picked_in f n l ps (ltb-true l n is)))
 power_case f n l c rest ps false is =
     λ i. record {
@@ -196,12 +193,12 @@ marks = ((λ l. tt), apply_marked, left_marked, marked_in)
 
 -- a new pool of compartments
 
-creation_steps : Sizes → List ℤ → (worker n : ℕ) → List Step
+creation_steps : Sizes → List ℤ → (worker n : ℕ) → List WorkerEvent
 creation_steps s digest worker zero = []
 creation_steps s digest worker (suc n) =
     steps_by worker (creation_events s digest) (creation_steps s digest (suc worker) n)
 
-whole_by : (n w : ℕ) (es : List CacheEvent) (rest : List Step) →
+whole_by : (n w : ℕ) (es : List CacheEvent) (rest : List WorkerEvent) →
     whole_events n (steps_by w es rest) ≡ lifted_all (n * w) es ++ whole_events n rest
 whole_by n w [] rest = refl
 whole_by n w (e ∷ es) rest =
@@ -212,7 +209,7 @@ creations_whole : (s : Sizes) (digest : List ℤ) (w n : ℕ) →
 unfolding creation_steps
 creations_whole s digest w zero = refl
 creations_whole s digest w (suc n) =
-    ap (λ (es : List CacheEvent). lifted_all (first_of s w) (creation_events s digest) ++ es)
+    ap (λ (es : List CacheEvent). lifted_all (first_line s w) (creation_events s digest) ++ es)
     (creations_whole s digest (suc w) n)
     ∙ sym (whole_by (pool_lines s) w (creation_events s digest) (creation_steps s digest (suc w) n))
 
@@ -271,7 +268,8 @@ events_in_it s digest = (
   ),
 )
 
-by_inside : (n w : ℕ) (es : List CacheEvent) (rest : List Step) → AreIn n es → AllInside n rest →
+by_inside : (n w : ℕ) (es : List CacheEvent) (rest : List WorkerEvent) → AreIn n es
+    → AllInside n rest →
     AllInside n (steps_by w es rest)
 unfolding AreIn
 by_inside n w [] rest lt more = more
@@ -285,7 +283,7 @@ steps_inside s digest w (suc n) =
     by_inside (pool_lines s) w (creation_events s digest) (creation_steps s digest (suc w) n)
     (events_in_it s digest) (steps_inside s digest (suc w) n)
 
-blank_case : (f : ℕ) (b : Bool) → cond b (line_from f blank_line) blank_line ≡ blank_line
+blank_case : (f : ℕ) (b : Bool) → cond b (line_counted_from f blank_line) blank_line ≡ blank_line
 blank_case f true = refl
 blank_case f false = refl
 
@@ -293,7 +291,7 @@ blank_in : (f n : ℕ) → cache_in f n blank ≡ blank
 unfolding cache_in
 blank_in f n = λ i l. blank_case f (nat_lt l n) i
 
-pub created : CreatedLaw
+pub created : CompartmentsCreatedLaw
 created s digest count d b all i lt =
     let steps = creation_steps s digest 0 count in
     let n = pool_lines s in
@@ -304,7 +302,7 @@ created s digest count d b all i lt =
           ∙ own_creation s digest i 0 count (omega arith) (omega arith);
       fenced = seen_fenced i steps;
       now_is =
-          ap (cache_in (first_of s i) n)
+          ap (cache_in (first_line s i) n)
           (all_cache (creations s digest 0 count) (blanked (n * count) d) b all
           ∙ ap (play blank) (creations_whole s digest 0 count))
           ∙ seen_cache n i steps blank (steps_inside s digest 0 count)

@@ -1,6 +1,6 @@
--- A transaction that was played turn by turn is a call: what its last turn answers is what `call`
--- answers from the compartment where it began, whatever fences came between. So all that is known
--- of calls is known of it.
+-- A transaction that was played turn by turn is a call: its last turn answers what `call` answers
+-- from the compartment in which it began, whatever fences came in between. So everything known of
+-- calls is known of it.
 use Rattle.std.specs.Prelude.{ℕ, ◌+◌, ◌≡◌, true, List, None, ℤ}
 use Rattle.cache_model.specs.Cache.{Cache}
 use Rattle.cache_model.specs.Play.{play}
@@ -14,7 +14,7 @@ use Rattle.tx_run.specs.Called.{Called}
 use Rattle.tx_run.specs.Due.{due_call}
 use Rattle.pool_workers.specs.declared.task.Task.{Task}
 use Rattle.pool_workers.specs.declared.task.Task.TheVariants.{Begun}
-use Rattle.workers_law.specs.Fate.{fate_of, logs_of, steps_of}
+use Rattle.workers_law.specs.Fate.{fate_of, task_logs, task_steps}
 
 -- a device with this cache that refuses nothing
 abbrev pub quiet_on : ℕ → Cache → Device
@@ -28,17 +28,17 @@ quiet_on lines c = record {
 }
 
 -- a transaction at its start
-abbrev pub begun : Image → (tx : ℕ) → List ℤ → Task
-begun image tx args = Begun tx args (start image tx args)
+abbrev pub begun_task : Image → (tx : ℕ) → List ℤ → Task
+begun_task image tx args = Begun tx args (start image tx args)
 
 abbrev pub CalledLaw : Type 0
 CalledLaw =
     (image : Image) (tx : ℕ) (args : List ℤ) (lines : ℕ) (c : Cache) (k : ℕ) →
-    ((v : ℤ) → fate_of image (begun image tx args) c ≡ Halted v →
-    Called (call.Done v (logs_of image (begun image tx args) c)) image tx args
+    ((v : ℤ) → fate_of image (begun_task image tx args) c ≡ Halted v →
+    Called (call.Done v (task_logs image (begun_task image tx args) c)) image tx args
     (quiet_on lines c) (quiet_on lines (play c (due_call image tx args c)))
-    k (k + steps_of image (begun image tx args) c))
-    × ((t : TrapKind) → fate_of image (begun image tx args) c ≡ Trapped t →
+    k (k + task_steps image (begun_task image tx args) c))
+    × ((t : TrapKind) → fate_of image (begun_task image tx args) c ≡ Trapped t →
     Called (call.Trap t) image tx args
     (quiet_on lines c) (quiet_on lines (play c (due_call image tx args c)))
-    k (k + steps_of image (begun image tx args) c))
+    k (k + task_steps image (begun_task image tx args) c))

@@ -6,51 +6,54 @@ use Rattle.cache_model.specs.Event.{CacheEvent}
 use Rattle.cache_model.specs.Cache.{Words, Cache}
 use Rattle.cache_model.specs.Play.{apply, play}
 use Rattle.cache_model.specs.Image.{IsImage}
-use Rattle.crash_law.specs.Law.{IsAtRest, IsLeft, IsFenced}
+use Rattle.crash_law.specs.Law.{IsAtRest, IsLeft, IsFenced, AreMarked}
 use Rattle.pool_workers.specs.Compartment.{cache_in, lifted, IsInside, AreAside}
-use Rattle.workers_law.specs.Fenced.{AreApart, fenced_cache, AreMarked}
-use Rattle.workers_law.specs.Interleaved.{Step, Piece, steps_of, whole_events, own_events, seen_events, AreInside, IsPrefix, Interleaves}
+use Rattle.workers_law.specs.Fenced.{AreApart, fenced_cache}
+use Rattle.workers_law.specs.Interleaved.{WorkerEvent, Piece, worker_events, whole_events, own_events, seen_events, AreInside, IsPrefix, Interleaves}
 
--- The first events of some interleaving of pieces; each worker's due list lies in its compartment.
-pub record AreFirst (n : ℕ) (due : ℕ → List CacheEvent) (first : List Step) : Type 0 where
+-- The first events of some interleaving of pieces; each worker's due list lies within its
+-- compartment.
+pub record AreFirst (n : ℕ) (due : ℕ → List CacheEvent) (first : List WorkerEvent) : Type 0 where
   pub pieces : List Piece
-  pub rest : List Step
+  pub rest : List WorkerEvent
   pub inside : (i : ℕ) → AreInside n (due i)
   pub interleaves : Interleaves due pieces
-  pub is : first ++ rest ≡ steps_of pieces
+  pub is : first ++ rest ≡ worker_events pieces
 
 -- the compartment of worker i, before any event and after the first ones
-abbrev pub own : (n i : ℕ) → Cache → Cache
-own n i c = cache_in (n * i) n c
+abbrev pub own_compartment : (n i : ℕ) → Cache → Cache
+own_compartment n i c = cache_in (n * i) n c
 
-abbrev pub own_after : (n i : ℕ) → Cache → List Step → Cache
-own_after n i c first = own n i (play c (whole_events n first))
+abbrev pub own_after : (n i : ℕ) → Cache → List WorkerEvent → Cache
+own_after n i c first = own_compartment n i (play c (whole_events n first))
 
 -- every interleaving of pieces, and every prefix of it
 abbrev pub CompartmentLaw : Type 0
 CompartmentLaw =
-    (n : ℕ) (c : Cache) (due : ℕ → List CacheEvent) (first : List Step) → AreFirst n due first →
+    (n : ℕ) (c : Cache) (due : ℕ → List CacheEvent) (first : List WorkerEvent)
+    → AreFirst n due first →
     (i : ℕ) →
     IsPrefix (own_events i first) (due i)
     × IsFenced (own_events i first) (seen_events i first)
-    × (own_after n i c first ≡ play (own n i c) (seen_events i first))
+    × (own_after n i c first ≡ play (own_compartment n i c) (seen_events i first))
 
--- So each image of a compartment is one that a cut of its own due list leaves. Where its whole due
--- list was played, each image is one of those after it, and the compartment is at rest where that
--- would leave it so.
+-- So each image of a compartment is one that a cut of its own due list may leave. If its whole due
+-- list was played, each image is one of those after it, and the compartment is at rest if the list
+-- alone would leave it so.
 abbrev pub CompartmentImagesLaw : Type 0
 CompartmentImagesLaw =
-    (n : ℕ) (c : Cache) (due : ℕ → List CacheEvent) (first : List Step) →
+    (n : ℕ) (c : Cache) (due : ℕ → List CacheEvent) (first : List WorkerEvent) →
     AreMarked c → AreFirst n due first →
     (i : ℕ) →
-    ((image : Words) → IsImage (own_after n i c first) image → IsLeft (own n i c) (due i) image)
+    ((image : Words) → IsImage (own_after n i c first) image
+    → IsLeft (own_compartment n i c) (due i) image)
     × ((image : Words) → own_events i first ≡ due i → IsImage (own_after n i c first) image →
-    IsImage (play (own n i c) (due i)) image)
-    × (own_events i first ≡ due i → IsAtRest (play (own n i c) (due i)) →
+    IsImage (play (own_compartment n i c) (due i)) image)
+    × (own_events i first ≡ due i → IsAtRest (play (own_compartment n i c) (due i)) →
     IsAtRest (own_after n i c first))
 
--- The same for events one at a time: a compartment's own event is that event, of another's events
--- only fences are seen, and no two workers' compartments share a line.
+-- The same for single events: a compartment sees its own events, and of another's events only the
+-- fences; and no two workers' compartments share a line.
 abbrev pub EventLaw : Type 0
 EventLaw =
     ((f n : ℕ) (c : Cache) (e : CacheEvent) → IsInside n e →

@@ -1,4 +1,4 @@
--- What a transaction comes to: the end of its run, and how many LOGs the run has in all.
+-- The fate of a transaction: the end of its run, and the number of LOGs of the whole run.
 use Rattle.std.specs.Prelude.{ℕ, ◌+◌, ◌-◌, ◌≡◌, Some, None}
 use Rattle.cache_model.specs.Cache.{Cache, view}
 use Rattle.cache_model.specs.Play.{play}
@@ -19,32 +19,32 @@ fate_of image (Running s a n k) c = end_of (due image a k n s c).fate
 fate_of image (Ending end l) c = end
 fate_of image (Cut p) c = Trapped Steps
 
-abbrev pub logs_of : Image → Task → Cache → ℕ
-logs_of image (Begun tx args s) c =
+abbrev pub task_logs : Image → Task → Cache → ℕ
+task_logs image (Begun tx args s) c =
     (due_on image s (play c (due_seal tx args c))).records + s.logged
     - count_in image.parts.sizes (view (play c (due_seal tx args c)))
-logs_of image (Running s a n k) c = (due image a k n s c).records + s.logged - n
-logs_of image (Ending end l) c = l
-logs_of image (Cut p) c = 0
+task_logs image (Running s a n k) c = (due image a k n s c).records + s.logged - n
+task_logs image (Ending end l) c = l
+task_logs image (Cut p) c = 0
 
--- how many instructions its turns still have
-abbrev pub steps_of : Image → Task → Cache → ℕ
-steps_of image (Begun tx args s) c = (due_on image s (play c (due_seal tx args c))).steps
-steps_of image (Running s a n k) c = (due image a k n s c).steps
-steps_of image (Ending end l) c = 0
-steps_of image (Cut p) c = 0
+-- the number of instructions that its turns still have
+abbrev pub task_steps : Image → Task → Cache → ℕ
+task_steps image (Begun tx args s) c = (due_on image s (play c (due_seal tx args c))).steps
+task_steps image (Running s a n k) c = (due image a k n s c).steps
+task_steps image (Ending end l) c = 0
+task_steps image (Cut p) c = 0
 
--- A whole turn leaves the end and the LOGs as they are, and takes its own instruction alone. Fences
--- of others leave all three. The last turn answers the end and the LOGs.
+-- A whole turn doesn't change the end and the LOGs, and uses up only its own instruction. Fences of
+-- others change none of the three. The last turn answers the end and the LOGs.
 abbrev pub FateLaw : Type 0
 FateLaw =
     ((image : Image) (t u : Task) (c : Cache) →
     IsTask image t → IsUncut t → task_past image t c ≡ Some u →
     (fate_of image u (play c (piece_of image t c)) ≡ fate_of image t c)
-    × (logs_of image u (play c (piece_of image t c)) ≡ logs_of image t c)
-    × (ticks_of t + steps_of image u (play c (piece_of image t c)) ≡ steps_of image t c))
+    × (task_logs image u (play c (piece_of image t c)) ≡ task_logs image t c)
+    × (ticks_of t + task_steps image u (play c (piece_of image t c)) ≡ task_steps image t c))
     × ((image : Image) (t : Task) (c d : Cache) → view c ≡ view d →
     (fate_of image t c ≡ fate_of image t d)
-    × (logs_of image t c ≡ logs_of image t d) × (steps_of image t c ≡ steps_of image t d))
+    × (task_logs image t c ≡ task_logs image t d) × (task_steps image t c ≡ task_steps image t d))
     × ((image : Image) (t : Task) (c : Cache) → task_past image t c ≡ None →
-    answer_past t ≡ end_answer (fate_of image t c) (logs_of image t c))
+    answer_past t ≡ end_answer (fate_of image t c) (task_logs image t c))

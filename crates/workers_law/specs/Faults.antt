@@ -1,6 +1,6 @@
--- The count of faults never falls in a turn, and `Failed` comes only where it rose.
+-- The count of faults never falls in a turn, and `Failed` is answered only if it rose.
 use Rattle.std.specs.Prelude.{◌≡◌, ◌≤◌, Option}
-use Rattle.pmem.specs.Device.{Device, Rose}
+use Rattle.pmem.specs.Device.{Device, FaultsRose}
 use Rattle.pm_machine.specs.declared.image.Image.{Image}
 use Rattle.pool_workers.specs.declared.answer.TurnAnswer.{TurnAnswer}
 use Rattle.pool_workers.specs.declared.answer.TurnAnswer.TheVariants.{Failed}
@@ -11,4 +11,4 @@ abbrev pub TurnFaults : Type 0
 TurnFaults =
     (a : TurnAnswer) (image : Image) (t : Task) (o : Option Task) (d b : Device) →
     Turned a image t o d b →
-    (d.faults ≤ b.faults) × (a ≡ Failed → Rose d.faults b.faults)
+    (d.faults ≤ b.faults) × (a ≡ Failed → FaultsRose d.faults b.faults)

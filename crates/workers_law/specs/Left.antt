@@ -1,4 +1,4 @@
--- All that a transaction has left of its due list.
+-- The part of a transaction's due list that is left.
 use Rattle.std.specs.Prelude.{ℕ, ◌++◌, List, [], Option, Some, None}
 use Rattle.cache_model.specs.Event.{CacheEvent}
 use Rattle.cache_model.specs.Cache.{Cache}
@@ -10,8 +10,8 @@ use Rattle.tx_run.specs.Due.{tail_events, due_call}
 use Rattle.pool_workers.specs.declared.task.Task.{Task}
 use Rattle.pool_workers.specs.declared.task.Task.TheVariants.{Begun, Running, Ending, Cut}
 
--- what is left of a run with at most k instructions, and its end, with attempt a and n records so
--- far
+-- what is left of a run with at most k instructions, and of its end, with attempt a and n records
+-- so far
 abbrev pub run_left : Image → State → (a n k : ℕ) → Cache → List CacheEvent
 run_left image s a n k c =
     (due image a k n s c).events

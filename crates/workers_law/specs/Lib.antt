@@ -1,7 +1,7 @@
 pub mod Fenced
 pub mod Interleaved
 pub mod Compartments
-pub mod Inside
+pub mod WithinPool
 pub mod Left
 pub mod Standing
 pub mod Fate

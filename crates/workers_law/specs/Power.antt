@@ -1,4 +1,5 @@
--- What a power cut and a fence leave of a compartment, and what a new pool of compartments holds.
+-- The effect of a power cut and a fence on a compartment, and the content of a new pool of
+-- compartments.
 use Rattle.std.specs.Prelude.{ℕ, ◌+◌, ◌-◌, ◌*◌, ◌<◌, ◌≡◌, nat_lt, cond, Bool, List, [], ◌∷◌, ℤ}
 use Rattle.cache_model.specs.Event.{CacheEvent}
 use Rattle.cache_model.specs.Cache.{Words, Cache, blank, view}
@@ -11,11 +12,11 @@ use Rattle.pmem.specs.Device.{Device, blanked}
 use Rattle.pmem.specs.Played.{PlaysAll}
 use Rattle.pool_layout.specs.declared.limits.Sizes.{Sizes}
 use Rattle.pool_layout.specs.Sizes.{pool_lines}
-use Rattle.crash_law.specs.Law.{IsAtRest}
-use Rattle.pool_workers.specs.Compartment.{cache_in, first_of}
+use Rattle.crash_law.specs.Law.{IsAtRest, AreMarked}
+use Rattle.pool_workers.specs.Compartment.{cache_in, first_line}
 use Rattle.pool_workers.specs.Making.{creation_events, creations}
-use Rattle.workers_law.specs.Standing.{Shows}
-use Rattle.workers_law.specs.Fenced.{fenced_cache, AreMarked}
+use Rattle.workers_law.specs.Standing.{ShowsPlayed}
+use Rattle.workers_law.specs.Fenced.{fenced_cache}
 
 -- a pick of a line, counted from line f
 abbrev pub pick_from : ℕ → Pick → Pick
@@ -29,8 +30,8 @@ picks_in f n (p ∷ ps) =
     (cond (nat_lt p.line (f + n)) (pick_from f p ∷ picks_in f n ps)
     (picks_in f n ps))
 
--- A power cut of the whole device cuts each compartment by its own picks: it leaves one of the
--- compartment's images, and that alone.
+-- A power cut of the whole device cuts each compartment by its own picks: it leaves exactly one of
+-- the compartment's images.
 abbrev pub PowerLaw : Type 0
 PowerLaw =
     (f n : ℕ) (c : Cache) (rest : Rest) (picks : List Pick) →
@@ -39,7 +40,8 @@ PowerLaw =
     × HasOne (cache_in f n (left_cache c rest picks))
     (view (cache_in f n (left_cache c rest picks)))
 
--- Another worker's fence adds no image, leaves the newest versions, and leaves at rest what is.
+-- Another worker's fence adds no image, keeps the newest versions, and keeps at rest what is at
+-- rest.
 abbrev pub FencedLaw : Type 0
 FencedLaw =
     (k : Bool) (c : Cache) →
@@ -47,7 +49,7 @@ FencedLaw =
     × (view (fenced_cache k c) ≡ view c)
     × (IsAtRest c → IsAtRest (fenced_cache k c))
 
--- Marks are versions' places on blank lines, after each event, and after a power cut.
+-- Marks are indices of versions on blank lines, after each event, and after a power cut.
 abbrev pub MarksLaw : Type 0
 MarksLaw =
     AreMarked blank
@@ -55,10 +57,12 @@ MarksLaw =
     × ((c : Cache) (rest : Rest) (picks : List Pick) → AreMarked (left_cache c rest picks))
     × ((f n : ℕ) (c : Cache) → AreMarked c → AreMarked (cache_in f n c))
 
--- Each compartment of a new pool is as its own creation left blank lines, with fences put in.
-abbrev pub CreatedLaw : Type 0
-CreatedLaw =
+-- Each compartment of a new pool is as its own creation would leave blank lines, with fences put
+-- in.
+abbrev pub CompartmentsCreatedLaw : Type 0
+CompartmentsCreatedLaw =
     (s : Sizes) (digest : List ℤ) (count : ℕ) (d b : Device) →
     PlaysAll (blanked (pool_lines s * count) d) (creations s digest 0 count) b →
     (i : ℕ) → i < count →
-    Shows (creation_events s digest) [] blank (cache_in (first_of s i) (pool_lines s) b.cache)
+    ShowsPlayed (creation_events s digest) [] blank
+    (cache_in (first_line s i) (pool_lines s) b.cache)

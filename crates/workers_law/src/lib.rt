@@ -1,8 +1,8 @@
 //! The laws of workers on one device, on definitions alone: whatever the order of their turns, and
-//! wherever a power cut stops them. It stands on `pool_workers`, whose turns play the pieces of
-//! what is due, and on the laws of `crash_law` and `cut_law`. Its one contract for the crates
-//! above: each compartment is as its own worker's transaction, alone, left it, but for fences, and
-//! so are its images.
+//! wherever a power cut stops them. It rests on `pool_workers`, whose turns play the pieces of the
+//! due events, and on the laws of `crash_law` and `cut_law`. Its one contract for the crates above:
+//! each compartment, and so its images, is as its own worker's transaction alone would leave it,
+//! except for fences.
 #![tactic(auto)]
 
 ghost use Rattle.workers_law.specs.AsCall.{CalledLaw};
@@ -10,14 +10,14 @@ ghost use Rattle.workers_law.specs.Compartments.{EventLaw, CompartmentLaw, Compa
 ghost use Rattle.workers_law.specs.CutTurns.{CutTurnsLaw, CutPiecesLaw};
 ghost use Rattle.workers_law.specs.Fate.{FateLaw};
 ghost use Rattle.workers_law.specs.Faults.{TurnFaults};
-ghost use Rattle.workers_law.specs.Inside.{InsideLaw};
+ghost use Rattle.workers_law.specs.WithinPool.{InsideLaw};
 ghost use Rattle.workers_law.specs.Interleaving.{InterleavingLaw};
-ghost use Rattle.workers_law.specs.Phases.{PhaseLaw};
-ghost use Rattle.workers_law.specs.Power.{PowerLaw, FencedLaw, MarksLaw, CreatedLaw};
+ghost use Rattle.workers_law.specs.Phases.{TurnPhaseLaw};
+ghost use Rattle.workers_law.specs.Power.{PowerLaw, FencedLaw, MarksLaw, CompartmentsCreatedLaw};
 ghost use Rattle.workers_law.specs.Standing.{LeftLaw, SameViewLaw, TurnsLaw, ShownImagesLaw};
 
-/// A compartment is played by its own worker alone, but for fences; so its images are those of its
-/// own worker's events. It does nothing.
+/// A compartment is changed by its own worker alone, except for fences; so its images are those of
+/// its own worker's events. The function does nothing.
 pub fn law()
     ensures event { EventLaw }
     ensures compartment { CompartmentLaw }
@@ -25,8 +25,8 @@ pub fn law()
     ensures inside { InsideLaw }
 {}
 
-/// A transaction turn by turn: its pieces are its due list, whatever fences come between; so the
-/// images of its compartment are those of its own due list. It does nothing.
+/// A transaction turn by turn: its pieces are its due list, whatever fences come in between; so the
+/// images of its compartment are those of its own due list. The function does nothing.
 pub fn turn_law()
     ensures left { LeftLaw }
     ensures view { SameViewLaw }
@@ -38,28 +38,28 @@ pub fn turn_law()
     ensures pieces { CutPiecesLaw }
 {}
 
-/// What a power cut and a fence leave of a compartment, and what a new pool of compartments holds.
-/// It does nothing.
+/// The effect of a power cut and a fence on a compartment, and the content of a new pool of
+/// compartments. The function does nothing.
 pub fn device_law()
     ensures power { PowerLaw }
     ensures fenced { FencedLaw }
     ensures marks { MarksLaw }
-    ensures created { CreatedLaw }
+    ensures created { CompartmentsCreatedLaw }
 {}
 
-/// The phase that is told of a transaction is that of the seal's line in its compartment. It does
-/// nothing.
+/// The phase that is answered for a transaction is that of the seal's line in its compartment. The
+/// function does nothing.
 pub fn phase_law()
-    ensures { PhaseLaw }
+    ensures { TurnPhaseLaw }
 {}
 
-/// Every interleaving of turns, and each cut of it. It does nothing.
+/// Every interleaving of turns, and each cut of it. The function does nothing.
 pub fn interleaving_law()
     ensures { InterleavingLaw }
 {}
 
-/// The count of faults never falls in a turn, and `Failed` comes only where it rose. It does
-/// nothing.
+/// The count of faults never falls in a turn, and `Failed` is answered only if it rose. The
+/// function does nothing.
 pub fn fault_law()
     ensures { TurnFaults }
 {}

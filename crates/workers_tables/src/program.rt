@@ -1,4 +1,4 @@
-//! A program of two transactions over heap word 0.
+//! A program of two transactions on heap word 0.
 
 ghost use Rattle.std.specs.Prelude.{◌≡◌, ◌≤◌, ◌<◌, ◌^◌, length, IfOk, IfSome};
 ghost use Rattle.pm_machine.specs.Few.{AreFew};

@@ -1,7 +1,8 @@
 //! A run of workers in rounds, up to a cut, and the recovery of all compartments.
 
 ghost use Rattle.std.specs.Prelude.{◌≡◌, ◌≤◌, ◌<◌, true, false, length};
-ghost use Rattle.pool_workers.specs.Crew.{AreTasks, AreUncut, HasCompartments};
+ghost use Rattle.pool_workers.specs.Crew.{AreTasks, HasCompartments};
+ghost use Rattle.pool_workers.specs.inside.Crew.{AreUncut};
 ghost use Rattle.pool_workers.specs.Task.{IsGoing};
 
 use cache_model::{Choice, Picks, Rest};
@@ -15,7 +16,7 @@ use std::alloc::Global;
 use std::sync::ledger::Ledger;
 
 /// The last answers of the workers' turns, their phases, the answers of their recoveries, and heap
-/// word 0 of their compartments after these.
+/// word 0 of their compartments afterwards.
 #[derive(Clone, Copy, Debug, PartialEq, Eq)]
 pub struct Seen {
     pub turns: [TurnAnswer; 8],
@@ -24,7 +25,7 @@ pub struct Seen {
     pub counters: [Option<i64>; 8],
 }
 
-/// Power, with each line left at its oldest version or at its newest.
+/// A power cut that leaves each line at its oldest version, or each at its newest.
 fn power<P: Pmem>(alloc: Global, dev: &mut P, rest: Rest)
     ensures { (P.device dev.new).lines ≡ (P.device dev.old).lines }
 {
@@ -35,7 +36,7 @@ fn power<P: Pmem>(alloc: Global, dev: &mut P, rest: Rest)
     let _ = dev.power(&choice);
 }
 
-/// A turn was refused.
+/// Whether a turn was refused.
 fn is_refused(answer: TurnAnswer) -> bool
     ensures { result ≡ false → IsGoing answer }
 {
@@ -46,8 +47,8 @@ fn is_refused(answer: TurnAnswer) -> bool
     }
 }
 
-/// One turn of each worker, up to the first that is refused. Where a worker wasn't idle its answer
-/// is put down.
+/// One turn of each worker, up to the first that is refused. Records the answer of each worker that
+/// wasn't idle.
 fn round<P: Pmem + Drop, L: Ledger>(
     workers: &mut Workers,
     image: &Image,
@@ -98,7 +99,7 @@ pub fn rounds<P: Pmem + Drop, L: Ledger>(
     seen
 }
 
-/// Each worker begins the first transaction with its own number and one more.
+/// Each worker begins the first transaction, with its own number plus one as the argument.
 pub fn begin_all<P: Pmem>(workers: &mut Workers, image: &Image, dev: &P)
     requires txs { 1 ≤ length image.now.parts.txs }
     requires tasks { AreTasks image.now workers.old }
@@ -114,7 +115,7 @@ pub fn begin_all<P: Pmem>(workers: &mut Workers, image: &Image, dev: &P)
     }
 }
 
-/// The recovery of each compartment, from 0 on.
+/// Recovers each compartment, from 0 on.
 fn recover_all<P: Pmem + Drop, L: Ledger>(
     workers: &mut Workers,
     image: &Image,
@@ -134,7 +135,7 @@ fn recover_all<P: Pmem + Drop, L: Ledger>(
     seen
 }
 
-/// Heap word 0 of a compartment, where that lies on the device.
+/// Heap word 0 of a compartment, if the compartment lies within the device.
 fn counter_of<P: Pmem>(image: &Image, dev: &P, worker: u32) -> Option<i64>
     requires { worker < 8 }
 {
@@ -164,7 +165,7 @@ fn phases(workers: &Workers) -> [Option<Phase>; 8] {
     seen
 }
 
-/// Rounds up to a turn that is refused; then power, and the recovery of all compartments.
+/// Rounds up to a turn that is refused; then a power cut, and the recovery of all compartments.
 pub fn cut_and_recover<P: Pmem + Drop, L: Ledger>(
     alloc: Global,
     workers: &mut Workers,
@@ -195,7 +196,7 @@ pub fn cut_and_recover<P: Pmem + Drop, L: Ledger>(
 }
 
 /// Whether a compartment holds what the phase of its worker's transaction and the power cut leave:
-/// of one that wasn't sealed nothing; of one that was sealed, or that ended, all.
+/// nothing of a transaction that wasn't sealed, and all of one that was sealed or that ended.
 pub fn is_right(seen: &Seen, rest: Rest, worker: u32) -> bool {
     let at = (worker % 8) as usize;
     let value = i64::from(worker % 8) + 1;

@@ -16,7 +16,7 @@ use std::marker::Brand;
 use std::sync::ledger::{Blank, Ledger};
 use std::test::Fail;
 
-/// The digest of the program; no recovery looks at it.
+/// The digest of the program; no recovery reads it.
 const DIGEST: [i64; 4] = [1, 2, 3, 4];
 
 /// Workers that all begin and take turns in rounds, with a power cut after so many events.
@@ -42,7 +42,7 @@ fn cut_run<P: Pmem + Drop, L: Ledger>(
     Ok(cut_and_recover(alloc, &mut workers, image, rest, dev, steps))
 }
 
-/// The first number of events after which a cut of two workers leaves what it shouldn't.
+/// The first number of events after which a cut of two workers leaves a wrong state.
 fn wrong_cut<L: Ledger>(alloc: Global, rest: Rest, steps: &mut Steps<L>) -> Option<u64> {
     let Some(image) = program(alloc) else {
         return Some(0);
@@ -59,8 +59,8 @@ fn wrong_cut<L: Ledger>(alloc: Global, rest: Rest, steps: &mut Steps<L>) -> Opti
     None
 }
 
-/// The first number of an event at which a failing device leaves what it shouldn't. The first 26
-/// events create the compartments.
+/// The first number of an event at which a failing device leaves a wrong state. The first 26 events
+/// create the compartments.
 fn wrong_failure<L: Ledger>(alloc: Global, rest: Rest, steps: &mut Steps<L>) -> Option<u64> {
     let Some(image) = program(alloc) else {
         return Some(0);
@@ -108,9 +108,8 @@ fn eight_run<L: Ledger>(alloc: Global, blank: Blank) -> Option<Seen>
     }
 }
 
-/// What is answered where worker 0 traps and workers 1 and 2 go on: the second `begin` of worker 0,
-/// its `begin` while it has a transaction, the last turns, its `begin` after them, and its
-/// recovery.
+/// The answers when worker 0 traps and workers 1 and 2 go on: the second `begin` of worker 0, its
+/// `begin` while it has a transaction, the last turns, its `begin` after them, and its recovery.
 #[derive(Clone, Copy, Debug, PartialEq, Eq)]
 struct Trapped {
     busy: BeginAnswer,

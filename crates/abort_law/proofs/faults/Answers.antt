@@ -1,4 +1,4 @@
-use Rattle.abort_law.proofs.Rising.{call_faults, redo_faults}
+use Rattle.abort_law.proofs.FaultCounts.{call_faults, redo_faults}
 use Rattle.abort_law.proofs.faults.Goals as goal
 
 pub returns-clause-call : goal.returns-clause-call

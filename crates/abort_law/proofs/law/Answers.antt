@@ -1,6 +1,6 @@
-use Rattle.abort_law.proofs.Callings.{marked_sound, cut_marked}
-use Rattle.abort_law.proofs.Redoings.{cut_remarked}
-use Rattle.abort_law.proofs.Leavings.{call_leaves, redo_leaves, cut_again}
+use Rattle.abort_law.proofs.Calls.{marked_sound, cut_marked}
+use Rattle.abort_law.proofs.Redoes.{cut_remarked}
+use Rattle.abort_law.proofs.AfterAnswers.{call_leaves, redo_leaves, cut_again}
 use Rattle.abort_law.proofs.Besides.{besides}
 use Rattle.abort_law.proofs.law.Goals as goal
 
@@ -10,9 +10,9 @@ returns-clause-run c =
 
 pub returns-clause-call : goal.returns-clause-call
 returns-clause-call c =
-    λ image super tx args cache one d end es tx_fits few d_fits only good a_fits empty ran tidy.
-    cut_marked image super tx args cache one d end es tx_fits few d_fits only good a_fits empty ran
-    tidy
+    λ image super tx args cache one d end es b few ran tidy.
+    cut_marked image super tx args cache one d end es b.tx_fits few b.d_fits b.only b.good b.a_fits
+    b.empty ran tidy
 
 pub returns-clause-redo : goal.returns-clause-redo
 returns-clause-redo c =
@@ -21,10 +21,9 @@ returns-clause-redo c =
 
 pub returns-clause-called : goal.returns-clause-called
 returns-clause-called c =
-    λ image super tx args d b one n end es tx_fits few n_fits only good a_fits empty ran tidy a k k1
-    called.
-    call_leaves image super tx args d b one n end es tx_fits few n_fits only good a_fits empty ran
-    tidy a k k1 called
+    λ image super tx args d b one n end es begins few ran tidy a k k1 called.
+    call_leaves image super tx args d b one n end es begins.tx_fits few begins.d_fits begins.only
+    begins.good begins.a_fits begins.empty ran tidy a k k1 called
 
 pub returns-clause-redid : goal.returns-clause-redid
 returns-clause-redid c =

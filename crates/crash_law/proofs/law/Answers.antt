@@ -9,26 +9,39 @@ use Rattle.crash_law.proofs.Effects.{sound_trace, step_events, stored_of}
 use Rattle.crash_law.proofs.law.Goals as goal
 
 pub returns-clause-call : goal.returns-clause-call
-returns-clause-call c = λ pool call E W h result trace c one given_fits done_fits is only good a_fits empty.
-    cut_call pool call (λ w. IsTrue (E w)) (λ w. IsTrue (W w)) h result trace (omega arith) given_fits is c one only good (omega arith) empty
+returns-clause-call c = λ pool call E W h result trace c one given_fits done_fits is only good
+    a_fits empty.
+    cut_call pool call (λ w. IsTrue (E w)) (λ w. IsTrue (W w)) h result trace (omega arith)
+    given_fits is c one only good (omega arith) empty
 
 pub returns-clause-redo : goal.returns-clause-redo
 returns-clause-redo c = λ pool call E W h result trace c one given_fits is only owed n counted room.
-    cut_redo pool call (λ w. IsTrue (E w)) (λ w. IsTrue (W w)) h result trace given_fits is one owed n counted room c only
+    cut_redo pool call (λ w. IsTrue (E w)) (λ w. IsTrue (W w)) h result trace given_fits is one owed
+    n counted room c only
 
 pub returns-clause-clean : goal.returns-clause-clean
-returns-clause-clean c = λ pool d h c one only good n counted room. cut_clean pool d h c one only good n counted room
+returns-clause-clean c = λ pool d h c one only good n counted room.
+    cut_clean pool d h c one only good n counted room
 
 pub returns-clause-rest : goal.returns-clause-rest
-returns-clause-rest c = λ pool call heap value trace c one a n at_rest.
-    (call_rest pool.sizes a call heap value trace c at_rest, redo_rest pool.sizes a (suc call.done) one n value trace c at_rest)
+returns-clause-rest c = λ pool call heap value trace c one a n at_rest. (
+  call_rest pool.sizes a call heap value trace c at_rest,
+  redo_rest pool.sizes a (suc call.done) one n value trace c at_rest,
+)
 
 pub returns-clause-again : goal.returns-clause-again
 returns-clause-again c = λ pool call E W h result trace k one other given_fits is owed cuts.
-    cut_again pool call (λ w. IsTrue (E w)) (λ w. IsTrue (W w)) h result trace given_fits is k one other (inl owed) cuts
+    cut_again pool call (λ w. IsTrue (E w)) (λ w. IsTrue (W w)) h result trace given_fits is k one
+    other (inl owed) cuts
 
 pub returns-clause-trace : goal.returns-clause-trace
-returns-clause-trace c = λ C H es sound. (sound_trace C.sizes.records H es sound, (λ w over. stored_of None es w over), λ a heap. step_events C a es 0 heap sound.paired)
+returns-clause-trace c =
+    λ z H es sound. (
+      sound_trace z.records H es sound,
+      (λ w over. stored_of None es w over),
+      λ a heap.
+          step_events z a es 0 heap sound.paired,
+    )
 
 pub returns-clause-fences : goal.returns-clause-fences
 returns-clause-fences c = fences_add_none

@@ -1,14 +1,21 @@
-use Rattle.pmem.specs.Played.{PlaysPart}
 use Rattle.tx_run.specs.Due as plays
 use Rattle.recovery.specs.Due.{due_redo}
-use Rattle.cut_law.proofs.Rising.{part_failed, call_rise, redo_rise, clean_rise}
+use Rattle.cut_law.proofs.FaultCounts.{part_failed, call_rise, redo_rise, clean_rise}
 use Rattle.cut_law.proofs.faults.Goals as goal
 
 pub returns-clause-call : goal.returns-clause-call
-returns-clause-call c = λ image tx args d b k k1. (call_rise image tx args d b k k1, λ called. part_failed (plays.due_call image tx args d.cache) d b called)
+returns-clause-call c = λ image tx args d b k k1. (
+  call_rise image tx args d b k k1,
+  λ called. part_failed (plays.due_call image tx args d.cache)
+      d b called,
+)
 
 pub returns-clause-redo : goal.returns-clause-redo
-returns-clause-redo c = λ image tx args m d b k k1. (redo_rise image tx args m d b k k1, λ redid. part_failed (due_redo image tx args m d.cache) d b redid)
+returns-clause-redo c = λ image tx args m d b k k1. (
+  redo_rise image tx args m d b k k1,
+  λ redid. part_failed (due_redo image tx args m d.cache)
+      d b redid,
+)
 
 pub returns-clause-clean : goal.returns-clause-clean
 returns-clause-clean c = λ d b es. (clean_rise d b es, λ cleaned. part_failed es d b cleaned)

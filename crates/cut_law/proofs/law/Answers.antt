@@ -10,22 +10,33 @@ pub returns-clause-due : goal.returns-clause-due
 returns-clause-due c = call_is
 
 pub returns-clause-cut : goal.returns-clause-cut
-returns-clause-cut c = cut_call
+returns-clause-cut c = λ image super tx args c one d end es b r.
+    cut_call image super tx args c one d end es b.tx_fits r.few b.d_fits b.only b.good b.a_fits
+    b.empty r.ran r.sound
 
 pub returns-clause-redo : goal.returns-clause-redo
-returns-clause-redo c = cut_redo
+returns-clause-redo c = λ image super tx args c one d h end es n only o r.
+    cut_redo image super tx args c one d h end es r.few only o.owed r.ran r.sound n o.counted o.room
 
 pub returns-clause-clean : goal.returns-clause-clean
-returns-clause-clean c = cut_clean
+returns-clause-clean c = λ image super c one d h n only g.
+    cut_clean image super c one d h only g.good n g.counted g.room
 
 pub returns-clause-rest : goal.returns-clause-rest
-returns-clause-rest c = call_at_rest
+returns-clause-rest c = λ image super tx args c one d end es b r.
+    call_at_rest image super tx args c one d end es b.tx_fits r.few b.d_fits b.only b.good b.a_fits
+    b.empty r.ran r.sound
 
 pub returns-clause-again : goal.returns-clause-again
-returns-clause-again c = cut_again
+returns-clause-again c = λ image super tx args d h end es r.
+    cut_again image super tx args d h end es r.few r.ran r.sound
 
 pub returns-clause-called : goal.returns-clause-called
-returns-clause-called c = call_leaves
+returns-clause-called c = λ image super tx args d b one n end es begins r.
+    call_leaves image super tx args d b one n end es begins.tx_fits r.few begins.d_fits begins.only
+    begins.good begins.a_fits begins.empty r.ran r.sound
 
 pub returns-clause-redid : goal.returns-clause-redid
-returns-clause-redid c = redo_leaves
+returns-clause-redid c = λ image super tx args d b one n h end es m only o r.
+    redo_leaves image super tx args d b one n h end es r.few only o.owed r.ran r.sound m o.counted
+    o.room

@@ -8,6 +8,7 @@ use Rattle.session_law.proofs.Steps.{redone_steps}
 use Rattle.session_law.proofs.Running.{exactly_sealed}
 use Rattle.session_law.proofs.Unchanged.{step_unchanged}
 use Rattle.session_law.proofs.Bounded.{chain_bounded}
+use Rattle.session_law.proofs.Logging.{one_outcome, full_law}
 use Rattle.session_law.proofs.law.Goals as goal
 
 pub returns-clause-session : goal.returns-clause-session
@@ -51,3 +52,9 @@ returns-clause-unchanged c = step_unchanged
 
 pub returns-clause-bound : goal.returns-clause-bound
 returns-clause-bound c = chain_bounded
+
+pub returns-clause-determined : goal.returns-clause-determined
+returns-clause-determined c = one_outcome
+
+pub returns-clause-full : goal.returns-clause-full
+returns-clause-full c = full_law

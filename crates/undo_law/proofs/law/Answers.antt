@@ -1,9 +1,9 @@
 use Rattle.std.proofs.Common.{inl, suc}
 use Rattle.undo_law.proofs.Whole.{cut_abort}
 use Rattle.undo_law.proofs.Reabort.{cut_reabort, cut_again}
-use Rattle.undo_law.proofs.Resting.{abort_rest, reabort_rest}
-use Rattle.undo_law.proofs.Marking.{marked_call, marked_redo}
-use Rattle.undo_law.proofs.Counting.{count_abort}
+use Rattle.undo_law.proofs.Rest.{abort_rest, reabort_rest}
+use Rattle.undo_law.proofs.MarkedCalls.{marked_call, marked_redo}
+use Rattle.undo_law.proofs.EventCounts.{count_abort}
 use Rattle.undo_law.proofs.law.Goals as goal
 
 pub returns-clause-call : goal.returns-clause-call

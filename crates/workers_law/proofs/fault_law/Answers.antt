@@ -1,4 +1,4 @@
-use Rattle.workers_law.proofs.Rising.{turn_faults}
+use Rattle.workers_law.proofs.FaultCounts.{turn_faults}
 use Rattle.workers_law.proofs.fault_law.Goals as goal
 
 pub returns : goal.returns

@@ -1,4 +1,4 @@
-use Rattle.workers_law.proofs.Sealings.{phases}
+use Rattle.workers_law.proofs.Phases.{phases}
 use Rattle.workers_law.proofs.phase_law.Goals as goal
 
 pub returns : goal.returns

@@ -1,4 +1,4 @@
-use Rattle.workers_law.proofs.Standings.{left_next, same_left, turns, shown_images}
+use Rattle.workers_law.proofs.Stands.{left_next, same_left, turns, shown_images}
 use Rattle.workers_law.proofs.AsCalls.{called}
 use Rattle.workers_law.proofs.Fates.{fates}
 use Rattle.workers_law.proofs.CutsTurned.{cut_turns, cut_pieces}

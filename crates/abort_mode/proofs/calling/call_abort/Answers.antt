@@ -1,7 +1,15 @@
+use Rattle.std.proofs.Common.{arith}
 use Rattle.abort_mode.proofs.Parts.{short}
 use Rattle.abort_mode.proofs.calling.call_abort.Goals as goal
 
 pub returns-in-Err-clause-called : goal.returns-in-Err-clause-called
-returns-in-Err-clause-called g c = λ on ready.
+returns-in-Err-clause-called g c =
     let d = g.P.PmemWork.device c.args.dev.now in
-    short c.args.image.now c.args.tx c.args.args.now d d c.args.steps.now c.args.steps.now
+    let k = c.args.steps.now in record {
+      ready = λ on ready. short c.args.image.now c.args.tx c.args.args.now d d k k;
+      unusable = λ kind on unusable. let ready = c.in-Ready.ensures.on on in absurd cc;
+      numbers = λ on numbers. let ready = c.in-Ready.ensures.on on in absurd cc;
+      off = λ off. let ready = c.in-Ready.ensures.off off in absurd cc;
+      bound = λ on. omega arith;
+      most = omega arith;
+    }

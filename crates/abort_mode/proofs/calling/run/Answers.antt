@@ -1,7 +1,7 @@
 use Rattle.std.proofs.Common.{◌+◌, ◌≤◌, ◌∙◌, subst}
 use Rattle.pm_machine.specs.Machine.{State}
 use Rattle.abort_mode.specs.Due.{run_steps}
-use Rattle.abort_mode.specs.Answers.{Settles}
+use Rattle.abort_mode.specs.inside.Answers.{AbortSettles}
 use Rattle.abort_mode.proofs.Parts.{seal_bound, seal_on, called_of, seal_off, seal_failed}
 use Rattle.abort_mode.proofs.Parts.{seal_short}
 use Rattle.abort_mode.proofs.calling.run.Goals as goal
@@ -24,7 +24,7 @@ returns-in-Done-clause-called g c =
     let image = c.args.image.now in
     called_of image c.args.tx c.args.args.now d b k k1 m (c.in-Done.ensures.played c.requires.on)
     c.settle.result
-    (subst (λ (s : State). Settles c.settle.result image s m b k k1) c.requires.start
+    (subst (λ (s : State). AbortSettles c.settle.result image s m b k k1) c.requires.start
     c.settle.ensures.settled)
 
 pub returns-in-Off-clause-called : goal.returns-in-Off-clause-called

@@ -6,8 +6,8 @@ use Rattle.pmem.proofs.Cuts.{round}
 use Rattle.pm_machine.specs.declared.effect.End.{End}
 use Rattle.abort_mode.specs.declared.answer.AbortAnswer.{AbortAnswer}
 use Rattle.abort_mode.specs.Due.{retiring, tail_steps}
-use Rattle.abort_mode.specs.Answers.{done_answer, undo_answer}
-use Rattle.abort_mode.specs.Closes.{Closes}
+use Rattle.abort_mode.specs.inside.Answers.{done_answer, undo_answer}
+use Rattle.abort_mode.specs.inside.Closes.{Closes}
 use Rattle.abort_mode.proofs.Parts.{count_few, closes_done, closes_undo}
 use Rattle.abort_mode.proofs.closing.close.Goals as goal
 

@@ -6,7 +6,7 @@ use Rattle.pool_layout.specs.declared.limits.Sizes.{Sizes}
 use Rattle.pm_machine.specs.Machine.{State}
 use Rattle.recovery.specs.Due.{due_back}
 use Rattle.abort_mode.specs.Due.{run_steps}
-use Rattle.abort_mode.specs.Answers.{Settles}
+use Rattle.abort_mode.specs.inside.Answers.{AbortSettles}
 use Rattle.abort_mode.proofs.Parts.{back_bound, back_on, back_short, redid_of, back_cut}
 use Rattle.abort_mode.proofs.redoing.redo.Goals as goal
 
@@ -33,7 +33,7 @@ returns-in-Done-clause-redid g c =
     c.in-Done.ensures.played in
     redid_of image c.args.tx c.args.args.now n d b m done k j k1
     (c.put_back.ensures.cost c.in-Done.is) c.settle.result
-    (subst (λ (s : State). Settles c.settle.result image s m b j k1) c.in-Ok.ensures
+    (subst (λ (s : State). AbortSettles c.settle.result image s m b j k1) c.in-Ok.ensures
     c.settle.ensures.settled)
 
 pub returns-in-Off-clause-redid : goal.returns-in-Off-clause-redid

@@ -1,9 +1,10 @@
 use Rattle.std.proofs.Common.{◌≡◌, ◌≤◌, ◌+◌, ◌-◌, ℕ, Some, Ok, rules, sym, ap, subst, ◌∙◌, arith}
 use Rattle.pmem.specs.Played.{PlaysAll, PlaysPart}
-use Rattle.pm_machine.specs.Runs.{Leads, end_of}
+use Rattle.pm_machine.specs.Runs.{end_of}
+use Rattle.pm_machine.specs.inside.Runs.{DueLeads}
 use Rattle.abort_mode.specs.Runs.{due_marked, turning, wanted}
 use Rattle.abort_mode.specs.declared.running.Turn.{Turn}
-use Rattle.abort_mode.specs.Turns.{Turned, Kept}
+use Rattle.abort_mode.specs.inside.Turns.{TurnLeads, TurnKept}
 use Rattle.abort_mode.proofs.Turns.{turn_opened}
 use Rattle.abort_mode.proofs.running.run_marked.Goals as goal
 use Rattle.abort_mode.proofs.running.run_marked.Given as given
@@ -49,7 +50,7 @@ over_of g c =
     let a = c.args.attempt in
     let x0 = due_marked image a image.parts.most c.args.count c.args.machine.now
     (device c.args.dev.now).cache in
-    (subst (λ (t : Turn). Turned (Ok t)
+    (subst (λ (t : Turn). TurnLeads (Ok t)
     (λ rest. turning image a c.loop-left.records c.loop-left.machine d.cache rest
     (wanted image c.loop-left.records c.loop-left.machine d.cache)) c.take_turn.new.machine d
     (device c.take_turn.new.dev)) c.in-Ok-Over.field-0-is c.in-Ok-Over.ensures.turned)
@@ -84,7 +85,7 @@ loop-left-preserved g c =
     let x0 = due_marked image a image.parts.most c.args.count c.args.machine.now
     (device c.args.dev.now).cache in
     let kept = subst (λ (t : Turn).
-    Kept t image c.loop-left.records c.take_turn.new.machine (device c.take_turn.new.dev))
+    TurnKept t image c.loop-left.records c.take_turn.new.machine (device c.take_turn.new.dev))
     c.in-Ok-Went.field-0-is c.in-Ok-Went.ensures.kept in
     let tick = c.tick.ensures in
     let some = c.loop-left-test.true in
@@ -93,11 +94,11 @@ loop-left-preserved g c =
     let next = kept.2 in
     record {
       leads = subst (λ (i : ℕ).
-          Leads (device c.take_turn.new.dev) i
+          DueLeads (device c.take_turn.new.dev) i
           (due_marked image a (c.loop-left.left - 1) c.in-Ok-Went.more c.take_turn.new.machine
           (device c.take_turn.new.dev).cache) (device c.args.dev.now) c.args.steps.now x0)
           (sym tick)
-          ((subst (λ (t : Turn). Turned (Ok t)
+          ((subst (λ (t : Turn). TurnLeads (Ok t)
           (λ rest. turning image a c.loop-left.records c.loop-left.machine d.cache rest
           (wanted image c.loop-left.records c.loop-left.machine d.cache))
           c.take_turn.new.machine d (device c.take_turn.new.dev)) c.in-Ok-Went.field-0-is

@@ -1,7 +1,8 @@
 use Rattle.std.proofs.Common.{◌≡◌, ◌≤◌, ◌+◌, true}
 use Rattle.pool_layout.specs.Sizes.{heap_words}
 use Rattle.pm_machine.specs.Known.{AreInUseOn}
-use Rattle.pm_machine.specs.Runs.{AreLines, Leads}
+use Rattle.pm_machine.specs.Runs.{AreLines}
+use Rattle.pm_machine.specs.inside.Runs.{DueLeads}
 use Rattle.abort_mode.specs.Runs.{due_marked}
 use Rattle.abort_mode.proofs.running.run_marked.Given as goal
 
@@ -9,7 +10,7 @@ abbrev pub invariant-loop-left : goal.invariant-loop-left
 invariant-loop-left g l =
     let device = g.P.PmemWork.device in
     record {
-      leads : Leads (device l.dev) l.steps
+      leads : DueLeads (device l.dev) l.steps
           (due_marked l.image l.attempt l.left l.records l.machine (device l.dev).cache)
           (device l.initial.dev) l.initial.steps
           (due_marked l.image l.attempt l.image.parts.most l.initial.count l.initial.machine

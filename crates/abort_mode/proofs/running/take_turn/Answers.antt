@@ -26,7 +26,7 @@ returns-in-Ok-Added-clause-turned g c =
     (let e : c.args.count + 1 ≡ suc c.args.count = omega arith in e)
     c.step-in-Ok-Added.ensures.turned
 
--- the record that was appended leaves what is known of the slots
+-- the appended record doesn't change what is known of the slots
 pub step-requires-in-Ok-Added-clause-known : goal.step-requires-in-Ok-Added-clause-known
 step-requires-in-Ok-Added-clause-known g c =
     let device = g.P.PmemWork.device in

@@ -3,8 +3,8 @@ use Rattle.pmem.specs.Played.{PlaysPart}
 use Rattle.pmem.specs.declared.answer.Refusal.{Refusal}
 use Rattle.pmem.specs.declared.answer.Refusal.TheVariants as refusal
 use Rattle.pool_layout.specs.declared.limits.Sizes.{Sizes}
-use Rattle.abort_mode.specs.Closes.{Closes}
-use Rattle.abort_mode.specs.Due.{due_on}
+use Rattle.abort_mode.specs.inside.Closes.{Closes}
+use Rattle.abort_mode.specs.Due.{abort_due_on}
 use Rattle.abort_mode.proofs.Parts.{run_bound, run_cut, run_on, settles_of}
 use Rattle.abort_mode.proofs.settling.settle.Goals as goal
 
@@ -37,7 +37,7 @@ returns-in-Err-Off-clause-settled g c =
     run_cut c.args.image.now c.args.machine.now (device c.args.dev.now)
     (device c.run.new.dev) refusal.Off
     (subst (λ (why : Refusal). PlaysPart why (device c.args.dev.now)
-    (due_on c.args.image.now c.args.machine.now (device c.args.dev.now).cache).events
+    (abort_due_on c.args.image.now c.args.machine.now (device c.args.dev.now).cache).events
     (device c.run.new.dev)) c.in-Err-Off.field-0-is c.in-Err-Off.ensures.part)
 
 pub returns-in-Err-Failed-clause-settled : goal.returns-in-Err-Failed-clause-settled
@@ -46,7 +46,7 @@ returns-in-Err-Failed-clause-settled g c =
     run_cut c.args.image.now c.args.machine.now (device c.args.dev.now)
     (device c.run.new.dev) refusal.Failed
     (subst (λ (why : Refusal). PlaysPart why (device c.args.dev.now)
-    (due_on c.args.image.now c.args.machine.now (device c.args.dev.now).cache).events
+    (abort_due_on c.args.image.now c.args.machine.now (device c.args.dev.now).cache).events
     (device c.run.new.dev)) c.in-Err-Failed.field-0-is c.in-Err-Failed.ensures.part)
 
 pub returns-in-Err-NoMemory-clause-settled : goal.returns-in-Err-NoMemory-clause-settled
@@ -55,7 +55,7 @@ returns-in-Err-NoMemory-clause-settled g c =
     run_cut c.args.image.now c.args.machine.now (device c.args.dev.now)
     (device c.run.new.dev) refusal.NoMemory
     (subst (λ (why : Refusal). PlaysPart why (device c.args.dev.now)
-    (due_on c.args.image.now c.args.machine.now (device c.args.dev.now).cache).events
+    (abort_due_on c.args.image.now c.args.machine.now (device c.args.dev.now).cache).events
     (device c.run.new.dev)) c.in-Err-NoMemory.field-0-is c.in-Err-NoMemory.ensures.part)
 
 pub returns-in-Ok-clause-bound : goal.returns-in-Ok-clause-bound

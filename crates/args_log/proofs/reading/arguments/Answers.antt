@@ -18,8 +18,10 @@ loop-k-preserved g c =
       size = length-set args k new ∙ size;
       words = λ j lt. ⊎_elim
           (λ (same : j ≡ k).
-          subst (λ (i : ℕ). slice_index_or (slice_set args k new) i (pos 0) ≡ view (g.P.PmemWork.device c.args.dev.now).cache (25 + i)) (sym same)
+          subst (λ (i : ℕ). slice_index_or (slice_set args k new) i (pos 0)
+          ≡ view (g.P.PmemWork.device c.args.dev.now).cache (25 + i)) (sym same)
           (get_or-set_same args k new (pos 0) (omega arith) ∙ back ∙ c.word.ensures))
-          (λ (ne : j ≢ k). get_or-set_other args k j new (pos 0) ne ∙ c.loop-k.invariant.words j (omega arith))
+          (λ (ne : j ≢ k). get_or-set_other args k j new (pos 0) ne
+          ∙ c.loop-k.invariant.words j (omega arith))
           (cases_eq j k);
     }

@@ -2,9 +2,10 @@ use Rattle.std.proofs.Common.{◌≡◌, ◌+◌, ◌<◌, ℕ, pos, length, sli
 use Rattle.cache_model.specs.Cache.{view}
 use Rattle.args_log.proofs.reading.arguments.Given as goal
 
--- the words so far are there
+-- the words so far are those of the record
 abbrev pub invariant-loop-k : goal.invariant-loop-k
 invariant-loop-k g l = record {
   size : length l.args ≡ 22;
-  words : (j : ℕ) → j < l.k → slice_index_or l.args j (pos 0) ≡ view (g.P.PmemWork.device l.dev).cache (25 + j);
+  words : (j : ℕ) → j < l.k → slice_index_or l.args j (pos 0)
+      ≡ view (g.P.PmemWork.device l.dev).cache (25 + j);
 }

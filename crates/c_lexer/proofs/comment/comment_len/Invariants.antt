@@ -1,7 +1,7 @@
--- What is still to be searched leads where the whole leads.
+-- Searching the remaining bytes gives the result of searching all of them.
 use Rattle.std.proofs.Common.{◌≡◌, drop}
-use Rattle.c_lexer.specs.Comments.{behind_close, comment_len}
+use Rattle.c_lexer.specs.Comments.{after_close, comment_len}
 use Rattle.c_lexer.proofs.comment.comment_len.Given as goal
 
 abbrev pub invariant-loop-at : goal.invariant-loop-at
-invariant-loop-at l = behind_close l.at (drop l.at l.left) ≡ comment_len l.left
+invariant-loop-at l = after_close l.at (drop l.at l.left) ≡ comment_len l.left

@@ -1,5 +1,5 @@
--- The digits left, behind the value so far, lead where the whole leads; and that value is no more
--- than a number may be.
+-- The digits left, after the value so far, give the value of the whole; and the value so far isn't
+-- too large for a number.
 use Rattle.std.proofs.Common.{◌≡◌, ◌<◌, ◌^◌, drop}
 use Rattle.c_lexer.specs.Numbers.{digits_after}
 use Rattle.c_lexer.proofs.number.digits_value.Given as goal

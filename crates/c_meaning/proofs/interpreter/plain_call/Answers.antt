@@ -1,5 +1,5 @@
 use Rattle.std.proofs.Common.{◌≡◌, ◌∙◌, ap, sym, Some}
-use Rattle.c_parser.specs.ItemTree.{function_of}
+use Rattle.c_parser.specs.ItemTree.{function_tree}
 use Rattle.c_parser.specs.Program.{tree_of}
 use Rattle.c_types.specs.Tables.{Tables, tables_of}
 use Rattle.c_types.specs.Views.{tables_in}
@@ -9,7 +9,10 @@ use Rattle.c_meaning.proofs.interpreter.plain_call.Goals as goal
 
 pub returns-clause-exact : goal.returns-clause-exact
 returns-clause-exact c =
-    let tables : tables_in c.in-Ok.program ≡ tables_of (tree_of c.args.typed.now) = rw (c.items.ensures, c.ast.ensures) at c.in-Ok.ensures in
-    let found : transaction (tables_of (tree_of c.args.typed.now)) c.args.tx ≡ Some (function_of c.in-Some.function.now) =
+    let tables : tables_in c.in-Ok.program ≡ tables_of (tree_of c.args.typed.now) =
+    rw (c.items.ensures, c.ast.ensures) at c.in-Ok.ensures in
+    let found : transaction (tables_of (tree_of c.args.typed.now)) c.args.tx
+    ≡ Some (function_tree c.in-Some.function.now) =
     ap (λ (t : Tables). transaction t c.args.tx) (sym tables) ∙ sym c.in-Some.ensures in
-    rw (c.answer_of.ensures.exact, found, ← tables, ← c.in-Ok-copy.ensures) (answered c.run.result _ c.run.ensures.exact)
+    rw (c.answer_of.ensures.exact, found, ← tables, ← c.in-Ok-copy.ensures)
+    (answered c.run.result _ c.run.ensures.exact)

@@ -6,5 +6,6 @@ use Rattle.c_meaning.proofs.locals.bound.Given as goal
 
 abbrev pub invariant-loop-parameter : goal.invariant-loop-parameter
 invariant-loop-parameter l =
-    bound (tables_in l.program) (map parameter_of (drop l.parameter-index l.parameters)) l.left l.locals
+    bound (tables_in l.program) (map parameter_of (drop l.parameter-index l.parameters))
+    l.left l.locals
     ≡ bound (tables_in l.program) (map parameter_of l.parameters) l.arguments []

@@ -1,11 +1,12 @@
 use Rattle.std.proofs.Common.{◌+◌, ◌*◌, ◌-◌, ◌≤◌, length}
 use Rattle.c_parser.specs.ExprTree.{expr_of, arguments_in}
-use Rattle.c_parser.specs.Spelling.{Level, Chain, Arguments}
-use Rattle.c_parser.specs.Fixes.{Leads, Ended, Over}
+use Rattle.c_parser.specs.Spelling.{Level, Chain, SpellsArguments}
+use Rattle.c_parser.specs.inside.Fixes.{DerivesFrom, IsFollowed, Over}
 use Rattle.c_parser.proofs.FixesExpr.{MoreFrom}
 use Rattle.c_parser.proofs.build_expr.+expressions.Given as goal
 
--- what is left to read, and a rank among the functions that read nothing before they call
+-- the number of tokens left to read, and a rank among the functions that call another before they
+-- read
 abbrev pub decreases-expression : goal.decreases-expression
 decreases-expression l = 16 * (length l.tokens.now.tokens + 2 - l.at) + 14
 
@@ -30,8 +31,10 @@ decreases-arguments l = 16 * (length l.tokens.now.tokens + 2 - l.at) + 15
 abbrev pub invariant-binary-loop-op : goal.invariant-binary-loop-op
 invariant-binary-loop-op l = record {
   stays : l.at ≤ l.place;
-  leads : Leads (Ended l.tokens.tokens (Over l.level) (Level l.tokens.tokens l.level l.at))
-      (Ended l.tokens.tokens (Over l.level) (λ k t. Chain l.tokens.tokens (l.level - 1) l.place k (expr_of l.left) t));
+  leads : DerivesFrom (IsFollowed l.tokens.tokens (Over l.level)
+      (Level l.tokens.tokens l.level l.at))
+      (IsFollowed l.tokens.tokens (Over l.level)
+      (λ k t. Chain l.tokens.tokens (l.level - 1) l.place k (expr_of l.left) t));
 }
 
 abbrev pub decreases-binary-loop-op : goal.decreases-binary-loop-op
@@ -40,7 +43,8 @@ decreases-binary-loop-op l = length l.tokens.tokens + 1 - l.place
 abbrev pub invariant-arguments-others : goal.invariant-arguments-others
 invariant-arguments-others l = record {
   stays : l.at ≤ l.place;
-  leads : Leads (Arguments l.tokens.tokens l.at) (MoreFrom l.tokens.tokens l.place (arguments_in l.all.items));
+  leads : DerivesFrom (SpellsArguments l.tokens.tokens l.at)
+      (MoreFrom l.tokens.tokens l.place (arguments_in l.all.items));
 }
 
 abbrev pub decreases-arguments-others : goal.decreases-arguments-others

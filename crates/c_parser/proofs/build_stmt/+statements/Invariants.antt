@@ -1,7 +1,7 @@
 use Rattle.std.proofs.Common.{◌+◌, ◌*◌, ◌-◌, ◌≤◌, length}
 use Rattle.c_parser.specs.StmtTree.{statements_in}
-use Rattle.c_parser.specs.Fixes.{Leads}
-use Rattle.c_parser.specs.Pieces.{StatedAll}
+use Rattle.c_parser.specs.inside.Fixes.{DerivesFrom}
+use Rattle.c_parser.specs.inside.Pieces.{StatedAll}
 use Rattle.c_parser.proofs.FixesStmt.{RestFrom}
 use Rattle.c_parser.proofs.build_stmt.+statements.Given as goal
 
@@ -26,7 +26,8 @@ decreases-block l = 4 * (length l.tokens.now.tokens + 2 - l.at) + 2
 abbrev pub invariant-block-each : goal.invariant-block-each
 invariant-block-each l = record {
   stays : l.at ≤ l.place;
-  leads : Leads (StatedAll l.tokens.tokens l.at) (RestFrom l.tokens.tokens l.place (statements_in l.all.items));
+  leads : DerivesFrom (StatedAll l.tokens.tokens l.at)
+      (RestFrom l.tokens.tokens l.place (statements_in l.all.items));
 }
 
 abbrev pub decreases-block-each : goal.decreases-block-each

@@ -7,5 +7,7 @@ use Rattle.c_parser.proofs.build_stmt.declaration.Goals as goal
 
 pub returns-clause-fixes : goal.returns-clause-fixes
 returns-clause-fixes c =
-    let not : kind_at c.args.tokens.now.tokens c.behind-next.result ≢ kind.Assign assign.Set = search rules in
-    declares_plain _ _ _ _ _ _ c.in_ok-ty.ensures.fixes c.in_ok-name.ensures c.behind-next.ensures.moves not
+    let not : kind_at c.args.tokens.now.tokens c.place_after-next.result ≢ kind.Assign assign.Set =
+    search rules in
+    declares_plain _ _ _ _ _ _ c.in_ok-ty.ensures.fixes c.in_ok-name.ensures
+    c.place_after-next.ensures.moves not

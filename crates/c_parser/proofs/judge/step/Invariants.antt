@@ -1,12 +1,12 @@
 use Rattle.std.proofs.Common.{◌≡◌, ◌≤◌, length}
-use Rattle.c_parser.specs.Wants.{step}
+use Rattle.c_parser.specs.Wants.{parser_step}
 use Rattle.c_parser.specs.Weight.{weight}
 use Rattle.c_parser.proofs.judge.step.Given as goal
 
--- the wants that are left do with the token what all of them did
+-- the remaining wants do with the token what all of them do
 abbrev pub invariant-next : goal.invariant-next
 invariant-next l = record {
-  same : step l.stack l.kind ≡ step l.initial.stack l.kind;
+  same : parser_step l.stack l.kind ≡ parser_step l.initial.stack l.kind;
   light : weight l.stack ≤ 64;
 }
 

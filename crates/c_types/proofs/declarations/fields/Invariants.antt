@@ -1,6 +1,6 @@
 use Rattle.std.proofs.Common.{◌≡◌, map, drop}
-use Rattle.c_parser.specs.ItemTree.{field_of}
-use Rattle.c_types.specs.Broken.{told}
+use Rattle.c_parser.specs.ItemTree.{field_tree}
+use Rattle.c_types.specs.Broken.{least_from}
 use Rattle.c_types.specs.Tables.{field_names}
 use Rattle.c_types.specs.Declarations.{fields_broken}
 use Rattle.c_types.specs.Views.{tables_in}
@@ -9,5 +9,7 @@ use Rattle.c_types.proofs.declarations.fields.Given as goal
 abbrev pub invariant-loop-field : goal.invariant-loop-field
 invariant-loop-field l = record {
   at_index : l.at ≡ l.field-index;
-  told_so : told l.least (fields_broken (tables_in l.program) (field_names l.layout) l.at (map field_of (drop l.field-index l.fields))) ≡ told l.initial.least (fields_broken (tables_in l.program) (field_names l.layout) 0 (map field_of l.fields));
+  told_so : least_from l.least (fields_broken (tables_in l.program) (field_names l.layout) l.at
+      (map field_tree (drop l.field-index l.fields))) ≡ least_from l.initial.least
+      (fields_broken (tables_in l.program) (field_names l.layout) 0 (map field_tree l.fields));
 }

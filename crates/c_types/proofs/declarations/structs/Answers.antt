@@ -5,8 +5,10 @@ use Rattle.c_types.proofs.declarations.structs.Goals as goal
 
 pub loop-layout-preserved : goal.loop-layout-preserved
 loop-layout-preserved c =
-    let here = drop_at c.args.structs.now c.loop-layout.layout-index c.layout-item.result c.loop-layout-test.true c.layout-item.is in
+    let here = drop_at c.args.structs.now c.loop-layout.layout-index c.layout-item.result
+    c.loop-layout-test.true c.layout-item.is in
     record {
       at_index = ap (λ n. n + 1) c.loop-layout.invariant.at_index;
-      told_so = rw (c.whole_struct.ensures, ← told_append) (rw here at c.loop-layout.invariant.told_so);
+      told_so = rw (c.whole_struct.ensures, ← told_append)
+          (rw here at c.loop-layout.invariant.told_so);
     }

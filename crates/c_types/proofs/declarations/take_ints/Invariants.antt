@@ -5,4 +5,6 @@ use Rattle.c_types.specs.Views.{tables_in}
 use Rattle.c_types.proofs.declarations.take_ints.Given as goal
 
 abbrev pub invariant-loop-parameter : goal.invariant-loop-parameter
-invariant-loop-parameter l = all_ints (tables_in l.program) (map parameter_of (drop l.parameter-index l.parameters)) ≡ all_ints (tables_in l.program) (map parameter_of l.parameters)
+invariant-loop-parameter l = all_ints (tables_in l.program)
+    (map parameter_of (drop l.parameter-index l.parameters)) ≡ all_ints (tables_in l.program)
+    (map parameter_of l.parameters)

@@ -11,16 +11,20 @@ returns-in-Some-count-clause-played g c =
     let s = c.args.sizes.now in
     let device = g.P.PmemWork.device c.args.dev.now in
     let image = view device.cache in
-    let is = c.in-Some-count.ensures.value ∙ ap (λ a. count (pool_of s) a image) c.in-Some.ensures.value in
+    let is = c.in-Some-count.ensures.value ∙ ap (λ a. count (pool_of s) a image)
+    c.in-Some.ensures.value in
     let done = c.restore_first.ensures.done in
     let refused = c.restore_first.ensures.refused in
-    λ on. rw (c.of.ensures, ← events_are s image c.in-Some-count.count is) (played_of c.restore_first.result device _ _ done refused)
+    λ on. rw (c.of.ensures, ← events_are s image c.in-Some-count.count is)
+    (played_of c.restore_first.result device _ _ done refused)
 
 pub returns-in-Some-count-clause-heap : goal.returns-in-Some-count-clause-heap
 returns-in-Some-count-clause-heap g c =
     let s = c.args.sizes.now in
     let image = view (g.P.PmemWork.device c.args.dev.now).cache in
-    let is = c.in-Some-count.ensures.value ∙ ap (λ a. count (pool_of s) a image) c.in-Some.ensures.value in
+    let is = c.in-Some-count.ensures.value ∙ ap (λ a. count (pool_of s) a image)
+    c.in-Some.ensures.value in
     λ done w inside.
-    where_done c.restore_first.result _ (sym c.of.ensures ∙ done) c.restore_first.ensures.heap w inside
+    where_done c.restore_first.result _ (sym c.of.ensures ∙ done)
+    c.restore_first.ensures.heap w inside
     ∙ heap_is s image c.in-Some-count.count is w

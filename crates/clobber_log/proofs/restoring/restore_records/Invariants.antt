@@ -10,7 +10,8 @@ use Rattle.pool_layout.specs.Restored.{undone}
 use Rattle.clobber_log.specs.Restore.{back_events, word_in_record, old_in_record}
 use Rattle.clobber_log.proofs.restoring.restore_records.Given as goal
 
--- the words before the heap stay, and where what is left leads from here, all of it leads from the start
+-- the words before the heap stay, and restoring the remaining records gives what restoring all of
+-- them gives from the start
 abbrev pub invariant-loop-left : goal.invariant-loop-left
 invariant-loop-left g l =
     let dev = g.P.PmemWork.device in
@@ -23,7 +24,8 @@ invariant-loop-left g l =
       kept : (p : ℕ) → p < heap_start l.sizes → view (dev l.dev).cache p ≡ image p;
       all : (b : Device) → PlaysAll (dev l.dev) (back_events l.sizes word old l.left) b
           → PlaysAll (dev l.initial.dev) (back_events l.sizes word old l.count) b;
-      part : (why : Refusal) (b : Device) → PlaysPart why (dev l.dev) (back_events l.sizes word old l.left) b
+      part : (why : Refusal) (b : Device)
+          → PlaysPart why (dev l.dev) (back_events l.sizes word old l.left) b
           → PlaysPart why (dev l.initial.dev) (back_events l.sizes word old l.count) b;
       heap : (w : ℕ) → w < heap_words l.sizes
           → undone word old l.left (λ v. view (dev l.dev).cache (at (pool_of l.sizes) (Heap v))) w

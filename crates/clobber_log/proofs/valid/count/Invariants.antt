@@ -7,6 +7,7 @@ use Rattle.clobber_log.proofs.valid.count.Given as goal
 
 abbrev pub invariant-loop-i : goal.invariant-loop-i
 invariant-loop-i g l = record {
-  counted : l.found ≡ valid (λ (j : ℕ). view (g.P.PmemWork.device l.dev).cache (at (pool_of l.sizes) (RecordStamp j))) l.attempt l.i;
+  counted : l.found ≡ valid (λ (j : ℕ).
+      view (g.P.PmemWork.device l.dev).cache (at (pool_of l.sizes) (RecordStamp j))) l.attempt l.i;
   few : l.found ≤ l.i;
 }

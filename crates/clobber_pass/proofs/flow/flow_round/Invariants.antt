@@ -1,6 +1,6 @@
 use Rattle.std.proofs.Common.{◌≡◌, ◌<◌, ◌≤◌, ℕ, true, false}
-use Rattle.clobber_pass.specs.Flow.{Flowing, waits}
-use Rattle.clobber_pass.specs.Room.{room}
+use Rattle.clobber_pass.specs.inside.Flow.{Flowing, waits}
+use Rattle.clobber_pass.specs.inside.Room.{room}
 use Rattle.clobber_pass.proofs.flow.flow_round.Given as goal
 
 abbrev pub invariant-loop-function : goal.invariant-loop-function

@@ -1,5 +1,5 @@
-use Rattle.clobber_pass.specs.Flow.{Flowing}
-use Rattle.clobber_pass.specs.Room.{room}
+use Rattle.clobber_pass.specs.inside.Flow.{Flowing}
+use Rattle.clobber_pass.specs.inside.Room.{room}
 use Rattle.clobber_pass.proofs.flow.flows.Given as goal
 
 abbrev pub invariant-loop-waiting : goal.invariant-loop-waiting

@@ -1,5 +1,5 @@
-use Rattle.clobber_pass.specs.Calling.{Passing}
-use Rattle.clobber_pass.specs.Room.{all_room}
+use Rattle.clobber_pass.specs.inside.Calling.{Passing}
+use Rattle.clobber_pass.specs.inside.Room.{all_room}
 use Rattle.clobber_pass.proofs.passes.passes.Given as goal
 
 abbrev pub invariant-loop-waiting : goal.invariant-loop-waiting

@@ -1,7 +1,7 @@
 use Rattle.std.proofs.Common.{◌≡◌, ◌<◌, ◌≤◌, ℕ, true, false}
-use Rattle.clobber_pass.specs.Flow.{waits}
-use Rattle.clobber_pass.specs.Calling.{Passing}
-use Rattle.clobber_pass.specs.Room.{all_room}
+use Rattle.clobber_pass.specs.inside.Flow.{waits}
+use Rattle.clobber_pass.specs.inside.Calling.{Passing}
+use Rattle.clobber_pass.specs.inside.Room.{all_room}
 use Rattle.clobber_pass.proofs.passes.round.Given as goal
 
 abbrev pub invariant-loop-function : goal.invariant-loop-function

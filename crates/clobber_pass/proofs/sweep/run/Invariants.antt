@@ -1,5 +1,5 @@
-use Rattle.clobber_pass.specs.Closed.{Made}
-use Rattle.clobber_pass.specs.Room.{room}
+use Rattle.clobber_pass.specs.inside.Closed.{Made}
+use Rattle.clobber_pass.specs.inside.Room.{room}
 use Rattle.clobber_pass.proofs.sweep.run.Given as goal
 
 abbrev pub invariant-loop-rows : goal.invariant-loop-rows

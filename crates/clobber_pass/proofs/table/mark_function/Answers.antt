@@ -7,4 +7,6 @@ pub returns-then-is_empty-clause-marked : goal.returns-then-is_empty-clause-mark
 returns-then-is_empty-clause-marked c =
     let empty : length (row_in c.args.flow.now.entries c.args.function) ≡ 0 = search rules in
     let none = no_row (row_in c.args.flow.now.entries c.args.function) empty in
-    unreached c.args.ir.now c.requires.well c.args.topic c.args.exits.now c.requires.exits c.requires.ended c.args.flow.now.entries c.requires.entries c.requires.start c.args.flow.now.tables c.requires.flow c.args.function none c.args.table.now
+    unreached c.args.ir.now c.requires.well c.args.topic c.args.exits.now c.requires.exits
+    c.requires.ended c.args.flow.now.entries c.requires.entries c.requires.start
+    c.args.flow.now.tables c.requires.flow c.args.function none c.args.table.now

@@ -1,4 +1,4 @@
-use Rattle.clobber_pass.specs.Marking.{Marked}
+use Rattle.clobber_pass.specs.inside.Marking.{Marked}
 use Rattle.clobber_pass.proofs.Rounds.{below_next}
 use Rattle.clobber_pass.proofs.Tabled.{keeps_both, marked_keeps}
 use Rattle.clobber_pass.proofs.table.mark_topic.Goals as goal
@@ -9,6 +9,9 @@ loop-function-preserved c =
     let old = c.loop-function.table in
     let new = c.mark_function.new.table in (
       c.in_ok-mark_function.ensures.marks,
-      keeps_both c.args.table.now old new c.loop-function.invariant.1 c.in_ok-mark_function.ensures.kept,
-      below_next (Marked us c.args.topic new) c.loop-function.function (λ f less. marked_keeps us c.args.topic old new f c.in_ok-mark_function.ensures.kept (c.loop-function.invariant.2 f less)) c.in_ok-mark_function.ensures.marked,
+      keeps_both c.args.table.now old new c.loop-function.invariant.1
+          c.in_ok-mark_function.ensures.kept,
+      below_next (Marked us c.args.topic new) c.loop-function.function (λ f less.
+          marked_keeps us c.args.topic old new f c.in_ok-mark_function.ensures.kept
+          (c.loop-function.invariant.2 f less)) c.in_ok-mark_function.ensures.marked,
     )

@@ -1,4 +1,4 @@
-use Rattle.clobber_pass.specs.Marking.{KeepsTopics}
+use Rattle.clobber_pass.specs.inside.Marking.{KeepsTopics}
 use Rattle.clobber_pass.proofs.Topical.{Below}
 use Rattle.clobber_pass.proofs.topics.add_code.Given as goal
 

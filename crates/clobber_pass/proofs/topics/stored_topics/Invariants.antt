@@ -1,4 +1,4 @@
-use Rattle.clobber_pass.specs.Marking.{Has}
+use Rattle.clobber_pass.specs.inside.Marking.{Has}
 use Rattle.clobber_pass.specs.declared.topic.Topic.TheVariants.{Frees}
 use Rattle.clobber_pass.proofs.Topical.{BelowAll}
 use Rattle.clobber_pass.proofs.topics.stored_topics.Given as goal

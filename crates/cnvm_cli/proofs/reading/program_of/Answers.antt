@@ -1,12 +1,12 @@
-use Rattle.cnvm_cli.proofs.Verdicts.{made_of}
+use Rattle.std.proofs.Common.{Some, sym, subst}
+use Rattle.cnvm_cli.specs.declared.refused.Refused.{Refused}
+use Rattle.cnvm_cli.specs.Verdict.{ProgramRefuses}
+use Rattle.cnvm_cli.proofs.Verdicts.{told_refuses}
 use Rattle.cnvm_cli.proofs.reading.program_of.Goals as goal
 
-pub returns-in-Ok-clause-is : goal.returns-in-Ok-clause-is
-returns-in-Ok-clause-is c = record {
-  tree = c.in-Ok.ensures.accepted;
-  sizes = c.in-Ok.ensures.sizes;
-  image = c.in-Ok.ensures.image;
-  code = made_of c.in-Ok.compiled c.in-Ok.ensures.ir c.in-Ok.ensures.marks c.in-Ok.ensures.code;
-  agrees = c.in-Ok.ensures.agrees;
-  digest = c.in-Ok.ensures.digest;
-}
+pub returns-in-Err-clause-is : goal.returns-in-Err-clause-is
+returns-in-Err-clause-is c =
+    subst (λ (why : Refused). ProgramRefuses (Some c.args.text.now) why)
+    (sym c.refused_by.ensures.value)
+    (told_refuses c.args.text.now c.in-Err.fault c.told_of.result (sym c.told_of.ensures)
+    c.in-Err.ensures.refused)

@@ -1,18 +1,16 @@
 use Rattle.std.proofs.Common.{refl}
 use Rattle.cnvm_cli.proofs.Completing.{plan_kept_as}
-use Rattle.cnvm_cli.proofs.Ending.{memory_ends}
-use Rattle.cnvm_cli.proofs.Meaning.{memory_meant, plan_meant_as}
+use Rattle.cnvm_cli.proofs.Meaning.{memory_meant, plan_meant_as, usage_meant}
 use Rattle.cnvm_cli.proofs.Running.{keeps_same}
 use Rattle.cnvm_cli.proofs.run.cnvm.Goals as goal
 
-pub returns-in-Err-NoMemory-clause-ends : goal.returns-in-Err-NoMemory-clause-ends
-returns-in-Err-NoMemory-clause-ends g c = memory_ends _ _ _ _ (keeps_same _) (keeps_same _, refl, refl)
-
 pub returns-in-Ok-clause-complete : goal.returns-in-Ok-clause-complete
-returns-in-Ok-clause-complete g c = plan_kept_as _ c.in-Ok.plan _ _ _ _ c.in-Ok.ensures.ok c.run_plan.ensures.ends
+returns-in-Ok-clause-complete g c =
+    plan_kept_as _ c.in-Ok.plan _ _ _ _ c.in-Ok.ensures.ok c.run_plan.ensures.ends
 
 pub returns-in-Ok-clause-source : goal.returns-in-Ok-clause-source
-returns-in-Ok-clause-source g c = plan_meant_as _ c.in-Ok.plan _ _ _ _ c.in-Ok.ensures.ok c.run_plan.ensures.ends
+returns-in-Ok-clause-source g c =
+    plan_meant_as _ c.in-Ok.plan _ _ _ _ c.in-Ok.ensures.ok c.run_plan.ensures.ends
 
 pub returns-in-Err-NoMemory-clause-source : goal.returns-in-Err-NoMemory-clause-source
 returns-in-Err-NoMemory-clause-source g c =

@@ -2,7 +2,8 @@ use Rattle.cnvm_cli.proofs.Running.{keeps_same}
 use Rattle.cnvm_cli.proofs.run.run_plan.Goals as goal
 
 pub returns-in-Run-clause-ends : goal.returns-in-Run-clause-ends
-returns-in-Run-clause-ends g c = rw (c.in-Run.is, ← c.is_some.ensures, ← c.is_some-in-Run.ensures) c.run.ensures.ends
+returns-in-Run-clause-ends g c =
+    rw (c.in-Run.is, ← c.is_some.ensures, ← c.is_some-in-Run.ensures) c.run.ensures.ends
 
 pub returns-in-Storm-clause-ends : goal.returns-in-Storm-clause-ends
 returns-in-Storm-clause-ends g c = rw c.in-Storm.is (c.run_storm.ensures.ends, keeps_same _)

@@ -3,16 +3,18 @@ use Rattle.pmem.specs.Device.{Device}
 use Rattle.pool_layout.specs.Sizes.{pool_lines}
 use Rattle.cnvm_session.specs.declared.mode.Mode.{Mode}
 use Rattle.cnvm_cli.specs.declared.storm.Tally.{Tally}
-use Rattle.cnvm_cli.specs.Stormed.{Counts}
+use Rattle.cnvm_cli.specs.inside.Stormed.{CountsAnswers}
 use Rattle.cnvm_cli.proofs.storm.run_round.Given as goal
 
--- where the commands that are left lead from here, all of them lead from the start
+-- if the commands that are left lead on from here, then all of them lead on from the start
 abbrev pub invariant-loop-command : goal.invariant-loop-command
 invariant-loop-command g l =
     let dev = g.P.PmemWork.device in record {
       lines : (dev l.dev).lines ≡ pool_lines l.program.image.parts.sizes;
       same : (dev l.dev).lines ≡ (dev l.initial.dev).lines;
       leads : (t : Tally) (m : Mode) (d : Device) (k : ℕ)
-          → Counts l.program (drop l.command-index l.commands) l.tally l.session (dev l.dev) l.steps t m d k
-          → Counts l.program l.commands l.initial.tally l.initial.session (dev l.initial.dev) l.initial.steps t m d k;
+          → CountsAnswers l.program (drop l.command-index l.commands) l.tally l.session (dev l.dev)
+          l.steps t m d k
+          → CountsAnswers l.program l.commands l.initial.tally l.initial.session (dev l.initial.dev)
+          l.initial.steps t m d k;
     }

@@ -4,4 +4,5 @@ use Rattle.cnvm_compile.specs.SizesAsked.{within}
 use Rattle.cnvm_compile.proofs.compiling.root_words.Given as goal
 
 abbrev pub invariant-loop-field : goal.invariant-loop-field
-invariant-loop-field l = within 1 512 (l.words + words_of (drop l.field-index l.shapes.root)) ≡ within 1 512 (words_of l.shapes.root)
+invariant-loop-field l = within 1 512 (l.words + words_of (drop l.field-index l.shapes.root))
+    ≡ within 1 512 (words_of l.shapes.root)

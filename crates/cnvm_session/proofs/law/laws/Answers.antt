@@ -1,5 +1,5 @@
-use Rattle.cnvm_session.proofs.Resting.{rest_alike, rest_owes, rest_none}
-use Rattle.cnvm_session.proofs.Quieting.{good_rests, one_rests}
+use Rattle.cnvm_session.proofs.Rest.{rest_alike, rest_owes, rest_none}
+use Rattle.cnvm_session.proofs.Quiets.{good_rests, one_rests}
 use Rattle.cnvm_session.proofs.Refusing.{command_kept}
 use Rattle.cnvm_session.proofs.Bounding.{command_most}
 use Rattle.cnvm_session.proofs.law.laws.Goals as goal

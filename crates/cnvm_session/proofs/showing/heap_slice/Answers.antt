@@ -11,6 +11,9 @@ loop-k-preserved g c =
     let k = c.loop-k.k in
     let less = c.loop-k-test.true in
     let fits : FitsSigned w64 c.heap_word.result = search rules in
-    let pushed : c.push.new.self ≡ c.loop-k.all ++ c.heap_word.result ∷ [] = simp to_z-of_z at c.in_ok-push.ensures.ok in
-    λ on. words_more h (c.args.first + k) (c.args.first + (k + 1)) (c.args.count - k) (c.args.count - (k + 1)) (omega arith) (omega arith)
-    c.loop-k.all c.push.new.self _ c.heap_word.result (c.heap_word.ensures on) pushed (c.loop-k.invariant on)
+    let pushed : c.push.new.self ≡ c.loop-k.all ++ c.heap_word.result ∷ [] =
+    simp to_z-of_z at c.in_ok-push.ensures.ok in
+    λ on. words_more h (c.args.first + k) (c.args.first + (k + 1)) (c.args.count - k)
+    (c.args.count - (k + 1)) (omega arith) (omega arith)
+    c.loop-k.all c.push.new.self _ c.heap_word.result (c.heap_word.ensures on) pushed
+    (c.loop-k.invariant on)

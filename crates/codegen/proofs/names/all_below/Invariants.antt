@@ -4,4 +4,5 @@ use Rattle.codegen.specs.Names.{is_below}
 use Rattle.codegen.proofs.names.all_below.Given as goal
 
 abbrev pub invariant-loop-instruction : goal.invariant-loop-instruction
-invariant-loop-instruction l = list_all (is_below l.count) (drop l.instruction-index l.code) ≡ list_all (is_below l.count) l.code
+invariant-loop-instruction l = list_all (is_below l.count) (drop l.instruction-index l.code)
+    ≡ list_all (is_below l.count) l.code

@@ -5,4 +5,5 @@ use Rattle.lower.proofs.assigned.+assigned.Given as goal
 
 abbrev pub invariant-is_assigned-loop-stmt : goal.invariant-is_assigned-loop-stmt
 invariant-is_assigned-loop-stmt l =
-    is_assigned l.name (statements_in (drop l.stmt-index l.all)) ≡ is_assigned l.name (statements_in l.all)
+    is_assigned l.name (statements_in (drop l.stmt-index l.all)) ≡ is_assigned l.name
+    (statements_in l.all)

@@ -1,9 +1,14 @@
 use Rattle.ir.specs.WellFormed.{IsFunction}
-use Rattle.lower.proofs.Checks.{all_from, all_behind}
+use Rattle.lower.proofs.Checks.{all_from, all_after}
 use Rattle.lower.proofs.checked.are_functions.Goals as goal
 
 pub loop-function-preserved : goal.loop-function-preserved
 loop-function-preserved c = record {
-  sound = λ behind. c.loop-function.invariant.sound (all_from (IsFunction c.args.ir.now) c.args.functions.now c.loop-function.function-index c.function-item.result c.loop-function-test.true c.function-item.is (c.is_function.ensures.sound c.if-not-is_function.false) behind);
-  complete = λ all. all_behind (IsFunction c.args.ir.now) c.args.functions.now c.loop-function.function-index c.function-item.result c.loop-function-test.true c.function-item.is (c.loop-function.invariant.complete all);
+  sound = λ afterwards. c.loop-function.invariant.sound
+      (all_from (IsFunction c.args.ir.now) c.args.functions.now c.loop-function.function-index
+      c.function-item.result c.loop-function-test.true c.function-item.is
+      (c.is_function.ensures.sound c.if-not-is_function.false) afterwards);
+  complete = λ all. all_after (IsFunction c.args.ir.now) c.args.functions.now
+      c.loop-function.function-index c.function-item.result c.loop-function-test.true
+      c.function-item.is (c.loop-function.invariant.complete all);
 }

@@ -5,6 +5,8 @@ use Rattle.lower.proofs.checked.are_functions.Given as goal
 
 abbrev pub invariant-loop-function : goal.invariant-loop-function
 invariant-loop-function l = record {
-  sound : AllByRecursion (IsFunction l.ir) (drop l.function-index l.functions) → AllByRecursion (IsFunction l.ir) l.functions;
-  complete : AllByRecursion (IsFunction l.ir) l.functions → AllByRecursion (IsFunction l.ir) (drop l.function-index l.functions);
+  sound : AllByRecursion (IsFunction l.ir) (drop l.function-index l.functions)
+      → AllByRecursion (IsFunction l.ir) l.functions;
+  complete : AllByRecursion (IsFunction l.ir) l.functions
+      → AllByRecursion (IsFunction l.ir) (drop l.function-index l.functions);
 }

@@ -5,6 +5,10 @@ use Rattle.lower.proofs.checked.are_instructions.Given as goal
 
 abbrev pub invariant-loop-instruction : goal.invariant-loop-instruction
 invariant-loop-instruction l = record {
-  sound : AllByRecursion (IsInstruction l.ir l.registers (length l.code)) (drop l.instruction-index l.code) → AllByRecursion (IsInstruction l.ir l.registers (length l.code)) l.code;
-  complete : AllByRecursion (IsInstruction l.ir l.registers (length l.code)) l.code → AllByRecursion (IsInstruction l.ir l.registers (length l.code)) (drop l.instruction-index l.code);
+  sound : AllByRecursion (IsInstruction l.ir l.registers (length l.code))
+      (drop l.instruction-index l.code)
+      → AllByRecursion (IsInstruction l.ir l.registers (length l.code)) l.code;
+  complete : AllByRecursion (IsInstruction l.ir l.registers (length l.code)) l.code
+      → AllByRecursion (IsInstruction l.ir l.registers (length l.code))
+      (drop l.instruction-index l.code);
 }

@@ -4,5 +4,6 @@ use Rattle.lower.proofs.variables.find_local.Given as goal
 
 abbrev pub invariant-loop-local : goal.invariant-loop-local
 invariant-loop-local l =
-    register_in l.name (map (λ x. record { name = x.name.now; register = x.register }) (drop l.local-index l.all))
+    register_in l.name (map (λ x. record { name = x.name.now; register = x.register })
+    (drop l.local-index l.all))
     ≡ register_in l.name (map (λ x. record { name = x.name.now; register = x.register }) l.all)

@@ -1,4 +1,4 @@
--- proofs/input/read_up_to: what was taken is a first part of what the source had, and within the bound.
+-- The bytes taken so far are a first part of the source's, no longer than the bound.
 use Rattle.std.proofs.Common.{◌-◌, ◌≤◌, length}
 use Rattle.std.specs.Io.KnownBytes.{Consumes}
 use Rattle.nvm_base.proofs.input.read_up_to.Given as goal

@@ -18,4 +18,5 @@ pub returns-clause-down : goal.returns-clause-down
 returns-clause-down c = down
 
 pub returns-clause-glue : goal.returns-clause-glue
-returns-clause-glue c = λ es fs d b c. (all_append es fs d b c, λ why. part_left es fs why d c, λ why. part_right es fs why d b c)
+returns-clause-glue c = λ es fs d b c.
+    (all_append es fs d b c, λ why. part_left es fs why d c, λ why. part_right es fs why d b c)

@@ -6,5 +6,6 @@ use Rattle.pool_layout.proofs.bytes.image_bytes.Goals as goal
 pub loop-word-preserved : goal.loop-word-preserved
 loop-word-preserved c =
     let lt : c.loop-word.word-index < length c.args.words.now = omega arith in
-    let fits : FitsSigned w64 (get_or c.args.words.now c.loop-word.word-index (pos 0)) = search rules in
+    let fits : FitsSigned w64 (get_or c.args.words.now c.loop-word.word-index (pos 0)) =
+    search rules in
     rw (simp to_z-of_z at c.in_ok-push_word.ensures, bytes_of-drop) c.loop-word.invariant

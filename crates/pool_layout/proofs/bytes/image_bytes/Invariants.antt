@@ -1,4 +1,4 @@
--- The bytes so far and those of the words that are left are those of all words.
+-- The bytes so far, and then the bytes of the words that are left, are the bytes of all words.
 use Rattle.std.proofs.Common.{◌≡◌, ◌++◌, drop}
 use Rattle.pool_layout.specs.Bytes.{bytes_of}
 use Rattle.pool_layout.proofs.bytes.image_bytes.Given as goal

@@ -1,4 +1,4 @@
--- The words so far have the bytes so far.
+-- The words so far are those of the bytes so far.
 use Rattle.std.proofs.Common.{◌≡◌, ℕ, ◌<◌, ◌*◌, take, length, get_or, pos}
 use Rattle.pool_layout.specs.Bytes.{bytes_of, word_in}
 use Rattle.pool_layout.proofs.read.all_words.Given as goal

@@ -5,7 +5,7 @@ use Rattle.pmem.specs.declared.answer.Refusal.{Refusal}
 use Rattle.pool_workers.specs.Making.{creations}
 use Rattle.pool_workers.proofs.creating.create_all.Given as goal
 
--- where what is left leads from here, all of it leads from the start
+-- playing the remaining events gives what playing all of them gives from the start
 abbrev pub invariant-loop-worker : goal.invariant-loop-worker
 invariant-loop-worker g l =
     let dev = g.P.PmemWork.device in record {

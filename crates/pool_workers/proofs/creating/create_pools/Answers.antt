@@ -1,11 +1,11 @@
 use Rattle.std.proofs.Common.{◌≡◌, true, None, refl, sym, subst}
-use Rattle.pmem.specs.Device.{Device, Rose}
+use Rattle.pmem.specs.Device.{Device, FaultsRose}
 use Rattle.pool_workers.proofs.Makes.{never_off, rose_part}
 use Rattle.pool_workers.proofs.creating.create_pools.Goals as goal
 
 pub returns-in-Err-Failed-clause-failed : goal.returns-in-Err-Failed-clause-failed
 returns-in-Err-Failed-clause-failed g c _ =
-    subst (λ (d : Device). Rose d.faults (g.P.PmemWork.device c.create_all.new.dev).faults)
+    subst (λ (d : Device). FaultsRose d.faults (g.P.PmemWork.device c.create_all.new.dev).faults)
     c.in_default.ensures.done
     (rose_part _ _ _ _ c.in-Err-Failed.field-0-is c.in-Err-Failed.ensures.refused)
 

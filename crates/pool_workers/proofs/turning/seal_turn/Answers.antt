@@ -3,7 +3,8 @@ use Rattle.std.specs.Int.{cast_signed}
 use Rattle.cache_model.specs.Cache.{view}
 use Rattle.pmem.specs.Played.{PlaysAll}
 use Rattle.pmem.proofs.Refused.{all_on}
-use Rattle.args_log.specs.Next.{next}
+use Rattle.pool_layout.specs.declared.places.TheConstants.{DONE}
+use Rattle.args_log.specs.Next.{number_after}
 use Rattle.args_log.specs.Sealing.{Seals}
 use Rattle.args_log.specs.declared.sealing.SealAnswer.TheVariants as seal
 use Rattle.tx_run.specs.Due.{due_seal}
@@ -42,5 +43,5 @@ returns-in-Off-clause-turned g c =
     seal_cut c.args.image.now c.args.tx c.args.args c.args.machine d b c.in-Off.phase
     c.cut.result.answer c.cut.result.task c.cut.ensures.answer c.cut.ensures.task
     (subst (λ (xs : List ℤ). Seals (seal.Off c.in-Off.phase) d (cast_signed w64 c.args.tx)
-    (take 22 xs) (next (view d.cache 17)) b) c.as_slice.ensures
+    (take 22 xs) (number_after (view d.cache DONE)) b) c.as_slice.ensures
     (c.in-Off.ensures.played c.requires.on))

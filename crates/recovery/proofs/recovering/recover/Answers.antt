@@ -3,6 +3,7 @@ use Rattle.recovery.proofs.recovering.recover.Goals as goal
 
 pub returns-in-Sealed-clause-most : goal.returns-in-Sealed-clause-most
 returns-in-Sealed-clause-most g c =
-    let few = (c.look.ensures.names c.in-Sealed.tx c.in-Sealed.count c.in-Sealed.args c.in-Sealed.is).2 in
+    let few = (c.look.ensures.names c.in-Sealed.tx c.in-Sealed.count c.in-Sealed.args
+    c.in-Sealed.is).2 in
     let most = c.redo.ensures.most in
     omega arith

@@ -24,11 +24,14 @@ returns-in-Done-clause-redid g c =
     let k = c.args.steps.now in
     let j = c.put_back.new.steps in
     let k1 = c.settle.new.steps in
-    let done = subst (λ (z : Sizes). PlaysAll d (due_back z n d.cache) m) c.sizes.ensures c.in-Done.ensures.played in
+    let done = subst (λ (z : Sizes). PlaysAll d (due_back z n d.cache) m) c.sizes.ensures
+    c.in-Done.ensures.played in
     let up : m.on ≡ true = still_on image tx args n d b m done ∙ c.requires.on in
-    let settles = subst (λ (s : State). Settles c.settle.result image s m b j k1) c.in-Ok.ensures (c.settle.ensures.settled up) in
+    let settles = subst (λ (s : State). Settles c.settle.result image s m b j k1) c.in-Ok.ensures
+    (c.settle.ensures.settled up) in
     subst (λ (a : RecoverAnswer). Redid a image tx args n d b k k1) (sym c.redone.ensures)
-    (redid_of image tx args n d b m done c.settle.result k j k1 (c.put_back.ensures.cost c.in-Done.is) settles)
+    (redid_of image tx args n d b m done c.settle.result k j k1
+    (c.put_back.ensures.cost c.in-Done.is) settles)
 
 pub returns-in-Done-clause-bound : goal.returns-in-Done-clause-bound
 returns-in-Done-clause-bound g c =
@@ -42,28 +45,34 @@ returns-in-Done-clause-bound g c =
     let n = c.args.count in
     let j = c.put_back.new.steps in
     let k1 = c.settle.new.steps in
-    let done = subst (λ (z : Sizes). PlaysAll d (due_back z n d.cache) m) c.sizes.ensures c.in-Done.ensures.played in
+    let done = subst (λ (z : Sizes). PlaysAll d (due_back z n d.cache) m) c.sizes.ensures
+    c.in-Done.ensures.played in
     let up : m.on ≡ true = still_on image tx args n d b m done ∙ c.requires.on in
-    let bound = subst (λ (s : State). k1 ≤ j + (due_on image s m.cache).steps) c.in-Ok.ensures (c.settle.ensures.bound up) in
-    spent_of image tx args n d b m done c.args.steps.now j k1 (c.put_back.ensures.cost c.in-Done.is) bound
+    let bound = subst (λ (s : State). k1 ≤ j + (due_on image s m.cache).steps) c.in-Ok.ensures
+    (c.settle.ensures.bound up) in
+    spent_of image tx args n d b m done c.args.steps.now j k1 (c.put_back.ensures.cost c.in-Done.is)
+    bound
 
 pub returns-in-Off-clause-redid : goal.returns-in-Off-clause-redid
 returns-in-Off-clause-redid g c =
     let d = g.P.PmemWork.device c.args.dev.now in
     let b = g.P.PmemWork.device c.put_back.new.dev in
     back_cut c.args.image.now c.args.tx c.args.args.now c.args.count d b refusal.Off
-    (subst (λ (z : Sizes). PlaysPart refusal.Off d (due_back z c.args.count d.cache) b) c.sizes.ensures c.in-Off.ensures.played)
+    (subst (λ (z : Sizes). PlaysPart refusal.Off d (due_back z c.args.count d.cache) b)
+    c.sizes.ensures c.in-Off.ensures.played)
 
 pub returns-in-Failed-clause-redid : goal.returns-in-Failed-clause-redid
 returns-in-Failed-clause-redid g c =
     let d = g.P.PmemWork.device c.args.dev.now in
     let b = g.P.PmemWork.device c.put_back.new.dev in
     back_cut c.args.image.now c.args.tx c.args.args.now c.args.count d b refusal.Failed
-    (subst (λ (z : Sizes). PlaysPart refusal.Failed d (due_back z c.args.count d.cache) b) c.sizes.ensures c.in-Failed.ensures.played)
+    (subst (λ (z : Sizes). PlaysPart refusal.Failed d (due_back z c.args.count d.cache) b)
+    c.sizes.ensures c.in-Failed.ensures.played)
 
 pub returns-clause-redid : goal.returns-clause-redid
 returns-clause-redid g c =
     let d = g.P.PmemWork.device c.args.dev.now in
     let b = g.P.PmemWork.device c.put_back.new.dev in
     inr (back_cut c.args.image.now c.args.tx c.args.args.now c.args.count d b refusal.NoMemory
-    (subst (λ (z : Sizes). PlaysPart refusal.NoMemory d (due_back z c.args.count d.cache) b) c.sizes.ensures c.in-NoMemory.ensures.played))
+    (subst (λ (z : Sizes). PlaysPart refusal.NoMemory d (due_back z c.args.count d.cache) b)
+    c.sizes.ensures c.in-NoMemory.ensures.played))

@@ -20,8 +20,10 @@ returns-in-Done-clause-called g c =
     let k1 = c.settle.new.steps in
     let sealed = c.in-Done.ensures.played c.requires.on in
     let up : m.on ≡ true = still_on image tx args d b m sealed ∙ c.requires.on in
-    let settles = subst (λ (s : State). Settles c.settle.result image s m b k k1) c.requires.start (c.settle.ensures.settled up) in
-    subst (λ (a : CallAnswer). Called a image tx args d b k k1) (sym c.of.ensures) (called_of image tx args d b m sealed c.settle.result k k1 settles)
+    let settles = subst (λ (s : State). Settles c.settle.result image s m b k k1) c.requires.start
+    (c.settle.ensures.settled up) in
+    subst (λ (a : CallAnswer). Called a image tx args d b k k1) (sym c.of.ensures)
+    (called_of image tx args d b m sealed c.settle.result k k1 settles)
 
 pub returns-in-Done-clause-bound : goal.returns-in-Done-clause-bound
 returns-in-Done-clause-bound g c =
@@ -36,17 +38,24 @@ returns-in-Done-clause-bound g c =
     let k1 = c.settle.new.steps in
     let sealed = c.in-Done.ensures.played c.requires.on in
     let up : m.on ≡ true = still_on image tx args d b m sealed ∙ c.requires.on in
-    let bound = subst (λ (s : State). k1 ≤ k + (due_on image s m.cache).steps) c.requires.start (c.settle.ensures.bound up) in
+    let bound = subst (λ (s : State). k1 ≤ k + (due_on image s m.cache).steps) c.requires.start
+    (c.settle.ensures.bound up) in
     spent_of image tx args d b m sealed k k1 bound
 
 pub returns-in-Off-clause-called : goal.returns-in-Off-clause-called
 returns-in-Off-clause-called g c =
-    seal_off c.args.image.now c.args.tx c.args.args.now (g.P.PmemWork.device c.args.dev.now) (g.P.PmemWork.device c.seal.new.dev) c.in-Off.phase c.args.steps.now c.args.steps.now (c.in-Off.ensures.played c.requires.on)
+    seal_off c.args.image.now c.args.tx c.args.args.now (g.P.PmemWork.device c.args.dev.now)
+    (g.P.PmemWork.device c.seal.new.dev) c.in-Off.phase c.args.steps.now c.args.steps.now
+    (c.in-Off.ensures.played c.requires.on)
 
 pub returns-in-Failed-clause-called : goal.returns-in-Failed-clause-called
 returns-in-Failed-clause-called g c =
-    seal_failed c.args.image.now c.args.tx c.args.args.now (g.P.PmemWork.device c.args.dev.now) (g.P.PmemWork.device c.seal.new.dev) c.args.steps.now c.args.steps.now (c.in-Failed.ensures.played c.requires.on)
+    seal_failed c.args.image.now c.args.tx c.args.args.now (g.P.PmemWork.device c.args.dev.now)
+    (g.P.PmemWork.device c.seal.new.dev) c.args.steps.now c.args.steps.now
+    (c.in-Failed.ensures.played c.requires.on)
 
 pub returns-in-NoMemory-clause-called : goal.returns-in-NoMemory-clause-called
 returns-in-NoMemory-clause-called g c =
-    seal_short c.args.image.now c.args.tx c.args.args.now (g.P.PmemWork.device c.args.dev.now) (g.P.PmemWork.device c.seal.new.dev) c.args.steps.now c.args.steps.now (c.in-NoMemory.ensures.played c.requires.on)
+    seal_short c.args.image.now c.args.tx c.args.args.now (g.P.PmemWork.device c.args.dev.now)
+    (g.P.PmemWork.device c.seal.new.dev) c.args.steps.now c.args.steps.now
+    (c.in-NoMemory.ensures.played c.requires.on)

@@ -3,14 +3,16 @@ use Rattle.std.specs.Prelude.{FitsSigned}
 use Rattle.std.specs.Int.{w64}
 use Rattle.std.proofs.lemmas.Int.{to_z-of_z}
 use Rattle.c_meaning.specs.Locals.{scopes_of}
-use Rattle.c_meaning.specs.Entries.{seen, Found}
+use Rattle.c_meaning.specs.inside.Entries.{seen_locals, Found}
 use Rattle.c_meaning.proofs.Ends.{scopes_of-assigned}
 use Rattle.c_meaning.proofs.locals.Locals.assign.Goals as goal
 
 pub invariant_of-self : goal.invariant_of-self
 invariant_of-self c =
-    let found : Found c.args.name.now c.self.inside.all.items (Some c.in-Some.at) = rw (c.deref.ensures.value, c.in-Some.is) at c.place_in.ensures in
+    let found : Found c.args.name.now c.self.inside.all.items (Some c.in-Some.at) =
+    rw (c.deref.ensures.value, c.in-Some.is) at c.place_in.ensures in
     let fits : FitsSigned w64 c.args.value = c.ranges.value in
     let set = simp to_z-of_z at c.set_in.ensures in
-    c.self.invariant ∙ sym (ap (λ es. scopes_of (seen es)) set ∙ ap scopes_of (found.1 c.args.value)
-    ∙ scopes_of-assigned c.args.name.now c.args.value (seen c.self.inside.all.items))
+    c.self.invariant ∙ sym (ap (λ es. scopes_of (seen_locals es)) set
+    ∙ ap scopes_of (found.1 c.args.value)
+    ∙ scopes_of-assigned c.args.name.now c.args.value (seen_locals c.self.inside.all.items))

@@ -4,4 +4,10 @@ use Rattle.c_meaning.proofs.Resume.{then_ok}
 use Rattle.c_meaning.proofs.run.Run.open.Goals as goal
 
 pub returns : goal.returns
-returns c = then_ok c.begin.result (c.begin.ensures (tables_in c.args.program.now)) (λ is. rw (is, c.in_ok-enter.ensures, c.in_ok-locals.ensures.others, c.in_ok-locals.ensures.locals) refl)
+returns c = then_ok c.begin.result (c.begin.ensures (tables_in c.args.program.now))
+    (λ is. rw (
+      is,
+      c.in_ok-enter.ensures,
+      c.in_ok-locals.ensures.others,
+      c.in_ok-locals.ensures.locals,
+    ) refl)

@@ -5,4 +5,6 @@ use Rattle.c_meaning.proofs.run.Run.plan_declaration.Goals as goal
 
 pub returns-in-Some : goal.returns-in-Some
 returns-in-Some c = λ t. then_ok c.plan_expr.result c.plan_expr.ensures
-    (λ is. rw (is, c.in_ok-plan.ensures) (declare-then t c.args.self.now (declaration_of c.args.declaration.now) (initial_of c.in-Some.initial) (ap (option_map initial_of) c.in-Some.is)))
+    (λ is. rw (is, c.in_ok-plan.ensures)
+    (declare-then t c.args.self.now (declaration_of c.args.declaration.now)
+    (initial_of c.in-Some.initial) (ap (option_map initial_of) c.in-Some.is)))

@@ -2,7 +2,7 @@ use Rattle.std.proofs.Common.{refl, sym, option_map}
 use Rattle.c_parser.specs.ExprTree.{expr_of}
 use Rattle.c_meaning.specs.declared.work.ExprTask.TheVariants as expr_task
 use Rattle.c_meaning.specs.declared.work.Work.TheVariants as work
-use Rattle.c_meaning.specs.Resume.{calls, right_of, right_todo}
+use Rattle.c_meaning.specs.inside.Resume.{calls, right_of, right_todo}
 use Rattle.c_meaning.proofs.Resume.{then_ok, right-then, right-work, update-local, update-field}
 use Rattle.c_meaning.proofs.run.Run.plan_update.Goals as goal
 
@@ -11,8 +11,14 @@ returns-in_ok-plan_right-in-Some c = λ t.
     let s = c.args.self.now in
     let right = option_map (λ e. expr_of e.now) c.args.right in
     then_ok c.plan_expr.result c.plan_expr.ensures
-    (λ is. rw (is, c.in_ok-plan_right-in-Some.ensures, c.in_ok-plan-in-Some.ensures, right-work c.args.right (λ e. expr_of e.now) (λ e. work.Expr expr_task.Eval e) (λ e. refl))
-    (update-local t s (expr_of c.args.target.now) c.in-Some.name.now.text (right_todo right) c.args.op (λ p k. right_of t (calls t s.below) right s.top p k)
+    (λ is. rw (
+      is,
+      c.in_ok-plan_right-in-Some.ensures,
+      c.in_ok-plan-in-Some.ensures,
+      right-work c.args.right (λ e. expr_of e.now) (λ e. work.Expr expr_task.Eval e) (λ e. refl),
+    )
+    (update-local t s (expr_of c.args.target.now) c.in-Some.name.now.text (right_todo right)
+    c.args.op (λ p k. right_of t (calls t s.below) right s.top p k)
     (sym c.in-Some.ensures) (right-then t s right)))
 
 pub returns-in_ok-plan_expr-in-None-2 : goal.returns-in_ok-plan_expr-in-None-2
@@ -27,5 +33,6 @@ returns-in_ok-plan_expr-in-None-2 c = λ t.
       c.in_ok-plan_expr-in-None.ensures,
       right-work c.args.right (λ e. expr_of e.now) (λ e. work.Expr expr_task.Eval e) (λ e. refl),
     )
-    (update-field t s (expr_of c.args.target.now) (right_todo right) c.args.op (λ p k. right_of t (calls t s.below) right s.top p k)
+    (update-field t s (expr_of c.args.target.now) (right_todo right) c.args.op
+    (λ p k. right_of t (calls t s.below) right s.top p k)
     (sym c.in-None.ensures) (right-then t s right)))

@@ -5,4 +5,5 @@ use Rattle.c_meaning.proofs.run.Run.turn.Goals as goal
 
 pub returns-clause-does : goal.returns-clause-does
 returns-clause-does c = λ t. c.in_ok-plan_condition.ensures t
-    ∙ rw (c.in_ok-tick.ensures, c.in_ok-plan_stmt.ensures) (turn-then t c.tick.new.self (stmt_of c.args.stmt.now))
+    ∙ rw (c.in_ok-tick.ensures, c.in_ok-plan_stmt.ensures)
+    (turn-then t c.tick.new.self (stmt_of c.args.stmt.now))

@@ -1,5 +1,5 @@
 use Rattle.std.proofs.Common.{ℕ, ◌≡◌, ◌∙◌, ap, replicate, arith}
-use Rattle.cache_model.specs.Lists.{zero_list}
+use Rattle.cache_model.specs.inside.Lists.{zero_list}
 use Rattle.cache_model.proofs.Lists.{blank_memory}
 use Rattle.cache_model.proofs.cache.Cache.new.Goals as goal
 

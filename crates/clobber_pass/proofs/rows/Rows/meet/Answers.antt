@@ -2,8 +2,8 @@ use Rattle.std.proofs.Common.{rules, ◌≡◌, ◌<◌, ◌≤◌, ◌∙◌, s
 use Rattle.std.specs.Vec.{with_items}
 use Rattle.std.proofs.lemmas.List.{with_items_is}
 use Rattle.clobber_pass.proofs.Joins.{length_or}
-use Rattle.clobber_pass.specs.Sweep.{or_from}
-use Rattle.clobber_pass.specs.Room.{room, words_room}
+use Rattle.clobber_pass.specs.inside.Sweep.{or_from}
+use Rattle.clobber_pass.specs.inside.Room.{room, words_room}
 use Rattle.clobber_pass.proofs.Rooms.{written, joined_row, joined_same, joined_less, joined_most}
 use Rattle.clobber_pass.proofs.rows.Rows.meet.Goals as goal
 
@@ -17,9 +17,12 @@ returns-clause-row c =
     let inside : p < length rows = search rules in
     let was_is : was ≡ get_or rows p was = search rules in
     let joined : row ≡ or_from c.args.more.now 0 was.items = search rules in
-    let whole = with_items_is was row (ap (λ (r : List ℕ). length r) joined ∙ length_or c.args.more.now was.items 0 ∙ sym was.ok.0) in
-    let is = written rows table c.self.view_is p (with_items was row) ∙ ap (slice_set table p) whole in
-    is ∙ ap (slice_set table p) (joined_row rows table c.self.view_is p inside was was_is c.args.more.now row joined)
+    let whole = with_items_is was row (ap (λ (r : List ℕ). length r) joined
+    ∙ length_or c.args.more.now was.items 0 ∙ sym was.ok.0) in
+    let is = written rows table c.self.view_is p (with_items was row)
+    ∙ ap (slice_set table p) whole in
+    is ∙ ap (slice_set table p) (joined_row rows table c.self.view_is p inside was was_is
+    c.args.more.now row joined)
 
 pub returns-clause-same : goal.returns-clause-same
 returns-clause-same c still =
@@ -32,8 +35,10 @@ returns-clause-same c still =
     let was_is : was ≡ get_or rows p was = search rules in
     let joined : row ≡ or_from c.args.more.now 0 was.items = search rules in
     let same : row ≡ was.items = search rules in
-    let whole = with_items_is was row (ap (λ (r : List ℕ). length r) joined ∙ length_or c.args.more.now was.items 0 ∙ sym was.ok.0) in
-    let is = written rows table c.self.view_is p (with_items was row) ∙ ap (slice_set table p) whole in
+    let whole = with_items_is was row (ap (λ (r : List ℕ). length r) joined
+    ∙ length_or c.args.more.now was.items 0 ∙ sym was.ok.0) in
+    let is = written rows table c.self.view_is p (with_items was row)
+    ∙ ap (slice_set table p) whole in
     is ∙ joined_same rows table c.self.view_is p inside was was_is c.args.more.now row joined same
 
 pub returns-clause-grew : goal.returns-clause-grew
@@ -47,9 +52,12 @@ returns-clause-grew c more =
     let was_is : was ≡ get_or rows p was = search rules in
     let joined : row ≡ or_from c.args.more.now 0 was.items = search rules in
     let less : words_room row < words_room was.items = search rules in
-    let whole = with_items_is was row (ap (λ (r : List ℕ). length r) joined ∙ length_or c.args.more.now was.items 0 ∙ sym was.ok.0) in
-    let is = written rows table c.self.view_is p (with_items was row) ∙ ap (slice_set table p) whole in
-    subst (λ t. room t < room table) (sym is) (joined_less rows table c.self.view_is p inside was was_is c.args.more.now row joined less)
+    let whole = with_items_is was row (ap (λ (r : List ℕ). length r) joined
+    ∙ length_or c.args.more.now was.items 0 ∙ sym was.ok.0) in
+    let is = written rows table c.self.view_is p (with_items was row)
+    ∙ ap (slice_set table p) whole in
+    subst (λ t. room t < room table) (sym is)
+    (joined_less rows table c.self.view_is p inside was was_is c.args.more.now row joined less)
 
 pub returns-clause-room : goal.returns-clause-room
 returns-clause-room c =
@@ -62,6 +70,9 @@ returns-clause-room c =
     let was_is : was ≡ get_or rows p was = search rules in
     let joined : row ≡ or_from c.args.more.now 0 was.items = search rules in
     let most : words_room row ≤ words_room was.items = search rules in
-    let whole = with_items_is was row (ap (λ (r : List ℕ). length r) joined ∙ length_or c.args.more.now was.items 0 ∙ sym was.ok.0) in
-    let is = written rows table c.self.view_is p (with_items was row) ∙ ap (slice_set table p) whole in
-    subst (λ t. room t ≤ room table) (sym is) (joined_most rows table c.self.view_is p inside was was_is c.args.more.now row joined most)
+    let whole = with_items_is was row (ap (λ (r : List ℕ). length r) joined
+    ∙ length_or c.args.more.now was.items 0 ∙ sym was.ok.0) in
+    let is = written rows table c.self.view_is p (with_items was row)
+    ∙ ap (slice_set table p) whole in
+    subst (λ t. room t ≤ room table) (sym is)
+    (joined_most rows table c.self.view_is p inside was was_is c.args.more.now row joined most)

@@ -1,5 +1,5 @@
 use Rattle.std.proofs.Common.{◌≡◌, ◌++◌, drop}
-use Rattle.clobber_pass.specs.Closed.{no_exits}
+use Rattle.clobber_pass.specs.inside.Closed.{no_exits}
 use Rattle.clobber_pass.proofs.tables.Tables.new.Given as goal
 
 abbrev pub invariant-loop-body : goal.invariant-loop-body

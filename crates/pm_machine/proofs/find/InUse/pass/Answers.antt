@@ -14,5 +14,6 @@ returns-in-Stores c =
     let at = c.slot_word.ensures in
     record {
       known = λ heap known.
-          pass_store c.args.sizes.now heap n h w c.in-Stores.x c.args.effect c.store.new.self is at to known;
+          pass_store c.args.sizes.now heap n h w c.in-Stores.x c.args.effect c.store.new.self is
+          at to known;
     }

@@ -1,14 +1,19 @@
 use Rattle.std.proofs.Common.{◌≡◌, ◌≤◌, ◌+◌, true}
 use Rattle.pool_layout.specs.Sizes.{heap_words}
 use Rattle.pm_machine.specs.Known.{AreInUseOn}
-use Rattle.pm_machine.specs.Runs.{AreLines, due, Leads}
+use Rattle.pm_machine.specs.Runs.{AreLines, due}
+use Rattle.pm_machine.specs.inside.Runs.{DueLeads}
 use Rattle.pm_machine.proofs.machine.Machine.run_on.Given as goal
 
 abbrev pub invariant-loop-left : goal.invariant-loop-left
 invariant-loop-left g l =
     let device = g.P.PmemWork.device in
     record {
-      leads : Leads (device l.dev) l.steps (due l.image l.attempt l.left l.records l.self (device l.dev).cache) (device l.initial.dev) l.initial.steps (due l.image l.attempt l.image.parts.most l.initial.count l.initial.self (device l.initial.dev).cache);
+      leads : DueLeads (device l.dev) l.steps
+          (due l.image l.attempt l.left l.records l.self (device l.dev).cache)
+          (device l.initial.dev)
+          l.initial.steps (due l.image l.attempt l.image.parts.most l.initial.count l.initial.self
+          (device l.initial.dev).cache);
       dirty : AreLines (heap_words l.image.parts.sizes) l.self.dirty;
       lines : (device l.dev).lines ≡ (device l.initial.dev).lines;
       on : (device l.dev).on ≡ true;

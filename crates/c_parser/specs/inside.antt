@@ -1,0 +1,9 @@
+-- What only bodies and proofs need: no public clause rests on it.
+pub mod Fixes
+pub mod Pieces
+pub mod Run
+pub mod Exact
+pub mod ExprTree
+pub mod Spelling
+pub mod StmtTree
+pub mod Wants

@@ -1,0 +1,9 @@
+-- What only bodies and proofs need beside `Exact`.
+use Rattle.std.specs.Prelude.{◌+◌, ◌≡◌, ◌≤◌, ◌<◌, List, [], ◌∷◌}
+use Rattle.c_lexer.specs.declared.token.Placed.{Placed}
+use Rattle.c_parser.specs.ItemTree.{ItemTree}
+use Rattle.c_parser.specs.ItemSpelling.{SpellsProgram}
+
+-- some tree spells these tokens
+abbrev pub Spelled : List Placed → Type 0
+Spelled ts = (xs : List ItemTree) × SpellsProgram ts xs

@@ -1,0 +1,59 @@
+-- The call graph, and the functions that wait for another sweep because the exits of a callee grew.
+use Rattle.std.specs.Prelude.{◌≡◌, ◌==◌, ◌+◌, ℕ, Bool, true, false, List, [], ◌∷◌, ◌++◌, length, slice_set, if◌then◌else◌}
+use Rattle.ir.specs.declared.function.IrFunction.{IrFunction}
+use Rattle.ir.specs.declared.instruction.Instruction.{Instruction}
+use Rattle.ir.specs.declared.instruction.Instruction.TheVariants.{Call}
+use Rattle.ir.specs.Places.{CallsAt}
+use Rattle.clobber_pass.specs.declared.topic.Topic.{Topic}
+use Rattle.clobber_pass.specs.declared.calling.Edge.{Edge}
+use Rattle.clobber_pass.specs.inside.Sweep.{exits_of}
+use Rattle.clobber_pass.specs.inside.Closed.{AllColumns, ShapedExits}
+use Rattle.clobber_pass.specs.inside.Sound.{SoundExits}
+use Rattle.clobber_pass.specs.inside.Flow.{waits}
+
+-- some call is to this function
+abbrev pub IsCalled : List IrFunction → ℕ → Type 0
+IsCalled functions g = (f : ℕ) × (p : ℕ) × (to : ℕ) × (args : List ℕ)
+    × CallsAt functions f p to g args
+
+-- the exits of each called function are closed
+abbrev pub CalledEnded : List IrFunction → Topic → List (List (List ℕ)) → Type 0
+CalledEnded functions topic exits = (g : ℕ) → IsCalled functions g
+    → AllColumns functions topic exits g
+
+-- the calls of an instruction of function f, of a code, and of the functions from f on
+abbrev pub edges_at : ℕ → Instruction → List Edge
+edges_at f (Call to g args) = record { caller = f; called = g } ∷ []
+edges_at f _ = []
+
+abbrev pub edges_in : ℕ → List Instruction → List Edge
+edges_in f [] = []
+edges_in f (i ∷ is) = edges_at f i ++ edges_in f is
+
+abbrev pub edges_from : ℕ → List IrFunction → List Edge
+edges_from f [] = []
+edges_from f (u ∷ us) = edges_in f u.code ++ edges_from (f + 1) us
+
+-- each caller of a function waits
+abbrev pub woken : List Edge → ℕ → List Bool → List Bool
+woken [] g waiting = waiting
+woken (e ∷ es) g waiting = woken es g (if e.called == g then slice_set waiting e.caller true
+    else waiting)
+
+-- each called function waits
+abbrev pub all_called : List Edge → List Bool → List Bool
+all_called [] waiting = waiting
+all_called (e ∷ es) waiting = all_called es (slice_set waiting e.called true)
+
+-- the exits of all other functions stayed
+pub record Apart (f : ℕ) (exits new : List (List (List ℕ))) : Type 0 where
+  pub same : (h : ℕ) → (h ≡ f → ⊥) → exits_of new h ≡ exits_of exits h
+
+-- the invariant of the exits and the waiting functions
+pub record Passing (functions : List IrFunction) (topic : Topic) (exits : List (List (List ℕ)))
+    (waiting : List Bool) : Type 0 where
+  pub shaped : ShapedExits functions topic exits
+  pub sound : SoundExits functions topic exits
+  pub size : length waiting ≡ length functions
+  pub settled : (g : ℕ) → waits waiting g ≡ false → IsCalled functions g
+      → AllColumns functions topic exits g

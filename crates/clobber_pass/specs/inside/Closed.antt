@@ -1,0 +1,105 @@
+-- A table that a sweep doesn't change (a fixpoint), and the row that reaches each place.
+use Rattle.std.specs.Prelude.{◌≡◌, ◌==◌, ◌+◌, ◌-◌, ◌^◌, ◌<◌, ℕ, zero, suc, Bool, true, List, [], ◌∷◌, Option, Some, None, length, replicate, map, slice_get, slice_set, if◌then◌else◌}
+use mathlib.Core.Logic.{◌⊎◌}
+use Rattle.ir.specs.declared.instruction.Instruction.{Instruction}
+use Rattle.ir.specs.declared.function.IrFunction.{IrFunction}
+use Rattle.ir.specs.declared.fact.Fact.{Fact}
+use Rattle.clobber_pass.specs.declared.topic.Topic.{Topic}
+use Rattle.clobber_pass.specs.inside.Class.{slot}
+use Rattle.clobber_pass.specs.Row.{has_bit, tells}
+use Rattle.clobber_pass.specs.inside.Told.{column, column_of, row_width, parameters_at}
+use Rattle.clobber_pass.specs.Sweep.{row_in}
+use Rattle.clobber_pass.specs.inside.Sweep.{exits_of, exit, next_row, jump_target, row_or, join_in, meet_in, rows_led, swept}
+
+-- a sweep from a place on changes nothing
+abbrev pub Closed : Topic → List (List (List ℕ)) → ℕ → List (List ℕ) → List ℕ → ℕ
+    → List Instruction → Type 0
+Closed topic exits end rows row p [] = Unit {0}
+Closed topic exits end rows row p (i ∷ is) =
+    (meet_in rows p row ≡ rows) × (rows_led rows (jump_target end i) (row_or (row_in rows p) row)
+    ≡ rows)
+    × Closed topic exits end rows (next_row topic exits i (row_or (row_in rows p) row)) (p + 1) is
+
+-- the row that reaches the k-th place from p on
+abbrev pub row_reaching : Topic → List (List (List ℕ)) → List (List ℕ) → List ℕ → ℕ
+    → List Instruction → ℕ → Option (List ℕ)
+row_reaching topic exits rows row p [] k = None
+row_reaching topic exits rows row p (i ∷ is) zero = Some (row_or (row_in rows p) row)
+row_reaching topic exits rows row p (i ∷ is) (suc k) =
+    row_reaching topic exits rows (next_row topic exits i (row_or (row_in rows p) row)) (p + 1) is k
+
+-- what is recorded at a place; at a place that doesn't exist, everything
+abbrev pub seen_in_row : ℕ → ℕ → Option (List ℕ) → Bool
+seen_in_row x s None = true
+seen_in_row x s (Some row) = tells row x s
+
+abbrev pub told_in : Topic → List (List (List ℕ)) → List (List ℕ) → List ℕ → List Instruction → ℕ
+    → ℕ → Fact → Bool
+told_in topic exits rows entry code x p b =
+    seen_in_row x (slot b) (row_reaching topic exits rows entry 0 code p)
+
+-- each row of a table has so many words, or is empty
+abbrev pub Shaped : ℕ → List (List ℕ) → Type 0
+Shaped row_width rows = (q : ℕ) → (row_in rows q ≡ []) ⊎ (length (row_in rows q) ≡ row_width)
+
+-- what is recorded to pass through a function
+abbrev pub pass_in : List IrFunction → List (List (List ℕ)) → ℕ → ℕ → Fact → Fact → Bool
+pass_in functions exits x g e y =
+    has_bit x (exit (exits_of exits g) (column (parameters_at functions g) e) (slot y))
+
+-- the tables that repeated sweeps make from an empty one
+pub data Made (topic : Topic) (exits : List (List (List ℕ))) (entry : List ℕ)
+    (code : List Instruction) : List (List ℕ) → Type 0 where
+  none : Made topic exits entry code (replicate (length code + 1) [])
+  more : (rows : List (List ℕ)) → Made topic exits entry code rows
+      → Made topic exits entry code (swept topic exits (length code) rows entry 0 code)
+
+-- the row at a function's entry, for one column
+abbrev pub entry_word : ℕ → ℕ → ℕ → ℕ
+entry_word n c s = if column_of n s == c then 2 ^ 64 - 1 else 0
+
+abbrev pub entry_from : ℕ → ℕ → ℕ → ℕ → List ℕ
+entry_from n c s zero = []
+entry_from n c s (suc k) = entry_word n c s ∷ entry_from n c (s + 1) k
+
+abbrev pub entry_row : Topic → ℕ → ℕ → ℕ → List ℕ
+entry_row topic parameters registers c = entry_from parameters c 0 (row_width topic registers)
+
+-- each row of a function's exits has as many words as its rows, or is empty
+pub record ShapedExits (functions : List IrFunction) (topic : Topic)
+    (exits : List (List (List ℕ))) : Type 0 where
+  pub count : length exits ≡ length functions
+  pub each : (g : ℕ) (u : IrFunction) → slice_get functions g ≡ Some u
+      → (length (exits_of exits g) ≡ u.parameters + 2) × Shaped (row_width topic u.registers)
+      (exits_of exits g)
+
+-- everything recorded in the first row is recorded in the second
+abbrev pub Within : List ℕ → List ℕ → Type 0
+Within one other = (x s : ℕ) → tells one x s ≡ true → tells other x s ≡ true
+
+-- the sweeps from one column of a function's entry reach a fixpoint, and what it records of returns
+-- is recorded in the exits
+pub record EndedIn (topic : Topic) (exits : List (List (List ℕ))) (g c : ℕ) (u : IrFunction) :
+    Type 0 where
+  pub rows : List (List ℕ)
+  pub closed : Closed topic exits (length u.code) rows (entry_row topic u.parameters u.registers c)
+      0 u.code
+  pub made : Made topic exits (entry_row topic u.parameters u.registers c) u.code rows
+  pub told : Within (row_in rows (length u.code)) (row_in (exits_of exits g) c)
+
+pub record Ended (functions : List IrFunction) (topic : Topic) (exits : List (List (List ℕ)))
+    (g c : ℕ) : Type 0 where
+  pub ends : (u : IrFunction) → slice_get functions g ≡ Some u → EndedIn topic exits g c u
+
+-- empty exits
+abbrev pub no_exits : List IrFunction → List (List (List ℕ))
+no_exits functions = map (λ (u : IrFunction). replicate (u.parameters + 2) []) functions
+
+-- the exits joined with a row
+abbrev pub joined_exits : List (List (List ℕ)) → ℕ → ℕ → List ℕ → List (List (List ℕ))
+joined_exits exits g c row = slice_set exits g (join_in (exits_of exits g) c row)
+
+-- the same for each column of a function
+abbrev pub AllColumns : List IrFunction → Topic → List (List (List ℕ)) → ℕ → Type 0
+AllColumns functions topic exits g = (c : ℕ) → c < parameters_at functions g + 2
+    → Ended functions topic exits g c

@@ -1,0 +1,20 @@
+-- The room that a table leaves, which is how far its words are below 2^64. An empty row leaves more
+-- room than any row of words. Each bit that is added takes some room, so the sweeps end.
+use Rattle.std.specs.Prelude.{◌+◌, ◌-◌, ◌*◌, ◌^◌, ℕ, List, [], ◌∷◌}
+
+abbrev pub words_room : List ℕ → ℕ
+words_room [] = 0
+words_room (w ∷ ws) = (2 ^ 64 - w) + words_room ws
+
+abbrev pub row_room : List ℕ → ℕ
+row_room [] = 2 ^ 64 * 2 ^ 64 + 1
+row_room (w ∷ ws) = words_room (w ∷ ws)
+
+abbrev pub room : List (List ℕ) → ℕ
+room [] = 0
+room (row ∷ rows) = row_room row + room rows
+
+-- the room that the tables of all functions leave
+abbrev pub all_room : List (List (List ℕ)) → ℕ
+all_room [] = 0
+all_room (rows ∷ tables) = room rows + all_room tables

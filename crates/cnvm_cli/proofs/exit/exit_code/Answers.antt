@@ -1,0 +1,10 @@
+use Rattle.std.proofs.Common.{[], refl}
+use Rattle.cnvm_cli.specs.declared.status.Status.TheVariants as status
+use Rattle.cnvm_cli.proofs.Exiting.{memory_ends}
+use Rattle.cnvm_cli.proofs.exit.exit_code.Goals as goal
+
+pub returns-in-Some : goal.returns-in-Some
+returns-in-Some g c = (_, c.run_on.result, c.run_on.ensures.source, c.number.ensures)
+
+pub returns-in-None : goal.returns-in-None
+returns-in-None g c = ([], status.NoMemory, memory_ends [], c.number-in-None.ensures)

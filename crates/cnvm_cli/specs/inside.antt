@@ -1,0 +1,6 @@
+-- What only bodies and proofs need: no public clause rests on it.
+pub mod Ends
+pub mod Opened
+pub mod Run
+pub mod Stormed
+pub mod Texts

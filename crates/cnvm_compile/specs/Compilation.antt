@@ -1,0 +1,31 @@
+-- What the compiler makes of a text, for a pool of the sizes that are asked for.
+use Rattle.std.specs.Prelude.{ℕ, List, ◌≡◌, length}
+use Rattle.pool_layout.specs.Digest.{digest_of}
+use Rattle.c_types.specs.Shapes.{shapes_of}
+use Rattle.ir.specs.WellFormed.{IsWellFormed}
+use Rattle.lower.specs.Program.{lowered}
+use Rattle.clobber_pass.specs.Logged.{IsExact}
+use Rattle.session_law.specs.Agrees.{Agrees}
+use Rattle.cnvm_compile.specs.declared.asked.Asked.{Asked}
+use Rattle.cnvm_compile.specs.declared.compiling.Compiled.{Compiled}
+use Rattle.cnvm_compile.specs.FrontEnd.{AcceptsText}
+use Rattle.cnvm_compile.specs.Made.{image_of}
+use Rattle.cnvm_compile.specs.SizesAsked.{HasRoot, HasSizes}
+
+-- The program of a text: its tree, which breaks no rule; the code of the tree, without logs; exact
+-- marks of the code's stores; the image of the code with the logs of these marks, for a pool of the
+-- sizes asked for and of the root's words; and the digest of the text. The image agrees with the
+-- source.
+pub record IsCompiled (asked : Asked) (text : List ℕ) (compiled : Compiled) : Type 0 where
+  pub accepted : AcceptsText text compiled.program.typed
+  pub ir : compiled.ir ≡ lowered compiled.program.typed
+  pub well_formed : IsWellFormed compiled.ir
+  pub marks : IsExact compiled.ir.functions compiled.marks
+  pub code : compiled.program.image.parts ≡
+      image_of compiled.marks compiled.ir compiled.program.sizes
+      (length compiled.program.typed.lines)
+  pub sizes : HasSizes asked.slots asked.records asked.ticks compiled.program.sizes
+  pub image : compiled.program.image.parts.sizes ≡ compiled.program.sizes
+  pub root : HasRoot (shapes_of compiled.program.typed) compiled.program.sizes
+  pub digest : compiled.program.digest ≡ digest_of text
+  pub agrees : Agrees compiled.program

@@ -1,0 +1,25 @@
+-- What only bodies and proofs need beside `FrontEnd`.
+use Rattle.std.specs.Prelude.{◌+◌, [], ◌≡◌, ◌≢◌, Some, ⊤}
+use Rattle.c_lexer.specs.TokenList.{Tokens}
+use Rattle.c_parser.specs.Program.{Program, tree_of}
+use Rattle.c_types.specs.Fault.{refusal}
+use Rattle.cnvm_compile.specs.declared.front_end.ProgramFault.{ProgramFault}
+use Rattle.cnvm_compile.specs.declared.front_end.ProgramFault.TheVariants.{Lex, Parse, Types, NoMemory}
+use Rattle.cnvm_compile.specs.FrontEnd.{IsTree, RefusesToken}
+
+-- each tree of these tokens is this one
+abbrev pub IsOnlyTree : Tokens → Program → Type 0
+IsOnlyTree list tree = (other : Program) → IsTree list other → tree_of tree ≡ tree_of other
+
+-- how a list of tokens is refused; want of memory says nothing of the list
+abbrev pub RefusesList : Tokens → ProgramFault → Type 0
+RefusesList list (Parse fault line) = RefusesToken list fault line
+RefusesList list NoMemory = ⊤
+RefusesList list (Lex fault) = ⊥
+RefusesList list (Types fault) = ⊥
+
+abbrev pub RefusesTree : Program → ProgramFault → Type 0
+RefusesTree tree (Types fault) = refusal tree ≡ Some fault
+RefusesTree tree NoMemory = ⊤
+RefusesTree tree (Lex fault) = ⊥
+RefusesTree tree (Parse fault line) = ⊥

@@ -1,0 +1,34 @@
+-- What only bodies and proofs need beside `Lowers`.
+use Rattle.std.specs.Prelude.{ℕ, suc, pos, List, [], ◌∷◌, ◌++◌, Option}
+use Rattle.c_parser.specs.ExprTree.{ExprTree}
+use Rattle.c_parser.specs.StmtTree as stmt
+use Rattle.c_parser.specs.StmtTree.{StmtTree, Statements, SimpleTree}
+use Rattle.ir.specs.declared.instruction.Instruction.{Instruction}
+use Rattle.ir.specs.declared.instruction.Instruction.TheVariants.{Jump, Branch, Tick}
+use Rattle.lower.specs.Names.{Variables, inner_variables}
+use Rattle.lower.specs.Lowers.{Context, or_end, or_reg, or_code, third_end, third_code, variables_after, stmt_end, stmt_code}
+
+-- a `for` after its first part: a tick, the condition, the body, the third part and the jump back;
+-- the codes of condition, body and third part are given
+abbrev pub loop_code : (on p : ℕ) → (condition body third : List Instruction) → (out : ℕ)
+    → List Instruction
+loop_code on p condition body third out =
+    Tick ∷ (condition ++ (Branch on out ∷ (body ++ (third ++ Jump p ∷ []))))
+
+abbrev pub variables_after_all : Context → Statements → ℕ → Variables → Variables
+variables_after_all s stmt.Nothing p v = v
+variables_after_all s (stmt.Then x xs) p v =
+    variables_after_all s xs (stmt_end x p) (variables_after s x p v)
+
+-- the parts of a `for` after the first one, from p on
+abbrev pub for_end : Option ExprTree → Option SimpleTree → StmtTree → ℕ → ℕ
+for_end c third a p = suc (third_end third (stmt_end a (suc (or_end c (suc p)))))
+
+abbrev pub for_code : Context → Variables → Option ExprTree → Option SimpleTree → StmtTree → ℕ
+    → List Instruction
+for_code s v c third a p =
+    let p1 : ℕ = or_end c (suc p) in
+    let p2 : ℕ = stmt_end a (suc p1) in
+    let p3 : ℕ = third_end third p2 in
+    loop_code (or_reg s v c p1) p (or_code s v (pos 1) c (suc p))
+    (stmt_code s (inner_variables v) a (suc p3) p2 (suc p1)) (third_code s v third p2) (suc p3)

@@ -1,0 +1,27 @@
+-- What only bodies and proofs need beside `Answers`.
+use Rattle.std.specs.Prelude.{◌+◌, ◌≡◌, Result, Ok, Err}
+use Rattle.pmem.specs.declared.answer.Refusal.{Refusal}
+use Rattle.pmem.specs.declared.answer.Refusal.TheVariants as refusal
+use Rattle.pm_machine.specs.declared.effect.End.{End}
+use Rattle.pm_machine.specs.declared.effect.End.TheVariants as end
+use Rattle.pm_machine.specs.declared.machine.Progress.{Progress}
+use Rattle.pm_machine.specs.declared.machine.Progress.TheVariants.{Did, Ended}
+use Rattle.pm_machine.specs.declared.answer.StepAnswer.{StepAnswer}
+use Rattle.pm_machine.specs.declared.answer.StepAnswer.TheVariants as step
+use Rattle.pm_machine.specs.declared.answer.RunAnswer.{RunAnswer}
+use Rattle.pm_machine.specs.declared.answer.RunAnswer.TheVariants as run
+
+abbrev pub step_answer : Result Progress Refusal → StepAnswer
+step_answer (Ok (Did e)) = step.Next
+step_answer (Ok (Ended (end.Halted v))) = step.Halted v
+step_answer (Ok (Ended (end.Trapped k))) = step.Trapped k
+step_answer (Err refusal.Off) = step.Off
+step_answer (Err refusal.Failed) = step.Failed
+step_answer (Err refusal.NoMemory) = step.NoMemory
+
+abbrev pub run_answer : Result End Refusal → RunAnswer
+run_answer (Ok (end.Halted v)) = run.Halted v
+run_answer (Ok (end.Trapped k)) = run.Trapped k
+run_answer (Err refusal.Off) = run.Off
+run_answer (Err refusal.Failed) = run.Failed
+run_answer (Err refusal.NoMemory) = run.NoMemory

@@ -1,0 +1,47 @@
+-- What only bodies and proofs need beside `Runs`.
+use Rattle.std.specs.Prelude.{ℕ, ◌+◌, ◌*◌, ◌<◌, ◌≤◌, ◌≡◌, ◌++◌, [], ◌∷◌}
+use Rattle.pmem.specs.Device.{Device}
+use Rattle.pmem.specs.declared.answer.Refusal.{Refusal}
+use Rattle.pmem.specs.Played.{PlaysAll, PlaysPart}
+use Rattle.pool_layout.specs.Places.{at}
+use Rattle.pm_machine.specs.declared.effect.Effect.{Effect}
+use Rattle.pm_machine.specs.declared.effect.Effect.TheVariants.{Loads, Scans, Stores, Logs, Flushes, Fences, Quiet}
+use Rattle.pm_machine.specs.Effects.{records_past}
+use Rattle.pm_machine.specs.Machine.{StepOutcome, Goes, Ends, step}
+use Rattle.pm_machine.specs.Runs.{AreLines, Due, due}
+
+abbrev pub IsStore : Effect → Type 0
+IsStore (Stores w x) = Unit {0}
+IsStore (Loads w) = ⊥
+IsStore (Scans w m) = ⊥
+IsStore (Logs w) = ⊥
+IsStore (Flushes l) = ⊥
+IsStore Fences = ⊥
+IsStore Quiet = ⊥
+
+-- the words, headers and lines of an effect exist, and a LOG has room: H heap words, C records, n
+-- of them written
+abbrev pub IsInRange : (C H n : ℕ) → Effect → Type 0
+IsInRange C H n (Loads w) = w < H
+IsInRange C H n (Scans w m) = w + 16 * m ≤ H
+IsInRange C H n (Stores w x) = w < H
+IsInRange C H n (Logs w) = (w < H) × (n < C)
+IsInRange C H n (Flushes l) = 8 * l < H
+IsInRange C H n Fences = Unit {0}
+IsInRange C H n Quiet = Unit {0}
+
+-- the invariant of a step: its effect is in range, the dirty lines are lines of the heap, and the
+-- LOGs are counted from k on
+abbrev pub StepKeeps : (C H n k : ℕ) → StepOutcome → Type 0
+StepKeeps C H n k (Goes e t) = IsInRange C H n e × AreLines H t.dirty
+    × (t.logged ≡ records_past k e)
+StepKeeps C H n k (Ends e) = Unit {0}
+
+-- playing what remains, from device d and step k, completes what was due at the start
+pub record DueLeads (d : Device) (k : ℕ) (x : Due) (d0 : Device) (k0 : ℕ) (x0 : Due) : Type 0 where
+  pub fate : x.fate ≡ x0.fate
+  pub whole : (b : Device) → PlaysAll d x.events b → PlaysAll d0 x0.events b
+  pub part : (why : Refusal) (b : Device) → PlaysPart why d x.events b
+      → PlaysPart why d0 x0.events b
+  pub steps : k + x.steps ≡ k0 + x0.steps
+  pub records : x.records ≡ x0.records

@@ -1,0 +1,4 @@
+-- What only bodies and proofs need: no public clause rests on it.
+pub mod Crew
+pub mod Making
+pub mod Task

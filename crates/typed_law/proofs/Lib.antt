@@ -1,0 +1,10 @@
+pub mod Broken
+pub mod Fitting
+pub mod Known
+pub mod Expressions
+pub mod Statements
+pub mod Programs
+pub mod TypedExpressions
+pub mod TypedStatements
+pub mod TypedPrograms
+pub mod Laws

@@ -1,0 +1,5 @@
+pub mod Types
+pub mod Expressions
+pub mod Statements
+pub mod Programs
+pub mod Law

@@ -1,0 +1,97 @@
+-- The types of values, and which of them fit an operator or an assignment. A value is a number, a
+-- pointer to the struct at a place among the structs, or null; there is no other type, and none
+-- that fits everywhere.
+use Rattle.std.specs.Prelude.{ℕ, ◌≡◌, ◌≤◌, ◌⊎◌, List, None, Some, true, slice_get}
+use Rattle.c_parser.specs.declared.expr.UnaryOp.{UnaryOp}
+use Rattle.c_parser.specs.declared.expr.UnaryOp.TheVariants as unary
+use Rattle.c_parser.specs.declared.expr.BinaryOp.{BinaryOp}
+use Rattle.c_parser.specs.declared.expr.BinaryOp.TheVariants as binary
+use Rattle.c_parser.specs.StmtTree.{TypeTree}
+use Rattle.c_parser.specs.StmtTree as stmt
+use Rattle.c_parser.specs.ItemTree.{FieldTree, LengthTree}
+use Rattle.c_types.specs.declared.value_type.ValueType.{ValueType}
+use Rattle.c_types.specs.declared.value_type.ValueType.TheVariants as answered
+use Rattle.c_types.specs.Tables.{Tables, StructTree, struct_named, field_named, words_at, is_length}
+
+pub data StaticType : Type 0 where
+  Number : StaticType
+  PointerTo : (place : ℕ) → StaticType
+  NullPointer : StaticType
+
+-- the same type as the check answers it
+abbrev pub value_type : StaticType → ValueType
+value_type Number = answered.Int
+value_type (PointerTo i) = answered.Pointer i
+value_type NullPointer = answered.Null
+
+-- `struct NAME *`: a pointer to a struct that is there and has at most 15 words
+pub record IsPointer (t : Tables) (name : List ℕ) (x : StaticType) : Type 0 where
+  pub place : ℕ
+  pub named : struct_named t name ≡ Some place
+  pub small : words_at t place ≤ 15
+  pub is : x ≡ PointerTo place
+
+-- a type as it is written
+abbrev pub IsWritten : Tables → TypeTree → StaticType → Type 0
+IsWritten t stmt.Int x = x ≡ Number
+IsWritten t (stmt.Pointer name) x = IsPointer t name.text x
+
+-- the struct at place i has a field of that name, a value of that type
+pub record HasValueField (t : Tables) (i : ℕ) (name : List ℕ) (x : StaticType) : Type 0 where
+  pub owner : StructTree
+  pub there : slice_get t.structs i ≡ Some owner
+  pub field : FieldTree
+  pub named : field_named owner name ≡ Some field
+  pub single : field.len ≡ None
+  pub typed : IsWritten t field.ty x
+
+-- it has a field of that name, an array of 1 to 512 elements of that type
+pub record HasArray (t : Tables) (i : ℕ) (name : List ℕ) (x : StaticType) : Type 0 where
+  pub owner : StructTree
+  pub there : slice_get t.structs i ≡ Some owner
+  pub field : FieldTree
+  pub named : field_named owner name ≡ Some field
+  pub size : LengthTree
+  pub many : field.len ≡ Some size
+  pub within : is_length size.value ≡ true
+  pub typed : IsWritten t field.ty x
+
+-- `-` and `~` take a number, `!` takes all
+abbrev pub Applies : UnaryOp → StaticType → Type 0
+Applies unary.Not x = Unit {0}
+Applies unary.Negate x = x ≡ Number
+Applies unary.Complement x = x ≡ Number
+
+-- two numbers, two pointers to one struct, or null with a pointer or null
+abbrev pub Compares : StaticType → StaticType → Type 0
+Compares Number y = y ≡ Number
+Compares (PointerTo i) y = (y ≡ PointerTo i) ⊎ (y ≡ NullPointer)
+Compares NullPointer y = (y ≡ NullPointer) ⊎ ((i : ℕ) × (y ≡ PointerTo i))
+
+abbrev pub AreNumbers : StaticType → StaticType → Type 0
+AreNumbers x y = (x ≡ Number) × (y ≡ Number)
+
+-- `&&` and `||` take all, `==` and `!=` what compares, the others numbers
+abbrev pub Joins : BinaryOp → StaticType → StaticType → Type 0
+Joins binary.Both x y = Unit {0}
+Joins binary.Either x y = Unit {0}
+Joins binary.Equal x y = Compares x y
+Joins binary.NotEqual x y = Compares x y
+Joins binary.Mul x y = AreNumbers x y
+Joins binary.Div x y = AreNumbers x y
+Joins binary.Rem x y = AreNumbers x y
+Joins binary.Add x y = AreNumbers x y
+Joins binary.Sub x y = AreNumbers x y
+Joins binary.ShiftLeft x y = AreNumbers x y
+Joins binary.ShiftRight x y = AreNumbers x y
+Joins binary.Less x y = AreNumbers x y
+Joins binary.LessEqual x y = AreNumbers x y
+Joins binary.Greater x y = AreNumbers x y
+Joins binary.GreaterEqual x y = AreNumbers x y
+Joins binary.And x y = AreNumbers x y
+Joins binary.Xor x y = AreNumbers x y
+Joins binary.Or x y = AreNumbers x y
+
+-- a value is given to what has its type, and null to a pointer, too
+abbrev pub AcceptsType : (target value : StaticType) → Type 0
+AcceptsType x y = (x ≡ y) ⊎ ((i : ℕ) × (x ≡ PointerTo i) × (y ≡ NullPointer))

@@ -1,0 +1,142 @@
+-- Lists of transactions, by what each worker has.
+use Rattle.std.proofs.lemmas.Bool.{cases_eq}
+use Rattle.std.proofs.lemmas.List.{length-replicate}
+use Rattle.std.proofs.Common.{◌≡◌, ◌≢◌, ◌∙◌, ◌⊎◌, inl, inr, ⊎_elim, ℕ, zero, suc, ◌+◌, ◌<◌, ◌≤◌, nat_lt, if◌then◌else◌, Bool, true, false, List, [], ◌∷◌, ◌++◌, Some, None, length, drop, replicate, refl, sym, ap, subst, append-nil, append_assoc, arith}
+use Rattle.cache_model.specs.Event.{CacheEvent}
+use Rattle.pmem.specs.Device.{Device, blanked}
+use Rattle.pmem.specs.Played.{PlaysAll}
+use Rattle.pmem.proofs.Refused.{all_on}
+use Rattle.pm_machine.specs.declared.image.Image.{Image}
+use Rattle.pool_workers.specs.Task.{IsUncutOr}
+use Rattle.pool_workers.specs.Crew.{Tasks, task_at, AreTasks, HasCompartments, OtherTasksStay}
+use Rattle.workers_session.specs.declared.line.WorkersLine.{WorkersLine}
+use Rattle.workers_session.specs.WorkersState.{WorkersState, IsReadyFor, AreUninterrupted, stranger_in}
+use Rattle.workers_session.specs.WorkersCommands.{Scene, AreIdle, stopped_line, stopped_lines}
+use Rattle.workers_session.proofs.Rounds.{split_last}
+
+pub idle_at : (n j : ℕ) → task_at (replicate n None) j ≡ None
+idle_at zero j = refl
+idle_at (suc n) zero = refl
+idle_at (suc n) (suc j) = idle_at n j
+
+pub out_of : (ts : Tasks) (j : ℕ) → length ts ≤ j → task_at ts j ≡ None
+out_of [] j past = refl
+out_of (o ∷ os) zero past = absurd (omega arith)
+out_of (o ∷ os) (suc j) past = out_of os j (omega arith)
+
+pub idle_uncut : (ts : Tasks) → AreIdle ts → AreUninterrupted ts
+idle_uncut ts idle = λ j. subst IsUncutOr (sym (idle j)) tt
+
+split_at : (j n : ℕ) → (j < n) ⊎ (n ≤ j)
+split_at j zero = inr (omega arith)
+split_at zero (suc n) = inl (omega arith)
+split_at (suc j) (suc n) = ⊎_elim
+    (λ (less : j < n). inl (omega arith))
+    (λ (past : n ≤ j). inr (omega arith))
+    (split_at j n)
+
+-- all are idle if each that there is is idle
+pub all_idle : (ts : Tasks) (n : ℕ) → length ts ≤ n →
+    ((j : ℕ) → j < n → task_at ts j ≡ None) → AreIdle ts
+all_idle ts n few idle = λ j. by_place j (split_at j n)
+  where
+    by_place : (j : ℕ) → (j < n) ⊎ (n ≤ j) → task_at ts j ≡ None
+    by_place j (inl less) = idle j less
+    by_place j (inr past) = out_of ts j (omega arith)
+
+pub same_tasks : (ts us : Tasks) → length us ≡ length ts →
+    ((j : ℕ) → task_at us j ≡ task_at ts j) → us ≡ ts
+same_tasks [] [] len same = refl
+same_tasks [] (p ∷ ps) len same = absurd (omega arith)
+same_tasks (o ∷ os) [] len same = absurd (omega arith)
+same_tasks (o ∷ os) (p ∷ ps) len same =
+    let head : p ≡ o = same 0 in
+    let rest : ps ≡ os = same_tasks os ps (omega arith) (λ j. same (suc j)) in
+    rw (head, rest) refl
+
+pub state_is : (w v : WorkersState) → v.tasks ≡ w.tasks → v.down ≡ w.down → v ≡ w
+state_is w v tasks down = λ i. record { tasks = tasks i; down = down i }
+
+pub scene_is : (x y : Scene) → y.workers.tasks ≡ x.workers.tasks → y.workers.down ≡ x.workers.down
+    → y.device ≡ x.device → y.steps ≡ x.steps → y ≡ x
+scene_is x y tasks down device steps =
+    λ i. record {
+      workers = record { tasks = tasks i; down = down i };
+      device = device i;
+      steps = steps i;
+    }
+
+head_known : (n worker : ℕ) (workers : List ℕ) (less : Bool) → nat_lt worker n ≡ less →
+    (if less then stranger_in n workers else Some worker) ≡ None →
+    (nat_lt worker n ≡ true) × (stranger_in n workers ≡ None)
+head_known n worker workers true is known = (is, known)
+head_known n worker workers false is known = absurd cc
+
+-- the first of numbers that all are workers'
+pub first_known : (n worker : ℕ) (workers : List ℕ) → stranger_in n (worker ∷ workers) ≡ None →
+    (nat_lt worker n ≡ true) × (stranger_in n workers ≡ None)
+first_known n worker workers known =
+    head_known n worker workers (nat_lt worker n) refl known
+
+pub stopped_next : (ts : Tasks) (i w : ℕ) → i < length ts →
+    stopped_lines w (drop i ts)
+    ≡ stopped_line w (task_at ts i) ++ stopped_lines (suc w) (drop (suc i) ts)
+stopped_next [] i w less = absurd (omega arith)
+stopped_next (o ∷ os) zero w less = refl
+stopped_next (o ∷ os) (suc i) w less = stopped_next os i w (omega arith)
+
+pub stopped_more : (ts : Tasks) (i : ℕ) (lines first all : List WorkersLine) → i < length ts →
+    first ≡ stopped_line i (task_at ts i) →
+    lines ++ stopped_lines i (drop i ts) ≡ all →
+    (lines ++ first) ++ stopped_lines (i + 1) (drop (i + 1) ts) ≡ all
+stopped_more ts i lines first all less is was =
+    let next : i + 1 ≡ suc i = omega arith in
+    rw (
+      next,
+      is,
+      append_assoc lines (stopped_line i (task_at ts i))
+          (stopped_lines (suc i) (drop (suc i) ts)),
+      ← stopped_next ts i i less,
+    ) was
+
+stopped_past : (ts : Tasks) (i w : ℕ) → length ts ≤ i → stopped_lines w (drop i ts) ≡ []
+stopped_past [] zero w past = refl
+stopped_past [] (suc i) w past = refl
+stopped_past (o ∷ os) zero w past = absurd (omega arith)
+stopped_past (o ∷ os) (suc i) w past = stopped_past os i w (omega arith)
+
+pub stopped_end : (ts : Tasks) (i : ℕ) (lines all : List WorkersLine) → length ts ≤ i →
+    lines ++ stopped_lines i (drop i ts) ≡ all → all ≡ lines
+stopped_end ts i lines all past was =
+    sym was ∙ ap (λ (ls : List WorkersLine). lines ++ ls) (stopped_past ts i i past)
+    ∙ simp append-nil
+
+-- a new pool of compartments, whose workers are idle
+pub created_ready : (image : Image) (count lines : ℕ) (ts : Tasks) (d b : Device)
+    (es : List CacheEvent) → ts ≡ replicate count None → count ≤ 8 → AreTasks image ts →
+    HasCompartments image ts b → PlaysAll (blanked lines d) es b →
+    IsReadyFor image (record { tasks = ts; down = false }) b
+created_ready image count lines ts d b es idle few tasks devices played =
+    let long : length ts ≡ count =
+    ap (λ (us : Tasks). length us) idle ∙ length-replicate count None in
+    record {
+      few = omega arith;
+      tasks = tasks;
+      lines = devices;
+      on = λ up. all_on es (blanked lines d) b played;
+      uncut = λ up j.
+          subst IsUncutOr
+          (sym (ap (λ (us : Tasks). task_at us j) idle ∙ idle_at count j)) tt;
+    }
+
+-- one more worker is idle
+pub idle_more : (i : ℕ) (ts us : Tasks) → ((j : ℕ) → j < i → task_at ts j ≡ None) →
+    task_at us i ≡ None → OtherTasksStay i ts us → (j : ℕ) → j < i + 1 → task_at us j ≡ None
+idle_more i ts us idle own others j less = ⊎_elim
+    (λ (e : j ≡ i). subst (λ (n : ℕ). task_at us n ≡ None) (sym e) own)
+    (λ (ne : j ≢ i). others j ne ∙ idle j (below j i ne (omega arith)))
+    (cases_eq j i)
+  where
+    below : (k n : ℕ) → k ≢ n → k < suc n → k < n
+    below k n ne before = ⊎_elim (λ (l : k < n). l) (λ (e : k ≡ n). absurd (ne e))
+        (split_last k n before)

@@ -1,0 +1,7 @@
+pub mod Extending
+pub mod Onward
+pub mod Turnings
+pub mod Rounds
+pub mod Beginning
+pub mod Crews
+pub mod OneTurn

@@ -1,0 +1,147 @@
+-- A turn that isn't interrupted lowers the number of turns that are left.
+use Rattle.std.proofs.Common.{◌≡◌, ◌⊎◌, inl, inr, ⊎_elim, ℕ, zero, suc, ◌+◌, ◌-◌, ◌<◌, ◌≤◌, Bool, true, false, if◌then◌else◌, [], ◌∷◌, Option, Some, length, refl, ap, subst, ne_eqb, arith}
+use Rattle.cache_model.specs.Cache.{Cache, view}
+use Rattle.cache_model.specs.Play.{play}
+use Rattle.pmem.specs.Device.{Device}
+use Rattle.pm_machine.specs.declared.image.Image.{Image}
+use Rattle.pm_machine.specs.Effects.{records_past}
+use Rattle.pm_machine.specs.Machine.{State, StepOutcome, Goes, Ends, step}
+use Rattle.pm_machine.specs.Runs.{heap_in}
+use Rattle.clobber_log.specs.Logs.{attempt_in, count_in}
+use Rattle.tx_run.specs.Due.{due_seal}
+use Rattle.pool_workers.specs.declared.answer.TurnAnswer.{TurnAnswer}
+use Rattle.pool_workers.specs.declared.answer.TurnAnswer.TheVariants as turned
+use Rattle.pool_workers.specs.declared.task.Task.{Task}
+use Rattle.pool_workers.specs.declared.task.Task.TheVariants.{Begun, Running, Ending, Cut}
+use Rattle.pool_workers.specs.Task.{going, stepped_task, task_past, Turned, IsTask, IsTaskOr, IsUncut, IsUncutOr}
+use Rattle.pool_workers.specs.Crew.{Tasks, task_at, AreTasks, OtherTasksStay}
+use Rattle.workers_session.specs.WorkersCommands.{is_interrupted}
+use Rattle.workers_session.specs.inside.Turning.{turns_of, turns_left, turns_in, busy_one, busy_first}
+
+going_most : (m : ℕ) (s : State) (a n k : ℕ) → turns_of m (going s a n k) ≤ k + 1
+going_most m s a n zero =
+    let same : turns_of m (going s a n zero) ≡ 1 = refl in omega arith
+going_most m s a n (suc k) =
+    let same : turns_of m (going s a n (suc k)) ≡ suc k + 1 =
+    rw (ne_eqb (suc k) 0 (λ e. omega arith)) refl in
+    omega arith
+
+stepped_most : (m a n k l : ℕ) (o : StepOutcome) → 0 < k →
+    turns_of m (stepped_task a n k l o) < k + 1
+stepped_most m a n k l (Goes e t) more =
+    let most = going_most m t a (records_past n e) (k - 1) in omega arith
+stepped_most m a n k l (Ends end) more = omega arith
+
+past_less : (image : Image) (t : Task) (c : Cache) → IsTask image t → IsUncut t →
+    turns_left image.parts.most (task_past image t c) + 1 ≤ turns_of image.parts.most t
+past_less image (Begun tx args s) c is uncut =
+    let now = view (play c (due_seal tx args c)) in
+    let most = going_most image.parts.most s (attempt_in image.parts.sizes now)
+    (count_in image.parts.sizes now) image.parts.most in
+    omega arith
+past_less image (Running s a n k) c is uncut =
+    let less = stepped_most image.parts.most a n k s.logged
+    (step image n s (heap_in image.parts.sizes c)) is.4 in
+    omega arith
+past_less image (Ending end l) c is uncut = omega arith
+past_less image (Cut p) c is uncut = absurd uncut
+
+turned_less : (a : TurnAnswer) (image : Image) (t : Task) (o : Option Task) (d b : Device) →
+    IsTask image t → IsUncut t → Turned a image t o d b → is_interrupted a ≡ false →
+    turns_left image.parts.most o + 1 ≤ turns_of image.parts.most t
+turned_less turned.Idle image t o d b is uncut h goes = absurd h
+turned_less turned.Went image t o d b is uncut h goes =
+    rw h.1 (past_less image t d.cache is uncut)
+turned_less (turned.Done v l) image t o d b is uncut h goes =
+    rw h.1 (past_less image t d.cache is uncut)
+turned_less (turned.Trap k) image t o d b is uncut h goes =
+    rw h.1 (past_less image t d.cache is uncut)
+turned_less turned.Off image t o d b is uncut h goes = absurd cc
+turned_less turned.Failed image t o d b is uncut h goes = absurd cc
+turned_less turned.NoMemory image t o d b is uncut h goes = absurd cc
+
+shift_suc : (i j : ℕ) → suc j ≡ suc i → j ≡ i
+shift_suc i j e = omega arith
+
+same_turns : (m : ℕ) (ts us : Tasks) → length us ≡ length ts →
+    ((j : ℕ) → task_at us j ≡ task_at ts j) → turns_in m us ≡ turns_in m ts
+same_turns m [] [] len same = refl
+same_turns m [] (p ∷ ps) len same = absurd (omega arith)
+same_turns m (o ∷ os) [] len same = absurd (omega arith)
+same_turns m (o ∷ os) (p ∷ ps) len same =
+    let head : p ≡ o = same 0 in
+    let rest = same_turns m os ps (omega arith) (λ j. same (suc j)) in
+    rw (head, rest) refl
+
+-- only the turns of one worker are others
+one_other : (m i : ℕ) (ts us : Tasks) → length us ≡ length ts → i < length ts →
+    OtherTasksStay i ts us →
+    turns_in m us + turns_left m (task_at ts i) ≡ turns_in m ts + turns_left m (task_at us i)
+one_other m i [] us len less others = absurd (omega arith)
+one_other m i (o ∷ os) [] len less others = absurd (omega arith)
+one_other m zero (o ∷ os) (p ∷ ps) len less others =
+    let rest = same_turns m os ps (omega arith) (λ j. others (suc j) (λ e. omega arith)) in
+    omega arith
+one_other m (suc i) (o ∷ os) (p ∷ ps) len less others =
+    let head : p ≡ o = others 0 (λ e. omega arith) in
+    let rest = one_other m i os ps (omega arith) (omega arith)
+    (λ j ne. others (suc j) (λ e. ne (shift_suc i j e))) in
+    rw head (omega arith)
+
+pub is_task_at : (image : Image) (ts : Tasks) (i : ℕ) → AreTasks image ts →
+    IsTaskOr image (task_at ts i)
+is_task_at image [] i are = tt
+is_task_at image (o ∷ os) zero are = are.0
+is_task_at image (o ∷ os) (suc i) are = is_task_at image os i are.1
+
+-- a turn of a worker that has a transaction
+pub turn_fewer : (image : Image) (i : ℕ) (a : TurnAnswer) (t : Task) (ts us : Tasks) (d b : Device)
+    → task_at ts i ≡ Some t → AreTasks image ts → IsUncutOr (task_at ts i) →
+    Turned a image t (task_at us i) d b → is_interrupted a ≡ false →
+    length us ≡ length ts → i < length ts → OtherTasksStay i ts us →
+    turns_in image.parts.most us + 1 ≤ turns_in image.parts.most ts
+turn_fewer image i a t ts us d b is are uncut h goes len less others =
+    let task : IsTaskOr image (Some t) = subst (IsTaskOr image) is (is_task_at image ts i are) in
+    let going_on : IsUncutOr (Some t) = subst IsUncutOr is uncut in
+    let lower = turned_less a image t (task_at us i) d b task going_on h goes in
+    let one = one_other image.parts.most i ts us len less others in
+    let was : turns_left image.parts.most (task_at ts i) ≡ turns_of image.parts.most t =
+    ap (turns_left image.parts.most) is in
+    omega arith
+
+pub split_last : (i n : ℕ) → i < suc n → (i < n) ⊎ (i ≡ n)
+split_last zero zero less = inr refl
+split_last zero (suc n) less = inl (omega arith)
+split_last (suc i) zero less = absurd (omega arith)
+split_last (suc i) (suc n) less = ⊎_elim
+    (λ (before : i < n). inl (omega arith))
+    (λ (last : i ≡ n). inr (ap suc last))
+    (split_last i n (omega arith))
+
+busy_last : (n i : ℕ) (ts : Tasks) → (i < n → busy_one (task_at ts i) ≤ busy_first n ts) →
+    (i < n) ⊎ (i ≡ n) → busy_one (task_at ts i) ≤ busy_first (suc n) ts
+busy_last n i ts below (inl before) = let most = below before in omega arith
+busy_last n i ts below (inr last) = rw last (omega arith)
+
+pub busy_at : (n i : ℕ) (ts : Tasks) → i < n → busy_one (task_at ts i) ≤ busy_first n ts
+busy_at zero i ts less = absurd (omega arith)
+busy_at (suc n) i ts less =
+    busy_last n i ts (λ before. busy_at n i ts before) (split_last i n less)
+
+-- one more turn of a round, of a worker that has had none before
+pub busy_more : (m i : ℕ) (start now next : Tasks) → task_at now i ≡ task_at start i →
+    turns_in m now + busy_first i start ≤ turns_in m start →
+    turns_in m next + busy_one (task_at now i) ≤ turns_in m now →
+    turns_in m next + busy_first (i + 1) start ≤ turns_in m start
+busy_more m i start now next same before one =
+    let last : busy_one (task_at now i) ≡ busy_one (task_at start i) = ap busy_one same in
+    let next_one : i + 1 ≡ suc i = omega arith in
+    rw next_one (omega arith)
+
+-- the measure of the rounds falls in each round
+pub round_lower : (was is : Bool) (old new busy : ℕ) → was ≡ false → 0 < busy →
+    (is ≡ false → new + busy ≤ old) →
+    (if is then 0 else 1 + new) < (if was then 0 else 1 + old)
+round_lower true is old new busy up some fewer = let e : true ≡ false = up in absurd cc
+round_lower false true old new busy up some fewer = omega arith
+round_lower false false old new busy up some fewer = let less = fewer refl in omega arith
