@@ -13,18 +13,18 @@ import os, subprocess, sys, tempfile
 HERE = os.path.dirname(os.path.abspath(__file__))
 PROGRAM = os.path.abspath(sys.argv[1] if len(sys.argv) > 1 else HERE + "/../crates/cnvm/out/cnvm")
 COUNTER = os.path.abspath(HERE + "/../examples/counter.c")
-BEHIND = "power old\nshow\nlast\n"
-LEFT = {  # what the lines behind `no memory` may be
+AFTER = "power old\nshow\nlast\n"
+LEFT = {  # what the lines after `no memory` may be
     "recovered none\nroot n=0\nlast 0 0\n", "recovered none\nroot n=5\nlast 1 5\n",
     "recovered redone 5 log 1\nroot n=5\nlast 1 5\n",
 }
 ANSWERS = {"refused down\n"} | {line for left in LEFT for line in left.splitlines(keepends=True)}
 ANSWERS |= {f"stopped {phase}\n" for phase in ("unsealed", "sealing", "sealed")}
 RUNS = {
-    "call": ("call inc 5\n" + BEHIND, [], "= 5 log 1\nrecovered none\nroot n=5\nlast 1 5\n"),
-    "cut": ("stop 13\ncall inc 5\npower new\nshow\n" + BEHIND, [],
+    "call": ("call inc 5\n" + AFTER, [], "= 5 log 1\nrecovered none\nroot n=5\nlast 1 5\n"),
+    "cut": ("stop 13\ncall inc 5\npower new\nshow\n" + AFTER, [],
             "stopped sealed\nrecovered redone 5 log 1\nroot n=5\nrecovered none\nroot n=5\nlast 1 5\n"),
-    "save": ("call inc 5\n" + BEHIND, ["--slots", "1", "--log", "1", "--save", "Z"],
+    "save": ("call inc 5\n" + AFTER, ["--slots", "1", "--log", "1", "--save", "Z"],
              "= 5 log 1\nrecovered none\nroot n=5\nlast 1 5\n"),
 }
 
@@ -48,8 +48,8 @@ def judge(status, out, whole):
         return None
     if "no memory\n" not in out:
         return "whole" if out == whole else None
-    before, behind = out.split("no memory\n", 1)
-    lines = behind.splitlines(keepends=True)
+    before, after = out.split("no memory\n", 1)
+    lines = after.splitlines(keepends=True)
     right = whole.startswith(before) and all(line in ANSWERS for line in lines)
     return "no memory" if right and (len(lines) < 3 or "".join(lines[-3:]) in LEFT) else None
 

@@ -81,6 +81,31 @@ def aliases(n):
     return "", text + "tx int64_t go(int64_t a) {\n  struct M *p0 = root.first;\n" + body + "  return 0;\n}\n"
 
 
+def chain(n):
+    """One function of pointers that a loop copies against the order of code, so each round takes one copy further."""
+    return chained(n, "")
+
+
+def chain_of_loops(n):
+    """The same, with a loop between each two copies."""
+    return chained(n, " while (a) { }")
+
+
+def chained(n, between):
+    body = "  struct N *p1 = pm_new(struct N);\n" + "".join(f"  struct N *p{i} = p1;\n" for i in range(2, n))
+    copies = "".join(f"    p{i} = p{i - 1};{between}\n" for i in range(n - 1, 0, -1))
+    text = NODE + ROOT % "struct N *first;" + "tx int64_t go(int64_t a) {\n  struct N *p0 = root.first;\n" + body
+    return "", text + "  while (root.n < a) {\n" + copies + f"  }}\n  p{n - 1}->a = p{n - 1}->a + 1;\n  return 0;\n}}\n"
+
+
+def pairs(n):
+    """One function of new objects that are all made first, and then used two at a time in loops."""
+    made = "".join(f"  struct N *p{i} = pm_new(struct N);\n" for i in range(2 * n))
+    loops = "".join(
+        f"  while (p{2 * i}->a < a) {{ p{2 * i}->{'abc'[i % 3]} = p{2 * i + 1}->{'bca'[i % 3]} + 1; }}\n" for i in range(n))
+    return "", NODE + ROOT % "" + "tx int64_t go(int64_t a) {\n" + made + loops + "  return 0;\n}\n"
+
+
 def branches(n):
     """One function of loops and branches, twenty deep."""
     opens = "".join(f"if (a > {i}) {{ root.n += a; while (root.m < {i}) {{ root.t[{i}] = root.n; " for i in range(10))
@@ -97,8 +122,9 @@ def long_names(n):
     return "", text + f"tx int64_t go(int64_t {a}) {{\n" + body + "  return 0;\n}\n"
 
 
-SHAPES = [functions, statements, local_names, structs, expressions, cycle, pointers, aliases, branches, long_names]
-MOST = {"functions": 1023}
+SHAPES = [functions, statements, local_names, structs, expressions, cycle, pointers, pairs, aliases, chain,
+          chain_of_loops, branches, long_names]
+MOST = {"functions": 1023, "chain": 1001}
 
 
 def fits(shape, n):
