@@ -14,6 +14,7 @@ use Rattle.pmem.specs.declared.answer.Refusal.{Refusal}
 use Rattle.pmem.specs.declared.answer.Refusal.TheVariants as refusal
 use Rattle.pmem.specs.declared.answer.Phase.TheVariants as phase
 use Rattle.pmem.proofs.Refused.{all_cache}
+use Rattle.pmem.proofs.Parts.{part_during, all_during, during_start}
 use Rattle.pool_layout.specs.declared.places.Place.TheVariants.{Last}
 use Rattle.pool_layout.specs.Places.{at, pool_of}
 use Rattle.pool_layout.specs.Log.{count}
@@ -40,23 +41,6 @@ use Rattle.abort_law.specs.Cuts.{IsTidyRun, IsMarkedEnd, IsMarkedCut, IsMarkedLe
 use Rattle.abort_law.specs.Cuts.{IsRolledBackTo}
 use Rattle.abort_law.proofs.Calls.{call_owes, cut_marked}
 use Rattle.abort_law.proofs.Redoes.{redo_owes, cut_remarked}
-
--- a property that holds during a list of events
-
-refused_cache : (why : Refusal) (d b : Device) → Refuses why d b → b.cache ≡ d.cache
-refused_cache refusal.Off d b h = ap (λ (x : Device). x.cache) h.1
-refused_cache refusal.Failed d b h = ap (λ (x : Device). x.cache) h.3
-refused_cache refusal.NoMemory d b h = ap (λ (x : Device). x.cache) h
-
-part_during : (Q : Cache → Type 0) (why : Refusal) (es : List CacheEvent) (d b : Device) →
-    PlaysPart why d es b → during d.cache es Q → Q b.cache
-part_during Q why [] d b part h = absurd part
-part_during Q why (e ∷ es) d b (inl refused) h = subst Q (sym (refused_cache why d b refused)) h.0
-part_during Q why (e ∷ es) d b (inr rest) h = part_during Q why es (spent d e) b rest.1 h.1
-
-all_during : (Q : Cache → Type 0) (es : List CacheEvent) (d b : Device) → PlaysAll d es b →
-    during d.cache es Q → Q b.cache
-all_during Q es d b all h = subst Q (sym (all_cache es d b all)) (during_end d.cache es Q h)
 
 module _ (image : Image) (super : Words) (tx : ℕ) (args : List ℤ) (d b : Device) (one : Words)
     (n : ℕ) (end : End) (es : List Effect)
@@ -173,7 +157,12 @@ module _ (image : Image) (super : Words) (tx : ℕ) (args : List ℤ) (d b : Dev
   redo_leaves (answer.Off phase.Unsealed) k k1 redid = absurd redid
   redo_leaves (answer.Off phase.Sealing) k k1 redid = absurd redid
   redo_leaves answer.Failed k k1 redid = (redo_part refusal.Failed redid, tt)
-  redo_leaves answer.NoMemory k k1 redid = (redo_part refusal.NoMemory redid, tt)
+  redo_leaves answer.NoMemory k k1 redid = (
+    ⊎_elim (λ (same : b ≡ d). subst (Images Left) (sym (ap (λ (x : Device). x.cache) same))
+        (during_start (Images Left) list d.cache redo_cuts.0))
+        (λ p. redo_part refusal.NoMemory p) redid,
+    tt,
+  )
   redo_leaves (answer.Unusable t) k k1 redid = absurd redid
   redo_leaves answer.Numbers k k1 redid = absurd redid
 

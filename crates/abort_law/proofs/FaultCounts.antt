@@ -3,9 +3,8 @@ use Rattle.std.proofs.Common.{⊎_elim, ℕ, ◌≤◌, List, ℤ}
 use Rattle.pmem.specs.Device.{Device}
 use Rattle.pmem.specs.declared.answer.Refusal.TheVariants as refusal
 use Rattle.pmem.specs.declared.answer.Phase.TheVariants as phase
+use Rattle.pmem.proofs.Parts.{same_rise, all_rise, part_rise, part_failed}
 use Rattle.pm_machine.specs.declared.image.Image.{Image}
-use Rattle.pm_machine.proofs.Faults.{all_rise, part_rise}
-use Rattle.cut_law.proofs.FaultCounts.{part_failed}
 use Rattle.abort_mode.specs.declared.answer.AbortAnswer.{AbortAnswer}
 use Rattle.abort_mode.specs.declared.answer.AbortAnswer.TheVariants as answer
 use Rattle.abort_mode.specs.Due.{due_call, abort_due_redo}
@@ -40,7 +39,8 @@ redo_rise image tx args m d b k k1 (answer.Off phase.Sealing) redid = absurd red
 redo_rise image tx args m d b k k1 answer.Failed redid =
     part_rise (abort_due_redo image tx args m d.cache) refusal.Failed d b redid
 redo_rise image tx args m d b k k1 answer.NoMemory redid =
-    part_rise (abort_due_redo image tx args m d.cache) refusal.NoMemory d b redid
+    ⊎_elim (λ same. same_rise d b same)
+    (λ p. part_rise (abort_due_redo image tx args m d.cache) refusal.NoMemory d b p) redid
 redo_rise image tx args m d b k k1 (answer.Unusable t) redid = absurd redid
 redo_rise image tx args m d b k k1 answer.Numbers redid = absurd redid
 

@@ -65,33 +65,6 @@ unfolding count
 count_few z image =
     valid_few (λ j. image (at (pool_of z) (RecordStamp j))) (attempt_in z image) z.records
 
--- memory may be short before the first event of a list that has one
-
-abbrev MayBeShort : List CacheEvent → Type 0
-MayBeShort es = (d : Device) → PlaysPart refusal.NoMemory d es d
-
-short_after : (es fs : List CacheEvent) → MayBeShort fs → MayBeShort (es ++ fs)
-short_after [] fs h = h
-short_after (e ∷ es) fs h = λ d. inl refl
-
-short_retiring : (v : ℤ) (c : Cache) → MayBeShort (retiring v c)
-unfolding retire_events
-short_retiring v c = λ d. inl refl
-
-short_tail : (z : Sizes) (end : End) (c : Cache) → MayBeShort (abort_tail_events z end c)
-short_tail z (Halted v) c = short_retiring v c
-short_tail z (Trapped k) c =
-    let back : List CacheEvent = restore_events z (view c) in
-    let put : Cache = play c back in
-    short_after back (retiring_still put) (short_retiring (view put LAST) put)
-
-short_run : (image : Image) (s : State) (c : Cache) → MayBeShort (due_run image s c)
-short_run image s c =
-    let run : Due = abort_due_on image s c in
-    short_after run.events
-    (abort_tail_events image.parts.sizes (end_of run.fate) (play c run.events))
-    (short_tail image.parts.sizes (end_of run.fate) (play c run.events))
-
 -- the undo
 
 module _ (z : Sizes) (d b : Device) where
@@ -233,10 +206,10 @@ module _ (image : Image) (tx : ℕ) (args : List ℤ) (d b : Device) (k k1 : ℕ
   unfolding due_call
   left why p = part_left seal_of (due_run image state sealed) why d b p
 
-  -- memory may be short before the first event
+  -- memory may be short before the first event, which is a store
   pub short : PlaysPart refusal.NoMemory d (due_call image tx args d.cache) d
-  unfolding due_call
-  short = short_after seal_of (due_run image state sealed) (short_run image state sealed) d
+  unfolding due_call seal_events unsealed_events payload_events
+  short = inl (tt, refl)
 
   pub seal_off : (p : Phase) →
       sealing.Seals (seal.Off p) d (cast_signed w64 tx) (take 22 args)
@@ -324,10 +297,6 @@ module _ (image : Image) (tx : ℕ) (args : List ℤ) (n : ℕ) (d b : Device) w
       PlaysPart why d (abort_due_redo image tx args n d.cache) b
   back_cut why p = part_left back (due_run image again put) why d b p
 
-  -- memory may be short before the first event
-  pub back_short : PlaysPart refusal.NoMemory d (abort_due_redo image tx args n d.cache) d
-  back_short = short_after back (due_run image again put) (short_run image again put) d
-
   module _ (m : Device) (done : PlaysAll d back m) where
     same_put : m.cache ≡ put
     same_put = all_cache back d m done
@@ -374,6 +343,6 @@ module _ (image : Image) (tx : ℕ) (args : List ℤ) (n : ℕ) (d b : Device) w
       redid_of (Off Unsealed) h = h
       redid_of (Off Sealing) h = h
       redid_of Failed h = right_put refusal.Failed h
-      redid_of NoMemory h = right_put refusal.NoMemory h
+      redid_of NoMemory h = inr (right_put refusal.NoMemory h)
       redid_of (Unusable t) h = h
       redid_of Numbers h = h

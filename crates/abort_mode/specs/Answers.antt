@@ -1,5 +1,5 @@
 -- How the calls of a marked transaction are answered.
-use Rattle.std.specs.Prelude.{ℕ, ◌+◌, ◌*◌, ◌≤◌, ◌≡◌, ◌≢◌, true, false, ℤ, pos, List}
+use Rattle.std.specs.Prelude.{ℕ, ◌+◌, ◌*◌, ◌≤◌, ◌≡◌, ◌≢◌, ◌⊎◌, true, false, ℤ, pos, List}
 use Rattle.cache_model.specs.Cache.{Cache, view}
 use Rattle.cache_model.specs.Play.{play}
 use Rattle.pmem.specs.Device.{Device}
@@ -103,7 +103,8 @@ pub record HasAbortRedone (e : End) (image : Image) (tx : ℕ) (args : List ℤ)
   pub played : PlaysAll d (abort_due_redo image tx args n d.cache) b
   pub steps : k1 ≡ k + abort_redo_steps image tx args n d
 
--- on a device that is on, of a pool that is sealed, for this call and n valid records
+-- On a device that is on, of a pool that is sealed, for this call and n valid records. The machine
+-- gets its memory before the first event.
 abbrev pub AbortRedid : AbortAnswer → Image → (tx : ℕ) → List ℤ → (n : ℕ) → (d b : Device)
     → (k k1 : ℕ) →
     Type 0
@@ -119,7 +120,7 @@ AbortRedid (Off phase.Sealing) image tx args n d b k k1 = ⊥
 AbortRedid Failed image tx args n d b k k1 =
     PlaysPart refusal.Failed d (abort_due_redo image tx args n d.cache) b
 AbortRedid NoMemory image tx args n d b k k1 =
-    PlaysPart refusal.NoMemory d (abort_due_redo image tx args n d.cache) b
+    (b ≡ d) ⊎ PlaysPart refusal.NoMemory d (abort_due_redo image tx args n d.cache) b
 AbortRedid (Unusable t) image tx args n d b k k1 = ⊥
 AbortRedid Numbers image tx args n d b k k1 = ⊥
 

@@ -2,7 +2,7 @@
 use Rattle.std.proofs.Common.{◌≡◌, ℕ, suc, ◌+◌, ◌-◌, ◌<◌, List, [], ◌∷◌, inl, inr, refl, sym, subst, arith}
 use Rattle.cache_model.specs.Event.{CacheEvent, Flush}
 use Rattle.pmem.specs.Device.{Device}
-use Rattle.pmem.specs.Played.{PlaysAll, PlaysPart, Refuses}
+use Rattle.pmem.specs.Played.{PlaysAll, PlaysPart, RefusesEvent}
 use Rattle.pmem.specs.declared.answer.Refusal.{Refusal}
 use Rattle.args_log.specs.Seal.{flushes_from}
 
@@ -27,5 +27,5 @@ part_one why es rest e d a b is one more =
     (inr (one.0, subst (λ (k : Device). PlaysPart why k rest b) one.1 more))
 
 pub part_now : (why : Refusal) (es rest : List CacheEvent) (e : CacheEvent) (d b : Device)
-    → es ≡ e ∷ rest → Refuses why d b → PlaysPart why d es b
+    → es ≡ e ∷ rest → RefusesEvent why d e b → PlaysPart why d es b
 part_now why es rest e d b is refused = subst (λ fs. PlaysPart why d fs b) (sym is) (inl refused)

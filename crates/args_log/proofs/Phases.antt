@@ -70,10 +70,10 @@ lacks_before : (k : ℤ) (es : List CacheEvent) (e : CacheEvent) (d b : Device) 
     → PlaysPart Off d (es ++ e ∷ []) b
     → LacksSeal k (d.cache 5) → LacksSeal k (b.cache 5)
 lacks_before k [] e d b others (inl refused) lacks =
-    subst (λ (x : Device). LacksSeal k (x.cache 5)) (sym refused.1) lacks
+    subst (λ (x : Device). LacksSeal k (x.cache 5)) (sym refused.1.1) lacks
 lacks_before k [] e d b others (inr rest) lacks = absurd rest.1
 lacks_before k (x ∷ es) e d b others (inl refused) lacks =
-    subst (λ (y : Device). LacksSeal k (y.cache 5)) (sym refused.1) lacks
+    subst (λ (y : Device). LacksSeal k (y.cache 5)) (sym refused.1.1) lacks
 lacks_before k (x ∷ es) e d b others (inr rest) lacks =
     lacks_before k es e (spent d x) b others.1 rest.1 (lacks_event k d.cache x others.0 lacks)
 
@@ -176,10 +176,10 @@ phase_after : (k : ℤ) (d b : Device) → IsStored k (d.cache 5)
     → PlaysPart Off d (Flush 5 ∷ Fence ∷ []) b → phase_of (b.cache 5) k ≡ Sealing
 unfolding apply
 phase_after k d b stored (inl refused) =
-    ap (λ (x : Device). phase_of (x.cache 5) k) refused.1 ∙ ap (λ (l : Line). phase_of l k)
+    ap (λ (x : Device). phase_of (x.cache 5) k) refused.1.1 ∙ ap (λ (l : Line). phase_of l k)
     stored.is ∙ is_sealing k stored.before stored.lacks
 phase_after k d b stored (inr (ready, inl refused)) =
-    ap (λ (x : Device). phase_of (x.cache 5) k) refused.1 ∙ ap (λ (l : Line). phase_of l k)
+    ap (λ (x : Device). phase_of (x.cache 5) k) refused.1.1 ∙ ap (λ (l : Line). phase_of l k)
     stored.is ∙ is_sealing k stored.before stored.lacks
 phase_after k d b stored (inr (ready, inr rest)) = absurd rest.1
 

@@ -1,7 +1,7 @@
 -- The attempt of a pool and the number of its valid records, for any words; and the pools whose log
 -- is well made: the attempt is a number from 0 to 2^62, each stamp is from 0 to one more than the
 -- attempt, and the valid records, whose stamp is one more than the attempt, come first.
-use Rattle.std.specs.Prelude.{ℕ, ◌-◌, ◌≡◌, ◌≤◌, ◌^◌, if◌then◌else◌, nat_lt, ℤ, pos, negsuc}
+use Rattle.std.specs.Prelude.{ℕ, ◌-◌, ◌^◌, if◌then◌else◌, nat_lt, ℤ, pos, negsuc}
 use Rattle.pool_layout.specs.declared.limits.Sizes.{Sizes}
 use Rattle.pool_layout.specs.declared.places.Place.TheVariants.{Attempt}
 use Rattle.pool_layout.specs.Places.{at, pool_of}

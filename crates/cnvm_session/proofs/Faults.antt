@@ -6,6 +6,7 @@ use Rattle.pmem.specs.Device.{Device, FaultsRose, spent}
 use Rattle.pmem.specs.Played.{PlaysAll, PlaysPart, Refuses}
 use Rattle.pmem.specs.declared.answer.Refusal.{Refusal}
 use Rattle.pmem.specs.declared.answer.Refusal.TheVariants as refusal
+use Rattle.pmem.proofs.Parts.{same_rise, all_rise, part_rise, rose_part}
 use Rattle.pool_map.specs.declared.trap.TrapKind.{TrapKind}
 use Rattle.pm_machine.specs.declared.image.Image.{Image}
 use Rattle.tx_run.specs.declared.standing.Standing.{Standing}
@@ -16,39 +17,14 @@ use Rattle.tx_run.specs.declared.answer.CallAnswer.{CallAnswer}
 use Rattle.tx_run.specs.declared.answer.CallAnswer.TheVariants as called
 use Rattle.cnvm_session.specs.declared.answer.Answer.TheVariants as answer
 use Rattle.cnvm_session.specs.Outcomes.{answer_of_call}
-use Rattle.cnvm_session.proofs.Switch.{rose_part}
-
-rose_le : (a b : ℕ) → FaultsRose a b → a ≤ b
-rose_le a b (inl less) = omega arith
-rose_le a b (inr last) = let same = last.0 in omega arith
-
-pub same_le : (d b : Device) → b ≡ d → d.faults ≤ b.faults
-same_le d b e = let same : b.faults ≡ d.faults = ap (λ (k : Device). k.faults) e in omega arith
-
-refused_le : (why : Refusal) (d b : Device) → Refuses why d b → d.faults ≤ b.faults
-refused_le refusal.Off d b refused = let same : b.faults ≡ d.faults =
-    ap (λ (k : Device). k.faults) refused.1 in omega arith
-refused_le refusal.Failed d b refused = rose_le d.faults b.faults refused.2
-refused_le refusal.NoMemory d b refused = same_le d b refused
-
-pub all_le : (d : Device) (es : List CacheEvent) (b : Device) → PlaysAll d es b
-    → d.faults ≤ b.faults
-all_le d [] b all = same_le d b all
-all_le d (e ∷ es) b all = all_le (spent d e) es b all.1
-
-pub part_le : (why : Refusal) (d : Device) (es : List CacheEvent) (b : Device)
-    → PlaysPart why d es b → d.faults ≤ b.faults
-part_le why d [] b part = absurd part
-part_le why d (e ∷ es) b (inl refused) = refused_le why d b refused
-part_le why d (e ∷ es) b (inr rest) = part_le why (spent d e) es b rest.1
 
 called_le : (r : CallAnswer) (image : Image) (tx : ℕ) (args : List ℤ) (d b : Device) (k k1 : ℕ)
     → Called r image tx args d b k k1 → d.faults ≤ b.faults
-called_le (called.Done v l) image tx args d b k k1 h = all_le d _ b h.0.played
-called_le (called.Trap t) image tx args d b k k1 h = all_le d _ b h.played
-called_le (called.Off p) image tx args d b k k1 h = part_le refusal.Off d _ b h.0
-called_le called.Failed image tx args d b k k1 h = part_le refusal.Failed d _ b h
-called_le called.NoMemory image tx args d b k k1 h = part_le refusal.NoMemory d _ b h
+called_le (called.Done v l) image tx args d b k k1 h = all_rise _ d b h.0.played
+called_le (called.Trap t) image tx args d b k k1 h = all_rise _ d b h.played
+called_le (called.Off p) image tx args d b k k1 h = part_rise _ refusal.Off d b h.0
+called_le called.Failed image tx args d b k k1 h = part_rise _ refusal.Failed d b h
+called_le called.NoMemory image tx args d b k k1 h = part_rise _ refusal.NoMemory d b h
 called_le (called.Unusable t) image tx args d b k k1 h = absurd h
 called_le called.Numbers image tx args d b k k1 h = absurd h
 
@@ -80,9 +56,9 @@ on_faults stands.Ready r image tx args d b k k1 h on is = (
 )
 on_faults (stands.Unusable kind) r image tx args d b k k1 h on is =
     let same = h.unusable kind on is in
-    (same_le d b same.1, λ failed. let is_not = same.0 in absurd cc)
+    (same_rise d b same.1, λ failed. let is_not = same.0 in absurd cc)
 on_faults stands.Numbers r image tx args d b k k1 h on is =
-    let same = h.numbers on is in (same_le d b same.1, λ failed. let is_not = same.0 in absurd cc)
+    let same = h.numbers on is in (same_rise d b same.1, λ failed. let is_not = same.0 in absurd cc)
 on_faults stands.Off r image tx args d b k k1 h on is = absurd (not_off (view d.cache) is)
 
 faults_of : (on : Bool) (r : CallAnswer) (image : Image) (tx : ℕ) (args : List ℤ) (d b : Device)
@@ -91,7 +67,7 @@ faults_of : (on : Bool) (r : CallAnswer) (image : Image) (tx : ℕ) (args : List
 faults_of true r image tx args d b k k1 h on =
     on_faults (standing_of (view d.cache)) r image tx args d b k k1 h on refl
 faults_of false r image tx args d b k k1 h off =
-    let same = h.off off in (same_le d b same.1, λ failed. let is_not = same.0 in absurd cc)
+    let same = h.off off in (same_rise d b same.1, λ failed. let is_not = same.0 in absurd cc)
 
 pub call_le : (r : CallAnswer) (image : Image) (tx : ℕ) (args : List ℤ) (d b : Device) (k k1 : ℕ)
     → IsTxCalled r image tx args d b k k1 → d.faults ≤ b.faults

@@ -1,5 +1,4 @@
 pub mod Plays
-pub mod Switch
 pub mod Holding
 pub mod Faults
 pub mod Recoveries

@@ -6,6 +6,7 @@ use Rattle.cache_model.specs.Cache.{view}
 use Rattle.pmem.specs.Device.{Device, FaultsRose}
 use Rattle.pmem.specs.declared.answer.Phase.TheVariants as phase
 use Rattle.pmem.specs.declared.answer.Refusal.TheVariants as refusal
+use Rattle.pmem.proofs.Parts.{same_rise, all_rise, part_rise, rose_part}
 use Rattle.pool_layout.specs.declared.places.TheConstants.{MARK}
 use Rattle.pool_layout.proofs.Records.{decided}
 use Rattle.args_log.specs.Pending.{is_sealed}
@@ -16,17 +17,15 @@ use Rattle.recovery.specs.declared.answer.RecoverAnswer.{RecoverAnswer}
 use Rattle.recovery.specs.declared.answer.RecoverAnswer.TheVariants as recovered
 use Rattle.cnvm_session.specs.declared.answer.Answer.TheVariants as answer
 use Rattle.cnvm_session.specs.Outcomes.{answer_of_recovery}
-use Rattle.cnvm_session.proofs.Faults.{all_le, part_le, same_le}
-use Rattle.cnvm_session.proofs.Switch.{rose_part}
 
 cleaned_le : (r : RecoverAnswer) (d : Device) (es : List CacheEvent) (b : Device) → Cleaned r d es b
     → d.faults ≤ b.faults
-cleaned_le recovered.Clean d es b h = all_le d es b h
-cleaned_le (recovered.Off phase.Unsealed) d es b h = part_le refusal.Off d es b h
+cleaned_le recovered.Clean d es b h = all_rise es d b h
+cleaned_le (recovered.Off phase.Unsealed) d es b h = part_rise es refusal.Off d b h
 cleaned_le (recovered.Off phase.Sealing) d es b h = absurd h
 cleaned_le (recovered.Off phase.Sealed) d es b h = absurd h
-cleaned_le recovered.Failed d es b h = part_le refusal.Failed d es b h
-cleaned_le recovered.NoMemory d es b h = part_le refusal.NoMemory d es b h
+cleaned_le recovered.Failed d es b h = part_rise es refusal.Failed d b h
+cleaned_le recovered.NoMemory d es b h = part_rise es refusal.NoMemory d b h
 cleaned_le (recovered.Redone v l) d es b h = absurd h
 cleaned_le (recovered.Trap t) d es b h = absurd h
 cleaned_le (recovered.Unusable t) d es b h = absurd h
@@ -39,14 +38,14 @@ cleaned_rose r d es b is h = rose_part refusal.Failed d es b refl
 
 redid_le : (r : RecoverAnswer) (image : Image) (tx : ℕ) (args : List ℤ) (n : ℕ) (d b : Device)
     (k k1 : ℕ) → Redid r image tx args n d b k k1 → d.faults ≤ b.faults
-redid_le (recovered.Redone v l) image tx args n d b k k1 h = all_le d _ b h.0.played
-redid_le (recovered.Trap t) image tx args n d b k k1 h = all_le d _ b h.played
-redid_le (recovered.Off phase.Sealed) image tx args n d b k k1 h = part_le refusal.Off d _ b h
+redid_le (recovered.Redone v l) image tx args n d b k k1 h = all_rise _ d b h.0.played
+redid_le (recovered.Trap t) image tx args n d b k k1 h = all_rise _ d b h.played
+redid_le (recovered.Off phase.Sealed) image tx args n d b k k1 h = part_rise _ refusal.Off d b h
 redid_le (recovered.Off phase.Unsealed) image tx args n d b k k1 h = absurd h
 redid_le (recovered.Off phase.Sealing) image tx args n d b k k1 h = absurd h
-redid_le recovered.Failed image tx args n d b k k1 h = part_le refusal.Failed d _ b h
+redid_le recovered.Failed image tx args n d b k k1 h = part_rise _ refusal.Failed d b h
 redid_le recovered.NoMemory image tx args n d b k k1 h =
-    ⊎_elim (λ same. same_le d b same) (λ part. part_le refusal.NoMemory d _ b part) h
+    ⊎_elim (λ same. same_rise d b same) (λ part. part_rise _ refusal.NoMemory d b part) h
 redid_le recovered.Clean image tx args n d b k k1 h = absurd h
 redid_le (recovered.Unusable t) image tx args n d b k k1 h = absurd h
 redid_le recovered.Numbers image tx args n d b k k1 h = absurd h
@@ -74,7 +73,7 @@ module _ (r : RecoverAnswer) (image : Image) (d b : Device) (k k1 : ℕ)
       )
   by_record false on mark fit sealed named =
       let same = h.unnamed on mark fit sealed named in
-      (same_le d b same.1, λ failed. let is_not = same.0 in absurd cc)
+      (same_rise d b same.1, λ failed. let is_not = same.0 in absurd cc)
 
   by_seal : (sealed : Bool) → d.on ≡ true → view d.cache MARK ≡ pos 0 → numbers_out image d ≡ false
       → is_sealed (view d.cache) ≡ sealed → Holds
@@ -87,7 +86,7 @@ module _ (r : RecoverAnswer) (image : Image) (d b : Device) (k k1 : ℕ)
       → numbers_out image d ≡ out → Holds
   by_numbers true on mark out =
       let same = h.numbers on mark out in
-      (same_le d b same.1, λ failed. let is_not = same.0 in absurd cc)
+      (same_rise d b same.1, λ failed. let is_not = same.0 in absurd cc)
   by_numbers false on mark fit = by_seal (is_sealed (view d.cache)) on mark fit refl
 
   by_mark : d.on ≡ true → Holds
@@ -95,7 +94,7 @@ module _ (r : RecoverAnswer) (image : Image) (d b : Device) (k k1 : ℕ)
       (λ (mark : view d.cache MARK ≡ pos 0). by_numbers (numbers_out image d) on mark refl)
       (λ (marked : view d.cache MARK ≢ pos 0).
       let same = h.unusable on marked in
-      (same_le d b same.1, λ failed. let is_not = same.0 in absurd cc))
+      (same_rise d b same.1, λ failed. let is_not = same.0 in absurd cc))
       (decided (int_eq (view d.cache MARK) (pos 0)) ((Decides-int_eq (view d.cache MARK) (pos 0)).0)
       ((Decides-int_eq (view d.cache MARK) (pos 0)).1))
 
@@ -103,7 +102,7 @@ module _ (r : RecoverAnswer) (image : Image) (d b : Device) (k k1 : ℕ)
   by_switch true on = by_mark on
   by_switch false off =
       let same = h.off off in
-      (same_le d b same.1, λ failed. let is_not = same.0 in absurd cc)
+      (same_rise d b same.1, λ failed. let is_not = same.0 in absurd cc)
 
   pub recovered_le : d.faults ≤ b.faults
   recovered_le = (by_switch d.on refl).0

@@ -12,6 +12,7 @@ use Rattle.pmem.specs.Played.{PlaysAll, PlaysPart, Refuses}
 use Rattle.pmem.specs.declared.answer.Phase.TheVariants as phase
 use Rattle.pmem.specs.declared.answer.Refusal.{Refusal}
 use Rattle.pmem.specs.declared.answer.Refusal.TheVariants as refusal
+use Rattle.pmem.proofs.Parts.{refused_cache}
 use Rattle.pool_layout.specs.declared.places.TheConstants.{LAST, DONE, ATTEMPT}
 use Rattle.pool_layout.specs.declared.limits.Sizes.{Sizes}
 use Rattle.pool_layout.specs.declared.places.Place.TheVariants.{Heap}
@@ -82,20 +83,15 @@ alike_all s d (Fence ∷ es) b only all =
     alike_next s _ _ _ (alike_all s (spent d Fence) es b only all.1)
     (alike_at s _ _ (λ p ne. view_fence d.cache p))
 
-refused_same : (why : Refusal) (d b : Device) → Refuses why d b → b.cache ≡ d.cache
-refused_same refusal.Off d b h = ap (λ (e : Device). e.cache) h.1
-refused_same refusal.Failed d b h = ap (λ (e : Device). e.cache) h.3
-refused_same refusal.NoMemory d b h = ap (λ (e : Device). e.cache) h
-
 alike_refused : (s : Sizes) (why : Refusal) (d b : Device) → Refuses why d b
     → TellTheSame s (view b.cache) (view d.cache)
 alike_refused s why d b h = alike_same s (view b.cache) (view d.cache)
-    (ap view (refused_same why d b h))
+    (ap view (refused_cache why d b h))
 
 alike_part : (s : Sizes) (why : Refusal) (d : Device) (es : List CacheEvent) (b : Device)
     → Attempts es → PlaysPart why d es b → TellTheSame s (view b.cache) (view d.cache)
 alike_part s why d [] b only part = absurd part
-alike_part s why d (e ∷ es) b only (inl refused) = alike_refused s why d b refused
+alike_part s why d (e ∷ es) b only (inl refused) = alike_refused s why d b refused.1
 alike_part s why d (Store q x ∷ es) b only (inr rest) =
     alike_next s _ _ _ (alike_part s why (spent d (Store q x)) es b only.1 rest.1)
     (alike_at s _ _ (λ p ne. stored_else d.cache q p x only.0 ne))

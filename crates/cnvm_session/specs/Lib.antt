@@ -6,4 +6,3 @@ pub mod Shown
 pub mod Outcomes
 pub mod Commands
 pub mod Laws
-pub mod inside

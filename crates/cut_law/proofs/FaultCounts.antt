@@ -5,8 +5,8 @@ use Rattle.pmem.specs.Device.{Device, FaultsRose, spent}
 use Rattle.pmem.specs.Played.{PlaysPart}
 use Rattle.pmem.specs.declared.answer.Refusal.TheVariants.{Off, Failed, NoMemory}
 use Rattle.pmem.specs.declared.answer.Phase.TheVariants as phase
+use Rattle.pmem.proofs.Parts.{same_rise, all_rise, part_rise}
 use Rattle.pm_machine.specs.declared.image.Image.{Image}
-use Rattle.pm_machine.proofs.Faults.{all_rise, part_rise}
 use Rattle.tx_run.specs.declared.answer.CallAnswer.{CallAnswer}
 use Rattle.tx_run.specs.declared.answer.CallAnswer.TheVariants as call
 use Rattle.tx_run.specs.Due as plays
@@ -15,12 +15,6 @@ use Rattle.recovery.specs.declared.answer.RecoverAnswer.{RecoverAnswer}
 use Rattle.recovery.specs.declared.answer.RecoverAnswer.TheVariants as recover
 use Rattle.recovery.specs.Due.{due_redo}
 use Rattle.recovery.specs.Recovered.{Cleaned, Redid}
-
-pub part_failed : (es : List CacheEvent) (d b : Device) → PlaysPart Failed d es b
-    → FaultsRose d.faults b.faults
-part_failed [] d b part = absurd part
-part_failed (e ∷ es) d b (inl refused) = refused.2
-part_failed (e ∷ es) d b (inr rest) = part_failed es (spent d e) b rest.1
 
 pub call_rise : (image : Image) (tx : ℕ) (args : List ℤ) (d b : Device) (k k1 : ℕ)
     (answer : CallAnswer) → Called answer image tx args d b k k1 → d.faults ≤ b.faults
@@ -50,8 +44,8 @@ redo_rise image tx args m d b k k1 (recover.Off phase.Sealing) redid = absurd re
 redo_rise image tx args m d b k k1 recover.Failed redid =
     part_rise (due_redo image tx args m d.cache) Failed d b redid
 redo_rise image tx args m d b k k1 recover.NoMemory redid =
-    ⊎_elim (λ (same : b ≡ d). let e = ap (λ (x : Device). x.faults) same in
-    omega arith) (λ p. part_rise (due_redo image tx args m d.cache) NoMemory d b p) redid
+    ⊎_elim (λ same. same_rise d b same)
+    (λ p. part_rise (due_redo image tx args m d.cache) NoMemory d b p) redid
 redo_rise image tx args m d b k k1 recover.Clean redid = absurd redid
 redo_rise image tx args m d b k k1 (recover.Unusable t) redid = absurd redid
 redo_rise image tx args m d b k k1 recover.Numbers redid = absurd redid

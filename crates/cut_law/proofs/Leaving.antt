@@ -12,6 +12,7 @@ use Rattle.pmem.specs.declared.answer.Refusal.{Refusal}
 use Rattle.pmem.specs.declared.answer.Refusal.TheVariants.{Off, Failed, NoMemory}
 use Rattle.pmem.specs.declared.answer.Phase.TheVariants as phase
 use Rattle.pmem.proofs.Refused.{all_cache}
+use Rattle.pmem.proofs.Parts.{part_during, all_during, during_start}
 use Rattle.pool_layout.specs.declared.places.TheConstants.{DONE}
 use Rattle.pool_layout.specs.declared.places.Place.TheVariants.{Last}
 use Rattle.pool_layout.specs.Places.{at, pool_of}
@@ -40,27 +41,6 @@ use Rattle.cut_law.proofs.Misses.{view_one}
 use Rattle.cut_law.proofs.Dues.{owes_after, empty_after}
 use Rattle.cut_law.proofs.Cuts.{attempt, none, cut_call}
 use Rattle.cut_law.proofs.Redoes.{redo_owes, cut_redo}
-
--- a property that holds during a list of events
-
-refused_cache : (why : Refusal) (d b : Device) → Refuses why d b → b.cache ≡ d.cache
-refused_cache Off d b h = ap (λ (x : Device). x.cache) h.1
-refused_cache Failed d b h = ap (λ (x : Device). x.cache) h.3
-refused_cache NoMemory d b h = ap (λ (x : Device). x.cache) h
-
-part_during : (Q : Cache → Type 0) (why : Refusal) (es : List CacheEvent) (d b : Device)
-    → PlaysPart why d es b → during d.cache es Q → Q b.cache
-part_during Q why [] d b part h = absurd part
-part_during Q why (e ∷ es) d b (inl refused) h = subst Q (sym (refused_cache why d b refused)) h.0
-part_during Q why (e ∷ es) d b (inr rest) h = part_during Q why es (spent d e) b rest.1 h.1
-
-all_during : (Q : Cache → Type 0) (es : List CacheEvent) (d b : Device) → PlaysAll d es b
-    → during d.cache es Q → Q b.cache
-all_during Q es d b all h = subst Q (sym (all_cache es d b all)) (during_end d.cache es Q h)
-
-during_start : (Q : Cache → Type 0) (es : List CacheEvent) (c : Cache) → during c es Q → Q c
-during_start Q [] c h = h
-during_start Q (e ∷ es) c h = h.0
 
 module _ (image : Image) (super : Words) (tx : ℕ) (args : List ℤ) (d b : Device) (one : Words)
     (n : ℕ) (end : End) (es : List Effect)

@@ -5,25 +5,7 @@ use Rattle.pmem.specs.Device.{Device, FaultsRose, spent}
 use Rattle.pmem.specs.Played.{PlaysAll, PlaysPart, Refuses}
 use Rattle.pmem.specs.declared.answer.Refusal.{Refusal}
 use Rattle.pmem.specs.declared.answer.Refusal.TheVariants.{Off, Failed, NoMemory}
-use Rattle.pmem.proofs.Refused.{all_faults}
-
-rose : (n m : ℕ) → FaultsRose n m → n ≤ m
-rose n m (inl less) = omega arith
-rose n m (inr same) = let e = same.0 in omega arith
-
-refused_faults : (why : Refusal) (d b : Device) → Refuses why d b → d.faults ≤ b.faults
-refused_faults Off d b h = let same = ap (λ (x : Device). x.faults) h.1 in omega arith
-refused_faults Failed d b h = rose d.faults b.faults h.2
-refused_faults NoMemory d b h = let same = ap (λ (x : Device). x.faults) h in omega arith
-
-pub all_rise : (es : List CacheEvent) (d b : Device) → PlaysAll d es b → d.faults ≤ b.faults
-all_rise es d b all = let same = all_faults es d b all in omega arith
-
-pub part_rise : (es : List CacheEvent) (why : Refusal) (d b : Device) → PlaysPart why d es b
-    → d.faults ≤ b.faults
-part_rise [] why d b part = absurd part
-part_rise (e ∷ es) why d b (inl refused) = refused_faults why d b refused
-part_rise (e ∷ es) why d b (inr rest) = part_rise es why (spent d e) b rest.1
+use Rattle.pmem.proofs.Parts.{all_rise, part_rise}
 
 pub rise_of : {A : Type 0} (r : Result A Refusal) (es : List CacheEvent) (d b : Device)
     → OnOk r (PlaysAll d es b) → IfErr r (λ why. PlaysPart why d es b) → d.faults ≤ b.faults

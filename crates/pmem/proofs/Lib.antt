@@ -1,6 +1,7 @@
 pub mod Answers
 pub mod Glue
 pub mod Refused
+pub mod Parts
 pub mod Sparses
 pub mod Cuts
 pub mod Counts

@@ -99,7 +99,7 @@ stops : (es : List CacheEvent) (why : Refusal) (d b : Device) → PlaysPart why 
     → Stops why d es b
 stops [] why d b part = absurd part
 stops (e ∷ es) why d b (inl refuses) =
-    record { n = 0; fewer = omega arith; at = d; done = refl; count = refl; refuses = refuses }
+    record { n = 0; fewer = omega arith; at = d; done = refl; count = refl; refuses = refuses.1 }
 stops (e ∷ es) why d b (inr part) =
     let s = stops es why (spent d e) b part.1 in
     let lt = s.fewer in
@@ -204,18 +204,18 @@ down_off : (es : List CacheEvent) (d b : Device) → d.on ≡ false → PlaysPar
     → (b.cache ≡ d.cache) × (b.on ≡ false)
 down_off [] d b off part = absurd part
 down_off (e ∷ es) d b off (inl refuses) =
-    (ap (λ (x : Device). x.cache) refuses.1, ap (λ (x : Device). x.on) refuses.1)
+    (ap (λ (x : Device). x.cache) refuses.1.1, ap (λ (x : Device). x.on) refuses.1.1)
 down_off (e ∷ es) d b off (inr rest) = absurd (let on = rest.0.0.0 in cc)
 
 down_failed : (es : List CacheEvent) (d b : Device) → d.on ≡ false → PlaysPart Failed d es b → ⊥
 down_failed [] d b off part = part
-down_failed (e ∷ es) d b off (inl refuses) = let on = refuses.0.0 in cc
+down_failed (e ∷ es) d b off (inl refuses) = let on = refuses.1.0.0 in cc
 down_failed (e ∷ es) d b off (inr rest) = let on = rest.0.0.0 in cc
 
 down_short : (es : List CacheEvent) (d b : Device) → d.on ≡ false
     → PlaysPart NoMemory d es b → b ≡ d
 down_short [] d b off part = absurd part
-down_short (e ∷ es) d b off (inl same) = same
+down_short (e ∷ es) d b off (inl same) = same.1
 down_short (e ∷ es) d b off (inr rest) = absurd (let on = rest.0.0.0 in cc)
 
 pub down : DownLaw

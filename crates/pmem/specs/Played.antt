@@ -1,7 +1,8 @@
 -- Which event of a list is refused, for what cause, and the device after it.
 use Rattle.std.specs.Prelude.{◌≡◌, ◌⊎◌, List, [], ◌∷◌}
-use Rattle.cache_model.specs.Event.{CacheEvent}
-use Rattle.pmem.specs.Device.{Device, FaultsRose, IsDown, IsUp, MayTakeEvent, MayFail, spent, off_of, failed_of}
+use Rattle.cache_model.specs.Event.{CacheEvent, Flush, Fence}
+use Rattle.pmem.specs.Device.{Device, FaultsRose, IsDown, IsUp, MayTakeEvent, MayFail}
+use Rattle.pmem.specs.Device.{spent, off_of, failed_of}
 use Rattle.pmem.specs.declared.answer.Refusal.{Refusal}
 use Rattle.pmem.specs.declared.answer.Refusal.TheVariants.{Off, Failed, NoMemory}
 use Rattle.pmem.specs.declared.answer.Event.{Event}
@@ -20,6 +21,16 @@ Refuses Failed d b = IsUp d × MayFail d.armed × FaultsRose d.faults b.faults
     × (b ≡ failed_of d b.faults)
 Refuses NoMemory d b = b ≡ d
 
+-- Only a store may find no memory.
+abbrev pub MayWant : Refusal → CacheEvent → Type 0
+MayWant NoMemory (Flush l) = ⊥
+MayWant NoMemory Fence = ⊥
+MayWant why e = Unit {0}
+
+-- The event is refused for this cause.
+abbrev pub RefusesEvent : Refusal → Device → CacheEvent → Device → Type 0
+RefusesEvent why d e b = MayWant why e × Refuses why d b
+
 -- All of the events are done.
 abbrev pub PlaysAll : Device → List CacheEvent → Device → Type 0
 PlaysAll d [] b = b ≡ d
@@ -28,7 +39,8 @@ PlaysAll d (e ∷ es) b = MayTakeEvent d × PlaysAll (spent d e) es b
 -- Some first events of the list are done, perhaps none, and the next is refused for this cause.
 abbrev pub PlaysPart : Refusal → Device → List CacheEvent → Device → Type 0
 PlaysPart why d [] b = ⊥
-PlaysPart why d (e ∷ es) b = Refuses why d b ⊎ (MayTakeEvent d × PlaysPart why (spent d e) es b)
+PlaysPart why d (e ∷ es) b =
+    RefusesEvent why d e b ⊎ (MayTakeEvent d × PlaysPart why (spent d e) es b)
 
 -- Playing the list of events has this answer.
 abbrev pub Played : LogAnswer → Device → List CacheEvent → Device → Type 0

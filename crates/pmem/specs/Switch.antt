@@ -1,6 +1,6 @@
 -- A device in memory without its lines: the switch and its counters. It shows the number of its
 -- armed fault.
-use Rattle.std.specs.Prelude.{ℕ, ◌≡◌, ◌≢◌, ◌⊎◌, ◌==◌, cond, true, Option, Some, None}
+use Rattle.std.specs.Prelude.{ℕ, ◌==◌, cond, true, Option, Some, None}
 use Rattle.cache_model.specs.Cache.{Memory}
 use Rattle.pmem.specs.Device.{Device}
 use Rattle.pmem.specs.declared.switch.Switch.{Switch}

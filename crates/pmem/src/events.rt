@@ -2,7 +2,7 @@
 
 ghost use Rattle.std.specs.Prelude.{◌≡◌, ◌*◌, ◌<◌, [], ◌∷◌, OnOk, IfErr};
 ghost use Rattle.cache_model.specs.Event.{Store, Flush, Fence};
-ghost use Rattle.pmem.specs.Played.{PlaysAll, Refuses};
+ghost use Rattle.pmem.specs.Played.{PlaysAll, RefusesEvent};
 
 use crate::answer::{Event, Refusal, StoreEvent};
 use crate::device::PmemWork;
@@ -12,7 +12,8 @@ pub fn store<P: PmemWork>(dev: &mut P, word: u64, value: i64) -> Result<(), Refu
     requires { word < 8 * (P.device dev.old).lines }
     ensures done { OnOk result (PlaysAll (P.device dev.old) (Store word value ∷ [])
         (P.device dev.new)) }
-    ensures refused { IfErr result (λ why. Refuses why (P.device dev.old) (P.device dev.new)) }
+    ensures refused { IfErr result (λ why. RefusesEvent why (P.device dev.old) (Store word value)
+        (P.device dev.new)) }
     ensures lines { (P.device dev.new).lines ≡ (P.device dev.old).lines }
 {
     match dev.store(word, value) {
@@ -27,7 +28,8 @@ pub fn store<P: PmemWork>(dev: &mut P, word: u64, value: i64) -> Result<(), Refu
 pub fn flush<P: PmemWork>(dev: &mut P, line: u64) -> Result<(), Refusal>
     requires { line < (P.device dev.old).lines }
     ensures done { OnOk result (PlaysAll (P.device dev.old) (Flush line ∷ []) (P.device dev.new)) }
-    ensures refused { IfErr result (λ why. Refuses why (P.device dev.old) (P.device dev.new)) }
+    ensures refused { IfErr result (λ why. RefusesEvent why (P.device dev.old) (Flush line)
+        (P.device dev.new)) }
     ensures lines { (P.device dev.new).lines ≡ (P.device dev.old).lines }
 {
     match dev.flush(line) {
@@ -40,7 +42,8 @@ pub fn flush<P: PmemWork>(dev: &mut P, line: u64) -> Result<(), Refusal>
 /// Fences all lines.
 pub fn fence<P: PmemWork>(dev: &mut P) -> Result<(), Refusal>
     ensures done { OnOk result (PlaysAll (P.device dev.old) (Fence ∷ []) (P.device dev.new)) }
-    ensures refused { IfErr result (λ why. Refuses why (P.device dev.old) (P.device dev.new)) }
+    ensures refused { IfErr result (λ why. RefusesEvent why (P.device dev.old) Fence
+        (P.device dev.new)) }
     ensures lines { (P.device dev.new).lines ≡ (P.device dev.old).lines }
 {
     match dev.fence() {

@@ -75,31 +75,3 @@ module _ (s : Sizes) (digest : List ℤ) (worker n first : ℕ) (less_one : work
       let more : pool_lines s * (worker + 1) ≤ pool_lines s * n =
       mul-le-mul_left (pool_lines s) some in
       omega arith
-
--- the device is on, and nothing is armed that would switch it off
-abbrev IsOn : Device → Type 0
-IsOn d = (d.on ≡ true) × (d.left ≡ None)
-
-not_down : (d : Device) → IsOn d → IsDown d → ⊥
-not_down d on (inl off) = let e : true ≡ false = sym on.0 ∙ off in cc
-not_down d on (inr none) = none-some 0 (sym on.1 ∙ none)
-
-never_off_of : (d : Device) (es : List CacheEvent) (b : Device) → IsOn d → PlaysPart Off d es b → ⊥
-never_off_of d [] b on part = part
-never_off_of d (e ∷ es) b on (inl refused) = not_down d on refused.0
-never_off_of d (e ∷ es) b on (inr rest) =
-    never_off_of (spent d e) es b (on.0, ap less_one on.1) rest.1
-
-rose_part_of : (d : Device) (es : List CacheEvent) (b : Device) → PlaysPart Failed d es b →
-    FaultsRose d.faults b.faults
-rose_part_of d [] b part = absurd part
-rose_part_of d (e ∷ es) b (inl refused) = refused.2
-rose_part_of d (e ∷ es) b (inr rest) = rose_part_of (spent d e) es b rest.1
-
-pub never_off : (why : Refusal) (d : Device) (es : List CacheEvent) (b : Device) → why ≡ Off →
-    (d.on ≡ true) × (d.left ≡ None) → PlaysPart why d es b → ⊥
-never_off why d es b is on part = never_off_of d es b on (subst (λ w. PlaysPart w d es b) is part)
-
-pub rose_part : (why : Refusal) (d : Device) (es : List CacheEvent) (b : Device) → why ≡ Failed →
-    PlaysPart why d es b → FaultsRose d.faults b.faults
-rose_part why d es b is part = rose_part_of d es b (subst (λ w. PlaysPart w d es b) is part)

@@ -18,6 +18,7 @@ use Rattle.pmem.specs.declared.answer.Refusal.TheVariants as refusal
 use Rattle.pmem.specs.declared.answer.Phase.{Phase}
 use Rattle.pmem.specs.declared.answer.Phase.TheVariants as phase
 use Rattle.pmem.proofs.Refused.{all_cache}
+use Rattle.pmem.proofs.Parts.{part_during, refused_cache}
 use Rattle.pool_layout.specs.declared.places.TheConstants.{DONE, ATTEMPT, FUNCTION, SEAL}
 use Rattle.pool_layout.specs.declared.limits.Sizes.{Sizes}
 use Rattle.args_log.specs.Next.{number_after}
@@ -52,16 +53,17 @@ use Rattle.session_law.specs.Law.{HasPhase, PhaseLaw}
 use Rattle.session_law.proofs.Cleaning.{missed_at, rest_at}
 use Rattle.session_law.proofs.Retired.{next_small}
 use Rattle.session_law.proofs.Reading.{numbers_small, stands_ready, stands_numbers}
-use Rattle.session_law.proofs.Resting.{part_during, refused_cache}
 use Rattle.session_law.proofs.Calls.{ran_events}
 
 -- if a list of events is refused at one of them, what holds during all but its last event still
 -- holds
 part_before : (Q : Cache → Type 0) (why : Refusal) (es : List CacheEvent) (x : CacheEvent)
     (d b : Device) → PlaysPart why d (es ++ x ∷ []) b → during d.cache es Q → Q b.cache
-part_before Q why [] x d b (inl refused) h = subst Q (sym (refused_cache why d b refused)) h
+part_before Q why [] x d b (inl refused) h =
+    subst Q (sym (refused_cache why d b refused.1)) h
 part_before Q why [] x d b (inr rest) h = absurd rest.1
-part_before Q why (e ∷ es) x d b (inl refused) h = subst Q (sym (refused_cache why d b refused)) h.0
+part_before Q why (e ∷ es) x d b (inl refused) h =
+    subst Q (sym (refused_cache why d b refused.1)) h.0
 part_before Q why (e ∷ es) x d b (inr rest) h = part_before Q why es x (spent d e) b rest.1 h.1
 
 -- the record's own words end before the seal

@@ -90,19 +90,6 @@ resting_owes program super d s resting =
           (heap_in (sizes_of program) d.cache) s.last) d.cache resting.rest resting.before;
     }
 
--- what holds during a list of events holds where one of them is refused
-
-pub refused_cache : (why : Refusal) (d b : Device) → Refuses why d b → b.cache ≡ d.cache
-refused_cache Off d b h = ap (λ (x : Device). x.cache) h.1
-refused_cache Failed d b h = ap (λ (x : Device). x.cache) h.3
-refused_cache NoMemory d b h = ap (λ (x : Device). x.cache) h
-
-pub part_during : (Q : Cache → Type 0) (why : Refusal) (es : List CacheEvent) (d b : Device)
-    → PlaysPart why d es b → during d.cache es Q → Q b.cache
-part_during Q why [] d b part h = absurd part
-part_during Q why (e ∷ es) d b (inl refused) h = subst Q (sym (refused_cache why d b refused)) h.0
-part_during Q why (e ∷ es) d b (inr rest) h = part_during Q why es (spent d e) b rest.1 h.1
-
 -- a run that ends with this value and heap, as the source says
 
 pub record HasHalted (program : Program) (o : Outcome) (v : ℤ) (h : Words) : Type 0 where

@@ -47,7 +47,7 @@ module _ (image : Image) (tx : ℕ) (args : List ℤ) (d b : Device) where
   -- memory may be short before the first event
   pub short : PlaysPart refusal.NoMemory d (due_call image tx args d.cache) d
   unfolding due_call seal_events unsealed_events payload_events
-  short = inl refl
+  short = inl (tt, refl)
 
   pub seal_off : (p : Phase) (k k1 : ℕ)
       → sealing.Seals (seal.Off p) d (cast_signed w64 tx) (take 22 args)

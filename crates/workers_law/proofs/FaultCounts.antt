@@ -3,8 +3,7 @@ use Rattle.std.proofs.Common.{◌≤◌, Option, subst}
 use Rattle.pmem.specs.Device.{Device}
 use Rattle.pmem.specs.declared.answer.Refusal.TheVariants as refusal
 use Rattle.pm_machine.specs.declared.image.Image.{Image}
-use Rattle.pm_machine.proofs.Faults.{all_rise, part_rise}
-use Rattle.cut_law.proofs.FaultCounts.{part_failed}
+use Rattle.pmem.proofs.Parts.{all_rise, part_rise, part_failed}
 use Rattle.pool_workers.specs.declared.answer.TurnAnswer.{TurnAnswer}
 use Rattle.pool_workers.specs.declared.answer.TurnAnswer.TheVariants as answer
 use Rattle.pool_workers.specs.declared.task.Task.{Task}

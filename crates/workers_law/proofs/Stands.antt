@@ -11,6 +11,7 @@ use Rattle.pmem.specs.Played.{Refuses, PlaysPart}
 use Rattle.pmem.specs.declared.answer.Refusal.{Refusal}
 use Rattle.pmem.specs.declared.answer.Refusal.TheVariants.{Off, Failed, NoMemory}
 use Rattle.pmem.proofs.Refused.{all_cache}
+use Rattle.pmem.proofs.Parts.{refused_cache}
 use Rattle.pool_layout.specs.declared.places.TheConstants.{DONE, ATTEMPT}
 use Rattle.pool_layout.specs.declared.places.Place.TheVariants.{Heap}
 use Rattle.pool_layout.specs.Places.{at, pool_of}
@@ -212,16 +213,11 @@ pub record Part (es : List CacheEvent) (c b : Cache) : Type 0 where
   pub is : es ≡ first ++ rest
   pub now : b ≡ play c first
 
-refused_cache : (why : Refusal) (d b : Device) → Refuses why d b → b.cache ≡ d.cache
-refused_cache Off d b h = ap (λ (x : Device). x.cache) h.1
-refused_cache Failed d b h = ap (λ (x : Device). x.cache) h.3
-refused_cache NoMemory d b h = ap (λ (x : Device). x.cache) h
-
 pub part_of : (why : Refusal) (es : List CacheEvent) (d b : Device) → PlaysPart why d es b →
     Part es d.cache b.cache
 part_of why [] d b part = absurd part
 part_of why (e ∷ es) d b (inl refused) =
-    record { first = []; rest = e ∷ es; is = refl; now = refused_cache why d b refused }
+    record { first = []; rest = e ∷ es; is = refl; now = refused_cache why d b refused.1 }
 part_of why (e ∷ es) d b (inr part) =
     let p = part_of why es (spent d e) b part.1 in
     record {

@@ -1,5 +1,5 @@
 -- What only bodies and proofs need beside `Logs`.
-use Rattle.std.specs.Prelude.{◌-◌, ◌≡◌, ◌≤◌, ◌^◌, if◌then◌else◌, pos}
+use Rattle.std.specs.Prelude.{◌≡◌, ◌≤◌, ◌^◌, pos}
 use Rattle.pool_layout.specs.declared.limits.Sizes.{Sizes}
 use Rattle.pool_layout.specs.declared.places.Place.TheVariants.{Attempt}
 use Rattle.pool_layout.specs.Places.{at, pool_of}

@@ -1,6 +1,7 @@
 use Rattle.tx_run.specs.Due as plays
 use Rattle.recovery.specs.Due.{due_redo}
-use Rattle.cut_law.proofs.FaultCounts.{part_failed, call_rise, redo_rise, clean_rise}
+use Rattle.pmem.proofs.Parts.{part_failed}
+use Rattle.cut_law.proofs.FaultCounts.{call_rise, redo_rise, clean_rise}
 use Rattle.cut_law.proofs.faults.Goals as goal
 
 pub returns-clause-call : goal.returns-clause-call

@@ -1,5 +1,5 @@
 -- What only bodies and proofs need beside `Switch`.
-use Rattle.std.specs.Prelude.{◌≡◌, ◌≢◌, ◌⊎◌, ◌==◌, Bool, true, false, Some, None}
+use Rattle.std.specs.Prelude.{◌≡◌, ◌≢◌, ◌⊎◌, Bool, true, false, Some, None}
 use Rattle.pmem.specs.Device.{less_one, FaultsRose}
 use Rattle.pmem.specs.declared.answer.Event.{Event}
 use Rattle.pmem.specs.declared.answer.Event.TheVariants.{Done, Off, Failed}

@@ -1,4 +1,4 @@
-use Rattle.std.proofs.Common.{◌+◌, ◌≤◌, ◌∙◌, subst}
+use Rattle.std.proofs.Common.{inr, ◌+◌, ◌≤◌, ◌∙◌, subst}
 use Rattle.pmem.specs.Played.{PlaysAll, PlaysPart}
 use Rattle.pmem.specs.declared.answer.Refusal.{Refusal}
 use Rattle.pmem.specs.declared.answer.Refusal.TheVariants as refusal
@@ -7,7 +7,7 @@ use Rattle.pm_machine.specs.Machine.{State}
 use Rattle.recovery.specs.Due.{due_back}
 use Rattle.abort_mode.specs.Due.{run_steps}
 use Rattle.abort_mode.specs.inside.Answers.{AbortSettles}
-use Rattle.abort_mode.proofs.Parts.{back_bound, back_on, back_short, redid_of, back_cut}
+use Rattle.abort_mode.proofs.Parts.{back_bound, back_on, redid_of, back_cut}
 use Rattle.abort_mode.proofs.redoing.redo.Goals as goal
 
 pub settle-requires-clause-on : goal.settle-requires-clause-on
@@ -59,15 +59,9 @@ returns-clause-redid g c =
     let d = g.P.PmemWork.device c.args.dev.now in
     let b = g.P.PmemWork.device c.put_back.new.dev in
     let n = c.args.count in
-    back_cut c.args.image.now c.args.tx c.args.args.now n d b refusal.NoMemory
+    inr (back_cut c.args.image.now c.args.tx c.args.args.now n d b refusal.NoMemory
     (subst (λ (z : Sizes). PlaysPart refusal.NoMemory d (due_back z n d.cache) b) c.sizes.ensures
-    c.in-NoMemory.ensures.played)
-
--- no memory for the machine
-pub returns-in-Err-clause-redid : goal.returns-in-Err-clause-redid
-returns-in-Err-clause-redid g c =
-    let d = g.P.PmemWork.device c.args.dev.now in
-    back_short c.args.image.now c.args.tx c.args.args.now c.args.count d d
+    c.in-NoMemory.ensures.played))
 
 pub returns-in-Done-clause-bound : goal.returns-in-Done-clause-bound
 returns-in-Done-clause-bound g c =

@@ -1,7 +1,6 @@
 use Rattle.std.proofs.Common.{refl, sym, subst}
 use Rattle.pmem.specs.Device.{Device, FaultsRose}
-use Rattle.cnvm_session.specs.inside.Created.{IsOn}
-use Rattle.cnvm_session.proofs.Switch.{never_off, rose_part}
+use Rattle.pmem.proofs.Parts.{IsOn, never_off, rose_part}
 use Rattle.cnvm_session.proofs.creating.create_pool.Goals as goal
 
 pub returns-in-Err-Failed-clause-failed : goal.returns-in-Err-Failed-clause-failed

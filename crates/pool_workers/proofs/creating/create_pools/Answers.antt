@@ -1,6 +1,6 @@
 use Rattle.std.proofs.Common.{◌≡◌, true, None, refl, sym, subst}
 use Rattle.pmem.specs.Device.{Device, FaultsRose}
-use Rattle.pool_workers.proofs.Makes.{never_off, rose_part}
+use Rattle.pmem.proofs.Parts.{IsOn, never_off, rose_part}
 use Rattle.pool_workers.proofs.creating.create_pools.Goals as goal
 
 pub returns-in-Err-Failed-clause-failed : goal.returns-in-Err-Failed-clause-failed
@@ -12,11 +12,9 @@ returns-in-Err-Failed-clause-failed g c _ =
 pub returns-in-Err-Off-clause-failed : goal.returns-in-Err-Off-clause-failed
 returns-in-Err-Off-clause-failed g c _ =
     absurd (never_off _ _ _ _ c.in-Err-Off.field-0-is
-    (subst (λ (d : Device). (d.on ≡ true) × (d.left ≡ None)) (sym c.in_default.ensures.done)
-    (refl, refl)) c.in-Err-Off.ensures.refused)
+    (subst IsOn (sym c.in_default.ensures.done) (refl, refl)) c.in-Err-Off.ensures.refused)
 
 pub returns-in-Err-Off-clause-refused : goal.returns-in-Err-Off-clause-refused
 returns-in-Err-Off-clause-refused g c =
     absurd (never_off _ _ _ _ c.in-Err-Off.field-0-is
-    (subst (λ (d : Device). (d.on ≡ true) × (d.left ≡ None)) (sym c.in_default.ensures.done)
-    (refl, refl)) c.in-Err-Off.ensures.refused)
+    (subst IsOn (sym c.in_default.ensures.done) (refl, refl)) c.in-Err-Off.ensures.refused)

@@ -3,7 +3,7 @@ use Rattle.pmem.specs.inside.Sparse.{AreListed}
 use Rattle.cache_model.specs.Event.{Fence}
 use Rattle.cache_model.specs.Play.{after}
 use Rattle.pmem.specs.Sparse.{Sparse, sparse_memory}
-use Rattle.pmem.proofs.Sparses.{fence_sparse, tidy_fence, listed_fence, listed_empty}
+use Rattle.pmem.proofs.Sparses.{fence_sparse, tidy_fence, listed_empty}
 use Rattle.pmem.proofs.sparse_lines.SparseLinesLines.fence.Goals as goal
 
 pub invariant_of-self : goal.invariant_of-self
