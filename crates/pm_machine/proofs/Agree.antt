@@ -16,7 +16,7 @@ use Rattle.pm_machine.specs.declared.effect.End.{End}
 use Rattle.pm_machine.specs.Effects.{heap_past, records_past, heap_end}
 use Rattle.pm_machine.specs.Inputs.{AreAlike}
 use Rattle.pm_machine.specs.Find.{free_of, tried, least, looks, IsHeader}
-use Rattle.pm_machine.specs.Machine.{State, StepOutcome, Goes, Ends, Run, Finished, began, follow, tally, step, run, execute, fetch, load, find, target, written, read_register, address_index}
+use Rattle.pm_machine.specs.Machine.{State, StepOutcome, Goes, Ends, Run, Finished, began, follow, tally, step, run, execute, fetch, load, target, written, read_register, address_index}
 use Rattle.pm_machine.specs.Runs.{heap_in, AreLines, due, owed, IsFinished}
 use Rattle.pm_machine.proofs.Fuel.{began_rest}
 use Rattle.pm_machine.proofs.Range.{inside_below, looks_within}

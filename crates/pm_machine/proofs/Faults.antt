@@ -1,10 +1,9 @@
 -- The count of faults never falls.
-use Rattle.std.proofs.Common.{inl, inr, ℕ, ◌≤◌, List, [], ◌∷◌, Result, Ok, Err, OnOk, IfOk, IfErr, ap, arith}
+use Rattle.std.proofs.Common.{◌≤◌, List, Result, Ok, Err, OnOk, IfOk, IfErr}
 use Rattle.cache_model.specs.Event.{CacheEvent}
-use Rattle.pmem.specs.Device.{Device, FaultsRose, spent}
-use Rattle.pmem.specs.Played.{PlaysAll, PlaysPart, Refuses}
+use Rattle.pmem.specs.Device.{Device}
+use Rattle.pmem.specs.Played.{PlaysAll, PlaysPart}
 use Rattle.pmem.specs.declared.answer.Refusal.{Refusal}
-use Rattle.pmem.specs.declared.answer.Refusal.TheVariants.{Off, Failed, NoMemory}
 use Rattle.pmem.proofs.Parts.{all_rise, part_rise}
 
 pub rise_of : {A : Type 0} (r : Result A Refusal) (es : List CacheEvent) (d b : Device)

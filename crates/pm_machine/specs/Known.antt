@@ -1,6 +1,6 @@
 -- What is known of the slots in use. It is true of one heap; after an effect as much remains known
 -- as this says.
-use Rattle.std.specs.Prelude.{ℕ, ◌-◌, ◌/◌, ◌%◌, ◌==◌, ◌&&◌, ◌≤◌, if◌then◌else◌, ◌≢◌, pos}
+use Rattle.std.specs.Prelude.{ℕ, ◌≤◌, ◌≢◌, pos}
 use Rattle.cache_model.specs.Cache.{Words}
 use Rattle.pmem.specs.Device.{Device}
 use Rattle.pool_layout.specs.declared.limits.Sizes.{Sizes}

@@ -1,5 +1,5 @@
 -- What only bodies and proofs need beside `Answers`.
-use Rattle.std.specs.Prelude.{◌+◌, ◌≡◌, Result, Ok, Err}
+use Rattle.std.specs.Prelude.{Result, Ok, Err}
 use Rattle.pmem.specs.declared.answer.Refusal.{Refusal}
 use Rattle.pmem.specs.declared.answer.Refusal.TheVariants as refusal
 use Rattle.pm_machine.specs.declared.effect.End.{End}

@@ -1,5 +1,5 @@
 -- What only bodies and proofs need beside `Known`.
-use Rattle.std.specs.Prelude.{ℕ, ◌-◌, ◌/◌, ◌%◌, ◌==◌, ◌&&◌, nat_le, min, ℤ, ◌≤◌, if◌then◌else◌, ◌≢◌, pos}
+use Rattle.std.specs.Prelude.{ℕ, ◌-◌, ◌/◌, ◌%◌, ◌==◌, ◌&&◌, nat_le, min, ℤ, if◌then◌else◌, pos}
 use Rattle.std.specs.Ordering.{int_eq}
 
 -- how many first slots remain known, if n were, headers begin at word h, and x is stored to word w:

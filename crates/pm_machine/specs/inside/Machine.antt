@@ -1,5 +1,5 @@
 -- What only bodies and proofs need beside `Machine`.
-use Rattle.std.specs.Prelude.{◌+◌, ◌-◌, ◌/◌, ◌==◌, List, [], ◌∷◌, ◌++◌, if◌then◌else◌, ◌+ℤ◌}
+use Rattle.std.specs.Prelude.{List, []}
 use Rattle.pm_machine.specs.declared.effect.Effect.{Effect}
 use Rattle.pm_machine.specs.Machine.{Run, Unfinished, Finished}
 

@@ -1,14 +1,13 @@
 -- What only bodies and proofs need beside `Runs`.
-use Rattle.std.specs.Prelude.{ℕ, ◌+◌, ◌*◌, ◌<◌, ◌≤◌, ◌≡◌, ◌++◌, [], ◌∷◌}
+use Rattle.std.specs.Prelude.{ℕ, ◌+◌, ◌*◌, ◌<◌, ◌≤◌, ◌≡◌}
 use Rattle.pmem.specs.Device.{Device}
 use Rattle.pmem.specs.declared.answer.Refusal.{Refusal}
 use Rattle.pmem.specs.Played.{PlaysAll, PlaysPart}
-use Rattle.pool_layout.specs.Places.{at}
 use Rattle.pm_machine.specs.declared.effect.Effect.{Effect}
 use Rattle.pm_machine.specs.declared.effect.Effect.TheVariants.{Loads, Scans, Stores, Logs, Flushes, Fences, Quiet}
 use Rattle.pm_machine.specs.Effects.{records_past}
-use Rattle.pm_machine.specs.Machine.{StepOutcome, Goes, Ends, step}
-use Rattle.pm_machine.specs.Runs.{AreLines, Due, due}
+use Rattle.pm_machine.specs.Machine.{StepOutcome, Goes, Ends}
+use Rattle.pm_machine.specs.Runs.{AreLines, Due}
 
 abbrev pub IsStore : Effect → Type 0
 IsStore (Stores w x) = Unit {0}

@@ -1,5 +1,5 @@
 -- What only bodies and proofs need beside `Settled`.
-use Rattle.std.specs.Prelude.{ℕ, ◌+◌, ◌≡◌, ℤ}
+use Rattle.std.specs.Prelude.{ℕ, ℤ}
 use Rattle.pmem.specs.declared.answer.LogAnswer.{LogAnswer}
 use Rattle.pmem.specs.declared.answer.LogAnswer.TheVariants as log
 use Rattle.pmem.specs.declared.answer.Phase.TheVariants as phase

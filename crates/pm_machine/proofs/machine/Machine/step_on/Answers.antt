@@ -1,9 +1,4 @@
-use Rattle.std.proofs.Common.{ℕ}
-use Rattle.pmem.specs.Played.{PlaysAll}
-use Rattle.pool_layout.specs.Sizes.{heap_words}
-use Rattle.pm_machine.specs.Effects.{events_of, heap_past}
 use Rattle.pm_machine.specs.Runs.{heap_in}
-use Rattle.pm_machine.specs.inside.Runs.{IsInRange}
 use Rattle.pm_machine.proofs.KnownAfter.{known_after}
 use Rattle.pm_machine.proofs.Range.{range_progress}
 use Rattle.pm_machine.proofs.machine.Machine.step_on.Goals as goal
