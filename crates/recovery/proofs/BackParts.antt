@@ -1,5 +1,5 @@
 -- Restoring old values, and then the next attempt.
-use Rattle.std.proofs.Common.{◌≡◌, ◌≢◌, ℕ, zero, suc, ◌++◌, List, true, refl, sym, ◌∙◌, subst}
+use Rattle.std.proofs.Common.{◌≡◌, ◌≢◌, ℕ, zero, suc, ◌++◌, List, true, refl, ◌∙◌, subst}
 use Rattle.cache_model.specs.Cache.{Cache, view}
 use Rattle.cache_model.specs.Event.{CacheEvent}
 use Rattle.cache_model.specs.Play.{play}

@@ -1,19 +1,16 @@
 -- The due events of a recovery, by the content of the pool. Each part is a function of the cache in
 -- which it begins.
-use Rattle.std.specs.Prelude.{ℕ, zero, suc, ◌+◌, Bool, true, false, if◌then◌else◌, ◌++◌, List, [], ◌∷◌, ℤ, pos}
-use Rattle.std.specs.Ordering.{int_eq}
+use Rattle.std.specs.Prelude.{ℕ, zero, suc, ◌++◌, List, [], ℤ}
 use Rattle.cache_model.specs.Event.{CacheEvent}
-use Rattle.cache_model.specs.Cache.{Words, Cache, view}
+use Rattle.cache_model.specs.Cache.{Cache, view}
 use Rattle.cache_model.specs.Play.{play}
 use Rattle.pool_layout.specs.declared.limits.Sizes.{Sizes}
-use Rattle.clobber_log.specs.Logs.{attempt_in, count_in}
+use Rattle.clobber_log.specs.Logs.{attempt_in}
 use Rattle.clobber_log.specs.Reset.{reset_events}
 use Rattle.clobber_log.specs.Restore.{restore_events}
-use Rattle.args_log.specs.Pending.{is_sealed, tx_number}
 use Rattle.pm_machine.specs.declared.image.Image.{Image}
 use Rattle.pm_machine.specs.Machine.{start}
 use Rattle.tx_run.specs.Due.{due_run}
-use Rattle.recovery.specs.Found.{has_numbers, names_tx}
 
 -- the next attempt begins
 abbrev pub due_reset : Sizes → Cache → List CacheEvent

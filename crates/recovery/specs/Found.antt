@@ -1,6 +1,6 @@
 -- What a recovery finds in a pool: its mark, its valid records and the content of its argument
 -- record.
-use Rattle.std.specs.Prelude.{ℕ, zero, suc, ◌+◌, ◌-◌, ◌^◌, ◌<◌, ◌≤◌, ◌≡◌, ◌≢◌, ◌⊎◌, Bool, true, false, ◌&&◌, nat_le, nat_lt, min, List, [], ◌∷◌, length, slice_get, Option, Some, None, ℤ, pos}
+use Rattle.std.specs.Prelude.{ℕ, zero, suc, ◌-◌, ◌^◌, ◌≡◌, ◌≢◌, ◌⊎◌, Bool, true, false, ◌&&◌, nat_le, nat_lt, min, List, [], ◌∷◌, length, slice_get, Option, Some, None, ℤ, pos}
 use Rattle.cache_model.specs.Cache.{Words}
 use Rattle.pool_layout.specs.declared.places.TheConstants.{MARK, FUNCTION}
 use Rattle.clobber_log.specs.Logs.{attempt_in, count_in}

@@ -1,5 +1,4 @@
 -- What only bodies and proofs need beside `Recovered`.
-use Rattle.std.specs.Prelude.{◌+◌, ◌≤◌, ◌≡◌, ◌≢◌, ◌⊎◌}
 use Rattle.pmem.specs.declared.answer.Phase.TheVariants as phase
 use Rattle.pmem.specs.declared.answer.LogAnswer.{LogAnswer}
 use Rattle.pmem.specs.declared.answer.LogAnswer.TheVariants as log

@@ -1,4 +1,4 @@
-use Rattle.std.proofs.Common.{◌≤◌, arith}
+use Rattle.std.proofs.Common.{arith}
 use Rattle.recovery.proofs.recovering.recover.Goals as goal
 
 pub returns-in-Sealed-clause-most : goal.returns-in-Sealed-clause-most
