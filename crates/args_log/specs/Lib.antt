@@ -7,3 +7,4 @@ pub mod Phase
 pub mod Retire
 pub mod Lengths
 pub mod PhaseLaw
+pub mod Created

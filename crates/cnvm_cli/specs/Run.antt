@@ -7,7 +7,7 @@ use Rattle.pmem.specs.Played.{PlaysAll}
 use Rattle.pool_layout.specs.Sizes.{pool_lines}
 use Rattle.cnvm_session.specs.declared.creating.StartFault.{StartFault}
 use Rattle.cnvm_session.specs.declared.program.Program.{Program}
-use Rattle.cnvm_session.specs.Created.{creation_events}
+use Rattle.args_log.specs.Created.{creation_events}
 use Rattle.cnvm_session.specs.Unmade.{IsUnmade}
 use Rattle.cnvm_cli.specs.declared.refused.Refused.{Refused}
 use Rattle.cnvm_cli.specs.declared.status.Status.{Status}

@@ -1,5 +1,4 @@
 pub mod AnswerText
-pub mod Created
 pub mod Opening
 pub mod Unmade
 pub mod Shown

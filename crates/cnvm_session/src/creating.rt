@@ -4,7 +4,7 @@ ghost use Rattle.std.specs.Prelude.{◌≡◌, ◌≤◌, OnOk, IfErr, IsErrOf};
 ghost use Rattle.pmem.specs.Device.{FaultsRose, blanked};
 ghost use Rattle.pmem.specs.Played.{PlaysAll, PlaysPart};
 ghost use Rattle.pool_layout.specs.Sizes as sizes_of;
-ghost use Rattle.cnvm_session.specs.Created.{sizes_events, digest_events, head_events, creation_events};
+ghost use Rattle.args_log.specs.Created.{sizes_events, digest_events, head_events, creation_events};
 ghost use Rattle.cnvm_session.specs.Unmade.{IsUnmade};
 
 use pmem::events::{fence, flush, store};
@@ -23,7 +23,7 @@ pub enum StartFault {
 }
 
 /// Stores the words of the first line.
-#[tactic(auto, unfolding(crate::specs::Created::sizes_events, pool_layout::specs::Bytes::word_from))]
+#[tactic(auto, unfolding(args_log::specs::Created::sizes_events, pool_layout::specs::Bytes::word_from))]
 fn store_sizes<P: PmemWork>(sizes: &Sizes, dev: &mut P) -> Result<(), Refusal>
     requires { 6 ≤ (P.device dev.old).lines }
     ensures done { OnOk result (PlaysAll (P.device dev.old) (sizes_events sizes.now)
@@ -41,7 +41,7 @@ fn store_sizes<P: PmemWork>(sizes: &Sizes, dev: &mut P) -> Result<(), Refusal>
 }
 
 /// Stores the words of the second line.
-#[tactic(auto, unfolding(crate::specs::Created::digest_events))]
+#[tactic(auto, unfolding(args_log::specs::Created::digest_events))]
 fn store_digest<P: PmemWork>(digest: &[i64; 4], dev: &mut P) -> Result<(), Refusal>
     requires { 6 ≤ (P.device dev.old).lines }
     ensures done { OnOk result (PlaysAll (P.device dev.old) (digest_events digest.now)

@@ -7,7 +7,7 @@ ghost use Rattle.pmem.specs.Device.{FaultsRose, blanked};
 ghost use Rattle.pmem.specs.Played.{PlaysAll};
 ghost use Rattle.pool_layout.specs.declared.places.TheConstants.{FUNCTION};
 ghost use Rattle.pool_layout.specs.Sizes.{pool_lines};
-ghost use Rattle.cnvm_session.specs.Created.{creation_events};
+ghost use Rattle.args_log.specs.Created.{creation_events};
 ghost use Rattle.cnvm_session.specs.Opening.{opening_events};
 ghost use Rattle.cnvm_session.specs.Unmade.{IsUnmade};
 ghost use Rattle.c_types.specs.Shapes.{shapes_of};

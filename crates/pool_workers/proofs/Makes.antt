@@ -10,8 +10,9 @@ use Rattle.pmem.specs.declared.answer.Refusal.TheVariants.{Off, Failed}
 use Rattle.pmem.proofs.Glue.{all_append, part_left, part_right}
 use Rattle.pool_layout.specs.declared.limits.Sizes.{Sizes}
 use Rattle.pool_layout.specs.Sizes.{pool_lines}
+use Rattle.args_log.specs.Created.{sizes_events, digest_events, head_events, creation_events}
 use Rattle.pool_workers.specs.Compartment.{lifted, first_line}
-use Rattle.pool_workers.specs.Making.{sizes_events, digest_events, head_events, creation_events, lifted_all, creations}
+use Rattle.pool_workers.specs.Making.{lifted_all, creations}
 use Rattle.pool_workers.specs.inside.Making.{parts_at}
 
 lifted_append : (f : ℕ) (es fs : List CacheEvent) →

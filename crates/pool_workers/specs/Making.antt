@@ -1,38 +1,17 @@
 -- The events that create a pool of compartments on blank lines. Each compartment is created as a
--- pool of its own: its first line gets the magic word, the version and the sizes, its second the
--- digest of the program, and then both are flushed and fenced.
+-- pool of its own.
 use Rattle.std.specs.Prelude.{ℕ, zero, suc, ◌*◌, ◌≡◌, ◌⊎◌, ℤ, pos, List, [], ◌∷◌, ◌++◌, slice_index_or}
-use Rattle.cache_model.specs.Event.{CacheEvent, Store, Flush, Fence}
+use Rattle.cache_model.specs.Event.{CacheEvent}
 use Rattle.pmem.specs.Device.{Device, blanked}
 use Rattle.pmem.specs.Played.{PlaysPart}
 use Rattle.pmem.specs.declared.answer.Refusal.{Refusal}
 use Rattle.pmem.specs.declared.answer.Refusal.TheVariants as refusal
 use Rattle.pool_layout.specs.declared.limits.Sizes.{Sizes}
 use Rattle.pool_layout.specs.Sizes.{pool_lines}
+use Rattle.args_log.specs.Created.{creation_events}
 use Rattle.pool_workers.specs.declared.answer.MakeFault.{MakeFault}
 use Rattle.pool_workers.specs.declared.answer.MakeFault.TheVariants.{Failed, NoMemory}
 use Rattle.pool_workers.specs.Compartment.{lifted, first_line}
-
--- the eight bytes CNVMPOOL as a word, the lowest first
-abbrev pub magic_word : ℤ
-magic_word = pos 5498700876356144707
-
-unfoldable pub sizes_events : Sizes → List CacheEvent
-sizes_events s =
-    Store 0 magic_word ∷ Store 1 (pos 2)
-    ∷ Store 2 (pos s.slots) ∷ Store 3 (pos s.records)
-    ∷ Store 4 (pos s.root_words) ∷ Store 5 (pos s.ticks) ∷ []
-
-unfoldable pub digest_events : List ℤ → List CacheEvent
-digest_events digest =
-    Store 8 (slice_index_or digest 0 (pos 0)) ∷ Store 9 (slice_index_or digest 1 (pos 0))
-    ∷ Store 10 (slice_index_or digest 2 (pos 0)) ∷ Store 11 (slice_index_or digest 3 (pos 0)) ∷ []
-
-abbrev pub head_events : List CacheEvent
-head_events = Flush 0 ∷ Flush 1 ∷ Fence ∷ []
-
-abbrev pub creation_events : Sizes → List ℤ → List CacheEvent
-creation_events s digest = sizes_events s ++ (digest_events digest ++ head_events)
 
 -- events of a compartment as events of the whole device
 abbrev pub lifted_all : ℕ → List CacheEvent → List CacheEvent

@@ -5,8 +5,9 @@ ghost use Rattle.cache_model.specs.Event.{Store, Flush};
 ghost use Rattle.pmem.specs.Device.{FaultsRose, blanked};
 ghost use Rattle.pmem.specs.Played.{PlaysAll, PlaysPart};
 ghost use Rattle.pool_layout.specs.Sizes as sizes_of;
+ghost use Rattle.args_log.specs.Created.{sizes_events, digest_events, head_events};
 ghost use Rattle.pool_workers.specs.Compartment.{first_line};
-ghost use Rattle.pool_workers.specs.Making.{sizes_events, digest_events, head_events, lifted_all, creations, Unmade};
+ghost use Rattle.pool_workers.specs.Making.{lifted_all, creations, Unmade};
 ghost use Rattle.pool_workers.specs.inside.Making.{parts_at};
 
 use crate::answer::MakeFault;
@@ -50,7 +51,7 @@ fn flush_in<P: PmemWork>(dev: &mut P, first: u64, line: u64) -> Result<(), Refus
 }
 
 /// The words of the first line.
-#[tactic(auto, unfolding(crate::specs::Making::sizes_events))]
+#[tactic(auto, unfolding(args_log::specs::Created::sizes_events, pool_layout::specs::Bytes::word_from))]
 fn store_sizes<P: PmemWork>(sizes: &Sizes, first: u64, dev: &mut P) -> Result<(), Refusal>
     requires small { first ≤ 2 ^ 22 }
     requires lines { first + 6 ≤ (P.device dev.old).lines }
@@ -71,7 +72,7 @@ fn store_sizes<P: PmemWork>(sizes: &Sizes, first: u64, dev: &mut P) -> Result<()
 }
 
 /// The words of the second line.
-#[tactic(auto, unfolding(crate::specs::Making::digest_events))]
+#[tactic(auto, unfolding(args_log::specs::Created::digest_events))]
 fn store_digest<P: PmemWork>(digest: &[i64; 4], first: u64, dev: &mut P) -> Result<(), Refusal>
     requires small { first ≤ 2 ^ 22 }
     requires lines { first + 6 ≤ (P.device dev.old).lines }

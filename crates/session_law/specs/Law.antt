@@ -27,7 +27,7 @@ use Rattle.cnvm_session.specs.declared.program.Program.{Program}
 use Rattle.cnvm_session.specs.Commands.{Commanded}
 use Rattle.cnvm_session.specs.Laws.{IsRefused}
 use Rattle.cnvm_session.specs.Outcomes.{Opens}
-use Rattle.cnvm_session.specs.Created.{creation_events}
+use Rattle.args_log.specs.Created.{creation_events}
 use Rattle.c_meaning.specs.Transaction.{Outcome}
 use Rattle.ir.specs.declared.function.IrFunction.{IrFunction}
 use Rattle.ir.specs.declared.site.Site.{Site}

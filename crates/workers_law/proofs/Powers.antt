@@ -16,10 +16,11 @@ use Rattle.pmem.specs.Device.{blanked}
 use Rattle.pmem.proofs.Refused.{all_cache}
 use Rattle.pool_layout.specs.declared.limits.Sizes.{Sizes}
 use Rattle.pool_layout.specs.Sizes.{pool_lines}
+use Rattle.args_log.specs.Created.{sizes_events, digest_events, creation_events}
 use Rattle.crash_law.specs.Law.{IsAtRest, IsMarkIn, AreMarked}
 use Rattle.pool_workers.specs.Compartment.{words_from, line_counted_from, cache_in, lifted, IsInside, first_line}
 use Rattle.workers_law.specs.Interleaved.{WorkerEvent, steps_by, whole_events, own_events, seen_events}
-use Rattle.pool_workers.specs.Making.{sizes_events, digest_events, creation_events, lifted_all, creations}
+use Rattle.pool_workers.specs.Making.{lifted_all, creations}
 use Rattle.workers_law.specs.Power.{picks_in, PowerLaw, FencedLaw, MarksLaw, CompartmentsCreatedLaw}
 use Rattle.workers_law.proofs.Compartments.{AllInside, seen_cache, seen_fenced, own_by}
 use Rattle.workers_law.specs.Fenced.{fenced_cache}

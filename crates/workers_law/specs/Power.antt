@@ -12,9 +12,10 @@ use Rattle.pmem.specs.Device.{Device, blanked}
 use Rattle.pmem.specs.Played.{PlaysAll}
 use Rattle.pool_layout.specs.declared.limits.Sizes.{Sizes}
 use Rattle.pool_layout.specs.Sizes.{pool_lines}
+use Rattle.args_log.specs.Created.{creation_events}
 use Rattle.crash_law.specs.Law.{IsAtRest, AreMarked}
 use Rattle.pool_workers.specs.Compartment.{cache_in, first_line}
-use Rattle.pool_workers.specs.Making.{creation_events, creations}
+use Rattle.pool_workers.specs.Making.{creations}
 use Rattle.workers_law.specs.Standing.{ShowsPlayed}
 use Rattle.workers_law.specs.Fenced.{fenced_cache}
 

@@ -2,7 +2,8 @@
 use Rattle.std.specs.Prelude.{ℕ, ◌*◌, ◌≡◌, ◌⊎◌, ℤ, List, [], ◌∷◌, ◌++◌}
 use Rattle.cache_model.specs.Event.{CacheEvent}
 use Rattle.pool_layout.specs.declared.limits.Sizes.{Sizes}
-use Rattle.pool_workers.specs.Making.{sizes_events, digest_events, head_events, lifted_all}
+use Rattle.args_log.specs.Created.{sizes_events, digest_events, head_events}
+use Rattle.pool_workers.specs.Making.{lifted_all}
 
 -- the creation of the compartment that begins at line f, in its three parts
 abbrev pub parts_at : ℕ → Sizes → List ℤ → List CacheEvent

@@ -1,10 +1,10 @@
 -- The events that create a pool on blank lines. The first line gets the magic word, the version and
 -- the sizes, and the second the digest of the program; both lines are then flushed and fenced.
 use Rattle.std.specs.Prelude.{ℤ, pos, List, [], ◌∷◌, ◌++◌, slice_index_or}
-use Rattle.cache_model.specs.Event.{CacheEvent, Store, Flush, Fence}
+use Rattle.cache_model.specs.Event.{CacheEvent, Store, Fence}
 use Rattle.pool_layout.specs.declared.limits.Sizes.{Sizes}
 use Rattle.pool_layout.specs.Good.{sizes_words}
-use Rattle.args_log.specs.Seal.{stores_from}
+use Rattle.args_log.specs.Seal.{stores_from, flushes_from}
 
 unfoldable pub sizes_events : Sizes → List CacheEvent
 sizes_events s = stores_from 0 (sizes_words s)
@@ -16,7 +16,7 @@ digest_events digest =
     ∷ Store 11 (slice_index_or digest 3 (pos 0)) ∷ []
 
 abbrev pub head_events : List CacheEvent
-head_events = Flush 0 ∷ Flush 1 ∷ Fence ∷ []
+head_events = flushes_from 0 2 ++ Fence ∷ []
 
 abbrev pub creation_events : Sizes → List ℤ → List CacheEvent
 creation_events s digest = sizes_events s ++ (digest_events digest ++ head_events)
