@@ -1,15 +1,14 @@
 -- The effect of a marked call and of its recovery on the device, by their answers, however often
 -- the recovery is cut.
-use Rattle.std.proofs.Common.{◌≡◌, inl, inr, ⊎_elim, ℕ, zero, suc, ◌^◌, ◌<◌, ◌≤◌, List, [], ◌∷◌}
+use Rattle.std.proofs.Common.{◌≡◌, inl, inr, ⊎_elim, ℕ, zero, suc, ◌^◌, ◌<◌, ◌≤◌, List, []}
 use Rattle.std.proofs.Common.{length, ℤ, sym, ap, ◌∙◌, subst, arith}
 use Rattle.cache_model.specs.Event.{CacheEvent}
 use Rattle.cache_model.specs.Cache.{Words, Cache, view}
 use Rattle.cache_model.specs.Play.{play}
 use Rattle.cache_model.specs.Image.{Images, HasOne}
 use Rattle.cache_model.specs.During.{during}
-use Rattle.cache_model.proofs.During.{during_end}
-use Rattle.pmem.specs.Device.{Device, spent}
-use Rattle.pmem.specs.Played.{PlaysAll, PlaysPart, Refuses}
+use Rattle.pmem.specs.Device.{Device}
+use Rattle.pmem.specs.Played.{PlaysAll, PlaysPart}
 use Rattle.pmem.specs.declared.answer.Refusal.{Refusal}
 use Rattle.pmem.specs.declared.answer.Refusal.TheVariants as refusal
 use Rattle.pmem.specs.declared.answer.Phase.TheVariants as phase

@@ -1,6 +1,5 @@
 -- The parts of a call and of a recovery, one after the other.
-use Rattle.std.proofs.Common.{◌≡◌, ℕ, zero, suc, ◌+◌, ◌++◌, ◌≤◌, cond, Bool, true, false, List, []}
-use Rattle.std.proofs.Common.{◌∷◌}
+use Rattle.std.proofs.Common.{◌≡◌, ℕ, zero, suc, ◌+◌, ◌≤◌, cond, Bool, true, false, List, []}
 use Rattle.std.proofs.Common.{ℤ, pos, take, w64, inl, inr, refl, sym, ap, ◌∙◌, subst, arith, int_eq}
 use Rattle.std.specs.Int.{cast_signed}
 use Rattle.cache_model.specs.Cache.{Cache, Words, view}
@@ -16,7 +15,7 @@ use Rattle.pmem.specs.declared.answer.Phase.{Phase}
 use Rattle.pmem.specs.declared.answer.Phase.TheVariants.{Unsealed, Sealing, Sealed}
 use Rattle.pmem.proofs.Glue.{all_append, part_left, part_right}
 use Rattle.pmem.proofs.Refused.{all_cache, all_on}
-use Rattle.pool_layout.specs.declared.places.TheConstants.{LAST, DONE}
+use Rattle.pool_layout.specs.declared.places.TheConstants.{DONE}
 use Rattle.pool_layout.specs.declared.limits.Sizes.{Sizes}
 use Rattle.pool_map.specs.declared.trap.TrapKind.{TrapKind}
 use Rattle.pool_layout.specs.Log.{valid, count}
@@ -25,7 +24,6 @@ use Rattle.pool_layout.specs.Places.{at, pool_of}
 use Rattle.clobber_log.specs.Logs.{attempt_in, count_in}
 use Rattle.clobber_log.specs.Restore.{restore_events}
 use Rattle.args_log.specs.Next.{number_after}
-use Rattle.args_log.specs.Retire.{retire_events}
 use Rattle.args_log.specs.Seal.{payload_events, unsealed_events, sealing_events, seal_events}
 use Rattle.args_log.specs.Sealing as sealing
 use Rattle.args_log.specs.declared.sealing.SealAnswer.TheVariants as seal
@@ -40,7 +38,8 @@ use Rattle.abort_mode.specs.declared.answer.AbortAnswer.{AbortAnswer}
 use Rattle.abort_mode.specs.declared.answer.AbortAnswer.TheVariants.{Done, Aborted, Off}
 use Rattle.abort_mode.specs.declared.answer.AbortAnswer.TheVariants.{Failed, Unusable}
 use Rattle.abort_mode.specs.declared.answer.AbortAnswer.TheVariants.{Numbers, NoMemory}
-use Rattle.abort_mode.specs.Due.{abort_due_on, retiring, retiring_still, due_undo, abort_tail_events}
+use Rattle.abort_mode.specs.Due.{abort_due_on, retiring, retiring_still, due_undo}
+use Rattle.abort_mode.specs.Due.{abort_tail_events}
 use Rattle.abort_mode.specs.Due.{due_run, due_call, abort_due_redo, tail_steps, run_steps}
 use Rattle.abort_mode.specs.inside.Closes.{HasClosed, Closes}
 use Rattle.abort_mode.specs.Answers.{HasAbortSettled, HasAppended}

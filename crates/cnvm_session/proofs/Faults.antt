@@ -1,10 +1,7 @@
 -- A device's count of faults only rises, and it rises in each call that failed.
-use Rattle.std.proofs.Common.{◌≡◌, ◌≤◌, ℕ, Bool, true, false, inl, inr, if◌then◌else◌, List, [], ◌∷◌, ℤ, refl, ap, subst, arith}
-use Rattle.cache_model.specs.Event.{CacheEvent}
+use Rattle.std.proofs.Common.{◌≡◌, ◌≤◌, ℕ, Bool, true, false, if◌then◌else◌, List, [], ℤ, refl, subst, arith}
 use Rattle.cache_model.specs.Cache.{Words, view}
-use Rattle.pmem.specs.Device.{Device, FaultsRose, spent}
-use Rattle.pmem.specs.Played.{PlaysAll, PlaysPart, Refuses}
-use Rattle.pmem.specs.declared.answer.Refusal.{Refusal}
+use Rattle.pmem.specs.Device.{Device, FaultsRose}
 use Rattle.pmem.specs.declared.answer.Refusal.TheVariants as refusal
 use Rattle.pmem.proofs.Parts.{same_rise, all_rise, part_rise, rose_part}
 use Rattle.pool_map.specs.declared.trap.TrapKind.{TrapKind}

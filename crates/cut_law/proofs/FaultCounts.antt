@@ -1,8 +1,7 @@
 -- The count of faults in a call and in a recovery.
-use Rattle.std.proofs.Common.{◌≡◌, inl, inr, ⊎_elim, ℕ, ◌≤◌, List, [], ◌∷◌, ℤ, ap, arith}
+use Rattle.std.proofs.Common.{⊎_elim, ℕ, ◌≤◌, List, ℤ}
 use Rattle.cache_model.specs.Event.{CacheEvent}
-use Rattle.pmem.specs.Device.{Device, FaultsRose, spent}
-use Rattle.pmem.specs.Played.{PlaysPart}
+use Rattle.pmem.specs.Device.{Device}
 use Rattle.pmem.specs.declared.answer.Refusal.TheVariants.{Off, Failed, NoMemory}
 use Rattle.pmem.specs.declared.answer.Phase.TheVariants as phase
 use Rattle.pmem.proofs.Parts.{same_rise, all_rise, part_rise}

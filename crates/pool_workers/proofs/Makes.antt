@@ -1,12 +1,11 @@
 -- The events that create one compartment, followed by those of the rest.
-use Rattle.std.proofs.Common.{◌≡◌, inl, inr, ℕ, suc, ◌+◌, ◌*◌, ◌-◌, ◌<◌, ◌≤◌, true, false, ℤ, List, [], ◌∷◌, ◌++◌, None, refl, sym, ap, ap₂, ◌∙◌, subst, arith}
+use Rattle.std.proofs.Common.{◌≡◌, ℕ, suc, ◌+◌, ◌*◌, ◌-◌, ◌<◌, ◌≤◌, ℤ, List, [], ◌∷◌, ◌++◌, refl}
+use Rattle.std.proofs.Common.{sym, ap, ap₂, ◌∙◌, subst, arith}
 use Rattle.std.proofs.Math.Nat.{mul-le-mul_left}
-use Rattle.std.proofs.lemmas.Option.{none-some}
 use Rattle.cache_model.specs.Event.{CacheEvent}
-use Rattle.pmem.specs.Device.{Device, FaultsRose, IsDown, spent, less_one}
+use Rattle.pmem.specs.Device.{Device, less_one}
 use Rattle.pmem.specs.Played.{PlaysAll, PlaysPart}
 use Rattle.pmem.specs.declared.answer.Refusal.{Refusal}
-use Rattle.pmem.specs.declared.answer.Refusal.TheVariants.{Off, Failed}
 use Rattle.pmem.proofs.Glue.{all_append, part_left, part_right}
 use Rattle.pool_layout.specs.declared.limits.Sizes.{Sizes}
 use Rattle.pool_layout.specs.Sizes.{pool_lines}

@@ -1,6 +1,6 @@
 -- The events that create a pool of compartments on blank lines. Each compartment is created as a
 -- pool of its own.
-use Rattle.std.specs.Prelude.{ℕ, zero, suc, ◌*◌, ◌≡◌, ◌⊎◌, ℤ, pos, List, [], ◌∷◌, ◌++◌, slice_index_or}
+use Rattle.std.specs.Prelude.{ℕ, zero, suc, ◌*◌, ◌≡◌, ◌⊎◌, ℤ, List, [], ◌∷◌, ◌++◌}
 use Rattle.cache_model.specs.Event.{CacheEvent}
 use Rattle.pmem.specs.Device.{Device, blanked}
 use Rattle.pmem.specs.Played.{PlaysPart}

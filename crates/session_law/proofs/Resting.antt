@@ -1,12 +1,7 @@
 -- A device that is at rest with a pool, and what a power cut leaves of it.
-use Rattle.std.proofs.Common.{◌≡◌, inl, inr, ℕ, ◌<◌, true, List, [], ◌∷◌, ℤ, refl, sym, ap, ◌∙◌, subst}
-use Rattle.cache_model.specs.Event.{CacheEvent}
-use Rattle.cache_model.specs.Cache.{Words, Cache, view}
-use Rattle.cache_model.specs.During.{during}
-use Rattle.pmem.specs.Device.{Device, spent}
-use Rattle.pmem.specs.Played.{PlaysPart, Refuses}
-use Rattle.pmem.specs.declared.answer.Refusal.{Refusal}
-use Rattle.pmem.specs.declared.answer.Refusal.TheVariants.{Off, Failed, NoMemory}
+use Rattle.std.proofs.Common.{◌≡◌, ℕ, ◌<◌, true, List, [], ℤ, refl, sym, ap, ◌∙◌, subst}
+use Rattle.cache_model.specs.Cache.{Words, view}
+use Rattle.pmem.specs.Device.{Device}
 use Rattle.pool_layout.specs.declared.places.Place.TheVariants.{Heap}
 use Rattle.pool_layout.specs.Places.{at}
 use Rattle.pool_layout.specs.Places as places

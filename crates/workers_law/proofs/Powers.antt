@@ -1,5 +1,8 @@
 -- The effect of a power cut, a fence and a creation on a compartment.
-use Rattle.std.proofs.Common.{◌≡◌, ◌≢◌, ⊎_elim, ℕ, zero, suc, ◌+◌, ◌-◌, ◌*◌, ◌/◌, ◌<◌, ◌≤◌, ◌==◌, nat_lt, cond, Bool, true, false, List, [], ◌∷◌, ◌++◌, append-nil, map, length, drop, slice_index_or, Option, Some, None, ℤ, refl, sym, ap, ◌∙◌, subst, arith, eq-eqb, ne_eqb, length-append}
+use Rattle.std.proofs.Common.{◌≡◌, ◌≢◌, ⊎_elim, ℕ, zero, suc, ◌+◌, ◌-◌, ◌*◌, ◌/◌, ◌<◌, ◌≤◌, ◌==◌}
+use Rattle.std.proofs.Common.{nat_lt, cond, Bool, true, false, List, [], ◌∷◌, ◌++◌, append-nil, map}
+use Rattle.std.proofs.Common.{length, drop, slice_index_or, Option, Some, None, ℤ, refl, sym, ap}
+use Rattle.std.proofs.Common.{◌∙◌, subst, arith, eq-eqb, ne_eqb, length-append}
 use Rattle.std.proofs.lemmas.Bool.{cases_eq, ltb-true, ltb-false}
 use Rattle.cache_model.specs.Event.{CacheEvent, Store, Flush, Fence}
 use Rattle.cache_model.specs.Cache.{Words, Line, Cache, blank_line, blank, versions, view}
@@ -18,8 +21,10 @@ use Rattle.pool_layout.specs.declared.limits.Sizes.{Sizes}
 use Rattle.pool_layout.specs.Sizes.{pool_lines}
 use Rattle.args_log.specs.Created.{sizes_events, digest_events, creation_events}
 use Rattle.crash_law.specs.Law.{IsAtRest, IsMarkIn, AreMarked}
-use Rattle.pool_workers.specs.Compartment.{words_from, line_counted_from, cache_in, lifted, IsInside, first_line}
-use Rattle.workers_law.specs.Interleaved.{WorkerEvent, steps_by, whole_events, own_events, seen_events}
+use Rattle.pool_workers.specs.Compartment.{words_from, line_counted_from, cache_in, lifted}
+use Rattle.pool_workers.specs.Compartment.{IsInside, first_line}
+use Rattle.workers_law.specs.Interleaved.{WorkerEvent, steps_by, whole_events, own_events}
+use Rattle.workers_law.specs.Interleaved.{seen_events}
 use Rattle.pool_workers.specs.Making.{lifted_all, creations}
 use Rattle.workers_law.specs.Power.{picks_in, PowerLaw, FencedLaw, MarksLaw, CompartmentsCreatedLaw}
 use Rattle.workers_law.proofs.Compartments.{AllInside, seen_cache, seen_fenced, own_by}

@@ -1,5 +1,7 @@
 -- A transaction turn by turn, with other workers' fences in between.
-use Rattle.std.proofs.Common.{◌≡◌, inl, inr, ℕ, zero, suc, ◌-◌, ◌<◌, if◌then◌else◌, Bool, true, false, List, [], ◌∷◌, ◌++◌, take, w64, ne_eqb, append_assoc, append-nil, Option, ℤ, refl, sym, ap, ap₂, ◌∙◌, subst, arith}
+use Rattle.std.proofs.Common.{◌≡◌, inl, inr, ℕ, zero, suc, ◌-◌, ◌<◌, if◌then◌else◌, Bool, true}
+use Rattle.std.proofs.Common.{false, List, [], ◌∷◌, ◌++◌, take, w64, ne_eqb, append_assoc}
+use Rattle.std.proofs.Common.{append-nil, Option, ℤ, refl, sym, ap, ap₂, ◌∙◌, subst, arith}
 use Rattle.cache_model.specs.Event.{CacheEvent, Store, Flush, Fence}
 use Rattle.cache_model.specs.Cache.{Words, put, Cache, view}
 use Rattle.cache_model.specs.Play.{apply, play}
@@ -7,9 +9,8 @@ use Rattle.cache_model.specs.Image.{IsImage}
 use Rattle.cache_model.proofs.During.{play_append}
 use Rattle.cache_model.proofs.Views.{view_store, view_flush, view_fence}
 use Rattle.pmem.specs.Device.{Device, spent}
-use Rattle.pmem.specs.Played.{Refuses, PlaysPart}
+use Rattle.pmem.specs.Played.{PlaysPart}
 use Rattle.pmem.specs.declared.answer.Refusal.{Refusal}
-use Rattle.pmem.specs.declared.answer.Refusal.TheVariants.{Off, Failed, NoMemory}
 use Rattle.pmem.proofs.Refused.{all_cache}
 use Rattle.pmem.proofs.Parts.{refused_cache}
 use Rattle.pool_layout.specs.declared.places.TheConstants.{DONE, ATTEMPT}
@@ -34,8 +35,10 @@ use Rattle.crash_law.proofs.Fences.{fences_add_none}
 use Rattle.pool_workers.specs.declared.answer.TurnAnswer.{TurnAnswer}
 use Rattle.pool_workers.specs.declared.task.Task.{Task}
 use Rattle.pool_workers.specs.declared.task.Task.TheVariants.{Begun, Running, Ending, Cut}
-use Rattle.pool_workers.specs.Task.{going, stepped_task, events_in, piece_of, task_past, IsTask, WentWhole}
-use Rattle.workers_law.specs.Standing.{ShowsPlayed, ShowsSome, TaskStands, StandsOr, LeftLaw, SameViewLaw, TurnsLaw, ShownImagesLaw}
+use Rattle.pool_workers.specs.Task.{going, stepped_task, events_in, piece_of, task_past, IsTask}
+use Rattle.pool_workers.specs.Task.{WentWhole}
+use Rattle.workers_law.specs.Standing.{ShowsPlayed, ShowsSome, TaskStands, StandsOr, LeftLaw}
+use Rattle.workers_law.specs.Standing.{SameViewLaw, TurnsLaw, ShownImagesLaw}
 use Rattle.workers_law.specs.Fenced.{fenced_cache}
 use Rattle.workers_law.specs.Left.{run_left, left_of, left_or}
 

@@ -1,6 +1,5 @@
 use Rattle.std.proofs.Common.{inr, ◌+◌, ◌≤◌, ◌∙◌, subst}
 use Rattle.pmem.specs.Played.{PlaysAll, PlaysPart}
-use Rattle.pmem.specs.declared.answer.Refusal.{Refusal}
 use Rattle.pmem.specs.declared.answer.Refusal.TheVariants as refusal
 use Rattle.pool_layout.specs.declared.limits.Sizes.{Sizes}
 use Rattle.pm_machine.specs.Machine.{State}

@@ -1,4 +1,4 @@
-use Rattle.std.proofs.Common.{◌≡◌, true, None, refl, sym, subst}
+use Rattle.std.proofs.Common.{refl, sym, subst}
 use Rattle.pmem.specs.Device.{Device, FaultsRose}
 use Rattle.pmem.proofs.Parts.{IsOn, never_off, rose_part}
 use Rattle.pool_workers.proofs.creating.create_pools.Goals as goal
