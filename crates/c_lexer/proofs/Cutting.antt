@@ -2,7 +2,7 @@
 use Rattle.std.proofs.Common.{◌≡◌, ℕ, zero, suc, ◌-◌, ◌<◌, ◌≤◌, List, [], ◌∷◌, length, take, drop, get_or, sub-one, arith, refl}
 use Rattle.std.specs.Prelude.{Ok}
 use Rattle.c_lexer.specs.declared.spot.Spot.{Spot}
-use Rattle.c_lexer.specs.Cuts.{Cut, begin_piece, cut_left}
+use Rattle.c_lexer.specs.Cuts.{Cut, begin_piece, cut_left, end_of}
 use Rattle.c_lexer.specs.Next.{next_piece}
 use Rattle.c_lexer.specs.Spots.{past_byte}
 use Rattle.c_lexer.specs.inside.Spots.{spot_past}
@@ -22,7 +22,7 @@ after_first spot left inside = cut_left inside (past_byte spot (get_or left 0 0)
 
 -- the cut begins with the piece at this place
 pub cut_begins : (spot : Spot) (left : List ℕ) → 0 < length left →
-    cut_left 0 spot left ≡ begin_piece (next_piece spot left) spot.line (after_first spot left)
+    cut_left 0 spot left ≡ begin_piece (next_piece spot left) spot (after_first spot left)
 unfolding cut_left
 cut_begins spot [] some = absurd (omega arith)
 cut_begins spot (b ∷ bs) some = refl
@@ -36,7 +36,7 @@ cut_goes_on spot (b ∷ bs) zero some within = absurd (omega arith)
 cut_goes_on spot (b ∷ bs) (suc n) some within = rw sub-one (cut_inside n (past_byte spot b) bs)
 
 pub cut_ends : (spot : Spot) (left : List ℕ) → length left ≡ 0 →
-    cut_left 0 spot left ≡ record { tokens = []; ending = Ok spot.line }
+    cut_left 0 spot left ≡ record { tokens = []; ending = Ok (end_of spot) }
 unfolding cut_left
 cut_ends spot [] none = refl
 cut_ends spot (b ∷ bs) none = absurd (omega arith)

@@ -5,7 +5,7 @@ use Rattle.std.specs.Prelude.{Ok, Err, nat_lt}
 use Rattle.c_lexer.specs.declared.fault.LexFault.{LexFault}
 use Rattle.c_lexer.specs.declared.fault.LexFault.TheVariants.{TooLong}
 use Rattle.c_lexer.specs.declared.token.Placed.{Placed}
-use Rattle.c_lexer.specs.Cuts.{Cut, limited}
+use Rattle.c_lexer.specs.Cuts.{Cut, TextEnd, limited}
 use Rattle.c_lexer.specs.inside.Cuts.{after_tokens}
 
 -- no room for one more token
@@ -36,10 +36,10 @@ kept_more kept placed c = ap (λ (ts : List Placed).
 pub ruleset take_steps = (no_room, refused, kept_more)
 
 -- the end of the text
-pub ended_well : (kept : List Placed) (last : ℕ) → length kept ≤ 16384 →
-    limited (after_tokens kept (record { tokens = []; ending = Ok last }))
-    ≡ Ok (record { tokens = kept; last = last })
-ended_well kept last few =
+pub ended_well : (kept : List Placed) (end : TextEnd) → length kept ≤ 16384 →
+    limited (after_tokens kept (record { tokens = []; ending = Ok end }))
+    ≡ Ok (record { tokens = kept; last = end.line; size = end.size })
+ended_well kept end few =
     let short : nat_lt 16384 (length (kept ++ [])) ≡ false =
     grind (arith, nat_tests, length-append kept []) in
     rw (short, append-nil) refl

@@ -20,25 +20,25 @@ use Rattle.c_lexer.specs.Words.{word_token}
 abbrev pub run_of : List ℕ → List ℕ
 run_of left = take (run_len left) left
 
-abbrev pub comment_piece : ℕ → Option ℕ → Piece
-comment_piece line None = Refuses (OpenComment line)
-comment_piece line (Some width) = Skips width
+abbrev pub comment_piece : Spot → Option ℕ → Piece
+comment_piece spot None = Refuses (OpenComment spot.line spot.at)
+comment_piece spot (Some width) = Skips width
 
-abbrev pub number_piece : ℕ → ℕ → Option ℤ → Piece
-number_piece line width None = Refuses (BadNumber line)
-number_piece line width (Some value) = Spells width (token.Number value)
+abbrev pub number_piece : Spot → ℕ → Option ℤ → Piece
+number_piece spot width None = Refuses (BadNumber spot.line spot.at)
+number_piece spot width (Some value) = Spells width (token.Number value)
 
-abbrev pub mark_piece : ℕ → Option (ℕ × Mark) → Piece
-mark_piece line None = Refuses (BadByte line)
-mark_piece line (Some (width, mark)) = Spells width (token.Mark mark)
+abbrev pub mark_piece : Spot → Option (ℕ × Mark) → Piece
+mark_piece spot None = Refuses (BadByte spot.line spot.at)
+mark_piece spot (Some (width, mark)) = Spells width (token.Mark mark)
 
 unfoldable pub next_piece : Spot → List ℕ → Piece
 next_piece spot left =
     if is_blank (slice_index left 0) then Skips 1
     else (if starts_with nat_eq left (codes "//") || (spot.fresh && begins_include left)
     then Skips (line_len left)
-    else (if starts_with nat_eq left (codes "/*") then comment_piece spot.line (comment_len left)
+    else (if starts_with nat_eq left (codes "/*") then comment_piece spot (comment_len left)
     else (if is_ascii_digit (slice_index left 0)
-    then number_piece spot.line (run_len left) (number_of (run_of left))
+    then number_piece spot (run_len left) (number_of (run_of left))
     else (if begins_name (slice_index left 0) then Spells (run_len left) (word_token (run_of left))
-    else mark_piece spot.line (mark_at left)))))
+    else mark_piece spot (mark_at left)))))

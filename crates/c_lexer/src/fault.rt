@@ -6,18 +6,18 @@ ghost use Rattle.c_lexer.specs.declared.fault.LexFault.TheVariants.{NoMemory};
 use std::alloc::{AllocError, AllocFailed};
 use thiserror::Error;
 
-/// Why a text has no tokens. Each number is the line of the refusal, counted from 1.
+/// Why a text has no tokens. A place is a line, counted from 1, and the number of bytes before it.
 #[derive(Clone, Copy, Debug, PartialEq, Eq, Error)]
 pub enum LexFault {
     /// A byte that begins no token, blank, comment or skipped line.
-    #[error("line {0}: no token begins with this byte")]
-    BadByte(u64),
+    #[error("line {line}: no token begins with this byte")]
+    BadByte { line: u64, start: u64 },
     /// A run of letters, digits and `_` that begins with a digit but is no number.
-    #[error("line {0}: not a number")]
-    BadNumber(u64),
-    /// A comment that is never closed; the line is the one on which it begins.
-    #[error("line {0}: the comment is never closed")]
-    OpenComment(u64),
+    #[error("line {line}: not a number")]
+    BadNumber { line: u64, start: u64 },
+    /// A comment that is never closed; the place is that of its `/*`.
+    #[error("line {line}: the comment is never closed")]
+    OpenComment { line: u64, start: u64 },
     /// More than 262,144 bytes, or more than 16,384 tokens.
     #[error("the program is too long")]
     TooLong,

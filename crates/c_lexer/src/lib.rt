@@ -1,5 +1,6 @@
 //! The tokens of a program text. It rests on `nvm_base`. Its one contract for the crates above:
-//! `tokens` answers exactly the tokens that a text spells, or the first refusal with its line.
+//! `tokens` answers exactly the tokens that a text spells, each with its line and the number of
+//! bytes before it, or the first refusal with its place.
 #![tactic(auto)]
 
 mod byte;

@@ -1,17 +1,18 @@
-//! The tokens of a text, with their lines and the line of the text's end.
+//! The tokens of a text with their places, and the place of the text's end.
 
 ghost use Rattle.std.specs.Prelude.{◌≡◌, ◌≤◌, length, slice_get};
 ghost use Rattle.std.specs.Option.{option_copied};
-ghost use Rattle.c_lexer.specs.TokenList.{line_at};
+ghost use Rattle.c_lexer.specs.TokenList.{line_at, start_at};
 
 use crate::token::Placed;
 use std::marker::Model;
 
-/// The tokens of one text, in order, with the line of the text's end. Only `tokens` makes one.
+/// The tokens of one text, in order, with the place of the text's end. Only `tokens` makes one.
 #[derive(Drop)]
 pub struct TokenList {
     all: Vec<Placed>,
-    end: u64,
+    last: u64,
+    size: u64,
 }
 
 impl Model for TokenList {
@@ -19,14 +20,14 @@ impl Model for TokenList {
 
     ghost Value = { Tokens };
 
-    ghost view = { λ t. record { tokens = t.all.items; last = t.end } };
+    ghost view = { λ t. record { tokens = t.all.items; last = t.last; size = t.size } };
 }
 
 impl TokenList {
-    pub(crate) fn new(all: Vec<Placed>, end: u64) -> Self
-        ensures { result ≡ record { tokens = all.items; last = end } }
+    pub(crate) fn new(all: Vec<Placed>, last: u64, size: u64) -> Self
+        ensures { result ≡ record { tokens = all.items; last = last; size = size } }
     {
-        TokenList { all, end }
+        TokenList { all, last, size }
     }
 
     /// The number of tokens.
@@ -36,7 +37,7 @@ impl TokenList {
         self.all.len() as u64
     }
 
-    /// The token at a place, counted from 0, with its line; `None` from the list's length on.
+    /// The token at a place, counted from 0, with its place in the text; `None` from the list's length on.
     pub fn get(&self, place: u64) -> Option<&Placed>
         ensures { option_copied result ≡ slice_get self.now.tokens place }
     {
@@ -50,7 +51,18 @@ impl TokenList {
     {
         match self.all.get(token as usize) {
             Some(placed) => placed.line,
-            None => self.end,
+            None => self.last,
+        }
+    }
+
+    /// The number of bytes before the token at a place; at the list's length, the text's size.
+    pub fn start(&self, token: u64) -> u64
+        requires { token ≤ length self.now.tokens }
+        ensures { result ≡ start_at self.now token }
+    {
+        match self.all.get(token as usize) {
+            Some(placed) => placed.start,
+            None => self.size,
         }
     }
 }

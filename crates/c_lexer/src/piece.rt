@@ -29,38 +29,41 @@ pub(crate) enum Piece {
 }
 
 /// The number that these bytes begin with.
-fn number_piece(left: &[u8], line: u64) -> Piece
+fn number_piece(left: &[u8], spot: Spot) -> Piece
     requires { is_word_byte (slice_index left.now 0) ≡ true }
-    ensures piece { result ≡ number_piece line (run_len left.now) (number_of (run_of left.now)) }
+    ensures piece { result ≡ number_piece spot (run_len left.now) (number_of (run_of left.now)) }
     ensures inside { PieceFits result (length left.now) }
 {
+    let (line, start) = (spot.line, spot.at);
     let width = run_len(left);
     match number_of(&left[..width]) {
         Some(value) => Piece::Spells(width, Token::Number(value)),
-        None => Piece::Refuses(LexFault::BadNumber(line)),
+        None => Piece::Refuses(LexFault::BadNumber { line, start }),
     }
 }
 
 /// The comment that these bytes begin with.
-fn comment_piece(left: &[u8], line: u64) -> Piece
+fn comment_piece(left: &[u8], spot: Spot) -> Piece
     requires { 2 ≤ length left.now }
-    ensures piece { result ≡ comment_piece line (comment_len left.now) }
+    ensures piece { result ≡ comment_piece spot (comment_len left.now) }
     ensures inside { PieceFits result (length left.now) }
 {
+    let (line, start) = (spot.line, spot.at);
     match comment_len(left) {
         Some(width) => Piece::Skips(width),
-        None => Piece::Refuses(LexFault::OpenComment(line)),
+        None => Piece::Refuses(LexFault::OpenComment { line, start }),
     }
 }
 
 /// The longest mark that these bytes begin with.
-fn mark_piece(left: &[u8], line: u64) -> Piece
-    ensures piece { result ≡ mark_piece line (mark_at left.now) }
+fn mark_piece(left: &[u8], spot: Spot) -> Piece
+    ensures piece { result ≡ mark_piece spot (mark_at left.now) }
     ensures inside { PieceFits result (length left.now) }
 {
+    let (line, start) = (spot.line, spot.at);
     match longest_mark(left) {
         Some((width, mark)) => Piece::Spells(width, Token::Mark(mark)),
-        None => Piece::Refuses(LexFault::BadByte(line)),
+        None => Piece::Refuses(LexFault::BadByte { line, start }),
     }
 }
 
@@ -89,12 +92,12 @@ pub(crate) fn next(alloc: Global, left: &[u8], spot: Spot) -> Result<Piece, Allo
     } else if left.starts_with(b"//") || (spot.fresh && begins_include(left)) {
         Ok(Piece::Skips(line_len(left)))
     } else if left.starts_with(b"/*") {
-        Ok(comment_piece(left, spot.line))
+        Ok(comment_piece(left, spot))
     } else if first.is_ascii_digit() {
-        Ok(number_piece(left, spot.line))
+        Ok(number_piece(left, spot))
     } else if begins_name(first) {
         word_piece(alloc, left)
     } else {
-        Ok(mark_piece(left, spot.line))
+        Ok(mark_piece(left, spot))
     }
 }

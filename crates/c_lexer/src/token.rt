@@ -129,9 +129,12 @@ pub enum Token {
     Reserved,
 }
 
-/// A token and the line on which it begins, counted from 1.
+/// A token and its place in the text.
 #[derive(Drop)]
 pub struct Placed {
     pub token: Token,
+    /// The line on which it begins, counted from 1.
     pub line: u64,
+    /// The number of bytes before it.
+    pub start: u64,
 }

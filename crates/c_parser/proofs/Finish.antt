@@ -410,16 +410,16 @@ step_fine (Items ∷ k) t f = items_fine k t (parser_step k t) f.0 f.1 (step_fin
 
 -- the tokens of the shortest endings
 abbrev m : Mark → Placed
-m x = record { token = token.Mark x; line = 0 }
+m x = record { token = token.Mark x; line = 0; start = 0 }
 
 abbrev w : Word → Placed
-w x = record { token = token.Word x; line = 0 }
+w x = record { token = token.Word x; line = 0; start = 0 }
 
 abbrev name : Placed
-name = record { token = token.Name []; line = 0 }
+name = record { token = token.Name []; line = 0; start = 0 }
 
 abbrev digits : Placed
-digits = record { token = token.Number (pos 0); line = 0 }
+digits = record { token = token.Number (pos 0); line = 0; start = 0 }
 
 -- a shortest list of tokens that meets the wants
 abbrev pub finish : List Want → List Placed

@@ -19,7 +19,7 @@ use std::alloc::{AllocError, Global};
 
 /// Checks a tree against the typing rules. If no rule is broken, the answer is `Ok` with the given
 /// tree; otherwise it is the rule broken at the least token, and at that token the one with the
-/// least number, with the token's line. The tree is consumed also if it is refused.
+/// least number, with the token's line and place. The tree is consumed also if it is refused.
 #[tactic(auto, using(crate::proofs::Told::laws))]
 pub fn check(alloc: Global, ast: Ast) -> Result<Typed, TypeFault>
     ensures kept { IfOk result (λ typed. breaks ast ≡ []) }
@@ -31,22 +31,28 @@ pub fn check(alloc: Global, ast: Ast) -> Result<Typed, TypeFault>
             let typed = Typed::new(alloc, ast)?;
             Ok(typed)
         }
-        Some(told) => Err(fault_at(told.rule, ast.line(told.place))),
+        Some(told) => Err(fault_at(told, ast.line(told.place))),
     }
 }
 
-fn fault_at(rule: Rule, line: u64) -> TypeFault
-    ensures { result ≡ fault_of rule line }
+fn fault_at(told: Broken, line: u64) -> TypeFault
+    ensures { result ≡ fault_of told line }
 {
-    match rule {
-        Rule::UnknownName => TypeFault::UnknownName(line),
-        Rule::Twice => TypeFault::Twice(line),
-        Rule::Mismatch => TypeFault::Mismatch(line),
-        Rule::NotAssignable => TypeFault::NotAssignable(line),
-        Rule::Arity => TypeFault::Arity(line),
-        Rule::TooBig(limit, value) => TypeFault::TooBig(line, limit, value),
-        Rule::NoRoot => TypeFault::NoRoot(line),
-        Rule::BadTx => TypeFault::BadTx(line),
+    let place = told.place;
+    match told.rule {
+        Rule::UnknownName => TypeFault::UnknownName { line, place },
+        Rule::Twice => TypeFault::Twice { line, place },
+        Rule::Mismatch => TypeFault::Mismatch { line, place },
+        Rule::NotAssignable => TypeFault::NotAssignable { line, place },
+        Rule::Arity => TypeFault::Arity { line, place },
+        Rule::TooBig(limit, value) => TypeFault::TooBig {
+            line,
+            place,
+            limit,
+            value,
+        },
+        Rule::NoRoot => TypeFault::NoRoot { line, place },
+        Rule::BadTx => TypeFault::BadTx { line, place },
     }
 }
 

@@ -25,34 +25,60 @@ pub enum LimitKind {
     Parameters,
 }
 
-/// The rule that a tree breaks, at the least token, and at that token with the least number. The
-/// first number of each is the token's line.
+/// The rule that a tree breaks, at the least token, and at that token with the least number. Each
+/// tells the token's line and its place in the list of tokens.
 #[derive(Clone, Copy, Debug, PartialEq, Eq, Error)]
 pub enum TypeFault {
     /// The variable, function, struct or field doesn't exist.
-    #[error("line {0}: no such name")]
-    UnknownName(u64),
+    #[error("line {line}: no such name")]
+    UnknownName {
+        line: u64,
+        place: u64,
+    },
     /// A struct, a function, a field, a name in one scope or the root is declared again.
-    #[error("line {0}: declared twice")]
-    Twice(u64),
+    #[error("line {line}: declared twice")]
+    Twice {
+        line: u64,
+        place: u64,
+    },
     /// A value doesn't have the type that is needed there.
-    #[error("line {0}: the types don't fit")]
-    Mismatch(u64),
+    #[error("line {line}: the types don't fit")]
+    Mismatch {
+        line: u64,
+        place: u64,
+    },
     /// The target of an assignment is no variable, field or element.
-    #[error("line {0}: this can't be assigned to")]
-    NotAssignable(u64),
+    #[error("line {line}: this can't be assigned to")]
+    NotAssignable {
+        line: u64,
+        place: u64,
+    },
     /// A call with a number of arguments that differs from the number of the function's parameters.
-    #[error("line {0}: wrong number of arguments")]
-    Arity(u64),
-    /// More than a limit allows: the line, the limit and the value that exceeds it.
-    #[error("line {0}: the limit {1:?} doesn't allow {2}")]
-    TooBig(u64, LimitKind, u64),
-    /// There is no root declaration.
-    #[error("line {0}: no root declaration")]
-    NoRoot(u64),
+    #[error("line {line}: wrong number of arguments")]
+    Arity {
+        line: u64,
+        place: u64,
+    },
+    /// More than a limit allows, with the value that exceeds it.
+    #[error("line {line}: the limit {limit:?} doesn't allow {value}")]
+    TooBig {
+        line: u64,
+        place: u64,
+        limit: LimitKind,
+        value: u64,
+    },
+    /// There is no root declaration; the place is that after the last token.
+    #[error("line {line}: no root declaration")]
+    NoRoot {
+        line: u64,
+        place: u64,
+    },
     /// A transaction whose result or parameter isn't `int64_t`, or a call of a transaction.
-    #[error("line {0}: not allowed for a transaction")]
-    BadTx(u64),
+    #[error("line {line}: not allowed for a transaction")]
+    BadTx {
+        line: u64,
+        place: u64,
+    },
     #[error("out of memory")]
     NoMemory,
 }

@@ -8,10 +8,11 @@ use Rattle.std.proofs.lemmas.Int.{ints}
 use Rattle.nvm_base.specs.Wrap.{IsWord}
 use Rattle.c_lexer.specs.declared.fault.LexFault.{LexFault}
 use Rattle.c_lexer.specs.declared.fault.LexFault.TheVariants.{TooLong}
+use Rattle.c_lexer.specs.declared.spot.Spot.{Spot}
 use Rattle.c_lexer.specs.declared.token.Placed.{Placed}
 use Rattle.c_lexer.specs.Bytes.{is_blank, begins_name, run_len, line_len}
 use Rattle.c_lexer.specs.Comments.{comment_len, begins_include}
-use Rattle.c_lexer.specs.Cuts.{Cut, begin_piece, cut_left, cut, lex_answer, limited, answer}
+use Rattle.c_lexer.specs.Cuts.{TextEnd, Cut, placed_at, begin_piece, cut_left, cut, lex_answer, limited, answer}
 use Rattle.c_lexer.specs.Marks.{mark_at}
 use Rattle.c_lexer.specs.Next.{run_of, comment_piece, number_piece, mark_piece, next_piece}
 use Rattle.c_lexer.specs.Numbers.{digits_after, numeral, number_of}
@@ -65,55 +66,55 @@ abbrev AreWordTokens : List Placed → Type 0
 AreWordTokens ts = AllByRecursion IsWordToken ts
 
 -- a cut that begins with a piece has only words as numbers
-record KeepsWords {P : Type 0} (begun : P → ℕ → (ℕ → Cut) → Cut) (x : P) : Type 0 where
-  holds : (line : ℕ) (go : ℕ → Cut) → ((n : ℕ) → AreWordTokens (go n).tokens)
-      → AreWordTokens (begun x line go).tokens
+record KeepsWords {P : Type 0} (begun : P → Spot → (ℕ → Cut) → Cut) (x : P) : Type 0 where
+  holds : (spot : Spot) (go : ℕ → Cut) → ((n : ℕ) → AreWordTokens (go n).tokens)
+      → AreWordTokens (begun x spot go).tokens
 
-either_piece : {P : Type 0} {begun : P → ℕ → (ℕ → Cut) → Cut} (b : Bool) {x y : P}
+either_piece : {P : Type 0} {begun : P → Spot → (ℕ → Cut) → Cut} (b : Bool) {x y : P}
     → KeepsWords begun x → KeepsWords begun y → KeepsWords begun (if b then x else y)
 either_piece true a c = a
 either_piece false a c = c
 
-comment_words : (at : ℕ) (o : Option ℕ) → KeepsWords begin_piece (comment_piece at o)
-comment_words at None = record { holds = λ line go h. tt }
-comment_words at (Some width) = record { holds = λ line go h. h (width - 1) }
+comment_words : (at : Spot) (o : Option ℕ) → KeepsWords begin_piece (comment_piece at o)
+comment_words at None = record { holds = λ spot go h. tt }
+comment_words at (Some width) = record { holds = λ spot go h. h (width - 1) }
 
-number_piece_words : (at width : ℕ) (o : Option ℤ) → IsWordOr o
+number_piece_words : (at : Spot) (width : ℕ) (o : Option ℤ) → IsWordOr o
     → KeepsWords begin_piece (number_piece at width o)
-number_piece_words at width None w = record { holds = λ line go h. tt }
-number_piece_words at width (Some v) w = record { holds = λ line go h. (w, h (width - 1)) }
+number_piece_words at width None w = record { holds = λ spot go h. tt }
+number_piece_words at width (Some v) w = record { holds = λ spot go h. (w, h (width - 1)) }
 
-mark_words : (at : ℕ) (o : Option (ℕ × _)) → KeepsWords begin_piece (mark_piece at o)
-mark_words at None = record { holds = λ line go h. tt }
+mark_words : (at : Spot) (o : Option (ℕ × _)) → KeepsWords begin_piece (mark_piece at o)
+mark_words at None = record { holds = λ spot go h. tt }
 mark_words at (Some (width, mark)) =
-    record { holds = λ line go h. (small_word 0 (omega arith), h (width - 1)) }
+    record { holds = λ spot go h. (small_word 0 (omega arith), h (width - 1)) }
 
-spelled_words : (run : List ℕ) (o : Option _) (reserved : Bool) (line : ℕ)
-    → IsWordToken (record { token = spelled_by run o reserved; line = line })
-spelled_words run (Some word) reserved line = small_word 0 (omega arith)
-spelled_words run None true line = small_word 0 (omega arith)
-spelled_words run None false line = small_word 0 (omega arith)
+spelled_words : (run : List ℕ) (o : Option _) (reserved : Bool) (spot : Spot)
+    → IsWordToken (placed_at spot (spelled_by run o reserved))
+spelled_words run (Some word) reserved spot = small_word 0 (omega arith)
+spelled_words run None true spot = small_word 0 (omega arith)
+spelled_words run None false spot = small_word 0 (omega arith)
 
 next_words : (spot : _) (left : List ℕ) → KeepsWords begin_piece (next_piece spot left)
 unfolding next_piece
 next_words spot left =
-    either_piece (is_blank (slice_index left 0)) (record { holds = λ line go h. h 0 })
+    either_piece (is_blank (slice_index left 0)) (record { holds = λ spot go h. h 0 })
     (either_piece (starts_with nat_eq left (codes "//") || (spot.fresh && begins_include left))
-    (record { holds = λ line go h. h (line_len left - 1) })
+    (record { holds = λ spot go h. h (line_len left - 1) })
     (either_piece (starts_with nat_eq left (codes "/*"))
-    (comment_words spot.line (comment_len left))
+    (comment_words spot (comment_len left))
     (either_piece (is_ascii_digit (slice_index left 0))
-    (number_piece_words spot.line (run_len left) (number_of (run_of left))
+    (number_piece_words spot (run_len left) (number_of (run_of left))
     (number_words (run_of left)))
     (either_piece (begins_name (slice_index left 0))
     (record {
-      holds = λ line go h. (
+      holds = λ spot go h. (
         spelled_words (run_of left) (word_spelled (run_of left)) (is_never_accepted (run_of left))
-            line,
+            spot,
         h (run_len left - 1),
       );
     })
-    (mark_words spot.line (mark_at left))))))
+    (mark_words spot (mark_at left))))))
 
 cut_words : (inside : ℕ) (spot : _) (left : List ℕ)
     → AreWordTokens (cut_left inside spot left).tokens
@@ -122,7 +123,7 @@ cut_words zero spot [] = tt
 cut_words (suc inside) spot [] = tt
 cut_words (suc inside) spot (b ∷ bs) = cut_words inside (past_byte spot b) bs
 cut_words zero spot (b ∷ bs) =
-    (next_words spot (b ∷ bs)).holds spot.line (λ inside. cut_left inside (past_byte spot b) bs)
+    (next_words spot (b ∷ bs)).holds spot (λ inside. cut_left inside (past_byte spot b) bs)
     (λ n. cut_words n (past_byte spot b) bs)
 
 value_word : (ts : List Placed) (i : ℕ) → AreWordTokens ts → IsWord (value_at ts i)
@@ -144,10 +145,10 @@ answer_words text list e i = value_word list.tokens i (by_bytes (nat_lt 262144 (
     same : (x : Tokens) → Answers (Ok x) list → x ≡ list
     same x e = cc
 
-    by_end : (ts : List Placed) (r : Result ℕ LexFault) → AreWordTokens ts
+    by_end : (ts : List Placed) (r : Result TextEnd LexFault) → AreWordTokens ts
         → Answers (lex_answer ts r) list → AreWordTokens list.tokens
-    by_end ts (Ok last) h e = subst (λ (x : Tokens). AreWordTokens x.tokens)
-        (same (record { tokens = ts; last = last }) e) h
+    by_end ts (Ok end) h e = subst (λ (x : Tokens). AreWordTokens x.tokens)
+        (same (record { tokens = ts; last = end.line; size = end.size }) e) h
     by_end ts (Err fault) h e = absurd (err_ok fault e)
 
     by_count : (b : Bool) (c : Cut) → AreWordTokens c.tokens

@@ -189,7 +189,7 @@ tree_refused text tree NoMemory has a = tt
 
 kept_told : (tree : Program) → breaks tree ≡ [] → refusal tree ≡ None
 kept_told tree kept = ap (λ (bs : List Broken).
-    option_map (λ b. fault_of b.rule (source_line tree b.place)) (least_broken bs)) kept
+    option_map (λ b. fault_of b (source_line tree b.place)) (least_broken bs)) kept
 
 kept_refused : (text : List ℕ) (tree : Program) (f : ProgramFault) → AcceptsText text tree
     → RefusesText text f → f ≡ NoMemory

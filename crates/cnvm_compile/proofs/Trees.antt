@@ -17,7 +17,7 @@ use Rattle.cnvm_compile.proofs.Once.{lists_same}
 
 abbrev refusal_from : List ℕ → ℕ → List ItemTree → Option TypeFault
 refusal_from lines last trees =
-    option_map (λ b. fault_of b.rule (option_map_or (λ line. line) (slice_get lines b.place) last))
+    option_map (λ b. fault_of b (option_map_or (λ line. line) (slice_get lines b.place) last))
     (least_broken (broken (length lines) trees))
 
 refusal_same : (p q : Program) → p.lines ≡ q.lines → p.last ≡ q.last → tree_of p ≡ tree_of q

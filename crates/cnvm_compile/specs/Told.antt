@@ -13,9 +13,9 @@ use Rattle.cnvm_compile.specs.declared.told.Told.{Told}
 use Rattle.cnvm_compile.specs.declared.told.Told.TheVariants as told
 
 abbrev pub by_lexer : LexFault → Told
-by_lexer (lex.BadByte line) = told.At line complaint.BadByte
-by_lexer (lex.BadNumber line) = told.At line complaint.BadNumber
-by_lexer (lex.OpenComment line) = told.At line complaint.OpenComment
+by_lexer (lex.BadByte line start) = told.At line complaint.BadByte
+by_lexer (lex.BadNumber line start) = told.At line complaint.BadNumber
+by_lexer (lex.OpenComment line start) = told.At line complaint.OpenComment
 by_lexer lex.TooLong = told.Long
 by_lexer lex.NoMemory = told.NoMemory
 
@@ -25,14 +25,14 @@ by_parser (parse.TooDeep place) line = told.At line complaint.TooDeep
 by_parser parse.NoMemory line = told.NoMemory
 
 abbrev pub by_types : TypeFault → Told
-by_types (types.UnknownName line) = told.At line complaint.UnknownName
-by_types (types.Twice line) = told.At line complaint.Twice
-by_types (types.Mismatch line) = told.At line complaint.Mismatch
-by_types (types.NotAssignable line) = told.At line complaint.NotAssignable
-by_types (types.Arity line) = told.At line complaint.Arity
-by_types (types.TooBig line limit value) = told.At line (complaint.TooBig limit value)
-by_types (types.NoRoot line) = told.At line complaint.NoRoot
-by_types (types.BadTx line) = told.At line complaint.BadTx
+by_types (types.UnknownName line place) = told.At line complaint.UnknownName
+by_types (types.Twice line place) = told.At line complaint.Twice
+by_types (types.Mismatch line place) = told.At line complaint.Mismatch
+by_types (types.NotAssignable line place) = told.At line complaint.NotAssignable
+by_types (types.Arity line place) = told.At line complaint.Arity
+by_types (types.TooBig line place limit value) = told.At line (complaint.TooBig limit value)
+by_types (types.NoRoot line place) = told.At line complaint.NoRoot
+by_types (types.BadTx line place) = told.At line complaint.BadTx
 by_types types.NoMemory = told.NoMemory
 
 abbrev pub told_of : ProgramFault → Told

@@ -35,9 +35,9 @@ fn by_lexer(fault: LexFault) -> Told
     ensures { result ≡ by_lexer fault }
 {
     match fault {
-        LexFault::BadByte(line) => Told::At(line, Complaint::BadByte),
-        LexFault::BadNumber(line) => Told::At(line, Complaint::BadNumber),
-        LexFault::OpenComment(line) => Told::At(line, Complaint::OpenComment),
+        LexFault::BadByte { line, .. } => Told::At(line, Complaint::BadByte),
+        LexFault::BadNumber { line, .. } => Told::At(line, Complaint::BadNumber),
+        LexFault::OpenComment { line, .. } => Told::At(line, Complaint::OpenComment),
         LexFault::TooLong => Told::Long,
         LexFault::NoMemory => Told::NoMemory,
     }
@@ -57,14 +57,19 @@ fn by_types(fault: TypeFault) -> Told
     ensures { result ≡ by_types fault }
 {
     match fault {
-        TypeFault::UnknownName(line) => Told::At(line, Complaint::UnknownName),
-        TypeFault::Twice(line) => Told::At(line, Complaint::Twice),
-        TypeFault::Mismatch(line) => Told::At(line, Complaint::Mismatch),
-        TypeFault::NotAssignable(line) => Told::At(line, Complaint::NotAssignable),
-        TypeFault::Arity(line) => Told::At(line, Complaint::Arity),
-        TypeFault::TooBig(line, limit, value) => Told::At(line, Complaint::TooBig(limit, value)),
-        TypeFault::NoRoot(line) => Told::At(line, Complaint::NoRoot),
-        TypeFault::BadTx(line) => Told::At(line, Complaint::BadTx),
+        TypeFault::UnknownName { line, .. } => Told::At(line, Complaint::UnknownName),
+        TypeFault::Twice { line, .. } => Told::At(line, Complaint::Twice),
+        TypeFault::Mismatch { line, .. } => Told::At(line, Complaint::Mismatch),
+        TypeFault::NotAssignable { line, .. } => Told::At(line, Complaint::NotAssignable),
+        TypeFault::Arity { line, .. } => Told::At(line, Complaint::Arity),
+        TypeFault::TooBig {
+            line,
+            limit,
+            value,
+            ..
+        } => Told::At(line, Complaint::TooBig(limit, value)),
+        TypeFault::NoRoot { line, .. } => Told::At(line, Complaint::NoRoot),
+        TypeFault::BadTx { line, .. } => Told::At(line, Complaint::BadTx),
         TypeFault::NoMemory => Told::NoMemory,
     }
 }

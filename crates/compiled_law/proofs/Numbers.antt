@@ -8,7 +8,7 @@ use Rattle.pool_layout.specs.declared.limits.Sizes.{Sizes}
 use Rattle.c_lexer.specs.declared.fault.LexFault.{LexFault}
 use Rattle.c_lexer.specs.declared.fault.LexFault.TheVariants.{TooLong}
 use Rattle.c_lexer.specs.declared.token.Placed.{Placed}
-use Rattle.c_lexer.specs.Cuts.{Cut, cut, lex_answer, limited, answer}
+use Rattle.c_lexer.specs.Cuts.{TextEnd, Cut, cut, lex_answer, limited, answer}
 use Rattle.c_lexer.specs.TokenList.{Tokens}
 use Rattle.ir.specs.declared.instruction.Instruction.{Instruction}
 use Rattle.ir.specs.declared.function.IrFunction.{IrFunction}
@@ -20,10 +20,11 @@ use Rattle.codegen.specs.Emit.{most_steps, known}
 use Rattle.code_meaning.specs.Whole.{whole}
 
 -- a text has at most 16,384 tokens
-ended_tokens : (tokens : List Placed) (r : Result ℕ LexFault) (list : Tokens)
+ended_tokens : (tokens : List Placed) (r : Result TextEnd LexFault) (list : Tokens)
     → lex_answer tokens r ≡ Ok list → list.tokens ≡ tokens
-ended_tokens tokens (Ok last) list e = let same : record { tokens = tokens; last = last } ≡ list =
-    cc in ap (λ (l : Tokens). l.tokens) (sym same)
+ended_tokens tokens (Ok end) list e =
+    let same : record { tokens = tokens; last = end.line; size = end.size } ≡ list = cc in
+    ap (λ (l : Tokens). l.tokens) (sym same)
 ended_tokens tokens (Err fault) list e = absurd (cc)
 
 limited_few : (c : Cut) (list : Tokens) → limited c ≡ Ok list → length list.tokens ≤ 16384

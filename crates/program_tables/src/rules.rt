@@ -1,8 +1,8 @@
 //! Texts, and the refusal that the rules give each, or `ok`.
 
-use c_lexer::tokens;
+use c_lexer::{LexFault, tokens};
 use c_parser::parse;
-use c_types::check;
+use c_types::{TypeFault, check};
 use std::alloc::{AllocError, Global};
 use std::test::Fail;
 
@@ -13,7 +13,7 @@ const TOP: &str =
 /// The first refusal of a text by the lexer, the parser or the rules, or `ok`.
 fn answer(alloc: Global, text: &str) -> Result<String, AllocError> {
     let list = match tokens(alloc, text.as_bytes()) {
-        Err(fault) => return format!(in alloc; "{fault:?}"),
+        Err(fault) => return text_fault(alloc, fault),
         Ok(list) => list,
     };
     let ast = match parse(alloc, &list) {
@@ -21,8 +21,77 @@ fn answer(alloc: Global, text: &str) -> Result<String, AllocError> {
         Ok(ast) => ast,
     };
     match check(alloc, ast) {
-        Err(fault) => format!(in alloc; "{fault:?}"),
+        Err(fault) => rule_fault(alloc, fault),
         Ok(_) => String::from_str(alloc, "ok"),
+    }
+}
+
+/// A refusal of the lexer, with its line.
+fn text_fault(alloc: Global, fault: LexFault) -> Result<String, AllocError> {
+    match fault {
+        LexFault::BadByte { line, .. } => format!(in alloc; "BadByte({line})"),
+        LexFault::BadNumber { line, .. } => format!(in alloc; "BadNumber({line})"),
+        LexFault::OpenComment { line, .. } => format!(in alloc; "OpenComment({line})"),
+        LexFault::TooLong | LexFault::NoMemory => format!(in alloc; "{fault:?}"),
+    }
+}
+
+/// A refusal of the rules, with its line.
+fn rule_fault(alloc: Global, fault: TypeFault) -> Result<String, AllocError> {
+    match fault {
+        TypeFault::UnknownName { line, .. } => format!(in alloc; "UnknownName({line})"),
+        TypeFault::Twice { line, .. } => format!(in alloc; "Twice({line})"),
+        TypeFault::Mismatch { line, .. } => format!(in alloc; "Mismatch({line})"),
+        TypeFault::NotAssignable { line, .. } => format!(in alloc; "NotAssignable({line})"),
+        TypeFault::Arity { line, .. } => format!(in alloc; "Arity({line})"),
+        TypeFault::TooBig {
+            line,
+            limit,
+            value,
+            ..
+        } => format!(in alloc; "TooBig({line}, {limit:?}, {value})"),
+        TypeFault::NoRoot { line, .. } => format!(in alloc; "NoRoot({line})"),
+        TypeFault::BadTx { line, .. } => format!(in alloc; "BadTx({line})"),
+        TypeFault::NoMemory => String::from_str(alloc, "NoMemory"),
+    }
+}
+
+/// The place of the token at which the rules refuse a tree.
+fn place_of(fault: TypeFault) -> Option<u64> {
+    match fault {
+        TypeFault::UnknownName { place, .. }
+        | TypeFault::Twice { place, .. }
+        | TypeFault::Mismatch { place, .. }
+        | TypeFault::NotAssignable { place, .. }
+        | TypeFault::Arity { place, .. }
+        | TypeFault::TooBig { place, .. }
+        | TypeFault::NoRoot { place, .. }
+        | TypeFault::BadTx { place, .. } => Some(place),
+        TypeFault::NoMemory => None,
+    }
+}
+
+/// The refusal of a text by the rules, the place of its token, and the number of bytes before it.
+fn refused_place(alloc: Global, text: &str) -> Result<String, AllocError> {
+    let Ok(list) = tokens(alloc, text.as_bytes()) else {
+        return String::from_str(alloc, "no tokens");
+    };
+    let Ok(ast) = parse(alloc, &list) else {
+        return String::from_str(alloc, "no tree");
+    };
+    let Err(fault) = check(alloc, ast) else {
+        return String::from_str(alloc, "ok");
+    };
+    let rule = rule_fault(alloc, fault)?;
+    match place_of(fault) {
+        Some(place) if place <= list.len() => {
+            format!(in alloc;
+                "{} token {place} byte {}",
+                rule.as_str(),
+                list.start(place)
+            )
+        }
+        _ => Ok(rule),
     }
 }
 
@@ -157,6 +226,50 @@ fn told_of_a_program(rt: HostRuntime) -> Result<(), Fail> {
         assert_eq!(rt; typed.parameters(1), 2);
         assert_eq!(rt; typed.tx_name(2), "top");
         assert_eq!(rt; typed.parameters(2), 0);
+    }
+    Ok(())
+}
+
+/// Programs, the rule that each breaks, the place of its token, and the bytes before that.
+const PLACES: [(&str, &str); 10] = [
+    ("", "NoRoot(1) token 0 byte 0"),
+    ("\n // x\n", "NoRoot(3) token 0 byte 7"),
+    ("struct R { int64_t n; };\n", "NoRoot(2) token 8 byte 25"),
+    (
+        "struct R { int64_t n; };\npersistent struct R root;\nint64_t f() { return x; }",
+        "UnknownName(3) token 19 byte 72",
+    ),
+    (
+        "struct R { int64_t n; };\npersistent struct R root;\nint64_t f() {\n  /* a */ return root.z; }",
+        "UnknownName(4) token 21 byte 87",
+    ),
+    (
+        "struct R { int64_t n; int64_t n; }; persistent struct R root;",
+        "Twice(1) token 7 byte 30",
+    ),
+    (
+        "struct R { int64_t a[\t513]; }; persistent struct R root;",
+        "TooBig(1, Array, 513) token 6 byte 22",
+    ),
+    (
+        "struct R { int64_t n; };\npersistent struct R root;\nint64_t f() { return 1 + NULL; }",
+        "Mismatch(3) token 20 byte 74",
+    ),
+    (
+        "struct R { int64_t n; };\npersistent struct R root;\nint64_t f() { return\n f(1); }",
+        "Arity(4) token 19 byte 73",
+    ),
+    (
+        "struct R { int64_t n; };\npersistent struct R root;\ntx void f() { }",
+        "BadTx(3) token 15 byte 59",
+    ),
+];
+
+#[test]
+fn refused_at_the_place(rt: HostRuntime) -> Result<(), Fail> {
+    for (text, want) in PLACES {
+        let found = refused_place(rt.alloc(), text)?;
+        assert_eq!(rt; found.as_str(), want, "{text}");
     }
     Ok(())
 }

@@ -1,6 +1,6 @@
 //! The rules by example. What is wanted was written down from the rules.
 
-use c_lexer::{Token, TokenList, tokens};
+use c_lexer::{LexFault, Token, TokenList, tokens};
 use std::alloc::{AllocError, Global};
 use std::test::Fail;
 
@@ -39,11 +39,40 @@ fn list_words(alloc: Global, list: &TokenList) -> Result<String, AllocError> {
     Ok(words)
 }
 
+/// A refusal, with its line.
+fn fault_word(alloc: Global, fault: LexFault) -> Result<String, AllocError> {
+    match fault {
+        LexFault::BadByte { line, .. } => format!(in alloc; "BadByte({line})"),
+        LexFault::BadNumber { line, .. } => format!(in alloc; "BadNumber({line})"),
+        LexFault::OpenComment { line, .. } => format!(in alloc; "OpenComment({line})"),
+        LexFault::TooLong | LexFault::NoMemory => format!(in alloc; "{fault:?}"),
+    }
+}
+
 fn words_of(alloc: Global, text: &[u8]) -> Result<String, AllocError> {
     match tokens(alloc, text) {
         Ok(list) => list_words(alloc, &list),
-        Err(fault) => format!(in alloc; "{fault:?}"),
+        Err(fault) => fault_word(alloc, fault),
     }
+}
+
+/// The bytes before each token and before the end, or before the refusal.
+fn starts_of(alloc: Global, text: &[u8]) -> Result<String, AllocError> {
+    let list = match tokens(alloc, text) {
+        Err(LexFault::BadByte { start, .. }) => return format!(in alloc; "byte {start}"),
+        Err(LexFault::BadNumber { start, .. }) => return format!(in alloc; "number {start}"),
+        Err(LexFault::OpenComment { start, .. }) => return format!(in alloc; "comment {start}"),
+        Err(fault) => return format!(in alloc; "{fault:?}"),
+        Ok(list) => list,
+    };
+    let mut starts = String::new(alloc);
+    for place in 0..list.len() {
+        let start = format!(in alloc; "{} ", list.start(place))?;
+        starts.push_str(start.as_str())?;
+    }
+    let size = format!(in alloc; "end {}", list.start(list.len()))?;
+    starts.push_str(size.as_str())?;
+    Ok(starts)
 }
 
 /// A piece of text many times, with another one last.
@@ -160,6 +189,44 @@ fn texts_have_their_tokens(rt: HostRuntime) -> Result<(), Fail> {
         let words = words_of(rt.alloc(), text.as_bytes())?;
         assert_eq!(rt; words.as_str(), want, "at {text:?}");
     }
+    Ok(())
+}
+
+/// Texts, and the number of bytes before each of their tokens and the end, or before the refusal.
+const STARTS: [(&str, &str); 20] = [
+    ("", "end 0"),
+    ("a", "0 end 1"),
+    (" a ", "1 end 3"),
+    ("a+++b", "0 1 3 4 end 5"),
+    ("\n\n a\n", "3 end 5"),
+    ("a\r\nb\r\n", "0 3 end 6"),
+    ("\ta\t\tb", "1 4 end 5"),
+    ("a /* b */ c", "0 10 end 11"),
+    ("a // b\nc", "0 7 end 8"),
+    ("/* \n */x", "7 end 8"),
+    ("#include <a.h>\nb", "15 end 16"),
+    ("// \u{e9}\na", "6 end 7"),
+    ("0x1f 10", "0 5 end 7"),
+    ("root.n=1;", "0 4 5 6 7 8 end 9"),
+    ("a @", "byte 2"),
+    ("\n a 09", "number 4"),
+    ("a\n/* b\nc", "comment 2"),
+    ("/*/", "comment 0"),
+    ("a \u{e9}", "byte 2"),
+    ("  #", "byte 2"),
+];
+
+#[test]
+fn starts_are_exact(rt: HostRuntime) -> Result<(), Fail> {
+    for (text, want) in STARTS {
+        let starts = starts_of(rt.alloc(), text.as_bytes())?;
+        assert_eq!(rt; starts.as_str(), want, "at {text:?}");
+    }
+    let long = repeated(rt.alloc(), b"\na ", 16_384, b"\t")?;
+    let list = tokens(rt.alloc(), long.as_slice())?;
+    assert_eq!(rt; list.start(16_383), 49_150);
+    assert_eq!(rt; list.line(16_383), 16_385);
+    assert_eq!(rt; list.start(list.len()), 49_153);
     Ok(())
 }
 

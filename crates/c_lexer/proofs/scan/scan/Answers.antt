@@ -45,5 +45,13 @@ loop-left-preserved c =
         c.split_at.ensures.front_len,
         c.split_at.ensures.back_len,
       );
+      bytes = omega (
+        arith,
+        width,
+        at.invariant.bytes,
+        c.pass.ensures.at,
+        c.split_at.ensures.front_len,
+        c.split_at.ensures.back_len,
+      );
       small = at.invariant.small;
     }

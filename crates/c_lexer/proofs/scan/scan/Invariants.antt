@@ -9,6 +9,7 @@ invariant-loop-left l = record {
   leads : after_tokens l.all.items (cut_left 0 l.spot l.left) ≡ cut l.text;
   room : length l.all.items ≤ 16384;
   lines : l.spot.line + length l.left ≤ 1 + length l.text;
+  bytes : l.spot.at + length l.left ≡ length l.text;
   small : length l.text ≤ 262144;
 }
 

@@ -8,4 +8,5 @@ abbrev pub invariant-loop-byte : goal.invariant-loop-byte
 invariant-loop-byte l = record {
   leads : spot_past l.self (drop l.byte-index l.piece) ≡ spot_past l.initial.self l.piece;
   line : l.self.line ≤ l.initial.self.line + l.byte-index;
+  at : l.self.at ≡ l.initial.self.at + l.byte-index;
 }
