@@ -781,6 +781,7 @@ module _ (ts : List Placed) where
   made tx i m j r rt nm (o, n, ps, s, b, p, all, h, z, e) = (
     itree.Function (record {
       tx = tx;
+      rolls_back = false;
       result_type = r;
       name = ident_at ts m;
       parameters = ps;
@@ -789,6 +790,7 @@ module _ (ts : List Placed) where
     subst (λ j. SpellsFunction ts tx i j
         (itree.Function (record {
           tx = tx;
+          rolls_back = false;
           result_type = r;
           name = ident_at ts m;
           parameters = ps;

@@ -357,16 +357,28 @@ result_typed ts i j t not fixes = record { same = λ k x d. taken d }
     taken {k} (result_some {t = s} d) = let f = fixes.same k s d in (f.0, ap (λ t. Some t) f.1)
 
 abbrev a_function : Bool → Option TypeTree → Ident → List ParameterTree → Statements → ItemTree
-a_function tx r y ps all = tree.Function
-    (record { tx = tx; result_type = r; name = y; parameters = ps; body = all })
+a_function tx r y ps all = tree.Function (record {
+  tx = tx;
+  rolls_back = false;
+  result_type = r;
+  name = y;
+  parameters = ps;
+  body = all;
+})
 
 pub function_read : (ts : List Placed) (tx : Bool) (i m o a n b j : ℕ) (r : Option TypeTree)
     (y : Ident) (ps : List ParameterTree) (all : Statements)
     → Fixes (ResultType ts i) m r → y ≡ ident_at ts m → (m < length ts → o ≡ m + 1)
     → (o < length ts → a ≡ o + 1) → Fixes (Signature ts a) n ps
     → (n < length ts → b ≡ n + 1) → Fixes (StatedAll ts b) j all
-    → Fixes (SpellsFunction ts tx i) j
-    (tree.Function (record { tx = tx; result_type = r; name = y; parameters = ps; body = all }))
+    → Fixes (SpellsFunction ts tx i) j (tree.Function (record {
+      tx = tx;
+      rolls_back = false;
+      result_type = r;
+      name = y;
+      parameters = ps;
+      body = all;
+    }))
 function_read ts tx i m o a n b j r y ps all results name to_o to_a signature to_b body =
     record { same = λ k t d. taken d }
   where

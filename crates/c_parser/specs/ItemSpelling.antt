@@ -53,7 +53,7 @@ pub data ResultType (ts : List Placed) : ℕ → ℕ → Option TypeTree → Typ
   result_void : {i : ℕ} → kind_at ts i ≡ kind.Void → ResultType ts i (i + 1) None
   result_some : {i j : ℕ} {t : TypeTree} → Typed ts i j t → ResultType ts i j (Some t)
 
--- a function, from its result on
+-- a function, from its result on; no word marks it as one that rolls back
 pub data SpellsFunction (ts : List Placed) : Bool → ℕ → ℕ → ItemTree → Type 0 where
   function : {tx : Bool} {i m n p : ℕ} {r : Option TypeTree} {ps : List ParameterTree}
       {all : Statements}
@@ -64,6 +64,7 @@ pub data SpellsFunction (ts : List Placed) : Bool → ℕ → ℕ → ItemTree �
       → SpellsFunction ts tx i (p + 1)
       (tree.Function (record {
         tx = tx;
+        rolls_back = false;
         result_type = r;
         name = ident_at ts m;
         parameters = ps;

@@ -23,9 +23,11 @@ pub record ParameterTree : Type 0 where
   pub ty : TypeTree
   pub name : Ident
 
--- the result is absent if it is `void`
+-- `tx` marks a transaction, and `rolls_back` one that rolls back where it traps; the result is
+-- absent if it is `void`
 pub record FunctionTree : Type 0 where
   pub tx : Bool
+  pub rolls_back : Bool
   pub result_type : Option TypeTree
   pub name : Ident
   pub parameters : List ParameterTree
@@ -52,6 +54,7 @@ parameter_of p = record { ty = type_tree p.ty; name = ident_of p.name }
 abbrev pub function_tree : written.Function → FunctionTree
 function_tree f = record {
   tx = f.tx;
+  rolls_back = f.rolls_back;
   result_type = option_map type_tree f.result_type;
   name = ident_of f.name;
   parameters = map parameter_of f.parameters.items;

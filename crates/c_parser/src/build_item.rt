@@ -167,6 +167,7 @@ fn function(alloc: Global, tokens: &TokenList, at: u64, tx: bool) -> Result<(Ite
     let (body, end) = block(alloc, tokens, place_after(tokens, brace))?;
     let function = Function {
         tx,
+        rolls_back: false,
         result_type,
         name,
         parameters,

@@ -42,7 +42,10 @@ pub struct Parameter {
 /// A function. Its result is absent if it is `void`.
 #[derive(Drop)]
 pub struct Function {
+    /// Whether it is a transaction.
     pub tx: bool,
+    /// Whether it is one that rolls back where it traps; the grammar has no word for it yet.
+    pub rolls_back: bool,
     pub result_type: Option<TypeName>,
     pub name: Name,
     pub parameters: Vec<Parameter>,

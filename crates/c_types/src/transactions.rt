@@ -10,11 +10,12 @@ use c_parser::item::Function;
 use nvm_base::Text;
 use std::alloc::{AllocError, Global};
 
-/// A transaction's name and the number of its parameters.
+/// A transaction's name, the number of its parameters, and whether it rolls back where it traps.
 #[derive(Drop)]
 pub struct Transaction {
     pub name: Text,
     pub parameters: u64,
+    pub rolls_back: bool,
 }
 
 pub fn transactions(alloc: Global, functions: &[&Function]) -> Result<Vec<Transaction>, AllocError>
@@ -35,5 +36,9 @@ fn entry(alloc: Global, function: &Function) -> Result<Transaction, AllocError>
 {
     let name = copied(alloc, function.name.text.as_str())?;
     let parameters = function.parameters.len() as u64;
-    Ok(Transaction { name, parameters })
+    Ok(Transaction {
+        name,
+        parameters,
+        rolls_back: function.rolls_back,
+    })
 }

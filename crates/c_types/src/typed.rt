@@ -104,6 +104,16 @@ impl Typed {
         self.transactions[(tx - 1) as usize].parameters
     }
 
+    /// Whether a transaction rolls back where it traps.
+    pub fn rolls_back(&self, tx: u64) -> bool
+        requires from { 1 ≤ tx }
+        requires to { tx ≤ length (transactions_of self.now) }
+        ensures { Some result ≡ option_map (λ f. f.rolls_back)
+            (slice_get (transactions_of self.now) (tx - 1)) }
+    {
+        self.transactions[(tx - 1) as usize].rolls_back
+    }
+
     /// The number of numbered structs.
     pub fn structs(&self) -> u64
         ensures { result ≡ length (shapes_of self.now).structs }

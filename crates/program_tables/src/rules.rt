@@ -224,6 +224,7 @@ fn told_of_a_program(rt: HostRuntime) -> Result<(), Fail> {
     if typed.txs() == 2 {
         assert_eq!(rt; typed.tx_name(1), "inc");
         assert_eq!(rt; typed.parameters(1), 2);
+        assert!(rt; !typed.rolls_back(1), "no transaction rolls back yet");
         assert_eq!(rt; typed.tx_name(2), "top");
         assert_eq!(rt; typed.parameters(2), 0);
     }

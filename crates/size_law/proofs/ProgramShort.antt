@@ -65,6 +65,7 @@ module _ (t : Tables) (program : Program) where
       signature brace body closes) =
       let f : FunctionTree = record {
         tx = tx;
+        rolls_back = false;
         result_type = r;
         name = ident_at ts m;
         parameters = ps;

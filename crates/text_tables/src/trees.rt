@@ -424,7 +424,7 @@ const REFUSED_LATER: [(&str, &str); 48] = [
     ("{", "syntax 7"),
 ];
 
-const ITEMS: [(&str, &str); 57] = [
+const ITEMS: [(&str, &str); 61] = [
     ("", ""),
     ("struct S { int64_t a; };", ""),
     ("struct S { int64_t a; struct S *n; int64_t t[4]; };", ""),
@@ -462,6 +462,10 @@ const ITEMS: [(&str, &str); 57] = [
     ("tx f() {}", "syntax 1"),
     ("tx tx int64_t f() {}", "syntax 1"),
     ("tx struct S {", "syntax 3"),
+    ("tx abort int64_t f() {}", "syntax 1"),
+    ("tx abort", "syntax 1"),
+    ("abort tx int64_t f() {}", "syntax 0"),
+    ("abort int64_t f() {}", "syntax 0"),
     ("int64_t", "syntax 1"),
     ("int64_t f", "syntax 2"),
     ("int64_t f;", "syntax 2"),
