@@ -1,9 +1,11 @@
 //! Where bytes go: a trait of sinks, whose writes may fail.
 
-ghost use Rattle.std.specs.Prelude.{◌≡◌, ℕ, List, Option, Some, None, ◌<◌, ◌≤◌, length, take};
+ghost use Rattle.std.specs.Prelude.{◌≡◌, ℕ, List, Option, Some, None, ◌<◌, ◌≤◌, length, take, OnErr};
 ghost use Rattle.std.specs.Io.KnownBytes.{Appends, Keeps};
 ghost use Rattle.nvm_base.specs.Answers.{IfWritten, OnWriteFailed};
 ghost use Rattle.nvm_base.specs.Rose.{Rose};
+
+use crate::output::WriteFault;
 
 /// The answer of a write.
 #[derive(Clone, Copy, Debug, PartialEq, Eq)]
@@ -31,4 +33,14 @@ pub trait Sink {
         ensures kept { OnWriteFailed result (Keeps (written self.old) (written self.new)) }
         ensures failed { OnWriteFailed result (Rose (faults self.old) (faults self.new)) }
         ensures count { faults self.old ≤ faults self.new };
+
+    /// Ends the sink after its last write. A sink that makes what it took stand only then, as a file
+    /// that takes the place of an older one, does so here.
+    fn finish(&mut self) -> Result<(), WriteFault>
+        ensures kept { Keeps (written self.old) (written self.new) }
+        ensures failed { OnErr result (Rose (faults self.old) (faults self.new)) }
+        ensures count { faults self.old ≤ faults self.new }
+    {
+        Ok(())
+    }
 }

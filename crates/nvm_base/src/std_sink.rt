@@ -1,7 +1,8 @@
 //! A file, or standard output, as a sink. It shows clauses no content.
 
-ghost use Rattle.std.specs.Prelude.{◌≡◌, ◌<◌, ◌≤◌, None, length, IfSome};
+ghost use Rattle.std.specs.Prelude.{◌≡◌, ◌<◌, ◌≤◌, None, length, IfOk};
 
+use crate::reason::Reason;
 use crate::sink::{Sink, WriteAnswer};
 use std::fs;
 use std::io::{self, ErrorKind, Write};
@@ -16,6 +17,7 @@ pub struct StdSink<'a, R: Files + Print> {
     path: Option<&'a str>,
     file: Option<R::File>,
     faults: u64,
+    reason: Option<Reason>,
 }
 
 impl<'a, R: Files + Print> StdSink<'a, R> {
@@ -28,6 +30,7 @@ impl<'a, R: Files + Print> StdSink<'a, R> {
             path: Some(path),
             file: None,
             faults: 0,
+            reason: None,
         }
     }
 
@@ -40,45 +43,54 @@ impl<'a, R: Files + Print> StdSink<'a, R> {
             path: None,
             file: None,
             faults: 0,
+            reason: None,
         }
     }
 
-    /// One write, of at least one byte. `None` is an error.
-    fn write_some(&mut self, piece: &[u8]) -> Option<usize>
-        ensures some { IfSome result (λ n. 0 < n) }
-        ensures within { IfSome result (λ n. n ≤ length piece.now) }
+    /// Why the last fault came, if the system said.
+    pub fn reason(&self) -> Option<Reason> {
+        self.reason
+    }
+
+    /// One write, of at least one byte.
+    fn write_some(&mut self, piece: &[u8]) -> Result<usize, Reason>
+        ensures some { IfOk result (λ n. 0 < n) }
+        ensures within { IfOk result (λ n. n ≤ length piece.now) }
         ensures same { self.new.faults ≡ self.old.faults }
     {
         let Some(path) = self.path else {
             return write_once(&mut io::writer(self.rt), piece);
         };
         if self.file.is_none() {
-            self.file = fs::create(self.rt, path).ok();
+            match fs::create(self.rt, path) {
+                Ok(file) => self.file = Some(file),
+                Err(error) => return Err(Reason::of(&error)),
+            }
         }
         match &mut self.file {
             Some(file) => write_once(file, piece),
-            None => None,
+            None => Err(Reason::Other(None)),
         }
     }
 }
 
-/// One write, tried again if it was interrupted. `None` is an error, or a writer that took no byte.
-fn write_once<W: Write>(to: &mut W, piece: &[u8]) -> Option<usize>
-    ensures some { IfSome result (λ n. 0 < n) }
-    ensures within { IfSome result (λ n. n ≤ length piece.now) }
+/// One write, tried again if it was interrupted. A writer that takes no byte fails.
+pub(crate) fn write_once<W: Write>(to: &mut W, piece: &[u8]) -> Result<usize, Reason>
+    ensures some { IfOk result (λ n. 0 < n) }
+    ensures within { IfOk result (λ n. n ≤ length piece.now) }
 {
     for _ in 0..u64::MAX {
         match to.write(piece) {
-            Ok(0) => return None,
-            Ok(count) => return Some(count),
+            Ok(0) => return Err(Reason::Other(None)),
+            Ok(count) => return Ok(count),
             Err(error) => {
                 if error.kind() != ErrorKind::Interrupted {
-                    return None;
+                    return Err(Reason::of(&error));
                 }
             }
         }
     }
-    None
+    Err(Reason::Other(None))
 }
 
 impl<R: Files + Print> Sink for StdSink<'_, R> {
@@ -88,9 +100,10 @@ impl<R: Files + Print> Sink for StdSink<'_, R> {
 
     fn write(&mut self, piece: &[u8]) -> WriteAnswer {
         match self.write_some(piece) {
-            Some(count) => WriteAnswer::Count(count),
-            None => {
+            Ok(count) => WriteAnswer::Count(count),
+            Err(reason) => {
                 self.faults = self.faults.saturating_add(1);
+                self.reason = Some(reason);
                 WriteAnswer::Failed
             }
         }

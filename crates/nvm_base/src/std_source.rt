@@ -1,7 +1,8 @@
 //! A file as a source. It shows clauses no content.
 
-ghost use Rattle.std.specs.Prelude.{◌≡◌, ◌≤◌, None, length, IfSome};
+ghost use Rattle.std.specs.Prelude.{◌≡◌, ◌≤◌, None, length, IfOk};
 
+use crate::reason::Reason;
 use crate::source::{ReadAnswer, Source};
 use std::fs;
 use std::io::{ErrorKind, Read};
@@ -15,6 +16,7 @@ pub struct StdSource<'a, R: Files> {
     path: &'a str,
     file: Option<R::File>,
     faults: u64,
+    reason: Option<Reason>,
 }
 
 impl<'a, R: Files> StdSource<'a, R> {
@@ -27,39 +29,48 @@ impl<'a, R: Files> StdSource<'a, R> {
             path,
             file: None,
             faults: 0,
+            reason: None,
         }
     }
 
-    /// One read of the file, which is opened first if need be. `None` is an error.
-    fn read_file(&mut self, piece: &mut [u8]) -> Option<usize>
-        ensures within { IfSome result (λ n. n ≤ length piece.new) }
+    /// Why the last fault came, if the system said.
+    pub fn reason(&self) -> Option<Reason> {
+        self.reason
+    }
+
+    /// One read of the file, which is opened first if need be.
+    fn read_file(&mut self, piece: &mut [u8]) -> Result<usize, Reason>
+        ensures within { IfOk result (λ n. n ≤ length piece.new) }
         ensures same { self.new.faults ≡ self.old.faults }
     {
         if self.file.is_none() {
-            self.file = fs::open(self.rt, self.path).ok();
+            match fs::open(self.rt, self.path) {
+                Ok(file) => self.file = Some(file),
+                Err(error) => return Err(Reason::of(&error)),
+            }
         }
         match &mut self.file {
             Some(file) => read_once(file, piece),
-            None => None,
+            None => Err(Reason::Other(None)),
         }
     }
 }
 
-/// One read, tried again if it was interrupted. `None` is an error.
-fn read_once<F: Read>(file: &mut F, piece: &mut [u8]) -> Option<usize>
-    ensures { IfSome result (λ n. n ≤ length piece.new) }
+/// One read, tried again if it was interrupted.
+fn read_once<F: Read>(file: &mut F, piece: &mut [u8]) -> Result<usize, Reason>
+    ensures { IfOk result (λ n. n ≤ length piece.new) }
 {
     for _ in 0..u64::MAX {
         match file.read(piece) {
-            Ok(count) => return Some(count),
+            Ok(count) => return Ok(count),
             Err(error) => {
                 if error.kind() != ErrorKind::Interrupted {
-                    return None;
+                    return Err(Reason::of(&error));
                 }
             }
         }
     }
-    None
+    Err(Reason::Other(None))
 }
 
 impl<R: Files> Source for StdSource<'_, R> {
@@ -69,9 +80,10 @@ impl<R: Files> Source for StdSource<'_, R> {
 
     fn read(&mut self, piece: &mut [u8]) -> ReadAnswer {
         match self.read_file(piece) {
-            Some(count) => ReadAnswer::Count(count),
-            None => {
+            Ok(count) => ReadAnswer::Count(count),
+            Err(reason) => {
                 self.faults = self.faults.saturating_add(1);
+                self.reason = Some(reason);
                 ReadAnswer::Failed
             }
         }
