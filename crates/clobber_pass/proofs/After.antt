@@ -60,7 +60,7 @@ module _ (row : List ℕ) (x : ℕ) (long : 2 ≤ length row) where
   freed_after (Free from k line) = ap (has_bit x) (at_same row 1 _ one_inside)
   freed_after _ = refl
 
-  module _ (f : ℕ) (few : x < 64) where
+  module _ (f : ℕ) (few : x < 16) where
     root_written : (y : ℕ) → tells (slice_set row 0 (without (word row 0) (mask f y))) x 0
         ≡ tells_any row x (if f + x == y then Nowhere else One (RootUnwritten (f + x)))
     root_written y =
@@ -124,7 +124,7 @@ module _ (row : List ℕ) (x : ℕ) (long : 2 ≤ length row) where
 -- After an instruction that is no call, a row records a fact exactly if it recorded one of the
 -- fact's origins before.
 pub after_told : (ir : Ir) (topic : Topic) (registers n x : ℕ) (row : List ℕ) (i : Instruction)
-    (b : Fact) → x < 64 → length row ≡ row_width topic registers → IsInstruction ir registers n i
+    (b : Fact) → x < 16 → length row ≡ row_width topic registers → IsInstruction ir registers n i
     → is_about (class_at topic x) b ≡ true → tells (after_row topic i row) x (slot b)
     ≡ tells_any row x (origins i b)
 after_told ir Frees registers n x row i Here few long ok h = here_after row x (omega arith) i

@@ -59,9 +59,9 @@ has_bit_without x a b =
     rw (bit_at_xor a (bit_and a b) x, bit_at_and a b x, p, q) refl) (bit_cases b x))
     (bit_cases a x)
 
-pub has_bit_ones : (x : ℕ) → x < 64 → has_bit x (2 ^ 64 - 1) ≡ true
+pub has_bit_ones : (x : ℕ) → x < 16 → has_bit x (2 ^ 16 - 1) ≡ true
 unfolding has_bit
-has_bit_ones x less = rw (bit_at_ones 64 x less) refl
+has_bit_ones x less = rw (bit_at_ones 16 x less) refl
 
 -- the bits of a power of 2
 has_bit_pow : (x k : ℕ) → has_bit x (2 ^ k) ≡ (x == k)
@@ -95,28 +95,28 @@ shifted x first y more = by_cases (x == y - first) refl
         false≢true (sym is ∙ eq-eqb x (y - first) (omega arith)) in
         is ∙ sym (apart (first + x) y unlike)
 
-pub has_bit_mask : (x first y : ℕ) → x < 64 → has_bit x (mask first y) ≡ (first + x == y)
+pub has_bit_mask : (x first y : ℕ) → x < 16 → has_bit x (mask first y) ≡ (first + x == y)
 unfolding mask
 has_bit_mask x first y few = ⊎_elim below above (cases_lt y first)
   where
     below : y < first → has_bit x (if nat_lt y first then 0
-        else (if nat_lt (y - first) 64 then 2 ^ (y - first) else 0)) ≡ (first + x == y)
+        else (if nat_lt (y - first) 16 then 2 ^ (y - first) else 0)) ≡ (first + x == y)
     below less =
         let unlike : (first + x ≡ y → ⊥) = λ (e : first + x ≡ y). omega arith in
         rw (lt-ltb y first less, has_bit_zero x) (sym (apart (first + x) y unlike))
 
     above : first ≤ y → has_bit x (if nat_lt y first then 0
-        else (if nat_lt (y - first) 64 then 2 ^ (y - first) else 0)) ≡ (first + x == y)
-    above more = ⊎_elim near far (cases_lt (y - first) 64)
+        else (if nat_lt (y - first) 16 then 2 ^ (y - first) else 0)) ≡ (first + x == y)
+    above more = ⊎_elim near far (cases_lt (y - first) 16)
       where
-        near : y - first < 64 → has_bit x (if nat_lt y first then 0
-            else (if nat_lt (y - first) 64 then 2 ^ (y - first) else 0)) ≡ (first + x == y)
-        near less = rw (le-ltb y first more, lt-ltb (y - first) 64 less) (has_bit_pow x (y - first)
+        near : y - first < 16 → has_bit x (if nat_lt y first then 0
+            else (if nat_lt (y - first) 16 then 2 ^ (y - first) else 0)) ≡ (first + x == y)
+        near less = rw (le-ltb y first more, lt-ltb (y - first) 16 less) (has_bit_pow x (y - first)
             ∙ shifted x first y more)
 
-        far : 64 ≤ y - first → has_bit x (if nat_lt y first then 0
-            else (if nat_lt (y - first) 64 then 2 ^ (y - first) else 0)) ≡ (first + x == y)
+        far : 16 ≤ y - first → has_bit x (if nat_lt y first then 0
+            else (if nat_lt (y - first) 16 then 2 ^ (y - first) else 0)) ≡ (first + x == y)
         far past =
             let unlike : (first + x ≡ y → ⊥) = λ (e : first + x ≡ y). omega arith in
-            rw (le-ltb y first more, le-ltb (y - first) 64 past, has_bit_zero x)
+            rw (le-ltb y first more, le-ltb (y - first) 16 past, has_bit_zero x)
             (sym (apart (first + x) y unlike))

@@ -56,7 +56,7 @@ word_entry topic parameters registers c s less = let e : 0 + s ≡ s = omega ari
     word_entry_from parameters c 0 (row_width topic registers) s less ∙ rw e refl
 
 entry_column : (n c s x : ℕ) (b : Bool) → (column_of n s == c) ≡ b
-    → has_bit x (if b then 2 ^ 64 - 1 else 0) ≡ true → column_of n s ≡ c
+    → has_bit x (if b then 2 ^ 16 - 1 else 0) ≡ true → column_of n s ≡ c
 entry_column n c s x true is h = eqb-true (column_of n s) c is
 entry_column n c s x false is h = absurd (false≢true (sym (has_bit_zero x) ∙ h))
 
@@ -70,12 +70,12 @@ entry_out topic parameters registers c s x h =
     entry_column parameters c s x (column_of parameters s == c) refl
     (sym (ap (has_bit x) (word_entry topic parameters registers c s less)) ∙ h)
 
-pub entry_in : (topic : Topic) (parameters registers c s x : ℕ) → x < 64
+pub entry_in : (topic : Topic) (parameters registers c s x : ℕ) → x < 16
     → s < row_width topic registers → column_of parameters s ≡ c
     → tells (entry_row topic parameters registers c) x s ≡ true
 entry_in topic parameters registers c s x few less is =
     ap (has_bit x) (word_entry topic parameters registers c s less)
-    ∙ ap (λ b. has_bit x (if b then 2 ^ 64 - 1 else 0)) (eq-eqb (column_of parameters s) c is)
+    ∙ ap (λ b. has_bit x (if b then 2 ^ 16 - 1 else 0)) (eq-eqb (column_of parameters s) c is)
     ∙ has_bit_ones x few
 
 -- a sweep adds no rows
@@ -228,7 +228,7 @@ module _ (ir : Ir) (well : IsWellFormed ir) (topic : Topic) (exits : List (List 
       ends_step p from b is (e, about, col, d) =
           inr (refl, (e, p, about, col, d, (from, code_at p (Return from) is)))
 
-  entry_good : (x : ℕ) (few : x < 64) → 0 < end
+  entry_good : (x : ℕ) (few : x < 16) → 0 < end
       → GoodRow ir well topic exits sound x few g u there (At x) (steps x) 0 entry
   entry_good x few inside = (length_entry topic u.parameters u.registers c, told)
     where
@@ -247,7 +247,7 @@ module _ (ir : Ir) (well : IsWellFormed ir) (topic : Topic) (exits : List (List 
             ),
           )
 
-  pub made_good : (x : ℕ) (few : x < 64) {rows : List (List ℕ)} → Made topic exits entry u.code rows
+  pub made_good : (x : ℕ) (few : x < 16) {rows : List (List ℕ)} → Made topic exits entry u.code rows
       → Good ir well topic exits sound x few g u there (At x) (steps x) rows
   made_good x few none = none_good ir well topic exits sound x few g u there (At x) (steps x)
       (length u.code + 1)
@@ -266,7 +266,7 @@ module _ (ir : Ir) (well : IsWellFormed ir) (topic : Topic) (exits : List (List 
       shaped (inr good) = inr good.0
 
   -- what is recorded after the last place is backed by a derivation
-  end_backed : (x : ℕ) → x < 64 → (rows : List (List ℕ)) → Made topic exits entry u.code rows
+  end_backed : (x : ℕ) → x < 16 → (rows : List (List ℕ)) → Made topic exits entry u.code rows
       → (b : Fact) → is_about (class_at topic x) b ≡ true
       → tells (row_in rows end) x (slot b) ≡ true
       → Backed ir.functions (class_at topic x) g c b
@@ -287,7 +287,7 @@ module _ (ir : Ir) (well : IsWellFormed ir) (topic : Topic) (exits : List (List 
       → SoundExits ir.functions topic (joined_exits exits g c (row_in rows end))
   joined_sound rows made = record { backed = each }
     where
-      new : (x h d : ℕ) (y : Fact) → x < 64 → is_about (class_at topic x) y ≡ true
+      new : (x h d : ℕ) (y : Fact) → x < 16 → is_about (class_at topic x) y ≡ true
           → (h ≡ g) × (d ≡ c) × (tells (row_in rows end) x (slot y) ≡ true)
           → Backed ir.functions (class_at topic x) h d y
       new x h d y few about (h_is, d_is, told) =
@@ -295,7 +295,7 @@ module _ (ir : Ir) (well : IsWellFormed ir) (topic : Topic) (exits : List (List 
           (subst (λ k. Backed ir.functions (class_at topic x) g k y) (sym d_is)
           (end_backed x few rows made y about told))
 
-      each : (x h d : ℕ) (y : Fact) → x < 64 → is_about (class_at topic x) y ≡ true
+      each : (x h d : ℕ) (y : Fact) → x < 16 → is_about (class_at topic x) y ≡ true
           → has_bit x (exit (exits_of (joined_exits exits g c (row_in rows end)) h) d (slot y))
           ≡ true
           → Backed ir.functions (class_at topic x) h d y

@@ -75,7 +75,7 @@ module _ (ir : Ir) (well : IsWellFormed ir) (topic : Topic) (exits : List (List 
     (shaped : ShapedEntries ir.functions topic entries)
     (start : StartEntries ir.functions topic entries)
     (tables : List (List (List ℕ))) (flow : AllFlow ir.functions topic exits entries tables) (x : ℕ)
-    (few : x < 64) where
+    (few : x < 16) where
   abbrev class : Class
   class = class_at topic x
 

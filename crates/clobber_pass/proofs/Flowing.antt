@@ -111,12 +111,12 @@ at_entry_out topic registers (w ∷ ws) x s h = h
 -- entries joined with a row that records only derived facts
 pub sound_entry : (functions : List IrFunction) (topic : Topic) (entries : List (List ℕ)) (g : ℕ)
     (row : List ℕ) → SoundEntries functions topic entries
-    → ((x : ℕ) (b : Fact) → x < 64 → is_about (class_at topic x) b ≡ true
+    → ((x : ℕ) (b : Fact) → x < 16 → is_about (class_at topic x) b ≡ true
     → tells row x (slot b) ≡ true → Flows functions g 0 b)
     → SoundEntries functions topic (join_in entries g row)
 sound_entry functions topic entries g row sound new = record { flows = each }
   where
-    each : (x f : ℕ) (b : Fact) → x < 64 → is_about (class_at topic x) b ≡ true
+    each : (x f : ℕ) (b : Fact) → x < 16 → is_about (class_at topic x) b ≡ true
         → tells (row_in (join_in entries g row) f) x (slot b) ≡ true → Flows functions f 0 b
     each x f b few about h =
         ⊎_elim
@@ -192,7 +192,7 @@ module _ (ir : Ir) (well : IsWellFormed ir) (topic : Topic) (exits : List (List 
     size : length entry ≡ row_width topic u.registers
     size = length_at_entry topic u.registers (row_in entries f) (shaped.each f u there)
 
-    pub entry_is_good : (x : ℕ) (few : x < 64)
+    pub entry_is_good : (x : ℕ) (few : x < 16)
         → GoodRow ir well topic exits sound x few f u there At flow_steps 0 entry
     entry_is_good x few = (
       size,
@@ -201,7 +201,7 @@ module _ (ir : Ir) (well : IsWellFormed ir) (topic : Topic) (exits : List (List 
           (at_entry_out topic u.registers (row_in entries f) x (slot b) h)),
     )
 
-    pub flow_good : (x : ℕ) (few : x < 64) {rows : List (List ℕ)}
+    pub flow_good : (x : ℕ) (few : x < 16) {rows : List (List ℕ)}
         → Made topic exits entry u.code rows
         → Good ir well topic exits sound x few f u there At flow_steps rows
     flow_good x few none = none_good ir well topic exits sound x few f u there At flow_steps
@@ -222,11 +222,11 @@ module _ (ir : Ir) (well : IsWellFormed ir) (topic : Topic) (exits : List (List 
 
   -- each row that reaches a place is good
   abbrev pub GoodAt : ℕ → List ℕ → Type 0
-  GoodAt p row = (x : ℕ) (few : x < 64) → GoodRow ir well topic exits sound x few f u there At
+  GoodAt p row = (x : ℕ) (few : x < 16) → GoodRow ir well topic exits sound x few f u there At
       flow_steps p row
 
   abbrev pub AllGood : List (List ℕ) → Type 0
-  AllGood rows = (x : ℕ) (few : x < 64)
+  AllGood rows = (x : ℕ) (few : x < 16)
       → Good ir well topic exits sound x few f u there At flow_steps rows
 
   pub pick_is_good : (rows : List (List ℕ)) (row : List ℕ) (p : ℕ) → AllGood rows → GoodAt p row
@@ -249,7 +249,7 @@ module _ (ir : Ir) (well : IsWellFormed ir) (topic : Topic) (exits : List (List 
       sound_entry ir.functions topic entries g
       (enter_row topic (registers_at ir.functions g) args row) begins new
     where
-      new : (x : ℕ) (b : Fact) → x < 64 → is_about (class_at topic x) b ≡ true
+      new : (x : ℕ) (b : Fact) → x < 16 → is_about (class_at topic x) b ≡ true
           → tells (enter_row topic (registers_at ir.functions g) args row) x (slot b) ≡ true
           → Flows ir.functions g 0 b
       new x b few about h =

@@ -93,7 +93,7 @@ pub record Steps (ir : Ir) (f : ℕ) (u : IrFunction) (At : ℕ → Fact → Typ
       → At (length u.code) b
 
 module _ (ir : Ir) (well : IsWellFormed ir) (topic : Topic) (exits : List (List (List ℕ)))
-    (sound : SoundExits ir.functions topic exits) (x : ℕ) (few : x < 64)
+    (sound : SoundExits ir.functions topic exits) (x : ℕ) (few : x < 16)
     (f : ℕ) (u : IrFunction) (there : slice_get ir.functions f ≡ Some u) (At : ℕ → Fact → Type 0)
     (steps : Steps ir f u At) where
   abbrev class : Class

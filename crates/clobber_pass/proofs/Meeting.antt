@@ -41,14 +41,14 @@ power_in w k h = by_cases (bit_and w (2 ^ k) == 0) refl
 zero_out : (w : ℕ) → not (bit_and w 0 == 0) ≡ false
 zero_out w = rw (and_zero_r w) refl
 
-mask_is : (f x y : ℕ) → x < 64 → f + x ≡ y → mask f y ≡ 2 ^ x
+mask_is : (f x y : ℕ) → x < 16 → f + x ≡ y → mask f y ≡ 2 ^ x
 unfolding mask
 mask_is f x y few is =
     let from : f ≤ y = omega arith in
     let at : y - f ≡ x = omega arith in
-    rw (le-ltb y f from, at, lt-ltb x 64 few) refl
+    rw (le-ltb y f from, at, lt-ltb x 16 few) refl
 
-pub meets_in : (a b f x y : ℕ) → x < 64 → f + x ≡ y → has_bit x a ≡ true → has_bit x b ≡ true
+pub meets_in : (a b f x y : ℕ) → x < 16 → f + x ≡ y → has_bit x a ≡ true → has_bit x b ≡ true
     → meets a b (mask f y) ≡ true
 unfolding meets
 meets_in a b f x y few is h j =
@@ -58,7 +58,7 @@ meets_in a b f x y few is h j =
 -- one bit of a mask
 pub record Met (a b f y : ℕ) : Type 0 where
   pub x : ℕ
-  pub few : x < 64
+  pub few : x < 16
   pub is : f + x ≡ y
   pub one : has_bit x a ≡ true
   pub other : has_bit x b ≡ true
@@ -67,9 +67,9 @@ outside_below : (f y : ℕ) → y < f → mask f y ≡ 0
 unfolding mask
 outside_below f y less = rw (lt-ltb y f less) refl
 
-outside_above : (f y : ℕ) → f ≤ y → 64 ≤ y - f → mask f y ≡ 0
+outside_above : (f y : ℕ) → f ≤ y → 16 ≤ y - f → mask f y ≡ 0
 unfolding mask
-outside_above f y from past = rw (le-ltb y f from, le-ltb (y - f) 64 past) refl
+outside_above f y from past = rw (le-ltb y f from, le-ltb (y - f) 16 past) refl
 
 pub meets_out : (a b f y : ℕ) → meets a b (mask f y) ≡ true → Met a b f y
 unfolding meets
@@ -83,10 +83,10 @@ meets_out a b f y h = ⊎_elim below above (cases_lt y f)
     below less = none (outside_below f y less)
 
     above : f ≤ y → Met a b f y
-    above from = ⊎_elim near (λ (past : 64 ≤ y - f). none (outside_above f y from past))
-        (cases_lt (y - f) 64)
+    above from = ⊎_elim near (λ (past : 16 ≤ y - f). none (outside_above f y from past))
+        (cases_lt (y - f) 16)
       where
-        near : y - f < 64 → Met a b f y
+        near : y - f < 16 → Met a b f y
         near few =
             let sum : f + (y - f) ≡ y = omega arith in
             let both : has_bit (y - f) (bit_and a b) ≡ true =

@@ -98,7 +98,7 @@ module _ (ir : Ir) (well : IsWellFormed ir) (topic : Topic) (exits : List (List 
       absurd (omega arith)
 
   told_flow : (p : ℕ) (i : Instruction) (row : List ℕ) (x : ℕ) (b : Fact)
-      → slice_get u.code p ≡ Some i → Good p row → x < 64 → is_about (class_at topic x) b ≡ true
+      → slice_get u.code p ≡ Some i → Good p row → x < 16 → is_about (class_at topic x) b ≡ true
       → tells row x (slot b) ≡ true → Flows ir.functions f p b
   told_flow p i row x b is good few about h = flow_of p i b is ((good x few).1 b about h)
 
@@ -306,10 +306,10 @@ length_marks topic exits rows (i ∷ is) row p =
     (p + 1))
 
 -- the bit of a field in its topic
-pub low : (y : ℕ) → (y - y % 64) + y % 64 ≡ y
+pub low : (y : ℕ) → (y - y % 16) + y % 16 ≡ y
 low y = omega arith
 
-pub low_few : (y : ℕ) → y % 64 < 64
+pub low_few : (y : ℕ) → y % 16 < 16
 low_few y = omega arith
 
 module _ (ir : Ir) (well : IsWellFormed ir) (topic : Topic) (exits : List (List (List ℕ)))
@@ -337,7 +337,7 @@ module _ (ir : Ir) (well : IsWellFormed ir) (topic : Topic) (exits : List (List 
       made) (entry_is_good ir well topic exits sound f u there entries all.sound all.shaped) h
 
   -- what is derived is recorded in the row that reaches a place
-  here_tells : (p x : ℕ) (i : Instruction) (b : Fact) → x < 64
+  here_tells : (p x : ℕ) (i : Instruction) (b : Fact) → x < 16
       → is_about (class_at topic x) b ≡ true → Fits (registers_at ir.functions f) b
       → (m : MarkAt topic i (row_reaching topic exits rows entry 0 u.code p) (word marks p))
       → Flows ir.functions f p b → tells m.here x (slot b) ≡ true
@@ -346,37 +346,37 @@ module _ (ir : Ir) (well : IsWellFormed ir) (topic : Topic) (exits : List (List 
       (told_there ir well topic exits sound ended entries all.sound all.shaped start tables flow x
       few u there d (about, fits))
 
-  pub root_marked : (p y : ℕ) (index : Option ℕ) (from line : ℕ) → topic ≡ Roots (y - y % 64)
+  pub root_marked : (p y : ℕ) (index : Option ℕ) (from line : ℕ) → topic ≡ Roots (y - y % 16)
       → slice_get u.code p ≡ Some (Store (Root y index) from line)
       → Flows ir.functions f p (RootUnwritten y) → Flows ir.functions f p (ReadRoot y)
       → tells marks 0 p ≡ true
   root_marked p y index from line topic_is is bare before =
       let m = mark_at topic exits rows u.code entry 0 p (Store (Root y index) from line) is in
-      let x = y % 64 in
+      let x = y % 16 in
       let about : is_about (class_at topic x) (RootUnwritten y) ≡ true =
       ap (λ t. is_about (class_at t x) (RootUnwritten y)) topic_is
-      ∙ eq-eqb y ((y - y % 64) + x) (sym (low y)) in
+      ∙ eq-eqb y ((y - y % 16) + x) (sym (low y)) in
       let about_read : is_about (class_at topic x) (ReadRoot y) ≡ true =
       ap (λ t. is_about (class_at t x) (ReadRoot y)) topic_is
-      ∙ eq-eqb y ((y - y % 64) + x) (sym (low y)) in
+      ∙ eq-eqb y ((y - y % 16) + x) (sym (low y)) in
       let one = here_tells p x _ (RootUnwritten y) (low_few y) about tt m bare in
       let other = here_tells p x _ (ReadRoot y) (low_few y) about_read tt m before in
-      let met = meets_in (word m.here 0) (word m.here 1) (y - y % 64) x y (low_few y) (low y)
+      let met = meets_in (word m.here 0) (word m.here 1) (y - y % 16) x y (low_few y) (low y)
       one other in
       ap (has_bit 0) (m.marked ∙ ap (λ t. store_word t (Root y index) m.here) topic_is
       ∙ ap (λ b. when b 1) met) ∙ test_store
 
   pub field_marked : (p b k y : ℕ) (index : Option ℕ) (from line : ℕ)
-      → topic ≡ Fields k (y - y % 64)
+      → topic ≡ Fields k (y - y % 16)
       → slice_get u.code p ≡ Some (Store (Field b k y index) from line) → b < u.registers
       → Flows ir.functions f p (Unwritten b k y) → Flows ir.functions f p (ReadField k y)
       → tells marks 0 p ≡ true
   field_marked p b k y index from line topic_is is inside bare before =
       let m = mark_at topic exits rows u.code entry 0 p (Store (Field b k y index) from line) is in
-      let x = y % 64 in
-      let both : ((k == k) && (y == (y - y % 64) + x)) ≡ true =
-      and_from (k == k) (y == (y - y % 64) + x) (same_true k)
-      (eq-eqb y ((y - y % 64) + x) (sym (low y))) in
+      let x = y % 16 in
+      let both : ((k == k) && (y == (y - y % 16) + x)) ≡ true =
+      and_from (k == k) (y == (y - y % 16) + x) (same_true k)
+      (eq-eqb y ((y - y % 16) + x) (sym (low y))) in
       let about : is_about (class_at topic x) (Unwritten b k y) ≡ true =
       ap (λ t. is_about (class_at t x) (Unwritten b k y)) topic_is ∙ both in
       let about_read : is_about (class_at topic x) (ReadField k y) ≡ true =
@@ -385,11 +385,11 @@ module _ (ir : Ir) (well : IsWellFormed ir) (topic : Topic) (exits : List (List 
       subst (λ n. b < n) (sym (registers_there ir well f u there)) inside in
       let one = here_tells p x _ (Unwritten b k y) (low_few y) about fits m bare in
       let other = here_tells p x _ (ReadField k y) (low_few y) about_read tt m before in
-      let met = meets_in (word m.here (b + 2)) (word m.here 1) (y - y % 64) x y (low_few y) (low y)
+      let met = meets_in (word m.here (b + 2)) (word m.here 1) (y - y % 16) x y (low_few y) (low y)
       one other in
       ap (has_bit 0) (m.marked ∙ ap (λ t. store_word t (Field b k y index) m.here) topic_is
       ∙ ap (λ c. if c then when (meets (word m.here (b + 2)) (word m.here 1)
-      (mask (y - y % 64) y)) 1 else 0) (same_true k) ∙ ap (λ b. when b 1) met) ∙ test_store
+      (mask (y - y % 16) y)) 1 else 0) (same_true k) ∙ ap (λ b. when b 1) met) ∙ test_store
 
   pub fill_marked : (p to kind : ℕ) (log_fill : Bool) (line : ℕ) → topic ≡ Frees
       → slice_get u.code p ≡ Some (New to kind log_fill line) → Flows ir.functions f p Freed

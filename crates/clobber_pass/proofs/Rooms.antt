@@ -9,7 +9,7 @@ use Rattle.clobber_pass.specs.inside.Room.{words_room, row_room, room, all_room}
 
 -- a word that grows
 pub words_room_less : (row : List ℕ) (s w : ℕ) → s < length row → word row s < w
-    → word row s < 2 ^ 64 → words_room (slice_set row s w) < words_room row
+    → word row s < 2 ^ 16 → words_room (slice_set row s w) < words_room row
 words_room_less [] s w inside more fits = absurd (omega arith)
 words_room_less (v ∷ row) zero w inside more fits = omega arith
 words_room_less (v ∷ row) (suc s) w inside more fits =
@@ -75,14 +75,14 @@ pub or_room_most : (more row : List ℕ) → words_room (or_from more 0 row) ≤
 or_room_most more [] less = omega arith
 or_room_most more (w ∷ ws) less = less
 
-words_few : (row : List ℕ) → words_room row ≤ length row * 2 ^ 64
+words_few : (row : List ℕ) → words_room row ≤ length row * 2 ^ 16
 words_few [] = omega arith
-words_few (w ∷ ws) = let rest : words_room ws ≤ length ws * 2 ^ 64 = words_few ws in omega arith
+words_few (w ∷ ws) = let rest : words_room ws ≤ length ws * 2 ^ 16 = words_few ws in omega arith
 
 -- any row leaves less room than an empty one
 pub filled_less : (row : List ℕ) → 0 < length row → length row < 2 ^ 64 → row_room row < row_room []
 filled_less [] some few = absurd (omega arith)
-filled_less (w ∷ ws) some few = let all : words_room (w ∷ ws) ≤ length (w ∷ ws) * 2 ^ 64 =
+filled_less (w ∷ ws) some few = let all : words_room (w ∷ ws) ≤ length (w ∷ ws) * 2 ^ 16 =
     words_few (w ∷ ws) in omega arith
 
 row_again : (rows : List (List ℕ)) (p : ℕ) (row : List ℕ) → row ≡ row_in rows p

@@ -48,7 +48,7 @@ module _ (functions : List IrFunction) (topic : Topic) (entries new : List (List
     shaped = shaped_entry functions topic entries f row all.shaped shape;
   })
     where
-      brings : (x : ℕ) (b : Fact) → x < 64 → is_about (class_at topic x) b ≡ true
+      brings : (x : ℕ) (b : Fact) → x < 16 → is_about (class_at topic x) b ≡ true
           → tells row x (slot b) ≡ true → Flows functions f 0 b
       brings x b few about h = first (u, there, tx)
           (start_holds b (entry_out topic 0 u.registers 0 (slot b) x

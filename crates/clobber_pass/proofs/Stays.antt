@@ -33,7 +33,7 @@ here_column : (n : ℕ) → column n Here ≡ 0
 here_column n = let inside : 0 < n + 2 = omega arith in rw (lt-ltb 0 (n + 2) inside) refl
 
 module _ (ir : Ir) (well : IsWellFormed ir) (topic : Topic) (exits : List (List (List ℕ))) (x : ℕ)
-    (few : x < 64)
+    (few : x < 16)
     (f : ℕ) (u : IrFunction) (there : slice_get ir.functions f ≡ Some u) (rows : List (List ℕ))
     (entry : List ℕ)
     (shape : Shaped (row_width topic u.registers) rows) (count : length rows ≡ length u.code + 1)

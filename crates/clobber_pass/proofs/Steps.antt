@@ -91,7 +91,7 @@ begun_of : (t : Topic) (row : List ℕ) (x to r k y : ℕ) → to + 2 < length r
 begun_of t row x to r k y inside = given_register row x to (word row 0) r k y (One Here) inside refl
 
 -- what is recorded of a register after each instruction, for the class of bit x
-module _ (ir : Ir) (kind f : ℕ) (row : List ℕ) (x registers n : ℕ) (few : x < 64)
+module _ (ir : Ir) (kind f : ℕ) (row : List ℕ) (x registers n : ℕ) (few : x < 16)
     (long : length row ≡ registers + 2) where
   inside : (to : ℕ) → to < registers → to + 2 < length row
   inside to less = omega arith

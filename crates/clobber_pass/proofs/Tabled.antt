@@ -172,7 +172,7 @@ module _ (ir : Ir) (well : IsWellFormed ir) (topic : Topic) (exits : List (List 
     (start : StartEntries ir.functions topic entries)
     (tables : List (List (List ℕ))) (flow : AllFlow ir.functions topic exits entries tables) (f : ℕ)
     (none : row_in entries f ≡ []) where
-  no_flow : (p x : ℕ) (b : Fact) (i : Instruction) → x < 64
+  no_flow : (p x : ℕ) (b : Fact) (i : Instruction) → x < 16
       → instruction_at ir.functions f p ≡ Some i → is_about (class_at topic x) b ≡ true
       → ((u : IrFunction) → IsInstruction ir u.registers (length u.code) i → Fits u.registers b)
       → Flows ir.functions f p b → ⊥
@@ -188,17 +188,17 @@ module _ (ir : Ir) (well : IsWellFormed ir) (topic : Topic) (exits : List (List 
       → instruction_at ir.functions f p ≡ Some (Store target from line)
       → Flows ir.functions f p (unwritten target) → ⊥
   no_store p (Root y index) from line topic_is is d =
-      let x = y % 64 in
+      let x = y % 16 in
       let about : is_about (class_at topic x) (RootUnwritten y) ≡ true =
       ap (λ t. is_about (class_at t x) (RootUnwritten y)) (sym topic_is)
-      ∙ eq-eqb y ((y - y % 64) + x) (sym (low y)) in
+      ∙ eq-eqb y ((y - y % 16) + x) (sym (low y)) in
       no_flow p x (RootUnwritten y) (Store (Root y index) from line) (low_few y) is about
       (λ u well. tt) d
   no_store p (Field b k y index) from line topic_is is d =
-      let x = y % 64 in
-      let both : ((k == k) && (y == (y - y % 64) + x)) ≡ true =
-      and_from (k == k) (y == (y - y % 64) + x) (same_true k)
-      (eq-eqb y ((y - y % 64) + x) (sym (low y))) in
+      let x = y % 16 in
+      let both : ((k == k) && (y == (y - y % 16) + x)) ≡ true =
+      and_from (k == k) (y == (y - y % 16) + x) (same_true k)
+      (eq-eqb y ((y - y % 16) + x) (sym (low y))) in
       let about : is_about (class_at topic x) (Unwritten b k y) ≡ true =
       ap (λ t. is_about (class_at t x) (Unwritten b k y)) (sym topic_is) ∙ both in
       no_flow p x (Unwritten b k y) (Store (Field b k y index) from line) (low_few y) is about

@@ -33,7 +33,7 @@ column_few n s = ⊎_elim inside outside (cases_lt s (n + 2))
 
 module _ (ir : Ir) (well : IsWellFormed ir) (topic : Topic) (exits : List (List (List ℕ)))
     (sound : SoundExits ir.functions topic exits)
-    (ended : CalledEnded ir.functions topic exits) (x : ℕ) (few : x < 64) where
+    (ended : CalledEnded ir.functions topic exits) (x : ℕ) (few : x < 16) where
   abbrev class : Class
   class = class_at topic x
 

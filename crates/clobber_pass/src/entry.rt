@@ -30,11 +30,11 @@ fn column_of(parameters: u32, slot: usize) -> usize
 }
 
 /// The word of a slot at an entry, for one column: all classes at once.
-fn entry_word(parameters: u32, column: usize, slot: usize) -> u64
+fn entry_word(parameters: u32, column: usize, slot: usize) -> u16
     ensures { result ≡ entry_word parameters column slot }
 {
     if column_of(parameters, slot) == column {
-        u64::MAX
+        u16::MAX
     } else {
         0
     }
@@ -47,7 +47,7 @@ pub fn entry_row(
     parameters: u32,
     registers: u32,
     column: usize,
-) -> Result<Vec<u64>, AllocError>
+) -> Result<Vec<u16>, AllocError>
     ensures { IfOk result (λ row. row.items ≡ entry_row topic parameters registers column) }
 {
     let mut row = Vec::new(alloc);

@@ -33,7 +33,7 @@ fn registers_at(functions: &[IrFunction], function: usize) -> u32
 
 /// The word of a parameter, which is that of its argument; any other register has that of the walk
 /// itself.
-fn argument_word(row: &[u64], argument: Option<u32>) -> u64
+fn argument_word(row: &[u16], argument: Option<u32>) -> u16
     ensures { result ≡ flows.argument_word row.now argument }
 {
     match argument {
@@ -43,7 +43,7 @@ fn argument_word(row: &[u64], argument: Option<u32>) -> u64
 }
 
 /// The word of a slot at a called function's entry.
-fn enter_word(args: &[u32], row: &[u64], slot: usize) -> u64
+fn enter_word(args: &[u32], row: &[u16], slot: usize) -> u16
     ensures { result ≡ flows.enter_word args.now row.now slot }
 {
     if slot < 2 {
@@ -59,8 +59,8 @@ fn enter_row(
     topic: Topic,
     registers: u32,
     args: &[u32],
-    row: &[u64],
-) -> Result<Vec<u64>, AllocError>
+    row: &[u16],
+) -> Result<Vec<u16>, AllocError>
     ensures { IfOk result (λ new. new.items ≡ flows.enter_row topic registers args.now row.now) }
 {
     let mut new = Vec::new(alloc);
@@ -76,7 +76,7 @@ fn enter_row(
 fn bring(
     alloc: Global,
     function: usize,
-    row: &[u64],
+    row: &[u16],
     entries: &mut Rows,
     waiting: &mut [bool],
 ) -> Result<bool, AllocError>
@@ -101,7 +101,7 @@ fn enter(
     ir: &Ir,
     topic: Topic,
     instruction: &Instruction,
-    row: &[u64],
+    row: &[u16],
     entries: &mut Rows,
     waiting: &mut [bool],
 ) -> Result<bool, AllocError>
@@ -132,7 +132,7 @@ fn enter_at(
     rows: &Rows,
     place: usize,
     instruction: &Instruction,
-    row: &mut Vec<u64>,
+    row: &mut Vec<u16>,
     entries: &mut Rows,
     waiting: &mut [bool],
 ) -> Result<bool, AllocError>
@@ -160,7 +160,7 @@ fn enter_all(
     topic: Topic,
     exits: &Tables,
     rows: &Rows,
-    entry: &[u64],
+    entry: &[u16],
     code: &[Instruction],
     entries: &mut Rows,
     waiting: &mut [bool],
@@ -198,8 +198,8 @@ pub fn at_entry(
     alloc: Global,
     topic: Topic,
     registers: u32,
-    row: &[u64],
-) -> Result<Vec<u64>, AllocError>
+    row: &[u16],
+) -> Result<Vec<u16>, AllocError>
     ensures { IfOk result (λ new. new.items ≡ flows.at_entry topic registers row.now) }
 {
     if row.is_empty() {

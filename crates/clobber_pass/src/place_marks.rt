@@ -14,7 +14,7 @@ use std::alloc::{AllocError, Global};
 
 /// Whether two words and a mask have a bit in common.
 #[tactic(auto, unfolding(crate::specs::inside::Marking::meets))]
-fn meets(one: u64, other: u64, mask: u64) -> bool
+fn meets(one: u16, other: u16, mask: u16) -> bool
     ensures { result ≡ inside_marking.meets one other mask }
 {
     !(one & other & mask == 0)
@@ -22,7 +22,7 @@ fn meets(one: u64, other: u64, mask: u64) -> bool
 
 /// The mark of a store, if its class belongs to the topic: it is set if the class may be unwritten
 /// there, and may have been read.
-fn store_word(topic: Topic, target: Target, row: &[u64]) -> u64
+fn store_word(topic: Topic, target: Target, row: &[u16]) -> u16
     ensures { result ≡ inside_marking.store_word topic target row.now }
 {
     match (topic, target) {
@@ -61,7 +61,7 @@ fn store_word(topic: Topic, target: Target, row: &[u64]) -> u64
 }
 
 /// The mark of a new object's fill.
-fn fill_word(topic: Topic, row: &[u64]) -> u64
+fn fill_word(topic: Topic, row: &[u16]) -> u16
     ensures { result ≡ inside_marking.fill_word topic row.now }
 {
     match topic {
@@ -76,7 +76,7 @@ fn fill_word(topic: Topic, row: &[u64]) -> u64
     }
 }
 
-fn mark_word(topic: Topic, instruction: &Instruction, row: &[u64]) -> u64
+fn mark_word(topic: Topic, instruction: &Instruction, row: &[u16]) -> u16
     ensures { result ≡ inside_marking.mark_word topic instruction.now row.now }
 {
     match instruction {
@@ -92,9 +92,9 @@ pub fn mark_row(
     topic: Topic,
     exits: &Tables,
     rows: &Rows,
-    entry: &[u64],
+    entry: &[u16],
     code: &[Instruction],
-) -> Result<Vec<u64>, AllocError>
+) -> Result<Vec<u16>, AllocError>
     ensures { IfOk result (λ marks. marks.items ≡ inside_marking.marks_from topic exits.now rows.now
         entry.now 0 code.now) }
 {
@@ -109,7 +109,7 @@ pub fn mark_row(
 }
 
 /// The mark of each header's store.
-fn header_word(instruction: &Instruction) -> u64
+fn header_word(instruction: &Instruction) -> u16
     ensures { result ≡ inside_marking.header_mark instruction.now }
 {
     match instruction {
@@ -118,7 +118,7 @@ fn header_word(instruction: &Instruction) -> u64
     }
 }
 
-pub fn headers(alloc: Global, code: &[Instruction]) -> Result<Vec<u64>, AllocError>
+pub fn headers(alloc: Global, code: &[Instruction]) -> Result<Vec<u16>, AllocError>
     ensures { IfOk result (λ marks. marks.items ≡ inside_marking.headers code.now) }
 {
     let mut marks = Vec::new(alloc);
@@ -134,11 +134,11 @@ pub fn topic_of(target: Target) -> Topic
 {
     match target {
         Target::Root { field, .. } => Topic::Root {
-            first: field - field % 64,
+            first: field - field % 16,
         },
         Target::Field { kind, field, .. } => Topic::Field {
             kind,
-            first: field - field % 64,
+            first: field - field % 16,
         },
     }
 }

@@ -7,7 +7,7 @@ ghost use Rattle.clobber_pass.specs.inside.Row as inside_rows;
 
 /// The word of a slot, or 0 if there is none.
 #[tactic(auto, using(crate::proofs::Lookup::lookup))]
-pub fn word(row: &[u64], slot: usize) -> u64
+pub fn word(row: &[u16], slot: usize) -> u16
     ensures { result ≡ rows.word row.now slot }
 {
     row.get(slot).copied().unwrap_or(0)
@@ -15,7 +15,7 @@ pub fn word(row: &[u64], slot: usize) -> u64
 
 /// Writes the word of a slot, if there is one.
 #[tactic(auto, using(crate::proofs::Bits::set_past))]
-pub fn put(row: &mut [u64], slot: usize, word: u64)
+pub fn put(row: &mut [u16], slot: usize, word: u16)
     ensures { row.new ≡ slice_set row.old slot word }
 {
     if slot < row.len() {
@@ -25,13 +25,13 @@ pub fn put(row: &mut [u64], slot: usize, word: u64)
 
 /// The bit of a field, counted from the first field of a topic.
 #[tactic(auto, using(std::proofs::lemmas::Nat::one_shl), unfolding(crate::specs::inside::Row::mask))]
-pub fn mask(first: u32, field: u32) -> u64
+pub fn mask(first: u32, field: u32) -> u16
     ensures { result ≡ inside_rows.mask first field }
 {
     if field < first {
         return 0;
     }
-    if field - first < 64 {
+    if field - first < 16 {
         1 << (field - first)
     } else {
         0
@@ -40,7 +40,7 @@ pub fn mask(first: u32, field: u32) -> u64
 
 /// A word without some of its bits.
 #[tactic(auto, unfolding(crate::specs::inside::Row::without))]
-pub fn without(word: u64, bits: u64) -> u64
+pub fn without(word: u16, bits: u16) -> u16
     ensures { result ≡ inside_rows.without word bits }
 {
     word ^ (word & bits)

@@ -13,7 +13,7 @@ use std::marker::Model;
 /// A row for each place, empty if nothing reached it yet.
 #[derive(Drop)]
 pub struct Rows {
-    rows: Vec<Vec<u64>>,
+    rows: Vec<Vec<u16>>,
 }
 
 impl Model for Rows {
@@ -46,7 +46,7 @@ impl Rows {
     }
 
     /// Appends one row.
-    pub fn push(&mut self, row: Vec<u64>) -> Result<(), AllocError>
+    pub fn push(&mut self, row: Vec<u16>) -> Result<(), AllocError>
         ensures { OnOk result (self.new ≡ self.old ++ row.items ∷ []) }
     {
         self.rows.push(row)?;
@@ -62,7 +62,7 @@ impl Rows {
 
     /// The row of a place, empty if there is none.
     #[tactic(auto, using(crate::proofs::Lookup::lookup))]
-    pub fn row(&self, place: usize) -> &[u64]
+    pub fn row(&self, place: usize) -> &[u16]
         ensures { result.now ≡ sweeps.row_in self.now place }
     {
         match self.rows.get(place) {
@@ -72,7 +72,7 @@ impl Rows {
     }
 
     /// Replaces `row` by the row of a place, if there is one.
-    pub fn take(&self, place: usize, row: &mut Vec<u64>) -> Result<(), AllocError>
+    pub fn take(&self, place: usize, row: &mut Vec<u16>) -> Result<(), AllocError>
         ensures { OnOk result (row.new.items ≡ inside_sweeps.row_or (sweeps.row_in self.now place)
             row.old.items) }
     {
@@ -84,7 +84,7 @@ impl Rows {
 
     /// Joins another row to the row of a place. An empty row becomes the other one. Returns whether
     /// the table grew.
-    pub fn join(&mut self, alloc: Global, place: usize, more: &[u64]) -> Result<bool, AllocError>
+    pub fn join(&mut self, alloc: Global, place: usize, more: &[u16]) -> Result<bool, AllocError>
         ensures row { IfOk result (λ _. self.new ≡ inside_sweeps.join_in self.old place more.now) }
         ensures same { result ≡ Ok false → self.new ≡ self.old }
         ensures grew { result ≡ Ok true → room self.new < room self.old }
@@ -98,7 +98,7 @@ impl Rows {
     }
 
     /// Joins another row to the row of a place, in the slots that it has.
-    pub fn meet(&mut self, place: usize, more: &[u64]) -> bool
+    pub fn meet(&mut self, place: usize, more: &[u16]) -> bool
         ensures row { self.new ≡ inside_sweeps.meet_in self.old place more.now }
         ensures same { result ≡ false → self.new ≡ self.old }
         ensures grew { result ≡ true → room self.new < room self.old }
@@ -111,7 +111,7 @@ impl Rows {
     }
 
     /// Writes the row of a place that has none.
-    fn fill(&mut self, alloc: Global, place: usize, row: &[u64]) -> Result<bool, AllocError>
+    fn fill(&mut self, alloc: Global, place: usize, row: &[u16]) -> Result<bool, AllocError>
         requires { sweeps.row_in self.old place ≡ [] }
         ensures row { IfOk result (λ _. self.new ≡ slice_set self.old place row.now) }
         ensures same { result ≡ Ok false → self.new ≡ self.old }
@@ -127,7 +127,7 @@ impl Rows {
 }
 
 /// Joins another row to a row, in the slots that it has. Returns whether it grew.
-fn join_words(row: &mut [u64], more: &[u64]) -> bool
+fn join_words(row: &mut [u16], more: &[u16]) -> bool
     ensures row { row.new ≡ inside_sweeps.or_from more.now 0 row.old }
     ensures same { result ≡ false → row.new ≡ row.old }
     ensures grew { result ≡ true → words_room row.new < words_room row.old }
@@ -144,7 +144,7 @@ fn join_words(row: &mut [u64], more: &[u64]) -> bool
 
 /// Adds bits to a word. Returns whether any was new.
 #[tactic(auto, using(crate::proofs::Rooms::raising))]
-fn raise(row: &mut [u64], slot: usize, bits: u64) -> bool
+fn raise(row: &mut [u16], slot: usize, bits: u16) -> bool
     requires { slot < length row.old }
     ensures row { row.new ≡ slice_set row.old slot (bit_or (words.word row.old slot) bits) }
     ensures same { result ≡ false → row.new ≡ row.old }
@@ -162,9 +162,9 @@ fn raise(row: &mut [u64], slot: usize, bits: u64) -> bool
 
 /// The word with more bits, which is greater, or `None` if it has them already.
 #[tactic(auto, using(std::proofs::lemmas::Nat::le_or_l))]
-fn raised(word: u64, bits: u64) -> Option<u64>
+fn raised(word: u16, bits: u16) -> Option<u16>
     ensures more { IfSome result (λ more. more ≡ bit_or word bits) }
-    ensures rises { IfSome result (λ more. (word < more) × (word < 2 ^ 64)) }
+    ensures rises { IfSome result (λ more. (word < more) × (word < 2 ^ 16)) }
     ensures none { result ≡ None → bit_or word bits ≡ word }
 {
     let more = word | bits;
@@ -172,7 +172,7 @@ fn raised(word: u64, bits: u64) -> Option<u64>
 }
 
 /// Replaces the words of a row.
-fn rewrite(row: &mut Vec<u64>, words: &[u64]) -> Result<(), AllocError>
+fn rewrite(row: &mut Vec<u16>, words: &[u16]) -> Result<(), AllocError>
     ensures { OnOk result (row.new.items ≡ words.now) }
 {
     row.clear();
@@ -181,7 +181,7 @@ fn rewrite(row: &mut Vec<u64>, words: &[u64]) -> Result<(), AllocError>
 }
 
 /// A copy of the row.
-pub fn copied(alloc: Global, row: &[u64]) -> Result<Vec<u64>, AllocError>
+pub fn copied(alloc: Global, row: &[u16]) -> Result<Vec<u16>, AllocError>
     ensures { IfOk result (λ all. all.items ≡ row.now) }
 {
     let mut all = Vec::new(alloc);

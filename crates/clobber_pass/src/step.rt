@@ -8,7 +8,7 @@ use crate::topic::Topic;
 use ir::{Instruction, Target};
 
 /// A load adds its field unless the field is surely written.
-fn read(topic: Topic, target: Target, row: &mut [u64])
+fn read(topic: Topic, target: Target, row: &mut [u16])
     ensures { row.new ≡ inside_rows.with_read topic target row.old }
 {
     match (topic, target) {
@@ -35,7 +35,7 @@ fn read(topic: Topic, target: Target, row: &mut [u64])
 }
 
 /// A store to a field that isn't an array makes it surely written.
-fn write(topic: Topic, target: Target, row: &mut [u64])
+fn write(topic: Topic, target: Target, row: &mut [u16])
     ensures { row.new ≡ inside_rows.with_write topic target row.old }
 {
     match (topic, target) {
@@ -61,14 +61,14 @@ fn write(topic: Topic, target: Target, row: &mut [u64])
 }
 
 /// A register takes a word.
-fn set(row: &mut [u64], register: u32, word: u64)
+fn set(row: &mut [u16], register: u32, word: u16)
     ensures { row.new ≡ inside_rows.row_given row.old register word }
 {
     put(row, register as usize + 2, word);
 }
 
 /// The effect on a row of an instruction that is no call.
-pub fn step(topic: Topic, instruction: &Instruction, row: &mut [u64])
+pub fn step(topic: Topic, instruction: &Instruction, row: &mut [u16])
     ensures { row.new ≡ inside_rows.after_row topic instruction.now row.old }
 {
     match instruction {

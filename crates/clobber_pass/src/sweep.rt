@@ -17,11 +17,11 @@ use std::alloc::{AllocError, Global};
 fn comes(
     exits: &Tables,
     function: usize,
-    row: &[u64],
+    row: &[u16],
     column: usize,
     at_call: usize,
     slot: usize,
-) -> u64
+) -> u16
     ensures { result ≡ inside_sweeps.comes (inside_sweeps.exits_of exits.now function) row.now
         column at_call slot }
 {
@@ -29,7 +29,7 @@ fn comes(
 }
 
 /// The same, from everything that the call records.
-fn gather(exits: &Tables, function: usize, row: &[u64], args: &[u32], slot: usize) -> u64
+fn gather(exits: &Tables, function: usize, row: &[u16], args: &[u32], slot: usize) -> u16
     ensures { result ≡ inside_sweeps.gather (inside_sweeps.exits_of exits.now function) row.now
         args.now slot }
 {
@@ -62,9 +62,9 @@ fn register_after(
     function: usize,
     to: usize,
     args: &[u32],
-    row: &[u64],
+    row: &[u16],
     register: usize,
-) -> u64
+) -> u16
     requires { register < 2 ^ 63 }
     ensures { result ≡ inside_sweeps.register_after (inside_sweeps.exits_of exits.now function) to
         args.now row.now register }
@@ -84,9 +84,9 @@ fn slot_after(
     function: usize,
     to: usize,
     args: &[u32],
-    row: &[u64],
+    row: &[u16],
     slot: usize,
-) -> u64
+) -> u16
     requires { slot < 2 ^ 63 }
     ensures { result ≡ inside_sweeps.slot_after (inside_sweeps.exits_of exits.now function) to
         args.now row.now slot }
@@ -105,8 +105,8 @@ fn call(
     function: usize,
     to: usize,
     args: &[u32],
-    row: &[u64],
-) -> Result<Vec<u64>, AllocError>
+    row: &[u16],
+) -> Result<Vec<u16>, AllocError>
     ensures { IfOk result (λ new. new.items ≡ inside_sweeps.call_from
         (inside_sweeps.exits_of exits.now function) to args.now row.now 0 row.now) }
 {
@@ -123,7 +123,7 @@ pub fn advance(
     topic: Topic,
     exits: &Tables,
     instruction: &Instruction,
-    row: &mut Vec<u64>,
+    row: &mut Vec<u16>,
 ) -> Result<(), AllocError>
     ensures { OnOk result (row.new.items ≡ inside_sweeps.next_row topic exits.now instruction.now
         row.old.items) }
@@ -160,7 +160,7 @@ fn target(end: usize, instruction: &Instruction) -> Option<usize>
 
 /// Joins a row to that of a place, and continues with the result. Returns whether the place's row
 /// grew.
-fn meet(rows: &mut Rows, place: usize, row: &mut Vec<u64>) -> Result<bool, AllocError>
+fn meet(rows: &mut Rows, place: usize, row: &mut Vec<u16>) -> Result<bool, AllocError>
     ensures rows { IfOk result (λ _. rows.new ≡ inside_sweeps.meet_in rows.old place
         row.old.items) }
     ensures row { IfOk result (λ _. row.new.items ≡ inside_sweeps.here_in rows.old place
@@ -176,7 +176,7 @@ fn meet(rows: &mut Rows, place: usize, row: &mut Vec<u64>) -> Result<bool, Alloc
 }
 
 /// Joins a row to that of the other place to which an instruction leads.
-fn lead(alloc: Global, rows: &mut Rows, to: Option<usize>, row: &[u64]) -> Result<bool, AllocError>
+fn lead(alloc: Global, rows: &mut Rows, to: Option<usize>, row: &[u16]) -> Result<bool, AllocError>
     ensures rows { IfOk result (λ _. rows.new ≡ inside_sweeps.rows_led rows.old to row.now) }
     ensures same { result ≡ Ok false → (rows.new ≡ rows.old)
         × (inside_sweeps.rows_led rows.old to row.now ≡ rows.old) }
@@ -196,7 +196,7 @@ fn visit(
     exits: &Tables,
     end: usize,
     rows: &mut Rows,
-    row: &mut Vec<u64>,
+    row: &mut Vec<u16>,
     place: usize,
     instruction: &Instruction,
 ) -> Result<bool, AllocError>
@@ -227,7 +227,7 @@ pub fn sweep(
     topic: Topic,
     exits: &Tables,
     code: &[Instruction],
-    entry: &[u64],
+    entry: &[u16],
     rows: &mut Rows,
 ) -> Result<bool, AllocError>
     ensures rows { IfOk result (λ _. rows.new ≡ inside_sweeps.swept topic exits.now
@@ -263,7 +263,7 @@ pub fn run(
     topic: Topic,
     exits: &Tables,
     code: &[Instruction],
-    entry: &[u64],
+    entry: &[u16],
 ) -> Result<Rows, AllocError>
     requires { length code.now < 2 ^ 31 }
     ensures closed { IfOk result (λ rows. Closed topic exits.now (length code.now) rows entry.now 0

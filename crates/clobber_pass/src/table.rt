@@ -38,9 +38,9 @@ fn function_row(
     exits: &Tables,
     tables: &Tables,
     function: usize,
-    entry: &[u64],
+    entry: &[u16],
     code: &[Instruction],
-) -> Result<Vec<u64>, AllocError>
+) -> Result<Vec<u16>, AllocError>
     ensures { IfOk result (λ marks.
         marks.items ≡ marks_from topic exits.now (inside_sweeps.exits_of tables.now function)
         entry.now 0 code.now) }

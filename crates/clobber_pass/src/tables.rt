@@ -28,7 +28,7 @@ impl Model for Tables {
 impl Tables {
     /// A word of a function's row, or 0 if there is none.
     #[tactic(auto, using(crate::proofs::Lookup::lookup))]
-    pub fn word(&self, function: usize, row: usize, slot: usize) -> u64
+    pub fn word(&self, function: usize, row: usize, slot: usize) -> u16
         ensures { result ≡ inside_sweeps.exit (inside_sweeps.exits_of self.now function) row slot }
     {
         match self.functions.get(function) {
@@ -44,7 +44,7 @@ impl Tables {
         alloc: Global,
         function: usize,
         row: usize,
-        more: &[u64],
+        more: &[u16],
     ) -> Result<bool, AllocError>
         ensures row { IfOk result (λ _. self.new ≡ joined_exits self.old function row more.now) }
         ensures same { result ≡ Ok false → (self.new ≡ self.old)

@@ -56,7 +56,7 @@ pub data Made (topic : Topic) (exits : List (List (List ℕ))) (entry : List ℕ
 
 -- the row at a function's entry, for one column
 abbrev pub entry_word : ℕ → ℕ → ℕ → ℕ
-entry_word n c s = if column_of n s == c then 2 ^ 64 - 1 else 0
+entry_word n c s = if column_of n s == c then 2 ^ 16 - 1 else 0
 
 abbrev pub entry_from : ℕ → ℕ → ℕ → ℕ → List ℕ
 entry_from n c s zero = []

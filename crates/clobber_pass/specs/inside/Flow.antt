@@ -65,7 +65,7 @@ AllBrought functions topic exits rows entries row p (i ∷ is) =
 -- what entries record is derived
 pub record SoundEntries (functions : List IrFunction) (topic : Topic) (entries : List (List ℕ)) :
     Type 0 where
-  pub flows : (x f : ℕ) (b : Fact) → x < 64 → is_about (class_at topic x) b ≡ true
+  pub flows : (x f : ℕ) (b : Fact) → x < 16 → is_about (class_at topic x) b ≡ true
       → tells (row_in entries f) x (slot b) ≡ true → Flows functions f 0 b
 
 pub record ShapedEntries (functions : List IrFunction) (topic : Topic) (entries : List (List ℕ)) :

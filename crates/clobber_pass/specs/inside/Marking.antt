@@ -111,8 +111,8 @@ pub record Headers (functions : List IrFunction) (table : List (List ℕ)) : Typ
 
 -- the topic of a target's class
 abbrev pub topic_of : Target → Topic
-topic_of (Root y i) = Roots (y - y % 64)
-topic_of (Field b t y i) = Fields t (y - y % 64)
+topic_of (Root y i) = Roots (y - y % 16)
+topic_of (Field b t y i) = Fields t (y - y % 16)
 
 -- in one function, the clobber stores and fills of a topic are marked
 pub record Marked (functions : List IrFunction) (topic : Topic) (table : List (List ℕ)) (f : ℕ) :

@@ -1,13 +1,13 @@
--- The room that a table leaves, which is how far its words are below 2^64. An empty row leaves more
+-- The room that a table leaves, which is how far its words are below 2^16. An empty row leaves more
 -- room than any row of words. Each bit that is added takes some room, so the sweeps end.
 use Rattle.std.specs.Prelude.{◌+◌, ◌-◌, ◌*◌, ◌^◌, ℕ, List, [], ◌∷◌}
 
 abbrev pub words_room : List ℕ → ℕ
 words_room [] = 0
-words_room (w ∷ ws) = (2 ^ 64 - w) + words_room ws
+words_room (w ∷ ws) = (2 ^ 16 - w) + words_room ws
 
 abbrev pub row_room : List ℕ → ℕ
-row_room [] = 2 ^ 64 * 2 ^ 64 + 1
+row_room [] = 2 ^ 16 * 2 ^ 64 + 1
 row_room (w ∷ ws) = words_room (w ∷ ws)
 
 abbrev pub room : List (List ℕ) → ℕ

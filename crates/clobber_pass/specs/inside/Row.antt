@@ -11,7 +11,7 @@ use Rattle.clobber_pass.specs.Row.{word}
 -- the bit of a field, counted from the first field of a topic
 unfoldable pub mask : ℕ → ℕ → ℕ
 mask first field = if nat_lt field first then 0
-    else (if nat_lt (field - first) 64 then 2 ^ (field - first) else 0)
+    else (if nat_lt (field - first) 16 then 2 ^ (field - first) else 0)
 
 unfoldable pub without : ℕ → ℕ → ℕ
 without w bits = bit_xor w (bit_and w bits)

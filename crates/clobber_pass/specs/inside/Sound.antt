@@ -18,6 +18,6 @@ Backed functions class g c y = (e : Fact) × (q : ℕ) × (is_about class e ≡ 
 
 pub record SoundExits (functions : List IrFunction) (topic : Topic) (exits : List (List (List ℕ))) :
     Type 0 where
-  pub backed : (x g c : ℕ) (y : Fact) → x < 64 → is_about (class_at topic x) y ≡ true
+  pub backed : (x g c : ℕ) (y : Fact) → x < 16 → is_about (class_at topic x) y ≡ true
       → has_bit x (exit (exits_of exits g) c (slot y)) ≡ true
       → Backed functions (class_at topic x) g c y
