@@ -18,7 +18,8 @@ use Rattle.pm_machine.specs.declared.effect.End.TheVariants.{Halted, Trapped}
 use Rattle.pm_machine.specs.declared.image.Image.{Image}
 use Rattle.pm_machine.specs.Effects.{heap_past, records_past, heap_end}
 use Rattle.pm_machine.specs.Machine.{State, StepOutcome, Goes, Ends, Run, Finished, began, follow}
-use Rattle.pm_machine.specs.Machine.{tally, step, execute, fetch, log, store, target, read_register, stored}
+use Rattle.pm_machine.specs.Machine.{tally, step, execute, fetch, log, store, target, read_register}
+use Rattle.pm_machine.specs.Machine.{stored}
 use Rattle.pm_machine.specs.Machine.{passed, stored_by, due_store, run}
 use Rattle.pm_machine.proofs.Fuel.{began_rest}
 use Rattle.crash_law.specs.Due.{is_listed}

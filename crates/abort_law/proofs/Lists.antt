@@ -17,7 +17,8 @@ use Rattle.pool_layout.specs.Sizes.{heap_words}
 use Rattle.pool_layout.specs.Places.{at, pool_of}
 use Rattle.pool_layout.proofs.Records.{count_is}
 use Rattle.clobber_log.specs.Logs.{attempt_of, count_in}
-use Rattle.clobber_log.specs.Restore.{as_heap_word, back_at, fence_after, back_events, restore_events, word_in_record, old_in_record}
+use Rattle.clobber_log.specs.Restore.{as_heap_word, back_at, fence_after, back_events}
+use Rattle.clobber_log.specs.Restore.{restore_events, word_in_record, old_in_record}
 use Rattle.pool_layout.specs.Log.{count}
 use Rattle.args_log.specs.Retire.{retire_events}
 use Rattle.pool_map.specs.declared.trap.TrapKind.{TrapKind}
@@ -38,7 +39,8 @@ use Rattle.run_law.proofs.Runs.{due_run_is}
 use Rattle.cut_law.proofs.Misses.{view_missed, misses_run}
 use Rattle.cut_law.proofs.Dues.{next_is, attempt_small}
 use Rattle.cut_law.proofs.Backs.{misses_restore, restore_same}
-use Rattle.undo_law.specs.Undo.{Every, IsMarkedTrace, Records, no_records, with_record, records_after}
+use Rattle.undo_law.specs.Undo.{Every, IsMarkedTrace, Records, no_records, with_record}
+use Rattle.undo_law.specs.Undo.{records_after}
 use Rattle.undo_law.specs.Undo.{undo_events, due_undone}
 use Rattle.abort_mode.specs.Due.{abort_due_on, retiring, due_undo, abort_tail_events, due_run}
 use Rattle.abort_law.specs.Machine.{run_marked}

@@ -29,8 +29,10 @@ use Rattle.pm_machine.specs.declared.effect.End.TheVariants.{Trapped}
 use Rattle.pm_machine.specs.declared.image.Image.{Image}
 use Rattle.pm_machine.specs.Effects.{heap_past, records_past, events_of}
 use Rattle.pm_machine.specs.Machine.{State, StepOutcome, Goes, Ends, Run, Finished, began, follow}
-use Rattle.pm_machine.specs.Machine.{tally, step, execute, fetch, load, store, log, flush, call, return}
-use Rattle.pm_machine.specs.Machine.{target, read_register, address_index, passed, entered, tick_spent}
+use Rattle.pm_machine.specs.Machine.{tally, step, execute, fetch, load, store, log, flush, call}
+use Rattle.pm_machine.specs.Machine.{return}
+use Rattle.pm_machine.specs.Machine.{target, read_register, address_index, passed, entered}
+use Rattle.pm_machine.specs.Machine.{tick_spent}
 use Rattle.pm_machine.specs.Machine.{stored_by, due_store}
 use Rattle.pm_machine.specs.Runs.{heap_in, effect_in}
 use Rattle.pm_machine.specs.inside.Runs.{IsInRange}

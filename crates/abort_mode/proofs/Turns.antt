@@ -35,7 +35,8 @@ use Rattle.pm_machine.proofs.Range.{keeps_progress, records_fit}
 use Rattle.abort_mode.specs.declared.running.Logging.TheVariants.{Not, Added, Full}
 use Rattle.abort_mode.specs.declared.running.Turn.{Turn}
 use Rattle.abort_mode.specs.declared.running.Turn.TheVariants.{Went, Over}
-use Rattle.abort_mode.specs.Runs.{has_record, wanted, append_events, events_before, Rest, step_events}
+use Rattle.abort_mode.specs.Runs.{has_record, wanted, append_events, events_before, Rest}
+use Rattle.abort_mode.specs.Runs.{step_events}
 use Rattle.abort_mode.specs.Runs.{stepping, full}
 use Rattle.abort_mode.specs.Runs.{turning, due_marked}
 use Rattle.abort_mode.specs.inside.Turns.{logging, first_events, due_first, TurnLeads, TurnKept}

@@ -11,7 +11,8 @@ ghost use Rattle.pm_machine.specs.Effects.{records_past};
 ghost use Rattle.pm_machine.specs.Known.{AreInUseOn};
 ghost use Rattle.pm_machine.specs.Runs.{AreLines, end_of};
 ghost use Rattle.abort_mode.specs.Runs.{has_record, words_in, wanted, due_all};
-ghost use Rattle.abort_mode.specs.inside.Turns.{logging, due_first, TurnStepped, TookTurn, TurnKept};
+ghost use Rattle.abort_mode.specs.inside.Turns.{logging, due_first, TurnStepped, TookTurn};
+ghost use Rattle.abort_mode.specs.inside.Turns.{TurnKept};
 
 use clobber_log::append_record;
 use nvm_base::Steps;

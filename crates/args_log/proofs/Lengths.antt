@@ -1,9 +1,11 @@
 -- The number of events of each part of a call.
-use Rattle.std.proofs.Common.{◌≡◌, ℕ, zero, suc, ◌+◌, ℤ, List, [], ◌∷◌, ◌++◌, length, refl, ap, arith}
+use Rattle.std.proofs.Common.{◌≡◌, ℕ, zero, suc, ◌+◌, ℤ, List, [], ◌∷◌, ◌++◌, length, refl, ap}
+use Rattle.std.proofs.Common.{arith}
 use Rattle.std.proofs.lemmas.List.{length-append}
 use Rattle.cache_model.specs.Event.{Store, Fence}
 use Rattle.pool_layout.specs.declared.places.TheConstants.{FUNCTION, SEAL}
-use Rattle.args_log.specs.Seal.{stores_from, flushes_from, payload_lines, payload_events, unsealed_events, sealing_events, seal_events}
+use Rattle.args_log.specs.Seal.{stores_from, flushes_from, payload_lines, payload_events}
+use Rattle.args_log.specs.Seal.{unsealed_events, sealing_events, seal_events}
 use Rattle.args_log.specs.Retire.{retire_events, mark_events}
 
 stores_length : (w : ℕ) (xs : List ℤ) → length (stores_from w xs) ≡ length xs

@@ -1,5 +1,7 @@
 -- How far a seal has come, from the versions of its line.
-use Rattle.std.proofs.Common.{◌≡◌, ◌≢◌, ◌≤◌, ◌+◌, inl, inr, ⊎_elim, ℕ, zero, suc, Bool, true, false, ◌||◌, ◌&&◌, Option, Some, List, [], ◌∷◌, ◌++◌, length, ℤ, refl, sym, ap, ◌∙◌, subst, arith, int_eq}
+use Rattle.std.proofs.Common.{◌≡◌, ◌≢◌, ◌≤◌, ◌+◌, inl, inr, ⊎_elim, ℕ, zero, suc, Bool, true, false}
+use Rattle.std.proofs.Common.{◌||◌, ◌&&◌, Option, Some, List, [], ◌∷◌, ◌++◌, length, ℤ, refl, sym}
+use Rattle.std.proofs.Common.{ap, ◌∙◌, subst, arith, int_eq}
 use Rattle.std.specs.List.{list_all, list_any}
 use Rattle.std.proofs.lemmas.Bool.Decides.{Decides-int_eq}
 use Rattle.std.proofs.lemmas.List.{drop_all}
@@ -8,13 +10,15 @@ use Rattle.cache_model.specs.Event.{CacheEvent, Store, Flush, Fence}
 use Rattle.cache_model.specs.Cache.{Words, put, Line, Cache, versions}
 use Rattle.cache_model.specs.Play.{store_line, flush_line, fence_line, fence_at, mark_of, apply}
 use Rattle.cache_model.specs.Image.{Among}
-use Rattle.cache_model.proofs.Versions.{put_same, put_other, store_version, flush_version, fence_version}
+use Rattle.cache_model.proofs.Versions.{put_same, put_other, store_version, flush_version}
+use Rattle.cache_model.proofs.Versions.{fence_version}
 use Rattle.pmem.specs.Device.{Device, spent}
 use Rattle.pmem.specs.Played.{PlaysAll, PlaysPart}
 use Rattle.pmem.specs.declared.answer.Phase.TheVariants.{Unsealed, Sealing, Sealed}
 use Rattle.pmem.specs.declared.answer.Refusal.TheVariants.{Off}
 use Rattle.pool_layout.specs.declared.places.TheConstants.{FUNCTION, SEAL}
-use Rattle.args_log.specs.Seal.{stores_from, flushes_from, payload_lines, payload_events, unsealed_events, sealing_events, seal_events}
+use Rattle.args_log.specs.Seal.{stores_from, flushes_from, payload_lines, payload_events}
+use Rattle.args_log.specs.Seal.{unsealed_events, sealing_events, seal_events}
 use Rattle.args_log.specs.Sealing.{WentAfter}
 use Rattle.args_log.specs.Phase.{has_seal, phase_of}
 use Rattle.args_log.specs.PhaseLaw.{LacksSeal}

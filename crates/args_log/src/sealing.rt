@@ -1,6 +1,7 @@
 //! Sealing a call.
 
-ghost use Rattle.std.specs.Prelude.{◌≡◌, ◌≤◌, ◌+◌, ◌<◌, ◌++◌, [], ◌∷◌, ℕ, suc, pos, true, false, OnOk, IfErr, length, take};
+ghost use Rattle.std.specs.Prelude.{◌≡◌, ◌≤◌, ◌+◌, ◌<◌, ◌++◌, [], ◌∷◌, ℕ, suc, pos, true, false};
+ghost use Rattle.std.specs.Prelude.{OnOk, IfErr, length, take};
 ghost use Rattle.std.specs.Int.{w64, cast_signed};
 ghost use Rattle.cache_model.specs.Cache.{view};
 ghost use Rattle.cache_model.specs.Event.{Store, Fence};
@@ -8,7 +9,8 @@ ghost use Rattle.pmem.specs.Played.{PlaysAll, PlaysPart};
 ghost use Rattle.pmem.specs.declared.answer.Phase.TheVariants as at_phase;
 ghost use Rattle.pool_layout.specs.declared.places.TheConstants.{DONE};
 ghost use Rattle.args_log.specs.Next.{number_after};
-ghost use Rattle.args_log.specs.Seal.{stores_from, flushes_from, payload_lines, payload_events, unsealed_events, sealing_events, seal_events};
+ghost use Rattle.args_log.specs.Seal.{stores_from, flushes_from, payload_lines, payload_events};
+ghost use Rattle.args_log.specs.Seal.{unsealed_events, sealing_events, seal_events};
 ghost use Rattle.args_log.specs.Sealing.{Seals};
 
 use crate::following_number::following;

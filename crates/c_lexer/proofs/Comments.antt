@@ -1,6 +1,7 @@
 -- One more byte of a comment that doesn't end there. The code sees the bytes from a place on as
 -- `take (length bytes - at) (drop at bytes)`.
-use Rattle.std.proofs.Common.{◌≡◌, ℕ, ◌+◌, ◌-◌, ◌<◌, List, ◌∷◌, length, take, drop, get_or, false, refl, add-one, drop-cons}
+use Rattle.std.proofs.Common.{◌≡◌, ℕ, ◌+◌, ◌-◌, ◌<◌, List, ◌∷◌, length, take, drop, get_or, false}
+use Rattle.std.proofs.Common.{refl, add-one, drop-cons}
 use Rattle.std.proofs.lemmas.List.{take_rest}
 use Rattle.std.specs.Prelude.{codes, nat_eq}
 use Rattle.std.specs.List.{starts_with}

@@ -1,5 +1,6 @@
 -- The cut at a place: the effect of its first piece, and the cut after that piece.
-use Rattle.std.proofs.Common.{◌≡◌, ℕ, zero, suc, ◌-◌, ◌<◌, ◌≤◌, List, [], ◌∷◌, length, take, drop, get_or, sub-one, arith, refl}
+use Rattle.std.proofs.Common.{◌≡◌, ℕ, zero, suc, ◌-◌, ◌<◌, ◌≤◌, List, [], ◌∷◌, length, take, drop}
+use Rattle.std.proofs.Common.{get_or, sub-one, arith, refl}
 use Rattle.std.specs.Prelude.{Ok}
 use Rattle.c_lexer.specs.declared.spot.Spot.{Spot}
 use Rattle.c_lexer.specs.Cuts.{Cut, begin_piece, cut_left, end_of}

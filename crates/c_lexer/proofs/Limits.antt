@@ -1,5 +1,6 @@
 -- The limit of 16,384 tokens, applied to a cut with tokens kept before it.
-use Rattle.std.proofs.Common.{◌≡◌, ℕ, ◌≤◌, List, [], ◌∷◌, ◌++◌, length, true, false, arith, refl, sym, ap, length-append, append_assoc, append-nil}
+use Rattle.std.proofs.Common.{◌≡◌, ℕ, ◌≤◌, List, [], ◌∷◌, ◌++◌, length, true, false, arith, refl}
+use Rattle.std.proofs.Common.{sym, ap, length-append, append_assoc, append-nil}
 use Rattle.std.proofs.lemmas.Bool.Decides.{nat_tests}
 use Rattle.std.specs.Prelude.{Ok, Err, nat_lt}
 use Rattle.c_lexer.specs.declared.fault.LexFault.{LexFault}

@@ -1,5 +1,6 @@
 -- A mark has at least one byte.
-use Rattle.std.proofs.Common.{◌≡◌, ℕ, ◌<◌, List, [], ◌∷◌, length, Bool, true, false, ◌&&◌, Option, Some, arith, refl}
+use Rattle.std.proofs.Common.{◌≡◌, ℕ, ◌<◌, List, [], ◌∷◌, length, Bool, true, false, ◌&&◌, Option}
+use Rattle.std.proofs.Common.{Some, arith, refl}
 use Rattle.std.proofs.lemmas.Bool.Decides.{nat_tests}
 use Rattle.std.specs.Prelude.{IfSome, nat_eq, nat_lt, if◌then◌else◌}
 use Rattle.std.specs.List.{list_all, starts_with}

@@ -1,5 +1,7 @@
 -- Digits after a value that is too large make no number.
-use Rattle.std.proofs.Common.{◌≡◌, ℕ, ℤ, ◌+◌, ◌*◌, ◌^◌, ◌<◌, ◌≤◌, List, [], ◌∷◌, length, drop, get_or, Bool, true, false, ◌&&◌, Option, arith, refl, add-one, drop-cons}
+use Rattle.std.proofs.Common.{◌≡◌, ℕ, ℤ, ◌+◌, ◌*◌, ◌^◌, ◌<◌, ◌≤◌, List, [], ◌∷◌, length, drop}
+use Rattle.std.proofs.Common.{get_or, Bool, true, false, ◌&&◌, Option, arith, refl, add-one}
+use Rattle.std.proofs.Common.{drop-cons}
 use Rattle.std.proofs.Math.Nat.{mul-le-mul_left}
 use Rattle.std.specs.Prelude.{◌-◌, None, nat_le, if◌then◌else◌}
 use Rattle.std.specs.Char.{digit_value}

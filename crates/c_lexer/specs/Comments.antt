@@ -2,7 +2,8 @@
 -- after these two bytes, so `/*/` doesn't close itself. A skipped line begins with `#`, then spaces
 -- and tabs, then `include`; whether the `#` is the line's first byte other than a space or tab is
 -- known from the bytes before it.
-use Rattle.std.specs.Prelude.{ℕ, List, [], ◌∷◌, drop, ◌+◌, Bool, Option, Some, None, nat_eq, ◌&&◌, if◌then◌else◌, codes}
+use Rattle.std.specs.Prelude.{ℕ, List, [], ◌∷◌, drop, ◌+◌, Bool, Option, Some, None, nat_eq, ◌&&◌}
+use Rattle.std.specs.Prelude.{if◌then◌else◌, codes}
 use Rattle.std.specs.List.{starts_with, prefix_len}
 use Rattle.c_lexer.specs.Bytes.{is_indent}
 

@@ -2,7 +2,8 @@
 -- next one; so the pieces follow one another up to the end of the text or the first refusal.
 -- Blanks, comments and skipped lines give no token; a token is kept with the line on which it
 -- begins and the number of bytes before it.
-use Rattle.std.specs.Prelude.{◌≡◌, ℕ, zero, suc, List, [], ◌∷◌, ◌++◌, length, ◌-◌, ◌≤◌, Result, Ok, Err, nat_lt, if◌then◌else◌}
+use Rattle.std.specs.Prelude.{◌≡◌, ℕ, zero, suc, List, [], ◌∷◌, ◌++◌, length, ◌-◌, ◌≤◌, Result, Ok}
+use Rattle.std.specs.Prelude.{Err, nat_lt, if◌then◌else◌}
 use Rattle.c_lexer.specs.declared.fault.LexFault.{LexFault}
 use Rattle.c_lexer.specs.declared.fault.LexFault.TheVariants.{TooLong}
 use Rattle.c_lexer.specs.declared.piece.Piece.{Piece}

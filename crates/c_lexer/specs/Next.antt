@@ -1,7 +1,8 @@
 -- The piece at a place: a comment, a blank, a skipped line, a number, a name or word, or the
 -- longest mark that fits; or the refusal of the byte there. `left` is the text from the place on,
 -- which isn't empty.
-use Rattle.std.specs.Prelude.{ℕ, ℤ, List, take, ◌<◌, ◌≤◌, Option, Some, None, nat_eq, ◌&&◌, ◌||◌, if◌then◌else◌, codes, slice_index}
+use Rattle.std.specs.Prelude.{ℕ, ℤ, List, take, ◌<◌, ◌≤◌, Option, Some, None, nat_eq, ◌&&◌, ◌||◌}
+use Rattle.std.specs.Prelude.{if◌then◌else◌, codes, slice_index}
 use Rattle.std.specs.List.{starts_with}
 use Rattle.std.specs.Char.{is_ascii_digit}
 use Rattle.c_lexer.specs.declared.fault.LexFault.TheVariants.{BadByte, BadNumber, OpenComment}

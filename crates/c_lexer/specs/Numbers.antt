@@ -1,7 +1,8 @@
 -- The numbers: `0`; or a digit from 1 to 9 followed by digits; or `0x` or `0X` followed by at least
 -- one hexadecimal digit. The value is at most 9223372036854775807. Nothing else that begins with a
 -- digit is a number.
-use Rattle.std.specs.Prelude.{ℕ, ℤ, pos, List, length, drop, Option, Some, None, nat_eq, nat_lt, nat_le, ◌==◌, ◌&&◌, ◌||◌, ◌^◌, ◌-◌, if◌then◌else◌, codes, slice_index}
+use Rattle.std.specs.Prelude.{ℕ, ℤ, pos, List, length, drop, Option, Some, None, nat_eq, nat_lt}
+use Rattle.std.specs.Prelude.{nat_le, ◌==◌, ◌&&◌, ◌||◌, ◌^◌, ◌-◌, if◌then◌else◌, codes, slice_index}
 use Rattle.std.specs.Char.{is_digit}
 use Rattle.std.specs.List.{list_all, starts_with}
 use Rattle.std.specs.Str.Parse.{digits_value_after}

@@ -1,6 +1,7 @@
 -- The words that no name may be: the profile's own, and those that C reserves and the profile never
 -- accepts. Any other run of letters, digits and `_` that doesn't begin with a digit is a name.
-use Rattle.std.specs.Prelude.{ℕ, List, [], ◌∷◌, Option, Some, None, Bool, true, false, if◌then◌else◌, codes}
+use Rattle.std.specs.Prelude.{ℕ, List, [], ◌∷◌, Option, Some, None, Bool, true, false}
+use Rattle.std.specs.Prelude.{if◌then◌else◌, codes}
 use Rattle.std.specs.List.{list_any}
 use Rattle.std.specs.Str.{bytes_eq}
 use Rattle.c_lexer.specs.declared.token.Word.{Word}

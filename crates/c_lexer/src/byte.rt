@@ -2,7 +2,8 @@
 
 ghost use Rattle.std.specs.Prelude.{◌≡◌, ◌<◌, ◌≤◌, length, slice_index, true};
 ghost use Rattle.std.specs.List.{prefix_len};
-ghost use Rattle.c_lexer.specs.Bytes.{is_indent, is_blank, begins_name, is_word_byte, run_len, line_len};
+ghost use Rattle.c_lexer.specs.Bytes.{is_indent, is_blank, begins_name, is_word_byte, run_len};
+ghost use Rattle.c_lexer.specs.Bytes.{line_len};
 
 /// A space or a tab.
 pub(crate) fn is_indent(byte: u8) -> bool

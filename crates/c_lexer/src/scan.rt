@@ -1,7 +1,9 @@
 //! The text as tokens.
 
-ghost use Rattle.std.specs.Prelude.{◌≡◌, ◌⊎◌, ℕ, ◌-◌, ◌<◌, ◌≤◌, [], ◌∷◌, ◌++◌, length, IfOk, IfErr, OnOk};
-ghost use Rattle.c_lexer.specs.Cuts.{Cut, Cuts, IsWithinLimits, begin_piece, cut, limited, answer, placed_at};
+ghost use Rattle.std.specs.Prelude.{◌≡◌, ◌⊎◌, ℕ, ◌-◌, ◌<◌, ◌≤◌, [], ◌∷◌, ◌++◌, length, IfOk, IfErr};
+ghost use Rattle.std.specs.Prelude.{OnOk};
+ghost use Rattle.c_lexer.specs.Cuts.{Cut, Cuts, IsWithinLimits, begin_piece, cut, limited, answer};
+ghost use Rattle.c_lexer.specs.Cuts.{placed_at};
 ghost use Rattle.c_lexer.specs.inside.Cuts.{after_tokens};
 ghost use Rattle.c_lexer.specs.TokenList.{Tokens};
 ghost use Rattle.c_lexer.specs.inside.Next.{PieceFits};

@@ -1,17 +1,21 @@
 -- How expressions reach the pool. A pointer is a slot's number, and 0 leads nowhere. The checks are
 -- null, stale and index, in this order; a field of the root has only the last.
-use Rattle.std.specs.Prelude.{ℕ, zero, suc, ℤ, pos, negsuc, ◌+◌, ◌^◌, min, ◌-◌, length, List, Bool, false, Option, None, Some, Result, Ok, Err, option_map, option_and_then, slice_get, nat_lt, nat_eq, if◌then◌else◌}
+use Rattle.std.specs.Prelude.{ℕ, zero, suc, ℤ, pos, negsuc, ◌+◌, ◌^◌, min, ◌-◌, length, List, Bool}
+use Rattle.std.specs.Prelude.{false, Option, None, Some, Result, Ok, Err, option_map}
+use Rattle.std.specs.Prelude.{option_and_then, slice_get, nat_lt, nat_eq, if◌then◌else◌}
 use Rattle.std.specs.Option.{option_map_or}
-use Rattle.c_parser.specs.ExprTree.{ExprTree}
-use Rattle.c_parser.specs.ExprTree as expr
+use Rattle.c_tree.specs.ExprTree.{ExprTree}
+use Rattle.c_tree.specs.ExprTree as expr
 use Rattle.c_types.specs.declared.value_type.ValueType.{ValueType}
 use Rattle.c_types.specs.declared.value_type.ValueType.TheVariants.{Int, Pointer, Null, Any}
 use Rattle.c_types.specs.Expressions.{type_of}
-use Rattle.c_types.specs.Tables.{Tables, StructTree, index_of, field_names, field_named, root_struct, struct_named, field_start, words_at, number_at}
+use Rattle.c_types.specs.Tables.{Tables, StructTree, index_of, field_names, field_named}
+use Rattle.c_types.specs.Tables.{root_struct, struct_named, field_start, words_at, number_at}
 use Rattle.pool_map.specs.declared.object.Object.{Object}
 use Rattle.pool_map.specs.declared.trap.TrapKind.{TrapKind}
 use Rattle.pool_map.specs.declared.trap.TrapKind.TheVariants as trap
-use Rattle.pool_map.specs.PoolMap.{PoolMap, object_at, least_free, new, free, read, write, read_root, write_root}
+use Rattle.pool_map.specs.PoolMap.{PoolMap, object_at, least_free, new, free, read, write}
+use Rattle.pool_map.specs.PoolMap.{read_root, write_root}
 use Rattle.c_meaning.specs.declared.word.Word.{Word}
 use Rattle.c_meaning.specs.declared.word.Word.TheVariants.{Root, Field}
 use Rattle.c_meaning.specs.Locals.{Local, scopes_of}

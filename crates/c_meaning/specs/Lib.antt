@@ -3,5 +3,3 @@ pub mod Access
 pub mod Operators
 pub mod Meaning
 pub mod Transaction
-pub mod Answers
-pub mod inside

@@ -1,8 +1,9 @@
 -- The locals of an open function are a list, newest first. A name means the newest local that has
 -- it, so an inner name hides an outer one; at the end of a scope the locals from before it are
 -- left.
-use Rattle.std.specs.Prelude.{ℕ, ℤ, pos, ◌-◌, List, [], ◌∷◌, length, drop, slice_index_or, if◌then◌else◌, bytes_eq}
-use Rattle.c_parser.specs.ItemTree.{ParameterTree}
+use Rattle.std.specs.Prelude.{ℕ, ℤ, pos, ◌-◌, List, [], ◌∷◌, length, drop, slice_index_or}
+use Rattle.std.specs.Prelude.{if◌then◌else◌, bytes_eq}
+use Rattle.c_tree.specs.ItemTree.{ParameterTree}
 use Rattle.c_types.specs.declared.value_type.ValueType.{ValueType}
 use Rattle.c_types.specs.Expressions.{Scope}
 use Rattle.c_types.specs.Tables.{Tables, declared_type}

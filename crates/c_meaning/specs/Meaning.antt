@@ -5,26 +5,28 @@
 -- The outer recursion is on `room`, the number of functions that may still be opened, and the inner
 -- one on the tree, to which the calls are passed as a function. A loop is a recursion on the ticks
 -- left when it begins, since each of its turns takes one.
-use Rattle.std.specs.Prelude.{ℕ, zero, suc, ℤ, pos, negsuc, Bool, true, false, List, [], ◌∷◌, length, Option, None, Some, Result, Ok, Err, if◌then◌else◌}
+use Rattle.std.specs.Prelude.{ℕ, zero, suc, ℤ, pos, negsuc, Bool, true, false, List, [], ◌∷◌}
+use Rattle.std.specs.Prelude.{length, Option, None, Some, Result, Ok, Err, if◌then◌else◌}
 use Rattle.std.specs.Option.{option_map_or}
-use Rattle.c_parser.specs.ExprTree.{ExprTree, Arguments}
-use Rattle.c_parser.specs.ExprTree as expr
-use Rattle.c_parser.specs.StmtTree.{StmtTree, Statements, SimpleTree, FirstTree, DeclarationTree}
-use Rattle.c_parser.specs.StmtTree as stmt
-use Rattle.c_parser.specs.ItemTree.{FunctionTree}
-use Rattle.c_parser.specs.declared.expr.BinaryOp.{BinaryOp}
-use Rattle.c_parser.specs.declared.expr.BinaryOp.TheVariants as binary
-use Rattle.c_parser.specs.declared.stmt.AssignOp.{AssignOp}
-use Rattle.c_parser.specs.declared.stmt.AssignOp.TheVariants as assign
-use Rattle.c_parser.specs.declared.stmt.StepOp.{StepOp}
-use Rattle.c_parser.specs.declared.stmt.StepOp.TheVariants as step
+use Rattle.c_tree.specs.ExprTree.{ExprTree, Arguments}
+use Rattle.c_tree.specs.ExprTree as expr
+use Rattle.c_tree.specs.StmtTree.{StmtTree, Statements, SimpleTree, FirstTree, DeclarationTree}
+use Rattle.c_tree.specs.StmtTree as stmt
+use Rattle.c_tree.specs.ItemTree.{FunctionTree}
+use Rattle.c_tree.specs.declared.expr.BinaryOp.{BinaryOp}
+use Rattle.c_tree.specs.declared.expr.BinaryOp.TheVariants as binary
+use Rattle.c_tree.specs.declared.stmt.AssignOp.{AssignOp}
+use Rattle.c_tree.specs.declared.stmt.AssignOp.TheVariants as assign
+use Rattle.c_tree.specs.declared.stmt.StepOp.{StepOp}
+use Rattle.c_tree.specs.declared.stmt.StepOp.TheVariants as step
 use Rattle.c_types.specs.Tables.{Tables, function_named, declared_type}
 use Rattle.pool_map.specs.declared.trap.TrapKind.{TrapKind}
 use Rattle.pool_map.specs.declared.trap.TrapKind.TheVariants as trap
 use Rattle.pool_map.specs.PoolMap.{PoolMap}
 use Rattle.c_meaning.specs.Locals.{Local, value_named, assigned, oldest, local_declared, bound}
 use Rattle.c_meaning.specs.declared.word.Word.{Word}
-use Rattle.c_meaning.specs.Access.{read_word, write_word, target_field, word_named, new_object, free_object}
+use Rattle.c_meaning.specs.Access.{read_word, write_word, target_field, word_named, new_object}
+use Rattle.c_meaning.specs.Access.{free_object}
 use Rattle.c_meaning.specs.Operators.{unary_of, binary_of}
 
 -- a value, the pool and the ticks left; or a trap

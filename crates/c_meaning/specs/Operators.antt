@@ -1,10 +1,10 @@
 -- The operators on words. `-e` is 0 - e, and `~e` is -1 ^ e, which differs from e in every bit. A
 -- comparison, `!`, `&&` and `||` give 0 or 1, and a quotient or a remainder by 0 is no word.
 use Rattle.std.specs.Prelude.{ℤ, pos, negsuc, ◌==◌, Option, None, Some, if◌then◌else◌}
-use Rattle.c_parser.specs.declared.expr.UnaryOp.{UnaryOp}
-use Rattle.c_parser.specs.declared.expr.UnaryOp.TheVariants.{Negate, Not, Complement}
-use Rattle.c_parser.specs.declared.expr.BinaryOp.{BinaryOp}
-use Rattle.c_parser.specs.declared.expr.BinaryOp.TheVariants as binary
+use Rattle.c_tree.specs.declared.expr.UnaryOp.{UnaryOp}
+use Rattle.c_tree.specs.declared.expr.UnaryOp.TheVariants.{Negate, Not, Complement}
+use Rattle.c_tree.specs.declared.expr.BinaryOp.{BinaryOp}
+use Rattle.c_tree.specs.declared.expr.BinaryOp.TheVariants as binary
 use Rattle.nvm_base.specs.Operations as word
 
 abbrev pub unary_of : UnaryOp → ℤ → ℤ

@@ -2,7 +2,7 @@
 -- functions may be opened. It knows no machine, log or cache. The outcome is the pool after it and
 -- its value, or a trap.
 use Rattle.std.specs.Prelude.{ℕ, zero, suc, ℤ, pos, List, Option, None, Some, slice_get}
-use Rattle.c_parser.specs.ItemTree.{FunctionTree}
+use Rattle.c_tree.specs.ItemTree.{FunctionTree}
 use Rattle.c_types.specs.Tables.{Tables}
 use Rattle.c_types.specs.Shapes.{transactions_in}
 use Rattle.pool_map.specs.declared.trap.TrapKind.{TrapKind}

@@ -1,22 +1,8 @@
-//! The meaning of a program: an interpreter of the checked tree, with which every compiled run is
-//! compared. It rests on `c_types` and on the pool of `pool_map`, and knows no machine, log or
-//! device. Its one contract for the crates above: `plain_call` runs one transaction on a copy of a
-//! pool.
+//! What a checked tree means: a transaction's value or trap, and the pool after it. It rests on the
+//! tables of `c_types` and on the pool of `pool_map`. It holds definitions and no code but the word
+//! of a pool that they name; `interpreter` runs them, and the laws speak of them.
 #![tactic(auto)]
 
-mod access;
-mod answer;
-mod entry;
-mod expressions;
-mod fault;
-mod interpreter;
-mod locals;
-mod operators;
-mod run;
-mod stacks;
-mod statements;
 mod word;
-mod work;
 
-pub use answer::PlainAnswer;
-pub use interpreter::plain_call;
+pub use word::Word;

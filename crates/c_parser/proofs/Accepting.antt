@@ -1,19 +1,21 @@
 -- What is accepted is spelled, and what is spelled and not too deep is accepted.
-use Rattle.std.proofs.Common.{ℕ, ◌+◌, ◌≡◌, List, [], ◌∷◌, length, Option, Some, None, Bool, true, false, nat_lt, sym, ◌∙◌, subst, Result, Ok, Err, IfErr}
+use Rattle.std.proofs.Common.{ℕ, ◌+◌, ◌≡◌, List, [], ◌∷◌, length, Option, Some, None, Bool, true}
+use Rattle.std.proofs.Common.{false, nat_lt, sym, ◌∙◌, subst, Result, Ok, Err, IfErr}
 use Rattle.std.specs.Result.{IsErrAnd}
 use Rattle.c_lexer.specs.declared.token.Placed.{Placed}
 use Rattle.c_parser.specs.declared.fault.ParseFault.{ParseFault}
 use Rattle.c_parser.specs.declared.fault.ParseFault.TheVariants as fault
 use Rattle.c_parser.specs.declared.want.Want.{Want}
 use Rattle.c_parser.specs.declared.want.Want.TheVariants.{Items}
-use Rattle.c_parser.specs.Kinds.{token_kind}
-use Rattle.c_parser.specs.declared.item.Item.{Item}
-use Rattle.c_parser.specs.ItemTree.{ItemTree, items_in}
-use Rattle.c_parser.specs.Program.{Program}
-use Rattle.c_parser.specs.ItemSpelling.{SpellsProgram}
+use Rattle.c_tree.specs.Kinds.{token_kind}
+use Rattle.c_tree.specs.declared.item.Item.{Item}
+use Rattle.c_tree.specs.ItemTree.{ItemTree, items_in}
+use Rattle.c_tree.specs.Program.{Program}
+use Rattle.c_tree.specs.ItemSpelling.{SpellsProgram}
 use Rattle.c_parser.specs.Wants.{parser_step}
 use Rattle.c_parser.specs.Weight.{weight}
-use Rattle.c_parser.specs.inside.Run.{Accepted, weighed, parse_on, run_from, parse_run, ParseRefuses}
+use Rattle.c_parser.specs.inside.Run.{Accepted, weighed, parse_on, run_from, parse_run}
+use Rattle.c_parser.specs.inside.Run.{ParseRefuses}
 use Rattle.c_parser.specs.Exact.{weights, LightBefore, ParseGives}
 use Rattle.c_parser.specs.inside.Exact.{Spelled}
 use Rattle.c_parser.proofs.Back.{spelled}

@@ -1,5 +1,7 @@
 -- What the run accepts is spelled: going back through its steps, each builds a piece of the tree.
-use Rattle.std.proofs.Common.{ℕ, zero, suc, ◌+◌, ◌≡◌, ◌≢◌, ◌⊎◌, inl, inr, List, [], ◌∷◌, length, Option, Some, None, Bool, true, false, refl, sym, ap, ◌∙◌, subst, arith}
+use Rattle.std.proofs.Common.{ℕ, zero, suc, ◌+◌, ◌≡◌, ◌≢◌, ◌⊎◌, inl, inr, List, [], ◌∷◌, length}
+use Rattle.std.proofs.Common.{Option, Some, None, Bool, true, false, refl, sym, ap, ◌∙◌, subst}
+use Rattle.std.proofs.Common.{arith}
 use Rattle.std.proofs.lemmas.Option.{slice_get_past}
 use Rattle.c_lexer.specs.declared.token.Mark.{Mark}
 use Rattle.c_lexer.specs.declared.token.Mark.TheVariants as mark
@@ -8,29 +10,57 @@ use Rattle.c_lexer.specs.declared.token.Word.TheVariants as word
 use Rattle.c_lexer.specs.declared.token.Token.{Token}
 use Rattle.c_lexer.specs.declared.token.Token.TheVariants as token
 use Rattle.c_lexer.specs.declared.token.Placed.{Placed}
-use Rattle.c_parser.specs.declared.expr.BinaryOp.TheVariants as op
-use Rattle.c_parser.specs.declared.expr.UnaryOp.TheVariants as unary
-use Rattle.c_parser.specs.declared.stmt.AssignOp.TheVariants as assign
-use Rattle.c_parser.specs.declared.kind.Kind.{Kind}
-use Rattle.c_parser.specs.declared.kind.Kind.TheVariants as kind
+use Rattle.c_tree.specs.declared.expr.BinaryOp.TheVariants as op
+use Rattle.c_tree.specs.declared.expr.UnaryOp.TheVariants as unary
+use Rattle.c_tree.specs.declared.stmt.AssignOp.TheVariants as assign
+use Rattle.c_tree.specs.declared.kind.Kind.{Kind}
+use Rattle.c_tree.specs.declared.kind.Kind.TheVariants as kind
 use Rattle.c_parser.specs.declared.want.Want.{Want}
-use Rattle.c_parser.specs.declared.want.Want.TheVariants.{Operand, Rest, Named, Dot, FirstArgument, MoreArguments, NewOpen, Ident, Digits, Semicolon, StructWord, Star, RootWord, Round, Square, Target, NamedTarget, Called, DotTarget, OpenExpression, OpenNothing, Initial, Value, Body, Bare, Else, Block, OpenFor, ForFirst, ForThird, TypeName, Fields, Length, Result, OpenParameters, Parameters, MoreParameters, OpenBody, StructOrFunction, Items}
-use Rattle.c_parser.specs.Kinds.{kind_at, placed_kind, token_kind, mark_kind, word_kind, ident_at, value_at}
-use Rattle.c_parser.specs.Operators.{sign_of}
-use Rattle.c_parser.specs.ExprTree.{ExprTree}
-use Rattle.c_parser.specs.ExprTree as trees
-use Rattle.c_parser.specs.StmtTree.{TypeTree, DeclarationTree, SimpleTree, FirstTree, StmtTree, Statements}
-use Rattle.c_parser.specs.StmtTree as tree
-use Rattle.c_parser.specs.ItemTree.{FieldTree, ParameterTree, ItemTree}
-use Rattle.c_parser.specs.ItemTree as itree
-use Rattle.c_parser.specs.Spelling.{Level, postfix, Parts, parts_end, field, element, Primary, number, null, variable, call, root, new, brackets, SpellsArguments}
-use Rattle.c_parser.specs.StmtSpelling.{Typed, int, pointer, Declares, plain, initial, Bracketed, bracketed, Acts, assigns, steps, Simply, acts, calls, frees, aborts, FirstPart, first_none, first_declares, first_simply, ValuePart, value_none, value_some, ThirdPart, third_none, third_some, Spells, empty, declares, simply, block, if_alone, if_else, repeats, counts, breaks, continues, returns, SpellsAll, nothing, something}
-use Rattle.c_parser.specs.ItemSpelling.{SpellsField, single, array, SpellsFields, fields_end, fields_more, SpellsParameters, parameters_last, parameters_more, Signature, signature_none, signature_void, signature_some, ResultType, result_void, result_some, SpellsFunction, function, SpellsItem, struct_def, root_decl, transaction, plain_function, SpellsItems, items_end, items_more, SpellsProgram}
+use Rattle.c_parser.specs.declared.want.Want.TheVariants.{Operand, Rest, Named, Dot, FirstArgument}
+use Rattle.c_parser.specs.declared.want.Want.TheVariants.{MoreArguments, NewOpen, Ident, Digits}
+use Rattle.c_parser.specs.declared.want.Want.TheVariants.{Semicolon, StructWord, Star, RootWord}
+use Rattle.c_parser.specs.declared.want.Want.TheVariants.{Round, Square, Target, NamedTarget}
+use Rattle.c_parser.specs.declared.want.Want.TheVariants.{Called, DotTarget, OpenExpression}
+use Rattle.c_parser.specs.declared.want.Want.TheVariants.{OpenNothing, Initial, Value, Body, Bare}
+use Rattle.c_parser.specs.declared.want.Want.TheVariants.{Else, Block, OpenFor, ForFirst, ForThird}
+use Rattle.c_parser.specs.declared.want.Want.TheVariants.{TypeName, Fields, Length, Result}
+use Rattle.c_parser.specs.declared.want.Want.TheVariants.{OpenParameters, Parameters}
+use Rattle.c_parser.specs.declared.want.Want.TheVariants.{MoreParameters, OpenBody}
+use Rattle.c_parser.specs.declared.want.Want.TheVariants.{StructOrFunction, Items}
+use Rattle.c_tree.specs.Kinds.{kind_at, placed_kind, token_kind, mark_kind, word_kind, ident_at}
+use Rattle.c_tree.specs.Kinds.{value_at}
+use Rattle.c_tree.specs.Operators.{sign_of}
+use Rattle.c_tree.specs.ExprTree.{ExprTree}
+use Rattle.c_tree.specs.ExprTree as trees
+use Rattle.c_tree.specs.StmtTree.{TypeTree, DeclarationTree, SimpleTree, FirstTree, StmtTree}
+use Rattle.c_tree.specs.StmtTree.{Statements}
+use Rattle.c_tree.specs.StmtTree as tree
+use Rattle.c_tree.specs.ItemTree.{FieldTree, ParameterTree, ItemTree}
+use Rattle.c_tree.specs.ItemTree as itree
+use Rattle.c_tree.specs.Spelling.{Level, postfix, Parts, parts_end, field, element, Primary, number}
+use Rattle.c_tree.specs.Spelling.{null, variable, call, root, new, brackets, SpellsArguments}
+use Rattle.c_tree.specs.StmtSpelling.{Typed, int, pointer, Declares, plain, initial, Bracketed}
+use Rattle.c_tree.specs.StmtSpelling.{bracketed, Acts, assigns, steps, Simply, acts, calls, frees}
+use Rattle.c_tree.specs.StmtSpelling.{aborts, FirstPart, first_none, first_declares, first_simply}
+use Rattle.c_tree.specs.StmtSpelling.{ValuePart, value_none, value_some, ThirdPart, third_none}
+use Rattle.c_tree.specs.StmtSpelling.{third_some, Spells, empty, declares, simply, block, if_alone}
+use Rattle.c_tree.specs.StmtSpelling.{if_else, repeats, counts, breaks, continues, returns}
+use Rattle.c_tree.specs.StmtSpelling.{SpellsAll, nothing, something}
+use Rattle.c_tree.specs.ItemSpelling.{SpellsField, single, array, SpellsFields, fields_end}
+use Rattle.c_tree.specs.ItemSpelling.{fields_more, SpellsParameters, parameters_last}
+use Rattle.c_tree.specs.ItemSpelling.{parameters_more, Signature, signature_none, signature_void}
+use Rattle.c_tree.specs.ItemSpelling.{signature_some, ResultType, result_void, result_some}
+use Rattle.c_tree.specs.ItemSpelling.{SpellsFunction, function, SpellsItem, struct_def, root_decl}
+use Rattle.c_tree.specs.ItemSpelling.{transaction, plain_function, SpellsItems, items_end}
+use Rattle.c_tree.specs.ItemSpelling.{items_more, SpellsProgram}
 use Rattle.c_parser.specs.Wants as wants
 use Rattle.c_parser.specs.Wants.{apply_move, move, parser_step}
 use Rattle.c_parser.specs.inside.Run.{Accepted, ends, parse_on, parse_run}
 use Rattle.c_parser.proofs.Steps.{IsToken, run_at, at_token, present}
-use Rattle.c_parser.proofs.Flat.{Flat, f_number, f_null, f_name, f_root, f_new, f_sign, f_round, Tail, f_end, f_operator, f_field, f_index, AfterName, f_plain, f_call, FirstOf, f_none, f_some, OthersOf, f_close, f_comma, flat_tree, first_tree}
+use Rattle.c_parser.proofs.Flat.{Flat, f_number, f_null, f_name, f_root, f_new, f_sign, f_round}
+use Rattle.c_parser.proofs.Flat.{Tail, f_end, f_operator, f_field, f_index, AfterName, f_plain}
+use Rattle.c_parser.proofs.Flat.{f_call, FirstOf, f_none, f_some, OthersOf, f_close, f_comma}
+use Rattle.c_parser.proofs.Flat.{flat_tree, first_tree}
 
 -- no token has the kind of the end
 mark_token : (m : Mark) → IsToken (mark_kind m)

@@ -1,19 +1,30 @@
 -- The shortest tokens that meet the wants, and a whole program from each stack of wants that can
 -- occur.
-use Rattle.std.proofs.Common.{ℕ, pos, zero, suc, ◌+◌, ◌≡◌, ◌≢◌, ◌<◌, List, [], ◌∷◌, Option, Some, None, Bool, true, false, slice_get, refl, ap, ◌∙◌, arith}
+use Rattle.std.proofs.Common.{ℕ, pos, zero, suc, ◌+◌, ◌≡◌, ◌≢◌, ◌<◌, List, [], ◌∷◌, Option, Some}
+use Rattle.std.proofs.Common.{None, Bool, true, false, slice_get, refl, ap, ◌∙◌, arith}
 use Rattle.c_lexer.specs.declared.token.Mark.{Mark}
 use Rattle.c_lexer.specs.declared.token.Mark.TheVariants as mark
 use Rattle.c_lexer.specs.declared.token.Word.{Word}
 use Rattle.c_lexer.specs.declared.token.Word.TheVariants as word
 use Rattle.c_lexer.specs.declared.token.Token.TheVariants as token
 use Rattle.c_lexer.specs.declared.token.Placed.{Placed}
-use Rattle.c_parser.specs.declared.expr.BinaryOp.TheVariants as op
-use Rattle.c_parser.specs.declared.stmt.AssignOp.TheVariants as assign
-use Rattle.c_parser.specs.declared.kind.Kind.{Kind}
-use Rattle.c_parser.specs.declared.kind.Kind.TheVariants as kind
+use Rattle.c_tree.specs.declared.expr.BinaryOp.TheVariants as op
+use Rattle.c_tree.specs.declared.stmt.AssignOp.TheVariants as assign
+use Rattle.c_tree.specs.declared.kind.Kind.{Kind}
+use Rattle.c_tree.specs.declared.kind.Kind.TheVariants as kind
 use Rattle.c_parser.specs.declared.want.Want.{Want}
-use Rattle.c_parser.specs.declared.want.Want.TheVariants.{Operand, Rest, Named, Dot, FirstArgument, MoreArguments, NewOpen, Ident, Digits, Semicolon, StructWord, Star, RootWord, Round, Square, Target, NamedTarget, Called, DotTarget, OpenExpression, OpenNothing, Initial, Value, Body, Bare, Else, Block, OpenFor, ForFirst, ForThird, TypeName, Fields, Length, Result, OpenParameters, Parameters, MoreParameters, OpenBody, StructOrFunction, Items}
-use Rattle.c_parser.specs.Kinds.{token_kind}
+use Rattle.c_parser.specs.declared.want.Want.TheVariants.{Operand, Rest, Named, Dot, FirstArgument}
+use Rattle.c_parser.specs.declared.want.Want.TheVariants.{MoreArguments, NewOpen, Ident, Digits}
+use Rattle.c_parser.specs.declared.want.Want.TheVariants.{Semicolon, StructWord, Star, RootWord}
+use Rattle.c_parser.specs.declared.want.Want.TheVariants.{Round, Square, Target, NamedTarget}
+use Rattle.c_parser.specs.declared.want.Want.TheVariants.{Called, DotTarget, OpenExpression}
+use Rattle.c_parser.specs.declared.want.Want.TheVariants.{OpenNothing, Initial, Value, Body, Bare}
+use Rattle.c_parser.specs.declared.want.Want.TheVariants.{Else, Block, OpenFor, ForFirst, ForThird}
+use Rattle.c_parser.specs.declared.want.Want.TheVariants.{TypeName, Fields, Length, Result}
+use Rattle.c_parser.specs.declared.want.Want.TheVariants.{OpenParameters, Parameters}
+use Rattle.c_parser.specs.declared.want.Want.TheVariants.{MoreParameters, OpenBody}
+use Rattle.c_parser.specs.declared.want.Want.TheVariants.{StructOrFunction, Items}
+use Rattle.c_tree.specs.Kinds.{token_kind}
 use Rattle.c_parser.specs.Wants as wants
 use Rattle.c_parser.specs.Wants.{Yield, apply_move, move, parser_step}
 use Rattle.c_parser.specs.inside.Run.{Accepted, ends, parse_on, run_from}

@@ -1,22 +1,28 @@
 -- The derivations of an expression from a place on, by production: what remains to derive.
-use Rattle.std.proofs.Common.{ℕ, zero, suc, ◌+◌, ◌-◌, ◌≡◌, ◌≢◌, ◌<◌, ◌⊎◌, inl, inr, List, [], ◌∷◌, length, Some, None, Bool, true, false, nat_eq, if◌then◌else◌, refl, sym, ap, ◌∙◌, subst, arith, Result, Ok, Err, IfOk}
-use Rattle.c_parser.specs.declared.expr.Expr.{Expr}
+use Rattle.std.proofs.Common.{ℕ, zero, suc, ◌+◌, ◌-◌, ◌≡◌, ◌≢◌, ◌<◌, ◌⊎◌, inl, inr, List, [], ◌∷◌}
+use Rattle.std.proofs.Common.{length, Some, None, Bool, true, false, nat_eq, if◌then◌else◌, refl}
+use Rattle.std.proofs.Common.{sym, ap, ◌∙◌, subst, arith, Result, Ok, Err, IfOk}
+use Rattle.c_tree.specs.declared.expr.Expr.{Expr}
 use Rattle.std.proofs.lemmas.Bool.{eqb-true}
 use Rattle.c_lexer.specs.declared.token.Placed.{Placed}
-use Rattle.c_parser.specs.declared.expr.BinaryOp.{BinaryOp}
-use Rattle.c_parser.specs.declared.expr.UnaryOp.{UnaryOp}
-use Rattle.c_parser.specs.declared.kind.Kind.{Kind}
-use Rattle.c_parser.specs.declared.kind.Kind.TheVariants as kind
-use Rattle.c_parser.specs.Kinds.{kind_at, ident_at, value_at}
-use Rattle.c_parser.specs.Operators.{op_at, sign_of, level_of}
-use Rattle.c_parser.specs.ExprTree.{ExprTree, Ident, expr_of}
-use Rattle.c_parser.specs.ExprTree as tree
-use Rattle.c_parser.specs.inside.ExprTree as inside_tree
-use Rattle.c_parser.specs.Spelling.{Level, level_zero, level_suc, Chain, chain_end, chain_more, Unary, signed, unsigned, Postfix, postfix, Parts, parts_end, field, element, Primary, number, null, variable, call, root, new, brackets, SpellsArguments, no_arguments, arguments, MoreArguments, no_more, more}
+use Rattle.c_tree.specs.declared.expr.BinaryOp.{BinaryOp}
+use Rattle.c_tree.specs.declared.expr.UnaryOp.{UnaryOp}
+use Rattle.c_tree.specs.declared.kind.Kind.{Kind}
+use Rattle.c_tree.specs.declared.kind.Kind.TheVariants as kind
+use Rattle.c_tree.specs.Kinds.{kind_at, ident_at, value_at}
+use Rattle.c_tree.specs.Operators.{op_at, sign_of, level_of}
+use Rattle.c_tree.specs.ExprTree.{ExprTree, Ident, expr_of}
+use Rattle.c_tree.specs.ExprTree as tree
+use Rattle.c_tree.specs.inside.ExprTree as inside_tree
+use Rattle.c_tree.specs.Spelling.{Level, level_zero, level_suc, Chain, chain_end, chain_more, Unary}
+use Rattle.c_tree.specs.Spelling.{signed, unsigned, Postfix, postfix, Parts, parts_end, field}
+use Rattle.c_tree.specs.Spelling.{element, Primary, number, null, variable, call, root, new}
+use Rattle.c_tree.specs.Spelling.{brackets, SpellsArguments, no_arguments, arguments, MoreArguments}
+use Rattle.c_tree.specs.Spelling.{no_more, more}
 use Rattle.c_parser.specs.inside.Fixes.{Fixes, DerivesFrom, IsFollowed, Over, Uncalled}
 use Rattle.c_parser.proofs.Steps.{IsToken}
 use Rattle.c_parser.proofs.Forward.{Begins, level_begins}
-use Rattle.c_parser.proofs.Trees.{followed_by-nothing, followed_by-one_more, expr_of-Call}
+use Rattle.c_tree.proofs.Trees.{followed_by-nothing, followed_by-one_more, expr_of-Call}
 
 -- the place of a token is within the list
 pub inside : (ts : List Placed) (i : ℕ) → IsToken (kind_at ts i) → i < length ts

@@ -1,21 +1,32 @@
 -- The derivations of an item from a place on, by production: what remains to derive.
-use Rattle.std.proofs.Common.{ℕ, ◌+◌, ◌≡◌, ◌≢◌, ◌≤◌, ◌<◌, ℤ, List, [], ◌∷◌, ◌++◌, length, map, Option, Some, None, Bool, true, false, refl, sym, ap, ◌∙◌, subst, arith, Result, Ok, Err, IfOk}
+use Rattle.std.proofs.Common.{ℕ, ◌+◌, ◌≡◌, ◌≢◌, ◌≤◌, ◌<◌, ℤ, List, [], ◌∷◌, ◌++◌, length, map}
+use Rattle.std.proofs.Common.{Option, Some, None, Bool, true, false, refl, sym, ap, ◌∙◌, subst}
+use Rattle.std.proofs.Common.{arith, Result, Ok, Err, IfOk}
 use Rattle.c_lexer.specs.declared.token.Placed.{Placed}
-use Rattle.c_parser.specs.declared.expr.BinaryOp.TheVariants as op
-use Rattle.c_parser.specs.declared.item.Field.{Field}
-use Rattle.c_parser.specs.declared.item.Parameter.{Parameter}
-use Rattle.c_parser.specs.declared.item.Item.{Item}
-use Rattle.c_parser.specs.declared.kind.Kind.{Kind}
-use Rattle.c_parser.specs.declared.kind.Kind.TheVariants as kind
-use Rattle.c_parser.specs.Kinds.{kind_at, ident_at, value_at}
-use Rattle.c_parser.specs.ExprTree.{Ident}
-use Rattle.c_parser.specs.StmtTree.{TypeTree, Statements}
-use Rattle.c_parser.specs.ItemTree.{LengthTree, FieldTree, ParameterTree, FunctionTree, ItemTree, field_tree, parameter_of, item_of, items_in}
-use Rattle.c_parser.specs.ItemTree as tree
-use Rattle.c_parser.specs.StmtSpelling.{Typed, int, pointer}
-use Rattle.c_parser.specs.ItemSpelling.{SpellsField, single, array, SpellsFields, fields_end, fields_more, SpellsParameters, parameters_last, parameters_more, Signature, signature_none, signature_void, signature_some, ResultType, result_void, result_some, SpellsFunction, function, SpellsItem, struct_def, root_decl, transaction, plain_function, SpellsItems, items_end, items_more, SpellsProgram}
+use Rattle.c_tree.specs.declared.expr.BinaryOp.TheVariants as op
+use Rattle.c_tree.specs.declared.item.Field.{Field}
+use Rattle.c_tree.specs.declared.item.Parameter.{Parameter}
+use Rattle.c_tree.specs.declared.item.Item.{Item}
+use Rattle.c_tree.specs.declared.kind.Kind.{Kind}
+use Rattle.c_tree.specs.declared.kind.Kind.TheVariants as kind
+use Rattle.c_tree.specs.Kinds.{kind_at, ident_at, value_at}
+use Rattle.c_tree.specs.ExprTree.{Ident}
+use Rattle.c_tree.specs.StmtTree.{TypeTree, Statements}
+use Rattle.c_tree.specs.ItemTree.{LengthTree, FieldTree, ParameterTree, FunctionTree, ItemTree}
+use Rattle.c_tree.specs.ItemTree.{field_tree, parameter_of, item_of, items_in}
+use Rattle.c_tree.specs.ItemTree as tree
+use Rattle.c_tree.specs.StmtSpelling.{Typed, int, pointer}
+use Rattle.c_tree.specs.ItemSpelling.{SpellsField, single, array, SpellsFields, fields_end}
+use Rattle.c_tree.specs.ItemSpelling.{fields_more, SpellsParameters, parameters_last}
+use Rattle.c_tree.specs.ItemSpelling.{parameters_more, Signature, signature_none, signature_void}
+use Rattle.c_tree.specs.ItemSpelling.{signature_some, ResultType, result_void, result_some}
+use Rattle.c_tree.specs.ItemSpelling.{SpellsFunction, function, SpellsItem, struct_def, root_decl}
+use Rattle.c_tree.specs.ItemSpelling.{transaction, plain_function, SpellsItems, items_end}
+use Rattle.c_tree.specs.ItemSpelling.{items_more, SpellsProgram}
 use Rattle.c_parser.specs.inside.Fixes.{Fixes, DerivesFrom, IsFollowed, IsOfKind}
-use Rattle.c_parser.specs.inside.Pieces.{StatedAll, stated_all, goes_on, SpellsParameter, typed_name, ParametersTo, SpellsStruct, spells_struct, SpellsRoot, spells_root, Defines, DefinesNone}
+use Rattle.c_parser.specs.inside.Pieces.{StatedAll, stated_all, goes_on, SpellsParameter}
+use Rattle.c_parser.specs.inside.Pieces.{typed_name, ParametersTo, SpellsStruct, spells_struct}
+use Rattle.c_parser.specs.inside.Pieces.{SpellsRoot, spells_root, Defines, DefinesNone}
 use Rattle.c_parser.proofs.Steps.{IsToken}
 use Rattle.c_parser.proofs.ForwardStmt.{TypeBegins, typed_begins}
 use Rattle.c_parser.proofs.FixesExpr.{inside, inside_at, led}

@@ -1,28 +1,44 @@
 -- The derivations of a statement from a place on, by production: what remains to derive.
-use Rattle.std.proofs.Common.{ℕ, ◌+◌, ◌≡◌, ◌≢◌, ◌≤◌, ◌<◌, List, length, Option, Some, None, Bool, true, false, ◌⊎◌, inl, inr, refl, sym, ap, ◌∙◌, subst, arith, Result, Ok, Err, IfOk}
+use Rattle.std.proofs.Common.{ℕ, ◌+◌, ◌≡◌, ◌≢◌, ◌≤◌, ◌<◌, List, length, Option, Some, None, Bool}
+use Rattle.std.proofs.Common.{true, false, ◌⊎◌, inl, inr, refl, sym, ap, ◌∙◌, subst, arith, Result}
+use Rattle.std.proofs.Common.{Ok, Err, IfOk}
 use Rattle.c_lexer.specs.declared.token.Placed.{Placed}
-use Rattle.c_parser.specs.declared.expr.BinaryOp.TheVariants as op
-use Rattle.c_parser.specs.declared.stmt.AssignOp.{AssignOp}
-use Rattle.c_parser.specs.declared.stmt.AssignOp.TheVariants as assign
-use Rattle.c_parser.specs.declared.stmt.StepOp.{StepOp}
-use Rattle.c_parser.specs.declared.stmt.Simple as written
-use Rattle.c_parser.specs.declared.stmt.Stmt.{Stmt}
-use Rattle.c_parser.specs.declared.kind.Kind.{Kind}
-use Rattle.c_parser.specs.declared.kind.Kind.TheVariants as kind
-use Rattle.c_parser.specs.Kinds.{kind_at, ident_at}
-use Rattle.c_parser.specs.ExprTree.{ExprTree, Ident, expr_of}
-use Rattle.c_parser.specs.ExprTree as expr
-use Rattle.c_parser.specs.StmtTree.{TypeTree, InitialTree, DeclarationTree, SimpleTree, FirstTree, StmtTree, Statements, simple_of, stmt_of}
-use Rattle.c_parser.specs.StmtTree as tree
-use Rattle.c_parser.specs.inside.StmtTree as inside_tree
-use Rattle.c_parser.specs.Spelling.{Level, Postfix, postfix, parts_end, call}
-use Rattle.c_parser.specs.StmtSpelling.{Typed, int, pointer, Declares, plain, initial, Bracketed, bracketed, assigns, steps, Simply, acts, calls, frees, aborts, FirstPart, first_none, first_declares, first_simply, ValuePart, value_none, value_some, ThirdPart, third_none, third_some, Spells, empty, declares, simply, block, if_alone, if_else, repeats, counts, breaks, continues, returns, nothing, something}
-use Rattle.c_parser.specs.inside.Fixes.{Fixes, DerivesFrom, IsFollowed, Over, IsOfKind, ClosesSimple}
-use Rattle.c_parser.specs.inside.Pieces.{ActsOrCalls, acts_on, call_alone, ForTree, SpellsFor, for_parts, Stated, stated, StatedAll, stated_all, SpellsChoice, choice_alone, choice_else, SpellsWhile, repeated, SpellsCounted, counted, SpellsPlain, plain_empty, plain_declares, plain_simply, plain_breaks, plain_continues, plain_returns, goes_on}
+use Rattle.c_tree.specs.declared.expr.BinaryOp.TheVariants as op
+use Rattle.c_tree.specs.declared.stmt.AssignOp.{AssignOp}
+use Rattle.c_tree.specs.declared.stmt.AssignOp.TheVariants as assign
+use Rattle.c_tree.specs.declared.stmt.StepOp.{StepOp}
+use Rattle.c_tree.specs.declared.stmt.Simple as written
+use Rattle.c_tree.specs.declared.stmt.Stmt.{Stmt}
+use Rattle.c_tree.specs.declared.kind.Kind.{Kind}
+use Rattle.c_tree.specs.declared.kind.Kind.TheVariants as kind
+use Rattle.c_tree.specs.Kinds.{kind_at, ident_at}
+use Rattle.c_tree.specs.ExprTree.{ExprTree, Ident, expr_of}
+use Rattle.c_tree.specs.ExprTree as expr
+use Rattle.c_tree.specs.StmtTree.{TypeTree, InitialTree, DeclarationTree, SimpleTree, FirstTree}
+use Rattle.c_tree.specs.StmtTree.{StmtTree, Statements, simple_of, stmt_of}
+use Rattle.c_tree.specs.StmtTree as tree
+use Rattle.c_tree.specs.inside.StmtTree as inside_tree
+use Rattle.c_tree.specs.Spelling.{Level, Postfix, postfix, parts_end, call}
+use Rattle.c_tree.specs.StmtSpelling.{Typed, int, pointer, Declares, plain, initial, Bracketed}
+use Rattle.c_tree.specs.StmtSpelling.{bracketed, assigns, steps, Simply, acts, calls, frees, aborts}
+use Rattle.c_tree.specs.StmtSpelling.{FirstPart, first_none, first_declares, first_simply}
+use Rattle.c_tree.specs.StmtSpelling.{ValuePart, value_none, value_some, ThirdPart, third_none}
+use Rattle.c_tree.specs.StmtSpelling.{third_some, Spells, empty, declares, simply, block, if_alone}
+use Rattle.c_tree.specs.StmtSpelling.{if_else, repeats, counts, breaks, continues, returns, nothing}
+use Rattle.c_tree.specs.StmtSpelling.{something}
+use Rattle.c_parser.specs.inside.Fixes.{Fixes, DerivesFrom, IsFollowed, Over, IsOfKind}
+use Rattle.c_parser.specs.inside.Fixes.{ClosesSimple}
+use Rattle.c_parser.specs.inside.Pieces.{ActsOrCalls, acts_on, call_alone, ForTree, SpellsFor}
+use Rattle.c_parser.specs.inside.Pieces.{for_parts, Stated, stated, StatedAll, stated_all}
+use Rattle.c_parser.specs.inside.Pieces.{SpellsChoice, choice_alone, choice_else, SpellsWhile}
+use Rattle.c_parser.specs.inside.Pieces.{repeated, SpellsCounted, counted, SpellsPlain, plain_empty}
+use Rattle.c_parser.specs.inside.Pieces.{plain_declares, plain_simply, plain_breaks}
+use Rattle.c_parser.specs.inside.Pieces.{plain_continues, plain_returns, goes_on}
 use Rattle.c_parser.proofs.Steps.{IsToken}
 use Rattle.c_parser.proofs.Forward.{Begins, level_begins, postfix_begins}
-use Rattle.c_parser.proofs.ForwardStmt.{TypeBegins, declares_begins, SimpleBegins, simply_begins, Starts, spells_starts}
-use Rattle.c_parser.proofs.Trees.{and_then-nothing, and_then-one_more}
+use Rattle.c_parser.proofs.ForwardStmt.{TypeBegins, declares_begins, SimpleBegins, simply_begins}
+use Rattle.c_parser.proofs.ForwardStmt.{Starts, spells_starts}
+use Rattle.c_tree.proofs.Trees.{and_then-nothing, and_then-one_more}
 use Rattle.c_parser.proofs.FixesExpr.{inside, inside_at, led, over_at, brackets_taken}
 
 pub led_simple : {E : Type 0} (r : Result (written.Simple × ℕ) E) (P Q : ℕ → SimpleTree → Type 0)

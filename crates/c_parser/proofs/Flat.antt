@@ -1,17 +1,22 @@
 -- An expression as unaries joined by operators, whatever their levels, and its tree.
-use Rattle.std.proofs.Common.{ℕ, zero, suc, ◌+◌, ◌≡◌, ◌≤◌, ◌⊎◌, inl, inr, List, Some, None, Bool, true, false, nat_eq, refl, sym, ap, ◌∙◌, subst, arith, if◌then◌else◌}
+use Rattle.std.proofs.Common.{ℕ, zero, suc, ◌+◌, ◌≡◌, ◌≤◌, ◌⊎◌, inl, inr, List, Some, None, Bool}
+use Rattle.std.proofs.Common.{true, false, nat_eq, refl, sym, ap, ◌∙◌, subst, arith, if◌then◌else◌}
 use Rattle.std.proofs.lemmas.Bool.{eqb-false}
 use Rattle.c_lexer.specs.declared.token.Placed.{Placed}
-use Rattle.c_parser.specs.declared.expr.BinaryOp.{BinaryOp}
-use Rattle.c_parser.specs.declared.expr.BinaryOp.TheVariants as op
-use Rattle.c_parser.specs.declared.expr.UnaryOp.{UnaryOp}
-use Rattle.c_parser.specs.declared.kind.Kind.{Kind}
-use Rattle.c_parser.specs.declared.kind.Kind.TheVariants as kind
-use Rattle.c_parser.specs.Kinds.{kind_at, ident_at, value_at}
-use Rattle.c_parser.specs.Operators.{op_at, sign_of, level_of}
-use Rattle.c_parser.specs.ExprTree.{ExprTree}
-use Rattle.c_parser.specs.ExprTree as trees
-use Rattle.c_parser.specs.Spelling.{Level, level_zero, level_suc, Chain, chain_end, chain_more, Unary, signed, unsigned, postfix, Parts, parts_end, field, element, Primary, number, null, variable, call, root, new, brackets, SpellsArguments, no_arguments, arguments, MoreArguments, no_more, more}
+use Rattle.c_tree.specs.declared.expr.BinaryOp.{BinaryOp}
+use Rattle.c_tree.specs.declared.expr.BinaryOp.TheVariants as op
+use Rattle.c_tree.specs.declared.expr.UnaryOp.{UnaryOp}
+use Rattle.c_tree.specs.declared.kind.Kind.{Kind}
+use Rattle.c_tree.specs.declared.kind.Kind.TheVariants as kind
+use Rattle.c_tree.specs.Kinds.{kind_at, ident_at, value_at}
+use Rattle.c_tree.specs.Operators.{op_at, sign_of, level_of}
+use Rattle.c_tree.specs.ExprTree.{ExprTree}
+use Rattle.c_tree.specs.ExprTree as trees
+use Rattle.c_tree.specs.Spelling.{Level, level_zero, level_suc, Chain, chain_end, chain_more, Unary}
+use Rattle.c_tree.specs.Spelling.{signed, unsigned, postfix, Parts, parts_end, field, element}
+use Rattle.c_tree.specs.Spelling.{Primary, number, null, variable, call, root, new, brackets}
+use Rattle.c_tree.specs.Spelling.{SpellsArguments, no_arguments, arguments, MoreArguments, no_more}
+use Rattle.c_tree.specs.Spelling.{more}
 
 mutual
   pub data Flat (ts : List Placed) : ℕ → ℕ → Type 0 where

@@ -1,15 +1,26 @@
 -- Items that are spelled are run through, if nothing is too deep.
-use Rattle.std.proofs.Common.{ℕ, ◌+◌, ◌≡◌, List, [], ◌∷◌, length, None, true, false, refl, sym, ◌∙◌, subst, arith}
+use Rattle.std.proofs.Common.{ℕ, ◌+◌, ◌≡◌, List, [], ◌∷◌, length, None, true, false, refl, sym, ◌∙◌}
+use Rattle.std.proofs.Common.{subst, arith}
 use Rattle.c_lexer.specs.declared.token.Placed.{Placed}
-use Rattle.c_parser.specs.declared.expr.BinaryOp.TheVariants as op
-use Rattle.c_parser.specs.declared.kind.Kind.{Kind}
-use Rattle.c_parser.specs.declared.kind.Kind.TheVariants as kind
+use Rattle.c_tree.specs.declared.expr.BinaryOp.TheVariants as op
+use Rattle.c_tree.specs.declared.kind.Kind.{Kind}
+use Rattle.c_tree.specs.declared.kind.Kind.TheVariants as kind
 use Rattle.c_parser.specs.declared.want.Want.{Want}
-use Rattle.c_parser.specs.declared.want.Want.TheVariants.{Ident, Digits, Semicolon, StructWord, RootWord, Round, Square, Block, TypeName, Fields, Length, Result, OpenParameters, Parameters, MoreParameters, OpenBody, StructOrFunction, Items}
-use Rattle.c_parser.specs.Kinds.{kind_at}
-use Rattle.c_parser.specs.ItemTree.{FieldTree, ParameterTree, ItemTree}
-use Rattle.c_parser.specs.StmtSpelling.{int, pointer, SpellsAll}
-use Rattle.c_parser.specs.ItemSpelling.{SpellsField, single, array, SpellsFields, fields_end, fields_more, SpellsParameters, parameters_last, parameters_more, Signature, signature_none, signature_void, signature_some, result_void, result_some, SpellsFunction, function, SpellsItem, struct_def, root_decl, transaction, plain_function, SpellsItems, items_end, items_more, SpellsProgram}
+use Rattle.c_parser.specs.declared.want.Want.TheVariants.{Ident, Digits, Semicolon, StructWord}
+use Rattle.c_parser.specs.declared.want.Want.TheVariants.{RootWord, Round, Square, Block, TypeName}
+use Rattle.c_parser.specs.declared.want.Want.TheVariants.{Fields, Length, Result, OpenParameters}
+use Rattle.c_parser.specs.declared.want.Want.TheVariants.{Parameters, MoreParameters, OpenBody}
+use Rattle.c_parser.specs.declared.want.Want.TheVariants.{StructOrFunction, Items}
+use Rattle.c_tree.specs.Kinds.{kind_at}
+use Rattle.c_tree.specs.ItemTree.{FieldTree, ParameterTree, ItemTree}
+use Rattle.c_tree.specs.StmtSpelling.{int, pointer, SpellsAll}
+use Rattle.c_tree.specs.ItemSpelling.{SpellsField, single, array, SpellsFields, fields_end}
+use Rattle.c_tree.specs.ItemSpelling.{fields_more, SpellsParameters, parameters_last}
+use Rattle.c_tree.specs.ItemSpelling.{parameters_more, Signature, signature_none, signature_void}
+use Rattle.c_tree.specs.ItemSpelling.{signature_some, result_void, result_some, SpellsFunction}
+use Rattle.c_tree.specs.ItemSpelling.{function, SpellsItem, struct_def, root_decl, transaction}
+use Rattle.c_tree.specs.ItemSpelling.{plain_function, SpellsItems, items_end, items_more}
+use Rattle.c_tree.specs.ItemSpelling.{SpellsProgram}
 use Rattle.c_parser.specs.Wants.{parser_step}
 use Rattle.c_parser.specs.inside.Run.{Accepted, parse_run}
 use Rattle.c_parser.proofs.Steps.{goes_on, alike, run_end}

@@ -1,23 +1,38 @@
 -- Statements that are spelled are run through, if nothing is too deep.
-use Rattle.std.proofs.Common.{ℕ, ◌+◌, ◌≡◌, ◌≢◌, ◌⊎◌, inl, inr, List, ◌∷◌, Option, Some, None, Bool, true, false, refl, sym, ap, ◌∙◌, subst}
+use Rattle.std.proofs.Common.{ℕ, ◌+◌, ◌≡◌, ◌≢◌, ◌⊎◌, inl, inr, List, ◌∷◌, Option, Some, None, Bool}
+use Rattle.std.proofs.Common.{true, false, refl, sym, ap, ◌∙◌, subst}
 use Rattle.c_lexer.specs.declared.token.Placed.{Placed}
-use Rattle.c_parser.specs.declared.expr.BinaryOp.TheVariants as op
-use Rattle.c_parser.specs.declared.stmt.AssignOp.{AssignOp}
-use Rattle.c_parser.specs.declared.stmt.AssignOp.TheVariants as assign
-use Rattle.c_parser.specs.declared.stmt.StepOp.{StepOp}
-use Rattle.c_parser.specs.declared.kind.Kind.{Kind}
-use Rattle.c_parser.specs.declared.kind.Kind.TheVariants as kind
+use Rattle.c_tree.specs.declared.expr.BinaryOp.TheVariants as op
+use Rattle.c_tree.specs.declared.stmt.AssignOp.{AssignOp}
+use Rattle.c_tree.specs.declared.stmt.AssignOp.TheVariants as assign
+use Rattle.c_tree.specs.declared.stmt.StepOp.{StepOp}
+use Rattle.c_tree.specs.declared.kind.Kind.{Kind}
+use Rattle.c_tree.specs.declared.kind.Kind.TheVariants as kind
 use Rattle.c_parser.specs.declared.want.Want.{Want}
-use Rattle.c_parser.specs.declared.want.Want.TheVariants.{Operand, FirstArgument, NewOpen, Ident, Semicolon, Star, Round, Square, Target, NamedTarget, Called, DotTarget, OpenExpression, OpenNothing, Initial, Value, Body, Bare, Else, Block, OpenFor, ForFirst, ForThird}
-use Rattle.c_parser.specs.Kinds.{kind_at}
-use Rattle.c_parser.specs.ExprTree.{ExprTree}
-use Rattle.c_parser.specs.StmtTree.{TypeTree, DeclarationTree, SimpleTree, FirstTree, StmtTree, Statements}
-use Rattle.c_parser.specs.Spelling.{Postfix, postfix, Parts, parts_end, field, element, Primary, number, null, variable, call, root, new, brackets}
-use Rattle.c_parser.specs.StmtSpelling.{Typed, int, pointer, Declares, plain, initial, Bracketed, bracketed, Acts, assigns, steps, Simply, acts, calls, frees, aborts, FirstPart, first_none, first_declares, first_simply, ValuePart, value_none, value_some, ThirdPart, third_none, third_some, Spells, empty, declares, simply, block, if_alone, if_else, repeats, counts, breaks, continues, returns, SpellsAll, nothing, something}
+use Rattle.c_parser.specs.declared.want.Want.TheVariants.{Operand, FirstArgument, NewOpen, Ident}
+use Rattle.c_parser.specs.declared.want.Want.TheVariants.{Semicolon, Star, Round, Square, Target}
+use Rattle.c_parser.specs.declared.want.Want.TheVariants.{NamedTarget, Called, DotTarget}
+use Rattle.c_parser.specs.declared.want.Want.TheVariants.{OpenExpression, OpenNothing, Initial}
+use Rattle.c_parser.specs.declared.want.Want.TheVariants.{Value, Body, Bare, Else, Block, OpenFor}
+use Rattle.c_parser.specs.declared.want.Want.TheVariants.{ForFirst, ForThird}
+use Rattle.c_tree.specs.Kinds.{kind_at}
+use Rattle.c_tree.specs.ExprTree.{ExprTree}
+use Rattle.c_tree.specs.StmtTree.{TypeTree, DeclarationTree, SimpleTree, FirstTree, StmtTree}
+use Rattle.c_tree.specs.StmtTree.{Statements}
+use Rattle.c_tree.specs.Spelling.{Postfix, postfix, Parts, parts_end, field, element, Primary}
+use Rattle.c_tree.specs.Spelling.{number, null, variable, call, root, new, brackets}
+use Rattle.c_tree.specs.StmtSpelling.{Typed, int, pointer, Declares, plain, initial, Bracketed}
+use Rattle.c_tree.specs.StmtSpelling.{bracketed, Acts, assigns, steps, Simply, acts, calls, frees}
+use Rattle.c_tree.specs.StmtSpelling.{aborts, FirstPart, first_none, first_declares, first_simply}
+use Rattle.c_tree.specs.StmtSpelling.{ValuePart, value_none, value_some, ThirdPart, third_none}
+use Rattle.c_tree.specs.StmtSpelling.{third_some, Spells, empty, declares, simply, block, if_alone}
+use Rattle.c_tree.specs.StmtSpelling.{if_else, repeats, counts, breaks, continues, returns}
+use Rattle.c_tree.specs.StmtSpelling.{SpellsAll, nothing, something}
 use Rattle.c_parser.specs.Wants.{apply_move, parser_step, simple_begins, statement, type_begins}
 use Rattle.c_parser.specs.inside.Run.{parse_run}
 use Rattle.c_parser.proofs.Steps.{IsToken, goes_on, alike}
-use Rattle.c_parser.proofs.Forward.{expression_runs, arguments_run, new_run, level_begins, value_enters}
+use Rattle.c_parser.proofs.Forward.{expression_runs, arguments_run, new_run, level_begins}
+use Rattle.c_parser.proofs.Forward.{value_enters}
 
 -- the step at a place whose kind is known
 pub at_kind : (ts : List Placed) (i : ℕ) (s next : List Want) (m : Kind → Option (List Want))

@@ -1,13 +1,14 @@
 -- The laws that the parser's contract cites.
-use Rattle.std.proofs.Common.{ℕ, zero, suc, ◌+◌, ◌≡◌, ◌<◌, List, [], ◌∷◌, length, Option, Some, None, drop, slice_get, refl, sym, ap, ◌∙◌, subst, arith}
+use Rattle.std.proofs.Common.{ℕ, zero, suc, ◌+◌, ◌≡◌, ◌<◌, List, [], ◌∷◌, length, Option, Some}
+use Rattle.std.proofs.Common.{None, drop, slice_get, refl, sym, ap, ◌∙◌, subst, arith}
 use Rattle.c_lexer.specs.declared.token.Placed.{Placed}
 use Rattle.c_parser.specs.declared.fault.ParseFault.{ParseFault}
 use Rattle.c_parser.specs.declared.fault.ParseFault.TheVariants as fault
 use Rattle.c_parser.specs.declared.want.Want.{Want}
 use Rattle.c_parser.specs.declared.want.Want.TheVariants.{Items}
-use Rattle.c_parser.specs.Kinds.{token_kind}
-use Rattle.c_parser.specs.ItemTree.{ItemTree}
-use Rattle.c_parser.specs.ItemSpelling.{SpellsProgram}
+use Rattle.c_tree.specs.Kinds.{token_kind}
+use Rattle.c_tree.specs.ItemTree.{ItemTree}
+use Rattle.c_tree.specs.ItemSpelling.{SpellsProgram}
 use Rattle.c_parser.specs.Wants.{parser_step}
 use Rattle.c_parser.specs.inside.Run.{Verdict, Accepted, Refused, run_from, parse_run, ParseRefuses}
 use Rattle.c_parser.specs.Exact.{weigh, weights_from, weights, LightBefore, NoneBegins}

@@ -1,7 +1,5 @@
-pub mod Trees
 pub mod Stack
 pub mod Steps
-pub mod Lines
 pub mod Prefix
 pub mod Forward
 pub mod ForwardStmt

@@ -1,15 +1,17 @@
 -- One step of the run, over one fixed list.
-use Rattle.std.proofs.Common.{ℕ, zero, suc, ◌+◌, ◌≡◌, ◌≤◌, ◌<◌, List, [], ◌∷◌, length, Option, Some, None, drop, slice_get, refl, sym, ap, ◌∙◌, add-one, subst, arith}
+use Rattle.std.proofs.Common.{ℕ, zero, suc, ◌+◌, ◌≡◌, ◌≤◌, ◌<◌, List, [], ◌∷◌, length, Option, Some}
+use Rattle.std.proofs.Common.{None, drop, slice_get, refl, sym, ap, ◌∙◌, add-one, subst, arith}
 use Rattle.std.proofs.lemmas.Option.{slice_get_past}
 use Rattle.std.proofs.lemmas.Bool.{le-ltb, lt-ltb}
 use Rattle.c_lexer.specs.declared.token.Placed.{Placed}
-use Rattle.c_parser.specs.declared.kind.Kind.{Kind}
-use Rattle.c_parser.specs.declared.kind.Kind.TheVariants as kind
+use Rattle.c_tree.specs.declared.kind.Kind.{Kind}
+use Rattle.c_tree.specs.declared.kind.Kind.TheVariants as kind
 use Rattle.c_parser.specs.declared.want.Want.{Want}
-use Rattle.c_parser.specs.Kinds.{placed_kind, kind_at, token_kind}
+use Rattle.c_tree.specs.Kinds.{placed_kind, kind_at, token_kind}
 use Rattle.c_parser.specs.Wants.{parser_step}
 use Rattle.c_parser.specs.Weight.{weight}
-use Rattle.c_parser.specs.inside.Run.{Verdict, Refused, Deep, weighed, ends, parse_on, run_from, parse_run}
+use Rattle.c_parser.specs.inside.Run.{Verdict, Refused, Deep, weighed, ends, parse_on, run_from}
+use Rattle.c_parser.specs.inside.Run.{parse_run}
 
 abbrev pub at_token : Option ℕ → ℕ → Option Placed → List Want → (List Want → Verdict) → Verdict
 at_token limit i None k on = ends i (parser_step k kind.End)

@@ -1,19 +1,22 @@
 -- The tokens before a refused one, and the tokens up to one that is too heavy, begin a program.
-use Rattle.std.proofs.Common.{ℕ, zero, suc, ◌+◌, ◌≡◌, ◌≤◌, ◌<◌, List, [], ◌∷◌, Option, Some, None, Bool, true, false, nat_lt, slice_get, refl, sym, ◌∙◌, subst, arith}
+use Rattle.std.proofs.Common.{ℕ, zero, suc, ◌+◌, ◌≡◌, ◌≤◌, ◌<◌, List, [], ◌∷◌, Option, Some, None}
+use Rattle.std.proofs.Common.{Bool, true, false, nat_lt, slice_get, refl, sym, ◌∙◌, subst, arith}
 use Rattle.std.proofs.lemmas.Bool.{ltb-true, ltb-false}
 use Rattle.c_lexer.specs.declared.token.Placed.{Placed}
 use Rattle.c_parser.specs.declared.fault.ParseFault.{ParseFault}
 use Rattle.c_parser.specs.declared.fault.ParseFault.TheVariants as fault
-use Rattle.c_parser.specs.declared.kind.Kind.TheVariants as kind
+use Rattle.c_tree.specs.declared.kind.Kind.TheVariants as kind
 use Rattle.c_parser.specs.declared.want.Want.{Want}
 use Rattle.c_parser.specs.declared.want.Want.TheVariants.{Items}
-use Rattle.c_parser.specs.Kinds.{token_kind}
+use Rattle.c_tree.specs.Kinds.{token_kind}
 use Rattle.c_parser.specs.Wants.{parser_step}
 use Rattle.c_parser.specs.Weight.{weight}
-use Rattle.c_parser.specs.inside.Run.{Refused, Deep, weighed, ends, parse_on, run_from, parse_run, ParseRefuses}
+use Rattle.c_parser.specs.inside.Run.{Refused, Deep, weighed, ends, parse_on, run_from, parse_run}
+use Rattle.c_parser.specs.inside.Run.{ParseRefuses}
 use Rattle.c_parser.specs.Exact.{weigh, weights_from, weights, SomeBegins, SomeSinks}
 use Rattle.c_parser.proofs.Back.{spelled}
-use Rattle.c_parser.proofs.Finish.{IfPasses, Passes, completion, completion_runs, completion_agrees, completion_weighs}
+use Rattle.c_parser.proofs.Finish.{IfPasses, Passes, completion, completion_runs, completion_agrees}
+use Rattle.c_parser.proofs.Finish.{completion_weighs}
 use Rattle.c_parser.proofs.Laws.{run_whole}
 
 abbrev Light : List ℕ → ℕ → Type 0

@@ -1,14 +1,15 @@
 -- The meaning of the parser's answers.
-use Rattle.std.specs.Prelude.{ℕ, ◌+◌, ◌≡◌, ◌≤◌, ◌<◌, List, [], ◌∷◌, Option, Some, None, slice_get, Result, Ok, Err}
+use Rattle.std.specs.Prelude.{ℕ, ◌+◌, ◌≡◌, ◌≤◌, ◌<◌, List, [], ◌∷◌, Option, Some, None, slice_get}
+use Rattle.std.specs.Prelude.{Result, Ok, Err}
 use Rattle.c_lexer.specs.declared.token.Placed.{Placed}
 use Rattle.c_parser.specs.declared.fault.ParseFault.{ParseFault}
 use Rattle.c_parser.specs.declared.fault.ParseFault.TheVariants.{NoMemory}
 use Rattle.c_parser.specs.declared.want.Want.{Want}
 use Rattle.c_parser.specs.declared.want.Want.TheVariants.{Items}
-use Rattle.c_parser.specs.Kinds.{token_kind}
-use Rattle.c_parser.specs.ItemTree.{ItemTree}
-use Rattle.c_parser.specs.Program.{Program, tree_of}
-use Rattle.c_parser.specs.ItemSpelling.{SpellsProgram}
+use Rattle.c_tree.specs.Kinds.{token_kind}
+use Rattle.c_tree.specs.ItemTree.{ItemTree}
+use Rattle.c_tree.specs.Program.{Program, tree_of}
+use Rattle.c_tree.specs.ItemSpelling.{SpellsProgram}
 use Rattle.c_parser.specs.Wants.{parser_step}
 use Rattle.c_parser.specs.Weight.{weight}
 

@@ -1,13 +1,4 @@
-pub mod ExprTree
-pub mod StmtTree
-pub mod ItemTree
-pub mod Program
-pub mod Kinds
 pub mod Wants
 pub mod Weight
-pub mod Operators
-pub mod Spelling
-pub mod StmtSpelling
-pub mod ItemSpelling
 pub mod Exact
 pub mod inside

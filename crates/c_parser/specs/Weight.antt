@@ -4,7 +4,10 @@
 -- counts its operators.
 use Rattle.std.specs.Prelude.{ℕ, ◌+◌, List, [], ◌∷◌}
 use Rattle.c_parser.specs.declared.want.Want.{Want}
-use Rattle.c_parser.specs.declared.want.Want.TheVariants.{Operand, Rest, Named, Dot, FirstArgument, MoreArguments, Round, Square, Target, Bare, Block, Fields, Parameters, MoreParameters}
+use Rattle.c_parser.specs.declared.want.Want.TheVariants.{Operand, Rest, Named, Dot, FirstArgument}
+use Rattle.c_parser.specs.declared.want.Want.TheVariants.{MoreArguments, Round, Square, Target}
+use Rattle.c_parser.specs.declared.want.Want.TheVariants.{Bare, Block, Fields, Parameters}
+use Rattle.c_parser.specs.declared.want.Want.TheVariants.{MoreParameters}
 
 -- 1 for a want that ends with the closing bracket of an open one
 abbrev pub brackets : Want → ℕ

@@ -3,7 +3,5 @@ pub mod Fixes
 pub mod Pieces
 pub mod Run
 pub mod Exact
-pub mod ExprTree
 pub mod Spelling
-pub mod StmtTree
 pub mod Wants

@@ -2,17 +2,17 @@
 //! tree is built all the same.
 
 ghost use Rattle.std.specs.Prelude.{◌≡◌, ◌<◌, ◌≤◌, ◌+◌, length, IfOk, OnOk, IsSome};
-ghost use Rattle.c_parser.specs.Kinds as kinds;
-ghost use Rattle.c_parser.specs.Operators.{level_of, op_at, sign_of};
-ghost use Rattle.c_parser.specs.ExprTree as trees;
-ghost use Rattle.c_parser.specs.ExprTree.{ident_of, expr_of, arguments_in};
-ghost use Rattle.c_parser.specs.inside.ExprTree.{followed_by};
-ghost use Rattle.c_parser.specs.Spelling.{Level, Unary, Postfix, Parts, Primary, SpellsArguments};
+ghost use Rattle.c_tree.specs.Kinds as kinds;
+ghost use Rattle.c_tree.specs.Operators.{level_of, op_at, sign_of};
+ghost use Rattle.c_tree.specs.ExprTree as trees;
+ghost use Rattle.c_tree.specs.ExprTree.{ident_of, expr_of, arguments_in};
+ghost use Rattle.c_tree.specs.inside.ExprTree.{followed_by};
+ghost use Rattle.c_tree.specs.Spelling.{Level, Unary, Postfix, Parts, Primary, SpellsArguments};
 ghost use Rattle.c_parser.specs.inside.Fixes.{Fixes, IsFollowed, Over, Uncalled};
 
-use crate::expr::{Argument, BinaryOp, Expr, Name, UnaryOp};
-use crate::kind::{Kind, kind_at, name_at, place_after, value_at};
 use c_lexer::TokenList;
+use c_tree::expr::{Argument, BinaryOp, Expr, Name, UnaryOp};
+use c_tree::{Kind, kind_at, name_at, place_after, value_at};
 use std::alloc::{AllocError, Global};
 
 /// The levels of binary operators; 1 binds tightest.

@@ -1,18 +1,21 @@
 //! Items, built from tokens that were accepted before.
 
-ghost use Rattle.std.specs.Prelude.{List, ◌≡◌, ◌<◌, ◌≤◌, ◌+◌, length, map, IfOk, OnOk, option_map, true, false};
-ghost use Rattle.c_parser.specs.Kinds as kinds;
-ghost use Rattle.c_parser.specs.StmtTree.{type_tree};
-ghost use Rattle.c_parser.specs.ItemTree.{ItemTree, field_tree, parameter_of, item_of, items_in};
-ghost use Rattle.c_parser.specs.ItemSpelling.{SpellsField, SpellsFields, Signature, ResultType, SpellsFunction, SpellsItem, SpellsProgram};
+ghost use Rattle.std.specs.Prelude.{List, ◌≡◌, ◌<◌, ◌≤◌, ◌+◌, length, map, IfOk, OnOk, option_map};
+ghost use Rattle.std.specs.Prelude.{true, false};
+ghost use Rattle.c_tree.specs.Kinds as kinds;
+ghost use Rattle.c_tree.specs.StmtTree.{type_tree};
+ghost use Rattle.c_tree.specs.ItemTree.{ItemTree, field_tree, parameter_of, item_of, items_in};
+ghost use Rattle.c_tree.specs.ItemSpelling.{SpellsField, SpellsFields, Signature, ResultType};
+ghost use Rattle.c_tree.specs.ItemSpelling.{SpellsFunction, SpellsItem, SpellsProgram};
 ghost use Rattle.c_parser.specs.inside.Fixes.{Fixes, IsFollowed, IsOfKind};
-ghost use Rattle.c_parser.specs.inside.Pieces.{goes_on, SpellsParameter, ParametersTo, SpellsStruct, SpellsRoot, Defines, DefinesNone};
+ghost use Rattle.c_parser.specs.inside.Pieces.{goes_on, SpellsParameter, ParametersTo};
+ghost use Rattle.c_parser.specs.inside.Pieces.{SpellsStruct, SpellsRoot, Defines, DefinesNone};
 
 use crate::build_stmt::{block, type_name};
-use crate::item::{Field, Function, Item, Length, Parameter, RootDecl, StructDef};
-use crate::kind::{Kind, kind_at, name_at, place_after, value_at};
-use crate::stmt::TypeName;
 use c_lexer::TokenList;
+use c_tree::item::{Field, Function, Item, Length, Parameter, RootDecl, StructDef};
+use c_tree::stmt::TypeName;
+use c_tree::{Kind, kind_at, name_at, place_after, value_at};
 use std::alloc::{AllocError, Global};
 
 /// A field and its semicolon.

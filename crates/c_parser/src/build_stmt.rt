@@ -1,22 +1,26 @@
 //! Statements, built from tokens that were accepted before.
 
 ghost use Rattle.std.specs.Prelude.{◌≡◌, ◌<◌, ◌≤◌, ◌+◌, length, IfOk, OnOk, option_map, true};
-ghost use Rattle.c_parser.specs.Kinds as kinds;
-ghost use Rattle.c_parser.specs.ExprTree as exprs;
-ghost use Rattle.c_parser.specs.ExprTree.{Ident, expr_of};
-ghost use Rattle.c_parser.specs.StmtTree as trees;
-ghost use Rattle.c_parser.specs.StmtTree.{Statements, type_tree, declaration_of, simple_of, tree_of_first, stmt_of, statements_in};
-ghost use Rattle.c_parser.specs.inside.StmtTree.{statements_then};
-ghost use Rattle.c_parser.specs.StmtSpelling.{Typed, Declares, Bracketed, Simply, FirstPart, ValuePart, ThirdPart};
+ghost use Rattle.c_tree.specs.Kinds as kinds;
+ghost use Rattle.c_tree.specs.ExprTree as exprs;
+ghost use Rattle.c_tree.specs.ExprTree.{Ident, expr_of};
+ghost use Rattle.c_tree.specs.StmtTree as trees;
+ghost use Rattle.c_tree.specs.StmtTree.{Statements, type_tree, declaration_of, simple_of};
+ghost use Rattle.c_tree.specs.StmtTree.{tree_of_first, stmt_of, statements_in};
+ghost use Rattle.c_tree.specs.inside.StmtTree.{statements_then};
+ghost use Rattle.c_tree.specs.StmtSpelling.{Typed, Declares, Bracketed, Simply, FirstPart};
+ghost use Rattle.c_tree.specs.StmtSpelling.{ValuePart, ThirdPart};
 ghost use Rattle.c_parser.specs.inside.Fixes.{Fixes, IsFollowed, Over, IsOfKind, ClosesSimple};
 ghost use Rattle.c_parser.specs.inside.Pieces as pieces;
-ghost use Rattle.c_parser.specs.inside.Pieces.{ActsOrCalls, for_of, SpellsFor, Stated, StatedAll, SpellsChoice, SpellsWhile, SpellsCounted, SpellsPlain};
+ghost use Rattle.c_parser.specs.inside.Pieces.{ActsOrCalls, for_of, SpellsFor, Stated, StatedAll};
+ghost use Rattle.c_parser.specs.inside.Pieces.{SpellsChoice, SpellsWhile, SpellsCounted};
+ghost use Rattle.c_parser.specs.inside.Pieces.{SpellsPlain};
 
 use crate::build_expr::{expression, postfix};
-use crate::expr::{Expr, Name};
-use crate::kind::{Kind, kind_at, name_at, place_after};
-use crate::stmt::{AssignOp, Declaration, First, Initial, Simple, StepOp, Stmt, TypeName};
 use c_lexer::TokenList;
+use c_tree::expr::{Expr, Name};
+use c_tree::stmt::{AssignOp, Declaration, First, Initial, Simple, StepOp, Stmt, TypeName};
+use c_tree::{Kind, kind_at, name_at, place_after};
 use std::alloc::{AllocError, Global};
 
 /// A type, and the place after it.

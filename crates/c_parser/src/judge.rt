@@ -6,9 +6,9 @@ ghost use Rattle.c_parser.specs.Weight.{weight};
 ghost use Rattle.c_parser.specs.inside.Run.{parse_run, parser_stepped, Accepted, ParseRefuses};
 
 use crate::fault::ParseFault;
-use crate::kind::{Kind, kind_at};
 use crate::want::{Taken, Want, Wants};
 use c_lexer::TokenList;
+use c_tree::{Kind, kind_at};
 use std::alloc::{AllocError, Global};
 
 /// Lets the wants take a token, and says whether it may come here.

@@ -1,17 +1,18 @@
 //! The parser.
 
 ghost use Rattle.std.specs.Prelude.{ℕ, List, ◌≡◌, ◌+◌, IfOk, IfErr, OnOk, length, map};
-ghost use Rattle.c_parser.specs.Exact.{weights, LightBefore, ParseGives, NoneBegins, SomeBegins, SomeSinks};
+ghost use Rattle.c_parser.specs.Exact.{weights, LightBefore, ParseGives, NoneBegins, SomeBegins};
+ghost use Rattle.c_parser.specs.Exact.{SomeSinks};
 ghost use Rattle.c_parser.specs.declared.fault.ParseFault.TheVariants.{Syntax, TooDeep};
-ghost use Rattle.c_parser.specs.ItemTree.{ItemTree};
-ghost use Rattle.c_parser.specs.Program.{tree_of};
-ghost use Rattle.c_parser.specs.ItemSpelling.{SpellsProgram};
+ghost use Rattle.c_tree.specs.ItemTree.{ItemTree};
+ghost use Rattle.c_tree.specs.Program.{tree_of};
+ghost use Rattle.c_tree.specs.ItemSpelling.{SpellsProgram};
 
-use crate::ast::Ast;
 use crate::build_item::items;
 use crate::fault::ParseFault;
 use crate::judge::judge;
 use c_lexer::TokenList;
+use c_tree::Ast;
 use std::alloc::Global;
 
 /// The tree of a program, or the first token that is refused.

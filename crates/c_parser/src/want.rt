@@ -1,15 +1,16 @@
 //! What must still come, as a stack, and the effect of a token on it.
 
-ghost use Rattle.std.specs.Prelude.{ℕ, List, [], ◌∷◌, ◌++◌, ◌≡◌, ◌≤◌, ◌<◌, ◌+◌, OnOk, IfOk, reverse, nat_lt};
+ghost use Rattle.std.specs.Prelude.{ℕ, List, [], ◌∷◌, ◌++◌, ◌≡◌, ◌≤◌, ◌<◌, ◌+◌, OnOk, IfOk};
+ghost use Rattle.std.specs.Prelude.{reverse, nat_lt};
 ghost use Rattle.c_parser.specs.Wants as wants;
 ghost use Rattle.c_parser.specs.inside.Wants as inside_wants;
 ghost use Rattle.c_parser.specs.inside.Wants.{moves_to, done};
 ghost use Rattle.c_parser.specs.Weight as weights;
 ghost use Rattle.c_parser.specs.Weight.{weight};
 
-use crate::expr::BinaryOp;
-use crate::kind::Kind;
-use crate::stmt::{AssignOp, StepOp};
+use c_tree::Kind;
+use c_tree::expr::BinaryOp;
+use c_tree::stmt::{AssignOp, StepOp};
 use std::alloc::{AllocError, Global};
 use std::marker::Model;
 

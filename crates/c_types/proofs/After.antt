@@ -1,15 +1,17 @@
 -- A statement changes only the innermost scope.
-use Rattle.std.proofs.Common.{◌≡◌, ℕ, zero, suc, ◌+◌, ◌<◌, List, [], ◌∷◌, length, get_or, drop, arith, refl, ap, ◌∙◌}
+use Rattle.std.proofs.Common.{◌≡◌, ℕ, zero, suc, ◌+◌, ◌<◌, List, [], ◌∷◌, length, get_or, drop}
+use Rattle.std.proofs.Common.{arith, refl, ap, ◌∙◌}
 use Rattle.std.specs.Prelude.{Option, None, Some}
 use Rattle.std.specs.Option.{option_map_or}
-use Rattle.c_parser.specs.declared.stmt.Stmt.{Stmt}
-use Rattle.c_parser.specs.StmtTree as stmt
-use Rattle.c_parser.specs.StmtTree.{StmtTree, Statements, FirstTree, stmt_of, statements_in}
-use Rattle.c_parser.proofs.Trees.{stmt_of-Block}
+use Rattle.c_tree.specs.declared.stmt.Stmt.{Stmt}
+use Rattle.c_tree.specs.StmtTree as stmt
+use Rattle.c_tree.specs.StmtTree.{StmtTree, Statements, FirstTree, stmt_of, statements_in}
+use Rattle.c_tree.proofs.Trees.{stmt_of-Block}
 use Rattle.c_types.specs.declared.value_type.ValueType.{ValueType}
 use Rattle.c_types.specs.Tables.{Tables}
 use Rattle.c_types.specs.Expressions.{Scope}
-use Rattle.c_types.specs.Statements.{inner_scopes, outer_scopes, scope_declared, scopes_after, scopes_after_first}
+use Rattle.c_types.specs.Statements.{inner_scopes, outer_scopes, scope_declared, scopes_after}
+use Rattle.c_types.specs.Statements.{scopes_after_first}
 use Rattle.c_types.specs.inside.Statements.{scopes_after_all}
 use Rattle.c_types.proofs.Told.{told_append}
 

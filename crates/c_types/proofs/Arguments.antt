@@ -1,9 +1,10 @@
 -- The arguments of a call.
-use Rattle.std.proofs.Common.{◌≡◌, ℕ, zero, suc, ◌+◌, ◌<◌, List, [], ◌∷◌, length, get_or, drop, arith, refl, ap, Bool, true, false}
+use Rattle.std.proofs.Common.{◌≡◌, ℕ, zero, suc, ◌+◌, ◌<◌, List, [], ◌∷◌, length, get_or, drop}
+use Rattle.std.proofs.Common.{arith, refl, ap, Bool, true, false}
 use Rattle.std.specs.Prelude.{◌&&◌}
-use Rattle.c_parser.specs.declared.expr.Argument.{Argument}
-use Rattle.c_parser.specs.ExprTree.{More, expr_of, arguments_in}
-use Rattle.c_parser.proofs.Trees.{expr_of-Call}
+use Rattle.c_tree.specs.declared.expr.Argument.{Argument}
+use Rattle.c_tree.specs.ExprTree.{More, expr_of, arguments_in}
+use Rattle.c_tree.proofs.Trees.{expr_of-Call}
 use Rattle.c_types.specs.Expressions.{argument_count}
 use Rattle.c_types.proofs.Told.{told_append}
 

@@ -1,7 +1,8 @@
 -- The element at a place of a list, and the rest after it.
-use Rattle.std.proofs.Common.{◌≡◌, ℕ, zero, suc, ◌+◌, ◌<◌, List, [], ◌∷◌, length, get_or, drop, arith, refl, ap, true, false}
+use Rattle.std.proofs.Common.{◌≡◌, ℕ, zero, suc, ◌+◌, ◌<◌, List, [], ◌∷◌, length, get_or, drop}
+use Rattle.std.proofs.Common.{arith, refl, ap, true, false}
 use Rattle.std.specs.Prelude.{Option, None, Some, map, option_map, bytes_eq}
-use Rattle.c_parser.specs.ItemTree.{FunctionTree}
+use Rattle.c_tree.specs.ItemTree.{FunctionTree}
 use Rattle.c_types.specs.Tables.{index_of}
 use Rattle.c_types.specs.Transactions.{entry_of}
 use Rattle.c_types.specs.declared.transactions.Transaction.{Transaction}

@@ -1,9 +1,10 @@
 -- Elements of the lists of declarations that were gathered.
-use Rattle.std.proofs.Common.{Bor, arith, ◌<◌, length, get_or, Some, ap, sym, ◌≡◌, ℕ, zero, suc, List, [], ◌∷◌, refl}
+use Rattle.std.proofs.Common.{Bor, arith, ◌<◌, length, get_or, Some, ap, sym, ◌≡◌, ℕ, zero, suc}
+use Rattle.std.proofs.Common.{List, [], ◌∷◌, refl}
 use Rattle.std.specs.Prelude.{map, option_map, slice_get}
-use Rattle.c_parser.specs.declared.item.RootDecl.{RootDecl}
-use Rattle.c_parser.specs.declared.item.Function.{Function}
-use Rattle.c_parser.specs.ItemTree.{function_tree}
+use Rattle.c_tree.specs.declared.item.RootDecl.{RootDecl}
+use Rattle.c_tree.specs.declared.item.Function.{Function}
+use Rattle.c_tree.specs.ItemTree.{function_tree}
 use Rattle.c_types.specs.Views.{root_of}
 
 pub slice_get_functions : (fs : List (Bor Function)) (i : ℕ)

@@ -1,5 +1,6 @@
 -- One more name at the end of a list, and its effect on what a name means.
-use Rattle.std.proofs.Common.{Bor, ◌≡◌, ℕ, suc, List, [], ◌∷◌, ◌++◌, length, Bool, true, false, cond, refl, sym, ap, ◌∙◌}
+use Rattle.std.proofs.Common.{Bor, ◌≡◌, ℕ, suc, List, [], ◌∷◌, ◌++◌, length, Bool, true, false}
+use Rattle.std.proofs.Common.{cond, refl, sym, ap, ◌∙◌}
 use Rattle.std.specs.Prelude.{map, Option, Some, None, is_some, option_map, bytes_eq}
 use Rattle.std.proofs.lemmas.Slice.Eq.{bytes_eq-Decides}
 use Rattle.c_types.specs.Tables.{index_of}

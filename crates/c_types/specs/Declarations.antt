@@ -1,19 +1,24 @@
 -- The rules that structs, root declarations and functions break, and all rules that a program
 -- breaks.
-use Rattle.std.specs.Prelude.{ℕ, ◌+◌, List, [], ◌∷◌, ◌++◌, Bool, true, false, not, ◌&&◌, ◌||◌, nat_eq, nat_le, Option, is_some, option_map, slice_get}
+use Rattle.std.specs.Prelude.{ℕ, ◌+◌, List, [], ◌∷◌, ◌++◌, Bool, true, false, not, ◌&&◌, ◌||◌}
+use Rattle.std.specs.Prelude.{nat_eq, nat_le, Option, is_some, option_map, slice_get}
 use Rattle.std.specs.Option.{option_map_or}
 use Rattle.std.specs.Int.{w64, cast_unsigned}
-use Rattle.c_parser.specs.ItemTree.{ItemTree, FunctionTree, FieldTree, LengthTree, ParameterTree}
-use Rattle.c_parser.specs.StmtTree.{TypeTree}
+use Rattle.c_tree.specs.ItemTree.{ItemTree, FunctionTree, FieldTree, LengthTree, ParameterTree}
+use Rattle.c_tree.specs.StmtTree.{TypeTree}
 use Rattle.c_types.specs.declared.fault.LimitKind.TheVariants as limit
-use Rattle.c_types.specs.declared.broken.Rule.TheVariants.{UnknownName, Twice, TooBig, NoRoot, BadTx}
+use Rattle.c_types.specs.declared.broken.Rule.TheVariants.{UnknownName, Twice, TooBig, NoRoot}
+use Rattle.c_types.specs.declared.broken.Rule.TheVariants.{BadTx}
 use Rattle.c_types.specs.declared.broken.Broken.{Broken}
 use Rattle.c_types.specs.declared.value_type.ValueType.{ValueType}
 use Rattle.c_types.specs.Broken.{unless}
 use Rattle.c_types.specs.Fits.{is_int}
-use Rattle.c_types.specs.Tables.{Tables, StructTree, RootTree, tables_of, index_of, is_first, function_names, field_names, struct_named, root_struct, words_of_struct, is_length, declared_type}
+use Rattle.c_types.specs.Tables.{Tables, StructTree, RootTree, tables_of, index_of, is_first}
+use Rattle.c_types.specs.Tables.{function_names, field_names, struct_named, root_struct}
+use Rattle.c_types.specs.Tables.{words_of_struct, is_length, declared_type}
 use Rattle.c_types.specs.Expressions.{Scope}
-use Rattle.c_types.specs.Statements.{inner_scopes, scope_declared, is_declared, type_broken, statements_broken}
+use Rattle.c_types.specs.Statements.{inner_scopes, scope_declared, is_declared, type_broken}
+use Rattle.c_types.specs.Statements.{statements_broken}
 
 abbrev pub length_broken : LengthTree → List Broken
 length_broken l = unless (is_length l.value) l.place

@@ -1,19 +1,23 @@
 -- The types of expressions, and the rules that they break, as functions of the tree and the scopes.
-use Rattle.std.specs.Prelude.{ℕ, suc, ◌+◌, List, [], ◌∷◌, ◌++◌, length, Bool, true, false, not, ◌&&◌, ◌||◌, nat_le, nat_eq, if◌then◌else◌, Option, None, Some, is_some, option_and_then, unwrap_or, slice_get}
+use Rattle.std.specs.Prelude.{ℕ, suc, ◌+◌, List, [], ◌∷◌, ◌++◌, length, Bool, true, false, not}
+use Rattle.std.specs.Prelude.{◌&&◌, ◌||◌, nat_le, nat_eq, if◌then◌else◌, Option, None, Some}
+use Rattle.std.specs.Prelude.{is_some, option_and_then, unwrap_or, slice_get}
 use Rattle.std.specs.Option.{option_map_or}
-use Rattle.c_parser.specs.ExprTree.{ExprTree, Arguments, Ident}
-use Rattle.c_parser.specs.ExprTree as expr
-use Rattle.c_parser.specs.ItemTree.{FunctionTree, FieldTree, ParameterTree}
+use Rattle.c_tree.specs.ExprTree.{ExprTree, Arguments, Ident}
+use Rattle.c_tree.specs.ExprTree as expr
+use Rattle.c_tree.specs.ItemTree.{FunctionTree, FieldTree, ParameterTree}
 use Rattle.c_types.specs.declared.value_type.ValueType.{ValueType}
 use Rattle.c_types.specs.declared.value_type.ValueType.TheVariants.{Int, Pointer, Null, Any}
 use Rattle.c_types.specs.declared.value_type.Kind.{Kind}
 use Rattle.c_types.specs.declared.value_type.Kind.TheVariants.{Value, Array}
 use Rattle.c_types.specs.declared.fault.LimitKind.TheVariants as limit
-use Rattle.c_types.specs.declared.broken.Rule.TheVariants.{UnknownName, Mismatch, Arity, TooBig, BadTx}
+use Rattle.c_types.specs.declared.broken.Rule.TheVariants.{UnknownName, Mismatch, Arity, TooBig}
+use Rattle.c_types.specs.declared.broken.Rule.TheVariants.{BadTx}
 use Rattle.c_types.specs.declared.broken.Broken.{Broken}
 use Rattle.c_types.specs.Broken.{broken_at, unless}
 use Rattle.c_types.specs.Fits.{is_any, is_int, type_takes, joins_types, applies}
-use Rattle.c_types.specs.Tables.{Tables, index_of, struct_named, function_named, field_named, root_struct, is_length, words_at, pointer_type, declared_type}
+use Rattle.c_types.specs.Tables.{Tables, index_of, struct_named, function_named, field_named}
+use Rattle.c_types.specs.Tables.{root_struct, is_length, words_at, pointer_type, declared_type}
 
 -- the names that a scope declares, in order, and the type of each
 pub record Scope : Type 0 where

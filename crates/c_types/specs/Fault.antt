@@ -1,11 +1,13 @@
 -- The refusal of a tree: the rule that is reported of all that it breaks, with the line and the
 -- place of its token.
 use Rattle.std.specs.Prelude.{ℕ, Option, option_map, length}
-use Rattle.c_parser.specs.Program.{Program, source_line, tree_of}
+use Rattle.c_tree.specs.Program.{Program, source_line, tree_of}
 use Rattle.c_types.specs.declared.fault.TypeFault.{TypeFault}
 use Rattle.c_types.specs.declared.fault.TypeFault.TheVariants as fault
 use Rattle.c_types.specs.declared.broken.Rule.{Rule}
-use Rattle.c_types.specs.declared.broken.Rule.TheVariants.{UnknownName, Twice, Mismatch, NotAssignable, Arity, TooBig, NoRoot, BadTx}
+use Rattle.c_types.specs.declared.broken.Rule.TheVariants.{UnknownName, Twice, Mismatch}
+use Rattle.c_types.specs.declared.broken.Rule.TheVariants.{NotAssignable, Arity, TooBig, NoRoot}
+use Rattle.c_types.specs.declared.broken.Rule.TheVariants.{BadTx}
 use Rattle.c_types.specs.declared.broken.Broken.{Broken}
 use Rattle.c_types.specs.Broken.{least_broken}
 use Rattle.c_types.specs.Declarations.{broken}

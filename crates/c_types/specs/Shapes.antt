@@ -1,10 +1,11 @@
 -- What a typed program provides: the shapes of its root and of its numbered structs, which are
 -- those of at most 15 words, and its transactions, each in the order of the text.
-use Rattle.std.specs.Prelude.{List, [], ◌∷◌, map, if◌then◌else◌, nat_le, option_map, option_and_then, slice_get}
+use Rattle.std.specs.Prelude.{List, [], ◌∷◌, map, if◌then◌else◌, nat_le, option_map}
+use Rattle.std.specs.Prelude.{option_and_then, slice_get}
 use Rattle.std.specs.Option.{option_map_or}
 use Rattle.std.specs.Int.{w64, cast_unsigned}
-use Rattle.c_parser.specs.ItemTree.{FieldTree, FunctionTree}
-use Rattle.c_parser.specs.Program.{Program, tree_of}
+use Rattle.c_tree.specs.ItemTree.{FieldTree, FunctionTree}
+use Rattle.c_tree.specs.Program.{Program, tree_of}
 use Rattle.pool_map.specs.declared.shapes.FieldShape.{FieldShape}
 use Rattle.pool_map.specs.declared.shapes.StructShape.{StructShape}
 use Rattle.pool_map.specs.declared.shapes.Shapes.{Shapes}

@@ -1,11 +1,13 @@
 -- The structs, root declarations and functions of a program, each in the order of the text, and the
 -- meaning of a name: its first declaration.
-use Rattle.std.specs.Prelude.{ℕ, ℤ, pos, negsuc, suc, ◌+◌, ◌-◌, ◌^◌, min, List, [], ◌∷◌, map, Bool, false, ◌&&◌, nat_le, nat_lt, nat_eq, if◌then◌else◌, Option, None, Some, option_map, option_and_then, bytes_eq, slice_get}
+use Rattle.std.specs.Prelude.{ℕ, ℤ, pos, negsuc, suc, ◌+◌, ◌-◌, ◌^◌, min, List, [], ◌∷◌, map, Bool}
+use Rattle.std.specs.Prelude.{false, ◌&&◌, nat_le, nat_lt, nat_eq, if◌then◌else◌, Option, None}
+use Rattle.std.specs.Prelude.{Some, option_map, option_and_then, bytes_eq, slice_get}
 use Rattle.std.specs.Option.{option_map_or}
-use Rattle.c_parser.specs.ExprTree.{Ident}
-use Rattle.c_parser.specs.StmtTree.{TypeTree}
-use Rattle.c_parser.specs.StmtTree as stmt
-use Rattle.c_parser.specs.ItemTree.{ItemTree, Struct, Root, Function, FunctionTree, FieldTree}
+use Rattle.c_tree.specs.ExprTree.{Ident}
+use Rattle.c_tree.specs.StmtTree.{TypeTree}
+use Rattle.c_tree.specs.StmtTree as stmt
+use Rattle.c_tree.specs.ItemTree.{ItemTree, Struct, Root, Function, FunctionTree, FieldTree}
 use Rattle.c_types.specs.declared.value_type.ValueType.{ValueType}
 use Rattle.c_types.specs.declared.value_type.ValueType.TheVariants.{Int, Pointer, Any}
 

@@ -1,11 +1,11 @@
 -- The lists of a program's structs, root declarations and functions, as the look-up tables of the
 -- code stand for them.
 use Rattle.std.specs.Prelude.{List, map}
-use Rattle.c_parser.specs.declared.item.StructDef.{StructDef}
-use Rattle.c_parser.specs.declared.item.RootDecl.{RootDecl}
-use Rattle.c_parser.specs.declared.item.Function.{Function}
-use Rattle.c_parser.specs.ExprTree.{ident_of}
-use Rattle.c_parser.specs.ItemTree.{field_tree, function_tree}
+use Rattle.c_tree.specs.declared.item.StructDef.{StructDef}
+use Rattle.c_tree.specs.declared.item.RootDecl.{RootDecl}
+use Rattle.c_tree.specs.declared.item.Function.{Function}
+use Rattle.c_tree.specs.ExprTree.{ident_of}
+use Rattle.c_tree.specs.ItemTree.{field_tree, function_tree}
 use Rattle.c_types.specs.Tables.{StructTree, RootTree, Tables}
 
 abbrev pub struct_tree : StructDef → StructTree

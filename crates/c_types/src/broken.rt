@@ -1,7 +1,8 @@
 //! Broken rules, and which one is reported.
 
 ghost use Rattle.std.specs.Prelude.{◌≡◌, List, [], ◌∷◌};
-ghost use Rattle.c_types.specs.Broken.{rule_number, limit_number, limit_in, rule_before, is_before, lesser, least_from, broken_at, unless};
+ghost use Rattle.c_types.specs.Broken.{rule_number, limit_number, limit_in, rule_before, is_before};
+ghost use Rattle.c_types.specs.Broken.{lesser, least_from, broken_at, unless};
 
 use crate::fault::LimitKind;
 

@@ -1,7 +1,7 @@
 //! Checking a whole tree.
 
 ghost use Rattle.std.specs.Prelude.{◌≡◌, [], None, Some, OnOk, IfOk, IfErr, ◌⊎◌};
-ghost use Rattle.c_parser.specs.ItemTree.{items_in};
+ghost use Rattle.c_tree.specs.ItemTree.{items_in};
 ghost use Rattle.c_types.specs.declared.fault.TypeFault.TheVariants.{NoMemory};
 ghost use Rattle.c_types.specs.Broken.{least_from, least_broken};
 ghost use Rattle.c_types.specs.Declarations.{broken_of, broken};
@@ -13,8 +13,8 @@ use crate::declarations::{functions, roots, structs};
 use crate::fault::TypeFault;
 use crate::program::Program;
 use crate::typed::Typed;
-use c_parser::Ast;
-use c_parser::item::Item;
+use c_tree::Ast;
+use c_tree::item::Item;
 use std::alloc::{AllocError, Global};
 
 /// Checks a tree against the typing rules. If no rule is broken, the answer is `Ok` with the given

@@ -2,8 +2,8 @@
 
 ghost use Rattle.std.specs.Prelude.{◌≡◌, ℕ, List, [], OnOk, map, option_map};
 ghost use Rattle.std.specs.Option.{option_map_or};
-ghost use Rattle.c_parser.specs.StmtTree as stmt;
-ghost use Rattle.c_parser.specs.ItemTree.{field_tree, length_tree, parameter_of, function_tree};
+ghost use Rattle.c_tree.specs.StmtTree as stmt;
+ghost use Rattle.c_tree.specs.ItemTree.{field_tree, length_tree, parameter_of, function_tree};
 ghost use Rattle.c_types.specs.Broken.{least_from};
 ghost use Rattle.c_types.specs.Tables.{field_names};
 ghost use Rattle.c_types.specs.Statements as statements;
@@ -18,8 +18,8 @@ use crate::rules::is_int;
 use crate::scopes::Scopes;
 use crate::statements::{declare_name, statements, written_type};
 use crate::value_type::ValueType;
-use c_parser::item::{Field, Function, Length, Parameter, RootDecl};
-use c_parser::stmt::TypeName;
+use c_tree::item::{Field, Function, Length, Parameter, RootDecl};
+use c_tree::stmt::TypeName;
 use std::alloc::{AllocError, Global};
 
 #[tactic(auto, using(crate::proofs::Told::told_append))]

@@ -1,8 +1,9 @@
 //! The types of expressions, and the rules that they break.
 
-ghost use Rattle.std.specs.Prelude.{◌≡◌, ◌++◌, ◌&&◌, not, length, map, is_some, option_map, [], ◌∷◌};
-ghost use Rattle.c_parser.specs.ExprTree.{expr_of, ident_of, arguments_in};
-ghost use Rattle.c_parser.specs.ItemTree.{field_tree, function_tree, parameter_of};
+ghost use Rattle.std.specs.Prelude.{◌≡◌, ◌++◌, ◌&&◌, not, length, map, is_some, option_map, []};
+ghost use Rattle.std.specs.Prelude.{◌∷◌};
+ghost use Rattle.c_tree.specs.ExprTree.{expr_of, ident_of, arguments_in};
+ghost use Rattle.c_tree.specs.ItemTree.{field_tree, function_tree, parameter_of};
 ghost use Rattle.c_types.specs.Broken.{least_from, unless};
 ghost use Rattle.c_types.specs.Fits as fits;
 ghost use Rattle.c_types.specs.Tables as tables;
@@ -17,8 +18,8 @@ use crate::program::Program;
 use crate::rules::{applies, is_any, is_int, joins_types, type_takes};
 use crate::scopes::Scopes;
 use crate::value_type::{Kind, ValueType};
-use c_parser::expr::{Argument, BinaryOp, Expr, Name, UnaryOp};
-use c_parser::item::{Field, Function, Parameter};
+use c_tree::expr::{Argument, BinaryOp, Expr, Name, UnaryOp};
+use c_tree::item::{Field, Function, Parameter};
 
 /// What an expression denotes.
 #[cycle(expressions)]

@@ -1,14 +1,14 @@
 //! A struct, the names of its fields, and the number of its words.
 
 ghost use Rattle.std.specs.Prelude.{◌≡◌, ◌-◌, ◌^◌, min, IfOk, map, option_map, if◌then◌else◌};
-ghost use Rattle.c_parser.specs.ExprTree.{ident_of};
-ghost use Rattle.c_parser.specs.ItemTree.{FieldTree, field_tree};
+ghost use Rattle.c_tree.specs.ExprTree.{ident_of};
+ghost use Rattle.c_tree.specs.ItemTree.{FieldTree, field_tree};
 ghost use Rattle.c_types.specs.Tables as tables;
 ghost use Rattle.c_types.specs.Views.{struct_tree};
 
 use crate::names::Names;
-use c_parser::expr::Name;
-use c_parser::item::{Field, StructDef};
+use c_tree::expr::Name;
+use c_tree::item::{Field, StructDef};
 use std::alloc::{AllocError, Global};
 use std::marker::Model;
 

@@ -1,9 +1,9 @@
 //! A program's structs, root declarations and functions, to be looked up by name.
 
 ghost use Rattle.std.specs.Prelude.{◌≡◌, IfOk, is_some, map, option_map, slice_get};
-ghost use Rattle.c_parser.specs.ExprTree.{ident_of};
-ghost use Rattle.c_parser.specs.StmtTree as stmt;
-ghost use Rattle.c_parser.specs.ItemTree.{FunctionTree, function_tree, items_in};
+ghost use Rattle.c_tree.specs.ExprTree.{ident_of};
+ghost use Rattle.c_tree.specs.StmtTree as stmt;
+ghost use Rattle.c_tree.specs.ItemTree.{FunctionTree, function_tree, items_in};
 ghost use Rattle.c_types.specs.Tables as tables;
 ghost use Rattle.c_types.specs.Tables.{StructTree};
 ghost use Rattle.c_types.specs.Views.{root_of, struct_tree, tables_in};
@@ -11,8 +11,8 @@ ghost use Rattle.c_types.specs.Views.{root_of, struct_tree, tables_in};
 use crate::layout::Layout;
 use crate::names::Names;
 use crate::value_type::ValueType;
-use c_parser::item::{Function, Item, RootDecl};
-use c_parser::stmt::TypeName;
+use c_tree::item::{Function, Item, RootDecl};
+use c_tree::stmt::TypeName;
 use std::alloc::{AllocError, Global};
 use std::marker::Model;
 
@@ -30,9 +30,9 @@ pub struct Program<'a> {
 impl<'a> Model for Program<'a> {
     ghost use Rattle.std.specs.Prelude.{◌≡◌, map};
     ghost use Rattle.std.specs.Coded.{codes};
-    ghost use Rattle.c_parser.specs.contracts.expr.Expr as expression;
-    ghost use Rattle.c_parser.specs.contracts.stmt.Stmt as statement;
-    ghost use Rattle.c_parser.specs.ItemTree.{FunctionTree, function_tree};
+    ghost use Rattle.c_tree.specs.contracts.expr.Expr as expression;
+    ghost use Rattle.c_tree.specs.contracts.stmt.Stmt as statement;
+    ghost use Rattle.c_tree.specs.ItemTree.{FunctionTree, function_tree};
     ghost use Rattle.c_types.specs.Tables.{StructTree};
     ghost use Rattle.c_types.specs.Views.{Gathered, root_of};
 

@@ -4,8 +4,8 @@ ghost use Rattle.std.specs.Prelude.{◌≡◌};
 ghost use Rattle.c_types.specs.Fits as fits;
 
 use crate::value_type::ValueType;
-use c_parser::expr::{BinaryOp, UnaryOp};
-use c_parser::stmt::AssignOp;
+use c_tree::expr::{BinaryOp, UnaryOp};
+use c_tree::stmt::AssignOp;
 
 pub fn is_any(value: ValueType) -> bool
     ensures { result ≡ fits.is_any value }

@@ -2,13 +2,13 @@
 
 ghost use Rattle.std.specs.Prelude.{◌≡◌, IfOk, map, option_map};
 ghost use Rattle.std.specs.Int.{w64, cast_unsigned};
-ghost use Rattle.c_parser.specs.ItemTree.{field_tree, length_tree};
+ghost use Rattle.c_tree.specs.ItemTree.{field_tree, length_tree};
 ghost use Rattle.c_types.specs.Shapes as meaning;
 ghost use Rattle.c_types.specs.Views.{tables_in};
 
 use crate::layout::Layout;
 use crate::program::Program;
-use c_parser::item::{Field, Length};
+use c_tree::item::{Field, Length};
 use nvm_base::Text;
 use pool_map::{FieldShape, FieldShapes, Shapes, StructShape, StructShapes};
 use std::alloc::{AllocError, Global};

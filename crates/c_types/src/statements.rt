@@ -2,8 +2,8 @@
 
 ghost use Rattle.std.specs.Prelude.{◌≡◌, [], false, OnOk, not, is_some, option_map};
 ghost use Rattle.std.specs.Option.{option_map_or};
-ghost use Rattle.c_parser.specs.ExprTree.{expr_of, ident_of};
-ghost use Rattle.c_parser.specs.StmtTree as tree;
+ghost use Rattle.c_tree.specs.ExprTree.{expr_of, ident_of};
+ghost use Rattle.c_tree.specs.StmtTree as tree;
 ghost use Rattle.c_types.specs.Broken.{least_from, unless};
 ghost use Rattle.c_types.specs.Fits as fits;
 ghost use Rattle.c_types.specs.Tables as tables;
@@ -18,8 +18,8 @@ use crate::program::Program;
 use crate::rules::{assigns, is_int, is_pointer, type_takes};
 use crate::scopes::Scopes;
 use crate::value_type::ValueType;
-use c_parser::expr::{Expr, Name};
-use c_parser::stmt::{Declaration, First, Initial, Simple, Stmt, TypeName};
+use c_tree::expr::{Expr, Name};
+use c_tree::stmt::{Declaration, First, Initial, Simple, Stmt, TypeName};
 use std::alloc::{AllocError, Global};
 
 /// Checks the statements of one block in the innermost scope, in a function whose result has that

@@ -1,12 +1,12 @@
 //! The transactions of a program, by name and number.
 
 ghost use Rattle.std.specs.Prelude.{◌≡◌, IfOk, map};
-ghost use Rattle.c_parser.specs.ItemTree.{function_tree};
+ghost use Rattle.c_tree.specs.ItemTree.{function_tree};
 ghost use Rattle.c_types.specs.Shapes.{transactions_in};
 ghost use Rattle.c_types.specs.Transactions.{entry_of};
 
 use crate::shapes::copied;
-use c_parser::item::Function;
+use c_tree::item::Function;
 use nvm_base::Text;
 use std::alloc::{AllocError, Global};
 

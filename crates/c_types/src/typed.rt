@@ -1,7 +1,8 @@
 //! A tree that breaks no typing rule, and what it provides.
 
-ghost use Rattle.std.specs.Prelude.{◌≡◌, ◌≤◌, ◌-◌, IfOk, length, map, option_map, suc, slice_get, Some};
-ghost use Rattle.c_parser.specs.ItemTree.{FunctionTree};
+ghost use Rattle.std.specs.Prelude.{◌≡◌, ◌≤◌, ◌-◌, IfOk, length, map, option_map, suc, slice_get};
+ghost use Rattle.std.specs.Prelude.{Some};
+ghost use Rattle.c_tree.specs.ItemTree.{FunctionTree};
 ghost use Rattle.c_types.specs.Tables.{index_of};
 ghost use Rattle.c_types.specs.Shapes.{shapes_of, transactions_of};
 ghost use Rattle.c_types.specs.Transactions.{entry_of};
@@ -10,7 +11,7 @@ ghost use Rattle.c_types.specs.declared.transactions.Transaction as kept;
 use crate::program::Program;
 use crate::shapes::program_shapes;
 use crate::transactions::{Transaction, transactions};
-use c_parser::Ast;
+use c_tree::Ast;
 use pool_map::Shapes;
 use std::alloc::{AllocError, Global};
 use std::marker::Model;
@@ -26,9 +27,9 @@ pub struct Typed {
 impl Model for Typed {
     ghost use Rattle.std.specs.Prelude.{◌≡◌, map};
     ghost use Rattle.std.specs.Coded.{codes};
-    ghost use Rattle.c_parser.specs.contracts.expr.Expr as expression;
-    ghost use Rattle.c_parser.specs.contracts.stmt.Stmt as statement;
-    ghost use Rattle.c_parser.specs.Program as tree;
+    ghost use Rattle.c_tree.specs.contracts.expr.Expr as expression;
+    ghost use Rattle.c_tree.specs.contracts.stmt.Stmt as statement;
+    ghost use Rattle.c_tree.specs.Program as tree;
     ghost use Rattle.c_types.specs.Shapes.{shapes_of, transactions_of};
     ghost use Rattle.c_types.specs.Transactions.{entry_of};
 

@@ -1,7 +1,7 @@
 //! The types of expressions, for the crates above.
 
 ghost use Rattle.std.specs.Prelude.{◌≡◌};
-ghost use Rattle.c_parser.specs.ExprTree.{expr_of};
+ghost use Rattle.c_tree.specs.ExprTree.{expr_of};
 ghost use Rattle.c_types.specs.Expressions as expressions;
 ghost use Rattle.c_types.specs.Views.{tables_in};
 
@@ -9,7 +9,7 @@ use crate::expressions::{kind, value};
 use crate::program::Program;
 use crate::scopes::Scopes;
 use crate::value_type::{Kind, ValueType};
-use c_parser::expr::Expr;
+use c_tree::expr::Expr;
 
 /// What an expression denotes in these scopes. It takes no memory.
 pub fn kind_of(program: &Program<'_>, scopes: &Scopes<'_>, expr: &Expr) -> Kind

@@ -1,5 +1,6 @@
 -- After a power cut there is one image, and it is an image of the cache before.
-use Rattle.std.proofs.Common.{◌≡◌, ◌⊎◌, inl, inr, ⊎_elim, ℕ, zero, suc, ◌/◌, List, [], ◌∷◌, ◌++◌, get_or, Some, None, Option, refl, ap, ◌∙◌}
+use Rattle.std.proofs.Common.{◌≡◌, ◌⊎◌, inl, inr, ⊎_elim, ℕ, zero, suc, ◌/◌, List, [], ◌∷◌, ◌++◌}
+use Rattle.std.proofs.Common.{get_or, Some, None, Option, refl, ap, ◌∙◌}
 use Rattle.cache_model.specs.Cache.{Words, Line, Cache, view}
 use Rattle.cache_model.specs.Image.{Among, IsVersion, IsImage, HasOne}
 use Rattle.cache_model.specs.Collapse.{kept, left_cache, picked}

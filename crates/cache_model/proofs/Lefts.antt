@@ -1,12 +1,17 @@
 -- A power cut on lists of lines: first the picked lines keep the versions that the picks name, then
 -- all other lines keep their oldest or newest version.
-use Rattle.std.proofs.Common.{◌≡◌, ◌≢◌, ⊎_elim, ℕ, zero, suc, ◌+◌, ◌<◌, nat_lt, ◌&&◌, cond, Bool, true, false, List, [], ◌∷◌, ◌++◌, map, length, set, get_or, Option, Some, None, ℤ, refl, sym, ap, ◌∙◌, subst, arith, eq-eqb, ne_eqb, length-set}
+use Rattle.std.proofs.Common.{◌≡◌, ◌≢◌, ⊎_elim, ℕ, zero, suc, ◌+◌, ◌<◌, nat_lt, ◌&&◌, cond, Bool}
+use Rattle.std.proofs.Common.{true, false, List, [], ◌∷◌, ◌++◌, map, length, set, get_or, Option}
+use Rattle.std.proofs.Common.{Some, None, ℤ, refl, sym, ap, ◌∙◌, subst, arith, eq-eqb, ne_eqb}
+use Rattle.std.proofs.Common.{length-set}
 use Rattle.std.proofs.lemmas.Bool.{cases_eq, ltb-true, lt-ltb}
 use Rattle.std.proofs.lemmas.List.{length-map, get_or-set_same, get_or-set_other}
 use Rattle.std.proofs.Math.ListN.{get_or-map}
 use Rattle.cache_model.specs.Cache.{Memory, versions}
-use Rattle.cache_model.specs.Collapse.{picked, left_line, left_cache, is_good_pick, bad, collapse, Rises, RisesFrom}
-use Rattle.cache_model.specs.Lists.{ListLine, blank_list, IsWhole, version_words, line_from, cache_from, memory_from}
+use Rattle.cache_model.specs.Collapse.{picked, left_line, left_cache, is_good_pick, bad, collapse}
+use Rattle.cache_model.specs.Collapse.{Rises, RisesFrom}
+use Rattle.cache_model.specs.Lists.{ListLine, blank_list, IsWhole, version_words, line_from}
+use Rattle.cache_model.specs.Lists.{cache_from, memory_from}
 use Rattle.cache_model.specs.inside.Lists.{list_keep, list_rest, list_picked, AreIn}
 use Rattle.cache_model.specs.declared.choice.Rest.{Rest}
 use Rattle.cache_model.specs.declared.choice.Rest.TheVariants.{Old, New}

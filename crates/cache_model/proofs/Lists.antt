@@ -1,13 +1,19 @@
 -- The operations on lists of lines agree with those on the cache that the lists stand for.
-use Rattle.std.proofs.Common.{◌≡◌, ◌≢◌, ⊎_elim, ℕ, zero, suc, ◌*◌, ◌/◌, ◌%◌, ◌==◌, ◌<◌, cond, Bool, true, false, List, [], ◌∷◌, ◌++◌, map, length, set, get_or, replicate, Option, Some, None, ℤ, pos, refl, sym, ap, ◌∙◌, arith, eq-eqb, ne_eqb, length-set}
+use Rattle.std.proofs.Common.{◌≡◌, ◌≢◌, ⊎_elim, ℕ, zero, suc, ◌*◌, ◌/◌, ◌%◌, ◌==◌, ◌<◌, cond, Bool}
+use Rattle.std.proofs.Common.{true, false, List, [], ◌∷◌, ◌++◌, map, length, set, get_or, replicate}
+use Rattle.std.proofs.Common.{Option, Some, None, ℤ, pos, refl, sym, ap, ◌∙◌, arith, eq-eqb, ne_eqb}
+use Rattle.std.proofs.Common.{length-set}
 use Rattle.std.proofs.lemmas.Bool.{cases_eq}
-use Rattle.std.proofs.lemmas.List.{map-append, length-map, get_or-set_same, get_or-set_other, drop-map, length-replicate}
+use Rattle.std.proofs.lemmas.List.{map-append, length-map, get_or-set_same, get_or-set_other}
+use Rattle.std.proofs.lemmas.List.{drop-map, length-replicate}
 use Rattle.std.proofs.Math.ListN.{get_or-map}
 use Rattle.cache_model.specs.Event.{Store, Flush, Fence}
 use Rattle.cache_model.specs.Cache.{put, view, blank, blank_line}
 use Rattle.cache_model.specs.Play.{store_line, mark_of, flush_line, fence_at, apply, after}
-use Rattle.cache_model.specs.Lists.{ListLine, blank_list, IsWhole, version_words, line_from, cache_from, memory_from}
-use Rattle.cache_model.specs.inside.Lists.{zero_list, list_store, list_mark, list_flush, list_fence_at, list_fence}
+use Rattle.cache_model.specs.Lists.{ListLine, blank_list, IsWhole, version_words, line_from}
+use Rattle.cache_model.specs.Lists.{cache_from, memory_from}
+use Rattle.cache_model.specs.inside.Lists.{zero_list, list_store, list_mark, list_flush}
+use Rattle.cache_model.specs.inside.Lists.{list_fence_at, list_fence}
 use Rattle.cache_model.proofs.Versions.{put_same, put_other}
 
 pub read_on : (l : ℕ) (v : List ℤ) (p : ℕ) → p / 8 ≡ l

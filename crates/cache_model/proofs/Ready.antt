@@ -1,5 +1,6 @@
 -- A line is ready if a fence leaves it only its newest version.
-use Rattle.std.proofs.Common.{◌≡◌, ◌≢◌, inl, inr, ℕ, ◌==◌, cond, Bool, true, false, List, [], ◌∷◌, length, Some, None, Option, refl, subst, arith}
+use Rattle.std.proofs.Common.{◌≡◌, ◌≢◌, inl, inr, ℕ, ◌==◌, cond, Bool, true, false, List, [], ◌∷◌}
+use Rattle.std.proofs.Common.{length, Some, None, Option, refl, subst, arith}
 use Rattle.std.proofs.lemmas.Bool.{eqb-false}
 use Rattle.std.proofs.lemmas.List.{drop_all}
 use Rattle.cache_model.specs.Event.{Flush, Fence}

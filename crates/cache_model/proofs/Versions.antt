@@ -1,5 +1,7 @@
 -- The effect of a store, a flush and a fence on the versions of a line.
-use Rattle.std.proofs.Common.{◌≡◌, ◌≢◌, ◌⊎◌, inl, inr, ⊎_elim, ℕ, zero, suc, ◌/◌, ◌==◌, cond, Bool, true, false, List, [], ◌∷◌, ◌++◌, drop, Some, None, Option, ℤ, refl, ap, eqb-true, eq-eqb, ne_eqb}
+use Rattle.std.proofs.Common.{◌≡◌, ◌≢◌, ◌⊎◌, inl, inr, ⊎_elim, ℕ, zero, suc, ◌/◌, ◌==◌, cond, Bool}
+use Rattle.std.proofs.Common.{true, false, List, [], ◌∷◌, ◌++◌, drop, Some, None, Option, ℤ, refl}
+use Rattle.std.proofs.Common.{ap, eqb-true, eq-eqb, ne_eqb}
 use Rattle.cache_model.specs.Event.{Store, Flush, Fence}
 use Rattle.cache_model.specs.Cache.{Words, put, Line, Cache}
 use Rattle.cache_model.specs.Play.{store_line, flush_line, fence_at, apply}

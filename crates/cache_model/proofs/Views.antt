@@ -1,5 +1,6 @@
 -- The effect of a store, a flush and a fence on the view.
-use Rattle.std.proofs.Common.{◌≡◌, ◌≢◌, inl, ℕ, ◌/◌, ◌==◌, cond, Bool, true, false, Some, None, Option, ℤ, refl, sym, ap, ◌∙◌}
+use Rattle.std.proofs.Common.{◌≡◌, ◌≢◌, inl, ℕ, ◌/◌, ◌==◌, cond, Bool, true, false, Some, None}
+use Rattle.std.proofs.Common.{Option, ℤ, refl, sym, ap, ◌∙◌}
 use Rattle.std.proofs.lemmas.Bool.{eqb-false}
 use Rattle.cache_model.specs.Event.{Store, Flush, Fence}
 use Rattle.cache_model.specs.Cache.{put, Line, Cache, view}

@@ -2,7 +2,8 @@
 -- counted from 0 at the oldest. Any other line keeps its oldest version if the rest is old, and its
 -- newest if the rest is new. The kept version becomes the line's only one, with no mark. A pick is
 -- bad if the memory doesn't have its line or the line doesn't have its version.
-use Rattle.std.specs.Prelude.{ℕ, ◌==◌, cond, List, [], ◌∷◌, length, slice_index_or, Option, Some, None, ◌+◌, ◌≤◌, nat_lt, ◌&&◌, Bool}
+use Rattle.std.specs.Prelude.{ℕ, ◌==◌, cond, List, [], ◌∷◌, length, slice_index_or, Option, Some}
+use Rattle.std.specs.Prelude.{None, ◌+◌, ◌≤◌, nat_lt, ◌&&◌, Bool}
 use Rattle.cache_model.specs.Cache.{Words, Line, Cache, Memory, versions}
 use Rattle.cache_model.specs.declared.choice.Rest.{Rest}
 use Rattle.cache_model.specs.declared.choice.Rest.TheVariants.{Old, New}

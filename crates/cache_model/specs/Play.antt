@@ -1,5 +1,6 @@
 -- The effect of an event, and of a list of events in order, on a cache.
-use Rattle.std.specs.Prelude.{ℕ, ◌/◌, ◌≡◌, ◌==◌, cond, List, [], ◌∷◌, ◌++◌, length, drop, Option, Some, None, ℤ}
+use Rattle.std.specs.Prelude.{ℕ, ◌/◌, ◌≡◌, ◌==◌, cond, List, [], ◌∷◌, ◌++◌, length, drop, Option}
+use Rattle.std.specs.Prelude.{Some, None, ℤ}
 use Rattle.cache_model.specs.Event.{CacheEvent, Store, Flush, Fence}
 use Rattle.cache_model.specs.Cache.{Words, put, Line, Cache, Memory}
 

@@ -1,6 +1,7 @@
 //! The lines of a memory.
 
-ghost use Rattle.std.specs.Prelude.{◌≡◌, ◌*◌, ◌<◌, Some, None, OnOk, OnErr, IfOk, IfErr, map, length, [], ◌+◌, slice_index_or};
+ghost use Rattle.std.specs.Prelude.{◌≡◌, ◌*◌, ◌<◌, Some, None, OnOk, OnErr, IfOk, IfErr, map};
+ghost use Rattle.std.specs.Prelude.{length, [], ◌+◌, slice_index_or};
 ghost use Rattle.cache_model.specs.Cache.{blank, view};
 ghost use Rattle.cache_model.specs.Event.{Store, Flush, Fence};
 ghost use Rattle.cache_model.specs.Play.{after};

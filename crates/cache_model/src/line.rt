@@ -1,7 +1,9 @@
 //! One line with its versions.
 
-ghost use Rattle.std.specs.Prelude.{◌≡◌, ◌<◌, ◌≤◌, ◌+◌, OnOk, OnErr, length, slice_index_or, pos, IsTrue};
-ghost use Rattle.cache_model.specs.inside.Lists.{zero_list, list_store, list_flush, list_fence, list_keep, list_rest};
+ghost use Rattle.std.specs.Prelude.{◌≡◌, ◌<◌, ◌≤◌, ◌+◌, OnOk, OnErr, length, slice_index_or, pos};
+ghost use Rattle.std.specs.Prelude.{IsTrue};
+ghost use Rattle.cache_model.specs.inside.Lists.{zero_list, list_store, list_flush, list_fence};
+ghost use Rattle.cache_model.specs.inside.Lists.{list_keep, list_rest};
 
 use crate::choice::Rest;
 use std::alloc::{AllocError, Global};

@@ -4,20 +4,27 @@ use Rattle.std.specs.List.{AllByRecursion}
 use Rattle.std.proofs.lemmas.Int.{ints}
 use Rattle.nvm_base.specs.Wrap.{IsWord}
 use Rattle.c_lexer.specs.declared.token.Placed.{Placed}
-use Rattle.c_parser.specs.declared.expr.BinaryOp.{BinaryOp}
-use Rattle.c_parser.specs.declared.expr.UnaryOp.{UnaryOp}
-use Rattle.c_parser.specs.declared.expr.UnaryOp.TheVariants as unary
-use Rattle.c_parser.specs.Kinds.{ident_at, value_at}
-use Rattle.c_parser.specs.ExprTree.{ExprTree, Ident}
-use Rattle.c_parser.specs.ExprTree as tree
-use Rattle.c_parser.specs.Spelling.{Level, level_zero, level_suc, Chain, chain_end, chain_more, Unary, signed, unsigned, Postfix, postfix, Parts, parts_end, field, element, Primary, number, null, variable, call, root, new, brackets, SpellsArguments, no_arguments, arguments, MoreArguments, no_more, more}
+use Rattle.c_tree.specs.declared.expr.BinaryOp.{BinaryOp}
+use Rattle.c_tree.specs.declared.expr.UnaryOp.{UnaryOp}
+use Rattle.c_tree.specs.declared.expr.UnaryOp.TheVariants as unary
+use Rattle.c_tree.specs.Kinds.{ident_at, value_at}
+use Rattle.c_tree.specs.ExprTree.{ExprTree, Ident}
+use Rattle.c_tree.specs.ExprTree as tree
+use Rattle.c_tree.specs.Spelling.{Level, level_zero, level_suc, Chain, chain_end, chain_more, Unary}
+use Rattle.c_tree.specs.Spelling.{signed, unsigned, Postfix, postfix, Parts, parts_end, field}
+use Rattle.c_tree.specs.Spelling.{element, Primary, number, null, variable, call, root, new}
+use Rattle.c_tree.specs.Spelling.{brackets, SpellsArguments, no_arguments, arguments, MoreArguments}
+use Rattle.c_tree.specs.Spelling.{no_more, more}
 use Rattle.ir.specs.declared.instruction.Instruction.{Instruction}
-use Rattle.ir.specs.declared.instruction.Instruction.TheVariants.{Const, Copy, Bin, Jump, Branch, Load, Store, New, Free, Call, Return, Tick, Trap, Log}
+use Rattle.ir.specs.declared.instruction.Instruction.TheVariants.{Const, Copy, Bin, Jump, Branch}
+use Rattle.ir.specs.declared.instruction.Instruction.TheVariants.{Load, Store, New, Free, Call}
+use Rattle.ir.specs.declared.instruction.Instruction.TheVariants.{Return, Tick, Trap, Log}
 use Rattle.lower.specs.declared.form.Form.{Form}
 use Rattle.lower.specs.declared.form.Form.TheVariants.{Both, Either, Direct, Exchanged}
 use Rattle.lower.specs.Forms.{form_of}
 use Rattle.lower.specs.Names.{Variables}
-use Rattle.lower.specs.Lowers.{Context, exp_end, exp_code, reg_of, target_end, target_code, arguments_code, form_code}
+use Rattle.lower.specs.Lowers.{Context, exp_end, exp_code, reg_of, target_end, target_code}
+use Rattle.lower.specs.Lowers.{arguments_code, form_code}
 use Rattle.lower.proofs.ExprSound.{all_append}
 use Rattle.checked_law.proofs.Tokens.{small_word}
 

@@ -1,11 +1,13 @@
 -- The laws, put together from facts on the tables of a program that breaks no rule.
-use Rattle.std.proofs.Common.{◌≡◌, ℕ, zero, suc, ◌+◌, ◌≤◌, Bool, true, false, List, [], ◌∷◌, length, map, refl, sym, ap, ◌∙◌, subst, arith}
-use Rattle.std.specs.Prelude.{if◌then◌else◌, slice_get, Option, None, Some, option_map, option_and_then}
+use Rattle.std.proofs.Common.{◌≡◌, ℕ, zero, suc, ◌+◌, ◌≤◌, Bool, true, false, List, [], ◌∷◌, length}
+use Rattle.std.proofs.Common.{map, refl, sym, ap, ◌∙◌, subst, arith}
+use Rattle.std.specs.Prelude.{if◌then◌else◌, slice_get, Option, None, Some, option_map}
+use Rattle.std.specs.Prelude.{option_and_then}
 use Rattle.std.specs.List.{AllByRecursion}
 use Rattle.std.proofs.lemmas.List.{length-map}
 use Rattle.std.proofs.lemmas.Option.{slice_get-map}
-use Rattle.c_parser.specs.ItemTree.{FunctionTree}
-use Rattle.c_parser.specs.Program.{Program, tree_of}
+use Rattle.c_tree.specs.ItemTree.{FunctionTree}
+use Rattle.c_tree.specs.Program.{Program, tree_of}
 use Rattle.pool_map.specs.declared.shapes.StructShape.{StructShape}
 use Rattle.pool_map.specs.PoolFits.{words_of}
 use Rattle.c_types.specs.Tables.{Tables, StructTree, tables_of, root_struct, field_names}
@@ -13,7 +15,8 @@ use Rattle.c_types.specs.Tables as counted
 use Rattle.c_types.specs.Statements.{inner_scopes}
 use Rattle.c_types.specs.Fault.{breaks}
 use Rattle.c_types.specs.Shapes.{field_shape, struct_shape, numbered, root_fields, transactions_in}
-use Rattle.c_types.specs.Declarations.{parameters_broken, function_broken, body_broken, structs_broken, whole_struct_broken}
+use Rattle.c_types.specs.Declarations.{parameters_broken, function_broken, body_broken}
+use Rattle.c_types.specs.Declarations.{structs_broken, whole_struct_broken}
 use Rattle.ir.specs.declared.instruction.Instruction.{Instruction}
 use Rattle.ir.specs.declared.instruction.Instruction.TheVariants.{Call, Const}
 use Rattle.ir.specs.declared.function.IrFunction.{IrFunction}
@@ -22,8 +25,10 @@ use Rattle.code_meaning.proofs.Lists.{all_at}
 use Rattle.lower.specs.Program.{context_at, lowered_function, lowered}
 use Rattle.lower.proofs.Few.{none_left, none_right, few_parameters}
 use Rattle.lower.proofs.Sane.{IsSane, sane, broken_functions, function_at_place}
-use Rattle.checked_law.specs.Law.{ShapesLaw, RootHasWordLaw, CallsLaw, LogsLaw, LimitsLaw, ConstantsLaw, marked, EntriesLaw}
-use Rattle.checked_law.proofs.Words.{fields_counted, struct_words, numbered_one, numbered_few, struct_at, root_counted, spelled_have}
+use Rattle.checked_law.specs.Law.{ShapesLaw, RootHasWordLaw, CallsLaw, LogsLaw, LimitsLaw}
+use Rattle.checked_law.specs.Law.{ConstantsLaw, marked, EntriesLaw}
+use Rattle.checked_law.proofs.Words.{fields_counted, struct_words, numbered_one, numbered_few}
+use Rattle.checked_law.proofs.Words.{struct_at, root_counted, spelled_have}
 use Rattle.checked_law.proofs.PlainCalls.{IsPlain, IsPlainInstruction, AllPlain}
 use Rattle.checked_law.proofs.PlainStatements.{function_plain}
 use Rattle.checked_law.proofs.Tokens.{answer_words}

@@ -4,26 +4,36 @@ use Rattle.std.specs.Prelude.{Option, None, Some, if◌then◌else◌}
 use Rattle.std.specs.Option.{option_map_or}
 use Rattle.nvm_base.specs.declared.op.BinOp.{BinOp}
 use Rattle.nvm_base.specs.declared.op.BinOp.TheVariants as op
-use Rattle.c_parser.specs.declared.stmt.AssignOp.TheVariants as assign
-use Rattle.c_parser.specs.ExprTree.{ExprTree, Ident}
-use Rattle.c_parser.specs.StmtTree as stmt
-use Rattle.c_parser.specs.StmtTree.{StmtTree, Statements, SimpleTree, FirstTree, DeclarationTree, InitialTree}
-use Rattle.c_parser.specs.ItemTree.{FunctionTree, ParameterTree}
+use Rattle.c_tree.specs.declared.stmt.AssignOp.TheVariants as assign
+use Rattle.c_tree.specs.ExprTree.{ExprTree, Ident}
+use Rattle.c_tree.specs.StmtTree as stmt
+use Rattle.c_tree.specs.StmtTree.{StmtTree, Statements, SimpleTree, FirstTree, DeclarationTree}
+use Rattle.c_tree.specs.StmtTree.{InitialTree}
+use Rattle.c_tree.specs.ItemTree.{FunctionTree, ParameterTree}
 use Rattle.c_types.specs.declared.value_type.ValueType.{ValueType}
 use Rattle.c_types.specs.Tables.{Tables, function_named, declared_type}
-use Rattle.c_types.specs.Expressions.{Scope, value_broken, broken_in, call_broken, parameters_of, argument_count}
+use Rattle.c_types.specs.Expressions.{Scope, value_broken, broken_in, call_broken, parameters_of}
+use Rattle.c_types.specs.Expressions.{argument_count}
 use Rattle.c_types.specs.Statements as types
-use Rattle.c_types.specs.Statements.{type_broken, simple_broken, initial_broken, declaration_broken, first_broken, return_broken, statement_broken, statements_broken}
+use Rattle.c_types.specs.Statements.{type_broken, simple_broken, initial_broken, declaration_broken}
+use Rattle.c_types.specs.Statements.{first_broken, return_broken, statement_broken}
+use Rattle.c_types.specs.Statements.{statements_broken}
 use Rattle.c_types.specs.Declarations as declarations
 use Rattle.c_types.specs.Declarations.{type_given, parameters_broken, body_broken}
 use Rattle.ir.specs.declared.instruction.Instruction.TheVariants.{Copy}
 use Rattle.lower.specs.Assigned.{is_assigned}
 use Rattle.lower.specs.Names.{Variables, inner_variables, variable_of}
-use Rattle.lower.specs.Lowers.{Context, exp_end, exp_code, target_end, target_code, arguments_code, or_end, or_code, set_code, update_code, step_operation, simple_code, initial_code, first_end, first_code, variables_after_first, third_end, third_code, variables_after, stmt_end, stmt_code, statements_end, statements_code}
-use Rattle.lower.specs.Program.{parameters_end, parameters_code, variables_after_parameters, no_variables, function_code}
+use Rattle.lower.specs.Lowers.{Context, exp_end, exp_code, target_end, target_code, arguments_code}
+use Rattle.lower.specs.Lowers.{or_end, or_code, set_code, update_code, step_operation, simple_code}
+use Rattle.lower.specs.Lowers.{initial_code, first_end, first_code, variables_after_first}
+use Rattle.lower.specs.Lowers.{third_end, third_code, variables_after, stmt_end, stmt_code}
+use Rattle.lower.specs.Lowers.{statements_end, statements_code}
+use Rattle.lower.specs.Program.{parameters_end, parameters_code, variables_after_parameters}
+use Rattle.lower.specs.Program.{no_variables, function_code}
 use Rattle.lower.proofs.Few.{none_left, none_right}
 use Rattle.lower.proofs.Sane.{IsSane}
-use Rattle.checked_law.proofs.PlainCalls.{AllPlain, both_plain, call_plain, exp_plain, target_plain, arguments_plain}
+use Rattle.checked_law.proofs.PlainCalls.{AllPlain, both_plain, call_plain, exp_plain, target_plain}
+use Rattle.checked_law.proofs.PlainCalls.{arguments_plain}
 
 value_plain : (k : Context) (s : List Scope) (v : Variables) (e : ExprTree) (p : ℕ)
     → IsSane k.tables → value_broken k.tables s e ≡ [] → AllPlain k.tables (exp_code k v e p)

@@ -7,23 +7,38 @@ use Rattle.nvm_base.specs.declared.op.BinOp.{BinOp}
 use Rattle.nvm_base.specs.declared.op.BinOp.TheVariants as op
 use Rattle.nvm_base.specs.Wrap.{IsWord}
 use Rattle.c_lexer.specs.declared.token.Placed.{Placed}
-use Rattle.c_parser.specs.declared.stmt.AssignOp.{AssignOp}
-use Rattle.c_parser.specs.declared.stmt.AssignOp.TheVariants as assign
-use Rattle.c_parser.specs.Kinds.{value_at}
-use Rattle.c_parser.specs.ExprTree.{ExprTree, Ident}
-use Rattle.c_parser.specs.StmtTree as stmt
-use Rattle.c_parser.specs.StmtTree.{StmtTree, Statements, SimpleTree, FirstTree, DeclarationTree, InitialTree}
-use Rattle.c_parser.specs.StmtSpelling.{Declares, plain, initial, Bracketed, bracketed, Acts, assigns, steps, Simply, acts, calls, frees, aborts, FirstPart, first_none, first_declares, first_simply, ValuePart, value_none, value_some, ThirdPart, third_none, third_some, Spells, empty, declares, simply, block, if_alone, if_else, repeats, counts, breaks, continues, returns, SpellsAll, nothing, something}
-use Rattle.c_parser.specs.ItemTree.{ItemTree, FunctionTree, ParameterTree}
-use Rattle.c_parser.specs.ItemSpelling.{SpellsFunction, function, SpellsItem, struct_def, root_decl, transaction, plain_function, SpellsItems, items_end, items_more}
-use Rattle.c_parser.specs.Program.{Program}
+use Rattle.c_tree.specs.declared.stmt.AssignOp.{AssignOp}
+use Rattle.c_tree.specs.declared.stmt.AssignOp.TheVariants as assign
+use Rattle.c_tree.specs.Kinds.{value_at}
+use Rattle.c_tree.specs.ExprTree.{ExprTree, Ident}
+use Rattle.c_tree.specs.StmtTree as stmt
+use Rattle.c_tree.specs.StmtTree.{StmtTree, Statements, SimpleTree, FirstTree, DeclarationTree}
+use Rattle.c_tree.specs.StmtTree.{InitialTree}
+use Rattle.c_tree.specs.StmtSpelling.{Declares, plain, initial, Bracketed, bracketed, Acts, assigns}
+use Rattle.c_tree.specs.StmtSpelling.{steps, Simply, acts, calls, frees, aborts, FirstPart}
+use Rattle.c_tree.specs.StmtSpelling.{first_none, first_declares, first_simply, ValuePart}
+use Rattle.c_tree.specs.StmtSpelling.{value_none, value_some, ThirdPart, third_none, third_some}
+use Rattle.c_tree.specs.StmtSpelling.{Spells, empty, declares, simply, block, if_alone, if_else}
+use Rattle.c_tree.specs.StmtSpelling.{repeats, counts, breaks, continues, returns, SpellsAll}
+use Rattle.c_tree.specs.StmtSpelling.{nothing, something}
+use Rattle.c_tree.specs.ItemTree.{ItemTree, FunctionTree, ParameterTree}
+use Rattle.c_tree.specs.ItemSpelling.{SpellsFunction, function, SpellsItem, struct_def, root_decl}
+use Rattle.c_tree.specs.ItemSpelling.{transaction, plain_function, SpellsItems, items_end}
+use Rattle.c_tree.specs.ItemSpelling.{items_more}
+use Rattle.c_tree.specs.Program.{Program}
 use Rattle.c_types.specs.Tables.{Tables, function_trees}
 use Rattle.ir.specs.declared.instruction.Instruction.TheVariants.{Copy}
 use Rattle.lower.specs.Assigned.{is_assigned}
 use Rattle.lower.specs.Names.{Variables, inner_variables, variable_of}
-use Rattle.lower.specs.Lowers.{Context, exp_end, exp_code, target_end, target_code, arguments_code, or_end, or_code, set_code, update_code, step_operation, simple_code, initial_code, first_end, first_code, variables_after_first, third_end, third_code, variables_after, stmt_end, stmt_code, statements_end, statements_code}
-use Rattle.lower.specs.Program.{parameters_end, parameters_code, variables_after_parameters, no_variables, context_at, lowered_function}
-use Rattle.checked_law.proofs.ExprConstants.{AreWords, both_words, zero_word, one_word, ExpWords, level_words, postfix_words, arguments_words}
+use Rattle.lower.specs.Lowers.{Context, exp_end, exp_code, target_end, target_code, arguments_code}
+use Rattle.lower.specs.Lowers.{or_end, or_code, set_code, update_code, step_operation, simple_code}
+use Rattle.lower.specs.Lowers.{initial_code, first_end, first_code, variables_after_first}
+use Rattle.lower.specs.Lowers.{third_end, third_code, variables_after, stmt_end, stmt_code}
+use Rattle.lower.specs.Lowers.{statements_end, statements_code}
+use Rattle.lower.specs.Program.{parameters_end, parameters_code, variables_after_parameters}
+use Rattle.lower.specs.Program.{no_variables, context_at, lowered_function}
+use Rattle.checked_law.proofs.ExprConstants.{AreWords, both_words, zero_word, one_word, ExpWords}
+use Rattle.checked_law.proofs.ExprConstants.{level_words, postfix_words, arguments_words}
 
 abbrev OrWords : Context → Option ExprTree → Type 0
 OrWords k e = (v : Variables) (m : ℤ) (p : ℕ) → IsWord m → AreWords (or_code k v m e p)

@@ -1,6 +1,8 @@
 -- The numbers among the tokens of a text are words.
-use Rattle.std.proofs.Common.{◌≡◌, ℕ, zero, suc, ◌-◌, ◌^◌, ◌≤◌, ℤ, pos, Bool, true, false, List, [], ◌∷◌, length, drop, refl, subst, arith}
-use Rattle.std.specs.Prelude.{nat_le, nat_lt, nat_eq, ◌==◌, ◌&&◌, ◌||◌, if◌then◌else◌, slice_index, codes, Option, None, Some, Result, Ok, Err}
+use Rattle.std.proofs.Common.{◌≡◌, ℕ, zero, suc, ◌-◌, ◌^◌, ◌≤◌, ℤ, pos, Bool, true, false, List, []}
+use Rattle.std.proofs.Common.{◌∷◌, length, drop, refl, subst, arith}
+use Rattle.std.specs.Prelude.{nat_le, nat_lt, nat_eq, ◌==◌, ◌&&◌, ◌||◌, if◌then◌else◌, slice_index}
+use Rattle.std.specs.Prelude.{codes, Option, None, Some, Result, Ok, Err}
 use Rattle.std.specs.List.{AllByRecursion, list_all, starts_with}
 use Rattle.std.specs.Char.{is_digit, is_ascii_digit}
 use Rattle.std.specs.Str.Parse.{digits_value_after}
@@ -12,14 +14,15 @@ use Rattle.c_lexer.specs.declared.spot.Spot.{Spot}
 use Rattle.c_lexer.specs.declared.token.Placed.{Placed}
 use Rattle.c_lexer.specs.Bytes.{is_blank, begins_name, run_len, line_len}
 use Rattle.c_lexer.specs.Comments.{comment_len, begins_include}
-use Rattle.c_lexer.specs.Cuts.{TextEnd, Cut, placed_at, begin_piece, cut_left, cut, lex_answer, limited, answer}
+use Rattle.c_lexer.specs.Cuts.{TextEnd, Cut, placed_at, begin_piece, cut_left, cut, lex_answer}
+use Rattle.c_lexer.specs.Cuts.{limited, answer}
 use Rattle.c_lexer.specs.Marks.{mark_at}
 use Rattle.c_lexer.specs.Next.{run_of, comment_piece, number_piece, mark_piece, next_piece}
 use Rattle.c_lexer.specs.Numbers.{digits_after, numeral, number_of}
 use Rattle.c_lexer.specs.Spots.{text_start, past_byte}
 use Rattle.c_lexer.specs.TokenList.{Tokens}
 use Rattle.c_lexer.specs.Words.{spelled_by, word_spelled, is_never_accepted}
-use Rattle.c_parser.specs.Kinds.{placed_value, value_at}
+use Rattle.c_tree.specs.Kinds.{placed_value, value_at}
 use Rattle.lower.proofs.Few.{and_right, le_from}
 
 abbrev IsWordToken : Placed → Type 0

@@ -1,22 +1,30 @@
 -- The words of a program's shapes are those that the typing rules count, if the program breaks
 -- none.
-use Rattle.std.proofs.Common.{◌≡◌, ℕ, zero, suc, ◌+◌, ◌-◌, ◌^◌, ◌≤◌, ℤ, pos, negsuc, min, Bool, true, false, List, [], ◌∷◌, ◌++◌, length, map, refl, ap, ◌∙◌, subst, arith, rules}
-use Rattle.std.specs.Prelude.{nat_le, nat_eq, ◌||◌, not, if◌then◌else◌, slice_get, Option, None, Some, option_map, unwrap_or}
+use Rattle.std.proofs.Common.{◌≡◌, ℕ, zero, suc, ◌+◌, ◌-◌, ◌^◌, ◌≤◌, ℤ, pos, negsuc, min, Bool}
+use Rattle.std.proofs.Common.{true, false, List, [], ◌∷◌, ◌++◌, length, map, refl, ap, ◌∙◌, subst}
+use Rattle.std.proofs.Common.{arith, rules}
+use Rattle.std.specs.Prelude.{nat_le, nat_eq, ◌||◌, not, if◌then◌else◌, slice_get, Option, None}
+use Rattle.std.specs.Prelude.{Some, option_map, unwrap_or}
 use Rattle.std.specs.Option.{option_map_or}
 use Rattle.std.specs.Int.{w64, cast_unsigned}
 use Rattle.std.proofs.lemmas.List.Sums.{sum_by-cons}
 use Rattle.c_lexer.specs.declared.token.Placed.{Placed}
-use Rattle.c_parser.specs.ItemTree.{ItemTree, FieldTree, LengthTree}
-use Rattle.c_parser.specs.Kinds.{ident_at}
-use Rattle.c_parser.specs.ItemSpelling.{SpellsFunction, SpellsItem, SpellsItems, items_end, items_more, struct_def, root_decl, transaction, plain_function, function}
+use Rattle.c_tree.specs.ItemTree.{ItemTree, FieldTree, LengthTree}
+use Rattle.c_tree.specs.Kinds.{ident_at}
+use Rattle.c_tree.specs.ItemSpelling.{SpellsFunction, SpellsItem, SpellsItems, items_end}
+use Rattle.c_tree.specs.ItemSpelling.{items_more, struct_def, root_decl, transaction}
+use Rattle.c_tree.specs.ItemSpelling.{plain_function, function}
 use Rattle.c_types.specs.declared.broken.Rule.TheVariants.{Twice, TooBig}
 use Rattle.c_types.specs.declared.fault.LimitKind.TheVariants as limit
 use Rattle.c_types.specs.Broken.{unless}
-use Rattle.c_types.specs.Tables.{Tables, StructTree, structs_of, index_of, field_names, struct_named, root_struct, is_first, is_length, length_words, field_words, words_from}
+use Rattle.c_types.specs.Tables.{Tables, StructTree, structs_of, index_of, field_names}
+use Rattle.c_types.specs.Tables.{struct_named, root_struct, is_first, is_length, length_words}
+use Rattle.c_types.specs.Tables.{field_words, words_from}
 use Rattle.c_types.specs.Tables as counted
 use Rattle.c_types.specs.Statements.{type_broken}
 use Rattle.c_types.specs.Shapes.{field_shape, numbered}
-use Rattle.c_types.specs.Declarations.{length_broken, field_broken, fields_broken, struct_broken, whole_struct_broken, structs_broken}
+use Rattle.c_types.specs.Declarations.{length_broken, field_broken, fields_broken, struct_broken}
+use Rattle.c_types.specs.Declarations.{whole_struct_broken, structs_broken}
 use Rattle.pool_map.specs.PoolFits.{words_of_field, words_of}
 use Rattle.lower.proofs.Few.{none_left, none_right, kept, and_left, and_right, le_from}
 

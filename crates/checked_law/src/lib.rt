@@ -3,7 +3,8 @@
 //! and has no code. Its one contract for the crates above: the laws of `specs/`.
 #![tactic(auto)]
 
-ghost use Rattle.checked_law.specs.Law.{CallsLaw, ConstantsLaw, EntriesLaw, LimitsLaw, LogsLaw, RootHasWordLaw, ShapesLaw};
+ghost use Rattle.checked_law.specs.Law.{CallsLaw, ConstantsLaw, EntriesLaw, LimitsLaw, LogsLaw};
+ghost use Rattle.checked_law.specs.Law.{RootHasWordLaw, ShapesLaw};
 
 /// A checked program's structs, root and functions are as small as the typing rules require, and no
 /// function of its code calls a transaction or has a log. The constants of its code are words, and

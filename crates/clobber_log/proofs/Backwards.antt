@@ -1,5 +1,7 @@
 -- Undo records restored one after the other, the newest first.
-use Rattle.std.proofs.Common.{◌≡◌, ◌≢◌, ⊎_elim, ℕ, zero, suc, ◌<◌, ◌≤◌, cond, if◌then◌else◌, nat_lt, Bool, true, false, Option, Some, None, Result, Ok, Err, OnOk, ◌++◌, ℤ, pos, negsuc, refl, sym, ap, ◌∙◌, subst, arith, int_eq}
+use Rattle.std.proofs.Common.{◌≡◌, ◌≢◌, ⊎_elim, ℕ, zero, suc, ◌<◌, ◌≤◌, cond, if◌then◌else◌, nat_lt}
+use Rattle.std.proofs.Common.{Bool, true, false, Option, Some, None, Result, Ok, Err, OnOk, ◌++◌, ℤ}
+use Rattle.std.proofs.Common.{pos, negsuc, refl, sym, ap, ◌∙◌, subst, arith, int_eq}
 use Rattle.std.proofs.lemmas.Bool.{cases_eq, ltb-false}
 use Rattle.std.proofs.lemmas.Bool.Decides.{Decides-int_eq}
 use Rattle.cache_model.specs.Event.{Store}
@@ -20,7 +22,8 @@ use Rattle.pool_layout.specs.Places.{at, pool_of, line_of}
 use Rattle.pool_layout.specs.Image.{Words}
 use Rattle.pool_layout.specs.Restored.{undo, undone, restored}
 use Rattle.clobber_log.specs.Logs.{attempt_in, count_in}
-use Rattle.clobber_log.specs.Restore.{as_heap_word, back_at, back_events, word_in_record, old_in_record, first_events, restore_events}
+use Rattle.clobber_log.specs.Restore.{as_heap_word, back_at, back_events, word_in_record}
+use Rattle.clobber_log.specs.Restore.{old_in_record, first_events, restore_events}
 
 abbrev heap : Sizes → Device → ℕ → ℤ
 heap s d w = view d.cache (at (pool_of s) (Heap w))

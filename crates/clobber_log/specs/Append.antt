@@ -6,7 +6,8 @@ use Rattle.pmem.specs.Device.{Device}
 use Rattle.pmem.specs.Played.{Played}
 use Rattle.pmem.specs.declared.answer.LogAnswer.TheVariants as log
 use Rattle.clobber_log.specs.declared.appending.AppendAnswer.{AppendAnswer}
-use Rattle.clobber_log.specs.declared.appending.AppendAnswer.TheVariants.{Done, Full, Off, Failed, NoMemory}
+use Rattle.clobber_log.specs.declared.appending.AppendAnswer.TheVariants.{Done, Full, Off, Failed}
+use Rattle.clobber_log.specs.declared.appending.AppendAnswer.TheVariants.{NoMemory}
 
 abbrev pub Appended : AppendAnswer → Device → List CacheEvent → Device → Type 0
 Appended Done d es b = Played log.Done d es b

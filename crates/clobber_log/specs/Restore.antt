@@ -1,7 +1,8 @@
 -- The events that restore the valid records, from the newest to the oldest: each old value is
 -- stored at its heap word, and that line is flushed; after them comes one fence, if there was a
 -- record. A record whose word lies outside the heap, which no pool holds, gives no event.
-use Rattle.std.specs.Prelude.{ℕ, zero, suc, if◌then◌else◌, nat_lt, Option, Some, None, List, [], ◌∷◌, ◌++◌, ℤ, pos, negsuc}
+use Rattle.std.specs.Prelude.{ℕ, zero, suc, if◌then◌else◌, nat_lt, Option, Some, None, List, []}
+use Rattle.std.specs.Prelude.{◌∷◌, ◌++◌, ℤ, pos, negsuc}
 use Rattle.cache_model.specs.Event.{CacheEvent, Store, Flush, Fence}
 use Rattle.pool_layout.specs.declared.limits.Sizes.{Sizes}
 use Rattle.pool_layout.specs.declared.places.Place.TheVariants.{RecordWord, RecordOld, Heap}

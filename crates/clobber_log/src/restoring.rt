@@ -1,6 +1,7 @@
 //! Restoring the old values of the log into the heap.
 
-ghost use Rattle.std.specs.Prelude.{◌≡◌, ◌+◌, ◌*◌, ◌<◌, ◌≤◌, ℕ, true, false, Some, IfSome, OnOk, IfErr};
+ghost use Rattle.std.specs.Prelude.{◌≡◌, ◌+◌, ◌*◌, ◌<◌, ◌≤◌, ℕ, true, false, Some, IfSome, OnOk};
+ghost use Rattle.std.specs.Prelude.{IfErr};
 ghost use Rattle.std.specs.Option.{ForSome};
 ghost use Rattle.cache_model.specs.Cache.{view, put};
 ghost use Rattle.pmem.specs.Played.{PlaysAll, PlaysPart, Played};
@@ -9,7 +10,9 @@ ghost use Rattle.pool_layout.specs.Places.{at, pool_of};
 ghost use Rattle.pool_layout.specs.declared.places.Place.TheVariants.{Heap};
 ghost use Rattle.pool_layout.specs.Restored.{undo, undone, restored};
 ghost use Rattle.clobber_log.specs.Logs.{attempt_in, count_in};
-ghost use Rattle.clobber_log.specs.Restore.{as_heap_word, back_at, back_events, word_in_record, old_in_record, fence_after, first_events, restore_events};
+ghost use Rattle.clobber_log.specs.Restore.{as_heap_word, back_at, back_events, word_in_record};
+ghost use Rattle.clobber_log.specs.Restore.{old_in_record, fence_after, first_events};
+ghost use Rattle.clobber_log.specs.Restore.{restore_events};
 
 use crate::valid::{attempt, count};
 use nvm_base::Steps;

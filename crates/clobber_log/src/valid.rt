@@ -1,6 +1,7 @@
 //! The number of valid records of the log.
 
-ghost use Rattle.std.specs.Prelude.{◌≡◌, ◌-◌, ◌*◌, ◌+◌, ◌^◌, ◌<◌, ◌≤◌, true, false, IfSome, IsSome, IsNone};
+ghost use Rattle.std.specs.Prelude.{◌≡◌, ◌-◌, ◌*◌, ◌+◌, ◌^◌, ◌<◌, ◌≤◌, true, false, IfSome, IsSome};
+ghost use Rattle.std.specs.Prelude.{IsNone};
 ghost use Rattle.cache_model.specs.Cache.{view};
 ghost use Rattle.pool_layout.specs.Sizes.{pool_lines};
 ghost use Rattle.pool_layout.specs.Places.{at, pool_of};

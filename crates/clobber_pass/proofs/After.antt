@@ -1,25 +1,31 @@
 -- The step of a row is the table's step on facts, for each topic.
-use Rattle.std.proofs.Common.{◌≡◌, ◌<◌, ◌≤◌, ◌+◌, ℕ, Bool, true, false, List, Some, None, length, refl, sym, ◌∙◌, ap, subst, arith}
+use Rattle.std.proofs.Common.{◌≡◌, ◌<◌, ◌≤◌, ◌+◌, ℕ, Bool, true, false, List, Some, None, length}
+use Rattle.std.proofs.Common.{refl, sym, ◌∙◌, ap, subst, arith}
 use Rattle.std.specs.Prelude.{◌==◌, ◌&&◌, ◌||◌, not, slice_set, bit_and, bit_or, if◌then◌else◌}
 use Rattle.std.proofs.lemmas.Bool.{false≢true, and_parts, eqb-true}
 use Rattle.std.proofs.lemmas.List.{length-set}
 use Rattle.ir.specs.declared.instruction.Target.TheVariants.{Root, Field}
 use Rattle.ir.specs.declared.instruction.Instruction.{Instruction}
-use Rattle.ir.specs.declared.instruction.Instruction.TheVariants.{Const, Copy, Bin, Jump, Branch, Load, Store, New, Free, Call, Return, Tick, Trap, Log}
+use Rattle.ir.specs.declared.instruction.Instruction.TheVariants.{Const, Copy, Bin, Jump, Branch}
+use Rattle.ir.specs.declared.instruction.Instruction.TheVariants.{Load, Store, New, Free, Call}
+use Rattle.ir.specs.declared.instruction.Instruction.TheVariants.{Return, Tick, Trap, Log}
 use Rattle.ir.specs.declared.function.Ir.{Ir}
 use Rattle.ir.specs.declared.fact.Fact.{Fact}
-use Rattle.ir.specs.declared.fact.Fact.TheVariants.{Here, Unwritten, RootUnwritten, ReadRoot, ReadField, Freed}
+use Rattle.ir.specs.declared.fact.Fact.TheVariants.{Here, Unwritten, RootUnwritten, ReadRoot}
+use Rattle.ir.specs.declared.fact.Fact.TheVariants.{ReadField, Freed}
 use Rattle.ir.specs.declared.fact.Origins.TheVariants.{Nowhere, One, Two}
 use Rattle.ir.specs.WellFormed.{IsInstruction}
 use Rattle.ir.specs.Table.{origins}
 use Rattle.clobber_pass.specs.declared.topic.Topic.{Topic}
-use Rattle.clobber_pass.specs.declared.topic.Topic.TheVariants.{Frees, Root as Roots, Field as Fields}
+use Rattle.clobber_pass.specs.declared.topic.Topic.TheVariants.{Frees, Root as Roots}
+use Rattle.clobber_pass.specs.declared.topic.Topic.TheVariants.{Field as Fields}
 use Rattle.clobber_pass.specs.inside.Class.{class_at, is_about, slot}
 use Rattle.clobber_pass.specs.Row.{word, has_bit, tells}
 use Rattle.clobber_pass.specs.inside.Row.{mask, without, with_read, after_row}
 use Rattle.clobber_pass.specs.inside.Told.{tells_any, row_width}
 use Rattle.clobber_pass.proofs.Bits.{has_bit_or, has_bit_and, has_bit_without, has_bit_mask}
-use Rattle.clobber_pass.proofs.Steps.{at_same, at_other, given_start, given_sought, read_length, register_after, start_after, sought_after}
+use Rattle.clobber_pass.proofs.Steps.{at_same, at_other, given_start, given_sought, read_length}
+use Rattle.clobber_pass.proofs.Steps.{register_after, start_after, sought_after}
 
 and_true : (a : Bool) → (a && true) ≡ a
 and_true true = refl

@@ -1,18 +1,23 @@
 -- The row after a call, fact by fact.
-use Rattle.std.proofs.Common.{◌≡◌, ◌<◌, ◌≤◌, ◌+◌, ◌-◌, ℕ, zero, suc, Bool, true, false, List, [], ◌∷◌, Option, Some, None, length, refl, sym, ◌∙◌, ap, subst, arith, inl, inr, ⊎_elim}
-use Rattle.std.specs.Prelude.{◌==◌, ◌||◌, slice_get, slice_index_or, bit_and, bit_or, position, if◌then◌else◌}
+use Rattle.std.proofs.Common.{◌≡◌, ◌<◌, ◌≤◌, ◌+◌, ◌-◌, ℕ, zero, suc, Bool, true, false, List, []}
+use Rattle.std.proofs.Common.{◌∷◌, Option, Some, None, length, refl, sym, ◌∙◌, ap, subst, arith}
+use Rattle.std.proofs.Common.{inl, inr, ⊎_elim}
+use Rattle.std.specs.Prelude.{◌==◌, ◌||◌, slice_get, slice_index_or, bit_and, bit_or, position}
+use Rattle.std.specs.Prelude.{if◌then◌else◌}
 use Rattle.std.proofs.lemmas.Bool.{false≢true, and_parts, and_from, cases_lt, lt-ltb, le-ltb}
 use Rattle.std.proofs.lemmas.Option.{slice_get_past, slice_get-get_or}
 use mathlib.Core.Logic.{◌⊎◌}
 use Rattle.ir.specs.declared.fact.Fact.{Fact}
-use Rattle.ir.specs.declared.fact.Fact.TheVariants.{Here, Unwritten, RootUnwritten, ReadRoot, ReadField, Freed}
+use Rattle.ir.specs.declared.fact.Fact.TheVariants.{Here, Unwritten, RootUnwritten, ReadRoot}
+use Rattle.ir.specs.declared.fact.Fact.TheVariants.{ReadField, Freed}
 use Rattle.ir.specs.declared.fact.Back.{Back}
 use Rattle.ir.specs.declared.fact.Back.TheVariants.{FromReturn, Stays}
 use Rattle.ir.specs.Table.{argument_fact, at_call, from_parameter, back}
 use Rattle.clobber_pass.specs.inside.Class.{slot}
 use Rattle.clobber_pass.specs.Row.{word, has_bit, tells}
 use Rattle.clobber_pass.specs.inside.Told.{column_of, column}
-use Rattle.clobber_pass.specs.inside.Sweep.{exit, comes, from_args, gather, passed_on, register_after, slot_after, call_from}
+use Rattle.clobber_pass.specs.inside.Sweep.{exit, comes, from_args, gather, passed_on}
+use Rattle.clobber_pass.specs.inside.Sweep.{register_after, slot_after, call_from}
 use Rattle.clobber_pass.proofs.Bits.{has_bit_or, has_bit_and}
 
 pub or_left : (a b : Bool) → a ≡ true → (a || b) ≡ true

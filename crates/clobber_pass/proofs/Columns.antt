@@ -1,6 +1,8 @@
 -- Sweeps from one column of a function's entry: what they record of returns is derived, and is
 -- recorded in the exits.
-use Rattle.std.proofs.Common.{◌≡◌, ◌<◌, ◌+◌, ◌-◌, ◌^◌, ℕ, zero, suc, Bool, true, false, List, [], ◌∷◌, Option, Some, None, length, refl, sym, ◌∙◌, ap, subst, arith, inl, inr, ⊎_elim}
+use Rattle.std.proofs.Common.{◌≡◌, ◌<◌, ◌+◌, ◌-◌, ◌^◌, ℕ, zero, suc, Bool, true, false, List, []}
+use Rattle.std.proofs.Common.{◌∷◌, Option, Some, None, length, refl, sym, ◌∙◌, ap, subst, arith}
+use Rattle.std.proofs.Common.{inl, inr, ⊎_elim}
 use Rattle.std.specs.Prelude.{◌==◌, slice_get, slice_set, if◌then◌else◌}
 use Rattle.std.proofs.lemmas.Bool.{false≢true, eqb-true, eq-eqb}
 use Rattle.std.proofs.lemmas.List.{length-set, length-replicate, get_or-set_same}
@@ -23,8 +25,11 @@ use Rattle.clobber_pass.specs.inside.Class.{class_at, is_about, slot}
 use Rattle.clobber_pass.specs.Row.{word, has_bit, tells}
 use Rattle.clobber_pass.specs.inside.Told.{row_width, column_of, column, parameters_at}
 use Rattle.clobber_pass.specs.Sweep.{row_in}
-use Rattle.clobber_pass.specs.inside.Sweep.{exits_of, exit, row_joined, join_in, meet_in, rows_led, jump_target, here_in, next_row, swept}
-use Rattle.clobber_pass.specs.inside.Closed.{Closed, Shaped, Made, entry_word, entry_from, entry_row, ShapedExits, Within, EndedIn, Ended, no_exits, joined_exits}
+use Rattle.clobber_pass.specs.inside.Sweep.{exits_of, exit, row_joined, join_in, meet_in, rows_led}
+use Rattle.clobber_pass.specs.inside.Sweep.{jump_target, here_in, next_row, swept}
+use Rattle.clobber_pass.specs.inside.Closed.{Closed, Shaped, Made, entry_word, entry_from}
+use Rattle.clobber_pass.specs.inside.Closed.{entry_row, ShapedExits, Within, EndedIn, Ended}
+use Rattle.clobber_pass.specs.inside.Closed.{no_exits, joined_exits}
 use Rattle.clobber_pass.specs.inside.Closed.Made.{none, more}
 use Rattle.clobber_pass.specs.inside.Sound.{Backed, SoundExits}
 use Rattle.clobber_pass.proofs.Fits.{parameters_there}

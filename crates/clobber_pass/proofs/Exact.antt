@@ -1,5 +1,6 @@
 -- A table in which each topic is marked says of each site whether it is logged.
-use Rattle.std.proofs.Common.{◌≡◌, ◌<◌, ◌≤◌, ◌+◌, ℕ, Bool, true, false, List, Some, length, refl, sym, ◌∙◌, subst, arith, slice_get, inl, inr}
+use Rattle.std.proofs.Common.{◌≡◌, ◌<◌, ◌≤◌, ◌+◌, ℕ, Bool, true, false, List, Some, length, refl}
+use Rattle.std.proofs.Common.{sym, ◌∙◌, subst, arith, slice_get, inl, inr}
 use Rattle.std.specs.Prelude.{◌↔◌}
 use Rattle.std.proofs.lemmas.Option.{slice_get_within}
 use Rattle.ir.specs.declared.function.IrFunction.{IrFunction}
@@ -13,7 +14,8 @@ use Rattle.ir.proofs.Law.{exact}
 use Rattle.clobber_pass.specs.declared.topic.Topic.{Topic}
 use Rattle.clobber_pass.specs.declared.topic.Topic.TheVariants.{Frees}
 use Rattle.clobber_pass.specs.Marking.{says, site_said}
-use Rattle.clobber_pass.specs.inside.Marking.{Logged, Marks, Headers, KeepsRows, AllMarked, Has, HasAll, topic_of}
+use Rattle.clobber_pass.specs.inside.Marking.{Logged, Marks, Headers, KeepsRows, AllMarked, Has}
+use Rattle.clobber_pass.specs.inside.Marking.{HasAll, topic_of}
 use Rattle.clobber_pass.proofs.Fits.{standing}
 use Rattle.clobber_pass.proofs.Rounds.{below_next}
 use Rattle.clobber_pass.proofs.Tabled.{marked_keeps}

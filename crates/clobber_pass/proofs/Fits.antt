@@ -1,16 +1,19 @@
 -- All that well formed code names exists; and the origins of a fact that matters in a function
 -- matter too.
-use Rattle.std.proofs.Common.{◌≡◌, ◌<◌, ◌≤◌, ℕ, zero, suc, Bool, true, false, cond, List, [], ◌∷◌, Option, Some, None, length, refl, sym, ap, subst, arith, inl, inr}
+use Rattle.std.proofs.Common.{◌≡◌, ◌<◌, ◌≤◌, ℕ, zero, suc, Bool, true, false, cond, List, [], ◌∷◌}
+use Rattle.std.proofs.Common.{Option, Some, None, length, refl, sym, ap, subst, arith, inl, inr}
 use Rattle.std.specs.Prelude.{◌==◌, ◌&&◌, slice_get, position, option_and_then}
 use Rattle.std.specs.List.{AllByRecursion}
 use Rattle.std.proofs.lemmas.List.Quantifiers.{position-Some}
 use Rattle.ir.specs.declared.instruction.Target.TheVariants.{Root, Field}
 use Rattle.ir.specs.declared.instruction.Instruction.{Instruction}
-use Rattle.ir.specs.declared.instruction.Instruction.TheVariants.{Const, Copy, Bin, Load, Store, New, Free, Call}
+use Rattle.ir.specs.declared.instruction.Instruction.TheVariants.{Const, Copy, Bin, Load, Store}
+use Rattle.ir.specs.declared.instruction.Instruction.TheVariants.{New, Free, Call}
 use Rattle.ir.specs.declared.function.IrFunction.{IrFunction}
 use Rattle.ir.specs.declared.function.Ir.{Ir}
 use Rattle.ir.specs.declared.fact.Fact.{Fact}
-use Rattle.ir.specs.declared.fact.Fact.TheVariants.{Here, Unwritten, RootUnwritten, ReadRoot, ReadField, Freed}
+use Rattle.ir.specs.declared.fact.Fact.TheVariants.{Here, Unwritten, RootUnwritten, ReadRoot}
+use Rattle.ir.specs.declared.fact.Fact.TheVariants.{ReadField, Freed}
 use Rattle.ir.specs.declared.fact.Origins.{Origins}
 use Rattle.ir.specs.declared.fact.Origins.TheVariants.{Nowhere, One, Two}
 use Rattle.ir.specs.declared.fact.Back.TheVariants.{FromReturn, Stays}
@@ -18,7 +21,8 @@ use Rattle.ir.specs.Places.{instruction_at, CallsAt}
 use Rattle.ir.specs.Table.{AmongOrigins, origins, argument_fact, at_call, from_parameter, back}
 use Rattle.ir.specs.WellFormed.{IsInstruction, TakesArgs, IsFunction, IsWellFormed}
 use Rattle.clobber_pass.specs.inside.Class.{Class}
-use Rattle.clobber_pass.specs.inside.Told.{parameter_count, parameters_at, register_count, registers_at, Fits, Matters}
+use Rattle.clobber_pass.specs.inside.Told.{parameter_count, parameters_at, register_count}
+use Rattle.clobber_pass.specs.inside.Told.{registers_at, Fits, Matters}
 use Rattle.clobber_pass.proofs.About.{about_origins, about_at_call, about_return, about_stays}
 
 pub all_at : {X : Type 0} (P : X → Type 0) (xs : List X) (k : ℕ) (x : X) → AllByRecursion P xs

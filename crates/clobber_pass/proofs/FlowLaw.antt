@@ -1,5 +1,6 @@
 -- The rows record every fact that walks have.
-use Rattle.std.proofs.Common.{◌≡◌, ◌<◌, ◌≤◌, ◌+◌, ℕ, zero, suc, Bool, true, false, List, [], ◌∷◌, Option, Some, None, length, refl, sym, ◌∙◌, ap, subst, arith}
+use Rattle.std.proofs.Common.{◌≡◌, ◌<◌, ◌≤◌, ◌+◌, ℕ, zero, suc, Bool, true, false, List, [], ◌∷◌}
+use Rattle.std.proofs.Common.{Option, Some, None, length, refl, sym, ◌∙◌, ap, subst, arith}
 use Rattle.std.specs.Prelude.{slice_get, option_and_then}
 use Rattle.std.proofs.lemmas.Bool.{false≢true, le-ltb}
 use Rattle.std.proofs.lemmas.Option.{slice_get_within}
@@ -8,7 +9,8 @@ use Rattle.ir.specs.declared.instruction.Instruction.TheVariants.{Call}
 use Rattle.ir.specs.declared.function.IrFunction.{IrFunction}
 use Rattle.ir.specs.declared.function.Ir.{Ir}
 use Rattle.ir.specs.declared.fact.Fact.{Fact}
-use Rattle.ir.specs.declared.fact.Fact.TheVariants.{Here, Unwritten, RootUnwritten, ReadRoot, ReadField, Freed}
+use Rattle.ir.specs.declared.fact.Fact.TheVariants.{Here, Unwritten, RootUnwritten, ReadRoot}
+use Rattle.ir.specs.declared.fact.Fact.TheVariants.{ReadField, Freed}
 use Rattle.ir.specs.Places.{IsTransaction, CallsAt}
 use Rattle.ir.specs.Walk.{at_start}
 use Rattle.ir.specs.Table.{holds, at_call}
@@ -23,7 +25,8 @@ use Rattle.clobber_pass.specs.inside.Sweep.{exits_of, next_row, row_or}
 use Rattle.clobber_pass.specs.inside.Closed.{row_reaching, seen_in_row, told_in, Shaped, pass_in}
 use Rattle.clobber_pass.specs.inside.Calling.{CalledEnded}
 use Rattle.clobber_pass.specs.inside.Sound.{SoundExits}
-use Rattle.clobber_pass.specs.inside.Flow.{enter_row, BroughtBy, AllBrought, SoundEntries, ShapedEntries, StartEntries, at_entry, FlowIn, AllFlow}
+use Rattle.clobber_pass.specs.inside.Flow.{enter_row, BroughtBy, AllBrought, SoundEntries}
+use Rattle.clobber_pass.specs.inside.Flow.{ShapedEntries, StartEntries, at_entry, FlowIn, AllFlow}
 use Rattle.clobber_pass.specs.inside.Law.{StaysTold, TellsFlows}
 use Rattle.clobber_pass.proofs.Fits.{registers_there}
 use Rattle.clobber_pass.proofs.Joins.{tells_inside}

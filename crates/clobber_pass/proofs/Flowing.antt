@@ -1,5 +1,7 @@
 -- Entries joined with what calls bring record only derived facts.
-use Rattle.std.proofs.Common.{◌≡◌, ◌<◌, ◌≤◌, ◌+◌, ◌-◌, ℕ, zero, suc, Bool, true, false, List, [], ◌∷◌, Option, Some, None, length, refl, sym, ◌∙◌, ◌++◌, ap, subst, arith, inl, inr, ⊎_elim}
+use Rattle.std.proofs.Common.{◌≡◌, ◌<◌, ◌≤◌, ◌+◌, ◌-◌, ℕ, zero, suc, Bool, true, false, List, []}
+use Rattle.std.proofs.Common.{◌∷◌, Option, Some, None, length, refl, sym, ◌∙◌, ◌++◌, ap, subst}
+use Rattle.std.proofs.Common.{arith, inl, inr, ⊎_elim}
 use Rattle.std.specs.Prelude.{◌==◌, slice_get, slice_set, nat_lt, if◌then◌else◌}
 use Rattle.std.proofs.lemmas.Bool.{false≢true, le-ltb, eqb-true, eq-eqb}
 use Rattle.std.proofs.lemmas.List.{length-set, get_or-set_same}
@@ -7,11 +9,14 @@ use Rattle.std.proofs.lemmas.Option.{slice_get_within}
 use Rattle.std.specs.List.{AllByRecursion}
 use mathlib.Core.Logic.{◌⊎◌}
 use Rattle.ir.specs.declared.instruction.Instruction.{Instruction}
-use Rattle.ir.specs.declared.instruction.Instruction.TheVariants.{Const, Copy, Bin, Jump, Branch, Load, Store, New, Free, Call, Return, Tick, Trap, Log}
+use Rattle.ir.specs.declared.instruction.Instruction.TheVariants.{Const, Copy, Bin, Jump, Branch}
+use Rattle.ir.specs.declared.instruction.Instruction.TheVariants.{Load, Store, New, Free, Call}
+use Rattle.ir.specs.declared.instruction.Instruction.TheVariants.{Return, Tick, Trap, Log}
 use Rattle.ir.specs.declared.function.IrFunction.{IrFunction}
 use Rattle.ir.specs.declared.function.Ir.{Ir}
 use Rattle.ir.specs.declared.fact.Fact.{Fact}
-use Rattle.ir.specs.declared.fact.Fact.TheVariants.{Here, Unwritten, RootUnwritten, ReadRoot, ReadField, Freed}
+use Rattle.ir.specs.declared.fact.Fact.TheVariants.{Here, Unwritten, RootUnwritten, ReadRoot}
+use Rattle.ir.specs.declared.fact.Fact.TheVariants.{ReadField, Freed}
 use Rattle.ir.specs.Places.{instruction_at}
 use Rattle.ir.specs.Table.{argument_fact, at_call}
 use Rattle.ir.specs.Derived.{Flows}
@@ -22,18 +27,25 @@ use Rattle.clobber_pass.specs.inside.Class.{class_at, is_about, slot}
 use Rattle.clobber_pass.specs.Row.{word, has_bit, tells}
 use Rattle.clobber_pass.specs.inside.Told.{row_width, register_count, registers_at}
 use Rattle.clobber_pass.specs.Sweep.{row_in}
-use Rattle.clobber_pass.specs.inside.Sweep.{exits_of, or_from, row_joined, join_in, next_row, row_or}
+use Rattle.clobber_pass.specs.inside.Sweep.{exits_of, or_from, row_joined, join_in, next_row}
+use Rattle.clobber_pass.specs.inside.Sweep.{row_or}
 use Rattle.clobber_pass.specs.inside.Closed.{Closed, Shaped, Made, Within}
 use Rattle.clobber_pass.specs.inside.Closed.Made.{none, more}
 use Rattle.clobber_pass.specs.inside.Sound.{SoundExits}
-use Rattle.clobber_pass.specs.inside.Flow.{BroughtBy, AllBrought, FlowIn, FlowEnded, Flowing, Wakes, waits, Entries, StartEntries, argument_word, enter_word, enter_from, enter_row, entries_after_call, entries_after_calls, SoundEntries, ShapedEntries, at_entry}
+use Rattle.clobber_pass.specs.inside.Flow.{BroughtBy, AllBrought, FlowIn, FlowEnded, Flowing, Wakes}
+use Rattle.clobber_pass.specs.inside.Flow.{waits, Entries, StartEntries, argument_word, enter_word}
+use Rattle.clobber_pass.specs.inside.Flow.{enter_from, enter_row, entries_after_call}
+use Rattle.clobber_pass.specs.inside.Flow.{entries_after_calls, SoundEntries, ShapedEntries}
+use Rattle.clobber_pass.specs.inside.Flow.{at_entry}
 use Rattle.clobber_pass.proofs.Bits.{has_bit_zero, has_bit_or}
 use Rattle.clobber_pass.proofs.Calls.{or_left}
 use Rattle.clobber_pass.proofs.Waking.{waits_other}
 use Rattle.clobber_pass.proofs.Fits.{all_at}
 use Rattle.clobber_pass.proofs.About.{about_at_call}
-use Rattle.clobber_pass.proofs.Joins.{tells_inside, word_or, row_in_set, joined_tells, exits_of_other}
-use Rattle.clobber_pass.proofs.Good.{Steps, Good, GoodRow, GoodOrNone, good_pick, good_next, swept_good, none_good}
+use Rattle.clobber_pass.proofs.Joins.{tells_inside, word_or, row_in_set, joined_tells}
+use Rattle.clobber_pass.proofs.Joins.{exits_of_other}
+use Rattle.clobber_pass.proofs.Good.{Steps, Good, GoodRow, GoodOrNone, good_pick, good_next}
+use Rattle.clobber_pass.proofs.Good.{swept_good, none_good}
 use Rattle.clobber_pass.proofs.Columns.{joined_out, joined_shape}
 
 -- the words at a called function's entry

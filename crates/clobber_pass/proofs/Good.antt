@@ -1,16 +1,20 @@
 -- A swept table records only derived facts.
-use Rattle.std.proofs.Common.{◌≡◌, ◌<◌, ◌+◌, ℕ, suc, true, List, [], ◌∷◌, Some, length, replicate, refl, sym, ◌∙◌, ap, subst, arith, inl, inr, ⊎_elim}
+use Rattle.std.proofs.Common.{◌≡◌, ◌<◌, ◌+◌, ℕ, suc, true, List, [], ◌∷◌, Some, length, replicate}
+use Rattle.std.proofs.Common.{refl, sym, ◌∙◌, ap, subst, arith, inl, inr, ⊎_elim}
 use Rattle.std.specs.Prelude.{slice_get, slice_set}
 use Rattle.std.proofs.lemmas.Bool.{false≢true, and_parts}
 use Rattle.std.proofs.lemmas.List.{length-replicate}
 use Rattle.std.proofs.lemmas.Option.{slice_get_within}
 use mathlib.Core.Logic.{◌⊎◌}
 use Rattle.ir.specs.declared.instruction.Instruction.{Instruction}
-use Rattle.ir.specs.declared.instruction.Instruction.TheVariants.{Const, Copy, Bin, Jump, Branch, Load, Store, New, Free, Call, Return, Tick, Trap, Log}
+use Rattle.ir.specs.declared.instruction.Instruction.TheVariants.{Const, Copy, Bin, Jump, Branch}
+use Rattle.ir.specs.declared.instruction.Instruction.TheVariants.{Load, Store, New, Free, Call}
+use Rattle.ir.specs.declared.instruction.Instruction.TheVariants.{Return, Tick, Trap, Log}
 use Rattle.ir.specs.declared.function.IrFunction.{IrFunction}
 use Rattle.ir.specs.declared.function.Ir.{Ir}
 use Rattle.ir.specs.declared.fact.Fact.{Fact}
-use Rattle.ir.specs.declared.fact.Fact.TheVariants.{Here, Unwritten, RootUnwritten, ReadRoot, ReadField, Freed}
+use Rattle.ir.specs.declared.fact.Fact.TheVariants.{Here, Unwritten, RootUnwritten, ReadRoot}
+use Rattle.ir.specs.declared.fact.Fact.TheVariants.{ReadField, Freed}
 use Rattle.ir.specs.declared.fact.Origins.{Origins}
 use Rattle.ir.specs.declared.fact.Origins.TheVariants.{Nowhere, One, Two}
 use Rattle.ir.specs.declared.fact.Back.{Back}
@@ -26,14 +30,18 @@ use Rattle.clobber_pass.specs.Row.{word, has_bit, tells}
 use Rattle.clobber_pass.specs.inside.Row.{after_row}
 use Rattle.clobber_pass.specs.inside.Told.{tells_any, row_width, parameters_at}
 use Rattle.clobber_pass.specs.Sweep.{row_in}
-use Rattle.clobber_pass.specs.inside.Sweep.{exits_of, exit, call_from, next_row, jump_target, or_from, row_joined, join_in, meet_in, row_or, here_in, rows_led, swept}
+use Rattle.clobber_pass.specs.inside.Sweep.{exits_of, exit, call_from, next_row, jump_target}
+use Rattle.clobber_pass.specs.inside.Sweep.{or_from, row_joined, join_in, meet_in, row_or, here_in}
+use Rattle.clobber_pass.specs.inside.Sweep.{rows_led, swept}
 use Rattle.clobber_pass.specs.inside.Sound.{Backed, SoundExits}
 use Rattle.clobber_pass.proofs.About.{about_origins, about_at_call, about_return, about_stays}
 use Rattle.clobber_pass.proofs.Fits.{all_at, args_count}
 use Rattle.clobber_pass.proofs.Bits.{has_bit_zero, has_bit_and}
 use Rattle.clobber_pass.proofs.After.{after_told, length_after}
-use Rattle.clobber_pass.proofs.Calls.{or_parts, word_call, length_call, Entry, Brings, gather_out, entry_is, By, after_by}
-use Rattle.clobber_pass.proofs.Joins.{tells_inside, word_zeros, length_or, or_out, row_in_set, row_in_replicate}
+use Rattle.clobber_pass.proofs.Calls.{or_parts, word_call, length_call, Entry, Brings, gather_out}
+use Rattle.clobber_pass.proofs.Calls.{entry_is, By, after_by}
+use Rattle.clobber_pass.proofs.Joins.{tells_inside, word_zeros, length_or, or_out, row_in_set}
+use Rattle.clobber_pass.proofs.Joins.{row_in_replicate}
 
 -- that a walk is here comes only from a walk that is here
 pub here_only : (functions : List IrFunction) {f o p : ℕ} {e b : Fact} → Passes functions f o e p b

@@ -1,5 +1,6 @@
 -- The marks of a function's places for a topic agree with the derived facts.
-use Rattle.std.proofs.Common.{◌≡◌, ◌<◌, ◌+◌, ◌-◌, ◌%◌, ℕ, zero, suc, Bool, true, false, List, [], ◌∷◌, Option, Some, length, refl, sym, ◌∙◌, ap, subst, arith, inl, inr}
+use Rattle.std.proofs.Common.{◌≡◌, ◌<◌, ◌+◌, ◌-◌, ◌%◌, ℕ, zero, suc, Bool, true, false, List, []}
+use Rattle.std.proofs.Common.{◌∷◌, Option, Some, length, refl, sym, ◌∙◌, ap, subst, arith, inl, inr}
 use Rattle.std.specs.Prelude.{◌==◌, ◌&&◌, slice_get, if◌then◌else◌}
 use Rattle.std.proofs.lemmas.Bool.{false≢true, and_from, eqb-true, eq-eqb}
 use Rattle.std.proofs.lemmas.Option.{slice_get_within}
@@ -7,17 +8,21 @@ use mathlib.Core.Logic.{◌⊎◌}
 use Rattle.ir.specs.declared.instruction.Target.{Target}
 use Rattle.ir.specs.declared.instruction.Target.TheVariants.{Root, Field}
 use Rattle.ir.specs.declared.instruction.Instruction.{Instruction}
-use Rattle.ir.specs.declared.instruction.Instruction.TheVariants.{Const, Copy, Bin, Jump, Branch, Load, Store, New, Free, Call, Return, Tick, Trap, Log}
+use Rattle.ir.specs.declared.instruction.Instruction.TheVariants.{Const, Copy, Bin, Jump, Branch}
+use Rattle.ir.specs.declared.instruction.Instruction.TheVariants.{Load, Store, New, Free, Call}
+use Rattle.ir.specs.declared.instruction.Instruction.TheVariants.{Return, Tick, Trap, Log}
 use Rattle.ir.specs.declared.function.IrFunction.{IrFunction}
 use Rattle.ir.specs.declared.function.Ir.{Ir}
 use Rattle.ir.specs.declared.fact.Fact.{Fact}
-use Rattle.ir.specs.declared.fact.Fact.TheVariants.{Unwritten, RootUnwritten, ReadRoot, ReadField, Freed}
+use Rattle.ir.specs.declared.fact.Fact.TheVariants.{Unwritten, RootUnwritten, ReadRoot, ReadField}
+use Rattle.ir.specs.declared.fact.Fact.TheVariants.{Freed}
 use Rattle.ir.specs.Places.{instruction_at}
 use Rattle.ir.specs.Clobber.{unwritten, read_fact}
 use Rattle.ir.specs.Derived.{Flows}
 use Rattle.ir.specs.WellFormed.{IsInstruction, IsFunction, IsWellFormed}
 use Rattle.clobber_pass.specs.declared.topic.Topic.{Topic}
-use Rattle.clobber_pass.specs.declared.topic.Topic.TheVariants.{Frees, Root as Roots, Field as Fields}
+use Rattle.clobber_pass.specs.declared.topic.Topic.TheVariants.{Frees, Root as Roots}
+use Rattle.clobber_pass.specs.declared.topic.Topic.TheVariants.{Field as Fields}
 use Rattle.clobber_pass.specs.inside.Class.{class_at, is_about, slot}
 use Rattle.clobber_pass.specs.Row.{word, has_bit, tells}
 use Rattle.clobber_pass.specs.inside.Row.{mask}
@@ -29,10 +34,12 @@ use Rattle.clobber_pass.specs.inside.Calling.{CalledEnded}
 use Rattle.clobber_pass.specs.inside.Sound.{SoundExits}
 use Rattle.clobber_pass.specs.inside.Flow.{Entries, StartEntries, at_entry, AllFlow}
 use Rattle.clobber_pass.specs.Marking.{part}
-use Rattle.clobber_pass.specs.inside.Marking.{meets, store_word, fill_word, mark_word, marks_from, Logged, topic_of}
+use Rattle.clobber_pass.specs.inside.Marking.{meets, store_word, fill_word, mark_word, marks_from}
+use Rattle.clobber_pass.specs.inside.Marking.{Logged, topic_of}
 use Rattle.clobber_pass.proofs.Bits.{has_bit_zero}
 use Rattle.clobber_pass.proofs.Fits.{all_at, registers_there}
-use Rattle.clobber_pass.proofs.Flowing.{GoodAt, AllGood, pick_is_good, next_is_good, flow_good, entry_is_good}
+use Rattle.clobber_pass.proofs.Flowing.{GoodAt, AllGood, pick_is_good, next_is_good, flow_good}
+use Rattle.clobber_pass.proofs.Flowing.{entry_is_good}
 use Rattle.clobber_pass.proofs.FlowLaw.{told_there}
 use Rattle.clobber_pass.proofs.Meeting.{meets_in, Met, meets_out, first_out, first_in}
 

@@ -1,23 +1,29 @@
 -- The facts of a closed table are closed under each step.
-use Rattle.std.proofs.Common.{◌≡◌, ◌<◌, ◌≤◌, ◌+◌, ℕ, zero, suc, true, List, [], ◌∷◌, Option, Some, length, refl, sym, ◌∙◌, ap, subst, arith, inl, inr, ⊎_elim}
+use Rattle.std.proofs.Common.{◌≡◌, ◌<◌, ◌≤◌, ◌+◌, ℕ, zero, suc, true, List, [], ◌∷◌, Option, Some}
+use Rattle.std.proofs.Common.{length, refl, sym, ◌∙◌, ap, subst, arith, inl, inr, ⊎_elim}
 use Rattle.std.specs.Prelude.{slice_get, slice_set}
 use Rattle.std.proofs.lemmas.Bool.{false≢true, cases_lt}
 use Rattle.std.proofs.lemmas.List.{length-replicate, get_or-set_same}
 use mathlib.Core.Logic.{◌⊎◌}
 use Rattle.ir.specs.declared.instruction.Instruction.{Instruction}
-use Rattle.ir.specs.declared.instruction.Instruction.TheVariants.{Const, Copy, Bin, Jump, Branch, Load, Store, New, Free, Call, Return, Tick, Trap, Log}
+use Rattle.ir.specs.declared.instruction.Instruction.TheVariants.{Const, Copy, Bin, Jump, Branch}
+use Rattle.ir.specs.declared.instruction.Instruction.TheVariants.{Load, Store, New, Free, Call}
+use Rattle.ir.specs.declared.instruction.Instruction.TheVariants.{Return, Tick, Trap, Log}
 use Rattle.ir.specs.declared.fact.Fact.{Fact}
-use Rattle.ir.specs.declared.fact.Fact.TheVariants.{Here, Unwritten, RootUnwritten, ReadRoot, ReadField, Freed}
+use Rattle.ir.specs.declared.fact.Fact.TheVariants.{Here, Unwritten, RootUnwritten, ReadRoot}
+use Rattle.ir.specs.declared.fact.Fact.TheVariants.{ReadField, Freed}
 use Rattle.ir.specs.declared.fact.Origins.{Origins}
 use Rattle.ir.specs.declared.fact.Origins.TheVariants.{Nowhere, One, Two}
 use Rattle.ir.specs.Table.{AmongOrigins, origins}
 use Rattle.clobber_pass.specs.declared.topic.Topic.{Topic}
-use Rattle.clobber_pass.specs.declared.topic.Topic.TheVariants.{Frees, Root as Roots, Field as Fields}
+use Rattle.clobber_pass.specs.declared.topic.Topic.TheVariants.{Frees, Root as Roots}
+use Rattle.clobber_pass.specs.declared.topic.Topic.TheVariants.{Field as Fields}
 use Rattle.clobber_pass.specs.inside.Class.{class_at, is_about, slot}
 use Rattle.clobber_pass.specs.Row.{tells}
 use Rattle.clobber_pass.specs.inside.Told.{tells_any, row_width, Fits}
 use Rattle.clobber_pass.specs.Sweep.{row_in}
-use Rattle.clobber_pass.specs.inside.Sweep.{exits_of, next_row, jump_target, or_from, row_joined, join_in, meet_in, row_or, rows_led}
+use Rattle.clobber_pass.specs.inside.Sweep.{exits_of, next_row, jump_target, or_from, row_joined}
+use Rattle.clobber_pass.specs.inside.Sweep.{join_in, meet_in, row_or, rows_led}
 use Rattle.clobber_pass.specs.inside.Closed.{Closed, row_reaching, seen_in_row, Shaped}
 use Rattle.clobber_pass.proofs.After.{length_after}
 use Rattle.clobber_pass.proofs.Calls.{or_left, or_right, length_call}

@@ -1,23 +1,30 @@
 -- A function whose callees' exits stayed need not be swept again.
-use Rattle.std.proofs.Common.{◌≡◌, ◌<◌, ◌≤◌, ◌+◌, ℕ, zero, suc, Bool, true, false, List, [], ◌∷◌, ◌++◌, Option, Some, None, length, replicate, refl, sym, ◌∙◌, ap, subst, arith, inl, inr, ⊎_elim}
+use Rattle.std.proofs.Common.{◌≡◌, ◌<◌, ◌≤◌, ◌+◌, ℕ, zero, suc, Bool, true, false, List, [], ◌∷◌}
+use Rattle.std.proofs.Common.{◌++◌, Option, Some, None, length, replicate, refl, sym, ◌∙◌, ap}
+use Rattle.std.proofs.Common.{subst, arith, inl, inr, ⊎_elim}
 use Rattle.std.specs.Prelude.{◌==◌, slice_get, slice_set, if◌then◌else◌, option_and_then}
 use Rattle.std.proofs.lemmas.Bool.{false≢true, eqb-true, eq-eqb}
 use Rattle.std.proofs.lemmas.List.{length-set, length-replicate}
 use mathlib.Core.Logic.{◌⊎◌}
 use Rattle.ir.specs.declared.instruction.Instruction.{Instruction}
-use Rattle.ir.specs.declared.instruction.Instruction.TheVariants.{Const, Copy, Bin, Jump, Branch, Load, Store, New, Free, Call, Return, Tick, Trap, Log}
+use Rattle.ir.specs.declared.instruction.Instruction.TheVariants.{Const, Copy, Bin, Jump, Branch}
+use Rattle.ir.specs.declared.instruction.Instruction.TheVariants.{Load, Store, New, Free, Call}
+use Rattle.ir.specs.declared.instruction.Instruction.TheVariants.{Return, Tick, Trap, Log}
 use Rattle.ir.specs.declared.function.IrFunction.{IrFunction}
 use Rattle.ir.specs.Places.{instruction_at, CallsAt}
 use Rattle.clobber_pass.specs.declared.topic.Topic.{Topic}
 use Rattle.clobber_pass.specs.declared.calling.Edge.{Edge}
 use Rattle.clobber_pass.specs.Row.{tells}
 use Rattle.clobber_pass.specs.Sweep.{row_in}
-use Rattle.clobber_pass.specs.inside.Sweep.{exits_of, call_from, next_row, row_or, jump_target, meet_in, here_in, rows_led, join_in, swept}
-use Rattle.clobber_pass.specs.inside.Closed.{Closed, Made, Within, EndedIn, Ended, AllColumns, ShapedExits, entry_row, joined_exits}
+use Rattle.clobber_pass.specs.inside.Sweep.{exits_of, call_from, next_row, row_or, jump_target}
+use Rattle.clobber_pass.specs.inside.Sweep.{meet_in, here_in, rows_led, join_in, swept}
+use Rattle.clobber_pass.specs.inside.Closed.{Closed, Made, Within, EndedIn, Ended, AllColumns}
+use Rattle.clobber_pass.specs.inside.Closed.{ShapedExits, entry_row, joined_exits}
 use Rattle.clobber_pass.specs.inside.Closed.Made.{none, more}
 use Rattle.clobber_pass.specs.inside.Sound.{SoundExits}
 use Rattle.clobber_pass.specs.inside.Flow.{waits}
-use Rattle.clobber_pass.specs.inside.Calling.{IsCalled, edges_at, edges_in, edges_from, woken, all_called, Apart, Passing}
+use Rattle.clobber_pass.specs.inside.Calling.{IsCalled, edges_at, edges_in, edges_from, woken}
+use Rattle.clobber_pass.specs.inside.Calling.{all_called, Apart, Passing}
 use Rattle.clobber_pass.proofs.Joins.{exits_of_other}
 use Rattle.clobber_pass.proofs.Waking.{waits_kept, waits_set, waits_other}
 

@@ -1,5 +1,7 @@
 -- A row that grows leaves less room.
-use Rattle.std.proofs.Common.{◌≡◌, ◌<◌, ◌≤◌, ◌+◌, ◌-◌, ◌*◌, ◌^◌, ℕ, zero, suc, List, [], ◌∷◌, length, take, drop, slice_set, refl, sym, ◌∙◌, ap, subst, arith, ◌++◌, map, get_or, Vec, Global}
+use Rattle.std.proofs.Common.{◌≡◌, ◌<◌, ◌≤◌, ◌+◌, ◌-◌, ◌*◌, ◌^◌, ℕ, zero, suc, List, [], ◌∷◌}
+use Rattle.std.proofs.Common.{length, take, drop, slice_set, refl, sym, ◌∙◌, ap, subst, arith, ◌++◌}
+use Rattle.std.proofs.Common.{map, get_or, Vec, Global}
 use Rattle.std.specs.Prelude.{bit_or, slice_index_or}
 use Rattle.std.proofs.lemmas.List.{get_or-map, map-set}
 use Rattle.clobber_pass.specs.Row.{word}

@@ -1,9 +1,12 @@
 -- The facts that a closed table records stay recorded along each step of its function.
-use Rattle.std.proofs.Common.{◌≡◌, ◌<◌, ◌+◌, ℕ, suc, Bool, true, List, Option, Some, length, refl, sym, ◌∙◌, ap, subst, arith, inl, inr}
+use Rattle.std.proofs.Common.{◌≡◌, ◌<◌, ◌+◌, ℕ, suc, Bool, true, List, Option, Some, length, refl}
+use Rattle.std.proofs.Common.{sym, ◌∙◌, ap, subst, arith, inl, inr}
 use Rattle.std.specs.Prelude.{slice_get}
 use Rattle.std.proofs.lemmas.Bool.{and_from, lt-ltb}
 use Rattle.ir.specs.declared.instruction.Instruction.{Instruction}
-use Rattle.ir.specs.declared.instruction.Instruction.TheVariants.{Const, Copy, Bin, Jump, Branch, Load, Store, New, Free, Call, Return, Tick, Trap, Log}
+use Rattle.ir.specs.declared.instruction.Instruction.TheVariants.{Const, Copy, Bin, Jump, Branch}
+use Rattle.ir.specs.declared.instruction.Instruction.TheVariants.{Load, Store, New, Free, Call}
+use Rattle.ir.specs.declared.instruction.Instruction.TheVariants.{Return, Tick, Trap, Log}
 use Rattle.ir.specs.declared.function.IrFunction.{IrFunction}
 use Rattle.ir.specs.declared.function.Ir.{Ir}
 use Rattle.ir.specs.declared.fact.Fact.{Fact}
@@ -18,8 +21,10 @@ use Rattle.clobber_pass.specs.Row.{word, has_bit, tells}
 use Rattle.clobber_pass.specs.inside.Row.{after_row}
 use Rattle.clobber_pass.specs.inside.Told.{row_width, column, parameters_at, Fits, Matters}
 use Rattle.clobber_pass.specs.Sweep.{row_in}
-use Rattle.clobber_pass.specs.inside.Sweep.{exits_of, exit, next_row, jump_target, join_in, rows_led}
-use Rattle.clobber_pass.specs.inside.Closed.{Closed, row_reaching, seen_in_row, told_in, Shaped, pass_in}
+use Rattle.clobber_pass.specs.inside.Sweep.{exits_of, exit, next_row, jump_target, join_in}
+use Rattle.clobber_pass.specs.inside.Sweep.{rows_led}
+use Rattle.clobber_pass.specs.inside.Closed.{Closed, row_reaching, seen_in_row, told_in, Shaped}
+use Rattle.clobber_pass.specs.inside.Closed.{pass_in}
 use Rattle.clobber_pass.specs.inside.Law.{StaysTold}
 use Rattle.clobber_pass.proofs.Fits.{all_at, args_count, registers_there}
 use Rattle.clobber_pass.proofs.Bits.{has_bit_and}
@@ -27,7 +32,8 @@ use Rattle.clobber_pass.proofs.After.{after_told}
 use Rattle.clobber_pass.proofs.Calls.{word_call, gather_in, entry_of, By, after_by}
 use Rattle.clobber_pass.proofs.Joins.{tells_inside}
 use Rattle.clobber_pass.proofs.Fits.{standing}
-use Rattle.clobber_pass.proofs.Reached.{any_in, jump_back, branch_back, slot_inside, wide, brought, Place, place_at, told_where}
+use Rattle.clobber_pass.proofs.Reached.{any_in, jump_back, branch_back, slot_inside, wide, brought}
+use Rattle.clobber_pass.proofs.Reached.{Place, place_at, told_where}
 
 here_column : (n : ℕ) → column n Here ≡ 0
 here_column n = let inside : 0 < n + 2 = omega arith in rw (lt-ltb 0 (n + 2) inside) refl

@@ -1,13 +1,16 @@
 -- A row records a fact after an instruction exactly if it recorded one of the fact's origins
 -- before.
-use Rattle.std.proofs.Common.{◌≡◌, ◌≢◌, ◌<◌, ◌+◌, ℕ, Bool, true, false, List, Some, None, length, refl, sym, ◌∙◌, ap, arith}
+use Rattle.std.proofs.Common.{◌≡◌, ◌≢◌, ◌<◌, ◌+◌, ℕ, Bool, true, false, List, Some, None, length}
+use Rattle.std.proofs.Common.{refl, sym, ◌∙◌, ap, arith}
 use Rattle.std.specs.Prelude.{◌==◌, ◌&&◌, ◌||◌, not, slice_set, bit_and, bit_or, if◌then◌else◌}
 use Rattle.std.proofs.lemmas.Bool.{false≢true, eqb-true, eq-eqb}
 use Rattle.std.proofs.lemmas.List.{get_or-set_same, get_or-set_other, length-set}
 use Rattle.ir.specs.declared.instruction.Target.{Target}
 use Rattle.ir.specs.declared.instruction.Target.TheVariants.{Root, Field}
 use Rattle.ir.specs.declared.instruction.Instruction.{Instruction}
-use Rattle.ir.specs.declared.instruction.Instruction.TheVariants.{Const, Copy, Bin, Jump, Branch, Load, Store, New, Free, Call, Return, Tick, Trap, Log}
+use Rattle.ir.specs.declared.instruction.Instruction.TheVariants.{Const, Copy, Bin, Jump, Branch}
+use Rattle.ir.specs.declared.instruction.Instruction.TheVariants.{Load, Store, New, Free, Call}
+use Rattle.ir.specs.declared.instruction.Instruction.TheVariants.{Return, Tick, Trap, Log}
 use Rattle.ir.specs.declared.function.Ir.{Ir}
 use Rattle.ir.specs.declared.fact.Fact.TheVariants.{Here, Unwritten, ReadField}
 use Rattle.ir.specs.declared.fact.Origins.{Origins}
@@ -15,11 +18,13 @@ use Rattle.ir.specs.declared.fact.Origins.TheVariants.{Nowhere, One, Two}
 use Rattle.ir.specs.WellFormed.{IsInstruction}
 use Rattle.ir.specs.Table.{origins}
 use Rattle.clobber_pass.specs.declared.topic.Topic.{Topic}
-use Rattle.clobber_pass.specs.declared.topic.Topic.TheVariants.{Frees, Root as Roots, Field as Fields}
+use Rattle.clobber_pass.specs.declared.topic.Topic.TheVariants.{Frees, Root as Roots}
+use Rattle.clobber_pass.specs.declared.topic.Topic.TheVariants.{Field as Fields}
 use Rattle.clobber_pass.specs.Row.{word, has_bit, tells}
 use Rattle.clobber_pass.specs.inside.Row.{mask, without, with_read, after_row}
 use Rattle.clobber_pass.specs.inside.Told.{tells_any}
-use Rattle.clobber_pass.proofs.Bits.{has_bit_zero, has_bit_or, has_bit_and, has_bit_without, has_bit_mask}
+use Rattle.clobber_pass.proofs.Bits.{has_bit_zero, has_bit_or, has_bit_and, has_bit_without}
+use Rattle.clobber_pass.proofs.Bits.{has_bit_mask}
 
 -- the word that was written, and any other
 pub at_same : (row : List ℕ) (s w : ℕ) → s < length row → word (slice_set row s w) s ≡ w

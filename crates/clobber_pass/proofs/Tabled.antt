@@ -1,12 +1,16 @@
 -- A table of marks after one more function was marked for a topic.
-use Rattle.std.proofs.Common.{◌≡◌, ◌<◌, ◌+◌, ◌-◌, ℕ, zero, suc, Bool, true, false, List, [], ◌∷◌, Option, Some, None, length, refl, sym, ◌∙◌, ap, subst, inl, inr, ⊎_elim, arith}
+use Rattle.std.proofs.Common.{◌≡◌, ◌<◌, ◌+◌, ◌-◌, ℕ, zero, suc, Bool, true, false, List, [], ◌∷◌}
+use Rattle.std.proofs.Common.{Option, Some, None, length, refl, sym, ◌∙◌, ap, subst, inl, inr}
+use Rattle.std.proofs.Common.{⊎_elim, arith}
 use Rattle.std.specs.Prelude.{◌==◌, ◌&&◌, ◌%◌, slice_get, option_and_then}
 use Rattle.std.proofs.lemmas.Bool.{false≢true, and_from, eq-eqb}
 use Rattle.std.proofs.lemmas.List.{length-set, get_or-set_same}
 use Rattle.std.proofs.lemmas.Option.{slice_get_within}
 use mathlib.Core.Logic.{◌⊎◌}
 use Rattle.ir.specs.declared.instruction.Instruction.{Instruction}
-use Rattle.ir.specs.declared.instruction.Instruction.TheVariants.{Const, Copy, Bin, Jump, Branch, Load, Store, New, Free, Call, Return, Tick, Trap, Log}
+use Rattle.ir.specs.declared.instruction.Instruction.TheVariants.{Const, Copy, Bin, Jump, Branch}
+use Rattle.ir.specs.declared.instruction.Instruction.TheVariants.{Load, Store, New, Free, Call}
+use Rattle.ir.specs.declared.instruction.Instruction.TheVariants.{Return, Tick, Trap, Log}
 use Rattle.ir.specs.declared.function.IrFunction.{IrFunction}
 use Rattle.ir.specs.declared.function.Ir.{Ir}
 use Rattle.ir.specs.declared.instruction.Target.{Target}
@@ -27,13 +31,17 @@ use Rattle.clobber_pass.specs.inside.Calling.{CalledEnded}
 use Rattle.clobber_pass.specs.inside.Sound.{SoundExits}
 use Rattle.clobber_pass.specs.inside.Flow.{Entries, StartEntries, at_entry, AllFlow}
 use Rattle.clobber_pass.specs.Marking.{part, says}
-use Rattle.clobber_pass.specs.inside.Marking.{topic_of, marks_from, Logged, SoundMarks, ShapedMarks, Headers, Marked, KeepsRows, Marks, header_mark, headers, headers_of}
+use Rattle.clobber_pass.specs.inside.Marking.{topic_of, marks_from, Logged, SoundMarks, ShapedMarks}
+use Rattle.clobber_pass.specs.inside.Marking.{Headers, Marked, KeepsRows, Marks, header_mark}
+use Rattle.clobber_pass.specs.inside.Marking.{headers, headers_of}
 use Rattle.clobber_pass.proofs.Joins.{row_in_set, joined_tells}
 use Rattle.clobber_pass.proofs.Columns.{joined_out, joined_shape}
 use Rattle.clobber_pass.proofs.Flowing.{grows_join}
 use Rattle.clobber_pass.proofs.Fits.{standing, registers_there}
 use Rattle.clobber_pass.proofs.FlowLaw.{nothing_comes}
-use Rattle.clobber_pass.proofs.PlaceMarks.{low, low_few, same_true, length_marks, row_sound, store_marked, fill_marked, test_store, test_store_fill, nothing_set}
+use Rattle.clobber_pass.proofs.PlaceMarks.{low, low_few, same_true, length_marks, row_sound}
+use Rattle.clobber_pass.proofs.PlaceMarks.{store_marked, fill_marked, test_store, test_store_fill}
+use Rattle.clobber_pass.proofs.PlaceMarks.{nothing_set}
 
 module _ (ir : Ir) (well : IsWellFormed ir) (topic : Topic) (exits : List (List (List ℕ)))
     (sound : SoundExits ir.functions topic exits) (ended : CalledEnded ir.functions topic exits)

@@ -11,7 +11,8 @@ use Rattle.clobber_pass.specs.inside.Class.{Class}
 use Rattle.clobber_pass.specs.inside.Told.{Matters}
 use Rattle.clobber_pass.specs.inside.Calling.{IsCalled}
 use Rattle.clobber_pass.specs.inside.Law.{TellsPasses, AllPass, TellsFlows}
-use Rattle.clobber_pass.proofs.Fits.{matters_origins, matters_at_call, matters_return, matters_stays}
+use Rattle.clobber_pass.proofs.Fits.{matters_origins, matters_at_call, matters_return}
+use Rattle.clobber_pass.proofs.Fits.{matters_stays}
 
 module _ (ir : Ir) (well : IsWellFormed ir) (class : Class) where
   -- the origin of a fact that matters matters too

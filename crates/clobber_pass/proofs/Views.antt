@@ -1,5 +1,7 @@
 -- Rows of a table that is seen through a function.
-use Rattle.std.proofs.Common.{◌≡◌, ◌≤◌, ◌<◌, ◌+◌, ◌-◌, ℕ, zero, suc, List, [], ◌∷◌, map, length, replicate, slice_set, drop, refl, subst, sym, ◌∙◌, ◌++◌, append_assoc, ap, arith, Vec, Global}
+use Rattle.std.proofs.Common.{◌≡◌, ◌≤◌, ◌<◌, ◌+◌, ◌-◌, ℕ, zero, suc, List, [], ◌∷◌, map, length}
+use Rattle.std.proofs.Common.{replicate, slice_set, drop, refl, subst, sym, ◌∙◌, ◌++◌, append_assoc}
+use Rattle.std.proofs.Common.{ap, arith, Vec, Global}
 use Rattle.clobber_pass.specs.inside.Sweep.{slot_after, call_from}
 use Rattle.clobber_pass.specs.inside.Closed.{entry_word, entry_from}
 use Rattle.clobber_pass.specs.inside.Flow.{enter_word, enter_from}

@@ -1,5 +1,6 @@
 -- The exits of a function record every fact that passes through it.
-use Rattle.std.proofs.Common.{◌≡◌, ◌<◌, ◌≤◌, ◌+◌, ℕ, Bool, true, List, Option, Some, None, length, refl, sym, ◌∙◌, ap, subst, arith, ⊎_elim}
+use Rattle.std.proofs.Common.{◌≡◌, ◌<◌, ◌≤◌, ◌+◌, ℕ, Bool, true, List, Option, Some, None, length}
+use Rattle.std.proofs.Common.{refl, sym, ◌∙◌, ap, subst, arith, ⊎_elim}
 use Rattle.std.specs.Prelude.{slice_get, option_and_then}
 use Rattle.std.proofs.lemmas.Bool.{cases_lt, lt-ltb, le-ltb}
 use Rattle.std.proofs.lemmas.Option.{slice_get_within}
@@ -11,8 +12,10 @@ use Rattle.ir.specs.Places.{ReturnsAt}
 use Rattle.ir.specs.WellFormed.{IsWellFormed}
 use Rattle.clobber_pass.specs.declared.topic.Topic.{Topic}
 use Rattle.clobber_pass.specs.inside.Class.{Class, class_at, slot}
-use Rattle.clobber_pass.specs.inside.Told.{row_width, column_of, column, parameters_at, Fits, Matters}
-use Rattle.clobber_pass.specs.inside.Closed.{row_reaching, seen_in_row, told_in, Shaped, pass_in, entry_row, EndedIn}
+use Rattle.clobber_pass.specs.inside.Told.{row_width, column_of, column, parameters_at, Fits}
+use Rattle.clobber_pass.specs.inside.Told.{Matters}
+use Rattle.clobber_pass.specs.inside.Closed.{row_reaching, seen_in_row, told_in, Shaped, pass_in}
+use Rattle.clobber_pass.specs.inside.Closed.{entry_row, EndedIn}
 use Rattle.clobber_pass.specs.inside.Sound.{SoundExits}
 use Rattle.clobber_pass.specs.inside.Calling.{IsCalled, CalledEnded}
 use Rattle.clobber_pass.specs.inside.Law.{StaysTold, TellsPasses, AllPass}

@@ -1,5 +1,6 @@
 -- Marks. The mark of a place is a word: bit 0 for its store, bit 1 for the fill of its new object.
-use Rattle.std.specs.Prelude.{◌≡◌, ◌==◌, ◌+◌, ◌-◌, ◌%◌, ◌<◌, ℕ, Bool, true, false, List, [], ◌∷◌, if◌then◌else◌}
+use Rattle.std.specs.Prelude.{◌≡◌, ◌==◌, ◌+◌, ◌-◌, ◌%◌, ◌<◌, ℕ, Bool, true, false, List, [], ◌∷◌}
+use Rattle.std.specs.Prelude.{if◌then◌else◌}
 use mathlib.Core.Logic.{◌⊎◌}
 use Rattle.ir.specs.declared.site.Site.{Site}
 use Rattle.clobber_pass.specs.Row.{word, tells}

@@ -1,7 +1,9 @@
 //! The call graph.
 
-ghost use Rattle.std.specs.Prelude.{◌≡◌, ◌++◌, ◌∷◌, [], ◌==◌, ◌<◌, true, false, length, replicate, slice_set, if◌then◌else◌, IfOk, OnOk};
-ghost use Rattle.clobber_pass.specs.inside.Calling.{all_called, edges_at, edges_from, edges_in, woken};
+ghost use Rattle.std.specs.Prelude.{◌≡◌, ◌++◌, ◌∷◌, [], ◌==◌, ◌<◌, true, false, length, replicate};
+ghost use Rattle.std.specs.Prelude.{slice_set, if◌then◌else◌, IfOk, OnOk};
+ghost use Rattle.clobber_pass.specs.inside.Calling.{all_called, edges_at, edges_from, edges_in};
+ghost use Rattle.clobber_pass.specs.inside.Calling.{woken};
 
 use crate::waiting::wake;
 use ir::{Instruction, IrFunction};

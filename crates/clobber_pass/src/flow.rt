@@ -1,6 +1,7 @@
 //! What walks from transactions bring to each function's entry, and to each place.
 
-ghost use Rattle.std.specs.Prelude.{◌≡◌, ◌<◌, ◌≤◌, ◌+◌, ◌^◌, ℕ, List, length, true, false, Some, slice_get, slice_set, Ok, IfOk, OnOk};
+ghost use Rattle.std.specs.Prelude.{◌≡◌, ◌<◌, ◌≤◌, ◌+◌, ◌^◌, ℕ, List, length, true, false, Some};
+ghost use Rattle.std.specs.Prelude.{slice_get, slice_set, Ok, IfOk, OnOk};
 ghost use Rattle.ir.specs.declared.function.IrFunction.{IrFunction};
 ghost use Rattle.ir.specs.WellFormed.{IsWellFormed};
 ghost use Rattle.clobber_pass.specs.inside.Told.{registers_at};
@@ -9,7 +10,9 @@ ghost use Rattle.clobber_pass.specs.inside.Sweep as inside_sweeps;
 ghost use Rattle.clobber_pass.specs.inside.Room.{room};
 ghost use Rattle.clobber_pass.specs.inside.Sound.{SoundExits};
 ghost use Rattle.clobber_pass.specs.inside.Flow as flows;
-ghost use Rattle.clobber_pass.specs.inside.Flow.{AllFlow, Entries, FlowEnded, Flowing, Wakes, waits, ShapedEntries, SoundEntries, StartEntries, StartsAt};
+ghost use Rattle.clobber_pass.specs.inside.Flow.{AllFlow, Entries, FlowEnded, Flowing, Wakes};
+ghost use Rattle.clobber_pass.specs.inside.Flow.{waits, ShapedEntries, SoundEntries, StartEntries};
+ghost use Rattle.clobber_pass.specs.inside.Flow.{StartsAt};
 
 use crate::entry::{entry_row, width};
 use crate::row::word;

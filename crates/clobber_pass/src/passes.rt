@@ -1,6 +1,7 @@
 //! What passes through each function, from each column of its entry to its returns.
 
-ghost use Rattle.std.specs.Prelude.{◌≡◌, ◌<◌, ◌≤◌, ◌+◌, ℕ, length, true, false, Some, slice_get, slice_set, Ok, IfOk, OnOk};
+ghost use Rattle.std.specs.Prelude.{◌≡◌, ◌<◌, ◌≤◌, ◌+◌, ℕ, length, true, false, Some, slice_get};
+ghost use Rattle.std.specs.Prelude.{slice_set, Ok, IfOk, OnOk};
 ghost use Rattle.ir.specs.WellFormed.{IsWellFormed};
 ghost use Rattle.clobber_pass.specs.inside.Told.{parameters_at};
 ghost use Rattle.clobber_pass.specs.inside.Closed.{AllColumns, Ended, ShapedExits};

@@ -1,6 +1,7 @@
 //! The marks of a program.
 
-ghost use Rattle.std.specs.Prelude.{◌≡◌, ◌++◌, ◌∷◌, [], ◌==◌, ◌<◌, ◌^◌, ℕ, true, false, length, IfOk, OnOk};
+ghost use Rattle.std.specs.Prelude.{◌≡◌, ◌++◌, ◌∷◌, [], ◌==◌, ◌<◌, ◌^◌, ℕ, true, false, length};
+ghost use Rattle.std.specs.Prelude.{IfOk, OnOk};
 ghost use Rattle.clobber_pass.specs.Sweep as sweeps;
 ghost use Rattle.clobber_pass.specs.inside.Marking as inside_marking;
 

@@ -1,6 +1,7 @@
 //! Tables of rows, which only grow.
 
-ghost use Rattle.std.specs.Prelude.{◌≡◌, ◌<◌, ◌≤◌, ◌∷◌, ◌++◌, [], false, true, length, replicate, slice_set, bit_or, ◌^◌, None, IfSome, Ok, IfOk, OnOk};
+ghost use Rattle.std.specs.Prelude.{◌≡◌, ◌<◌, ◌≤◌, ◌∷◌, ◌++◌, [], false, true, length, replicate};
+ghost use Rattle.std.specs.Prelude.{slice_set, bit_or, ◌^◌, None, IfSome, Ok, IfOk, OnOk};
 ghost use Rattle.clobber_pass.specs.Row as words;
 ghost use Rattle.clobber_pass.specs.Sweep as sweeps;
 ghost use Rattle.clobber_pass.specs.inside.Sweep as inside_sweeps;

@@ -1,6 +1,7 @@
 //! One sweep through a function.
 
-ghost use Rattle.std.specs.Prelude.{◌≡◌, ◌<◌, ◌≤◌, ◌^◌, true, false, length, option_map, ◌==◌, position, Ok, IfOk, OnOk};
+ghost use Rattle.std.specs.Prelude.{◌≡◌, ◌<◌, ◌≤◌, ◌^◌, true, false, length, option_map, ◌==◌};
+ghost use Rattle.std.specs.Prelude.{position, Ok, IfOk, OnOk};
 ghost use Rattle.clobber_pass.specs.inside.Closed.{Closed, Made};
 ghost use Rattle.clobber_pass.specs.inside.Room.{room};
 ghost use Rattle.clobber_pass.specs.inside.Sweep as inside_sweeps;

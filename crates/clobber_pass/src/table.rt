@@ -8,7 +8,8 @@ ghost use Rattle.clobber_pass.specs.inside.Sweep as inside_sweeps;
 ghost use Rattle.clobber_pass.specs.inside.Calling.{CalledEnded, edges_from};
 ghost use Rattle.clobber_pass.specs.inside.Sound.{SoundExits};
 ghost use Rattle.clobber_pass.specs.inside.Flow.{AllFlow, Entries, StartEntries};
-ghost use Rattle.clobber_pass.specs.inside.Marking.{AllMarked, Headers, KeepsRows, Marked, Marks, headers_of, marks_from};
+ghost use Rattle.clobber_pass.specs.inside.Marking.{AllMarked, Headers, KeepsRows, Marked, Marks};
+ghost use Rattle.clobber_pass.specs.inside.Marking.{headers_of, marks_from};
 
 use crate::calling::Edge;
 use crate::flow::{Flow, at_entry, flows};

@@ -1,6 +1,7 @@
 //! The rows of each function.
 
-ghost use Rattle.std.specs.Prelude.{◌≡◌, ◌<◌, ◌≤◌, ◌∷◌, ◌++◌, [], true, false, Ok, IfOk, OnOk, option_map, slice_get, slice_set, length};
+ghost use Rattle.std.specs.Prelude.{◌≡◌, ◌<◌, ◌≤◌, ◌∷◌, ◌++◌, [], true, false, Ok, IfOk, OnOk};
+ghost use Rattle.std.specs.Prelude.{option_map, slice_get, slice_set, length};
 ghost use Rattle.clobber_pass.specs.inside.Closed.{joined_exits, no_exits};
 ghost use Rattle.clobber_pass.specs.inside.Room.{all_room};
 ghost use Rattle.clobber_pass.specs.inside.Sweep as inside_sweeps;

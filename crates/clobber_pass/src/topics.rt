@@ -1,12 +1,14 @@
 //! The topics of a program's stores.
 
-ghost use Rattle.std.specs.Prelude.{◌≡◌, ◌++◌, ◌∷◌, [], ◌<◌, ℕ, true, Some, length, slice_get, IfOk, OnOk};
+ghost use Rattle.std.specs.Prelude.{◌≡◌, ◌++◌, ◌∷◌, [], ◌<◌, ℕ, true, Some, length, slice_get};
+ghost use Rattle.std.specs.Prelude.{IfOk, OnOk};
 ghost use Rattle.ir.specs.declared.instruction.Target.{Target};
 ghost use Rattle.ir.specs.declared.instruction.Instruction.TheVariants.{Store};
 ghost use Rattle.ir.specs.Places.{instruction_at};
 ghost use Rattle.clobber_pass.specs.declared.topic.Topic.{Topic};
 ghost use Rattle.clobber_pass.specs.declared.topic.Topic.TheVariants.{Frees};
-ghost use Rattle.clobber_pass.specs.inside.Marking.{HasAll, HasIn, HasStore, Has, KeepsTopics, topic_of};
+ghost use Rattle.clobber_pass.specs.inside.Marking.{HasAll, HasIn, HasStore, Has, KeepsTopics};
+ghost use Rattle.clobber_pass.specs.inside.Marking.{topic_of};
 
 use crate::place_marks::topic_of;
 use crate::topic::Topic;

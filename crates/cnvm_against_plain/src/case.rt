@@ -2,9 +2,9 @@
 
 use crate::rig::Left;
 use crate::texts::{answer_line, last_line, pool_lines_of, text_of};
-use c_meaning::PlainAnswer;
 use cnvm_script::Command;
 use cnvm_session::{Answer, Program};
+use interpreter::PlainAnswer;
 use nvm_base::Text;
 use pmem::Phase;
 use pool_map::TrapKind;

@@ -1,5 +1,6 @@
 -- A text or an image that is accepted isn't refused.
-use Rattle.std.proofs.Common.{◌≡◌, ℕ, ℤ, ◌<◌, List, Bool, true, false, Option, Some, None, is_some, Err, length, inl, inr, ⊎_elim, refl, sym, subst, ◌∙◌, arith}
+use Rattle.std.proofs.Common.{◌≡◌, ℕ, ℤ, ◌<◌, List, Bool, true, false, Option, Some, None, is_some}
+use Rattle.std.proofs.Common.{Err, length, inl, inr, ⊎_elim, refl, sym, subst, ◌∙◌, arith}
 use Rattle.std.specs.Io.KnownBytes.{Appends, Keeps}
 use Rattle.nvm_base.specs.Parts.{AppendsPart}
 use Rattle.pmem.specs.Device.{Device}
@@ -24,7 +25,8 @@ use Rattle.cnvm_cli.specs.declared.refused.Refused.TheVariants as refused
 use Rattle.cnvm_cli.specs.declared.status.Status.{Status}
 use Rattle.cnvm_cli.specs.declared.status.Status.TheVariants as status
 use Rattle.cnvm_cli.specs.RefusalText.{has_line}
-use Rattle.cnvm_cli.specs.Verdict.{refused_by, IsTextRefused, IsAccepted, HasCommands, ProgramRefuses, ScriptRefuses, TextsRefuse, asked_by}
+use Rattle.cnvm_cli.specs.Verdict.{refused_by, IsTextRefused, IsAccepted, HasCommands}
+use Rattle.cnvm_cli.specs.Verdict.{ProgramRefuses, ScriptRefuses, TextsRefuse, asked_by}
 use Rattle.cnvm_cli.specs.Run.{Uncreated, TellsAs, RefusedAs}
 use Rattle.cnvm_cli.specs.Opened.{wanted_of, read_part, ImageRefuses, Unopened}
 use Rattle.cnvm_cli.specs.Saved.{SavedAs}
@@ -35,7 +37,8 @@ use Rattle.cnvm_cli.specs.Listed.{ListEnds, WrittenAs, listing_sizes}
 use Rattle.cnvm_cli.specs.inside.Opened.{OpensAll, OpensPart, OpenedAs}
 use Rattle.cnvm_cli.specs.inside.Run.{CreatedAll, CreatedPart, RanAs}
 use Rattle.cnvm_cli.specs.inside.Stormed.{StormedAll, StormedPart, StormedStarved, StormedAs}
-use Rattle.cnvm_cli.specs.Complete.{HasProgram, HasScript, HasImage, IsRunServed, IsPlanServed, IsServed, IsRefusalStatus}
+use Rattle.cnvm_cli.specs.Complete.{HasProgram, HasScript, HasImage, IsRunServed, IsPlanServed}
+use Rattle.cnvm_cli.specs.Complete.{IsServed, IsRefusalStatus}
 use Rattle.cnvm_cli.proofs.Statuses.{status_kept}
 
 not_true : (let a : Bool = true in let b : Bool = false in a ≡ b) → ⊥

@@ -1,5 +1,6 @@
 -- A run means what its program's source says.
-use Rattle.std.proofs.Common.{◌≡◌, ℕ, ℤ, List, [], ◌∷◌, Bool, true, false, Option, Some, None, is_some, inl, inr, length, append-nil, refl, sym, ap, subst}
+use Rattle.std.proofs.Common.{◌≡◌, ℕ, ℤ, List, [], ◌∷◌, Bool, true, false, Option, Some, None}
+use Rattle.std.proofs.Common.{is_some, inl, inr, length, append-nil, refl, sym, ap, subst}
 use Rattle.std.specs.List.{AllByRecursion}
 use Rattle.std.specs.Io.KnownBytes.{Appends, Keeps}
 use Rattle.nvm_base.proofs.Pieces.{appends_more}
@@ -41,7 +42,10 @@ use Rattle.cnvm_cli.specs.inside.Opened.{OpensAll, OpenedAs}
 use Rattle.cnvm_cli.specs.Run.{Uncreated, RefusedAs}
 use Rattle.cnvm_cli.specs.inside.Run.{RunsAndWrites, RunsPart, CreatedAll, CreatedPart, RanAs}
 use Rattle.cnvm_cli.specs.World.{Sources, Outside, IsUntouched}
-use Rattle.cnvm_cli.specs.Meant.{Start, Fresh, FromImage, start_if, text_of, RanAll, RanPart, MeansAll, MeansPart, MeantAs, OpensMeant, OpenMeansPart, OpenedMeantAs, StartMeant, JobMeant, RunMeant, PlanMeant, CallMeant}
+use Rattle.cnvm_cli.specs.Meant.{Start, Fresh, FromImage, start_if, text_of, RanAll, RanPart}
+use Rattle.cnvm_cli.specs.Meant.{MeansAll, MeansPart, MeantAs, OpensMeant, OpenMeansPart}
+use Rattle.cnvm_cli.specs.Meant.{OpenedMeantAs, StartMeant, JobMeant, RunMeant, PlanMeant}
+use Rattle.cnvm_cli.specs.Meant.{CallMeant}
 use Rattle.cnvm_cli.specs.inside.Ends.{PoolEnds, JobEnds, RunEnds, PlanEnds}
 use Rattle.cnvm_cli.specs.inside.Opened as cli
 use Rattle.cnvm_cli.proofs.Sources.{known_bytes}

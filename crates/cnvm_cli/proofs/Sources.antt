@@ -1,5 +1,7 @@
 -- The bytes of a source, told or not.
-use Rattle.std.proofs.Common.{◌≡◌, ℕ, zero, suc, ◌+◌, ◌*◌, ◌<◌, ◌≤◌, ℤ, List, [], ◌∷◌, length, take, Result, Ok, Err, Option, Some, None, IfSome, refl, sym, ap, subst, arith}
+use Rattle.std.proofs.Common.{◌≡◌, ℕ, zero, suc, ◌+◌, ◌*◌, ◌<◌, ◌≤◌, ℤ, List, [], ◌∷◌, length, take}
+use Rattle.std.proofs.Common.{Result, Ok, Err, Option, Some, None, IfSome, refl, sym, ap, subst}
+use Rattle.std.proofs.Common.{arith}
 use Rattle.pool_layout.specs.Sizes.{pool_lines}
 use Rattle.pool_layout.specs.Fault.{IsFirstFault}
 use Rattle.cnvm_compile.specs.declared.asked.Asked.{Asked}

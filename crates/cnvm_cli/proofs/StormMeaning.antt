@@ -1,5 +1,7 @@
 -- A storm means what its program's source says.
-use Rattle.std.proofs.Common.{◌≡◌, ℕ, zero, suc, ◌-◌, ◌^◌, ◌%◌, min, List, [], ◌∷◌, Bool, true, false, Option, Some, None, IfSome, option_map, ◌⊎◌, inl, inr, length, ℤ, pos, ◌++◌, refl, sym, ap, ◌∙◌, subst, arith}
+use Rattle.std.proofs.Common.{◌≡◌, ℕ, zero, suc, ◌-◌, ◌^◌, ◌%◌, min, List, [], ◌∷◌, Bool, true}
+use Rattle.std.proofs.Common.{false, Option, Some, None, IfSome, option_map, ◌⊎◌, inl, inr, length}
+use Rattle.std.proofs.Common.{ℤ, pos, ◌++◌, refl, sym, ap, ◌∙◌, subst, arith}
 use Rattle.std.specs.Prelude.{slice_get}
 use Rattle.std.specs.List.{AllByRecursion}
 use Rattle.std.specs.Io.KnownBytes.{Appends}
@@ -8,7 +10,7 @@ use Rattle.pool_layout.specs.Image.{Words}
 use Rattle.std.proofs.lemmas.Int.{ints}
 use Rattle.nvm_base.specs.Wrap.{IsWord}
 use Rattle.pmem.specs.Device.{Device}
-use Rattle.c_parser.specs.ItemTree.{FunctionTree}
+use Rattle.c_tree.specs.ItemTree.{FunctionTree}
 use Rattle.c_types.specs.Shapes.{transactions_of}
 use Rattle.cnvm_script.specs.declared.command.Command.{Command}
 use Rattle.cnvm_script.specs.declared.command.Command.TheVariants as command
@@ -37,9 +39,11 @@ use Rattle.cnvm_cli.specs.Stormed as stormed
 use Rattle.cnvm_cli.specs.Run.{Created, Uncreated}
 use Rattle.cnvm_cli.specs.Stormed.{no_tally, tally_text}
 use Rattle.cnvm_cli.specs.inside.Stormed as inside
-use Rattle.cnvm_cli.specs.inside.Stormed.{Rounds, RoundsOf, StormStarves, StormedAll, StormedPart, StormedAs}
+use Rattle.cnvm_cli.specs.inside.Stormed.{Rounds, RoundsOf, StormStarves, StormedAll, StormedPart}
+use Rattle.cnvm_cli.specs.inside.Stormed.{StormedAs}
 use Rattle.cnvm_cli.specs.inside.Ends.{StormEnds}
-use Rattle.cnvm_cli.specs.StormMeant.{Drawn, DrawnOf, tally_of, SummaryPart, CountsMeant, CountsPart, CountsCut, StormMeantAs, StormMeant}
+use Rattle.cnvm_cli.specs.StormMeant.{Drawn, DrawnOf, tally_of, SummaryPart, CountsMeant}
+use Rattle.cnvm_cli.specs.StormMeant.{CountsPart, CountsCut, StormMeantAs, StormMeant}
 use Rattle.cnvm_cli.proofs.Sources.{known_bytes}
 use Rattle.cnvm_cli.proofs.Statuses.{status_map}
 

@@ -2,7 +2,8 @@
 -- answered as the source says to the image that is found there; after it the device holds what the
 -- source knows of the pool. The power may be cut at any store, flush or fence on the way, also
 -- during a recovery.
-use Rattle.std.specs.Prelude.{ℕ, ℤ, List, [], ◌∷◌, ◌++◌, Bool, true, false, Option, Some, None, is_some, ◌≡◌, ◌⊎◌}
+use Rattle.std.specs.Prelude.{ℕ, ℤ, List, [], ◌∷◌, ◌++◌, Bool, true, false, Option, Some, None}
+use Rattle.std.specs.Prelude.{is_some, ◌≡◌, ◌⊎◌}
 use Rattle.std.specs.Io.KnownBytes.{Appends, Keeps}
 use Rattle.nvm_base.specs.Parts.{AppendsPart}
 use Rattle.pmem.specs.Device.{Device}

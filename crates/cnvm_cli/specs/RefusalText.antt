@@ -1,6 +1,7 @@
 -- What is reported if there is nothing to run: the line, and the status. Of a source or a device
 -- that failed, and of want of memory, nothing is reported.
-use Rattle.std.specs.Prelude.{ℕ, ℤ, ◌/◌, ◌%◌, zero, suc, List, [], ◌∷◌, ◌++◌, Bool, true, false, codes, slice_index}
+use Rattle.std.specs.Prelude.{ℕ, ℤ, ◌/◌, ◌%◌, zero, suc, List, [], ◌∷◌, ◌++◌, Bool, true, false}
+use Rattle.std.specs.Prelude.{codes, slice_index}
 use Rattle.std.specs.Fmt.{decimal, signed_decimal}
 use Rattle.std.specs.Int.{w64, cast_unsigned}
 use Rattle.pool_layout.specs.declared.wanted.ImageFault.{ImageFault}

@@ -1,11 +1,12 @@
 -- What a storm means by the source of its program. It is one chain of steps on the device over the
 -- commands that are drawn, each answered as the source says to the image that is found there; these
 -- answers are counted.
-use Rattle.std.specs.Prelude.{ℕ, zero, suc, ◌<◌, ◌-◌, ◌^◌, min, List, [], ◌∷◌, ◌++◌, Option, Some, ◌≡◌, ◌⊎◌}
+use Rattle.std.specs.Prelude.{ℕ, zero, suc, ◌<◌, ◌-◌, ◌^◌, min, List, [], ◌∷◌, ◌++◌, Option, Some}
+use Rattle.std.specs.Prelude.{◌≡◌, ◌⊎◌}
 use Rattle.std.specs.Io.KnownBytes.{Appends, Keeps}
 use Rattle.nvm_base.specs.Parts.{AppendsPart}
 use Rattle.pmem.specs.Device.{Device}
-use Rattle.c_parser.specs.ItemTree.{FunctionTree}
+use Rattle.c_tree.specs.ItemTree.{FunctionTree}
 use Rattle.c_types.specs.Shapes.{transactions_of}
 use Rattle.cnvm_script.specs.declared.command.Command.{Command}
 use Rattle.cnvm_script.specs.declared.command.Command.TheVariants as command

@@ -2,7 +2,9 @@
 
 ghost use Rattle.std.specs.Prelude.{◌≡◌, ◌≢◌, ◌⊎◌, ◌<◌, ◌++◌, ◌∷◌, [], IfOk, OnOk, string_bytes};
 ghost use Rattle.nvm_base.specs.Rose.{Rose};
-ghost use Rattle.cnvm_cli.specs.RefusalText.{digit, hex, word_text, digest_text, fault_line, refusal_line, image_has_line, has_line, image_status, refusal_status};
+ghost use Rattle.cnvm_cli.specs.RefusalText.{digit, hex, word_text, digest_text, fault_line};
+ghost use Rattle.cnvm_cli.specs.RefusalText.{refusal_line, image_has_line, has_line, image_status};
+ghost use Rattle.cnvm_cli.specs.RefusalText.{refusal_status};
 ghost use Rattle.cnvm_cli.specs.Run.{RefusedAs};
 
 use crate::status::Status;

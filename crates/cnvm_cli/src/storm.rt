@@ -1,13 +1,17 @@
 //! A storm: a generated script, and how its commands were answered.
 
-ghost use Rattle.std.specs.Prelude.{◌≡◌, ◌<◌, ◌≤◌, ◌-◌, ◌^◌, min, length, Some, OnOk, OnErr, IfOk, IsErrOf, string_bytes};
+ghost use Rattle.std.specs.Prelude.{◌≡◌, ◌<◌, ◌≤◌, ◌-◌, ◌^◌, min, length, Some, OnOk, OnErr, IfOk};
+ghost use Rattle.std.specs.Prelude.{IsErrOf, string_bytes};
 ghost use Rattle.std.specs.Io.KnownBytes.{Appends};
 ghost use Rattle.nvm_base.specs.Parts.{AppendsPart};
 ghost use Rattle.nvm_base.specs.Rose.{Rose};
 ghost use Rattle.pool_layout.specs.Sizes.{pool_lines};
 ghost use Rattle.c_types.specs.Shapes.{transactions_of};
-ghost use Rattle.cnvm_cli.specs.Stormed.{command_counted, answer_counted, counted, with_count, tally_text, no_tally};
-ghost use Rattle.cnvm_cli.specs.inside.Stormed.{CountsAnswers, Rounds, RoundsPart, Rages, RagesPart, TallyAll, TallyPart, StormsAll, StormsPart, StormStarves};
+ghost use Rattle.cnvm_cli.specs.Stormed.{command_counted, answer_counted, counted, with_count};
+ghost use Rattle.cnvm_cli.specs.Stormed.{tally_text, no_tally};
+ghost use Rattle.cnvm_cli.specs.inside.Stormed.{CountsAnswers, Rounds, RoundsPart, Rages};
+ghost use Rattle.cnvm_cli.specs.inside.Stormed.{RagesPart, TallyAll, TallyPart, StormsAll};
+ghost use Rattle.cnvm_cli.specs.inside.Stormed.{StormsPart, StormStarves};
 
 use crate::writing::{Unwritten, put_answer};
 use cnvm_script::{Command, Storm};

@@ -1,5 +1,7 @@
 -- The parser refuses at most one token of a list, and none of a list that has a tree.
-use Rattle.std.proofs.Common.{◌≡◌, ℕ, zero, suc, ◌+◌, ◌<◌, ◌≤◌, List, [], ◌∷◌, Option, Some, None, Result, Ok, Err, length, slice_get, option_map, ⊎_elim, refl, sym, ap, ◌∙◌, subst, arith}
+use Rattle.std.proofs.Common.{◌≡◌, ℕ, zero, suc, ◌+◌, ◌<◌, ◌≤◌, List, [], ◌∷◌, Option, Some, None}
+use Rattle.std.proofs.Common.{Result, Ok, Err, length, slice_get, option_map, ⊎_elim, refl, sym, ap}
+use Rattle.std.proofs.Common.{◌∙◌, subst, arith}
 use Rattle.std.proofs.lemmas.Bool.{cases_order}
 use Rattle.c_lexer.specs.Cuts.{answer}
 use Rattle.c_lexer.specs.TokenList.{Tokens, line_at}
@@ -9,16 +11,18 @@ use Rattle.c_parser.specs.declared.fault.ParseFault.{ParseFault}
 use Rattle.c_parser.specs.declared.fault.ParseFault.TheVariants as parse
 use Rattle.c_parser.specs.declared.want.Want.{Want}
 use Rattle.c_parser.specs.declared.want.Want.TheVariants.{Items}
-use Rattle.c_parser.specs.Kinds.{token_kind}
-use Rattle.c_parser.specs.Program.{Program, source_line, tree_of}
+use Rattle.c_tree.specs.Kinds.{token_kind}
+use Rattle.c_tree.specs.Program.{Program, source_line, tree_of}
 use Rattle.c_parser.specs.Wants.{parser_step}
-use Rattle.c_parser.specs.Exact.{weigh, weights_from, weights, LightBefore, Agree, NoneBegins, SomeBegins, SomeSinks}
+use Rattle.c_parser.specs.Exact.{weigh, weights_from, weights, LightBefore, Agree, NoneBegins}
+use Rattle.c_parser.specs.Exact.{SomeBegins, SomeSinks}
 use Rattle.c_types.specs.declared.broken.Broken.{Broken}
 use Rattle.c_types.specs.declared.fault.TypeFault.{TypeFault}
 use Rattle.c_types.specs.Broken.{least_broken}
 use Rattle.c_types.specs.Fault.{fault_of, breaks, refusal}
 use Rattle.cnvm_compile.specs.declared.front_end.ProgramFault.{ProgramFault}
-use Rattle.cnvm_compile.specs.declared.front_end.ProgramFault.TheVariants.{Lex, Parse, Types, NoMemory}
+use Rattle.cnvm_compile.specs.declared.front_end.ProgramFault.TheVariants.{Lex, Parse, Types}
+use Rattle.cnvm_compile.specs.declared.front_end.ProgramFault.TheVariants.{NoMemory}
 use Rattle.cnvm_compile.specs.FrontEnd.{IsTree, HasTree, AcceptsText, RefusesToken, RefusesText}
 use Rattle.cnvm_compile.specs.OneAnswer.{IsSame, IsOfTree, OneAnswer}
 use Rattle.cnvm_compile.proofs.Refusing.{weighed_within}

@@ -1,13 +1,15 @@
 -- The token that the parser refuses is in the list, or is the list's end.
-use Rattle.std.proofs.Common.{◌≡◌, ℕ, zero, suc, ◌+◌, ◌<◌, ◌≤◌, List, [], ◌∷◌, Option, Some, None, length, slice_get, ⊎_elim, sym, ◌∙◌, arith}
+use Rattle.std.proofs.Common.{◌≡◌, ℕ, zero, suc, ◌+◌, ◌<◌, ◌≤◌, List, [], ◌∷◌, Option, Some, None}
+use Rattle.std.proofs.Common.{length, slice_get, ⊎_elim, sym, ◌∙◌, arith}
 use Rattle.std.proofs.lemmas.Bool.{cases_order}
 use Rattle.std.proofs.lemmas.Option.{slice_get_past}
 use Rattle.c_lexer.specs.declared.token.Placed.{Placed}
 use Rattle.c_parser.specs.declared.want.Want.{Want}
 use Rattle.c_parser.specs.declared.want.Want.TheVariants.{Items}
-use Rattle.c_parser.specs.Kinds.{token_kind}
+use Rattle.c_tree.specs.Kinds.{token_kind}
 use Rattle.c_parser.specs.Wants.{parser_step}
-use Rattle.c_parser.specs.Exact.{weigh, weights_from, weights, Agree, NoneBegins, SomeBegins, SomeSinks}
+use Rattle.c_parser.specs.Exact.{weigh, weights_from, weights, Agree, NoneBegins, SomeBegins}
+use Rattle.c_parser.specs.Exact.{SomeSinks}
 
 ended : {A : Type 0} (xs : List A) (i : ℕ) → slice_get xs i ≡ None → length xs ≤ i
 ended [] i none = omega arith

@@ -1,16 +1,18 @@
 -- The refusal of a tree that breaks a rule is that of every tree of the text.
-use Rattle.std.proofs.Common.{◌≡◌, ℕ, List, Option, Ok, length, slice_get, option_map, sym, ap, ◌∙◌, subst}
+use Rattle.std.proofs.Common.{◌≡◌, ℕ, List, Option, Ok, length, slice_get, option_map, sym, ap, ◌∙◌}
+use Rattle.std.proofs.Common.{subst}
 use Rattle.std.specs.Option.{option_map_or}
 use Rattle.c_lexer.specs.Cuts.{answer}
 use Rattle.c_lexer.specs.TokenList.{Tokens}
-use Rattle.c_parser.specs.ItemTree.{ItemTree}
-use Rattle.c_parser.specs.Program.{Program, tree_of}
+use Rattle.c_tree.specs.ItemTree.{ItemTree}
+use Rattle.c_tree.specs.Program.{Program, tree_of}
 use Rattle.c_types.specs.declared.fault.TypeFault.{TypeFault}
 use Rattle.c_types.specs.Broken.{least_broken}
 use Rattle.c_types.specs.Declarations.{broken}
 use Rattle.c_types.specs.Fault.{fault_of, refusal}
 use Rattle.cnvm_compile.specs.declared.front_end.ProgramFault.{ProgramFault}
-use Rattle.cnvm_compile.specs.declared.front_end.ProgramFault.TheVariants.{Lex, Parse, Types, NoMemory}
+use Rattle.cnvm_compile.specs.declared.front_end.ProgramFault.TheVariants.{Lex, Parse, Types}
+use Rattle.cnvm_compile.specs.declared.front_end.ProgramFault.TheVariants.{NoMemory}
 use Rattle.cnvm_compile.specs.FrontEnd.{IsTree, RefusesText}
 use Rattle.cnvm_compile.specs.inside.FrontEnd.{IsOnlyTree, RefusesTree}
 use Rattle.cnvm_compile.proofs.Once.{lists_same}

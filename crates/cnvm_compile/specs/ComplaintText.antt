@@ -4,7 +4,12 @@ use Rattle.std.specs.Fmt.{decimal}
 use Rattle.c_types.specs.declared.fault.LimitKind.{LimitKind}
 use Rattle.c_types.specs.declared.fault.LimitKind.TheVariants as limit
 use Rattle.cnvm_compile.specs.declared.complaint.Complaint.{Complaint}
-use Rattle.cnvm_compile.specs.declared.complaint.Complaint.TheVariants.{BadByte, BadNumber, OpenComment, Syntax, TooDeep, UnknownName, Twice, Mismatch, NotAssignable, Arity, TooBig, NoRoot, BadTx}
+use Rattle.cnvm_compile.specs.declared.complaint.Complaint.TheVariants.{BadByte, BadNumber}
+use Rattle.cnvm_compile.specs.declared.complaint.Complaint.TheVariants.{OpenComment, Syntax}
+use Rattle.cnvm_compile.specs.declared.complaint.Complaint.TheVariants.{TooDeep, UnknownName, Twice}
+use Rattle.cnvm_compile.specs.declared.complaint.Complaint.TheVariants.{Mismatch, NotAssignable}
+use Rattle.cnvm_compile.specs.declared.complaint.Complaint.TheVariants.{Arity, TooBig, NoRoot}
+use Rattle.cnvm_compile.specs.declared.complaint.Complaint.TheVariants.{BadTx}
 
 abbrev pub limit_name : LimitKind → List ℕ
 limit_name limit.Array = codes "array"

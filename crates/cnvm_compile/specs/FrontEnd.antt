@@ -7,12 +7,13 @@ use Rattle.c_lexer.specs.TokenList.{Tokens, line_at}
 use Rattle.c_parser.specs.declared.fault.ParseFault.{ParseFault}
 use Rattle.c_parser.specs.declared.fault.ParseFault.TheVariants as parse
 use Rattle.c_parser.specs.Exact.{weights, LightBefore, NoneBegins, SomeBegins, SomeSinks}
-use Rattle.c_parser.specs.Program.{Program, tree_of}
-use Rattle.c_parser.specs.ItemSpelling.{SpellsProgram}
+use Rattle.c_tree.specs.Program.{Program, tree_of}
+use Rattle.c_tree.specs.ItemSpelling.{SpellsProgram}
 use Rattle.c_types.specs.declared.fault.TypeFault.{TypeFault}
 use Rattle.c_types.specs.Fault.{breaks, refusal}
 use Rattle.cnvm_compile.specs.declared.front_end.ProgramFault.{ProgramFault}
-use Rattle.cnvm_compile.specs.declared.front_end.ProgramFault.TheVariants.{Lex, Parse, Types, NoMemory}
+use Rattle.cnvm_compile.specs.declared.front_end.ProgramFault.TheVariants.{Lex, Parse, Types}
+use Rattle.cnvm_compile.specs.declared.front_end.ProgramFault.TheVariants.{NoMemory}
 
 -- The tree of a list of tokens: the tokens spell it, none of them is too heavy, and it has their
 -- lines.

@@ -1,8 +1,9 @@
 -- One text has one answer of the front end.
 use Rattle.std.specs.Prelude.{ℕ, List, ◌≡◌, ⊤}
-use Rattle.c_parser.specs.Program.{Program}
+use Rattle.c_tree.specs.Program.{Program}
 use Rattle.cnvm_compile.specs.declared.front_end.ProgramFault.{ProgramFault}
-use Rattle.cnvm_compile.specs.declared.front_end.ProgramFault.TheVariants.{Lex, Parse, Types, NoMemory}
+use Rattle.cnvm_compile.specs.declared.front_end.ProgramFault.TheVariants.{Lex, Parse, Types}
+use Rattle.cnvm_compile.specs.declared.front_end.ProgramFault.TheVariants.{NoMemory}
 use Rattle.cnvm_compile.specs.FrontEnd.{HasTree, AcceptsText, RefusesText}
 
 -- Two refusals are the same. Want of memory says nothing.

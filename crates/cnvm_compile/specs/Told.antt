@@ -8,7 +8,8 @@ use Rattle.c_types.specs.declared.fault.TypeFault.{TypeFault}
 use Rattle.c_types.specs.declared.fault.TypeFault.TheVariants as types
 use Rattle.cnvm_compile.specs.declared.complaint.Complaint.TheVariants as complaint
 use Rattle.cnvm_compile.specs.declared.front_end.ProgramFault.{ProgramFault}
-use Rattle.cnvm_compile.specs.declared.front_end.ProgramFault.TheVariants.{Lex, Parse, Types, NoMemory}
+use Rattle.cnvm_compile.specs.declared.front_end.ProgramFault.TheVariants.{Lex, Parse, Types}
+use Rattle.cnvm_compile.specs.declared.front_end.ProgramFault.TheVariants.{NoMemory}
 use Rattle.cnvm_compile.specs.declared.told.Told.{Told}
 use Rattle.cnvm_compile.specs.declared.told.Told.TheVariants as told
 

@@ -1,7 +1,8 @@
 //! The line that reports a refused program: `program line L KIND`.
 
 ghost use Rattle.std.specs.Prelude.{◌≡◌, IfOk, string_bytes};
-ghost use Rattle.cnvm_compile.specs.ComplaintText.{complaint_line, program_line, complaint_kind, limit_name};
+ghost use Rattle.cnvm_compile.specs.ComplaintText.{complaint_line, program_line, complaint_kind};
+ghost use Rattle.cnvm_compile.specs.ComplaintText.{limit_name};
 
 use c_types::LimitKind;
 use std::alloc::{AllocError, Global};

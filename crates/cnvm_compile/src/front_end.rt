@@ -9,7 +9,8 @@ ghost use Rattle.cnvm_compile.specs.FrontEnd.{IsTree, AcceptsText, RefusesText};
 ghost use Rattle.cnvm_compile.specs.inside.FrontEnd.{IsOnlyTree, RefusesList, RefusesTree};
 
 use c_lexer::{LexFault, TokenList, tokens};
-use c_parser::{Ast, ParseFault, parse};
+use c_parser::{ParseFault, parse};
+use c_tree::Ast;
 use c_types::{TypeFault, Typed, check};
 use std::alloc::Global;
 

@@ -1,5 +1,7 @@
 -- A text is read byte by byte: the pieces of the rest, after those read so far.
-use Rattle.std.proofs.Common.{◌≡◌, ℕ, ◌+◌, ◌<◌, suc, Bool, if◌then◌else◌, List, [], ◌∷◌, ◌++◌, true, false, length, take, drop, slice_index, refl, ap, append_assoc, sym, add-one, append-nil, arith, None}
+use Rattle.std.proofs.Common.{◌≡◌, ℕ, ◌+◌, ◌<◌, suc, Bool, if◌then◌else◌, List, [], ◌∷◌, ◌++◌, true}
+use Rattle.std.proofs.Common.{false, length, take, drop, slice_index, refl, ap, append_assoc, sym}
+use Rattle.std.proofs.Common.{add-one, append-nil, arith, None}
 use Rattle.std.proofs.Math.Seq.{take-suc, drop-cons, take-length, drop-length}
 use Rattle.cnvm_script.specs.Lines.{lines_ended, without_cr}
 use Rattle.cnvm_script.specs.Number.{pick_of}

@@ -1,5 +1,6 @@
 -- One more of the draws that are left.
-use Rattle.std.proofs.Common.{◌++◌, [], List, append_assoc, ◌≡◌, ℕ, ◌+◌, ◌-◌, ◌%◌, ◌<◌, suc, ◌∷◌, ℤ, pos, refl, arith}
+use Rattle.std.proofs.Common.{◌++◌, [], List, append_assoc, ◌≡◌, ℕ, ◌+◌, ◌-◌, ◌%◌, ◌<◌, suc, ◌∷◌, ℤ}
+use Rattle.std.proofs.Common.{pos, refl, arith}
 use Rattle.cnvm_script.specs.Storm.{next_draw, drawn, arguments, after_draws}
 
 pub arguments_next : (x n k : ℕ) → k < n → arguments x (n - k) ≡ pos (drawn x % 16)

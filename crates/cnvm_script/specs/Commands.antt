@@ -9,12 +9,15 @@
 -- No word at all, or a first word that begins with `#`, is no command. Any other list of words is
 -- bad. A script is the
 -- list of its lines' commands in order, and is bad at its first bad line, counted from 1.
-use Rattle.std.specs.Prelude.{ℕ, ◌+◌, Bool, true, ◌&&◌, List, [], ◌∷◌, Option, None, Some, Result, Ok, Err, ◌==◌, if◌then◌else◌, nat_lt, slice_index, codes, bytes_eq, option_map}
+use Rattle.std.specs.Prelude.{ℕ, ◌+◌, Bool, true, ◌&&◌, List, [], ◌∷◌, Option, None, Some, Result}
+use Rattle.std.specs.Prelude.{Ok, Err, ◌==◌, if◌then◌else◌, nat_lt, slice_index, codes, bytes_eq}
+use Rattle.std.specs.Prelude.{option_map}
 use Rattle.cache_model.specs.declared.choice.Pick.{Pick}
 use Rattle.cache_model.specs.declared.choice.Rest.{Rest}
 use Rattle.cache_model.specs.declared.choice.Rest.TheVariants.{Old, New}
 use Rattle.cnvm_script.specs.declared.command.Command.{Command}
-use Rattle.cnvm_script.specs.declared.command.Command.TheVariants.{Call, Stop, Fault, Power, Show, Last}
+use Rattle.cnvm_script.specs.declared.command.Command.TheVariants.{Call, Stop, Fault, Power, Show}
+use Rattle.cnvm_script.specs.declared.command.Command.TheVariants.{Last}
 use Rattle.cnvm_script.specs.Lines.{lines, words_of_line}
 use Rattle.cnvm_script.specs.Name.{is_name}
 use Rattle.cnvm_script.specs.Number.{argument, event_number, pick}

@@ -2,7 +2,8 @@
 --     Lines end with LF. One CR before the LF is dropped. What comes after the last LF is a line
 --     if it isn't empty, and keeps its CR.
 --     Words are separated by spaces and tabs.
-use Rattle.std.specs.Prelude.{ℕ, ◌-◌, length, take, slice_index, Bool, true, false, not, List, [], ◌∷◌, ◌==◌, if◌then◌else◌, codes, filter}
+use Rattle.std.specs.Prelude.{ℕ, ◌-◌, length, take, slice_index, Bool, true, false, not, List, []}
+use Rattle.std.specs.Prelude.{◌∷◌, ◌==◌, if◌then◌else◌, codes, filter}
 use Rattle.cnvm_script.specs.Pieces.{pieces}
 
 abbrev pub is_empty : List ℕ → Bool

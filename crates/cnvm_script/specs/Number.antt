@@ -3,7 +3,8 @@
 --     An argument is an optional `-` and 1 to 19 digits, and fits 64 bits with a sign.
 --     The number of `stop` and `fault` has 1 to 10 digits and is at most 4294967295.
 --     A pick is `LINE:VERSION`, two numbers of 1 to 10 digits.
-use Rattle.std.specs.Prelude.{ℕ, ◌^◌, List, [], ◌∷◌, ◌&&◌, Option, None, Some, nat_lt, nat_le, if◌then◌else◌, ℤ, pos, neg_ℤ, length, codes, drop, option_and_then}
+use Rattle.std.specs.Prelude.{ℕ, ◌^◌, List, [], ◌∷◌, ◌&&◌, Option, None, Some, nat_lt, nat_le}
+use Rattle.std.specs.Prelude.{if◌then◌else◌, ℤ, pos, neg_ℤ, length, codes, drop, option_and_then}
 use Rattle.std.specs.List.{list_all}
 use Rattle.std.specs.Char.{is_ascii_digit}
 use Rattle.std.specs.Str.Parse.{digits_value, starts_with_minus}

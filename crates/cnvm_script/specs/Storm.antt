@@ -4,8 +4,10 @@
 -- draws once for each parameter; the argument is the draw mod 16. A plain round is just the call. A
 -- cut round draws twice more: the power goes off after as many events as the first draw mod 32, and
 -- comes back by `power old` if the second is even, else by `power new`.
-use Rattle.c_parser.specs.ItemTree.{FunctionTree}
-use Rattle.std.specs.Prelude.{ℕ, zero, suc, ◌+◌, ◌-◌, length, slice_get, Option, option_map, ◌*◌, ◌/◌, ◌%◌, ◌^◌, ◌==◌, Bool, true, false, List, [], ◌∷◌, ℤ, pos, if◌then◌else◌}
+use Rattle.c_tree.specs.ItemTree.{FunctionTree}
+use Rattle.std.specs.Prelude.{ℕ, zero, suc, ◌+◌, ◌-◌, length, slice_get, Option, option_map, ◌*◌}
+use Rattle.std.specs.Prelude.{◌/◌, ◌%◌, ◌^◌, ◌==◌, Bool, true, false, List, [], ◌∷◌, ℤ, pos}
+use Rattle.std.specs.Prelude.{if◌then◌else◌}
 use Rattle.cache_model.specs.declared.choice.Rest.{Rest}
 use Rattle.cache_model.specs.declared.choice.Rest.TheVariants.{Old, New}
 use Rattle.cnvm_script.specs.declared.command.Command.{Command}

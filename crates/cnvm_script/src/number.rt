@@ -1,8 +1,10 @@
 //! Words that are numbers.
 
-ghost use Rattle.std.specs.Prelude.{◌≡◌, ◌≤◌, ◌<◌, ◌*◌, ◌+◌, ◌^◌, IfSome, Some, None, if◌then◌else◌};
+ghost use Rattle.std.specs.Prelude.{◌≡◌, ◌≤◌, ◌<◌, ◌*◌, ◌+◌, ◌^◌, IfSome, Some, None};
+ghost use Rattle.std.specs.Prelude.{if◌then◌else◌};
 ghost use Rattle.std.specs.Char.{is_ascii_digit, digit_value};
-ghost use Rattle.cnvm_script.specs.Number.{bounded_numeral, at_most, as_positive, as_negative, argument, event_number, pick_read, pick};
+ghost use Rattle.cnvm_script.specs.Number.{bounded_numeral, at_most, as_positive, as_negative};
+ghost use Rattle.cnvm_script.specs.Number.{argument, event_number, pick_read, pick};
 
 use crate::cut::cut;
 use cache_model::Pick;

@@ -1,7 +1,9 @@
 //! Reading the commands of lines and scripts.
 
 ghost use Rattle.std.specs.Prelude.{◌≡◌, ◌∷◌, ◌++◌, map, bytes_eq, OnOk, option_to_list};
-ghost use Rattle.cnvm_script.specs.Commands.{alone, call_command, choice_of, command, each, event_of, line_meaning, meaning, power_of, rise, script_meaning};
+ghost use Rattle.cnvm_script.specs.Commands.{alone, call_command, choice_of, command, each};
+ghost use Rattle.cnvm_script.specs.Commands.{event_of, line_meaning, meaning, power_of, rise};
+ghost use Rattle.cnvm_script.specs.Commands.{script_meaning};
 ghost use Rattle.cnvm_script.specs.Number.{argument, pick};
 ghost use Rattle.cnvm_script.specs.Reads.{Gives, GivesScript};
 

@@ -1,8 +1,11 @@
 //! A generator of scripts: rounds of calls, some of them cut by a power failure.
 
-ghost use Rattle.std.specs.Prelude.{◌≡◌, ◌<◌, ◌≤◌, ◌+◌, ◌*◌, ◌%◌, ◌^◌, ◌∷◌, ◌++◌, [], pos, IfOk, OnOk, OnErr, Some, length};
+ghost use Rattle.std.specs.Prelude.{◌≡◌, ◌<◌, ◌≤◌, ◌+◌, ◌*◌, ◌%◌, ◌^◌, ◌∷◌, ◌++◌, [], pos, IfOk};
+ghost use Rattle.std.specs.Prelude.{OnOk, OnErr, Some, length};
 ghost use Rattle.c_types.specs.Shapes.{transactions_of};
-ghost use Rattle.cnvm_script.specs.Storm.{next_draw, drawn, after_draws, is_cut, chosen, arguments, power, cut_round, round, after_round, storm_round, storm_after};
+ghost use Rattle.cnvm_script.specs.Storm.{next_draw, drawn, after_draws, is_cut, chosen, arguments};
+ghost use Rattle.cnvm_script.specs.Storm.{power, cut_round, round, after_round, storm_round};
+ghost use Rattle.cnvm_script.specs.Storm.{storm_after};
 ghost use Rattle.cnvm_script.specs.declared.command.Command.TheVariants.{Call};
 
 use crate::command::{Command, Script};

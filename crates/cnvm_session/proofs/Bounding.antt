@@ -1,5 +1,6 @@
 -- The most steps that a command takes.
-use Rattle.std.proofs.Common.{◌≡◌, ◌≤◌, ℕ, ◌+◌, Bool, true, false, ◌==◌, List, Option, Some, None, length, ℤ, refl, arith}
+use Rattle.std.proofs.Common.{◌≡◌, ◌≤◌, ℕ, ◌+◌, Bool, true, false, ◌==◌, List, Option, Some, None}
+use Rattle.std.proofs.Common.{length, ℤ, refl, arith}
 use Rattle.cache_model.specs.Collapse.{bad}
 use Rattle.cache_model.specs.declared.choice.Choice.{Choice}
 use Rattle.pmem.specs.Device.{Device, memory_of}
@@ -13,7 +14,8 @@ use Rattle.cnvm_session.specs.declared.mode.Mode.{Mode}
 use Rattle.cnvm_session.specs.declared.mode.Mode.TheVariants.{Ready, Down, Unusable}
 use Rattle.cnvm_session.specs.declared.answer.Answer.{Answer}
 use Rattle.cnvm_session.specs.declared.program.Program.{Program}
-use Rattle.cnvm_session.specs.Commands.{Shows, Lasts, call_number, tx_parameters, CallsWith, CallsTo, CallsNamed, Calls, fallen, Powers}
+use Rattle.cnvm_session.specs.Commands.{Shows, Lasts, call_number, tx_parameters, CallsWith}
+use Rattle.cnvm_session.specs.Commands.{CallsTo, CallsNamed, Calls, fallen, Powers}
 use Rattle.cnvm_session.specs.Laws.{MostLaw}
 
 abbrev Few : Image → (k k1 : ℕ) → Type 0

@@ -1,5 +1,6 @@
 -- A device's count of faults only rises, and it rises in each call that failed.
-use Rattle.std.proofs.Common.{◌≡◌, ◌≤◌, ℕ, Bool, true, false, if◌then◌else◌, List, [], ℤ, refl, subst, arith}
+use Rattle.std.proofs.Common.{◌≡◌, ◌≤◌, ℕ, Bool, true, false, if◌then◌else◌, List, [], ℤ, refl}
+use Rattle.std.proofs.Common.{subst, arith}
 use Rattle.cache_model.specs.Cache.{Words, view}
 use Rattle.pmem.specs.Device.{Device, FaultsRose}
 use Rattle.pmem.specs.declared.answer.Refusal.TheVariants as refusal

@@ -1,6 +1,8 @@
 -- A cache with one image is at rest if its view is; images before a call are at rest and show the
 -- same pool.
-use Rattle.std.proofs.Common.{◌≡◌, inl, ℕ, suc, ◌+◌, ◌-◌, ◌^◌, ◌<◌, ◌≤◌, Bool, true, false, ◌&&◌, if◌then◌else◌, nat_lt, nat_le, ltb, ℤ, pos, ◌+ℤ◌, refl, sym, ap, ◌∙◌, subst, arith, int_eq, rules}
+use Rattle.std.proofs.Common.{◌≡◌, inl, ℕ, suc, ◌+◌, ◌-◌, ◌^◌, ◌<◌, ◌≤◌, Bool, true, false, ◌&&◌}
+use Rattle.std.proofs.Common.{if◌then◌else◌, nat_lt, nat_le, ltb, ℤ, pos, ◌+ℤ◌, refl, sym, ap, ◌∙◌}
+use Rattle.std.proofs.Common.{subst, arith, int_eq, rules}
 use Rattle.std.proofs.lemmas.Bool.{ltb-false}
 use Rattle.std.proofs.lemmas.Bool.Decides.{Decides-int_eq}
 use Rattle.cache_model.specs.Cache.{Words, Cache, view}

@@ -1,5 +1,6 @@
 -- A device's count of faults only rises in a recovery, and it rises in each one that failed.
-use Rattle.std.proofs.Common.{◌≡◌, ◌≢◌, ◌≤◌, ℕ, Bool, true, false, ⊎_elim, List, ℤ, pos, refl, subst, int_eq}
+use Rattle.std.proofs.Common.{◌≡◌, ◌≢◌, ◌≤◌, ℕ, Bool, true, false, ⊎_elim, List, ℤ, pos, refl}
+use Rattle.std.proofs.Common.{subst, int_eq}
 use Rattle.std.proofs.lemmas.Bool.Decides.{Decides-int_eq}
 use Rattle.cache_model.specs.Event.{CacheEvent}
 use Rattle.cache_model.specs.Cache.{view}

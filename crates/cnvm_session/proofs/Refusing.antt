@@ -1,5 +1,7 @@
 -- A refused command changes nothing on the device, and takes no step.
-use Rattle.std.proofs.Common.{◌≡◌, ◌≢◌, inl, inr, ℕ, Bool, true, false, ◌==◌, ◌&&◌, if◌then◌else◌, List, Option, Some, None, length, ℤ, pos, refl, ap, ◌∙◌, subst, int_eq}
+use Rattle.std.proofs.Common.{◌≡◌, ◌≢◌, inl, inr, ℕ, Bool, true, false, ◌==◌, ◌&&◌, if◌then◌else◌}
+use Rattle.std.proofs.Common.{List, Option, Some, None, length, ℤ, pos, refl, ap, ◌∙◌, subst}
+use Rattle.std.proofs.Common.{int_eq}
 use Rattle.std.proofs.lemmas.Bool.Decides.{Decides-int_eq}
 use Rattle.cache_model.specs.Cache.{Words, view}
 use Rattle.cache_model.specs.Collapse.{bad}
@@ -27,7 +29,9 @@ use Rattle.cnvm_session.specs.declared.answer.Answer.{Answer}
 use Rattle.cnvm_session.specs.declared.answer.Answer.TheVariants as answer
 use Rattle.cnvm_session.specs.declared.program.Program.{Program}
 use Rattle.cnvm_session.specs.Outcomes.{Runs, answer_of_call, mode_of_call, answer_of_recovery}
-use Rattle.cnvm_session.specs.Commands.{Refused, Tells, Shows, Lasts, call_number, tx_parameters, CallsWith, CallsTo, CallsNamed, Calls, fallen, Powers, Commanded}
+use Rattle.cnvm_session.specs.Commands.{Refused, Tells, Shows, Lasts, call_number, tx_parameters}
+use Rattle.cnvm_session.specs.Commands.{CallsWith, CallsTo, CallsNamed, Calls, fallen, Powers}
+use Rattle.cnvm_session.specs.Commands.{Commanded}
 use Rattle.cnvm_session.specs.Laws.{IsRefusal, IsBadPick, IsRefused, StaysOrMarks}
 
 abbrev Kept : Mode → Device → Mode → Device → (k k1 : ℕ) → Type 0

@@ -1,5 +1,6 @@
 -- The recovery of a pool at rest stores only the attempt's word.
-use Rattle.std.proofs.Common.{◌≡◌, ◌≢◌, inl, inr, ℕ, zero, suc, if◌then◌else◌, nat_lt, List, [], ◌∷◌, ℤ, pos, refl, sym, ap, ◌∙◌, subst, arith}
+use Rattle.std.proofs.Common.{◌≡◌, ◌≢◌, inl, inr, ℕ, zero, suc, if◌then◌else◌, nat_lt, List, []}
+use Rattle.std.proofs.Common.{◌∷◌, ℤ, pos, refl, sym, ap, ◌∙◌, subst, arith}
 use Rattle.cache_model.specs.Event.{CacheEvent, Store, Flush, Fence}
 use Rattle.cache_model.specs.Cache.{Words, Cache, view}
 use Rattle.cache_model.specs.Play.{apply}

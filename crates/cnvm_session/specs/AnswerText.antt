@@ -6,7 +6,13 @@ use Rattle.pmem.specs.declared.answer.Phase.{Phase}
 use Rattle.pmem.specs.declared.answer.Phase.TheVariants.{Unsealed, Sealing, Sealed}
 use Rattle.pool_map.specs.Trap.{trap_name}
 use Rattle.cnvm_session.specs.declared.answer.Answer.{Answer}
-use Rattle.cnvm_session.specs.declared.answer.Answer.TheVariants.{Silent, Done, Trap, Stopped, DeviceFault, RecoveredNone, RecoveredRedone, RecoveredTrap, Shown, Last, NoMemory, RefusedDown, RefusedUnusable, RefusedUnknown, RefusedArity, RefusedNumbers, RefusedPick}
+use Rattle.cnvm_session.specs.declared.answer.Answer.TheVariants.{Silent, Done, Trap, Stopped}
+use Rattle.cnvm_session.specs.declared.answer.Answer.TheVariants.{DeviceFault, RecoveredNone}
+use Rattle.cnvm_session.specs.declared.answer.Answer.TheVariants.{RecoveredRedone, RecoveredTrap}
+use Rattle.cnvm_session.specs.declared.answer.Answer.TheVariants.{Shown, Last, NoMemory}
+use Rattle.cnvm_session.specs.declared.answer.Answer.TheVariants.{RefusedDown, RefusedUnusable}
+use Rattle.cnvm_session.specs.declared.answer.Answer.TheVariants.{RefusedUnknown, RefusedArity}
+use Rattle.cnvm_session.specs.declared.answer.Answer.TheVariants.{RefusedNumbers, RefusedPick}
 
 abbrev pub phase_name : Phase → List ℕ
 phase_name Unsealed = codes "unsealed"

@@ -1,6 +1,8 @@
 -- What each command does in a session: its answer, whether the session takes calls after it, the
 -- device, and the count of steps, which rises from k to k1.
-use Rattle.std.specs.Prelude.{ℕ, zero, suc, ◌+◌, ◌≡◌, ◌==◌, nat_lt, if◌then◌else◌, true, false, Bool, List, [], ◌∷◌, Option, Some, None, length, map, option_map, slice_get, ℤ}
+use Rattle.std.specs.Prelude.{ℕ, zero, suc, ◌+◌, ◌≡◌, ◌==◌, nat_lt, if◌then◌else◌, true, false}
+use Rattle.std.specs.Prelude.{Bool, List, [], ◌∷◌, Option, Some, None, length, map, option_map}
+use Rattle.std.specs.Prelude.{slice_get, ℤ}
 use Rattle.cache_model.specs.Cache.{view}
 use Rattle.cache_model.specs.Collapse.{bad}
 use Rattle.cache_model.specs.declared.choice.Pick.{Pick}
@@ -11,7 +13,7 @@ use Rattle.pool_layout.specs.declared.limits.Sizes.{Sizes}
 use Rattle.pool_map.specs.declared.shapes.Shapes.{Shapes}
 use Rattle.pool_map.specs.PoolFits.{PoolFits}
 use Rattle.pool_map.specs.PoolText.{pool_text}
-use Rattle.c_parser.specs.ItemTree.{FunctionTree}
+use Rattle.c_tree.specs.ItemTree.{FunctionTree}
 use Rattle.c_types.specs.Tables.{index_of}
 use Rattle.c_types.specs.Shapes.{shapes_of, transactions_of}
 use Rattle.pm_machine.specs.declared.image.Image.{Image}
@@ -20,7 +22,10 @@ use Rattle.cnvm_script.specs.declared.command.Command.TheVariants as command
 use Rattle.cnvm_session.specs.declared.mode.Mode.{Mode}
 use Rattle.cnvm_session.specs.declared.mode.Mode.TheVariants.{Ready, Down, Unusable}
 use Rattle.cnvm_session.specs.declared.answer.Answer.{Answer}
-use Rattle.cnvm_session.specs.declared.answer.Answer.TheVariants.{Silent, Shown, Last, NoMemory, RefusedDown, RefusedUnusable, RefusedUnknown, RefusedArity, RefusedPick}
+use Rattle.cnvm_session.specs.declared.answer.Answer.TheVariants.{Silent, Shown, Last, NoMemory}
+use Rattle.cnvm_session.specs.declared.answer.Answer.TheVariants.{RefusedDown, RefusedUnusable}
+use Rattle.cnvm_session.specs.declared.answer.Answer.TheVariants.{RefusedUnknown, RefusedArity}
+use Rattle.cnvm_session.specs.declared.answer.Answer.TheVariants.{RefusedPick}
 use Rattle.cnvm_session.specs.declared.program.Program.{Program}
 use Rattle.cnvm_session.specs.Outcomes.{Runs, Recovers}
 use Rattle.cnvm_session.specs.Shown.{heap_of, pool_in}

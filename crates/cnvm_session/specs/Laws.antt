@@ -19,7 +19,11 @@ use Rattle.cnvm_script.specs.declared.command.Command.TheVariants as command
 use Rattle.cnvm_session.specs.declared.mode.Mode.{Mode}
 use Rattle.cnvm_session.specs.declared.mode.Mode.TheVariants.{Ready, Down, Unusable}
 use Rattle.cnvm_session.specs.declared.answer.Answer.{Answer}
-use Rattle.cnvm_session.specs.declared.answer.Answer.TheVariants.{Stopped, DeviceFault, RecoveredNone, NoMemory, RefusedDown, RefusedUnusable, RefusedUnknown, RefusedArity, RefusedNumbers, RefusedPick}
+use Rattle.cnvm_session.specs.declared.answer.Answer.TheVariants.{Stopped, DeviceFault}
+use Rattle.cnvm_session.specs.declared.answer.Answer.TheVariants.{RecoveredNone, NoMemory}
+use Rattle.cnvm_session.specs.declared.answer.Answer.TheVariants.{RefusedDown, RefusedUnusable}
+use Rattle.cnvm_session.specs.declared.answer.Answer.TheVariants.{RefusedUnknown, RefusedArity}
+use Rattle.cnvm_session.specs.declared.answer.Answer.TheVariants.{RefusedNumbers, RefusedPick}
 use Rattle.cnvm_session.specs.declared.program.Program.{Program}
 use Rattle.cnvm_session.specs.Shown.{heap_of}
 use Rattle.cnvm_session.specs.Commands.{fallen, Commanded}

@@ -1,6 +1,7 @@
 -- The events that write an image on blank lines: its words other than 0 are stored, the lines with
 -- such a word are flushed, and a fence follows.
-use Rattle.std.specs.Prelude.{ℕ, zero, suc, ◌*◌, Bool, not, if◌then◌else◌, List, [], ◌∷◌, ◌++◌, length, take, drop, slice_index_or, ℤ, pos}
+use Rattle.std.specs.Prelude.{ℕ, zero, suc, ◌*◌, Bool, not, if◌then◌else◌, List, [], ◌∷◌, ◌++◌}
+use Rattle.std.specs.Prelude.{length, take, drop, slice_index_or, ℤ, pos}
 use Rattle.std.specs.Ordering.{int_eq}
 use Rattle.std.specs.List.{list_any}
 use Rattle.cache_model.specs.Event.{CacheEvent, Store, Flush, Fence}

@@ -1,7 +1,8 @@
 -- The pool that a heap holds, under given shapes: its root words, and an object in each slot whose
 -- header is a struct's number. The object has the words after the header, as many as that struct
 -- has. Struct numbers go up to 255, and an object has at most 15 words. Any other slot is free.
-use Rattle.std.specs.Prelude.{ℕ, zero, suc, ◌+◌, if◌then◌else◌, nat_lt, List, [], ◌∷◌, Option, Some, None, ℤ, pos, negsuc}
+use Rattle.std.specs.Prelude.{ℕ, zero, suc, ◌+◌, if◌then◌else◌, nat_lt, List, [], ◌∷◌, Option, Some}
+use Rattle.std.specs.Prelude.{None, ℤ, pos, negsuc}
 use Rattle.pool_layout.specs.declared.limits.Sizes.{Sizes}
 use Rattle.pool_layout.specs.declared.places.Place.TheVariants.{Heap}
 use Rattle.pool_layout.specs.Sizes.{heap_words, slot_word}

@@ -1,11 +1,13 @@
 //! Opens a pool from an image.
 
-ghost use Rattle.std.specs.Prelude.{◌≡◌, ◌≤◌, ◌+◌, ◌*◌, ◌<◌, take, drop, length, OnOk, IfErr, IsErrOf};
+ghost use Rattle.std.specs.Prelude.{◌≡◌, ◌≤◌, ◌+◌, ◌*◌, ◌<◌, take, drop, length, OnOk, IfErr};
+ghost use Rattle.std.specs.Prelude.{IsErrOf};
 ghost use Rattle.std.specs.List.{list_any};
 ghost use Rattle.pmem.specs.Device.{FaultsRose, blanked};
 ghost use Rattle.pmem.specs.Played.{PlaysAll, PlaysPart};
 ghost use Rattle.pool_layout.specs.Sizes as sizes_of;
-ghost use Rattle.cnvm_session.specs.Opening.{is_other, store_of, stores_of, has_other, flush_of, flushes_of, opening_events};
+ghost use Rattle.cnvm_session.specs.Opening.{is_other, store_of, stores_of, has_other, flush_of};
+ghost use Rattle.cnvm_session.specs.Opening.{flushes_of, opening_events};
 ghost use Rattle.cnvm_session.specs.Unmade.{IsUnmade};
 
 use crate::creating::StartFault;

@@ -1,7 +1,8 @@
 //! How the answer of a call or of a recovery leaves a session.
 
 ghost use Rattle.std.specs.Prelude.{◌≡◌};
-ghost use Rattle.cnvm_session.specs.Outcomes.{answer_of_call, mode_of_call, answer_of_recovery, mode_of_recovery};
+ghost use Rattle.cnvm_session.specs.Outcomes.{answer_of_call, mode_of_call, answer_of_recovery};
+ghost use Rattle.cnvm_session.specs.Outcomes.{mode_of_recovery};
 
 use crate::answer::Answer;
 use crate::mode::Mode;

@@ -1,6 +1,7 @@
 //! A session: a pool of a program, and what each command does to it.
 
-ghost use Rattle.std.specs.Prelude.{ℕ, ◌≡◌, ◌+◌, ◌≤◌, ◌<◌, true, length, IfOk, IfErr, IfNone, IsSome, OnOk, OnErr, IsErrOf};
+ghost use Rattle.std.specs.Prelude.{ℕ, ◌≡◌, ◌+◌, ◌≤◌, ◌<◌, true, length, IfOk, IfErr, IfNone};
+ghost use Rattle.std.specs.Prelude.{IsSome, OnOk, OnErr, IsErrOf};
 ghost use Rattle.cache_model.specs.Cache.{view};
 ghost use Rattle.cache_model.specs.Collapse.{Rises};
 ghost use Rattle.pmem.specs.Device.{FaultsRose, blanked};
@@ -12,7 +13,8 @@ ghost use Rattle.cnvm_session.specs.Opening.{opening_events};
 ghost use Rattle.cnvm_session.specs.Unmade.{IsUnmade};
 ghost use Rattle.c_types.specs.Shapes.{shapes_of};
 ghost use Rattle.cnvm_session.specs.Outcomes.{Runs, Recovers, Opens};
-ghost use Rattle.cnvm_session.specs.Commands.{Lasts, Shows, tx_parameters, CallsTo, Calls, fallen, Powers, Commanded};
+ghost use Rattle.cnvm_session.specs.Commands.{Lasts, Shows, tx_parameters, CallsTo, Calls, fallen};
+ghost use Rattle.cnvm_session.specs.Commands.{Powers, Commanded};
 
 use crate::answer::Answer;
 use crate::creating::{StartFault, create_pool};

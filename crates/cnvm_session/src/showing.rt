@@ -1,12 +1,14 @@
 //! The pool that a device holds.
 
-ghost use Rattle.std.specs.Prelude.{◌≡◌, ◌+◌, ◌++◌, ◌^◌, ◌<◌, ◌≤◌, Some, IfOk, OnOk, IfSome, IfNone, true, option_map};
+ghost use Rattle.std.specs.Prelude.{◌≡◌, ◌+◌, ◌++◌, ◌^◌, ◌<◌, ◌≤◌, Some, IfOk, OnOk, IfSome};
+ghost use Rattle.std.specs.Prelude.{IfNone, true, option_map};
 ghost use Rattle.cache_model.specs.Cache.{view};
 ghost use Rattle.pool_layout.specs.Sizes.{pool_lines};
 ghost use Rattle.c_types.specs.Shapes.{shapes_of};
 ghost use Rattle.pool_map.specs.PoolFits.{words_of, struct_at, PoolFits};
 ghost use Rattle.pool_map.specs.PoolText.{pool_text};
-ghost use Rattle.cnvm_session.specs.Shown.{heap_of, words_from, kind_in, object_with, object_in, objects_from, pool_in};
+ghost use Rattle.cnvm_session.specs.Shown.{heap_of, words_from, kind_in, object_with, object_in};
+ghost use Rattle.cnvm_session.specs.Shown.{objects_from, pool_in};
 
 use crate::program::Program;
 use nvm_base::{Text, Words};

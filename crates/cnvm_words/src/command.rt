@@ -3,7 +3,8 @@
 ghost use Rattle.std.specs.Prelude.{◌≡◌, false, IfOk};
 ghost use Rattle.clap.specs.declared.builder.command.Command.TheViews.{out-Command as fields_of};
 ghost use Rattle.clap.specs.Words.{app_of, rule_of};
-ghost use Rattle.cnvm_words.specs.App.{option_rule, place_rule, bare_app, sized, run_app, list_app, storm_app, cnvm_app};
+ghost use Rattle.cnvm_words.specs.App.{option_rule, place_rule, bare_app, sized, run_app, list_app};
+ghost use Rattle.cnvm_words.specs.App.{storm_app, cnvm_app};
 
 use clap::{Arg, ArgAction, Command};
 use std::alloc::{AllocError, Global};

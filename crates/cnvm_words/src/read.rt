@@ -1,10 +1,13 @@
 //! Reads the words and makes the plan.
 
-ghost use Rattle.std.specs.Prelude.{◌≡◌, ◌<◌, ◌≤◌, Some, None, IfOk, IfErr, Err, option_map, option_and_then, map, string_bytes, false, []};
+ghost use Rattle.std.specs.Prelude.{◌≡◌, ◌<◌, ◌≤◌, Some, None, IfOk, IfErr, Err, option_map};
+ghost use Rattle.std.specs.Prelude.{option_and_then, map, string_bytes, false, []};
 ghost use Rattle.clap.specs.Walk.{is_empty};
-ghost use Rattle.clap.specs.Words.{rows_of, found_of, first_of, fault_of, subcommand_of, subcommand_rows_of};
+ghost use Rattle.clap.specs.Words.{rows_of, found_of, first_of, fault_of, subcommand_of};
+ghost use Rattle.clap.specs.Words.{subcommand_rows_of};
 ghost use Rattle.cnvm_words.specs.App.{cnvm_app};
-ghost use Rattle.cnvm_words.specs.Asked.{in_limits, number_between, number_or, asked_pool, run_plan, list_plan, storm_plan, subcommand_plan, plan_of};
+ghost use Rattle.cnvm_words.specs.Asked.{in_limits, number_between, number_or, asked_pool};
+ghost use Rattle.cnvm_words.specs.Asked.{run_plan, list_plan, storm_plan, subcommand_plan, plan_of};
 
 use crate::command::cnvm_command;
 use crate::plan::{Plan, WordsFault};

@@ -2,7 +2,8 @@
 use Rattle.std.proofs.Common.{◌≡◌, ℕ, zero, suc, refl, ap, arith}
 use Rattle.std.specs.Prelude.{◌++◌}
 use Rattle.ir.specs.declared.function.Ir.{Ir}
-use Rattle.code_meaning.specs.Code.{CodeState, Move, Goes, Ends, exec, instruction_step, go_on, IsOver}
+use Rattle.code_meaning.specs.Code.{CodeState, Move, Goes, Ends, exec, instruction_step, go_on}
+use Rattle.code_meaning.specs.Code.{IsOver}
 use Rattle.code_meaning.specs.Deeds.{deeds, deeds_of, deeds_on}
 use Rattle.code_meaning.specs.Law.{EndLaw, DeedsLaw}
 

@@ -5,7 +5,9 @@
 --
 -- A load, a store and a free make their checks: null and stale of the pointer, then index. A log
 -- has no effect, and neither has the flag of a new.
-use Rattle.std.specs.Prelude.{◌≡◌, ℕ, zero, suc, ◌+◌, ℤ, pos, negsuc, ◌==◌, Bool, true, false, List, [], ◌∷◌, map, length, Option, None, Some, Result, Ok, Err, option_map, if◌then◌else◌, nat_lt, nat_eq, slice_get}
+use Rattle.std.specs.Prelude.{◌≡◌, ℕ, zero, suc, ◌+◌, ℤ, pos, negsuc, ◌==◌, Bool, true, false, List}
+use Rattle.std.specs.Prelude.{[], ◌∷◌, map, length, Option, None, Some, Result, Ok, Err, option_map}
+use Rattle.std.specs.Prelude.{if◌then◌else◌, nat_lt, nat_eq, slice_get}
 use Rattle.std.specs.Option.{option_map_or}
 use Rattle.nvm_base.specs.declared.op.BinOp.{BinOp}
 use Rattle.nvm_base.specs.declared.op.BinOp.TheVariants as op
@@ -17,11 +19,14 @@ use Rattle.pool_map.specs.declared.shapes.Shapes.{Shapes}
 use Rattle.pool_map.specs.declared.trap.TrapKind.{TrapKind}
 use Rattle.pool_map.specs.declared.trap.TrapKind.TheVariants as trap
 use Rattle.pool_map.specs.PoolFits.{words_of, words_of_field}
-use Rattle.pool_map.specs.PoolMap.{PoolMap, object_at, least_free, new, free, read, write, read_root, write_root}
+use Rattle.pool_map.specs.PoolMap.{PoolMap, object_at, least_free, new, free, read, write}
+use Rattle.pool_map.specs.PoolMap.{read_root, write_root}
 use Rattle.ir.specs.declared.instruction.Target.{Target}
 use Rattle.ir.specs.declared.instruction.Target.TheVariants.{Root, Field}
 use Rattle.ir.specs.declared.instruction.Instruction.{Instruction}
-use Rattle.ir.specs.declared.instruction.Instruction.TheVariants.{Const, Copy, Bin, Jump, Branch, Load, Store, New, Free, Call, Return, Tick, Trap, Log}
+use Rattle.ir.specs.declared.instruction.Instruction.TheVariants.{Const, Copy, Bin, Jump, Branch}
+use Rattle.ir.specs.declared.instruction.Instruction.TheVariants.{Load, Store, New, Free, Call}
+use Rattle.ir.specs.declared.instruction.Instruction.TheVariants.{Return, Tick, Trap, Log}
 use Rattle.ir.specs.declared.function.IrFunction.{IrFunction}
 use Rattle.ir.specs.declared.function.Ir.{Ir}
 use Rattle.ir.specs.WellFormed.{struct_of}

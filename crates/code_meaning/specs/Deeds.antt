@@ -2,17 +2,22 @@
 -- field words, and the stores, each with its site. A new object stores its header, which is its
 -- kind, and then 0 to each of its words; a free stores 0 to a header. The headers that a check or
 -- the search for a free slot reads don't count as loads. A log has no effect.
-use Rattle.std.specs.Prelude.{ℕ, zero, suc, ℤ, pos, Bool, true, false, List, [], ◌∷◌, ◌++◌, Option, None, Some, Result, Ok, Err}
+use Rattle.std.specs.Prelude.{ℕ, zero, suc, ℤ, pos, Bool, true, false, List, [], ◌∷◌, ◌++◌, Option}
+use Rattle.std.specs.Prelude.{None, Some, Result, Ok, Err}
 use Rattle.pool_map.specs.declared.shapes.Shapes.{Shapes}
 use Rattle.pool_map.specs.declared.trap.TrapKind.{TrapKind}
 use Rattle.pool_map.specs.PoolFits.{words_of}
 use Rattle.pool_map.specs.PoolMap.{PoolMap, least_free}
 use Rattle.ir.specs.declared.instruction.Instruction.{Instruction}
-use Rattle.ir.specs.declared.instruction.Instruction.TheVariants.{Const, Copy, Bin, Jump, Branch, Load, Store, New, Free, Call, Return, Tick, Trap, Log}
+use Rattle.ir.specs.declared.instruction.Instruction.TheVariants.{Const, Copy, Bin, Jump, Branch}
+use Rattle.ir.specs.declared.instruction.Instruction.TheVariants.{Load, Store, New, Free, Call}
+use Rattle.ir.specs.declared.instruction.Instruction.TheVariants.{Return, Tick, Trap, Log}
 use Rattle.ir.specs.declared.site.Site.{Site}
 use Rattle.ir.specs.declared.function.Ir.{Ir}
 use Rattle.ir.specs.Places.{instruction_at}
-use Rattle.code_meaning.specs.Code.{CodeState, Here, Move, Goes, Ends, Spot, InSlot, register_at, spot_of, slot_of, fields_of, base_in, index_in, instruction_step}
+use Rattle.code_meaning.specs.Code.{CodeState, Here, Move, Goes, Ends, Spot, InSlot, register_at}
+use Rattle.code_meaning.specs.Code.{spot_of, slot_of, fields_of, base_in, index_in}
+use Rattle.code_meaning.specs.Code.{instruction_step}
 
 pub data Deed : Type 0 where
   Reads : Spot → Deed

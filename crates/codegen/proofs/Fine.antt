@@ -1,6 +1,8 @@
 -- Each piece of code is fine: it names registers of its function and temporary ones, jumps within
 -- itself or right to its end, and traps with a trap's number.
-use Rattle.std.proofs.Common.{◌≡◌, ℕ, zero, suc, ◌+◌, ◌≤◌, Bool, true, false, List, [], ◌∷◌, ◌++◌, length, Option, Some, None, ℤ, pos, refl, ◌∙◌, arith, ltb, leb, length-append}
+use Rattle.std.proofs.Common.{◌≡◌, ℕ, zero, suc, ◌+◌, ◌≤◌, Bool, true, false, List, [], ◌∷◌, ◌++◌}
+use Rattle.std.proofs.Common.{length, Option, Some, None, ℤ, pos, refl, ◌∙◌, arith, ltb, leb}
+use Rattle.std.proofs.Common.{length-append}
 use Rattle.std.specs.Prelude.{nat_lt, nat_le, ◌&&◌, if◌then◌else◌, option_map}
 use Rattle.std.specs.List.{list_all}
 use Rattle.std.proofs.lemmas.Bool.{le-leb, and_from, and_parts}
@@ -18,15 +20,18 @@ use Rattle.ir.specs.declared.instruction.Instruction.TheVariants as ir
 use Rattle.pm_alloc.specs.declared.local.Reg.{Reg}
 use Rattle.pm_alloc.specs.declared.local.Reg.TheVariants.{Own, Temp}
 use Rattle.pm_alloc.specs.declared.local.Local.{Local}
-use Rattle.pm_alloc.specs.declared.local.Local.TheVariants.{Const, Mov, Bin, Jmp, Jz, Load, Store, Find, Log, Tick, Trap}
+use Rattle.pm_alloc.specs.declared.local.Local.TheVariants.{Const, Mov, Bin, Jmp, Jz, Load, Store}
+use Rattle.pm_alloc.specs.declared.local.Local.TheVariants.{Find, Log, Tick, Trap}
 use Rattle.pm_alloc.specs.Pieces.{offset, store_code, pointer_check, fill_code, new_head, new_code}
 use Rattle.codegen.specs.declared.fields.At.{At}
 use Rattle.codegen.specs.declared.fields.At.TheVariants.{Word, Element}
 use Rattle.codegen.specs.declared.fields.FieldPlace.{FieldPlace}
 use Rattle.codegen.specs.declared.fields.Reach.{Reach}
-use Rattle.codegen.specs.Fields.{element_at, reach, root_reach, struct_reach, struct_place, field_at, object_words}
+use Rattle.codegen.specs.Fields.{element_at, reach, root_reach, struct_reach, struct_place}
+use Rattle.codegen.specs.Fields.{field_at, object_words}
 use Rattle.codegen.specs.Names.{index_below, target_below, is_below}
-use Rattle.codegen.specs.Emit.{at_code, root_code, object_code, address_code, address_offset, load_at, store_at, make_words, divides, local_code}
+use Rattle.codegen.specs.Emit.{at_code, root_code, object_code, address_code, address_offset}
+use Rattle.codegen.specs.Emit.{load_at, store_at, make_words, divides, local_code}
 
 abbrev pub reg_fine : ℕ → Reg → Bool
 reg_fine r (Own a) = nat_lt a r

@@ -1,6 +1,9 @@
 -- The emitted code of a program that is well formed is good code for the machine.
-use Rattle.std.proofs.Common.{◌≡◌, ℕ, zero, suc, ◌+◌, ◌-◌, ◌<◌, ◌≤◌, ◌^◌, Bool, true, false, List, [], ◌∷◌, ◌++◌, length, map, Option, Some, None, refl, sym, ap, ◌∙◌, arith, ltb, leb, length-append}
-use Rattle.std.specs.Prelude.{nat_lt, nat_le, ◌&&◌, ◌||◌, if◌then◌else◌, min, slice_get, slice_index_or, option_map}
+use Rattle.std.proofs.Common.{◌≡◌, ℕ, zero, suc, ◌+◌, ◌-◌, ◌<◌, ◌≤◌, ◌^◌, Bool, true, false, List}
+use Rattle.std.proofs.Common.{[], ◌∷◌, ◌++◌, length, map, Option, Some, None, refl, sym, ap, ◌∙◌}
+use Rattle.std.proofs.Common.{arith, ltb, leb, length-append}
+use Rattle.std.specs.Prelude.{nat_lt, nat_le, ◌&&◌, ◌||◌, if◌then◌else◌, min, slice_get}
+use Rattle.std.specs.Prelude.{slice_index_or, option_map}
 use Rattle.std.specs.List.{list_all, AllByRecursion}
 use Rattle.std.proofs.Math.Bool.{or-true}
 use Rattle.std.proofs.lemmas.Bool.{lt-ltb, le-leb, ltb-true, leb-true, eq-eqb, and_from, and_parts}
@@ -19,14 +22,19 @@ use Rattle.ir.specs.WellFormed.{IsInstruction, IsFunction, IsWellFormed, EndsWel
 use Rattle.pm_machine.specs.declared.op.Op.{Op}
 use Rattle.pm_machine.specs.declared.op.Op.TheVariants as op
 use Rattle.pm_machine.specs.declared.op.Function.{Function}
-use Rattle.pm_machine.specs.Checked.{takes_arguments, op_is_there, is_end, is_good_op, bad_from, bad_in, bad_of, at_function}
+use Rattle.pm_machine.specs.Checked.{takes_arguments, op_is_there, is_end, is_good_op, bad_from}
+use Rattle.pm_machine.specs.Checked.{bad_in, bad_of, at_function}
 use Rattle.pm_alloc.specs.declared.local.Reg.{Reg}
 use Rattle.pm_alloc.specs.declared.local.Reg.TheVariants.{Own, Temp}
 use Rattle.pm_alloc.specs.declared.local.Local.{Local}
-use Rattle.pm_alloc.specs.declared.local.Local.TheVariants.{Const, Mov, Bin, Jmp, Jz, Load, Store, Find, Log, Tick, Trap}
+use Rattle.pm_alloc.specs.declared.local.Local.TheVariants.{Const, Mov, Bin, Jmp, Jz, Load, Store}
+use Rattle.pm_alloc.specs.declared.local.Local.TheVariants.{Find, Log, Tick, Trap}
 use Rattle.pm_alloc.specs.Placing.{sum, register_number, placed}
 use Rattle.codegen.specs.Names.{is_below}
-use Rattle.codegen.specs.Emit.{control, return_code, local_code, piece_width, is_log, instruction_places, place_in, instruction_code, code_from, emitted_code, has_room, trap_function, with_code, function_of, functions_of, known}
+use Rattle.codegen.specs.Emit.{control, return_code, local_code, piece_width, is_log}
+use Rattle.codegen.specs.Emit.{instruction_places, place_in, instruction_code, code_from}
+use Rattle.codegen.specs.Emit.{emitted_code, has_room, trap_function, with_code, function_of}
+use Rattle.codegen.specs.Emit.{functions_of, known}
 use Rattle.codegen.proofs.Fine.{reg_fine, fine, local_fine}
 use Rattle.codegen.proofs.Traps.{trap_good}
 

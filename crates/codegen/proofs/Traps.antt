@@ -1,6 +1,7 @@
 -- Functions that only trap are good code for the machine; an image has few functions, each with few
 -- instructions.
-use Rattle.std.proofs.Common.{◌≡◌, ℕ, ◌+◌, ◌<◌, ◌^◌, Bool, true, false, List, [], ◌∷◌, length, map, Option, None, refl, ap, ◌∙◌, arith, leb}
+use Rattle.std.proofs.Common.{◌≡◌, ℕ, ◌+◌, ◌<◌, ◌^◌, Bool, true, false, List, [], ◌∷◌, length, map}
+use Rattle.std.proofs.Common.{Option, None, refl, ap, ◌∙◌, arith, leb}
 use Rattle.std.specs.Prelude.{if◌then◌else◌, nat_lt}
 use Rattle.std.specs.List.{AllByRecursion}
 use Rattle.std.proofs.lemmas.Bool.{le-leb, ltb-true}
@@ -13,7 +14,8 @@ use Rattle.pm_machine.specs.declared.op.Op.{Op}
 use Rattle.pm_machine.specs.declared.op.Function.{Function}
 use Rattle.pm_machine.specs.Checked.{bad_in, bad_of, at_function}
 use Rattle.pm_machine.specs.Few.{IsShortFunction, AreFew}
-use Rattle.codegen.specs.Emit.{has_room, trap_function, with_code, emitted_code, function_of, functions_of, known}
+use Rattle.codegen.specs.Emit.{has_room, trap_function, with_code, emitted_code, function_of}
+use Rattle.codegen.specs.Emit.{functions_of, known}
 use Rattle.codegen.specs.inside.Emit.{traps_of}
 
 pub trap_good : (us : List Function) (n : ℕ) → bad_in us (trap_function n) ≡ None

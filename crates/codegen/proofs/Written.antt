@@ -1,5 +1,6 @@
 -- The lists that the emission writes, one instruction after another.
-use Rattle.std.proofs.Common.{◌≡◌, ℕ, zero, suc, ◌+◌, Bool, List, [], ◌∷◌, ◌++◌, drop, Option, Some, sym, ap, ◌∙◌, arith, append_assoc}
+use Rattle.std.proofs.Common.{◌≡◌, ℕ, zero, suc, ◌+◌, Bool, List, [], ◌∷◌, ◌++◌, drop, Option, Some}
+use Rattle.std.proofs.Common.{sym, ap, ◌∙◌, arith, append_assoc}
 use Rattle.std.specs.Prelude.{slice_get}
 use Rattle.pool_map.specs.declared.shapes.Shapes.{Shapes}
 use Rattle.pool_layout.specs.declared.limits.Sizes.{Sizes}
@@ -9,7 +10,8 @@ use Rattle.pm_alloc.specs.Placing.{sum}
 use Rattle.pm_alloc.specs.declared.local.Local.{Local}
 use Rattle.pm_alloc.specs.Pieces.{pointer_check}
 use Rattle.codegen.specs.declared.fields.Reach.{Reach}
-use Rattle.codegen.specs.Emit.{at_code, object_code, is_log, piece_width, instruction_places, instruction_code, code_from}
+use Rattle.codegen.specs.Emit.{at_code, object_code, is_log, piece_width, instruction_places}
+use Rattle.codegen.specs.Emit.{instruction_code, code_from}
 
 drop_at : (code : List Instruction) (k : ℕ) (i : Instruction) → slice_get code k ≡ Some i
     → drop k code ≡ i ∷ drop (k + 1) code

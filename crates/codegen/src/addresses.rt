@@ -2,7 +2,8 @@
 
 ghost use Rattle.std.specs.Prelude.{◌≡◌, ◌++◌, ◌∷◌, [], ◌<◌, ◌^◌, pos, OnOk, IfOk};
 ghost use Rattle.pm_alloc.specs.declared.local.Local.TheVariants.{Trap};
-ghost use Rattle.codegen.specs.Emit.{at_code, root_code, root_offset, object_code, object_offset, address_code, address_offset};
+ghost use Rattle.codegen.specs.Emit.{at_code, root_code, root_offset, object_code, object_offset};
+ghost use Rattle.codegen.specs.Emit.{address_code, address_offset};
 
 use crate::fields::{At, Reach, root_reach, struct_reach};
 use ir::Target;

@@ -1,6 +1,7 @@
 //! The image of a program.
 
-ghost use Rattle.std.specs.Prelude.{◌≡◌, ◌++◌, ◌<◌, ◌≤◌, ◌^◌, length, map, None, true, OnOk, IfOk, ℕ};
+ghost use Rattle.std.specs.Prelude.{◌≡◌, ◌++◌, ◌<◌, ◌≤◌, ◌^◌, length, map, None, true, OnOk, IfOk};
+ghost use Rattle.std.specs.Prelude.{ℕ};
 ghost use Rattle.pm_machine.specs.Checked.{bad_of};
 ghost use Rattle.pm_machine.specs.Few.{AreFew};
 ghost use Rattle.ir.specs.WellFormed.{IsWellFormed};

@@ -1,9 +1,11 @@
 //! The code of a function.
 
-ghost use Rattle.std.specs.Prelude.{◌≡◌, ◌++◌, ◌∷◌, [], ◌<◌, ◌+◌, ◌^◌, length, false, true, OnOk, IfOk, if◌then◌else◌, nat_lt};
+ghost use Rattle.std.specs.Prelude.{◌≡◌, ◌++◌, ◌∷◌, [], ◌<◌, ◌+◌, ◌^◌, length, false, true, OnOk};
+ghost use Rattle.std.specs.Prelude.{IfOk, if◌then◌else◌, nat_lt};
 ghost use Rattle.pm_alloc.specs.Placing as placing;
 ghost use Rattle.codegen.specs.Emit as definitions;
-ghost use Rattle.codegen.specs.Emit.{piece_width, instruction_places, instruction_code, code_from, emitted_code, has_room, trap_function, with_code, function_of};
+ghost use Rattle.codegen.specs.Emit.{piece_width, instruction_places, instruction_code, code_from};
+ghost use Rattle.codegen.specs.Emit.{emitted_code, has_room, trap_function, with_code, function_of};
 
 use crate::control::{control_width, push_control};
 use crate::instructions::local_piece;

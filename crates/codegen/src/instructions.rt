@@ -1,7 +1,8 @@
 //! The code of an instruction that stays in its function.
 
 ghost use Rattle.std.specs.Prelude.{◌≡◌, ◌++◌, OnOk, IfOk};
-ghost use Rattle.codegen.specs.Emit.{divides, bin_code, load_code, assign_code, make_code, local_code};
+ghost use Rattle.codegen.specs.Emit.{divides, bin_code, load_code, assign_code, make_code};
+ghost use Rattle.codegen.specs.Emit.{local_code};
 
 use crate::addresses::push_address;
 use crate::fields::struct_words;

@@ -1,5 +1,7 @@
 -- A compiled program agrees with its source.
-use Rattle.std.proofs.Common.{◌≡◌, ℕ, zero, suc, ◌+◌, ◌-◌, ◌*◌, ◌<◌, ◌≤◌, ◌^◌, ℤ, pos, Bool, true, false, List, [], ◌∷◌, ◌++◌, length, Option, Some, None, refl, sym, ap, ◌∙◌, subst, arith, ⊎_elim}
+use Rattle.std.proofs.Common.{◌≡◌, ℕ, zero, suc, ◌+◌, ◌-◌, ◌*◌, ◌<◌, ◌≤◌, ◌^◌, ℤ, pos, Bool, true}
+use Rattle.std.proofs.Common.{false, List, [], ◌∷◌, ◌++◌, length, Option, Some, None, refl, sym, ap}
+use Rattle.std.proofs.Common.{◌∙◌, subst, arith, ⊎_elim}
 use Rattle.std.specs.Option.{option_map_or}
 use Rattle.std.specs.Prelude.{slice_get, slice_index_or, option_map, if◌then◌else◌, nat_lt, Ok}
 use Rattle.std.proofs.lemmas.List.{length-map}
@@ -10,8 +12,8 @@ use Rattle.pool_map.specs.PoolFits.{PoolFits}
 use Rattle.pool_map.specs.PoolMap.{PoolMap}
 use Rattle.nvm_base.specs.Wrap.{IsWord}
 use Rattle.c_lexer.specs.TokenList.{Tokens}
-use Rattle.c_parser.specs.ItemTree.{FunctionTree}
-use Rattle.c_parser.specs.Program as parser
+use Rattle.c_tree.specs.ItemTree.{FunctionTree}
+use Rattle.c_tree.specs.Program as parser
 use Rattle.c_types.specs.Tables.{Tables, tables_of}
 use Rattle.c_types.specs.Shapes.{shapes_of}
 use Rattle.c_meaning.specs.Meaning.{Out, Got, Stops, function_value, calls_of}
@@ -20,7 +22,9 @@ use Rattle.c_meaning.specs.Transaction.{Outcome, outcome, run_transaction}
 use Rattle.pool_map.specs.declared.trap.TrapKind.TheVariants.{LogFull}
 use Rattle.ir.specs.declared.instruction.Target.{Target}
 use Rattle.ir.specs.declared.instruction.Instruction.{Instruction}
-use Rattle.ir.specs.declared.instruction.Instruction.TheVariants.{Const, Copy, Bin, Jump, Branch, Load, Store, New, Free, Call, Return, Tick, Trap, Log}
+use Rattle.ir.specs.declared.instruction.Instruction.TheVariants.{Const, Copy, Bin, Jump, Branch}
+use Rattle.ir.specs.declared.instruction.Instruction.TheVariants.{Load, Store, New, Free, Call}
+use Rattle.ir.specs.declared.instruction.Instruction.TheVariants.{Return, Tick, Trap, Log}
 use Rattle.ir.specs.declared.function.IrFunction.{IrFunction}
 use Rattle.ir.specs.declared.function.Ir.{Ir}
 use Rattle.ir.specs.declared.site.Site.{Site}
@@ -44,7 +48,8 @@ use Rattle.instrument.proofs.LoggedCode.{answer_well_formed}
 use Rattle.insert_law.specs.Law.{HasResult}
 use Rattle.insert_law.proofs.Standing.{function_at}
 use Rattle.insert_law.proofs.Origins.{origin}
-use Rattle.code_meaning.specs.Code.{CodeEnd, Ended, Trapped, code_start, exec, register_at, load_spot}
+use Rattle.code_meaning.specs.Code.{CodeEnd, Ended, Trapped, code_start, exec, register_at}
+use Rattle.code_meaning.specs.Code.{load_spot}
 use Rattle.code_meaning.specs.Code as code
 use Rattle.code_meaning.specs.Deeds.{Deed, deeds}
 use Rattle.pm_machine.specs.declared.effect.End as machine_end
@@ -71,7 +76,8 @@ use Rattle.match_law.proofs.Keep.{kept_all}
 use Rattle.cnvm_session.specs.declared.program.Program.{Program}
 use Rattle.cnvm_session.specs.Commands.{tx_parameters}
 use Rattle.session_law.specs.Logged.{stored_at, AreLogged}
-use Rattle.session_law.specs.Source.{source_parameters, means, deeds_in, LogsStores, outcome_with, ComesTo, source_pool, HasSourceHeaders}
+use Rattle.session_law.specs.Source.{source_parameters, means, deeds_in, LogsStores, outcome_with}
+use Rattle.session_law.specs.Source.{ComesTo, source_pool, HasSourceHeaders}
 use Rattle.session_law.specs.Words.{AreWords, HasPoolWords}
 use Rattle.session_law.specs.Agrees.{Matches, RunsAs, Agrees}
 use Rattle.compiled_law.specs.inside.Runs.{EndsAs, EndsIf}
@@ -81,7 +87,8 @@ use Rattle.compiled_law.proofs.Apart.{heap_apart}
 use Rattle.compiled_law.proofs.Exact.{are_logged}
 use Rattle.compiled_law.proofs.Marked.{all_stores}
 use Rattle.compiled_law.proofs.Entering.{code_of, parameters_same, entries_same, entry_is}
-use Rattle.compiled_law.proofs.Numbers.{few_tokens, part_of_whole, all_below, logged_long, functions_long, all_known, is_pool, enough_steps}
+use Rattle.compiled_law.proofs.Numbers.{few_tokens, part_of_whole, all_below, logged_long}
+use Rattle.compiled_law.proofs.Numbers.{functions_long, all_known, is_pool, enough_steps}
 use Rattle.compiled_law.proofs.Pools.{pool_same}
 use Rattle.compiled_law.proofs.Room.{has_room_for}
 use Rattle.compiled_law.proofs.Sounding.{compiled_run}

@@ -1,10 +1,13 @@
 -- A run writes one log record for each of its stores at sites that the marks log.
-use Rattle.std.proofs.Common.{◌≡◌, ℕ, zero, suc, ◌+◌, ◌<◌, Bool, true, false, List, [], ◌∷◌, ◌++◌, Option, Some, None, refl, sym, ap, ◌∙◌, subst, arith}
+use Rattle.std.proofs.Common.{◌≡◌, ℕ, zero, suc, ◌+◌, ◌<◌, Bool, true, false, List, [], ◌∷◌, ◌++◌}
+use Rattle.std.proofs.Common.{Option, Some, None, refl, sym, ap, ◌∙◌, subst, arith}
 use Rattle.std.specs.Prelude.{slice_get, option_and_then, if◌then◌else◌}
 use Rattle.pool_layout.specs.declared.limits.Sizes.{Sizes}
 use Rattle.ir.specs.declared.instruction.Target.{Target}
 use Rattle.ir.specs.declared.instruction.Instruction.{Instruction}
-use Rattle.ir.specs.declared.instruction.Instruction.TheVariants.{Const, Copy, Bin, Jump, Branch, Load, Store, New, Free, Call, Return, Tick, Trap, Log}
+use Rattle.ir.specs.declared.instruction.Instruction.TheVariants.{Const, Copy, Bin, Jump, Branch}
+use Rattle.ir.specs.declared.instruction.Instruction.TheVariants.{Load, Store, New, Free, Call}
+use Rattle.ir.specs.declared.instruction.Instruction.TheVariants.{Return, Tick, Trap, Log}
 use Rattle.ir.specs.declared.function.IrFunction.{IrFunction}
 use Rattle.ir.specs.declared.function.Ir.{Ir}
 use Rattle.ir.specs.declared.site.Site.{Site}
@@ -13,21 +16,25 @@ use Rattle.ir.specs.WellFormed.{IsWellFormed}
 use Rattle.clobber_pass.specs.declared.marking.MarkTable.{MarkTable}
 use Rattle.clobber_pass.specs.Logged as table
 use Rattle.instrument.specs.Insert as insert
-use Rattle.instrument.specs.Insert.{logs, led, place_in, places_from, flags_from, flagged, logged_program}
+use Rattle.instrument.specs.Insert.{logs, led, place_in, places_from, flags_from, flagged}
+use Rattle.instrument.specs.Insert.{logged_program}
 use Rattle.code_meaning.specs.Code.{CodeState}
 use Rattle.code_meaning.specs.Deeds.{Deed, Reads, Writes, Heads, site, deeds}
 use Rattle.insert_law.specs.Moved.{code_in, begins, stands, moved_site, moved_deeds}
 use Rattle.insert_law.proofs.Standing.{standing, fill_stands}
 use Rattle.pm_machine.specs.declared.effect.Effect.{Effect}
-use Rattle.pm_machine.specs.declared.effect.Effect.TheVariants.{Loads, Scans, Stores, Logs, Flushes, Fences, Quiet}
+use Rattle.pm_machine.specs.declared.effect.Effect.TheVariants.{Loads, Scans, Stores, Logs, Flushes}
+use Rattle.pm_machine.specs.declared.effect.Effect.TheVariants.{Fences, Quiet}
 use Rattle.pm_machine.specs.Effects.{records_end}
 use Rattle.codegen.specs.Emit.{is_log}
 use Rattle.piece_law.specs.Shows as shows
-use Rattle.piece_law.specs.Shows.{ShowsDeeds, done, looks, scans, reads, plain, heads, TakesLog, IsCutAtStore}
+use Rattle.piece_law.specs.Shows.{ShowsDeeds, done, looks, scans, reads, plain, heads, TakesLog}
+use Rattle.piece_law.specs.Shows.{IsCutAtStore}
 use Rattle.match_law.specs.Accesses.{accesses}
 use Rattle.match_law.specs.Compiled.{logs_at, is_logged_in_code}
 use Rattle.compiled_law.specs.inside.Records.{records_of}
-use Rattle.compiled_law.proofs.Marked.{IsStoreAt, AreStores, all_stores, logged_at, fill_at, moved_logged_true}
+use Rattle.compiled_law.proofs.Marked.{IsStoreAt, AreStores, all_stores, logged_at, fill_at}
+use Rattle.compiled_law.proofs.Marked.{moved_logged_true}
 
 records_accesses : (n : ℕ) (es : List Effect) → records_end n (accesses es) ≡ records_end n es
 records_accesses n [] = refl

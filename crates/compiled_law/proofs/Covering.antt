@@ -1,6 +1,7 @@
 -- A machine's run whose loads, stores and logs show those of the code is covered if the first store
 -- to each input of the code is logged.
-use Rattle.std.proofs.Common.{◌≡◌, ◌≢◌, ℕ, zero, suc, ◌+◌, ◌<◌, ◌≤◌, arith, Bool, true, List, [], ◌∷◌, refl, sym, ap, ◌∙◌, subst, inl, inr, ⊎_elim}
+use Rattle.std.proofs.Common.{◌≡◌, ◌≢◌, ℕ, zero, suc, ◌+◌, ◌<◌, ◌≤◌, arith, Bool, true, List, []}
+use Rattle.std.proofs.Common.{◌∷◌, refl, sym, ap, ◌∙◌, subst, inl, inr, ⊎_elim}
 use Rattle.std.proofs.lemmas.Bool.{true≢false}
 use mathlib.Core.Logic.{◌⊎◌}
 use Rattle.pool_layout.specs.declared.limits.Sizes.{Sizes}
@@ -13,14 +14,17 @@ use Rattle.cover_law.specs.Covered.{IsInput, FirstStore}
 use Rattle.cover_law.proofs.Parts.{input_append, first_append}
 use Rattle.crash_law.specs.Effects as past
 use Rattle.pm_machine.specs.declared.effect.Effect.{Effect}
-use Rattle.pm_machine.specs.declared.effect.Effect.TheVariants.{Loads, Scans, Stores, Logs, Flushes, Fences, Quiet}
+use Rattle.pm_machine.specs.declared.effect.Effect.TheVariants.{Loads, Scans, Stores, Logs, Flushes}
+use Rattle.pm_machine.specs.declared.effect.Effect.TheVariants.{Fences, Quiet}
 use Rattle.pm_machine.specs.Find.{IsHeader}
 use Rattle.run_law.specs.Seen.{seen_all}
-use Rattle.run_law.proofs.Headers.{input_headers, headers_input, over_headers, headers_over, first_headers, headers_first}
+use Rattle.run_law.proofs.Headers.{input_headers, headers_input, over_headers, headers_over}
+use Rattle.run_law.proofs.Headers.{first_headers, headers_first}
 use Rattle.run_law.proofs.Inputs.{input_seen, over_seen}
 use Rattle.run_law.specs.Sound.{IsCoveredRun}
 use Rattle.piece_law.specs.Stands.{place_of, heap_word, header_word}
-use Rattle.piece_law.specs.Shows.{IsThere, ShowsDeeds, done, looks, scans, reads, plain, logs, heads, IsCutAtStore}
+use Rattle.piece_law.specs.Shows.{IsThere, ShowsDeeds, done, looks, scans, reads, plain, logs}
+use Rattle.piece_law.specs.Shows.{heads, IsCutAtStore}
 use Rattle.match_law.specs.Accesses.{accesses}
 
 -- the inputs and overwritten words of a run are those of its loads, stores and logs

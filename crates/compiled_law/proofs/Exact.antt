@@ -1,5 +1,6 @@
 -- Marks that are exact count the logged stores of a run.
-use Rattle.std.proofs.Common.{◌≡◌, ℕ, suc, Bool, true, false, if◌then◌else◌, List, [], ◌∷◌, inl, inr, refl, sym, ◌∙◌}
+use Rattle.std.proofs.Common.{◌≡◌, ℕ, suc, Bool, true, false, if◌then◌else◌, List, [], ◌∷◌, inl}
+use Rattle.std.proofs.Common.{inr, refl, sym, ◌∙◌}
 use Rattle.ir.specs.declared.function.Ir.{Ir}
 use Rattle.ir.specs.declared.site.Site.{Site}
 use Rattle.clobber_pass.specs.declared.marking.MarkTable.{MarkTable}

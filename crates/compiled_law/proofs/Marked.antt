@@ -1,12 +1,15 @@
 -- In a run of code with the logs of its marks the first store to each input is logged.
-use Rattle.std.proofs.Common.{◌≡◌, ℕ, zero, suc, ◌+◌, ◌*◌, ℤ, Bool, true, false, List, [], ◌∷◌, ◌++◌, Option, Some, None, refl, sym, ap, ◌∙◌, subst, inl, inr, arith}
+use Rattle.std.proofs.Common.{◌≡◌, ℕ, zero, suc, ◌+◌, ◌*◌, ℤ, Bool, true, false, List, [], ◌∷◌}
+use Rattle.std.proofs.Common.{◌++◌, Option, Some, None, refl, sym, ap, ◌∙◌, subst, inl, inr, arith}
 use Rattle.std.specs.Prelude.{slice_get, option_and_then, Result, Ok, Err}
 use Rattle.pool_map.specs.declared.trap.TrapKind.{TrapKind}
 use Rattle.pool_map.specs.PoolFits.{words_of}
 use Rattle.pool_map.specs.PoolMap.{PoolMap, least_free}
 use Rattle.ir.specs.declared.instruction.Target.{Target}
 use Rattle.ir.specs.declared.instruction.Instruction.{Instruction}
-use Rattle.ir.specs.declared.instruction.Instruction.TheVariants.{Const, Copy, Bin, Jump, Branch, Load, Store, New, Free, Call, Return, Tick, Trap, Log}
+use Rattle.ir.specs.declared.instruction.Instruction.TheVariants.{Const, Copy, Bin, Jump, Branch}
+use Rattle.ir.specs.declared.instruction.Instruction.TheVariants.{Load, Store, New, Free, Call}
+use Rattle.ir.specs.declared.instruction.Instruction.TheVariants.{Return, Tick, Trap, Log}
 use Rattle.ir.specs.declared.function.IrFunction.{IrFunction}
 use Rattle.ir.specs.declared.function.Ir.{Ir}
 use Rattle.ir.specs.declared.site.Site.{Site}
@@ -16,8 +19,11 @@ use Rattle.ir.specs.WellFormed.{IsWellFormed}
 use Rattle.clobber_pass.specs.declared.marking.MarkTable.{MarkTable}
 use Rattle.clobber_pass.specs.Logged as table
 use Rattle.instrument.specs.Insert.{logged_program}
-use Rattle.code_meaning.specs.Code.{CodeState, Here, Move, Goes, Ends, Spot, code_start, exec, instruction_step, spot_of, slot_of, fields_of, base_in, index_in, register_at}
-use Rattle.code_meaning.specs.Deeds.{Deed, Reads, Writes, Heads, if_ok, zeros, site, deeds_new, deeds_at, deeds_of, deeds_on, deeds}
+use Rattle.code_meaning.specs.Code.{CodeState, Here, Move, Goes, Ends, Spot, code_start, exec}
+use Rattle.code_meaning.specs.Code.{instruction_step, spot_of, slot_of, fields_of, base_in}
+use Rattle.code_meaning.specs.Code.{index_in, register_at}
+use Rattle.code_meaning.specs.Deeds.{Deed, Reads, Writes, Heads, if_ok, zeros, site, deeds_new}
+use Rattle.code_meaning.specs.Deeds.{deeds_at, deeds_of, deeds_on, deeds}
 use Rattle.code_meaning.specs.Parameters.{KeepsParameters}
 use Rattle.insert_law.specs.Moved.{begins, stands, moved_site, moved_deeds}
 use Rattle.insert_law.specs.Law.{HasResult}

@@ -1,5 +1,7 @@
 -- The numbers of a compiled program: its tokens, the length of its code, and the bound on steps.
-use Rattle.std.proofs.Common.{◌≡◌, ℕ, zero, suc, ◌+◌, ◌*◌, ◌<◌, ◌≤◌, ◌^◌, Bool, true, false, List, [], ◌∷◌, ◌++◌, length, Some, refl, sym, ap, arith, length-append, ⊎_elim}
+use Rattle.std.proofs.Common.{◌≡◌, ℕ, zero, suc, ◌+◌, ◌*◌, ◌<◌, ◌≤◌, ◌^◌, Bool, true, false, List}
+use Rattle.std.proofs.Common.{[], ◌∷◌, ◌++◌, length, Some, refl, sym, ap, arith, length-append}
+use Rattle.std.proofs.Common.{⊎_elim}
 use Rattle.std.specs.Prelude.{slice_get, nat_lt, if◌then◌else◌, Result, Ok, Err}
 use Rattle.std.specs.List.{AllByRecursion}
 use Rattle.std.proofs.lemmas.Bool.{lt-ltb, ltb-false}
@@ -13,7 +15,8 @@ use Rattle.c_lexer.specs.TokenList.{Tokens}
 use Rattle.ir.specs.declared.instruction.Instruction.{Instruction}
 use Rattle.ir.specs.declared.function.IrFunction.{IrFunction}
 use Rattle.clobber_pass.specs.declared.marking.MarkTable.{MarkTable}
-use Rattle.instrument.specs.Insert.{logs, flag_at, led, is_log, own, logged_from, places_from, flags_from, with_flags, logged_code, logged_functions}
+use Rattle.instrument.specs.Insert.{logs, flag_at, led, is_log, own, logged_from, places_from}
+use Rattle.instrument.specs.Insert.{flags_from, with_flags, logged_code, logged_functions}
 use Rattle.insert_law.proofs.Follows.{one_log}
 use Rattle.pm_alloc.specs.Search.{IsPool}
 use Rattle.codegen.specs.Emit.{most_steps, known}

@@ -1,5 +1,6 @@
 -- The pool that a session shows of a heap with valid headers is the one that the heap stands for.
-use Rattle.std.proofs.Common.{◌≡◌, ℕ, zero, suc, ◌+◌, ◌≤◌, ℤ, pos, Bool, true, false, List, ◌∷◌, length, Option, Some, None, refl, sym, ap, ap₂, ◌∙◌, arith}
+use Rattle.std.proofs.Common.{◌≡◌, ℕ, zero, suc, ◌+◌, ◌≤◌, ℤ, pos, Bool, true, false, List, ◌∷◌}
+use Rattle.std.proofs.Common.{length, Option, Some, None, refl, sym, ap, ap₂, ◌∙◌, arith}
 use Rattle.std.specs.Prelude.{slice_get, nat_lt, if◌then◌else◌, option_map}
 use Rattle.std.proofs.lemmas.Bool.{lt-ltb}
 use Rattle.cache_model.specs.Cache.{Words}
@@ -11,7 +12,8 @@ use Rattle.pool_map.specs.declared.shapes.Shapes.{Shapes}
 use Rattle.pool_map.specs.PoolFits.{words_of, struct_at}
 use Rattle.cnvm_session.specs.Shown as shown
 use Rattle.piece_law.specs.Fits.{IsFit}
-use Rattle.piece_law.specs.Pools.{HasValidHeaders, words_from, object_with, object_in, slots_from, pool_in}
+use Rattle.piece_law.specs.Pools.{HasValidHeaders, words_from, object_with, object_in, slots_from}
+use Rattle.piece_law.specs.Pools.{pool_in}
 
 words_same : (h : Words) (w n : ℕ) → shown.words_from h w n ≡ words_from h w n
 words_same h w zero = refl

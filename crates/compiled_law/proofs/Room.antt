@@ -1,5 +1,7 @@
 -- A function of well-formed, short code has room for its registers and its code.
-use Rattle.std.proofs.Common.{◌≡◌, ℕ, ◌-◌, ◌*◌, ◌<◌, ◌≤◌, ◌^◌, Bool, true, false, List, [], ◌∷◌, ◌++◌, length, map, Option, Some, None, refl, ap₂, arith, length-append}
+use Rattle.std.proofs.Common.{◌≡◌, ℕ, ◌-◌, ◌*◌, ◌<◌, ◌≤◌, ◌^◌, Bool, true, false, List, [], ◌∷◌}
+use Rattle.std.proofs.Common.{◌++◌, length, map, Option, Some, None, refl, ap₂, arith}
+use Rattle.std.proofs.Common.{length-append}
 use Rattle.std.specs.Prelude.{◌&&◌, nat_lt, nat_le, slice_get}
 use Rattle.std.specs.List.{list_all, AllByRecursion}
 use Rattle.std.proofs.lemmas.Bool.{lt-ltb, le-leb}
@@ -18,7 +20,8 @@ use Rattle.pm_machine.specs.declared.op.Op.{Op}
 use Rattle.pm_alloc.specs.declared.local.Local.{Local}
 use Rattle.pm_alloc.specs.Placing.{sum, placed}
 use Rattle.codegen.specs.Names.{index_below, target_below, is_below}
-use Rattle.codegen.specs.Emit.{local_code, control, piece_width, is_log, instruction_places, place_in, code_from}
+use Rattle.codegen.specs.Emit.{local_code, control, piece_width, is_log, instruction_places}
+use Rattle.codegen.specs.Emit.{place_in, code_from}
 use Rattle.emit_law.specs.Standing.{HasRoom}
 use Rattle.emit_law.proofs.Steps.{forward_code}
 

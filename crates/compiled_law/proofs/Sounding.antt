@@ -1,6 +1,7 @@
 -- The machine's run of a compiled transaction is sound, and ends as its code does, or with a full
 -- log if the code does more logged stores than the log has records.
-use Rattle.std.proofs.Common.{◌≡◌, ℕ, zero, suc, ◌*◌, ◌-◌, ◌<◌, ◌≤◌, Bool, ℤ, true, false, nat_lt, List, Some, refl, sym, subst, inl, inr, arith}
+use Rattle.std.proofs.Common.{◌≡◌, ℕ, zero, suc, ◌*◌, ◌-◌, ◌<◌, ◌≤◌, Bool, ℤ, true, false, nat_lt}
+use Rattle.std.proofs.Common.{List, Some, refl, sym, subst, inl, inr, arith}
 use Rattle.std.specs.Prelude.{slice_get}
 use Rattle.std.proofs.lemmas.Bool.{lt-ltb, le-ltb}
 use Rattle.cache_model.specs.Cache.{Words}

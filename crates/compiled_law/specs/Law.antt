@@ -5,8 +5,8 @@
 use Rattle.std.specs.Prelude.{◌≡◌, ℕ, ℤ, List, [], length, map, Ok}
 use Rattle.c_lexer.specs.Cuts.{answer}
 use Rattle.c_lexer.specs.TokenList.{Tokens}
-use Rattle.c_parser.specs.ItemSpelling.{SpellsProgram}
-use Rattle.c_parser.specs.Program.{tree_of}
+use Rattle.c_tree.specs.ItemSpelling.{SpellsProgram}
+use Rattle.c_tree.specs.Program.{tree_of}
 use Rattle.c_types.specs.Fault.{breaks}
 use Rattle.c_types.specs.Shapes.{shapes_of}
 use Rattle.c_meaning.specs.Transaction.{Outcome}

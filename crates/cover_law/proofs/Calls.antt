@@ -1,5 +1,6 @@
 -- A call and a return.
-use Rattle.std.proofs.Common.{◌≡◌, ℕ, suc, ℤ, Bool, true, false, if◌then◌else◌, nat_lt, List, [], ◌∷◌, map, length, Option, None, Some, refl, ap, subst}
+use Rattle.std.proofs.Common.{◌≡◌, ℕ, suc, ℤ, Bool, true, false, if◌then◌else◌, nat_lt, List, []}
+use Rattle.std.proofs.Common.{◌∷◌, map, length, Option, None, Some, refl, ap, subst}
 use Rattle.pool_map.specs.declared.trap.TrapKind.TheVariants as trap
 use Rattle.pool_map.specs.PoolMap.{PoolMap}
 use Rattle.ir.specs.declared.instruction.Instruction.TheVariants.{Call}
@@ -12,7 +13,8 @@ use Rattle.ir.specs.Walk as walk
 use Rattle.ir.specs.Walk.{Kept, Open, Comes, facts_at_entry, given_back}
 use Rattle.ir.specs.Walk.WalkStep.{enters, returns}
 use Rattle.code_meaning.specs.Code as code
-use Rattle.code_meaning.specs.Code.{CodeState, Here, Frame, frame, Move, Goes, Ends, Trapped, Spot, register_at, put_register, opens, open_limit}
+use Rattle.code_meaning.specs.Code.{CodeState, Here, Frame, frame, Move, Goes, Ends, Trapped, Spot}
+use Rattle.code_meaning.specs.Code.{register_at, put_register, opens, open_limit}
 use Rattle.code_meaning.specs.Deeds.{Deed, deeds_on}
 use Rattle.code_meaning.specs.Parameters.{KeepsParameters}
 use Rattle.cover_law.proofs.Spots.{Sure}

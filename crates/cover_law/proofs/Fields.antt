@@ -1,5 +1,8 @@
 -- The words of a field: a word lies in at most one of them.
-use Rattle.std.proofs.Common.{◌≡◌, ◌<◌, ◌≤◌, ◌+◌, ◌-◌, ℕ, zero, suc, ℤ, pos, negsuc, Bool, true, false, if◌then◌else◌, List, [], ◌∷◌, Option, None, Some, Result, Ok, Err, option_map, option_and_then, unwrap_or, slice_get, nat_lt, refl, ap, arith}
+use Rattle.std.proofs.Common.{◌≡◌, ◌<◌, ◌≤◌, ◌+◌, ◌-◌, ℕ, zero, suc, ℤ, pos, negsuc, Bool, true}
+use Rattle.std.proofs.Common.{false, if◌then◌else◌, List, [], ◌∷◌, Option, None, Some, Result, Ok}
+use Rattle.std.proofs.Common.{Err, option_map, option_and_then, unwrap_or, slice_get, nat_lt, refl}
+use Rattle.std.proofs.Common.{ap, arith}
 use Rattle.std.specs.Option.{option_map_or}
 use Rattle.std.proofs.lemmas.Bool.{ltb-true}
 use Rattle.std.proofs.lemmas.List.Sums.{sum_by-cons}
@@ -10,7 +13,8 @@ use Rattle.pool_map.specs.declared.trap.TrapKind.{TrapKind}
 use Rattle.pool_map.specs.declared.trap.TrapKind.TheVariants as trap
 use Rattle.pool_map.specs.PoolFits.{words_of, words_of_field}
 use Rattle.ir.specs.WellFormed.{IsIndexed, struct_of, shape_field}
-use Rattle.code_meaning.specs.Code.{register_at, words_before, word_in_shape, element_in, elements, fields_of, then_on}
+use Rattle.code_meaning.specs.Code.{register_at, words_before, word_in_shape, element_in, elements}
+use Rattle.code_meaning.specs.Code.{fields_of, then_on}
 
 abbrev pub width : Option FieldShape → ℕ
 width None = 0

@@ -1,6 +1,7 @@
 -- The deeds of a fill: the first store to a word comes from the fill if the fill stores to it, else
 -- from what follows.
-use Rattle.std.proofs.Common.{◌≡◌, ◌≢◌, ◌<◌, ◌≤◌, ◌+◌, ℕ, zero, suc, List, ◌++◌, refl, sym, subst, inl, inr, arith}
+use Rattle.std.proofs.Common.{◌≡◌, ◌≢◌, ◌<◌, ◌≤◌, ◌+◌, ℕ, zero, suc, List, ◌++◌, refl, sym, subst}
+use Rattle.std.proofs.Common.{inl, inr, arith}
 use mathlib.Core.Logic.{◌⊎◌}
 use Rattle.ir.specs.declared.site.Site.{Site}
 use Rattle.code_meaning.specs.Code.{Spot, InRoot, InSlot}

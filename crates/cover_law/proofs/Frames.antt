@@ -1,6 +1,9 @@
 -- The call stack of a run and that of a walk. While a call is open, its parameters hold the same
 -- values as the caller's registers that were passed.
-use Rattle.std.proofs.Common.{◌≡◌, ◌≢◌, ◌<◌, ◌≤◌, ℕ, zero, suc, ℤ, Bool, true, false, if◌then◌else◌, ◌==◌, List, [], ◌∷◌, map, Option, None, Some, option_and_then, slice_get, slice_index_or, position, length, refl, ap, sym, ◌∙◌, subst, arith}
+use Rattle.std.proofs.Common.{◌≡◌, ◌≢◌, ◌<◌, ◌≤◌, ℕ, zero, suc, ℤ, Bool, true, false, if◌then◌else◌}
+use Rattle.std.proofs.Common.{◌==◌, List, [], ◌∷◌, map, Option, None, Some, option_and_then}
+use Rattle.std.proofs.Common.{slice_get, slice_index_or, position, length, refl, ap, sym, ◌∙◌}
+use Rattle.std.proofs.Common.{subst, arith}
 use Rattle.std.specs.List.{AllByRecursion}
 use Rattle.std.proofs.lemmas.Bool.{false≢true, eqb-true, eq-eqb}
 use Rattle.std.proofs.lemmas.Option.{slice_get_within, slice_get-get_or}
@@ -13,7 +16,8 @@ use Rattle.ir.specs.declared.function.IrFunction.{IrFunction}
 use Rattle.ir.specs.declared.function.Ir.{Ir}
 use Rattle.ir.specs.Places.{instruction_at, CallsAt}
 use Rattle.ir.specs.WellFormed.{IsWellFormed, IsFunction, IsInstruction, TakesArgs}
-use Rattle.ir.specs.Walk.{Kept, Open, register_has, facts_passed, facts_at_entry, facts_taken, given_back}
+use Rattle.ir.specs.Walk.{Kept, Open, register_has, facts_passed, facts_at_entry, facts_taken}
+use Rattle.ir.specs.Walk.{given_back}
 use Rattle.code_meaning.proofs.Lists.{all_at}
 use Rattle.code_meaning.specs.Code.{Frame, frame, Spot, register_at, put_register}
 use Rattle.code_meaning.specs.Parameters.{assigned_register, KeepsParameters}

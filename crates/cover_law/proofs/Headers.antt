@@ -1,18 +1,24 @@
 -- Each store to a header comes from a new or a free.
-use Rattle.std.proofs.Common.{◌≡◌, ℕ, zero, suc, ℤ, pos, true, false, List, [], ◌∷◌, ◌++◌, Option, None, Some, Result, Ok, Err, refl, subst, inl, inr}
+use Rattle.std.proofs.Common.{◌≡◌, ℕ, zero, suc, ℤ, pos, true, false, List, [], ◌∷◌, ◌++◌, Option}
+use Rattle.std.proofs.Common.{None, Some, Result, Ok, Err, refl, subst, inl, inr}
 use mathlib.Core.Logic.{◌⊎◌}
 use Rattle.pool_map.specs.declared.trap.TrapKind.{TrapKind}
 use Rattle.pool_map.specs.PoolFits.{words_of}
 use Rattle.pool_map.specs.PoolMap.{PoolMap, least_free}
 use Rattle.ir.specs.declared.instruction.Instruction.{Instruction}
-use Rattle.ir.specs.declared.instruction.Instruction.TheVariants.{Const, Copy, Bin, Jump, Branch, Load, Store, New, Free, Call, Return, Tick, Trap, Log}
+use Rattle.ir.specs.declared.instruction.Instruction.TheVariants.{Const, Copy, Bin, Jump, Branch}
+use Rattle.ir.specs.declared.instruction.Instruction.TheVariants.{Load, Store, New, Free, Call}
+use Rattle.ir.specs.declared.instruction.Instruction.TheVariants.{Return, Tick, Trap, Log}
 use Rattle.ir.specs.declared.function.Ir.{Ir}
 use Rattle.ir.specs.declared.function.IrFunction.{IrFunction}
 use Rattle.ir.specs.declared.site.Site.{Site}
 use Rattle.ir.specs.Places.{instruction_at}
 use Rattle.ir.specs.Clobber.{IsLogged, WritesHeader}
-use Rattle.code_meaning.specs.Code.{CodeState, Here, Move, Goes, Ends, Spot, register_at, instruction_step, spot_of, slot_of, base_in, index_in, fields_of}
-use Rattle.code_meaning.specs.Deeds.{Deed, Reads, Writes, Heads, if_ok, zeros, site, deeds_new, deeds_at, deeds_of, deeds_on, deeds}
+use Rattle.code_meaning.specs.Code.{CodeState, Here, Move, Goes, Ends, Spot, register_at}
+use Rattle.code_meaning.specs.Code.{instruction_step, spot_of, slot_of, base_in, index_in}
+use Rattle.code_meaning.specs.Code.{fields_of}
+use Rattle.code_meaning.specs.Deeds.{Deed, Reads, Writes, Heads, if_ok, zeros, site, deeds_new}
+use Rattle.code_meaning.specs.Deeds.{deeds_at, deeds_of, deeds_on, deeds}
 use Rattle.cover_law.specs.Covered.{StoresHeader}
 use Rattle.cover_law.specs.Law.{HeaderLaw}
 

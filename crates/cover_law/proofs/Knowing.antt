@@ -7,7 +7,8 @@ use Rattle.pool_map.specs.PoolMap.{PoolMap, object_at}
 use Rattle.ir.specs.Walk.{Kept}
 use Rattle.code_meaning.specs.Code.{Spot, InRoot, InSlot, fields_of}
 use Rattle.cover_law.proofs.Fields.{InField, field_one}
-use Rattle.cover_law.proofs.Spots.{kind_at, Has, Lies, LiesRoot, Known, Stays, Leaves, More, kind_one, has_lies}
+use Rattle.cover_law.proofs.Spots.{kind_at, Has, Lies, LiesRoot, Known, Stays, Leaves, More}
+use Rattle.cover_law.proofs.Spots.{kind_one, has_lies}
 
 pub known_root : (shapes : Shapes) (u : Spot) (w : PoolMap) (k : Kept) (x : ℕ) → LiesRoot shapes u x
     → k.root_read x ≡ true → Known shapes u w k

@@ -1,6 +1,9 @@
 -- A load: its class counts as read, unless the word was stored before.
-use Rattle.std.proofs.Common.{◌≡◌, ℕ, suc, ℤ, Bool, true, false, not, ◌||◌, ◌&&◌, ◌==◌, if◌then◌else◌, List, [], ◌∷◌, ◌++◌, Some, Result, Ok, Err, refl, ap, sym, ◌∙◌, inl, inr}
-use Rattle.std.proofs.lemmas.Bool.{false≢true, cond-true, and_from, or_left, or_right, not_from_false, false_from_ne_true, eq-eqb}
+use Rattle.std.proofs.Common.{◌≡◌, ℕ, suc, ℤ, Bool, true, false, not, ◌||◌, ◌&&◌, ◌==◌}
+use Rattle.std.proofs.Common.{if◌then◌else◌, List, [], ◌∷◌, ◌++◌, Some, Result, Ok, Err, refl, ap}
+use Rattle.std.proofs.Common.{sym, ◌∙◌, inl, inr}
+use Rattle.std.proofs.lemmas.Bool.{false≢true, cond-true, and_from, or_left, or_right}
+use Rattle.std.proofs.lemmas.Bool.{not_from_false, false_from_ne_true, eq-eqb}
 use Rattle.pool_map.specs.declared.trap.TrapKind.{TrapKind}
 use Rattle.pool_map.specs.PoolMap.{PoolMap}
 use Rattle.ir.specs.declared.instruction.Target.{Target}
@@ -13,7 +16,8 @@ use Rattle.ir.specs.WellFormed.{IsWellFormed, IsTarget}
 use Rattle.ir.specs.Walk as walk
 use Rattle.ir.specs.Walk.{Kept, Open, Comes, facts_after, reads}
 use Rattle.ir.specs.Walk.WalkStep.{goes}
-use Rattle.code_meaning.specs.Code.{CodeState, Here, Frame, Goes, Spot, put_register, load_spot, spot_of, base_in, index_in, with_ok}
+use Rattle.code_meaning.specs.Code.{CodeState, Here, Frame, Goes, Spot, put_register, load_spot}
+use Rattle.code_meaning.specs.Code.{spot_of, base_in, index_in, with_ok}
 use Rattle.code_meaning.specs.Deeds.{Deed, Reads, if_ok, deeds_on}
 use Rattle.code_meaning.specs.Parameters.{KeepsParameters}
 use Rattle.cover_law.proofs.Spots.{LiesRoot, Sure, SureRoot, Known, More}

@@ -1,6 +1,7 @@
 -- A new and a free. If the fill of a new stores to a word that was read, a free was passed, since
 -- the slot is empty.
-use Rattle.std.proofs.Common.{◌≡◌, ℕ, suc, ℤ, pos, Bool, true, false, List, [], ◌∷◌, ◌++◌, Option, None, Some, Result, Ok, Err, refl, subst, inl, inr, ⊎_elim}
+use Rattle.std.proofs.Common.{◌≡◌, ℕ, suc, ℤ, pos, Bool, true, false, List, [], ◌∷◌, ◌++◌, Option}
+use Rattle.std.proofs.Common.{None, Some, Result, Ok, Err, refl, subst, inl, inr, ⊎_elim}
 use Rattle.pool_map.specs.declared.trap.TrapKind.{TrapKind}
 use Rattle.pool_map.specs.PoolFits.{words_of}
 use Rattle.pool_map.specs.PoolMap.{PoolMap, IsSlot, object_at, least_free, new, free}
@@ -13,13 +14,15 @@ use Rattle.ir.specs.WellFormed.{IsWellFormed}
 use Rattle.ir.specs.Walk as walk
 use Rattle.ir.specs.Walk.{Kept, Open, Comes, facts_after}
 use Rattle.ir.specs.Clobber.{IsLogged, IsClobberFill}
-use Rattle.code_meaning.specs.Code.{CodeState, Here, Frame, Goes, Spot, InRoot, InSlot, register_at, put_register, slot_of, fields_of, new_at, then_on, with_ok}
+use Rattle.code_meaning.specs.Code.{CodeState, Here, Frame, Goes, Spot, InRoot, InSlot, register_at}
+use Rattle.code_meaning.specs.Code.{put_register, slot_of, fields_of, new_at, then_on, with_ok}
 use Rattle.code_meaning.specs.Deeds.{Deed, Heads, if_ok, site, deeds_new, deeds_on}
 use Rattle.code_meaning.specs.Parameters.{KeepsParameters}
 use Rattle.cover_law.proofs.Spots.{Known, Stays, sure_stays}
 use Rattle.cover_law.proofs.Knowing.{freed_known}
 use Rattle.cover_law.proofs.Fills.{Filled, first_zeros, input_zeros}
-use Rattle.cover_law.proofs.Pools.{kind_is_slot, empty_kind, new_stays, new_leaves, new_named, null_named, free_stays, free_leaves}
+use Rattle.cover_law.proofs.Pools.{kind_is_slot, empty_kind, new_stays, new_leaves, new_named}
+use Rattle.cover_law.proofs.Pools.{null_named, free_stays, free_leaves}
 use Rattle.cover_law.proofs.Frames.{sure_put, opens_put, opens_stay}
 use Rattle.cover_law.proofs.Targets.{slot_ok}
 use Rattle.cover_law.proofs.Moments.{Agrees, Covers, Later, next, next_put}

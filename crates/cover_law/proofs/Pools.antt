@@ -1,11 +1,16 @@
 -- The kinds of the objects in the slots after a store, a new and a free.
-use Rattle.std.proofs.Common.{◌≡◌, ◌<◌, ℕ, zero, suc, ℤ, pos, Bool, true, false, if◌then◌else◌, List, [], ◌∷◌, Option, None, Some, IsSomeAnd, option_map, slice_index_or, length, nat_eq, refl, ap, sym, ◌∙◌, subst, inl, inr, arith}
+use Rattle.std.proofs.Common.{◌≡◌, ◌<◌, ℕ, zero, suc, ℤ, pos, Bool, true, false, if◌then◌else◌}
+use Rattle.std.proofs.Common.{List, [], ◌∷◌, Option, None, Some, IsSomeAnd, option_map}
+use Rattle.std.proofs.Common.{slice_index_or, length, nat_eq, refl, ap, sym, ◌∙◌, subst, inl, inr}
+use Rattle.std.proofs.Common.{arith}
 use Rattle.std.proofs.lemmas.Bool.{false≢true, eqb-true, ltb-true, cases_eq}
 use Rattle.pool_map.specs.declared.object.Object.{Object}
 use Rattle.pool_map.specs.declared.shapes.Shapes.{Shapes}
 use Rattle.pool_map.specs.PoolFits.{words_of}
-use Rattle.pool_map.specs.PoolMap.{PoolMap, IsSlot, object_at, with_object, blank_object, new, free, write, write_root}
-use Rattle.pool_map.proofs.Points.{object_at-with_object_same, object_at-with_object_other, kind-write}
+use Rattle.pool_map.specs.PoolMap.{PoolMap, IsSlot, object_at, with_object, blank_object, new, free}
+use Rattle.pool_map.specs.PoolMap.{write, write_root}
+use Rattle.pool_map.proofs.Points.{object_at-with_object_same, object_at-with_object_other}
+use Rattle.pool_map.proofs.Points.{kind-write}
 use Rattle.code_meaning.specs.Code.{Spot, InRoot, InSlot, store_spot, has_word, is_kind, fields_of}
 use Rattle.cover_law.proofs.Spots.{kind_at, Names, Has, Lies, Stays, Leaves, has_lies}
 use Rattle.cover_law.proofs.Fills.{Filled}

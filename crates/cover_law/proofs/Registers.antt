@@ -1,5 +1,6 @@
 -- Registers after a write, and those that a call passes.
-use Rattle.std.proofs.Common.{◌≡◌, ◌≢◌, ℕ, zero, suc, ℤ, List, [], ◌∷◌, map, Some, slice_get, refl, ap}
+use Rattle.std.proofs.Common.{◌≡◌, ◌≢◌, ℕ, zero, suc, ℤ, List, [], ◌∷◌, map, Some, slice_get, refl}
+use Rattle.std.proofs.Common.{ap}
 use Rattle.code_meaning.specs.Code.{register_at, put_register}
 
 pub at_put_same : (vs : List ℤ) (n : ℕ) (v : ℤ) → register_at (put_register vs n v) n ≡ v

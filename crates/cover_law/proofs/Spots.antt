@@ -1,7 +1,8 @@
 -- What is surely written, and what is known to be read, of one word of the pool that wasn't stored
 -- yet. A word of a slot belongs to a kind of object as long as an object of that kind is in the
 -- slot.
-use Rattle.std.proofs.Common.{◌≡◌, ◌<◌, ℕ, ℤ, pos, Bool, true, false, List, Option, None, Some, sym, ◌∙◌}
+use Rattle.std.proofs.Common.{◌≡◌, ◌<◌, ℕ, ℤ, pos, Bool, true, false, List, Option, None, Some, sym}
+use Rattle.std.proofs.Common.{◌∙◌}
 use mathlib.Core.Logic.{◌⊎◌}
 use Rattle.std.proofs.lemmas.Bool.{false≢true, eqb-true}
 use Rattle.pool_map.specs.declared.object.Object.{Object}

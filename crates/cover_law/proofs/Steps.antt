@@ -1,17 +1,22 @@
 -- Each instruction: if the rest of the run is covered, so is the run from here on.
-use Rattle.std.proofs.Common.{◌≡◌, ℕ, zero, suc, ℤ, Bool, true, false, if◌then◌else◌, List, ◌++◌, Option, None, Some, slice_get, refl, inl, inr}
+use Rattle.std.proofs.Common.{◌≡◌, ℕ, zero, suc, ℤ, Bool, true, false, if◌then◌else◌, List, ◌++◌}
+use Rattle.std.proofs.Common.{Option, None, Some, slice_get, refl, inl, inr}
 use Rattle.std.proofs.lemmas.Bool.{false≢true}
 use Rattle.nvm_base.specs.declared.op.BinOp.{BinOp}
 use Rattle.pool_map.specs.PoolMap.{PoolMap, least_free}
 use Rattle.ir.specs.declared.instruction.Instruction.{Instruction}
-use Rattle.ir.specs.declared.instruction.Instruction.TheVariants.{Const, Copy, Bin, Jump, Branch, Load, Store, New, Free, Call, Return, Tick, Trap, Log}
+use Rattle.ir.specs.declared.instruction.Instruction.TheVariants.{Const, Copy, Bin, Jump, Branch}
+use Rattle.ir.specs.declared.instruction.Instruction.TheVariants.{Load, Store, New, Free, Call}
+use Rattle.ir.specs.declared.instruction.Instruction.TheVariants.{Return, Tick, Trap, Log}
 use Rattle.ir.specs.declared.function.Ir.{Ir}
 use Rattle.ir.specs.declared.site.Site.{Site}
 use Rattle.ir.specs.Places.{instruction_at}
 use Rattle.ir.specs.WellFormed.{IsWellFormed}
 use Rattle.ir.specs.Walk as walk
 use Rattle.ir.specs.Walk.{Kept, Open, Comes}
-use Rattle.code_meaning.specs.Code.{CodeState, Here, Frame, Goes, Spot, register_at, put_register, act, word_of, with_word, takes_tick, is_zero, spot_of, slot_of, base_in, index_in}
+use Rattle.code_meaning.specs.Code.{CodeState, Here, Frame, Goes, Spot, register_at, put_register}
+use Rattle.code_meaning.specs.Code.{act, word_of, with_word, takes_tick, is_zero, spot_of, slot_of}
+use Rattle.code_meaning.specs.Code.{base_in, index_in}
 use Rattle.code_meaning.specs.Deeds.{Deed, deeds_at, deeds_on}
 use Rattle.code_meaning.specs.Parameters.{KeepsParameters}
 use Rattle.cover_law.proofs.Frames.{sure_put}

@@ -1,6 +1,8 @@
 -- A store: the first one to the word comes from a clobber site, if the word was read; and no other
 -- store changes what is known.
-use Rattle.std.proofs.Common.{◌≡◌, ◌≢◌, ℕ, suc, ℤ, Bool, true, false, ◌&&◌, ◌==◌, if◌then◌else◌, List, [], ◌∷◌, ◌++◌, None, Some, Result, Ok, Err, refl, ap, sym, ◌∙◌, subst, inl, inr, ⊎_elim}
+use Rattle.std.proofs.Common.{◌≡◌, ◌≢◌, ℕ, suc, ℤ, Bool, true, false, ◌&&◌, ◌==◌, if◌then◌else◌}
+use Rattle.std.proofs.Common.{List, [], ◌∷◌, ◌++◌, None, Some, Result, Ok, Err, refl, ap, sym, ◌∙◌}
+use Rattle.std.proofs.Common.{subst, inl, inr, ⊎_elim}
 use mathlib.Core.Logic.{◌⊎◌}
 use Rattle.std.proofs.lemmas.Bool.{and_parts, eqb-true, not_from_false, false_from_ne_true}
 use Rattle.pool_map.specs.declared.trap.TrapKind.{TrapKind}
@@ -15,14 +17,17 @@ use Rattle.ir.specs.WellFormed.{IsWellFormed, IsTarget}
 use Rattle.ir.specs.Walk as walk
 use Rattle.ir.specs.Walk.{Kept, Open, Comes, facts_after, writes}
 use Rattle.ir.specs.Clobber.{IsLogged, IsClobber, SomeWalk, unwritten, read_fact}
-use Rattle.code_meaning.specs.Code.{CodeState, Here, Frame, Goes, Spot, register_at, store_spot, spot_of, base_in, index_in, with_ok}
+use Rattle.code_meaning.specs.Code.{CodeState, Here, Frame, Goes, Spot, register_at, store_spot}
+use Rattle.code_meaning.specs.Code.{spot_of, base_in, index_in, with_ok}
 use Rattle.code_meaning.specs.Deeds.{Deed, Writes, if_ok, site, deeds_on}
 use Rattle.code_meaning.specs.Parameters.{KeepsParameters}
-use Rattle.cover_law.proofs.Spots.{Names, Lies, LiesRoot, Sure, SureRoot, Known, More, Stays, sure_stays}
+use Rattle.cover_law.proofs.Spots.{Names, Lies, LiesRoot, Sure, SureRoot, Known, More, Stays}
+use Rattle.cover_law.proofs.Spots.{sure_stays}
 use Rattle.cover_law.proofs.Knowing.{root_read, field_read}
 use Rattle.cover_law.proofs.Pools.{store_stays, store_leaves}
 use Rattle.cover_law.proofs.Frames.{well_at, opens_stay}
-use Rattle.cover_law.proofs.Targets.{width_root, width_field, root_target, field_target, root_first, field_first}
+use Rattle.cover_law.proofs.Targets.{width_root, width_field, root_target, field_target, root_first}
+use Rattle.cover_law.proofs.Targets.{field_first}
 use Rattle.cover_law.proofs.Moments.{Agrees, Covers, Later, next}
 
 store_more : (x : Target) (k : Kept) → More k (writes x k)

@@ -1,14 +1,17 @@
 -- The word that a target names lies in the target's field, and is its only word unless the field is
 -- an array.
-use Rattle.std.proofs.Common.{◌≡◌, ℕ, zero, suc, ℤ, pos, negsuc, Bool, true, false, if◌then◌else◌, Option, None, Ok, Err, List, slice_get, refl, ap, sym, ◌∙◌, subst}
+use Rattle.std.proofs.Common.{◌≡◌, ℕ, zero, suc, ℤ, pos, negsuc, Bool, true, false, if◌then◌else◌}
+use Rattle.std.proofs.Common.{Option, None, Ok, Err, List, slice_get, refl, ap, sym, ◌∙◌, subst}
 use Rattle.pool_map.specs.declared.shapes.Shapes.{Shapes}
 use Rattle.pool_map.specs.declared.trap.TrapKind.{TrapKind}
 use Rattle.pool_map.specs.declared.trap.TrapKind.TheVariants as trap
 use Rattle.pool_map.specs.PoolMap.{PoolMap, object_at}
 use Rattle.ir.specs.declared.instruction.Target.TheVariants.{Root, Field}
 use Rattle.ir.specs.WellFormed.{IsTarget, shape_field}
-use Rattle.code_meaning.specs.Code.{Spot, InRoot, InSlot, is_kind, slot_of, word_in_shape, words_before, fields_of, spot_of, index_in, then_on}
-use Rattle.cover_law.proofs.Fields.{width, field_only, then_ok, word_in_field, word_in_first, indexed_one, field_of_is}
+use Rattle.code_meaning.specs.Code.{Spot, InRoot, InSlot, is_kind, slot_of, word_in_shape}
+use Rattle.code_meaning.specs.Code.{words_before, fields_of, spot_of, index_in, then_on}
+use Rattle.cover_law.proofs.Fields.{width, field_only, then_ok, word_in_field, word_in_first}
+use Rattle.cover_law.proofs.Fields.{indexed_one, field_of_is}
 use Rattle.cover_law.proofs.Spots.{Names, Lies, LiesRoot}
 
 slot_in : (t : Bool) (w : PoolMap) (kind n q : ℕ) (k : TrapKind) → is_kind (object_at w n) kind ≡ t

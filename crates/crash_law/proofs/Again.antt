@@ -1,5 +1,6 @@
 -- Recovery that is cut any number of times.
-use Rattle.std.proofs.Common.{length, ◌≡◌, ◌⊎◌, ⊎_elim, ℕ, zero, suc, ◌<◌, ◌/◌, List, ℤ, refl, sym, ap, ◌∙◌, subst}
+use Rattle.std.proofs.Common.{length, ◌≡◌, ◌⊎◌, ⊎_elim, ℕ, zero, suc, ◌<◌, ◌/◌, List, ℤ, refl, sym}
+use Rattle.std.proofs.Common.{ap, ◌∙◌, subst}
 use Rattle.cache_model.specs.Event.{CacheEvent}
 use Rattle.cache_model.specs.Cache.{Words, Cache}
 use Rattle.cache_model.specs.Image.{Images, HasOne}

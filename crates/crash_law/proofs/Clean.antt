@@ -1,12 +1,14 @@
 -- The recovery of an image that isn't sealed.
-use Rattle.std.proofs.Common.{◌≡◌, ◌≢◌, ⊎_elim, ℕ, zero, suc, ◌+◌, ◌^◌, ◌<◌, ◌≤◌, Bool, true, false, List, [], ℤ, pos, refl, sym, ◌∙◌, subst, arith}
+use Rattle.std.proofs.Common.{◌≡◌, ◌≢◌, ⊎_elim, ℕ, zero, suc, ◌+◌, ◌^◌, ◌<◌, ◌≤◌, Bool, true, false}
+use Rattle.std.proofs.Common.{List, [], ℤ, pos, refl, sym, ◌∙◌, subst, arith}
 use Rattle.std.proofs.lemmas.Bool.{cases_lt}
 use Rattle.cache_model.specs.Event.{CacheEvent, Store, Flush, Fence}
 use Rattle.cache_model.specs.Cache.{Words, Cache, view}
 use Rattle.cache_model.specs.Play.{apply, play}
 use Rattle.cache_model.specs.Image.{IsImage, Images, HasOne}
 use Rattle.pool_layout.specs.declared.places.Place.{Place}
-use Rattle.pool_layout.specs.declared.places.Place.TheVariants.{Last, Done, Attempt, Mark, RecordStamp, Spare}
+use Rattle.pool_layout.specs.declared.places.Place.TheVariants.{Last, Done, Attempt, Mark}
+use Rattle.pool_layout.specs.declared.places.Place.TheVariants.{RecordStamp, Spare}
 use Rattle.pool_layout.specs.declared.places.Layout.{Layout}
 use Rattle.pool_layout.specs.Places.{at, line_of, IsPlace, pool_of}
 use Rattle.pool_layout.specs.Log.{count}
@@ -19,7 +21,8 @@ use Rattle.cache_model.proofs.Ready.{flush_ready}
 use Rattle.cache_model.specs.During.{during}
 use Rattle.cache_model.specs.inside.During.{Through}
 use Rattle.cache_model.proofs.During.{through_during, through_end}
-use Rattle.crash_law.proofs.Held.{Cover, cover_image, cover_view, Held, held_image, held_flush, held_cover, held_store, held_single}
+use Rattle.crash_law.proofs.Held.{Cover, cover_image, cover_view, Held, held_image, held_flush}
+use Rattle.crash_law.proofs.Held.{held_cover, held_store, held_single}
 use Rattle.pool_layout.proofs.Records.{count_is, pos_inj}
 use Rattle.crash_law.proofs.Fine.{Fine, ok, IsFine, StampIs, at_rest, good_image}
 use Rattle.crash_law.proofs.Seal.{one_cover, good_fine}

@@ -1,5 +1,7 @@
 -- In the trace of a sound run the first entry of each input is logged.
-use Rattle.std.proofs.Common.{◌≡◌, ◌⊎◌, inl, inr, ⊎_elim, ℕ, suc, ◌+◌, ◌<◌, ◌≤◌, ◌==◌, cond, Bool, true, false, List, [], ◌∷◌, ◌++◌, Option, Some, None, ℤ, refl, sym, ap, ◌∙◌, subst, arith, eq-eqb}
+use Rattle.std.proofs.Common.{◌≡◌, ◌⊎◌, inl, inr, ⊎_elim, ℕ, suc, ◌+◌, ◌<◌, ◌≤◌, ◌==◌, cond, Bool}
+use Rattle.std.proofs.Common.{true, false, List, [], ◌∷◌, ◌++◌, Option, Some, None, ℤ, refl, sym}
+use Rattle.std.proofs.Common.{ap, ◌∙◌, subst, arith, eq-eqb}
 use Rattle.crash_law.specs.Due.{Entry, Plain, Logged, word_of_entry, IsTrace, IsStored, run_events}
 use Rattle.clobber_log.specs.Record.{record_events}
 use Rattle.cache_model.specs.Event.{CacheEvent, Store}
@@ -7,7 +9,9 @@ use Rattle.cache_model.specs.Cache.{put}
 use Rattle.pool_layout.specs.declared.places.Place.TheVariants.{Heap}
 use Rattle.pool_layout.specs.declared.limits.Sizes.{Sizes}
 use Rattle.pool_layout.specs.Places.{at, pool_of}
-use Rattle.crash_law.specs.Effects.{Effect, Loads, Stores, Logs, Still, entry, trace_of, IsInput, IsOverwritten, IsLoggedFirst, IsPaired, logs_of, IsSound, effect_events}
+use Rattle.crash_law.specs.Effects.{Effect, Loads, Stores, Logs, Still, entry, trace_of, IsInput}
+use Rattle.crash_law.specs.Effects.{IsOverwritten, IsLoggedFirst, IsPaired, logs_of, IsSound}
+use Rattle.crash_law.specs.Effects.{effect_events}
 
 word_entry : (last : Option ℕ) (w : ℕ) (x : ℤ) → word_of_entry (entry last w x) ≡ w
 word_entry None w x = refl

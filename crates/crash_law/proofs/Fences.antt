@@ -1,9 +1,12 @@
 -- Fences put into a list of events never add an image.
-use Rattle.std.proofs.Common.{◌≡◌, inl, inr, ℕ, ◌+◌, ◌-◌, ◌/◌, ◌≤◌, ◌==◌, cond, Bool, true, false, List, [], ◌∷◌, ◌++◌, length, drop, Option, Some, None, ℤ, refl, sym, ap, ◌∙◌, subst, subst₂, arith, length-append, length-drop}
+use Rattle.std.proofs.Common.{◌≡◌, inl, inr, ℕ, ◌+◌, ◌-◌, ◌/◌, ◌≤◌, ◌==◌, cond, Bool, true, false}
+use Rattle.std.proofs.Common.{List, [], ◌∷◌, ◌++◌, length, drop, Option, Some, None, ℤ, refl, sym}
+use Rattle.std.proofs.Common.{ap, ◌∙◌, subst, subst₂, arith, length-append, length-drop}
 use Rattle.std.proofs.lemmas.List.{drop-drop, drop-append-le, drop_all}
 use Rattle.cache_model.specs.Event.{CacheEvent, Store, Flush, Fence}
 use Rattle.cache_model.specs.Cache.{Words, put, Line, Cache}
-use Rattle.cache_model.specs.Play.{store_line, mark_of, flush_line, fence_at, fence_line, apply, play}
+use Rattle.cache_model.specs.Play.{store_line, mark_of, flush_line, fence_at, fence_line, apply}
+use Rattle.cache_model.specs.Play.{play}
 use Rattle.cache_model.specs.Image.{Among, IsVersion, IsImage, Images}
 use Rattle.cache_model.specs.During.{during}
 use Rattle.crash_law.specs.Law.{IsLeft, IsFenced, Empty, Kept, Added, IsMarkIn, AddedFencesLaw}

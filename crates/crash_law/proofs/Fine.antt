@@ -1,9 +1,13 @@
 -- The condition on the word at each place, in one phase, and the images that meet it.
 use Rattle.pool_layout.specs.Sizes.{heap_words}
-use Rattle.std.proofs.Common.{length, ◌≡◌, ℕ, suc, ◌+◌, ◌^◌, ◌<◌, ◌≤◌, Option, Some, None, ℤ, pos, refl, sym, ap, ◌∙◌, arith, unwrap_or}
+use Rattle.std.proofs.Common.{length, ◌≡◌, ℕ, suc, ◌+◌, ◌^◌, ◌<◌, ◌≤◌, Option, Some, None, ℤ, pos}
+use Rattle.std.proofs.Common.{refl, sym, ap, ◌∙◌, arith, unwrap_or}
 use Rattle.cache_model.specs.Cache.{Words}
 use Rattle.pool_layout.specs.declared.places.Place.{Place}
-use Rattle.pool_layout.specs.declared.places.Place.TheVariants.{Super, Last, Done, Attempt, Mark, Argument, Seal, RecordWord, RecordOld, RecordStamp, Heap, Spare, RecordSpare}
+use Rattle.pool_layout.specs.declared.places.Place.TheVariants.{Super, Last, Done, Attempt, Mark}
+use Rattle.pool_layout.specs.declared.places.Place.TheVariants.{Argument, Seal, RecordWord}
+use Rattle.pool_layout.specs.declared.places.Place.TheVariants.{RecordOld, RecordStamp, Heap, Spare}
+use Rattle.pool_layout.specs.declared.places.Place.TheVariants.{RecordSpare}
 use Rattle.pool_layout.specs.declared.places.Layout.{Layout}
 use Rattle.pool_layout.specs.Places.{at, IsPlace, pool_of}
 use Rattle.pool_layout.specs.Image.{IsUpTo}

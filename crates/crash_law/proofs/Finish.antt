@@ -1,13 +1,17 @@
 -- The end of a run that halts, and of one that traps.
 use Rattle.pool_layout.specs.Sizes.{heap_words}
-use Rattle.std.proofs.Common.{◌≡◌, ◌≢◌, ◌⊎◌, inl, inr, ⊎_elim, ℕ, suc, ◌+◌, ◌^◌, ◌<◌, ◌≤◌, ◌==◌, cond, Bool, true, false, List, [], ◌∷◌, ℤ, pos, refl, sym, ap, ◌∙◌, subst, arith, eqb-true}
+use Rattle.std.proofs.Common.{◌≡◌, ◌≢◌, ◌⊎◌, inl, inr, ⊎_elim, ℕ, suc, ◌+◌, ◌^◌, ◌<◌, ◌≤◌, ◌==◌}
+use Rattle.std.proofs.Common.{cond, Bool, true, false, List, [], ◌∷◌, ℤ, pos, refl, sym, ap, ◌∙◌}
+use Rattle.std.proofs.Common.{subst, arith, eqb-true}
 use Rattle.std.proofs.lemmas.Bool.{cases_eq, cases_lt, or_cases}
 use Rattle.cache_model.specs.Event.{CacheEvent, Store, Flush, Fence}
 use Rattle.cache_model.specs.Cache.{Words, Cache, view}
 use Rattle.cache_model.specs.Play.{apply}
 use Rattle.cache_model.specs.Image.{IsVersion, Images}
 use Rattle.pool_layout.specs.declared.places.Place.{Place}
-use Rattle.pool_layout.specs.declared.places.Place.TheVariants.{Last, Done, Attempt, Mark, Argument, Seal, RecordWord, RecordOld, RecordStamp, Heap, Spare}
+use Rattle.pool_layout.specs.declared.places.Place.TheVariants.{Last, Done, Attempt, Mark, Argument}
+use Rattle.pool_layout.specs.declared.places.Place.TheVariants.{Seal, RecordWord, RecordOld}
+use Rattle.pool_layout.specs.declared.places.Place.TheVariants.{RecordStamp, Heap, Spare}
 use Rattle.pool_layout.specs.declared.limits.Sizes.{Sizes}
 use Rattle.pool_layout.specs.declared.places.Layout.{Layout}
 use Rattle.pool_layout.specs.Places.{at, line_of, IsPlace, pool_of}
@@ -20,7 +24,9 @@ use Rattle.cache_model.proofs.Ready.{flush_ready, fence_single}
 use Rattle.cache_model.proofs.Versions.{fence_version}
 use Rattle.cache_model.specs.Play.{IsReady}
 use Rattle.cache_model.specs.inside.During.{Through}
-use Rattle.crash_law.proofs.Held.{Cover, cover_more, cover_image, cover_view, cover_store, cover_flush, Held, held_image, held_flush, held_cover, held_store, held_single}
+use Rattle.crash_law.proofs.Held.{Cover, cover_more, cover_image, cover_view, cover_store}
+use Rattle.crash_law.proofs.Held.{cover_flush, Held, held_image, held_flush, held_cover, held_store}
+use Rattle.crash_law.proofs.Held.{held_single}
 use Rattle.pool_layout.proofs.Records.{pos_inj}
 use Rattle.crash_law.proofs.Records.{HasRecord, found}
 use Rattle.crash_law.proofs.Fine.{Fine, ok, Setting, owing, at_rest, good_image, IsFine, StampIs}

@@ -9,7 +9,8 @@ use Rattle.cache_model.specs.Image.{IsVersion, IsImage}
 use Rattle.pool_layout.specs.declared.places.Place.{Place}
 use Rattle.pool_layout.specs.declared.places.Layout.{Layout}
 use Rattle.pool_layout.specs.Places.{at, line_of, IsPlace}
-use Rattle.cache_model.proofs.Versions.{put_same, put_other, put_cong, store_version, flush_version, fence_version}
+use Rattle.cache_model.proofs.Versions.{put_same, put_other, put_cong, store_version, flush_version}
+use Rattle.cache_model.proofs.Versions.{fence_version}
 use Rattle.cache_model.proofs.Views.{view_store}
 use Rattle.cache_model.proofs.Ready.{fence_single}
 use Rattle.cache_model.specs.Play.{IsReady}

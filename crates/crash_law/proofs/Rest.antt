@@ -1,21 +1,28 @@
 -- After a call that is done, and after a recovery, each line has one version.
-use Rattle.std.proofs.Common.{◌≡◌, ◌≢◌, ◌⊎◌, inl, inr, ⊎_elim, ℕ, zero, suc, ◌+◌, ◌/◌, ◌<◌, ◌≤◌, List, [], ◌∷◌, ◌++◌, length, Some, None, Option, ℤ, pos, refl, sym, ap, subst, arith}
+use Rattle.std.proofs.Common.{◌≡◌, ◌≢◌, ◌⊎◌, inl, inr, ⊎_elim, ℕ, zero, suc, ◌+◌, ◌/◌, ◌<◌, ◌≤◌}
+use Rattle.std.proofs.Common.{List, [], ◌∷◌, ◌++◌, length, Some, None, Option, ℤ, pos, refl, sym}
+use Rattle.std.proofs.Common.{ap, subst, arith}
 use Rattle.std.proofs.lemmas.Bool.{cases_eq}
 use Rattle.std.proofs.lemmas.List.{drop_all}
 use Rattle.cache_model.specs.Event.{CacheEvent, Store, Flush, Fence}
 use Rattle.cache_model.specs.Cache.{Words, Line, Cache}
 use Rattle.cache_model.specs.Play.{apply, play, fence_at}
-use Rattle.pool_layout.specs.declared.places.Place.TheVariants.{Last, Done, Attempt, Argument, Seal, RecordWord, RecordOld, RecordStamp, Heap}
+use Rattle.pool_layout.specs.declared.places.Place.TheVariants.{Last, Done, Attempt, Argument, Seal}
+use Rattle.pool_layout.specs.declared.places.Place.TheVariants.{RecordWord, RecordOld, RecordStamp}
+use Rattle.pool_layout.specs.declared.places.Place.TheVariants.{Heap}
 use Rattle.pool_layout.specs.declared.places.Layout.{Layout}
 use Rattle.pool_layout.specs.declared.limits.Sizes.{Sizes}
 use Rattle.pool_layout.specs.Places.{at, line_of, pool_of}
 use Rattle.pool_layout.specs.Restored.{restored}
 use Rattle.crash_law.specs.Pools.{Call, call_word}
-use Rattle.crash_law.specs.Due.{Entry, Plain, Logged, Halted, run_events, IsStored, lines_of, flush_all, end_events, due_run, due_seal, due_call, redo_events}
-use Rattle.crash_law.proofs.Walks.{store_words, flush_from, seal_walk, seal_same, reset_walk, reset_same}
+use Rattle.crash_law.specs.Due.{Entry, Plain, Logged, Halted, run_events, IsStored, lines_of}
+use Rattle.crash_law.specs.Due.{flush_all, end_events, due_run, due_seal, due_call, redo_events}
+use Rattle.crash_law.proofs.Walks.{store_words, flush_from, seal_walk, seal_same, reset_walk}
+use Rattle.crash_law.proofs.Walks.{reset_same}
 use Rattle.args_log.specs.Retire.{retire_events}
 use Rattle.clobber_log.specs.Reset.{reset_events}
-use Rattle.clobber_log.specs.Restore.{as_heap_word, back_at, back_events, word_in_record, old_in_record, fence_after, first_events}
+use Rattle.clobber_log.specs.Restore.{as_heap_word, back_at, back_events, word_in_record}
+use Rattle.clobber_log.specs.Restore.{old_in_record, fence_after, first_events}
 use Rattle.crash_law.specs.Law.{IsAtRest}
 use Rattle.cache_model.specs.Play.{IsReady}
 use Rattle.cache_model.proofs.Ready.{flush_ready}

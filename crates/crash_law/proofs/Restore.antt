@@ -1,6 +1,8 @@
 -- Recovery: the records are restored, the attempt is raised, and the run is that of a call.
 use Rattle.pool_layout.specs.Sizes.{heap_words}
-use Rattle.std.proofs.Common.{◌≡◌, ◌≢◌, inl, ⊎_elim, ℕ, zero, suc, ◌^◌, ◌<◌, ◌≤◌, Bool, true, false, List, ◌∷◌, Option, Some, None, ℤ, pos, nat_abs, refl, sym, ap, ◌∙◌, subst, arith, cond, int_eq}
+use Rattle.std.proofs.Common.{◌≡◌, ◌≢◌, inl, ⊎_elim, ℕ, zero, suc, ◌^◌, ◌<◌, ◌≤◌, Bool, true, false}
+use Rattle.std.proofs.Common.{List, ◌∷◌, Option, Some, None, ℤ, pos, nat_abs, refl, sym, ap, ◌∙◌}
+use Rattle.std.proofs.Common.{subst, arith, cond, int_eq}
 use Rattle.std.proofs.lemmas.Bool.Decides.{Decides-int_eq}
 use Rattle.std.proofs.lemmas.Bool.{cases_eq, cases_lt}
 use Rattle.cache_model.specs.Event.{CacheEvent, Store, Flush, Fence}
@@ -8,7 +10,8 @@ use Rattle.cache_model.specs.Cache.{Words, Cache, view}
 use Rattle.cache_model.specs.Play.{apply}
 use Rattle.cache_model.specs.Image.{IsVersion, Images}
 use Rattle.pool_layout.specs.declared.places.Place.{Place}
-use Rattle.pool_layout.specs.declared.places.Place.TheVariants.{Done, Attempt, Mark, RecordWord, RecordOld, RecordStamp, Heap}
+use Rattle.pool_layout.specs.declared.places.Place.TheVariants.{Done, Attempt, Mark, RecordWord}
+use Rattle.pool_layout.specs.declared.places.Place.TheVariants.{RecordOld, RecordStamp, Heap}
 use Rattle.pool_layout.specs.declared.places.Layout.{Layout}
 use Rattle.pool_layout.specs.Places.{at, line_of, IsPlace, pool_of}
 use Rattle.pool_layout.specs.Restored.{undo, undone}
@@ -19,7 +22,8 @@ use Rattle.cache_model.proofs.Ready.{flush_ready, fence_single}
 use Rattle.cache_model.proofs.Versions.{fence_version, store_other}
 use Rattle.cache_model.specs.Play.{IsReady}
 use Rattle.cache_model.specs.inside.During.{Through}
-use Rattle.crash_law.proofs.Held.{Cover, cover_image, cover_view, cover_store, cover_flush, Held, held_image, held_flush, held_cover, held_store, held_single}
+use Rattle.crash_law.proofs.Held.{Cover, cover_image, cover_view, cover_store, cover_flush, Held}
+use Rattle.crash_law.proofs.Held.{held_image, held_flush, held_cover, held_store, held_single}
 use Rattle.pool_layout.proofs.Records.{pos_inj}
 use Rattle.crash_law.proofs.Records.{found, found_has, found_record, undone_cong, nothing}
 use Rattle.crash_law.proofs.Fine.{Fine, ok, Setting, owing, owed_image, IsFine, StampIs}

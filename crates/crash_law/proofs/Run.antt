@@ -1,6 +1,8 @@
 -- The run: after each of its events, the call is owed in every image.
 use Rattle.pool_layout.specs.Sizes.{heap_words}
-use Rattle.std.proofs.Common.{◌≡◌, ◌≢◌, ◌⊎◌, inl, inr, ⊎_elim, ℕ, suc, ◌+◌, ◌^◌, ◌<◌, ◌≤◌, Bool, true, false, List, [], ◌∷◌, ◌++◌, Some, ℤ, pos, refl, sym, ap, ◌∙◌, subst, arith}
+use Rattle.std.proofs.Common.{◌≡◌, ◌≢◌, ◌⊎◌, inl, inr, ⊎_elim, ℕ, suc, ◌+◌, ◌^◌, ◌<◌, ◌≤◌, Bool}
+use Rattle.std.proofs.Common.{true, false, List, [], ◌∷◌, ◌++◌, Some, ℤ, pos, refl, sym, ap, ◌∙◌}
+use Rattle.std.proofs.Common.{subst, arith}
 use Rattle.std.proofs.lemmas.Bool.{cases_eq, cases_lt}
 use Rattle.cache_model.specs.Event.{CacheEvent, Store, Flush, Fence}
 use Rattle.cache_model.specs.Cache.{Words, Cache, put, view}
@@ -8,7 +10,8 @@ use Rattle.cache_model.specs.Play.{apply, play}
 use Rattle.cache_model.specs.Image.{Images}
 use Rattle.cache_model.specs.During.{during}
 use Rattle.pool_layout.specs.declared.places.Place.{Place}
-use Rattle.pool_layout.specs.declared.places.Place.TheVariants.{RecordWord, RecordOld, RecordStamp, Heap, Spare, RecordSpare}
+use Rattle.pool_layout.specs.declared.places.Place.TheVariants.{RecordWord, RecordOld, RecordStamp}
+use Rattle.pool_layout.specs.declared.places.Place.TheVariants.{Heap, Spare, RecordSpare}
 use Rattle.pool_layout.specs.declared.limits.Sizes.{Sizes}
 use Rattle.pool_layout.specs.declared.places.Layout.{Layout}
 use Rattle.pool_layout.specs.Places.{at, line_of, IsPlace, pool_of}
@@ -18,9 +21,11 @@ use Rattle.crash_law.specs.Due.{Entry, Plain, Logged, run_events, heap_after, Is
 use Rattle.cache_model.proofs.Versions.{put_same, put_other}
 use Rattle.cache_model.proofs.Views.{view_same, view_other, view_flush, view_fence}
 use Rattle.cache_model.proofs.Ready.{flush_ready}
-use Rattle.crash_law.proofs.Held.{Cover, cover_image, cover_view, cover_store, Held, held_image, held_flush, held_cover, held_store, held_single}
+use Rattle.crash_law.proofs.Held.{Cover, cover_image, cover_view, cover_store, Held, held_image}
+use Rattle.crash_law.proofs.Held.{held_flush, held_cover, held_store, held_single}
 use Rattle.pool_layout.proofs.Records.{pos_inj}
-use Rattle.crash_law.proofs.Records.{found, found_grows, found_new, found_pushed, found_record, HasRecord}
+use Rattle.crash_law.proofs.Records.{found, found_grows, found_new, found_pushed, found_record}
+use Rattle.crash_law.proofs.Records.{HasRecord}
 use Rattle.crash_law.proofs.Fine.{Fine, ok, Setting, owing, owed_image, IsFine}
 
 module _ (s : Setting) (a : ℕ) (a_fits : a ≤ 2 ^ 62) where

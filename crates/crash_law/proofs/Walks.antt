@@ -1,6 +1,8 @@
 -- The lists of the logs in the form that the inductions walk: each event in front of the rest. They
 -- are the same lists.
-use Rattle.std.proofs.Common.{◌≡◌, ℕ, zero, suc, ◌+◌, ◌/◌, ◌<◌, ◌≤◌, if◌then◌else◌, Bool, true, false, ltb, List, [], ◌∷◌, ◌++◌, length, slice_index_or, Option, Some, None, ℤ, pos, nat_abs, refl, sym, ap, ◌∙◌, arith, append_assoc}
+use Rattle.std.proofs.Common.{◌≡◌, ℕ, zero, suc, ◌+◌, ◌/◌, ◌<◌, ◌≤◌, if◌then◌else◌, Bool, true}
+use Rattle.std.proofs.Common.{false, ltb, List, [], ◌∷◌, ◌++◌, length, slice_index_or, Option, Some}
+use Rattle.std.proofs.Common.{None, ℤ, pos, nat_abs, refl, sym, ap, ◌∙◌, arith, append_assoc}
 use Rattle.std.proofs.lemmas.Bool.{ltb-false}
 use Rattle.cache_model.specs.Event.{CacheEvent, Store, Flush, Fence}
 use Rattle.cache_model.specs.Cache.{Words}
@@ -10,8 +12,10 @@ use Rattle.pool_layout.specs.declared.places.Place.TheVariants.{Attempt, Argumen
 use Rattle.pool_layout.specs.Sizes.{heap_words}
 use Rattle.pool_layout.specs.Places.{at, line_of, pool_of}
 use Rattle.clobber_log.specs.Reset.{reset_events}
-use Rattle.clobber_log.specs.Restore.{as_heap_word, back_at, back_events, word_in_record, old_in_record, fence_after, first_events}
-use Rattle.args_log.specs.Seal.{stores_from, flushes_from, payload_lines, payload_events, unsealed_events, sealing_events, seal_events}
+use Rattle.clobber_log.specs.Restore.{as_heap_word, back_at, back_events, word_in_record}
+use Rattle.clobber_log.specs.Restore.{old_in_record, fence_after, first_events}
+use Rattle.args_log.specs.Seal.{stores_from, flushes_from, payload_lines, payload_events}
+use Rattle.args_log.specs.Seal.{unsealed_events, sealing_events, seal_events}
 use Rattle.crash_law.specs.Pools.{Call, call_word}
 use Rattle.crash_law.specs.Due.{due_seal}
 

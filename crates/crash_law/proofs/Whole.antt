@@ -1,6 +1,7 @@
 -- The whole call, and the whole recovery.
 use Rattle.pool_layout.specs.Sizes.{heap_words}
-use Rattle.std.proofs.Common.{length, ◌≡◌, ◌≢◌, ◌⊎◌, inl, inr, ⊎_elim, ℕ, suc, ◌^◌, ◌<◌, ◌≤◌, List, [], ◌∷◌, ℤ, refl, sym, ◌∙◌, subst, arith}
+use Rattle.std.proofs.Common.{length, ◌≡◌, ◌≢◌, ◌⊎◌, inl, inr, ⊎_elim, ℕ, suc, ◌^◌, ◌<◌, ◌≤◌, List}
+use Rattle.std.proofs.Common.{[], ◌∷◌, ℤ, refl, sym, ◌∙◌, subst, arith}
 use Rattle.std.proofs.lemmas.Bool.{cases_eq}
 use Rattle.cache_model.specs.Cache.{Words, Cache, put}
 use Rattle.cache_model.specs.Image.{Images, HasOne}
@@ -10,16 +11,19 @@ use Rattle.pool_layout.specs.declared.places.Layout.{Layout}
 use Rattle.pool_layout.specs.Places.{at, pool_of}
 use Rattle.pool_layout.specs.Log.{count}
 use Rattle.crash_law.specs.Pools.{Pool, Call, Good, Owed}
-use Rattle.crash_law.specs.Due.{Entry, Plain, Logged, Result, Halted, Trapped, IsStored, run_events, heap_after, lines_of, end_events, due_run, due_call}
+use Rattle.crash_law.specs.Due.{Entry, Plain, Logged, Result, Halted, Trapped, IsStored, run_events}
+use Rattle.crash_law.specs.Due.{heap_after, lines_of, end_events, due_run, due_call}
 use Rattle.crash_law.specs.Law.{IsRun, IsEnd, IsCut, CutCall}
 use Rattle.cache_model.proofs.Versions.{put_same, put_other}
 use Rattle.cache_model.specs.inside.During.{Through}
-use Rattle.cache_model.proofs.During.{through_append, through_more, through_of, through_during, through_end}
+use Rattle.cache_model.proofs.During.{through_append, through_more, through_of, through_during}
+use Rattle.cache_model.proofs.During.{through_end}
 use Rattle.crash_law.proofs.Held.{Cover, cover_image}
 use Rattle.crash_law.proofs.Records.{nothing}
 use Rattle.crash_law.proofs.Fine.{ok, Setting}
 use Rattle.crash_law.proofs.Run.{Running, Ran, run_part}
-use Rattle.crash_law.proofs.Finish.{stored_listed, Fresh, stage, done_image, OwedOrDone, finish_part, trap_part}
+use Rattle.crash_law.proofs.Finish.{stored_listed, Fresh, stage, done_image, OwedOrDone}
+use Rattle.crash_law.proofs.Finish.{finish_part, trap_part}
 use Rattle.crash_law.proofs.Seal.{one_cover, good_fine, BeforeOrOwed, unsealed, due_seal_part}
 
 -- heaps that differ only in stored words are equal after the trace

@@ -2,7 +2,8 @@
 -- next attempt are the lists of the
 -- logs themselves, as the calls promise them; the stores and the flushes of a run are listed here
 -- by its trace.
-use Rattle.std.specs.Prelude.{ℕ, zero, suc, ◌<◌, ◌≡◌, ◌⊎◌, ◌==◌, ◌||◌, Bool, false, cond, List, [], ◌∷◌, ◌++◌, ℤ, pos}
+use Rattle.std.specs.Prelude.{ℕ, zero, suc, ◌<◌, ◌≡◌, ◌⊎◌, ◌==◌, ◌||◌, Bool, false, cond, List, []}
+use Rattle.std.specs.Prelude.{◌∷◌, ◌++◌, ℤ, pos}
 use Rattle.cache_model.specs.Event.{CacheEvent, Store, Flush, Fence}
 use Rattle.cache_model.specs.Cache.{Words, put}
 use Rattle.pool_layout.specs.declared.limits.Sizes.{Sizes}

@@ -1,5 +1,6 @@
 -- The effects of a machine's run, and what the crash law uses of them.
-use Rattle.std.specs.Prelude.{ℕ, suc, ◌<◌, ◌≤◌, ◌≡◌, ◌≢◌, ◌⊎◌, ◌==◌, cond, List, [], ◌∷◌, ◌++◌, Option, Some, None, ℤ}
+use Rattle.std.specs.Prelude.{ℕ, suc, ◌<◌, ◌≤◌, ◌≡◌, ◌≢◌, ◌⊎◌, ◌==◌, cond, List, [], ◌∷◌, ◌++◌}
+use Rattle.std.specs.Prelude.{Option, Some, None, ℤ}
 use Rattle.crash_law.specs.Due.{Entry, Plain, Logged}
 use Rattle.clobber_log.specs.Record.{record_events}
 use Rattle.cache_model.specs.Event.{CacheEvent, Store}

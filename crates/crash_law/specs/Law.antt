@@ -1,6 +1,7 @@
 -- The crash law of a call and of its recovery.
 use Rattle.pool_layout.specs.Sizes.{heap_words}
-use Rattle.std.specs.Prelude.{◌≤◌, Option, Some, ◌∷◌, Bool, IsTrue, ℕ, zero, suc, ◌^◌, ◌<◌, ◌≡◌, ◌⊎◌, List, [], ◌++◌, length, None, ℤ}
+use Rattle.std.specs.Prelude.{◌≤◌, Option, Some, ◌∷◌, Bool, IsTrue, ℕ, zero, suc, ◌^◌, ◌<◌, ◌≡◌}
+use Rattle.std.specs.Prelude.{◌⊎◌, List, [], ◌++◌, length, None, ℤ}
 use Rattle.cache_model.specs.Event.{CacheEvent, Fence}
 use Rattle.cache_model.specs.Cache.{Words, Cache}
 use Rattle.cache_model.specs.Play.{play}
@@ -11,8 +12,10 @@ use Rattle.pool_layout.specs.Places.{pool_of}
 use Rattle.pool_layout.specs.Log.{count}
 use Rattle.pool_layout.specs.Good.{Lost}
 use Rattle.crash_law.specs.Pools.{Pool, Call, Good, Owed, IsBefore, IsDone, last_of, HasNoRecord}
-use Rattle.crash_law.specs.Due.{Entry, Result, Halted, Trapped, IsTrace, IsStored, heap_after, run_events, due_call, redo_events, clean_events}
-use Rattle.crash_law.specs.Effects.{Effect, IsSound, IsInput, IsOverwritten, trace_of, effect_events}
+use Rattle.crash_law.specs.Due.{Entry, Result, Halted, Trapped, IsTrace, IsStored, heap_after}
+use Rattle.crash_law.specs.Due.{run_events, due_call, redo_events, clean_events}
+use Rattle.crash_law.specs.Effects.{Effect, IsSound, IsInput, IsOverwritten, trace_of}
+use Rattle.crash_law.specs.Effects.{effect_events}
 
 -- What is used of a run: each word is in W and in the heap, the first entry of each word of E is
 -- logged, and the records fit; each word of W is stored; and a trap's number is at least 1.

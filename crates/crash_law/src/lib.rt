@@ -4,7 +4,8 @@
 //! the call is owed, or has come to its end.
 #![tactic(auto)]
 
-ghost use Rattle.crash_law.specs.Law.{AgainLaw, CallLaw, CleanLaw, AddedFencesLaw, RedoLaw, RestLaw, TraceLaw};
+ghost use Rattle.crash_law.specs.Law.{AgainLaw, CallLaw, CleanLaw, AddedFencesLaw, RedoLaw};
+ghost use Rattle.crash_law.specs.Law.{RestLaw, TraceLaw};
 
 /// The laws of a power cut at any event of a call or of a recovery, any number of times. The
 /// function does nothing.

@@ -1,6 +1,7 @@
 -- The events that a recovery plays before the call runs again are the crash law's list; their
 -- effect.
-use Rattle.std.proofs.Common.{◌≡◌, ◌≢◌, ⊎_elim, ℕ, zero, suc, ◌+◌, ◌*◌, ◌<◌, int_eq, List, ◌++◌, Option, Some, None, ℤ, pos, refl, sym, ap, ◌∙◌, subst, arith}
+use Rattle.std.proofs.Common.{◌≡◌, ◌≢◌, ⊎_elim, ℕ, zero, suc, ◌+◌, ◌*◌, ◌<◌, int_eq, List, ◌++◌}
+use Rattle.std.proofs.Common.{Option, Some, None, ℤ, pos, refl, sym, ap, ◌∙◌, subst, arith}
 use Rattle.std.proofs.lemmas.Bool.{cases_eq}
 use Rattle.std.proofs.lemmas.Bool.Decides.{Decides-int_eq}
 use Rattle.cache_model.specs.Event.{CacheEvent, Store}
@@ -15,7 +16,8 @@ use Rattle.pool_layout.specs.Places.{at, line_of, pool_of}
 use Rattle.pool_layout.specs.Restored.{undo, undone}
 use Rattle.pool_layout.proofs.Records.{pos_inj}
 use Rattle.clobber_log.specs.Logs.{count_in}
-use Rattle.clobber_log.specs.Restore.{as_heap_word, back_at, back_events, word_in_record, old_in_record, fence_after, first_events, restore_events}
+use Rattle.clobber_log.specs.Restore.{as_heap_word, back_at, back_events, word_in_record}
+use Rattle.clobber_log.specs.Restore.{old_in_record, fence_after, first_events, restore_events}
 use Rattle.crash_law.proofs.Walks.{AreInHeap, found_word}
 use Rattle.crash_law.proofs.Records.{undone_cong}
 use Rattle.crash_law.proofs.Restore.{undo_named, undo_other}

@@ -1,5 +1,7 @@
 -- The events that a call plays are the crash law's due list.
-use Rattle.std.proofs.Common.{◌≡◌, ℕ, suc, ◌+◌, ◌-◌, ◌^◌, ◌<◌, ◌≤◌, if◌then◌else◌, Bool, true, false, ltb, w64, List, [], ◌∷◌, ◌++◌, length, take, Some, ℤ, pos, ◌+ℤ◌, FitsSigned, ◌⊎◌, inl, inr, refl, sym, ap, ◌∙◌, subst, arith}
+use Rattle.std.proofs.Common.{◌≡◌, ℕ, suc, ◌+◌, ◌-◌, ◌^◌, ◌<◌, ◌≤◌, if◌then◌else◌, Bool, true}
+use Rattle.std.proofs.Common.{false, ltb, w64, List, [], ◌∷◌, ◌++◌, length, take, Some, ℤ, pos}
+use Rattle.std.proofs.Common.{◌+ℤ◌, FitsSigned, ◌⊎◌, inl, inr, refl, sym, ap, ◌∙◌, subst, arith}
 use Rattle.std.specs.Int.{int_wrap, cast_signed}
 use Rattle.std.proofs.lemmas.Int.{ints, to_z_pos, int_wrap_fits}
 use Rattle.std.proofs.lemmas.Bool.{ltb-false}

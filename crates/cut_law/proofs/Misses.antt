@@ -1,5 +1,6 @@
 -- Words that a list of events doesn't store to stay in the view.
-use Rattle.std.proofs.Common.{◌≡◌, ◌≢◌, ◌⊎◌, inl, inr, ℕ, zero, suc, ◌+◌, ◌<◌, ◌≤◌, List, [], ◌∷◌, ◌++◌, length, ℤ, refl, ap, ◌∙◌, arith}
+use Rattle.std.proofs.Common.{◌≡◌, ◌≢◌, ◌⊎◌, inl, inr, ℕ, zero, suc, ◌+◌, ◌<◌, ◌≤◌, List, [], ◌∷◌}
+use Rattle.std.proofs.Common.{◌++◌, length, ℤ, refl, ap, ◌∙◌, arith}
 use Rattle.cache_model.specs.Event.{CacheEvent, Store, Flush, Fence}
 use Rattle.cache_model.specs.Cache.{Words, Cache, view}
 use Rattle.cache_model.specs.Play.{apply, play}
@@ -7,9 +8,11 @@ use Rattle.cache_model.specs.Image.{IsImage, HasOne}
 use Rattle.cache_model.proofs.Views.{view_other, view_flush, view_fence}
 use Rattle.pool_layout.specs.declared.places.TheConstants.{FUNCTION, SEAL}
 use Rattle.pool_layout.specs.declared.limits.Sizes.{Sizes}
-use Rattle.args_log.specs.Seal.{stores_from, flushes_from, payload_lines, payload_events, unsealed_events, sealing_events, seal_events}
+use Rattle.args_log.specs.Seal.{stores_from, flushes_from, payload_lines, payload_events}
+use Rattle.args_log.specs.Seal.{unsealed_events, sealing_events, seal_events}
 use Rattle.pm_machine.specs.declared.effect.Effect.{Effect}
-use Rattle.pm_machine.specs.declared.effect.Effect.TheVariants.{Loads, Scans, Stores, Logs, Flushes, Fences, Quiet}
+use Rattle.pm_machine.specs.declared.effect.Effect.TheVariants.{Loads, Scans, Stores, Logs, Flushes}
+use Rattle.pm_machine.specs.declared.effect.Effect.TheVariants.{Fences, Quiet}
 use Rattle.pm_machine.specs.Effects.{events_of, events_all, heap_past, records_past}
 
 abbrev pub Misses : ℕ → List CacheEvent → Type 0

@@ -1,5 +1,6 @@
 -- The events that a recovery of a sealed pool plays are the crash law's list; what its cuts leave.
-use Rattle.std.proofs.Common.{◌≡◌, ◌≢◌, ◌⊎◌, ℕ, zero, suc, ◌+◌, ◌^◌, ◌<◌, ◌≤◌, List, ◌++◌, length, Some, ℤ, pos, sym, ap, ◌∙◌, subst, arith, append_assoc}
+use Rattle.std.proofs.Common.{◌≡◌, ◌≢◌, ◌⊎◌, ℕ, zero, suc, ◌+◌, ◌^◌, ◌<◌, ◌≤◌, List, ◌++◌, length}
+use Rattle.std.proofs.Common.{Some, ℤ, pos, sym, ap, ◌∙◌, subst, arith, append_assoc}
 use Rattle.cache_model.specs.Event.{CacheEvent, Store, Flush}
 use Rattle.cache_model.specs.Cache.{Words, Cache, view}
 use Rattle.cache_model.specs.Play.{apply, play}
@@ -10,7 +11,8 @@ use Rattle.cache_model.proofs.During.{play_append}
 use Rattle.pool_layout.specs.declared.places.TheConstants.{DONE, ATTEMPT}
 use Rattle.pool_layout.specs.declared.limits.Sizes.{Sizes}
 use Rattle.pool_layout.specs.declared.places.Layout.{Layout}
-use Rattle.pool_layout.specs.declared.places.Place.TheVariants.{RecordWord, RecordOld, RecordStamp, Heap}
+use Rattle.pool_layout.specs.declared.places.Place.TheVariants.{RecordWord, RecordOld, RecordStamp}
+use Rattle.pool_layout.specs.declared.places.Place.TheVariants.{Heap}
 use Rattle.pool_layout.specs.Sizes.{heap_words}
 use Rattle.pool_layout.specs.Places.{at, pool_of}
 use Rattle.pool_layout.specs.Log.{count}

@@ -17,7 +17,8 @@ use Rattle.pm_machine.specs.Machine.{Finished, mrun}
 use Rattle.pm_machine.specs.Runs.{heap_in}
 use Rattle.crash_law.specs.Pools.{Pool, Call, Good, Owed, last_of}
 use Rattle.crash_law.specs.Due as crash
-use Rattle.crash_law.specs.Law.{Leaves, IsCut, IsEnd, IsClean, IsAtRest, IsLeft, collapsed, AreInARow}
+use Rattle.crash_law.specs.Law.{Leaves, IsCut, IsEnd, IsClean, IsAtRest, IsLeft, collapsed}
+use Rattle.crash_law.specs.Law.{AreInARow}
 use Rattle.run_law.specs.Seen.{trace_in, result_of, E, W}
 use Rattle.run_law.specs.Sound.{IsSoundRun}
 use Rattle.tx_run.specs.Due.{due_call}

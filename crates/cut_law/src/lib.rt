@@ -4,7 +4,8 @@
 //! has come to its end.
 #![tactic(auto)]
 
-ghost use Rattle.cut_law.specs.Law.{DueCallLaw, CutCallLaw, CutRedoLaw, CutCleanLaw, RestCallLaw, CutAgainLaw};
+ghost use Rattle.cut_law.specs.Law.{DueCallLaw, CutCallLaw, CutRedoLaw, CutCleanLaw, RestCallLaw};
+ghost use Rattle.cut_law.specs.Law.{CutAgainLaw};
 ghost use Rattle.cut_law.specs.Leaves.{CallLeavesLaw, RedoLeavesLaw};
 ghost use Rattle.cut_law.specs.Faults.{CallFaults, RedoFaults, CleanFaults};
 

@@ -1,5 +1,8 @@
 -- Dirty lines are distinct lines of the heap.
-use Rattle.std.proofs.Common.{◌≡◌, ℕ, zero, suc, ◌+◌, ◌-◌, ◌*◌, ◌/◌, ◌<◌, ◌≤◌, ◌||◌, ◌==◌, if◌then◌else◌, nat_eq, Bool, true, false, List, [], ◌∷◌, ◌++◌, length, drop, slice_get, Option, Some, None, ℤ, pos, ltb, refl, sym, subst, arith, length-append}
+use Rattle.std.proofs.Common.{◌≡◌, ℕ, zero, suc, ◌+◌, ◌-◌, ◌*◌, ◌/◌, ◌<◌, ◌≤◌, ◌||◌, ◌==◌}
+use Rattle.std.proofs.Common.{if◌then◌else◌, nat_eq, Bool, true, false, List, [], ◌∷◌, ◌++◌, length}
+use Rattle.std.proofs.Common.{drop, slice_get, Option, Some, None, ℤ, pos, ltb, refl, sym, subst}
+use Rattle.std.proofs.Common.{arith, length-append}
 use Rattle.std.specs.List.{list_any, IsDistinct}
 use Rattle.std.specs.Ordering.{int_eq}
 use Rattle.std.proofs.lemmas.Bool.{eqb-true}
@@ -15,8 +18,11 @@ use Rattle.pm_machine.specs.declared.effect.End.TheVariants.{Trapped}
 use Rattle.pm_machine.specs.declared.frame.Frame.{Frame}
 use Rattle.pm_machine.specs.declared.image.Image.{Image}
 use Rattle.pm_machine.specs.declared.op.Op.{Op}
-use Rattle.pm_machine.specs.declared.op.Op.TheVariants.{Jz, Load, Store, Log, Flush, Call, Ret, Tick, Trap, Halt}
-use Rattle.pm_machine.specs.Machine.{State, StepOutcome, Goes, Ends, step, execute, tally, fetch, target, read_register, load, store, log, flush, call, return, passed, moved_to, tick_spent, entered}
+use Rattle.pm_machine.specs.declared.op.Op.TheVariants.{Jz, Load, Store, Log, Flush, Call, Ret}
+use Rattle.pm_machine.specs.declared.op.Op.TheVariants.{Tick, Trap, Halt}
+use Rattle.pm_machine.specs.Machine.{State, StepOutcome, Goes, Ends, step, execute, tally, fetch}
+use Rattle.pm_machine.specs.Machine.{target, read_register, load, store, log, flush, call, return}
+use Rattle.pm_machine.specs.Machine.{passed, moved_to, tick_spent, entered}
 use Rattle.pm_machine.specs.Runs.{AreLines}
 use Rattle.pm_machine.specs.inside.Runs.{StepKeeps}
 use Rattle.pm_machine.proofs.Range.{keeps_step}

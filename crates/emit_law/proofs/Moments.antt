@@ -5,7 +5,8 @@ use Rattle.pm_machine.specs.declared.effect.End.{End}
 use Rattle.pm_machine.specs.declared.image.Image.{Image}
 use Rattle.pm_machine.specs.Effects.{heap_past, records_past}
 use Rattle.pm_machine.specs.Machine.{StepOutcome, Goes, Ends, Finished, began, follow, step, run}
-use Rattle.emit_law.specs.Moments.{RunMoment, Stage, On, Over, moment_after, staged, one, stage_then, go, onto, RunsLaw}
+use Rattle.emit_law.specs.Moments.{RunMoment, Stage, On, Over, moment_after, staged, one}
+use Rattle.emit_law.specs.Moments.{stage_then, go, onto, RunsLaw}
 
 and_and : (r : Stage) (f g h : RunMoment → Stage) → ((m : RunMoment) → f m ≡ stage_then (g m) h)
     → stage_then r f ≡ stage_then (stage_then r g) h

@@ -1,5 +1,6 @@
 -- In emitted code a STORE comes right after each LOG.
-use Rattle.std.proofs.Common.{ℕ, zero, suc, ◌+◌, ◌^◌, Bool, true, false, List, [], ◌∷◌, ◌++◌, length, map, Option, Some, None, ℤ, refl, sym, subst}
+use Rattle.std.proofs.Common.{ℕ, zero, suc, ◌+◌, ◌^◌, Bool, true, false, List, [], ◌∷◌, ◌++◌}
+use Rattle.std.proofs.Common.{length, map, Option, Some, None, ℤ, refl, sym, subst}
 use Rattle.std.specs.Prelude.{if◌then◌else◌, nat_lt}
 use Rattle.std.specs.List.{AllByRecursion}
 use Rattle.std.proofs.lemmas.List.{map-append}
@@ -22,7 +23,11 @@ use Rattle.codegen.specs.declared.fields.At.{At}
 use Rattle.codegen.specs.declared.fields.At.TheVariants.{Word, Element}
 use Rattle.codegen.specs.declared.fields.Reach.{Reach}
 use Rattle.codegen.specs.Fields.{root_reach, struct_reach, object_words}
-use Rattle.codegen.specs.Emit.{at_code, root_code, object_code, address_code, address_offset, load_at, store_at, make_words, divides, local_code, control, return_code, piece_width, is_log, instruction_places, place_in, instruction_code, code_from, emitted_code, has_room, trap_function, with_code, function_of, known}
+use Rattle.codegen.specs.Emit.{at_code, root_code, object_code, address_code, address_offset}
+use Rattle.codegen.specs.Emit.{load_at, store_at, make_words, divides, local_code, control}
+use Rattle.codegen.specs.Emit.{return_code, piece_width, is_log, instruction_places, place_in}
+use Rattle.codegen.specs.Emit.{instruction_code, code_from, emitted_code, has_room, trap_function}
+use Rattle.codegen.specs.Emit.{with_code, function_of, known}
 use Rattle.emit_law.specs.Pairs.{IsStoreFirst, ArePaired, HasPairs, EmitsPairs}
 
 first_append : (a : ℕ) (o : ℤ) (xs ys : List Op) → IsStoreFirst a o xs → IsStoreFirst a o (xs ++ ys)

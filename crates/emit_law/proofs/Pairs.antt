@@ -1,10 +1,13 @@
 -- Each LOG is followed by its STORE.
-use Rattle.std.proofs.Common.{◌≡◌, ℕ, zero, suc, ◌+◌, ◌-◌, ◌==◌, if◌then◌else◌, Bool, true, false, List, [], ◌∷◌, length, slice_get, Option, Some, None, ℤ, ltb, refl, sym, ap, ◌∙◌, subst, arith}
+use Rattle.std.proofs.Common.{◌≡◌, ℕ, zero, suc, ◌+◌, ◌-◌, ◌==◌, if◌then◌else◌, Bool, true, false}
+use Rattle.std.proofs.Common.{List, [], ◌∷◌, length, slice_get, Option, Some, None, ℤ, ltb, refl}
+use Rattle.std.proofs.Common.{sym, ap, ◌∙◌, subst, arith}
 use Rattle.std.specs.List.{AllByRecursion}
 use Rattle.cache_model.specs.Cache.{Words}
 use Rattle.crash_law.specs.Effects.{IsPaired}
 use Rattle.pm_machine.specs.declared.effect.Effect.{Effect}
-use Rattle.pm_machine.specs.declared.effect.Effect.TheVariants.{Loads, Scans, Stores, Logs, Flushes, Fences, Quiet}
+use Rattle.pm_machine.specs.declared.effect.Effect.TheVariants.{Loads, Scans, Stores, Logs, Flushes}
+use Rattle.pm_machine.specs.declared.effect.Effect.TheVariants.{Fences, Quiet}
 use Rattle.pm_machine.specs.declared.effect.End.{End}
 use Rattle.pm_machine.specs.declared.effect.End.TheVariants.{Trapped}
 use Rattle.pool_map.specs.declared.trap.TrapKind.TheVariants as trap
@@ -14,7 +17,10 @@ use Rattle.pm_machine.specs.declared.op.Op.{Op}
 use Rattle.pm_machine.specs.declared.op.Op.TheVariants.{Load, Store, Log, Flush, Call, Ret, Tick}
 use Rattle.pm_machine.specs.declared.op.Function.{Function}
 use Rattle.pm_machine.specs.Effects.{heap_past, records_past}
-use Rattle.pm_machine.specs.Machine.{State, StepOutcome, Goes, Ends, Run, Finished, follow, step, run, execute, tally, fetch, fetch_in, target, read_register, load, store, log, flush, call, return, passed, tick_spent, entered}
+use Rattle.pm_machine.specs.Machine.{State, StepOutcome, Goes, Ends, Run, Finished, follow, step}
+use Rattle.pm_machine.specs.Machine.{run, execute, tally, fetch, fetch_in, target, read_register}
+use Rattle.pm_machine.specs.Machine.{load, store, log, flush, call, return, passed, tick_spent}
+use Rattle.pm_machine.specs.Machine.{entered}
 use Rattle.pm_machine.proofs.Fuel.{began_rest}
 use Rattle.run_law.specs.Seen.{seen_all}
 use Rattle.run_law.proofs.Headers.{pair_headers}

@@ -1,5 +1,8 @@
 -- A piece of code in its place runs as it runs alone.
-use Rattle.std.proofs.Common.{◌≡◌, ◌≢◌, ◌⊎◌, inl, inr, ℕ, zero, suc, ◌+◌, ◌-◌, ◌<◌, ◌≤◌, ◌^◌, Bool, true, false, List, [], ◌∷◌, length, Some, None, Option, ℤ, pos, negsuc, refl, sym, ap, ◌∙◌, subst, arith, ltb, get_or, set, length-set, ne_eqb}
+use Rattle.std.proofs.Common.{◌≡◌, ◌≢◌, ◌⊎◌, inl, inr, ℕ, zero, suc, ◌+◌, ◌-◌, ◌<◌, ◌≤◌, ◌^◌, Bool}
+use Rattle.std.proofs.Common.{true, false, List, [], ◌∷◌, length, Some, None, Option, ℤ, pos}
+use Rattle.std.proofs.Common.{negsuc, refl, sym, ap, ◌∙◌, subst, arith, ltb, get_or, set}
+use Rattle.std.proofs.Common.{length-set, ne_eqb}
 use Rattle.std.specs.Prelude.{slice_get, nat_lt, if◌then◌else◌, ◌==◌}
 use Rattle.std.specs.List.{AllByRecursion}
 use Rattle.std.specs.Ordering.{int_eq}
@@ -22,13 +25,16 @@ use Rattle.pm_machine.specs.Machine as machine
 use Rattle.pm_alloc.specs.declared.local.Reg.{Reg}
 use Rattle.pm_alloc.specs.declared.local.Reg.TheVariants.{Own, Temp}
 use Rattle.pm_alloc.specs.declared.local.Local.{Local}
-use Rattle.pm_alloc.specs.declared.local.Local.TheVariants.{Const, Mov, Bin, Jmp, Jz, Load, Store, Find, Log, Tick, Trap}
+use Rattle.pm_alloc.specs.declared.local.Local.TheVariants.{Const, Mov, Bin, Jmp, Jz, Load, Store}
+use Rattle.pm_alloc.specs.declared.local.Local.TheVariants.{Find, Log, Tick, Trap}
 use Rattle.pm_alloc.specs.Placing.{sum, register_number, placed}
 use Rattle.pm_alloc.specs.Runs.{Next, Goes, Traps, Off, then, local_run}
-use Rattle.pm_alloc.specs.LocalRun.{World, Loc, branch_at_zero, local_read, local_write, go_to, local_target}
+use Rattle.pm_alloc.specs.LocalRun.{World, Loc, branch_at_zero, local_read, local_write, go_to}
+use Rattle.pm_alloc.specs.LocalRun.{local_target}
 use Rattle.pm_alloc.specs.LocalRun as local
 use Rattle.emit_law.specs.Moments.{RunMoment, Stage, On, Over, staged, one, stage_then, go}
-use Rattle.emit_law.specs.Placed.{heard, IsReg, IsFine, IsPlaced, FrameHolds, Setting, moment, Same, IsShared, Follows}
+use Rattle.emit_law.specs.Placed.{heard, IsReg, IsFine, IsPlaced, FrameHolds, Setting, moment, Same}
+use Rattle.emit_law.specs.Placed.{IsShared, Follows}
 
 -- a sum that fits
 sum_is : (a b : ℕ) → a + b < 2 ^ 32 → sum a b ≡ a + b

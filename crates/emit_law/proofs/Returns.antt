@@ -1,5 +1,6 @@
 -- A transaction's return.
-use Rattle.std.proofs.Common.{◌≡◌, ℕ, zero, suc, ◌+◌, List, [], ◌∷◌, length, drop, slice_get, Option, Some, refl, ap, ◌∙◌, arith}
+use Rattle.std.proofs.Common.{◌≡◌, ℕ, zero, suc, ◌+◌, List, [], ◌∷◌, length, drop, slice_get}
+use Rattle.std.proofs.Common.{Option, Some, refl, ap, ◌∙◌, arith}
 use Rattle.cache_model.specs.Cache.{Words}
 use Rattle.pm_machine.specs.declared.effect.Effect.{Effect}
 use Rattle.pm_machine.specs.declared.effect.Effect.TheVariants.{Flushes, Fences, Quiet}
@@ -8,7 +9,8 @@ use Rattle.pm_machine.specs.declared.image.Image.{Image}
 use Rattle.pm_machine.specs.declared.op.Op.{Op}
 use Rattle.pm_machine.specs.declared.op.Op.TheVariants.{Flush, Fence, Halt}
 use Rattle.pm_machine.specs.Effects.{heap_past, records_past}
-use Rattle.pm_machine.specs.Machine.{State, Run, Finished, began, follow, run, execute, tally, flush, fetch, passed, cleaned, read_register}
+use Rattle.pm_machine.specs.Machine.{State, Run, Finished, began, follow, run, execute, tally}
+use Rattle.pm_machine.specs.Machine.{flush, fetch, passed, cleaned, read_register}
 use Rattle.emit_law.specs.Returns.{last_effects, ReturnLaw}
 
 module _ (image : Image) (n : ℕ) (heap : Words) (a : ℕ) where

@@ -1,5 +1,7 @@
 -- A transaction's run is paired and tidy.
-use Rattle.std.proofs.Common.{◌≡◌, ℕ, zero, suc, ◌+◌, ◌-◌, ◌^◌, Bool, true, false, List, [], ◌∷◌, ◌++◌, length, map, slice_get, Option, Some, ℤ, refl, sym, ap, ◌∙◌, subst, arith}
+use Rattle.std.proofs.Common.{◌≡◌, ℕ, zero, suc, ◌+◌, ◌-◌, ◌^◌, Bool, true, false, List, [], ◌∷◌}
+use Rattle.std.proofs.Common.{◌++◌, length, map, slice_get, Option, Some, ℤ, refl, sym, ap, ◌∙◌}
+use Rattle.std.proofs.Common.{subst, arith}
 use Rattle.std.specs.Prelude.{if◌then◌else◌, nat_lt, option_map}
 use Rattle.std.specs.List.{AllByRecursion}
 use Rattle.std.proofs.lemmas.Option.{slice_get-map}
@@ -17,9 +19,13 @@ use Rattle.pm_machine.specs.declared.op.TxEntry.{TxEntry}
 use Rattle.pm_machine.specs.Transactions as transactions
 use Rattle.pm_machine.specs.Machine.{start}
 use Rattle.pm_alloc.specs.declared.local.Local.{Local}
-use Rattle.pm_alloc.specs.declared.local.Local.TheVariants.{Const, Mov, Bin, Jmp, Jz, Load, Store, Find, Log, Tick, Trap}
+use Rattle.pm_alloc.specs.declared.local.Local.TheVariants.{Const, Mov, Bin, Jmp, Jz, Load, Store}
+use Rattle.pm_alloc.specs.declared.local.Local.TheVariants.{Find, Log, Tick, Trap}
 use Rattle.pm_alloc.specs.Placing.{sum, placed}
-use Rattle.codegen.specs.Emit.{local_code, control, return_code, piece_width, is_log, instruction_places, place_in, instruction_code, code_from, emitted_code, has_room, trap_function, with_code, function_of, txs_from, known}
+use Rattle.codegen.specs.Emit.{local_code, control, return_code, piece_width, is_log}
+use Rattle.codegen.specs.Emit.{instruction_places, place_in, instruction_code, code_from}
+use Rattle.codegen.specs.Emit.{emitted_code, has_room, trap_function, with_code, function_of}
+use Rattle.codegen.specs.Emit.{txs_from, known}
 use Rattle.emit_law.specs.Pairs.{HasPairs}
 use Rattle.emit_law.specs.Tidy.{IsTidyCode, IsReturnless, OpenFramesTidy}
 use Rattle.emit_law.specs.TidyCode.{HasCode, SoundRunLaw}

@@ -1,5 +1,7 @@
 -- The piece of an instruction is in its function.
-use Rattle.std.proofs.Common.{◌≡◌, ℕ, zero, suc, ◌+◌, ◌-◌, ◌<◌, ◌^◌, Bool, true, false, List, [], ◌∷◌, ◌++◌, length, map, slice_get, Option, Some, refl, sym, ap, ◌∙◌, subst, arith, ltb, length-append}
+use Rattle.std.proofs.Common.{◌≡◌, ℕ, zero, suc, ◌+◌, ◌-◌, ◌<◌, ◌^◌, Bool, true, false, List, []}
+use Rattle.std.proofs.Common.{◌∷◌, ◌++◌, length, map, slice_get, Option, Some, refl, sym, ap, ◌∙◌}
+use Rattle.std.proofs.Common.{subst, arith, ltb, length-append}
 use Rattle.std.specs.Prelude.{if◌then◌else◌, nat_le, ◌&&◌, slice_index_or, option_map}
 use Rattle.std.specs.List.{list_all, AllByRecursion}
 use Rattle.std.proofs.lemmas.Bool.{leb-true, ltb-true, lt-ltb, and_parts}
@@ -17,10 +19,13 @@ use Rattle.pm_machine.specs.Machine.{fetch_in}
 use Rattle.pm_alloc.specs.declared.local.Reg.{Reg}
 use Rattle.pm_alloc.specs.declared.local.Reg.TheVariants.{Own, Temp}
 use Rattle.pm_alloc.specs.declared.local.Local.{Local}
-use Rattle.pm_alloc.specs.declared.local.Local.TheVariants.{Const, Mov, Bin, Jmp, Jz, Load, Store, Find, Log, Tick, Trap}
+use Rattle.pm_alloc.specs.declared.local.Local.TheVariants.{Const, Mov, Bin, Jmp, Jz, Load, Store}
+use Rattle.pm_alloc.specs.declared.local.Local.TheVariants.{Find, Log, Tick, Trap}
 use Rattle.pm_alloc.specs.Placing.{sum, placed}
 use Rattle.codegen.specs.Names.{is_below}
-use Rattle.codegen.specs.Emit.{local_code, piece_width, is_log, instruction_places, place_in, instruction_code, code_from, emitted_code, trap_function, with_code, function_of, known}
+use Rattle.codegen.specs.Emit.{local_code, piece_width, is_log, instruction_places, place_in}
+use Rattle.codegen.specs.Emit.{instruction_code, code_from, emitted_code, trap_function, with_code}
+use Rattle.codegen.specs.Emit.{function_of, known}
 use Rattle.codegen.proofs.Fine.{reg_fine, fine, local_fine}
 use Rattle.emit_law.specs.Placed.{IsReg, IsFine, IsPlaced}
 use Rattle.emit_law.specs.Standing.{logged_before, Stays, table_of, HasRoom, StandsLaw}

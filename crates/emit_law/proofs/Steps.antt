@@ -1,5 +1,7 @@
 -- Pieces that only lead forward end.
-use Rattle.std.proofs.Common.{◌≡◌, ◌⊎◌, inl, inr, ℕ, zero, suc, ◌+◌, ◌-◌, ◌<◌, ◌≤◌, Bool, true, false, List, [], ◌∷◌, ◌++◌, length, slice_get, Option, Some, None, ℤ, pos, negsuc, ltb, refl, sym, ap, subst, arith, length-append, ◌*◌}
+use Rattle.std.proofs.Common.{◌≡◌, ◌⊎◌, inl, inr, ℕ, zero, suc, ◌+◌, ◌-◌, ◌<◌, ◌≤◌, Bool, true}
+use Rattle.std.proofs.Common.{false, List, [], ◌∷◌, ◌++◌, length, slice_get, Option, Some, None, ℤ}
+use Rattle.std.proofs.Common.{pos, negsuc, ltb, refl, sym, ap, subst, arith, length-append, ◌*◌}
 use Rattle.std.specs.Prelude.{if◌then◌else◌, nat_lt}
 use Rattle.std.specs.List.{AllByRecursion}
 use Rattle.std.proofs.lemmas.Bool.{cases_lt, ltb-false}
@@ -16,14 +18,18 @@ use Rattle.ir.specs.declared.instruction.Instruction.TheVariants as ir
 use Rattle.pm_alloc.specs.declared.local.Reg.{Reg}
 use Rattle.pm_alloc.specs.declared.local.Reg.TheVariants.{Own, Temp}
 use Rattle.pm_alloc.specs.declared.local.Local.{Local}
-use Rattle.pm_alloc.specs.declared.local.Local.TheVariants.{Const, Mov, Bin, Jmp, Jz, Load, Store, Find, Log, Tick, Trap}
+use Rattle.pm_alloc.specs.declared.local.Local.TheVariants.{Const, Mov, Bin, Jmp, Jz, Load, Store}
+use Rattle.pm_alloc.specs.declared.local.Local.TheVariants.{Find, Log, Tick, Trap}
 use Rattle.pm_alloc.specs.Runs.{Next, Goes, Traps, Off, then, local_run}
-use Rattle.pm_alloc.specs.LocalRun.{World, Loc, branch_at_zero, local_read, local_write, go_to, local_next, see, searched, logged, local_load, local_store, local_log, local_tick, local_target, local_act, local_step}
+use Rattle.pm_alloc.specs.LocalRun.{World, Loc, branch_at_zero, local_read, local_write, go_to}
+use Rattle.pm_alloc.specs.LocalRun.{local_next, see, searched, logged, local_load, local_store}
+use Rattle.pm_alloc.specs.LocalRun.{local_log, local_tick, local_target, local_act, local_step}
 use Rattle.codegen.specs.declared.fields.At.{At}
 use Rattle.codegen.specs.declared.fields.At.TheVariants.{Word, Element}
 use Rattle.codegen.specs.declared.fields.Reach.{Reach}
 use Rattle.codegen.specs.Fields.{root_reach, struct_reach, object_words}
-use Rattle.codegen.specs.Emit.{at_code, root_code, object_code, address_code, address_offset, load_at, store_at, make_words, divides}
+use Rattle.codegen.specs.Emit.{at_code, root_code, object_code, address_code, address_offset}
+use Rattle.codegen.specs.Emit.{load_at, store_at, make_words, divides}
 use Rattle.pm_alloc.specs.Pieces.{pointer_check, fill_code, new_head, new_code}
 use Rattle.pm_alloc.proofs.Runs.{run_on}
 use Rattle.emit_law.specs.Moments.{Stage, On, Over, go}

@@ -1,5 +1,8 @@
 -- Flushes and fences come only at the end.
-use Rattle.std.proofs.Common.{◌≡◌, ℕ, zero, suc, ◌+◌, ◌-◌, ◌/◌, ◌==◌, if◌then◌else◌, nat_eq, Bool, true, false, List, [], ◌∷◌, ◌++◌, length, take, drop, slice_get, get_or, Option, Some, None, ℤ, pos, ltb, refl, sym, ap, ◌∙◌, subst, arith}
+use Rattle.std.proofs.Common.{◌≡◌, ℕ, zero, suc, ◌+◌, ◌-◌, ◌/◌, ◌==◌, if◌then◌else◌, nat_eq, Bool}
+use Rattle.std.proofs.Common.{true, false, List, [], ◌∷◌, ◌++◌, length, take, drop, slice_get}
+use Rattle.std.proofs.Common.{get_or, Option, Some, None, ℤ, pos, ltb, refl, sym, ap, ◌∙◌, subst}
+use Rattle.std.proofs.Common.{arith}
 use Rattle.std.specs.List.{AllByRecursion}
 use Rattle.std.specs.Ordering.{int_eq}
 use Rattle.std.proofs.lemmas.Option.{slice_get-get_or}
@@ -8,7 +11,8 @@ use Rattle.cache_model.specs.Cache.{Words}
 use Rattle.pool_map.specs.declared.trap.TrapKind.{TrapKind}
 use Rattle.pool_map.specs.declared.trap.TrapKind.TheVariants as trap
 use Rattle.pm_machine.specs.declared.effect.Effect.{Effect}
-use Rattle.pm_machine.specs.declared.effect.Effect.TheVariants.{Loads, Scans, Stores, Logs, Flushes, Fences, Quiet}
+use Rattle.pm_machine.specs.declared.effect.Effect.TheVariants.{Loads, Scans, Stores, Logs, Flushes}
+use Rattle.pm_machine.specs.declared.effect.Effect.TheVariants.{Fences, Quiet}
 use Rattle.pm_machine.specs.declared.effect.End.{End}
 use Rattle.pm_machine.specs.declared.effect.End.TheVariants.{Halted, Trapped}
 use Rattle.pm_machine.specs.declared.frame.Frame.{Frame}
@@ -16,10 +20,14 @@ use Rattle.pm_machine.specs.declared.image.Image.{Image}
 use Rattle.pm_machine.specs.declared.op.Op.{Op}
 use Rattle.pm_machine.specs.declared.op.Op.TheVariants as op
 use Rattle.pm_machine.specs.Effects.{heap_past, records_past}
-use Rattle.pm_machine.specs.Machine.{State, StepOutcome, Goes, Ends, Run, Finished, began, follow, run, execute, tally, fetch, fetch_in, target, read_register, load, store, log, flush, call, return, passed, moved_to, tick_spent, entered, frame_at}
+use Rattle.pm_machine.specs.Machine.{State, StepOutcome, Goes, Ends, Run, Finished, began, follow}
+use Rattle.pm_machine.specs.Machine.{run, execute, tally, fetch, fetch_in, target, read_register}
+use Rattle.pm_machine.specs.Machine.{load, store, log, flush, call, return, passed, moved_to}
+use Rattle.pm_machine.specs.Machine.{tick_spent, entered, frame_at}
 use Rattle.pm_machine.proofs.Fuel.{began_rest}
 use Rattle.run_law.specs.Sound.{IsTidy, IsStill, IsFlushed, IsTidyEnd}
-use Rattle.emit_law.specs.Tidy.{IsPlain, IsPlainAt, MayPrecede, LeadsPlain, IsTidyCode, IsReturnless, bottom, OpenFramesTidy, TidyLaw}
+use Rattle.emit_law.specs.Tidy.{IsPlain, IsPlainAt, MayPrecede, LeadsPlain, IsTidyCode}
+use Rattle.emit_law.specs.Tidy.{IsReturnless, bottom, OpenFramesTidy, TidyLaw}
 
 bottom_push : (bs : List Frame) (x : Frame) (f g : ℕ) → x.function ≡ g
     → bottom (bs ++ x ∷ []) f ≡ bottom bs g

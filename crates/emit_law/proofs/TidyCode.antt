@@ -1,6 +1,8 @@
 -- Emitted code is tidy: a FENCE comes only after a FLUSH, a HALT only after a FENCE, and no jump
 -- leads to either.
-use Rattle.std.proofs.Common.{◌≡◌, ℕ, zero, suc, ◌+◌, ◌-◌, ◌<◌, ◌≤◌, ◌^◌, Bool, true, false, List, [], ◌∷◌, ◌++◌, length, map, slice_get, Option, Some, None, refl, sym, ap, ◌∙◌, subst, arith, length-append, append_assoc}
+use Rattle.std.proofs.Common.{◌≡◌, ℕ, zero, suc, ◌+◌, ◌-◌, ◌<◌, ◌≤◌, ◌^◌, Bool, true, false, List}
+use Rattle.std.proofs.Common.{[], ◌∷◌, ◌++◌, length, map, slice_get, Option, Some, None, refl, sym}
+use Rattle.std.proofs.Common.{ap, ◌∙◌, subst, arith, length-append, append_assoc}
 use Rattle.std.specs.Prelude.{if◌then◌else◌, nat_lt, nat_le, slice_index_or}
 use Rattle.std.specs.List.{list_all, AllByRecursion}
 use Rattle.std.proofs.lemmas.Bool.{leb-true, ltb-true, and_parts}
@@ -15,10 +17,13 @@ use Rattle.pm_machine.specs.declared.op.Op.{Op}
 use Rattle.pm_machine.specs.declared.op.Op.TheVariants as op
 use Rattle.pm_machine.specs.declared.op.Function.{Function}
 use Rattle.pm_alloc.specs.declared.local.Local.{Local}
-use Rattle.pm_alloc.specs.declared.local.Local.TheVariants.{Const, Mov, Bin, Jmp, Jz, Load, Store, Find, Log, Tick, Trap}
+use Rattle.pm_alloc.specs.declared.local.Local.TheVariants.{Const, Mov, Bin, Jmp, Jz, Load, Store}
+use Rattle.pm_alloc.specs.declared.local.Local.TheVariants.{Find, Log, Tick, Trap}
 use Rattle.pm_alloc.specs.Placing.{sum, placed}
 use Rattle.codegen.specs.Names.{is_below}
-use Rattle.codegen.specs.Emit.{local_code, control, return_code, piece_width, is_log, instruction_places, place_in, instruction_code, code_from, emitted_code, has_room, trap_function, with_code, function_of, known}
+use Rattle.codegen.specs.Emit.{local_code, control, return_code, piece_width, is_log}
+use Rattle.codegen.specs.Emit.{instruction_places, place_in, instruction_code, code_from}
+use Rattle.codegen.specs.Emit.{emitted_code, has_room, trap_function, with_code, function_of, known}
 use Rattle.codegen.proofs.Fine.{reg_fine, fine, local_fine}
 use Rattle.emit_law.specs.Tidy.{IsPlain, IsPlainAt, MayPrecede, LeadsPlain, IsTidyCode}
 use Rattle.emit_law.specs.TidyCode.{EmitsTidy}

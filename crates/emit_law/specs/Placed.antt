@@ -1,11 +1,13 @@
 -- A piece of code in its place: it is in a function from place p on, its jumps moved by p and its
 -- temporary registers from base on, and the machine runs it there as it runs alone.
-use Rattle.std.specs.Prelude.{ℕ, ◌+◌, ◌<◌, ◌≤◌, ◌^◌, ◌≡◌, List, [], ◌∷◌, length, Some, ℤ, pos, get_or, slice_get}
+use Rattle.std.specs.Prelude.{ℕ, ◌+◌, ◌<◌, ◌≤◌, ◌^◌, ◌≡◌, List, [], ◌∷◌, length, Some, ℤ, pos}
+use Rattle.std.specs.Prelude.{get_or, slice_get}
 use Rattle.std.specs.List.{AllByRecursion}
 use Rattle.cache_model.specs.Cache.{Words}
 use Rattle.pool_map.specs.Trap.{trap_of}
 use Rattle.pm_machine.specs.declared.effect.Effect.{Effect}
-use Rattle.pm_machine.specs.declared.effect.Effect.TheVariants.{Loads, Scans, Stores, Logs, Flushes, Fences, Quiet}
+use Rattle.pm_machine.specs.declared.effect.Effect.TheVariants.{Loads, Scans, Stores, Logs, Flushes}
+use Rattle.pm_machine.specs.declared.effect.Effect.TheVariants.{Fences, Quiet}
 use Rattle.pm_machine.specs.declared.effect.End.TheVariants.{Trapped}
 use Rattle.pm_machine.specs.declared.frame.Frame.{Frame}
 use Rattle.pm_machine.specs.declared.image.Image.{Image}
@@ -13,7 +15,8 @@ use Rattle.pm_machine.specs.Machine.{fetch_in, trap_at}
 use Rattle.pm_alloc.specs.declared.local.Reg.{Reg}
 use Rattle.pm_alloc.specs.declared.local.Reg.TheVariants.{Own, Temp}
 use Rattle.pm_alloc.specs.declared.local.Local.{Local}
-use Rattle.pm_alloc.specs.declared.local.Local.TheVariants.{Const, Mov, Bin, Jmp, Jz, Load, Store, Find, Log, Tick, Trap}
+use Rattle.pm_alloc.specs.declared.local.Local.TheVariants.{Const, Mov, Bin, Jmp, Jz, Load, Store}
+use Rattle.pm_alloc.specs.declared.local.Local.TheVariants.{Find, Log, Tick, Trap}
 use Rattle.pm_alloc.specs.Placing.{placed}
 use Rattle.pm_alloc.specs.Runs.{Next, Goes, Traps, Off, local_run}
 use Rattle.pm_alloc.specs.LocalRun.{World, Loc, local_step}

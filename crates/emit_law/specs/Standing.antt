@@ -1,6 +1,7 @@
 -- The place of an instruction of intermediate code: its piece is in its function, at the place
 -- given by the table of places.
-use Rattle.std.specs.Prelude.{ℕ, zero, suc, ◌<◌, ◌^◌, ◌≡◌, Bool, true, false, List, [], ◌∷◌, length, Some, slice_get}
+use Rattle.std.specs.Prelude.{ℕ, zero, suc, ◌<◌, ◌^◌, ◌≡◌, Bool, true, false, List, [], ◌∷◌, length}
+use Rattle.std.specs.Prelude.{Some, slice_get}
 use Rattle.pool_map.specs.declared.shapes.Shapes.{Shapes}
 use Rattle.pool_layout.specs.declared.limits.Sizes.{Sizes}
 use Rattle.ir.specs.declared.instruction.Instruction.{Instruction}
@@ -8,7 +9,8 @@ use Rattle.ir.specs.declared.instruction.Instruction.TheVariants as ir
 use Rattle.ir.specs.declared.function.IrFunction.{IrFunction}
 use Rattle.ir.specs.declared.function.Ir.{Ir}
 use Rattle.pm_machine.specs.declared.image.Image.{Image}
-use Rattle.codegen.specs.Emit.{local_code, is_log, instruction_places, place_in, emitted_code, has_room, functions_of, known}
+use Rattle.codegen.specs.Emit.{local_code, is_log, instruction_places, place_in, emitted_code}
+use Rattle.codegen.specs.Emit.{has_room, functions_of, known}
 use Rattle.emit_law.specs.Placed.{IsPlaced}
 
 -- whether a log comes right before instruction q; b: whether one comes before the first

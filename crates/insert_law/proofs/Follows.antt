@@ -1,7 +1,9 @@
 -- A run of code with its logs follows the run of the code: for each step of the code it takes one
 -- too, after the log if there is one.
 use mathlib.Core.Logic.{◌⊎◌}
-use Rattle.std.proofs.Common.{◌≡◌, ℕ, zero, suc, ◌+◌, ◌*◌, ◌-◌, ◌≤◌, ℤ, pos, Bool, true, false, List, [], ◌∷◌, ◌++◌, length, map, Option, Some, None, refl, sym, ap, ◌∙◌, subst, arith, inl, inr}
+use Rattle.std.proofs.Common.{◌≡◌, ℕ, zero, suc, ◌+◌, ◌*◌, ◌-◌, ◌≤◌, ℤ, pos, Bool, true, false}
+use Rattle.std.proofs.Common.{List, [], ◌∷◌, ◌++◌, length, map, Option, Some, None, refl, sym, ap}
+use Rattle.std.proofs.Common.{◌∙◌, subst, arith, inl, inr}
 use Rattle.std.specs.Prelude.{slice_get, nat_lt, if◌then◌else◌, option_map, Result, Ok, Err}
 use Rattle.std.proofs.lemmas.Bool.{false≢true}
 use Rattle.pool_map.specs.declared.trap.TrapKind.{TrapKind}
@@ -11,15 +13,24 @@ use Rattle.ir.specs.declared.site.Site.{Site}
 use Rattle.pool_map.specs.PoolFits.{words_of}
 use Rattle.ir.specs.declared.instruction.Target.{Target}
 use Rattle.ir.specs.declared.instruction.Instruction.{Instruction}
-use Rattle.ir.specs.declared.instruction.Instruction.TheVariants.{Const, Copy, Bin, Jump, Branch, Load, Store, New, Free, Call, Return, Tick, Trap, Log}
+use Rattle.ir.specs.declared.instruction.Instruction.TheVariants.{Const, Copy, Bin, Jump, Branch}
+use Rattle.ir.specs.declared.instruction.Instruction.TheVariants.{Load, Store, New, Free, Call}
+use Rattle.ir.specs.declared.instruction.Instruction.TheVariants.{Return, Tick, Trap, Log}
 use Rattle.ir.specs.declared.function.IrFunction.{IrFunction}
 use Rattle.ir.specs.declared.function.Ir.{Ir}
 use Rattle.ir.specs.Places.{instruction_at}
 use Rattle.ir.specs.WellFormed.{IsWellFormed}
 use Rattle.clobber_pass.specs.declared.marking.MarkTable.{MarkTable}
-use Rattle.instrument.specs.Insert.{logs, is_log, place_in, places_from, led, flagged, flags_from, logged_function, logged_program}
-use Rattle.code_meaning.specs.Code.{Frame, frame, CodeState, Here, CodeEnd, Ended, Trapped, Unfinished, Stuck, Move, Goes, Ends, InSlot, register_at, put_register, base_in, index_in, spot_of, slot_of, fields_of, with_word, with_ok, word_of, is_zero, takes_tick, gives, opens, open_limit, act, instruction_step, go_on, exec, code_start, free_in, new_in, load_spot, store_spot, IsOver}
-use Rattle.code_meaning.specs.Deeds.{Deed, Writes, Heads, if_ok, zeros, site, deeds_new, deeds_at, deeds_of, deeds_on, deeds}
+use Rattle.instrument.specs.Insert.{logs, is_log, place_in, places_from, led, flagged, flags_from}
+use Rattle.instrument.specs.Insert.{logged_function, logged_program}
+use Rattle.code_meaning.specs.Code.{Frame, frame, CodeState, Here, CodeEnd, Ended, Trapped}
+use Rattle.code_meaning.specs.Code.{Unfinished, Stuck, Move, Goes, Ends, InSlot, register_at}
+use Rattle.code_meaning.specs.Code.{put_register, base_in, index_in, spot_of, slot_of, fields_of}
+use Rattle.code_meaning.specs.Code.{with_word, with_ok, word_of, is_zero, takes_tick, gives, opens}
+use Rattle.code_meaning.specs.Code.{open_limit, act, instruction_step, go_on, exec, code_start}
+use Rattle.code_meaning.specs.Code.{free_in, new_in, load_spot, store_spot, IsOver}
+use Rattle.code_meaning.specs.Deeds.{Deed, Writes, Heads, if_ok, zeros, site, deeds_new, deeds_at}
+use Rattle.code_meaning.specs.Deeds.{deeds_of, deeds_on, deeds}
 use Rattle.code_meaning.proofs.More.{end, done}
 use Rattle.insert_law.specs.Moved.{code_in, begins, stands, moved_site, moved_deed, moved_deeds}
 use Rattle.insert_law.specs.inside.Moved.{moved_frames, moved_state, move_moved}

@@ -1,17 +1,22 @@
 -- The origins of the instructions of code with its logs.
-use Rattle.std.proofs.Common.{◌≡◌, ℕ, zero, suc, ◌+◌, Bool, true, false, List, [], ◌∷◌, ◌++◌, Option, Some, None, refl, sym, ap, ◌∙◌, subst, inl, inr, ⊎_elim, arith}
+use Rattle.std.proofs.Common.{◌≡◌, ℕ, zero, suc, ◌+◌, Bool, true, false, List, [], ◌∷◌, ◌++◌}
+use Rattle.std.proofs.Common.{Option, Some, None, refl, sym, ap, ◌∙◌, subst, inl, inr, ⊎_elim}
+use Rattle.std.proofs.Common.{arith}
 use mathlib.Core.Logic.{◌⊎◌}
 use Rattle.std.specs.Prelude.{if◌then◌else◌, slice_get, option_and_then, option_map}
 use Rattle.ir.specs.declared.instruction.Target.{Target}
 use Rattle.ir.specs.declared.instruction.Instruction.{Instruction}
-use Rattle.ir.specs.declared.instruction.Instruction.TheVariants.{Const, Copy, Bin, Jump, Branch, Load, Store, New, Free, Call, Return, Tick, Trap, Log}
+use Rattle.ir.specs.declared.instruction.Instruction.TheVariants.{Const, Copy, Bin, Jump, Branch}
+use Rattle.ir.specs.declared.instruction.Instruction.TheVariants.{Load, Store, New, Free, Call}
+use Rattle.ir.specs.declared.instruction.Instruction.TheVariants.{Return, Tick, Trap, Log}
 use Rattle.ir.specs.declared.function.IrFunction.{IrFunction}
 use Rattle.ir.specs.declared.function.Ir.{Ir}
 use Rattle.clobber_pass.specs.declared.marking.MarkTable.{MarkTable}
 use Rattle.ir.specs.Places.{instruction_at}
 use Rattle.clobber_pass.specs.Logged.{is_logged}
 use Rattle.code_meaning.specs.Deeds.{site}
-use Rattle.instrument.specs.Insert.{logs, is_log, own, flag_at, places_from, led, logged_from, flags_from, logged_function, logged_program}
+use Rattle.instrument.specs.Insert.{logs, is_log, own, flag_at, places_from, led, logged_from}
+use Rattle.instrument.specs.Insert.{flags_from, logged_function, logged_program}
 use Rattle.insert_law.specs.Law.{OriginLaw}
 use Rattle.insert_law.proofs.Standing.{function_at, code_is, flag_is}
 use Rattle.insert_law.proofs.Follows.{one_log}

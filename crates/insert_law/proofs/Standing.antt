@@ -1,18 +1,25 @@
 -- The places of each instruction and its log in code with its logs.
-use Rattle.std.proofs.Common.{◌≡◌, ℕ, zero, suc, ◌+◌, ◌^◌, ◌-◌, Bool, true, false, List, [], ◌∷◌, ◌++◌, length, Option, Some, None, refl, sym, ap, ◌∙◌, subst, arith, length-append, append_assoc}
+use Rattle.std.proofs.Common.{◌≡◌, ℕ, zero, suc, ◌+◌, ◌^◌, ◌-◌, Bool, true, false, List, [], ◌∷◌}
+use Rattle.std.proofs.Common.{◌++◌, length, Option, Some, None, refl, sym, ap, ◌∙◌, subst, arith}
+use Rattle.std.proofs.Common.{length-append, append_assoc}
 use Rattle.std.specs.Option.{option_map_or}
-use Rattle.std.specs.Prelude.{slice_get, slice_index_or, nat_lt, if◌then◌else◌, option_map, option_and_then}
+use Rattle.std.specs.Prelude.{slice_get, slice_index_or, nat_lt, if◌then◌else◌, option_map}
+use Rattle.std.specs.Prelude.{option_and_then}
 use Rattle.std.proofs.lemmas.Bool.{false≢true, lt-ltb}
 use Rattle.ir.specs.declared.instruction.Target.{Target}
 use Rattle.ir.specs.declared.instruction.Instruction.{Instruction}
-use Rattle.ir.specs.declared.instruction.Instruction.TheVariants.{Const, Copy, Bin, Jump, Branch, Load, Store, New, Free, Call, Return, Tick, Trap, Log}
+use Rattle.ir.specs.declared.instruction.Instruction.TheVariants.{Const, Copy, Bin, Jump, Branch}
+use Rattle.ir.specs.declared.instruction.Instruction.TheVariants.{Load, Store, New, Free, Call}
+use Rattle.ir.specs.declared.instruction.Instruction.TheVariants.{Return, Tick, Trap, Log}
 use Rattle.ir.specs.declared.function.IrFunction.{IrFunction}
 use Rattle.ir.specs.declared.function.Ir.{Ir}
 use Rattle.ir.specs.Places.{instruction_at}
 use Rattle.ir.specs.WellFormed.{IsFunction, IsWellFormed}
 use Rattle.clobber_pass.specs.declared.marking.MarkTable.{MarkTable}
 use Rattle.clobber_pass.specs.Logged.{is_logged}
-use Rattle.instrument.specs.Insert.{logs, is_log, own, logged_width, flag_at, places_from, led, logged_from, flagged, flags_from, with_flags, logged_function, logged_functions, logged_program}
+use Rattle.instrument.specs.Insert.{logs, is_log, own, logged_width, flag_at, places_from, led}
+use Rattle.instrument.specs.Insert.{logged_from, flagged, flags_from, with_flags, logged_function}
+use Rattle.instrument.specs.Insert.{logged_functions, logged_program}
 use Rattle.code_meaning.proofs.Lists.{all_at}
 use Rattle.code_meaning.specs.Deeds.{site}
 use Rattle.instrument.proofs.LoggedCode.{own_length}

@@ -3,7 +3,8 @@
 //! function that does nothing.
 #![tactic(auto)]
 
-ghost use Rattle.insert_law.specs.Law.{MovedDeedsLaw, LoggedEndLaw, FillLaw, OriginLaw, LoggedStoreLaw};
+ghost use Rattle.insert_law.specs.Law.{MovedDeedsLaw, LoggedEndLaw, FillLaw, OriginLaw};
+ghost use Rattle.insert_law.specs.Law.{LoggedStoreLaw};
 
 /// Code with its logs has the same end, and the same loads and stores at the moved sites, in at
 /// most twice the steps; a store that the marks name comes right after a log of its target, and a

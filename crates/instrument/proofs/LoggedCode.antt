@@ -1,15 +1,22 @@
 -- Code with its logs is well formed if the code is, and is short.
-use Rattle.std.proofs.Common.{◌≡◌, ℕ, zero, suc, ◌+◌, ◌-◌, ◌*◌, ◌<◌, ◌≤◌, ◌^◌, Bool, true, false, List, [], ◌∷◌, ◌++◌, length, refl, sym, ap, subst, arith, length-append}
+use Rattle.std.proofs.Common.{◌≡◌, ℕ, zero, suc, ◌+◌, ◌-◌, ◌*◌, ◌<◌, ◌≤◌, ◌^◌, Bool, true, false}
+use Rattle.std.proofs.Common.{List, [], ◌∷◌, ◌++◌, length, refl, sym, ap, subst, arith}
+use Rattle.std.proofs.Common.{length-append}
 use Rattle.std.specs.Prelude.{slice_get, nat_lt, if◌then◌else◌, Result, Ok, Err, IfOk}
 use Rattle.std.specs.List.{AllByRecursion, slice_index_or}
 use Rattle.std.proofs.lemmas.Bool.{lt-ltb}
 use Rattle.ir.specs.declared.instruction.Instruction.{Instruction}
-use Rattle.ir.specs.declared.instruction.Instruction.TheVariants.{Const, Copy, Bin, Jump, Branch, Load, Store, New, Free, Call, Return, Tick, Trap, Log}
+use Rattle.ir.specs.declared.instruction.Instruction.TheVariants.{Const, Copy, Bin, Jump, Branch}
+use Rattle.ir.specs.declared.instruction.Instruction.TheVariants.{Load, Store, New, Free, Call}
+use Rattle.ir.specs.declared.instruction.Instruction.TheVariants.{Return, Tick, Trap, Log}
 use Rattle.ir.specs.declared.function.IrFunction.{IrFunction}
 use Rattle.ir.specs.declared.function.Ir.{Ir}
-use Rattle.ir.specs.WellFormed.{IsInstruction, StopsRun, EndsWell, IsFunction, IsWellFormed, TakesArgs}
+use Rattle.ir.specs.WellFormed.{IsInstruction, StopsRun, EndsWell, IsFunction, IsWellFormed}
+use Rattle.ir.specs.WellFormed.{TakesArgs}
 use Rattle.clobber_pass.specs.declared.marking.MarkTable.{MarkTable}
-use Rattle.instrument.specs.Insert.{logs, is_log, own, logged_width, flag_at, places_from, place_in, led, logged_from, flags_from, with_flags, logged_code, logged_function, logged_functions, logged_program}
+use Rattle.instrument.specs.Insert.{logs, is_log, own, logged_width, flag_at, places_from, place_in}
+use Rattle.instrument.specs.Insert.{led, logged_from, flags_from, with_flags, logged_code}
+use Rattle.instrument.specs.Insert.{logged_function, logged_functions, logged_program}
 use Rattle.ir.specs.Short.{IsShort}
 
 -- an instruction has at most one log

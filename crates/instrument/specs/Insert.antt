@@ -2,10 +2,13 @@
 -- means that its fill is logged. A jump or a branch that led to a store leads to its log. A log
 -- that was in the code before is left out, and what led to it leads to the next instruction. All
 -- else stays as it was.
-use Rattle.std.specs.Prelude.{ℕ, suc, ◌+◌, ◌^◌, ◌-◌, ◌++◌, Bool, true, false, List, [], ◌∷◌, if◌then◌else◌, nat_lt, length}
+use Rattle.std.specs.Prelude.{ℕ, suc, ◌+◌, ◌^◌, ◌-◌, ◌++◌, Bool, true, false, List, [], ◌∷◌}
+use Rattle.std.specs.Prelude.{if◌then◌else◌, nat_lt, length}
 use Rattle.std.specs.List.{slice_index_or}
 use Rattle.ir.specs.declared.instruction.Instruction.{Instruction}
-use Rattle.ir.specs.declared.instruction.Instruction.TheVariants.{Const, Copy, Bin, Jump, Branch, Load, Store, New, Free, Call, Return, Tick, Trap, Log}
+use Rattle.ir.specs.declared.instruction.Instruction.TheVariants.{Const, Copy, Bin, Jump, Branch}
+use Rattle.ir.specs.declared.instruction.Instruction.TheVariants.{Load, Store, New, Free, Call}
+use Rattle.ir.specs.declared.instruction.Instruction.TheVariants.{Return, Tick, Trap, Log}
 use Rattle.ir.specs.declared.function.IrFunction.{IrFunction}
 use Rattle.ir.specs.declared.function.Ir.{Ir}
 use Rattle.clobber_pass.specs.declared.marking.MarkTable.{MarkTable}

@@ -1,7 +1,8 @@
 //! Adding the logs to a program.
 
 ghost use Rattle.std.specs.Prelude.{◌≡◌, ◌++◌, ◌<◌, ◌^◌, length, IfOk, OnOk};
-ghost use Rattle.instrument.specs.Insert.{logs, led, own, logged_from, with_flags, logged_code, logged_function, logged_program};
+ghost use Rattle.instrument.specs.Insert.{logs, led, own, logged_from, with_flags, logged_code};
+ghost use Rattle.instrument.specs.Insert.{logged_function, logged_program};
 ghost use Rattle.ir.specs.Short.{IsShort};
 ghost use Rattle.ir.specs.WellFormed.{IsWellFormed};
 

@@ -1,7 +1,8 @@
 //! The places of a function's instructions after its logs are added.
 
 ghost use Rattle.std.specs.Prelude.{◌≡◌, ◌<◌, ◌≤◌, ◌+◌, ◌^◌, length, IfOk};
-ghost use Rattle.instrument.specs.Insert.{logged_width, flag_at, flagged, flags_from, places_from, place_in};
+ghost use Rattle.instrument.specs.Insert.{logged_width, flag_at, flagged, flags_from, places_from};
+ghost use Rattle.instrument.specs.Insert.{place_in};
 
 use clobber_pass::MarkTable;
 use ir::{Instruction, Site};

@@ -8,7 +8,8 @@ use Rattle.ir.specs.declared.fact.Fact.TheVariants.{Here}
 use Rattle.ir.specs.declared.fact.Back.{Back}
 use Rattle.ir.specs.declared.fact.Back.TheVariants.{FromReturn, Stays}
 use Rattle.ir.specs.Places.{instruction_at, IsTransaction, Leads, CallsAt, ReturnsAt}
-use Rattle.ir.specs.Walk.{Kept, at_start, facts_after, facts_at_entry, given_back, Open, WalkSpot, at, WalkStep, Walk}
+use Rattle.ir.specs.Walk.{Kept, at_start, facts_after, facts_at_entry, given_back, Open, WalkSpot}
+use Rattle.ir.specs.Walk.{at, WalkStep, Walk}
 use Rattle.ir.specs.Walk.WalkStep.{goes, enters, returns}
 use Rattle.ir.specs.Walk.Walk.{none, more}
 use Rattle.ir.specs.Table.{holds, AmongOrigins, origins, at_call, back}
@@ -16,7 +17,8 @@ use Rattle.ir.specs.Derived.{Passes, Flows}
 use Rattle.ir.specs.Derived.Passes.{starts, along, through, past}
 use Rattle.ir.specs.Derived.Flows.{first, called, on, across, beside}
 use Rattle.ir.specs.Clobber.{SomeWalk}
-use Rattle.ir.proofs.Tables.{holds-after, holds_any-origin, origin_of, holds-entered, held, holds-given_back}
+use Rattle.ir.proofs.Tables.{holds-after, holds_any-origin, origin_of, holds-entered, held}
+use Rattle.ir.proofs.Tables.{holds-given_back}
 
 module _ (functions : List IrFunction) where
   joined : {a b c : WalkSpot} → Walk functions a b → Walk functions b c → Walk functions a c

@@ -1,18 +1,22 @@
 -- What a walk keeps after a step, fact by fact.
-use Rattle.std.proofs.Common.{◌≡◌, ◌&&◌, ℕ, Bool, true, false, cond, List, Option, Some, None, refl, arith, inl, inr, ⊎_elim}
+use Rattle.std.proofs.Common.{◌≡◌, ◌&&◌, ℕ, Bool, true, false, cond, List, Option, Some, None, refl}
+use Rattle.std.proofs.Common.{arith, inl, inr, ⊎_elim}
 use Rattle.std.specs.Prelude.{◌==◌, not, slice_get, position}
 use Rattle.std.proofs.lemmas.Bool.{false≢true, or_cases}
 use Rattle.ir.specs.declared.instruction.Target.TheVariants.{Root, Field}
 use Rattle.ir.specs.declared.instruction.Instruction.{Instruction}
-use Rattle.ir.specs.declared.instruction.Instruction.TheVariants.{Const, Copy, Bin, Load, Store, New}
+use Rattle.ir.specs.declared.instruction.Instruction.TheVariants.{Const, Copy, Bin, Load, Store}
+use Rattle.ir.specs.declared.instruction.Instruction.TheVariants.{New}
 use Rattle.ir.specs.declared.fact.Fact.{Fact}
-use Rattle.ir.specs.declared.fact.Fact.TheVariants.{Here, Unwritten, RootUnwritten, ReadRoot, ReadField, Freed}
+use Rattle.ir.specs.declared.fact.Fact.TheVariants.{Here, Unwritten, RootUnwritten, ReadRoot}
+use Rattle.ir.specs.declared.fact.Fact.TheVariants.{ReadField, Freed}
 use Rattle.ir.specs.declared.fact.Origins.{Origins}
 use Rattle.ir.specs.declared.fact.Origins.TheVariants.{Nowhere, One, Two}
 use Rattle.ir.specs.declared.fact.Back.{Back}
 use Rattle.ir.specs.declared.fact.Back.TheVariants.{FromReturn, Stays}
 use Rattle.ir.specs.Walk.{Kept, facts_after, facts_passed, facts_at_entry, facts_taken, given_back}
-use Rattle.ir.specs.Table.{holds, AmongOrigins, origins, argument_fact, at_call, from_parameter, back}
+use Rattle.ir.specs.Table.{holds, AmongOrigins, origins, argument_fact, at_call, from_parameter}
+use Rattle.ir.specs.Table.{back}
 use Rattle.ir.specs.inside.Table.{holds_any}
 
 -- negation inside a conditional

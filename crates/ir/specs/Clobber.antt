@@ -7,7 +7,8 @@ use Rattle.ir.specs.declared.instruction.Target.TheVariants.{Root, Field}
 use Rattle.ir.specs.declared.instruction.Instruction.TheVariants.{Store, New, Free}
 use Rattle.ir.specs.declared.site.Site.{Site}
 use Rattle.ir.specs.declared.fact.Fact.{Fact}
-use Rattle.ir.specs.declared.fact.Fact.TheVariants.{Unwritten, RootUnwritten, ReadRoot, ReadField, Freed}
+use Rattle.ir.specs.declared.fact.Fact.TheVariants.{Unwritten, RootUnwritten, ReadRoot, ReadField}
+use Rattle.ir.specs.declared.fact.Fact.TheVariants.{Freed}
 use Rattle.ir.specs.Places.{instruction_at}
 use Rattle.ir.specs.Walk.{Kept, Open, at, Comes}
 use Rattle.ir.specs.Table.{holds}

@@ -2,7 +2,8 @@
 use Rattle.std.specs.Prelude.{◌≡◌, ◌==◌, ◌&&◌, not, ℕ, true, false, List, []}
 use Rattle.ir.specs.declared.function.IrFunction.{IrFunction}
 use Rattle.ir.specs.declared.fact.Fact.{Fact}
-use Rattle.ir.specs.declared.fact.Fact.TheVariants.{Here, Unwritten, RootUnwritten, ReadRoot, ReadField, Freed}
+use Rattle.ir.specs.declared.fact.Fact.TheVariants.{Here, Unwritten, RootUnwritten, ReadRoot}
+use Rattle.ir.specs.declared.fact.Fact.TheVariants.{ReadField, Freed}
 use Rattle.ir.specs.Walk.{Kept, at, Walk}
 use Rattle.ir.specs.Table.{holds}
 

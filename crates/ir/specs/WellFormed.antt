@@ -3,7 +3,8 @@
 -- function has parameters; a function has no more parameters than registers, isn't empty, and ends
 -- with a jump, a return or a trap; and there are fewer than 2^31 functions, and fewer than 2^31
 -- instructions in each.
-use Rattle.std.specs.Prelude.{ℕ, zero, suc, ◌≡◌, ◌^◌, ◌<◌, ◌≤◌, List, [], ◌∷◌, length, Option, Some, None, slice_get, option_and_then}
+use Rattle.std.specs.Prelude.{ℕ, zero, suc, ◌≡◌, ◌^◌, ◌<◌, ◌≤◌, List, [], ◌∷◌, length, Option, Some}
+use Rattle.std.specs.Prelude.{None, slice_get, option_and_then}
 use Rattle.std.specs.List.{AllByRecursion}
 use Rattle.pool_map.specs.declared.shapes.FieldShape.{FieldShape}
 use Rattle.pool_map.specs.declared.shapes.StructShape.{StructShape}
@@ -11,7 +12,9 @@ use Rattle.pool_map.specs.declared.shapes.Shapes.{Shapes}
 use Rattle.ir.specs.declared.instruction.Target.{Target}
 use Rattle.ir.specs.declared.instruction.Target.TheVariants.{Root, Field}
 use Rattle.ir.specs.declared.instruction.Instruction.{Instruction}
-use Rattle.ir.specs.declared.instruction.Instruction.TheVariants.{Const, Copy, Bin, Jump, Branch, Load, Store, New, Free, Call, Return, Tick, Trap, Log}
+use Rattle.ir.specs.declared.instruction.Instruction.TheVariants.{Const, Copy, Bin, Jump, Branch}
+use Rattle.ir.specs.declared.instruction.Instruction.TheVariants.{Load, Store, New, Free, Call}
+use Rattle.ir.specs.declared.instruction.Instruction.TheVariants.{Return, Tick, Trap, Log}
 use Rattle.ir.specs.declared.function.IrFunction.{IrFunction}
 use Rattle.ir.specs.declared.function.Ir.{Ir}
 

@@ -2,11 +2,11 @@
 use Rattle.std.proofs.Common.{◌≡◌, ℕ, ◌+◌, Bool, true, false, List, [], ◌∷◌, ◌++◌, refl, ap, ◌∙◌}
 use Rattle.std.specs.Prelude.{is_some, Option, None, Some, unwrap_or}
 use Rattle.std.specs.Option.{option_map_or}
-use Rattle.c_parser.specs.ExprTree as expr
-use Rattle.c_parser.specs.ExprTree.{ExprTree, Arguments, Ident}
-use Rattle.c_parser.specs.StmtTree as stmt
-use Rattle.c_parser.specs.StmtTree.{SimpleTree, FirstTree, InitialTree}
-use Rattle.c_parser.specs.ItemTree.{FunctionTree, ParameterTree}
+use Rattle.c_tree.specs.ExprTree as expr
+use Rattle.c_tree.specs.ExprTree.{ExprTree, Arguments, Ident}
+use Rattle.c_tree.specs.StmtTree as stmt
+use Rattle.c_tree.specs.StmtTree.{SimpleTree, FirstTree, InitialTree}
+use Rattle.c_tree.specs.ItemTree.{FunctionTree, ParameterTree}
 use Rattle.c_types.specs.declared.value_type.ValueType.{ValueType}
 use Rattle.c_types.specs.declared.value_type.ValueType.TheVariants.{Any}
 use Rattle.c_types.specs.declared.value_type.Kind.{Kind}
@@ -15,7 +15,10 @@ use Rattle.c_types.specs.declared.broken.Broken.{Broken}
 use Rattle.c_types.specs.declared.broken.Rule.TheVariants.{UnknownName}
 use Rattle.c_types.specs.Broken.{unless}
 use Rattle.c_types.specs.Tables.{Tables, function_named}
-use Rattle.c_types.specs.Expressions.{Scope, type_in, variable_type, or_else, type_of_kind, value_broken, kind_of, all_taken, broken_in, broken_in_all, call_type, call_broken, parameters_of, argument_count, arrow_kind}
+use Rattle.c_types.specs.Expressions.{Scope, type_in, variable_type, or_else, type_of_kind}
+use Rattle.c_types.specs.Expressions.{value_broken, kind_of, all_taken, broken_in, broken_in_all}
+use Rattle.c_types.specs.Expressions.{call_type, call_broken, parameters_of, argument_count}
+use Rattle.c_types.specs.Expressions.{arrow_kind}
 use Rattle.c_types.specs.Statements.{scope_declared, simple_broken, initial_broken}
 
 -- each name means the same

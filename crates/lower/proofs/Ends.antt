@@ -1,17 +1,19 @@
 -- Code doesn't end before it begins.
 use Rattle.std.proofs.Common.{ℕ, suc, ◌≤◌, arith}
 use Rattle.std.specs.Prelude.{Option, None, Some}
-use Rattle.c_parser.specs.declared.expr.UnaryOp.TheVariants as unary
-use Rattle.c_parser.specs.declared.stmt.AssignOp.TheVariants as assign
-use Rattle.c_parser.specs.ExprTree as expr
-use Rattle.c_parser.specs.ExprTree.{ExprTree, Arguments, Ident}
-use Rattle.c_parser.specs.StmtTree as stmt
-use Rattle.c_parser.specs.StmtTree.{StmtTree, Statements, SimpleTree, FirstTree, InitialTree}
+use Rattle.c_tree.specs.declared.expr.UnaryOp.TheVariants as unary
+use Rattle.c_tree.specs.declared.stmt.AssignOp.TheVariants as assign
+use Rattle.c_tree.specs.ExprTree as expr
+use Rattle.c_tree.specs.ExprTree.{ExprTree, Arguments, Ident}
+use Rattle.c_tree.specs.StmtTree as stmt
+use Rattle.c_tree.specs.StmtTree.{StmtTree, Statements, SimpleTree, FirstTree, InitialTree}
 use Rattle.lower.specs.declared.form.Form.{Form}
 use Rattle.lower.specs.declared.form.Form.TheVariants.{Both, Either, Direct, Exchanged}
 use Rattle.lower.specs.Forms.{form_of}
 use Rattle.lower.specs.Names.{variable_of}
-use Rattle.lower.specs.Lowers.{exp_end, target_end, arguments_end, form_end, or_end, set_end, update_end, simple_end, initial_end, first_end, third_end, stmt_end, statements_end}
+use Rattle.lower.specs.Lowers.{exp_end, target_end, arguments_end, form_end, or_end, set_end}
+use Rattle.lower.specs.Lowers.{update_end, simple_end, initial_end, first_end, third_end, stmt_end}
+use Rattle.lower.specs.Lowers.{statements_end}
 
 pub form_end_le : (f : Form) (right : ℕ → ℕ) (p : ℕ) → ((x : ℕ) → x ≤ right x)
     → p ≤ form_end f right p

@@ -1,25 +1,31 @@
 -- The code written for the parts of an expression, put together.
-use Rattle.std.proofs.Common.{◌≡◌, ℕ, ℤ, suc, ◌+◌, pos, negsuc, List, [], ◌∷◌, ◌++◌, length, refl, sym, ap, ◌∙◌, arith, append_assoc, length-append, length-set}
+use Rattle.std.proofs.Common.{◌≡◌, ℕ, ℤ, suc, ◌+◌, pos, negsuc, List, [], ◌∷◌, ◌++◌, length, refl}
+use Rattle.std.proofs.Common.{sym, ap, ◌∙◌, arith, append_assoc, length-append, length-set}
 use Rattle.std.specs.Prelude.{slice_set, false, None, Some}
 use Rattle.std.proofs.lemmas.List.{append-nil}
 use Rattle.std.proofs.Math.Seq.{set-append_seam}
 use Rattle.nvm_base.specs.declared.op.BinOp.{BinOp}
 use Rattle.nvm_base.specs.declared.op.BinOp.TheVariants as op
-use Rattle.c_parser.specs.declared.expr.UnaryOp.TheVariants as unary
-use Rattle.c_parser.specs.declared.expr.BinaryOp.{BinaryOp}
-use Rattle.c_parser.specs.ExprTree as expr
-use Rattle.c_parser.specs.ExprTree.{ExprTree, Arguments, Ident}
-use Rattle.c_parser.proofs.Trees.{expr_of-Call}
+use Rattle.c_tree.specs.declared.expr.UnaryOp.TheVariants as unary
+use Rattle.c_tree.specs.declared.expr.BinaryOp.{BinaryOp}
+use Rattle.c_tree.specs.ExprTree as expr
+use Rattle.c_tree.specs.ExprTree.{ExprTree, Arguments, Ident}
+use Rattle.c_tree.proofs.Trees.{expr_of-Call}
 use Rattle.c_types.specs.Expressions.{type_of}
 use Rattle.ir.specs.declared.instruction.Target.{Target}
 use Rattle.ir.specs.declared.instruction.Instruction.{Instruction}
-use Rattle.ir.specs.declared.instruction.Instruction.TheVariants.{Const, Bin, Jump, Branch, Load, New, Call, Tick}
+use Rattle.ir.specs.declared.instruction.Instruction.TheVariants.{Const, Bin, Jump, Branch, Load}
+use Rattle.ir.specs.declared.instruction.Instruction.TheVariants.{New, Call, Tick}
 use Rattle.lower.specs.declared.form.Form.TheVariants.{Both, Either, Direct, Exchanged}
 use Rattle.lower.specs.Forms.{form_of}
-use Rattle.c_parser.specs.Program.{source_line}
-use Rattle.lower.specs.Names.{Variables, register_of, kind_named, function_number, field_target, element_target}
-use Rattle.lower.specs.Lowers.{Context, exp_end, exp_code, reg_of, target_end, target_code, target_of, arguments_end, arguments_code, registers_of, truth_code, form_end, form_code}
-use Rattle.lower.specs.inside.Added.{Put, ExprAdded, TargetAdded, ReadAdded, ArgumentsAdded, OrAdded, RightAdded, FirstConstant}
+use Rattle.c_tree.specs.Program.{source_line}
+use Rattle.lower.specs.Names.{Variables, register_of, kind_named, function_number, field_target}
+use Rattle.lower.specs.Names.{element_target}
+use Rattle.lower.specs.Lowers.{Context, exp_end, exp_code, reg_of, target_end, target_code}
+use Rattle.lower.specs.Lowers.{target_of, arguments_end, arguments_code, registers_of, truth_code}
+use Rattle.lower.specs.Lowers.{form_end, form_code}
+use Rattle.lower.specs.inside.Added.{Put, ExprAdded, TargetAdded, ReadAdded, ArgumentsAdded}
+use Rattle.lower.specs.inside.Added.{OrAdded, RightAdded, FirstConstant}
 
 pub one_more : (c c1 : List Instruction) (i : Instruction) → c1 ≡ c ++ i ∷ []
     → length c1 ≡ suc (length c)

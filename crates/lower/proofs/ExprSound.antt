@@ -1,14 +1,16 @@
 -- The code of expressions that break no rule names only what exists.
-use Rattle.std.proofs.Common.{◌≡◌, ℕ, suc, ◌+◌, ◌≤◌, ◌<◌, Bool, true, false, List, [], ◌∷◌, ◌++◌, length, map, refl, sym, ap, subst, ◌∙◌, arith, rules}
-use Rattle.std.specs.Prelude.{nat_eq, ◌&&◌, ◌||◌, not, if◌then◌else◌, is_some, slice_get, Option, None, Some, option_map, option_and_then}
+use Rattle.std.proofs.Common.{◌≡◌, ℕ, suc, ◌+◌, ◌≤◌, ◌<◌, Bool, true, false, List, [], ◌∷◌, ◌++◌}
+use Rattle.std.proofs.Common.{length, map, refl, sym, ap, subst, ◌∙◌, arith, rules}
+use Rattle.std.specs.Prelude.{nat_eq, ◌&&◌, ◌||◌, not, if◌then◌else◌, is_some, slice_get, Option}
+use Rattle.std.specs.Prelude.{None, Some, option_map, option_and_then}
 use Rattle.std.specs.Option.{option_map_or}
 use Rattle.std.specs.Int.{w64, cast_unsigned}
 use Rattle.std.specs.List.{AllByRecursion}
 use Rattle.std.proofs.lemmas.Option.{slice_get-map, slice_get_within}
-use Rattle.c_parser.specs.declared.expr.UnaryOp.TheVariants as unary
-use Rattle.c_parser.specs.ExprTree as expr
-use Rattle.c_parser.specs.ExprTree.{ExprTree, Arguments, Ident}
-use Rattle.c_parser.specs.ItemTree.{FunctionTree, ParameterTree, FieldTree, LengthTree}
+use Rattle.c_tree.specs.declared.expr.UnaryOp.TheVariants as unary
+use Rattle.c_tree.specs.ExprTree as expr
+use Rattle.c_tree.specs.ExprTree.{ExprTree, Arguments, Ident}
+use Rattle.c_tree.specs.ItemTree.{FunctionTree, ParameterTree, FieldTree, LengthTree}
 use Rattle.pool_map.specs.declared.shapes.FieldShape.{FieldShape}
 use Rattle.pool_map.specs.declared.shapes.StructShape.{StructShape}
 use Rattle.pool_map.specs.declared.shapes.Shapes.{Shapes}
@@ -20,11 +22,16 @@ use Rattle.c_types.specs.declared.broken.Broken.{Broken}
 use Rattle.c_types.specs.declared.broken.Rule.TheVariants.{UnknownName, Twice, Mismatch}
 use Rattle.c_types.specs.Broken.{broken_at, unless}
 use Rattle.c_types.specs.Fits.{is_any, is_int, type_takes}
-use Rattle.c_types.specs.Tables.{Tables, StructTree, index_of, function_names, function_named, is_length, declared_type, field_names, is_first}
+use Rattle.c_types.specs.Tables.{Tables, StructTree, index_of, function_names, function_named}
+use Rattle.c_types.specs.Tables.{is_length, declared_type, field_names, is_first}
 use Rattle.c_types.specs.Statements.{type_broken}
 use Rattle.c_types.specs.Shapes.{field_shape, root_fields, shapes_in}
 use Rattle.c_types.specs.Declarations.{length_broken, field_broken}
-use Rattle.c_types.specs.Expressions.{Scope, variable_type, with_unindexed, value_broken, field_kind, member, member_kind, member_broken, root_kind, root_broken, arrow_kind, arrow_broken, is_indexed, call_broken, parameters_of, parameter_type, argument_count, kind_of, type_of, broken_in, broken_in_all}
+use Rattle.c_types.specs.Expressions.{Scope, variable_type, with_unindexed, value_broken}
+use Rattle.c_types.specs.Expressions.{field_kind, member, member_kind, member_broken, root_kind}
+use Rattle.c_types.specs.Expressions.{root_broken, arrow_kind, arrow_broken, is_indexed}
+use Rattle.c_types.specs.Expressions.{call_broken, parameters_of, parameter_type, argument_count}
+use Rattle.c_types.specs.Expressions.{kind_of, type_of, broken_in, broken_in_all}
 use Rattle.ir.specs.declared.instruction.Target.{Target}
 use Rattle.ir.specs.declared.instruction.Target.TheVariants.{Root, Field}
 use Rattle.ir.specs.declared.instruction.Instruction.{Instruction}
@@ -34,12 +41,18 @@ use Rattle.ir.specs.WellFormed.{IsIndexed, IsTarget, IsKind, TakesArgs, IsInstru
 use Rattle.lower.specs.declared.form.Form.{Form}
 use Rattle.lower.specs.declared.form.Form.TheVariants.{Both, Either, Direct, Exchanged}
 use Rattle.lower.specs.Forms.{form_of}
-use Rattle.lower.specs.Names.{Variables, variable_register, found_number, function_number, kind_named, struct_kind_at, field_number, root_target, field_target, element_target}
-use Rattle.lower.specs.Lowers.{Context, exp_end, exp_code, reg_of, target_end, target_code, target_of, arguments_end, arguments_code, registers_of, form_end, form_code, truth_code}
+use Rattle.lower.specs.Names.{Variables, variable_register, found_number, function_number}
+use Rattle.lower.specs.Names.{kind_named, struct_kind_at, field_number, root_target, field_target}
+use Rattle.lower.specs.Names.{element_target}
+use Rattle.lower.specs.Lowers.{Context, exp_end, exp_code, reg_of, target_end, target_code}
+use Rattle.lower.specs.Lowers.{target_of, arguments_end, arguments_code, registers_of, form_end}
+use Rattle.lower.specs.Lowers.{form_code, truth_code}
 use Rattle.lower.proofs.Few.{none_left, none_right, kept, and_left}
 use Rattle.lower.proofs.Ends.{exp_end_le, arguments_end_le, form_end_le}
 use Rattle.lower.proofs.Sane.{IsSane, IsFieldOf, IsKindOf, kind_of_struct}
-use Rattle.lower.proofs.GoodTypes.{IsGood, IsGoodKind, Agree, found, found_register, pointer_good, member_there, good_any, declared_good, value_good, indexed_array, callee, callee_arity, function_there, kind_good}
+use Rattle.lower.proofs.GoodTypes.{IsGood, IsGoodKind, Agree, found, found_register, pointer_good}
+use Rattle.lower.proofs.GoodTypes.{member_there, good_any, declared_good, value_good, indexed_array}
+use Rattle.lower.proofs.GoodTypes.{callee, callee_arity, function_there, kind_good}
 
 -- a function with r registers and n instructions, in a program of these tables
 pub record IsPlaced (k : Context) (ir : Ir) (r n : ℕ) : Type 0 where

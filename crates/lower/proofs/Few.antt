@@ -1,9 +1,10 @@
 -- A tree that breaks no rule has few parameters.
-use Rattle.std.proofs.Common.{◌≡◌, ℕ, ◌+◌, ◌≤◌, ◌<◌, Bool, true, false, List, [], ◌∷◌, ◌++◌, length, refl, arith, rules, ⊎_elim, ◌≢◌}
+use Rattle.std.proofs.Common.{◌≡◌, ℕ, ◌+◌, ◌≤◌, ◌<◌, Bool, true, false, List, [], ◌∷◌, ◌++◌, length}
+use Rattle.std.proofs.Common.{refl, arith, rules, ⊎_elim, ◌≢◌}
 use Rattle.std.specs.Prelude.{nat_lt, nat_le, nat_eq, ◌&&◌, not, is_some, slice_get}
 use Rattle.std.proofs.lemmas.Bool.Decides.{eqb_tells}
-use Rattle.c_parser.specs.ItemTree.{FunctionTree, ParameterTree}
-use Rattle.c_parser.specs.Program.{Program, tree_of}
+use Rattle.c_tree.specs.ItemTree.{FunctionTree, ParameterTree}
+use Rattle.c_tree.specs.Program.{Program, tree_of}
 use Rattle.c_types.specs.declared.broken.Rule.{Rule}
 use Rattle.c_types.specs.declared.broken.Rule.TheVariants.{Twice, TooBig, NoRoot}
 use Rattle.c_types.specs.declared.fault.LimitKind.TheVariants as limit
@@ -12,7 +13,9 @@ use Rattle.c_types.specs.Tables.{Tables, tables_of}
 use Rattle.c_types.specs.Expressions.{Scope}
 use Rattle.c_types.specs.Statements.{inner_scopes, type_broken, is_declared}
 use Rattle.c_types.specs.Fault.{breaks}
-use Rattle.c_types.specs.Declarations.{structs_broken, roots_broken, function_broken, body_broken, parameter_broken, parameters_broken, functions_broken, scopes_after_parameter}
+use Rattle.c_types.specs.Declarations.{structs_broken, roots_broken, function_broken, body_broken}
+use Rattle.c_types.specs.Declarations.{parameter_broken, parameters_broken, functions_broken}
+use Rattle.c_types.specs.Declarations.{scopes_after_parameter}
 use Rattle.lower.specs.inside.Program.{take_few}
 
 -- a list that is empty has no parts

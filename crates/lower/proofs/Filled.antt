@@ -1,24 +1,32 @@
 -- Code whose holes are filled later is the code written with known places.
-use Rattle.std.proofs.Common.{◌≡◌, ◌≢◌, ℕ, ℤ, pos, suc, ◌<◌, ◌≤◌, Bool, true, false, List, [], ◌∷◌, ◌++◌, map, length, refl, ap, arith, ⊎_elim}
+use Rattle.std.proofs.Common.{◌≡◌, ◌≢◌, ℕ, ℤ, pos, suc, ◌<◌, ◌≤◌, Bool, true, false, List, [], ◌∷◌}
+use Rattle.std.proofs.Common.{◌++◌, map, length, refl, ap, arith, ⊎_elim}
 use Rattle.std.specs.Prelude.{nat_eq, if◌then◌else◌, Option, None, Some}
 use Rattle.std.proofs.lemmas.List.{map-append}
 use Rattle.std.proofs.lemmas.Bool.Decides.{eqb_tells}
 use Rattle.nvm_base.specs.declared.op.BinOp.{BinOp}
 use Rattle.nvm_base.specs.declared.op.BinOp.TheVariants as op
-use Rattle.c_parser.specs.declared.expr.UnaryOp.TheVariants as unary
-use Rattle.c_parser.specs.declared.stmt.AssignOp.TheVariants as assign
-use Rattle.c_parser.specs.ExprTree as expr
-use Rattle.c_parser.specs.ExprTree.{ExprTree, Arguments, Ident}
-use Rattle.c_parser.specs.StmtTree as stmt
-use Rattle.c_parser.specs.StmtTree.{StmtTree, Statements, SimpleTree, FirstTree, InitialTree}
+use Rattle.c_tree.specs.declared.expr.UnaryOp.TheVariants as unary
+use Rattle.c_tree.specs.declared.stmt.AssignOp.TheVariants as assign
+use Rattle.c_tree.specs.ExprTree as expr
+use Rattle.c_tree.specs.ExprTree.{ExprTree, Arguments, Ident}
+use Rattle.c_tree.specs.StmtTree as stmt
+use Rattle.c_tree.specs.StmtTree.{StmtTree, Statements, SimpleTree, FirstTree, InitialTree}
 use Rattle.ir.specs.declared.instruction.Instruction.{Instruction}
 use Rattle.lower.specs.declared.form.Form.{Form}
 use Rattle.lower.specs.declared.form.Form.TheVariants.{Both, Either, Direct, Exchanged}
 use Rattle.lower.specs.Forms.{form_of}
 use Rattle.lower.specs.Names.{Variables, inner_variables, variable_of}
 use Rattle.lower.specs.inside.Holes.{to_place, hole_filled, fill_from}
-use Rattle.lower.specs.Lowers.{Context, exp_end, exp_code, reg_of, target_end, target_code, arguments_end, arguments_code, form_end, form_code, or_end, or_code, set_end, set_code, update_end, update_code, step_operation, simple_end, simple_code, initial_end, initial_code, first_end, first_code, third_end, third_code, variables_after, variables_after_first, stmt_end, stmt_code, statements_end, statements_code}
-use Rattle.lower.proofs.Ends.{form_end_le, exp_end_le, arguments_end_le, or_end_le, third_end_le, stmt_end_le, statements_end_le}
+use Rattle.lower.specs.Lowers.{Context, exp_end, exp_code, reg_of, target_end, target_code}
+use Rattle.lower.specs.Lowers.{arguments_end, arguments_code, form_end, form_code, or_end, or_code}
+use Rattle.lower.specs.Lowers.{set_end, set_code, update_end, update_code, step_operation}
+use Rattle.lower.specs.Lowers.{simple_end, simple_code, initial_end, initial_code, first_end}
+use Rattle.lower.specs.Lowers.{first_code, third_end, third_code, variables_after}
+use Rattle.lower.specs.Lowers.{variables_after_first, stmt_end, stmt_code, statements_end}
+use Rattle.lower.specs.Lowers.{statements_code}
+use Rattle.lower.proofs.Ends.{form_end_le, exp_end_le, arguments_end_le, or_end_le, third_end_le}
+use Rattle.lower.proofs.Ends.{stmt_end_le, statements_end_le}
 
 pub to_place_same : (h place q : ℕ) → q < h → to_place h place q ≡ q
 to_place_same h place q lt =

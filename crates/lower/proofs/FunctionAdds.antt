@@ -1,9 +1,10 @@
 -- The code written for a function, put together.
-use Rattle.std.proofs.Common.{◌≡◌, ℕ, suc, ◌<◌, ◌≤◌, ◌^◌, pos, Bool, true, false, List, [], ◌∷◌, ◌++◌, length, map, refl, ap, ◌∙◌, arith, append_assoc}
+use Rattle.std.proofs.Common.{◌≡◌, ℕ, suc, ◌<◌, ◌≤◌, ◌^◌, pos, Bool, true, false, List, [], ◌∷◌}
+use Rattle.std.proofs.Common.{◌++◌, length, map, refl, ap, ◌∙◌, arith, append_assoc}
 use Rattle.std.specs.Prelude.{if◌then◌else◌}
 use Rattle.std.proofs.lemmas.List.{map-append}
-use Rattle.c_parser.specs.StmtTree.{Statements}
-use Rattle.c_parser.specs.ItemTree.{FunctionTree, ParameterTree}
+use Rattle.c_tree.specs.StmtTree.{Statements}
+use Rattle.c_tree.specs.ItemTree.{FunctionTree, ParameterTree}
 use Rattle.c_types.specs.Tables.{declared_type}
 use Rattle.ir.specs.declared.instruction.Instruction.{Instruction}
 use Rattle.ir.specs.declared.instruction.Instruction.TheVariants.{Const, Copy, Return}
@@ -11,7 +12,8 @@ use Rattle.lower.specs.Names.{Variables, variable_declared}
 use Rattle.lower.specs.Assigned.{is_assigned}
 use Rattle.lower.specs.inside.Holes.{leave, hole_filled, fill_from}
 use Rattle.lower.specs.Lowers.{Context, statements_end, statements_code}
-use Rattle.lower.specs.Program.{parameters_end, parameters_code, variables_after_parameters, no_variables, function_code}
+use Rattle.lower.specs.Program.{parameters_end, parameters_code, variables_after_parameters}
+use Rattle.lower.specs.Program.{no_variables, function_code}
 use Rattle.lower.specs.inside.Program.{function_end}
 use Rattle.lower.specs.inside.Added.{Put, StatementsAdded, ParameterAdded, ParametersAdded}
 use Rattle.lower.proofs.ExprAdds.{put_long, one_more, seam}

@@ -1,27 +1,39 @@
 -- The types of expressions that break no rule: none is any, and pointers lead to numbered structs.
-use Rattle.std.proofs.Common.{◌≡◌, ℕ, suc, ◌+◌, ◌<◌, Bool, true, false, List, [], ◌∷◌, ◌++◌, length, refl, sym, ap, ◌∙◌}
-use Rattle.std.specs.Prelude.{nat_le, nat_eq, ◌&&◌, ◌||◌, not, if◌then◌else◌, is_some, slice_get, Option, None, Some, option_map, option_and_then, unwrap_or, bytes_eq}
+use Rattle.std.proofs.Common.{◌≡◌, ℕ, suc, ◌+◌, ◌<◌, Bool, true, false, List, [], ◌∷◌, ◌++◌, length}
+use Rattle.std.proofs.Common.{refl, sym, ap, ◌∙◌}
+use Rattle.std.specs.Prelude.{nat_le, nat_eq, ◌&&◌, ◌||◌, not, if◌then◌else◌, is_some, slice_get}
+use Rattle.std.specs.Prelude.{Option, None, Some, option_map, option_and_then, unwrap_or, bytes_eq}
 use Rattle.std.specs.Option.{option_map_or}
-use Rattle.c_parser.specs.ExprTree as expr
-use Rattle.c_parser.specs.ExprTree.{ExprTree, Arguments, Ident}
-use Rattle.c_parser.specs.StmtTree as stmt
-use Rattle.c_parser.specs.StmtTree.{TypeTree}
-use Rattle.c_parser.specs.ItemTree.{FunctionTree, ParameterTree, FieldTree, LengthTree}
+use Rattle.c_tree.specs.ExprTree as expr
+use Rattle.c_tree.specs.ExprTree.{ExprTree, Arguments, Ident}
+use Rattle.c_tree.specs.StmtTree as stmt
+use Rattle.c_tree.specs.StmtTree.{TypeTree}
+use Rattle.c_tree.specs.ItemTree.{FunctionTree, ParameterTree, FieldTree, LengthTree}
 use Rattle.c_types.specs.declared.value_type.ValueType.{ValueType}
 use Rattle.c_types.specs.declared.value_type.ValueType.TheVariants.{Int, Pointer, Null, Any}
 use Rattle.c_types.specs.declared.value_type.Kind.{Kind}
 use Rattle.c_types.specs.declared.value_type.Kind.TheVariants.{Value, Array}
 use Rattle.c_types.specs.declared.broken.Broken.{Broken}
-use Rattle.c_types.specs.declared.broken.Rule.TheVariants.{UnknownName, Mismatch, Arity, TooBig, BadTx}
+use Rattle.c_types.specs.declared.broken.Rule.TheVariants.{UnknownName, Mismatch, Arity, TooBig}
+use Rattle.c_types.specs.declared.broken.Rule.TheVariants.{BadTx}
 use Rattle.c_types.specs.declared.fault.LimitKind.TheVariants as limit
 use Rattle.c_types.specs.Broken.{broken_at, unless}
 use Rattle.c_types.specs.Fits.{is_any, is_int, type_takes, joins_types, applies}
-use Rattle.c_types.specs.Tables.{Tables, StructTree, index_of, struct_named, function_named, field_named, root_struct, is_length, words_of_struct, words_at, pointer_type, declared_type, field_names, function_names, is_first}
+use Rattle.c_types.specs.Tables.{Tables, StructTree, index_of, struct_named, function_named}
+use Rattle.c_types.specs.Tables.{field_named, root_struct, is_length, words_of_struct, words_at}
+use Rattle.c_types.specs.Tables.{pointer_type, declared_type, field_names, function_names, is_first}
 use Rattle.c_types.specs.Statements.{type_broken}
 use Rattle.c_types.specs.Declarations.{length_broken, field_broken}
-use Rattle.c_types.specs.Expressions.{Scope, or_else, type_in, variable_type, type_of_kind, with_unindexed, field_kind, member, member_kind, member_broken, arrow_kind, arrow_broken, is_indexed, element_of, type_if, pointer_broken, may_call, callee_broken, call_broken, call_type, parameters_of, parameter_type, argument_count, kind_of, all_taken, type_of, broken_in, broken_in_all}
+use Rattle.c_types.specs.Expressions.{Scope, or_else, type_in, variable_type, type_of_kind}
+use Rattle.c_types.specs.Expressions.{with_unindexed, field_kind, member, member_kind}
+use Rattle.c_types.specs.Expressions.{member_broken, arrow_kind, arrow_broken, is_indexed}
+use Rattle.c_types.specs.Expressions.{element_of, type_if, pointer_broken, may_call, callee_broken}
+use Rattle.c_types.specs.Expressions.{call_broken, call_type, parameters_of, parameter_type}
+use Rattle.c_types.specs.Expressions.{argument_count, kind_of, all_taken, type_of, broken_in}
+use Rattle.c_types.specs.Expressions.{broken_in_all}
 use Rattle.lower.specs.Names as names
-use Rattle.lower.specs.Names.{Variables, LocalRegister, register_in, variable_register, register_of, nowhere, with_local, with_name}
+use Rattle.lower.specs.Names.{Variables, LocalRegister, register_in, variable_register, register_of}
+use Rattle.lower.specs.Names.{nowhere, with_local, with_name}
 use Rattle.lower.proofs.Few.{none_left, none_right, kept, and_left}
 use Rattle.lower.proofs.Sane.{IsSane, IsFieldOf, index_of_in, field_of_struct, some_of}
 

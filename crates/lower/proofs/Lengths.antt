@@ -1,8 +1,8 @@
 -- The code of a program is short, since its length was counted function by function.
 use Rattle.std.proofs.Common.{◌≡◌, ◌<◌, ◌≤◌, ◌^◌, List, [], ◌∷◌, length, map, sym, subst, arith}
 use Rattle.std.specs.List.{AllByRecursion}
-use Rattle.c_parser.specs.ItemTree.{FunctionTree}
-use Rattle.c_parser.specs.Program.{Program}
+use Rattle.c_tree.specs.ItemTree.{FunctionTree}
+use Rattle.c_tree.specs.Program.{Program}
 use Rattle.c_types.specs.Tables.{Tables}
 use Rattle.ir.specs.declared.function.IrFunction.{IrFunction}
 use Rattle.lower.specs.Program.{lowered_function}

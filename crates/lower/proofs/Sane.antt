@@ -1,18 +1,28 @@
 -- Facts on the tables of a program that breaks no rule: what names mean exists.
-use Rattle.std.proofs.Common.{◌≡◌, ℕ, zero, suc, ◌+◌, ◌-◌, ◌^◌, ◌≤◌, ◌<◌, min, pos, negsuc, Bool, true, false, List, [], ◌∷◌, ◌++◌, length, map, refl, ap, ◌∙◌, arith, rules}
-use Rattle.std.specs.Prelude.{nat_le, nat_eq, ◌&&◌, ◌||◌, not, if◌then◌else◌, is_some, slice_get, Option, None, Some, option_map, option_and_then, bytes_eq}
+use Rattle.std.proofs.Common.{◌≡◌, ℕ, zero, suc, ◌+◌, ◌-◌, ◌^◌, ◌≤◌, ◌<◌, min, pos, negsuc, Bool}
+use Rattle.std.proofs.Common.{true, false, List, [], ◌∷◌, ◌++◌, length, map, refl, ap, ◌∙◌, arith}
+use Rattle.std.proofs.Common.{rules}
+use Rattle.std.specs.Prelude.{nat_le, nat_eq, ◌&&◌, ◌||◌, not, if◌then◌else◌, is_some, slice_get}
+use Rattle.std.specs.Prelude.{Option, None, Some, option_map, option_and_then, bytes_eq}
 use Rattle.std.specs.Option.{option_map_or}
 use Rattle.std.proofs.lemmas.Option.{slice_get-map, slice_get_within}
-use Rattle.c_parser.specs.ItemTree.{FunctionTree, FieldTree, LengthTree}
-use Rattle.c_parser.specs.Program.{Program, tree_of}
-use Rattle.c_types.specs.declared.broken.Rule.TheVariants.{UnknownName, Twice, TooBig, NoRoot, BadTx}
+use Rattle.c_tree.specs.ItemTree.{FunctionTree, FieldTree, LengthTree}
+use Rattle.c_tree.specs.Program.{Program, tree_of}
+use Rattle.c_types.specs.declared.broken.Rule.TheVariants.{UnknownName, Twice, TooBig, NoRoot}
+use Rattle.c_types.specs.declared.broken.Rule.TheVariants.{BadTx}
 use Rattle.c_types.specs.declared.fault.LimitKind.TheVariants as limit
 use Rattle.c_types.specs.Broken.{unless}
-use Rattle.c_types.specs.Tables.{Tables, StructTree, RootTree, tables_of, index_of, function_names, field_names, struct_named, field_named, is_first, is_length, length_words, field_words, words_from, words_of_struct, root_struct, number_at, numbered_up_to}
+use Rattle.c_types.specs.Tables.{Tables, StructTree, RootTree, tables_of, index_of, function_names}
+use Rattle.c_types.specs.Tables.{field_names, struct_named, field_named, is_first, is_length}
+use Rattle.c_types.specs.Tables.{length_words, field_words, words_from, words_of_struct}
+use Rattle.c_types.specs.Tables.{root_struct, number_at, numbered_up_to}
 use Rattle.c_types.specs.Statements.{type_broken}
 use Rattle.c_types.specs.Fault.{breaks}
 use Rattle.c_types.specs.Shapes.{struct_shape, numbered, shapes_in}
-use Rattle.c_types.specs.Declarations.{length_broken, field_broken, fields_broken, struct_broken, whole_struct_broken, structs_broken, root_item_broken, roots_broken, function_broken, body_broken, whole_function_broken, functions_broken}
+use Rattle.c_types.specs.Declarations.{length_broken, field_broken, fields_broken, struct_broken}
+use Rattle.c_types.specs.Declarations.{whole_struct_broken, structs_broken, root_item_broken}
+use Rattle.c_types.specs.Declarations.{roots_broken, function_broken, body_broken}
+use Rattle.c_types.specs.Declarations.{whole_function_broken, functions_broken}
 use Rattle.ir.specs.WellFormed.{struct_of, IsKind}
 use Rattle.lower.specs.Names.{found_number, struct_kind_at, field_number}
 use Rattle.lower.proofs.Few.{none_left, none_right, kept, not_at, and_left, le_from, le_true}

@@ -1,17 +1,19 @@
 -- The code of a tree that breaks no rule is well formed.
-use Rattle.std.proofs.Common.{◌≡◌, ℕ, suc, ◌+◌, ◌≤◌, ◌<◌, ◌^◌, List, [], ◌∷◌, ◌++◌, length, map, refl, sym, ap, subst, ◌∙◌, arith}
+use Rattle.std.proofs.Common.{◌≡◌, ℕ, suc, ◌+◌, ◌≤◌, ◌<◌, ◌^◌, List, [], ◌∷◌, ◌++◌, length, map}
+use Rattle.std.proofs.Common.{refl, sym, ap, subst, ◌∙◌, arith}
 use Rattle.std.specs.Prelude.{Some, slice_get, option_map}
 use Rattle.std.specs.List.{AllByRecursion}
 use Rattle.std.proofs.lemmas.List.{length-map}
 use Rattle.std.proofs.lemmas.Option.{slice_get-map}
-use Rattle.c_parser.specs.ItemTree.{FunctionTree, ParameterTree}
-use Rattle.c_parser.specs.Program.{Program, tree_of}
+use Rattle.c_tree.specs.ItemTree.{FunctionTree, ParameterTree}
+use Rattle.c_tree.specs.Program.{Program, tree_of}
 use Rattle.c_types.specs.Tables.{Tables, tables_of, declared_type}
 use Rattle.c_types.specs.Expressions.{Scope}
 use Rattle.c_types.specs.Statements as types
 use Rattle.c_types.specs.Statements.{statements_broken}
 use Rattle.c_types.specs.Declarations as declarations
-use Rattle.c_types.specs.Declarations.{type_given, parameters_broken, function_broken, body_broken, whole_function_broken, functions_broken}
+use Rattle.c_types.specs.Declarations.{type_given, parameters_broken, function_broken, body_broken}
+use Rattle.c_types.specs.Declarations.{whole_function_broken, functions_broken}
 use Rattle.c_types.specs.Fault.{breaks}
 use Rattle.c_types.specs.Shapes.{shapes_in}
 use Rattle.ir.specs.declared.instruction.Instruction.{Instruction}
@@ -21,7 +23,8 @@ use Rattle.ir.specs.declared.function.Ir.{Ir}
 use Rattle.ir.specs.WellFormed.{IsInstruction, EndsWell, IsFunction, IsWellFormed}
 use Rattle.lower.specs.Names.{Variables}
 use Rattle.lower.specs.Lowers.{Context, statements_end, statements_code}
-use Rattle.lower.specs.Program.{parameters_end, parameters_code, variables_after_parameters, no_variables, function_code, context_at, lowered_function, lowered}
+use Rattle.lower.specs.Program.{parameters_end, parameters_code, variables_after_parameters}
+use Rattle.lower.specs.Program.{no_variables, function_code, context_at, lowered_function, lowered}
 use Rattle.lower.specs.inside.Program.{function_end, IsCounted}
 use Rattle.lower.proofs.Few.{none_left, none_right}
 use Rattle.lower.proofs.Ends.{statements_end_le}

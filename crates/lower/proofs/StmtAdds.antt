@@ -1,31 +1,44 @@
 -- The code written for the parts of a statement, put together.
-use Rattle.std.proofs.Common.{◌≡◌, ℕ, zero, suc, ◌+◌, ◌≤◌, ◌^◌, pos, List, [], ◌∷◌, ◌++◌, length, map, refl, sym, ap, ◌∙◌, arith, append_assoc, length-append, length-set}
+use Rattle.std.proofs.Common.{◌≡◌, ℕ, zero, suc, ◌+◌, ◌≤◌, ◌^◌, pos, List, [], ◌∷◌, ◌++◌, length}
+use Rattle.std.proofs.Common.{map, refl, sym, ap, ◌∙◌, arith, append_assoc, length-append}
+use Rattle.std.proofs.Common.{length-set}
 use Rattle.std.specs.Prelude.{slice_set, Option, None, Some}
 use Rattle.std.proofs.Math.Seq.{set-append_seam}
 use Rattle.std.proofs.lemmas.List.{append-nil, map-append}
 use Rattle.nvm_base.specs.declared.op.BinOp.{BinOp}
 use Rattle.nvm_base.specs.declared.op.BinOp.TheVariants as op
 use Rattle.pool_map.specs.declared.trap.TrapKind.TheVariants as trap
-use Rattle.c_parser.specs.declared.stmt.AssignOp.TheVariants as assign
-use Rattle.c_parser.specs.declared.stmt.StepOp.{StepOp}
+use Rattle.c_tree.specs.declared.stmt.AssignOp.TheVariants as assign
+use Rattle.c_tree.specs.declared.stmt.StepOp.{StepOp}
 use Rattle.c_types.specs.Expressions.{type_of}
-use Rattle.c_parser.specs.ExprTree as expr
-use Rattle.c_parser.specs.ExprTree.{ExprTree, Arguments, Ident}
-use Rattle.c_parser.specs.StmtTree as stmt
-use Rattle.c_parser.specs.StmtTree.{StmtTree, Statements, SimpleTree, FirstTree, DeclarationTree, InitialTree}
-use Rattle.c_parser.specs.Program.{source_line}
-use Rattle.c_parser.proofs.Trees.{stmt_of-Block}
+use Rattle.c_tree.specs.ExprTree as expr
+use Rattle.c_tree.specs.ExprTree.{ExprTree, Arguments, Ident}
+use Rattle.c_tree.specs.StmtTree as stmt
+use Rattle.c_tree.specs.StmtTree.{StmtTree, Statements, SimpleTree, FirstTree, DeclarationTree}
+use Rattle.c_tree.specs.StmtTree.{InitialTree}
+use Rattle.c_tree.specs.Program.{source_line}
+use Rattle.c_tree.proofs.Trees.{stmt_of-Block}
 use Rattle.c_types.specs.Tables.{declared_type}
 use Rattle.c_types.specs.declared.value_type.ValueType.{ValueType}
 use Rattle.ir.specs.declared.instruction.Target.{Target}
 use Rattle.ir.specs.declared.instruction.Instruction.{Instruction}
-use Rattle.ir.specs.declared.instruction.Instruction.TheVariants.{Const, Copy, Bin, Jump, Branch, Load, Store, Free, Return, Tick, Trap}
-use Rattle.lower.specs.Names.{Variables, inner_variables, variable_declared, register_of, variable_of, struct_kind_at, struct_pointed_to}
+use Rattle.ir.specs.declared.instruction.Instruction.TheVariants.{Const, Copy, Bin, Jump, Branch}
+use Rattle.ir.specs.declared.instruction.Instruction.TheVariants.{Load, Store, Free, Return, Tick}
+use Rattle.ir.specs.declared.instruction.Instruction.TheVariants.{Trap}
+use Rattle.lower.specs.Names.{Variables, inner_variables, variable_declared, register_of}
+use Rattle.lower.specs.Names.{variable_of, struct_kind_at, struct_pointed_to}
 use Rattle.lower.specs.inside.Names.{outer_variables}
 use Rattle.lower.specs.inside.Holes.{leave, third_part, to_place, hole_filled, fill_from}
-use Rattle.lower.specs.Lowers.{Context, exp_end, exp_code, reg_of, target_end, target_code, target_of, or_end, or_code, or_reg, set_end, set_code, update_end, update_code, step_operation, initial_end, first_end, first_code, variables_after_first, third_end, third_code, variables_after, stmt_end, stmt_code, statements_code}
+use Rattle.lower.specs.Lowers.{Context, exp_end, exp_code, reg_of, target_end, target_code}
+use Rattle.lower.specs.Lowers.{target_of, or_end, or_code, or_reg, set_end, set_code, update_end}
+use Rattle.lower.specs.Lowers.{update_code, step_operation, initial_end, first_end, first_code}
+use Rattle.lower.specs.Lowers.{variables_after_first, third_end, third_code, variables_after}
+use Rattle.lower.specs.Lowers.{stmt_end, stmt_code, statements_code}
 use Rattle.lower.specs.inside.Lowers.{variables_after_all, for_end, for_code}
-use Rattle.lower.specs.inside.Added.{Put, ExprAdded, TargetAdded, OrAdded, InitialAdded, SimpleAdded, FirstAdded, ThirdAdded, StmtAdded, StatementsAdded, BodyAdded, ForAdded, UpdateAdded, IfAdded, ElseAdded, WhileAdded, ReturnAdded}
+use Rattle.lower.specs.inside.Added.{Put, ExprAdded, TargetAdded, OrAdded, InitialAdded}
+use Rattle.lower.specs.inside.Added.{SimpleAdded, FirstAdded, ThirdAdded, StmtAdded}
+use Rattle.lower.specs.inside.Added.{StatementsAdded, BodyAdded, ForAdded, UpdateAdded, IfAdded}
+use Rattle.lower.specs.inside.Added.{ElseAdded, WhileAdded, ReturnAdded}
 use Rattle.lower.proofs.Ends.{exp_end_le, or_end_le, stmt_end_le, third_end_le}
 use Rattle.lower.proofs.ExprAdds.{put_long, one_more, seam}
 use Rattle.lower.proofs.Filled.{to_place_same, stmt_filled, third_filled, fill_from_after}

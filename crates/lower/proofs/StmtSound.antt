@@ -1,40 +1,55 @@
 -- The code of statements that break no rule names only what exists.
-use Rattle.std.proofs.Common.{◌≡◌, ℕ, ℤ, pos, suc, ◌+◌, ◌≤◌, ◌<◌, Bool, true, false, List, [], ◌∷◌, length, refl, sym, subst, ◌∙◌, arith}
+use Rattle.std.proofs.Common.{◌≡◌, ℕ, ℤ, pos, suc, ◌+◌, ◌≤◌, ◌<◌, Bool, true, false, List, [], ◌∷◌}
+use Rattle.std.proofs.Common.{length, refl, sym, subst, ◌∙◌, arith}
 use Rattle.std.specs.Prelude.{is_some, Option, None, Some, if◌then◌else◌}
 use Rattle.std.specs.Option.{option_map_or}
 use Rattle.std.specs.List.{AllByRecursion}
 use Rattle.nvm_base.specs.declared.op.BinOp.{BinOp}
 use Rattle.nvm_base.specs.declared.op.BinOp.TheVariants as op
-use Rattle.c_parser.specs.declared.stmt.AssignOp.TheVariants as assign
-use Rattle.c_parser.specs.ExprTree as expr
-use Rattle.c_parser.specs.ExprTree.{ExprTree, Arguments, Ident}
-use Rattle.c_parser.specs.StmtTree as stmt
-use Rattle.c_parser.specs.StmtTree.{StmtTree, Statements, SimpleTree, FirstTree, DeclarationTree, InitialTree}
-use Rattle.c_parser.specs.ItemTree.{FunctionTree, ParameterTree}
+use Rattle.c_tree.specs.declared.stmt.AssignOp.TheVariants as assign
+use Rattle.c_tree.specs.ExprTree as expr
+use Rattle.c_tree.specs.ExprTree.{ExprTree, Arguments, Ident}
+use Rattle.c_tree.specs.StmtTree as stmt
+use Rattle.c_tree.specs.StmtTree.{StmtTree, Statements, SimpleTree, FirstTree, DeclarationTree}
+use Rattle.c_tree.specs.StmtTree.{InitialTree}
+use Rattle.c_tree.specs.ItemTree.{FunctionTree, ParameterTree}
 use Rattle.c_types.specs.declared.value_type.ValueType.{ValueType}
 use Rattle.c_types.specs.declared.value_type.ValueType.TheVariants.{Int, Pointer, Null, Any}
 use Rattle.c_types.specs.declared.broken.Rule.TheVariants.{UnknownName, Mismatch, NotAssignable}
 use Rattle.c_types.specs.Broken.{unless}
 use Rattle.c_types.specs.Fits.{is_int, is_pointer, assigns}
 use Rattle.c_types.specs.Tables.{Tables, function_named, declared_type}
-use Rattle.c_types.specs.Expressions.{Scope, variable_type, value_broken, type_of, kind_of, broken_in, call_broken, parameters_of, argument_count}
+use Rattle.c_types.specs.Expressions.{Scope, variable_type, value_broken, type_of, kind_of}
+use Rattle.c_types.specs.Expressions.{broken_in, call_broken, parameters_of, argument_count}
 use Rattle.c_types.specs.Statements as types
-use Rattle.c_types.specs.Statements.{is_target, type_broken, simple_broken, initial_broken, declaration_broken, first_broken, return_broken, statement_broken, statements_broken}
+use Rattle.c_types.specs.Statements.{is_target, type_broken, simple_broken, initial_broken}
+use Rattle.c_types.specs.Statements.{declaration_broken, first_broken, return_broken}
+use Rattle.c_types.specs.Statements.{statement_broken, statements_broken}
 use Rattle.c_types.specs.Declarations as declarations
 use Rattle.c_types.specs.Declarations.{parameter_broken, parameters_broken, scopes_after_parameter}
 use Rattle.ir.specs.declared.instruction.Instruction.TheVariants.{Copy}
 use Rattle.ir.specs.declared.function.Ir.{Ir}
 use Rattle.ir.specs.WellFormed.{IsTarget, IsKind, IsInstruction}
 use Rattle.lower.specs.Assigned.{is_assigned}
-use Rattle.lower.specs.Names.{Variables, inner_variables, variable_declared, variable_register, register_of, variable_of, struct_kind_at, struct_pointed_to}
-use Rattle.lower.specs.Lowers.{Context, exp_end, exp_code, reg_of, target_end, target_code, target_of, arguments_end, arguments_code, or_end, or_code, or_reg, set_end, set_code, update_end, update_code, step_operation, simple_end, simple_code, initial_end, initial_code, variables_after_declaration, first_end, first_code, variables_after_first, third_end, third_code, variables_after, stmt_end, stmt_code, statements_end, statements_code}
+use Rattle.lower.specs.Names.{Variables, inner_variables, variable_declared, variable_register}
+use Rattle.lower.specs.Names.{register_of, variable_of, struct_kind_at, struct_pointed_to}
+use Rattle.lower.specs.Lowers.{Context, exp_end, exp_code, reg_of, target_end, target_code}
+use Rattle.lower.specs.Lowers.{target_of, arguments_end, arguments_code, or_end, or_code, or_reg}
+use Rattle.lower.specs.Lowers.{set_end, set_code, update_end, update_code, step_operation}
+use Rattle.lower.specs.Lowers.{simple_end, simple_code, initial_end, initial_code}
+use Rattle.lower.specs.Lowers.{variables_after_declaration, first_end, first_code}
+use Rattle.lower.specs.Lowers.{variables_after_first, third_end, third_code, variables_after}
+use Rattle.lower.specs.Lowers.{stmt_end, stmt_code, statements_end, statements_code}
 use Rattle.lower.specs.Program.{parameters_end, parameters_code, variables_after_parameters}
 use Rattle.lower.proofs.Few.{none_left, none_right, kept}
 use Rattle.lower.proofs.Ends.{exp_end_le, or_end_le, third_end_le, stmt_end_le, statements_end_le}
 use Rattle.lower.proofs.Sane.{IsKindOf, kind_of_struct}
-use Rattle.lower.proofs.GoodTypes.{IsGood, Agree, found, found_register, declared_good, agree_declared}
-use Rattle.lower.proofs.Alike.{IsSame, Alike, alike_same, alike_declared, value_same, or_same, initial_same, simple_same, third_same}
-use Rattle.lower.proofs.ExprSound.{IsPlaced, IsPlace, all_append, value_fits, type_good, reg_below, call_takes, exp_sound, target_sound, arguments_sound}
+use Rattle.lower.proofs.GoodTypes.{IsGood, Agree, found, found_register, declared_good}
+use Rattle.lower.proofs.GoodTypes.{agree_declared}
+use Rattle.lower.proofs.Alike.{IsSame, Alike, alike_same, alike_declared, value_same, or_same}
+use Rattle.lower.proofs.Alike.{initial_same, simple_same, third_same}
+use Rattle.lower.proofs.ExprSound.{IsPlaced, IsPlace, all_append, value_fits, type_good, reg_below}
+use Rattle.lower.proofs.ExprSound.{call_takes, exp_sound, target_sound, arguments_sound}
 
 -- the target of an assignment is a variable or a place
 target_place : (e : ExprTree) → variable_of e ≡ None → is_target e ≡ true → IsPlace e

@@ -2,9 +2,9 @@
 use Rattle.std.proofs.Common.{◌≡◌, true, false, List, [], length, map, sym, ap, subst, ◌∙◌}
 use Rattle.std.specs.List.{AllByRecursion}
 use Rattle.std.proofs.lemmas.List.{length-map}
-use Rattle.c_parser.specs.declared.item.Parameter.{Parameter}
-use Rattle.c_parser.specs.ItemTree.{parameter_of}
-use Rattle.c_parser.specs.Program.{Program, tree_of}
+use Rattle.c_tree.specs.declared.item.Parameter.{Parameter}
+use Rattle.c_tree.specs.ItemTree.{parameter_of}
+use Rattle.c_tree.specs.Program.{Program, tree_of}
 use Rattle.pool_map.specs.declared.shapes.Shapes.{Shapes}
 use Rattle.c_types.specs.Tables.{Tables, tables_of}
 use Rattle.c_types.specs.Fault.{breaks}

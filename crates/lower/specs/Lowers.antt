@@ -1,26 +1,32 @@
 -- The code of a tree. It is fixed except for the numbers of registers.
-use Rattle.std.specs.Prelude.{ℕ, suc, ℤ, pos, negsuc, List, [], ◌∷◌, ◌++◌, false, Option, None, Some}
+use Rattle.std.specs.Prelude.{ℕ, suc, ℤ, pos, negsuc, List, [], ◌∷◌, ◌++◌, false, Option, None}
+use Rattle.std.specs.Prelude.{Some}
 use Rattle.nvm_base.specs.declared.op.BinOp.{BinOp}
 use Rattle.nvm_base.specs.declared.op.BinOp.TheVariants as op
 use Rattle.pool_map.specs.declared.trap.TrapKind.TheVariants as trap
-use Rattle.c_parser.specs.declared.expr.UnaryOp.TheVariants as unary
-use Rattle.c_parser.specs.declared.stmt.AssignOp.TheVariants as assign
-use Rattle.c_parser.specs.declared.stmt.StepOp.{StepOp}
-use Rattle.c_parser.specs.declared.stmt.StepOp.TheVariants as step
-use Rattle.c_parser.specs.ExprTree as expr
-use Rattle.c_parser.specs.ExprTree.{ExprTree, Arguments, Ident}
-use Rattle.c_parser.specs.StmtTree as stmt
-use Rattle.c_parser.specs.StmtTree.{StmtTree, Statements, SimpleTree, FirstTree, DeclarationTree, InitialTree}
-use Rattle.c_parser.specs.Program.{Program, source_line}
+use Rattle.c_tree.specs.declared.expr.UnaryOp.TheVariants as unary
+use Rattle.c_tree.specs.declared.stmt.AssignOp.TheVariants as assign
+use Rattle.c_tree.specs.declared.stmt.StepOp.{StepOp}
+use Rattle.c_tree.specs.declared.stmt.StepOp.TheVariants as step
+use Rattle.c_tree.specs.ExprTree as expr
+use Rattle.c_tree.specs.ExprTree.{ExprTree, Arguments, Ident}
+use Rattle.c_tree.specs.StmtTree as stmt
+use Rattle.c_tree.specs.StmtTree.{StmtTree, Statements, SimpleTree, FirstTree, DeclarationTree}
+use Rattle.c_tree.specs.StmtTree.{InitialTree}
+use Rattle.c_tree.specs.Program.{Program, source_line}
 use Rattle.c_types.specs.Tables.{Tables, declared_type}
 use Rattle.c_types.specs.Expressions.{type_of}
 use Rattle.ir.specs.declared.instruction.Target.{Target}
 use Rattle.ir.specs.declared.instruction.Instruction.{Instruction}
-use Rattle.ir.specs.declared.instruction.Instruction.TheVariants.{Const, Copy, Bin, Jump, Branch, Load, Store, New, Free, Call, Return, Tick, Trap}
+use Rattle.ir.specs.declared.instruction.Instruction.TheVariants.{Const, Copy, Bin, Jump, Branch}
+use Rattle.ir.specs.declared.instruction.Instruction.TheVariants.{Load, Store, New, Free, Call}
+use Rattle.ir.specs.declared.instruction.Instruction.TheVariants.{Return, Tick, Trap}
 use Rattle.lower.specs.declared.form.Form.{Form}
 use Rattle.lower.specs.declared.form.Form.TheVariants.{Both, Either, Direct, Exchanged}
 use Rattle.lower.specs.Forms.{form_of}
-use Rattle.lower.specs.Names.{Variables, inner_variables, variable_declared, register_of, function_number, kind_named, struct_kind_at, struct_pointed_to, root_target, field_target, element_target, no_target, variable_of}
+use Rattle.lower.specs.Names.{Variables, inner_variables, variable_declared, register_of}
+use Rattle.lower.specs.Names.{function_number, kind_named, struct_kind_at, struct_pointed_to}
+use Rattle.lower.specs.Names.{root_target, field_target, element_target, no_target, variable_of}
 
 -- what code is made from: the meaning of the names of structs and functions, the tree with its
 -- lines, and the register of the value whose code ends at a place

@@ -1,11 +1,13 @@
 -- The variables that are visible at a place of a function, and what names mean in the code.
-use Rattle.std.specs.Prelude.{ℕ, ◌-◌, ◌^◌, min, List, [], ◌∷◌, ◌++◌, bytes_eq, if◌then◌else◌, Option, None, Some, slice_get, unwrap_or}
+use Rattle.std.specs.Prelude.{ℕ, ◌-◌, ◌^◌, min, List, [], ◌∷◌, ◌++◌, bytes_eq, if◌then◌else◌}
+use Rattle.std.specs.Prelude.{Option, None, Some, slice_get, unwrap_or}
 use Rattle.std.specs.Option.{option_map_or}
-use Rattle.c_parser.specs.ExprTree.{ExprTree, Ident}
-use Rattle.c_parser.specs.ExprTree as expr
+use Rattle.c_tree.specs.ExprTree.{ExprTree, Ident}
+use Rattle.c_tree.specs.ExprTree as expr
 use Rattle.c_types.specs.declared.value_type.ValueType.{ValueType}
 use Rattle.c_types.specs.declared.value_type.ValueType.TheVariants.{Int, Pointer, Null, Any}
-use Rattle.c_types.specs.Tables.{Tables, index_of, field_names, struct_named, root_struct, number_at, function_names}
+use Rattle.c_types.specs.Tables.{Tables, index_of, field_names, struct_named, root_struct}
+use Rattle.c_types.specs.Tables.{number_at, function_names}
 use Rattle.c_types.specs.Expressions.{Scope}
 use Rattle.c_types.specs.Statements as scopes
 use Rattle.ir.specs.declared.instruction.Target.{Target}

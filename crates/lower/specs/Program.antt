@@ -1,9 +1,10 @@
 -- The code of functions and programs: copies of the parameters that a function assigns, its body,
 -- and the return of 0.
-use Rattle.std.specs.Prelude.{◌≡◌, ◌≤◌, ◌^◌, ◌+◌, ℕ, suc, pos, List, [], ◌∷◌, ◌++◌, map, length, ◌&&◌, if◌then◌else◌}
-use Rattle.c_parser.specs.StmtTree.{Statements}
-use Rattle.c_parser.specs.ItemTree.{FunctionTree, ParameterTree}
-use Rattle.c_parser.specs.Program.{Program, tree_of}
+use Rattle.std.specs.Prelude.{◌≡◌, ◌≤◌, ◌^◌, ◌+◌, ℕ, suc, pos, List, [], ◌∷◌, ◌++◌, map, length}
+use Rattle.std.specs.Prelude.{◌&&◌, if◌then◌else◌}
+use Rattle.c_tree.specs.StmtTree.{Statements}
+use Rattle.c_tree.specs.ItemTree.{FunctionTree, ParameterTree}
+use Rattle.c_tree.specs.Program.{Program, tree_of}
 use Rattle.c_types.specs.Tables.{Tables, declared_type, tables_of}
 use Rattle.c_types.specs.Shapes.{shapes_of}
 use Rattle.ir.specs.declared.instruction.Instruction.{Instruction}

@@ -1,13 +1,13 @@
 //! Whether a function assigns one of its parameters.
 
 ghost use Rattle.std.specs.Prelude.{◌≡◌, option_map};
-ghost use Rattle.c_parser.specs.ExprTree.{expr_of};
-ghost use Rattle.c_parser.specs.StmtTree as tree;
+ghost use Rattle.c_tree.specs.ExprTree.{expr_of};
+ghost use Rattle.c_tree.specs.StmtTree as tree;
 ghost use Rattle.lower.specs.Assigned as meaning;
 
 use crate::names::as_variable;
-use c_parser::expr::Expr;
-use c_parser::stmt::{First, Simple, Stmt};
+use c_tree::expr::Expr;
+use c_tree::stmt::{First, Simple, Stmt};
 
 /// Whether the statements of one block assign the variable of that name. After another declaration
 /// of the name it means another variable.

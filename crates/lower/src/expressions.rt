@@ -2,12 +2,13 @@
 //! value: the variable's own, or one that no other expression has.
 
 ghost use Rattle.std.specs.Prelude.{◌≡◌, ℕ, false, ◌++◌, length, option_map, IfOk, OnOk};
-ghost use Rattle.c_parser.specs.ExprTree.{expr_of, ident_of, arguments_in};
-ghost use Rattle.c_parser.specs.ExprTree as tree;
+ghost use Rattle.c_tree.specs.ExprTree.{expr_of, ident_of, arguments_in};
+ghost use Rattle.c_tree.specs.ExprTree as tree;
 ghost use Rattle.ir.specs.declared.instruction.Instruction.TheVariants as put;
 ghost use Rattle.lower.specs.declared.form.Form.TheVariants as form;
-ghost use Rattle.lower.specs.inside.Added.{Put, ExprAdded, RightAdded, TargetAdded, ReadAdded, ArgumentsAdded, OrAdded, context_of};
-ghost use Rattle.c_parser.specs.Program.{source_line};
+ghost use Rattle.lower.specs.inside.Added.{Put, ExprAdded, RightAdded, TargetAdded, ReadAdded};
+ghost use Rattle.lower.specs.inside.Added.{ArgumentsAdded, OrAdded, context_of};
+ghost use Rattle.c_tree.specs.Program.{source_line};
 ghost use Rattle.c_types.specs.Views.{tables_in};
 ghost use Rattle.lower.specs.inside.Added as added;
 ghost use Rattle.lower.specs.Forms as forms;
@@ -19,7 +20,7 @@ use crate::form::{Form, form_of};
 use crate::names::{element, field_target, function_number, kind_named, no_target, root_target};
 use crate::source::Source;
 use crate::variables::Variables;
-use c_parser::expr::{Argument, BinaryOp, Expr, Name, UnaryOp};
+use c_tree::expr::{Argument, BinaryOp, Expr, Name, UnaryOp};
 use ir::{Instruction, Target};
 use nvm_base::{BinOp, Registers};
 use std::alloc::AllocError;

@@ -3,7 +3,7 @@
 ghost use Rattle.std.specs.Prelude.{◌≡◌};
 ghost use Rattle.lower.specs.Forms as forms;
 
-use c_parser::expr::BinaryOp;
+use c_tree::expr::BinaryOp;
 use nvm_base::BinOp;
 
 /// `&&` and `||` are branches. Each other operator is one operation, and `a > b` is `b < a`.

@@ -2,8 +2,8 @@
 
 ghost use Rattle.std.specs.Prelude.{◌≡◌, ◌<◌, [], true, length, map, IfOk, OnOk};
 ghost use Rattle.std.specs.List.{AllByRecursion};
-ghost use Rattle.c_parser.specs.ItemTree.{function_tree, parameter_of};
-ghost use Rattle.c_parser.specs.StmtTree.{statements_in};
+ghost use Rattle.c_tree.specs.ItemTree.{function_tree, parameter_of};
+ghost use Rattle.c_tree.specs.StmtTree.{statements_in};
 ghost use Rattle.c_types.specs.Fault.{breaks};
 ghost use Rattle.c_types.specs.Shapes.{shapes_of};
 ghost use Rattle.c_types.specs.Views.{tables_in};
@@ -21,8 +21,8 @@ use crate::expressions::{add_constant, add_copy};
 use crate::source::Source;
 use crate::statements::add_statements;
 use crate::variables::Variables;
-use c_parser::Ast;
-use c_parser::item::Function;
+use c_tree::Ast;
+use c_tree::item::Function;
 use c_types::{Program, Typed};
 use ir::{Instruction, Ir, IrFunction, IrFunctions};
 use nvm_base::Text;

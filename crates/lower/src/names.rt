@@ -1,12 +1,12 @@
 //! The numbers that names mean in the code: functions, kinds and fields.
 
 ghost use Rattle.std.specs.Prelude.{◌≡◌, option_map};
-ghost use Rattle.c_parser.specs.ExprTree.{expr_of, ident_of};
+ghost use Rattle.c_tree.specs.ExprTree.{expr_of, ident_of};
 ghost use Rattle.c_types.specs.Expressions as expressions;
 ghost use Rattle.c_types.specs.Views.{tables_in};
 ghost use Rattle.lower.specs.Names as names;
 
-use c_parser::expr::{Expr, Name};
+use c_tree::expr::{Expr, Name};
 use c_types::{Program, Scopes, ValueType, type_of};
 use ir::Target;
 

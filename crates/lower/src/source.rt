@@ -5,7 +5,7 @@
 
 ghost use Rattle.std.specs.Prelude.{◌≡◌, ◌+◌, ◌<◌, ◌^◌};
 
-use c_parser::Ast;
+use c_tree::Ast;
 use c_types::Program;
 use std::alloc::Global;
 

@@ -2,9 +2,9 @@
 //! leads to a hole, which the loop fills.
 
 ghost use Rattle.std.specs.Prelude.{◌≡◌, ◌≤◌, pos, option_map, Some, OnOk, IfOk};
-ghost use Rattle.c_parser.specs.ExprTree.{expr_of};
-ghost use Rattle.c_parser.specs.StmtTree as tree;
-ghost use Rattle.c_parser.specs.declared.stmt.AssignOp.TheVariants as assign;
+ghost use Rattle.c_tree.specs.ExprTree.{expr_of};
+ghost use Rattle.c_tree.specs.StmtTree as tree;
+ghost use Rattle.c_tree.specs.declared.stmt.AssignOp.TheVariants as assign;
 ghost use Rattle.lower.specs.inside.Added as added;
 ghost use Rattle.lower.specs.inside.Added.{context_of};
 ghost use Rattle.lower.specs.inside.Holes as holes;
@@ -18,8 +18,8 @@ use crate::expressions::{
 use crate::names::{as_variable, kind_of_object};
 use crate::source::Source;
 use crate::variables::Variables;
-use c_parser::expr::Expr;
-use c_parser::stmt::{AssignOp, Declaration, First, Initial, Simple, StepOp, Stmt};
+use c_tree::expr::Expr;
+use c_tree::stmt::{AssignOp, Declaration, First, Initial, Simple, StepOp, Stmt};
 use ir::Instruction;
 use nvm_base::BinOp;
 use pool_map::TrapKind;

@@ -1,12 +1,14 @@
 -- The names of statements and of functions that break no rule fit.
-use Rattle.std.proofs.Common.{◌≡◌, ℕ, suc, ◌+◌, Bool, true, false, List, [], ◌∷◌, ◌++◌, length, refl, sym, ◌∙◌, subst}
+use Rattle.std.proofs.Common.{◌≡◌, ℕ, suc, ◌+◌, Bool, true, false, List, [], ◌∷◌, ◌++◌, length}
+use Rattle.std.proofs.Common.{refl, sym, ◌∙◌, subst}
 use Rattle.std.specs.Prelude.{Option, None, Some, not, nat_eq, if◌then◌else◌}
 use Rattle.std.specs.Option.{option_map_or}
-use Rattle.c_parser.specs.ExprTree.{ExprTree}
-use Rattle.c_parser.specs.StmtTree as stmt
-use Rattle.c_parser.specs.StmtTree.{StmtTree, Statements, SimpleTree, FirstTree, DeclarationTree, InitialTree}
-use Rattle.c_parser.specs.ItemTree.{FunctionTree, ParameterTree}
-use Rattle.c_parser.specs.Program.{Program, tree_of}
+use Rattle.c_tree.specs.ExprTree.{ExprTree}
+use Rattle.c_tree.specs.StmtTree as stmt
+use Rattle.c_tree.specs.StmtTree.{StmtTree, Statements, SimpleTree, FirstTree, DeclarationTree}
+use Rattle.c_tree.specs.StmtTree.{InitialTree}
+use Rattle.c_tree.specs.ItemTree.{FunctionTree, ParameterTree}
+use Rattle.c_tree.specs.Program.{Program, tree_of}
 use Rattle.c_types.specs.declared.value_type.ValueType.{ValueType}
 use Rattle.c_types.specs.declared.broken.Rule.TheVariants.{Mismatch, NotAssignable, Twice, TooBig}
 use Rattle.c_types.specs.declared.fault.LimitKind.TheVariants as limit
@@ -16,27 +18,37 @@ use Rattle.c_types.specs.Fits.{is_int, is_pointer, assigns}
 use Rattle.c_types.specs.Tables.{Tables, tables_of, function_named, declared_type}
 use Rattle.c_types.specs.Shapes.{shapes_in}
 use Rattle.c_types.specs.Fault.{breaks}
-use Rattle.c_types.specs.Expressions.{Scope, value_broken, type_of, call_broken, parameters_of, argument_count}
+use Rattle.c_types.specs.Expressions.{Scope, value_broken, type_of, call_broken, parameters_of}
+use Rattle.c_types.specs.Expressions.{argument_count}
 use Rattle.c_types.specs.Statements as types
-use Rattle.c_types.specs.Statements.{is_declared, is_target, type_broken, simple_broken, initial_broken, declaration_broken, first_broken, return_broken, statement_broken, statements_broken}
+use Rattle.c_types.specs.Statements.{is_declared, is_target, type_broken, simple_broken}
+use Rattle.c_types.specs.Statements.{initial_broken, declaration_broken, first_broken}
+use Rattle.c_types.specs.Statements.{return_broken, statement_broken, statements_broken}
 use Rattle.c_types.specs.Declarations as declarations
-use Rattle.c_types.specs.Declarations.{type_given, parameter_broken, parameters_broken, scopes_after_parameter, function_broken, body_broken}
+use Rattle.c_types.specs.Declarations.{type_given, parameter_broken, parameters_broken}
+use Rattle.c_types.specs.Declarations.{scopes_after_parameter, function_broken, body_broken}
 use Rattle.ir.specs.declared.function.Ir.{Ir}
 use Rattle.lower.specs.Assigned.{is_assigned}
 use Rattle.lower.specs.Names.{Variables, inner_variables, variable_declared}
-use Rattle.lower.specs.Lowers.{Context, exp_end, or_end, initial_end, variables_after_declaration, first_end, variables_after_first, variables_after, stmt_end}
-use Rattle.lower.specs.Program.{parameters_end, variables_after_parameters, no_variables, context_at, lowered}
+use Rattle.lower.specs.Lowers.{Context, exp_end, or_end, initial_end, variables_after_declaration}
+use Rattle.lower.specs.Lowers.{first_end, variables_after_first, variables_after, stmt_end}
+use Rattle.lower.specs.Program.{parameters_end, variables_after_parameters, no_variables}
+use Rattle.lower.specs.Program.{context_at, lowered}
 use Rattle.lower.proofs.Few.{none_left, none_right, kept}
 use Rattle.lower.proofs.Sane.{IsSane, sane, broken_functions, function_at_place}
 use Rattle.lower.proofs.GoodTypes.{IsGood, declared_good}
-use Rattle.lower.proofs.Alike.{IsSame, Alike, alike_same, alike_declared, value_same, or_same, simple_same, third_same}
+use Rattle.lower.proofs.Alike.{IsSame, Alike, alike_same, alike_declared, value_same, or_same}
+use Rattle.lower.proofs.Alike.{simple_same, third_same}
 use Rattle.lower_law.proofs.Locals.{Entry}
 use Rattle.lower_law.proofs.Declared.{HasLevel, agrees_declared, level_declared}
 use Rattle.lower_law.proofs.Typed.{call_fits}
 use Rattle.lower_law.proofs.ExpFits.{Sees, value_fits, arguments_fit, target_fits, free_fits}
 use Rattle.lower_law.proofs.Fits.{ExpFits}
-use Rattle.lower_law.proofs.StmtFits.{OrFits, SimpleFits, InitialFits, DeclarationFits, FirstFits, ThirdFits, StmtFits, StatementsFit, entry_in, first_entries, entries_after}
-use Rattle.lower_law.proofs.Functions.{parameter_entry, parameter_entries, ParametersFit, FunctionFits, ProgramFits, stands_in}
+use Rattle.lower_law.proofs.StmtFits.{OrFits, SimpleFits, InitialFits, DeclarationFits, FirstFits}
+use Rattle.lower_law.proofs.StmtFits.{ThirdFits, StmtFits, StatementsFit, entry_in, first_entries}
+use Rattle.lower_law.proofs.StmtFits.{entries_after}
+use Rattle.lower_law.proofs.Functions.{parameter_entry, parameter_entries, ParametersFit}
+use Rattle.lower_law.proofs.Functions.{FunctionFits, ProgramFits, stands_in}
 
 -- in the scopes of the typing rules each name means what it means to the code, and what is new
 -- there is new in the code

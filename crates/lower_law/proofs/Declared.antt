@@ -1,7 +1,8 @@
 -- A name that is declared anew in its scope means the new local, and other names keep their
 -- meaning.
 use Rattle.std.proofs.Common.{◌≡◌, ℕ, suc, Bool, true, false, List, [], ◌∷◌, ◌++◌, refl, ap, ◌∙◌}
-use Rattle.std.specs.Prelude.{Option, None, Some, if◌then◌else◌, is_some, option_map, option_and_then, slice_get, bytes_eq}
+use Rattle.std.specs.Prelude.{Option, None, Some, if◌then◌else◌, is_some, option_map}
+use Rattle.std.specs.Prelude.{option_and_then, slice_get, bytes_eq}
 use Rattle.std.proofs.lemmas.Slice.Eq.{bytes_eq-Decides}
 use Rattle.c_types.specs.declared.value_type.ValueType.{ValueType}
 use Rattle.c_types.specs.Tables.{index_of}
@@ -10,7 +11,8 @@ use Rattle.c_types.specs.Expressions.{Scope, type_in, variable_type}
 use Rattle.c_types.specs.Statements as scopes
 use Rattle.c_types.specs.Statements.{is_declared}
 use Rattle.lower.specs.Names as names
-use Rattle.lower.specs.Names.{Variables, LocalRegister, variable_declared, register_in, variable_register, with_local, with_name}
+use Rattle.lower.specs.Names.{Variables, LocalRegister, variable_declared, register_in}
+use Rattle.lower.specs.Names.{variable_register, with_local, with_name}
 use Rattle.lower_law.proofs.Locals.{Entry, Agrees, entry_type, entry_register}
 
 -- the names, the types and the registers of a scope correspond one to one

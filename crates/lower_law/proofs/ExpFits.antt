@@ -1,9 +1,11 @@
 -- The names of an expression that breaks no rule fit.
-use Rattle.std.proofs.Common.{◌≡◌, ℕ, suc, ◌+◌, ◌<◌, Bool, true, false, List, [], ◌∷◌, refl, sym, ap, ◌∙◌, subst, arith}
-use Rattle.std.specs.Prelude.{Option, None, Some, Ok, is_some, if◌then◌else◌, option_map, option_and_then, slice_get, bytes_eq}
-use Rattle.c_parser.specs.ExprTree as expr
-use Rattle.c_parser.specs.ExprTree.{ExprTree, Arguments, Ident}
-use Rattle.c_parser.specs.ItemTree.{FunctionTree, ParameterTree}
+use Rattle.std.proofs.Common.{◌≡◌, ℕ, suc, ◌+◌, ◌<◌, Bool, true, false, List, [], ◌∷◌, refl, sym}
+use Rattle.std.proofs.Common.{ap, ◌∙◌, subst, arith}
+use Rattle.std.specs.Prelude.{Option, None, Some, Ok, is_some, if◌then◌else◌, option_map}
+use Rattle.std.specs.Prelude.{option_and_then, slice_get, bytes_eq}
+use Rattle.c_tree.specs.ExprTree as expr
+use Rattle.c_tree.specs.ExprTree.{ExprTree, Arguments, Ident}
+use Rattle.c_tree.specs.ItemTree.{FunctionTree, ParameterTree}
 use Rattle.c_types.specs.declared.value_type.ValueType.{ValueType}
 use Rattle.c_types.specs.declared.value_type.Kind.TheVariants.{Value, Array}
 use Rattle.c_types.specs.declared.broken.Rule.TheVariants.{UnknownName, Mismatch}
@@ -12,7 +14,10 @@ use Rattle.c_types.specs.Fits.{type_takes, is_pointer}
 use Rattle.c_types.specs.Tables.{Tables, function_named, number_at}
 use Rattle.c_types.specs.Shapes.{shapes_in}
 use Rattle.c_types.specs.Expressions as types
-use Rattle.c_types.specs.Expressions.{Scope, variable_type, kind_of, type_of, broken_in, broken_in_all, value_broken, with_unindexed, call_broken, parameters_of, parameter_type, argument_count, root_broken, arrow_broken, pointer_broken}
+use Rattle.c_types.specs.Expressions.{Scope, variable_type, kind_of, type_of, broken_in}
+use Rattle.c_types.specs.Expressions.{broken_in_all, value_broken, with_unindexed, call_broken}
+use Rattle.c_types.specs.Expressions.{parameters_of, parameter_type, argument_count, root_broken}
+use Rattle.c_types.specs.Expressions.{arrow_broken, pointer_broken}
 use Rattle.c_types.specs.Statements.{is_target}
 use Rattle.pool_map.specs.declared.shapes.Shapes.{Shapes}
 use Rattle.pool_map.specs.PoolMap.{free}
@@ -20,7 +25,8 @@ use Rattle.c_meaning.specs.Access as access
 use Rattle.c_meaning.specs.Locals.{scopes_of}
 use Rattle.c_meaning.specs.Locals as locals
 use Rattle.ir.specs.declared.function.Ir.{Ir}
-use Rattle.lower.specs.Names.{Variables, LocalRegister, variable_of, root_target, field_target, kind_named}
+use Rattle.lower.specs.Names.{Variables, LocalRegister, variable_of, root_target, field_target}
+use Rattle.lower.specs.Names.{kind_named}
 use Rattle.lower.specs.Lowers.{Context, exp_end, reg_of}
 use Rattle.lower.proofs.Few.{none_left, none_right, kept}
 use Rattle.lower.proofs.Sane.{IsSane}

@@ -1,32 +1,41 @@
 -- The code of an expression does what the expression does.
-use Rattle.std.proofs.Common.{◌≡◌, ℕ, suc, ◌<◌, ◌≤◌, ℤ, pos, negsuc, List, [], ◌∷◌, ◌++◌, map, refl, sym, ap, ◌∙◌, subst, arith, append_assoc}
+use Rattle.std.proofs.Common.{◌≡◌, ℕ, suc, ◌<◌, ◌≤◌, ℤ, pos, negsuc, List, [], ◌∷◌, ◌++◌, map, refl}
+use Rattle.std.proofs.Common.{sym, ap, ◌∙◌, subst, arith, append_assoc}
 use Rattle.std.specs.Prelude.{Option, None, Some}
 use Rattle.nvm_base.specs.declared.op.BinOp.TheVariants as op
 use Rattle.nvm_base.specs.Operations as word
-use Rattle.c_parser.specs.declared.expr.UnaryOp.TheVariants as unary
-use Rattle.c_parser.specs.ExprTree as expr
-use Rattle.c_parser.specs.ExprTree.{ExprTree, Arguments, Ident}
-use Rattle.c_parser.specs.ItemTree.{FunctionTree}
+use Rattle.c_tree.specs.declared.expr.UnaryOp.TheVariants as unary
+use Rattle.c_tree.specs.ExprTree as expr
+use Rattle.c_tree.specs.ExprTree.{ExprTree, Arguments, Ident}
+use Rattle.c_tree.specs.ItemTree.{FunctionTree}
 use Rattle.pool_map.specs.PoolMap.{PoolMap}
 use Rattle.pool_map.specs.declared.trap.TrapKind.TheVariants as trap
 use Rattle.c_meaning.specs.Locals.{Local, value_named}
 use Rattle.c_meaning.specs.Operators.{unary_of}
 use Rattle.c_meaning.specs.Access.{word_named, new_object}
-use Rattle.c_meaning.specs.Meaning.{Out, Got, Stops, Calls, then_do, loaded, made, tick, called, value_of, pointer_of, values_of}
+use Rattle.c_meaning.specs.Meaning.{Out, Got, Stops, Calls, then_do, loaded, made, tick, called}
+use Rattle.c_meaning.specs.Meaning.{value_of, pointer_of, values_of}
 use Rattle.ir.specs.declared.instruction.Target.{Target}
 use Rattle.ir.specs.declared.instruction.Instruction.{Instruction}
 use Rattle.ir.specs.declared.instruction.Instruction.TheVariants.{Const, Bin, Load, Call, Tick}
 use Rattle.ir.specs.declared.function.Ir.{Ir}
 use Rattle.lower.specs.Forms.{form_of}
 use Rattle.lower.specs.Names.{Variables, register_of, function_number, kind_named, element_target}
-use Rattle.lower.specs.Lowers.{Context, exp_end, exp_code, reg_of, target_end, target_code, target_of, arguments_end, arguments_code, registers_of, form_end, form_code}
+use Rattle.lower.specs.Lowers.{Context, exp_end, exp_code, reg_of, target_end, target_code}
+use Rattle.lower.specs.Lowers.{target_of, arguments_end, arguments_code, registers_of, form_end}
+use Rattle.lower.specs.Lowers.{form_code}
 use Rattle.lower.proofs.Ends.{exp_end_le, target_end_le, arguments_end_le, form_end_le}
-use Rattle.code_meaning.specs.Code.{Frame, Here, Goes, register_at, put_register, act, instruction_step, base_in}
+use Rattle.code_meaning.specs.Code.{Frame, Here, Goes, register_at, put_register, act}
+use Rattle.code_meaning.specs.Code.{instruction_step, base_in}
 use Rattle.lower_law.proofs.Paths.{path_step, at-put_same}
 use Rattle.lower_law.proofs.Has.{HasAt, exp_has, target_has, arguments_has}
-use Rattle.lower_law.proofs.Locals.{Entry, Agrees, Holds, AreBelow, Same, value_held, held_after, below_more, entry_below, register_found}
+use Rattle.lower_law.proofs.Locals.{Entry, Agrees, Holds, AreBelow, Same, value_held, held_after}
+use Rattle.lower_law.proofs.Locals.{below_more, entry_below, register_found}
 use Rattle.lower_law.proofs.Fits.{WordFits, ExpFits, PointerFits, ArgumentsFit}
-use Rattle.lower_law.proofs.ExprSteps.{CallsRun, form_value, form_means, element_fits, element_base, element_index, grows, Gives, word_at, words_at, base_at, after, gives_then, put_same, puts, field_gives, stays, tick_gives, form_runs}
+use Rattle.lower_law.proofs.ExprSteps.{CallsRun, form_value, form_means, element_fits, element_base}
+use Rattle.lower_law.proofs.ExprSteps.{element_index, grows, Gives, word_at, words_at, base_at}
+use Rattle.lower_law.proofs.ExprSteps.{after, gives_then, put_same, puts, field_gives, stays}
+use Rattle.lower_law.proofs.ExprSteps.{tick_gives, form_runs}
 
 module _ (ir : Ir) (m f : ℕ) (k : Context) (rises : (p q : ℕ) → p < q → k.node p < k.node q)
     (below : List Frame) where

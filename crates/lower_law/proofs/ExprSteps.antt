@@ -1,12 +1,13 @@
 -- The steps of an expression's code: values in registers, one after another, and the effect of each
 -- instruction.
-use Rattle.std.proofs.Common.{◌≡◌, ℕ, zero, suc, ◌<◌, ◌≤◌, ℤ, pos, negsuc, List, ◌∷◌, ◌++◌, map, refl, sym, ap, ◌∙◌, subst, arith, zero-add, append_assoc, ⊎_elim}
+use Rattle.std.proofs.Common.{◌≡◌, ℕ, zero, suc, ◌<◌, ◌≤◌, ℤ, pos, negsuc, List, ◌∷◌, ◌++◌, map}
+use Rattle.std.proofs.Common.{refl, sym, ap, ◌∙◌, subst, arith, zero-add, append_assoc, ⊎_elim}
 use Rattle.std.specs.Prelude.{Option, None, Some, Result, Ok, Err, if◌then◌else◌, slice_get}
 use Rattle.std.proofs.lemmas.Bool.{cases_lt}
-use Rattle.c_parser.specs.declared.expr.BinaryOp.{BinaryOp}
-use Rattle.c_parser.specs.declared.expr.BinaryOp.TheVariants as binary
-use Rattle.c_parser.specs.ExprTree.{ExprTree}
-use Rattle.c_parser.specs.ItemTree.{FunctionTree}
+use Rattle.c_tree.specs.declared.expr.BinaryOp.{BinaryOp}
+use Rattle.c_tree.specs.declared.expr.BinaryOp.TheVariants as binary
+use Rattle.c_tree.specs.ExprTree.{ExprTree}
+use Rattle.c_tree.specs.ItemTree.{FunctionTree}
 use Rattle.c_types.specs.Tables.{Tables}
 use Rattle.pool_map.specs.PoolMap.{PoolMap, read, read_root}
 use Rattle.pool_map.specs.declared.trap.TrapKind.{TrapKind}
@@ -15,19 +16,24 @@ use Rattle.c_meaning.specs.declared.word.Word.{Word}
 use Rattle.c_meaning.specs.declared.word.Word.TheVariants.{Root, Field}
 use Rattle.c_meaning.specs.Locals.{Local}
 use Rattle.c_meaning.specs.Access.{word_named}
-use Rattle.c_meaning.specs.Meaning.{Out, Got, Stops, Calls, then_do, or_trap, loaded, at_zero, tick, binary_means}
+use Rattle.c_meaning.specs.Meaning.{Out, Got, Stops, Calls, then_do, or_trap, loaded, at_zero, tick}
+use Rattle.c_meaning.specs.Meaning.{binary_means}
 use Rattle.ir.specs.declared.instruction.Target.{Target}
 use Rattle.ir.specs.declared.instruction.Target.TheVariants as aim
 use Rattle.ir.specs.declared.instruction.Instruction.{Instruction}
-use Rattle.ir.specs.declared.instruction.Instruction.TheVariants.{Const, Bin, Jump, Branch, Load, Call, Tick}
+use Rattle.ir.specs.declared.instruction.Instruction.TheVariants.{Const, Bin, Jump, Branch, Load}
+use Rattle.ir.specs.declared.instruction.Instruction.TheVariants.{Call, Tick}
 use Rattle.ir.specs.declared.function.Ir.{Ir}
 use Rattle.lower.specs.declared.form.Form.{Form}
 use Rattle.lower.specs.declared.form.Form.TheVariants.{Both, Either, Direct, Exchanged}
 use Rattle.lower.specs.Forms.{form_of}
 use Rattle.lower.specs.Names.{element_target}
 use Rattle.lower.specs.Lowers.{Context, form_end, form_code, truth_code}
-use Rattle.code_meaning.specs.Code.{Frame, Here, Trapped, Goes, Ends, Move, Spot, register_at, put_register, act, instruction_step, exec, is_zero, word_of, with_word, with_ok, spot_of, base_in, index_in, load_spot}
-use Rattle.lower_law.proofs.Paths.{Path, path_then, path_more, path_step, path_ends, path_tick, at-put_same, at-put_other}
+use Rattle.code_meaning.specs.Code.{Frame, Here, Trapped, Goes, Ends, Move, Spot, register_at}
+use Rattle.code_meaning.specs.Code.{put_register, act, instruction_step, exec, is_zero, word_of}
+use Rattle.code_meaning.specs.Code.{with_word, with_ok, spot_of, base_in, index_in, load_spot}
+use Rattle.lower_law.proofs.Paths.{Path, path_then, path_more, path_step, path_ends, path_tick}
+use Rattle.lower_law.proofs.Paths.{at-put_same, at-put_other}
 use Rattle.lower_law.proofs.Has.{At, HasAt}
 use Rattle.lower_law.proofs.Locals.{Entry, Holds, Same, scopes_held}
 use Rattle.lower_law.proofs.Fits.{spot_in, WordFits}

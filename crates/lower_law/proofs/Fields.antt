@@ -1,19 +1,25 @@
 -- In a tree that breaks no rule, fields, new objects and freed ones mean the same in the tree and
 -- in the code.
-use Rattle.std.proofs.Common.{◌≡◌, ℕ, suc, ◌+◌, ◌*◌, ◌-◌, ◌^◌, ◌<◌, ◌≤◌, min, ℤ, pos, negsuc, Bool, true, false, List, [], ◌∷◌, length, map, refl, sym, ap, ◌∙◌, subst, arith, rules}
-use Rattle.std.specs.Prelude.{Option, None, Some, Result, Ok, Err, option_map, option_and_then, slice_get, nat_lt, nat_le, if◌then◌else◌, ◌&&◌}
+use Rattle.std.proofs.Common.{◌≡◌, ℕ, suc, ◌+◌, ◌*◌, ◌-◌, ◌^◌, ◌<◌, ◌≤◌, min, ℤ, pos, negsuc, Bool}
+use Rattle.std.proofs.Common.{true, false, List, [], ◌∷◌, length, map, refl, sym, ap, ◌∙◌, subst}
+use Rattle.std.proofs.Common.{arith, rules}
+use Rattle.std.specs.Prelude.{Option, None, Some, Result, Ok, Err, option_map, option_and_then}
+use Rattle.std.specs.Prelude.{slice_get, nat_lt, nat_le, if◌then◌else◌, ◌&&◌}
 use Rattle.std.specs.Option.{option_map_or}
 use Rattle.std.specs.Int.{w64, cast_unsigned}
 use Rattle.std.proofs.lemmas.Option.{slice_get-map, slice_get_within}
 use Rattle.std.proofs.lemmas.List.Sums.{sum_by-cons}
-use Rattle.c_parser.specs.ExprTree.{Ident}
-use Rattle.c_parser.specs.ItemTree.{FieldTree, LengthTree}
+use Rattle.c_tree.specs.ExprTree.{Ident}
+use Rattle.c_tree.specs.ItemTree.{FieldTree, LengthTree}
 use Rattle.c_types.specs.declared.value_type.ValueType.{ValueType}
 use Rattle.c_types.specs.declared.value_type.ValueType.TheVariants.{Int, Pointer, Null, Any}
 use Rattle.c_types.specs.declared.broken.Rule.TheVariants.{Twice, Mismatch}
 use Rattle.c_types.specs.Broken.{broken_at, unless}
 use Rattle.c_types.specs.Fits.{is_pointer}
-use Rattle.c_types.specs.Tables.{Tables, StructTree, index_of, field_names, field_named, is_length, is_first, field_words, words_from, words_of_struct, words_at, field_start, field_words_before, number_at, numbered_up_to, root_struct}
+use Rattle.c_types.specs.Tables.{Tables, StructTree, index_of, field_names, field_named, is_length}
+use Rattle.c_types.specs.Tables.{is_first, field_words, words_from, words_of_struct, words_at}
+use Rattle.c_types.specs.Tables.{field_start, field_words_before, number_at, numbered_up_to}
+use Rattle.c_types.specs.Tables.{root_struct}
 use Rattle.c_types.specs.Statements.{type_broken}
 use Rattle.c_types.specs.Shapes.{field_shape, root_fields, shapes_in}
 use Rattle.c_types.specs.Declarations.{length_broken, field_broken, fields_broken}
@@ -27,14 +33,16 @@ use Rattle.pool_map.specs.declared.trap.TrapKind.{TrapKind}
 use Rattle.pool_map.specs.declared.trap.TrapKind.TheVariants as trap
 use Rattle.c_meaning.specs.declared.word.Word.TheVariants.{Root, Field}
 use Rattle.c_meaning.specs.Access as access
-use Rattle.lower.specs.Names.{found_number, struct_kind_at, kind_named, field_number, nowhere, struct_pointed_to, root_target, field_target}
+use Rattle.lower.specs.Names.{found_number, struct_kind_at, kind_named, field_number, nowhere}
+use Rattle.lower.specs.Names.{struct_pointed_to, root_target, field_target}
 use Rattle.lower.proofs.Few.{none_left, none_right, kept, and_right, le_from}
 use Rattle.lower.proofs.Sane.{IsSane, kind_of_struct}
 use Rattle.lower.proofs.GoodTypes.{IsGood, member_there, pointer_good}
 use Rattle.code_meaning.specs.Code as code
 use Rattle.code_meaning.specs.Code.{Spot, InRoot, InSlot, spot_of, fields_of, new_in, free_in}
 use Rattle.lower_law.proofs.Fits.{spot_in}
-use Rattle.lower_law.proofs.Typed.{slot_same, field_same, field_length, before_same, before_small, FieldThere, field_there}
+use Rattle.lower_law.proofs.Typed.{slot_same, field_same, field_length, before_same, before_small}
+use Rattle.lower_law.proofs.Typed.{FieldThere, field_there}
 
 zero_plus : (n : ℕ) → 0 + n ≡ n
 zero_plus n = omega arith

@@ -1,16 +1,20 @@
 -- The code of a function, and of all functions, does what the trees do, if their names fit.
-use Rattle.std.proofs.Common.{◌≡◌, ℕ, zero, suc, ◌+◌, ◌*◌, ◌-◌, ◌<◌, ◌≤◌, ℤ, pos, Bool, true, false, List, [], ◌∷◌, ◌++◌, map, length, refl, sym, ap, ◌∙◌, subst, arith, rules, zero-add, ⊎_elim}
-use Rattle.std.specs.Prelude.{Some, if◌then◌else◌, slice_get, slice_index_or, drop, option_map, option_and_then, nat_lt}
+use Rattle.std.proofs.Common.{◌≡◌, ℕ, zero, suc, ◌+◌, ◌*◌, ◌-◌, ◌<◌, ◌≤◌, ℤ, pos, Bool, true, false}
+use Rattle.std.proofs.Common.{List, [], ◌∷◌, ◌++◌, map, length, refl, sym, ap, ◌∙◌, subst, arith}
+use Rattle.std.proofs.Common.{rules, zero-add, ⊎_elim}
+use Rattle.std.specs.Prelude.{Some, if◌then◌else◌, slice_get, slice_index_or, drop, option_map}
+use Rattle.std.specs.Prelude.{option_and_then, nat_lt}
 use Rattle.std.proofs.lemmas.Bool.{cases_lt}
 use Rattle.std.proofs.lemmas.Option.{slice_get-map, slice_get_within, same_Some}
-use Rattle.c_parser.specs.StmtTree.{Statements}
-use Rattle.c_parser.specs.ItemTree.{FunctionTree, ParameterTree}
-use Rattle.c_parser.specs.Program.{Program, tree_of}
+use Rattle.c_tree.specs.StmtTree.{Statements}
+use Rattle.c_tree.specs.ItemTree.{FunctionTree, ParameterTree}
+use Rattle.c_tree.specs.Program.{Program, tree_of}
 use Rattle.c_types.specs.Tables.{Tables, tables_of, declared_type}
 use Rattle.pool_map.specs.PoolMap.{PoolMap}
 use Rattle.pool_map.specs.declared.trap.TrapKind.TheVariants as trap
 use Rattle.c_meaning.specs.Locals.{Local, bound, local_declared as with_declared}
-use Rattle.c_meaning.specs.Meaning.{Out, Got, Stops, StmtEnd, Next, Broke, Again, Gave, Traps, Calls, given, ends_of, function_value, calls_of}
+use Rattle.c_meaning.specs.Meaning.{Out, Got, Stops, StmtEnd, Next, Broke, Again, Gave, Traps}
+use Rattle.c_meaning.specs.Meaning.{Calls, given, ends_of, function_value, calls_of}
 use Rattle.ir.specs.declared.instruction.Instruction.{Instruction}
 use Rattle.ir.specs.declared.instruction.Instruction.TheVariants.{Const, Copy, Return}
 use Rattle.ir.specs.declared.function.IrFunction.{IrFunction}
@@ -19,13 +23,18 @@ use Rattle.ir.specs.Places.{instruction_at}
 use Rattle.lower.specs.Assigned.{is_assigned}
 use Rattle.lower.specs.Names.{Variables, variable_declared}
 use Rattle.lower.specs.Lowers.{Context, statements_end, statements_code}
-use Rattle.lower.specs.Program.{parameters_end, parameters_code, variables_after_parameters, no_variables, function_code, context_at, lowered_function, lowered}
+use Rattle.lower.specs.Program.{parameters_end, parameters_code, variables_after_parameters}
+use Rattle.lower.specs.Program.{no_variables, function_code, context_at, lowered_function, lowered}
 use Rattle.code_meaning.specs.Code as code
-use Rattle.code_meaning.specs.Code.{Frame, frame, CodeState, Here, Ended, Trapped, Unfinished, Stuck, Goes, Ends, gives, register_at, put_register, act, instruction_step, go_on, exec, opens, open_limit, IsOver, code_start, Means}
+use Rattle.code_meaning.specs.Code.{Frame, frame, CodeState, Here, Ended, Trapped, Unfinished}
+use Rattle.code_meaning.specs.Code.{Stuck, Goes, Ends, gives, register_at, put_register, act}
+use Rattle.code_meaning.specs.Code.{instruction_step, go_on, exec, opens, open_limit, IsOver}
+use Rattle.code_meaning.specs.Code.{code_start, Means}
 use Rattle.code_meaning.proofs.More.{end}
 use Rattle.code_meaning.specs.Whole.{whole}
 use Rattle.lower_law.specs.Law.{call_end, KeepsMeaning}
-use Rattle.lower_law.proofs.Paths.{Path, path_then, path_more, path_step, path_ends, path_first, at-put_same, at-put_other}
+use Rattle.lower_law.proofs.Paths.{Path, path_then, path_more, path_step, path_ends, path_first}
+use Rattle.lower_law.proofs.Paths.{at-put_same, at-put_other}
 use Rattle.lower_law.proofs.Has.{At, HasAt, statements_has}
 use Rattle.lower_law.proofs.Locals.{Entry, Agrees, Holds, below_more}
 use Rattle.lower_law.proofs.Scopes.{Differs, Over, declared_held, differs_below}

@@ -1,25 +1,35 @@
 -- Code at its place: the code after that of a tree begins where the tree's code ends.
-use Rattle.std.proofs.Common.{◌≡◌, ℕ, suc, ℤ, pos, List, [], ◌∷◌, ◌++◌, Option, Some, None, append_assoc}
+use Rattle.std.proofs.Common.{◌≡◌, ℕ, suc, ℤ, pos, List, [], ◌∷◌, ◌++◌, Option, Some, None}
+use Rattle.std.proofs.Common.{append_assoc}
 use Rattle.nvm_base.specs.declared.op.BinOp.{BinOp}
 use Rattle.nvm_base.specs.declared.op.BinOp.TheVariants as op
-use Rattle.c_parser.specs.declared.expr.UnaryOp.TheVariants as unary
-use Rattle.c_parser.specs.declared.stmt.AssignOp.TheVariants as assign
-use Rattle.c_parser.specs.ExprTree as expr
-use Rattle.c_parser.specs.ExprTree.{ExprTree, Arguments, Ident}
-use Rattle.c_parser.specs.StmtTree as stmt
-use Rattle.c_parser.specs.StmtTree.{StmtTree, Statements, SimpleTree, FirstTree, InitialTree}
-use Rattle.c_parser.specs.Program.{source_line}
+use Rattle.c_tree.specs.declared.expr.UnaryOp.TheVariants as unary
+use Rattle.c_tree.specs.declared.stmt.AssignOp.TheVariants as assign
+use Rattle.c_tree.specs.ExprTree as expr
+use Rattle.c_tree.specs.ExprTree.{ExprTree, Arguments, Ident}
+use Rattle.c_tree.specs.StmtTree as stmt
+use Rattle.c_tree.specs.StmtTree.{StmtTree, Statements, SimpleTree, FirstTree, InitialTree}
+use Rattle.c_tree.specs.Program.{source_line}
 use Rattle.c_types.specs.Expressions.{type_of}
 use Rattle.ir.specs.declared.instruction.Target.{Target}
 use Rattle.ir.specs.declared.instruction.Instruction.{Instruction}
-use Rattle.ir.specs.declared.instruction.Instruction.TheVariants.{Const, Copy, Bin, Jump, Branch, Load, Store, Free, Call, Return, Tick}
+use Rattle.ir.specs.declared.instruction.Instruction.TheVariants.{Const, Copy, Bin, Jump, Branch}
+use Rattle.ir.specs.declared.instruction.Instruction.TheVariants.{Load, Store, Free, Call, Return}
+use Rattle.ir.specs.declared.instruction.Instruction.TheVariants.{Tick}
 use Rattle.ir.specs.declared.function.Ir.{Ir}
 use Rattle.ir.specs.Places.{instruction_at}
 use Rattle.lower.specs.declared.form.Form.{Form}
 use Rattle.lower.specs.declared.form.Form.TheVariants.{Both, Either, Direct, Exchanged}
 use Rattle.lower.specs.Forms.{form_of}
-use Rattle.lower.specs.Names.{Variables, inner_variables, register_of, function_number, struct_kind_at, struct_pointed_to, variable_of}
-use Rattle.lower.specs.Lowers.{Context, exp_end, exp_code, reg_of, target_end, target_code, target_of, arguments_end, arguments_code, registers_of, form_end, form_code, truth_code, or_end, or_code, or_reg, set_end, set_code, update_end, update_code, step_operation, simple_end, simple_code, initial_end, initial_code, first_end, first_code, variables_after_first, third_end, third_code, variables_after, stmt_end, stmt_code, statements_end, statements_code}
+use Rattle.lower.specs.Names.{Variables, inner_variables, register_of, function_number}
+use Rattle.lower.specs.Names.{struct_kind_at, struct_pointed_to, variable_of}
+use Rattle.lower.specs.Lowers.{Context, exp_end, exp_code, reg_of, target_end, target_code}
+use Rattle.lower.specs.Lowers.{target_of, arguments_end, arguments_code, registers_of, form_end}
+use Rattle.lower.specs.Lowers.{form_code, truth_code, or_end, or_code, or_reg, set_end, set_code}
+use Rattle.lower.specs.Lowers.{update_end, update_code, step_operation, simple_end, simple_code}
+use Rattle.lower.specs.Lowers.{initial_end, initial_code, first_end, first_code}
+use Rattle.lower.specs.Lowers.{variables_after_first, third_end, third_code, variables_after}
+use Rattle.lower.specs.Lowers.{stmt_end, stmt_code, statements_end, statements_code}
 
 module _ (ir : Ir) (f : ℕ) where
   abbrev pub At : ℕ → Instruction → Type 0

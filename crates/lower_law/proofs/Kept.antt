@@ -1,33 +1,48 @@
 -- The code of a tree that breaks no rule never assigns parameters: it assigns registers of places,
 -- and those of variables that the function assigns, which are registers of places too.
-use Rattle.std.proofs.Common.{◌≡◌, ℕ, zero, suc, ◌+◌, ◌≤◌, pos, Bool, true, false, List, [], ◌∷◌, length, refl, sym, ap, ◌∙◌, subst, arith}
-use Rattle.std.specs.Prelude.{Option, None, Some, if◌then◌else◌, ◌||◌, slice_get, option_map, bytes_eq}
+use Rattle.std.proofs.Common.{◌≡◌, ℕ, zero, suc, ◌+◌, ◌≤◌, pos, Bool, true, false, List, [], ◌∷◌}
+use Rattle.std.proofs.Common.{length, refl, sym, ap, ◌∙◌, subst, arith}
+use Rattle.std.specs.Prelude.{Option, None, Some, if◌then◌else◌, ◌||◌, slice_get, option_map}
+use Rattle.std.specs.Prelude.{bytes_eq}
 use Rattle.std.specs.Option.{option_map_or}
 use Rattle.std.proofs.lemmas.Slice.Eq.{bytes_eq-Decides}
 use Rattle.std.proofs.lemmas.Option.{slice_get-map}
 use Rattle.nvm_base.specs.declared.op.BinOp.{BinOp}
 use Rattle.nvm_base.specs.declared.op.BinOp.TheVariants as op
-use Rattle.c_parser.specs.declared.stmt.AssignOp.TheVariants as assign
-use Rattle.c_parser.specs.ExprTree as expr
-use Rattle.c_parser.specs.ExprTree.{ExprTree, Arguments, Ident}
-use Rattle.c_parser.specs.StmtTree as stmt
-use Rattle.c_parser.specs.StmtTree.{StmtTree, Statements, SimpleTree, FirstTree, DeclarationTree, InitialTree}
-use Rattle.c_parser.specs.ItemTree.{FunctionTree, ParameterTree}
-use Rattle.c_parser.specs.Program.{Program, tree_of}
+use Rattle.c_tree.specs.declared.stmt.AssignOp.TheVariants as assign
+use Rattle.c_tree.specs.ExprTree as expr
+use Rattle.c_tree.specs.ExprTree.{ExprTree, Arguments, Ident}
+use Rattle.c_tree.specs.StmtTree as stmt
+use Rattle.c_tree.specs.StmtTree.{StmtTree, Statements, SimpleTree, FirstTree, DeclarationTree}
+use Rattle.c_tree.specs.StmtTree.{InitialTree}
+use Rattle.c_tree.specs.ItemTree.{FunctionTree, ParameterTree}
+use Rattle.c_tree.specs.Program.{Program, tree_of}
 use Rattle.c_types.specs.Tables.{Tables, tables_of, declared_type}
 use Rattle.ir.specs.declared.instruction.Instruction.{Instruction}
 use Rattle.ir.specs.declared.instruction.Instruction.TheVariants.{Copy}
 use Rattle.ir.specs.declared.function.IrFunction.{IrFunction}
 use Rattle.ir.specs.declared.function.Ir.{Ir}
-use Rattle.lower.specs.Assigned.{is_named, is_assignment, declares, first_declares, first_assigns, third_assigns, assigns_name, is_assigned}
-use Rattle.lower.specs.Names.{Variables, inner_variables, variable_declared, register_of, variable_of}
-use Rattle.lower.specs.Lowers.{Context, exp_end, exp_code, target_end, target_code, or_end, or_code, set_code, update_code, step_operation, simple_code, initial_end, first_end, first_code, variables_after_first, third_end, third_code, variables_after, stmt_end, stmt_code, statements_end, statements_code}
-use Rattle.lower.specs.Program.{parameters_end, parameters_code, variables_after_parameters, no_variables, function_code, context_at, lowered_function, lowered}
+use Rattle.lower.specs.Assigned.{is_named, is_assignment, declares, first_declares, first_assigns}
+use Rattle.lower.specs.Assigned.{third_assigns, assigns_name, is_assigned}
+use Rattle.lower.specs.Names.{Variables, inner_variables, variable_declared, register_of}
+use Rattle.lower.specs.Names.{variable_of}
+use Rattle.lower.specs.Lowers.{Context, exp_end, exp_code, target_end, target_code, or_end, or_code}
+use Rattle.lower.specs.Lowers.{set_code, update_code, step_operation, simple_code, initial_end}
+use Rattle.lower.specs.Lowers.{first_end, first_code, variables_after_first, third_end, third_code}
+use Rattle.lower.specs.Lowers.{variables_after, stmt_end, stmt_code, statements_end}
+use Rattle.lower.specs.Lowers.{statements_code}
+use Rattle.lower.specs.Program.{parameters_end, parameters_code, variables_after_parameters}
+use Rattle.lower.specs.Program.{no_variables, function_code, context_at, lowered_function, lowered}
 use Rattle.code_meaning.specs.Parameters.{KeepsParameters}
 use Rattle.lower_law.proofs.Locals.{Entry, Agrees, entry_register, register_found}
-use Rattle.lower_law.proofs.StmtFits.{TargetFits, SimpleFits, FirstFits, ThirdFits, StmtFits, StatementsFit, entry_in, first_entries, entries_after}
-use Rattle.lower_law.proofs.Functions.{parameter_entry, parameter_entries, ParametersFit, FunctionFits, ProgramFits}
-use Rattle.lower_law.proofs.Leaves.{IsFrom, Leaves, AllLeave, both_leave, Spares, false_true, same_some, bytes_self, bytes_turned, spares_part, spares_declared, or_leaves, initial_leaves, exp_leaves, target_leaves}
+use Rattle.lower_law.proofs.StmtFits.{TargetFits, SimpleFits, FirstFits, ThirdFits, StmtFits}
+use Rattle.lower_law.proofs.StmtFits.{StatementsFit, entry_in, first_entries, entries_after}
+use Rattle.lower_law.proofs.Functions.{parameter_entry, parameter_entries, ParametersFit}
+use Rattle.lower_law.proofs.Functions.{FunctionFits, ProgramFits}
+use Rattle.lower_law.proofs.Leaves.{IsFrom, Leaves, AllLeave, both_leave, Spares, false_true}
+use Rattle.lower_law.proofs.Leaves.{same_some, bytes_self, bytes_turned, spares_part}
+use Rattle.lower_law.proofs.Leaves.{spares_declared, or_leaves, initial_leaves, exp_leaves}
+use Rattle.lower_law.proofs.Leaves.{target_leaves}
 
 module _ (n : ℕ) (k : Context) (from : (q : ℕ) → n ≤ k.node q) where
   module _ (ir : Ir) where

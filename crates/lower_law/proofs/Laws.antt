@@ -4,8 +4,9 @@ use Rattle.std.proofs.Common.{◌≡◌, refl}
 use Rattle.std.specs.Prelude.{None, Some}
 use Rattle.c_meaning.specs.Transaction.{Outcome}
 use Rattle.lower.specs.Program.{lowered}
-use Rattle.code_meaning.specs.Code.{CodeEnd, Ended, Trapped, Unfinished, Stuck, exec, code_start, IsOver}
-use Rattle.c_parser.specs.Program.{tree_of}
+use Rattle.code_meaning.specs.Code.{CodeEnd, Ended, Trapped, Unfinished, Stuck, exec, code_start}
+use Rattle.code_meaning.specs.Code.{IsOver}
+use Rattle.c_tree.specs.Program.{tree_of}
 use Rattle.c_types.specs.Tables.{tables_of}
 use Rattle.lower_law.specs.Law.{ended_outcome, LowerLaw, TransactionLaw}
 use Rattle.lower_law.specs.Parameters.{ParametersLaw}

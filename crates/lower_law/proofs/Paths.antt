@@ -1,8 +1,10 @@
 -- Parts of a run, and lists read as maps.
-use Rattle.std.proofs.Common.{◌≡◌, ◌≢◌, ℕ, zero, suc, ◌+◌, ◌*◌, ◌≤◌, ℤ, List, [], ◌∷◌, refl, ap, ◌∙◌, arith, add_assoc}
+use Rattle.std.proofs.Common.{◌≡◌, ◌≢◌, ℕ, zero, suc, ◌+◌, ◌*◌, ◌≤◌, ℤ, List, [], ◌∷◌, refl, ap}
+use Rattle.std.proofs.Common.{◌∙◌, arith, add_assoc}
 use Rattle.std.proofs.Math.Numerals.{one-add}
 use Rattle.ir.specs.declared.function.Ir.{Ir}
-use Rattle.code_meaning.specs.Code.{CodeState, Move, Goes, instruction_step, go_on, exec, register_at, put_register}
+use Rattle.code_meaning.specs.Code.{CodeState, Move, Goes, instruction_step, go_on, exec}
+use Rattle.code_meaning.specs.Code.{register_at, put_register}
 
 -- c leads to d in n steps. If each tick pays for m steps, n is at most the way from p to q.
 pub record Path (ir : Ir) (m : ℕ) (c : CodeState) (d : Move) (p t q t' : ℕ) : Type 0 where

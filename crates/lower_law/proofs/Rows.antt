@@ -7,7 +7,9 @@ use Rattle.pool_map.specs.declared.shapes.Shapes.{Shapes}
 use Rattle.pool_map.specs.declared.trap.TrapKind.TheVariants as trap
 use Rattle.ir.specs.declared.instruction.Target.TheVariants as aim
 use Rattle.ir.specs.declared.instruction.Instruction.{Instruction}
-use Rattle.ir.specs.declared.instruction.Instruction.TheVariants.{Const, Bin, Jump, Branch, Load, Store, New, Free, Call, Return, Tick}
+use Rattle.ir.specs.declared.instruction.Instruction.TheVariants.{Const, Bin, Jump, Branch, Load}
+use Rattle.ir.specs.declared.instruction.Instruction.TheVariants.{Store, New, Free, Call, Return}
+use Rattle.ir.specs.declared.instruction.Instruction.TheVariants.{Tick}
 use Rattle.ir.specs.declared.function.Ir.{Ir}
 use Rattle.code_meaning.specs.Code.{Ended, Trapped, exec, code_start}
 

@@ -1,5 +1,6 @@
 -- Locals after declarations, assignments and the ends of scopes.
-use Rattle.std.proofs.Common.{◌≡◌, ◌≢◌, ℕ, suc, ◌-◌, ◌≤◌, ℤ, Bool, true, false, List, [], ◌∷◌, ◌++◌, length, refl, sym, ap, ◌∙◌, subst, arith}
+use Rattle.std.proofs.Common.{◌≡◌, ◌≢◌, ℕ, suc, ◌-◌, ◌≤◌, ℤ, Bool, true, false, List, [], ◌∷◌, ◌++◌}
+use Rattle.std.proofs.Common.{length, refl, sym, ap, ◌∙◌, subst, arith}
 use Rattle.std.specs.Prelude.{Option, None, Some, if◌then◌else◌, bytes_eq}
 use Rattle.c_types.specs.declared.value_type.ValueType.{ValueType}
 use Rattle.c_meaning.specs.Locals.{Local, assigned, oldest, local_declared}

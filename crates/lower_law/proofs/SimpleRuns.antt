@@ -1,18 +1,20 @@
 -- The code of assignments, updates, calls, frees, aborts and declarations does what they do.
-use Rattle.std.proofs.Common.{◌≡◌, ℕ, suc, ◌<◌, ◌≤◌, ℤ, pos, List, [], ◌∷◌, ◌++◌, refl, sym, ap, ◌∙◌, subst, arith, append_assoc}
+use Rattle.std.proofs.Common.{◌≡◌, ℕ, suc, ◌<◌, ◌≤◌, ℤ, pos, List, [], ◌∷◌, ◌++◌, refl, sym, ap}
+use Rattle.std.proofs.Common.{◌∙◌, subst, arith, append_assoc}
 use Rattle.std.specs.Prelude.{Option, None, Some, option_map}
 use Rattle.std.specs.Option.{option_map_or}
 use Rattle.nvm_base.specs.declared.op.BinOp.{BinOp}
 use Rattle.nvm_base.specs.declared.op.BinOp.TheVariants as op
-use Rattle.c_parser.specs.declared.expr.BinaryOp.{BinaryOp}
-use Rattle.c_parser.specs.declared.expr.BinaryOp.TheVariants as binary
-use Rattle.c_parser.specs.declared.stmt.AssignOp.TheVariants as assign
-use Rattle.c_parser.specs.declared.stmt.StepOp.TheVariants as stepping
-use Rattle.c_parser.specs.ExprTree as expr
-use Rattle.c_parser.specs.ExprTree.{ExprTree, Arguments, Ident}
-use Rattle.c_parser.specs.StmtTree as stmt
-use Rattle.c_parser.specs.StmtTree.{StmtTree, Statements, SimpleTree, FirstTree, DeclarationTree, InitialTree}
-use Rattle.c_parser.specs.Program.{source_line}
+use Rattle.c_tree.specs.declared.expr.BinaryOp.{BinaryOp}
+use Rattle.c_tree.specs.declared.expr.BinaryOp.TheVariants as binary
+use Rattle.c_tree.specs.declared.stmt.AssignOp.TheVariants as assign
+use Rattle.c_tree.specs.declared.stmt.StepOp.TheVariants as stepping
+use Rattle.c_tree.specs.ExprTree as expr
+use Rattle.c_tree.specs.ExprTree.{ExprTree, Arguments, Ident}
+use Rattle.c_tree.specs.StmtTree as stmt
+use Rattle.c_tree.specs.StmtTree.{StmtTree, Statements, SimpleTree, FirstTree, DeclarationTree}
+use Rattle.c_tree.specs.StmtTree.{InitialTree}
+use Rattle.c_tree.specs.Program.{source_line}
 use Rattle.c_types.specs.Tables.{declared_type}
 use Rattle.c_types.specs.Expressions.{type_of}
 use Rattle.pool_map.specs.PoolMap.{PoolMap}
@@ -21,24 +23,38 @@ use Rattle.c_meaning.specs.Locals.{Local, value_named, assigned, local_declared 
 use Rattle.c_meaning.specs.Operators.{binary_of}
 use Rattle.c_meaning.specs.Access.{word_named, target_field, free_object}
 use Rattle.c_meaning.specs.Meaning as meaning
-use Rattle.c_meaning.specs.Meaning.{Out, Got, Stops, StmtEnd, Next, Broke, Again, Gave, Traps, Calls, then_do, with_value, then_next, or_trap, loaded, at_zero, value_of, pointer_of, operands_of, stored_end, assign_to, update, target_local, freed, declaration_end, condition_of, return_end, in_scope, after_turn, turns, end_of_stmt, ends_of}
+use Rattle.c_meaning.specs.Meaning.{Out, Got, Stops, StmtEnd, Next, Broke, Again, Gave, Traps}
+use Rattle.c_meaning.specs.Meaning.{Calls, then_do, with_value, then_next, or_trap, loaded, at_zero}
+use Rattle.c_meaning.specs.Meaning.{value_of, pointer_of, operands_of, stored_end, assign_to}
+use Rattle.c_meaning.specs.Meaning.{update, target_local, freed, declaration_end, condition_of}
+use Rattle.c_meaning.specs.Meaning.{return_end, in_scope, after_turn, turns, end_of_stmt, ends_of}
 use Rattle.ir.specs.declared.instruction.Target.{Target}
 use Rattle.ir.specs.declared.instruction.Instruction.{Instruction}
 use Rattle.ir.specs.declared.instruction.Instruction.TheVariants.{Copy, Bin, Load, Store, Free}
 use Rattle.ir.specs.declared.function.Ir.{Ir}
-use Rattle.lower.specs.Names.{Variables, register_of, variable_of, struct_kind_at, struct_pointed_to, element_target}
-use Rattle.lower.specs.Lowers.{Context, exp_end, exp_code, reg_of, target_end, target_code, target_of, or_end, or_code, or_reg, set_end, set_code, update_end, update_code, simple_end, simple_code, initial_end, initial_code, third_end, third_code}
+use Rattle.lower.specs.Names.{Variables, register_of, variable_of, struct_kind_at}
+use Rattle.lower.specs.Names.{struct_pointed_to, element_target}
+use Rattle.lower.specs.Lowers.{Context, exp_end, exp_code, reg_of, target_end, target_code}
+use Rattle.lower.specs.Lowers.{target_of, or_end, or_code, or_reg, set_end, set_code, update_end}
+use Rattle.lower.specs.Lowers.{update_code, simple_end, simple_code, initial_end, initial_code}
+use Rattle.lower.specs.Lowers.{third_end, third_code}
 use Rattle.lower.proofs.Ends.{exp_end_le, target_end_le, or_end_le}
-use Rattle.code_meaning.specs.Code.{Frame, Here, Goes, Move, Spot, register_at, put_register, act, instruction_step, word_of, with_word, with_ok, spot_of, base_in, index_in, free_in, store_spot}
+use Rattle.code_meaning.specs.Code.{Frame, Here, Goes, Move, Spot, register_at, put_register, act}
+use Rattle.code_meaning.specs.Code.{instruction_step, word_of, with_word, with_ok, spot_of, base_in}
+use Rattle.code_meaning.specs.Code.{index_in, free_in, store_spot}
 use Rattle.lower_law.proofs.Paths.{path_step, path_ends}
 use Rattle.lower_law.proofs.Has.{At, HasAt, exp_has, target_has, or_has}
-use Rattle.lower_law.proofs.Locals.{Entry, Agrees, Holds, AreBelow, Same, entry_register, value_held, held_after, below_more, scopes_held, register_found}
+use Rattle.lower_law.proofs.Locals.{Entry, Agrees, Holds, AreBelow, Same, entry_register}
+use Rattle.lower_law.proofs.Locals.{value_held, held_after, below_more, scopes_held, register_found}
 use Rattle.lower_law.proofs.Scopes.{AreApart, declared_held, assigned_held}
 use Rattle.lower_law.proofs.Fits.{WordFits, ExpFits}
-use Rattle.lower_law.proofs.StmtFits.{PlaceFits, TargetFits, OrFits, SimpleFits, InitialFits, ThirdFits, entry_in}
-use Rattle.lower_law.proofs.ExprSteps.{CallsRun, Gives, grows, gives_then, puts, last_gives, stays, field_gives, element_fits, element_base, element_index}
+use Rattle.lower_law.proofs.StmtFits.{PlaceFits, TargetFits, OrFits, SimpleFits, InitialFits}
+use Rattle.lower_law.proofs.StmtFits.{ThirdFits, entry_in}
+use Rattle.lower_law.proofs.ExprSteps.{CallsRun, Gives, grows, gives_then, puts, last_gives, stays}
+use Rattle.lower_law.proofs.ExprSteps.{field_gives, element_fits, element_base, element_index}
 use Rattle.lower_law.proofs.ExprRuns.{reg_le, pointer_kept, pointer_word, exp_runs, pointer_runs}
-use Rattle.lower_law.proofs.StmtSteps.{local_is, or_value, Runs, value_then, stands_still, store_runs, free_runs, operands_at}
+use Rattle.lower_law.proofs.StmtSteps.{local_is, or_value, Runs, value_then, stands_still}
+use Rattle.lower_law.proofs.StmtSteps.{store_runs, free_runs, operands_at}
 
 module _ (ir : Ir) (m f : ℕ) (k : Context) (rises : (p q : ℕ) → p < q → k.node p < k.node q)
     (below : List Frame) (calls : Calls) (run : CallsRun k.tables ir m f below calls) where

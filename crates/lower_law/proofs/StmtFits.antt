@@ -1,18 +1,21 @@
 -- The conditions on the names of a statement under which its code does what it means.
 use Rattle.std.proofs.Common.{◌≡◌, ℕ, suc, ℤ, List, ◌∷◌}
 use Rattle.std.specs.Prelude.{Option, None, Some}
-use Rattle.c_parser.specs.ExprTree as expr
-use Rattle.c_parser.specs.ExprTree.{ExprTree, Ident}
-use Rattle.c_parser.specs.StmtTree as stmt
-use Rattle.c_parser.specs.StmtTree.{StmtTree, Statements, SimpleTree, FirstTree, DeclarationTree, InitialTree}
+use Rattle.c_tree.specs.ExprTree as expr
+use Rattle.c_tree.specs.ExprTree.{ExprTree, Ident}
+use Rattle.c_tree.specs.StmtTree as stmt
+use Rattle.c_tree.specs.StmtTree.{StmtTree, Statements, SimpleTree, FirstTree, DeclarationTree}
+use Rattle.c_tree.specs.StmtTree.{InitialTree}
 use Rattle.c_types.specs.Tables.{declared_type}
 use Rattle.c_types.specs.Expressions.{type_of}
 use Rattle.pool_map.specs.PoolMap.{PoolMap}
 use Rattle.c_meaning.specs.Locals.{Local, scopes_of}
 use Rattle.c_meaning.specs.Access.{free_object}
 use Rattle.ir.specs.declared.function.Ir.{Ir}
-use Rattle.lower.specs.Names.{Variables, inner_variables, variable_declared, variable_of, struct_kind_at, struct_pointed_to}
-use Rattle.lower.specs.Lowers.{Context, exp_end, or_end, initial_end, first_end, variables_after_first, variables_after, stmt_end}
+use Rattle.lower.specs.Names.{Variables, inner_variables, variable_declared, variable_of}
+use Rattle.lower.specs.Names.{struct_kind_at, struct_pointed_to}
+use Rattle.lower.specs.Lowers.{Context, exp_end, or_end, initial_end, first_end}
+use Rattle.lower.specs.Lowers.{variables_after_first, variables_after, stmt_end}
 use Rattle.code_meaning.specs.Code.{free_in}
 use Rattle.lower_law.proofs.Locals.{Entry, Agrees, entry_register, scopes_in}
 use Rattle.lower_law.proofs.Fits.{ExpFits, PointerFits, FieldFits}

@@ -1,29 +1,43 @@
 -- The code of a statement does what the statement does.
-use Rattle.std.proofs.Common.{◌≡◌, ℕ, suc, ◌<◌, ◌≤◌, ℤ, pos, List, ◌∷◌, ◌++◌, length, refl, ap, ◌∙◌, subst, arith, append_assoc}
+use Rattle.std.proofs.Common.{◌≡◌, ℕ, suc, ◌<◌, ◌≤◌, ℤ, pos, List, ◌∷◌, ◌++◌, length, refl, ap, ◌∙◌}
+use Rattle.std.proofs.Common.{subst, arith, append_assoc}
 use Rattle.std.specs.Prelude.{Option, None, Some}
-use Rattle.c_parser.specs.ExprTree.{ExprTree}
-use Rattle.c_parser.specs.StmtTree as stmt
-use Rattle.c_parser.specs.StmtTree.{StmtTree, Statements, SimpleTree, FirstTree, DeclarationTree, InitialTree}
+use Rattle.c_tree.specs.ExprTree.{ExprTree}
+use Rattle.c_tree.specs.StmtTree as stmt
+use Rattle.c_tree.specs.StmtTree.{StmtTree, Statements, SimpleTree, FirstTree, DeclarationTree}
+use Rattle.c_tree.specs.StmtTree.{InitialTree}
 use Rattle.c_types.specs.Tables.{declared_type}
 use Rattle.pool_map.specs.PoolMap.{PoolMap}
 use Rattle.c_meaning.specs.Locals.{Local}
 use Rattle.c_meaning.specs.Meaning as meaning
-use Rattle.c_meaning.specs.Meaning.{Out, Got, Stops, StmtEnd, Next, Broke, Again, Gave, Traps, Calls, then_do, with_value, then_next, or_trap, loaded, at_zero, value_of, pointer_of, operands_of, stored_end, assign_to, update, target_local, freed, declaration_end, condition_of, return_end, in_scope, after_turn, turns, end_of_stmt, ends_of}
+use Rattle.c_meaning.specs.Meaning.{Out, Got, Stops, StmtEnd, Next, Broke, Again, Gave, Traps}
+use Rattle.c_meaning.specs.Meaning.{Calls, then_do, with_value, then_next, or_trap, loaded, at_zero}
+use Rattle.c_meaning.specs.Meaning.{value_of, pointer_of, operands_of, stored_end, assign_to}
+use Rattle.c_meaning.specs.Meaning.{update, target_local, freed, declaration_end, condition_of}
+use Rattle.c_meaning.specs.Meaning.{return_end, in_scope, after_turn, turns, end_of_stmt, ends_of}
 use Rattle.ir.specs.declared.instruction.Instruction.{Instruction}
 use Rattle.ir.specs.declared.instruction.Instruction.TheVariants.{Jump, Branch, Return, Tick}
 use Rattle.ir.specs.declared.function.Ir.{Ir}
 use Rattle.lower.specs.Names.{Variables, inner_variables, variable_declared}
-use Rattle.lower.specs.Lowers.{Context, exp_end, exp_code, reg_of, or_end, or_code, or_reg, simple_end, initial_end, first_end, first_code, variables_after_first, third_end, third_code, variables_after, stmt_end, stmt_code, statements_end, statements_code}
-use Rattle.lower.proofs.Ends.{exp_end_le, or_end_le, simple_end_le, first_end_le, third_end_le, stmt_end_le, statements_end_le}
+use Rattle.lower.specs.Lowers.{Context, exp_end, exp_code, reg_of, or_end, or_code, or_reg}
+use Rattle.lower.specs.Lowers.{simple_end, initial_end, first_end, first_code}
+use Rattle.lower.specs.Lowers.{variables_after_first, third_end, third_code, variables_after}
+use Rattle.lower.specs.Lowers.{stmt_end, stmt_code, statements_end, statements_code}
+use Rattle.lower.proofs.Ends.{exp_end_le, or_end_le, simple_end_le, first_end_le, third_end_le}
+use Rattle.lower.proofs.Ends.{stmt_end_le, statements_end_le}
 use Rattle.code_meaning.specs.Code.{Frame, gives, register_at, act}
 use Rattle.lower_law.proofs.Paths.{path_then, path_step}
 use Rattle.lower_law.proofs.Has.{At, HasAt, exp_has, or_has, first_has, third_has, stmt_has}
 use Rattle.lower_law.proofs.Locals.{Entry, Holds, below_more}
 use Rattle.lower_law.proofs.Scopes.{Over, over, over_less, length_held, scope_end, differs_below}
-use Rattle.lower_law.proofs.StmtFits.{DeclarationFits, FirstFits, StmtFits, StatementsFit, entry_in, first_entries, entries_after}
+use Rattle.lower_law.proofs.StmtFits.{DeclarationFits, FirstFits, StmtFits, StatementsFit, entry_in}
+use Rattle.lower_law.proofs.StmtFits.{first_entries, entries_after}
 use Rattle.lower_law.proofs.ExprSteps.{CallsRun, Gives, puts, at_branch}
-use Rattle.lower_law.proofs.StmtSteps.{or_value, Runs, runs_map, runs_scope, value_then, next_then, branch_runs, then_jump, stands_still, still_at, back_jump, loop_runs}
-use Rattle.lower_law.proofs.SimpleRuns.{Scoped, scoped_after, held_at, exp_gives, or_gives, simple_runs, third_runs, declaration_runs}
+use Rattle.lower_law.proofs.StmtSteps.{or_value, Runs, runs_map, runs_scope, value_then, next_then}
+use Rattle.lower_law.proofs.StmtSteps.{branch_runs, then_jump, stands_still, still_at, back_jump}
+use Rattle.lower_law.proofs.StmtSteps.{loop_runs}
+use Rattle.lower_law.proofs.SimpleRuns.{Scoped, scoped_after, held_at, exp_gives, or_gives}
+use Rattle.lower_law.proofs.SimpleRuns.{simple_runs, third_runs, declaration_runs}
 
 module _ (ir : Ir) (m f : ℕ) (k : Context) (rises : (p q : ℕ) → p < q → k.node p < k.node q)
     (below : List Frame) (calls : Calls) (run : CallsRun k.tables ir m f below calls) where

@@ -1,21 +1,26 @@
 -- The steps of a statement's code: how it may end, what follows, branches, loops, stores and frees.
-use Rattle.std.proofs.Common.{◌≡◌, ℕ, zero, suc, ◌+◌, ◌<◌, ◌≤◌, ℤ, pos, negsuc, List, refl, sym, ap, ◌∙◌, arith, zero-add}
+use Rattle.std.proofs.Common.{◌≡◌, ℕ, zero, suc, ◌+◌, ◌<◌, ◌≤◌, ℤ, pos, negsuc, List, refl, sym, ap}
+use Rattle.std.proofs.Common.{◌∙◌, arith, zero-add}
 use Rattle.std.specs.Prelude.{Option, None, Some, Result, Ok, Err, if◌then◌else◌, option_map}
-use Rattle.c_parser.specs.ExprTree as expr
-use Rattle.c_parser.specs.ExprTree.{ExprTree, Arguments, Ident}
+use Rattle.c_tree.specs.ExprTree as expr
+use Rattle.c_tree.specs.ExprTree.{ExprTree, Arguments, Ident}
 use Rattle.pool_map.specs.PoolMap.{PoolMap, object_at, write}
 use Rattle.pool_map.specs.declared.trap.TrapKind.{TrapKind}
 use Rattle.c_meaning.specs.declared.word.Word.{Word}
 use Rattle.c_meaning.specs.declared.word.Word.TheVariants.{Root, Field}
 use Rattle.c_meaning.specs.Locals.{Local, oldest}
 use Rattle.c_meaning.specs.Access.{has_word, write_word as store_word}
-use Rattle.c_meaning.specs.Meaning.{Out, Got, Stops, StmtEnd, Next, Broke, Again, Gave, Traps, Calls, with_value, then_next, at_zero, value_of, stored_end, target_local, freed, in_scope, after_turn, turns}
+use Rattle.c_meaning.specs.Meaning.{Out, Got, Stops, StmtEnd, Next, Broke, Again, Gave, Traps}
+use Rattle.c_meaning.specs.Meaning.{Calls, with_value, then_next, at_zero, value_of, stored_end}
+use Rattle.c_meaning.specs.Meaning.{target_local, freed, in_scope, after_turn, turns}
 use Rattle.ir.specs.declared.instruction.Target.{Target}
 use Rattle.ir.specs.declared.instruction.Instruction.TheVariants.{Jump, Branch, Tick}
 use Rattle.ir.specs.declared.function.Ir.{Ir}
 use Rattle.lower.specs.Names.{variable_of}
 use Rattle.lower.specs.Lowers.{Context}
-use Rattle.code_meaning.specs.Code.{Frame, Here, Trapped, Goes, Ends, Move, InSlot, gives, register_at, act, instruction_step, exec, is_zero, with_ok, base_in, index_in, has_word as has_word_in, store_spot}
+use Rattle.code_meaning.specs.Code.{Frame, Here, Trapped, Goes, Ends, Move, InSlot, gives}
+use Rattle.code_meaning.specs.Code.{register_at, act, instruction_step, exec, is_zero, with_ok}
+use Rattle.code_meaning.specs.Code.{base_in, index_in, has_word as has_word_in, store_spot}
 use Rattle.lower_law.proofs.Paths.{Path, path_then, path_more, path_step, path_ends, path_tick}
 use Rattle.lower_law.proofs.Has.{At}
 use Rattle.lower_law.proofs.Locals.{Same}

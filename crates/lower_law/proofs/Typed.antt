@@ -1,15 +1,19 @@
 -- Facts on a tree that breaks no rule: the functions that are called, the checks, and the words of
 -- fields.
-use Rattle.std.proofs.Common.{◌≡◌, ℕ, zero, suc, ◌+◌, ◌*◌, ◌<◌, ◌≤◌, ℤ, pos, negsuc, Bool, true, false, List, [], ◌∷◌, length, map, refl, ap, ◌∙◌, arith, rules}
-use Rattle.std.specs.Prelude.{Option, None, Some, option_map, option_and_then, slice_get, nat_lt, nat_le, if◌then◌else◌, unwrap_or, ◌&&◌}
+use Rattle.std.proofs.Common.{◌≡◌, ℕ, zero, suc, ◌+◌, ◌*◌, ◌<◌, ◌≤◌, ℤ, pos, negsuc, Bool, true}
+use Rattle.std.proofs.Common.{false, List, [], ◌∷◌, length, map, refl, ap, ◌∙◌, arith, rules}
+use Rattle.std.specs.Prelude.{Option, None, Some, option_map, option_and_then, slice_get, nat_lt}
+use Rattle.std.specs.Prelude.{nat_le, if◌then◌else◌, unwrap_or, ◌&&◌}
 use Rattle.std.specs.Option.{option_map_or}
 use Rattle.std.specs.Int.{w64, cast_unsigned}
 use Rattle.std.proofs.lemmas.Option.{slice_get_within}
-use Rattle.c_parser.specs.ExprTree.{Ident}
-use Rattle.c_parser.specs.ItemTree.{FieldTree, LengthTree}
+use Rattle.c_tree.specs.ExprTree.{Ident}
+use Rattle.c_tree.specs.ItemTree.{FieldTree, LengthTree}
 use Rattle.c_types.specs.declared.broken.Rule.TheVariants.{Twice}
 use Rattle.c_types.specs.Broken.{unless}
-use Rattle.c_types.specs.Tables.{Tables, StructTree, function_named, function_names, index_of, field_names, field_named, is_length, is_first, length_words, field_words, field_words_before}
+use Rattle.c_types.specs.Tables.{Tables, StructTree, function_named, function_names, index_of}
+use Rattle.c_types.specs.Tables.{field_names, field_named, is_length, is_first, length_words}
+use Rattle.c_types.specs.Tables.{field_words, field_words_before}
 use Rattle.c_types.specs.Statements.{type_broken}
 use Rattle.c_types.specs.Shapes.{field_shape}
 use Rattle.c_types.specs.Declarations.{length_broken, field_broken, fields_broken}

@@ -1,7 +1,8 @@
 -- Lowering keeps the meaning: the code of a tree that breaks no rule does what the tree means.
-use Rattle.std.specs.Prelude.{◌≡◌, ℕ, zero, suc, ◌+◌, ◌*◌, ℤ, List, [], ◌∷◌, length, Option, None, Some, slice_get, if◌then◌else◌}
-use Rattle.c_parser.specs.ItemTree.{FunctionTree}
-use Rattle.c_parser.specs.Program.{Program, tree_of}
+use Rattle.std.specs.Prelude.{◌≡◌, ℕ, zero, suc, ◌+◌, ◌*◌, ℤ, List, [], ◌∷◌, length, Option, None}
+use Rattle.std.specs.Prelude.{Some, slice_get, if◌then◌else◌}
+use Rattle.c_tree.specs.ItemTree.{FunctionTree}
+use Rattle.c_tree.specs.Program.{Program, tree_of}
 use Rattle.c_types.specs.Tables.{Tables, tables_of}
 use Rattle.c_types.specs.Fault.{breaks}
 use Rattle.pool_map.specs.PoolMap.{PoolMap}
@@ -11,7 +12,8 @@ use Rattle.ir.specs.declared.function.IrFunction.{IrFunction}
 use Rattle.ir.specs.declared.function.Ir.{Ir}
 use Rattle.lower.specs.Program.{lowered}
 use Rattle.code_meaning.specs.Whole.{whole}
-use Rattle.code_meaning.specs.Code.{CodeEnd, Ended, Trapped, Unfinished, Stuck, exec, code_start, Means}
+use Rattle.code_meaning.specs.Code.{CodeEnd, Ended, Trapped, Unfinished, Stuck, exec, code_start}
+use Rattle.code_meaning.specs.Code.{Means}
 
 -- the end of a run that does what a call does
 abbrev pub call_end : Out ℤ → CodeEnd

@@ -1,5 +1,6 @@
 -- From tests of lists to what holds of each element.
-use Rattle.std.proofs.Common.{◌≡◌, ℕ, zero, suc, ◌+◌, ◌-◌, ◌<◌, List, [], ◌∷◌, length, get_or, drop, arith, refl, ap}
+use Rattle.std.proofs.Common.{◌≡◌, ℕ, zero, suc, ◌+◌, ◌-◌, ◌<◌, List, [], ◌∷◌, length, get_or, drop}
+use Rattle.std.proofs.Common.{arith, refl, ap}
 use Rattle.std.specs.Prelude.{None, Some, slice_get}
 use Rattle.std.specs.List.{AllByRecursion}
 use Rattle.ir.specs.declared.instruction.Instruction.{Instruction}

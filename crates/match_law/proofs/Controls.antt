@@ -1,6 +1,9 @@
 -- Jumps, branches, calls and returns: one step of the machine each, except for the return of a
 -- transaction.
-use Rattle.std.proofs.Common.{◌≡◌, inl, ℕ, zero, suc, ◌+◌, ◌*◌, ◌<◌, ◌≤◌, Bool, true, false, List, [], ◌∷◌, ◌++◌, length, map, replicate, slice_get, get_or, set, Option, None, Some, ℤ, pos, negsuc, refl, sym, ap, ◌∙◌, subst, arith, ltb, length-set}
+use Rattle.std.proofs.Common.{◌≡◌, inl, ℕ, zero, suc, ◌+◌, ◌*◌, ◌<◌, ◌≤◌, Bool, true, false, List}
+use Rattle.std.proofs.Common.{[], ◌∷◌, ◌++◌, length, map, replicate, slice_get, get_or, set, Option}
+use Rattle.std.proofs.Common.{None, Some, ℤ, pos, negsuc, refl, sym, ap, ◌∙◌, subst, arith, ltb}
+use Rattle.std.proofs.Common.{length-set}
 use Rattle.std.specs.Prelude.{if◌then◌else◌, nat_lt, option_and_then}
 use Rattle.std.specs.List.{AllByRecursion}
 use Rattle.std.specs.Ordering.{int_eq}
@@ -13,7 +16,8 @@ use Rattle.ir.specs.declared.instruction.Instruction.TheVariants as ir
 use Rattle.ir.specs.declared.function.IrFunction.{IrFunction}
 use Rattle.ir.specs.declared.function.Ir.{Ir}
 use Rattle.ir.specs.WellFormed.{TakesArgs}
-use Rattle.code_meaning.specs.Code.{CodeState, Here, Move, register_at, put_register, gives, opens, is_zero, open_limit}
+use Rattle.code_meaning.specs.Code.{CodeState, Here, Move, register_at, put_register, gives, opens}
+use Rattle.code_meaning.specs.Code.{is_zero, open_limit}
 use Rattle.code_meaning.specs.Code as code
 use Rattle.pm_machine.specs.declared.effect.Effect.TheVariants.{Quiet}
 use Rattle.pm_machine.specs.declared.effect.End.TheVariants.{Halted, Trapped}
@@ -21,7 +25,8 @@ use Rattle.pm_machine.specs.declared.frame.Frame.{Frame}
 use Rattle.pm_machine.specs.declared.image.Image.{Image}
 use Rattle.pm_machine.specs.declared.op.Op.{Op}
 use Rattle.pm_machine.specs.declared.op.Op.TheVariants as op
-use Rattle.pm_machine.specs.Machine.{fetch, fetch_in, tally, moved_to, passed, frame_at, entered, returned, registers_placed}
+use Rattle.pm_machine.specs.Machine.{fetch, fetch_in, tally, moved_to, passed, frame_at, entered}
+use Rattle.pm_machine.specs.Machine.{returned, registers_placed}
 use Rattle.pm_machine.specs.Machine as machine
 use Rattle.codegen.specs.Emit.{place_in, instruction_code, return_code}
 use Rattle.emit_law.specs.Moments.{RunMoment, Stage, On, Over, moment_after, staged, go}
@@ -29,7 +34,8 @@ use Rattle.emit_law.specs.Standing.{logged_before, table_of}
 use Rattle.piece_law.specs.Shows.{done}
 use Rattle.piece_law.specs.Stands.{Stands}
 use Rattle.match_law.specs.Compiled.{IsCompiled}
-use Rattle.match_law.specs.Match.{IsOpenIn, is_last, Waits, AreMatched, MovesToo, own_steps, flushes}
+use Rattle.match_law.specs.Match.{IsOpenIn, is_last, Waits, AreMatched, MovesToo, own_steps}
+use Rattle.match_law.specs.Match.{flushes}
 use Rattle.match_law.proofs.Runs.{single, returns}
 use Rattle.match_law.proofs.Registers.{set_put, placed_is, placed_length}
 use Rattle.match_law.proofs.Places.{first_is, stands_op, place_next}

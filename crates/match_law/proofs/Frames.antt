@@ -1,5 +1,6 @@
 -- The frames below, the innermost last.
-use Rattle.std.proofs.Common.{◌≡◌, ℕ, ◌-◌, List, [], ◌∷◌, ◌++◌, length, take, slice_get, Some, refl, ap, ◌∙◌, arith, length-append}
+use Rattle.std.proofs.Common.{◌≡◌, ℕ, ◌-◌, List, [], ◌∷◌, ◌++◌, length, take, slice_get, Some, refl}
+use Rattle.std.proofs.Common.{ap, ◌∙◌, arith, length-append}
 use Rattle.ir.specs.declared.function.Ir.{Ir}
 use Rattle.pool_layout.specs.declared.limits.Sizes.{Sizes}
 use Rattle.code_meaning.specs.Code as code

@@ -1,5 +1,6 @@
 -- Emitted code keeps the meaning of the code.
-use Rattle.std.proofs.Common.{◌≡◌, inl, inr, ℕ, zero, suc, ◌+◌, ◌-◌, ◌*◌, ◌≤◌, List, [], sym, ap, ◌∙◌, subst, arith}
+use Rattle.std.proofs.Common.{◌≡◌, inl, inr, ℕ, zero, suc, ◌+◌, ◌-◌, ◌*◌, ◌≤◌, List, [], sym, ap}
+use Rattle.std.proofs.Common.{◌∙◌, subst, arith}
 use Rattle.cache_model.specs.Cache.{Words}
 use Rattle.ir.specs.declared.function.Ir.{Ir}
 use Rattle.code_meaning.specs.Code as code

@@ -1,5 +1,6 @@
 -- An instruction that stays in its function goes on to the next place, with the same callers.
-use Rattle.std.proofs.Common.{◌≡◌, ℕ, zero, suc, Bool, List, length, Option, None, Some, Result, Ok, Err, ℤ, refl}
+use Rattle.std.proofs.Common.{◌≡◌, ℕ, zero, suc, Bool, List, length, Option, None, Some, Result, Ok}
+use Rattle.std.proofs.Common.{Err, ℤ, refl}
 use Rattle.std.proofs.lemmas.List.{length-map}
 use Rattle.pool_map.specs.declared.shapes.Shapes.{Shapes}
 use Rattle.pool_map.specs.declared.trap.TrapKind.{TrapKind}
@@ -10,7 +11,8 @@ use Rattle.pool_layout.specs.declared.limits.Sizes.{Sizes}
 use Rattle.ir.specs.declared.instruction.Instruction.{Instruction}
 use Rattle.ir.specs.declared.instruction.Instruction.TheVariants as ir
 use Rattle.ir.specs.declared.function.Ir.{Ir}
-use Rattle.code_meaning.specs.Code.{Here, Move, Goes, Ends, Frame, register_at, word_of, with_word, with_ok, takes_tick, spot_of, base_in, index_in, free_in, act}
+use Rattle.code_meaning.specs.Code.{Here, Move, Goes, Ends, Frame, register_at, word_of, with_word}
+use Rattle.code_meaning.specs.Code.{with_ok, takes_tick, spot_of, base_in, index_in, free_in, act}
 use Rattle.pm_machine.specs.Machine.{trap_at}
 use Rattle.pm_alloc.specs.Placing.{placed}
 use Rattle.codegen.specs.Emit.{local_code, instruction_code}

@@ -1,5 +1,7 @@
 -- An instruction that stays in its function: its piece in its place.
-use Rattle.std.proofs.Common.{◌≡◌, ℕ, zero, suc, ◌+◌, ◌<◌, Bool, true, false, List, length, slice_get, get_or, Option, Some, ℤ, pos, refl, sym, ap, ◌∙◌, subst, arith}
+use Rattle.std.proofs.Common.{◌≡◌, ℕ, zero, suc, ◌+◌, ◌<◌, Bool, true, false, List, length}
+use Rattle.std.proofs.Common.{slice_get, get_or, Option, Some, ℤ, pos, refl, sym, ap, ◌∙◌, subst}
+use Rattle.std.proofs.Common.{arith}
 use Rattle.pool_map.specs.PoolFits.{PoolFits}
 use Rattle.pool_map.specs.PoolMap.{PoolMap}
 use Rattle.ir.specs.declared.instruction.Instruction.{Instruction}

@@ -1,5 +1,6 @@
 -- The effect of a piece, and the machine's steps for it.
-use Rattle.std.proofs.Common.{◌≡◌, inl, inr, ℕ, suc, ◌+◌, Bool, List, ◌∷◌, ℤ, refl, sym, ap, ◌∙◌, subst, ◌≤◌, Option}
+use Rattle.std.proofs.Common.{◌≡◌, inl, inr, ℕ, suc, ◌+◌, Bool, List, ◌∷◌, ℤ, refl, sym, ap, ◌∙◌}
+use Rattle.std.proofs.Common.{subst, ◌≤◌, Option}
 use Rattle.pool_map.specs.declared.trap.TrapKind.{TrapKind}
 use Rattle.pool_map.specs.declared.trap.TrapKind.TheVariants as kinds
 use Rattle.pool_map.specs.Trap.{trap_number}
@@ -23,7 +24,8 @@ use Rattle.emit_law.specs.Moments.{RunMoment, Stage, On, Over, onto, go}
 use Rattle.emit_law.specs.Placed.{heard, Setting, Same, Follows}
 use Rattle.piece_law.specs.Law.{onward, PieceEnds, Does, goes, traps, full}
 use Rattle.piece_law.specs.Stands.{heap_word, header_word}
-use Rattle.piece_law.specs.Shows.{ShowsDeeds, done, looks, scans, reads, plain, logs, heads, IsCutAtStore}
+use Rattle.piece_law.specs.Shows.{ShowsDeeds, done, looks, scans, reads, plain, logs, heads}
+use Rattle.piece_law.specs.Shows.{IsCutAtStore}
 use Rattle.match_law.specs.Accesses.{accesses}
 use Rattle.match_law.specs.Compiled.{is_logged_in_code}
 use Rattle.match_law.specs.Match.{AreMatched, StopsFull, EndsToo, MovesToo, own_steps, flushes}

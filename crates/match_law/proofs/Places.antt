@@ -1,5 +1,6 @@
 -- The places where each instruction's code begins and where the next one's begins.
-use Rattle.std.proofs.Common.{◌≡◌, ℕ, zero, suc, ◌+◌, ◌<◌, ◌^◌, Bool, true, false, List, [], ◌∷◌, ◌++◌, length, slice_get, Some, refl, sym, ap, ◌∙◌, subst, arith}
+use Rattle.std.proofs.Common.{◌≡◌, ℕ, zero, suc, ◌+◌, ◌<◌, ◌^◌, Bool, true, false, List, [], ◌∷◌}
+use Rattle.std.proofs.Common.{◌++◌, length, slice_get, Some, refl, sym, ap, ◌∙◌, subst, arith}
 use Rattle.std.specs.Prelude.{◌-◌, slice_index_or, if◌then◌else◌, nat_lt}
 use Rattle.std.proofs.lemmas.Bool.{lt-ltb}
 use Rattle.pool_map.specs.declared.shapes.Shapes.{Shapes}
@@ -9,7 +10,8 @@ use Rattle.ir.specs.declared.function.IrFunction.{IrFunction}
 use Rattle.pm_machine.specs.declared.op.Op.{Op}
 use Rattle.pm_machine.specs.declared.op.Function.{Function}
 use Rattle.pm_alloc.specs.Placing.{sum}
-use Rattle.codegen.specs.Emit.{piece_width, is_log, instruction_places, place_in, instruction_code, code_from, emitted_code, trap_function, with_code, function_of}
+use Rattle.codegen.specs.Emit.{piece_width, is_log, instruction_places, place_in, instruction_code}
+use Rattle.codegen.specs.Emit.{code_from, emitted_code, trap_function, with_code, function_of}
 use Rattle.emit_law.specs.Standing.{table_of, logged_before, HasRoom}
 use Rattle.emit_law.proofs.TidyCode.{next_is, get_after}
 

@@ -1,5 +1,6 @@
 -- A run by moments that ended is the machine's run, with its heap and its records.
-use Rattle.std.proofs.Common.{◌≡◌, ℕ, zero, suc, ◌+◌, List, [], ◌∷◌, length, drop, slice_get, Option, Some, ℤ, refl, sym, ap, ◌∙◌, arith}
+use Rattle.std.proofs.Common.{◌≡◌, ℕ, zero, suc, ◌+◌, List, [], ◌∷◌, length, drop, slice_get}
+use Rattle.std.proofs.Common.{Option, Some, ℤ, refl, sym, ap, ◌∙◌, arith}
 use Rattle.cache_model.specs.Cache.{Words}
 use Rattle.pm_machine.specs.declared.effect.Effect.{Effect}
 use Rattle.pm_machine.specs.declared.effect.Effect.TheVariants.{Flushes, Fences, Quiet}
@@ -9,8 +10,11 @@ use Rattle.pm_machine.specs.declared.image.Image.{Image}
 use Rattle.pm_machine.specs.declared.op.Op.{Op}
 use Rattle.pm_machine.specs.declared.op.Op.TheVariants.{Flush, Fence, Halt}
 use Rattle.pm_machine.specs.Effects.{heap_past, heap_end, records_past, records_end}
-use Rattle.pm_machine.specs.Machine.{State, StepOutcome, Goes, Ends, Finished, began, follow, step, run, execute, tally, flush, fetch, passed, cleaned, read_register}
-use Rattle.emit_law.specs.Moments.{RunMoment, Stage, On, Over, moment_after, staged, one, stage_then, go, onto}
+use Rattle.pm_machine.specs.Machine.{State, StepOutcome, Goes, Ends, Finished, began, follow, step}
+use Rattle.pm_machine.specs.Machine.{run, execute, tally, flush, fetch, passed, cleaned}
+use Rattle.pm_machine.specs.Machine.{read_register}
+use Rattle.emit_law.specs.Moments.{RunMoment, Stage, On, Over, moment_after, staged, one}
+use Rattle.emit_law.specs.Moments.{stage_then, go, onto}
 use Rattle.match_law.specs.Accesses.{accesses}
 
 module _ (image : Image) (end : End) (b : RunMoment) where

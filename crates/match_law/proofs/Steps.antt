@@ -1,5 +1,6 @@
 -- One step of the code, and the machine's steps for it.
-use Rattle.std.proofs.Common.{◌≡◌, ℕ, List, slice_get, Option, None, Some, ℤ, refl, sym, ap, subst, arith}
+use Rattle.std.proofs.Common.{◌≡◌, ℕ, List, slice_get, Option, None, Some, ℤ, refl, sym, ap, subst}
+use Rattle.std.proofs.Common.{arith}
 use Rattle.std.specs.Prelude.{option_and_then}
 use Rattle.pool_map.specs.PoolMap.{PoolMap}
 use Rattle.ir.specs.declared.instruction.Instruction.{Instruction}

@@ -1,5 +1,6 @@
 -- The whole run, step by step.
-use Rattle.std.proofs.Common.{◌≡◌, inl, inr, ℕ, zero, suc, ◌+◌, ◌*◌, ◌≤◌, List, [], ◌∷◌, ◌++◌, length, refl, sym, ap, ◌∙◌, subst, arith, append_assoc, suc-mul}
+use Rattle.std.proofs.Common.{◌≡◌, inl, inr, ℕ, zero, suc, ◌+◌, ◌*◌, ◌≤◌, List, [], ◌∷◌, ◌++◌}
+use Rattle.std.proofs.Common.{length, refl, sym, ap, ◌∙◌, subst, arith, append_assoc, suc-mul}
 use Rattle.ir.specs.declared.function.Ir.{Ir}
 use Rattle.code_meaning.specs.Code.{CodeState, Here, Move, go_on, instruction_step, exec}
 use Rattle.code_meaning.specs.Code as code
@@ -15,7 +16,8 @@ use Rattle.piece_law.specs.Shows.{ShowsLaw, CutsLaw}
 use Rattle.piece_law.specs.Words.{IsWordState, IsWordMove, WordsLaw}
 use Rattle.match_law.specs.Accesses.{accesses}
 use Rattle.match_law.specs.Compiled.{IsCompiled, is_logged_in_code}
-use Rattle.match_law.specs.Match.{Match, HasShown, StopsFull, EndsToo, MovesToo, own_steps, flushes, most, MatchLaw}
+use Rattle.match_law.specs.Match.{Match, HasShown, StopsFull, EndsToo, MovesToo, own_steps, flushes}
+use Rattle.match_law.specs.Match.{most, MatchLaw}
 use Rattle.match_law.proofs.Effects.{onto_append}
 use Rattle.match_law.proofs.Moves.{full_ends}
 use Rattle.match_law.proofs.Steps.{step_meets}

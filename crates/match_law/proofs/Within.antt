@@ -1,5 +1,7 @@
 -- Well formed code never reaches a place without an instruction, nor a call of no function.
-use Rattle.std.proofs.Common.{◌≡◌, ◌⊎◌, inl, inr, ℕ, zero, suc, ◌<◌, Bool, true, false, List, [], ◌∷◌, length, map, slice_get, Option, None, Some, Result, Ok, Err, ℤ, refl, sym, ap, subst, arith}
+use Rattle.std.proofs.Common.{◌≡◌, ◌⊎◌, inl, inr, ℕ, zero, suc, ◌<◌, Bool, true, false, List, []}
+use Rattle.std.proofs.Common.{◌∷◌, length, map, slice_get, Option, None, Some, Result, Ok, Err, ℤ}
+use Rattle.std.proofs.Common.{refl, sym, ap, subst, arith}
 use Rattle.std.specs.Prelude.{if◌then◌else◌, nat_lt, option_and_then}
 use Rattle.pool_map.specs.declared.trap.TrapKind.{TrapKind}
 use Rattle.pool_map.specs.declared.trap.TrapKind.TheVariants as kinds
@@ -9,8 +11,13 @@ use Rattle.ir.specs.declared.instruction.Instruction.TheVariants as ir
 use Rattle.ir.specs.declared.function.IrFunction.{IrFunction}
 use Rattle.ir.specs.declared.function.Ir.{Ir}
 use Rattle.ir.specs.Places.{instruction_at}
-use Rattle.ir.specs.WellFormed.{IsWellFormed, IsFunction, IsInstruction, StopsRun, EndsWell, TakesArgs}
-use Rattle.code_meaning.specs.Code.{CodeState, Here, Move, Goes, Ends, Frame, frame, CodeEnd, Ended, Trapped, Unfinished, Stuck, register_at, word_of, with_word, with_ok, takes_tick, spot_of, base_in, index_in, free_in, is_zero, gives, opens, open_limit, act, instruction_step, go_on, exec}
+use Rattle.ir.specs.WellFormed.{IsWellFormed, IsFunction, IsInstruction, StopsRun, EndsWell}
+use Rattle.ir.specs.WellFormed.{TakesArgs}
+use Rattle.code_meaning.specs.Code.{CodeState, Here, Move, Goes, Ends, Frame, frame, CodeEnd, Ended}
+use Rattle.code_meaning.specs.Code.{Trapped, Unfinished, Stuck, register_at, word_of, with_word}
+use Rattle.code_meaning.specs.Code.{with_ok, takes_tick, spot_of, base_in, index_in, free_in}
+use Rattle.code_meaning.specs.Code.{is_zero, gives, opens, open_limit, act, instruction_step, go_on}
+use Rattle.code_meaning.specs.Code.{exec}
 use Rattle.code_meaning.proofs.Lists.{all_at}
 
 abbrev pub IsNotStuck : CodeEnd → Type 0

@@ -2,7 +2,8 @@
 -- without its quiet steps, its flushes and its fences.
 use Rattle.std.specs.Prelude.{List, [], ◌∷◌}
 use Rattle.pm_machine.specs.declared.effect.Effect.{Effect}
-use Rattle.pm_machine.specs.declared.effect.Effect.TheVariants.{Loads, Scans, Stores, Logs, Flushes, Fences, Quiet}
+use Rattle.pm_machine.specs.declared.effect.Effect.TheVariants.{Loads, Scans, Stores, Logs, Flushes}
+use Rattle.pm_machine.specs.declared.effect.Effect.TheVariants.{Fences, Quiet}
 
 abbrev pub accesses : List Effect → List Effect
 accesses [] = []

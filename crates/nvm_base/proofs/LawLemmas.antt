@@ -1,5 +1,6 @@
 -- The laws of words.
-use Rattle.std.proofs.Common.{◌≡◌, ℕ, suc, ◌-◌, ◌/◌, ◌%◌, ◌^◌, ◌<◌, ◌≤◌, ℤ, pos, negsuc, ◌+ℤ◌, ◌-ℤ◌, ◌*ℤ◌, refl, sym, ◌∙◌, ap, arith, Bool, true, false, ltb, ◌==◌}
+use Rattle.std.proofs.Common.{◌≡◌, ℕ, suc, ◌-◌, ◌/◌, ◌%◌, ◌^◌, ◌<◌, ◌≤◌, ℤ, pos, negsuc, ◌+ℤ◌, ◌-ℤ◌}
+use Rattle.std.proofs.Common.{◌*ℤ◌, refl, sym, ◌∙◌, ap, arith, Bool, true, false, ltb, ◌==◌}
 use Rattle.std.specs.Prelude.{FitsSigned, bit_and, bit_or, bit_xor}
 use Rattle.std.specs.Int.{w64, cast_signed, int_wrap, int_div_euclid, bit_at}
 use Rattle.std.proofs.Math.IntN.{*ℤ-zero, +ℤ_idr}
@@ -7,9 +8,11 @@ use Rattle.std.proofs.Math.Nat.{mod-lt}
 use Rattle.std.proofs.lemmas.Nat.{div-add-mod', and_le_l, or_lt, xor_lt, pow_pos}
 use Rattle.std.proofs.lemmas.Bool.{ltb-false, eq-eqb, eqb-true}
 use Rattle.std.proofs.lemmas.Nat.Bits.{bit_at_and, bit_at_or, bit_at_xor}
-use Rattle.std.proofs.lemmas.Int.{ints, int_wrap_fits, int_wrap-add_right, int_wrap-mul_right, SFits-int_wrap, of_z-to_z, to_z-of_z}
+use Rattle.std.proofs.lemmas.Int.{ints, int_wrap_fits, int_wrap-add_right, int_wrap-mul_right}
+use Rattle.std.proofs.lemmas.Int.{SFits-int_wrap, of_z-to_z, to_z-of_z}
 use Rattle.nvm_base.specs.Wrap.{wrap, IsWord, IsCongruent, Wraps}
-use Rattle.nvm_base.specs.WordLaws.{UnsignedIsModulo, PlacesIsModulo, RoundsDown, ShiftRoundsDown, EqCompares, AndIsBitwise, OrIsBitwise, XorIsBitwise, bit}
+use Rattle.nvm_base.specs.WordLaws.{UnsignedIsModulo, PlacesIsModulo, RoundsDown, ShiftRoundsDown}
+use Rattle.nvm_base.specs.WordLaws.{EqCompares, AndIsBitwise, OrIsBitwise, XorIsBitwise, bit}
 use Rattle.nvm_base.specs.Operations.{unsigned, shift_places, truth}
 
 pub fits_word : (x : ℤ) → FitsSigned w64 x → IsWord x

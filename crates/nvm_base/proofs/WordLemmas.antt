@@ -1,11 +1,14 @@
 -- Lemmas on words: each machine operation gives its formula, wrapped.
-use Rattle.std.proofs.Common.{◌≡◌, ℕ, zero, suc, ◌/◌, ◌%◌, ◌^◌, ◌<◌, ◌≤◌, ℤ, pos, negsuc, ◌-ℤ◌, ◌*ℤ◌, neg_ℤ, refl, sym, ◌∙◌, ap, arith}
+use Rattle.std.proofs.Common.{◌≡◌, ℕ, zero, suc, ◌/◌, ◌%◌, ◌^◌, ◌<◌, ◌≤◌, ℤ, pos, negsuc, ◌-ℤ◌}
+use Rattle.std.proofs.Common.{◌*ℤ◌, neg_ℤ, refl, sym, ◌∙◌, ap, arith}
 use Rattle.std.specs.Prelude.{FitsSigned, int_div, int_rem, unsigned_abs}
-use Rattle.std.specs.Int.{w64, cast_signed, cast_unsigned, int_wrap, int_div_euclid, int_shl, int_shr}
+use Rattle.std.specs.Int.{w64, cast_signed, cast_unsigned, int_wrap, int_div_euclid, int_shl}
+use Rattle.std.specs.Int.{int_shr}
 use Rattle.std.specs.Int.Signed.{mag_rem}
 use Rattle.std.proofs.Math.Nat.{div-le_self}
 use Rattle.std.proofs.Math.Pow.{pow-lt}
-use Rattle.std.proofs.lemmas.Int.{ints, wraps, int_wrap_fits, quot-rem, to_z-of_z, int_wrap-mul_right, wrapping_mul-bits}
+use Rattle.std.proofs.lemmas.Int.{ints, wraps, int_wrap_fits, quot-rem, to_z-of_z}
+use Rattle.std.proofs.lemmas.Int.{int_wrap-mul_right, wrapping_mul-bits}
 
 -- casting a number within 2^63 in size to bits and back wraps it
 cast_wrap : (z : ℤ) → unsigned_abs z ≤ 2 ^ 63 → cast_signed w64 (cast_unsigned w64 z)

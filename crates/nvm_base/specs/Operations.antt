@@ -5,7 +5,8 @@
 -- Division truncates toward zero, so -2^63 / -1 wraps to -2^63 and its remainder is 0. The count of
 -- a shift is taken modulo 64. A shift to the right divides and rounds down, so it copies the sign
 -- bit.
-use Rattle.std.specs.Prelude.{◌+ℤ◌, ◌-ℤ◌, ◌*ℤ◌, ◌^◌, ◌%◌, ◌==◌, ℕ, ℤ, pos, Bool, not, nat_lt, int_div, int_lt, int_le, if◌then◌else◌}
+use Rattle.std.specs.Prelude.{◌+ℤ◌, ◌-ℤ◌, ◌*ℤ◌, ◌^◌, ◌%◌, ◌==◌, ℕ, ℤ, pos, Bool, not, nat_lt}
+use Rattle.std.specs.Prelude.{int_div, int_lt, int_le, if◌then◌else◌}
 use Rattle.std.specs.Int.{w64, cast_unsigned, int_div_euclid, int_bit_and, int_bit_or, int_bit_xor}
 use Rattle.nvm_base.specs.Wrap.{wrap}
 

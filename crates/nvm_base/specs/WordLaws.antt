@@ -1,7 +1,8 @@
 -- Laws that tie the words of `Operations` to their meaning: the unsigned number of a word is the
 -- word modulo 2^64, the count of a shift is taken modulo 64, a shift to the right rounds down, `eq`
 -- compares, and the bitwise operations work on each of the 64 bits by itself.
-use Rattle.std.specs.Prelude.{◌≡◌, ◌↔◌, ◌+◌, ◌%◌, ◌^◌, ◌<◌, ◌+ℤ◌, ◌*ℤ◌, ◌≤ℤ◌, ◌<ℤ◌, ℕ, ℤ, pos, min, max}
+use Rattle.std.specs.Prelude.{◌≡◌, ◌↔◌, ◌+◌, ◌%◌, ◌^◌, ◌<◌, ◌+ℤ◌, ◌*ℤ◌, ◌≤ℤ◌, ◌<ℤ◌, ℕ, ℤ, pos, min}
+use Rattle.std.specs.Prelude.{max}
 use Rattle.std.specs.Int.{bit_at, int_div_euclid}
 use Rattle.nvm_base.specs.Operations.{unsigned, shift_places, eq, and_of, or_of, xor_of}
 use Rattle.nvm_base.specs.Wrap.{IsWord, IsCongruent}

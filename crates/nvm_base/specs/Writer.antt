@@ -1,7 +1,8 @@
 -- The sink in memory. Its writes are numbered from 0, and the number stops at 2^64 - 1. A write
 -- fails if its number is in `fail` or no room is left, and otherwise it doesn't. A write that
 -- doesn't fail appends as many of the piece's bytes as there is room for.
-use Rattle.std.specs.Prelude.{ℕ, ◌-◌, Bool, ◌||◌, ◌==◌, List, length, ◌++◌, take, min, nat_eq, if◌then◌else◌}
+use Rattle.std.specs.Prelude.{ℕ, ◌-◌, Bool, ◌||◌, ◌==◌, List, length, ◌++◌, take, min, nat_eq}
+use Rattle.std.specs.Prelude.{if◌then◌else◌}
 use Rattle.std.specs.List.{list_any}
 use Rattle.nvm_base.specs.Rose.{raised}
 use Rattle.nvm_base.specs.declared.sink.WriteAnswer.{WriteAnswer}

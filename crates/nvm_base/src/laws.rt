@@ -1,7 +1,8 @@
 //! Laws of the words that contracts cite. The functions do nothing; their clauses are the laws.
 
 ghost use Rattle.std.specs.Prelude.{ℤ};
-ghost use Rattle.nvm_base.specs.WordLaws.{UnsignedIsModulo, PlacesIsModulo, ShiftRoundsDown, EqCompares, AndIsBitwise, OrIsBitwise, XorIsBitwise};
+ghost use Rattle.nvm_base.specs.WordLaws.{UnsignedIsModulo, PlacesIsModulo, ShiftRoundsDown};
+ghost use Rattle.nvm_base.specs.WordLaws.{EqCompares, AndIsBitwise, OrIsBitwise, XorIsBitwise};
 ghost use Rattle.nvm_base.specs.Wrap.{Wraps};
 
 /// A number wraps to the one word that differs from it by a multiple of 2^64.

@@ -1,7 +1,8 @@
 //! The list of the tree: made empty, grown at its end and read as a slice. Where there is no memory
 //! to grow, it stays as it was.
 
-ghost use Rattle.std.specs.Prelude.{◌≡◌, ◌++◌, ◌∷◌, [], ◌<◌, ◌^◌, length, slice_get, slice_set, option_copied, IsSome, OnOk, OnErr};
+ghost use Rattle.std.specs.Prelude.{◌≡◌, ◌++◌, ◌∷◌, [], ◌<◌, ◌^◌, length, slice_get, slice_set};
+ghost use Rattle.std.specs.Prelude.{option_copied, IsSome, OnOk, OnErr};
 
 use std::alloc::{AllocError, Global};
 use std::marker::Model;

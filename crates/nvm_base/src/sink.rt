@@ -1,6 +1,7 @@
 //! Where bytes go: a trait of sinks, whose writes may fail.
 
-ghost use Rattle.std.specs.Prelude.{◌≡◌, ℕ, List, Option, Some, None, ◌<◌, ◌≤◌, length, take, OnErr};
+ghost use Rattle.std.specs.Prelude.{◌≡◌, ℕ, List, Option, Some, None, ◌<◌, ◌≤◌, length, take};
+ghost use Rattle.std.specs.Prelude.{OnErr};
 ghost use Rattle.std.specs.Io.KnownBytes.{Appends, Keeps};
 ghost use Rattle.nvm_base.specs.Answers.{IfWritten, OnWriteFailed};
 ghost use Rattle.nvm_base.specs.Rose.{Rose};

@@ -1,5 +1,8 @@
 -- A pool after a change of one word or one slot, and the heap that stands for it.
-use Rattle.std.proofs.Common.{◌≡◌, ◌≢◌, ◌⊎◌, inl, inr, ⊎_elim, ℕ, zero, suc, ◌+◌, ◌-◌, ◌<◌, ◌≤◌, Bool, true, false, List, [], ◌∷◌, ◌++◌, length, Option, None, Some, IsSomeAnd, IfSome, option_map, replicate, get_or, set, ℤ, pos, refl, sym, ap, ◌∙◌, subst, arith, slice_index_or, slice_get}
+use Rattle.std.proofs.Common.{◌≡◌, ◌≢◌, ◌⊎◌, inl, inr, ⊎_elim, ℕ, zero, suc, ◌+◌, ◌-◌, ◌<◌, ◌≤◌}
+use Rattle.std.proofs.Common.{Bool, true, false, List, [], ◌∷◌, ◌++◌, length, Option, None, Some}
+use Rattle.std.proofs.Common.{IsSomeAnd, IfSome, option_map, replicate, get_or, set, ℤ, pos, refl}
+use Rattle.std.proofs.Common.{sym, ap, ◌∙◌, subst, arith, slice_index_or, slice_get}
 use Rattle.std.specs.Prelude.{if◌then◌else◌}
 use Rattle.std.specs.List.{AllByRecursion}
 use Rattle.std.proofs.lemmas.Bool.{cases_eq, cases_lt, lt-ltb}
@@ -12,8 +15,11 @@ use Rattle.pool_map.specs.declared.object.Object.{Object}
 use Rattle.pool_map.specs.declared.shapes.StructShape.{StructShape}
 use Rattle.pool_map.specs.declared.shapes.Shapes.{Shapes}
 use Rattle.pool_map.specs.PoolFits.{PoolFits, ObjectFits, words_of, struct_at}
-use Rattle.pool_map.specs.PoolMap.{PoolMap, IsSlot, object_at, with_object, blank_object, new, free, field_of, with_field, HasField, write, read_root, write_root}
-use Rattle.pool_map.proofs.Points.{object_at-with_object_same, object_at-with_object_other, IsSlot-HasField, read_root-write_root_same, read_root-write_root_other}
+use Rattle.pool_map.specs.PoolMap.{PoolMap, IsSlot, object_at, with_object, blank_object, new, free}
+use Rattle.pool_map.specs.PoolMap.{field_of, with_field, HasField, write, read_root, write_root}
+use Rattle.pool_map.proofs.Points.{object_at-with_object_same, object_at-with_object_other}
+use Rattle.pool_map.proofs.Points.{IsSlot-HasField, read_root-write_root_same}
+use Rattle.pool_map.proofs.Points.{read_root-write_root_other}
 use Rattle.code_meaning.specs.Code.{Spot, InRoot, InSlot, load_spot, store_spot, has_word}
 use Rattle.pm_machine.specs.declared.effect.Effect.{Effect}
 use Rattle.pm_machine.specs.Effects.{heap_end}

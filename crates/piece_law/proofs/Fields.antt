@@ -1,5 +1,7 @@
 -- The emitter's places of a field's words are those of the code.
-use Rattle.std.proofs.Common.{◌≡◌, ℕ, zero, suc, ◌+◌, ◌<◌, ◌≤◌, true, false, List, [], ◌∷◌, Option, None, Some, refl, sym, ap, ◌∙◌, arith, eqb, leb, le-leb, ne_eqb, sub-one}
+use Rattle.std.proofs.Common.{◌≡◌, ℕ, zero, suc, ◌+◌, ◌<◌, ◌≤◌, true, false, List, [], ◌∷◌, Option}
+use Rattle.std.proofs.Common.{None, Some, refl, sym, ap, ◌∙◌, arith, eqb, leb, le-leb, ne_eqb}
+use Rattle.std.proofs.Common.{sub-one}
 use Rattle.std.specs.Prelude.{slice_get}
 use Rattle.std.specs.Option.{option_map_or}
 use Rattle.std.proofs.lemmas.List.Sums.{sum_by-cons}

@@ -1,5 +1,7 @@
 -- An instruction leaves a pool that fits, and values that are words.
-use Rattle.std.proofs.Common.{◌≡◌, ℕ, zero, suc, ◌-◌, ◌<◌, Bool, true, false, List, [], ◌∷◌, length, map, Option, None, Some, IfSome, IsSomeAnd, Result, Ok, Err, option_map, set, ℤ, pos, refl, sym, ◌∙◌, subst, arith, ⊎_elim}
+use Rattle.std.proofs.Common.{◌≡◌, ℕ, zero, suc, ◌-◌, ◌<◌, Bool, true, false, List, [], ◌∷◌, length}
+use Rattle.std.proofs.Common.{map, Option, None, Some, IfSome, IsSomeAnd, Result, Ok, Err}
+use Rattle.std.proofs.Common.{option_map, set, ℤ, pos, refl, sym, ◌∙◌, subst, arith, ⊎_elim}
 use Rattle.std.specs.Prelude.{slice_get, nat_lt, if◌then◌else◌}
 use Rattle.std.specs.List.{AllByRecursion}
 use Rattle.std.specs.Option.{option_map_or}
@@ -11,11 +13,16 @@ use Rattle.pool_map.specs.declared.trap.TrapKind.TheVariants as trap
 use Rattle.pool_map.specs.declared.shapes.StructShape.{StructShape}
 use Rattle.pool_map.specs.declared.shapes.Shapes.{Shapes}
 use Rattle.pool_map.specs.PoolFits.{PoolFits, ObjectFits, words_of, struct_at}
-use Rattle.pool_map.specs.PoolMap.{PoolMap, object_at, with_object, blank_object, with_field, least_free, write, free}
+use Rattle.pool_map.specs.PoolMap.{PoolMap, object_at, with_object, blank_object, with_field}
+use Rattle.pool_map.specs.PoolMap.{least_free, write, free}
 use Rattle.ir.specs.declared.function.IrFunction.{IrFunction}
 use Rattle.ir.specs.declared.instruction.Instruction.TheVariants as ir
 use Rattle.ir.specs.WellFormed.{IsKind}
-use Rattle.code_meaning.specs.Code.{Frame, frame, Here, Move, Goes, Ends, Trapped, Spot, InRoot, InSlot, register_at, put_register, load_spot, store_spot, has_word, spot_of, slot_of, base_in, index_in, with_ok, with_word, word_of, takes_tick, then_on, new_at, fields_of, gives, opens, is_zero}
+use Rattle.code_meaning.specs.Code.{Frame, frame, Here, Move, Goes, Ends, Trapped, Spot, InRoot}
+use Rattle.code_meaning.specs.Code.{InSlot, register_at, put_register, load_spot, store_spot}
+use Rattle.code_meaning.specs.Code.{has_word, spot_of, slot_of, base_in, index_in, with_ok}
+use Rattle.code_meaning.specs.Code.{with_word, word_of, takes_tick, then_on, new_at, fields_of}
+use Rattle.code_meaning.specs.Code.{gives, opens, is_zero}
 use Rattle.piece_law.specs.Pools.{FitsMove, FitsLaw}
 use Rattle.piece_law.proofs.Changes.{object_fits, length_replicate}
 

@@ -1,10 +1,13 @@
 -- The piece of each instruction except `new` does what the instruction does.
-use Rattle.std.proofs.Common.{◌≡◌, ⊎_elim, ℕ, zero, suc, ◌+◌, ◌-◌, ◌*◌, ◌^◌, ◌≤◌, Bool, false, List, [], ◌∷◌, length, None, Some, ℤ, pos, negsuc, refl, sym, ap, ◌∙◌, subst, arith, ne_eqb}
+use Rattle.std.proofs.Common.{◌≡◌, ⊎_elim, ℕ, zero, suc, ◌+◌, ◌-◌, ◌*◌, ◌^◌, ◌≤◌, Bool, false, List}
+use Rattle.std.proofs.Common.{[], ◌∷◌, length, None, Some, ℤ, pos, negsuc, refl, sym, ap, ◌∙◌}
+use Rattle.std.proofs.Common.{subst, arith, ne_eqb}
 use Rattle.std.specs.Prelude.{◌==◌, if◌then◌else◌}
 use Rattle.std.proofs.lemmas.Bool.{cases_eq}
 use Rattle.std.proofs.lemmas.Int.{ints}
 use Rattle.nvm_base.specs.declared.op.BinOp.{BinOp}
-use Rattle.nvm_base.specs.declared.op.BinOp.TheVariants.{Add, Sub, Mul, Div, Rem, Shl, Shr, And, Or, Xor, Lt, Le, Eq, Ne, Ult}
+use Rattle.nvm_base.specs.declared.op.BinOp.TheVariants.{Add, Sub, Mul, Div, Rem, Shl, Shr, And, Or}
+use Rattle.nvm_base.specs.declared.op.BinOp.TheVariants.{Xor, Lt, Le, Eq, Ne, Ult}
 use Rattle.nvm_base.specs.Operations.{unsigned}
 use Rattle.nvm_base.specs.Operations as word
 use Rattle.nvm_base.specs.Wrap.{IsWord}
@@ -20,7 +23,9 @@ use Rattle.pool_map.specs.Trap.{trap_number}
 use Rattle.pool_map.specs.PoolFits.{PoolFits}
 use Rattle.pool_map.specs.PoolMap.{PoolMap}
 use Rattle.ir.specs.declared.site.Site.{Site}
-use Rattle.code_meaning.specs.Code.{Frame, Move, Ends, Trapped, Spot, register_at, put_register, load_spot, store_spot, spot_of, slot_of, base_in, index_in, with_ok, with_word, word_of, takes_tick, free_in}
+use Rattle.code_meaning.specs.Code.{Frame, Move, Ends, Trapped, Spot, register_at, put_register}
+use Rattle.code_meaning.specs.Code.{load_spot, store_spot, spot_of, slot_of, base_in, index_in}
+use Rattle.code_meaning.specs.Code.{with_ok, with_word, word_of, takes_tick, free_in}
 use Rattle.code_meaning.specs.Code as code
 use Rattle.code_meaning.specs.Deeds.{Deed}
 use Rattle.pm_alloc.specs.declared.local.Reg.TheVariants.{Own}

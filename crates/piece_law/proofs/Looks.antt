@@ -1,5 +1,7 @@
 -- The search for a free slot finds the pool's least free one, and only loads headers.
-use Rattle.std.proofs.Common.{◌≡◌, ℕ, zero, suc, ◌+◌, ◌<◌, ◌≤◌, Bool, true, false, List, [], ◌∷◌, length, Option, None, Some, IfSome, IsSomeAnd, get_or, ℤ, pos, refl, sym, ap, ◌∙◌, subst, arith, ltb, ◌-◌}
+use Rattle.std.proofs.Common.{◌≡◌, ℕ, zero, suc, ◌+◌, ◌<◌, ◌≤◌, Bool, true, false, List, [], ◌∷◌}
+use Rattle.std.proofs.Common.{length, Option, None, Some, IfSome, IsSomeAnd, get_or, ℤ, pos, refl}
+use Rattle.std.proofs.Common.{sym, ap, ◌∙◌, subst, arith, ltb, ◌-◌}
 use Rattle.std.specs.Prelude.{if◌then◌else◌}
 use Rattle.std.specs.List.{AllByRecursion}
 use Rattle.std.specs.Ordering.{int_eq}

@@ -1,5 +1,7 @@
 -- A new object: its piece does what the instruction does.
-use Rattle.std.proofs.Common.{◌≡◌, ℕ, zero, suc, ◌+◌, ◌*◌, ◌≤◌, Bool, true, false, List, [], ◌∷◌, ◌++◌, length, Option, None, Some, ℤ, pos, refl, sym, ap, ◌∙◌, subst, arith, append_assoc, length-append, get_or, ltb, le-ltb, ⊎_elim}
+use Rattle.std.proofs.Common.{◌≡◌, ℕ, zero, suc, ◌+◌, ◌*◌, ◌≤◌, Bool, true, false, List, [], ◌∷◌}
+use Rattle.std.proofs.Common.{◌++◌, length, Option, None, Some, ℤ, pos, refl, sym, ap, ◌∙◌, subst}
+use Rattle.std.proofs.Common.{arith, append_assoc, length-append, get_or, ltb, le-ltb, ⊎_elim}
 use Rattle.std.specs.Prelude.{◌+ℤ◌, if◌then◌else◌, option_and_then}
 use Rattle.std.specs.Int.{w64, int_wrap}
 use Rattle.std.specs.Option.{option_map_or}
@@ -15,7 +17,8 @@ use Rattle.pool_map.specs.PoolMap.{PoolMap, least_free, new}
 use Rattle.pool_map.proofs.Least.{least_free-some}
 use Rattle.ir.specs.declared.site.Site.{Site}
 use Rattle.ir.specs.WellFormed.{IsKind}
-use Rattle.code_meaning.specs.Code.{Frame, Move, register_at, put_register, new_at, new_in, fields_of}
+use Rattle.code_meaning.specs.Code.{Frame, Move, register_at, put_register, new_at, new_in}
+use Rattle.code_meaning.specs.Code.{fields_of}
 use Rattle.code_meaning.specs.Code as code
 use Rattle.code_meaning.specs.Deeds.{Deed, Heads, zeros, deeds_new, site}
 use Rattle.pm_machine.specs.declared.effect.Effect.{Effect}
@@ -37,7 +40,8 @@ use Rattle.piece_law.specs.Shows.{ShowsDeeds}
 use Rattle.piece_law.specs.Law.{onward}
 use Rattle.piece_law.proofs.Shown.{heap_append, looks_heap, looks_records}
 use Rattle.piece_law.proofs.Comes.{Comes, comes, comes_on, comes_quiet, done_by}
-use Rattle.piece_law.proofs.Stores.{Here, here_all, here_back, store_effects, zero_effects, fill_steps, fill_few, head_comes, fill_comes}
+use Rattle.piece_law.proofs.Stores.{Here, here_all, here_back, store_effects, zero_effects}
+use Rattle.piece_law.proofs.Stores.{fill_steps, fill_few, head_comes, fill_comes}
 use Rattle.piece_law.proofs.Changes.{stands_new}
 use Rattle.piece_law.proofs.Fields.{words_is}
 use Rattle.piece_law.proofs.Locals.{written_is, Done}

@@ -1,5 +1,7 @@
 -- A load, a store and a free: their pieces do what they do.
-use Rattle.std.proofs.Common.{◌≡◌, ℕ, suc, ◌+◌, ◌*◌, ◌<◌, ◌≤◌, Bool, true, false, List, [], ◌∷◌, ◌++◌, length, Option, Some, Result, Ok, Err, ℤ, pos, refl, sym, ap, ◌∙◌, subst, arith, length-append}
+use Rattle.std.proofs.Common.{◌≡◌, ℕ, suc, ◌+◌, ◌*◌, ◌<◌, ◌≤◌, Bool, true, false, List, [], ◌∷◌}
+use Rattle.std.proofs.Common.{◌++◌, length, Option, Some, Result, Ok, Err, ℤ, pos, refl, sym, ap}
+use Rattle.std.proofs.Common.{◌∙◌, subst, arith, length-append}
 use Rattle.std.specs.Prelude.{◌+ℤ◌, slice_get}
 use Rattle.std.specs.Int.{w64, int_wrap}
 use Rattle.cache_model.specs.Cache.{Words}
@@ -12,7 +14,9 @@ use Rattle.pool_map.specs.PoolMap.{PoolMap, free}
 use Rattle.ir.specs.declared.site.Site.{Site}
 use Rattle.ir.specs.declared.instruction.Target.{Target}
 use Rattle.ir.specs.WellFormed.{IsTarget}
-use Rattle.code_meaning.specs.Code.{Frame, Move, Ends, Trapped, Spot, register_at, put_register, load_spot, store_spot, spot_of, slot_of, base_in, index_in, with_ok, with_word, word_of, takes_tick, then_on, free_in}
+use Rattle.code_meaning.specs.Code.{Frame, Move, Ends, Trapped, Spot, register_at, put_register}
+use Rattle.code_meaning.specs.Code.{load_spot, store_spot, spot_of, slot_of, base_in, index_in}
+use Rattle.code_meaning.specs.Code.{with_ok, with_word, word_of, takes_tick, then_on, free_in}
 use Rattle.code_meaning.specs.Code as code
 use Rattle.code_meaning.specs.Deeds.{Deed, Reads, Writes, Heads, site, if_ok}
 use Rattle.pm_machine.specs.declared.effect.Effect.{Effect}
@@ -27,7 +31,8 @@ use Rattle.pm_alloc.specs.LocalRun.{World, Loc, local_step}
 use Rattle.pm_alloc.specs.Free.{local_start}
 use Rattle.pm_alloc.proofs.Runs.{run_on}
 use Rattle.pm_alloc.proofs.Search.{header_address}
-use Rattle.codegen.specs.Emit.{address_code, address_offset, load_at, load_code, store_at, assign_code}
+use Rattle.codegen.specs.Emit.{address_code, address_offset, load_at, load_code, store_at}
+use Rattle.codegen.specs.Emit.{assign_code}
 use Rattle.piece_law.specs.Stands.{Stands, heap_word, header_word}
 use Rattle.piece_law.specs.Fits.{IsFit}
 use Rattle.piece_law.specs.Shows.{ShowsDeeds, done, reads, IsThere}
@@ -35,7 +40,8 @@ use Rattle.piece_law.specs.Law.{onward}
 use Rattle.piece_law.proofs.Shown.{heap_append, looks_heap, looks_records}
 use Rattle.piece_law.proofs.Comes.{comes, comes_on, done_by, traps_by}
 use Rattle.piece_law.proofs.Addresses.{within}
-use Rattle.piece_law.proofs.Stores.{Here, here_all, store_effects, store_end, store_steps, store_comes, head_comes}
+use Rattle.piece_law.proofs.Stores.{Here, here_all, store_effects, store_end, store_steps}
+use Rattle.piece_law.proofs.Stores.{store_comes, head_comes}
 use Rattle.piece_law.proofs.Changes.{there_of, stored_heap, stands_store, stands_free}
 use Rattle.piece_law.proofs.Checks.{IsObject, rest_of, Pointed, pointer_runs}
 use Rattle.piece_law.proofs.Targets.{IsReached, Led, target_led}

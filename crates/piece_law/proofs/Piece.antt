@@ -1,5 +1,6 @@
 -- The piece of each instruction that stays in its function does what the instruction does.
-use Rattle.std.proofs.Common.{◌≡◌, ℕ, ◌≤◌, Bool, List, [], ◌∷◌, length, Some, ℤ, pos, get_or, refl, subst, arith}
+use Rattle.std.proofs.Common.{◌≡◌, ℕ, ◌≤◌, Bool, List, [], ◌∷◌, length, Some, ℤ, pos, get_or, refl}
+use Rattle.std.proofs.Common.{subst, arith}
 use Rattle.pool_layout.specs.declared.limits.Sizes.{Sizes}
 use Rattle.pool_map.specs.PoolFits.{PoolFits}
 use Rattle.pool_map.specs.PoolMap.{PoolMap}
@@ -19,7 +20,8 @@ use Rattle.piece_law.specs.Stands.{Stands}
 use Rattle.piece_law.specs.Fits.{IsFit}
 use Rattle.piece_law.specs.Words.{HoldWords}
 use Rattle.piece_law.specs.Law.{AgreesOnSites, Does, PieceLaw}
-use Rattle.piece_law.proofs.Locals.{Done, const_does, copy_does, log_does, tick_does, trap_does, bin_does}
+use Rattle.piece_law.proofs.Locals.{Done, const_does, copy_does, log_does, tick_does, trap_does}
+use Rattle.piece_law.proofs.Locals.{bin_does}
 use Rattle.piece_law.proofs.Objects.{load_does, store_does, free_does}
 use Rattle.piece_law.proofs.Made.{new_does}
 

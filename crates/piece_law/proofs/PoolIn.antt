@@ -1,5 +1,7 @@
 -- The pool that a heap stands for.
-use Rattle.std.proofs.Common.{◌≡◌, ℕ, zero, suc, ◌+◌, ◌<◌, ◌≤◌, List, length, Option, None, Some, IfSome, IsSomeAnd, option_map, get_or, ℤ, pos, negsuc, refl, sym, ap, ◌∙◌, subst, arith, ⊎_elim, ext_get_or}
+use Rattle.std.proofs.Common.{◌≡◌, ℕ, zero, suc, ◌+◌, ◌<◌, ◌≤◌, List, length, Option, None, Some}
+use Rattle.std.proofs.Common.{IfSome, IsSomeAnd, option_map, get_or, ℤ, pos, negsuc, refl, sym, ap}
+use Rattle.std.proofs.Common.{◌∙◌, subst, arith, ⊎_elim, ext_get_or}
 use Rattle.std.specs.List.{AllByRecursion}
 use Rattle.std.proofs.lemmas.Option.{slice_get_cases}
 use Rattle.cache_model.specs.Cache.{Words}
@@ -13,7 +15,8 @@ use Rattle.pool_map.proofs.Points.{IsSlot-HasField}
 use Rattle.code_meaning.specs.Code.{Spot, InRoot, InSlot, load_spot}
 use Rattle.piece_law.specs.Stands.{Stands, HasWord, heap_word, header_word, header_of}
 use Rattle.piece_law.specs.Fits.{IsFit}
-use Rattle.piece_law.specs.Pools.{HasValidHeaders, words_from, object_with, object_in, slots_from, pool_in, PoolLaw, HeadersLaw}
+use Rattle.piece_law.specs.Pools.{HasValidHeaders, words_from, object_with, object_in, slots_from}
+use Rattle.piece_law.specs.Pools.{pool_in, PoolLaw, HeadersLaw}
 use Rattle.piece_law.proofs.Changes.{object_fits}
 
 words_length : (heap : Words) (w n : ℕ) → length (words_from heap w n) ≡ n

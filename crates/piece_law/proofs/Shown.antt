@@ -8,7 +8,8 @@ use Rattle.pm_machine.specs.declared.effect.Effect.{Effect}
 use Rattle.pm_machine.specs.Effects.{heap_past, heap_end, records_past, records_end}
 use Rattle.emit_law.specs.Moments.{onto}
 use Rattle.pm_alloc.specs.LocalRun.{World}
-use Rattle.piece_law.specs.Shows.{ShowsDeeds, done, looks, scans, reads, plain, logs, heads, IsCutAtStore, ShowsLaw, CutsLaw}
+use Rattle.piece_law.specs.Shows.{ShowsDeeds, done, looks, scans, reads, plain, logs, heads}
+use Rattle.piece_law.specs.Shows.{IsCutAtStore, ShowsLaw, CutsLaw}
 use Rattle.piece_law.specs.Law.{onward}
 
 pub shown : ShowsLaw

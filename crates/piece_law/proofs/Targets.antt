@@ -1,5 +1,7 @@
 -- The code of a target leads to the word that the target names, or traps as the code does.
-use Rattle.std.proofs.Common.{◌≡◌, ℕ, zero, suc, ◌+◌, ◌*◌, ◌^◌, ◌<◌, ◌≤◌, Bool, List, [], ◌∷◌, ◌++◌, length, Option, None, Some, IfSome, Result, Ok, Err, ℤ, pos, refl, sym, ap, ◌∙◌, subst, arith}
+use Rattle.std.proofs.Common.{◌≡◌, ℕ, zero, suc, ◌+◌, ◌*◌, ◌^◌, ◌<◌, ◌≤◌, Bool, List, [], ◌∷◌, ◌++◌}
+use Rattle.std.proofs.Common.{length, Option, None, Some, IfSome, Result, Ok, Err, ℤ, pos, refl}
+use Rattle.std.proofs.Common.{sym, ap, ◌∙◌, subst, arith}
 use Rattle.std.specs.Prelude.{◌+ℤ◌, slice_get, IsSomeAnd, option_map, option_and_then}
 use Rattle.std.specs.Int.{w64, int_wrap}
 use Rattle.std.specs.Option.{option_map_or}
@@ -16,7 +18,8 @@ use Rattle.ir.specs.declared.site.Site.{Site}
 use Rattle.ir.specs.declared.instruction.Target.{Target}
 use Rattle.ir.specs.declared.instruction.Target.TheVariants.{Root, Field}
 use Rattle.ir.specs.WellFormed.{IsIndexed, IsTarget, struct_of}
-use Rattle.code_meaning.specs.Code.{Spot, InRoot, InSlot, register_at, then_on, slot_of, element_in, words_before, word_in_shape, spot_of, base_in, index_in}
+use Rattle.code_meaning.specs.Code.{Spot, InRoot, InSlot, register_at, then_on, slot_of, element_in}
+use Rattle.code_meaning.specs.Code.{words_before, word_in_shape, spot_of, base_in, index_in}
 use Rattle.pm_machine.specs.declared.effect.Effect.{Effect}
 use Rattle.pm_alloc.specs.declared.local.Reg.TheVariants.{Temp}
 use Rattle.pm_alloc.specs.declared.local.Local.{Local}
@@ -29,7 +32,8 @@ use Rattle.pm_alloc.specs.Free.{local_start}
 use Rattle.pm_alloc.proofs.Runs.{run_on}
 use Rattle.codegen.specs.declared.fields.Reach.{Reach}
 use Rattle.codegen.specs.Fields.{reach, field_at, root_reach}
-use Rattle.codegen.specs.Emit.{root_code, root_offset, object_code, object_offset, address_code, address_offset}
+use Rattle.codegen.specs.Emit.{root_code, root_offset, object_code, object_offset, address_code}
+use Rattle.codegen.specs.Emit.{address_offset}
 use Rattle.piece_law.specs.Stands.{Stands, HasWord, heap_word}
 use Rattle.piece_law.specs.Fits.{IsFit}
 use Rattle.piece_law.specs.Shows.{ShowsDeeds, done}

@@ -1,5 +1,8 @@
 -- A step of code whose values are words leaves values that are words.
-use Rattle.std.proofs.Common.{◌≡◌, ℕ, zero, suc, ◌-◌, ◌^◌, ◌<◌, Bool, true, false, List, [], ◌∷◌, length, map, Option, None, Some, Result, Ok, Err, option_map, replicate, get_or, set, ℤ, pos, refl, sym, ap, ◌∙◌, subst, arith, ⊎_elim, ltb}
+use Rattle.std.proofs.Common.{◌≡◌, ℕ, zero, suc, ◌-◌, ◌^◌, ◌<◌, Bool, true, false, List, [], ◌∷◌}
+use Rattle.std.proofs.Common.{length, map, Option, None, Some, Result, Ok, Err, option_map}
+use Rattle.std.proofs.Common.{replicate, get_or, set, ℤ, pos, refl, sym, ap, ◌∙◌, subst, arith}
+use Rattle.std.proofs.Common.{⊎_elim, ltb}
 use Rattle.std.specs.Prelude.{slice_get, nat_lt, if◌then◌else◌, bit_and, bit_or, bit_xor, ◌==◌}
 use Rattle.std.specs.Int.{w64, cast_signed}
 use Rattle.std.specs.List.{AllByRecursion}
@@ -10,20 +13,26 @@ use Rattle.std.proofs.lemmas.List.{length-set}
 use Rattle.pool_map.proofs.Least.{least_free-some}
 use Rattle.pool_map.specs.PoolFits.{words_of}
 use Rattle.nvm_base.specs.declared.op.BinOp.{BinOp}
-use Rattle.nvm_base.specs.declared.op.BinOp.TheVariants.{Add, Sub, Mul, Div, Rem, Shl, Shr, And, Or, Xor, Lt, Le, Eq, Ne, Ult}
+use Rattle.nvm_base.specs.declared.op.BinOp.TheVariants.{Add, Sub, Mul, Div, Rem, Shl, Shr, And, Or}
+use Rattle.nvm_base.specs.declared.op.BinOp.TheVariants.{Xor, Lt, Le, Eq, Ne, Ult}
 use Rattle.nvm_base.specs.Wrap.{IsWord, wrap}
 use Rattle.nvm_base.specs.Operations.{unsigned, truth}
 use Rattle.nvm_base.proofs.LawLemmas.{wraps, unsigned_law}
 use Rattle.pool_map.specs.declared.object.Object.{Object}
 use Rattle.pool_map.specs.declared.trap.TrapKind.{TrapKind}
 use Rattle.pool_map.specs.declared.trap.TrapKind.TheVariants as trap
-use Rattle.pool_map.specs.PoolMap.{PoolMap, object_at, with_object, blank_object, field_of, with_field, least_free, write, free}
+use Rattle.pool_map.specs.PoolMap.{PoolMap, object_at, with_object, blank_object, field_of}
+use Rattle.pool_map.specs.PoolMap.{with_field, least_free, write, free}
 use Rattle.ir.specs.declared.function.Ir.{Ir}
 use Rattle.ir.specs.declared.function.IrFunction.{IrFunction}
 use Rattle.ir.specs.declared.instruction.Instruction.{Instruction}
 use Rattle.ir.specs.declared.instruction.Instruction.TheVariants as ir
 use Rattle.ir.specs.Places.{instruction_at}
-use Rattle.code_meaning.specs.Code.{Frame, frame, Here, Move, Goes, Ends, Trapped, Spot, InRoot, InSlot, register_at, put_register, load_spot, store_spot, has_word, spot_of, slot_of, base_in, index_in, with_ok, with_word, word_of, takes_tick, then_on, new_at, fields_of, gives, opens, is_zero, act}
+use Rattle.code_meaning.specs.Code.{Frame, frame, Here, Move, Goes, Ends, Trapped, Spot, InRoot}
+use Rattle.code_meaning.specs.Code.{InSlot, register_at, put_register, load_spot, store_spot}
+use Rattle.code_meaning.specs.Code.{has_word, spot_of, slot_of, base_in, index_in, with_ok}
+use Rattle.code_meaning.specs.Code.{with_word, word_of, takes_tick, then_on, new_at, fields_of}
+use Rattle.code_meaning.specs.Code.{gives, opens, is_zero, act}
 use Rattle.piece_law.specs.Words.{HoldWords, HasWords, IsWordFrame, IsWordMove, WordsLaw}
 use Rattle.piece_law.proofs.Locals.{at_same, at_other}
 

@@ -1,7 +1,8 @@
 -- The pool that a heap with valid headers stands for: its root words, and, in each slot whose
 -- header is a struct's number, an object with as many of the words after the header as the struct
 -- has. Any other slot is free.
-use Rattle.std.specs.Prelude.{ℕ, zero, suc, ◌+◌, ◌≤◌, ◌≡◌, List, [], ◌∷◌, length, Option, None, Some, option_map, ℤ, pos, negsuc}
+use Rattle.std.specs.Prelude.{ℕ, zero, suc, ◌+◌, ◌≤◌, ◌≡◌, List, [], ◌∷◌, length, Option, None}
+use Rattle.std.specs.Prelude.{Some, option_map, ℤ, pos, negsuc}
 use Rattle.cache_model.specs.Cache.{Words}
 use Rattle.pool_layout.specs.declared.limits.Sizes.{Sizes}
 use Rattle.pool_map.specs.declared.object.Object.{Object}
@@ -12,7 +13,8 @@ use Rattle.pool_map.specs.PoolMap.{PoolMap}
 use Rattle.ir.specs.declared.function.Ir.{Ir}
 use Rattle.ir.specs.declared.instruction.Instruction.{Instruction}
 use Rattle.ir.specs.WellFormed.{IsInstruction}
-use Rattle.code_meaning.specs.Code.{Frame, Here, CodeEnd, Ended, Trapped, Unfinished, Stuck, Move, Goes, Ends, act}
+use Rattle.code_meaning.specs.Code.{Frame, Here, CodeEnd, Ended, Trapped, Unfinished, Stuck, Move}
+use Rattle.code_meaning.specs.Code.{Goes, Ends, act}
 use Rattle.piece_law.specs.Stands.{Stands, header_word}
 use Rattle.piece_law.specs.Fits.{IsFit}
 

@@ -5,7 +5,9 @@ use Rattle.std.specs.List.{AllByRecursion}
 use Rattle.nvm_base.specs.Wrap.{IsWord}
 use Rattle.pool_map.specs.PoolMap.{PoolMap}
 use Rattle.ir.specs.declared.function.Ir.{Ir}
-use Rattle.code_meaning.specs.Code.{Spot, Frame, frame, CodeState, Here, CodeEnd, Ended, Trapped, Unfinished, Stuck, Move, Goes, Ends, register_at, load_spot, instruction_step}
+use Rattle.code_meaning.specs.Code.{Spot, Frame, frame, CodeState, Here, CodeEnd, Ended, Trapped}
+use Rattle.code_meaning.specs.Code.{Unfinished, Stuck, Move, Goes, Ends, register_at, load_spot}
+use Rattle.code_meaning.specs.Code.{instruction_step}
 use Rattle.code_meaning.specs.Constants.{HasWordConstants}
 
 abbrev pub HoldWords : List ℤ → Type 0

@@ -1,5 +1,6 @@
 -- The checks of a pointer, and the code of `pm_free`.
-use Rattle.std.proofs.Common.{◌≡◌, ℕ, zero, suc, ◌+◌, ◌-◌, ◌*◌, ◌^◌, ◌<◌, ◌≤◌, Bool, true, false, List, [], ◌∷◌, ◌++◌, ℤ, pos, negsuc, refl, arith, ltb, subst}
+use Rattle.std.proofs.Common.{◌≡◌, ℕ, zero, suc, ◌+◌, ◌-◌, ◌*◌, ◌^◌, ◌<◌, ◌≤◌, Bool, true, false}
+use Rattle.std.proofs.Common.{List, [], ◌∷◌, ◌++◌, ℤ, pos, negsuc, refl, arith, ltb, subst}
 use Rattle.std.specs.Prelude.{◌+ℤ◌, ◌==◌, if◌then◌else◌}
 use Rattle.std.specs.Int.{w64, int_wrap}
 use Rattle.std.proofs.lemmas.Bool.{lt-ltb, le-ltb, ltb-true}
@@ -16,7 +17,8 @@ use Rattle.pm_alloc.specs.Pieces.{offset, store_code, pointer_check, free_code}
 use Rattle.pm_alloc.specs.Runs.{Next, Goes, Traps, local_run}
 use Rattle.pm_alloc.specs.LocalRun.{World, Loc, local_step}
 use Rattle.pm_alloc.specs.Search.{IsPool}
-use Rattle.pm_alloc.specs.Free.{Looked, Null, Outside, Other, Is, by_header, look, header_seen, Checked, PointerLaw, Freed, FreeLaw}
+use Rattle.pm_alloc.specs.Free.{Looked, Null, Outside, Other, Is, by_header, look, header_seen}
+use Rattle.pm_alloc.specs.Free.{Checked, PointerLaw, Freed, FreeLaw}
 use Rattle.pm_alloc.proofs.Runs.{run_on}
 use Rattle.pm_alloc.proofs.Search.{small, header_address}
 use Rattle.pm_alloc.proofs.New.{with_log}

@@ -1,5 +1,7 @@
 -- The code of a new object, after the search.
-use Rattle.std.proofs.Common.{◌≡◌, ℕ, zero, suc, ◌+◌, ◌*◌, ◌<◌, ◌≤◌, Bool, true, false, List, [], ◌∷◌, ◌++◌, length, Some, ℤ, pos, refl, sym, ap, ◌∙◌, subst, arith, ltb, append_assoc, length-append, get_or}
+use Rattle.std.proofs.Common.{◌≡◌, ℕ, zero, suc, ◌+◌, ◌*◌, ◌<◌, ◌≤◌, Bool, true, false, List, []}
+use Rattle.std.proofs.Common.{◌∷◌, ◌++◌, length, Some, ℤ, pos, refl, sym, ap, ◌∙◌, subst, arith}
+use Rattle.std.proofs.Common.{ltb, append_assoc, length-append, get_or}
 use Rattle.std.specs.Prelude.{◌+ℤ◌, slice_get}
 use Rattle.std.specs.Int.{w64, int_wrap}
 use Rattle.std.proofs.lemmas.Bool.{lt-ltb}
@@ -13,7 +15,8 @@ use Rattle.pm_alloc.specs.declared.local.Local.{Local}
 use Rattle.pm_alloc.specs.declared.local.Local.TheVariants.{Mov, Store, Log}
 use Rattle.pm_alloc.specs.Pieces.{offset, fill_code, new_head, new_code}
 use Rattle.pm_alloc.specs.Runs.{Next, Goes, local_run}
-use Rattle.pm_alloc.specs.LocalRun.{World, Loc, local_read, local_stored, logged, searched, local_step}
+use Rattle.pm_alloc.specs.LocalRun.{World, Loc, local_read, local_stored, logged, searched}
+use Rattle.pm_alloc.specs.LocalRun.{local_step}
 use Rattle.pm_alloc.specs.Search.{temporaries, IsPool}
 use Rattle.pm_alloc.specs.New.{wrote, zeroed, world_after_new, NewCodeLaw}
 use Rattle.pm_alloc.proofs.Runs.{run_on}

@@ -1,7 +1,8 @@
 -- The effect of the checks of a pointer, and of the code of `pm_free` after them: null and stale
 -- trap as the source says, by the pointer's number and the header of its slot; else the header is
 -- loaded, logged and set to 0.
-use Rattle.std.specs.Prelude.{ℕ, zero, suc, ◌+◌, ◌*◌, ◌≤◌, ◌<◌, ◌≡◌, ◌==◌, if◌then◌else◌, nat_lt, true, List, [], ◌∷◌, ◌++◌, length, ℤ, pos, negsuc}
+use Rattle.std.specs.Prelude.{ℕ, zero, suc, ◌+◌, ◌*◌, ◌≤◌, ◌<◌, ◌≡◌, ◌==◌, if◌then◌else◌, nat_lt}
+use Rattle.std.specs.Prelude.{true, List, [], ◌∷◌, ◌++◌, length, ℤ, pos, negsuc}
 use Rattle.nvm_base.specs.Operations.{unsigned}
 use Rattle.nvm_base.specs.Wrap.{IsWord}
 use Rattle.cache_model.specs.Cache.{Words}

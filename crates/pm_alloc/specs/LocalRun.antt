@@ -1,7 +1,8 @@
 -- Running a piece of code alone on a heap: places are counted from its start, the function's
 -- registers are words by their numbers, and its temporary registers a list. The effects on the heap
 -- and on the log are kept, the newest first.
-use Rattle.std.specs.Prelude.{ℕ, zero, suc, ◌+◌, if◌then◌else◌, nat_lt, List, ◌∷◌, Option, Some, None, ℤ, pos, negsuc, ◌+ℤ◌, slice_get, get_or, set}
+use Rattle.std.specs.Prelude.{ℕ, zero, suc, ◌+◌, if◌then◌else◌, nat_lt, List, ◌∷◌, Option, Some}
+use Rattle.std.specs.Prelude.{None, ℤ, pos, negsuc, ◌+ℤ◌, slice_get, get_or, set}
 use Rattle.std.specs.Int.{w64, int_wrap}
 use Rattle.nvm_base.specs.Applied.{applied}
 use Rattle.cache_model.specs.Cache.{Words, put}
@@ -14,7 +15,8 @@ use Rattle.pm_machine.specs.Machine.{word_at}
 use Rattle.pm_alloc.specs.declared.local.Reg.{Reg}
 use Rattle.pm_alloc.specs.declared.local.Reg.TheVariants.{Own, Temp}
 use Rattle.pm_alloc.specs.declared.local.Local.{Local}
-use Rattle.pm_alloc.specs.declared.local.Local.TheVariants.{Const, Mov, Bin, Jmp, Jz, Load, Store, Find, Log, Tick, Trap}
+use Rattle.pm_alloc.specs.declared.local.Local.TheVariants.{Const, Mov, Bin, Jmp, Jz, Load, Store}
+use Rattle.pm_alloc.specs.declared.local.Local.TheVariants.{Find, Log, Tick, Trap}
 use Rattle.pm_alloc.specs.Runs.{Next, Goes, Traps, Off}
 
 -- the state that the piece shares with all other code

@@ -1,14 +1,16 @@
 -- The code that reaches objects, before it has a place. Temporary registers: 0 is an address (16
 -- times a slot, to which an index may be added) or, in `pm_new`, the slot; 1 and 2 are used by the
 -- checks; 1, 5 and 6 by `pm_new`.
-use Rattle.std.specs.Prelude.{ℕ, zero, suc, ◌+◌, ◌*◌, Bool, true, false, if◌then◌else◌, nat_lt, List, [], ◌∷◌, ◌++◌, length, ℤ, pos, ◌-ℤ◌}
+use Rattle.std.specs.Prelude.{ℕ, zero, suc, ◌+◌, ◌*◌, Bool, true, false, if◌then◌else◌, nat_lt}
+use Rattle.std.specs.Prelude.{List, [], ◌∷◌, ◌++◌, length, ℤ, pos, ◌-ℤ◌}
 use Rattle.nvm_base.specs.declared.op.BinOp.TheVariants.{Add, Mul, Ne, Ult}
 use Rattle.pool_layout.specs.declared.limits.Sizes.{Sizes}
 use Rattle.pool_layout.specs.Sizes.{root_lines}
 use Rattle.pm_alloc.specs.declared.local.Reg.{Reg}
 use Rattle.pm_alloc.specs.declared.local.Reg.TheVariants.{Own, Temp}
 use Rattle.pm_alloc.specs.declared.local.Local.{Local}
-use Rattle.pm_alloc.specs.declared.local.Local.TheVariants.{Const, Mov, Bin, Jmp, Jz, Load, Store, Find, Log, Trap}
+use Rattle.pm_alloc.specs.declared.local.Local.TheVariants.{Const, Mov, Bin, Jmp, Jz, Load, Store}
+use Rattle.pm_alloc.specs.declared.local.Local.TheVariants.{Find, Log, Trap}
 
 -- word j of the object in slot s is heap word 16 s + offset; word 0 is its header
 abbrev pub offset : Sizes → ℕ → ℤ

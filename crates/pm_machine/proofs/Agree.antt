@@ -1,5 +1,7 @@
 -- Two heaps that are alike for a run have the same run.
-use Rattle.std.proofs.Common.{◌≡◌, ◌≢◌, inl, inr, ⊎_elim, ℕ, zero, suc, ◌<◌, List, [], ◌∷◌, Option, Some, None, ℤ, Bool, true, false, if◌then◌else◌, pos, ◌+◌, ◌≤◌, ◌*◌, ◌+ℤ◌, w64, arith, refl, sym, ap, ◌∙◌, subst}
+use Rattle.std.proofs.Common.{◌≡◌, ◌≢◌, inl, inr, ⊎_elim, ℕ, zero, suc, ◌<◌, List, [], ◌∷◌, Option}
+use Rattle.std.proofs.Common.{Some, None, ℤ, Bool, true, false, if◌then◌else◌, pos, ◌+◌, ◌≤◌, ◌*◌}
+use Rattle.std.proofs.Common.{◌+ℤ◌, w64, arith, refl, sym, ap, ◌∙◌, subst}
 use Rattle.std.specs.Int.{int_wrap}
 use Rattle.std.specs.Ordering.{int_eq}
 use Rattle.std.proofs.lemmas.Bool.{cases_eq}
@@ -11,12 +13,15 @@ use Rattle.pm_machine.specs.declared.image.Image.{Image}
 use Rattle.pm_machine.specs.declared.op.Op.{Op}
 use Rattle.pm_machine.specs.declared.op.Op.TheVariants.{Load, Find}
 use Rattle.pm_machine.specs.declared.effect.Effect.{Effect}
-use Rattle.pm_machine.specs.declared.effect.Effect.TheVariants.{Loads, Scans, Stores, Logs, Flushes, Fences, Quiet}
+use Rattle.pm_machine.specs.declared.effect.Effect.TheVariants.{Loads, Scans, Stores, Logs, Flushes}
+use Rattle.pm_machine.specs.declared.effect.Effect.TheVariants.{Fences, Quiet}
 use Rattle.pm_machine.specs.declared.effect.End.{End}
 use Rattle.pm_machine.specs.Effects.{heap_past, records_past, heap_end}
 use Rattle.pm_machine.specs.Inputs.{AreAlike}
 use Rattle.pm_machine.specs.Find.{free_of, tried, least, looks, IsHeader}
-use Rattle.pm_machine.specs.Machine.{State, StepOutcome, Goes, Ends, Run, Finished, began, follow, tally, step, run, execute, fetch, load, target, written, read_register, address_index}
+use Rattle.pm_machine.specs.Machine.{State, StepOutcome, Goes, Ends, Run, Finished, began, follow}
+use Rattle.pm_machine.specs.Machine.{tally, step, run, execute, fetch, load, target, written}
+use Rattle.pm_machine.specs.Machine.{read_register, address_index}
 use Rattle.pm_machine.specs.Runs.{heap_in, AreLines, due, owed, IsFinished}
 use Rattle.pm_machine.proofs.Fuel.{began_rest}
 use Rattle.pm_machine.proofs.Range.{inside_below, looks_within}

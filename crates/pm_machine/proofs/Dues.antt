@@ -1,5 +1,6 @@
 -- The due events of the run on a cache are those of the run on its heap.
-use Rattle.std.proofs.Common.{◌≡◌, ◌≢◌, ⊎_elim, ℕ, zero, suc, ◌+◌, ◌<◌, pos, refl, sym, ap, ◌∙◌, subst, arith}
+use Rattle.std.proofs.Common.{◌≡◌, ◌≢◌, ⊎_elim, ℕ, zero, suc, ◌+◌, ◌<◌, pos, refl, sym, ap, ◌∙◌}
+use Rattle.std.proofs.Common.{subst, arith}
 use Rattle.std.proofs.lemmas.Bool.{cases_eq}
 use Rattle.cache_model.specs.Event.{Store, Flush}
 use Rattle.cache_model.specs.Cache.{Words, put, Cache, view}
@@ -7,14 +8,17 @@ use Rattle.cache_model.specs.Play.{apply, play}
 use Rattle.cache_model.proofs.Versions.{put_same, put_other}
 use Rattle.cache_model.proofs.Views.{view_same, view_other, view_flush, view_fence}
 use Rattle.pool_layout.specs.declared.limits.Sizes.{Sizes}
-use Rattle.pool_layout.specs.declared.places.Place.TheVariants.{RecordWord, RecordOld, RecordStamp, Heap}
+use Rattle.pool_layout.specs.declared.places.Place.TheVariants.{RecordWord, RecordOld, RecordStamp}
+use Rattle.pool_layout.specs.declared.places.Place.TheVariants.{Heap}
 use Rattle.pool_layout.specs.Places.{at, pool_of}
 use Rattle.pool_layout.specs.Sizes.{heap_words}
 use Rattle.pm_machine.specs.declared.effect.Effect.{Effect}
-use Rattle.pm_machine.specs.declared.effect.Effect.TheVariants.{Loads, Scans, Stores, Logs, Flushes, Fences, Quiet}
+use Rattle.pm_machine.specs.declared.effect.Effect.TheVariants.{Loads, Scans, Stores, Logs, Flushes}
+use Rattle.pm_machine.specs.declared.effect.Effect.TheVariants.{Fences, Quiet}
 use Rattle.pm_machine.specs.declared.image.Image.{Image}
 use Rattle.pm_machine.specs.Effects.{heap_past, records_past, events_of}
-use Rattle.pm_machine.specs.Machine.{State, StepOutcome, Goes, Ends, step, Run, Unfinished, Finished, began, follow, run}
+use Rattle.pm_machine.specs.Machine.{State, StepOutcome, Goes, Ends, step, Run, Unfinished}
+use Rattle.pm_machine.specs.Machine.{Finished, began, follow, run}
 use Rattle.pm_machine.specs.Runs.{heap_in, AreLines, due_before, owing, due, owed, IsFinished}
 use Rattle.pm_machine.specs.inside.Runs.{IsInRange, StepKeeps}
 use Rattle.pm_machine.proofs.Range.{keeps_step}

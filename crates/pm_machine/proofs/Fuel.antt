@@ -5,7 +5,8 @@ use Rattle.pm_machine.specs.declared.image.Image.{Image}
 use Rattle.pm_machine.specs.declared.effect.Effect.{Effect}
 use Rattle.pm_machine.specs.declared.effect.End.{End}
 use Rattle.pm_machine.specs.Effects.{heap_past, records_past}
-use Rattle.pm_machine.specs.Machine.{State, StepOutcome, Goes, Ends, Run, Unfinished, Finished, began, follow, step, run}
+use Rattle.pm_machine.specs.Machine.{State, StepOutcome, Goes, Ends, Run, Unfinished, Finished}
+use Rattle.pm_machine.specs.Machine.{began, follow, step, run}
 
 -- a finished run that began with a step is that step and a finished run
 pub began_rest : (e : Effect) (x : Run) (end : End) (es : List Effect) → began e x ≡ Finished end es

@@ -1,6 +1,7 @@
 -- The loop of a run: playing the remaining events gives what playing all of them gives from the
 -- start.
-use Rattle.std.proofs.Common.{◌≡◌, ℕ, suc, ◌+◌, ◌-◌, ◌<◌, ◌≤◌, List, [], ◌∷◌, Some, None, refl, sym, ap, ◌∙◌, subst, arith}
+use Rattle.std.proofs.Common.{◌≡◌, ℕ, suc, ◌+◌, ◌-◌, ◌<◌, ◌≤◌, List, [], ◌∷◌, Some, None, refl, sym}
+use Rattle.std.proofs.Common.{ap, ◌∙◌, subst, arith}
 use Rattle.cache_model.specs.Event.{CacheEvent}
 use Rattle.cache_model.specs.Cache.{Cache}
 use Rattle.cache_model.specs.Play.{play}
@@ -15,7 +16,8 @@ use Rattle.pm_machine.specs.declared.machine.Progress.TheVariants.{Did, Ended}
 use Rattle.pm_machine.specs.declared.image.Image.{Image}
 use Rattle.pm_machine.specs.Effects.{events_of, records_past}
 use Rattle.pm_machine.specs.Machine.{State, StepOutcome, Goes, Ends, decide, tally, step}
-use Rattle.pm_machine.specs.Runs.{heap_in, outcome_of, effect_of, effect_in, Due, due_before, owing, due}
+use Rattle.pm_machine.specs.Runs.{heap_in, outcome_of, effect_of, effect_in, Due, due_before, owing}
+use Rattle.pm_machine.specs.Runs.{due}
 use Rattle.pm_machine.specs.inside.Runs.{DueLeads}
 
 pub all_cache : (es : List CacheEvent) (d b : Device) → PlaysAll d es b → b.cache ≡ play d.cache es

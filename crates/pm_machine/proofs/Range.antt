@@ -1,6 +1,9 @@
 -- The effect of a step is in range, dirty lines are lines of the heap, and there are no more
 -- records than the log holds.
-use Rattle.std.proofs.Common.{◌≡◌, ℕ, zero, suc, ◌+◌, ◌-◌, ◌*◌, ◌/◌, ◌<◌, ◌≤◌, ◌++◌, ◌==◌, if◌then◌else◌, Bool, true, false, List, [], ◌∷◌, drop, length, slice_get, Option, Some, None, ℤ, pos, ltb, w64, ◌+ℤ◌, refl, sym, ap, ◌∙◌, subst, arith, nat_eq}
+use Rattle.std.proofs.Common.{◌≡◌, ℕ, zero, suc, ◌+◌, ◌-◌, ◌*◌, ◌/◌, ◌<◌, ◌≤◌, ◌++◌, ◌==◌}
+use Rattle.std.proofs.Common.{if◌then◌else◌, Bool, true, false, List, [], ◌∷◌, drop, length}
+use Rattle.std.proofs.Common.{slice_get, Option, Some, None, ℤ, pos, ltb, w64, ◌+ℤ◌, refl, sym, ap}
+use Rattle.std.proofs.Common.{◌∙◌, subst, arith, nat_eq}
 use Rattle.std.specs.List.{list_any}
 use Rattle.std.specs.Ordering.{int_eq}
 use Rattle.std.specs.Int.{int_wrap}
@@ -12,15 +15,20 @@ use Rattle.pool_layout.specs.Sizes.{heap_words, slot_word}
 use Rattle.pool_map.specs.declared.trap.TrapKind.TheVariants as trap
 use Rattle.pm_machine.specs.declared.image.Image.{Image}
 use Rattle.pm_machine.specs.declared.op.Op.{Op}
-use Rattle.pm_machine.specs.declared.op.Op.TheVariants.{Jz, Load, Store, Find, Log, Flush, Call, Ret, Tick, Trap, Halt}
+use Rattle.pm_machine.specs.declared.op.Op.TheVariants.{Jz, Load, Store, Find, Log, Flush, Call}
+use Rattle.pm_machine.specs.declared.op.Op.TheVariants.{Ret, Tick, Trap, Halt}
 use Rattle.pm_machine.specs.declared.frame.Frame.{Frame}
 use Rattle.pm_machine.specs.declared.effect.Effect.{Effect}
-use Rattle.pm_machine.specs.declared.effect.Effect.TheVariants.{Loads, Scans, Stores, Logs, Flushes, Fences, Quiet}
+use Rattle.pm_machine.specs.declared.effect.Effect.TheVariants.{Loads, Scans, Stores, Logs, Flushes}
+use Rattle.pm_machine.specs.declared.effect.Effect.TheVariants.{Fences, Quiet}
 use Rattle.pm_machine.specs.declared.effect.End.TheVariants.{Trapped}
 use Rattle.pm_machine.specs.declared.machine.Progress.{Progress}
 use Rattle.pm_machine.specs.declared.machine.Progress.TheVariants.{Did}
 use Rattle.pm_machine.specs.Effects.{records_past}
-use Rattle.pm_machine.specs.Machine.{State, StepOutcome, Goes, Ends, step, decide, tally, execute, fetch, read_register, load, store, log, flush, call, return, target, moved_to, passed, tick_spent, entered, address_index, word_inside}
+use Rattle.pm_machine.specs.Machine.{State, StepOutcome, Goes, Ends, step, decide, tally, execute}
+use Rattle.pm_machine.specs.Machine.{fetch, read_register, load, store, log, flush, call, return}
+use Rattle.pm_machine.specs.Machine.{target, moved_to, passed, tick_spent, entered, address_index}
+use Rattle.pm_machine.specs.Machine.{word_inside}
 use Rattle.pm_machine.specs.Find.{tried, looks}
 use Rattle.pm_machine.specs.Runs.{AreLines, outcome_of}
 use Rattle.pm_machine.specs.inside.Runs.{IsInRange, StepKeeps}

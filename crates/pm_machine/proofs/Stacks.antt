@@ -1,7 +1,11 @@
 -- The frames of a stack whose registers are in one list.
-use Rattle.std.proofs.Common.{◌≡◌, ℕ, ◌+◌, ◌-◌, ◌*◌, ◌<◌, ◌≤◌, suc, List, [], ◌∷◌, ◌++◌, length, get_or, take, drop, ℤ, Some, refl, sym, ap, ◌∙◌, arith, append_assoc, add-one}
+use Rattle.std.proofs.Common.{◌≡◌, ℕ, ◌+◌, ◌-◌, ◌*◌, ◌<◌, ◌≤◌, suc, List, [], ◌∷◌, ◌++◌, length}
+use Rattle.std.proofs.Common.{get_or, take, drop, ℤ, Some, refl, sym, ap, ◌∙◌, arith, append_assoc}
+use Rattle.std.proofs.Common.{add-one}
 use Rattle.std.specs.Prelude.{slice_get}
-use Rattle.std.proofs.lemmas.List.{length-drop, length-take-le, length_push, take-append-drop, take-append-le, drop-append-le, take_all, take_at, drop_more, get_or_push, nil_from_length}
+use Rattle.std.proofs.lemmas.List.{length-drop, length-take-le, length_push, take-append-drop}
+use Rattle.std.proofs.lemmas.List.{take-append-le, drop-append-le, take_all, take_at, drop_more}
+use Rattle.std.proofs.lemmas.List.{get_or_push, nil_from_length}
 use Rattle.std.proofs.lemmas.Option.{slice_get_read}
 use Rattle.std.proofs.lemmas.Nat.{mul-le}
 use Rattle.pm_machine.specs.declared.frame.Frame.{Frame}

@@ -3,10 +3,13 @@
 -- has as many parameters as the call has arguments; a function's last instruction is JMP, RET, TRAP
 -- or HALT; and, reported at place 0, a function isn't empty and has no more parameters than
 -- registers.
-use Rattle.std.specs.Prelude.{ℕ, ◌+◌, Bool, true, false, ◌&&◌, ◌||◌, nat_lt, nat_le, ◌==◌, if◌then◌else◌, List, [], ◌∷◌, length, Option, Some, None, slice_get}
+use Rattle.std.specs.Prelude.{ℕ, ◌+◌, Bool, true, false, ◌&&◌, ◌||◌, nat_lt, nat_le, ◌==◌}
+use Rattle.std.specs.Prelude.{if◌then◌else◌, List, [], ◌∷◌, length, Option, Some, None, slice_get}
 use Rattle.std.specs.List.{list_all}
 use Rattle.pm_machine.specs.declared.op.Op.{Op}
-use Rattle.pm_machine.specs.declared.op.Op.TheVariants.{Const, Mov, Bin, Jmp, Jz, Load, Store, Find, Log, Flush, Fence, Call, Ret, Tick, Trap, Halt}
+use Rattle.pm_machine.specs.declared.op.Op.TheVariants.{Const, Mov, Bin, Jmp, Jz, Load, Store, Find}
+use Rattle.pm_machine.specs.declared.op.Op.TheVariants.{Log, Flush, Fence, Call, Ret, Tick, Trap}
+use Rattle.pm_machine.specs.declared.op.Op.TheVariants.{Halt}
 use Rattle.pm_machine.specs.declared.op.Function.{Function}
 
 -- the called function exists and has so many parameters

@@ -1,6 +1,8 @@
 -- The machine: its state, one step, and a run. The heap isn't in the state: a step is given the
 -- heap, and its effect says how the heap changes.
-use Rattle.std.specs.Prelude.{ℕ, zero, suc, ◌+◌, ◌-◌, ◌/◌, ◌==◌, List, [], ◌∷◌, ◌++◌, length, take, drop, replicate, slice_get, slice_index_or, slice_set, Option, Some, None, if◌then◌else◌, nat_lt, nat_eq, ℤ, pos, negsuc, ◌+ℤ◌}
+use Rattle.std.specs.Prelude.{ℕ, zero, suc, ◌+◌, ◌-◌, ◌/◌, ◌==◌, List, [], ◌∷◌, ◌++◌, length, take}
+use Rattle.std.specs.Prelude.{drop, replicate, slice_get, slice_index_or, slice_set, Option, Some}
+use Rattle.std.specs.Prelude.{None, if◌then◌else◌, nat_lt, nat_eq, ℤ, pos, negsuc, ◌+ℤ◌}
 use Rattle.std.specs.Int.{w64, int_wrap}
 use Rattle.std.specs.Ordering.{int_eq}
 use Rattle.indexmap.specs.IndexSet.{insert_key}
@@ -11,11 +13,14 @@ use Rattle.pool_map.specs.declared.trap.TrapKind.TheVariants.{Steps, LogFull, De
 use Rattle.pool_map.specs.Trap.{trap_of}
 use Rattle.nvm_base.specs.Applied.{applied}
 use Rattle.pm_machine.specs.declared.effect.Effect.{Effect}
-use Rattle.pm_machine.specs.declared.effect.Effect.TheVariants.{Loads, Scans, Stores, Logs, Flushes, Fences, Quiet}
+use Rattle.pm_machine.specs.declared.effect.Effect.TheVariants.{Loads, Scans, Stores, Logs, Flushes}
+use Rattle.pm_machine.specs.declared.effect.Effect.TheVariants.{Fences, Quiet}
 use Rattle.pm_machine.specs.declared.effect.End.{End}
 use Rattle.pm_machine.specs.declared.effect.End.TheVariants.{Halted, Trapped}
 use Rattle.pm_machine.specs.declared.op.Op.{Op}
-use Rattle.pm_machine.specs.declared.op.Op.TheVariants.{Const, Mov, Bin, Jmp, Jz, Load, Store, Find, Log, Flush, Fence, Call, Ret, Tick, Trap, Halt}
+use Rattle.pm_machine.specs.declared.op.Op.TheVariants.{Const, Mov, Bin, Jmp, Jz, Load, Store, Find}
+use Rattle.pm_machine.specs.declared.op.Op.TheVariants.{Log, Flush, Fence, Call, Ret, Tick, Trap}
+use Rattle.pm_machine.specs.declared.op.Op.TheVariants.{Halt}
 use Rattle.pm_machine.specs.declared.op.Function.{Function}
 use Rattle.pm_machine.specs.Transactions.{entry_function}
 use Rattle.pm_machine.specs.declared.image.Image.{Image}

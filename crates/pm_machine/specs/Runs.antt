@@ -1,5 +1,6 @@
 -- The due events of a run on a device's cache, and the invariants of its steps.
-use Rattle.std.specs.Prelude.{ℕ, zero, suc, ◌*◌, ◌<◌, ◌++◌, List, [], ◌∷◌, length, Option, Some, None}
+use Rattle.std.specs.Prelude.{ℕ, zero, suc, ◌*◌, ◌<◌, ◌++◌, List, [], ◌∷◌, length, Option, Some}
+use Rattle.std.specs.Prelude.{None}
 use Rattle.cache_model.specs.Event.{CacheEvent}
 use Rattle.cache_model.specs.Cache.{Words, Cache, view}
 use Rattle.cache_model.specs.Play.{play}
@@ -15,7 +16,8 @@ use Rattle.pm_machine.specs.declared.machine.Progress.{Progress}
 use Rattle.pm_machine.specs.declared.machine.Progress.TheVariants as progress
 use Rattle.pm_machine.specs.declared.image.Image.{Image}
 use Rattle.pm_machine.specs.Effects.{events_of, events_all, records_past, records_end}
-use Rattle.pm_machine.specs.Machine.{State, StepOutcome, Goes, Ends, step, Run, Unfinished, Finished}
+use Rattle.pm_machine.specs.Machine.{State, StepOutcome, Goes, Ends, step, Run, Unfinished}
+use Rattle.pm_machine.specs.Machine.{Finished}
 
 -- the heap in the view of a cache
 abbrev pub heap_in : Sizes → Cache → Words

@@ -1,6 +1,7 @@
 //! An open function of the machine, and the words of its registers.
 
-ghost use Rattle.std.specs.Prelude.{◌≡◌, ◌++◌, length, pos, replicate, slice_index_or, slice_set, IfOk};
+ghost use Rattle.std.specs.Prelude.{◌≡◌, ◌++◌, length, pos, replicate, slice_index_or, slice_set};
+ghost use Rattle.std.specs.Prelude.{IfOk};
 
 use std::alloc::{AllocError, Global};
 use std::marker::Model;

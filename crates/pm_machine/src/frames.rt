@@ -1,6 +1,7 @@
 //! The call stack. All its memory is allocated at the start, so a call takes none.
 
-ghost use Rattle.std.specs.Prelude.{◌≡◌, ◌+◌, ◌-◌, ◌*◌, ◌<◌, ◌≤◌, ◌++◌, ◌∷◌, [], Some, true, false, IfOk, length, take, slice_get, vec_capacity};
+ghost use Rattle.std.specs.Prelude.{◌≡◌, ◌+◌, ◌-◌, ◌*◌, ◌<◌, ◌≤◌, ◌++◌, ◌∷◌, [], Some, true, false};
+ghost use Rattle.std.specs.Prelude.{IfOk, length, take, slice_get, vec_capacity};
 ghost use Rattle.pm_machine.specs.Stack.{Stack};
 
 use crate::frame::Frame;

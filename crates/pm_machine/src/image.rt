@@ -1,8 +1,11 @@
 //! A checked program of the machine.
 
-ghost use Rattle.std.specs.Prelude.{◌≡◌, ◌<◌, ◌≤◌, ◌^◌, ◌+◌, Some, None, IfSome, IfNone, IfOk, IfErr, OnOk, length, slice_get, nat_lt, ◌-◌, IsErrOf, IsSomeAnd, ℕ};
+ghost use Rattle.std.specs.Prelude.{◌≡◌, ◌<◌, ◌≤◌, ◌^◌, ◌+◌, Some, None, IfSome, IfNone, IfOk};
+ghost use Rattle.std.specs.Prelude.{IfErr, OnOk, length, slice_get, nat_lt, ◌-◌, IsErrOf};
+ghost use Rattle.std.specs.Prelude.{IsSomeAnd, ℕ};
 ghost use Rattle.std.specs.List.{list_all, AllByRecursion};
-ghost use Rattle.pm_machine.specs.Checked.{takes_arguments, op_is_there, is_end, is_good_op, bad_from, bad_in, bad_of, most_registers};
+ghost use Rattle.pm_machine.specs.Checked.{takes_arguments, op_is_there, is_end, is_good_op};
+ghost use Rattle.pm_machine.specs.Checked.{bad_from, bad_in, bad_of, most_registers};
 ghost use Rattle.pm_machine.specs.Transactions.{entry_function};
 ghost use Rattle.pm_machine.specs.Few.{AreFew};
 

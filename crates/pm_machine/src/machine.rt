@@ -1,7 +1,11 @@
 //! A run in progress: the effect of one line of the machine's table on it, and what it asks of the
 //! device.
 
-ghost use Rattle.std.specs.Prelude.{◌≡◌, ◌≢◌, IfErr, IsOk, true, List, suc, ◌+◌, ◌-◌, ◌*◌, ◌/◌, ◌^◌, replicate, ◌<◌, ◌≤◌, ◌++◌, ◌∷◌, [], ℕ, pos, Option, Some, None, IfOk, IfSome, IfNone, OnOk, OnErr, IsErrOf, length, take, drop, map, slice_get, option_copied, IsSome, if◌then◌else◌, ◌==◌};
+ghost use Rattle.std.specs.Prelude.{◌≡◌, ◌≢◌, IfErr, IsOk, true, List, suc, ◌+◌, ◌-◌, ◌*◌, ◌/◌};
+ghost use Rattle.std.specs.Prelude.{◌^◌, replicate, ◌<◌, ◌≤◌, ◌++◌, ◌∷◌, [], ℕ, pos, Option, Some};
+ghost use Rattle.std.specs.Prelude.{None, IfOk, IfSome, IfNone, OnOk, OnErr, IsErrOf, length, take};
+ghost use Rattle.std.specs.Prelude.{drop, map, slice_get, option_copied, IsSome, if◌then◌else◌};
+ghost use Rattle.std.specs.Prelude.{◌==◌};
 ghost use Rattle.std.specs.Option.{ForSome};
 ghost use Rattle.std.specs.Ordering.{int_eq};
 ghost use Rattle.pool_map.specs.declared.trap.TrapKind.TheVariants as trap;
@@ -11,10 +15,16 @@ ghost use Rattle.pmem.specs.Played.{PlaysAll, PlaysPart};
 ghost use Rattle.pm_machine.specs.declared.effect.Effect.TheVariants.{Quiet};
 ghost use Rattle.pm_machine.specs.declared.machine.Progress.TheVariants as progress;
 ghost use Rattle.pm_machine.specs.declared.effect.End.TheVariants.{Halted, Trapped};
-ghost use Rattle.pm_machine.specs.Machine.{State, read_register, passed, moved_to, written, stored, cleaned, registers_placed, entered, returned, return, load, find, store, log, flush, call, execute, Goes, Ends, tick_spent, address_index, word_at, target, fetch, decide, tallied, step, trap_at, start, registers_filled, stored_by, due_store};
+ghost use Rattle.pm_machine.specs.Machine.{State, read_register, passed, moved_to, written, stored};
+ghost use Rattle.pm_machine.specs.Machine.{cleaned, registers_placed, entered, returned, return};
+ghost use Rattle.pm_machine.specs.Machine.{load, find, store, log, flush, call, execute, Goes};
+ghost use Rattle.pm_machine.specs.Machine.{Ends, tick_spent, address_index, word_at, target, fetch};
+ghost use Rattle.pm_machine.specs.Machine.{decide, tallied, step, trap_at, start, registers_filled};
+ghost use Rattle.pm_machine.specs.Machine.{stored_by, due_store};
 ghost use Rattle.pm_machine.specs.Effects.{events_of, records_past};
 ghost use Rattle.pm_machine.specs.Known.{AreInUseOn};
-ghost use Rattle.pm_machine.specs.Runs.{heap_in, outcome_of, effect_of, effect_in, AreLines, due, end_of};
+ghost use Rattle.pm_machine.specs.Runs.{heap_in, outcome_of, effect_of, effect_in, AreLines, due};
+ghost use Rattle.pm_machine.specs.Runs.{end_of};
 ghost use Rattle.pm_machine.specs.inside.Runs.{IsStore, IsInRange};
 
 use crate::effect::{Effect, End};

@@ -1,5 +1,7 @@
 -- How many lines of a sparse memory have older versions.
-use Rattle.std.proofs.Common.{◌≡◌, ◌≢◌, ⊎_elim, ℕ, zero, suc, ◌+◌, ◌<◌, ◌≤◌, ◌==◌, nat_lt, cond, Bool, true, false, List, [], ◌∷◌, map, length, Option, Some, None, ℤ, refl, sym, ap, ◌∙◌, subst, arith}
+use Rattle.std.proofs.Common.{◌≡◌, ◌≢◌, ⊎_elim, ℕ, zero, suc, ◌+◌, ◌<◌, ◌≤◌, ◌==◌, nat_lt, cond}
+use Rattle.std.proofs.Common.{Bool, true, false, List, [], ◌∷◌, map, length, Option, Some, None, ℤ}
+use Rattle.std.proofs.Common.{refl, sym, ap, ◌∙◌, subst, arith}
 use Rattle.std.specs.Ordering.{nat_cmp}
 use Rattle.std.specs.List.{AllByRecursion}
 use Rattle.std.specs.List.Sorted.{IsStrictlySortedBy}
@@ -8,7 +10,8 @@ use Rattle.std.proofs.lemmas.Bool.{cases_eq, ltb-true}
 use Rattle.cache_model.specs.Cache.{Cache}
 use Rattle.cache_model.specs.Lists.{version_words}
 use Rattle.pmem.specs.Kept.{is_more, more_from, more_lines}
-use Rattle.pmem.specs.Sparse.{Older, Sparse, kept_at, sparse_line, sparse_cache, sparse_memory, IsTidySparse}
+use Rattle.pmem.specs.Sparse.{Older, Sparse, kept_at, sparse_line, sparse_cache, sparse_memory}
+use Rattle.pmem.specs.Sparse.{IsTidySparse}
 use Rattle.pmem.proofs.Sparses.{at_same, at_other}
 
 -- the keys rise strictly, and the first is at least this one

@@ -1,5 +1,9 @@
 -- The effect of a power cut on a sparse memory, line by line.
-use Rattle.std.proofs.Common.{◌≡◌, ◌≢◌, ⊎_elim, ℕ, zero, suc, ◌+◌, ◌*◌, ◌/◌, ◌%◌, ◌<◌, ◌==◌, nat_lt, ◌&&◌, replicate, cond, Bool, true, false, List, [], ◌∷◌, ◌++◌, map, length, get_or, slice_get, Option, Some, None, Result, Ok, Err, OnErr, ℤ, pos, refl, sym, ap, ◌∙◌, arith, eq-eqb, ne_eqb, FitsSigned, w64, to_z, of_z}
+use Rattle.std.proofs.Common.{◌≡◌, ◌≢◌, ⊎_elim, ℕ, zero, suc, ◌+◌, ◌*◌, ◌/◌, ◌%◌, ◌<◌, ◌==◌, nat_lt}
+use Rattle.std.proofs.Common.{◌&&◌, replicate, cond, Bool, true, false, List, [], ◌∷◌, ◌++◌, map}
+use Rattle.std.proofs.Common.{length, get_or, slice_get, Option, Some, None, Result, Ok, Err, OnErr}
+use Rattle.std.proofs.Common.{ℤ, pos, refl, sym, ap, ◌∙◌, arith, eq-eqb, ne_eqb, FitsSigned, w64}
+use Rattle.std.proofs.Common.{to_z, of_z}
 use Rattle.std.specs.Ordering.{nat_cmp}
 use Rattle.std.specs.BTreeMap.{is_at}
 use Rattle.std.proofs.lemmas.Int.{to_z-of_z}
@@ -13,7 +17,8 @@ use Rattle.cache_model.specs.declared.choice.Rest.TheVariants.{Old, New}
 use Rattle.cache_model.specs.declared.choice.Pick.{Pick}
 use Rattle.cache_model.specs.declared.choice.Choice.{Choice}
 use Rattle.cache_model.proofs.Lists.{read_on, read_off}
-use Rattle.pmem.specs.Sparse.{Older, Sparse, kept_at, newest_of, sparse_line, sparse_cache, sparse_memory, IsTidySparse}
+use Rattle.pmem.specs.Sparse.{Older, Sparse, kept_at, newest_of, sparse_line, sparse_cache}
+use Rattle.pmem.specs.Sparse.{sparse_memory, IsTidySparse}
 use Rattle.pmem.specs.inside.Sparse.{left_older, or_newest, count_of}
 use Rattle.pmem.proofs.Sparses.{newest_on, newest_off, at_same, at_other}
 

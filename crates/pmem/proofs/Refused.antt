@@ -1,8 +1,11 @@
 -- Which event of a list is refused, and the device after it.
-use Rattle.std.proofs.Common.{◌≡◌, ◌≢◌, inl, inr, ⊎_elim, ℕ, zero, suc, ◌-◌, ◌<◌, ◌≤◌, List, [], ◌∷◌, length, take, Option, Some, None, false, refl, sym, ap, ◌∙◌, subst, arith}
+use Rattle.std.proofs.Common.{◌≡◌, ◌≢◌, inl, inr, ⊎_elim, ℕ, zero, suc, ◌-◌, ◌<◌, ◌≤◌, List, []}
+use Rattle.std.proofs.Common.{◌∷◌, length, take, Option, Some, None, false, refl, sym, ap, ◌∙◌}
+use Rattle.std.proofs.Common.{subst, arith}
 use Rattle.cache_model.specs.Event.{CacheEvent}
 use Rattle.cache_model.specs.Play.{play}
-use Rattle.pmem.specs.Device.{Device, less_one, armed_less, armed_as, FaultsRose, MayFail, MayGo, spent, off_of, failed_of}
+use Rattle.pmem.specs.Device.{Device, less_one, armed_less, armed_as, FaultsRose, MayFail, MayGo}
+use Rattle.pmem.specs.Device.{spent, off_of, failed_of}
 use Rattle.pmem.specs.Played.{Refuses, PlaysAll, PlaysPart}
 use Rattle.pmem.specs.Law.{AllLaw, OffLaw, FailedLaw, MemoryLaw, DownLaw}
 use Rattle.pmem.specs.declared.answer.Refusal.{Refusal}

@@ -1,6 +1,9 @@
 -- The effect of a store, a flush, a fence and a power cut on the cache that a sparse memory stands
 -- for.
-use Rattle.std.proofs.Common.{◌≡◌, ◌≢◌, ◌⊎◌, inl, inr, ⊎_elim, ℕ, ◌+◌, ◌-◌, ◌*◌, ◌/◌, ◌%◌, ◌<◌, ◌==◌, cond, Bool, true, false, List, [], ◌∷◌, ◌++◌, map, drop, length, set, get_or, slice_range, Option, Some, None, ℤ, pos, refl, sym, ap, ◌∙◌, subst, arith, eqb-true, eq-eqb, ne_eqb, length-set}
+use Rattle.std.proofs.Common.{◌≡◌, ◌≢◌, ◌⊎◌, inl, inr, ⊎_elim, ℕ, ◌+◌, ◌-◌, ◌*◌, ◌/◌, ◌%◌, ◌<◌}
+use Rattle.std.proofs.Common.{◌==◌, cond, Bool, true, false, List, [], ◌∷◌, ◌++◌, map, drop, length}
+use Rattle.std.proofs.Common.{set, get_or, slice_range, Option, Some, None, ℤ, pos, refl, sym, ap}
+use Rattle.std.proofs.Common.{◌∙◌, subst, arith, eqb-true, eq-eqb, ne_eqb, length-set}
 use Rattle.std.specs.Ordering.{nat_cmp, is_eq}
 use Rattle.std.specs.BTreeMap.{is_at}
 use Rattle.std.specs.Option.{option_map}
@@ -10,15 +13,19 @@ use Rattle.std.specs.List.Sorted.{IsStrictlySortedBy}
 use Rattle.std.specs.Cmp.{unsigned_tied}
 use Rattle.std.specs.declared.cmp.Ordering.TheVariants.{Less}
 use Rattle.std.proofs.lemmas.Bool.{cases_eq}
-use Rattle.std.proofs.lemmas.List.{map-append, length-append, get_or-set_same, get_or-set_other, get_or-take, get_or-drop, drop-map}
+use Rattle.std.proofs.lemmas.List.{map-append, length-append, get_or-set_same, get_or-set_other}
+use Rattle.std.proofs.lemmas.List.{get_or-take, get_or-drop, drop-map}
 use Rattle.cache_model.specs.Event.{Store, Flush, Fence}
 use Rattle.cache_model.specs.Cache.{Words, put}
 use Rattle.cache_model.specs.Play.{store_line, flush_line, fence_at, fence_line, apply, after}
 use Rattle.cache_model.specs.Lists.{version_words}
 use Rattle.cache_model.proofs.Versions.{put_same, put_other}
 use Rattle.cache_model.proofs.Lists.{read_on, read_off, mark_map}
-use Rattle.pmem.specs.Sparse.{Older, Sparse, kept_at, newest_of, sparse_line, sparse_cache, sparse_memory, IsTidySparse}
-use Rattle.pmem.specs.inside.Sparse.{more_older, flush_older, fence_older_at, fence_older, has_older, fence_entry, fence_lines, is_listed, AreListed, fence_kept}
+use Rattle.pmem.specs.Sparse.{Older, Sparse, kept_at, newest_of, sparse_line, sparse_cache}
+use Rattle.pmem.specs.Sparse.{sparse_memory, IsTidySparse}
+use Rattle.pmem.specs.inside.Sparse.{more_older, flush_older, fence_older_at, fence_older}
+use Rattle.pmem.specs.inside.Sparse.{has_older, fence_entry, fence_lines, is_listed, AreListed}
+use Rattle.pmem.specs.inside.Sparse.{fence_kept}
 
 -- a key is found exactly if it is equal
 at_key : (l q : ℕ) → is_at (nat_cmp l) q ≡ (l == q)

@@ -2,7 +2,8 @@
 -- before the power goes (if that is bounded), the number of events before an armed fault (if the
 -- device shows it and one is armed), and a count of faults, which stays at its last value once it
 -- has reached it.
-use Rattle.std.specs.Prelude.{ℕ, ◌-◌, ◌^◌, ◌<◌, ◌≡◌, ◌≢◌, ◌⊎◌, Bool, true, false, Option, Some, None}
+use Rattle.std.specs.Prelude.{ℕ, ◌-◌, ◌^◌, ◌<◌, ◌≡◌, ◌≢◌, ◌⊎◌, Bool, true, false, Option, Some}
+use Rattle.std.specs.Prelude.{None}
 use Rattle.cache_model.specs.Event.{CacheEvent}
 use Rattle.cache_model.specs.Cache.{Cache, Memory, blank}
 use Rattle.cache_model.specs.Play.{apply}

@@ -3,7 +3,8 @@
 -- short, the number of events left and the fault countdown decide the answer: all events are done
 -- exactly if both numbers, as far as they exist, are at least the length of the list; Off comes
 -- exactly if fewer events are left and the countdown isn't below that number; else Failed comes.
-use Rattle.std.specs.Prelude.{ℕ, ◌-◌, ◌<◌, ◌≤◌, ◌≡◌, true, false, Option, Some, None, List, [], ◌++◌, length, take}
+use Rattle.std.specs.Prelude.{ℕ, ◌-◌, ◌<◌, ◌≤◌, ◌≡◌, true, false, Option, Some, None, List, []}
+use Rattle.std.specs.Prelude.{◌++◌, length, take}
 use Rattle.cache_model.specs.Event.{CacheEvent}
 use Rattle.cache_model.specs.Play.{play}
 use Rattle.pmem.specs.Device.{Device, FaultsRose}

@@ -1,6 +1,7 @@
 -- A memory that keeps the newest version of every line in one list of words, and older versions
 -- only for the lines that have any. This is the cache that it stands for.
-use Rattle.std.specs.Prelude.{ℕ, ◌/◌, ◌*◌, ◌<◌, ◌≡◌, ◌==◌, cond, List, [], map, length, slice_index_or, Option, Some, None, ℤ, pos}
+use Rattle.std.specs.Prelude.{ℕ, ◌/◌, ◌*◌, ◌<◌, ◌≡◌, ◌==◌, cond, List, [], map, length}
+use Rattle.std.specs.Prelude.{slice_index_or, Option, Some, None, ℤ, pos}
 use Rattle.std.specs.Ordering.{nat_cmp}
 use Rattle.std.specs.BTreeMap.{is_at}
 use Rattle.std.specs.Map.{lookup}

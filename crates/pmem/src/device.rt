@@ -1,7 +1,8 @@
 //! The two parts of a device: the one that a running transaction uses, and the one for the owner of
 //! the switch.
 
-ghost use Rattle.std.specs.Prelude.{◌≡◌, ◌*◌, ◌<◌, ◌≤◌, true, false, Some, None, IsSome, IsNone, IfSome, OnOk, OnErr, IfErr};
+ghost use Rattle.std.specs.Prelude.{◌≡◌, ◌*◌, ◌<◌, ◌≤◌, true, false, Some, None, IsSome, IsNone};
+ghost use Rattle.std.specs.Prelude.{IfSome, OnOk, OnErr, IfErr};
 ghost use Rattle.cache_model.specs.Cache.{view};
 ghost use Rattle.cache_model.specs.Event.{Store, Flush, Fence};
 ghost use Rattle.cache_model.specs.Collapse.{bad, Rises};

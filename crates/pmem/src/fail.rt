@@ -1,6 +1,7 @@
 //! A device in memory that fails at one chosen event, for tests. It doesn't show its armed fault.
 
-ghost use Rattle.std.specs.Prelude.{◌≡◌, ◌*◌, ◌<◌, ◌+◌, ◌-◌, ◌^◌, min, length, true, false, Some, None, [], IsSome, IsNone, IfSome, OnOk, OnErr, IfErr};
+ghost use Rattle.std.specs.Prelude.{◌≡◌, ◌*◌, ◌<◌, ◌+◌, ◌-◌, ◌^◌, min, length, true, false, Some};
+ghost use Rattle.std.specs.Prelude.{None, [], IsSome, IsNone, IfSome, OnOk, OnErr, IfErr};
 ghost use Rattle.cache_model.specs.Cache.{blank, view};
 ghost use Rattle.cache_model.specs.Event.{Store, Flush, Fence};
 ghost use Rattle.cache_model.specs.Collapse.{bad, Rises};

@@ -1,6 +1,7 @@
 //! The device in memory. It tells its armed fault, and fails exactly there.
 
-ghost use Rattle.std.specs.Prelude.{◌≡◌, ◌*◌, ◌+◌, ◌<◌, length, slice_index_or, true, false, Some, None, IsSome, IsNone, IfSome, OnOk, OnErr, IfErr};
+ghost use Rattle.std.specs.Prelude.{◌≡◌, ◌*◌, ◌+◌, ◌<◌, length, slice_index_or, true, false, Some};
+ghost use Rattle.std.specs.Prelude.{None, IsSome, IsNone, IfSome, OnOk, OnErr, IfErr};
 ghost use Rattle.cache_model.specs.Cache.{blank, view};
 ghost use Rattle.cache_model.specs.Event.{Store, Flush, Fence};
 ghost use Rattle.cache_model.specs.Collapse.{bad, Rises};

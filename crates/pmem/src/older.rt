@@ -1,6 +1,7 @@
 //! The older versions of a line.
 
-ghost use Rattle.std.specs.Prelude.{◌≡◌, ◌<◌, ◌^◌, ◌++◌, ◌∷◌, [], OnOk, OnErr, IfOk, length, slice_get, None};
+ghost use Rattle.std.specs.Prelude.{◌≡◌, ◌<◌, ◌^◌, ◌++◌, ◌∷◌, [], OnOk, OnErr, IfOk, length};
+ghost use Rattle.std.specs.Prelude.{slice_get, None};
 ghost use Rattle.pmem.specs.inside.Sparse.{flush_older, fence_older, has_older, left_older};
 
 use cache_model::Rest;

@@ -1,6 +1,8 @@
 //! Lines in one list of words, with older versions only for the lines that have any.
 
-ghost use Rattle.std.specs.Prelude.{◌≡◌, ◌⊎◌, ◌*◌, ◌+◌, ◌/◌, ◌%◌, ◌<◌, ◌≤◌, ◌==◌, cond, ℕ, Some, None, OnOk, OnErr, IfOk, IfErr, map, [], ◌∷◌, ◌++◌, true, false, length, slice_range, slice_index_or, pos};
+ghost use Rattle.std.specs.Prelude.{◌≡◌, ◌⊎◌, ◌*◌, ◌+◌, ◌/◌, ◌%◌, ◌<◌, ◌≤◌, ◌==◌, cond, ℕ, Some};
+ghost use Rattle.std.specs.Prelude.{None, OnOk, OnErr, IfOk, IfErr, map, [], ◌∷◌, ◌++◌, true};
+ghost use Rattle.std.specs.Prelude.{false, length, slice_range, slice_index_or, pos};
 ghost use Rattle.std.specs.Ordering.{nat_cmp};
 ghost use Rattle.std.specs.BTreeMap.{is_at};
 ghost use Rattle.std.specs.Option.{option_map};
@@ -10,8 +12,11 @@ ghost use Rattle.cache_model.specs.Play.{after};
 ghost use Rattle.cache_model.specs.Cache.{blank, view};
 ghost use Rattle.cache_model.specs.Collapse.{picked, kept, is_good_pick, bad, collapse};
 ghost use Rattle.pmem.specs.Kept.{more_lines};
-ghost use Rattle.pmem.specs.Sparse.{Older, sparse_line, sparse_cache, sparse_memory, newest_of, kept_at};
-ghost use Rattle.pmem.specs.inside.Sparse.{count_of, more_older, flush_older, fence_entry, fence_lines, AreListed, fence_kept, left_older, or_newest};
+ghost use Rattle.pmem.specs.Sparse.{Older, sparse_line, sparse_cache, sparse_memory, newest_of};
+ghost use Rattle.pmem.specs.Sparse.{kept_at};
+ghost use Rattle.pmem.specs.inside.Sparse.{count_of, more_older, flush_older, fence_entry};
+ghost use Rattle.pmem.specs.inside.Sparse.{fence_lines, AreListed, fence_kept, left_older};
+ghost use Rattle.pmem.specs.inside.Sparse.{or_newest};
 
 use crate::lines::Lines;
 use crate::older::Kept;

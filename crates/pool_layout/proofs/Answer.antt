@@ -1,8 +1,10 @@
 -- The words of an image that was read hold what a recovery needs.
-use Rattle.std.proofs.Common.{◌≡◌, ◌≢◌, ℕ, suc, ◌+◌, ◌*◌, ◌^◌, ◌≤◌, ◌==◌, cond, Result, Ok, Err, IfOk, List, length, ℤ, pos, ◌+ℤ◌, refl, sym, ap, ◌∙◌, subst, arith}
+use Rattle.std.proofs.Common.{◌≡◌, ◌≢◌, ℕ, suc, ◌+◌, ◌*◌, ◌^◌, ◌≤◌, ◌==◌, cond, Result, Ok, Err}
+use Rattle.std.proofs.Common.{IfOk, List, length, ℤ, pos, ◌+ℤ◌, refl, sym, ap, ◌∙◌, subst, arith}
 use Rattle.pool_layout.specs.declared.places.Version.{Version}
 use Rattle.pool_layout.specs.declared.places.Version.TheVariants.{First, Second}
-use Rattle.pool_layout.specs.declared.places.Place.TheVariants.{Super, Done, Attempt, Mark, Seal, Heap}
+use Rattle.pool_layout.specs.declared.places.Place.TheVariants.{Super, Done, Attempt, Mark, Seal}
+use Rattle.pool_layout.specs.declared.places.Place.TheVariants.{Heap}
 use Rattle.pool_layout.specs.declared.rules.Rules.{Rules}
 use Rattle.pool_layout.specs.declared.wanted.Wanted.{Wanted}
 use Rattle.pool_layout.specs.Sizes.{pool_lines, slot_word}

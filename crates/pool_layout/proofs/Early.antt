@@ -1,13 +1,17 @@
 -- A fault that comes before the faults of content isn't one of them.
-use Rattle.std.proofs.Common.{◌≡◌, Bool, true, false, List, [], ◌∷◌, Option, Some, None, ℕ, not, nat_lt, length, pos, ◌||◌, subst}
+use Rattle.std.proofs.Common.{◌≡◌, Bool, true, false, List, [], ◌∷◌, Option, Some, None, ℕ, not}
+use Rattle.std.proofs.Common.{nat_lt, length, pos, ◌||◌, subst}
 use Rattle.std.specs.Ordering.{int_eq}
 use Rattle.std.specs.Cmp.Lexicographic.{pointwise}
 use Rattle.pool_layout.specs.declared.wanted.Wanted.{Wanted}
 use Rattle.pool_layout.specs.declared.wanted.ImageFault.{ImageFault}
-use Rattle.pool_layout.specs.declared.wanted.ImageFault.TheVariants.{Short, Magic, Content, NoMemory, Version, Sizes, Digest}
+use Rattle.pool_layout.specs.declared.wanted.ImageFault.TheVariants.{Short, Magic, Content}
+use Rattle.pool_layout.specs.declared.wanted.ImageFault.TheVariants.{NoMemory, Version, Sizes}
+use Rattle.pool_layout.specs.declared.wanted.ImageFault.TheVariants.{Digest}
 use Rattle.pool_layout.specs.Bytes.{word_in}
 use Rattle.pool_layout.specs.Good.{magic}
-use Rattle.pool_layout.specs.Fault.{when, first_fault, early_fault, sizes_fault, size_fault, needed, digest_in, IsFirstFault}
+use Rattle.pool_layout.specs.Fault.{when, first_fault, early_fault, sizes_fault, size_fault, needed}
+use Rattle.pool_layout.specs.Fault.{digest_in, IsFirstFault}
 
 abbrev IsEarly : ImageFault → Type 0
 IsEarly (Content w v) = ⊥

@@ -1,5 +1,7 @@
 -- If no word breaks a rule of content, the image holds what a recovery needs.
-use Rattle.std.proofs.Common.{◌≡◌, ◌≢◌, ⊎_elim, ℕ, zero, suc, ◌+◌, ◌<◌, ◌≤◌, ◌&&◌, ◌||◌, not, nat_le, nat_lt, Bool, true, false, ℤ, pos, negsuc, ◌+ℤ◌, refl, sym, ap, ◌∙◌, subst, arith}
+use Rattle.std.proofs.Common.{◌≡◌, ◌≢◌, ⊎_elim, ℕ, zero, suc, ◌+◌, ◌<◌, ◌≤◌, ◌&&◌, ◌||◌, not}
+use Rattle.std.proofs.Common.{nat_le, nat_lt, Bool, true, false, ℤ, pos, negsuc, ◌+ℤ◌, refl, sym}
+use Rattle.std.proofs.Common.{ap, ◌∙◌, subst, arith}
 use Rattle.std.specs.Prelude.{int_le}
 use Rattle.std.proofs.lemmas.Bool.{cases_eq, cases_lt}
 use Rattle.std.proofs.lemmas.Bool.Decides.{Decides-int_eq, nat_tests}
@@ -8,7 +10,8 @@ use Rattle.pool_layout.specs.declared.places.Layout.{Layout}
 use Rattle.pool_layout.specs.Sizes.{heap_words, slot_word}
 use Rattle.pool_layout.specs.Image.{Words, IsUpTo}
 use Rattle.pool_layout.specs.Opens.{IsBelow}
-use Rattle.pool_layout.specs.Content.{is_within, is_next, is_valid, are_valid, is_stamp, in_heap, is_header, names_header}
+use Rattle.pool_layout.specs.Content.{is_within, is_next, is_valid, are_valid, is_stamp, in_heap}
+use Rattle.pool_layout.specs.Content.{is_header, names_header}
 use Rattle.pool_layout.specs.inside.Content.{IsLeading}
 
 -- the tests of a rule

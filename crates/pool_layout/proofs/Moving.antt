@@ -1,10 +1,12 @@
 -- A moved pool keeps its content.
-use Rattle.std.proofs.Common.{◌≡◌, ◌≢◌, ⊎_elim, ℕ, suc, ◌+◌, ◌<◌, List, [], ◌∷◌, ◌++◌, length, get_or, ℤ, pos, ◌+ℤ◌, sym, ap, ◌∙◌, arith}
+use Rattle.std.proofs.Common.{◌≡◌, ◌≢◌, ⊎_elim, ℕ, suc, ◌+◌, ◌<◌, List, [], ◌∷◌, ◌++◌, length}
+use Rattle.std.proofs.Common.{get_or, ℤ, pos, ◌+ℤ◌, sym, ap, ◌∙◌, arith}
 use Rattle.std.proofs.Math.ListN.{get_or-append}
 use Rattle.std.proofs.Math.Seq.{get_or-append_seam}
 use Rattle.std.proofs.lemmas.Bool.{cases_eq}
 use Rattle.pool_layout.specs.declared.limits.Sizes.{Sizes}
-use Rattle.pool_layout.specs.declared.places.Place.TheVariants.{Last, Done, Attempt, Mark, Seal, RecordStamp, Heap}
+use Rattle.pool_layout.specs.declared.places.Place.TheVariants.{Last, Done, Attempt, Mark, Seal}
+use Rattle.pool_layout.specs.declared.places.Place.TheVariants.{RecordStamp, Heap}
 use Rattle.pool_layout.specs.declared.places.Place.{Place}
 use Rattle.pool_layout.specs.Places.{at, pool_of, IsPlace}
 use Rattle.pool_layout.specs.Image.{Words, image_words, IsSealed}

@@ -1,20 +1,27 @@
 -- An image that breaks no rule of content opens.
-use Rattle.std.proofs.Common.{◌≡◌, ℕ, ◌+◌, ◌^◌, ◌<◌, ◌≤◌, ◌&&◌, not, true, false, ℤ, pos, ◌+ℤ◌, refl, ap, arith}
+use Rattle.std.proofs.Common.{◌≡◌, ℕ, ◌+◌, ◌^◌, ◌<◌, ◌≤◌, ◌&&◌, not, true, false, ℤ, pos, ◌+ℤ◌}
+use Rattle.std.proofs.Common.{refl, ap, arith}
 use Rattle.std.proofs.lemmas.Bool.Decides.{Decides-int_eq}
 use Rattle.pool_layout.specs.declared.places.Version.{Version}
 use Rattle.pool_layout.specs.declared.places.Version.TheVariants.{First, Second}
-use Rattle.pool_layout.specs.declared.places.Place.TheVariants.{Done, Attempt, Mark, Argument, Seal, RecordWord, RecordOld, RecordStamp, Heap}
+use Rattle.pool_layout.specs.declared.places.Place.TheVariants.{Done, Attempt, Mark, Argument, Seal}
+use Rattle.pool_layout.specs.declared.places.Place.TheVariants.{RecordWord, RecordOld, RecordStamp}
+use Rattle.pool_layout.specs.declared.places.Place.TheVariants.{Heap}
 use Rattle.pool_layout.specs.declared.rules.Rules.{Rules}
 use Rattle.pool_layout.specs.Sizes.{heap_words, slot_word}
 use Rattle.pool_layout.specs.Places.{at, seal_word}
 use Rattle.pool_layout.specs.Image.{Words, IsSealed, IsUpTo}
 use Rattle.pool_layout.specs.Log.{WellMade, count}
 use Rattle.pool_layout.specs.Restored.{restored}
-use Rattle.pool_layout.specs.Content.{KeepsRules, breaks_rule, is_within, is_sealed, is_valid, are_valid, is_stamp, in_heap, is_header, names_header, is_first_version}
+use Rattle.pool_layout.specs.Content.{KeepsRules, breaks_rule, is_within, is_sealed, is_valid}
+use Rattle.pool_layout.specs.Content.{are_valid, is_stamp, in_heap, is_header, names_header}
+use Rattle.pool_layout.specs.Content.{is_first_version}
 use Rattle.pool_layout.specs.Opens.{IsOpenable, NamesOwed, IsBelow, HasHeaders}
 use Rattle.pool_layout.proofs.Records.{LogIs, log_is}
 use Rattle.pool_layout.proofs.Undone.{undone_each}
-use Rattle.pool_layout.proofs.Kept.{and_rest, or_left, or_right, not_false, within_is, up_to, below_is, slot_header, slot_inside, slot_named, valid_is, is_valid_of, stamp_is, are_valid_below}
+use Rattle.pool_layout.proofs.Kept.{and_rest, or_left, or_right, not_false, within_is, up_to}
+use Rattle.pool_layout.proofs.Kept.{below_is, slot_header, slot_inside, slot_named, valid_is}
+use Rattle.pool_layout.proofs.Kept.{is_valid_of, stamp_is, are_valid_below}
 
 done_fits : (r : Rules) (image : Words) → KeepsRules r image
     → IsUpTo (2 ^ 62) (image (at r.layout Done))

@@ -1,15 +1,21 @@
 -- If no fault before those of content applies, lines 0 and 1 are those of the wanted pool.
-use Rattle.std.proofs.Common.{◌≡◌, ◌≢◌, ℕ, zero, suc, ◌+◌, ◌<◌, ◌≤◌, Bool, true, false, not, ◌&&◌, ◌||◌, nat_le, nat_lt, cond, List, [], ◌∷◌, length, get_or, Option, Some, None, ℤ, pos, refl, ap, ◌∙◌, arith}
+use Rattle.std.proofs.Common.{◌≡◌, ◌≢◌, ℕ, zero, suc, ◌+◌, ◌<◌, ◌≤◌, Bool, true, false, not, ◌&&◌}
+use Rattle.std.proofs.Common.{◌||◌, nat_le, nat_lt, cond, List, [], ◌∷◌, length, get_or, Option}
+use Rattle.std.proofs.Common.{Some, None, ℤ, pos, refl, ap, ◌∙◌, arith}
 use Rattle.std.specs.Ordering.{int_eq}
 use Rattle.std.specs.Cmp.Lexicographic.{pointwise}
 use Rattle.std.proofs.lemmas.Bool.Decides.{Decides-int_eq, nat_tests}
 use Rattle.pool_layout.specs.declared.places.Version.TheVariants.{First, Second}
 use Rattle.pool_layout.specs.declared.wanted.Wanted.{Wanted}
 use Rattle.pool_layout.specs.declared.wanted.ImageFault.{ImageFault}
-use Rattle.pool_layout.specs.declared.wanted.ImageFault.TheVariants.{Short, Magic, Version as OfVersion, Sizes as OfSizes, Digest}
+use Rattle.pool_layout.specs.declared.wanted.ImageFault.TheVariants.{Short, Magic}
+use Rattle.pool_layout.specs.declared.wanted.ImageFault.TheVariants.{Version as OfVersion}
+use Rattle.pool_layout.specs.declared.wanted.ImageFault.TheVariants.{Sizes as OfSizes, Digest}
 use Rattle.pool_layout.specs.Bytes.{word_in}
 use Rattle.pool_layout.specs.Good.{magic, sizes_words}
-use Rattle.pool_layout.specs.Fault.{when, first_fault, early_fault, short_fault, magic_fault, version_fault, size_fault, sizes_fault, length_fault, digest_fault, digest_in, needed, version_of}
+use Rattle.pool_layout.specs.Fault.{when, first_fault, early_fault, short_fault, magic_fault}
+use Rattle.pool_layout.specs.Fault.{version_fault, size_fault, sizes_fault, length_fault}
+use Rattle.pool_layout.specs.Fault.{digest_fault, digest_in, needed, version_of}
 use Rattle.pool_layout.proofs.Kept.{not_false, and_rest, and_right, and_left}
 
 head_none : (o : Option ImageFault) (os : List (Option ImageFault)) → first_fault (o ∷ os) ≡ None

@@ -1,5 +1,7 @@
 -- Words to bytes, and back.
-use Rattle.std.proofs.Common.{◌≡◌, ◌<◌, ◌≤◌, ◌++◌, ◌+◌, ◌*◌, ◌^◌, ◌∷◌, [], ℕ, ℤ, pos, zero, suc, List, length, take, drop, get_or, refl, sym, ap, ◌∙◌, append_assoc, add-one, arith, length-drop, ◌≢◌, ⊎_elim}
+use Rattle.std.proofs.Common.{◌≡◌, ◌<◌, ◌≤◌, ◌++◌, ◌+◌, ◌*◌, ◌^◌, ◌∷◌, [], ℕ, ℤ, pos, zero, suc}
+use Rattle.std.proofs.Common.{List, length, take, drop, get_or, refl, sym, ap, ◌∙◌, append_assoc}
+use Rattle.std.proofs.Common.{add-one, arith, length-drop, ◌≢◌, ⊎_elim}
 use Rattle.std.specs.Int.{w64, cast_signed, cast_unsigned, from_le_bytes, to_le_bytes}
 use Rattle.std.proofs.Math.Seq.{drop-cons, take-add, get_or-append_seam}
 use Rattle.std.proofs.lemmas.List.{get_or-drop, get_or_past, append-nil}

@@ -1,6 +1,7 @@
 -- Which bytes are an image of a pool with the wanted sizes and digest, and which fault applies if
 -- they aren't: the first of short, magic, version, sizes, digest and content.
-use Rattle.std.specs.Prelude.{ℕ, ◌*◌, ◌≡◌, ◌&&◌, ◌||◌, not, nat_lt, nat_le, cond, Bool, true, false, List, [], ◌∷◌, length, Option, Some, None, ℤ, pos}
+use Rattle.std.specs.Prelude.{ℕ, ◌*◌, ◌≡◌, ◌&&◌, ◌||◌, not, nat_lt, nat_le, cond, Bool, true, false}
+use Rattle.std.specs.Prelude.{List, [], ◌∷◌, length, Option, Some, None, ℤ, pos}
 use Rattle.std.specs.Ordering.{int_eq}
 use Rattle.std.specs.Cmp.Lexicographic.{pointwise}
 use Rattle.pool_layout.specs.declared.places.Version.{Version}
@@ -8,7 +9,10 @@ use Rattle.pool_layout.specs.declared.places.Version.TheVariants.{First, Second}
 use Rattle.pool_layout.specs.declared.rules.Rules.{Rules}
 use Rattle.pool_layout.specs.declared.wanted.Wanted.{Wanted}
 use Rattle.pool_layout.specs.declared.wanted.ImageFault.{ImageFault}
-use Rattle.pool_layout.specs.declared.wanted.ImageFault.TheVariants.{Short, Magic, Content, NoMemory, Version as OfVersion, Sizes as OfSizes, Digest as OfDigest}
+use Rattle.pool_layout.specs.declared.wanted.ImageFault.TheVariants.{Short, Magic, Content}
+use Rattle.pool_layout.specs.declared.wanted.ImageFault.TheVariants.{NoMemory, Version as OfVersion}
+use Rattle.pool_layout.specs.declared.wanted.ImageFault.TheVariants.{Sizes as OfSizes}
+use Rattle.pool_layout.specs.declared.wanted.ImageFault.TheVariants.{Digest as OfDigest}
 use Rattle.pool_layout.specs.Places.{layout_words}
 use Rattle.pool_layout.specs.Bytes.{word_in}
 use Rattle.pool_layout.specs.Good.{magic}

@@ -1,7 +1,8 @@
 -- What a recovery needs of an image. Reading an image checks conditions from which this follows.
 use Rattle.std.specs.Prelude.{ℕ, ◌^◌, ◌<◌, ◌≤◌, ◌≡◌, ℤ, pos}
 use Rattle.pool_layout.specs.declared.places.Version.TheVariants.{First}
-use Rattle.pool_layout.specs.declared.places.Place.TheVariants.{Done, Attempt, Mark, Argument, RecordWord, Heap}
+use Rattle.pool_layout.specs.declared.places.Place.TheVariants.{Done, Attempt, Mark, Argument}
+use Rattle.pool_layout.specs.declared.places.Place.TheVariants.{RecordWord, Heap}
 use Rattle.pool_layout.specs.declared.rules.Rules.{Rules}
 use Rattle.pool_layout.specs.Sizes.{heap_words, slot_word}
 use Rattle.pool_layout.specs.Places.{at}

@@ -2,12 +2,16 @@
 -- k + 7. The two versions of the layout differ only in the length of the argument record.
 use Rattle.std.specs.Prelude.{ℕ, ◌+◌, ◌*◌, ◌/◌, ◌<◌, ◌≤◌, ◌≡◌}
 use Rattle.pool_layout.specs.declared.limits.Sizes.{Sizes}
-use Rattle.pool_layout.specs.declared.places.TheConstants.{LAST, DONE, ATTEMPT, MARK, FUNCTION, SEAL}
+use Rattle.pool_layout.specs.declared.places.TheConstants.{LAST, DONE, ATTEMPT, MARK, FUNCTION}
+use Rattle.pool_layout.specs.declared.places.TheConstants.{SEAL}
 use Rattle.pool_layout.specs.declared.places.Version.{Version}
 use Rattle.pool_layout.specs.declared.places.Version.TheVariants.{First, Second}
 use Rattle.pool_layout.specs.declared.places.Layout.{Layout}
 use Rattle.pool_layout.specs.declared.places.Place.{Place}
-use Rattle.pool_layout.specs.declared.places.Place.TheVariants.{Super, Last, Done, Attempt, Mark, Spare, Argument, Seal, RecordWord, RecordOld, RecordStamp, RecordSpare, Heap}
+use Rattle.pool_layout.specs.declared.places.Place.TheVariants.{Super, Last, Done, Attempt, Mark}
+use Rattle.pool_layout.specs.declared.places.Place.TheVariants.{Spare, Argument, Seal, RecordWord}
+use Rattle.pool_layout.specs.declared.places.Place.TheVariants.{RecordOld, RecordStamp, RecordSpare}
+use Rattle.pool_layout.specs.declared.places.Place.TheVariants.{Heap}
 use Rattle.pool_layout.specs.declared.places.HeapPlace.{HeapPlace}
 use Rattle.pool_layout.specs.declared.places.HeapPlace.TheVariants.{Root, Header, Field}
 use Rattle.pool_layout.specs.Sizes.{root_lines, pool_lines, heap_start, heap_words, slot_word}

@@ -2,7 +2,9 @@
 
 ghost use Rattle.std.specs.Prelude.{◌≡◌, ◌<◌, ◌≤◌, ◌*◌};
 ghost use Rattle.pool_layout.specs.Sizes.{heap_words};
-ghost use Rattle.pool_layout.specs.Places.{at, layout_words, log_line, seal_word, pool_of, heap_at, IsPlace, IsHeapPlace, PlacesApart, PlacesFit, HeapLines, HeapApart, HeapFits, SizesAgree};
+ghost use Rattle.pool_layout.specs.Places.{at, layout_words, log_line, seal_word, pool_of, heap_at};
+ghost use Rattle.pool_layout.specs.Places.{IsPlace, IsHeapPlace, PlacesApart, PlacesFit, HeapLines};
+ghost use Rattle.pool_layout.specs.Places.{HeapApart, HeapFits, SizesAgree};
 
 use crate::limits::Sizes;
 use crate::measures::{heap_words, slot_word};

@@ -1,5 +1,6 @@
 -- The test whether a pool fits the shapes is exact.
-use Rattle.std.proofs.Common.{◌≡◌, Bool, true, false, ◌&&◌, List, [], ◌∷◌, Option, None, Some, IfSome, IsSomeAnd, length, refl}
+use Rattle.std.proofs.Common.{◌≡◌, Bool, true, false, ◌&&◌, List, [], ◌∷◌, Option, None, Some}
+use Rattle.std.proofs.Common.{IfSome, IsSomeAnd, length, refl}
 use Rattle.std.specs.Bool.{Decides}
 use Rattle.std.specs.List.{AllByRecursion, list_all}
 use Rattle.std.proofs.lemmas.Bool.Decides.{Decides-eqb}

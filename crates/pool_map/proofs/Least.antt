@@ -1,5 +1,6 @@
 -- The first free slot is free, and those before it aren't.
-use Rattle.std.proofs.Common.{◌≡◌, ℕ, zero, suc, ◌+◌, ◌-◌, ◌<◌, ◌≤◌, List, [], ◌∷◌, Option, None, Some, IsSome, length, slice_index_or, refl, sub-one, arith}
+use Rattle.std.proofs.Common.{◌≡◌, ℕ, zero, suc, ◌+◌, ◌-◌, ◌<◌, ◌≤◌, List, [], ◌∷◌, Option, None}
+use Rattle.std.proofs.Common.{Some, IsSome, length, slice_index_or, refl, sub-one, arith}
 use Rattle.pool_map.specs.declared.object.Object.{Object}
 use Rattle.pool_map.specs.PoolMap.{PoolMap, IsSlot, object_at, first_free, least_free}
 

@@ -1,8 +1,11 @@
 -- The map of slots to objects, point by point.
-use Rattle.std.proofs.Common.{◌≡◌, ◌≢◌, ◌⊎◌, inl, inr, ℕ, zero, suc, ◌<◌, List, [], ◌∷◌, Option, None, Some, IsSomeAnd, ℤ, pos, length, slice_index_or, replicate, option_map, refl, ap, sub-one, arith}
+use Rattle.std.proofs.Common.{◌≡◌, ◌≢◌, ◌⊎◌, inl, inr, ℕ, zero, suc, ◌<◌, List, [], ◌∷◌, Option}
+use Rattle.std.proofs.Common.{None, Some, IsSomeAnd, ℤ, pos, length, slice_index_or, replicate}
+use Rattle.std.proofs.Common.{option_map, refl, ap, sub-one, arith}
 use Rattle.std.proofs.lemmas.List.{get_or-set_same, get_or-set_other}
 use Rattle.pool_map.specs.declared.object.Object.{Object}
-use Rattle.pool_map.specs.PoolMap.{PoolMap, IsSlot, object_at, with_object, new, field_of, with_field, HasField, read, write, read_root, write_root}
+use Rattle.pool_map.specs.PoolMap.{PoolMap, IsSlot, object_at, with_object, new, field_of}
+use Rattle.pool_map.specs.PoolMap.{with_field, HasField, read, write, read_root, write_root}
 
 pub object_at-with_object_same : (p : PoolMap) (s : ℕ) (object : Option Object) → IsSlot p s
     → object_at (with_object p s object) s ≡ object

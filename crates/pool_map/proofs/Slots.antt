@@ -1,5 +1,6 @@
 -- A fact about the object in a slot, as a fact about the slot's place in the list.
-use Rattle.std.proofs.Common.{◌≡◌, ◌-◌, ◌<◌, ℕ, zero, suc, length, List, [], ◌∷◌, Option, None, Some, slice_index_or, sub-one, IsSomeAnd}
+use Rattle.std.proofs.Common.{◌≡◌, ◌-◌, ◌<◌, ℕ, zero, suc, length, List, [], ◌∷◌, Option, None}
+use Rattle.std.proofs.Common.{Some, slice_index_or, sub-one, IsSomeAnd}
 use Rattle.pool_map.specs.declared.object.Object.{Object}
 use Rattle.pool_map.specs.PoolMap.{PoolMap, HasField}
 

@@ -1,8 +1,10 @@
 -- The laws of the map, point by point: which object a slot has, and which word a field has, after a
 -- call; and that the least free slot is the least.
-use Rattle.std.specs.Prelude.{ℕ, ◌<◌, ◌≤◌, ◌≡◌, ◌≢◌, ◌⊎◌, Option, None, Some, IsSome, ℤ, pos, length, option_map}
+use Rattle.std.specs.Prelude.{ℕ, ◌<◌, ◌≤◌, ◌≡◌, ◌≢◌, ◌⊎◌, Option, None, Some, IsSome, ℤ, pos}
+use Rattle.std.specs.Prelude.{length, option_map}
 use Rattle.pool_map.specs.declared.object.Object.{Object}
-use Rattle.pool_map.specs.PoolMap.{PoolMap, IsSlot, object_at, least_free, with_object, new, HasField, read, write, read_root, write_root}
+use Rattle.pool_map.specs.PoolMap.{PoolMap, IsSlot, object_at, least_free, with_object, new}
+use Rattle.pool_map.specs.PoolMap.{HasField, read, write, read_root, write_root}
 
 -- A slot has the object that was put there, or none if it was freed. The other slots stay.
 abbrev pub ObjectLaw : Type 0

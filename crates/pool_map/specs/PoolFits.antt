@@ -1,7 +1,8 @@
 -- A pool fits the shapes if it has the root's words, and each object has a kind from 1 to the
 -- number of structs and as many field words as that struct. A field has one word; an array field
 -- has as many as its length.
-use Rattle.std.specs.Prelude.{ℕ, zero, suc, ◌≡◌, List, Option, None, ◌==◌, ◌&&◌, sum_by, unwrap_or, slice_get, length, IsSomeAnd, IfSome}
+use Rattle.std.specs.Prelude.{ℕ, zero, suc, ◌≡◌, List, Option, None, ◌==◌, ◌&&◌, sum_by, unwrap_or}
+use Rattle.std.specs.Prelude.{slice_get, length, IsSomeAnd, IfSome}
 use Rattle.std.specs.List.{AllByRecursion}
 use Rattle.pool_map.specs.declared.object.Object.{Object}
 use Rattle.pool_map.specs.declared.shapes.FieldShape.{FieldShape}

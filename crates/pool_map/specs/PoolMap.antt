@@ -5,7 +5,9 @@
 --     read, write    act on one field word of the object in a slot
 --     read_root, write_root    act on one root word
 -- The least free slot is the least from 1 to N that has no object.
-use Rattle.std.specs.Prelude.{ℕ, zero, suc, ◌-◌, ◌<◌, ◌≤◌, List, [], ◌∷◌, Option, None, Some, ℤ, pos, replicate, length, slice_set, slice_index_or, option_map, IsSomeAnd}
+use Rattle.std.specs.Prelude.{ℕ, zero, suc, ◌-◌, ◌<◌, ◌≤◌, List, [], ◌∷◌, Option, None, Some, ℤ}
+use Rattle.std.specs.Prelude.{pos, replicate, length, slice_set, slice_index_or, option_map}
+use Rattle.std.specs.Prelude.{IsSomeAnd}
 use Rattle.pool_map.specs.declared.object.Object.{Object}
 
 -- slot s is at place s - 1 of `slots`, which has N places

@@ -3,7 +3,8 @@
 -- each field F, in the fields' order. A value V is a number in decimal, with `-` if it is negative;
 -- the value of an array is its elements between `[` and `]`, separated by `,`. Each line ends with
 -- LF.
-use Rattle.std.specs.Prelude.{ℕ, suc, ◌++◌, List, [], ◌∷◌, Option, None, Some, ℤ, pos, take, drop, slice_index_or, codes}
+use Rattle.std.specs.Prelude.{ℕ, suc, ◌++◌, List, [], ◌∷◌, Option, None, Some, ℤ, pos, take, drop}
+use Rattle.std.specs.Prelude.{slice_index_or, codes}
 use Rattle.std.specs.List.{join_by}
 use Rattle.std.specs.Fmt.{decimal, signed_decimal}
 use Rattle.pool_map.specs.declared.object.Object.{Object}

@@ -1,7 +1,8 @@
 -- The traps have the numbers 1 to 8 and the names that answers print.
 use Rattle.std.specs.Prelude.{ℕ, List, [], ◌∷◌, Option, ◌==◌, codes, find}
 use Rattle.pool_map.specs.declared.trap.TrapKind.{TrapKind}
-use Rattle.pool_map.specs.declared.trap.TrapKind.TheVariants.{Null, Stale, Index, Divide, Steps, Abort, LogFull, Depth}
+use Rattle.pool_map.specs.declared.trap.TrapKind.TheVariants.{Null, Stale, Index, Divide, Steps}
+use Rattle.pool_map.specs.declared.trap.TrapKind.TheVariants.{Abort, LogFull, Depth}
 
 -- the traps, in the order of their numbers
 abbrev pub traps : List TrapKind

@@ -1,8 +1,10 @@
 //! The pool: root words, and a map from slots to objects.
 
-ghost use Rattle.std.specs.Prelude.{◌≡◌, [], ◌∷◌, ◌++◌, OnOk, OnErr, IfOk, ◌<◌, ◌≤◌, length, Option, None, Some, IsSome, option_map, replicate};
+ghost use Rattle.std.specs.Prelude.{◌≡◌, [], ◌∷◌, ◌++◌, OnOk, OnErr, IfOk, ◌<◌, ◌≤◌, length};
+ghost use Rattle.std.specs.Prelude.{Option, None, Some, IsSome, option_map, replicate};
 ghost use Rattle.std.specs.Bool.{Decides};
-ghost use Rattle.pool_map.specs.PoolMap.{empty_pool, IsSlot, object_at, least_free, new, free, HasField, read, write, read_root, write_root};
+ghost use Rattle.pool_map.specs.PoolMap.{empty_pool, IsSlot, object_at, least_free, new, free};
+ghost use Rattle.pool_map.specs.PoolMap.{HasField, read, write, read_root, write_root};
 
 use crate::object::{Object, copied, zeros};
 use nvm_base::Words;

@@ -3,8 +3,10 @@
 ghost use Rattle.std.specs.Prelude.{◌≡◌, ◌++◌, OnOk, IfOk, length, IfSome, Some, ◌∷◌, [], codes};
 ghost use Rattle.std.specs.Fmt.{decimal, signed_decimal};
 ghost use Rattle.std.specs.List.{AllByRecursion, join_by};
-ghost use Rattle.pool_map.specs.PoolFits.{struct_at, words_of_field, words_of, ObjectFits, PoolFits};
-ghost use Rattle.pool_map.specs.PoolText.{value_text, field_text, fields_text, slot_line, slot_lines, pool_text};
+ghost use Rattle.pool_map.specs.PoolFits.{struct_at, words_of_field, words_of, ObjectFits};
+ghost use Rattle.pool_map.specs.PoolFits.{PoolFits};
+ghost use Rattle.pool_map.specs.PoolText.{value_text, field_text, fields_text, slot_line};
+ghost use Rattle.pool_map.specs.PoolText.{slot_lines, pool_text};
 
 use crate::object::Object;
 use crate::pool::Pool;

@@ -1,5 +1,6 @@
 -- The effect of a turn of a transaction.
-use Rattle.std.proofs.Common.{◌≡◌, ◌≢◌, ℕ, ◌-◌, ◌≤◌, ◌^◌, ◌==◌, if◌then◌else◌, Bool, true, false, List, take, Option, Some, ℤ, w64, refl, sym, ap, ◌∙◌, subst, arith}
+use Rattle.std.proofs.Common.{◌≡◌, ◌≢◌, ℕ, ◌-◌, ◌≤◌, ◌^◌, ◌==◌, if◌then◌else◌, Bool, true, false}
+use Rattle.std.proofs.Common.{List, take, Option, Some, ℤ, w64, refl, sym, ap, ◌∙◌, subst, arith}
 use Rattle.std.specs.Int.{cast_signed}
 use Rattle.std.proofs.lemmas.Bool.{eqb-false}
 use Rattle.cache_model.specs.Cache.{Words, view}
@@ -17,7 +18,8 @@ use Rattle.args_log.specs.Seal.{sealing_events, seal_events}
 use Rattle.args_log.specs.Sealing as sealing
 use Rattle.args_log.specs.declared.sealing.SealAnswer.TheVariants as seal
 use Rattle.pm_machine.specs.declared.effect.Effect.{Effect}
-use Rattle.pm_machine.specs.declared.effect.Effect.TheVariants.{Loads, Scans, Stores, Logs, Flushes, Fences, Quiet}
+use Rattle.pm_machine.specs.declared.effect.Effect.TheVariants.{Loads, Scans, Stores, Logs, Flushes}
+use Rattle.pm_machine.specs.declared.effect.Effect.TheVariants.{Fences, Quiet}
 use Rattle.pm_machine.specs.declared.effect.End.TheVariants.{Trapped}
 use Rattle.pool_map.specs.declared.trap.TrapKind.TheVariants.{Steps}
 use Rattle.pm_machine.specs.declared.image.Image.{Image}

@@ -1,11 +1,15 @@
 -- An event of the whole device, seen from a compartment: it sees all of its own events, and of
 -- another compartment's only the fences.
-use Rattle.std.proofs.Common.{◌≡◌, ◌≢◌, inl, inr, ⊎_elim, ℕ, zero, suc, ◌+◌, ◌*◌, ◌/◌, ◌<◌, ◌≤◌, ◌==◌, nat_lt, cond, Bool, true, false, List, [], ◌∷◌, ◌++◌, drop, map, length, Option, Some, None, ℤ, refl, sym, ap, ◌∙◌, arith, eq-eqb, ne_eqb}
+use Rattle.std.proofs.Common.{◌≡◌, ◌≢◌, inl, inr, ⊎_elim, ℕ, zero, suc, ◌+◌, ◌*◌, ◌/◌, ◌<◌, ◌≤◌}
+use Rattle.std.proofs.Common.{◌==◌, nat_lt, cond, Bool, true, false, List, [], ◌∷◌, ◌++◌, drop, map}
+use Rattle.std.proofs.Common.{length, Option, Some, None, ℤ, refl, sym, ap, ◌∙◌, arith, eq-eqb}
+use Rattle.std.proofs.Common.{ne_eqb}
 use Rattle.std.proofs.lemmas.Bool.{cases_eq, ltb-false, lt-ltb}
 use Rattle.cache_model.specs.Event.{CacheEvent, Store, Flush, Fence}
 use Rattle.cache_model.specs.Cache.{Words, put, Line, Cache, blank_line, view}
 use Rattle.cache_model.specs.Play.{store_line, mark_of, flush_line, fence_at, fence_line, apply}
-use Rattle.pool_workers.specs.Compartment.{words_from, line_counted_from, cache_in, lifted, IsInside, IsOutside, fenced_if, AreAside}
+use Rattle.pool_workers.specs.Compartment.{words_from, line_counted_from, cache_in, lifted}
+use Rattle.pool_workers.specs.Compartment.{IsInside, IsOutside, fenced_if, AreAside}
 
 pub map_push : (f : ℕ) (us : List Words) (v : Words) →
     map (words_from f) (us ++ v ∷ []) ≡ map (words_from f) us ++ words_from f v ∷ []

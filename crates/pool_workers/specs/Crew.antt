@@ -1,5 +1,6 @@
 -- The workers' transactions: for each worker its unfinished transaction, if there is one.
-use Rattle.std.specs.Prelude.{ℕ, ◌≡◌, ◌≢◌, ◌≤◌, ◌+◌, ◌*◌, List, Option, Some, None, slice_index_or, length, ℤ}
+use Rattle.std.specs.Prelude.{ℕ, ◌≡◌, ◌≢◌, ◌≤◌, ◌+◌, ◌*◌, List, Option, Some, None, slice_index_or}
+use Rattle.std.specs.Prelude.{length, ℤ}
 use Rattle.std.specs.List.{AllByRecursion}
 use Rattle.cache_model.specs.Cache.{view}
 use Rattle.pmem.specs.Device.{Device}

@@ -5,7 +5,8 @@ ghost use Rattle.pool_layout.specs.Sizes.{pool_lines};
 ghost use Rattle.pmem.specs.declared.answer.Phase.TheVariants as at_phase;
 ghost use Rattle.recovery.specs.Recovered.{IsRecovered};
 ghost use Rattle.pool_workers.specs.Compartment.{first_line};
-ghost use Rattle.pool_workers.specs.Task.{Turned, IsTask, IsTaskOr, IsUncut, IsUncutOr, IsGoing, ticks_of};
+ghost use Rattle.pool_workers.specs.Task.{Turned, IsTask, IsTaskOr, IsUncut, IsUncutOr, IsGoing};
+ghost use Rattle.pool_workers.specs.Task.{ticks_of};
 ghost use Rattle.pool_workers.specs.Crew.{compartment, StaysAside};
 ghost use Rattle.pool_workers.specs.inside.Crew.{HasCompartment};
 

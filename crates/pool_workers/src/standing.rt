@@ -1,6 +1,7 @@
 //! Whether the pool of a compartment takes a transaction.
 
-ghost use Rattle.std.specs.Prelude.{◌≡◌, ◌<◌, ◌+◌, ◌*◌, ◌≤◌, ◌^◌, true, false, nat_lt, IfSome, IsSome, IsNone};
+ghost use Rattle.std.specs.Prelude.{◌≡◌, ◌<◌, ◌+◌, ◌*◌, ◌≤◌, ◌^◌, true, false, nat_lt, IfSome};
+ghost use Rattle.std.specs.Prelude.{IsSome, IsNone};
 ghost use Rattle.cache_model.specs.Cache.{view};
 ghost use Rattle.pool_layout.specs.Sizes.{pool_lines};
 ghost use Rattle.tx_run.specs.Standing as standing_law;

@@ -4,7 +4,8 @@ ghost use Rattle.std.specs.Prelude.{◌≡◌, ◌+◌, true, Some, []};
 ghost use Rattle.pool_layout.specs.Sizes.{pool_lines};
 ghost use Rattle.pm_machine.specs.Machine.{start};
 ghost use Rattle.pool_workers.specs.declared.task.Task.TheVariants as task_of;
-ghost use Rattle.pool_workers.specs.Task.{sealed_task, Turned, IsTask, IsTaskOr, IsUncut, IsUncutOr, IsGoing, ticks_of};
+ghost use Rattle.pool_workers.specs.Task.{sealed_task, Turned, IsTask, IsTaskOr, IsUncut};
+ghost use Rattle.pool_workers.specs.Task.{IsUncutOr, IsGoing, ticks_of};
 
 use crate::answer::TurnAnswer;
 use crate::task::{Task, Turn, cut, going, last, records_past};

@@ -1,6 +1,7 @@
 //! The lines of one compartment.
 
-ghost use Rattle.std.specs.Prelude.{◌≡◌, ◌≤◌, ◌<◌, ◌+◌, ◌*◌, ◌^◌, true, false, IsSome, IsNone, IfSome};
+ghost use Rattle.std.specs.Prelude.{◌≡◌, ◌≤◌, ◌<◌, ◌+◌, ◌*◌, ◌^◌, true, false, IsSome, IsNone};
+ghost use Rattle.std.specs.Prelude.{IfSome};
 ghost use Rattle.cache_model.specs.Cache.{view};
 ghost use Rattle.cache_model.specs.Event.{Store, Flush, Fence};
 ghost use Rattle.pmem.specs.Played.{Answered, Stored};

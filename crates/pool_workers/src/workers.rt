@@ -1,6 +1,7 @@
 //! The workers of a device.
 
-ghost use Rattle.std.specs.Prelude.{◌≡◌, ◌≢◌, ◌+◌, ◌*◌, ◌≤◌, ◌<◌, true, false, Some, None, length, slice_set, option_map, IfOk, IfErr, OnOk, IsErrOf, replicate};
+ghost use Rattle.std.specs.Prelude.{◌≡◌, ◌≢◌, ◌+◌, ◌*◌, ◌≤◌, ◌<◌, true, false, Some, None, length};
+ghost use Rattle.std.specs.Prelude.{slice_set, option_map, IfOk, IfErr, OnOk, IsErrOf, replicate};
 ghost use Rattle.pmem.specs.Device.{FaultsRose, blanked};
 ghost use Rattle.pmem.specs.Played.{PlaysAll};
 ghost use Rattle.pool_layout.specs.Sizes.{pool_lines};
@@ -14,7 +15,8 @@ ghost use Rattle.pool_workers.specs.declared.task.Task.{Task};
 ghost use Rattle.pool_workers.specs.declared.task.Task.TheVariants as task_of;
 ghost use Rattle.pool_workers.specs.Task.{IsUncutOr, IsGoing, ticks_of, task_phase};
 ghost use Rattle.pool_workers.specs.Making.{creations, Unmade};
-ghost use Rattle.pool_workers.specs.Crew.{task_at, AreTasks, OtherTasksStay, compartment, HasCompartments, StaysAside, standing_at, Begins, TurnOf};
+ghost use Rattle.pool_workers.specs.Crew.{task_at, AreTasks, OtherTasksStay, compartment};
+ghost use Rattle.pool_workers.specs.Crew.{HasCompartments, StaysAside, standing_at, Begins, TurnOf};
 
 use crate::answer::{BeginAnswer, MakeFault, TurnAnswer};
 use crate::creating::{create_pools, idle};

@@ -1,9 +1,9 @@
 //! What programs mean, by example. What is wanted was written down from the rules.
 
 use c_lexer::tokens;
-use c_meaning::{PlainAnswer, plain_call};
 use c_parser::parse;
 use c_types::{Typed, check};
+use interpreter::{PlainAnswer, plain_call};
 use pool_map::{Pool, Shapes, fits, show_text};
 use std::alloc::{AllocError, Global};
 use std::test::Fail;

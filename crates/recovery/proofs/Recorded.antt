@@ -1,5 +1,7 @@
 -- The words of an argument record, as a list.
-use Rattle.std.proofs.Common.{◌≡◌, ℕ, zero, suc, ◌+◌, ◌<◌, ◌≤◌, List, [], ◌∷◌, take, length, slice_index_or, Option, Some, None, IsSomeAnd, min, ℤ, pos, refl, ap, ◌∙◌, arith}
+use Rattle.std.proofs.Common.{◌≡◌, ℕ, zero, suc, ◌+◌, ◌<◌, ◌≤◌, List, [], ◌∷◌, take, length}
+use Rattle.std.proofs.Common.{slice_index_or, Option, Some, None, IsSomeAnd, min, ℤ, pos, refl, ap}
+use Rattle.std.proofs.Common.{◌∙◌, arith}
 use Rattle.cache_model.specs.Cache.{Words}
 use Rattle.args_log.specs.Pending.{HoldsArguments}
 use Rattle.pm_machine.specs.declared.op.TxEntry.{TxEntry}

@@ -1,6 +1,8 @@
 -- What a recovery finds in a pool: its mark, its valid records and the content of its argument
 -- record.
-use Rattle.std.specs.Prelude.{ℕ, zero, suc, ◌-◌, ◌^◌, ◌≡◌, ◌≢◌, ◌⊎◌, Bool, true, false, ◌&&◌, nat_le, nat_lt, min, List, [], ◌∷◌, length, slice_get, Option, Some, None, ℤ, pos}
+use Rattle.std.specs.Prelude.{ℕ, zero, suc, ◌-◌, ◌^◌, ◌≡◌, ◌≢◌, ◌⊎◌, Bool, true, false, ◌&&◌}
+use Rattle.std.specs.Prelude.{nat_le, nat_lt, min, List, [], ◌∷◌, length, slice_get, Option, Some}
+use Rattle.std.specs.Prelude.{None, ℤ, pos}
 use Rattle.cache_model.specs.Cache.{Words}
 use Rattle.pool_layout.specs.declared.places.TheConstants.{MARK, FUNCTION}
 use Rattle.clobber_log.specs.Logs.{attempt_in, count_in}
@@ -9,7 +11,8 @@ use Rattle.pm_machine.specs.declared.image.Image.{Image}
 use Rattle.pm_machine.specs.declared.op.TxEntry.{TxEntry}
 use Rattle.tx_run.specs.Standing.{trap_of_mark}
 use Rattle.recovery.specs.declared.looking.Found.{Found}
-use Rattle.recovery.specs.declared.looking.Found.TheVariants.{Off, Unusable, Numbers, Unsealed, Sealed}
+use Rattle.recovery.specs.declared.looking.Found.TheVariants.{Off, Unusable, Numbers, Unsealed}
+use Rattle.recovery.specs.declared.looking.Found.TheVariants.{Sealed}
 
 -- there are valid records, and the attempt isn't below 2^62, so no attempt can follow
 abbrev pub has_numbers : (count attempt : ℕ) → Bool

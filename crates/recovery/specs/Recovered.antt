@@ -20,7 +20,9 @@ use Rattle.tx_run.specs.Standing.{trap_of_mark}
 use Rattle.tx_run.specs.Due.{due_on}
 use Rattle.tx_run.specs.Settled.{HasLogged}
 use Rattle.recovery.specs.declared.answer.RecoverAnswer.{RecoverAnswer}
-use Rattle.recovery.specs.declared.answer.RecoverAnswer.TheVariants.{Clean, Redone, Trap, Off, Failed, Unusable, Numbers, NoMemory}
+use Rattle.recovery.specs.declared.answer.RecoverAnswer.TheVariants.{Clean, Redone, Trap, Off}
+use Rattle.recovery.specs.declared.answer.RecoverAnswer.TheVariants.{Failed, Unusable, Numbers}
+use Rattle.recovery.specs.declared.answer.RecoverAnswer.TheVariants.{NoMemory}
 use Rattle.recovery.specs.Due.{due_clean, due_back, due_redo}
 use Rattle.recovery.specs.Found.{has_numbers, names_tx, recorded}
 

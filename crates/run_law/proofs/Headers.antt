@@ -1,7 +1,9 @@
 -- The loads of headers change only the inputs of a run as the crash law sees it.
-use Rattle.std.proofs.Common.{◌≡◌, ◌⊎◌, inl, inr, ⊎_elim, ℕ, zero, suc, ◌+◌, List, Option, Some, None, ℤ, refl}
+use Rattle.std.proofs.Common.{◌≡◌, ◌⊎◌, inl, inr, ⊎_elim, ℕ, zero, suc, ◌+◌, List, Option, Some}
+use Rattle.std.proofs.Common.{None, ℤ, refl}
 use Rattle.pool_layout.specs.declared.limits.Sizes.{Sizes}
-use Rattle.crash_law.specs.Effects.{Effect, IsInput, IsOverwritten, IsLoggedFirst, IsPaired, trace_of, logs_of, effect_events}
+use Rattle.crash_law.specs.Effects.{Effect, IsInput, IsOverwritten, IsLoggedFirst, IsPaired}
+use Rattle.crash_law.specs.Effects.{trace_of, logs_of, effect_events}
 use Rattle.pm_machine.specs.Find.{IsHeader}
 use Rattle.run_law.specs.Seen.{headers_before}
 

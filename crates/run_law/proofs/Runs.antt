@@ -1,11 +1,13 @@
 -- The machine's runs have the properties that the crash law asks for.
-use Rattle.std.proofs.Common.{pos, ◌≡◌, ◌⊎◌, ℕ, suc, ◌<◌, List, [], ◌∷◌, ◌++◌, None, refl, sym, ap, ◌∙◌, append_assoc}
+use Rattle.std.proofs.Common.{pos, ◌≡◌, ◌⊎◌, ℕ, suc, ◌<◌, List, [], ◌∷◌, ◌++◌, None, refl, sym, ap}
+use Rattle.std.proofs.Common.{◌∙◌, append_assoc}
 use Rattle.cache_model.specs.Event.{CacheEvent, Flush, Fence}
 use Rattle.cache_model.specs.Cache.{Words}
 use Rattle.pool_layout.specs.declared.limits.Sizes.{Sizes}
 use Rattle.pool_layout.specs.Sizes.{heap_words}
 use Rattle.pool_map.specs.Trap.{trap_number}
-use Rattle.crash_law.specs.Due.{Entry, Plain, Logged, IsTrace, run_events, flush_all, lines_of, due_run}
+use Rattle.crash_law.specs.Due.{Entry, Plain, Logged, IsTrace, run_events, flush_all, lines_of}
+use Rattle.crash_law.specs.Due.{due_run}
 use Rattle.args_log.specs.Retire.{retire_events, mark_events}
 use Rattle.crash_law.specs.Pools.{IsKept}
 use Rattle.crash_law.specs.Effects.{Effect as Seen, IsInput, IsOverwritten}

@@ -1,5 +1,6 @@
 -- A run stays in the heap, its records fit, and its trap's number is at least 1.
-use Rattle.std.proofs.Common.{◌≡◌, ⊎_elim, ℕ, zero, suc, ◌+◌, ◌<◌, ◌≤◌, List, [], ◌∷◌, refl, sym, subst, arith}
+use Rattle.std.proofs.Common.{◌≡◌, ⊎_elim, ℕ, zero, suc, ◌+◌, ◌<◌, ◌≤◌, List, [], ◌∷◌, refl, sym}
+use Rattle.std.proofs.Common.{subst, arith}
 use Rattle.cache_model.specs.Cache.{Words}
 use Rattle.pool_layout.specs.Sizes.{heap_words}
 use Rattle.pool_map.specs.declared.trap.TrapKind.{TrapKind}
@@ -8,12 +9,14 @@ use Rattle.pool_map.specs.Trap.{trap_number}
 use Rattle.crash_law.specs.Due as due
 use Rattle.crash_law.specs.Effects.{IsOverwritten, IsSound, logs_of}
 use Rattle.pm_machine.specs.declared.effect.Effect.{Effect}
-use Rattle.pm_machine.specs.declared.effect.Effect.TheVariants.{Loads, Scans, Stores, Logs, Flushes, Fences, Quiet}
+use Rattle.pm_machine.specs.declared.effect.Effect.TheVariants.{Loads, Scans, Stores, Logs, Flushes}
+use Rattle.pm_machine.specs.declared.effect.Effect.TheVariants.{Fences, Quiet}
 use Rattle.pm_machine.specs.declared.effect.End.{End}
 use Rattle.pm_machine.specs.declared.effect.End.TheVariants.{Halted, Trapped}
 use Rattle.pm_machine.specs.declared.image.Image.{Image}
 use Rattle.pm_machine.specs.Effects.{heap_past, records_past}
-use Rattle.pm_machine.specs.Machine.{State, StepOutcome, Goes, Ends, Run, Finished, follow, step, run}
+use Rattle.pm_machine.specs.Machine.{State, StepOutcome, Goes, Ends, Run, Finished, follow, step}
+use Rattle.pm_machine.specs.Machine.{run}
 use Rattle.pm_machine.specs.Runs.{AreLines}
 use Rattle.pm_machine.specs.inside.Runs.{IsInRange, StepKeeps}
 use Rattle.pm_machine.proofs.Fuel.{began_rest}

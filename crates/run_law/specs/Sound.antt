@@ -4,7 +4,8 @@ use Rattle.std.specs.Prelude.{ℕ, ◌/◌, ◌≡◌, List, [], ◌∷◌, nat_
 use Rattle.indexmap.specs.IndexSet.{insert_key}
 use Rattle.crash_law.specs.Effects.{IsLoggedFirst, IsPaired}
 use Rattle.pm_machine.specs.declared.effect.Effect.{Effect}
-use Rattle.pm_machine.specs.declared.effect.Effect.TheVariants.{Loads, Scans, Stores, Logs, Flushes, Fences, Quiet}
+use Rattle.pm_machine.specs.declared.effect.Effect.TheVariants.{Loads, Scans, Stores, Logs, Flushes}
+use Rattle.pm_machine.specs.declared.effect.Effect.TheVariants.{Fences, Quiet}
 use Rattle.pm_machine.specs.declared.effect.End.{End}
 use Rattle.pm_machine.specs.declared.effect.End.TheVariants.{Halted, Trapped}
 use Rattle.pm_machine.specs.Inputs.{IsInput, IsOverwritten}

@@ -1,5 +1,6 @@
 -- A session is a chain of steps: it appends to the history, and keeps what the laws promise.
-use Rattle.std.proofs.Common.{◌≡◌, ℕ, ℤ, ◌+◌, List, [], ◌∷◌, ◌++◌, length, Some, refl, sym, ap, ◌∙◌, subst, arith, append_assoc, append-nil, length-append}
+use Rattle.std.proofs.Common.{◌≡◌, ℕ, ℤ, ◌+◌, List, [], ◌∷◌, ◌++◌, length, Some, refl, sym, ap, ◌∙◌}
+use Rattle.std.proofs.Common.{subst, arith, append_assoc, append-nil, length-append}
 use Rattle.std.specs.List.{AllByRecursion}
 use Rattle.pmem.specs.Device.{Device}
 use Rattle.pool_layout.specs.Image.{Words, image_words}
@@ -15,12 +16,16 @@ use Rattle.session_law.specs.Source.{sizes_of, source_pool}
 use Rattle.session_law.specs.Agrees.{Agrees}
 use Rattle.session_law.specs.State.{Pending, Standing, Ready, SourceState}
 use Rattle.session_law.specs.Holds.{HoldsAs, Holds}
-use Rattle.session_law.specs.History.{recovered_by, pool_after, call_to, call_in, calls_in, called_by, done_by, history_after, answered_by, answered_in, IsPart}
+use Rattle.session_law.specs.History.{recovered_by, pool_after, call_to, call_in, calls_in}
+use Rattle.session_law.specs.History.{called_by, done_by, history_after, answered_by, answered_in}
+use Rattle.session_law.specs.History.{IsPart}
 use Rattle.session_law.specs.Ran.{found_by, Moment, SessionStep, Ran, fresh_moment, OpenStep}
 use Rattle.session_law.specs.Opened.{opened}
-use Rattle.session_law.specs.Law.{SessionLaw, IsWordCommand, RunsAll, SessionRunLaw, KeptLaw, HasGrown, HistoryLaw, IsAfter, WholeLaw, OpenedLaw}
+use Rattle.session_law.specs.Law.{SessionLaw, IsWordCommand, RunsAll, SessionRunLaw, KeptLaw}
+use Rattle.session_law.specs.Law.{HasGrown, HistoryLaw, IsAfter, WholeLaw, OpenedLaw}
 use Rattle.session_law.proofs.Opening.{OpenedAnswers}
-use Rattle.session_law.proofs.Histories.{part_none, part_same, part_append, after_append, both, same_done, powers_done, answer_done}
+use Rattle.session_law.proofs.Histories.{part_none, part_same, part_append, after_append, both}
+use Rattle.session_law.proofs.Histories.{same_done, powers_done, answer_done}
 
 module _ (law : SessionLaw) (program : Program) (super : Words)
     (agrees : Agrees program) where

@@ -1,6 +1,7 @@
 -- A recovery of a pool where nothing is owed keeps the value of the last transaction, and each line
 -- has one version after it.
-use Rattle.std.proofs.Common.{◌≡◌, ◌≢◌, inl, ⊎_elim, ℕ, zero, suc, ◌/◌, List, [], ◌∷◌, ℤ, refl, ap, ◌∙◌, arith}
+use Rattle.std.proofs.Common.{◌≡◌, ◌≢◌, inl, ⊎_elim, ℕ, zero, suc, ◌/◌, List, [], ◌∷◌, ℤ, refl, ap}
+use Rattle.std.proofs.Common.{◌∙◌, arith}
 use Rattle.cache_model.specs.Event.{CacheEvent, Store, Flush, Fence}
 use Rattle.cache_model.specs.Cache.{Words, put, Cache, view}
 use Rattle.cache_model.specs.Play.{apply, play}

@@ -1,5 +1,6 @@
 -- Each command is answered as the source says.
-use Rattle.std.proofs.Common.{◌≡◌, ℕ, Bool, true, false, ◌==◌, List, length, Option, Some, None, ℤ, pos, refl, sym, ap, ◌∙◌, subst}
+use Rattle.std.proofs.Common.{◌≡◌, ℕ, Bool, true, false, ◌==◌, List, length, Option, Some, None, ℤ}
+use Rattle.std.proofs.Common.{pos, refl, sym, ap, ◌∙◌, subst}
 use Rattle.std.proofs.lemmas.Bool.{eqb-true}
 use Rattle.cache_model.specs.Cache.{Words, Cache, view}
 use Rattle.cache_model.specs.Image.{Images}
@@ -28,8 +29,10 @@ use Rattle.cnvm_session.specs.Commands.{call_number, tx_parameters}
 use Rattle.session_law.specs.Source.{sizes_of, source_pool}
 use Rattle.session_law.specs.Words.{AreWords}
 use Rattle.session_law.specs.Agrees.{Agrees}
-use Rattle.session_law.specs.State.{Pending, Standing, Ready, Down, Unusable, SourceState, standing_as}
-use Rattle.session_law.specs.Answers.{Refused, Runs, CallsWith, CallsTo, CallsNamed, Calls, Tells, Shows, Lasts}
+use Rattle.session_law.specs.State.{Pending, Standing, Ready, Down, Unusable, SourceState}
+use Rattle.session_law.specs.State.{standing_as}
+use Rattle.session_law.specs.Answers.{Refused, Runs, CallsWith, CallsTo, CallsNamed, Calls, Tells}
+use Rattle.session_law.specs.Answers.{Shows, Lasts}
 use Rattle.session_law.specs.Holds.{HoldsPool, IsResting, OwesNone, HoldsAs, Holds}
 use Rattle.session_law.specs.Law.{SessionLaw}
 use Rattle.session_law.proofs.Heaps.{pool_same, shown_same, pool_fits}

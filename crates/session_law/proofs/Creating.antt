@@ -1,5 +1,7 @@
 -- A new pool is at rest, and holds the empty one.
-use Rattle.std.proofs.Common.{◌≡◌, ◌≢◌, ℕ, zero, suc, ◌/◌, ◌<◌, ◌≤◌, ◌==◌, cond, Bool, true, false, List, [], ◌∷◌, replicate, Option, None, ℤ, pos, refl, sym, ap, ◌∙◌, subst, arith}
+use Rattle.std.proofs.Common.{◌≡◌, ◌≢◌, ℕ, zero, suc, ◌/◌, ◌<◌, ◌≤◌, ◌==◌, cond, Bool, true, false}
+use Rattle.std.proofs.Common.{List, [], ◌∷◌, replicate, Option, None, ℤ, pos, refl, sym, ap, ◌∙◌}
+use Rattle.std.proofs.Common.{subst, arith}
 use Rattle.cache_model.specs.Event.{CacheEvent, Store, Flush, Fence}
 use Rattle.cache_model.specs.Cache.{Words, put, Line, Cache, view, blank_line, blank}
 use Rattle.cache_model.specs.Play.{flush_line, fence_line, apply, play}

@@ -1,5 +1,7 @@
 -- Heaps with the same words hold the same pool, and what a heap holds fits the program's shapes.
-use Rattle.std.proofs.Common.{◌≡◌, ℕ, zero, suc, ◌+◌, ◌<◌, ◌≤◌, Bool, true, false, if◌then◌else◌, nat_lt, ltb, List, ◌∷◌, length, Option, Some, None, IsSomeAnd, IfSome, ℤ, pos, refl, sym, ap, ◌∙◌, subst, arith}
+use Rattle.std.proofs.Common.{◌≡◌, ℕ, zero, suc, ◌+◌, ◌<◌, ◌≤◌, Bool, true, false, if◌then◌else◌}
+use Rattle.std.proofs.Common.{nat_lt, ltb, List, ◌∷◌, length, Option, Some, None, IsSomeAnd, IfSome}
+use Rattle.std.proofs.Common.{ℤ, pos, refl, sym, ap, ◌∙◌, subst, arith}
 use Rattle.std.specs.List.{AllByRecursion}
 use Rattle.std.proofs.lemmas.Bool.{ltb-false}
 use Rattle.cache_model.specs.Cache.{Words, Cache, view}
@@ -13,7 +15,8 @@ use Rattle.pool_map.specs.PoolFits.{words_of, struct_at, ObjectFits, PoolFits}
 use Rattle.pm_machine.specs.Runs.{heap_in}
 use Rattle.c_types.specs.Shapes.{shapes_of}
 use Rattle.cnvm_session.specs.declared.program.Program.{Program}
-use Rattle.cnvm_session.specs.Shown.{heap_of, words_from, object_with, kind_in, object_of, object_in, objects_from}
+use Rattle.cnvm_session.specs.Shown.{heap_of, words_from, object_with, kind_in, object_of}
+use Rattle.cnvm_session.specs.Shown.{object_in, objects_from}
 use Rattle.session_law.specs.Source.{sizes_of, source_pool, HasSourceHeaders}
 
 -- the two heaps have the same words below this one

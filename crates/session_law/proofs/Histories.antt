@@ -1,5 +1,8 @@
 -- Which transactions a session has done.
-use Rattle.std.proofs.Common.{◌≡◌, ◌≢◌, inl, inr, ⊎_elim, ℕ, suc, ◌+◌, ◌==◌, Bool, true, false, ◌&&◌, if◌then◌else◌, List, [], ◌∷◌, ◌++◌, length, Option, Some, None, ℤ, pos, int_eq, refl, sym, ap, ◌∙◌, subst, arith, append_assoc, append-nil, length-append}
+use Rattle.std.proofs.Common.{◌≡◌, ◌≢◌, inl, inr, ⊎_elim, ℕ, suc, ◌+◌, ◌==◌, Bool, true, false}
+use Rattle.std.proofs.Common.{◌&&◌, if◌then◌else◌, List, [], ◌∷◌, ◌++◌, length, Option, Some, None}
+use Rattle.std.proofs.Common.{ℤ, pos, int_eq, refl, sym, ap, ◌∙◌, subst, arith, append_assoc}
+use Rattle.std.proofs.Common.{append-nil, length-append}
 use Rattle.std.proofs.lemmas.Bool.Decides.{Decides-int_eq}
 use Rattle.pool_layout.specs.declared.places.TheConstants.{DONE, MARK, SEAL}
 use Rattle.pool_layout.specs.Image.{Words}
@@ -12,9 +15,13 @@ use Rattle.cnvm_session.specs.declared.answer.Answer.TheVariants as answer
 use Rattle.cnvm_session.specs.declared.program.Program.{Program}
 use Rattle.cnvm_session.specs.Commands.{call_number}
 use Rattle.session_law.specs.Source.{means, source_parameters}
-use Rattle.session_law.specs.State.{Pending, Standing, Ready, Down, Unusable, SourceState, standing_as}
-use Rattle.session_law.specs.Answers.{Refused, IsDoneWith, Runs, CallsWith, CallsTo, CallsNamed, Calls, Tells, Shows, Lasts, FindsOf, FindsOwed, Rests, Redoes, Recovers, Powers, Answers}
-use Rattle.session_law.specs.History.{pool_after, after_one, waiting_of, call_to, call_in, called_by, is_retired, recovered_by, done_by, IsPart, HasDone}
+use Rattle.session_law.specs.State.{Pending, Standing, Ready, Down, Unusable, SourceState}
+use Rattle.session_law.specs.State.{standing_as}
+use Rattle.session_law.specs.Answers.{Refused, IsDoneWith, Runs, CallsWith, CallsTo, CallsNamed}
+use Rattle.session_law.specs.Answers.{Calls, Tells, Shows, Lasts, FindsOf, FindsOwed, Rests, Redoes}
+use Rattle.session_law.specs.Answers.{Recovers, Powers, Answers}
+use Rattle.session_law.specs.History.{pool_after, after_one, waiting_of, call_to, call_in}
+use Rattle.session_law.specs.History.{called_by, is_retired, recovered_by, done_by, IsPart, HasDone}
 use Rattle.session_law.proofs.Coming.{comes_done}
 
 -- parts of lists

@@ -1,5 +1,8 @@
 -- A pool that is opened from an image is recovered as the source says.
-use Rattle.std.proofs.Common.{◌≡◌, inl, inr, ℕ, zero, suc, ◌+◌, ◌<◌, ◌≤◌, Bool, true, false, if◌then◌else◌, List, [], ◌∷◌, length, slice_get, slice_index_or, option_map, Some, None, ℤ, pos, ◌+ℤ◌, int_eq, refl, sym, ap, ◌∙◌, subst, arith}
+use Rattle.std.proofs.Common.{◌≡◌, inl, inr, ℕ, zero, suc, ◌+◌, ◌<◌, ◌≤◌, Bool, true, false}
+use Rattle.std.proofs.Common.{if◌then◌else◌, List, [], ◌∷◌, length, slice_get, slice_index_or}
+use Rattle.std.proofs.Common.{option_map, Some, None, ℤ, pos, ◌+ℤ◌, int_eq, refl, sym, ap, ◌∙◌}
+use Rattle.std.proofs.Common.{subst, arith}
 use Rattle.std.proofs.lemmas.Bool.Decides.{Decides-int_eq}
 use Rattle.cache_model.specs.Cache.{Words, view, blank}
 use Rattle.cache_model.specs.Play.{play}
@@ -18,7 +21,7 @@ use Rattle.pool_layout.specs.Opened.{IsOpened, wanted_rules}
 use Rattle.pool_map.specs.declared.trap.TrapKind.{TrapKind}
 use Rattle.pool_map.specs.declared.trap.TrapKind.TheVariants as trap
 use Rattle.pool_map.specs.Trap.{trap_number}
-use Rattle.c_parser.specs.ItemTree.{FunctionTree}
+use Rattle.c_tree.specs.ItemTree.{FunctionTree}
 use Rattle.c_types.specs.Shapes.{transactions_of}
 use Rattle.clobber_log.specs.Logs.{attempt_of, attempt_in}
 use Rattle.args_log.specs.Pending.{is_sealed, tx_number}

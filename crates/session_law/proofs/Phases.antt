@@ -1,6 +1,8 @@
 -- In which phase a call was stopped, and whether the images that a power cut may leave have its
 -- seal.
-use Rattle.std.proofs.Common.{◌≡◌, inl, inr, ℕ, zero, suc, ◌+◌, ◌^◌, ◌<◌, ◌≤◌, ◌==◌, Bool, true, false, ◌&&◌, w64, List, [], ◌∷◌, ◌++◌, length, take, Option, Some, None, ℤ, pos, refl, sym, ap, ◌∙◌, subst, arith, append-nil}
+use Rattle.std.proofs.Common.{◌≡◌, inl, inr, ℕ, zero, suc, ◌+◌, ◌^◌, ◌<◌, ◌≤◌, ◌==◌, Bool, true}
+use Rattle.std.proofs.Common.{false, ◌&&◌, w64, List, [], ◌∷◌, ◌++◌, length, take, Option, Some}
+use Rattle.std.proofs.Common.{None, ℤ, pos, refl, sym, ap, ◌∙◌, subst, arith, append-nil}
 use Rattle.std.specs.Int.{cast_signed}
 use Rattle.std.proofs.lemmas.Bool.{eqb-true}
 use Rattle.std.proofs.lemmas.List.{take_all}
@@ -22,7 +24,8 @@ use Rattle.pmem.proofs.Parts.{part_during, refused_cache}
 use Rattle.pool_layout.specs.declared.places.TheConstants.{DONE, ATTEMPT, FUNCTION, SEAL}
 use Rattle.pool_layout.specs.declared.limits.Sizes.{Sizes}
 use Rattle.args_log.specs.Next.{number_after}
-use Rattle.args_log.specs.Seal.{stores_from, flushes_from, payload_lines, payload_events, unsealed_events, sealing_events, seal_events}
+use Rattle.args_log.specs.Seal.{stores_from, flushes_from, payload_lines, payload_events}
+use Rattle.args_log.specs.Seal.{unsealed_events, sealing_events, seal_events}
 use Rattle.args_log.specs.Retire.{retire_events, mark_events}
 use Rattle.pm_machine.specs.declared.effect.End.{End}
 use Rattle.pm_machine.specs.declared.effect.End.TheVariants.{Halted, Trapped}

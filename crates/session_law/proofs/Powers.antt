@@ -1,5 +1,6 @@
 -- A power cut, by what is owed, and the recovery after it.
-use Rattle.std.proofs.Common.{◌≡◌, inl, inr, ℕ, true, List, Option, Some, None, pos, refl, sym, subst}
+use Rattle.std.proofs.Common.{◌≡◌, inl, inr, ℕ, true, List, Option, Some, None, pos, refl, sym}
+use Rattle.std.proofs.Common.{subst}
 use Rattle.cache_model.specs.Cache.{Words, view}
 use Rattle.cache_model.specs.Image.{Images}
 use Rattle.cache_model.specs.Collapse.{bad}
@@ -29,13 +30,15 @@ use Rattle.cnvm_session.specs.Commands as commanded
 use Rattle.cnvm_session.specs.Commands.{fallen}
 use Rattle.session_law.specs.Source.{outcome_with}
 use Rattle.session_law.specs.Agrees.{Agrees}
-use Rattle.session_law.specs.State.{Pending, Standing, Ready, Down, Unusable, SourceState, standing_as, done_with}
+use Rattle.session_law.specs.State.{Pending, Standing, Ready, Down, Unusable, SourceState}
+use Rattle.session_law.specs.State.{standing_as, done_with}
 use Rattle.session_law.specs.Answers.{FindsOf, FindsOwed, Recovers, IsMarked, Powers}
 use Rattle.session_law.specs.Holds.{OwesNone, OwesOne, HoldsAs, Holds}
 use Rattle.session_law.proofs.Words.{held_words}
 use Rattle.session_law.proofs.Ones.{rest_images, at_view, left_rest, at_left}
 use Rattle.session_law.proofs.Reading.{is_marked}
-use Rattle.session_law.proofs.Resting.{resting_owes, Meant, meant, HasHalted, run_halted, run_trapped}
+use Rattle.session_law.proofs.Resting.{resting_owes, Meant, meant, HasHalted, run_halted}
+use Rattle.session_law.proofs.Resting.{run_trapped}
 use Rattle.session_law.proofs.Recoveries.{marked_recovers, rest_recovers, redo_recovers}
 
 -- a recovery of what is found never answers that the pool has a mark

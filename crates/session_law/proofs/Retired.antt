@@ -1,6 +1,8 @@
 -- After a call or a recovery that halts no record is valid: its last store is that of the next
 -- attempt.
-use Rattle.std.proofs.Common.{◌≡◌, ◌⊎◌, inl, inr, ℕ, suc, ◌+◌, ◌-◌, ◌^◌, ◌<◌, ◌≤◌, Bool, true, false, if◌then◌else◌, ltb, w64, List, [], ◌∷◌, ◌++◌, ℤ, pos, ◌+ℤ◌, FitsSigned, refl, sym, ap, ◌∙◌, subst, arith, append_assoc}
+use Rattle.std.proofs.Common.{◌≡◌, ◌⊎◌, inl, inr, ℕ, suc, ◌+◌, ◌-◌, ◌^◌, ◌<◌, ◌≤◌, Bool, true}
+use Rattle.std.proofs.Common.{false, if◌then◌else◌, ltb, w64, List, [], ◌∷◌, ◌++◌, ℤ, pos, ◌+ℤ◌}
+use Rattle.std.proofs.Common.{FitsSigned, refl, sym, ap, ◌∙◌, subst, arith, append_assoc}
 use Rattle.std.specs.Int.{int_wrap}
 use Rattle.std.proofs.lemmas.Int.{ints, int_wrap_fits}
 use Rattle.std.proofs.lemmas.Bool.{ltb-false}

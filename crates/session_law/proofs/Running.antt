@@ -1,5 +1,6 @@
 -- An owed transaction is done exactly if it was sealed.
-use Rattle.std.proofs.Common.{◌≡◌, ◌≢◌, ◌⊎◌, inl, inr, ℕ, suc, Bool, true, false, if◌then◌else◌, List, [], ◌∷◌, ◌++◌, Some, ℤ, pos, ap, ◌∙◌, subst, append-nil}
+use Rattle.std.proofs.Common.{◌≡◌, ◌≢◌, ◌⊎◌, inl, inr, ℕ, suc, Bool, true, false, if◌then◌else◌}
+use Rattle.std.proofs.Common.{List, [], ◌∷◌, ◌++◌, Some, ℤ, pos, ap, ◌∙◌, subst, append-nil}
 use Rattle.cache_model.specs.Cache.{view}
 use Rattle.pmem.specs.Device.{powered}
 use Rattle.pool_layout.specs.declared.places.TheConstants.{SEAL}

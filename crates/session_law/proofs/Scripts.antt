@@ -1,5 +1,7 @@
 -- The arguments of a script's calls are words.
-use Rattle.std.proofs.Common.{◌≡◌, ℕ, zero, suc, ◌+◌, ◌^◌, ◌<◌, ◌≤◌, Bool, true, false, if◌then◌else◌, ltb, leb, List, [], ◌∷◌, Option, Some, None, IfSome, option_map, Result, Ok, Err, ℤ, pos, neg_ℤ, refl, subst, arith}
+use Rattle.std.proofs.Common.{◌≡◌, ℕ, zero, suc, ◌+◌, ◌^◌, ◌<◌, ◌≤◌, Bool, true, false}
+use Rattle.std.proofs.Common.{if◌then◌else◌, ltb, leb, List, [], ◌∷◌, Option, Some, None, IfSome}
+use Rattle.std.proofs.Common.{option_map, Result, Ok, Err, ℤ, pos, neg_ℤ, refl, subst, arith}
 use Rattle.std.specs.Prelude.{bytes_eq, codes, drop, option_and_then}
 use Rattle.std.specs.List.{AllByRecursion}
 use Rattle.std.specs.Str.Parse.{starts_with_minus}
@@ -10,12 +12,15 @@ use Rattle.cache_model.specs.declared.choice.Rest.{Rest}
 use Rattle.cache_model.specs.declared.choice.Rest.TheVariants.{Old, New}
 use Rattle.cache_model.specs.declared.choice.Pick.{Pick}
 use Rattle.cnvm_script.specs.declared.command.Command.{Command}
-use Rattle.cnvm_script.specs.declared.command.Command.TheVariants.{Call, Stop, Fault, Power, Show, Last}
+use Rattle.cnvm_script.specs.declared.command.Command.TheVariants.{Call, Stop, Fault, Power, Show}
+use Rattle.cnvm_script.specs.declared.command.Command.TheVariants.{Last}
 use Rattle.cnvm_script.specs.Lines.{lines}
 use Rattle.cnvm_script.specs.Lines as line_of
 use Rattle.cnvm_script.specs.Name.{is_name}
 use Rattle.cnvm_script.specs.Number.{bounded_numeral, as_positive, as_negative, argument, pick}
-use Rattle.cnvm_script.specs.Commands.{with_first, each, rising, call_command, event_of, choice_of, power_of, alone, command, is_remark, meaning, line_meaning, joined_commands, commands_from}
+use Rattle.cnvm_script.specs.Commands.{with_first, each, rising, call_command, event_of, choice_of}
+use Rattle.cnvm_script.specs.Commands.{power_of, alone, command, is_remark, meaning, line_meaning}
+use Rattle.cnvm_script.specs.Commands.{joined_commands, commands_from}
 use Rattle.session_law.specs.Words.{AreWords}
 use Rattle.session_law.specs.Law.{IsWordCommand, ScriptLaw}
 

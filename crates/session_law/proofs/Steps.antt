@@ -1,5 +1,6 @@
 -- How many steps a recovery takes if it runs an owed transaction to its end.
-use Rattle.std.proofs.Common.{◌≡◌, inl, inr, ℕ, suc, ◌+◌, Bool, true, false, List, length, Option, Some, None, refl, subst, arith}
+use Rattle.std.proofs.Common.{◌≡◌, inl, inr, ℕ, suc, ◌+◌, Bool, true, false, List, length, Option}
+use Rattle.std.proofs.Common.{Some, None, refl, subst, arith}
 use Rattle.cache_model.specs.Cache.{Words, view}
 use Rattle.cache_model.specs.Collapse.{bad}
 use Rattle.cache_model.specs.declared.choice.Choice.{Choice}

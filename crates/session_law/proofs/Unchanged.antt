@@ -1,5 +1,6 @@
 -- A refused command changes nothing.
-use Rattle.std.proofs.Common.{◌≡◌, ℕ, ◌==◌, Bool, true, false, List, [], ◌++◌, length, Option, Some, None, ℤ, refl, ap, ◌∙◌, append-nil}
+use Rattle.std.proofs.Common.{◌≡◌, ℕ, ◌==◌, Bool, true, false, List, [], ◌++◌, length, Option, Some}
+use Rattle.std.proofs.Common.{None, ℤ, refl, ap, ◌∙◌, append-nil}
 use Rattle.pool_layout.specs.Image.{Words}
 use Rattle.cnvm_script.specs.declared.command.Command.{Command}
 use Rattle.cnvm_script.specs.declared.command.Command.TheVariants as command
@@ -11,7 +12,8 @@ use Rattle.cnvm_session.specs.Laws.{IsRefusal, IsBadPick, IsRefused}
 use Rattle.cnvm_session.proofs.Refusing.{command_kept}
 use Rattle.session_law.specs.Source.{source_parameters}
 use Rattle.session_law.specs.State.{Pending, Standing, Ready, Down, Unusable, SourceState}
-use Rattle.session_law.specs.Answers.{Runs, CallsWith, CallsTo, CallsNamed, Calls, Tells, Shows, Lasts, Powers, Answers}
+use Rattle.session_law.specs.Answers.{Runs, CallsWith, CallsTo, CallsNamed, Calls, Tells, Shows}
+use Rattle.session_law.specs.Answers.{Lasts, Powers, Answers}
 use Rattle.session_law.specs.History.{call_to, called_by, recovered_by, done_by}
 use Rattle.session_law.specs.Ran.{found_by}
 use Rattle.session_law.specs.Law.{UnchangedLaw}

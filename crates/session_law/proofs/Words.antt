@@ -1,6 +1,8 @@
 -- Pools and arguments are made of words: a new pool's, those of a heap whose numbers are words, and
 -- those of an image's record.
-use Rattle.std.proofs.Common.{ℕ, zero, suc, ◌+◌, ◌-◌, Bool, true, false, cond, if◌then◌else◌, nat_lt, List, replicate, slice_index_or, slice_get, Option, Some, None, ℤ, pos, int_eq, sym, subst, arith}
+use Rattle.std.proofs.Common.{ℕ, zero, suc, ◌+◌, ◌-◌, Bool, true, false, cond, if◌then◌else◌}
+use Rattle.std.proofs.Common.{nat_lt, List, replicate, slice_index_or, slice_get, Option, Some}
+use Rattle.std.proofs.Common.{None, ℤ, pos, int_eq, sym, subst, arith}
 use Rattle.std.proofs.lemmas.Int.{ints}
 use Rattle.nvm_base.specs.Wrap.{IsWord}
 use Rattle.pool_layout.specs.declared.limits.Sizes.{Sizes}

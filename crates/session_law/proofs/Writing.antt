@@ -1,5 +1,8 @@
 -- The events that write an image on blank lines leave its words, and each line has one version.
-use Rattle.std.proofs.Common.{◌≡◌, ◌≢◌, ◌⊎◌, inl, inr, ⊎_elim, ℕ, zero, suc, ◌+◌, ◌*◌, ◌/◌, ◌%◌, ◌<◌, ◌≤◌, Bool, true, false, not, if◌then◌else◌, List, [], ◌∷◌, ◌++◌, length, take, drop, get_or, slice_index_or, Option, Some, None, ℤ, pos, int_eq, refl, sym, ap, ◌∙◌, subst, arith}
+use Rattle.std.proofs.Common.{◌≡◌, ◌≢◌, ◌⊎◌, inl, inr, ⊎_elim, ℕ, zero, suc, ◌+◌, ◌*◌, ◌/◌, ◌%◌}
+use Rattle.std.proofs.Common.{◌<◌, ◌≤◌, Bool, true, false, not, if◌then◌else◌, List, [], ◌∷◌, ◌++◌}
+use Rattle.std.proofs.Common.{length, take, drop, get_or, slice_index_or, Option, Some, None, ℤ}
+use Rattle.std.proofs.Common.{pos, int_eq, refl, sym, ap, ◌∙◌, subst, arith}
 use Rattle.std.proofs.lemmas.Bool.{cases_eq, cases_lt}
 use Rattle.std.proofs.lemmas.Bool.Decides.{Decides-int_eq}
 use Rattle.std.proofs.lemmas.List.{drop_all, get_or-take, get_or-drop, length-take, length-drop}
@@ -13,7 +16,8 @@ use Rattle.cache_model.proofs.Ready.{flush_ready}
 use Rattle.cache_model.proofs.During.{play_append}
 use Rattle.pool_layout.specs.Image.{image_words}
 use Rattle.crash_law.specs.Law.{IsAtRest}
-use Rattle.cnvm_session.specs.Opening.{is_other, store_of, stores_of, has_other, flush_of, flushes_of, opening_events}
+use Rattle.cnvm_session.specs.Opening.{is_other, store_of, stores_of, has_other, flush_of}
+use Rattle.cnvm_session.specs.Opening.{flushes_of, opening_events}
 
 -- each line has one version after the next fence, except those of D
 

@@ -16,7 +16,8 @@ use Rattle.run_law.specs.Sound.{IsSoundRun}
 use Rattle.cnvm_session.specs.declared.program.Program.{Program}
 use Rattle.cnvm_session.specs.Commands.{tx_parameters}
 use Rattle.session_law.specs.Words.{AreWords, HasPoolWords}
-use Rattle.session_law.specs.Source.{sizes_of, source_parameters, LogsStores, outcome_with, source_pool, HasSourceHeaders}
+use Rattle.session_law.specs.Source.{sizes_of, source_parameters, LogsStores, outcome_with}
+use Rattle.session_law.specs.Source.{source_pool, HasSourceHeaders}
 
 -- a run ends as the outcome says: with its value, on a heap that holds its pool, or with its trap
 abbrev pub Matches : Program → Outcome → End → Words → Type 0

@@ -2,7 +2,8 @@
 -- the device it looks only at the image that the command finds: for `power` what the cut left, for
 -- any other command the view. Of the image's words it reads the number of transactions done (17),
 -- the attempt (18), the mark (19) and the seal (47).
-use Rattle.std.specs.Prelude.{ℕ, suc, ◌≡◌, ◌≢◌, ◌⊎◌, ◌==◌, ◌&&◌, Bool, true, false, List, length, Option, Some, None, ℤ, pos}
+use Rattle.std.specs.Prelude.{ℕ, suc, ◌≡◌, ◌≢◌, ◌⊎◌, ◌==◌, ◌&&◌, Bool, true, false, List, length}
+use Rattle.std.specs.Prelude.{Option, Some, None, ℤ, pos}
 use Rattle.pmem.specs.declared.answer.Phase.TheVariants as phase
 use Rattle.pool_layout.specs.declared.places.TheConstants.{DONE, ATTEMPT, MARK, SEAL}
 use Rattle.pool_layout.specs.Image.{Words}
@@ -22,7 +23,8 @@ use Rattle.cnvm_session.specs.declared.answer.Answer.TheVariants as answer
 use Rattle.cnvm_session.specs.declared.program.Program.{Program}
 use Rattle.cnvm_session.specs.Commands.{call_number}
 use Rattle.session_law.specs.Source.{sizes_of, source_parameters, ComesTo}
-use Rattle.session_law.specs.State.{Pending, Standing, Ready, Down, Unusable, SourceState, standing_as, done_with}
+use Rattle.session_law.specs.State.{Pending, Standing, Ready, Down, Unusable, SourceState}
+use Rattle.session_law.specs.State.{standing_as, done_with}
 
 -- the answer is this one, and nothing changes
 abbrev pub Refused : Answer → SourceState → Answer → SourceState → Type 0

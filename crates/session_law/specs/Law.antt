@@ -1,5 +1,6 @@
 -- A session of a program does what the program's source says.
-use Rattle.std.specs.Prelude.{ℕ, suc, ◌+◌, ◌*◌, ◌<◌, ◌≤◌, ◌≡◌, ◌≢◌, ◌⊎◌, List, [], ◌∷◌, ◌++◌, length, Some, Ok, ℤ, pos, slice_index_or}
+use Rattle.std.specs.Prelude.{ℕ, suc, ◌+◌, ◌*◌, ◌<◌, ◌≤◌, ◌≡◌, ◌≢◌, ◌⊎◌, List, [], ◌∷◌, ◌++◌}
+use Rattle.std.specs.Prelude.{length, Some, Ok, ℤ, pos, slice_index_or}
 use Rattle.std.specs.List.{AllByRecursion}
 use Rattle.cache_model.specs.Cache.{view}
 use Rattle.cache_model.specs.Image.{Images}
@@ -40,7 +41,8 @@ use Rattle.session_law.specs.State as state
 use Rattle.session_law.specs.Answers.{HasSeal, IsDoneWith, Answers}
 use Rattle.session_law.specs.Opened.{wanted_of, opened}
 use Rattle.session_law.specs.Holds.{OwesOne, Holds}
-use Rattle.session_law.specs.History.{recovered_by, pool_after, calls_in, answered_in, IsPart, HasDone}
+use Rattle.session_law.specs.History.{recovered_by, pool_after, calls_in, answered_in, IsPart}
+use Rattle.session_law.specs.History.{HasDone}
 use Rattle.session_law.specs.Ran.{found_by, Moment, SessionStep, Ran, fresh_moment, OpenStep}
 
 -- the arguments of a command are words

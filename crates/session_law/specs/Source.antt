@@ -1,15 +1,16 @@
 -- What the source of a program says: how many parameters a transaction has, what it means on a pool
 -- and what it comes to there, with how many logged stores, and the pool that a heap holds under the
 -- program's shapes.
-use Rattle.std.specs.Prelude.{ℕ, ◌+◌, ◌*◌, ◌≤◌, ◌≡◌, if◌then◌else◌, nat_lt, List, [], length, Option, option_map, ℤ}
+use Rattle.std.specs.Prelude.{ℕ, ◌+◌, ◌*◌, ◌≤◌, ◌≡◌, if◌then◌else◌, nat_lt, List, [], length}
+use Rattle.std.specs.Prelude.{Option, option_map, ℤ}
 use Rattle.std.specs.Option.{option_map_or}
 use Rattle.pool_layout.specs.declared.limits.Sizes.{Sizes}
 use Rattle.pool_layout.specs.Sizes.{slot_word}
 use Rattle.pool_layout.specs.Image.{Words, IsUpTo}
 use Rattle.pool_map.specs.PoolMap.{PoolMap}
 use Rattle.pool_map.specs.declared.trap.TrapKind.TheVariants.{LogFull}
-use Rattle.c_parser.specs.ItemTree.{FunctionTree}
-use Rattle.c_parser.specs.Program.{tree_of}
+use Rattle.c_tree.specs.ItemTree.{FunctionTree}
+use Rattle.c_tree.specs.Program.{tree_of}
 use Rattle.c_types.specs.Tables.{Tables, tables_of}
 use Rattle.c_types.specs.Shapes.{shapes_of}
 use Rattle.c_meaning.specs.Transaction.{Outcome, Trap, transaction, transaction_means}

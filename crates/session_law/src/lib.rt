@@ -6,7 +6,10 @@
 //! are done.
 #![tactic(auto)]
 
-ghost use Rattle.session_law.specs.Law.{SessionLaw, SealedLaw, PhaseLaw, StepsLaw, CreatedLaw, OpenedLaw, SessionRunLaw, KeptLaw, HistoryLaw, BegunLaw, WholeLaw, UnchangedLaw, BoundLaw, ScriptLaw, DeterminedLaw, FullLaw};
+ghost use Rattle.session_law.specs.Law.{SessionLaw, SealedLaw, PhaseLaw, StepsLaw, CreatedLaw};
+ghost use Rattle.session_law.specs.Law.{OpenedLaw, SessionRunLaw, KeptLaw, HistoryLaw, BegunLaw};
+ghost use Rattle.session_law.specs.Law.{WholeLaw, UnchangedLaw, BoundLaw, ScriptLaw, DeterminedLaw};
+ghost use Rattle.session_law.specs.Law.{FullLaw};
 
 /// Each command of a session is answered as the source says. The function does nothing.
 pub fn law()

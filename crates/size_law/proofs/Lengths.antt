@@ -1,14 +1,15 @@
 -- The length of the code of expressions: it goes from its beginning to its end.
 use Rattle.std.proofs.Common.{◌≡◌, ℕ, suc, ◌+◌, List, [], ◌∷◌, ◌++◌, length, length-append, arith}
-use Rattle.c_parser.specs.declared.expr.UnaryOp.TheVariants as unary
-use Rattle.c_parser.specs.ExprTree as expr
-use Rattle.c_parser.specs.ExprTree.{ExprTree, Arguments}
+use Rattle.c_tree.specs.declared.expr.UnaryOp.TheVariants as unary
+use Rattle.c_tree.specs.ExprTree as expr
+use Rattle.c_tree.specs.ExprTree.{ExprTree, Arguments}
 use Rattle.ir.specs.declared.instruction.Instruction.{Instruction}
 use Rattle.lower.specs.declared.form.Form.{Form}
 use Rattle.lower.specs.declared.form.Form.TheVariants.{Both, Either, Direct, Exchanged}
 use Rattle.lower.specs.Forms.{form_of}
 use Rattle.lower.specs.Names.{Variables}
-use Rattle.lower.specs.Lowers.{Context, exp_end, exp_code, target_end, target_code, arguments_end, arguments_code, form_end, form_code, reg_of}
+use Rattle.lower.specs.Lowers.{Context, exp_end, exp_code, target_end, target_code, arguments_end}
+use Rattle.lower.specs.Lowers.{arguments_code, form_end, form_code, reg_of}
 
 -- a list of instructions that goes from one place to another
 pub record Leads (p : ℕ) (xs : List Instruction) (q : ℕ) : Type 0 where

@@ -1,14 +1,21 @@
 -- The code of a program is short: at most four instructions for each of its tokens.
-use Rattle.std.proofs.Common.{◌≡◌, ℕ, suc, ◌+◌, ◌*◌, ◌≤◌, List, [], ◌∷◌, map, length, Bool, true, false, ap, ◌∙◌, arith}
+use Rattle.std.proofs.Common.{◌≡◌, ℕ, suc, ◌+◌, ◌*◌, ◌≤◌, List, [], ◌∷◌, map, length, Bool, true}
+use Rattle.std.proofs.Common.{false, ap, ◌∙◌, arith}
 use Rattle.std.specs.Prelude.{if◌then◌else◌, Option}
 use Rattle.std.proofs.lemmas.List.{length-map}
 use Rattle.c_lexer.specs.declared.token.Placed.{Placed}
-use Rattle.c_parser.specs.Kinds.{ident_at}
-use Rattle.c_parser.specs.StmtTree.{TypeTree, Statements}
-use Rattle.c_parser.specs.ItemTree.{ParameterTree, FunctionTree, ItemTree}
-use Rattle.c_parser.specs.ItemTree as tree
-use Rattle.c_parser.specs.Program.{Program, tree_of}
-use Rattle.c_parser.specs.ItemSpelling.{SpellsParameters, parameters_last, parameters_more, Signature, signature_none, signature_void, signature_some, ResultType, result_void, result_some, SpellsFunction, function, SpellsItem, struct_def, root_decl, transaction, plain_function, SpellsItems, items_end, items_more, SpellsField, SpellsFields, fields_end, fields_more, single, array}
+use Rattle.c_tree.specs.Kinds.{ident_at}
+use Rattle.c_tree.specs.StmtTree.{TypeTree, Statements}
+use Rattle.c_tree.specs.ItemTree.{ParameterTree, FunctionTree, ItemTree}
+use Rattle.c_tree.specs.ItemTree as tree
+use Rattle.c_tree.specs.Program.{Program, tree_of}
+use Rattle.c_tree.specs.ItemSpelling.{SpellsParameters, parameters_last, parameters_more, Signature}
+use Rattle.c_tree.specs.ItemSpelling.{signature_none, signature_void, signature_some, ResultType}
+use Rattle.c_tree.specs.ItemSpelling.{result_void, result_some, SpellsFunction, function}
+use Rattle.c_tree.specs.ItemSpelling.{SpellsItem, struct_def, root_decl, transaction}
+use Rattle.c_tree.specs.ItemSpelling.{plain_function, SpellsItems, items_end, items_more}
+use Rattle.c_tree.specs.ItemSpelling.{SpellsField, SpellsFields, fields_end, fields_more, single}
+use Rattle.c_tree.specs.ItemSpelling.{array}
 use Rattle.c_types.specs.Tables.{Tables, tables_of, function_trees}
 use Rattle.lower.specs.Assigned.{is_assigned}
 use Rattle.lower.specs.Program.{parameters_end, lowered_function, lowered}

@@ -1,22 +1,28 @@
 -- The length of the code of statements and of functions: it goes from its beginning to its end.
-use Rattle.std.proofs.Common.{◌≡◌, ℕ, suc, ◌+◌, ℤ, pos, List, [], ◌∷◌, length, Bool, true, false, arith}
+use Rattle.std.proofs.Common.{◌≡◌, ℕ, suc, ◌+◌, ℤ, pos, List, [], ◌∷◌, length, Bool, true, false}
+use Rattle.std.proofs.Common.{arith}
 use Rattle.std.specs.Prelude.{Option, None, Some, if◌then◌else◌}
 use Rattle.nvm_base.specs.declared.op.BinOp.{BinOp}
 use Rattle.nvm_base.specs.declared.op.BinOp.TheVariants as op
-use Rattle.c_parser.specs.declared.stmt.AssignOp.TheVariants as assign
-use Rattle.c_parser.specs.ExprTree as expr
-use Rattle.c_parser.specs.ExprTree.{ExprTree, Ident}
-use Rattle.c_parser.specs.StmtTree as stmt
-use Rattle.c_parser.specs.StmtTree.{StmtTree, Statements, SimpleTree, FirstTree, InitialTree}
-use Rattle.c_parser.specs.ItemTree.{FunctionTree, ParameterTree}
-use Rattle.c_parser.specs.Program.{Program}
+use Rattle.c_tree.specs.declared.stmt.AssignOp.TheVariants as assign
+use Rattle.c_tree.specs.ExprTree as expr
+use Rattle.c_tree.specs.ExprTree.{ExprTree, Ident}
+use Rattle.c_tree.specs.StmtTree as stmt
+use Rattle.c_tree.specs.StmtTree.{StmtTree, Statements, SimpleTree, FirstTree, InitialTree}
+use Rattle.c_tree.specs.ItemTree.{FunctionTree, ParameterTree}
+use Rattle.c_tree.specs.Program.{Program}
 use Rattle.c_types.specs.Tables.{Tables}
 use Rattle.ir.specs.declared.instruction.Instruction.{Instruction}
 use Rattle.ir.specs.declared.instruction.Instruction.TheVariants.{Copy}
 use Rattle.lower.specs.Names.{Variables, inner_variables, variable_of}
 use Rattle.lower.specs.Assigned.{is_assigned}
-use Rattle.lower.specs.Lowers.{Context, exp_end, target_end, or_end, or_code, set_end, set_code, update_end, update_code, step_operation, simple_end, simple_code, initial_end, initial_code, first_end, first_code, variables_after_first, third_end, third_code, variables_after, stmt_end, stmt_code, statements_end, statements_code}
-use Rattle.lower.specs.Program.{parameters_end, parameters_code, variables_after_parameters, no_variables, function_code, context_at, lowered_function}
+use Rattle.lower.specs.Lowers.{Context, exp_end, target_end, or_end, or_code, set_end, set_code}
+use Rattle.lower.specs.Lowers.{update_end, update_code, step_operation, simple_end, simple_code}
+use Rattle.lower.specs.Lowers.{initial_end, initial_code, first_end, first_code}
+use Rattle.lower.specs.Lowers.{variables_after_first, third_end, third_code, variables_after}
+use Rattle.lower.specs.Lowers.{stmt_end, stmt_code, statements_end, statements_code}
+use Rattle.lower.specs.Program.{parameters_end, parameters_code, variables_after_parameters}
+use Rattle.lower.specs.Program.{no_variables, function_code, context_at, lowered_function}
 use Rattle.lower.specs.inside.Program.{function_end}
 use Rattle.size_law.proofs.Lengths.{Leads, none, first, joined, one, two, exp_leads, target_leads}
 

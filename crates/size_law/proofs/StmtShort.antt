@@ -2,16 +2,25 @@
 use Rattle.std.proofs.Common.{ℕ, suc, ◌+◌, ◌*◌, ◌≤◌, List, Bool, arith}
 use Rattle.std.specs.Prelude.{Option, None, Some}
 use Rattle.c_lexer.specs.declared.token.Placed.{Placed}
-use Rattle.c_parser.specs.declared.stmt.AssignOp.{AssignOp}
-use Rattle.c_parser.specs.declared.stmt.AssignOp.TheVariants as assign
-use Rattle.c_parser.specs.ExprTree.{ExprTree, Ident}
-use Rattle.c_parser.specs.StmtTree.{TypeTree, DeclarationTree, SimpleTree, FirstTree, StmtTree, Statements}
-use Rattle.c_parser.specs.StmtTree as tree
-use Rattle.c_parser.specs.StmtSpelling.{Typed, int, pointer, Declares, plain, initial, Bracketed, bracketed, Acts, assigns, steps, Simply, acts, calls, frees, aborts, FirstPart, first_none, first_declares, first_simply, ValuePart, value_none, value_some, ThirdPart, third_none, third_some, Spells, empty, declares, simply, block, if_alone, if_else, repeats, counts, breaks, continues, returns, SpellsAll, nothing, something}
+use Rattle.c_tree.specs.declared.stmt.AssignOp.{AssignOp}
+use Rattle.c_tree.specs.declared.stmt.AssignOp.TheVariants as assign
+use Rattle.c_tree.specs.ExprTree.{ExprTree, Ident}
+use Rattle.c_tree.specs.StmtTree.{TypeTree, DeclarationTree, SimpleTree, FirstTree, StmtTree}
+use Rattle.c_tree.specs.StmtTree.{Statements}
+use Rattle.c_tree.specs.StmtTree as tree
+use Rattle.c_tree.specs.StmtSpelling.{Typed, int, pointer, Declares, plain, initial, Bracketed}
+use Rattle.c_tree.specs.StmtSpelling.{bracketed, Acts, assigns, steps, Simply, acts, calls, frees}
+use Rattle.c_tree.specs.StmtSpelling.{aborts, FirstPart, first_none, first_declares, first_simply}
+use Rattle.c_tree.specs.StmtSpelling.{ValuePart, value_none, value_some, ThirdPart, third_none}
+use Rattle.c_tree.specs.StmtSpelling.{third_some, Spells, empty, declares, simply, block, if_alone}
+use Rattle.c_tree.specs.StmtSpelling.{if_else, repeats, counts, breaks, continues, returns}
+use Rattle.c_tree.specs.StmtSpelling.{SpellsAll, nothing, something}
 use Rattle.lower.specs.Names.{variable_of}
-use Rattle.lower.specs.Lowers.{exp_end, target_end, or_end, set_end, update_end, simple_end, initial_end, first_end, third_end, stmt_end, statements_end}
+use Rattle.lower.specs.Lowers.{exp_end, target_end, or_end, set_end, update_end, simple_end}
+use Rattle.lower.specs.Lowers.{initial_end, first_end, third_end, stmt_end, statements_end}
 use Rattle.lower.proofs.Ends.{exp_end_le}
-use Rattle.size_law.proofs.ExprShort.{Short, Shorter, target_end_small, level_short, postfix_short, arguments_short}
+use Rattle.size_law.proofs.ExprShort.{Short, Shorter, target_end_small, level_short, postfix_short}
+use Rattle.size_law.proofs.ExprShort.{arguments_short}
 
 pub typed_grows : {ts : List Placed} {i j : ℕ} {t : TypeTree} → Typed ts i j t → i + 1 ≤ j
 typed_grows (int is) = omega arith

@@ -3,8 +3,8 @@
 -- end of the text is not one of them.
 use Rattle.std.specs.Prelude.{◌≡◌, ◌≤◌, ◌+◌, ◌*◌, List, map, length}
 use Rattle.c_lexer.specs.declared.token.Placed.{Placed}
-use Rattle.c_parser.specs.ItemSpelling.{SpellsProgram}
-use Rattle.c_parser.specs.Program.{Program, tree_of}
+use Rattle.c_tree.specs.ItemSpelling.{SpellsProgram}
+use Rattle.c_tree.specs.Program.{Program, tree_of}
 use Rattle.lower.specs.Program.{lowered}
 use Rattle.code_meaning.specs.Whole.{whole}
 

@@ -1,9 +1,9 @@
 //! The text of a tree: brackets stand round every node of an operator, and bodies between `<` and `>`.
 
-use c_parser::Ast;
-use c_parser::expr::{Argument, BinaryOp, Expr, UnaryOp};
-use c_parser::item::Item;
-use c_parser::stmt::{AssignOp, Declaration, First, Simple, StepOp, Stmt, TypeName};
+use c_tree::Ast;
+use c_tree::expr::{Argument, BinaryOp, Expr, UnaryOp};
+use c_tree::item::Item;
+use c_tree::stmt::{AssignOp, Declaration, First, Simple, StepOp, Stmt, TypeName};
 use std::alloc::{AllocError, Global};
 
 fn sign(op: BinaryOp) -> &'static str {

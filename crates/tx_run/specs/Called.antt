@@ -13,7 +13,8 @@ use Rattle.pm_machine.specs.declared.image.Image.{Image}
 use Rattle.pm_machine.specs.Machine.{start}
 use Rattle.pm_machine.specs.Runs.{Due, end_of}
 use Rattle.tx_run.specs.declared.answer.CallAnswer.{CallAnswer}
-use Rattle.tx_run.specs.declared.answer.CallAnswer.TheVariants.{Done, Trap, Off, Failed, Unusable, Numbers, NoMemory}
+use Rattle.tx_run.specs.declared.answer.CallAnswer.TheVariants.{Done, Trap, Off, Failed, Unusable}
+use Rattle.tx_run.specs.declared.answer.CallAnswer.TheVariants.{Numbers, NoMemory}
 use Rattle.cache_model.specs.Event.{CacheEvent}
 use Rattle.cache_model.specs.Cache.{view}
 use Rattle.pool_map.specs.declared.trap.TrapKind.{TrapKind}

@@ -1,11 +1,13 @@
 -- An expression that breaks no rule has a type, and it is the one that the check finds.
-use Rattle.std.proofs.Common.{◌≡◌, ℕ, suc, ◌+◌, Bool, true, false, List, [], ◌∷◌, ◌++◌, length, refl, sym, ap, ◌∙◌, arith}
-use Rattle.std.specs.Prelude.{◌&&◌, ◌||◌, not, nat_eq, is_some, unwrap_or, slice_get, Option, None, Some}
+use Rattle.std.proofs.Common.{◌≡◌, ℕ, suc, ◌+◌, Bool, true, false, List, [], ◌∷◌, ◌++◌, length}
+use Rattle.std.proofs.Common.{refl, sym, ap, ◌∙◌, arith}
+use Rattle.std.specs.Prelude.{◌&&◌, ◌||◌, not, nat_eq, is_some, unwrap_or, slice_get, Option, None}
+use Rattle.std.specs.Prelude.{Some}
 use Rattle.std.specs.Option.{option_map_or}
-use Rattle.c_parser.specs.ExprTree.{ExprTree, Arguments, Ident}
-use Rattle.c_parser.specs.ExprTree as expr
-use Rattle.c_parser.specs.StmtTree.{TypeTree}
-use Rattle.c_parser.specs.ItemTree.{FunctionTree, ParameterTree}
+use Rattle.c_tree.specs.ExprTree.{ExprTree, Arguments, Ident}
+use Rattle.c_tree.specs.ExprTree as expr
+use Rattle.c_tree.specs.StmtTree.{TypeTree}
+use Rattle.c_tree.specs.ItemTree.{FunctionTree, ParameterTree}
 use Rattle.c_types.specs.declared.value_type.ValueType.{ValueType}
 use Rattle.c_types.specs.declared.value_type.ValueType.TheVariants.{Int, Any}
 use Rattle.c_types.specs.declared.value_type.Kind.{Kind}
@@ -15,13 +17,21 @@ use Rattle.c_types.specs.declared.broken.Rule.TheVariants.{UnknownName, Mismatch
 use Rattle.c_types.specs.Broken.{broken_at, unless}
 use Rattle.c_types.specs.Fits.{is_any, is_int, type_takes, joins_types, applies}
 use Rattle.c_types.specs.Tables.{Tables, function_named, root_struct, declared_type}
-use Rattle.c_types.specs.Expressions.{Scope, variable_type, type_of_kind, member, member_kind, with_unindexed, arrow_kind, arrow_broken, is_indexed, element_of, type_if, call_broken, call_type, result_type, parameters_of, parameter_type, argument_count, kind_of, all_taken, type_of, broken_in, broken_in_all, value_broken}
-use Rattle.typed_law.specs.Types.{StaticType, Number, PointerTo, NullPointer, value_type, IsWritten, HasValueField, HasArray}
+use Rattle.c_types.specs.Expressions.{Scope, variable_type, type_of_kind, member, member_kind}
+use Rattle.c_types.specs.Expressions.{with_unindexed, arrow_kind, arrow_broken, is_indexed}
+use Rattle.c_types.specs.Expressions.{element_of, type_if, call_broken, call_type, result_type}
+use Rattle.c_types.specs.Expressions.{parameters_of, parameter_type, argument_count, kind_of}
+use Rattle.c_types.specs.Expressions.{all_taken, type_of, broken_in, broken_in_all, value_broken}
+use Rattle.typed_law.specs.Types.{StaticType, Number, PointerTo, NullPointer, value_type, IsWritten}
+use Rattle.typed_law.specs.Types.{HasValueField, HasArray}
 use Rattle.typed_law.specs.Expressions.{HasType, IsArray, ArePassed, IsTyped, IsTypedCall}
 use Rattle.typed_law.specs.Programs.{IsResult}
-use Rattle.typed_law.proofs.Broken.{none_left, none_right, some_none, holds, false_true, and_left, and_right, not_true, same_from, some_of}
-use Rattle.typed_law.proofs.Fitting.{no_any, number_only, applied_answer, joined_answer, taken_answer, pointer_written, pointer_is, declared_is}
-use Rattle.typed_law.proofs.Known.{AreKnown, variable_known, AreWritten, IsReady, function_at, Means, member_means}
+use Rattle.typed_law.proofs.Broken.{none_left, none_right, some_none, holds, false_true, and_left}
+use Rattle.typed_law.proofs.Broken.{and_right, not_true, same_from, some_of}
+use Rattle.typed_law.proofs.Fitting.{no_any, number_only, applied_answer, joined_answer}
+use Rattle.typed_law.proofs.Fitting.{taken_answer, pointer_written, pointer_is, declared_is}
+use Rattle.typed_law.proofs.Known.{AreKnown, variable_known, AreWritten, IsReady, function_at}
+use Rattle.typed_law.proofs.Known.{Means, member_means}
 
 value_means : (F A : StaticType → Type 0) (k : Kind) (b : List Broken) → Means F A k
     → with_unindexed b k ≡ [] → (x : StaticType) × (type_of_kind k ≡ value_type x) × F x

@@ -2,23 +2,26 @@
 use Rattle.std.proofs.Common.{◌≡◌, ℕ, ◌⊎◌, ⊎_elim, inl, inr, true, false, List, [], refl, sym, ap}
 use Rattle.std.specs.Prelude.{◌&&◌, nat_le, Option, None, Some}
 use Rattle.std.specs.Option.{option_map_or}
-use Rattle.c_parser.specs.declared.expr.UnaryOp.{UnaryOp}
-use Rattle.c_parser.specs.declared.expr.UnaryOp.TheVariants as unary
-use Rattle.c_parser.specs.declared.expr.BinaryOp.{BinaryOp}
-use Rattle.c_parser.specs.declared.expr.BinaryOp.TheVariants as binary
-use Rattle.c_parser.specs.ExprTree.{Ident}
-use Rattle.c_parser.specs.StmtTree.{TypeTree}
-use Rattle.c_parser.specs.StmtTree as stmt
+use Rattle.c_tree.specs.declared.expr.UnaryOp.{UnaryOp}
+use Rattle.c_tree.specs.declared.expr.UnaryOp.TheVariants as unary
+use Rattle.c_tree.specs.declared.expr.BinaryOp.{BinaryOp}
+use Rattle.c_tree.specs.declared.expr.BinaryOp.TheVariants as binary
+use Rattle.c_tree.specs.ExprTree.{Ident}
+use Rattle.c_tree.specs.StmtTree.{TypeTree}
+use Rattle.c_tree.specs.StmtTree as stmt
 use Rattle.c_types.specs.declared.value_type.ValueType.{ValueType}
 use Rattle.c_types.specs.declared.broken.Rule.TheVariants.{UnknownName, TooBig}
 use Rattle.c_types.specs.declared.fault.LimitKind.TheVariants as limit
 use Rattle.c_types.specs.Broken.{broken_at, unless}
-use Rattle.c_types.specs.Fits.{is_any, is_int, is_pointer, is_null, is_pointer_to, type_takes, comparable, joins_types, applies}
+use Rattle.c_types.specs.Fits.{is_any, is_int, is_pointer, is_null, is_pointer_to, type_takes}
+use Rattle.c_types.specs.Fits.{comparable, joins_types, applies}
 use Rattle.c_types.specs.Tables.{Tables, struct_named, words_at, pointer_type, declared_type}
 use Rattle.c_types.specs.Expressions.{pointer_broken}
 use Rattle.c_types.specs.Statements.{type_broken}
-use Rattle.typed_law.specs.Types.{StaticType, Number, PointerTo, NullPointer, value_type, IsPointer, IsWritten, Applies, Compares, Joins, AcceptsType}
-use Rattle.typed_law.proofs.Broken.{some_none, holds, false_true, and_left, and_right, le_from, le_true, same_from, same_true}
+use Rattle.typed_law.specs.Types.{StaticType, Number, PointerTo, NullPointer, value_type, IsPointer}
+use Rattle.typed_law.specs.Types.{IsWritten, Applies, Compares, Joins, AcceptsType}
+use Rattle.typed_law.proofs.Broken.{some_none, holds, false_true, and_left, and_right, le_from}
+use Rattle.typed_law.proofs.Broken.{le_true, same_from, same_true}
 
 pub no_any : (x : StaticType) → is_any (value_type x) ≡ false
 no_any Number = refl

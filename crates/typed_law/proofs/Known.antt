@@ -1,16 +1,20 @@
 -- Scopes whose names have types, and what the tables of a program that breaks no rule give.
 use Rattle.std.proofs.Common.{◌≡◌, ℕ, zero, suc, true, false, List, [], ◌∷◌, ◌++◌, refl, sym, ◌∙◌}
-use Rattle.std.specs.Prelude.{if◌then◌else◌, ◌||◌, not, is_some, slice_get, Option, None, Some, option_and_then}
+use Rattle.std.specs.Prelude.{if◌then◌else◌, ◌||◌, not, is_some, slice_get, Option, None, Some}
+use Rattle.std.specs.Prelude.{option_and_then}
 use Rattle.std.specs.Option.{option_map_or}
-use Rattle.c_parser.specs.ExprTree.{Ident}
-use Rattle.c_parser.specs.ItemTree.{FieldTree, FunctionTree, LengthTree, ParameterTree}
+use Rattle.c_tree.specs.ExprTree.{Ident}
+use Rattle.c_tree.specs.ItemTree.{FieldTree, FunctionTree, LengthTree, ParameterTree}
 use Rattle.c_types.specs.declared.value_type.ValueType.{ValueType}
 use Rattle.c_types.specs.declared.value_type.ValueType.TheVariants.{Any}
 use Rattle.c_types.specs.declared.value_type.Kind.{Kind}
 use Rattle.c_types.specs.declared.value_type.Kind.TheVariants.{Value, Array}
 use Rattle.c_types.specs.Fits.{is_any}
-use Rattle.c_types.specs.Tables.{Tables, StructTree, index_of, field_named, field_names, function_named, function_names, root_struct, is_length, declared_type}
-use Rattle.c_types.specs.Expressions.{Scope, or_else, type_in, variable_type, field_kind, member, member_kind}
+use Rattle.c_types.specs.Tables.{Tables, StructTree, index_of, field_named, field_names}
+use Rattle.c_types.specs.Tables.{function_named, function_names, root_struct, is_length}
+use Rattle.c_types.specs.Tables.{declared_type}
+use Rattle.c_types.specs.Expressions.{Scope, or_else, type_in, variable_type, field_kind, member}
+use Rattle.c_types.specs.Expressions.{member_kind}
 use Rattle.c_types.specs.Statements.{inner_scopes, scope_declared}
 use Rattle.typed_law.specs.Types.{StaticType, value_type, IsWritten, HasValueField, HasArray}
 use Rattle.typed_law.specs.Programs.{IsLength, IsField, IsResult}

@@ -1,24 +1,35 @@
 -- A program that breaks no rule is well typed.
-use Rattle.std.proofs.Common.{◌≡◌, ℕ, zero, suc, ◌+◌, ◌≤◌, ◌<◌, Bool, true, false, List, [], ◌∷◌, length, refl, sym, ap, arith}
+use Rattle.std.proofs.Common.{◌≡◌, ℕ, zero, suc, ◌+◌, ◌≤◌, ◌<◌, Bool, true, false, List, [], ◌∷◌}
+use Rattle.std.proofs.Common.{length, refl, sym, ap, arith}
 use Rattle.std.specs.Prelude.{◌||◌, not, nat_le, nat_eq, is_some, slice_get, Option, None, Some}
 use Rattle.std.specs.Option.{option_map_or}
 use Rattle.std.proofs.lemmas.Bool.Decides.{nat_tests}
-use Rattle.c_parser.specs.StmtTree.{TypeTree}
-use Rattle.c_parser.specs.StmtTree as stmt
-use Rattle.c_parser.specs.ItemTree.{FieldTree, FunctionTree, LengthTree, ParameterTree}
-use Rattle.c_parser.specs.Program.{Program, tree_of}
-use Rattle.c_types.specs.declared.broken.Rule.TheVariants.{UnknownName, Twice, TooBig, NoRoot, BadTx}
+use Rattle.c_tree.specs.StmtTree.{TypeTree}
+use Rattle.c_tree.specs.StmtTree as stmt
+use Rattle.c_tree.specs.ItemTree.{FieldTree, FunctionTree, LengthTree, ParameterTree}
+use Rattle.c_tree.specs.Program.{Program, tree_of}
+use Rattle.c_types.specs.declared.broken.Rule.TheVariants.{UnknownName, Twice, TooBig, NoRoot}
+use Rattle.c_types.specs.declared.broken.Rule.TheVariants.{BadTx}
 use Rattle.c_types.specs.declared.fault.LimitKind.TheVariants as limit
 use Rattle.c_types.specs.Broken.{unless}
 use Rattle.c_types.specs.Fits.{is_int}
-use Rattle.c_types.specs.Tables.{Tables, StructTree, RootTree, tables_of, index_of, is_first, field_names, function_names, struct_named, root_struct, words_of_struct, is_length, declared_type}
+use Rattle.c_types.specs.Tables.{Tables, StructTree, RootTree, tables_of, index_of, is_first}
+use Rattle.c_types.specs.Tables.{field_names, function_names, struct_named, root_struct}
+use Rattle.c_types.specs.Tables.{words_of_struct, is_length, declared_type}
 use Rattle.c_types.specs.Expressions.{Scope}
 use Rattle.c_types.specs.Statements.{inner_scopes, is_declared, type_broken}
-use Rattle.c_types.specs.Declarations.{length_broken, field_broken, fields_broken, struct_broken, whole_struct_broken, structs_broken, root_item_broken, roots_broken, parameter_broken, parameters_broken, scopes_after_parameter, scopes_after_parameters, all_ints, is_transaction, function_broken, body_broken, whole_function_broken, functions_broken}
+use Rattle.c_types.specs.Declarations.{length_broken, field_broken, fields_broken, struct_broken}
+use Rattle.c_types.specs.Declarations.{whole_struct_broken, structs_broken, root_item_broken}
+use Rattle.c_types.specs.Declarations.{roots_broken, parameter_broken, parameters_broken}
+use Rattle.c_types.specs.Declarations.{scopes_after_parameter, scopes_after_parameters, all_ints}
+use Rattle.c_types.specs.Declarations.{is_transaction, function_broken, body_broken}
+use Rattle.c_types.specs.Declarations.{whole_function_broken, functions_broken}
 use Rattle.c_types.specs.Fault.{breaks}
 use Rattle.typed_law.specs.Types.{StaticType, IsWritten}
-use Rattle.typed_law.specs.Programs.{IsLength, IsField, IsStruct, AreParameters, AreInts, IsResult, IsTypedFunction, IsWellTyped}
-use Rattle.typed_law.proofs.Broken.{none_left, none_right, some_none, holds, false_true, and_left, and_right, not_true, le_from, same_from, same_true, some_of}
+use Rattle.typed_law.specs.Programs.{IsLength, IsField, IsStruct, AreParameters, AreInts, IsResult}
+use Rattle.typed_law.specs.Programs.{IsTypedFunction, IsWellTyped}
+use Rattle.typed_law.proofs.Broken.{none_left, none_right, some_none, holds, false_true, and_left}
+use Rattle.typed_law.proofs.Broken.{and_right, not_true, le_from, same_from, same_true, some_of}
 use Rattle.typed_law.proofs.Fitting.{type_written, declared_is}
 use Rattle.typed_law.proofs.Known.{AreKnown, known_inside, known_declared, AreWritten, IsReady}
 use Rattle.typed_law.proofs.Statements.{statements_are}

@@ -2,25 +2,33 @@
 use Rattle.std.proofs.Common.{◌≡◌, ℕ, true, false, List, []}
 use Rattle.std.specs.Prelude.{not, Option, None, Some, option_map}
 use Rattle.std.specs.Option.{option_map_or}
-use Rattle.c_parser.specs.ExprTree.{ExprTree}
-use Rattle.c_parser.specs.ExprTree as expr
-use Rattle.c_parser.specs.StmtTree.{StmtTree, Statements, SimpleTree, FirstTree, TypeTree, InitialTree, DeclarationTree}
-use Rattle.c_parser.specs.StmtTree as stmt
-use Rattle.c_parser.specs.declared.stmt.AssignOp.{AssignOp}
-use Rattle.c_parser.specs.declared.stmt.AssignOp.TheVariants as assign
+use Rattle.c_tree.specs.ExprTree.{ExprTree}
+use Rattle.c_tree.specs.ExprTree as expr
+use Rattle.c_tree.specs.StmtTree.{StmtTree, Statements, SimpleTree, FirstTree, TypeTree}
+use Rattle.c_tree.specs.StmtTree.{InitialTree, DeclarationTree}
+use Rattle.c_tree.specs.StmtTree as stmt
+use Rattle.c_tree.specs.declared.stmt.AssignOp.{AssignOp}
+use Rattle.c_tree.specs.declared.stmt.AssignOp.TheVariants as assign
 use Rattle.c_types.specs.declared.value_type.ValueType.{ValueType}
 use Rattle.c_types.specs.declared.broken.Rule.TheVariants.{Twice, Mismatch, NotAssignable}
 use Rattle.c_types.specs.Broken.{unless}
 use Rattle.c_types.specs.Fits.{is_int, is_pointer, type_takes, assigns}
 use Rattle.c_types.specs.Tables.{Tables, declared_type}
 use Rattle.c_types.specs.Expressions.{Scope, type_of, value_broken}
-use Rattle.c_types.specs.Statements.{inner_scopes, is_declared, is_target, scopes_after, scopes_after_first, scopes_after_declaration, type_broken, simple_broken, initial_broken, declaration_broken, first_broken, return_broken, statement_broken, statements_broken}
+use Rattle.c_types.specs.Statements.{inner_scopes, is_declared, is_target, scopes_after}
+use Rattle.c_types.specs.Statements.{scopes_after_first, scopes_after_declaration, type_broken}
+use Rattle.c_types.specs.Statements.{simple_broken, initial_broken, declaration_broken}
+use Rattle.c_types.specs.Statements.{first_broken, return_broken, statement_broken}
+use Rattle.c_types.specs.Statements.{statements_broken}
 use Rattle.typed_law.specs.Types.{StaticType, Number, PointerTo, value_type}
 use Rattle.typed_law.specs.Expressions.{HasType}
-use Rattle.typed_law.specs.Statements.{IsAssignable, IsAssigned, IsSimple, IsInitial, IsDeclared, IsFirst, IsCondition, IsThird, IsReturned, IsStatement, AreStatements}
+use Rattle.typed_law.specs.Statements.{IsAssignable, IsAssigned, IsSimple, IsInitial, IsDeclared}
+use Rattle.typed_law.specs.Statements.{IsFirst, IsCondition, IsThird, IsReturned, IsStatement}
+use Rattle.typed_law.specs.Statements.{AreStatements}
 use Rattle.typed_law.specs.Programs.{IsResult}
 use Rattle.typed_law.proofs.Broken.{none_left, none_right, holds, false_true, not_true}
-use Rattle.typed_law.proofs.Fitting.{number_only, numbers_only, pointer_only, taken, taken_answer, type_written, declared_is}
+use Rattle.typed_law.proofs.Fitting.{number_only, numbers_only, pointer_only, taken, taken_answer}
+use Rattle.typed_law.proofs.Fitting.{type_written, declared_is}
 use Rattle.typed_law.proofs.Known.{AreKnown, known_inside, known_declared, IsReady}
 use Rattle.typed_law.proofs.Expressions.{value_is, call_is, typed_is}
 

@@ -1,19 +1,24 @@
 -- An expression that has a type breaks no rule, and the check finds that type.
-use Rattle.std.proofs.Common.{◌≡◌, ℕ, suc, ◌+◌, Bool, true, false, List, [], ◌∷◌, ◌++◌, length, refl, ap, ◌∙◌}
+use Rattle.std.proofs.Common.{◌≡◌, ℕ, suc, ◌+◌, Bool, true, false, List, [], ◌∷◌, ◌++◌, length}
+use Rattle.std.proofs.Common.{refl, ap, ◌∙◌}
 use Rattle.std.specs.Prelude.{◌||◌, not, nat_eq, is_some, Some}
-use Rattle.c_parser.specs.ExprTree.{ExprTree, Arguments, Ident}
-use Rattle.c_parser.specs.ExprTree as expr
-use Rattle.c_parser.specs.ItemTree.{FunctionTree, ParameterTree}
+use Rattle.c_tree.specs.ExprTree.{ExprTree, Arguments, Ident}
+use Rattle.c_tree.specs.ExprTree as expr
+use Rattle.c_tree.specs.ItemTree.{FunctionTree, ParameterTree}
 use Rattle.c_types.specs.declared.value_type.Kind.TheVariants.{Value, Array}
 use Rattle.c_types.specs.declared.broken.Rule.TheVariants.{UnknownName, Mismatch, Arity, BadTx}
 use Rattle.c_types.specs.Broken.{unless}
 use Rattle.c_types.specs.Fits.{type_takes, joins_types, applies}
 use Rattle.c_types.specs.Tables.{Tables, function_named, declared_type}
-use Rattle.c_types.specs.Expressions.{Scope, member, member_kind, callee_broken, call_broken, parameters_of, parameter_type, argument_count, kind_of, all_taken, type_of, broken_in, broken_in_all, value_broken}
-use Rattle.typed_law.specs.Types.{StaticType, Number, PointerTo, value_type, HasValueField, HasArray}
+use Rattle.c_types.specs.Expressions.{Scope, member, member_kind, callee_broken, call_broken}
+use Rattle.c_types.specs.Expressions.{parameters_of, parameter_type, argument_count, kind_of}
+use Rattle.c_types.specs.Expressions.{all_taken, type_of, broken_in, broken_in_all, value_broken}
+use Rattle.typed_law.specs.Types.{StaticType, Number, PointerTo, value_type, HasValueField}
+use Rattle.typed_law.specs.Types.{HasArray}
 use Rattle.typed_law.specs.Expressions.{HasType, IsArray, ArePassed, IsTypedCall}
 use Rattle.typed_law.proofs.Broken.{none_both, kept, not_false, same_true}
-use Rattle.typed_law.proofs.Fitting.{no_any, applied_fits, joined_fits, taken_fits, pointer_is, pointer_kept, declared_is}
+use Rattle.typed_law.proofs.Fitting.{no_any, applied_fits, joined_fits, taken_fits, pointer_is}
+use Rattle.typed_law.proofs.Fitting.{pointer_kept, declared_is}
 use Rattle.typed_law.proofs.Expressions.{IsRest, whole_rest, next_rest, rest_type}
 
 -- a field that is there

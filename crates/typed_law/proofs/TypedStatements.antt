@@ -2,22 +2,28 @@
 use Rattle.std.proofs.Common.{◌≡◌, ℕ, true, List, [], refl}
 use Rattle.std.specs.Prelude.{not, Option, None, Some, option_map}
 use Rattle.std.specs.Option.{option_map_or}
-use Rattle.c_parser.specs.ExprTree.{ExprTree}
-use Rattle.c_parser.specs.ExprTree as expr
-use Rattle.c_parser.specs.StmtTree.{StmtTree, Statements, SimpleTree, FirstTree, TypeTree, InitialTree, DeclarationTree}
-use Rattle.c_parser.specs.StmtTree as stmt
-use Rattle.c_parser.specs.declared.stmt.AssignOp.{AssignOp}
-use Rattle.c_parser.specs.declared.stmt.AssignOp.TheVariants as assign
+use Rattle.c_tree.specs.ExprTree.{ExprTree}
+use Rattle.c_tree.specs.ExprTree as expr
+use Rattle.c_tree.specs.StmtTree.{StmtTree, Statements, SimpleTree, FirstTree, TypeTree}
+use Rattle.c_tree.specs.StmtTree.{InitialTree, DeclarationTree}
+use Rattle.c_tree.specs.StmtTree as stmt
+use Rattle.c_tree.specs.declared.stmt.AssignOp.{AssignOp}
+use Rattle.c_tree.specs.declared.stmt.AssignOp.TheVariants as assign
 use Rattle.c_types.specs.declared.value_type.ValueType.{ValueType}
 use Rattle.c_types.specs.declared.broken.Rule.TheVariants.{Twice, Mismatch, NotAssignable}
 use Rattle.c_types.specs.Broken.{unless}
 use Rattle.c_types.specs.Fits.{is_int, is_pointer, type_takes, assigns}
 use Rattle.c_types.specs.Tables.{Tables, declared_type}
 use Rattle.c_types.specs.Expressions.{Scope, type_of, value_broken}
-use Rattle.c_types.specs.Statements.{inner_scopes, is_declared, is_target, is_field, scopes_after, scopes_after_first, type_broken, simple_broken, initial_broken, declaration_broken, first_broken, return_broken, statement_broken, statements_broken}
+use Rattle.c_types.specs.Statements.{inner_scopes, is_declared, is_target, is_field, scopes_after}
+use Rattle.c_types.specs.Statements.{scopes_after_first, type_broken, simple_broken, initial_broken}
+use Rattle.c_types.specs.Statements.{declaration_broken, first_broken, return_broken}
+use Rattle.c_types.specs.Statements.{statement_broken, statements_broken}
 use Rattle.typed_law.specs.Types.{StaticType, Number, PointerTo, value_type}
 use Rattle.typed_law.specs.Expressions.{HasType, IsArray}
-use Rattle.typed_law.specs.Statements.{IsAssignable, IsAssigned, IsSimple, IsInitial, IsDeclared, IsFirst, IsCondition, IsThird, IsReturned, IsStatement, AreStatements}
+use Rattle.typed_law.specs.Statements.{IsAssignable, IsAssigned, IsSimple, IsInitial, IsDeclared}
+use Rattle.typed_law.specs.Statements.{IsFirst, IsCondition, IsThird, IsReturned, IsStatement}
+use Rattle.typed_law.specs.Statements.{AreStatements}
 use Rattle.typed_law.proofs.Broken.{none_both, kept, not_false}
 use Rattle.typed_law.proofs.Fitting.{numbers_fit, taken_fits, written_kept, declared_is}
 use Rattle.typed_law.proofs.TypedExpressions.{typed_is, value_kept, called_kept}

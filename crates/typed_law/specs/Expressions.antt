@@ -1,13 +1,14 @@
 -- The types that expressions have, as rules: an expression has a type where its parts have types
 -- that fit. One that breaks a typing rule has none.
 use Rattle.std.specs.Prelude.{ℕ, ◌≡◌, List, [], ◌∷◌, Some, false}
-use Rattle.c_parser.specs.ExprTree.{ExprTree, Arguments, Ident}
-use Rattle.c_parser.specs.ExprTree as expr
-use Rattle.c_parser.specs.StmtTree.{TypeTree}
-use Rattle.c_parser.specs.ItemTree.{FunctionTree, ParameterTree}
+use Rattle.c_tree.specs.ExprTree.{ExprTree, Arguments, Ident}
+use Rattle.c_tree.specs.ExprTree as expr
+use Rattle.c_tree.specs.StmtTree.{TypeTree}
+use Rattle.c_tree.specs.ItemTree.{FunctionTree, ParameterTree}
 use Rattle.c_types.specs.Tables.{Tables, function_named, root_struct}
 use Rattle.c_types.specs.Expressions.{Scope, variable_type}
-use Rattle.typed_law.specs.Types.{StaticType, Number, PointerTo, NullPointer, value_type, IsPointer, IsWritten, HasValueField, HasArray, Applies, Joins, AcceptsType}
+use Rattle.typed_law.specs.Types.{StaticType, Number, PointerTo, NullPointer, value_type, IsPointer}
+use Rattle.typed_law.specs.Types.{IsWritten, HasValueField, HasArray, Applies, Joins, AcceptsType}
 
 abbrev mutual
   pub HasType : Tables → List Scope → ExprTree → StaticType → Type 0

@@ -1,8 +1,8 @@
 -- The law of typing: a tree breaks no typing rule exactly where it is well typed. And what an
 -- expression denotes, by which a program's meaning finds fields, is the type that it has.
 use Rattle.std.specs.Prelude.{◌≡◌, List, []}
-use Rattle.c_parser.specs.ExprTree.{ExprTree}
-use Rattle.c_parser.specs.Program.{Program, tree_of}
+use Rattle.c_tree.specs.ExprTree.{ExprTree}
+use Rattle.c_tree.specs.Program.{Program, tree_of}
 use Rattle.c_types.specs.Tables.{Tables, tables_of}
 use Rattle.c_types.specs.Expressions.{Scope, type_of}
 use Rattle.c_types.specs.Fault.{breaks}

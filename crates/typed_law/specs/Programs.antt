@@ -1,9 +1,12 @@
 -- Programs that are well typed, as rules, row by row of the table of typing rules.
-use Rattle.std.specs.Prelude.{ℕ, ◌≡◌, ◌+◌, ◌<◌, ◌≤◌, List, [], ◌∷◌, Option, None, Some, true, false, slice_get}
-use Rattle.c_parser.specs.StmtTree.{TypeTree}
-use Rattle.c_parser.specs.StmtTree as stmt
-use Rattle.c_parser.specs.ItemTree.{FieldTree, FunctionTree, LengthTree, ParameterTree}
-use Rattle.c_types.specs.Tables.{Tables, StructTree, RootTree, index_of, field_names, function_names, struct_named, root_struct, words_of_struct, is_length}
+use Rattle.std.specs.Prelude.{ℕ, ◌≡◌, ◌+◌, ◌<◌, ◌≤◌, List, [], ◌∷◌, Option, None, Some, true, false}
+use Rattle.std.specs.Prelude.{slice_get}
+use Rattle.c_tree.specs.StmtTree.{TypeTree}
+use Rattle.c_tree.specs.StmtTree as stmt
+use Rattle.c_tree.specs.ItemTree.{FieldTree, FunctionTree, LengthTree, ParameterTree}
+use Rattle.c_types.specs.Tables.{Tables, StructTree, RootTree, index_of, field_names}
+use Rattle.c_types.specs.Tables.{function_names, struct_named, root_struct, words_of_struct}
+use Rattle.c_types.specs.Tables.{is_length}
 use Rattle.c_types.specs.Expressions.{Scope}
 use Rattle.c_types.specs.Statements.{inner_scopes, is_declared}
 use Rattle.c_types.specs.Declarations.{scopes_after_parameter, scopes_after_parameters}

@@ -2,12 +2,13 @@
 -- The scopes after a statement are those of c_types: a declaration adds its name to the innermost.
 use Rattle.std.specs.Prelude.{ℕ, ◌≡◌, List, Option, None, Some, false}
 use Rattle.std.specs.Option.{option_map_or}
-use Rattle.c_parser.specs.ExprTree.{ExprTree}
-use Rattle.c_parser.specs.ExprTree as expr
-use Rattle.c_parser.specs.StmtTree.{StmtTree, Statements, SimpleTree, FirstTree, TypeTree, InitialTree, DeclarationTree}
-use Rattle.c_parser.specs.StmtTree as stmt
-use Rattle.c_parser.specs.declared.stmt.AssignOp.{AssignOp}
-use Rattle.c_parser.specs.declared.stmt.AssignOp.TheVariants as assign
+use Rattle.c_tree.specs.ExprTree.{ExprTree}
+use Rattle.c_tree.specs.ExprTree as expr
+use Rattle.c_tree.specs.StmtTree.{StmtTree, Statements, SimpleTree, FirstTree, TypeTree}
+use Rattle.c_tree.specs.StmtTree.{InitialTree, DeclarationTree}
+use Rattle.c_tree.specs.StmtTree as stmt
+use Rattle.c_tree.specs.declared.stmt.AssignOp.{AssignOp}
+use Rattle.c_tree.specs.declared.stmt.AssignOp.TheVariants as assign
 use Rattle.c_types.specs.Tables.{Tables}
 use Rattle.c_types.specs.Expressions.{Scope}
 use Rattle.c_types.specs.Statements.{inner_scopes, is_declared, scopes_after, scopes_after_first}

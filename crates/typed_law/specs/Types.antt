@@ -2,13 +2,13 @@
 -- pointer to the struct at a place among the structs, or null; there is no other type, and none
 -- that fits everywhere.
 use Rattle.std.specs.Prelude.{ℕ, ◌≡◌, ◌≤◌, ◌⊎◌, List, None, Some, true, slice_get}
-use Rattle.c_parser.specs.declared.expr.UnaryOp.{UnaryOp}
-use Rattle.c_parser.specs.declared.expr.UnaryOp.TheVariants as unary
-use Rattle.c_parser.specs.declared.expr.BinaryOp.{BinaryOp}
-use Rattle.c_parser.specs.declared.expr.BinaryOp.TheVariants as binary
-use Rattle.c_parser.specs.StmtTree.{TypeTree}
-use Rattle.c_parser.specs.StmtTree as stmt
-use Rattle.c_parser.specs.ItemTree.{FieldTree, LengthTree}
+use Rattle.c_tree.specs.declared.expr.UnaryOp.{UnaryOp}
+use Rattle.c_tree.specs.declared.expr.UnaryOp.TheVariants as unary
+use Rattle.c_tree.specs.declared.expr.BinaryOp.{BinaryOp}
+use Rattle.c_tree.specs.declared.expr.BinaryOp.TheVariants as binary
+use Rattle.c_tree.specs.StmtTree.{TypeTree}
+use Rattle.c_tree.specs.StmtTree as stmt
+use Rattle.c_tree.specs.ItemTree.{FieldTree, LengthTree}
 use Rattle.c_types.specs.declared.value_type.ValueType.{ValueType}
 use Rattle.c_types.specs.declared.value_type.ValueType.TheVariants as answered
 use Rattle.c_types.specs.Tables.{Tables, StructTree, struct_named, field_named, words_at, is_length}

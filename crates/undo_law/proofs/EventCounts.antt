@@ -1,5 +1,6 @@
 -- The number of events of an aborted call.
-use Rattle.std.proofs.Common.{◌∙◌, Option, ◌++◌, ◌≡◌, ℕ, zero, suc, ◌+◌, ◌*◌, List, [], ◌∷◌, length, ℤ, pos, refl}
+use Rattle.std.proofs.Common.{◌∙◌, Option, ◌++◌, ◌≡◌, ℕ, zero, suc, ◌+◌, ◌*◌, List, [], ◌∷◌, length}
+use Rattle.std.proofs.Common.{ℤ, pos, refl}
 use Rattle.std.proofs.Common.{ap, arith, length-append}
 use Rattle.cache_model.specs.Event.{CacheEvent}
 use Rattle.cache_model.specs.Cache.{put}

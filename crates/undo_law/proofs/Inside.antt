@@ -1,5 +1,6 @@
 -- The records of a marked run lie in the heap.
-use Rattle.std.proofs.Common.{◌≡◌, ◌≢◌, ◌⊎◌, ⊎_elim, ℕ, suc, ◌<◌, List, [], ◌∷◌, ℤ, pos, ap, ◌∙◌, arith}
+use Rattle.std.proofs.Common.{◌≡◌, ◌≢◌, ◌⊎◌, ⊎_elim, ℕ, suc, ◌<◌, List, [], ◌∷◌, ℤ, pos, ap, ◌∙◌}
+use Rattle.std.proofs.Common.{arith}
 use Rattle.std.proofs.lemmas.Bool.{cases_eq}
 use Rattle.cache_model.specs.Cache.{put}
 use Rattle.cache_model.proofs.Versions.{put_same, put_other}
@@ -7,7 +8,8 @@ use Rattle.pool_layout.specs.declared.limits.Sizes.{Sizes}
 use Rattle.pool_layout.specs.Sizes.{heap_words}
 use Rattle.crash_law.specs.Due.{Entry, Plain, Logged, IsTrace}
 use Rattle.crash_law.proofs.Walks.{AreInHeap}
-use Rattle.undo_law.specs.Undo.{Every, IsMarkedTrace, Records, no_records, with_record, records_after}
+use Rattle.undo_law.specs.Undo.{Every, IsMarkedTrace, Records, no_records, with_record}
+use Rattle.undo_law.specs.Undo.{records_after}
 
 inside_more : (z : Sizes) (r : Records) (w : ℕ) (o : ℤ) → w < heap_words z →
     AreInHeap z r.word r.n →

@@ -1,6 +1,7 @@
 -- If the events of a list store only one value to a word that has it already, the word has that
 -- value in every image.
-use Rattle.std.proofs.Common.{length, Option, Some, None, ◌≤◌, ◌≡◌, ◌≢◌, inl, ⊎_elim, ℕ, zero, suc, ◌/◌, List, [], ◌∷◌, ◌++◌, ℤ}
+use Rattle.std.proofs.Common.{length, Option, Some, None, ◌≤◌, ◌≡◌, ◌≢◌, inl, ⊎_elim, ℕ, zero, suc}
+use Rattle.std.proofs.Common.{◌/◌, List, [], ◌∷◌, ◌++◌, ℤ}
 use Rattle.std.proofs.Common.{pos, refl, sym, ap, ◌∙◌, subst, arith}
 use Rattle.std.proofs.lemmas.Bool.{cases_eq}
 use Rattle.cache_model.specs.Event.{CacheEvent, Store, Flush, Fence}
@@ -17,7 +18,8 @@ use Rattle.pool_layout.specs.Places.{at, pool_of}
 use Rattle.pool_layout.specs.Restored.{restored}
 use Rattle.crash_law.specs.Pools.{Call}
 use Rattle.clobber_log.specs.Reset.{reset_events}
-use Rattle.clobber_log.specs.Restore.{as_heap_word, back_at, back_events, word_in_record, old_in_record}
+use Rattle.clobber_log.specs.Restore.{as_heap_word, back_at, back_events, word_in_record}
+use Rattle.clobber_log.specs.Restore.{old_in_record}
 use Rattle.clobber_log.specs.Restore.{fence_after, first_events}
 use Rattle.args_log.specs.Seal.{stores_from, flushes_from, payload_lines, payload_events}
 use Rattle.args_log.specs.Seal.{unsealed_events, sealing_events, seal_events}

@@ -25,8 +25,10 @@ use Rattle.undo_law.proofs.Inside.{all_inside}
 use Rattle.crash_law.specs.Law.{IsAtRest}
 use Rattle.crash_law.proofs.Rest.{Clean, Nowhere, rest_clean, clean_more, clean_store, clean_flush}
 use Rattle.crash_law.proofs.Rest.{fence_rest}
-use Rattle.crash_law.proofs.Rest.{run_clean, retire_rest, due_seal_rest, back_rest, reset_at_rest, after_rest}
-use Rattle.undo_law.specs.Undo.{Every, IsMarkedTrace, Records, no_records, with_record, records_after}
+use Rattle.crash_law.proofs.Rest.{run_clean, retire_rest, due_seal_rest, back_rest, reset_at_rest}
+use Rattle.crash_law.proofs.Rest.{after_rest}
+use Rattle.undo_law.specs.Undo.{Every, IsMarkedTrace, Records, no_records, with_record}
+use Rattle.undo_law.specs.Undo.{records_after}
 use Rattle.undo_law.specs.Undo.{undo_events, due_undone, due_abort, due_reabort}
 
 -- the word has a record

@@ -1,6 +1,7 @@
 -- The undo: the records are restored, and the call is retired.
 use Rattle.pool_layout.specs.Sizes.{heap_words}
-use Rattle.std.proofs.Common.{◌≡◌, ◌⊎◌, inl, ⊎_elim, ℕ, zero, suc, ◌^◌, ◌<◌, ◌≤◌, List, ◌∷◌, ◌++◌, Option, Some}
+use Rattle.std.proofs.Common.{◌≡◌, ◌⊎◌, inl, ⊎_elim, ℕ, zero, suc, ◌^◌, ◌<◌, ◌≤◌, List, ◌∷◌, ◌++◌}
+use Rattle.std.proofs.Common.{Option, Some}
 use Rattle.std.proofs.Common.{None, ℤ, pos, refl, sym, ap, ◌∙◌, subst, arith, unwrap_or}
 use Rattle.cache_model.specs.Event.{CacheEvent, Fence}
 use Rattle.cache_model.specs.Cache.{Words, Cache, view}

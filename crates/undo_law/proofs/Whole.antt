@@ -1,6 +1,7 @@
 -- The whole call that is aborted.
 use Rattle.pool_layout.specs.Sizes.{heap_words}
-use Rattle.std.proofs.Common.{length, ◌≡◌, ◌⊎◌, inl, inr, ⊎_elim, ℕ, suc, ◌+◌, ◌^◌, ◌<◌, ◌≤◌, List, ℤ, pos}
+use Rattle.std.proofs.Common.{length, ◌≡◌, ◌⊎◌, inl, inr, ⊎_elim, ℕ, suc, ◌+◌, ◌^◌, ◌<◌, ◌≤◌, List}
+use Rattle.std.proofs.Common.{ℤ, pos}
 use Rattle.std.proofs.Common.{refl, arith}
 use Rattle.cache_model.specs.Event.{CacheEvent}
 use Rattle.cache_model.specs.Cache.{Words, Cache}
@@ -22,7 +23,8 @@ use Rattle.crash_law.proofs.Records.{nothing}
 use Rattle.crash_law.proofs.Fine.{ok, Setting}
 use Rattle.crash_law.proofs.Run.{Running}
 use Rattle.crash_law.proofs.Seal.{one_cover, good_fine, unsealed, due_seal_part}
-use Rattle.undo_law.specs.Undo.{Every, IsMarkedTrace, Records, no_records, records_after, undo_events}
+use Rattle.undo_law.specs.Undo.{Every, IsMarkedTrace, Records, no_records, records_after}
+use Rattle.undo_law.specs.Undo.{undo_events}
 use Rattle.undo_law.specs.Undo.{due_undone, due_abort}
 use Rattle.undo_law.specs.Law.{IsUndone, IsEmptied, IsAbortCut}
 use Rattle.undo_law.proofs.Logs.{Holding, run_logs, holding_none}

@@ -17,8 +17,10 @@ use Rattle.ir.specs.WellFormed.{IsWellFormed}
 use Rattle.walk_check.specs.declared.certificate.Step.{Step}
 use Rattle.walk_check.specs.declared.certificate.Piece.{Piece}
 use Rattle.walk_check.specs.Facts.{fact_of}
-use Rattle.walk_check.specs.Keeps.{blank_step, first_step, last_step, first_fact, last_place, last_fact}
-use Rattle.walk_check.specs.Keeps.{follows, holds_at_entry, begins_piece, chain, steps_keep, piece_keeps}
+use Rattle.walk_check.specs.Keeps.{blank_step, first_step, last_step, first_fact, last_place}
+use Rattle.walk_check.specs.Keeps.{last_fact}
+use Rattle.walk_check.specs.Keeps.{follows, holds_at_entry, begins_piece, chain, steps_keep}
+use Rattle.walk_check.specs.Keeps.{piece_keeps}
 use Rattle.walk_check.specs.Keeps.{is_return, passing_keeps, bad_piece}
 use Rattle.walk_check.proofs.Tests.{slice_get-take}
 use Rattle.walk_check.proofs.Reach.{Reach, Passed, pass_reach}

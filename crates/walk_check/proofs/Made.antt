@@ -31,7 +31,8 @@ use Rattle.walk_check.specs.declared.certificate.Piece.{Piece}
 use Rattle.walk_check.specs.Facts.{fact_of, same, among}
 use Rattle.walk_check.specs.Follow.{leads, array_read, binds, passes}
 use Rattle.walk_check.specs.Keeps.{fact_is_there, all_there, last_step, first_fact, last_place}
-use Rattle.walk_check.specs.Keeps.{last_fact, goes_along, goes_past, follows, holds_at_entry, begins_piece, chain}
+use Rattle.walk_check.specs.Keeps.{last_fact, goes_along, goes_past, follows, holds_at_entry}
+use Rattle.walk_check.specs.Keeps.{begins_piece, chain}
 use Rattle.walk_check.specs.Keeps.{piece_keeps, is_return, passing_keeps}
 use Rattle.walk_check.proofs.Named.{There, is_there-from, there_origins, Called, called_at}
 use Rattle.walk_check.proofs.Named.{well_at, call_there, return_there}

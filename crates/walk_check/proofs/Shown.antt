@@ -20,7 +20,8 @@ use Rattle.ir.specs.Places.{instruction_at, IsTransaction}
 use Rattle.ir.specs.Table.{AmongOrigins}
 use Rattle.ir.specs.Derived.{Flows}
 use Rattle.ir.specs.Derived.Flows.{first, called}
-use Rattle.ir.specs.Clobber.{unwritten, read_fact, SomeWalk, IsClobber, WritesHeader, LoggedAt, IsLogged}
+use Rattle.ir.specs.Clobber.{unwritten, read_fact, SomeWalk, IsClobber, WritesHeader, LoggedAt}
+use Rattle.ir.specs.Clobber.{IsLogged}
 use Rattle.ir.specs.WellFormed.{IsWellFormed}
 use Rattle.ir.proofs.Law.{exact}
 use Rattle.walk_check.specs.declared.certificate.Piece.{Piece}

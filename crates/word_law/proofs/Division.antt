@@ -1,5 +1,6 @@
 -- The quotient and the rest of two whole numbers.
-use Rattle.std.proofs.Common.{◌≡◌, zero, suc, ◌<◌, ℤ, pos, negsuc, ◌+ℤ◌, ◌-ℤ◌, ◌*ℤ◌, ◌≤ℤ◌, int_div, int_rem, unsigned_abs, refl, ap, arith}
+use Rattle.std.proofs.Common.{◌≡◌, zero, suc, ◌<◌, ℤ, pos, negsuc, ◌+ℤ◌, ◌-ℤ◌, ◌*ℤ◌, ◌≤ℤ◌, int_div}
+use Rattle.std.proofs.Common.{int_rem, unsigned_abs, refl, ap, arith}
 use Rattle.std.proofs.lemmas.Int.{ints, quot-rem, rem_below}
 use Rattle.nvm_base.specs.Wrap.{wrap}
 use Rattle.word_law.specs.Law.{DivisionLaw}

@@ -7,7 +7,8 @@ use Rattle.cache_model.specs.Play.{apply, play}
 use Rattle.pmem.specs.Played.{PlaysAll}
 use Rattle.clobber_log.specs.Logs.{attempt_in, count_in}
 use Rattle.pm_machine.specs.declared.effect.Effect.{Effect}
-use Rattle.pm_machine.specs.declared.effect.Effect.TheVariants.{Loads, Scans, Stores, Logs, Flushes, Fences, Quiet}
+use Rattle.pm_machine.specs.declared.effect.Effect.TheVariants.{Loads, Scans, Stores, Logs, Flushes}
+use Rattle.pm_machine.specs.declared.effect.Effect.TheVariants.{Fences, Quiet}
 use Rattle.pm_machine.specs.declared.image.Image.{Image}
 use Rattle.pm_machine.specs.Effects.{events_of, records_past}
 use Rattle.pm_machine.specs.Machine.{State, StepOutcome, Goes, Ends, step, start}

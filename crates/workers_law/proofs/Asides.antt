@@ -1,10 +1,12 @@
 -- The effect of another compartment's events on this one; marks stay indices of versions in it.
-use Rattle.std.proofs.Common.{◌≡◌, inl, inr, ℕ, suc, ◌+◌, ◌<◌, nat_lt, cond, Bool, true, false, List, [], ◌∷◌, map, length, refl, ap, ◌∙◌, subst, arith}
+use Rattle.std.proofs.Common.{◌≡◌, inl, inr, ℕ, suc, ◌+◌, ◌<◌, nat_lt, cond, Bool, true, false}
+use Rattle.std.proofs.Common.{List, [], ◌∷◌, map, length, refl, ap, ◌∙◌, subst, arith}
 use Rattle.std.proofs.lemmas.Bool.{ltb-true}
 use Rattle.cache_model.specs.Cache.{Words, Line, Cache, blank_line}
 use Rattle.cache_model.specs.Play.{apply}
 use Rattle.crash_law.specs.Law.{IsMarkIn, AreMarked}
-use Rattle.pool_workers.specs.Compartment.{words_from, line_counted_from, cache_in, IsOutside, fenced_if, AreAside}
+use Rattle.pool_workers.specs.Compartment.{words_from, line_counted_from, cache_in, IsOutside}
+use Rattle.pool_workers.specs.Compartment.{fenced_if, AreAside}
 use Rattle.pool_workers.proofs.Windows.{fence_from}
 use Rattle.workers_law.specs.Fenced.{AreApart, fenced_cache}
 

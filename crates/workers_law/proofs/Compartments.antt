@@ -1,5 +1,7 @@
 -- The law of compartments.
-use Rattle.std.proofs.Common.{◌≡◌, ◌≢◌, inl, inr, ℕ, ◌+◌, ◌*◌, ◌≤◌, ◌==◌, nat_lt, cond, Bool, true, false, List, [], ◌∷◌, ◌++◌, append_assoc, refl, sym, ap, ◌∙◌, subst, arith, eqb-true, eq-eqb}
+use Rattle.std.proofs.Common.{◌≡◌, ◌≢◌, inl, inr, ℕ, ◌+◌, ◌*◌, ◌≤◌, ◌==◌, nat_lt, cond, Bool, true}
+use Rattle.std.proofs.Common.{false, List, [], ◌∷◌, ◌++◌, append_assoc, refl, sym, ap, ◌∙◌, subst}
+use Rattle.std.proofs.Common.{arith, eqb-true, eq-eqb}
 use Rattle.std.proofs.lemmas.Bool.{ltb-true, ltb-false, eqb-false}
 use Rattle.std.proofs.Math.Nat.{mul-le-mul_left}
 use Rattle.cache_model.specs.Event.{CacheEvent, Store, Flush, Fence}
@@ -9,7 +11,9 @@ use Rattle.cache_model.specs.Image.{IsImage}
 use Rattle.crash_law.specs.Law.{IsAtRest, IsLeft, IsFenced, Empty, Kept, Added, AreMarked}
 use Rattle.crash_law.proofs.Fences.{fences_add_none}
 use Rattle.pool_workers.specs.Compartment.{cache_in, lifted, IsInside}
-use Rattle.workers_law.specs.Interleaved.{WorkerEvent, Piece, steps_by, worker_events, whole_events, own_events, own_pieces, fence_of, seen_events, AreInside, IsPrefix, Interleaves}
+use Rattle.workers_law.specs.Interleaved.{WorkerEvent, Piece, steps_by, worker_events, whole_events}
+use Rattle.workers_law.specs.Interleaved.{own_events, own_pieces, fence_of, seen_events, AreInside}
+use Rattle.workers_law.specs.Interleaved.{IsPrefix, Interleaves}
 use Rattle.workers_law.specs.Compartments.{CompartmentLaw, CompartmentImagesLaw}
 use Rattle.workers_law.specs.Fenced.{AreApart}
 use Rattle.pool_workers.proofs.Windows.{own_event, outside_store, outside_flush}

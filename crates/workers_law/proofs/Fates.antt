@@ -1,12 +1,15 @@
 -- The end of a transaction stays the same turn by turn.
-use Rattle.std.proofs.Common.{◌≡◌, ℕ, zero, suc, ◌+◌, ◌-◌, ◌<◌, ◌≤◌, ◌==◌, if◌then◌else◌, Bool, false, List, ℤ, Option, Some, None, ne_eqb, refl, sym, ap, ap₂, ◌∙◌, subst, arith}
+use Rattle.std.proofs.Common.{◌≡◌, ℕ, zero, suc, ◌+◌, ◌-◌, ◌<◌, ◌≤◌, ◌==◌, if◌then◌else◌, Bool}
+use Rattle.std.proofs.Common.{false, List, ℤ, Option, Some, None, ne_eqb, refl, sym, ap, ap₂, ◌∙◌}
+use Rattle.std.proofs.Common.{subst, arith}
 use Rattle.cache_model.specs.Event.{CacheEvent}
 use Rattle.cache_model.specs.Cache.{Words, Cache, view}
 use Rattle.cache_model.specs.Play.{play}
 use Rattle.clobber_log.specs.Logs.{attempt_in, count_in}
 use Rattle.pool_map.specs.declared.trap.TrapKind.TheVariants.{Steps}
 use Rattle.pm_machine.specs.declared.effect.Effect.{Effect}
-use Rattle.pm_machine.specs.declared.effect.Effect.TheVariants.{Loads, Scans, Stores, Logs, Flushes, Fences, Quiet}
+use Rattle.pm_machine.specs.declared.effect.Effect.TheVariants.{Loads, Scans, Stores, Logs, Flushes}
+use Rattle.pm_machine.specs.declared.effect.Effect.TheVariants.{Fences, Quiet}
 use Rattle.pm_machine.specs.declared.effect.End.{End}
 use Rattle.pm_machine.specs.declared.effect.End.TheVariants.{Trapped}
 use Rattle.pm_machine.specs.declared.image.Image.{Image}
@@ -19,7 +22,8 @@ use Rattle.pool_layout.specs.Sizes.{heap_words}
 use Rattle.tx_run.specs.Due.{due_on, due_seal}
 use Rattle.pool_workers.specs.declared.task.Task.{Task}
 use Rattle.pool_workers.specs.declared.task.Task.TheVariants.{Begun, Running, Ending, Cut}
-use Rattle.pool_workers.specs.Task.{going, stepped_task, events_in, piece_of, task_past, end_answer, answer_past, ticks_of, IsTask, IsUncut}
+use Rattle.pool_workers.specs.Task.{going, stepped_task, events_in, piece_of, task_past, end_answer}
+use Rattle.pool_workers.specs.Task.{answer_past, ticks_of, IsTask, IsUncut}
 use Rattle.workers_law.specs.Fate.{fate_of, task_logs, task_steps, FateLaw}
 use Rattle.workers_law.proofs.Stands.{same_due, same_play, same_seal}
 

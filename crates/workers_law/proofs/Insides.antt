@@ -1,5 +1,6 @@
 -- A call's events lie within its pool.
-use Rattle.std.proofs.Common.{◌≤◌, ◌+◌, ◌*◌, ℕ, zero, suc, List, [], ◌∷◌, ◌++◌, length, take, w64, ℤ, refl, arith}
+use Rattle.std.proofs.Common.{◌≤◌, ◌+◌, ◌*◌, ℕ, zero, suc, List, [], ◌∷◌, ◌++◌, length, take, w64}
+use Rattle.std.proofs.Common.{ℤ, refl, arith}
 use Rattle.std.specs.Int.{cast_signed}
 use Rattle.cache_model.specs.Event.{CacheEvent, Store, Flush, Fence}
 use Rattle.cache_model.specs.Cache.{Words, Cache, view}
@@ -10,9 +11,11 @@ use Rattle.pool_layout.specs.Sizes.{heap_words, pool_lines}
 use Rattle.clobber_log.specs.Logs.{attempt_in, count_in}
 use Rattle.args_log.specs.Next.{number_after}
 use Rattle.args_log.specs.Retire.{retire_events, mark_events}
-use Rattle.args_log.specs.Seal.{stores_from, flushes_from, payload_lines, payload_events, unsealed_events, sealing_events, seal_events}
+use Rattle.args_log.specs.Seal.{stores_from, flushes_from, payload_lines, payload_events}
+use Rattle.args_log.specs.Seal.{unsealed_events, sealing_events, seal_events}
 use Rattle.pm_machine.specs.declared.effect.Effect.{Effect}
-use Rattle.pm_machine.specs.declared.effect.Effect.TheVariants.{Loads, Scans, Stores, Logs, Flushes, Fences, Quiet}
+use Rattle.pm_machine.specs.declared.effect.Effect.TheVariants.{Loads, Scans, Stores, Logs, Flushes}
+use Rattle.pm_machine.specs.declared.effect.Effect.TheVariants.{Fences, Quiet}
 use Rattle.pm_machine.specs.declared.effect.End.{End}
 use Rattle.pm_machine.specs.declared.effect.End.TheVariants.{Halted, Trapped}
 use Rattle.pm_machine.specs.declared.image.Image.{Image}

@@ -1,5 +1,8 @@
 -- The seal of a call in its line, turn by turn.
-use Rattle.std.proofs.Common.{◌≡◌, ◌≢◌, ◌≤◌, ◌-◌, ◌/◌, ◌==◌, ◌&&◌, inl, inr, ℕ, zero, suc, cond, if◌then◌else◌, Bool, true, false, Option, Some, None, List, [], ◌∷◌, ◌++◌, drop, length, take, w64, ℤ, refl, sym, ap, ◌∙◌, subst, arith, ne_eqb, int_eq}
+use Rattle.std.proofs.Common.{◌≡◌, ◌≢◌, ◌≤◌, ◌-◌, ◌/◌, ◌==◌, ◌&&◌, inl, inr, ℕ, zero, suc, cond}
+use Rattle.std.proofs.Common.{if◌then◌else◌, Bool, true, false, Option, Some, None, List, [], ◌∷◌}
+use Rattle.std.proofs.Common.{◌++◌, drop, length, take, w64, ℤ, refl, sym, ap, ◌∙◌, subst, arith}
+use Rattle.std.proofs.Common.{ne_eqb, int_eq}
 use Rattle.std.specs.Int.{cast_signed}
 use Rattle.std.specs.List.{list_all, list_any}
 use Rattle.std.proofs.lemmas.Bool.Decides.{Decides-int_eq}
@@ -27,7 +30,8 @@ use Rattle.args_log.specs.Phase as seal
 use Rattle.args_log.specs.PhaseLaw.{LacksSeal}
 use Rattle.args_log.proofs.Phases.{unsealed_law, sealing_law, sealed_law}
 use Rattle.pm_machine.specs.declared.effect.Effect.{Effect}
-use Rattle.pm_machine.specs.declared.effect.Effect.TheVariants.{Loads, Scans, Stores, Logs, Flushes, Fences, Quiet}
+use Rattle.pm_machine.specs.declared.effect.Effect.TheVariants.{Loads, Scans, Stores, Logs, Flushes}
+use Rattle.pm_machine.specs.declared.effect.Effect.TheVariants.{Fences, Quiet}
 use Rattle.pm_machine.specs.declared.effect.End.{End}
 use Rattle.pm_machine.specs.declared.effect.End.TheVariants.{Halted, Trapped}
 use Rattle.pm_machine.specs.declared.image.Image.{Image}
@@ -40,7 +44,8 @@ use Rattle.pool_workers.specs.declared.answer.TurnAnswer.TheVariants as answer
 use Rattle.pool_workers.specs.declared.task.Task.{Task}
 use Rattle.pool_workers.specs.declared.task.Task.TheVariants.{Begun, Running, Ending, Cut}
 use Rattle.workers_law.specs.Phases.{InPhase, TurnPhaseLaw}
-use Rattle.pool_workers.specs.Task.{going, stepped_task, events_in, task_phase, IsUncut, WentWhole, Turned}
+use Rattle.pool_workers.specs.Task.{going, stepped_task, events_in, task_phase, IsUncut, WentWhole}
+use Rattle.pool_workers.specs.Task.{Turned}
 use Rattle.workers_law.proofs.Stands.{part_of}
 use Rattle.workers_law.specs.Fenced.{fenced_cache}
 

@@ -9,7 +9,8 @@ use Rattle.cache_model.specs.Image.{IsImage}
 use Rattle.crash_law.specs.Law.{IsAtRest, IsLeft, IsFenced, AreMarked}
 use Rattle.pool_workers.specs.Compartment.{cache_in, lifted, IsInside, AreAside}
 use Rattle.workers_law.specs.Fenced.{AreApart, fenced_cache}
-use Rattle.workers_law.specs.Interleaved.{WorkerEvent, Piece, worker_events, whole_events, own_events, seen_events, AreInside, IsPrefix, Interleaves}
+use Rattle.workers_law.specs.Interleaved.{WorkerEvent, Piece, worker_events, whole_events}
+use Rattle.workers_law.specs.Interleaved.{own_events, seen_events, AreInside, IsPrefix, Interleaves}
 
 -- The first events of some interleaving of pieces; each worker's due list lies within its
 -- compartment.

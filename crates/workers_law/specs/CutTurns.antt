@@ -16,7 +16,8 @@ use Rattle.crash_law.specs.Pools.{Good}
 use Rattle.crash_law.specs.Law.{IsAtRest, AreMarked}
 use Rattle.tx_run.specs.Due.{due_call}
 use Rattle.recovery.specs.Due.{due_clean, due_redo}
-use Rattle.cut_law.specs.Law.{pool_with, RunsSound, BeginsOn, OwesInImage, RestsInImage, Finishes, CutImages, RedoImages}
+use Rattle.cut_law.specs.Law.{pool_with, RunsSound, BeginsOn, OwesInImage, RestsInImage, Finishes}
+use Rattle.cut_law.specs.Law.{CutImages, RedoImages}
 use Rattle.pool_workers.specs.declared.task.Task.TheVariants.{Begun}
 use Rattle.workers_law.specs.Compartments.{AreFirst, own_compartment, own_after}
 use Rattle.workers_law.specs.Fate.{fate_of, task_logs}

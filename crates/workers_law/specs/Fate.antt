@@ -11,7 +11,8 @@ use Rattle.pm_machine.specs.Runs.{due, end_of}
 use Rattle.tx_run.specs.Due.{due_on, due_seal}
 use Rattle.pool_workers.specs.declared.task.Task.{Task}
 use Rattle.pool_workers.specs.declared.task.Task.TheVariants.{Begun, Running, Ending, Cut}
-use Rattle.pool_workers.specs.Task.{piece_of, task_past, end_answer, answer_past, ticks_of, IsTask, IsUncut}
+use Rattle.pool_workers.specs.Task.{piece_of, task_past, end_answer, answer_past, ticks_of, IsTask}
+use Rattle.pool_workers.specs.Task.{IsUncut}
 
 abbrev pub fate_of : Image → Task → Cache → End
 fate_of image (Begun tx args s) c = end_of (due_on image s (play c (due_seal tx args c))).fate

@@ -1,5 +1,6 @@
 -- The commands read so far, followed by those of the rest.
-use Rattle.std.proofs.Common.{◌≡◌, ℕ, ◌+◌, List, [], ◌∷◌, ◌++◌, Option, None, Some, Result, Ok, Err, refl, option_to_list, ap, append_assoc, append-nil, sym}
+use Rattle.std.proofs.Common.{◌≡◌, ℕ, ◌+◌, List, [], ◌∷◌, ◌++◌, Option, None, Some, Result, Ok, Err}
+use Rattle.std.proofs.Common.{refl, option_to_list, ap, append_assoc, append-nil, sym}
 use Rattle.cnvm_script.specs.Lines.{lines}
 use Rattle.workers_script.specs.declared.command.WorkersCommand.{WorkersCommand}
 use Rattle.workers_script.specs.WorkersGrammar.{joined_workers, workers_line_meaning, workers_from}

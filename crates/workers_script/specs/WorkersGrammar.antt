@@ -9,7 +9,8 @@
 -- events and picks are those of a script, and so are the lines without a command. Any other list of
 -- words is bad. A script is the list of its lines' commands in order, and is bad at its first bad
 -- line, counted from 1.
-use Rattle.std.specs.Prelude.{ℕ, ◌+◌, ◌^◌, ◌≡◌, nat_lt, List, [], ◌∷◌, Option, None, Some, Result, Ok, Err, if◌then◌else◌, bytes_eq, codes, option_map, option_and_then}
+use Rattle.std.specs.Prelude.{ℕ, ◌+◌, ◌^◌, ◌≡◌, nat_lt, List, [], ◌∷◌, Option, None, Some, Result}
+use Rattle.std.specs.Prelude.{Ok, Err, if◌then◌else◌, bytes_eq, codes, option_map, option_and_then}
 use Rattle.cnvm_script.specs.declared.command.Command.{Command}
 use Rattle.cnvm_script.specs.declared.command.Command.TheVariants as script
 use Rattle.cnvm_script.specs.declared.fault.ScriptFault.{ScriptFault}
@@ -18,7 +19,9 @@ use Rattle.cnvm_script.specs.Commands.{each, event_of, call_command, power_of, i
 use Rattle.cnvm_script.specs.Lines.{lines, words_of_line}
 use Rattle.cnvm_script.specs.Number.{bounded_numeral}
 use Rattle.workers_script.specs.declared.command.WorkersCommand.{WorkersCommand}
-use Rattle.workers_script.specs.declared.command.WorkersCommand.TheVariants.{Start, Turn, Finish, Stop, Fault, Power, Show, Last}
+use Rattle.workers_script.specs.declared.command.WorkersCommand.TheVariants.{Start, Turn, Finish}
+use Rattle.workers_script.specs.declared.command.WorkersCommand.TheVariants.{Stop, Fault, Power}
+use Rattle.workers_script.specs.declared.command.WorkersCommand.TheVariants.{Show, Last}
 
 -- a number of 32 bits, as each of 2 digits is
 abbrev pub as_worker : ℕ → Option ℕ

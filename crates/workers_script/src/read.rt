@@ -3,7 +3,10 @@
 ghost use Rattle.std.specs.Prelude.{◌≡◌, ◌∷◌, ◌++◌, map, OnOk, option_to_list};
 ghost use Rattle.cnvm_script.specs.Reads.{Gives};
 ghost use Rattle.cnvm_script.specs.Commands.{each};
-ghost use Rattle.workers_script.specs.WorkersGrammar.{as_worker, worker_number, start_of, turn_of, power_with, worker_of, workers_command, workers_meaning, workers_line_meaning, workers_script_meaning, GivesWorkers};
+ghost use Rattle.workers_script.specs.WorkersGrammar.{as_worker, worker_number, start_of, turn_of};
+ghost use Rattle.workers_script.specs.WorkersGrammar.{power_with, worker_of, workers_command};
+ghost use Rattle.workers_script.specs.WorkersGrammar.{workers_meaning, workers_line_meaning};
+ghost use Rattle.workers_script.specs.WorkersGrammar.{workers_script_meaning, GivesWorkers};
 ghost use Rattle.std.specs.Prelude.{option_and_then};
 ghost use Rattle.cnvm_script.specs.Commands.{power_of};
 

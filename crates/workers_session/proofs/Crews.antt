@@ -1,7 +1,10 @@
 -- Lists of transactions, by what each worker has.
 use Rattle.std.proofs.lemmas.Bool.{cases_eq}
 use Rattle.std.proofs.lemmas.List.{length-replicate}
-use Rattle.std.proofs.Common.{◌≡◌, ◌≢◌, ◌∙◌, ◌⊎◌, inl, inr, ⊎_elim, ℕ, zero, suc, ◌+◌, ◌<◌, ◌≤◌, nat_lt, if◌then◌else◌, Bool, true, false, List, [], ◌∷◌, ◌++◌, Some, None, length, drop, replicate, refl, sym, ap, subst, append-nil, append_assoc, arith}
+use Rattle.std.proofs.Common.{◌≡◌, ◌≢◌, ◌∙◌, ◌⊎◌, inl, inr, ⊎_elim, ℕ, zero, suc, ◌+◌, ◌<◌, ◌≤◌}
+use Rattle.std.proofs.Common.{nat_lt, if◌then◌else◌, Bool, true, false, List, [], ◌∷◌, ◌++◌, Some}
+use Rattle.std.proofs.Common.{None, length, drop, replicate, refl, sym, ap, subst, append-nil}
+use Rattle.std.proofs.Common.{append_assoc, arith}
 use Rattle.cache_model.specs.Event.{CacheEvent}
 use Rattle.pmem.specs.Device.{Device, blanked}
 use Rattle.pmem.specs.Played.{PlaysAll}
@@ -10,7 +13,8 @@ use Rattle.pm_machine.specs.declared.image.Image.{Image}
 use Rattle.pool_workers.specs.Task.{IsUncutOr}
 use Rattle.pool_workers.specs.Crew.{Tasks, task_at, AreTasks, HasCompartments, OtherTasksStay}
 use Rattle.workers_session.specs.declared.line.WorkersLine.{WorkersLine}
-use Rattle.workers_session.specs.WorkersState.{WorkersState, IsReadyFor, AreUninterrupted, stranger_in}
+use Rattle.workers_session.specs.WorkersState.{WorkersState, IsReadyFor, AreUninterrupted}
+use Rattle.workers_session.specs.WorkersState.{stranger_in}
 use Rattle.workers_session.specs.WorkersCommands.{Scene, AreIdle, stopped_line, stopped_lines}
 use Rattle.workers_session.proofs.Rounds.{split_last}
 

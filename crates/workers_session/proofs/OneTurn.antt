@@ -1,5 +1,6 @@
 -- One turn of a worker, by the transaction that it has.
-use Rattle.std.proofs.Common.{◌≡◌, ◌≢◌, ◌∙◌, ⊎_elim, ℕ, ◌+◌, ◌<◌, ◌≤◌, true, false, Option, Some, None, length, refl, sym, ap, subst, arith}
+use Rattle.std.proofs.Common.{◌≡◌, ◌≢◌, ◌∙◌, ⊎_elim, ℕ, ◌+◌, ◌<◌, ◌≤◌, true, false, Option, Some}
+use Rattle.std.proofs.Common.{None, length, refl, sym, ap, subst, arith}
 use Rattle.std.proofs.lemmas.Bool.{cases_eq}
 use Rattle.pmem.specs.Device.{Device}
 use Rattle.pm_machine.specs.declared.image.Image.{Image}
@@ -7,7 +8,8 @@ use Rattle.pool_workers.specs.declared.answer.TurnAnswer.{TurnAnswer}
 use Rattle.pool_workers.specs.declared.answer.TurnAnswer.TheVariants as turned
 use Rattle.pool_workers.specs.declared.task.Task.{Task}
 use Rattle.pool_workers.specs.Task.{ticks_of, IsUncutOr, IsGoing}
-use Rattle.pool_workers.specs.Crew.{Tasks, task_at, AreTasks, HasCompartments, OtherTasksStay, TurnOf, compartment}
+use Rattle.pool_workers.specs.Crew.{Tasks, task_at, AreTasks, HasCompartments, OtherTasksStay}
+use Rattle.pool_workers.specs.Crew.{TurnOf, compartment}
 use Rattle.workers_session.specs.WorkersState.{WorkersState, IsReadyFor, AreUninterrupted}
 use Rattle.workers_session.specs.WorkersCommands.{scene_of, is_interrupted, TurnFor}
 use Rattle.workers_session.specs.inside.Turning.{turns_in, busy_one}

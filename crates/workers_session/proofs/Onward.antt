@@ -1,5 +1,6 @@
 -- A turn or a recovery that wasn't interrupted leaves the device on.
-use Rattle.std.proofs.Common.{◌≡◌, ◌≢◌, ◌∙◌, ℕ, Bool, true, false, ⊎_elim, List, Option, ℤ, pos, refl, ap, int_eq}
+use Rattle.std.proofs.Common.{◌≡◌, ◌≢◌, ◌∙◌, ℕ, Bool, true, false, ⊎_elim, List, Option, ℤ, pos}
+use Rattle.std.proofs.Common.{refl, ap, int_eq}
 use Rattle.std.proofs.lemmas.Bool.Decides.{Decides-int_eq}
 use Rattle.cache_model.specs.Event.{CacheEvent}
 use Rattle.cache_model.specs.Cache.{view}

@@ -1,5 +1,7 @@
 -- A turn that isn't interrupted lowers the number of turns that are left.
-use Rattle.std.proofs.Common.{◌≡◌, ◌⊎◌, inl, inr, ⊎_elim, ℕ, zero, suc, ◌+◌, ◌-◌, ◌<◌, ◌≤◌, Bool, true, false, if◌then◌else◌, [], ◌∷◌, Option, Some, length, refl, ap, subst, ne_eqb, arith}
+use Rattle.std.proofs.Common.{◌≡◌, ◌⊎◌, inl, inr, ⊎_elim, ℕ, zero, suc, ◌+◌, ◌-◌, ◌<◌, ◌≤◌, Bool}
+use Rattle.std.proofs.Common.{true, false, if◌then◌else◌, [], ◌∷◌, Option, Some, length, refl, ap}
+use Rattle.std.proofs.Common.{subst, ne_eqb, arith}
 use Rattle.cache_model.specs.Cache.{Cache, view}
 use Rattle.cache_model.specs.Play.{play}
 use Rattle.pmem.specs.Device.{Device}
@@ -13,10 +15,12 @@ use Rattle.pool_workers.specs.declared.answer.TurnAnswer.{TurnAnswer}
 use Rattle.pool_workers.specs.declared.answer.TurnAnswer.TheVariants as turned
 use Rattle.pool_workers.specs.declared.task.Task.{Task}
 use Rattle.pool_workers.specs.declared.task.Task.TheVariants.{Begun, Running, Ending, Cut}
-use Rattle.pool_workers.specs.Task.{going, stepped_task, task_past, Turned, IsTask, IsTaskOr, IsUncut, IsUncutOr}
+use Rattle.pool_workers.specs.Task.{going, stepped_task, task_past, Turned, IsTask, IsTaskOr}
+use Rattle.pool_workers.specs.Task.{IsUncut, IsUncutOr}
 use Rattle.pool_workers.specs.Crew.{Tasks, task_at, AreTasks, OtherTasksStay}
 use Rattle.workers_session.specs.WorkersCommands.{is_interrupted}
-use Rattle.workers_session.specs.inside.Turning.{turns_of, turns_left, turns_in, busy_one, busy_first}
+use Rattle.workers_session.specs.inside.Turning.{turns_of, turns_left, turns_in, busy_one}
+use Rattle.workers_session.specs.inside.Turning.{busy_first}
 
 going_most : (m : ℕ) (s : State) (a n k : ℕ) → turns_of m (going s a n k) ≤ k + 1
 going_most m s a n zero =

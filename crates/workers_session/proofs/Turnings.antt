@@ -1,11 +1,14 @@
 -- TurnsGiven and recoveries in order, from scene to scene.
-use Rattle.std.proofs.Common.{◌≡◌, ◌∙◌, ℕ, zero, suc, ◌+◌, ◌-◌, ◌<◌, ◌≤◌, Bool, true, false, List, [], ◌∷◌, ◌++◌, length, drop, slice_index, drop-cons, add-one, refl, sym, ap, append_assoc, append-nil, arith}
+use Rattle.std.proofs.Common.{◌≡◌, ◌∙◌, ℕ, zero, suc, ◌+◌, ◌-◌, ◌<◌, ◌≤◌, Bool, true, false, List}
+use Rattle.std.proofs.Common.{[], ◌∷◌, ◌++◌, length, drop, slice_index, drop-cons, add-one, refl}
+use Rattle.std.proofs.Common.{sym, ap, append_assoc, append-nil, arith}
 use Rattle.pm_machine.specs.declared.image.Image.{Image}
 use Rattle.recovery.specs.declared.answer.RecoverAnswer.{RecoverAnswer}
 use Rattle.cnvm_session.specs.Outcomes.{answer_of_recovery}
 use Rattle.workers_session.specs.declared.line.WorkersLine.{WorkersLine}
 use Rattle.workers_session.specs.declared.line.WorkersLine.TheVariants.{Own}
-use Rattle.workers_session.specs.WorkersCommands.{Scene, Unchanged, TurnsOnce, TurnList, round_from, rounds_of, ends_power, RecoversOne, RecoversFrom}
+use Rattle.workers_session.specs.WorkersCommands.{Scene, Unchanged, TurnsOnce, TurnList, round_from}
+use Rattle.workers_session.specs.WorkersCommands.{rounds_of, ends_power, RecoversOne, RecoversFrom}
 
 clash : {A : Type 0} (b : Bool) → b ≡ true → b ≡ false → A
 clash b is not = let e : true ≡ false = sym is ∙ not in absurd cc

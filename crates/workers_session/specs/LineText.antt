@@ -4,7 +4,8 @@ use Rattle.std.specs.Prelude.{ℕ, List, ◌++◌, codes}
 use Rattle.std.specs.Fmt.{decimal}
 use Rattle.cnvm_session.specs.AnswerText.{answer_text}
 use Rattle.workers_session.specs.declared.line.WorkersLine.{WorkersLine}
-use Rattle.workers_session.specs.declared.line.WorkersLine.TheVariants.{Own, Plain, Started, RefusedWorker, RefusedBusy}
+use Rattle.workers_session.specs.declared.line.WorkersLine.TheVariants.{Own, Plain, Started}
+use Rattle.workers_session.specs.declared.line.WorkersLine.TheVariants.{RefusedWorker, RefusedBusy}
 
 abbrev pub line_text : WorkersLine → List ℕ
 line_text (Own worker answer) = decimal worker ++ (codes " " ++ answer_text answer)

@@ -1,7 +1,8 @@
 -- What each command of a script of workers does: its lines, the workers and the device after it,
 -- and
 -- the count of steps, which rises from k to k1.
-use Rattle.std.specs.Prelude.{ℕ, zero, suc, ◌+◌, ◌≡◌, ◌==◌, ◌⊎◌, Bool, true, false, List, [], ◌∷◌, ◌++◌, Option, Some, None, length, if◌then◌else◌, ℤ}
+use Rattle.std.specs.Prelude.{ℕ, zero, suc, ◌+◌, ◌≡◌, ◌==◌, ◌⊎◌, Bool, true, false, List, [], ◌∷◌}
+use Rattle.std.specs.Prelude.{◌++◌, Option, Some, None, length, if◌then◌else◌, ℤ}
 use Rattle.cache_model.specs.Cache.{view}
 use Rattle.cache_model.specs.Collapse.{bad}
 use Rattle.cache_model.specs.declared.choice.Choice.{Choice}
@@ -19,7 +20,8 @@ use Rattle.pool_workers.specs.declared.task.Task.{Task}
 use Rattle.pool_workers.specs.declared.task.Task.TheVariants.{Begun}
 use Rattle.pm_machine.specs.Machine.{start}
 use Rattle.pool_workers.specs.Task.{task_phase, ticks_of}
-use Rattle.pool_workers.specs.Crew.{Tasks, task_at, OtherTasksStay, compartment, StaysAside, standing_at, TurnOf}
+use Rattle.pool_workers.specs.Crew.{Tasks, task_at, OtherTasksStay, compartment, StaysAside}
+use Rattle.pool_workers.specs.Crew.{standing_at, TurnOf}
 use Rattle.cnvm_session.specs.declared.answer.Answer.TheVariants as answer
 use Rattle.cnvm_session.specs.declared.program.Program.{Program}
 use Rattle.cnvm_session.specs.Commands.{call_number, tx_parameters, fallen}
@@ -27,7 +29,8 @@ use Rattle.cnvm_session.specs.Outcomes.{answer_of_recovery}
 use Rattle.workers_script.specs.declared.command.WorkersCommand.{WorkersCommand}
 use Rattle.workers_script.specs.declared.command.WorkersCommand.TheVariants as command
 use Rattle.workers_session.specs.declared.line.WorkersLine.{WorkersLine}
-use Rattle.workers_session.specs.declared.line.WorkersLine.TheVariants.{Own, Plain, Started, RefusedWorker}
+use Rattle.workers_session.specs.declared.line.WorkersLine.TheVariants.{Own, Plain, Started}
+use Rattle.workers_session.specs.declared.line.WorkersLine.TheVariants.{RefusedWorker}
 use Rattle.workers_session.specs.Looks.{IsPoolText}
 use Rattle.workers_session.specs.WorkersState.{WorkersState, refusal_at, stranger_in}
 

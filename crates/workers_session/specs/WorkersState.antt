@@ -1,6 +1,7 @@
 -- What a session of workers knows: the unfinished transaction of each worker, and whether all
 -- workers are down. The pools are on the device.
-use Rattle.std.specs.Prelude.{ℕ, ◌≡◌, ◌≤◌, Bool, true, false, List, [], ◌∷◌, Option, None, Some, length, nat_lt, if◌then◌else◌}
+use Rattle.std.specs.Prelude.{ℕ, ◌≡◌, ◌≤◌, Bool, true, false, List, [], ◌∷◌, Option, None, Some}
+use Rattle.std.specs.Prelude.{length, nat_lt, if◌then◌else◌}
 use Rattle.pmem.specs.Device.{Device}
 use Rattle.pm_machine.specs.declared.image.Image.{Image}
 use Rattle.tx_run.specs.declared.standing.Standing.{Standing}
@@ -10,7 +11,8 @@ use Rattle.pool_workers.specs.Task.{IsUncutOr}
 use Rattle.pool_workers.specs.Crew.{Tasks, task_at, AreTasks, HasCompartments, standing_at}
 use Rattle.cnvm_session.specs.declared.answer.Answer.TheVariants as answer
 use Rattle.workers_session.specs.declared.line.WorkersLine.{WorkersLine}
-use Rattle.workers_session.specs.declared.line.WorkersLine.TheVariants.{Plain, RefusedWorker, RefusedBusy}
+use Rattle.workers_session.specs.declared.line.WorkersLine.TheVariants.{Plain, RefusedWorker}
+use Rattle.workers_session.specs.declared.line.WorkersLine.TheVariants.{RefusedBusy}
 
 pub record WorkersState : Type 0 where
   pub tasks : Tasks

@@ -1,18 +1,28 @@
 //! The workers of a program on one device, and what each command does to them.
 
-ghost use Rattle.std.specs.Prelude.{ℕ, ◌≡◌, ◌+◌, ◌*◌, ◌≤◌, ◌<◌, ◌++◌, true, false, length, None, Some, IfOk, IfErr, IfNone, IsNone, OnOk, IsErrOf, List, [], ◌∷◌, replicate};
+ghost use Rattle.std.specs.Prelude.{ℕ, ◌≡◌, ◌+◌, ◌*◌, ◌≤◌, ◌<◌, ◌++◌, true, false, length, None};
+ghost use Rattle.std.specs.Prelude.{Some, IfOk, IfErr, IfNone, IsNone, OnOk, IsErrOf, List, []};
+ghost use Rattle.std.specs.Prelude.{◌∷◌, replicate};
 ghost use Rattle.pmem.specs.Device.{FaultsRose, blanked, powered};
 ghost use Rattle.pmem.specs.Played.{PlaysAll};
 ghost use Rattle.pool_layout.specs.Sizes.{pool_lines};
-ghost use Rattle.pool_workers.specs.Crew.{task_at, AreTasks, OtherTasksStay, HasCompartments, standing_at};
+ghost use Rattle.pool_workers.specs.Crew.{task_at, AreTasks, OtherTasksStay, HasCompartments};
+ghost use Rattle.pool_workers.specs.Crew.{standing_at};
 ghost use Rattle.pool_workers.specs.Making.{creations};
 ghost use Rattle.recovery.specs.declared.answer.RecoverAnswer.{RecoverAnswer};
 ghost use Rattle.cnvm_session.specs.Outcomes.{answer_of_recovery as recovery_answer};
 ghost use Rattle.workers_session.specs.declared.line.WorkersLine.TheVariants.{Own};
 ghost use Rattle.workers_session.specs.Told.{GivesLines};
 ghost use Rattle.workers_session.specs.declared.line.WorkersLine.{WorkersLine as Line};
-ghost use Rattle.workers_session.specs.WorkersState.{IsReadyFor, unready, marked_line, refusal_at, stranger_in};
-ghost use Rattle.workers_session.specs.WorkersCommands.{scene_of, BeginsAs, Starts, ShowsWorker, LastsWorker, TurnsOnce, TurnList, TurnsGiven, FinishesAll, AreIdle, ends_power, RecoversOne, RecoversFrom, PowersAll, WorkersCommanded, stopped_line, stopped_lines, turn_lines, round_from, rounds_of};
+ghost use Rattle.workers_session.specs.WorkersState.{IsReadyFor, unready, marked_line, refusal_at};
+ghost use Rattle.workers_session.specs.WorkersState.{stranger_in};
+ghost use Rattle.workers_session.specs.WorkersCommands.{scene_of, BeginsAs, Starts, ShowsWorker};
+ghost use Rattle.workers_session.specs.WorkersCommands.{LastsWorker, TurnsOnce, TurnList};
+ghost use Rattle.workers_session.specs.WorkersCommands.{TurnsGiven, FinishesAll, AreIdle};
+ghost use Rattle.workers_session.specs.WorkersCommands.{ends_power, RecoversOne, RecoversFrom};
+ghost use Rattle.workers_session.specs.WorkersCommands.{PowersAll, WorkersCommanded, stopped_line};
+ghost use Rattle.workers_session.specs.WorkersCommands.{stopped_lines, turn_lines, round_from};
+ghost use Rattle.workers_session.specs.WorkersCommands.{rounds_of};
 ghost use Rattle.workers_session.specs.inside.Turning.{Extends, turns_in, busy_one, busy_first};
 
 use crate::line::{WorkersLine, WorkersLines, add, no_line, one};

@@ -1,8 +1,8 @@
 -- What only bodies and proofs need beside `Exact`.
 use Rattle.std.specs.Prelude.{◌+◌, ◌≡◌, ◌≤◌, ◌<◌, List, [], ◌∷◌}
 use Rattle.c_lexer.specs.declared.token.Placed.{Placed}
-use Rattle.c_parser.specs.ItemTree.{ItemTree}
-use Rattle.c_parser.specs.ItemSpelling.{SpellsProgram}
+use Rattle.c_tree.specs.ItemTree.{ItemTree}
+use Rattle.c_tree.specs.ItemSpelling.{SpellsProgram}
 
 -- some tree spells these tokens
 abbrev pub Spelled : List Placed → Type 0

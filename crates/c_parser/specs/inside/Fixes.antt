@@ -3,10 +3,10 @@
 -- promises nothing.
 use Rattle.std.specs.Prelude.{ℕ, ◌≡◌, ◌≢◌, ◌<◌, List}
 use Rattle.c_lexer.specs.declared.token.Placed.{Placed}
-use Rattle.c_parser.specs.declared.kind.Kind.{Kind}
-use Rattle.c_parser.specs.declared.kind.Kind.TheVariants as kind
-use Rattle.c_parser.specs.Kinds.{kind_at}
-use Rattle.c_parser.specs.Operators.{level_of}
+use Rattle.c_tree.specs.declared.kind.Kind.{Kind}
+use Rattle.c_tree.specs.declared.kind.Kind.TheVariants as kind
+use Rattle.c_tree.specs.Kinds.{kind_at}
+use Rattle.c_tree.specs.Operators.{level_of}
 
 -- no other place and no other value is possible
 pub record Fixes {A : Type 0} (P : ℕ → A → Type 0) (end : ℕ) (value : A) : Type 0 where

@@ -3,17 +3,19 @@
 use Rattle.std.specs.Prelude.{ℕ, ◌+◌, ◌≡◌, ◌≢◌, List, Option, option_map, Bool, true, false}
 use Rattle.c_lexer.specs.declared.token.Placed.{Placed}
 use Rattle.c_parser.specs.declared.build_stmt.ForParts.{ForParts}
-use Rattle.c_parser.specs.declared.kind.Kind.{Kind}
-use Rattle.c_parser.specs.declared.kind.Kind.TheVariants as kind
-use Rattle.c_parser.specs.Kinds.{kind_at, ident_at}
-use Rattle.c_parser.specs.ExprTree.{ExprTree, Ident, expr_of}
-use Rattle.c_parser.specs.ExprTree as expr
-use Rattle.c_parser.specs.StmtTree.{TypeTree, DeclarationTree, SimpleTree, FirstTree, StmtTree, Statements, tree_of_first, simple_of}
-use Rattle.c_parser.specs.StmtTree as tree
-use Rattle.c_parser.specs.ItemTree.{FieldTree, ParameterTree, ItemTree}
-use Rattle.c_parser.specs.ItemTree as item
-use Rattle.c_parser.specs.StmtSpelling.{Typed, Declares, Bracketed, Acts, Simply, FirstPart, ValuePart, ThirdPart, Spells, SpellsAll}
-use Rattle.c_parser.specs.ItemSpelling.{SpellsFields, SpellsParameters}
+use Rattle.c_tree.specs.declared.kind.Kind.{Kind}
+use Rattle.c_tree.specs.declared.kind.Kind.TheVariants as kind
+use Rattle.c_tree.specs.Kinds.{kind_at, ident_at}
+use Rattle.c_tree.specs.ExprTree.{ExprTree, Ident, expr_of}
+use Rattle.c_tree.specs.ExprTree as expr
+use Rattle.c_tree.specs.StmtTree.{TypeTree, DeclarationTree, SimpleTree, FirstTree, StmtTree}
+use Rattle.c_tree.specs.StmtTree.{Statements, tree_of_first, simple_of}
+use Rattle.c_tree.specs.StmtTree as tree
+use Rattle.c_tree.specs.ItemTree.{FieldTree, ParameterTree, ItemTree}
+use Rattle.c_tree.specs.ItemTree as item
+use Rattle.c_tree.specs.StmtSpelling.{Typed, Declares, Bracketed, Acts, Simply, FirstPart}
+use Rattle.c_tree.specs.StmtSpelling.{ValuePart, ThirdPart, Spells, SpellsAll}
+use Rattle.c_tree.specs.ItemSpelling.{SpellsFields, SpellsParameters}
 
 -- an action on a target, or a call that stands alone
 pub data ActsOrCalls (ts : List Placed) : ℕ → ℕ → ExprTree → SimpleTree → Type 0 where

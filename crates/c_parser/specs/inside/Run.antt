@@ -1,12 +1,13 @@
 -- The run over a list of tokens: which token is refused, and which one is too deep. The weight of a
 -- token is that of what is open after it, so a closing bracket doesn't count its own pair.
-use Rattle.std.specs.Prelude.{ℕ, ◌+◌, ◌≡◌, List, [], ◌∷◌, Option, Some, None, Bool, true, false, nat_lt, drop}
+use Rattle.std.specs.Prelude.{ℕ, ◌+◌, ◌≡◌, List, [], ◌∷◌, Option, Some, None, Bool, true, false}
+use Rattle.std.specs.Prelude.{nat_lt, drop}
 use Rattle.c_lexer.specs.declared.token.Placed.{Placed}
 use Rattle.c_parser.specs.declared.fault.ParseFault.{ParseFault}
 use Rattle.c_parser.specs.declared.fault.ParseFault.TheVariants as fault
-use Rattle.c_parser.specs.declared.kind.Kind.TheVariants as kind
+use Rattle.c_tree.specs.declared.kind.Kind.TheVariants as kind
 use Rattle.c_parser.specs.declared.want.Want.{Want}
-use Rattle.c_parser.specs.Kinds.{token_kind}
+use Rattle.c_tree.specs.Kinds.{token_kind}
 use Rattle.c_parser.specs.Wants.{parser_step}
 use Rattle.c_parser.specs.Weight.{weight}
 

@@ -1,8 +1,8 @@
 -- What only bodies and proofs need beside `Spelling`.
 use Rattle.std.specs.Prelude.{ℕ, ◌+◌, ◌≡◌, List}
 use Rattle.c_lexer.specs.declared.token.Placed.{Placed}
-use Rattle.c_parser.specs.ExprTree.{ExprTree}
-use Rattle.c_parser.specs.Spelling.{Level}
+use Rattle.c_tree.specs.ExprTree.{ExprTree}
+use Rattle.c_tree.specs.Spelling.{Level}
 
 -- unaries joined by operators of all levels
 abbrev pub Expression : List Placed → ℕ → ℕ → ExprTree → Type 0

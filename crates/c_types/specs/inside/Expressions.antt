@@ -1,6 +1,6 @@
 -- What only bodies and proofs need beside `Expressions`.
 use Rattle.std.specs.Prelude.{◌+◌, List, [], ◌∷◌, ◌++◌, Bool, ◌&&◌, ◌||◌, if◌then◌else◌}
-use Rattle.c_parser.specs.ExprTree.{Arguments, Ident}
+use Rattle.c_tree.specs.ExprTree.{Arguments, Ident}
 use Rattle.c_types.specs.declared.value_type.ValueType.{ValueType}
 use Rattle.c_types.specs.Tables.{Tables, function_named}
 use Rattle.c_types.specs.Expressions.{Scope, call_type, parameters_of, argument_count, all_taken}

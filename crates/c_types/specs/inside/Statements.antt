@@ -1,7 +1,7 @@
 -- What only bodies and proofs need beside `Statements`.
 use Rattle.std.specs.Prelude.{List, [], ◌∷◌, ◌++◌}
-use Rattle.c_parser.specs.StmtTree as stmt
-use Rattle.c_parser.specs.StmtTree.{Statements}
+use Rattle.c_tree.specs.StmtTree as stmt
+use Rattle.c_tree.specs.StmtTree.{Statements}
 use Rattle.c_types.specs.Tables.{Tables}
 use Rattle.c_types.specs.Expressions.{Scope}
 use Rattle.c_types.specs.Statements.{scopes_after}

@@ -1,5 +1,7 @@
 -- A table that a sweep doesn't change (a fixpoint), and the row that reaches each place.
-use Rattle.std.specs.Prelude.{◌≡◌, ◌==◌, ◌+◌, ◌-◌, ◌^◌, ◌<◌, ℕ, zero, suc, Bool, true, List, [], ◌∷◌, Option, Some, None, length, replicate, map, slice_get, slice_set, if◌then◌else◌}
+use Rattle.std.specs.Prelude.{◌≡◌, ◌==◌, ◌+◌, ◌-◌, ◌^◌, ◌<◌, ℕ, zero, suc, Bool, true, List, []}
+use Rattle.std.specs.Prelude.{◌∷◌, Option, Some, None, length, replicate, map, slice_get, slice_set}
+use Rattle.std.specs.Prelude.{if◌then◌else◌}
 use mathlib.Core.Logic.{◌⊎◌}
 use Rattle.ir.specs.declared.instruction.Instruction.{Instruction}
 use Rattle.ir.specs.declared.function.IrFunction.{IrFunction}
@@ -9,7 +11,8 @@ use Rattle.clobber_pass.specs.inside.Class.{slot}
 use Rattle.clobber_pass.specs.Row.{has_bit, tells}
 use Rattle.clobber_pass.specs.inside.Told.{column, column_of, row_width, parameters_at}
 use Rattle.clobber_pass.specs.Sweep.{row_in}
-use Rattle.clobber_pass.specs.inside.Sweep.{exits_of, exit, next_row, jump_target, row_or, join_in, meet_in, rows_led, swept}
+use Rattle.clobber_pass.specs.inside.Sweep.{exits_of, exit, next_row, jump_target, row_or, join_in}
+use Rattle.clobber_pass.specs.inside.Sweep.{meet_in, rows_led, swept}
 
 -- a sweep from a place on changes nothing
 abbrev pub Closed : Topic → List (List (List ℕ)) → ℕ → List (List ℕ) → List ℕ → ℕ

@@ -1,17 +1,21 @@
 -- What only bodies and proofs need beside `Marking`.
-use Rattle.std.specs.Prelude.{◌≡◌, ◌==◌, ◌+◌, ◌-◌, ◌%◌, ◌<◌, not, ℕ, Bool, true, false, List, [], ◌∷◌, Some, length, slice_get, bit_and, if◌then◌else◌}
+use Rattle.std.specs.Prelude.{◌≡◌, ◌==◌, ◌+◌, ◌-◌, ◌%◌, ◌<◌, not, ℕ, Bool, true, false, List, []}
+use Rattle.std.specs.Prelude.{◌∷◌, Some, length, slice_get, bit_and, if◌then◌else◌}
 use mathlib.Core.Logic.{◌⊎◌}
 use Rattle.ir.specs.declared.function.IrFunction.{IrFunction}
 use Rattle.ir.specs.declared.instruction.Target.{Target}
 use Rattle.ir.specs.declared.instruction.Target.TheVariants.{Root, Field}
 use Rattle.ir.specs.declared.instruction.Instruction.{Instruction}
-use Rattle.ir.specs.declared.instruction.Instruction.TheVariants.{Const, Copy, Bin, Jump, Branch, Load, Store, New, Free, Call, Return, Tick, Trap, Log}
+use Rattle.ir.specs.declared.instruction.Instruction.TheVariants.{Const, Copy, Bin, Jump, Branch}
+use Rattle.ir.specs.declared.instruction.Instruction.TheVariants.{Load, Store, New, Free, Call}
+use Rattle.ir.specs.declared.instruction.Instruction.TheVariants.{Return, Tick, Trap, Log}
 use Rattle.ir.specs.declared.fact.Fact.TheVariants.{Freed}
 use Rattle.ir.specs.Places.{instruction_at}
 use Rattle.ir.specs.Clobber.{unwritten, read_fact, WritesHeader}
 use Rattle.ir.specs.Derived.{Flows}
 use Rattle.clobber_pass.specs.declared.topic.Topic.{Topic}
-use Rattle.clobber_pass.specs.declared.topic.Topic.TheVariants.{Frees, Root as Roots, Field as Fields}
+use Rattle.clobber_pass.specs.declared.topic.Topic.TheVariants.{Frees, Root as Roots}
+use Rattle.clobber_pass.specs.declared.topic.Topic.TheVariants.{Field as Fields}
 use Rattle.clobber_pass.specs.Row.{word}
 use Rattle.clobber_pass.specs.inside.Row.{mask}
 use Rattle.clobber_pass.specs.Sweep.{row_in}

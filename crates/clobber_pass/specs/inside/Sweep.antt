@@ -1,7 +1,11 @@
 -- What only bodies and proofs need beside `Sweep`.
-use Rattle.std.specs.Prelude.{◌==◌, ◌+◌, ◌-◌, ℕ, List, [], ◌∷◌, Option, Some, None, length, replicate, slice_index_or, slice_set, bit_and, bit_or, nat_lt, position, if◌then◌else◌}
+use Rattle.std.specs.Prelude.{◌==◌, ◌+◌, ◌-◌, ℕ, List, [], ◌∷◌, Option, Some, None, length}
+use Rattle.std.specs.Prelude.{replicate, slice_index_or, slice_set, bit_and, bit_or, nat_lt}
+use Rattle.std.specs.Prelude.{position, if◌then◌else◌}
 use Rattle.ir.specs.declared.instruction.Instruction.{Instruction}
-use Rattle.ir.specs.declared.instruction.Instruction.TheVariants.{Const, Copy, Bin, Jump, Branch, Load, Store, New, Free, Call, Return, Tick, Trap, Log}
+use Rattle.ir.specs.declared.instruction.Instruction.TheVariants.{Const, Copy, Bin, Jump, Branch}
+use Rattle.ir.specs.declared.instruction.Instruction.TheVariants.{Load, Store, New, Free, Call}
+use Rattle.ir.specs.declared.instruction.Instruction.TheVariants.{Return, Tick, Trap, Log}
 use Rattle.clobber_pass.specs.declared.topic.Topic.{Topic}
 use Rattle.clobber_pass.specs.Row.{word}
 use Rattle.clobber_pass.specs.inside.Row.{after_row}

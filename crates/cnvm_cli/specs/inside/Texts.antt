@@ -8,7 +8,8 @@ use Rattle.cnvm_compile.specs.Compilation.{IsCompiled}
 use Rattle.cnvm_script.specs.declared.command.Command.{Command}
 use Rattle.cnvm_cli.specs.declared.refused.Refused.{Refused}
 use Rattle.cnvm_cli.specs.declared.run.Job.{Job}
-use Rattle.cnvm_cli.specs.Verdict.{OfBytes, ProgramRefuses, ScriptRefuses, HasCommands, TextsGive, TextsRefuse}
+use Rattle.cnvm_cli.specs.Verdict.{OfBytes, ProgramRefuses, ScriptRefuses, HasCommands, TextsGive}
+use Rattle.cnvm_cli.specs.Verdict.{TextsRefuse}
 
 -- all bytes of the source; or it has more than the limit
 abbrev pub TextIs : ℕ → Result (List ℕ) ReadAllFault → List ℕ → Type 0

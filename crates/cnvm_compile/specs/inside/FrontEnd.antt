@@ -1,10 +1,11 @@
 -- What only bodies and proofs need beside `FrontEnd`.
 use Rattle.std.specs.Prelude.{◌+◌, [], ◌≡◌, ◌≢◌, Some, ⊤}
 use Rattle.c_lexer.specs.TokenList.{Tokens}
-use Rattle.c_parser.specs.Program.{Program, tree_of}
+use Rattle.c_tree.specs.Program.{Program, tree_of}
 use Rattle.c_types.specs.Fault.{refusal}
 use Rattle.cnvm_compile.specs.declared.front_end.ProgramFault.{ProgramFault}
-use Rattle.cnvm_compile.specs.declared.front_end.ProgramFault.TheVariants.{Lex, Parse, Types, NoMemory}
+use Rattle.cnvm_compile.specs.declared.front_end.ProgramFault.TheVariants.{Lex, Parse, Types}
+use Rattle.cnvm_compile.specs.declared.front_end.ProgramFault.TheVariants.{NoMemory}
 use Rattle.cnvm_compile.specs.FrontEnd.{IsTree, RefusesToken}
 
 -- each tree of these tokens is this one

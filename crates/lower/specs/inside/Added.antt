@@ -1,19 +1,26 @@
 -- What the functions that write code append to a list of instructions.
-use Rattle.std.specs.Prelude.{◌≡◌, ◌+◌, ℕ, suc, ℤ, List, [], ◌∷◌, ◌++◌, length, Option, Bool, if◌then◌else◌}
+use Rattle.std.specs.Prelude.{◌≡◌, ◌+◌, ℕ, suc, ℤ, List, [], ◌∷◌, ◌++◌, length, Option, Bool}
+use Rattle.std.specs.Prelude.{if◌then◌else◌}
 use Rattle.nvm_base.specs.declared.op.BinOp.{BinOp}
-use Rattle.c_parser.specs.ExprTree.{ExprTree, Arguments}
-use Rattle.c_parser.specs.StmtTree as stmt
-use Rattle.c_parser.specs.StmtTree.{StmtTree, Statements, SimpleTree, FirstTree, InitialTree}
-use Rattle.c_parser.specs.ItemTree.{ParameterTree}
+use Rattle.c_tree.specs.ExprTree.{ExprTree, Arguments}
+use Rattle.c_tree.specs.StmtTree as stmt
+use Rattle.c_tree.specs.StmtTree.{StmtTree, Statements, SimpleTree, FirstTree, InitialTree}
+use Rattle.c_tree.specs.ItemTree.{ParameterTree}
 use Rattle.c_types.specs.Views.{tables_in}
 use Rattle.ir.specs.declared.instruction.Target.{Target}
 use Rattle.ir.specs.declared.instruction.Instruction.{Instruction}
-use Rattle.ir.specs.declared.instruction.Instruction.TheVariants.{Const, Copy, Bin, Load, Jump, Branch}
+use Rattle.ir.specs.declared.instruction.Instruction.TheVariants.{Const, Copy, Bin, Load, Jump}
+use Rattle.ir.specs.declared.instruction.Instruction.TheVariants.{Branch}
 use Rattle.lower.specs.declared.form.Form.{Form}
 use Rattle.lower.specs.declared.source.Source.{Source}
 use Rattle.lower.specs.Names.{Variables, inner_variables, variable_of}
 use Rattle.lower.specs.Program.{parameters_end, parameters_code, variables_after_parameters}
-use Rattle.lower.specs.Lowers.{Context, form_end, form_code, exp_end, exp_code, reg_of, target_end, target_code, target_of, arguments_end, arguments_code, registers_of, or_end, or_code, or_reg, initial_end, initial_code, simple_end, simple_code, first_end, first_code, third_end, third_code, stmt_end, stmt_code, statements_end, statements_code, variables_after, variables_after_first, update_end, update_code}
+use Rattle.lower.specs.Lowers.{Context, form_end, form_code, exp_end, exp_code, reg_of, target_end}
+use Rattle.lower.specs.Lowers.{target_code, target_of, arguments_end, arguments_code, registers_of}
+use Rattle.lower.specs.Lowers.{or_end, or_code, or_reg, initial_end, initial_code, simple_end}
+use Rattle.lower.specs.Lowers.{simple_code, first_end, first_code, third_end, third_code, stmt_end}
+use Rattle.lower.specs.Lowers.{stmt_code, statements_end, statements_code, variables_after}
+use Rattle.lower.specs.Lowers.{variables_after_first, update_end, update_code}
 use Rattle.lower.specs.inside.Lowers.{variables_after_all, for_end, for_code}
 
 -- registers after the parameters' are named by places

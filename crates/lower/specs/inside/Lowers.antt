@@ -1,12 +1,13 @@
 -- What only bodies and proofs need beside `Lowers`.
 use Rattle.std.specs.Prelude.{ℕ, suc, pos, List, [], ◌∷◌, ◌++◌, Option}
-use Rattle.c_parser.specs.ExprTree.{ExprTree}
-use Rattle.c_parser.specs.StmtTree as stmt
-use Rattle.c_parser.specs.StmtTree.{StmtTree, Statements, SimpleTree}
+use Rattle.c_tree.specs.ExprTree.{ExprTree}
+use Rattle.c_tree.specs.StmtTree as stmt
+use Rattle.c_tree.specs.StmtTree.{StmtTree, Statements, SimpleTree}
 use Rattle.ir.specs.declared.instruction.Instruction.{Instruction}
 use Rattle.ir.specs.declared.instruction.Instruction.TheVariants.{Jump, Branch, Tick}
 use Rattle.lower.specs.Names.{Variables, inner_variables}
-use Rattle.lower.specs.Lowers.{Context, or_end, or_reg, or_code, third_end, third_code, variables_after, stmt_end, stmt_code}
+use Rattle.lower.specs.Lowers.{Context, or_end, or_reg, or_code, third_end, third_code}
+use Rattle.lower.specs.Lowers.{variables_after, stmt_end, stmt_code}
 
 -- a `for` after its first part: a tick, the condition, the body, the third part and the jump back;
 -- the codes of condition, body and third part are given

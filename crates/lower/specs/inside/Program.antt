@@ -1,7 +1,8 @@
 -- What only bodies and proofs need beside `Program`.
-use Rattle.std.specs.Prelude.{◌≡◌, ◌≤◌, ◌^◌, ◌+◌, ℕ, suc, List, [], ◌∷◌, ◌++◌, length, Bool, true, ◌&&◌, nat_lt, if◌then◌else◌}
-use Rattle.c_parser.specs.ItemTree.{FunctionTree}
-use Rattle.c_parser.specs.Program.{Program}
+use Rattle.std.specs.Prelude.{◌≡◌, ◌≤◌, ◌^◌, ◌+◌, ℕ, suc, List, [], ◌∷◌, ◌++◌, length, Bool, true}
+use Rattle.std.specs.Prelude.{◌&&◌, nat_lt, if◌then◌else◌}
+use Rattle.c_tree.specs.ItemTree.{FunctionTree}
+use Rattle.c_tree.specs.Program.{Program}
 use Rattle.c_types.specs.Tables.{Tables}
 use Rattle.lower.specs.Lowers.{statements_end}
 use Rattle.lower.specs.Program.{parameters_end, lowered_function}

@@ -5,7 +5,8 @@ use Rattle.pmem.specs.declared.answer.LogAnswer.TheVariants as log
 use Rattle.tx_run.specs.declared.answer.Settled.{Settled}
 use Rattle.tx_run.specs.declared.answer.Settled.TheVariants as settled
 use Rattle.recovery.specs.declared.answer.RecoverAnswer.{RecoverAnswer}
-use Rattle.recovery.specs.declared.answer.RecoverAnswer.TheVariants.{Clean, Redone, Trap, Off, Failed, NoMemory}
+use Rattle.recovery.specs.declared.answer.RecoverAnswer.TheVariants.{Clean, Redone, Trap, Off}
+use Rattle.recovery.specs.declared.answer.RecoverAnswer.TheVariants.{Failed, NoMemory}
 
 -- If the pool is sealed, a power cut is in phase sealed, else in phase unsealed.
 abbrev pub redo_answer : Settled → RecoverAnswer

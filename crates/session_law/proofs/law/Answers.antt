@@ -1,6 +1,7 @@
 use Rattle.session_law.proofs.Commands.{each_command}
 use Rattle.session_law.proofs.Creating.{created_rests}
-use Rattle.session_law.proofs.Chains.{run_chain, chain_kept, chain_grows, chain_whole, created_after, opened_after, open_step}
+use Rattle.session_law.proofs.Chains.{run_chain, chain_kept, chain_grows, chain_whole}
+use Rattle.session_law.proofs.Chains.{created_after, opened_after, open_step}
 use Rattle.session_law.proofs.Opening.{opened_answers}
 use Rattle.session_law.proofs.Phases.{stopped_phase}
 use Rattle.session_law.proofs.Scripts.{script_words}

@@ -1,5 +1,6 @@
 -- What only bodies and proofs need beside `WorkersCommands`.
-use Rattle.std.specs.Prelude.{ℕ, zero, suc, ◌+◌, ◌≡◌, ◌++◌, List, [], ◌∷◌, Option, Some, None, Bool, true, false}
+use Rattle.std.specs.Prelude.{ℕ, zero, suc, ◌+◌, ◌≡◌, ◌++◌, List, [], ◌∷◌, Option, Some, None, Bool}
+use Rattle.std.specs.Prelude.{true, false}
 use Rattle.pool_workers.specs.declared.answer.BeginAnswer.{BeginAnswer}
 use Rattle.pool_workers.specs.declared.answer.BeginAnswer.TheVariants as begins
 use Rattle.pool_workers.specs.declared.task.Task.{Task}

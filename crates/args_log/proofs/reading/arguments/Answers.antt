@@ -1,4 +1,5 @@
-use Rattle.std.proofs.Common.{◌≡◌, ◌≢◌, ◌∙◌, ⊎_elim, pos, sym, subst, arith, rules, w64, FitsSigned, to_z, of_z, slice_index_or, slice_set, ℕ, ◌+◌}
+use Rattle.std.proofs.Common.{◌≡◌, ◌≢◌, ◌∙◌, ⊎_elim, pos, sym, subst, arith, rules, w64, FitsSigned}
+use Rattle.std.proofs.Common.{to_z, of_z, slice_index_or, slice_set, ℕ, ◌+◌}
 use Rattle.std.proofs.lemmas.Bool.{cases_eq}
 use Rattle.std.proofs.lemmas.Int.{to_z-of_z}
 use Rattle.std.proofs.lemmas.List.{get_or-set_same, get_or-set_other, length-set}

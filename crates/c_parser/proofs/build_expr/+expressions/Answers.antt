@@ -1,8 +1,10 @@
 use Rattle.std.proofs.Common.{◌≢◌, ◌∙◌, refl, ap, arith, rules}
-use Rattle.c_parser.specs.declared.kind.Kind.TheVariants as kind
-use Rattle.c_parser.specs.ExprTree.{arguments_in}
-use Rattle.c_parser.specs.Kinds.{kind_at}
-use Rattle.c_parser.proofs.FixesExpr.{led_expr, chain_begins, chain_steps, parts_field, parts_element, parts_none, primary_null, primary_variable, primary_root, primary_new, primary_brackets, arguments_begin}
+use Rattle.c_tree.specs.declared.kind.Kind.TheVariants as kind
+use Rattle.c_tree.specs.ExprTree.{arguments_in}
+use Rattle.c_tree.specs.Kinds.{kind_at}
+use Rattle.c_parser.proofs.FixesExpr.{led_expr, chain_begins, chain_steps, parts_field}
+use Rattle.c_parser.proofs.FixesExpr.{parts_element, parts_none, primary_null, primary_variable}
+use Rattle.c_parser.proofs.FixesExpr.{primary_root, primary_new, primary_brackets, arguments_begin}
 use Rattle.c_parser.proofs.build_expr.+expressions.Goals as goal
 
 pub arguments-others-init : goal.arguments-others-init

@@ -1,6 +1,6 @@
 use Rattle.std.proofs.Common.{◌+◌, ◌*◌, ◌-◌, ◌≤◌, length}
-use Rattle.c_parser.specs.ExprTree.{expr_of, arguments_in}
-use Rattle.c_parser.specs.Spelling.{Level, Chain, SpellsArguments}
+use Rattle.c_tree.specs.ExprTree.{expr_of, arguments_in}
+use Rattle.c_tree.specs.Spelling.{Level, Chain, SpellsArguments}
 use Rattle.c_parser.specs.inside.Fixes.{DerivesFrom, IsFollowed, Over}
 use Rattle.c_parser.proofs.FixesExpr.{MoreFrom}
 use Rattle.c_parser.proofs.build_expr.+expressions.Given as goal

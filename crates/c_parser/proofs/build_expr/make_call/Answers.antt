@@ -1,4 +1,4 @@
-use Rattle.c_parser.proofs.Trees.{expr_of-Call}
+use Rattle.c_tree.proofs.Trees.{expr_of-Call}
 use Rattle.c_parser.proofs.build_expr.make_call.Goals as goal
 
 pub returns : goal.returns

@@ -1,7 +1,7 @@
 use Rattle.std.proofs.Common.{◌+◌, ◌-◌, ◌≤◌, length, map}
-use Rattle.c_parser.specs.declared.kind.Kind.TheVariants as kind
-use Rattle.c_parser.specs.ItemTree.{field_tree}
-use Rattle.c_parser.specs.ItemSpelling.{SpellsFields}
+use Rattle.c_tree.specs.declared.kind.Kind.TheVariants as kind
+use Rattle.c_tree.specs.ItemTree.{field_tree}
+use Rattle.c_tree.specs.ItemSpelling.{SpellsFields}
 use Rattle.c_parser.specs.inside.Fixes.{DerivesFrom, IsFollowed, IsOfKind}
 use Rattle.c_parser.proofs.FixesItem.{FieldsFrom}
 use Rattle.c_parser.proofs.build_item.fields.Given as goal

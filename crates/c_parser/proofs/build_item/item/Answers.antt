@@ -1,4 +1,5 @@
-use Rattle.c_parser.proofs.FixesItem.{led_item, item_struct, item_root, item_transaction, item_function}
+use Rattle.c_parser.proofs.FixesItem.{led_item, item_struct, item_root, item_transaction}
+use Rattle.c_parser.proofs.FixesItem.{item_function}
 use Rattle.c_parser.proofs.build_item.item.Goals as goal
 
 pub returns-then-defines-clause-fixes : goal.returns-then-defines-clause-fixes

@@ -1,5 +1,5 @@
 use Rattle.std.proofs.Common.{◌+◌, ◌-◌, length}
-use Rattle.c_parser.specs.ItemTree.{items_in}
+use Rattle.c_tree.specs.ItemTree.{items_in}
 use Rattle.c_parser.specs.inside.Fixes.{DerivesFrom}
 use Rattle.c_parser.proofs.FixesItem.{Whole, ItemsFrom}
 use Rattle.c_parser.proofs.build_item.items.Given as goal

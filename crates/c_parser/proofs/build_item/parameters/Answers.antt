@@ -1,5 +1,5 @@
 use Rattle.std.proofs.Common.{map, ap}
-use Rattle.c_parser.specs.ItemTree.{parameter_of}
+use Rattle.c_tree.specs.ItemTree.{parameter_of}
 use Rattle.c_parser.proofs.FixesItem.{signature_empty, signature_of_void}
 use Rattle.c_parser.proofs.build_item.parameters.Goals as goal
 

@@ -1,5 +1,5 @@
 use Rattle.std.proofs.Common.{◌+◌, ◌-◌, ◌≤◌, length, map}
-use Rattle.c_parser.specs.ItemTree.{parameter_of}
+use Rattle.c_tree.specs.ItemTree.{parameter_of}
 use Rattle.c_parser.specs.inside.Fixes.{DerivesFrom}
 use Rattle.c_parser.specs.inside.Pieces.{ParametersTo}
 use Rattle.c_parser.proofs.FixesItem.{ParametersFrom}

@@ -1,5 +1,6 @@
 use Rattle.std.proofs.Common.{sym, ◌∙◌}
-use Rattle.c_parser.proofs.FixesStmt.{led_stmt, stated_choice, stated_while, stated_for, stated_plain, block_end}
+use Rattle.c_parser.proofs.FixesStmt.{led_stmt, stated_choice, stated_while, stated_for}
+use Rattle.c_parser.proofs.FixesStmt.{stated_plain, block_end}
 use Rattle.c_parser.proofs.build_stmt.+statements.Goals as goal
 
 pub block-returns-clause-fixes : goal.block-returns-clause-fixes

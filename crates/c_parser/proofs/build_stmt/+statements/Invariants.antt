@@ -1,5 +1,5 @@
 use Rattle.std.proofs.Common.{◌+◌, ◌*◌, ◌-◌, ◌≤◌, length}
-use Rattle.c_parser.specs.StmtTree.{statements_in}
+use Rattle.c_tree.specs.StmtTree.{statements_in}
 use Rattle.c_parser.specs.inside.Fixes.{DerivesFrom}
 use Rattle.c_parser.specs.inside.Pieces.{StatedAll}
 use Rattle.c_parser.proofs.FixesStmt.{RestFrom}

@@ -1,7 +1,7 @@
 use Rattle.std.proofs.Common.{◌≡◌, sym, ap, ◌∙◌}
-use Rattle.c_parser.specs.ExprTree as exprs
-use Rattle.c_parser.specs.ExprTree.{ident_of, expr_of, arguments_in}
-use Rattle.c_parser.proofs.Trees.{expr_of-Call}
+use Rattle.c_tree.specs.ExprTree as exprs
+use Rattle.c_tree.specs.ExprTree.{ident_of, expr_of, arguments_in}
+use Rattle.c_tree.proofs.Trees.{expr_of-Call}
 use Rattle.c_parser.proofs.build_stmt.call_alone.Goals as goal
 
 pub returns-in-Call : goal.returns-in-Call

@@ -1,7 +1,7 @@
 use Rattle.std.proofs.Common.{◌≢◌, rules}
-use Rattle.c_parser.specs.declared.stmt.AssignOp.TheVariants as assign
-use Rattle.c_parser.specs.declared.kind.Kind.TheVariants as kind
-use Rattle.c_parser.specs.Kinds.{kind_at}
+use Rattle.c_tree.specs.declared.stmt.AssignOp.TheVariants as assign
+use Rattle.c_tree.specs.declared.kind.Kind.TheVariants as kind
+use Rattle.c_tree.specs.Kinds.{kind_at}
 use Rattle.c_parser.proofs.FixesStmt.{declares_plain}
 use Rattle.c_parser.proofs.build_stmt.declaration.Goals as goal
 

@@ -1,6 +1,6 @@
 use Rattle.std.proofs.Common.{◌≢◌, refl, rules}
-use Rattle.c_parser.specs.declared.kind.Kind.TheVariants as kind
-use Rattle.c_parser.specs.Kinds.{kind_at}
+use Rattle.c_tree.specs.declared.kind.Kind.TheVariants as kind
+use Rattle.c_tree.specs.Kinds.{kind_at}
 use Rattle.c_parser.proofs.FixesStmt.{typed_int}
 use Rattle.c_parser.proofs.build_stmt.type_name.Goals as goal
 

@@ -3,9 +3,10 @@ use Rattle.c_parser.specs.Exact.{NoneBegins, SomeBegins, SomeSinks}
 use Rattle.c_parser.specs.declared.fault.ParseFault.TheVariants.{Syntax, TooDeep}
 use Rattle.c_parser.proofs.Laws.{light_where_accepted, none_at}
 use Rattle.c_parser.proofs.Viable.{some_at, sinks_at}
-use Rattle.c_parser.proofs.Accepting.{spelled_where_accepted, answered_at, through_err, gives_err, spelled_by}
-use Rattle.c_parser.specs.ItemTree.{items_in}
-use Rattle.c_parser.specs.ItemSpelling.{SpellsProgram}
+use Rattle.c_parser.proofs.Accepting.{spelled_where_accepted, answered_at, through_err, gives_err}
+use Rattle.c_parser.proofs.Accepting.{spelled_by}
+use Rattle.c_tree.specs.ItemTree.{items_in}
+use Rattle.c_tree.specs.ItemSpelling.{SpellsProgram}
 use Rattle.c_parser.proofs.parser.parse.Goals as goal
 
 pub returns-in_err-judge-clause-only : goal.returns-in_err-judge-clause-only

@@ -1,5 +1,5 @@
 use Rattle.std.proofs.Common.{◌≡◌, map, drop}
-use Rattle.c_parser.specs.ItemTree.{field_tree}
+use Rattle.c_tree.specs.ItemTree.{field_tree}
 use Rattle.c_types.specs.Broken.{least_from}
 use Rattle.c_types.specs.Tables.{field_names}
 use Rattle.c_types.specs.Declarations.{fields_broken}

@@ -1,5 +1,5 @@
 use Rattle.std.proofs.Common.{◌≡◌, map, drop}
-use Rattle.c_parser.specs.ItemTree.{function_tree}
+use Rattle.c_tree.specs.ItemTree.{function_tree}
 use Rattle.c_types.specs.Broken.{least_from}
 use Rattle.c_types.specs.Declarations.{functions_broken}
 use Rattle.c_types.specs.Views.{tables_in}

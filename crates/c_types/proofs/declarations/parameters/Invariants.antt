@@ -1,5 +1,5 @@
 use Rattle.std.proofs.Common.{◌≡◌, map, drop}
-use Rattle.c_parser.specs.ItemTree.{parameter_of}
+use Rattle.c_tree.specs.ItemTree.{parameter_of}
 use Rattle.c_types.specs.Broken.{least_from}
 use Rattle.c_types.specs.Declarations.{parameters_broken, scopes_after_parameters}
 use Rattle.c_types.specs.Views.{tables_in}

@@ -1,5 +1,5 @@
 use Rattle.std.proofs.Common.{◌≡◌, map, drop}
-use Rattle.c_parser.specs.ItemTree.{parameter_of}
+use Rattle.c_tree.specs.ItemTree.{parameter_of}
 use Rattle.c_types.specs.Declarations.{all_ints}
 use Rattle.c_types.specs.Views.{tables_in}
 use Rattle.c_types.proofs.declarations.take_ints.Given as goal

@@ -1,6 +1,6 @@
 use Rattle.std.proofs.Common.{◌≡◌, ◌+◌, ◌∙◌, ap, refl}
-use Rattle.c_parser.specs.ExprTree.{Call, expr_of, ident_of, arguments_in}
-use Rattle.c_parser.proofs.Trees.{expr_of-Call}
+use Rattle.c_tree.specs.ExprTree.{Call, expr_of, ident_of, arguments_in}
+use Rattle.c_tree.proofs.Trees.{expr_of-Call}
 use Rattle.c_types.proofs.Arguments.{arguments_at, and_assoc}
 use Rattle.c_types.proofs.Told.{told_append}
 use Rattle.c_types.proofs.expressions.+expressions.Goals as goal

@@ -1,7 +1,7 @@
 use Rattle.std.proofs.Common.{◌≡◌, drop, map}
 use Rattle.std.specs.Prelude.{◌&&◌}
-use Rattle.c_parser.specs.ExprTree.{arguments_in}
-use Rattle.c_parser.specs.ItemTree.{parameter_of}
+use Rattle.c_tree.specs.ExprTree.{arguments_in}
+use Rattle.c_tree.specs.ItemTree.{parameter_of}
 use Rattle.c_types.specs.Broken.{least_from}
 use Rattle.c_types.specs.Expressions.{all_taken, broken_in_all}
 use Rattle.c_types.specs.Views.{tables_in}

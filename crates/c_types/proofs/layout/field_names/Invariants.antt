@@ -1,5 +1,5 @@
 use Rattle.std.proofs.Common.{◌≡◌, ◌++◌, map, drop}
-use Rattle.c_parser.specs.ItemTree.{FieldTree, field_tree}
+use Rattle.c_tree.specs.ItemTree.{FieldTree, field_tree}
 use Rattle.c_types.proofs.layout.field_names.Given as goal
 
 abbrev pub invariant-loop-field : goal.invariant-loop-field

@@ -1,5 +1,5 @@
 use Rattle.std.proofs.Common.{◌≡◌, ◌+◌, ◌-◌, ◌^◌, ◌≤◌, map, drop, min}
-use Rattle.c_parser.specs.ItemTree.{field_tree}
+use Rattle.c_tree.specs.ItemTree.{field_tree}
 use Rattle.c_types.specs.Tables as tables
 use Rattle.c_types.proofs.layout.words_before.Given as goal
 

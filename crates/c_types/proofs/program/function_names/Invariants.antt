@@ -1,5 +1,5 @@
 use Rattle.std.proofs.Common.{◌≡◌, ◌++◌, map, drop}
-use Rattle.c_parser.specs.ItemTree.{FunctionTree, function_tree}
+use Rattle.c_tree.specs.ItemTree.{FunctionTree, function_tree}
 use Rattle.c_types.proofs.program.function_names.Given as goal
 
 abbrev pub invariant-loop-function : goal.invariant-loop-function

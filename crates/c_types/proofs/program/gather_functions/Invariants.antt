@@ -1,5 +1,5 @@
 use Rattle.std.proofs.Common.{◌≡◌, ◌++◌, map, drop}
-use Rattle.c_parser.specs.ItemTree.{items_in, function_tree}
+use Rattle.c_tree.specs.ItemTree.{items_in, function_tree}
 use Rattle.c_types.specs.Tables.{function_trees}
 use Rattle.c_types.proofs.program.gather_functions.Given as goal
 

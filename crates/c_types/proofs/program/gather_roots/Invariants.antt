@@ -1,5 +1,5 @@
 use Rattle.std.proofs.Common.{◌≡◌, ◌++◌, map, drop}
-use Rattle.c_parser.specs.ItemTree.{items_in}
+use Rattle.c_tree.specs.ItemTree.{items_in}
 use Rattle.c_types.specs.Tables.{roots_of}
 use Rattle.c_types.specs.Views.{root_of}
 use Rattle.c_types.proofs.program.gather_roots.Given as goal

@@ -1,5 +1,5 @@
 use Rattle.std.proofs.Common.{◌≡◌, ◌++◌, drop}
-use Rattle.c_parser.specs.ItemTree.{items_in}
+use Rattle.c_tree.specs.ItemTree.{items_in}
 use Rattle.c_types.specs.Tables.{structs_of}
 use Rattle.c_types.proofs.program.gather_structs.Given as goal
 

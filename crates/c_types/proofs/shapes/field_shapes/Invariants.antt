@@ -1,5 +1,5 @@
 use Rattle.std.proofs.Common.{◌≡◌, ◌++◌, map, drop}
-use Rattle.c_parser.specs.ItemTree.{field_tree}
+use Rattle.c_tree.specs.ItemTree.{field_tree}
 use Rattle.c_types.specs.Shapes.{field_shape}
 use Rattle.c_types.proofs.shapes.field_shapes.Given as goal
 

@@ -1,5 +1,5 @@
 use Rattle.std.proofs.Common.{◌≡◌, drop}
-use Rattle.c_parser.specs.StmtTree.{statements_in}
+use Rattle.c_tree.specs.StmtTree.{statements_in}
 use Rattle.c_types.specs.Broken.{least_from}
 use Rattle.c_types.specs.Statements.{statements_broken}
 use Rattle.c_types.specs.inside.Statements.{scopes_after_all}

@@ -1,5 +1,5 @@
 use Rattle.std.proofs.Common.{◌≡◌, ◌++◌, map, drop}
-use Rattle.c_parser.specs.ItemTree.{function_tree}
+use Rattle.c_tree.specs.ItemTree.{function_tree}
 use Rattle.c_types.specs.Shapes.{transactions_in}
 use Rattle.c_types.specs.Transactions.{entry_of}
 use Rattle.c_types.proofs.transactions.transactions.Given as goal

@@ -4,7 +4,8 @@ use Rattle.pool_layout.specs.Places.{at, pool_of}
 use Rattle.pool_layout.specs.declared.places.Place.TheVariants.{Heap}
 use Rattle.pool_layout.specs.Restored.{undone}
 use Rattle.clobber_log.specs.Restore.{as_heap_word, word_in_record, old_in_record}
-use Rattle.clobber_log.proofs.Backwards.{on_after, kept_after, all_more, part_more, part_here, heap_more}
+use Rattle.clobber_log.proofs.Backwards.{on_after, kept_after, all_more, part_more, part_here}
+use Rattle.clobber_log.proofs.Backwards.{heap_more}
 use Rattle.clobber_log.proofs.restoring.restore_records.Goals as goal
 
 pub returns-in-Err-clause-refused : goal.returns-in-Err-clause-refused

@@ -1,5 +1,5 @@
 use Rattle.std.proofs.Common.{◌≡◌, drop}
-use Rattle.c_parser.specs.StmtTree.{statements_in}
+use Rattle.c_tree.specs.StmtTree.{statements_in}
 use Rattle.lower.specs.Assigned.{is_assigned}
 use Rattle.lower.proofs.assigned.+assigned.Given as goal
 

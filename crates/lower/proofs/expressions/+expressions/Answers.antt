@@ -3,12 +3,13 @@ use Rattle.std.specs.Int.{w64}
 use Rattle.std.proofs.lemmas.Int.{to_z-of_z}
 use Rattle.std.proofs.lemmas.Result.{IfOk-weaker}
 use Rattle.ir.specs.declared.instruction.Instruction.TheVariants.{Const}
-use Rattle.c_parser.specs.ExprTree.{Arguments, Call, ident_of, expr_of, arguments_in}
-use Rattle.c_parser.proofs.Trees.{expr_of-Call}
+use Rattle.c_tree.specs.ExprTree.{Arguments, Call, ident_of, expr_of, arguments_in}
+use Rattle.c_tree.proofs.Trees.{expr_of-Call}
 use Rattle.c_types.proofs.Arguments.{arguments_at}
 use Rattle.lower.specs.Lowers.{arguments_end}
 use Rattle.lower.specs.inside.Added.{Put, context_of}
-use Rattle.lower.proofs.ExprAdds.{arguments_code_more, arguments_registers_more, both_added, either_added, constant_first}
+use Rattle.lower.proofs.ExprAdds.{arguments_code_more, arguments_registers_more, both_added}
+use Rattle.lower.proofs.ExprAdds.{either_added, constant_first}
 use Rattle.lower.proofs.expressions.+expressions.Goals as goal
 
 pub add_arguments-loop-argument-preserved : goal.add_arguments-loop-argument-preserved

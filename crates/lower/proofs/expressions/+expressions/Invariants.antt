@@ -1,5 +1,5 @@
 use Rattle.std.proofs.Common.{◌≡◌, ◌++◌, length, drop}
-use Rattle.c_parser.specs.ExprTree.{arguments_in}
+use Rattle.c_tree.specs.ExprTree.{arguments_in}
 use Rattle.lower.specs.Lowers.{arguments_end, arguments_code, registers_of}
 use Rattle.lower.specs.inside.Added.{context_of}
 use Rattle.lower.proofs.expressions.+expressions.Given as goal

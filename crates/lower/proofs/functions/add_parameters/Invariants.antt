@@ -1,6 +1,6 @@
 use Rattle.std.proofs.Common.{◌≡◌, ◌++◌, length, drop, map}
-use Rattle.c_parser.specs.StmtTree.{statements_in}
-use Rattle.c_parser.specs.ItemTree.{parameter_of}
+use Rattle.c_tree.specs.StmtTree.{statements_in}
+use Rattle.c_tree.specs.ItemTree.{parameter_of}
 use Rattle.lower.specs.inside.Added.{context_of}
 use Rattle.lower.specs.Program.{parameters_end, parameters_code, variables_after_parameters}
 use Rattle.lower.proofs.functions.add_parameters.Given as goal

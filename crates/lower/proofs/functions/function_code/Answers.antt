@@ -1,5 +1,5 @@
 use Rattle.std.proofs.Common.{◌∙◌, ap}
-use Rattle.c_parser.specs.ItemTree.{function_tree}
+use Rattle.c_tree.specs.ItemTree.{function_tree}
 use Rattle.lower.specs.inside.Added.{context_of}
 use Rattle.lower.specs.Names.{inner_variables}
 use Rattle.lower.proofs.FunctionAdds.{function_added, function_long}

@@ -1,6 +1,6 @@
 use Rattle.std.proofs.Common.{◌∙◌, ap, sym}
-use Rattle.c_parser.specs.ItemTree.{items_in}
-use Rattle.c_parser.specs.Program.{Program}
+use Rattle.c_tree.specs.ItemTree.{items_in}
+use Rattle.c_tree.specs.Program.{Program}
 use Rattle.c_types.specs.Tables.{tables_of}
 use Rattle.c_types.specs.Views.{tables_in}
 use Rattle.lower.proofs.Lengths.{lowered_short}

@@ -1,6 +1,6 @@
 use Rattle.std.proofs.Common.{◌≡◌, ◌++◌, true, drop, map}
 use Rattle.std.specs.List.{AllByRecursion}
-use Rattle.c_parser.specs.ItemTree.{function_tree}
+use Rattle.c_tree.specs.ItemTree.{function_tree}
 use Rattle.c_types.specs.Views.{tables_in}
 use Rattle.lower.specs.Program.{lowered_function}
 use Rattle.lower.specs.inside.Program.{take_few, IsCounted}

@@ -1,5 +1,5 @@
 use Rattle.std.proofs.Common.{◌≡◌, drop, map}
-use Rattle.c_parser.specs.ItemTree.{function_tree}
+use Rattle.c_tree.specs.ItemTree.{function_tree}
 use Rattle.lower.specs.inside.Program.{take_few}
 use Rattle.lower.proofs.functions.take_few.Given as goal
 

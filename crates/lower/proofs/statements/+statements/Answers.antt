@@ -1,12 +1,13 @@
 use Rattle.std.specs.Prelude.{option_map}
 use Rattle.std.proofs.Common.{◌∙◌, ◌+◌, ap, drop}
-use Rattle.c_parser.specs.ExprTree.{expr_of}
-use Rattle.c_parser.specs.StmtTree.{Statements, stmt_of, simple_of, statements_in}
+use Rattle.c_tree.specs.ExprTree.{expr_of}
+use Rattle.c_tree.specs.StmtTree.{Statements, stmt_of, simple_of, statements_in}
 use Rattle.c_types.proofs.After.{statements_at}
 use Rattle.lower.specs.inside.Holes.{leave}
 use Rattle.lower.specs.Lowers.{statements_end}
 use Rattle.lower.specs.inside.Added.{context_of}
-use Rattle.lower.proofs.StmtAdds.{statements_code_more, after_all_more, if_part_added, else_part_added, while_added, for_added, block_added}
+use Rattle.lower.proofs.StmtAdds.{statements_code_more, after_all_more, if_part_added}
+use Rattle.lower.proofs.StmtAdds.{else_part_added, while_added, for_added, block_added}
 use Rattle.lower.proofs.statements.+statements.Goals as goal
 
 pub add_statements-loop-stmt-preserved : goal.add_statements-loop-stmt-preserved

@@ -1,5 +1,5 @@
 use Rattle.std.proofs.Common.{◌≡◌, ◌++◌, length, drop}
-use Rattle.c_parser.specs.StmtTree.{statements_in}
+use Rattle.c_tree.specs.StmtTree.{statements_in}
 use Rattle.lower.specs.inside.Holes.{leave}
 use Rattle.lower.specs.Lowers.{statements_end, statements_code}
 use Rattle.lower.specs.inside.Lowers.{variables_after_all}

@@ -1,6 +1,6 @@
 use Rattle.std.proofs.Common.{sym}
 use Rattle.std.proofs.lemmas.Result.{on_ok_weaker}
-use Rattle.c_parser.specs.ExprTree.{expr_of}
+use Rattle.c_tree.specs.ExprTree.{expr_of}
 use Rattle.lower.specs.inside.Added.{context_of}
 use Rattle.lower.proofs.StmtAdds.{update_target}
 use Rattle.lower.proofs.statements.add_update.Goals as goal

@@ -1,4 +1,5 @@
-use Rattle.nvm_base.proofs.LawLemmas.{unsigned_law, places_law, shift_law, eq_law, and_law, or_law, xor_law}
+use Rattle.nvm_base.proofs.LawLemmas.{unsigned_law, places_law, shift_law, eq_law, and_law, or_law}
+use Rattle.nvm_base.proofs.LawLemmas.{xor_law}
 use Rattle.nvm_base.proofs.laws.word_laws.Goals as goal
 
 pub returns : goal.returns

@@ -1,4 +1,5 @@
-use Rattle.std.proofs.Common.{rules, arith, ◌≡◌, ◌∙◌, ◌+◌, ◌++◌, ◌∷◌, [], List, ℕ, ℤ, pos, length, get_or, drop, ap, refl, FitsSigned, w64, length-drop}
+use Rattle.std.proofs.Common.{rules, arith, ◌≡◌, ◌∙◌, ◌+◌, ◌++◌, ◌∷◌, [], List, ℕ, ℤ, pos, length}
+use Rattle.std.proofs.Common.{get_or, drop, ap, refl, FitsSigned, w64, length-drop}
 use Rattle.std.proofs.lemmas.Int.{to_z-of_z}
 use Rattle.std.proofs.lemmas.List.{length_push}
 use Rattle.pm_machine.proofs.Stacks.{words_step}

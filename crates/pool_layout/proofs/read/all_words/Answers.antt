@@ -1,4 +1,5 @@
-use Rattle.std.proofs.Common.{◌≡◌, ℕ, ◌<◌, get_or, ◌≤◌, ◌+◌, ◌++◌, ◌∷◌, [], ◌*◌, length, length-append, rules, arith, FitsSigned, w64}
+use Rattle.std.proofs.Common.{◌≡◌, ℕ, ◌<◌, get_or, ◌≤◌, ◌+◌, ◌++◌, ◌∷◌, [], ◌*◌, length}
+use Rattle.std.proofs.Common.{length-append, rules, arith, FitsSigned, w64}
 use Rattle.std.proofs.lemmas.Int.{to_z-of_z}
 use Rattle.pool_layout.proofs.Words.{bytes_of-more, each-more, words_agree}
 use Rattle.pool_layout.proofs.read.all_words.Goals as goal

@@ -1,4 +1,6 @@
-use Rattle.pool_map.proofs.Points.{object_at-with_object_same, object_at-with_object_other, read-new, read-write_same, read-write_other, kind-write, read_root-write_root_same, read_root-write_root_other}
+use Rattle.pool_map.proofs.Points.{object_at-with_object_same, object_at-with_object_other}
+use Rattle.pool_map.proofs.Points.{read-new, read-write_same, read-write_other, kind-write}
+use Rattle.pool_map.proofs.Points.{read_root-write_root_same, read_root-write_root_other}
 use Rattle.pool_map.proofs.Least.{least_free-some, least_free-none}
 use Rattle.pool_map.proofs.law.laws.Goals as goal
 

@@ -4,7 +4,8 @@ use Rattle.tx_run.specs.declared.answer.CallAnswer.{CallAnswer}
 use Rattle.tx_run.specs.Settled.{Settles}
 use Rattle.tx_run.specs.Due.{due_on}
 use Rattle.tx_run.specs.Called.{Called}
-use Rattle.tx_run.proofs.CallParts.{still_on, spent_of, called_of, seal_off, seal_failed, seal_short}
+use Rattle.tx_run.proofs.CallParts.{still_on, spent_of, called_of, seal_off, seal_failed}
+use Rattle.tx_run.proofs.CallParts.{seal_short}
 use Rattle.tx_run.proofs.calling.run.Goals as goal
 
 pub returns-in-Done-clause-called : goal.returns-in-Done-clause-called

@@ -1,4 +1,5 @@
-use Rattle.std.proofs.Common.{◌≡◌, ◌∙◌, ◌*◌, ◌+◌, ◌<◌, ◌++◌, sym, ap, length, arith, length-append, List, ◌∷◌, [], ℕ, ℤ}
+use Rattle.std.proofs.Common.{◌≡◌, ◌∙◌, ◌*◌, ◌+◌, ◌<◌, ◌++◌, sym, ap, length, arith, length-append}
+use Rattle.std.proofs.Common.{List, ◌∷◌, [], ℕ, ℤ}
 use Rattle.std.specs.Prelude.{vec_capacity}
 use Rattle.pm_machine.specs.Stack.{Stack, frame_of, frames_of}
 use Rattle.pm_machine.specs.declared.frame.Frame.{Frame}

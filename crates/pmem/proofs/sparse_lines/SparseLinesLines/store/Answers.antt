@@ -1,4 +1,5 @@
-use Rattle.std.proofs.Common.{ℤ, ◌≡◌, ◌<◌, ◌*◌, ◌+◌, ◌/◌, List, ap, ◌∙◌, slice_range, FitsSigned, w64, arith}
+use Rattle.std.proofs.Common.{ℤ, ◌≡◌, ◌<◌, ◌*◌, ◌+◌, ◌/◌, List, ap, ◌∙◌, slice_range, FitsSigned}
+use Rattle.std.proofs.Common.{w64, arith}
 use Rattle.cache_model.specs.Event.{Store}
 use Rattle.cache_model.specs.Play.{after}
 use Rattle.pmem.specs.Sparse.{Sparse, sparse_memory}

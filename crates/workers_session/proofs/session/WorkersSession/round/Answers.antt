@@ -1,9 +1,11 @@
-use Rattle.std.proofs.Common.{◌≡◌, ◌∙◌, ◌++◌, ◌+◌, ◌-◌, ◌≤◌, ◌<◌, List, [], ℕ, ap, sym, subst, length, arith}
+use Rattle.std.proofs.Common.{◌≡◌, ◌∙◌, ◌++◌, ◌+◌, ◌-◌, ◌≤◌, ◌<◌, List, [], ℕ, ap, sym, subst}
+use Rattle.std.proofs.Common.{length, arith}
 use Rattle.workers_session.specs.WorkersState.{WorkersState}
 use Rattle.workers_session.specs.WorkersCommands.{scene_of, round_from}
 use Rattle.workers_session.proofs.Extending.{extends_more, extends_nothing}
 use Rattle.workers_session.proofs.Rounds.{busy_more}
-use Rattle.workers_session.proofs.Turnings.{LeadsOn, leads_next, leads_over, leads_end, round_next, round_none}
+use Rattle.workers_session.proofs.Turnings.{LeadsOn, leads_next, leads_over, leads_end, round_next}
+use Rattle.workers_session.proofs.Turnings.{round_none}
 use Rattle.workers_session.proofs.session.WorkersSession.round.Goals as goal
 
 pub returns-then-self-clause-does : goal.returns-then-self-clause-does

@@ -1,4 +1,5 @@
-use Rattle.std.proofs.Common.{◌≡◌, ◌∙◌, ◌++◌, ◌+◌, List, [], ℕ, None, ap, sym, subst, drop, length, slice_index, arith}
+use Rattle.std.proofs.Common.{◌≡◌, ◌∙◌, ◌++◌, ◌+◌, List, [], ℕ, None, ap, sym, subst, drop, length}
+use Rattle.std.proofs.Common.{slice_index, arith}
 use Rattle.std.proofs.lemmas.List.{drop_all}
 use Rattle.workers_session.specs.WorkersState.{WorkersState, stranger_in}
 use Rattle.workers_session.specs.WorkersCommands.{scene_of}

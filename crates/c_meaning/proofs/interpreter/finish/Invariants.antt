@@ -1,9 +1,0 @@
-use Rattle.std.proofs.Common.{◌≡◌}
-use Rattle.c_types.specs.Views.{tables_in}
-use Rattle.c_meaning.specs.inside.Resume.{resumed, resumed_at}
-use Rattle.c_meaning.proofs.interpreter.finish.Given as goal
-
--- the remaining run has the outcome of the whole run from the start
-abbrev pub invariant-loop : goal.invariant-loop
-invariant-loop l = resumed_at (tables_in l.program) l.how l.run ≡ resumed (tables_in l.program)
-    l.initial.run

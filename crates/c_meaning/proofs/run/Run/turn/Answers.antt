@@ -1,9 +1,0 @@
-use Rattle.std.proofs.Common.{◌∙◌}
-use Rattle.c_parser.specs.StmtTree.{stmt_of}
-use Rattle.c_meaning.proofs.Resume.{turn-then}
-use Rattle.c_meaning.proofs.run.Run.turn.Goals as goal
-
-pub returns-clause-does : goal.returns-clause-does
-returns-clause-does c = λ t. c.in_ok-plan_condition.ensures t
-    ∙ rw (c.in_ok-tick.ensures, c.in_ok-plan_stmt.ensures)
-    (turn-then t c.tick.new.self (stmt_of c.args.stmt.now))

@@ -1,0 +1,10 @@
+pub mod ExprTree
+pub mod StmtTree
+pub mod ItemTree
+pub mod Program
+pub mod Kinds
+pub mod Operators
+pub mod Spelling
+pub mod StmtSpelling
+pub mod ItemSpelling
+pub mod inside

@@ -1,0 +1,3 @@
+-- What only bodies and proofs need: no public clause rests on it.
+pub mod ExprTree
+pub mod StmtTree

@@ -1,0 +1,11 @@
+use Rattle.std.proofs.Common.{◌≡◌, reverse, length, vec_len}
+use Rattle.interpreter.proofs.Tops.{reverse-take}
+use Rattle.interpreter.proofs.stacks.Values.forget.Goals as goal
+
+pub returns : goal.returns
+returns c =
+    let long : vec_len c.self.inside.all ≡ length c.self.inside.all.items =
+    cc c.self.inside.all.ok.0 in
+    let now : c.args.self.now ≡ reverse c.self.inside.all.items = cc c.self.view_is in
+    rw (c.truncate.ensures.items, c.saturating_sub-first.ensures, c.len.ensures, long, now)
+    (reverse-take c.args.count c.self.inside.all.items)
