@@ -10,3 +10,4 @@ pub mod Least
 pub mod Searches
 pub mod Agree
 pub mod KnownAfter
+pub mod Registers

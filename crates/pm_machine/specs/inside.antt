@@ -3,3 +3,4 @@ pub mod Answers
 pub mod Known
 pub mod Machine
 pub mod Runs
+pub mod Stack

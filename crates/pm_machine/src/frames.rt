@@ -5,22 +5,24 @@ ghost use Rattle.std.specs.Prelude.{IfOk, length, take, slice_get, vec_capacity}
 ghost use Rattle.pm_machine.specs.Stack.{Stack};
 
 use crate::frame::Frame;
+use crate::machine::fill;
 use std::alloc::{AllocError, Global};
 use std::marker::Model;
 
 /// The greatest number of callers of the open function.
 pub const CALLERS: usize = 255;
 
-/// A frame without its registers.
+/// A frame without its registers, and how many of these are kept; all others are 0.
 #[derive(Clone, Copy, Debug, PartialEq, Eq)]
 pub struct Waiting {
     pub function: u32,
     pub place: usize,
     pub to: u32,
+    pub used: usize,
 }
 
-/// Frames of one size, the latest last, seen with that size. The words of their registers are in
-/// one list, frame after frame.
+/// Frames of one size, the latest last, seen with that size. The kept words of their registers are
+/// in one list, frame after frame.
 #[derive(Drop)]
 pub struct Frames {
     waiting: Vec<Waiting>,
@@ -31,6 +33,7 @@ pub struct Frames {
 impl Model for Frames {
     ghost use Rattle.std.specs.Prelude.{◌≡◌, ◌≤◌, ◌*◌, length, vec_capacity};
     ghost use Rattle.pm_machine.specs.Stack.{Stack, frames_of};
+    ghost use Rattle.pm_machine.specs.inside.Stack.{words_of, AreSized};
 
     ghost Value = { Stack };
 
@@ -39,7 +42,9 @@ impl Model for Frames {
       size = s.size;
     } };
 
-    ghost invariant = { λ s. (255 ≤ vec_capacity s.waiting) × (length s.waiting.items ≤ 255) × (255 * s.size ≤ vec_capacity s.words) × (length s.words.items ≡ s.size * length s.waiting.items) };
+    ghost invariant = { λ s. (255 ≤ vec_capacity s.waiting) × (length s.waiting.items ≤ 255)
+        × (255 * s.size ≤ vec_capacity s.words)
+        × (length s.words.items ≡ words_of s.waiting.items) × AreSized s.size s.waiting.items };
 }
 
 impl Frames {
@@ -71,13 +76,15 @@ impl Frames {
         ensures frames { self.new.frames ≡ self.old.frames ++ frame.now ∷ [] }
         ensures size { self.new.size ≡ self.old.size }
     {
-        push_words(&mut self.words, frame.registers.as_slice());
+        let words = frame.registers.used();
+        push_words(&mut self.words, words);
         push_waiting(
             &mut self.waiting,
             Waiting {
                 function: frame.function,
                 place: frame.place,
                 to: frame.to,
+                used: words.len(),
             },
         );
     }
@@ -98,8 +105,9 @@ impl Frames {
         let Some(waiting) = self.waiting.pop() else {
             return false;
         };
-        let from = self.words.len() - self.size as usize;
-        frame.registers.copy_from(&self.words[from..]);
+        let from = self.words.len() - waiting.used;
+        frame.registers.clear();
+        fill(&mut frame.registers, &self.words[from..]);
         self.words.truncate(from);
         frame.function = waiting.function;
         frame.place = waiting.place;

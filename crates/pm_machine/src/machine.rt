@@ -585,7 +585,7 @@ impl Machine {
 }
 
 /// Writes words into the first registers, one after another.
-fn fill(to: &mut RegisterWords, words: &[i64])
+pub(crate) fn fill(to: &mut RegisterWords, words: &[i64])
     ensures filled { to.new ≡ registers_filled to.old 0 words.now }
     ensures size { length to.new ≡ length to.old }
 {
