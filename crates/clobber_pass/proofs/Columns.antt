@@ -27,15 +27,17 @@ use Rattle.clobber_pass.specs.inside.Told.{row_width, column_of, column, paramet
 use Rattle.clobber_pass.specs.Sweep.{row_in}
 use Rattle.clobber_pass.specs.inside.Sweep.{exits_of, exit, row_joined, join_in, meet_in, rows_led}
 use Rattle.clobber_pass.specs.inside.Sweep.{jump_target, here_in, next_row, swept}
-use Rattle.clobber_pass.specs.inside.Closed.{Closed, Shaped, Made, entry_word, entry_from}
-use Rattle.clobber_pass.specs.inside.Closed.{entry_row, ShapedExits, Within, EndedIn, Ended}
-use Rattle.clobber_pass.specs.inside.Closed.{no_exits, joined_exits}
-use Rattle.clobber_pass.specs.inside.Closed.Made.{none, more}
+use Rattle.clobber_pass.specs.inside.Closed.{Closed, Shaped, Stage, Reached, Made, entry_word}
+use Rattle.clobber_pass.specs.inside.Closed.{entry_from, entry_row, ShapedExits, Within, EndedIn}
+use Rattle.clobber_pass.specs.inside.Closed.{Ended, no_exits, joined_exits}
+use Rattle.clobber_pass.specs.inside.Closed.Stage.{Table, RowAt}
+use Rattle.clobber_pass.specs.inside.Closed.Reached.{none, again, raised, taken, picked, dropped}
+use Rattle.clobber_pass.specs.inside.Closed.Reached.{leads, goes}
 use Rattle.clobber_pass.specs.inside.Sound.{Backed, SoundExits}
 use Rattle.clobber_pass.proofs.Fits.{parameters_there}
 use Rattle.clobber_pass.proofs.Bits.{has_bit_zero, has_bit_ones}
 use Rattle.clobber_pass.proofs.Joins.{tells_inside, or_out, row_in_set, row_in_replicate, length_or}
-use Rattle.clobber_pass.proofs.Good.{Steps, Good, GoodRow, GoodOrNone, Sound, swept_good, none_good}
+use Rattle.clobber_pass.proofs.Good.{Steps, Good, GoodRow, GoodOrNone, Sound, reached_good}
 use Rattle.clobber_pass.proofs.Reached.{brought, wide}
 
 -- the words of an entry's row
@@ -99,13 +101,29 @@ length_swept topic exits end (i ∷ is) rows row p =
     (next_row topic exits i (here_in rows p row)) (p + 1)
     ∙ length_led (meet_in rows p row) (jump_target end i) (here_in rows p row) ∙ length-set rows p _
 
+abbrev HasRows : ℕ → Stage → Type 0
+HasRows n (Table rows) = length rows ≡ n
+HasRows n (RowAt p row) = Unit {0}
+
+length_reached : (topic : Topic) (exits : List (List (List ℕ))) (entry : List ℕ)
+    (code : List Instruction) {stage : Stage} → Reached topic exits entry code stage
+    → HasRows (length code + 1) stage
+length_reached topic exits entry code none = length-replicate (length code + 1) []
+length_reached topic exits entry code (again rows made) =
+    length_swept topic exits (length code) code rows entry 0
+    ∙ length_reached topic exits entry code made
+length_reached topic exits entry code (raised rows p s w made at) =
+    length-set rows p _ ∙ length_reached topic exits entry code made
+length_reached topic exits entry code (taken rows p s made) = tt
+length_reached topic exits entry code (picked p row s at) = tt
+length_reached topic exits entry code (dropped p row s at) = tt
+length_reached topic exits entry code (leads p q i row is to at) = tt
+length_reached topic exits entry code (goes p i row is inside at) = tt
+
 pub length_made : (topic : Topic) (exits : List (List (List ℕ))) (entry : List ℕ)
     (code : List Instruction) {rows : List (List ℕ)} → Made topic exits entry code rows
     → length rows ≡ length code + 1
-length_made topic exits entry code none = length-replicate (length code + 1) []
-length_made topic exits entry code (more rows made) =
-    length_swept topic exits (length code) code rows entry 0
-    ∙ length_made topic exits entry code made
+length_made topic exits entry code made = length_reached topic exits entry code made
 
 -- a table of tables after one was written
 exits_of_set : (exits : List (List (List ℕ))) (g : ℕ) (rows : List (List ℕ)) (h : ℕ)
@@ -254,11 +272,9 @@ module _ (ir : Ir) (well : IsWellFormed ir) (topic : Topic) (exits : List (List 
 
   pub made_good : (x : ℕ) (few : x < 16) {rows : List (List ℕ)} → Made topic exits entry u.code rows
       → Good ir well topic exits sound x few g u there (At x) (steps x) rows
-  made_good x few none = none_good ir well topic exits sound x few g u there (At x) (steps x)
-      (length u.code + 1)
-  made_good x few (more rows made) =
-      swept_good ir well topic exits sound x few g u there (At x) (steps x) rows entry
-      (made_good x few made) (entry_good x few)
+  made_good x few made =
+      reached_good ir well topic exits sound x few g u there (At x) (steps x) entry
+      (length_entry topic u.parameters u.registers c) (entry_good x few) made
 
   pub made_shaped : {rows : List (List ℕ)} → Made topic exits entry u.code rows
       → Shaped (row_width topic u.registers) rows

@@ -25,8 +25,8 @@ use Rattle.clobber_pass.specs.inside.Sweep.{exits_of, next_row, row_or}
 use Rattle.clobber_pass.specs.inside.Closed.{row_reaching, seen_in_row, told_in, Shaped, pass_in}
 use Rattle.clobber_pass.specs.inside.Calling.{CalledEnded}
 use Rattle.clobber_pass.specs.inside.Sound.{SoundExits}
-use Rattle.clobber_pass.specs.inside.Flow.{enter_row, BroughtBy, AllBrought, SoundEntries}
-use Rattle.clobber_pass.specs.inside.Flow.{ShapedEntries, StartEntries, at_entry, FlowIn, AllFlow}
+use Rattle.clobber_pass.specs.inside.Flow.{BroughtBy, AllBrought, SoundEntries, ShapedEntries}
+use Rattle.clobber_pass.specs.inside.Flow.{StartEntries, at_entry, FlowIn, AllFlow}
 use Rattle.clobber_pass.specs.inside.Law.{StaysTold, TellsFlows}
 use Rattle.clobber_pass.proofs.Fits.{registers_there}
 use Rattle.clobber_pass.proofs.Joins.{tells_inside}

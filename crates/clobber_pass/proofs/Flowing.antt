@@ -1,7 +1,7 @@
 -- Entries joined with what calls bring record only derived facts.
 use Rattle.std.proofs.Common.{◌≡◌, ◌<◌, ◌≤◌, ◌+◌, ◌-◌, ℕ, zero, suc, Bool, true, false, List, []}
-use Rattle.std.proofs.Common.{◌∷◌, Option, Some, None, length, refl, sym, ◌∙◌, ◌++◌, ap, subst}
-use Rattle.std.proofs.Common.{arith, inl, inr, ⊎_elim}
+use Rattle.std.proofs.Common.{◌∷◌, Option, Some, None, length, refl, sym, ◌∙◌, ap, subst, arith}
+use Rattle.std.proofs.Common.{inl, inr, ⊎_elim}
 use Rattle.std.specs.Prelude.{◌==◌, slice_get, slice_set, nat_lt, if◌then◌else◌}
 use Rattle.std.proofs.lemmas.Bool.{false≢true, le-ltb, eqb-true, eq-eqb}
 use Rattle.std.proofs.lemmas.List.{length-set, get_or-set_same}
@@ -30,7 +30,6 @@ use Rattle.clobber_pass.specs.Sweep.{row_in}
 use Rattle.clobber_pass.specs.inside.Sweep.{exits_of, or_from, row_joined, join_in, next_row}
 use Rattle.clobber_pass.specs.inside.Sweep.{row_or}
 use Rattle.clobber_pass.specs.inside.Closed.{Closed, Shaped, Made, Within}
-use Rattle.clobber_pass.specs.inside.Closed.Made.{none, more}
 use Rattle.clobber_pass.specs.inside.Sound.{SoundExits}
 use Rattle.clobber_pass.specs.inside.Flow.{BroughtBy, AllBrought, FlowIn, FlowEnded, Flowing, Wakes}
 use Rattle.clobber_pass.specs.inside.Flow.{waits, Entries, StartEntries, argument_word, enter_word}
@@ -45,7 +44,7 @@ use Rattle.clobber_pass.proofs.About.{about_at_call}
 use Rattle.clobber_pass.proofs.Joins.{tells_inside, word_or, row_in_set, joined_tells}
 use Rattle.clobber_pass.proofs.Joins.{exits_of_other}
 use Rattle.clobber_pass.proofs.Good.{Steps, Good, GoodRow, GoodOrNone, good_pick, good_next}
-use Rattle.clobber_pass.proofs.Good.{swept_good, none_good}
+use Rattle.clobber_pass.proofs.Good.{reached_good}
 use Rattle.clobber_pass.proofs.Columns.{joined_out, joined_shape}
 
 -- the words at a called function's entry
@@ -216,11 +215,9 @@ module _ (ir : Ir) (well : IsWellFormed ir) (topic : Topic) (exits : List (List 
     pub flow_good : (x : ℕ) (few : x < 16) {rows : List (List ℕ)}
         → Made topic exits entry u.code rows
         → Good ir well topic exits sound x few f u there At flow_steps rows
-    flow_good x few none = none_good ir well topic exits sound x few f u there At flow_steps
-        (length u.code + 1)
-    flow_good x few (more rows made) =
-        swept_good ir well topic exits sound x few f u there At flow_steps rows entry
-        (flow_good x few made) (λ inside. entry_is_good x few)
+    flow_good x few made =
+        reached_good ir well topic exits sound x few f u there At flow_steps entry size
+        (λ inside. entry_is_good x few) made
 
     pub flow_shaped : {rows : List (List ℕ)} → Made topic exits entry u.code rows
         → Shaped (row_width topic u.registers) rows

@@ -1,9 +1,9 @@
 -- A swept table records only derived facts.
-use Rattle.std.proofs.Common.{◌≡◌, ◌<◌, ◌+◌, ℕ, suc, true, List, [], ◌∷◌, Some, length, replicate}
-use Rattle.std.proofs.Common.{refl, sym, ◌∙◌, ap, subst, arith, inl, inr, ⊎_elim}
-use Rattle.std.specs.Prelude.{slice_get, slice_set}
+use Rattle.std.proofs.Common.{◌≡◌, ◌<◌, ◌+◌, ℕ, suc, true, List, [], ◌∷◌, Option, Some, None}
+use Rattle.std.proofs.Common.{length, replicate, refl, sym, ◌∙◌, ap, subst, arith, inl, inr, ⊎_elim}
+use Rattle.std.specs.Prelude.{slice_get, slice_set, bit_or}
 use Rattle.std.proofs.lemmas.Bool.{false≢true, and_parts}
-use Rattle.std.proofs.lemmas.List.{length-replicate}
+use Rattle.std.proofs.lemmas.List.{length-replicate, length-set}
 use Rattle.std.proofs.lemmas.Option.{slice_get_within}
 use mathlib.Core.Logic.{◌⊎◌}
 use Rattle.ir.specs.declared.instruction.Instruction.{Instruction}
@@ -34,14 +34,19 @@ use Rattle.clobber_pass.specs.inside.Sweep.{exits_of, exit, call_from, next_row,
 use Rattle.clobber_pass.specs.inside.Sweep.{or_from, row_joined, join_in, meet_in, row_or, here_in}
 use Rattle.clobber_pass.specs.inside.Sweep.{rows_led, swept}
 use Rattle.clobber_pass.specs.inside.Sound.{Backed, SoundExits}
+use Rattle.clobber_pass.specs.inside.Closed.{Stage, Reached, only}
+use Rattle.clobber_pass.specs.inside.Closed.Stage.{Table, RowAt}
+use Rattle.clobber_pass.specs.inside.Closed.Reached.{none, again, raised, taken, picked, dropped}
+use Rattle.clobber_pass.specs.inside.Closed.Reached.{leads, goes}
 use Rattle.clobber_pass.proofs.About.{about_origins, about_at_call, about_return, about_stays}
 use Rattle.clobber_pass.proofs.Fits.{all_at, args_count}
-use Rattle.clobber_pass.proofs.Bits.{has_bit_zero, has_bit_and}
+use Rattle.clobber_pass.proofs.Bits.{has_bit_zero, has_bit_and, has_bit_or}
+use Rattle.clobber_pass.proofs.Steps.{at_same}
 use Rattle.clobber_pass.proofs.After.{after_told, length_after}
 use Rattle.clobber_pass.proofs.Calls.{or_parts, word_call, length_call, Entry, Brings, gather_out}
 use Rattle.clobber_pass.proofs.Calls.{entry_is, By, after_by}
-use Rattle.clobber_pass.proofs.Joins.{tells_inside, word_zeros, length_or, or_out, row_in_set}
-use Rattle.clobber_pass.proofs.Joins.{row_in_replicate}
+use Rattle.clobber_pass.proofs.Joins.{tells_inside, word_zeros, length_or, or_out, set_out}
+use Rattle.clobber_pass.proofs.Joins.{row_in_set, row_in_replicate}
 
 -- that a walk is here comes only from a walk that is here
 pub here_only : (functions : List IrFunction) {f o p : ℕ} {e b : Fact} → Passes functions f o e p b
@@ -187,37 +192,49 @@ module _ (ir : Ir) (well : IsWellFormed ir) (topic : Topic) (exits : List (List 
   code_at p i is = rw there is
 
   -- the place, other than the next one, to which an instruction leads
-  good_led : (p : ℕ) (i : Instruction) (rows : List (List ℕ)) (row : List ℕ)
-      → slice_get u.code p ≡ Some i → Good rows → GoodRow p row
-      → Good (rows_led rows (jump_target end i) row)
-  good_led p (Jump place) rows row is all one =
-      good_join rows place row all (
+  good_lead : (p q : ℕ) (i : Instruction) (row : List ℕ) → slice_get u.code p ≡ Some i
+      → jump_target end i ≡ Some q → GoodRow p row → GoodRow q row
+  good_lead p q (Jump place) row is to one =
+      let same : place ≡ q = cc in
+      subst (λ r. GoodRow r row) same (
         one.0,
         λ b about t.
             steps.along p place (Jump place) b b is refl (well_at p (Jump place) is)
             (jump_keeps place b) (one.1 b about t),
       )
-  good_led p (Branch on place) rows row is all one =
-      good_join rows place row all (
+  good_lead p q (Branch on place) row is to one =
+      let same : place ≡ q = cc in
+      subst (λ r. GoodRow r row) same (
         one.0,
         λ b about t.
             steps.along p place (Branch on place) b b is (inr refl)
             (well_at p (Branch on place) is).1
             (branch_keeps on place b) (one.1 b about t),
       )
-  good_led p (Return from) rows row is all one =
-      good_join rows end row all (one.0, λ b about t. steps.ends p from b is (one.1 b about t))
-  good_led p (Const to v) rows row is all one = all
-  good_led p (Copy to from) rows row is all one = all
-  good_led p (Bin op to left right) rows row is all one = all
-  good_led p (Load to t) rows row is all one = all
-  good_led p (Store t from line) rows row is all one = all
-  good_led p (New to kind log_fill line) rows row is all one = all
-  good_led p (Free from kind line) rows row is all one = all
-  good_led p (Call to g args) rows row is all one = all
-  good_led p Tick rows row is all one = all
-  good_led p (Trap kind) rows row is all one = all
-  good_led p (Log t) rows row is all one = all
+  good_lead p q (Return from) row is to one =
+      let same : end ≡ q = cc in
+      subst (λ r. GoodRow r row) same
+      (one.0, λ b about t. steps.ends p from b is (one.1 b about t))
+  good_lead p q (Const reg v) row is to one = absurd cc
+  good_lead p q (Copy reg from) row is to one = absurd cc
+  good_lead p q (Bin op reg left right) row is to one = absurd cc
+  good_lead p q (Load reg t) row is to one = absurd cc
+  good_lead p q (Store t from line) row is to one = absurd cc
+  good_lead p q (New reg kind log_fill line) row is to one = absurd cc
+  good_lead p q (Free from kind line) row is to one = absurd cc
+  good_lead p q (Call reg g args) row is to one = absurd cc
+  good_lead p q Tick row is to one = absurd cc
+  good_lead p q (Trap kind) row is to one = absurd cc
+  good_lead p q (Log t) row is to one = absurd cc
+
+  good_led : (p : ℕ) (i : Instruction) (rows : List (List ℕ)) (row : List ℕ)
+      → slice_get u.code p ≡ Some i → Good rows → GoodRow p row
+      → Good (rows_led rows (jump_target end i) row)
+  good_led p i rows row is all one = led (jump_target end i) refl
+    where
+      led : (to : Option ℕ) → jump_target end i ≡ to → Good (rows_led rows to row)
+      led None same = all
+      led (Some q) same = good_join rows q row all (good_lead p q i row is same one)
 
   -- the place after an instruction that is no call and leads to the next place
   good_after : (p : ℕ) (i : Instruction) (row : List ℕ) → slice_get u.code p ≡ Some i
@@ -353,3 +370,91 @@ module _ (ir : Ir) (well : IsWellFormed ir) (topic : Topic) (exits : List (List 
 
   pub none_good : (n : ℕ) → Good (replicate n [])
   none_good n q = inl (row_in_replicate n q)
+
+  -- a row with one word, all of whose facts hold
+  good_only : (p n s w : ℕ) → n ≡ row_width topic u.registers
+      → ((b : Fact) → is_about class b ≡ true → slot b ≡ s → has_bit x w ≡ true → At p b)
+      → GoodRow p (only n s w)
+  good_only p n s w long holds = (
+    length-set (replicate n 0) s w ∙ length-replicate n 0 ∙ long,
+    λ b about h.
+        ⊎_elim
+        (λ (t : tells (replicate n 0) x (slot b) ≡ true). absurd (false≢true
+        (sym (ap (has_bit x) (word_zeros n (slot b)) ∙ has_bit_zero x) ∙ t)))
+        (λ (e : (slot b ≡ s) × (s < length (replicate n 0)) × (has_bit x w ≡ true)).
+        holds b about e.0 e.2)
+        (set_out (replicate n 0) s w (slot b) x h),
+  )
+
+  sound_at : (p : ℕ) (row : List ℕ) (s : ℕ) (b : Fact) → Sound p row → is_about class b ≡ true
+      → slot b ≡ s → tells row x s ≡ true → At p b
+  sound_at p row s b one about same t =
+      one b about (subst (λ k. tells row x k ≡ true) (sym same) t)
+
+  good_dropped : (p : ℕ) (row : List ℕ) (s : ℕ) → GoodRow p row → GoodRow p (slice_set row s 0)
+  good_dropped p row s one = (
+    length-set row s 0 ∙ one.0,
+    λ b about h.
+        ⊎_elim (λ (t : tells row x (slot b) ≡ true). one.1 b about t)
+        (λ (e : (slot b ≡ s) × (s < length row) × (has_bit x 0 ≡ true)).
+        absurd (false≢true (sym (has_bit_zero x) ∙ e.2)))
+        (set_out row s 0 (slot b) x h),
+  )
+
+  good_raised : (p n : ℕ) (row : List ℕ) (s w : ℕ) → n ≡ row_width topic u.registers
+      → GoodOrNone p row → GoodRow p (only n s w)
+      → GoodOrNone p (slice_set row s (bit_or (word row s) w))
+  good_raised p n row s w long (inl is) more =
+      inl (ap (λ r. slice_set r s (bit_or (word r s) w)) is)
+  good_raised p n row s w long (inr one) more =
+      inr (length-set row s (bit_or (word row s) w) ∙ one.0, told)
+    where
+      added : (b : Fact) → is_about class b ≡ true → slot b ≡ s → s < length row
+          → has_bit x w ≡ true → At p b
+      added b about same inside t =
+          let within : s < length (replicate n 0) =
+          omega (arith, length-replicate {A = ℕ} n 0, long, one.0) in
+          sound_at p (only n s w) s b more.1 about same
+          (ap (has_bit x) (at_same (replicate n 0) s w within) ∙ t)
+
+      told : Sound p (slice_set row s (bit_or (word row s) w))
+      told b about h =
+          ⊎_elim (λ (t : tells row x (slot b) ≡ true). one.1 b about t)
+          (λ (e : (slot b ≡ s) × (s < length row) × (has_bit x (bit_or (word row s) w) ≡ true)).
+          ⊎_elim (λ (t : has_bit x (word row s) ≡ true). sound_at p row s b one.1 about e.0 t)
+          (λ (t : has_bit x w ≡ true). added b about e.0 e.1 t)
+          (or_parts (has_bit x (word row s)) (has_bit x w)
+          (sym (has_bit_or x (word row s) w) ∙ e.2)))
+          (set_out row s (bit_or (word row s) w) (slot b) x h)
+
+  word_holds : (p : ℕ) (row : List ℕ) (s : ℕ) (b : Fact) → GoodOrNone p row
+      → is_about class b ≡ true → slot b ≡ s → has_bit x (word row s) ≡ true → At p b
+  word_holds p row s b (inl is) about same t =
+      absurd (false≢true (sym (has_bit_zero x) ∙ subst (λ r. tells r x s ≡ true) is t))
+  word_holds p row s b (inr one) about same t = sound_at p row s b one.1 about same t
+
+  -- what sweeps make from an entry's row, with single words carried on in between
+  module _ (entry : List ℕ) (long : length entry ≡ row_width topic u.registers)
+      (begins : 0 < end → GoodRow 0 entry) where
+    abbrev GoodStage : Stage → Type 0
+    GoodStage (Table rows) = Good rows
+    GoodStage (RowAt p row) = GoodRow p row
+
+    pub reached_good : {stage : Stage} → Reached topic exits entry u.code stage → GoodStage stage
+    reached_good none = none_good (length u.code + 1)
+    reached_good (again rows made) = swept_good rows entry (reached_good made) begins
+    reached_good (raised rows p s w made at) =
+        let all : Good rows = reached_good made in
+        good_set rows p (slice_set (row_in rows p) s (bit_or (word (row_in rows p) s) w)) all
+        (good_raised p (length entry) (row_in rows p) s w long (all p) (reached_good at))
+    reached_good (taken rows p s made) =
+        let all : Good rows = reached_good made in
+        good_only p (length entry) s (word (row_in rows p) s) long
+        (λ b about same t. word_holds p (row_in rows p) s b (all p) about same t)
+    reached_good (picked p row s at) =
+        let one : GoodRow p row = reached_good at in
+        good_only p (length entry) s (word row s) long
+        (λ b about same t. sound_at p row s b one.1 about same t)
+    reached_good (dropped p row s at) = good_dropped p row s (reached_good at)
+    reached_good (leads p q i row is to at) = good_lead p q i row is to (reached_good at)
+    reached_good (goes p i row is inside at) = good_next p i row is inside (reached_good at)

@@ -59,6 +59,19 @@ or_more more ws x s less h =
     ap (has_bit x) (word_or more ws s less) ∙ has_bit_or x (word ws s) (word more s)
     ∙ or_right (tells ws x s) (tells more x s) h
 
+-- what a row records after a word was written
+pub set_out : (row : List ℕ) (s w t x : ℕ) → tells (slice_set row s w) x t ≡ true
+    → (tells row x t ≡ true) ⊎ ((t ≡ s) × (s < length row) × (has_bit x w ≡ true))
+set_out [] s w t x h = inl h
+set_out (v ∷ row) zero w zero x h = inr (refl, omega arith, h)
+set_out (v ∷ row) zero w (suc t) x h = inl h
+set_out (v ∷ row) (suc s) w zero x h = inl h
+set_out (v ∷ row) (suc s) w (suc t) x h =
+    ⊎_elim inl
+    (λ (e : (t ≡ s) × (s < length row) × (has_bit x w ≡ true)).
+    inr (ap suc e.0, omega (arith, e.1), e.2))
+    (set_out row s w t x h)
+
 -- a row of a table after one was written
 pub row_in_set : (rows : List (List ℕ)) (p : ℕ) (row : List ℕ) (q : ℕ)
     → (row_in (slice_set rows p row) q ≡ row_in rows q)

@@ -5,6 +5,7 @@ mod After
 mod Views
 mod About
 mod Calls
+mod Carrying
 mod Fits
 mod Told
 mod Joins

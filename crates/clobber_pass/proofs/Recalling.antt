@@ -1,7 +1,6 @@
 -- A function whose callees' exits stayed need not be swept again.
-use Rattle.std.proofs.Common.{◌≡◌, ◌<◌, ◌≤◌, ◌+◌, ℕ, zero, suc, Bool, true, false, List, [], ◌∷◌}
-use Rattle.std.proofs.Common.{◌++◌, Option, Some, None, length, replicate, refl, sym, ◌∙◌, ap}
-use Rattle.std.proofs.Common.{subst, arith, inl, inr, ⊎_elim}
+use Rattle.std.proofs.Common.{◌≡◌, ◌+◌, ℕ, zero, suc, Bool, true, false, List, [], ◌∷◌, ◌++◌, Some}
+use Rattle.std.proofs.Common.{length, replicate, refl, sym, ◌∙◌, ap, subst, arith, inl, inr}
 use Rattle.std.specs.Prelude.{◌==◌, slice_get, slice_set, if◌then◌else◌, option_and_then}
 use Rattle.std.proofs.lemmas.Bool.{false≢true, eqb-true, eq-eqb}
 use Rattle.std.proofs.lemmas.List.{length-set, length-replicate}
@@ -18,9 +17,11 @@ use Rattle.clobber_pass.specs.Row.{tells}
 use Rattle.clobber_pass.specs.Sweep.{row_in}
 use Rattle.clobber_pass.specs.inside.Sweep.{exits_of, call_from, next_row, row_or, jump_target}
 use Rattle.clobber_pass.specs.inside.Sweep.{meet_in, here_in, rows_led, join_in, swept}
-use Rattle.clobber_pass.specs.inside.Closed.{Closed, Made, Within, EndedIn, Ended, AllColumns}
+use Rattle.clobber_pass.specs.inside.Closed.{Closed, Stage, Reached, Made, EndedIn, AllColumns}
 use Rattle.clobber_pass.specs.inside.Closed.{ShapedExits, entry_row, joined_exits}
-use Rattle.clobber_pass.specs.inside.Closed.Made.{none, more}
+use Rattle.clobber_pass.specs.inside.Closed.Stage.{Table, RowAt}
+use Rattle.clobber_pass.specs.inside.Closed.Reached.{none, again, raised, taken, picked, dropped}
+use Rattle.clobber_pass.specs.inside.Closed.Reached.{leads, goes}
 use Rattle.clobber_pass.specs.inside.Sound.{SoundExits}
 use Rattle.clobber_pass.specs.inside.Flow.{waits}
 use Rattle.clobber_pass.specs.inside.Calling.{IsCalled, edges_at, edges_in, edges_from, woken}
@@ -88,13 +89,35 @@ closed_same topic exits new end (i ∷ is) rows row p same closed =
           (rest_same exits new i is same) closed.2),
     )
 
+reached_same : (topic : Topic) (exits new : List (List (List ℕ))) (entry : List ℕ)
+    (code : List Instruction) {stage : Stage} → SameCalls exits new code
+    → Reached topic exits entry code stage → Reached topic new entry code stage
+reached_same topic exits new entry code same none = none
+reached_same topic exits new entry code same (again rows made) =
+    subst (λ t. Reached topic new entry code (Table t))
+    (swept_same topic exits new (length code) code rows entry 0 same)
+    (again rows (reached_same topic exits new entry code same made))
+reached_same topic exits new entry code same (raised rows p s w made at) =
+    raised rows p s w (reached_same topic exits new entry code same made)
+    (reached_same topic exits new entry code same at)
+reached_same topic exits new entry code same (taken rows p s made) =
+    taken rows p s (reached_same topic exits new entry code same made)
+reached_same topic exits new entry code same (picked p row s at) =
+    picked p row s (reached_same topic exits new entry code same at)
+reached_same topic exits new entry code same (dropped p row s at) =
+    dropped p row s (reached_same topic exits new entry code same at)
+reached_same topic exits new entry code same (leads p q i row is to at) =
+    leads p q i row is to (reached_same topic exits new entry code same at)
+reached_same topic exits new entry code same (goes p i row is inside at) =
+    subst (λ r. Reached topic new entry code (RowAt (suc p) r))
+    (next_same topic exits new i row (λ to g args here.
+    same p to g args (is ∙ ap (λ (j : Instruction). Some j) here)))
+    (goes p i row is inside (reached_same topic exits new entry code same at))
+
 made_same : (topic : Topic) (exits new : List (List (List ℕ))) (entry : List ℕ)
     (code : List Instruction) {rows : List (List ℕ)} → SameCalls exits new code
     → Made topic exits entry code rows → Made topic new entry code rows
-made_same topic exits new entry code same none = none
-made_same topic exits new entry code same (more rows made) =
-    subst (Made topic new entry code) (swept_same topic exits new (length code) code rows entry 0
-    same) (more rows (made_same topic exits new entry code same made))
+made_same topic exits new entry code same made = reached_same topic exits new entry code same made
 
 -- a function that was swept, if its exits and those of its callees stayed
 ended_same : (functions : List IrFunction) (topic : Topic) (exits new : List (List (List ℕ)))

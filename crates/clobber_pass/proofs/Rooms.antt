@@ -1,9 +1,9 @@
 -- A row that grows leaves less room.
-use Rattle.std.proofs.Common.{◌≡◌, ◌<◌, ◌≤◌, ◌+◌, ◌-◌, ◌*◌, ◌^◌, ℕ, zero, suc, List, [], ◌∷◌}
-use Rattle.std.proofs.Common.{length, take, drop, slice_set, refl, sym, ◌∙◌, ap, subst, arith, ◌++◌}
-use Rattle.std.proofs.Common.{map, get_or, Vec, Global}
+use Rattle.std.proofs.Common.{◌≡◌, ◌<◌, ◌≤◌, ◌+◌, ◌*◌, ◌^◌, ℕ, zero, suc, List, [], ◌∷◌, length}
+use Rattle.std.proofs.Common.{take, drop, slice_set, refl, sym, ◌∙◌, ap, subst, arith, ◌++◌, map}
+use Rattle.std.proofs.Common.{get_or, Vec, Global}
 use Rattle.std.specs.Prelude.{bit_or, slice_index_or}
-use Rattle.std.proofs.lemmas.List.{get_or-map, map-set}
+use Rattle.std.proofs.lemmas.List.{get_or-map, map-set, length-set}
 use Rattle.clobber_pass.specs.Row.{word}
 use Rattle.clobber_pass.specs.Sweep.{row_in}
 use Rattle.clobber_pass.specs.inside.Sweep.{or_from}
@@ -140,6 +140,40 @@ filled_room rows table view p row inside none some few =
     room_less table p row inside_table
     (subst (λ r. row_room row < row_room r) (sym none) (filled_less row some few))
 
+-- a row of a table, as the code has it
+row_stands : (rows : List (Vec ℕ Global)) (table : List (List ℕ))
+    → map (λ (v : Vec ℕ Global). v.items) rows ≡ table → (p : ℕ) → p < length rows
+    → (was : Vec ℕ Global) → was ≡ get_or rows p was → was.items ≡ row_in table p
+row_stands rows table view p inside was was_is =
+    ap (λ (v : Vec ℕ Global). v.items) was_is
+    ∙ sym (get_or-map (λ (v : Vec ℕ Global). v.items) rows p was [] inside)
+    ∙ ap (λ t. row_in t p) view
+
+row_room_most : (row old : List ℕ) → length row ≡ length old → words_room row ≤ words_room old
+    → row_room row ≤ row_room old
+row_room_most [] [] same most = omega arith
+row_room_most (w ∷ ws) [] same most = absurd (omega (arith, same))
+row_room_most [] (v ∷ vs) same most = absurd (omega (arith, same))
+row_room_most (w ∷ ws) (v ∷ vs) same most = most
+
+-- a row of a table after bits were added to one of its words
+module _ (rows : List (Vec ℕ Global)) (table : List (List ℕ))
+    (view : map (λ (v : Vec ℕ Global). v.items) rows ≡ table) (p : ℕ) (inside : p < length rows)
+    (was : Vec ℕ Global) (was_is : was ≡ get_or rows p was) (s bits : ℕ) (row : List ℕ)
+    (more : row ≡ slice_set was.items s (bit_or (word was.items s) bits)) where
+  pub raised_row : row ≡ slice_set (row_in table p) s (bit_or (word (row_in table p) s) bits)
+  raised_row = more ∙ ap (λ r. slice_set r s (bit_or (word r s) bits))
+      (row_stands rows table view p inside was was_is)
+
+  pub raised_length : length row ≡ length was.items
+  raised_length = ap (λ (r : List ℕ). length r) more ∙ length-set was.items s _
+
+  pub raised_most : words_room row ≤ words_room was.items
+      → room (slice_set table p row) ≤ room table
+  raised_most most = room_most table p row
+      (subst (λ r. row_room row ≤ row_room r) (row_stands rows table view p inside was was_is)
+      (row_room_most row was.items raised_length most))
+
 -- a row of a table that was joined in place, as the code has it
 module _ (rows : List (Vec ℕ Global)) (table : List (List ℕ))
     (view : map (λ (v : Vec ℕ Global). v.items) rows ≡ table) (p : ℕ) (inside : p < length rows)
@@ -149,10 +183,7 @@ module _ (rows : List (Vec ℕ Global)) (table : List (List ℕ))
   inside_table = subst (λ t. p < length t) view (subst (λ n. p < n) (sym (size rows)) inside)
 
   stands : was.items ≡ row_in table p
-  stands =
-      ap (λ (v : Vec ℕ Global). v.items) was_is
-      ∙ sym (get_or-map (λ (v : Vec ℕ Global). v.items) rows p was [] inside)
-      ∙ ap (λ t. row_in t p) view
+  stands = row_stands rows table view p inside was was_is
 
   pub joined_row : row ≡ or_from more 0 (row_in table p)
   joined_row = joined ∙ ap (or_from more 0) stands

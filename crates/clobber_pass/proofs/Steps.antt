@@ -75,7 +75,7 @@ read_length (Fields s f) (Field b k y i) row = by_cases (s == k)
     by_cases true = length-set row 1 _
     by_cases false = refl
 
-read_other : (t : Topic) (target : Target) (row : List ℕ) (s : ℕ) → s ≢ 1
+pub read_other : (t : Topic) (target : Target) (row : List ℕ) (s : ℕ) → s ≢ 1
     → word (with_read t target row) s ≡ word row s
 read_other Frees target row s unlike = refl
 read_other (Roots f) (Root y i) row s unlike = at_other row 1 s _ unlike

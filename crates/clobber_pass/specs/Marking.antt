@@ -1,9 +1,7 @@
 -- Marks. The mark of a place is a word: bit 0 for its store, bit 1 for the fill of its new object.
-use Rattle.std.specs.Prelude.{◌≡◌, ◌==◌, ◌+◌, ◌-◌, ◌%◌, ◌<◌, ℕ, Bool, true, false, List, [], ◌∷◌}
-use Rattle.std.specs.Prelude.{if◌then◌else◌}
-use mathlib.Core.Logic.{◌⊎◌}
+use Rattle.std.specs.Prelude.{ℕ, Bool, true, false, List}
 use Rattle.ir.specs.declared.site.Site.{Site}
-use Rattle.clobber_pass.specs.Row.{word, tells}
+use Rattle.clobber_pass.specs.Row.{tells}
 use Rattle.clobber_pass.specs.Sweep.{row_in}
 
 -- the bit of a store, or of a fill

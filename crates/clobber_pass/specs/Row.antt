@@ -1,5 +1,5 @@
 -- A row, and the effect on it of an instruction that is no call.
-use Rattle.std.specs.Prelude.{◌==◌, ◌+◌, ◌-◌, ◌^◌, ℕ, Bool, List, slice_index_or, if◌then◌else◌}
+use Rattle.std.specs.Prelude.{◌==◌, ℕ, Bool, List, slice_index_or}
 use Rattle.std.specs.Int.{bit_at}
 
 abbrev pub word : List ℕ → ℕ → ℕ

@@ -1,5 +1,6 @@
 -- What only bodies and proofs need: no public clause rests on it.
 pub mod Calling
+pub mod Carrying
 pub mod Class
 pub mod Closed
 pub mod Flow

@@ -8,8 +8,10 @@
 #![tactic(auto)]
 
 mod calling;
+mod carry;
 mod entry;
 mod flow;
+mod growth;
 mod marking;
 mod passes;
 mod place_marks;

@@ -5,6 +5,7 @@ ghost use Rattle.std.specs.Prelude.{slice_set, bit_or, ◌^◌, None, IfSome, Ok
 ghost use Rattle.clobber_pass.specs.Row as words;
 ghost use Rattle.clobber_pass.specs.Sweep as sweeps;
 ghost use Rattle.clobber_pass.specs.inside.Sweep as inside_sweeps;
+ghost use Rattle.clobber_pass.specs.inside.Closed.{raised_in};
 ghost use Rattle.clobber_pass.specs.inside.Room.{room, words_room};
 
 use crate::row::word;
@@ -111,6 +112,17 @@ impl Rows {
         join_words(&mut self.rows[place], more)
     }
 
+    /// Adds bits to a word of a place's row, if it is there. Returns whether any was new.
+    pub fn raise(&mut self, place: usize, slot: usize, bits: u16) -> bool
+        ensures row { self.new ≡ raised_in self.old place slot bits }
+        ensures room { room self.new ≤ room self.old }
+    {
+        if place >= self.rows.len() {
+            return false;
+        }
+        raise_in(&mut self.rows[place], slot, bits)
+    }
+
     /// Writes the row of a place that has none.
     fn fill(&mut self, alloc: Global, place: usize, row: &[u16]) -> Result<bool, AllocError>
         requires { sweeps.row_in self.old place ≡ [] }
@@ -159,6 +171,18 @@ fn raise(row: &mut [u16], slot: usize, bits: u16) -> bool
         }
         None => false,
     }
+}
+
+/// Adds bits to the word of a slot, if there is one. Returns whether any was new.
+#[tactic(auto, using(crate::proofs::Bits::set_past))]
+fn raise_in(row: &mut [u16], slot: usize, bits: u16) -> bool
+    ensures row { row.new ≡ slice_set row.old slot (bit_or (words.word row.old slot) bits) }
+    ensures room { words_room row.new ≤ words_room row.old }
+{
+    if slot < row.len() {
+        return raise(row, slot, bits);
+    }
+    false
 }
 
 /// The word with more bits, which is greater, or `None` if it has them already.

@@ -6,6 +6,7 @@ ghost use Rattle.clobber_pass.specs.inside.Closed.{Closed, Made};
 ghost use Rattle.clobber_pass.specs.inside.Room.{room};
 ghost use Rattle.clobber_pass.specs.inside.Sweep as inside_sweeps;
 
+use crate::carry::carry;
 use crate::row::word;
 use crate::rows::{Rows, copied};
 use crate::step::step;
@@ -51,7 +52,7 @@ fn gather(exits: &Tables, function: usize, row: &[u16], args: &[u32], slot: usiz
 }
 
 /// The first place of a register among the arguments.
-fn first_at(args: &[u32], register: usize) -> Option<usize>
+pub fn first_at(args: &[u32], register: usize) -> Option<usize>
     ensures { result ≡ position (λ a. a == register) args.now }
 {
     args.iter().position(|a| *a as usize == register)
@@ -80,7 +81,7 @@ fn register_after(
 }
 
 /// The word of a slot after a call.
-fn slot_after(
+pub fn slot_after(
     exits: &Tables,
     function: usize,
     to: usize,
@@ -149,7 +150,7 @@ pub fn advance(
 
 /// The other place to which an instruction leads: a jump's target, or for a return the place after
 /// the last.
-fn target(end: usize, instruction: &Instruction) -> Option<usize>
+pub fn target(end: usize, instruction: &Instruction) -> Option<usize>
     ensures { result ≡ inside_sweeps.jump_target end instruction.now }
 {
     match instruction {
@@ -176,18 +177,31 @@ fn meet(rows: &mut Rows, place: usize, row: &mut Vec<u16>) -> Result<bool, Alloc
     Ok(grew)
 }
 
-/// Joins a row to that of the other place to which an instruction leads.
-fn lead(alloc: Global, rows: &mut Rows, to: Option<usize>, row: &[u16]) -> Result<bool, AllocError>
+/// Joins a row to that of the other place to which an instruction leads. If this is no later place,
+/// and its row grew, it is added to the list.
+fn lead(
+    alloc: Global,
+    rows: &mut Rows,
+    place: usize,
+    to: Option<usize>,
+    row: &[u16],
+    back: &mut Vec<usize>,
+) -> Result<bool, AllocError>
     ensures rows { IfOk result (λ _. rows.new ≡ inside_sweeps.rows_led rows.old to row.now) }
     ensures same { result ≡ Ok false → (rows.new ≡ rows.old)
         × (inside_sweeps.rows_led rows.old to row.now ≡ rows.old) }
     ensures grew { result ≡ Ok true → room rows.new < room rows.old }
     ensures room { IfOk result (λ _. room rows.new ≤ room rows.old) }
 {
-    match to {
-        Some(place) => rows.join(alloc, place, row),
-        None => Ok(false),
+    let Some(to) = to else {
+        return Ok(false);
+    };
+    let had = !rows.row(to).is_empty();
+    let grew = rows.join(alloc, to, row)?;
+    if grew && had && to <= place {
+        back.push(to)?;
     }
+    Ok(grew)
 }
 
 /// One place of a sweep.
@@ -200,6 +214,7 @@ fn visit(
     row: &mut Vec<u16>,
     place: usize,
     instruction: &Instruction,
+    back: &mut Vec<usize>,
 ) -> Result<bool, AllocError>
     ensures rows { IfOk result (λ _.
         rows.new ≡ inside_sweeps.rows_led (inside_sweeps.meet_in rows.old place row.old.items)
@@ -217,19 +232,21 @@ fn visit(
     ensures room { IfOk result (λ _. room rows.new ≤ room rows.old) }
 {
     let met = meet(rows, place, row)?;
-    let led = lead(alloc, rows, target(end, instruction), row)?;
+    let led = lead(alloc, rows, place, target(end, instruction), row, back)?;
     advance(alloc, topic, exits, instruction, row)?;
     Ok(met || led)
 }
 
-/// One sweep through a function's code. Returns whether the table of its rows grew.
-pub fn sweep(
+/// One sweep through a function's code. Returns whether the table of its rows grew. The list takes
+/// the places whose row grew against the order of the code.
+fn sweep(
     alloc: Global,
     topic: Topic,
     exits: &Tables,
     code: &[Instruction],
     entry: &[u16],
     rows: &mut Rows,
+    back: &mut Vec<usize>,
 ) -> Result<bool, AllocError>
     ensures rows { IfOk result (λ _. rows.new ≡ inside_sweeps.swept topic exits.now
         (length code.now) rows.old entry.now 0 code.now) }
@@ -251,6 +268,7 @@ pub fn sweep(
             &mut row,
             place,
             instruction,
+            back,
         )? {
             grew = true;
         }
@@ -258,7 +276,8 @@ pub fn sweep(
     Ok(grew)
 }
 
-/// Sweeps through a function's code, from a row at its entry, until a fixpoint is reached.
+/// Sweeps through a function's code, from a row at its entry, until a fixpoint is reached. Between
+/// two sweeps, what grew against the order of the code is carried on.
 pub fn run(
     alloc: Global,
     topic: Topic,
@@ -272,6 +291,10 @@ pub fn run(
     ensures made { IfOk result (λ rows. Made topic exits.now entry.now code.now rows) }
 {
     let mut rows = Rows::new(alloc, code.len() + 1)?;
-    while sweep(alloc, topic, exits, code, entry, &mut rows)? {}
+    let mut back = Vec::new(alloc);
+    while sweep(alloc, topic, exits, code, entry, &mut rows, &mut back)? {
+        carry(alloc, topic, exits, code, entry, &back, &mut rows)?;
+        back.clear();
+    }
     Ok(rows)
 }

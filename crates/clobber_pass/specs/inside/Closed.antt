@@ -1,14 +1,14 @@
 -- A table that a sweep doesn't change (a fixpoint), and the row that reaches each place.
 use Rattle.std.specs.Prelude.{◌≡◌, ◌==◌, ◌+◌, ◌-◌, ◌^◌, ◌<◌, ℕ, zero, suc, Bool, true, List, []}
 use Rattle.std.specs.Prelude.{◌∷◌, Option, Some, None, length, replicate, map, slice_get, slice_set}
-use Rattle.std.specs.Prelude.{if◌then◌else◌}
+use Rattle.std.specs.Prelude.{bit_or, if◌then◌else◌}
 use mathlib.Core.Logic.{◌⊎◌}
 use Rattle.ir.specs.declared.instruction.Instruction.{Instruction}
 use Rattle.ir.specs.declared.function.IrFunction.{IrFunction}
 use Rattle.ir.specs.declared.fact.Fact.{Fact}
 use Rattle.clobber_pass.specs.declared.topic.Topic.{Topic}
 use Rattle.clobber_pass.specs.inside.Class.{slot}
-use Rattle.clobber_pass.specs.Row.{has_bit, tells}
+use Rattle.clobber_pass.specs.Row.{word, has_bit, tells}
 use Rattle.clobber_pass.specs.inside.Told.{column, column_of, row_width, parameters_at}
 use Rattle.clobber_pass.specs.Sweep.{row_in}
 use Rattle.clobber_pass.specs.inside.Sweep.{exits_of, exit, next_row, jump_target, row_or, join_in}
@@ -50,12 +50,46 @@ abbrev pub pass_in : List IrFunction → List (List (List ℕ)) → ℕ → ℕ 
 pass_in functions exits x g e y =
     has_bit x (exit (exits_of exits g) (column (parameters_at functions g) e) (slot y))
 
--- the tables that repeated sweeps make from an empty one
-pub data Made (topic : Topic) (exits : List (List (List ℕ))) (entry : List ℕ)
-    (code : List Instruction) : List (List ℕ) → Type 0 where
-  none : Made topic exits entry code (replicate (length code + 1) [])
-  more : (rows : List (List ℕ)) → Made topic exits entry code rows
-      → Made topic exits entry code (swept topic exits (length code) rows entry 0 code)
+-- a row that has one word
+abbrev pub only : ℕ → ℕ → ℕ → List ℕ
+only n s w = slice_set (replicate n 0) s w
+
+-- a table after bits were added to a word of a place's row
+abbrev pub raised_in : List (List ℕ) → ℕ → ℕ → ℕ → List (List ℕ)
+raised_in rows p s bits =
+    slice_set rows p (slice_set (row_in rows p) s (bit_or (word (row_in rows p) s) bits))
+
+-- what sweeps make: a table of a function's rows, or a row that reaches a place
+pub data Stage : Type 0 where
+  Table : List (List ℕ) → Stage
+  RowAt : ℕ → List ℕ → Stage
+
+-- What repeated sweeps make from an empty table, and from single words that are carried on. A word
+-- is taken from a table's row, leads to where the instruction of its place leads, and is added to
+-- the rows there.
+pub data Reached (topic : Topic) (exits : List (List (List ℕ))) (entry : List ℕ)
+    (code : List Instruction) : Stage → Type 0 where
+  none : Reached topic exits entry code (Table (replicate (length code + 1) []))
+  again : (rows : List (List ℕ)) → Reached topic exits entry code (Table rows)
+      → Reached topic exits entry code (Table (swept topic exits (length code) rows entry 0 code))
+  raised : (rows : List (List ℕ)) (p s w : ℕ) → Reached topic exits entry code (Table rows)
+      → Reached topic exits entry code (RowAt p (only (length entry) s w))
+      → Reached topic exits entry code (Table (raised_in rows p s w))
+  taken : (rows : List (List ℕ)) (p s : ℕ) → Reached topic exits entry code (Table rows)
+      → Reached topic exits entry code (RowAt p (only (length entry) s (word (row_in rows p) s)))
+  picked : (p : ℕ) (row : List ℕ) (s : ℕ) → Reached topic exits entry code (RowAt p row)
+      → Reached topic exits entry code (RowAt p (only (length entry) s (word row s)))
+  dropped : (p : ℕ) (row : List ℕ) (s : ℕ) → Reached topic exits entry code (RowAt p row)
+      → Reached topic exits entry code (RowAt p (slice_set row s 0))
+  leads : (p q : ℕ) (i : Instruction) (row : List ℕ) → slice_get code p ≡ Some i
+      → jump_target (length code) i ≡ Some q → Reached topic exits entry code (RowAt p row)
+      → Reached topic exits entry code (RowAt q row)
+  goes : (p : ℕ) (i : Instruction) (row : List ℕ) → slice_get code p ≡ Some i
+      → suc p < length code → Reached topic exits entry code (RowAt p row)
+      → Reached topic exits entry code (RowAt (suc p) (next_row topic exits i row))
+
+abbrev pub Made : Topic → List (List (List ℕ)) → List ℕ → List Instruction → List (List ℕ) → Type 0
+Made topic exits entry code rows = Reached topic exits entry code (Table rows)
 
 -- the row at a function's entry, for one column
 abbrev pub entry_word : ℕ → ℕ → ℕ → ℕ

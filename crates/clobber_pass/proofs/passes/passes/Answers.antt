@@ -1,4 +1,4 @@
-use Rattle.std.proofs.Common.{rules, ◌≡◌, ◌∙◌, sym, ap, subst, length, replicate, false, List, Bool}
+use Rattle.std.proofs.Common.{◌≡◌, ◌∙◌, sym, ap, subst, length, replicate, false, List}
 use Rattle.ir.specs.declared.function.IrFunction.{IrFunction}
 use Rattle.clobber_pass.specs.inside.Closed.{ShapedExits, no_exits}
 use Rattle.clobber_pass.specs.inside.Sound.{SoundExits}

@@ -1,4 +1,4 @@
-use Rattle.std.proofs.Common.{rules, ◌≡◌, [], length}
+use Rattle.std.proofs.Common.{rules, ◌≡◌, length}
 use Rattle.clobber_pass.specs.Sweep.{row_in}
 use Rattle.clobber_pass.proofs.Tabled.{no_row, unreached}
 use Rattle.clobber_pass.proofs.table.mark_function.Goals as goal

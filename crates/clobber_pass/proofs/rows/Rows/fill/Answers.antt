@@ -1,5 +1,4 @@
-use Rattle.std.proofs.Common.{rules, ◌≡◌, ◌<◌, ◌≤◌, ◌∙◌, ◌^◌, sym, ap, subst, ℕ, List, length}
-use Rattle.std.proofs.Common.{slice_set, arith, refl}
+use Rattle.std.proofs.Common.{rules, ◌<◌, ◌∙◌, ◌^◌, sym, ap, subst, length, slice_set, arith, refl}
 use Rattle.clobber_pass.specs.inside.Room.{room}
 use Rattle.clobber_pass.proofs.Rooms.{written, filled_room}
 use Rattle.clobber_pass.proofs.rows.Rows.fill.Goals as goal
