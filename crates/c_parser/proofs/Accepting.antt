@@ -12,11 +12,12 @@ use Rattle.c_tree.specs.declared.item.Item.{Item}
 use Rattle.c_tree.specs.ItemTree.{ItemTree, items_in}
 use Rattle.c_tree.specs.Program.{Program}
 use Rattle.c_tree.specs.ItemSpelling.{SpellsProgram}
-use Rattle.c_parser.specs.Wants.{parser_step}
-use Rattle.c_parser.specs.Weight.{weight}
+use Rattle.c_parser.specs.inside.Wants.{parser_step}
+use Rattle.c_parser.specs.Weight.{spelled_weights}
+use Rattle.c_parser.specs.inside.Stacks.{weight}
 use Rattle.c_parser.specs.inside.Run.{Accepted, weighed, parse_on, run_from, parse_run}
 use Rattle.c_parser.specs.inside.Run.{ParseRefuses}
-use Rattle.c_parser.specs.Exact.{weights, LightBefore, ParseGives}
+use Rattle.c_parser.specs.Exact.{LightBefore, ParseGives}
 use Rattle.c_parser.specs.inside.Exact.{Spelled}
 use Rattle.c_parser.proofs.Back.{spelled}
 use Rattle.c_parser.proofs.Laws.{run_whole, accepted_where_light, only_memory}
@@ -48,8 +49,8 @@ spelled_where_accepted ts h =
 
 pub answered_at : (ts : List Placed) (f : ParseFault)
     → ParseRefuses f (parse_run (Some 64) ts 0 (Items ∷ [])) → (xs : List ItemTree)
-    → SpellsProgram ts xs
-    → LightBefore (weights ts) (length ts) → f ≡ fault.NoMemory
+    (spells : SpellsProgram ts xs)
+    → LightBefore (spelled_weights spells) (length ts) → f ≡ fault.NoMemory
 answered_at ts f h xs spells light =
     only_memory f (parse_run (Some 64) ts 0 (Items ∷ [])) (accepted_where_light ts xs spells light)
     h

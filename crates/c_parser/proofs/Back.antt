@@ -53,8 +53,8 @@ use Rattle.c_tree.specs.ItemSpelling.{signature_some, ResultType, result_void, r
 use Rattle.c_tree.specs.ItemSpelling.{SpellsFunction, function, SpellsItem, struct_def, root_decl}
 use Rattle.c_tree.specs.ItemSpelling.{transaction, plain_function, SpellsItems, items_end}
 use Rattle.c_tree.specs.ItemSpelling.{items_more, SpellsProgram}
-use Rattle.c_parser.specs.Wants as wants
-use Rattle.c_parser.specs.Wants.{apply_move, move, parser_step}
+use Rattle.c_parser.specs.inside.Wants as wants
+use Rattle.c_parser.specs.inside.Wants.{apply_move, move, parser_step}
 use Rattle.c_parser.specs.inside.Run.{Accepted, ends, parse_on, parse_run}
 use Rattle.c_parser.proofs.Steps.{IsToken, run_at, at_token, present}
 use Rattle.c_parser.proofs.Flat.{Flat, f_number, f_null, f_name, f_root, f_new, f_sign, f_round}

@@ -25,10 +25,10 @@ use Rattle.c_parser.specs.declared.want.Want.TheVariants.{OpenParameters, Parame
 use Rattle.c_parser.specs.declared.want.Want.TheVariants.{MoreParameters, OpenBody}
 use Rattle.c_parser.specs.declared.want.Want.TheVariants.{StructOrFunction, Items}
 use Rattle.c_tree.specs.Kinds.{token_kind}
-use Rattle.c_parser.specs.Wants as wants
-use Rattle.c_parser.specs.Wants.{Yield, apply_move, move, parser_step}
+use Rattle.c_parser.specs.inside.Wants as wants
+use Rattle.c_parser.specs.inside.Wants.{Yield, apply_move, move, parser_step}
 use Rattle.c_parser.specs.inside.Run.{Accepted, ends, parse_on, run_from}
-use Rattle.c_parser.specs.Exact.{weigh, weights_from}
+use Rattle.c_parser.specs.inside.Stacks.{weigh, weights_from}
 
 -- the want that ends an expression is on top
 abbrev pub IsCloser : List Want → Type 0

@@ -1,6 +1,7 @@
--- Statements that are spelled are run through, if nothing is too deep.
-use Rattle.std.proofs.Common.{ℕ, ◌+◌, ◌≡◌, ◌≢◌, ◌⊎◌, inl, inr, List, ◌∷◌, Option, Some, None, Bool}
-use Rattle.std.proofs.Common.{true, false, refl, sym, ap, ◌∙◌, subst}
+-- Statements that are spelled are run through, if nothing is too deep, and their tokens have their
+-- weights.
+use Rattle.std.proofs.Common.{ℕ, ◌+◌, ◌≡◌, ◌≢◌, ◌⊎◌, inl, inr, List, [], ◌∷◌, Option, Some, None}
+use Rattle.std.proofs.Common.{Bool, true, false, refl, sym, ap, ◌∙◌, subst, arith}
 use Rattle.c_lexer.specs.declared.token.Placed.{Placed}
 use Rattle.c_tree.specs.declared.expr.BinaryOp.TheVariants as op
 use Rattle.c_tree.specs.declared.stmt.AssignOp.{AssignOp}
@@ -28,18 +29,29 @@ use Rattle.c_tree.specs.StmtSpelling.{ValuePart, value_none, value_some, ThirdPa
 use Rattle.c_tree.specs.StmtSpelling.{third_some, Spells, empty, declares, simply, block, if_alone}
 use Rattle.c_tree.specs.StmtSpelling.{if_else, repeats, counts, breaks, continues, returns}
 use Rattle.c_tree.specs.StmtSpelling.{SpellsAll, nothing, something}
-use Rattle.c_parser.specs.Wants.{apply_move, parser_step, simple_begins, statement, type_begins}
-use Rattle.c_parser.specs.inside.Run.{parse_run}
-use Rattle.c_parser.proofs.Steps.{IsToken, goes_on, alike}
+use Rattle.c_parser.specs.inside.Wants.{apply_move, parser_step, simple_begins, statement}
+use Rattle.c_parser.specs.inside.Wants.{type_begins}
+use Rattle.c_parser.specs.Open.{OpenParts, open_weight, none_open, one_open}
+use Rattle.c_parser.specs.ExprOpen.{primary_operators, parts_operators, primary_open, parts_open}
+use Rattle.c_parser.specs.ExprOpen.{postfix_open}
+use Rattle.c_parser.specs.StmtOpen.{typed_open, declares_open, bracketed_open, acts_open}
+use Rattle.c_parser.specs.StmtOpen.{simply_open, first_open, value_open, third_open, has_braces}
+use Rattle.c_parser.specs.StmtOpen.{body_open, statement_open, statements_open}
+use Rattle.c_parser.specs.inside.Stacks.{own_weight, weight}
+use Rattle.c_parser.proofs.Steps.{IsToken}
+use Rattle.c_parser.proofs.RunsPast.{RunsPast, goes, begins_alike, ends_alike, stays, ◌▸◌}
+use Rattle.c_parser.proofs.RunsPast.{inside_bracket, inside_body, after_operators}
 use Rattle.c_parser.proofs.Forward.{expression_runs, arguments_run, new_run, level_begins}
 use Rattle.c_parser.proofs.Forward.{value_enters}
 
--- the step at a place whose kind is known
-pub at_kind : (ts : List Placed) (i : ℕ) (s next : List Want) (m : Kind → Option (List Want))
-    (t : Kind) → parser_step s (kind_at ts i) ≡ m (kind_at ts i) → kind_at ts i ≡ t → IsToken t
-    → m t ≡ Some next → parse_run None ts i s ≡ parse_run None ts (i + 1) next
-at_kind ts i s next m t enter is token may =
-    goes_on ts i s next t is token (ap (parser_step s) (sym is) ∙ enter ∙ ap m is ∙ may)
+-- a token whose step is known from the wants that it enters
+pub enters : (ts : List Placed) (i around : ℕ) (o : OpenParts) (s next : List Want)
+    (m : Kind → Option (List Want)) (t : Kind)
+    → parser_step s (kind_at ts i) ≡ m (kind_at ts i) → kind_at ts i ≡ t → IsToken t
+    → m t ≡ Some next → open_weight o + around ≡ weight next
+    → RunsPast ts i s (i + 1) next around (o ∷ [])
+enters ts i around o s next m t enter is token may adds =
+    goes ts i around o s next t is token (ap (parser_step s) (sym is) ∙ enter ∙ ap m is ∙ may) adds
 
 abbrev pub TypeBegins : Kind → Type 0
 TypeBegins kind.Int = Unit {0}
@@ -55,45 +67,56 @@ typed_begins (pointer is n s) = subst TypeBegins (sym is) tt
 abbrev pub typed_step : List Want → Kind → Option (List Want)
 typed_step below t = apply_move (type_begins t) below None
 
-pub typed_runs : {ts : List Placed} {i j : ℕ} {t : TypeTree} → Typed ts i j t
-    → (s below : List Want) → parser_step s (kind_at ts i) ≡ typed_step below (kind_at ts i)
-    → parse_run None ts i s ≡ parse_run None ts j below
-typed_runs {ts} {i} (int is) s below enter =
-    at_kind ts i s below (typed_step below) kind.Int enter is tt refl
-typed_runs {ts} {i} (pointer is name star) s below enter =
-    at_kind ts i s (Ident ∷ Star ∷ below) (typed_step below) kind.Struct enter is tt refl
-    ∙ goes_on ts (i + 1) (Ident ∷ Star ∷ below) (Star ∷ below) kind.Name name tt refl
-    ∙ goes_on ts (i + 1 + 1) (Star ∷ below) below (kind.Operator op.Mul) star tt refl
+pub typed_runs : {ts : List Placed} {i j : ℕ} {t : TypeTree} (d : Typed ts i j t) (around : ℕ)
+    (s below : List Want) → around ≡ weight below
+    → parser_step s (kind_at ts i) ≡ typed_step below (kind_at ts i)
+    → RunsPast ts i s j below around (typed_open d)
+typed_runs {ts} {i} (int is) around s below same enter =
+    enters ts i around none_open s below (typed_step below) kind.Int enter is tt refl
+    (omega (arith, same))
+typed_runs {ts} {i} (pointer is name star) around s below same enter =
+    enters ts i around none_open s (Ident ∷ Star ∷ below) (typed_step below) kind.Struct enter is tt
+    refl (omega (arith, same))
+    ▸ goes ts (i + 1) around none_open (Ident ∷ Star ∷ below) (Star ∷ below) kind.Name name tt refl
+    (omega (arith, same))
+    ▸ goes ts (i + 1 + 1) around none_open (Star ∷ below) below (kind.Operator op.Mul) star tt refl
+    (omega (arith, same))
 
 initial_yields : (k : List Want) (t : Kind) → t ≡ kind.Semicolon
     → parser_step (Initial ∷ k) t ≡ parser_step k t
 initial_yields k t is = subst (λ t. parser_step (Initial ∷ k) t ≡ parser_step k t) (sym is) refl
 
-declares_run : {ts : List Placed} {i j : ℕ} {d : DeclarationTree} → Declares ts i j d
-    → kind_at ts j ≡ kind.Semicolon → (s below : List Want)
+declares_run : {ts : List Placed} {i j : ℕ} {d : DeclarationTree} (h : Declares ts i j d)
+    → kind_at ts j ≡ kind.Semicolon → (around : ℕ) (s below : List Want) → around ≡ weight below
     → parser_step s (kind_at ts i) ≡ typed_step (Ident ∷ Initial ∷ below) (kind_at ts i)
-    → parse_run None ts i s ≡ parse_run None ts j below
-declares_run {ts} (plain {m = m} ty name) semi s below enter =
-    typed_runs ty s (Ident ∷ Initial ∷ below) enter
-    ∙ goes_on ts m (Ident ∷ Initial ∷ below) (Initial ∷ below) kind.Name name tt refl
-    ∙ alike ts (m + 1) None (Initial ∷ below) below (initial_yields below (kind_at ts (m + 1)) semi)
-declares_run {ts} (initial {m = m} ty name is lv) semi s below enter =
-    typed_runs ty s (Ident ∷ Initial ∷ below) enter
-    ∙ goes_on ts m (Ident ∷ Initial ∷ below) (Initial ∷ below) kind.Name name tt refl
-    ∙ goes_on ts (m + 1) (Initial ∷ below) (Operand 0 ∷ below) (kind.Assign assign.Set) is tt refl
-    ∙ expression_runs lv kind.Semicolon semi tt 0 below
+    → RunsPast ts i s j below around (declares_open h)
+declares_run {ts} (plain {m = m} ty name) semi around s below same enter =
+    ends_alike ts (m + 1) (Initial ∷ below) below (initial_yields below (kind_at ts (m + 1)) semi)
+    (typed_runs ty around s (Ident ∷ Initial ∷ below) (omega (arith, same)) enter
+    ▸ goes ts m around none_open (Ident ∷ Initial ∷ below) (Initial ∷ below) kind.Name name tt refl
+    (omega (arith, same)))
+declares_run {ts} (initial {m = m} ty name is lv) semi around s below same enter =
+    typed_runs ty around s (Ident ∷ Initial ∷ below) (omega (arith, same)) enter
+    ▸ goes ts m around none_open (Ident ∷ Initial ∷ below) (Initial ∷ below) kind.Name name tt refl
+    (omega (arith, same))
+    ▸ goes ts (m + 1) around none_open (Initial ∷ below) (Operand 0 ∷ below)
+    (kind.Assign assign.Set) is tt refl (omega (arith, same))
+    ▸ expression_runs lv kind.Semicolon semi tt around 0 below (omega (arith, same))
 
 pub declares_begins : {ts : List Placed} {i j : ℕ} {d : DeclarationTree} → Declares ts i j d
     → TypeBegins (kind_at ts i)
 declares_begins (plain ty n) = typed_begins ty
 declares_begins (initial ty n i lv) = typed_begins ty
 
-bracketed_runs : {ts : List Placed} {i j : ℕ} {e : ExprTree} → Bracketed ts i j e → (k : List Want)
-    → parse_run None ts i (OpenExpression ∷ k) ≡ parse_run None ts j k
-bracketed_runs {ts} {i} (bracketed {m = m} is lv close) k =
-    goes_on ts i (OpenExpression ∷ k) (Operand 0 ∷ Round ∷ k) kind.OpenRound is tt refl
-    ∙ expression_runs lv kind.CloseRound close tt 0 (Round ∷ k)
-    ∙ goes_on ts m (Round ∷ k) k kind.CloseRound close tt refl
+bracketed_runs : {ts : List Placed} {i j : ℕ} {e : ExprTree} (d : Bracketed ts i j e) (around : ℕ)
+    (k : List Want) → around ≡ weight k
+    → RunsPast ts i (OpenExpression ∷ k) j k around (bracketed_open d)
+bracketed_runs {ts} {i} (bracketed {m = m} is lv close) around k same =
+    goes ts i around one_open (OpenExpression ∷ k) (Operand 0 ∷ Round ∷ k) kind.OpenRound is tt refl
+    (omega (arith, same))
+    ▸ inside_bracket refl (expression_runs lv kind.CloseRound close tt (around + 1) 0 (Round ∷ k)
+    (omega (arith, same)))
+    ▸ goes ts m around none_open (Round ∷ k) k kind.CloseRound close tt refl (omega (arith, same))
 
 -- the wants after a target
 data Aimed : Want → Type 0 where
@@ -102,39 +125,54 @@ data Aimed : Want → Type 0 where
   aimed_call : Aimed Called
 
 field_aimed : {x : Want} → Aimed x → (k : List Want)
-    → (n : ℕ) × (parser_step (x ∷ k) kind.Arrow ≡ Some (Ident ∷ Target n ∷ k))
-field_aimed (aimed_target n) k = (n + 1, refl)
-field_aimed aimed_name k = (1, refl)
-field_aimed aimed_call k = (1, refl)
+    → (n : ℕ) × (n ≡ own_weight x + 1) × (parser_step (x ∷ k) kind.Arrow
+    ≡ Some (Ident ∷ Target n ∷ k))
+field_aimed (aimed_target n) k = (n + 1, omega arith, refl)
+field_aimed aimed_name k = (1, omega arith, refl)
+field_aimed aimed_call k = (1, omega arith, refl)
 
 element_aimed : {x : Want} → Aimed x → (k : List Want)
-    → (n : ℕ) × (parser_step (x ∷ k) kind.OpenSquare ≡ Some (Operand 0 ∷ Square ∷ Target n ∷ k))
-element_aimed (aimed_target n) k = (n + 1, refl)
-element_aimed aimed_name k = (1, refl)
-element_aimed aimed_call k = (1, refl)
+    → (n : ℕ) × (n ≡ own_weight x + 1) × (parser_step (x ∷ k) kind.OpenSquare
+    ≡ Some (Operand 0 ∷ Square ∷ Target n ∷ k))
+element_aimed (aimed_target n) k = (n + 1, omega arith, refl)
+element_aimed aimed_name k = (1, omega arith, refl)
+element_aimed aimed_call k = (1, omega arith, refl)
 
-parts_aim : {ts : List Placed} {i j : ℕ} {a e : ExprTree} → Parts ts i j a e → (x : Want) → Aimed x
-    → (k : List Want)
-    → (y : Want) × Aimed y × (parse_run None ts i (x ∷ k) ≡ parse_run None ts j (y ∷ k))
-parts_aim parts_end x b k = (x, b, refl)
+-- the run past the tokens of a target, with m operators so far
+abbrev Aims : List Placed → ℕ → List Want → ℕ → List Want → ℕ → List OpenParts → ℕ → Type 0
+Aims ts i s j k around os m = (y : Want) × Aimed y × (own_weight y ≡ m)
+    × RunsPast ts i s j (y ∷ k) around os
+
+parts_aim : {ts : List Placed} {i j : ℕ} {a e : ExprTree} (p : Parts ts i j a e) (x : Want)
+    → Aimed x → (k : List Want)
+    → Aims ts i (x ∷ k) j k (own_weight x + weight k) (parts_open p)
+    (own_weight x + parts_operators p)
+parts_aim parts_end x b k = (x, b, omega arith, stays (x ∷ k))
 parts_aim {ts} {i} (field is name tail) x b k =
     let f = field_aimed b k in
-    let s = parts_aim tail (Target f.0) (aimed_target f.0) k in (
+    let s = parts_aim tail (Target f.0) (aimed_target f.0) k in
+    let q : ℕ = own_weight (Target f.0) + weight k in (
       s.0,
       s.1,
-      goes_on ts i (x ∷ k) (Ident ∷ Target f.0 ∷ k) kind.Arrow is tt f.1
-          ∙ goes_on ts (i + 1) (Ident ∷ Target f.0 ∷ k) (Target f.0 ∷ k) kind.Name name tt refl
-          ∙ s.2,
+      omega (arith, f.1, s.2),
+      after_operators 1 (omega (arith, f.1)) (goes ts i q none_open (x ∷ k)
+          (Ident ∷ Target f.0 ∷ k) kind.Arrow is tt f.2 (omega arith)
+          ▸ goes ts (i + 1) q none_open (Ident ∷ Target f.0 ∷ k) (Target f.0 ∷ k) kind.Name name tt
+          refl (omega arith) ▸ s.3),
     )
 parts_aim {ts} {i} (element {m = m} is lv close tail) x b k =
     let f = element_aimed b k in
-    let s = parts_aim tail (Target f.0) (aimed_target f.0) k in (
+    let s = parts_aim tail (Target f.0) (aimed_target f.0) k in
+    let q : ℕ = own_weight (Target f.0) + weight k in (
       s.0,
       s.1,
-      goes_on ts i (x ∷ k) (Operand 0 ∷ Square ∷ Target f.0 ∷ k) kind.OpenSquare is tt f.1
-          ∙ expression_runs lv kind.CloseSquare close tt 0 (Square ∷ Target f.0 ∷ k)
-          ∙ goes_on ts m (Square ∷ Target f.0 ∷ k) (Target f.0 ∷ k) kind.CloseSquare close tt refl
-          ∙ s.2,
+      omega (arith, f.1, s.2),
+      after_operators 1 (omega (arith, f.1)) (goes ts i q one_open (x ∷ k)
+          (Operand 0 ∷ Square ∷ Target f.0 ∷ k) kind.OpenSquare is tt f.2 (omega arith)
+          ▸ inside_bracket refl (expression_runs lv kind.CloseSquare close tt (q + 1) 0
+          (Square ∷ Target f.0 ∷ k) (omega arith))
+          ▸ goes ts m q none_open (Square ∷ Target f.0 ∷ k) (Target f.0 ∷ k) kind.CloseSquare close
+          tt refl (omega arith) ▸ s.3),
     )
 
 -- the tokens that begin a simple statement
@@ -152,63 +190,83 @@ SimpleBegins _ = ⊥
 abbrev pub simple_step : List Want → Kind → Option (List Want)
 simple_step below t = apply_move (simple_begins t) below None
 
-primary_aims : {ts : List Placed} {i j : ℕ} {e : ExprTree} → Primary ts i j e
-    → (s below : List Want) → parser_step s (kind_at ts i) ≡ simple_step below (kind_at ts i)
-    → (y : Want) × Aimed y × (parse_run None ts i s ≡ parse_run None ts j (y ∷ below))
-primary_aims {ts} {i} (number is) s below enter = (
+primary_aims : {ts : List Placed} {i j : ℕ} {e : ExprTree} (p : Primary ts i j e) (around : ℕ)
+    (s below : List Want) → around ≡ weight below
+    → parser_step s (kind_at ts i) ≡ simple_step below (kind_at ts i)
+    → Aims ts i s j below around (primary_open p) (primary_operators p)
+primary_aims {ts} {i} (number is) around s below same enter = (
   Target 0,
   aimed_target 0,
-  at_kind ts i s (Target 0 ∷ below) (simple_step below) kind.Number
-      enter is tt refl,
+  omega arith,
+  enters ts i around none_open s (Target 0 ∷ below) (simple_step below) kind.Number enter is tt refl
+      (omega (arith, same)),
 )
-primary_aims {ts} {i} (null is) s below enter = (
+primary_aims {ts} {i} (null is) around s below same enter = (
   Target 0,
   aimed_target 0,
-  at_kind ts i s (Target 0 ∷ below) (simple_step below) kind.Null enter
-      is tt refl,
+  omega arith,
+  enters ts i around none_open s (Target 0 ∷ below) (simple_step below) kind.Null enter is tt refl
+      (omega (arith, same)),
 )
-primary_aims {ts} {i} (variable is) s below enter = (
+primary_aims {ts} {i} (variable is) around s below same enter = (
   NamedTarget,
   aimed_name,
-  at_kind ts i s (NamedTarget ∷ below) (simple_step below) kind.Name
-      enter is tt refl,
+  omega arith,
+  enters ts i around none_open s (NamedTarget ∷ below) (simple_step below) kind.Name enter is tt
+      refl (omega (arith, same)),
 )
-primary_aims {ts} {i} (call is opens all) s below enter = (
+primary_aims {ts} {i} (call is opens all) around s below same enter = (
   Called,
   aimed_call,
-  at_kind ts i s (NamedTarget ∷ below) (simple_step below) kind.Name enter is tt refl
-      ∙ goes_on ts (i + 1) (NamedTarget ∷ below) (FirstArgument ∷ Called ∷ below) kind.OpenRound
-      opens tt refl
-      ∙ arguments_run all (Called ∷ below),
+  omega arith,
+  enters ts i around none_open s (NamedTarget ∷ below) (simple_step below) kind.Name enter is tt
+      refl (omega (arith, same))
+      ▸ goes ts (i + 1) around one_open (NamedTarget ∷ below) (FirstArgument ∷ Called ∷ below)
+      kind.OpenRound opens tt refl (omega (arith, same))
+      ▸ arguments_run all around (Called ∷ below) (omega (arith, same)),
 )
-primary_aims {ts} {i} (root is dot name) s below enter = (
+primary_aims {ts} {i} (root is dot name) around s below same enter = (
   Target 1,
   aimed_target 1,
-  at_kind ts i s (DotTarget ∷ below) (simple_step below) kind.Root enter is tt refl
-      ∙ goes_on ts (i + 1) (DotTarget ∷ below) (Ident ∷ Target 1 ∷ below) kind.Dot dot tt refl
-      ∙ goes_on ts (i + 1 + 1) (Ident ∷ Target 1 ∷ below) (Target 1 ∷ below) kind.Name name tt refl,
+  omega arith,
+  enters ts i around none_open s (DotTarget ∷ below) (simple_step below) kind.Root enter is tt refl
+      (omega (arith, same))
+      ▸ after_operators 1 refl (goes ts (i + 1) (around + 1) none_open (DotTarget ∷ below)
+      (Ident ∷ Target 1 ∷ below) kind.Dot dot tt refl (omega (arith, same))
+      ▸ goes ts (i + 1 + 1) (around + 1) none_open (Ident ∷ Target 1 ∷ below) (Target 1 ∷ below)
+      kind.Name name tt refl (omega (arith, same))),
 )
-primary_aims {ts} {i} (new is opens word name close) s below enter = (
+primary_aims {ts} {i} (new is opens word name close) around s below same enter = (
   Target 0,
   aimed_target 0,
-  at_kind ts i s (NewOpen ∷ Target 0 ∷ below) (simple_step below) kind.PmNew enter is tt refl
-      ∙ new_run ts (i + 1) (Target 0 ∷ below) opens word name close,
+  omega arith,
+  enters ts i around none_open s (NewOpen ∷ Target 0 ∷ below) (simple_step below) kind.PmNew enter
+      is tt refl (omega (arith, same))
+      ▸ new_run ts (i + 1) around (Target 0 ∷ below) (omega (arith, same)) opens word name close,
 )
-primary_aims {ts} {i} (brackets {m = m} is lv close) s below enter = (
+primary_aims {ts} {i} (brackets {m = m} is lv close) around s below same enter = (
   Target 0,
   aimed_target 0,
-  at_kind ts i s (Operand 0 ∷ Round ∷ Target 0 ∷ below) (simple_step below) kind.OpenRound enter
-      is tt refl
-      ∙ expression_runs lv kind.CloseRound close tt 0 (Round ∷ Target 0 ∷ below)
-      ∙ goes_on ts m (Round ∷ Target 0 ∷ below) (Target 0 ∷ below) kind.CloseRound close tt refl,
+  omega arith,
+  enters ts i around one_open s (Operand 0 ∷ Round ∷ Target 0 ∷ below) (simple_step below)
+      kind.OpenRound enter is tt refl (omega (arith, same))
+      ▸ inside_bracket refl (expression_runs lv kind.CloseRound close tt (around + 1) 0
+      (Round ∷ Target 0 ∷ below) (omega (arith, same)))
+      ▸ goes ts m around none_open (Round ∷ Target 0 ∷ below) (Target 0 ∷ below) kind.CloseRound
+      close tt refl (omega (arith, same)),
 )
 
-postfix_aims : {ts : List Placed} {i j : ℕ} {e : ExprTree} → Postfix ts i j e
-    → (s below : List Want) → parser_step s (kind_at ts i) ≡ simple_step below (kind_at ts i)
-    → (y : Want) × Aimed y × (parse_run None ts i s ≡ parse_run None ts j (y ∷ below))
-postfix_aims (postfix p parts) s below enter =
-    let r = primary_aims p s below enter in let q = parts_aim parts r.0 r.1 below in
-    (q.0, q.1, r.2 ∙ q.2)
+postfix_aims : {ts : List Placed} {i j : ℕ} {e : ExprTree} (p : Postfix ts i j e) (around : ℕ)
+    (s below : List Want) → around ≡ weight below
+    → parser_step s (kind_at ts i) ≡ simple_step below (kind_at ts i)
+    → (y : Want) × Aimed y × RunsPast ts i s j (y ∷ below) around (postfix_open p)
+postfix_aims (postfix p parts) around s below same enter =
+    let r = primary_aims p around s below same enter in
+    let q = parts_aim parts r.0 r.1 below in (
+      q.0,
+      q.1,
+      r.3 ▸ after_operators (primary_operators p) (omega (arith, r.2, same)) q.3,
+    )
 
 assign_aimed : {x : Want} → Aimed x → (o : AssignOp) (k : List Want)
     → parser_step (x ∷ k) (kind.Assign o) ≡ Some (Operand 0 ∷ k)
@@ -222,43 +280,53 @@ step_aimed (aimed_target n) o k = refl
 step_aimed aimed_name o k = refl
 step_aimed aimed_call o k = refl
 
-acts_run : {ts : List Placed} {i j : ℕ} {a : ExprTree} {s : SimpleTree} → Acts ts i j a s
+acts_run : {ts : List Placed} {i j : ℕ} {a : ExprTree} {s : SimpleTree} (d : Acts ts i j a s)
     → {x : Want} → Aimed x → (t : Kind) → kind_at ts j ≡ t → (t ≡ kind.Semicolon)
     ⊎ (t ≡ kind.CloseRound)
-    → (k : List Want) → parse_run None ts i (x ∷ k) ≡ parse_run None ts j k
-acts_run {ts} {i} {j} (assigns o is lv) {x} b t ends (inl e) k =
-    goes_on ts i (x ∷ k) (Operand 0 ∷ k) (kind.Assign o) is tt (assign_aimed b o k)
-    ∙ expression_runs lv kind.Semicolon (ends ∙ e) tt 0 k
-acts_run {ts} {i} {j} (assigns o is lv) {x} b t ends (inr e) k =
-    goes_on ts i (x ∷ k) (Operand 0 ∷ k) (kind.Assign o) is tt (assign_aimed b o k)
-    ∙ expression_runs lv kind.CloseRound (ends ∙ e) tt 0 k
-acts_run {ts} {i} {j} (steps o is) {x} b t ends end k =
-    goes_on ts i (x ∷ k) k (kind.Step o) is tt (step_aimed b o k)
+    → (around : ℕ) (k : List Want) → around ≡ weight k
+    → RunsPast ts i (x ∷ k) j k around (acts_open d)
+acts_run {ts} {i} {j} (assigns o is lv) {x} b t ends (inl e) around k same =
+    goes ts i around none_open (x ∷ k) (Operand 0 ∷ k) (kind.Assign o) is tt (assign_aimed b o k)
+    (omega (arith, same))
+    ▸ expression_runs lv kind.Semicolon (ends ∙ e) tt around 0 k (omega (arith, same))
+acts_run {ts} {i} {j} (assigns o is lv) {x} b t ends (inr e) around k same =
+    goes ts i around none_open (x ∷ k) (Operand 0 ∷ k) (kind.Assign o) is tt (assign_aimed b o k)
+    (omega (arith, same))
+    ▸ expression_runs lv kind.CloseRound (ends ∙ e) tt around 0 k (omega (arith, same))
+acts_run {ts} {i} {j} (steps o is) {x} b t ends end around k same =
+    goes ts i around none_open (x ∷ k) k (kind.Step o) is tt (step_aimed b o k)
+    (omega (arith, same))
 
 called_yields : (k : List Want) (t : Kind) → (t ≡ kind.Semicolon) ⊎ (t ≡ kind.CloseRound)
     → parser_step (Called ∷ k) t ≡ parser_step k t
 called_yields k t (inl e) = subst (λ t. parser_step (Called ∷ k) t ≡ parser_step k t) (sym e) refl
 called_yields k t (inr e) = subst (λ t. parser_step (Called ∷ k) t ≡ parser_step k t) (sym e) refl
 
-simply_runs : {ts : List Placed} {i j : ℕ} {x : SimpleTree} → Simply ts i j x
-    → (kind_at ts j ≡ kind.Semicolon) ⊎ (kind_at ts j ≡ kind.CloseRound) → (s below : List Want)
+simply_runs : {ts : List Placed} {i j : ℕ} {x : SimpleTree} (d : Simply ts i j x)
+    → (kind_at ts j ≡ kind.Semicolon) ⊎ (kind_at ts j ≡ kind.CloseRound)
+    → (around : ℕ) (s below : List Want) → around ≡ weight below
     → parser_step s (kind_at ts i) ≡ simple_step below (kind_at ts i)
-    → parse_run None ts i s ≡ parse_run None ts j below
-simply_runs {ts} {j = j} (acts p a) end s below enter =
-    let r = postfix_aims p s below enter in r.2 ∙ acts_run a r.1 (kind_at ts j) refl end below
-simply_runs {ts} {i} {j} (calls is opens all) end s below enter =
-    at_kind ts i s (NamedTarget ∷ below) (simple_step below) kind.Name enter is tt refl
-    ∙ goes_on ts (i + 1) (NamedTarget ∷ below) (FirstArgument ∷ Called ∷ below) kind.OpenRound
-    opens tt refl
-    ∙ arguments_run all (Called ∷ below) ∙ alike ts j None (Called ∷ below) below
-    (called_yields below (kind_at ts j) end)
-simply_runs {ts} {i} (frees is b) end s below enter =
-    at_kind ts i s (OpenExpression ∷ below) (simple_step below) kind.PmFree enter is tt refl
-    ∙ bracketed_runs b below
-simply_runs {ts} {i} (aborts is opens close) end s below enter =
-    at_kind ts i s (OpenNothing ∷ below) (simple_step below) kind.Abort enter is tt refl
-    ∙ goes_on ts (i + 1) (OpenNothing ∷ below) (Round ∷ below) kind.OpenRound opens tt refl
-    ∙ goes_on ts (i + 1 + 1) (Round ∷ below) below kind.CloseRound close tt refl
+    → RunsPast ts i s j below around (simply_open d)
+simply_runs {ts} {j = j} (acts p a) end around s below same enter =
+    let r = postfix_aims p around s below same enter in
+    r.2 ▸ acts_run a r.1 (kind_at ts j) refl end around below same
+simply_runs {ts} {i} {j} (calls is opens all) end around s below same enter =
+    enters ts i around none_open s (NamedTarget ∷ below) (simple_step below) kind.Name enter is tt
+    refl (omega (arith, same))
+    ▸ goes ts (i + 1) around one_open (NamedTarget ∷ below) (FirstArgument ∷ Called ∷ below)
+    kind.OpenRound opens tt refl (omega (arith, same))
+    ▸ ends_alike ts j (Called ∷ below) below (called_yields below (kind_at ts j) end)
+    (arguments_run all around (Called ∷ below) (omega (arith, same)))
+simply_runs {ts} {i} (frees is b) end around s below same enter =
+    enters ts i around none_open s (OpenExpression ∷ below) (simple_step below) kind.PmFree enter
+    is tt refl (omega (arith, same)) ▸ bracketed_runs b around below same
+simply_runs {ts} {i} (aborts is opens close) end around s below same enter =
+    enters ts i around none_open s (OpenNothing ∷ below) (simple_step below) kind.Abort enter is tt
+    refl (omega (arith, same))
+    ▸ goes ts (i + 1) around one_open (OpenNothing ∷ below) (Round ∷ below) kind.OpenRound opens tt
+    refl (omega (arith, same))
+    ▸ goes ts (i + 1 + 1) around none_open (Round ∷ below) below kind.CloseRound close tt refl
+    (omega (arith, same))
 
 primary_simple : {ts : List Placed} {i j : ℕ} {e : ExprTree} → Primary ts i j e
     → SimpleBegins (kind_at ts i)
@@ -445,121 +513,164 @@ third_stops : (k : List Want) (t : Kind) → t ≡ kind.CloseRound
     → parser_step (ForThird ∷ k) t ≡ parser_step k t
 third_stops k t is = subst (λ t. parser_step (ForThird ∷ k) t ≡ parser_step k t) (sym is) refl
 
-value_runs : {ts : List Placed} {i j : ℕ} {v : Option ExprTree} → ValuePart ts i j v
-    → kind_at ts j ≡ kind.Semicolon → (k : List Want)
-    → parse_run None ts i (Value ∷ k) ≡ parse_run None ts j k
-value_runs {ts} {i} value_none semi k =
-    alike ts i None (Value ∷ k) k (value_stops k (kind_at ts i) semi)
-value_runs {ts} {i} (value_some lv) semi k =
-    alike ts i None (Value ∷ k) (Operand 0 ∷ k) (value_enters k (kind_at ts i) (level_begins lv))
-    ∙ expression_runs lv kind.Semicolon semi tt 0 k
+value_runs : {ts : List Placed} {i j : ℕ} {v : Option ExprTree} (d : ValuePart ts i j v)
+    → kind_at ts j ≡ kind.Semicolon → (around : ℕ) (k : List Want) → around ≡ weight k
+    → RunsPast ts i (Value ∷ k) j k around (value_open d)
+value_runs {ts} {i} value_none semi around k same =
+    begins_alike ts i (Value ∷ k) k (value_stops k (kind_at ts i) semi) (stays k)
+value_runs {ts} {i} (value_some lv) semi around k same =
+    begins_alike ts i (Value ∷ k) (Operand 0 ∷ k)
+    (value_enters k (kind_at ts i) (level_begins lv))
+    (expression_runs lv kind.Semicolon semi tt around 0 k (omega (arith, same)))
 
-first_runs : {ts : List Placed} {i j : ℕ} {f : Option FirstTree} → FirstPart ts i j f
-    → kind_at ts j ≡ kind.Semicolon → (k : List Want)
-    → parse_run None ts i (ForFirst ∷ k) ≡ parse_run None ts j k
-first_runs {ts} {i} first_none semi k =
-    alike ts i None (ForFirst ∷ k) k (first_stops k (kind_at ts i) semi)
-first_runs {ts} {i} (first_declares d) semi k =
-    declares_run d semi (ForFirst ∷ k) k (first_typed k (kind_at ts i) (declares_begins d))
-first_runs {ts} {i} (first_simply s) semi k =
-    simply_runs s (inl semi) (ForFirst ∷ k) k (first_simple k (kind_at ts i) (simply_begins s))
+first_runs : {ts : List Placed} {i j : ℕ} {f : Option FirstTree} (d : FirstPart ts i j f)
+    → kind_at ts j ≡ kind.Semicolon → (around : ℕ) (k : List Want) → around ≡ weight k
+    → RunsPast ts i (ForFirst ∷ k) j k around (first_open d)
+first_runs {ts} {i} first_none semi around k same =
+    begins_alike ts i (ForFirst ∷ k) k (first_stops k (kind_at ts i) semi) (stays k)
+first_runs {ts} {i} (first_declares d) semi around k same =
+    declares_run d semi around (ForFirst ∷ k) k same
+    (first_typed k (kind_at ts i) (declares_begins d))
+first_runs {ts} {i} (first_simply s) semi around k same =
+    simply_runs s (inl semi) around (ForFirst ∷ k) k same
+    (first_simple k (kind_at ts i) (simply_begins s))
 
-third_runs : {ts : List Placed} {i j : ℕ} {t : Option SimpleTree} → ThirdPart ts i j t
-    → kind_at ts j ≡ kind.CloseRound → (k : List Want)
-    → parse_run None ts i (ForThird ∷ k) ≡ parse_run None ts j k
-third_runs {ts} {i} third_none close k =
-    alike ts i None (ForThird ∷ k) k (third_stops k (kind_at ts i) close)
-third_runs {ts} {i} (third_some s) close k =
-    simply_runs s (inr close) (ForThird ∷ k) k (third_simple k (kind_at ts i) (simply_begins s))
+third_runs : {ts : List Placed} {i j : ℕ} {t : Option SimpleTree} (d : ThirdPart ts i j t)
+    → kind_at ts j ≡ kind.CloseRound → (around : ℕ) (k : List Want) → around ≡ weight k
+    → RunsPast ts i (ForThird ∷ k) j k around (third_open d)
+third_runs {ts} {i} third_none close around k same =
+    begins_alike ts i (ForThird ∷ k) k (third_stops k (kind_at ts i) close) (stays k)
+third_runs {ts} {i} (third_some s) close around k same =
+    simply_runs s (inr close) around (ForThird ∷ k) k same
+    (third_simple k (kind_at ts i) (simply_begins s))
 
-brace_or_not : (t : Kind) → (t ≡ kind.OpenBrace) ⊎ (t ≢ kind.OpenBrace)
-brace_or_not kind.OpenBrace = inl refl
-brace_or_not _ = inr (λ h. cc)
+-- whether a statement has braces is seen from its first token
+abbrev IsBraced : Bool → Kind → Type 0
+IsBraced true t = t ≡ kind.OpenBrace
+IsBraced false t = t ≢ kind.OpenBrace
+
+is_braced : {ts : List Placed} {loop : Bool} {i j : ℕ} {s : StmtTree} (d : Spells ts loop i j s)
+    → IsBraced (has_braces d) (kind_at ts i)
+is_braced (empty is) = λ e. cc
+is_braced (declares d z) = λ e. subst TypeBegins e (declares_begins d)
+is_braced (simply x z) = λ e. subst SimpleBegins e (simply_begins x)
+is_braced (block is all z) = is
+is_braced (if_alone is c s n) = λ e. cc
+is_braced (if_else is c s e o) = λ e. cc
+is_braced (repeats is c s) = λ e. cc
+is_braced (counts is o f z c y t r s) = λ e. cc
+is_braced (breaks is z) = λ e. cc
+is_braced (continues is z) = λ e. cc
+is_braced (returns is v z) = λ e. cc
 
 -- a body, with or without braces
-body_by : (ts : List Placed) (loop : Bool) (i j : ℕ) (k : List Want)
-    → (kind_at ts i ≡ kind.OpenBrace) ⊎ (kind_at ts i ≢ kind.OpenBrace) → Starts (kind_at ts i)
-    → ((s below : List Want) → parser_step s (kind_at ts i) ≡ statement_step loop below
-    (kind_at ts i) → parse_run None ts i s ≡ parse_run None ts j below)
-    → parse_run None ts i (Body loop ∷ k) ≡ parse_run None ts j k
-body_by ts loop i j k (inl is) starts runs =
-    runs (Body loop ∷ k) k (subst (λ t. parser_step (Body loop ∷ k) t ≡ statement_step loop k t)
-    (sym is) refl)
-body_by ts loop i j k (inr not) starts runs =
-    runs (Body loop ∷ k) (Bare ∷ k) (body_enters loop k (kind_at ts i) starts not)
-    ∙ alike ts j None (Bare ∷ k) k refl
+body_by : (ts : List Placed) (loop : Bool) (i j around : ℕ) (k : List Want) (os : List OpenParts)
+    (braces : Bool) → around ≡ weight k → IsBraced braces (kind_at ts i) → Starts (kind_at ts i)
+    → ((around : ℕ) (s below : List Want) → around ≡ weight below
+    → parser_step s (kind_at ts i) ≡ statement_step loop below (kind_at ts i)
+    → RunsPast ts i s j below around os)
+    → RunsPast ts i (Body loop ∷ k) j k around (body_open braces os)
+body_by ts loop i j around k os true same is starts runs =
+    runs around (Body loop ∷ k) k same
+    (subst (λ t. parser_step (Body loop ∷ k) t ≡ statement_step loop k t) (sym is) refl)
+body_by ts loop i j around k os false same not starts runs =
+    ends_alike ts j (Bare ∷ k) k refl
+    (inside_body refl (runs (around + 1) (Body loop ∷ k) (Bare ∷ k) (omega (arith, same))
+    (body_enters loop k (kind_at ts i) starts not)))
 
 mutual
-  spells_runs : {ts : List Placed} {loop : Bool} {i j : ℕ} {x : StmtTree} → Spells ts loop i j x
-      → (s below : List Want)
+  spells_runs : {ts : List Placed} {loop : Bool} {i j : ℕ} {x : StmtTree} (d : Spells ts loop i j x)
+      (around : ℕ) (s below : List Want) → around ≡ weight below
       → parser_step s (kind_at ts i) ≡ statement_step loop below (kind_at ts i)
-      → parse_run None ts i s ≡ parse_run None ts j below
-  spells_runs {ts} {loop} {i} (empty is) s below enter =
-      at_kind ts i s below (statement_step loop below) kind.Semicolon enter is tt refl
-  spells_runs {ts} {loop} {i} (declares {m = m} d semi) s below enter =
-      declares_run d semi s (Semicolon ∷ below)
+      → RunsPast ts i s j below around (statement_open d)
+  spells_runs {ts} {loop} {i} (empty is) around s below same enter =
+      enters ts i around none_open s below (statement_step loop below) kind.Semicolon enter is tt
+      refl (omega (arith, same))
+  spells_runs {ts} {loop} {i} (declares {m = m} d semi) around s below same enter =
+      declares_run d semi around s (Semicolon ∷ below) (omega (arith, same))
       (enter ∙ statement_typed loop below (kind_at ts i) (declares_begins d))
-      ∙ goes_on ts m (Semicolon ∷ below) below kind.Semicolon semi tt refl
-  spells_runs {ts} {loop} {i} (simply {m = m} x semi) s below enter =
-      simply_runs x (inl semi) s (Semicolon ∷ below)
+      ▸ goes ts m around none_open (Semicolon ∷ below) below kind.Semicolon semi tt refl
+      (omega (arith, same))
+  spells_runs {ts} {loop} {i} (simply {m = m} x semi) around s below same enter =
+      simply_runs x (inl semi) around s (Semicolon ∷ below) (omega (arith, same))
       (enter ∙ statement_simple loop below (kind_at ts i) (simply_begins x))
-      ∙ goes_on ts m (Semicolon ∷ below) below kind.Semicolon semi tt refl
-  spells_runs {ts} {loop} {i} (block {m = m} is all close) s below enter =
-      at_kind ts i s (Block loop ∷ below) (statement_step loop below) kind.OpenBrace enter
-      is tt refl
-      ∙ all_run all below ∙ goes_on ts m (Block loop ∷ below) below kind.CloseBrace close tt refl
-  spells_runs {ts} {loop} {i} {j} (if_alone {m = m} is c one other) s below enter =
-      at_kind ts i s (OpenExpression ∷ Body loop ∷ Else loop ∷ below) (statement_step loop below)
-      kind.If enter is tt refl
-      ∙ bracketed_runs c (Body loop ∷ Else loop ∷ below) ∙ body_by ts loop m j (Else loop ∷ below)
-      (brace_or_not (kind_at ts m)) (spells_starts one) (λ s below e. spells_runs one s below e)
-      ∙ alike ts j None (Else loop ∷ below) below (else_yields loop below (kind_at ts j) other)
-  spells_runs {ts} {loop} {i} (if_else {m = m} {j = j} {k = n} is c one other two) s below enter =
-      at_kind ts i s (OpenExpression ∷ Body loop ∷ Else loop ∷ below) (statement_step loop below)
-      kind.If enter is tt refl
-      ∙ bracketed_runs c (Body loop ∷ Else loop ∷ below) ∙ body_by ts loop m j (Else loop ∷ below)
-      (brace_or_not (kind_at ts m)) (spells_starts one) (λ s below e. spells_runs one s below e)
-      ∙ goes_on ts j (Else loop ∷ below) (Body loop ∷ below) kind.Else other tt refl
-      ∙ body_by ts loop (j + 1) n (below) (brace_or_not (kind_at ts (j + 1))) (spells_starts two)
-      (λ s below e. spells_runs two s below e)
-  spells_runs {ts} {loop} {i} {j} (repeats {m = m} is c one) s below enter =
-      at_kind ts i s (OpenExpression ∷ Body true ∷ below) (statement_step loop below) kind.While
-      enter is tt refl
-      ∙ bracketed_runs c (Body true ∷ below)
-      ∙ body_by ts true m j (below) (brace_or_not (kind_at ts m)) (spells_starts one) (λ s below e.
-      spells_runs one s below e)
+      ▸ goes ts m around none_open (Semicolon ∷ below) below kind.Semicolon semi tt refl
+      (omega (arith, same))
+  spells_runs {ts} {loop} {i} (block {m = m} is all close) around s below same enter =
+      enters ts i around one_open s (Block loop ∷ below) (statement_step loop below) kind.OpenBrace
+      enter is tt refl (omega (arith, same))
+      ▸ inside_bracket refl (all_run all (around + 1) below (omega (arith, same)))
+      ▸ goes ts m around none_open (Block loop ∷ below) below kind.CloseBrace close tt refl
+      (omega (arith, same))
+  spells_runs {ts} {loop} {i} {j} (if_alone {m = m} is c one other) around s below same enter =
+      let e : around ≡ weight (Body loop ∷ Else loop ∷ below) = omega (arith, same) in
+      enters ts i around none_open s (OpenExpression ∷ Body loop ∷ Else loop ∷ below)
+      (statement_step loop below) kind.If enter is tt refl (omega (arith, same))
+      ▸ bracketed_runs c around (Body loop ∷ Else loop ∷ below) e
+      ▸ ends_alike ts j (Else loop ∷ below) below (else_yields loop below (kind_at ts j) other)
+      (body_by ts loop m j around (Else loop ∷ below) (statement_open one) (has_braces one)
+      (omega (arith, same)) (is_braced one) (spells_starts one)
+      (λ n s k e h. spells_runs one n s k e h))
+  spells_runs {ts} {loop} {i} (if_else {m = m} {j = j} {k = n} is c one other two) around s below
+      same enter =
+      let e : around ≡ weight (Body loop ∷ Else loop ∷ below) = omega (arith, same) in
+      enters ts i around none_open s (OpenExpression ∷ Body loop ∷ Else loop ∷ below)
+      (statement_step loop below) kind.If enter is tt refl (omega (arith, same))
+      ▸ bracketed_runs c around (Body loop ∷ Else loop ∷ below) e
+      ▸ body_by ts loop m j around (Else loop ∷ below) (statement_open one) (has_braces one)
+      (omega (arith, same)) (is_braced one) (spells_starts one)
+      (λ n s k e h. spells_runs one n s k e h)
+      ▸ goes ts j around none_open (Else loop ∷ below) (Body loop ∷ below) kind.Else other tt refl
+      (omega (arith, same))
+      ▸ body_by ts loop (j + 1) n around below (statement_open two) (has_braces two) same
+      (is_braced two) (spells_starts two) (λ n s k e h. spells_runs two n s k e h)
+  spells_runs {ts} {loop} {i} {j} (repeats {m = m} is c one) around s below same enter =
+      enters ts i around none_open s (OpenExpression ∷ Body true ∷ below)
+      (statement_step loop below) kind.While enter is tt refl (omega (arith, same))
+      ▸ bracketed_runs c around (Body true ∷ below) (omega (arith, same))
+      ▸ body_by ts true m j around below (statement_open one) (has_braces one) same (is_braced one)
+      (spells_starts one) (λ n s k e h. spells_runs one n s k e h)
   spells_runs {ts} {loop} {i} {j} (counts {m = m} {n = n} {p = p} is opens f semi c semi2 t close
-      one) s below enter =
-      at_kind ts i s (OpenFor ∷ Body true ∷ below) (statement_step loop below) kind.For enter
-      is tt refl
-      ∙ goes_on ts (i + 1) (OpenFor ∷ Body true ∷ below) (ForFirst ∷ Semicolon ∷ Value ∷ Semicolon
-      ∷ ForThird ∷ Round ∷ Body true ∷ below) kind.OpenRound opens tt refl
-      ∙ first_runs f semi (Semicolon ∷ Value ∷ Semicolon ∷ ForThird ∷ Round ∷ Body true ∷ below)
-      ∙ goes_on ts m (Semicolon ∷ Value ∷ Semicolon ∷ ForThird ∷ Round ∷ Body true ∷ below)
-      (Value ∷ Semicolon ∷ ForThird ∷ Round ∷ Body true ∷ below) kind.Semicolon semi tt refl
-      ∙ value_runs c semi2 (Semicolon ∷ ForThird ∷ Round ∷ Body true ∷ below)
-      ∙ goes_on ts n (Semicolon ∷ ForThird ∷ Round ∷ Body true ∷ below)
-      (ForThird ∷ Round ∷ Body true ∷ below) kind.Semicolon semi2 tt refl
-      ∙ third_runs t close (Round ∷ Body true ∷ below)
-      ∙ goes_on ts p (Round ∷ Body true ∷ below) (Body true ∷ below) kind.CloseRound close tt refl
-      ∙ body_by ts true (p + 1) j (below) (brace_or_not (kind_at ts (p + 1))) (spells_starts one)
-      (λ s below e. spells_runs one s below e)
-  spells_runs {ts} {loop} {i} (breaks is semi) s below enter =
-      at_kind ts i s (Semicolon ∷ below) (statement_step loop below) kind.Break enter is tt refl
-      ∙ goes_on ts (i + 1) (Semicolon ∷ below) below kind.Semicolon semi tt refl
-  spells_runs {ts} {loop} {i} (continues is semi) s below enter =
-      at_kind ts i s (Semicolon ∷ below) (statement_step loop below) kind.Continue enter is tt refl
-      ∙ goes_on ts (i + 1) (Semicolon ∷ below) below kind.Semicolon semi tt refl
-  spells_runs {ts} {loop} {i} (returns {m = m} is v semi) s below enter =
-      at_kind ts i s (Value ∷ Semicolon ∷ below) (statement_step loop below) kind.Return enter
-      is tt refl
-      ∙ value_runs v semi (Semicolon ∷ below) ∙ goes_on ts m (Semicolon ∷ below) below
-      kind.Semicolon semi tt refl
+      one) around s below same enter =
+      let k : List Want = Round ∷ Body true ∷ below in
+      enters ts i around none_open s (OpenFor ∷ Body true ∷ below) (statement_step loop below)
+      kind.For enter is tt refl (omega (arith, same))
+      ▸ goes ts (i + 1) around one_open (OpenFor ∷ Body true ∷ below)
+      (ForFirst ∷ Semicolon ∷ Value ∷ Semicolon ∷ ForThird ∷ k) kind.OpenRound opens tt refl
+      (omega (arith, same))
+      ▸ inside_bracket refl (first_runs f semi (around + 1)
+      (Semicolon ∷ Value ∷ Semicolon ∷ ForThird ∷ k) (omega (arith, same))
+      ▸ goes ts m (around + 1) none_open (Semicolon ∷ Value ∷ Semicolon ∷ ForThird ∷ k)
+      (Value ∷ Semicolon ∷ ForThird ∷ k) kind.Semicolon semi tt refl (omega (arith, same))
+      ▸ value_runs c semi2 (around + 1) (Semicolon ∷ ForThird ∷ k) (omega (arith, same))
+      ▸ goes ts n (around + 1) none_open (Semicolon ∷ ForThird ∷ k) (ForThird ∷ k) kind.Semicolon
+      semi2 tt refl (omega (arith, same))
+      ▸ third_runs t close (around + 1) k (omega (arith, same)))
+      ▸ goes ts p around none_open k (Body true ∷ below) kind.CloseRound close tt refl
+      (omega (arith, same))
+      ▸ body_by ts true (p + 1) j around below (statement_open one) (has_braces one) same
+      (is_braced one) (spells_starts one) (λ n s k e h. spells_runs one n s k e h)
+  spells_runs {ts} {loop} {i} (breaks is semi) around s below same enter =
+      enters ts i around none_open s (Semicolon ∷ below) (statement_step loop below) kind.Break
+      enter is tt refl (omega (arith, same))
+      ▸ goes ts (i + 1) around none_open (Semicolon ∷ below) below kind.Semicolon semi tt refl
+      (omega (arith, same))
+  spells_runs {ts} {loop} {i} (continues is semi) around s below same enter =
+      enters ts i around none_open s (Semicolon ∷ below) (statement_step loop below) kind.Continue
+      enter is tt refl (omega (arith, same))
+      ▸ goes ts (i + 1) around none_open (Semicolon ∷ below) below kind.Semicolon semi tt refl
+      (omega (arith, same))
+  spells_runs {ts} {loop} {i} (returns {m = m} is v semi) around s below same enter =
+      enters ts i around none_open s (Value ∷ Semicolon ∷ below) (statement_step loop below)
+      kind.Return enter is tt refl (omega (arith, same))
+      ▸ value_runs v semi around (Semicolon ∷ below) (omega (arith, same))
+      ▸ goes ts m around none_open (Semicolon ∷ below) below kind.Semicolon semi tt refl
+      (omega (arith, same))
 
   pub all_run : {ts : List Placed} {loop : Bool} {i j : ℕ} {all : Statements}
-      → SpellsAll ts loop i j all → (k : List Want)
-      → parse_run None ts i (Block loop ∷ k) ≡ parse_run None ts j (Block loop ∷ k)
-  all_run nothing k = refl
-  all_run {ts} {loop} {i} (something one all) k =
-      spells_runs one (Block loop ∷ k) (Block loop ∷ k)
-      (block_enters loop k (kind_at ts i) (spells_starts one)) ∙ all_run all k
+      (d : SpellsAll ts loop i j all) (around : ℕ) (k : List Want) → around ≡ weight (Block loop ∷ k)
+      → RunsPast ts i (Block loop ∷ k) j (Block loop ∷ k) around (statements_open d)
+  all_run {loop = loop} nothing around k same = stays (Block loop ∷ k)
+  all_run {ts} {loop} {i} (something one all) around k same =
+      spells_runs one around (Block loop ∷ k) (Block loop ∷ k) same
+      (block_enters loop k (kind_at ts i) (spells_starts one)) ▸ all_run all around k same

@@ -1,6 +1,6 @@
 -- The laws that the parser's contract cites.
 use Rattle.std.proofs.Common.{ℕ, zero, suc, ◌+◌, ◌≡◌, ◌<◌, List, [], ◌∷◌, length, Option, Some}
-use Rattle.std.proofs.Common.{None, drop, slice_get, refl, sym, ap, ◌∙◌, subst, arith}
+use Rattle.std.proofs.Common.{None, slice_get, refl, sym, ap, ◌∙◌, subst, arith}
 use Rattle.c_lexer.specs.declared.token.Placed.{Placed}
 use Rattle.c_parser.specs.declared.fault.ParseFault.{ParseFault}
 use Rattle.c_parser.specs.declared.fault.ParseFault.TheVariants as fault
@@ -9,15 +9,16 @@ use Rattle.c_parser.specs.declared.want.Want.TheVariants.{Items}
 use Rattle.c_tree.specs.Kinds.{token_kind}
 use Rattle.c_tree.specs.ItemTree.{ItemTree}
 use Rattle.c_tree.specs.ItemSpelling.{SpellsProgram}
-use Rattle.c_parser.specs.Wants.{parser_step}
-use Rattle.c_parser.specs.inside.Run.{Verdict, Accepted, Refused, run_from, parse_run, ParseRefuses}
-use Rattle.c_parser.specs.Exact.{weigh, weights_from, weights, LightBefore, NoneBegins}
+use Rattle.c_parser.specs.inside.Wants.{parser_step}
+use Rattle.c_parser.specs.inside.Run.{Verdict, Accepted, Refused, parse_on, run_from, parse_run}
+use Rattle.c_parser.specs.inside.Run.{ParseRefuses}
+use Rattle.c_parser.specs.Exact.{LightBefore, NoneBegins}
+use Rattle.c_parser.specs.inside.Stacks.{weigh, weights_from, weights}
+use Rattle.c_parser.specs.Weight.{spelled_weights}
+use Rattle.c_parser.specs.WeightLaw.{OneWeightEach}
 use Rattle.c_parser.proofs.ForwardItem.{program_runs}
+use Rattle.c_parser.proofs.Weighs.{drop_none, weights_spelled, light_spelled, light_counted}
 use Rattle.c_parser.proofs.Prefix.{refused_alike, refused_unlimited, accepted_light, light_accepted}
-
-drop_none : (ts : List Placed) → drop 0 ts ≡ ts
-drop_none [] = refl
-drop_none (x ∷ xs) = refl
 
 pub run_whole : (limit : Option ℕ) (ts : List Placed) (k : List Want)
     → parse_run limit ts 0 k ≡ run_from limit ts 0 k
@@ -37,11 +38,17 @@ weights_inside (x ∷ xs) k i w h =
     go (Some s) zero h more = omega arith
     go (Some s) (suc i) h more = omega (arith, more s i h)
 
-pub light_where_accepted : (ts : List Placed) → parse_run (Some 64) ts 0 (Items ∷ []) ≡ Accepted
+counted_where_accepted : (ts : List Placed) → parse_run (Some 64) ts 0 (Items ∷ []) ≡ Accepted
     → LightBefore (weights ts) (length ts)
 unfolding weights
-light_where_accepted ts h = λ i w inside is.
+counted_where_accepted ts h = λ i w inside is.
     accepted_light ts 0 (Items ∷ []) (sym (run_whole (Some 64) ts (Items ∷ [])) ∙ h) i w is
+
+pub light_where_accepted : (ts : List Placed) → parse_run (Some 64) ts 0 (Items ∷ []) ≡ Accepted
+    → (xs : List ItemTree) (spelled : SpellsProgram ts xs)
+    → LightBefore (spelled_weights spelled) (length ts)
+light_where_accepted ts h xs spelled =
+    light_spelled spelled (length ts) (counted_where_accepted ts h)
 
 pub none_begins : (ts : List Placed) (t : ℕ) → parse_run (Some 64) ts 0 (Items ∷ []) ≡ Refused t
     → NoneBegins ts (t + 1)
@@ -51,14 +58,20 @@ none_begins ts t h us xs same spelled =
     let b = run_whole None us (Items ∷ []) in
     let d = program_runs us xs spelled in cc
 
-pub accepted_where_light : (ts : List Placed) (xs : List ItemTree) → SpellsProgram ts xs
+accepted_where_counted : (ts : List Placed) (xs : List ItemTree) → SpellsProgram ts xs
     → LightBefore (weights ts) (length ts) → parse_run (Some 64) ts 0 (Items ∷ []) ≡ Accepted
 unfolding weights
-accepted_where_light ts xs spelled light =
+accepted_where_counted ts xs spelled light =
     run_whole (Some 64) ts (Items ∷ [])
     ∙ light_accepted ts 0 (Items ∷ []) (sym (run_whole None ts (Items ∷ []))
     ∙ program_runs ts xs spelled)
     (λ i w is. light i w (weights_inside ts (Items ∷ []) i w is) is)
+
+pub accepted_where_light : (ts : List Placed) (xs : List ItemTree) (spelled : SpellsProgram ts xs)
+    → LightBefore (spelled_weights spelled) (length ts)
+    → parse_run (Some 64) ts 0 (Items ∷ []) ≡ Accepted
+accepted_where_light ts xs spelled light =
+    accepted_where_counted ts xs spelled (light_counted spelled (length ts) light)
 
 pub only_memory : (f : ParseFault) (v : Verdict) → v ≡ Accepted → ParseRefuses f v
     → f ≡ fault.NoMemory
@@ -72,3 +85,24 @@ pub none_at : (ts : List Placed) (f : ParseFault)
     → NoneBegins ts (t + 1)
 none_at ts f h t e = none_begins ts t
     (subst (λ f. ParseRefuses f (parse_run (Some 64) ts 0 (Items ∷ []))) e h)
+
+-- the stack's count has one entry for each token that is accepted
+weights_each : (ts : List Placed) (p : ℕ) (k : List Want) → run_from None ts p k ≡ Accepted
+    → length (weights_from ts k) ≡ length ts
+weights_each [] p k h = refl
+weights_each (x ∷ xs) p k h =
+    go (parser_step k (token_kind x.token)) h (λ s h. weights_each xs (p + 1) s h)
+  where
+    go : (o : Option (List Want)) → parse_on None p o (λ s. run_from None xs (p + 1) s) ≡ Accepted
+        → ((s : List Want) → run_from None xs (p + 1) s ≡ Accepted
+        → length (weights_from xs s) ≡ length xs)
+        → length (weigh o (λ s. weights_from xs s)) ≡ suc (length xs)
+    go None h more = cc
+    go (Some s) h more = ap suc (more s h)
+
+pub one_weight_each : OneWeightEach
+unfolding weights
+one_weight_each ts xs spelled =
+    ap (λ ws. length ws) (sym (weights_spelled spelled))
+    ∙ weights_each ts 0 (Items ∷ []) (sym (run_whole None ts (Items ∷ []))
+    ∙ program_runs ts xs spelled)

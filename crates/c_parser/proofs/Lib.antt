@@ -1,9 +1,11 @@
 pub mod Stack
 pub mod Steps
+pub mod RunsPast
 pub mod Prefix
 pub mod Forward
 pub mod ForwardStmt
 pub mod ForwardItem
+pub mod Weighs
 pub mod Laws
 pub mod Flat
 pub mod Back

@@ -6,10 +6,9 @@ use Rattle.c_lexer.specs.declared.token.Placed.{Placed}
 use Rattle.c_tree.specs.declared.kind.Kind.TheVariants as kind
 use Rattle.c_parser.specs.declared.want.Want.{Want}
 use Rattle.c_tree.specs.Kinds.{token_kind}
-use Rattle.c_parser.specs.Wants.{parser_step}
-use Rattle.c_parser.specs.Weight.{weight}
+use Rattle.c_parser.specs.inside.Wants.{parser_step}
+use Rattle.c_parser.specs.inside.Stacks.{weight, weigh, weights_from}
 use Rattle.c_parser.specs.inside.Run.{Accepted, Refused, weighed, ends, parse_on, run_from}
-use Rattle.c_parser.specs.Exact.{weigh, weights_from}
 
 -- no refusal comes before the place where the run begins
 pub refused_after : (ts : List Placed) (p t : ℕ) (k : List Want)

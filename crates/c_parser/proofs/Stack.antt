@@ -4,7 +4,7 @@ use Rattle.std.proofs.lemmas.List.{reverse-append}
 use Rattle.std.proofs.lemmas.Grind.{reverse_onto}
 use Rattle.std.proofs.lemmas.Bool.{le-ltb, lt-ltb}
 use Rattle.c_parser.specs.declared.want.Want.{Want}
-use Rattle.c_parser.specs.Weight.{own_weight, weight}
+use Rattle.c_parser.specs.inside.Stacks.{own_weight, weight}
 
 pub reverse-one_more : (xs : List Want) (w : Want) → reverse (xs ++ w ∷ []) ≡ w ∷ reverse xs
 reverse-one_more xs w = reverse-append xs (w ∷ [])

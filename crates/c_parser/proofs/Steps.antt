@@ -8,8 +8,8 @@ use Rattle.c_tree.specs.declared.kind.Kind.{Kind}
 use Rattle.c_tree.specs.declared.kind.Kind.TheVariants as kind
 use Rattle.c_parser.specs.declared.want.Want.{Want}
 use Rattle.c_tree.specs.Kinds.{placed_kind, kind_at, token_kind}
-use Rattle.c_parser.specs.Wants.{parser_step}
-use Rattle.c_parser.specs.Weight.{weight}
+use Rattle.c_parser.specs.inside.Wants.{parser_step}
+use Rattle.c_parser.specs.inside.Stacks.{weight}
 use Rattle.c_parser.specs.inside.Run.{Verdict, Refused, Deep, weighed, ends, parse_on, run_from}
 use Rattle.c_parser.specs.inside.Run.{parse_run}
 

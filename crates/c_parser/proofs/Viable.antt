@@ -1,6 +1,7 @@
 -- The tokens before a refused one, and the tokens up to one that is too heavy, begin a program.
 use Rattle.std.proofs.Common.{ℕ, zero, suc, ◌+◌, ◌≡◌, ◌≤◌, ◌<◌, List, [], ◌∷◌, Option, Some, None}
 use Rattle.std.proofs.Common.{Bool, true, false, nat_lt, slice_get, refl, sym, ◌∙◌, subst, arith}
+use Rattle.std.proofs.Common.{ap}
 use Rattle.std.proofs.lemmas.Bool.{ltb-true, ltb-false}
 use Rattle.c_lexer.specs.declared.token.Placed.{Placed}
 use Rattle.c_parser.specs.declared.fault.ParseFault.{ParseFault}
@@ -9,15 +10,16 @@ use Rattle.c_tree.specs.declared.kind.Kind.TheVariants as kind
 use Rattle.c_parser.specs.declared.want.Want.{Want}
 use Rattle.c_parser.specs.declared.want.Want.TheVariants.{Items}
 use Rattle.c_tree.specs.Kinds.{token_kind}
-use Rattle.c_parser.specs.Wants.{parser_step}
-use Rattle.c_parser.specs.Weight.{weight}
+use Rattle.c_parser.specs.inside.Wants.{parser_step}
+use Rattle.c_parser.specs.inside.Stacks.{weight, weigh, weights_from, weights}
 use Rattle.c_parser.specs.inside.Run.{Refused, Deep, weighed, ends, parse_on, run_from, parse_run}
 use Rattle.c_parser.specs.inside.Run.{ParseRefuses}
-use Rattle.c_parser.specs.Exact.{weigh, weights_from, weights, SomeBegins, SomeSinks}
+use Rattle.c_parser.specs.Exact.{SomeBegins, SomeSinks}
 use Rattle.c_parser.proofs.Back.{spelled}
 use Rattle.c_parser.proofs.Finish.{IfPasses, Passes, completion, completion_runs, completion_agrees}
 use Rattle.c_parser.proofs.Finish.{completion_weighs}
 use Rattle.c_parser.proofs.Laws.{run_whole}
+use Rattle.c_parser.proofs.Weighs.{weights_spelled, light_spelled}
 
 abbrev Light : List ℕ → ℕ → Type 0
 Light ws n = (i w : ℕ) → i < n → slice_get ws i ≡ Some w → w ≤ 64
@@ -138,8 +140,8 @@ some_begins ts t h =
       p.0,
       completion_agrees ts t k r.0,
       p.1,
-      λ i w inside is.
-          r.1 i w inside (sym (completion_weighs ts t k r.0 i inside) ∙ is),
+      light_spelled p.1 t (λ i w inside is.
+          r.1 i w inside (sym (completion_weighs ts t k r.0 i inside) ∙ is)),
     )
 
 pub some_sinks : (ts : List Placed) (t : ℕ) → parse_run (Some 64) ts 0 (Items ∷ []) ≡ Deep t
@@ -154,10 +156,11 @@ some_sinks ts t h =
       p.0,
       λ i inside. completion_agrees ts (suc t) k r.0 i (omega arith),
       p.1,
-      λ i w inside is. r.1 i w inside
-          (sym (completion_weighs ts (suc t) k r.0 i (omega arith)) ∙ is),
+      light_spelled p.1 t (λ i w inside is. r.1 i w inside
+          (sym (completion_weighs ts (suc t) k r.0 i (omega arith)) ∙ is)),
       r.2.0,
-      completion_weighs ts (suc t) k r.0 t (omega arith) ∙ r.2.1,
+      ap (λ ws. slice_get ws t) (sym (weights_spelled p.1))
+          ∙ completion_weighs ts (suc t) k r.0 t (omega arith) ∙ r.2.1,
       r.2.2,
     )
 

@@ -5,3 +5,4 @@ pub mod Run
 pub mod Exact
 pub mod Spelling
 pub mod Wants
+pub mod Stacks

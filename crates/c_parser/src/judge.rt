@@ -1,8 +1,8 @@
 //! Whether a list of tokens is a program, and which token is refused if it isn't.
 
 ghost use Rattle.std.specs.Prelude.{ℕ, List, [], ◌∷◌, ◌≡◌, ◌≤◌, ◌+◌, OnOk, IfOk, IfErr, Some, None};
-ghost use Rattle.c_parser.specs.Wants as wants;
-ghost use Rattle.c_parser.specs.Weight.{weight};
+ghost use Rattle.c_parser.specs.inside.Wants as wants;
+ghost use Rattle.c_parser.specs.inside.Stacks.{weight};
 ghost use Rattle.c_parser.specs.inside.Run.{parse_run, parser_stepped, Accepted, ParseRefuses};
 
 use crate::fault::ParseFault;

@@ -9,8 +9,10 @@ mod build_item;
 mod build_stmt;
 mod fault;
 mod judge;
+mod one_weight;
 mod parser;
 mod want;
 
 pub use fault::ParseFault;
+pub use one_weight::weight_law;
 pub use parser::parse;

@@ -1,11 +1,11 @@
 //! The parser.
 
 ghost use Rattle.std.specs.Prelude.{ℕ, List, ◌≡◌, ◌+◌, IfOk, IfErr, OnOk, length, map};
-ghost use Rattle.c_parser.specs.Exact.{weights, LightBefore, ParseGives, NoneBegins, SomeBegins};
-ghost use Rattle.c_parser.specs.Exact.{SomeSinks};
+ghost use Rattle.c_parser.specs.Exact.{LightBefore, ParseGives, NoneBegins, SomeBegins, SomeSinks};
 ghost use Rattle.c_parser.specs.declared.fault.ParseFault.TheVariants.{Syntax, TooDeep};
 ghost use Rattle.c_tree.specs.ItemTree.{ItemTree};
 ghost use Rattle.c_tree.specs.Program.{tree_of};
+ghost use Rattle.c_parser.specs.Weight.{spelled_weights};
 ghost use Rattle.c_tree.specs.ItemSpelling.{SpellsProgram};
 
 use crate::build_item::items;
@@ -23,12 +23,13 @@ pub fn parse(alloc: Global, tokens: &TokenList) -> Result<Ast, ParseFault>
     ensures last { IfOk result (λ p. p.last ≡ tokens.now.last) }
     // The answered tree is the one that the tokens spell, and no token is too heavy.
     ensures found { IfOk result (λ p. SpellsProgram tokens.now.tokens (tree_of p)) }
-    ensures light { OnOk result (LightBefore (weights tokens.now.tokens)
-        (length tokens.now.tokens)) }
+    ensures light { OnOk result ((xs : List ItemTree)
+        (spelled : SpellsProgram tokens.now.tokens xs)
+        → LightBefore (spelled_weights spelled) (length tokens.now.tokens)) }
     // If some tree spells the tokens, and none is too heavy, the answer is that tree, or memory
     // runs out.
-    ensures only { (xs : List ItemTree) → SpellsProgram tokens.now.tokens xs
-        → LightBefore (weights tokens.now.tokens) (length tokens.now.tokens)
+    ensures only { (xs : List ItemTree) (spelled : SpellsProgram tokens.now.tokens xs)
+        → LightBefore (spelled_weights spelled) (length tokens.now.tokens)
         → ParseGives result xs }
     // No program begins with the tokens up to a refused one.
     ensures none { IfErr result (λ f. (t : ℕ) → f ≡ Syntax t

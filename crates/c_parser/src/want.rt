@@ -2,11 +2,10 @@
 
 ghost use Rattle.std.specs.Prelude.{ℕ, List, [], ◌∷◌, ◌++◌, ◌≡◌, ◌≤◌, ◌<◌, ◌+◌, OnOk, IfOk};
 ghost use Rattle.std.specs.Prelude.{reverse, nat_lt};
-ghost use Rattle.c_parser.specs.Wants as wants;
-ghost use Rattle.c_parser.specs.inside.Wants as inside_wants;
+ghost use Rattle.c_parser.specs.inside.Wants as wants;
 ghost use Rattle.c_parser.specs.inside.Wants.{moves_to, done};
-ghost use Rattle.c_parser.specs.Weight as weights;
-ghost use Rattle.c_parser.specs.Weight.{weight};
+ghost use Rattle.c_parser.specs.inside.Stacks as stacks;
+ghost use Rattle.c_parser.specs.inside.Stacks.{weight};
 
 use c_tree::Kind;
 use c_tree::expr::BinaryOp;
@@ -95,7 +94,7 @@ const LIMIT: u64 = 64;
 
 /// The weight that a want adds.
 fn own(want: Want) -> u64
-    ensures { result ≡ weights.own_weight want }
+    ensures { result ≡ stacks.own_weight want }
 {
     match want {
         Want::Operand(n) | Want::Rest(n) | Want::Named(n) | Want::Dot(n) | Want::Target(n) => n,
@@ -154,7 +153,7 @@ impl Wants {
     /// Pops the want on top.
     #[tactic(auto, using(crate::proofs::Stack::stack))]
     pub fn pop(&mut self) -> Option<Want>
-        ensures { inside_wants.WantPopped result self.new self.old }
+        ensures { wants.WantPopped result self.new self.old }
     {
         self.all.pop()
     }
@@ -179,7 +178,7 @@ impl Wants {
     }
 
     fn take(&mut self, more: &[Want]) -> Result<Taken, AllocError>
-        ensures { IfOk result (λ t. done t self.new ≡ inside_wants.Takes (more.now ++ self.old)) }
+        ensures { IfOk result (λ t. done t self.new ≡ wants.Takes (more.now ++ self.old)) }
     {
         self.put(more)?;
         Ok(Taken::Taken)
@@ -570,7 +569,7 @@ impl Wants {
 
     /// A want for one token, and the wants after it.
     fn only(&mut self, is: bool, more: &[Want]) -> Result<Taken, AllocError>
-        ensures { IfOk result (λ t. done t self.new ≡ moves_to (inside_wants.token_then is more.now)
+        ensures { IfOk result (λ t. done t self.new ≡ moves_to (wants.token_then is more.now)
             self.old) }
     {
         if !is {
@@ -581,7 +580,7 @@ impl Wants {
 
     /// Lets the want that was on top meet a token.
     pub fn meet(&mut self, want: Want, kind: Kind) -> Result<Taken, AllocError>
-        requires { weights.own_weight want ≤ 64 }
+        requires { stacks.own_weight want ≤ 64 }
         ensures { IfOk result (λ t. done t self.new ≡ moves_to (wants.move want kind) self.old) }
     {
         match want {
@@ -634,7 +633,7 @@ impl Wants {
 
 /// A part that may be absent isn't refused but stays unmet.
 fn or_absent(taken: Taken) -> Taken
-    ensures { result ≡ inside_wants.perhaps_taken taken }
+    ensures { result ≡ wants.perhaps_taken taken }
 {
     match taken {
         Taken::Refused | Taken::Yielded => Taken::Yielded,

@@ -13,9 +13,10 @@ use Rattle.c_parser.specs.declared.want.Want.{Want}
 use Rattle.c_parser.specs.declared.want.Want.TheVariants.{Items}
 use Rattle.c_tree.specs.Kinds.{token_kind}
 use Rattle.c_tree.specs.Program.{Program, source_line, tree_of}
-use Rattle.c_parser.specs.Wants.{parser_step}
-use Rattle.c_parser.specs.Exact.{weigh, weights_from, weights, LightBefore, Agree, NoneBegins}
-use Rattle.c_parser.specs.Exact.{SomeBegins, SomeSinks}
+use Rattle.c_parser.specs.inside.Wants.{parser_step}
+use Rattle.c_parser.specs.Exact.{LightBefore, Agree, NoneBegins, SomeBegins, SomeSinks}
+use Rattle.c_parser.specs.inside.Stacks.{weigh, weights_from, weights}
+use Rattle.c_parser.proofs.Weighs.{light_counted, heavy_counted}
 use Rattle.c_types.specs.declared.broken.Broken.{Broken}
 use Rattle.c_types.specs.declared.fault.TypeFault.{TypeFault}
 use Rattle.c_types.specs.Broken.{least_broken}
@@ -64,7 +65,7 @@ heavy_and_light : (ts us : List Placed) (t n m : ℕ) → SomeSinks ts t → Agr
 heavy_and_light ts us t n m heavy same light inside below =
     let there : slice_get (weights us) t ≡ Some heavy.5 =
     weight_of ts us n t same inside ∙ (sym (weight_of ts heavy.0 (t + 1) t heavy.2 (omega arith))
-    ∙ heavy.6) in
+    ∙ heavy_counted ts t heavy) in
     let few : heavy.5 ≤ 64 = light t heavy.5 below there in
     let much : 64 < heavy.5 = heavy.7 in
     omega (arith, few, much)
@@ -79,8 +80,8 @@ syntax_once ts t u none some =
 deep_once : (ts : List Placed) (t u : ℕ) → SomeSinks ts t → SomeSinks ts u → u ≤ t
 deep_once ts t u one two =
     ⊎_elim (λ e. omega arith)
-    (⊎_elim (λ less. absurd (heavy_and_light ts two.0 t (u + 1) u one two.2 two.4 (omega arith)
-    less)) (λ more. omega arith))
+    (⊎_elim (λ less. absurd (heavy_and_light ts two.0 t (u + 1) u one two.2
+    (light_counted two.3 u two.4) (omega arith) less)) (λ more. omega arith))
     (cases_order t u)
 
 not_both : (ts : List Placed) (t u : ℕ) → NoneBegins ts (t + 1) → SomeBegins ts t
@@ -90,7 +91,7 @@ not_both ts t u none some deep =
     absurd (none deep.0 deep.1 (λ i below. deep.2 i (omega arith)) deep.3))
     (⊎_elim (λ less. absurd (none deep.0 deep.1 (λ i below. deep.2 i (omega arith)) deep.3))
     (λ more. more)) (cases_order t u) in
-    heavy_and_light ts some.0 u t t deep some.2 some.4 early early
+    heavy_and_light ts some.0 u t t deep some.2 (light_counted some.3 t some.4) early early
 
 one_token : (list : Tokens) (f g : ParseFault) (m n : ℕ) → RefusesToken list f m
     → RefusesToken list g n → (f ≡ g) × (m ≡ n)
@@ -118,9 +119,10 @@ none_refused list tree (parse.Syntax t) line is a =
     a.0 list.tokens (tree_of tree) (λ i below. refl) is.spelled
 none_refused list tree (parse.TooDeep t) line is a =
     let some = a.0 in
-    let here = sym (weight_of list.tokens some.0 (t + 1) t some.2 (omega arith)) ∙ some.6 in
+    let here = sym (weight_of list.tokens some.0 (t + 1) t some.2 (omega arith))
+    ∙ heavy_counted list.tokens t some in
     heavy_and_light list.tokens list.tokens t (t + 1) (length list.tokens) some (λ i below. refl)
-    is.light (omega arith)
+    (light_counted is.spelled (length list.tokens) is.light) (omega arith)
     (weighed_within list.tokens t some.5 here)
 none_refused list tree parse.NoMemory line is a = a
 

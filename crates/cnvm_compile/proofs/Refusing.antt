@@ -7,9 +7,10 @@ use Rattle.c_lexer.specs.declared.token.Placed.{Placed}
 use Rattle.c_parser.specs.declared.want.Want.{Want}
 use Rattle.c_parser.specs.declared.want.Want.TheVariants.{Items}
 use Rattle.c_tree.specs.Kinds.{token_kind}
-use Rattle.c_parser.specs.Wants.{parser_step}
-use Rattle.c_parser.specs.Exact.{weigh, weights_from, weights, Agree, NoneBegins, SomeBegins}
-use Rattle.c_parser.specs.Exact.{SomeSinks}
+use Rattle.c_parser.specs.inside.Wants.{parser_step}
+use Rattle.c_parser.specs.Exact.{Agree, NoneBegins, SomeBegins, SomeSinks}
+use Rattle.c_parser.specs.inside.Stacks.{weigh, weights_from, weights}
+use Rattle.c_parser.proofs.Weighs.{heavy_counted}
 
 ended : {A : Type 0} (xs : List A) (i : ℕ) → slice_get xs i ≡ None → length xs ≤ i
 ended [] i none = omega arith
@@ -56,7 +57,7 @@ weighed_within us t w is = weights_within us (Items ∷ []) t w is
 
 pub deep_within : (ts : List Placed) (t : ℕ) → SomeSinks ts t → t ≤ length ts
 deep_within ts t some =
-    let inside : t < length some.0 = weighed_within some.0 t some.5 some.6 in
+    let inside : t < length some.0 = weighed_within some.0 t some.5 (heavy_counted ts t some) in
     let same : slice_get some.0 t ≡ slice_get ts t = some.2 t (omega arith) in
     ⊎_elim (λ e. omega arith)
     (⊎_elim (λ far.

@@ -6,9 +6,10 @@ use Rattle.c_lexer.specs.Cuts.{answer}
 use Rattle.c_lexer.specs.TokenList.{Tokens, line_at}
 use Rattle.c_parser.specs.declared.fault.ParseFault.{ParseFault}
 use Rattle.c_parser.specs.declared.fault.ParseFault.TheVariants as parse
-use Rattle.c_parser.specs.Exact.{weights, LightBefore, NoneBegins, SomeBegins, SomeSinks}
+use Rattle.c_parser.specs.Exact.{LightBefore, NoneBegins, SomeBegins, SomeSinks}
 use Rattle.c_tree.specs.Program.{Program, tree_of}
 use Rattle.c_tree.specs.ItemSpelling.{SpellsProgram}
+use Rattle.c_parser.specs.Weight.{spelled_weights}
 use Rattle.c_types.specs.declared.fault.TypeFault.{TypeFault}
 use Rattle.c_types.specs.Fault.{breaks, refusal}
 use Rattle.cnvm_compile.specs.declared.front_end.ProgramFault.{ProgramFault}
@@ -19,7 +20,7 @@ use Rattle.cnvm_compile.specs.declared.front_end.ProgramFault.TheVariants.{NoMem
 -- lines.
 pub record IsTree (list : Tokens) (tree : Program) : Type 0 where
   pub spelled : SpellsProgram list.tokens (tree_of tree)
-  pub light : LightBefore (weights list.tokens) (length list.tokens)
+  pub light : LightBefore (spelled_weights spelled) (length list.tokens)
   pub lines : tree.lines ≡ map (λ placed. placed.line) list.tokens
   pub last : tree.last ≡ list.last
 

@@ -8,8 +8,8 @@ use Rattle.c_parser.specs.declared.fault.ParseFault.TheVariants as fault
 use Rattle.c_tree.specs.declared.kind.Kind.TheVariants as kind
 use Rattle.c_parser.specs.declared.want.Want.{Want}
 use Rattle.c_tree.specs.Kinds.{token_kind}
-use Rattle.c_parser.specs.Wants.{parser_step}
-use Rattle.c_parser.specs.Weight.{weight}
+use Rattle.c_parser.specs.inside.Wants.{parser_step}
+use Rattle.c_parser.specs.inside.Stacks.{weight}
 
 pub data Verdict : Type 0 where
   Accepted : Verdict

@@ -1,6 +1,6 @@
 use Rattle.std.proofs.Common.{◌≡◌, ◌≤◌, length, [], ◌∷◌, Some}
 use Rattle.c_parser.specs.declared.want.Want.TheVariants.{Items}
-use Rattle.c_parser.specs.Weight.{weight}
+use Rattle.c_parser.specs.inside.Stacks.{weight}
 use Rattle.c_parser.specs.inside.Run.{parse_run}
 use Rattle.c_parser.proofs.judge.judge.Given as goal
 

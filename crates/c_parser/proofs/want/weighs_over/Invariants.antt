@@ -1,5 +1,5 @@
 use Rattle.std.proofs.Common.{◌≡◌, ◌+◌, drop}
-use Rattle.c_parser.specs.Weight.{weight}
+use Rattle.c_parser.specs.inside.Stacks.{weight}
 use Rattle.c_parser.proofs.want.weighs_over.Given as goal
 
 -- the rest of the limit decides about the remaining wants
