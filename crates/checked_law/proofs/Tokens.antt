@@ -10,7 +10,6 @@ use Rattle.std.proofs.lemmas.Int.{ints}
 use Rattle.nvm_base.specs.Wrap.{IsWord}
 use Rattle.c_lexer.specs.declared.fault.LexFault.{LexFault}
 use Rattle.c_lexer.specs.declared.fault.LexFault.TheVariants.{TooLong}
-use Rattle.c_lexer.specs.declared.spot.Spot.{Spot}
 use Rattle.c_lexer.specs.declared.token.Placed.{Placed}
 use Rattle.c_lexer.specs.Bytes.{is_blank, begins_name, run_len, line_len}
 use Rattle.c_lexer.specs.Comments.{comment_len, begins_include}
@@ -69,30 +68,30 @@ abbrev AreWordTokens : List Placed → Type 0
 AreWordTokens ts = AllByRecursion IsWordToken ts
 
 -- a cut that begins with a piece has only words as numbers
-record KeepsWords {P : Type 0} (begun : P → Spot → (ℕ → Cut) → Cut) (x : P) : Type 0 where
-  holds : (spot : Spot) (go : ℕ → Cut) → ((n : ℕ) → AreWordTokens (go n).tokens)
+record KeepsWords {S P : Type 0} (begun : P → S → (ℕ → Cut) → Cut) (x : P) : Type 0 where
+  holds : (spot : S) (go : ℕ → Cut) → ((n : ℕ) → AreWordTokens (go n).tokens)
       → AreWordTokens (begun x spot go).tokens
 
-either_piece : {P : Type 0} {begun : P → Spot → (ℕ → Cut) → Cut} (b : Bool) {x y : P}
+either_piece : {S P : Type 0} {begun : P → S → (ℕ → Cut) → Cut} (b : Bool) {x y : P}
     → KeepsWords begun x → KeepsWords begun y → KeepsWords begun (if b then x else y)
 either_piece true a c = a
 either_piece false a c = c
 
-comment_words : (at : Spot) (o : Option ℕ) → KeepsWords begin_piece (comment_piece at o)
+comment_words : (at : _) (o : Option ℕ) → KeepsWords begin_piece (comment_piece at o)
 comment_words at None = record { holds = λ spot go h. tt }
 comment_words at (Some width) = record { holds = λ spot go h. h (width - 1) }
 
-number_piece_words : (at : Spot) (width : ℕ) (o : Option ℤ) → IsWordOr o
+number_piece_words : (at : _) (width : ℕ) (o : Option ℤ) → IsWordOr o
     → KeepsWords begin_piece (number_piece at width o)
 number_piece_words at width None w = record { holds = λ spot go h. tt }
 number_piece_words at width (Some v) w = record { holds = λ spot go h. (w, h (width - 1)) }
 
-mark_words : (at : Spot) (o : Option (ℕ × _)) → KeepsWords begin_piece (mark_piece at o)
+mark_words : (at : _) (o : Option (ℕ × _)) → KeepsWords begin_piece (mark_piece at o)
 mark_words at None = record { holds = λ spot go h. tt }
 mark_words at (Some (width, mark)) =
     record { holds = λ spot go h. (small_word 0 (omega arith), h (width - 1)) }
 
-spelled_words : (run : List ℕ) (o : Option _) (reserved : Bool) (spot : Spot)
+spelled_words : (run : List ℕ) (o : Option _) (reserved : Bool) (spot : _)
     → IsWordToken (placed_at spot (spelled_by run o reserved))
 spelled_words run (Some word) reserved spot = small_word 0 (omega arith)
 spelled_words run None true spot = small_word 0 (omega arith)
