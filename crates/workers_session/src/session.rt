@@ -8,7 +8,7 @@ ghost use Rattle.pmem.specs.Played.{PlaysAll};
 ghost use Rattle.pool_layout.specs.Sizes.{pool_lines};
 ghost use Rattle.pool_workers.specs.Crew.{task_at, AreTasks, OtherTasksStay, HasCompartments};
 ghost use Rattle.pool_workers.specs.Crew.{standing_at};
-ghost use Rattle.pool_workers.specs.Making.{creations};
+ghost use Rattle.pool_workers.specs.Making.{creations, Unmade};
 ghost use Rattle.recovery.specs.declared.answer.RecoverAnswer.{RecoverAnswer};
 ghost use Rattle.cnvm_session.specs.Outcomes.{answer_of_recovery as recovery_answer};
 ghost use Rattle.workers_session.specs.declared.line.WorkersLine.TheVariants.{Own};
@@ -71,6 +71,8 @@ pub fn create_workers<P: Pmem>(
         (creations program.now.image.parts.sizes program.now.digest 0 count)
         (P.device dev.new)) }
     ensures sound { IfOk result (λ s. IsReadyFor program.now.image s (P.device dev.new)) }
+    ensures refused { IfErr result (λ why. Unmade why program.now.image.parts.sizes
+        program.now.digest count (P.device dev.old) (P.device dev.new)) }
     ensures failed { IsErrOf result MakeFault.Failed
         → FaultsRose (P.device dev.old).faults (P.device dev.new).faults }
 {

@@ -1,0 +1,47 @@
+use Rattle.std.proofs.Common.{rules, ◌∙◌, List, subst}
+use Rattle.std.specs.Io.KnownBytes.{Appends}
+use Rattle.nvm_base.specs.Parts.{AppendsPart}
+use Rattle.workers_session.specs.declared.line.WorkersLine.{WorkersLine}
+use Rattle.workers_run.specs.WorkersRan.{lines_text}
+use Rattle.workers_run.proofs.WorkersRuns.{part_none, runs_more, breaks_more, breaks_here}
+use Rattle.workers_run.proofs.run.answer_workers.Goals as goal
+
+pub returns-in_default-clause-part : goal.returns-in_default-clause-part
+returns-in_default-clause-part g c =
+    let does = c.in_default.ensures.does in
+    c.loop-given.invariant.part _ _
+    (breaks_here c.args.program.now c.args.commands.now c.loop-given.given-index
+    c.given-item.result c.loop-given-test.true c.given-item.is _ does.0 _ does.2 _ _
+    (part_none _ (lines_text does.0)))
+
+pub returns-in-Err-clause-part : goal.returns-in-Err-clause-part
+returns-in-Err-clause-part g c =
+    let does = c.in-Some.ensures.does in
+    let written = g.K.Sink.written in
+    c.loop-given.invariant.part _ _
+    (breaks_here c.args.program.now c.args.commands.now c.loop-given.given-index
+    c.given-item.result c.loop-given-test.true c.given-item.is _ does.0 _ does.2 _ _
+    (subst
+    (λ (l : List WorkersLine).
+    AppendsPart (written c.loop-given.out) (written c.put_lines.new.out) (lines_text l))
+    (c.as_slice.ensures ∙ does.1) c.in-Err.ensures.part))
+
+pub loop-given-preserved : goal.loop-given-preserved
+loop-given-preserved g c =
+    let does = c.in-Some.ensures.does in
+    let written = g.K.Sink.written in
+    let told = subst
+    (λ (l : List WorkersLine).
+    Appends (written c.loop-given.out) (written c.put_lines.new.out) (lines_text l))
+    (c.as_slice.ensures ∙ does.1) c.in_default-put_lines.ensures.whole in record {
+      sound = c.in-Some.ensures.sound;
+      count = search rules;
+      all = λ y w rest. c.loop-given.invariant.all y w
+          (runs_more c.args.program.now c.args.commands.now c.loop-given.given-index
+          c.given-item.result c.loop-given-test.true c.given-item.is _ does.0 _ does.2 _ y _ w
+          told rest);
+      part = λ y w rest. c.loop-given.invariant.part y w
+          (breaks_more c.args.program.now c.args.commands.now c.loop-given.given-index
+          c.given-item.result c.loop-given-test.true c.given-item.is _ does.0 _ does.2 _ y _ w
+          told rest);
+    }

@@ -1,0 +1,74 @@
+-- A run of a script of workers on a new pool of compartments: one chain of commands. Each command
+-- is done, and its lines are written, before the next.
+use Rattle.std.specs.Prelude.{ℕ, ◌*◌, ◌≡◌, ◌⊎◌, false, List, [], ◌∷◌, ◌++◌, Option, None, replicate}
+use Rattle.std.specs.Io.KnownBytes.{Appends, Keeps}
+use Rattle.nvm_base.specs.Parts.{AppendsPart}
+use Rattle.pmem.specs.Device.{Device, blanked}
+use Rattle.pmem.specs.Played.{PlaysAll}
+use Rattle.pool_layout.specs.Sizes.{pool_lines}
+use Rattle.pool_workers.specs.declared.answer.MakeFault.{MakeFault}
+use Rattle.pool_workers.specs.Making.{creations, Unmade}
+use Rattle.cnvm_session.specs.declared.program.Program.{Program}
+use Rattle.workers_script.specs.declared.command.WorkersCommand.{WorkersCommand}
+use Rattle.workers_session.specs.declared.line.WorkersLine.{WorkersLine}
+use Rattle.workers_session.specs.LineText.{line_text}
+use Rattle.workers_session.specs.WorkersState.{WorkersState}
+use Rattle.workers_session.specs.WorkersCommands.{Scene, scene_of, WorkersCommanded}
+
+-- the texts of lines, one after another
+abbrev pub lines_text : List WorkersLine → List ℕ
+lines_text [] = []
+lines_text (line ∷ lines) = line_text line ++ lines_text lines
+
+-- All commands are done, and all of their lines are written: from a scene and the bytes that the
+-- sink shows to the scene and the bytes after them.
+abbrev pub RunsWorkers : Program → List WorkersCommand → Scene → Option (List ℕ) → Scene
+    → Option (List ℕ) → Type 0
+RunsWorkers program [] x w y w' = (y ≡ x) × (w' ≡ w)
+RunsWorkers program (command ∷ commands) x w y w' =
+    (lines : List WorkersLine) × (z : Scene) × (w1 : Option (List ℕ))
+    × WorkersCommanded program command x lines z
+    × Appends w w1 (lines_text lines) × RunsWorkers program commands z w1 y w'
+
+-- The first commands are done, and their lines are written; of the lines of the last of these a
+-- part is written, perhaps none.
+abbrev pub BreaksOff : Program → List WorkersCommand → Scene → Option (List ℕ) → Scene
+    → Option (List ℕ) → Type 0
+BreaksOff program [] x w y w' = ⊥
+BreaksOff program (command ∷ commands) x w y w' =
+    ((lines : List WorkersLine) × WorkersCommanded program command x lines y
+    × AppendsPart w w' (lines_text lines))
+    ⊎ ((lines : List WorkersLine) × (z : Scene) × (w1 : Option (List ℕ))
+    × WorkersCommanded program command x lines z
+    × Appends w w1 (lines_text lines) × BreaksOff program commands z w1 y w')
+
+-- The compartments are created: the lines are blank, and all events that create the pools are done.
+abbrev pub AreCreated : Program → (count : ℕ) → (d b : Device) → Type 0
+AreCreated program count d b =
+    PlaysAll (blanked (pool_lines program.image.parts.sizes * count) d)
+    (creations program.image.parts.sizes program.digest 0 count) b
+
+-- workers that are up, none of which has a transaction
+abbrev pub new_workers : (count : ℕ) → WorkersState
+new_workers count = record { tasks = replicate count None; down = false }
+
+-- The compartments couldn't be created for this cause: nothing is written, and no step is taken.
+abbrev pub Unbegun : MakeFault → Program → (count : ℕ) → (w w' : Option (List ℕ)) → (d d' : Device)
+    → (k k' : ℕ) → Type 0
+Unbegun why program count w w' d d' k k' =
+    Keeps w w' × (k' ≡ k)
+    × Unmade why program.image.parts.sizes program.digest count d d'
+
+-- The compartments are created, and all commands are run on them.
+abbrev pub RunsNew : Program → (count : ℕ) → List WorkersCommand → (w w' : Option (List ℕ))
+    → (d d' : Device) → (k k' : ℕ) → Type 0
+RunsNew program count commands w w' d d' k k' =
+    (b : Device) × (s : WorkersState) × AreCreated program count d b
+    × RunsWorkers program commands (scene_of (new_workers count) b k) w (scene_of s d' k') w'
+
+-- The compartments are created, and the run on them breaks off.
+abbrev pub BreaksOffNew : Program → (count : ℕ) → List WorkersCommand → (w w' : Option (List ℕ))
+    → (d d' : Device) → (k k' : ℕ) → Type 0
+BreaksOffNew program count commands w w' d d' k k' =
+    (b : Device) × (s : WorkersState) × AreCreated program count d b
+    × BreaksOff program commands (scene_of (new_workers count) b k) w (scene_of s d' k') w'

@@ -1,0 +1,11 @@
+//! Why a run of a script of workers ended early.
+
+/// Why not all lines of a run were written.
+#[derive(Clone, Copy, Debug, PartialEq, Eq)]
+pub enum RunFault {
+    /// The device failed while the compartments were created.
+    Device,
+    NoMemory,
+    /// The sink failed.
+    Write,
+}
