@@ -35,7 +35,10 @@ use Rattle.walk_check.specs.Keeps.{pieces_keep, walk_keeps, gives_reason, reason
 use Rattle.walk_check.specs.Law.{LoggedHaveCertificates}
 use Rattle.walk_check.proofs.Named.{There, there_origins, called_at, well_at, call_there}
 use Rattle.walk_check.proofs.Named.{return_there, target_unwritten, target_read}
-use Rattle.walk_check.proofs.Grown.{Passing, no_piece, Grows, stays, grows_on, pieces_grown}
+use Rattle.walk_check.specs.inside.Grown.{Passing, Grows}
+use Rattle.walk_check.specs.inside.Grown.Passing.{no_piece}
+use Rattle.walk_check.specs.inside.Grown.Grows.{stays}
+use Rattle.walk_check.proofs.Grown.{grows_on, pieces_grown}
 use Rattle.walk_check.proofs.Grown.{walk_grown, no_bad_piece}
 use Rattle.walk_check.proofs.Made.{among-from, code_at, Tail, tail_end, before_along, Closed}
 use Rattle.walk_check.proofs.Made.{close, close_begun, entry, by_return, by_staying, build}
@@ -55,7 +58,7 @@ module _ (ir : Ir) (well : IsWellFormed ir) where
 
   module _ (site : Site) (ends : Origins) where
     -- the pieces of a walk after a piece that ends at q with z
-    abbrev Later : List Piece → (f q : ℕ) → WalkFact → List Piece → Type 0
+    abbrev pub Later : List Piece → (f q : ℕ) → WalkFact → List Piece → Type 0
     Later ps f q z [] = (f ≡ site.function) × (q ≡ site.place) × AmongOrigins z ends
     Later ps f q z (b ∷ rest) =
         (to : ℕ) × (args : List ℕ) × (instruction_at ir.functions f q
@@ -74,7 +77,7 @@ module _ (ir : Ir) (well : IsWellFormed ir) where
     by_call-from o a b to args z is last h =
         rw (is, last) (and_from _ _ (eq-eqb b.function b.function refl) h)
 
-    later_keeps : (ps : List Piece) (opens : Bool) (f : ℕ) (e : WalkFact) (q : ℕ) (z : WalkFact)
+    pub later_keeps : (ps : List Piece) (opens : Bool) (f : ℕ) (e : WalkFact) (q : ℕ) (z : WalkFact)
         (later : List Piece) (c : Closed ir ps opens f e q z) → Later ps f q z later
         → pieces_keep ir ps site ends opens c.piece later ≡ true
     later_keeps ps opens f e q z [] c h =
@@ -105,7 +108,7 @@ module _ (ir : Ir) (well : IsWellFormed ir) where
           keeps = w.keeps;
         }
 
-    is_transaction-from : (f : ℕ) (o : Option IrFunction) → slice_get ir.functions f ≡ o
+    pub is_transaction-from : (f : ℕ) (o : Option IrFunction) → slice_get ir.functions f ≡ o
         → IsTransaction ir.functions f → is_tx o ≡ true
     is_transaction-from f None is t = absurd (let no : None ≡ Some t.0 = sym is ∙ t.1 in absurd cc)
     is_transaction-from f (Some u) is t = let e : u ≡ t.0 = let some : Some u ≡ Some t.0 =

@@ -14,18 +14,11 @@ use Rattle.ir.specs.declared.fact.Origins.{Origins}
 use Rattle.ir.specs.declared.site.Site.{Site}
 use Rattle.walk_check.specs.declared.certificate.Step.{Step}
 use Rattle.walk_check.specs.declared.certificate.Piece.{Piece}
+use Rattle.walk_check.specs.inside.Grown.{Passing, Grows}
+use Rattle.walk_check.specs.inside.Grown.Passing.{no_piece, one_more}
+use Rattle.walk_check.specs.inside.Grown.Grows.{stays, grows}
 use Rattle.walk_check.specs.Keeps.{goes_past, follows, begins_piece, chain, steps_keep, piece_keeps}
 use Rattle.walk_check.specs.Keeps.{passing_keeps, pieces_keep, walk_keeps, bad_piece}
-
--- pieces that pass calls: none, or one more that keeps the rules
-pub data Passing (ir : Ir) : List Piece → Type 0 where
-  no_piece : Passing ir []
-  one_more : {ps : List Piece} (p : Piece) → Passing ir ps → passing_keeps ir ps p ≡ true
-      → Passing ir (ps ++ p ∷ [])
-
-pub data Grows : List Piece → List Piece → Type 0 where
-  stays : {ps : List Piece} → Grows ps ps
-  grows : {ps qs : List Piece} (p : Piece) → Grows ps qs → Grows ps (qs ++ p ∷ [])
 
 pub grows_on : {ps qs rs : List Piece} → Grows ps qs → Grows qs rs → Grows ps rs
 grows_on g stays = g

@@ -21,14 +21,9 @@ use Rattle.ir.specs.Table.{AmongOrigins, origins, at_call, back}
 use Rattle.ir.specs.Derived.{Passes}
 use Rattle.ir.specs.Derived.Passes.{starts, along, through, past}
 use Rattle.ir.specs.WellFormed.{IsWellFormed}
-use Rattle.walk_check.specs.declared.certificate.Class.TheVariants.{Root, Field}
-use Rattle.walk_check.specs.declared.certificate.Fact.{Fact}
-use Rattle.walk_check.specs.declared.certificate.Fact.TheVariants.{Start, Unwritten as NotWritten}
-use Rattle.walk_check.specs.declared.certificate.Fact.TheVariants.{UnwrittenRoot, Read}
-use Rattle.walk_check.specs.declared.certificate.Fact.TheVariants.{Freed as PastFreed}
 use Rattle.walk_check.specs.declared.certificate.Step.{Step}
 use Rattle.walk_check.specs.declared.certificate.Piece.{Piece}
-use Rattle.walk_check.specs.Facts.{fact_of, same, among}
+use Rattle.walk_check.specs.Facts.{fact_of, told, same, among}
 use Rattle.walk_check.specs.Follow.{leads, array_read, binds, passes}
 use Rattle.walk_check.specs.Keeps.{fact_is_there, all_there, last_step, first_fact, last_place}
 use Rattle.walk_check.specs.Keeps.{last_fact, goes_along, goes_past, follows, holds_at_entry}
@@ -36,7 +31,10 @@ use Rattle.walk_check.specs.Keeps.{begins_piece, chain}
 use Rattle.walk_check.specs.Keeps.{piece_keeps, is_return, passing_keeps}
 use Rattle.walk_check.proofs.Named.{There, is_there-from, there_origins, Called, called_at}
 use Rattle.walk_check.proofs.Named.{well_at, call_there, return_there}
-use Rattle.walk_check.proofs.Grown.{Passing, one_more, Grows, stays, grows, grows_on}
+use Rattle.walk_check.specs.inside.Grown.{Passing, Grows}
+use Rattle.walk_check.specs.inside.Grown.Passing.{one_more}
+use Rattle.walk_check.specs.inside.Grown.Grows.{stays, grows}
+use Rattle.walk_check.proofs.Grown.{grows_on}
 use Rattle.walk_check.proofs.Grown.{slice_get_last, chain_grown}
 
 pub same-refl : (a : WalkFact) → same a a ≡ true
@@ -66,16 +64,7 @@ leads-from (Return from) p q h = absurd h
 leads-from (Trap kind) p q h = absurd h
 leads-from _ p q h = next-from p q h
 
--- a certificate's fact as a fact of walks
-abbrev pub told : WalkFact → Fact
-told Here = Start
-told (Unwritten r s x) = NotWritten r s x
-told (RootUnwritten x) = UnwrittenRoot x
-told (ReadRoot x) = Read (Root x)
-told (ReadField s x) = Read (Field s x)
-told Freed = PastFreed
-
-told-is : (b : WalkFact) → fact_of (told b) ≡ b
+pub told-is : (b : WalkFact) → fact_of (told b) ≡ b
 told-is Here = refl
 told-is (Unwritten r s x) = refl
 told-is (RootUnwritten x) = refl
@@ -103,7 +92,7 @@ module _ (ir : Ir) where
     pub there : all_there ir.shapes u (step_at p b passing ∷ rest) ≡ true
     pub last : last_step (step_at p b passing) rest ≡ step_at q z None
 
-  fact_there : (u : IrFunction) (b : WalkFact) → There ir.shapes u.registers b
+  pub fact_there : (u : IrFunction) (b : WalkFact) → There ir.shapes u.registers b
       → fact_is_there ir.shapes u (fact_of (told b)) ≡ true
   fact_there u b h = rw (told-is b) (is_there-from ir.shapes u b h)
 
@@ -127,7 +116,7 @@ module _ (ir : Ir) where
     last = t.last;
   }
 
-  goes-from : (o : Option Instruction) (i : Instruction) (p p' : ℕ) (a b : WalkFact)
+  pub goes-from : (o : Option Instruction) (i : Instruction) (p p' : ℕ) (a b : WalkFact)
       (t t' : Option ℕ) → o ≡ Some i → Leads i p p' → AmongOrigins a (origins i b)
       → goes_along o (step_at p a t) (step_at p' b t') ≡ true
   goes-from o i p p' a b t t' is to m =
@@ -148,7 +137,7 @@ module _ (ir : Ir) where
     last = t.last;
   }
 
-  past-from : (o : Option Instruction) (r : Option Piece) (piece : Piece) (p to g : ℕ)
+  pub past-from : (o : Option Instruction) (r : Option Piece) (piece : Piece) (p to g : ℕ)
       (args : List ℕ) (a b : WalkFact) (t t' : Option ℕ) → o ≡ Some (Call to g args)
       → r ≡ Some piece → piece.function ≡ g
       → passes args a (first_fact piece) (last_fact piece) b (back to args b) ≡ true

@@ -19,6 +19,15 @@ fact_of (Read (Root x)) = ReadRoot x
 fact_of (Read (Field s x)) = ReadField s x
 fact_of Passed = Freed
 
+-- a fact of walks, as a certificate's fact
+abbrev pub told : WalkFact → Fact
+told Here = Start
+told (Unwritten r s x) = NotWritten r s x
+told (RootUnwritten x) = UnwrittenRoot x
+told (ReadRoot x) = Read (Root x)
+told (ReadField s x) = Read (Field s x)
+told Freed = Passed
+
 -- whether two facts are the same
 abbrev pub same : WalkFact → WalkFact → Bool
 same Here Here = true

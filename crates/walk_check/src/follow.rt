@@ -28,6 +28,24 @@ pub fn fact_of(fact: Fact) -> WalkFact
     }
 }
 
+/// A fact of walks, as a certificate's fact.
+pub fn told(fact: WalkFact) -> Fact
+    ensures { result ≡ facts.told fact }
+{
+    match fact {
+        WalkFact::Here => Fact::Start,
+        WalkFact::Unwritten {
+            register,
+            kind,
+            field,
+        } => Fact::Unwritten(register, kind, field),
+        WalkFact::RootUnwritten { field } => Fact::UnwrittenRoot(field),
+        WalkFact::ReadRoot { field } => Fact::Read(Class::Root(field)),
+        WalkFact::ReadField { kind, field } => Fact::Read(Class::Field(kind, field)),
+        WalkFact::Freed => Fact::Freed,
+    }
+}
+
 /// Whether two facts are the same.
 pub fn same(a: WalkFact, b: WalkFact) -> bool
     ensures { result ≡ facts.same a b }

@@ -16,7 +16,7 @@ pub use certificate::{
     Certificate, Class, Fact, Piece, Pieces, Reason, Reasons, Step, StepList, Walk,
 };
 pub use checker::{CheckFault, check};
-pub use follow::{binds, fact_of, same};
+pub use follow::{binds, fact_of, leads, same, told};
 pub use piece::{begun, first_fact, follows, last_fact};
 pub use table::origins;
 pub use there::{instruction_at, is_there};

@@ -1,0 +1,2 @@
+-- What only bodies and proofs need: no public clause of this crate rests on it.
+pub mod Grown

@@ -1,0 +1,16 @@
+-- Lists of pieces that pass calls, as they grow.
+use Rattle.std.specs.Prelude.{◌≡◌, ◌++◌, true, List, [], ◌∷◌}
+use Rattle.ir.specs.declared.function.Ir.{Ir}
+use Rattle.walk_check.specs.declared.certificate.Piece.{Piece}
+use Rattle.walk_check.specs.Keeps.{passing_keeps}
+
+-- pieces that pass calls: none, or one more that keeps the rules
+pub data Passing (ir : Ir) : List Piece → Type 0 where
+  no_piece : Passing ir []
+  one_more : {ps : List Piece} (p : Piece) → Passing ir ps → passing_keeps ir ps p ≡ true
+      → Passing ir (ps ++ p ∷ [])
+
+-- the first pieces and more
+pub data Grows : List Piece → List Piece → Type 0 where
+  stays : {ps : List Piece} → Grows ps ps
+  grows : {ps qs : List Piece} (p : Piece) → Grows ps qs → Grows ps (qs ++ p ∷ [])

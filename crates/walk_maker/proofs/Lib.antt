@@ -1,0 +1,10 @@
+pub mod Grown
+pub mod Tried
+pub mod Read
+pub mod Closed
+pub mod Swept
+pub mod Closing
+pub mod Still
+pub mod Found
+pub mod Judged
+pub mod Fuel

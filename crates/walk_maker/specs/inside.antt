@@ -1,0 +1,7 @@
+-- What only bodies and proofs need: no public clause rests on it.
+pub mod Table
+pub mod Calls
+pub mod Reading
+pub mod Expand
+pub mod Search
+pub mod Reasons

@@ -1,0 +1,340 @@
+//! The spots before a spot. Each is tried by the checker's own rules before it is added.
+
+ghost use Rattle.std.specs.Prelude.{◌≡◌, ◌<◌, ◌^◌, length, OnOk};
+ghost use Rattle.ir.specs.WellFormed.{IsWellFormed};
+ghost use Rattle.walk_maker.specs.inside.Expand as expand;
+
+use crate::calls::{at_call, back, before_call, exit_of};
+use crate::reading::entry_fact;
+use crate::table::{Aim, Entry, Link, Table, add, step_of};
+use ir::{Back, Fact as WalkFact, Instruction, Ir, IrFunction, Origins};
+use std::alloc::AllocError;
+use walk_check::{Piece, binds, first_fact, follows, is_there, last_fact, leads, origins, same};
+
+/// An entry with its number in the table.
+#[derive(Clone, Copy, Debug, PartialEq, Eq)]
+pub(crate) struct Later {
+    pub(crate) number: usize,
+    pub(crate) entry: Entry,
+}
+
+/// A call that is passed: its place, its function, and the origin of the fact after it.
+#[derive(Clone, Copy, Debug, PartialEq, Eq)]
+struct Passed {
+    place: u32,
+    function: u32,
+    origin: Back,
+}
+
+/// The spot that goes on to the later one from a place of its function.
+fn next_to(later: Later, place: u32, fact: WalkFact, through: Option<u64>) -> Entry
+    ensures { result ≡ expand.next_to later place fact through }
+{
+    Entry {
+        aim: later.entry.aim,
+        function: later.entry.function,
+        place,
+        fact,
+        link: Link::Next(later.number, through),
+    }
+}
+
+/// Adds a spot if the later one follows from it.
+fn try_step(
+    ir: &Ir,
+    passed: &[Piece],
+    body: &IrFunction,
+    later: Entry,
+    before: Entry,
+    table: &mut Table,
+) -> Result<(), AllocError>
+    ensures { OnOk result (table.new
+        ≡ expand.tried ir.now passed.now body.now later before table.old) }
+{
+    if is_there(&ir.shapes, body, before.fact)
+        && follows(passed, body, step_of(before), step_of(later))
+    {
+        add(table, before)
+    } else {
+        Ok(())
+    }
+}
+
+/// Adds the spots at a place with the named facts.
+fn try_origins(
+    ir: &Ir,
+    passed: &[Piece],
+    body: &IrFunction,
+    later: Later,
+    place: u32,
+    named: Origins,
+    table: &mut Table,
+) -> Result<(), AllocError>
+    ensures { OnOk result (table.new
+        ≡ expand.tried_origins ir.now passed.now body.now later place named table.old) }
+{
+    match named {
+        Origins::Nowhere => Ok(()),
+        Origins::One(a) => {
+            let before = next_to(later, place, a, None);
+            try_step(ir, passed, body, later.entry, before, table)
+        }
+        Origins::Two(a, b) => {
+            let first = next_to(later, place, a, None);
+            let second = next_to(later, place, b, None);
+            try_step(ir, passed, body, later.entry, first, table)?;
+            try_step(ir, passed, body, later.entry, second, table)
+        }
+    }
+}
+
+/// Adds the returns of a function, with the fact that a piece of it is to end with.
+fn add_returns(
+    function: u32,
+    exit: WalkFact,
+    code: &[Instruction],
+    table: &mut Table,
+) -> Result<(), AllocError>
+    requires { length code.now < 2 ^ 31 }
+    ensures { OnOk result (table.new ≡ expand.returns_added function exit 0 code.now table.old) }
+{
+    for (place, instruction) in code.iter().enumerate() {
+        add_return(function, exit, place as u32, instruction, table)?;
+    }
+    Ok(())
+}
+
+fn add_return(
+    function: u32,
+    exit: WalkFact,
+    place: u32,
+    instruction: &Instruction,
+    table: &mut Table,
+) -> Result<(), AllocError>
+    ensures { OnOk result (table.new
+        ≡ expand.return_added function exit place instruction.now table.old) }
+{
+    match instruction {
+        Instruction::Return { .. } => add(
+            table,
+            Entry {
+                aim: Aim::ToReturn(exit),
+                function,
+                place,
+                fact: exit,
+                link: Link::End,
+            },
+        ),
+        _ => Ok(()),
+    }
+}
+
+/// Adds the spot at a call from which a piece passes it.
+fn try_through(
+    ir: &Ir,
+    passed: &[Piece],
+    body: &IrFunction,
+    later: Later,
+    call: Passed,
+    args: &[u32],
+    number: usize,
+    piece: &Piece,
+    table: &mut Table,
+) -> Result<(), AllocError>
+    ensures { OnOk result (table.new ≡ expand.through_tried ir.now passed.now body.now later call
+        args.now number piece.now table.old) }
+{
+    if piece.function == call.function && same(last_fact(piece), exit_of(call.origin)) {
+        let fact = before_call(call.origin, args, first_fact(piece), later.entry.fact);
+        let before = next_to(later, call.place, fact, Some(number as u64));
+        try_step(ir, passed, body, later.entry, before, table)
+    } else {
+        Ok(())
+    }
+}
+
+/// Adds the spots at a call from which the pieces so far pass it.
+fn try_pieces(
+    ir: &Ir,
+    passed: &[Piece],
+    body: &IrFunction,
+    later: Later,
+    call: Passed,
+    args: &[u32],
+    table: &mut Table,
+) -> Result<(), AllocError>
+    ensures { OnOk result (table.new ≡ expand.throughs_tried ir.now passed.now body.now later call
+        args.now 0 passed.now table.old) }
+{
+    for (number, piece) in passed.iter().enumerate() {
+        try_through(ir, passed, body, later, call, args, number, piece, table)?;
+    }
+    Ok(())
+}
+
+/// Adds what may pass a call: the returns of its function, and the spots at the call from which the
+/// pieces so far pass it.
+fn try_past(
+    ir: &Ir,
+    passed: &[Piece],
+    body: &IrFunction,
+    later: Later,
+    place: u32,
+    call: &Instruction,
+    table: &mut Table,
+) -> Result<(), AllocError>
+    requires { IsWellFormed ir.now }
+    ensures { OnOk result (table.new
+        ≡ expand.past_tried ir.now passed.now body.now later place call.now table.old) }
+{
+    let Instruction::Call { to, function, args } = call else {
+        return Ok(());
+    };
+    let args = args.as_slice();
+    let Some(callee) = ir.functions.as_slice().get(*function as usize) else {
+        return Ok(());
+    };
+    let origin = back(callee.parameters, *to, args, later.entry.fact);
+    let call = Passed {
+        place,
+        function: *function,
+        origin,
+    };
+    let exit = exit_of(origin);
+    if is_there(&ir.shapes, callee, exit) {
+        add_returns(*function, exit, callee.code.as_slice(), table)?;
+    }
+    try_pieces(ir, passed, body, later, call, args, table)
+}
+
+/// Adds the spots at a place of the same function, before the later one.
+fn try_before(
+    ir: &Ir,
+    passed: &[Piece],
+    body: &IrFunction,
+    later: Later,
+    place: u32,
+    instruction: &Instruction,
+    table: &mut Table,
+) -> Result<(), AllocError>
+    requires { IsWellFormed ir.now }
+    ensures { OnOk result (table.new
+        ≡ expand.before_tried ir.now passed.now body.now later place instruction.now table.old) }
+{
+    if u64::from(later.entry.place) == u64::from(place) + 1 {
+        try_past(ir, passed, body, later, place, instruction, table)?;
+    }
+    if leads(instruction, place, later.entry.place) {
+        let named = origins(instruction, later.entry.fact);
+        try_origins(ir, passed, body, later, place, named, table)
+    } else {
+        Ok(())
+    }
+}
+
+/// Adds the spots of the same function, before the later one.
+pub(crate) fn try_all_before(
+    ir: &Ir,
+    passed: &[Piece],
+    body: &IrFunction,
+    later: Later,
+    table: &mut Table,
+) -> Result<(), AllocError>
+    requires well { IsWellFormed ir.now }
+    requires short { length body.now.code < 2 ^ 31 }
+    ensures { OnOk result (table.new
+        ≡ expand.all_before_tried ir.now passed.now body.now later 0 body.now.code table.old) }
+{
+    for (place, instruction) in body.code.as_slice().iter().enumerate() {
+        try_before(ir, passed, body, later, place as u32, instruction, table)?;
+    }
+    Ok(())
+}
+
+/// Adds the spot at a call, if it enters the function whose entry the later one is at.
+fn try_caller(
+    ir: &Ir,
+    body: &IrFunction,
+    function: u32,
+    later: Later,
+    bound: WalkFact,
+    place: u32,
+    instruction: &Instruction,
+    table: &mut Table,
+) -> Result<(), AllocError>
+    ensures { OnOk result (table.new ≡ expand.caller_tried ir.now body.now function later bound
+        place instruction.now table.old) }
+{
+    let Instruction::Call {
+        function: called,
+        args,
+        ..
+    } = instruction
+    else {
+        return Ok(());
+    };
+    let args = args.as_slice();
+    let fact = at_call(args, later.entry.fact);
+    if *called == later.entry.function
+        && (is_there(&ir.shapes, body, fact) && binds(args, fact, bound))
+    {
+        add(
+            table,
+            Entry {
+                aim: Aim::ToSite,
+                function,
+                place,
+                fact,
+                link: Link::Enter(later.number),
+            },
+        )
+    } else {
+        Ok(())
+    }
+}
+
+/// Adds the spots at the calls in one function.
+fn try_callers_in(
+    ir: &Ir,
+    body: &IrFunction,
+    function: u32,
+    later: Later,
+    bound: WalkFact,
+    table: &mut Table,
+) -> Result<(), AllocError>
+    requires { length body.now.code < 2 ^ 31 }
+    ensures { OnOk result (table.new ≡ expand.callers_in_tried ir.now body.now function later bound
+        0 body.now.code table.old) }
+{
+    for (place, instruction) in body.code.as_slice().iter().enumerate() {
+        try_caller(
+            ir,
+            body,
+            function,
+            later,
+            bound,
+            place as u32,
+            instruction,
+            table,
+        )?;
+    }
+    Ok(())
+}
+
+/// Adds the spots at all calls that enter the function whose entry the later one is at.
+pub(crate) fn try_callers(
+    ir: &Ir,
+    callee: &IrFunction,
+    later: Later,
+    table: &mut Table,
+) -> Result<(), AllocError>
+    requires { IsWellFormed ir.now }
+    ensures { OnOk result (table.new ≡ expand.callers_tried ir.now later
+        (expand.bound_fact callee.now later) 0 ir.now.functions table.old) }
+{
+    let bound = entry_fact(false, callee, later.entry.fact);
+    for (number, body) in ir.functions.as_slice().iter().enumerate() {
+        try_callers_in(ir, body, number as u32, later, bound, table)?;
+    }
+    Ok(())
+}

@@ -1,0 +1,196 @@
+//! Certificates: a reason for each logged site.
+
+ghost use Rattle.std.specs.Prelude.{◌≡◌, None, OnOk, IfOk, option_map};
+ghost use Rattle.ir.specs.Sites.{sites_of};
+ghost use Rattle.ir.specs.Clobber.{unwritten, read_fact};
+ghost use Rattle.ir.specs.WellFormed.{IsWellFormed};
+ghost use Rattle.walk_check.specs.Keeps.{certificate_fault};
+ghost use Rattle.walk_check.specs.Law.{listed};
+ghost use Rattle.walk_check.specs.inside.Grown.{Passing};
+ghost use Rattle.walk_maker.specs.Lists.{ListsLogged};
+ghost use Rattle.walk_maker.specs.inside.Reasons as judged;
+
+use crate::reading::pieces_of;
+use crate::search::find_start;
+use crate::table::{Aim, Entry, Link, Table};
+use ir::{Fact as WalkFact, Instruction, Ir, Site, Target};
+use std::alloc::{AllocError, Global};
+use walk_check::{Certificate, Pieces, Reason, Reasons, Walk, instruction_at};
+
+/// A walk that reaches a site with a fact, if there is any.
+#[tactic(auto, using(crate::proofs::Found::found_walk, crate::proofs::Found::found_none))]
+fn walk_to(
+    alloc: Global,
+    ir: &Ir,
+    passed: &mut Pieces,
+    site: Site,
+    fact: WalkFact,
+) -> Result<Option<Walk>, AllocError>
+    requires well { IsWellFormed ir.now }
+    requires passing { Passing ir.now passed.old }
+    requires there { judged.FactThere ir.now site fact }
+    ensures { IfOk result (λ walk.
+        judged.WalkGiven ir.now site fact passed.old passed.new walk) }
+{
+    let mut table = Table::new(alloc);
+    table.push(Entry {
+        aim: Aim::ToSite,
+        function: site.function,
+        place: site.place,
+        fact,
+        link: Link::End,
+    })?;
+    match find_start(alloc, ir, &mut table, passed)? {
+        None => Ok(None),
+        Some(number) => {
+            let functions = ir.functions.as_slice();
+            let pieces = pieces_of(alloc, functions, table.as_slice(), number)?;
+            Ok(Some(Walk { pieces }))
+        }
+    }
+}
+
+/// The fact that a store's target isn't surely written.
+fn unwritten(target: Target) -> WalkFact
+    ensures { result ≡ unwritten target }
+{
+    match target {
+        Target::Root { field, .. } => WalkFact::RootUnwritten { field },
+        Target::Field {
+            base,
+            kind,
+            field,
+            ..
+        } => WalkFact::Unwritten {
+            register: base,
+            kind,
+            field,
+        },
+    }
+}
+
+/// The fact that a store's class was read.
+fn read(target: Target) -> WalkFact
+    ensures { result ≡ read_fact target }
+{
+    match target {
+        Target::Root { field, .. } => WalkFact::ReadRoot { field },
+        Target::Field { kind, field, .. } => WalkFact::ReadField { kind, field },
+    }
+}
+
+/// Why a store is logged, if it is.
+#[tactic(auto, using(crate::proofs::Judged::stores))]
+fn store_reason(
+    alloc: Global,
+    ir: &Ir,
+    passed: &mut Pieces,
+    site: Site,
+    target: Target,
+) -> Result<Option<Reason>, AllocError>
+    requires well { IsWellFormed ir.now }
+    requires passing { Passing ir.now passed.old }
+    requires store { judged.StoresAt ir.now site target }
+    ensures { IfOk result (λ reason.
+        judged.ReasonGiven ir.now site passed.old passed.new reason) }
+{
+    match walk_to(alloc, ir, passed, site, unwritten(target))? {
+        None => Ok(None),
+        Some(unwrites) => match walk_to(alloc, ir, passed, site, read(target))? {
+            None => Ok(None),
+            Some(reads) => Ok(Some(Reason::Clobber(unwrites, reads))),
+        },
+    }
+}
+
+/// Why the fill of a new object is logged, if it is.
+#[tactic(auto, using(crate::proofs::Judged::fills))]
+fn fill_reason(
+    alloc: Global,
+    ir: &Ir,
+    passed: &mut Pieces,
+    site: Site,
+) -> Result<Option<Reason>, AllocError>
+    requires well { IsWellFormed ir.now }
+    requires passing { Passing ir.now passed.old }
+    requires fill { judged.FillsAt ir.now site }
+    ensures { IfOk result (λ reason.
+        judged.ReasonGiven ir.now site passed.old passed.new reason) }
+{
+    match walk_to(alloc, ir, passed, site, WalkFact::Freed)? {
+        None => Ok(None),
+        Some(walk) => Ok(Some(Reason::PastFree(walk))),
+    }
+}
+
+/// What is written at a site, as far as its log depends on it.
+#[derive(Clone, Copy, Debug, PartialEq, Eq)]
+enum Kind {
+    Store(Target),
+    Header,
+    Fill,
+    Nothing,
+}
+
+fn kind_of(instruction: Option<&Instruction>, fill: bool) -> Kind
+    ensures { result ≡ judged.kind_of (option_map (λ i. i.now) instruction.entry) fill }
+{
+    match (instruction, fill) {
+        (Some(Instruction::Store { target, .. }), false) => Kind::Store(*target),
+        (Some(Instruction::New { .. } | Instruction::Free { .. }), false) => Kind::Header,
+        (Some(Instruction::New { .. }), true) => Kind::Fill,
+        _ => Kind::Nothing,
+    }
+}
+
+/// Why a site is logged, if it is.
+#[tactic(auto, using(crate::proofs::Judged::kinds))]
+fn reason_of(
+    alloc: Global,
+    ir: &Ir,
+    passed: &mut Pieces,
+    site: Site,
+) -> Result<Option<Reason>, AllocError>
+    requires well { IsWellFormed ir.now }
+    requires passing { Passing ir.now passed.old }
+    ensures { IfOk result (λ reason.
+        judged.ReasonGiven ir.now site passed.old passed.new reason) }
+{
+    let instruction = instruction_at(ir.functions.as_slice(), site.function, site.place);
+    match kind_of(instruction, site.fill) {
+        Kind::Store(target) => store_reason(alloc, ir, passed, site, target),
+        Kind::Header => Ok(Some(Reason::Always)),
+        Kind::Fill => fill_reason(alloc, ir, passed, site),
+        Kind::Nothing => Ok(None),
+    }
+}
+
+/// Appends a site with its reason, if it has one.
+fn push_reason(reasons: &mut Reasons, site: Site, reason: Option<Reason>) -> Result<(), AllocError>
+    ensures { OnOk result (reasons.new ≡ judged.with_reason reasons.old site reason) }
+{
+    match reason {
+        None => Ok(()),
+        Some(reason) => reasons.push((site, reason)),
+    }
+}
+
+/// A certificate of why the logged sites are logged: it lists exactly these, in code order, and
+/// keeps the checker's rules. `Err` means only that the allocator refused memory.
+pub fn explain(alloc: Global, ir: &Ir) -> Result<Certificate, AllocError>
+    requires { IsWellFormed ir.now }
+    ensures lists { IfOk result (λ c.
+        ListsLogged ir.now.functions (sites_of 0 ir.now.functions) (listed c)) }
+    ensures keeps { IfOk result (λ c. certificate_fault ir.now c ≡ None) }
+{
+    let sites = ir.sites(alloc)?;
+    let mut passed = Pieces::new(alloc);
+    let mut reasons = Reasons::new(alloc);
+    let all = sites.as_slice();
+    for index in 0..all.len() {
+        let site = all[index];
+        let reason = reason_of(alloc, ir, &mut passed, site)?;
+        push_reason(&mut reasons, site, reason)?;
+    }
+    Ok(Certificate { passed, reasons })
+}
