@@ -222,11 +222,6 @@ fn starts_are_exact(rt: HostRuntime) -> Result<(), Fail> {
         let starts = starts_of(rt.alloc(), text.as_bytes())?;
         assert_eq!(rt; starts.as_str(), want, "at {text:?}");
     }
-    let long = repeated(rt.alloc(), b"\na ", 16_384, b"\t")?;
-    let list = tokens(rt.alloc(), long.as_slice())?;
-    assert_eq!(rt; list.start(16_383), 49_150);
-    assert_eq!(rt; list.line(16_383), 16_385);
-    assert_eq!(rt; list.start(list.len()), 49_153);
     Ok(())
 }
 
