@@ -2,6 +2,7 @@
 //! memory.
 
 ghost use Rattle.std.specs.Prelude.{◌≡◌, ◌⊎◌, ◌<◌, map, string_bytes, None, Some, IfSome};
+ghost use Rattle.nvm_base.specs.Path.{path_of_source, path_of_sink};
 ghost use Rattle.cnvm_cli.specs.Exits.{EndsCall, Exits};
 ghost use Rattle.cnvm_cli.specs.Paths.{path_or_none, program_alone, paths_in};
 ghost use Rattle.cnvm_cli.specs.World.{plan_in};
@@ -112,6 +113,34 @@ pub fn run_on<R: Files + Print + AllocGlobal>(rt: &R, words: &[String]) -> Statu
     }
 }
 
+/// Files, standard output and a device in memory.
+type FileWorld<'a, R> = World<
+    StdSource<'a, R>,
+    StdSource<'a, R>,
+    StdSource<'a, R>,
+    StdSink<'a, R>,
+    StdSink<'a, R>,
+    SparsePmem,
+>;
+
+/// The files of these paths, each opened at its own; the answers go to standard output.
+fn world_on<'a, R: Files + Print>(rt: &'a R, paths: &'a Paths, dev: SparsePmem) -> FileWorld<'a, R>
+    ensures program { path_of_source result.program ≡ paths.now.program }
+    ensures script { path_of_source result.script ≡ paths.now.script }
+    ensures image_in { path_of_source result.image_in ≡ paths.now.image_in }
+    ensures out { path_of_sink result.out ≡ None }
+    ensures image_out { path_of_sink result.image_out ≡ Some paths.now.image_out }
+{
+    World {
+        program: StdSource::new(rt, paths.program.as_str()),
+        script: StdSource::new(rt, paths.script.as_str()),
+        image_in: StdSource::new(rt, paths.image_in.as_str()),
+        out: StdSink::standard(rt),
+        image_out: StdSink::file(rt, paths.image_out.as_str()),
+        dev,
+    }
+}
+
 /// Runs what the words ask for on the files of these paths.
 fn run_with<R: Files + Print + AllocGlobal, L: Ledger>(
     rt: &R,
@@ -129,14 +158,7 @@ fn run_with<R: Files + Print + AllocGlobal, L: Ledger>(
     ensures source { EndsCall (map string_bytes words.entry.now) result }
 {
     let alloc = rt.alloc();
-    let mut world = World {
-        program: StdSource::new(rt, paths.program.as_str()),
-        script: StdSource::new(rt, paths.script.as_str()),
-        image_in: StdSource::new(rt, paths.image_in.as_str()),
-        out: StdSink::standard(rt),
-        image_out: StdSink::file(rt, paths.image_out.as_str()),
-        dev: SparsePmem::new(alloc),
-    };
+    let mut world = world_on(rt, paths, SparsePmem::new(alloc));
     let mut steps = Steps::<L>::new(blank);
     cnvm(alloc, words, &mut world, &mut steps)
 }

@@ -7,3 +7,4 @@ pub mod Rose
 pub mod WordLaws
 pub mod Wrap
 pub mod Writer
+pub mod Path

@@ -32,7 +32,7 @@ pub use list::{Bytes, List, Registers, Words};
 pub use mem_sink::MemSink;
 pub use mem_source::MemSource;
 pub use op::BinOp;
-pub use output::{WriteFault, write_all};
+pub use output::{WriteFault, write_all, write_whole};
 pub use reason::Reason;
 pub use saved_file::SavedFile;
 pub use sink::{Sink, WriteAnswer};

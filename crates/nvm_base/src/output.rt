@@ -28,3 +28,18 @@ pub fn write_all<K: Sink>(sink: &mut K, bytes: &[u8]) -> Result<(), WriteFault>
     }
     Ok(())
 }
+
+/// Writes all of the bytes, and ends the sink. After a fault, some first part of them has been
+/// written, perhaps all.
+#[tactic(auto, using(crate::proofs::Ended::ended, crate::proofs::Ended::ended_part))]
+pub fn write_whole<K: Sink>(sink: &mut K, bytes: &[u8]) -> Result<(), WriteFault>
+    ensures ok { OnOk result (Appends (K.written sink.old) (K.written sink.new) bytes.now) }
+    ensures part { OnErr result (AppendsPart (K.written sink.old) (K.written sink.new) bytes.now) }
+    ensures fault { OnErr result (Rose (K.faults sink.old) (K.faults sink.new)) }
+    ensures count { K.faults sink.old ≤ K.faults sink.new }
+{
+    match write_all(sink, bytes) {
+        Ok(()) => sink.finish(),
+        Err(fault) => Err(fault),
+    }
+}

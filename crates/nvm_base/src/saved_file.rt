@@ -9,15 +9,16 @@ use crate::sink::{Sink, WriteAnswer};
 use crate::std_sink::write_once;
 use std::fs::{self, OpenFile, OpenOptions};
 use std::io::{self, ErrorKind};
+use std::path::Path;
 use std::rt::Files;
 
 /// How many names are tried for the new file.
 const NAMES: u64 = 1000;
 
-/// A file to be saved under a path. All bytes go to a new file beside the old one; `finish` syncs it
-/// and then gives it the path. So at any failure the path leads to the old file, or to the whole new
-/// one. Its count of faults rises at each error, want of memory included, and after the first one
-/// every write fails.
+/// A file to be saved under a path. All bytes go to a new file beside the old one; `finish` syncs
+/// it, gives it the path, and syncs the folder. So at any failure the path leads to the old file, or
+/// to the whole new one. Its count of faults rises at each error, want of memory included, and after
+/// the first one every write fails.
 #[derive(Drop)]
 pub struct SavedFile<'a, R: Files + AllocGlobal> {
     rt: &'a R,
@@ -96,7 +97,7 @@ impl<'a, R: Files + AllocGlobal> SavedFile<'a, R> {
 }
 
 impl<F: OpenFile + Drop> Draft<F> {
-    /// Syncs the new file, and gives it its path.
+    /// Syncs the new file, gives it its path, and syncs the folder.
     fn settle<R: Files>(self, rt: &R) -> io::Result<()> {
         let Draft { file, paths } = self;
         let Some(paths) = paths else {
@@ -108,8 +109,9 @@ impl<F: OpenFile + Drop> Draft<F> {
             Ok(()) => fs::rename(rt, paths.from.as_str(), paths.to.as_str()),
             Err(error) => Err(error),
         };
-        if settled.is_err() {
-            remove(rt, &paths);
+        match settled {
+            Ok(()) => sync_folder(rt, paths.to.as_str()),
+            Err(_) => remove(rt, &paths),
         }
         settled
     }
@@ -129,6 +131,26 @@ fn remove<R: Files>(rt: &R, paths: &Renaming) {
     match fs::remove_file(rt, paths.from.as_str()) {
         Ok(()) => (),
         Err(_) => (),
+    }
+}
+
+/// Syncs the folder of a path, where the system grants that, so that the path leads to the new file
+/// after a loss of power too.
+fn sync_folder<R: Files>(rt: &R, path: &str) {
+    let Ok(folder) = OpenOptions::new().read(true).open(rt, folder_of(path)) else {
+        return;
+    };
+    match folder.sync_all() {
+        Ok(()) => (),
+        Err(_) => (),
+    }
+}
+
+/// The folder of a path.
+fn folder_of(path: &str) -> &str {
+    match Path::new(path).parent() {
+        Some(folder) if !folder.as_str().is_empty() => folder.as_str(),
+        _ => ".",
     }
 }
 

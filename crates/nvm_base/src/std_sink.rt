@@ -1,6 +1,7 @@
 //! A file, or standard output, as a sink. It shows clauses no content.
 
-ghost use Rattle.std.specs.Prelude.{◌≡◌, ◌<◌, ◌≤◌, None, length, IfOk};
+ghost use Rattle.std.specs.Prelude.{◌≡◌, ◌<◌, ◌≤◌, Some, None, length, IfOk};
+ghost use Rattle.nvm_base.specs.Path.{path_of_sink};
 
 use crate::reason::Reason;
 use crate::sink::{Sink, WriteAnswer};
@@ -14,7 +15,7 @@ use std::rt::Files;
 pub struct StdSink<'a, R: Files + Print> {
     rt: &'a R,
     /// The file's path, or `None` for standard output.
-    path: Option<&'a str>,
+    pub(crate) path: Option<&'a str>,
     file: Option<R::File>,
     faults: u64,
     reason: Option<Reason>,
@@ -23,7 +24,8 @@ pub struct StdSink<'a, R: Files + Print> {
 impl<'a, R: Files + Print> StdSink<'a, R> {
     /// The file of this path, which is created or emptied at the first write.
     pub fn file(rt: &'a R, path: &'a str) -> Self
-        ensures { result.faults ≡ 0 }
+        ensures faults { result.faults ≡ 0 }
+        ensures path { path_of_sink result ≡ Some path.now }
     {
         StdSink {
             rt,
@@ -36,7 +38,8 @@ impl<'a, R: Files + Print> StdSink<'a, R> {
 
     /// Standard output.
     pub fn standard(rt: &'a R) -> Self
-        ensures { result.faults ≡ 0 }
+        ensures faults { result.faults ≡ 0 }
+        ensures path { path_of_sink result ≡ None }
     {
         StdSink {
             rt,

@@ -1,6 +1,7 @@
 //! A file as a source. It shows clauses no content.
 
 ghost use Rattle.std.specs.Prelude.{◌≡◌, ◌≤◌, None, length, IfOk};
+ghost use Rattle.nvm_base.specs.Path.{path_of_source};
 
 use crate::reason::Reason;
 use crate::source::{ReadAnswer, Source};
@@ -13,7 +14,7 @@ use std::rt::Files;
 #[derive(Drop)]
 pub struct StdSource<'a, R: Files> {
     rt: &'a R,
-    path: &'a str,
+    pub(crate) path: &'a str,
     file: Option<R::File>,
     faults: u64,
     reason: Option<Reason>,
@@ -22,7 +23,8 @@ pub struct StdSource<'a, R: Files> {
 impl<'a, R: Files> StdSource<'a, R> {
     /// The file of this path, which is opened at the first read.
     pub fn new(rt: &'a R, path: &'a str) -> Self
-        ensures { result.faults ≡ 0 }
+        ensures faults { result.faults ≡ 0 }
+        ensures path { path_of_source result ≡ path.now }
     {
         StdSource {
             rt,
