@@ -24,7 +24,7 @@ use Rattle.c_parser.specs.declared.want.Want.TheVariants.{Called, DotTarget, Ope
 use Rattle.c_parser.specs.declared.want.Want.TheVariants.{OpenNothing, Initial, Value, Body, Bare}
 use Rattle.c_parser.specs.declared.want.Want.TheVariants.{Else, Block, OpenFor, ForFirst, ForThird}
 use Rattle.c_parser.specs.declared.want.Want.TheVariants.{TypeName, Fields, Length, Result}
-use Rattle.c_parser.specs.declared.want.Want.TheVariants.{OpenParameters, Parameters}
+use Rattle.c_parser.specs.declared.want.Want.TheVariants.{TxResult, OpenParameters, Parameters}
 use Rattle.c_parser.specs.declared.want.Want.TheVariants.{MoreParameters, OpenBody}
 use Rattle.c_parser.specs.declared.want.Want.TheVariants.{StructOrFunction, Items}
 use Rattle.c_tree.specs.Kinds.{kind_at, placed_kind, token_kind, mark_kind, word_kind, ident_at}
@@ -50,9 +50,9 @@ use Rattle.c_tree.specs.ItemSpelling.{SpellsField, single, array, SpellsFields, 
 use Rattle.c_tree.specs.ItemSpelling.{fields_more, SpellsParameters, parameters_last}
 use Rattle.c_tree.specs.ItemSpelling.{parameters_more, Signature, signature_none, signature_void}
 use Rattle.c_tree.specs.ItemSpelling.{signature_some, ResultType, result_void, result_some}
-use Rattle.c_tree.specs.ItemSpelling.{SpellsFunction, function, SpellsItem, struct_def, root_decl}
-use Rattle.c_tree.specs.ItemSpelling.{transaction, plain_function, SpellsItems, items_end}
-use Rattle.c_tree.specs.ItemSpelling.{items_more, SpellsProgram}
+use Rattle.c_tree.specs.ItemSpelling.{unmarked, marked, SpellsFunction, function, SpellsItem}
+use Rattle.c_tree.specs.ItemSpelling.{struct_def, root_decl, transaction, plain_function}
+use Rattle.c_tree.specs.ItemSpelling.{SpellsItems, items_end, items_more, SpellsProgram}
 use Rattle.c_parser.specs.inside.Wants as wants
 use Rattle.c_parser.specs.inside.Wants.{apply_move, move, parser_step}
 use Rattle.c_parser.specs.inside.Run.{Accepted, ends, parse_on, parse_run}
@@ -201,6 +201,10 @@ module _ (ts : List Placed) where
       × (kind_at ts (i + 1 + 1) ≡ kind.CloseSquare) × Stands (i + 1 + 1 + 1) k)
       ⊎ Stands i k
   Stands i (Result ∷ k) = (j : ℕ) × (r : Option TypeTree) × ResultType ts i j r × Stands j k
+  Stands i (TxResult ∷ k) =
+      ((kind_at ts i ≡ kind.Abort) × (j : ℕ) × (r : Option TypeTree) × ResultType ts (i + 1) j r
+      × Stands j k)
+      ⊎ ((j : ℕ) × (r : Option TypeTree) × ResultType ts i j r × Stands j k)
   Stands i (OpenParameters ∷ k) = (kind_at ts i ≡ kind.OpenRound) × (j : ℕ)
       × (ps : List ParameterTree) × Signature ts (i + 1) j ps × Stands j k
   Stands i (Parameters ∷ k) = (j : ℕ) × (ps : List ParameterTree) × Signature ts i j ps × Stands j k
@@ -740,6 +744,11 @@ module _ (ts : List Placed) where
         (r.0, Some r.1, result_some r.2, r.3)
     result_back k _ is u h = absurd h
 
+    tx_result_back : (k : List Want) (t : Kind) → kind_at ts i ≡ t → (u : Option (List Want))
+        → Then (i + 1) (apply_move (wants.tx_result t) k u) → Stands i (TxResult ∷ k)
+    tx_result_back k kind.Abort is u h = inl (is, h)
+    tx_result_back k t is u h = inr (result_back k t is u h)
+
     open_parameters_back : (k : List Want) (t : Kind) → kind_at ts i ≡ t → (u : Option (List Want))
         → Then (i + 1) (apply_move (wants.open_parameters t) k u) → Stands i (OpenParameters ∷ k)
     open_parameters_back k kind.OpenRound is u (j, ps, s, st) = (is, j, ps, s, st)
@@ -805,28 +814,28 @@ module _ (ts : List Placed) where
   struct_or_function_back i k _ is u h = absurd h
 
   -- a function, from its result on
-  made : (tx : Bool) (i m j : ℕ) (r : Option TypeTree) → ResultType ts i m r
+  made : (tx b : Bool) (i m j : ℕ) (r : Option TypeTree) → ResultType ts i m r
       → kind_at ts m ≡ kind.Name → Functioning (m + 1) j
-      → (x : ItemTree) × SpellsFunction ts tx i j x
-  made tx i m j r rt nm (o, n, ps, s, b, p, all, h, z, e) = (
+      → (x : ItemTree) × SpellsFunction ts tx b i j x
+  made tx b i m j r rt nm (o, n, ps, s, c, p, all, h, z, e) = (
     itree.Function (record {
       tx = tx;
-      rolls_back = false;
+      rolls_back = b;
       result_type = r;
       name = ident_at ts m;
       parameters = ps;
       body = all;
     }),
-    subst (λ j. SpellsFunction ts tx i j
+    subst (λ j. SpellsFunction ts tx b i j
         (itree.Function (record {
           tx = tx;
-          rolls_back = false;
+          rolls_back = b;
           result_type = r;
           name = ident_at ts m;
           parameters = ps;
           body = all;
         }))) (sym e)
-        (function rt nm o s b h z),
+        (function rt nm o s c h z),
   )
 
   item_more : (i j : ℕ) (x : ItemTree) → SpellsItem ts i j x → (xs : List ItemTree)
@@ -837,7 +846,7 @@ module _ (ts : List Placed) where
       → Stands m (Ident ∷ OpenParameters ∷ OpenBody ∷ Items ∷ k) → (xs : List ItemTree)
       × SpellsItems ts i (length ts) xs
   item_plain i m k r rt h = let f = functioned m (Items ∷ k) h in
-      let x = made false i m f.1 r rt f.0 f.2 in item_more i f.1 x.0 (plain_function x.1) f.3
+      let x = made false false i m f.1 r rt f.0 f.2 in item_more i f.1 x.0 (plain_function x.1) f.3
 
   items_back : (i : ℕ) (k : List Want) (t : Kind) → kind_at ts i ≡ t → IsToken t
       → Then (i + 1) (apply_move (wants.items t) k (parser_step k t)) → (xs : List ItemTree)
@@ -846,15 +855,20 @@ module _ (ts : List Placed) where
       item_more i (n + 1 + 1) (itree.Struct (ident_at ts (i + 1)) (f ∷ fs))
       (struct_def is nm b fh fsh c z) rest
   items_back i k kind.Struct is token (nm, inr (s, fnm, j, fun, rest)) =
-      let x = made false i (i + 1 + 1 + 1) j (Some (tree.Pointer (ident_at ts (i + 1))))
+      let x = made false false i (i + 1 + 1 + 1) j (Some (tree.Pointer (ident_at ts (i + 1))))
       (result_some (pointer is nm s)) fnm fun in
       item_more i j x.0 (plain_function x.1) rest
   items_back i k kind.Persistent is token (w, (nm, (r, (z, rest)))) =
       item_more i (i + 1 + 1 + 1 + 1 + 1) (itree.Root (ident_at ts (i + 1 + 1)) (i + 1 + 1 + 1))
       (root_decl is w nm r z) rest
-  items_back i k kind.Tx is token (m, r, rt, h) =
-      let f = functioned m (Items ∷ k) h in let x = made true (i + 1) m f.1 r rt f.0 f.2 in
-      item_more i f.1 x.0 (transaction is x.1) f.3
+  items_back i k kind.Tx is token (inl (word, m, r, rt, h)) =
+      let f = functioned m (Items ∷ k) h in
+      let x = made true true (i + 1 + 1) m f.1 r rt f.0 f.2 in
+      item_more i f.1 x.0 (transaction (marked is word) x.1) f.3
+  items_back i k kind.Tx is token (inr (m, r, rt, h)) =
+      let f = functioned m (Items ∷ k) h in
+      let x = made true false (i + 1) m f.1 r rt f.0 f.2 in
+      item_more i f.1 x.0 (transaction (unmarked is) x.1) f.3
   items_back i k kind.Int is token h =
       item_plain i (i + 1) k (Some tree.Int) (result_some (int is)) h
   items_back i k kind.Void is token h = item_plain i (i + 1) k None (result_void is) h
@@ -903,6 +917,7 @@ module _ (ts : List Placed) where
     back (Fields ∷ k) t is token h = fields_back i k t is (parser_step k t) h
     back (Length ∷ k) t is token h = length_back i k t is (λ g. back k t is token g) h
     back (Result ∷ k) t is token h = result_back i k t is (parser_step k t) h
+    back (TxResult ∷ k) t is token h = tx_result_back i k t is (parser_step k t) h
     back (OpenParameters ∷ k) t is token h = open_parameters_back i k t is (parser_step k t) h
     back (Parameters ∷ k) t is token h = parameters_back i k t is (parser_step k t) h
     back (MoreParameters ∷ k) t is token h = more_parameters_back i k t is (parser_step k t) h
@@ -952,6 +967,7 @@ module _ (ts : List Placed) where
   at_last (TypeName ∷ k) h = absurd h
   at_last (Fields ∷ k) h = absurd h
   at_last (Result ∷ k) h = absurd h
+  at_last (TxResult ∷ k) h = absurd h
   at_last (OpenParameters ∷ k) h = absurd h
   at_last (Parameters ∷ k) h = absurd h
   at_last (MoreParameters ∷ k) h = absurd h

@@ -21,7 +21,7 @@ use Rattle.c_parser.specs.declared.want.Want.TheVariants.{Called, DotTarget, Ope
 use Rattle.c_parser.specs.declared.want.Want.TheVariants.{OpenNothing, Initial, Value, Body, Bare}
 use Rattle.c_parser.specs.declared.want.Want.TheVariants.{Else, Block, OpenFor, ForFirst, ForThird}
 use Rattle.c_parser.specs.declared.want.Want.TheVariants.{TypeName, Fields, Length, Result}
-use Rattle.c_parser.specs.declared.want.Want.TheVariants.{OpenParameters, Parameters}
+use Rattle.c_parser.specs.declared.want.Want.TheVariants.{TxResult, OpenParameters, Parameters}
 use Rattle.c_parser.specs.declared.want.Want.TheVariants.{MoreParameters, OpenBody}
 use Rattle.c_parser.specs.declared.want.Want.TheVariants.{StructOrFunction, Items}
 use Rattle.c_tree.specs.Kinds.{token_kind}
@@ -331,6 +331,11 @@ result_fine k kind.Int u f = f
 result_fine k kind.Struct u f = (tt, (tt, f))
 result_fine k _ u f = tt
 
+tx_result_fine : (k : List Want) (t : Kind) (u : Option (List Want)) → Fine k
+    → IfFine (apply_move (wants.tx_result t) k u)
+tx_result_fine k kind.Abort u f = (tt, f)
+tx_result_fine k t u f = result_fine k t u f
+
 open_parameters_fine : (k : List Want) (t : Kind) (u : Option (List Want)) → Fine k
     → IfFine (apply_move (wants.open_parameters t) k u)
 open_parameters_fine k kind.OpenRound u f = (tt, f)
@@ -412,6 +417,7 @@ step_fine (TypeName ∷ k) t f = type_fine k t (parser_step k t) f.1
 step_fine (Fields ∷ k) t f = fields_fine k t (parser_step k t) f.1
 step_fine (Length ∷ k) t f = length_fine k t (parser_step k t) f.1 (step_fine k t f.1)
 step_fine (Result ∷ k) t f = result_fine k t (parser_step k t) f.1
+step_fine (TxResult ∷ k) t f = tx_result_fine k t (parser_step k t) f.1
 step_fine (OpenParameters ∷ k) t f = open_parameters_fine k t (parser_step k t) f.1
 step_fine (Parameters ∷ k) t f = parameters_fine k t (parser_step k t) f.1
 step_fine (MoreParameters ∷ k) t f = more_parameters_fine k t (parser_step k t) f.1
@@ -470,6 +476,7 @@ finish (TypeName ∷ k) = w word.Int64 ∷ finish k
 finish (Fields ∷ k) = m mark.CloseBrace ∷ finish k
 finish (Length ∷ k) = finish k
 finish (Result ∷ k) = w word.Int64 ∷ finish k
+finish (TxResult ∷ k) = w word.Int64 ∷ finish k
 finish (OpenParameters ∷ k) = m mark.OpenRound ∷ m mark.CloseRound ∷ finish k
 finish (Parameters ∷ k) = m mark.CloseRound ∷ finish k
 finish (MoreParameters ∷ k) = m mark.CloseRound ∷ finish k
@@ -541,6 +548,7 @@ finish_no_else (TypeName ∷ k) = λ h. cc
 finish_no_else (Fields ∷ k) = λ h. cc
 finish_no_else (Length ∷ k) = finish_no_else k
 finish_no_else (Result ∷ k) = λ h. cc
+finish_no_else (TxResult ∷ k) = λ h. cc
 finish_no_else (OpenParameters ∷ k) = λ h. cc
 finish_no_else (Parameters ∷ k) = λ h. cc
 finish_no_else (MoreParameters ∷ k) = λ h. cc
@@ -599,6 +607,7 @@ finish_runs (TypeName ∷ k) p f = finish_runs k (p + 1) f.1
 finish_runs (Fields ∷ k) p f = finish_runs k (p + 1) f.1
 finish_runs (Length ∷ k) p f = unmet Length refl refl refl k p f.0 ∙ finish_runs k p f.1
 finish_runs (Result ∷ k) p f = finish_runs k (p + 1) f.1
+finish_runs (TxResult ∷ k) p f = finish_runs k (p + 1) f.1
 finish_runs (OpenParameters ∷ k) p f = finish_runs k (p + 1 + 1) f.1
 finish_runs (Parameters ∷ k) p f = finish_runs k (p + 1) f.1
 finish_runs (MoreParameters ∷ k) p f = finish_runs k (p + 1) f.1

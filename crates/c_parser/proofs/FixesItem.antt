@@ -20,15 +20,17 @@ use Rattle.c_tree.specs.ItemSpelling.{SpellsField, single, array, SpellsFields, 
 use Rattle.c_tree.specs.ItemSpelling.{fields_more, SpellsParameters, parameters_last}
 use Rattle.c_tree.specs.ItemSpelling.{parameters_more, Signature, signature_none, signature_void}
 use Rattle.c_tree.specs.ItemSpelling.{signature_some, ResultType, result_void, result_some}
-use Rattle.c_tree.specs.ItemSpelling.{SpellsFunction, function, SpellsItem, struct_def, root_decl}
-use Rattle.c_tree.specs.ItemSpelling.{transaction, plain_function, SpellsItems, items_end}
-use Rattle.c_tree.specs.ItemSpelling.{items_more, SpellsProgram}
-use Rattle.c_parser.specs.inside.Fixes.{Fixes, DerivesFrom, IsFollowed, IsOfKind}
+use Rattle.c_tree.specs.ItemSpelling.{SpellsTransaction, unmarked, marked, SpellsFunction, function}
+use Rattle.c_tree.specs.ItemSpelling.{SpellsItem, struct_def, root_decl, transaction}
+use Rattle.c_tree.specs.ItemSpelling.{plain_function, SpellsItems, items_end, items_more}
+use Rattle.c_tree.specs.ItemSpelling.{SpellsProgram}
+use Rattle.c_parser.specs.inside.Fixes.{Fixes, DerivesFrom, IsFollowed, IsOfKind, BeginsResult}
 use Rattle.c_parser.specs.inside.Pieces.{StatedAll, stated_all, goes_on, SpellsParameter}
 use Rattle.c_parser.specs.inside.Pieces.{typed_name, ParametersTo, SpellsStruct, spells_struct}
 use Rattle.c_parser.specs.inside.Pieces.{SpellsRoot, spells_root, Defines, DefinesNone}
 use Rattle.c_parser.proofs.Steps.{IsToken}
 use Rattle.c_parser.proofs.ForwardStmt.{TypeBegins, typed_begins}
+use Rattle.c_parser.proofs.ForwardItem.{function_result}
 use Rattle.c_parser.proofs.FixesExpr.{inside, inside_at, led}
 use Rattle.c_parser.proofs.FixesStmt.{after, after_at}
 
@@ -367,48 +369,48 @@ result_typed ts i j t not fixes = record { same = λ k x d. taken d }
     taken (result_void was) = absurd (not was)
     taken {k} (result_some {t = s} d) = let f = fixes.same k s d in (f.0, ap (λ t. Some t) f.1)
 
-abbrev a_function : Bool → Option TypeTree → Ident → List ParameterTree → Statements → ItemTree
-a_function tx r y ps all = tree.Function (record {
+abbrev a_function : Bool → Bool → Option TypeTree → Ident → List ParameterTree → Statements → ItemTree
+a_function tx b r y ps all = tree.Function (record {
   tx = tx;
-  rolls_back = false;
+  rolls_back = b;
   result_type = r;
   name = y;
   parameters = ps;
   body = all;
 })
 
-pub function_read : (ts : List Placed) (tx : Bool) (i m o a n b j : ℕ) (r : Option TypeTree)
+pub function_read : (ts : List Placed) (tx b : Bool) (i m o a n c j : ℕ) (r : Option TypeTree)
     (y : Ident) (ps : List ParameterTree) (all : Statements)
     → Fixes (ResultType ts i) m r → y ≡ ident_at ts m → (m < length ts → o ≡ m + 1)
     → (o < length ts → a ≡ o + 1) → Fixes (Signature ts a) n ps
-    → (n < length ts → b ≡ n + 1) → Fixes (StatedAll ts b) j all
-    → Fixes (SpellsFunction ts tx i) j (tree.Function (record {
+    → (n < length ts → c ≡ n + 1) → Fixes (StatedAll ts c) j all
+    → Fixes (SpellsFunction ts tx b i) j (tree.Function (record {
       tx = tx;
-      rolls_back = false;
+      rolls_back = b;
       result_type = r;
       name = y;
       parameters = ps;
       body = all;
     }))
-function_read ts tx i m o a n b j r y ps all results name to_o to_a signature to_b body =
+function_read ts tx b i m o a n c j r y ps all results name to_o to_a signature to_c body =
     record { same = λ k t d. taken d }
   where
-    taken : {k : ℕ} {t : ItemTree} → SpellsFunction ts tx i k t
-        → (j ≡ k) × (a_function tx r y ps all ≡ t)
+    taken : {k : ℕ} {t : ItemTree} → SpellsFunction ts tx b i k t
+        → (j ≡ k) × (a_function tx b r y ps all ≡ t)
     taken (function {m = q} {n = u} {p = p} {r = s} {ps = qs} {all = ss} one was opens two brace
         three close) =
         let f = results.same q s one in
-        let c = after_at ts m q o kind.Name f.0 was tt to_o in
-        let d = after_at ts o (q + 1) a kind.OpenRound c opens tt to_a in
+        let l = after_at ts m q o kind.Name f.0 was tt to_o in
+        let d = after_at ts o (q + 1) a kind.OpenRound l opens tt to_a in
         let g = signature.same u qs (subst (λ a. Signature ts a u qs) (sym d) two) in
-        let e = after_at ts n u b kind.OpenBrace g.0 brace tt to_b in
-        let h = body.same (p + 1) ss (subst (λ b. StatedAll ts b (p + 1) ss) (sym e)
+        let e = after_at ts n u c kind.OpenBrace g.0 brace tt to_c in
+        let h = body.same (p + 1) ss (subst (λ c. StatedAll ts c (p + 1) ss) (sym e)
         (stated_all three close)) in (
           h.0,
-          ap (λ r. a_function tx r y ps all) f.1 ∙ ap (λ y. a_function tx s y ps all)
+          ap (λ r. a_function tx b r y ps all) f.1 ∙ ap (λ y. a_function tx b s y ps all)
               (name ∙ ap (ident_at ts) f.0)
-              ∙ ap (λ ps. a_function tx s (ident_at ts q) ps all) g.1
-              ∙ ap (λ all. a_function tx s (ident_at ts q) qs all) h.1,
+              ∙ ap (λ ps. a_function tx b s (ident_at ts q) ps all) g.1
+              ∙ ap (λ all. a_function tx b s (ident_at ts q) qs all) h.1,
         )
 
 -- structs and the root
@@ -452,13 +454,18 @@ root_read ts i n m r d j y to_n to_m name to_r to_d to_j = record { same = λ k 
         )
 
 -- items, by their first tokens
-function_begins : {ts : List Placed} {tx : Bool} {i k : ℕ} {t : ItemTree}
-    → SpellsFunction ts tx i k t → kind_at ts i ≡ kind.Struct
+function_begins : {ts : List Placed} {tx b : Bool} {i k : ℕ} {t : ItemTree}
+    → SpellsFunction ts tx b i k t → kind_at ts i ≡ kind.Struct
     → (kind_at ts (i + 1) ≡ kind.Name) × (kind_at ts (i + 1 + 1) ≡ kind.Operator op.Mul)
 function_begins (function (result_void v) was opens two brace three close) is = absurd (cc)
 function_begins (function (result_some (int v)) was opens two brace three close) is = absurd (cc)
 function_begins (function (result_some (pointer v name star)) was opens two brace three close) is =
     (name, star)
+
+mark_begins : {ts : List Placed} {i k : ℕ} {b : Bool} → SpellsTransaction ts i k b
+    → kind_at ts i ≡ kind.Tx
+mark_begins (unmarked is) = is
+mark_begins (marked is abort) = is
 
 pub item_struct : (ts : List Placed) (i : ℕ) → Defines ts i
     → DerivesFrom (SpellsItem ts i) (SpellsStruct ts i)
@@ -468,7 +475,7 @@ item_struct ts i defines = record { on = λ k t d. taken d }
     taken (struct_def is was opens one more close semi) =
         spells_struct is was opens (fields_more one more) close semi
     taken (root_decl is struct was root semi) = let e = defines.0 in absurd (cc)
-    taken (transaction is d) = let e = defines.0 in absurd (cc)
+    taken (transaction mark d) = let e = defines.0 in let f = mark_begins mark in absurd (cc)
     taken (plain_function d) =
         let f = function_begins d defines.0 in
         let e = defines.1 f.0 in
@@ -478,7 +485,7 @@ pub item_root : (ts : List Placed) (i : ℕ) → kind.Persistent ≡ kind_at ts 
     → DerivesFrom (SpellsItem ts i) (SpellsRoot ts i)
 item_root ts i be = record { on = λ k t d. taken d }
   where
-    no_function : {tx : Bool} {k : ℕ} {t : ItemTree} → SpellsFunction ts tx i k t
+    no_function : {tx b : Bool} {k : ℕ} {t : ItemTree} → SpellsFunction ts tx b i k t
         → kind.Persistent ≡ kind_at ts i → ⊥
     no_function (function (result_void v) was opens two brace three close) is = cc
     no_function (function (result_some (int v)) was opens two brace three close) is = cc
@@ -488,36 +495,63 @@ item_root ts i be = record { on = λ k t d. taken d }
     taken : {k : ℕ} {t : ItemTree} → SpellsItem ts i k t → SpellsRoot ts i k t
     taken (struct_def is was opens one more close semi) = absurd (cc)
     taken (root_decl is struct was root semi) = spells_root is struct was root semi
-    taken (transaction is d) = absurd (cc)
+    taken (transaction mark d) = let e = mark_begins mark in absurd (cc)
     taken (plain_function d) = absurd (no_function d be)
 
-pub item_transaction : (ts : List Placed) (i n : ℕ) → kind.Tx ≡ kind_at ts i
-    → (i < length ts → n ≡ i + 1) → DerivesFrom (SpellsItem ts i) (SpellsFunction ts true n)
-item_transaction ts i n be to_n = record { on = λ k t d. taken d }
+pub mark_abort : (ts : List Placed) (i n m : ℕ) → (i < length ts → n ≡ i + 1)
+    → kind_at ts n ≡ kind.Abort → (n < length ts → m ≡ n + 1)
+    → Fixes (IsFollowed ts BeginsResult (SpellsTransaction ts i)) m true
+mark_abort ts i n m to_n word to_m = record { same = λ k b h. taken h.spelled h.following }
   where
-    no_function : {tx : Bool} {k : ℕ} {t : ItemTree} → SpellsFunction ts tx i k t
+    taken : {k : ℕ} {b : Bool} → SpellsTransaction ts i k b → BeginsResult (kind_at ts k)
+        → (m ≡ k) × (true ≡ b)
+    taken (unmarked is) follows =
+        let a = after ts i n kind.Tx is tt to_n in
+        absurd (subst BeginsResult (ap (kind_at ts) (sym a) ∙ word) follows)
+    taken (marked is abort) follows =
+        let a = after ts i n kind.Tx is tt to_n in
+        (after_at ts n (i + 1) m kind.Abort a abort tt to_m, refl)
+
+pub mark_plain : (ts : List Placed) (i n : ℕ) → (i < length ts → n ≡ i + 1)
+    → kind_at ts n ≢ kind.Abort
+    → Fixes (IsFollowed ts BeginsResult (SpellsTransaction ts i)) n false
+mark_plain ts i n to_n not = record { same = λ k b h. taken h.spelled }
+  where
+    taken : {k : ℕ} {b : Bool} → SpellsTransaction ts i k b → (n ≡ k) × (false ≡ b)
+    taken (unmarked is) = (after ts i n kind.Tx is tt to_n, refl)
+    taken (marked is abort) =
+        absurd (not (ap (kind_at ts) (after ts i n kind.Tx is tt to_n) ∙ abort))
+
+pub item_transaction : (ts : List Placed) (i n : ℕ) (b : Bool) → kind.Tx ≡ kind_at ts i
+    → Fixes (IsFollowed ts BeginsResult (SpellsTransaction ts i)) n b
+    → DerivesFrom (SpellsItem ts i) (SpellsFunction ts true b n)
+item_transaction ts i n b be fixes = record { on = λ k t d. taken d }
+  where
+    no_function : {tx c : Bool} {k : ℕ} {t : ItemTree} → SpellsFunction ts tx c i k t
         → kind.Tx ≡ kind_at ts i → ⊥
     no_function (function (result_void v) was opens two brace three close) is = cc
     no_function (function (result_some (int v)) was opens two brace three close) is = cc
     no_function (function (result_some (pointer v name star)) was opens two brace three close) is =
         cc
 
-    taken : {k : ℕ} {t : ItemTree} → SpellsItem ts i k t → SpellsFunction ts true n k t
+    taken : {k : ℕ} {t : ItemTree} → SpellsItem ts i k t → SpellsFunction ts true b n k t
     taken (struct_def is was opens one more close semi) = absurd (cc)
     taken (root_decl is struct was root semi) = absurd (cc)
-    taken {k} {t} (transaction is d) =
-        subst (λ n. SpellsFunction ts true n k t) (sym (after ts i n kind.Tx is tt to_n)) d
+    taken {k} {t} (transaction {rolls_back = c} {m = m} mark d) =
+        let f = fixes.same m c (record { spelled = mark; following = function_result d }) in
+        subst (λ n. SpellsFunction ts true b n k t) (sym f.0)
+        (subst (λ b. SpellsFunction ts true b m k t) (sym f.1) d)
     taken (plain_function d) = absurd (no_function d be)
 
 pub item_function : (ts : List Placed) (i : ℕ) (s : Kind) → s ≡ kind_at ts i → DefinesNone ts i
     → s ≢ kind.Persistent → s ≢ kind.Tx
-    → DerivesFrom (SpellsItem ts i) (SpellsFunction ts false i)
+    → DerivesFrom (SpellsItem ts i) (SpellsFunction ts false false i)
 item_function ts i s be defines not_root not_tx = record { on = λ k t d. taken d }
   where
-    taken : {k : ℕ} {t : ItemTree} → SpellsItem ts i k t → SpellsFunction ts false i k t
+    taken : {k : ℕ} {t : ItemTree} → SpellsItem ts i k t → SpellsFunction ts false false i k t
     taken (struct_def is was opens one more close semi) = absurd (defines is was opens)
     taken (root_decl is struct was root semi) = absurd (not_root (be ∙ is))
-    taken (transaction is d) = absurd (not_tx (be ∙ is))
+    taken (transaction mark d) = absurd (not_tx (be ∙ mark_begins mark))
     taken (plain_function d) = d
 
 -- the items of the whole list
@@ -565,8 +599,8 @@ type_token : (k : Kind) → TypeBegins k → IsToken k
 type_token kind.End h = h
 type_token _ h = tt
 
-function_inside : {ts : List Placed} {tx : Bool} {i k : ℕ} {t : ItemTree}
-    → SpellsFunction ts tx i k t → i < length ts
+function_inside : {ts : List Placed} {tx b : Bool} {i k : ℕ} {t : ItemTree}
+    → SpellsFunction ts tx b i k t → i < length ts
 function_inside {ts} {i = i} (function (result_void is) was opens two brace three close) =
     inside_at ts i kind.Void is tt
 function_inside {ts} {i = i} (function (result_some d) was opens two brace three close) =
@@ -576,7 +610,7 @@ item_inside : {ts : List Placed} {i k : ℕ} {t : ItemTree} → SpellsItem ts i 
 item_inside {ts} {i} (struct_def is was opens one more close semi) =
     inside_at ts i kind.Struct is tt
 item_inside {ts} {i} (root_decl is struct was root semi) = inside_at ts i kind.Persistent is tt
-item_inside {ts} {i} (transaction is d) = inside_at ts i kind.Tx is tt
+item_inside {ts} {i} (transaction mark d) = inside_at ts i kind.Tx (mark_begins mark) tt
 item_inside (plain_function d) = function_inside d
 
 pub items_end_read : (ts : List Placed) (i : ℕ) (xs : List ItemTree)
@@ -621,6 +655,8 @@ pub ruleset parameters_reads = (parameters_begin, parameters_more_read, paramete
 pub ruleset signatures = (signature_empty, signature_of_void, signature_listed)
 
 pub ruleset results = (result_none, result_typed)
+
+pub ruleset marks_read = (mark_abort, mark_plain)
 
 pub ruleset items_of = (led_item, item_struct, item_root, item_transaction, item_function)
 

@@ -1,7 +1,7 @@
 -- Items that are spelled are run through, if nothing is too deep, and their tokens have their
 -- weights.
-use Rattle.std.proofs.Common.{ℕ, ◌+◌, ◌≡◌, List, [], ◌∷◌, ◌++◌, length, None, true, false, refl}
-use Rattle.std.proofs.Common.{sym, ◌∙◌, subst, arith}
+use Rattle.std.proofs.Common.{ℕ, ◌+◌, ◌≡◌, List, [], ◌∷◌, ◌++◌, length, None, Bool, true, false}
+use Rattle.std.proofs.Common.{refl, sym, ◌∙◌, subst, arith}
 use Rattle.c_lexer.specs.declared.token.Placed.{Placed}
 use Rattle.c_tree.specs.declared.expr.BinaryOp.TheVariants as op
 use Rattle.c_tree.specs.declared.kind.Kind.{Kind}
@@ -9,8 +9,9 @@ use Rattle.c_tree.specs.declared.kind.Kind.TheVariants as kind
 use Rattle.c_parser.specs.declared.want.Want.{Want}
 use Rattle.c_parser.specs.declared.want.Want.TheVariants.{Ident, Digits, Semicolon, StructWord}
 use Rattle.c_parser.specs.declared.want.Want.TheVariants.{RootWord, Round, Square, Block, TypeName}
-use Rattle.c_parser.specs.declared.want.Want.TheVariants.{Fields, Length, Result, OpenParameters}
-use Rattle.c_parser.specs.declared.want.Want.TheVariants.{Parameters, MoreParameters, OpenBody}
+use Rattle.c_parser.specs.declared.want.Want.TheVariants.{Fields, Length, Result, TxResult}
+use Rattle.c_parser.specs.declared.want.Want.TheVariants.{OpenParameters, Parameters}
+use Rattle.c_parser.specs.declared.want.Want.TheVariants.{MoreParameters, OpenBody}
 use Rattle.c_parser.specs.declared.want.Want.TheVariants.{StructOrFunction, Items}
 use Rattle.c_tree.specs.Kinds.{kind_at}
 use Rattle.c_tree.specs.ItemTree.{FieldTree, ParameterTree, ItemTree}
@@ -18,19 +19,21 @@ use Rattle.c_tree.specs.StmtSpelling.{int, pointer, SpellsAll}
 use Rattle.c_tree.specs.ItemSpelling.{SpellsField, single, array, SpellsFields, fields_end}
 use Rattle.c_tree.specs.ItemSpelling.{fields_more, SpellsParameters, parameters_last}
 use Rattle.c_tree.specs.ItemSpelling.{parameters_more, Signature, signature_none, signature_void}
-use Rattle.c_tree.specs.ItemSpelling.{signature_some, result_void, result_some, SpellsFunction}
-use Rattle.c_tree.specs.ItemSpelling.{function, SpellsItem, struct_def, root_decl, transaction}
-use Rattle.c_tree.specs.ItemSpelling.{plain_function, SpellsItems, items_end, items_more}
-use Rattle.c_tree.specs.ItemSpelling.{SpellsProgram}
+use Rattle.c_tree.specs.ItemSpelling.{signature_some, result_void, result_some, unmarked, marked}
+use Rattle.c_tree.specs.ItemSpelling.{SpellsFunction, function, SpellsItem, struct_def, root_decl}
+use Rattle.c_tree.specs.ItemSpelling.{transaction, plain_function, SpellsItems, items_end}
+use Rattle.c_tree.specs.ItemSpelling.{items_more, SpellsProgram}
 use Rattle.c_parser.specs.inside.Wants.{parser_step}
 use Rattle.c_parser.specs.Open.{none_open, one_open, in_bracket}
 use Rattle.c_parser.specs.StmtOpen.{statements_open}
 use Rattle.c_parser.specs.Weight.{field_open, fields_open, parameters_open, signature_open}
 use Rattle.c_parser.specs.Weight.{function_open, item_open, items_open}
+use Rattle.c_parser.specs.inside.Fixes.{BeginsResult}
 use Rattle.c_parser.specs.inside.Run.{Accepted, parse_run}
 use Rattle.c_parser.specs.inside.Stacks.{weight}
 use Rattle.c_parser.proofs.Steps.{run_end}
-use Rattle.c_parser.proofs.RunsPast.{RunsPast, goes, ends_alike, stays, ◌▸◌, inside_bracket}
+use Rattle.c_parser.proofs.RunsPast.{RunsPast, goes, begins_alike, ends_alike, stays, ◌▸◌}
+use Rattle.c_parser.proofs.RunsPast.{inside_bracket}
 use Rattle.c_parser.proofs.ForwardStmt.{TypeBegins, typed_begins, typed_step, typed_runs, all_run}
 
 length_yields : (k : List Want) (t : Kind) → t ≡ kind.Semicolon
@@ -90,6 +93,20 @@ result_enters : (k : List Want) (t : Kind) → TypeBegins t
 result_enters k kind.Int h = refl
 result_enters k kind.Struct h = refl
 result_enters k _ h = absurd h
+
+tx_enters : (k : List Want) (t : Kind) → BeginsResult t
+    → parser_step (TxResult ∷ k) t ≡ parser_step (Result ∷ k) t
+tx_enters k kind.Void h = refl
+tx_enters k kind.Int h = refl
+tx_enters k kind.Struct h = refl
+tx_enters k _ h = absurd h
+
+pub function_result : {ts : List Placed} {tx b : Bool} {i j : ℕ} {x : ItemTree}
+    → SpellsFunction ts tx b i j x → BeginsResult (kind_at ts i)
+function_result (function (result_void is) n o s b a c) = subst BeginsResult (sym is) tt
+function_result (function (result_some (int is)) n o s b a c) = subst BeginsResult (sym is) tt
+function_result (function (result_some (pointer is y z)) n o s b a c) =
+    subst BeginsResult (sym is) tt
 
 fields_run : {ts : List Placed} {i j : ℕ} {fs : List FieldTree} (d : SpellsFields ts i j fs)
     (around : ℕ) (k : List Want) → around ≡ weight (Fields ∷ k)
@@ -160,22 +177,22 @@ after_result {ts} {n} {p} m around name opens sig brace all close k same =
     ▸ goes ts p around none_open (Block false ∷ k) k kind.CloseBrace close tt refl
     (omega (arith, same))
 
-transaction_runs : {ts : List Placed} {i j : ℕ} {x : ItemTree} (d : SpellsFunction ts true i j x)
-    (around : ℕ) (k : List Want) → around ≡ weight k
+transaction_runs : {ts : List Placed} {b : Bool} {i j : ℕ} {x : ItemTree}
+    (d : SpellsFunction ts true b i j x) (around : ℕ) (k : List Want) → around ≡ weight k
     → RunsPast ts i (Result ∷ Ident ∷ OpenParameters ∷ OpenBody ∷ k) j k around (function_open d)
-transaction_runs {ts} {i} (function {m = m} (result_void is) name opens sig brace all close) around
+transaction_runs {ts} {i = i} (function {m = m} (result_void is) name opens sig brace all close) around
     k same =
     goes ts i around none_open (Result ∷ Ident ∷ OpenParameters ∷ OpenBody ∷ k)
     (Ident ∷ OpenParameters ∷ OpenBody ∷ k) kind.Void is tt refl (omega (arith, same))
     ▸ after_result m around name opens sig brace all close k same
-transaction_runs {ts} {i} (function {m = m} (result_some ty) name opens sig brace all close) around
+transaction_runs {ts} {i = i} (function {m = m} (result_some ty) name opens sig brace all close) around
     k same =
     typed_runs ty around (Result ∷ Ident ∷ OpenParameters ∷ OpenBody ∷ k)
     (Ident ∷ OpenParameters ∷ OpenBody ∷ k) (omega (arith, same))
     (result_enters (Ident ∷ OpenParameters ∷ OpenBody ∷ k) (kind_at ts i) (typed_begins ty))
     ▸ after_result m around name opens sig brace all close k same
 
-plain_runs : {ts : List Placed} {i j : ℕ} {x : ItemTree} (d : SpellsFunction ts false i j x)
+plain_runs : {ts : List Placed} {i j : ℕ} {x : ItemTree} (d : SpellsFunction ts false false i j x)
     (around : ℕ) (k : List Want) → around ≡ weight k
     → RunsPast ts i (Items ∷ k) j (Items ∷ k) around (function_open d)
 plain_runs {ts} {i} (function {m = m} (result_void is) name opens sig brace all close) around k
@@ -230,9 +247,22 @@ item_runs {ts} {i} (root_decl is word name root semi) around k same =
     (Semicolon ∷ Items ∷ k) kind.Root root tt refl (omega (arith, same))
     ▸ goes ts (i + 1 + 1 + 1 + 1) around none_open (Semicolon ∷ Items ∷ k) (Items ∷ k)
     kind.Semicolon semi tt refl (omega (arith, same))
-item_runs {ts} {i} (transaction is f) around k same =
-    goes ts i around none_open (Items ∷ k) (Result ∷ Ident ∷ OpenParameters ∷ OpenBody ∷ Items ∷ k)
-    kind.Tx is tt refl (omega (arith, same))
+item_runs {ts} {i} (transaction (unmarked is) f) around k same =
+    goes ts i around none_open (Items ∷ k)
+    (TxResult ∷ Ident ∷ OpenParameters ∷ OpenBody ∷ Items ∷ k) kind.Tx is tt refl
+    (omega (arith, same))
+    ▸ begins_alike ts (i + 1) (TxResult ∷ Ident ∷ OpenParameters ∷ OpenBody ∷ Items ∷ k)
+    (Result ∷ Ident ∷ OpenParameters ∷ OpenBody ∷ Items ∷ k)
+    (tx_enters (Ident ∷ OpenParameters ∷ OpenBody ∷ Items ∷ k) (kind_at ts (i + 1))
+    (function_result f))
+    (transaction_runs f around (Items ∷ k) (omega (arith, same)))
+item_runs {ts} {i} (transaction (marked is word) f) around k same =
+    (goes ts i around none_open (Items ∷ k)
+    (TxResult ∷ Ident ∷ OpenParameters ∷ OpenBody ∷ Items ∷ k) kind.Tx is tt refl
+    (omega (arith, same))
+    ▸ goes ts (i + 1) around none_open (TxResult ∷ Ident ∷ OpenParameters ∷ OpenBody ∷ Items ∷ k)
+    (Result ∷ Ident ∷ OpenParameters ∷ OpenBody ∷ Items ∷ k) kind.Abort word tt refl
+    (omega (arith, same)))
     ▸ transaction_runs f around (Items ∷ k) (omega (arith, same))
 item_runs (plain_function f) around k same = plain_runs f around k same
 

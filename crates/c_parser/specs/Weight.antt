@@ -8,9 +8,10 @@ use Rattle.c_tree.specs.ItemSpelling.{SpellsField, single, array, SpellsFields, 
 use Rattle.c_tree.specs.ItemSpelling.{fields_more, SpellsParameters, parameters_last}
 use Rattle.c_tree.specs.ItemSpelling.{parameters_more, Signature, signature_none, signature_void}
 use Rattle.c_tree.specs.ItemSpelling.{signature_some, ResultType, result_void, result_some}
-use Rattle.c_tree.specs.ItemSpelling.{SpellsFunction, function, SpellsItem, struct_def, root_decl}
-use Rattle.c_tree.specs.ItemSpelling.{transaction, plain_function, SpellsItems, items_end}
-use Rattle.c_tree.specs.ItemSpelling.{items_more, SpellsProgram}
+use Rattle.c_tree.specs.ItemSpelling.{SpellsTransaction, unmarked, marked, SpellsFunction, function}
+use Rattle.c_tree.specs.ItemSpelling.{SpellsItem, struct_def, root_decl, transaction}
+use Rattle.c_tree.specs.ItemSpelling.{plain_function, SpellsItems, items_end, items_more}
+use Rattle.c_tree.specs.ItemSpelling.{SpellsProgram}
 use Rattle.c_parser.specs.Open.{OpenParts, open_weight, none_open, one_open, in_bracket}
 use Rattle.c_parser.specs.StmtOpen.{typed_open, statements_open}
 
@@ -44,8 +45,13 @@ abbrev pub result_open : {ts : List Placed} {i j : ℕ} {r : Option TypeTree}
 result_open (result_void is) = none_open ∷ []
 result_open (result_some ty) = typed_open ty
 
-abbrev pub function_open : {ts : List Placed} {tx : Bool} {i j : ℕ} {x : ItemTree}
-    → SpellsFunction ts tx i j x → List OpenParts
+abbrev pub transaction_open : {ts : List Placed} {i j : ℕ} {rolls_back : Bool}
+    → SpellsTransaction ts i j rolls_back → List OpenParts
+transaction_open (unmarked is) = none_open ∷ []
+transaction_open (marked is word) = none_open ∷ none_open ∷ []
+
+abbrev pub function_open : {ts : List Placed} {tx rolls_back : Bool} {i j : ℕ} {x : ItemTree}
+    → SpellsFunction ts tx rolls_back i j x → List OpenParts
 function_open (function result name opens signature brace body close) =
     result_open result ++ (none_open ∷ one_open ∷ (signature_open signature ++ (one_open
     ∷ (in_bracket (statements_open body) ++ (none_open ∷ [])))))
@@ -57,7 +63,7 @@ item_open (struct_def is name opens one others close semicolon) =
     ++ (none_open ∷ none_open ∷ []))
 item_open (root_decl is struct name root semicolon) =
     none_open ∷ none_open ∷ none_open ∷ none_open ∷ none_open ∷ []
-item_open (transaction is one) = none_open ∷ function_open one
+item_open (transaction mark one) = transaction_open mark ++ function_open one
 item_open (plain_function one) = function_open one
 
 abbrev pub items_open : {ts : List Placed} {i j : ℕ} {xs : List ItemTree}

@@ -6,8 +6,9 @@ ghost use Rattle.c_tree.specs.Kinds as kinds;
 ghost use Rattle.c_tree.specs.StmtTree.{type_tree};
 ghost use Rattle.c_tree.specs.ItemTree.{ItemTree, field_tree, parameter_of, item_of, items_in};
 ghost use Rattle.c_tree.specs.ItemSpelling.{SpellsField, SpellsFields, Signature, ResultType};
-ghost use Rattle.c_tree.specs.ItemSpelling.{SpellsFunction, SpellsItem, SpellsProgram};
-ghost use Rattle.c_parser.specs.inside.Fixes.{Fixes, IsFollowed, IsOfKind};
+ghost use Rattle.c_tree.specs.ItemSpelling.{SpellsTransaction, SpellsFunction, SpellsItem};
+ghost use Rattle.c_tree.specs.ItemSpelling.{SpellsProgram};
+ghost use Rattle.c_parser.specs.inside.Fixes.{Fixes, IsFollowed, IsOfKind, BeginsResult};
 ghost use Rattle.c_parser.specs.inside.Pieces.{goes_on, SpellsParameter, ParametersTo};
 ghost use Rattle.c_parser.specs.inside.Pieces.{SpellsStruct, SpellsRoot, Defines, DefinesNone};
 
@@ -157,9 +158,15 @@ fn result_type(
 
 /// A function, from its result on.
 #[tactic(auto, using(crate::proofs::FixesItem::function_read))]
-fn function(alloc: Global, tokens: &TokenList, at: u64, tx: bool) -> Result<(Item, u64), AllocError>
+fn function(
+    alloc: Global,
+    tokens: &TokenList,
+    at: u64,
+    tx: bool,
+    rolls_back: bool,
+) -> Result<(Item, u64), AllocError>
     ensures stays { IfOk result (λ r. at ≤ r.1) }
-    ensures fixes { IfOk result (λ r. Fixes (SpellsFunction tokens.now.tokens tx at) r.1
+    ensures fixes { IfOk result (λ r. Fixes (SpellsFunction tokens.now.tokens tx rolls_back at) r.1
         (item_of r.0)) }
     ensures moves { IfOk result (λ r. at < length tokens.now.tokens → at < r.1) }
 {
@@ -170,13 +177,28 @@ fn function(alloc: Global, tokens: &TokenList, at: u64, tx: bool) -> Result<(Ite
     let (body, end) = block(alloc, tokens, place_after(tokens, brace))?;
     let function = Function {
         tx,
-        rolls_back: false,
+        rolls_back,
         result_type,
         name,
         parameters,
         body,
     };
     Ok((Item::Function(function), end))
+}
+
+/// The mark of a transaction: whether it rolls back, and the place after the mark.
+#[tactic(auto, using(crate::proofs::FixesItem::marks_read))]
+fn transaction(tokens: &TokenList, at: u64) -> (bool, u64)
+    ensures stays { at ≤ result.1 }
+    ensures fixes { Fixes (IsFollowed tokens.now.tokens BeginsResult
+        (SpellsTransaction tokens.now.tokens at)) result.1 result.0 }
+    ensures moves { at < length tokens.now.tokens → at < result.1 }
+{
+    let place = place_after(tokens, at);
+    if kind_at(tokens, place) == Kind::Abort {
+        return (true, place_after(tokens, place));
+    }
+    (false, place)
 }
 
 /// A struct, from its `struct` on.
@@ -230,8 +252,11 @@ fn item(alloc: Global, tokens: &TokenList, at: u64) -> Result<(Item, u64), Alloc
     }
     match kind_at(tokens, at) {
         Kind::Persistent => root_decl(alloc, tokens, at),
-        Kind::Tx => function(alloc, tokens, place_after(tokens, at), true),
-        _ => function(alloc, tokens, at, false),
+        Kind::Tx => {
+            let (rolls_back, place) = transaction(tokens, at);
+            function(alloc, tokens, place, true, rolls_back)
+        }
+        _ => function(alloc, tokens, at, false, false),
     }
 }
 

@@ -76,6 +76,8 @@ pub enum Want {
     Length,
     /// `void` or a type.
     Result,
+    /// The result of a transaction, or `abort` before it.
+    TxResult,
     OpenParameters,
     /// Parameters or `void`, and the `)`.
     Parameters,
@@ -484,6 +486,15 @@ impl Wants {
         self.type_begins(kind)
     }
 
+    fn tx_result(&mut self, kind: Kind) -> Result<Taken, AllocError>
+        ensures { IfOk result (λ t. done t self.new ≡ moves_to (wants.tx_result kind) self.old) }
+    {
+        if kind == Kind::Abort {
+            return self.take(&[Want::Result]);
+        }
+        self.result_begins(kind)
+    }
+
     fn parameters(&mut self, kind: Kind) -> Result<Taken, AllocError>
         ensures { IfOk result (λ t. done t self.new ≡ moves_to (wants.parameters_move kind)
             self.old) }
@@ -543,7 +554,7 @@ impl Wants {
                 Want::Semicolon,
             ]),
             Kind::Tx => self.take(&[
-                Want::Result,
+                Want::TxResult,
                 Want::Ident,
                 Want::OpenParameters,
                 Want::OpenBody,
@@ -621,6 +632,7 @@ impl Wants {
             Want::Fields => self.fields(kind),
             Want::Length => self.array_length(kind),
             Want::Result => self.result_begins(kind),
+            Want::TxResult => self.tx_result(kind),
             Want::OpenParameters => self.only(kind == Kind::OpenRound, &[Want::Parameters]),
             Want::Parameters => self.parameters(kind),
             Want::MoreParameters => self.more_parameters(kind),

@@ -212,8 +212,8 @@ module _ (t : Tables) (program : Program) (ts : List Placed) (words : (i : ℕ)
   abbrev pub FunctionWords : FunctionTree → Type 0
   FunctionWords f = AreWords (lowered_function t program f).code
 
-  function_words : {tx : Bool} {i j : ℕ} {x : ItemTree} (xs : List ItemTree)
-      → SpellsFunction ts tx i j x → AllByRecursion FunctionWords (function_trees xs)
+  function_words : {tx b : Bool} {i j : ℕ} {x : ItemTree} (xs : List ItemTree)
+      → SpellsFunction ts tx b i j x → AllByRecursion FunctionWords (function_trees xs)
       → AllByRecursion FunctionWords (function_trees (x ∷ xs))
   function_words xs (function {tx = tx} {m = m} {r = r} {ps = ps} {all = all} result name opens
       signature brace body closes) rest =
@@ -232,7 +232,7 @@ module _ (t : Tables) (program : Program) (ts : List Placed) (words : (i : ℕ)
       → AllByRecursion FunctionWords (function_trees (x ∷ xs))
   item_words xs (struct_def is name opens field fields closes ends) rest = rest
   item_words xs (root_decl is word name root ends) rest = rest
-  item_words xs (transaction is h) rest = function_words xs h rest
+  item_words xs (transaction mark h) rest = function_words xs h rest
   item_words xs (plain_function h) rest = function_words xs h rest
 
   pub items_words : {i j : ℕ} {xs : List ItemTree} → SpellsItems ts i j xs

@@ -207,8 +207,8 @@ more_have x ss one rest zero s is = let same : x ≡ s = some_same is in
     some_same e = cc
 more_have x ss one rest (suc j) s is = rest j s is
 
-function_none : {ts : List Placed} {tx : Bool} {i j : ℕ} {x : ItemTree} (xs : List ItemTree)
-    → SpellsFunction ts tx i j x → HaveFields (structs_of xs) → HaveFields (structs_of (x ∷ xs))
+function_none : {ts : List Placed} {tx b : Bool} {i j : ℕ} {x : ItemTree} (xs : List ItemTree)
+    → SpellsFunction ts tx b i j x → HaveFields (structs_of xs) → HaveFields (structs_of (x ∷ xs))
 function_none xs (function result name opens signature brace body closes) rest = rest
 
 item_has : {ts : List Placed} {i j : ℕ} {x : ItemTree} (xs : List ItemTree) → SpellsItem ts i j x
@@ -217,7 +217,7 @@ item_has {ts} {i} xs (struct_def {f = f} {fs = fs} is name opens field fields cl
     more_have (record { name = ident_at ts (i + 1); fields = f ∷ fs }) (structs_of xs)
     (omega arith) rest
 item_has xs (root_decl is word name root ends) rest = rest
-item_has xs (transaction is h) rest = function_none xs h rest
+item_has xs (transaction mark h) rest = function_none xs h rest
 item_has xs (plain_function h) rest = function_none xs h rest
 
 pub spelled_have : {ts : List Placed} {i j : ℕ} {xs : List ItemTree} → SpellsItems ts i j xs

@@ -224,7 +224,7 @@ fn told_of_a_program(rt: HostRuntime) -> Result<(), Fail> {
     if typed.txs() == 2 {
         assert_eq!(rt; typed.tx_name(1), "inc");
         assert_eq!(rt; typed.parameters(1), 2);
-        assert!(rt; !typed.rolls_back(1), "no transaction rolls back yet");
+        assert!(rt; !typed.rolls_back(1), "inc stays as it is");
         assert_eq!(rt; typed.tx_name(2), "top");
         assert_eq!(rt; typed.parameters(2), 0);
     }
@@ -271,6 +271,43 @@ fn refused_at_the_place(rt: HostRuntime) -> Result<(), Fail> {
     for (text, want) in PLACES {
         let found = refused_place(rt.alloc(), text)?;
         assert_eq!(rt; found.as_str(), want, "{text}");
+    }
+    Ok(())
+}
+
+/// Programs after `TOP`, and for each transaction whether it rolls back where it traps.
+const MARKED: [(&str, &str); 6] = [
+    ("", ""),
+    ("tx int64_t a() { return 0; }", "no "),
+    ("tx abort int64_t a() { return 0; }", "yes "),
+    (
+        "tx int64_t a() { return 0; }\nint64_t b() { return 0; }\ntx abort int64_t c() { return 0; }",
+        "no yes ",
+    ),
+    (
+        "tx abort int64_t a() { return 0; }\ntx int64_t b() { abort(); return 0; }",
+        "yes no ",
+    ),
+    (
+        "tx abort int64_t a(int64_t k) { return b(k); }\nint64_t b(int64_t k) { return k; }",
+        "yes ",
+    ),
+];
+
+#[test]
+fn transactions_keep_their_marks(rt: HostRuntime) -> Result<(), Fail> {
+    let alloc = rt.alloc();
+    for (text, want) in MARKED {
+        let whole = format!(in alloc; "{TOP}{text}")?;
+        let list = tokens(alloc, whole.as_bytes())?;
+        let ast = parse(alloc, &list)?;
+        let typed = check(alloc, ast)?;
+        let mut marks = String::new(alloc);
+        let count = typed.txs();
+        for tx in 1..=count {
+            marks.push_str(if typed.rolls_back(tx) { "yes " } else { "no " })?;
+        }
+        assert_eq!(rt; marks.as_str(), want, "{text}");
     }
     Ok(())
 }
@@ -806,7 +843,7 @@ const LIMITS: [(&str, &str); 6] = [
 ];
 
 /// Transactions of other types, and calls of one.
-const TRANSACTIONS: [(&str, &str); 8] = [
+const TRANSACTIONS: [(&str, &str); 12] = [
     ("tx void\nf() { }", "BadTx(6)"),
     ("tx struct N *\nf() { return NULL; }", "BadTx(6)"),
     ("tx int64_t\nf(struct N *p) { return 0; }", "BadTx(6)"),
@@ -827,6 +864,13 @@ const TRANSACTIONS: [(&str, &str); 8] = [
         "BadTx(6)",
     ),
     ("tx int64_t f() { return\nf(); }", "BadTx(6)"),
+    ("tx abort void\nf() { }", "BadTx(6)"),
+    ("tx abort int64_t\nf(struct N *p) { return 0; }", "BadTx(6)"),
+    (
+        "tx abort int64_t g() { return 0; }\nint64_t f() { return\ng(); }",
+        "BadTx(7)",
+    ),
+    ("tx abort int64_t f() { return\nf(); }", "BadTx(6)"),
 ];
 
 /// Two rules broken: the lesser token is told, and at one token the lesser number.
@@ -900,7 +944,9 @@ const TWO_FAULTS: [(&str, &str); 30] = [
 ];
 
 /// Texts that break no rule.
-const KEPT: [&str; 73] = [
+const KEPT: [&str; 75] = [
+    "tx abort int64_t f(int64_t a) { root.n = a; abort(); return 0; }",
+    "tx abort int64_t f() { return g(); }\nint64_t g() { abort(); return 1; }",
     "int64_t f() { int64_t x = 1; { int64_t x = 2; x = 3; } x = 4; return 0; }",
     "int64_t f() { int64_t x = 1; { int64_t y = x; x = y; } return 0; }",
     "int64_t N() { int64_t N = 1; return N; }",

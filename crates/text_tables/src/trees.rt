@@ -3,6 +3,7 @@
 use crate::tree_text::show_bodies;
 use c_lexer::tokens;
 use c_parser::{ParseFault, parse};
+use c_tree::item::Item;
 use std::alloc::{AllocError, Global};
 use std::test::Fail;
 
@@ -95,6 +96,62 @@ fn refused_in_a_body(rt: HostRuntime) -> Result<(), Fail> {
 fn items(rt: HostRuntime) -> Result<(), Fail> {
     let wrong = wrong_rows(rt.alloc(), "", &ITEMS, "")?;
     assert!(rt; wrong.is_empty(), "{}", wrong.as_str());
+    Ok(())
+}
+
+/// Texts, and for each of their functions `p` where it is plain, `t` where it is a transaction, and
+/// `r` where it is one that rolls back.
+const MARKED: [(&str, &str); 8] = [
+    ("", ""),
+    ("void f() {}", "p"),
+    ("tx void f() {}", "t"),
+    ("tx abort void f() {}", "r"),
+    (
+        "tx abort int64_t f() {} tx int64_t g() {} int64_t h() {}",
+        "rtp",
+    ),
+    (
+        "int64_t f() {} tx abort struct S *g() {} struct S *h() {}",
+        "prp",
+    ),
+    (
+        "tx int64_t f() { abort(); } tx abort int64_t g() { abort(); }",
+        "tr",
+    ),
+    (
+        "struct S { int64_t a; }; tx abort void f() {} persistent struct S root;",
+        "r",
+    ),
+];
+
+/// The marks of a text's functions, a letter each.
+fn marks_of(alloc: Global, text: &str) -> Result<String, AllocError> {
+    let Ok(list) = tokens(alloc, text.as_bytes()) else {
+        return String::from_str(alloc, "no tokens");
+    };
+    let Ok(ast) = parse(alloc, &list) else {
+        return String::from_str(alloc, "no tree");
+    };
+    let mut marks = String::new(alloc);
+    for item in ast.items() {
+        if let Item::Function(function) = item {
+            marks.push_str(match (function.tx, function.rolls_back) {
+                (false, false) => "p",
+                (true, false) => "t",
+                (true, true) => "r",
+                (false, true) => "?",
+            })?;
+        }
+    }
+    Ok(marks)
+}
+
+#[test]
+fn functions_keep_their_marks(rt: HostRuntime) -> Result<(), Fail> {
+    for (text, want) in MARKED {
+        let marks = marks_of(rt.alloc(), text)?;
+        assert_eq!(rt; marks.as_str(), want, "{text}");
+    }
     Ok(())
 }
 
@@ -424,7 +481,7 @@ const REFUSED_LATER: [(&str, &str); 48] = [
     ("{", "syntax 7"),
 ];
 
-const ITEMS: [(&str, &str); 61] = [
+const ITEMS: [(&str, &str); 69] = [
     ("", ""),
     ("struct S { int64_t a; };", ""),
     ("struct S { int64_t a; struct S *n; int64_t t[4]; };", ""),
@@ -462,8 +519,16 @@ const ITEMS: [(&str, &str); 61] = [
     ("tx f() {}", "syntax 1"),
     ("tx tx int64_t f() {}", "syntax 1"),
     ("tx struct S {", "syntax 3"),
-    ("tx abort int64_t f() {}", "syntax 1"),
-    ("tx abort", "syntax 1"),
+    ("tx abort int64_t f() { return 0; }", "return 0;"),
+    ("tx abort void f() {}", ""),
+    ("tx abort struct S *f() {}", ""),
+    ("tx abort", "syntax 2"),
+    ("tx abort f() {}", "syntax 2"),
+    ("tx abort abort int64_t f() {}", "syntax 2"),
+    ("tx abort tx int64_t f() {}", "syntax 2"),
+    ("tx abort struct S {", "syntax 4"),
+    ("tx int64_t abort f() {}", "syntax 2"),
+    ("tx abort;", "syntax 2"),
     ("abort tx int64_t f() {}", "syntax 0"),
     ("abort int64_t f() {}", "syntax 0"),
     ("int64_t", "syntax 1"),
@@ -488,7 +553,7 @@ const ITEMS: [(&str, &str); 61] = [
     ("abort() {}", "syntax 0"),
 ];
 
-const WEIGHTS: [(&str, &str, u64, &str, &str, &str, &str); 40] = [
+const WEIGHTS: [(&str, &str, u64, &str, &str, &str, &str); 42] = [
     ("tx int64_t f() { return ", "(", 63, "1", ")", "; }", "ok"),
     (
         "tx int64_t f() { return ",
@@ -498,6 +563,24 @@ const WEIGHTS: [(&str, &str, u64, &str, &str, &str, &str); 40] = [
         ")",
         "; }",
         "deep 70",
+    ),
+    (
+        "tx abort int64_t f() { return ",
+        "(",
+        63,
+        "1",
+        ")",
+        "; }",
+        "ok",
+    ),
+    (
+        "tx abort int64_t f() { return ",
+        "(",
+        64,
+        "1",
+        ")",
+        "; }",
+        "deep 71",
     ),
     ("void f() {", "while (1) ", 63, ";", "", "}", "ok"),
     ("void f() {", "while (1) ", 64, ";", "", "}", "deep 258"),
@@ -616,7 +699,7 @@ const WEIGHTS: [(&str, &str, u64, &str, &str, &str, &str); 40] = [
 ];
 
 /// Each is one item, and its tokens stand apart by one blank.
-const WHOLE: [&str; 21] = [
+const WHOLE: [&str; 24] = [
     "struct S { int64_t a ; struct S * next ; int64_t t [ 4 ] ; struct S * u [ 2 ] ; } ;",
     "persistent struct R root ;",
     "void f ( ) { }",
@@ -625,6 +708,9 @@ const WHOLE: [&str; 21] = [
     "tx void f ( struct S * b ) { }",
     "tx int64_t f ( int64_t a ) { return a ; }",
     "tx struct S * f ( ) { return NULL ; }",
+    "tx abort void f ( struct S * b ) { }",
+    "tx abort int64_t f ( int64_t a ) { abort ( ) ; return a ; }",
+    "tx abort struct S * f ( ) { return NULL ; }",
     "void f ( ) { ; { } { ; } int64_t x ; int64_t y = x ; struct S * p ; struct S * q = p ; }",
     "void f ( ) { x = 1 ; x += 1 ; x -= 1 ; x ++ ; x -- ; f ( ) ; f ( 1 ) ; f ( 1 , 2 , 3 ) ; }",
     "void f ( ) { pm_free ( p ) ; abort ( ) ; return ; }",

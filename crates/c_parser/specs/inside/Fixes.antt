@@ -44,3 +44,10 @@ abbrev pub ClosesSimple : Kind → Type 0
 ClosesSimple kind.Semicolon = Unit {0}
 ClosesSimple kind.CloseRound = Unit {0}
 ClosesSimple _ = ⊥
+
+-- the tokens that begin a function's result
+abbrev pub BeginsResult : Kind → Type 0
+BeginsResult kind.Void = Unit {0}
+BeginsResult kind.Int = Unit {0}
+BeginsResult kind.Struct = Unit {0}
+BeginsResult _ = ⊥

@@ -17,7 +17,7 @@ use Rattle.c_parser.specs.declared.want.Want.TheVariants.{Called, DotTarget, Ope
 use Rattle.c_parser.specs.declared.want.Want.TheVariants.{OpenNothing, Initial, Value, Body, Bare}
 use Rattle.c_parser.specs.declared.want.Want.TheVariants.{Else, Block, OpenFor, ForFirst, ForThird}
 use Rattle.c_parser.specs.declared.want.Want.TheVariants.{TypeName, Fields, Length, Result}
-use Rattle.c_parser.specs.declared.want.Want.TheVariants.{OpenParameters, Parameters}
+use Rattle.c_parser.specs.declared.want.Want.TheVariants.{TxResult, OpenParameters, Parameters}
 use Rattle.c_parser.specs.declared.want.Want.TheVariants.{MoreParameters, OpenBody}
 use Rattle.c_parser.specs.declared.want.Want.TheVariants.{StructOrFunction, Items}
 use Rattle.c_parser.specs.declared.want.Taken.{Taken}
@@ -209,6 +209,11 @@ abbrev pub result_begins : Kind → WantMove
 result_begins kind.Void = Take []
 result_begins k = type_begins k
 
+-- the result of a transaction, after its mark
+abbrev pub tx_result : Kind → WantMove
+tx_result kind.Abort = Take (Result ∷ [])
+tx_result k = result_begins k
+
 abbrev pub open_parameters : Kind → WantMove
 open_parameters kind.OpenRound = Take (Parameters ∷ [])
 open_parameters _ = Refuse
@@ -237,7 +242,7 @@ struct_or_function _ = Refuse
 abbrev pub item : Kind → WantMove
 item kind.Struct = Take (Ident ∷ StructOrFunction ∷ [])
 item kind.Persistent = Take (StructWord ∷ Ident ∷ RootWord ∷ Semicolon ∷ [])
-item kind.Tx = Take (Result ∷ Ident ∷ OpenParameters ∷ OpenBody ∷ [])
+item kind.Tx = Take (TxResult ∷ Ident ∷ OpenParameters ∷ OpenBody ∷ [])
 item kind.Int = Take (Ident ∷ OpenParameters ∷ OpenBody ∷ [])
 item kind.Void = Take (Ident ∷ OpenParameters ∷ OpenBody ∷ [])
 item _ = Refuse
@@ -281,6 +286,7 @@ move TypeName k = type_begins k
 move Fields k = fields k
 move Length k = length_move k
 move Result k = result_begins k
+move TxResult k = tx_result k
 move OpenParameters k = open_parameters k
 move Parameters k = parameters_move k
 move MoreParameters k = more_parameters k
