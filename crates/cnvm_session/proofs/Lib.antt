@@ -1,6 +1,9 @@
 pub mod Plays
 pub mod Holding
+pub mod Marking
+pub mod Cases
 pub mod Faults
+pub mod Calls
 pub mod Recoveries
 pub mod Rest
 pub mod Refusing

@@ -1,123 +1,108 @@
--- A device's count of faults only rises in a recovery, and it rises in each one that failed.
-use Rattle.std.proofs.Common.{◌≡◌, ◌≢◌, ◌≤◌, ℕ, Bool, true, false, ⊎_elim, List, ℤ, pos, refl}
-use Rattle.std.proofs.Common.{subst, int_eq}
-use Rattle.std.proofs.lemmas.Bool.Decides.{Decides-int_eq}
+-- The count of faults in a recovery.
+use Rattle.std.proofs.Common.{◌≡◌, ℕ, true, false, ⊎_elim, List, [], ℤ, sym, ◌∙◌}
 use Rattle.cache_model.specs.Event.{CacheEvent}
 use Rattle.cache_model.specs.Cache.{view}
-use Rattle.pmem.specs.Device.{Device, FaultsRose}
+use Rattle.pmem.specs.Device.{Device}
 use Rattle.pmem.specs.declared.answer.Phase.TheVariants as phase
 use Rattle.pmem.specs.declared.answer.Refusal.TheVariants as refusal
-use Rattle.pmem.proofs.Parts.{same_rise, all_rise, part_rise, rose_part}
 use Rattle.pool_layout.specs.declared.places.TheConstants.{MARK}
-use Rattle.pool_layout.proofs.Records.{decided}
 use Rattle.args_log.specs.Pending.{is_sealed}
 use Rattle.pm_machine.specs.declared.image.Image.{Image}
-use Rattle.recovery.specs.Found.{names_tx}
-use Rattle.recovery.specs.Recovered.{Cleaned, Redid, IsRecovered, numbers_out, tx_in}
+use Rattle.tx_run.specs.Standing.{trap_of_mark}
+use Rattle.recovery.specs.Recovered.{Cleaned, Redid, IsRecovered}
 use Rattle.recovery.specs.declared.answer.RecoverAnswer.{RecoverAnswer}
 use Rattle.recovery.specs.declared.answer.RecoverAnswer.TheVariants as recovered
-use Rattle.cnvm_session.specs.declared.answer.Answer.TheVariants as answer
-use Rattle.cnvm_session.specs.Outcomes.{answer_of_recovery}
+use Rattle.abort_mode.specs.Answers.{AbortRedid, IsAbortRedone}
+use Rattle.abort_mode.specs.declared.answer.AbortAnswer.{AbortAnswer}
+use Rattle.abort_mode.specs.declared.answer.AbortAnswer.TheVariants as marked
+use Rattle.cnvm_session.specs.Outcomes.{answer_of_recovery, answer_of_marked_recovery}
+use Rattle.cnvm_session.proofs.Cases.{by_found}
+use Rattle.cnvm_session.proofs.Faults.{Counts, counts_all, counts_part, counts_failed, counts_same}
 
-cleaned_le : (r : RecoverAnswer) (d : Device) (es : List CacheEvent) (b : Device) → Cleaned r d es b
-    → d.faults ≤ b.faults
-cleaned_le recovered.Clean d es b h = all_rise es d b h
-cleaned_le (recovered.Off phase.Unsealed) d es b h = part_rise es refusal.Off d b h
-cleaned_le (recovered.Off phase.Sealing) d es b h = absurd h
-cleaned_le (recovered.Off phase.Sealed) d es b h = absurd h
-cleaned_le recovered.Failed d es b h = part_rise es refusal.Failed d b h
-cleaned_le recovered.NoMemory d es b h = part_rise es refusal.NoMemory d b h
-cleaned_le (recovered.Redone v l) d es b h = absurd h
-cleaned_le (recovered.Trap t) d es b h = absurd h
-cleaned_le (recovered.Unusable t) d es b h = absurd h
-cleaned_le recovered.Numbers d es b h = absurd h
+cleaned_counts : (r : RecoverAnswer) (d : Device) (es : List CacheEvent) (b : Device)
+    → Cleaned r d es b → Counts (answer_of_recovery r) d b
+cleaned_counts recovered.Clean d es b h = counts_all _ d es b (λ e. absurd cc) h
+cleaned_counts (recovered.Off phase.Unsealed) d es b h =
+    counts_part _ refusal.Off d es b (λ e. absurd cc) h
+cleaned_counts (recovered.Off phase.Sealing) d es b h = absurd h
+cleaned_counts (recovered.Off phase.Sealed) d es b h = absurd h
+cleaned_counts recovered.Failed d es b h = counts_failed _ d es b h
+cleaned_counts recovered.NoMemory d es b h =
+    counts_part _ refusal.NoMemory d es b (λ e. absurd cc) h
+cleaned_counts (recovered.Redone v l) d es b h = absurd h
+cleaned_counts (recovered.Trap t) d es b h = absurd h
+cleaned_counts (recovered.Unusable t) d es b h = absurd h
+cleaned_counts recovered.Numbers d es b h = absurd h
 
-cleaned_rose : (r : RecoverAnswer) (d : Device) (es : List CacheEvent) (b : Device)
-    → r ≡ recovered.Failed → Cleaned r d es b → FaultsRose d.faults b.faults
-cleaned_rose r d es b is h = rose_part refusal.Failed d es b refl
-    (subst (λ (x : RecoverAnswer). Cleaned x d es b) is h)
+redid_counts : (r : RecoverAnswer) (image : Image) (tx : ℕ) (args : List ℤ) (n : ℕ) (d b : Device)
+    (k k1 : ℕ) → Redid r image tx args n d b k k1 → Counts (answer_of_recovery r) d b
+redid_counts (recovered.Redone v l) image tx args n d b k k1 h =
+    counts_all _ d _ b (λ e. absurd cc) h.0.played
+redid_counts (recovered.Trap t) image tx args n d b k k1 h =
+    counts_all _ d _ b (λ e. absurd cc) h.played
+redid_counts (recovered.Off phase.Sealed) image tx args n d b k k1 h =
+    counts_part _ refusal.Off d _ b (λ e. absurd cc) h
+redid_counts (recovered.Off phase.Unsealed) image tx args n d b k k1 h = absurd h
+redid_counts (recovered.Off phase.Sealing) image tx args n d b k k1 h = absurd h
+redid_counts recovered.Failed image tx args n d b k k1 h = counts_failed _ d _ b h
+redid_counts recovered.NoMemory image tx args n d b k k1 h =
+    ⊎_elim (λ same. counts_all _ d [] b (λ e. absurd cc) same)
+    (λ part. counts_part _ refusal.NoMemory d _ b (λ e. absurd cc) part) h
+redid_counts recovered.Clean image tx args n d b k k1 h = absurd h
+redid_counts (recovered.Unusable t) image tx args n d b k k1 h = absurd h
+redid_counts recovered.Numbers image tx args n d b k k1 h = absurd h
 
-redid_le : (r : RecoverAnswer) (image : Image) (tx : ℕ) (args : List ℤ) (n : ℕ) (d b : Device)
-    (k k1 : ℕ) → Redid r image tx args n d b k k1 → d.faults ≤ b.faults
-redid_le (recovered.Redone v l) image tx args n d b k k1 h = all_rise _ d b h.0.played
-redid_le (recovered.Trap t) image tx args n d b k k1 h = all_rise _ d b h.played
-redid_le (recovered.Off phase.Sealed) image tx args n d b k k1 h = part_rise _ refusal.Off d b h
-redid_le (recovered.Off phase.Unsealed) image tx args n d b k k1 h = absurd h
-redid_le (recovered.Off phase.Sealing) image tx args n d b k k1 h = absurd h
-redid_le recovered.Failed image tx args n d b k k1 h = part_rise _ refusal.Failed d b h
-redid_le recovered.NoMemory image tx args n d b k k1 h =
-    ⊎_elim (λ same. same_rise d b same) (λ part. part_rise _ refusal.NoMemory d b part) h
-redid_le recovered.Clean image tx args n d b k k1 h = absurd h
-redid_le (recovered.Unusable t) image tx args n d b k k1 h = absurd h
-redid_le recovered.Numbers image tx args n d b k k1 h = absurd h
+pub recovery_counts : (r : RecoverAnswer) (image : Image) (d b : Device) (k k1 : ℕ)
+    → IsRecovered r image d b k k1 → Counts (answer_of_recovery r) d b
+recovery_counts r image d b k k1 h =
+    by_found (Counts (answer_of_recovery r) d b) image d
+    (λ on mark. let same = h.unusable on mark in
+    counts_same answer_of_recovery r (recovered.Unusable (trap_of_mark (view d.cache MARK))) d b
+    same.0 (λ e. absurd cc) same.1)
+    (λ on mark out. let same = h.numbers on mark out in
+    counts_same answer_of_recovery r recovered.Numbers d b same.0 (λ e. absurd cc) same.1)
+    (λ on mark fit unsealed. cleaned_counts r d _ b (h.clean on mark fit unsealed))
+    (λ on mark fit sealed named. redid_counts r image _ _ _ d b k k1
+    (h.redid on mark fit sealed named))
+    (λ on mark fit sealed unnamed. let same = h.unnamed on mark fit sealed unnamed in
+    counts_same answer_of_recovery r recovered.Numbers d b same.0 (λ e. absurd cc) same.1)
+    (λ off. let same = h.off off in
+    counts_same answer_of_recovery r (recovered.Off phase.Unsealed) d b same.0 (λ e. absurd cc)
+    same.1)
 
-redid_rose : (r : RecoverAnswer) (image : Image) (tx : ℕ) (args : List ℤ) (n : ℕ) (d b : Device)
-    (k k1 : ℕ) → r ≡ recovered.Failed
-    → Redid r image tx args n d b k k1 → FaultsRose d.faults b.faults
-redid_rose r image tx args n d b k k1 is h =
-    rose_part refusal.Failed d _ b refl
-    (subst (λ (x : RecoverAnswer). Redid x image tx args n d b k k1) is h)
+marked_redid_counts : (r : AbortAnswer) (image : Image) (tx : ℕ) (args : List ℤ) (n : ℕ)
+    (d b : Device) (k k1 : ℕ) → AbortRedid r image tx args n d b k k1
+    → Counts (answer_of_marked_recovery r) d b
+marked_redid_counts (marked.Done v l) image tx args n d b k k1 h =
+    counts_all _ d _ b (λ e. absurd cc) h.0.played
+marked_redid_counts (marked.Aborted t) image tx args n d b k k1 h =
+    counts_all _ d _ b (λ e. absurd cc) h.played
+marked_redid_counts (marked.Off phase.Sealed) image tx args n d b k k1 h =
+    counts_part _ refusal.Off d _ b (λ e. absurd cc) h
+marked_redid_counts (marked.Off phase.Unsealed) image tx args n d b k k1 h = absurd h
+marked_redid_counts (marked.Off phase.Sealing) image tx args n d b k k1 h = absurd h
+marked_redid_counts marked.Failed image tx args n d b k k1 h = counts_failed _ d _ b h
+marked_redid_counts marked.NoMemory image tx args n d b k k1 h =
+    ⊎_elim (λ same. counts_all _ d [] b (λ e. absurd cc) same)
+    (λ part. counts_part _ refusal.NoMemory d _ b (λ e. absurd cc) part) h
+marked_redid_counts (marked.Unusable t) image tx args n d b k k1 h = absurd h
+marked_redid_counts marked.Numbers image tx args n d b k k1 h = absurd h
 
-module _ (r : RecoverAnswer) (image : Image) (d b : Device) (k k1 : ℕ)
-    (h : IsRecovered r image d b k k1) where
-  abbrev Holds : Type 0
-  Holds = (d.faults ≤ b.faults) × (r ≡ recovered.Failed → FaultsRose d.faults b.faults)
-
-  by_record : (named : Bool) → d.on ≡ true → view d.cache MARK ≡ pos 0 → numbers_out image d ≡ false
-      → is_sealed (view d.cache) ≡ true
-      → names_tx image (tx_in d) ≡ named → Holds
-  by_record true on mark fit sealed named =
-      let redid = h.redid on mark fit sealed named in (
-        redid_le r image _ _ _ d b k k1 redid,
-        λ failed.
-            redid_rose r image _ _ _ d b k k1 failed redid,
-      )
-  by_record false on mark fit sealed named =
-      let same = h.unnamed on mark fit sealed named in
-      (same_rise d b same.1, λ failed. let is_not = same.0 in absurd cc)
-
-  by_seal : (sealed : Bool) → d.on ≡ true → view d.cache MARK ≡ pos 0 → numbers_out image d ≡ false
-      → is_sealed (view d.cache) ≡ sealed → Holds
-  by_seal true on mark fit sealed = by_record (names_tx image (tx_in d)) on mark fit sealed refl
-  by_seal false on mark fit unsealed =
-      let clean = h.clean on mark fit unsealed in
-      (cleaned_le r d _ b clean, λ failed. cleaned_rose r d _ b failed clean)
-
-  by_numbers : (out : Bool) → d.on ≡ true → view d.cache MARK ≡ pos 0
-      → numbers_out image d ≡ out → Holds
-  by_numbers true on mark out =
-      let same = h.numbers on mark out in
-      (same_rise d b same.1, λ failed. let is_not = same.0 in absurd cc)
-  by_numbers false on mark fit = by_seal (is_sealed (view d.cache)) on mark fit refl
-
-  by_mark : d.on ≡ true → Holds
-  by_mark on = ⊎_elim
-      (λ (mark : view d.cache MARK ≡ pos 0). by_numbers (numbers_out image d) on mark refl)
-      (λ (marked : view d.cache MARK ≢ pos 0).
-      let same = h.unusable on marked in
-      (same_rise d b same.1, λ failed. let is_not = same.0 in absurd cc))
-      (decided (int_eq (view d.cache MARK) (pos 0)) ((Decides-int_eq (view d.cache MARK) (pos 0)).0)
-      ((Decides-int_eq (view d.cache MARK) (pos 0)).1))
-
-  by_switch : (on : Bool) → d.on ≡ on → Holds
-  by_switch true on = by_mark on
-  by_switch false off =
-      let same = h.off off in
-      (same_rise d b same.1, λ failed. let is_not = same.0 in absurd cc)
-
-  pub recovered_le : d.faults ≤ b.faults
-  recovered_le = (by_switch d.on refl).0
-
-  pub recovered_rose : r ≡ recovered.Failed → FaultsRose d.faults b.faults
-  recovered_rose failed = (by_switch d.on refl).1 failed
-
-pub failed_is : (r : RecoverAnswer) → answer_of_recovery r ≡ answer.DeviceFault
-    → r ≡ recovered.Failed
-failed_is recovered.Clean e = absurd cc
-failed_is (recovered.Redone v l) e = absurd cc
-failed_is (recovered.Trap t) e = absurd cc
-failed_is (recovered.Unusable t) e = absurd cc
-failed_is recovered.Numbers e = absurd cc
-failed_is (recovered.Off p) e = absurd cc
-failed_is recovered.Failed e = refl
-failed_is recovered.NoMemory e = absurd cc
+pub marked_recovery_counts : (r : AbortAnswer) (image : Image) (d b : Device) (k k1 : ℕ)
+    → is_sealed (view d.cache) ≡ true → IsAbortRedone r image d b k k1
+    → Counts (answer_of_marked_recovery r) d b
+marked_recovery_counts r image d b k k1 sealed h =
+    by_found (Counts (answer_of_marked_recovery r) d b) image d
+    (λ on mark. let same = h.unusable on mark in
+    counts_same answer_of_marked_recovery r (marked.Unusable (trap_of_mark (view d.cache MARK))) d b
+    same.0 (λ e. absurd cc) same.1)
+    (λ on mark out. let same = h.numbers on mark out in
+    counts_same answer_of_marked_recovery r marked.Numbers d b same.0 (λ e. absurd cc) same.1)
+    (λ on mark fit unsealed. let no : true ≡ false = sym sealed ∙ unsealed in absurd cc)
+    (λ on mark fit is named. marked_redid_counts r image _ _ _ d b k k1
+    (h.redid on mark fit named))
+    (λ on mark fit is unnamed. let same = h.unnamed on mark fit unnamed in
+    counts_same answer_of_marked_recovery r marked.Numbers d b same.0 (λ e. absurd cc) same.1)
+    (λ off. let same = h.off off in
+    counts_same answer_of_marked_recovery r (marked.Off phase.Unsealed) d b same.0 (λ e. absurd cc)
+    same.1)

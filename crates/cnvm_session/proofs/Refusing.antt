@@ -6,18 +6,20 @@ use Rattle.std.proofs.lemmas.Bool.Decides.{Decides-int_eq}
 use Rattle.cache_model.specs.Cache.{Words, view}
 use Rattle.cache_model.specs.Collapse.{bad}
 use Rattle.cache_model.specs.declared.choice.Choice.{Choice}
-use Rattle.pmem.specs.Device.{Device, memory_of}
+use Rattle.pmem.specs.Device.{Device, memory_of, powered}
 use Rattle.pool_layout.specs.declared.places.TheConstants.{DONE, ATTEMPT, MARK}
 use Rattle.pool_layout.specs.declared.limits.Sizes.{Sizes}
 use Rattle.pool_map.specs.declared.shapes.Shapes.{Shapes}
 use Rattle.pool_map.specs.declared.trap.TrapKind.{TrapKind}
 use Rattle.pm_machine.specs.declared.image.Image.{Image}
-use Rattle.tx_run.specs.declared.standing.Standing.{Standing}
 use Rattle.tx_run.specs.declared.standing.Standing.TheVariants as stands
 use Rattle.tx_run.specs.Standing.{standing_of, is_number, trap_of_mark}
-use Rattle.tx_run.specs.Called.{Called, IsTxCalled}
+use Rattle.tx_run.specs.Called.{Called}
 use Rattle.tx_run.specs.declared.answer.CallAnswer.{CallAnswer}
 use Rattle.tx_run.specs.declared.answer.CallAnswer.TheVariants as called
+use Rattle.abort_mode.specs.Answers.{AbortCalled}
+use Rattle.abort_mode.specs.declared.answer.AbortAnswer.{AbortAnswer}
+use Rattle.abort_mode.specs.declared.answer.AbortAnswer.TheVariants as undone
 use Rattle.recovery.specs.declared.answer.RecoverAnswer.{RecoverAnswer}
 use Rattle.recovery.specs.declared.answer.RecoverAnswer.TheVariants as recovered
 use Rattle.c_types.specs.Shapes.{shapes_of}
@@ -28,11 +30,15 @@ use Rattle.cnvm_session.specs.declared.mode.Mode.TheVariants.{Ready, Down, Unusa
 use Rattle.cnvm_session.specs.declared.answer.Answer.{Answer}
 use Rattle.cnvm_session.specs.declared.answer.Answer.TheVariants as answer
 use Rattle.cnvm_session.specs.declared.program.Program.{Program}
-use Rattle.cnvm_session.specs.Outcomes.{Runs, answer_of_call, mode_of_call, answer_of_recovery}
+use Rattle.cnvm_session.specs.Marks.{rolls_back_of, owes_marked}
+use Rattle.cnvm_session.specs.Outcomes.{RunsUnmarked, RunsMarked, RunsBy, answer_of_call}
+use Rattle.cnvm_session.specs.Outcomes.{mode_of_call, answer_of_marked_call, mode_of_marked_call}
+use Rattle.cnvm_session.specs.Outcomes.{RecoversBy, answer_of_recovery, answer_of_marked_recovery}
 use Rattle.cnvm_session.specs.Commands.{Refused, Tells, Shows, Lasts, call_number, tx_parameters}
 use Rattle.cnvm_session.specs.Commands.{CallsWith, CallsTo, CallsNamed, Calls, fallen, Powers}
 use Rattle.cnvm_session.specs.Commands.{Commanded}
 use Rattle.cnvm_session.specs.Laws.{IsRefusal, IsBadPick, IsRefused, StaysOrMarks}
+use Rattle.cnvm_session.proofs.Cases.{by_standing}
 
 abbrev Kept : Mode → Device → Mode → Device → (k k1 : ℕ) → Type 0
 Kept m d n b k k1 = (b ≡ d) × StaysOrMarks m d n × (k1 ≡ k)
@@ -49,14 +55,6 @@ marked_of : (marked fit : Bool) (kind t : TrapKind)
 marked_of true true kind t e = absurd cc
 marked_of true false kind t e = absurd cc
 marked_of false fit kind t e = (refl, cc)
-
--- what line 2 of a pool says is never that the device is off
-never_off : (marked fit : Bool) (kind : TrapKind)
-    → (if marked then (if fit then stands.Ready else stands.Numbers) else stands.Unusable kind)
-    ≡ stands.Off → ⊥
-never_off true true kind e = absurd cc
-never_off true false kind e = absurd cc
-never_off false fit kind e = absurd cc
 
 marked : (w : Words) (t : TrapKind) → standing_of w ≡ stands.Unusable t → (w MARK ≢ pos 0)
     × (t ≡ trap_of_mark (w MARK))
@@ -79,58 +77,85 @@ by_answer called.NoMemory image tx args d b k k1 is h = is
 by_answer (called.Unusable t) image tx args d b k k1 is h = h
 by_answer called.Numbers image tx args d b k k1 is h = h
 
-module _ (r : CallAnswer) (image : Image) (tx : ℕ) (args : List ℤ) (d : Device) (n : Mode)
-    (b : Device) (k k1 : ℕ)
-    (h : IsTxCalled r image tx args d b k k1) (mode : n ≡ mode_of_call r)
-    (is : IsRefusal (answer_of_call r)) where
-  by_standing : (standing : Standing) → d.on ≡ true → standing_of (view d.cache) ≡ standing →
-      Kept Ready d n b k k1
-  by_standing stands.Off on e = absurd
-      (never_off (int_eq (view d.cache MARK) (pos 0)) (is_number (view d.cache DONE)
-      && is_number (view d.cache ATTEMPT)) (trap_of_mark (view d.cache MARK)) e)
-  by_standing stands.Ready on e = absurd (by_answer r image tx args d b k k1 is (h.ready on e))
-  by_standing (stands.Unusable t) on e =
-      let same = h.unusable t on e in
-      let mark = marked (view d.cache) t e in
-      (same.1, inr (refl, mark.0, mode ∙ ap mode_of_call same.0 ∙ ap Unusable mark.1), same.2)
-  by_standing stands.Numbers on e =
-      let same = h.numbers on e in
-      (same.1, inl (mode ∙ ap mode_of_call same.0), same.2)
+marked_by_answer : (r : AbortAnswer) (image : Image) (tx : ℕ) (args : List ℤ) (d b : Device)
+    (k k1 : ℕ) → IsRefusal (answer_of_marked_call r) → AbortCalled r image tx args d b k k1 → ⊥
+marked_by_answer (undone.Done v l) image tx args d b k k1 is h = is
+marked_by_answer (undone.Aborted t) image tx args d b k k1 is h = is
+marked_by_answer (undone.Off p) image tx args d b k k1 is h = is
+marked_by_answer undone.Failed image tx args d b k k1 is h = is
+marked_by_answer undone.NoMemory image tx args d b k k1 is h = is
+marked_by_answer (undone.Unusable t) image tx args d b k k1 is h = h
+marked_by_answer undone.Numbers image tx args d b k k1 is h = h
 
-  by_switch : (on : Bool) → d.on ≡ on → Kept Ready d n b k k1
-  by_switch true on = by_standing (standing_of (view d.cache)) on refl
-  by_switch false off = absurd (subst (λ (x : CallAnswer). IsRefusal (answer_of_call x))
-      ((h.off off).0) is)
+-- a call that found the mark, or the numbers at their end
+unusable_kept : (t : TrapKind) (d : Device) (n : Mode) (b : Device) (k k1 : ℕ)
+    → standing_of (view d.cache) ≡ stands.Unusable t → n ≡ Unusable t → b ≡ d → k1 ≡ k
+    → Kept Ready d n b k k1
+unusable_kept t d n b k k1 e mode same steps =
+    let mark = marked (view d.cache) t e in
+    (same, inr (refl, mark.0, mode ∙ ap Unusable mark.1), steps)
 
-runs_kept :
+unmarked_kept :
     (image : Image) (tx : ℕ) (args : List ℤ) (d : Device) (a : Answer) (n : Mode) (b : Device)
     (k k1 : ℕ) →
-    IsRefusal a → Runs image tx args d a n b k k1 → Kept Ready d n b k k1
-runs_kept image tx args d a n b k k1 is h =
-    by_switch h.tx_answer image tx args d n b k k1 h.called h.mode
-    (subst IsRefusal h.answer is) d.on refl
+    IsRefusal a → RunsUnmarked image tx args d a n b k k1 → Kept Ready d n b k k1
+unmarked_kept image tx args d a n b k k1 is h =
+    let r : CallAnswer = h.tx_answer in
+    let refused : IsRefusal (answer_of_call r) = subst IsRefusal h.answer is in
+    by_standing (Kept Ready d n b k k1) d
+    (λ on e. absurd (by_answer r image tx args d b k k1 refused (h.called.ready on e)))
+    (λ t on e. let same = h.called.unusable t on e in
+    unusable_kept t d n b k k1 e (h.mode ∙ ap mode_of_call same.0) same.1 same.2)
+    (λ on e. let same = h.called.numbers on e in
+    (same.1, inl (h.mode ∙ ap mode_of_call same.0), same.2))
+    (λ off. absurd (subst (λ (x : CallAnswer). IsRefusal (answer_of_call x))
+    ((h.called.off off).0) refused))
 
-module _ (image : Image) (args : List ℤ) (d : Device) (a : Answer) (n : Mode) (b : Device)
+marked_kept :
+    (image : Image) (tx : ℕ) (args : List ℤ) (d : Device) (a : Answer) (n : Mode) (b : Device)
+    (k k1 : ℕ) →
+    IsRefusal a → RunsMarked image tx args d a n b k k1 → Kept Ready d n b k k1
+marked_kept image tx args d a n b k k1 is h =
+    let r : AbortAnswer = h.tx_answer in
+    let refused : IsRefusal (answer_of_marked_call r) = subst IsRefusal h.answer is in
+    by_standing (Kept Ready d n b k k1) d
+    (λ on e. absurd (marked_by_answer r image tx args d b k k1 refused (h.called.ready on e)))
+    (λ t on e. let same = h.called.unusable t on e in
+    unusable_kept t d n b k k1 e (h.mode ∙ ap mode_of_marked_call same.0) same.1 same.2)
+    (λ on e. let same = h.called.numbers on e in
+    (same.1, inl (h.mode ∙ ap mode_of_marked_call same.0), same.2))
+    (λ off. absurd (subst (λ (x : AbortAnswer). IsRefusal (answer_of_marked_call x))
+    ((h.called.off off).0) refused))
+
+runs_kept :
+    (marks : Bool) (image : Image) (tx : ℕ) (args : List ℤ) (d : Device) (a : Answer) (n : Mode)
+    (b : Device) (k k1 : ℕ) →
+    IsRefusal a → RunsBy marks image tx args d a n b k k1 → Kept Ready d n b k k1
+runs_kept true image tx args d a n b k k1 is h = marked_kept image tx args d a n b k k1 is h
+runs_kept false image tx args d a n b k k1 is h = unmarked_kept image tx args d a n b k k1 is h
+
+module _ (program : Program) (args : List ℤ) (d : Device) (a : Answer) (n : Mode) (b : Device)
     (k k1 : ℕ) (is : IsRefusal a) where
-  by_count : (same : Bool) (tx : ℕ) → CallsWith same image tx args d a n b k k1 →
+  by_count : (same : Bool) (tx : ℕ) → CallsWith same program tx args d a n b k k1 →
       Kept Ready d n b k k1
-  by_count true tx h = runs_kept image tx args d a n b k k1 is h
+  by_count true tx h =
+      runs_kept (rolls_back_of program tx) program.image tx args d a n b k k1 is h
   by_count false tx h = refused_kept answer.RefusedArity Ready d a n b k k1 h
 
-  by_parameters : (count : Option ℕ) (tx : ℕ) → CallsTo count image tx args d a n b k k1 →
+  by_parameters : (count : Option ℕ) (tx : ℕ) → CallsTo count program tx args d a n b k k1 →
       Kept Ready d n b k k1
   by_parameters None tx h = refused_kept answer.RefusedUnknown Ready d a n b k k1 h
   by_parameters (Some count) tx h = by_count (count == length args) tx h
 
-  by_name : (number : Option ℕ) → CallsNamed number image args d a n b k k1 → Kept Ready d n b k k1
+  by_name : (number : Option ℕ) → CallsNamed number program args d a n b k k1 → Kept Ready d n b k k1
   by_name None h = refused_kept answer.RefusedUnknown Ready d a n b k k1 h
-  by_name (Some tx) h = by_parameters (tx_parameters image tx) tx h
+  by_name (Some tx) h = by_parameters (tx_parameters program.image tx) tx h
 
 calls_kept : (program : Program) (name : List ℕ) (args : List ℤ) (m : Mode) (d : Device)
     (a : Answer) (n : Mode) (b : Device) (k k1 : ℕ) → IsRefusal a
     → Calls program name args m d a n b k k1 → Kept m d n b k k1
 calls_kept program name args Ready d a n b k k1 is h =
-    by_name program.image args d a n b k k1 is (call_number program name) h
+    by_name program args d a n b k k1 is (call_number program name) h
 calls_kept program name args Down d a n b k k1 is h =
     refused_kept answer.RefusedDown Down d a n b k k1 h
 calls_kept program name args (Unusable kind) d a n b k k1 is h =
@@ -143,11 +168,13 @@ tells_ready shapes s d answer.NoMemory n is h = absurd is
 tells_ready shapes s d answer.Silent n is h = absurd h
 tells_ready shapes s d (answer.Done v l) n is h = absurd h
 tells_ready shapes s d (answer.Trap t) n is h = absurd h
+tells_ready shapes s d (answer.Aborted t) n is h = absurd h
 tells_ready shapes s d (answer.Stopped p) n is h = absurd h
 tells_ready shapes s d answer.DeviceFault n is h = absurd h
 tells_ready shapes s d answer.RecoveredNone n is h = absurd h
 tells_ready shapes s d (answer.RecoveredRedone v l) n is h = absurd h
 tells_ready shapes s d (answer.RecoveredTrap t) n is h = absurd h
+tells_ready shapes s d (answer.RecoveredAborted t) n is h = absurd h
 tells_ready shapes s d (answer.Last f v) n is h = absurd h
 tells_ready shapes s d answer.RefusedDown n is h = absurd h
 tells_ready shapes s d (answer.RefusedUnusable t) n is h = absurd h
@@ -184,17 +211,32 @@ no_pick (recovered.Off p) is = is
 no_pick recovered.Failed is = is
 no_pick recovered.NoMemory is = is
 
-powers_kept : (image : Image) (choice : Choice) (m : Mode) (d : Device) (a : Answer) (n : Mode)
+marked_no_pick : (r : AbortAnswer) → IsBadPick (answer_of_marked_recovery r) → ⊥
+marked_no_pick (undone.Done v l) is = is
+marked_no_pick (undone.Aborted t) is = is
+marked_no_pick (undone.Unusable t) is = is
+marked_no_pick undone.Numbers is = is
+marked_no_pick (undone.Off p) is = is
+marked_no_pick undone.Failed is = is
+marked_no_pick undone.NoMemory is = is
+
+recovers_no_pick : (marks : Bool) (image : Image) (d : Device) (a : Answer) (n : Mode) (b : Device)
+    (k k1 : ℕ) → IsBadPick a → RecoversBy marks image d a n b k k1 → ⊥
+recovers_no_pick true image d a n b k k1 is h =
+    marked_no_pick h.tx_answer (subst IsBadPick h.answer is)
+recovers_no_pick false image d a n b k k1 is h = no_pick h.tx_answer (subst IsBadPick h.answer is)
+
+powers_kept : (program : Program) (choice : Choice) (m : Mode) (d : Device) (a : Answer) (n : Mode)
     (b : Device) (k k1 : ℕ) (first pick : Option ℕ) → fallen 0 choice.picks ≡ first
-    → bad (memory_of d) choice.picks ≡ pick → IsBadPick a → Powers image choice m d a n b k k1 →
+    → bad (memory_of d) choice.picks ≡ pick → IsBadPick a → Powers program choice m d a n b k k1 →
     Kept m d n b k k1
-powers_kept image choice m d a n b k k1 (Some line) pick falls e is h =
+powers_kept program choice m d a n b k k1 (Some line) pick falls e is h =
     refused_kept (answer.RefusedPick line) m d a n b k k1 (h.0 line falls)
-powers_kept image choice m d a n b k k1 None (Some line) rise e is h =
+powers_kept program choice m d a n b k k1 None (Some line) rise e is h =
     refused_kept (answer.RefusedPick line) m d a n b k k1 (h.1 line rise e)
-powers_kept image choice m d a n b k k1 None None rise e is h =
-    let recovers = h.2 rise e in absurd
-    (no_pick recovers.tx_answer (subst IsBadPick recovers.answer is))
+powers_kept program choice m d a n b k k1 None None rise e is h =
+    absurd (recovers_no_pick (owes_marked program (powered choice d)) program.image
+    (powered choice d) a n b k k1 is (h.2 rise e))
 
 pub command_kept :
     (program : Program) (c : Command) (m n : Mode) (d b : Device) (a : Answer) (k k1 : ℕ) →
@@ -204,7 +246,7 @@ command_kept program (command.Call name args) m n d b a k k1 is h =
 command_kept program (command.Stop left) m n d b a k k1 is h = absurd (subst IsRefusal h.0 is)
 command_kept program (command.Fault at) m n d b a k k1 is h = absurd (subst IsRefusal h.0 is)
 command_kept program (command.Power choice) m n d b a k k1 is h =
-    powers_kept program.image choice m d a n b k k1 (fallen 0 choice.picks)
+    powers_kept program choice m d a n b k k1 (fallen 0 choice.picks)
     (bad (memory_of d) choice.picks) refl refl is h
 command_kept program command.Show m n d b a k k1 is h =
     shows_kept (shapes_of program.typed) program.image.parts.sizes m d a n b k k1 is h

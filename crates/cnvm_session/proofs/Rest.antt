@@ -1,5 +1,6 @@
 -- The recovery of a pool at rest stores only the attempt's word.
-use Rattle.std.proofs.Common.{◌≡◌, ◌≢◌, inl, inr, ℕ, zero, suc, if◌then◌else◌, nat_lt, List, []}
+use Rattle.std.proofs.Common.{◌≡◌, ◌≢◌, inl, inr, Bool, ◌&&◌, ℕ, zero, suc}
+use Rattle.std.proofs.Common.{if◌then◌else◌, nat_lt, List, []}
 use Rattle.std.proofs.Common.{◌∷◌, ℤ, pos, refl, sym, ap, ◌∙◌, subst, arith}
 use Rattle.cache_model.specs.Event.{CacheEvent, Store, Flush, Fence}
 use Rattle.cache_model.specs.Cache.{Words, Cache, view}
@@ -21,16 +22,18 @@ use Rattle.pool_layout.specs.Places.{at, pool_of}
 use Rattle.pool_layout.specs.Sizes.{heap_words}
 use Rattle.clobber_log.specs.Logs.{count_in}
 use Rattle.recovery.specs.Due.{due_clean}
-use Rattle.recovery.specs.Recovered.{Cleaned}
+use Rattle.recovery.specs.Recovered.{Cleaned, tx_in}
 use Rattle.recovery.specs.declared.answer.RecoverAnswer.{RecoverAnswer}
 use Rattle.recovery.specs.declared.answer.RecoverAnswer.TheVariants as recovered
-use Rattle.pm_machine.specs.declared.image.Image.{Image}
 use Rattle.cnvm_session.specs.declared.mode.Mode.{Mode}
 use Rattle.cnvm_session.specs.declared.mode.Mode.TheVariants as mode
 use Rattle.cnvm_session.specs.declared.answer.Answer.{Answer}
 use Rattle.cnvm_session.specs.declared.answer.Answer.TheVariants as answer
 use Rattle.cnvm_session.specs.Shown.{heap_of}
-use Rattle.cnvm_session.specs.Outcomes.{Recovers, answer_of_recovery, mode_of_recovery}
+use Rattle.cnvm_session.specs.declared.program.Program.{Program}
+use Rattle.cnvm_session.specs.Marks.{rolls_back_of}
+use Rattle.cnvm_session.specs.Outcomes.{RecoversUnmarked, RecoversBy, Recovers}
+use Rattle.cnvm_session.specs.Outcomes.{answer_of_recovery, mode_of_recovery}
 use Rattle.cnvm_session.specs.Laws.{TellTheSame, IsQuiet, IsCacheAtRest, OwesNothing}
 
 -- each store of the list is to the attempt's word
@@ -138,17 +141,22 @@ cleaned_none (recovered.Trap t) d b h = absurd h
 cleaned_none (recovered.Unusable t) d b h = absurd h
 cleaned_none recovered.Numbers d b h = absurd h
 
-module _ (image : Image) (choice : Choice) (n : Mode) (d b : Device) (a : Answer) (k k1 : ℕ)
-    (rests : IsCacheAtRest image.parts.sizes d.cache)
-    (recovers : Recovers image (powered choice d) a n b k k1) where
+module _ (program : Program) (choice : Choice) (n : Mode) (d b : Device) (a : Answer) (k k1 : ℕ)
+    (rests : IsCacheAtRest program.image.parts.sizes d.cache)
+    (does : Recovers program (powered choice d) a n b k k1) where
   abbrev s : Sizes
-  s = image.parts.sizes
+  s = program.image.parts.sizes
 
   abbrev left : Device
   left = powered choice d
 
   quiet : IsQuiet s (view left.cache)
   quiet = rests.quiet (view left.cache) (left_image d.cache choice.rest choice.picks)
+
+  -- nothing is sealed, so no marked transaction is owed
+  recovers : RecoversUnmarked program.image left a n b k k1
+  recovers = subst (λ (marks : Bool). RecoversBy marks program.image left a n b k k1)
+      (ap (λ (sealed : Bool). sealed && rolls_back_of program (tx_in left)) quiet.unsealed) does
 
   cleaned : Cleaned recovers.tx_answer left (due_clean s (count_in s (view left.cache)) left.cache)
       b

@@ -6,10 +6,12 @@ use Rattle.pmem.specs.declared.answer.Phase.{Phase}
 use Rattle.pmem.specs.declared.answer.Phase.TheVariants.{Unsealed, Sealing, Sealed}
 use Rattle.pool_map.specs.Trap.{trap_name}
 use Rattle.cnvm_session.specs.declared.answer.Answer.{Answer}
-use Rattle.cnvm_session.specs.declared.answer.Answer.TheVariants.{Silent, Done, Trap, Stopped}
-use Rattle.cnvm_session.specs.declared.answer.Answer.TheVariants.{DeviceFault, RecoveredNone}
+use Rattle.cnvm_session.specs.declared.answer.Answer.TheVariants.{Silent, Done, Trap, Aborted}
+use Rattle.cnvm_session.specs.declared.answer.Answer.TheVariants.{Stopped, DeviceFault}
+use Rattle.cnvm_session.specs.declared.answer.Answer.TheVariants.{RecoveredNone}
 use Rattle.cnvm_session.specs.declared.answer.Answer.TheVariants.{RecoveredRedone, RecoveredTrap}
-use Rattle.cnvm_session.specs.declared.answer.Answer.TheVariants.{Shown, Last, NoMemory}
+use Rattle.cnvm_session.specs.declared.answer.Answer.TheVariants.{RecoveredAborted, Shown, Last}
+use Rattle.cnvm_session.specs.declared.answer.Answer.TheVariants.{NoMemory}
 use Rattle.cnvm_session.specs.declared.answer.Answer.TheVariants.{RefusedDown, RefusedUnusable}
 use Rattle.cnvm_session.specs.declared.answer.Answer.TheVariants.{RefusedUnknown, RefusedArity}
 use Rattle.cnvm_session.specs.declared.answer.Answer.TheVariants.{RefusedNumbers, RefusedPick}
@@ -24,6 +26,7 @@ answer_text Silent = []
 answer_text (Done value logged) =
     codes "= " ++ (signed_decimal value ++ (codes " log " ++ (decimal logged ++ codes "\n")))
 answer_text (Trap kind) = codes "trap " ++ (trap_name kind ++ codes "\n")
+answer_text (Aborted kind) = codes "aborted " ++ (trap_name kind ++ codes "\n")
 answer_text (Stopped phase) = codes "stopped " ++ (phase_name phase ++ codes "\n")
 answer_text DeviceFault = codes "device fault\n"
 answer_text RecoveredNone = codes "recovered none\n"
@@ -31,6 +34,8 @@ answer_text (RecoveredRedone value logged) =
     codes "recovered redone " ++ (signed_decimal value
     ++ (codes " log " ++ (decimal logged ++ codes "\n")))
 answer_text (RecoveredTrap kind) = codes "recovered trap " ++ (trap_name kind ++ codes "\n")
+answer_text (RecoveredAborted kind) =
+    codes "recovered aborted " ++ (trap_name kind ++ codes "\n")
 answer_text (Shown lines) = lines
 answer_text (Last done value) =
     codes "last " ++ (signed_decimal done ++ (codes " " ++ (signed_decimal value ++ codes "\n")))

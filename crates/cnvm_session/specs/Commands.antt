@@ -68,27 +68,27 @@ tx_parameters image zero = None
 tx_parameters image (suc i) = option_map (λ e. e.parameters) (slice_get image.parts.txs i)
 
 -- a call, by whether it has as many arguments as the transaction has parameters
-abbrev pub CallsWith : Bool → Image → ℕ → List ℤ → Device → Answer → Mode → Device
+abbrev pub CallsWith : Bool → Program → ℕ → List ℤ → Device → Answer → Mode → Device
     → (k k1 : ℕ) → Type 0
-CallsWith true image tx args d a n b k k1 = Runs image tx args d a n b k k1
-CallsWith false image tx args d a n b k k1 = Refused RefusedArity Ready d a n b k k1
+CallsWith true program tx args d a n b k k1 = Runs program tx args d a n b k k1
+CallsWith false program tx args d a n b k k1 = Refused RefusedArity Ready d a n b k k1
 
-abbrev pub CallsTo : Option ℕ → Image → ℕ → List ℤ → Device → Answer → Mode → Device
+abbrev pub CallsTo : Option ℕ → Program → ℕ → List ℤ → Device → Answer → Mode → Device
     → (k k1 : ℕ) → Type 0
-CallsTo None image tx args d a n b k k1 = Refused RefusedUnknown Ready d a n b k k1
-CallsTo (Some count) image tx args d a n b k k1 =
-    CallsWith (count == length args) image tx args d a n b k k1
+CallsTo None program tx args d a n b k k1 = Refused RefusedUnknown Ready d a n b k k1
+CallsTo (Some count) program tx args d a n b k k1 =
+    CallsWith (count == length args) program tx args d a n b k k1
 
-abbrev pub CallsNamed : Option ℕ → Image → List ℤ → Device → Answer → Mode → Device
+abbrev pub CallsNamed : Option ℕ → Program → List ℤ → Device → Answer → Mode → Device
     → (k k1 : ℕ) → Type 0
-CallsNamed None image args d a n b k k1 = Refused RefusedUnknown Ready d a n b k k1
-CallsNamed (Some tx) image args d a n b k k1 =
-    CallsTo (tx_parameters image tx) image tx args d a n b k k1
+CallsNamed None program args d a n b k k1 = Refused RefusedUnknown Ready d a n b k k1
+CallsNamed (Some tx) program args d a n b k k1 =
+    CallsTo (tx_parameters program.image tx) program tx args d a n b k k1
 
 abbrev pub Calls : Program → List ℕ → List ℤ → Mode → Device → Answer → Mode → Device
     → (k k1 : ℕ) → Type 0
 Calls program name args Ready d a n b k k1 =
-    CallsNamed (call_number program name) program.image args d a n b k k1
+    CallsNamed (call_number program name) program args d a n b k k1
 Calls program name args Down d a n b k k1 = Refused RefusedDown Down d a n b k k1
 Calls program name args (Unusable kind) d a n b k k1 =
     Refused (RefusedUnusable kind) (Unusable kind) d a n b k k1
@@ -100,13 +100,13 @@ fallen n (p ∷ ps) = if nat_lt p.line n then Some p.line else fallen (p.line + 
 
 -- A choice with a pick that doesn't rise, or with a bad pick, changes nothing. With any other
 -- choice the power is cut, and what is left of the lines is recovered.
-abbrev pub Powers : Image → Choice → Mode → Device → Answer → Mode → Device → (k k1 : ℕ) → Type 0
-Powers image choice m d a n b k k1 =
+abbrev pub Powers : Program → Choice → Mode → Device → Answer → Mode → Device → (k k1 : ℕ) → Type 0
+Powers program choice m d a n b k k1 =
     ((line : ℕ) → fallen 0 choice.picks ≡ Some line → Refused (RefusedPick line) m d a n b k k1)
     × ((line : ℕ) → fallen 0 choice.picks ≡ None → bad (memory_of d) choice.picks ≡ Some line →
     Refused (RefusedPick line) m d a n b k k1)
     × (fallen 0 choice.picks ≡ None → bad (memory_of d) choice.picks ≡ None
-    → Recovers image (powered choice d) a n b k k1)
+    → Recovers program (powered choice d) a n b k k1)
 
 abbrev pub Commanded : Program → Command → Mode → Device → Answer → Mode → Device
     → (k k1 : ℕ) → Type 0
@@ -114,7 +114,7 @@ Commanded program (command.Call name args) m d a n b k k1 = Calls program name a
 Commanded program (command.Stop left) m d a n b k k1 =
     Refused Silent m (with_left left d) a n b k k1
 Commanded program (command.Fault at) m d a n b k k1 = Refused Silent m (with_armed at d) a n b k k1
-Commanded program (command.Power choice) m d a n b k k1 = Powers program.image choice m d a n b k k1
+Commanded program (command.Power choice) m d a n b k k1 = Powers program choice m d a n b k k1
 Commanded program command.Show m d a n b k k1 =
     Shows (shapes_of program.typed) program.image.parts.sizes m d a n b k k1
 Commanded program command.Last m d a n b k k1 = Lasts m d a n b k k1

@@ -27,6 +27,7 @@ use Rattle.cnvm_session.specs.declared.answer.Answer.TheVariants.{RefusedNumbers
 use Rattle.cnvm_session.specs.declared.program.Program.{Program}
 use Rattle.cnvm_session.specs.Shown.{heap_of}
 use Rattle.cnvm_session.specs.Commands.{fallen, Commanded}
+use Rattle.cnvm_session.specs.Steps.{most_of_command, most_of_program}
 
 -- `show` and `last` answer the same for both: the heap, the number of finished transactions and the
 -- value of the last.
@@ -114,9 +115,9 @@ RefusedLaw =
     IsRefused c a → Commanded program c m d a n b k k1 →
     (b ≡ d) × StaysOrMarks m d n × (k1 ≡ k)
 
--- No command takes more steps than the pool has records plus the image's bound on a run.
+-- No command takes more steps than its bound, nor than that of the program.
 abbrev pub MostLaw : Type 0
 MostLaw =
     (program : Program) (c : Command) (m n : Mode) (d b : Device) (a : Answer) (k k1 : ℕ) →
     Commanded program c m d a n b k k1 →
-    k1 ≤ k + program.image.parts.sizes.records + program.image.parts.most
+    (k1 ≤ k + most_of_command program c d) × (k1 ≤ k + most_of_program program)

@@ -2,6 +2,8 @@ pub mod AnswerText
 pub mod Opening
 pub mod Unmade
 pub mod Shown
+pub mod Marks
 pub mod Outcomes
 pub mod Commands
+pub mod Steps
 pub mod Laws

@@ -13,6 +13,9 @@ pub enum Answer {
     Done { value: i64, logged: u64 },
     /// The transaction trapped.
     Trap(TrapKind),
+    /// The transaction is marked `abort` and trapped: the pool's heap and last value are those from
+    /// before the call, and the session stays ready.
+    Aborted(TrapKind),
     /// The power went off, with the call's seal in this phase.
     Stopped(Phase),
     /// The device failed.
@@ -23,6 +26,9 @@ pub enum Answer {
     RecoveredRedone { value: i64, logged: u64 },
     /// The owed transaction was run again, and trapped.
     RecoveredTrap(TrapKind),
+    /// The owed transaction is marked `abort`, was run again and trapped: the pool's heap and last
+    /// value are those from before it.
+    RecoveredAborted(TrapKind),
     /// The lines of the pool.
     Shown(Text),
     /// How many transactions are done, and the value of the last.

@@ -1,5 +1,6 @@
 //! The commands of a script, run on the pool of a program, and their answers. It rests on `tx_run`
-//! and `recovery`, and on `c_types` for the program's names and shapes. Its one contract for the
+//! and `recovery`, on `abort_mode` for transactions that roll back, and on `c_types` for the
+//! program's names, shapes and marks. Its one contract for the
 //! crates above: each command does to the session and the device what `specs/Commands.antt` says,
 //! and `answer_text` writes exactly the line of each answer.
 #![tactic(auto)]
@@ -7,6 +8,7 @@
 mod answer;
 mod creating;
 mod law;
+mod marks;
 mod mode;
 mod opening;
 mod outcome;
@@ -18,6 +20,7 @@ mod text;
 pub use answer::Answer;
 pub use creating::StartFault;
 pub use law::laws;
+pub use marks::rolls_back;
 pub use mode::Mode;
 pub use outcome::answer_of_recovery;
 pub use program::Program;

@@ -3,9 +3,12 @@
 ghost use Rattle.std.specs.Prelude.{◌≡◌};
 ghost use Rattle.cnvm_session.specs.Outcomes.{answer_of_call, mode_of_call, answer_of_recovery};
 ghost use Rattle.cnvm_session.specs.Outcomes.{mode_of_recovery};
+ghost use Rattle.cnvm_session.specs.Outcomes.{answer_of_marked_call, mode_of_marked_call};
+ghost use Rattle.cnvm_session.specs.Outcomes.{answer_of_marked_recovery, mode_of_marked_recovery};
 
 use crate::answer::Answer;
 use crate::mode::Mode;
+use abort_mode::AbortAnswer;
 use recovery::RecoverAnswer;
 use tx_run::CallAnswer;
 
@@ -66,5 +69,60 @@ pub fn mode_of_recovery(tx_answer: RecoverAnswer) -> Mode
         | RecoverAnswer::Off(_)
         | RecoverAnswer::Failed
         | RecoverAnswer::NoMemory => Mode::Down,
+    }
+}
+
+/// What a command answers after a call of a marked transaction.
+#[tactic(auto, using(std::proofs::lemmas::Int::wraps))]
+pub fn answer_of_marked_call(tx_answer: AbortAnswer) -> Answer
+    ensures { result ≡ answer_of_marked_call tx_answer }
+{
+    match tx_answer {
+        AbortAnswer::Done { value, logged } => Answer::Done { value, logged },
+        AbortAnswer::Aborted(kind) => Answer::Aborted(kind),
+        AbortAnswer::Off(phase) => Answer::Stopped(phase),
+        AbortAnswer::Failed => Answer::DeviceFault,
+        AbortAnswer::Unusable(kind) => Answer::RefusedUnusable(kind),
+        AbortAnswer::Numbers => Answer::RefusedNumbers,
+        AbortAnswer::NoMemory => Answer::NoMemory,
+    }
+}
+
+/// The mode after a call of a marked transaction, of a session that was ready.
+pub fn mode_of_marked_call(tx_answer: AbortAnswer) -> Mode
+    ensures { result ≡ mode_of_marked_call tx_answer }
+{
+    match tx_answer {
+        AbortAnswer::Done { .. } | AbortAnswer::Aborted(_) | AbortAnswer::Numbers => Mode::Ready,
+        AbortAnswer::Unusable(kind) => Mode::Unusable(kind),
+        AbortAnswer::Off(_) | AbortAnswer::Failed | AbortAnswer::NoMemory => Mode::Down,
+    }
+}
+
+/// What a command answers after a recovery of a marked transaction.
+#[tactic(auto, using(std::proofs::lemmas::Int::wraps))]
+pub fn answer_of_marked_recovery(tx_answer: AbortAnswer) -> Answer
+    ensures { result ≡ answer_of_marked_recovery tx_answer }
+{
+    match tx_answer {
+        AbortAnswer::Done { value, logged } => Answer::RecoveredRedone { value, logged },
+        AbortAnswer::Aborted(kind) => Answer::RecoveredAborted(kind),
+        AbortAnswer::Off(phase) => Answer::Stopped(phase),
+        AbortAnswer::Failed => Answer::DeviceFault,
+        AbortAnswer::Unusable(kind) => Answer::RefusedUnusable(kind),
+        AbortAnswer::Numbers => Answer::RefusedNumbers,
+        AbortAnswer::NoMemory => Answer::NoMemory,
+    }
+}
+
+/// The mode after a recovery of a marked transaction.
+pub fn mode_of_marked_recovery(tx_answer: AbortAnswer) -> Mode
+    ensures { result ≡ mode_of_marked_recovery tx_answer }
+{
+    match tx_answer {
+        AbortAnswer::Done { .. } | AbortAnswer::Aborted(_) => Mode::Ready,
+        AbortAnswer::Unusable(kind) => Mode::Unusable(kind),
+        AbortAnswer::Numbers | AbortAnswer::Off(_) | AbortAnswer::Failed | AbortAnswer::NoMemory =>
+            Mode::Down,
     }
 }

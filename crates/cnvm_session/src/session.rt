@@ -1,28 +1,37 @@
 //! A session: a pool of a program, and what each command does to it.
 
-ghost use Rattle.std.specs.Prelude.{ℕ, ◌≡◌, ◌+◌, ◌≤◌, ◌<◌, true, length, IfOk, IfErr, IfNone};
-ghost use Rattle.std.specs.Prelude.{IsSome, OnOk, OnErr, IsErrOf};
+ghost use Rattle.std.specs.Prelude.{ℕ, ◌≡◌, ◌+◌, ◌≤◌, ◌<◌, true, false, length, IfOk, IfErr};
+ghost use Rattle.std.specs.Prelude.{IfNone, IsSome, OnOk, OnErr, IsErrOf};
 ghost use Rattle.cache_model.specs.Cache.{view};
 ghost use Rattle.cache_model.specs.Collapse.{Rises};
-ghost use Rattle.pmem.specs.Device.{FaultsRose, blanked};
+ghost use Rattle.pmem.specs.Device.{FaultsRose, blanked, powered};
 ghost use Rattle.pmem.specs.Played.{PlaysAll};
 ghost use Rattle.pool_layout.specs.declared.places.TheConstants.{FUNCTION};
 ghost use Rattle.pool_layout.specs.Sizes.{pool_lines};
+ghost use Rattle.args_log.specs.Pending.{is_sealed};
 ghost use Rattle.args_log.specs.Created.{creation_events};
 ghost use Rattle.cnvm_session.specs.Opening.{opening_events};
 ghost use Rattle.cnvm_session.specs.Unmade.{IsUnmade};
 ghost use Rattle.c_types.specs.Shapes.{shapes_of};
-ghost use Rattle.cnvm_session.specs.Outcomes.{Runs, Recovers, Opens};
+ghost use Rattle.cnvm_session.specs.Marks.{rolls_back_of, owes_marked};
+ghost use Rattle.cnvm_session.specs.Outcomes.{Runs, RunsMarked, RunsUnmarked};
+ghost use Rattle.cnvm_session.specs.Outcomes.{Recovers, RecoversMarked, RecoversUnmarked, Opens};
+ghost use Rattle.cnvm_session.specs.Steps.{bounded_steps, most_of_command, most_of_program};
 ghost use Rattle.cnvm_session.specs.Commands.{Lasts, Shows, tx_parameters, CallsTo, Calls, fallen};
 ghost use Rattle.cnvm_session.specs.Commands.{Powers, Commanded};
 
 use crate::answer::Answer;
 use crate::creating::{StartFault, create_pool};
+use crate::marks::{owes_marked, rolls_back};
 use crate::mode::Mode;
 use crate::opening::open_pool;
-use crate::outcome::{answer_of_call, answer_of_recovery, mode_of_call, mode_of_recovery};
+use crate::outcome::{
+    answer_of_call, answer_of_marked_call, answer_of_marked_recovery, answer_of_recovery,
+    mode_of_call, mode_of_marked_call, mode_of_marked_recovery, mode_of_recovery,
+};
 use crate::program::Program;
 use crate::showing::pool_text;
+use abort_mode::{call_abort, redo_abort};
 use cache_model::{Choice, Pick};
 use cnvm_script::Command;
 use nvm_base::Steps;
@@ -82,10 +91,9 @@ pub fn start_from<P: Pmem, L: Ledger>(
     dev: &mut P,
     steps: &mut Steps<L>,
 ) -> Result<(Session, Answer), StartFault>
-    ensures opens { IfOk result (λ r. Opens program.now.image words.now (P.device dev.old) r.1 r.0
+    ensures opens { IfOk result (λ r. Opens program.now words.now (P.device dev.old) r.1 r.0
         (P.device dev.new) steps.old steps.new) }
-    ensures most { OnOk result (steps.new ≤ steps.old + program.now.image.parts.sizes.records
-        + program.now.image.parts.most) }
+    ensures most { OnOk result (steps.new ≤ steps.old + most_of_program program.now) }
     ensures lines { OnOk result ((P.device dev.new).lines
         ≡ pool_lines program.now.image.parts.sizes) }
     ensures refused { IfErr result (λ why. IsUnmade why (pool_lines program.now.image.parts.sizes)
@@ -99,7 +107,7 @@ pub fn start_from<P: Pmem, L: Ledger>(
         Err(fault) => Err(fault),
         Ok(()) => {
             let mut session = Session { mode: Mode::Down };
-            let answer = session.recover(alloc, &program.image, dev, steps);
+            let answer = session.recover(alloc, program, dev, steps);
             Ok((session, answer))
         }
     }
@@ -136,7 +144,8 @@ pub fn first_fallen(picks: &[Pick]) -> Option<u64>
 impl Session {
     /// Does a command of the script, and gives its answer. A choice whose picks don't rise is
     /// refused with the first pick that doesn't; no script gives one. A transaction that the image
-    /// doesn't have is unknown.
+    /// doesn't have is unknown. One that is marked `abort` and traps is undone, and the session
+    /// stays ready.
     pub fn command<P: Pmem, L: Ledger>(
         &mut self,
         alloc: Global,
@@ -151,8 +160,8 @@ impl Session {
         ensures count { (P.device dev.old).faults ≤ (P.device dev.new).faults }
         ensures fault { result ≡ Answer.DeviceFault
             → FaultsRose (P.device dev.old).faults (P.device dev.new).faults }
-        ensures most { steps.new ≤ steps.old + program.now.image.parts.sizes.records
-            + program.now.image.parts.most }
+        ensures most { steps.new ≤
+            steps.old + most_of_command program.now command.now (P.device dev.old) }
         ensures lines { (P.device dev.new).lines ≡ (P.device dev.old).lines }
     {
         match command {
@@ -189,7 +198,7 @@ impl Session {
         ensures count { (P.device dev.old).faults ≤ (P.device dev.new).faults }
         ensures fault { result ≡ Answer.DeviceFault
             → FaultsRose (P.device dev.old).faults (P.device dev.new).faults }
-        ensures most { steps.new ≤ steps.old + program.now.image.parts.most }
+        ensures most { steps.new ≤ steps.old + bounded_steps false program.now.image }
         ensures lines { (P.device dev.new).lines ≡ (P.device dev.old).lines }
     {
         match self.mode {
@@ -197,7 +206,7 @@ impl Session {
             Mode::Unusable(kind) => Answer::RefusedUnusable(kind),
             Mode::Ready => match program.typed.tx_number(name) {
                 None => Answer::RefusedUnknown,
-                Some(tx) => self.call_to(alloc, &program.image, tx, args, dev, steps),
+                Some(tx) => self.call_to(alloc, program, tx, args, dev, steps),
             },
         }
     }
@@ -206,33 +215,62 @@ impl Session {
     fn call_to<P: PmemWork, L: Ledger>(
         &mut self,
         alloc: Global,
-        image: &Image,
+        program: &Program,
         tx: u64,
         args: &[i64],
         dev: &mut P,
         steps: &mut Steps<L>,
     ) -> Answer
         requires ready { self.old ≡ Mode.Ready }
-        requires lines { (P.device dev.old).lines ≡ pool_lines image.now.parts.sizes }
-        ensures calls { CallsTo (tx_parameters image.now tx) image.now tx args.now
+        requires lines { (P.device dev.old).lines ≡ pool_lines program.now.image.parts.sizes }
+        ensures calls { CallsTo (tx_parameters program.now.image tx) program.now tx args.now
             (P.device dev.old) result self.new (P.device dev.new) steps.old steps.new }
         ensures count { (P.device dev.old).faults ≤ (P.device dev.new).faults }
         ensures fault { result ≡ Answer.DeviceFault
             → FaultsRose (P.device dev.old).faults (P.device dev.new).faults }
-        ensures most { steps.new ≤ steps.old + image.now.parts.most }
+        ensures most { steps.new ≤ steps.old + bounded_steps false program.now.image }
         ensures lines { (P.device dev.new).lines ≡ (P.device dev.old).lines }
     {
-        let Some(count) = parameters(image, tx) else {
+        let Some(count) = parameters(&program.image, tx) else {
             return Answer::RefusedUnknown;
         };
         if count != args.len() as u64 {
             return Answer::RefusedArity;
         }
-        self.run(alloc, image, tx, args, dev, steps)
+        self.run(alloc, program, tx, args, dev, steps)
     }
 
     /// Runs a call that is accepted.
     fn run<P: PmemWork, L: Ledger>(
+        &mut self,
+        alloc: Global,
+        program: &Program,
+        tx: u64,
+        args: &[i64],
+        dev: &mut P,
+        steps: &mut Steps<L>,
+    ) -> Answer
+        requires ready { self.old ≡ Mode.Ready }
+        requires first { 1 ≤ tx }
+        requires last { tx ≤ length program.now.image.parts.txs }
+        requires lines { (P.device dev.old).lines ≡ pool_lines program.now.image.parts.sizes }
+        ensures runs { Runs program.now tx args.now (P.device dev.old) result self.new
+            (P.device dev.new) steps.old steps.new }
+        ensures count { (P.device dev.old).faults ≤ (P.device dev.new).faults }
+        ensures fault { result ≡ Answer.DeviceFault
+            → FaultsRose (P.device dev.old).faults (P.device dev.new).faults }
+        ensures most { steps.new ≤ steps.old + bounded_steps false program.now.image }
+        ensures lines { (P.device dev.new).lines ≡ (P.device dev.old).lines }
+    {
+        if rolls_back(program, tx) {
+            self.run_marked(alloc, &program.image, tx, args, dev, steps)
+        } else {
+            self.run_unmarked(alloc, &program.image, tx, args, dev, steps)
+        }
+    }
+
+    /// Runs a call of an unmarked transaction.
+    fn run_unmarked<P: PmemWork, L: Ledger>(
         &mut self,
         alloc: Global,
         image: &Image,
@@ -241,11 +279,10 @@ impl Session {
         dev: &mut P,
         steps: &mut Steps<L>,
     ) -> Answer
-        requires ready { self.old ≡ Mode.Ready }
         requires first { 1 ≤ tx }
         requires last { tx ≤ length image.now.parts.txs }
         requires lines { (P.device dev.old).lines ≡ pool_lines image.now.parts.sizes }
-        ensures runs { Runs image.now tx args.now (P.device dev.old) result self.new
+        ensures runs { RunsUnmarked image.now tx args.now (P.device dev.old) result self.new
             (P.device dev.new) steps.old steps.new }
         ensures count { (P.device dev.old).faults ≤ (P.device dev.new).faults }
         ensures fault { result ≡ Answer.DeviceFault
@@ -258,6 +295,32 @@ impl Session {
         answer_of_call(tx_answer)
     }
 
+    /// Runs a call of a marked transaction.
+    fn run_marked<P: PmemWork, L: Ledger>(
+        &mut self,
+        alloc: Global,
+        image: &Image,
+        tx: u64,
+        args: &[i64],
+        dev: &mut P,
+        steps: &mut Steps<L>,
+    ) -> Answer
+        requires first { 1 ≤ tx }
+        requires last { tx ≤ length image.now.parts.txs }
+        requires lines { (P.device dev.old).lines ≡ pool_lines image.now.parts.sizes }
+        ensures runs { RunsMarked image.now tx args.now (P.device dev.old) result self.new
+            (P.device dev.new) steps.old steps.new }
+        ensures count { (P.device dev.old).faults ≤ (P.device dev.new).faults }
+        ensures fault { result ≡ Answer.DeviceFault
+            → FaultsRose (P.device dev.old).faults (P.device dev.new).faults }
+        ensures most { steps.new ≤ steps.old + bounded_steps false image.now }
+        ensures lines { (P.device dev.new).lines ≡ (P.device dev.old).lines }
+    {
+        let tx_answer = call_abort(alloc, image, tx, args, dev, steps);
+        self.mode = mode_of_marked_call(tx_answer);
+        answer_of_marked_call(tx_answer)
+    }
+
     /// Cuts the power, and recovers what the cut leaves.
     fn power<P: Pmem, L: Ledger>(
         &mut self,
@@ -268,13 +331,13 @@ impl Session {
         steps: &mut Steps<L>,
     ) -> Answer
         requires lines { (P.device dev.old).lines ≡ pool_lines program.now.image.parts.sizes }
-        ensures powers { Powers program.now.image choice.now self.old (P.device dev.old) result
+        ensures powers { Powers program.now choice.now self.old (P.device dev.old) result
             self.new (P.device dev.new) steps.old steps.new }
         ensures count { (P.device dev.old).faults ≤ (P.device dev.new).faults }
         ensures fault { result ≡ Answer.DeviceFault
             → FaultsRose (P.device dev.old).faults (P.device dev.new).faults }
-        ensures most { steps.new ≤ steps.old + program.now.image.parts.sizes.records
-            + program.now.image.parts.most }
+        ensures most { steps.new ≤ steps.old + bounded_steps
+            (owes_marked program.now (powered choice.now (P.device dev.old))) program.now.image }
         ensures lines { (P.device dev.new).lines ≡ (P.device dev.old).lines }
     {
         if let Some(line) = first_fallen(choice.picks.as_slice()) {
@@ -282,7 +345,7 @@ impl Session {
         }
         match dev.power(choice) {
             Err(pick) => Answer::RefusedPick(pick.line),
-            Ok(()) => self.recover(alloc, &program.image, dev, steps),
+            Ok(()) => self.recover(alloc, program, dev, steps),
         }
     }
 
@@ -290,23 +353,71 @@ impl Session {
     fn recover<P: PmemWork, L: Ledger>(
         &mut self,
         alloc: Global,
+        program: &Program,
+        dev: &mut P,
+        steps: &mut Steps<L>,
+    ) -> Answer
+        requires lines { (P.device dev.old).lines ≡ pool_lines program.now.image.parts.sizes }
+        requires on { (P.device dev.old).on ≡ true }
+        ensures recovers { Recovers program.now (P.device dev.old) result self.new
+            (P.device dev.new) steps.old steps.new }
+        ensures count { (P.device dev.old).faults ≤ (P.device dev.new).faults }
+        ensures fault { result ≡ Answer.DeviceFault
+            → FaultsRose (P.device dev.old).faults (P.device dev.new).faults }
+        ensures most { steps.new ≤ steps.old + bounded_steps
+            (owes_marked program.now (P.device dev.old)) program.now.image }
+        ensures lines { (P.device dev.new).lines ≡ (P.device dev.old).lines }
+    {
+        if owes_marked(program, dev) {
+            self.recover_marked(alloc, &program.image, dev, steps)
+        } else {
+            self.recover_unmarked(alloc, &program.image, dev, steps)
+        }
+    }
+
+    /// Recovers a pool that owes no marked transaction.
+    fn recover_unmarked<P: PmemWork, L: Ledger>(
+        &mut self,
+        alloc: Global,
         image: &Image,
         dev: &mut P,
         steps: &mut Steps<L>,
     ) -> Answer
         requires lines { (P.device dev.old).lines ≡ pool_lines image.now.parts.sizes }
-        ensures recovers { Recovers image.now (P.device dev.old) result self.new (P.device dev.new)
-            steps.old steps.new }
+        ensures recovers { RecoversUnmarked image.now (P.device dev.old) result self.new
+            (P.device dev.new) steps.old steps.new }
         ensures count { (P.device dev.old).faults ≤ (P.device dev.new).faults }
         ensures fault { result ≡ Answer.DeviceFault
             → FaultsRose (P.device dev.old).faults (P.device dev.new).faults }
-        ensures most { steps.new ≤ steps.old + image.now.parts.sizes.records
-            + image.now.parts.most }
+        ensures most { steps.new ≤ steps.old + bounded_steps false image.now }
         ensures lines { (P.device dev.new).lines ≡ (P.device dev.old).lines }
     {
         let tx_answer = recover(alloc, image, dev, steps);
         self.mode = mode_of_recovery(tx_answer);
         answer_of_recovery(tx_answer)
+    }
+
+    /// Recovers a pool that owes a marked transaction.
+    fn recover_marked<P: PmemWork, L: Ledger>(
+        &mut self,
+        alloc: Global,
+        image: &Image,
+        dev: &mut P,
+        steps: &mut Steps<L>,
+    ) -> Answer
+        requires lines { (P.device dev.old).lines ≡ pool_lines image.now.parts.sizes }
+        requires sealed { is_sealed (view (P.device dev.old).cache) ≡ true }
+        ensures recovers { RecoversMarked image.now (P.device dev.old) result self.new
+            (P.device dev.new) steps.old steps.new }
+        ensures count { (P.device dev.old).faults ≤ (P.device dev.new).faults }
+        ensures fault { result ≡ Answer.DeviceFault
+            → FaultsRose (P.device dev.old).faults (P.device dev.new).faults }
+        ensures most { steps.new ≤ steps.old + bounded_steps true image.now }
+        ensures lines { (P.device dev.new).lines ≡ (P.device dev.old).lines }
+    {
+        let tx_answer = redo_abort(alloc, image, dev, steps);
+        self.mode = mode_of_marked_recovery(tx_answer);
+        answer_of_marked_recovery(tx_answer)
     }
 
     /// The lines of the pool.

@@ -18,6 +18,7 @@ pub fn answer_text(alloc: Global, answer: &Answer) -> Result<Text, AllocError>
         Answer::Silent => text_of(alloc, ""),
         Answer::Done { value, logged } => number_text(alloc, "= ", *value, *logged),
         Answer::Trap(kind) => name_text(alloc, "trap ", kind.name()),
+        Answer::Aborted(kind) => name_text(alloc, "aborted ", kind.name()),
         Answer::Stopped(phase) => name_text(alloc, "stopped ", phase_name(*phase)),
         Answer::DeviceFault => text_of(alloc, "device fault\n"),
         Answer::RecoveredNone => text_of(alloc, "recovered none\n"),
@@ -25,6 +26,7 @@ pub fn answer_text(alloc: Global, answer: &Answer) -> Result<Text, AllocError>
             number_text(alloc, "recovered redone ", *value, *logged)
         }
         Answer::RecoveredTrap(kind) => name_text(alloc, "recovered trap ", kind.name()),
+        Answer::RecoveredAborted(kind) => name_text(alloc, "recovered aborted ", kind.name()),
         Answer::Shown(lines) => text_of(alloc, lines.as_str()),
         Answer::Last { done, value } => last_text(alloc, *done, *value),
         Answer::NoMemory => text_of(alloc, "no memory\n"),

@@ -12,6 +12,8 @@ mod devices;
 #[cfg(test)]
 mod program;
 #[cfg(test)]
+mod rolled_back;
+#[cfg(test)]
 mod rows;
 #[cfg(test)]
 mod runs;

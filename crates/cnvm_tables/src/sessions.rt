@@ -22,7 +22,7 @@ const ASKED: Asked = Asked {
 };
 
 /// How many lines of a device have more than one version.
-trait Unsettled {
+pub(crate) trait Unsettled {
     fn unsettled(&self) -> u64;
 }
 
@@ -74,7 +74,7 @@ fn push_line<P: Unsettled>(
 }
 
 /// The answers of a script's commands on a new pool.
-fn answers<P: Pmem + Unsettled + Drop, L: Ledger>(
+pub(crate) fn answers<P: Pmem + Unsettled + Drop, L: Ledger>(
     alloc: Global,
     program: &Program,
     script: &str,

@@ -6,6 +6,7 @@ use Rattle.cnvm_session.specs.AnswerText.{answer_text}
 use Rattle.workers_session.specs.declared.line.WorkersLine.{WorkersLine}
 use Rattle.workers_session.specs.declared.line.WorkersLine.TheVariants.{Own, Plain, Started}
 use Rattle.workers_session.specs.declared.line.WorkersLine.TheVariants.{RefusedWorker, RefusedBusy}
+use Rattle.workers_session.specs.declared.line.WorkersLine.TheVariants.{RefusedAbort}
 
 abbrev pub line_text : WorkersLine → List ℕ
 line_text (Own worker answer) = decimal worker ++ (codes " " ++ answer_text answer)
@@ -13,3 +14,4 @@ line_text (Plain answer) = answer_text answer
 line_text (Started worker) = codes "started " ++ (decimal worker ++ codes "\n")
 line_text (RefusedWorker worker) = codes "refused worker " ++ (decimal worker ++ codes "\n")
 line_text (RefusedBusy worker) = codes "refused busy " ++ (decimal worker ++ codes "\n")
+line_text RefusedAbort = codes "refused abort\n"

@@ -25,12 +25,13 @@ use Rattle.pool_workers.specs.Crew.{standing_at, TurnOf}
 use Rattle.cnvm_session.specs.declared.answer.Answer.TheVariants as answer
 use Rattle.cnvm_session.specs.declared.program.Program.{Program}
 use Rattle.cnvm_session.specs.Commands.{call_number, tx_parameters, fallen}
+use Rattle.cnvm_session.specs.Marks.{rolls_back_of}
 use Rattle.cnvm_session.specs.Outcomes.{answer_of_recovery}
 use Rattle.workers_script.specs.declared.command.WorkersCommand.{WorkersCommand}
 use Rattle.workers_script.specs.declared.command.WorkersCommand.TheVariants as command
 use Rattle.workers_session.specs.declared.line.WorkersLine.{WorkersLine}
 use Rattle.workers_session.specs.declared.line.WorkersLine.TheVariants.{Own, Plain, Started}
-use Rattle.workers_session.specs.declared.line.WorkersLine.TheVariants.{RefusedWorker}
+use Rattle.workers_session.specs.declared.line.WorkersLine.TheVariants.{RefusedWorker, RefusedAbort}
 use Rattle.workers_session.specs.Looks.{IsPoolText}
 use Rattle.workers_session.specs.WorkersState.{WorkersState, refusal_at, stranger_in}
 
@@ -88,23 +89,30 @@ BeginsWith true image worker tx args x lines y =
     BeginsAs (standing_at image worker x.device) image worker tx args x lines y
 BeginsWith false image worker tx args x lines y = RefusedWith (Plain answer.RefusedArity) x lines y
 
-abbrev pub BeginsTo : Option ℕ → Image → (worker tx : ℕ) → List ℤ → Scene → List WorkersLine
-    → Scene → Type 0
-BeginsTo None image worker tx args x lines y = RefusedWith (Plain answer.RefusedUnknown) x lines y
-BeginsTo (Some count) image worker tx args x lines y =
+-- no worker begins a transaction that is marked as one that rolls back
+abbrev pub BeginsBy : (marked : Bool) → (count : ℕ) → Image → (worker tx : ℕ) → List ℤ → Scene
+    → List WorkersLine → Scene → Type 0
+BeginsBy true count image worker tx args x lines y = RefusedWith RefusedAbort x lines y
+BeginsBy false count image worker tx args x lines y =
     BeginsWith (count == length args) image worker tx args x lines y
 
-abbrev pub BeginsNamed : Option ℕ → Image → (worker : ℕ) → List ℤ → Scene → List WorkersLine
+abbrev pub BeginsTo : Option ℕ → Program → (worker tx : ℕ) → List ℤ → Scene → List WorkersLine
     → Scene → Type 0
-BeginsNamed None image worker args x lines y = RefusedWith (Plain answer.RefusedUnknown) x lines y
-BeginsNamed (Some tx) image worker args x lines y =
-    BeginsTo (tx_parameters image tx) image worker tx args x lines y
+BeginsTo None program worker tx args x lines y = RefusedWith (Plain answer.RefusedUnknown) x lines y
+BeginsTo (Some count) program worker tx args x lines y =
+    BeginsBy (rolls_back_of program tx) count program.image worker tx args x lines y
+
+abbrev pub BeginsNamed : Option ℕ → Program → (worker : ℕ) → List ℤ → Scene → List WorkersLine
+    → Scene → Type 0
+BeginsNamed None program worker args x lines y = RefusedWith (Plain answer.RefusedUnknown) x lines y
+BeginsNamed (Some tx) program worker args x lines y =
+    BeginsTo (tx_parameters program.image tx) program worker tx args x lines y
 
 abbrev pub Starts : Option WorkersLine → Program → (worker : ℕ) → (name : List ℕ) → List ℤ → Scene
     → List WorkersLine → Scene → Type 0
 Starts (Some line) program worker name args x lines y = RefusedWith line x lines y
 Starts None program worker name args x lines y =
-    BeginsNamed (call_number program name) program.image worker args x lines y
+    BeginsNamed (call_number program name) program worker args x lines y
 
 -- the text of the worker's pool; or there was no memory for it
 pub record TellsPool (program : Program) (worker : ℕ) (x : Scene) (lines : List WorkersLine)

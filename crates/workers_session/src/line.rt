@@ -21,6 +21,8 @@ pub enum WorkersLine {
     RefusedWorker(u32),
     /// The worker has an unfinished transaction.
     RefusedBusy(u32),
+    /// The transaction is marked `abort`; no worker runs one.
+    RefusedAbort,
 }
 
 /// Lines, in their order.

@@ -29,7 +29,7 @@ use crate::line::{WorkersLine, WorkersLines, add, no_line, one};
 use crate::looking::{last_of, standing_of, text_of};
 use crate::outcome::{begin_line, begin_runs_out, ends_power, is_interrupted, keeps_down};
 use cache_model::Choice;
-use cnvm_session::{Answer, Program, answer_of_recovery, first_fallen, parameters};
+use cnvm_session::{Answer, Program, answer_of_recovery, first_fallen, parameters, rolls_back};
 use nvm_base::Steps;
 use pm_machine::Image;
 use pmem::Pmem;
@@ -199,6 +199,9 @@ impl WorkersSession {
         let Some(count) = parameters(&program.image, tx) else {
             return WorkersLine::Plain(Answer::RefusedUnknown);
         };
+        if rolls_back(program, tx) {
+            return WorkersLine::RefusedAbort;
+        }
         if count != args.len() as u64 {
             return WorkersLine::Plain(Answer::RefusedArity);
         }

@@ -20,6 +20,7 @@ pub fn line_text(alloc: Global, line: &WorkersLine) -> Result<Text, AllocError>
         WorkersLine::Started(worker) => started_text(alloc, *worker),
         WorkersLine::RefusedWorker(worker) => stranger_text(alloc, *worker),
         WorkersLine::RefusedBusy(worker) => busy_text(alloc, *worker),
+        WorkersLine::RefusedAbort => copied(alloc, "refused abort\n"),
     }
 }
 

@@ -40,7 +40,7 @@ abbrev pub OpensAll : Program → List Command → List ℤ → Option (List ℕ
     → Device → (k k' : ℕ) → Type 0
 OpensAll program commands words w w' d d' k k' =
     (answer : Answer) × (m : Mode) × (b : Device) × (w1 : Option (List ℕ)) × (k1 : ℕ)
-    × Opens program.image words d answer m b k k1
+    × Opens program words d answer m b k k1
     × Appends w w1 (answer_text answer) × RunsAndWrites program commands m b w1 k1 d' w' k'
 
 -- the pool is opened, and a part of its answer is written; or all of it is, and some of the
@@ -48,10 +48,10 @@ OpensAll program commands words w w' d d' k k' =
 abbrev pub OpensPart : Program → List Command → List ℤ → Option (List ℕ) → Option (List ℕ) → Device
     → Device → (k k' : ℕ) → Type 0
 OpensPart program commands words w w' d d' k k' =
-    ((answer : Answer) × (m : Mode) × Opens program.image words d answer m d' k k'
+    ((answer : Answer) × (m : Mode) × Opens program words d answer m d' k k'
     × AppendsPart w w' (answer_text answer))
     ⊎ ((answer : Answer) × (m : Mode) × (b : Device) × (w1 : Option (List ℕ)) × (k1 : ℕ)
-    × Opens program.image words d answer m b k k1
+    × Opens program words d answer m b k k1
     × Appends w w1 (answer_text answer) × RunsPart program commands m b w1 k1 d' w' k')
 
 -- How a run on the pool of an image's words ends, by its status.

@@ -7,9 +7,9 @@ use Rattle.cnvm_session.proofs.law.laws.Goals as goal
 pub returns-clause-rest : goal.returns-clause-rest
 returns-clause-rest c = λ program choice m n d b a k k1 rests rise fit does.
     let recovers = does.2 rise fit in (
-      rest_alike program.image choice n d b a k k1 rests recovers,
-      rest_owes program.image choice n d b a k k1 rests recovers,
-      rest_none program.image choice n d b a k k1 rests recovers,
+      rest_alike program choice n d b a k k1 rests recovers,
+      rest_owes program choice n d b a k k1 rests recovers,
+      rest_none program choice n d b a k k1 rests recovers,
     )
 
 pub returns-clause-one : goal.returns-clause-one

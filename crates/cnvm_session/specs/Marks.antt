@@ -1,0 +1,29 @@
+-- Which transactions of a program are marked `abort`, so that a trap rolls them back, and whether a
+-- pool owes one of them.
+use Rattle.std.specs.Prelude.{ℕ, zero, suc, Bool, false, ◌&&◌, slice_get}
+use Rattle.std.specs.List.{list_any}
+use Rattle.std.specs.Option.{option_map_or}
+use Rattle.cache_model.specs.Cache.{view}
+use Rattle.pmem.specs.Device.{Device}
+use Rattle.args_log.specs.Pending.{is_sealed}
+use Rattle.recovery.specs.Recovered.{tx_in}
+use Rattle.c_tree.specs.ItemTree.{FunctionTree}
+use Rattle.c_types.specs.Shapes.{transactions_of}
+use Rattle.cnvm_session.specs.declared.program.Program.{Program}
+
+abbrev pub is_marked : FunctionTree → Bool
+is_marked f = f.rolls_back
+
+-- whether the transaction of that number, counted from 1, is marked; no other number is
+abbrev pub rolls_back_of : Program → (tx : ℕ) → Bool
+rolls_back_of program zero = false
+rolls_back_of program (suc i) =
+    option_map_or is_marked (slice_get (transactions_of program.typed) i) false
+
+-- whether the program has a marked transaction
+abbrev pub has_marked : Program → Bool
+has_marked program = list_any is_marked (transactions_of program.typed)
+
+-- whether the pool is sealed and its record names a marked transaction
+abbrev pub owes_marked : Program → Device → Bool
+owes_marked program d = is_sealed (view d.cache) && rolls_back_of program (tx_in d)

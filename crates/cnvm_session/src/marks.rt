@@ -1,0 +1,35 @@
+//! Which transactions are marked `abort`, and whether a pool owes one of them.
+
+ghost use Rattle.std.specs.Prelude.{◌≡◌, ◌≤◌, true};
+ghost use Rattle.cache_model.specs.Cache.{view};
+ghost use Rattle.args_log.specs.Pending.{is_sealed};
+ghost use Rattle.cnvm_session.specs.Marks.{rolls_back_of, owes_marked};
+
+use crate::program::Program;
+use args_log::{PendingAnswer, pending};
+use pmem::PmemWork;
+
+/// Whether the transaction of that number is marked `abort`; no number past the last is.
+#[tactic(auto, using(crate::proofs::Marking::marks))]
+pub fn rolls_back(program: &Program, tx: u64) -> bool
+    ensures { result ≡ rolls_back_of program.now tx }
+{
+    if tx < 1 || program.typed.txs() < tx {
+        false
+    } else {
+        program.typed.rolls_back(tx)
+    }
+}
+
+/// Whether a pool is sealed with a marked transaction.
+pub(crate) fn owes_marked<P: PmemWork>(program: &Program, dev: &P) -> bool
+    requires lines { 6 ≤ (P.device dev.now).lines }
+    requires on { (P.device dev.now).on ≡ true }
+    ensures value { result ≡ owes_marked program.now (P.device dev.now) }
+    ensures sealed { result ≡ true → is_sealed (view (P.device dev.now).cache) ≡ true }
+{
+    match pending(dev) {
+        PendingAnswer::Sealed { tx, args: _ } => rolls_back(program, tx),
+        PendingAnswer::Nothing | PendingAnswer::Off => false,
+    }
+}
