@@ -68,8 +68,8 @@ fn play_mark<P: PmemWork>(dev: &mut P, number: u32) -> Result<(), Refusal>
     fence(dev)
 }
 
-/// Makes the pool unusable by a trap: three events. On a device that is off the answer is `Off`, and
-/// nothing has changed.
+/// Makes the pool unusable by a trap: three events. On a device that is off the answer is `Off`,
+/// and nothing has changed.
 pub fn mark_unusable<P: PmemWork>(dev: &mut P, kind: TrapKind) -> LogAnswer
     requires lines { 6 ≤ (P.device dev.old).lines }
     ensures played { (P.device dev.old).on ≡ true

@@ -254,8 +254,8 @@ fn step_of(drawn: u64) -> Step {
     }
 }
 
-/// The number of the first drawn step that the two devices show otherwise, with what each shows; a device
-/// that is off gets power.
+/// The number of the first drawn step that the two devices show otherwise, with what each shows; a
+/// device that is off gets power.
 fn first_other(
     alloc: Global,
     sim: &mut SimPmem,

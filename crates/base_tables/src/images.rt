@@ -313,7 +313,8 @@ fn small_images_are_read_by_rule(rt: HostRuntime) -> Result<(), Fail> {
 #[test]
 fn content_is_judged_by_rule(rt: HostRuntime) -> Result<(), Fail> {
     let alloc = rt.alloc();
-    // two slots, three records, nine root words: the heap starts at word 72, its headers are words 88 and 104
+    // two slots, three records, nine root words: the heap starts at word 72, its headers are words
+    // 88 and 104
     let Some(sizes) = Sizes::new(2, 3, 9, 1) else {
         assert!(rt; false, "the sizes are within their limits");
         return Ok(());

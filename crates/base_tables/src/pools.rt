@@ -1,4 +1,5 @@
-//! Numbers and names of traps, texts of pools, and a pool through a list of calls, beside what each must be.
+//! Numbers and names of traps, texts of pools, and a pool through a list of calls, beside what each
+//! must be.
 
 use nvm_base::Text;
 use pool_map::{
@@ -38,7 +39,8 @@ fn field(alloc: Global, name: &str, length: Option<u64>) -> Result<FieldShape, A
     Ok(FieldShape { name: text, length })
 }
 
-/// A root of a number, an array of two and a pointer, and a struct of a number and an array of three.
+/// A root of a number, an array of two and a pointer, and a struct of a number and an array of
+/// three.
 fn shapes(alloc: Global) -> Result<Shapes, AllocError> {
     let mut root = FieldShapes::new(alloc);
     root.push(field(alloc, "n", None)?)?;

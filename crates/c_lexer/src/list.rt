@@ -37,7 +37,8 @@ impl TokenList {
         self.all.len() as u64
     }
 
-    /// The token at a place, counted from 0, with its place in the text; `None` from the list's length on.
+    /// The token at a place, counted from 0, with its place in the text; `None` from the list's
+    /// length on.
     pub fn get(&self, place: u64) -> Option<&Placed>
         ensures { option_copied result ≡ slice_get self.now.tokens place }
     {

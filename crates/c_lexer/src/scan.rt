@@ -86,8 +86,8 @@ fn scan(alloc: Global, text: &[u8]) -> Result<TokenList, LexFault>
     Ok(TokenList::new(all, spot.line, spot.at))
 }
 
-/// The tokens that a text spells, with their places, or the first refusal in the order of its bytes.
-/// Want of memory may be answered for any text.
+/// The tokens that a text spells, with their places, or the first refusal in the order of its
+/// bytes. Want of memory may be answered for any text.
 pub fn tokens(alloc: Global, text: &[u8]) -> Result<TokenList, LexFault>
     ensures exact { (result ≡ Err LexFault.NoMemory) ⊎ (result ≡ answer text.now) }
     ensures cuts { IfOk result (λ list. Cuts text.now list × IsWithinLimits text.now list) }

@@ -369,7 +369,8 @@ result_typed ts i j t not fixes = record { same = λ k x d. taken d }
     taken (result_void was) = absurd (not was)
     taken {k} (result_some {t = s} d) = let f = fixes.same k s d in (f.0, ap (λ t. Some t) f.1)
 
-abbrev a_function : Bool → Bool → Option TypeTree → Ident → List ParameterTree → Statements → ItemTree
+abbrev a_function : Bool → Bool → Option TypeTree → Ident → List ParameterTree → Statements
+    → ItemTree
 a_function tx b r y ps all = tree.Function (record {
   tx = tx;
   rolls_back = b;

@@ -180,13 +180,13 @@ after_result {ts} {n} {p} m around name opens sig brace all close k same =
 transaction_runs : {ts : List Placed} {b : Bool} {i j : ℕ} {x : ItemTree}
     (d : SpellsFunction ts true b i j x) (around : ℕ) (k : List Want) → around ≡ weight k
     → RunsPast ts i (Result ∷ Ident ∷ OpenParameters ∷ OpenBody ∷ k) j k around (function_open d)
-transaction_runs {ts} {i = i} (function {m = m} (result_void is) name opens sig brace all close) around
-    k same =
+transaction_runs {ts} {i = i} (function {m = m} (result_void is) name opens sig brace all close)
+    around k same =
     goes ts i around none_open (Result ∷ Ident ∷ OpenParameters ∷ OpenBody ∷ k)
     (Ident ∷ OpenParameters ∷ OpenBody ∷ k) kind.Void is tt refl (omega (arith, same))
     ▸ after_result m around name opens sig brace all close k same
-transaction_runs {ts} {i = i} (function {m = m} (result_some ty) name opens sig brace all close) around
-    k same =
+transaction_runs {ts} {i = i} (function {m = m} (result_some ty) name opens sig brace all close)
+    around k same =
     typed_runs ty around (Result ∷ Ident ∷ OpenParameters ∷ OpenBody ∷ k)
     (Ident ∷ OpenParameters ∷ OpenBody ∷ k) (omega (arith, same))
     (result_enters (Ident ∷ OpenParameters ∷ OpenBody ∷ k) (kind_at ts i) (typed_begins ty))

@@ -668,7 +668,8 @@ mutual
       (omega (arith, same))
 
   pub all_run : {ts : List Placed} {loop : Bool} {i j : ℕ} {all : Statements}
-      (d : SpellsAll ts loop i j all) (around : ℕ) (k : List Want) → around ≡ weight (Block loop ∷ k)
+      (d : SpellsAll ts loop i j all) (around : ℕ) (k : List Want)
+      → around ≡ weight (Block loop ∷ k)
       → RunsPast ts i (Block loop ∷ k) j (Block loop ∷ k) around (statements_open d)
   all_run {loop = loop} nothing around k same = stays (Block loop ∷ k)
   all_run {ts} {loop} {i} (something one all) around k same =

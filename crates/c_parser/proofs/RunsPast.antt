@@ -57,7 +57,8 @@ module _ (ts : List Placed) (i : ℕ) where
   }
     where
       go : (p : Option Placed) → placed_kind p ≡ t
-          → weigh_token p s (λ k. weights_at ts (i + 1) k) ≡ weight next ∷ weights_at ts (i + 1) next
+          → weigh_token p s (λ k. weights_at ts (i + 1) k)
+          ≡ weight next ∷ weights_at ts (i + 1) next
       go None e = absurd (subst IsToken (sym e) token)
       go (Some x) e = ap (λ p. weigh p (λ k. weights_at ts (i + 1) k)) (ap (parser_step s) e ∙ may)
 

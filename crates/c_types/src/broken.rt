@@ -74,8 +74,8 @@ fn limit_in(rule: Rule) -> u64
     }
 }
 
-/// Whether at one token the one rule is told rather than the other: the one with the less number, and
-/// of two limits the one listed first.
+/// Whether at one token the one rule is told rather than the other: the one with the less number,
+/// and of two limits the one listed first.
 fn rule_before(one: Rule, other: Rule) -> bool
     ensures { result ≡ rule_before one other }
 {

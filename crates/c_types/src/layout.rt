@@ -29,7 +29,8 @@ impl<'a> Model for Layout<'a> {
 
     ghost view = { λ l. struct_tree l.definition.now };
 
-    ghost invariant = { λ l. (l.names ≡ field_names (struct_tree l.definition.now)) × (l.words ≡ words_of_struct (struct_tree l.definition.now)) };
+    ghost invariant = { λ l. (l.names ≡ field_names (struct_tree l.definition.now))
+        × (l.words ≡ words_of_struct (struct_tree l.definition.now)) };
 }
 
 impl<'a> Layout<'a> {

@@ -25,7 +25,8 @@ impl<'a> Model for Names<'a> {
 
     ghost view = { λ n. map (λ s. s.now) n.all.items };
 
-    ghost invariant = { λ n. (q : List ℕ) → get_by (λ k. slice_cmp nat_cmp q k.now) n.first ≡ index_of q (map (λ s. s.now) n.all.items) };
+    ghost invariant = { λ n. (q : List ℕ) → get_by (λ k. slice_cmp nat_cmp q k.now) n.first
+        ≡ index_of q (map (λ s. s.now) n.all.items) };
 }
 
 impl<'a> Names<'a> {

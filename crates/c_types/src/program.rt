@@ -16,8 +16,8 @@ use c_tree::stmt::TypeName;
 use std::alloc::{AllocError, Global};
 use std::marker::Model;
 
-/// A program's structs, root declarations and functions, in the order of the text, seen as the lists
-/// of them.
+/// A program's structs, root declarations and functions, in the order of the text, seen as the
+/// lists of them.
 #[derive(Drop)]
 pub struct Program<'a> {
     structs: Vec<Layout<'a>>,
@@ -46,7 +46,10 @@ impl<'a> Model for Program<'a> {
       functions = map (λ f. f.now) p.functions.items;
     } };
 
-    ghost invariant = { λ p. (p.struct_names ≡ map (λ (s : StructTree). s.name.text) p.structs.items) × (p.function_names ≡ map (λ (f : FunctionTree). f.name.text) (map function_tree (map (λ f. f.now) p.functions.items))) };
+    ghost invariant = { λ p.
+        (p.struct_names ≡ map (λ (s : StructTree). s.name.text) p.structs.items)
+        × (p.function_names ≡ map (λ (f : FunctionTree). f.name.text)
+        (map function_tree (map (λ f. f.now) p.functions.items))) };
 }
 
 impl<'a> Program<'a> {

@@ -39,7 +39,8 @@ impl Model for Typed {
 
     ghost view = { λ t. t.ast };
 
-    ghost invariant = { λ t. (t.shapes ≡ shapes_of t.ast) × (t.transactions.items ≡ map entry_of (transactions_of t.ast)) };
+    ghost invariant = { λ t. (t.shapes ≡ shapes_of t.ast)
+        × (t.transactions.items ≡ map entry_of (transactions_of t.ast)) };
 }
 
 impl Typed {

@@ -1,5 +1,5 @@
-//! The rows of a listing: the store sites of a program in code order, each with its line and what is
-//! written there.
+//! The rows of a listing: the store sites of a program in code order, each with its line and what
+//! is written there.
 
 ghost use Rattle.std.specs.Prelude.{[], ◌∷◌, ◌≡◌, ◌++◌, OnOk, IfOk, false};
 ghost use Rattle.cnvm_compile.specs.Listing.{rows_at, rows_from, rows_of};

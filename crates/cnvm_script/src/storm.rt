@@ -46,8 +46,8 @@ impl Storm {
         Storm { state: start }
     }
 
-    /// The commands of the next round, over the transactions of the program. Where memory lacks, the
-    /// generator stands where it stood.
+    /// The commands of the next round, over the transactions of the program. Where memory lacks,
+    /// the generator stands where it stood.
     pub fn round(&mut self, alloc: Global, typed: &Typed) -> Result<Script, AllocError>
         requires { 0 < length (transactions_of typed.now) }
         ensures commands { IfOk result (λ script.

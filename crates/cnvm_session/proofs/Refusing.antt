@@ -147,7 +147,8 @@ module _ (program : Program) (args : List ℤ) (d : Device) (a : Answer) (n : Mo
   by_parameters None tx h = refused_kept answer.RefusedUnknown Ready d a n b k k1 h
   by_parameters (Some count) tx h = by_count (count == length args) tx h
 
-  by_name : (number : Option ℕ) → CallsNamed number program args d a n b k k1 → Kept Ready d n b k k1
+  by_name : (number : Option ℕ) → CallsNamed number program args d a n b k k1
+      → Kept Ready d n b k k1
   by_name None h = refused_kept answer.RefusedUnknown Ready d a n b k k1 h
   by_name (Some tx) h = by_parameters (tx_parameters program.image tx) tx h
 

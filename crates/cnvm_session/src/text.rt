@@ -10,7 +10,8 @@ use nvm_base::Text;
 use pmem::Phase;
 use std::alloc::{AllocError, Global};
 
-/// The text of an answer: its line with the LF, nothing for `Silent`, and the pool's lines for `Shown`.
+/// The text of an answer: its line with the LF, nothing for `Silent`, and the pool's lines for
+/// `Shown`.
 pub fn answer_text(alloc: Global, answer: &Answer) -> Result<Text, AllocError>
     ensures { IfOk result (λ text. text ≡ answer_text answer.now) }
 {

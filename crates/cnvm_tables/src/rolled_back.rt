@@ -78,10 +78,7 @@ const ROWS: [Row; 8] = [
 ];
 
 /// The number of a row that one of the two devices answers differently, with that device's number.
-fn wrong_row<L: Ledger>(
-    alloc: Global,
-    blank: Blank,
-) -> Result<Option<(usize, u64)>, AllocError>
+fn wrong_row<L: Ledger>(alloc: Global, blank: Blank) -> Result<Option<(usize, u64)>, AllocError>
     requires name { blank.name ≡ L.name }
     requires parts { blank.parts ≡ L.parts }
     requires some { 0 < blank.parts }
@@ -226,10 +223,7 @@ fn wrong_cut<L: Ledger>(
 }
 
 /// The first row with such a number, and the number.
-fn wrong_cuts<L: Ledger>(
-    alloc: Global,
-    blank: Blank,
-) -> Result<Option<(usize, u64)>, AllocError>
+fn wrong_cuts<L: Ledger>(alloc: Global, blank: Blank) -> Result<Option<(usize, u64)>, AllocError>
     requires name { blank.name ≡ L.name }
     requires parts { blank.parts ≡ L.parts }
     requires some { 0 < blank.parts }

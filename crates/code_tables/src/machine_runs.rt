@@ -32,8 +32,8 @@ fn fields(alloc: Global, list: &[(&str, Option<u64>)]) -> Result<FieldShapes, Al
     Ok(fields)
 }
 
-/// The root has a number, an array of three and a pointer, words 0, 1 to 3 and 4 of the heap; struct
-/// 1 has a number and a pointer, so slot 1 has words 8 to 10 and slot 2 words 24 to 26.
+/// The root has a number, an array of three and a pointer, words 0, 1 to 3 and 4 of the heap;
+/// struct 1 has a number and a pointer, so slot 1 has words 8 to 10 and slot 2 words 24 to 26.
 fn all_shapes(alloc: Global) -> Result<Shapes, AllocError> {
     let mut structs = StructShapes::new(alloc);
     structs.push(StructShape {
@@ -172,8 +172,8 @@ fn push_objects(alloc: Global, functions: &mut IrFunctions) -> Result<(), AllocE
     functions.push(function(alloc, 0, true, late)?)
 }
 
-/// Transactions that call and repeat: 8 sums the numbers up to its argument by a function that calls
-/// itself, 9 ticks on and on.
+/// Transactions that call and repeat: 8 sums the numbers up to its argument by a function that
+/// calls itself, 9 ticks on and on.
 fn push_calls(alloc: Global, functions: &mut IrFunctions) -> Result<(), AllocError> {
     let go = [Instruction::Tick, call(alloc, 1, 9, 0)?, back(1)];
     functions.push(function(alloc, 1, true, go)?)?;
@@ -290,8 +290,8 @@ fn words(dev: &SimPmem, sizes: &Sizes) -> [i64; 8] {
     ]
 }
 
-/// A call's transaction and arguments, its answer, its logged stores, and words of the heap after it
-/// it.
+/// A call's transaction and arguments, its answer, its logged stores, and words of the heap after
+/// it it.
 type Row = (u64, [i64; 2], RunAnswer, u64, [i64; 8]);
 
 const ROWS: [Row; 19] = [

@@ -419,7 +419,8 @@ module _ (s : Setting) (a : ℕ) (a_fits : a ≤ 2 ^ 62) where
       λ d h image im. let f = held_image C 2 either d image h im in
       of_trap n word old trap image positive run.facts f.0 f.1 in
       let all_lost : Images (Lost s.pool.sizes trap) (apply c2 Fence) =
-      λ image im. (cover_image C (lost trap) (apply c2 Fence) image cover3 im Mark tt, positive) in (
+      λ image im. (cover_image C (lost trap) (apply c2 Fence) image cover3 im Mark tt, positive)
+      in (
         (λ image im. inl (covered s a a_fits n word old c run.facts run.cover image im)),
         (choose c1 held1, (choose c2 held2, ((λ image im. inr (all_lost image im)), all_lost))),
       )

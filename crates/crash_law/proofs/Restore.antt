@@ -106,7 +106,8 @@ module _ (s : Setting) (a : ℕ) (a_fits : a ≤ 2 ^ 62) (n : ℕ) (word old : �
       cover_store C (ok restoring) c (Heap k) (old m)
       (subst (λ (v : ℕ). v < H) (sym (ap nat_abs u.1)) u.2) (λ lt absent.
       absurd (cc (absent, has.1))) cover in
-      let cover2 : Cover C (ok restoring) c2 = cover_flush C (ok restoring) c1 (line_at m) cover1 in (
+      let cover2 : Cover C (ok restoring) c2 = cover_flush C (ok restoring) c1 (line_at m) cover1
+      in (
         inside c (restoring_owed c cover),
         (
           inside c1 (restoring_owed c1 cover1),

@@ -2,10 +2,10 @@
 //!
 //! A walk's spot has a list of open calls. Here a spot has what was kept at the entry of the call
 //! that was entered last, and the calls below it are left out. Until its return a walk doesn't look
-//! at them, so walks that enter a function with the same things kept go on alike, whatever calls are
-//! open; and a return goes back to each call that enters the function so. So a spot is reached here
-//! exactly where a walk of the definition reaches it, with any number of calls open. A bound of four
-//! open calls would miss sites of the drawn programs.
+//! at them, so walks that enter a function with the same things kept go on alike, whatever calls
+//! are open; and a return goes back to each call that enters the function so. So a spot is reached
+//! here exactly where a walk of the definition reaches it, with any number of calls open. A bound
+//! of four open calls would miss sites of the drawn programs.
 
 use crate::kept::{AT_START, Class, Kept, after, entered, given_back};
 use ir::{Instruction, IrFunction};

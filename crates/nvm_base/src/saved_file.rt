@@ -16,9 +16,9 @@ use std::rt::Files;
 const NAMES: u64 = 1000;
 
 /// A file to be saved under a path. All bytes go to a new file beside the old one; `finish` syncs
-/// it, gives it the path, and syncs the folder. So at any failure the path leads to the old file, or
-/// to the whole new one. Its count of faults rises at each error, want of memory included, and after
-/// the first one every write fails.
+/// it, gives it the path, and syncs the folder. So at any failure the path leads to the old file,
+/// or to the whole new one. Its count of faults rises at each error, want of memory included, and
+/// after the first one every write fails.
 #[derive(Drop)]
 pub struct SavedFile<'a, R: Files + AllocGlobal> {
     rt: &'a R,

@@ -286,7 +286,8 @@ module _ (s : Sizes) (logged : Site → Bool) (shapes : Shapes) (f p : ℕ) (reg
           (λ z. code.Goes (code.Here f (suc p) regs below (store_spot w z (register_at regs from))
           v.ticks)))
       store_does = store_to (spot_of shapes w y (base_in regs y) (index_in regs y))
-          (target_led s logged shapes regs x v w fit fits stands words r y (store_at b from by_of) is)
+          (target_led s logged shapes regs x v w fit fits stands words r y
+          (store_at b from by_of) is)
 
   -- a free
   module _ (from kind : ℕ) (some : 0 < kind) where

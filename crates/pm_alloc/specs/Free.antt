@@ -81,4 +81,5 @@ Freed s p kind own x w n (Is q) =
 -- if the log has room, `pm_free` takes at most 14 steps
 abbrev pub FreeLaw : Type 0
 FreeLaw = (s : Sizes) (p kind : ℕ) (own x : ℕ → ℤ) (w : World) → IsPool s → IsWord (own p)
-    → w.records < s.records → (n : ℕ) × (n ≤ 14) × Freed s p kind own x w n (look s w.heap kind (own p))
+    → w.records < s.records
+    → (n : ℕ) × (n ≤ 14) × Freed s p kind own x w n (look s w.heap kind (own p))

@@ -135,7 +135,8 @@ module _ (image : Image) (end : End) where
       let rest : List Effect = inv.0 in
       let tail : AreAlike H rest (heap_past h e) (heap_past r e) =
       alike_past H e rest h r (subst (λ (fs : List Effect). AreAlike H fs h r) inv.2 alike) in
-      let afterwards = next (records_past n e) t (heap_past h e) (heap_past r e) rest inv.1 tail in (
+      let afterwards = next (records_past n e) t (heap_past h e) (heap_past r e) rest inv.1 tail
+      in (
         ap (began e) afterwards.0 ∙ ap (Finished end) (sym inv.2),
         subst (λ (fs : List Effect). (u : ℕ) → u < H → heap_end h fs u ≡ heap_end r fs u)
             (sym inv.2) afterwards.1,

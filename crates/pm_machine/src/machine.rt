@@ -82,7 +82,9 @@ impl Model for Machine {
       size = length m.top.registers;
     } };
 
-    ghost invariant = { λ m. (m.below.size ≡ length m.top.registers) × (length m.spare ≡ length m.top.registers) × (m.flushed ≤ length m.lines.keys) };
+    ghost invariant = { λ m. (m.below.size ≡ length m.top.registers)
+        × (length m.spare ≡ length m.top.registers)
+        × (m.flushed ≤ length m.lines.keys) };
 }
 
 fn index_of(x: i64) -> Option<u64>

@@ -1,4 +1,4 @@
--- What a list of events that was played, or a part of it, leaves behind.
+-- What the device holds after a list of events was played, or a part of it.
 use Rattle.std.proofs.Common.{◌≡◌, inl, inr, true, ℕ, ◌≤◌, List, [], ◌∷◌, None, sym, ap, ◌∙◌}
 use Rattle.std.proofs.Common.{subst, arith}
 use Rattle.std.proofs.lemmas.Option.{none-some}

@@ -97,7 +97,8 @@ module _ (program : Program) (super : Words) (agrees : Agrees program)
   from_none finds owes =
       let before : IsBefore pool s.done owes.heap s.last one =
       at_view (IsBefore pool s.done owes.heap s.last) e.cache owes.left in
-      let done = rest_recovers program super e s owes.heap on rest owes.holds before r b k k1 is in (
+      let done = rest_recovers program super e s owes.heap on rest owes.holds before r b k k1 is
+      in (
         done.0,
         powers_of program s (standing_as (Down None) s) done.0 one r before.good.mark
             finds done.1,

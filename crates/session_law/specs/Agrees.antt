@@ -27,8 +27,8 @@ Matches program (Done pool value) (Trapped k) h = ⊥
 Matches program (Trap trap) (Halted v) h = ⊥
 Matches program (Trap trap) (Trapped k) h = k ≡ trap
 
--- the run of a transaction from a heap; a run that ends with a value writes a log record for each of
--- its logged stores
+-- the run of a transaction from a heap; a run that ends with a value writes a log record for each
+-- of its logged stores
 pub record RunsAs (program : Program) (h : Words) (tx : ℕ) (args : List ℤ) : Type 0 where
   pub end : End
   pub effects : List Effect

@@ -68,8 +68,8 @@ module _ (t : Tables) (program : Program) where
 
   function_short : {ts : List Placed} {tx b : Bool} {i j : ℕ} {x : ItemTree} (xs : List ItemTree)
       → SpellsFunction ts tx b i j x → code_in (x ∷ xs) + 4 * i ≤ code_in xs + 4 * j
-  function_short {ts} xs (function {tx = tx} {rolls_back = b} {m = m} {r = r} {ps = ps} {all = all} result name opens
-      signature brace body closes) =
+  function_short {ts} xs (function {tx = tx} {rolls_back = b} {m = m} {r = r} {ps = ps} {all = all}
+      result name opens signature brace body closes) =
       let f : FunctionTree = record {
         tx = tx;
         rolls_back = b;

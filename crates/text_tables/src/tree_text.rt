@@ -1,4 +1,5 @@
-//! The text of a tree: brackets stand round every node of an operator, and bodies between `<` and `>`.
+//! The text of a tree: brackets stand round every node of an operator, and bodies between `<` and
+//! `>`.
 
 use c_tree::Ast;
 use c_tree::expr::{Argument, BinaryOp, Expr, UnaryOp};

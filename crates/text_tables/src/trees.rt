@@ -7,7 +7,8 @@ use c_tree::item::Item;
 use std::alloc::{AllocError, Global};
 use std::test::Fail;
 
-/// What `parse` answers for a text: the bodies of its functions, or `ok` for any tree, or the refusal.
+/// What `parse` answers for a text: the bodies of its functions, or `ok` for any tree, or the
+/// refusal.
 fn answer(alloc: Global, text: &str, shows: bool) -> Result<String, AllocError> {
     let Ok(list) = tokens(alloc, text.as_bytes()) else {
         return String::from_str(alloc, "no tokens");

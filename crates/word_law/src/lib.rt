@@ -1,5 +1,5 @@
-//! What a division of words comes to. It stands on `nvm_base`, and has no code. Its one contract for
-//! the crates above: the law of `specs/`.
+//! What a division of words comes to. It stands on `nvm_base`, and has no code. Its one contract
+//! for the crates above: the law of `specs/`.
 #![tactic(auto)]
 
 ghost use Rattle.word_law.specs.Law.{DivisionLaw};

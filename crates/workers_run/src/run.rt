@@ -42,8 +42,8 @@ pub fn run_workers<K: Sink, P: Pmem + Drop, L: Ledger>(
         steps.new }
     ensures memory { IsErrOf result RunFault.NoMemory → Unbegun MakeFault.NoMemory program.now count
         (K.written out.old) (K.written out.new) (P.device dev.old) (P.device dev.new) steps.old
-        steps.new ⊎ BreaksOffNew program.now count commands.now (K.written out.old) (K.written out.new)
-        (P.device dev.old) (P.device dev.new) steps.old steps.new }
+        steps.new ⊎ BreaksOffNew program.now count commands.now (K.written out.old)
+        (K.written out.new) (P.device dev.old) (P.device dev.new) steps.old steps.new }
     ensures failed { IsErrOf result RunFault.Device
         → FaultsRose (P.device dev.old).faults (P.device dev.new).faults }
     ensures write { IsErrOf result RunFault.Write → Rose (K.faults out.old) (K.faults out.new) }
