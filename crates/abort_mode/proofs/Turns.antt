@@ -29,7 +29,6 @@ use Rattle.pm_machine.specs.Runs.{heap_in, outcome_of, effect_of, effect_in, Are
 use Rattle.pm_machine.specs.inside.Runs.{IsInRange}
 use Rattle.pm_machine.specs.Runs.{Due, due_before, owing}
 use Rattle.pm_machine.specs.inside.Runs.{DueLeads}
-use Rattle.pm_machine.specs.Known.{AreInUse, AreInUseOn}
 use Rattle.pm_machine.proofs.Dues.{heap_played}
 use Rattle.pm_machine.proofs.Range.{keeps_progress, records_fit}
 use Rattle.abort_mode.specs.declared.running.Logging.TheVariants.{Not, Added, Full}
@@ -303,35 +302,6 @@ added_room z n (Some w) is = go (nat_lt n z.records) refl is
     go : (x : Bool) → nat_lt n z.records ≡ x → Added ≡ (if x then Added else Full) → n < z.records
     go true e is = ltb-true n z.records e
     go false e is = absurd (cc (is))
-
--- a record changes no heap word, so what is known of the slots stays true
-module _ (z : Sizes) (a n : ℕ) (d b : Device) (k : ℕ) (known : AreInUseOn z d k) where
-  known_same : d.cache ≡ b.cache → AreInUseOn z b k
-  known_same same = subst (λ (c : Cache). AreInUse z (heap_in z c) k) same known
-
-  known_added : (w : ℕ) → n < z.records → PlaysAll d (append_events z a n w d.cache) b →
-      AreInUseOn z b k
-  known_added w fits played =
-      let range : IsInRange z.records (suc w) n (Logs w) = (omega arith, fits) in
-      let heap : heap_in z b.cache ≡ heap_in z d.cache =
-      ap (heap_in z) (all_cache (append_events z a n w d.cache) d b played)
-      ∙ heap_played z (suc w) a n d.cache (Logs w) range in
-      subst (λ (h : Words). AreInUse z h k) (sym heap) known
-
-  known_first : (o : Option ℕ) → PlaysAll d (first_events z a n d.cache o) b → AreInUseOn z b k
-  known_first None played = known_same (ap (λ (e : Device). e.cache) (sym played))
-  known_first (Some w) played = go (nat_lt n z.records) refl played
-    where
-      go : (x : Bool) → nat_lt n z.records ≡ x →
-          PlaysAll d (if x then append_events z a n w d.cache else []) b → AreInUseOn z b k
-      go true e played = known_added w (ltb-true n z.records e) played
-      go false e played = known_same (ap (λ (e : Device). e.cache) (sym played))
-
-pub first_known : (image : Image) (a n : ℕ) (s : State) (d b : Device) (k : ℕ) →
-    PlaysAll d (due_first image a n s d.cache) b →
-    AreInUseOn image.parts.sizes d k → AreInUseOn image.parts.sizes b k
-first_known image a n s d b k played known =
-    known_first image.parts.sizes a n d b k known (wanted image n s d.cache) played
 
 pub first_on : (z : Sizes) (a n : ℕ) (c : Cache) (o : Option ℕ) (d b : Device) →
     PlaysAll d (first_events z a n c o) b → b.on ≡ d.on

@@ -8,7 +8,6 @@ ghost use Rattle.cache_model.specs.Cache.{view};
 ghost use Rattle.pmem.specs.Played.{PlaysAll, PlaysPart};
 ghost use Rattle.pool_layout.specs.Sizes.{heap_words, pool_lines};
 ghost use Rattle.pm_machine.specs.Effects.{records_past};
-ghost use Rattle.pm_machine.specs.Known.{AreInUseOn};
 ghost use Rattle.pm_machine.specs.Runs.{AreLines, end_of};
 ghost use Rattle.abort_mode.specs.Runs.{has_record, words_in, wanted, due_all};
 ghost use Rattle.abort_mode.specs.inside.Turns.{logging, due_first, TurnStepped, TookTurn};
@@ -16,7 +15,7 @@ ghost use Rattle.abort_mode.specs.inside.Turns.{TurnKept};
 
 use clobber_log::append_record;
 use nvm_base::Steps;
-use pm_machine::{Effect, End, Image, InUse, Machine, Progress};
+use pm_machine::{Effect, End, Image, Machine, Progress};
 use pmem::{PmemWork, Refusal};
 use pool_layout::Sizes;
 use pool_map::TrapKind;
@@ -150,24 +149,20 @@ fn step<P: PmemWork>(
     machine: &mut Machine,
     attempt: u64,
     count: u64,
-    used: &mut InUse,
     dev: &mut P,
 ) -> Result<Turn, Refusal>
     requires room { count ≤ image.now.parts.sizes.records }
     requires attempt { attempt ≤ 2 ^ 63 - 2 }
     requires dirty { AreLines (heap_words image.now.parts.sizes) machine.old.dirty }
     requires logged { machine.old.logged ≤ count }
-    requires known { AreInUseOn image.now.parts.sizes (P.device dev.old) used.old }
     requires lines { (P.device dev.old).lines ≡ pool_lines image.now.parts.sizes }
     requires on { (P.device dev.old).on ≡ true }
     ensures turned { TurnStepped result image.now attempt count machine.old machine.new
         (P.device dev.old) (P.device dev.new) }
     ensures kept { IfOk result (λ t. TurnKept t image.now count machine.new (P.device dev.new)) }
-    ensures known { IfOk result (λ t.
-        AreInUseOn image.now.parts.sizes (P.device dev.new) used.new) }
     ensures lines { (P.device dev.new).lines ≡ (P.device dev.old).lines }
 {
-    match machine.step_on(image, attempt, count, used, dev) {
+    match machine.step_on(image, attempt, count, dev) {
         Err(why) => Err(why),
         Ok(Progress::Did(effect)) => Ok(Turn::Went(records_past(count, effect))),
         Ok(Progress::Ended(end)) => Ok(Turn::Over(end, count)),
@@ -175,34 +170,29 @@ fn step<P: PmemWork>(
 }
 
 /// One turn: a record if one is needed, and a step.
-#[tactic(auto, using(crate::proofs::Turns::first_known))]
 fn take_turn<P: PmemWork>(
     image: &Image,
     machine: &mut Machine,
     attempt: u64,
     count: u64,
-    used: &mut InUse,
     dev: &mut P,
 ) -> Result<Turn, Refusal>
     requires room { count ≤ image.now.parts.sizes.records }
     requires attempt { attempt ≤ 2 ^ 63 - 2 }
     requires dirty { AreLines (heap_words image.now.parts.sizes) machine.old.dirty }
     requires logged { machine.old.logged ≤ count }
-    requires known { AreInUseOn image.now.parts.sizes (P.device dev.old) used.old }
     requires lines { (P.device dev.old).lines ≡ pool_lines image.now.parts.sizes }
     requires on { (P.device dev.old).on ≡ true }
     ensures turned { TookTurn result image.now attempt count machine.old machine.new
         (P.device dev.old) (P.device dev.new) }
     ensures kept { IfOk result (λ t. TurnKept t image.now count machine.new (P.device dev.new)) }
-    ensures known { IfOk result (λ t.
-        AreInUseOn image.now.parts.sizes (P.device dev.new) used.new) }
     ensures lines { (P.device dev.new).lines ≡ (P.device dev.old).lines }
 {
     match log_first(image, machine, attempt, count, dev) {
         Err(why) => Err(why),
         Ok(Logging::Full) => Ok(Turn::Over(End::Trapped(TrapKind::LogFull), count)),
-        Ok(Logging::Not) => step(image, machine, attempt, count, used, dev),
-        Ok(Logging::Added) => step(image, machine, attempt, count + 1, used, dev),
+        Ok(Logging::Not) => step(image, machine, attempt, count, dev),
+        Ok(Logging::Added) => step(image, machine, attempt, count + 1, dev),
     }
 }
 
@@ -214,7 +204,7 @@ pub struct Ran {
 }
 
 /// Runs to the end, or to the refused event, in at most `most` turns. A run that hasn't ended by
-/// then ends as if it had no tick left. What it learns of the slots speeds up each later search.
+/// then ends as if it had no tick left.
 pub(crate) fn run_marked<P: PmemWork, L: Ledger>(
     image: &Image,
     machine: &mut Machine,
@@ -248,13 +238,12 @@ pub(crate) fn run_marked<P: PmemWork, L: Ledger>(
     ensures most { steps.new ≤ steps.old + image.now.parts.most }
     ensures lines { (P.device dev.new).lines ≡ (P.device dev.old).lines }
 {
-    let mut used = InUse::unknown();
     let mut left = image.most();
     let mut records = count;
     while left > 0 {
         left -= 1;
         steps.tick();
-        match take_turn(image, machine, attempt, records, &mut used, dev) {
+        match take_turn(image, machine, attempt, records, dev) {
             Err(why) => return Err(why),
             Ok(Turn::Went(more)) => records = more,
             Ok(Turn::Over(end, last)) => return Ok(Ran { end, records: last }),

@@ -9,5 +9,4 @@ pub mod Faults
 pub mod Least
 pub mod Searches
 pub mod Agree
-pub mod KnownAfter
 pub mod Registers

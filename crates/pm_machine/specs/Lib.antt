@@ -6,7 +6,6 @@ pub mod Effects
 pub mod Find
 pub mod Machine
 pub mod Runs
-pub mod Known
 pub mod Answers
 pub mod Inputs
 pub mod Law

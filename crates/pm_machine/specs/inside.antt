@@ -1,6 +1,6 @@
 -- What only bodies and proofs need: no public clause rests on it.
 pub mod Answers
-pub mod Known
+pub mod Found
 pub mod Machine
 pub mod Runs
 pub mod Stack

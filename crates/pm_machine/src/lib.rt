@@ -16,7 +16,7 @@ mod playing;
 
 pub use answer::{RunAnswer, StepAnswer};
 pub use effect::{Effect, End};
-pub use find::{Found, InUse};
+pub use find::Found;
 pub use frame::{Frame, RegisterWords};
 pub use frames::Frames;
 pub use image::{Image, ImageParts, ImageRefused};

@@ -28,7 +28,7 @@ ghost use Rattle.pm_machine.specs.Runs.{end_of};
 ghost use Rattle.pm_machine.specs.inside.Runs.{IsStore, IsInRange};
 
 use crate::effect::{Effect, End};
-use crate::find::InUse;
+use crate::find::search;
 use crate::frame::{Frame, RegisterWords};
 use crate::frames::{CALLERS, Frames};
 use crate::image::Image;
@@ -292,25 +292,18 @@ impl Machine {
         }
     }
 
-    fn find<P: PmemWork>(
-        &mut self,
-        dev: &P,
-        image: &Image,
-        used: &mut InUse,
-        r: u32,
-    ) -> Result<Progress, Refusal>
-        requires known { AreInUseOn image.now.parts.sizes (P.device dev.now) used.old }
+    fn find<P: PmemWork>(&mut self, dev: &mut P, image: &Image, r: u32) -> Result<Progress, Refusal>
         requires place { self.old.top.place < 2 ^ 63 }
-        requires lines { (P.device dev.now).lines ≡ pool_lines image.now.parts.sizes }
-        requires on { (P.device dev.now).on ≡ true }
-        ensures known { AreInUseOn image.now.parts.sizes (P.device dev.now) used.new }
+        requires lines { (P.device dev.old).lines ≡ pool_lines image.now.parts.sizes }
+        requires on { (P.device dev.old).on ≡ true }
         ensures meaning { IfOk result (λ p.
             outcome_of p self.new ≡ find image.now
-            (heap_in image.now.parts.sizes (P.device dev.now).cache) self.old r) }
+            (heap_in image.now.parts.sizes (P.device dev.old).cache) self.old r) }
         ensures never { IsOk result }
         ensures logged { self.new.logged ≡ self.old.logged }
+        ensures same { P.device dev.new ≡ P.device dev.old }
     {
-        match used.search(dev, image.sizes()) {
+        match search(dev, image.sizes()) {
             None => Err(Refusal::Off),
             Some(found) => {
                 self.write(r, found.slot as i64);
@@ -429,23 +422,21 @@ impl Machine {
     /// records.
     fn act<P: PmemWork>(
         &mut self,
-        dev: &P,
+        dev: &mut P,
         image: &Image,
-        used: &mut InUse,
         count: u64,
         op: &Op,
     ) -> Result<Progress, Refusal>
-        requires known { AreInUseOn image.now.parts.sizes (P.device dev.now) used.old }
         requires place { self.old.top.place < 2 ^ 63 }
-        requires lines { (P.device dev.now).lines ≡ pool_lines image.now.parts.sizes }
-        requires on { (P.device dev.now).on ≡ true }
-        ensures known { AreInUseOn image.now.parts.sizes (P.device dev.now) used.new }
+        requires lines { (P.device dev.old).lines ≡ pool_lines image.now.parts.sizes }
+        requires on { (P.device dev.old).on ≡ true }
+        ensures same { P.device dev.new ≡ P.device dev.old }
         ensures meaning { IfOk result (λ p.
             outcome_of p self.new ≡ execute image.now
-            (heap_in image.now.parts.sizes (P.device dev.now).cache) count self.old (Some op.now)) }
+            (heap_in image.now.parts.sizes (P.device dev.old).cache) count self.old (Some op.now)) }
         ensures only { OnErr result (IsErrOf result Refusal.NoMemory) }
         ensures wants { OnErr result (IsStore
-            (effect_in (execute image.now (heap_in image.now.parts.sizes (P.device dev.now).cache)
+            (effect_in (execute image.now (heap_in image.now.parts.sizes (P.device dev.old).cache)
             count self.old (Some op.now)))) }
         ensures err { OnErr result (self.new ≡ self.old) }
         ensures logged { self.new.logged ≡ self.old.logged }
@@ -482,7 +473,7 @@ impl Machine {
                 let word = self.target(image, *a, *o);
                 self.put(self.read(*b), word)
             }
-            Op::Find { r } => self.find(dev, image, used, *r),
+            Op::Find { r } => self.find(dev, image, *r),
             Op::Log { a, o } => {
                 let word = self.target(image, *a, *o);
                 Ok(self.log(image.sizes().records(), count, word))
@@ -503,27 +494,25 @@ impl Machine {
     /// One step, without its events and without counting its record.
     fn decide<P: PmemWork>(
         &mut self,
-        dev: &P,
+        dev: &mut P,
         image: &Image,
-        used: &mut InUse,
         count: u64,
     ) -> Result<Progress, Refusal>
-        requires known { AreInUseOn image.now.parts.sizes (P.device dev.now) used.old }
-        requires lines { (P.device dev.now).lines ≡ pool_lines image.now.parts.sizes }
-        requires on { (P.device dev.now).on ≡ true }
-        ensures known { AreInUseOn image.now.parts.sizes (P.device dev.now) used.new }
+        requires lines { (P.device dev.old).lines ≡ pool_lines image.now.parts.sizes }
+        requires on { (P.device dev.old).on ≡ true }
+        ensures same { P.device dev.new ≡ P.device dev.old }
         ensures meaning { IfOk result (λ p. outcome_of p self.new ≡ decide image.now count self.old
-            (heap_in image.now.parts.sizes (P.device dev.now).cache)) }
+            (heap_in image.now.parts.sizes (P.device dev.old).cache)) }
         ensures only { OnErr result (IsErrOf result Refusal.NoMemory) }
         ensures wants { OnErr result (IsStore
             (effect_in (decide image.now count self.old
-            (heap_in image.now.parts.sizes (P.device dev.now).cache)))) }
+            (heap_in image.now.parts.sizes (P.device dev.old).cache)))) }
         ensures err { OnErr result (self.new ≡ self.old) }
         ensures logged { self.new.logged ≡ self.old.logged }
     {
         match fetch(image, self) {
             None => Ok(Progress::Ended(End::Trapped(TrapKind::Depth))),
-            Some(op) => self.act(dev, image, used, count, op),
+            Some(op) => self.act(dev, image, count, op),
         }
     }
 }
@@ -627,25 +616,20 @@ fn perform<P: PmemWork>(
 }
 
 impl Machine {
-    /// One step, on a pool with that attempt and so many records. It uses and updates what is known
-    /// of the slots in use. After an end or a refusal the machine must not be used again, nor,
-    /// after a refusal, what was known.
+    /// One step, on a pool with that attempt and so many records. After an end or a refusal the
+    /// machine must not be used again.
     pub fn step_on<P: PmemWork>(
         &mut self,
         image: &Image,
         attempt: u64,
         count: u64,
-        used: &mut InUse,
         dev: &mut P,
     ) -> Result<Progress, Refusal>
-        requires known { AreInUseOn image.now.parts.sizes (P.device dev.old) used.old }
         requires lines { (P.device dev.old).lines ≡ pool_lines image.now.parts.sizes }
         requires on { (P.device dev.old).on ≡ true }
         requires attempt { attempt ≤ 2 ^ 63 - 2 }
         requires dirty { AreLines (heap_words image.now.parts.sizes) self.old.dirty }
         requires logged { self.old.logged < 2 ^ 63 }
-        ensures known { IfOk result (λ p. AreInUseOn image.now.parts.sizes (P.device dev.new)
-            used.new) }
         ensures meaning { IfOk result (λ p. outcome_of p self.new ≡ step image.now count self.old
             (heap_in image.now.parts.sizes (P.device dev.old).cache)) }
         ensures done { IfOk result (λ p.
@@ -663,11 +647,10 @@ impl Machine {
         ensures logged { OnErr result (self.new.logged ≡ self.old.logged) }
         ensures lines { (P.device dev.new).lines ≡ (P.device dev.old).lines }
     {
-        let progress = self.decide(dev, image, used, count)?;
+        let progress = self.decide(dev, image, count)?;
         if let Progress::Did(effect) = progress {
             perform(dev, image.sizes(), attempt, count, effect)?;
             self.tally(effect);
-            used.pass(image.sizes(), effect);
         }
         Ok(progress)
     }
@@ -744,13 +727,12 @@ impl Machine {
             (P.device dev.old).cache).records + self.old.logged) }
         ensures lines { (P.device dev.new).lines ≡ (P.device dev.old).lines }
     {
-        let mut used = InUse::unknown();
         let mut left = image.most();
         let mut records = count;
         while left > 0 {
             left -= 1;
             steps.tick();
-            let progress = match self.step_on(image, attempt, records, &mut used, dev) {
+            let progress = match self.step_on(image, attempt, records, dev) {
                 Ok(progress) => progress,
                 Err(why) => return Err(why),
             };

@@ -10,7 +10,6 @@ ghost use Rattle.pm_machine.specs.Runs.{heap_in, AreLines, due};
 ghost use Rattle.pm_machine.specs.Answers.{Stepped, RunAnswered};
 
 use crate::answer::{RunAnswer, StepAnswer};
-use crate::find::InUse;
 use crate::image::Image;
 use crate::machine::Machine;
 use clobber_log::{attempt, count};
@@ -49,7 +48,7 @@ impl Machine {
         let Some(count) = count(image.sizes(), dev, attempt) else {
             return StepAnswer::Off;
         };
-        StepAnswer::of(self.step_on(image, attempt, count, &mut InUse::unknown(), dev))
+        StepAnswer::of(self.step_on(image, attempt, count, dev))
     }
 
     /// Runs to the end, or to the refused event, in at most `most` steps of the image. A run that

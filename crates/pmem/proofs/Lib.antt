@@ -5,3 +5,4 @@ pub mod Parts
 pub mod Sparses
 pub mod Cuts
 pub mod Counts
+pub mod Zeros

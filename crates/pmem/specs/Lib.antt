@@ -6,4 +6,5 @@ pub mod Law
 pub mod Fail
 pub mod Sparse
 pub mod Kept
+pub mod Zeros
 pub mod inside

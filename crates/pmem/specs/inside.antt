@@ -1,3 +1,4 @@
 -- What only bodies and proofs need: no public clause rests on it.
 pub mod Sparse
+pub mod Zeros
 pub mod Switch

@@ -2,12 +2,13 @@
 //! the switch.
 
 ghost use Rattle.std.specs.Prelude.{◌≡◌, ◌*◌, ◌<◌, ◌≤◌, true, false, Some, None, IsSome, IsNone};
-ghost use Rattle.std.specs.Prelude.{IfSome, OnOk, OnErr, IfErr};
+ghost use Rattle.std.specs.Prelude.{IfSome, OnOk, OnErr, IfErr, ◌+◌, ◌^◌};
 ghost use Rattle.cache_model.specs.Cache.{view};
 ghost use Rattle.cache_model.specs.Event.{Store, Flush, Fence};
 ghost use Rattle.cache_model.specs.Collapse.{bad, Rises};
 ghost use Rattle.pmem.specs.Device.{Device, memory_of, blanked, powered, with_left, with_armed};
 ghost use Rattle.pmem.specs.Played.{Answered, Stored};
+ghost use Rattle.pmem.specs.Zeros.{IsFirstZero};
 
 use crate::answer::{Event, StoreEvent};
 use cache_model::{BadPick, Choice};
@@ -28,6 +29,17 @@ pub trait PmemWork {
         ensures value { IfSome result (λ v. v ≡ view (device self.now).cache word) }
         ensures on { IsSome result → (device self.now).on ≡ true }
         ensures off { IsNone result → (device self.now).on ≡ false };
+
+    /// How many of `count` words, two lines apart from `word` on, come before the first that is 0,
+    /// or `None` while the device is off. A search is no event. The device may remember what it
+    /// saw, so that later searches are shorter.
+    fn first_zero(&mut self, word: u64, count: u64) -> Option<u64>
+        requires inside { word + 16 * count ≤ 8 * (device self.old).lines }
+        requires fits { word + 16 * count < 2 ^ 64 }
+        ensures value { IfSome result (IsFirstZero (view (device self.old).cache) word count) }
+        ensures on { IsSome result → (device self.old).on ≡ true }
+        ensures off { IsNone result → (device self.old).on ≡ false }
+        ensures same { device self.new ≡ device self.old };
 
     /// Appends a version to the word's line.
     fn store(&mut self, word: u64, value: i64) -> StoreEvent

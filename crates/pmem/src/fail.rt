@@ -12,6 +12,7 @@ ghost use Rattle.pmem.specs.Fail.{fail_device, fail_inside, next_number, FailAns
 
 use crate::answer::{Event, StoreEvent};
 use crate::device::{Pmem, PmemWork};
+use crate::lines::first_zero_of;
 use crate::switch::Switch;
 use cache_model::{BadPick, Cache, Choice};
 use std::alloc::{AllocError, Global};
@@ -59,6 +60,13 @@ impl PmemWork for FailPmem {
             return None;
         }
         Some(self.cache.load(word))
+    }
+
+    fn first_zero(&mut self, word: u64, count: u64) -> Option<u64> {
+        if !self.switch.on {
+            return None;
+        }
+        Some(first_zero_of(&self.cache, word, count))
     }
 
     fn store(&mut self, word: u64, value: i64) -> StoreEvent

@@ -1,11 +1,13 @@
 //! The lines of a device in memory, which may be kept in more than one way.
 
-ghost use Rattle.std.specs.Prelude.{◌≡◌, ◌*◌, ◌<◌, None, Some, OnOk, OnErr, IfOk, IfErr};
+ghost use Rattle.std.specs.Prelude.{◌≡◌, ◌+◌, ◌*◌, ◌^◌, ◌<◌, ◌≤◌, length, None, Some, OnOk};
+ghost use Rattle.std.specs.Prelude.{OnErr, IfOk, IfErr};
 ghost use Rattle.cache_model.specs.Cache.{Memory, blank, view};
 ghost use Rattle.cache_model.specs.Event.{Store, Flush, Fence};
 ghost use Rattle.cache_model.specs.Play.{after};
 ghost use Rattle.cache_model.specs.Collapse.{bad, collapse, Rises};
 ghost use Rattle.cache_model.specs.Lists.{memory_from};
+ghost use Rattle.pmem.specs.Zeros.{IsFirstZero};
 
 use cache_model::{BadPick, Cache, Choice};
 use std::alloc::{AllocError, Global};
@@ -30,6 +32,13 @@ pub trait Lines {
     fn load(&self, word: u64) -> i64
         requires { word < 8 * (memory self.now).lines }
         ensures { result ≡ view (memory self.now).cache word };
+
+    /// How many of `count` words, two lines apart from `word` on, come before the first that is 0.
+    fn first_zero(&mut self, word: u64, count: u64) -> u64
+        requires inside { word + 16 * count ≤ 8 * (memory self.old).lines }
+        requires fits { word + 16 * count < 2 ^ 64 }
+        ensures value { IsFirstZero (view (memory self.old).cache) word count result }
+        ensures same { memory self.new ≡ memory self.old };
 
     /// Appends a version to the word's line.
     fn store(&mut self, word: u64, value: i64) -> Result<(), AllocError>
@@ -57,6 +66,20 @@ pub trait Lines {
         ensures refused { OnErr result (memory self.new ≡ memory self.old) };
 }
 
+/// How many of `count` words, two lines apart from `word` on, come before the first that is 0.
+pub fn first_zero_of(cache: &Cache, word: u64, count: u64) -> u64
+    requires inside { word + 16 * count ≤ 8 * length cache.now }
+    requires fits { word + 16 * count < 2 ^ 64 }
+    ensures { IsFirstZero (view (memory_from cache.now).cache) word count result }
+{
+    for n in 0..count {
+        if cache.load(word + 16 * n) == 0 {
+            return n;
+        }
+    }
+    count
+}
+
 /// Every line with a list of its versions.
 impl Lines for Cache {
     ghost memory = { memory_from };
@@ -75,6 +98,10 @@ impl Lines for Cache {
 
     fn load(&self, word: u64) -> i64 {
         Cache::load(self, word)
+    }
+
+    fn first_zero(&mut self, word: u64, count: u64) -> u64 {
+        first_zero_of(self, word, count)
     }
 
     fn store(&mut self, word: u64, value: i64) -> Result<(), AllocError> {

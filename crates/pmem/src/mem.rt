@@ -82,6 +82,14 @@ impl<L: Lines + Drop> PmemWork for MemPmem<L> {
         Some(self.lines.load(word))
     }
 
+    fn first_zero(&mut self, word: u64, count: u64) -> Option<u64> {
+        if self.switch.on {
+            Some(self.lines.first_zero(word, count))
+        } else {
+            None
+        }
+    }
+
     fn store(&mut self, word: u64, value: i64) -> StoreEvent {
         match self.switch.gate(false) {
             Event::Off => StoreEvent::Off,

@@ -17,6 +17,8 @@ ghost use Rattle.pmem.specs.Sparse.{kept_at};
 ghost use Rattle.pmem.specs.inside.Sparse.{count_of, more_older, flush_older, fence_entry};
 ghost use Rattle.pmem.specs.inside.Sparse.{fence_lines, AreListed, fence_kept, left_older};
 ghost use Rattle.pmem.specs.inside.Sparse.{or_newest};
+ghost use Rattle.pmem.specs.Zeros.{IsFirstZero};
+ghost use Rattle.pmem.specs.inside.Zeros.{AreFull, full_past};
 
 use crate::lines::Lines;
 use crate::older::Kept;
@@ -25,8 +27,16 @@ use std::alloc::{AllocError, Global};
 use std::collections::BTreeMap;
 use std::marker::Model;
 
-/// The number of lines, their newest words, the older versions of the lines that have any, and the
-/// lines that were marked since the last fence.
+/// Where a search for a word that is 0 began, and how many words from there on, two lines apart, are
+/// known not to be 0.
+#[derive(Clone, Copy, Debug, PartialEq, Eq)]
+pub struct Full {
+    pub first: u64,
+    pub count: u64,
+}
+
+/// The number of lines, their newest words, the older versions of the lines that have any, the
+/// lines that were marked since the last fence, and what the last search saw.
 #[derive(Drop)]
 pub struct SparseLines {
     alloc: Global,
@@ -36,12 +46,14 @@ pub struct SparseLines {
     marked: Vec<u64>,
     /// Whether a marked line isn't listed, since memory lacked.
     unlisted: bool,
+    full: Full,
 }
 
 impl Model for SparseLines {
     ghost use Rattle.std.specs.Prelude.{◌≡◌, ◌⊎◌, true};
     ghost use Rattle.pmem.specs.Sparse.{Sparse, IsTidySparse};
     ghost use Rattle.pmem.specs.inside.Sparse.{AreListed};
+    ghost use Rattle.pmem.specs.inside.Zeros.{AreFull};
 
     ghost Value = { Sparse };
 
@@ -49,7 +61,8 @@ impl Model for SparseLines {
 
     ghost invariant = { λ s.
         IsTidySparse (record { count = s.count; words = s.words.items; kept = s.kept.entries })
-        × ((s.unlisted ≡ true) ⊎ AreListed s.marked.items s.kept.entries) };
+        × ((s.unlisted ≡ true) ⊎ AreListed s.marked.items s.kept.entries)
+        × AreFull s.words.items s.full.first s.full.count };
 }
 
 impl SparseLines {
@@ -108,6 +121,7 @@ impl Lines for SparseLines {
             kept: BTreeMap::new(alloc),
             marked: Vec::new(alloc),
             unlisted: false,
+            full: NOTHING,
         }
     }
 
@@ -123,6 +137,7 @@ impl Lines for SparseLines {
             kept: BTreeMap::new(alloc),
             marked: Vec::new(alloc),
             unlisted: false,
+            full: NOTHING,
         })
     }
 
@@ -130,11 +145,26 @@ impl Lines for SparseLines {
         self.words[word as usize]
     }
 
+    fn first_zero(&mut self, word: u64, count: u64) -> u64 {
+        if self.full.first != word {
+            self.full = Full {
+                first: word,
+                count: 0,
+            };
+        }
+        let found = first_zero_in(&self.words, word, count, self.full.count.min(count));
+        if self.full.count < found {
+            self.full.count = found;
+        }
+        found
+    }
+
     fn store(&mut self, word: u64, value: i64) -> Result<(), AllocError> {
         let line = word / 8;
         let version = version_of(&self.words, line);
         keep_version(self.alloc, &mut self.kept, line, version)?;
         self.words[word as usize] = value;
+        self.full = full_past(self.full, word, value);
         Ok(())
     }
 
@@ -155,7 +185,41 @@ impl Lines for SparseLines {
             return Err(BadPick { line });
         }
         leave_all(&mut self.words, &mut self.kept, choice.rest, picks);
+        self.full = NOTHING;
         Ok(())
+    }
+}
+
+/// Nothing is known to be other than 0.
+const NOTHING: Full = Full { first: 0, count: 0 };
+
+/// How many of `count` words, two lines apart from `word` on, come before the first that is 0, if
+/// none of the first `known` is.
+fn first_zero_in(words: &[i64], word: u64, count: u64, known: u64) -> u64
+    requires inside { word + 16 * count ≤ length words.now }
+    requires few { known ≤ count }
+    requires known { AreFull words.now word known }
+    ensures { IsFirstZero (λ w. slice_index_or words.now w (pos 0)) word count result }
+{
+    for n in known..count {
+        if words[(word + 16 * n) as usize] == 0 {
+            return n;
+        }
+    }
+    count
+}
+
+/// What is still known not to be 0 after a store.
+fn full_past(full: Full, word: u64, value: i64) -> Full
+    ensures { result ≡ full_past full word value }
+{
+    if value == 0 && full.first <= word && (word - full.first) % 16 == 0 {
+        Full {
+            first: full.first,
+            count: full.count.min((word - full.first) / 16),
+        }
+    } else {
+        full
     }
 }
 

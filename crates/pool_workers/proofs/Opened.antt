@@ -1,11 +1,12 @@
 -- An answered event of the whole device, as the window sees it, and its effect outside.
 use Rattle.std.proofs.Common.{◌≡◌, ◌≢◌, ◌⊎◌, inl, inr, ℕ, ◌+◌, ◌*◌, ◌<◌, Bool, true, Option, Some}
-use Rattle.std.proofs.Common.{None, IfSome, ℤ, refl, sym, ap, ◌∙◌, subst}
+use Rattle.std.proofs.Common.{None, IfSome, ℤ, refl, sym, ap, ◌∙◌, subst, ◌≤◌, arith}
 use Rattle.cache_model.specs.Event.{CacheEvent, Store, Flush, Fence}
 use Rattle.cache_model.specs.Cache.{Cache, view}
 use Rattle.cache_model.specs.Play.{apply}
 use Rattle.pmem.specs.Device.{Device, spent}
 use Rattle.pmem.specs.Played.{Refuses, Answered, Stored}
+use Rattle.pmem.specs.Zeros.{IsFirstZero}
 use Rattle.pmem.specs.declared.answer.Event.{Event}
 use Rattle.pmem.specs.declared.answer.Event.TheVariants as event
 use Rattle.pmem.specs.declared.answer.StoreEvent.{StoreEvent}
@@ -83,6 +84,21 @@ module _ (f n at : ℕ) (is : at ≡ f) where
       IfSome v (λ x. x ≡ view c (8 * at + w)) → IfSome v (λ x. x ≡ view (cache_in f n c) w)
   load_in w None c lt h = h
   load_in w (Some x) c lt h = h ∙ ap (λ (k : ℕ). view c (8 * k + w)) is ∙ sym (view_in f n w c lt)
+
+  pub first_zero_in : (w m : ℕ) (v : Option ℕ) (c : Cache) → w + 16 * m ≤ 8 * n →
+      IfSome v (IsFirstZero (view c) (8 * at + w) m) →
+      IfSome v (IsFirstZero (view (cache_in f n c)) w m)
+  first_zero_in w m None c le h = h
+  first_zero_in w m (Some k) c le h =
+      let here : (i : ℕ) → i < m →
+      view c (8 * at + w + 16 * i) ≡ view (cache_in f n c) (w + 16 * i) = λ i lt.
+      let place : 8 * at + w + 16 * i ≡ 8 * f + (w + 16 * i) = omega (arith, is) in
+      ap (view c) place ∙ sym (view_in f n (w + 16 * i) c (omega arith)) in
+      record {
+        few = h.few;
+        before = λ i lt e. h.before i lt (here i (omega (arith, h.few)) ∙ e);
+        there = λ lt. sym (here k lt) ∙ h.there lt;
+      }
 
   pub store_aside : (w : ℕ) (x : ℤ) (k : Bool) (c : Cache) (a : StoreEvent) (d b : Device) →
       w < 8 * n → Stored a d (Store (8 * at + w) x) b → AreAside f n k c d.cache →

@@ -12,7 +12,7 @@ use crate::task::{Task, Turn, cut, going, last, records_past};
 use args_log::{SealAnswer, mark_unusable, retire, seal};
 use clobber_log::{attempt, count};
 use nvm_base::{Steps, Words};
-use pm_machine::{End, Image, InUse, Machine, Progress};
+use pm_machine::{End, Image, Machine, Progress};
 use pmem::{Phase, PmemWork, Refusal};
 use std::sync::ledger::Ledger;
 
@@ -62,7 +62,7 @@ fn seal_turn<P: PmemWork>(
     }
 }
 
-/// The turn of one instruction. Nothing is known of the slots, so a search begins at the first one.
+/// The turn of one instruction.
 fn step_turn<P: PmemWork>(
     image: &Image,
     machine: Machine,
@@ -83,8 +83,7 @@ fn step_turn<P: PmemWork>(
 {
     let mut machine = machine;
     let logged = machine.logged();
-    let mut used = InUse::unknown();
-    match machine.step_on(image, attempt, records, &mut used, dev) {
+    match machine.step_on(image, attempt, records, dev) {
         Ok(Progress::Did(effect)) => Turn {
             answer: TurnAnswer::Went,
             task: Some(going(machine, attempt, records_past(records, effect), left - 1)),

@@ -118,6 +118,10 @@ impl<P: Pmem, O: Origin> PmemWork for Window<P, O> {
         self.dev.load(8 * self.first + word)
     }
 
+    fn first_zero(&mut self, word: u64, count: u64) -> Option<u64> {
+        self.dev.first_zero(8 * self.first + word, count)
+    }
+
     fn store(&mut self, word: u64, value: i64) -> StoreEvent {
         self.dev.store(8 * self.first + word, value)
     }

@@ -111,7 +111,6 @@ loop-left-preserved g c =
       dirty = kept.0;
       lines = search rules;
       on = kept.4;
-      known = c.in-Ok-Went.ensures.known;
       few = kept.1;
       more = omega arith;
       logged = kept.3;

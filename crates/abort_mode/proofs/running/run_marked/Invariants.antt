@@ -1,6 +1,5 @@
 use Rattle.std.proofs.Common.{◌≡◌, ◌≤◌, ◌+◌, true}
 use Rattle.pool_layout.specs.Sizes.{heap_words}
-use Rattle.pm_machine.specs.Known.{AreInUseOn}
 use Rattle.pm_machine.specs.Runs.{AreLines}
 use Rattle.pm_machine.specs.inside.Runs.{DueLeads}
 use Rattle.abort_mode.specs.Runs.{due_marked}
@@ -18,7 +17,6 @@ invariant-loop-left g l =
       dirty : AreLines (heap_words l.image.parts.sizes) l.machine.dirty;
       lines : (device l.dev).lines ≡ (device l.initial.dev).lines;
       on : (device l.dev).on ≡ true;
-      known : AreInUseOn l.image.parts.sizes (device l.dev) l.used;
       few : l.records ≤ l.image.parts.sizes.records;
       more : l.initial.count ≤ l.records;
       logged : l.machine.logged ≤ l.records;

@@ -1,6 +1,6 @@
 use Rattle.std.proofs.Common.{◌≡◌, ◌+◌, suc, sym, ◌∙◌, arith}
 use Rattle.abort_mode.specs.Runs.{wanted}
-use Rattle.abort_mode.proofs.Turns.{first_known, turn_plain, turn_added}
+use Rattle.abort_mode.proofs.Turns.{turn_plain, turn_added}
 use Rattle.abort_mode.proofs.running.take_turn.Goals as goal
 
 pub returns-in-Ok-Not-clause-turned : goal.returns-in-Ok-Not-clause-turned
@@ -25,11 +25,3 @@ returns-in-Ok-Added-clause-turned g c =
     (sym c.in-Ok-Added.field-0-is ∙ c.in-Ok-Added.ensures.kind) c.in-Ok-Added.ensures.done
     (let e : c.args.count + 1 ≡ suc c.args.count = omega arith in e)
     c.step-in-Ok-Added.ensures.turned
-
--- the appended record doesn't change what is known of the slots
-pub step-requires-in-Ok-Added-clause-known : goal.step-requires-in-Ok-Added-clause-known
-step-requires-in-Ok-Added-clause-known g c =
-    let device = g.P.PmemWork.device in
-    first_known c.args.image.now c.args.attempt c.args.count c.args.machine.now
-    (device c.args.dev.now)
-    (device c.log_first.new.dev) c.args.used.now c.in-Ok-Added.ensures.done c.requires.known

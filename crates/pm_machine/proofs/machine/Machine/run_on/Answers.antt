@@ -169,7 +169,6 @@ loop-left-preserved g c =
       dirty = keeps.1;
       lines = search rules;
       on = next.1 ∙ c.loop-left.invariant.on;
-      known = c.in-Ok.ensures.known;
       few = rw past few;
       logged = rw (counted, past) logged;
       spent = let e = c.loop-left.invariant.spent in let t = c.tick.ensures in

@@ -1,6 +1,5 @@
 use Rattle.std.proofs.Common.{◌≡◌, ◌≤◌, ◌+◌, true}
 use Rattle.pool_layout.specs.Sizes.{heap_words}
-use Rattle.pm_machine.specs.Known.{AreInUseOn}
 use Rattle.pm_machine.specs.Runs.{AreLines, due}
 use Rattle.pm_machine.specs.inside.Runs.{DueLeads}
 use Rattle.pm_machine.proofs.machine.Machine.run_on.Given as goal
@@ -17,7 +16,6 @@ invariant-loop-left g l =
       dirty : AreLines (heap_words l.image.parts.sizes) l.self.dirty;
       lines : (device l.dev).lines ≡ (device l.initial.dev).lines;
       on : (device l.dev).on ≡ true;
-      known : AreInUseOn l.image.parts.sizes (device l.dev) l.used;
       few : l.records ≤ l.image.parts.sizes.records;
       logged : l.self.logged + l.initial.count ≡ l.records + l.initial.self.logged;
       spent : l.steps + l.left ≡ l.initial.steps + l.image.parts.most;

@@ -16,6 +16,7 @@ invariant_of-self c =
       tidy_fence s c.fence_marked.new.kept.entries c.self.invariant.0 c.fence_marked.ensures,
       inr (listed_empty c.clear.new.self.items c.clear.ensures.items s.kept
           c.fence_marked.new.kept.entries c.fence_marked.ensures),
+      c.self.invariant.2,
     )
 
 pub fence_marked-requires-clause-listed : goal.fence_marked-requires-clause-listed

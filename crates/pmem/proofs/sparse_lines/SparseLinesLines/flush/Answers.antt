@@ -17,6 +17,7 @@ invariant_of-self c =
       listed_flushed c.self.inside.unlisted m.result c.self.inside.marked.items
           m.new.marked.items s.kept m.new.kept.entries c.args.line
           c.self.invariant.1 m.ensures.listed m.ensures.kept,
+      c.self.invariant.2,
     )
 
 pub returns : goal.returns

@@ -5,6 +5,7 @@ use Rattle.cache_model.specs.Play.{after}
 use Rattle.pmem.specs.Sparse.{Sparse, sparse_memory}
 use Rattle.pmem.proofs.Sparses.{store_sparse, tidy_store, same_sparse, listed_stored}
 use Rattle.pmem.proofs.Cuts.{round, on_err}
+use Rattle.pmem.proofs.Zeros.{full_stored}
 use Rattle.pmem.proofs.sparse_lines.SparseLinesLines.store.Goals as goal
 
 pub returns-in_err-keep_version-clause-refused : goal.returns-in_err-keep_version-clause-refused
@@ -33,6 +34,8 @@ invariant_of-self-2 c =
       listed_stored c.self.inside.unlisted c.self.inside.marked.items s.kept
           c.keep_version.new.kept.entries (c.args.word / 8) c.version_of-version.result
           c.self.invariant.1 c.in_ok-keep_version.ensures.done,
+      full_stored s.words c.self.inside.full c.args.word _ (omega (arith, c.self.invariant.0.words))
+          c.self.invariant.2 c.full_past-self-inside.result c.full_past-self-inside.ensures,
     )
 
 pub returns-clause-done : goal.returns-clause-done
