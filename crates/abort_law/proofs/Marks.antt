@@ -19,6 +19,7 @@ use Rattle.pool_layout.specs.Places.{at, pool_of}
 use Rattle.pool_layout.specs.Sizes.{heap_words}
 use Rattle.pool_layout.proofs.Records.{pos_inj}
 use Rattle.pool_map.specs.declared.trap.TrapKind.TheVariants as trap
+use Rattle.clobber_log.specs.Restore.{word_in_record}
 use Rattle.pm_machine.specs.declared.frame.Frame.{Frame}
 use Rattle.pm_machine.specs.declared.op.Op.{Op}
 use Rattle.pm_machine.specs.declared.op.Op.TheVariants as op
@@ -39,13 +40,13 @@ use Rattle.pm_machine.specs.inside.Runs.{IsInRange}
 use Rattle.pm_machine.proofs.Range.{inside_below}
 use Rattle.pm_machine.proofs.Agree.{act_same, header_below}
 use Rattle.crash_law.specs.Due.{is_listed}
-use Rattle.abort_mode.specs.Runs.{has_record, words_in, unlogged}
+use Rattle.abort_mode.specs.Runs.{has_record, unlogged}
 use Rattle.abort_law.specs.Machine.{logged_past, missing, stepped, turned, run_marked}
 
 -- the view's records belong to these words
 abbrev pub AreRecorded : Sizes → List ℕ → Cache → Type 0
 AreRecorded z [] c = Unit {0}
-AreRecorded z (w ∷ ls) c = (words_in z (view c) (length ls) ≡ pos w) × AreRecorded z ls c
+AreRecorded z (w ∷ ls) c = (word_in_record z (view c) (length ls) ≡ pos w) × AreRecorded z ls c
 
 past_same : (H : ℕ) (e : Effect) (h r : Words) → ((u : ℕ) → u < H → h u ≡ r u) → (u : ℕ) → u < H →
     heap_past h e u ≡ heap_past r e u
@@ -201,24 +202,24 @@ module _ (image : Image) where
       false_of false never = refl
 
   has_same : (ls : List ℕ) (c : Cache) (w : ℕ) → AreRecorded image.parts.sizes ls c →
-      has_record (words_in image.parts.sizes (view c)) (length ls) w ≡ is_listed w ls
+      has_record (word_in_record image.parts.sizes (view c)) (length ls) w ≡ is_listed w ls
   has_same [] c w recorded = refl
   has_same (u ∷ ls) c w recorded =
-      ap (λ (x : ℤ). int_eq x (pos w) || has_record (words_in image.parts.sizes (view c))
+      ap (λ (x : ℤ). int_eq x (pos w) || has_record (word_in_record image.parts.sizes (view c))
       (length ls) w) recorded.0
-      ∙ ap (λ (b : Bool). b || has_record (words_in image.parts.sizes (view c)) (length ls) w)
+      ∙ ap (λ (b : Bool). b || has_record (word_in_record image.parts.sizes (view c)) (length ls) w)
       (name_same u w)
       ∙ ap (λ (b : Bool). (w == u) || b) (has_same ls c w recorded.1)
 
   pub wanted_same : (ls : List ℕ) (c : Cache) (o : Option ℕ) → AreRecorded image.parts.sizes ls c →
-      unlogged (words_in image.parts.sizes (view c)) (length ls) o ≡ missing ls o
+      unlogged (word_in_record image.parts.sizes (view c)) (length ls) o ≡ missing ls o
   wanted_same ls c None recorded = refl
   wanted_same ls c (Some w) recorded =
       ap (λ (b : Bool). if b then None else Some w) (has_same ls c w recorded)
 
   recorded_kept : (ls : List ℕ) (c d : Cache) (n : ℕ) → length ls ≤ n →
       ((j : ℕ) → j < n →
-      words_in image.parts.sizes (view d) j ≡ words_in image.parts.sizes (view c) j) →
+      word_in_record image.parts.sizes (view d) j ≡ word_in_record image.parts.sizes (view c) j) →
       AreRecorded image.parts.sizes ls c → AreRecorded image.parts.sizes ls d
   recorded_kept [] c d n le same recorded = tt
   recorded_kept (w ∷ ls) c d n le same recorded = (

@@ -5,7 +5,7 @@ use Rattle.std.proofs.Common.{pos, refl, sym, ap, ◌∙◌, subst, arith}
 use Rattle.std.specs.Ordering.{int_eq}
 use borrow.Author.Tests.{ltb-true}
 use Rattle.cache_model.specs.Event.{CacheEvent}
-use Rattle.cache_model.specs.Cache.{Words, Cache}
+use Rattle.cache_model.specs.Cache.{Cache}
 use Rattle.cache_model.specs.Play.{play}
 use Rattle.pmem.specs.Device.{Device}
 use Rattle.pmem.specs.Played.{PlaysAll, PlaysPart}
@@ -26,10 +26,8 @@ use Rattle.pm_machine.specs.declared.image.Image.{Image}
 use Rattle.pm_machine.specs.Effects.{events_of, records_past}
 use Rattle.pm_machine.specs.Machine.{State, StepOutcome, Goes, Ends, decide, tally, step}
 use Rattle.pm_machine.specs.Runs.{heap_in, outcome_of, effect_of, effect_in, AreLines}
-use Rattle.pm_machine.specs.inside.Runs.{IsInRange}
 use Rattle.pm_machine.specs.Runs.{Due, due_before, owing}
 use Rattle.pm_machine.specs.inside.Runs.{DueLeads}
-use Rattle.pm_machine.proofs.Dues.{heap_played}
 use Rattle.pm_machine.proofs.Range.{keeps_progress, records_fit}
 use Rattle.abort_mode.specs.declared.running.Logging.TheVariants.{Not, Added, Full}
 use Rattle.abort_mode.specs.declared.running.Turn.{Turn}
@@ -38,7 +36,7 @@ use Rattle.abort_mode.specs.Runs.{has_record, wanted, append_events, events_befo
 use Rattle.abort_mode.specs.Runs.{step_events}
 use Rattle.abort_mode.specs.Runs.{stepping, full}
 use Rattle.abort_mode.specs.Runs.{turning, due_marked}
-use Rattle.abort_mode.specs.inside.Turns.{logging, first_events, due_first, TurnLeads, TurnKept}
+use Rattle.abort_mode.specs.inside.Turns.{logging, before_step, TurnLeads, TurnKept}
 
 -- records, from the last one down
 
@@ -205,7 +203,7 @@ module _ (image : Image) (a n : ℕ) (s t : State) (d b : Device) where
 
   -- no room for a record is left
   pub turn_full : (o : Option ℕ) → Full ≡ logging z n o →
-      PlaysAll d (first_events z a n d.cache o) b →
+      PlaysAll d (before_step z a n d.cache o) b →
       TurnLeads (Ok (Over (Trapped LogFull) n)) (TurnAll o) t d b
   turn_full None is played = absurd (cc (is))
   turn_full (Some w) is played = go (nat_lt n z.records) is played
@@ -221,7 +219,7 @@ module _ (image : Image) (a n : ℕ) (s t : State) (d b : Device) where
           λ rest k d0 k0 x0 h. (sym h.fate, h.whole b played, h.steps, sym h.records)
 
   -- the append was cut
-  pub turn_cut : (o : Option ℕ) (why : Refusal) → PlaysPart why d (first_events z a n d.cache o) b →
+  pub turn_cut : (o : Option ℕ) (why : Refusal) → PlaysPart why d (before_step z a n d.cache o) b →
       TurnLeads (Err why) (TurnAll o) t d b
   turn_cut None why part = absurd part
   turn_cut (Some w) why part = go (nat_lt n z.records) part
@@ -254,7 +252,7 @@ module _ (image : Image) (a n : ℕ) (s t : State) (d b : Device) where
 
     -- no record is needed
     pub turn_plain : (o : Option ℕ) (r : Result Turn Refusal) → Not ≡ logging z n o →
-        PlaysAll d (first_events z a n d.cache o) m →
+        PlaysAll d (before_step z a n d.cache o) m →
         TurnLeads r (λ rest. stepping image a n s m.cache rest) t m b
         → TurnLeads r (TurnAll o) t d b
     turn_plain None r is played h =
@@ -270,7 +268,7 @@ module _ (image : Image) (a n : ℕ) (s t : State) (d b : Device) where
 
     -- a record was appended
     pub turn_added : (o : Option ℕ) (i : ℕ) (r : Result Turn Refusal) → Added ≡ logging z n o →
-        PlaysAll d (first_events z a n d.cache o) m → i ≡ suc n →
+        PlaysAll d (before_step z a n d.cache o) m → i ≡ suc n →
         TurnLeads r (λ rest. stepping image a i s m.cache rest) t m b
         → TurnLeads r (TurnAll o) t d b
     turn_added None i r is played one h = absurd (cc (is))
@@ -304,8 +302,8 @@ added_room z n (Some w) is = go (nat_lt n z.records) refl is
     go false e is = absurd (cc (is))
 
 pub first_on : (z : Sizes) (a n : ℕ) (c : Cache) (o : Option ℕ) (d b : Device) →
-    PlaysAll d (first_events z a n c o) b → b.on ≡ d.on
-first_on z a n c o d b played = all_on (first_events z a n c o) d b played
+    PlaysAll d (before_step z a n c o) b → b.on ≡ d.on
+first_on z a n c o d b played = all_on (before_step z a n c o) d b played
 
 -- if turns are left, the run is one turn and then the rest
 pub turn_opened : (image : Image) (a m n : ℕ) (s : State) (c : Cache) (d : Device) (k : ℕ)

@@ -8,10 +8,10 @@ use Rattle.cache_model.specs.Event.{CacheEvent}
 use Rattle.cache_model.specs.Cache.{Words, Cache, view}
 use Rattle.cache_model.specs.Play.{play}
 use Rattle.pool_layout.specs.declared.limits.Sizes.{Sizes}
-use Rattle.pool_layout.specs.declared.places.Place.TheVariants.{RecordWord}
 use Rattle.pool_layout.specs.Places.{at, pool_of}
 use Rattle.pool_map.specs.declared.trap.TrapKind.TheVariants.{LogFull}
 use Rattle.clobber_log.specs.Record.{record_events}
+use Rattle.clobber_log.specs.Restore.{word_in_record}
 use Rattle.pm_machine.specs.declared.effect.Effect.{Effect}
 use Rattle.pm_machine.specs.declared.effect.End.TheVariants.{Trapped}
 use Rattle.pm_machine.specs.declared.image.Image.{Image}
@@ -24,10 +24,6 @@ abbrev pub has_record : (word : ℕ → ℤ) → ℕ → ℕ → Bool
 has_record word zero w = false
 has_record word (suc n) w = int_eq (word n) (pos w) || has_record word n w
 
--- the heap word that record j of an image holds
-abbrev pub words_in : Sizes → Words → ℕ → ℤ
-words_in z image j = image (at (pool_of z) (RecordWord j))
-
 -- the word, if none of the first n records belongs to it
 abbrev pub unlogged : (word : ℕ → ℤ) → ℕ → Option ℕ → Option ℕ
 unlogged word n None = None
@@ -35,7 +31,7 @@ unlogged word n (Some w) = if has_record word n w then None else Some w
 
 -- the word that has to be logged before the next step
 abbrev pub wanted : Image → (n : ℕ) → State → Cache → Option ℕ
-wanted image n s c = unlogged (words_in image.parts.sizes (view c)) n (due_store image s)
+wanted image n s c = unlogged (word_in_record image.parts.sizes (view c)) n (due_store image s)
 
 -- the events that append its record, with attempt a and n records so far
 abbrev pub append_events : Sizes → (a n w : ℕ) → Cache → List CacheEvent

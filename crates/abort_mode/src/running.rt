@@ -7,6 +7,7 @@ ghost use Rattle.std.specs.Ordering.{int_eq};
 ghost use Rattle.cache_model.specs.Cache.{view};
 ghost use Rattle.pmem.specs.Played.{PlaysAll, PlaysPart};
 ghost use Rattle.pool_layout.specs.Sizes.{heap_words, pool_lines};
+ghost use Rattle.clobber_log.specs.Restore.{word_in_record};
 ghost use Rattle.pm_machine.specs.Effects.{records_past};
 ghost use Rattle.pm_machine.specs.Runs.{AreLines, end_of};
 ghost use Rattle.abort_mode.specs.Runs.{has_record, words_in, wanted, due_all};
@@ -27,7 +28,7 @@ fn is_of<P: PmemWork>(sizes: &Sizes, dev: &P, i: u64, w: u64) -> bool
     requires inside { w < heap_words sizes.now }
     requires lines { (P.device dev.now).lines ≡ pool_lines sizes.now }
     requires on { (P.device dev.now).on ≡ true }
-    ensures { result ≡ int_eq (words_in sizes.now (view (P.device dev.now).cache) i) (pos w) }
+    ensures { result ≡ int_eq (word_in_record sizes.now (view (P.device dev.now).cache) i) (pos w) }
 {
     match dev.load(8 * (6 + i)) {
         Some(word) => word == w as i64,
@@ -41,7 +42,7 @@ fn has_record<P: PmemWork>(sizes: &Sizes, dev: &P, count: u64, w: u64) -> bool
     requires inside { w < heap_words sizes.now }
     requires lines { (P.device dev.now).lines ≡ pool_lines sizes.now }
     requires on { (P.device dev.now).on ≡ true }
-    ensures { result ≡ has_record (words_in sizes.now (view (P.device dev.now).cache)) count w }
+    ensures { result ≡ has_record (word_in_record sizes.now (view (P.device dev.now).cache)) count w }
 {
     let mut left = count;
     while left > 0 {

@@ -3,4 +3,3 @@ pub mod Reset
 pub mod Logs
 pub mod Append
 pub mod Restore
-pub mod inside

@@ -1,36 +1,33 @@
 -- The counts of a storm, and the line that tells them.
 use Rattle.std.specs.Prelude.{ℕ, ◌+◌, ◌-◌, ◌^◌, min, List, [], ◌++◌, codes}
 use Rattle.std.specs.Fmt.{decimal}
+use Rattle.nvm_base.specs.Rose.{raised}
 use Rattle.cnvm_script.specs.declared.command.Command.{Command}
 use Rattle.cnvm_script.specs.declared.command.Command.TheVariants as command
 use Rattle.cnvm_session.specs.declared.answer.Answer.{Answer}
 use Rattle.cnvm_session.specs.declared.answer.Answer.TheVariants as answer
 use Rattle.cnvm_cli.specs.declared.storm.Tally.{Tally}
 
--- one more, and at most 2^64 - 1
-abbrev pub one_more : ℕ → ℕ
-one_more n = min (n + 1) (2 ^ 64 - 1)
-
 abbrev pub with_call : Tally → Tally
-with_call t = record t { calls = one_more t.calls }
+with_call t = record t { calls = raised t.calls }
 
 abbrev pub with_done : Tally → Tally
-with_done t = record t { done = one_more t.done }
+with_done t = record t { done = raised t.done }
 
 abbrev pub with_stopped : Tally → Tally
-with_stopped t = record t { stopped = one_more t.stopped }
+with_stopped t = record t { stopped = raised t.stopped }
 
 abbrev pub with_redone : Tally → Tally
-with_redone t = record t { redone = one_more t.redone }
+with_redone t = record t { redone = raised t.redone }
 
 abbrev pub with_none : Tally → Tally
-with_none t = record t { none = one_more t.none }
+with_none t = record t { none = raised t.none }
 
 abbrev pub with_trapped : Tally → Tally
-with_trapped t = record t { trapped = one_more t.trapped }
+with_trapped t = record t { trapped = raised t.trapped }
 
 abbrev pub with_other : Tally → Tally
-with_other t = record t { other = one_more t.other }
+with_other t = record t { other = raised t.other }
 
 -- counts a call
 abbrev pub command_counted : Command → Tally → Tally

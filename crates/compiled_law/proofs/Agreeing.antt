@@ -48,7 +48,7 @@ use Rattle.instrument.proofs.LoggedCode.{answer_well_formed}
 use Rattle.insert_law.specs.Law.{HasResult}
 use Rattle.insert_law.proofs.Standing.{function_at}
 use Rattle.insert_law.proofs.Origins.{origin}
-use Rattle.code_meaning.specs.Code.{CodeEnd, Ended, Trapped, code_start, exec, register_at}
+use Rattle.code_meaning.specs.Code.{CodeEnd, code_start, exec, register_at}
 use Rattle.code_meaning.specs.Code.{load_spot}
 use Rattle.code_meaning.specs.Code as code
 use Rattle.code_meaning.specs.Deeds.{Deed, deeds}
@@ -60,7 +60,8 @@ use Rattle.codegen.specs.Emit.{functions_of, txs_from, most_steps}
 use Rattle.emit_law.specs.Standing.{HasRoom}
 use Rattle.emit_law.specs.TidyCode.{HasCode}
 use Rattle.piece_law.specs.Fits.{IsFit}
-use Rattle.piece_law.specs.Pools.{HasValidHeaders, pool_in}
+use Rattle.pool_layout.specs.Headers.{HasHeaders}
+use Rattle.piece_law.specs.Pools.{pool_in}
 use Rattle.piece_law.specs.Stands.{Stands}
 use Rattle.piece_law.specs.Words as words
 use Rattle.piece_law.proofs.Kept.{stays_fit}
@@ -388,7 +389,7 @@ module _ (text : List ℕ) (list : Tokens) (program : Program)
           let function : entry.function ≡ g = e.function ∙ (let z : 0 + g ≡ g = omega arith in z) in
           let n : ℕ = s.ticks in
           let k : ℕ = (n + 1) * whole plain.functions in
-          let valid : HasValidHeaders s (length (shapes_of tree).structs) h = head in
+          let valid : HasHeaders s (length (shapes_of tree).structs) h = head in
           let same : source_pool program h ≡ pool_in (shapes_of tree) s h =
           pool_same s (shapes_of tree) fit (shapes tree c.checked).few h valid in
           let stood = pool_is s (shapes_of tree) h fit valid in

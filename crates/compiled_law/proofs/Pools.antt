@@ -6,14 +6,14 @@ use Rattle.std.proofs.lemmas.Bool.{lt-ltb}
 use Rattle.cache_model.specs.Cache.{Words}
 use Rattle.pool_layout.specs.declared.limits.Sizes.{Sizes}
 use Rattle.pool_layout.specs.Sizes.{slot_word}
+use Rattle.pool_layout.specs.Headers.{HasHeaders}
 use Rattle.pool_map.specs.declared.object.Object.{Object}
 use Rattle.pool_map.specs.declared.shapes.StructShape.{StructShape}
 use Rattle.pool_map.specs.declared.shapes.Shapes.{Shapes}
 use Rattle.pool_map.specs.PoolFits.{words_of, struct_at}
 use Rattle.cnvm_session.specs.Shown as shown
 use Rattle.piece_law.specs.Fits.{IsFit}
-use Rattle.piece_law.specs.Pools.{HasValidHeaders, words_from, object_with, object_in, slots_from}
-use Rattle.piece_law.specs.Pools.{pool_in}
+use Rattle.piece_law.specs.Pools.{words_from, object_with, object_in, slots_from, pool_in}
 
 words_same : (h : Words) (w n : ℕ) → shown.words_from h w n ≡ words_from h w n
 words_same h w zero = refl
@@ -55,7 +55,7 @@ object_same s shapes fit few h w k le e =
     ∙ ap (λ (v : ℤ). object_in shapes.structs h w v) (sym e)
 
 slots_same : (s : Sizes) (shapes : Shapes) → IsFit s shapes → length shapes.structs ≤ 255
-    → (h : Words) → HasValidHeaders s (length shapes.structs) h → (n q : ℕ) → 1 ≤ q
+    → (h : Words) → HasHeaders s (length shapes.structs) h → (n q : ℕ) → 1 ≤ q
     → q + n ≤ suc s.slots → shown.objects_from s shapes.structs h q n
     ≡ slots_from s shapes.structs h q n
 slots_same s shapes fit few h valid zero q one le = refl
@@ -66,7 +66,7 @@ slots_same s shapes fit few h valid (suc n) q one le =
     (slots_same s shapes fit few h valid n (suc q) (omega arith) (omega (arith, le)))
 
 pub pool_same : (s : Sizes) (shapes : Shapes) → IsFit s shapes → length shapes.structs ≤ 255
-    → (h : Words) → HasValidHeaders s (length shapes.structs) h
+    → (h : Words) → HasHeaders s (length shapes.structs) h
     → shown.pool_in shapes s h ≡ pool_in shapes s h
 pool_same s shapes fit few h valid =
     ap₂ (λ (vs : List ℤ) (os : List (Option Object)). record { root = vs; slots = os })

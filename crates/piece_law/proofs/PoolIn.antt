@@ -6,6 +6,7 @@ use Rattle.std.specs.List.{AllByRecursion}
 use Rattle.std.proofs.lemmas.Option.{slice_get_cases}
 use Rattle.cache_model.specs.Cache.{Words}
 use Rattle.pool_layout.specs.declared.limits.Sizes.{Sizes}
+use Rattle.pool_layout.specs.Headers.{HasHeaders}
 use Rattle.pool_map.specs.declared.object.Object.{Object}
 use Rattle.pool_map.specs.declared.shapes.StructShape.{StructShape}
 use Rattle.pool_map.specs.declared.shapes.Shapes.{Shapes}
@@ -15,8 +16,8 @@ use Rattle.pool_map.proofs.Points.{IsSlot-HasField}
 use Rattle.code_meaning.specs.Code.{Spot, InRoot, InSlot, load_spot}
 use Rattle.piece_law.specs.Stands.{Stands, HasWord, heap_word, header_word, header_of}
 use Rattle.piece_law.specs.Fits.{IsFit}
-use Rattle.piece_law.specs.Pools.{HasValidHeaders, words_from, object_with, object_in, slots_from}
-use Rattle.piece_law.specs.Pools.{pool_in, PoolLaw, HeadersLaw}
+use Rattle.piece_law.specs.Pools.{words_from, object_with, object_in, slots_from, pool_in, PoolLaw}
+use Rattle.piece_law.specs.Pools.{HeadersLaw}
 use Rattle.piece_law.proofs.Changes.{object_fits}
 
 words_length : (heap : Words) (w n : ℕ) → length (words_from heap w n) ≡ n
@@ -125,7 +126,7 @@ module _ (s : Sizes) (structs : List StructShape) (heap : Words) where
   )
 
 module _ (s : Sizes) (shapes : Shapes) (heap : Words) (fit : IsFit s shapes)
-    (valid : HasValidHeaders s (length shapes.structs) heap) where
+    (valid : HasHeaders s (length shapes.structs) heap) where
   abbrev pool : PoolMap
   pool = pool_in shapes s heap
 
@@ -177,7 +178,7 @@ pool_is s shapes heap fit valid =
 pub headers_are : HeadersLaw
 headers_are s shapes heap w fits stands = (valid, same)
   where
-    valid : HasValidHeaders s (length shapes.structs) heap
+    valid : HasHeaders s (length shapes.structs) heap
     valid q low high = let k = kind_few shapes.structs heap (header_word s q) (object_at w q)
         (object_fits shapes w q fits) in (k.0, k.1, stands.headers q low high ∙ k.2)
 

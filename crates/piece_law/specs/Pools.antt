@@ -1,10 +1,11 @@
 -- The pool that a heap with valid headers stands for: its root words, and, in each slot whose
 -- header is a struct's number, an object with as many of the words after the header as the struct
 -- has. Any other slot is free.
-use Rattle.std.specs.Prelude.{ℕ, zero, suc, ◌+◌, ◌≤◌, ◌≡◌, List, [], ◌∷◌, length, Option, None}
+use Rattle.std.specs.Prelude.{ℕ, zero, suc, ◌+◌, ◌≡◌, List, [], ◌∷◌, length, Option, None}
 use Rattle.std.specs.Prelude.{Some, option_map, ℤ, pos, negsuc}
 use Rattle.cache_model.specs.Cache.{Words}
 use Rattle.pool_layout.specs.declared.limits.Sizes.{Sizes}
+use Rattle.pool_layout.specs.Headers.{HasHeaders}
 use Rattle.pool_map.specs.declared.object.Object.{Object}
 use Rattle.pool_map.specs.declared.shapes.StructShape.{StructShape}
 use Rattle.pool_map.specs.declared.shapes.Shapes.{Shapes}
@@ -17,11 +18,6 @@ use Rattle.code_meaning.specs.Code.{Frame, Here, CodeEnd, Ended, Trapped, Unfini
 use Rattle.code_meaning.specs.Code.{Goes, Ends, act}
 use Rattle.piece_law.specs.Stands.{Stands, header_word}
 use Rattle.piece_law.specs.Fits.{IsFit}
-
--- each header is from 0 to the number of structs
-abbrev pub HasValidHeaders : Sizes → ℕ → Words → Type 0
-HasValidHeaders s structs heap = (q : ℕ) → 1 ≤ q → q ≤ s.slots → (k : ℕ) × (k ≤ structs)
-    × (heap (header_word s q) ≡ pos k)
 
 -- n words of a heap, from word w on
 abbrev pub words_from : Words → (w n : ℕ) → List ℤ
@@ -53,14 +49,14 @@ pool_in shapes s heap = record {
 -- A heap with valid headers stands for its pool, which fits.
 abbrev pub PoolLaw : Type 0
 PoolLaw = (s : Sizes) (shapes : Shapes) (heap : Words) → IsFit s shapes
-    → HasValidHeaders s (length shapes.structs) heap →
+    → HasHeaders s (length shapes.structs) heap →
     Stands s heap (pool_in shapes s heap) × PoolFits shapes (pool_in shapes s heap)
 
 -- A heap that stands for a pool that fits has valid headers, and stands for no other pool.
 abbrev pub HeadersLaw : Type 0
 HeadersLaw = (s : Sizes) (shapes : Shapes) (heap : Words) (w : PoolMap) → PoolFits shapes w
     → Stands s heap w →
-    HasValidHeaders s (length shapes.structs) heap × (w ≡ pool_in shapes s heap)
+    HasHeaders s (length shapes.structs) heap × (w ≡ pool_in shapes s heap)
 
 abbrev pub FitsEnd : Shapes → CodeEnd → Type 0
 FitsEnd shapes (Ended w v t) = PoolFits shapes w

@@ -1,6 +1,5 @@
 -- What only bodies and proofs need: no public clause rests on it.
 pub mod Answers
 pub mod Found
-pub mod Machine
 pub mod Runs
 pub mod Stack

@@ -17,6 +17,7 @@ use Rattle.pool_layout.specs.Content.{KeepsRules, breaks_rule, is_within, is_sea
 use Rattle.pool_layout.specs.Content.{are_valid, is_stamp, in_heap, is_header, names_header}
 use Rattle.pool_layout.specs.Content.{is_first_version}
 use Rattle.pool_layout.specs.Opens.{IsOpenable, NamesOwed, IsBelow, HasHeaders}
+use Rattle.pool_layout.specs.Headers.{HasHeaders}
 use Rattle.pool_layout.proofs.Records.{LogIs, log_is}
 use Rattle.pool_layout.proofs.Undone.{undone_each}
 use Rattle.pool_layout.proofs.Kept.{and_rest, or_left, or_right, not_false, within_is, up_to}
@@ -57,7 +58,7 @@ well_made r image keeps a is = record {
 }
 
 headers_fit : (r : Rules) (image : Words) → KeepsRules r image
-    → HasHeaders r (λ w. image (at r.layout (Heap w)))
+    → HasHeaders r.layout.sizes r.structs (λ w. image (at r.layout (Heap w)))
 unfolding breaks_rule
 headers_fit r image keeps = λ slot low high.
     up_to r.structs (image (at r.layout (Heap (slot_word r.layout.sizes slot))))
@@ -113,7 +114,8 @@ old_fits r image keeps sealed j lt valid_j named =
 
 restored_headers : (r : Rules) (image : Words) → KeepsRules r image → (a : ℕ)
     → image (at r.layout Attempt) ≡ pos a → LogIs r.layout a (count r.layout a image) image
-    → is_sealed r.layout image ≡ true → HasHeaders r (restored r.layout a image)
+    → is_sealed r.layout image ≡ true
+    → HasHeaders r.layout.sizes r.structs (restored r.layout a image)
 unfolding restored
 restored_headers r image keeps a is log sealed = λ slot low high.
     undone_each (IsUpTo r.structs) (λ (j : ℕ). image (at r.layout (RecordWord j))) (λ (j : ℕ).

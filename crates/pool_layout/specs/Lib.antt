@@ -4,6 +4,7 @@ pub mod Digest
 pub mod Bytes
 pub mod Places
 pub mod Image
+pub mod Headers
 pub mod Log
 pub mod Restored
 pub mod Good

@@ -4,9 +4,10 @@ use Rattle.pool_layout.specs.declared.places.Version.TheVariants.{First}
 use Rattle.pool_layout.specs.declared.places.Place.TheVariants.{Done, Attempt, Mark, Argument}
 use Rattle.pool_layout.specs.declared.places.Place.TheVariants.{RecordWord, Heap}
 use Rattle.pool_layout.specs.declared.rules.Rules.{Rules}
-use Rattle.pool_layout.specs.Sizes.{heap_words, slot_word}
+use Rattle.pool_layout.specs.Sizes.{heap_words}
 use Rattle.pool_layout.specs.Places.{at}
 use Rattle.pool_layout.specs.Image.{Words, IsSealed, IsUpTo}
+use Rattle.pool_layout.specs.Headers.{HasHeaders}
 use Rattle.pool_layout.specs.Log.{WellMade, count}
 use Rattle.pool_layout.specs.Restored.{restored}
 use Rattle.pool_layout.specs.Content.{KeepsRules}
@@ -15,18 +16,13 @@ use Rattle.pool_layout.specs.Content.{KeepsRules}
 abbrev pub IsBelow : ℕ → ℤ → Type 0
 IsBelow n x = (u : ℕ) × (u < n) × (x ≡ pos u)
 
--- each slot's header is from 0 to the number of structs
-abbrev pub HasHeaders : Rules → (ℕ → ℤ) → Type 0
-HasHeaders r h = (slot : ℕ) → 1 ≤ slot → slot ≤ r.layout.sizes.slots
-    → IsUpTo r.structs (h (slot_word r.layout.sizes slot))
-
 -- If an image is sealed, it names one of the transactions, its valid records lie in the heap, and
 -- the heap that they restore has valid headers.
 pub record NamesOwed (r : Rules) (a : ℕ) (image : Words) : Type 0 where
   pub function : (f : ℕ) × (1 ≤ f) × (f ≤ r.txs) × (image (at r.layout (Argument 0)) ≡ pos f)
   pub in_heap : (j : ℕ) → j < count r.layout a image
       → IsBelow (heap_words r.layout.sizes) (image (at r.layout (RecordWord j)))
-  pub headers : HasHeaders r (restored r.layout a image)
+  pub headers : HasHeaders r.layout.sizes r.structs (restored r.layout a image)
 
 -- The mark, done and the attempt are in their ranges, the log is well made and the headers are
 -- valid. If the image is sealed, it also holds what the interrupted transaction needs.
@@ -37,7 +33,7 @@ pub record IsOpenable (r : Rules) (image : Words) : Type 0 where
   pub attempt_is : image (at r.layout Attempt) ≡ pos attempt
   pub attempt_fits : attempt ≤ 2 ^ 62
   pub log : WellMade r.layout attempt image
-  pub headers : HasHeaders r (λ w. image (at r.layout (Heap w)))
+  pub headers : HasHeaders r.layout.sizes r.structs (λ w. image (at r.layout (Heap w)))
   pub sealed : IsSealed r.layout image → NamesOwed r attempt image
   pub first_unsealed : r.layout.version ≡ First → IsSealed r.layout image → ⊥
 

@@ -7,6 +7,7 @@ use Rattle.std.specs.Option.{option_map_or}
 use Rattle.pool_layout.specs.declared.limits.Sizes.{Sizes}
 use Rattle.pool_layout.specs.Sizes.{slot_word}
 use Rattle.pool_layout.specs.Image.{Words, IsUpTo}
+use Rattle.pool_layout.specs.Headers.{HasHeaders}
 use Rattle.pool_map.specs.PoolMap.{PoolMap}
 use Rattle.pool_map.specs.declared.trap.TrapKind.TheVariants.{LogFull}
 use Rattle.c_tree.specs.ItemTree.{FunctionTree}
@@ -76,5 +77,4 @@ source_pool program h = pool_in (shapes_of program.typed) (sizes_of program) h
 -- each slot's header is from 0 to the number of structs
 abbrev pub HasSourceHeaders : Program → Words → Type 0
 HasSourceHeaders program h =
-    (slot : ℕ) → 1 ≤ slot → slot ≤ (sizes_of program).slots
-    → IsUpTo (length (shapes_of program.typed).structs) (h (slot_word (sizes_of program) slot))
+    HasHeaders (sizes_of program) (length (shapes_of program.typed).structs) h

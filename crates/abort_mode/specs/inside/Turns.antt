@@ -24,13 +24,13 @@ logging z n None = Not
 logging z n (Some w) = if nat_lt n z.records then Added else Full
 
 -- the events before the step
-abbrev pub first_events : Sizes → (a n : ℕ) → Cache → Option ℕ → List CacheEvent
-first_events z a n c None = []
-first_events z a n c (Some w) = if nat_lt n z.records then append_events z a n w c else []
+abbrev pub before_step : Sizes → (a n : ℕ) → Cache → Option ℕ → List CacheEvent
+before_step z a n c None = []
+before_step z a n c (Some w) = if nat_lt n z.records then append_events z a n w c else []
 
 -- the events before the next step
 abbrev pub due_first : Image → (a n : ℕ) → State → Cache → List CacheEvent
-due_first image a n s c = first_events image.parts.sizes a n c (wanted image n s c)
+due_first image a n s c = before_step image.parts.sizes a n c (wanted image n s c)
 
 -- Whatever comes after the turn: if the whole turn follows from device d, the rest follows from
 -- device b. An end is the end of the whole run, and a part of the turn is a part of the whole run,

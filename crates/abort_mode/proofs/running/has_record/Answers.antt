@@ -1,12 +1,12 @@
 use Rattle.std.proofs.Common.{sym, ◌∙◌, arith}
 use Rattle.cache_model.specs.Cache.{view}
-use Rattle.abort_mode.specs.Runs.{words_in}
+use Rattle.clobber_log.specs.Restore.{word_in_record}
 use Rattle.abort_mode.proofs.Turns.{has_missed}
 use Rattle.abort_mode.proofs.running.has_record.Goals as goal
 
 pub loop-left-preserved : goal.loop-left-preserved
 loop-left-preserved g c =
-    let word = words_in c.args.sizes.now (view (g.P.PmemWork.device c.args.dev.now).cache) in
+    let word = word_in_record c.args.sizes.now (view (g.P.PmemWork.device c.args.dev.now).cache) in
     let some = c.loop-left-test.true in
     let le = c.loop-left.invariant.0 in (
       omega arith,
