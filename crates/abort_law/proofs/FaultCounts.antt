@@ -39,7 +39,7 @@ redo_rise image tx args m d b k k1 (answer.Off phase.Sealing) redid = absurd red
 redo_rise image tx args m d b k k1 answer.Failed redid =
     part_rise (abort_due_redo image tx args m d.cache) refusal.Failed d b redid
 redo_rise image tx args m d b k k1 answer.NoMemory redid =
-    ⊎_elim (λ same. same_rise d b same)
+    ⊎_elim (λ same. same_rise d b same.0)
     (λ p. part_rise (abort_due_redo image tx args m d.cache) refusal.NoMemory d b p) redid
 redo_rise image tx args m d b k k1 (answer.Unusable t) redid = absurd redid
 redo_rise image tx args m d b k k1 answer.Numbers redid = absurd redid

@@ -120,7 +120,7 @@ AbortRedid (Off phase.Sealing) image tx args n d b k k1 = ⊥
 AbortRedid Failed image tx args n d b k k1 =
     PlaysPart refusal.Failed d (abort_due_redo image tx args n d.cache) b
 AbortRedid NoMemory image tx args n d b k k1 =
-    (b ≡ d) ⊎ PlaysPart refusal.NoMemory d (abort_due_redo image tx args n d.cache) b
+    ((b ≡ d) × (k1 ≡ k)) ⊎ PlaysPart refusal.NoMemory d (abort_due_redo image tx args n d.cache) b
 AbortRedid (Unusable t) image tx args n d b k k1 = ⊥
 AbortRedid Numbers image tx args n d b k k1 = ⊥
 

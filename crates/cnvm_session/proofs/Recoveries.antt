@@ -46,7 +46,7 @@ redid_counts (recovered.Off phase.Unsealed) image tx args n d b k k1 h = absurd 
 redid_counts (recovered.Off phase.Sealing) image tx args n d b k k1 h = absurd h
 redid_counts recovered.Failed image tx args n d b k k1 h = counts_failed _ d _ b h
 redid_counts recovered.NoMemory image tx args n d b k k1 h =
-    ⊎_elim (λ same. counts_all _ d [] b (λ e. absurd cc) same)
+    ⊎_elim (λ same. counts_all _ d [] b (λ e. absurd cc) same.0)
     (λ part. counts_part _ refusal.NoMemory d _ b (λ e. absurd cc) part) h
 redid_counts recovered.Clean image tx args n d b k k1 h = absurd h
 redid_counts (recovered.Unusable t) image tx args n d b k k1 h = absurd h
@@ -83,7 +83,7 @@ marked_redid_counts (marked.Off phase.Unsealed) image tx args n d b k k1 h = abs
 marked_redid_counts (marked.Off phase.Sealing) image tx args n d b k k1 h = absurd h
 marked_redid_counts marked.Failed image tx args n d b k k1 h = counts_failed _ d _ b h
 marked_redid_counts marked.NoMemory image tx args n d b k k1 h =
-    ⊎_elim (λ same. counts_all _ d [] b (λ e. absurd cc) same)
+    ⊎_elim (λ same. counts_all _ d [] b (λ e. absurd cc) same.0)
     (λ part. counts_part _ refusal.NoMemory d _ b (λ e. absurd cc) part) h
 marked_redid_counts (marked.Unusable t) image tx args n d b k k1 h = absurd h
 marked_redid_counts marked.Numbers image tx args n d b k k1 h = absurd h

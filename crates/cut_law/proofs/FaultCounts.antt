@@ -43,7 +43,7 @@ redo_rise image tx args m d b k k1 (recover.Off phase.Sealing) redid = absurd re
 redo_rise image tx args m d b k k1 recover.Failed redid =
     part_rise (due_redo image tx args m d.cache) Failed d b redid
 redo_rise image tx args m d b k k1 recover.NoMemory redid =
-    ⊎_elim (λ same. same_rise d b same)
+    ⊎_elim (λ same. same_rise d b same.0)
     (λ p. part_rise (due_redo image tx args m d.cache) NoMemory d b p) redid
 redo_rise image tx args m d b k k1 recover.Clean redid = absurd redid
 redo_rise image tx args m d b k k1 (recover.Unusable t) redid = absurd redid

@@ -188,7 +188,7 @@ module _ (image : Image) (super : Words) (tx : ℕ) (args : List ℤ) (d b : Dev
   redo_leaves (recover.Off phase.Sealing) k k1 redid = absurd redid
   redo_leaves recover.Failed k k1 redid = (redo_part Failed redid, tt)
   redo_leaves recover.NoMemory k k1 redid = (
-    ⊎_elim (λ (same : b ≡ d). subst (Images Left) (sym (ap (λ (x : Device). x.cache) same))
+    ⊎_elim (λ same. subst (Images Left) (sym (ap (λ (x : Device). x.cache) same.0))
         (during_start (Images Left) list d.cache redo_cuts.0)) (λ p. redo_part NoMemory p) redid,
     tt,
   )

@@ -86,7 +86,7 @@ Redid (Off phase.Sealing) image tx args n d b k k1 = ⊥
 Redid Failed image tx args n d b k k1 =
     PlaysPart refusal.Failed d (due_redo image tx args n d.cache) b
 Redid NoMemory image tx args n d b k k1 =
-    (b ≡ d) ⊎ PlaysPart refusal.NoMemory d (due_redo image tx args n d.cache) b
+    ((b ≡ d) × (k1 ≡ k)) ⊎ PlaysPart refusal.NoMemory d (due_redo image tx args n d.cache) b
 Redid Clean image tx args n d b k k1 = ⊥
 Redid (Unusable t) image tx args n d b k k1 = ⊥
 Redid Numbers image tx args n d b k k1 = ⊥
