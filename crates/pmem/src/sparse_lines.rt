@@ -27,8 +27,8 @@ use std::alloc::{AllocError, Global};
 use std::collections::BTreeMap;
 use std::marker::Model;
 
-/// Where a search for a word that is 0 began, and how many words from there on, two lines apart, are
-/// known not to be 0.
+/// Where a search for a word that is 0 began, and how many words from there on, two lines apart,
+/// are known not to be 0.
 #[derive(Clone, Copy, Debug, PartialEq, Eq)]
 pub struct Full {
     pub first: u64,

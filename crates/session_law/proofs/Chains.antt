@@ -1,5 +1,5 @@
 -- A session is a chain of steps: it appends to the history, and keeps what the laws promise.
-use Rattle.std.proofs.Common.{◌≡◌, ℕ, ℤ, ◌+◌, List, [], ◌∷◌, ◌++◌, length, Some, refl, sym, ap, ◌∙◌}
+use Rattle.std.proofs.Common.{◌≡◌, ℕ, ℤ, ◌+◌, List, [], ◌∷◌, ◌++◌, length, refl, sym, ap, ◌∙◌}
 use Rattle.std.proofs.Common.{subst, arith, append_assoc, append-nil, length-append}
 use Rattle.std.specs.List.{AllByRecursion}
 use Rattle.pmem.specs.Device.{Device}
@@ -16,15 +16,14 @@ use Rattle.session_law.specs.Source.{sizes_of, source_pool}
 use Rattle.session_law.specs.Agrees.{Agrees}
 use Rattle.session_law.specs.State.{Pending, Standing, Ready, SourceState}
 use Rattle.session_law.specs.Holds.{HoldsAs, Holds}
-use Rattle.session_law.specs.History.{recovered_by, pool_after, call_to, call_in, calls_in}
-use Rattle.session_law.specs.History.{called_by, done_by, history_after, answered_by, answered_in}
-use Rattle.session_law.specs.History.{IsPart}
+use Rattle.session_law.specs.History.{recovered_by, LeadsTo, call_to, call_in, calls_in, called_by}
+use Rattle.session_law.specs.History.{done_by, history_after, answered_by, answered_in, IsPart}
 use Rattle.session_law.specs.Ran.{found_by, Moment, SessionStep, Ran, fresh_moment, OpenStep}
 use Rattle.session_law.specs.Opened.{opened}
 use Rattle.session_law.specs.Law.{SessionLaw, IsWordCommand, RunsAll, SessionRunLaw, KeptLaw}
 use Rattle.session_law.specs.Law.{HasGrown, HistoryLaw, IsAfter, WholeLaw, OpenedLaw}
 use Rattle.session_law.proofs.Opening.{OpenedAnswers}
-use Rattle.session_law.proofs.Histories.{part_none, part_same, part_append, after_append, both}
+use Rattle.session_law.proofs.Histories.{part_none, part_same, part_append, leads_append, both}
 use Rattle.session_law.proofs.Histories.{same_done, powers_done, answer_done}
 
 module _ (law : SessionLaw) (program : Program) (super : Words)
@@ -148,8 +147,9 @@ after_grown :
 after_grown program first count commands answers x y is grown =
     let long : length y.history ≡ length x.history + length grown.done =
     ap (λ (h : List Pending). length h) grown.history ∙ length-append x.history grown.done in (
-      ap (pool_after program first) grown.history
-          ∙ after_append program first x.state.pool x.history grown.done is.0 ∙ grown.does.pool,
+      subst (λ (h : List Pending). LeadsTo program first h y.state.pool) (sym grown.history)
+          (leads_append program first x.state.pool y.state.pool x.history grown.done is.0
+          grown.does.pool),
       omega (arith, long, is.1, grown.does.count),
     )
 
@@ -168,8 +168,9 @@ chain_whole program super first count commands answers x y holds is ran =
     (chain_grows program super commands answers x y ran) in
     let kept = chain_kept program super commands answers x y holds ran in (
       afterwards,
-      (λ ready. afterwards.0 ∙ ap (λ (p : PoolMap). Some p)
-          (sym (ready_pool program super y.mode y.device y.state y.state.standing ready kept))),
+      (λ ready. subst (LeadsTo program first y.history)
+          (sym (ready_pool program super y.mode y.device y.state y.state.standing ready kept))
+          afterwards.0),
     )
 
 -- the first moments: a new pool, and one opened from an image
@@ -191,7 +192,9 @@ opened_after program words d k a y step =
     let long : length y.history ≡ length
     (recovered_by (opened program (image_words words)) (image_words words) a) =
     ap (λ (h : List Pending). length h) step.history in (
-      ap (pool_after program (opened program (image_words words)).pool) step.history ∙ does.pool,
+      subst (λ (h : List Pending).
+          LeadsTo program (opened program (image_words words)).pool h y.state.pool)
+          (sym step.history) does.pool,
       omega (arith, long, does.count),
     )
 

@@ -25,22 +25,55 @@ use Rattle.cnvm_session.specs.declared.answer.Answer.TheVariants as answer
 use Rattle.cnvm_session.specs.declared.program.Program.{Program}
 use Rattle.cnvm_session.specs.Shown.{heap_of}
 use Rattle.cnvm_session.specs.Commands as commanded
+use Rattle.cnvm_session.specs.Outcomes as outcomes
+use Rattle.cnvm_session.specs.Marks.{rolls_back_of}
+use Rattle.abort_law.specs.Cuts.{IsMarkedCut}
 use Rattle.cnvm_session.specs.Commands.{call_number, tx_parameters}
 use Rattle.session_law.specs.Source.{sizes_of, source_pool}
 use Rattle.session_law.specs.Words.{AreWords}
 use Rattle.session_law.specs.Agrees.{Agrees}
 use Rattle.session_law.specs.State.{Pending, Standing, Ready, Down, Unusable, SourceState}
 use Rattle.session_law.specs.State.{standing_as}
-use Rattle.session_law.specs.Answers.{Refused, Runs, CallsWith, CallsTo, CallsNamed, Calls, Tells}
-use Rattle.session_law.specs.Answers.{Shows, Lasts}
-use Rattle.session_law.specs.Holds.{HoldsPool, IsResting, OwesNone, HoldsAs, Holds}
+use Rattle.session_law.specs.Answers.{Refused, RunsUnmarked, RunsMarked, RunsBy, CallsWith, CallsTo}
+use Rattle.session_law.specs.Answers.{CallsNamed, Calls, Tells, Shows, Lasts}
+use Rattle.session_law.specs.Holds.{HoldsPool, IsResting, OwesNone, OwesBy, HoldsAs, Holds}
 use Rattle.session_law.specs.Law.{SessionLaw}
 use Rattle.session_law.proofs.Heaps.{pool_same, shown_same, pool_fits}
 use Rattle.session_law.proofs.Resting.{resting_owes}
 use Rattle.session_law.proofs.Calls.{call_runs}
+use Rattle.session_law.proofs.MarkedCalls.{marked_call_runs}
 use Rattle.session_law.proofs.Powers.{power_answers}
 
 module _ (program : Program) (super : Words) where
+  -- a device with the same cache owes the same
+  same_owed : (owed : Pending) (d e : Device) (s : SourceState) → e.cache ≡ d.cache
+      → (marked : Bool) → OwesBy marked program super owed d s
+      → OwesBy marked program super owed e s
+  same_owed owed d e s cache false r = record {
+    heap = r.heap;
+    holds = r.holds;
+    takes = r.takes;
+    words = r.words;
+    end = r.end;
+    effects = r.effects;
+    ran = r.ran;
+    left = subst (Images (IsCut (pool_with program.image super)
+        (call_of s.done owed.tx owed.args) (E r.effects) (W r.effects) r.heap
+        (heap_end r.heap r.effects) s.last (result_of r.end))) (sym cache) r.left;
+  }
+  same_owed owed d e s cache true r = record {
+    heap = r.heap;
+    holds = r.holds;
+    takes = r.takes;
+    words = r.words;
+    end = r.end;
+    effects = r.effects;
+    ran = r.ran;
+    left = subst (Images (IsMarkedCut (pool_with program.image super)
+        (call_of s.done owed.tx owed.args) r.heap (heap_end r.heap r.effects) s.last r.end))
+        (sym cache) r.left;
+  }
+
   -- a device with the same cache and the same switch holds the same
   same_as : (m : Mode) (d e : Device) (s : SourceState) → e.on ≡ d.on → e.cache ≡ d.cache
       → (st : Standing) → HoldsAs st program super m d s → HoldsAs st program super m e s
@@ -69,21 +102,7 @@ module _ (program : Program) (super : Words) where
         },
       )
   same_as m d e s on cache (Down (Some owed)) holds =
-      let r = holds.1 in (
-        holds.0,
-        record {
-          heap = r.heap;
-          holds = r.holds;
-          takes = r.takes;
-          words = r.words;
-          end = r.end;
-          effects = r.effects;
-          ran = r.ran;
-          left = subst (Images (IsCut (pool_with program.image super)
-              (call_of s.done owed.tx owed.args) (E r.effects) (W r.effects) r.heap
-              (heap_end r.heap r.effects) s.last (result_of r.end))) (sym cache) r.left;
-        },
-      )
+      (holds.0, same_owed owed d e s cache (rolls_back_of program owed.tx) holds.1)
   same_as m d e s on cache (Unusable kind) holds = (
     holds.0,
     subst (Images (Lost program.image.parts.sizes (trap_number kind)))
@@ -115,33 +134,47 @@ module _ (program : Program) (super : Words) where
     at_ready = subst (λ (x : Standing). HoldsAs x program super mode.Ready d s) (sym ready)
         (refl, resting)
 
-    by_count : (tx count : ℕ) (same : Bool) → (count == length args) ≡ same
-        → tx_parameters program.image tx ≡ Some count
-        → commanded.CallsWith same program.image tx args d a n b k k1 → (t : SourceState)
-        × CallsWith same program s (view d.cache) tx args a t × Holds program super n b t
-    by_count tx count true same takes h =
-        let exact : tx_parameters program.image tx ≡ Some (length args) =
-        takes ∙ ap (λ (c : ℕ). Some c) (eqb-true count (length args) same) in
-        let done = call_runs program super agrees d s resting tx args exact words
-        h.tx_answer b
+    by_mark : (tx : ℕ) → tx_parameters program.image tx ≡ Some (length args) → (marked : Bool) →
+        rolls_back_of program tx ≡ marked →
+        outcomes.RunsBy marked program.image tx args d a n b k k1 →
+        (t : SourceState) × RunsBy marked program s (view d.cache) tx args a t
+        × Holds program super n b t
+    by_mark tx exact false mark h =
+        let done = call_runs program super agrees d s resting tx args exact words mark h.tx_answer b
         k k1 ready h.called in (
           done.0,
-          subst (λ (x : Answer). Runs program s (view d.cache) tx args x done.0)
+          subst (λ (x : Answer). RunsUnmarked program s (view d.cache) tx args x done.0)
               (sym h.answer) done.1,
           subst (λ (x : Mode). Holds program super x b done.0) (sym h.mode) done.2,
         )
+    by_mark tx exact true mark h =
+        let done = marked_call_runs program super agrees d s resting tx args exact words mark
+        h.tx_answer b k k1 ready h.called in (
+          done.0,
+          subst (λ (x : Answer). RunsMarked program s (view d.cache) tx args x done.0)
+              (sym h.answer) done.1,
+          subst (λ (x : Mode). Holds program super x b done.0) (sym h.mode) done.2,
+        )
+
+    by_count : (tx count : ℕ) (same : Bool) → (count == length args) ≡ same
+        → tx_parameters program.image tx ≡ Some count
+        → commanded.CallsWith same program tx args d a n b k k1 → (t : SourceState)
+        × CallsWith same program s (view d.cache) tx args a t × Holds program super n b t
+    by_count tx count true same takes h =
+        by_mark tx (takes ∙ ap (λ (c : ℕ). Some c) (eqb-true count (length args) same))
+        (rolls_back_of program tx) refl h
     by_count tx count false same takes h =
         refused_as answer.RefusedArity mode.Ready n d b s a k k1 at_ready h
 
     by_parameters : (tx : ℕ) (count : Option ℕ) → tx_parameters program.image tx ≡ count
-        → commanded.CallsTo count program.image tx args d a n b k k1
+        → commanded.CallsTo count program tx args d a n b k k1
         → (t : SourceState) × CallsTo count program s (view d.cache) tx args a t
         × Holds program super n b t
     by_parameters tx None takes h =
         refused_as answer.RefusedUnknown mode.Ready n d b s a k k1 at_ready h
     by_parameters tx (Some count) takes h = by_count tx count (count == length args) refl takes h
 
-    by_name : (number : Option ℕ) → commanded.CallsNamed number program.image args d a n b k k1
+    by_name : (number : Option ℕ) → commanded.CallsNamed number program args d a n b k k1
         → (t : SourceState) × CallsNamed number program s (view d.cache) args a t
         × Holds program super n b t
     by_name None h = refused_as answer.RefusedUnknown mode.Ready n d b s a k k1 at_ready h
@@ -211,11 +244,13 @@ module _ (program : Program) (super : Words) where
     tells_as answer.Silent h = absurd h
     tells_as (answer.Done v l) h = absurd h
     tells_as (answer.Trap t) h = absurd h
+    tells_as (answer.Aborted t) h = absurd h
     tells_as (answer.Stopped p) h = absurd h
     tells_as answer.DeviceFault h = absurd h
     tells_as answer.RecoveredNone h = absurd h
     tells_as (answer.RecoveredRedone v l) h = absurd h
     tells_as (answer.RecoveredTrap t) h = absurd h
+    tells_as (answer.RecoveredAborted t) h = absurd h
     tells_as (answer.Last f v) h = absurd h
     tells_as answer.RefusedDown h = absurd h
     tells_as (answer.RefusedUnusable t) h = absurd h

@@ -7,21 +7,24 @@ use Rattle.std.proofs.lemmas.Bool.Decides.{Decides-int_eq}
 use Rattle.pool_layout.specs.declared.places.TheConstants.{DONE, MARK, SEAL}
 use Rattle.pool_layout.specs.Image.{Words}
 use Rattle.pool_map.specs.PoolMap.{PoolMap}
-use Rattle.c_meaning.specs.Transaction.{Outcome, Done, Trap}
+use Rattle.c_meaning.specs.Transaction.{Done}
 use Rattle.cnvm_script.specs.declared.command.Command.{Command}
 use Rattle.cnvm_script.specs.declared.command.Command.TheVariants as command
 use Rattle.cnvm_session.specs.declared.answer.Answer.{Answer}
 use Rattle.cnvm_session.specs.declared.answer.Answer.TheVariants as answer
 use Rattle.cnvm_session.specs.declared.program.Program.{Program}
 use Rattle.cnvm_session.specs.Commands.{call_number}
-use Rattle.session_law.specs.Source.{means, source_parameters}
+use Rattle.cnvm_session.specs.Marks.{rolls_back_of}
+use Rattle.session_law.specs.Source.{source_parameters}
 use Rattle.session_law.specs.State.{Pending, Standing, Ready, Down, Unusable, SourceState}
 use Rattle.session_law.specs.State.{standing_as}
-use Rattle.session_law.specs.Answers.{Refused, IsDoneWith, Runs, CallsWith, CallsTo, CallsNamed}
-use Rattle.session_law.specs.Answers.{Calls, Tells, Shows, Lasts, FindsOf, FindsOwed, Rests, Redoes}
-use Rattle.session_law.specs.Answers.{Recovers, Powers, Answers}
-use Rattle.session_law.specs.History.{pool_after, after_one, waiting_of, call_to, call_in}
-use Rattle.session_law.specs.History.{called_by, is_retired, recovered_by, done_by, IsPart, HasDone}
+use Rattle.session_law.specs.Answers.{Refused, IsConcluded, Runs, RunsBy, CallsWith, CallsTo}
+use Rattle.session_law.specs.Answers.{CallsNamed, Calls, Tells, Shows, Lasts, FindsOf, FindsOwed}
+use Rattle.session_law.specs.Answers.{Rests, Redoes, RedoesBy, Recovers, Powers, Answers}
+use Rattle.session_law.specs.History.{GivesPool, LeadsTo, waiting_of, call_to, call_in, called_by}
+use Rattle.session_law.specs.History.{is_retired, recovered_by, done_by, IsPart, HasDone}
+use Rattle.session_law.specs.Marked.{ComesOn}
+use Rattle.session_law.specs.Opened.{opened_heap}
 use Rattle.session_law.proofs.Coming.{comes_done}
 
 -- parts of lists
@@ -60,19 +63,12 @@ part_left xs ys = subst (λ (zs : List Pending). IsPart zs (xs ++ ys)) (append-n
     (part_append xs xs [] ys (part_same xs) (part_none ys))
 
 module _ (program : Program) where
-  pub after_append : (p q : PoolMap) (xs ys : List Pending) → pool_after program p xs ≡ Some q →
-      pool_after program p (xs ++ ys) ≡ pool_after program q ys
-  after_append p q [] ys is = let same : p ≡ q = cc in
-      ap (λ (x : PoolMap). pool_after program x ys) same
-  after_append p q (x ∷ xs) ys is =
-      go (means program p x.tx x.args) (λ r e. after_append r q xs ys e) is
-    where
-      go : (o : Outcome) → ((r : PoolMap) → pool_after program r xs ≡ Some q
-          → pool_after program r (xs ++ ys) ≡ pool_after program q ys)
-          → after_one o (λ r. pool_after program r xs) ≡ Some q
-          → after_one o (λ r. pool_after program r (xs ++ ys)) ≡ pool_after program q ys
-      go (Done r v) next e = next r e
-      go (Trap kind) next e = absurd cc
+  pub leads_append : (p q r : PoolMap) (xs ys : List Pending) → LeadsTo program p xs q →
+      LeadsTo program q ys r → LeadsTo program p (xs ++ ys) r
+  leads_append p q r [] ys same rest =
+      subst (λ (x : PoolMap). LeadsTo program x ys r) same rest
+  leads_append p q r (x ∷ xs) ys first rest =
+      (first.0, first.1, leads_append first.0 q r xs ys first.2 rest)
 
   -- the transactions of two stretches, one after the other
   pub both : (s u t : SourceState) (D F xs ys : List Pending) → HasDone program s u D xs →
@@ -88,7 +84,7 @@ module _ (program : Program) where
       let outer : IsPart ((D ++ wu) ++ ys) ((waiting_of s.standing ++ xs) ++ ys) =
       part_append (D ++ wu) (waiting_of s.standing ++ xs) ys ys first.part (part_same ys) in
       record {
-        pool = after_append s.pool u.pool D F first.pool ∙ second.pool;
+        pool = leads_append s.pool u.pool t.pool D F first.pool second.pool;
         count = omega arith;
         part =
             subst (λ (zs : List Pending). IsPart zs (waiting_of s.standing ++ (xs ++ ys)))
@@ -113,25 +109,71 @@ module _ (program : Program) where
       subst (λ (x : SourceState). HasDone program s x [] calls) (sym is)
       (record { pool = refl; count = omega arith; part = part })
 
-  -- one transaction is done
-  one_done :
-      (s t : SourceState) (tx : ℕ) (args : List ℤ) (value : ℤ) (logged : ℕ) (st : Standing)
-      (calls : List Pending) →
-      waiting_of st ≡ [] → IsDoneWith program s tx args value logged st t
-      → IsPart (record { tx = tx; args = args } ∷ []) (waiting_of s.standing ++ calls) →
-      HasDone program s t (record { tx = tx; args = args } ∷ []) calls
-  one_done s t tx args value logged st calls none is part =
-      subst (λ (x : SourceState). HasDone program s x (record { tx = tx; args = args } ∷ []) calls)
-      (sym is.2)
-      (record {
-        pool =
-            ap (λ (o : Outcome). after_one o (λ (p : PoolMap). Some p))
-            (comes_done program s.pool tx args logged is.0 value is.1.is).1;
-        count = omega arith;
-        part = subst (λ (ws : List Pending).
-            IsPart (record { tx = tx; args = args } ∷ ws) (waiting_of s.standing ++ calls))
-            (sym none) part;
-      })
+  -- one transaction is finished
+
+  gives_of : (marked : Bool) (s t : SourceState) (image : Words) (owed : Pending) (st : Standing) →
+      IsConcluded marked program owed s image st t → GivesPool marked program owed s.pool t.pool
+  gives_of false s t image owed st is =
+      let one = is.2 in (
+        is.0,
+        (comes_done program s.pool owed.tx owed.args is.1 one.0 is.0 one.1.is).1
+            ∙ ap (λ (x : SourceState). Done x.pool is.0) (sym one.2),
+      )
+  gives_of true s t image owed st (inl done) = (
+    done.0,
+    inl (
+      done.1,
+      done.2,
+      subst (λ (x : SourceState).
+          ComesOn program done.0 s.pool owed.tx owed.args done.2 (Done x.pool done.1))
+          (sym done.3.2) done.3.1,
+    ),
+  )
+  gives_of true s t image owed st (inr undone) = (
+    opened_heap program image,
+    inr (
+      (undone.0, undone.1.0.0, undone.1.0.1),
+      ap (λ (x : SourceState). x.pool) undone.1.1,
+    ),
+  )
+
+  -- it is counted, and the session stands as it says
+  abbrev Counted : SourceState → SourceState → Standing → Type 0
+  Counted s t st = (t.done ≡ suc s.done) × (t.standing ≡ st)
+
+  counted_as : (s t : SourceState) (pool : PoolMap) (value : ℤ) (st : Standing)
+      → t ≡ record { pool = pool; done = suc s.done; last = value; standing = st } → Counted s t st
+  counted_as s t pool value st is =
+      (ap (λ (x : SourceState). x.done) is, ap (λ (x : SourceState). x.standing) is)
+
+  pub finished_counts : (marked : Bool) (s t : SourceState) (image : Words) (owed : Pending)
+      (st : Standing) → IsConcluded marked program owed s image st t → Counted s t st
+  finished_counts false s t image owed st is = counted_as s t is.2.0 is.0 st is.2.2
+  finished_counts true s t image owed st (inl done) =
+      counted_as s t done.3.0 done.1 st done.3.2
+  finished_counts true s t image owed st (inr undone) =
+      counted_as s t s.pool s.last st undone.1.1
+
+  one_finished :
+      (s t : SourceState) (image : Words) (owed : Pending) (st : Standing) (calls : List Pending) →
+      waiting_of st ≡ [] → (marked : Bool) → rolls_back_of program owed.tx ≡ marked →
+      IsConcluded marked program owed s image st t
+      → IsPart (owed ∷ []) (waiting_of s.standing ++ calls) →
+      HasDone program s t (owed ∷ []) calls
+  one_finished s t image owed st calls none marked mark is part =
+      let counts = finished_counts marked s t image owed st is in
+      let more = counts.0 in
+      record {
+        pool = (
+          t.pool,
+          subst (λ (b : Bool). GivesPool b program owed s.pool t.pool) (sym mark)
+              (gives_of marked s t image owed st is),
+          refl,
+        );
+        count = omega (arith, more);
+        part = subst (λ (ws : List Pending). IsPart (owed ∷ ws) (waiting_of s.standing ++ calls))
+            (sym (ap waiting_of counts.1 ∙ none)) part;
+      }
 
   -- a refused command does nothing
   refused_done : (s t : SourceState) (why a : Answer) (calls : List Pending)
@@ -144,8 +186,11 @@ module _ (program : Program) where
 
   -- a call of a session that was ready
   module _ (s t : SourceState) (image : Words) (args : List ℤ) where
+    abbrev call : ℕ → Pending
+    call tx = record { tx = tx; args = args }
+
     abbrev called : ℕ → List Pending
-    called tx = record { tx = tx; args = args } ∷ []
+    called tx = call tx ∷ []
 
     right : (tx : ℕ) → IsPart (called tx) (waiting_of s.standing ++ called tx)
     right tx = part_append [] (waiting_of s.standing) (called tx) (called tx)
@@ -156,28 +201,59 @@ module _ (program : Program) where
     cut tx is = only_standing s t (Down (Some (record { tx = tx; args = args }))) (called tx) is
         (right tx)
 
-    runs_done : (tx : ℕ) (a : Answer) → Runs program s image tx args a t →
+    runs_by : (tx : ℕ) (marked : Bool) → rolls_back_of program tx ≡ marked → (a : Answer) →
+        RunsBy marked program s image tx args a t →
         HasDone program s t (called_by (called tx) a) (called tx)
-    runs_done tx (answer.Done value logged) is =
-        one_done s t tx args value logged Ready (called tx) refl is (right tx)
-    runs_done tx (answer.Trap kind) is =
+    runs_by tx false mark (answer.Done value logged) is =
+        one_finished s t image (call tx) Ready (called tx) refl false mark (value, logged, is)
+        (right tx)
+    runs_by tx false mark (answer.Trap kind) is =
         only_standing s t (Unusable kind) (called tx) is.1
         (part_none (waiting_of s.standing ++ called tx))
-    runs_done tx (answer.Stopped p) is = cut tx is
-    runs_done tx answer.DeviceFault is = cut tx is
-    runs_done tx answer.NoMemory is = cut tx is
-    runs_done tx answer.RefusedNumbers is = same_done s t (called tx) is.1
-    runs_done tx answer.Silent is = absurd is
-    runs_done tx answer.RecoveredNone is = absurd is
-    runs_done tx (answer.RecoveredRedone value logged) is = absurd is
-    runs_done tx (answer.RecoveredTrap kind) is = absurd is
-    runs_done tx (answer.Shown text) is = absurd is
-    runs_done tx (answer.Last n value) is = absurd is
-    runs_done tx answer.RefusedDown is = absurd is
-    runs_done tx (answer.RefusedUnusable kind) is = absurd is
-    runs_done tx answer.RefusedUnknown is = absurd is
-    runs_done tx answer.RefusedArity is = absurd is
-    runs_done tx (answer.RefusedPick line) is = absurd is
+    runs_by tx false mark (answer.Stopped p) is = cut tx is
+    runs_by tx false mark answer.DeviceFault is = cut tx is
+    runs_by tx false mark answer.NoMemory is = cut tx is
+    runs_by tx false mark answer.RefusedNumbers is = same_done s t (called tx) is.1
+    runs_by tx false mark answer.Silent is = absurd is
+    runs_by tx false mark answer.RecoveredNone is = absurd is
+    runs_by tx false mark (answer.RecoveredRedone value logged) is = absurd is
+    runs_by tx false mark (answer.RecoveredTrap kind) is = absurd is
+    runs_by tx false mark (answer.RecoveredAborted kind) is = absurd is
+    runs_by tx false mark (answer.Shown text) is = absurd is
+    runs_by tx false mark (answer.Last n value) is = absurd is
+    runs_by tx false mark answer.RefusedDown is = absurd is
+    runs_by tx false mark (answer.RefusedUnusable kind) is = absurd is
+    runs_by tx false mark answer.RefusedUnknown is = absurd is
+    runs_by tx false mark answer.RefusedArity is = absurd is
+    runs_by tx false mark (answer.RefusedPick line) is = absurd is
+    runs_by tx false mark (answer.Aborted kind) is = absurd is
+    runs_by tx true mark (answer.Done value logged) is =
+        one_finished s t image (call tx) Ready (called tx) refl true mark
+        (inl (opened_heap program image, value, logged, is)) (right tx)
+    runs_by tx true mark (answer.Aborted kind) is =
+        one_finished s t image (call tx) Ready (called tx) refl true mark
+        (inr (kind, is)) (right tx)
+    runs_by tx true mark (answer.Trap kind) is = absurd is
+    runs_by tx true mark (answer.Stopped p) is = cut tx is
+    runs_by tx true mark answer.DeviceFault is = cut tx is
+    runs_by tx true mark answer.NoMemory is = cut tx is
+    runs_by tx true mark answer.RefusedNumbers is = same_done s t (called tx) is.1
+    runs_by tx true mark answer.Silent is = absurd is
+    runs_by tx true mark answer.RecoveredNone is = absurd is
+    runs_by tx true mark (answer.RecoveredRedone value logged) is = absurd is
+    runs_by tx true mark (answer.RecoveredTrap kind) is = absurd is
+    runs_by tx true mark (answer.RecoveredAborted kind) is = absurd is
+    runs_by tx true mark (answer.Shown text) is = absurd is
+    runs_by tx true mark (answer.Last n value) is = absurd is
+    runs_by tx true mark answer.RefusedDown is = absurd is
+    runs_by tx true mark (answer.RefusedUnusable kind) is = absurd is
+    runs_by tx true mark answer.RefusedUnknown is = absurd is
+    runs_by tx true mark answer.RefusedArity is = absurd is
+    runs_by tx true mark (answer.RefusedPick line) is = absurd is
+
+    runs_done : (tx : ℕ) (a : Answer) → Runs program s image tx args a t →
+        HasDone program s t (called_by (called tx) a) (called tx)
+    runs_done tx a is = runs_by tx (rolls_back_of program tx) refl a is
 
     with_done : (tx : ℕ) (same : Bool) (a : Answer) →
         CallsWith same program s image tx args a t →
@@ -260,9 +336,10 @@ module _ (program : Program) where
       apart : (n : ℕ) → pos n ≡ pos (suc n) → ⊥
       apart n e = let same : n ≡ suc n = cc in omega (arith, same)
 
-  -- the owed transaction, if the recovery ran it to a value
+  -- the owed transaction, if the recovery ran it to a value or rolled it back
   abbrev redone_by : Standing → Answer → List Pending
   redone_by st (answer.RecoveredRedone value logged) = waiting_of st
+  redone_by st (answer.RecoveredAborted kind) = waiting_of st
   redone_by st a = []
 
   by_retired : (s : SourceState) (image : Words) (b : Bool) (found : SourceState)
@@ -290,12 +367,11 @@ module _ (program : Program) where
         by_retired s image false found (fresh_shows s image fresh.0)
         (only_standing s found (Down None) [] fresh.1 (part_none (waiting_of s.standing ++ [])))
     finds_of owed is (inr (inl retired)) =
-        let done = retired.2 in
         let waiting : waiting_of s.standing ≡ owed ∷ [] = ap waiting_of is in
         by_retired s image true found (retired_shows s image retired.0 retired.1)
         (subst (λ (ds : List Pending). HasDone program s found ds []) (sym waiting)
-        (one_done s found owed.tx owed.args done.0 done.1 (Down None) [] refl done.2
-        (part_at s (Down (Some owed)) (owed ∷ []) is (part_same (owed ∷ [])))))
+        (one_finished s found image owed (Down None) [] refl (rolls_back_of program owed.tx) refl
+        retired.2 (part_at s (Down (Some owed)) (owed ∷ []) is (part_same (owed ∷ [])))))
     finds_of owed is (inr (inr sealed)) =
         by_retired s image false found (sealed_shows s image sealed.1)
         (only_standing s found (Down (Some owed)) [] sealed.2
@@ -319,8 +395,10 @@ module _ (program : Program) where
   rests_done s t image answer.Silent is = absurd is
   rests_done s t image (answer.Done value logged) is = absurd is
   rests_done s t image (answer.Trap kind) is = absurd is
+  rests_done s t image (answer.Aborted kind) is = absurd is
   rests_done s t image (answer.RecoveredRedone value logged) is = absurd is
   rests_done s t image (answer.RecoveredTrap kind) is = absurd is
+  rests_done s t image (answer.RecoveredAborted kind) is = absurd is
   rests_done s t image (answer.Shown text) is = absurd is
   rests_done s t image (answer.Last n value) is = absurd is
   rests_done s t image answer.RefusedDown is = absurd is
@@ -329,30 +407,62 @@ module _ (program : Program) where
   rests_done s t image answer.RefusedArity is = absurd is
   rests_done s t image (answer.RefusedPick line) is = absurd is
 
-  redoes_done : (owed : Pending) (s t : SourceState) (image : Words) (a : Answer)
-      →
+  redoes_by : (owed : Pending) (s t : SourceState) (image : Words) (marked : Bool)
+      → rolls_back_of program owed.tx ≡ marked → (a : Answer) →
+      s.standing ≡ Down (Some owed) → RedoesBy marked program owed s image a t →
+      HasDone program s t (redone_by (Down (Some owed)) a) []
+  redoes_by owed s t image false mark (answer.RecoveredRedone value logged) at is =
+      one_finished s t image owed Ready [] refl false mark (value, logged, is)
+      (part_at s (Down (Some owed)) (owed ∷ []) at (part_same (owed ∷ [])))
+  redoes_by owed s t image false mark (answer.RecoveredTrap kind) at is =
+      only_standing s t (Unusable kind) [] is.1 (part_none (waiting_of s.standing ++ []))
+  redoes_by owed s t image false mark answer.RefusedNumbers at is = same_done s t [] is.1
+  redoes_by owed s t image false mark (answer.Stopped p) at is = same_done s t [] is.1
+  redoes_by owed s t image false mark answer.DeviceFault at is = same_done s t [] is
+  redoes_by owed s t image false mark answer.NoMemory at is = same_done s t [] is
+  redoes_by owed s t image false mark answer.Silent at is = absurd is
+  redoes_by owed s t image false mark (answer.Done value logged) at is = absurd is
+  redoes_by owed s t image false mark (answer.Trap kind) at is = absurd is
+  redoes_by owed s t image false mark (answer.Aborted kind) at is = absurd is
+  redoes_by owed s t image false mark answer.RecoveredNone at is = absurd is
+  redoes_by owed s t image false mark (answer.Shown text) at is = absurd is
+  redoes_by owed s t image false mark (answer.Last n value) at is = absurd is
+  redoes_by owed s t image false mark answer.RefusedDown at is = absurd is
+  redoes_by owed s t image false mark (answer.RefusedUnusable kind) at is = absurd is
+  redoes_by owed s t image false mark answer.RefusedUnknown at is = absurd is
+  redoes_by owed s t image false mark answer.RefusedArity at is = absurd is
+  redoes_by owed s t image false mark (answer.RefusedPick line) at is = absurd is
+  redoes_by owed s t image false mark (answer.RecoveredAborted kind) at is = absurd is
+  redoes_by owed s t image true mark (answer.RecoveredRedone value logged) at is =
+      one_finished s t image owed Ready [] refl true mark
+      (inl (opened_heap program image, value, logged, is))
+      (part_at s (Down (Some owed)) (owed ∷ []) at (part_same (owed ∷ [])))
+  redoes_by owed s t image true mark (answer.RecoveredAborted kind) at is =
+      one_finished s t image owed Ready [] refl true mark (inr (kind, is))
+      (part_at s (Down (Some owed)) (owed ∷ []) at (part_same (owed ∷ [])))
+  redoes_by owed s t image true mark answer.RefusedNumbers at is = same_done s t [] is.1
+  redoes_by owed s t image true mark (answer.Stopped p) at is = same_done s t [] is.1
+  redoes_by owed s t image true mark answer.DeviceFault at is = same_done s t [] is
+  redoes_by owed s t image true mark answer.NoMemory at is = same_done s t [] is
+  redoes_by owed s t image true mark answer.Silent at is = absurd is
+  redoes_by owed s t image true mark (answer.Done value logged) at is = absurd is
+  redoes_by owed s t image true mark (answer.Trap kind) at is = absurd is
+  redoes_by owed s t image true mark (answer.Aborted kind) at is = absurd is
+  redoes_by owed s t image true mark answer.RecoveredNone at is = absurd is
+  redoes_by owed s t image true mark (answer.Shown text) at is = absurd is
+  redoes_by owed s t image true mark (answer.Last n value) at is = absurd is
+  redoes_by owed s t image true mark answer.RefusedDown at is = absurd is
+  redoes_by owed s t image true mark (answer.RefusedUnusable kind) at is = absurd is
+  redoes_by owed s t image true mark answer.RefusedUnknown at is = absurd is
+  redoes_by owed s t image true mark answer.RefusedArity at is = absurd is
+  redoes_by owed s t image true mark (answer.RefusedPick line) at is = absurd is
+  redoes_by owed s t image true mark (answer.RecoveredTrap kind) at is = absurd is
+
+  redoes_done : (owed : Pending) (s t : SourceState) (image : Words) (a : Answer) →
       s.standing ≡ Down (Some owed) → Redoes program owed s image a t →
       HasDone program s t (redone_by (Down (Some owed)) a) []
-  redoes_done owed s t image (answer.RecoveredRedone value logged) at is =
-      one_done s t owed.tx owed.args value logged Ready [] refl is
-      (part_at s (Down (Some owed)) (owed ∷ []) at (part_same (owed ∷ [])))
-  redoes_done owed s t image (answer.RecoveredTrap kind) at is =
-      only_standing s t (Unusable kind) [] is.1 (part_none (waiting_of s.standing ++ []))
-  redoes_done owed s t image answer.RefusedNumbers at is = same_done s t [] is.1
-  redoes_done owed s t image (answer.Stopped p) at is = same_done s t [] is.1
-  redoes_done owed s t image answer.DeviceFault at is = same_done s t [] is
-  redoes_done owed s t image answer.NoMemory at is = same_done s t [] is
-  redoes_done owed s t image answer.Silent at is = absurd is
-  redoes_done owed s t image (answer.Done value logged) at is = absurd is
-  redoes_done owed s t image (answer.Trap kind) at is = absurd is
-  redoes_done owed s t image answer.RecoveredNone at is = absurd is
-  redoes_done owed s t image (answer.Shown text) at is = absurd is
-  redoes_done owed s t image (answer.Last n value) at is = absurd is
-  redoes_done owed s t image answer.RefusedDown at is = absurd is
-  redoes_done owed s t image (answer.RefusedUnusable kind) at is = absurd is
-  redoes_done owed s t image answer.RefusedUnknown at is = absurd is
-  redoes_done owed s t image answer.RefusedArity at is = absurd is
-  redoes_done owed s t image (answer.RefusedPick line) at is = absurd is
+  redoes_done owed s t image a at is =
+      redoes_by owed s t image (rolls_back_of program owed.tx) refl a at is
 
   recovers_done : (s t : SourceState) (image : Words) (a : Answer) (st : Standing)
       →
@@ -368,42 +478,37 @@ module _ (program : Program) where
   abbrev Parts : SourceState → SourceState → Words → Answer → Type 0
   Parts s found image a = retired_by s image ++ redone_by found.standing a ≡ recovered_by s image a
 
-  redone_none :
-      (owed : Option Pending) (found t : SourceState) (image : Words) (value : ℤ)
-      (logged : ℕ) →
-      found.standing ≡ Down None →
-      Recovers found.standing program found image (answer.RecoveredRedone value logged) t → ⊥
-  redone_none owed found t image value logged is recovers =
-      subst (λ (st : Standing). Recovers st program found image
-      (answer.RecoveredRedone value logged) t) is recovers
-
   down_none : (found s : SourceState) → found ≡ standing_as (Down None) s
       → found.standing ≡ Down None
   down_none found s is = ap (λ (x : SourceState). x.standing) is
 
-  redone_parts :
-      (s found t : SourceState) (image : Words) (value : ℤ) (logged : ℕ)
-      (st : Standing) →
-      s.standing ≡ st → FindsOwed st program s image found
-      → Recovers found.standing program found image (answer.RecoveredRedone value logged) t →
-      Parts s found image (answer.RecoveredRedone value logged)
-  redone_parts s found t image value logged Ready is finds recovers =
-      absurd (redone_none None found t image value logged (down_none found s finds) recovers)
-  redone_parts s found t image value logged (Down None) is finds recovers =
-      absurd (redone_none None found t image value logged (down_none found s finds) recovers)
-  redone_parts s found t image value logged (Down (Some owed)) is (inl fresh) recovers =
-      absurd (redone_none None found t image value logged
-      (down_none found s fresh.1) recovers)
-  redone_parts s found t image value logged (Down (Some owed)) is (inr (inl retired))
-      recovers =
-      absurd (redone_none None found t image value logged
-      (ap (λ (x : SourceState). x.standing) retired.2.2.2) recovers)
-  redone_parts s found t image value logged (Down (Some owed)) is (inr (inr sealed))
-      recovers =
-      ap (λ (b : Bool). (if b then waiting_of s.standing else []) ++ waiting_of found.standing)
-      (sealed_shows s image sealed.1)
-      ∙ ap waiting_of (ap (λ (x : SourceState). x.standing) sealed.2 ∙ sym is)
-  redone_parts s found t image value logged (Unusable kind) is finds recovers = absurd finds
+  -- an answer that only the recovery of an owed transaction gives
+  module _ (a : Answer) (t : SourceState) (image : Words)
+      (never : (found : SourceState) → Rests program found image a t → ⊥) where
+    redone_none : (found : SourceState) → found.standing ≡ Down None →
+        Recovers found.standing program found image a t → ⊥
+    redone_none found is recovers =
+        never found (subst (λ (st : Standing). Recovers st program found image a t) is recovers)
+
+    redone_parts :
+        (s found : SourceState) (st : Standing) → s.standing ≡ st →
+        FindsOwed st program s image found → Recovers found.standing program found image a t →
+        retired_by s image ++ waiting_of found.standing ≡ waiting_of s.standing
+    redone_parts s found Ready is finds recovers =
+        absurd (redone_none found (down_none found s finds) recovers)
+    redone_parts s found (Down None) is finds recovers =
+        absurd (redone_none found (down_none found s finds) recovers)
+    redone_parts s found (Down (Some owed)) is (inl fresh) recovers =
+        absurd (redone_none found (down_none found s fresh.1) recovers)
+    redone_parts s found (Down (Some owed)) is (inr (inl retired)) recovers =
+        absurd (redone_none found
+        (finished_counts (rolls_back_of program owed.tx) s found image owed (Down None) retired.2).1
+        recovers)
+    redone_parts s found (Down (Some owed)) is (inr (inr sealed)) recovers =
+        ap (λ (b : Bool). (if b then waiting_of s.standing else []) ++ waiting_of found.standing)
+        (sealed_shows s image sealed.1)
+        ∙ ap waiting_of (ap (λ (x : SourceState). x.standing) sealed.2 ∙ sym is)
+    redone_parts s found (Unusable kind) is finds recovers = absurd finds
 
   -- where the recovery ran nothing to a value
   module _ (s t : SourceState) (image : Words) where
@@ -432,10 +537,16 @@ module _ (program : Program) where
         only_standing s t (Unusable kind) [] is.2 (part_none (waiting_of s.standing ++ []))
     powers_done (answer.RecoveredRedone value logged) is =
         back_with (answer.RecoveredRedone value logged) is
-        (redone_parts s is.1.0 t image value logged s.standing refl is.1.1 is.1.2)
+        (redone_parts (answer.RecoveredRedone value logged) t image (λ found no. no) s is.1.0
+        s.standing refl is.1.1 is.1.2)
+    powers_done (answer.RecoveredAborted kind) is =
+        back_with (answer.RecoveredAborted kind) is
+        (redone_parts (answer.RecoveredAborted kind) t image (λ found no. no) s is.1.0
+        s.standing refl is.1.1 is.1.2)
     powers_done answer.Silent is = back_with answer.Silent is none
     powers_done (answer.Done value logged) is = back_with (answer.Done value logged) is none
     powers_done (answer.Trap kind) is = back_with (answer.Trap kind) is none
+    powers_done (answer.Aborted kind) is = back_with (answer.Aborted kind) is none
     powers_done (answer.Stopped p) is = back_with (answer.Stopped p) is none
     powers_done answer.DeviceFault is = back_with answer.DeviceFault is none
     powers_done answer.RecoveredNone is = back_with answer.RecoveredNone is none
@@ -457,11 +568,13 @@ module _ (program : Program) where
   tells_done s t answer.Silent is = absurd is
   tells_done s t (answer.Done value logged) is = absurd is
   tells_done s t (answer.Trap kind) is = absurd is
+  tells_done s t (answer.Aborted kind) is = absurd is
   tells_done s t (answer.Stopped p) is = absurd is
   tells_done s t answer.DeviceFault is = absurd is
   tells_done s t answer.RecoveredNone is = absurd is
   tells_done s t (answer.RecoveredRedone value logged) is = absurd is
   tells_done s t (answer.RecoveredTrap kind) is = absurd is
+  tells_done s t (answer.RecoveredAborted kind) is = absurd is
   tells_done s t (answer.Last n value) is = absurd is
   tells_done s t answer.RefusedDown is = absurd is
   tells_done s t (answer.RefusedUnusable kind) is = absurd is

@@ -11,6 +11,9 @@ pub mod Reading
 pub mod Resting
 pub mod Calls
 pub mod Recoveries
+pub mod MarkedRuns
+pub mod MarkedCalls
+pub mod MarkedRecoveries
 pub mod Powers
 pub mod Commands
 pub mod Creating
@@ -18,6 +21,7 @@ pub mod Writing
 pub mod Opening
 pub mod Steps
 pub mod Phases
+pub mod RolledBack
 pub mod Histories
 pub mod Running
 pub mod Chains

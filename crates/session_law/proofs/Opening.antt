@@ -36,7 +36,11 @@ use Rattle.cut_law.specs.Law.{call_of, pool_with}
 use Rattle.cnvm_session.specs.declared.mode.Mode.{Mode}
 use Rattle.cnvm_session.specs.declared.answer.Answer.{Answer}
 use Rattle.cnvm_session.specs.declared.program.Program.{Program}
-use Rattle.cnvm_session.specs.Outcomes.{answer_of_recovery}
+use Rattle.cnvm_session.specs.Marks.{rolls_back_of}
+use Rattle.pm_machine.specs.declared.effect.End.{End}
+use Rattle.pm_machine.specs.declared.effect.End.TheVariants.{Halted, Trapped}
+use Rattle.undo_law.specs.Undo.{Every}
+use Rattle.abort_law.specs.Cuts.{IsMarkedCut}
 use Rattle.cnvm_session.specs.Commands.{tx_parameters}
 use Rattle.cnvm_session.specs.Opening.{opening_events}
 use Rattle.cnvm_session.specs.Outcomes as outcomes
@@ -46,11 +50,12 @@ use Rattle.session_law.specs.Agrees.{Agrees, RunsAs}
 use Rattle.session_law.specs.State.{Down, Unusable, SourceState}
 use Rattle.session_law.specs.Answers.{Powers}
 use Rattle.session_law.specs.Opened.{wanted_of, opened_heap, recorded_in, opened}
-use Rattle.session_law.specs.Holds.{OwesNone, OwesOne, Holds}
+use Rattle.session_law.specs.Holds.{HoldsPool, OwesNone, OwesOne, OwesMarked, OwesBy, Holds}
 use Rattle.session_law.proofs.Words.{AreAll, pool_words, restored_words, recorded_words}
 use Rattle.session_law.proofs.Ones.{rest_images}
 use Rattle.session_law.proofs.Retired.{attempt_small}
 use Rattle.session_law.proofs.Reading.{kind_read, trap_some, taken_is, next_done}
+use Rattle.session_law.proofs.MarkedRuns.{marked_run}
 use Rattle.session_law.proofs.Powers.{HeldAs, held_recovers}
 use Rattle.session_law.proofs.Writing.{written_word, written_rest}
 
@@ -254,8 +259,9 @@ module _ (program : Program) (agrees : Agrees program) (words : List ℤ)
           (subst (λ (g : Words). HasPoolWords (source_pool program g)) heap_restored opened_words)
           args_are takes
 
-      owed : Owed pool (call_of s.done tx args) (E runs.effects) (W runs.effects) h image
-      owed =
+      -- the call is owed, with all words that the log restores
+      owed_for : (F G : ℕ → Type 0) → Owed pool (call_of s.done tx args) F G h image
+      owed_for F G =
           record {
             super = λ k less. refl;
             mark = mark;
@@ -272,28 +278,58 @@ module _ (program : Program) (agrees : Agrees program) (words : List ℤ)
             restores = λ w less kept. refl;
           }
 
+      held : HoldsPool program h s
+      held = record {
+        headers = is_owed.headers;
+        pool = ap (source_pool program) (sym heap_restored);
+        words = opened_words;
+      }
+
       owes_one : OwesOne program image (recorded_in program image) e s
       owes_one =
           record {
             heap = h;
-            holds = record {
-              headers = is_owed.headers;
-              pool = ap (source_pool program) (sym heap_restored);
-              words = opened_words;
-            };
+            holds = held;
             takes = takes;
             words = args_are;
             end = runs.end;
             effects = runs.effects;
             ran = runs.ran;
             left = all_of (IsCut pool (call_of s.done tx args) (E runs.effects) (W runs.effects) h
-                (heap_end h runs.effects) s.last (result_of runs.end)) (inr (inl owed));
+                (heap_end h runs.effects) s.last (result_of runs.end))
+                (inr (inl (owed_for (E runs.effects) (W runs.effects))));
           }
+
+      begins : (end : End) (g : Words)
+          → IsMarkedCut pool (call_of s.done tx args) h g s.last end image
+      begins (Halted v) g = inr (inl (owed_for Every Every))
+      begins (Trapped kind) g =
+          inr (inl (record { owed = owed_for Every Every; last_is = refl }))
+
+      owes_marked_one : OwesMarked program image (recorded_in program image) e s
+      owes_marked_one =
+          let run = marked_run program s (recorded_in program image) h held runs in
+          record {
+            heap = h;
+            holds = held;
+            takes = takes;
+            words = args_are;
+            end = run.0;
+            effects = run.1;
+            ran = run.2;
+            left = all_of (IsMarkedCut pool (call_of s.done tx args) h (heap_end h run.1) s.last
+                run.0) (begins run.0 (heap_end h run.1));
+          }
+
+      owes_by : (marked : Bool) → OwesBy marked program image (recorded_in program image) e s
+      owes_by false = owes_one
+      owes_by true = owes_marked_one
 
   -- what the device holds, by the mark and the seal
   by_seal : image MARK ≡ pos 0 → (b : Bool) → is_sealed image ≡ b
       → HeldAs (Down (if b then Some (recorded_in program image) else None)) program image e s
-  by_seal mark true is = owes_one mark is
+  by_seal mark true is =
+      owes_by mark is (rolls_back_of program (recorded_in program image).tx)
   by_seal mark false is = owes_none mark is
 
   by_mark : (b : Bool) → int_eq (image MARK) (pos 0) ≡ b
@@ -321,7 +357,7 @@ OpenedAnswers =
     (program : Program) (words : List ℤ) (n : Mode) (d b : Device) (a : Answer)
     (k k1 : ℕ) →
     Agrees program → AreWords words → IsOpened (wanted_of program) words →
-    outcomes.Opens program.image words d a n b k k1 →
+    outcomes.Opens program words d a n b k k1 →
     (t : SourceState) × Powers program (opened program (image_words words))
     (image_words words) a t
     × Holds program (image_words words) n b t
@@ -338,14 +374,10 @@ opened_answers program words n d b a k k1 agrees are is opens =
     let seen : view e.cache ≡ image_words words =
     ap view played ∙ (λ i p. written_word words lines p i) in
     let held = opened_held program agrees words are is.opens e rest seen in
-    let recovers = opens.recovers in
     let done = held_recovers program (image_words words) agrees e
-    (opened program (image_words words)) on rest recovers.tx_answer b k k1
-    recovers.recovered held in (
+    (opened program (image_words words)) on rest a n b k k1 opens.recovers held in (
       done.0,
-      subst (λ (x : Answer). Powers program (opened program (image_words words))
-          (image_words words) x done.0) (sym recovers.answer)
-          (subst (λ (image : Words). Powers program (opened program (image_words words))
-          image (answer_of_recovery recovers.tx_answer) done.0) seen done.1),
-      subst (λ (x : Mode). Holds program (image_words words) x b done.0) (sym recovers.mode) done.2,
+      subst (λ (image : Words). Powers program (opened program (image_words words))
+          image a done.0) seen done.1,
+      done.2,
     )

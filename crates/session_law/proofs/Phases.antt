@@ -36,7 +36,7 @@ use Rattle.crash_law.specs.Law.{IsAtRest}
 use Rattle.crash_law.proofs.Rest.{due_seal_rest}
 use Rattle.tx_run.specs.Standing.{is_number}
 use Rattle.tx_run.specs.Due.{due_on, due_run, due_seal, due_unsealed, tail_events}
-use Rattle.tx_run.specs.Called.{Called, WentAt, IsTxCalled}
+use Rattle.tx_run.specs.Called.{Called, WentAt}
 use Rattle.tx_run.specs.declared.answer.CallAnswer.{CallAnswer}
 use Rattle.tx_run.specs.declared.answer.CallAnswer.TheVariants as called
 use Rattle.cut_law.proofs.Misses.{Misses, misses_append}
@@ -44,7 +44,15 @@ use Rattle.cnvm_session.specs.declared.mode.Mode.{Mode}
 use Rattle.cnvm_session.specs.declared.mode.Mode.TheVariants as mode
 use Rattle.cnvm_session.specs.declared.answer.Answer.TheVariants as answer
 use Rattle.cnvm_session.specs.declared.program.Program.{Program}
-use Rattle.cnvm_session.specs.Outcomes.{answer_of_call}
+use Rattle.cnvm_session.specs.Outcomes.{answer_of_call, answer_of_marked_call}
+use Rattle.cnvm_session.specs.Outcomes as commanded_by
+use Rattle.cnvm_session.specs.Marks.{rolls_back_of}
+use Rattle.clobber_log.specs.Restore.{restore_events}
+use Rattle.cut_law.proofs.Backs.{misses_restore}
+use Rattle.abort_mode.specs.Due as abort
+use Rattle.abort_mode.specs.Answers.{AbortCalled, AbortWentAt}
+use Rattle.abort_mode.specs.declared.answer.AbortAnswer.{AbortAnswer}
+use Rattle.abort_mode.specs.declared.answer.AbortAnswer.TheVariants as aborted
 use Rattle.cnvm_session.specs.Commands as commanded
 use Rattle.cnvm_session.specs.Commands.{call_number, tx_parameters}
 use Rattle.session_law.specs.Source.{sizes_of}
@@ -57,6 +65,7 @@ use Rattle.session_law.proofs.Cleaning.{missed_at, rest_at}
 use Rattle.session_law.proofs.Retired.{next_small}
 use Rattle.session_law.proofs.Reading.{numbers_small, stands_ready, stands_numbers}
 use Rattle.session_law.proofs.Calls.{ran_events}
+use Rattle.session_law.proofs.MarkedCalls.{marked_events}
 
 -- if a list of events is refused at one of them, what holds during all but its last event still
 -- holds
@@ -94,6 +103,21 @@ misses_tail (Halted v) c = (
   ((λ e. absurd (omega arith)), ((λ e. absurd (omega arith)), tt)),
 )
 misses_tail (Trapped kind) c = ((λ e. absurd (omega arith)), tt)
+
+-- the log's events store no word below the heap
+misses_undo : (z : Sizes) (end : End) (c : Cache) → Misses 47 (abort.abort_tail_events z end c)
+unfolding retire_events
+misses_undo z (Halted v) c = (
+  (λ e. absurd (omega arith)),
+  ((λ e. absurd (omega arith)), ((λ e. absurd (omega arith)), tt)),
+)
+misses_undo z (Trapped kind) c =
+    misses_append 47 (restore_events z (view c))
+    (abort.retiring_still (play c (restore_events z (view c))))
+    (misses_restore z 47 (view c) (omega arith)) (
+      (λ e. absurd (omega arith)),
+      ((λ e. absurd (omega arith)), ((λ e. absurd (omega arith)), tt)),
+    )
 
 -- after the seal each line has one version, and the seal is there
 
@@ -166,16 +190,25 @@ module _ (program : Program) (super : Words) (agrees : Agrees program)
           (omega arith))
           (misses_tail (end_of ran.fate) (play cache_after ran.events))
 
-      sealed : (between : Device) → between.cache ≡ cache_after
-          → PlaysPart refusal.Off between
-          (due_run program.image (start program.image tx args) cache_after) b
-          → Images (HasPhase phase.Sealed s) b.cache
-      sealed between same part =
-          let list : List CacheEvent = due_run program.image (start program.image tx args)
+      marked_misses : Misses 47
+          (abort.due_run program.image (start program.image tx args) cache_after)
+      marked_misses =
+          let ran : Due = abort.abort_due_on program.image (start program.image tx args)
           cache_after in
+          misses_append 47 ran.events
+          (abort.abort_tail_events (sizes_of program) (end_of ran.fate)
+          (play cache_after ran.events))
+          (marked_events program super agrees d s resting tx args takes words small 47
+          (omega arith))
+          (misses_undo (sizes_of program) (end_of ran.fate) (play cache_after ran.events))
+
+      sealed : (list : List CacheEvent) → Misses 47 list → (between : Device)
+          → between.cache ≡ cache_after → PlaysPart refusal.Off between list b
+          → Images (HasPhase phase.Sealed s) b.cache
+      sealed list misses between same part =
           let Q : Cache → Type 0 = Images (λ (other : Words). other 47 ≡ view cache_after SEAL) in
           let all : during cache_after list Q =
-          missed_at 47 (view cache_after SEAL) list cache_after run_misses
+          missed_at 47 (view cache_after SEAL) list cache_after misses
           (rest_at 47 cache_after after_rest) in
           let kept : Q b.cache = part_during Q refusal.Off list between b part
           (subst (λ (x : Cache). during x list Q) (sym same) all) in
@@ -184,8 +217,18 @@ module _ (program : Program) (super : Words) (agrees : Agrees program)
       went : (at : Phase) → WentAt at program.image tx args d b → Images (HasPhase at s) b.cache
       went phase.Unsealed h = unsealed h
       went phase.Sealing h = λ image is. tt
-      went phase.Sealed h = sealed h.between (all_cache (due_seal tx args c) d h.between h.done)
-          h.went
+      went phase.Sealed h =
+          sealed (due_run program.image (start program.image tx args) cache_after) run_misses
+          h.between (all_cache (due_seal tx args c) d h.between h.done) h.went
+
+      -- the same of a call of a marked transaction
+      went_marked : (at : Phase) → AbortWentAt at program.image tx args d b
+          → Images (HasPhase at s) b.cache
+      went_marked phase.Unsealed h = unsealed h
+      went_marked phase.Sealing h = λ image is. tt
+      went_marked phase.Sealed h =
+          sealed (abort.due_run program.image (start program.image tx args) cache_after)
+          marked_misses h.between (all_cache (due_seal tx args c) d h.between h.done) h.went
 
   -- the phase, from the call's answer
   off_of : (r : CallAnswer) (at : Phase) → answer.Stopped at ≡ answer_of_call r → r ≡ called.Off at
@@ -197,45 +240,76 @@ module _ (program : Program) (super : Words) (agrees : Agrees program)
   off_of called.Numbers at e = absurd cc
   off_of called.NoMemory at e = absurd cc
 
-  by_call : (tx : ℕ) (args : List ℤ) (r : CallAnswer) (at : Phase) (k k1 : ℕ)
-      → tx_parameters program.image tx ≡ Some (length args) → AreWords args → r ≡ called.Off at →
-      IsTxCalled r program.image tx args d b k k1
-      → Images (HasPhase at s) b.cache
-  by_call tx args r at k k1 takes words off is =
-      go (is_number (view d.cache DONE) && is_number (view d.cache ATTEMPT)) refl
-    where
-      go : (numbers : Bool) → (is_number (view d.cache DONE) && is_number (view d.cache ATTEMPT))
-          ≡ numbers → Images (HasPhase at s) b.cache
-      go true numbers =
-          let good = resting.before.good in
-          let ran = is.ready resting.on (stands_ready (view d.cache) good.mark numbers) in
-          went tx args takes words (numbers_small (view d.cache) s.done good.attempt good.done
-          good.attempt_is numbers) at (subst (λ (x : CallAnswer).
-          Called x program.image tx args d b k k1) off ran).1
-      go false numbers =
-          let same = (is.numbers resting.on
-          (stands_numbers (view d.cache) resting.before.good.mark numbers)).0 in
-          let clash : called.Numbers ≡ called.Off at = sym same ∙ off in
-          absurd cc
+  off_of_marked : (r : AbortAnswer) (at : Phase) → answer.Stopped at ≡ answer_of_marked_call r
+      → r ≡ aborted.Off at
+  off_of_marked (aborted.Done v l) at e = absurd cc
+  off_of_marked (aborted.Aborted kind) at e = absurd cc
+  off_of_marked (aborted.Off p) at e = let same : at ≡ p = cc in ap aborted.Off (sym same)
+  off_of_marked aborted.Failed at e = absurd cc
+  off_of_marked (aborted.Unusable kind) at e = absurd cc
+  off_of_marked aborted.Numbers at e = absurd cc
+  off_of_marked aborted.NoMemory at e = absurd cc
+
+  module _ (tx : ℕ) (args : List ℤ) (at : Phase) (n : Mode) (k k1 : ℕ)
+      (takes : tx_parameters program.image tx ≡ Some (length args)) (words : AreWords args) where
+    abbrev Numbers : Bool → Type 0
+    Numbers numbers = (is_number (view d.cache DONE) && is_number (view d.cache ATTEMPT)) ≡ numbers
+
+    small_of : Numbers true → (s.done < 2 ^ 62) × (resting.before.good.attempt < 2 ^ 62)
+    small_of numbers =
+        let good = resting.before.good in
+        numbers_small (view d.cache) s.done good.attempt good.done good.attempt_is numbers
+
+    by_numbers : (numbers : Bool) → Numbers numbers → (marked : Bool) →
+        commanded_by.RunsBy marked program.image tx args d (answer.Stopped at) n b k k1
+        → Images (HasPhase at s) b.cache
+    by_numbers true numbers false is =
+        let ran = is.called.ready resting.on
+        (stands_ready (view d.cache) resting.before.good.mark numbers) in
+        went tx args takes words (small_of numbers) at
+        (subst (λ (x : CallAnswer). Called x program.image tx args d b k k1)
+        (off_of is.tx_answer at is.answer) ran).1
+    by_numbers true numbers true is =
+        let ran = is.called.ready resting.on
+        (stands_ready (view d.cache) resting.before.good.mark numbers) in
+        went_marked tx args takes words (small_of numbers) at
+        (subst (λ (x : AbortAnswer). AbortCalled x program.image tx args d b k k1)
+        (off_of_marked is.tx_answer at is.answer) ran).1
+    by_numbers false numbers false is =
+        let same = (is.called.numbers resting.on
+        (stands_numbers (view d.cache) resting.before.good.mark numbers)).0 in
+        let clash : called.Numbers ≡ called.Off at =
+        sym same ∙ off_of is.tx_answer at is.answer in
+        absurd cc
+    by_numbers false numbers true is =
+        let same = (is.called.numbers resting.on
+        (stands_numbers (view d.cache) resting.before.good.mark numbers)).0 in
+        let clash : aborted.Numbers ≡ aborted.Off at =
+        sym same ∙ off_of_marked is.tx_answer at is.answer in
+        absurd cc
+
+    by_call : commanded_by.Runs program tx args d (answer.Stopped at) n b k k1
+        → Images (HasPhase at s) b.cache
+    by_call is = by_numbers (is_number (view d.cache DONE) && is_number (view d.cache ATTEMPT)) refl
+        (rolls_back_of program tx) is
 
   module _ (args : List ℤ) (words : AreWords args) (at : Phase) (n : Mode) (k k1 : ℕ) where
     by_count : (tx count : ℕ) (same : Bool) → (count == length args) ≡ same
         → tx_parameters program.image tx ≡ Some count
-        → commanded.CallsWith same program.image tx args d (answer.Stopped at) n b k k1
+        → commanded.CallsWith same program tx args d (answer.Stopped at) n b k k1
         → Images (HasPhase at s) b.cache
     by_count tx count true same takes h =
-        by_call tx args h.tx_answer at k k1
-        (takes ∙ ap (λ (i : ℕ). Some i) (eqb-true count (length args) same)) words
-        (off_of h.tx_answer at h.answer) h.called
+        by_call tx args at n k k1
+        (takes ∙ ap (λ (i : ℕ). Some i) (eqb-true count (length args) same)) words h
     by_count tx count false same takes h = let e = h.0 in absurd cc
 
     by_parameters : (tx : ℕ) (count : Option ℕ) → tx_parameters program.image tx ≡ count
-        → commanded.CallsTo count program.image tx args d (answer.Stopped at) n b k k1
+        → commanded.CallsTo count program tx args d (answer.Stopped at) n b k k1
         → Images (HasPhase at s) b.cache
     by_parameters tx None takes h = let e = h.0 in absurd cc
     by_parameters tx (Some count) takes h = by_count tx count (count == length args) refl takes h
 
-    by_name : (number : Option ℕ) → commanded.CallsNamed number program.image args d
+    by_name : (number : Option ℕ) → commanded.CallsNamed number program args d
         (answer.Stopped at) n b k k1 → Images (HasPhase at s) b.cache
     by_name None h = let e = h.0 in absurd cc
     by_name (Some tx) h = by_parameters tx (tx_parameters program.image tx) refl h

@@ -1,6 +1,6 @@
 -- A power cut, by what is owed, and the recovery after it.
-use Rattle.std.proofs.Common.{◌≡◌, inl, inr, ℕ, true, List, Option, Some, None, pos, refl, sym}
-use Rattle.std.proofs.Common.{subst}
+use Rattle.std.proofs.Common.{◌≡◌, inl, inr, ℕ, suc, ◌&&◌, ◌<◌, if◌then◌else◌, Bool, true, false}
+use Rattle.std.proofs.Common.{List, Option, Some, None, ℤ, pos, refl, sym, ap, ◌∙◌, subst, arith}
 use Rattle.cache_model.specs.Cache.{Words, view}
 use Rattle.cache_model.specs.Image.{Images}
 use Rattle.cache_model.specs.Collapse.{bad}
@@ -11,77 +11,145 @@ use Rattle.pool_map.specs.Trap.{trap_number}
 use Rattle.pm_machine.specs.declared.effect.Effect.{Effect}
 use Rattle.pm_machine.specs.declared.effect.End.{End}
 use Rattle.pm_machine.specs.declared.effect.End.TheVariants.{Halted, Trapped}
-use Rattle.pm_machine.specs.Effects.{heap_end}
-use Rattle.pool_layout.specs.declared.places.TheConstants.{MARK}
+use Rattle.pm_machine.specs.Effects.{heap_end, records_end}
+use Rattle.pool_layout.specs.declared.places.TheConstants.{DONE, MARK}
 use Rattle.pool_layout.specs.Good.{Lost}
-use Rattle.crash_law.specs.Pools.{Pool, Call, IsBefore}
+use Rattle.pool_layout.specs.declared.places.Place.TheVariants.{Heap}
+use Rattle.pool_layout.specs.Places as places
+use Rattle.pool_layout.specs.Restored.{restored}
+use Rattle.pool_layout.specs.Sizes.{heap_words}
+use Rattle.c_meaning.specs.Transaction.{Trap}
+use Rattle.clobber_log.specs.Logs.{attempt_in}
+use Rattle.session_law.specs.Opened.{opened_heap}
+use Rattle.crash_law.specs.Pools.{Pool, Call, Good, IsBefore, IsDone}
 use Rattle.crash_law.specs.Law.{IsAtRest, IsCut, IsEnd}
 use Rattle.run_law.specs.Seen.{result_of, E, W}
-use Rattle.recovery.specs.Recovered.{IsRecovered}
-use Rattle.recovery.specs.declared.answer.RecoverAnswer.{RecoverAnswer}
-use Rattle.recovery.specs.declared.answer.RecoverAnswer.TheVariants as recovered
+use Rattle.args_log.specs.Pending.{is_sealed, tx_number}
+use Rattle.recovery.specs.Recovered.{tx_in}
+use Rattle.undo_law.specs.Law.{IsOwed, IsUndone}
+use Rattle.abort_law.specs.Cuts.{IsMarkedCut}
 use Rattle.cut_law.specs.Law.{call_of, pool_with}
 use Rattle.cnvm_session.specs.declared.mode.Mode.{Mode}
+use Rattle.cnvm_session.specs.declared.mode.Mode.TheVariants as mode
 use Rattle.cnvm_session.specs.declared.answer.Answer.{Answer}
 use Rattle.cnvm_session.specs.declared.answer.Answer.TheVariants as answer
 use Rattle.cnvm_session.specs.declared.program.Program.{Program}
-use Rattle.cnvm_session.specs.Outcomes.{answer_of_recovery, mode_of_recovery}
+use Rattle.cnvm_session.specs.Marks.{rolls_back_of, owes_marked}
+use Rattle.cnvm_session.specs.Outcomes.{RecoversBy}
+use Rattle.cnvm_session.specs.Outcomes as outcomes
 use Rattle.cnvm_session.specs.Commands as commanded
 use Rattle.cnvm_session.specs.Commands.{fallen}
-use Rattle.session_law.specs.Source.{outcome_with}
+use Rattle.session_law.specs.Source.{sizes_of, means, outcome_with}
 use Rattle.session_law.specs.Agrees.{Agrees}
 use Rattle.session_law.specs.State.{Pending, Standing, Ready, Down, Unusable, SourceState}
-use Rattle.session_law.specs.State.{standing_as, done_with}
-use Rattle.session_law.specs.Answers.{FindsOf, FindsOwed, Recovers, IsMarked, Powers}
-use Rattle.session_law.specs.Holds.{OwesNone, OwesOne, HoldsAs, Holds}
+use Rattle.session_law.specs.State.{standing_as, done_with, undone_as}
+use Rattle.session_law.specs.Answers.{HasSeal, IsConcluded, FindsOf, FindsOwed, Rests}
+use Rattle.session_law.specs.Answers.{RedoesUnmarked, RedoesMarked, RedoesBy, Recovers, MarksAs}
+use Rattle.session_law.specs.Answers.{IsMarked, Powers}
+use Rattle.session_law.specs.Holds.{HoldsPool, OwesNone, OwesOne, OwesMarked, OwesBy, HoldsAs}
+use Rattle.session_law.specs.Holds.{Holds}
 use Rattle.session_law.proofs.Words.{held_words}
 use Rattle.session_law.proofs.Ones.{rest_images, at_view, left_rest, at_left}
-use Rattle.session_law.proofs.Reading.{is_marked}
+use Rattle.session_law.proofs.Reading.{is_marked, is_unsealed, is_owed}
 use Rattle.session_law.proofs.Resting.{resting_owes, Meant, meant, HasHalted, run_halted}
 use Rattle.session_law.proofs.Resting.{run_trapped}
 use Rattle.session_law.proofs.Recoveries.{marked_recovers, rest_recovers, redo_recovers}
+use Rattle.session_law.proofs.MarkedRuns.{MarkedMeant, marked_meant, comes_same, marked_done}
+use Rattle.session_law.proofs.MarkedRuns.{marked_trapped}
+use Rattle.session_law.proofs.MarkedRecoveries.{KeepsLast, marked_redo_recovers}
 
--- a recovery of what is found never answers that the pool has a mark
+-- a recovery of what is found never answers that the pool has a mark, or that a pick doesn't fit
+
+no_mark_by : (program : Program) (owed : Pending) (marked : Bool) (found t : SourceState)
+    (image : Words) (kind : TrapKind)
+    → RedoesBy marked program owed found image (answer.RefusedUnusable kind) t → ⊥
+no_mark_by program owed false found t image kind is = is
+no_mark_by program owed true found t image kind is = is
+
 no_mark : (program : Program) (st : Standing) (found t : SourceState)
     (image : Words) (kind : TrapKind)
     → Recovers st program found image (answer.RefusedUnusable kind) t → ⊥
 no_mark program Ready found t image kind is = is
 no_mark program (Down None) found t image kind is = is
-no_mark program (Down (Some owed)) found t image kind is = is
+no_mark program (Down (Some owed)) found t image kind is =
+    no_mark_by program owed (rolls_back_of program owed.tx) found t image kind is
 no_mark program (Unusable trap) found t image kind is = is
 
+no_pick_by : (program : Program) (owed : Pending) (marked : Bool) (found t : SourceState)
+    (image : Words) (line : ℕ)
+    → RedoesBy marked program owed found image (answer.RefusedPick line) t → ⊥
+no_pick_by program owed false found t image line is = is
+no_pick_by program owed true found t image line is = is
+
+no_pick : (program : Program) (st : Standing) (found t : SourceState)
+    (image : Words) (line : ℕ)
+    → Recovers st program found image (answer.RefusedPick line) t → ⊥
+no_pick program Ready found t image line is = is
+no_pick program (Down None) found t image line is = is
+no_pick program (Down (Some owed)) found t image line is =
+    no_pick_by program owed (rolls_back_of program owed.tx) found t image line is
+no_pick program (Unusable trap) found t image line is = is
+
 powers_of :
-    (program : Program) (s found t : SourceState) (image : Words)
-    (r : RecoverAnswer) →
+    (program : Program) (s found t : SourceState) (image : Words) (a : Answer) →
     image MARK ≡ pos 0 → FindsOwed s.standing program s image found
-    → Recovers found.standing program found image (answer_of_recovery r) t
-    → Powers program s image (answer_of_recovery r) t
-powers_of program s found t image recovered.Clean mark finds is = (mark, (found, finds, is))
-powers_of program s found t image (recovered.Redone v l) mark finds is =
-    (mark, (found, finds, is))
-powers_of program s found t image (recovered.Trap kind) mark finds is =
-    (mark, (found, finds, is))
-powers_of program s found t image (recovered.Unusable kind) mark finds is =
+    → Recovers found.standing program found image a t → Powers program s image a t
+powers_of program s found t image (answer.RefusedUnusable kind) mark finds is =
     absurd (no_mark program found.standing found t image kind is)
-powers_of program s found t image recovered.Numbers mark finds is =
+powers_of program s found t image (answer.RefusedPick line) mark finds is =
+    absurd (no_pick program found.standing found t image line is)
+powers_of program s found t image answer.Silent mark finds is = (mark, (found, finds, is))
+powers_of program s found t image (answer.Done v l) mark finds is = (mark, (found, finds, is))
+powers_of program s found t image (answer.Trap kind) mark finds is = (mark, (found, finds, is))
+powers_of program s found t image (answer.Aborted kind) mark finds is = (mark, (found, finds, is))
+powers_of program s found t image (answer.Stopped p) mark finds is = (mark, (found, finds, is))
+powers_of program s found t image answer.DeviceFault mark finds is = (mark, (found, finds, is))
+powers_of program s found t image answer.RecoveredNone mark finds is = (mark, (found, finds, is))
+powers_of program s found t image (answer.RecoveredRedone v l) mark finds is =
     (mark, (found, finds, is))
-powers_of program s found t image (recovered.Off p) mark finds is =
+powers_of program s found t image (answer.RecoveredTrap kind) mark finds is =
     (mark, (found, finds, is))
-powers_of program s found t image recovered.Failed mark finds is = (mark, (found, finds, is))
-powers_of program s found t image recovered.NoMemory mark finds is =
+powers_of program s found t image (answer.RecoveredAborted kind) mark finds is =
     (mark, (found, finds, is))
+powers_of program s found t image (answer.Shown text) mark finds is = (mark, (found, finds, is))
+powers_of program s found t image (answer.Last f v) mark finds is = (mark, (found, finds, is))
+powers_of program s found t image answer.NoMemory mark finds is = (mark, (found, finds, is))
+powers_of program s found t image answer.RefusedDown mark finds is = (mark, (found, finds, is))
+powers_of program s found t image answer.RefusedUnknown mark finds is = (mark, (found, finds, is))
+powers_of program s found t image answer.RefusedArity mark finds is = (mark, (found, finds, is))
+powers_of program s found t image answer.RefusedNumbers mark finds is = (mark, (found, finds, is))
 
 -- what a device holds after its power is back, by how the session stood
 abbrev pub HeldAs : Standing → Program → Words → Device → SourceState → Type 0
 HeldAs Ready program super e s = OwesNone program super e s
 HeldAs (Down None) program super e s = OwesNone program super e s
-HeldAs (Down (Some owed)) program super e s = OwesOne program super owed e s
+HeldAs (Down (Some owed)) program super e s =
+    OwesBy (rolls_back_of program owed.tx) program super owed e s
 HeldAs (Unusable kind) program super e s =
     Images (Lost program.image.parts.sizes (trap_number kind)) e.cache
 
+-- a state that is down with nothing owed
+down_same : (found : SourceState) → found.standing ≡ Down None
+    → standing_as (Down None) found ≡ found
+down_same found standing = λ i. standing_as (sym standing i) found
+
+-- an image that isn't sealed owes nothing
+pub not_owing : (program : Program) (e : Device) → is_sealed (view e.cache) ≡ false
+    → owes_marked program e ≡ false
+not_owing program e unsealed = ap (λ (x : Bool). x && rolls_back_of program (tx_in e)) unsealed
+
+-- an image that is sealed owes the transaction that its record names
+pub owing_as : (program : Program) (e : Device) (tx : ℕ) (marked : Bool)
+    → is_sealed (view e.cache) ≡ true → tx_in e ≡ tx → rolls_back_of program tx ≡ marked
+    → owes_marked program e ≡ marked
+owing_as program e tx marked sealed names mark =
+    ap (λ (x : Bool). x && rolls_back_of program (tx_in e)) sealed
+    ∙ ap (rolls_back_of program) names ∙ mark
+
 module _ (program : Program) (super : Words) (agrees : Agrees program)
     (e : Device) (s : SourceState) (on : e.on ≡ true) (rest : IsAtRest e.cache)
-    (r : RecoverAnswer) (b : Device) (k k1 : ℕ) (is : IsRecovered r program.image e b k k1) where
+    (a : Answer) (n : Mode) (b : Device) (k k1 : ℕ)
+    (is : outcomes.Recovers program e a n b k k1) where
   abbrev one : Words
   one = view e.cache
 
@@ -89,113 +157,260 @@ module _ (program : Program) (super : Words) (agrees : Agrees program)
   pool = pool_with program.image super
 
   abbrev Answered : Type 0
-  Answered = (t : SourceState) × Powers program s one (answer_of_recovery r) t
-      × Holds program super (mode_of_recovery r) b t
+  Answered = (t : SourceState) × Powers program s one a t × Holds program super n b t
+
+  -- the recovery, by whether the image owes a marked transaction
+  by_owed : (marked : Bool) → owes_marked program e ≡ marked
+      → RecoversBy marked program.image e a n b k k1
+  by_owed marked owes =
+      subst (λ (x : Bool). RecoversBy x program.image e a n b k k1) owes is
+
+  -- nothing is owed in the image
+  rested : (found : SourceState) (h : Words) → HoldsPool program h found
+      → IsBefore pool found.done h found.last one → found.standing ≡ Down None
+      → FindsOwed s.standing program s one found → Answered
+  rested found h holds before standing finds =
+      let un = by_owed false (not_owing program e
+      (is_unsealed one found.done before.good.done before.good.unsealed)) in
+      let done = rest_recovers program super e found h on rest holds before un.tx_answer b k k1
+      un.recovered in (
+        done.0,
+        powers_of program s found done.0 one a before.good.mark finds
+            (subst (λ (st : Standing). Recovers st program found one a done.0) (sym standing)
+            (subst (λ (f : SourceState). Rests program f one a done.0) (down_same found standing)
+            (subst (λ (x : Answer). Rests program (standing_as (Down None) found) one x done.0)
+            (sym un.answer) done.1))),
+        subst (λ (x : Mode). Holds program super x b done.0) (sym un.mode) done.2,
+      )
 
   from_none : FindsOwed s.standing program s one (standing_as (Down None) s) →
       OwesNone program super e s → Answered
   from_none finds owes =
-      let before : IsBefore pool s.done owes.heap s.last one =
-      at_view (IsBefore pool s.done owes.heap s.last) e.cache owes.left in
-      let done = rest_recovers program super e s owes.heap on rest owes.holds before r b k k1 is
-      in (
-        done.0,
-        powers_of program s (standing_as (Down None) s) done.0 one r before.good.mark
-            finds done.1,
-        done.2,
-      )
+      rested (standing_as (Down None) s) owes.heap
+      (record {
+        headers = owes.holds.headers;
+        pool = owes.holds.pool;
+        words = owes.holds.words;
+      })
+      (at_view (IsBefore pool s.done owes.heap s.last) e.cache owes.left) refl finds
 
   -- the pool has a mark, and the source allows its trap
   from_mark : (kind : TrapKind) → IsMarked s.standing program s kind →
       Lost pool.sizes (trap_number kind) one → Answered
   from_mark kind marks lost =
-      let found = marked_recovers program e b kind r k k1 on lost.0
+      let found = marked_recovers program e b kind (owes_marked program e) a n k k1 on lost.0
       (is_marked (one 19) (trap_number kind) lost.0 lost.1) is in
-      let holds : Holds program super (mode_of_recovery (recovered.Unusable kind)) b
-      (standing_as (Unusable kind) s) = (
+      let holds : Holds program super (mode.Unusable kind) b (standing_as (Unusable kind) s) = (
         refl,
         subst (λ (x : Device). Images (Lost pool.sizes (trap_number kind)) x.cache)
-            (sym found.1) (rest_images (Lost pool.sizes (trap_number kind)) e.cache rest lost),
-      ) in
-      subst (λ (x : RecoverAnswer). (t : SourceState)
-      × Powers program s one (answer_of_recovery x) t
-      × Holds program super (mode_of_recovery x) b t) (sym found.0)
-      (standing_as (Unusable kind) s, (lost.0, marks, refl), holds)
+            (sym found.2) (rest_images (Lost pool.sizes (trap_number kind)) e.cache rest lost),
+      ) in (
+        standing_as (Unusable kind) s,
+        subst (λ (x : Answer). Powers program s one x (standing_as (Unusable kind) s))
+            (sym found.0) (lost.0, marks, refl),
+        subst (λ (x : Mode). Holds program super x b (standing_as (Unusable kind) s))
+            (sym found.1) holds,
+      )
 
-  module _ (owed : Pending) (standing : s.standing ≡ Down (Some owed))
-      (owes : OwesOne program super owed e s) where
-    abbrev h : Words
-    h = owes.heap
-
-    abbrev es : List Effect
-    es = owes.effects
-
+  module _ (owed : Pending) (standing : s.standing ≡ Down (Some owed)) where
     abbrev call : Call
     call = call_of s.done owed.tx owed.args
 
-    own : Meant program s owed h owes.end es
-    own = meant program s owed h owes.end es owes.holds
-        (agrees.runs h owed.tx owed.args owes.holds.headers (held_words program h s owes.holds)
-        owes.words owes.takes) owes.ran
+    abbrev waiting : SourceState
+    waiting = standing_as (Down (Some owed)) s
 
     finds_as : (found : SourceState) → FindsOf (Some owed) program s one found →
         FindsOwed s.standing program s one found
     finds_as found finds =
         subst (λ (x : Standing). FindsOwed x program s one found) (sym standing) finds
 
-    at_end : (x : End) → owes.end ≡ x → IsEnd pool call (heap_end h es) (result_of x) one → Answered
-    at_end (Halted v) ends seen =
-        let has : HasHalted program (outcome_with program s.pool owed.tx owed.args own.logged) v
-        (heap_end h es) = run_halted program s owed h owes.end es own v ends in
-        let found : SourceState = done_with has.pool v (Down None) s in
-        let done = rest_recovers program super e found (heap_end h es) on rest
-        (record { headers = has.headers; pool = has.holds; words = has.words })
-        (record { good = seen.good; last_is = seen.last_is }) r b k k1 is in (
-          done.0,
-          powers_of program s found done.0 one r seen.good.mark
-              (finds_as found (inr (inl (
-                seen.seal_is,
-                seen.good.done,
-                (
-                  v,
-                  own.logged,
-                  (has.pool, record { logs = own.logs; is = has.is }, refl),
-                ),
-              ))))
-              done.1,
-          done.2,
-        )
-    at_end (Trapped kind) ends lost =
-        from_mark kind
-        (subst (λ (x : Standing). IsMarked x program s kind) (sym standing)
-        (run_trapped program s owed h owes.end es own kind ends))
-        lost
+    -- the image is from before the call
+    at_before : (h : Words) → HoldsPool program h s → IsBefore pool s.done h s.last one → Answered
+    at_before h holds before =
+        rested (standing_as (Down None) s) h
+        (record { headers = holds.headers; pool = holds.pool; words = holds.words }) before refl
+        (finds_as (standing_as (Down None) s) (inl (before.good.unsealed, refl)))
 
-    at_cut : IsCut pool call (E es) (W es) h (heap_end h es) s.last (result_of owes.end) one
-        → Answered
-    at_cut (inl before) =
-        let done = rest_recovers program super e s h on rest owes.holds before r b k k1 is in (
-          done.0,
-          powers_of program s (standing_as (Down None) s) done.0 one r
-              before.good.mark (finds_as (standing_as (Down None) s)
-              (inl (before.good.unsealed, refl)))
-              done.1,
-          done.2,
-        )
-    at_cut (inr (inl sealed)) =
-        let waiting : SourceState = standing_as (Down (Some owed)) s in
-        let done = redo_recovers program super agrees e s owed h owes.end es on rest
-        owes.holds owes.takes owes.words owes.ran sealed r b k k1 is in (
-          done.0,
-          powers_of program s waiting done.0 one r sealed.mark
-              (finds_as waiting (inr (inr (sealed.sealed, sealed.done, refl)))) done.1,
-          done.2,
-        )
-    at_cut (inr (inr ended)) = at_end owes.end refl ended
+    module _ (mark : rolls_back_of program owed.tx ≡ false)
+        (owes : OwesOne program super owed e s) where
+      abbrev h : Words
+      h = owes.heap
 
-    from_one : Answered
-    from_one = at_cut (at_view (IsCut pool call (E es) (W es) h (heap_end h es) s.last
-        (result_of owes.end)) e.cache owes.left)
+      abbrev es : List Effect
+      es = owes.effects
+
+      own : Meant program s owed h owes.end es
+      own = meant program s owed h owes.end es owes.holds
+          (agrees.runs h owed.tx owed.args owes.holds.headers (held_words program h s owes.holds)
+          owes.words owes.takes) owes.ran
+
+      at_end : (x : End) → owes.end ≡ x → IsEnd pool call (heap_end h es) (result_of x) one
+          → Answered
+      at_end (Halted v) ends seen =
+          let has : HasHalted program (outcome_with program s.pool owed.tx owed.args own.logged) v
+          (heap_end h es) = run_halted program s owed h owes.end es own v ends in
+          let found : SourceState = done_with has.pool v (Down None) s in
+          rested found (heap_end h es)
+          (record { headers = has.headers; pool = has.holds; words = has.words })
+          (record { good = seen.good; last_is = seen.last_is }) refl
+          (finds_as found (inr (inl (
+            seen.seal_is,
+            seen.good.done,
+            subst (λ (x : Bool). IsConcluded x program owed s one (Down None) found) (sym mark) (
+              v,
+              own.logged,
+              (has.pool, record { logs = own.logs; is = has.is }, refl),
+            ),
+          ))))
+      at_end (Trapped kind) ends lost =
+          from_mark kind
+          (subst (λ (x : Standing). IsMarked x program s kind) (sym standing)
+          (subst (λ (x : Bool). MarksAs x program s owed kind) (sym mark)
+          (run_trapped program s owed h owes.end es own kind ends)))
+          lost
+
+      at_cut : IsCut pool call (E es) (W es) h (heap_end h es) s.last (result_of owes.end) one
+          → Answered
+      at_cut (inl before) = at_before h owes.holds before
+      at_cut (inr (inl sealed)) =
+          let names : tx_in e ≡ owed.tx = ap tx_number (sealed.call_is 0 (omega arith)) in
+          let un = by_owed false (owing_as program e owed.tx false
+          (is_owed one s.done sealed.done sealed.sealed) names mark) in
+          let done = redo_recovers program super agrees e s owed h owes.end es on rest
+          owes.holds owes.takes owes.words owes.ran mark sealed un.tx_answer b k k1
+          un.recovered in (
+            done.0,
+            powers_of program s waiting done.0 one a sealed.mark
+                (finds_as waiting (inr (inr (sealed.sealed, sealed.done, refl))))
+                (subst (λ (x : Bool). RedoesBy x program owed waiting one a done.0) (sym mark)
+                (subst (λ (x : Answer). RedoesUnmarked program owed waiting one x done.0)
+                (sym un.answer) done.1)),
+            subst (λ (x : Mode). Holds program super x b done.0) (sym un.mode) done.2,
+          )
+      at_cut (inr (inr ended)) = at_end owes.end refl ended
+
+      from_unmarked : Answered
+      from_unmarked = at_cut (at_view (IsCut pool call (E es) (W es) h (heap_end h es) s.last
+          (result_of owes.end)) e.cache owes.left)
+
+    module _ (mark : rolls_back_of program owed.tx ≡ true)
+        (owes : OwesMarked program super owed e s) where
+      abbrev heap : Words
+      heap = owes.heap
+
+      abbrev effects : List Effect
+      effects = owes.effects
+
+      its_own : MarkedMeant program s owed heap owes.end effects
+      its_own = marked_meant program s owed heap owes.holds
+          (agrees.runs heap owed.tx owed.args owes.holds.headers
+          (held_words program heap s owes.holds) owes.words owes.takes) owes.end effects owes.ran
+
+      finished_as : (found : SourceState) → HasSeal s one → one DONE ≡ pos (suc s.done)
+          → IsConcluded true program owed s one (Down None) found
+          → FindsOwed s.standing program s one found
+      finished_as found seal done finished =
+          finds_as found (inr (inl (
+            seal,
+            done,
+            subst (λ (x : Bool). IsConcluded x program owed s one (Down None) found) (sym mark)
+                finished,
+          )))
+
+      marked_done_at : (v : ℤ) → owes.end ≡ Halted v
+          → IsDone pool (suc s.done) (heap_end heap effects) v one → Answered
+      marked_done_at v ends seen =
+          let has : HasHalted program (means program s.pool owed.tx owed.args) v
+          (heap_end heap effects) = its_own.halts v ends in
+          let found : SourceState = done_with has.pool v (Down None) s in
+          rested found (heap_end heap effects)
+          (record { headers = has.headers; pool = has.holds; words = has.words })
+          (record { good = seen.good; last_is = seen.last_is }) refl
+          (finished_as found seen.seal_is seen.good.done (inl (
+            heap,
+            v,
+            records_end 0 effects,
+            (
+              has.pool,
+              marked_done program s owed heap owes.end effects owes.holds owes.ran its_own v ends
+                  (records_end 0 effects) refl,
+              refl,
+            ),
+          )))
+
+      -- an image that is good with a heap has its words
+      good_heap : (done : ℕ) (g : Words) → Good pool done g one → (w : ℕ)
+          → w < heap_words (sizes_of program) → opened_heap program one w ≡ g w
+      good_heap done g good w less =
+          ap (λ (x : Bool). (if x then restored (places.pool_of (sizes_of program))
+          (attempt_in (sizes_of program) one) one
+          else (λ v. one (places.at (places.pool_of (sizes_of program)) (Heap v)))) w)
+          (is_unsealed one done good.done good.unsealed) ∙ good.heap w less
+
+      undone_at : (kind : TrapKind) → owes.end ≡ Trapped kind
+          → IsUndone pool call heap s.last one → Answered
+      undone_at kind ends seen =
+          let found : SourceState = undone_as (Down None) s in
+          rested found heap
+          (record {
+            headers = owes.holds.headers;
+            pool = owes.holds.pool;
+            words = owes.holds.words;
+          })
+          (record { good = seen.good; last_is = seen.last_is }) refl
+          (finished_as found seen.seal_is seen.good.done (inr (
+            kind,
+            (
+              (
+                records_end 0 effects,
+                comes_same program (opened_heap program one) heap s.pool owed.tx owed.args
+                    (records_end 0 effects) (Trap kind)
+                    (good_heap (suc s.done) heap seen.good)
+                    (marked_trapped program s owed heap owes.end effects owes.holds owes.ran
+                    its_own kind ends),
+              ),
+              refl,
+            ),
+          )))
+
+      owed_at : IsOwed pool call heap one → KeepsLast owes.end s.last one → Answered
+      owed_at sealed kept =
+          let names : tx_in e ≡ owed.tx = ap tx_number (sealed.call_is 0 (omega arith)) in
+          let ma = by_owed true (owing_as program e owed.tx true
+          (is_owed one s.done sealed.done sealed.sealed) names mark) in
+          let done = marked_redo_recovers program super agrees e s owed heap owes.end effects on
+          rest owes.holds owes.takes owes.words owes.ran mark sealed kept ma.tx_answer b k k1
+          ma.redone in (
+            done.0,
+            powers_of program s waiting done.0 one a sealed.mark
+                (finds_as waiting (inr (inr (sealed.sealed, sealed.done, refl))))
+                (subst (λ (x : Bool). RedoesBy x program owed waiting one a done.0) (sym mark)
+                (subst (λ (x : Answer). RedoesMarked program owed waiting one x done.0)
+                (sym ma.answer) done.1)),
+            subst (λ (x : Mode). Holds program super x b done.0) (sym ma.mode) done.2,
+          )
+
+      at_marked_cut : (x : End) → owes.end ≡ x
+          → IsMarkedCut pool call heap (heap_end heap effects) s.last x one → Answered
+      at_marked_cut (Halted v) ends (inl before) = at_before heap owes.holds before
+      at_marked_cut (Halted v) ends (inr (inl sealed)) =
+          owed_at sealed (subst (λ (y : End). KeepsLast y s.last one) (sym ends) tt)
+      at_marked_cut (Halted v) ends (inr (inr seen)) = marked_done_at v ends seen
+      at_marked_cut (Trapped kind) ends (inl before) = at_before heap owes.holds before
+      at_marked_cut (Trapped kind) ends (inr (inl still)) =
+          owed_at still.owed
+          (subst (λ (y : End). KeepsLast y s.last one) (sym ends) still.last_is)
+      at_marked_cut (Trapped kind) ends (inr (inr seen)) = undone_at kind ends seen
+
+      from_marked : Answered
+      from_marked = at_marked_cut owes.end refl
+          (at_view (IsMarkedCut pool call heap (heap_end heap effects) s.last owes.end) e.cache
+          owes.left)
+
+    from_one : (marked : Bool) → rolls_back_of program owed.tx ≡ marked
+        → OwesBy marked program super owed e s → Answered
+    from_one false mark owes = from_unmarked mark owes
+    from_one true mark owes = from_marked mark owes
 
   at_standing : (st : Standing) → s.standing ≡ st → HeldAs st program super e s → Answered
   at_standing Ready standing held =
@@ -204,7 +419,8 @@ module _ (program : Program) (super : Words) (agrees : Agrees program)
   at_standing (Down None) standing held =
       from_none (subst (λ (x : Standing).
       FindsOwed x program s one (standing_as (Down None) s)) (sym standing) refl) held
-  at_standing (Down (Some owed)) standing held = from_one owed standing held
+  at_standing (Down (Some owed)) standing held =
+      from_one owed standing (rolls_back_of program owed.tx) refl held
   at_standing (Unusable kind) standing held =
       from_mark kind
       (subst (λ (x : Standing). IsMarked x program s kind) (sym standing) refl)
@@ -226,27 +442,44 @@ module _ (program : Program) (super : Words) (choice : Choice) (d : Device) (s :
     left = left_images (IsBefore (pool_with program.image super) s.done owes.heap s.last) owes.left;
   }
 
+  left_owed : (owed : Pending) (marked : Bool) → OwesBy marked program super owed d s
+      → OwesBy marked program super owed (powered choice d) s
+  left_owed owed false owes = record {
+    heap = owes.heap;
+    holds = owes.holds;
+    takes = owes.takes;
+    words = owes.words;
+    end = owes.end;
+    effects = owes.effects;
+    ran = owes.ran;
+    left =
+        left_images
+        (IsCut (pool_with program.image super) (call_of s.done owed.tx owed.args)
+        (E owes.effects) (W owes.effects) owes.heap (heap_end owes.heap owes.effects) s.last
+        (result_of owes.end))
+        owes.left;
+  }
+  left_owed owed true owes = record {
+    heap = owes.heap;
+    holds = owes.holds;
+    takes = owes.takes;
+    words = owes.words;
+    end = owes.end;
+    effects = owes.effects;
+    ran = owes.ran;
+    left =
+        left_images
+        (IsMarkedCut (pool_with program.image super) (call_of s.done owed.tx owed.args)
+        owes.heap (heap_end owes.heap owes.effects) s.last owes.end)
+        owes.left;
+  }
+
   left_held : (m : Mode) (st : Standing) → HoldsAs st program super m d s
       → HeldAs st program super (powered choice d) s
   left_held m Ready holds = left_none (resting_owes program super d s holds.1)
   left_held m (Down None) holds = left_none holds.1
   left_held m (Down (Some owed)) holds =
-      let owes = holds.1 in
-      record {
-        heap = owes.heap;
-        holds = owes.holds;
-        takes = owes.takes;
-        words = owes.words;
-        end = owes.end;
-        effects = owes.effects;
-        ran = owes.ran;
-        left =
-            left_images
-            (IsCut (pool_with program.image super) (call_of s.done owed.tx owed.args)
-            (E owes.effects) (W owes.effects) owes.heap (heap_end owes.heap owes.effects) s.last
-            (result_of owes.end))
-            owes.left;
-      }
+      left_owed owed (rolls_back_of program owed.tx) holds.1
   left_held m (Unusable kind) holds =
       left_images (Lost program.image.parts.sizes (trap_number kind)) holds.1
 
@@ -266,7 +499,7 @@ refused_pick program super image m n d b s a line k k1 holds refused = (
 
 module _ (program : Program) (super : Words) (agrees : Agrees program)
     (choice : Choice) (m n : Mode) (d b : Device) (s : SourceState) (a : Answer) (k k1 : ℕ)
-    (holds : Holds program super m d s) (powers : commanded.Powers program.image choice m d a n b
+    (holds : Holds program super m d s) (powers : commanded.Powers program choice m d a n b
     k k1) where
   by_picks : (first pick : Option ℕ) → fallen 0 choice.picks ≡ first
       → bad (memory_of d) choice.picks ≡ pick
@@ -279,16 +512,9 @@ module _ (program : Program) (super : Words) (agrees : Agrees program)
       refused_pick program super (view (powered choice d).cache) m n d b s a line k k1 holds
       (powers.1 line rises is)
   by_picks None None rises fits =
-      let recovers = powers.2 rises fits in
-      let done =
       held_recovers program super agrees (powered choice d) s refl
-      (left_rest d.cache choice.rest choice.picks) recovers.tx_answer b k k1 recovers.recovered
-      (left_held program super choice d s m s.standing holds) in (
-        done.0,
-        subst (λ (x : Answer). Powers program s (view (powered choice d).cache) x done.0)
-            (sym recovers.answer) done.1,
-        subst (λ (x : Mode). Holds program super x b done.0) (sym recovers.mode) done.2,
-      )
+      (left_rest d.cache choice.rest choice.picks) a n b k k1 (powers.2 rises fits)
+      (left_held program super choice d s m s.standing holds)
 
   pub power_answers : (t : SourceState) × Powers program s (view (powered choice d).cache) a
       t × Holds program super n b t

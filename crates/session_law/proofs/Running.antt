@@ -1,18 +1,23 @@
 -- An owed transaction is done exactly if it was sealed.
 use Rattle.std.proofs.Common.{◌≡◌, ◌≢◌, ◌⊎◌, inl, inr, ℕ, suc, Bool, true, false, if◌then◌else◌}
-use Rattle.std.proofs.Common.{List, [], ◌∷◌, ◌++◌, Some, ℤ, pos, ap, ◌∙◌, subst, append-nil}
+use Rattle.std.proofs.Common.{List, [], ◌∷◌, ◌++◌, Some, None, ℤ, pos, ap, ◌∙◌, subst, append-nil}
+use Rattle.std.proofs.Common.{refl}
 use Rattle.cache_model.specs.Cache.{view}
 use Rattle.pmem.specs.Device.{powered}
 use Rattle.pool_layout.specs.declared.places.TheConstants.{SEAL}
 use Rattle.pool_layout.specs.Image.{Words}
+use Rattle.pool_map.specs.declared.trap.TrapKind.{TrapKind}
 use Rattle.cnvm_session.specs.declared.answer.Answer.{Answer}
 use Rattle.cnvm_session.specs.declared.answer.Answer.TheVariants as answer
 use Rattle.cnvm_session.specs.declared.program.Program.{Program}
+use Rattle.cnvm_session.specs.Marks.{rolls_back_of}
 use Rattle.session_law.specs.State.{Pending, Standing, Ready, Down, SourceState, standing_as}
-use Rattle.session_law.specs.Answers.{HasSeal, IsDoneWith, FindsOf, FindsOwed, Recovers, Powers}
+use Rattle.session_law.specs.Answers.{HasSeal, IsConcluded, FindsOf, FindsOwed, Rests, RedoesBy}
+use Rattle.session_law.specs.Answers.{Recovers, Powers}
+use Rattle.session_law.specs.Opened.{opened_heap}
 use Rattle.session_law.specs.History.{waiting_of, is_retired, recovered_by}
 use Rattle.session_law.specs.Law.{SealedLaw, IsCompleted}
-use Rattle.session_law.proofs.Histories.{fresh_shows, retired_shows}
+use Rattle.session_law.proofs.Histories.{finished_counts, fresh_shows, retired_shows}
 
 module _ (program : Program) (owed : Pending) (s t : SourceState)
     (image : Words) where
@@ -32,8 +37,7 @@ module _ (program : Program) (owed : Pending) (s t : SourceState) (image : Words
   abbrev Told : Type 0
   Told =
       (HasSeal s image × (g ≡ h ++ owed ∷ [])
-      × ((value : ℤ) × (logged : ℕ)
-      × IsDoneWith program s owed.tx owed.args value logged Ready t))
+      × IsConcluded (rolls_back_of program owed.tx) program owed s image Ready t)
       ⊎ ((image SEAL ≢ pos (suc s.done)) × (g ≡ h) × (t ≡ standing_as Ready s))
 
   waiting : waiting_of s.standing ≡ owed ∷ []
@@ -46,6 +50,29 @@ module _ (program : Program) (owed : Pending) (s t : SourceState) (image : Words
       e ∙ ap (λ (x : Bool). h ++ (if x then waiting_of s.standing else [])) is
       ∙ ap (λ (ws : List Pending). h ++ (if b then ws else [])) waiting
 
+  -- one that was finished before the cut is ready after it
+  rested : (marked : Bool) (found : SourceState)
+      → IsConcluded marked program owed s image (Down None) found → t ≡ standing_as Ready found
+      → IsConcluded marked program owed s image Ready t
+  rested false found is now =
+      (is.0, is.1, (is.2.0, is.2.1, now ∙ ap (standing_as Ready) is.2.2))
+  rested true found (inl done) now =
+      inl (
+        done.0,
+        done.1,
+        done.2,
+        (done.3.0, done.3.1, now ∙ ap (standing_as Ready) done.3.2),
+      )
+  rested true found (inr undone) now =
+      inr (undone.0, (undone.1.0, now ∙ ap (standing_as Ready) undone.1.1))
+
+  -- a transaction that is owed is recovered
+  not_none : (marked : Bool)
+      → RedoesBy marked program owed (standing_as (Down (Some owed)) s) image answer.RecoveredNone t
+      → ⊥
+  not_none false is = is
+  not_none true is = is
+
   none_told : (found : SourceState) → FindsOf (Some owed) program s image found →
       Recovers found.standing program found image answer.RecoveredNone t →
       g ≡ h ++ recovered_by s image answer.RecoveredNone → Told
@@ -56,46 +83,64 @@ module _ (program : Program) (owed : Pending) (s t : SourceState) (image : Words
         subst (Recovered program owed s t image answer.RecoveredNone) fresh.1 recovers,
       )
   none_told found (inr (inl retired)) recovers e =
-      let is = retired.2 in
       inl (
         retired.0,
         grown true (retired_shows program s image retired.0 retired.1) e,
-        (
-          is.0,
-          is.1,
-          (
-            is.2.0,
-            is.2.1,
-            subst (Recovered program owed s t image answer.RecoveredNone)
-                is.2.2 recovers,
-          ),
-        ),
+        rested (rolls_back_of program owed.tx) found retired.2
+            (subst (λ (st : Standing). Recovers st program found image answer.RecoveredNone t)
+            (finished_counts program (rolls_back_of program owed.tx) s found image owed (Down None)
+            retired.2).1 recovers),
       )
   none_told found (inr (inr sealed)) recovers e =
-      absurd (subst (Recovered program owed s t image answer.RecoveredNone)
-      sealed.2 recovers)
+      absurd (not_none (rolls_back_of program owed.tx)
+      (subst (Recovered program owed s t image answer.RecoveredNone) sealed.2 recovers))
 
-  redone_told : (value : ℤ) (logged : ℕ) (found : SourceState) →
-      FindsOf (Some owed) program s image found →
-      Recovers found.standing program found image (answer.RecoveredRedone value logged) t
-      → g ≡ h ++ recovered_by s image (answer.RecoveredRedone value logged) → Told
-  redone_told value logged found (inl fresh) recovers e =
-      absurd (subst (Recovered program owed s t image (answer.RecoveredRedone value logged))
-      fresh.1 recovers)
-  redone_told value logged found (inr (inl retired)) recovers e =
-      absurd (subst (Recovered program owed s t image (answer.RecoveredRedone value logged))
-      retired.2.2.2 recovers)
-  redone_told value logged found (inr (inr sealed)) recovers e =
-      inl (
-        sealed.0,
-        e ∙ ap (λ (ws : List Pending). h ++ ws) waiting,
-        (
-          value,
-          logged,
-          subst (Recovered program owed s t image (answer.RecoveredRedone value logged)) sealed.2
-              recovers,
-        ),
-      )
+  -- how the session stood makes no difference
+  settled : (marked : Bool)
+      → IsConcluded marked program owed (standing_as (Down (Some owed)) s) image Ready t
+      → IsConcluded marked program owed s image Ready t
+  settled false is = is
+  settled true is = is
+
+  -- an answer that only the recovery of an owed transaction gives
+  module _ (a : Answer) (never : (found : SourceState) → Rests program found image a t → ⊥)
+      (shows : recovered_by s image a ≡ waiting_of s.standing)
+      (finishes : (found : SourceState)
+      → RedoesBy (rolls_back_of program owed.tx) program owed found image a t
+      → IsConcluded (rolls_back_of program owed.tx) program owed found image Ready t) where
+    not_rested : (found : SourceState) → found.standing ≡ Down None →
+        Recovers found.standing program found image a t → ⊥
+    not_rested found is recovers =
+        never found (subst (λ (st : Standing). Recovers st program found image a t) is recovers)
+
+    redone_told : (found : SourceState) → FindsOf (Some owed) program s image found →
+        Recovers found.standing program found image a t → g ≡ h ++ recovered_by s image a → Told
+    redone_told found (inl fresh) recovers e =
+        absurd (not_rested found (ap (λ (x : SourceState). x.standing) fresh.1) recovers)
+    redone_told found (inr (inl retired)) recovers e =
+        absurd (not_rested found
+        (finished_counts program (rolls_back_of program owed.tx) s found image owed (Down None)
+        retired.2).1 recovers)
+    redone_told found (inr (inr sealed)) recovers e =
+        inl (
+          sealed.0,
+          e ∙ ap (λ (ws : List Pending). h ++ ws) (shows ∙ waiting),
+          settled (rolls_back_of program owed.tx) (finishes (standing_as (Down (Some owed)) s)
+              (subst (Recovered program owed s t image a) sealed.2 recovers)),
+        )
+
+  value_finishes : (value : ℤ) (logged : ℕ) (marked : Bool) (found : SourceState)
+      → RedoesBy marked program owed found image (answer.RecoveredRedone value logged) t
+      → IsConcluded marked program owed found image Ready t
+  value_finishes value logged false found is = (value, logged, is)
+  value_finishes value logged true found is =
+      inl (opened_heap program image, value, logged, is)
+
+  abort_finishes : (kind : TrapKind) (marked : Bool) (found : SourceState)
+      → RedoesBy marked program owed found image (answer.RecoveredAborted kind) t
+      → IsConcluded marked program owed found image Ready t
+  abort_finishes kind false found is = absurd is
+  abort_finishes kind true found is = inr (kind, is)
 
   pub told_of : (a : Answer) → IsCompleted a → Powers program s image a t →
       g ≡ h ++ recovered_by s image a → Told
@@ -103,11 +148,17 @@ module _ (program : Program) (owed : Pending) (s t : SourceState) (image : Words
       none_told answers.1.0 (at_owed program owed s t image answers.1.0 standing answers.1.1)
       answers.1.2 e
   told_of (answer.RecoveredRedone value logged) completed answers e =
-      redone_told value logged answers.1.0
+      redone_told (answer.RecoveredRedone value logged) (λ found no. no) refl
+      (λ found. value_finishes value logged (rolls_back_of program owed.tx) found) answers.1.0
+      (at_owed program owed s t image answers.1.0 standing answers.1.1) answers.1.2 e
+  told_of (answer.RecoveredAborted kind) completed answers e =
+      redone_told (answer.RecoveredAborted kind) (λ found no. no) refl
+      (λ found. abort_finishes kind (rolls_back_of program owed.tx) found) answers.1.0
       (at_owed program owed s t image answers.1.0 standing answers.1.1) answers.1.2 e
   told_of answer.Silent completed answers e = absurd completed
   told_of (answer.Done v l) completed answers e = absurd completed
   told_of (answer.Trap k) completed answers e = absurd completed
+  told_of (answer.Aborted k) completed answers e = absurd completed
   told_of (answer.Stopped p) completed answers e = absurd completed
   told_of answer.DeviceFault completed answers e = absurd completed
   told_of (answer.RecoveredTrap k) completed answers e = absurd completed

@@ -1,12 +1,13 @@
 -- How many steps a recovery takes if it runs an owed transaction to its end.
 use Rattle.std.proofs.Common.{◌≡◌, inl, inr, ℕ, suc, ◌+◌, Bool, true, false, List, length, Option}
-use Rattle.std.proofs.Common.{Some, None, refl, subst, arith}
+use Rattle.std.proofs.Common.{Some, None, ap, refl, subst, arith}
 use Rattle.cache_model.specs.Cache.{Words, view}
 use Rattle.cache_model.specs.Collapse.{bad}
 use Rattle.cache_model.specs.declared.choice.Choice.{Choice}
 use Rattle.pmem.specs.Device.{Device, memory_of, powered}
 use Rattle.pool_layout.specs.declared.places.TheConstants.{MARK}
 use Rattle.pool_map.specs.Trap.{trap_number}
+use Rattle.args_log.specs.Pending.{tx_number}
 use Rattle.clobber_log.specs.Logs.{count_in}
 use Rattle.pm_machine.specs.declared.effect.Effect.{Effect}
 use Rattle.pm_machine.specs.declared.effect.End.{End}
@@ -15,7 +16,7 @@ use Rattle.pm_machine.specs.Effects.{heap_end}
 use Rattle.crash_law.specs.Pools.{Pool, Call, Good}
 use Rattle.crash_law.specs.Law.{IsCut, IsEnd}
 use Rattle.run_law.specs.Seen.{result_of, E, W}
-use Rattle.recovery.specs.Recovered.{Cleaned, IsRecovered, numbers_out}
+use Rattle.recovery.specs.Recovered.{Cleaned, IsRecovered, numbers_out, tx_in}
 use Rattle.recovery.specs.declared.answer.RecoverAnswer.{RecoverAnswer}
 use Rattle.recovery.specs.declared.answer.RecoverAnswer.TheVariants as recovered
 use Rattle.recovery.specs.Due.{due_clean}
@@ -25,7 +26,9 @@ use Rattle.cnvm_session.specs.declared.mode.Mode.{Mode}
 use Rattle.cnvm_session.specs.declared.answer.Answer.{Answer}
 use Rattle.cnvm_session.specs.declared.answer.Answer.TheVariants as answer
 use Rattle.cnvm_session.specs.declared.program.Program.{Program}
-use Rattle.cnvm_session.specs.Outcomes.{answer_of_recovery}
+use Rattle.cnvm_session.specs.Marks.{rolls_back_of, owes_marked}
+use Rattle.cnvm_session.specs.Outcomes.{answer_of_recovery, RecoversUnmarked, RecoversBy}
+use Rattle.cnvm_session.specs.Outcomes as outcomes
 use Rattle.cnvm_session.specs.Commands as commanded
 use Rattle.cnvm_session.specs.Commands.{fallen}
 use Rattle.session_law.specs.Source.{sizes_of}
@@ -34,8 +37,9 @@ use Rattle.session_law.specs.State.{Pending, SourceState}
 use Rattle.session_law.specs.Holds.{OwesOne}
 use Rattle.session_law.specs.Law.{IsRedone, StepsLaw}
 use Rattle.session_law.proofs.Ones.{left_rest, at_left}
-use Rattle.session_law.proofs.Reading.{is_marked, is_unsealed}
+use Rattle.session_law.proofs.Reading.{is_marked, is_unsealed, is_owed}
 use Rattle.session_law.proofs.Recoveries.{marked_recovers, redo_tells}
+use Rattle.session_law.proofs.Powers.{not_owing, owing_as}
 
 -- a recovery of a pool where nothing is owed runs no transaction
 module _ (program : Program) (e b : Device) (r : RecoverAnswer) (k k1 : ℕ)
@@ -66,7 +70,7 @@ module _ (program : Program) (e b : Device) (r : RecoverAnswer) (k k1 : ℕ)
 
 module _ (program : Program) (super : Words) (agrees : Agrees program)
     (choice : Choice) (owed : Pending) (d b : Device) (s : SourceState) (k k1 : ℕ)
-    (owes : OwesOne program super owed d s) where
+    (unmarked : rolls_back_of program owed.tx ≡ false) (owes : OwesOne program super owed d s) where
   abbrev e : Device
   e = powered choice d
 
@@ -88,16 +92,31 @@ module _ (program : Program) (super : Words) (agrees : Agrees program)
   abbrev Taken : Type 0
   Taken = k1 ≡ k + (m + suc (length es))
 
-  ended : (x : End) (r : RecoverAnswer) → IsRedone (answer_of_recovery r)
-      → IsEnd pool call (heap_end h es) (result_of x) (view e.cache)
-      → IsRecovered r program.image e b k k1 → Taken
-  ended (Halted v) r redone seen is =
-      absurd (not_good program e b r k k1 redone pool (suc s.done) (heap_end h es) refl
-      seen.good is)
-  ended (Trapped kind) r redone lost is =
-      let marked = marked_recovers program e b kind r k k1 refl lost.0
+  abbrev Recovered : Answer → Mode → Type 0
+  Recovered a n = outcomes.Recovers program e a n b k k1
+
+  -- the recovery of an image that owes no marked transaction
+  unmarked_is : (a : Answer) (n : Mode) → owes_marked program e ≡ false → Recovered a n
+      → RecoversUnmarked program.image e a n b k k1
+  unmarked_is a n owes is =
+      subst (λ (x : Bool). RecoversBy x program.image e a n b k k1) owes is
+
+  never_good : (a : Answer) (n : Mode) (done : ℕ) (g : Words) → IsRedone a
+      → Good pool done g (view e.cache) → Recovered a n → ⊥
+  never_good a n done g redone good is =
+      let un = unmarked_is a n (not_owing program e
+      (is_unsealed (view e.cache) done good.done good.unsealed)) is in
+      not_good program e b un.tx_answer k k1 (subst IsRedone un.answer redone) pool done g refl
+      good un.recovered
+
+  ended : (x : End) (a : Answer) (n : Mode) → IsRedone a
+      → IsEnd pool call (heap_end h es) (result_of x) (view e.cache) → Recovered a n → Taken
+  ended (Halted v) a n redone seen is =
+      absurd (never_good a n (suc s.done) (heap_end h es) redone seen.good is)
+  ended (Trapped kind) a n redone lost is =
+      let marked = marked_recovers program e b kind (owes_marked program e) a n k k1 refl lost.0
       (is_marked (view e.cache MARK) (trap_number kind) lost.0 lost.1) is in
-      absurd (subst (λ (x : RecoverAnswer). IsRedone (answer_of_recovery x)) marked.0 redone)
+      absurd (subst IsRedone marked.0 redone)
 
   taken : (r : RecoverAnswer) (x : Type 0) → IsRedone (answer_of_recovery r)
       → leaves.Retells r owes.end es x (k + m) k1 → Taken
@@ -110,21 +129,24 @@ module _ (program : Program) (super : Words) (agrees : Agrees program)
   taken recovered.Failed x redone tells = absurd redone
   taken recovered.NoMemory x redone tells = absurd redone
 
-  at_cut : (r : RecoverAnswer) → IsRedone (answer_of_recovery r)
+  at_cut : (a : Answer) (n : Mode) → IsRedone a
       → IsCut pool call (E es) (W es) h (heap_end h es) s.last (result_of owes.end) (view e.cache)
-      → IsRecovered r program.image e b k k1 → Taken
-  at_cut r redone (inl before) is =
-      absurd (not_good program e b r k k1 redone pool s.done h refl before.good is)
-  at_cut r redone (inr (inl sealed)) is =
-      taken r _ redone
+      → Recovered a n → Taken
+  at_cut a n redone (inl before) is = absurd (never_good a n s.done h redone before.good is)
+  at_cut a n redone (inr (inl sealed)) is =
+      let names : tx_in e ≡ owed.tx = ap tx_number (sealed.call_is 0 (omega arith)) in
+      let un = unmarked_is a n (owing_as program e owed.tx false
+      (is_owed (view e.cache) s.done sealed.done sealed.sealed) names unmarked) is in
+      let ran : IsRedone (answer_of_recovery un.tx_answer) = subst IsRedone un.answer redone in
+      taken un.tx_answer _ ran
       (redo_tells program super agrees e s owed h owes.end es refl
       (left_rest d.cache choice.rest choice.picks) owes.holds owes.takes owes.words owes.ran
-      sealed r b k k1 (not_numbers program e b r k k1 redone) is)
-  at_cut r redone (inr (inr seen)) is = ended owes.end r redone seen is
+      unmarked sealed un.tx_answer b k k1 (not_numbers program e b un.tx_answer k k1 ran)
+      un.recovered)
+  at_cut a n redone (inr (inr seen)) is = ended owes.end a n redone seen is
 
-  by_answer : (r : RecoverAnswer) → IsRedone (answer_of_recovery r)
-      → IsRecovered r program.image e b k k1 → Taken
-  by_answer r redone is = at_cut r redone
+  by_answer : (a : Answer) (n : Mode) → IsRedone a → Recovered a n → Taken
+  by_answer a n redone is = at_cut a n redone
       (at_left (IsCut pool call (E es) (W es) h (heap_end h es) s.last (result_of owes.end)) d.cache
       choice.rest choice.picks owes.left) is
 
@@ -133,17 +155,16 @@ module _ (program : Program) (super : Words) (agrees : Agrees program)
   not_pick m n a line redone refused = subst IsRedone refused.0 redone
 
   by_picks : (m n : Mode) (a : Answer) → IsRedone a
-      → commanded.Powers program.image choice m d a n b k k1 → (first pick : Option ℕ)
+      → commanded.Powers program choice m d a n b k k1 → (first pick : Option ℕ)
       → fallen 0 choice.picks ≡ first → bad (memory_of d) choice.picks ≡ pick → Taken
   by_picks m n a redone powers (Some line) pick falls is =
       absurd (not_pick m n a line redone (powers.0 line falls))
   by_picks m n a redone powers None (Some line) rises is =
       absurd (not_pick m n a line redone (powers.1 line rises is))
   by_picks m n a redone powers None None rises fits =
-      let recovers = powers.2 rises fits in
-      by_answer recovers.tx_answer (subst IsRedone recovers.answer redone) recovers.recovered
+      by_answer a n redone (powers.2 rises fits)
 
 pub redone_steps : StepsLaw
-redone_steps program super choice owed m n d b s a k k1 agrees owes redone powers =
-    by_picks program super agrees choice owed d b s k k1 owes m n a redone powers
+redone_steps program super choice owed m n d b s a k k1 agrees unmarked owes redone powers =
+    by_picks program super agrees choice owed d b s k k1 unmarked owes m n a redone powers
     (fallen 0 choice.picks) (bad (memory_of d) choice.picks) refl refl

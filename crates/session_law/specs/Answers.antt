@@ -1,7 +1,7 @@
 -- What a command answers in a session by the source alone, and what the source knows after it. Of
 -- the device it looks only at the image that the command finds: for `power` what the cut left, for
 -- any other command the view. Of the image's words it reads the number of transactions done (17),
--- the attempt (18), the mark (19) and the seal (47).
+-- the attempt (18), the mark (19) and the seal (47), and for a marked transaction the heap.
 use Rattle.std.specs.Prelude.{ℕ, suc, ◌≡◌, ◌≢◌, ◌⊎◌, ◌==◌, ◌&&◌, Bool, true, false, List, length}
 use Rattle.std.specs.Prelude.{Option, Some, None, ℤ, pos}
 use Rattle.pmem.specs.declared.answer.Phase.TheVariants as phase
@@ -22,9 +22,12 @@ use Rattle.cnvm_session.specs.declared.answer.Answer.{Answer}
 use Rattle.cnvm_session.specs.declared.answer.Answer.TheVariants as answer
 use Rattle.cnvm_session.specs.declared.program.Program.{Program}
 use Rattle.cnvm_session.specs.Commands.{call_number}
+use Rattle.cnvm_session.specs.Marks.{rolls_back_of}
 use Rattle.session_law.specs.Source.{sizes_of, source_parameters, ComesTo}
 use Rattle.session_law.specs.State.{Pending, Standing, Ready, Down, Unusable, SourceState}
 use Rattle.session_law.specs.State.{standing_as, done_with}
+use Rattle.session_law.specs.Marked.{IsDoneOn, IsUndoneOn, IsConcludedOn}
+use Rattle.session_law.specs.Opened.{opened_heap}
 
 -- the answer is this one, and nothing changes
 abbrev pub Refused : Answer → SourceState → Answer → SourceState → Type 0
@@ -47,18 +50,47 @@ TrapsAs program s tx args kind =
 abbrev pub IsCutOff : SourceState → (tx : ℕ) → List ℤ → SourceState → Type 0
 IsCutOff s tx args t = t ≡ standing_as (Down (Some (record { tx = tx; args = args }))) s
 
+-- no call can follow by the image's numbers, and nothing changes
+abbrev pub IsOutOfNumbers : SourceState → Words → SourceState → Type 0
+IsOutOfNumbers s image t =
+    (is_number (image DONE) && is_number (image ATTEMPT) ≡ false) × (t ≡ s)
+
+-- the answer of a call of an unmarked transaction that takes these arguments
+abbrev pub RunsUnmarked : Program → SourceState → Words → (tx : ℕ) → List ℤ → Answer
+    → SourceState → Type 0
+RunsUnmarked program s image tx args (answer.Done value logged) t =
+    IsDoneWith program s tx args value logged Ready t
+RunsUnmarked program s image tx args (answer.Trap kind) t =
+    TrapsAs program s tx args kind × (t ≡ standing_as (Unusable kind) s)
+RunsUnmarked program s image tx args (answer.Stopped at) t = IsCutOff s tx args t
+RunsUnmarked program s image tx args answer.DeviceFault t = IsCutOff s tx args t
+RunsUnmarked program s image tx args answer.NoMemory t = IsCutOff s tx args t
+RunsUnmarked program s image tx args answer.RefusedNumbers t = IsOutOfNumbers s image t
+RunsUnmarked program s image tx args a t = ⊥
+
+-- The same of a marked one, on the heap of the image. Its trap rolls it back and leaves the pool
+-- usable.
+abbrev pub RunsMarked : Program → SourceState → Words → (tx : ℕ) → List ℤ → Answer
+    → SourceState → Type 0
+RunsMarked program s image tx args (answer.Done value logged) t =
+    IsDoneOn program (opened_heap program image) s tx args value logged Ready t
+RunsMarked program s image tx args (answer.Aborted kind) t =
+    IsUndoneOn program (opened_heap program image) s tx args kind Ready t
+RunsMarked program s image tx args (answer.Stopped at) t = IsCutOff s tx args t
+RunsMarked program s image tx args answer.DeviceFault t = IsCutOff s tx args t
+RunsMarked program s image tx args answer.NoMemory t = IsCutOff s tx args t
+RunsMarked program s image tx args answer.RefusedNumbers t = IsOutOfNumbers s image t
+RunsMarked program s image tx args a t = ⊥
+
+abbrev pub RunsBy : (marked : Bool) → Program → SourceState → Words → (tx : ℕ) → List ℤ → Answer
+    → SourceState → Type 0
+RunsBy false program s image tx args a t = RunsUnmarked program s image tx args a t
+RunsBy true program s image tx args a t = RunsMarked program s image tx args a t
+
 -- the answer of a call whose transaction takes these arguments
 abbrev pub Runs : Program → SourceState → Words → (tx : ℕ) → List ℤ → Answer → SourceState → Type 0
-Runs program s image tx args (answer.Done value logged) t =
-    IsDoneWith program s tx args value logged Ready t
-Runs program s image tx args (answer.Trap kind) t =
-    TrapsAs program s tx args kind × (t ≡ standing_as (Unusable kind) s)
-Runs program s image tx args (answer.Stopped at) t = IsCutOff s tx args t
-Runs program s image tx args answer.DeviceFault t = IsCutOff s tx args t
-Runs program s image tx args answer.NoMemory t = IsCutOff s tx args t
-Runs program s image tx args answer.RefusedNumbers t =
-    (is_number (image DONE) && is_number (image ATTEMPT) ≡ false) × (t ≡ s)
-Runs program s image tx args a t = ⊥
+Runs program s image tx args a t =
+    RunsBy (rolls_back_of program tx) program s image tx args a t
 
 abbrev pub CallsWith : Bool → Program → SourceState → Words → (tx : ℕ) → List ℤ → Answer
     → SourceState → Type 0
@@ -106,15 +138,24 @@ Lasts (Unusable kind) s a t = Refused (answer.RefusedUnusable kind) s a t
 abbrev pub HasSeal : SourceState → Words → Type 0
 HasSeal s image = image SEAL ≡ pos (suc s.done)
 
+-- The owed transaction was run to its end: it is done or, if it is marked, done or rolled back. One
+-- that was rolled back leaves the heap that it began on, so it was so on the image's heap.
+abbrev pub IsConcluded : (marked : Bool) → Program → Pending → SourceState → Words → Standing
+    → SourceState → Type 0
+IsConcluded false program owed s image standing t =
+    (value : ℤ) × (logged : ℕ)
+    × IsDoneWith program s owed.tx owed.args value logged standing t
+IsConcluded true program owed s image standing t =
+    IsConcludedOn program (opened_heap program image) s owed.tx owed.args standing t
+
 -- What is known of an owed transaction once the power is back. Without its seal in the image
--- nothing of it is done; with the seal it was done before the cut, or is still owed.
+-- nothing of it is done; with the seal it was finished before the cut, or is still owed.
 abbrev pub FindsOf : Option Pending → Program → SourceState → Words → SourceState → Type 0
 FindsOf None program s image t = t ≡ standing_as (Down None) s
 FindsOf (Some owed) program s image t =
     ((image SEAL ≢ pos (suc s.done)) × (t ≡ standing_as (Down None) s))
     ⊎ ((HasSeal s image × (image DONE ≡ pos (suc s.done))
-    × ((value : ℤ) × (logged : ℕ)
-    × IsDoneWith program s owed.tx owed.args value logged (Down None) t))
+    × IsConcluded (rolls_back_of program owed.tx) program owed s image (Down None) t)
     ⊎ (HasSeal s image × (image DONE ≡ pos s.done) × (t ≡ standing_as (Down (Some owed)) s)))
 
 abbrev pub FindsOwed : Standing → Program → SourceState → Words → SourceState → Type 0
@@ -137,17 +178,39 @@ Rests program s image answer.DeviceFault t = t ≡ s
 Rests program s image answer.NoMemory t = t ≡ s
 Rests program s image a t = ⊥
 
+-- the answer of a recovery where an unmarked transaction is owed
+abbrev pub RedoesUnmarked : Program → Pending → SourceState → Words → Answer → SourceState → Type 0
+RedoesUnmarked program owed s image (answer.RecoveredRedone value logged) t =
+    IsDoneWith program s owed.tx owed.args value logged Ready t
+RedoesUnmarked program owed s image (answer.RecoveredTrap kind) t =
+    TrapsAs program s owed.tx owed.args kind × (t ≡ standing_as (Unusable kind) s)
+RedoesUnmarked program owed s image answer.RefusedNumbers t = HasNumbers program image s t
+RedoesUnmarked program owed s image (answer.Stopped at) t = (at ≡ phase.Sealed) × (t ≡ s)
+RedoesUnmarked program owed s image answer.DeviceFault t = t ≡ s
+RedoesUnmarked program owed s image answer.NoMemory t = t ≡ s
+RedoesUnmarked program owed s image a t = ⊥
+
+-- the same where a marked one is owed, on the heap that the image's log restores
+abbrev pub RedoesMarked : Program → Pending → SourceState → Words → Answer → SourceState → Type 0
+RedoesMarked program owed s image (answer.RecoveredRedone value logged) t =
+    IsDoneOn program (opened_heap program image) s owed.tx owed.args value logged Ready t
+RedoesMarked program owed s image (answer.RecoveredAborted kind) t =
+    IsUndoneOn program (opened_heap program image) s owed.tx owed.args kind Ready t
+RedoesMarked program owed s image answer.RefusedNumbers t = HasNumbers program image s t
+RedoesMarked program owed s image (answer.Stopped at) t = (at ≡ phase.Sealed) × (t ≡ s)
+RedoesMarked program owed s image answer.DeviceFault t = t ≡ s
+RedoesMarked program owed s image answer.NoMemory t = t ≡ s
+RedoesMarked program owed s image a t = ⊥
+
+abbrev pub RedoesBy : (marked : Bool) → Program → Pending → SourceState → Words → Answer
+    → SourceState → Type 0
+RedoesBy false program owed s image a t = RedoesUnmarked program owed s image a t
+RedoesBy true program owed s image a t = RedoesMarked program owed s image a t
+
 -- the answer of a recovery where a transaction is owed
 abbrev pub Redoes : Program → Pending → SourceState → Words → Answer → SourceState → Type 0
-Redoes program owed s image (answer.RecoveredRedone value logged) t =
-    IsDoneWith program s owed.tx owed.args value logged Ready t
-Redoes program owed s image (answer.RecoveredTrap kind) t =
-    TrapsAs program s owed.tx owed.args kind × (t ≡ standing_as (Unusable kind) s)
-Redoes program owed s image answer.RefusedNumbers t = HasNumbers program image s t
-Redoes program owed s image (answer.Stopped at) t = (at ≡ phase.Sealed) × (t ≡ s)
-Redoes program owed s image answer.DeviceFault t = t ≡ s
-Redoes program owed s image answer.NoMemory t = t ≡ s
-Redoes program owed s image a t = ⊥
+Redoes program owed s image a t =
+    RedoesBy (rolls_back_of program owed.tx) program owed s image a t
 
 abbrev pub Recovers : Standing → Program → SourceState → Words → Answer → SourceState → Type 0
 Recovers Ready program s image a t = ⊥
@@ -155,11 +218,17 @@ Recovers (Down None) program s image a t = Rests program s image a t
 Recovers (Down (Some owed)) program s image a t = Redoes program owed s image a t
 Recovers (Unusable kind) program s image a t = ⊥
 
+-- the trap of the owed transaction marks the pool; but never that of one that rolls back
+abbrev pub MarksAs : (marked : Bool) → Program → SourceState → Pending → TrapKind → Type 0
+MarksAs false program s owed kind = TrapsAs program s owed.tx owed.args kind
+MarksAs true program s owed kind = ⊥
+
 -- the pool has a mark: the trap of the owed transaction, or one that was answered before
 abbrev pub IsMarked : Standing → Program → SourceState → TrapKind → Type 0
 IsMarked Ready program s kind = ⊥
 IsMarked (Down None) program s kind = ⊥
-IsMarked (Down (Some owed)) program s kind = TrapsAs program s owed.tx owed.args kind
+IsMarked (Down (Some owed)) program s kind =
+    MarksAs (rolls_back_of program owed.tx) program s owed kind
 IsMarked (Unusable trap) program s kind = kind ≡ trap
 
 -- The answer of `power`. A pick that doesn't fit changes nothing. Else the mark comes first;

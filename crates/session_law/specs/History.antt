@@ -1,19 +1,23 @@
--- The history of a session is the list of transactions that are done, in order. The commands, the
--- answers and the images that the commands find determine it.
-use Rattle.std.specs.Prelude.{ℕ, suc, ◌+◌, ◌≡◌, ◌⊎◌, ◌&&◌, Bool, if◌then◌else◌, List, [], ◌∷◌, ◌++◌}
-use Rattle.std.specs.Prelude.{length, Option, Some, None, ℤ, pos}
+-- The history of a session is the list of transactions that are finished, in order: those that are
+-- done, and those that were rolled back. The commands, the answers and the images that the commands
+-- find determine it.
+use Rattle.std.specs.Prelude.{ℕ, suc, ◌+◌, ◌≡◌, ◌⊎◌, ◌&&◌, Bool, true, false, if◌then◌else◌, List}
+use Rattle.std.specs.Prelude.{[], ◌∷◌, ◌++◌, length, Option, Some, None, ℤ, pos}
 use Rattle.std.specs.Ordering.{int_eq}
 use Rattle.pool_layout.specs.declared.places.TheConstants.{DONE, SEAL}
 use Rattle.pool_layout.specs.Image.{Words}
+use Rattle.pool_map.specs.declared.trap.TrapKind.{TrapKind}
 use Rattle.pool_map.specs.PoolMap.{PoolMap}
-use Rattle.c_meaning.specs.Transaction.{Outcome, Done, Trap}
+use Rattle.c_meaning.specs.Transaction.{Done, Trap}
 use Rattle.cnvm_script.specs.declared.command.Command.{Command}
 use Rattle.cnvm_script.specs.declared.command.Command.TheVariants as command
 use Rattle.cnvm_session.specs.declared.answer.Answer.{Answer}
 use Rattle.cnvm_session.specs.declared.answer.Answer.TheVariants as answer
 use Rattle.cnvm_session.specs.declared.program.Program.{Program}
 use Rattle.cnvm_session.specs.Commands.{call_number}
+use Rattle.cnvm_session.specs.Marks.{rolls_back_of}
 use Rattle.session_law.specs.Source.{means}
+use Rattle.session_law.specs.Marked.{ComesOn}
 use Rattle.session_law.specs.State.{Pending, Standing, Ready, Down, Unusable, SourceState}
 
 -- the transaction that is owed, if any
@@ -36,9 +40,10 @@ abbrev pub calls_in : Program → List Command → List Pending
 calls_in program [] = []
 calls_in program (c ∷ commands) = call_in program c ++ calls_in program commands
 
--- a call that is answered with a value is done
+-- a call that is answered with a value is done, and one that is aborted is finished too
 abbrev pub called_by : List Pending → Answer → List Pending
 called_by call (answer.Done value logged) = call
+called_by call (answer.Aborted kind) = call
 called_by call a = []
 
 -- The image that a power cut left has the seal of the next transaction and counts it as done: it
@@ -47,11 +52,12 @@ abbrev pub is_retired : SourceState → Words → Bool
 is_retired s image = int_eq (image SEAL) (pos (suc s.done))
     && int_eq (image DONE) (pos (suc s.done))
 
--- After a power cut the owed transaction is done if the recovery ran it to a value, or if the image
--- shows that it was done before. A refused cut does nothing, and neither does one that finds a
--- mark.
+-- After a power cut the owed transaction is finished if the recovery ran it to a value or rolled it
+-- back, or if the image shows that it was finished before. A refused cut does nothing, and neither
+-- does one that finds a mark.
 abbrev pub recovered_by : SourceState → Words → Answer → List Pending
 recovered_by s image (answer.RecoveredRedone value logged) = waiting_of s.standing
+recovered_by s image (answer.RecoveredAborted kind) = waiting_of s.standing
 recovered_by s image (answer.RefusedPick line) = []
 recovered_by s image (answer.RefusedUnusable kind) = []
 recovered_by s image a = if is_retired s image then waiting_of s.standing else []
@@ -67,7 +73,7 @@ abbrev pub history_after : Program → SourceState → Words → Command → Ans
     → List Pending
 history_after program s image c a history = history ++ done_by program s image c a
 
--- the calls that were answered with a value
+-- the calls that were answered with a value, or aborted
 abbrev pub answered_by : Program → Command → Answer → List Pending
 answered_by program (command.Call name args) a =
     called_by (call_to (call_number program name) args) a
@@ -79,15 +85,24 @@ answered_in program (c ∷ commands) [] = []
 answered_in program (c ∷ commands) (a ∷ answers) =
     answered_by program c a ++ answered_in program commands answers
 
--- the pool after these transactions, in order, if the source gives each of them a value
-abbrev pub after_one : Outcome → (PoolMap → Option PoolMap) → Option PoolMap
-after_one (Done pool value) next = next pool
-after_one (Trap kind) next = None
+-- The pool that one transaction gives from this pool. One without the mark gives the source's, and
+-- only if it comes to a value. A marked one gives the source's, or the pool that was there, where
+-- it is rolled back.
+abbrev pub GivesPool : (marked : Bool) → Program → Pending → (p q : PoolMap) → Type 0
+GivesPool false program call p q =
+    (value : ℤ) × (means program p call.tx call.args ≡ Done q value)
+GivesPool true program call p q =
+    (h : Words)
+    × (((value : ℤ) × (logged : ℕ) × ComesOn program h p call.tx call.args logged (Done q value))
+    ⊎ (((kind : TrapKind) × (logged : ℕ)
+    × ComesOn program h p call.tx call.args logged (Trap kind)) × (q ≡ p)))
 
-abbrev pub pool_after : Program → PoolMap → List Pending → Option PoolMap
-pool_after program pool [] = Some pool
-pool_after program pool (call ∷ calls) =
-    after_one (means program pool call.tx call.args) (λ p. pool_after program p calls)
+-- these transactions, in order, lead from the first pool to the second
+abbrev pub LeadsTo : Program → PoolMap → List Pending → PoolMap → Type 0
+LeadsTo program p [] q = q ≡ p
+LeadsTo program p (call ∷ calls) q =
+    (r : PoolMap) × GivesPool (rolls_back_of program call.tx) program call p r
+    × LeadsTo program r calls q
 
 -- a sublist of the second list, in the same order
 abbrev pub IsPart : List Pending → List Pending → Type 0
@@ -99,6 +114,6 @@ IsPart xs (y ∷ ys) = IsPart xs ys ⊎ ((zs : List Pending) × (xs ≡ y ∷ zs
 -- before and the calls after it, so each occurs at most once, in order.
 pub record HasDone (program : Program) (s t : SourceState) (done calls : List Pending) :
     Type 0 where
-  pub pool : pool_after program s.pool done ≡ Some t.pool
+  pub pool : LeadsTo program s.pool done t.pool
   pub count : t.done ≡ s.done + length done
   pub part : IsPart (done ++ waiting_of t.standing) (waiting_of s.standing ++ calls)

@@ -1,6 +1,6 @@
 -- A session of a program does what the program's source says.
 use Rattle.std.specs.Prelude.{ℕ, suc, ◌+◌, ◌*◌, ◌<◌, ◌≤◌, ◌≡◌, ◌≢◌, ◌⊎◌, List, [], ◌∷◌, ◌++◌}
-use Rattle.std.specs.Prelude.{length, Some, Ok, ℤ, pos, slice_index_or}
+use Rattle.std.specs.Prelude.{length, Some, Ok, ℤ, pos, slice_index_or, true, false}
 use Rattle.std.specs.List.{AllByRecursion}
 use Rattle.cache_model.specs.Cache.{view}
 use Rattle.cache_model.specs.Image.{Images}
@@ -9,11 +9,12 @@ use Rattle.pmem.specs.Device.{Device, powered, blanked}
 use Rattle.pmem.specs.Played.{PlaysAll}
 use Rattle.pmem.specs.declared.answer.Phase.{Phase}
 use Rattle.pmem.specs.declared.answer.Phase.TheVariants as phase
-use Rattle.pool_layout.specs.declared.places.TheConstants.{SEAL}
-use Rattle.pool_layout.specs.Sizes.{pool_lines}
+use Rattle.pool_layout.specs.declared.places.TheConstants.{LAST, SEAL}
+use Rattle.pool_layout.specs.Sizes.{heap_words, pool_lines}
 use Rattle.pool_layout.specs.Image.{Words, image_words}
 use Rattle.pool_layout.specs.Good.{magic}
 use Rattle.pool_layout.specs.Opened.{IsOpened}
+use Rattle.pool_map.specs.declared.trap.TrapKind.{TrapKind}
 use Rattle.pool_map.specs.PoolMap.{PoolMap, empty_pool}
 use Rattle.clobber_log.specs.Logs.{count_in}
 use Rattle.pm_machine.specs.Runs.{heap_in}
@@ -26,6 +27,8 @@ use Rattle.cnvm_session.specs.declared.mode.Mode.{Mode}
 use Rattle.cnvm_session.specs.declared.mode.Mode.TheVariants.{Ready}
 use Rattle.cnvm_session.specs.declared.program.Program.{Program}
 use Rattle.cnvm_session.specs.Commands.{Commanded}
+use Rattle.cnvm_session.specs.Marks.{rolls_back_of}
+use Rattle.cnvm_session.specs.Steps.{most_of_program}
 use Rattle.cnvm_session.specs.Laws.{IsRefused}
 use Rattle.cnvm_session.specs.Outcomes.{Opens}
 use Rattle.args_log.specs.Created.{creation_events}
@@ -38,11 +41,11 @@ use Rattle.session_law.specs.Words.{AreWords}
 use Rattle.session_law.specs.Agrees.{Agrees}
 use Rattle.session_law.specs.State.{Pending, Down, SourceState, standing_as, created}
 use Rattle.session_law.specs.State as state
-use Rattle.session_law.specs.Answers.{HasSeal, IsDoneWith, Answers}
+use Rattle.session_law.specs.Marked.{ComesOn}
+use Rattle.session_law.specs.Answers.{HasSeal, IsConcluded, Answers}
 use Rattle.session_law.specs.Opened.{wanted_of, opened}
-use Rattle.session_law.specs.Holds.{OwesOne, Holds}
-use Rattle.session_law.specs.History.{recovered_by, pool_after, calls_in, answered_in, IsPart}
-use Rattle.session_law.specs.History.{HasDone}
+use Rattle.session_law.specs.Holds.{OwesOne, OwesMarked, Holds}
+use Rattle.session_law.specs.History.{recovered_by, LeadsTo, calls_in, answered_in, IsPart, HasDone}
 use Rattle.session_law.specs.Ran.{found_by, Moment, SessionStep, Ran, fresh_moment, OpenStep}
 
 -- the arguments of a command are words
@@ -71,6 +74,13 @@ FullLaw =
     (records < n → FillsLog functions records sites)
     × (FillsLog functions records sites → records < n)
 
+-- So is what a marked transaction comes to on a heap, and how many records its run appends there.
+abbrev pub MarkedDeterminedLaw : Type 0
+MarkedDeterminedLaw =
+    (program : Program) (h : Words) (pool : PoolMap) (tx : ℕ) (args : List ℤ) (n m : ℕ)
+    (o p : Outcome) →
+    ComesOn program h pool tx args n o → ComesOn program h pool tx args m p → (n ≡ m) × (o ≡ p)
+
 -- Each answer to a command whose arguments are words is one that the source gives, and the device
 -- then holds what the source knows.
 abbrev pub SessionLaw : Type 0
@@ -85,11 +95,12 @@ SessionLaw =
 abbrev pub IsCompleted : Answer → Type 0
 IsCompleted answer.RecoveredNone = Unit {0}
 IsCompleted (answer.RecoveredRedone value logged) = Unit {0}
+IsCompleted (answer.RecoveredAborted kind) = Unit {0}
 IsCompleted a = ⊥
 
--- Exactly if sealed: after the next completed recovery an owed transaction is done and in the
--- history if its seal is in the image that the power cut left. Else nothing of it is done, and the
--- history is unchanged.
+-- Exactly if sealed: after the next completed recovery an owed transaction is in the history if its
+-- seal is in the image that the power cut left; it is done or, if it is marked and aborted, rolled
+-- back. Else nothing of it is done, and the history is unchanged.
 abbrev pub SealedLaw : Type 0
 SealedLaw =
     (program : Program) (super : Words) (choice : Choice) (owed : Pending) (x y : Moment)
@@ -97,8 +108,8 @@ SealedLaw =
     x.state.standing ≡ Down (Some owed) → IsCompleted a →
     SessionStep program super (command.Power choice) x a y →
     (HasSeal x.state (view (powered choice x.device).cache) × (y.history ≡ x.history ++ owed ∷ [])
-    × ((value : ℤ) × (logged : ℕ)
-    × IsDoneWith program x.state owed.tx owed.args value logged state.Ready y.state))
+    × IsConcluded (rolls_back_of program owed.tx) program owed x.state
+    (view (powered choice x.device).cache) state.Ready y.state)
     ⊎ ((view (powered choice x.device).cache SEAL ≢ pos (suc x.state.done))
     × (y.history ≡ x.history) × (y.state ≡ standing_as state.Ready x.state))
 
@@ -118,20 +129,44 @@ PhaseLaw =
     → Commanded program (command.Call name args) m d (answer.Stopped at) n b k k1 →
     Images (HasPhase at s) b.cache
 
+-- The device's heap is this one, word for word, and its word 16 is this value, the last one's.
+pub record IsRolledBack (program : Program) (h : Words) (last : ℤ) (b : Device) : Type 0 where
+  pub heap : (w : ℕ) → w < heap_words (sizes_of program)
+      → heap_in (sizes_of program) b.cache w ≡ h w
+  pub last_is : view b.cache LAST ≡ last
+
+-- Rollback: after a call that is aborted the heap is word for word as it was before the call, and
+-- after an owed transaction's recovery that is aborted as it was before that transaction. The last
+-- value is that of the transaction before.
+abbrev pub RollbackLaw : Type 0
+RollbackLaw =
+    ((program : Program) (super : Words) (name : List ℕ) (args : List ℤ) (m n : Mode) (d b : Device)
+    (s : SourceState) (kind : TrapKind) (k k1 : ℕ) →
+    Agrees program → AreWords args → Holds program super m d s →
+    Commanded program (command.Call name args) m d (answer.Aborted kind) n b k k1 →
+    IsRolledBack program (heap_in (sizes_of program) d.cache) s.last b)
+    × ((program : Program) (super : Words) (choice : Choice) (owed : Pending) (m n : Mode)
+    (d b : Device) (s : SourceState) (kind : TrapKind) (k k1 : ℕ) →
+    Agrees program → rolls_back_of program owed.tx ≡ true →
+    (owes : OwesMarked program super owed d s) →
+    Commanded program (command.Power choice) m d (answer.RecoveredAborted kind) n b k k1 →
+    IsRolledBack program owes.heap s.last b)
+
 -- the owed transaction was run to its end
 abbrev pub IsRedone : Answer → Type 0
 IsRedone (answer.RecoveredRedone value logged) = Unit {0}
 IsRedone (answer.RecoveredTrap kind) = Unit {0}
 IsRedone a = ⊥
 
--- A recovery that runs the owed transaction to its end takes one step for each valid record of the
--- image that the power cut left, and one for each instruction of the transaction's run; the last
--- instruction has no effect.
+-- A recovery that runs an owed transaction without the mark to its end takes one step for each
+-- valid record of the image that the power cut left, and one for each instruction of the
+-- transaction's run; the last instruction has no effect.
 abbrev pub StepsLaw : Type 0
 StepsLaw =
     (program : Program) (super : Words) (choice : Choice) (owed : Pending) (m n : Mode)
     (d b : Device) (s : SourceState) (a : Answer) (k k1 : ℕ) →
-    Agrees program → (owes : OwesOne program super owed d s) → IsRedone a
+    Agrees program → rolls_back_of program owed.tx ≡ false →
+    (owes : OwesOne program super owed d s) → IsRedone a
     → Commanded program (command.Power choice) m d a n b k k1 →
     k1 ≡ k + (count_in (sizes_of program) (view (powered choice d).cache)
     + suc (length owes.effects))
@@ -161,7 +196,7 @@ abbrev pub OpenedLaw : Type 0
 OpenedLaw =
     (program : Program) (words : List ℤ) (n : Mode) (d b : Device) (a : Answer) (k k1 : ℕ) →
     Agrees program → AreWords words → IsOpened (wanted_of program) words
-    → Opens program.image words d a n b k k1 →
+    → Opens program words d a n b k k1 →
     (t : SourceState)
     × OpenStep program words d k a
     (record {
@@ -219,15 +254,15 @@ HistoryLaw =
     (x y : Moment) →
     Ran program super commands answers x y → HasGrown program commands answers x y
 
--- The pool that the source knows is the one that it gives after the history, from the first pool,
--- and each transaction of the history is counted.
+-- The history leads from the first pool to the one that the source knows, and each transaction of
+-- the history is counted.
 abbrev pub IsAfter : Program → (first : PoolMap) → (count : ℕ) → Moment → Type 0
 IsAfter program first count x =
-    (pool_after program first x.history ≡ Some x.state.pool)
+    LeadsTo program first x.history x.state.pool
     × (x.state.done ≡ count + length x.history)
 
--- Whole or not at all: whenever a session takes calls, the device's own heap holds the pool that
--- the source gives after the history.
+-- Whole or not at all: whenever a session takes calls, the device's own heap holds the pool to
+-- which the history leads.
 abbrev pub WholeLaw : Type 0
 WholeLaw =
     (program : Program) (super : Words) (first : PoolMap) (count : ℕ) (commands : List Command)
@@ -235,8 +270,8 @@ WholeLaw =
     Holds program super x.mode x.device x.state → IsAfter program first count x →
     Ran program super commands answers x y →
     IsAfter program first count y
-    × (y.state.standing ≡ state.Ready → pool_after program first y.history
-    ≡ Some (source_pool program (heap_in (sizes_of program) y.device.cache)))
+    × (y.state.standing ≡ state.Ready → LeadsTo program first y.history
+    (source_pool program (heap_in (sizes_of program) y.device.cache)))
 
 -- Both first moments: a new pool is the empty one with nothing done; an opened one is what the
 -- source gives from the image's pool.
@@ -258,14 +293,10 @@ UnchangedLaw =
     IsRefused c a → SessionStep program super c x a y →
     (y.device ≡ x.device) × (y.state ≡ x.state) × (y.history ≡ x.history) × (y.steps ≡ x.steps)
 
--- the most steps of a command: one for each record of the log, plus the image's bound on a run
-abbrev pub most_command_steps : Program → ℕ
-most_command_steps program = (sizes_of program).records + program.image.parts.most
-
 -- A chain takes at most this many steps for each of its commands.
 abbrev pub BoundLaw : Type 0
 BoundLaw =
     (program : Program) (super : Words) (commands : List Command) (answers : List Answer)
     (x y : Moment) →
     Ran program super commands answers x y →
-    y.steps ≤ x.steps + length commands * most_command_steps program
+    y.steps ≤ x.steps + length commands * most_of_program program

@@ -63,7 +63,7 @@ fresh_moment program d k = record {
 -- recovery. If the image owed a transaction, it may have been done by then.
 pub record OpenStep (program : Program) (words : List ℤ) (d : Device) (k : ℕ) (a : Answer)
     (y : Moment) : Type 0 where
-  pub did : Opens program.image words d a y.mode y.device k y.steps
+  pub did : Opens program words d a y.mode y.device k y.steps
   pub meant : Powers program (opened program (image_words words)) (image_words words) a y.state
   pub holds : Holds program (image_words words) y.mode y.device y.state
   pub history : y.history ≡ recovered_by (opened program (image_words words)) (image_words words) a

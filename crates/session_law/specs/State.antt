@@ -33,6 +33,11 @@ abbrev pub done_with : PoolMap → ℤ → Standing → SourceState → SourceSt
 done_with pool value standing s =
     record { pool = pool; done = suc s.done; last = value; standing = standing }
 
+-- one more transaction is finished, which was rolled back: the pool and the last value stay
+abbrev pub undone_as : Standing → SourceState → SourceState
+undone_as standing s =
+    record { pool = s.pool; done = suc s.done; last = s.last; standing = standing }
+
 -- the words of a new pool
 abbrev pub created : Program → SourceState
 created program = record {

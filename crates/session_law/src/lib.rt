@@ -10,6 +10,7 @@ ghost use Rattle.session_law.specs.Law.{SessionLaw, SealedLaw, PhaseLaw, StepsLa
 ghost use Rattle.session_law.specs.Law.{OpenedLaw, SessionRunLaw, KeptLaw, HistoryLaw, BegunLaw};
 ghost use Rattle.session_law.specs.Law.{WholeLaw, UnchangedLaw, BoundLaw, ScriptLaw, DeterminedLaw};
 ghost use Rattle.session_law.specs.Law.{FullLaw};
+ghost use Rattle.session_law.specs.Law.{MarkedDeterminedLaw, RollbackLaw};
 
 /// Each command of a session is answered as the source says. The function does nothing.
 pub fn law()
@@ -29,4 +30,6 @@ pub fn law()
     ensures script { ScriptLaw }
     ensures determined { DeterminedLaw }
     ensures full { FullLaw }
+    ensures marked { MarkedDeterminedLaw }
+    ensures rollback { RollbackLaw }
 {}

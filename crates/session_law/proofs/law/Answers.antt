@@ -10,6 +10,8 @@ use Rattle.session_law.proofs.Running.{exactly_sealed}
 use Rattle.session_law.proofs.Unchanged.{step_unchanged}
 use Rattle.session_law.proofs.Bounded.{chain_bounded}
 use Rattle.session_law.proofs.Logging.{one_outcome, full_law}
+use Rattle.session_law.proofs.MarkedRuns.{one_marked}
+use Rattle.session_law.proofs.RolledBack.{call_rolled_back, power_rolled_back}
 use Rattle.session_law.proofs.law.Goals as goal
 
 pub returns-clause-session : goal.returns-clause-session
@@ -59,3 +61,9 @@ returns-clause-determined c = one_outcome
 
 pub returns-clause-full : goal.returns-clause-full
 returns-clause-full c = full_law
+
+pub returns-clause-marked : goal.returns-clause-marked
+returns-clause-marked c = one_marked
+
+pub returns-clause-rollback : goal.returns-clause-rollback
+returns-clause-rollback c = (call_rolled_back, power_rolled_back)

@@ -1,0 +1,367 @@
+-- A call of a marked transaction on a device at rest is answered as the source says.
+use Rattle.std.proofs.Common.{◌≡◌, ℕ, suc, ◌^◌, ◌<◌, ◌≤◌, Bool, true, false, ◌&&◌, if◌then◌else◌}
+use Rattle.std.proofs.Common.{List, ◌++◌, length, Some, ℤ, refl, sym, ap, ◌∙◌, subst, arith}
+use Rattle.std.proofs.Common.{append_assoc}
+use Rattle.cache_model.specs.Event.{CacheEvent}
+use Rattle.cache_model.specs.Cache.{Words, Cache, view}
+use Rattle.cache_model.specs.Play.{play}
+use Rattle.cache_model.specs.Image.{Images, HasOne}
+use Rattle.cache_model.specs.During.{during}
+use Rattle.cache_model.proofs.During.{play_append}
+use Rattle.pmem.specs.Device.{Device}
+use Rattle.pmem.specs.Played.{PlaysAll}
+use Rattle.pmem.proofs.Refused.{all_cache, all_on}
+use Rattle.pool_layout.specs.declared.places.TheConstants.{LAST, DONE, ATTEMPT}
+use Rattle.pool_layout.specs.declared.limits.Sizes.{Sizes}
+use Rattle.pool_layout.specs.Places as places
+use Rattle.pool_layout.specs.Restored.{restored}
+use Rattle.pool_layout.specs.Log.{count}
+use Rattle.clobber_log.specs.Logs.{attempt_in, count_in}
+use Rattle.pool_map.specs.declared.trap.TrapKind.{TrapKind}
+use Rattle.c_meaning.specs.Transaction.{Done, Trap}
+use Rattle.pm_machine.specs.declared.effect.Effect.{Effect}
+use Rattle.pm_machine.specs.declared.effect.End.{End}
+use Rattle.pm_machine.specs.declared.effect.End.TheVariants.{Halted, Trapped}
+use Rattle.pm_machine.specs.declared.image.Image.{Image}
+use Rattle.pm_machine.specs.Effects.{heap_end, records_end}
+use Rattle.pm_machine.specs.Machine.{State, Finished, start}
+use Rattle.pm_machine.specs.Runs.{heap_in, end_of}
+use Rattle.crash_law.specs.Pools.{Pool, Call, Good, IsDone}
+use Rattle.crash_law.specs.Law.{IsAtRest}
+use Rattle.tx_run.specs.Standing.{is_number}
+use Rattle.tx_run.specs.Due.{due_seal, tail_events}
+use Rattle.recovery.specs.Due.{due_back}
+use Rattle.cut_law.specs.Law.{call_of, pool_with}
+use Rattle.cut_law.proofs.Misses.{Misses, misses_run}
+use Rattle.undo_law.specs.Undo.{Every}
+use Rattle.undo_law.specs.Law.{IsEmptied}
+use Rattle.abort_mode.specs.declared.answer.AbortAnswer.{AbortAnswer}
+use Rattle.abort_mode.specs.declared.answer.AbortAnswer.TheVariants as aborted
+use Rattle.abort_mode.specs.Due.{abort_due_on, abort_tail_events, due_run, due_call, abort_due_redo}
+use Rattle.abort_mode.specs.Answers.{AbortCalled, IsAbortCalled}
+use Rattle.abort_law.specs.Machine.{mrun_marked}
+use Rattle.abort_law.specs.Cuts.{IsMarkedEnd, IsMarkedCut, AbortTells}
+use Rattle.abort_law.proofs.Calls.{call_owes, cut_marked}
+use Rattle.abort_law.proofs.AfterAnswers.{call_leaves}
+use Rattle.cnvm_session.specs.declared.mode.Mode.{Mode}
+use Rattle.cnvm_session.specs.declared.mode.Mode.TheVariants as mode
+use Rattle.cnvm_session.specs.declared.answer.Answer.{Answer}
+use Rattle.cnvm_session.specs.declared.answer.Answer.TheVariants as answer
+use Rattle.cnvm_session.specs.declared.program.Program.{Program}
+use Rattle.cnvm_session.specs.Commands.{tx_parameters}
+use Rattle.cnvm_session.specs.Marks.{rolls_back_of}
+use Rattle.cnvm_session.specs.Outcomes.{answer_of_marked_call, mode_of_marked_call}
+use Rattle.session_law.specs.Source.{sizes_of, means}
+use Rattle.session_law.specs.Words.{AreWords}
+use Rattle.session_law.specs.Agrees.{Agrees, RunsAs}
+use Rattle.session_law.specs.State.{Pending, Standing, Ready, Down, SourceState, standing_as}
+use Rattle.session_law.specs.State.{done_with, undone_as}
+use Rattle.session_law.specs.Opened.{opened_heap}
+use Rattle.session_law.specs.Marked.{ComesOn}
+use Rattle.session_law.specs.Answers.{RunsMarked}
+use Rattle.session_law.specs.Holds.{IsResting, OwesMarked, OwesBy, HoldsAs, Holds}
+use Rattle.session_law.specs.Law.{IsRolledBack}
+use Rattle.session_law.proofs.Words.{held_words}
+use Rattle.session_law.proofs.Ones.{rest_one, at_view}
+use Rattle.session_law.proofs.Retired.{HasAttempt, Retires, count_at, cut_attempt, retired_empty}
+use Rattle.session_law.proofs.Reading.{numbers_small, stands_ready, stands_numbers, is_unsealed}
+use Rattle.session_law.proofs.Resting.{resting_at, HasHalted}
+use Rattle.session_law.proofs.MarkedRuns.{MarkedMeant, marked_run, marked_done, marked_trapped}
+
+-- a run that halts ends with the events that retire its value
+marked_retires : (image : Image) (s : State) (c : Cache) (front : List CacheEvent) (v : ℤ)
+    → end_of (abort_due_on image s (play c front)).fate ≡ Halted v
+    → Retires c (front ++ due_run image s (play c front)) v
+marked_retires image s c front v fate =
+    let ran : List CacheEvent = (abort_due_on image s (play c front)).events in
+    record {
+      first = front ++ ran;
+      is =
+          ap (λ (e : End). front
+          ++ (ran ++ abort_tail_events image.parts.sizes e (play (play c front) ran))) fate
+          ∙ sym (append_assoc front ran (tail_events (Halted v) (play (play c front) ran)))
+          ∙ ap (λ (b : Cache). (front ++ ran) ++ tail_events (Halted v) b)
+          (sym (play_append c front ran));
+    }
+
+pub marked_call_retires : (image : Image) (tx : ℕ) (args : List ℤ) (c : Cache) (v : ℤ)
+    → end_of (abort_due_on image (start image tx args) (play c (due_seal tx args c))).fate
+    ≡ Halted v → Retires c (due_call image tx args c) v
+unfolding due_call
+marked_call_retires image tx args c v fate =
+    marked_retires image (start image tx args) c (due_seal tx args c) v fate
+
+pub marked_redo_retires : (image : Image) (tx : ℕ) (args : List ℤ) (n : ℕ) (c : Cache) (v : ℤ)
+    → end_of (abort_due_on image (start image tx args)
+    (play c (due_back image.parts.sizes n c))).fate ≡ Halted v
+    → Retires c (abort_due_redo image tx args n c) v
+marked_redo_retires image tx args n c v fate =
+    marked_retires image (start image tx args) c (due_back image.parts.sizes n c) v fate
+
+-- after an undo no record is valid
+pub undone_empty : (pool : Pool) (call : Call) (h : Words) (last : ℤ) (image : Words)
+    → IsEmptied pool call h last image → count_in pool.sizes image ≡ 0
+undone_empty pool call h last image ended =
+    let good = ended.undone.good in
+    count_at pool.sizes image good.attempt good.attempt_is
+    (let fits = good.attempt_fits in omega arith)
+    ∙ ended.empty good.attempt good.attempt_is
+
+module _ (program : Program) (super : Words) (agrees : Agrees program)
+    (d : Device) (s : SourceState) (resting : IsResting program super d s)
+    (tx : ℕ) (args : List ℤ) (takes : tx_parameters program.image tx ≡ Some (length args))
+    (words : AreWords args) where
+  abbrev z : Sizes
+  z = sizes_of program
+
+  abbrev pool : Pool
+  pool = pool_with program.image super
+
+  abbrev h : Words
+  h = heap_in z d.cache
+
+  abbrev owed : Pending
+  owed = record { tx = tx; args = args }
+
+  abbrev call : Call
+  call = call_of s.done tx args
+
+  abbrev events : List CacheEvent
+  events = due_call program.image tx args d.cache
+
+  runs : RunsAs program h tx args
+  runs = agrees.runs h tx args resting.holds.headers (held_words program h s resting.holds)
+      words takes
+
+  run : (end : End) × (es : List Effect)
+      × (mrun_marked program.image program.image.parts.most h tx args ≡ Finished end es)
+      × MarkedMeant program s owed h end es
+  run = marked_run program s owed h resting.holds runs
+
+  abbrev end : End
+  end = run.0
+
+  abbrev es : List Effect
+  es = run.1
+
+  own : MarkedMeant program s owed h end es
+  own = run.3
+
+  few : (tx < 2 ^ 63) × (length args ≤ 22)
+  few = agrees.few tx (length args) takes
+
+  only : HasOne d.cache (view d.cache)
+  only = rest_one d.cache resting.rest
+
+  good : Good pool s.done h (view d.cache)
+  good = resting.before.good
+
+  empty : count (places.pool_of z) good.attempt (view d.cache) ≡ 0
+  empty = sym (count_at z (view d.cache) good.attempt good.attempt_is
+      (let fits = good.attempt_fits in omega arith)) ∙ resting.empty
+
+  -- the heap of the image that the call finds
+  heap_is : opened_heap program (view d.cache) ≡ h
+  heap_is = ap (λ (b : Bool). if b then restored (places.pool_of z) (attempt_in z (view d.cache))
+      (view d.cache) else h) (is_unsealed (view d.cache) s.done good.done good.unsealed)
+
+  abbrev Answered : Answer → Mode → Device → Type 0
+  Answered a n b = (t : SourceState) × RunsMarked program s (view d.cache) tx args a t
+      × Holds program super n b t
+
+  module _ (small : (s.done < 2 ^ 62) × (good.attempt < 2 ^ 62)) (b : Device)
+      (mark : rolls_back_of program tx ≡ true) where
+    abbrev last : ℤ
+    last = view d.cache LAST
+
+    abbrev Cut : ℤ → End → Words → Type 0
+    Cut x e = IsMarkedCut pool call h (heap_end h es) x e
+
+    abbrev Ended : End → Words → Type 0
+    Ended e = IsMarkedEnd pool call h (heap_end h es) last e
+
+    left : (r : AbortAnswer) (k k1 : ℕ) → AbortCalled r program.image tx args d b k k1
+        → Images (Cut last end) b.cache × AbortTells r end es (Images (Ended end) b.cache)
+    left r k k1 called =
+        call_leaves program.image super tx args d b (view d.cache) s.done end es few.0 few.1 small.0
+        only good small.1 empty run.2 own.tidy r k k1 called
+
+    owes : (r : AbortAnswer) (k k1 : ℕ) → AbortCalled r program.image tx args d b k k1
+        → OwesMarked program super owed b (standing_as (Down (Some owed)) s)
+    owes r k k1 called =
+        record {
+          heap = h;
+          holds = record {
+            headers = resting.holds.headers;
+            pool = resting.holds.pool;
+            words = resting.holds.words;
+          };
+          takes = takes;
+          words = words;
+          end = end;
+          effects = es;
+          ran = run.2;
+          left = subst (λ (x : ℤ). Images (Cut x end) b.cache) resting.before.last_is
+              (left r k k1 called).0;
+        }
+
+    cut_off : (r : AbortAnswer) (k k1 : ℕ) → AbortCalled r program.image tx args d b k k1
+        → Holds program super mode.Down b (standing_as (Down (Some owed)) s)
+    cut_off r k k1 called = (
+      refl,
+      subst (λ (x : Bool). OwesBy x program super owed b (standing_as (Down (Some owed)) s))
+          (sym mark) (owes r k k1 called),
+    )
+
+    played_rest : PlaysAll d events b → IsAtRest b.cache
+    played_rest all =
+        subst IsAtRest (sym (all_cache events d b all))
+        ((cut_marked program.image super tx args d.cache (view d.cache) s.done end es few.0 few.1
+        small.0 only good small.1 empty run.2 own.tidy).2 resting.rest)
+
+    done : (v : ℤ) (l k k1 : ℕ) → AbortCalled (aborted.Done v l) program.image tx args d b k k1
+        → Answered (answer.Done v l) mode.Ready b
+    done v l k k1 ran =
+        let all : PlaysAll d events b = ran.0.played in
+        let tells = (left (aborted.Done v l) k k1 ran).1 in
+        let is : end ≡ Halted v = tells.0 in
+        let has : HasHalted program (means program s.pool tx args) v (heap_end h es) =
+        own.halts v is in
+        let ended : Images (Ended (Halted v)) b.cache =
+        subst (λ (e : End). Images (Ended e) b.cache) is tells.2 in
+        let seen : IsDone pool (suc s.done) (heap_end h es) v (view b.cache) =
+        at_view (Ended (Halted v)) b.cache ended in
+        let cut : during d.cache events (Images (Cut last end)) =
+        (cut_marked program.image super tx args d.cache (view d.cache) s.done end es few.0
+        few.1 small.0 only good small.1 empty run.2 own.tidy).0 in
+        let each : (image : Words) → Cut last end image → HasAttempt z image =
+        λ image cut_is. cut_attempt pool call Every Every h (heap_end h es) last v
+        image (subst (λ (e : End). Cut last e image) is cut_is) in
+        let none : count_in z (view (play d.cache events)) ≡ 0 =
+        retired_empty z (Cut last end) each d.cache events v
+        (marked_call_retires program.image tx args d.cache v ran.0.fate) cut in
+        let t : SourceState = done_with has.pool v Ready s in (
+          t,
+          (
+            has.pool,
+            subst (λ (g : Words). ComesOn program g s.pool tx args l (Done has.pool v))
+                (sym heap_is)
+                (marked_done program s owed h end es resting.holds run.2 own v is l tells.1),
+            refl,
+          ),
+          (
+            refl,
+            resting_at program super b t (heap_end h es) (all_on events d b all ∙ resting.on)
+                (played_rest all)
+                (record { good = seen.good; last_is = seen.last_is })
+                (ap (λ (c : Cache). count_in z (view c)) (all_cache events d b all) ∙ none)
+                (record { headers = has.headers; pool = has.holds; words = has.words }),
+          ),
+        )
+
+    rolled_back : (kind : TrapKind) (k k1 : ℕ)
+        → AbortCalled (aborted.Aborted kind) program.image tx args d b k k1
+        → Answered (answer.Aborted kind) mode.Ready b
+    rolled_back kind k k1 ran =
+        let all : PlaysAll d events b = ran.played in
+        let tells = (left (aborted.Aborted kind) k k1 ran).1 in
+        let is : end ≡ Trapped kind = tells.0 in
+        let ended : Images (Ended (Trapped kind)) b.cache =
+        subst (λ (e : End). Images (Ended e) b.cache) is tells.1 in
+        let seen : IsEmptied pool call h last (view b.cache) =
+        at_view (Ended (Trapped kind)) b.cache ended in
+        let t : SourceState = undone_as Ready s in (
+          t,
+          (
+            (
+              records_end 0 es,
+              subst (λ (g : Words).
+                  ComesOn program g s.pool tx args (records_end 0 es) (Trap kind)) (sym heap_is)
+                  (marked_trapped program s owed h end es resting.holds run.2 own kind is),
+            ),
+            refl,
+          ),
+          (
+            refl,
+            resting_at program super b t h (all_on events d b all ∙ resting.on)
+                (played_rest all)
+                (record {
+                  good = seen.undone.good;
+                  last_is = seen.undone.last_is ∙ resting.before.last_is;
+                })
+                (undone_empty pool call h last (view b.cache) seen)
+                (record {
+                  headers = resting.holds.headers;
+                  pool = resting.holds.pool;
+                  words = resting.holds.words;
+                }),
+          ),
+        )
+
+    restores : (kind : TrapKind) (k k1 : ℕ)
+        → AbortCalled (aborted.Aborted kind) program.image tx args d b k k1
+        → IsRolledBack program h s.last b
+    restores kind k k1 ran =
+        let tells = (left (aborted.Aborted kind) k k1 ran).1 in
+        let ended : Images (Ended (Trapped kind)) b.cache =
+        subst (λ (e : End). Images (Ended e) b.cache) tells.0 tells.1 in
+        let seen : IsEmptied pool call h last (view b.cache) =
+        at_view (Ended (Trapped kind)) b.cache ended in
+        record {
+          heap = seen.undone.good.heap;
+          last_is = seen.undone.last_is ∙ resting.before.last_is;
+        }
+
+    by_answer : (r : AbortAnswer) (k k1 : ℕ) → AbortCalled r program.image tx args d b k k1
+        → Answered (answer_of_marked_call r) (mode_of_marked_call r) b
+    by_answer (aborted.Done v l) k k1 ran = done v l k k1 ran
+    by_answer (aborted.Aborted kind) k k1 ran = rolled_back kind k k1 ran
+    by_answer (aborted.Off p) k k1 ran =
+        (standing_as (Down (Some owed)) s, refl, cut_off (aborted.Off p) k k1 ran)
+    by_answer aborted.Failed k k1 ran =
+        (standing_as (Down (Some owed)) s, refl, cut_off aborted.Failed k k1 ran)
+    by_answer aborted.NoMemory k k1 ran =
+        (standing_as (Down (Some owed)) s, refl, cut_off aborted.NoMemory k k1 ran)
+    by_answer (aborted.Unusable kind) k k1 ran = absurd ran
+    by_answer aborted.Numbers k k1 ran = absurd ran
+
+  -- the events of the run after the seal are those of the machine's effects
+  pub marked_events : (s.done < 2 ^ 62) × (resting.before.good.attempt < 2 ^ 62) → (p : ℕ) → p < 48
+      → Misses p (abort_due_on program.image (start program.image tx args)
+      (play d.cache (due_seal tx args d.cache))).events
+  unfolding good
+  marked_events small p less =
+      let ran = (call_owes program.image super tx args d.cache (view d.cache) s.done end es few.0
+      few.1 small.0 only good small.1 empty run.2 own.tidy).0.0 in
+      subst (Misses p) (sym ran) (misses_run z good.attempt 0 p h es less)
+
+  -- a call that is aborted leaves the heap from before it
+  pub call_restores : (s.done < 2 ^ 62) × (resting.before.good.attempt < 2 ^ 62) → (b : Device)
+      → rolls_back_of program tx ≡ true → (kind : TrapKind) (k k1 : ℕ)
+      → AbortCalled (aborted.Aborted kind) program.image tx args d b k k1
+      → IsRolledBack program h s.last b
+  unfolding good
+  call_restores small b mark kind k k1 ran = restores small b mark kind k k1 ran
+
+  pub marked_call_runs : (mark : rolls_back_of program tx ≡ true) (r : AbortAnswer) (b : Device)
+      (k k1 : ℕ) → s.standing ≡ Ready
+      → IsAbortCalled r program.image tx args d b k k1
+      → Answered (answer_of_marked_call r) (mode_of_marked_call r) b
+  marked_call_runs mark r b k k1 ready is = go (is_number (view d.cache DONE)
+      && is_number (view d.cache ATTEMPT)) refl
+    where
+      go : (numbers : Bool) → (is_number (view d.cache DONE) && is_number (view d.cache ATTEMPT))
+          ≡ numbers → Answered (answer_of_marked_call r) (mode_of_marked_call r) b
+      go true numbers =
+          by_answer (numbers_small (view d.cache) s.done good.attempt good.done good.attempt_is
+          numbers) b mark r k k1
+          (is.ready resting.on (stands_ready (view d.cache) good.mark numbers))
+      go false numbers =
+          let same = is.numbers resting.on (stands_numbers (view d.cache) good.mark numbers) in
+          let holds : Holds program super mode.Ready b s =
+          subst (λ (x : Device). Holds program super mode.Ready x s) (sym same.1)
+          (subst (λ (x : Standing). HoldsAs x program super mode.Ready d s) (sym ready)
+          (refl, resting)) in
+          subst (λ (x : AbortAnswer). Answered (answer_of_marked_call x) (mode_of_marked_call x) b)
+          (sym same.0)
+          (s, (numbers, refl), holds)

@@ -1,0 +1,249 @@
+-- A transaction that is aborted, in its call or in its recovery, leaves the heap from before it.
+use Rattle.std.proofs.Common.{◌≡◌, inl, inr, ℕ, suc, ◌==◌, ◌&&◌, Bool, true, false, List, length}
+use Rattle.std.proofs.Common.{Option, Some, None, ℤ, refl, sym, ap, ◌∙◌, subst, arith}
+use Rattle.std.proofs.lemmas.Bool.{eqb-true}
+use Rattle.cache_model.specs.Cache.{Words, view}
+use Rattle.cache_model.specs.Collapse.{bad}
+use Rattle.cache_model.specs.declared.choice.Choice.{Choice}
+use Rattle.pmem.specs.Device.{Device, memory_of, powered}
+use Rattle.pool_layout.specs.declared.places.TheConstants.{DONE, ATTEMPT}
+use Rattle.pool_map.specs.declared.trap.TrapKind.{TrapKind}
+use Rattle.args_log.specs.Pending.{tx_number}
+use Rattle.pm_machine.specs.declared.effect.End.{End}
+use Rattle.pm_machine.specs.declared.effect.End.TheVariants.{Halted, Trapped}
+use Rattle.pm_machine.specs.Effects.{heap_end}
+use Rattle.pm_machine.specs.Runs.{heap_in}
+use Rattle.crash_law.specs.Pools.{Pool, Call, Good}
+use Rattle.tx_run.specs.Standing.{is_number}
+use Rattle.recovery.specs.Recovered.{tx_in}
+use Rattle.recovery.specs.declared.answer.RecoverAnswer.{RecoverAnswer}
+use Rattle.recovery.specs.declared.answer.RecoverAnswer.TheVariants as recovered
+use Rattle.tx_run.specs.declared.answer.CallAnswer.{CallAnswer}
+use Rattle.tx_run.specs.declared.answer.CallAnswer.TheVariants as called
+use Rattle.cut_law.specs.Law.{call_of, pool_with}
+use Rattle.undo_law.specs.Law.{IsOwed}
+use Rattle.abort_mode.specs.declared.answer.AbortAnswer.{AbortAnswer}
+use Rattle.abort_mode.specs.declared.answer.AbortAnswer.TheVariants as aborted
+use Rattle.abort_mode.specs.Answers.{AbortCalled}
+use Rattle.abort_law.specs.Cuts.{IsMarkedCut}
+use Rattle.cnvm_session.specs.declared.mode.Mode.{Mode}
+use Rattle.cnvm_session.specs.declared.mode.Mode.TheVariants as mode
+use Rattle.cnvm_session.specs.declared.answer.Answer.TheVariants as answer
+use Rattle.cnvm_session.specs.declared.program.Program.{Program}
+use Rattle.cnvm_session.specs.Commands as commanded
+use Rattle.cnvm_session.specs.Commands.{call_number, tx_parameters, fallen}
+use Rattle.cnvm_session.specs.Marks.{rolls_back_of}
+use Rattle.cnvm_session.specs.Outcomes.{answer_of_call, answer_of_marked_call, answer_of_recovery}
+use Rattle.cnvm_session.specs.Outcomes.{answer_of_marked_recovery, RecoversBy}
+use Rattle.cnvm_session.specs.Outcomes as outcomes
+use Rattle.session_law.specs.Source.{sizes_of}
+use Rattle.session_law.specs.Words.{AreWords}
+use Rattle.session_law.specs.Agrees.{Agrees}
+use Rattle.session_law.specs.State.{Pending, Standing, Ready, Down, Unusable, SourceState}
+use Rattle.session_law.specs.Holds.{IsResting, OwesMarked, HoldsAs, Holds}
+use Rattle.session_law.specs.Law.{IsRolledBack}
+use Rattle.session_law.proofs.Ones.{left_rest, at_left}
+use Rattle.session_law.proofs.Reading.{numbers_small, stands_ready, stands_numbers, is_unsealed}
+use Rattle.session_law.proofs.Reading.{is_owed}
+use Rattle.session_law.proofs.MarkedCalls.{call_restores}
+use Rattle.session_law.proofs.MarkedRecoveries.{KeepsLast, marked_redo_restores}
+use Rattle.session_law.proofs.Powers.{not_owing, owing_as}
+
+-- the answer of a call of an unmarked transaction is never that it was aborted
+never_called : (r : CallAnswer) (kind : TrapKind) → answer.Aborted kind ≡ answer_of_call r → ⊥
+never_called (called.Done v l) kind e = absurd cc
+never_called (called.Trap trap) kind e = absurd cc
+never_called (called.Off p) kind e = absurd cc
+never_called called.Failed kind e = absurd cc
+never_called (called.Unusable trap) kind e = absurd cc
+never_called called.Numbers kind e = absurd cc
+never_called called.NoMemory kind e = absurd cc
+
+aborted_call : (r : AbortAnswer) (kind : TrapKind)
+    → answer.Aborted kind ≡ answer_of_marked_call r → r ≡ aborted.Aborted kind
+aborted_call (aborted.Done v l) kind e = absurd cc
+aborted_call (aborted.Aborted trap) kind e =
+    let same : kind ≡ trap = cc in ap aborted.Aborted (sym same)
+aborted_call (aborted.Off p) kind e = absurd cc
+aborted_call aborted.Failed kind e = absurd cc
+aborted_call (aborted.Unusable trap) kind e = absurd cc
+aborted_call aborted.Numbers kind e = absurd cc
+aborted_call aborted.NoMemory kind e = absurd cc
+
+-- nor is that of a recovery that redoes no marked transaction
+never_recovered : (r : RecoverAnswer) (kind : TrapKind)
+    → answer.RecoveredAborted kind ≡ answer_of_recovery r → ⊥
+never_recovered recovered.Clean kind e = absurd cc
+never_recovered (recovered.Redone v l) kind e = absurd cc
+never_recovered (recovered.Trap trap) kind e = absurd cc
+never_recovered (recovered.Unusable trap) kind e = absurd cc
+never_recovered recovered.Numbers kind e = absurd cc
+never_recovered (recovered.Off p) kind e = absurd cc
+never_recovered recovered.Failed kind e = absurd cc
+never_recovered recovered.NoMemory kind e = absurd cc
+
+aborted_recovery : (r : AbortAnswer) (kind : TrapKind)
+    → answer.RecoveredAborted kind ≡ answer_of_marked_recovery r → r ≡ aborted.Aborted kind
+aborted_recovery (aborted.Done v l) kind e = absurd cc
+aborted_recovery (aborted.Aborted trap) kind e =
+    let same : kind ≡ trap = cc in ap aborted.Aborted (sym same)
+aborted_recovery (aborted.Off p) kind e = absurd cc
+aborted_recovery aborted.Failed kind e = absurd cc
+aborted_recovery (aborted.Unusable trap) kind e = absurd cc
+aborted_recovery aborted.Numbers kind e = absurd cc
+aborted_recovery aborted.NoMemory kind e = absurd cc
+
+module _ (program : Program) (super : Words) (agrees : Agrees program)
+    (d b : Device) (s : SourceState) (resting : IsResting program super d s)
+    (args : List ℤ) (words : AreWords args) (kind : TrapKind) (n : Mode) (k k1 : ℕ) where
+  abbrev Restored : Type 0
+  Restored = IsRolledBack program (heap_in (sizes_of program) d.cache) s.last b
+
+  by_mark : (tx : ℕ) → tx_parameters program.image tx ≡ Some (length args) → (marked : Bool) →
+      rolls_back_of program tx ≡ marked →
+      outcomes.RunsBy marked program.image tx args d (answer.Aborted kind) n b k k1 → Restored
+  by_mark tx takes false mark is = absurd (never_called is.tx_answer kind is.answer)
+  by_mark tx takes true mark is =
+      go (is_number (view d.cache DONE) && is_number (view d.cache ATTEMPT)) refl
+    where
+      rolled : is.tx_answer ≡ aborted.Aborted kind
+      rolled = aborted_call is.tx_answer kind is.answer
+
+      go : (numbers : Bool) → (is_number (view d.cache DONE) && is_number (view d.cache ATTEMPT))
+          ≡ numbers → Restored
+      go true numbers =
+          let good = resting.before.good in
+          call_restores program super agrees d s resting tx args takes words
+          (numbers_small (view d.cache) s.done good.attempt good.done good.attempt_is numbers) b
+          mark kind k k1
+          (subst (λ (x : AbortAnswer). AbortCalled x program.image tx args d b k k1) rolled
+          (is.called.ready resting.on (stands_ready (view d.cache) good.mark numbers)))
+      go false numbers =
+          let same = (is.called.numbers resting.on
+          (stands_numbers (view d.cache) resting.before.good.mark numbers)).0 in
+          let clash : aborted.Numbers ≡ aborted.Aborted kind = sym same ∙ rolled in
+          absurd cc
+
+  by_count : (tx count : ℕ) (same : Bool) → (count == length args) ≡ same
+      → tx_parameters program.image tx ≡ Some count
+      → commanded.CallsWith same program tx args d (answer.Aborted kind) n b k k1 → Restored
+  by_count tx count true same takes h =
+      by_mark tx (takes ∙ ap (λ (i : ℕ). Some i) (eqb-true count (length args) same))
+      (rolls_back_of program tx) refl h
+  by_count tx count false same takes h = let e = h.0 in absurd cc
+
+  by_parameters : (tx : ℕ) (count : Option ℕ) → tx_parameters program.image tx ≡ count
+      → commanded.CallsTo count program tx args d (answer.Aborted kind) n b k k1 → Restored
+  by_parameters tx None takes h = let e = h.0 in absurd cc
+  by_parameters tx (Some count) takes h = by_count tx count (count == length args) refl takes h
+
+  by_name : (number : Option ℕ)
+      → commanded.CallsNamed number program args d (answer.Aborted kind) n b k k1 → Restored
+  by_name None h = let e = h.0 in absurd cc
+  by_name (Some tx) h = by_parameters tx (tx_parameters program.image tx) refl h
+
+module _ (program : Program) (super : Words) (agrees : Agrees program) (name : List ℕ)
+    (args : List ℤ) (words : AreWords args) (m n : Mode) (d b : Device) (s : SourceState)
+    (kind : TrapKind) (k k1 : ℕ)
+    (h : commanded.Calls program name args m d (answer.Aborted kind) n b k k1) where
+  abbrev Back : Type 0
+  Back = IsRolledBack program (heap_in (sizes_of program) d.cache) s.last b
+
+  in_mode : (x : Mode) → commanded.Calls program name args x d (answer.Aborted kind) n b k k1
+      → (x ≡ mode.Ready → IsResting program super d s) → Back
+  in_mode mode.Ready calls resting = by_name program super agrees d b s (resting refl) args words
+      kind n k k1 (call_number program name) calls
+  in_mode mode.Down calls resting = let e = calls.0 in absurd cc
+  in_mode (mode.Unusable trap) calls resting = let e = calls.0 in absurd cc
+
+  at_rest : (st : Standing) → HoldsAs st program super m d s → m ≡ mode.Ready
+      → IsResting program super d s
+  at_rest Ready holds is = holds.1
+  at_rest (Down None) holds is =
+      let clash : mode.Down ≡ mode.Ready = sym holds.0 ∙ is in absurd cc
+  at_rest (Down (Some owed)) holds is =
+      let clash : mode.Down ≡ mode.Ready = sym holds.0 ∙ is in absurd cc
+  at_rest (Unusable trap) holds is =
+      let clash : mode.Unusable trap ≡ mode.Ready = sym holds.0 ∙ is in absurd cc
+
+pub call_rolled_back : (program : Program) (super : Words) (name : List ℕ) (args : List ℤ)
+    (m n : Mode) (d b : Device) (s : SourceState) (kind : TrapKind) (k k1 : ℕ) → Agrees program
+    → AreWords args → Holds program super m d s
+    → commanded.Calls program name args m d (answer.Aborted kind) n b k k1
+    → IsRolledBack program (heap_in (sizes_of program) d.cache) s.last b
+call_rolled_back program super name args m n d b s kind k k1 agrees words holds h =
+    in_mode program super agrees name args words m n d b s kind k k1 h m h
+    (λ is. at_rest program super agrees name args words m n d b s kind k k1 h s.standing holds is)
+
+module _ (program : Program) (super : Words) (agrees : Agrees program) (choice : Choice)
+    (owed : Pending) (m n : Mode) (d b : Device) (s : SourceState) (kind : TrapKind) (k k1 : ℕ)
+    (mark : rolls_back_of program owed.tx ≡ true) (owes : OwesMarked program super owed d s) where
+  abbrev e : Device
+  e = powered choice d
+
+  abbrev one : Words
+  one = view e.cache
+
+  abbrev pool : Pool
+  pool = pool_with program.image super
+
+  abbrev call : Call
+  call = call_of s.done owed.tx owed.args
+
+  abbrev Undone : Type 0
+  Undone = IsRolledBack program owes.heap s.last b
+
+  abbrev Recovers : Bool → Type 0
+  Recovers marked = RecoversBy marked program.image e (answer.RecoveredAborted kind) n b k k1
+
+  abbrev Recovered : Type 0
+  Recovered = outcomes.Recovers program e (answer.RecoveredAborted kind) n b k k1
+
+  -- an image that isn't sealed
+  not_good : (done : ℕ) (h : Words) → Good pool done h one → Recovered → ⊥
+  not_good done h good is =
+      let un : Recovers false = subst Recovers
+      (not_owing program e (is_unsealed one done good.done good.unsealed)) is in
+      never_recovered un.tx_answer kind un.answer
+
+  owed_at : IsOwed pool call owes.heap one → KeepsLast owes.end s.last one → Recovered → Undone
+  owed_at sealed kept is =
+      let names : tx_in e ≡ owed.tx = ap tx_number (sealed.call_is 0 (omega arith)) in
+      let ma : Recovers true = subst Recovers (owing_as program e owed.tx true
+      (is_owed one s.done sealed.done sealed.sealed) names mark) is in
+      marked_redo_restores program super agrees e s owed owes.heap owes.end owes.effects refl
+      (left_rest d.cache choice.rest choice.picks) owes.holds owes.takes owes.words owes.ran mark
+      sealed kept kind ma.tx_answer b k k1 (aborted_recovery ma.tx_answer kind ma.answer) ma.redone
+
+  at_cut : (x : End) → owes.end ≡ x
+      → IsMarkedCut pool call owes.heap (heap_end owes.heap owes.effects) s.last x one → Recovered
+      → Undone
+  at_cut (Halted v) ends (inl before) is = absurd (not_good s.done owes.heap before.good is)
+  at_cut (Halted v) ends (inr (inl sealed)) is =
+      owed_at sealed (subst (λ (y : End). KeepsLast y s.last one) (sym ends) tt) is
+  at_cut (Halted v) ends (inr (inr seen)) is =
+      absurd (not_good (suc s.done) (heap_end owes.heap owes.effects) seen.good is)
+  at_cut (Trapped trap) ends (inl before) is = absurd (not_good s.done owes.heap before.good is)
+  at_cut (Trapped trap) ends (inr (inl still)) is =
+      owed_at still.owed (subst (λ (y : End). KeepsLast y s.last one) (sym ends) still.last_is) is
+  at_cut (Trapped trap) ends (inr (inr seen)) is =
+      absurd (not_good (suc s.done) owes.heap seen.good is)
+
+  by_picks : (first pick : Option ℕ) → fallen 0 choice.picks ≡ first
+      → bad (memory_of d) choice.picks ≡ pick
+      → commanded.Powers program choice m d (answer.RecoveredAborted kind) n b k k1 → Undone
+  by_picks (Some line) pick falls is powers = let e = (powers.0 line falls).0 in absurd cc
+  by_picks None (Some line) rises is powers = let e = (powers.1 line rises is).0 in absurd cc
+  by_picks None None rises fits powers =
+      at_cut owes.end refl
+      (at_left (IsMarkedCut pool call owes.heap (heap_end owes.heap owes.effects) s.last owes.end)
+      d.cache choice.rest choice.picks owes.left) (powers.2 rises fits)
+
+pub power_rolled_back : (program : Program) (super : Words) (choice : Choice) (owed : Pending)
+    (m n : Mode) (d b : Device) (s : SourceState) (kind : TrapKind) (k k1 : ℕ) → Agrees program
+    → rolls_back_of program owed.tx ≡ true → (owes : OwesMarked program super owed d s)
+    → commanded.Powers program choice m d (answer.RecoveredAborted kind) n b k k1
+    → IsRolledBack program owes.heap s.last b
+power_rolled_back program super choice owed m n d b s kind k k1 agrees mark owes powers =
+    by_picks program super agrees choice owed m n d b s kind k k1 mark owes
+    (fallen 0 choice.picks) (bad (memory_of d) choice.picks) refl refl powers
