@@ -16,6 +16,9 @@ use Rattle.cnvm_compile.specs.Told.{told_of}
 use Rattle.cnvm_compile.proofs.Once.{once}
 use Rattle.cnvm_script.specs.declared.command.Command.{Command}
 use Rattle.cnvm_script.specs.Commands.{script_meaning}
+use Rattle.workers_script.specs.declared.command.WorkersCommand.{WorkersCommand}
+use Rattle.workers_script.specs.WorkersGrammar.{workers_script_meaning}
+use Rattle.workers_run.specs.WorkersRan.{Unbegun, RunsNew, BreaksOffNew}
 use Rattle.cnvm_session.specs.declared.program.Program.{Program}
 use Rattle.cnvm_words.specs.declared.plan.Plan.{Plan}
 use Rattle.cnvm_words.specs.declared.plan.Plan.TheVariants as plan
@@ -25,11 +28,12 @@ use Rattle.cnvm_cli.specs.declared.refused.Refused.TheVariants as refused
 use Rattle.cnvm_cli.specs.declared.status.Status.{Status}
 use Rattle.cnvm_cli.specs.declared.status.Status.TheVariants as status
 use Rattle.cnvm_cli.specs.RefusalText.{has_line}
-use Rattle.cnvm_cli.specs.Verdict.{refused_by, IsTextRefused, IsAccepted, HasCommands}
-use Rattle.cnvm_cli.specs.Verdict.{ProgramRefuses, ScriptRefuses, TextsRefuse, asked_by}
+use Rattle.cnvm_cli.specs.Verdict.{refused_by, IsTextRefused, IsAccepted, Grammar, SpellsIn}
+use Rattle.cnvm_cli.specs.Verdict.{ProgramRefuses, ScriptRefuses, RefuseIn, asked_by}
 use Rattle.cnvm_cli.specs.Run.{Uncreated, TellsAs, RefusedAs}
 use Rattle.cnvm_cli.specs.Opened.{wanted_of, read_part, ImageRefuses, Unopened}
 use Rattle.cnvm_cli.specs.Saved.{SavedAs}
+use Rattle.cnvm_cli.specs.WorkersEnds.{make_fault, WorkersRanAs, WorkersEnds}
 use Rattle.cnvm_cli.specs.World.{Sources, Outside}
 use Rattle.cnvm_cli.specs.Meant.{Start, Fresh, FromImage, start_if}
 use Rattle.cnvm_cli.specs.inside.Ends.{PoolEnds, JobEnds, RunEnds, StormEnds, PlanEnds}
@@ -97,34 +101,35 @@ program_quiet asked (Some text) has refused.Usage told = absurd told
 program_quiet asked (Some text) has (refused.Image fault) told = absurd told
 program_quiet asked (Some text) has refused.Device told = absurd told
 
-not_long : (text : List ℕ) (commands : List Command) → HasCommands commands text
-    → 1048576 < length text → ⊥
-not_long text commands has long = let short = has.0 in omega (arith, short, long)
+module _ {C : Type 0} (means : Grammar C) where
+  not_long : (text : List ℕ) (commands : List C) → SpellsIn means commands text
+      → 1048576 < length text → ⊥
+  not_long text commands has long = let short = has.0 in omega (arith, short, long)
 
-not_bad : (text : List ℕ) (commands : List Command) (number : ℕ) → HasCommands commands text
-    → script_meaning text ≡ Err number → ⊥
-not_bad text commands number has bad = let good = has.1 in cc
+  not_bad : (text : List ℕ) (commands : List C) (number : ℕ) → SpellsIn means commands text
+      → means text ≡ Err number → ⊥
+  not_bad text commands number has bad = let good = has.1 in cc
 
-script_quiet : (text : List ℕ) (commands : List Command) → HasCommands commands text
-    → (why : Refused) → ScriptRefuses (Some text) why → has_line why ≡ false
-script_quiet text commands is refused.LongScript told = absurd (not_long text commands is told)
-script_quiet text commands is (refused.Script number) told =
-    absurd (not_bad text commands number is told.1)
-script_quiet text commands is refused.ReadFault told = refl
-script_quiet text commands is refused.NoMemory told = refl
-script_quiet text commands is refused.Usage told = absurd told
-script_quiet text commands is refused.LongProgram told = absurd told
-script_quiet text commands is (refused.Program line complaint) told = absurd told
-script_quiet text commands is (refused.Image fault) told = absurd told
-script_quiet text commands is refused.Device told = absurd told
+  script_quiet : (text : List ℕ) (commands : List C) → SpellsIn means commands text
+      → (why : Refused) → ScriptRefuses means (Some text) why → has_line why ≡ false
+  script_quiet text commands is refused.LongScript told = absurd (not_long text commands is told)
+  script_quiet text commands is (refused.Script number) told =
+      absurd (not_bad text commands number is told.1)
+  script_quiet text commands is refused.ReadFault told = refl
+  script_quiet text commands is refused.NoMemory told = refl
+  script_quiet text commands is refused.Usage told = absurd told
+  script_quiet text commands is refused.LongProgram told = absurd told
+  script_quiet text commands is (refused.Program line complaint) told = absurd told
+  script_quiet text commands is (refused.Image fault) told = absurd told
+  script_quiet text commands is refused.Device told = absurd told
 
-texts_quiet : (asked : Asked) (p s : Option (List ℕ)) → HasProgram asked p → HasScript s
-    → (why : Refused) → TextsRefuse asked p s why
-    → has_line why ≡ false
-texts_quiet asked p None has script why told = absurd script
-texts_quiet asked p (Some text) has script why (inl told) = program_quiet asked p has why told
-texts_quiet asked p (Some text) has script why (inr told) =
-    script_quiet text script.0 script.1 why told.1
+  texts_quiet : (asked : Asked) (p s : Option (List ℕ)) → HasProgram asked p
+      → HasScript means s → (why : Refused) → RefuseIn means asked p s why
+      → has_line why ≡ false
+  texts_quiet asked p None has script why told = absurd script
+  texts_quiet asked p (Some text) has script why (inl told) = program_quiet asked p has why told
+  texts_quiet asked p (Some text) has script why (inr told) =
+      script_quiet text script.0 script.1 why told.1
 
 -- an accepted image has no fault
 no_fault : (o : Option ImageFault) (fault : ImageFault) → o ≡ None → o ≡ Some fault → ⊥
@@ -265,7 +270,7 @@ run_kept : (asked : Asked) (p s image : Option (List ℕ)) (opens saves : Bool) 
 run_kept asked None s image opens saves result before after has ends refuses = has.0
 run_kept asked (Some text) s image opens saves result before after has ends refuses =
     ⊎_elim (λ told. quiet_kept told.0 result before.out after.out
-    (texts_quiet asked (Some text) s has.0 has.1 told.0 told.1) told.2 refuses)
+    (texts_quiet script_meaning asked (Some text) s has.0 has.1 told.0 told.1) told.2 refuses)
     (λ ran. job_kept saves (start_if opens image) ran.0.program ran.1 result before after
     (start_is asked opens text image ran.0 (let gives = ran.2 in gives.0) has.2) ran.3 refuses) ends
 
@@ -285,6 +290,24 @@ storm_kept asked start count p result w w' d d' k k' has ends refuses =
     told.2 refuses)
     (λ ran. stormed_kept result ran.0.program start count w w' d d' k k' ran.2 refuses) ends
 
+workers_ran_kept : (result : Status) (program : Program) (count : ℕ)
+    (commands : List WorkersCommand) (w w' : Option (List ℕ)) (d d' : Device) (k k' : ℕ)
+    → WorkersRanAs program count commands result w w' d d' k k' → IsRefusalStatus result → ⊥
+workers_ran_kept result program count commands w w' d d' k k' =
+    status_kept (λ why. Unbegun (make_fault why) program count w w' d d' k k')
+    (BreaksOffNew program count commands w w' d d' k k')
+    (RunsNew program count commands w w' d d' k k')
+    (BreaksOffNew program count commands w w' d d' k k') result
+
+workers_kept : (asked : Asked) (count : ℕ) (p s : Option (List ℕ)) (result : Status)
+    (w w' : Option (List ℕ)) (d d' : Device) (k k' : ℕ)
+    → HasProgram asked p → HasScript workers_script_meaning s
+    → WorkersEnds asked count p s result w w' d d' k k' → IsRefusalStatus result → ⊥
+workers_kept asked count p s result w w' d d' k k' program script ends refuses =
+    ⊎_elim (λ told. quiet_kept told.0 result w w'
+    (texts_quiet workers_script_meaning asked p s program script told.0 told.1) told.2 refuses)
+    (λ ran. workers_ran_kept result ran.0.program count ran.1 w w' d d' k k' ran.4 refuses) ends
+
 plan_kept : (asked : Plan) (told : Sources) (result : Status) (before after : Outside)
     → IsPlanServed asked told
     → PlanEnds asked told result before after → IsRefusalStatus result → ⊥
@@ -299,6 +322,11 @@ plan_kept (plan.Storm p start count slots records ticks) told result before afte
     storm_kept (asked_by slots records ticks) start count told.program
     result before.out after.out before.dev
     after.dev before.steps after.steps has ends.0 refuses
+plan_kept (plan.Workers p s workers slots records ticks) told result before after has
+    ends refuses =
+    workers_kept (asked_by slots records ticks) workers told.program told.script
+    result before.out after.out before.dev
+    after.dev before.steps after.steps has.0 has.1 ends.0 refuses
 
 -- if everything is accepted, the status is no refusal
 pub plan_kept_as : (words : Option Plan) (asked : Plan) (told : Sources) (result : Status)

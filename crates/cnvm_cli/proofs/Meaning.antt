@@ -315,6 +315,7 @@ plan_meant (plan.Storm p start count slots records ticks) told result before aft
       before.dev after.dev before.steps after.steps ends.0,
   ends.1,
 )
+plan_meant (plan.Workers p s workers slots records ticks) told result before after ends = ends
 
 -- words that make a plan
 pub plan_meant_as : (words : Option Plan) (asked : Plan) (told : Sources) (result : Status)
@@ -343,3 +344,5 @@ memory_meant (Some (plan.List p)) told before after keeps same =
     (inl (refused.NoMemory, tt, (refl, keeps)), same)
 memory_meant (Some (plan.Storm p start count slots records ticks)) told before after keeps same =
     (inl (refused.NoMemory, tt, (refl, keeps), same.1, same.2), same.0)
+memory_meant (Some (plan.Workers p s workers slots records ticks)) told before after keeps same =
+    (inl (refused.NoMemory, inl tt, (refl, keeps), same.1, same.2), same.0)

@@ -7,14 +7,13 @@ use Rattle.pool_layout.specs.Fault.{IsFirstFault}
 use Rattle.cnvm_compile.specs.declared.asked.Asked.{Asked}
 use Rattle.cnvm_compile.specs.declared.compiling.Compiled.{Compiled}
 use Rattle.cnvm_compile.specs.Compilation.{IsCompiled}
-use Rattle.cnvm_script.specs.declared.command.Command.{Command}
 use Rattle.cnvm_session.specs.declared.program.Program.{Program}
 use Rattle.cnvm_cli.specs.declared.refused.Refused.{Refused}
 use Rattle.cnvm_cli.specs.declared.refused.Refused.TheVariants as refused
 use Rattle.cnvm_cli.specs.inside.Opened.{ImageIs, ImageReadAs}
-use Rattle.cnvm_cli.specs.inside.Texts.{ProgramReadAs, ScriptReadAs}
+use Rattle.cnvm_cli.specs.inside.Texts.{ProgramReadAs, ReadIn}
 use Rattle.cnvm_cli.specs.Opened.{wanted_of, read_part, AreImageWords}
-use Rattle.cnvm_cli.specs.Verdict.{OfBytes, IsTextRefused, IsLongScript, IsBadScript, HasCommands}
+use Rattle.cnvm_cli.specs.Verdict.{OfBytes, IsTextRefused, IsLongScript, Grammar, IsBadIn, SpellsIn}
 
 -- what holds of a source's bytes holds of some bytes
 pub known_bytes : (w : Option (List ℕ)) (P : List ℕ → Type 0) → OfBytes w P
@@ -83,20 +82,23 @@ program_read asked w (Err (refused.Script number)) bytes same is = absurd is
 program_read asked w (Err (refused.Image fault)) bytes same is = absurd is
 program_read asked w (Err refused.Device) bytes same is = absurd is
 
-pub script_read : (w : Option (List ℕ)) (r : Result (List Command) Refused) (bytes : List ℕ)
+pub script_read : {C : Type 0} (means : Grammar C) (w : Option (List ℕ))
+    (r : Result (List C) Refused) (bytes : List ℕ)
     → ((text : List ℕ) → w ≡ Some text → bytes ≡ text)
-    → ScriptReadAs r (Some bytes) → ScriptReadAs r w
-script_read w (Ok commands) bytes same is = of_read w (HasCommands commands) bytes same is
-script_read w (Err refused.LongScript) bytes same is = of_read w IsLongScript bytes same is
-script_read w (Err (refused.Script number)) bytes same is =
-    of_read w (IsBadScript number) bytes same is
-script_read w (Err refused.ReadFault) bytes same is = tt
-script_read w (Err refused.NoMemory) bytes same is = tt
-script_read w (Err refused.Usage) bytes same is = absurd is
-script_read w (Err refused.LongProgram) bytes same is = absurd is
-script_read w (Err (refused.Program line complaint)) bytes same is = absurd is
-script_read w (Err (refused.Image fault)) bytes same is = absurd is
-script_read w (Err refused.Device) bytes same is = absurd is
+    → ReadIn means r (Some bytes) → ReadIn means r w
+script_read {C} means w (Ok commands) bytes same is =
+    of_read w (SpellsIn means commands) bytes same is
+script_read {C} means w (Err refused.LongScript) bytes same is =
+    of_read w IsLongScript bytes same is
+script_read {C} means w (Err (refused.Script number)) bytes same is =
+    of_read w (IsBadIn means number) bytes same is
+script_read {C} means w (Err refused.ReadFault) bytes same is = tt
+script_read {C} means w (Err refused.NoMemory) bytes same is = tt
+script_read {C} means w (Err refused.Usage) bytes same is = absurd is
+script_read {C} means w (Err refused.LongProgram) bytes same is = absurd is
+script_read {C} means w (Err (refused.Program line complaint)) bytes same is = absurd is
+script_read {C} means w (Err (refused.Image fault)) bytes same is = absurd is
+script_read {C} means w (Err refused.Device) bytes same is = absurd is
 
 pub image_read : (program : Program) (w : Option (List ℕ)) (r : Result (List ℤ) Refused)
     (bytes : List ℕ) → IfSome w (λ all. bytes ≡ read_part program all)

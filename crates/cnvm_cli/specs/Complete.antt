@@ -2,7 +2,8 @@
 -- refused.
 use Rattle.std.specs.Prelude.{ℕ, List, Bool, true, Option, Some, None, is_some, ◌≡◌, ⊤}
 use Rattle.pool_layout.specs.Fault.{Accepts}
-use Rattle.cnvm_script.specs.declared.command.Command.{Command}
+use Rattle.cnvm_script.specs.Commands.{script_meaning}
+use Rattle.workers_script.specs.WorkersGrammar.{workers_script_meaning}
 use Rattle.cnvm_compile.specs.declared.compiling.Compiled.{Compiled}
 use Rattle.cnvm_compile.specs.Compilation.{IsCompiled}
 use Rattle.cnvm_words.specs.declared.plan.Plan.{Plan}
@@ -12,7 +13,7 @@ use Rattle.cnvm_cli.specs.declared.status.Status.{Status}
 use Rattle.cnvm_cli.specs.declared.status.Status.TheVariants as status
 use Rattle.cnvm_cli.specs.Listed.{listing_sizes}
 use Rattle.cnvm_cli.specs.Opened.{wanted_of, read_part}
-use Rattle.cnvm_cli.specs.Verdict.{asked_by, IsAccepted, HasCommands}
+use Rattle.cnvm_cli.specs.Verdict.{asked_by, IsAccepted, Grammar, SpellsIn}
 use Rattle.cnvm_cli.specs.World.{Sources}
 
 -- the source shows a program's text whose tokens spell a tree that breaks no rule
@@ -20,10 +21,10 @@ abbrev pub HasProgram : Asked → Option (List ℕ) → Type 0
 HasProgram asked None = ⊥
 HasProgram asked (Some text) = IsAccepted asked text
 
--- the source shows a script of commands
-abbrev pub HasScript : Option (List ℕ) → Type 0
-HasScript None = ⊥
-HasScript (Some text) = (commands : List Command) × HasCommands commands text
+-- the source shows a script of this grammar
+abbrev pub HasScript : {C : Type 0} → Grammar C → Option (List ℕ) → Type 0
+HasScript means None = ⊥
+HasScript {C} means (Some text) = (commands : List C) × SpellsIn means commands text
 
 -- the source shows an image that each program of this text accepts
 abbrev pub HasImage : Asked → (program image : Option (List ℕ)) → Type 0
@@ -35,7 +36,7 @@ HasImage asked (Some text) (Some bytes) =
 
 abbrev pub IsRunServed : Asked → Sources → (opens : Bool) → Type 0
 IsRunServed asked told opens =
-    HasProgram asked told.program × HasScript told.script
+    HasProgram asked told.program × HasScript script_meaning told.script
     × (opens ≡ true → HasImage asked told.program told.image)
 
 -- everything that the plan reads is there and is accepted
@@ -45,6 +46,9 @@ IsPlanServed (plan.Run p s slots records ticks from save) told =
 IsPlanServed (plan.List p) told = HasProgram listing_sizes told.program
 IsPlanServed (plan.Storm p start count slots records ticks) told =
     HasProgram (asked_by slots records ticks) told.program
+IsPlanServed (plan.Workers p s workers slots records ticks) told =
+    HasProgram (asked_by slots records ticks) told.program
+    × HasScript workers_script_meaning told.script
 
 -- the words ask for something, and all that they ask for is served
 abbrev pub IsServed : Option Plan → Sources → Type 0

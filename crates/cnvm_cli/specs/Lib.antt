@@ -13,5 +13,6 @@ pub mod StatusNumber
 pub mod StormMeant
 pub mod Stormed
 pub mod Verdict
+pub mod WorkersEnds
 pub mod World
 pub mod inside

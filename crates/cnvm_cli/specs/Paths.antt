@@ -22,3 +22,9 @@ paths_in (Some (plan.Run program script slots records ticks opened saved)) = rec
 }
 paths_in (Some (plan.List program)) = program_alone program
 paths_in (Some (plan.Storm program start count slots records ticks)) = program_alone program
+paths_in (Some (plan.Workers program script workers slots records ticks)) = record {
+  program = program;
+  script = script;
+  image_in = [];
+  image_out = [];
+}

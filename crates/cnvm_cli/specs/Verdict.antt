@@ -1,6 +1,7 @@
 -- What the program and the script call for, in the order of work: the first of them that is
 -- refused, or a run of the script's commands on a pool of the program.
-use Rattle.std.specs.Prelude.{ℕ, List, ◌≡◌, ◌<◌, ◌≤◌, length, Ok, Err, Option, Some, None, ⊤, ◌⊎◌}
+use Rattle.std.specs.Prelude.{ℕ, List, ◌≡◌, ◌<◌, ◌≤◌, length, Result, Ok, Err, Option, Some, None}
+use Rattle.std.specs.Prelude.{⊤, ◌⊎◌}
 use Rattle.cnvm_script.specs.declared.command.Command.{Command}
 use Rattle.cnvm_script.specs.Commands.{script_meaning}
 use Rattle.cnvm_compile.specs.declared.front_end.ProgramFault.{ProgramFault}
@@ -41,11 +42,18 @@ IsAccepted asked text = (compiled : Compiled) × IsCompiled asked text compiled
 abbrev pub IsLongScript : List ℕ → Type 0
 IsLongScript script = 1048576 < length script
 
-abbrev pub IsBadScript : ℕ → List ℕ → Type 0
-IsBadScript number script = (length script ≤ 1048576) × (script_meaning script ≡ Err number)
+-- the commands of a text, or the number of its first bad line
+abbrev pub Grammar : Type 0 → Type 0
+Grammar C = List ℕ → Result (List C) ℕ
+
+abbrev pub IsBadIn : {C : Type 0} → Grammar C → ℕ → List ℕ → Type 0
+IsBadIn means number script = (length script ≤ 1048576) × (means script ≡ Err number)
+
+abbrev pub SpellsIn : {C : Type 0} → Grammar C → List C → List ℕ → Type 0
+SpellsIn means commands script = (length script ≤ 1048576) × (means script ≡ Ok commands)
 
 abbrev pub HasCommands : List Command → List ℕ → Type 0
-HasCommands commands script = (length script ≤ 1048576) × (script_meaning script ≡ Ok commands)
+HasCommands commands script = SpellsIn script_meaning commands script
 
 -- the program is refused for this; of a source that failed, and of want of memory, nothing is said
 abbrev pub ProgramRefuses : (program : Option (List ℕ)) → Refused → Type 0
@@ -57,19 +65,23 @@ ProgramRefuses program refused.ReadFault = ⊤
 ProgramRefuses program refused.NoMemory = ⊤
 ProgramRefuses program _ = ⊥
 
--- the script is refused for this
-abbrev pub ScriptRefuses : (script : Option (List ℕ)) → Refused → Type 0
-ScriptRefuses script refused.LongScript = OfBytes script IsLongScript
-ScriptRefuses script (refused.Script number) = OfBytes script (IsBadScript number)
-ScriptRefuses script refused.ReadFault = ⊤
-ScriptRefuses script refused.NoMemory = ⊤
-ScriptRefuses script _ = ⊥
+-- the script of this grammar is refused for this
+abbrev pub ScriptRefuses : {C : Type 0} → Grammar C → (script : Option (List ℕ)) → Refused → Type 0
+ScriptRefuses means script refused.LongScript = OfBytes script IsLongScript
+ScriptRefuses means script (refused.Script number) = OfBytes script (IsBadIn means number)
+ScriptRefuses means script refused.ReadFault = ⊤
+ScriptRefuses means script refused.NoMemory = ⊤
+ScriptRefuses means script _ = ⊥
 
 -- the program is refused for this; or it is accepted, and the script is refused for this
-abbrev pub TextsRefuse : Asked → (program script : Option (List ℕ)) → Refused → Type 0
-TextsRefuse asked program script why =
+abbrev pub RefuseIn : {C : Type 0} → Grammar C → Asked → (program script : Option (List ℕ))
+    → Refused → Type 0
+RefuseIn means asked program script why =
     ProgramRefuses program why
-    ⊎ (OfBytes program (IsAccepted asked) × ScriptRefuses script why)
+    ⊎ (OfBytes program (IsAccepted asked) × ScriptRefuses means script why)
+
+abbrev pub TextsRefuse : Asked → (program script : Option (List ℕ)) → Refused → Type 0
+TextsRefuse asked program script why = RefuseIn script_meaning asked program script why
 
 -- the compiled program and the commands that the two texts give
 abbrev pub TextsGive : Asked → (program script : Option (List ℕ)) → Compiled → List Command

@@ -75,6 +75,16 @@ fn paths_in(alloc: Global, plan: Plan) -> Paths
         },
         Plan::List { program_path } => program_alone(alloc, program_path),
         Plan::Storm { program_path, .. } => program_alone(alloc, program_path),
+        Plan::Workers {
+            program_path,
+            script_path,
+            ..
+        } => Paths {
+            program: program_path,
+            script: script_path,
+            image_in: Text::new(alloc),
+            image_out: Text::new(alloc),
+        },
     }
 }
 

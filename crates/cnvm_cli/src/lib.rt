@@ -12,6 +12,7 @@ mod refused;
 mod run;
 mod status;
 mod storm;
+mod workers;
 mod writing;
 
 pub use cnvm_compile::{Asked, Compiled, ProgramFault, compile, list_text};

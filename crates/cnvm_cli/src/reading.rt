@@ -21,10 +21,14 @@ use std::alloc::Global;
 const PROGRAM_LIMIT: usize = 262144;
 
 /// The most bytes of a script.
-const SCRIPT_LIMIT: usize = 1048576;
+pub(crate) const SCRIPT_LIMIT: usize = 1048576;
 
 /// All bytes of the source, if they are within the limit.
-fn read_text<S: Source>(alloc: Global, source: &mut S, limit: usize) -> Result<Bytes, ReadAllFault>
+pub(crate) fn read_text<S: Source>(
+    alloc: Global,
+    source: &mut S,
+    limit: usize,
+) -> Result<Bytes, ReadAllFault>
     requires { limit ≤ 2 ^ 31 }
     ensures told { (text : List ℕ) → S.left source.old ≡ Some text → TextIs limit result text }
     ensures within { IfOk result (λ bytes. length bytes ≤ limit) }

@@ -34,7 +34,8 @@ pub enum Refused {
 }
 
 /// The usage line.
-const USAGE: &str = "usage: cnvm run PROGRAM SCRIPT | list PROGRAM | storm PROGRAM START COUNT\n";
+const USAGE: &str = "usage: cnvm run PROGRAM SCRIPT | list PROGRAM \
+    | storm PROGRAM START COUNT | workers PROGRAM SCRIPT\n";
 
 /// Reports a refusal; the status is the refusal's. Of a source or a device that failed, and of want
 /// of memory, nothing is reported.

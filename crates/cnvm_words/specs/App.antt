@@ -1,5 +1,5 @@
--- The words in clap's terms: one command with the subcommands run, list and storm. Each option is
--- named in full, takes one value and is given at most once; help and version are off.
+-- The words in clap's terms: one command with the subcommands run, list, storm and workers. Each
+-- option is named in full, takes one value and is given at most once; help and version are off.
 use Rattle.std.specs.Prelude.{Some, true, codes}
 use Rattle.clap.specs.Words.{App, Rule, Text, new_app, new_rule, with_rule, with_subcommand}
 use Rattle.clap.specs.declared.builder.action.ArgAction.TheVariants.{Set}
@@ -35,6 +35,14 @@ storm_app =
     (place_rule (codes "start")))
     (place_rule (codes "count")))
 
+abbrev pub workers_app : App
+workers_app =
+    sized
+    (with_rule
+    (with_rule (with_rule (new_app (codes "workers")) (place_rule (codes "program")))
+    (place_rule (codes "script")))
+    (option_rule (codes "workers")))
+
 -- the words have no program name, and a subcommand is required
 abbrev pub bare_app : App
 bare_app = let a = new_app (codes "cnvm") in record a {
@@ -48,5 +56,8 @@ bare_app = let a = new_app (codes "cnvm") in record a {
 }
 
 abbrev pub cnvm_app : App
-cnvm_app = with_subcommand (with_subcommand (with_subcommand bare_app run_app.top) list_app.top)
-    storm_app.top
+cnvm_app =
+    with_subcommand
+    (with_subcommand (with_subcommand (with_subcommand bare_app run_app.top) list_app.top)
+    storm_app.top)
+    workers_app.top

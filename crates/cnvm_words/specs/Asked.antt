@@ -1,14 +1,14 @@
 -- What the words ask for: they are read by clap, and then each number is read, which has 1 to 10
 -- digits and lies within its limits.
-use Rattle.std.specs.Prelude.{ℕ, List, Option, None, Some, Bool, nat_le, ◌&&◌, if◌then◌else◌, codes}
-use Rattle.std.specs.Prelude.{option_and_then, option_map}
+use Rattle.std.specs.Prelude.{ℕ, ◌≤◌, List, Option, None, Some, Bool, nat_le, ◌&&◌, if◌then◌else◌}
+use Rattle.std.specs.Prelude.{codes, option_and_then, option_map}
 use Rattle.std.specs.Str.{bytes_eq}
 use Rattle.clap.specs.Walk.{is_empty}
 use Rattle.clap.specs.Words.{Text, Row, first_of, fault_of, subcommand_of}
 use Rattle.cnvm_script.specs.Number.{bounded_numeral}
 use Rattle.cnvm_words.specs.App.{cnvm_app}
 use Rattle.cnvm_words.specs.declared.plan.Plan.{Plan}
-use Rattle.cnvm_words.specs.declared.plan.Plan.TheVariants.{Run, List as Listing, Storm}
+use Rattle.cnvm_words.specs.declared.plan.Plan.TheVariants.{Run, List as Listing, Storm, Workers}
 
 abbrev pub in_limits : (least most n : ℕ) → Option ℕ
 in_limits least most n = if nat_le least n && nat_le n most then Some n else None
@@ -53,14 +53,30 @@ storm_plan rows =
     (option_and_then (number_between 0 2147483647) (first_of (codes "start") rows)))
     (first_of (codes "program") rows)
 
+abbrev pub workers_plan : List Row → Option Plan
+workers_plan rows =
+    option_and_then (λ program. option_and_then (λ script. option_and_then (λ workers. option_map
+    (λ pool. Workers program script workers pool.0 pool.1 pool.2)
+    (asked_pool rows))
+    (number_or 2 1 8 (first_of (codes "workers") rows)))
+    (first_of (codes "script") rows))
+    (first_of (codes "program") rows)
+
 -- the plan of a subcommand with these rows
 abbrev pub subcommand_plan : Text → List Row → Option Plan
 subcommand_plan name rows =
     if bytes_eq name (codes "run") then run_plan rows
-    else (if bytes_eq name (codes "list") then list_plan rows else storm_plan rows)
+    else (if bytes_eq name (codes "list") then list_plan rows
+    else (if bytes_eq name (codes "workers") then workers_plan rows
+    else storm_plan rows))
 
 -- the plan of the words; none if they ask for nothing that exists
 abbrev pub plan_of : List Text → Option Plan
 plan_of words =
     if is_empty (fault_of cnvm_app words) then option_and_then (λ p. subcommand_plan p.0 p.1)
     (subcommand_of cnvm_app words) else None
+
+-- a plan of workers has from 1 to 8
+abbrev pub HasWorkers : Plan → Type 0
+HasWorkers (Workers program script workers slots records ticks) = (1 ≤ workers) × (workers ≤ 8)
+HasWorkers _ = Unit {0}

@@ -30,6 +30,15 @@ pub enum Plan {
         records: u64,
         ticks: u64,
     },
+    /// Runs a script of several workers on one device. `workers` is from 1 to 8.
+    Workers {
+        program_path: Text,
+        script_path: Text,
+        workers: u64,
+        slots: u64,
+        records: u64,
+        ticks: u64,
+    },
 }
 
 /// Why words give no plan.

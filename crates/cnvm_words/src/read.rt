@@ -1,13 +1,15 @@
 //! Reads the words and makes the plan.
 
-ghost use Rattle.std.specs.Prelude.{◌≡◌, ◌<◌, ◌≤◌, Some, None, IfOk, IfErr, Err, option_map};
-ghost use Rattle.std.specs.Prelude.{option_and_then, map, string_bytes, false, []};
+ghost use Rattle.std.specs.Prelude.{◌≡◌, ◌<◌, ◌≤◌, Some, None, IfOk, IfSome, IfErr, Err};
+ghost use Rattle.std.specs.Prelude.{option_map, option_and_then, map, string_bytes, false, []};
+ghost use Rattle.std.specs.Prelude.{codes};
 ghost use Rattle.clap.specs.Walk.{is_empty};
 ghost use Rattle.clap.specs.Words.{rows_of, found_of, first_of, fault_of, subcommand_of};
 ghost use Rattle.clap.specs.Words.{subcommand_rows_of};
 ghost use Rattle.cnvm_words.specs.App.{cnvm_app};
 ghost use Rattle.cnvm_words.specs.Asked.{in_limits, number_between, number_or, asked_pool};
-ghost use Rattle.cnvm_words.specs.Asked.{run_plan, list_plan, storm_plan, subcommand_plan, plan_of};
+ghost use Rattle.cnvm_words.specs.Asked.{run_plan, list_plan, storm_plan, workers_plan};
+ghost use Rattle.cnvm_words.specs.Asked.{subcommand_plan, plan_of, HasWorkers};
 
 use crate::command::cnvm_command;
 use crate::plan::{Plan, WordsFault};
@@ -55,7 +57,8 @@ fn image_at(alloc: Global, matches: &ArgMatches<'_>, id: &str) -> Result<Option<
 }
 
 fn in_limits(least: u64, most: u64, n: u64) -> Option<u64>
-    ensures { result ≡ in_limits least most n }
+    ensures value { result ≡ in_limits least most n }
+    ensures within { IfSome result (λ k. (least ≤ k) × (k ≤ most)) }
 {
     if least <= n && n <= most {
         return Some(n);
@@ -64,7 +67,8 @@ fn in_limits(least: u64, most: u64, n: u64) -> Option<u64>
 }
 
 fn number(least: u64, most: u64, text: &str) -> Option<u64>
-    ensures { result ≡ number_between least most text.now }
+    ensures value { result ≡ number_between least most text.now }
+    ensures within { IfSome result (λ k. (least ≤ k) × (k ≤ most)) }
 {
     in_limits(least, most, numeral(text.as_bytes(), 10)?)
 }
@@ -79,8 +83,10 @@ fn number_at(matches: &ArgMatches<'_>, id: &str, least: u64, most: u64) -> Optio
 
 /// An optional number.
 fn number_or(matches: &ArgMatches<'_>, id: &str, default: u64, least: u64, most: u64) -> Option<u64>
-    ensures { result ≡ number_or default least most
+    ensures value { result ≡ number_or default least most
         (first_of id.now (rows_of (found_of matches.now))) }
+    ensures within { least ≤ default → default ≤ most
+        → IfSome result (λ k. (least ≤ k) × (k ≤ most)) }
 {
     match text_at(matches, id) {
         Some(text) => number(least, most, text),
@@ -100,6 +106,7 @@ fn pool_of(matches: &ArgMatches<'_>) -> Option<(u64, u64, u64)>
 
 fn run_plan(alloc: Global, matches: &ArgMatches<'_>) -> Result<Plan, WordsFault>
     ensures ok { IfOk result (λ p. run_plan (rows_of (found_of matches.now)) ≡ Some p) }
+    ensures few { IfOk result (λ p. HasWorkers p) }
     ensures usage { result ≡ Err WordsFault.Usage
         → run_plan (rows_of (found_of matches.now)) ≡ None }
 {
@@ -121,6 +128,7 @@ fn run_plan(alloc: Global, matches: &ArgMatches<'_>) -> Result<Plan, WordsFault>
 
 fn list_plan(alloc: Global, matches: &ArgMatches<'_>) -> Result<Plan, WordsFault>
     ensures ok { IfOk result (λ p. list_plan (rows_of (found_of matches.now)) ≡ Some p) }
+    ensures few { IfOk result (λ p. HasWorkers p) }
     ensures usage { result ≡ Err WordsFault.Usage
         → list_plan (rows_of (found_of matches.now)) ≡ None }
 {
@@ -131,6 +139,7 @@ fn list_plan(alloc: Global, matches: &ArgMatches<'_>) -> Result<Plan, WordsFault
 
 fn storm_plan(alloc: Global, matches: &ArgMatches<'_>) -> Result<Plan, WordsFault>
     ensures ok { IfOk result (λ p. storm_plan (rows_of (found_of matches.now)) ≡ Some p) }
+    ensures few { IfOk result (λ p. HasWorkers p) }
     ensures usage { result ≡ Err WordsFault.Usage
         → storm_plan (rows_of (found_of matches.now)) ≡ None }
 {
@@ -154,10 +163,44 @@ fn storm_plan(alloc: Global, matches: &ArgMatches<'_>) -> Result<Plan, WordsFaul
     })
 }
 
+/// The number of workers.
+fn workers_of(matches: &ArgMatches<'_>) -> Option<u64>
+    ensures value { result ≡ number_or 2 1 8
+        (first_of (codes "workers") (rows_of (found_of matches.now))) }
+    ensures within { IfSome result (λ n. (1 ≤ n) × (n ≤ 8)) }
+{
+    number_or(matches, "workers", 2, 1, 8)
+}
+
+fn workers_plan(alloc: Global, matches: &ArgMatches<'_>) -> Result<Plan, WordsFault>
+    ensures ok { IfOk result (λ p. workers_plan (rows_of (found_of matches.now)) ≡ Some p) }
+    ensures few { IfOk result (λ p. HasWorkers p) }
+    ensures usage { result ≡ Err WordsFault.Usage
+        → workers_plan (rows_of (found_of matches.now)) ≡ None }
+{
+    let program_path = path_at(alloc, matches, "program")?;
+    let script_path = path_at(alloc, matches, "script")?;
+    let Some(workers) = workers_of(matches) else {
+        return Err(WordsFault::Usage);
+    };
+    let Some((slots, records, ticks)) = pool_of(matches) else {
+        return Err(WordsFault::Usage);
+    };
+    Ok(Plan::Workers {
+        program_path,
+        script_path,
+        workers,
+        slots,
+        records,
+        ticks,
+    })
+}
+
 /// The plan of a subcommand.
 fn planned(alloc: Global, name: &str, matches: &ArgMatches<'_>) -> Result<Plan, WordsFault>
     ensures ok { IfOk result (λ p. subcommand_plan name.now (rows_of (found_of matches.now))
         ≡ Some p) }
+    ensures few { IfOk result (λ p. HasWorkers p) }
     ensures usage { result ≡ Err WordsFault.Usage
         → subcommand_plan name.now (rows_of (found_of matches.now)) ≡ None }
 {
@@ -166,6 +209,9 @@ fn planned(alloc: Global, name: &str, matches: &ArgMatches<'_>) -> Result<Plan, 
     }
     if name == "list" {
         return list_plan(alloc, matches);
+    }
+    if name == "workers" {
+        return workers_plan(alloc, matches);
     }
     storm_plan(alloc, matches)
 }
@@ -190,6 +236,7 @@ fn matches_of<'a>(alloc: Global, words: &'a [String]) -> Result<ArgMatches<'a>, 
 /// numbers outside their limits, are `Usage`.
 pub fn plan_of(alloc: Global, words: &[String]) -> Result<Plan, WordsFault>
     ensures ok { IfOk result (λ p. plan_of (map string_bytes words.entry.now) ≡ Some p) }
+    ensures few { IfOk result (λ p. HasWorkers p) }
     ensures usage { result ≡ Err WordsFault.Usage
         → plan_of (map string_bytes words.entry.now) ≡ None }
 {

@@ -6,10 +6,11 @@ use Rattle.cnvm_compile.specs.declared.asked.Asked.{Asked}
 use Rattle.cnvm_compile.specs.declared.compiling.Compiled.{Compiled}
 use Rattle.cnvm_compile.specs.Compilation.{IsCompiled}
 use Rattle.cnvm_script.specs.declared.command.Command.{Command}
+use Rattle.cnvm_script.specs.Commands.{script_meaning}
 use Rattle.cnvm_cli.specs.declared.refused.Refused.{Refused}
 use Rattle.cnvm_cli.specs.declared.run.Job.{Job}
-use Rattle.cnvm_cli.specs.Verdict.{OfBytes, ProgramRefuses, ScriptRefuses, HasCommands, TextsGive}
-use Rattle.cnvm_cli.specs.Verdict.{TextsRefuse}
+use Rattle.cnvm_cli.specs.Verdict.{OfBytes, ProgramRefuses, Grammar, SpellsIn, ScriptRefuses}
+use Rattle.cnvm_cli.specs.Verdict.{TextsGive, TextsRefuse}
 
 -- all bytes of the source; or it has more than the limit
 abbrev pub TextIs : ℕ → Result (List ℕ) ReadAllFault → List ℕ → Type 0
@@ -22,10 +23,14 @@ abbrev pub ProgramReadAs : Asked → Result Compiled Refused → (program : Opti
 ProgramReadAs asked (Ok compiled) program = OfBytes program (λ text. IsCompiled asked text compiled)
 ProgramReadAs asked (Err why) program = ProgramRefuses program why
 
--- what the reader of a script answers
+-- what the reader of a script of this grammar answers
+abbrev pub ReadIn : {C : Type 0} → Grammar C → Result (List C) Refused
+    → (script : Option (List ℕ)) → Type 0
+ReadIn means (Ok commands) script = OfBytes script (SpellsIn means commands)
+ReadIn means (Err why) script = ScriptRefuses means script why
+
 abbrev pub ScriptReadAs : Result (List Command) Refused → (script : Option (List ℕ)) → Type 0
-ScriptReadAs (Ok commands) script = OfBytes script (HasCommands commands)
-ScriptReadAs (Err why) script = ScriptRefuses script why
+ScriptReadAs r script = ReadIn script_meaning r script
 
 -- a job is made of what the texts give, or the texts are refused
 abbrev pub PreparedAs : Result Job Refused → Asked → (program script : Option (List ℕ)) → Type 0

@@ -1,4 +1,5 @@
 use Rattle.std.proofs.Common.{◌∙◌}
+use Rattle.cnvm_script.specs.Commands.{script_meaning}
 use Rattle.cnvm_cli.proofs.Sources.{of_long, script_read}
 use Rattle.cnvm_cli.proofs.Verdicts.{text_long}
 use Rattle.cnvm_cli.proofs.reading.read_commands.Goals as goal
@@ -11,5 +12,5 @@ returns-in-Err-Long-clause-told g c =
 
 pub returns-clause-told : goal.returns-clause-told
 returns-clause-told g c =
-    script_read _ c.commands_of.result _
+    script_read script_meaning _ c.commands_of.result _
     (λ text told. c.as_slice.ensures ∙ (c.in-Ok.ensures.told text told).0) c.commands_of.ensures.are

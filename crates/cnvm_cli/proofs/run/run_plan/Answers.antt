@@ -7,3 +7,7 @@ returns-in-Run-clause-ends g c =
 
 pub returns-in-Storm-clause-ends : goal.returns-in-Storm-clause-ends
 returns-in-Storm-clause-ends g c = rw c.in-Storm.is (c.run_storm.ensures.ends, keeps_same _)
+
+pub returns-in-Workers-clause-ends : goal.returns-in-Workers-clause-ends
+returns-in-Workers-clause-ends g c =
+    rw c.in-Workers.is (c.run_script.ensures.ends, keeps_same _)

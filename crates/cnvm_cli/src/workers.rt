@@ -1,0 +1,128 @@
+//! Runs a script of workers.
+
+ghost use Rattle.std.specs.Prelude.{◌≡◌, ◌≢◌, ◌≤◌, ◌⊎◌, Some, length, OnOk, IsErrOf};
+ghost use Rattle.std.specs.Io.KnownBytes.{IsAtEnd};
+ghost use Rattle.nvm_base.specs.Rose.{Rose};
+ghost use Rattle.pmem.specs.Device as device;
+ghost use Rattle.workers_script.specs.WorkersGrammar.{workers_script_meaning};
+ghost use Rattle.cnvm_cli.specs.WorkersEnds.{WorkersRanAs, WorkersEnds};
+ghost use Rattle.cnvm_cli.specs.inside.Texts.{ReadIn};
+
+use crate::reading::{SCRIPT_LIMIT, read_program, read_text};
+use crate::refused::{Refused, refuse};
+use crate::status::Status;
+use cnvm_compile::Asked;
+use cnvm_script::ScriptFault;
+use cnvm_session::Program;
+use nvm_base::{ReadAllFault, Sink, Source, Steps};
+use pmem::Pmem;
+use std::alloc::Global;
+use std::sync::ledger::Ledger;
+use workers_run::{RunFault, run_workers};
+use workers_script::{WorkersCommand, WorkersScript, read_workers};
+
+/// Reads the program and the script, and runs the script's commands on a new pool of compartments,
+/// one for each of so many workers.
+pub(crate) fn run_script<S: Source, T: Source, K: Sink, P: Pmem + Drop, L: Ledger>(
+    alloc: Global,
+    asked: Asked,
+    count: u32,
+    program: &mut S,
+    script: &mut T,
+    out: &mut K,
+    dev: &mut P,
+    steps: &mut Steps<L>,
+) -> Status
+    requires first { 1 ≤ count }
+    requires last { count ≤ 8 }
+    ensures read { result ≡ Status.ReadFault
+        → Rose (S.faults program.old) (S.faults program.new)
+        ⊎ Rose (T.faults script.old) (T.faults script.new) }
+    ensures usage { result ≢ Status.Usage }
+    ensures write { result ≡ Status.WriteFault → Rose (K.faults out.old) (K.faults out.new) }
+    ensures device { result ≡ Status.DeviceFault
+        → device.FaultsRose (P.device dev.old).faults (P.device dev.new).faults }
+    ensures program_end { result ≡ Status.Done → IsAtEnd (S.left program.new) }
+    ensures script_end { result ≡ Status.Done → IsAtEnd (T.left script.new) }
+    ensures ends { WorkersEnds asked count (S.left program.old) (T.left script.old) result
+        (K.written out.old) (K.written out.new) (P.device dev.old) (P.device dev.new) steps.old
+        steps.new }
+{
+    let compiled = match read_program(alloc, program, asked) {
+        Ok(compiled) => compiled,
+        Err(refused) => return refuse(alloc, refused, out),
+    };
+    match read_turns(alloc, script) {
+        Ok(commands) => run_turns(
+            alloc,
+            &compiled.program,
+            count,
+            commands.as_slice(),
+            out,
+            dev,
+            steps,
+        ),
+        Err(refused) => refuse(alloc, refused, out),
+    }
+}
+
+/// Reads the script to its end.
+fn read_turns<T: Source>(alloc: Global, source: &mut T) -> Result<WorkersScript, Refused>
+    ensures told { ReadIn workers_script_meaning result (T.left source.old) }
+    ensures end { OnOk result (IsAtEnd (T.left source.new)) }
+    ensures read { IsErrOf result Refused.ReadFault
+        → Rose (T.faults source.old) (T.faults source.new) }
+    ensures usage { IsErrOf result Refused.Usage → ⊥ }
+    ensures device { IsErrOf result Refused.Device → ⊥ }
+{
+    let text = match read_text(alloc, source, SCRIPT_LIMIT) {
+        Ok(text) => text,
+        Err(ReadAllFault::ReadFault) => return Err(Refused::ReadFault),
+        Err(ReadAllFault::Long) => return Err(Refused::LongScript),
+        Err(ReadAllFault::NoMemory) => return Err(Refused::NoMemory),
+    };
+    turns_of(alloc, text.as_slice())
+}
+
+/// The commands of a script's text.
+fn turns_of(alloc: Global, text: &[u8]) -> Result<WorkersScript, Refused>
+    requires { length text.now ≤ 1048576 }
+    ensures are { ReadIn workers_script_meaning result (Some text.now) }
+    ensures read { IsErrOf result Refused.ReadFault → ⊥ }
+    ensures usage { IsErrOf result Refused.Usage → ⊥ }
+    ensures device { IsErrOf result Refused.Device → ⊥ }
+{
+    match read_workers(alloc, text) {
+        Ok(script) => Ok(script),
+        Err(ScriptFault::BadLine(line)) => Err(Refused::Script(line)),
+        Err(ScriptFault::NoMemory) => Err(Refused::NoMemory),
+    }
+}
+
+/// Runs the commands.
+fn run_turns<K: Sink, P: Pmem + Drop, L: Ledger>(
+    alloc: Global,
+    program: &Program,
+    count: u32,
+    commands: &[WorkersCommand],
+    out: &mut K,
+    dev: &mut P,
+    steps: &mut Steps<L>,
+) -> Status
+    requires first { 1 ≤ count }
+    requires last { count ≤ 8 }
+    ensures read { result ≢ Status.ReadFault }
+    ensures usage { result ≢ Status.Usage }
+    ensures write { result ≡ Status.WriteFault → Rose (K.faults out.old) (K.faults out.new) }
+    ensures device { result ≡ Status.DeviceFault
+        → device.FaultsRose (P.device dev.old).faults (P.device dev.new).faults }
+    ensures ran { WorkersRanAs program.now count commands.now result (K.written out.old)
+        (K.written out.new) (P.device dev.old) (P.device dev.new) steps.old steps.new }
+{
+    match run_workers(alloc, program, count, commands, out, dev, steps) {
+        Ok(()) => Status::Done,
+        Err(RunFault::Device) => Status::DeviceFault,
+        Err(RunFault::NoMemory) => Status::NoMemory,
+        Err(RunFault::Write) => Status::WriteFault,
+    }
+}
