@@ -33,6 +33,7 @@ use Rattle.cnvm_cli.specs.Verdict.{ProgramRefuses, ScriptRefuses, RefuseIn, aske
 use Rattle.cnvm_cli.specs.Run.{Uncreated, TellsAs, RefusedAs}
 use Rattle.cnvm_cli.specs.Opened.{wanted_of, read_part, ImageRefuses, Unopened}
 use Rattle.cnvm_cli.specs.Saved.{SavedAs}
+use Rattle.cnvm_cli.specs.WhyEnds.{WhyEnds}
 use Rattle.cnvm_cli.specs.WorkersEnds.{make_fault, WorkersRanAs, WorkersEnds}
 use Rattle.cnvm_cli.specs.World.{Sources, Outside}
 use Rattle.cnvm_cli.specs.Meant.{Start, Fresh, FromImage, start_if}
@@ -281,6 +282,13 @@ list_kept p result w w' has ends refuses =
     told.2 refuses)
     (λ ran. written_kept _ result w w' ran.2 refuses) ends
 
+why_kept : (p : Option (List ℕ)) (result : Status) (w w' : Option (List ℕ))
+    → HasProgram listing_sizes p → WhyEnds p result w w' → IsRefusalStatus result → ⊥
+why_kept p result w w' has ends refuses =
+    ⊎_elim (λ told. quiet_kept told.0 result w w' (program_quiet listing_sizes p has told.0 told.1)
+    told.2 refuses)
+    (λ ran. written_kept _ result w w' ran.4 refuses) ends
+
 storm_kept : (asked : Asked) (start count : ℕ) (p : Option (List ℕ)) (result : Status)
     (w w' : Option (List ℕ)) (d d' : Device) (k k' : ℕ)
     → HasProgram asked p → StormEnds asked start count p result w w' d d' k k'
@@ -322,6 +330,8 @@ plan_kept (plan.Storm p start count slots records ticks) told result before afte
     storm_kept (asked_by slots records ticks) start count told.program
     result before.out after.out before.dev
     after.dev before.steps after.steps has ends.0 refuses
+plan_kept (plan.Why p) told result before after has ends refuses =
+    why_kept told.program result before.out after.out has ends.0 refuses
 plan_kept (plan.Workers p s workers slots records ticks) told result before after has
     ends refuses =
     workers_kept (asked_by slots records ticks) workers told.program told.script

@@ -315,6 +315,7 @@ plan_meant (plan.Storm p start count slots records ticks) told result before aft
       before.dev after.dev before.steps after.steps ends.0,
   ends.1,
 )
+plan_meant (plan.Why p) told result before after ends = ends
 plan_meant (plan.Workers p s workers slots records ticks) told result before after ends = ends
 
 -- words that make a plan
@@ -344,5 +345,7 @@ memory_meant (Some (plan.List p)) told before after keeps same =
     (inl (refused.NoMemory, tt, (refl, keeps)), same)
 memory_meant (Some (plan.Storm p start count slots records ticks)) told before after keeps same =
     (inl (refused.NoMemory, tt, (refl, keeps), same.1, same.2), same.0)
+memory_meant (Some (plan.Why p)) told before after keeps same =
+    (inl (refused.NoMemory, tt, (refl, keeps)), same)
 memory_meant (Some (plan.Workers p s workers slots records ticks)) told before after keeps same =
     (inl (refused.NoMemory, inl tt, (refl, keeps), same.1, same.2), same.0)

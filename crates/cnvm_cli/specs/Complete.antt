@@ -46,6 +46,7 @@ IsPlanServed (plan.Run p s slots records ticks from save) told =
 IsPlanServed (plan.List p) told = HasProgram listing_sizes told.program
 IsPlanServed (plan.Storm p start count slots records ticks) told =
     HasProgram (asked_by slots records ticks) told.program
+IsPlanServed (plan.Why p) told = HasProgram listing_sizes told.program
 IsPlanServed (plan.Workers p s workers slots records ticks) told =
     HasProgram (asked_by slots records ticks) told.program
     × HasScript workers_script_meaning told.script

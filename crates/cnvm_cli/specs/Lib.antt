@@ -13,6 +13,7 @@ pub mod StatusNumber
 pub mod StormMeant
 pub mod Stormed
 pub mod Verdict
+pub mod WhyEnds
 pub mod WorkersEnds
 pub mod World
 pub mod inside

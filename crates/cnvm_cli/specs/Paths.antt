@@ -22,6 +22,7 @@ paths_in (Some (plan.Run program script slots records ticks opened saved)) = rec
 }
 paths_in (Some (plan.List program)) = program_alone program
 paths_in (Some (plan.Storm program start count slots records ticks)) = program_alone program
+paths_in (Some (plan.Why program)) = program_alone program
 paths_in (Some (plan.Workers program script workers slots records ticks)) = record {
   program = program;
   script = script;

@@ -10,5 +10,6 @@ IsRead (plan.Run p s slots records ticks from save) program script =
     IsAtEnd program × IsAtEnd script
 IsRead (plan.List p) program script = IsAtEnd program
 IsRead (plan.Storm p start count slots records ticks) program script = IsAtEnd program
+IsRead (plan.Why p) program script = IsAtEnd program
 IsRead (plan.Workers p s workers slots records ticks) program script =
     IsAtEnd program × IsAtEnd script

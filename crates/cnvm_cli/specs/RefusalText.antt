@@ -49,8 +49,9 @@ fault_line (image.Content word value) =
 fault_line image.NoMemory = []
 
 abbrev pub refusal_line : Refused → List ℕ
-refusal_line refused.Usage = codes
-    "usage: cnvm run PROGRAM SCRIPT | list PROGRAM | storm PROGRAM START COUNT | workers PROGRAM SCRIPT\n"
+refusal_line refused.Usage =
+    codes "usage: cnvm run PROGRAM SCRIPT | list PROGRAM"
+    ++ codes " | storm PROGRAM START COUNT | why PROGRAM | workers PROGRAM SCRIPT\n"
 refusal_line refused.LongProgram = codes "program too long\n"
 refusal_line (refused.Program line complaint) = complaint_line line complaint
 refusal_line refused.LongScript = codes "script too long\n"

@@ -75,6 +75,7 @@ fn paths_in(alloc: Global, plan: Plan) -> Paths
         },
         Plan::List { program_path } => program_alone(alloc, program_path),
         Plan::Storm { program_path, .. } => program_alone(alloc, program_path),
+        Plan::Why { program_path } => program_alone(alloc, program_path),
         Plan::Workers {
             program_path,
             script_path,

@@ -35,7 +35,7 @@ pub enum Refused {
 
 /// The usage line.
 const USAGE: &str = "usage: cnvm run PROGRAM SCRIPT | list PROGRAM \
-    | storm PROGRAM START COUNT | workers PROGRAM SCRIPT\n";
+    | storm PROGRAM START COUNT | why PROGRAM | workers PROGRAM SCRIPT\n";
 
 /// Reports a refusal; the status is the refusal's. Of a source or a device that failed, and of want
 /// of memory, nothing is reported.

@@ -10,8 +10,6 @@ mod complaint;
 mod front_end;
 mod law;
 mod listing;
-mod site_rows;
-mod target_name;
 mod told;
 
 pub use asked::Asked;

@@ -1,13 +1,12 @@
 //! The listing of a program's store sites: which of them are logged.
 
 ghost use Rattle.std.specs.Prelude.{◌≡◌, ◌++◌, length, flat_map, OnOk, IfOk};
-ghost use Rattle.cnvm_compile.specs.Listing.{function_name, row_line, logged_rows, listing};
+ghost use Rattle.cnvm_compile.specs.Listing.{row_line, logged_rows, listing};
 
 use crate::compiling::Compiled;
-use crate::site_rows::{Row, rows_of};
 use clobber_pass::MarkTable;
-use ir::IrFunction;
 use nvm_base::Text;
+use site_lines::{Row, push_head, rows_of};
 use std::alloc::{AllocError, Global};
 
 /// The listing: one line for each store site, in code order, and a last line with the number of
@@ -52,26 +51,11 @@ fn push_line(
     ensures { OnOk result (text.new ≡ text.old ++ row_line compiled.now.marks
         compiled.now.ir.functions row.now) }
 {
-    let line = row.line;
-    let number = format!(in alloc; " line {line} ")?;
-    let functions = compiled.ir.functions.as_slice();
-    text.push(function_name(functions, row.site.function))?;
-    text.push(number.as_str())?;
-    text.push(row.target.as_str())?;
+    push_head(alloc, text, compiled.ir.functions.as_slice(), row)?;
     if compiled.marks.logged(row.site) {
         text.push(" log\n")
     } else {
         text.push(" plain\n")
-    }
-}
-
-/// The name of the function with that number, empty if there is none.
-fn function_name(functions: &[IrFunction], number: u32) -> &str
-    ensures { result.now ≡ function_name functions.now number }
-{
-    match functions.get(number as usize) {
-        Some(function) => function.name.as_str(),
-        None => "",
     }
 }
 

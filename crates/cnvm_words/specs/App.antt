@@ -1,5 +1,6 @@
--- The words in clap's terms: one command with the subcommands run, list, storm and workers. Each
--- option is named in full, takes one value and is given at most once; help and version are off.
+-- The words in clap's terms: one command with the subcommands run, list, storm, why and workers.
+-- Each option is named in full, takes one value and is given at most once; help and version are
+-- off.
 use Rattle.std.specs.Prelude.{Some, true, codes}
 use Rattle.clap.specs.Words.{App, Rule, Text, new_app, new_rule, with_rule, with_subcommand}
 use Rattle.clap.specs.declared.builder.action.ArgAction.TheVariants.{Set}
@@ -35,6 +36,9 @@ storm_app =
     (place_rule (codes "start")))
     (place_rule (codes "count")))
 
+abbrev pub why_app : App
+why_app = with_rule (new_app (codes "why")) (place_rule (codes "program"))
+
 abbrev pub workers_app : App
 workers_app =
     sized
@@ -58,6 +62,8 @@ bare_app = let a = new_app (codes "cnvm") in record a {
 abbrev pub cnvm_app : App
 cnvm_app =
     with_subcommand
+    (with_subcommand
     (with_subcommand (with_subcommand (with_subcommand bare_app run_app.top) list_app.top)
     storm_app.top)
+    why_app.top)
     workers_app.top

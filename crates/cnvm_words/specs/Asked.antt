@@ -8,7 +8,8 @@ use Rattle.clap.specs.Words.{Text, Row, first_of, fault_of, subcommand_of}
 use Rattle.cnvm_script.specs.Number.{bounded_numeral}
 use Rattle.cnvm_words.specs.App.{cnvm_app}
 use Rattle.cnvm_words.specs.declared.plan.Plan.{Plan}
-use Rattle.cnvm_words.specs.declared.plan.Plan.TheVariants.{Run, List as Listing, Storm, Workers}
+use Rattle.cnvm_words.specs.declared.plan.Plan.TheVariants.{Run, List as Listing, Storm, Why}
+use Rattle.cnvm_words.specs.declared.plan.Plan.TheVariants.{Workers}
 
 abbrev pub in_limits : (least most n : ℕ) → Option ℕ
 in_limits least most n = if nat_le least n && nat_le n most then Some n else None
@@ -53,6 +54,9 @@ storm_plan rows =
     (option_and_then (number_between 0 2147483647) (first_of (codes "start") rows)))
     (first_of (codes "program") rows)
 
+abbrev pub why_plan : List Row → Option Plan
+why_plan rows = option_map (λ program. Why program) (first_of (codes "program") rows)
+
 abbrev pub workers_plan : List Row → Option Plan
 workers_plan rows =
     option_and_then (λ program. option_and_then (λ script. option_and_then (λ workers. option_map
@@ -67,8 +71,9 @@ abbrev pub subcommand_plan : Text → List Row → Option Plan
 subcommand_plan name rows =
     if bytes_eq name (codes "run") then run_plan rows
     else (if bytes_eq name (codes "list") then list_plan rows
+    else (if bytes_eq name (codes "why") then why_plan rows
     else (if bytes_eq name (codes "workers") then workers_plan rows
-    else storm_plan rows))
+    else storm_plan rows)))
 
 -- the plan of the words; none if they ask for nothing that exists
 abbrev pub plan_of : List Text → Option Plan

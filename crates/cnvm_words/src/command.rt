@@ -1,10 +1,10 @@
-//! The command as `clap` knows it: four subcommands, whose options take one value each.
+//! The command as `clap` knows it: five subcommands, whose options take one value each.
 
 ghost use Rattle.std.specs.Prelude.{◌≡◌, false, IfOk};
 ghost use Rattle.clap.specs.declared.builder.command.Command.TheViews.{out-Command as fields_of};
 ghost use Rattle.clap.specs.Words.{app_of, rule_of};
 ghost use Rattle.cnvm_words.specs.App.{option_rule, place_rule, bare_app, sized, run_app, list_app};
-ghost use Rattle.cnvm_words.specs.App.{storm_app, workers_app, cnvm_app};
+ghost use Rattle.cnvm_words.specs.App.{storm_app, why_app, workers_app, cnvm_app};
 
 use clap::{Arg, ArgAction, Command};
 use std::alloc::{AllocError, Global};
@@ -75,6 +75,13 @@ fn storm_command<'a>(alloc: Global) -> Result<Command<'a>, AllocError>
     with_sizes(alloc, command)
 }
 
+fn why_command<'a>(alloc: Global) -> Result<Command<'a>, AllocError>
+    ensures app { IfOk result (λ r. app_of r ≡ why_app) }
+    ensures local { IfOk result (λ r. (fields_of r).has_globals ≡ false) }
+{
+    Command::new(alloc, "why").arg(place_arg(alloc, "program"))
+}
+
 fn workers_command<'a>(alloc: Global) -> Result<Command<'a>, AllocError>
     ensures app { IfOk result (λ r. app_of r ≡ workers_app) }
     ensures local { IfOk result (λ r. (fields_of r).has_globals ≡ false) }
@@ -93,5 +100,6 @@ pub(crate) fn cnvm_command<'a>(alloc: Global) -> Result<Command<'a>, AllocError>
     let command = bare_command(alloc).subcommand(run_command(alloc)?)?;
     let command = command.subcommand(list_command(alloc)?)?;
     let command = command.subcommand(storm_command(alloc)?)?;
+    let command = command.subcommand(why_command(alloc)?)?;
     command.subcommand(workers_command(alloc)?)
 }

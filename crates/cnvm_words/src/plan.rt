@@ -30,6 +30,10 @@ pub enum Plan {
         records: u64,
         ticks: u64,
     },
+    /// Prints why each logged store of the program is logged.
+    Why {
+        program_path: Text,
+    },
     /// Runs a script of several workers on one device. `workers` is from 1 to 8.
     Workers {
         program_path: Text,

@@ -8,7 +8,7 @@ ghost use Rattle.clap.specs.Words.{rows_of, found_of, first_of, fault_of, subcom
 ghost use Rattle.clap.specs.Words.{subcommand_rows_of};
 ghost use Rattle.cnvm_words.specs.App.{cnvm_app};
 ghost use Rattle.cnvm_words.specs.Asked.{in_limits, number_between, number_or, asked_pool};
-ghost use Rattle.cnvm_words.specs.Asked.{run_plan, list_plan, storm_plan, workers_plan};
+ghost use Rattle.cnvm_words.specs.Asked.{run_plan, list_plan, storm_plan, why_plan, workers_plan};
 ghost use Rattle.cnvm_words.specs.Asked.{subcommand_plan, plan_of, HasWorkers};
 
 use crate::command::cnvm_command;
@@ -163,6 +163,17 @@ fn storm_plan(alloc: Global, matches: &ArgMatches<'_>) -> Result<Plan, WordsFaul
     })
 }
 
+fn why_plan(alloc: Global, matches: &ArgMatches<'_>) -> Result<Plan, WordsFault>
+    ensures ok { IfOk result (λ p. why_plan (rows_of (found_of matches.now)) ≡ Some p) }
+    ensures few { IfOk result (λ p. HasWorkers p) }
+    ensures usage { result ≡ Err WordsFault.Usage
+        → why_plan (rows_of (found_of matches.now)) ≡ None }
+{
+    Ok(Plan::Why {
+        program_path: path_at(alloc, matches, "program")?,
+    })
+}
+
 /// The number of workers.
 fn workers_of(matches: &ArgMatches<'_>) -> Option<u64>
     ensures value { result ≡ number_or 2 1 8
@@ -209,6 +220,9 @@ fn planned(alloc: Global, name: &str, matches: &ArgMatches<'_>) -> Result<Plan, 
     }
     if name == "list" {
         return list_plan(alloc, matches);
+    }
+    if name == "why" {
+        return why_plan(alloc, matches);
     }
     if name == "workers" {
         return workers_plan(alloc, matches);

@@ -16,6 +16,7 @@ use Rattle.cnvm_cli.specs.Meant.{Start, Fresh, FromImage, start_if}
 use Rattle.cnvm_cli.specs.Run.{RefusedAs}
 use Rattle.cnvm_cli.specs.Saved.{SavedAs}
 use Rattle.cnvm_cli.specs.Verdict.{asked_by, OfBytes, ProgramRefuses, TextsGive, TextsRefuse}
+use Rattle.cnvm_cli.specs.WhyEnds.{WhyEnds}
 use Rattle.cnvm_cli.specs.WorkersEnds.{WorkersEnds}
 use Rattle.cnvm_cli.specs.World.{Sources, Outside, IsUntouched}
 use Rattle.cnvm_cli.specs.inside.Opened.{ImageEnds}
@@ -86,6 +87,8 @@ PlanEnds (plan.Storm p start count slots records ticks) told result before after
     result before.out after.out before.dev
     after.dev before.steps after.steps
     × Keeps before.image after.image
+PlanEnds (plan.Why p) told result before after =
+    WhyEnds told.program result before.out after.out × IsUntouched before after
 PlanEnds (plan.Workers p s workers slots records ticks) told result before after =
     WorkersEnds (asked_by slots records ticks) workers told.program told.script result
     before.out after.out before.dev after.dev before.steps after.steps

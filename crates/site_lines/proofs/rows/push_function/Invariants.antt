@@ -1,6 +1,6 @@
 use Rattle.std.proofs.Common.{◌++◌, ◌≡◌, drop}
-use Rattle.cnvm_compile.specs.Listing.{rows_from}
-use Rattle.cnvm_compile.proofs.site_rows.push_function.Given as goal
+use Rattle.site_lines.specs.Rows.{rows_from}
+use Rattle.site_lines.proofs.rows.push_function.Given as goal
 
 abbrev pub invariant-loop-place : goal.invariant-loop-place
 invariant-loop-place l =

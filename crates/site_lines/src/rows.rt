@@ -2,9 +2,9 @@
 //! is written there.
 
 ghost use Rattle.std.specs.Prelude.{[], ◌∷◌, ◌≡◌, ◌++◌, OnOk, IfOk, false};
-ghost use Rattle.cnvm_compile.specs.Listing.{rows_at, rows_from, rows_of};
+ghost use Rattle.site_lines.specs.Rows.{rows_at, rows_from, rows_of};
 
-use crate::target_name::{joined, struct_name, target_name};
+use crate::names::{joined, struct_name, target_name};
 use ir::{Instruction, Ir, Site};
 use nvm_base::Text;
 use pool_map::Shapes;
@@ -13,21 +13,21 @@ use std::marker::Model;
 
 /// A store site, the line of its store, and what is written there, in words.
 #[derive(Drop)]
-pub(crate) struct Row {
-    pub(crate) site: Site,
-    pub(crate) line: u64,
-    pub(crate) target: Text,
+pub struct Row {
+    pub site: Site,
+    pub line: u64,
+    pub target: Text,
 }
 
 /// A list of rows.
 #[derive(Drop)]
-pub(crate) struct Rows {
+pub struct Rows {
     all: Vec<Row>,
 }
 
 impl Model for Rows {
     ghost use Rattle.std.specs.Prelude.{List};
-    ghost use Rattle.cnvm_compile.specs.declared.site_rows.Row.{Row};
+    ghost use Rattle.site_lines.specs.declared.rows.Row.{Row};
 
     ghost Value = { List Row };
 
@@ -35,6 +35,15 @@ impl Model for Rows {
 }
 
 impl Rows {
+    /// No rows. It takes no memory.
+    pub(crate) fn new(alloc: Global) -> Self
+        ensures { result ≡ [] }
+    {
+        Rows {
+            all: Vec::new(alloc),
+        }
+    }
+
     /// Appends one row.
     fn push(&mut self, site: Site, line: u64, target: Text) -> Result<(), AllocError>
         ensures { OnOk result (self.new ≡ self.old
@@ -44,7 +53,8 @@ impl Rows {
         Ok(())
     }
 
-    pub(crate) fn as_slice(&self) -> &[Row]
+    /// The rows as a slice.
+    pub fn as_slice(&self) -> &[Row]
         ensures { result.now ≡ self.now }
     {
         &self.all
@@ -52,12 +62,10 @@ impl Rows {
 }
 
 /// The rows of a program.
-pub(crate) fn rows_of(alloc: Global, ir: &Ir) -> Result<Rows, AllocError>
+pub fn rows_of(alloc: Global, ir: &Ir) -> Result<Rows, AllocError>
     ensures { IfOk result (λ rows. rows ≡ rows_of ir.now.shapes 0 ir.now.functions) }
 {
-    let mut rows = Rows {
-        all: Vec::new(alloc),
-    };
+    let mut rows = Rows::new(alloc);
     for (number, function) in ir.functions.as_slice().iter().enumerate() {
         let code = function.code.as_slice();
         push_function(alloc, &mut rows, &ir.shapes, number, code)?;
@@ -99,7 +107,7 @@ fn site_at(function: usize, place: usize) -> Result<Site, AllocError>
 }
 
 /// Appends the rows of one instruction: none, one, or two for a `new`.
-fn push_rows(
+pub(crate) fn push_rows(
     alloc: Global,
     rows: &mut Rows,
     shapes: &Shapes,

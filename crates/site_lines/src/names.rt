@@ -1,9 +1,10 @@
 //! The names in a listing's lines: of structs, of fields, and of what a store writes.
 
 ghost use Rattle.std.specs.Prelude.{◌≡◌, ◌++◌, IfOk};
-ghost use Rattle.cnvm_compile.specs.Listing.{struct_name, field_name, field_of_struct, target_name};
+ghost use Rattle.site_lines.specs.Rows.{function_name, struct_name, field_name};
+ghost use Rattle.site_lines.specs.Rows.{field_of_struct, target_name};
 
-use ir::Target;
+use ir::{IrFunction, Target};
 use nvm_base::Text;
 use pool_map::{FieldShapes, Shapes};
 use std::alloc::{AllocError, Global};
@@ -43,8 +44,18 @@ pub(crate) fn target_name(
     }
 }
 
+/// The name of the function with that number, empty if there is none.
+pub fn function_name(functions: &[IrFunction], number: u32) -> &str
+    ensures { result.now ≡ function_name functions.now number }
+{
+    match functions.get(number as usize) {
+        Some(function) => function.name.as_str(),
+        None => "",
+    }
+}
+
 /// The name of a field, empty if there is none.
-fn field_name(fields: &FieldShapes, field: u32) -> &str
+pub fn field_name(fields: &FieldShapes, field: u32) -> &str
     ensures { result.now ≡ field_name fields.now field }
 {
     match fields.as_slice().get(field as usize) {
@@ -54,7 +65,7 @@ fn field_name(fields: &FieldShapes, field: u32) -> &str
 }
 
 /// The name of the struct with that number, empty if there is none.
-pub(crate) fn struct_name(shapes: &Shapes, kind: u32) -> &str
+pub fn struct_name(shapes: &Shapes, kind: u32) -> &str
     ensures { result.now ≡ struct_name shapes.now kind }
 {
     if kind == 0 {
@@ -67,7 +78,7 @@ pub(crate) fn struct_name(shapes: &Shapes, kind: u32) -> &str
 }
 
 /// The name of a struct's field, empty if there is none.
-fn field_of_struct(shapes: &Shapes, kind: u32, field: u32) -> &str
+pub fn field_of_struct(shapes: &Shapes, kind: u32, field: u32) -> &str
     ensures { result.now ≡ field_of_struct shapes.now kind field }
 {
     if kind == 0 {
