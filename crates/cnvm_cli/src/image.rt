@@ -10,7 +10,7 @@ ghost use Rattle.cnvm_cli.specs.Saved.{on_again, saved_bytes};
 
 use crate::status::Status;
 use cache_model::{Choice, Picks, Rest};
-use nvm_base::{Sink, Words, write_all};
+use nvm_base::{Sink, Words, write_whole};
 use pmem::{Pmem, PmemWork};
 use pool_layout::{Sizes, image_bytes, pool_lines};
 use std::alloc::{AllocError, Global};
@@ -39,7 +39,7 @@ pub(crate) fn save<O: Sink, P: Pmem>(
     let Ok(bytes) = image_bytes(alloc, words.as_slice()) else {
         return Status::NoMemory;
     };
-    match write_all(out, bytes.as_slice()) {
+    match write_whole(out, bytes.as_slice()) {
         Ok(()) => Status::Done,
         Err(_) => Status::WriteFault,
     }

@@ -51,7 +51,7 @@ fn show_image<R: Files + Print + AllocGlobal>(rt: &R, image: &str) -> io::Result
 }
 
 /// Runs one row.
-fn run_row<R: Files + Print + AllocGlobal>(rt: &R, name: &str) -> io::Result<()> {
+fn run_row<R: Files + Print + Eprint + AllocGlobal>(rt: &R, name: &str) -> io::Result<()> {
     let words = words_of(rt, name)?;
     println!(rt; "row {name}")?;
     if let Some(image) = shown_image(&words) {
@@ -62,7 +62,7 @@ fn run_row<R: Files + Print + AllocGlobal>(rt: &R, name: &str) -> io::Result<()>
 }
 
 /// Runs the rows that the words name.
-fn run_rows<R: Files + Print + Env + AllocGlobal>(rt: &R) -> io::Result<()> {
+fn run_rows<R: Files + Print + Eprint + Env + AllocGlobal>(rt: &R) -> io::Result<()> {
     let mut names = env::args(rt)?;
     names.next();
     for name in names {

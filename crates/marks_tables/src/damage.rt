@@ -8,8 +8,9 @@ use crate::well::is_well_formed;
 use ir::{Ir, Site};
 use std::alloc::{AllocError, Global};
 use std::test::Fail;
-use walk_check::{Certificate, CheckFault, Fact, Piece, Pieces, Reason, Reasons, Step, StepList};
-use walk_check::{Walk, check};
+use walk_check::{
+    Certificate, CheckFault, Fact, Piece, Pieces, Reason, Reasons, Step, StepList, Walk, check,
+};
 use walk_maker::explain;
 
 /// What is changed in a reason. A walk, a piece and a step are the first walk, its last piece and
@@ -163,7 +164,11 @@ fn reasons_with(
 ) -> Result<Reasons, AllocError> {
     let mut list = Reasons::new(alloc);
     for (number, reason) in reasons.iter().enumerate() {
-        let damage = if number == at { damage } else { Damage::Nothing };
+        let damage = if number == at {
+            damage
+        } else {
+            Damage::Nothing
+        };
         let changed = reason_with(alloc, &reason.1, damage)?;
         list.push((site_with(reason.0, damage), changed))?;
     }

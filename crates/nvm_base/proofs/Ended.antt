@@ -1,5 +1,5 @@
 -- A sink that is ended keeps what was written to it.
-use Rattle.std.proofs.Common.{◌≡◌, ℕ, List, [], ◌++◌, Option, Some, None, sym, append-nil, ◌∙◌}
+use Rattle.std.proofs.Common.{ℕ, List, [], Option, Some, None, sym, append-nil, ◌∙◌}
 use Rattle.std.specs.Io.KnownBytes.{Appends, Keeps}
 use Rattle.nvm_base.specs.Parts.{AppendsPart}
 

@@ -1,5 +1,8 @@
--- The path of the file that a source or a sink stands for.
+-- The path of the file that a source or a sink stands for, and what a kept one stands over.
 use Rattle.std.specs.Prelude.{ℕ, List, Option, option_map}
+use Rattle.nvm_base.specs.declared.kept_sink.KeptSink.{KeptSink}
+use Rattle.nvm_base.specs.declared.kept_source.KeptSource.{KeptSource}
+use Rattle.nvm_base.specs.declared.saved_file.SavedFile.{SavedFile}
 use Rattle.nvm_base.specs.declared.std_sink.StdSink.{StdSink}
 use Rattle.nvm_base.specs.declared.std_source.StdSource.{StdSource}
 
@@ -9,3 +12,13 @@ path_of_source source = source.path.now
 -- None for standard output
 abbrev pub path_of_sink : {R F A : Type 0} → StdSink R F A → Option (List ℕ)
 path_of_sink sink = option_map (λ path. path.now) sink.path
+
+abbrev pub path_of_saved : {R F A : Type 0} → SavedFile R F A → List ℕ
+path_of_saved saved = saved.path.now
+
+-- the source or the sink below
+abbrev pub source_below : {S : Type 0} → KeptSource S → S
+source_below kept = kept.source
+
+abbrev pub sink_below : {K : Type 0} → KeptSink K → K
+sink_below kept = kept.sink

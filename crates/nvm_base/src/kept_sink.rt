@@ -11,7 +11,7 @@ use std::alloc::Global;
 /// see of the other.
 #[derive(Drop)]
 pub struct KeptSink<K> {
-    sink: K,
+    pub(crate) sink: K,
     kept: Bytes,
     /// Whether every byte is kept: there was memory for each.
     whole: bool,

@@ -10,7 +10,7 @@ use std::alloc::Global;
 /// of the other.
 #[derive(Drop)]
 pub struct KeptSource<S> {
-    source: S,
+    pub(crate) source: S,
     kept: Bytes,
     /// Whether every byte is kept: there was memory for each.
     whole: bool,

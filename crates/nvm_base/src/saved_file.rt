@@ -1,6 +1,7 @@
 //! A file that takes the place of an older one only when it is whole. It shows clauses no content.
 
 ghost use Rattle.std.specs.Prelude.{◌≡◌, ◌<◌, ◌≤◌, None, length, IfOk};
+ghost use Rattle.nvm_base.specs.Path.{path_of_saved};
 ghost use Rattle.nvm_base.specs.Rose.{Rose};
 
 use crate::output::WriteFault;
@@ -22,7 +23,7 @@ const NAMES: u64 = 1000;
 #[derive(Drop)]
 pub struct SavedFile<'a, R: Files + AllocGlobal> {
     rt: &'a R,
-    path: &'a str,
+    pub(crate) path: &'a str,
     draft: Option<Draft<R::File>>,
     faults: u64,
     reason: Option<Reason>,
@@ -47,7 +48,8 @@ struct Renaming {
 impl<'a, R: Files + AllocGlobal> SavedFile<'a, R> {
     /// The file to be saved under this path. Nothing is made before the first write.
     pub fn new(rt: &'a R, path: &'a str) -> Self
-        ensures { result.faults ≡ 0 }
+        ensures faults { result.faults ≡ 0 }
+        ensures path { path_of_saved result ≡ path.now }
     {
         SavedFile {
             rt,

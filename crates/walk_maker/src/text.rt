@@ -254,7 +254,10 @@ fn says_clobber(reason: &Reason) -> bool
 fn always_in(reasons: &[(Site, Reason)]) -> usize
     ensures { result ≡ why.always_in reasons.now }
 {
-    reasons.iter().filter(|reason| says_always(&reason.1)).count()
+    reasons
+        .iter()
+        .filter(|reason| says_always(&reason.1))
+        .count()
 }
 
 fn past_free_in(reasons: &[(Site, Reason)]) -> usize
@@ -269,7 +272,10 @@ fn past_free_in(reasons: &[(Site, Reason)]) -> usize
 fn clobber_in(reasons: &[(Site, Reason)]) -> usize
     ensures { result ≡ why.clobber_in reasons.now }
 {
-    reasons.iter().filter(|reason| says_clobber(&reason.1)).count()
+    reasons
+        .iter()
+        .filter(|reason| says_clobber(&reason.1))
+        .count()
 }
 
 /// Writes how many reasons there are, and how many of each kind.
