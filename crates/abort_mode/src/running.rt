@@ -42,7 +42,8 @@ fn has_record<P: PmemWork>(sizes: &Sizes, dev: &P, count: u64, w: u64) -> bool
     requires inside { w < heap_words sizes.now }
     requires lines { (P.device dev.now).lines ≡ pool_lines sizes.now }
     requires on { (P.device dev.now).on ≡ true }
-    ensures { result ≡ has_record (word_in_record sizes.now (view (P.device dev.now).cache)) count w }
+    ensures { result ≡ has_record (word_in_record sizes.now (view (P.device dev.now).cache)) count
+        w }
 {
     let mut left = count;
     while left > 0 {

@@ -28,7 +28,8 @@ abbrev pub WorkersRanAs : Program → (count : ℕ) → List WorkersCommand → 
     → Option (List ℕ) → Option (List ℕ) → Device → Device → (k k' : ℕ) → Type 0
 WorkersRanAs program count commands result w w' d d' k k' =
     AsStatus (λ why. Unbegun (make_fault why) program count w w' d d' k k')
-    (BreaksOffNew program count commands w w' d d' k k') (RunsNew program count commands w w' d d' k k')
+    (BreaksOffNew program count commands w w' d d' k k')
+    (RunsNew program count commands w w' d d' k k')
     (BreaksOffNew program count commands w w' d d' k k') result
 
 -- The program or the script is refused, this is reported, and nothing is run; or the script's

@@ -60,7 +60,9 @@ module _ (ir : Ir) (well : IsWellFormed ir) (keeps : KeepsParameters ir.function
           next ir well keeps u a d later f p regs below w t k calls comes agrees
           (New to kind log_fill line) (suc p) (put_register regs to (pos q)) w' t is refl
           (record { root = λ x h. h; field = λ s x h. h; freed = λ h. h }) stays
-          (new_leaves ir.shapes u w q kind (words_of (fields_of ir.shapes kind)) k.freed slot none) (
+          (
+          new_leaves ir.shapes u w q kind (words_of (fields_of ir.shapes kind)) k.freed slot none
+          ) (
             sure_put ir.shapes u w' regs to (pos q) (λ s x. true) k (λ s x h n l.
                 new_named ir.shapes u w q kind slot un s x n l)
                 (sure_stays ir.shapes u w w' regs k.written stays agrees.0),

@@ -52,10 +52,7 @@ fn flush_in<P: PmemWork>(dev: &mut P, first: u64, line: u64) -> Result<(), Refus
 }
 
 /// The words of the first line.
-#[tactic(
-    auto,
-    unfolding(args_log::specs::Created::sizes_events, pool_layout::specs::Bytes::word_from)
-)]
+#[tactic(auto, unfolding(args_log::specs::Created::sizes_events, pool_layout::specs::Bytes::word_from))]
 fn store_sizes<P: PmemWork>(sizes: &Sizes, first: u64, dev: &mut P) -> Result<(), Refusal>
     requires small { first ≤ 2 ^ 22 }
     requires lines { first + 6 ≤ (P.device dev.old).lines }
@@ -110,14 +107,7 @@ fn settle<P: PmemWork>(first: u64, dev: &mut P) -> Result<(), Refusal>
 }
 
 /// Plays the events that create one compartment.
-#[tactic(
-    auto,
-    using(
-        pmem::proofs::Glue::all_append,
-        pmem::proofs::Glue::part_left,
-        pmem::proofs::Glue::part_right
-    )
-)]
+#[tactic(auto, using(pmem::proofs::Glue::all_append, pmem::proofs::Glue::part_left, pmem::proofs::Glue::part_right))]
 fn create_at<P: PmemWork>(
     sizes: &Sizes,
     digest: &[i64; 4],

@@ -1,6 +1,6 @@
 //! The lines of a program's store sites: the function, the source line, and what is written there.
-//! It rests on `ir`. Its one contract for the crates above: the rows of all sites in code order, and
-//! the line of a row or of a site, but for its last word.
+//! It rests on `ir`. Its one contract for the crates above: the rows of all sites in code order,
+//! and the line of a row or of a site, but for its last word.
 #![tactic(auto)]
 
 mod head;

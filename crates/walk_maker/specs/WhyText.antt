@@ -1,8 +1,8 @@
 -- The text of a certificate. It has a line `piece I F ..` for each piece that passes calls; for
 -- each reason the line of its site with `always`, `past free` or `clobber` as the last word, and
 -- for each of its walks a line `walk` and a line `in F ..` for each piece; and the last line
--- `reasons A always B free C clobber D`. A line of a piece goes on with ` P FACT` for each step, and
--- with ` via I` where it passes a call.
+-- `reasons A always B free C clobber D`. A line of a piece goes on with ` P FACT` for each step,
+-- and with ` via I` where it passes a call.
 use Rattle.std.specs.Prelude.{ℕ, ◌+◌, List, [], ◌∷◌, ◌++◌, Bool, true, false, Option, Some, None}
 use Rattle.std.specs.Prelude.{length, codes, flat_map}
 use Rattle.std.specs.List.{filter}
