@@ -68,15 +68,7 @@ fn flush_payload<P: PmemWork>(dev: &mut P, count: u64) -> Result<(), Refusal>
 }
 
 /// Stores the function and its arguments, and makes them durable.
-#[tactic(
-    auto,
-    using(
-        pmem::proofs::Glue::all_append,
-        pmem::proofs::Glue::part_left,
-        pmem::proofs::Glue::part_right
-    ),
-    unfolding(crate::specs::Seal::payload_events)
-)]
+#[tactic(auto, using(pmem::proofs::Glue::all_append, pmem::proofs::Glue::part_left, pmem::proofs::Glue::part_right), unfolding(crate::specs::Seal::payload_events))]
 fn play_payload<P: PmemWork>(dev: &mut P, function: i64, args: &[i64]) -> Result<(), Refusal>
     requires few { length args.now ≤ 22 }
     requires lines { 6 ≤ (P.device dev.old).lines }
@@ -94,15 +86,7 @@ fn play_payload<P: PmemWork>(dev: &mut P, function: i64, args: &[i64]) -> Result
 }
 
 /// Plays all events up to and including the store of the seal.
-#[tactic(
-    auto,
-    using(
-        pmem::proofs::Glue::all_append,
-        pmem::proofs::Glue::part_left,
-        pmem::proofs::Glue::part_right
-    ),
-    unfolding(crate::specs::Seal::unsealed_events)
-)]
+#[tactic(auto, using(pmem::proofs::Glue::all_append, pmem::proofs::Glue::part_left, pmem::proofs::Glue::part_right), unfolding(crate::specs::Seal::unsealed_events))]
 fn play_unsealed<P: PmemWork>(
     dev: &mut P,
     function: i64,
@@ -136,15 +120,7 @@ fn play_sealing<P: PmemWork>(dev: &mut P) -> Result<(), Refusal>
 }
 
 /// Seals a record of a function and its arguments.
-#[tactic(
-    auto,
-    using(
-        pmem::proofs::Glue::all_append,
-        pmem::proofs::Glue::part_left,
-        pmem::proofs::Glue::part_right
-    ),
-    unfolding(crate::specs::Seal::seal_events)
-)]
+#[tactic(auto, using(pmem::proofs::Glue::all_append, pmem::proofs::Glue::part_left, pmem::proofs::Glue::part_right), unfolding(crate::specs::Seal::seal_events))]
 fn play_seal<P: PmemWork>(dev: &mut P, function: i64, args: &[i64], number: i64) -> SealAnswer
     requires few { length args.now ≤ 22 }
     requires lines { 6 ≤ (P.device dev.old).lines }

@@ -133,14 +133,7 @@ fn fence_after<P: PmemWork>(dev: &mut P, count: u64) -> Result<(), Refusal>
 }
 
 /// Restores the first `count` records, and fences.
-#[tactic(
-    auto,
-    using(
-        pmem::proofs::Glue::all_append,
-        pmem::proofs::Glue::part_left,
-        pmem::proofs::Glue::part_right
-    )
-)]
+#[tactic(auto, using(pmem::proofs::Glue::all_append, pmem::proofs::Glue::part_left, pmem::proofs::Glue::part_right))]
 fn restore_first<P: PmemWork, L: Ledger>(
     sizes: &Sizes,
     dev: &mut P,

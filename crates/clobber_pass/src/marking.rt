@@ -20,11 +20,7 @@ pub struct MarkTable {
 }
 
 /// Whether a bit of a word is set.
-#[tactic(
-    auto,
-    using(std::proofs::lemmas::Nat::Bits::shr_and_one),
-    unfolding(crate::specs::Row::has_bit)
-)]
+#[tactic(auto, using(std::proofs::lemmas::Nat::Bits::shr_and_one), unfolding(crate::specs::Row::has_bit))]
 fn has_bit(bit: u32, word: u16) -> bool
     requires { bit < 16 }
     ensures { result ≡ has_bit bit word }

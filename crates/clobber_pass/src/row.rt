@@ -24,11 +24,7 @@ pub fn put(row: &mut [u16], slot: usize, word: u16)
 }
 
 /// The bit of a field, counted from the first field of a topic.
-#[tactic(
-    auto,
-    using(std::proofs::lemmas::Nat::one_shl),
-    unfolding(crate::specs::inside::Row::mask)
-)]
+#[tactic(auto, using(std::proofs::lemmas::Nat::one_shl), unfolding(crate::specs::inside::Row::mask))]
 pub fn mask(first: u32, field: u32) -> u16
     ensures { result ≡ inside_rows.mask first field }
 {

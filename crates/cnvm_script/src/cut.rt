@@ -7,15 +7,7 @@ ghost use Rattle.cnvm_script.specs.Lines.{lines, words_of_line, without_cr};
 use std::alloc::{AllocError, Global};
 
 /// The text up to the first stop, and the text after that stop.
-#[tactic(
-    auto,
-    using(
-        crate::proofs::Cuts::cut_start,
-        crate::proofs::Cuts::cut_step,
-        crate::proofs::Cuts::cut_stop,
-        crate::proofs::Cuts::cut_end
-    )
-)]
+#[tactic(auto, using(crate::proofs::Cuts::cut_start, crate::proofs::Cuts::cut_step, crate::proofs::Cuts::cut_stop, crate::proofs::Cuts::cut_end))]
 pub(crate) fn cut<'a>(text: &'a [u8], stops: &[u8]) -> (&'a [u8], Option<&'a [u8]>)
     ensures pieces { MatchOption result.1 (pieces stops.now text.now ≡ result.0.now ∷ [])
         (λ rest. pieces stops.now text.now ≡ result.0.now ∷ pieces stops.now rest.now) }

@@ -23,10 +23,7 @@ pub enum StartFault {
 }
 
 /// Stores the words of the first line.
-#[tactic(
-    auto,
-    unfolding(args_log::specs::Created::sizes_events, pool_layout::specs::Bytes::word_from)
-)]
+#[tactic(auto, unfolding(args_log::specs::Created::sizes_events, pool_layout::specs::Bytes::word_from))]
 fn store_sizes<P: PmemWork>(sizes: &Sizes, dev: &mut P) -> Result<(), Refusal>
     requires { 6 ≤ (P.device dev.old).lines }
     ensures done { OnOk result (PlaysAll (P.device dev.old) (sizes_events sizes.now)
@@ -73,14 +70,7 @@ fn settle<P: PmemWork>(dev: &mut P) -> Result<(), Refusal>
 }
 
 /// Plays the events that create a pool.
-#[tactic(
-    auto,
-    using(
-        pmem::proofs::Glue::all_append,
-        pmem::proofs::Glue::part_left,
-        pmem::proofs::Glue::part_right
-    )
-)]
+#[tactic(auto, using(pmem::proofs::Glue::all_append, pmem::proofs::Glue::part_left, pmem::proofs::Glue::part_right))]
 fn play_creation<P: PmemWork>(sizes: &Sizes, digest: &[i64; 4], dev: &mut P) -> Result<(), Refusal>
     requires { 6 ≤ (P.device dev.old).lines }
     ensures done { OnOk result (PlaysAll (P.device dev.old) (creation_events sizes.now digest.now)

@@ -80,10 +80,7 @@ impl RegisterWords {
     }
 
     /// Sets all registers to 0.
-    #[tactic(
-        auto,
-        using(crate::proofs::Registers::blank_cleared, crate::proofs::Registers::blank_all)
-    )]
+    #[tactic(auto, using(crate::proofs::Registers::blank_cleared, crate::proofs::Registers::blank_all))]
     pub fn clear(&mut self)
         ensures { self.new ≡ replicate (length self.old) (pos 0) }
     {

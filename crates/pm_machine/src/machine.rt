@@ -119,10 +119,7 @@ fn drop_first(lines: &mut IndexSet<u64>, count: usize)
 }
 
 /// The line at a place of the set.
-#[tactic(
-    auto,
-    using(crate::proofs::DirtyLines::first_in, std::proofs::lemmas::Option::slice_get_past)
-)]
+#[tactic(auto, using(crate::proofs::DirtyLines::first_in, std::proofs::lemmas::Option::slice_get_past))]
 fn line_at(lines: &IndexSet<u64>, at: usize) -> Option<u64>
     ensures value { result ≡ slice_get (drop at lines.now.keys) 0 }
     ensures within { IsSome result → at < length lines.now.keys }
