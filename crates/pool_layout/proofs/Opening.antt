@@ -16,7 +16,7 @@ use Rattle.pool_layout.specs.Restored.{restored}
 use Rattle.pool_layout.specs.Content.{KeepsRules, breaks_rule, is_within, is_sealed, is_valid}
 use Rattle.pool_layout.specs.Content.{are_valid, is_stamp, in_heap, is_header, names_header}
 use Rattle.pool_layout.specs.Content.{is_first_version}
-use Rattle.pool_layout.specs.Opens.{IsOpenable, NamesOwed, IsBelow, HasHeaders}
+use Rattle.pool_layout.specs.Opens.{IsOpenable, NamesOwed, IsBelow}
 use Rattle.pool_layout.specs.Headers.{HasHeaders}
 use Rattle.pool_layout.proofs.Records.{LogIs, log_is}
 use Rattle.pool_layout.proofs.Undone.{undone_each}
