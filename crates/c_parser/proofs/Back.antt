@@ -746,7 +746,7 @@ module _ (ts : List Placed) where
 
     tx_result_back : (k : List Want) (t : Kind) → kind_at ts i ≡ t → (u : Option (List Want))
         → Then (i + 1) (apply_move (wants.tx_result t) k u) → Stands i (TxResult ∷ k)
-    tx_result_back k kind.Abort is u h = inl (is, h)
+    tx_result_back k kind.Abort is u (j, r, rt, st) = inl (is, j, r, rt, st)
     tx_result_back k t is u h = inr (result_back k t is u h)
 
     open_parameters_back : (k : List Want) (t : Kind) → kind_at ts i ≡ t → (u : Option (List Want))
