@@ -1,21 +1,16 @@
--- The search for the least free slot, starting from what is known of the first slots.
-use Rattle.std.proofs.Common.{◌≡◌, ◌≢◌, ◌⊎◌, inl, inr, ⊎_elim, ℕ, zero, suc, ◌+◌, ◌-◌, ◌*◌, ◌/◌}
-use Rattle.std.proofs.Common.{◌%◌, ◌<◌, ◌≤◌, ◌==◌, ◌&&◌, if◌then◌else◌, Bool, true, false, ℤ, pos}
-use Rattle.std.proofs.Common.{refl, sym, ap, ◌∙◌, subst, arith, eqb, leb}
-use Rattle.std.specs.Prelude.{nat_le, min}
+-- The search for the least free slot, by what a search for a word that is 0 finds.
+use Rattle.std.proofs.Common.{◌≡◌, ◌≢◌, ⊎_elim, ℕ, zero, suc, ◌+◌, ◌-◌, ◌*◌}
+use Rattle.std.proofs.Common.{◌<◌, ◌≤◌, if◌then◌else◌, Bool, false, ℤ, pos}
+use Rattle.std.proofs.Common.{sym, ap, ◌∙◌, arith}
 use Rattle.std.specs.Ordering.{int_eq}
-use Rattle.std.proofs.lemmas.Bool.{cases_eq, eqb-false, leb-true}
-use Rattle.cache_model.specs.Cache.{Words}
+use Rattle.cache_model.specs.Cache.{Words, Cache, view}
 use Rattle.pmem.specs.Zeros.{IsFirstZero}
 use Rattle.pool_layout.specs.declared.limits.Sizes.{Sizes}
 use Rattle.pool_layout.specs.Sizes.{slot_word, heap_start}
-use Rattle.pm_machine.specs.declared.effect.Effect.{Effect}
-use Rattle.pm_machine.specs.declared.effect.Effect.TheVariants.{Loads, Scans, Stores, Logs, Flushes}
-use Rattle.pm_machine.specs.declared.effect.Effect.TheVariants.{Fences, Quiet}
-use Rattle.pm_machine.specs.Effects.{heap_past}
 use Rattle.pool_layout.specs.declared.places.Place.TheVariants.{Heap}
 use Rattle.pool_layout.specs.Places.{at, pool_of}
 use Rattle.pm_machine.specs.Find.{free_of, tried, least, looks}
+use Rattle.pm_machine.specs.Runs.{heap_in}
 use Rattle.pm_machine.proofs.Least.{zero_cases}
 
 full_is : (x : ℤ) → x ≢ pos 0 → int_eq x (pos 0) ≡ false
@@ -57,56 +52,60 @@ skip heap (suc m) (suc n) q w few full =
       ap (λ (t : Bool). suc (if t then 0 else tried heap m (w + 16))) first ∙ omega (arith, d, e),
     )
 
--- what a search finds in the heap of a view
-module _ (s : Sizes) (view : Words) (b n : ℕ) (from : b ≡ heap_start s + slot_word s 1)
-    (is : IsFirstZero view b s.slots n) where
-  abbrev heap : Words
-  heap w = view (at (pool_of s) (Heap w))
+-- what a search finds in the heap of a cache, from where the first header stands
+module _ (s : Sizes) (c : Cache) (h b m n : ℕ) (start : h ≡ heap_start s)
+    (first : b ≡ slot_word s 1) (count : m ≡ s.slots) (is : IsFirstZero (view c) (h + b) m n)
+  where
+    abbrev heap : Words
+    heap = heap_in s c
 
-  place : (i : ℕ) → b + 16 * i ≡ at (pool_of s) (Heap (slot_word s 1 + 16 * i))
-  place i = omega arith
+    place : (i : ℕ) → h + b + 16 * i ≡ at (pool_of s) (Heap (slot_word s 1 + 16 * i))
+    place i = omega (arith, start, first)
 
-  passed_over : (i : ℕ) → i < n → heap (slot_word s 1 + 16 * i) ≢ pos 0
-  passed_over i less e = is.before i less (ap view (place i) ∙ e)
+    passed_over : (i : ℕ) → i < n → heap (slot_word s 1 + 16 * i) ≢ pos 0
+    passed_over i less e = is.before i less (ap (view c) (place i) ∙ e)
 
-  all_past :
-      (least s heap ≡ free_of heap (s.slots - n) (1 + n) (slot_word s 1 + 16 * n))
-      × (looks s heap ≡ n + tried heap (s.slots - n) (slot_word s 1 + 16 * n))
-  all_past = skip heap s.slots n 1 (slot_word s 1) is.few passed_over
+    few : n ≤ s.slots
+    few = omega (arith, count, is.few)
 
-  module _ (some : n < s.slots) where
-    free : heap (slot_word s 1 + 16 * n) ≡ pos 0
-    free = sym (ap view (place n)) ∙ is.there some
+    all_past :
+        (least s heap ≡ free_of heap (s.slots - n) (1 + n) (slot_word s 1 + 16 * n))
+        × (looks s heap ≡ n + tried heap (s.slots - n) (slot_word s 1 + 16 * n))
+    all_past = skip heap s.slots n 1 (slot_word s 1) few passed_over
 
-    left : s.slots - n ≡ suc (s.slots - n - 1)
-    left = omega arith
+    module _ (some : n < m) where
+      free : heap (slot_word s 1 + 16 * n) ≡ pos 0
+      free = sym (ap (view c) (place n)) ∙ is.there some
 
-    pub found_least : n + 1 ≡ least s heap
-    found_least =
-        let one : 1 + n ≡ n + 1 = omega arith in
-        sym (all_past.0 ∙ ap (λ (k : ℕ). free_of heap k (1 + n) (slot_word s 1 + 16 * n)) left
-        ∙ ap (λ (x : ℤ). if int_eq x (pos 0) then 1 + n
-        else free_of heap (s.slots - n - 1) (1 + n + 1) (slot_word s 1 + 16 * n + 16)) free
-        ∙ one)
+      left : s.slots - n ≡ suc (s.slots - n - 1)
+      left = omega (arith, count, some)
 
-    pub found_looks : n + 1 ≡ looks s heap
-    found_looks =
-        let one : tried heap (s.slots - n) (slot_word s 1 + 16 * n) ≡ 1 =
-        ap (λ (k : ℕ). tried heap k (slot_word s 1 + 16 * n)) left
-        ∙ ap (λ (x : ℤ). suc (if int_eq x (pos 0) then 0
-        else tried heap (s.slots - n - 1) (slot_word s 1 + 16 * n + 16))) free in
-        sym (all_past.1 ∙ ap (λ (k : ℕ). n + k) one)
+      pub found_least : n + 1 ≡ least s heap
+      found_least =
+          let one : 1 + n ≡ n + 1 = omega arith in
+          sym (all_past.0 ∙ ap (λ (k : ℕ). free_of heap k (1 + n) (slot_word s 1 + 16 * n)) left
+          ∙ ap (λ (x : ℤ). if int_eq x (pos 0) then 1 + n
+          else free_of heap (s.slots - n - 1) (1 + n + 1) (slot_word s 1 + 16 * n + 16)) free
+          ∙ one)
 
-  module _ (all : s.slots ≤ n) where
-    none : s.slots - n ≡ 0
-    none = omega arith
+      pub found_looks : n + 1 ≡ looks s heap
+      found_looks =
+          let one : tried heap (s.slots - n) (slot_word s 1 + 16 * n) ≡ 1 =
+          ap (λ (k : ℕ). tried heap k (slot_word s 1 + 16 * n)) left
+          ∙ ap (λ (x : ℤ). suc (if int_eq x (pos 0) then 0
+          else tried heap (s.slots - n - 1) (slot_word s 1 + 16 * n + 16))) free in
+          sym (all_past.1 ∙ ap (λ (k : ℕ). n + k) one)
 
-    pub none_least : 0 ≡ least s heap
-    none_least =
-        sym (all_past.0 ∙ ap (λ (k : ℕ). free_of heap k (1 + n) (slot_word s 1 + 16 * n)) none)
+    module _ (all : m ≤ n) where
+      none : s.slots - n ≡ 0
+      none = omega (arith, count, all)
 
-    pub none_looks : s.slots ≡ looks s heap
-    none_looks =
-        let zero_left : tried heap (s.slots - n) (slot_word s 1 + 16 * n) ≡ 0 =
-        ap (λ (k : ℕ). tried heap k (slot_word s 1 + 16 * n)) none in
-        omega (arith, all_past.1, zero_left, is.few)
+      pub none_least : 0 ≡ least s heap
+      none_least =
+          sym (all_past.0 ∙ ap (λ (k : ℕ). free_of heap k (1 + n) (slot_word s 1 + 16 * n)) none)
+
+      pub none_looks : m ≡ looks s heap
+      none_looks =
+          let zero_left : tried heap (s.slots - n) (slot_word s 1 + 16 * n) ≡ 0 =
+          ap (λ (k : ℕ). tried heap k (slot_word s 1 + 16 * n)) none in
+          omega (arith, all_past.1, zero_left, few, all, count)

@@ -15,7 +15,7 @@ pub struct Found {
 }
 
 /// The least free slot of a pool. On a device that is on there is always an answer.
-#[tactic(auto, using(crate::proofs::Searches::found_least, crate::proofs::Searches::found_looks, crate::proofs::Searches::none_least, crate::proofs::Searches::none_looks))]
+#[tactic(auto, using(crate::proofs::Searches::found_least, crate::proofs::Searches::found_looks))]
 pub fn search<P: PmemWork>(dev: &mut P, sizes: &Sizes) -> Option<Found>
     requires lines { (P.device dev.old).lines ≡ pool_lines sizes.now }
     requires on { (P.device dev.old).on ≡ true }

@@ -22,7 +22,6 @@ ghost use Rattle.pm_machine.specs.Machine.{Ends, tick_spent, address_index, word
 ghost use Rattle.pm_machine.specs.Machine.{decide, tallied, step, trap_at, start, registers_filled};
 ghost use Rattle.pm_machine.specs.Machine.{stored_by, due_store};
 ghost use Rattle.pm_machine.specs.Effects.{events_of, records_past};
-ghost use Rattle.pm_machine.specs.Known.{AreInUseOn};
 ghost use Rattle.pm_machine.specs.Runs.{heap_in, outcome_of, effect_of, effect_in, AreLines, due};
 ghost use Rattle.pm_machine.specs.Runs.{end_of};
 ghost use Rattle.pm_machine.specs.inside.Runs.{IsStore, IsInRange};

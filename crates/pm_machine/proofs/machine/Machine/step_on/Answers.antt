@@ -1,6 +1,4 @@
 use Rattle.pm_machine.specs.Runs.{heap_in}
-use Rattle.pm_machine.proofs.KnownAfter.{known_after}
-use Rattle.pm_machine.specs.inside.Runs.{IsInRange}
 use Rattle.pm_machine.proofs.Range.{range_progress}
 use Rattle.pm_machine.proofs.machine.Machine.step_on.Goals as goal
 
