@@ -90,6 +90,21 @@ tx int64_t transfer(int64_t from, int64_t to, int64_t amount) {
     return 1;
 }
 
+// Moves money as well, and tests last: where an account isn't there or hasn't enough it traps, and is rolled back.
+tx abort int64_t pay(int64_t from, int64_t to, int64_t amount) {
+    struct Account *giver = find(from);
+    struct Account *taker = find(to);
+    taker->balance += amount;
+    giver->balance -= amount;
+    giver->moves++;
+    taker->moves++;
+    note(3, from, to, amount);
+    if (amount <= 0 || giver->balance < 0) {
+        abort();
+    }
+    return giver->balance;
+}
+
 // Closes an account that is empty.
 tx int64_t close(int64_t number) {
     struct Account *before = NULL;
