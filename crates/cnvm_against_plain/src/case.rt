@@ -56,12 +56,13 @@ pub(crate) fn logged_of(answer: &Answer) -> u64 {
     }
 }
 
-/// What is wanted of a call that writes this many records.
+/// What is wanted of a call that writes this many records, and of one whose transaction rolls back.
 pub(crate) fn wanted_of(
     alloc: Global,
     program: &Program,
     before: &Before,
     plain: &PlainAnswer,
+    rolls_back: bool,
     logged: u64,
 ) -> Result<Wanted, AllocError> {
     match plain {
@@ -69,6 +70,7 @@ pub(crate) fn wanted_of(
             let shown = pool_lines_of(alloc, program.typed.shapes(), pool)?;
             ended(alloc, before, shown, *value, logged)
         }
+        PlainAnswer::Trap(kind) if rolls_back => undone(alloc, before, *kind),
         PlainAnswer::Trap(kind) => trapped(alloc, before, *kind),
         PlainAnswer::NoMemory => Err(AllocError),
     }
@@ -105,6 +107,21 @@ fn trapped(alloc: Global, before: &Before, kind: TrapKind) -> Result<Wanted, All
         marked: answer_line(alloc, &unusable)?,
         shown: answer_line(alloc, &unusable)?,
         last: answer_line(alloc, &unusable)?,
+        shown_before: text_of(alloc, before.shown.as_str())?,
+        last_before: last_line(alloc, before.done, before.value)?,
+    })
+}
+
+/// A call that traps and is rolled back: the pool and the last value are those from before it.
+fn undone(alloc: Global, before: &Before, kind: TrapKind) -> Result<Wanted, AllocError> {
+    let number = before.done.saturating_add(1);
+    Ok(Wanted {
+        number,
+        done: answer_line(alloc, &Answer::Aborted(kind))?,
+        redone: answer_line(alloc, &Answer::RecoveredAborted(kind))?,
+        marked: Text::new(alloc),
+        shown: text_of(alloc, before.shown.as_str())?,
+        last: last_line(alloc, number, before.value)?,
         shown_before: text_of(alloc, before.shown.as_str())?,
         last_before: last_line(alloc, before.done, before.value)?,
     })

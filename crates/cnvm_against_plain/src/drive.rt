@@ -7,7 +7,7 @@ use crate::tally::{Place, Tally};
 use crate::texts::{answer_line, pool_lines_of};
 use cnvm_compile::{Asked, compile};
 use cnvm_script::{Command, read_script};
-use cnvm_session::{Answer, Program};
+use cnvm_session::{Answer, Program, rolls_back};
 use interpreter::{PlainAnswer, plain_call};
 use nvm_base::{Steps, Words};
 use pool_map::Pool;
@@ -78,7 +78,8 @@ fn refused(alloc: Global, what: &'static str, tally: &mut Tally) -> Result<(), A
     tally.compare(alloc, place, "accepted\n", "refused\n")
 }
 
-/// Takes one command of the script. Only a call does something.
+/// Takes one command of the script. Only a call does something. A transaction that rolls back and
+/// traps is done as well: the calls after it go on with the words that it leaves.
 fn step<L: Ledger>(
     alloc: Global,
     program: &Program,
@@ -94,30 +95,35 @@ fn step<L: Ledger>(
     let Some(tx) = program.typed.tx_number(name.as_str()) else {
         return refused(alloc, "transaction", tally);
     };
-    let args = args.as_slice();
-    let plain = plain_call(alloc, &program.typed, pool, tx, args, TICKS);
-    let words = compared(
-        alloc,
-        program,
-        command,
-        args.len(),
-        before,
-        &plain,
-        tally,
-        steps,
-    )?;
-    if let PlainAnswer::Done(after, value) = plain {
-        *before = Before {
-            words,
-            shown: pool_lines_of(alloc, program.typed.shapes(), &after)?,
-            done: before.done.saturating_add(1),
-            value,
-        };
-        *pool = after;
-    } else {
-        tally.trap();
+    let plain = plain_call(alloc, &program.typed, pool, tx, args.as_slice(), TICKS);
+    let marked = rolls_back(program, tx);
+    let words = compared(alloc, program, command, before, &plain, marked, tally, steps)?;
+    match plain {
+        PlainAnswer::Done(after, value) => {
+            *before = Before {
+                words,
+                shown: pool_lines_of(alloc, program.typed.shapes(), &after)?,
+                done: before.done.saturating_add(1),
+                value,
+            };
+            *pool = after;
+        }
+        PlainAnswer::Trap(_) if marked => {
+            before.words = words;
+            before.done = before.done.saturating_add(1);
+            tally.trap();
+        }
+        PlainAnswer::Trap(_) | PlainAnswer::NoMemory => tally.trap(),
     }
     Ok(())
+}
+
+/// The number of arguments of a call.
+fn arguments_of(call: &Command) -> u64 {
+    match call {
+        Command::Call { args, .. } => args.as_slice().len() as u64,
+        _ => 0,
+    }
 }
 
 /// Compares one call, uncut and cut, and gives the words of the pool after it.
@@ -125,9 +131,9 @@ fn compared<L: Ledger>(
     alloc: Global,
     program: &Program,
     call: &Command,
-    arguments: usize,
     before: &Before,
     plain: &PlainAnswer,
+    marked: bool,
     tally: &mut Tally,
     steps: &mut Steps<L>,
 ) -> Result<Words, AllocError> {
@@ -135,12 +141,12 @@ fn compared<L: Ledger>(
         return Err(AllocError);
     };
     let answer = rig.command(alloc, program, call, steps);
-    let wanted = wanted_of(alloc, program, before, plain, logged_of(&answer))?;
+    let wanted = wanted_of(alloc, program, before, plain, marked, logged_of(&answer))?;
     let case = Case {
         program,
         words: before.words.as_slice(),
         call,
-        arguments: arguments as u64,
+        arguments: arguments_of(call),
         place: tally.begin(),
         wanted: &wanted,
     };
