@@ -97,7 +97,23 @@ fn step<L: Ledger>(
     };
     let plain = plain_call(alloc, &program.typed, pool, tx, args.as_slice(), TICKS);
     let marked = rolls_back(program, tx);
-    let words = compared(alloc, program, command, before, &plain, marked, tally, steps)?;
+    let words = compared(
+        alloc, program, command, before, &plain, marked, tally, steps,
+    )?;
+    go_on(alloc, program, plain, marked, words, pool, before, tally)
+}
+
+/// The pool before the next call, by how this one ended and what it left.
+fn go_on(
+    alloc: Global,
+    program: &Program,
+    plain: PlainAnswer,
+    marked: bool,
+    words: Words,
+    pool: &mut Pool,
+    before: &mut Before,
+    tally: &mut Tally,
+) -> Result<(), AllocError> {
     match plain {
         PlainAnswer::Done(after, value) => {
             *before = Before {

@@ -118,12 +118,49 @@ fn marked_calls_are_answered(rt: HostRuntime) -> Result<(), Fail> {
     Ok(())
 }
 
-/// What comes before and after the number of an event in the script, the first number and the one
-/// past the last, and the answers.
-type Cut = (&'static str, &'static str, u64, u64, &'static str);
+/// A program, the records of its log, what comes before and after the number of an event in the
+/// script, the first number and the one past the last, and the answers.
+type Cut = (
+    &'static str,
+    u64,
+    &'static str,
+    &'static str,
+    u64,
+    u64,
+    &'static str,
+);
 
-const CUTS: [Cut; 11] = [
+const CUTS: [Cut; 38] = [
     (
+        MOVES,
+        4,
+        "call add 5\nstop ",
+        "\ncall move 7\npower old\nshow\nlast\n",
+        0,
+        5,
+        "= 5 log 1\nstopped unsealed\nrecovered none\nroot n=5 m=0\nlast 1 5\n",
+    ),
+    (
+        MOVES,
+        4,
+        "call add 5\nstop ",
+        "\ncall move 7\npower old\nshow\nlast\n",
+        5,
+        7,
+        "= 5 log 1\nstopped sealing\nrecovered none\nroot n=5 m=0\nlast 1 5\n",
+    ),
+    (
+        MOVES,
+        4,
+        "call add 5\nstop ",
+        "\ncall move 7\npower new\nshow\nlast\n",
+        5,
+        7,
+        "= 5 log 1\nstopped sealing\nrecovered aborted abort\nroot n=5 m=0\nlast 2 5\n",
+    ),
+    (
+        MOVES,
+        4,
         "call add 5\nstop ",
         "\ncall move 7\npower old\nshow\nlast\n",
         7,
@@ -131,6 +168,8 @@ const CUTS: [Cut; 11] = [
         "= 5 log 1\nstopped sealed\nrecovered aborted abort\nroot n=5 m=0\nlast 2 5\n",
     ),
     (
+        MOVES,
+        4,
         "call add 5\nstop ",
         "\ncall move 7\npower new\nshow\nlast\n",
         7,
@@ -139,6 +178,8 @@ const CUTS: [Cut; 11] = [
     ),
     // the number of finished calls is stored
     (
+        MOVES,
+        4,
         "call add 5\nstop ",
         "\ncall move 7\npower new\nshow\nlast\n",
         26,
@@ -146,6 +187,8 @@ const CUTS: [Cut; 11] = [
         "= 5 log 1\nstopped sealed\nrecovered none\nroot n=5 m=0\nlast 2 5\n",
     ),
     (
+        MOVES,
+        4,
         "call add 5\nfault ",
         "\ncall move 7\npower old\nshow\nlast\n",
         0,
@@ -153,6 +196,8 @@ const CUTS: [Cut; 11] = [
         "= 5 log 1\ndevice fault\nrecovered none\nroot n=5 m=0\nlast 1 5\n",
     ),
     (
+        MOVES,
+        4,
         "call add 5\nfault ",
         "\ncall move 7\npower old\nshow\nlast\n",
         7,
@@ -160,6 +205,8 @@ const CUTS: [Cut; 11] = [
         "= 5 log 1\ndevice fault\nrecovered aborted abort\nroot n=5 m=0\nlast 2 5\n",
     ),
     (
+        MOVES,
+        4,
         "call add 5\nfault ",
         "\ncall move 7\npower old\nshow\nlast\n",
         29,
@@ -167,6 +214,8 @@ const CUTS: [Cut; 11] = [
         "= 5 log 1\naborted abort\nrecovered none\nroot n=5 m=0\nlast 2 5\n",
     ),
     (
+        MOVES,
+        4,
         "call add 5\nfault ",
         "\ncall move 7\npower new\nshow\nlast\n",
         0,
@@ -174,6 +223,8 @@ const CUTS: [Cut; 11] = [
         "= 5 log 1\ndevice fault\nrecovered none\nroot n=5 m=0\nlast 1 5\n",
     ),
     (
+        MOVES,
+        4,
         "call add 5\nfault ",
         "\ncall move 7\npower new\nshow\nlast\n",
         5,
@@ -181,6 +232,8 @@ const CUTS: [Cut; 11] = [
         "= 5 log 1\ndevice fault\nrecovered aborted abort\nroot n=5 m=0\nlast 2 5\n",
     ),
     (
+        MOVES,
+        4,
         "call add 5\nfault ",
         "\ncall move 7\npower new\nshow\nlast\n",
         26,
@@ -189,6 +242,8 @@ const CUTS: [Cut; 11] = [
     ),
     // a recovery has 30 events: 8 put two words back and begin an attempt, and 22 run the call
     (
+        MOVES,
+        4,
         "call add 5\nstop 19\ncall move 7\nfault ",
         "\npower new\npower old\nshow\nlast\n",
         0,
@@ -196,25 +251,250 @@ const CUTS: [Cut; 11] = [
         "= 5 log 1\nstopped sealed\ndevice fault\nrecovered aborted abort\nroot n=5 m=0\nlast 2 5\n",
     ),
     (
+        MOVES,
+        4,
         "call add 5\nstop 19\ncall move 7\nfault ",
         "\npower new\npower old\nshow\nlast\n",
         30,
         31,
         "= 5 log 1\nstopped sealed\nrecovered aborted abort\nrecovered none\nroot n=5 m=0\nlast 2 5\n",
     ),
+    (
+        MOVES,
+        4,
+        "call add 5\nstop 19\ncall move 7\nstop ",
+        "\npower old\npower new\nshow\nlast\n",
+        0,
+        27,
+        "= 5 log 1\nstopped sealed\nstopped sealed\nrecovered aborted abort\nroot n=5 m=0\nlast 2 5\n",
+    ),
+    (
+        MOVES,
+        4,
+        "call add 5\nstop 19\ncall move 7\nstop ",
+        "\npower old\npower new\nshow\nlast\n",
+        27,
+        30,
+        "= 5 log 1\nstopped sealed\nstopped sealed\nrecovered none\nroot n=5 m=0\nlast 2 5\n",
+    ),
+    // the record of the second word has no room: 7 events, 6, 3 and 5
+    (
+        MOVES,
+        1,
+        "call add 5\nstop ",
+        "\ncall move 3\npower old\nshow\nlast\n",
+        0,
+        5,
+        "= 5 log 1\nstopped unsealed\nrecovered none\nroot n=5 m=0\nlast 1 5\n",
+    ),
+    (
+        MOVES,
+        1,
+        "call add 5\nstop ",
+        "\ncall move 3\npower old\nshow\nlast\n",
+        5,
+        7,
+        "= 5 log 1\nstopped sealing\nrecovered none\nroot n=5 m=0\nlast 1 5\n",
+    ),
+    (
+        MOVES,
+        1,
+        "call add 5\nstop ",
+        "\ncall move 3\npower new\nshow\nlast\n",
+        5,
+        7,
+        "= 5 log 1\nstopped sealing\nrecovered aborted logfull\nroot n=5 m=0\nlast 2 5\n",
+    ),
+    (
+        MOVES,
+        1,
+        "call add 5\nstop ",
+        "\ncall move 3\npower old\nshow\nlast\n",
+        7,
+        21,
+        "= 5 log 1\nstopped sealed\nrecovered aborted logfull\nroot n=5 m=0\nlast 2 5\n",
+    ),
+    (
+        MOVES,
+        1,
+        "call add 5\nstop ",
+        "\ncall move 3\npower new\nshow\nlast\n",
+        7,
+        18,
+        "= 5 log 1\nstopped sealed\nrecovered aborted logfull\nroot n=5 m=0\nlast 2 5\n",
+    ),
+    // the number of finished calls is stored
+    (
+        MOVES,
+        1,
+        "call add 5\nstop ",
+        "\ncall move 3\npower new\nshow\nlast\n",
+        18,
+        21,
+        "= 5 log 1\nstopped sealed\nrecovered none\nroot n=5 m=0\nlast 2 5\n",
+    ),
+    (
+        MOVES,
+        1,
+        "call add 5\nfault ",
+        "\ncall move 3\npower old\nshow\nlast\n",
+        0,
+        7,
+        "= 5 log 1\ndevice fault\nrecovered none\nroot n=5 m=0\nlast 1 5\n",
+    ),
+    (
+        MOVES,
+        1,
+        "call add 5\nfault ",
+        "\ncall move 3\npower old\nshow\nlast\n",
+        7,
+        21,
+        "= 5 log 1\ndevice fault\nrecovered aborted logfull\nroot n=5 m=0\nlast 2 5\n",
+    ),
+    (
+        MOVES,
+        1,
+        "call add 5\nfault ",
+        "\ncall move 3\npower old\nshow\nlast\n",
+        21,
+        22,
+        "= 5 log 1\naborted logfull\nrecovered none\nroot n=5 m=0\nlast 2 5\n",
+    ),
+    (
+        MOVES,
+        1,
+        "call add 5\nfault ",
+        "\ncall move 3\npower new\nshow\nlast\n",
+        0,
+        5,
+        "= 5 log 1\ndevice fault\nrecovered none\nroot n=5 m=0\nlast 1 5\n",
+    ),
+    (
+        MOVES,
+        1,
+        "call add 5\nfault ",
+        "\ncall move 3\npower new\nshow\nlast\n",
+        5,
+        18,
+        "= 5 log 1\ndevice fault\nrecovered aborted logfull\nroot n=5 m=0\nlast 2 5\n",
+    ),
+    (
+        MOVES,
+        1,
+        "call add 5\nfault ",
+        "\ncall move 3\npower new\nshow\nlast\n",
+        18,
+        21,
+        "= 5 log 1\ndevice fault\nrecovered none\nroot n=5 m=0\nlast 2 5\n",
+    ),
+    // a call that frees an object and makes one: 7 events, 25, 9 and 5
+    (
+        OBJECTS,
+        8,
+        "call put 5\nstop ",
+        "\ncall set -1\npower old\nshow\nlast\n",
+        7,
+        46,
+        "= 0 log 3\nstopped sealed\nrecovered aborted abort\nroot p=1\nslot 1 N v=5\nlast 2 0\n",
+    ),
+    (
+        OBJECTS,
+        8,
+        "call put 5\nstop ",
+        "\ncall set -1\npower new\nshow\nlast\n",
+        7,
+        43,
+        "= 0 log 3\nstopped sealed\nrecovered aborted abort\nroot p=1\nslot 1 N v=5\nlast 2 0\n",
+    ),
+    (
+        OBJECTS,
+        8,
+        "call put 5\nstop ",
+        "\ncall set -1\npower new\nshow\nlast\n",
+        43,
+        46,
+        "= 0 log 3\nstopped sealed\nrecovered none\nroot p=1\nslot 1 N v=5\nlast 2 0\n",
+    ),
+    (
+        OBJECTS,
+        8,
+        "call put 5\nfault ",
+        "\ncall set -1\npower old\nshow\nlast\n",
+        7,
+        46,
+        "= 0 log 3\ndevice fault\nrecovered aborted abort\nroot p=1\nslot 1 N v=5\nlast 2 0\n",
+    ),
+    (
+        OBJECTS,
+        8,
+        "call put 5\nfault ",
+        "\ncall set -1\npower new\nshow\nlast\n",
+        5,
+        43,
+        "= 0 log 3\ndevice fault\nrecovered aborted abort\nroot p=1\nslot 1 N v=5\nlast 2 0\n",
+    ),
+    (
+        OBJECTS,
+        8,
+        "call put 5\nfault ",
+        "\ncall set -1\npower new\nshow\nlast\n",
+        46,
+        47,
+        "= 0 log 3\naborted abort\nrecovered none\nroot p=1\nslot 1 N v=5\nlast 2 0\n",
+    ),
+    // its recovery has 51: 12 put four words back and begin an attempt
+    (
+        OBJECTS,
+        8,
+        "call put 5\nstop 40\ncall set -1\nfault ",
+        "\npower new\npower old\nshow\nlast\n",
+        0,
+        51,
+        "= 0 log 3\nstopped sealed\ndevice fault\nrecovered aborted abort\nroot p=1\nslot 1 N v=5\nlast 2 0\n",
+    ),
+    (
+        OBJECTS,
+        8,
+        "call put 5\nstop 40\ncall set -1\nfault ",
+        "\npower new\npower old\nshow\nlast\n",
+        51,
+        52,
+        "= 0 log 3\nstopped sealed\nrecovered aborted abort\nrecovered none\nroot p=1\nslot 1 N v=5\nlast 2 0\n",
+    ),
+    (
+        OBJECTS,
+        8,
+        "call put 5\nstop 40\ncall set -1\nstop ",
+        "\npower old\npower new\nshow\nlast\n",
+        0,
+        48,
+        "= 0 log 3\nstopped sealed\nstopped sealed\nrecovered aborted abort\nroot p=1\nslot 1 N v=5\nlast 2 0\n",
+    ),
+    (
+        OBJECTS,
+        8,
+        "call put 5\nstop 40\ncall set -1\nstop ",
+        "\npower old\npower new\nshow\nlast\n",
+        48,
+        51,
+        "= 0 log 3\nstopped sealed\nstopped sealed\nrecovered none\nroot p=1\nslot 1 N v=5\nlast 2 0\n",
+    ),
 ];
 
-/// The first number of a row whose answers are others than the row says.
+/// The first number of a row whose answers are others than the row says. If the program is refused,
+/// that is the row's first number.
 fn wrong_cut<L: Ledger>(
     alloc: Global,
-    program: &Program,
     row: Cut,
     steps: &mut Steps<L>,
 ) -> Result<Option<u64>, AllocError> {
-    let (head, tail, first, end, wanted) = row;
+    let (text, records, head, tail, first, end, wanted) = row;
+    let Some(program) = program_of(alloc, text, records) else {
+        return Ok(Some(first));
+    };
     for k in first..end {
         let script = format!(in alloc; "{head}{k}{tail}")?;
-        let told = answers(alloc, program, script.as_str(), SimPmem::new(alloc), steps)?;
+        let told = answers(alloc, &program, script.as_str(), SimPmem::new(alloc), steps)?;
         if told.as_str() != wanted {
             return Ok(Some(k));
         }
@@ -229,11 +509,8 @@ fn wrong_cuts<L: Ledger>(alloc: Global, blank: Blank) -> Result<Option<(usize, u
     requires some { 0 < blank.parts }
 {
     let mut steps: Steps<L> = Steps::new(blank);
-    let Some(program) = program_of(alloc, MOVES, 4) else {
-        return Ok(Some((0, 0)));
-    };
     for (row, cut) in CUTS.iter().enumerate() {
-        if let Some(k) = wrong_cut(alloc, &program, *cut, &mut steps)? {
+        if let Some(k) = wrong_cut(alloc, *cut, &mut steps)? {
             return Ok(Some((row, k)));
         }
     }
