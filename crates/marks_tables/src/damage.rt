@@ -1,9 +1,10 @@
-//! Damaged certificates: of fixed programs, each kind of damage to the first reason with two walks
-//! is refused as that reason.
+//! Damaged certificates: of fixed and of drawn programs, each kind of damage to the first reason
+//! with two walks is refused as that reason.
 
 ghost use Rattle.ir.specs.WellFormed.{IsWellFormed};
 
 use crate::cases::{Case, case_program};
+use crate::programs::program;
 use crate::well::is_well_formed;
 use ir::{Ir, Site};
 use std::alloc::{AllocError, Global};
@@ -29,6 +30,9 @@ enum Damage {
     SaidAlways,
     SaidPastFree,
 }
+
+/// How many programs are drawn.
+const PROGRAMS: u64 = 2_500;
 
 const KINDS: [Damage; 10] = [
     Damage::PlaceRaised,
@@ -203,34 +207,84 @@ fn is_told(
     Ok(check(ir, &changed) == wanted)
 }
 
-/// The first kind of damage to the certificate of a program that is told wrongly.
-fn wrong_kind(alloc: Global, ir: &Ir) -> Result<Option<Damage>, AllocError>
+/// The first kind of damage to a reason of a certificate that is told wrongly.
+fn wrong_kind(
+    alloc: Global,
+    ir: &Ir,
+    certificate: &Certificate,
+    at: usize,
+) -> Result<Option<Damage>, AllocError>
     requires { IsWellFormed ir.now }
 {
-    let certificate = explain(alloc, ir)?;
-    let Some(at) = certificate.reasons.as_slice().iter().position(is_clobber) else {
-        return Ok(Some(Damage::Nothing));
-    };
-    if !is_told(alloc, ir, &certificate, at, Damage::Nothing)? {
+    if !is_told(alloc, ir, certificate, at, Damage::Nothing)? {
         return Ok(Some(Damage::Nothing));
     }
     for damage in KINDS {
-        if !is_told(alloc, ir, &certificate, at, damage)? {
+        if !is_told(alloc, ir, certificate, at, damage)? {
             return Ok(Some(damage));
         }
     }
     Ok(None)
 }
 
-/// The first program, and the kind of damage to its certificate that is told wrongly.
-fn wrong_case(alloc: Global) -> Result<Option<(Case, Damage)>, AllocError> {
+/// What came of the damage to a program's certificate.
+#[derive(Clone, Copy, Debug, PartialEq, Eq)]
+enum Verdict {
+    Refused,
+    /// No reason has two walks.
+    NoWalks,
+    Differs(Damage),
+    /// The program isn't well formed.
+    Unfit,
+}
+
+fn damage_well(alloc: Global, ir: &Ir) -> Result<Verdict, AllocError>
+    requires { IsWellFormed ir.now }
+{
+    let certificate = explain(alloc, ir)?;
+    let Some(at) = certificate.reasons.as_slice().iter().position(is_clobber) else {
+        return Ok(Verdict::NoWalks);
+    };
+    match wrong_kind(alloc, ir, &certificate, at)? {
+        None => Ok(Verdict::Refused),
+        Some(damage) => Ok(Verdict::Differs(damage)),
+    }
+}
+
+fn damage_checked(alloc: Global, ir: &Ir) -> Result<Verdict, AllocError> {
+    if !is_well_formed(ir) {
+        return Ok(Verdict::Unfit);
+    }
+    damage_well(alloc, ir)
+}
+
+fn damage_case(alloc: Global, case: Case) -> Result<Verdict, AllocError> {
+    let ir = case_program(alloc, case)?;
+    damage_checked(alloc, &ir)
+}
+
+fn damage_drawn(alloc: Global, number: u64) -> Result<Verdict, AllocError> {
+    let ir = program(alloc, number)?;
+    damage_checked(alloc, &ir)
+}
+
+/// The first fixed program with a damaged certificate that is told wrongly.
+fn wrong_case(alloc: Global) -> Result<Option<(Case, Verdict)>, AllocError> {
     for case in CASES {
-        let ir = case_program(alloc, case)?;
-        if !is_well_formed(&ir) {
-            return Ok(Some((case, Damage::Nothing)));
+        match damage_case(alloc, case)? {
+            Verdict::Refused => {}
+            other => return Ok(Some((case, other))),
         }
-        if let Some(damage) = wrong_kind(alloc, &ir)? {
-            return Ok(Some((case, damage)));
+    }
+    Ok(None)
+}
+
+/// The first drawn program with a damaged certificate that is told wrongly.
+fn wrong_drawn(alloc: Global, count: u64) -> Result<Option<(u64, Verdict)>, AllocError> {
+    for number in 0..count {
+        match damage_drawn(alloc, number)? {
+            Verdict::Refused | Verdict::NoWalks => {}
+            other => return Ok(Some((number, other))),
         }
     }
     Ok(None)
@@ -239,5 +293,11 @@ fn wrong_case(alloc: Global) -> Result<Option<(Case, Damage)>, AllocError> {
 #[test]
 fn each_damage_is_refused(rt: HostRuntime) -> Result<(), Fail> {
     assert_eq!(rt; wrong_case(rt.alloc()), Ok(None));
+    Ok(())
+}
+
+#[test]
+fn each_damage_of_drawn_programs_is_refused(rt: HostRuntime) -> Result<(), Fail> {
+    assert_eq!(rt; wrong_drawn(rt.alloc(), PROGRAMS), Ok(None));
     Ok(())
 }

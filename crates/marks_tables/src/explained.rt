@@ -1,8 +1,9 @@
-//! The certificates of drawn programs: each is accepted by the checker, and lists exactly the sites
-//! that the marks log.
+//! The certificates of drawn and of fixed programs: each is accepted by the checker, and lists
+//! exactly the sites that the marks log.
 
 ghost use Rattle.ir.specs.WellFormed.{IsWellFormed};
 
+use crate::cases::{Case, case_program};
 use crate::programs::program;
 use crate::well::is_well_formed;
 use clobber_pass::{MarkTable, marks};
@@ -14,6 +15,23 @@ use walk_maker::explain;
 
 /// How many programs are drawn.
 const PROGRAMS: u64 = 2_500;
+
+const CASES: [Case; 14] = [
+    Case::WrittenFirst,
+    Case::ReadFirst,
+    Case::Fill,
+    Case::FirstOfTwo,
+    Case::LastOfTwo,
+    Case::OtherCall,
+    Case::Recursion,
+    Case::AfterRecursion,
+    Case::Else,
+    Case::BackEdge,
+    Case::TwoBackEdges,
+    Case::Alias,
+    Case::WrittenAlias,
+    Case::RootArray,
+];
 
 /// What came of the certificates. What differs is the first program's number.
 #[derive(Clone, Copy, Debug, PartialEq, Eq)]
@@ -57,12 +75,16 @@ fn explain_well(alloc: Global, number: u64, ir: &Ir) -> Result<Verdict, AllocErr
     })
 }
 
-fn explain_drawn(alloc: Global, number: u64) -> Result<Verdict, AllocError> {
-    let ir = program(alloc, number)?;
-    if !is_well_formed(&ir) {
+fn explain_checked(alloc: Global, number: u64, ir: &Ir) -> Result<Verdict, AllocError> {
+    if !is_well_formed(ir) {
         return Ok(Verdict::Unfit { program: number });
     }
-    explain_well(alloc, number, &ir)
+    explain_well(alloc, number, ir)
+}
+
+fn explain_drawn(alloc: Global, number: u64) -> Result<Verdict, AllocError> {
+    let ir = program(alloc, number)?;
+    explain_checked(alloc, number, &ir)
 }
 
 /// The certificates of the drawn programs, up to the first that differs.
@@ -78,9 +100,32 @@ fn explain_all(alloc: Global, count: u64) -> Verdict {
     Verdict::Accepted { reasons: sum }
 }
 
+fn explain_case(alloc: Global, case: Case) -> Result<Verdict, AllocError> {
+    let ir = case_program(alloc, case)?;
+    explain_checked(alloc, 0, &ir)
+}
+
+/// The first fixed program whose certificate differs.
+fn wrong_case(alloc: Global) -> Result<Option<Case>, AllocError> {
+    for case in CASES {
+        match explain_case(alloc, case)? {
+            Verdict::Accepted { .. } => {}
+            _ => return Ok(Some(case)),
+        }
+    }
+    Ok(None)
+}
+
+// 4,859 headers, and the 1,512 stores and fills for which walks call.
 #[test]
 fn certificates_are_accepted(rt: HostRuntime) -> Result<(), Fail> {
-    let wanted = Verdict::Accepted { reasons: 162 };
-    assert_eq!(rt; explain_all(rt.alloc(), 60), wanted);
+    let wanted = Verdict::Accepted { reasons: 6_371 };
+    assert_eq!(rt; explain_all(rt.alloc(), PROGRAMS), wanted);
+    Ok(())
+}
+
+#[test]
+fn fixed_certificates_are_accepted(rt: HostRuntime) -> Result<(), Fail> {
+    assert_eq!(rt; wrong_case(rt.alloc()), Ok(None));
     Ok(())
 }
