@@ -5,7 +5,6 @@
 -- and with ` via I` where it passes a call.
 use Rattle.std.specs.Prelude.{ℕ, ◌+◌, List, [], ◌∷◌, ◌++◌, Bool, true, false, Option, Some, None}
 use Rattle.std.specs.Prelude.{length, codes, flat_map}
-use Rattle.std.specs.List.{filter}
 use Rattle.std.specs.Fmt.{decimal}
 use Rattle.pool_map.specs.declared.shapes.Shapes.{Shapes}
 use Rattle.ir.specs.declared.function.Ir.{Ir}
@@ -94,20 +93,20 @@ says_clobber Always = false
 says_clobber (PastFree walk) = false
 says_clobber (Clobber unwrites reads) = true
 
-abbrev pub always_in : List (Site × Reason) → ℕ
-always_in rs = length (filter (λ (r : Site × Reason). says_always r.1) rs)
+abbrev pub one_if : Bool → ℕ
+one_if true = 1
+one_if false = 0
 
-abbrev pub past_free_in : List (Site × Reason) → ℕ
-past_free_in rs = length (filter (λ (r : Site × Reason). says_past_free r.1) rs)
-
-abbrev pub clobber_in : List (Site × Reason) → ℕ
-clobber_in rs = length (filter (λ (r : Site × Reason). says_clobber r.1) rs)
+-- how many of the reasons say so
+abbrev pub counted : (Reason → Bool) → List (Site × Reason) → ℕ
+counted says [] = 0
+counted says (r ∷ rs) = one_if (says r.1) + counted says rs
 
 abbrev pub reasons_line : List (Site × Reason) → List ℕ
 reasons_line rs = codes "reasons " ++ (decimal (length rs)
-    ++ (codes " always " ++ (decimal (always_in rs)
-    ++ (codes " free " ++ (decimal (past_free_in rs)
-    ++ (codes " clobber " ++ (decimal (clobber_in rs) ++ codes "\n")))))))
+    ++ (codes " always " ++ (decimal (counted says_always rs)
+    ++ (codes " free " ++ (decimal (counted says_past_free rs)
+    ++ (codes " clobber " ++ (decimal (counted says_clobber rs) ++ codes "\n")))))))
 
 abbrev pub why_text : Ir → Certificate → List ℕ
 why_text ir c =

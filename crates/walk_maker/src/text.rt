@@ -1,6 +1,6 @@
 //! The text of a certificate.
 
-ghost use Rattle.std.specs.Prelude.{◌≡◌, ◌++◌, flat_map, OnOk, IfOk};
+ghost use Rattle.std.specs.Prelude.{◌≡◌, ◌≤◌, ◌++◌, flat_map, OnOk, IfOk};
 ghost use Rattle.walk_maker.specs.WhyText as why;
 
 use ir::{Ir, Site};
@@ -251,31 +251,41 @@ fn says_clobber(reason: &Reason) -> bool
     }
 }
 
-fn always_in(reasons: &[(Site, Reason)]) -> usize
-    ensures { result ≡ why.always_in reasons.now }
+fn one_if(holds: bool) -> usize
+    ensures value { result ≡ why.one_if holds }
+    ensures small { result ≤ 1 }
 {
-    reasons
-        .iter()
-        .filter(|reason| says_always(&reason.1))
-        .count()
+    if holds { 1 } else { 0 }
+}
+
+fn always_in(reasons: &[(Site, Reason)]) -> usize
+    ensures { result ≡ why.counted why.says_always reasons.now }
+{
+    let mut count = 0;
+    for reason in reasons {
+        count += one_if(says_always(&reason.1));
+    }
+    count
 }
 
 fn past_free_in(reasons: &[(Site, Reason)]) -> usize
-    ensures { result ≡ why.past_free_in reasons.now }
+    ensures { result ≡ why.counted why.says_past_free reasons.now }
 {
-    reasons
-        .iter()
-        .filter(|reason| says_past_free(&reason.1))
-        .count()
+    let mut count = 0;
+    for reason in reasons {
+        count += one_if(says_past_free(&reason.1));
+    }
+    count
 }
 
 fn clobber_in(reasons: &[(Site, Reason)]) -> usize
-    ensures { result ≡ why.clobber_in reasons.now }
+    ensures { result ≡ why.counted why.says_clobber reasons.now }
 {
-    reasons
-        .iter()
-        .filter(|reason| says_clobber(&reason.1))
-        .count()
+    let mut count = 0;
+    for reason in reasons {
+        count += one_if(says_clobber(&reason.1));
+    }
+    count
 }
 
 /// Writes how many reasons there are, and how many of each kind.

@@ -1,4 +1,4 @@
-use Rattle.std.proofs.Common.{◌++◌, ◌≡◌, drop, flat_map}
+use Rattle.std.proofs.Common.{◌++◌, ◌≡◌, drop}
 use Rattle.walk_maker.specs.WhyText as why
 use Rattle.walk_maker.proofs.text.push_passed.Given as goal
 

@@ -1,0 +1,8 @@
+use Rattle.std.proofs.Common.{◌≡◌, ◌≤◌, ◌+◌, drop}
+use Rattle.walk_maker.specs.WhyText as why
+use Rattle.walk_maker.proofs.text.past_free_in.Given as goal
+
+abbrev pub invariant-loop-reason : goal.invariant-loop-reason
+invariant-loop-reason l =
+    (l.count + why.counted why.says_past_free (drop l.reason-index l.reasons)
+    ≡ why.counted why.says_past_free l.reasons) × (l.count ≤ l.reason-index)
