@@ -2,7 +2,7 @@
 
 use crate::trap_place::trap_place;
 use cnvm_script::{Command, next_line, read_line};
-use plain_notes::{Told, message_of, of_trap};
+use plain_notes::{PoolLeft, Told, message_of, of_trap, of_worker_trap};
 use std::alloc::{AllocError, Global};
 
 /// The texts of a run that came to its end: what it read and what it answered.
@@ -19,10 +19,13 @@ pub struct RunTexts<'a> {
     pub saved: &'a str,
 }
 
-/// What the answers of a script tell: the first trap, and how many commands were refused.
+/// What the answers of a script tell: the first trap, the first call that was rolled back, and how
+/// many calls were rolled back and commands refused.
 #[derive(Drop)]
 struct Found {
     trap: Option<Told>,
+    undone: Option<Told>,
+    undone_calls: u64,
     refused: u64,
     /// The line of the first refused command.
     first: u64,
@@ -35,6 +38,8 @@ struct Found {
 pub fn answers_note(alloc: Global, run: RunTexts<'_>) -> Result<Option<String>, AllocError> {
     let mut found = Found {
         trap: None,
+        undone: None,
+        undone_calls: 0,
         refused: 0,
         first: 0,
         called: String::new(alloc),
@@ -92,10 +97,8 @@ fn answer_of<'a>(
         return Ok(left);
     }
     let (line, others) = next_line(left);
-    let kind = after_head(line);
-    if !kind.is_empty() && found.trap.is_none() {
-        let kind = String::from_utf8_lossy(alloc, kind)?;
-        found.trap = Some(trapped(alloc, run, number, found.called.as_str(), kind.as_str())?);
+    if let Some(end) = trap_end(line) {
+        note_trap(alloc, found, run, number, end)?;
     }
     if line.starts_with(b"refused ") {
         if found.refused == 0 {
@@ -106,27 +109,69 @@ fn answer_of<'a>(
     Ok(others)
 }
 
+/// How a call ended that trapped: its kind, and what is left of the pool.
+#[derive(Clone, Copy)]
+struct TrapEnd<'a> {
+    kind: &'a [u8],
+    left: PoolLeft,
+}
+
+/// Adds the message of a trap, if it is the first of its sort.
+fn note_trap(
+    alloc: Global,
+    found: &mut Found,
+    run: RunTexts<'_>,
+    number: u64,
+    end: TrapEnd<'_>,
+) -> Result<(), AllocError> {
+    match end.left {
+        PoolLeft::Unusable => {
+            if found.trap.is_none() {
+                found.trap = Some(trapped(alloc, run, number, found.called.as_str(), end)?);
+            }
+        }
+        PoolLeft::Restored => {
+            found.undone_calls = found.undone_calls.saturating_add(1);
+            if found.undone.is_none() {
+                found.undone = Some(trapped(alloc, run, number, found.called.as_str(), end)?);
+            }
+        }
+    }
+    Ok(())
+}
+
 /// The message of a trap in this call.
 fn trapped(
     alloc: Global,
     run: RunTexts<'_>,
     number: u64,
     called: &str,
-    kind: &str,
+    end: TrapEnd<'_>,
 ) -> Result<Told, AllocError> {
-    let told = of_trap(alloc, run.script_path, number, called, kind)?;
+    let kind = String::from_utf8_lossy(alloc, end.kind)?;
+    let kind = kind.as_str();
+    let told = of_trap(alloc, run.script_path, number, called, kind, end.left)?;
     let place = trap_place(alloc, run.program_path, run.program, called, kind)?;
     told.with_some(alloc, place)
 }
 
-/// The kind of a trap, if the line tells one.
-fn after_head(line: &[u8]) -> &[u8] {
-    for head in ["trap ", "recovered trap "] {
+/// The answers that tell a trap, and what each leaves of the pool.
+const TRAP_HEADS: [(&str, PoolLeft); 4] = [
+    ("trap ", PoolLeft::Unusable),
+    ("recovered trap ", PoolLeft::Unusable),
+    ("aborted ", PoolLeft::Restored),
+    ("recovered aborted ", PoolLeft::Restored),
+];
+
+/// The trap that the line tells, if any.
+fn trap_end(line: &[u8]) -> Option<TrapEnd<'_>> {
+    for (head, left) in TRAP_HEADS {
         if line.starts_with(head.as_bytes()) {
-            return line.split_at(line.len().min(head.len())).1;
+            let kind = line.split_at(line.len().min(head.len())).1;
+            return Some(TrapEnd { kind, left });
         }
     }
-    b""
+    None
 }
 
 /// The text after the lines of a pool's slots.
@@ -141,22 +186,20 @@ fn after_slots(left: &[u8]) -> &[u8] {
 fn told(alloc: Global, run: RunTexts<'_>, found: Found) -> Result<Option<String>, AllocError> {
     let Found {
         trap,
+        undone,
+        undone_calls,
         refused,
         first,
         ..
     } = found;
-    let path = run.script_path;
-    let saved = run.saved;
     let mut message = String::new(alloc);
-    if let Some(trap) = trap {
-        let trap = if saved.is_empty() {
-            trap
-        } else {
-            let note = format!(in alloc; "{saved} holds this pool now")?;
-            trap.with(alloc, note.as_str())?
-        };
-        message.push_str(message_of(alloc, &trap)?.as_str())?;
+    if let Some(undone) = undone {
+        push_undone(alloc, &mut message, undone, undone_calls)?;
     }
+    if let Some(trap) = trap {
+        push_trap(alloc, &mut message, trap, run.saved)?;
+    }
+    let path = run.script_path;
     if refused == 1 {
         let line = format!(in alloc; "cnvm: {path}:{first}: a command was refused\n")?;
         message.push_str(line.as_str())?;
@@ -170,4 +213,91 @@ fn told(alloc: Global, run: RunTexts<'_>, found: Found) -> Result<Option<String>
         return Ok(None);
     }
     Ok(Some(message))
+}
+
+/// Adds the message of the first call that was rolled back.
+fn push_undone(
+    alloc: Global,
+    message: &mut String,
+    undone: Told,
+    calls: u64,
+) -> Result<(), AllocError> {
+    let undone = if calls > 1 {
+        let note = format!(in alloc; "{calls} calls were rolled back, this one first")?;
+        undone.with(alloc, note.as_str())?
+    } else {
+        undone
+    };
+    message.push_str(message_of(alloc, &undone)?.as_str())
+}
+
+/// Adds the message of a trap that ends the use of the pool.
+fn push_trap(
+    alloc: Global,
+    message: &mut String,
+    trap: Told,
+    saved: &str,
+) -> Result<(), AllocError> {
+    let trap = if saved.is_empty() {
+        trap
+    } else {
+        let note = format!(in alloc; "{saved} holds this pool now")?;
+        trap.with(alloc, note.as_str())?
+    };
+    message.push_str(message_of(alloc, &trap)?.as_str())
+}
+
+/// The message of the answers that a script of workers was given, where one is a trap or a refusal.
+pub fn workers_answers_note(
+    alloc: Global,
+    script: &str,
+    answers: &[u8],
+) -> Result<Option<String>, AllocError> {
+    let mut message = String::new(alloc);
+    let mut refused = 0u64;
+    let mut rest = answers;
+    'lines: while !rest.is_empty() {
+        let (line, others) = next_line(rest);
+        rest = others;
+        let (worker, answer) = worker_answer(line);
+        if answer.starts_with(b"refused ") {
+            refused = refused.saturating_add(1);
+        }
+        if let (true, Some(end)) = (message.is_empty(), trap_end(answer)) {
+            push_worker(alloc, &mut message, worker, end)?;
+        }
+    }
+    if refused > 0 {
+        let line = format!(in alloc; "cnvm: {script}: refusals among the answers: {refused}\n")?;
+        message.push_str(line.as_str())?;
+    }
+    if message.is_empty() {
+        return Ok(None);
+    }
+    Ok(Some(message))
+}
+
+/// The number of a worker at the head of an answer, if there is one, and the rest.
+fn worker_answer(line: &[u8]) -> (&[u8], &[u8]) {
+    for (at, byte) in line.iter().enumerate() {
+        if *byte == b' ' {
+            return (&line[..at], &line[at + 1..]);
+        }
+        if !byte.is_ascii_digit() {
+            return (b"", line);
+        }
+    }
+    (b"", line)
+}
+
+fn push_worker(
+    alloc: Global,
+    message: &mut String,
+    worker: &[u8],
+    end: TrapEnd<'_>,
+) -> Result<(), AllocError> {
+    let worker = String::from_utf8_lossy(alloc, worker)?;
+    let kind = String::from_utf8_lossy(alloc, end.kind)?;
+    let told = of_worker_trap(alloc, worker.as_str(), kind.as_str())?;
+    message.push_str(message_of(alloc, &told)?.as_str())
 }

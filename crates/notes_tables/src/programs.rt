@@ -5,8 +5,12 @@ use std::alloc::{AllocError, Global};
 use std::test::Fail;
 
 /// What stands above a body.
-const HEAD: &str =
-    "struct Node { int64_t v; struct Node *next; };\nstruct R { int64_t n; int64_t t[4]; struct Node *head; };\npersistent struct R root;\nint64_t add(int64_t a, int64_t b) { return a + b; }\ntx int64_t f(int64_t x, int64_t y) {\n    ";
+const HEAD: &str = concat!(
+    "struct Node { int64_t v; struct Node *next; };\n",
+    "struct R { int64_t n; int64_t t[4]; struct Node *head; };\n",
+    "persistent struct R root;\nint64_t add(int64_t a, int64_t b) { return a + b; }\n",
+    "tx int64_t f(int64_t x, int64_t y) {\n    ",
+);
 
 /// A program with this body.
 fn program(alloc: Global, body: &str) -> Result<String, AllocError> {
@@ -286,17 +290,17 @@ const BODIES: [(&str, &str, &str); 141] = [
     (
         "for (x = 0, y = 9; x < y; x++) { }",
         "6:15: error: syntax at `,`",
-        "each part of a `for` is one statement: write the others before the loop and at its end",
+        "each part of a `for` is one statement: write others before the loop and at its end",
     ),
     (
         "for (x = 0; x < y; x++, y--) { }",
         "6:27: error: syntax at `,`",
-        "each part of a `for` is one statement: write the others before the loop and at its end",
+        "each part of a `for` is one statement: write others before the loop and at its end",
     ),
     (
         "for (int64_t i = 0, j = 0; i < 3; i++) { }",
         "6:23: error: syntax at `,`",
-        "each part of a `for` is one statement: write the others before the loop and at its end",
+        "each part of a `for` is one statement: write others before the loop and at its end",
     ),
     (
         "x *= 2;",
@@ -361,17 +365,17 @@ const BODIES: [(&str, &str, &str); 141] = [
     (
         "y = x = 1;",
         "6:11: error: syntax at `=`",
-        "an assignment is a statement of its own, and its left side is a name, a field or an element; a comparison is `==`",
+        "an assignment is a statement, to a name, a field or an element; `==` compares",
     ),
     (
         "while ((x = y)) { }",
         "6:15: error: syntax at `=`",
-        "an assignment is a statement of its own, and its left side is a name, a field or an element; a comparison is `==`",
+        "an assignment is a statement, to a name, a field or an element; `==` compares",
     ),
     (
         "if (x = 1) { }",
         "6:11: error: syntax at `=`",
-        "an assignment is a statement of its own, and its left side is a name, a field or an element; a comparison is `==`",
+        "an assignment is a statement, to a name, a field or an element; `==` compares",
     ),
     (
         "x = (int64_t) y;",
@@ -538,7 +542,7 @@ const BODIES: [(&str, &str, &str); 141] = [
     (
         "case 1: x = 1;",
         "6:11: error: no token begins with this byte",
-        "there are no labels and no `switch`: write `if` and `else if`, or a function with `return`",
+        "there are no labels or `switch`: write `if`, `else if`, or a function with `return`",
     ),
     (
         "x = \"hi\";",
@@ -553,7 +557,7 @@ const BODIES: [(&str, &str, &str); 141] = [
     (
         "#define N 4",
         "6:5: error: no token begins with this byte",
-        "there are no macros: write a function, as `int64_t size() { return 64; }`, and a numeral in the length of an array",
+        "there are no macros: write `int64_t size() { return 64; }`, or the number itself",
     ),
     (
         "x = 1 @ 2;",
@@ -800,7 +804,32 @@ const BODIES: [(&str, &str, &str); 141] = [
 ];
 
 /// Whole texts, with what is told of them.
-const WHOLE: [(&str, &str, &str); 53] = [
+const WHOLE: [(&str, &str, &str); 58] = [
+    (
+        "tx rollback int64_t f() { return 1; }\n",
+        "1:4: error: syntax at `rollback`",
+        "`tx` takes no mark but `abort`: a trap in `tx abort int64_t f()` restores the pool",
+    ),
+    (
+        "tx persistent int64_t f() { return 1; }\n",
+        "1:4: error: syntax at `persistent`",
+        "`tx` takes no mark but `abort`: a trap in `tx abort int64_t f()` restores the pool",
+    ),
+    (
+        "abort int64_t f() { return 1; }\n",
+        "1:1: error: syntax at `abort`",
+        "`abort` follows `tx`: write `tx abort int64_t f() { .. }`",
+    ),
+    (
+        "tx abort abort int64_t f() { return 1; }\n",
+        "1:10: error: syntax at `abort`",
+        "",
+    ),
+    (
+        "tx abort int32_t f() { return 1; }\n",
+        "1:10: error: syntax at `int32_t`",
+        "every number is an `int64_t`: write `int64_t`",
+    ),
     (
         "int64_t n;\n",
         "1:10: error: syntax at `;`",
@@ -967,7 +996,10 @@ const WHOLE: [(&str, &str, &str); 53] = [
         "split it into objects that point to each other, or keep its fields in the root",
     ),
     (
-        "struct R { int64_t a[20]; };\npersistent struct R root;\nint64_t f(struct R *r) { return 0; }\n",
+        concat!(
+            "struct R { int64_t a[20]; };\npersistent struct R root;\n",
+            "int64_t f(struct R *r) { return 0; }\n",
+        ),
         "3:18: error: `struct R` has 20 words, so nothing points to it; 15 is the limit",
         "fields of the root are written `root.f`",
     ),
@@ -1007,7 +1039,10 @@ const WHOLE: [(&str, &str, &str); 53] = [
         "a `tx` gives an `int64_t`, and all its parameters are `int64_t`",
     ),
     (
-        "struct S { int64_t a; };\npersistent struct S root;\ntx int64_t f(struct S *s) { return 0; }\n",
+        concat!(
+            "struct S { int64_t a; };\npersistent struct S root;\n",
+            "tx int64_t f(struct S *s) { return 0; }\n",
+        ),
         "3:12: error: the transaction `f` has a type that no script gives",
         "a `tx` gives an `int64_t`, and all its parameters are `int64_t`",
     ),
@@ -1047,7 +1082,13 @@ const WHOLE: [(&str, &str, &str); 53] = [
         "",
     ),
     (
-        "int64_t f() { return ((((((((((((((((((((((((((((((((((((((((((((((((((((((((((((((((1)))))))))))))))))))))))))))))))))))))))))))))))))))))))))))))))))); }\n",
+        concat!(
+            "int64_t f() { return ",
+            "((((((((((((((((((((((((((((((((((((((((((((((((((((((((((((((((",
+            "1",
+            "))))))))))))))))))))))))))))))))))))))))))))))))))))))))))))))))))",
+            "; }\n",
+        ),
         "1:85: error: this stands too deep: a token weighs at most 64",
         "write a local for a part of the expression, or a function for a part of the nesting",
     ),
@@ -1072,15 +1113,28 @@ const WHOLE: [(&str, &str, &str); 53] = [
 const LAID_OUT: [(&str, &str); 4] = [
     (
         "struct S {\n\tint64_t a, b;\n};\n",
-        "a.c:2:11: error: syntax at `,`\n    \tint64_t a, b;\n    \t         ^\nnote: one declaration declares one field: write one for each\nnote: here could stand `;` or `[`\n",
+        concat!(
+            "a.c:2:11: error: syntax at `,`\n    \tint64_t a, b;\n    \t         ^\n",
+            "note: one declaration declares one field: write one for each\n",
+            "note: here could stand `;` or `[`\n",
+        ),
     ),
     (
         "/* é */ static int64_t f() { return 1; }\n",
-        "a.c:1:10: error: syntax at `static`\n    /* é */ static int64_t f() { return 1; }\n            ^\nnote: leave `static` out: a program is one file\nnote: here could stand a struct, the root or a function\n",
+        concat!(
+            "a.c:1:10: error: syntax at `static`\n",
+            "    /* é */ static int64_t f() { return 1; }\n            ^\n",
+            "note: leave `static` out: a program is one file\n",
+            "note: here could stand a struct, the root or a function\n",
+        ),
     ),
     (
         "int64_t f() { return 1 }\r\n",
-        "a.c:1:24: error: syntax at `}`\n    int64_t f() { return 1 }\n                           ^\nnote: a `;` is missing after `1`\nnote: here could stand an operator, `->`, `;` or `[`\n",
+        concat!(
+            "a.c:1:24: error: syntax at `}`\n    int64_t f() { return 1 }\n",
+            "                           ^\nnote: a `;` is missing after `1`\n",
+            "note: here could stand an operator, `->`, `;` or `[`\n",
+        ),
     ),
     (
         "struct S { int64_t a; };\npersistent struct S root;\n",

@@ -1,16 +1,22 @@
 //! The messages of refused scripts, and of answers.
 
-use cnvm_notes::{RunTexts, answers_note, script_note};
+use cnvm_notes::{RunTexts, answers_note, script_note, workers_answers_note, workers_note};
 use std::alloc::{AllocError, Global};
 use std::test::Fail;
 
 /// Lines, the column of the word at fault, what is told of it, and a note.
-const LINES: [(&str, &str, &str, &str); 26] = [
+const LINES: [(&str, &str, &str, &str); 27] = [
+    (
+        "start 0 add 5",
+        "1:1",
+        "`start` is no command",
+        "it is a command of `cnvm workers`",
+    ),
     (
         "call add(1)",
         "1:6",
         "`add(1)` is no name of a transaction",
-        "arguments stand without brackets and commas: write `call add 5 7`",
+        "arguments stand without brackets and commas: write `add 5 7`",
     ),
     (
         "call add 0x10",
@@ -40,7 +46,7 @@ const LINES: [(&str, &str, &str, &str); 26] = [
         "call add (5)",
         "1:10",
         "`(5)` is no argument",
-        "arguments stand without brackets: write `call add 5 7`",
+        "arguments stand without brackets: write `add 5 7`",
     ),
     (
         "call add 9223372036854775808",
@@ -94,7 +100,7 @@ const LINES: [(&str, &str, &str, &str); 26] = [
         "add 5",
         "1:1",
         "`add` is no command",
-        "the commands are `call NAME A..`, `stop K`, `fault K`, `power old P..`, `power new P..`, `show` and `last`",
+        "the commands are `call NAME A..`, `stop K`, `fault K`, `power old P..`, `show` and `last`",
     ),
     (
         "stop",
@@ -193,26 +199,178 @@ fn refused_lines(rt: HostRuntime) -> Result<(), Fail> {
     Ok(())
 }
 
+/// Lines of scripts of workers, the column of the word at fault, what is told of it, and a note.
+const WORKERS: [(&str, &str, &str, &str); 10] = [
+    (
+        "start add 5",
+        "1:7",
+        "`add` is no number of a worker",
+        "write `start 0 NAME A..` for the first worker",
+    ),
+    (
+        "start",
+        "1:6",
+        "the number of a worker is missing",
+        "write `start 0 NAME A..` for the first worker",
+    ),
+    (
+        "start 0",
+        "1:8",
+        "the name of a transaction is missing",
+        "write `start 0 NAME A..`",
+    ),
+    (
+        "start 0 add five",
+        "1:13",
+        "`five` is no argument",
+        "an argument is an optional `-` and 1 to 19 decimal digits",
+    ),
+    (
+        "turn",
+        "1:5",
+        "the number of a worker is missing",
+        "write `turn 0 1` for a turn of the first worker and one of the second",
+    ),
+    (
+        "turn 0 100",
+        "1:8",
+        "`100` is no number of a worker",
+        "write `turn 0 1` for a turn of the first worker and one of the second",
+    ),
+    ("finish 0", "1:8", "`finish` is alone on its line", ""),
+    (
+        "show",
+        "1:5",
+        "the number of a worker is missing",
+        "write `show 0` for the first worker",
+    ),
+    ("last 0 1", "1:8", "`last` takes one number of a worker", ""),
+    (
+        "call add 5",
+        "1:1",
+        "`call` is no command of workers",
+        "write `start I NAME A..`, and then `turn I`",
+    ),
+];
+
+#[test]
+fn refused_lines_of_workers(rt: HostRuntime) -> Result<(), Fail> {
+    for (line, place, what, note) in WORKERS {
+        let told = workers_note(rt.alloc(), "s", line.as_bytes())?;
+        let told = told.unwrap_or(String::new(rt.alloc()));
+        let wanted = wanted(rt.alloc(), line, place, what, note)?;
+        assert_eq!(rt; told.as_str(), wanted.as_str(), "at {line}");
+    }
+    Ok(())
+}
+
+/// Answers of scripts of workers, and what is told.
+const WORKERS_ANSWERS: [(&str, &str); 3] = [
+    ("started 0\n0 = 5 log 1\nroot n=5\n", ""),
+    (
+        "started 0\nrefused busy 0\nrefused worker 2\n",
+        "cnvm: s: refusals among the answers: 2\n",
+    ),
+    (
+        "started 1\n1 trap divide\n0 trap index\n1 refused unusable divide\n",
+        concat!(
+            "cnvm: worker 1 trapped: a number was divided by 0\n",
+            "note: test the divisor before `/` and `%`\n",
+            "note: the pool takes no more calls; the stores before the trap stand\n",
+            "cnvm: s: refusals among the answers: 1\n",
+        ),
+    ),
+];
+
+#[test]
+fn answers_of_workers(rt: HostRuntime) -> Result<(), Fail> {
+    for (answers, wanted) in WORKERS_ANSWERS {
+        let told = workers_answers_note(rt.alloc(), "s", answers.as_bytes())?;
+        let told = told.unwrap_or(String::new(rt.alloc()));
+        assert_eq!(rt; told.as_str(), wanted, "at {answers}");
+    }
+    Ok(())
+}
+
 /// The program of the scripts.
-const PROGRAM: &str =
-    "struct R { int64_t n; int64_t t[4]; };\npersistent struct R root;\nint64_t half(int64_t x) {\n    return x / 2;\n}\nint64_t part(int64_t x, int64_t y) {\n    return half(x) %\n        y;\n}\ntx int64_t div(int64_t y) {\n    root.n = part(root.n, y);\n    return root.n;\n}\ntx int64_t at(int64_t i) {\n    root.n = root.t[i];\n    root.t[i] = 1;\n    return 0;\n}\ntx int64_t stops() {\n    if (root.n) { abort(); }\n    return 0;\n}\n";
+const PROGRAM: &str = concat!(
+    "struct R { int64_t n; int64_t t[4]; };\npersistent struct R root;\n",
+    "int64_t half(int64_t x) {\n    return x / 2;\n}\n",
+    "int64_t part(int64_t x, int64_t y) {\n    return half(x) %\n        y;\n}\n",
+    "tx int64_t div(int64_t y) {\n    root.n = part(root.n, y);\n    return root.n;\n}\n",
+    "tx int64_t at(int64_t i) {\n    root.n = root.t[i];\n    root.t[i] = 1;\n",
+    "    return 0;\n}\ntx int64_t stops() {\n    if (root.n) { abort(); }\n    return 0;\n",
+    "}\n",
+);
 
 /// Scripts, their answers, and what is told.
-const ANSWERS: [(&str, &str, bool, &str, &str); 9] = [
+const ANSWERS: [(&str, &str, bool, &str, &str); 12] = [
+    (
+        "call stops\nshow\n",
+        "aborted abort\nroot n=5\n",
+        false,
+        "out.img",
+        concat!(
+            "cnvm: s:1: `stops` trapped: `abort()` was reached\n",
+            "note: the pool was restored as it was before the call, and takes further calls\n",
+            "note: it came in p.c:20\n",
+        ),
+    ),
+    (
+        "call stops\ncall div 0\ncall div 1\n",
+        "aborted abort\naborted divide\n= 5 log 1\n",
+        false,
+        "",
+        concat!(
+            "cnvm: s:1: `stops` trapped: `abort()` was reached\n",
+            "note: the pool was restored as it was before the call, and takes further calls\n",
+            "note: it came in p.c:20\nnote: 2 calls were rolled back, this one first\n",
+        ),
+    ),
+    (
+        "stop 28\ncall div 0\npower old\ncall at 9\nlast\n",
+        "stopped sealed\nrecovered aborted divide\ntrap index\nrefused unusable index\n",
+        false,
+        "",
+        concat!(
+            "cnvm: s:3: `div` trapped: a number was divided by 0\n",
+            "note: test the divisor before `/` and `%`\n",
+            "note: the pool was restored as it was before the call, and takes further calls\n",
+            "note: it came in p.c:7\n",
+            "cnvm: s:4: `at` trapped: an index was outside of its array\n",
+            "note: test an argument before it is an index\n",
+            "note: the pool takes no more calls; the stores before the trap stand\n",
+            "note: it came in one of these lines of p.c: 15, 16\n",
+            "cnvm: s:5: a command was refused\n",
+        ),
+    ),
     ("call add 5\n", "= 5 log 1\n", false, "out.img", ""),
     (
         "call add 5\n# a remark\ncall div 0\nshow\n",
         "= 5 log 1\ntrap divide\nrefused unusable divide\n",
         false,
         "",
-        "cnvm: s:3: `div` trapped: a number was divided by 0\nnote: test the divisor before `/` and `%`\nnote: the pool takes no more calls; the stores before the trap stand\nnote: it came in p.c:7\ncnvm: s:4: a command was refused\n",
+        concat!(
+            "cnvm: s:3: `div` trapped: a number was divided by 0\n",
+            "note: test the divisor before `/` and `%`\n",
+            "note: the pool takes no more calls; the stores before the trap stand\n",
+            "note: it came in p.c:7\ncnvm: s:4: a command was refused\n",
+        ),
     ),
     (
         "show\nstop 3\ncall add 5\npower old\nlast\n",
-        "root n=1\nslot 1 Node v=1\nstopped sealed\nrecovered trap logfull\nrefused unusable logfull\n",
+        concat!(
+            "root n=1\nslot 1 Node v=1\nstopped sealed\nrecovered trap logfull\n",
+            "refused unusable logfull\n",
+        ),
         false,
         "",
-        "cnvm: s:4: `add` trapped: a store has to be logged, and the log is full\nnote: do less in one call, or give a new pool more records with `--log`, up to 4096\nnote: the pool takes no more calls; the stores before the trap stand\ncnvm: s:5: a command was refused\n",
+        concat!(
+            "cnvm: s:4: `add` trapped: a store has to be logged, and the log is full\n",
+            "note: do less in one call, or give a new pool more records with `--log`, up to 4096\n",
+            "note: the pool takes no more calls; the stores before the trap stand\n",
+            "cnvm: s:5: a command was refused\n",
+        ),
     ),
     ("call add 5\n", "recovered none\n= 5 log 1\n", true, "", ""),
     (
@@ -227,28 +385,50 @@ const ANSWERS: [(&str, &str, bool, &str, &str); 9] = [
         "trap index\n",
         false,
         "",
-        "cnvm: s:1: `at` trapped: an index was outside of its array\nnote: test an argument before it is an index\nnote: the pool takes no more calls; the stores before the trap stand\nnote: it came in one of these lines of p.c: 15, 16\n",
+        concat!(
+            "cnvm: s:1: `at` trapped: an index was outside of its array\n",
+            "note: test an argument before it is an index\n",
+            "note: the pool takes no more calls; the stores before the trap stand\n",
+            "note: it came in one of these lines of p.c: 15, 16\n",
+        ),
     ),
     (
         "call stops\n",
         "trap abort\n",
         false,
         "",
-        "cnvm: s:1: `stops` trapped: `abort()` was reached\nnote: return a value of its own where nothing is broken\nnote: the pool takes no more calls; the stores before the trap stand\nnote: it came in p.c:20\n",
+        concat!(
+            "cnvm: s:1: `stops` trapped: `abort()` was reached\n",
+            "note: return a value of its own where nothing is broken\n",
+            "note: the pool takes no more calls; the stores before the trap stand\n",
+            "note: it came in p.c:20\n",
+        ),
     ),
     (
         "show\n",
         "recovered trap null\nrefused unusable null\n",
         true,
         "",
-        "cnvm: the recovery of the opened image trapped: a pointer that is NULL was followed or freed\nnote: test what `pm_new` and a search give\nnote: the pool takes no more calls; the stores before the trap stand\ncnvm: s:1: a command was refused\n",
+        concat!(
+            "cnvm: the recovery of the opened image trapped: ",
+            "a pointer that is NULL was followed or freed\n",
+            "note: test what `pm_new` and a search give\n",
+            "note: the pool takes no more calls; the stores before the trap stand\n",
+            "cnvm: s:1: a command was refused\n",
+        ),
     ),
     (
         "call loop 1\n",
         "trap steps\n",
         false,
         "out.img",
-        "cnvm: s:1: `loop` trapped: the transaction needs more ticks than it has\nnote: do less in one call, or give more with `--ticks`, up to 1000000, to a new pool\nnote: the pool takes no more calls; the stores before the trap stand\nnote: out.img holds this pool now\n",
+        concat!(
+            "cnvm: s:1: `loop` trapped: the transaction needs more ticks than it has\n",
+            "note: do less in one call, or give more with `--ticks`, up to 1000000, ",
+            "to a new pool\n",
+            "note: the pool takes no more calls; the stores before the trap stand\n",
+            "note: out.img holds this pool now\n",
+        ),
     ),
 ];
 

@@ -6,8 +6,8 @@ use std::alloc::{AllocError, Global};
 use std::test::Fail;
 
 /// Words, and what is told of them.
-const WORDS: [(&str, &str); 22] = [
-    ("", "a command is missing: run, list or storm"),
+const WORDS: [(&str, &str); 27] = [
+    ("", "a command is missing: run, list, storm, why or workers"),
     ("--help", "the commands and their options:"),
     (
         "rum a b",
@@ -15,7 +15,7 @@ const WORDS: [(&str, &str); 22] = [
     ),
     (
         "explain a",
-        "explain: there is no such command; there are run, list and storm",
+        "explain: there is no such command; there are run, list, storm, why and workers",
     ),
     ("run", "PROGRAM: `run` needs this word"),
     ("run a", "SCRIPT: `run` needs this word"),
@@ -56,6 +56,14 @@ const WORDS: [(&str, &str); 22] = [
         "storm c.c x 1",
         "START: x is no number of 1 to 10 digits, from 0 to 2147483647",
     ),
+    ("why", "PROGRAM: `why` needs this word"),
+    ("why a --log 5", "--log: `why` has no such option"),
+    ("workers a", "SCRIPT: `workers` needs this word"),
+    ("workers a b --workers 9", "--workers: 9 is not from 1 to 8"),
+    (
+        "worker a b",
+        "worker: there is no such command; did you mean `workers`?",
+    ),
 ];
 
 fn split(alloc: Global, line: &str) -> Result<Vec<String>, AllocError> {
@@ -74,7 +82,7 @@ fn wrong_words(rt: HostRuntime) -> Result<(), Fail> {
         let first = told.as_str().lines().next().unwrap_or("");
         let wanted = format!(in rt.alloc(); "cnvm: {wanted}")?;
         assert_eq!(rt; first, wanted.as_str(), "at {line}");
-        assert_eq!(rt; told.as_str().lines().count(), 10, "at {line}");
+        assert_eq!(rt; told.as_str().lines().count(), 15, "at {line}");
     }
     Ok(())
 }

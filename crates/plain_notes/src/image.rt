@@ -51,7 +51,7 @@ fn of_refusal(alloc: Global, path: &str, refusal: ImageRefusal) -> Result<Told, 
             )?;
             Told::new(alloc, what.as_str())?.with(
                 alloc,
-                "it was cut short, or saved with other `--slots` or `--log`: give them as they were then",
+                "it was cut short, or saved with other `--slots` or `--log`: give the same again",
             )
         }
         ImageRefusal::Magic => {
@@ -69,7 +69,7 @@ fn of_refusal(alloc: Global, path: &str, refusal: ImageRefusal) -> Result<Told, 
             let what = format!(in alloc; "{path}: was made from another text of the program")?;
             Told::new(alloc, what.as_str())?.with(
                 alloc,
-                "a changed comment is another text: take the program's text of the time of the image",
+                "a changed comment is another text: take the one that the image was saved with",
             )
         }
         ImageRefusal::Content(word, value) => {

@@ -258,7 +258,7 @@ fn by_star(near: &Spelled<'_>) -> Option<&'static str> {
 fn by_comma(near: &Spelled<'_>) -> Option<&'static str> {
     if near.in_for() {
         return Some(
-            "each part of a `for` is one statement: write the others before the loop and at its end",
+            "each part of a `for` is one statement: write others before the loop and at its end",
         );
     }
     match near.within() {
@@ -310,7 +310,7 @@ fn by_assign(near: &Spelled<'_>) -> Option<&'static str> {
         Within::Fields => Some("a field has no first value: it begins with 0"),
         Within::Parameters => Some("a parameter has no first value: each call gives one"),
         Within::Body => Some(
-            "an assignment is a statement of its own, and its left side is a name, a field or an element; a comparison is `==`",
+            "an assignment is a statement, to a name, a field or an element; `==` compares",
         ),
     }
 }
@@ -352,6 +352,12 @@ fn by_place(near: &Spelled<'_>) -> Option<&'static str> {
 fn at_top(near: &Spelled<'_>) -> Option<&'static str> {
     let here = near.here();
     let last = near.before(1);
+    if is(last, "tx") && !is_one(here, &NUMBER_TYPES) {
+        return Some(MARK_NOTE);
+    }
+    if is(here, "abort") && !is(last, "abort") {
+        return Some("`abort` follows `tx`: write `tx abort int64_t f() { .. }`");
+    }
     if is(near.before(3), "persistent") && is(near.before(2), "struct") {
         return by_root(here);
     }
@@ -380,6 +386,9 @@ fn at_top(near: &Spelled<'_>) -> Option<&'static str> {
     }
     None
 }
+
+const MARK_NOTE: &str =
+    "`tx` takes no mark but `abort`: a trap in `tx abort int64_t f()` restores the pool";
 
 const ROOT_NOTE: &str = "the root is declared once: write `persistent struct NAME root;`";
 

@@ -11,7 +11,7 @@ pub fn bad_byte(left: &[u8]) -> &'static str {
     match *byte {
         b'?' => "there is no `c ? a : b`: write `if (c) { x = a; } else { x = b; }`",
         b':' =>
-            "there are no labels and no `switch`: write `if` and `else if`, or a function with `return`",
+            "there are no labels or `switch`: write `if`, `else if`, or a function with `return`",
         b'"' => "there are no strings: a program works on numbers and objects",
         b'\'' => "there are no characters: write the number, as 97 for 'a'",
         b'#' => hash_note(left),
@@ -25,7 +25,7 @@ pub fn bad_byte(left: &[u8]) -> &'static str {
 
 fn hash_note(left: &[u8]) -> &'static str {
     if left.starts_with(b"#define") {
-        return "there are no macros: write a function, as `int64_t size() { return 64; }`, and a numeral in the length of an array";
+        return "there are no macros: write `int64_t size() { return 64; }`, or the number itself";
     }
     "only lines that begin with `#include` are skipped: leave the others out"
 }

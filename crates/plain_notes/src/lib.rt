@@ -17,6 +17,7 @@ mod told;
 mod trap;
 mod trap_line;
 mod words;
+mod workers_script;
 
 pub use could_stand::{TOKENS, expected};
 pub use file::{unread, unsaved, unwritten};
@@ -29,6 +30,7 @@ pub use place::{Place, place_of};
 pub use script::of_line;
 pub use spelled::{Spelled, first_token};
 pub use told::Told;
-pub use trap::of_trap;
+pub use trap::{PoolLeft, of_trap, of_worker_trap};
 pub use trap_line::{Lined, trap_lines};
 pub use words::of_words;
+pub use workers_script::of_workers_line;

@@ -1,12 +1,15 @@
 //! Messages of the lines of a script.
 
 use crate::near::nearest;
-use crate::spelled::is;
+use crate::spelled::{is, is_one};
 use crate::told::Told;
 use std::alloc::{AllocError, Global};
 
 /// The commands of a script.
 const COMMANDS: [&str; 6] = ["call", "stop", "fault", "power", "show", "last"];
+
+const COMMANDS_NOTE: &str =
+    "the commands are `call NAME A..`, `stop K`, `fault K`, `power old P..`, `show` and `last`";
 
 /// What a refused line of a script needs, and the number of bytes of the line before the word at
 /// fault.
@@ -23,22 +26,22 @@ pub fn of_line(alloc: Global, line: &[u8]) -> Result<(u64, Told), AllocError> {
 
 /// A word of a line: the places of its first byte and after its last.
 #[derive(Clone, Copy)]
-struct Piece {
-    from: usize,
-    to: usize,
+pub(crate) struct Piece {
+    pub from: usize,
+    pub to: usize,
 }
 
 /// Where a message points, if not at the command, and the message.
-type At = (Option<usize>, Told);
+pub(crate) type At = (Option<usize>, Told);
 
-fn line_part<'a>(line: &'a [u8], piece: &Piece) -> &'a [u8] {
+pub(crate) fn line_part<'a>(line: &'a [u8], piece: &Piece) -> &'a [u8] {
     let to = piece.to.min(line.len());
     let from = piece.from.min(to);
     &line[from..to]
 }
 
 /// The words of a line.
-fn words_of(alloc: Global, line: &[u8]) -> Result<Vec<Piece>, AllocError> {
+pub(crate) fn words_of(alloc: Global, line: &[u8]) -> Result<Vec<Piece>, AllocError> {
     let mut words = Vec::new(alloc);
     let mut from = None;
     for (at, byte) in line.iter().enumerate() {
@@ -66,20 +69,20 @@ fn words_of(alloc: Global, line: &[u8]) -> Result<Vec<Piece>, AllocError> {
 
 /// The words of a command after its name.
 #[derive(Clone, Copy)]
-struct Others<'a> {
-    line: &'a [u8],
-    words: &'a [Piece],
+pub(crate) struct Others<'a> {
+    pub line: &'a [u8],
+    pub words: &'a [Piece],
 }
 
 impl<'a> Others<'a> {
-    fn word(&self, at: usize) -> &'a [u8] {
+    pub(crate) fn word(&self, at: usize) -> &'a [u8] {
         match self.words.get(at) {
             Some(piece) => line_part(self.line, piece),
             None => b"",
         }
     }
 
-    fn from(&self, at: usize) -> Option<usize> {
+    pub(crate) fn from(&self, at: usize) -> Option<usize> {
         match self.words.get(at) {
             Some(piece) => Some(piece.from),
             None => Some(self.line.len()),
@@ -99,23 +102,32 @@ fn of_command(alloc: Global, line: &[u8], name: &[u8], words: &[Piece]) -> Resul
         return of_power(alloc, &others);
     }
     if is(name, "show") || is(name, "last") {
-        let name = shown(alloc, name)?;
-        let name = name.as_str();
-        let what = format!(in alloc; "`{name}` is alone on its line")?;
-        return Ok((others.from(0), remarked(alloc, &others, what.as_str())?));
+        return of_alone(alloc, name, &others);
     }
-    of_unknown(alloc, name)
+    let (at, told) = of_unknown(alloc, name, &COMMANDS, COMMANDS_NOTE)?;
+    if is_one(name, &["start", "turn", "finish"]) {
+        return Ok((at, told.with(alloc, "it is a command of `cnvm workers`")?));
+    }
+    Ok((at, told))
+}
+
+/// A command that takes no words.
+pub(crate) fn of_alone(alloc: Global, name: &[u8], others: &Others<'_>) -> Result<At, AllocError> {
+    let name = shown(alloc, name)?;
+    let name = name.as_str();
+    let what = format!(in alloc; "`{name}` is alone on its line")?;
+    Ok((others.from(0), remarked(alloc, others, what.as_str())?))
 }
 
 /// The text of bytes.
-fn shown(alloc: Global, bytes: &[u8]) -> Result<String, AllocError> {
+pub(crate) fn shown(alloc: Global, bytes: &[u8]) -> Result<String, AllocError> {
     let mut text = String::new(alloc);
     crate::layout::push_shown(alloc, &mut text, bytes)?;
     Ok(text)
 }
 
 /// The message, with a note where a remark stands after a command.
-fn remarked(alloc: Global, others: &Others<'_>, what: &str) -> Result<Told, AllocError> {
+pub(crate) fn remarked(alloc: Global, others: &Others<'_>, what: &str) -> Result<Told, AllocError> {
     let told = Told::new(alloc, what)?;
     for at in 0..others.words.len() {
         if others.word(at).starts_with(b"#") || others.word(at).starts_with(b"//") {
@@ -128,7 +140,13 @@ fn remarked(alloc: Global, others: &Others<'_>, what: &str) -> Result<Told, Allo
     Ok(told)
 }
 
-fn of_unknown(alloc: Global, name: &[u8]) -> Result<At, AllocError> {
+/// A word that is none of these commands, which the note lists.
+pub(crate) fn of_unknown(
+    alloc: Global,
+    name: &[u8],
+    commands: &[&str],
+    note: &str,
+) -> Result<At, AllocError> {
     let word = shown(alloc, name)?;
     let word = word.as_str();
     let what = format!(in alloc; "`{word}` is no command")?;
@@ -140,26 +158,24 @@ fn of_unknown(alloc: Global, name: &[u8]) -> Result<At, AllocError> {
     for byte in name {
         small.push(byte.to_ascii_lowercase())?;
     }
-    let mut commands = Vec::new(alloc);
-    for command in COMMANDS {
-        commands.push(command.as_bytes())?;
+    let mut names = Vec::new(alloc);
+    for command in commands {
+        names.push(command.as_bytes())?;
         if command.as_bytes() == small.as_slice() {
             let note = format!(in alloc; "commands are small letters: write `{command}`")?;
             return Ok((None, told.with(alloc, note.as_str())?));
         }
     }
-    if let Some(near) = nearest(&small, &commands) {
+    if let Some(near) = nearest(&small, &names) {
         let near = shown(alloc, near)?;
         let near = near.as_str();
         let note = format!(in alloc; "did you mean `{near}`?")?;
         return Ok((None, told.with(alloc, note.as_str())?));
     }
-    let note =
-        "the commands are `call NAME A..`, `stop K`, `fault K`, `power old P..`, `power new P..`, `show` and `last`";
     Ok((None, told.with(alloc, note)?))
 }
 
-fn of_call(alloc: Global, others: &Others<'_>) -> Result<At, AllocError> {
+pub(crate) fn of_call(alloc: Global, others: &Others<'_>) -> Result<At, AllocError> {
     let name = others.word(0);
     if name.is_empty() {
         let told = Told::new(alloc, "the name of a transaction is missing")?;
@@ -173,7 +189,7 @@ fn of_call(alloc: Global, others: &Others<'_>) -> Result<At, AllocError> {
         if name.contains(&b'(') {
             told = told.with(
                 alloc,
-                "arguments stand without brackets and commas: write `call add 5 7`",
+                "arguments stand without brackets and commas: write `add 5 7`",
             )?;
         }
         return Ok((others.from(0), told));
@@ -273,12 +289,12 @@ fn argument_note(word: &[u8]) -> &'static str {
         return "arguments stand without commas";
     }
     if word.starts_with(b"(") || word.ends_with(b")") {
-        return "arguments stand without brackets: write `call add 5 7`";
+        return "arguments stand without brackets: write `add 5 7`";
     }
     "an argument is an optional `-` and 1 to 19 decimal digits"
 }
 
-fn of_event(alloc: Global, name: &[u8], others: &Others<'_>) -> Result<At, AllocError> {
+pub(crate) fn of_event(alloc: Global, name: &[u8], others: &Others<'_>) -> Result<At, AllocError> {
     let name = shown(alloc, name)?;
     let name = name.as_str();
     if others.words.len() > 1 {
@@ -303,7 +319,7 @@ fn of_event(alloc: Global, name: &[u8], others: &Others<'_>) -> Result<At, Alloc
     ))
 }
 
-fn of_power(alloc: Global, others: &Others<'_>) -> Result<At, AllocError> {
+pub(crate) fn of_power(alloc: Global, others: &Others<'_>) -> Result<At, AllocError> {
     let word = others.word(0);
     if !is(word, "old") && !is(word, "new") {
         let told = Told::new(alloc, "`power` needs `old` or `new`")?;

@@ -47,6 +47,15 @@ const TRAPS: [(&str, &str, &str); 8] = [
     ),
 ];
 
+/// What a trap leaves of the pool.
+#[derive(Clone, Copy, Debug, PartialEq, Eq)]
+pub enum PoolLeft {
+    /// It takes no more calls.
+    Unusable,
+    /// It is as it was before the call.
+    Restored,
+}
+
 /// The message of a trap in a call of this transaction, from this line of the script. Line 0 is the
 /// recovery that opens an image.
 pub fn of_trap(
@@ -55,20 +64,56 @@ pub fn of_trap(
     line: u64,
     transaction: &str,
     kind: &str,
+    left: PoolLeft,
 ) -> Result<Told, AllocError> {
     let call = call_text(alloc, script, line, transaction)?;
-    let call = call.as_str();
+    trapped(alloc, call.as_str(), kind, left)
+}
+
+/// The message of a trap in a transaction of this worker.
+pub fn of_worker_trap(alloc: Global, worker: &str, kind: &str) -> Result<Told, AllocError> {
+    let call = format!(in alloc; "worker {worker}")?;
+    trapped(alloc, call.as_str(), kind, PoolLeft::Unusable)
+}
+
+fn trapped(alloc: Global, call: &str, kind: &str, left: PoolLeft) -> Result<Told, AllocError> {
     for (name, words, remedy) in TRAPS {
         if name == kind {
             let what = format!(in alloc; "{call} trapped: {words}")?;
-            return Told::new(alloc, what.as_str())?.with(alloc, remedy)?.with(
-                alloc,
-                "the pool takes no more calls; the stores before the trap stand",
-            );
+            let told = Told::new(alloc, what.as_str())?;
+            return with_left(alloc, told, kind, remedy, left);
         }
     }
     let what = format!(in alloc; "{call} trapped: {kind}")?;
     Told::new(alloc, what.as_str())
+}
+
+/// The message with its remedy and with what is left of the pool. A transaction that rolls back
+/// may well reach `abort()`, so that needs no remedy.
+fn with_left(
+    alloc: Global,
+    told: Told,
+    kind: &str,
+    remedy: &str,
+    left: PoolLeft,
+) -> Result<Told, AllocError> {
+    match left {
+        PoolLeft::Unusable => told.with(alloc, remedy)?.with(
+            alloc,
+            "the pool takes no more calls; the stores before the trap stand",
+        ),
+        PoolLeft::Restored => {
+            let told = if kind == "abort" {
+                told
+            } else {
+                told.with(alloc, remedy)?
+            };
+            told.with(
+                alloc,
+                "the pool was restored as it was before the call, and takes further calls",
+            )
+        }
+    }
 }
 
 /// The call in words.

@@ -41,6 +41,12 @@ const COUNT: Number = Number {
     most: 20_000,
 };
 
+const WORKER_COUNT: Number = Number {
+    name: "--workers",
+    least: 1,
+    most: 8,
+};
+
 /// One command: the names of its places, and its options.
 struct Shape {
     name: &'static str,
@@ -66,16 +72,33 @@ const STORM: Shape = Shape {
     options: &["--slots", "--log", "--ticks"],
 };
 
+const WHY: Shape = Shape {
+    name: "why",
+    places: &["PROGRAM"],
+    options: &[],
+};
+
+const WORKERS: Shape = Shape {
+    name: "workers",
+    places: &["PROGRAM", "SCRIPT"],
+    options: &["--workers", "--slots", "--log", "--ticks"],
+};
+
 /// The commands and the options with their defaults.
-const HELP: [&str; 9] = [
+const HELP: [&str; 14] = [
     "cnvm run PROGRAM SCRIPT          runs the script's calls on a new pool",
     "cnvm list PROGRAM                tells of each store whether it is logged",
-    "cnvm storm PROGRAM START COUNT   runs COUNT (0 to 20000) rounds that START (0 to 2147483647) chooses",
+    "cnvm storm PROGRAM START COUNT   runs rounds of drawn calls and power cuts",
+    "    START                        chooses them, from 0 to 2147483647",
+    "    COUNT                        how many, from 0 to 20000",
+    "cnvm why PROGRAM                 tells why each logged store is logged",
+    "cnvm workers PROGRAM SCRIPT      runs the script's calls of several workers",
+    "    --workers W                  how many, from 1 to 8; without it 2",
     "    --open IMAGE                 runs on the pool of a saved image",
     "    --save IMAGE                 saves the pool at the end",
     "    --slots N                    slots for objects, from 1 to 65535; without it 1024",
     "    --log N                      records of the log, from 1 to 4096; without it 256",
-    "    --ticks N                    ticks of a transaction, from 1 to 1000000; without it 100000",
+    "    --ticks N                    ticks of a call, from 1 to 1000000; without it 100000",
     "An option and its value are two words, and each option is given once at most.",
 ];
 
@@ -94,9 +117,12 @@ pub fn of_words(alloc: Global, words: &[String]) -> Result<String, AllocError> {
 
 fn wrong_word(alloc: Global, words: &[String]) -> Result<String, AllocError> {
     let Some(first) = words.first() else {
-        return String::from_str(alloc, "a command is missing: run, list or storm");
+        return String::from_str(
+            alloc,
+            "a command is missing: run, list, storm, why or workers",
+        );
     };
-    for shape in [&RUN, &LIST, &STORM] {
+    for shape in [&RUN, &LIST, &STORM, &WHY, &WORKERS] {
         if first.as_str() == shape.name {
             return wrong_of(alloc, shape, words);
         }
@@ -105,14 +131,17 @@ fn wrong_word(alloc: Global, words: &[String]) -> Result<String, AllocError> {
     if is_help(first) {
         return String::from_str(alloc, "the commands and their options:");
     }
-    match nearest(first.as_bytes(), &[b"run", b"list", b"storm"]) {
+    match nearest(
+        first.as_bytes(),
+        &[b"run", b"list", b"storm", b"why", b"workers"],
+    ) {
         Some(near) => {
             let near = String::from_utf8_lossy(alloc, near)?;
             let near = near.as_str();
             format!(in alloc; "{first}: there is no such command; did you mean `{near}`?")
         }
         None => format!(in alloc;
-            "{first}: there is no such command; there are run, list and storm"
+            "{first}: there is no such command; there are run, list, storm, why and workers"
         ),
     }
 }
@@ -203,7 +232,7 @@ fn has(words: &[&str], word: &str) -> bool {
 
 /// What is wrong with the value of an option.
 fn wrong_value(alloc: Global, option: &str, value: &str) -> Result<Option<String>, AllocError> {
-    for number in [SLOTS, LOG, TICKS] {
+    for number in [SLOTS, LOG, TICKS, WORKER_COUNT] {
         if option == number.name {
             return wrong_number(alloc, number, value);
         }
