@@ -10,7 +10,7 @@ ghost use Rattle.pool_layout.specs.Sizes.{heap_words, pool_lines};
 ghost use Rattle.clobber_log.specs.Restore.{word_in_record};
 ghost use Rattle.pm_machine.specs.Effects.{records_past};
 ghost use Rattle.pm_machine.specs.Runs.{AreLines, end_of};
-ghost use Rattle.abort_mode.specs.Runs.{has_record, words_in, wanted, due_all};
+ghost use Rattle.abort_mode.specs.Runs.{has_record, wanted, due_all};
 ghost use Rattle.abort_mode.specs.inside.Turns.{logging, due_first, TurnStepped, TookTurn};
 ghost use Rattle.abort_mode.specs.inside.Turns.{TurnKept};
 
