@@ -53,10 +53,10 @@ struct Look<'p, 'a> {
 }
 
 /// What stands at the token of this place.
-pub(crate) fn clash_at(
+pub(crate) fn clash_at<'a>(
     alloc: Global,
-    ast: &Ast,
-    program: &Program<'_>,
+    ast: &'a Ast,
+    program: &Program<'a>,
     place: u64,
 ) -> Result<Option<Clash>, AllocError> {
     for item in ast.items() {

@@ -823,7 +823,7 @@ const WHOLE: [(&str, &str, &str); 58] = [
     (
         "tx abort abort int64_t f() { return 1; }\n",
         "1:10: error: syntax at `abort`",
-        "",
+        "one `abort` is enough",
     ),
     (
         "tx abort int32_t f() { return 1; }\n",

@@ -355,7 +355,10 @@ fn at_top(near: &Spelled<'_>) -> Option<&'static str> {
     if is(last, "tx") && !is_one(here, &NUMBER_TYPES) {
         return Some(MARK_NOTE);
     }
-    if is(here, "abort") && !is(last, "abort") {
+    if is(here, "abort") && is(last, "abort") {
+        return Some("one `abort` is enough");
+    }
+    if is(here, "abort") {
         return Some("`abort` follows `tx`: write `tx abort int64_t f() { .. }`");
     }
     if is(near.before(3), "persistent") && is(near.before(2), "struct") {

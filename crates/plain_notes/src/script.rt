@@ -104,11 +104,10 @@ fn of_command(alloc: Global, line: &[u8], name: &[u8], words: &[Piece]) -> Resul
     if is(name, "show") || is(name, "last") {
         return of_alone(alloc, name, &others);
     }
-    let (at, told) = of_unknown(alloc, name, &COMMANDS, COMMANDS_NOTE)?;
     if is_one(name, &["start", "turn", "finish"]) {
-        return Ok((at, told.with(alloc, "it is a command of `cnvm workers`")?));
+        return of_unknown(alloc, name, &[], "it is a command of `cnvm workers`");
     }
-    Ok((at, told))
+    of_unknown(alloc, name, &COMMANDS, COMMANDS_NOTE)
 }
 
 /// A command that takes no words.
