@@ -59,11 +59,12 @@ bare_app = let a = new_app (codes "cnvm") in record a {
   };
 }
 
-abbrev pub cnvm_app : App
+-- a command with the subcommands why and workers
+abbrev pub with_others : App → App
+with_others app = with_subcommand (with_subcommand app why_app.top) workers_app.top
+
+unfoldable pub cnvm_app : App
 cnvm_app =
-    with_subcommand
+    with_others
     (with_subcommand
-    (with_subcommand (with_subcommand (with_subcommand bare_app run_app.top) list_app.top)
-    storm_app.top)
-    why_app.top)
-    workers_app.top
+    (with_subcommand (with_subcommand bare_app run_app.top) list_app.top) storm_app.top)

@@ -4,7 +4,7 @@ ghost use Rattle.std.specs.Prelude.{◌≡◌, false, IfOk};
 ghost use Rattle.clap.specs.declared.builder.command.Command.TheViews.{out-Command as fields_of};
 ghost use Rattle.clap.specs.Words.{app_of, rule_of};
 ghost use Rattle.cnvm_words.specs.App.{option_rule, place_rule, bare_app, sized, run_app, list_app};
-ghost use Rattle.cnvm_words.specs.App.{storm_app, why_app, workers_app, cnvm_app};
+ghost use Rattle.cnvm_words.specs.App.{storm_app, why_app, workers_app, with_others, cnvm_app};
 
 use clap::{Arg, ArgAction, Command};
 use std::alloc::{AllocError, Global};
@@ -92,7 +92,18 @@ fn workers_command<'a>(alloc: Global) -> Result<Command<'a>, AllocError>
     with_sizes(alloc, command)
 }
 
+/// A command with the subcommands `why` and `workers`.
+fn with_others<'a>(alloc: Global, command: Command<'a>) -> Result<Command<'a>, AllocError>
+    requires { (fields_of command).has_globals ≡ false }
+    ensures app { IfOk result (λ r. app_of r ≡ with_others (app_of command.entry)) }
+    ensures local { IfOk result (λ r. (fields_of r).has_globals ≡ false) }
+{
+    let command = command.subcommand(why_command(alloc)?)?;
+    command.subcommand(workers_command(alloc)?)
+}
+
 /// The whole command.
+#[tactic(auto, unfolding(crate::specs::App::cnvm_app))]
 pub(crate) fn cnvm_command<'a>(alloc: Global) -> Result<Command<'a>, AllocError>
     ensures app { IfOk result (λ r. app_of r ≡ cnvm_app) }
     ensures local { IfOk result (λ r. (fields_of r).has_globals ≡ false) }
@@ -100,6 +111,5 @@ pub(crate) fn cnvm_command<'a>(alloc: Global) -> Result<Command<'a>, AllocError>
     let command = bare_command(alloc).subcommand(run_command(alloc)?)?;
     let command = command.subcommand(list_command(alloc)?)?;
     let command = command.subcommand(storm_command(alloc)?)?;
-    let command = command.subcommand(why_command(alloc)?)?;
-    command.subcommand(workers_command(alloc)?)
+    with_others(alloc, command)
 }

@@ -231,6 +231,7 @@ fn planned(alloc: Global, name: &str, matches: &ArgMatches<'_>) -> Result<Plan, 
 }
 
 /// The words as `clap` reads them.
+#[tactic(auto, using(crate::proofs::Simple::simple, crate::proofs::Simple::simple_and_free))]
 fn matches_of<'a>(alloc: Global, words: &'a [String]) -> Result<ArgMatches<'a>, WordsFault>
     ensures free { IfOk result (λ m. fault_of cnvm_app (map string_bytes words.entry.now) ≡ []) }
     ensures rows { IfOk result (λ m.
