@@ -19,14 +19,16 @@ use Rattle.cnvm_session.specs.declared.answer.Answer.TheVariants as answer
 use Rattle.cnvm_session.specs.declared.program.Program.{Program}
 use Rattle.cnvm_session.specs.Commands.{call_number, tx_parameters, fallen}
 use Rattle.cnvm_session.specs.Outcomes.{answer_of_recovery}
-use Rattle.cnvm_session.proofs.Recoveries.{recovered_le, recovered_rose}
+use Rattle.cnvm_session.specs.Marks.{rolls_back_of}
+use Rattle.cnvm_session.proofs.Recoveries.{recovery_counts}
 use Rattle.workers_script.specs.declared.command.WorkersCommand.TheVariants as command
 use Rattle.workers_session.specs.declared.line.WorkersLine.{WorkersLine}
 use Rattle.workers_session.specs.declared.line.WorkersLine.TheVariants as line
 use Rattle.workers_session.specs.WorkersState.{WorkersState, busy_line, marked_line, unready}
 use Rattle.workers_session.specs.WorkersState.{refused_first, refusal_at, stranger_in}
 use Rattle.workers_session.specs.WorkersCommands.{Scene, RefusedWith, Unchanged, RunsOut, Starts}
-use Rattle.workers_session.specs.WorkersCommands.{BeginsNamed, BeginsTo, BeginsWith, BeginsAs}
+use Rattle.workers_session.specs.WorkersCommands.{BeginsNamed, BeginsTo, BeginsBy, BeginsWith}
+use Rattle.workers_session.specs.WorkersCommands.{BeginsAs}
 use Rattle.workers_session.specs.WorkersCommands.{ShowsWorker, last_text_line, LastsWorker}
 use Rattle.workers_session.specs.WorkersCommands.{stopped_lines, turn_lines, TurnFor, TurnsOnce}
 use Rattle.workers_session.specs.WorkersCommands.{TurnList, TurnsKnown, TurnsGiven, rounds_of}
@@ -145,22 +147,28 @@ module _ (image : Image) (worker : ℕ) (args : List ℤ) (x : Scene) (lines : L
   begins_with true tx is = begins_as (standing_at image worker x.device) tx is
   begins_with false tx is = refused (line.Plain answer.RefusedArity) x lines y refl is
 
-  begins_to : (o : Option ℕ) (tx : ℕ) → BeginsTo o image worker tx args x lines y
+  begins_by : (marked : Bool) (count tx : ℕ) → BeginsBy marked count image worker tx args x lines y
       → BlamesRightly x lines y
-  begins_to None tx is = refused (line.Plain answer.RefusedUnknown) x lines y refl is
-  begins_to (Some count) tx is = begins_with (count == length args) tx is
-
-  begins_named : (o : Option ℕ) → BeginsNamed o image worker args x lines y
-      → BlamesRightly x lines y
-  begins_named None is = refused (line.Plain answer.RefusedUnknown) x lines y refl is
-  begins_named (Some tx) is = begins_to (tx_parameters image tx) tx is
+  begins_by true count tx is = refused line.RefusedAbort x lines y refl is
+  begins_by false count tx is = begins_with (count == length args) tx is
 
 module _ (program : Program) (worker : ℕ) (x : Scene) (lines : List WorkersLine) (y : Scene) where
+  begins_to : (o : Option ℕ) (tx : ℕ) (args : List ℤ)
+      → BeginsTo o program worker tx args x lines y → BlamesRightly x lines y
+  begins_to None tx args is = refused (line.Plain answer.RefusedUnknown) x lines y refl is
+  begins_to (Some count) tx args is =
+      begins_by program.image worker args x lines y (rolls_back_of program tx) count tx is
+
+  begins_named : (o : Option ℕ) (args : List ℤ) → BeginsNamed o program worker args x lines y
+      → BlamesRightly x lines y
+  begins_named None args is = refused (line.Plain answer.RefusedUnknown) x lines y refl is
+  begins_named (Some tx) args is = begins_to (tx_parameters program.image tx) tx args is
+
   starts : (o : Option WorkersLine) (name : List ℕ) (args : List ℤ) → QuietOr o
       → Starts o program worker name args x lines y → BlamesRightly x lines y
   starts (Some l) name args quiet is = refused l x lines y quiet is
   starts None name args quiet is =
-      begins_named program.image worker args x lines y (call_number program name) is
+      begins_named (call_number program name) args is
 
   shows : (o : Option WorkersLine) → QuietOr o → ShowsWorker o program worker x lines y
       → BlamesRightly x lines y
@@ -261,13 +269,13 @@ module _ (image : Image) where
       → RecoversFrom image worker n x lines y → BlamesRightly x lines y
   recovers zero worker x lines y is = unchanged x [] lines y (λ none. none) is
   recovers (suc n) worker x lines y is =
+      let counts = recovery_counts is.0 image (compartment image worker x.device)
+      (compartment image worker is.2.device) x.steps is.2.steps is.3.recovered in
       joined x is.2 y (line.Own worker (answer_of_recovery is.0) ∷ []) is.1 lines (
-        recovered_le is.0 image (compartment image worker x.device)
-            (compartment image worker is.2.device) x.steps is.2.steps is.3.recovered,
+        counts.0,
         λ told.
-            recovered_rose is.0 image (compartment image worker x.device)
-            (compartment image worker is.2.device) x.steps is.2.steps is.3.recovered
-            (recovery_told is.0 (⊎_elim (λ here. here) (λ none. absurd none) told)),
+            counts.1 (ap answer_of_recovery
+            (recovery_told is.0 (⊎_elim (λ here. here) (λ none. absurd none) told))),
       )
       (after (ends_power is.0) is.2 is.1 y is.5.0
       (λ on. recovers n (suc worker) is.2 is.1 y (is.5.1 on))) is.4
