@@ -2,7 +2,9 @@
 //! status and no byte of standard output depends on it.
 
 use crate::status::{Status, World};
-use cnvm_notes::{RunTexts, answers_note, program_note, script_note};
+use cnvm_notes::{
+    RunTexts, answers_note, program_note, script_note, workers_answers_note, workers_note,
+};
 use cnvm_words::{Plan, plan_of};
 use nvm_base::{KeptSink, KeptSource, SavedFile, Sink, StdSink, StdSource, write_all};
 use plain_notes::{ImageRefusal, Told, message_of, of_image, of_words, unread, unsaved, unwritten};
@@ -66,14 +68,8 @@ fn message<R: Files + Print + AllocGlobal, P: Drop>(
         Status::Done => of_done(alloc, words, named, world),
         Status::NoMemory => plain(alloc, "out of memory"),
         Status::Usage => Ok(Some(of_words(alloc, words)?)),
-        Status::Program => match world.program.kept() {
-            Some(text) => program_note(alloc, named.program, text),
-            None => plain(alloc, "the program was refused"),
-        },
-        Status::Script => match world.script.kept() {
-            Some(text) => script_note(alloc, named.script, text),
-            None => plain(alloc, "the script was refused"),
-        },
+        Status::Program => of_program(alloc, named.program, world.program.kept()),
+        Status::Script => of_script(alloc, words, named.script, world.script.kept()),
         Status::ReadFault => Ok(Some(of_read(alloc, named, world)?)),
         Status::WriteFault => Ok(Some(of_write(alloc, named, world)?)),
         Status::DeviceFault => plain(alloc, "the device failed while the pool was made"),
@@ -86,6 +82,50 @@ fn plain(alloc: Global, what: &str) -> Result<Option<String>, AllocError> {
     Ok(Some(message_of(alloc, &told)?))
 }
 
+/// The message of a refused program.
+fn of_program(
+    alloc: Global,
+    path: &str,
+    text: Option<&[u8]>,
+) -> Result<Option<String>, AllocError> {
+    let note = match text {
+        Some(text) => program_note(alloc, path, text)?,
+        None => None,
+    };
+    note_or(alloc, note, "the program was refused")
+}
+
+/// The message of a refused script, by the grammar of the command.
+fn of_script(
+    alloc: Global,
+    words: &[String],
+    path: &str,
+    text: Option<&[u8]>,
+) -> Result<Option<String>, AllocError> {
+    let note = match text {
+        Some(text) if has_workers(alloc, words) => workers_note(alloc, path, text)?,
+        Some(text) => script_note(alloc, path, text)?,
+        None => None,
+    };
+    note_or(alloc, note, "the script was refused")
+}
+
+/// Whether the words ask for workers.
+fn has_workers(alloc: Global, words: &[String]) -> bool {
+    match plan_of(alloc, words) {
+        Ok(Plan::Workers { .. }) => true,
+        _ => false,
+    }
+}
+
+/// The message, or a plain one where there is none.
+fn note_or(alloc: Global, note: Option<String>, what: &str) -> Result<Option<String>, AllocError> {
+    match note {
+        Some(note) => Ok(Some(note)),
+        None => plain(alloc, what),
+    }
+}
+
 /// The message of answers that are traps or refusals.
 fn of_done<R: Files + Print + AllocGlobal, P: Drop>(
     alloc: Global,
@@ -95,6 +135,7 @@ fn of_done<R: Files + Print + AllocGlobal, P: Drop>(
 ) -> Result<Option<String>, AllocError> {
     let opened = match plan_of(alloc, words) {
         Ok(Plan::Run { start_image, .. }) => start_image.is_some(),
+        Ok(Plan::Workers { .. }) => return of_workers(alloc, named.script, world.out.kept()),
         _ => return Ok(None),
     };
     let (Some(program), Some(script), Some(answers)) = (
@@ -114,6 +155,18 @@ fn of_done<R: Files + Print + AllocGlobal, P: Drop>(
         saved: named.image_out,
     };
     answers_note(alloc, run)
+}
+
+/// The message of answers to workers that are traps or refusals.
+fn of_workers(
+    alloc: Global,
+    path: &str,
+    answers: Option<&[u8]>,
+) -> Result<Option<String>, AllocError> {
+    match answers {
+        Some(answers) => workers_answers_note(alloc, path, answers),
+        None => Ok(None),
+    }
 }
 
 fn of_read<R: Files + Print + AllocGlobal, P: Drop>(
