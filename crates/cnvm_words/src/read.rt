@@ -5,7 +5,8 @@ ghost use Rattle.std.specs.Prelude.{option_map, option_and_then, map, string_byt
 ghost use Rattle.std.specs.Prelude.{codes};
 ghost use Rattle.clap.specs.Walk.{is_empty};
 ghost use Rattle.clap.specs.Words.{rows_of, found_of, first_of, fault_of, subcommand_of};
-ghost use Rattle.clap.specs.Words.{subcommand_rows_of};
+ghost use Rattle.clap.specs.Words.{subcommand_rows_of, kind_of};
+ghost use Rattle.clap.specs.declared.error.kind.ErrorKind.TheVariants.{OutOfMemory};
 ghost use Rattle.cnvm_words.specs.App.{cnvm_app};
 ghost use Rattle.cnvm_words.specs.Asked.{in_limits, number_between, number_or, asked_pool};
 ghost use Rattle.cnvm_words.specs.Asked.{run_plan, list_plan, storm_plan, why_plan, workers_plan};
@@ -14,7 +15,7 @@ ghost use Rattle.cnvm_words.specs.Asked.{subcommand_plan, plan_of, HasWorkers};
 use crate::command::cnvm_command;
 use crate::plan::{Plan, WordsFault};
 use clap::ArgMatches;
-use clap::error::ErrorKind;
+use clap::error::{Error, ErrorKind};
 use cnvm_script::numeral;
 use nvm_base::Text;
 use std::alloc::{AllocError, Global};
@@ -230,6 +231,13 @@ fn planned(alloc: Global, name: &str, matches: &ArgMatches<'_>) -> Result<Plan, 
     storm_plan(alloc, matches)
 }
 
+/// Whether there was no memory.
+fn is_memory(error: &Error) -> bool
+    ensures { result ≡ false → kind_of error.now ≡ OutOfMemory → ⊥ }
+{
+    error.kind() == ErrorKind::OutOfMemory
+}
+
 /// The words as `clap` reads them.
 #[tactic(auto, using(crate::proofs::Simple::simple, crate::proofs::Simple::simple_and_free))]
 fn matches_of<'a>(alloc: Global, words: &'a [String]) -> Result<ArgMatches<'a>, WordsFault>
@@ -242,7 +250,7 @@ fn matches_of<'a>(alloc: Global, words: &'a [String]) -> Result<ArgMatches<'a>, 
     let command = cnvm_command(alloc)?;
     match command.try_get_matches_from(words) {
         Ok(matches) => Ok(matches),
-        Err(error) if error.kind() == ErrorKind::OutOfMemory => Err(WordsFault::NoMemory),
+        Err(error) if is_memory(&error) => Err(WordsFault::NoMemory),
         Err(_) => Err(WordsFault::Usage),
     }
 }
