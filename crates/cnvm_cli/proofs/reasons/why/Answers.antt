@@ -23,4 +23,4 @@ returns-in-Ok-explain-clause-ends g c =
     )
 
 pub returns-clause-ends : goal.returns-clause-ends
-returns-clause-ends g c = inl (refused.NoMemory, tt, refl, keeps_same _)
+returns-clause-ends g c = inl (refused.NoMemory, tt, (refl, keeps_same _))

@@ -1,21 +1,29 @@
-use Rattle.std.proofs.Common.{inl, inr, refl}
+use Rattle.std.proofs.Common.{List, inl, inr, refl, subst}
 use Rattle.cnvm_compile.specs.Compilation.{IsCompiled}
+use Rattle.workers_script.specs.declared.command.WorkersCommand.{WorkersCommand}
 use Rattle.cnvm_cli.specs.Verdict.{IsAccepted}
+use Rattle.cnvm_cli.specs.WorkersEnds.{WorkersRanAs}
 use Rattle.cnvm_cli.proofs.Sources.{of_map}
 use Rattle.cnvm_cli.proofs.workers.run_script.Goals as goal
 
 pub returns-in-Ok-read_turns-clause-ends : goal.returns-in-Ok-read_turns-clause-ends
 returns-in-Ok-read_turns-clause-ends g c =
+    let written = g.K.Sink.written in
+    let dev = g.P.PmemWork.device in
     inr (
       c.in-Ok.compiled,
       c.in-Ok-read_turns.commands,
       c.in-Ok.ensures.told,
       c.in-Ok-read_turns.ensures.told,
-      c.run_turns.ensures.ran,
+      subst
+          (λ (commands : List WorkersCommand). WorkersRanAs c.in-Ok.compiled.program c.args.count
+          commands c.run_turns.result (written c.args.out.now) (written c.run_turns.new.out)
+          (dev c.args.dev.now) (dev c.run_turns.new.dev) c.args.steps.now c.run_turns.new.steps)
+          c.as_slice.ensures c.run_turns.ensures.ran,
     )
 
-pub returns-in-Err-read_turns-clause-ends : goal.returns-in-Err-read_turns-clause-ends
-returns-in-Err-read_turns-clause-ends g c =
+pub returns-clause-ends : goal.returns-clause-ends
+returns-clause-ends g c =
     inl (
       c.in-Err-read_turns.refused,
       inr (
@@ -23,7 +31,7 @@ returns-in-Err-read_turns-clause-ends g c =
             (λ text is. (c.in-Ok.compiled, is)) c.in-Ok.ensures.told,
         c.in-Err-read_turns.ensures.told,
       ),
-      c.refuse.ensures.refused,
+      c.refuse-in-Err-read_turns.ensures.refused,
       refl,
       refl,
     )
