@@ -46,6 +46,17 @@ def structs(n):
     return "", text + "tx int64_t go(int64_t a) { return f0(root.first); }\n"
 
 
+def many_structs(n):
+    """n structs, n functions that each use a struct of their own and call the next."""
+    text = "".join(f"struct S{i} {{ int64_t a; int64_t b; int64_t c; }};\n" for i in range(n)) + ROOT % ""
+    for i in range(n):
+        s = f"struct S{i}"
+        text += f"int64_t f{i}(int64_t a) {{ {s} *p = pm_new({s}); p->a = a; p->b = p->a + p->c; p->c = p->b; "
+        text += f"return {f'f{i + 1}(p->c)' if i < n - 1 else 'p->c'}; }}\n"
+    prototypes = "".join(f"int64_t f{i}(int64_t a);\n" for i in range(n))
+    return prototypes, text + "tx int64_t go(int64_t a) { root.n = f0(a); return 0; }\n"
+
+
 def expressions(n):
     """One function of deep expressions: brackets to the right, thirty levels of two."""
     signs = "+-*&|^"
@@ -122,8 +133,8 @@ def long_names(n):
     return "", text + f"tx int64_t go(int64_t {a}) {{\n" + body + "  return 0;\n}\n"
 
 
-SHAPES = [functions, statements, local_names, structs, expressions, cycle, pointers, pairs, aliases, chain,
-          chain_of_loops, branches, long_names]
+SHAPES = [functions, statements, local_names, structs, many_structs, expressions, cycle, pointers, pairs, aliases,
+          chain, chain_of_loops, branches, long_names]
 MOST = {"functions": 1023, "chain": 1001}
 
 

@@ -14,34 +14,39 @@ use Rattle.ir.specs.declared.fact.Origins.TheVariants.{Nowhere, One, Two}
 use Rattle.ir.specs.declared.fact.Back.{Back}
 use Rattle.ir.specs.declared.fact.Back.TheVariants.{FromReturn, Stays}
 use Rattle.ir.specs.Table.{AmongOrigins, origins, argument_fact, at_call, from_parameter, back}
-use Rattle.clobber_pass.specs.inside.Class.{Class, OfFrees, OfRoot, OfField, is_about}
+use Rattle.clobber_pass.specs.inside.Class.{Class, OfFrees, OfRoot, OfField, OfNothing, is_about}
 
 here_of : (t : Class) (r s x : ℕ) → is_about t (Unwritten r s x) ≡ true → is_about t Here ≡ true
 here_of OfFrees r s x h = refl
 here_of (OfRoot y) r s x h = h
 here_of (OfField k y) r s x h = refl
+here_of OfNothing r s x h = h
 
 here_freed : (t : Class) → is_about t Freed ≡ true → is_about t Here ≡ true
 here_freed OfFrees h = refl
 here_freed (OfRoot y) h = h
 here_freed (OfField k y) h = refl
+here_freed OfNothing h = h
 
 other_register : (t : Class) (r q s x : ℕ) → is_about t (Unwritten r s x) ≡ true
     → is_about t (Unwritten q s x) ≡ true
 other_register OfFrees r q s x h = h
 other_register (OfRoot y) r q s x h = h
 other_register (OfField k y) r q s x h = h
+other_register OfNothing r q s x h = h
 
 unwritten_of : (t : Class) (r s x : ℕ) → is_about t (ReadField s x) ≡ true
     → is_about t (Unwritten r s x) ≡ true
 unwritten_of OfFrees r s x h = h
 unwritten_of (OfRoot y) r s x h = h
 unwritten_of (OfField k y) r s x h = h
+unwritten_of OfNothing r s x h = h
 
 root_of : (t : Class) (x : ℕ) → is_about t (ReadRoot x) ≡ true → is_about t (RootUnwritten x) ≡ true
 root_of OfFrees x h = h
 root_of (OfRoot y) x h = h
 root_of (OfField k y) x h = h
+root_of OfNothing x h = h
 
 -- each of the origins is about the class
 abbrev AreAbout : Class → Origins → Type 0

@@ -1,6 +1,7 @@
 -- The step of a row is the table's step on facts, for each topic.
-use Rattle.std.proofs.Common.{◌≡◌, ◌<◌, ◌≤◌, ◌+◌, ℕ, Bool, true, false, List, Some, None, length}
-use Rattle.std.proofs.Common.{refl, sym, ◌∙◌, ap, subst, arith}
+use Rattle.std.proofs.Common.{◌≡◌, ◌<◌, ◌≤◌, ◌+◌, ℕ, Bool, true, false, List, Option, Some, None}
+use Rattle.std.proofs.Common.{length, slice_get, refl, sym, ◌∙◌, ap, subst, arith}
+use Rattle.std.specs.Borrow.{Bor}
 use Rattle.std.specs.Prelude.{◌==◌, ◌&&◌, ◌||◌, not, slice_set, bit_and, bit_or, if◌then◌else◌}
 use Rattle.std.proofs.lemmas.Bool.{false≢true, and_parts, eqb-true}
 use Rattle.std.proofs.lemmas.List.{length-set}
@@ -16,14 +17,16 @@ use Rattle.ir.specs.declared.fact.Fact.TheVariants.{ReadField, Freed}
 use Rattle.ir.specs.declared.fact.Origins.TheVariants.{Nowhere, One, Two}
 use Rattle.ir.specs.WellFormed.{IsInstruction}
 use Rattle.ir.specs.Table.{origins}
+use Rattle.clobber_pass.specs.declared.topic.StructField.{StructField}
 use Rattle.clobber_pass.specs.declared.topic.Topic.{Topic}
 use Rattle.clobber_pass.specs.declared.topic.Topic.TheVariants.{Frees, Root as Roots}
-use Rattle.clobber_pass.specs.declared.topic.Topic.TheVariants.{Field as Fields}
-use Rattle.clobber_pass.specs.inside.Class.{class_at, is_about, slot}
+use Rattle.clobber_pass.specs.declared.topic.Topic.TheVariants.{Fields}
+use Rattle.clobber_pass.specs.inside.Class.{class_at, class_of, is_about, slot}
 use Rattle.clobber_pass.specs.Row.{word, has_bit, tells}
-use Rattle.clobber_pass.specs.inside.Row.{mask, without, with_read, after_row}
+use Rattle.clobber_pass.specs.inside.Row.{mask, fields_mask, without, with_read, after_row}
 use Rattle.clobber_pass.specs.inside.Told.{tells_any, row_width}
 use Rattle.clobber_pass.proofs.Bits.{has_bit_or, has_bit_and, has_bit_without, has_bit_mask}
+use Rattle.clobber_pass.proofs.Bits.{has_bit_fields, names}
 use Rattle.clobber_pass.proofs.Steps.{at_same, at_other, given_start, given_sought, read_length}
 use Rattle.clobber_pass.proofs.Steps.{register_after, start_after, sought_after}
 
@@ -127,6 +130,31 @@ module _ (row : List ℕ) (x : ℕ) (long : 2 ≤ length row) where
     root_sought (Store (Field b t y i) from line) = refl
     root_sought _ = refl
 
+field_told : (ir : Ir) (all : Bor (List StructField)) (c : StructField) (registers n x : ℕ)
+    (row : List ℕ) (i : Instruction) → ((t y : ℕ) → has_bit x (fields_mask all.now t y)
+    ≡ ((c.kind == t) && (c.field == y))) → length row ≡ registers + 2
+    → IsInstruction ir registers n i → (b : Fact) → is_about (class_of (Some c)) b ≡ true
+    → tells (after_row (Fields all) i row) x (slot b) ≡ tells_any row x (origins i b)
+field_told ir all c registers n x row i bit long ok Here h =
+    start_after ir all c.kind c.field row x registers n bit long i
+field_told ir all c registers n x row i bit long ok (Unwritten r s y) h =
+    let parts = and_parts (s == c.kind) (y == c.field) h in
+    subst (λ q. tells (after_row (Fields all) i row) x (r + 2) ≡ tells_any row x
+    (origins i (Unwritten r q y))) (sym (eqb-true s c.kind parts.0))
+    (subst (λ z. tells (after_row (Fields all) i row) x (r + 2) ≡ tells_any row x
+    (origins i (Unwritten r c.kind z))) (sym (eqb-true y c.field parts.1))
+    (register_after ir all c.kind c.field row x registers n bit long i r ok))
+field_told ir all c registers n x row i bit long ok (ReadField s y) h =
+    let parts = and_parts (s == c.kind) (y == c.field) h in
+    subst (λ q. tells (after_row (Fields all) i row) x 1 ≡ tells_any row x
+    (origins i (ReadField q y))) (sym (eqb-true s c.kind parts.0))
+    (subst (λ z. tells (after_row (Fields all) i row) x 1 ≡ tells_any row x
+    (origins i (ReadField c.kind z))) (sym (eqb-true y c.field parts.1))
+    (sought_after ir all c.kind c.field row x registers n bit long i))
+field_told ir all c registers n x row i bit long ok (RootUnwritten y) h = absurd (false≢true h)
+field_told ir all c registers n x row i bit long ok (ReadRoot y) h = absurd (false≢true h)
+field_told ir all c registers n x row i bit long ok Freed h = absurd (false≢true h)
+
 -- After an instruction that is no call, a row records a fact exactly if it recorded one of the
 -- fact's origins before.
 pub after_told : (ir : Ir) (topic : Topic) (registers n x : ℕ) (row : List ℕ) (i : Instruction)
@@ -150,26 +178,16 @@ after_told ir (Roots f) registers n x row i Here few long ok h = absurd (false�
 after_told ir (Roots f) registers n x row i (Unwritten r s y) few long ok h = absurd (false≢true h)
 after_told ir (Roots f) registers n x row i (ReadField s y) few long ok h = absurd (false≢true h)
 after_told ir (Roots f) registers n x row i Freed few long ok h = absurd (false≢true h)
-after_told ir (Fields k f) registers n x row i Here few long ok h =
-    start_after ir k f row x registers n few long i
-after_told ir (Fields k f) registers n x row i (Unwritten r s y) few long ok h =
-    let parts = and_parts (s == k) (y == f + x) h in
-    subst (λ q. tells (after_row (Fields k f) i row) x (r + 2) ≡ tells_any row x
-    (origins i (Unwritten r q y))) (sym (eqb-true s k parts.0))
-    (subst (λ z. tells (after_row (Fields k f) i row) x (r + 2) ≡ tells_any row x
-    (origins i (Unwritten r k z))) (sym (eqb-true y (f + x) parts.1))
-    (register_after ir k f row x registers n few long i r ok))
-after_told ir (Fields k f) registers n x row i (ReadField s y) few long ok h =
-    let parts = and_parts (s == k) (y == f + x) h in
-    subst (λ q. tells (after_row (Fields k f) i row) x 1 ≡ tells_any row x
-    (origins i (ReadField q y))) (sym (eqb-true s k parts.0))
-    (subst (λ z. tells (after_row (Fields k f) i row) x 1 ≡ tells_any row x
-    (origins i (ReadField k z))) (sym (eqb-true y (f + x) parts.1))
-    (sought_after ir k f row x registers n few long i))
-after_told ir (Fields k f) registers n x row i (RootUnwritten y) few long ok h =
-    absurd (false≢true h)
-after_told ir (Fields k f) registers n x row i (ReadRoot y) few long ok h = absurd (false≢true h)
-after_told ir (Fields k f) registers n x row i Freed few long ok h = absurd (false≢true h)
+after_told ir (Fields all) registers n x row i b few long ok h =
+    by_class (slice_get all.now x) refl b h
+  where
+    by_class : (o : Option StructField) → slice_get all.now x ≡ o → (b : Fact)
+        → is_about (class_of o) b ≡ true → tells (after_row (Fields all) i row) x (slot b)
+        ≡ tells_any row x (origins i b)
+    by_class None is b h = absurd (false≢true h)
+    by_class (Some c) is b h =
+        field_told ir all c registers n x row i (λ t y. has_bit_fields x all.now t y few
+        ∙ ap (λ o. names o t y) is) long ok b h
 
 -- the row keeps its length
 pub length_after : (topic : Topic) (i : Instruction) (row : List ℕ)
@@ -189,17 +207,11 @@ length_after topic (Trap kind) row = refl
 length_after topic (Log target) row = refl
 length_after Frees (Free from kind line) row = length-set row 1 _
 length_after (Roots f) (Free from kind line) row = refl
-length_after (Fields k f) (Free from kind line) row = refl
+length_after (Fields all) (Free from kind line) row = refl
 length_after Frees (Store target from line) row = refl
 length_after (Roots f) (Store (Root y None) from line) row = length-set row 0 _
 length_after (Roots f) (Store (Root y (Some i)) from line) row = refl
 length_after (Roots f) (Store (Field b t y i) from line) row = refl
-length_after (Fields k f) (Store (Root y i) from line) row = refl
-length_after (Fields k f) (Store (Field b t y (Some i)) from line) row = refl
-length_after (Fields k f) (Store (Field b t y None) from line) row = by_cases (k == t)
-  where
-    by_cases : (c : Bool) → length
-        (if c then slice_set row (b + 2) (without (word row (b + 2)) (mask f y)) else row)
-        ≡ length row
-    by_cases true = length-set row (b + 2) _
-    by_cases false = refl
+length_after (Fields all) (Store (Root y i) from line) row = refl
+length_after (Fields all) (Store (Field b t y (Some i)) from line) row = refl
+length_after (Fields all) (Store (Field b t y None) from line) row = length-set row (b + 2) _

@@ -1,15 +1,19 @@
 -- Rows and the bits of their words.
 use Rattle.std.proofs.Common.{◌≡◌, ◌<◌, ◌≤◌, ◌+◌, ◌-◌, ◌^◌, ℕ, zero, suc, Bool, true, false, List}
-use Rattle.std.proofs.Common.{[], ◌∷◌, length, refl, sym, ◌∙◌, ap, arith, inl, inr, ⊎_elim}
+use Rattle.std.proofs.Common.{[], ◌∷◌, Option, Some, None, length, slice_get, refl, sym, ◌∙◌, ap}
+use Rattle.std.proofs.Common.{arith, inl, inr, ⊎_elim}
 use Rattle.std.specs.Prelude.{◌==◌, ◌&&◌, ◌||◌, not, slice_set, bit_and, bit_or, nat_lt}
 use Rattle.std.specs.Prelude.{if◌then◌else◌}
 use Rattle.std.specs.Int.{bit_at}
 use Rattle.std.proofs.lemmas.Nat.Bits.{bit_at-zero, bit_at-lt, bit_at_and, bit_at_or, bit_at_xor}
 use Rattle.std.proofs.lemmas.Nat.Bits.{bit_at-pow_same, bit_at-pow_other, bit_at_ones}
+use Rattle.std.proofs.lemmas.Nat.{or_lt, pow_below}
 use Rattle.std.proofs.lemmas.Bool.{false≢true, cases_lt, eqb-true, eq-eqb, lt-ltb, le-ltb}
 use mathlib.Core.Logic.{◌⊎◌}
+use Rattle.clobber_pass.specs.declared.topic.StructField.{StructField}
 use Rattle.clobber_pass.specs.Row.{has_bit}
-use Rattle.clobber_pass.specs.inside.Row.{mask, without}
+use Rattle.clobber_pass.specs.inside.Row.{mask, without, place_bit, is_field, bit_of, fields_from}
+use Rattle.clobber_pass.specs.inside.Row.{fields_mask}
 
 -- writing outside a row does nothing
 pub set_past : {X : Type 0} (row : List X) (s : ℕ) (w : X) → length row ≤ s
@@ -123,3 +127,122 @@ has_bit_mask x first y few = ⊎_elim below above (cases_lt y first)
             let unlike : (first + x ≡ y → ⊥) = λ (e : first + x ≡ y). omega arith in
             rw (le-ltb y first more, le-ltb (y - first) 16 past, has_bit_zero x)
             (sym (apart (first + x) y unlike))
+
+-- the bit of a place
+has_bit_place : (x k : ℕ) → x < 16 → has_bit x (place_bit k) ≡ (x == k)
+unfolding place_bit
+has_bit_place x k few = ⊎_elim near far (cases_lt k 16)
+  where
+    near : k < 16 → has_bit x (if nat_lt k 16 then 2 ^ k else 0) ≡ (x == k)
+    near less = rw (lt-ltb k 16 less) (has_bit_pow x k)
+
+    far : 16 ≤ k → has_bit x (if nat_lt k 16 then 2 ^ k else 0) ≡ (x == k)
+    far past =
+        let unlike : (x ≡ k → ⊥) = λ (e : x ≡ k). omega arith in
+        rw (le-ltb k 16 past, has_bit_zero x) (sym (apart x k unlike))
+
+has_bit_of : (x k : ℕ) (c : StructField) (t y : ℕ) → x < 16
+    → has_bit x (bit_of c k t y) ≡ ((x == k) && is_field c t y)
+has_bit_of x k c t y few = by_cases (is_field c t y)
+  where
+    and_true : (a : Bool) → a ≡ (a && true)
+    and_true true = refl
+    and_true false = refl
+
+    and_false : (a : Bool) → false ≡ (a && false)
+    and_false true = refl
+    and_false false = refl
+
+    by_cases : (b : Bool) → has_bit x (if b then place_bit k else 0) ≡ ((x == k) && b)
+    by_cases true = has_bit_place x k few ∙ and_true (x == k)
+    by_cases false = has_bit_zero x ∙ and_false (x == k)
+
+-- a field is at the place x among those from the place k on
+field_in : List StructField → ℕ → ℕ → ℕ → ℕ → Bool
+field_in [] k x t y = false
+field_in (c ∷ cs) k x t y = ((x == k) && is_field c t y) || field_in cs (k + 1) x t y
+
+or_assoc : (a b c : Bool) → ((a || b) || c) ≡ (a || (b || c))
+or_assoc true b c = refl
+or_assoc false b c = refl
+
+or_none : (a : Bool) → a ≡ (a || false)
+or_none true = refl
+or_none false = refl
+
+has_bit_from : (x : ℕ) (cs : List StructField) (k t y bits : ℕ) → x < 16
+    → has_bit x (fields_from cs k t y bits) ≡ (has_bit x bits || field_in cs k x t y)
+unfolding field_in
+has_bit_from x [] k t y bits few = or_none (has_bit x bits)
+has_bit_from x (c ∷ cs) k t y bits few =
+    has_bit_from x cs (k + 1) t y (bit_or bits (bit_of c k t y)) few
+    ∙ ap (λ b. b || field_in cs (k + 1) x t y) (has_bit_or x bits (bit_of c k t y)
+    ∙ ap (λ b. has_bit x bits || b) (has_bit_of x k c t y few))
+    ∙ or_assoc (has_bit x bits) ((x == k) && is_field c t y) (field_in cs (k + 1) x t y)
+
+field_below : (cs : List StructField) (k x t y : ℕ) → x < k → field_in cs k x t y ≡ false
+unfolding field_in
+field_below [] k x t y less = refl
+field_below (c ∷ cs) k x t y less =
+    let unlike : (x ≡ k → ⊥) = λ (e : x ≡ k). omega arith in
+    ap (λ b. (b && is_field c t y) || field_in cs (k + 1) x t y) (apart x k unlike)
+    ∙ field_below cs (k + 1) x t y (omega arith)
+
+-- the field of a place, if there is one, is this field
+abbrev pub names : Option StructField → ℕ → ℕ → Bool
+names None t y = false
+names (Some c) t y = is_field c t y
+
+field_at : (cs : List StructField) (k j t y : ℕ)
+    → field_in cs k (k + j) t y ≡ names (slice_get cs j) t y
+unfolding field_in
+field_at [] k j t y = refl
+field_at (c ∷ cs) k zero t y =
+    let same : k + 0 ≡ k = omega arith in
+    ap (λ b. (b && is_field c t y) || field_in cs (k + 1) (k + 0) t y) (eq-eqb (k + 0) k same)
+    ∙ ap (λ b. is_field c t y || b) (field_below cs (k + 1) (k + 0) t y (omega arith))
+    ∙ sym (or_none (is_field c t y))
+field_at (c ∷ cs) k (suc j) t y =
+    let unlike : (k + suc j ≡ k → ⊥) = λ (e : k + suc j ≡ k). omega arith in
+    let moved : k + suc j ≡ (k + 1) + j = omega arith in
+    ap (λ b. (b && is_field c t y) || field_in cs (k + 1) (k + suc j) t y)
+    (apart (k + suc j) k unlike)
+    ∙ ap (λ x. field_in cs (k + 1) x t y) moved ∙ field_at cs (k + 1) j t y
+
+pub has_bit_fields : (x : ℕ) (all : List StructField) (t y : ℕ) → x < 16
+    → has_bit x (fields_mask all t y) ≡ names (slice_get all x) t y
+has_bit_fields x all t y few =
+    let first : 0 + x ≡ x = omega arith in
+    has_bit_from x all 0 t y 0 few
+    ∙ ap (λ b. b || field_in all 0 x t y) (has_bit_zero x)
+    ∙ ap (λ z. field_in all 0 z t y) (sym first) ∙ field_at all 0 x t y
+
+place_bit_few : (k : ℕ) → place_bit k < 2 ^ 16
+unfolding place_bit
+place_bit_few k = ⊎_elim near far (cases_lt k 16)
+  where
+    some : 0 < 2 ^ 16
+    some = omega arith
+
+    near : k < 16 → (if nat_lt k 16 then 2 ^ k else 0) < 2 ^ 16
+    near less = rw (lt-ltb k 16 less) (pow_below k 16 less)
+
+    far : 16 ≤ k → (if nat_lt k 16 then 2 ^ k else 0) < 2 ^ 16
+    far past = rw (le-ltb k 16 past) some
+
+from_few : (cs : List StructField) (k t y bits : ℕ) → bits < 2 ^ 16
+    → fields_from cs k t y bits < 2 ^ 16
+from_few [] k t y bits few = few
+from_few (c ∷ cs) k t y bits few =
+    from_few cs (k + 1) t y (bit_or bits (bit_of c k t y))
+    (or_lt 16 bits (bit_of c k t y) few (of_few (is_field c t y)))
+  where
+    some : 0 < 2 ^ 16
+    some = omega arith
+
+    of_few : (b : Bool) → (if b then place_bit k else 0) < 2 ^ 16
+    of_few true = place_bit_few k
+    of_few false = some
+
+pub fields_few : (all : List StructField) (t y : ℕ) → fields_mask all t y < 2 ^ 16
+fields_few all t y = let some : 0 < 2 ^ 16 = omega arith in from_few all 0 t y 0 some

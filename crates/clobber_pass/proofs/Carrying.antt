@@ -2,7 +2,7 @@
 use Rattle.std.proofs.Common.{◌≡◌, ◌≢◌, ◌<◌, ◌+◌, ℕ, zero, suc, Bool, true, false, List, [], ◌∷◌}
 use Rattle.std.proofs.Common.{◌++◌, Option, Some, None, length, replicate, refl, sym, ◌∙◌, ap}
 use Rattle.std.proofs.Common.{subst, arith, inl, inr, ⊎_elim}
-use Rattle.std.specs.Prelude.{◌==◌, slice_get, slice_set, bit_xor, if◌then◌else◌}
+use Rattle.std.specs.Prelude.{◌==◌, slice_get, slice_set, bit_xor}
 use Rattle.std.specs.Int.Bits.{and_zero_l}
 use Rattle.std.proofs.lemmas.Bool.{false≢true, eqb-true, eq-eqb}
 use Rattle.std.proofs.lemmas.List.{length-replicate, length-set}
@@ -14,11 +14,11 @@ use Rattle.ir.specs.declared.instruction.Instruction.TheVariants.{Load, Store, N
 use Rattle.ir.specs.declared.instruction.Instruction.TheVariants.{Return, Tick, Trap, Log}
 use Rattle.clobber_pass.specs.declared.topic.Topic.{Topic}
 use Rattle.clobber_pass.specs.declared.topic.Topic.TheVariants.{Frees, Root as Roots}
-use Rattle.clobber_pass.specs.declared.topic.Topic.TheVariants.{Field as Fields}
+use Rattle.clobber_pass.specs.declared.topic.Topic.TheVariants.{Fields}
 use Rattle.clobber_pass.specs.declared.growth.Grown.{Grown}
 use Rattle.clobber_pass.specs.Row.{word}
 use Rattle.clobber_pass.specs.Sweep.{row_in}
-use Rattle.clobber_pass.specs.inside.Row.{without, mask, after_row, with_read}
+use Rattle.clobber_pass.specs.inside.Row.{without, mask, fields_mask, after_row, with_read}
 use Rattle.clobber_pass.specs.inside.Sweep.{next_row, jump_target, call_from, slot_after}
 use Rattle.clobber_pass.specs.inside.Closed.{Reached, Made, only, raised_in}
 use Rattle.clobber_pass.specs.inside.Closed.Stage.{RowAt}
@@ -87,22 +87,19 @@ after_zero topic (Trap kind) row t one other is = is
 after_zero topic (Log target) row t one other is = is
 after_zero Frees (Free from kind line) row t one other is = at_other row 1 t _ one ∙ is
 after_zero (Roots f) (Free from kind line) row t one other is = is
-after_zero (Fields k f) (Free from kind line) row t one other is = is
+after_zero (Fields all) (Free from kind line) row t one other is = is
 after_zero Frees (Store target from line) row t one other is = is
 after_zero (Roots f) (Store (Root y None) from line) row t one other is =
     set_low row 0 (without (word row 0) (mask f y)) t is
     (λ (e : word row 0 ≡ 0). ap (λ w. without w (mask f y)) e ∙ without_zero (mask f y))
 after_zero (Roots f) (Store (Root y (Some i)) from line) row t one other is = is
 after_zero (Roots f) (Store (Field b k y i) from line) row t one other is = is
-after_zero (Fields k f) (Store (Root y i) from line) row t one other is = is
-after_zero (Fields k f) (Store (Field b c y (Some i)) from line) row t one other is = is
-after_zero (Fields k f) (Store (Field b c y None) from line) row t one other is = by_cases (k == c)
-  where
-    by_cases : (e : Bool) → word
-        (if e then slice_set row (b + 2) (without (word row (b + 2)) (mask f y)) else row) t ≡ 0
-    by_cases true = set_low row (b + 2) (without (word row (b + 2)) (mask f y)) t is
-        (λ (e : word row (b + 2) ≡ 0). ap (λ w. without w (mask f y)) e ∙ without_zero (mask f y))
-    by_cases false = is
+after_zero (Fields all) (Store (Root y i) from line) row t one other is = is
+after_zero (Fields all) (Store (Field b c y (Some i)) from line) row t one other is = is
+after_zero (Fields all) (Store (Field b c y None) from line) row t one other is =
+    let m = fields_mask all.now c y in
+    set_low row (b + 2) (without (word row (b + 2)) m) t is
+    (λ (e : word row (b + 2) ≡ 0). ap (λ w. without w m) e ∙ without_zero m)
 
 only_zero : (n s w t : ℕ) → t ≢ s → word (only n s w) t ≡ 0
 only_zero n s w t unlike = at_other (replicate n 0) s t w unlike ∙ word_zeros n t

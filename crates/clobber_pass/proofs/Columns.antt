@@ -37,6 +37,7 @@ use Rattle.clobber_pass.specs.inside.Sound.{Backed, SoundExits}
 use Rattle.clobber_pass.proofs.Fits.{parameters_there}
 use Rattle.clobber_pass.proofs.Bits.{has_bit_zero, has_bit_ones}
 use Rattle.clobber_pass.proofs.Joins.{tells_inside, or_out, row_in_set, row_in_replicate, length_or}
+use Rattle.clobber_pass.proofs.Joins.{joined_tells}
 use Rattle.clobber_pass.proofs.Good.{Steps, Good, GoodRow, GoodOrNone, Sound, reached_good}
 use Rattle.clobber_pass.proofs.Reached.{brought, wide}
 
@@ -126,7 +127,7 @@ pub length_made : (topic : Topic) (exits : List (List (List ℕ))) (entry : List
 length_made topic exits entry code made = length_reached topic exits entry code made
 
 -- a table of tables after one was written
-exits_of_set : (exits : List (List (List ℕ))) (g : ℕ) (rows : List (List ℕ)) (h : ℕ)
+pub exits_of_set : (exits : List (List (List ℕ))) (g : ℕ) (rows : List (List ℕ)) (h : ℕ)
     → (exits_of (slice_set exits g rows) h ≡ exits_of exits h)
     ⊎ ((h ≡ g) × (exits_of (slice_set exits g rows) h ≡ rows))
 exits_of_set [] g rows h = inl refl
@@ -460,6 +461,36 @@ module _ (ir : Ir) (well : IsWellFormed ir) (topic : Topic) (exits new : List (L
       subst (SoundExits ir.functions topic) (sym is)
       (subst (λ r. SoundExits ir.functions topic (joined_exits exits g c r)) (sym row_is)
       (joined_sound ir well topic exits sound g u there c rows made_here))
+
+  -- the exits record what the sweeps record of returns
+  pub column_told : new ≡ joined_exits exits g c row → c < parameters_at ir.functions g + 2
+      → Within (row_in rows (length u.code)) (row_in (exits_of new g) c)
+  column_told is inside x s h =
+      let old = shaped.each g u there in
+      let told : tells row x s ≡ true = subst (λ r. tells r x s ≡ true) (sym row_is) h in
+      let g_inside : g < length exits =
+      subst (λ n. g < n) (sym shaped.count) (slice_get_within ir.functions g u there) in
+      let inside_u : c < u.parameters + 2 =
+      subst (λ n. c < n + 2) (parameters_there ir well g u there) inside in
+      let c_inside : c < length (exits_of exits g) = subst (λ n. c < n) (sym old.0) inside_u in
+      let stands : row_in (exits_of new g) c ≡ row_joined (row_in (exits_of exits g) c) row =
+      ap (λ t. row_in (exits_of t g) c) is
+      ∙ ap (λ t. row_in t c) (get_or-set_same exits g (join_in (exits_of exits g) c row) []
+      g_inside)
+      ∙ get_or-set_same (exits_of exits g) c (row_joined (row_in (exits_of exits g) c) row) []
+      c_inside in
+      subst (λ r. tells r x s ≡ true) (sym stands)
+      (joined_tells (row_width topic u.registers) (row_in (exits_of exits g) c) row x s
+      (old.1 c) (size row_shape told) told)
+    where
+      size : (row ≡ []) ⊎ (length row ≡ row_width topic u.registers) → tells row x s ≡ true
+          → length row ≡ row_width topic u.registers
+      size (inr is) told = is
+      size (inl is) told = absurd (false≢true
+          (sym (has_bit_zero x) ∙ subst (λ r. tells r x s ≡ true) is told))
+
+  pub made_column : Made topic exits (entry_row topic u.parameters u.registers c) u.code rows
+  made_column = made_here
 
   pub column_ended : joined_exits exits g c row ≡ exits → c < parameters_at ir.functions g + 2
       → Closed topic exits (length u.code) rows entry 0 u.code → Ended ir.functions topic exits g c

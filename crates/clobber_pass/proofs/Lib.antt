@@ -21,6 +21,7 @@ mod Starting
 mod Meeting
 mod PlaceMarks
 mod Tabled
+mod AllTopics
 mod Topical
 mod Exact
 mod Rooms

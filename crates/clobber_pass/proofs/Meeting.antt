@@ -1,17 +1,18 @@
 -- Two words that have a field's bit in common.
-use Rattle.std.proofs.Common.{◌≡◌, ◌<◌, ◌≤◌, ◌+◌, ◌-◌, ◌*◌, ◌^◌, ℕ, Bool, true, false, refl, sym}
-use Rattle.std.proofs.Common.{◌∙◌, ap, arith, ⊎_elim}
+use Rattle.std.proofs.Common.{◌≡◌, ◌<◌, ◌≤◌, ◌+◌, ◌-◌, ◌*◌, ◌^◌, ℕ, zero, suc, Bool, true, false}
+use Rattle.std.proofs.Common.{refl, sym, ◌∙◌, ap, arith, inl, inr, ⊎_elim}
 use Rattle.std.specs.Prelude.{◌==◌, not, bit_and}
 use Rattle.std.specs.Int.{bit_at}
-use Rattle.std.proofs.lemmas.Nat.Bits.{and_pow}
-use Rattle.std.proofs.lemmas.Nat.{pow_pos}
+use Rattle.std.proofs.lemmas.Nat.Bits.{and_pow, bit_at-zero, same_from_bits_below}
+use Rattle.std.proofs.lemmas.Nat.{pow_pos, and_le_r}
 use Rattle.std.specs.Int.Bits.{and_zero_r}
 use Rattle.std.proofs.lemmas.Bool.{false≢true, and_parts, and_from, cases_lt, eqb-true, lt-ltb}
 use Rattle.std.proofs.lemmas.Bool.{le-ltb}
+use mathlib.Core.Logic.{◌⊎◌}
 use Rattle.clobber_pass.specs.Row.{has_bit}
 use Rattle.clobber_pass.specs.inside.Row.{mask}
 use Rattle.clobber_pass.specs.inside.Marking.{meets}
-use Rattle.clobber_pass.proofs.Bits.{bit_cases, has_bit_and}
+use Rattle.clobber_pass.proofs.Bits.{bit_cases, has_bit_zero, has_bit_and}
 
 -- a word that meets a power of 2 has its bit
 power_out : (w k : ℕ) → not (bit_and w (2 ^ k) == 0) ≡ true → has_bit k w ≡ true
@@ -109,3 +110,67 @@ pub first_in : (a : ℕ) → has_bit 0 a ≡ true → meets a a 1 ≡ true
 unfolding meets
 first_in a h = power_in (bit_and a a) 0
     (has_bit_and 0 a a ∙ and_from (has_bit 0 a) (has_bit 0 a) h h)
+
+-- a bit that is in all three
+pub meets_bit : (a b m x : ℕ) → has_bit x a ≡ true → has_bit x b ≡ true → has_bit x m ≡ true
+    → meets a b m ≡ true
+unfolding meets
+meets_bit a b m x one other third = by_cases (bit_and (bit_and a b) m == 0) refl
+  where
+    all : has_bit x (bit_and (bit_and a b) m) ≡ true
+    all = has_bit_and x (bit_and a b) m
+        ∙ and_from (has_bit x (bit_and a b)) (has_bit x m)
+        (has_bit_and x a b ∙ and_from (has_bit x a) (has_bit x b) one other) third
+
+    by_cases : (c : Bool) → (bit_and (bit_and a b) m == 0) ≡ c
+        → not (bit_and (bit_and a b) m == 0) ≡ true
+    by_cases false is = rw is refl
+    by_cases true is =
+        let none : bit_and (bit_and a b) m ≡ 0 = eqb-true (bit_and (bit_and a b) m) 0 is in
+        absurd (false≢true (sym (ap (has_bit x) none ∙ has_bit_zero x) ∙ all))
+
+-- a number has a bit below k, or none
+some_bit : (w k : ℕ) → ((x : ℕ) × (x < k) × (bit_at w x ≡ 1))
+    ⊎ ((x : ℕ) → x < k → bit_at w x ≡ 0)
+some_bit w zero = inr (λ x less. absurd (omega (arith, less)))
+some_bit w (suc k) = next (some_bit w k) (bit_cases w k)
+  where
+    next : (((x : ℕ) × (x < k) × (bit_at w x ≡ 1)) ⊎ ((x : ℕ) → x < k → bit_at w x ≡ 0))
+        → ((bit_at w k ≡ 0) ⊎ (bit_at w k ≡ 1))
+        → ((x : ℕ) × (x < suc k) × (bit_at w x ≡ 1)) ⊎ ((x : ℕ) → x < suc k → bit_at w x ≡ 0)
+    next (inl (x, less, is)) this = inl (x, omega (arith, less), is)
+    next (inr none) (inr is) = inl (k, omega arith, is)
+    next (inr none) (inl is) = inr (λ x less. ⊎_elim (none x)
+        (λ (past : k ≤ x). let same : k ≡ x = omega (arith, less, past) in
+        ap (bit_at w) (sym same) ∙ is) (cases_lt x k))
+
+-- a bit that two words and a mask have in common
+pub record Common (a b m : ℕ) : Type 0 where
+  pub x : ℕ
+  pub few : x < 16
+  pub one : has_bit x a ≡ true
+  pub other : has_bit x b ≡ true
+  pub third : has_bit x m ≡ true
+
+pub meets_some : (a b m : ℕ) → m < 2 ^ 16 → meets a b m ≡ true → Common a b m
+unfolding meets has_bit
+meets_some a b m few h = ⊎_elim found nothing (some_bit (bit_and (bit_and a b) m) 16)
+  where
+    found : ((x : ℕ) × (x < 16) × (bit_at (bit_and (bit_and a b) m) x ≡ 1)) → Common a b m
+    found (x, less, is) =
+        let set : has_bit x (bit_and (bit_and a b) m) ≡ true = rw is refl in
+        let outer = and_parts (has_bit x (bit_and a b)) (has_bit x m)
+        (sym (has_bit_and x (bit_and a b) m) ∙ set) in
+        let inner = and_parts (has_bit x a) (has_bit x b) (sym (has_bit_and x a b) ∙ outer.0) in
+        record { x = x; few = less; one = inner.0; other = inner.1; third = outer.1 }
+
+    nothing : ((x : ℕ) → x < 16 → bit_at (bit_and (bit_and a b) m) x ≡ 0) → Common a b m
+    nothing none =
+        let below : bit_and (bit_and a b) m < 2 ^ 16 =
+        omega (arith, and_le_r (bit_and a b) m, few) in
+        let some : 0 < 2 ^ 16 = omega arith in
+        let zero_word : bit_and (bit_and a b) m ≡ 0 =
+        same_from_bits_below 16 (bit_and (bit_and a b) m) 0 below some
+        (λ x less. none x less ∙ sym (bit_at-zero x)) in
+        let no : not (bit_and (bit_and a b) m == 0) ≡ false = rw zero_word refl in
+        absurd (false≢true (sym no ∙ h))

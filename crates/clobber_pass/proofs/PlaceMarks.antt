@@ -1,8 +1,10 @@
 -- The marks of a function's places for a topic agree with the derived facts.
-use Rattle.std.proofs.Common.{◌≡◌, ◌<◌, ◌+◌, ◌-◌, ◌%◌, ℕ, zero, suc, Bool, true, false, List, []}
-use Rattle.std.proofs.Common.{◌∷◌, Option, Some, length, refl, sym, ◌∙◌, ap, subst, arith, inl, inr}
+use Rattle.std.proofs.Common.{◌≡◌, ◌<◌, ◌+◌, ℕ, zero, suc, Bool, true, false, List, []}
+use Rattle.std.proofs.Common.{◌∷◌, Option, Some, None, length, refl, sym, ◌∙◌, ap, subst, arith}
+use Rattle.std.proofs.Common.{inl, inr}
+use Rattle.std.specs.Borrow.{Bor}
 use Rattle.std.specs.Prelude.{◌==◌, ◌&&◌, slice_get, if◌then◌else◌}
-use Rattle.std.proofs.lemmas.Bool.{false≢true, and_from, eqb-true, eq-eqb}
+use Rattle.std.proofs.lemmas.Bool.{false≢true, and_parts, and_from, eqb-true, eq-eqb}
 use Rattle.std.proofs.lemmas.Option.{slice_get_within}
 use mathlib.Core.Logic.{◌⊎◌}
 use Rattle.ir.specs.declared.instruction.Target.{Target}
@@ -20,12 +22,13 @@ use Rattle.ir.specs.Places.{instruction_at}
 use Rattle.ir.specs.Clobber.{unwritten, read_fact}
 use Rattle.ir.specs.Derived.{Flows}
 use Rattle.ir.specs.WellFormed.{IsInstruction, IsFunction, IsWellFormed}
+use Rattle.clobber_pass.specs.declared.topic.StructField.{StructField}
 use Rattle.clobber_pass.specs.declared.topic.Topic.{Topic}
 use Rattle.clobber_pass.specs.declared.topic.Topic.TheVariants.{Frees, Root as Roots}
-use Rattle.clobber_pass.specs.declared.topic.Topic.TheVariants.{Field as Fields}
-use Rattle.clobber_pass.specs.inside.Class.{class_at, is_about, slot}
+use Rattle.clobber_pass.specs.declared.topic.Topic.TheVariants.{Fields}
+use Rattle.clobber_pass.specs.inside.Class.{class_at, class_of, is_about, slot}
 use Rattle.clobber_pass.specs.Row.{word, has_bit, tells}
-use Rattle.clobber_pass.specs.inside.Row.{mask}
+use Rattle.clobber_pass.specs.inside.Row.{mask, fields_mask}
 use Rattle.clobber_pass.specs.inside.Told.{registers_at, Fits}
 use Rattle.clobber_pass.specs.Sweep.{row_in}
 use Rattle.clobber_pass.specs.inside.Sweep.{exits_of, next_row, row_or}
@@ -35,13 +38,14 @@ use Rattle.clobber_pass.specs.inside.Sound.{SoundExits}
 use Rattle.clobber_pass.specs.inside.Flow.{Entries, StartEntries, at_entry, AllFlow}
 use Rattle.clobber_pass.specs.Marking.{part}
 use Rattle.clobber_pass.specs.inside.Marking.{meets, store_word, fill_word, mark_word, marks_from}
-use Rattle.clobber_pass.specs.inside.Marking.{Logged, topic_of}
-use Rattle.clobber_pass.proofs.Bits.{has_bit_zero}
+use Rattle.clobber_pass.specs.inside.Marking.{Logged, Covers}
+use Rattle.clobber_pass.proofs.Bits.{has_bit_zero, names, has_bit_fields, fields_few}
 use Rattle.clobber_pass.proofs.Fits.{all_at, registers_there}
 use Rattle.clobber_pass.proofs.Flowing.{GoodAt, AllGood, pick_is_good, next_is_good, flow_good}
 use Rattle.clobber_pass.proofs.Flowing.{entry_is_good}
 use Rattle.clobber_pass.proofs.FlowLaw.{told_there}
 use Rattle.clobber_pass.proofs.Meeting.{meets_in, Met, meets_out, first_out, first_in}
+use Rattle.clobber_pass.proofs.Meeting.{meets_bit, Common, meets_some}
 
 pub test_store : has_bit 0 1 ≡ true
 unfolding has_bit
@@ -81,6 +85,25 @@ when_no_store false h = false≢true (sym (has_bit_zero 0) ∙ h)
 
 pub nothing_set : (fill : Bool) → has_bit (part fill) 0 ≡ true → ⊥
 nothing_set fill h = false≢true (sym (has_bit_zero (part fill)) ∙ h)
+
+-- the class of a field that is named
+names_about : (o : Option StructField) (b t y : ℕ) → names o t y ≡ true
+    → (is_about (class_of o) (Unwritten b t y) ≡ true)
+    × (is_about (class_of o) (ReadField t y) ≡ true)
+names_about None b t y h = absurd (false≢true h)
+names_about (Some c) b t y h =
+    let parts = and_parts (c.kind == t) (c.field == y) h in
+    let both : ((t == c.kind) && (y == c.field)) ≡ true =
+    and_from (t == c.kind) (y == c.field) (eq-eqb t c.kind (sym (eqb-true c.kind t parts.0)))
+    (eq-eqb y c.field (sym (eqb-true c.field y parts.1))) in (both, both)
+
+about_names : (o : Option StructField) (t y : ℕ) → is_about (class_of o) (ReadField t y) ≡ true
+    → names o t y ≡ true
+about_names None t y h = absurd (false≢true h)
+about_names (Some c) t y h =
+    let parts = and_parts (t == c.kind) (y == c.field) h in
+    and_from (c.kind == t) (c.field == y) (eq-eqb c.kind t (sym (eqb-true t c.kind parts.0)))
+    (eq-eqb c.field y (sym (eqb-true y c.field parts.1)))
 
 pub same_true : (y : ℕ) → (y == y) ≡ true
 same_true y = eq-eqb y y refl
@@ -130,35 +153,22 @@ module _ (ir : Ir) (well : IsWellFormed ir) (topic : Topic) (exits : List (List 
       store_of p (Root y i) from line is (told_flow p _ row met.x (RootUnwritten y) is good met.few
       about met.one) (told_flow p _ row met.x (ReadRoot y) is good met.few about_read met.other)
 
-  field_about : (kind first t x y : ℕ) → kind ≡ t → first + x ≡ y
-      → ((t == kind) && (y == first + x)) ≡ true
-  field_about kind first t x y same is =
-      and_from (t == kind) (y == first + x) (eq-eqb t kind (sym same))
-      (eq-eqb y (first + x) (sym is))
-
-  field_logged : (kind first : ℕ) → topic ≡ Fields kind first
-      → (p b t y : ℕ) (i : Option ℕ) (from line : ℕ) (row : List ℕ) → kind ≡ t
+  field_logged : (all : Bor (List StructField)) → topic ≡ Fields all
+      → (p b t y : ℕ) (i : Option ℕ) (from line : ℕ) (row : List ℕ)
       → slice_get u.code p ≡ Some (Store (Field b t y i) from line) → Good p row
-      → Met (word row (b + 2)) (word row 1) first y → Logged ir.functions false f p
-  field_logged kind first topic_is p b t y i from line row same is good met =
-      let about : is_about (class_at topic met.x) (Unwritten b t y) ≡ true =
-      ap (λ c. is_about (class_at c met.x) (Unwritten b t y)) topic_is
-      ∙ field_about kind first t met.x y same met.is in
+      → Common (word row (b + 2)) (word row 1) (fields_mask all.now t y)
+      → Logged ir.functions false f p
+  field_logged all topic_is p b t y i from line row is good met =
+      let named : names (slice_get all.now met.x) t y ≡ true =
+      sym (has_bit_fields met.x all.now t y met.few) ∙ met.third in
+      let about = names_about (slice_get all.now met.x) b t y named in
+      let bare : is_about (class_at topic met.x) (Unwritten b t y) ≡ true =
+      ap (λ c. is_about (class_at c met.x) (Unwritten b t y)) topic_is ∙ about.0 in
       let about_read : is_about (class_at topic met.x) (ReadField t y) ≡ true =
-      ap (λ c. is_about (class_at c met.x) (ReadField t y)) topic_is
-      ∙ field_about kind first t met.x y same met.is in
+      ap (λ c. is_about (class_at c met.x) (ReadField t y)) topic_is ∙ about.1 in
       store_of p (Field b t y i) from line is
-      (told_flow p _ row met.x (Unwritten b t y) is good met.few about met.one)
+      (told_flow p _ row met.x (Unwritten b t y) is good met.few bare met.one)
       (told_flow p _ row met.x (ReadField t y) is good met.few about_read met.other)
-
-  field_word : (kind t : ℕ) (c : Bool) (m : Bool) → (kind == t) ≡ c
-      → has_bit 0 (if c then when m 1 else 0) ≡ true → (kind ≡ t) × (m ≡ true)
-  field_word kind t true m is h = (eqb-true kind t is, when_store m h)
-  field_word kind t false m is h = absurd (false≢true (sym (has_bit_zero 0) ∙ h))
-
-  field_no_fill : (c : Bool) (m : Bool) → has_bit 1 (if c then when m 1 else 0) ≡ true → ⊥
-  field_no_fill true m h = when_no_fill m h
-  field_no_fill false m h = false≢true (sym (has_bit_zero 1) ∙ h)
 
   store_sound : (t : Topic) → topic ≡ t → (p : ℕ) (target : Target) (from line : ℕ) (row : List ℕ)
       (fill : Bool) → slice_get u.code p ≡ Some (Store target from line) → Good p row
@@ -171,14 +181,14 @@ module _ (ir : Ir) (well : IsWellFormed ir) (topic : Topic) (exits : List (List 
       absurd (when_no_fill (meets (word row 0) (word row 1) (mask first y)) h)
   store_sound (Roots first) topic_is p (Field b t y i) from line row fill is good h =
       absurd (nothing_set fill h)
-  store_sound (Fields kind first) topic_is p (Field b t y i) from line row false is good h =
-      let parts = field_word kind t (kind == t)
-      (meets (word row (b + 2)) (word row 1) (mask first y)) refl h in
-      field_logged kind first topic_is p b t y i from line row parts.0 is good
-      (meets_out (word row (b + 2)) (word row 1) first y parts.1)
-  store_sound (Fields kind first) topic_is p (Field b t y i) from line row true is good h =
-      absurd (field_no_fill (kind == t) (meets (word row (b + 2)) (word row 1) (mask first y)) h)
-  store_sound (Fields kind first) topic_is p (Root y i) from line row fill is good h =
+  store_sound (Fields all) topic_is p (Field b t y i) from line row false is good h =
+      let m = fields_mask all.now t y in
+      field_logged all topic_is p b t y i from line row is good
+      (meets_some (word row (b + 2)) (word row 1) m (fields_few all.now t y)
+      (when_store (meets (word row (b + 2)) (word row 1) m) h))
+  store_sound (Fields all) topic_is p (Field b t y i) from line row true is good h =
+      absurd (when_no_fill (meets (word row (b + 2)) (word row 1) (fields_mask all.now t y)) h)
+  store_sound (Fields all) topic_is p (Root y i) from line row fill is good h =
       absurd (nothing_set fill h)
   store_sound Frees topic_is p target from line row fill is good h = absurd (nothing_set fill h)
 
@@ -201,7 +211,7 @@ module _ (ir : Ir) (well : IsWellFormed ir) (topic : Topic) (exits : List (List 
       absurd (when_no_store (meets (word row 1) (word row 1) 1) h)
   fill_sound (Roots first) topic_is p to kind log_fill line row fill is good h =
       absurd (nothing_set fill h)
-  fill_sound (Fields k first) topic_is p to kind log_fill line row fill is good h =
+  fill_sound (Fields all) topic_is p to kind log_fill line row fill is good h =
       absurd (nothing_set fill h)
 
   word_sound : (p : ℕ) (i : Instruction) (row : List ℕ) (fill : Bool) → slice_get u.code p ≡ Some i
@@ -312,13 +322,6 @@ length_marks topic exits rows (i ∷ is) row p =
     ap suc (length_marks topic exits rows is (next_row topic exits i (row_or (row_in rows p) row))
     (p + 1))
 
--- the bit of a field in its topic
-pub low : (y : ℕ) → (y - y % 16) + y % 16 ≡ y
-low y = omega arith
-
-pub low_few : (y : ℕ) → y % 16 < 16
-low_few y = omega arith
-
 module _ (ir : Ir) (well : IsWellFormed ir) (topic : Topic) (exits : List (List (List ℕ)))
     (sound : SoundExits ir.functions topic exits) (ended : CalledEnded ir.functions topic exits)
     (entries : List (List ℕ)) (all : Entries ir.functions topic entries)
@@ -353,50 +356,42 @@ module _ (ir : Ir) (well : IsWellFormed ir) (topic : Topic) (exits : List (List 
       (told_there ir well topic exits sound ended entries all.sound all.shaped start tables flow x
       few u there d (about, fits))
 
-  pub root_marked : (p y : ℕ) (index : Option ℕ) (from line : ℕ) → topic ≡ Roots (y - y % 16)
+  root_marked : (p first x y : ℕ) (index : Option ℕ) (from line : ℕ) → topic ≡ Roots first
+      → x < 16 → is_about (class_at topic x) (RootUnwritten y) ≡ true
+      → is_about (class_at topic x) (ReadRoot y) ≡ true
       → slice_get u.code p ≡ Some (Store (Root y index) from line)
       → Flows ir.functions f p (RootUnwritten y) → Flows ir.functions f p (ReadRoot y)
       → tells marks 0 p ≡ true
-  root_marked p y index from line topic_is is bare before =
+  root_marked p first x y index from line topic_is few about about_read is bare before =
       let m = mark_at topic exits rows u.code entry 0 p (Store (Root y index) from line) is in
-      let x = y % 16 in
-      let about : is_about (class_at topic x) (RootUnwritten y) ≡ true =
-      ap (λ t. is_about (class_at t x) (RootUnwritten y)) topic_is
-      ∙ eq-eqb y ((y - y % 16) + x) (sym (low y)) in
-      let about_read : is_about (class_at topic x) (ReadRoot y) ≡ true =
-      ap (λ t. is_about (class_at t x) (ReadRoot y)) topic_is
-      ∙ eq-eqb y ((y - y % 16) + x) (sym (low y)) in
-      let one = here_tells p x _ (RootUnwritten y) (low_few y) about tt m bare in
-      let other = here_tells p x _ (ReadRoot y) (low_few y) about_read tt m before in
-      let met = meets_in (word m.here 0) (word m.here 1) (y - y % 16) x y (low_few y) (low y)
-      one other in
+      let one = here_tells p x _ (RootUnwritten y) few about tt m bare in
+      let other = here_tells p x _ (ReadRoot y) few about_read tt m before in
+      let same : y ≡ first + x = eqb-true y (first + x)
+      (ap (λ t. is_about (class_at t x) (RootUnwritten y)) (sym topic_is) ∙ about) in
+      let met = meets_in (word m.here 0) (word m.here 1) first x y few (sym same) one other in
       ap (has_bit 0) (m.marked ∙ ap (λ t. store_word t (Root y index) m.here) topic_is
       ∙ ap (λ b. when b 1) met) ∙ test_store
 
-  pub field_marked : (p b k y : ℕ) (index : Option ℕ) (from line : ℕ)
-      → topic ≡ Fields k (y - y % 16)
+  field_marked : (p x b k y : ℕ) (index : Option ℕ) (from line : ℕ)
+      (all : Bor (List StructField)) → topic ≡ Fields all → x < 16
+      → is_about (class_at topic x) (Unwritten b k y) ≡ true
+      → is_about (class_at topic x) (ReadField k y) ≡ true
       → slice_get u.code p ≡ Some (Store (Field b k y index) from line) → b < u.registers
       → Flows ir.functions f p (Unwritten b k y) → Flows ir.functions f p (ReadField k y)
       → tells marks 0 p ≡ true
-  field_marked p b k y index from line topic_is is inside bare before =
+  field_marked p x b k y index from line all topic_is few about about_read is inside bare before =
       let m = mark_at topic exits rows u.code entry 0 p (Store (Field b k y index) from line) is in
-      let x = y % 16 in
-      let both : ((k == k) && (y == (y - y % 16) + x)) ≡ true =
-      and_from (k == k) (y == (y - y % 16) + x) (same_true k)
-      (eq-eqb y ((y - y % 16) + x) (sym (low y))) in
-      let about : is_about (class_at topic x) (Unwritten b k y) ≡ true =
-      ap (λ t. is_about (class_at t x) (Unwritten b k y)) topic_is ∙ both in
-      let about_read : is_about (class_at topic x) (ReadField k y) ≡ true =
-      ap (λ t. is_about (class_at t x) (ReadField k y)) topic_is ∙ both in
       let fits : b < registers_at ir.functions f =
       subst (λ n. b < n) (sym (registers_there ir well f u there)) inside in
-      let one = here_tells p x _ (Unwritten b k y) (low_few y) about fits m bare in
-      let other = here_tells p x _ (ReadField k y) (low_few y) about_read tt m before in
-      let met = meets_in (word m.here (b + 2)) (word m.here 1) (y - y % 16) x y (low_few y) (low y)
-      one other in
+      let one = here_tells p x _ (Unwritten b k y) few about fits m bare in
+      let other = here_tells p x _ (ReadField k y) few about_read tt m before in
+      let third : has_bit x (fields_mask all.now k y) ≡ true =
+      has_bit_fields x all.now k y few ∙ about_names (slice_get all.now x) k y
+      (ap (λ t. is_about (class_at t x) (ReadField k y)) (sym topic_is) ∙ about_read) in
+      let met = meets_bit (word m.here (b + 2)) (word m.here 1) (fields_mask all.now k y) x
+      one other third in
       ap (has_bit 0) (m.marked ∙ ap (λ t. store_word t (Field b k y index) m.here) topic_is
-      ∙ ap (λ c. if c then when (meets (word m.here (b + 2)) (word m.here 1)
-      (mask (y - y % 16) y)) 1 else 0) (same_true k) ∙ ap (λ b. when b 1) met) ∙ test_store
+      ∙ ap (λ b. when b 1) met) ∙ test_store
 
   pub fill_marked : (p to kind : ℕ) (log_fill : Bool) (line : ℕ) → topic ≡ Frees
       → slice_get u.code p ≡ Some (New to kind log_fill line) → Flows ir.functions f p Freed
@@ -409,15 +404,47 @@ module _ (ir : Ir) (well : IsWellFormed ir) (topic : Topic) (exits : List (List 
       ap (has_bit 1) (m.marked ∙ ap (λ t. fill_word t m.here) topic_is
       ∙ ap (λ b. when b 2) (first_in (word m.here 1) one)) ∙ test_fill
 
-  pub store_marked : (p : ℕ) (target : Target) (from line : ℕ) → topic_of target ≡ topic
+  root_covered : (t : Topic) → topic ≡ t → (p y : ℕ) (index : Option ℕ) (from line : ℕ)
+      → Covers topic (Root y index) → slice_get u.code p ≡ Some (Store (Root y index) from line)
+      → Flows ir.functions f p (RootUnwritten y) → Flows ir.functions f p (ReadRoot y)
+      → tells marks 0 p ≡ true
+  root_covered (Roots first) topic_is p y index from line c is bare before =
+      root_marked p first c.x y index from line topic_is c.few c.bare c.before is bare before
+  root_covered Frees topic_is p y index from line c is bare before =
+      absurd (false≢true (ap (λ t. is_about (class_at t c.x) (RootUnwritten y)) (sym topic_is)
+      ∙ c.bare))
+  root_covered (Fields all) topic_is p y index from line c is bare before =
+      absurd (no_root (slice_get all.now c.x)
+      (ap (λ t. is_about (class_at t c.x) (RootUnwritten y)) (sym topic_is) ∙ c.bare))
+    where
+      no_root : (o : Option StructField) → is_about (class_of o) (RootUnwritten y) ≡ true → ⊥
+      no_root None h = false≢true h
+      no_root (Some s) h = false≢true h
+
+  field_covered : (t : Topic) → topic ≡ t → (p b k y : ℕ) (index : Option ℕ) (from line : ℕ)
+      → Covers topic (Field b k y index)
+      → slice_get u.code p ≡ Some (Store (Field b k y index) from line) → b < u.registers
+      → Flows ir.functions f p (Unwritten b k y) → Flows ir.functions f p (ReadField k y)
+      → tells marks 0 p ≡ true
+  field_covered (Fields all) topic_is p b k y index from line c is inside bare before =
+      field_marked p c.x b k y index from line all topic_is c.few c.bare c.before is inside
+      bare before
+  field_covered Frees topic_is p b k y index from line c is inside bare before =
+      absurd (false≢true (ap (λ t. is_about (class_at t c.x) (ReadField k y)) (sym topic_is)
+      ∙ c.before))
+  field_covered (Roots first) topic_is p b k y index from line c is inside bare before =
+      absurd (false≢true (ap (λ t. is_about (class_at t c.x) (ReadField k y)) (sym topic_is)
+      ∙ c.before))
+
+  pub store_marked : (p : ℕ) (target : Target) (from line : ℕ) → Covers topic target
       → slice_get u.code p ≡ Some (Store target from line)
       → Flows ir.functions f p (unwritten target)
       → Flows ir.functions f p (read_fact target) → tells marks 0 p ≡ true
-  store_marked p (Root y index) from line topic_is is bare before =
-      root_marked p y index from line (sym topic_is) is bare before
-  store_marked p (Field b k y index) from line topic_is is bare before =
+  store_marked p (Root y index) from line c is bare before =
+      root_covered topic refl p y index from line c is bare before
+  store_marked p (Field b k y index) from line c is bare before =
       let whole : IsFunction ir u = all_at (IsFunction ir) ir.functions f u well.1 there in
       let ok : IsInstruction ir u.registers (length u.code) (Store (Field b k y index) from line) =
       all_at (IsInstruction ir u.registers (length u.code)) u.code p
       (Store (Field b k y index) from line) whole.3 is in
-      field_marked p b k y index from line (sym topic_is) is ok.1.0 bare before
+      field_covered topic refl p b k y index from line c is ok.1.0 bare before

@@ -1,5 +1,6 @@
 -- The facts of a closed table are closed under each step.
 use Rattle.std.proofs.Common.{◌≡◌, ◌<◌, ◌≤◌, ◌+◌, ℕ, zero, suc, true, List, [], ◌∷◌, Option, Some}
+use Rattle.std.proofs.Common.{None}
 use Rattle.std.proofs.Common.{length, refl, sym, ◌∙◌, ap, subst, arith, inl, inr, ⊎_elim}
 use Rattle.std.specs.Prelude.{slice_get, slice_set}
 use Rattle.std.proofs.lemmas.Bool.{false≢true, cases_lt}
@@ -15,10 +16,11 @@ use Rattle.ir.specs.declared.fact.Fact.TheVariants.{ReadField, Freed}
 use Rattle.ir.specs.declared.fact.Origins.{Origins}
 use Rattle.ir.specs.declared.fact.Origins.TheVariants.{Nowhere, One, Two}
 use Rattle.ir.specs.Table.{AmongOrigins, origins}
+use Rattle.clobber_pass.specs.declared.topic.StructField.{StructField}
 use Rattle.clobber_pass.specs.declared.topic.Topic.{Topic}
 use Rattle.clobber_pass.specs.declared.topic.Topic.TheVariants.{Frees, Root as Roots}
-use Rattle.clobber_pass.specs.declared.topic.Topic.TheVariants.{Field as Fields}
-use Rattle.clobber_pass.specs.inside.Class.{class_at, is_about, slot}
+use Rattle.clobber_pass.specs.declared.topic.Topic.TheVariants.{Fields}
+use Rattle.clobber_pass.specs.inside.Class.{class_at, class_of, is_about, slot}
 use Rattle.clobber_pass.specs.Row.{tells}
 use Rattle.clobber_pass.specs.inside.Told.{tells_any, row_width, Fits}
 use Rattle.clobber_pass.specs.Sweep.{row_in}
@@ -89,17 +91,22 @@ slot_inside (Roots f) registers x Here about fits = absurd (false≢true about)
 slot_inside (Roots f) registers x (Unwritten r s y) about fits = absurd (false≢true about)
 slot_inside (Roots f) registers x (ReadField s y) about fits = absurd (false≢true about)
 slot_inside (Roots f) registers x Freed about fits = absurd (false≢true about)
-slot_inside (Fields k f) registers x Here about fits = omega arith
-slot_inside (Fields k f) registers x (Unwritten r s y) about fits = omega (arith, fits)
-slot_inside (Fields k f) registers x (ReadField s y) about fits = omega arith
-slot_inside (Fields k f) registers x (RootUnwritten y) about fits = absurd (false≢true about)
-slot_inside (Fields k f) registers x (ReadRoot y) about fits = absurd (false≢true about)
-slot_inside (Fields k f) registers x Freed about fits = absurd (false≢true about)
+slot_inside (Fields all) registers x b about fits = of_field (slice_get all.now x) b about fits
+  where
+    of_field : (o : Option StructField) (b : Fact) → is_about (class_of o) b ≡ true
+        → Fits registers b → slot b < registers + 2
+    of_field None b about fits = absurd (false≢true about)
+    of_field (Some c) Here about fits = omega arith
+    of_field (Some c) (Unwritten r s y) about fits = omega (arith, fits)
+    of_field (Some c) (ReadField s y) about fits = omega arith
+    of_field (Some c) (RootUnwritten y) about fits = absurd (false≢true about)
+    of_field (Some c) (ReadRoot y) about fits = absurd (false≢true about)
+    of_field (Some c) Freed about fits = absurd (false≢true about)
 
 pub wide : (topic : Topic) (registers : ℕ) → 0 < row_width topic registers
 wide Frees registers = omega arith
 wide (Roots f) registers = omega arith
-wide (Fields k f) registers = omega arith
+wide (Fields all) registers = omega arith
 
 row_past : (rows : List (List ℕ)) (q : ℕ) → length rows ≤ q → row_in rows q ≡ []
 row_past [] q past = refl

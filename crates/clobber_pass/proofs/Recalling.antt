@@ -1,9 +1,12 @@
 -- A function whose callees' exits stayed need not be swept again.
-use Rattle.std.proofs.Common.{◌≡◌, ◌+◌, ℕ, zero, suc, Bool, true, false, List, [], ◌∷◌, ◌++◌, Some}
+use Rattle.std.proofs.Common.{◌≡◌, ◌<◌, ◌+◌, ℕ, zero, suc, Bool, true, false, List, [], ◌∷◌, ◌++◌}
+use Rattle.std.proofs.Common.{Some, None}
 use Rattle.std.proofs.Common.{length, replicate, refl, sym, ◌∙◌, ap, subst, arith, inl, inr}
+use Rattle.std.proofs.Common.{⊎_elim}
 use Rattle.std.specs.Prelude.{◌==◌, slice_get, slice_set, if◌then◌else◌, option_and_then}
 use Rattle.std.proofs.lemmas.Bool.{false≢true, eqb-true, eq-eqb}
 use Rattle.std.proofs.lemmas.List.{length-set, length-replicate}
+use Rattle.std.proofs.lemmas.Option.{none-some}
 use mathlib.Core.Logic.{◌⊎◌}
 use Rattle.ir.specs.declared.instruction.Instruction.{Instruction}
 use Rattle.ir.specs.declared.instruction.Instruction.TheVariants.{Const, Copy, Bin, Jump, Branch}
@@ -18,15 +21,19 @@ use Rattle.clobber_pass.specs.Sweep.{row_in}
 use Rattle.clobber_pass.specs.inside.Sweep.{exits_of, call_from, next_row, row_or, jump_target}
 use Rattle.clobber_pass.specs.inside.Sweep.{meet_in, here_in, rows_led, join_in, swept}
 use Rattle.clobber_pass.specs.inside.Closed.{Closed, Stage, Reached, Made, EndedIn, AllColumns}
-use Rattle.clobber_pass.specs.inside.Closed.{ShapedExits, entry_row, joined_exits}
+use Rattle.clobber_pass.specs.inside.Closed.{ShapedExits, Ended, Within, entry_row, joined_exits}
+use Rattle.clobber_pass.specs.inside.Told.{parameters_at}
 use Rattle.clobber_pass.specs.inside.Closed.Stage.{Table, RowAt}
 use Rattle.clobber_pass.specs.inside.Closed.Reached.{none, again, raised, taken, picked, dropped}
 use Rattle.clobber_pass.specs.inside.Closed.Reached.{leads, goes}
 use Rattle.clobber_pass.specs.inside.Sound.{SoundExits}
 use Rattle.clobber_pass.specs.inside.Flow.{waits}
 use Rattle.clobber_pass.specs.inside.Calling.{IsCalled, edges_at, edges_in, edges_from, woken}
-use Rattle.clobber_pass.specs.inside.Calling.{all_called, Apart, Passing}
+use Rattle.clobber_pass.specs.inside.Calling.{all_called, Apart, CallsOthers, EndedAlone}
+use Rattle.clobber_pass.specs.inside.Calling.{ColumnsAlone, Passing}
 use Rattle.clobber_pass.proofs.Joins.{exits_of_other}
+use Rattle.clobber_pass.proofs.Columns.{exits_of_set}
+use Rattle.clobber_pass.proofs.Flowing.{grows_join}
 use Rattle.clobber_pass.proofs.Waking.{waits_kept, waits_set, waits_other}
 
 -- the functions that a code calls have the same exits
@@ -140,6 +147,33 @@ ended_same functions topic exits new g own calls all c few = record { ends = end
           made = made_same topic exits new (entry_row topic u.parameters u.registers c) u.code
               same old.made;
           told = λ x s h. subst (λ e. tells (row_in e c) x s ≡ true) (sym own) (old.told x s h);
+        }
+
+-- where only a function's own exits changed, and it calls others alone
+apart_calls : (functions : List IrFunction) (exits new : List (List (List ℕ))) (f : ℕ)
+    (u : IrFunction) → slice_get functions f ≡ Some u → Apart f exits new
+    → CallsOthers functions f → SameCalls exits new u.code
+apart_calls functions exits new f u there apart others k to g args at =
+    apart.same g (λ same. others k to args
+    (subst (λ h. CallsAt functions f k to h args) same
+    (ap (option_and_then (λ (v : IrFunction). slice_get v.code k)) there ∙ at)))
+
+ended_apart : (functions : List IrFunction) (topic : Topic) (exits new : List (List (List ℕ)))
+    (f c : ℕ) → Apart f exits new → CallsOthers functions f → Ended functions topic exits f c
+    → Ended functions topic new f c
+ended_apart functions topic exits new f c apart others before = record { ends = ends }
+  where
+    ends : (u : IrFunction) → slice_get functions f ≡ Some u → EndedIn topic new f c u
+    ends u there =
+        let old = before.ends u there in
+        let same = apart_calls functions exits new f u there apart others in
+        record {
+          rows = old.rows;
+          closed = closed_same topic exits new (length u.code) u.code old.rows
+              (entry_row topic u.parameters u.registers c) 0 same old.closed;
+          made = made_same topic exits new (entry_row topic u.parameters u.registers c) u.code
+              same old.made;
+          told = λ x s h. apart.keeps c x s (old.told x s h);
         }
 
 -- the edges contain the call of one function by the other
@@ -260,35 +294,53 @@ passing_first functions topic exits waiting shaped sound is = record {
       (subst (λ w. waits w g ≡ false) is quiet) (is_edge functions f p to g args call));
 }
 
--- the exits of one function grew; it still waits, and so do its callers
+-- the exits of one function grew, and its callers wait
 pub passing_grown : (functions : List IrFunction) (topic : Topic) (exits new : List (List (List ℕ)))
-    (waiting later : List Bool) (f : ℕ) → Passing functions topic exits waiting
-    → waits waiting f ≡ true
+    (waiting swept later : List Bool) (f : ℕ) → Passing functions topic exits waiting
+    → ColumnsAlone functions topic new f
     → ShapedExits functions topic new → SoundExits functions topic new → Apart f exits new
-    → later ≡ woken (edges_from 0 functions) f waiting → Passing functions topic new later
-passing_grown functions topic exits new waiting later f old waited shaped sound apart is = record {
-  shaped = shaped;
-  sound = sound;
-  size = ap (λ (w : List Bool). length w) is ∙ length_woken (edges_from 0 functions) f waiting
-      ∙ old.size;
-  settled = settled;
-}
+    → swept ≡ slice_set waiting f false → later ≡ woken (edges_from 0 functions) f swept
+    → Passing functions topic new later
+passing_grown functions topic exits new waiting swept later f old alone shaped sound apart done is =
+    record {
+      shaped = shaped;
+      sound = sound;
+      size = ap (λ (w : List Bool). length w) is ∙ length_woken (edges_from 0 functions) f swept
+          ∙ ap (λ (w : List Bool). length w) done ∙ length-set waiting f false ∙ old.size;
+      settled = settled;
+    }
   where
     settled : (g : ℕ) → waits later g ≡ false → IsCalled functions g
         → AllColumns functions topic new g
     settled g quiet called =
-        let woke : waits (woken (edges_from 0 functions) f waiting) g ≡ false =
+        let woke : waits (woken (edges_from 0 functions) f swept) g ≡ false =
         subst (λ w. waits w g ≡ false) is quiet in
-        let before : waits waiting g ≡ false =
-        woken_kept (edges_from 0 functions) f waiting g woke in
-        let unlike : (g ≡ f → ⊥) = λ same.
-        false≢true (sym before ∙ ap (waits waiting) same ∙ waited) in
-        ended_same functions topic exits new g (apart.same g unlike)
-        (λ p to h args call. apart.same h
-        (λ same. woken_all (edges_from 0 functions) f waiting g woke
+        let kept : waits swept g ≡ false =
+        woken_kept (edges_from 0 functions) f swept g woke in
+        let before : waits (slice_set waiting f false) g ≡ false =
+        subst (λ w. waits w g ≡ false) done kept in
+        let others : (p to h : ℕ) (args : List ℕ) → CallsAt functions g p to h args
+        → (h ≡ f → ⊥) = λ p to h args call same.
+        woken_all (edges_from 0 functions) f swept g woke
         (subst (λ k. IsEdge g k (edges_from 0 functions)) same
-        (is_edge functions g p to h args call))))
-        (old.settled g before called)
+        (is_edge functions g p to h args call)) in
+        by_place g called others before (g == f) refl
+      where
+        by_place : (g : ℕ) → IsCalled functions g
+            → ((p to h : ℕ) (args : List ℕ) → CallsAt functions g p to h args → (h ≡ f → ⊥))
+            → waits (slice_set waiting f false) g ≡ false
+            → (b : Bool) → (g == f) ≡ b → AllColumns functions topic new g
+        by_place g called others before true at =
+            let same : g ≡ f = eqb-true g f at in
+            λ c few. subst (λ k. Ended functions topic new k c) (sym same)
+            ((alone c (subst (λ k. c < parameters_at functions k + 2) same few)).ends
+            (λ p to args call. others p to f args
+            (subst (λ k. CallsAt functions k p to f args) (sym same) call) refl))
+        by_place g called others before false at =
+            let unlike : (g ≡ f → ⊥) = λ equal. false≢true (sym at ∙ eq-eqb g f equal) in
+            ended_same functions topic exits new g (apart.same g unlike)
+            (λ p to h args call. apart.same h (others p to h args call))
+            (old.settled g (sym (waits_other waiting f g false unlike) ∙ before) called)
 
 -- a function whose exits stayed
 pub passing_quiet : (functions : List IrFunction) (topic : Topic) (exits new : List (List (List ℕ)))
@@ -320,15 +372,79 @@ pub apart_joined : (exits : List (List (List ℕ))) (f c : ℕ) (row : List ℕ)
 apart_joined exits f c row = record {
   same = λ h unlike.
       exits_of_other exits f h (join_in (exits_of exits f) c row) unlike;
+  keeps = keeps;
 }
+  where
+    keeps : (d : ℕ) → Within (row_in (exits_of exits f) d)
+        (row_in (exits_of (joined_exits exits f c row) f) d)
+    keeps d x s h =
+        ⊎_elim (λ (same : exits_of (joined_exits exits f c row) f ≡ exits_of exits f).
+        subst (λ t. tells (row_in t d) x s ≡ true) (sym same) h)
+        (λ (e : (f ≡ f) × (exits_of (joined_exits exits f c row) f
+        ≡ join_in (exits_of exits f) c row)).
+        subst (λ t. tells (row_in t d) x s ≡ true) (sym e.1)
+        (grows_join (exits_of exits f) c row d x s h))
+        (exits_of_set exits f (join_in (exits_of exits f) c row) f)
 
 pub apart_none : (f : ℕ) (exits : List (List (List ℕ))) → Apart f exits exits
-apart_none f exits = record { same = λ h unlike. refl }
+apart_none f exits = record { same = λ h unlike. refl; keeps = λ c x s h. h }
 
 pub apart_both : (f : ℕ) (exits middle new : List (List (List ℕ))) → Apart f exits middle
     → Apart f middle new → Apart f exits new
 apart_both f exits middle new one two =
-    record { same = λ h unlike. two.same h unlike ∙ one.same h unlike }
+    record {
+      same = λ h unlike. two.same h unlike ∙ one.same h unlike;
+      keeps = λ c x s h. two.keeps c x s (one.keeps c x s h);
+    }
+
+-- a column stays closed where only the function's own exits grew
+pub alone_keeps : (functions : List IrFunction) (topic : Topic) (exits new : List (List (List ℕ)))
+    (f c : ℕ) → Apart f exits new → EndedAlone functions topic exits f c
+    → EndedAlone functions topic new f c
+alone_keeps functions topic exits new f c apart before =
+    record {
+      ends = λ others. ended_apart functions topic exits new f c apart others
+          (before.ends others);
+    }
+
+pub alone_none : (functions : List IrFunction) (topic : Topic) (exits : List (List (List ℕ)))
+    (f c : ℕ) → slice_get functions f ≡ None → EndedAlone functions topic exits f c
+alone_none functions topic exits f c missing =
+    record {
+      ends = λ others. record {
+        ends = λ u there. absurd (none-some u (sym missing ∙ there));
+      };
+    }
+
+-- the column that was swept
+pub alone_ended : (functions : List IrFunction) (topic : Topic) (exits new : List (List (List ℕ)))
+    (f c : ℕ) (u : IrFunction) → slice_get functions f ≡ Some u → Apart f exits new
+    → (rows : List (List ℕ)) → Closed topic exits (length u.code) rows
+    (entry_row topic u.parameters u.registers c) 0 u.code
+    → Made topic exits (entry_row topic u.parameters u.registers c) u.code rows
+    → Within (row_in rows (length u.code)) (row_in (exits_of new f) c)
+    → EndedAlone functions topic new f c
+alone_ended functions topic exits new f c u there apart rows closed made told =
+    record { ends = λ others. record { ends = each others } }
+  where
+    here : CallsOthers functions f → EndedIn topic new f c u
+    here others =
+        let same = apart_calls functions exits new f u there apart others in
+        record {
+          rows = rows;
+          closed = closed_same topic exits new (length u.code) u.code rows
+              (entry_row topic u.parameters u.registers c) 0 same closed;
+          made = made_same topic exits new (entry_row topic u.parameters u.registers c) u.code
+              same made;
+          told = told;
+        }
+
+    each : CallsOthers functions f → (v : IrFunction) → slice_get functions f ≡ Some v
+        → EndedIn topic new f c v
+    each others v is =
+        let both : Some u ≡ Some v = sym there ∙ is in
+        let body_is : u ≡ v = cc in
+        subst (EndedIn topic new f c) body_is (here others)
 
 pub ruleset apart = (apart_joined, apart_none, apart_both)
 

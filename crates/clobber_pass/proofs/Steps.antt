@@ -2,6 +2,7 @@
 -- before.
 use Rattle.std.proofs.Common.{◌≡◌, ◌≢◌, ◌<◌, ◌+◌, ℕ, Bool, true, false, List, Some, None, length}
 use Rattle.std.proofs.Common.{refl, sym, ◌∙◌, ap, arith}
+use Rattle.std.specs.Borrow.{Bor}
 use Rattle.std.specs.Prelude.{◌==◌, ◌&&◌, ◌||◌, not, slice_set, bit_and, bit_or, if◌then◌else◌}
 use Rattle.std.proofs.lemmas.Bool.{false≢true, eqb-true, eq-eqb}
 use Rattle.std.proofs.lemmas.List.{get_or-set_same, get_or-set_other, length-set}
@@ -17,14 +18,14 @@ use Rattle.ir.specs.declared.fact.Origins.{Origins}
 use Rattle.ir.specs.declared.fact.Origins.TheVariants.{Nowhere, One, Two}
 use Rattle.ir.specs.WellFormed.{IsInstruction}
 use Rattle.ir.specs.Table.{origins}
+use Rattle.clobber_pass.specs.declared.topic.StructField.{StructField}
 use Rattle.clobber_pass.specs.declared.topic.Topic.{Topic}
 use Rattle.clobber_pass.specs.declared.topic.Topic.TheVariants.{Frees, Root as Roots}
-use Rattle.clobber_pass.specs.declared.topic.Topic.TheVariants.{Field as Fields}
+use Rattle.clobber_pass.specs.declared.topic.Topic.TheVariants.{Fields}
 use Rattle.clobber_pass.specs.Row.{word, has_bit, tells}
-use Rattle.clobber_pass.specs.inside.Row.{mask, without, with_read, after_row}
+use Rattle.clobber_pass.specs.inside.Row.{fields_mask, without, with_read, after_row}
 use Rattle.clobber_pass.specs.inside.Told.{tells_any}
 use Rattle.clobber_pass.proofs.Bits.{has_bit_zero, has_bit_or, has_bit_and, has_bit_without}
-use Rattle.clobber_pass.proofs.Bits.{has_bit_mask}
 
 -- the word that was written, and any other
 pub at_same : (row : List ℕ) (s w : ℕ) → s < length row → word (slice_set row s w) s ≡ w
@@ -66,29 +67,16 @@ pub read_length : (t : Topic) (target : Target) (row : List ℕ)
 read_length Frees target row = refl
 read_length (Roots f) (Root y i) row = length-set row 1 _
 read_length (Roots f) (Field b k y i) row = refl
-read_length (Fields s f) (Root y i) row = refl
-read_length (Fields s f) (Field b k y i) row = by_cases (s == k)
-  where
-    by_cases : (c : Bool) → length
-        (if c then slice_set row 1 (bit_or (word row 1) (bit_and (word row (b + 2)) (mask f y)))
-        else row) ≡ length row
-    by_cases true = length-set row 1 _
-    by_cases false = refl
+read_length (Fields all) (Root y i) row = refl
+read_length (Fields all) (Field b k y i) row = length-set row 1 _
 
 pub read_other : (t : Topic) (target : Target) (row : List ℕ) (s : ℕ) → s ≢ 1
     → word (with_read t target row) s ≡ word row s
 read_other Frees target row s unlike = refl
 read_other (Roots f) (Root y i) row s unlike = at_other row 1 s _ unlike
 read_other (Roots f) (Field b k y i) row s unlike = refl
-read_other (Fields c f) (Root y i) row s unlike = refl
-read_other (Fields c f) (Field b k y i) row s unlike = by_cases (c == k)
-  where
-    by_cases : (t : Bool) → word (if t
-        then slice_set row 1 (bit_or (word row 1) (bit_and (word row (b + 2)) (mask f y)))
-        else row) s
-        ≡ word row s
-    by_cases true = at_other row 1 s _ unlike
-    by_cases false = refl
+read_other (Fields all) (Root y i) row s unlike = refl
+read_other (Fields all) (Field b k y i) row s unlike = at_other row 1 s _ unlike
 
 begun_of : (t : Topic) (row : List ℕ) (x to r k y : ℕ) → to + 2 < length row
     → tells (slice_set row (to + 2) (word row 0)) x (r + 2) ≡ tells_any row x (if r == to
@@ -96,8 +84,9 @@ begun_of : (t : Topic) (row : List ℕ) (x to r k y : ℕ) → to + 2 < length r
 begun_of t row x to r k y inside = given_register row x to (word row 0) r k y (One Here) inside refl
 
 -- what is recorded of a register after each instruction, for the class of bit x
-module _ (ir : Ir) (kind f : ℕ) (row : List ℕ) (x registers n : ℕ) (few : x < 16)
-    (long : length row ≡ registers + 2) where
+module _ (ir : Ir) (all : Bor (List StructField)) (kind field : ℕ) (row : List ℕ)
+    (x registers n : ℕ) (bit : (t y : ℕ) → has_bit x (fields_mask all.now t y)
+    ≡ ((kind == t) && (field == y))) (long : length row ≡ registers + 2) where
   inside : (to : ℕ) → to < registers → to + 2 < length row
   inside to less = omega arith
 
@@ -105,50 +94,50 @@ module _ (ir : Ir) (kind f : ℕ) (row : List ℕ) (x registers n : ℕ) (few : 
   not_one r e = omega arith
 
   register_loaded : (target : Target) (to r : ℕ) → to < registers
-      → tells (slice_set (with_read (Fields kind f) target row) (to + 2)
-      (word (with_read (Fields kind f) target row) 0)) x (r + 2) ≡ tells_any row x (if r == to
-      then One Here else One (Unwritten r kind (f + x)))
+      → tells (slice_set (with_read (Fields all) target row) (to + 2)
+      (word (with_read (Fields all) target row) 0)) x (r + 2) ≡ tells_any row x (if r == to
+      then One Here else One (Unwritten r kind field))
   register_loaded target to r less =
-      let read = with_read (Fields kind f) target row in
+      let read = with_read (Fields all) target row in
       let long_read : to + 2 < length read =
-      omega (arith, read_length (Fields kind f) target row) in
+      omega (arith, read_length (Fields all) target row) in
       let start : word read 0 ≡ word row 0 =
-      read_other (Fields kind f) target row 0 (λ (e : 0 ≡ 1). omega arith) in
+      read_other (Fields all) target row 0 (λ (e : 0 ≡ 1). omega arith) in
       let kept : word read (r + 2) ≡ word row (r + 2) =
-      read_other (Fields kind f) target row (r + 2) (not_one r) in
-      begun_of (Fields kind f) read x to r kind (f + x) long_read ∙ same read start kept (r == to)
+      read_other (Fields all) target row (r + 2) (not_one r) in
+      begun_of (Fields all) read x to r kind field long_read ∙ same read start kept (r == to)
     where
       same : (read : List ℕ) → word read 0 ≡ word row 0 → word read (r + 2) ≡ word row (r + 2)
-          → (b : Bool) → tells_any read x (if b then One Here else One (Unwritten r kind (f + x)))
-          ≡ tells_any row x (if b then One Here else One (Unwritten r kind (f + x)))
+          → (b : Bool) → tells_any read x (if b then One Here else One (Unwritten r kind field))
+          ≡ tells_any row x (if b then One Here else One (Unwritten r kind field))
       same read start kept true = ap (has_bit x) start
       same read start kept false = ap (has_bit x) kept
 
   -- a field that is written through a register
   register_written : (b t y r : ℕ) → b < registers
-      → tells (if kind == t then slice_set row (b + 2) (without (word row (b + 2)) (mask f y))
-      else row) x (r + 2) ≡ tells_any row x (if (r == b) && ((kind == t) && (f + x == y))
-      then Nowhere
-      else One (Unwritten r kind (f + x)))
-  register_written b t y r less = of_kind (kind == t)
+      → tells (slice_set row (b + 2) (without (word row (b + 2)) (fields_mask all.now t y))) x
+      (r + 2) ≡ tells_any row x (if (r == b) && ((kind == t) && (field == y)) then Nowhere
+      else One (Unwritten r kind field))
+  register_written b t y r less = through (r == b) refl
     where
       through : (c : Bool) → (r == b) ≡ c
-          → tells (slice_set row (b + 2) (without (word row (b + 2)) (mask f y))) x (r + 2)
-          ≡ tells_any row x (if c && (f + x == y) then Nowhere else One (Unwritten r kind (f + x)))
+          → tells (slice_set row (b + 2) (without (word row (b + 2)) (fields_mask all.now t y))) x
+          (r + 2) ≡ tells_any row x (if c && ((kind == t) && (field == y)) then Nowhere
+          else One (Unwritten r kind field))
       through true is =
           let e : r ≡ b = eqb-true r b is in
-          ap (λ q. tells (slice_set row (b + 2) (without (word row (b + 2)) (mask f y))) x (q + 2))
-          e
-          ∙ ap (has_bit x) (at_same row (b + 2) (without (word row (b + 2)) (mask f y))
-          (inside b less))
-          ∙ has_bit_without x (word row (b + 2)) (mask f y)
-          ∙ ap (λ m. has_bit x (word row (b + 2)) && not m) (has_bit_mask x f y few)
-          ∙ written (f + x == y)
-          ∙ ap (λ q. tells_any row x (if f + x == y then Nowhere
-          else One (Unwritten q kind (f + x)))) (sym e)
+          ap (λ q. tells (slice_set row (b + 2)
+          (without (word row (b + 2)) (fields_mask all.now t y))) x (q + 2)) e
+          ∙ ap (has_bit x) (at_same row (b + 2)
+          (without (word row (b + 2)) (fields_mask all.now t y)) (inside b less))
+          ∙ has_bit_without x (word row (b + 2)) (fields_mask all.now t y)
+          ∙ ap (λ m. has_bit x (word row (b + 2)) && not m) (bit t y)
+          ∙ written ((kind == t) && (field == y))
+          ∙ ap (λ q. tells_any row x (if (kind == t) && (field == y) then Nowhere
+          else One (Unwritten q kind field))) (sym e)
         where
           written : (m : Bool) → (has_bit x (word row (b + 2)) && not m) ≡ tells_any row x
-              (if m then Nowhere else One (Unwritten b kind (f + x)))
+              (if m then Nowhere else One (Unwritten b kind field))
           written true = and_false (has_bit x (word row (b + 2)))
             where
               and_false : (a : Bool) → (a && false) ≡ false
@@ -164,31 +153,19 @@ module _ (ir : Ir) (kind f : ℕ) (row : List ℕ) (x registers n : ℕ) (few : 
           false≢true (sym is ∙ eq-eqb r b (omega arith)) in
           ap (has_bit x) (at_other row (b + 2) (r + 2) _ unlike)
 
-      of_kind : (c : Bool) → tells (if c
-          then slice_set row (b + 2) (without (word row (b + 2)) (mask f y)) else row) x (r + 2)
-          ≡ tells_any row x (if (r == b) && (c && (f + x == y)) then Nowhere
-          else One (Unwritten r kind (f + x)))
-      of_kind true = through (r == b) refl
-      of_kind false = left (r == b)
-        where
-          left : (c : Bool) → tells row x (r + 2) ≡ tells_any row x (if c && false then Nowhere
-              else One (Unwritten r kind (f + x)))
-          left true = refl
-          left false = refl
-
   pub register_after : (i : Instruction) (r : ℕ) → IsInstruction ir registers n i
-      → tells (after_row (Fields kind f) i row) x (r + 2) ≡ tells_any row x
-      (origins i (Unwritten r kind (f + x)))
-  register_after (Const to v) r ok = begun_of (Fields kind f) row x to r kind (f + x) (inside to ok)
+      → tells (after_row (Fields all) i row) x (r + 2) ≡ tells_any row x
+      (origins i (Unwritten r kind field))
+  register_after (Const to v) r ok = begun_of (Fields all) row x to r kind field (inside to ok)
   register_after (Bin op to left right) r ok =
-      begun_of (Fields kind f) row x to r kind (f + x) (inside to ok.0)
+      begun_of (Fields all) row x to r kind field (inside to ok.0)
   register_after (Copy to from) r ok =
-      given_register row x to (word row (from + 2)) r kind (f + x)
-      (One (Unwritten from kind (f + x)))
+      given_register row x to (word row (from + 2)) r kind field
+      (One (Unwritten from kind field))
       (inside to ok.0) refl
   register_after (Load to target) r ok = register_loaded target to r ok.0
   register_after (New to k log_fill line) r ok =
-      given_register row x to 0 r kind (f + x) Nowhere (inside to ok.0) (has_bit_zero x)
+      given_register row x to 0 r kind field Nowhere (inside to ok.0) (has_bit_zero x)
   register_after (Store (Field b t y None) from line) r ok = register_written b t y r ok.1.0
   register_after (Store (Field b t y (Some i)) from line) r ok = refl
   register_after (Store (Root y None) from line) r ok = refl
@@ -203,20 +180,14 @@ module _ (ir : Ir) (kind f : ℕ) (row : List ℕ) (x registers n : ℕ) (few : 
   register_after (Log t) r ok = refl
 
   -- what is recorded of a walk
-  pub start_after : (i : Instruction) → tells (after_row (Fields kind f) i row) x 0 ≡ tells row x 0
+  pub start_after : (i : Instruction) → tells (after_row (Fields all) i row) x 0 ≡ tells row x 0
   start_after (Const to v) = given_start row x to _
   start_after (Bin op to left right) = given_start row x to _
   start_after (Copy to from) = given_start row x to _
-  start_after (Load to target) = given_start (with_read (Fields kind f) target row) x to _
-      ∙ ap (has_bit x) (read_other (Fields kind f) target row 0 (λ (e : 0 ≡ 1). omega arith))
+  start_after (Load to target) = given_start (with_read (Fields all) target row) x to _
+      ∙ ap (has_bit x) (read_other (Fields all) target row 0 (λ (e : 0 ≡ 1). omega arith))
   start_after (New to k log_fill line) = given_start row x to _
-  start_after (Store (Field b t y None) from line) = by_cases (kind == t)
-    where
-      by_cases : (c : Bool) → tells (if c
-          then slice_set row (b + 2) (without (word row (b + 2)) (mask f y)) else row) x 0
-          ≡ tells row x 0
-      by_cases true = given_start row x b _
-      by_cases false = refl
+  start_after (Store (Field b t y None) from line) = given_start row x b _
   start_after (Store (Field b t y (Some i)) from line) = refl
   start_after (Store (Root y None) from line) = refl
   start_after (Store (Root y (Some i)) from line) = refl
@@ -230,20 +201,26 @@ module _ (ir : Ir) (kind f : ℕ) (row : List ℕ) (x registers n : ℕ) (few : 
   start_after (Log t) = refl
 
   -- what is recorded of the class being read
-  class_read : (b t y : ℕ) → tells (if kind == t
-      then slice_set row 1 (bit_or (word row 1) (bit_and (word row (b + 2)) (mask f y)))
-      else row) x 1
-      ≡ tells_any row x (if (kind == t) && (f + x == y)
-      then Two (ReadField kind (f + x)) (Unwritten b kind (f + x))
-      else One (ReadField kind (f + x)))
-  class_read b t y = of_kind (kind == t)
+  class_read : (b t y : ℕ) → tells (slice_set row 1 (bit_or (word row 1)
+      (bit_and (word row (b + 2)) (fields_mask all.now t y)))) x 1
+      ≡ tells_any row x (if (kind == t) && (field == y)
+      then Two (ReadField kind field) (Unwritten b kind field)
+      else One (ReadField kind field))
+  class_read b t y =
+      ap (has_bit x) (at_same row 1 (bit_or (word row 1)
+      (bit_and (word row (b + 2)) (fields_mask all.now t y))) one_inside)
+      ∙ has_bit_or x (word row 1) (bit_and (word row (b + 2)) (fields_mask all.now t y))
+      ∙ ap (λ c. has_bit x (word row 1) || c)
+      (has_bit_and x (word row (b + 2)) (fields_mask all.now t y)
+      ∙ ap (λ m. has_bit x (word row (b + 2)) && m) (bit t y))
+      ∙ of_field ((kind == t) && (field == y))
     where
       one_inside : 1 < length row
       one_inside = omega arith
 
       of_field : (m : Bool) → (has_bit x (word row 1) || (has_bit x (word row (b + 2)) && m))
-          ≡ tells_any row x (if m then Two (ReadField kind (f + x)) (Unwritten b kind (f + x))
-          else One (ReadField kind (f + x)))
+          ≡ tells_any row x (if m then Two (ReadField kind field) (Unwritten b kind field)
+          else One (ReadField kind field))
       of_field true = ap (λ c. has_bit x (word row 1) || c)
           (and_true (has_bit x (word row (b + 2))))
         where
@@ -261,37 +238,16 @@ module _ (ir : Ir) (kind f : ℕ) (row : List ℕ) (x registers n : ℕ) (few : 
           or_false true = refl
           or_false false = refl
 
-      of_kind : (c : Bool) → tells (if c
-          then slice_set row 1 (bit_or (word row 1) (bit_and (word row (b + 2)) (mask f y)))
-          else row)
-          x 1 ≡ tells_any row x (if c && (f + x == y)
-          then Two (ReadField kind (f + x)) (Unwritten b kind (f + x))
-          else One (ReadField kind (f + x)))
-      of_kind true =
-          ap (has_bit x) (at_same row 1 (bit_or (word row 1)
-          (bit_and (word row (b + 2)) (mask f y))) one_inside)
-          ∙ has_bit_or x (word row 1) (bit_and (word row (b + 2)) (mask f y))
-          ∙ ap (λ c. has_bit x (word row 1) || c) (has_bit_and x (word row (b + 2)) (mask f y)
-          ∙ ap (λ m. has_bit x (word row (b + 2)) && m) (has_bit_mask x f y few))
-          ∙ of_field (f + x == y)
-      of_kind false = refl
-
-  pub sought_after : (i : Instruction) → tells (after_row (Fields kind f) i row) x 1
-      ≡ tells_any row x (origins i (ReadField kind (f + x)))
+  pub sought_after : (i : Instruction) → tells (after_row (Fields all) i row) x 1
+      ≡ tells_any row x (origins i (ReadField kind field))
   sought_after (Const to v) = given_sought row x to _
   sought_after (Bin op to left right) = given_sought row x to _
   sought_after (Copy to from) = given_sought row x to _
   sought_after (Load to (Field b t y i)) =
-      given_sought (with_read (Fields kind f) (Field b t y i) row) x to _ ∙ class_read b t y
+      given_sought (with_read (Fields all) (Field b t y i) row) x to _ ∙ class_read b t y
   sought_after (Load to (Root y i)) = given_sought row x to _
   sought_after (New to k log_fill line) = given_sought row x to _
-  sought_after (Store (Field b t y None) from line) = by_cases (kind == t)
-    where
-      by_cases : (c : Bool) → tells (if c
-          then slice_set row (b + 2) (without (word row (b + 2)) (mask f y)) else row) x 1
-          ≡ tells row x 1
-      by_cases true = given_sought row x b _
-      by_cases false = refl
+  sought_after (Store (Field b t y None) from line) = given_sought row x b _
   sought_after (Store (Field b t y (Some i)) from line) = refl
   sought_after (Store (Root y None) from line) = refl
   sought_after (Store (Root y (Some i)) from line) = refl

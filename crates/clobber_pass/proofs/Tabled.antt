@@ -1,9 +1,9 @@
 -- A table of marks after one more function was marked for a topic.
-use Rattle.std.proofs.Common.{◌≡◌, ◌<◌, ◌+◌, ◌-◌, ℕ, zero, suc, Bool, true, false, List, [], ◌∷◌}
+use Rattle.std.proofs.Common.{◌≡◌, ◌<◌, ℕ, zero, suc, Bool, true, false, List, [], ◌∷◌}
 use Rattle.std.proofs.Common.{Option, Some, None, length, refl, sym, ◌∙◌, ap, subst, inl, inr}
 use Rattle.std.proofs.Common.{⊎_elim, arith}
-use Rattle.std.specs.Prelude.{◌==◌, ◌&&◌, ◌%◌, slice_get, option_and_then}
-use Rattle.std.proofs.lemmas.Bool.{false≢true, and_from, eq-eqb}
+use Rattle.std.specs.Prelude.{slice_get, option_and_then}
+use Rattle.std.proofs.lemmas.Bool.{false≢true}
 use Rattle.std.proofs.lemmas.List.{length-set, get_or-set_same}
 use Rattle.std.proofs.lemmas.Option.{slice_get_within}
 use mathlib.Core.Logic.{◌⊎◌}
@@ -31,7 +31,7 @@ use Rattle.clobber_pass.specs.inside.Calling.{CalledEnded}
 use Rattle.clobber_pass.specs.inside.Sound.{SoundExits}
 use Rattle.clobber_pass.specs.inside.Flow.{Entries, StartEntries, at_entry, AllFlow}
 use Rattle.clobber_pass.specs.Marking.{part, says}
-use Rattle.clobber_pass.specs.inside.Marking.{topic_of, marks_from, Logged, SoundMarks, ShapedMarks}
+use Rattle.clobber_pass.specs.inside.Marking.{Covers, marks_from, Logged, SoundMarks, ShapedMarks}
 use Rattle.clobber_pass.specs.inside.Marking.{Headers, Marked, KeepsRows, Marks, header_mark}
 use Rattle.clobber_pass.specs.inside.Marking.{headers, headers_of}
 use Rattle.clobber_pass.proofs.Joins.{row_in_set, joined_tells}
@@ -39,7 +39,7 @@ use Rattle.clobber_pass.proofs.Columns.{joined_out, joined_shape}
 use Rattle.clobber_pass.proofs.Flowing.{grows_join}
 use Rattle.clobber_pass.proofs.Fits.{standing, registers_there}
 use Rattle.clobber_pass.proofs.FlowLaw.{nothing_comes}
-use Rattle.clobber_pass.proofs.PlaceMarks.{low, low_few, same_true, length_marks, row_sound}
+use Rattle.clobber_pass.proofs.PlaceMarks.{length_marks, row_sound}
 use Rattle.clobber_pass.proofs.PlaceMarks.{store_marked, fill_marked, test_store, test_store_fill}
 use Rattle.clobber_pass.proofs.PlaceMarks.{nothing_set}
 
@@ -130,11 +130,11 @@ module _ (ir : Ir) (well : IsWellFormed ir) (topic : Topic) (exits : List (List 
 
   pub function_marked : Marked ir.functions topic new f
   function_marked = record {
-    stores = λ p target from line topic_is at bare before.
+    stores = λ p target from line covers at bare before.
         now_said 0 p (subst (λ r. tells r 0 p ≡ true) (sym row_is)
         (store_marked ir well topic exits sound ended entries all start tables flow f u
         there reached
-        p target from line topic_is (code_there p (Store target from line) at) bare before));
+        p target from line covers (code_there p (Store target from line) at) bare before));
     fills = λ p to kind log_fill line topic_is at before.
         now_said 1 p (subst (λ r. tells r 1 p ≡ true) (sym row_is)
         (fill_marked ir well topic exits sound ended entries all start tables flow f u
@@ -146,8 +146,8 @@ module _ (ir : Ir) (well : IsWellFormed ir) (topic : Topic) (exits : List (List 
 pub marked_keeps : (functions : List IrFunction) (topic : Topic) (table new : List (List ℕ)) (f : ℕ)
     → KeepsRows table new → Marked functions topic table f → Marked functions topic new f
 marked_keeps functions topic table new f kept marked = record {
-  stores = λ p target from line topic_is at bare before.
-      kept.keeps f 0 p (marked.stores p target from line topic_is at bare before);
+  stores = λ p target from line covers at bare before.
+      kept.keeps f 0 p (marked.stores p target from line covers at bare before);
   fills = λ p to kind log_fill line topic_is at before.
       kept.keeps f 1 p (marked.fills p to kind log_fill line topic_is at before);
 }
@@ -192,30 +192,20 @@ module _ (ir : Ir) (well : IsWellFormed ir) (topic : Topic) (exits : List (List 
       nothing_comes ir well topic exits sound ended entries all.sound all.shaped start tables flow x
       few s.body s.there none d (about, fit)
 
-  no_store : (p : ℕ) (target : Target) (from line : ℕ) → topic_of target ≡ topic
+  no_store : (p : ℕ) (target : Target) (from line : ℕ) → Covers topic target
       → instruction_at ir.functions f p ≡ Some (Store target from line)
       → Flows ir.functions f p (unwritten target) → ⊥
-  no_store p (Root y index) from line topic_is is d =
-      let x = y % 16 in
-      let about : is_about (class_at topic x) (RootUnwritten y) ≡ true =
-      ap (λ t. is_about (class_at t x) (RootUnwritten y)) (sym topic_is)
-      ∙ eq-eqb y ((y - y % 16) + x) (sym (low y)) in
-      no_flow p x (RootUnwritten y) (Store (Root y index) from line) (low_few y) is about
-      (λ u well. tt) d
-  no_store p (Field b k y index) from line topic_is is d =
-      let x = y % 16 in
-      let both : ((k == k) && (y == (y - y % 16) + x)) ≡ true =
-      and_from (k == k) (y == (y - y % 16) + x) (same_true k)
-      (eq-eqb y ((y - y % 16) + x) (sym (low y))) in
-      let about : is_about (class_at topic x) (Unwritten b k y) ≡ true =
-      ap (λ t. is_about (class_at t x) (Unwritten b k y)) (sym topic_is) ∙ both in
-      no_flow p x (Unwritten b k y) (Store (Field b k y index) from line) (low_few y) is about
-      (λ u well. well.1.0) d
+  no_store p (Root y index) from line covers is d =
+      no_flow p covers.x (RootUnwritten y) (Store (Root y index) from line) covers.few is
+      covers.bare (λ u well. tt) d
+  no_store p (Field b k y index) from line covers is d =
+      no_flow p covers.x (Unwritten b k y) (Store (Field b k y index) from line) covers.few is
+      covers.bare (λ u well. well.1.0) d
 
   pub unreached : (table : List (List ℕ)) → Marked ir.functions topic table f
   unreached table = record {
-    stores = λ p target from line topic_is is bare before.
-        absurd (no_store p target from line topic_is is bare);
+    stores = λ p target from line covers is bare before.
+        absurd (no_store p target from line covers is bare);
     fills = λ p to kind log_fill line topic_is is before.
         absurd (no_flow p 0 Freed (New to kind log_fill line) (omega arith) is
         (ap (λ t. is_about (class_at t 0) Freed) topic_is) (λ u well. tt) before);

@@ -2,6 +2,7 @@
 pub mod Calling
 pub mod Carrying
 pub mod Class
+pub mod Classes
 pub mod Closed
 pub mod Flow
 pub mod Law

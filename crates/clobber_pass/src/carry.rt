@@ -75,7 +75,7 @@ fn result_slot(instruction: &Instruction) -> usize
 
 /// A word passes an instruction that is no call. The row is blank before and afterwards.
 fn past_step(
-    topic: Topic,
+    topic: Topic<'_>,
     instruction: &Instruction,
     grown: Grown,
     row: &mut [u16],
@@ -85,7 +85,7 @@ fn past_step(
     requires place { grown.place < 2 ^ 63 }
     requires blank { row.old ≡ replicate (length row.old) 0 }
     ensures carries { OnOk result (Carries (grown.place + 1)
-        (after_row topic instruction.now (only (length row.old) grown.slot grown.word))
+        (after_row topic.entry instruction.now (only (length row.old) grown.slot grown.word))
         rows.old rows.new growth.old growth.new) }
     ensures blank { OnOk result (row.new ≡ row.old) }
     ensures room { OnOk result (room rows.new ≤ room rows.old) }
@@ -219,7 +219,7 @@ fn lead_on(
 /// A word passes the instruction of its place, and arrives at the next place.
 #[tactic(auto, using(crate::proofs::Carrying::carried))]
 fn pass(
-    topic: Topic,
+    topic: Topic<'_>,
     exits: &Tables,
     instruction: &Instruction,
     grown: Grown,
@@ -230,7 +230,7 @@ fn pass(
     requires place { grown.place < 2 ^ 63 }
     requires blank { row.old ≡ replicate (length row.old) 0 }
     ensures carries { OnOk result (Carries (grown.place + 1)
-        (inside_sweeps.next_row topic exits.now instruction.now
+        (inside_sweeps.next_row topic.entry exits.now instruction.now
         (only (length row.old) grown.slot grown.word)) rows.old rows.new growth.old growth.new) }
     ensures blank { OnOk result (row.new ≡ row.old) }
     ensures room { OnOk result (room rows.new ≤ room rows.old) }
@@ -253,7 +253,7 @@ fn pass(
 
 /// Carries one word on, to the places to which the instruction of its place leads.
 fn carry_word(
-    topic: Topic,
+    topic: Topic<'_>,
     exits: &Tables,
     code: &[Instruction],
     grown: Grown,
@@ -262,7 +262,7 @@ fn carry_word(
     growth: &mut Growth,
 ) -> Result<(), AllocError>
     requires blank { row.old ≡ replicate (length row.old) 0 }
-    ensures carries { OnOk result (CarriesOn topic exits.now code.now (length row.old) grown
+    ensures carries { OnOk result (CarriesOn topic.entry exits.now code.now (length row.old) grown
         rows.old rows.new growth.old growth.new) }
     ensures blank { OnOk result (row.new ≡ row.old) }
     ensures room { OnOk result (room rows.new ≤ room rows.old) }
@@ -283,7 +283,7 @@ const MOST: u32 = u32::MAX;
 /// Carries on the words of a list, and what grows by them.
 fn carry_growth(
     alloc: Global,
-    topic: Topic,
+    topic: Topic<'_>,
     exits: &Tables,
     code: &[Instruction],
     entry: &[u16],
@@ -291,7 +291,7 @@ fn carry_growth(
     growth: &mut Growth,
 ) -> Result<(), AllocError>
     requires { Carrying topic exits.now entry.now code.now rows.old growth.old }
-    ensures made { OnOk result (Made topic exits.now entry.now code.now rows.new) }
+    ensures made { OnOk result (Made topic.entry exits.now entry.now code.now rows.new) }
     ensures room { OnOk result (room rows.new ≤ room rows.old) }
 {
     let mut row = vec![in alloc; 0; entry.len()]?;
@@ -307,7 +307,7 @@ fn carry_growth(
 /// Carries on the row of a place.
 fn carry_row(
     alloc: Global,
-    topic: Topic,
+    topic: Topic<'_>,
     exits: &Tables,
     code: &[Instruction],
     entry: &[u16],
@@ -315,7 +315,7 @@ fn carry_row(
     rows: &mut Rows,
 ) -> Result<(), AllocError>
     requires { Made topic exits.now entry.now code.now rows.old }
-    ensures made { OnOk result (Made topic exits.now entry.now code.now rows.new) }
+    ensures made { OnOk result (Made topic.entry exits.now entry.now code.now rows.new) }
     ensures room { OnOk result (room rows.new ≤ room rows.old) }
 {
     let mut growth = Growth::new(alloc);
@@ -326,7 +326,7 @@ fn carry_row(
 /// Carries on the rows of these places.
 pub fn carry(
     alloc: Global,
-    topic: Topic,
+    topic: Topic<'_>,
     exits: &Tables,
     code: &[Instruction],
     entry: &[u16],
@@ -334,7 +334,7 @@ pub fn carry(
     rows: &mut Rows,
 ) -> Result<(), AllocError>
     requires { Made topic exits.now entry.now code.now rows.old }
-    ensures made { OnOk result (Made topic exits.now entry.now code.now rows.new) }
+    ensures made { OnOk result (Made topic.entry exits.now entry.now code.now rows.new) }
     ensures room { OnOk result (room rows.new ≤ room rows.old) }
 {
     for place in places {

@@ -8,12 +8,12 @@ use crate::topic::Topic;
 use std::alloc::{AllocError, Global};
 
 /// The number of words of a row.
-pub fn width(topic: Topic, registers: u32) -> usize
-    ensures { result ≡ told.row_width topic registers }
+pub fn width(topic: Topic<'_>, registers: u32) -> usize
+    ensures { result ≡ told.row_width topic.entry registers }
 {
     match topic {
         Topic::Frees | Topic::Root { .. } => 2,
-        Topic::Field { .. } => registers as usize + 2,
+        Topic::Fields { .. } => registers as usize + 2,
     }
 }
 
@@ -43,12 +43,12 @@ fn entry_word(parameters: u32, column: usize, slot: usize) -> u16
 /// The row at an entry, for one column.
 pub fn entry_row(
     alloc: Global,
-    topic: Topic,
+    topic: Topic<'_>,
     parameters: u32,
     registers: u32,
     column: usize,
 ) -> Result<Vec<u16>, AllocError>
-    ensures { IfOk result (λ row. row.items ≡ entry_row topic parameters registers column) }
+    ensures { IfOk result (λ row. row.items ≡ entry_row topic.entry parameters registers column) }
 {
     let mut row = Vec::new(alloc);
     for slot in 0..width(topic, registers) {

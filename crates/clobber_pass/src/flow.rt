@@ -59,12 +59,13 @@ fn enter_word(args: &[u32], row: &[u16], slot: usize) -> u16
 /// The row at a called function's entry.
 fn enter_row(
     alloc: Global,
-    topic: Topic,
+    topic: Topic<'_>,
     registers: u32,
     args: &[u32],
     row: &[u16],
 ) -> Result<Vec<u16>, AllocError>
-    ensures { IfOk result (λ new. new.items ≡ flows.enter_row topic registers args.now row.now) }
+    ensures { IfOk result (λ new. new.items ≡ flows.enter_row topic.entry registers args.now
+        row.now) }
 {
     let mut new = Vec::new(alloc);
     for slot in 0..width(topic, registers) {
@@ -102,14 +103,14 @@ fn bring(
 fn enter(
     alloc: Global,
     ir: &Ir,
-    topic: Topic,
+    topic: Topic<'_>,
     instruction: &Instruction,
     row: &[u16],
     entries: &mut Rows,
     waiting: &mut [bool],
 ) -> Result<bool, AllocError>
     ensures entries { IfOk result (λ _. entries.new ≡ flows.entries_after_call ir.now.functions
-        topic entries.old instruction.now row.now) }
+        topic.entry entries.old instruction.now row.now) }
     ensures same { result ≡ Ok false → (entries.new ≡ entries.old) × (waiting.new ≡ waiting.old) }
     ensures wakes { IfOk result (λ _. Wakes waiting.old waiting.new entries.old entries.new) }
     ensures grew { result ≡ Ok true → room entries.new < room entries.old }
@@ -130,7 +131,7 @@ fn enter(
 fn enter_at(
     alloc: Global,
     ir: &Ir,
-    topic: Topic,
+    topic: Topic<'_>,
     exits: &Tables,
     rows: &Rows,
     place: usize,
@@ -140,9 +141,9 @@ fn enter_at(
     waiting: &mut [bool],
 ) -> Result<bool, AllocError>
     ensures entries { IfOk result (λ _. entries.new ≡ flows.entries_after_call ir.now.functions
-        topic entries.old instruction.now
+        topic.entry entries.old instruction.now
         (inside_sweeps.row_or (sweeps.row_in rows.now place) row.old.items)) }
-    ensures row { IfOk result (λ _. row.new.items ≡ inside_sweeps.next_row topic exits.now
+    ensures row { IfOk result (λ _. row.new.items ≡ inside_sweeps.next_row topic.entry exits.now
         instruction.now (inside_sweeps.row_or (sweeps.row_in rows.now place) row.old.items)) }
     ensures same { result ≡ Ok false → (entries.new ≡ entries.old) × (waiting.new ≡ waiting.old) }
     ensures wakes { IfOk result (λ _. Wakes waiting.old waiting.new entries.old entries.new) }
@@ -160,7 +161,7 @@ fn enter_at(
 fn enter_all(
     alloc: Global,
     ir: &Ir,
-    topic: Topic,
+    topic: Topic<'_>,
     exits: &Tables,
     rows: &Rows,
     entry: &[u16],
@@ -169,7 +170,7 @@ fn enter_all(
     waiting: &mut [bool],
 ) -> Result<bool, AllocError>
     ensures entries { IfOk result (λ _. entries.new ≡ flows.entries_after_calls ir.now.functions
-        topic exits.now rows.now entries.old entry.now 0 code.now) }
+        topic.entry exits.now rows.now entries.old entry.now 0 code.now) }
     ensures same { result ≡ Ok false → (entries.new ≡ entries.old) × (waiting.new ≡ waiting.old) }
     ensures wakes { IfOk result (λ _. Wakes waiting.old waiting.new entries.old entries.new) }
     ensures grew { result ≡ Ok true → room entries.new < room entries.old }
@@ -199,11 +200,11 @@ fn enter_all(
 /// The row at a function's entry; a row that records nothing, if nothing reached it yet.
 pub fn at_entry(
     alloc: Global,
-    topic: Topic,
+    topic: Topic<'_>,
     registers: u32,
     row: &[u16],
 ) -> Result<Vec<u16>, AllocError>
-    ensures { IfOk result (λ new. new.items ≡ flows.at_entry topic registers row.now) }
+    ensures { IfOk result (λ new. new.items ≡ flows.at_entry topic.entry registers row.now) }
 {
     if row.is_empty() {
         enter_row(alloc, topic, registers, &[], &[])
@@ -216,7 +217,7 @@ pub fn at_entry(
 fn flow_through(
     alloc: Global,
     ir: &Ir,
-    topic: Topic,
+    topic: Topic<'_>,
     exits: &Tables,
     function: usize,
     entries: &mut Rows,
@@ -227,8 +228,8 @@ fn flow_through(
     requires exits { SoundExits ir.now.functions topic exits.now }
     requires inside { function < length ir.now.functions }
     requires flow { Flowing ir.now.functions topic exits.now entries.old tables.old waiting.old }
-    ensures flow { IfOk result (λ _. Flowing ir.now.functions topic exits.now entries.new tables.new
-        waiting.new) }
+    ensures flow { IfOk result (λ _. Flowing ir.now.functions topic.entry exits.now entries.new
+        tables.new waiting.new) }
     ensures quiet { result ≡ Ok false → waiting.new ≡ slice_set waiting.old function false }
     ensures grew { result ≡ Ok true → room entries.new < room entries.old }
     ensures room { IfOk result (λ _. room entries.new ≤ room entries.old) }
@@ -250,7 +251,7 @@ fn flow_through(
 fn flow_where(
     alloc: Global,
     ir: &Ir,
-    topic: Topic,
+    topic: Topic<'_>,
     exits: &Tables,
     function: usize,
     entries: &mut Rows,
@@ -261,8 +262,8 @@ fn flow_where(
     requires exits { SoundExits ir.now.functions topic exits.now }
     requires inside { function < length ir.now.functions }
     requires flow { Flowing ir.now.functions topic exits.now entries.old tables.old waiting.old }
-    ensures flow { IfOk result (λ _. Flowing ir.now.functions topic exits.now entries.new tables.new
-        waiting.new) }
+    ensures flow { IfOk result (λ _. Flowing ir.now.functions topic.entry exits.now entries.new
+        tables.new waiting.new) }
     ensures quiet { result ≡ Ok false → (waits waiting.new function ≡ false)
         × ((f : ℕ) → waits waiting.old f ≡ false → waits waiting.new f ≡ false) }
     ensures grew { result ≡ Ok true → room entries.new < room entries.old }
@@ -278,7 +279,7 @@ fn flow_where(
 fn flow_round(
     alloc: Global,
     ir: &Ir,
-    topic: Topic,
+    topic: Topic<'_>,
     exits: &Tables,
     entries: &mut Rows,
     tables: &mut Tables,
@@ -287,8 +288,8 @@ fn flow_round(
     requires well { IsWellFormed ir.now }
     requires exits { SoundExits ir.now.functions topic exits.now }
     requires flow { Flowing ir.now.functions topic exits.now entries.old tables.old waiting.old }
-    ensures flow { IfOk result (λ _. Flowing ir.now.functions topic exits.now entries.new tables.new
-        waiting.new) }
+    ensures flow { IfOk result (λ _. Flowing ir.now.functions topic.entry exits.now entries.new
+        tables.new waiting.new) }
     ensures quiet { result ≡ Ok false → (f : ℕ) → f < length ir.now.functions
         → waits waiting.new f ≡ false }
     ensures grew { result ≡ Ok true → room entries.new < room entries.old }
@@ -307,16 +308,16 @@ fn flow_round(
 fn start_at(
     alloc: Global,
     ir: &Ir,
-    topic: Topic,
+    topic: Topic<'_>,
     function: usize,
     entries: &mut Rows,
 ) -> Result<(), AllocError>
     requires entries { Entries ir.now.functions topic entries.old }
     requires inside { function < length ir.now.functions }
-    ensures entries { OnOk result (Entries ir.now.functions topic entries.new) }
-    ensures kept { OnOk result ((f : ℕ) → StartsAt ir.now.functions topic entries.old f
-        → StartsAt ir.now.functions topic entries.new f) }
-    ensures start { OnOk result (StartsAt ir.now.functions topic entries.new function) }
+    ensures entries { OnOk result (Entries ir.now.functions topic.entry entries.new) }
+    ensures kept { OnOk result ((f : ℕ) → StartsAt ir.now.functions topic.entry entries.old f
+        → StartsAt ir.now.functions topic.entry entries.new f) }
+    ensures start { OnOk result (StartsAt ir.now.functions topic.entry entries.new function) }
 {
     let body = &ir.functions.as_slice()[function];
     if body.tx {
@@ -327,9 +328,9 @@ fn start_at(
 }
 
 /// The entries before any call: transactions start with nothing known.
-fn starts(alloc: Global, ir: &Ir, topic: Topic) -> Result<Rows, AllocError>
-    ensures entries { IfOk result (λ entries. Entries ir.now.functions topic entries) }
-    ensures start { IfOk result (λ entries. StartEntries ir.now.functions topic entries) }
+fn starts(alloc: Global, ir: &Ir, topic: Topic<'_>) -> Result<Rows, AllocError>
+    ensures entries { IfOk result (λ entries. Entries ir.now.functions topic.entry entries) }
+    ensures start { IfOk result (λ entries. StartEntries ir.now.functions topic.entry entries) }
 {
     let count = ir.functions.as_slice().len();
     let mut entries = Rows::new(alloc, count)?;
@@ -347,12 +348,12 @@ pub struct Flow {
 }
 
 /// What walks from transactions bring to each place, for a topic.
-pub fn flows(alloc: Global, ir: &Ir, topic: Topic, exits: &Tables) -> Result<Flow, AllocError>
+pub fn flows(alloc: Global, ir: &Ir, topic: Topic<'_>, exits: &Tables) -> Result<Flow, AllocError>
     requires well { IsWellFormed ir.now }
     requires exits { SoundExits ir.now.functions topic exits.now }
-    ensures entries { IfOk result (λ flow. Entries ir.now.functions topic flow.entries) }
-    ensures start { IfOk result (λ flow. StartEntries ir.now.functions topic flow.entries) }
-    ensures ended { IfOk result (λ flow. AllFlow ir.now.functions topic exits.now flow.entries
+    ensures entries { IfOk result (λ flow. Entries ir.now.functions topic.entry flow.entries) }
+    ensures start { IfOk result (λ flow. StartEntries ir.now.functions topic.entry flow.entries) }
+    ensures ended { IfOk result (λ flow. AllFlow ir.now.functions topic.entry exits.now flow.entries
         flow.tables) }
 {
     let mut entries = starts(alloc, ir, topic)?;

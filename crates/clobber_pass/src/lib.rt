@@ -9,9 +9,11 @@
 
 mod calling;
 mod carry;
+mod classes;
 mod entry;
 mod flow;
 mod growth;
+mod mark_topics;
 mod marking;
 mod passes;
 mod place_marks;
@@ -22,7 +24,6 @@ mod sweep;
 mod table;
 mod tables;
 mod topic;
-mod topics;
 mod waiting;
 
 pub use marking::{MarkTable, marks};

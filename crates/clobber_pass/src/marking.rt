@@ -6,10 +6,12 @@ ghost use Rattle.clobber_pass.specs.Row.{has_bit};
 ghost use Rattle.clobber_pass.specs.Logged.{IsExact, is_logged};
 
 use crate::calling::call_edges;
+use crate::classes::stored_classes;
+use crate::mark_topics::{mark_fields, mark_roots};
 use crate::row::word;
 use crate::rows::Rows;
 use crate::table::{header_table, mark_topic};
-use crate::topics::stored_topics;
+use crate::topic::Topic;
 use ir::{Ir, Site};
 use std::alloc::{AllocError, Global};
 
@@ -50,13 +52,12 @@ pub fn marks(alloc: Global, ir: &Ir) -> Result<MarkTable, AllocError>
     requires { IsWellFormed ir.now }
     ensures { IfOk result (λ table. IsExact ir.now.functions table) }
 {
-    let topics = stored_topics(alloc, ir.functions.as_slice())?;
-    let all = topics.as_slice();
+    let stored = stored_classes(alloc, ir.functions.as_slice())?;
     let edges = call_edges(alloc, ir.functions.as_slice())?;
     let mut table = header_table(alloc, ir.functions.as_slice())?;
-    for index in 0..all.len() {
-        let topic = all[index];
-        mark_topic(alloc, ir, topic, edges.as_slice(), &mut table)?;
-    }
+    let calls = edges.as_slice();
+    mark_topic(alloc, ir, Topic::Frees, calls, &mut table)?;
+    mark_roots(alloc, ir, stored.roots.as_slice(), calls, &mut table)?;
+    mark_fields(alloc, ir, stored.fields.as_slice(), calls, &mut table)?;
     Ok(MarkTable { rows: table })
 }

@@ -8,7 +8,8 @@ ghost use Rattle.clobber_pass.specs.inside.Closed.{AllColumns, Ended, ShapedExit
 ghost use Rattle.clobber_pass.specs.inside.Room.{all_room};
 ghost use Rattle.clobber_pass.specs.inside.Sound.{SoundExits};
 ghost use Rattle.clobber_pass.specs.inside.Flow.{waits};
-ghost use Rattle.clobber_pass.specs.inside.Calling.{Apart, CalledEnded, Passing, edges_from};
+ghost use Rattle.clobber_pass.specs.inside.Calling.{Apart, CalledEnded, ColumnsAlone, EndedAlone};
+ghost use Rattle.clobber_pass.specs.inside.Calling.{Passing, edges_from};
 
 use crate::calling::{Edge, called_wait, wake_callers};
 use crate::entry::entry_row;
@@ -22,7 +23,7 @@ use std::alloc::{AllocError, Global};
 fn column(
     alloc: Global,
     ir: &Ir,
-    topic: Topic,
+    topic: Topic<'_>,
     function: usize,
     column: usize,
     exits: &mut Tables,
@@ -31,12 +32,15 @@ fn column(
     requires column { column < parameters_at ir.now.functions function + 2 }
     requires shaped { ShapedExits ir.now.functions topic exits.old }
     requires sound { SoundExits ir.now.functions topic exits.old }
-    ensures shaped { IfOk result (λ _. ShapedExits ir.now.functions topic exits.new) }
-    ensures sound { IfOk result (λ _. SoundExits ir.now.functions topic exits.new) }
+    ensures shaped { IfOk result (λ _. ShapedExits ir.now.functions topic.entry exits.new) }
+    ensures sound { IfOk result (λ _. SoundExits ir.now.functions topic.entry exits.new) }
     ensures same { result ≡ Ok false → exits.new ≡ exits.old }
     ensures grew { result ≡ Ok true → all_room exits.new < all_room exits.old }
     ensures room { IfOk result (λ _. all_room exits.new ≤ all_room exits.old) }
-    ensures ended { result ≡ Ok false → Ended ir.now.functions topic exits.old function column }
+    ensures ended { result ≡ Ok false → Ended ir.now.functions topic.entry exits.old function
+        column }
+    ensures alone { IfOk result (λ _. EndedAlone ir.now.functions topic.entry exits.new function
+        column) }
     ensures apart { IfOk result (λ _. Apart function exits.old exits.new) }
 {
     let Some(body) = ir.functions.as_slice().get(function) else {
@@ -62,19 +66,21 @@ fn parameters_at(functions: &[IrFunction], function: usize) -> u32
 fn columns(
     alloc: Global,
     ir: &Ir,
-    topic: Topic,
+    topic: Topic<'_>,
     function: usize,
     exits: &mut Tables,
 ) -> Result<bool, AllocError>
     requires well { IsWellFormed ir.now }
     requires shaped { ShapedExits ir.now.functions topic exits.old }
     requires sound { SoundExits ir.now.functions topic exits.old }
-    ensures shaped { IfOk result (λ _. ShapedExits ir.now.functions topic exits.new) }
-    ensures sound { IfOk result (λ _. SoundExits ir.now.functions topic exits.new) }
+    ensures shaped { IfOk result (λ _. ShapedExits ir.now.functions topic.entry exits.new) }
+    ensures sound { IfOk result (λ _. SoundExits ir.now.functions topic.entry exits.new) }
     ensures same { result ≡ Ok false → exits.new ≡ exits.old }
     ensures grew { result ≡ Ok true → all_room exits.new < all_room exits.old }
     ensures room { IfOk result (λ _. all_room exits.new ≤ all_room exits.old) }
-    ensures ended { result ≡ Ok false → AllColumns ir.now.functions topic exits.old function }
+    ensures ended { result ≡ Ok false → AllColumns ir.now.functions topic.entry exits.old function }
+    ensures alone { IfOk result (λ _. ColumnsAlone ir.now.functions topic.entry exits.new
+        function) }
     ensures apart { IfOk result (λ _. Apart function exits.old exits.new) }
 {
     let mut grew = false;
@@ -86,12 +92,13 @@ fn columns(
     Ok(grew)
 }
 
-/// Sweeps a function that waits. If its exits grew, its callers wait, and it still waits.
+/// Sweeps a function that waits. If its exits grew, its callers wait, itself among them if it calls
+/// itself.
 #[tactic(auto, using(crate::proofs::Recalling::passing, crate::proofs::Waking::settling))]
 fn pass_through(
     alloc: Global,
     ir: &Ir,
-    topic: Topic,
+    topic: Topic<'_>,
     edges: &[Edge],
     function: usize,
     exits: &mut Tables,
@@ -100,18 +107,19 @@ fn pass_through(
     requires well { IsWellFormed ir.now }
     requires edges { edges.now ≡ edges_from 0 ir.now.functions }
     requires inside { function < length ir.now.functions }
-    requires waits { waits waiting.old function ≡ true }
     requires passing { Passing ir.now.functions topic exits.old waiting.old }
-    ensures passing { IfOk result (λ _. Passing ir.now.functions topic exits.new waiting.new) }
+    ensures passing { IfOk result (λ _. Passing ir.now.functions topic.entry exits.new
+        waiting.new) }
     ensures quiet { result ≡ Ok false → waiting.new ≡ slice_set waiting.old function false }
     ensures grew { result ≡ Ok true → all_room exits.new < all_room exits.old }
     ensures room { IfOk result (λ _. all_room exits.new ≤ all_room exits.old) }
 {
-    if columns(alloc, ir, topic, function, exits)? {
+    let grew = columns(alloc, ir, topic, function, exits)?;
+    waiting[function] = false;
+    if grew {
         wake_callers(edges, function, waiting);
         return Ok(true);
     }
-    waiting[function] = false;
     Ok(false)
 }
 
@@ -120,7 +128,7 @@ fn pass_through(
 fn pass_where(
     alloc: Global,
     ir: &Ir,
-    topic: Topic,
+    topic: Topic<'_>,
     edges: &[Edge],
     function: usize,
     exits: &mut Tables,
@@ -130,7 +138,8 @@ fn pass_where(
     requires edges { edges.now ≡ edges_from 0 ir.now.functions }
     requires inside { function < length ir.now.functions }
     requires passing { Passing ir.now.functions topic exits.old waiting.old }
-    ensures passing { IfOk result (λ _. Passing ir.now.functions topic exits.new waiting.new) }
+    ensures passing { IfOk result (λ _. Passing ir.now.functions topic.entry exits.new
+        waiting.new) }
     ensures quiet { result ≡ Ok false → (waits waiting.new function ≡ false)
         × ((f : ℕ) → waits waiting.old f ≡ false → waits waiting.new f ≡ false) }
     ensures grew { result ≡ Ok true → all_room exits.new < all_room exits.old }
@@ -146,7 +155,7 @@ fn pass_where(
 fn round(
     alloc: Global,
     ir: &Ir,
-    topic: Topic,
+    topic: Topic<'_>,
     edges: &[Edge],
     exits: &mut Tables,
     waiting: &mut [bool],
@@ -154,7 +163,8 @@ fn round(
     requires well { IsWellFormed ir.now }
     requires edges { edges.now ≡ edges_from 0 ir.now.functions }
     requires passing { Passing ir.now.functions topic exits.old waiting.old }
-    ensures passing { IfOk result (λ _. Passing ir.now.functions topic exits.new waiting.new) }
+    ensures passing { IfOk result (λ _. Passing ir.now.functions topic.entry exits.new
+        waiting.new) }
     ensures quiet { result ≡ Ok false → (f : ℕ) → f < length ir.now.functions
         → waits waiting.new f ≡ false }
     ensures grew { result ≡ Ok true → all_room exits.new < all_room exits.old }
@@ -171,12 +181,17 @@ fn round(
 
 /// What passes through each function, for a topic: the exits of each called function, from each
 /// column of its entry.
-pub fn passes(alloc: Global, ir: &Ir, topic: Topic, edges: &[Edge]) -> Result<Tables, AllocError>
+pub fn passes(
+    alloc: Global,
+    ir: &Ir,
+    topic: Topic<'_>,
+    edges: &[Edge],
+) -> Result<Tables, AllocError>
     requires well { IsWellFormed ir.now }
     requires edges { edges.now ≡ edges_from 0 ir.now.functions }
-    ensures shaped { IfOk result (λ exits. ShapedExits ir.now.functions topic exits) }
-    ensures sound { IfOk result (λ exits. SoundExits ir.now.functions topic exits) }
-    ensures ended { IfOk result (λ exits. CalledEnded ir.now.functions topic exits) }
+    ensures shaped { IfOk result (λ exits. ShapedExits ir.now.functions topic.entry exits) }
+    ensures sound { IfOk result (λ exits. SoundExits ir.now.functions topic.entry exits) }
+    ensures ended { IfOk result (λ exits. CalledEnded ir.now.functions topic.entry exits) }
 {
     let functions = ir.functions.as_slice();
     let mut exits = Tables::new(alloc, functions)?;

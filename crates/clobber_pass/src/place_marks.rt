@@ -5,7 +5,7 @@ ghost use Rattle.std.specs.Prelude.{IfOk, OnOk};
 ghost use Rattle.clobber_pass.specs.Sweep as sweeps;
 ghost use Rattle.clobber_pass.specs.inside.Marking as inside_marking;
 
-use crate::row::{mask, word};
+use crate::row::{fields_mask, mask, word};
 use crate::rows::{Rows, copied};
 use crate::sweep::advance;
 use crate::tables::Tables;
@@ -23,8 +23,8 @@ fn meets(one: u16, other: u16, mask: u16) -> bool
 
 /// The mark of a store, if its class belongs to the topic: it is set if the class may be unwritten
 /// there, and may have been read.
-fn store_word(topic: Topic, target: Target, row: &[u16]) -> u16
-    ensures { result ≡ inside_marking.store_word topic target row.now }
+fn store_word(topic: Topic<'_>, target: Target, row: &[u16]) -> u16
+    ensures { result ≡ inside_marking.store_word topic.entry target row.now }
 {
     match (topic, target) {
         (Topic::Root { first }, Target::Root { field, .. }) => {
@@ -35,24 +35,20 @@ fn store_word(topic: Topic, target: Target, row: &[u16]) -> u16
             }
         }
         (
-            Topic::Field { kind, first },
+            Topic::Fields { all },
             Target::Field {
                 base,
-                kind: of,
+                kind,
                 field,
                 ..
             },
         ) => {
-            if kind == of {
-                if meets(
-                    word(row, base as usize + 2),
-                    word(row, 1),
-                    mask(first, field),
-                ) {
-                    1
-                } else {
-                    0
-                }
+            if meets(
+                word(row, base as usize + 2),
+                word(row, 1),
+                fields_mask(all, kind, field),
+            ) {
+                1
             } else {
                 0
             }
@@ -62,8 +58,8 @@ fn store_word(topic: Topic, target: Target, row: &[u16]) -> u16
 }
 
 /// The mark of a new object's fill.
-fn fill_word(topic: Topic, row: &[u16]) -> u16
-    ensures { result ≡ inside_marking.fill_word topic row.now }
+fn fill_word(topic: Topic<'_>, row: &[u16]) -> u16
+    ensures { result ≡ inside_marking.fill_word topic.entry row.now }
 {
     match topic {
         Topic::Frees => {
@@ -77,8 +73,8 @@ fn fill_word(topic: Topic, row: &[u16]) -> u16
     }
 }
 
-fn mark_word(topic: Topic, instruction: &Instruction, row: &[u16]) -> u16
-    ensures { result ≡ inside_marking.mark_word topic instruction.now row.now }
+fn mark_word(topic: Topic<'_>, instruction: &Instruction, row: &[u16]) -> u16
+    ensures { result ≡ inside_marking.mark_word topic.entry instruction.now row.now }
 {
     match instruction {
         Instruction::Store { target, .. } => store_word(topic, *target, row),
@@ -90,14 +86,14 @@ fn mark_word(topic: Topic, instruction: &Instruction, row: &[u16]) -> u16
 /// The marks of a function's places for a topic.
 pub fn mark_row(
     alloc: Global,
-    topic: Topic,
+    topic: Topic<'_>,
     exits: &Tables,
     rows: &Rows,
     entry: &[u16],
     code: &[Instruction],
 ) -> Result<Vec<u16>, AllocError>
-    ensures { IfOk result (λ marks. marks.items ≡ inside_marking.marks_from topic exits.now rows.now
-        entry.now 0 code.now) }
+    ensures { IfOk result (λ marks. marks.items ≡ inside_marking.marks_from topic.entry exits.now
+        rows.now entry.now 0 code.now) }
 {
     let mut row = copied(alloc, entry)?;
     let mut marks = Vec::new(alloc);
@@ -127,19 +123,4 @@ pub fn headers(alloc: Global, code: &[Instruction]) -> Result<Vec<u16>, AllocErr
         marks.push(header_word(instruction))?;
     }
     Ok(marks)
-}
-
-/// The topic of a target's class.
-pub fn topic_of(target: Target) -> Topic
-    ensures { result ≡ inside_marking.topic_of target }
-{
-    match target {
-        Target::Root { field, .. } => Topic::Root {
-            first: field - field % 16,
-        },
-        Target::Field { kind, field, .. } => Topic::Field {
-            kind,
-            first: field - field % 16,
-        },
-    }
 }

@@ -5,6 +5,8 @@ ghost use Rattle.std.specs.Prelude.{◌≡◌, slice_set};
 ghost use Rattle.clobber_pass.specs.Row as rows;
 ghost use Rattle.clobber_pass.specs.inside.Row as inside_rows;
 
+use crate::topic::StructField;
+
 /// The word of a slot, or 0 if there is none.
 #[tactic(auto, using(crate::proofs::Lookup::lookup))]
 pub fn word(row: &[u16], slot: usize) -> u16
@@ -36,6 +38,36 @@ pub fn mask(first: u32, field: u32) -> u16
     } else {
         0
     }
+}
+
+/// The bit of a place in a topic, or 0 past its 16 places.
+#[tactic(auto, using(std::proofs::lemmas::Nat::one_shl), unfolding(crate::specs::inside::Row::place_bit))]
+fn place_bit(place: usize) -> u16
+    ensures { result ≡ inside_rows.place_bit place }
+{
+    if place < 16 { 1 << place } else { 0 }
+}
+
+/// The bit of a place, if the field there is this one.
+fn bit_of(one: StructField, place: usize, kind: u32, field: u32) -> u16
+    ensures { result ≡ inside_rows.bit_of one place kind field }
+{
+    if one.kind == kind && one.field == field {
+        place_bit(place)
+    } else {
+        0
+    }
+}
+
+/// The bit of a field among the fields of a topic, or 0 if it isn't one of them.
+pub fn fields_mask(all: &[StructField], kind: u32, field: u32) -> u16
+    ensures { result ≡ inside_rows.fields_mask all.now kind field }
+{
+    let mut bits = 0;
+    for (place, one) in all.iter().enumerate() {
+        bits |= bit_of(*one, place, kind, field);
+    }
+    bits
 }
 
 /// A word without some of its bits.

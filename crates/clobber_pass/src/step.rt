@@ -3,13 +3,13 @@
 ghost use Rattle.std.specs.Prelude.{◌≡◌};
 ghost use Rattle.clobber_pass.specs.inside.Row as inside_rows;
 
-use crate::row::{mask, put, without, word};
+use crate::row::{fields_mask, mask, put, without, word};
 use crate::topic::Topic;
 use ir::{Instruction, Target};
 
 /// A load adds its field unless the field is surely written.
-fn read(topic: Topic, target: Target, row: &mut [u16])
-    ensures { row.new ≡ inside_rows.with_read topic target row.old }
+fn read(topic: Topic<'_>, target: Target, row: &mut [u16])
+    ensures { row.new ≡ inside_rows.with_read topic.entry target row.old }
 {
     match (topic, target) {
         (Topic::Root { first }, Target::Root { field, .. }) => {
@@ -17,44 +17,44 @@ fn read(topic: Topic, target: Target, row: &mut [u16])
             put(row, 1, word(row, 1) | read);
         }
         (
-            Topic::Field { kind, first },
+            Topic::Fields { all },
             Target::Field {
                 base,
-                kind: of,
+                kind,
                 field,
                 ..
             },
         ) => {
-            if kind == of {
-                let read = word(row, base as usize + 2) & mask(first, field);
-                put(row, 1, word(row, 1) | read);
-            }
+            let read = word(row, base as usize + 2) & fields_mask(all, kind, field);
+            put(row, 1, word(row, 1) | read);
         }
         _ => {}
     }
 }
 
 /// A store to a field that isn't an array makes it surely written.
-fn write(topic: Topic, target: Target, row: &mut [u16])
-    ensures { row.new ≡ inside_rows.with_write topic target row.old }
+fn write(topic: Topic<'_>, target: Target, row: &mut [u16])
+    ensures { row.new ≡ inside_rows.with_write topic.entry target row.old }
 {
     match (topic, target) {
         (Topic::Root { first }, Target::Root { field, index: None }) => {
             put(row, 0, without(word(row, 0), mask(first, field)));
         }
         (
-            Topic::Field { kind, first },
+            Topic::Fields { all },
             Target::Field {
                 base,
-                kind: of,
+                kind,
                 field,
                 index: None,
             },
         ) => {
             let slot = base as usize + 2;
-            if kind == of {
-                put(row, slot, without(word(row, slot), mask(first, field)));
-            }
+            put(
+                row,
+                slot,
+                without(word(row, slot), fields_mask(all, kind, field)),
+            );
         }
         _ => {}
     }
@@ -68,8 +68,8 @@ fn set(row: &mut [u16], register: u32, word: u16)
 }
 
 /// The effect on a row of an instruction that is no call.
-pub fn step(topic: Topic, instruction: &Instruction, row: &mut [u16])
-    ensures { row.new ≡ inside_rows.after_row topic instruction.now row.old }
+pub fn step(topic: Topic<'_>, instruction: &Instruction, row: &mut [u16])
+    ensures { row.new ≡ inside_rows.after_row topic.entry instruction.now row.old }
 {
     match instruction {
         Instruction::Const { to, .. } | Instruction::Bin { to, .. } => set(row, *to, word(row, 0)),

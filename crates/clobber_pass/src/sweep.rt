@@ -122,13 +122,13 @@ fn call(
 /// The row after an instruction, at the next place.
 pub fn advance(
     alloc: Global,
-    topic: Topic,
+    topic: Topic<'_>,
     exits: &Tables,
     instruction: &Instruction,
     row: &mut Vec<u16>,
 ) -> Result<(), AllocError>
-    ensures { OnOk result (row.new.items ≡ inside_sweeps.next_row topic exits.now instruction.now
-        row.old.items) }
+    ensures { OnOk result (row.new.items ≡ inside_sweeps.next_row topic.entry exits.now
+        instruction.now row.old.items) }
 {
     match instruction {
         Instruction::Jump { .. } | Instruction::Return { .. } | Instruction::Trap { .. } =>
@@ -207,7 +207,7 @@ fn lead(
 /// One place of a sweep.
 fn visit(
     alloc: Global,
-    topic: Topic,
+    topic: Topic<'_>,
     exits: &Tables,
     end: usize,
     rows: &mut Rows,
@@ -220,7 +220,7 @@ fn visit(
         rows.new ≡ inside_sweeps.rows_led (inside_sweeps.meet_in rows.old place row.old.items)
         (inside_sweeps.jump_target end instruction.now)
         (inside_sweeps.here_in rows.old place row.old.items)) }
-    ensures row { IfOk result (λ _. row.new.items ≡ inside_sweeps.next_row topic exits.now
+    ensures row { IfOk result (λ _. row.new.items ≡ inside_sweeps.next_row topic.entry exits.now
         instruction.now (inside_sweeps.here_in rows.old place row.old.items)) }
     ensures same { result ≡ Ok false → rows.new ≡ rows.old }
     ensures met { result ≡ Ok false → inside_sweeps.meet_in rows.old place row.old.items
@@ -241,18 +241,18 @@ fn visit(
 /// the places whose row grew against the order of the code.
 fn sweep(
     alloc: Global,
-    topic: Topic,
+    topic: Topic<'_>,
     exits: &Tables,
     code: &[Instruction],
     entry: &[u16],
     rows: &mut Rows,
     back: &mut Vec<usize>,
 ) -> Result<bool, AllocError>
-    ensures rows { IfOk result (λ _. rows.new ≡ inside_sweeps.swept topic exits.now
+    ensures rows { IfOk result (λ _. rows.new ≡ inside_sweeps.swept topic.entry exits.now
         (length code.now) rows.old entry.now 0 code.now) }
     ensures same { result ≡ Ok false → rows.new ≡ rows.old }
-    ensures closed { result ≡ Ok false → Closed topic exits.now (length code.now) rows.old entry.now
-        0 code.now }
+    ensures closed { result ≡ Ok false → Closed topic.entry exits.now (length code.now) rows.old
+        entry.now 0 code.now }
     ensures grew { result ≡ Ok true → room rows.new < room rows.old }
     ensures room { IfOk result (λ _. room rows.new ≤ room rows.old) }
 {
@@ -280,15 +280,15 @@ fn sweep(
 /// two sweeps, what grew against the order of the code is carried on.
 pub fn run(
     alloc: Global,
-    topic: Topic,
+    topic: Topic<'_>,
     exits: &Tables,
     code: &[Instruction],
     entry: &[u16],
 ) -> Result<Rows, AllocError>
     requires { length code.now < 2 ^ 31 }
-    ensures closed { IfOk result (λ rows. Closed topic exits.now (length code.now) rows entry.now 0
-        code.now) }
-    ensures made { IfOk result (λ rows. Made topic exits.now entry.now code.now rows) }
+    ensures closed { IfOk result (λ rows. Closed topic.entry exits.now (length code.now) rows
+        entry.now 0 code.now) }
+    ensures made { IfOk result (λ rows. Made topic.entry exits.now entry.now code.now rows) }
 {
     let mut rows = Rows::new(alloc, code.len() + 1)?;
     let mut back = Vec::new(alloc);

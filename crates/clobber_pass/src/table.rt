@@ -35,7 +35,7 @@ pub fn header_table(alloc: Global, functions: &[IrFunction]) -> Result<Rows, All
 /// The marks of a function's places for a topic, from the table of its rows.
 fn function_row(
     alloc: Global,
-    topic: Topic,
+    topic: Topic<'_>,
     exits: &Tables,
     tables: &Tables,
     function: usize,
@@ -43,7 +43,7 @@ fn function_row(
     code: &[Instruction],
 ) -> Result<Vec<u16>, AllocError>
     ensures { IfOk result (λ marks.
-        marks.items ≡ marks_from topic exits.now (inside_sweeps.exits_of tables.now function)
+        marks.items ≡ marks_from topic.entry exits.now (inside_sweeps.exits_of tables.now function)
         entry.now 0 code.now) }
 {
     match tables.table(function) {
@@ -56,7 +56,7 @@ fn function_row(
 fn mark_reached(
     alloc: Global,
     ir: &Ir,
-    topic: Topic,
+    topic: Topic<'_>,
     exits: &Tables,
     flow: &Flow,
     function: usize,
@@ -73,7 +73,7 @@ fn mark_reached(
     requires marks { Marks ir.now.functions table.old }
     ensures marks { OnOk result (Marks ir.now.functions table.new) }
     ensures kept { OnOk result (KeepsRows table.old table.new) }
-    ensures marked { OnOk result (Marked ir.now.functions topic table.new function) }
+    ensures marked { OnOk result (Marked ir.now.functions topic.entry table.new function) }
 {
     let body = &ir.functions.as_slice()[function];
     let code = body.code.as_slice();
@@ -88,7 +88,7 @@ fn mark_reached(
 fn mark_function(
     alloc: Global,
     ir: &Ir,
-    topic: Topic,
+    topic: Topic<'_>,
     exits: &Tables,
     flow: &Flow,
     function: usize,
@@ -104,7 +104,7 @@ fn mark_function(
     requires marks { Marks ir.now.functions table.old }
     ensures marks { OnOk result (Marks ir.now.functions table.new) }
     ensures kept { OnOk result (KeepsRows table.old table.new) }
-    ensures marked { OnOk result (Marked ir.now.functions topic table.new function) }
+    ensures marked { OnOk result (Marked ir.now.functions topic.entry table.new function) }
 {
     if flow.entries.row(function).is_empty() {
         return Ok(());
@@ -116,7 +116,7 @@ fn mark_function(
 pub fn mark_topic(
     alloc: Global,
     ir: &Ir,
-    topic: Topic,
+    topic: Topic<'_>,
     edges: &[Edge],
     table: &mut Rows,
 ) -> Result<(), AllocError>
@@ -125,7 +125,7 @@ pub fn mark_topic(
     requires marks { Marks ir.now.functions table.old }
     ensures marks { OnOk result (Marks ir.now.functions table.new) }
     ensures kept { OnOk result (KeepsRows table.old table.new) }
-    ensures marked { OnOk result (AllMarked ir.now.functions topic table.new) }
+    ensures marked { OnOk result (AllMarked ir.now.functions topic.entry table.new) }
 {
     let exits = passes(alloc, ir, topic, edges)?;
     let flow = flows(alloc, ir, topic, &exits)?;

@@ -1,5 +1,6 @@
 -- The call graph, and the functions that wait for another sweep because the exits of a callee grew.
-use Rattle.std.specs.Prelude.{◌≡◌, ◌==◌, ◌+◌, ℕ, Bool, true, false, List, [], ◌∷◌, ◌++◌, length}
+use Rattle.std.specs.Prelude.{◌≡◌, ◌==◌, ◌+◌, ◌<◌, ℕ, Bool, true, false, List, [], ◌∷◌, ◌++◌}
+use Rattle.std.specs.Prelude.{length}
 use Rattle.std.specs.Prelude.{slice_set, if◌then◌else◌}
 use Rattle.ir.specs.declared.function.IrFunction.{IrFunction}
 use Rattle.ir.specs.declared.instruction.Instruction.{Instruction}
@@ -7,8 +8,10 @@ use Rattle.ir.specs.declared.instruction.Instruction.TheVariants.{Call}
 use Rattle.ir.specs.Places.{CallsAt}
 use Rattle.clobber_pass.specs.declared.topic.Topic.{Topic}
 use Rattle.clobber_pass.specs.declared.calling.Edge.{Edge}
+use Rattle.clobber_pass.specs.inside.Told.{parameters_at}
 use Rattle.clobber_pass.specs.inside.Sweep.{exits_of}
-use Rattle.clobber_pass.specs.inside.Closed.{AllColumns, ShapedExits}
+use Rattle.clobber_pass.specs.Sweep.{row_in}
+use Rattle.clobber_pass.specs.inside.Closed.{AllColumns, Ended, ShapedExits, Within}
 use Rattle.clobber_pass.specs.inside.Sound.{SoundExits}
 use Rattle.clobber_pass.specs.inside.Flow.{waits}
 
@@ -46,9 +49,23 @@ abbrev pub all_called : List Edge → List Bool → List Bool
 all_called [] waiting = waiting
 all_called (e ∷ es) waiting = all_called es (slice_set waiting e.called true)
 
--- the exits of all other functions stayed
+-- the exits of all other functions stayed, and what its own recorded stayed
 pub record Apart (f : ℕ) (exits new : List (List (List ℕ))) : Type 0 where
   pub same : (h : ℕ) → (h ≡ f → ⊥) → exits_of new h ≡ exits_of exits h
+  pub keeps : (c : ℕ) → Within (row_in (exits_of exits f) c) (row_in (exits_of new f) c)
+
+-- no call of the function is to itself
+abbrev pub CallsOthers : List IrFunction → ℕ → Type 0
+CallsOthers functions f = (p to : ℕ) (args : List ℕ) → CallsAt functions f p to f args → ⊥
+
+-- the exits of a column, of a function that calls others alone, are closed
+pub record EndedAlone (functions : List IrFunction) (topic : Topic) (exits : List (List (List ℕ)))
+    (f c : ℕ) : Type 0 where
+  pub ends : CallsOthers functions f → Ended functions topic exits f c
+
+abbrev pub ColumnsAlone : List IrFunction → Topic → List (List (List ℕ)) → ℕ → Type 0
+ColumnsAlone functions topic exits f = (c : ℕ) → c < parameters_at functions f + 2
+    → EndedAlone functions topic exits f c
 
 -- the invariant of the exits and the waiting functions
 pub record Passing (functions : List IrFunction) (topic : Topic) (exits : List (List (List ℕ)))

@@ -1,5 +1,5 @@
 -- What only bodies and proofs need beside `Marking`.
-use Rattle.std.specs.Prelude.{◌≡◌, ◌==◌, ◌+◌, ◌-◌, ◌%◌, ◌<◌, not, ℕ, Bool, true, false, List, []}
+use Rattle.std.specs.Prelude.{◌≡◌, ◌==◌, ◌+◌, ◌<◌, not, ℕ, Bool, true, false, List, []}
 use Rattle.std.specs.Prelude.{◌∷◌, Some, length, slice_get, bit_and, if◌then◌else◌}
 use mathlib.Core.Logic.{◌⊎◌}
 use Rattle.ir.specs.declared.function.IrFunction.{IrFunction}
@@ -15,9 +15,10 @@ use Rattle.ir.specs.Clobber.{unwritten, read_fact, WritesHeader}
 use Rattle.ir.specs.Derived.{Flows}
 use Rattle.clobber_pass.specs.declared.topic.Topic.{Topic}
 use Rattle.clobber_pass.specs.declared.topic.Topic.TheVariants.{Frees, Root as Roots}
-use Rattle.clobber_pass.specs.declared.topic.Topic.TheVariants.{Field as Fields}
+use Rattle.clobber_pass.specs.declared.topic.Topic.TheVariants.{Fields}
+use Rattle.clobber_pass.specs.inside.Class.{class_at, is_about}
 use Rattle.clobber_pass.specs.Row.{word}
-use Rattle.clobber_pass.specs.inside.Row.{mask}
+use Rattle.clobber_pass.specs.inside.Row.{mask, fields_mask}
 use Rattle.clobber_pass.specs.Sweep.{row_in}
 use Rattle.clobber_pass.specs.inside.Sweep.{next_row, row_or}
 use Rattle.clobber_pass.specs.inside.Closed.{Within}
@@ -32,15 +33,15 @@ abbrev pub store_word : Topic → Target → List ℕ → ℕ
 store_word (Roots first) (Root y i) row = if meets (word row 0) (word row 1) (mask first y)
     then 1 else 0
 store_word (Roots first) (Field b t y i) row = 0
-store_word (Fields kind first) (Field b t y i) row =
-    if kind == t then (if meets (word row (b + 2)) (word row 1) (mask first y) then 1 else 0) else 0
-store_word (Fields kind first) (Root y i) row = 0
+store_word (Fields all) (Field b t y i) row =
+    if meets (word row (b + 2)) (word row 1) (fields_mask all.now t y) then 1 else 0
+store_word (Fields all) (Root y i) row = 0
 store_word Frees target row = 0
 
 abbrev pub fill_word : Topic → List ℕ → ℕ
 fill_word Frees row = if meets (word row 1) (word row 1) 1 then 2 else 0
 fill_word (Roots first) row = 0
-fill_word (Fields kind first) row = 0
+fill_word (Fields all) row = 0
 
 abbrev pub mark_word : Topic → Instruction → List ℕ → ℕ
 mark_word topic (Store target from line) row = store_word topic target row
@@ -113,15 +114,17 @@ pub record ShapedMarks (functions : List IrFunction) (table : List (List ℕ)) :
 pub record Headers (functions : List IrFunction) (table : List (List ℕ)) : Type 0 where
   pub marked : (f p : ℕ) → WritesHeader functions f p → says table false f p ≡ true
 
--- the topic of a target's class
-abbrev pub topic_of : Target → Topic
-topic_of (Root y i) = Roots (y - y % 16)
-topic_of (Field b t y i) = Fields t (y - y % 16)
+-- a bit of the topic stands for the target's class
+pub record Covers (topic : Topic) (target : Target) : Type 0 where
+  pub x : ℕ
+  pub few : x < 16
+  pub bare : is_about (class_at topic x) (unwritten target) ≡ true
+  pub before : is_about (class_at topic x) (read_fact target) ≡ true
 
 -- in one function, the clobber stores and fills of a topic are marked
 pub record Marked (functions : List IrFunction) (topic : Topic) (table : List (List ℕ)) (f : ℕ) :
     Type 0 where
-  pub stores : (p : ℕ) (target : Target) (from line : ℕ) → topic_of target ≡ topic
+  pub stores : (p : ℕ) (target : Target) (from line : ℕ) → Covers topic target
       → instruction_at functions f p ≡ Some (Store target from line)
       → Flows functions f p (unwritten target) → Flows functions f p (read_fact target)
       → says table false f p ≡ true
@@ -133,11 +136,6 @@ pub record Marked (functions : List IrFunction) (topic : Topic) (table : List (L
 abbrev pub AllMarked : List IrFunction → Topic → List (List ℕ) → Type 0
 AllMarked functions topic table = (f : ℕ) → f < length functions → Marked functions topic table f
 
--- the topic is in the list
-pub record Has (topics : List Topic) (topic : Topic) : Type 0 where
-  pub at : ℕ
-  pub is : slice_get topics at ≡ Some topic
-
 -- marks in a table stay marked
 pub record KeepsRows (table new : List (List ℕ)) : Type 0 where
   pub keeps : (f : ℕ) → Within (row_in table f) (row_in new f)
@@ -146,20 +144,3 @@ pub record KeepsRows (table new : List (List ℕ)) : Type 0 where
 pub record Marks (functions : List IrFunction) (table : List (List ℕ)) : Type 0 where
   pub sound : SoundMarks functions table
   pub shaped : ShapedMarks functions table
-
--- the topics of the first list are in the second
-pub record KeepsTopics (topics new : List Topic) : Type 0 where
-  pub keeps : (topic : Topic) → Has topics topic → Has new topic
-
--- the topics of a code's stores, and of all stores
-pub record HasIn (topics : List Topic) (code : List Instruction) : Type 0 where
-  pub stores : (p : ℕ) (target : Target) (from line : ℕ)
-      → slice_get code p ≡ Some (Store target from line) → Has topics (topic_of target)
-
-pub record HasAll (functions : List IrFunction) (topics : List Topic) : Type 0 where
-  pub stores : (f : ℕ) (u : IrFunction) → slice_get functions f ≡ Some u → HasIn topics u.code
-
--- the same for one instruction, and for the places of a code below p
-pub record HasStore (topics : List Topic) (i : Instruction) : Type 0 where
-  pub store : (target : Target) (from line : ℕ) → i ≡ Store target from line
-      → Has topics (topic_of target)

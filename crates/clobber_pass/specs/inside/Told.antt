@@ -8,7 +8,7 @@ use Rattle.ir.specs.declared.fact.Fact.TheVariants.{ReadField, Freed}
 use Rattle.ir.specs.declared.fact.Origins.{Origins}
 use Rattle.ir.specs.declared.fact.Origins.TheVariants.{Nowhere, One, Two}
 use Rattle.clobber_pass.specs.declared.topic.Topic.{Topic}
-use Rattle.clobber_pass.specs.declared.topic.Topic.TheVariants.{Frees, Root, Field}
+use Rattle.clobber_pass.specs.declared.topic.Topic.TheVariants.{Frees, Root, Fields}
 use Rattle.clobber_pass.specs.inside.Class.{Class, is_about, slot}
 use Rattle.clobber_pass.specs.Row.{tells}
 
@@ -22,7 +22,7 @@ tells_any row x (Two a b) = tells row x (slot a) || tells row x (slot b)
 abbrev pub row_width : Topic → ℕ → ℕ
 row_width Frees registers = 2
 row_width (Root first) registers = 2
-row_width (Field kind first) registers = registers + 2
+row_width (Fields all) registers = registers + 2
 
 -- the column of a slot, or of a fact, at the entry of a function with n parameters: a register that
 -- is no parameter has the column of the walk itself

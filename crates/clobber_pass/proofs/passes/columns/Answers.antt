@@ -1,8 +1,9 @@
 use Rattle.std.proofs.Common.{rules, ◌≡◌, ◌<◌, ◌≤◌, true, false, Ok, ◌∙◌}
 use Rattle.clobber_pass.specs.inside.Closed.{Ended}
+use Rattle.clobber_pass.specs.inside.Calling.{EndedAlone}
 use Rattle.clobber_pass.specs.inside.Room.{all_room}
-use Rattle.clobber_pass.proofs.Recalling.{apart_both}
-use Rattle.clobber_pass.proofs.Rounds.{next_quiet}
+use Rattle.clobber_pass.proofs.Recalling.{apart_both, alone_keeps}
+use Rattle.clobber_pass.proofs.Rounds.{below_next, next_quiet}
 use Rattle.clobber_pass.proofs.passes.columns.Goals as goal
 use Rattle.clobber_pass.proofs.passes.columns.Goals.{then-branch, else-branch}
 
@@ -25,4 +26,9 @@ loop-at-preserved c =
       most,
       apart_both c.args.function c.args.exits.now c.loop-at.exits c.column.new.exits
           c.loop-at.invariant.6 c.in_ok-column.ensures.apart,
+      below_next (EndedAlone c.args.ir.now.functions c.args.topic c.column.new.exits
+          c.args.function) c.loop-at.at (λ d less.
+          alone_keeps c.args.ir.now.functions c.args.topic c.loop-at.exits c.column.new.exits
+          c.args.function d c.in_ok-column.ensures.apart (c.loop-at.invariant.7 d less))
+          c.in_ok-column.ensures.alone,
     )
