@@ -13,7 +13,6 @@ use Rattle.cnvm_script.specs.declared.command.Command.{Command}
 use Rattle.cnvm_session.specs.declared.answer.Answer.{Answer}
 use Rattle.cnvm_session.specs.AnswerText.{answer_text}
 use Rattle.cnvm_session.specs.declared.mode.Mode.{Mode}
-use Rattle.cnvm_session.specs.declared.mode.Mode.TheVariants.{Ready}
 use Rattle.cnvm_session.specs.declared.program.Program.{Program}
 use Rattle.session_law.specs.Agrees.{Agrees}
 use Rattle.session_law.specs.State.{SourceState}
@@ -39,7 +38,7 @@ use Rattle.cnvm_cli.specs.declared.status.Status.TheVariants as status
 use Rattle.cnvm_cli.specs.Verdict.{HasCommands, TextsGive, asked_by}
 use Rattle.cnvm_cli.specs.Opened.{wanted_of, ImageGives, Unopened}
 use Rattle.cnvm_cli.specs.inside.Opened.{OpensAll, OpenedAs}
-use Rattle.cnvm_cli.specs.Run.{Uncreated, RefusedAs}
+use Rattle.cnvm_cli.specs.Run.{Uncreated}
 use Rattle.cnvm_cli.specs.inside.Run.{RunsAndWrites, RunsPart, CreatedAll, CreatedPart, RanAs}
 use Rattle.cnvm_cli.specs.World.{Sources, Outside, IsUntouched}
 use Rattle.cnvm_cli.specs.Meant.{Start, Fresh, FromImage, start_if, text_of, RanAll, RanPart}
@@ -325,14 +324,6 @@ pub plan_meant_as : (words : Option Plan) (asked : Plan) (told : Sources) (resul
 plan_meant_as words asked told result before after is ends =
     subst (λ (w : Option Plan). CallMeant w told result before after) (sym is)
     (plan_meant asked told result before after ends)
-
--- words that make none
-pub usage_meant : (words : Option Plan) (told : Sources) (result : Status)
-    (before after : Outside) → words ≡ None
-    → RefusedAs refused.Usage result before.out after.out → IsUntouched before after
-    → CallMeant words told result before after
-usage_meant words told result before after is tells same =
-    subst (λ (w : Option Plan). CallMeant w told result before after) (sym is) (tells, same)
 
 -- a call that finds no memory to read its words
 pub memory_meant : (words : Option Plan) (told : Sources) (before after : Outside) →

@@ -1,8 +1,6 @@
 -- The table of statuses.
-use Rattle.std.proofs.Common.{◌≡◌, List, ℕ, Option, inl, inr, ⊎_elim, sym, subst}
-use Rattle.std.specs.Io.KnownBytes.{Appends, Keeps}
+use Rattle.std.proofs.Common.{List, ℕ, Option, inl, inr, ⊎_elim, sym, subst}
 use Rattle.cnvm_session.specs.declared.creating.StartFault.{StartFault}
-use Rattle.cnvm_session.specs.declared.creating.StartFault.TheVariants as start
 use Rattle.cnvm_cli.specs.declared.status.Status.{Status}
 use Rattle.cnvm_cli.specs.declared.status.Status.TheVariants as status
 use Rattle.cnvm_cli.specs.AsStatus.{AsStatus}

@@ -1,5 +1,5 @@
 -- The counts of a storm, and the line that tells them.
-use Rattle.std.specs.Prelude.{ℕ, ◌+◌, ◌-◌, ◌^◌, min, List, [], ◌++◌, codes}
+use Rattle.std.specs.Prelude.{ℕ, List, [], ◌++◌, codes}
 use Rattle.std.specs.Fmt.{decimal}
 use Rattle.nvm_base.specs.Rose.{raised}
 use Rattle.cnvm_script.specs.declared.command.Command.{Command}

@@ -1,6 +1,6 @@
 -- What the words ask for: they are read by clap, and then each number is read, which has 1 to 10
 -- digits and lies within its limits.
-use Rattle.std.specs.Prelude.{ℕ, ◌≤◌, List, Option, None, Some, Bool, nat_le, ◌&&◌, if◌then◌else◌}
+use Rattle.std.specs.Prelude.{ℕ, ◌≤◌, List, Option, None, Some, nat_le, ◌&&◌, if◌then◌else◌}
 use Rattle.std.specs.Prelude.{codes, option_and_then, option_map}
 use Rattle.std.specs.Str.{bytes_eq}
 use Rattle.clap.specs.Walk.{is_empty}

@@ -1,6 +1,6 @@
 use Rattle.std.proofs.Common.{refl}
 use Rattle.cnvm_cli.proofs.Completing.{plan_kept_as}
-use Rattle.cnvm_cli.proofs.Meaning.{memory_meant, plan_meant_as, usage_meant}
+use Rattle.cnvm_cli.proofs.Meaning.{memory_meant, plan_meant_as}
 use Rattle.cnvm_cli.proofs.Running.{keeps_same}
 use Rattle.cnvm_cli.proofs.run.cnvm.Goals as goal
 

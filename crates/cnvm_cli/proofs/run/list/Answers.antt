@@ -1,4 +1,4 @@
-use Rattle.std.proofs.Common.{inl, inr}
+use Rattle.std.proofs.Common.{inr}
 use Rattle.cnvm_cli.proofs.Running.{keeps_same}
 use Rattle.cnvm_cli.proofs.Statuses.{written_as}
 use Rattle.cnvm_cli.proofs.run.list.Goals as goal
