@@ -1,7 +1,7 @@
 -- What each stage of the front end refuses is refused at the byte that its answer tells.
-use Rattle.std.proofs.Common.{◌≡◌, ◌⊎◌, ℕ, zero, suc, ◌+◌, ◌≤◌, List, [], ◌∷◌, ◌++◌, Option, Some}
-use Rattle.std.proofs.Common.{None, Ok, Err, length, slice_get, map, min, refl, ⊎_elim, ap}
-use Rattle.std.proofs.Common.{◌≢◌, ◌<◌, ◌∙◌, inl, inr, arith}
+use Rattle.std.proofs.Common.{◌≡◌, ◌⊎◌, ℕ, ◌+◌, ◌≤◌, List, [], ◌++◌, Some}
+use Rattle.std.proofs.Common.{None, Ok, Err, length, map, min, refl, ⊎_elim, ap}
+use Rattle.std.proofs.Common.{◌≢◌, ◌<◌, ◌∙◌, inl, inr, sym, subst, arith}
 use Rattle.std.proofs.Math.Nat.{min-eq_left, min-eq_right, min-le_right}
 use Rattle.std.proofs.lemmas.Bool.{cases_order}
 use Rattle.std.proofs.lemmas.Option.{slice_get_past}
@@ -17,7 +17,7 @@ use Rattle.c_tree.specs.Program.{Program, tree_of}
 use Rattle.c_types.specs.declared.fault.TypeFault.{TypeFault}
 use Rattle.c_types.specs.declared.fault.TypeFault.TheVariants as fault
 use Rattle.c_types.specs.Fault.{breaks, refusal}
-use Rattle.cnvm_notes.specs.RefusedAt.{IsAccepted, ReadsAs, RefusedAt, Tells, TellsPlace}
+use Rattle.cnvm_notes.specs.RefusedAt.{ReadsAs, RefusedAt, Tells}
 use Rattle.cnvm_notes.specs.RefusedAt.{Byte, Number, Comment, Syntax, Deep, Rule}
 use Rattle.cnvm_notes.specs.RefusedAt.{Long, Nothing, AtPlace, rule_place}
 use Rattle.plain_notes.specs.Head.{head_text}
@@ -27,26 +27,24 @@ use Rattle.plain_notes.specs.Place.{place_of}
 abbrev LexRefuses : List ℕ → LexFault → Type 0
 LexRefuses text f = (f ≡ lex.NoMemory) ⊎ (answer text ≡ Err f)
 
-pub byte_refused : (text : List ℕ) (line start : ℕ) → LexRefuses text (lex.BadByte line start)
-    → RefusedAt text start
-byte_refused text line start (inl e) = let no : ⊥ = cc in absurd no
-byte_refused text line start (inr is) = Byte line start is
+pub byte_refused : (text : List ℕ) (f : LexFault) (line start : ℕ) → LexRefuses text f
+    → f ≡ lex.BadByte line start → RefusedAt text start
+byte_refused text f line start (inl e) is = let no : ⊥ = cc in absurd no
+byte_refused text f line start (inr told) is = Byte line start (told ∙ ap Err is)
 
-pub number_refused : (text : List ℕ) (line start : ℕ) → LexRefuses text (lex.BadNumber line start)
-    → RefusedAt text start
-number_refused text line start (inl e) = let no : ⊥ = cc in absurd no
-number_refused text line start (inr is) = Number line start is
+pub number_refused : (text : List ℕ) (f : LexFault) (line start : ℕ) → LexRefuses text f
+    → f ≡ lex.BadNumber line start → RefusedAt text start
+number_refused text f line start (inl e) is = let no : ⊥ = cc in absurd no
+number_refused text f line start (inr told) is = Number line start (told ∙ ap Err is)
 
-pub comment_refused : (text : List ℕ) (line start : ℕ)
-    → LexRefuses text (lex.OpenComment line start) → RefusedAt text start
-comment_refused text line start (inl e) = let no : ⊥ = cc in absurd no
-comment_refused text line start (inr is) = Comment line start is
+pub comment_refused : (text : List ℕ) (f : LexFault) (line start : ℕ) → LexRefuses text f
+    → f ≡ lex.OpenComment line start → RefusedAt text start
+comment_refused text f line start (inl e) is = let no : ⊥ = cc in absurd no
+comment_refused text f line start (inr told) is = Comment line start (told ∙ ap Err is)
 
 pub long_refused : (text : List ℕ) → LexRefuses text lex.TooLong → answer text ≡ Err lex.TooLong
 long_refused text (inl e) = let no : ⊥ = cc in absurd no
 long_refused text (inr is) = is
-
-pub ruleset by_lexer = (byte_refused, number_refused, comment_refused, long_refused)
 
 pub long : (path text message : List ℕ) → answer text ≡ Err lex.TooLong
     → Tells path text (Some message)
@@ -123,10 +121,15 @@ accepted path text list tree is holds = Nothing (record {
 })
 
 pub rule_refused : (text : List ℕ) (list : Tokens) (tree : Program) (f : TypeFault)
-    → ReadsAs text list tree → (f ≢ fault.NoMemory)
-    → (f ≡ fault.NoMemory) ⊎ (refusal tree ≡ Some f)
-    → RefusedAt text (start_at list (rule_place f))
-rule_refused text list tree f is other (inl e) = absurd (other e)
-rule_refused text list tree f is other (inr told) = Rule list tree f is told
+    → ReadsAs text list tree → (f ≡ fault.NoMemory) ⊎ (refusal tree ≡ Some f)
+    → (f ≡ fault.NoMemory) ⊎ RefusedAt text (start_at list (rule_place f))
+rule_refused text list tree f is (inl e) = inl e
+rule_refused text list tree f is (inr told) = inr (Rule list tree f is told)
 
-pub ruleset of_tree = (accepted, rule_refused)
+-- another refusal than want of memory has a place
+pub refused_there : (text : List ℕ) (list : Tokens) (f : TypeFault) (t : ℕ)
+    → (f ≡ fault.NoMemory) ⊎ RefusedAt text (start_at list (rule_place f))
+    → f ≢ fault.NoMemory → t ≡ rule_place f → RefusedAt text (start_at list t)
+refused_there text list f t (inl e) other is = absurd (other e)
+refused_there text list f t (inr refused) other is =
+    subst (λ (u : ℕ). RefusedAt text (start_at list u)) (sym is) refused

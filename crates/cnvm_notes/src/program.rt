@@ -1,6 +1,7 @@
 //! The message of a program that is refused.
 
-ghost use Rattle.std.specs.Prelude.{◌≡◌, ◌⊎◌, ℕ, ◌+◌, List, [], Ok, Err, Some, IfOk, IfErr};
+ghost use Rattle.std.specs.Prelude.{◌≡◌, ◌≢◌, ◌⊎◌, ℕ, ◌+◌, List, [], Ok, Err, Some, IfOk, IfErr};
+ghost use Rattle.std.specs.Prelude.{IfSome};
 ghost use Rattle.std.specs.Prelude.{option_map, string_bytes};
 ghost use Rattle.c_lexer.specs.Cuts.{answer};
 ghost use Rattle.c_lexer.specs.TokenList.{start_at};
@@ -40,7 +41,7 @@ fn after(text: &[u8], start: u64) -> &[u8] {
     text.split_at(text.len().min(start as usize)).1
 }
 
-#[tactic(auto, using(crate::proofs::Refusals::by_lexer))]
+#[tactic(auto, using(crate::proofs::Refusals::long_refused))]
 fn by_lexer(
     alloc: Global,
     path: &str,
@@ -197,7 +198,6 @@ fn deep_told(alloc: Global) -> Result<Told, AllocError> {
 }
 
 /// The message of a tree, if it breaks a rule.
-#[tactic(auto, using(crate::proofs::Refusals::of_tree))]
 fn of_tree(
     alloc: Global,
     path: &str,
@@ -209,14 +209,15 @@ fn of_tree(
     requires { ReadsAs text.now list.now ast }
     ensures tells { IfOk result (λ note. Tells path.now text.now (option_map string_bytes note)) }
 {
-    match check(alloc, ast) {
-        Ok(_) => Ok(None),
-        Err(TypeFault::NoMemory) => Err(AllocError),
-        Err(fault) => of_rule(alloc, path, text, list, words, fault),
-    }
+    let fault = match check(alloc, ast) {
+        Ok(_) => return Ok(None),
+        Err(fault) => fault,
+    };
+    of_rule(alloc, path, text, list, words, fault)
 }
 
 /// The message of a broken rule. The tree went with the refusal, so it is made once more.
+#[tactic(auto, using(crate::proofs::Refusals::refused_there))]
 fn of_rule(
     alloc: Global,
     path: &str,
@@ -225,10 +226,13 @@ fn of_rule(
     words: &[&[u8]],
     fault: TypeFault,
 ) -> Result<Option<String>, AllocError>
-    requires { RefusedAt text.now (start_at list.now (rule_place fault)) }
+    requires { (fault ≡ TypeFault.NoMemory)
+        ⊎ RefusedAt text.now (start_at list.now (rule_place fault)) }
     ensures tells { IfOk result (λ note. Tells path.now text.now (option_map string_bytes note)) }
 {
-    let place = rule_place(fault);
+    let Some(place) = rule_place(fault) else {
+        return Err(AllocError);
+    };
     let told = rule_told(alloc, list, Spelled { words, place }, fault)?;
     at_token(alloc, path, text, list, place, &told)
 }
@@ -245,19 +249,20 @@ fn rule_told(
     }
 }
 
-/// The place of the token at which a rule is broken.
-fn rule_place(fault: TypeFault) -> u64
-    ensures { result ≡ rule_place fault }
+/// The place of the token at which a rule is broken. Want of memory has none.
+fn rule_place(fault: TypeFault) -> Option<u64>
+    ensures place { IfSome result (λ place. place ≡ rule_place fault) }
+    ensures rule { IfSome result (λ place. fault ≢ TypeFault.NoMemory) }
 {
     match fault {
-        TypeFault::UnknownName { place, .. } => place,
-        TypeFault::Twice { place, .. } => place,
-        TypeFault::Mismatch { place, .. } => place,
-        TypeFault::NotAssignable { place, .. } => place,
-        TypeFault::Arity { place, .. } => place,
-        TypeFault::TooBig { place, .. } => place,
-        TypeFault::NoRoot { place, .. } => place,
-        TypeFault::BadTx { place, .. } => place,
-        TypeFault::NoMemory => 0,
+        TypeFault::UnknownName { place, .. } => Some(place),
+        TypeFault::Twice { place, .. } => Some(place),
+        TypeFault::Mismatch { place, .. } => Some(place),
+        TypeFault::NotAssignable { place, .. } => Some(place),
+        TypeFault::Arity { place, .. } => Some(place),
+        TypeFault::TooBig { place, .. } => Some(place),
+        TypeFault::NoRoot { place, .. } => Some(place),
+        TypeFault::BadTx { place, .. } => Some(place),
+        TypeFault::NoMemory => None,
     }
 }
