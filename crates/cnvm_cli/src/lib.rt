@@ -7,7 +7,6 @@
 mod commands;
 mod exit;
 mod image;
-mod notes;
 mod reading;
 mod reasons;
 mod refused;
