@@ -1,5 +1,0 @@
-use Rattle.cnvm_notes.proofs.Refusals.{placed}
-use Rattle.cnvm_notes.proofs.program.at.Goals as goal
-
-pub returns : goal.returns
-returns c = record { tells = placed _ _ _ _ _ c.requires c.in_ok-message.ensures.begins }
