@@ -18,7 +18,7 @@ use Rattle.pmem.proofs.Refused.{all_cache, all_on}
 use Rattle.pool_layout.specs.declared.places.TheConstants.{DONE}
 use Rattle.pool_layout.specs.declared.limits.Sizes.{Sizes}
 use Rattle.pool_map.specs.declared.trap.TrapKind.{TrapKind}
-use Rattle.pool_layout.specs.Log.{valid, count}
+use Rattle.pool_layout.specs.Log.{leading, count}
 use Rattle.pool_layout.specs.declared.places.Place.TheVariants.{RecordStamp}
 use Rattle.pool_layout.specs.Places.{at, pool_of}
 use Rattle.clobber_log.specs.Logs.{attempt_in, count_in}
@@ -50,19 +50,20 @@ use Rattle.abort_mode.specs.Answers.{after_back, abort_redo_steps, HasAbortRedon
 
 -- there are no more valid records than records
 
-valid_few : (stamps : ℕ → ℤ) (a n : ℕ) → valid stamps a n ≤ n
-valid_few stamps a zero = omega arith
-valid_few stamps a (suc n) =
-    let le = valid_few stamps a n in let b = one (int_eq (stamps n) (pos (suc a))) in omega arith
+leading_few : (stamps : ℕ → ℤ) (a n : ℕ) → leading stamps a n ≤ n
+leading_few stamps a zero = omega arith
+leading_few stamps a (suc n) =
+    one (nat_eq (leading stamps a n) n && int_eq (stamps n) (pos (suc a)))
+    (leading stamps a n) (leading_few stamps a n)
   where
-    one : (b : Bool) → cond b 1 0 ≤ 1
-    one true = omega arith
-    one false = omega arith
+    one : (b : Bool) (m : ℕ) → m ≤ n → (if b then suc n else m) ≤ suc n
+    one true m le = omega arith
+    one false m le = omega arith
 
 pub count_few : (z : Sizes) (image : Words) → count_in z image ≤ z.records
 unfolding count
 count_few z image =
-    valid_few (λ j. image (at (pool_of z) (RecordStamp j))) (attempt_in z image) z.records
+    leading_few (λ j. image (at (pool_of z) (RecordStamp j))) (attempt_in z image) z.records
 
 -- the undo
 

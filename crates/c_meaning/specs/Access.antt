@@ -1,8 +1,8 @@
 -- How expressions reach the pool. A pointer is a slot's number, and 0 leads nowhere. The checks are
 -- null, stale and index, in this order; a field of the root has only the last.
-use Rattle.std.specs.Prelude.{ℕ, zero, suc, ℤ, pos, negsuc, ◌+◌, ◌^◌, min, ◌-◌, length, List, Bool}
+use Rattle.std.specs.Prelude.{ℕ, zero, suc, ℤ, pos, negsuc, ◌+◌, ◌^◌, min, ◌-◌, List, Bool}
 use Rattle.std.specs.Prelude.{false, Option, None, Some, Result, Ok, Err, option_map}
-use Rattle.std.specs.Prelude.{option_and_then, slice_get, nat_lt, nat_eq, if◌then◌else◌}
+use Rattle.std.specs.Prelude.{option_and_then, slice_get, nat_eq, if◌then◌else◌}
 use Rattle.std.specs.Option.{option_map_or}
 use Rattle.c_tree.specs.ExprTree.{ExprTree}
 use Rattle.c_tree.specs.ExprTree as expr
@@ -14,30 +14,20 @@ use Rattle.c_types.specs.Tables.{root_struct, struct_named, field_start, words_a
 use Rattle.pool_map.specs.declared.object.Object.{Object}
 use Rattle.pool_map.specs.declared.trap.TrapKind.{TrapKind}
 use Rattle.pool_map.specs.declared.trap.TrapKind.TheVariants as trap
-use Rattle.pool_map.specs.PoolMap.{PoolMap, object_at, least_free, new, free, read, write}
+use Rattle.pool_map.specs.PoolMap.{PoolMap, object_at, least_free, free, read, write}
 use Rattle.pool_map.specs.PoolMap.{read_root, write_root}
 use Rattle.c_meaning.specs.declared.word.Word.{Word}
 use Rattle.c_meaning.specs.declared.word.Word.TheVariants.{Root, Field}
 use Rattle.c_meaning.specs.Locals.{Local, scopes_of}
+use Rattle.pool_map.specs.Checks.{has_word, then_on, element_in, new_at}
 
 abbrev pub read_word : PoolMap → Word → ℤ
 read_word p (Root i) = read_root p i
 read_word p (Field s i) = read p s i
 
--- whether an object has a word; a word that the pool lacks isn't written
-abbrev pub has_word : Option Object → ℕ → Bool
-has_word None i = false
-has_word (Some object) i = nat_lt i (length object.fields)
-
 abbrev pub write_word : PoolMap → Word → ℤ → PoolMap
 write_word p (Root i) v = write_root p i v
 write_word p (Field s i) v = if has_word (object_at p s) i then write p s i v else p
-
--- a result, and what follows unless it is a trap
-abbrev pub then_on : {A B : Type 0} → Result A TrapKind → (A → Result B TrapKind)
-    → Result B TrapKind
-then_on (Ok a) go = go a
-then_on (Err k) go = Err k
 
 -- the place of the struct that an expression points to
 abbrev pub pointed_struct : ValueType → Option ℕ
@@ -61,11 +51,6 @@ struct_slot p kind (pos zero) = Err trap.Null
 struct_slot p kind (pos (suc n)) = if is_struct_kind (object_at p (suc n)) kind then Ok (suc n)
     else Err trap.Stale
 struct_slot p kind (negsuc n) = Err trap.Stale
-
--- the check index
-abbrev pub element_in : (len : ℕ) → ℤ → Result ℕ TrapKind
-element_in n (pos i) = if nat_lt i n then Ok i else Err trap.Index
-element_in n (negsuc i) = Err trap.Index
 
 abbrev pub array_length : ℤ → ℕ
 array_length (pos n) = n
@@ -128,12 +113,6 @@ target_field (expr.Call name all) = expr.Call name all
 target_field (expr.New place name) = expr.New place name
 target_field (expr.Unary op place a) = expr.Unary op place a
 target_field (expr.Binary op place a b) = expr.Binary op place a b
-
--- `pm_new`: the least free slot gets an object whose words are 0; if no slot is free, nothing
--- changes and the pointer is 0
-abbrev pub new_at : PoolMap → (kind words : ℕ) → Option ℕ → ℤ × PoolMap
-new_at p kind words None = (pos 0, p)
-new_at p kind words (Some s) = (pos s, new p s kind words)
 
 abbrev pub new_object : Tables → PoolMap → List ℕ → ℤ × PoolMap
 new_object t p name = option_map_or (λ i. new_at p (number_at t i) (words_at t i) (least_free p))

@@ -5,7 +5,7 @@
 -- The outer recursion is on `room`, the number of functions that may still be opened, and the inner
 -- one on the tree, to which the calls are passed as a function. A loop is a recursion on the ticks
 -- left when it begins, since each of its turns takes one.
-use Rattle.std.specs.Prelude.{ℕ, zero, suc, ℤ, pos, negsuc, Bool, true, false, List, [], ◌∷◌}
+use Rattle.std.specs.Prelude.{ℕ, zero, suc, ℤ, pos, List, [], ◌∷◌}
 use Rattle.std.specs.Prelude.{length, Option, None, Some, Result, Ok, Err, if◌then◌else◌}
 use Rattle.std.specs.Option.{option_map_or}
 use Rattle.c_tree.specs.ExprTree.{ExprTree, Arguments}
@@ -28,6 +28,7 @@ use Rattle.c_meaning.specs.declared.word.Word.{Word}
 use Rattle.c_meaning.specs.Access.{read_word, write_word, target_field, word_named, new_object}
 use Rattle.c_meaning.specs.Access.{free_object}
 use Rattle.c_meaning.specs.Operators.{unary_of, binary_of}
+use Rattle.pool_map.specs.Checks.{is_zero}
 
 -- a value, the pool and the ticks left; or a trap
 pub data Out (A : Type 0) : Type 0 where
@@ -60,11 +61,6 @@ then_next (Broke ls p k) go = Broke ls p k
 then_next (Again ls p k) go = Again ls p k
 then_next (Gave v p k) go = Gave v p k
 then_next (Traps trap) go = Traps trap
-
-abbrev pub is_zero : ℤ → Bool
-is_zero (pos zero) = true
-is_zero (pos (suc n)) = false
-is_zero (negsuc n) = false
 
 abbrev pub at_zero : {A : Type 0} → ℤ → A → A → A
 at_zero v a b = if is_zero v then a else b

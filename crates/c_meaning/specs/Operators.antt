@@ -1,19 +1,17 @@
 -- The operators on words. `-e` is 0 - e, and `~e` is -1 ^ e, which differs from e in every bit. A
 -- comparison, `!`, `&&` and `||` give 0 or 1, and a quotient or a remainder by 0 is no word.
-use Rattle.std.specs.Prelude.{ℤ, pos, negsuc, ◌==◌, Option, None, Some, if◌then◌else◌}
+use Rattle.std.specs.Prelude.{ℤ, pos, negsuc, ◌==◌, Option, Some, if◌then◌else◌}
 use Rattle.c_tree.specs.declared.expr.UnaryOp.{UnaryOp}
 use Rattle.c_tree.specs.declared.expr.UnaryOp.TheVariants.{Negate, Not, Complement}
 use Rattle.c_tree.specs.declared.expr.BinaryOp.{BinaryOp}
 use Rattle.c_tree.specs.declared.expr.BinaryOp.TheVariants as binary
 use Rattle.nvm_base.specs.Operations as word
+use Rattle.pool_map.specs.Checks.{unless_zero}
 
 abbrev pub unary_of : UnaryOp → ℤ → ℤ
 unary_of Negate a = word.sub (pos 0) a
 unary_of Not a = word.eq a (pos 0)
 unary_of Complement a = word.xor_of (negsuc 0) a
-
-abbrev pub unless_zero : ℤ → ℤ → Option ℤ
-unless_zero b v = if word.unsigned b == 0 then None else Some v
 
 -- `&&` and `||` are evaluated by `value_of`, since their right side may be left out; here they join
 -- two words that were evaluated

@@ -1,4 +1,4 @@
-//! The number of valid records of the log.
+//! The number of valid records at the log's beginning.
 
 ghost use Rattle.std.specs.Prelude.{◌≡◌, ◌-◌, ◌*◌, ◌+◌, ◌^◌, ◌<◌, ◌≤◌, true, false, IfSome, IsSome};
 ghost use Rattle.std.specs.Prelude.{IsNone};
@@ -26,7 +26,8 @@ fn stamp<P: PmemWork>(sizes: &Sizes, dev: &P, i: u64) -> Option<i64>
     dev.load(8 * (6 + i) + 2)
 }
 
-/// The number of valid records, or `None` while the device is off. It reads each stamp once.
+/// The number of valid records before the first that isn't, or `None` while the device is off. It
+/// reads no stamp after that one.
 #[tactic(auto, unfolding(pool_layout::specs::Log::count))]
 pub fn count<P: PmemWork>(sizes: &Sizes, dev: &P, attempt: u64) -> Option<u64>
     requires lines { (P.device dev.now).lines ≡ pool_lines sizes.now }
@@ -37,13 +38,12 @@ pub fn count<P: PmemWork>(sizes: &Sizes, dev: &P, attempt: u64) -> Option<u64>
     ensures off { IsNone result → (P.device dev.now).on ≡ false }
 {
     let valid = (attempt + 1) as i64;
-    let mut found = 0;
     for i in 0..sizes.records() {
-        if stamp(sizes, dev, i)? == valid {
-            found += 1;
+        if stamp(sizes, dev, i)? != valid {
+            return Some(i);
         }
     }
-    Some(found)
+    Some(sizes.records())
 }
 
 /// A word as the number of an attempt. A word that is no attempt, which a pool never holds, counts

@@ -15,12 +15,22 @@ use std::test::Fail;
 
 /// A call of `move` that takes too much has 29 events: 7 seal it, 12 are two stores with their
 /// records, 5 restore the words, and 5 retire the call.
-const MOVES: &str =
-    "struct R { int64_t n; int64_t m; };\npersistent struct R root;\ntx int64_t add(int64_t d) { root.n = root.n + d; return root.n; }\ntx abort int64_t move(int64_t d) { root.n = root.n - d; root.m = d; if (root.n < 0) { abort(); } return root.n; }\n";
+const MOVES: &str = concat!(
+    "struct R { int64_t n; int64_t m; };\npersistent struct R root;\n",
+    "tx int64_t add(int64_t d) { root.n = root.n + d; return root.n; }\n",
+    "tx abort int64_t move(int64_t d) { root.n = root.n - d; root.m = d; if (root.n < 0) { ",
+    "abort(); } return root.n; }\n",
+);
 
 /// A stack whose `take` checks in a function that it calls, after it made an object and freed one.
-const OBJECTS: &str =
-    "struct N { int64_t v; };\nstruct R { struct N *p; };\npersistent struct R root;\nvoid check(int64_t v) { if (v < 0) { abort(); } }\ntx abort int64_t set(int64_t v) { pm_free(root.p); struct N *q = pm_new(struct N); q->v = v; root.p = q; check(v); return 0; }\ntx abort int64_t put(int64_t v) { struct N *q = pm_new(struct N); q->v = v; root.p = q; check(v); return 0; }\ntx int64_t get() { return root.p->v; }\n";
+const OBJECTS: &str = concat!(
+    "struct N { int64_t v; };\nstruct R { struct N *p; };\npersistent struct R root;\n",
+    "void check(int64_t v) { if (v < 0) { abort(); } }\n",
+    "tx abort int64_t set(int64_t v) { pm_free(root.p); struct N *q = pm_new(struct N); ",
+    "q->v = v; root.p = q; check(v); return 0; }\n",
+    "tx abort int64_t put(int64_t v) { struct N *q = pm_new(struct N); q->v = v; root.p = q; ",
+    "check(v); return 0; }\ntx int64_t get() { return root.p->v; }\n",
+);
 
 /// A program, the records of its log, a script and its answers.
 type Row = (&'static str, u64, &'static str, &'static str);
@@ -67,7 +77,10 @@ const ROWS: [Row; 8] = [
         OBJECTS,
         256,
         "call put 5\nshow\ncall set -1\nshow\ncall set 6\ncall get\n",
-        "= 0 log 3\nroot p=1\nslot 1 N v=5\naborted abort\nroot p=1\nslot 1 N v=5\n= 0 log 4\n= 6 log 0\n",
+        concat!(
+            "= 0 log 3\nroot p=1\nslot 1 N v=5\naborted abort\nroot p=1\nslot 1 N v=5\n",
+            "= 0 log 4\n= 6 log 0\n",
+        ),
     ),
     (
         OBJECTS,
@@ -248,7 +261,10 @@ const CUTS: [Cut; 38] = [
         "\npower new\npower old\nshow\nlast\n",
         0,
         30,
-        "= 5 log 1\nstopped sealed\ndevice fault\nrecovered aborted abort\nroot n=5 m=0\nlast 2 5\n",
+        concat!(
+            "= 5 log 1\nstopped sealed\ndevice fault\nrecovered aborted abort\nroot n=5 m=0\n",
+            "last 2 5\n",
+        ),
     ),
     (
         MOVES,
@@ -257,7 +273,10 @@ const CUTS: [Cut; 38] = [
         "\npower new\npower old\nshow\nlast\n",
         30,
         31,
-        "= 5 log 1\nstopped sealed\nrecovered aborted abort\nrecovered none\nroot n=5 m=0\nlast 2 5\n",
+        concat!(
+            "= 5 log 1\nstopped sealed\nrecovered aborted abort\nrecovered none\nroot n=5 m=0\n",
+            "last 2 5\n",
+        ),
     ),
     (
         MOVES,
@@ -266,7 +285,10 @@ const CUTS: [Cut; 38] = [
         "\npower old\npower new\nshow\nlast\n",
         0,
         27,
-        "= 5 log 1\nstopped sealed\nstopped sealed\nrecovered aborted abort\nroot n=5 m=0\nlast 2 5\n",
+        concat!(
+            "= 5 log 1\nstopped sealed\nstopped sealed\nrecovered aborted abort\nroot n=5 m=0\n",
+            "last 2 5\n",
+        ),
     ),
     (
         MOVES,
@@ -450,7 +472,10 @@ const CUTS: [Cut; 38] = [
         "\npower new\npower old\nshow\nlast\n",
         0,
         51,
-        "= 0 log 3\nstopped sealed\ndevice fault\nrecovered aborted abort\nroot p=1\nslot 1 N v=5\nlast 2 0\n",
+        concat!(
+            "= 0 log 3\nstopped sealed\ndevice fault\nrecovered aborted abort\nroot p=1\n",
+            "slot 1 N v=5\nlast 2 0\n",
+        ),
     ),
     (
         OBJECTS,
@@ -459,7 +484,10 @@ const CUTS: [Cut; 38] = [
         "\npower new\npower old\nshow\nlast\n",
         51,
         52,
-        "= 0 log 3\nstopped sealed\nrecovered aborted abort\nrecovered none\nroot p=1\nslot 1 N v=5\nlast 2 0\n",
+        concat!(
+            "= 0 log 3\nstopped sealed\nrecovered aborted abort\nrecovered none\nroot p=1\n",
+            "slot 1 N v=5\nlast 2 0\n",
+        ),
     ),
     (
         OBJECTS,
@@ -468,7 +496,10 @@ const CUTS: [Cut; 38] = [
         "\npower old\npower new\nshow\nlast\n",
         0,
         48,
-        "= 0 log 3\nstopped sealed\nstopped sealed\nrecovered aborted abort\nroot p=1\nslot 1 N v=5\nlast 2 0\n",
+        concat!(
+            "= 0 log 3\nstopped sealed\nstopped sealed\nrecovered aborted abort\nroot p=1\n",
+            "slot 1 N v=5\nlast 2 0\n",
+        ),
     ),
     (
         OBJECTS,
@@ -477,7 +508,10 @@ const CUTS: [Cut; 38] = [
         "\npower old\npower new\nshow\nlast\n",
         48,
         51,
-        "= 0 log 3\nstopped sealed\nstopped sealed\nrecovered none\nroot p=1\nslot 1 N v=5\nlast 2 0\n",
+        concat!(
+            "= 0 log 3\nstopped sealed\nstopped sealed\nrecovered none\nroot p=1\nslot 1 N v=5\n",
+            "last 2 0\n",
+        ),
     ),
 ];
 

@@ -5,7 +5,7 @@
 --
 -- A load, a store and a free make their checks: null and stale of the pointer, then index. A log
 -- has no effect, and neither has the flag of a new.
-use Rattle.std.specs.Prelude.{◌≡◌, ℕ, zero, suc, ◌+◌, ℤ, pos, negsuc, ◌==◌, Bool, true, false, List}
+use Rattle.std.specs.Prelude.{◌≡◌, ℕ, zero, suc, ◌+◌, ℤ, pos, negsuc, Bool, false, List}
 use Rattle.std.specs.Prelude.{[], ◌∷◌, map, length, Option, None, Some, Result, Ok, Err, option_map}
 use Rattle.std.specs.Prelude.{if◌then◌else◌, nat_lt, nat_eq, slice_get}
 use Rattle.std.specs.Option.{option_map_or}
@@ -19,7 +19,7 @@ use Rattle.pool_map.specs.declared.shapes.Shapes.{Shapes}
 use Rattle.pool_map.specs.declared.trap.TrapKind.{TrapKind}
 use Rattle.pool_map.specs.declared.trap.TrapKind.TheVariants as trap
 use Rattle.pool_map.specs.PoolFits.{words_of, words_of_field}
-use Rattle.pool_map.specs.PoolMap.{PoolMap, object_at, least_free, new, free, read, write}
+use Rattle.pool_map.specs.PoolMap.{PoolMap, object_at, least_free, free, read, write}
 use Rattle.pool_map.specs.PoolMap.{read_root, write_root}
 use Rattle.ir.specs.declared.instruction.Target.{Target}
 use Rattle.ir.specs.declared.instruction.Target.TheVariants.{Root, Field}
@@ -31,6 +31,7 @@ use Rattle.ir.specs.declared.function.IrFunction.{IrFunction}
 use Rattle.ir.specs.declared.function.Ir.{Ir}
 use Rattle.ir.specs.WellFormed.{struct_of}
 use Rattle.ir.specs.Places.{instruction_at}
+use Rattle.pool_map.specs.Checks.{has_word, then_on, element_in, new_at, is_zero, unless_zero}
 
 -- a caller: its function, the place to return to, its registers, and the register for the result
 pub data Frame : Type 0 where
@@ -64,10 +65,6 @@ put_register [] (suc n) v = pos 0 ∷ put_register [] n v
 put_register (u ∷ us) zero v = v ∷ us
 put_register (u ∷ us) (suc n) v = u ∷ put_register us n v
 
--- a quotient or a remainder by 0 is no word
-abbrev pub unless_zero : ℤ → ℤ → Option ℤ
-unless_zero b v = if word.unsigned b == 0 then None else Some v
-
 abbrev pub word_of : BinOp → ℤ → ℤ → Option ℤ
 word_of op.Div a b = unless_zero b (word.div a b)
 word_of op.Rem a b = unless_zero b (word.rem a b)
@@ -94,19 +91,9 @@ abbrev pub load_spot : PoolMap → Spot → ℤ
 load_spot p (InRoot i) = read_root p i
 load_spot p (InSlot s i) = read p s i
 
--- whether an object has a word; a word that it lacks isn't written
-abbrev pub has_word : Option Object → ℕ → Bool
-has_word None i = false
-has_word (Some object) i = nat_lt i (length object.fields)
-
 abbrev pub store_spot : PoolMap → Spot → ℤ → PoolMap
 store_spot p (InRoot i) v = write_root p i v
 store_spot p (InSlot s i) v = if has_word (object_at p s) i then write p s i v else p
-
-abbrev pub then_on : {A B : Type 0} → Result A TrapKind → (A → Result B TrapKind)
-    → Result B TrapKind
-then_on (Ok a) go = go a
-then_on (Err k) go = Err k
 
 abbrev pub is_kind : Option Object → ℕ → Bool
 is_kind None kind = false
@@ -118,11 +105,6 @@ slot_of p kind (pos zero) = Err trap.Null
 slot_of p kind (pos (suc n)) = if is_kind (object_at p (suc n)) kind then Ok (suc n)
     else Err trap.Stale
 slot_of p kind (negsuc n) = Err trap.Stale
-
--- the check index
-abbrev pub element_in : (len : ℕ) → ℤ → Result ℕ TrapKind
-element_in n (pos i) = if nat_lt i n then Ok i else Err trap.Index
-element_in n (negsuc i) = Err trap.Index
 
 -- the word at which field n begins, and its elements
 abbrev pub words_before : ℕ → List FieldShape → ℕ
@@ -159,12 +141,6 @@ abbrev pub index_in : List ℤ → Target → Option ℤ
 index_in regs (Root field index) = option_map (register_at regs) index
 index_in regs (Field base kind field index) = option_map (register_at regs) index
 
--- a new object is blank, in the least free slot; if no slot is free, nothing changes and the
--- pointer is 0
-abbrev pub new_at : PoolMap → (kind words : ℕ) → Option ℕ → ℤ × PoolMap
-new_at p kind words None = (pos 0, p)
-new_at p kind words (Some s) = (pos s, new p s kind words)
-
 abbrev pub new_in : Shapes → PoolMap → ℕ → ℤ × PoolMap
 new_in shapes p kind = new_at p kind (words_of (fields_of shapes kind)) (least_free p)
 
@@ -178,11 +154,6 @@ with_word (Some v) go = go v
 abbrev pub with_ok : {A : Type 0} → Result A TrapKind → (A → Move) → Move
 with_ok (Err k) go = Ends (Trapped k)
 with_ok (Ok a) go = go a
-
-abbrev pub is_zero : ℤ → Bool
-is_zero (pos zero) = true
-is_zero (pos (suc n)) = false
-is_zero (negsuc n) = false
 
 abbrev pub takes_tick : ℕ → (ℕ → Move) → Move
 takes_tick zero go = Ends (Trapped trap.Steps)

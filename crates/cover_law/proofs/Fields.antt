@@ -13,8 +13,9 @@ use Rattle.pool_map.specs.declared.trap.TrapKind.{TrapKind}
 use Rattle.pool_map.specs.declared.trap.TrapKind.TheVariants as trap
 use Rattle.pool_map.specs.PoolFits.{words_of, words_of_field}
 use Rattle.ir.specs.WellFormed.{IsIndexed, struct_of, shape_field}
-use Rattle.code_meaning.specs.Code.{register_at, words_before, word_in_shape, element_in, elements}
-use Rattle.code_meaning.specs.Code.{fields_of, then_on}
+use Rattle.pool_map.specs.Checks.{then_on, element_in}
+use Rattle.code_meaning.specs.Code.{register_at, words_before, word_in_shape, elements}
+use Rattle.code_meaning.specs.Code.{fields_of}
 
 abbrev pub width : Option FieldShape → ℕ
 width None = 0

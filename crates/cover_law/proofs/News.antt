@@ -15,7 +15,8 @@ use Rattle.ir.specs.Walk as walk
 use Rattle.ir.specs.Walk.{Kept, Open, Comes, facts_after}
 use Rattle.ir.specs.Clobber.{IsLogged, IsClobberFill}
 use Rattle.code_meaning.specs.Code.{CodeState, Here, Frame, Goes, Spot, InRoot, InSlot, register_at}
-use Rattle.code_meaning.specs.Code.{put_register, slot_of, fields_of, new_at, then_on, with_ok}
+use Rattle.pool_map.specs.Checks.{then_on, new_at}
+use Rattle.code_meaning.specs.Code.{put_register, slot_of, fields_of, with_ok}
 use Rattle.code_meaning.specs.Deeds.{Deed, Heads, if_ok, site, deeds_new, deeds_on}
 use Rattle.code_meaning.specs.Parameters.{KeepsParameters}
 use Rattle.cover_law.proofs.Spots.{Known, Stays, sure_stays}

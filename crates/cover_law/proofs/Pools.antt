@@ -11,7 +11,8 @@ use Rattle.pool_map.specs.PoolMap.{PoolMap, IsSlot, object_at, with_object, blan
 use Rattle.pool_map.specs.PoolMap.{write, write_root}
 use Rattle.pool_map.proofs.Points.{object_at-with_object_same, object_at-with_object_other}
 use Rattle.pool_map.proofs.Points.{kind-write}
-use Rattle.code_meaning.specs.Code.{Spot, InRoot, InSlot, store_spot, has_word, is_kind, fields_of}
+use Rattle.pool_map.specs.Checks.{has_word}
+use Rattle.code_meaning.specs.Code.{Spot, InRoot, InSlot, store_spot, is_kind, fields_of}
 use Rattle.cover_law.proofs.Spots.{kind_at, Names, Has, Lies, Stays, Leaves, has_lies}
 use Rattle.cover_law.proofs.Fills.{Filled}
 

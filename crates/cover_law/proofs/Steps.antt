@@ -15,7 +15,8 @@ use Rattle.ir.specs.WellFormed.{IsWellFormed}
 use Rattle.ir.specs.Walk as walk
 use Rattle.ir.specs.Walk.{Kept, Open, Comes}
 use Rattle.code_meaning.specs.Code.{CodeState, Here, Frame, Goes, Spot, register_at, put_register}
-use Rattle.code_meaning.specs.Code.{act, word_of, with_word, takes_tick, is_zero, spot_of, slot_of}
+use Rattle.pool_map.specs.Checks.{is_zero}
+use Rattle.code_meaning.specs.Code.{act, word_of, with_word, takes_tick, spot_of, slot_of}
 use Rattle.code_meaning.specs.Code.{base_in, index_in}
 use Rattle.code_meaning.specs.Deeds.{Deed, deeds_at, deeds_on}
 use Rattle.code_meaning.specs.Parameters.{KeepsParameters}

@@ -9,7 +9,8 @@ use Rattle.pool_map.specs.PoolMap.{PoolMap, object_at}
 use Rattle.ir.specs.declared.instruction.Target.TheVariants.{Root, Field}
 use Rattle.ir.specs.WellFormed.{IsTarget, shape_field}
 use Rattle.code_meaning.specs.Code.{Spot, InRoot, InSlot, is_kind, slot_of, word_in_shape}
-use Rattle.code_meaning.specs.Code.{words_before, fields_of, spot_of, index_in, then_on}
+use Rattle.pool_map.specs.Checks.{then_on}
+use Rattle.code_meaning.specs.Code.{words_before, fields_of, spot_of, index_in}
 use Rattle.cover_law.proofs.Fields.{width, field_only, then_ok, word_in_field, word_in_first}
 use Rattle.cover_law.proofs.Fields.{indexed_one, field_of_is}
 use Rattle.cover_law.proofs.Spots.{Names, Lies, LiesRoot}

@@ -14,7 +14,7 @@ use Rattle.pool_layout.specs.declared.limits.Sizes.{Sizes}
 use Rattle.pool_layout.specs.declared.places.Place.TheVariants.{RecordStamp, Heap}
 use Rattle.pool_layout.specs.Places.{at, pool_of}
 use Rattle.pool_layout.specs.Sizes.{heap_words}
-use Rattle.pool_layout.specs.Log.{valid, count}
+use Rattle.pool_layout.specs.Log.{leading, count}
 use Rattle.clobber_log.specs.Logs.{attempt_of, attempt_in, count_in}
 use Rattle.args_log.specs.Next.{number_after}
 use Rattle.args_log.specs.Seal.{seal_events}
@@ -69,7 +69,7 @@ tail_is z d a (Trapped k) c done attempt d_fits a_fits = refl
 pub count_same : (z : Sizes) (a : ℕ) (u v : Words) → ((p : ℕ) → 48 ≤ p → u p ≡ v p)
     → count (pool_of z) a u ≡ count (pool_of z) a v
 unfolding count
-count_same z a u v same = ap (λ (stamps : ℕ → ℤ). valid stamps a z.records)
+count_same z a u v same = ap (λ (stamps : ℕ → ℤ). leading stamps a z.records)
     (λ i j. same (at (pool_of z) (RecordStamp j)) (omega arith) i)
 
 -- what is due of a run on a cache, from a heap r that is alike for the run from h

@@ -26,7 +26,8 @@ use Rattle.instrument.specs.Insert.{logged_function, logged_program}
 use Rattle.code_meaning.specs.Code.{Frame, frame, CodeState, Here, CodeEnd, Ended, Trapped}
 use Rattle.code_meaning.specs.Code.{Unfinished, Stuck, Move, Goes, Ends, InSlot, register_at}
 use Rattle.code_meaning.specs.Code.{put_register, base_in, index_in, spot_of, slot_of, fields_of}
-use Rattle.code_meaning.specs.Code.{with_word, with_ok, word_of, is_zero, takes_tick, gives, opens}
+use Rattle.pool_map.specs.Checks.{is_zero}
+use Rattle.code_meaning.specs.Code.{with_word, with_ok, word_of, takes_tick, gives, opens}
 use Rattle.code_meaning.specs.Code.{open_limit, act, instruction_step, go_on, exec, code_start}
 use Rattle.code_meaning.specs.Code.{free_in, new_in, load_spot, store_spot, IsOver}
 use Rattle.code_meaning.specs.Deeds.{Deed, Writes, Heads, if_ok, zeros, site, deeds_new, deeds_at}

@@ -6,6 +6,7 @@ ghost use Rattle.c_types.specs.Tables as tables;
 ghost use Rattle.c_types.specs.Views.{tables_in};
 ghost use Rattle.pool_map.specs.PoolMap.{object_at, least_free};
 ghost use Rattle.c_meaning.specs.Access as meaning;
+ghost use Rattle.pool_map.specs.Checks as checks;
 ghost use Rattle.interpreter.specs.inside.Answers.{QuietTrap};
 ghost use Rattle.interpreter.specs.inside.Resume.{ObjectFreed};
 
@@ -168,7 +169,7 @@ fn count_of(length: i64) -> u64
 
 /// The check index.
 fn element_in(length: u64, index: i64) -> Result<u64, TrapKind>
-    ensures value { result ≡ meaning.element_in length index }
+    ensures value { result ≡ checks.element_in length index }
     ensures quiet { QuietTrap result }
 {
     match u64::try_from(index) {
@@ -281,7 +282,7 @@ pub fn new_object(program: &Program<'_>, pool: &mut Pool, name: &Name) -> Result
 
 /// A new object of this kind, with so many words.
 fn put_object(pool: &mut Pool, kind: u64, words: u64) -> Result<i64, AllocError>
-    ensures { IfOk result (λ pointer. meaning.new_at pool.old kind words (least_free pool.old)
+    ensures { IfOk result (λ pointer. checks.new_at pool.old kind words (least_free pool.old)
         ≡ (pointer, pool.new)) }
 {
     pool_map::laws();

@@ -21,6 +21,7 @@ use Rattle.c_types.specs.Expressions.{arrow_broken, pointer_broken}
 use Rattle.c_types.specs.Statements.{is_target}
 use Rattle.pool_map.specs.declared.shapes.Shapes.{Shapes}
 use Rattle.pool_map.specs.PoolMap.{free}
+use Rattle.pool_map.specs.Checks.{then_on}
 use Rattle.c_meaning.specs.Access as access
 use Rattle.c_meaning.specs.Locals.{scopes_of}
 use Rattle.c_meaning.specs.Locals as locals
@@ -223,7 +224,7 @@ module _ (k : Context) (ir : Ir) (sane : IsSane k.tables) (shaped : ir.shapes �
   pub free_fits : (e : ExprTree) → value_broken k.tables v.scopes e ≡ []
       → is_pointer (type_of k.tables v.scopes e) ≡ true → FreeFits k ir v es e
   free_fits e b pointer ls is w c =
-      ap (λ (y : ValueType). access.then_on
+      ap (λ (y : ValueType). then_on
       (access.struct_slot w (option_map (number_at k.tables) (access.pointed_struct y)) c)
       (λ s. Ok (free w s))) (type_met ls e is)
       ∙ free_word k.tables (type_of k.tables v.scopes e) w c sane (type_is_good e b) pointer

@@ -30,7 +30,8 @@ use Rattle.lower.specs.Forms.{form_of}
 use Rattle.lower.specs.Names.{element_target}
 use Rattle.lower.specs.Lowers.{Context, form_end, form_code, truth_code}
 use Rattle.code_meaning.specs.Code.{Frame, Here, Trapped, Goes, Ends, Move, Spot, register_at}
-use Rattle.code_meaning.specs.Code.{put_register, act, instruction_step, exec, is_zero, word_of}
+use Rattle.pool_map.specs.Checks.{is_zero}
+use Rattle.code_meaning.specs.Code.{put_register, act, instruction_step, exec, word_of}
 use Rattle.code_meaning.specs.Code.{with_word, with_ok, spot_of, base_in, index_in, load_spot}
 use Rattle.lower_law.proofs.Paths.{Path, path_then, path_more, path_step, path_ends, path_tick}
 use Rattle.lower_law.proofs.Paths.{at-put_same, at-put_other}

@@ -32,6 +32,7 @@ use Rattle.pool_map.specs.declared.shapes.FieldShape.{FieldShape}
 use Rattle.pool_map.specs.declared.trap.TrapKind.{TrapKind}
 use Rattle.pool_map.specs.declared.trap.TrapKind.TheVariants as trap
 use Rattle.c_meaning.specs.declared.word.Word.TheVariants.{Root, Field}
+use Rattle.pool_map.specs.Checks.{then_on, element_in, new_at}
 use Rattle.c_meaning.specs.Access as access
 use Rattle.lower.specs.Names.{found_number, struct_kind_at, kind_named, field_number, nowhere}
 use Rattle.lower.specs.Names.{struct_pointed_to, root_target, field_target}
@@ -73,16 +74,16 @@ elements_few (Some l) e = few l.value (kept (is_length l.value) l.place _ e)
 
 -- the word of an element isn't cut at 64 bits
 index_same : (n a : ℕ) (x : ℤ) → n ≤ 512 → a ≤ 262144
-    → access.then_on (access.element_in n x) (λ i. Ok (min (a + i) (2 ^ 64 - 1)))
-    ≡ code.then_on (code.element_in n x) (λ i. Ok (a + i))
+    → then_on (element_in n x) (λ i. Ok (min (a + i) (2 ^ 64 - 1)))
+    ≡ then_on (element_in n x) (λ i. Ok (a + i))
 index_same n a (negsuc i) few low = refl
 index_same n a (pos i) few low = by_test (nat_lt i n) refl
   where
     less : nat_lt i n ≡ true → i < n
     less e = search (rules)
 
-    by_test : (b : Bool) → nat_lt i n ≡ b → access.then_on (if b then Ok i else Err trap.Index)
-        (λ i. Ok (min (a + i) (2 ^ 64 - 1))) ≡ code.then_on (if b then Ok i else Err trap.Index)
+    by_test : (b : Bool) → nat_lt i n ≡ b → then_on (if b then Ok i else Err trap.Index)
+        (λ i. Ok (min (a + i) (2 ^ 64 - 1))) ≡ then_on (if b then Ok i else Err trap.Index)
         (λ i. Ok (a + i))
     by_test true e = let lt : i < n = less e in let same : min (a + i) (2 ^ 64 - 1) ≡ a + i =
         omega (arith, lt, few, low) in ap Ok same
@@ -176,24 +177,24 @@ word_same t i s name j h is e =
         (map field_shape s.fields) f.place k
     by_index None = ap Ok (first ∙ counted_same)
     by_index (Some x) =
-        ap (λ (a : ℕ). access.then_on (access.element_in (access.field_elements s name.text) x)
+        ap (λ (a : ℕ). then_on (element_in (access.field_elements s name.text) x)
         (λ i. Ok (min (a + i) (2 ^ 64 - 1)))) first
         ∙ index_same (access.field_elements s name.text) (field_words_before f.place 0 s.fields) x
         few low
-        ∙ ap (λ (n : ℕ). code.then_on (code.element_in n x)
+        ∙ ap (λ (n : ℕ). then_on (element_in n x)
         (λ i. Ok (field_words_before f.place 0 s.fields + i))) long
-        ∙ ap (λ (a : ℕ). code.then_on (code.element_in
+        ∙ ap (λ (a : ℕ). then_on (element_in
         (code.elements (slice_get (map field_shape s.fields) f.place)) x) (λ i. Ok (a + i)))
         counted_same
 
-in_root : (o : Result ℕ TrapKind) → spot_in (access.then_on o (λ i. Ok (Root i)))
-    ≡ code.then_on o (λ i. Ok (InRoot i))
+in_root : (o : Result ℕ TrapKind) → spot_in (then_on o (λ i. Ok (Root i)))
+    ≡ then_on o (λ i. Ok (InRoot i))
 in_root (Ok i) = refl
 in_root (Err k) = refl
 
 in_slot : (o u : Result ℕ TrapKind)
-    → spot_in (access.then_on o (λ s. access.then_on u (λ i. Ok (Field s i))))
-    ≡ code.then_on o (λ s. code.then_on u (λ i. Ok (InSlot s i)))
+    → spot_in (then_on o (λ s. then_on u (λ i. Ok (Field s i))))
+    ≡ then_on o (λ s. then_on u (λ i. Ok (InSlot s i)))
 in_slot (Ok s) (Ok i) = refl
 in_slot (Ok s) (Err k) = refl
 in_slot (Err k) u = refl
@@ -220,7 +221,7 @@ root_word t name w b j h e =
     ∙ ap (λ (o : Option ℕ). code.word_in_shape (map field_shape (root_fields t))
     (field_number t name.text o) j) (sym h.root.2) in
     in_root (access.struct_word_at t (root_struct t) name.text j)
-    ∙ ap (λ (o : Result ℕ TrapKind). code.then_on o (λ i. Ok (InRoot i))) (word ∙ same)
+    ∙ ap (λ (o : Result ℕ TrapKind). then_on o (λ i. Ok (InRoot i))) (word ∙ same)
 
 -- the number of a struct is its kind in the code
 numbered_few : (n i : ℕ) (ss : List StructTree) → numbered_up_to n i ss ≤ length ss
@@ -264,11 +265,11 @@ arrow_word t (Pointer i) place name reg w b j h g e =
     ∙ ap (λ (fs : List FieldShape). code.word_in_shape fs (field_number t name.text (Some i)) j)
     (sym (kind_fields t i s h g.1 g.2)) in
     ap (λ (o : Result ℕ TrapKind).
-    spot_in (access.then_on o (λ s. access.then_on (access.struct_word_at t (Some i) name.text j)
+    spot_in (then_on o (λ s. then_on (access.struct_word_at t (Some i) name.text j)
     (λ i. Ok (Field s i))))) slot
     ∙ ap (λ (o : Result ℕ TrapKind).
-    spot_in (access.then_on (code.slot_of w kind b)
-    (λ s. access.then_on o (λ i. Ok (Field s i))))) word
+    spot_in (then_on (code.slot_of w kind b)
+    (λ s. then_on o (λ i. Ok (Field s i))))) word
     ∙ in_slot (code.slot_of w kind b)
     (code.word_in_shape (fields_of (shapes_in t) kind) (field_number t name.text (Some i)) j)
 arrow_word t Int place name reg w b j h g e = absurd (some_none e)
@@ -324,9 +325,9 @@ new_word t name w h e =
     ∙ ap (λ (o : Option ℕ). pool.words_of (fields_of (shapes_in t) (struct_kind_at t o)))
     (sym g.2) in
     ap (λ (o : Option ℕ). option_map_or
-    (λ i. access.new_at w (number_at t i) (words_at t i) (least_free w)) o (pos 0, w)) g.2
-    ∙ ap (λ (n : ℕ). access.new_at w n (words_at t i) (least_free w)) (sym kind)
-    ∙ ap (λ (n : ℕ). access.new_at w (kind_named t name.text) n (least_free w)) words
+    (λ i. new_at w (number_at t i) (words_at t i) (least_free w)) o (pos 0, w)) g.2
+    ∙ ap (λ (n : ℕ). new_at w n (words_at t i) (least_free w)) (sym kind)
+    ∙ ap (λ (n : ℕ). new_at w (kind_named t name.text) n (least_free w)) words
     ∙ new_same w (kind_named t name.text)
     (pool.words_of (fields_of (shapes_in t) (kind_named t name.text))) (least_free w)
   where
@@ -334,22 +335,22 @@ new_word t name w h e =
     uncut n le = omega (arith, le)
 
     new_same : (w : PoolMap) (kind words : ℕ) (o : Option ℕ)
-        → access.new_at w kind words o ≡ code.new_at w kind words o
+        → new_at w kind words o ≡ new_at w kind words o
     new_same w kind words None = refl
     new_same w kind words (Some s) = refl
 
 -- a freed object
 pub free_word : (t : Tables) (ty : ValueType) (w : PoolMap) (b : ℤ) → IsSane t → IsGood t ty
     → is_pointer ty ≡ true
-    → access.then_on (access.struct_slot w (option_map (number_at t) (access.pointed_struct ty)) b)
+    → then_on (access.struct_slot w (option_map (number_at t) (access.pointed_struct ty)) b)
     (λ s. Ok (free w s)) ≡ free_in w (struct_kind_at t (struct_pointed_to ty)) b
 free_word t (Pointer i) w b h g e =
-    ap (λ (o : Result ℕ TrapKind). access.then_on o (λ s. Ok (free w s)))
+    ap (λ (o : Result ℕ TrapKind). then_on o (λ s. Ok (free w s)))
     (slot_same w (number_at t i) b ∙ ap (λ n. code.slot_of w n b) (sym (kind_same t i h)))
     ∙ freed (code.slot_of w (struct_kind_at t (Some i)) b)
   where
-    freed : (o : Result ℕ TrapKind) → access.then_on o (λ s. Ok (free w s))
-        ≡ code.then_on o (λ s. Ok (free w s))
+    freed : (o : Result ℕ TrapKind) → then_on o (λ s. Ok (free w s))
+        ≡ then_on o (λ s. Ok (free w s))
     freed (Ok s) = refl
     freed (Err k) = refl
 free_word t Int w b h g e = absurd (false_true e)

@@ -9,7 +9,8 @@ use Rattle.pool_map.specs.declared.trap.TrapKind.{TrapKind}
 use Rattle.c_meaning.specs.declared.word.Word.{Word}
 use Rattle.c_meaning.specs.declared.word.Word.TheVariants.{Root, Field}
 use Rattle.c_meaning.specs.Locals.{Local, oldest}
-use Rattle.c_meaning.specs.Access.{has_word, write_word as store_word}
+use Rattle.pool_map.specs.Checks.{is_zero}
+use Rattle.c_meaning.specs.Access.{write_word as store_word}
 use Rattle.c_meaning.specs.Meaning.{Out, Got, Stops, StmtEnd, Next, Broke, Again, Gave, Traps}
 use Rattle.c_meaning.specs.Meaning.{Calls, with_value, then_next, at_zero, value_of, stored_end}
 use Rattle.c_meaning.specs.Meaning.{target_local, freed, in_scope, after_turn, turns}
@@ -19,8 +20,8 @@ use Rattle.ir.specs.declared.function.Ir.{Ir}
 use Rattle.lower.specs.Names.{variable_of}
 use Rattle.lower.specs.Lowers.{Context}
 use Rattle.code_meaning.specs.Code.{Frame, Here, Trapped, Goes, Ends, Move, InSlot, gives}
-use Rattle.code_meaning.specs.Code.{register_at, act, instruction_step, exec, is_zero, with_ok}
-use Rattle.code_meaning.specs.Code.{base_in, index_in, has_word as has_word_in, store_spot}
+use Rattle.code_meaning.specs.Code.{register_at, act, instruction_step, exec, with_ok}
+use Rattle.code_meaning.specs.Code.{base_in, index_in, store_spot}
 use Rattle.lower_law.proofs.Paths.{Path, path_then, path_more, path_step, path_ends, path_tick}
 use Rattle.lower_law.proofs.Has.{At}
 use Rattle.lower_law.proofs.Locals.{Same}
@@ -343,13 +344,9 @@ module _ (ir : Ir) (m f : ℕ) (k : Context) (rises : (p q : ℕ) → p < q → 
       (loop_runs out again p p1 c c1 q r N L test body third le le1 le2 small st st1 tests kept
       bodies thirds n ls3 regs3 w3 t3 (omega (arith, tn, f1, f2, f3)) held3))))))
 
-  pub has_word_same : (o : _) (i : ℕ) → has_word o i ≡ has_word_in o i
-  has_word_same None i = refl
-  has_word_same (Some object) i = refl
-
   pub store_same : (w : PoolMap) (a i : ℕ) (x : ℤ)
       → store_word w (Field a i) x ≡ store_spot w (InSlot a i) x
-  store_same w a i x = ap (λ b. if b then write w a i x else w) (has_word_same (object_at w a) i)
+  store_same w a i x = refl
 
   pub store_runs : (out again p : ℕ) (N L : List Local → List ℤ → Type 0) (o : Result Word TrapKind)
       (x : ℤ) (ls : List Local) (regs : List ℤ) (w : PoolMap) (t : ℕ) → N ls regs

@@ -17,7 +17,8 @@ use Rattle.ir.specs.declared.function.IrFunction.{IrFunction}
 use Rattle.ir.specs.declared.function.Ir.{Ir}
 use Rattle.ir.specs.WellFormed.{TakesArgs}
 use Rattle.code_meaning.specs.Code.{CodeState, Here, Move, register_at, put_register, gives, opens}
-use Rattle.code_meaning.specs.Code.{is_zero, open_limit}
+use Rattle.pool_map.specs.Checks.{is_zero}
+use Rattle.code_meaning.specs.Code.{open_limit}
 use Rattle.code_meaning.specs.Code as code
 use Rattle.pm_machine.specs.declared.effect.Effect.TheVariants.{Quiet}
 use Rattle.pm_machine.specs.declared.effect.End.TheVariants.{Halted, Trapped}

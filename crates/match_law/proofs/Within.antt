@@ -16,7 +16,8 @@ use Rattle.ir.specs.WellFormed.{TakesArgs}
 use Rattle.code_meaning.specs.Code.{CodeState, Here, Move, Goes, Ends, Frame, frame, CodeEnd, Ended}
 use Rattle.code_meaning.specs.Code.{Trapped, Unfinished, Stuck, register_at, word_of, with_word}
 use Rattle.code_meaning.specs.Code.{with_ok, takes_tick, spot_of, base_in, index_in, free_in}
-use Rattle.code_meaning.specs.Code.{is_zero, gives, opens, open_limit, act, instruction_step, go_on}
+use Rattle.pool_map.specs.Checks.{is_zero}
+use Rattle.code_meaning.specs.Code.{gives, opens, open_limit, act, instruction_step, go_on}
 use Rattle.code_meaning.specs.Code.{exec}
 use Rattle.code_meaning.proofs.Lists.{all_at}
 

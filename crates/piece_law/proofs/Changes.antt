@@ -20,7 +20,8 @@ use Rattle.pool_map.specs.PoolMap.{field_of, with_field, HasField, write, read_r
 use Rattle.pool_map.proofs.Points.{object_at-with_object_same, object_at-with_object_other}
 use Rattle.pool_map.proofs.Points.{IsSlot-HasField, read_root-write_root_same}
 use Rattle.pool_map.proofs.Points.{read_root-write_root_other}
-use Rattle.code_meaning.specs.Code.{Spot, InRoot, InSlot, load_spot, store_spot, has_word}
+use Rattle.pool_map.specs.Checks.{has_word}
+use Rattle.code_meaning.specs.Code.{Spot, InRoot, InSlot, load_spot, store_spot}
 use Rattle.pm_machine.specs.declared.effect.Effect.{Effect}
 use Rattle.pm_machine.specs.Effects.{heap_end}
 use Rattle.piece_law.specs.Stands.{Stands, HasWord, heap_word, header_word, header_of}

@@ -18,7 +18,8 @@ use Rattle.pool_map.specs.declared.trap.TrapKind.TheVariants as trap
 use Rattle.pool_map.specs.Trap.{trap_number}
 use Rattle.pool_map.specs.PoolMap.{PoolMap, object_at}
 use Rattle.ir.specs.declared.site.Site.{Site}
-use Rattle.code_meaning.specs.Code.{slot_of, is_kind, element_in}
+use Rattle.pool_map.specs.Checks.{element_in}
+use Rattle.code_meaning.specs.Code.{slot_of, is_kind}
 use Rattle.pm_machine.specs.declared.effect.Effect.{Effect}
 use Rattle.pm_machine.specs.declared.effect.Effect.TheVariants.{Loads}
 use Rattle.pm_alloc.specs.declared.local.Local.{Local}

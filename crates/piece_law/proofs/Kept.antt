@@ -20,9 +20,10 @@ use Rattle.ir.specs.declared.instruction.Instruction.TheVariants as ir
 use Rattle.ir.specs.WellFormed.{IsKind}
 use Rattle.code_meaning.specs.Code.{Frame, frame, Here, Move, Goes, Ends, Trapped, Spot, InRoot}
 use Rattle.code_meaning.specs.Code.{InSlot, register_at, put_register, load_spot, store_spot}
-use Rattle.code_meaning.specs.Code.{has_word, spot_of, slot_of, base_in, index_in, with_ok}
-use Rattle.code_meaning.specs.Code.{with_word, word_of, takes_tick, then_on, new_at, fields_of}
-use Rattle.code_meaning.specs.Code.{gives, opens, is_zero}
+use Rattle.pool_map.specs.Checks.{has_word, then_on, new_at, is_zero}
+use Rattle.code_meaning.specs.Code.{spot_of, slot_of, base_in, index_in, with_ok}
+use Rattle.code_meaning.specs.Code.{with_word, word_of, takes_tick, fields_of}
+use Rattle.code_meaning.specs.Code.{gives, opens}
 use Rattle.piece_law.specs.Pools.{FitsMove, FitsLaw}
 use Rattle.piece_law.proofs.Changes.{object_fits, length_replicate}
 

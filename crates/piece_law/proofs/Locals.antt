@@ -26,6 +26,7 @@ use Rattle.ir.specs.declared.site.Site.{Site}
 use Rattle.code_meaning.specs.Code.{Frame, Move, Ends, Trapped, Spot, register_at, put_register}
 use Rattle.code_meaning.specs.Code.{load_spot, store_spot, spot_of, slot_of, base_in, index_in}
 use Rattle.code_meaning.specs.Code.{with_ok, with_word, word_of, takes_tick, free_in}
+use Rattle.pool_map.specs.Checks.{is_zero}
 use Rattle.code_meaning.specs.Code as code
 use Rattle.code_meaning.specs.Deeds.{Deed}
 use Rattle.pm_alloc.specs.declared.local.Reg.TheVariants.{Own}
@@ -70,7 +71,7 @@ written_is regs n v r = ⊎_elim
     (cases_eq r n)
 
 -- a divisor that is a word is 0 exactly if its unsigned number is
-divisor : (z : ℤ) → IsWord z → (unsigned z == 0) ≡ code.is_zero z
+divisor : (z : ℤ) → IsWord z → (unsigned z == 0) ≡ is_zero z
 divisor (pos zero) word = refl
 divisor (pos (suc n)) word = ne_eqb (suc n) 0 (λ e. absurd (omega arith))
 divisor (negsuc n) word = ne_eqb (2 ^ 64 - suc n) 0 (λ e. absurd (omega (arith, ints, word.0)))
@@ -186,7 +187,7 @@ module _ (s : Sizes) (logged : Site → Bool) (shapes : Shapes) (f p : ℕ) (reg
           ∙ written_is regs to q r))
 
       by_divisor : (z : ℤ) → register_at regs b ≡ z → (unsigned (register_at regs b) == 0)
-          ≡ code.is_zero z → Done division []
+          ≡ is_zero z → Done division []
           (with_word (if unsigned (register_at regs b) == 0 then None else Some q)
           (λ z. on_to (put_register regs to z) w))
       by_divisor (pos zero) e test =

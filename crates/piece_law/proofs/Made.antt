@@ -17,7 +17,8 @@ use Rattle.pool_map.specs.PoolMap.{PoolMap, least_free, new}
 use Rattle.pool_map.proofs.Least.{least_free-some}
 use Rattle.ir.specs.declared.site.Site.{Site}
 use Rattle.ir.specs.WellFormed.{IsKind}
-use Rattle.code_meaning.specs.Code.{Frame, Move, register_at, put_register, new_at, new_in}
+use Rattle.pool_map.specs.Checks.{new_at}
+use Rattle.code_meaning.specs.Code.{Frame, Move, register_at, put_register, new_in}
 use Rattle.code_meaning.specs.Code.{fields_of}
 use Rattle.code_meaning.specs.Code as code
 use Rattle.code_meaning.specs.Deeds.{Deed, Heads, zeros, deeds_new, site}

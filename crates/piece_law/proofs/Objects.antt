@@ -16,7 +16,8 @@ use Rattle.ir.specs.declared.instruction.Target.{Target}
 use Rattle.ir.specs.WellFormed.{IsTarget}
 use Rattle.code_meaning.specs.Code.{Frame, Move, Ends, Trapped, Spot, register_at, put_register}
 use Rattle.code_meaning.specs.Code.{load_spot, store_spot, spot_of, slot_of, base_in, index_in}
-use Rattle.code_meaning.specs.Code.{with_ok, with_word, word_of, takes_tick, then_on, free_in}
+use Rattle.pool_map.specs.Checks.{then_on}
+use Rattle.code_meaning.specs.Code.{with_ok, with_word, word_of, takes_tick, free_in}
 use Rattle.code_meaning.specs.Code as code
 use Rattle.code_meaning.specs.Deeds.{Deed, Reads, Writes, Heads, site, if_ok}
 use Rattle.pm_machine.specs.declared.effect.Effect.{Effect}

@@ -18,7 +18,8 @@ use Rattle.ir.specs.declared.site.Site.{Site}
 use Rattle.ir.specs.declared.instruction.Target.{Target}
 use Rattle.ir.specs.declared.instruction.Target.TheVariants.{Root, Field}
 use Rattle.ir.specs.WellFormed.{IsIndexed, IsTarget, struct_of}
-use Rattle.code_meaning.specs.Code.{Spot, InRoot, InSlot, register_at, then_on, slot_of, element_in}
+use Rattle.pool_map.specs.Checks.{then_on, element_in}
+use Rattle.code_meaning.specs.Code.{Spot, InRoot, InSlot, register_at, slot_of}
 use Rattle.code_meaning.specs.Code.{words_before, word_in_shape, spot_of, base_in, index_in}
 use Rattle.pm_machine.specs.declared.effect.Effect.{Effect}
 use Rattle.pm_alloc.specs.declared.local.Reg.TheVariants.{Temp}

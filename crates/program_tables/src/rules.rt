@@ -7,8 +7,11 @@ use std::alloc::{AllocError, Global};
 use std::test::Fail;
 
 /// Three structs and a root, on lines 1 to 4.
-const TOP: &str =
-    "struct N { int64_t v; struct N *next; int64_t t[3]; };\nstruct M { int64_t w; };\nstruct R { int64_t n; struct N *p; struct M *q; int64_t a[4]; struct N *h[2]; };\npersistent struct R root;\n";
+const TOP: &str = concat!(
+    "struct N { int64_t v; struct N *next; int64_t t[3]; };\nstruct M { int64_t w; };\n",
+    "struct R { int64_t n; struct N *p; struct M *q; int64_t a[4]; struct N *h[2]; };\n",
+    "persistent struct R root;\n",
+);
 
 /// The first refusal of a text by the lexer, the parser or the rules, or `ok`.
 fn answer(alloc: Global, text: &str) -> Result<String, AllocError> {
@@ -207,8 +210,12 @@ fn counts(rt: HostRuntime) -> Result<(), Fail> {
 
 #[test]
 fn told_of_a_program(rt: HostRuntime) -> Result<(), Fail> {
-    let text =
-        "struct R { int64_t n; int64_t a[16]; };\nstruct N { struct N *p; int64_t t[2]; };\npersistent struct R root;\nint64_t g() { return 0; }\ntx int64_t inc(int64_t d, int64_t e) { return d; }\ntx int64_t top() { return g(); }\n";
+    let text = concat!(
+        "struct R { int64_t n; int64_t a[16]; };\nstruct N { struct N *p; int64_t t[2]; };\n",
+        "persistent struct R root;\nint64_t g() { return 0; }\n",
+        "tx int64_t inc(int64_t d, int64_t e) { return d; }\n",
+        "tx int64_t top() { return g(); }\n",
+    );
     let list = tokens(rt.alloc(), text.as_bytes())?;
     let ast = parse(rt.alloc(), &list)?;
     let typed = check(rt.alloc(), ast)?;
@@ -241,7 +248,10 @@ const PLACES: [(&str, &str); 10] = [
         "UnknownName(3) token 19 byte 72",
     ),
     (
-        "struct R { int64_t n; };\npersistent struct R root;\nint64_t f() {\n  /* a */ return root.z; }",
+        concat!(
+            "struct R { int64_t n; };\npersistent struct R root;\nint64_t f() {\n",
+            "  /* a */ return root.z; }",
+        ),
         "UnknownName(4) token 21 byte 87",
     ),
     (
@@ -281,7 +291,10 @@ const MARKED: [(&str, &str); 6] = [
     ("tx int64_t a() { return 0; }", "no "),
     ("tx abort int64_t a() { return 0; }", "yes "),
     (
-        "tx int64_t a() { return 0; }\nint64_t b() { return 0; }\ntx abort int64_t c() { return 0; }",
+        concat!(
+            "tx int64_t a() { return 0; }\nint64_t b() { return 0; }\n",
+            "tx abort int64_t c() { return 0; }",
+        ),
         "no yes ",
     ),
     (
@@ -663,11 +676,17 @@ const MISMATCHES: [(&str, &str); 111] = [
         "Mismatch(7)",
     ),
     (
-        "int64_t g(int64_t a, struct N *p) { return a; }\nint64_t f() { return g(\n(NULL), NULL); }",
+        concat!(
+            "int64_t g(int64_t a, struct N *p) { return a; }\nint64_t f() { return g(\n",
+            "(NULL), NULL); }",
+        ),
         "Mismatch(7)",
     ),
     (
-        "int64_t g(int64_t a, struct N *p) { return a; }\nint64_t f() { return g(\n((root.p)), NULL); }",
+        concat!(
+            "int64_t g(int64_t a, struct N *p) { return a; }\nint64_t f() { return g(\n",
+            "((root.p)), NULL); }",
+        ),
         "Mismatch(7)",
     ),
     (
@@ -746,11 +765,17 @@ const MISMATCHES: [(&str, &str); 111] = [
         "Mismatch(7)",
     ),
     (
-        "int64_t g(struct N *p, struct M *q) { return 0; }\nint64_t f() { return g(\nroot.q, NULL); }",
+        concat!(
+            "int64_t g(struct N *p, struct M *q) { return 0; }\nint64_t f() { return g(\n",
+            "root.q, NULL); }",
+        ),
         "Mismatch(7)",
     ),
     (
-        "int64_t g(struct N *p, struct M *q) { return 0; }\nint64_t f() { return g(NULL,\nroot.p); }",
+        concat!(
+            "int64_t g(struct N *p, struct M *q) { return 0; }\nint64_t f() { return g(NULL,\n",
+            "root.p); }",
+        ),
         "Mismatch(7)",
     ),
     (
@@ -974,8 +999,14 @@ const KEPT: [&str; 75] = [
     "int64_t f(int64_t a) { return a & 2; }",
     "int64_t f(int64_t a) { return a ^ 2; }",
     "int64_t f(int64_t a) { return a | 2; }",
-    "int64_t f(struct N *p, struct N *q) { return (p == q) + (p == NULL) + (NULL == q) + (NULL == NULL) + (1 == 2); }",
-    "int64_t f(struct N *p, struct N *q) { return (p != q) + (p != NULL) + (NULL != q) + (NULL != NULL) + (1 != 2); }",
+    concat!(
+        "int64_t f(struct N *p, struct N *q) { return (p == q) + (p == NULL) + (NULL == q) + ",
+        "(NULL == NULL) + (1 == 2); }",
+    ),
+    concat!(
+        "int64_t f(struct N *p, struct N *q) { return (p != q) + (p != NULL) + (NULL != q) + ",
+        "(NULL != NULL) + (1 != 2); }",
+    ),
     "int64_t f(int64_t a) { return -a; }",
     "int64_t f(int64_t a) { return ~a; }",
     "int64_t f(struct N *p) { return !p + !NULL + !1 + (p && 1) + (NULL || p); }",
@@ -985,19 +1016,34 @@ const KEPT: [&str; 75] = [
     "void g() { }\nint64_t f() { g(); return 0; }",
     "int64_t g() { return 1; }\nint64_t f() { g(); return 0; }",
     "void g() { g(); return; }",
-    "int64_t f(int64_t x, struct N *p) { p = NULL; p = pm_new(struct N); root.h[1] = p; p->next = p->next->next; x = p->v; p->t[0] = x; return 0; }",
+    concat!(
+        "int64_t f(int64_t x, struct N *p) { p = NULL; p = pm_new(struct N); root.h[1] = p; ",
+        "p->next = p->next->next; x = p->v; p->t[0] = x; return 0; }",
+    ),
     "int64_t f() { struct N *p = NULL; struct N *q = p; int64_t x = 1; return 0; }",
-    "int64_t f(int64_t x, struct N *p) { x += 1; root.n += x; root.a[x] += 2; p->v += 3; return 0; }",
-    "int64_t f(int64_t x, struct N *p) { x -= 1; root.n -= x; root.a[x] -= 2; p->v -= 3; return 0; }",
+    concat!(
+        "int64_t f(int64_t x, struct N *p) { x += 1; root.n += x; root.a[x] += 2; p->v += 3; ",
+        "return 0; }",
+    ),
+    concat!(
+        "int64_t f(int64_t x, struct N *p) { x -= 1; root.n -= x; root.a[x] -= 2; p->v -= 3; ",
+        "return 0; }",
+    ),
     "int64_t f(int64_t x, struct N *p) { x++; root.n++; root.a[x]++; p->v++; return 0; }",
     "int64_t f(int64_t x, struct N *p) { x--; root.n--; root.a[x]--; p->v--; return 0; }",
-    "int64_t g(int64_t a, struct N *p) { return a; }\nint64_t f() { return g(1, NULL) + g(root.n, root.p) + g((1), (NULL)); }",
+    concat!(
+        "int64_t g(int64_t a, struct N *p) { return a; }\n",
+        "int64_t f() { return g(1, NULL) + g(root.n, root.p) + g((1), (NULL)); }",
+    ),
     "struct N *f() { return NULL; }",
     "struct N *f() { return root.p; }",
     "void f() { return; }",
     "int64_t f() { }",
     "int64_t f() { pm_free(root.p); pm_free(root.h[0]); abort(); return 0; }",
-    "int64_t f(int64_t x, struct N *p) { (x) = 1; (root.n) = 2; (p->v) = 3; ((root.a)[0]) = 4; (x)++; return 0; }",
+    concat!(
+        "int64_t f(int64_t x, struct N *p) { (x) = 1; (root.n) = 2; (p->v) = 3; ",
+        "((root.a)[0]) = 4; (x)++; return 0; }",
+    ),
     "struct Q { int64_t a[15]; };",
     "struct Q { int64_t a[14]; struct N *b; };",
     "struct Q { int64_t a[1]; };",
@@ -1008,11 +1054,28 @@ const KEPT: [&str; 75] = [
     "int64_t f(int64_t x) { while (1) struct N *x = NULL; return x; }",
     "int64_t f(int64_t x) { for (struct N *x = NULL; x; x = x->next) { x->v = 1; } return x; }",
     "int64_t f(int64_t i) { for (int64_t i = 0; i < 3; i++) int64_t j = i; return i; }",
-    "int64_t f(struct N *p, struct M *q) { p = NULL; q = NULL; return (p == NULL) + (NULL != q) + (p != NULL) + (NULL == q); }",
-    "int64_t g(struct N *p, struct M *q) { return 0; }\nint64_t f() { return g(NULL, NULL) + g(root.p, root.q) + g(pm_new(struct N), pm_new(struct M)); }",
-    "struct N *h(int64_t a) { return root.p; }\nint64_t f() { pm_free(h(1)); root.p = h(2); return h(3)->v + h(4)->next->t[h(5) == NULL]; }",
-    "int64_t f() { return root.n; }\nvoid g() { f(); g(); h(1); }\nvoid h(int64_t a) { f(); if (a) g(); else h(a - 1); }",
-    "tx int64_t root_n() { return root.n; }\ntx int64_t f(int64_t x) { int64_t y = x; { int64_t x = y; y = x; } return y; }",
+    concat!(
+        "int64_t f(struct N *p, struct M *q) { p = NULL; q = NULL; ",
+        "return (p == NULL) + (NULL != q) + (p != NULL) + (NULL == q); }",
+    ),
+    concat!(
+        "int64_t g(struct N *p, struct M *q) { return 0; }\n",
+        "int64_t f() { return g(NULL, NULL) + g(root.p, root.q) + g(pm_new(struct N), ",
+        "pm_new(struct M)); }",
+    ),
+    concat!(
+        "struct N *h(int64_t a) { return root.p; }\n",
+        "int64_t f() { pm_free(h(1)); root.p = h(2); return h(3)->v + h(4)->next->t[h(5) == ",
+        "NULL]; }",
+    ),
+    concat!(
+        "int64_t f() { return root.n; }\nvoid g() { f(); g(); h(1); }\n",
+        "void h(int64_t a) { f(); if (a) g(); else h(a - 1); }",
+    ),
+    concat!(
+        "tx int64_t root_n() { return root.n; }\n",
+        "tx int64_t f(int64_t x) { int64_t y = x; { int64_t x = y; y = x; } return y; }",
+    ),
     "int64_t f() { int64_t n = root.n; int64_t v = root.p->v; return n + v; }",
     "int64_t f(int64_t R, int64_t N) { struct N *p = pm_new(struct N); p->v = N; return R; }",
     "int64_t f() { while (1) { int64_t x = 1; if (x) break; continue; } return 0; }",
@@ -1065,31 +1128,52 @@ const PROGRAMS: [(&str, &str); 40] = [
         "TooBig(2, Pointer, 512)",
     ),
     (
-        "struct R { int64_t a[16]; };\npersistent struct R root;\nint64_t f(struct\nR *p) { return 0; }",
+        concat!(
+            "struct R { int64_t a[16]; };\npersistent struct R root;\nint64_t f(struct\n",
+            "R *p) { return 0; }",
+        ),
         "TooBig(4, Pointer, 16)",
     ),
     (
-        "struct R { int64_t a[16]; };\npersistent struct R root;\nint64_t f() { return NULL == pm_new(struct\nR); }",
+        concat!(
+            "struct R { int64_t a[16]; };\npersistent struct R root;\n",
+            "int64_t f() { return NULL == pm_new(struct\nR); }",
+        ),
         "TooBig(4, Pointer, 16)",
     ),
     (
-        "int64_t f() { return 1\n+ g(); }\nstruct\nR *g() { return NULL; }\nstruct R { int64_t a[16]; };\npersistent struct R root;",
+        concat!(
+            "int64_t f() { return 1\n+ g(); }\nstruct\nR *g() { return NULL; }\n",
+            "struct R { int64_t a[16]; };\npersistent struct R root;",
+        ),
         "TooBig(4, Pointer, 16)",
     ),
     (
-        "int64_t f() { return root.b + root.b[1]; }\nstruct R { int64_t b[\n0]; };\npersistent struct R root;",
+        concat!(
+            "int64_t f() { return root.b + root.b[1]; }\nstruct R { int64_t b[\n0]; };\n",
+            "persistent struct R root;",
+        ),
         "TooBig(3, Array, 0)",
     ),
     (
-        "struct Q { int64_t a[14]; int64_t b[\n0]; int64_t c[\n600]; };\nstruct R { int64_t n; };\npersistent struct R root;",
+        concat!(
+            "struct Q { int64_t a[14]; int64_t b[\n0]; int64_t c[\n600]; };\n",
+            "struct R { int64_t n; };\npersistent struct R root;",
+        ),
         "TooBig(1, Struct, 16)",
     ),
     (
-        "struct Q { int64_t a[13]; int64_t b[\n0]; int64_t c[\n600]; };\nstruct R { int64_t n; };\npersistent struct R root;",
+        concat!(
+            "struct Q { int64_t a[13]; int64_t b[\n0]; int64_t c[\n600]; };\n",
+            "struct R { int64_t n; };\npersistent struct R root;",
+        ),
         "TooBig(2, Array, 0)",
     ),
     (
-        "int64_t f() { return root.u + root.u[0] + root.u->z; }\nstruct R { struct\nZ *u; };\npersistent struct R root;",
+        concat!(
+            "int64_t f() { return root.u + root.u[0] + root.u->z; }\nstruct R { struct\n",
+            "Z *u; };\npersistent struct R root;",
+        ),
         "UnknownName(3)",
     ),
     ("struct R { int64_t n; };\npersistent struct R root;", "ok"),
@@ -1098,11 +1182,18 @@ const PROGRAMS: [(&str, &str); 40] = [
         "ok",
     ),
     (
-        "struct R { int64_t a[15]; };\npersistent struct R root;\nint64_t f(struct R *p) { return p == pm_new(struct R); }",
+        concat!(
+            "struct R { int64_t a[15]; };\npersistent struct R root;\n",
+            "int64_t f(struct R *p) { return p == pm_new(struct R); }",
+        ),
         "ok",
     ),
     (
-        "struct R { int64_t n; };\npersistent struct R root;\ntx int64_t go(int64_t k) { root.n = root.n + sum(k); return root.n; }\nint64_t sum(int64_t k) { if (k == 0) { return 0; } return k + sum(k - 1); }\n",
+        concat!(
+            "struct R { int64_t n; };\npersistent struct R root;\n",
+            "tx int64_t go(int64_t k) { root.n = root.n + sum(k); return root.n; }\n",
+            "int64_t sum(int64_t k) { if (k == 0) { return 0; } return k + sum(k - 1); }\n",
+        ),
         "ok",
     ),
     (
@@ -1118,7 +1209,10 @@ const PROGRAMS: [(&str, &str); 40] = [
         "ok",
     ),
     (
-        "struct R { int64_t a[512]; int64_t b; };\nstruct R { int64_t c; };\npersistent struct R root;",
+        concat!(
+            "struct R { int64_t a[512]; int64_t b; };\nstruct R { int64_t c; };\n",
+            "persistent struct R root;",
+        ),
         "TooBig(1, Root, 513)",
     ),
     (
@@ -1126,15 +1220,24 @@ const PROGRAMS: [(&str, &str); 40] = [
         "TooBig(4, Pointer, 16)",
     ),
     (
-        "struct R { int64_t a[16]; };\npersistent struct R root;\nint64_t f() { struct\nR *r; return r + 1; }",
+        concat!(
+            "struct R { int64_t a[16]; };\npersistent struct R root;\nint64_t f() { struct\n",
+            "R *r; return r + 1; }",
+        ),
         "TooBig(4, Pointer, 16)",
     ),
     (
-        "struct R { int64_t a[16]; };\npersistent struct R root;\nint64_t f() { return root.a[15]; }",
+        concat!(
+            "struct R { int64_t a[16]; };\npersistent struct R root;\n",
+            "int64_t f() { return root.a[15]; }",
+        ),
         "ok",
     ),
     (
-        "struct Q { struct\nB *b; };\nstruct B { int64_t a[16]; };\nstruct R { int64_t n; };\npersistent struct R root;",
+        concat!(
+            "struct Q { struct\nB *b; };\nstruct B { int64_t a[16]; };\n",
+            "struct R { int64_t n; };\npersistent struct R root;",
+        ),
         "TooBig(2, Pointer, 16)",
     ),
     (
@@ -1142,7 +1245,10 @@ const PROGRAMS: [(&str, &str); 40] = [
         "UnknownName(2)",
     ),
     (
-        "int64_t f(int64_t x) { return x +\nroot.n; }\npersistent struct R root;\nstruct R { int64_t n; };",
+        concat!(
+            "int64_t f(int64_t x) { return x +\nroot.n; }\npersistent struct R root;\n",
+            "struct R { int64_t n; };",
+        ),
         "ok",
     ),
     (
@@ -1152,7 +1258,10 @@ const PROGRAMS: [(&str, &str); 40] = [
     ("tx int64_t f() { return\nf(); }", "BadTx(2)"),
     ("tx void\nf() { }\n", "BadTx(2)"),
     (
-        "struct R { int64_t n; };\npersistent struct R root;\ntx int64_t a() { g()[0] = 1; return 0; }\nstruct Nope *g() { return NULL; }\n",
+        concat!(
+            "struct R { int64_t n; };\npersistent struct R root;\n",
+            "tx int64_t a() { g()[0] = 1; return 0; }\nstruct Nope *g() { return NULL; }\n",
+        ),
         "NotAssignable(3)",
     ),
     (
@@ -1176,11 +1285,17 @@ const TEXTS: [(&str, &str); 10] = [
         "ok",
     ),
     (
-        "struct R { int64_t n; };\npersistent struct R root;\ntx int64_t inc(int64_t d) { root.n = root.n + d; return root.n;",
+        concat!(
+            "struct R { int64_t n; };\npersistent struct R root;\n",
+            "tx int64_t inc(int64_t d) { root.n = root.n + d; return root.n;",
+        ),
         "Syntax(36)",
     ),
     (
-        "struct R { int64_t n; };\npersistent struct R root;\ntx int64_t inc(int64_t d) { root.n = root.n + d; return root.n; }\n",
+        concat!(
+            "struct R { int64_t n; };\npersistent struct R root;\n",
+            "tx int64_t inc(int64_t d) { root.n = root.n + d; return root.n; }\n",
+        ),
         "ok",
     ),
     (

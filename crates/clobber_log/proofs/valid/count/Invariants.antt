@@ -1,13 +1,13 @@
-use Rattle.std.proofs.Common.{◌≡◌, ◌≤◌, ℕ}
+use Rattle.std.proofs.Common.{◌≡◌, ℕ}
 use Rattle.cache_model.specs.Cache.{view}
 use Rattle.pool_layout.specs.Places.{at, pool_of}
-use Rattle.pool_layout.specs.Log.{valid}
+use Rattle.pool_layout.specs.Log.{leading}
 use Rattle.pool_layout.specs.declared.places.Place.TheVariants.{RecordStamp}
 use Rattle.clobber_log.proofs.valid.count.Given as goal
 
 abbrev pub invariant-loop-i : goal.invariant-loop-i
 invariant-loop-i g l = record {
-  counted : l.found ≡ valid (λ (j : ℕ).
-      view (g.P.PmemWork.device l.dev).cache (at (pool_of l.sizes) (RecordStamp j))) l.attempt l.i;
-  few : l.found ≤ l.i;
+  counted : leading (λ (j : ℕ).
+      view (g.P.PmemWork.device l.dev).cache (at (pool_of l.sizes) (RecordStamp j))) l.attempt l.i
+      ≡ l.i;
 }
