@@ -1,6 +1,7 @@
 -- The parts of a call and of a recovery, one after the other.
-use Rattle.std.proofs.Common.{◌≡◌, ℕ, zero, suc, ◌+◌, ◌≤◌, cond, Bool, true, false, List, []}
-use Rattle.std.proofs.Common.{ℤ, pos, take, w64, inl, inr, refl, sym, ap, ◌∙◌, subst, arith, int_eq}
+use Rattle.std.proofs.Common.{◌≡◌, ℕ, zero, suc, ◌+◌, ◌≤◌, ◌==◌, ◌&&◌, Bool, true, false, List, []}
+use Rattle.std.proofs.Common.{if◌then◌else◌, ℤ, pos, take, w64, inl, inr, refl, sym, ap, ◌∙◌, subst}
+use Rattle.std.proofs.Common.{arith, int_eq}
 use Rattle.std.specs.Int.{cast_signed}
 use Rattle.cache_model.specs.Cache.{Cache, Words, view}
 use Rattle.cache_model.specs.Event.{CacheEvent}
@@ -53,7 +54,7 @@ use Rattle.abort_mode.specs.Answers.{after_back, abort_redo_steps, HasAbortRedon
 leading_few : (stamps : ℕ → ℤ) (a n : ℕ) → leading stamps a n ≤ n
 leading_few stamps a zero = omega arith
 leading_few stamps a (suc n) =
-    one (nat_eq (leading stamps a n) n && int_eq (stamps n) (pos (suc a)))
+    one ((leading stamps a n == n) && int_eq (stamps n) (pos (suc a)))
     (leading stamps a n) (leading_few stamps a n)
   where
     one : (b : Bool) (m : ℕ) → m ≤ n → (if b then suc n else m) ≤ suc n

@@ -3,8 +3,8 @@
 ghost use Rattle.std.specs.Prelude.{◌≡◌, ◌+◌, ◌*◌, ◌≤◌, true, length};
 ghost use Rattle.cache_model.specs.Cache.{view};
 ghost use Rattle.pool_layout.specs.Sizes.{pool_lines};
+ghost use Rattle.pool_layout.specs.Image.{is_sealed};
 ghost use Rattle.clobber_log.specs.Logs.{count_in};
-ghost use Rattle.args_log.specs.Pending.{is_sealed};
 ghost use Rattle.abort_mode.specs.Answers.{abort_redo_steps, AbortRedid, IsAbortRedone};
 
 use crate::answer::AbortAnswer;

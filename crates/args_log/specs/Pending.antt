@@ -1,12 +1,6 @@
--- The call that a pool's record holds. The record is sealed if its seal is the number of finished
--- calls plus one, as whole numbers.
-use Rattle.std.specs.Prelude.{ℕ, ◌+◌, ◌<◌, ◌≡◌, Bool, List, slice_index_or, ℤ, pos, negsuc, ◌+ℤ◌}
-use Rattle.std.specs.Ordering.{int_eq}
+-- The call that a pool's record holds.
+use Rattle.std.specs.Prelude.{ℕ, ◌+◌, ◌<◌, ◌≡◌, List, slice_index_or, ℤ, pos, negsuc}
 use Rattle.cache_model.specs.Cache.{Words}
-use Rattle.pool_layout.specs.declared.places.TheConstants.{DONE, SEAL}
-
-abbrev pub is_sealed : Words → Bool
-is_sealed image = int_eq (image SEAL) (image DONE +ℤ pos 1)
 
 -- a word as a transaction's number; a word below 0 counts as 0, which no transaction has
 abbrev pub tx_number : ℤ → ℕ

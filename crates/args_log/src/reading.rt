@@ -3,7 +3,8 @@
 ghost use Rattle.std.specs.Prelude.{◌≡◌, ◌≤◌, ◌<◌, ◌+ℤ◌, pos, true, false, IfSome, IsSome, IsNone};
 ghost use Rattle.std.specs.Ordering.{int_eq};
 ghost use Rattle.cache_model.specs.Cache.{view};
-ghost use Rattle.args_log.specs.Pending.{tx_number, HoldsArguments, is_sealed};
+ghost use Rattle.pool_layout.specs.Image.{is_sealed};
+ghost use Rattle.args_log.specs.Pending.{tx_number, HoldsArguments};
 ghost use Rattle.args_log.specs.Reading.{Reads};
 
 use pmem::PmemWork;

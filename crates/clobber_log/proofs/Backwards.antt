@@ -5,9 +5,9 @@ use Rattle.std.proofs.Common.{pos, negsuc, refl, sym, ap, ◌∙◌, subst, arit
 use Rattle.std.proofs.lemmas.Bool.{cases_eq, ltb-false}
 use Rattle.std.proofs.lemmas.Bool.Decides.{Decides-int_eq}
 use Rattle.cache_model.specs.Event.{Store}
-use Rattle.cache_model.specs.Cache.{view}
 use Rattle.cache_model.specs.Play.{apply}
 use Rattle.cache_model.proofs.Views.{view_same, view_other, view_flush}
+use Rattle.cache_model.specs.Cache.{view, Words}
 use Rattle.pmem.specs.Device.{Device}
 use Rattle.pmem.specs.Played.{PlaysAll, PlaysPart}
 use Rattle.pmem.specs.declared.answer.Refusal.{Refusal}
@@ -19,7 +19,6 @@ use Rattle.pool_layout.specs.declared.limits.Sizes.{Sizes}
 use Rattle.pool_layout.specs.declared.places.Place.TheVariants.{Heap}
 use Rattle.pool_layout.specs.Sizes.{heap_start, heap_words}
 use Rattle.pool_layout.specs.Places.{at, pool_of, line_of}
-use Rattle.pool_layout.specs.Image.{Words}
 use Rattle.pool_layout.specs.Restored.{undo, undone, restored}
 use Rattle.clobber_log.specs.Logs.{attempt_in, count_in}
 use Rattle.clobber_log.specs.Restore.{as_heap_word, back_at, back_events, word_in_record}

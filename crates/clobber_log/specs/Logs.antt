@@ -2,10 +2,10 @@
 -- is well made: the attempt is a number from 0 to 2^62, each stamp is from 0 to one more than the
 -- attempt, and the valid records, whose stamp is one more than the attempt, come first.
 use Rattle.std.specs.Prelude.{ℕ, ◌-◌, ◌^◌, if◌then◌else◌, nat_lt, ℤ, pos, negsuc}
+use Rattle.cache_model.specs.Cache.{Words}
 use Rattle.pool_layout.specs.declared.limits.Sizes.{Sizes}
 use Rattle.pool_layout.specs.declared.places.Place.TheVariants.{Attempt}
 use Rattle.pool_layout.specs.Places.{at, pool_of}
-use Rattle.pool_layout.specs.Image.{Words}
 use Rattle.pool_layout.specs.Log.{count}
 
 -- A word as an attempt. A stamp is one more than the attempt and must fit a word, so a word that is

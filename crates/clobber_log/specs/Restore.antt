@@ -4,11 +4,11 @@
 use Rattle.std.specs.Prelude.{ℕ, zero, suc, if◌then◌else◌, nat_lt, Option, Some, None, List, []}
 use Rattle.std.specs.Prelude.{◌∷◌, ◌++◌, ℤ, pos, negsuc}
 use Rattle.cache_model.specs.Event.{CacheEvent, Store, Flush, Fence}
+use Rattle.cache_model.specs.Cache.{Words}
 use Rattle.pool_layout.specs.declared.limits.Sizes.{Sizes}
 use Rattle.pool_layout.specs.declared.places.Place.TheVariants.{RecordWord, RecordOld, Heap}
 use Rattle.pool_layout.specs.Sizes.{heap_words}
 use Rattle.pool_layout.specs.Places.{at, line_of, pool_of}
-use Rattle.pool_layout.specs.Image.{Words}
 use Rattle.clobber_log.specs.Logs.{count_in}
 
 -- the heap word that a word names, if it names one

@@ -4,9 +4,10 @@ use Rattle.std.proofs.Common.{is_some, inl, inr, length, append-nil, refl, sym, 
 use Rattle.std.specs.List.{AllByRecursion}
 use Rattle.std.specs.Io.KnownBytes.{Appends, Keeps}
 use Rattle.nvm_base.proofs.Pieces.{appends_more}
+use Rattle.cache_model.specs.Cache.{Words}
 use Rattle.pmem.specs.Device.{Device}
 use Rattle.pool_layout.specs.declared.limits.Sizes.{Sizes}
-use Rattle.pool_layout.specs.Image.{Words, image_words}
+use Rattle.pool_layout.specs.Image.{image_words}
 use Rattle.pool_layout.specs.Opened.{IsOpened}
 use Rattle.c_types.specs.Shapes.{shapes_of, transactions_of}
 use Rattle.cnvm_script.specs.declared.command.Command.{Command}

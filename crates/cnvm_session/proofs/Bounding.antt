@@ -7,13 +7,13 @@ use Rattle.cache_model.specs.Cache.{view}
 use Rattle.cache_model.specs.Collapse.{bad}
 use Rattle.cache_model.specs.declared.choice.Choice.{Choice}
 use Rattle.pmem.specs.Device.{Device, memory_of, powered}
-use Rattle.args_log.specs.Pending.{is_sealed}
 use Rattle.pm_machine.specs.declared.image.Image.{Image}
 use Rattle.recovery.specs.Recovered.{tx_in}
 use Rattle.cnvm_script.specs.declared.command.Command.{Command}
 use Rattle.cnvm_script.specs.declared.command.Command.TheVariants as command
 use Rattle.c_types.specs.Shapes.{shapes_of, transactions_of}
 use Rattle.pool_layout.specs.declared.limits.Sizes.{Sizes}
+use Rattle.pool_layout.specs.Image.{is_sealed}
 use Rattle.pool_map.specs.declared.shapes.Shapes.{Shapes}
 use Rattle.cnvm_session.specs.declared.mode.Mode.{Mode}
 use Rattle.cnvm_session.specs.declared.mode.Mode.TheVariants.{Ready, Down, Unusable}

@@ -6,8 +6,8 @@ use Rattle.cache_model.specs.Cache.{view}
 use Rattle.pmem.specs.Device.{Device}
 use Rattle.pool_layout.specs.declared.places.TheConstants.{DONE, ATTEMPT, MARK}
 use Rattle.pool_layout.proofs.Records.{decided}
+use Rattle.pool_layout.specs.Image.{is_sealed}
 use Rattle.pool_map.specs.declared.trap.TrapKind.{TrapKind}
-use Rattle.args_log.specs.Pending.{is_sealed}
 use Rattle.pm_machine.specs.declared.image.Image.{Image}
 use Rattle.tx_run.specs.declared.standing.Standing.{Standing}
 use Rattle.tx_run.specs.declared.standing.Standing.TheVariants as stands

@@ -6,7 +6,7 @@ use Rattle.pmem.specs.Device.{Device}
 use Rattle.pmem.specs.declared.answer.Phase.TheVariants as phase
 use Rattle.pmem.specs.declared.answer.Refusal.TheVariants as refusal
 use Rattle.pool_layout.specs.declared.places.TheConstants.{MARK}
-use Rattle.args_log.specs.Pending.{is_sealed}
+use Rattle.pool_layout.specs.Image.{is_sealed}
 use Rattle.pm_machine.specs.declared.image.Image.{Image}
 use Rattle.tx_run.specs.Standing.{trap_of_mark}
 use Rattle.recovery.specs.Recovered.{Cleaned, Redid, IsRecovered}

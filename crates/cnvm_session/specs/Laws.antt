@@ -9,9 +9,9 @@ use Rattle.pmem.specs.Device.{Device, memory_of, powered}
 use Rattle.pmem.specs.declared.answer.Phase.TheVariants as phase
 use Rattle.pool_layout.specs.declared.places.TheConstants.{LAST, DONE, ATTEMPT, MARK}
 use Rattle.pool_layout.specs.declared.limits.Sizes.{Sizes}
+use Rattle.pool_layout.specs.Image.{is_sealed}
 use Rattle.crash_law.specs.Pools.{Pool, IsBefore}
 use Rattle.clobber_log.specs.Logs.{attempt_in, count_in}
-use Rattle.args_log.specs.Pending.{is_sealed}
 use Rattle.tx_run.specs.Standing.{trap_of_mark}
 use Rattle.recovery.specs.Found.{has_numbers}
 use Rattle.cnvm_script.specs.declared.command.Command.{Command}

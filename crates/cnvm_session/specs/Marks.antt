@@ -5,7 +5,7 @@ use Rattle.std.specs.List.{list_any}
 use Rattle.std.specs.Option.{option_map_or}
 use Rattle.cache_model.specs.Cache.{view}
 use Rattle.pmem.specs.Device.{Device}
-use Rattle.args_log.specs.Pending.{is_sealed}
+use Rattle.pool_layout.specs.Image.{is_sealed}
 use Rattle.recovery.specs.Recovered.{tx_in}
 use Rattle.c_tree.specs.ItemTree.{FunctionTree}
 use Rattle.c_types.specs.Shapes.{transactions_of}

@@ -3,11 +3,11 @@
 -- has. Struct numbers go up to 255, and an object has at most 15 words. Any other slot is free.
 use Rattle.std.specs.Prelude.{ℕ, zero, suc, ◌+◌, if◌then◌else◌, nat_lt, List, [], ◌∷◌, Option, Some}
 use Rattle.std.specs.Prelude.{None, ℤ, pos, negsuc}
+use Rattle.cache_model.specs.Cache.{Words}
 use Rattle.pool_layout.specs.declared.limits.Sizes.{Sizes}
 use Rattle.pool_layout.specs.declared.places.Place.TheVariants.{Heap}
 use Rattle.pool_layout.specs.Sizes.{heap_words, slot_word}
 use Rattle.pool_layout.specs.Places.{at, pool_of}
-use Rattle.pool_layout.specs.Image.{Words}
 use Rattle.pool_map.specs.declared.object.Object.{Object}
 use Rattle.pool_map.specs.declared.shapes.StructShape.{StructShape}
 use Rattle.pool_map.specs.declared.shapes.Shapes.{Shapes}

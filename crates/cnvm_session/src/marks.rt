@@ -2,7 +2,7 @@
 
 ghost use Rattle.std.specs.Prelude.{◌≡◌, ◌≤◌, true};
 ghost use Rattle.cache_model.specs.Cache.{view};
-ghost use Rattle.args_log.specs.Pending.{is_sealed};
+ghost use Rattle.pool_layout.specs.Image.{is_sealed};
 ghost use Rattle.cnvm_session.specs.Marks.{rolls_back_of, owes_marked};
 
 use crate::program::Program;

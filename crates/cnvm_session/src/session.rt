@@ -8,7 +8,7 @@ ghost use Rattle.pmem.specs.Device.{FaultsRose, blanked, powered};
 ghost use Rattle.pmem.specs.Played.{PlaysAll};
 ghost use Rattle.pool_layout.specs.declared.places.TheConstants.{FUNCTION};
 ghost use Rattle.pool_layout.specs.Sizes.{pool_lines};
-ghost use Rattle.args_log.specs.Pending.{is_sealed};
+ghost use Rattle.pool_layout.specs.Image.{is_sealed};
 ghost use Rattle.args_log.specs.Created.{creation_events};
 ghost use Rattle.cnvm_session.specs.Opening.{opening_events};
 ghost use Rattle.cnvm_session.specs.Unmade.{IsUnmade};

@@ -1,12 +1,12 @@
 -- What an image of a pool holds at rest (Good), and where a call is owed (Owed).
 use Rattle.std.specs.Prelude.{ℕ, suc, ◌+◌, ◌^◌, ◌<◌, ◌≤◌, ◌≡◌, ◌⊎◌, List, ◌∷◌, length}
 use Rattle.std.specs.Prelude.{slice_index_or, ℤ, pos}
+use Rattle.cache_model.specs.Cache.{Words}
 use Rattle.pool_layout.specs.declared.limits.Sizes.{Sizes}
 use Rattle.pool_layout.specs.declared.places.Place.TheVariants.{Super, Last, Done, Attempt, Mark}
 use Rattle.pool_layout.specs.declared.places.Place.TheVariants.{Argument, Seal, RecordWord, Heap}
 use Rattle.pool_layout.specs.Sizes.{heap_words}
 use Rattle.pool_layout.specs.Places.{at, pool_of}
-use Rattle.pool_layout.specs.Image.{Words}
 use Rattle.pool_layout.specs.Log.{WellMade, count}
 use Rattle.pool_layout.specs.Restored.{restored}
 

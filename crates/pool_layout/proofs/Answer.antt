@@ -1,6 +1,7 @@
 -- The words of an image that was read hold what a recovery needs.
 use Rattle.std.proofs.Common.{◌≡◌, ◌≢◌, ℕ, suc, ◌+◌, ◌*◌, ◌^◌, ◌≤◌, ◌==◌, cond, Result, Ok, Err}
-use Rattle.std.proofs.Common.{IfOk, List, length, ℤ, pos, ◌+ℤ◌, refl, sym, ap, ◌∙◌, subst, arith}
+use Rattle.std.proofs.Common.{IfOk, List, length, true, false, ℤ, pos, refl, sym, ap, ◌∙◌, subst, arith}
+use Rattle.cache_model.specs.Cache.{Words}
 use Rattle.pool_layout.specs.declared.places.Version.{Version}
 use Rattle.pool_layout.specs.declared.places.Version.TheVariants.{First, Second}
 use Rattle.pool_layout.specs.declared.places.Place.TheVariants.{Super, Done, Attempt, Mark, Seal}
@@ -10,7 +11,7 @@ use Rattle.pool_layout.specs.declared.wanted.Wanted.{Wanted}
 use Rattle.pool_layout.specs.Sizes.{pool_lines, slot_word}
 use Rattle.pool_layout.specs.Places.{at, log_line, pool_of}
 use Rattle.pool_layout.specs.Bytes.{word_in}
-use Rattle.pool_layout.specs.Image.{Words, image_words, IsSealed, IsUpTo}
+use Rattle.pool_layout.specs.Image.{image_words, is_next, is_sealed, IsUpTo}
 use Rattle.pool_layout.specs.Log.{WellMade}
 use Rattle.pool_layout.specs.Good.{HasSuper, Good}
 use Rattle.pool_layout.specs.Opens.{IsOpenable}
@@ -18,7 +19,7 @@ use Rattle.pool_layout.specs.Moved.{moved, first_layout, AreMoved}
 use Rattle.pool_layout.specs.Fault.{Accepts, rules_of, version_of, needed}
 use Rattle.pool_layout.specs.Opened.{IsOpened, wanted_rules}
 use Rattle.pool_layout.proofs.Moving.{moved_keeps, moved_unsealed}
-use Rattle.pool_layout.proofs.Kept.{slot_inside}
+use Rattle.pool_layout.proofs.Kept.{slot_inside, is_valid_of}
 use Rattle.pool_layout.proofs.Opening.{kept_opens}
 use Rattle.pool_layout.proofs.Superblock.{HasHead, has_head, digest_word, sizes_word, second_word}
 
@@ -102,6 +103,7 @@ opened_first wanted bytes all accepts is are =
     (kept_opens (rules_of wanted bytes) (word_in bytes) accepts.content)
     (record { layout = first_layout s; txs = wanted.txs; structs = wanted.structs }) refl in
     let keeps = moved_keeps s (word_in bytes) all are in
+    let unsealed = moved_unsealed s (word_in bytes) all was.done.0 are was.done.2 in
     let opens : IsOpenable (wanted_rules wanted) (image_words all) = record {
       mark = subst (IsUpTo 8) (sym keeps.mark) was.mark;
       done = subst (IsUpTo (2 ^ 62)) (sym keeps.done) was.done;
@@ -112,10 +114,8 @@ opened_first wanted bytes all accepts is are =
       headers = λ slot low high. subst (IsUpTo wanted.structs)
           (sym (keeps.heap (slot_word s slot) (slot_inside s slot low high)))
           (was.headers slot low high);
-      sealed = λ sealed. absurd (moved_unsealed s (word_in bytes) all was.done.0 are
-          was.done.2 sealed);
-      first_unsealed = λ first sealed. moved_unsealed s (word_in bytes) all was.done.0 are
-          was.done.2 sealed;
+      sealed = λ sealed. let clash : true ≡ false = sym sealed ∙ unsealed in absurd cc;
+      first_unsealed = λ first. unsealed;
     } in
     record {
       whole = are.whole;
@@ -133,9 +133,11 @@ opened_moved wanted bytes (Err e) accepts is are = tt
 
 -- an image at rest
 
-next_of : (x y : ℤ) (d : ℕ) → y ≡ pos d → x ≡ pos (suc d) → x ≡ y +ℤ pos 1
-next_of x y d is e = let n : suc d ≡ d + 1 = omega arith in
-    e ∙ ap pos n ∙ sym (ap (λ (z : ℤ). z +ℤ pos 1) is)
+not_sealed : (x y : ℤ) (d : ℕ) → y ≡ pos d → is_next x y ≡ false → x ≡ pos (suc d) → ⊥
+not_sealed x y d is unsealed e =
+    let next : is_next x y ≡ true = is_valid_of x y d is e in
+    let clash : true ≡ false = sym next ∙ unsealed in
+    absurd cc
 
 up_to_is : (n d : ℕ) (x : ℤ) → IsUpTo n x → x ≡ pos d → d ≤ n
 up_to_is n d x up is = let e : up.0 ≡ d = inj up.0 d (sym up.2 ∙ is) in omega (arith, up.1)
@@ -147,7 +149,7 @@ pub opened_rests : (wanted : Wanted) (all : List ℤ) (a d : ℕ) → IsOpened w
     → image_words all (at (pool_of wanted.sizes) Mark) ≡ pos 0
     → image_words all (at (pool_of wanted.sizes) Attempt) ≡ pos a
     → image_words all (at (pool_of wanted.sizes) Done) ≡ pos d
-    → (IsSealed (pool_of wanted.sizes) (image_words all) → ⊥)
+    → is_sealed (image_words all) ≡ false
     → Good wanted.sizes wanted.digest a d
     (λ w. image_words all (at (pool_of wanted.sizes) (Heap w)))
     (image_words all)
@@ -162,8 +164,8 @@ opened_rests wanted all a d opened mark attempt done unsealed =
       mark = mark;
       done = done;
       done_fits = omega arith;
-      unsealed = λ e. unsealed (next_of (image (at (pool_of wanted.sizes) Seal))
-          (image (at (pool_of wanted.sizes) Done)) d done e);
+      unsealed = λ e. not_sealed (image (at (pool_of wanted.sizes) Seal))
+          (image (at (pool_of wanted.sizes) Done)) d done unsealed e;
       attempt_is = attempt;
       attempt_fits = omega (arith, o.attempt_fits);
       log = subst (λ (k : ℕ). WellMade (pool_of wanted.sizes) k image) same o.log;

@@ -1,10 +1,10 @@
 -- Different places are different words, each within the pool.
 use Rattle.std.proofs.Common.{◌≡◌, ◌≢◌, ⊎_elim, ℕ, ◌+◌, ◌≤◌, false, sym, ◌∙◌, subst, arith}
 use Rattle.std.proofs.lemmas.Bool.{cases_eq}
+use Rattle.cache_model.specs.Cache.{Words}
 use Rattle.pool_layout.specs.declared.places.Place.{Place}
 use Rattle.pool_layout.specs.declared.rules.Rules.{Rules}
 use Rattle.pool_layout.specs.Places.{at, layout_words, IsPlace, PlacesApart, PlacesFit}
-use Rattle.pool_layout.specs.Image.{Words}
 use Rattle.pool_layout.specs.Content.{breaks_rule, KeepsRules, KeepsBelow}
 
 pub same_place : PlacesApart

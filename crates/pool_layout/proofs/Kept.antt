@@ -5,10 +5,11 @@ use Rattle.std.proofs.Common.{ap, ◌∙◌, subst, arith}
 use Rattle.std.specs.Prelude.{int_le}
 use Rattle.std.proofs.lemmas.Bool.{cases_eq, cases_lt}
 use Rattle.std.proofs.lemmas.Bool.Decides.{Decides-int_eq, nat_tests}
+use Rattle.cache_model.specs.Cache.{Words}
 use Rattle.pool_layout.specs.declared.limits.Sizes.{Sizes}
 use Rattle.pool_layout.specs.declared.places.Layout.{Layout}
 use Rattle.pool_layout.specs.Sizes.{heap_words, slot_word}
-use Rattle.pool_layout.specs.Image.{Words, IsUpTo}
+use Rattle.pool_layout.specs.Image.{IsUpTo}
 use Rattle.pool_layout.specs.Opens.{IsBelow}
 use Rattle.pool_layout.specs.Content.{is_within, is_next, is_valid, are_valid, is_stamp, in_heap}
 use Rattle.pool_layout.specs.Content.{is_header, names_header}

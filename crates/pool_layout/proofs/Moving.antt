@@ -1,19 +1,21 @@
 -- A moved pool keeps its content.
 use Rattle.std.proofs.Common.{◌≡◌, ◌≢◌, ⊎_elim, ℕ, suc, ◌+◌, ◌<◌, List, [], ◌∷◌, ◌++◌, length}
-use Rattle.std.proofs.Common.{get_or, ℤ, pos, ◌+ℤ◌, sym, ap, ◌∙◌, arith}
+use Rattle.std.proofs.Common.{get_or, Bool, true, false, ℤ, pos, refl, sym, ap, ◌∙◌, arith}
 use Rattle.std.proofs.Math.ListN.{get_or-append}
 use Rattle.std.proofs.Math.Seq.{get_or-append_seam}
 use Rattle.std.proofs.lemmas.Bool.{cases_eq}
+use Rattle.cache_model.specs.Cache.{Words}
 use Rattle.pool_layout.specs.declared.limits.Sizes.{Sizes}
 use Rattle.pool_layout.specs.declared.places.Place.TheVariants.{Last, Done, Attempt, Mark, Seal}
 use Rattle.pool_layout.specs.declared.places.Place.TheVariants.{RecordStamp, Heap}
 use Rattle.pool_layout.specs.declared.places.Place.{Place}
 use Rattle.pool_layout.specs.Places.{at, pool_of, IsPlace}
-use Rattle.pool_layout.specs.Image.{Words, image_words, IsSealed}
+use Rattle.pool_layout.specs.Image.{image_words, is_next, is_sealed}
 use Rattle.pool_layout.specs.Log.{WellMade}
 use Rattle.pool_layout.specs.Moved.{moved, first_layout, AreMoved, KeepsPool}
 use Rattle.pool_layout.proofs.Apart.{same_place}
 use Rattle.pool_layout.proofs.Records.{count_is}
+use Rattle.pool_layout.proofs.Kept.{valid_is}
 
 moved_stamp : (s : Sizes) (image : Words) (words : List ℤ) → AreMoved s image words → (j : ℕ)
     → j < s.records → image_words words (at (pool_of s) (RecordStamp j)) ≡ pos 0
@@ -46,17 +48,19 @@ moved_keeps s image words are = record {
       (moved_stamp s image words are j lt) is);
 }
 
-no_sum : (x y : ℤ) (d : ℕ) → x ≡ pos 0 → y ≡ pos d → x ≡ y +ℤ pos 1 → ⊥
-no_sum x y d none is sealed =
-    let e : pos 0 ≡ pos (d + 1) = sym none ∙ sealed ∙ ap (λ (z : ℤ). z +ℤ pos 1) is in
-    let n : 0 ≡ d + 1 = cc in absurd (omega arith)
+no_sum : (x y : ℤ) (d : ℕ) → x ≡ pos 0 → y ≡ pos d → is_next x y ≡ false
+no_sum x y d none is = go (is_next x y) refl
+  where
+    go : (b : Bool) → is_next x y ≡ b → b ≡ false
+    go false e = refl
+    go true e = let same : pos 0 ≡ pos (suc d) = sym none ∙ valid_is x y d is e in absurd cc
 
 pub moved_unsealed : (s : Sizes) (image : Words) (words : List ℤ) (d : ℕ) → AreMoved s image words
-    → image (at (first_layout s) Done) ≡ pos d → IsSealed (pool_of s) (image_words words) → ⊥
+    → image (at (first_layout s) Done) ≡ pos d → is_sealed (image_words words) ≡ false
 unfolding moved
-moved_unsealed s image words d are is sealed =
+moved_unsealed s image words d are is =
     no_sum (image_words words (at (pool_of s) Seal)) (image_words words (at (pool_of s) Done)) d
-    (are.each Seal tt) (are.each Done tt ∙ is) sealed
+    (are.each Seal tt) (are.each Done tt ∙ is)
 
 -- one more word of a moved pool
 pub moved_more : (s : Sizes) (image : Words) (words : List ℤ) (n : ℕ) (p : Place) (x : ℤ)

@@ -1,7 +1,7 @@
 -- An image that breaks no rule of content opens.
-use Rattle.std.proofs.Common.{◌≡◌, ℕ, ◌+◌, ◌^◌, ◌<◌, ◌≤◌, ◌&&◌, not, true, false, ℤ, pos, ◌+ℤ◌}
+use Rattle.std.proofs.Common.{◌≡◌, ℕ, ◌+◌, ◌^◌, ◌<◌, ◌≤◌, ◌&&◌, not, true, false, ℤ, pos}
 use Rattle.std.proofs.Common.{refl, ap, arith}
-use Rattle.std.proofs.lemmas.Bool.Decides.{Decides-int_eq}
+use Rattle.cache_model.specs.Cache.{Words}
 use Rattle.pool_layout.specs.declared.places.Version.{Version}
 use Rattle.pool_layout.specs.declared.places.Version.TheVariants.{First, Second}
 use Rattle.pool_layout.specs.declared.places.Place.TheVariants.{Done, Attempt, Mark, Argument, Seal}
@@ -10,10 +10,9 @@ use Rattle.pool_layout.specs.declared.places.Place.TheVariants.{Heap}
 use Rattle.pool_layout.specs.declared.rules.Rules.{Rules}
 use Rattle.pool_layout.specs.Sizes.{heap_words, slot_word}
 use Rattle.pool_layout.specs.Places.{at, seal_word}
-use Rattle.pool_layout.specs.Image.{Words, IsSealed, IsUpTo}
+use Rattle.pool_layout.specs.Image.{is_sealed_in, IsUpTo}
 use Rattle.pool_layout.specs.Log.{WellMade, count}
 use Rattle.pool_layout.specs.Restored.{restored}
-use Rattle.pool_layout.specs.Content.{KeepsRules, breaks_rule, is_within, is_sealed, is_valid}
 use Rattle.pool_layout.specs.Content.{are_valid, is_stamp, in_heap, is_header, names_header}
 use Rattle.pool_layout.specs.Content.{is_first_version}
 use Rattle.pool_layout.specs.Opens.{IsOpenable, NamesOwed, IsBelow}
@@ -23,6 +22,7 @@ use Rattle.pool_layout.proofs.Undone.{undone_each}
 use Rattle.pool_layout.proofs.Kept.{and_rest, or_left, or_right, not_false, within_is, up_to}
 use Rattle.pool_layout.proofs.Kept.{below_is, slot_header, slot_inside, slot_named, valid_is}
 use Rattle.pool_layout.proofs.Kept.{is_valid_of, stamp_is, are_valid_below}
+use Rattle.pool_layout.specs.Content.{KeepsRules, breaks_rule, is_within, is_valid}
 
 done_fits : (r : Rules) (image : Words) → KeepsRules r image
     → IsUpTo (2 ^ 62) (image (at r.layout Done))
@@ -73,16 +73,16 @@ function_inside : (v : Version) → 24 + 0 < seal_word v
 function_inside First = omega arith
 function_inside Second = omega arith
 
-function_is : (r : Rules) (image : Words) → KeepsRules r image → is_sealed r.layout image ≡ true
+function_is : (r : Rules) (image : Words) → KeepsRules r image → is_sealed_in r.layout.version image ≡ true
     → (f : ℕ) × (1 ≤ f) × (f ≤ r.txs) × (image (at r.layout (Argument 0)) ≡ pos f)
 unfolding breaks_rule
 function_is r image keeps sealed = within_is 1 r.txs (image (at r.layout (Argument 0)))
     (not_false (is_within 1 r.txs (image (at r.layout (Argument 0))))
-    (and_rest (is_sealed r.layout image)
+    (and_rest (is_sealed_in r.layout.version image)
     (not (is_within 1 r.txs (image (at r.layout (Argument 0)))))
     (keeps (Argument 0) (function_inside r.layout.version)) sealed))
 
-record_inside : (r : Rules) (image : Words) → KeepsRules r image → is_sealed r.layout image ≡ true
+record_inside : (r : Rules) (image : Words) → KeepsRules r image → is_sealed_in r.layout.version image ≡ true
     → (j : ℕ) → j < r.layout.sizes.records → is_valid r.layout image j ≡ true
     → IsBelow (heap_words r.layout.sizes) (image (at r.layout (RecordWord j)))
 unfolding breaks_rule
@@ -90,12 +90,12 @@ record_inside r image keeps sealed j lt valid_j =
     below_is r.layout.sizes (image (at r.layout (RecordWord j)))
     (and_rest (is_valid r.layout image j)
     (not (in_heap r.layout.sizes (image (at r.layout (RecordWord j)))))
-    (and_rest (is_sealed r.layout image) (is_valid r.layout image j
+    (and_rest (is_sealed_in r.layout.version image) (is_valid r.layout image j
     && not (in_heap r.layout.sizes (image (at r.layout (RecordWord j)))))
     (keeps (RecordWord j) lt) sealed)
     valid_j)
 
-old_fits : (r : Rules) (image : Words) → KeepsRules r image → is_sealed r.layout image ≡ true
+old_fits : (r : Rules) (image : Words) → KeepsRules r image → is_sealed_in r.layout.version image ≡ true
     → (j : ℕ) → j < r.layout.sizes.records → is_valid r.layout image j ≡ true
     → names_header r.layout.sizes (image (at r.layout (RecordWord j))) ≡ true
     → IsUpTo r.structs (image (at r.layout (RecordOld j)))
@@ -107,14 +107,14 @@ old_fits r image keeps sealed j lt valid_j named =
     (and_rest (names_header r.layout.sizes x) (not (is_within 0 r.structs old))
     (and_rest (is_valid r.layout image j) (names_header r.layout.sizes x
     && not (is_within 0 r.structs old))
-    (and_rest (is_sealed r.layout image) (is_valid r.layout image j
+    (and_rest (is_sealed_in r.layout.version image) (is_valid r.layout image j
     && (names_header r.layout.sizes x && not (is_within 0 r.structs old)))
     (keeps (RecordOld j) lt) sealed)
     valid_j) named)
 
 restored_headers : (r : Rules) (image : Words) → KeepsRules r image → (a : ℕ)
     → image (at r.layout Attempt) ≡ pos a → LogIs r.layout a (count r.layout a image) image
-    → is_sealed r.layout image ≡ true
+    → is_sealed_in r.layout.version image ≡ true
     → HasHeaders r.layout.sizes r.structs (restored r.layout a image)
 unfolding restored
 restored_headers r image keeps a is log sealed = λ slot low high.
@@ -128,7 +128,7 @@ restored_headers r image keeps a is log sealed = λ slot low high.
     (headers_fit r image keeps slot low high)
 
 owed : (r : Rules) (image : Words) → KeepsRules r image → (a : ℕ)
-    → image (at r.layout Attempt) ≡ pos a → is_sealed r.layout image ≡ true → NamesOwed r a image
+    → image (at r.layout Attempt) ≡ pos a → is_sealed_in r.layout.version image ≡ true → NamesOwed r a image
 owed r image keeps a is sealed =
     let log : LogIs r.layout a (count r.layout a image) image =
     log_is r.layout a (count r.layout a image) image (well_made r image keeps a is) refl in
@@ -140,18 +140,12 @@ owed r image keeps a is sealed =
       headers = restored_headers r image keeps a is log sealed;
     }
 
-sealed_is : (r : Rules) (image : Words) → IsSealed r.layout image → is_sealed r.layout image ≡ true
-sealed_is r image sealed = (Decides-int_eq (image (at r.layout Seal))
-    (image (at r.layout Done) +ℤ pos 1)).1 sealed
-
 first_open : (r : Rules) (image : Words) → KeepsRules r image → r.layout.version ≡ First
-    → is_sealed r.layout image ≡ true → ⊥
+    → is_sealed_in r.layout.version image ≡ false
 unfolding breaks_rule
-first_open r image keeps first sealed =
-    let e : is_sealed r.layout image ≡ false =
-    and_rest (is_first_version r.layout.version) (is_sealed r.layout image) (keeps Seal tt)
-    (ap is_first_version first) in
-    absurd (cc)
+first_open r image keeps first =
+    and_rest (is_first_version r.layout.version) (is_sealed_in r.layout.version image)
+    (keeps Seal tt) (ap is_first_version first)
 
 pub kept_opens : (r : Rules) (image : Words) → KeepsRules r image → IsOpenable r image
 kept_opens r image keeps =
@@ -164,6 +158,6 @@ kept_opens r image keeps =
       attempt_fits = a.1;
       log = well_made r image keeps a.0 a.2;
       headers = headers_fit r image keeps;
-      sealed = λ sealed. owed r image keeps a.0 a.2 (sealed_is r image sealed);
-      first_unsealed = λ first sealed. first_open r image keeps first (sealed_is r image sealed);
+      sealed = owed r image keeps a.0 a.2;
+      first_unsealed = first_open r image keeps;
     }

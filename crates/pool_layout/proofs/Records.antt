@@ -1,13 +1,14 @@
 -- The count of a log, and a well made log by its count.
 use Rattle.std.proofs.Common.{◌≡◌, ◌≢◌, ◌⊎◌, inl, inr, ⊎_elim, ℕ, zero, suc, ◌+◌, ◌<◌, ◌≤◌, min}
 use Rattle.std.proofs.Common.{cond, Bool, true, false, ℤ, pos, refl, sym, ap, ◌∙◌, subst, arith}
-use Rattle.std.proofs.Common.{int_eq, nat_eq, ◌&&◌, if◌then◌else◌}
+use Rattle.std.proofs.Common.{int_eq, ◌==◌, ◌&&◌, if◌then◌else◌}
 use Rattle.std.proofs.lemmas.Bool.{cases_eq, cases_lt}
-use Rattle.std.proofs.lemmas.Bool.Decides.{Decides-int_eq, Decides-nat_eq}
+use Rattle.std.proofs.lemmas.Bool.Decides.{Decides-int_eq, Decides-eqb}
+use Rattle.cache_model.specs.Cache.{Words}
 use Rattle.pool_layout.specs.declared.places.Layout.{Layout}
 use Rattle.pool_layout.specs.declared.places.Place.TheVariants.{RecordStamp}
 use Rattle.pool_layout.specs.Places.{at}
-use Rattle.pool_layout.specs.Image.{Words, IsUpTo}
+use Rattle.pool_layout.specs.Image.{IsUpTo}
 use Rattle.pool_layout.specs.Log.{WellMade, leading, count}
 
 pub pos_inj : (m n : ℕ) → pos m ≡ pos n → m ≡ n
@@ -27,20 +28,20 @@ right_of false c both = absurd (cc both)
 
 -- whether the count goes on past stamp n, where it is m up to there
 module _ (stamps : ℕ → ℤ) (a n m : ℕ) where
-  goes_on : Bool
-  goes_on = nat_eq m n && int_eq (stamps n) (pos (suc a))
+  abbrev goes_on : Bool
+  goes_on = (m == n) && int_eq (stamps n) (pos (suc a))
 
   count_at : goes_on ≡ true → m ≡ n
-  count_at on = (Decides-nat_eq m n).0
-      (left_of (nat_eq m n) (int_eq (stamps n) (pos (suc a))) on)
+  count_at on = (Decides-(m == n)).0
+      (left_of ((m == n)) (int_eq (stamps n) (pos (suc a))) on)
 
   stamp_at : goes_on ≡ true → stamps n ≡ pos (suc a)
   stamp_at on = (Decides-int_eq (stamps n) (pos (suc a))).0
-      (right_of (nat_eq m n) (int_eq (stamps n) (pos (suc a))) on)
+      (right_of ((m == n)) (int_eq (stamps n) (pos (suc a))) on)
 
   on_past : m ≡ n → stamps n ≡ pos (suc a) → goes_on ≡ true
-  on_past same here = both_true (nat_eq m n) (int_eq (stamps n) (pos (suc a)))
-      ((Decides-nat_eq m n).1 same) ((Decides-int_eq (stamps n) (pos (suc a))).1 here)
+  on_past same here = both_true ((m == n)) (int_eq (stamps n) (pos (suc a)))
+      ((Decides-(m == n)).1 same) ((Decides-int_eq (stamps n) (pos (suc a))).1 here)
 
 leading_step : (b : Bool) (n m k : ℕ) → (b ≡ true → n < k) → (n < k → b ≡ true) → m ≡ min n k
     → (if b then suc n else m) ≡ min (suc n) k

@@ -2,7 +2,7 @@
 -- a layout, the number of transactions and the number of structs.
 use Rattle.std.specs.Prelude.{ℕ, zero, suc, ◌-◌, ◌*◌, ◌%◌, ◌^◌, ◌<◌, ◌≤◌, ◌≡◌, ◌==◌, ◌&&◌, ◌||◌}
 use Rattle.std.specs.Prelude.{not, nat_le, nat_lt, Bool, true, false, ℤ, pos, negsuc, ◌+ℤ◌, int_le}
-use Rattle.std.specs.Ordering.{int_eq}
+use Rattle.cache_model.specs.Cache.{Words}
 use Rattle.pool_layout.specs.declared.limits.Sizes.{Sizes}
 use Rattle.pool_layout.specs.declared.places.Version.{Version}
 use Rattle.pool_layout.specs.declared.places.Version.TheVariants.{First, Second}
@@ -14,19 +14,12 @@ use Rattle.pool_layout.specs.declared.places.Place.TheVariants.{Heap}
 use Rattle.pool_layout.specs.declared.rules.Rules.{Rules}
 use Rattle.pool_layout.specs.Sizes.{root_lines, heap_words}
 use Rattle.pool_layout.specs.Places.{at, IsPlace}
-use Rattle.pool_layout.specs.Image.{Words}
+use Rattle.pool_layout.specs.Image.{is_next, is_sealed_in}
 
 -- the word is a number from low to high
 abbrev pub is_within : ℕ → ℕ → ℤ → Bool
 is_within low high (pos n) = nat_le low n && nat_le n high
 is_within low high (negsuc n) = false
-
--- the first word is one more than the second, as whole numbers
-abbrev pub is_next : ℤ → ℤ → Bool
-is_next x y = int_eq x (y +ℤ pos 1)
-
-abbrev pub is_sealed : Layout → Words → Bool
-is_sealed l image = is_next (image (at l Seal)) (image (at l Done))
 
 -- record i is valid; all records before record i are valid
 abbrev pub is_valid : Layout → Words → ℕ → Bool
@@ -66,14 +59,14 @@ breaks_rule r image Done = not (is_within 0 (2 ^ 62) (image (at r.layout Done)))
 breaks_rule r image Attempt = not (is_within 0 (2 ^ 62) (image (at r.layout Attempt)))
 breaks_rule r image Mark = not (is_within 0 8 (image (at r.layout Mark)))
 breaks_rule r image (Argument k) =
-    (k == 0) && (is_sealed r.layout image
+    (k == 0) && (is_sealed_in r.layout.version image
     && not (is_within 1 r.txs (image (at r.layout (Argument k)))))
-breaks_rule r image Seal = is_first_version r.layout.version && is_sealed r.layout image
+breaks_rule r image Seal = is_first_version r.layout.version && is_sealed_in r.layout.version image
 breaks_rule r image (RecordWord i) =
-    is_sealed r.layout image && (is_valid r.layout image i
+    is_sealed_in r.layout.version image && (is_valid r.layout image i
     && not (in_heap r.layout.sizes (image (at r.layout (RecordWord i)))))
 breaks_rule r image (RecordOld i) =
-    is_sealed r.layout image && (is_valid r.layout image i
+    is_sealed_in r.layout.version image && (is_valid r.layout image i
     && (names_header r.layout.sizes (image (at r.layout (RecordWord i)))
     && not (is_within 0 r.structs (image (at r.layout (RecordOld i))))))
 breaks_rule r image (RecordStamp i) =

@@ -1,13 +1,13 @@
 -- The content of an image of a pool at rest (Good), and of one that a trap made unusable (Lost).
 use Rattle.std.specs.Prelude.{ℕ, suc, ◌+◌, ◌^◌, ◌<◌, ◌≤◌, ◌≡◌, List, [], ◌∷◌, ℤ, pos, codes}
 use Rattle.std.specs.Prelude.{slice_index_or}
+use Rattle.cache_model.specs.Cache.{Words}
 use Rattle.pool_layout.specs.declared.limits.Sizes.{Sizes}
 use Rattle.pool_layout.specs.declared.places.Place.TheVariants.{Super, Done, Attempt, Mark, Seal}
 use Rattle.pool_layout.specs.declared.places.Place.TheVariants.{Heap}
 use Rattle.pool_layout.specs.Sizes.{heap_words}
 use Rattle.pool_layout.specs.Places.{at, pool_of}
 use Rattle.pool_layout.specs.Bytes.{word_in}
-use Rattle.pool_layout.specs.Image.{Words}
 use Rattle.pool_layout.specs.Log.{WellMade}
 
 -- the bytes CNVMPOOL

@@ -1,6 +1,7 @@
 -- A pool of the first version, moved to the second. Word 1 is 2; the other words of lines 0 and 1,
 -- last, done, mark and the heap are the image's; all other words are 0.
-use Rattle.std.specs.Prelude.{ℕ, ◌*◌, ◌<◌, ◌≡◌, ◌==◌, cond, List, length, ℤ, pos}
+use Rattle.std.specs.Prelude.{ℕ, ◌*◌, ◌<◌, ◌≡◌, ◌==◌, cond, false, List, length, ℤ, pos}
+use Rattle.cache_model.specs.Cache.{Words}
 use Rattle.pool_layout.specs.declared.limits.Sizes.{Sizes}
 use Rattle.pool_layout.specs.declared.places.Version.TheVariants.{First}
 use Rattle.pool_layout.specs.declared.places.Layout.{Layout}
@@ -9,7 +10,7 @@ use Rattle.pool_layout.specs.declared.places.Place.TheVariants.{Super, Last, Don
 use Rattle.pool_layout.specs.declared.places.Place.TheVariants.{Heap}
 use Rattle.pool_layout.specs.Sizes.{pool_lines, heap_words}
 use Rattle.pool_layout.specs.Places.{at, pool_of, IsPlace}
-use Rattle.pool_layout.specs.Image.{Words, image_words, IsSealed}
+use Rattle.pool_layout.specs.Image.{image_words, is_sealed}
 use Rattle.pool_layout.specs.Log.{count, WellMade}
 
 abbrev pub first_layout : Sizes → Layout
@@ -47,4 +48,4 @@ MovedKeeps = (s : Sizes) (image : Words) (words : List ℤ) → AreMoved s image
 
 abbrev pub MovedUnsealed : Type 0
 MovedUnsealed = (s : Sizes) (image : Words) (words : List ℤ) (d : ℕ) → AreMoved s image words
-    → image (at (first_layout s) Done) ≡ pos d → IsSealed (pool_of s) (image_words words) → ⊥
+    → image (at (first_layout s) Done) ≡ pos d → is_sealed (image_words words) ≡ false

@@ -1,12 +1,12 @@
 -- The words of an image that was read, whatever its version: as many as the pool has, with the
 -- superblock of the wanted pool, and all that a recovery needs.
-use Rattle.std.specs.Prelude.{ℕ, ◌*◌, ◌≡◌, List, length, ℤ, pos}
+use Rattle.std.specs.Prelude.{ℕ, ◌*◌, ◌≡◌, false, List, length, ℤ, pos}
 use Rattle.pool_layout.specs.declared.places.Place.TheVariants.{Done, Attempt, Mark, Heap}
 use Rattle.pool_layout.specs.declared.rules.Rules.{Rules}
 use Rattle.pool_layout.specs.declared.wanted.Wanted.{Wanted}
 use Rattle.pool_layout.specs.Sizes.{pool_lines}
 use Rattle.pool_layout.specs.Places.{at, pool_of}
-use Rattle.pool_layout.specs.Image.{image_words, IsSealed}
+use Rattle.pool_layout.specs.Image.{image_words, is_sealed}
 use Rattle.pool_layout.specs.Good.{HasSuper, Good}
 use Rattle.pool_layout.specs.Opens.{IsOpenable}
 
@@ -29,6 +29,6 @@ OpenedRests = (wanted : Wanted) (all : List ℤ) (a d : ℕ) → IsOpened wanted
     → image_words all (at (pool_of wanted.sizes) Mark) ≡ pos 0
     → image_words all (at (pool_of wanted.sizes) Attempt) ≡ pos a
     → image_words all (at (pool_of wanted.sizes) Done) ≡ pos d
-    → (IsSealed (pool_of wanted.sizes) (image_words all) → ⊥)
+    → is_sealed (image_words all) ≡ false
     → Good wanted.sizes wanted.digest a d
     (λ w. image_words all (at (pool_of wanted.sizes) (Heap w))) (image_words all)

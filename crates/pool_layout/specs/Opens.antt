@@ -1,12 +1,13 @@
 -- What a recovery needs of an image. Reading an image checks conditions from which this follows.
-use Rattle.std.specs.Prelude.{ℕ, ◌^◌, ◌<◌, ◌≤◌, ◌≡◌, ℤ, pos}
+use Rattle.std.specs.Prelude.{ℕ, ◌^◌, ◌<◌, ◌≤◌, ◌≡◌, true, false, ℤ, pos}
+use Rattle.cache_model.specs.Cache.{Words}
 use Rattle.pool_layout.specs.declared.places.Version.TheVariants.{First}
 use Rattle.pool_layout.specs.declared.places.Place.TheVariants.{Done, Attempt, Mark, Argument}
 use Rattle.pool_layout.specs.declared.places.Place.TheVariants.{RecordWord, Heap}
 use Rattle.pool_layout.specs.declared.rules.Rules.{Rules}
 use Rattle.pool_layout.specs.Sizes.{heap_words}
 use Rattle.pool_layout.specs.Places.{at}
-use Rattle.pool_layout.specs.Image.{Words, IsSealed, IsUpTo}
+use Rattle.pool_layout.specs.Image.{is_sealed_in, IsUpTo}
 use Rattle.pool_layout.specs.Headers.{HasHeaders}
 use Rattle.pool_layout.specs.Log.{WellMade, count}
 use Rattle.pool_layout.specs.Restored.{restored}
@@ -34,8 +35,8 @@ pub record IsOpenable (r : Rules) (image : Words) : Type 0 where
   pub attempt_fits : attempt ≤ 2 ^ 62
   pub log : WellMade r.layout attempt image
   pub headers : HasHeaders r.layout.sizes r.structs (λ w. image (at r.layout (Heap w)))
-  pub sealed : IsSealed r.layout image → NamesOwed r attempt image
-  pub first_unsealed : r.layout.version ≡ First → IsSealed r.layout image → ⊥
+  pub sealed : is_sealed_in r.layout.version image ≡ true → NamesOwed r attempt image
+  pub first_unsealed : r.layout.version ≡ First → is_sealed_in r.layout.version image ≡ false
 
 abbrev pub KeptOpens : Type 0
 KeptOpens = (r : Rules) (image : Words) → KeepsRules r image → IsOpenable r image

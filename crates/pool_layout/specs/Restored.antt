@@ -3,10 +3,10 @@
 -- decides, and a heap word without a record stays.
 use Rattle.std.specs.Prelude.{ℕ, zero, suc, ◌<◌, ◌≡◌, ◌≢◌, cond, ℤ, pos}
 use Rattle.std.specs.Ordering.{int_eq}
+use Rattle.cache_model.specs.Cache.{Words}
 use Rattle.pool_layout.specs.declared.places.Layout.{Layout}
 use Rattle.pool_layout.specs.declared.places.Place.TheVariants.{RecordWord, RecordOld, Heap}
 use Rattle.pool_layout.specs.Places.{at}
-use Rattle.pool_layout.specs.Image.{Words}
 use Rattle.pool_layout.specs.Log.{count}
 
 abbrev pub undo : ℤ → ℤ → (ℕ → ℤ) → ℕ → ℤ

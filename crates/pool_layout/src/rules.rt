@@ -6,6 +6,7 @@ ghost use Rattle.pool_layout.specs.Bytes as bytes_are;
 ghost use Rattle.pool_layout.specs.Places.{at, layout_words, IsPlace};
 ghost use Rattle.pool_layout.specs.Content as content;
 ghost use Rattle.pool_layout.specs.inside.Content as inside_content;
+ghost use Rattle.pool_layout.specs.Image as image;
 
 use crate::bytes::word_in;
 use crate::limits::Sizes;
@@ -141,7 +142,7 @@ impl Rules {
     #[tactic(auto, using(std::proofs::lemmas::Int::wraps))]
     fn is_sealed(&self, bytes: &[u8]) -> bool
         requires { 8 * layout_words self.now.layout ≤ length bytes.now }
-        ensures { result ≡ content.is_sealed self.now.layout (bytes_are.word_in bytes.now) }
+        ensures { result ≡ image.is_sealed_in self.now.layout.version (bytes_are.word_in bytes.now) }
     {
         is_next(self.word(bytes, Place::Seal), self.word(bytes, Place::Done))
     }
@@ -181,7 +182,7 @@ fn is_within(low: u64, high: u64, word: i64) -> bool
 
 /// Whether a word is one more than another.
 fn is_next(word: i64, before: i64) -> bool
-    ensures { result ≡ content.is_next word before }
+    ensures { result ≡ image.is_next word before }
 {
     word > i64::MIN && word - 1 == before
 }

@@ -5,8 +5,9 @@ use Rattle.std.specs.Prelude.{nat_le, nat_lt, min, List, [], ◌∷◌, length, 
 use Rattle.std.specs.Prelude.{None, ℤ, pos}
 use Rattle.cache_model.specs.Cache.{Words}
 use Rattle.pool_layout.specs.declared.places.TheConstants.{MARK, FUNCTION}
+use Rattle.pool_layout.specs.Image.{is_sealed}
 use Rattle.clobber_log.specs.Logs.{attempt_in, count_in}
-use Rattle.args_log.specs.Pending.{is_sealed, tx_number, HoldsArguments}
+use Rattle.args_log.specs.Pending.{tx_number, HoldsArguments}
 use Rattle.pm_machine.specs.declared.image.Image.{Image}
 use Rattle.pm_machine.specs.declared.op.TxEntry.{TxEntry}
 use Rattle.tx_run.specs.Standing.{trap_of_mark}

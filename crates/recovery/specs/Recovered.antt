@@ -9,8 +9,9 @@ use Rattle.pmem.specs.Played.{PlaysAll, PlaysPart}
 use Rattle.pmem.specs.declared.answer.Phase.TheVariants as phase
 use Rattle.pmem.specs.declared.answer.Refusal.TheVariants as refusal
 use Rattle.pool_layout.specs.declared.places.TheConstants.{MARK, FUNCTION}
+use Rattle.pool_layout.specs.Image.{is_sealed}
 use Rattle.clobber_log.specs.Logs.{attempt_in, count_in}
-use Rattle.args_log.specs.Pending.{is_sealed, tx_number}
+use Rattle.args_log.specs.Pending.{tx_number}
 use Rattle.pm_machine.specs.declared.effect.End.{End}
 use Rattle.pm_machine.specs.declared.effect.End.TheVariants.{Halted, Trapped}
 use Rattle.pm_machine.specs.declared.image.Image.{Image}

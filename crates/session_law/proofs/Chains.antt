@@ -2,8 +2,9 @@
 use Rattle.std.proofs.Common.{◌≡◌, ℕ, ℤ, ◌+◌, List, [], ◌∷◌, ◌++◌, length, refl, sym, ap, ◌∙◌}
 use Rattle.std.proofs.Common.{subst, arith, append_assoc, append-nil, length-append}
 use Rattle.std.specs.List.{AllByRecursion}
+use Rattle.cache_model.specs.Cache.{Words}
 use Rattle.pmem.specs.Device.{Device}
-use Rattle.pool_layout.specs.Image.{Words, image_words}
+use Rattle.pool_layout.specs.Image.{image_words}
 use Rattle.pool_map.specs.PoolMap.{PoolMap, empty_pool}
 use Rattle.pm_machine.specs.Runs.{heap_in}
 use Rattle.cnvm_script.specs.declared.command.Command.{Command}

@@ -4,8 +4,8 @@ use Rattle.std.proofs.Common.{◌&&◌, if◌then◌else◌, List, [], ◌∷◌
 use Rattle.std.proofs.Common.{ℤ, pos, int_eq, refl, sym, ap, ◌∙◌, subst, arith, append_assoc}
 use Rattle.std.proofs.Common.{append-nil, length-append}
 use Rattle.std.proofs.lemmas.Bool.Decides.{Decides-int_eq}
+use Rattle.cache_model.specs.Cache.{Words}
 use Rattle.pool_layout.specs.declared.places.TheConstants.{DONE, MARK, SEAL}
-use Rattle.pool_layout.specs.Image.{Words}
 use Rattle.pool_map.specs.PoolMap.{PoolMap}
 use Rattle.c_meaning.specs.Transaction.{Done}
 use Rattle.cnvm_script.specs.declared.command.Command.{Command}

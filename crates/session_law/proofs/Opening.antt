@@ -14,7 +14,7 @@ use Rattle.pool_layout.specs.declared.limits.Sizes.{Sizes}
 use Rattle.pool_layout.specs.declared.places.Place.TheVariants.{Heap}
 use Rattle.pool_layout.specs.Places as places
 use Rattle.pool_layout.specs.Sizes.{pool_lines}
-use Rattle.pool_layout.specs.Image.{image_words}
+use Rattle.pool_layout.specs.Image.{image_words, is_sealed}
 use Rattle.pool_layout.specs.Restored.{restored}
 use Rattle.pool_layout.specs.Opens.{IsOpenable, NamesOwed}
 use Rattle.pool_layout.specs.Opened.{IsOpened, wanted_rules}
@@ -24,7 +24,7 @@ use Rattle.pool_map.specs.Trap.{trap_number}
 use Rattle.c_tree.specs.ItemTree.{FunctionTree}
 use Rattle.c_types.specs.Shapes.{transactions_of}
 use Rattle.clobber_log.specs.Logs.{attempt_of, attempt_in}
-use Rattle.args_log.specs.Pending.{is_sealed, tx_number}
+use Rattle.args_log.specs.Pending.{tx_number}
 use Rattle.pm_machine.specs.Effects.{heap_end}
 use Rattle.pool_layout.specs.Good.{Lost}
 use Rattle.crash_law.specs.Pools.{Pool, Owed, IsBefore}
@@ -206,7 +206,7 @@ module _ (program : Program) (agrees : Agrees program) (words : List ℤ)
     -- the image is sealed
     module _ (sealed : is_sealed image ≡ true) where
       is_owed : NamesOwed (wanted_rules (wanted_of program)) a image
-      is_owed = opens.sealed ((Decides-int_eq (image SEAL) (image DONE +ℤ pos 1)).0 sealed)
+      is_owed = opens.sealed sealed
 
       abbrev tx : ℕ
       tx = tx_number (image FUNCTION)

@@ -18,13 +18,14 @@ use Rattle.pool_layout.specs.declared.places.Place.TheVariants.{Heap}
 use Rattle.pool_layout.specs.Places as places
 use Rattle.pool_layout.specs.Restored.{restored}
 use Rattle.pool_layout.specs.Sizes.{heap_words}
+use Rattle.pool_layout.specs.Image.{is_sealed}
 use Rattle.c_meaning.specs.Transaction.{Trap}
 use Rattle.clobber_log.specs.Logs.{attempt_in}
 use Rattle.session_law.specs.Opened.{opened_heap}
 use Rattle.crash_law.specs.Pools.{Pool, Call, Good, IsBefore, IsDone}
 use Rattle.crash_law.specs.Law.{IsAtRest, IsCut, IsEnd}
 use Rattle.run_law.specs.Seen.{result_of, E, W}
-use Rattle.args_log.specs.Pending.{is_sealed, tx_number}
+use Rattle.args_log.specs.Pending.{tx_number}
 use Rattle.recovery.specs.Recovered.{tx_in}
 use Rattle.undo_law.specs.Law.{IsOwed, IsUndone}
 use Rattle.abort_law.specs.Cuts.{IsMarkedCut}

@@ -9,10 +9,10 @@ use Rattle.std.proofs.lemmas.Option.{slice_get_within}
 use Rattle.cache_model.specs.Cache.{Words}
 use Rattle.pool_layout.specs.declared.places.TheConstants.{DONE, ATTEMPT, MARK, SEAL}
 use Rattle.pool_layout.proofs.Records.{pos_inj}
+use Rattle.pool_layout.specs.Image.{is_sealed}
 use Rattle.pool_map.specs.declared.trap.TrapKind.{TrapKind}
 use Rattle.pool_map.specs.declared.trap.TrapKind.TheVariants as trap
 use Rattle.pool_map.specs.Trap.{trap_number}
-use Rattle.args_log.specs.Pending.{is_sealed}
 use Rattle.pm_machine.specs.declared.image.Image.{Image}
 use Rattle.pm_machine.specs.declared.op.TxEntry.{TxEntry}
 use Rattle.tx_run.specs.declared.standing.Standing.TheVariants as stands

@@ -2,10 +2,9 @@
 use Rattle.std.proofs.Common.{◌≡◌, ◌≢◌, ◌⊎◌, inl, inr, ℕ, suc, Bool, true, false, if◌then◌else◌}
 use Rattle.std.proofs.Common.{List, [], ◌∷◌, ◌++◌, Some, None, ℤ, pos, ap, ◌∙◌, subst, append-nil}
 use Rattle.std.proofs.Common.{refl}
-use Rattle.cache_model.specs.Cache.{view}
+use Rattle.cache_model.specs.Cache.{view, Words}
 use Rattle.pmem.specs.Device.{powered}
 use Rattle.pool_layout.specs.declared.places.TheConstants.{SEAL}
-use Rattle.pool_layout.specs.Image.{Words}
 use Rattle.pool_map.specs.declared.trap.TrapKind.{TrapKind}
 use Rattle.cnvm_session.specs.declared.answer.Answer.{Answer}
 use Rattle.cnvm_session.specs.declared.answer.Answer.TheVariants as answer

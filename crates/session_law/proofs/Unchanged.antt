@@ -1,7 +1,7 @@
 -- A refused command changes nothing.
 use Rattle.std.proofs.Common.{◌≡◌, ℕ, ◌==◌, Bool, true, false, List, [], ◌++◌, length, Option, Some}
 use Rattle.std.proofs.Common.{None, ℤ, refl, ap, ◌∙◌, append-nil}
-use Rattle.pool_layout.specs.Image.{Words}
+use Rattle.cache_model.specs.Cache.{Words}
 use Rattle.cnvm_script.specs.declared.command.Command.{Command}
 use Rattle.cnvm_script.specs.declared.command.Command.TheVariants as command
 use Rattle.cnvm_session.specs.declared.answer.Answer.{Answer}

@@ -5,12 +5,12 @@ use Rattle.std.proofs.Common.{nat_lt, List, replicate, slice_index_or, slice_get
 use Rattle.std.proofs.Common.{None, ℤ, pos, int_eq, sym, subst, arith}
 use Rattle.std.proofs.lemmas.Int.{ints}
 use Rattle.nvm_base.specs.Wrap.{IsWord}
+use Rattle.cache_model.specs.Cache.{Words}
 use Rattle.pool_layout.specs.declared.limits.Sizes.{Sizes}
 use Rattle.pool_layout.specs.declared.places.Layout.{Layout}
 use Rattle.pool_layout.specs.declared.places.Place.TheVariants.{RecordWord, RecordOld, Heap}
 use Rattle.pool_layout.specs.Places.{at}
 use Rattle.pool_layout.specs.Sizes.{slot_word}
-use Rattle.pool_layout.specs.Image.{Words}
 use Rattle.pool_layout.specs.Log.{count}
 use Rattle.pool_layout.specs.Restored.{undo, undone, restored}
 use Rattle.pool_map.specs.declared.object.Object.{Object}

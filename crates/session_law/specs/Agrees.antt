@@ -3,7 +3,7 @@
 -- says, or with a full log exactly where its logged stores are more than the log has records. Each
 -- compiled program agrees with its source.
 use Rattle.std.specs.Prelude.{ℕ, ◌^◌, ◌<◌, ◌≤◌, ◌≡◌, List, length, Some, ℤ}
-use Rattle.pool_layout.specs.Image.{Words}
+use Rattle.cache_model.specs.Cache.{Words}
 use Rattle.pool_map.specs.PoolFits.{words_of}
 use Rattle.c_types.specs.Shapes.{shapes_of}
 use Rattle.c_meaning.specs.Transaction.{Outcome, Done, Trap}

@@ -4,9 +4,9 @@
 -- the attempt (18), the mark (19) and the seal (47), and for a marked transaction the heap.
 use Rattle.std.specs.Prelude.{ℕ, suc, ◌≡◌, ◌≢◌, ◌⊎◌, ◌==◌, ◌&&◌, Bool, true, false, List, length}
 use Rattle.std.specs.Prelude.{Option, Some, None, ℤ, pos}
+use Rattle.cache_model.specs.Cache.{Words}
 use Rattle.pmem.specs.declared.answer.Phase.TheVariants as phase
 use Rattle.pool_layout.specs.declared.places.TheConstants.{DONE, ATTEMPT, MARK, SEAL}
-use Rattle.pool_layout.specs.Image.{Words}
 use Rattle.pool_map.specs.declared.trap.TrapKind.{TrapKind}
 use Rattle.pool_map.specs.Trap.{trap_number}
 use Rattle.pool_map.specs.PoolMap.{PoolMap}

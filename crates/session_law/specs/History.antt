@@ -4,8 +4,8 @@
 use Rattle.std.specs.Prelude.{ℕ, suc, ◌+◌, ◌≡◌, ◌⊎◌, ◌&&◌, Bool, true, false, if◌then◌else◌, List}
 use Rattle.std.specs.Prelude.{[], ◌∷◌, ◌++◌, length, Option, Some, None, ℤ, pos}
 use Rattle.std.specs.Ordering.{int_eq}
+use Rattle.cache_model.specs.Cache.{Words}
 use Rattle.pool_layout.specs.declared.places.TheConstants.{DONE, SEAL}
-use Rattle.pool_layout.specs.Image.{Words}
 use Rattle.pool_map.specs.declared.trap.TrapKind.{TrapKind}
 use Rattle.pool_map.specs.PoolMap.{PoolMap}
 use Rattle.c_meaning.specs.Transaction.{Done, Trap}

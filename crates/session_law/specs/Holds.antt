@@ -1,9 +1,8 @@
 -- What a session's device holds, by what the source knows of the session.
 use Rattle.std.specs.Prelude.{◌≡◌, Bool, List, length, Some, None, true, false}
-use Rattle.cache_model.specs.Cache.{view}
+use Rattle.cache_model.specs.Cache.{view, Words}
 use Rattle.cache_model.specs.Image.{Images}
 use Rattle.pmem.specs.Device.{Device}
-use Rattle.pool_layout.specs.Image.{Words}
 use Rattle.pool_map.specs.Trap.{trap_number}
 use Rattle.clobber_log.specs.Logs.{count_in}
 use Rattle.pm_machine.specs.declared.effect.Effect.{Effect}

@@ -2,16 +2,16 @@
 use Rattle.std.specs.Prelude.{ℕ, suc, ◌+◌, ◌*◌, ◌<◌, ◌≤◌, ◌≡◌, ◌≢◌, ◌⊎◌, List, [], ◌∷◌, ◌++◌}
 use Rattle.std.specs.Prelude.{length, Some, Ok, ℤ, pos, slice_index_or, true, false}
 use Rattle.std.specs.List.{AllByRecursion}
-use Rattle.cache_model.specs.Cache.{view}
 use Rattle.cache_model.specs.Image.{Images}
 use Rattle.cache_model.specs.declared.choice.Choice.{Choice}
+use Rattle.cache_model.specs.Cache.{view, Words}
 use Rattle.pmem.specs.Device.{Device, powered, blanked}
 use Rattle.pmem.specs.Played.{PlaysAll}
 use Rattle.pmem.specs.declared.answer.Phase.{Phase}
 use Rattle.pmem.specs.declared.answer.Phase.TheVariants as phase
 use Rattle.pool_layout.specs.declared.places.TheConstants.{LAST, SEAL}
 use Rattle.pool_layout.specs.Sizes.{heap_words, pool_lines}
-use Rattle.pool_layout.specs.Image.{Words, image_words}
+use Rattle.pool_layout.specs.Image.{image_words}
 use Rattle.pool_layout.specs.Good.{magic}
 use Rattle.pool_layout.specs.Opened.{IsOpened}
 use Rattle.pool_map.specs.declared.trap.TrapKind.{TrapKind}

@@ -1,7 +1,7 @@
 -- What a transaction marked `abort` comes to on a heap. Its run logs the first store of each word.
 -- It ends as the source says, or with a full log where one more record than the log has is due.
 use Rattle.std.specs.Prelude.{ℕ, ◌≡◌, ◌⊎◌, List, ℤ}
-use Rattle.pool_layout.specs.Image.{Words}
+use Rattle.cache_model.specs.Cache.{Words}
 use Rattle.pool_map.specs.declared.trap.TrapKind.{TrapKind}
 use Rattle.pool_map.specs.declared.trap.TrapKind.TheVariants.{LogFull}
 use Rattle.pool_map.specs.PoolMap.{PoolMap}

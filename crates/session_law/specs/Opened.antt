@@ -3,15 +3,16 @@
 -- image's own. If it has a mark, the pool is unusable.
 use Rattle.std.specs.Prelude.{if◌then◌else◌, length, Some, None, pos}
 use Rattle.std.specs.Ordering.{int_eq}
+use Rattle.cache_model.specs.Cache.{Words}
 use Rattle.pool_layout.specs.declared.places.TheConstants.{LAST, DONE, MARK, FUNCTION}
 use Rattle.pool_layout.specs.declared.places.Place.TheVariants.{Heap}
 use Rattle.pool_layout.specs.declared.wanted.Wanted.{Wanted}
 use Rattle.pool_layout.specs.Places as places
-use Rattle.pool_layout.specs.Image.{Words}
+use Rattle.pool_layout.specs.Image.{is_sealed}
 use Rattle.pool_layout.specs.Restored.{restored}
 use Rattle.c_types.specs.Shapes.{shapes_of, transactions_of}
 use Rattle.clobber_log.specs.Logs.{attempt_in}
-use Rattle.args_log.specs.Pending.{is_sealed, tx_number}
+use Rattle.args_log.specs.Pending.{tx_number}
 use Rattle.tx_run.specs.Standing.{trap_of_mark}
 use Rattle.recovery.specs.Found.{recorded}
 use Rattle.cnvm_session.specs.declared.program.Program.{Program}

@@ -2,9 +2,9 @@
 -- device did, what the source says of it, what the device then holds, and which transactions are
 -- done. The image of a step is the device's own, and the super words are the pool's.
 use Rattle.std.specs.Prelude.{ℕ, ◌≡◌, List, [], ◌∷◌, ℤ}
-use Rattle.cache_model.specs.Cache.{view}
+use Rattle.cache_model.specs.Cache.{view, Words}
 use Rattle.pmem.specs.Device.{Device, powered}
-use Rattle.pool_layout.specs.Image.{Words, image_words}
+use Rattle.pool_layout.specs.Image.{image_words}
 use Rattle.cnvm_script.specs.declared.command.Command.{Command}
 use Rattle.cnvm_script.specs.declared.command.Command.TheVariants as command
 use Rattle.cnvm_session.specs.declared.answer.Answer.{Answer}

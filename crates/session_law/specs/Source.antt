@@ -4,9 +4,10 @@
 use Rattle.std.specs.Prelude.{ℕ, ◌+◌, ◌*◌, ◌≤◌, ◌≡◌, if◌then◌else◌, nat_lt, List, [], length}
 use Rattle.std.specs.Prelude.{Option, option_map, ℤ}
 use Rattle.std.specs.Option.{option_map_or}
+use Rattle.cache_model.specs.Cache.{Words}
 use Rattle.pool_layout.specs.declared.limits.Sizes.{Sizes}
 use Rattle.pool_layout.specs.Sizes.{slot_word}
-use Rattle.pool_layout.specs.Image.{Words, IsUpTo}
+use Rattle.pool_layout.specs.Image.{IsUpTo}
 use Rattle.pool_layout.specs.Headers.{HasHeaders}
 use Rattle.pool_map.specs.PoolMap.{PoolMap}
 use Rattle.pool_map.specs.declared.trap.TrapKind.TheVariants.{LogFull}

@@ -9,7 +9,7 @@ use Rattle.pmem.specs.declared.answer.Phase.TheVariants as phase
 use Rattle.pmem.proofs.Refused.{all_on}
 use Rattle.pool_layout.specs.declared.places.TheConstants.{MARK}
 use Rattle.pool_layout.proofs.Records.{decided}
-use Rattle.args_log.specs.Pending.{is_sealed}
+use Rattle.pool_layout.specs.Image.{is_sealed}
 use Rattle.pm_machine.specs.declared.image.Image.{Image}
 use Rattle.recovery.specs.Found.{names_tx}
 use Rattle.recovery.specs.Recovered.{Cleaned, Redid, IsRecovered, numbers_out, tx_in}

@@ -1,7 +1,7 @@
 -- What only bodies and proofs need beside `Content`.
 use Rattle.std.specs.Prelude.{ℕ, ◌-◌, ◌*◌, ◌%◌, ◌^◌, ◌<◌, ◌≤◌, ◌≡◌, ◌==◌, ◌&&◌, ◌||◌, nat_le, ◌+ℤ◌}
+use Rattle.cache_model.specs.Cache.{Words}
 use Rattle.pool_layout.specs.declared.places.Layout.{Layout}
-use Rattle.pool_layout.specs.Image.{Words}
 use Rattle.pool_layout.specs.Content.{are_valid}
 
 -- the first n records are valid, and record n isn't
