@@ -17,6 +17,7 @@ use Rattle.pmem.proofs.Parts.{part_during, all_during, during_start}
 use Rattle.pool_layout.specs.declared.places.Place.TheVariants.{Last}
 use Rattle.pool_layout.specs.Places.{at, pool_of}
 use Rattle.pool_layout.specs.Log.{count}
+use Rattle.pool_layout.specs.Good.{Pool, Good}
 use Rattle.clobber_log.specs.Logs.{count_in}
 use Rattle.pm_machine.specs.declared.effect.Effect.{Effect}
 use Rattle.pm_machine.specs.declared.effect.End.{End}
@@ -25,7 +26,7 @@ use Rattle.pm_machine.specs.declared.image.Image.{Image}
 use Rattle.pm_machine.specs.Effects.{heap_end}
 use Rattle.pm_machine.specs.Machine.{Finished, start}
 use Rattle.pm_machine.specs.Runs.{heap_in, end_of}
-use Rattle.crash_law.specs.Pools.{Pool, Call, Good}
+use Rattle.crash_law.specs.Pools.{Call}
 use Rattle.crash_law.specs.Law.{collapsed, AreInARow}
 use Rattle.crash_law.proofs.Again.{collapsed_one, left_image}
 use Rattle.tx_run.specs.Due.{due_seal}

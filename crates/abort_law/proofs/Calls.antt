@@ -17,6 +17,7 @@ use Rattle.pool_layout.specs.Places.{at, pool_of}
 use Rattle.pool_layout.specs.Sizes.{heap_words}
 use Rattle.pool_layout.specs.Log.{count}
 use Rattle.pool_layout.proofs.Records.{log_is, pos_inj}
+use Rattle.pool_layout.specs.Good.{Pool, Good}
 use Rattle.args_log.specs.Next.{number_after}
 use Rattle.args_log.specs.Seal.{seal_events}
 use Rattle.clobber_log.specs.Logs.{count_in}
@@ -27,7 +28,7 @@ use Rattle.pm_machine.specs.declared.image.Image.{Image}
 use Rattle.pm_machine.specs.Effects.{heap_end}
 use Rattle.pm_machine.specs.Machine.{State, Finished, start}
 use Rattle.pm_machine.specs.Runs.{heap_in, AreLines}
-use Rattle.crash_law.specs.Pools.{Pool, Call, Good}
+use Rattle.crash_law.specs.Pools.{Call}
 use Rattle.crash_law.specs.Due as crash
 use Rattle.crash_law.specs.Law.{IsAtRest}
 use Rattle.crash_law.proofs.Rest.{call_rest}

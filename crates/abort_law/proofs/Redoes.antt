@@ -18,6 +18,7 @@ use Rattle.pool_layout.specs.Places.{at, pool_of}
 use Rattle.pool_layout.specs.Log.{count}
 use Rattle.pool_layout.specs.Restored.{undone, restored}
 use Rattle.pool_layout.proofs.Records.{log_is, pos_inj}
+use Rattle.pool_layout.specs.Good.{Pool}
 use Rattle.clobber_log.specs.Logs.{attempt_of, attempt_in, count_in}
 use Rattle.clobber_log.specs.Reset.{reset_events}
 use Rattle.clobber_log.specs.Restore.{first_events, restore_events}
@@ -28,7 +29,7 @@ use Rattle.pm_machine.specs.declared.image.Image.{Image}
 use Rattle.pm_machine.specs.Effects.{heap_end}
 use Rattle.pm_machine.specs.Machine.{State, Finished, start}
 use Rattle.pm_machine.specs.Runs.{heap_in}
-use Rattle.crash_law.specs.Pools.{Pool, Call}
+use Rattle.crash_law.specs.Pools.{Call}
 use Rattle.crash_law.specs.Due as crash
 use Rattle.crash_law.specs.Law.{IsAtRest}
 use Rattle.crash_law.proofs.Rest.{redo_rest}

@@ -10,6 +10,7 @@ use Rattle.pmem.specs.Device.{Device}
 use Rattle.pool_layout.specs.Places.{pool_of}
 use Rattle.pool_layout.specs.Sizes.{heap_words}
 use Rattle.pool_layout.specs.Log.{count}
+use Rattle.pool_layout.specs.Good.{Pool}
 use Rattle.pm_machine.specs.declared.effect.Effect.{Effect}
 use Rattle.pm_machine.specs.declared.effect.End.{End}
 use Rattle.pm_machine.specs.declared.effect.End.TheVariants.{Halted, Trapped}
@@ -17,7 +18,7 @@ use Rattle.pm_machine.specs.declared.image.Image.{Image}
 use Rattle.pm_machine.specs.Effects.{heap_end, records_end}
 use Rattle.pm_machine.specs.Machine.{State, Finished}
 use Rattle.pm_machine.specs.Runs.{heap_in, AreLines}
-use Rattle.crash_law.specs.Pools.{Pool, Call, IsBefore, IsDone, last_of}
+use Rattle.crash_law.specs.Pools.{Call, IsBefore, IsDone, last_of}
 use Rattle.crash_law.specs.Law.{IsAtRest, IsLeft, collapsed, AreInARow}
 use Rattle.run_law.specs.Seen.{trace_in}
 use Rattle.run_law.specs.Sound.{IsPairedRun, IsTidyEnd, IsSoundRun}

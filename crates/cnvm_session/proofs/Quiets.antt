@@ -12,9 +12,10 @@ use Rattle.pool_layout.specs.declared.limits.Sizes.{Sizes}
 use Rattle.pool_layout.specs.declared.places.Place.TheVariants.{Heap}
 use Rattle.pool_layout.specs.Places.{at, pool_of}
 use Rattle.pool_layout.specs.Sizes.{heap_words}
+use Rattle.pool_layout.specs.Good.{Pool}
 use Rattle.clobber_log.specs.Logs.{attempt_of, count_in}
 use Rattle.recovery.specs.Found.{has_numbers}
-use Rattle.crash_law.specs.Pools.{Pool, IsBefore}
+use Rattle.crash_law.specs.Pools.{IsBefore}
 use Rattle.cnvm_session.specs.Laws.{TellTheSame, IsQuiet, IsCacheAtRest}
 
 view_image : (c : Cache) → IsImage c (view c)

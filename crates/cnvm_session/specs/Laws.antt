@@ -10,7 +10,8 @@ use Rattle.pmem.specs.declared.answer.Phase.TheVariants as phase
 use Rattle.pool_layout.specs.declared.places.TheConstants.{LAST, DONE, ATTEMPT, MARK}
 use Rattle.pool_layout.specs.declared.limits.Sizes.{Sizes}
 use Rattle.pool_layout.specs.Image.{is_sealed}
-use Rattle.crash_law.specs.Pools.{Pool, IsBefore}
+use Rattle.pool_layout.specs.Good.{Pool}
+use Rattle.crash_law.specs.Pools.{IsBefore}
 use Rattle.clobber_log.specs.Logs.{attempt_in, count_in}
 use Rattle.tx_run.specs.Standing.{trap_of_mark}
 use Rattle.recovery.specs.Found.{has_numbers}

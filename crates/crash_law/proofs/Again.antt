@@ -5,11 +5,12 @@ use Rattle.cache_model.specs.Event.{CacheEvent}
 use Rattle.cache_model.specs.Cache.{Words, Cache}
 use Rattle.cache_model.specs.Image.{Images, HasOne}
 use Rattle.cache_model.specs.During.{during}
-use Rattle.crash_law.specs.Pools.{Pool, Call, Owed}
+use Rattle.crash_law.specs.Pools.{Call, Owed}
 use Rattle.crash_law.specs.Due.{Entry, Result, heap_after, redo_events}
 use Rattle.crash_law.specs.Law.{IsRun, IsEnd, collapsed, IsLeft, IsCutTo, AreInARow}
 use Rattle.cache_model.proofs.During.{during_prefix}
 use Rattle.crash_law.proofs.Redo.{cut_redo}
+use Rattle.pool_layout.specs.Good.{Pool}
 
 -- the cache after a power cut has one image
 pub collapsed_one : (image : Words) → HasOne (collapsed image) image

@@ -12,7 +12,6 @@ use Rattle.pool_layout.specs.declared.places.Place.TheVariants.{RecordStamp, Spa
 use Rattle.pool_layout.specs.declared.places.Layout.{Layout}
 use Rattle.pool_layout.specs.Places.{at, line_of, IsPlace, pool_of}
 use Rattle.pool_layout.specs.Log.{count}
-use Rattle.crash_law.specs.Pools.{Pool, Good}
 use Rattle.clobber_log.specs.Reset.{reset_events}
 use Rattle.crash_law.proofs.Walks.{reset_walk, reset_same}
 use Rattle.crash_law.specs.Law.{IsClean, CutClean}
@@ -24,6 +23,7 @@ use Rattle.cache_model.proofs.During.{through_during, through_end}
 use Rattle.crash_law.proofs.Held.{Cover, cover_image, cover_view, Held, held_image, held_flush}
 use Rattle.crash_law.proofs.Held.{held_cover, held_store, held_single}
 use Rattle.pool_layout.proofs.Records.{count_is, pos_inj}
+use Rattle.pool_layout.specs.Good.{Pool, Good}
 use Rattle.crash_law.proofs.Fine.{Fine, ok, IsFine, StampIs, at_rest, good_image}
 use Rattle.crash_law.proofs.Seal.{one_cover, good_fine}
 

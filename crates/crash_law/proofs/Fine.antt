@@ -13,8 +13,9 @@ use Rattle.pool_layout.specs.Places.{at, IsPlace, pool_of}
 use Rattle.pool_layout.specs.Image.{IsUpTo}
 use Rattle.pool_layout.specs.Log.{count}
 use Rattle.pool_layout.specs.Restored.{restored, undone}
-use Rattle.crash_law.specs.Pools.{call_word, Pool, Call, IsKept, Good, Owed}
+use Rattle.crash_law.specs.Pools.{call_word, Call, IsKept, Owed}
 use Rattle.pool_layout.proofs.Records.{pos_inj, count_is}
+use Rattle.pool_layout.specs.Good.{Pool, Good}
 use Rattle.crash_law.proofs.Records.{found, found_cong, undone_found, well_made}
 
 pub record Fine : Type 1 where

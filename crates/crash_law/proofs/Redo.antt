@@ -16,7 +16,7 @@ use Rattle.pool_layout.specs.declared.places.Layout.{Layout}
 use Rattle.pool_layout.specs.Places.{at, IsPlace, pool_of}
 use Rattle.pool_layout.specs.Log.{count}
 use Rattle.pool_layout.specs.Restored.{restored, undone}
-use Rattle.crash_law.specs.Pools.{Pool, Call, Good, Owed}
+use Rattle.crash_law.specs.Pools.{Call, Owed}
 use Rattle.crash_law.specs.Due.{Entry, Result, Halted, Trapped, heap_after, due_run, redo_events}
 use Rattle.clobber_log.specs.Reset.{reset_events}
 use Rattle.clobber_log.specs.Restore.{first_events}
@@ -26,6 +26,7 @@ use Rattle.cache_model.specs.inside.During.{Through}
 use Rattle.cache_model.proofs.During.{through_more, through_during, through_end}
 use Rattle.crash_law.proofs.Held.{cover_more, cover_view}
 use Rattle.pool_layout.proofs.Records.{LogIs, log_is}
+use Rattle.pool_layout.specs.Good.{Pool, Good}
 use Rattle.crash_law.proofs.Records.{found, found_zero, nothing, undone_found, undone_cong}
 use Rattle.crash_law.proofs.Fine.{Fine, ok, Setting, owing, IsFine, StampIs}
 use Rattle.crash_law.proofs.Run.{Running, Recorded, running}

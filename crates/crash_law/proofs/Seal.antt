@@ -17,7 +17,7 @@ use Rattle.pool_layout.specs.declared.places.Layout.{Layout}
 use Rattle.pool_layout.specs.declared.limits.Sizes.{Sizes}
 use Rattle.pool_layout.specs.Places.{at, line_of, IsPlace, pool_of}
 use Rattle.pool_layout.specs.Log.{count}
-use Rattle.crash_law.specs.Pools.{Pool, Good, Owed, IsBefore, call_word}
+use Rattle.crash_law.specs.Pools.{Owed, IsBefore, call_word}
 use Rattle.crash_law.specs.Due.{due_seal}
 use Rattle.crash_law.proofs.Walks.{store_words, flush_from, seal_walk, seal_same}
 use Rattle.cache_model.proofs.Views.{view_same, view_other, view_flush, view_fence}
@@ -28,6 +28,7 @@ use Rattle.cache_model.specs.inside.During.{Through}
 use Rattle.crash_law.proofs.Held.{Cover, cover_image, cover_view, cover_store, cover_flush, Held}
 use Rattle.crash_law.proofs.Held.{held_image, held_flush, held_cover, held_store, held_single}
 use Rattle.pool_layout.proofs.Records.{log_is}
+use Rattle.pool_layout.specs.Good.{Pool, Good}
 use Rattle.crash_law.proofs.Records.{found, nothing}
 use Rattle.crash_law.proofs.Fine.{Fine, ok, Setting, at_rest, good_image, IsFine}
 use Rattle.crash_law.proofs.Run.{running, Recorded, Running, pick}

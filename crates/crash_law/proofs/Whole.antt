@@ -10,7 +10,8 @@ use Rattle.pool_layout.specs.declared.limits.Sizes.{Sizes}
 use Rattle.pool_layout.specs.declared.places.Layout.{Layout}
 use Rattle.pool_layout.specs.Places.{at, pool_of}
 use Rattle.pool_layout.specs.Log.{count}
-use Rattle.crash_law.specs.Pools.{Pool, Call, Good, Owed}
+use Rattle.pool_layout.specs.Good.{Pool, Good}
+use Rattle.crash_law.specs.Pools.{Call, Owed}
 use Rattle.crash_law.specs.Due.{Entry, Plain, Logged, Result, Halted, Trapped, IsStored, run_events}
 use Rattle.crash_law.specs.Due.{heap_after, lines_of, end_events, due_run, due_call}
 use Rattle.crash_law.specs.Law.{IsRun, IsEnd, IsCut, CutCall}

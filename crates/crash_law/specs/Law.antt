@@ -10,8 +10,8 @@ use Rattle.cache_model.specs.During.{during}
 use Rattle.pool_layout.specs.declared.limits.Sizes.{Sizes}
 use Rattle.pool_layout.specs.Places.{pool_of}
 use Rattle.pool_layout.specs.Log.{count}
-use Rattle.pool_layout.specs.Good.{Lost}
-use Rattle.crash_law.specs.Pools.{Pool, Call, Good, Owed, IsBefore, IsDone, last_of, HasNoRecord}
+use Rattle.pool_layout.specs.Good.{Lost, Pool, Good}
+use Rattle.crash_law.specs.Pools.{Call, Owed, IsBefore, IsDone, last_of, HasNoRecord}
 use Rattle.crash_law.specs.Due.{Entry, Result, Halted, Trapped, IsTrace, IsStored, heap_after}
 use Rattle.crash_law.specs.Due.{run_events, due_call, redo_events, clean_events}
 use Rattle.crash_law.specs.Effects.{Effect, IsSound, IsInput, IsOverwritten, trace_of}

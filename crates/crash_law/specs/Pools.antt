@@ -1,4 +1,4 @@
--- What an image of a pool holds at rest (Good), and where a call is owed (Owed).
+-- What an image of a pool holds where a call is owed, and before and after a call.
 use Rattle.std.specs.Prelude.{ℕ, suc, ◌+◌, ◌^◌, ◌<◌, ◌≤◌, ◌≡◌, ◌⊎◌, List, ◌∷◌, length}
 use Rattle.std.specs.Prelude.{slice_index_or, ℤ, pos}
 use Rattle.cache_model.specs.Cache.{Words}
@@ -9,12 +9,7 @@ use Rattle.pool_layout.specs.Sizes.{heap_words}
 use Rattle.pool_layout.specs.Places.{at, pool_of}
 use Rattle.pool_layout.specs.Log.{WellMade, count}
 use Rattle.pool_layout.specs.Restored.{restored}
-
--- a pool of these sizes, and the words of lines 0 and 1: magic, version, sizes and digest, and the
--- unread ones
-pub record Pool : Type 0 where
-  pub sizes : Sizes
-  pub super : ℕ → ℤ
+use Rattle.pool_layout.specs.Good.{Pool, Good}
 
 -- a call: its number less one, its function and its arguments
 pub record Call : Type 0 where
@@ -30,18 +25,7 @@ call_word call k = slice_index_or (call.function ∷ call.args) k (pos 0)
 abbrev pub IsKept : (E W : ℕ → Type 0) → ℕ → Type 0
 IsKept E W w = (W w → ⊥) ⊎ E w
 
-pub record Good (pool : Pool) (d : ℕ) (h : ℕ → ℤ) (image : Words) : Type 0 where
-  pub super : (k : ℕ) → k < 16 → image (at (pool_of pool.sizes) (Super k)) ≡ pool.super k
-  pub mark : image (at (pool_of pool.sizes) Mark) ≡ pos 0
-  pub done : image (at (pool_of pool.sizes) Done) ≡ pos d
-  pub done_fits : d ≤ 2 ^ 62 + 1
-  pub unsealed : image (at (pool_of pool.sizes) Seal) ≡ pos (suc d) → ⊥
-  pub attempt : ℕ
-  pub attempt_is : image (at (pool_of pool.sizes) Attempt) ≡ pos attempt
-  pub attempt_fits : attempt ≤ 2 ^ 62 + 1
-  pub log : WellMade (pool_of pool.sizes) attempt image
-  pub heap : (w : ℕ) → w < heap_words pool.sizes → image (at (pool_of pool.sizes) (Heap w)) ≡ h w
-
+-- the call is owed: it is sealed, and the log restores what it needs
 pub record Owed (pool : Pool) (call : Call) (E W : ℕ → Type 0) (h : ℕ → ℤ) (image : Words) :
     Type 0 where
   pub super : (k : ℕ) → k < 16 → image (at (pool_of pool.sizes) (Super k)) ≡ pool.super k

@@ -10,10 +10,10 @@ use Rattle.pool_layout.specs.declared.places.TheConstants.{ATTEMPT}
 use Rattle.pool_layout.specs.declared.limits.Sizes.{Sizes}
 use Rattle.pool_layout.specs.Places.{pool_of}
 use Rattle.pool_layout.specs.Log.{count}
+use Rattle.pool_layout.specs.Good.{Good}
 use Rattle.clobber_log.specs.Logs.{attempt_of}
 use Rattle.clobber_log.specs.Reset.{reset_events}
 use Rattle.pm_machine.specs.declared.image.Image.{Image}
-use Rattle.crash_law.specs.Pools.{Good}
 use Rattle.crash_law.specs.Due as crash
 use Rattle.crash_law.specs.Law.{IsClean}
 use Rattle.crash_law.proofs.Clean as whole

@@ -11,6 +11,7 @@ use Rattle.pool_layout.specs.declared.limits.Sizes.{Sizes}
 use Rattle.pool_layout.specs.declared.places.Place.TheVariants.{Last}
 use Rattle.pool_layout.specs.Places.{at, pool_of}
 use Rattle.pool_layout.specs.Log.{count}
+use Rattle.pool_layout.specs.Good.{Pool, Good}
 use Rattle.clobber_log.specs.Logs.{attempt_of, count_in}
 use Rattle.pm_machine.specs.declared.effect.Effect.{Effect}
 use Rattle.pm_machine.specs.declared.effect.End.{End}
@@ -19,7 +20,7 @@ use Rattle.pm_machine.specs.declared.image.Image.{Image}
 use Rattle.pm_machine.specs.Effects.{heap_end}
 use Rattle.pm_machine.specs.Machine.{Finished, mrun, start}
 use Rattle.pm_machine.specs.Runs.{heap_in}
-use Rattle.crash_law.specs.Pools.{Pool, Call, Good}
+use Rattle.crash_law.specs.Pools.{Call}
 use Rattle.crash_law.specs.Due as crash
 use Rattle.crash_law.specs.Law.{IsCut, IsEnd, IsAtRest}
 use Rattle.crash_law.proofs.Rest.{call_rest}

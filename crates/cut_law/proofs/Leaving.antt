@@ -17,13 +17,14 @@ use Rattle.pool_layout.specs.declared.places.TheConstants.{DONE}
 use Rattle.pool_layout.specs.declared.places.Place.TheVariants.{Last}
 use Rattle.pool_layout.specs.Places.{at, pool_of}
 use Rattle.pool_layout.specs.Log.{count}
+use Rattle.pool_layout.specs.Good.{Good}
 use Rattle.pm_machine.specs.declared.effect.Effect.{Effect}
 use Rattle.pm_machine.specs.declared.effect.End.{End}
 use Rattle.pm_machine.specs.declared.image.Image.{Image}
 use Rattle.pm_machine.specs.Effects.{heap_end, records_end, events_all}
 use Rattle.pm_machine.specs.Machine.{Finished, mrun}
 use Rattle.pm_machine.specs.Runs.{heap_in, Due, end_of}
-use Rattle.crash_law.specs.Pools.{Good, Owed}
+use Rattle.crash_law.specs.Pools.{Owed}
 use Rattle.crash_law.specs.Law.{IsCut, IsEnd}
 use Rattle.run_law.specs.Seen.{result_of, E, W}
 use Rattle.run_law.specs.Sound.{IsSoundRun}

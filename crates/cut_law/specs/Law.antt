@@ -7,6 +7,7 @@ use Rattle.cache_model.specs.Image.{HasOne}
 use Rattle.pool_layout.specs.declared.places.TheConstants.{DONE, ATTEMPT}
 use Rattle.pool_layout.specs.Places.{pool_of}
 use Rattle.pool_layout.specs.Log.{count}
+use Rattle.pool_layout.specs.Good.{Pool, Good}
 use Rattle.clobber_log.specs.Logs.{count_in}
 use Rattle.pm_machine.specs.declared.effect.Effect.{Effect}
 use Rattle.pm_machine.specs.declared.effect.End.{End}
@@ -15,7 +16,7 @@ use Rattle.pm_machine.specs.declared.image.Image.{Image}
 use Rattle.pm_machine.specs.Effects.{heap_end}
 use Rattle.pm_machine.specs.Machine.{Finished, mrun}
 use Rattle.pm_machine.specs.Runs.{heap_in}
-use Rattle.crash_law.specs.Pools.{Pool, Call, Good, Owed, last_of}
+use Rattle.crash_law.specs.Pools.{Call, Owed, last_of}
 use Rattle.crash_law.specs.Due as crash
 use Rattle.crash_law.specs.Law.{Leaves, IsCut, IsEnd, IsClean, IsAtRest, IsLeft, collapsed}
 use Rattle.crash_law.specs.Law.{AreInARow}

@@ -4,7 +4,7 @@ use Rattle.std.proofs.Common.{IfOk, List, length, true, false, ℤ, pos, refl, s
 use Rattle.cache_model.specs.Cache.{Words}
 use Rattle.pool_layout.specs.declared.places.Version.{Version}
 use Rattle.pool_layout.specs.declared.places.Version.TheVariants.{First, Second}
-use Rattle.pool_layout.specs.declared.places.Place.TheVariants.{Super, Done, Attempt, Mark, Seal}
+use Rattle.pool_layout.specs.declared.places.Place.TheVariants.{Super, Done, Mark, Seal}
 use Rattle.pool_layout.specs.declared.places.Place.TheVariants.{Heap}
 use Rattle.pool_layout.specs.declared.rules.Rules.{Rules}
 use Rattle.pool_layout.specs.declared.wanted.Wanted.{Wanted}
@@ -12,12 +12,11 @@ use Rattle.pool_layout.specs.Sizes.{pool_lines, slot_word}
 use Rattle.pool_layout.specs.Places.{at, log_line, pool_of}
 use Rattle.pool_layout.specs.Bytes.{word_in}
 use Rattle.pool_layout.specs.Image.{image_words, is_next, is_sealed, IsUpTo}
-use Rattle.pool_layout.specs.Log.{WellMade}
 use Rattle.pool_layout.specs.Good.{HasSuper, Good}
 use Rattle.pool_layout.specs.Opens.{IsOpenable}
 use Rattle.pool_layout.specs.Moved.{moved, first_layout, AreMoved}
 use Rattle.pool_layout.specs.Fault.{Accepts, rules_of, version_of, needed}
-use Rattle.pool_layout.specs.Opened.{IsOpened, wanted_rules}
+use Rattle.pool_layout.specs.Opened.{IsOpened, wanted_rules, image_pool}
 use Rattle.pool_layout.proofs.Moving.{moved_keeps, moved_unsealed}
 use Rattle.pool_layout.proofs.Kept.{slot_inside, is_valid_of}
 use Rattle.pool_layout.proofs.Opening.{kept_opens}
@@ -145,32 +144,27 @@ up_to_is n d x up is = let e : up.0 ≡ d = inj up.0 d (sym up.2 ∙ is) in omeg
     inj : (a b : ℕ) → pos a ≡ pos b → a ≡ b
     inj a b e = cc
 
-pub opened_rests : (wanted : Wanted) (all : List ℤ) (a d : ℕ) → IsOpened wanted all
+pub opened_rests : (wanted : Wanted) (all : List ℤ) (d : ℕ) → IsOpened wanted all
     → image_words all (at (pool_of wanted.sizes) Mark) ≡ pos 0
-    → image_words all (at (pool_of wanted.sizes) Attempt) ≡ pos a
     → image_words all (at (pool_of wanted.sizes) Done) ≡ pos d
     → is_sealed (image_words all) ≡ false
-    → Good wanted.sizes wanted.digest a d
-    (λ w. image_words all (at (pool_of wanted.sizes) (Heap w)))
-    (image_words all)
-opened_rests wanted all a d opened mark attempt done unsealed =
+    → Good (image_pool wanted.sizes (image_words all)) d
+    (λ w. image_words all (at (pool_of wanted.sizes) (Heap w))) (image_words all)
+opened_rests wanted all d opened mark done unsealed =
     let image : Words = image_words all in
     let o = opened.opens in
-    let same : o.attempt ≡ a = inj o.attempt a (sym o.attempt_is ∙ attempt) in
     let done_fits : d ≤ 2 ^ 62 = up_to_is (2 ^ 62) d (image (at (pool_of wanted.sizes) Done))
     o.done done in
     record {
-      super = opened.super;
+      super = λ k lt. refl;
       mark = mark;
       done = done;
       done_fits = omega arith;
       unsealed = λ e. not_sealed (image (at (pool_of wanted.sizes) Seal))
           (image (at (pool_of wanted.sizes) Done)) d done unsealed e;
-      attempt_is = attempt;
+      attempt = o.attempt;
+      attempt_is = o.attempt_is;
       attempt_fits = omega (arith, o.attempt_fits);
-      log = subst (λ (k : ℕ). WellMade (pool_of wanted.sizes) k image) same o.log;
+      log = o.log;
       heap = λ w lt. refl;
     }
-  where
-    inj : (x y : ℕ) → pos x ≡ pos y → x ≡ y
-    inj x y e = cc

@@ -9,9 +9,9 @@ use Rattle.cache_model.specs.Cache.{Words}
 use Rattle.pool_layout.specs.declared.limits.Sizes.{Sizes}
 use Rattle.pool_layout.specs.declared.places.Layout.{Layout}
 use Rattle.pool_layout.specs.Sizes.{heap_words, slot_word}
-use Rattle.pool_layout.specs.Image.{IsUpTo}
+use Rattle.pool_layout.specs.Image.{is_next, IsUpTo}
 use Rattle.pool_layout.specs.Opens.{IsBelow}
-use Rattle.pool_layout.specs.Content.{is_within, is_next, is_valid, are_valid, is_stamp, in_heap}
+use Rattle.pool_layout.specs.Content.{is_within, is_valid, are_valid, is_stamp, in_heap}
 use Rattle.pool_layout.specs.Content.{is_header, names_header}
 use Rattle.pool_layout.specs.inside.Content.{IsLeading}
 

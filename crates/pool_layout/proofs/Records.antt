@@ -1,6 +1,6 @@
 -- The count of a log, and a well made log by its count.
-use Rattle.std.proofs.Common.{◌≡◌, ◌≢◌, ◌⊎◌, inl, inr, ⊎_elim, ℕ, zero, suc, ◌+◌, ◌<◌, ◌≤◌, min}
-use Rattle.std.proofs.Common.{cond, Bool, true, false, ℤ, pos, refl, sym, ap, ◌∙◌, subst, arith}
+use Rattle.std.proofs.Common.{◌≡◌, ◌≢◌, ◌⊎◌, inl, inr, ⊎_elim, ℕ, zero, suc, ◌<◌, ◌≤◌, min}
+use Rattle.std.proofs.Common.{Bool, true, false, ℤ, pos, refl, sym, ap, ◌∙◌, subst, arith}
 use Rattle.std.proofs.Common.{int_eq, ◌==◌, ◌&&◌, if◌then◌else◌}
 use Rattle.std.proofs.lemmas.Bool.{cases_eq, cases_lt}
 use Rattle.std.proofs.lemmas.Bool.Decides.{Decides-int_eq, Decides-eqb}
@@ -32,7 +32,7 @@ module _ (stamps : ℕ → ℤ) (a n m : ℕ) where
   goes_on = (m == n) && int_eq (stamps n) (pos (suc a))
 
   count_at : goes_on ≡ true → m ≡ n
-  count_at on = (Decides-(m == n)).0
+  count_at on = (Decides-eqb m n).0
       (left_of ((m == n)) (int_eq (stamps n) (pos (suc a))) on)
 
   stamp_at : goes_on ≡ true → stamps n ≡ pos (suc a)
@@ -41,7 +41,7 @@ module _ (stamps : ℕ → ℤ) (a n m : ℕ) where
 
   on_past : m ≡ n → stamps n ≡ pos (suc a) → goes_on ≡ true
   on_past same here = both_true ((m == n)) (int_eq (stamps n) (pos (suc a)))
-      ((Decides-(m == n)).1 same) ((Decides-int_eq (stamps n) (pos (suc a))).1 here)
+      ((Decides-eqb m n).1 same) ((Decides-int_eq (stamps n) (pos (suc a))).1 here)
 
 leading_step : (b : Bool) (n m k : ℕ) → (b ≡ true → n < k) → (n < k → b ≡ true) → m ≡ min n k
     → (if b then suc n else m) ≡ min (suc n) k

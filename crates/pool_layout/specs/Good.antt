@@ -26,18 +26,25 @@ pub record HasSuper (s : Sizes) (digest : List ℤ) (image : Words) : Type 0 whe
   pub digest_is : (k : ℕ) → k < 4 → image (at (pool_of s) (Super (8 + k)))
       ≡ slice_index_or digest k (pos 0)
 
--- An image at rest, with attempt a, d finished transactions and heap h. The function, the arguments
--- and the unread words may have any value.
-pub record Good (s : Sizes) (digest : List ℤ) (a d : ℕ) (h : ℕ → ℤ) (image : Words) : Type 0 where
-  pub super : HasSuper s digest image
-  pub mark : image (at (pool_of s) Mark) ≡ pos 0
-  pub done : image (at (pool_of s) Done) ≡ pos d
+-- a pool of these sizes, and the words of lines 0 and 1: magic, version, sizes and digest, and the
+-- unread ones
+pub record Pool : Type 0 where
+  pub sizes : Sizes
+  pub super : ℕ → ℤ
+
+-- An image at rest, with d finished transactions and heap h. The function, the arguments and the
+-- unread words may have any value.
+pub record Good (pool : Pool) (d : ℕ) (h : ℕ → ℤ) (image : Words) : Type 0 where
+  pub super : (k : ℕ) → k < 16 → image (at (pool_of pool.sizes) (Super k)) ≡ pool.super k
+  pub mark : image (at (pool_of pool.sizes) Mark) ≡ pos 0
+  pub done : image (at (pool_of pool.sizes) Done) ≡ pos d
   pub done_fits : d ≤ 2 ^ 62 + 1
-  pub unsealed : image (at (pool_of s) Seal) ≡ pos (suc d) → ⊥
-  pub attempt_is : image (at (pool_of s) Attempt) ≡ pos a
-  pub attempt_fits : a ≤ 2 ^ 62 + 1
-  pub log : WellMade (pool_of s) a image
-  pub heap : (w : ℕ) → w < heap_words s → image (at (pool_of s) (Heap w)) ≡ h w
+  pub unsealed : image (at (pool_of pool.sizes) Seal) ≡ pos (suc d) → ⊥
+  pub attempt : ℕ
+  pub attempt_is : image (at (pool_of pool.sizes) Attempt) ≡ pos attempt
+  pub attempt_fits : attempt ≤ 2 ^ 62 + 1
+  pub log : WellMade (pool_of pool.sizes) attempt image
+  pub heap : (w : ℕ) → w < heap_words pool.sizes → image (at (pool_of pool.sizes) (Heap w)) ≡ h w
 
 -- An image whose mark is trap k.
 abbrev pub Lost : Sizes → ℕ → Words → Type 0

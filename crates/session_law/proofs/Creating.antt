@@ -13,10 +13,11 @@ use Rattle.pool_layout.specs.declared.places.Place.TheVariants.{RecordStamp, Hea
 use Rattle.pool_layout.specs.Places as places
 use Rattle.pool_layout.specs.Sizes.{pool_lines}
 use Rattle.pool_layout.proofs.Records.{count_is, pos_inj}
+use Rattle.pool_layout.specs.Good.{Good}
 use Rattle.pool_map.specs.declared.object.Object.{Object}
 use Rattle.pool_map.specs.declared.shapes.StructShape.{StructShape}
 use Rattle.clobber_log.specs.Logs.{count_in}
-use Rattle.crash_law.specs.Pools.{Good, IsBefore}
+use Rattle.crash_law.specs.Pools.{IsBefore}
 use Rattle.crash_law.specs.Law.{IsAtRest}
 use Rattle.c_types.specs.Shapes.{shapes_of}
 use Rattle.cut_law.specs.Law.{pool_with}

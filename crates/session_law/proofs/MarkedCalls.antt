@@ -16,6 +16,7 @@ use Rattle.pool_layout.specs.declared.limits.Sizes.{Sizes}
 use Rattle.pool_layout.specs.Places as places
 use Rattle.pool_layout.specs.Restored.{restored}
 use Rattle.pool_layout.specs.Log.{count}
+use Rattle.pool_layout.specs.Good.{Pool, Good}
 use Rattle.clobber_log.specs.Logs.{attempt_in, count_in}
 use Rattle.pool_map.specs.declared.trap.TrapKind.{TrapKind}
 use Rattle.c_meaning.specs.Transaction.{Done, Trap}
@@ -26,7 +27,7 @@ use Rattle.pm_machine.specs.declared.image.Image.{Image}
 use Rattle.pm_machine.specs.Effects.{heap_end, records_end}
 use Rattle.pm_machine.specs.Machine.{State, Finished, start}
 use Rattle.pm_machine.specs.Runs.{heap_in, end_of}
-use Rattle.crash_law.specs.Pools.{Pool, Call, Good, IsDone}
+use Rattle.crash_law.specs.Pools.{Call, IsDone}
 use Rattle.crash_law.specs.Law.{IsAtRest}
 use Rattle.tx_run.specs.Standing.{is_number}
 use Rattle.tx_run.specs.Due.{due_seal, tail_events}

@@ -18,6 +18,7 @@ use Rattle.pool_layout.specs.Sizes.{heap_words}
 use Rattle.pool_layout.specs.Places as places
 use Rattle.pool_layout.specs.Restored.{restored}
 use Rattle.pool_layout.specs.Log.{count}
+use Rattle.pool_layout.specs.Good.{Pool}
 use Rattle.pool_map.specs.declared.trap.TrapKind.{TrapKind}
 use Rattle.c_meaning.specs.Transaction.{Done, Trap}
 use Rattle.clobber_log.specs.Logs.{attempt_of, attempt_in, count_in}
@@ -27,7 +28,7 @@ use Rattle.pm_machine.specs.declared.effect.End.{End}
 use Rattle.pm_machine.specs.declared.effect.End.TheVariants.{Halted, Trapped}
 use Rattle.pm_machine.specs.Effects.{heap_end, records_end}
 use Rattle.pm_machine.specs.Machine.{Finished}
-use Rattle.crash_law.specs.Pools.{Pool, Call, IsDone}
+use Rattle.crash_law.specs.Pools.{Call, IsDone}
 use Rattle.crash_law.specs.Law.{IsAtRest}
 use Rattle.recovery.specs.Found.{names_tx, recorded}
 use Rattle.recovery.specs.Recovered.{numbers_out, tx_in}

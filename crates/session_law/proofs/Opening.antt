@@ -26,8 +26,8 @@ use Rattle.c_types.specs.Shapes.{transactions_of}
 use Rattle.clobber_log.specs.Logs.{attempt_of, attempt_in}
 use Rattle.args_log.specs.Pending.{tx_number}
 use Rattle.pm_machine.specs.Effects.{heap_end}
-use Rattle.pool_layout.specs.Good.{Lost}
-use Rattle.crash_law.specs.Pools.{Pool, Owed, IsBefore}
+use Rattle.pool_layout.specs.Good.{Lost, Pool}
+use Rattle.crash_law.specs.Pools.{Owed, IsBefore}
 use Rattle.crash_law.specs.Law.{IsAtRest, IsCut}
 use Rattle.run_law.specs.Seen.{result_of, E, W}
 use Rattle.recovery.specs.Found.{words_from, recorded}

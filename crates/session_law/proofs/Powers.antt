@@ -13,7 +13,7 @@ use Rattle.pm_machine.specs.declared.effect.End.{End}
 use Rattle.pm_machine.specs.declared.effect.End.TheVariants.{Halted, Trapped}
 use Rattle.pm_machine.specs.Effects.{heap_end, records_end}
 use Rattle.pool_layout.specs.declared.places.TheConstants.{DONE, MARK}
-use Rattle.pool_layout.specs.Good.{Lost}
+use Rattle.pool_layout.specs.Good.{Lost, Pool, Good}
 use Rattle.pool_layout.specs.declared.places.Place.TheVariants.{Heap}
 use Rattle.pool_layout.specs.Places as places
 use Rattle.pool_layout.specs.Restored.{restored}
@@ -22,7 +22,7 @@ use Rattle.pool_layout.specs.Image.{is_sealed}
 use Rattle.c_meaning.specs.Transaction.{Trap}
 use Rattle.clobber_log.specs.Logs.{attempt_in}
 use Rattle.session_law.specs.Opened.{opened_heap}
-use Rattle.crash_law.specs.Pools.{Pool, Call, Good, IsBefore, IsDone}
+use Rattle.crash_law.specs.Pools.{Call, IsBefore, IsDone}
 use Rattle.crash_law.specs.Law.{IsAtRest, IsCut, IsEnd}
 use Rattle.run_law.specs.Seen.{result_of, E, W}
 use Rattle.args_log.specs.Pending.{tx_number}

@@ -19,6 +19,7 @@ use Rattle.pool_layout.specs.declared.places.Place.TheVariants.{RecordStamp}
 use Rattle.pool_layout.specs.Places.{at, pool_of}
 use Rattle.pool_layout.specs.Log.{WellMade, count}
 use Rattle.pool_layout.proofs.Records.{count_is, pos_inj}
+use Rattle.pool_layout.specs.Good.{Pool, Good}
 use Rattle.clobber_log.specs.Logs.{attempt_of, count_in}
 use Rattle.args_log.specs.Next.{number_after}
 use Rattle.args_log.specs.Retire.{retire_events}
@@ -27,7 +28,7 @@ use Rattle.pm_machine.specs.declared.effect.End.TheVariants.{Halted}
 use Rattle.pm_machine.specs.declared.image.Image.{Image}
 use Rattle.pm_machine.specs.Machine.{State, start}
 use Rattle.pm_machine.specs.Runs.{end_of}
-use Rattle.crash_law.specs.Pools.{Pool, Call, Good, Owed}
+use Rattle.crash_law.specs.Pools.{Call, Owed}
 use Rattle.crash_law.specs.Due as crash
 use Rattle.crash_law.specs.Law.{IsCut, IsEnd}
 use Rattle.tx_run.specs.Due.{due_on, due_run, due_seal, due_call, tail_events}

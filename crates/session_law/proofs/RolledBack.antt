@@ -7,13 +7,14 @@ use Rattle.cache_model.specs.Collapse.{bad}
 use Rattle.cache_model.specs.declared.choice.Choice.{Choice}
 use Rattle.pmem.specs.Device.{Device, memory_of, powered}
 use Rattle.pool_layout.specs.declared.places.TheConstants.{DONE, ATTEMPT}
+use Rattle.pool_layout.specs.Good.{Pool, Good}
 use Rattle.pool_map.specs.declared.trap.TrapKind.{TrapKind}
 use Rattle.args_log.specs.Pending.{tx_number}
 use Rattle.pm_machine.specs.declared.effect.End.{End}
 use Rattle.pm_machine.specs.declared.effect.End.TheVariants.{Halted, Trapped}
 use Rattle.pm_machine.specs.Effects.{heap_end}
 use Rattle.pm_machine.specs.Runs.{heap_in}
-use Rattle.crash_law.specs.Pools.{Pool, Call, Good}
+use Rattle.crash_law.specs.Pools.{Call}
 use Rattle.tx_run.specs.Standing.{is_number}
 use Rattle.recovery.specs.Recovered.{tx_in}
 use Rattle.recovery.specs.declared.answer.RecoverAnswer.{RecoverAnswer}

@@ -6,6 +6,7 @@ use Rattle.cache_model.specs.Collapse.{bad}
 use Rattle.cache_model.specs.declared.choice.Choice.{Choice}
 use Rattle.pmem.specs.Device.{Device, memory_of, powered}
 use Rattle.pool_layout.specs.declared.places.TheConstants.{MARK}
+use Rattle.pool_layout.specs.Good.{Pool, Good}
 use Rattle.pool_map.specs.Trap.{trap_number}
 use Rattle.args_log.specs.Pending.{tx_number}
 use Rattle.clobber_log.specs.Logs.{count_in}
@@ -13,7 +14,7 @@ use Rattle.pm_machine.specs.declared.effect.Effect.{Effect}
 use Rattle.pm_machine.specs.declared.effect.End.{End}
 use Rattle.pm_machine.specs.declared.effect.End.TheVariants.{Halted, Trapped}
 use Rattle.pm_machine.specs.Effects.{heap_end}
-use Rattle.crash_law.specs.Pools.{Pool, Call, Good}
+use Rattle.crash_law.specs.Pools.{Call}
 use Rattle.crash_law.specs.Law.{IsCut, IsEnd}
 use Rattle.run_law.specs.Seen.{result_of, E, W}
 use Rattle.recovery.specs.Recovered.{Cleaned, IsRecovered, numbers_out, tx_in}

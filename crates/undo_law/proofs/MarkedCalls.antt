@@ -12,7 +12,8 @@ use Rattle.cache_model.proofs.During.{during_more}
 use Rattle.pool_layout.specs.declared.places.Place.TheVariants.{Last}
 use Rattle.pool_layout.specs.Places.{at, pool_of}
 use Rattle.pool_layout.specs.Log.{count}
-use Rattle.crash_law.specs.Pools.{Pool, Call, Good, Owed, IsBefore, IsDone}
+use Rattle.pool_layout.specs.Good.{Pool, Good}
+use Rattle.crash_law.specs.Pools.{Call, Owed, IsBefore, IsDone}
 use Rattle.crash_law.specs.Due.{Entry, Plain, Logged, Halted, IsTrace, IsStored, heap_after}
 use Rattle.crash_law.specs.Due.{due_call, redo_events}
 use Rattle.crash_law.specs.Law.{IsRun, IsCut, IsEnd}

@@ -21,7 +21,8 @@ use Rattle.pool_layout.specs.Places.{at, IsPlace, pool_of}
 use Rattle.pool_layout.specs.Log.{count}
 use Rattle.pool_layout.specs.Restored.{restored, undone}
 use Rattle.pool_layout.proofs.Records.{LogIs, log_is}
-use Rattle.crash_law.specs.Pools.{Pool, Call, Owed, IsDone}
+use Rattle.pool_layout.specs.Good.{Pool}
+use Rattle.crash_law.specs.Pools.{Call, Owed, IsDone}
 use Rattle.clobber_log.specs.Reset.{reset_events}
 use Rattle.clobber_log.specs.Restore.{first_events}
 use Rattle.crash_law.specs.Due.{Entry, Halted}

@@ -16,7 +16,8 @@ use Rattle.pool_layout.specs.declared.limits.Sizes.{Sizes}
 use Rattle.pool_layout.specs.declared.places.Layout.{Layout}
 use Rattle.pool_layout.specs.Places.{at, pool_of}
 use Rattle.pool_layout.specs.Log.{count}
-use Rattle.crash_law.specs.Pools.{Pool, Call, Good, Owed, IsBefore, IsDone}
+use Rattle.pool_layout.specs.Good.{Pool, Good}
+use Rattle.crash_law.specs.Pools.{Call, Owed, IsBefore, IsDone}
 use Rattle.crash_law.specs.Due.{Entry, IsTrace, run_events, heap_after}
 use Rattle.crash_law.proofs.Held.{Cover}
 use Rattle.crash_law.proofs.Records.{nothing}

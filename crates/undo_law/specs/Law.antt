@@ -8,7 +8,8 @@ use Rattle.cache_model.specs.Image.{HasOne}
 use Rattle.pool_layout.specs.Places.{pool_of}
 use Rattle.pool_layout.specs.declared.limits.Sizes.{Sizes}
 use Rattle.pool_layout.specs.Log.{count}
-use Rattle.crash_law.specs.Pools.{Pool, Call, Good, Owed, IsBefore, IsDone, last_of, HasNoRecord}
+use Rattle.pool_layout.specs.Good.{Pool, Good}
+use Rattle.crash_law.specs.Pools.{Call, Owed, IsBefore, IsDone, last_of, HasNoRecord}
 use Rattle.crash_law.specs.Due.{Entry, Plain, Logged, Halted, heap_after, due_call, redo_events}
 use Rattle.crash_law.specs.Law.{Leaves, IsAtRest, IsLeft, collapsed, AreInARow}
 use Rattle.undo_law.specs.Undo.{Every, IsMarkedTrace, due_abort, due_reabort}

@@ -7,6 +7,7 @@ use Rattle.cache_model.specs.Play.{play}
 use Rattle.cache_model.specs.Image.{HasOne}
 use Rattle.pool_layout.specs.Places.{pool_of}
 use Rattle.pool_layout.specs.Log.{count}
+use Rattle.pool_layout.specs.Good.{Good}
 use Rattle.clobber_log.specs.Logs.{count_in}
 use Rattle.pm_machine.specs.declared.effect.Effect.{Effect}
 use Rattle.pm_machine.specs.declared.effect.End.{End}
@@ -14,7 +15,6 @@ use Rattle.pm_machine.specs.declared.image.Image.{Image}
 use Rattle.pm_machine.specs.Effects.{records_end, events_all}
 use Rattle.pm_machine.specs.Machine.{Finished, mrun, start}
 use Rattle.pm_machine.specs.Runs.{Due, heap_in, end_of}
-use Rattle.crash_law.specs.Pools.{Good}
 use Rattle.crash_law.specs.Law.{IsLeft}
 use Rattle.recovery.specs.Due.{due_clean, due_redo}
 use Rattle.crash_law.proofs.Again.{left_image}

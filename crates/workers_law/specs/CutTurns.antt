@@ -12,7 +12,6 @@ use Rattle.pm_machine.specs.declared.image.Image.{Image}
 use Rattle.pm_machine.specs.Effects.{records_end}
 use Rattle.pm_machine.specs.Machine.{start}
 use Rattle.pm_machine.specs.Runs.{heap_in}
-use Rattle.crash_law.specs.Pools.{Good}
 use Rattle.crash_law.specs.Law.{IsAtRest, AreMarked}
 use Rattle.tx_run.specs.Due.{due_call}
 use Rattle.recovery.specs.Due.{due_clean, due_redo}
@@ -23,6 +22,7 @@ use Rattle.workers_law.specs.Compartments.{AreFirst, own_compartment, own_after}
 use Rattle.workers_law.specs.Fate.{fate_of, task_logs}
 use Rattle.workers_law.specs.Interleaved.{WorkerEvent}
 use Rattle.workers_law.specs.Standing.{ShowsPlayed, ShowsSome}
+use Rattle.pool_layout.specs.Good.{Good}
 
 -- Turn by turn: which images there are, that the compartment is at rest after a value, and the end
 -- of the transaction.
