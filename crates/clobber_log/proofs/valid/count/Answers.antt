@@ -11,7 +11,7 @@ pub returns-then-branch-valid-clause-value : goal.returns-then-branch-valid-clau
 unfolding count
 returns-then-branch-valid-clause-value g c =
     let stamps : ℕ → ℤ = λ j. view (g.P.PmemWork.device c.args.dev.now).cache
-        (at (pool_of c.args.sizes.now) (RecordStamp j)) in
+    (at (pool_of c.args.sizes.now) (RecordStamp j)) in
     let inside : c.loop-i.i ≤ c.args.sizes.now.records = search rules in
     let bad : stamps c.loop-i.i ≡ pos (suc c.args.attempt) → ⊥ = λ e. search rules in
     sym (leading_stays stamps c.args.attempt c.loop-i.i c.args.sizes.now.records
