@@ -6,7 +6,7 @@ use Rattle.cache_model.specs.Cache.{view}
 use Rattle.cache_model.specs.declared.choice.Rest.TheVariants.{New}
 use Rattle.pmem.specs.Device.{Device, powered}
 use Rattle.pool_layout.specs.Bytes.{bytes_of}
-use Rattle.cnvm_session.specs.Shown.{words_from}
+use Rattle.heap_pool.specs.HeapPool.{words_from}
 use Rattle.cnvm_cli.specs.declared.status.Status.{Status}
 use Rattle.cnvm_cli.specs.declared.status.Status.TheVariants as status
 use Rattle.cnvm_cli.specs.Run.{TellsAs}

@@ -20,6 +20,7 @@ use Rattle.pool_layout.specs.declared.limits.Sizes.{Sizes}
 use Rattle.pool_layout.specs.declared.places.Place.TheVariants.{Heap}
 use Rattle.pool_layout.specs.Places.{at, pool_of}
 use Rattle.pool_layout.specs.Sizes.{heap_words}
+use Rattle.heap_pool.specs.HeapPool.{heap_of}
 use Rattle.clobber_log.specs.Logs.{count_in}
 use Rattle.recovery.specs.Due.{due_clean}
 use Rattle.recovery.specs.Recovered.{Cleaned, tx_in}
@@ -29,7 +30,6 @@ use Rattle.cnvm_session.specs.declared.mode.Mode.{Mode}
 use Rattle.cnvm_session.specs.declared.mode.Mode.TheVariants as mode
 use Rattle.cnvm_session.specs.declared.answer.Answer.{Answer}
 use Rattle.cnvm_session.specs.declared.answer.Answer.TheVariants as answer
-use Rattle.cnvm_session.specs.Shown.{heap_of}
 use Rattle.cnvm_session.specs.declared.program.Program.{Program}
 use Rattle.cnvm_session.specs.Marks.{rolls_back_of}
 use Rattle.cnvm_session.specs.Outcomes.{RecoversUnmarked, RecoversBy, Recovers}

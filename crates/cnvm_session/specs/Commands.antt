@@ -13,6 +13,7 @@ use Rattle.pool_layout.specs.declared.limits.Sizes.{Sizes}
 use Rattle.pool_map.specs.declared.shapes.Shapes.{Shapes}
 use Rattle.pool_map.specs.PoolFits.{PoolFits}
 use Rattle.pool_map.specs.PoolText.{pool_text}
+use Rattle.heap_pool.specs.HeapPool.{heap_of, pool_in}
 use Rattle.c_tree.specs.ItemTree.{FunctionTree}
 use Rattle.c_types.specs.Tables.{index_of}
 use Rattle.c_types.specs.Shapes.{shapes_of, transactions_of}
@@ -28,7 +29,6 @@ use Rattle.cnvm_session.specs.declared.answer.Answer.TheVariants.{RefusedUnknown
 use Rattle.cnvm_session.specs.declared.answer.Answer.TheVariants.{RefusedPick}
 use Rattle.cnvm_session.specs.declared.program.Program.{Program}
 use Rattle.cnvm_session.specs.Outcomes.{Runs, Recovers}
-use Rattle.cnvm_session.specs.Shown.{heap_of, pool_in}
 
 -- the answer is this one, nothing changes, and no step is taken
 abbrev pub Refused : Answer → Mode → Device → Answer → Mode → Device → (k k1 : ℕ) → Type 0

@@ -11,6 +11,7 @@ use Rattle.pool_layout.specs.declared.places.TheConstants.{LAST, DONE, ATTEMPT, 
 use Rattle.pool_layout.specs.declared.limits.Sizes.{Sizes}
 use Rattle.pool_layout.specs.Image.{is_sealed}
 use Rattle.pool_layout.specs.Good.{Pool}
+use Rattle.heap_pool.specs.HeapPool.{heap_of}
 use Rattle.crash_law.specs.Pools.{IsBefore}
 use Rattle.clobber_log.specs.Logs.{attempt_in, count_in}
 use Rattle.tx_run.specs.Standing.{trap_of_mark}
@@ -26,7 +27,6 @@ use Rattle.cnvm_session.specs.declared.answer.Answer.TheVariants.{RefusedDown, R
 use Rattle.cnvm_session.specs.declared.answer.Answer.TheVariants.{RefusedUnknown, RefusedArity}
 use Rattle.cnvm_session.specs.declared.answer.Answer.TheVariants.{RefusedNumbers, RefusedPick}
 use Rattle.cnvm_session.specs.declared.program.Program.{Program}
-use Rattle.cnvm_session.specs.Shown.{heap_of}
 use Rattle.cnvm_session.specs.Commands.{fallen, Commanded}
 use Rattle.cnvm_session.specs.Steps.{most_of_command, most_of_program}
 

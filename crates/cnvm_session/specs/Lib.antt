@@ -1,7 +1,6 @@
 pub mod AnswerText
 pub mod Opening
 pub mod Unmade
-pub mod Shown
 pub mod Marks
 pub mod Outcomes
 pub mod Commands

@@ -61,7 +61,6 @@ use Rattle.emit_law.specs.Standing.{HasRoom}
 use Rattle.emit_law.specs.TidyCode.{HasCode}
 use Rattle.piece_law.specs.Fits.{IsFit}
 use Rattle.pool_layout.specs.Headers.{HasHeaders}
-use Rattle.piece_law.specs.Pools.{pool_in}
 use Rattle.piece_law.specs.Stands.{Stands}
 use Rattle.piece_law.specs.Words as words
 use Rattle.piece_law.proofs.Kept.{stays_fit}
@@ -90,7 +89,6 @@ use Rattle.compiled_law.proofs.Marked.{all_stores}
 use Rattle.compiled_law.proofs.Entering.{code_of, parameters_same, entries_same, entry_is}
 use Rattle.compiled_law.proofs.Numbers.{few_tokens, part_of_whole, all_below, logged_long}
 use Rattle.compiled_law.proofs.Numbers.{functions_long, all_known, is_pool, enough_steps}
-use Rattle.compiled_law.proofs.Pools.{pool_same}
 use Rattle.compiled_law.proofs.Room.{has_room_for}
 use Rattle.compiled_law.proofs.Sounding.{compiled_run}
 
@@ -210,6 +208,7 @@ module _ (text : List ℕ) (list : Tokens) (program : Program)
     pool = is_pool s;
     root = sym (ap (λ (z : Sizes). z.root_words) c.sizes ∙ c.root);
     short = (shapes tree c.checked).short;
+    few = (shapes tree c.checked).few;
   }
 
   functions_few : length L.functions < 2 ^ 32
@@ -309,9 +308,8 @@ module _ (text : List ℕ) (list : Tokens) (program : Program)
   matched : (o : Out ℤ) (end : machine_end.End) (h : Words)
       → EndsAs program.image L (lower.call_end o) end h → Matches program (outcome o) end h
   matched (Got v w k) end h e =
-      let head = headers_are s (shapes_of tree) h w e.2 e.1 in
-      let pool : source_pool program h ≡ w =
-      pool_same s (shapes_of tree) fit (shapes tree c.checked).few h head.0 ∙ sym head.1 in
+      let head = headers_are s (shapes_of tree) h w fit e.2 e.1 in
+      let pool : source_pool program h ≡ w = sym head.1 in
       subst (λ (x : machine_end.End). Matches program (outcome (Got v w k)) x h) (sym e.0)
       (refl, head.0, pool, words_had w e.3)
   matched (Stops kind) end h e =
@@ -390,11 +388,9 @@ module _ (text : List ℕ) (list : Tokens) (program : Program)
           let n : ℕ = s.ticks in
           let k : ℕ = (n + 1) * whole plain.functions in
           let valid : HasHeaders s (length (shapes_of tree).structs) h = head in
-          let same : source_pool program h ≡ pool_in (shapes_of tree) s h =
-          pool_same s (shapes_of tree) fit (shapes tree c.checked).few h valid in
           let stood = pool_is s (shapes_of tree) h fit valid in
           let w : PoolMap = source_pool program h in
-          let stands : Stands s h w = subst (Stands s h) (sym same) stood.0 in
+          let stands : Stands s h w = stood.0 in
           let slots_few : length w.slots < 2 ^ 63 = omega (arith, stands.slots, s.slots_fit.1) in
           let o : Out ℤ = function_value t (calls_of t 255) e.f args w n in
           let ends : exec plain k (code_start entry.function args w n) ≡ lower.call_end o =
@@ -416,7 +412,7 @@ module _ (text : List ℕ) (list : Tokens) (program : Program)
           program.image is_compiled (suc i) entry
           (ap (slice_get program.image.parts.txs) (one_less i) ∙ found) transaction_is args h w
           (hold_words args are) (have_words w slots_few pool)
-          stands (subst (PoolFits (shapes_of tree)) (sym same) stood.1) k program.image.parts.most
+          stands stood.1 k program.image.parts.most
           (subst HasResult (sym ends) (done_end o)) enough in
           let means_is : means program w (suc i) args ≡ outcome o =
           ap (λ (x : Option FunctionTree). run_transaction t x w args n) e.named in

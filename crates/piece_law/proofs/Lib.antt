@@ -13,4 +13,5 @@ pub mod Made
 pub mod Piece
 pub mod Kept
 pub mod WordState
+pub mod Read
 pub mod PoolIn

@@ -7,6 +7,7 @@ use Rattle.std.proofs.lemmas.Option.{slice_get_cases}
 use Rattle.cache_model.specs.Cache.{Words}
 use Rattle.pool_layout.specs.declared.limits.Sizes.{Sizes}
 use Rattle.pool_layout.specs.Headers.{HasHeaders}
+use Rattle.heap_pool.specs.HeapPool.{words_from, pool_in}
 use Rattle.pool_map.specs.declared.object.Object.{Object}
 use Rattle.pool_map.specs.declared.shapes.StructShape.{StructShape}
 use Rattle.pool_map.specs.declared.shapes.Shapes.{Shapes}
@@ -16,8 +17,8 @@ use Rattle.pool_map.proofs.Points.{IsSlot-HasField}
 use Rattle.code_meaning.specs.Code.{Spot, InRoot, InSlot, load_spot}
 use Rattle.piece_law.specs.Stands.{Stands, HasWord, heap_word, header_word, header_of}
 use Rattle.piece_law.specs.Fits.{IsFit}
-use Rattle.piece_law.specs.Pools.{words_from, object_with, object_in, slots_from, pool_in, PoolLaw}
-use Rattle.piece_law.specs.Pools.{HeadersLaw}
+use Rattle.piece_law.specs.Pools.{PoolLaw, HeadersLaw}
+use Rattle.piece_law.proofs.Read.{read_object, read_slot, read_slots, read_pool, pool_same}
 use Rattle.piece_law.proofs.Changes.{object_fits}
 
 words_length : (heap : Words) (w n : ℕ) → length (words_from heap w n) ≡ n
@@ -33,36 +34,36 @@ words_at heap w (suc n) (suc i) d few = let e : suc w + i ≡ w + suc i = omega 
 
 -- a slot's object
 module _ (structs : List StructShape) (heap : Words) (w : ℕ) where
-  head_is : (k : ℕ) → k ≤ length structs → header_of (object_in structs heap w (pos k)) ≡ pos k
+  head_is : (k : ℕ) → k ≤ length structs → header_of (read_slot structs heap w (pos k)) ≡ pos k
   head_is zero few = refl
   head_is (suc k) few = ⊎_elim
-      (λ g. ap (λ (o : Option StructShape). header_of (option_map (object_with heap w (suc k)) o))
+      (λ g. ap (λ (o : Option StructShape). header_of (option_map (read_object heap w (suc k)) o))
       g.2)
       (λ g. absurd (omega (arith, g.0)))
       (slice_get_cases structs k).1
 
   field_with : (k i : ℕ) (o : Option StructShape)
-      → IsSomeAnd (option_map (object_with heap w k) o) (λ object. i < length object.fields)
-      → heap (w + 1 + i) ≡ field_of (option_map (object_with heap w k) o) i
+      → IsSomeAnd (option_map (read_object heap w k) o) (λ object. i < length object.fields)
+      → heap (w + 1 + i) ≡ field_of (option_map (read_object heap w k) o) i
   field_with k i None has = absurd has
   field_with k i (Some shape) has =
       sym (words_at heap (w + 1) (words_of shape.fields) i (pos 0)
       (subst (λ (n : ℕ). i < n) (words_length heap (w + 1) (words_of shape.fields)) has))
 
-  field_in : (z : ℤ) (i : ℕ) → IsSomeAnd (object_in structs heap w z) (λ object.
-      i < length object.fields) → heap (w + 1 + i) ≡ field_of (object_in structs heap w z) i
+  field_in : (z : ℤ) (i : ℕ) → IsSomeAnd (read_slot structs heap w z) (λ object.
+      i < length object.fields) → heap (w + 1 + i) ≡ field_of (read_slot structs heap w z) i
   field_in (pos k) i has = field_with k i (struct_at structs k) has
   field_in (negsuc k) i has = absurd has
 
   fits_with : (k : ℕ) (o : Option StructShape) → struct_at structs k ≡ o
-      → IfSome (option_map (object_with heap w k) o) (ObjectFits structs)
+      → IfSome (option_map (read_object heap w k) o) (ObjectFits structs)
   fits_with k None e = tt
   fits_with k (Some shape) e = subst (λ (o : Option StructShape).
       IsSomeAnd o (λ u. length (words_from heap (w + 1) (words_of shape.fields))
       ≡ words_of u.fields))
       (sym e) (words_length heap (w + 1) (words_of shape.fields))
 
-  fits_in : (z : ℤ) → IfSome (object_in structs heap w z) (ObjectFits structs)
+  fits_in : (z : ℤ) → IfSome (read_slot structs heap w z) (ObjectFits structs)
   fits_in (pos k) = fits_with k (struct_at structs k) refl
   fits_in (negsuc k) = tt
 
@@ -70,7 +71,7 @@ module _ (structs : List StructShape) (heap : Words) (w : ℕ) where
   same_with : (o : Object) (u : Option StructShape)
       → IsSomeAnd u (λ shape. length o.fields ≡ words_of shape.fields)
       → ((i : ℕ) → i < length o.fields → heap (w + 1 + i) ≡ get_or o.fields i (pos 0))
-      → option_map (object_with heap w o.kind) u ≡ Some o
+      → option_map (read_object heap w o.kind) u ≡ Some o
   same_with o None fits words = absurd fits
   same_with o (Some shape) fits words =
       let long : length (words_from heap (w + 1) (words_of shape.fields)) ≡ words_of shape.fields =
@@ -84,7 +85,7 @@ module _ (structs : List StructShape) (heap : Words) (w : ℕ) where
   same_in : (o : Option Object) → IfSome o (ObjectFits structs)
       → ((i : ℕ) → IsSomeAnd o (λ object. i < length object.fields)
       → heap (w + 1 + i) ≡ field_of o i)
-      → object_in structs heap w (header_of o) ≡ o
+      → read_slot structs heap w (header_of o) ≡ o
   same_in None fits words = refl
   same_in (Some o) fits words = same_with o (struct_at structs o.kind) fits words
 
@@ -105,20 +106,20 @@ module _ (structs : List StructShape) (heap : Words) (w : ℕ) where
 -- all slots
 module _ (s : Sizes) (structs : List StructShape) (heap : Words) where
   abbrev slot_in : ℕ → Option Object
-  slot_in q = object_in structs heap (header_word s q) (heap (header_word s q))
+  slot_in q = read_slot structs heap (header_word s q) (heap (header_word s q))
 
-  slots_length : (q n : ℕ) → length (slots_from s structs heap q n) ≡ n
+  slots_length : (q n : ℕ) → length (read_slots s structs heap q n) ≡ n
   slots_length q zero = refl
   slots_length q (suc n) = ap suc (slots_length (suc q) n)
 
-  slot_at : (q n i : ℕ) → i < n → get_or (slots_from s structs heap q n) i None ≡ slot_in (q + i)
+  slot_at : (q n i : ℕ) → i < n → get_or (read_slots s structs heap q n) i None ≡ slot_in (q + i)
   slot_at q zero i few = absurd (omega arith)
   slot_at q (suc n) zero few = let e : q ≡ q + 0 = omega arith in ap slot_in e
   slot_at q (suc n) (suc i) few = let e : suc q + i ≡ q + suc i = omega arith in
       slot_at (suc q) n i (omega arith) ∙ ap slot_in e
 
   slots_fit : (q n : ℕ) → AllByRecursion (λ slot. IfSome slot (ObjectFits structs))
-      (slots_from s structs heap q n)
+      (read_slots s structs heap q n)
   slots_fit q zero = tt
   slots_fit q (suc n) = (
     fits_in structs heap (header_word s q) (heap (header_word s q)),
@@ -128,7 +129,7 @@ module _ (s : Sizes) (structs : List StructShape) (heap : Words) where
 module _ (s : Sizes) (shapes : Shapes) (heap : Words) (fit : IsFit s shapes)
     (valid : HasHeaders s (length shapes.structs) heap) where
   abbrev pool : PoolMap
-  pool = pool_in shapes s heap
+  pool = read_pool shapes s heap
 
   object_is : (q : ℕ) → 1 ≤ q → q ≤ s.slots → object_at pool q ≡ slot_in s shapes.structs heap q
   object_is zero low high = absurd (omega arith)
@@ -142,7 +143,7 @@ module _ (s : Sizes) (shapes : Shapes) (heap : Words) (fit : IsFit s shapes)
     headers = λ q low high.
         let k = valid q low high in
         sym (ap header_of (object_is q low high)
-        ∙ ap (λ (z : ℤ). header_of (object_in shapes.structs heap (header_word s q) z)) k.2
+        ∙ ap (λ (z : ℤ). header_of (read_slot shapes.structs heap (header_word s q) z)) k.2
         ∙ head_is shapes.structs heap (header_word s q) k.0 k.1 ∙ sym k.2);
     words = word;
   }
@@ -173,10 +174,14 @@ module _ (s : Sizes) (shapes : Shapes) (heap : Words) (fit : IsFit s shapes)
 
 pub pool_is : PoolLaw
 pool_is s shapes heap fit valid =
-    (stands_in s shapes heap fit valid, fits_all s shapes heap fit valid)
+    let same = pool_same s shapes fit heap valid in (
+      subst (Stands s heap) (sym same) (stands_in s shapes heap fit valid),
+      subst (PoolFits shapes) (sym same) (fits_all s shapes heap fit valid),
+    )
 
 pub headers_are : HeadersLaw
-headers_are s shapes heap w fits stands = (valid, same)
+headers_are s shapes heap w fit fits stands =
+    (valid, same ∙ sym (pool_same s shapes fit heap valid))
   where
     valid : HasHeaders s (length shapes.structs) heap
     valid q low high = let k = kind_few shapes.structs heap (header_word s q) (object_at w q)
@@ -184,7 +189,7 @@ headers_are s shapes heap w fits stands = (valid, same)
 
     slot_is : (q : ℕ) → 1 ≤ q → q ≤ s.slots → slot_in s shapes.structs heap q ≡ object_at w q
     slot_is q low high =
-        ap (object_in shapes.structs heap (header_word s q)) (stands.headers q low high)
+        ap (read_slot shapes.structs heap (header_word s q)) (stands.headers q low high)
         ∙ same_in shapes.structs heap (header_word s q) (object_at w q)
         (object_fits shapes w q fits) (λ i has. stands.words (InSlot q i) has)
 
@@ -195,12 +200,12 @@ headers_are s shapes heap w fits stands = (valid, same)
         sym (words_at heap 0 s.root_words i (pos 0) (omega arith) ∙ ap heap e
         ∙ stands.words (InRoot i) less))
 
-    slots_are : w.slots ≡ slots_from s shapes.structs heap 1 s.slots
-    slots_are = ext_get_or None w.slots (slots_from s shapes.structs heap 1 s.slots)
+    slots_are : w.slots ≡ read_slots s shapes.structs heap 1 s.slots
+    slots_are = ext_get_or None w.slots (read_slots s shapes.structs heap 1 s.slots)
         (stands.slots ∙ sym (slots_length s shapes.structs heap 1 s.slots))
         (λ i less. let few = stands.slots in let e : 1 + i ≡ suc i = omega arith in
         sym (slot_at s shapes.structs heap 1 s.slots i (omega arith)
         ∙ ap (slot_in s shapes.structs heap) e ∙ slot_is (suc i) (omega arith) (omega arith)))
 
-    same : w ≡ pool_in shapes s heap
+    same : w ≡ read_pool shapes s heap
     same = λ i. record { root = root_is i; slots = slots_are i }

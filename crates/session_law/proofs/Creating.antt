@@ -16,13 +16,13 @@ use Rattle.pool_layout.proofs.Records.{count_is, pos_inj}
 use Rattle.pool_layout.specs.Good.{Good}
 use Rattle.pool_map.specs.declared.object.Object.{Object}
 use Rattle.pool_map.specs.declared.shapes.StructShape.{StructShape}
+use Rattle.heap_pool.specs.HeapPool.{words_from, objects_from}
 use Rattle.clobber_log.specs.Logs.{count_in}
 use Rattle.crash_law.specs.Pools.{IsBefore}
 use Rattle.crash_law.specs.Law.{IsAtRest}
 use Rattle.c_types.specs.Shapes.{shapes_of}
 use Rattle.cut_law.specs.Law.{pool_with}
 use Rattle.cnvm_session.specs.declared.program.Program.{Program}
-use Rattle.cnvm_session.specs.Shown.{words_from, objects_from}
 use Rattle.args_log.specs.Created.{sizes_events, digest_events, creation_events}
 use Rattle.session_law.specs.Source.{sizes_of}
 use Rattle.session_law.specs.State.{created}

@@ -17,12 +17,12 @@ use Rattle.pool_map.specs.declared.object.Object.{Object}
 use Rattle.pool_map.specs.declared.shapes.StructShape.{StructShape}
 use Rattle.pool_map.specs.PoolFits.{words_of, struct_at}
 use Rattle.pool_map.specs.PoolMap.{field_of, empty_pool, read}
+use Rattle.heap_pool.specs.HeapPool.{words_from, object_with, kind_in, object_of, objects_from}
 use Rattle.c_types.specs.Shapes.{shapes_of}
 use Rattle.pm_machine.specs.declared.image.Image.{Image}
 use Rattle.recovery.specs.Found as record_of
 use Rattle.recovery.specs.Found.{entry_words, recorded}
 use Rattle.cnvm_session.specs.declared.program.Program.{Program}
-use Rattle.cnvm_session.specs.Shown.{words_from, object_with, kind_in, object_of, objects_from}
 use Rattle.session_law.specs.Source.{sizes_of, source_pool}
 use Rattle.session_law.specs.Words.{AreWords, HasPoolWords}
 use Rattle.session_law.specs.State.{SourceState}

@@ -11,6 +11,7 @@ use Rattle.pool_layout.specs.Image.{IsUpTo}
 use Rattle.pool_layout.specs.Headers.{HasHeaders}
 use Rattle.pool_map.specs.PoolMap.{PoolMap}
 use Rattle.pool_map.specs.declared.trap.TrapKind.TheVariants.{LogFull}
+use Rattle.heap_pool.specs.HeapPool.{pool_in}
 use Rattle.c_tree.specs.ItemTree.{FunctionTree}
 use Rattle.c_tree.specs.Program.{tree_of}
 use Rattle.c_types.specs.Tables.{Tables, tables_of}
@@ -24,7 +25,6 @@ use Rattle.code_meaning.specs.Whole.{whole}
 use Rattle.lower.specs.Program.{lowered}
 use Rattle.lower_law.specs.Law.{entry_in}
 use Rattle.cnvm_session.specs.declared.program.Program.{Program}
-use Rattle.cnvm_session.specs.Shown.{pool_in}
 use Rattle.session_law.specs.Logged.{stored_at, AreLogged}
 
 abbrev pub sizes_of : Program → Sizes

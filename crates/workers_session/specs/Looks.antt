@@ -6,12 +6,12 @@ use Rattle.pool_layout.specs.Sizes.{pool_lines}
 use Rattle.pool_map.specs.PoolMap.{PoolMap}
 use Rattle.pool_map.specs.PoolFits.{PoolFits}
 use Rattle.pool_map.specs.PoolText.{pool_text}
+use Rattle.heap_pool.specs.HeapPool.{heap_of, pool_in}
 use Rattle.c_types.specs.Shapes.{shapes_of}
 use Rattle.pm_machine.specs.declared.image.Image.{Image}
 use Rattle.pool_workers.specs.Compartment.{first_line}
 use Rattle.pool_workers.specs.Crew.{compartment}
 use Rattle.cnvm_session.specs.declared.program.Program.{Program}
-use Rattle.cnvm_session.specs.Shown.{heap_of, pool_in}
 
 -- the compartment lies within the device
 abbrev pub LiesWithin : Image → ℕ → Device → Type 0

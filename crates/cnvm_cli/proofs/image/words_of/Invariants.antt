@@ -1,6 +1,6 @@
 use Rattle.std.proofs.Common.{◌≡◌, ◌-◌, ◌*◌, ◌++◌}
 use Rattle.cache_model.specs.Cache.{view}
-use Rattle.cnvm_session.specs.Shown.{words_from}
+use Rattle.heap_pool.specs.HeapPool.{words_from}
 use Rattle.cnvm_cli.proofs.image.words_of.Given as goal
 
 -- the words so far, followed by those that are left, are all of them
