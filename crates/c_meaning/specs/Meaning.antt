@@ -81,11 +81,12 @@ loaded (Err trap) p k = Stops trap
 abbrev pub made : ℤ × PoolMap → ℕ → Out ℤ
 made r k = Got r.0 r.1 k
 
--- `&&` and `||` evaluate their right side only if the left side doesn't decide
-abbrev pub short_circuit : BinaryOp → Out ℤ → (PoolMap → ℕ → Out ℤ) → Out ℤ
-short_circuit op a b = then_do a
+-- both sides are evaluated, the left one first; a division by 0 traps
+abbrev pub strict : BinaryOp → Out ℤ → (PoolMap → ℕ → Out ℤ) → Out ℤ
+strict op a b = then_do a
     (λ x p k. then_do (b p k) (λ y p k. or_trap (binary_of op x y) trap.Divide p k))
 
+-- `&&` and `||` evaluate their right side only if the left side doesn't decide
 abbrev pub both : Out ℤ → (PoolMap → ℕ → Out ℤ) → Out ℤ
 both a b = then_do a (λ x p k.
     at_zero x (Got (pos 0) p k) (then_do (b p k) (λ y p k. Got (at_zero y (pos 0) (pos 1)) p k)))
@@ -97,22 +98,22 @@ either a b = then_do a (λ x p k.
 abbrev pub binary_means : BinaryOp → Out ℤ → (PoolMap → ℕ → Out ℤ) → Out ℤ
 binary_means binary.Both a b = both a b
 binary_means binary.Either a b = either a b
-binary_means binary.Mul a b = short_circuit binary.Mul a b
-binary_means binary.Div a b = short_circuit binary.Div a b
-binary_means binary.Rem a b = short_circuit binary.Rem a b
-binary_means binary.Add a b = short_circuit binary.Add a b
-binary_means binary.Sub a b = short_circuit binary.Sub a b
-binary_means binary.ShiftLeft a b = short_circuit binary.ShiftLeft a b
-binary_means binary.ShiftRight a b = short_circuit binary.ShiftRight a b
-binary_means binary.Less a b = short_circuit binary.Less a b
-binary_means binary.LessEqual a b = short_circuit binary.LessEqual a b
-binary_means binary.Greater a b = short_circuit binary.Greater a b
-binary_means binary.GreaterEqual a b = short_circuit binary.GreaterEqual a b
-binary_means binary.Equal a b = short_circuit binary.Equal a b
-binary_means binary.NotEqual a b = short_circuit binary.NotEqual a b
-binary_means binary.And a b = short_circuit binary.And a b
-binary_means binary.Xor a b = short_circuit binary.Xor a b
-binary_means binary.Or a b = short_circuit binary.Or a b
+binary_means binary.Mul a b = strict binary.Mul a b
+binary_means binary.Div a b = strict binary.Div a b
+binary_means binary.Rem a b = strict binary.Rem a b
+binary_means binary.Add a b = strict binary.Add a b
+binary_means binary.Sub a b = strict binary.Sub a b
+binary_means binary.ShiftLeft a b = strict binary.ShiftLeft a b
+binary_means binary.ShiftRight a b = strict binary.ShiftRight a b
+binary_means binary.Less a b = strict binary.Less a b
+binary_means binary.LessEqual a b = strict binary.LessEqual a b
+binary_means binary.Greater a b = strict binary.Greater a b
+binary_means binary.GreaterEqual a b = strict binary.GreaterEqual a b
+binary_means binary.Equal a b = strict binary.Equal a b
+binary_means binary.NotEqual a b = strict binary.NotEqual a b
+binary_means binary.And a b = strict binary.And a b
+binary_means binary.Xor a b = strict binary.Xor a b
+binary_means binary.Or a b = strict binary.Or a b
 
 -- A call takes a tick after its arguments and before its body. A call of a function that doesn't
 -- exist gives 0.

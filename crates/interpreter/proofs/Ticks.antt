@@ -27,7 +27,7 @@ use Rattle.c_meaning.specs.Operators.{binary_of}
 use Rattle.interpreter.specs.inside.Resume.{body_end}
 use Rattle.c_meaning.specs.Meaning.{Out, Got, Stops, StmtEnd, Next, Broke, Again, Gave, Traps}
 use Rattle.c_meaning.specs.Meaning.{Calls, then_do, with_value, then_next, at_zero, tick, or_trap}
-use Rattle.c_meaning.specs.Meaning.{loaded, short_circuit, both, either, binary_means, called}
+use Rattle.c_meaning.specs.Meaning.{loaded, strict, both, either, binary_means, called}
 use Rattle.c_meaning.specs.Meaning.{value_of, pointer_of, values_of, operands_of, stored_end}
 use Rattle.c_meaning.specs.Meaning.{assign_to, update, target_local, freed, assign_end, steps}
 use Rattle.c_meaning.specs.Meaning.{end_of_simple, declaration_end, end_of_first, end_of_third}
@@ -81,7 +81,7 @@ abbrev Keeps : (PoolMap → ℕ → Out ℤ) → Type 0
 Keeps b = (p : PoolMap) (k n : ℕ) → k ≤ n → Within n (b p k)
 
 within-joined : (n : ℕ) (op : BinaryOp) (a : Out ℤ) (b : PoolMap → ℕ → Out ℤ) → Within n a → Keeps b
-    → Within n (short_circuit op a b)
+    → Within n (strict op a b)
 within-joined n op a b ha hb =
     within-then n a _ ha (λ x p k le.
     within-then n (b p k) _ (hb p k n le) (λ y p k le.
