@@ -69,7 +69,7 @@ use Rattle.piece_law.proofs.PoolIn.{pool_is, headers_are}
 use Rattle.piece_law.proofs.Shown.{shown, cut}
 use Rattle.piece_law.proofs.WordState.{words_stay}
 use Rattle.cover_law.proofs.Cover.{covered}
-use Rattle.match_law.specs.Compiled.{IsCompiled}
+use Rattle.match_law.specs.Compiled.{IsCodeOf}
 use Rattle.match_law.specs.Law.{KeepLaw}
 use Rattle.match_law.specs.Match.{most}
 use Rattle.match_law.proofs.Keep.{kept_all}
@@ -280,7 +280,7 @@ module _ (text : List ℕ) (list : Tokens) (program : Program)
       no_log : (to : ℕ) (v : ℤ) (x : Target) → Const to v ≡ Log x → ⊥
       no_log to v x e = cc
 
-  is_compiled : IsCompiled program.image L
+  is_compiled : IsCodeOf program.image L
   is_compiled = record {
     code = has_code;
     well = formed;

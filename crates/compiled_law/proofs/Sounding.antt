@@ -44,7 +44,7 @@ use Rattle.piece_law.specs.Stands.{Stands}
 use Rattle.piece_law.specs.Words.{HoldWords, HasWords, IsWordState, IsWordEnd, IsWordMove, WordsLaw}
 use Rattle.piece_law.specs.Shows.{ShowsDeeds, IsCutAtStore}
 use Rattle.match_law.specs.Accesses.{accesses}
-use Rattle.match_law.specs.Compiled.{IsCompiled, is_logged_in_code}
+use Rattle.match_law.specs.Compiled.{IsCodeOf, is_logged_in_code}
 use Rattle.match_law.specs.Law.{RunMatches, RunFull, KeepLaw}
 use Rattle.match_law.specs.Match.{most}
 use Rattle.compiled_law.specs.inside.Records.{records_of}
@@ -57,7 +57,7 @@ use Rattle.compiled_law.proofs.Marked.{inputs_logged}
 trapped : (k : TrapKind) (v : ℤ) → Trapped k ≡ Halted v → ⊥
 trapped k v e = cc
 
-module _ (apart : HeapApart) (image : Image) (L : Ir) (compiled : IsCompiled image L) (tx : ℕ)
+module _ (apart : HeapApart) (image : Image) (L : Ir) (compiled : IsCodeOf image L) (tx : ℕ)
     (entry : TxEntry) (found : slice_get image.parts.txs (tx - 1) ≡ Some entry) (args : List ℤ)
     (heap : Words) (m : ℕ) (ds : List Deed) (need : (x : Spot) (a : Site) → IsInput ds x
     → FirstStore ds x a → is_logged_in_code L a ≡ true)
@@ -166,7 +166,7 @@ pub compiled_run : HeapApart → CoverLaw → KeepLaw → WordsLaw → (marks : 
     → ((a : Site) → IsLogged ir.functions a → table.is_logged marks a ≡ true)
     → HasWordConstants ir.functions
     → ((f p : ℕ) (x : Target) → instruction_at ir.functions f p ≡ Some (Log x) → ⊥) →
-    (image : Image) → IsCompiled image (logged_program marks ir) → (tx : ℕ) (entry : TxEntry)
+    (image : Image) → IsCodeOf image (logged_program marks ir) → (tx : ℕ) (entry : TxEntry)
     → slice_get image.parts.txs (tx - 1) ≡ Some entry → IsTransaction ir.functions entry.function
     →
     (args : List ℤ) (heap : Words) (w : PoolMap) → HoldWords args → HasWords w →

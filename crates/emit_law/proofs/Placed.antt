@@ -32,7 +32,7 @@ use Rattle.pm_alloc.specs.Runs.{Next, Goes, Traps, Off, then, local_run}
 use Rattle.pm_alloc.specs.LocalRun.{World, Loc, branch_at_zero, local_read, local_write, go_to}
 use Rattle.pm_alloc.specs.LocalRun.{local_target}
 use Rattle.pm_alloc.specs.LocalRun as local
-use Rattle.emit_law.specs.Moments.{RunMoment, Stage, On, Over, staged, one, stage_then, go}
+use Rattle.emit_law.specs.Moments.{RunMoment, RunStage, On, Over, staged, one, stage_then, go}
 use Rattle.emit_law.specs.Placed.{heard, IsReg, IsFine, IsPlaced, FrameHolds, Setting, moment, Same}
 use Rattle.emit_law.specs.Placed.{IsShared, Follows}
 
@@ -352,7 +352,7 @@ module _ (image : Image) (x : Setting) (piece : List Local)
       (fetched (slice_get piece l.at) l same.regs same.dirty same.logged same.seen refl same.holds
       same.heard_is)
 
-  next_as : (n : ℕ) (r : Next World Loc) (s : Stage) → Follows x r s
+  next_as : (n : ℕ) (r : Next World Loc) (s : RunStage) → Follows x r s
       → ((k : Loc) (b : RunMoment) → Same x k b
       → Follows x (local_run (local.local_step image.parts.sizes piece) n k) (go image n b)) →
       Follows x ((then) r (local_run (local.local_step image.parts.sizes piece) n))

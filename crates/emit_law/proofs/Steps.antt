@@ -32,7 +32,7 @@ use Rattle.codegen.specs.Emit.{at_code, root_code, object_code, address_code, ad
 use Rattle.codegen.specs.Emit.{load_at, store_at, make_words, divides}
 use Rattle.pm_alloc.specs.Pieces.{pointer_check, fill_code, new_head, new_code}
 use Rattle.pm_alloc.proofs.Runs.{run_on}
-use Rattle.emit_law.specs.Moments.{Stage, On, Over, go}
+use Rattle.emit_law.specs.Moments.{RunStage, On, Over, go}
 use Rattle.emit_law.specs.Placed.{IsFine, Setting, Follows}
 use Rattle.emit_law.specs.Steps.{AreForward, PieceSettles, ForwardLaw, ForwardCode}
 use Rattle.emit_law.proofs.Placed.{run_as, fine_at}
@@ -204,7 +204,7 @@ module _ (s : Sizes) (base start : ℕ) (piece : List Local)
       by_place k l begun low long (λ b from within more. ends k b from within more)
       (cases_lt l.at (length piece))
 
-pub settled : (x : Setting) (piece : List Local) (r : Next World Loc) (g : Stage) → Follows x r g
+pub settled : (x : Setting) (piece : List Local) (r : Next World Loc) (g : RunStage) → Follows x r g
     → Left (length piece) r → PieceSettles x piece g
 settled x piece (Goes k) (On b) same left = (k, left, same)
 settled x piece (Goes k) (Over end b) same left = absurd same

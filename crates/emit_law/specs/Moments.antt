@@ -15,7 +15,7 @@ pub record RunMoment : Type 0 where
   pub seen : List Effect
 
 -- a run goes on, or has ended
-pub data Stage : Type 0 where
+pub data RunStage : Type 0 where
   On : RunMoment → Stage
   Over : End → RunMoment → Stage
 
@@ -34,7 +34,7 @@ staged m (Ends end) = Over end m
 abbrev pub one : Image → RunMoment → Stage
 one image m = staged m (step image m.records m.state m.heap)
 
-abbrev pub stage_then : Stage → (RunMoment → Stage) → Stage
+abbrev pub stage_then : RunStage → (RunMoment → RunStage) → Stage
 stage_then (On m) f = f m
 stage_then (Over end m) f = Over end m
 

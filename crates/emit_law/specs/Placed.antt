@@ -20,7 +20,7 @@ use Rattle.pm_alloc.specs.declared.local.Local.TheVariants.{Find, Log, Tick, Tra
 use Rattle.pm_alloc.specs.Placing.{placed}
 use Rattle.pm_alloc.specs.Runs.{Next, Goes, Traps, Off, local_run}
 use Rattle.pm_alloc.specs.LocalRun.{World, Loc, local_step}
-use Rattle.emit_law.specs.Moments.{RunMoment, Stage, On, Over, go}
+use Rattle.emit_law.specs.Moments.{RunMoment, RunStage, On, Over, go}
 
 -- the effects without the quiet ones
 abbrev pub heard : List Effect → List Effect
@@ -111,7 +111,7 @@ pub record IsShared (w : World) (m : RunMoment) : Type 0 where
   pub heard_is : heard m.seen ≡ w.seen
 
 -- if the piece alone goes on or traps, so does the machine
-abbrev pub Follows : Setting → Next World Loc → Stage → Type 0
+abbrev pub Follows : Setting → Next World Loc → RunStage → Type 0
 Follows x (Goes l) (On m) = Same x l m
 Follows x (Goes l) (Over end m) = ⊥
 Follows x (Traps k w) (On m) = ⊥

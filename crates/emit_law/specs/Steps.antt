@@ -10,7 +10,7 @@ use Rattle.pm_alloc.specs.declared.local.Local.TheVariants.{Const, Mov, Bin, Jmp
 use Rattle.pm_alloc.specs.declared.local.Local.TheVariants.{Find, Log, Tick, Trap}
 use Rattle.pm_alloc.specs.LocalRun.{Loc}
 use Rattle.codegen.specs.Emit.{local_code}
-use Rattle.emit_law.specs.Moments.{RunMoment, Stage, On, Over, go}
+use Rattle.emit_law.specs.Moments.{RunMoment, RunStage, On, Over, go}
 use Rattle.emit_law.specs.Placed.{Setting, Same, IsPlaced}
 
 -- the jumps of a piece, whose first instruction is at place k, lead forward
@@ -29,7 +29,7 @@ AreForward k (Tick ∷ ls) = AreForward (suc k) ls
 AreForward k (Trap t ∷ ls) = AreForward (suc k) ls
 
 -- the machine is right after the piece, or its run has ended
-abbrev pub PieceSettles : Setting → List Local → Stage → Type 0
+abbrev pub PieceSettles : Setting → List Local → RunStage → Type 0
 PieceSettles x piece (On b) = (k : Loc) × (k.at ≡ length piece) × Same x k b
 PieceSettles x piece (Over end b) = Unit {0}
 

@@ -15,7 +15,7 @@ use Rattle.pm_machine.specs.declared.op.Function.{Function}
 use Rattle.pm_machine.specs.Checked.{most_registers}
 use Rattle.codegen.specs.Emit.{function_of, known}
 use Rattle.code_meaning.proofs.Lists.{all_at}
-use Rattle.match_law.specs.Compiled.{IsCompiled}
+use Rattle.match_law.specs.Compiled.{IsCodeOf}
 use Rattle.match_law.proofs.Places.{made, made_is}
 
 -- the greatest number of registers
@@ -44,7 +44,7 @@ most_at n (v ∷ us) zero u e =
     subst (λ (w : Function). w.registers ≤ most_registers m us) same all
 most_at n (v ∷ us) (suc k) u e = most_at (if nat_lt n v.registers then v.registers else n) us k u e
 
-module _ (image : Image) (ir : Ir) (c : IsCompiled image ir) where
+module _ (image : Image) (ir : Ir) (c : IsCodeOf image ir) where
   pub known_is : known ir.functions ≡ ir.functions
   known_is =
       let few : nat_lt (length ir.functions) (2 ^ 32) ≡ true =

@@ -30,11 +30,11 @@ use Rattle.pm_machine.specs.Machine.{fetch, fetch_in, tally, moved_to, passed, f
 use Rattle.pm_machine.specs.Machine.{returned, registers_placed}
 use Rattle.pm_machine.specs.Machine as machine
 use Rattle.codegen.specs.Emit.{place_in, instruction_code, return_code}
-use Rattle.emit_law.specs.Moments.{RunMoment, Stage, On, Over, moment_after, staged, go}
+use Rattle.emit_law.specs.Moments.{RunMoment, RunStage, On, Over, moment_after, staged, go}
 use Rattle.emit_law.specs.Standing.{logged_before, table_of}
 use Rattle.piece_law.specs.Shows.{done}
 use Rattle.piece_law.specs.Stands.{Stands}
-use Rattle.match_law.specs.Compiled.{IsCompiled}
+use Rattle.match_law.specs.Compiled.{IsCodeOf}
 use Rattle.match_law.specs.Match.{IsOpenIn, is_last, Waits, AreMatched, MovesToo, own_steps}
 use Rattle.match_law.specs.Match.{flushes}
 use Rattle.match_law.proofs.Runs.{single, returns}
@@ -44,7 +44,7 @@ use Rattle.match_law.proofs.Compiled.{function_is, largest_room, well_at}
 use Rattle.match_law.proofs.Frames.{nearest, others, as_many}
 use Rattle.match_law.proofs.Moves.{Steps}
 
-module _ (image : Image) (program : Ir) (c : IsCompiled image program) (f p : ℕ) (regs : List ℤ)
+module _ (image : Image) (program : Ir) (c : IsCodeOf image program) (f p : ℕ) (regs : List ℤ)
     (callers : List code.Frame) (w : PoolMap) (t : ℕ) (m : RunMoment)
     (same : AreMatched image program f p regs callers w t m) where
   abbrev u : IrFunction
@@ -132,7 +132,7 @@ module _ (image : Image) (program : Ir) (c : IsCompiled image program) (f p : �
   one_step i o mv e there h = (
     suc zero,
     omega arith,
-    subst (λ (g : Stage). MovesToo image program [] mv m g)
+    subst (λ (g : RunStage). MovesToo image program [] mv m g)
         (sym (single image m o (stands_first i e o there))) h,
   )
 

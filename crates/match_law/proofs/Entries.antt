@@ -17,7 +17,7 @@ use Rattle.pm_machine.specs.Transactions as transactions
 use Rattle.codegen.specs.Emit.{txs_from}
 use Rattle.emit_law.specs.Moments.{RunMoment}
 use Rattle.piece_law.specs.Stands.{Stands}
-use Rattle.match_law.specs.Compiled.{IsCompiled}
+use Rattle.match_law.specs.Compiled.{IsCodeOf}
 use Rattle.match_law.specs.Match.{AreMatched}
 use Rattle.match_law.proofs.Registers.{filled_is, filled_length}
 use Rattle.match_law.proofs.Places.{first_is}
@@ -63,7 +63,7 @@ entry_is : (f : ℕ) (us : List IrFunction) (k : ℕ) (entry : TxEntry)
 entry_is f [] k entry e = absurd (cc)
 entry_is f (v ∷ us) k entry e = entry_if f v us (λ j x. entry_is (f + 1) us j x) v.tx refl k entry e
 
-module _ (image : Image) (program : Ir) (c : IsCompiled image program) (tx : ℕ) (entry : TxEntry)
+module _ (image : Image) (program : Ir) (c : IsCodeOf image program) (tx : ℕ) (entry : TxEntry)
     (found : slice_get image.parts.txs (tx - 1) ≡ Some entry) (args : List ℤ) (heap : Words)
     (w : PoolMap) where
   abbrev pub first_moment : RunMoment

@@ -28,7 +28,7 @@ use Rattle.emit_law.proofs.Standing.{stands_all}
 use Rattle.piece_law.specs.Law.{PieceLaw, AgreesOnSites, PieceEnds}
 use Rattle.piece_law.specs.Pools.{FitsMove, FitsLaw}
 use Rattle.piece_law.specs.Words.{HoldWords}
-use Rattle.match_law.specs.Compiled.{IsCompiled, is_logged_in_code, logs_at, logs_fill}
+use Rattle.match_law.specs.Compiled.{IsCodeOf, is_logged_in_code, logs_at, logs_fill}
 use Rattle.match_law.specs.Match.{AreMatched}
 use Rattle.match_law.proofs.Places.{place_next}
 use Rattle.match_law.proofs.Compiled.{known_at, well_at}
@@ -47,7 +47,7 @@ temporary_is x (suc (suc (suc (suc (suc (suc (suc zero))))))) low = refl
 temporary_is x (suc (suc (suc (suc (suc (suc (suc (suc j)))))))) low = absurd (omega arith)
 
 module _ (piece_law : PieceLaw) (fits_law : FitsLaw) (image : Image) (program : Ir)
-    (c : IsCompiled image program) (f p : ℕ) (regs : List ℤ) (callers : List code.Frame)
+    (c : IsCodeOf image program) (f p : ℕ) (regs : List ℤ) (callers : List code.Frame)
     (w : PoolMap)
     (t : ℕ) (m : RunMoment) (words : HoldWords regs)
     (same : AreMatched image program f p regs callers w t m) where

@@ -20,7 +20,7 @@ use Rattle.pm_machine.specs.declared.image.Image.{Image}
 use Rattle.pm_machine.specs.Effects.{records_end}
 use Rattle.pm_alloc.specs.Runs as alone
 use Rattle.pm_alloc.specs.LocalRun.{World, Loc}
-use Rattle.emit_law.specs.Moments.{RunMoment, Stage, On, Over, onto, go}
+use Rattle.emit_law.specs.Moments.{RunMoment, RunStage, On, Over, onto, go}
 use Rattle.emit_law.specs.Placed.{heard, Setting, Same, Follows}
 use Rattle.piece_law.specs.Law.{onward, PieceEnds, Does, goes, traps, full}
 use Rattle.piece_law.specs.Stands.{heap_word, header_word}
@@ -69,14 +69,14 @@ Steps image ir f p regs callers w t m o =
 
 module _ (image : Image) (ir : Ir) where
   -- with a full log the machine ends like this, whatever the code does
-  pub full_ends : (ds : List Deed) (m : RunMoment) (g : Stage) (e : code.CodeEnd)
+  pub full_ends : (ds : List Deed) (m : RunMoment) (g : RunStage) (e : code.CodeEnd)
       → StopsFull image ir ds m g → EndsToo image ir ds e m g
   full_ends ds m g (code.Ended w v t) h = inr h
   full_ends ds m g (code.Trapped k) h = inr h
   full_ends ds m g code.Unfinished h = tt
   full_ends ds m g code.Stuck h = tt
 
-  pub full_moves : (ds : List Deed) (m : RunMoment) (g : Stage) (v : Move)
+  pub full_moves : (ds : List Deed) (m : RunMoment) (g : RunStage) (v : Move)
       → StopsFull image ir ds m g → MovesToo image ir ds v m g
   full_moves ds m g (code.Goes c) h = inr h
   full_moves ds m g (code.Ends e) h = full_ends ds m g e h
@@ -85,7 +85,7 @@ module _ (image : Image) (ir : Ir) where
       (heard_is : v.seen ≡ heard m.seen) (ds : List Deed) where
     goes_on : (regs : List ℤ) (w : PoolMap) (t : ℕ) (l : Loc) (es : List Effect)
         → ShowsDeeds image.parts.sizes (is_logged_in_code ir) ds es
-        → PieceEnds image.parts.sizes n v es regs w t l → (g : Stage) → Follows x (alone.Goes l) g →
+        → PieceEnds image.parts.sizes n v es regs w t l → (g : RunStage) → Follows x (alone.Goes l) g →
         ((b : RunMoment) → Same x l b → g ≡ On b → AreMatched image ir f (suc p) regs callers w t b)
         → MovesToo image ir ds (code.Goes (Here f (suc p) regs callers w t)) m g
     goes_on regs w t l es shows afterwards (Over end b) follows match = absurd follows
@@ -106,7 +106,7 @@ module _ (image : Image) (ir : Ir) where
         })
 
     traps_on : (k : TrapKind) (es : List Effect)
-        → ShowsDeeds image.parts.sizes (is_logged_in_code ir) ds es → (g : Stage)
+        → ShowsDeeds image.parts.sizes (is_logged_in_code ir) ds es → (g : RunStage)
         → Follows x (alone.Traps (trap_number k) (onward v es v.ticks)) g
         → MovesToo image ir ds (code.Ends (code.Trapped k)) m g
     traps_on k es shows (On b) follows = absurd follows
@@ -125,7 +125,7 @@ module _ (image : Image) (ir : Ir) where
         })
 
     full_on : (es : List Effect) → IsCutAtStore image.parts.sizes (is_logged_in_code ir) ds es
-        → records_end v.records es ≡ image.parts.sizes.records → (g : Stage)
+        → records_end v.records es ≡ image.parts.sizes.records → (g : RunStage)
         → Follows x (alone.Traps 7 (onward v es v.ticks)) g → StopsFull image ir ds m g
     full_on es cut many (On b) follows = absurd follows
     full_on es cut many (Over end b) follows =
@@ -141,7 +141,7 @@ module _ (image : Image) (ir : Ir) where
           cut = cut;
         }
 
-    at_next : (g q : ℕ) (regs : List ℤ) (cs : List code.Frame) (w : PoolMap) (t : ℕ) (s : Stage)
+    at_next : (g q : ℕ) (regs : List ℤ) (cs : List code.Frame) (w : PoolMap) (t : ℕ) (s : RunStage)
         → g ≡ f → q ≡ suc p → cs ≡ callers
         → MovesToo image ir ds (code.Goes (Here f (suc p) regs callers w t)) m s
         → MovesToo image ir ds (code.Goes (Here g q regs cs w t)) m s
@@ -152,7 +152,7 @@ module _ (image : Image) (ir : Ir) where
         MovesToo image ir ds (code.Goes (Here f (suc p) regs ks w t)) m s) (sym c) h))
 
     -- the code's move, the run of the piece alone, and the machine's steps
-    pub combined : (mv : Move) (r : alone.Next World Loc) (g : Stage)
+    pub combined : (mv : Move) (r : alone.Next World Loc) (g : RunStage)
         → Does image.parts.sizes (is_logged_in_code ir) n v ds mv r → LeadsOn f p callers mv
         → Follows x r g →
         ((regs : List ℤ) (w : PoolMap) (t : ℕ) (l : Loc) (es : List Effect) (b : RunMoment)

@@ -13,7 +13,7 @@ use Rattle.pm_machine.specs.Effects.{heap_past, heap_end, records_past, records_
 use Rattle.pm_machine.specs.Machine.{State, StepOutcome, Goes, Ends, Finished, began, follow, step}
 use Rattle.pm_machine.specs.Machine.{run, execute, tally, flush, fetch, passed, cleaned}
 use Rattle.pm_machine.specs.Machine.{read_register}
-use Rattle.emit_law.specs.Moments.{RunMoment, Stage, On, Over, moment_after, staged, one}
+use Rattle.emit_law.specs.Moments.{RunMoment, RunStage, On, Over, moment_after, staged, one}
 use Rattle.emit_law.specs.Moments.{stage_then, go, onto}
 use Rattle.match_law.specs.Accesses.{accesses}
 
@@ -55,7 +55,7 @@ module _ (image : Image) (end : End) (b : RunMoment) where
       let r = ran_on k m (step image m.records m.state m.heap) (λ t. ran_within k t) h in
       record { effects = r.0; seen_is = r.1; heap_is = r.2; records_is = r.3; is = r.4 }
 
-one_step : (s : Stage) → stage_then s On ≡ s
+one_step : (s : RunStage) → stage_then s On ≡ s
 one_step (On m) = refl
 one_step (Over end m) = refl
 

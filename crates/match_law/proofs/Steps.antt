@@ -16,14 +16,14 @@ use Rattle.emit_law.specs.Standing.{Stays}
 use Rattle.piece_law.specs.Law.{PieceLaw}
 use Rattle.piece_law.specs.Pools.{FitsLaw}
 use Rattle.piece_law.specs.Words.{HoldWords}
-use Rattle.match_law.specs.Compiled.{IsCompiled}
+use Rattle.match_law.specs.Compiled.{IsCodeOf}
 use Rattle.match_law.specs.Match.{AreMatched}
 use Rattle.match_law.proofs.Moves.{Steps}
 use Rattle.match_law.proofs.Controls.{jump_step, branch_step, call_step, return_step}
 use Rattle.match_law.proofs.Locals.{stays}
 
 module _ (piece_law : PieceLaw) (fits_law : FitsLaw) (image : Image) (program : Ir)
-    (c : IsCompiled image program) (f p : ℕ) (regs : List ℤ) (callers : List code.Frame)
+    (c : IsCodeOf image program) (f p : ℕ) (regs : List ℤ) (callers : List code.Frame)
     (w : PoolMap)
     (t : ℕ) (m : RunMoment) (words : HoldWords regs)
     (same : AreMatched image program f p regs callers w t m) where

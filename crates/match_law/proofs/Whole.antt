@@ -7,7 +7,7 @@ use Rattle.code_meaning.specs.Code as code
 use Rattle.code_meaning.specs.Deeds.{Deed, deeds, deeds_of, deeds_on}
 use Rattle.pm_machine.specs.declared.effect.Effect.{Effect}
 use Rattle.pm_machine.specs.declared.image.Image.{Image}
-use Rattle.emit_law.specs.Moments.{RunMoment, Stage, go, onto}
+use Rattle.emit_law.specs.Moments.{RunMoment, RunStage, go, onto}
 use Rattle.emit_law.proofs.Dirty.{grow_all}
 use Rattle.emit_law.proofs.Moments as moments
 use Rattle.piece_law.specs.Law.{PieceLaw}
@@ -15,7 +15,7 @@ use Rattle.piece_law.specs.Pools.{FitsLaw}
 use Rattle.piece_law.specs.Shows.{ShowsLaw, CutsLaw}
 use Rattle.piece_law.specs.Words.{IsWordState, IsWordMove, WordsLaw}
 use Rattle.match_law.specs.Accesses.{accesses}
-use Rattle.match_law.specs.Compiled.{IsCompiled, is_logged_in_code}
+use Rattle.match_law.specs.Compiled.{IsCodeOf, is_logged_in_code}
 use Rattle.match_law.specs.Match.{Match, HasShown, StopsFull, EndsToo, MovesToo, own_steps, flushes}
 use Rattle.match_law.specs.Match.{most, MatchLaw}
 use Rattle.match_law.proofs.Effects.{onto_append}
@@ -31,7 +31,7 @@ nothing_more [] = refl
 nothing_more (d ∷ ds) = ap (λ (cs : List Deed). d ∷ cs) (nothing_more ds)
 
 module _ (image : Image) (program : Ir) where
-  full_more : (ds cs : List Deed) (m : RunMoment) (g : Stage) → StopsFull image program ds m g
+  full_more : (ds cs : List Deed) (m : RunMoment) (g : RunStage) → StopsFull image program ds m g
       → StopsFull image program (ds ++ cs) m g
   full_more ds cs m g h = record {
     last = h.last;
@@ -51,7 +51,7 @@ module _ (image : Image) (program : Ir) where
   }
 
   module _ (shows_law : ShowsLaw) (cuts_law : CutsLaw) (ds cs : List Deed) (m b : RunMoment)
-      (g : Stage) (first : HasShown image program ds m b) where
+      (g : RunStage) (first : HasShown image program ds m b) where
     seen_on : (last : RunMoment) (es : List Effect) → accesses last.seen ≡ onto es (accesses b.seen)
         → accesses last.seen ≡ onto (first.effects ++ es) (accesses m.seen)
     seen_on last es e = e ∙ ap (onto es) first.seen
@@ -95,7 +95,7 @@ module _ (image : Image) (program : Ir) where
     ends_on code.Stuck h = tt
 
   module _ (piece_law : PieceLaw) (fits_law : FitsLaw) (shows_law : ShowsLaw) (cuts_law : CutsLaw)
-      (words_law : WordsLaw) (c : IsCompiled image program) where
+      (words_law : WordsLaw) (c : IsCodeOf image program) where
     abbrev Whole : ℕ → List Deed → code.CodeEnd → RunMoment → Type 0
     Whole k ds e m =
         (n : ℕ) × (n ≤ k * most + length m.state.dirty)
@@ -114,7 +114,7 @@ module _ (image : Image) (program : Ir) where
         grow_all image n m h.to h.is in (
           n + r.0,
           omega (arith, r.1, few),
-          subst (λ (g : Stage). EndsToo image program (ds ++ deeds program k d) (exec program k d) m
+          subst (λ (g : RunStage). EndsToo image program (ds ++ deeds program k d) (exec program k d) m
               g) (sym (moments.go_on image n r.0 m h.to (go image r.0 h.to) h.is refl))
               (ends_on shows_law cuts_law ds (deeds program k d) m h.to (go image r.0 h.to) h.shown
               (exec program k d) r.2),

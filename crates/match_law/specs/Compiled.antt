@@ -15,7 +15,7 @@ use Rattle.emit_law.specs.TidyCode.{HasCode}
 use Rattle.piece_law.specs.Fits.{IsFit}
 
 -- The properties of each compiled program; the front end and the code generator ensure them.
-pub record IsCompiled (image : Image) (ir : Ir) : Type 0 where
+pub record IsCodeOf (image : Image) (ir : Ir) : Type 0 where
   pub code : HasCode image image.parts.sizes ir
   pub well : IsWellFormed ir
   pub room : (f : ℕ) (u : IrFunction) → slice_get ir.functions f ≡ Some u

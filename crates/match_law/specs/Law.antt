@@ -19,7 +19,7 @@ use Rattle.piece_law.specs.Shows.{ShowsDeeds, IsCutAtStore}
 use Rattle.piece_law.specs.Stands.{Stands}
 use Rattle.piece_law.specs.Words.{HoldWords, HasWords}
 use Rattle.match_law.specs.Accesses.{accesses}
-use Rattle.match_law.specs.Compiled.{IsCompiled, is_logged_in_code}
+use Rattle.match_law.specs.Compiled.{IsCodeOf, is_logged_in_code}
 use Rattle.match_law.specs.Match.{most}
 
 -- the run halts with the code's value, its heap stands for the code's pool, and its effects show
@@ -65,7 +65,7 @@ RunMatches image ir heap ds code.Stuck run = ⊥
 abbrev pub KeepLaw : Type 0
 KeepLaw = (image : Image) (ir : Ir) (k tx : ℕ) (entry : TxEntry) (args : List ℤ) (heap : Words)
     (w : PoolMap) →
-    IsCompiled image ir → slice_get image.parts.txs (tx - 1) ≡ Some entry → HoldWords args
+    IsCodeOf image ir → slice_get image.parts.txs (tx - 1) ≡ Some entry → HoldWords args
     → HasWords w → Stands image.parts.sizes heap w → PoolFits ir.shapes w →
     RunMatches image ir heap (deeds ir k (code_start entry.function args w image.parts.sizes.ticks))
     (exec ir k (code_start entry.function args w image.parts.sizes.ticks))

@@ -21,13 +21,13 @@ use Rattle.pm_machine.specs.declared.frame.Frame.{Frame}
 use Rattle.pm_machine.specs.declared.image.Image.{Image}
 use Rattle.codegen.specs.Emit.{place_in}
 use Rattle.emit_law.specs.Dirty.{IsCleanState}
-use Rattle.emit_law.specs.Moments.{RunMoment, Stage, On, Over, go, onto}
+use Rattle.emit_law.specs.Moments.{RunMoment, RunStage, On, Over, go, onto}
 use Rattle.emit_law.specs.Standing.{table_of}
 use Rattle.piece_law.specs.Shows.{ShowsDeeds, IsCutAtStore}
 use Rattle.piece_law.specs.Stands.{Stands}
 use Rattle.piece_law.specs.Words.{IsWordState}
 use Rattle.match_law.specs.Accesses.{accesses}
-use Rattle.match_law.specs.Compiled.{IsCompiled, is_logged_in_code}
+use Rattle.match_law.specs.Compiled.{IsCodeOf, is_logged_in_code}
 
 -- function f is open in a frame, at its instruction p; last: no function called it
 pub record IsOpenIn (s : Sizes) (ir : Ir) (f p : ℕ) (regs : List ℤ) (last : Bool) (g : Frame) :
@@ -74,7 +74,7 @@ pub record HasShown (image : Image) (ir : Ir) (ds : List Deed) (m b : RunMoment)
 
 -- the machine ends with a full log, right before a store that is logged, whatever the code does
 -- after it
-pub record StopsFull (image : Image) (ir : Ir) (ds : List Deed) (m : RunMoment) (g : Stage) :
+pub record StopsFull (image : Image) (ir : Ir) (ds : List Deed) (m : RunMoment) (g : RunStage) :
     Type 0 where
   pub last : RunMoment
   pub is : g ≡ Over (Trapped LogFull) last
@@ -84,14 +84,14 @@ pub record StopsFull (image : Image) (ir : Ir) (ds : List Deed) (m : RunMoment) 
   pub cut : IsCutAtStore image.parts.sizes (is_logged_in_code ir) ds effects
 
 pub record GoesToo (image : Image) (ir : Ir) (ds : List Deed) (c : CodeState) (m : RunMoment)
-    (g : Stage) : Type 0 where
+    (g : RunStage) : Type 0 where
   pub to : RunMoment
   pub is : g ≡ On to
   pub match : Match image ir c to
   pub shown : HasShown image ir ds m to
 
 pub record HaltsToo (image : Image) (ir : Ir) (ds : List Deed) (w : PoolMap) (v : ℤ) (m : RunMoment)
-    (g : Stage) : Type 0 where
+    (g : RunStage) : Type 0 where
   pub last : RunMoment
   pub is : g ≡ Over (Halted v) last
   pub stands : Stands image.parts.sizes last.heap w
@@ -99,20 +99,20 @@ pub record HaltsToo (image : Image) (ir : Ir) (ds : List Deed) (w : PoolMap) (v 
   pub shown : HasShown image ir ds m last
 
 pub record TrapsToo (image : Image) (ir : Ir) (ds : List Deed) (k : TrapKind) (m : RunMoment)
-    (g : Stage) : Type 0 where
+    (g : RunStage) : Type 0 where
   pub last : RunMoment
   pub is : g ≡ Over (Trapped k) last
   pub shown : HasShown image ir ds m last
 
 -- if the code's run ends like this, so does the machine's, or it ends with a full log
-abbrev pub EndsToo : Image → Ir → List Deed → code.CodeEnd → RunMoment → Stage → Type 0
+abbrev pub EndsToo : Image → Ir → List Deed → code.CodeEnd → RunMoment → RunStage → Type 0
 EndsToo image ir ds (code.Ended w v t) m g =
     HaltsToo image ir ds w v m g ⊎ StopsFull image ir ds m g
 EndsToo image ir ds (code.Trapped k) m g = TrapsToo image ir ds k m g ⊎ StopsFull image ir ds m g
 EndsToo image ir ds code.Unfinished m g = Unit {0}
 EndsToo image ir ds code.Stuck m g = Unit {0}
 
-abbrev pub MovesToo : Image → Ir → List Deed → Move → RunMoment → Stage → Type 0
+abbrev pub MovesToo : Image → Ir → List Deed → Move → RunMoment → RunStage → Type 0
 MovesToo image ir ds (code.Goes c) m g = GoesToo image ir ds c m g ⊎ StopsFull image ir ds m g
 MovesToo image ir ds (code.Ends e) m g = EndsToo image ir ds e m g
 
@@ -127,7 +127,7 @@ flushes (code.Ends e) m = length m.state.dirty
 -- One step of the code, and the machine's steps for it, from states that match, if the code's
 -- values are words.
 abbrev pub MatchLaw : Type 0
-MatchLaw = (image : Image) (ir : Ir) (c : CodeState) (m : RunMoment) → IsCompiled image ir
+MatchLaw = (image : Image) (ir : Ir) (c : CodeState) (m : RunMoment) → IsCodeOf image ir
     → IsWordState c → Match image ir c m →
     (n : ℕ) × (n ≤ own_steps + flushes (instruction_step ir c) m)
     × MovesToo image ir (deeds_of ir c) (instruction_step ir c) m (go image n m)
