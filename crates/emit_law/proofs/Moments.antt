@@ -8,7 +8,8 @@ use Rattle.pm_machine.specs.Machine.{StepOutcome, Goes, Ends, Finished, began, f
 use Rattle.emit_law.specs.Moments.{RunMoment, RunStage, On, Over, moment_after, staged, one}
 use Rattle.emit_law.specs.Moments.{stage_then, go, onto, RunsLaw}
 
-and_and : (r : RunStage) (f g h : RunMoment → RunStage) → ((m : RunMoment) → f m ≡ stage_then (g m) h)
+and_and : (r : RunStage) (f g h : RunMoment → RunStage)
+    → ((m : RunMoment) → f m ≡ stage_then (g m) h)
     → stage_then r f ≡ stage_then (stage_then r g) h
 and_and (On m) f g h e = e m
 and_and (Over end m) f g h e = refl
@@ -24,12 +25,14 @@ go_add image (suc i) j m =
 
 pub go_on : (image : Image) (i j : ℕ) (m b : RunMoment) (r : RunStage) → go image i m ≡ On b
     → go image j b ≡ r → go image (i + j) m ≡ r
-go_on image i j m b r e f = go_add image i j m ∙ ap (λ (x : RunStage). stage_then x (go image j)) e ∙ f
+go_on image i j m b r e f =
+    go_add image i j m ∙ ap (λ (x : RunStage). stage_then x (go image j)) e ∙ f
 
 -- a run that ended stays so with more steps
 pub go_over : (image : Image) (i j : ℕ) (m b : RunMoment) (end : End) → go image i m ≡ Over end b
     → go image (i + j) m ≡ Over end b
-go_over image i j m b end e = go_add image i j m ∙ ap (λ (x : RunStage). stage_then x (go image j)) e
+go_over image i j m b end e =
+    go_add image i j m ∙ ap (λ (x : RunStage). stage_then x (go image j)) e
 
 module _ (image : Image) (end : End) (b : RunMoment) where
   abbrev Ran : (k : ℕ) → RunMoment → Type 0

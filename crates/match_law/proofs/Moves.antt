@@ -85,7 +85,8 @@ module _ (image : Image) (ir : Ir) where
       (heard_is : v.seen ≡ heard m.seen) (ds : List Deed) where
     goes_on : (regs : List ℤ) (w : PoolMap) (t : ℕ) (l : Loc) (es : List Effect)
         → ShowsDeeds image.parts.sizes (is_logged_in_code ir) ds es
-        → PieceEnds image.parts.sizes n v es regs w t l → (g : RunStage) → Follows x (alone.Goes l) g →
+        → PieceEnds image.parts.sizes n v es regs w t l
+        → (g : RunStage) → Follows x (alone.Goes l) g →
         ((b : RunMoment) → Same x l b → g ≡ On b → AreMatched image ir f (suc p) regs callers w t b)
         → MovesToo image ir ds (code.Goes (Here f (suc p) regs callers w t)) m g
     goes_on regs w t l es shows afterwards (Over end b) follows match = absurd follows
