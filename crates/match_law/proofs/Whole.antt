@@ -114,9 +114,9 @@ module _ (image : Image) (program : Ir) where
         grow_all image n m h.to h.is in (
           n + r.0,
           omega (arith, r.1, few),
-          subst
-              (λ (g : RunStage).
-              EndsToo image program (ds ++ deeds program k d) (exec program k d) m g) (sym (moments.go_on image n r.0 m h.to (go image r.0 h.to) h.is refl))
+          subst (λ (g : RunStage).
+              EndsToo image program (ds ++ deeds program k d) (exec program k d) m g)
+              (sym (moments.go_on image n r.0 m h.to (go image r.0 h.to) h.is refl))
               (ends_on shows_law cuts_law ds (deeds program k d) m h.to (go image r.0 h.to) h.shown
               (exec program k d) r.2),
         )
