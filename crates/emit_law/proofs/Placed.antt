@@ -168,7 +168,7 @@ module _ (image : Image) (x : Setting) (n : ℕ) (room : x.base + 8 < 2 ^ 32)
     abbrev now : RunMoment
     now = at_moment (x.place + l.at) regs l.world dirty logged seen
 
-    abbrev acts : Op → Stage
+    abbrev acts : Op → RunStage
     acts o = staged now (tally (machine.execute image l.world.heap l.world.records now.state
         (Some o)))
 

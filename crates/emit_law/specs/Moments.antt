@@ -16,8 +16,8 @@ pub record RunMoment : Type 0 where
 
 -- a run goes on, or has ended
 pub data RunStage : Type 0 where
-  On : RunMoment → Stage
-  Over : End → RunMoment → Stage
+  On : RunMoment → RunStage
+  Over : End → RunMoment → RunStage
 
 abbrev pub moment_after : RunMoment → Effect → State → RunMoment
 moment_after m e t = record {
@@ -27,19 +27,19 @@ moment_after m e t = record {
   seen = e ∷ m.seen;
 }
 
-abbrev pub staged : RunMoment → StepOutcome → Stage
+abbrev pub staged : RunMoment → StepOutcome → RunStage
 staged m (Goes e t) = On (moment_after m e t)
 staged m (Ends end) = Over end m
 
-abbrev pub one : Image → RunMoment → Stage
+abbrev pub one : Image → RunMoment → RunStage
 one image m = staged m (step image m.records m.state m.heap)
 
-abbrev pub stage_then : RunStage → (RunMoment → RunStage) → Stage
+abbrev pub stage_then : RunStage → (RunMoment → RunStage) → RunStage
 stage_then (On m) f = f m
 stage_then (Over end m) f = Over end m
 
 -- at most n steps
-abbrev pub go : Image → ℕ → RunMoment → Stage
+abbrev pub go : Image → ℕ → RunMoment → RunStage
 go image zero m = On m
 go image (suc n) m = stage_then (one image m) (go image n)
 
