@@ -18,6 +18,8 @@ use Rattle.ir.specs.Places.{instruction_at}
 use Rattle.ir.specs.Clobber.{unwritten, read_fact, SomeWalk, IsClobber, WritesHeader}
 use Rattle.ir.specs.Clobber.{LoggedAt, IsLogged}
 use Rattle.ir.specs.WellFormed.{IsWellFormed}
+use Rattle.clobber_pass.specs.declared.marking.MarkTable.{MarkTable}
+use Rattle.clobber_pass.specs.Logged.{is_logged, IsExact}
 use Rattle.walk_check.specs.declared.certificate.Piece.{Piece}
 use Rattle.walk_check.specs.declared.certificate.Walk.{Walk}
 use Rattle.walk_check.specs.declared.certificate.Reason.{Reason}
@@ -227,6 +229,19 @@ module _ (ir : Ir) (well : IsWellFormed ir) (site : Site) where
     grown = stays;
     given = not_logged Here site.fill refl h;
   }
+
+not_both : (b : Bool) → b ≡ true → b ≡ false → ⊥
+not_both b holds never = cc
+
+-- a site that exact marks don't log has no reason
+pub unmarked : (ir : Ir) (site : Site) (table : MarkTable) (ps : List Piece) → Passing ir ps
+    → IsExact ir.functions table → is_logged table site ≡ false → ReasonGiven ir site ps ps None
+unmarked ir site table ps all exact plain = record {
+  passing = all;
+  grown = stays;
+  given = λ (is : IsLogged ir.functions site).
+      not_both (is_logged table site) ((exact site).1 is) plain;
+}
 
 -- the reasons so far
 module _ (ir : Ir) where

@@ -8,3 +8,5 @@ pub mod Still
 pub mod Found
 pub mod Judged
 pub mod Fuel
+pub mod Chained
+pub mod Jumped

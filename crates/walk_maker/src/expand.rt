@@ -1,10 +1,12 @@
 //! The spots before a spot. Each is tried by the checker's own rules before it is added.
 
-ghost use Rattle.std.specs.Prelude.{◌≡◌, ◌<◌, ◌^◌, length, OnOk};
+ghost use Rattle.std.specs.Prelude.{◌≡◌, ◌<◌, ◌^◌, Some, length, slice_get, OnOk};
 ghost use Rattle.ir.specs.WellFormed.{IsWellFormed};
 ghost use Rattle.walk_maker.specs.inside.Expand as expand;
+ghost use Rattle.walk_maker.specs.inside.Jumps as lands;
 
 use crate::calls::{at_call, back, before_call, exit_of};
+use crate::jumps::{AllJumps, jumps_to};
 use crate::reading::entry_fact;
 use crate::table::{Aim, Entry, Link, Table, add, step_of};
 use ir::{Back, Fact as WalkFact, Instruction, Ir, IrFunction, Origins};
@@ -232,21 +234,72 @@ fn try_before(
     }
 }
 
+/// The next place that may lead to a place, from `at` on, if no jump before `jump` leads there.
+fn candidate(place: usize, at: usize, jump: usize) -> usize
+    ensures { result ≡ lands.candidate place at jump }
+{
+    if at < place && place <= jump {
+        place - 1
+    } else {
+        later_of(at, jump)
+    }
+}
+
+fn later_of(at: usize, jump: usize) -> usize
+    ensures { result ≡ lands.later_of at jump }
+{
+    if at < jump { jump } else { at }
+}
+
+/// A place before which no instruction after the one at `next` jumps to a place, if none did before
+/// `jump`.
+fn jump_after(
+    jumps: &AllJumps,
+    function: u32,
+    place: u32,
+    jump: usize,
+    next: usize,
+    instruction: &Instruction,
+) -> usize
+    ensures { result ≡ lands.jump_after jumps.now function place jump next instruction.now }
+{
+    if next == jump && jumps_to(instruction, place) {
+        jumps.next(function, next)
+    } else {
+        jump
+    }
+}
+
 /// Adds the spots of the same function, before the later one.
 pub(crate) fn try_all_before(
     ir: &Ir,
+    jumps: &AllJumps,
     passed: &[Piece],
     body: &IrFunction,
     later: Later,
     table: &mut Table,
 ) -> Result<(), AllocError>
     requires well { IsWellFormed ir.now }
+    requires jumps { lands.AreAllJumps ir.now.functions jumps.now }
+    requires body { slice_get ir.now.functions later.entry.function ≡ Some body.now }
     requires short { length body.now.code < 2 ^ 31 }
     ensures { OnOk result (table.new
         ≡ expand.all_before_tried ir.now passed.now body.now later 0 body.now.code table.old) }
 {
-    for (place, instruction) in body.code.as_slice().iter().enumerate() {
-        try_before(ir, passed, body, later, place as u32, instruction, table)?;
+    let code = body.code.as_slice();
+    let function = later.entry.function;
+    let place = later.entry.place;
+    let mut at = 0;
+    let mut jump = jumps.first(function, place);
+    for _ in 0..code.len() {
+        let next = candidate(place as usize, at, jump);
+        if next >= code.len() {
+            return Ok(());
+        }
+        let instruction = &code[next];
+        try_before(ir, passed, body, later, next as u32, instruction, table)?;
+        jump = jump_after(jumps, function, place, jump, next, instruction);
+        at = next + 1;
     }
     Ok(())
 }

@@ -6,6 +6,7 @@
 
 mod calls;
 mod expand;
+mod jumps;
 mod reading;
 mod reasons;
 mod search;

@@ -4,15 +4,19 @@ ghost use Rattle.std.specs.Prelude.{◌≡◌, None, OnOk, IfOk, option_map};
 ghost use Rattle.ir.specs.Sites.{sites_of};
 ghost use Rattle.ir.specs.Clobber.{unwritten, read_fact};
 ghost use Rattle.ir.specs.WellFormed.{IsWellFormed};
+ghost use Rattle.clobber_pass.specs.Logged.{IsExact};
 ghost use Rattle.walk_check.specs.Keeps.{certificate_fault};
 ghost use Rattle.walk_check.specs.Law.{listed};
 ghost use Rattle.walk_check.specs.inside.Grown.{Passing};
 ghost use Rattle.walk_maker.specs.Lists.{ListsLogged};
+ghost use Rattle.walk_maker.specs.inside.Jumps.{AreAllJumps};
 ghost use Rattle.walk_maker.specs.inside.Reasons as judged;
 
+use crate::jumps::{AllJumps, all_jumps};
 use crate::reading::pieces_of;
 use crate::search::find_start;
 use crate::table::{Aim, Entry, Link, Table};
+use clobber_pass::{MarkTable, marks};
 use ir::{Fact as WalkFact, Instruction, Ir, Site, Target};
 use std::alloc::{AllocError, Global};
 use walk_check::{Certificate, Pieces, Reason, Reasons, Walk, instruction_at};
@@ -22,25 +26,27 @@ use walk_check::{Certificate, Pieces, Reason, Reasons, Walk, instruction_at};
 fn walk_to(
     alloc: Global,
     ir: &Ir,
+    jumps: &AllJumps,
     passed: &mut Pieces,
     site: Site,
     fact: WalkFact,
 ) -> Result<Option<Walk>, AllocError>
     requires well { IsWellFormed ir.now }
+    requires jumps { AreAllJumps ir.now.functions jumps.now }
     requires passing { Passing ir.now passed.old }
     requires there { judged.FactThere ir.now site fact }
     ensures { IfOk result (λ walk.
         judged.WalkGiven ir.now site fact passed.old passed.new walk) }
 {
-    let mut table = Table::new(alloc);
-    table.push(Entry {
+    let goal = Entry {
         aim: Aim::ToSite,
         function: site.function,
         place: site.place,
         fact,
         link: Link::End,
-    })?;
-    match find_start(alloc, ir, &mut table, passed)? {
+    };
+    let mut table = Table::of(alloc, goal)?;
+    match find_start(alloc, ir, jumps, &mut table, passed)? {
         None => Ok(None),
         Some(number) => {
             let functions = ir.functions.as_slice();
@@ -84,19 +90,21 @@ fn read(target: Target) -> WalkFact
 fn store_reason(
     alloc: Global,
     ir: &Ir,
+    jumps: &AllJumps,
     passed: &mut Pieces,
     site: Site,
     target: Target,
 ) -> Result<Option<Reason>, AllocError>
     requires well { IsWellFormed ir.now }
+    requires jumps { AreAllJumps ir.now.functions jumps.now }
     requires passing { Passing ir.now passed.old }
     requires store { judged.StoresAt ir.now site target }
     ensures { IfOk result (λ reason.
         judged.ReasonGiven ir.now site passed.old passed.new reason) }
 {
-    match walk_to(alloc, ir, passed, site, unwritten(target))? {
+    match walk_to(alloc, ir, jumps, passed, site, unwritten(target))? {
         None => Ok(None),
-        Some(unwrites) => match walk_to(alloc, ir, passed, site, read(target))? {
+        Some(unwrites) => match walk_to(alloc, ir, jumps, passed, site, read(target))? {
             None => Ok(None),
             Some(reads) => Ok(Some(Reason::Clobber(unwrites, reads))),
         },
@@ -108,16 +116,18 @@ fn store_reason(
 fn fill_reason(
     alloc: Global,
     ir: &Ir,
+    jumps: &AllJumps,
     passed: &mut Pieces,
     site: Site,
 ) -> Result<Option<Reason>, AllocError>
     requires well { IsWellFormed ir.now }
+    requires jumps { AreAllJumps ir.now.functions jumps.now }
     requires passing { Passing ir.now passed.old }
     requires fill { judged.FillsAt ir.now site }
     ensures { IfOk result (λ reason.
         judged.ReasonGiven ir.now site passed.old passed.new reason) }
 {
-    match walk_to(alloc, ir, passed, site, WalkFact::Freed)? {
+    match walk_to(alloc, ir, jumps, passed, site, WalkFact::Freed)? {
         None => Ok(None),
         Some(walk) => Ok(Some(Reason::PastFree(walk))),
     }
@@ -148,20 +158,46 @@ fn kind_of(instruction: Option<&Instruction>, fill: bool) -> Kind
 fn reason_of(
     alloc: Global,
     ir: &Ir,
+    jumps: &AllJumps,
     passed: &mut Pieces,
     site: Site,
 ) -> Result<Option<Reason>, AllocError>
     requires well { IsWellFormed ir.now }
+    requires jumps { AreAllJumps ir.now.functions jumps.now }
     requires passing { Passing ir.now passed.old }
     ensures { IfOk result (λ reason.
         judged.ReasonGiven ir.now site passed.old passed.new reason) }
 {
     let instruction = instruction_at(ir.functions.as_slice(), site.function, site.place);
     match kind_of(instruction, site.fill) {
-        Kind::Store(target) => store_reason(alloc, ir, passed, site, target),
+        Kind::Store(target) => store_reason(alloc, ir, jumps, passed, site, target),
         Kind::Header => Ok(Some(Reason::Always)),
-        Kind::Fill => fill_reason(alloc, ir, passed, site),
+        Kind::Fill => fill_reason(alloc, ir, jumps, passed, site),
         Kind::Nothing => Ok(None),
+    }
+}
+
+/// Why a site is logged, if the marks log it. So nothing is sought of the others.
+#[tactic(auto, using(crate::proofs::Judged::unmarked))]
+fn marked_reason(
+    alloc: Global,
+    ir: &Ir,
+    jumps: &AllJumps,
+    table: &MarkTable,
+    passed: &mut Pieces,
+    site: Site,
+) -> Result<Option<Reason>, AllocError>
+    requires well { IsWellFormed ir.now }
+    requires jumps { AreAllJumps ir.now.functions jumps.now }
+    requires exact { IsExact ir.now.functions table.now }
+    requires passing { Passing ir.now passed.old }
+    ensures { IfOk result (λ reason.
+        judged.ReasonGiven ir.now site passed.old passed.new reason) }
+{
+    if table.logged(site) {
+        reason_of(alloc, ir, jumps, passed, site)
+    } else {
+        Ok(None)
     }
 }
 
@@ -183,13 +219,15 @@ pub fn explain(alloc: Global, ir: &Ir) -> Result<Certificate, AllocError>
         ListsLogged ir.now.functions (sites_of 0 ir.now.functions) (listed c)) }
     ensures keeps { IfOk result (λ c. certificate_fault ir.now c ≡ None) }
 {
+    let table = marks(alloc, ir)?;
+    let jumps = all_jumps(alloc, ir.functions.as_slice())?;
     let sites = ir.sites(alloc)?;
     let mut passed = Pieces::new(alloc);
     let mut reasons = Reasons::new(alloc);
     let all = sites.as_slice();
     for index in 0..all.len() {
         let site = all[index];
-        let reason = reason_of(alloc, ir, &mut passed, site)?;
+        let reason = marked_reason(alloc, ir, &jumps, &table, &mut passed, site)?;
         push_reason(&mut reasons, site, reason)?;
     }
     Ok(Certificate { passed, reasons })

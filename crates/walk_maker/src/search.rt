@@ -2,9 +2,11 @@
 
 ghost use Rattle.std.specs.Prelude.{◌≡◌, OnOk, IfOk, position, slice_get};
 ghost use Rattle.ir.specs.WellFormed.{IsWellFormed};
+ghost use Rattle.walk_maker.specs.inside.Jumps.{AreAllJumps};
 ghost use Rattle.walk_maker.specs.inside.Search as search;
 
 use crate::expand::{Later, try_all_before, try_callers};
+use crate::jumps::AllJumps;
 use crate::reading::{entry_fact, piece_of};
 use crate::table::{Aim, Entry, Table, entry_at};
 use ir::{Fact as WalkFact, Ir, IrFunction};
@@ -75,25 +77,34 @@ fn try_entry(
 fn expand(
     alloc: Global,
     ir: &Ir,
+    jumps: &AllJumps,
     later: Later,
     table: &mut Table,
     passed: &mut Pieces,
 ) -> Result<(), AllocError>
-    requires { IsWellFormed ir.now }
+    requires well { IsWellFormed ir.now }
+    requires jumps { AreAllJumps ir.now.functions jumps.now }
     ensures { OnOk result (search.state table.new passed.new
         ≡ search.expanded ir.now later (search.state table.old passed.old)) }
 {
     let Some(body) = ir.functions.as_slice().get(later.entry.function as usize) else {
         return Ok(());
     };
-    try_all_before(ir, passed.as_slice(), body, later, table)?;
+    try_all_before(ir, jumps, passed.as_slice(), body, later, table)?;
     try_entry(alloc, ir, body, later, table, passed)
 }
 
 /// Goes once through the table, also through what it adds. If there were as many entries as no
 /// memory holds, memory would lack.
-fn sweep(alloc: Global, ir: &Ir, table: &mut Table, passed: &mut Pieces) -> Result<(), AllocError>
-    requires { IsWellFormed ir.now }
+fn sweep(
+    alloc: Global,
+    ir: &Ir,
+    jumps: &AllJumps,
+    table: &mut Table,
+    passed: &mut Pieces,
+) -> Result<(), AllocError>
+    requires well { IsWellFormed ir.now }
+    requires jumps { AreAllJumps ir.now.functions jumps.now }
     ensures { OnOk result (search.Swept ir.now 0 (search.state table.old passed.old)
         (search.state table.new passed.new)) }
 {
@@ -102,7 +113,7 @@ fn sweep(alloc: Global, ir: &Ir, table: &mut Table, passed: &mut Pieces) -> Resu
             None => return Ok(()),
             Some(entry) => entry,
         };
-        expand(alloc, ir, Later { number, entry }, table, passed)?;
+        expand(alloc, ir, jumps, Later { number, entry }, table, passed)?;
     }
     Err(AllocError)
 }
@@ -139,10 +150,12 @@ fn first_start(functions: &[IrFunction], table: &[Entry]) -> Option<usize>
 pub(crate) fn find_start(
     alloc: Global,
     ir: &Ir,
+    jumps: &AllJumps,
     table: &mut Table,
     passed: &mut Pieces,
 ) -> Result<Option<usize>, AllocError>
-    requires { IsWellFormed ir.now }
+    requires well { IsWellFormed ir.now }
+    requires jumps { AreAllJumps ir.now.functions jumps.now }
     ensures { IfOk result (λ found. search.Searched ir.now (search.state table.old passed.old)
         found (search.state table.new passed.new)) }
 {
@@ -152,7 +165,7 @@ pub(crate) fn find_start(
         }
         let entries = table.as_slice().len();
         let pieces = passed.as_slice().len();
-        sweep(alloc, ir, table, passed)?;
+        sweep(alloc, ir, jumps, table, passed)?;
         if table.as_slice().len() == entries && passed.as_slice().len() == pieces {
             return Ok(None);
         }

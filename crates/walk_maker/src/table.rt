@@ -1,11 +1,13 @@
 //! The table of a search: the spots from which a walk can reach its aim, each with how it goes on.
 
-ghost use Rattle.std.specs.Prelude.{◌≡◌, OnOk, slice_get};
+ghost use Rattle.std.specs.Prelude.{◌≡◌, ◌++◌, ◌∷◌, ◌<◌, [], ℕ, OnOk, IfOk, Some, slice_get, slice_set};
 ghost use Rattle.walk_maker.specs.inside.Table as table;
+ghost use Rattle.walk_maker.specs.inside.Buckets as buckets;
 
 use ir::Fact as WalkFact;
 use nvm_base::List;
-use std::alloc::AllocError;
+use std::alloc::{AllocError, Global};
+use std::marker::Model;
 use walk_check::{Step, same, told};
 
 /// What a walk is to reach: the site, or a return of the spot's function with a fact.
@@ -34,8 +36,197 @@ pub(crate) struct Entry {
     pub(crate) link: Link,
 }
 
-/// The entries, in the order in which they were found: those near the aim first.
-pub(crate) type Table = List<Entry>;
+/// How many buckets there are.
+const BUCKETS: usize = 8192;
+
+/// The entries, in the order in which they were found: those near the aim first. A spot is sought
+/// among the entries of its bucket alone, from the last one back.
+#[derive(Drop)]
+pub(crate) struct Table {
+    all: List<Entry>,
+    /// For each bucket, a number above the numbers of its entries.
+    lasts: List<usize>,
+    /// For each entry, a number above those of the entries of its bucket before it. It ends where
+    /// memory lacked.
+    befores: List<usize>,
+}
+
+impl Model for Table {
+    ghost use Rattle.std.specs.Prelude.{List};
+    ghost use Rattle.walk_maker.specs.declared.table.Entry.{Entry};
+    ghost use Rattle.walk_maker.specs.inside.Buckets.{IsChained};
+
+    ghost Value = { List Entry };
+
+    ghost view = { λ t. t.all };
+
+    ghost invariant = { λ t. IsChained t.all t.lasts t.befores };
+}
+
+/// What is known of a spot after a look at one entry: it is in the table, or it isn't, or it isn't
+/// among the entries from a number on.
+#[derive(Clone, Copy, Debug, PartialEq, Eq)]
+enum Look {
+    Known,
+    New,
+    Below(usize),
+}
+
+impl Table {
+    /// The table of one entry.
+    pub(crate) fn of(alloc: Global, entry: Entry) -> Result<Self, AllocError>
+        ensures { IfOk result (λ t. t ≡ entry ∷ []) }
+    {
+        let mut table = Table::empty(alloc)?;
+        table.push(entry)?;
+        Ok(table)
+    }
+
+    fn empty(alloc: Global) -> Result<Self, AllocError>
+        ensures { IfOk result (λ t. t ≡ []) }
+    {
+        Ok(Table {
+            all: List::new(alloc),
+            lasts: zeros(alloc)?,
+            befores: List::new(alloc),
+        })
+    }
+
+    /// The entries.
+    pub(crate) fn as_slice(&self) -> &[Entry]
+        ensures { result.now ≡ self.now }
+    {
+        self.all.as_slice()
+    }
+
+    fn has(&self, entry: Entry) -> bool
+        ensures { result ≡ table.has self.now entry }
+    {
+        has_chained(self.all.as_slice(), &self.lasts, &self.befores, entry)
+    }
+
+    fn push(&mut self, entry: Entry) -> Result<(), AllocError>
+        ensures { OnOk result (self.new ≡ self.old ++ entry ∷ []) }
+    {
+        put(&mut self.all, &mut self.lasts, &mut self.befores, entry)
+    }
+
+    /// Adds an entry, unless its spot is in the table.
+    fn insert(&mut self, entry: Entry) -> Result<(), AllocError>
+        ensures { OnOk result (self.new ≡ table.added entry self.old) }
+    {
+        if self.has(entry) {
+            return Ok(());
+        }
+        self.push(entry)
+    }
+}
+
+/// A 0 for each bucket.
+fn zeros(alloc: Global) -> Result<List<usize>, AllocError> {
+    let mut numbers = List::new(alloc);
+    for _ in 0..BUCKETS {
+        numbers.push(0)?;
+    }
+    Ok(numbers)
+}
+
+/// Puts a number at the end, if there is memory.
+fn keep(numbers: &mut List<usize>, number: usize)
+    ensures { buckets.IsNoted numbers.old number numbers.new }
+{
+    match numbers.push(number) {
+        Ok(()) => (),
+        Err(_) => (),
+    }
+}
+
+/// Puts a number at the end, if the list has so many numbers.
+fn keep_at(numbers: &mut List<usize>, count: usize, number: usize)
+    ensures { buckets.IsNotedAt numbers.old count number numbers.new }
+{
+    if numbers.as_slice().len() == count {
+        keep(numbers, number);
+    }
+}
+
+/// Writes another number at a place, if there is this place.
+pub(crate) fn write_at(numbers: &mut List<usize>, place: usize, number: usize)
+    ensures { numbers.new ≡ slice_set numbers.old place number }
+{
+    if place < numbers.as_slice().len() {
+        numbers.set(place, number);
+    }
+}
+
+/// The number at a place, or else the other one.
+fn number_at(numbers: &List<usize>, place: usize, other: usize) -> usize
+    ensures { result ≡ buckets.number_or_other numbers.now place other }
+{
+    match numbers.get(place) {
+        None => other,
+        Some(number) => *number,
+    }
+}
+
+/// Puts an entry at the end, and keeps its number.
+#[tactic(auto, using(crate::proofs::Chained::pushed))]
+fn put(
+    all: &mut List<Entry>,
+    lasts: &mut List<usize>,
+    befores: &mut List<usize>,
+    entry: Entry,
+) -> Result<(), AllocError>
+    requires { buckets.IsChained all.old lasts.old befores.old }
+    ensures chained { buckets.IsChained all.new lasts.new befores.new }
+    ensures done { OnOk result (all.new ≡ all.old ++ entry ∷ []) }
+{
+    let count = all.as_slice().len();
+    let bucket = bucket_of(entry);
+    let last = number_at(lasts, bucket, count);
+    all.push(entry)?;
+    keep_at(befores, count, last);
+    write_at(lasts, bucket, count + 1);
+    Ok(())
+}
+
+/// Looks at the entry before a number, from which on there is no entry of the spot.
+fn look_before(all: &[Entry], befores: &List<usize>, entry: Entry, at: usize) -> Look
+    requires past { buckets.IsPast all.now entry at }
+    requires befores { buckets.AreAbove all.now befores.now }
+    ensures { buckets.LookTells all.now entry result }
+{
+    if at == 0 {
+        return Look::New;
+    }
+    let Some(known) = entry_at(all, at - 1) else {
+        return Look::Below(at - 1);
+    };
+    if same_spot(known, entry) {
+        return Look::Known;
+    }
+    if bucket_of(known) == bucket_of(entry) {
+        Look::Below(number_at(befores, at - 1, at - 1))
+    } else {
+        Look::Below(at - 1)
+    }
+}
+
+/// Whether an entry's spot is in a table, which keeps these numbers.
+fn has_chained(all: &[Entry], lasts: &List<usize>, befores: &List<usize>, entry: Entry) -> bool
+    requires { buckets.IsChained all.now lasts.now befores.now }
+    ensures { result ≡ table.has all.now entry }
+{
+    let mut at = number_at(lasts, bucket_of(entry), all.len());
+    for _ in 0..all.len() {
+        match look_before(all, befores, entry, at) {
+            Look::Known => return true,
+            Look::New => return false,
+            Look::Below(next) => at = next,
+        }
+    }
+    has_among(all, entry)
+}
 
 fn same_aim(a: Aim, b: Aim) -> bool
     ensures { result ≡ table.same_aim a b }
@@ -55,20 +246,37 @@ fn same_spot(a: Entry, b: Entry) -> bool
         && (a.function == b.function && (a.place == b.place && same(a.fact, b.fact)))
 }
 
-fn has(entries: &[Entry], entry: Entry) -> bool
+fn has_among(entries: &[Entry], entry: Entry) -> bool
     ensures { result ≡ table.has entries.now entry }
 {
     entries.iter().any(|known| same_spot(*known, entry))
+}
+
+/// The register that a fact is on.
+fn register_of(fact: WalkFact) -> u32
+    ensures { result ≡ buckets.fact_register fact }
+{
+    match fact {
+        WalkFact::Unwritten { register, .. } => register,
+        _ => 0,
+    }
+}
+
+/// The bucket of an entry's spot, by its function, its place, and the register of its fact.
+#[tactic(auto, using(crate::proofs::Chained::bucket_is))]
+fn bucket_of(entry: Entry) -> usize
+    ensures { result ≡ buckets.bucket_of entry }
+{
+    let function = 61 * u64::from(entry.function);
+    let register = 1009 * u64::from(register_of(entry.fact));
+    ((u64::from(entry.place) + function + register) % 8192) as usize
 }
 
 /// Adds an entry, unless its spot is in the table.
 pub(crate) fn add(entries: &mut Table, entry: Entry) -> Result<(), AllocError>
     ensures { OnOk result (entries.new ≡ table.added entry entries.old) }
 {
-    if has(entries.as_slice(), entry) {
-        return Ok(());
-    }
-    entries.push(entry)
+    entries.insert(entry)
 }
 
 /// The entry of a number.

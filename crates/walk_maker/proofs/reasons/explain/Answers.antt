@@ -21,9 +21,9 @@ loop-index-preserved c =
     let ir = c.args.ir.now in
     let all = c.as_slice-all.result.now in
     let left = drop (c.loop-index.index + 1) all in
-    subst (λ rs. Reasoned ir all left c.reason_of.new.passed rs)
+    subst (λ rs. Reasoned ir all left c.marked_reason.new.passed rs)
     (sym c.in_ok-push_reason.ensures)
-    (reasoned_at ir all c.loop-index.index _ c.loop-index.passed c.reason_of.new.passed
+    (reasoned_at ir all c.loop-index.index _ c.loop-index.passed c.marked_reason.new.passed
     c.loop-index.reasons c.in_ok-reason.reason c.requires
     (slice_get-get_or all c.loop-index.index _ c.loop-index-test.true) c.in_ok-reason.ensures
     c.loop-index.invariant)

@@ -1,0 +1,67 @@
+-- The buckets of spots, and what a table keeps so that a spot is sought in its bucket alone.
+use Rattle.std.specs.Prelude.{◌≡◌, ◌+◌, ◌*◌, ◌%◌, ◌<◌, ◌≤◌, ◌⊎◌, ◌++◌, ℕ, true, false, List, []}
+use Rattle.std.specs.Prelude.{◌∷◌, Option, Some, None, length, slice_get}
+use Rattle.ir.specs.declared.fact.Fact.{Fact}
+use Rattle.ir.specs.declared.fact.Fact.TheVariants.{Here, Unwritten, RootUnwritten, ReadRoot}
+use Rattle.ir.specs.declared.fact.Fact.TheVariants.{ReadField, Freed}
+use Rattle.walk_maker.specs.declared.table.Entry.{Entry}
+use Rattle.walk_maker.specs.declared.table.Look.{Look}
+use Rattle.walk_maker.specs.declared.table.Look.TheVariants.{Known, New, Below}
+use Rattle.walk_maker.specs.inside.Table.{same_spot, has}
+
+-- the register that a fact is on
+abbrev pub fact_register : Fact → ℕ
+fact_register (Unwritten r s x) = r
+fact_register Here = 0
+fact_register (RootUnwritten x) = 0
+fact_register (ReadRoot x) = 0
+fact_register (ReadField s x) = 0
+fact_register Freed = 0
+
+unfoldable pub bucket_of : Entry → ℕ
+bucket_of e = (e.place + 61 * e.function + 1009 * fact_register e.fact) % 8192
+
+-- the number is above the numbers of a bucket's entries
+abbrev pub IsAbove : List Entry → (bucket n : ℕ) → Type 0
+IsAbove t bucket n =
+    (m : ℕ) (x : Entry) → slice_get t m ≡ Some x → bucket_of x ≡ bucket → m < n
+
+-- the number is above those of the entries before entry k that are of its bucket
+abbrev pub IsAboveBefore : List Entry → (k n : ℕ) → Type 0
+IsAboveBefore t k n = (m : ℕ) (x y : Entry) → slice_get t k ≡ Some y → slice_get t m ≡ Some x
+    → m < k → bucket_of x ≡ bucket_of y → m < n
+
+-- each of the numbers is above those of the entries before its own that are of its bucket
+abbrev pub AreAbove : List Entry → (befores : List ℕ) → Type 0
+AreAbove t befores = (k n : ℕ) → slice_get befores k ≡ Some n → IsAboveBefore t k n
+
+-- each number that is kept is above what it is to be above
+pub record IsChained (t : List Entry) (lasts befores : List ℕ) : Type 0 where
+  pub above_all : (b n : ℕ) → slice_get lasts b ≡ Some n → IsAbove t b n
+  pub not_longer : length befores ≤ length t
+  pub above_before : AreAbove t befores
+
+abbrev pub or_other : Option ℕ → ℕ → ℕ
+or_other None other = other
+or_other (Some n) other = n
+
+-- the number at place p, or else the other one
+abbrev pub number_or_other : List ℕ → (p other : ℕ) → ℕ
+number_or_other numbers p other = or_other (slice_get numbers p) other
+
+-- no entry from number n on is of the spot
+abbrev pub IsPast : List Entry → Entry → ℕ → Type 0
+IsPast t e n = (m : ℕ) (x : Entry) → slice_get t m ≡ Some x → n ≤ m → same_spot x e ≡ false
+
+abbrev pub LookTells : List Entry → Entry → Look → Type 0
+LookTells t e Known = has t e ≡ true
+LookTells t e New = has t e ≡ false
+LookTells t e (Below n) = IsPast t e n
+
+-- a number was put at the end, or wasn't
+abbrev pub IsNoted : List ℕ → ℕ → List ℕ → Type 0
+IsNoted old n new = (new ≡ old) ⊎ (new ≡ old ++ n ∷ [])
+
+-- .. and only if there were so many
+abbrev pub IsNotedAt : List ℕ → (count n : ℕ) → List ℕ → Type 0
+IsNotedAt old count n new = (new ≡ old) ⊎ ((length old ≡ count) × (new ≡ old ++ n ∷ []))
