@@ -1,0 +1,301 @@
+-- A test of types fails exactly where no types that its operands may have fit.
+use Rattle.std.proofs.Common.{◌≡◌, ℕ, ◌⊎◌, inl, inr, Bool, true, false, refl, sym, ap, ◌∙◌}
+use Rattle.std.specs.Prelude.{◌&&◌, ◌||◌, not, is_some, Option, None, Some}
+use Rattle.c_tree.specs.declared.expr.UnaryOp.{UnaryOp}
+use Rattle.c_tree.specs.declared.expr.UnaryOp.TheVariants as unary
+use Rattle.c_tree.specs.declared.expr.BinaryOp.{BinaryOp}
+use Rattle.c_tree.specs.declared.expr.BinaryOp.TheVariants as binary
+use Rattle.c_tree.specs.declared.stmt.AssignOp.{AssignOp}
+use Rattle.c_tree.specs.declared.stmt.AssignOp.TheVariants as assign
+use Rattle.c_types.specs.declared.value_type.ValueType.{ValueType}
+use Rattle.c_types.specs.declared.value_type.ValueType.TheVariants.{Int, Pointer, Null, Any}
+use Rattle.c_types.specs.declared.value_type.Kind.{Kind}
+use Rattle.c_types.specs.declared.value_type.Kind.TheVariants.{Value, Array}
+use Rattle.c_types.specs.Fits.{is_int, is_pointer, is_null, is_pointer_to, type_takes, comparable}
+use Rattle.c_types.specs.Fits.{joins_types, applies, assigns}
+use Rattle.c_types.specs.Expressions.{is_indexed}
+use Rattle.typed_law.specs.Types.{StaticType, Number, PointerTo, NullPointer, value_type, Applies}
+use Rattle.typed_law.specs.Types.{Compares, Joins, AreNumbers, AcceptsType}
+use Rattle.typed_law.specs.Statements.{IsAssigned}
+use Rattle.typed_law.proofs.Broken.{false_true, and_left, and_right, same_from}
+use Rattle.typed_law.proofs.Fitting.{joined_fits, taken_fits}
+use Rattle.rules_law.specs.Rules.{MayBe, NoOperand, NoOperands, NoAssignment, NoGift, NoNumber}
+use Rattle.rules_law.specs.Rules.{NoPointer}
+
+-- a test that holds where something does fails exactly where that doesn't
+pub fails : (b : Bool) (P : Type 0) → (P → b ≡ true) → b ≡ false → P → ⊥
+fails b P f e p = false_true (sym e ∙ f p)
+
+pub failed : (b : Bool) (P : Type 0) → (b ≡ true → P) → (P → ⊥) → b ≡ false
+failed true P f never = absurd (never (f refl))
+failed false P f never = refl
+
+pub none_of : {A : Type 0} (o : Option A) → is_some o ≡ false → o ≡ None
+none_of None e = refl
+none_of (Some x) e = absurd (false_true (sym e))
+
+pub not_false : (b : Bool) → not b ≡ false → b ≡ true
+not_false true e = refl
+not_false false e = absurd (false_true (sym e))
+
+pub and_false : (a b : Bool) → (a && b) ≡ false → (a ≡ false) ⊎ (b ≡ false)
+and_false true b e = inr e
+and_false false b e = inl refl
+
+pub and_false_left : (a b : Bool) → a ≡ false → (a && b) ≡ false
+and_false_left a b e = rw e refl
+
+pub and_false_right : (a b : Bool) → b ≡ false → (a && b) ≡ false
+and_false_right true b e = e
+and_false_right false b e = refl
+
+pub or_false_left : (a b : Bool) → (a || b) ≡ false → a ≡ false
+or_false_left true b e = absurd (false_true (sym e))
+or_false_left false b e = refl
+
+pub or_false_right : (a b : Bool) → (a || b) ≡ false → b ≡ false
+or_false_right true b e = absurd (false_true (sym e))
+or_false_right false b e = e
+
+-- a type that something may have
+some_type : (a : ValueType) → (x : StaticType) × MayBe a x
+some_type Int = (Number, inl refl)
+some_type (Pointer i) = (PointerTo i, inl refl)
+some_type Null = (NullPointer, inl refl)
+some_type Any = (Number, inr refl)
+
+number_true : (a : ValueType) → MayBe a Number → is_int a ≡ true
+number_true a (inl e) = rw e refl
+number_true a (inr e) = rw e refl
+
+true_number : (a : ValueType) → is_int a ≡ true → MayBe a Number
+true_number Int e = inl refl
+true_number (Pointer i) e = absurd (false_true e)
+true_number Null e = absurd (false_true e)
+true_number Any e = inr refl
+
+number_at : (a : ValueType) (x : StaticType) → MayBe a x → x ≡ Number → MayBe a Number
+number_at a x (inl e) is = inl (e ∙ ap value_type is)
+number_at a x (inr e) is = inr e
+
+pub no_number : (a : ValueType) → is_int a ≡ false → NoNumber a
+no_number a e = fails (is_int a) (MayBe a Number) (number_true a) e
+
+pub number_no : (a : ValueType) → NoNumber a → is_int a ≡ false
+number_no a never = failed (is_int a) (MayBe a Number) (true_number a) never
+
+pointer_true : (a : ValueType) (i : ℕ) → MayBe a (PointerTo i) → is_pointer a ≡ true
+pointer_true a i (inl e) = rw e refl
+pointer_true a i (inr e) = rw e refl
+
+true_pointer : (a : ValueType) → is_pointer a ≡ true → (i : ℕ) × MayBe a (PointerTo i)
+true_pointer Int e = absurd (false_true e)
+true_pointer (Pointer i) e = (i, inl refl)
+true_pointer Null e = absurd (false_true e)
+true_pointer Any e = (0, inr refl)
+
+pub no_pointer : (a : ValueType) → is_pointer a ≡ false → NoPointer a
+no_pointer a e i m = false_true (sym e ∙ pointer_true a i m)
+
+pub pointer_no : (a : ValueType) → NoPointer a → is_pointer a ≡ false
+pointer_no a never = failed (is_pointer a) ((i : ℕ) × MayBe a (PointerTo i)) (true_pointer a)
+    (λ h. never h.0 h.1)
+
+-- two types that fit each other
+abbrev Pair : ValueType → ValueType → (StaticType → StaticType → Type 0) → Type 0
+Pair a b R = (x : StaticType) × (y : StaticType) × MayBe a x × MayBe b y × R x y
+
+numbers_true : (a b : ValueType) (x y : StaticType) → MayBe a x → MayBe b y → AreNumbers x y
+    → (is_int a && is_int b) ≡ true
+numbers_true a b x y m n h = rw (
+  number_true a (number_at a x m h.0),
+  number_true b (number_at b y n h.1),
+) refl
+
+true_numbers : (a b : ValueType) → (is_int a && is_int b) ≡ true → Pair a b AreNumbers
+true_numbers a b e = (
+  Number,
+  Number,
+  true_number a (and_left (is_int a) (is_int b) e),
+  true_number b (and_right (is_int a) (is_int b) e),
+  (refl, refl),
+)
+
+compares_any : (x : StaticType) → comparable (value_type x) Any ≡ true
+compares_any Number = refl
+compares_any (PointerTo i) = refl
+compares_any NullPointer = refl
+
+compares_itself : (x : StaticType) → Compares x x
+compares_itself Number = refl
+compares_itself (PointerTo i) = inl refl
+compares_itself NullPointer = inl refl
+
+compare_true : (a b : ValueType) (x y : StaticType) → MayBe a x → MayBe b y → Compares x y
+    → comparable a b ≡ true
+compare_true a b x y (inl e) (inl f) h = rw (e, f) (joined_fits binary.Equal x y h)
+compare_true a b x y (inl e) (inr f) h = rw (e, f) (compares_any x)
+compare_true a b x y (inr e) n h = rw e refl
+
+pointer_pair : (i : ℕ) (b : ValueType) → is_pointer_to i b ≡ true
+    → (y : StaticType) × MayBe b y × ((y ≡ PointerTo i) ⊎ (y ≡ NullPointer))
+pointer_pair i Int e = absurd (false_true e)
+pointer_pair i (Pointer j) e = (PointerTo j, inl refl, inl (ap PointerTo (sym (same_from i j e))))
+pointer_pair i Null e = (NullPointer, inl refl, inr refl)
+pointer_pair i Any e = (PointerTo i, inr refl, inl refl)
+
+true_compare : (a b : ValueType) → comparable a b ≡ true → Pair a b Compares
+true_compare Int b e = (Number, Number, inl refl, true_number b e, refl)
+true_compare (Pointer i) b e =
+    let p = pointer_pair i b e in (PointerTo i, p.0, inl refl, p.1, p.2)
+true_compare Null Int e = absurd (false_true e)
+true_compare Null (Pointer j) e = (NullPointer, PointerTo j, inl refl, inl refl, inr (j, refl))
+true_compare Null Null e = (NullPointer, NullPointer, inl refl, inl refl, inl refl)
+true_compare Null Any e = (NullPointer, NullPointer, inl refl, inr refl, inl refl)
+true_compare Any b e =
+    let y = some_type b in (y.0, y.0, inr refl, y.1, compares_itself y.0)
+
+joins_true : (op : BinaryOp) (a b : ValueType) (x y : StaticType) → MayBe a x → MayBe b y
+    → Joins op x y → joins_types op a b ≡ true
+joins_true binary.Both a b x y m n h = refl
+joins_true binary.Either a b x y m n h = refl
+joins_true binary.Equal a b x y m n h = compare_true a b x y m n h
+joins_true binary.NotEqual a b x y m n h = compare_true a b x y m n h
+joins_true binary.Mul a b x y m n h = numbers_true a b x y m n h
+joins_true binary.Div a b x y m n h = numbers_true a b x y m n h
+joins_true binary.Rem a b x y m n h = numbers_true a b x y m n h
+joins_true binary.Add a b x y m n h = numbers_true a b x y m n h
+joins_true binary.Sub a b x y m n h = numbers_true a b x y m n h
+joins_true binary.ShiftLeft a b x y m n h = numbers_true a b x y m n h
+joins_true binary.ShiftRight a b x y m n h = numbers_true a b x y m n h
+joins_true binary.Less a b x y m n h = numbers_true a b x y m n h
+joins_true binary.LessEqual a b x y m n h = numbers_true a b x y m n h
+joins_true binary.Greater a b x y m n h = numbers_true a b x y m n h
+joins_true binary.GreaterEqual a b x y m n h = numbers_true a b x y m n h
+joins_true binary.And a b x y m n h = numbers_true a b x y m n h
+joins_true binary.Xor a b x y m n h = numbers_true a b x y m n h
+joins_true binary.Or a b x y m n h = numbers_true a b x y m n h
+
+any_pair : (a b : ValueType) → Pair a b (λ x y. Unit {0})
+any_pair a b = let x = some_type a in let y = some_type b in (x.0, y.0, x.1, y.1, tt)
+
+true_joins : (op : BinaryOp) (a b : ValueType) → joins_types op a b ≡ true → Pair a b (Joins op)
+true_joins binary.Both a b e = any_pair a b
+true_joins binary.Either a b e = any_pair a b
+true_joins binary.Equal a b e = true_compare a b e
+true_joins binary.NotEqual a b e = true_compare a b e
+true_joins binary.Mul a b e = true_numbers a b e
+true_joins binary.Div a b e = true_numbers a b e
+true_joins binary.Rem a b e = true_numbers a b e
+true_joins binary.Add a b e = true_numbers a b e
+true_joins binary.Sub a b e = true_numbers a b e
+true_joins binary.ShiftLeft a b e = true_numbers a b e
+true_joins binary.ShiftRight a b e = true_numbers a b e
+true_joins binary.Less a b e = true_numbers a b e
+true_joins binary.LessEqual a b e = true_numbers a b e
+true_joins binary.Greater a b e = true_numbers a b e
+true_joins binary.GreaterEqual a b e = true_numbers a b e
+true_joins binary.And a b e = true_numbers a b e
+true_joins binary.Xor a b e = true_numbers a b e
+true_joins binary.Or a b e = true_numbers a b e
+
+pub no_operands : (op : BinaryOp) (a b : ValueType) → joins_types op a b ≡ false
+    → NoOperands op a b
+no_operands op a b e x y m n h = false_true (sym e ∙ joins_true op a b x y m n h)
+
+pub operands_no : (op : BinaryOp) (a b : ValueType) → NoOperands op a b
+    → joins_types op a b ≡ false
+operands_no op a b never = failed (joins_types op a b) (Pair a b (Joins op)) (true_joins op a b)
+    (λ h. never h.0 h.1 h.2 h.3 h.4)
+
+applies_true : (op : UnaryOp) (a : ValueType) (x : StaticType) → MayBe a x → Applies op x
+    → applies op a ≡ true
+applies_true unary.Not a x m h = refl
+applies_true unary.Negate a x m h = number_true a (number_at a x m h)
+applies_true unary.Complement a x m h = number_true a (number_at a x m h)
+
+true_applies : (op : UnaryOp) (a : ValueType) → applies op a ≡ true
+    → (x : StaticType) × MayBe a x × Applies op x
+true_applies unary.Not a e = let x = some_type a in (x.0, x.1, tt)
+true_applies unary.Negate a e = (Number, true_number a e, refl)
+true_applies unary.Complement a e = (Number, true_number a e, refl)
+
+pub no_operand : (op : UnaryOp) (a : ValueType) → applies op a ≡ false → NoOperand op a
+no_operand op a e x m h = false_true (sym e ∙ applies_true op a x m h)
+
+pub operand_no : (op : UnaryOp) (a : ValueType) → NoOperand op a → applies op a ≡ false
+operand_no op a never = failed (applies op a) ((x : StaticType) × MayBe a x × Applies op x)
+    (true_applies op a) (λ h. never h.0 h.1 h.2)
+
+takes_any : (x : StaticType) → type_takes (value_type x) Any ≡ true
+takes_any Number = refl
+takes_any (PointerTo i) = refl
+takes_any NullPointer = refl
+
+takes_true : (a b : ValueType) (x y : StaticType) → MayBe a x → MayBe b y → AcceptsType x y
+    → type_takes a b ≡ true
+takes_true a b x y (inl e) (inl f) h = rw (e, f) (taken_fits x y h)
+takes_true a b x y (inl e) (inr f) h = rw (e, f) (takes_any x)
+takes_true a b x y (inr e) n h = rw e refl
+
+null_pair : (b : ValueType) → is_null b ≡ true → MayBe b NullPointer
+null_pair Int e = absurd (false_true e)
+null_pair (Pointer i) e = absurd (false_true e)
+null_pair Null e = inl refl
+null_pair Any e = inr refl
+
+given_pointer : (i : ℕ) (y : StaticType) → (y ≡ PointerTo i) ⊎ (y ≡ NullPointer)
+    → AcceptsType (PointerTo i) y
+given_pointer i y (inl e) = inl (sym e)
+given_pointer i y (inr e) = inr (i, refl, e)
+
+true_takes : (a b : ValueType) → type_takes a b ≡ true → Pair a b AcceptsType
+true_takes Int b e = (Number, Number, inl refl, true_number b e, inl refl)
+true_takes (Pointer i) b e =
+    let p = pointer_pair i b e in (PointerTo i, p.0, inl refl, p.1, given_pointer i p.0 p.2)
+true_takes Null b e = (NullPointer, NullPointer, inl refl, null_pair b e, inl refl)
+true_takes Any b e = let y = some_type b in (y.0, y.0, inr refl, y.1, inl refl)
+
+pub no_gift : (a b : ValueType) → type_takes a b ≡ false → NoGift a b
+no_gift a b e x y m n h = false_true (sym e ∙ takes_true a b x y m n h)
+
+pub gift_no : (a b : ValueType) → NoGift a b → type_takes a b ≡ false
+gift_no a b never = failed (type_takes a b) (Pair a b AcceptsType) (true_takes a b)
+    (λ h. never h.0 h.1 h.2 h.3 h.4)
+
+assigns_true : (op : AssignOp) (a b : ValueType) (x y : StaticType) → MayBe a x → MayBe b y
+    → IsAssigned op x y → assigns op a b ≡ true
+assigns_true assign.Set a b x y m n h = takes_true a b x y m n h
+assigns_true assign.Add a b x y m n h = numbers_true a b x y m n h
+assigns_true assign.Sub a b x y m n h = numbers_true a b x y m n h
+
+true_assigns : (op : AssignOp) (a b : ValueType) → assigns op a b ≡ true
+    → Pair a b (IsAssigned op)
+true_assigns assign.Set a b e = true_takes a b e
+true_assigns assign.Add a b e = true_numbers a b e
+true_assigns assign.Sub a b e = true_numbers a b e
+
+pub no_assignment : (op : AssignOp) (a b : ValueType) → assigns op a b ≡ false
+    → NoAssignment op a b
+no_assignment op a b e x y m n h = false_true (sym e ∙ assigns_true op a b x y m n h)
+
+pub assignment_no : (op : AssignOp) (a b : ValueType) → NoAssignment op a b
+    → assigns op a b ≡ false
+assignment_no op a b never = failed (assigns op a b) (Pair a b (IsAssigned op)) (true_assigns op a b)
+    (λ h. never h.0 h.1 h.2 h.3 h.4)
+
+-- what stands before `[`
+pub no_array : (k : Kind) → is_indexed k ≡ false → (x : StaticType) × (k ≡ Value (value_type x))
+no_array (Array element place) e = absurd (false_true (sym e))
+no_array (Value Int) e = (Number, refl)
+no_array (Value (Pointer i)) e = (PointerTo i, refl)
+no_array (Value Null) e = (NullPointer, refl)
+no_array (Value Any) e = absurd (false_true (sym e))
+
+value_no : (x : StaticType) → is_indexed (Value (value_type x)) ≡ false
+value_no Number = refl
+value_no (PointerTo i) = refl
+value_no NullPointer = refl
+
+pub array_no : (k : Kind) (x : StaticType) → k ≡ Value (value_type x) → is_indexed k ≡ false
+array_no k x e = rw e (value_no x)

@@ -1,0 +1,30 @@
+-- The laws of the typing rules: what `c_types` lists is what the rows give, and the one that is told
+-- is the least of them by place, number and limit.
+use Rattle.std.specs.Prelude.{ℕ, ◌≡◌, ◌↔◌, false, length, Option, None, Some}
+use Rattle.c_tree.specs.Program.{Program, tree_of}
+use Rattle.c_types.specs.declared.broken.Rule.{Rule}
+use Rattle.c_types.specs.declared.broken.Broken.{Broken}
+use Rattle.c_types.specs.Tables.{tables_of}
+use Rattle.c_types.specs.Broken.{is_before, least_broken}
+use Rattle.c_types.specs.LeastLaw.{IsAmong}
+use Rattle.c_types.specs.Fault.{breaks}
+use Rattle.rules_law.specs.Part.{Part}
+use Rattle.rules_law.specs.Stands.{StandsIn}
+use Rattle.rules_law.specs.Rules.{Breaks}
+
+-- some part of the tree breaks the rule, at the token of that place
+abbrev pub IsBroken : Program → Rule → (place : ℕ) → Type 0
+IsBroken tree rule place = (p : Part) × StandsIn (length tree.lines) (tables_of (tree_of tree)) p
+    × Breaks (tables_of (tree_of tree)) p rule place
+
+abbrev pub RowsLaw : Type 0
+RowsLaw = (tree : Program) (b : Broken) → IsAmong b (breaks tree) ↔ IsBroken tree b.rule b.place
+
+-- what is told of a tree: nothing where no rule is broken, else a broken rule that none goes before
+abbrev pub IsLeast : Program → Option Broken → Type 0
+IsLeast tree None = (b : Broken) → IsBroken tree b.rule b.place → ⊥
+IsLeast tree (Some a) = IsBroken tree a.rule a.place
+    × ((b : Broken) → IsBroken tree b.rule b.place → is_before b a ≡ false)
+
+abbrev pub ToldLaw : Type 0
+ToldLaw = (tree : Program) → IsLeast tree (least_broken (breaks tree))

@@ -1,0 +1,4 @@
+pub mod Part
+pub mod Stands
+pub mod Rules
+pub mod Law
