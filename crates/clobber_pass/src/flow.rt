@@ -275,6 +275,56 @@ fn flow_where(
     flow_through(alloc, ir, topic, exits, function, entries, tables, waiting)
 }
 
+/// The same, if the function exists.
+fn flow_in(
+    alloc: Global,
+    ir: &Ir,
+    topic: Topic<'_>,
+    exits: &Tables,
+    function: usize,
+    entries: &mut Rows,
+    tables: &mut Tables,
+    waiting: &mut [bool],
+) -> Result<(), AllocError>
+    requires well { IsWellFormed ir.now }
+    requires exits { SoundExits ir.now.functions topic exits.now }
+    requires flow { Flowing ir.now.functions topic exits.now entries.old tables.old waiting.old }
+    ensures flow { OnOk result (Flowing ir.now.functions topic.entry exits.now entries.new
+        tables.new waiting.new) }
+    ensures room { OnOk result (room entries.new ≤ room entries.old) }
+{
+    if function >= ir.functions.as_slice().len() {
+        return Ok(());
+    }
+    flow_where(alloc, ir, topic, exits, function, entries, tables, waiting)?;
+    Ok(())
+}
+
+/// The same for the functions of an order, from the last on: callers come first.
+fn flow_along(
+    alloc: Global,
+    ir: &Ir,
+    topic: Topic<'_>,
+    exits: &Tables,
+    order: &[usize],
+    entries: &mut Rows,
+    tables: &mut Tables,
+    waiting: &mut [bool],
+) -> Result<(), AllocError>
+    requires well { IsWellFormed ir.now }
+    requires exits { SoundExits ir.now.functions topic exits.now }
+    requires flow { Flowing ir.now.functions topic exits.now entries.old tables.old waiting.old }
+    ensures flow { OnOk result (Flowing ir.now.functions topic.entry exits.now entries.new
+        tables.new waiting.new) }
+    ensures room { OnOk result (room entries.new ≤ room entries.old) }
+{
+    for index in 0..order.len() {
+        let function = order[order.len() - 1 - index];
+        flow_in(alloc, ir, topic, exits, function, entries, tables, waiting)?;
+    }
+    Ok(())
+}
+
 /// The same for each function.
 fn flow_round(
     alloc: Global,
@@ -302,6 +352,31 @@ fn flow_round(
         }
     }
     Ok(grew)
+}
+
+/// The same, after those that wait were swept along the order.
+fn ordered_flow(
+    alloc: Global,
+    ir: &Ir,
+    topic: Topic<'_>,
+    exits: &Tables,
+    order: &[usize],
+    entries: &mut Rows,
+    tables: &mut Tables,
+    waiting: &mut [bool],
+) -> Result<bool, AllocError>
+    requires well { IsWellFormed ir.now }
+    requires exits { SoundExits ir.now.functions topic exits.now }
+    requires flow { Flowing ir.now.functions topic exits.now entries.old tables.old waiting.old }
+    ensures flow { IfOk result (λ _. Flowing ir.now.functions topic.entry exits.now entries.new
+        tables.new waiting.new) }
+    ensures quiet { result ≡ Ok false → (f : ℕ) → f < length ir.now.functions
+        → waits waiting.new f ≡ false }
+    ensures grew { result ≡ Ok true → room entries.new < room entries.old }
+    ensures room { IfOk result (λ _. room entries.new ≤ room entries.old) }
+{
+    flow_along(alloc, ir, topic, exits, order, entries, tables, waiting)?;
+    flow_round(alloc, ir, topic, exits, entries, tables, waiting)
 }
 
 /// Starts at a function's entry, if it is a transaction.
@@ -348,7 +423,13 @@ pub struct Flow {
 }
 
 /// What walks from transactions bring to each place, for a topic.
-pub fn flows(alloc: Global, ir: &Ir, topic: Topic<'_>, exits: &Tables) -> Result<Flow, AllocError>
+pub fn flows(
+    alloc: Global,
+    ir: &Ir,
+    topic: Topic<'_>,
+    exits: &Tables,
+    order: &[usize],
+) -> Result<Flow, AllocError>
     requires well { IsWellFormed ir.now }
     requires exits { SoundExits ir.now.functions topic exits.now }
     ensures entries { IfOk result (λ flow. Entries ir.now.functions topic.entry flow.entries) }
@@ -360,11 +441,12 @@ pub fn flows(alloc: Global, ir: &Ir, topic: Topic<'_>, exits: &Tables) -> Result
     let count = ir.functions.as_slice().len();
     let mut tables = Tables::blank(alloc, count)?;
     let mut waiting = waiting_at(alloc, &entries, count)?;
-    while flow_round(
+    while ordered_flow(
         alloc,
         ir,
         topic,
         exits,
+        order,
         &mut entries,
         &mut tables,
         &mut waiting,

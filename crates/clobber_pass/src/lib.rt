@@ -15,6 +15,7 @@ mod flow;
 mod growth;
 mod mark_topics;
 mod marking;
+mod order;
 mod passes;
 mod place_marks;
 mod row;

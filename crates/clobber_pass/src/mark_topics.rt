@@ -21,6 +21,7 @@ fn mark_root(
     ir: &Ir,
     first: u32,
     edges: &[Edge],
+    order: &[usize],
     table: &mut Rows,
 ) -> Result<(), AllocError>
     requires well { IsWellFormed ir.now }
@@ -30,7 +31,7 @@ fn mark_root(
     ensures kept { OnOk result (KeepsRows table.old table.new) }
     ensures marked { OnOk result (RootMarked ir.now.functions table.new first) }
 {
-    mark_topic(alloc, ir, Topic::Root { first }, edges, table)
+    mark_topic(alloc, ir, Topic::Root { first }, edges, order, table)
 }
 
 /// Marks the root's fields.
@@ -39,6 +40,7 @@ pub fn mark_roots(
     ir: &Ir,
     roots: &[u32],
     edges: &[Edge],
+    order: &[usize],
     table: &mut Rows,
 ) -> Result<(), AllocError>
     requires well { IsWellFormed ir.now }
@@ -49,7 +51,7 @@ pub fn mark_roots(
     ensures marked { OnOk result (RootsMarked ir.now.functions roots.now table.new) }
 {
     for index in 0..roots.len() {
-        mark_root(alloc, ir, roots[index], edges, table)?;
+        mark_root(alloc, ir, roots[index], edges, order, table)?;
     }
     Ok(())
 }
@@ -61,6 +63,7 @@ fn mark_some(
     ir: &Ir,
     all: &[StructField],
     edges: &[Edge],
+    order: &[usize],
     table: &mut Rows,
 ) -> Result<(), AllocError>
     requires well { IsWellFormed ir.now }
@@ -70,7 +73,7 @@ fn mark_some(
     ensures kept { OnOk result (KeepsRows table.old table.new) }
     ensures marked { OnOk result (TopicMarked ir.now.functions all.now table.new) }
 {
-    mark_topic(alloc, ir, Topic::Fields { all }, edges, table)
+    mark_topic(alloc, ir, Topic::Fields { all }, edges, order, table)
 }
 
 /// Marks the fields of structs, 16 at once.
@@ -79,6 +82,7 @@ pub fn mark_fields(
     ir: &Ir,
     fields: &[StructField],
     edges: &[Edge],
+    order: &[usize],
     table: &mut Rows,
 ) -> Result<(), AllocError>
     requires well { IsWellFormed ir.now }
@@ -91,7 +95,7 @@ pub fn mark_fields(
     let mut left = fields;
     while !left.is_empty() {
         let (all, others) = left.split_at(left.len().min(16));
-        mark_some(alloc, ir, all, edges, table)?;
+        mark_some(alloc, ir, all, edges, order, table)?;
         left = others;
     }
     Ok(())

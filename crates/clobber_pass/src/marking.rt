@@ -8,6 +8,7 @@ ghost use Rattle.clobber_pass.specs.Logged.{IsExact, is_logged};
 use crate::calling::call_edges;
 use crate::classes::stored_classes;
 use crate::mark_topics::{mark_fields, mark_roots};
+use crate::order::call_order;
 use crate::row::word;
 use crate::rows::Rows;
 use crate::table::{header_table, mark_topic};
@@ -56,8 +57,23 @@ pub fn marks(alloc: Global, ir: &Ir) -> Result<MarkTable, AllocError>
     let edges = call_edges(alloc, ir.functions.as_slice())?;
     let mut table = header_table(alloc, ir.functions.as_slice())?;
     let calls = edges.as_slice();
-    mark_topic(alloc, ir, Topic::Frees, calls, &mut table)?;
-    mark_roots(alloc, ir, stored.roots.as_slice(), calls, &mut table)?;
-    mark_fields(alloc, ir, stored.fields.as_slice(), calls, &mut table)?;
+    let order = call_order(alloc, ir, calls)?;
+    mark_topic(alloc, ir, Topic::Frees, calls, &order, &mut table)?;
+    mark_roots(
+        alloc,
+        ir,
+        stored.roots.as_slice(),
+        calls,
+        &order,
+        &mut table,
+    )?;
+    mark_fields(
+        alloc,
+        ir,
+        stored.fields.as_slice(),
+        calls,
+        &order,
+        &mut table,
+    )?;
     Ok(MarkTable { rows: table })
 }

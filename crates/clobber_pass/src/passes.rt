@@ -151,6 +151,51 @@ fn pass_where(
     pass_through(alloc, ir, topic, edges, function, exits, waiting)
 }
 
+/// The same, if the function exists.
+fn pass_in(
+    alloc: Global,
+    ir: &Ir,
+    topic: Topic<'_>,
+    edges: &[Edge],
+    function: usize,
+    exits: &mut Tables,
+    waiting: &mut [bool],
+) -> Result<(), AllocError>
+    requires well { IsWellFormed ir.now }
+    requires edges { edges.now ≡ edges_from 0 ir.now.functions }
+    requires passing { Passing ir.now.functions topic exits.old waiting.old }
+    ensures passing { OnOk result (Passing ir.now.functions topic.entry exits.new waiting.new) }
+    ensures room { OnOk result (all_room exits.new ≤ all_room exits.old) }
+{
+    if function >= ir.functions.as_slice().len() {
+        return Ok(());
+    }
+    pass_where(alloc, ir, topic, edges, function, exits, waiting)?;
+    Ok(())
+}
+
+/// The same for the functions of an order, from the first on.
+fn pass_along(
+    alloc: Global,
+    ir: &Ir,
+    topic: Topic<'_>,
+    edges: &[Edge],
+    order: &[usize],
+    exits: &mut Tables,
+    waiting: &mut [bool],
+) -> Result<(), AllocError>
+    requires well { IsWellFormed ir.now }
+    requires edges { edges.now ≡ edges_from 0 ir.now.functions }
+    requires passing { Passing ir.now.functions topic exits.old waiting.old }
+    ensures passing { OnOk result (Passing ir.now.functions topic.entry exits.new waiting.new) }
+    ensures room { OnOk result (all_room exits.new ≤ all_room exits.old) }
+{
+    for index in 0..order.len() {
+        pass_in(alloc, ir, topic, edges, order[index], exits, waiting)?;
+    }
+    Ok(())
+}
+
 /// The same for each function.
 fn round(
     alloc: Global,
@@ -179,6 +224,30 @@ fn round(
     Ok(grew)
 }
 
+/// The same, after those that wait were swept along the order.
+fn ordered_round(
+    alloc: Global,
+    ir: &Ir,
+    topic: Topic<'_>,
+    edges: &[Edge],
+    order: &[usize],
+    exits: &mut Tables,
+    waiting: &mut [bool],
+) -> Result<bool, AllocError>
+    requires well { IsWellFormed ir.now }
+    requires edges { edges.now ≡ edges_from 0 ir.now.functions }
+    requires passing { Passing ir.now.functions topic exits.old waiting.old }
+    ensures passing { IfOk result (λ _. Passing ir.now.functions topic.entry exits.new
+        waiting.new) }
+    ensures quiet { result ≡ Ok false → (f : ℕ) → f < length ir.now.functions
+        → waits waiting.new f ≡ false }
+    ensures grew { result ≡ Ok true → all_room exits.new < all_room exits.old }
+    ensures room { IfOk result (λ _. all_room exits.new ≤ all_room exits.old) }
+{
+    pass_along(alloc, ir, topic, edges, order, exits, waiting)?;
+    round(alloc, ir, topic, edges, exits, waiting)
+}
+
 /// What passes through each function, for a topic: the exits of each called function, from each
 /// column of its entry.
 pub fn passes(
@@ -186,6 +255,7 @@ pub fn passes(
     ir: &Ir,
     topic: Topic<'_>,
     edges: &[Edge],
+    order: &[usize],
 ) -> Result<Tables, AllocError>
     requires well { IsWellFormed ir.now }
     requires edges { edges.now ≡ edges_from 0 ir.now.functions }
@@ -196,6 +266,6 @@ pub fn passes(
     let functions = ir.functions.as_slice();
     let mut exits = Tables::new(alloc, functions)?;
     let mut waiting = called_wait(alloc, edges, functions.len())?;
-    while round(alloc, ir, topic, edges, &mut exits, &mut waiting)? {}
+    while ordered_round(alloc, ir, topic, edges, order, &mut exits, &mut waiting)? {}
     Ok(exits)
 }

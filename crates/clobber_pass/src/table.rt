@@ -118,6 +118,7 @@ pub fn mark_topic(
     ir: &Ir,
     topic: Topic<'_>,
     edges: &[Edge],
+    order: &[usize],
     table: &mut Rows,
 ) -> Result<(), AllocError>
     requires well { IsWellFormed ir.now }
@@ -127,8 +128,8 @@ pub fn mark_topic(
     ensures kept { OnOk result (KeepsRows table.old table.new) }
     ensures marked { OnOk result (AllMarked ir.now.functions topic.entry table.new) }
 {
-    let exits = passes(alloc, ir, topic, edges)?;
-    let flow = flows(alloc, ir, topic, &exits)?;
+    let exits = passes(alloc, ir, topic, edges, order)?;
+    let flow = flows(alloc, ir, topic, &exits, order)?;
     for function in 0..ir.functions.as_slice().len() {
         mark_function(alloc, ir, topic, &exits, &flow, function, table)?;
     }
