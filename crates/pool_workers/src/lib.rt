@@ -7,6 +7,7 @@
 
 mod answer;
 mod creating;
+mod lens;
 mod opening;
 mod standing;
 mod task;
@@ -15,6 +16,6 @@ mod window;
 mod workers;
 
 pub use answer::{BeginAnswer, MakeFault, TurnAnswer};
-pub use task::{Task, Turn};
+pub use task::Task;
 pub use window::{Origin, Window, first_line};
 pub use workers::Workers;

@@ -3,12 +3,12 @@
 ghost use Rattle.std.specs.Prelude.{◌≡◌, ◌<◌, ◌^◌, Some};
 ghost use Rattle.pm_machine.specs.Effects.{records_past};
 ghost use Rattle.pool_workers.specs.Task.{IsUncut, going, task_phase};
-ghost use Rattle.pool_workers.specs.inside.Task.{last_answer, last_task};
+ghost use Rattle.pool_workers.specs.inside.Task.{last_answer, last_task, is_last};
 
 use crate::answer::TurnAnswer;
 use nvm_base::Words;
 use pm_machine::{Effect, End, Machine};
-use pmem::{LogAnswer, Phase};
+use pmem::{LogAnswer, Phase, Refusal};
 use pool_map::TrapKind;
 
 /// An unfinished transaction, by what its next turn plays.
@@ -39,13 +39,6 @@ pub enum Task {
     },
 }
 
-/// The result of a turn: its answer, and the transaction unless it is finished.
-#[derive(Drop)]
-pub struct Turn {
-    pub answer: TurnAnswer,
-    pub task: Option<Task>,
-}
-
 /// A run that goes on. If no more instructions are allowed it ends as if it had no tick left.
 pub(crate) fn going(machine: Machine, attempt: u64, records: u64, left: u128) -> Task
     ensures going { result ≡ going machine attempt records left }
@@ -65,27 +58,49 @@ pub(crate) fn going(machine: Machine, attempt: u64, records: u64, left: u128) ->
     }
 }
 
-/// A turn that was refused.
-pub(crate) fn cut(answer: TurnAnswer, phase: Phase) -> Turn
-    ensures answer { result.answer ≡ answer }
-    ensures task { result.task ≡ Some (Task.Cut phase) }
+/// What an instruction leaves of a run that stays in its place.
+#[derive(Clone, Copy, Debug, PartialEq, Eq)]
+pub(crate) enum Stepped {
+    /// It goes on.
+    On,
+    /// It ended, or no more instructions are allowed.
+    Over { end: End, logged: u64 },
+    Refused(Refusal),
+}
+
+/// Cuts a transaction whose turn was refused.
+pub(crate) fn cut(task: &mut Task, answer: TurnAnswer, phase: Phase) -> TurnAnswer
+    ensures answer { result ≡ answer }
+    ensures task { task.new ≡ Task.Cut phase }
 {
-    Turn {
-        answer,
-        task: Some(Task::Cut { phase }),
+    *task = Task::Cut { phase };
+    answer
+}
+
+/// The answer of the last turn, which is this one if all of it was played.
+pub(crate) fn last(task: &mut Task, played: LogAnswer, answer: TurnAnswer) -> TurnAnswer
+    ensures answer { result ≡ last_answer played answer }
+    ensures task { task.new ≡ last_task played task.old }
+{
+    match played {
+        LogAnswer::Done => answer,
+        LogAnswer::Off => cut(task, TurnAnswer::Off, Phase::Sealed),
+        LogAnswer::Failed => cut(task, TurnAnswer::Failed, Phase::Sealed),
+        LogAnswer::NoMemory => cut(task, TurnAnswer::NoMemory, Phase::Sealed),
     }
 }
 
-/// The last turn, which has this answer if all of it was played.
-pub(crate) fn last(played: LogAnswer, answer: TurnAnswer) -> Turn
-    ensures answer { result.answer ≡ last_answer played answer }
-    ensures task { result.task ≡ last_task played }
+/// Whether a turn with this answer was the last one of a transaction.
+pub(crate) fn is_last(answer: TurnAnswer) -> bool
+    ensures { result ≡ is_last answer }
 {
-    match played {
-        LogAnswer::Done => Turn { answer, task: None },
-        LogAnswer::Off => cut(TurnAnswer::Off, Phase::Sealed),
-        LogAnswer::Failed => cut(TurnAnswer::Failed, Phase::Sealed),
-        LogAnswer::NoMemory => cut(TurnAnswer::NoMemory, Phase::Sealed),
+    match answer {
+        TurnAnswer::Done { .. } | TurnAnswer::Trap(_) => true,
+        TurnAnswer::Idle
+        | TurnAnswer::Went
+        | TurnAnswer::Off
+        | TurnAnswer::Failed
+        | TurnAnswer::NoMemory => false,
     }
 }
 

@@ -1,19 +1,23 @@
 //! One turn of a transaction, on the pool of its compartment.
 
-ghost use Rattle.std.specs.Prelude.{◌≡◌, ◌+◌, true, Some, []};
+ghost use Rattle.std.specs.Prelude.{ℕ, ◌≡◌, ◌+◌, true, Some, []};
 ghost use Rattle.pool_layout.specs.Sizes.{pool_lines};
 ghost use Rattle.pm_machine.specs.Machine.{start};
 ghost use Rattle.pool_workers.specs.declared.task.Task.TheVariants as task_of;
 ghost use Rattle.pool_workers.specs.Task.{sealed_task, Turned, IsTask, IsTaskOr, IsUncut};
-ghost use Rattle.pool_workers.specs.Task.{IsUncutOr, IsGoing, ticks_of};
+ghost use Rattle.pool_workers.specs.Task.{IsUncutOr, IsGoing, ticks_of, going};
+ghost use Rattle.pool_workers.specs.inside.Task.{IsBegun, left_task, stepped_left, stepped_answer};
+ghost use Rattle.pool_workers.specs.inside.Task.{settled};
 
 use crate::answer::TurnAnswer;
-use crate::task::{Task, Turn, cut, going, last, records_past};
+use crate::task::{Stepped, Task, cut, going, last, records_past};
 use args_log::{SealAnswer, mark_unusable, retire, seal};
 use clobber_log::{attempt, count};
 use nvm_base::{Steps, Words};
 use pm_machine::{End, Image, Machine, Progress};
 use pmem::{Phase, PmemWork, Refusal};
+use pool_map::TrapKind;
+use std::mem;
 use std::sync::ledger::Ledger;
 
 /// The run of a call that was sealed.
@@ -34,6 +38,13 @@ fn sealed<P: PmemWork>(image: &Image, machine: Machine, dev: &P) -> Task
     going(machine, attempt, count, image.most())
 }
 
+/// The answer of the turn that seals a call, and what it leaves.
+#[derive(Drop)]
+struct SealTurn {
+    answer: TurnAnswer,
+    task: Task,
+}
+
 /// The turn that seals the call.
 fn seal_turn<P: PmemWork>(
     image: &Image,
@@ -41,99 +52,175 @@ fn seal_turn<P: PmemWork>(
     args: Words,
     machine: Machine,
     dev: &mut P,
-) -> Turn
+) -> SealTurn
     requires lines { (P.device dev.old).lines ≡ pool_lines image.now.parts.sizes }
     requires on { (P.device dev.old).on ≡ true }
     requires start { machine ≡ start image.now tx args }
-    ensures turned { Turned result.answer image.now (task_of.Begun tx args machine) result.task
-        (P.device dev.old) (P.device dev.new) }
-    ensures uncut { IsGoing result.answer → IsUncutOr result.task }
-    ensures task { IsTaskOr image.now result.task }
+    ensures turned { Turned result.answer image.now (task_of.Begun tx args machine)
+        (left_task result.answer result.task) (P.device dev.old) (P.device dev.new) }
+    ensures uncut { IsGoing result.answer → IsUncutOr (left_task result.answer result.task) }
+    ensures task { IsTask image.now result.task }
     ensures lines { (P.device dev.new).lines ≡ (P.device dev.old).lines }
 {
     match seal(dev, tx, args.as_slice()) {
-        SealAnswer::Done => Turn {
+        SealAnswer::Done => SealTurn {
             answer: TurnAnswer::Went,
-            task: Some(sealed(image, machine, dev)),
+            task: sealed(image, machine, dev),
         },
-        SealAnswer::Off(phase) => cut(TurnAnswer::Off, phase),
-        SealAnswer::Failed => cut(TurnAnswer::Failed, Phase::Unsealed),
-        SealAnswer::NoMemory => cut(TurnAnswer::NoMemory, Phase::Unsealed),
+        SealAnswer::Off(phase) => SealTurn {
+            answer: TurnAnswer::Off,
+            task: Task::Cut { phase },
+        },
+        SealAnswer::Failed => SealTurn {
+            answer: TurnAnswer::Failed,
+            task: Task::Cut {
+                phase: Phase::Unsealed,
+            },
+        },
+        SealAnswer::NoMemory => SealTurn {
+            answer: TurnAnswer::NoMemory,
+            task: Task::Cut {
+                phase: Phase::Unsealed,
+            },
+        },
     }
 }
 
-/// The turn of one instruction.
-fn step_turn<P: PmemWork>(
-    image: &Image,
-    machine: Machine,
-    attempt: u64,
-    records: u64,
-    left: u128,
-    dev: &mut P,
-) -> Turn
+/// The first turn of a transaction, which seals its call.
+fn first_turn<P: PmemWork>(image: &Image, task: &mut Task, dev: &mut P) -> TurnAnswer
     requires lines { (P.device dev.old).lines ≡ pool_lines image.now.parts.sizes }
     requires on { (P.device dev.old).on ≡ true }
-    requires task { IsTask image.now (task_of.Running machine attempt records left) }
-    ensures turned { Turned result.answer image.now
-        (task_of.Running machine attempt records left) result.task
+    requires task { IsTask image.now task.old }
+    requires begun { IsBegun task.old }
+    ensures turned { Turned result image.now task.old (left_task result task.new)
         (P.device dev.old) (P.device dev.new) }
-    ensures uncut { IsGoing result.answer → IsUncutOr result.task }
-    ensures task { IsTaskOr image.now result.task }
+    ensures uncut { IsGoing result → IsUncutOr (left_task result task.new) }
+    ensures task { IsTask image.now task.new }
     ensures lines { (P.device dev.new).lines ≡ (P.device dev.old).lines }
 {
-    let mut machine = machine;
+    let unsealed = Task::Cut {
+        phase: Phase::Unsealed,
+    };
+    match mem::replace(task, unsealed) {
+        Task::Begun { tx, args, machine } => {
+            let SealTurn { answer, task: left } = seal_turn(image, tx, args, machine, dev);
+            *task = left;
+            answer
+        }
+        Task::Running { .. } | Task::Ending { .. } | Task::Cut { .. } => unreachable!(),
+    }
+}
+
+/// Whether a run goes on. If no more instructions are allowed it ends as if it had no tick left.
+fn goes_on(machine: &Machine, left: u128) -> Stepped
+    ensures left { (a n : ℕ) → stepped_left result machine.now a n left ≡ going machine.now a n left }
+    ensures answer { stepped_answer result ≡ TurnAnswer.Went }
+{
+    if left == 0 {
+        return Stepped::Over {
+            end: End::Trapped(TrapKind::Steps),
+            logged: machine.logged(),
+        };
+    }
+    Stepped::On
+}
+
+/// One instruction of a run.
+fn step_turn<P: PmemWork>(
+    image: &Image,
+    machine: &mut Machine,
+    attempt: u64,
+    records: &mut u64,
+    left: &mut u128,
+    dev: &mut P,
+) -> Stepped
+    requires lines { (P.device dev.old).lines ≡ pool_lines image.now.parts.sizes }
+    requires on { (P.device dev.old).on ≡ true }
+    requires task { IsTask image.now
+        (task_of.Running machine.old attempt records.old left.old) }
+    ensures turned { Turned (stepped_answer result) image.now
+        (task_of.Running machine.old attempt records.old left.old)
+        (Some (stepped_left result machine.new attempt records.new left.new))
+        (P.device dev.old) (P.device dev.new) }
+    ensures uncut { IsGoing (stepped_answer result) →
+        IsUncut (stepped_left result machine.new attempt records.new left.new) }
+    ensures task { IsTask image.now
+        (stepped_left result machine.new attempt records.new left.new) }
+    ensures lines { (P.device dev.new).lines ≡ (P.device dev.old).lines }
+{
     let logged = machine.logged();
-    match machine.step_on(image, attempt, records, dev) {
-        Ok(Progress::Did(effect)) => Turn {
-            answer: TurnAnswer::Went,
-            task: Some(going(machine, attempt, records_past(records, effect), left - 1)),
-        },
-        Ok(Progress::Ended(end)) => Turn {
-            answer: TurnAnswer::Went,
-            task: Some(Task::Ending { end, logged }),
-        },
-        Err(Refusal::Off) => cut(TurnAnswer::Off, Phase::Sealed),
-        Err(Refusal::Failed) => cut(TurnAnswer::Failed, Phase::Sealed),
-        Err(Refusal::NoMemory) => cut(TurnAnswer::NoMemory, Phase::Sealed),
+    match machine.step_on(image, attempt, *records, dev) {
+        Ok(Progress::Did(effect)) => {
+            *records = records_past(*records, effect);
+            *left -= 1;
+            goes_on(machine, *left)
+        }
+        Ok(Progress::Ended(end)) => Stepped::Over { end, logged },
+        Err(Refusal::Off) => Stepped::Refused(Refusal::Off),
+        Err(Refusal::Failed) => Stepped::Refused(Refusal::Failed),
+        Err(Refusal::NoMemory) => Stepped::Refused(Refusal::NoMemory),
+    }
+}
+
+/// The answer of an instruction's turn. A run that doesn't go on gives its place to what follows.
+fn settle(task: &mut Task, stepped: Stepped) -> TurnAnswer
+    ensures answer { result ≡ stepped_answer stepped }
+    ensures left { task.new ≡ settled stepped task.old }
+{
+    match stepped {
+        Stepped::On => TurnAnswer::Went,
+        Stepped::Over { end, logged } => {
+            *task = Task::Ending { end, logged };
+            TurnAnswer::Went
+        }
+        Stepped::Refused(Refusal::Off) => cut(task, TurnAnswer::Off, Phase::Sealed),
+        Stepped::Refused(Refusal::Failed) => cut(task, TurnAnswer::Failed, Phase::Sealed),
+        Stepped::Refused(Refusal::NoMemory) => cut(task, TurnAnswer::NoMemory, Phase::Sealed),
     }
 }
 
 /// The turn that ends the call.
-fn end_turn<P: PmemWork>(image: &Image, end: End, logged: u64, dev: &mut P) -> Turn
+fn end_turn<P: PmemWork>(
+    image: &Image,
+    task: &mut Task,
+    end: End,
+    logged: u64,
+    dev: &mut P,
+) -> TurnAnswer
     requires lines { (P.device dev.old).lines ≡ pool_lines image.now.parts.sizes }
     requires on { (P.device dev.old).on ≡ true }
-    ensures turned { Turned result.answer image.now (task_of.Ending end logged) result.task
-        (P.device dev.old) (P.device dev.new) }
-    ensures uncut { IsGoing result.answer → IsUncutOr result.task }
-    ensures task { IsTaskOr image.now result.task }
+    requires task { task.old ≡ task_of.Ending end logged }
+    ensures turned { Turned result image.now (task_of.Ending end logged)
+        (left_task result task.new) (P.device dev.old) (P.device dev.new) }
+    ensures uncut { IsGoing result → IsUncutOr (left_task result task.new) }
+    ensures task { IsTask image.now task.new }
     ensures lines { (P.device dev.new).lines ≡ (P.device dev.old).lines }
 {
     match end {
-        End::Halted(value) => last(retire(dev, value), TurnAnswer::Done { value, logged }),
-        End::Trapped(kind) => last(mark_unusable(dev, kind), TurnAnswer::Trap(kind)),
+        End::Halted(value) => last(task, retire(dev, value), TurnAnswer::Done { value, logged }),
+        End::Trapped(kind) => last(task, mark_unusable(dev, kind), TurnAnswer::Trap(kind)),
     }
 }
 
 /// The next turn of a transaction, on a device that is on. An instruction is one step.
 pub(crate) fn advance<P: PmemWork, L: Ledger>(
     image: &Image,
-    task: Task,
+    task: &mut Task,
     dev: &mut P,
     steps: &mut Steps<L>,
-) -> Turn
+) -> TurnAnswer
     requires lines { (P.device dev.old).lines ≡ pool_lines image.now.parts.sizes }
     requires on { (P.device dev.old).on ≡ true }
-    requires task { IsTask image.now task }
-    requires uncut { IsUncut task }
-    ensures turned { Turned result.answer image.now task result.task
+    requires task { IsTask image.now task.old }
+    requires uncut { IsUncut task.old }
+    ensures turned { Turned result image.now task.old (left_task result task.new)
         (P.device dev.old) (P.device dev.new) }
-    ensures cost { steps.new ≡ steps.old + ticks_of task }
-    ensures uncut { IsGoing result.answer → IsUncutOr result.task }
-    ensures task { IsTaskOr image.now result.task }
+    ensures cost { steps.new ≡ steps.old + ticks_of task.old }
+    ensures uncut { IsGoing result → IsUncutOr (left_task result task.new) }
+    ensures task { IsTask image.now task.new }
     ensures lines { (P.device dev.new).lines ≡ (P.device dev.old).lines }
 {
     match task {
-        Task::Begun { tx, args, machine } => seal_turn(image, tx, args, machine, dev),
         Task::Running {
             machine,
             attempt,
@@ -141,9 +228,15 @@ pub(crate) fn advance<P: PmemWork, L: Ledger>(
             left,
         } => {
             steps.tick();
-            step_turn(image, machine, attempt, records, left, dev)
+            let stepped = step_turn(image, machine, *attempt, records, left, dev);
+            settle(task, stepped)
         }
-        Task::Ending { end, logged } => end_turn(image, end, logged, dev),
-        Task::Cut { phase } => cut(TurnAnswer::Off, phase),
+        Task::Begun { .. } => first_turn(image, task, dev),
+        Task::Ending { end, logged } => {
+            let end = *end;
+            let logged = *logged;
+            end_turn(image, task, end, logged, dev)
+        }
+        Task::Cut { .. } => TurnAnswer::Off,
     }
 }

@@ -20,9 +20,9 @@ ghost use Rattle.pool_workers.specs.Crew.{HasCompartments, StaysAside, standing_
 
 use crate::answer::{BeginAnswer, MakeFault, TurnAnswer};
 use crate::creating::{create_pools, idle};
-use crate::opening::{recover_on, turn_on};
+use crate::opening::{recover_on, turn_task};
 use crate::standing::assess_at;
-use crate::task::{Task, phase_of};
+use crate::task::{Task, is_last, phase_of};
 use crate::window::first_line;
 use nvm_base::{Steps, Words};
 use pm_machine::{Image, Machine};
@@ -30,7 +30,6 @@ use pmem::{Phase, Pmem, PmemWork};
 use recovery::RecoverAnswer;
 use std::alloc::{AllocError, Global};
 use std::marker::{Brand, Model};
-use std::mem;
 use std::sync::ledger::Ledger;
 use tx_run::Standing;
 
@@ -76,21 +75,18 @@ fn new_task(alloc: Global, image: &Image, tx: u64, args: &[i64]) -> Result<Task,
 }
 
 impl Workers {
-    /// Takes the worker's transaction out.
-    fn take_task(&mut self, worker: u32) -> Option<Task>
-        requires { worker < length self.old }
-        ensures task { result ≡ task_at self.old worker }
-        ensures others { self.new ≡ slice_set self.old worker None }
-        ensures few { length self.new ≤ 8 }
-    {
-        mem::replace(&mut self.tasks[worker as usize], None)
-    }
-
     fn put_task(&mut self, worker: u32, task: Option<Task>)
         requires { worker < length self.old }
         ensures { self.new ≡ slice_set self.old worker task }
     {
         self.tasks[worker as usize] = task;
+    }
+
+    fn drop_task(&mut self, worker: u32)
+        requires { worker < length self.old }
+        ensures { self.new ≡ slice_set self.old worker None }
+    {
+        self.put_task(worker, None);
     }
 
     /// How far the seal of the worker's transaction has come, and `None` exactly if it has no
@@ -179,12 +175,14 @@ impl Workers {
         ensures aside { StaysAside image.now worker (P.device dev.old) (P.device dev.new) }
         ensures lines { HasCompartments image.now self.new (P.device dev.new) }
     {
-        let Some(task) = self.take_task(worker) else {
-            return TurnAnswer::Idle;
+        let answer = match &mut self.tasks[worker as usize] {
+            None => return TurnAnswer::Idle,
+            Some(task) => turn_task(image, worker, task, dev, steps),
         };
-        let turn = turn_on::<P, L, Brand>(image, worker, task, dev, steps);
-        self.put_task(worker, turn.task);
-        turn.answer
+        if is_last(answer) {
+            self.drop_task(worker);
+        }
+        answer
     }
 
     /// Recovers a worker's compartment, with the answers of `recover`. It first drops the worker's
@@ -214,7 +212,7 @@ impl Workers {
         ensures aside { StaysAside image.now worker (P.device dev.old) (P.device dev.new) }
         ensures lines { HasCompartments image.now self.new (P.device dev.new) }
     {
-        self.put_task(worker, None);
+        self.drop_task(worker);
         recover_on::<P, L, Brand>(self.alloc, image, worker, dev, steps)
     }
 

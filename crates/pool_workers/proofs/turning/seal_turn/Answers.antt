@@ -1,4 +1,4 @@
-use Rattle.std.proofs.Common.{List, ℤ, take, w64, subst, ◌∙◌}
+use Rattle.std.proofs.Common.{List, ℤ, Some, take, w64, refl, subst, ◌∙◌}
 use Rattle.std.specs.Int.{cast_signed}
 use Rattle.cache_model.specs.Cache.{view}
 use Rattle.pmem.specs.Played.{PlaysAll}
@@ -8,6 +8,8 @@ use Rattle.args_log.specs.Next.{number_after}
 use Rattle.args_log.specs.Sealing.{Seals}
 use Rattle.args_log.specs.declared.sealing.SealAnswer.TheVariants as seal
 use Rattle.tx_run.specs.Due.{due_seal}
+use Rattle.pool_workers.specs.declared.answer.TurnAnswer.TheVariants as answer
+use Rattle.pool_workers.specs.declared.task.Task.TheVariants.{Cut}
 use Rattle.pool_workers.proofs.Turns.{seal_whole, seal_cut}
 use Rattle.pool_workers.proofs.turning.seal_turn.Goals as goal
 use Rattle.pool_workers.proofs.turning.seal_turn.Given as given
@@ -41,7 +43,7 @@ returns-in-Off-clause-turned g c =
     let d = g.P.PmemWork.device c.args.dev.now in
     let b = g.P.PmemWork.device c.seal.new.dev in
     seal_cut c.args.image.now c.args.tx c.args.args c.args.machine d b c.in-Off.phase
-    c.cut.result.answer c.cut.result.task c.cut.ensures.answer c.cut.ensures.task
+    answer.Off (Some (Cut c.in-Off.phase)) refl refl
     (subst (λ (xs : List ℤ). Seals (seal.Off c.in-Off.phase) d (cast_signed w64 c.args.tx)
     (take 22 xs) (number_after (view d.cache DONE)) b) c.as_slice.ensures
     (c.in-Off.ensures.played c.requires.on))

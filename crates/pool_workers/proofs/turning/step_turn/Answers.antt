@@ -9,9 +9,9 @@ returns-in-Ok-Did-clause-task g c =
     let image = c.args.image.now in
     let t = c.step_on.new.self in
     subst (IsTask image)
-    (sym (c.going.ensures.going
-    ∙ ap (λ (n : ℕ). going t c.args.attempt n (c.args.left - 1)) c.records_past.ensures))
+    (sym (c.goes_on.ensures.left c.args.attempt c.records_past.result
+    ∙ ap (λ (n : ℕ). going t c.args.attempt n (c.args.left.now - 1)) c.records_past.ensures))
     (step_task image
-    (heap_in image.parts.sizes (g.P.PmemWork.device c.args.dev.now).cache) c.args.machine t
-    c.args.attempt c.args.records c.args.left c.in-Ok-Did.field-0 c.in-Ok-Did.effect
-    c.requires.task c.in-Ok-Did.field-0-is c.in-Ok-Did.ensures.meaning (c.args.left - 1))
+    (heap_in image.parts.sizes (g.P.PmemWork.device c.args.dev.now).cache) c.args.machine.now t
+    c.args.attempt c.args.records.now c.args.left.now c.in-Ok-Did.field-0 c.in-Ok-Did.effect
+    c.requires.task c.in-Ok-Did.field-0-is c.in-Ok-Did.ensures.meaning (c.args.left.now - 1))
