@@ -191,7 +191,7 @@ module _ (image : Image) where
 
   -- with more records a step is the same, or finds the log full
 
-  data Alike (o p : StepOutcome) : Type 0 where
+  pub data Alike (o p : StepOutcome) : Type 0 where
     Equal : p ≡ o → Alike o p
     Filled : (w : ℕ) (t : State) → o ≡ Goes (Logs w) t → p ≡ Ends (Trapped trap.LogFull) → Alike o p
 
@@ -214,7 +214,7 @@ module _ (image : Image) where
   act_alike heap n m s (Some (op.Log a o)) le = log_alike n m s (target image s a o) le
   act_alike heap n m s i le = Equal refl
 
-  step_alike : (heap : Words) (n m : ℕ) (s : State) → n ≤ m →
+  pub step_alike : (heap : Words) (n m : ℕ) (s : State) → n ≤ m →
       Alike (step image n s heap) (step image m s heap)
   step_alike heap n m s le = act_alike heap n m s (fetch image s) le
 

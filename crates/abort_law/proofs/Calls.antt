@@ -41,12 +41,13 @@ use Rattle.cut_law.specs.Law.{call_of, pool_with}
 use Rattle.cut_law.proofs.Misses.{Misses, view_missed, misses_seal, view_one}
 use Rattle.cut_law.proofs.Dues.{next_is}
 use Rattle.undo_law.specs.Undo.{IsMarkedTrace, no_records, due_undone, due_abort}
-use Rattle.abort_mode.specs.Due.{abort_due_on, due_call}
+use Rattle.abort_mode.specs.Due.{abort_due_on, due_call, run_steps}
 use Rattle.abort_law.specs.Machine.{run_marked, mrun_marked}
 use Rattle.abort_law.specs.Cuts.{IsTidyRun, IsMarkedEnd, IsMarkedCut}
+use Rattle.abort_law.specs.Steps.{marked_steps}
 use Rattle.abort_law.proofs.Dues.{Owes}
 use Rattle.abort_law.proofs.Firsts.{run_good, run_marks}
-use Rattle.abort_law.proofs.Lists.{Holds, aborted_is, done_is, owes_of}
+use Rattle.abort_law.proofs.Lists.{Holds, aborted_is, done_is, owes_of, steps_are}
 use Rattle.undo_law.proofs.Whole.{cut_abort}
 use Rattle.undo_law.proofs.MarkedCalls.{marked_call}
 use Rattle.undo_law.proofs.Rest.{abort_rest}
@@ -149,6 +150,10 @@ module _ (image : Image) (super : Words) (tx : ℕ) (args : List ℤ) (c : Cache
   -- the run of the call
   pub call_owes : Owes (abort_due_on image s sealed) z a 0 h end es × (count_in z (view sealed) ≡ 0)
   call_owes = owes_of image s sealed d a h es d_le a_le done attempt none same_heap end ran tt
+
+  pub call_counts : run_steps image s sealed ≡ marked_steps image h tx args end es
+  call_counts = steps_are image s sealed d a h es d_le a_le done attempt none same_heap end ran tt
+      both.0 both.1
 
   -- a seal, and a list after it
   sealed_is : (rest : List CacheEvent) → sealing ++ rest ≡ crash.due_seal call ++ rest

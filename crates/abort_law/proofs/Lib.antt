@@ -1,10 +1,12 @@
 pub mod Marks
 pub mod Dues
 pub mod Firsts
+pub mod Besides
+pub mod Counts
 pub mod Lists
 pub mod Calls
 pub mod Redoes
 pub mod AfterAnswers
-pub mod Besides
+pub mod Taken
 pub mod Rollbacks
 pub mod FaultCounts

@@ -43,8 +43,11 @@ use Rattle.undo_law.specs.Undo.{Every, IsMarkedTrace, Records, no_records, with_
 use Rattle.undo_law.specs.Undo.{records_after}
 use Rattle.undo_law.specs.Undo.{undo_events, due_undone}
 use Rattle.abort_mode.specs.Due.{abort_due_on, retiring, due_undo, abort_tail_events, due_run}
+use Rattle.abort_mode.specs.Due.{tail_steps, run_steps}
 use Rattle.abort_law.specs.Machine.{run_marked}
+use Rattle.abort_law.specs.Steps.{steps_marked, undo_steps}
 use Rattle.abort_law.proofs.Dues.{Owes, run_owes}
+use Rattle.abort_law.proofs.Counts.{due_steps, trace_records}
 
 module _ (z : Sizes) (a : ℕ) where
   abbrev C : Layout
@@ -257,6 +260,48 @@ module _ (image : Image) (s : State) (c : Cache) (d a : ℕ) (g : Words) (es : L
       ∙ ap (λ (f : Option End). events_all z a 0 g es ++ abort_tail_events z (end_of f)
       (play c (events_all z a 0 g es))) owed.1
 
+  low_words : (p : ℕ) → p < 48 → view (play c (events_all z a 0 g es)) p ≡ view c p
+  low_words p lt = view_missed (events_all z a 0 g es) c p (misses_run z a 0 p g es lt)
+
+  -- a run that traps ends with its trace's events, and with its records in the view
+  trapped_events : (k : TrapKind) → IsSoundRun (Trapped k) es →
+      events_all z a 0 g es ≡ run_events z a 0 g (trace_in es)
+  trapped_events k sound = (join z a g (Trapped k) es sound.paired sound.tidy).0
+      ∙ append-nil (run_events z a 0 g (trace_in es))
+
+  trapped_holds : (k : TrapKind) → IsSoundRun (Trapped k) es → IsMarkedTrace z (trace_in es) →
+      Holds z a (records_after no_records g (trace_in es)) (play c (events_all z a 0 g es))
+  trapped_holds k sound marks =
+      subst (λ (fs : List CacheEvent).
+      Holds z a (records_after no_records g (trace_in es)) (play c fs))
+      (sym (trapped_events k sound)) (holds_run z a (trace_in es) no_records g (λ w. ⊥) c none marks)
+
+  -- the steps of the undo: one for each record that the run appended
+  tail_count : (end : End) → IsSoundRun end es → IsMarkedTrace z (trace_in es) →
+      tail_steps z end (play c (events_all z a 0 g es)) ≡ undo_steps end es
+  tail_count (Halted v) sound marks = refl
+  tail_count (Trapped k) sound marks =
+      counted z a (records_after no_records g (trace_in es)) (play c (events_all z a 0 g es))
+      (trapped_holds k sound marks) d (view c LAST) d_fits a_fits (low_words 16 (omega arith))
+      (low_words 17 (omega arith) ∙ done) (low_words 18 (omega arith) ∙ attempt)
+      ∙ trace_records es no_records g sound.paired
+
+  -- the steps after the seal
+  pub steps_are : (end : End) → run_marked image image.parts.most [] s g ≡ Finished end es →
+      AreLines (heap_words z) s.dirty → IsSoundRun end es → IsMarkedTrace z (trace_in es) →
+      run_steps image s c ≡ steps_marked image image.parts.most [] s g + undo_steps end es
+  steps_are end ran lines sound marks =
+      let owed = owes end ran lines in
+      let tail : tail_steps z (end_of (abort_due_on image s c).fate)
+      (play c (abort_due_on image s c).events) ≡ undo_steps end es =
+      ap (λ (f : Option End). tail_steps z (end_of f) (play c (abort_due_on image s c).events))
+      owed.1
+      ∙ ap (λ (fs : List CacheEvent). tail_steps z end (play c fs)) owed.0
+      ∙ tail_count end sound marks in
+      ap (λ (n : ℕ). n + tail_steps z (end_of (abort_due_on image s c).fate)
+      (play c (abort_due_on image s c).events)) (due_steps image s c g lines empty heap)
+      ∙ ap (λ (n : ℕ). steps_marked image image.parts.most [] s g + n) tail
+
   -- a run that traps
   pub aborted_is : (k : TrapKind) →
       run_marked image image.parts.most [] s g ≡ Finished (Trapped k) es →
@@ -265,19 +310,14 @@ module _ (image : Image) (s : State) (c : Cache) (d a : ℕ) (g : Words) (es : L
   aborted_is k ran lines sound marks =
       let events : List CacheEvent = events_all z a 0 g es in
       let trace : List Entry = trace_in es in
-      let same : events ≡ run_events z a 0 g trace =
-      (join z a g (Trapped k) es sound.paired sound.tidy).0
-      ∙ append-nil (run_events z a 0 g trace) in
-      let low : (p : ℕ) → p < 48 → view (play c events) p ≡ view c p =
-      λ p lt. view_missed events c p (misses_run z a 0 p g es lt) in
+      let same : events ≡ run_events z a 0 g trace = trapped_events k sound in
       let held : Holds z a (records_after no_records g trace) (play c events) =
-      subst (λ (fs : List CacheEvent). Holds z a (records_after no_records g trace) (play c fs))
-      (sym same) (holds_run z a trace no_records g (λ w. ⊥) c none marks) in
+      trapped_holds k sound marks in
       tails (Trapped k) (owes (Trapped k) ran lines)
       ∙ ap (λ (rest : List CacheEvent). events ++ rest)
       (undo_is z a (records_after no_records g trace)
-      (play c events) held d (view c LAST) d_fits a_fits (low 16 (omega arith))
-      (low 17 (omega arith) ∙ done) (low 18 (omega arith) ∙ attempt))
+      (play c events) held d (view c LAST) d_fits a_fits (low_words 16 (omega arith))
+      (low_words 17 (omega arith) ∙ done) (low_words 18 (omega arith) ∙ attempt))
       ∙ ap (λ (fs : List CacheEvent). fs ++ undo_events z a (suc d)
       (records_after no_records g trace) (view c LAST)) same
 

@@ -48,7 +48,7 @@ abbrev pub AreRecorded : Sizes → List ℕ → Cache → Type 0
 AreRecorded z [] c = Unit {0}
 AreRecorded z (w ∷ ls) c = (word_in_record z (view c) (length ls) ≡ pos w) × AreRecorded z ls c
 
-past_same : (H : ℕ) (e : Effect) (h r : Words) → ((u : ℕ) → u < H → h u ≡ r u) → (u : ℕ) → u < H →
+pub past_same : (H : ℕ) (e : Effect) (h r : Words) → ((u : ℕ) → u < H → h u ≡ r u) → (u : ℕ) → u < H →
     heap_past h e u ≡ heap_past r e u
 past_same H (Loads w) h r same u lt = same u lt
 past_same H (Scans w m) h r same u lt = same u lt
@@ -69,7 +69,7 @@ module _ (image : Image) where
   abbrev R : ℕ
   R = image.parts.sizes.records
 
-  step_same : (n : ℕ) (s : State) (h r : Words) → ((u : ℕ) → u < H → h u ≡ r u) →
+  pub step_same : (n : ℕ) (s : State) (h r : Words) → ((u : ℕ) → u < H → h u ≡ r u) →
       step image n s h ≡ step image n s r
   step_same n s h r same =
       ap tally (sym (act_same image h r n s (fetch image s) (λ w t lt is. same w lt)

@@ -43,12 +43,14 @@ use Rattle.cut_law.proofs.Dues.{attempt_small}
 use Rattle.cut_law.proofs.Backs.{misses_restore, restore_same, heap_restored}
 use Rattle.undo_law.specs.Undo.{IsMarkedTrace, no_records, due_undone, due_reabort}
 use Rattle.undo_law.specs.Law.{IsOwed}
-use Rattle.abort_mode.specs.Due.{abort_due_on, due_run, abort_due_redo}
+use Rattle.abort_mode.specs.Due.{abort_due_on, due_run, abort_due_redo, run_steps}
 use Rattle.abort_law.specs.Machine.{run_marked, mrun_marked}
 use Rattle.abort_law.specs.Cuts.{IsTidyRun, IsMarkedEnd, IsMarkedLeft}
+use Rattle.abort_law.specs.Steps.{undo_steps, marked_steps}
 use Rattle.abort_law.proofs.Dues.{Owes}
 use Rattle.abort_law.proofs.Marks.{marked_same}
-use Rattle.abort_law.proofs.Lists.{Holds, aborted_is, done_is, owes_of}
+use Rattle.abort_law.proofs.Counts.{steps_same}
+use Rattle.abort_law.proofs.Lists.{Holds, aborted_is, done_is, owes_of, steps_are}
 use Rattle.abort_law.proofs.Calls.{marked_sound}
 use Rattle.undo_law.proofs.Reabort.{cut_reabort}
 use Rattle.undo_law.proofs.MarkedCalls.{marked_redo}
@@ -144,6 +146,15 @@ module _ (image : Image) (super : Words) (tx : ℕ) (args : List ℤ) (c : Cache
   owing b k fits done attempt none heap =
       owes_of image s b d k r es owed.done_fits fits done attempt none heap end ran_again tt
 
+  counting : (b : Cache) (k : ℕ) → k ≤ 2 ^ 62 → view b DONE ≡ pos d → view b ATTEMPT ≡ pos k →
+      Holds z k no_records b → heap_in z b ≡ r → run_steps image s b ≡ marked_steps image h tx args
+      end es
+  counting b k fits done attempt none heap =
+      steps_are image s b d k r es owed.done_fits fits done attempt none heap end ran_again tt
+      both.0 both.1
+      ∙ ap (λ (n : ℕ). n + undo_steps end es)
+      (steps_same image image.parts.most [] s r h (λ u lt. owed.restores u lt (inr refl)))
+
   -- no record is valid
   module _ (counted : count l a one ≡ 0) where
     none_there : Holds z a no_records c
@@ -171,6 +182,10 @@ module _ (image : Image) (super : Words) (tx : ℕ) (args : List ℤ) (c : Cache
 
     none_owes : Owes (abort_due_on image s c) z a 0 r end es × (count_in z (view c) ≡ 0)
     none_owes = owing c a attempt_fits (view_one c one only 17 ∙ owed.done)
+        (view_one c one only 18 ∙ owed.attempt_is) none_there heap_there
+
+    none_counts : run_steps image s c ≡ marked_steps image h tx args end es
+    none_counts = counting c a attempt_fits (view_one c one only 17 ∙ owed.done)
         (view_one c one only 18 ∙ owed.attempt_is) none_there heap_there
 
   -- some records are valid
@@ -273,6 +288,18 @@ module _ (image : Image) (super : Words) (tx : ℕ) (args : List ℤ) (c : Cache
     some_owes = owing begun (suc a) next_fits
         (low_reset 17 (omega arith) (λ e. absurd (omega arith)) ∙ owed.done) attempt_reset
         none_reset heap_reset
+
+    some_counts : run_steps image s begun ≡ marked_steps image h tx args end es
+    some_counts = counting begun (suc a) next_fits
+        (low_reset 17 (omega arith) (λ e. absurd (omega arith)) ∙ owed.done) attempt_reset
+        none_reset heap_reset
+
+  pub redo_counts : (n : ℕ) → count l a one ≡ n → (0 < n → a < 2 ^ 62) →
+      run_steps image s (play c (due_back z n c)) ≡ marked_steps image h tx args end es
+  redo_counts zero counted room = none_counts counted
+  redo_counts (suc m) counted room =
+      ap (run_steps image s) (reset_is m counted (room (omega arith)))
+      ∙ some_counts m counted (room (omega arith))
 
   -- the whole list, by the end
   abbrev list : End → ℕ → List CacheEvent

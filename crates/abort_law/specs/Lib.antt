@@ -1,5 +1,6 @@
 pub mod Machine
 pub mod Cuts
 pub mod Beside
+pub mod Steps
 pub mod Rollback
 pub mod Faults

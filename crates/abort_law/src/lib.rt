@@ -7,6 +7,7 @@
 ghost use Rattle.abort_law.specs.Cuts.{MarkedRunLaw, CutMarkedLaw, RedoMarkedLaw};
 ghost use Rattle.abort_law.specs.Cuts.{AbortCallLeavesLaw, AbortRedoLeavesLaw, RollbackAgainLaw};
 ghost use Rattle.abort_law.specs.Beside.{BesideLaw};
+ghost use Rattle.abort_law.specs.Steps.{AbortCallStepsLaw, AbortRedoStepsLaw, BesideStepsLaw};
 ghost use Rattle.abort_law.specs.Faults.{AbortCallFaults, AbortRedoFaults};
 ghost use Rattle.abort_law.specs.Rollback.{RollbackCallLaw, RollbackRedoLaw};
 
@@ -35,4 +36,12 @@ pub fn rollback()
 pub fn faults()
     ensures call { AbortCallFaults }
     ensures redo { AbortRedoFaults }
+{}
+
+/// Steps exact: a marked call or a recovery that comes to its end takes one step for each
+/// instruction of the run and one for each record that is put back. The function does nothing.
+pub fn steps()
+    ensures call { AbortCallStepsLaw }
+    ensures redo { AbortRedoStepsLaw }
+    ensures beside { BesideStepsLaw }
 {}
