@@ -8,6 +8,7 @@ pub mod Cleaning
 pub mod Redone
 pub mod Heaps
 pub mod Reading
+pub mod Restoring
 pub mod Resting
 pub mod Calls
 pub mod Recoveries
@@ -23,6 +24,8 @@ pub mod Steps
 pub mod Phases
 pub mod RolledBack
 pub mod Histories
+pub mod Keeping
+pub mod KeepingChains
 pub mod Running
 pub mod Chains
 pub mod Unchanged

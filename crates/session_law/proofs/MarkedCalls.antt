@@ -1,6 +1,6 @@
 -- A call of a marked transaction on a device at rest is answered as the source says.
 use Rattle.std.proofs.Common.{◌≡◌, ℕ, suc, ◌^◌, ◌<◌, ◌≤◌, Bool, true, false, ◌&&◌, if◌then◌else◌}
-use Rattle.std.proofs.Common.{List, ◌++◌, length, Some, ℤ, refl, sym, ap, ◌∙◌, subst, arith}
+use Rattle.std.proofs.Common.{List, ◌++◌, length, Some, ℤ, pos, refl, sym, ap, ◌∙◌, subst, arith}
 use Rattle.std.proofs.Common.{append_assoc}
 use Rattle.cache_model.specs.Event.{CacheEvent}
 use Rattle.cache_model.specs.Cache.{Words, Cache, view}
@@ -66,6 +66,7 @@ use Rattle.session_law.proofs.Words.{held_words}
 use Rattle.session_law.proofs.Ones.{rest_one, at_view}
 use Rattle.session_law.proofs.Retired.{HasAttempt, Retires, count_at, cut_attempt, retired_empty}
 use Rattle.session_law.proofs.Reading.{numbers_small, stands_ready, stands_numbers, is_unsealed}
+use Rattle.session_law.proofs.Restoring.{Restores, cut_restores}
 use Rattle.session_law.proofs.Resting.{resting_at, HasHalted}
 use Rattle.session_law.proofs.MarkedRuns.{MarkedMeant, marked_run, marked_done, marked_trapped}
 
@@ -343,6 +344,16 @@ module _ (program : Program) (super : Words) (agrees : Agrees program)
       → IsRolledBack program h s.last b
   unfolding good
   call_restores small b mark kind k k1 ran = restores small b mark kind k k1 ran
+
+  -- wherever the call ends, each image in which it isn't counted restores the heap from before it
+  pub marked_call_keeps : (s.done < 2 ^ 62) × (resting.before.good.attempt < 2 ^ 62) → (b : Device)
+      → rolls_back_of program tx ≡ true → (r : AbortAnswer) (k k1 : ℕ)
+      → AbortCalled r program.image tx args d b k k1
+      → Images (λ (image : Words). image DONE ≡ pos s.done → Restores program h image) b.cache
+  unfolding good
+  marked_call_keeps small b mark r k k1 ran image is =
+      cut_restores program super call h (heap_end h es) (view d.cache LAST) end image
+      ((left small b mark r k k1 ran).0 image is)
 
   pub marked_call_runs : (mark : rolls_back_of program tx ≡ true) (r : AbortAnswer) (b : Device)
       (k k1 : ℕ) → s.standing ≡ Ready

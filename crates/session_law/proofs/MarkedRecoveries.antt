@@ -354,3 +354,19 @@ module _ (program : Program) (super : Words) (agrees : Agrees program)
           (let fits = sealed.attempt_fits in omega arith) in_range) b kind k k1
           (subst (λ (x : AbortAnswer). AbortRedid x program.image owed.tx owed.args m e b k k1)
           rolled (its_call r b k k1 in_range is))
+
+  -- what every image is after the recovery, whatever it answers
+  pub marked_redo_left : (r : AbortAnswer) (b : Device) (k k1 : ℕ)
+      → IsAbortRedone r program.image e b k k1
+      → Images (IsMarkedLeft (pool_with program.image super)
+      (call_of s.done owed.tx owed.args) h (heap_end h es) (view e.cache LAST) end) b.cache
+  marked_redo_left r b k k1 is = go (numbers_out program.image e) refl
+    where
+      go : (out : Bool) → numbers_out program.image e ≡ out → Images (Left end) b.cache
+      go true out = subst (λ (x : Device). Images (Left end) x.cache)
+          (sym (is.numbers on sealed.mark out).1)
+          (rest_images (Left end) e.cache rest (begins end))
+      go false in_range =
+          (leaves_it (numbers_at sizes image sealed.attempt sealed.attempt_is
+          (let fits = sealed.attempt_fits in omega arith) in_range) b r k k1
+          (its_call r b k k1 in_range is)).0

@@ -432,7 +432,7 @@ module _ (program : Program) (super : Words) (agrees : Agrees program)
 
 -- what the choice leaves
 module _ (program : Program) (super : Words) (choice : Choice) (d : Device) (s : SourceState) where
-  left_images : (P : Words → Type 0) → Images P d.cache → Images P (powered choice d).cache
+  pub left_images : (P : Words → Type 0) → Images P d.cache → Images P (powered choice d).cache
   left_images P all = rest_images P (powered choice d).cache
       (left_rest d.cache choice.rest choice.picks) (at_left P d.cache choice.rest choice.picks all)
 
@@ -475,7 +475,7 @@ module _ (program : Program) (super : Words) (choice : Choice) (d : Device) (s :
         owes.left;
   }
 
-  left_held : (m : Mode) (st : Standing) → HoldsAs st program super m d s
+  pub left_held : (m : Mode) (st : Standing) → HoldsAs st program super m d s
       → HeldAs st program super (powered choice d) s
   left_held m Ready holds = left_none (resting_owes program super d s holds.1)
   left_held m (Down None) holds = left_none holds.1

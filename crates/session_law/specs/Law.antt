@@ -135,9 +135,46 @@ pub record IsRolledBack (program : Program) (h : Words) (last : ℤ) (b : Device
       → heap_in (sizes_of program) b.cache w ≡ h w
   pub last_is : view b.cache LAST ≡ last
 
+-- the transaction was rolled back
+abbrev pub IsRollback : Answer → Type 0
+IsRollback (answer.Aborted kind) = Unit {0}
+IsRollback (answer.RecoveredAborted kind) = Unit {0}
+IsRollback a = ⊥
+
+-- Each step of a chain finishes no transaction, or is answered that it was rolled back.
+abbrev pub OnlyRollsBack : (program : Program) (super : Words) (commands : List Command)
+    (answers : List Answer) (x y : Moment) → Ran program super commands answers x y → Type 0
+OnlyRollsBack program super [] [] x y ran = Unit {0}
+OnlyRollsBack program super [] (a ∷ answers) x y ran = ⊥
+OnlyRollsBack program super (c ∷ commands) [] x y ran = ⊥
+OnlyRollsBack program super (c ∷ commands) (a ∷ answers) x y ran =
+    ((ran.0.history ≡ x.history) ⊎ IsRollback a)
+    × OnlyRollsBack program super commands answers ran.0 y ran.2
+
+-- The source's pool and the last value are those of an earlier moment; and where calls are taken,
+-- so are the heap, word for word, and word 16.
+pub record IsAsBefore (program : Program) (x y : Moment) : Type 0 where
+  pub pool : y.state.pool ≡ x.state.pool
+  pub last : y.state.last ≡ x.state.last
+  pub device : y.state.standing ≡ state.Ready
+      → IsRolledBack program (heap_in (sizes_of program) x.device.cache) x.state.last y.device
+
+-- Rollback of a whole script: wherever power is cut, and however often, a chain that begins where
+-- calls are taken, and that finishes no transaction but those that it rolls back, leaves the pool
+-- and the heap that were there at its start. So a recovery that rolls a call back leaves those from
+-- before the call, however many cuts came between.
+abbrev pub RollbackChainLaw : Type 0
+RollbackChainLaw =
+    (program : Program) (super : Words) (commands : List Command) (answers : List Answer)
+    (x y : Moment) →
+    Agrees program → AllByRecursion IsWordCommand commands →
+    Holds program super x.mode x.device x.state → x.state.standing ≡ state.Ready →
+    (ran : Ran program super commands answers x y) →
+    OnlyRollsBack program super commands answers x y ran → IsAsBefore program x y
+
 -- Rollback: after a call that is aborted the heap is word for word as it was before the call, and
 -- after an owed transaction's recovery that is aborted as it was before that transaction. The last
--- value is that of the transaction before.
+-- value is that of the transaction before. The third law says so of a whole script.
 abbrev pub RollbackLaw : Type 0
 RollbackLaw =
     ((program : Program) (super : Words) (name : List ℕ) (args : List ℤ) (m n : Mode) (d b : Device)
@@ -150,7 +187,7 @@ RollbackLaw =
     Agrees program → rolls_back_of program owed.tx ≡ true →
     (owes : OwesMarked program super owed d s) →
     Commanded program (command.Power choice) m d (answer.RecoveredAborted kind) n b k k1 →
-    IsRolledBack program owes.heap s.last b)
+    IsRolledBack program owes.heap s.last b) × RollbackChainLaw
 
 -- the owed transaction was run to its end
 abbrev pub IsRedone : Answer → Type 0
