@@ -274,7 +274,8 @@ module _ (image : Image) (s : State) (c : Cache) (d a : ℕ) (g : Words) (es : L
   trapped_holds k sound marks =
       subst (λ (fs : List CacheEvent).
       Holds z a (records_after no_records g (trace_in es)) (play c fs))
-      (sym (trapped_events k sound)) (holds_run z a (trace_in es) no_records g (λ w. ⊥) c none marks)
+      (sym (trapped_events k sound))
+      (holds_run z a (trace_in es) no_records g (λ w. ⊥) c none marks)
 
   -- the steps of the undo: one for each record that the run appended
   tail_count : (end : End) → IsSoundRun end es → IsMarkedTrace z (trace_in es) →

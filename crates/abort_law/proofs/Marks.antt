@@ -48,8 +48,8 @@ abbrev pub AreRecorded : Sizes → List ℕ → Cache → Type 0
 AreRecorded z [] c = Unit {0}
 AreRecorded z (w ∷ ls) c = (word_in_record z (view c) (length ls) ≡ pos w) × AreRecorded z ls c
 
-pub past_same : (H : ℕ) (e : Effect) (h r : Words) → ((u : ℕ) → u < H → h u ≡ r u) → (u : ℕ) → u < H →
-    heap_past h e u ≡ heap_past r e u
+pub past_same : (H : ℕ) (e : Effect) (h r : Words) → ((u : ℕ) → u < H → h u ≡ r u) → (u : ℕ)
+    → u < H → heap_past h e u ≡ heap_past r e u
 past_same H (Loads w) h r same u lt = same u lt
 past_same H (Scans w m) h r same u lt = same u lt
 past_same H (Stores w x) h r same u lt = ⊎_elim

@@ -1,5 +1,5 @@
--- A command that finishes no transaction, or rolls back the one that it finishes, keeps the heap; so
--- does a chain of such commands.
+-- A command that finishes no transaction, or rolls back the one that it finishes, keeps the heap,
+-- and so does a chain of such commands.
 use Rattle.std.proofs.Common.{◌≡◌, ◌⊎◌, inl, inr, ⊎_elim, ℕ, suc, ◌==◌, ◌&&◌, ◌<◌, Bool, true}
 use Rattle.std.proofs.Common.{false, List, [], ◌∷◌, length, Option, Some, None, ℤ, pos, refl}
 use Rattle.std.proofs.Common.{sym, ◌≢◌, ap, ◌∙◌, subst, arith, length-append}

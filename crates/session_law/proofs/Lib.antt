@@ -21,6 +21,7 @@ pub mod Creating
 pub mod Writing
 pub mod Opening
 pub mod Steps
+pub mod CallSteps
 pub mod Phases
 pub mod RolledBack
 pub mod Histories

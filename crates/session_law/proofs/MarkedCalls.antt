@@ -1,7 +1,7 @@
 -- A call of a marked transaction on a device at rest is answered as the source says.
-use Rattle.std.proofs.Common.{◌≡◌, ℕ, suc, ◌^◌, ◌<◌, ◌≤◌, Bool, true, false, ◌&&◌, if◌then◌else◌}
-use Rattle.std.proofs.Common.{List, ◌++◌, length, Some, ℤ, pos, refl, sym, ap, ◌∙◌, subst, arith}
-use Rattle.std.proofs.Common.{append_assoc}
+use Rattle.std.proofs.Common.{◌≡◌, ℕ, suc, ◌+◌, ◌^◌, ◌<◌, ◌≤◌, Bool, true, false, ◌&&◌}
+use Rattle.std.proofs.Common.{if◌then◌else◌, List, ◌++◌, length, Some, ℤ, pos, refl}
+use Rattle.std.proofs.Common.{sym, ap, ◌∙◌, subst, arith, append_assoc}
 use Rattle.cache_model.specs.Event.{CacheEvent}
 use Rattle.cache_model.specs.Cache.{Words, Cache, view}
 use Rattle.cache_model.specs.Play.{play}
@@ -42,8 +42,10 @@ use Rattle.abort_mode.specs.Due.{abort_due_on, abort_tail_events, due_run, due_c
 use Rattle.abort_mode.specs.Answers.{AbortCalled, IsAbortCalled}
 use Rattle.abort_law.specs.Machine.{mrun_marked}
 use Rattle.abort_law.specs.Cuts.{IsMarkedEnd, IsMarkedCut, AbortTells}
+use Rattle.abort_law.specs.Steps.{IsPlayedOut, marked_steps}
 use Rattle.abort_law.proofs.Calls.{call_owes, cut_marked}
 use Rattle.abort_law.proofs.AfterAnswers.{call_leaves}
+use Rattle.abort_law.proofs.Taken.{call_takes}
 use Rattle.cnvm_session.specs.declared.mode.Mode.{Mode}
 use Rattle.cnvm_session.specs.declared.mode.Mode.TheVariants as mode
 use Rattle.cnvm_session.specs.declared.answer.Answer.{Answer}
@@ -61,7 +63,7 @@ use Rattle.session_law.specs.Opened.{opened_heap}
 use Rattle.session_law.specs.Marked.{ComesOn}
 use Rattle.session_law.specs.Answers.{RunsMarked}
 use Rattle.session_law.specs.Holds.{IsResting, OwesMarked, OwesBy, HoldsAs, Holds}
-use Rattle.session_law.specs.Law.{IsRolledBack}
+use Rattle.session_law.specs.Law.{IsRolledBack, TakesBy}
 use Rattle.session_law.proofs.Words.{held_words}
 use Rattle.session_law.proofs.Ones.{rest_one, at_view}
 use Rattle.session_law.proofs.Retired.{HasAttempt, Retires, count_at, cut_attempt, retired_empty}
@@ -354,6 +356,27 @@ module _ (program : Program) (super : Words) (agrees : Agrees program)
   marked_call_keeps small b mark r k k1 ran image is =
       cut_restores program super call h (heap_end h es) (view d.cache LAST) end image
       ((left small b mark r k k1 ran).0 image is)
+
+  -- a call that is run to its end takes the steps of its run
+  pub marked_call_counts : (s.done < 2 ^ 62) × (resting.before.good.attempt < 2 ^ 62)
+      → (b : Device) → rolls_back_of program tx ≡ true → (r : AbortAnswer) (k k1 : ℕ)
+      → IsPlayedOut r → AbortCalled r program.image tx args d b k k1
+      → (taken : ℕ) × TakesBy true program (heap_in (sizes_of program) d.cache) tx args taken
+      × (k1 ≡ k + taken)
+  unfolding good
+  marked_call_counts small b mark r k k1 ends called = (
+    marked_steps program.image h tx args end es,
+    (end, es, run.2, refl),
+    call_takes program.image super tx args d b (view d.cache) s.done end es
+        (record {
+          tx_fits = few.0;
+          d_fits = small.0;
+          only = only;
+          good = good;
+          a_fits = small.1;
+          empty = empty;
+        }) few.1 run.2 own.tidy r k k1 ends called,
+  )
 
   pub marked_call_runs : (mark : rolls_back_of program tx ≡ true) (r : AbortAnswer) (b : Device)
       (k k1 : ℕ) → s.standing ≡ Ready

@@ -1,5 +1,5 @@
 -- How a marked transaction that a power cut left owed is recovered.
-use Rattle.std.proofs.Common.{◌≡◌, inl, inr, ℕ, suc, ◌^◌, ◌<◌, ◌≤◌, Bool, true, false}
+use Rattle.std.proofs.Common.{◌≡◌, inl, inr, ℕ, suc, ◌+◌, ◌^◌, ◌<◌, ◌≤◌, Bool, true, false}
 use Rattle.std.proofs.Common.{if◌then◌else◌, List, length, Some, ℤ, refl, sym, ap, ◌∙◌, subst}
 use Rattle.std.proofs.Common.{arith}
 use Rattle.cache_model.specs.Event.{CacheEvent}
@@ -41,8 +41,10 @@ use Rattle.abort_mode.specs.Due.{abort_due_redo}
 use Rattle.abort_mode.specs.Answers.{AbortRedid, IsAbortRedone}
 use Rattle.abort_law.specs.Machine.{mrun_marked}
 use Rattle.abort_law.specs.Cuts.{IsMarkedEnd, IsMarkedCut, IsMarkedLeft, AbortTells}
+use Rattle.abort_law.specs.Steps.{IsPlayedOut, marked_steps}
 use Rattle.abort_law.proofs.Redoes.{cut_remarked}
 use Rattle.abort_law.proofs.AfterAnswers.{redo_leaves}
+use Rattle.abort_law.proofs.Taken.{redo_takes}
 use Rattle.cnvm_session.specs.declared.mode.Mode.{Mode}
 use Rattle.cnvm_session.specs.declared.mode.Mode.TheVariants as mode
 use Rattle.cnvm_session.specs.declared.answer.Answer.{Answer}
@@ -370,3 +372,21 @@ module _ (program : Program) (super : Words) (agrees : Agrees program)
           (leaves_it (numbers_at sizes image sealed.attempt sealed.attempt_is
           (let fits = sealed.attempt_fits in omega arith) in_range) b r k k1
           (its_call r b k k1 in_range is)).0
+
+  -- a recovery that runs the call to its end takes one step for each valid record, and those of the
+  -- run
+  pub marked_redo_counts : (r : AbortAnswer) (b : Device) (k k1 : ℕ) → IsPlayedOut r
+      → IsAbortRedone r program.image e b k k1
+      → k1 ≡ k + (count_in (sizes_of program) (view e.cache)
+      + marked_steps program.image h owed.tx owed.args end es)
+  marked_redo_counts r b k k1 ends is = go (numbers_out program.image e) refl
+    where
+      go : (out : Bool) → numbers_out program.image e ≡ out
+          → k1 ≡ k + (m + marked_steps program.image h owed.tx owed.args end es)
+      go true out = absurd (subst IsPlayedOut (is.numbers on sealed.mark out).0 ends)
+      go false in_range =
+          redo_takes program.image super owed.tx owed.args e b image s.done h end es few only
+          sealed ran own.tidy m counted_m
+          (numbers_at sizes image sealed.attempt sealed.attempt_is
+          (let fits = sealed.attempt_fits in omega arith) in_range) r k k1 ends
+          (its_call r b k k1 in_range is)

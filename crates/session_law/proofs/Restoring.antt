@@ -1,6 +1,6 @@
 -- The heap that an image's log restores, by what a power cut may leave.
-use Rattle.std.proofs.Common.{◌≡◌, ◌≢◌, inl, inr, ℕ, suc, ◌<◌, if◌then◌else◌, Bool, ℤ, pos, refl, sym}
-use Rattle.std.proofs.Common.{ap, ◌∙◌, arith}
+use Rattle.std.proofs.Common.{◌≡◌, ◌≢◌, inl, inr, ℕ, suc, ◌<◌, if◌then◌else◌, Bool, ℤ, pos}
+use Rattle.std.proofs.Common.{refl, sym, ap, ◌∙◌, arith}
 use Rattle.cache_model.specs.Cache.{Words}
 use Rattle.pool_layout.specs.declared.places.TheConstants.{DONE, MARK, SEAL}
 use Rattle.pool_layout.specs.declared.places.Place.TheVariants.{Heap}
@@ -43,8 +43,8 @@ module _ (program : Program) (super : Words) where
       else (λ v. image (places.at (places.pool_of (sizes_of program)) (Heap v)))
 
   -- an image that is good with a heap has its words
-  pub good_restores : (done : ℕ) (g image : Words) → Good (pool_with program.image super) done g image
-      → Restores program g image
+  pub good_restores : (done : ℕ) (g image : Words)
+      → Good (pool_with program.image super) done g image → Restores program g image
   good_restores done g image good w less =
       ap (λ (x : Bool). opened_by image x w)
       (is_unsealed image done good.done good.unsealed) ∙ good.heap w less

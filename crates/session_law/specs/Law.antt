@@ -1,6 +1,6 @@
 -- A session of a program does what the program's source says.
 use Rattle.std.specs.Prelude.{ℕ, suc, ◌+◌, ◌*◌, ◌<◌, ◌≤◌, ◌≡◌, ◌≢◌, ◌⊎◌, List, [], ◌∷◌, ◌++◌}
-use Rattle.std.specs.Prelude.{length, Some, Ok, ℤ, pos, slice_index_or, true, false}
+use Rattle.std.specs.Prelude.{length, Some, Ok, ℤ, pos, slice_index_or, Bool, true, false}
 use Rattle.std.specs.List.{AllByRecursion}
 use Rattle.cache_model.specs.Image.{Images}
 use Rattle.cache_model.specs.declared.choice.Choice.{Choice}
@@ -17,7 +17,12 @@ use Rattle.pool_layout.specs.Opened.{IsOpened}
 use Rattle.pool_map.specs.declared.trap.TrapKind.{TrapKind}
 use Rattle.pool_map.specs.PoolMap.{PoolMap, empty_pool}
 use Rattle.clobber_log.specs.Logs.{count_in}
+use Rattle.pm_machine.specs.declared.effect.Effect.{Effect}
+use Rattle.pm_machine.specs.declared.effect.End.{End}
+use Rattle.pm_machine.specs.Machine.{Finished, mrun}
 use Rattle.pm_machine.specs.Runs.{heap_in}
+use Rattle.abort_law.specs.Machine.{mrun_marked}
+use Rattle.abort_law.specs.Steps.{marked_steps}
 use Rattle.cnvm_script.specs.declared.command.Command.{Command}
 use Rattle.cnvm_script.specs.declared.command.Command.TheVariants as command
 use Rattle.cnvm_script.specs.Commands.{script_meaning}
@@ -26,7 +31,7 @@ use Rattle.cnvm_session.specs.declared.answer.Answer.TheVariants as answer
 use Rattle.cnvm_session.specs.declared.mode.Mode.{Mode}
 use Rattle.cnvm_session.specs.declared.mode.Mode.TheVariants.{Ready}
 use Rattle.cnvm_session.specs.declared.program.Program.{Program}
-use Rattle.cnvm_session.specs.Commands.{Commanded}
+use Rattle.cnvm_session.specs.Commands.{call_number, Commanded}
 use Rattle.cnvm_session.specs.Marks.{rolls_back_of}
 use Rattle.cnvm_session.specs.Steps.{most_of_program}
 use Rattle.cnvm_session.specs.Laws.{IsRefused}
@@ -193,20 +198,65 @@ RollbackLaw =
 abbrev pub IsRedone : Answer → Type 0
 IsRedone (answer.RecoveredRedone value logged) = Unit {0}
 IsRedone (answer.RecoveredTrap kind) = Unit {0}
+IsRedone (answer.RecoveredAborted kind) = Unit {0}
 IsRedone a = ⊥
 
--- A recovery that runs an owed transaction without the mark to its end takes one step for each
--- valid record of the image that the power cut left, and one for each instruction of the
--- transaction's run; the last instruction has no effect.
-abbrev pub StepsLaw : Type 0
-StepsLaw =
-    (program : Program) (super : Words) (choice : Choice) (owed : Pending) (m n : Mode)
+-- the called transaction was run to its end
+abbrev pub IsRun : Answer → Type 0
+IsRun (answer.Done value logged) = Unit {0}
+IsRun (answer.Trap kind) = Unit {0}
+IsRun (answer.Aborted kind) = Unit {0}
+IsRun a = ⊥
+
+-- The machine's run of a transaction on a heap takes this many steps: one for each instruction, the
+-- last of which has no effect; and, of one that is rolled back, one for each of its records.
+abbrev pub TakesBy : (marked : Bool) → Program → Words → (tx : ℕ) → List ℤ → ℕ → Type 0
+TakesBy false program h tx args n =
+    (end : End) × (effects : List Effect)
+    × (mrun program.image program.image.parts.most h tx args ≡ Finished end effects)
+    × (n ≡ suc (length effects))
+TakesBy true program h tx args n =
+    (end : End) × (effects : List Effect)
+    × (mrun_marked program.image program.image.parts.most h tx args ≡ Finished end effects)
+    × (n ≡ marked_steps program.image h tx args end effects)
+
+-- Steps of a recovery: one that runs an owed transaction without the mark to its end takes one step
+-- for each valid record of the image that the power cut left, and one for each instruction of the
+-- transaction's run; the last instruction has no effect. One that runs a marked transaction to its
+-- end takes one for each valid record too, and the steps of its run.
+abbrev pub RecoveryStepsLaw : Type 0
+RecoveryStepsLaw =
+    ((program : Program) (super : Words) (choice : Choice) (owed : Pending) (m n : Mode)
     (d b : Device) (s : SourceState) (a : Answer) (k k1 : ℕ) →
     Agrees program → rolls_back_of program owed.tx ≡ false →
     (owes : OwesOne program super owed d s) → IsRedone a
     → Commanded program (command.Power choice) m d a n b k k1 →
     k1 ≡ k + (count_in (sizes_of program) (view (powered choice d).cache)
-    + suc (length owes.effects))
+    + suc (length owes.effects)))
+    × ((program : Program) (super : Words) (choice : Choice) (owed : Pending) (m n : Mode)
+    (d b : Device) (s : SourceState) (a : Answer) (k k1 : ℕ) →
+    Agrees program → rolls_back_of program owed.tx ≡ true →
+    (owes : OwesMarked program super owed d s) → IsRedone a
+    → Commanded program (command.Power choice) m d a n b k k1 →
+    k1 ≡ k + (count_in (sizes_of program) (view (powered choice d).cache)
+    + marked_steps program.image owes.heap owed.tx owed.args owes.end owes.effects))
+
+-- Steps of a call that runs its transaction to its end: those of the machine's run on the heap that
+-- the call finds.
+abbrev pub CallStepsLaw : Type 0
+CallStepsLaw =
+    (program : Program) (super : Words) (name : List ℕ) (args : List ℤ) (tx : ℕ) (m n : Mode)
+    (d b : Device) (s : SourceState) (a : Answer) (k k1 : ℕ) →
+    Agrees program → AreWords args → Holds program super m d s
+    → call_number program name ≡ Some tx → IsRun a
+    → Commanded program (command.Call name args) m d a n b k k1 →
+    (taken : ℕ)
+    × TakesBy (rolls_back_of program tx) program (heap_in (sizes_of program) d.cache) tx args taken
+    × (k1 ≡ k + taken)
+
+-- Steps exact, of calls and of recoveries, with and without the mark.
+abbrev pub StepsLaw : Type 0
+StepsLaw = RecoveryStepsLaw × CallStepsLaw
 
 -- the words of lines 0 and 1 of a new pool
 abbrev pub super_words : Program → Words

@@ -6,6 +6,7 @@ use Rattle.session_law.proofs.Opening.{opened_answers}
 use Rattle.session_law.proofs.Phases.{stopped_phase}
 use Rattle.session_law.proofs.Scripts.{script_words}
 use Rattle.session_law.proofs.Steps.{redone_steps}
+use Rattle.session_law.proofs.CallSteps.{call_steps}
 use Rattle.session_law.proofs.Running.{exactly_sealed}
 use Rattle.session_law.proofs.Unchanged.{step_unchanged}
 use Rattle.session_law.proofs.Bounded.{chain_bounded}
@@ -25,7 +26,7 @@ pub returns-clause-phase : goal.returns-clause-phase
 returns-clause-phase c = stopped_phase
 
 pub returns-clause-steps : goal.returns-clause-steps
-returns-clause-steps c = redone_steps
+returns-clause-steps c = (redone_steps, call_steps)
 
 pub returns-clause-created : goal.returns-clause-created
 returns-clause-created c = created_rests

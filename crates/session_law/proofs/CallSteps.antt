@@ -1,0 +1,138 @@
+-- How many steps a call takes if it runs its transaction to its end.
+use Rattle.std.proofs.Common.{◌≡◌, ℕ, ◌+◌, ◌==◌, ◌&&◌, Bool, true, false, List, length, Option}
+use Rattle.std.proofs.Common.{Some, None, ℤ, refl, sym, ap, ◌∙◌, subst}
+use Rattle.std.proofs.lemmas.Bool.{eqb-true}
+use Rattle.cache_model.specs.Cache.{Words, view}
+use Rattle.pmem.specs.Device.{Device}
+use Rattle.pool_layout.specs.declared.places.TheConstants.{DONE, ATTEMPT}
+use Rattle.pm_machine.specs.Runs.{heap_in}
+use Rattle.tx_run.specs.Standing.{is_number}
+use Rattle.tx_run.specs.declared.answer.CallAnswer.{CallAnswer}
+use Rattle.abort_mode.specs.declared.answer.AbortAnswer.{AbortAnswer}
+use Rattle.abort_mode.specs.declared.answer.AbortAnswer.TheVariants as aborted
+use Rattle.abort_law.specs.Steps.{IsPlayedOut}
+use Rattle.cnvm_session.specs.declared.mode.Mode.{Mode}
+use Rattle.cnvm_session.specs.declared.mode.Mode.TheVariants as mode
+use Rattle.cnvm_session.specs.declared.answer.Answer.{Answer}
+use Rattle.cnvm_session.specs.declared.program.Program.{Program}
+use Rattle.cnvm_session.specs.Commands as commanded
+use Rattle.cnvm_session.specs.Commands.{call_number, tx_parameters}
+use Rattle.cnvm_session.specs.Marks.{rolls_back_of}
+use Rattle.cnvm_session.specs.Outcomes.{answer_of_call, answer_of_marked_call}
+use Rattle.cnvm_session.specs.Outcomes as outcomes
+use Rattle.session_law.specs.Source.{sizes_of}
+use Rattle.session_law.specs.Words.{AreWords}
+use Rattle.session_law.specs.Agrees.{Agrees}
+use Rattle.session_law.specs.State.{Standing, Ready, Down, Unusable, SourceState}
+use Rattle.session_law.specs.Holds.{IsResting, HoldsAs}
+use Rattle.session_law.specs.Law.{IsRun, TakesBy, CallStepsLaw}
+use Rattle.session_law.proofs.Reading.{numbers_small, stands_ready, stands_numbers}
+use Rattle.session_law.proofs.Calls.{call_counts}
+use Rattle.session_law.proofs.MarkedCalls.{marked_call_counts}
+
+played_out : (r : AbortAnswer) → IsRun (answer_of_marked_call r) → IsPlayedOut r
+played_out (aborted.Done v l) run = tt
+played_out (aborted.Aborted kind) run = tt
+played_out (aborted.Off p) run = run
+played_out aborted.Failed run = run
+played_out (aborted.Unusable kind) run = run
+played_out aborted.Numbers run = run
+played_out aborted.NoMemory run = run
+
+module _ (program : Program) (super : Words) (agrees : Agrees program)
+    (d b : Device) (s : SourceState) (resting : IsResting program super d s)
+    (args : List ℤ) (words : AreWords args) (tx : ℕ) (a : Answer) (run : IsRun a) (n : Mode)
+    (k k1 : ℕ) where
+  abbrev Taken : Bool → Type 0
+  Taken marked =
+      (taken : ℕ) × TakesBy marked program (heap_in (sizes_of program) d.cache) tx args taken
+      × (k1 ≡ k + taken)
+
+  abbrev Numbers : Bool → Type 0
+  Numbers x = (is_number (view d.cache DONE) && is_number (view d.cache ATTEMPT)) ≡ x
+
+  by_mark : tx_parameters program.image tx ≡ Some (length args) → (marked : Bool) →
+      rolls_back_of program tx ≡ marked →
+      outcomes.RunsBy marked program.image tx args d a n b k k1 → Taken marked
+  by_mark takes false mark is =
+      go (is_number (view d.cache DONE) && is_number (view d.cache ATTEMPT)) refl
+    where
+      go : (x : Bool) → Numbers x → Taken false
+      go true numbers =
+          let good = resting.before.good in
+          call_counts program super agrees d s resting tx args takes words
+          (numbers_small (view d.cache) s.done good.attempt good.done good.attempt_is numbers) b
+          mark is.tx_answer k k1 (subst IsRun is.answer run)
+          (is.called.ready resting.on (stands_ready (view d.cache) good.mark numbers))
+      go false numbers =
+          let same = (is.called.numbers resting.on
+          (stands_numbers (view d.cache) resting.before.good.mark numbers)).0 in
+          absurd (subst (λ (r : CallAnswer). IsRun (answer_of_call r)) same
+          (subst IsRun is.answer run))
+  by_mark takes true mark is =
+      go (is_number (view d.cache DONE) && is_number (view d.cache ATTEMPT)) refl
+    where
+      go : (x : Bool) → Numbers x → Taken true
+      go true numbers =
+          let good = resting.before.good in
+          marked_call_counts program super agrees d s resting tx args takes words
+          (numbers_small (view d.cache) s.done good.attempt good.done good.attempt_is numbers) b
+          mark is.tx_answer k k1 (played_out is.tx_answer (subst IsRun is.answer run))
+          (is.called.ready resting.on (stands_ready (view d.cache) good.mark numbers))
+      go false numbers =
+          let same = (is.called.numbers resting.on
+          (stands_numbers (view d.cache) resting.before.good.mark numbers)).0 in
+          absurd (subst (λ (r : AbortAnswer). IsRun (answer_of_marked_call r)) same
+          (subst IsRun is.answer run))
+
+  by_count : (count : ℕ) (same : Bool) → (count == length args) ≡ same
+      → tx_parameters program.image tx ≡ Some count
+      → commanded.CallsWith same program tx args d a n b k k1 → Taken (rolls_back_of program tx)
+  by_count count true same takes h =
+      by_mark (takes ∙ ap (λ (i : ℕ). Some i) (eqb-true count (length args) same))
+      (rolls_back_of program tx) refl h
+  by_count count false same takes h = absurd (subst IsRun h.0 run)
+
+  by_parameters : (count : Option ℕ) → tx_parameters program.image tx ≡ count
+      → commanded.CallsTo count program tx args d a n b k k1 → Taken (rolls_back_of program tx)
+  by_parameters None takes h = absurd (subst IsRun h.0 run)
+  by_parameters (Some count) takes h = by_count count (count == length args) refl takes h
+
+  pub call_taken : (number : Option ℕ) → number ≡ Some tx
+      → commanded.CallsNamed number program args d a n b k k1 → Taken (rolls_back_of program tx)
+  call_taken number is h =
+      by_parameters (tx_parameters program.image tx) refl
+      (subst (λ (x : Option ℕ). commanded.CallsNamed x program args d a n b k k1) is h)
+
+module _ (program : Program) (super : Words) (agrees : Agrees program) (name : List ℕ)
+    (args : List ℤ) (words : AreWords args) (tx : ℕ) (m n : Mode) (d b : Device) (s : SourceState)
+    (a : Answer) (run : IsRun a) (k k1 : ℕ) (is : call_number program name ≡ Some tx)
+    (h : commanded.Calls program name args m d a n b k k1) where
+  abbrev TakenCall : Type 0
+  TakenCall =
+      (taken : ℕ) × TakesBy (rolls_back_of program tx) program
+      (heap_in (sizes_of program) d.cache) tx args taken × (k1 ≡ k + taken)
+
+  in_mode : (x : Mode) → commanded.Calls program name args x d a n b k k1
+      → (x ≡ mode.Ready → IsResting program super d s) → TakenCall
+  in_mode mode.Ready calls resting =
+      call_taken program super agrees d b s (resting refl) args words tx a run n k k1
+      (call_number program name) is calls
+  in_mode mode.Down calls resting = absurd (subst IsRun calls.0 run)
+  in_mode (mode.Unusable trap) calls resting = absurd (subst IsRun calls.0 run)
+
+  at_rest : (st : Standing) → HoldsAs st program super m d s → m ≡ mode.Ready
+      → IsResting program super d s
+  at_rest Ready holds same = holds.1
+  at_rest (Down None) holds same =
+      let clash : mode.Down ≡ mode.Ready = sym holds.0 ∙ same in absurd cc
+  at_rest (Down (Some owed)) holds same =
+      let clash : mode.Down ≡ mode.Ready = sym holds.0 ∙ same in absurd cc
+  at_rest (Unusable trap) holds same =
+      let clash : mode.Unusable trap ≡ mode.Ready = sym holds.0 ∙ same in absurd cc
+
+pub call_steps : CallStepsLaw
+call_steps program super name args tx m n d b s a k k1 agrees words holds is run h =
+    in_mode program super agrees name args words tx m n d b s a run k k1 is h m h
+    (λ ready. at_rest program super agrees name args words tx m n d b s a run k k1 is h s.standing
+    holds ready)
