@@ -232,7 +232,7 @@ takes_any Number = refl
 takes_any (PointerTo i) = refl
 takes_any NullPointer = refl
 
-takes_true : (a b : ValueType) (x y : StaticType) → MayBe a x → MayBe b y → AcceptsType x y
+pub takes_true : (a b : ValueType) (x y : StaticType) → MayBe a x → MayBe b y → AcceptsType x y
     → type_takes a b ≡ true
 takes_true a b x y (inl e) (inl f) h = rw (e, f) (taken_fits x y h)
 takes_true a b x y (inl e) (inr f) h = rw (e, f) (takes_any x)
@@ -249,7 +249,7 @@ given_pointer : (i : ℕ) (y : StaticType) → (y ≡ PointerTo i) ⊎ (y ≡ Nu
 given_pointer i y (inl e) = inl (sym e)
 given_pointer i y (inr e) = inr (i, refl, e)
 
-true_takes : (a b : ValueType) → type_takes a b ≡ true → Pair a b AcceptsType
+pub true_takes : (a b : ValueType) → type_takes a b ≡ true → Pair a b AcceptsType
 true_takes Int b e = (Number, Number, inl refl, true_number b e, inl refl)
 true_takes (Pointer i) b e =
     let p = pointer_pair i b e in (PointerTo i, p.0, inl refl, p.1, given_pointer i p.0 p.2)

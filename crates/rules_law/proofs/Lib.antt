@@ -5,4 +5,6 @@ pub mod Listed
 pub mod Found
 pub mod Put
 pub mod Whole
+pub mod Given
+pub mod Kept
 pub mod Laws

@@ -1,16 +1,21 @@
 -- The laws of the typing rules: what `c_types` lists is what the rows give, and the one that is told
 -- is the least of them by place, number and limit.
-use Rattle.std.specs.Prelude.{ℕ, ◌≡◌, ◌↔◌, false, length, Option, None, Some}
+use Rattle.std.specs.Prelude.{ℕ, ◌≡◌, ◌↔◌, List, false, length, Option, None, Some}
+use Rattle.c_tree.specs.ExprTree.{ExprTree}
 use Rattle.c_tree.specs.Program.{Program, tree_of}
 use Rattle.c_types.specs.declared.broken.Rule.{Rule}
 use Rattle.c_types.specs.declared.broken.Broken.{Broken}
-use Rattle.c_types.specs.Tables.{tables_of}
+use Rattle.c_types.specs.declared.value_type.Kind.TheVariants as kind
+use Rattle.c_types.specs.Tables.{Tables, tables_of}
+use Rattle.c_types.specs.Expressions.{Scope, kind_of, type_of}
 use Rattle.c_types.specs.Broken.{is_before, least_broken}
 use Rattle.c_types.specs.LeastLaw.{IsAmong}
 use Rattle.c_types.specs.Fault.{breaks}
+use Rattle.typed_law.specs.Types.{StaticType, value_type}
 use Rattle.rules_law.specs.Part.{Part}
 use Rattle.rules_law.specs.Stands.{StandsIn}
 use Rattle.rules_law.specs.Rules.{Breaks}
+use Rattle.rules_law.specs.Given.{Gives, GivesArray, EndsAt}
 
 -- some part of the tree breaks the rule, at the token of that place
 abbrev pub IsBroken : Program → Rule → (place : ℕ) → Type 0
@@ -28,3 +33,12 @@ IsLeast tree (Some a) = IsBroken tree a.rule a.place
 
 abbrev pub ToldLaw : Type 0
 ToldLaw = (tree : Program) → IsLeast tree (least_broken (breaks tree))
+
+-- the types and the arrays that the rows speak of are those that the rules give
+abbrev pub TypesLaw : Type 0
+TypesLaw = (t : Tables) (s : List Scope) (e : ExprTree) (x : StaticType) →
+    type_of t s e ≡ value_type x ↔ Gives t s e x
+
+abbrev pub ArraysLaw : Type 0
+ArraysLaw = (t : Tables) (s : List Scope) (e : ExprTree) (x : StaticType) (n : ℕ) →
+    kind_of t s e ≡ kind.Array (value_type x) n ↔ (GivesArray t s e x × EndsAt e n)

@@ -3,11 +3,13 @@
 //! of `specs/`.
 #![tactic(auto)]
 
-ghost use Rattle.rules_law.specs.Law.{RowsLaw, ToldLaw};
+ghost use Rattle.rules_law.specs.Law.{RowsLaw, ToldLaw, TypesLaw, ArraysLaw};
 
 /// What `c_types` lists of a tree is exactly what the rows of the rules give, so the refusal that is
 /// told is the least of them. It does nothing.
 pub fn law()
     ensures rows { RowsLaw }
     ensures told { ToldLaw }
+    ensures types { TypesLaw }
+    ensures arrays { ArraysLaw }
 {}

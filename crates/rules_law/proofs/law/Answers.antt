@@ -1,4 +1,5 @@
 use Rattle.rules_law.proofs.Laws.{rows_law, told_law}
+use Rattle.rules_law.proofs.Kept.{types_law, arrays_law}
 use Rattle.rules_law.proofs.law.Goals as goal
 
 pub returns-clause-rows : goal.returns-clause-rows
@@ -6,3 +7,9 @@ returns-clause-rows c = rows_law
 
 pub returns-clause-told : goal.returns-clause-told
 returns-clause-told c = told_law
+
+pub returns-clause-types : goal.returns-clause-types
+returns-clause-types c = types_law
+
+pub returns-clause-arrays : goal.returns-clause-arrays
+returns-clause-arrays c = arrays_law

@@ -1,0 +1,166 @@
+-- The check finds the type that the rules give.
+use Rattle.std.proofs.Common.{◌≡◌, ℕ, suc, ◌+◌, inl, inr, Bool, true, false, List, [], ◌∷◌, length}
+use Rattle.std.proofs.Common.{refl, sym, ap, ◌∙◌, subst}
+use Rattle.std.specs.Prelude.{if◌then◌else◌, ◌||◌, not, nat_eq, slice_get, Option, None, Some}
+use Rattle.std.specs.Prelude.{option_and_then}
+use Rattle.std.specs.Option.{option_map_or}
+use Rattle.c_tree.specs.ExprTree.{ExprTree, Arguments, Ident}
+use Rattle.c_tree.specs.ExprTree as expr
+use Rattle.c_tree.specs.ItemTree.{FieldTree, FunctionTree, LengthTree, ParameterTree}
+use Rattle.c_types.specs.declared.value_type.ValueType.{ValueType}
+use Rattle.c_types.specs.declared.value_type.ValueType.TheVariants.{Int, Pointer, Null, Any}
+use Rattle.c_types.specs.declared.value_type.Kind.{Kind}
+use Rattle.c_types.specs.declared.value_type.Kind.TheVariants.{Value, Array}
+use Rattle.c_types.specs.Fits.{is_any, type_takes}
+use Rattle.c_types.specs.Tables.{Tables, StructTree, field_named, root_struct, is_length}
+use Rattle.c_types.specs.Tables.{declared_type}
+use Rattle.c_types.specs.Expressions.{Scope, type_of_kind, field_kind, member_kind, arrow_kind}
+use Rattle.c_types.specs.Expressions.{parameter_type, argument_count, kind_of, all_taken, type_of}
+use Rattle.typed_law.specs.Types.{StaticType, Number, PointerTo, value_type, HasValueField}
+use Rattle.typed_law.specs.Types.{HasArray}
+use Rattle.typed_law.proofs.Broken.{same_true}
+use Rattle.typed_law.proofs.Fitting.{no_any, applied_fits, joined_fits, pointer_is, declared_is}
+use Rattle.typed_law.proofs.Expressions.{IsRest, whole_rest, next_rest, rest_type}
+use Rattle.rules_law.specs.Given.{Gives, GivesArray, AreTaken, EndsAt}
+use Rattle.rules_law.specs.Law.{TypesLaw, ArraysLaw}
+use Rattle.rules_law.proofs.Fits.{takes_true}
+use Rattle.rules_law.proofs.Given.{Says, says, says_type, any_not}
+
+-- a field that is there
+member_is : (t : Tables) (i : ℕ) (name : Ident) (x : StaticType) → HasValueField t i name.text x
+    → member_kind t i name ≡ Value (value_type x)
+member_is t i name x h =
+    let is : declared_type t h.field.ty ≡ value_type x = declared_is t h.field.ty x h.typed in
+    rw (h.there, h.named, h.single, is) refl
+
+array_is : (t : Tables) (i : ℕ) (name : Ident) (x : StaticType) → HasArray t i name.text x
+    → member_kind t i name ≡ Array (value_type x) name.place
+array_is t i name x h =
+    let is : declared_type t h.field.ty ≡ value_type x = declared_is t h.field.ty x h.typed in
+    rw (h.there, h.named, h.many, is, no_any x, h.within) refl
+
+counted : (t : Tables) (s : List Scope) (qs : List ParameterTree) (all : Arguments)
+    → AreTaken t s qs all → argument_count all ≡ length qs
+counted t s [] expr.None h = refl
+counted t s [] (expr.More first e rest) h = absurd h
+counted t s (q ∷ qs) expr.None h = absurd h
+counted t s (q ∷ qs) (expr.More first e rest) h = ap suc (counted t s qs rest h.0)
+
+mutual
+  pub given_kind : (t : Tables) (s : List Scope) (e : ExprTree) (x : StaticType)
+      → Gives t s e x → kind_of t s e ≡ Value (value_type x)
+  given_kind t s (expr.Number n) x h = rw h refl
+  given_kind t s expr.Null x h = rw h refl
+  given_kind t s (expr.Variable name) x h = rw h refl
+  given_kind t s (expr.Root name) x h = rw h.1 (member_is t h.0 name x h.2)
+  given_kind t s (expr.New place name) x h = ap Value (pointer_is t name.text x h)
+  given_kind t s (expr.Arrow base place name) x h =
+      rw (given_kind t s base (PointerTo h.0) h.1) (member_is t h.0 name x h.2)
+  given_kind t s (expr.Index base place index) x h =
+      let a = given_array t s base x h.0 in
+      rw (a.1, given_kind t s index Number h.1) refl
+  given_kind t s (expr.Unary op place a) x h =
+      rw (h.0, given_kind t s a h.1 h.2, applied_fits op h.1 h.3, no_any h.1) refl
+  given_kind t s (expr.Binary op place a b) x h =
+      rw (
+        h.0,
+        given_kind t s a h.1 h.3,
+        given_kind t s b h.2 h.4,
+        joined_fits op h.1 h.2 h.5,
+        no_any h.1,
+        no_any h.2,
+      ) refl
+  given_kind t s (expr.Call name all) x h =
+      let f : FunctionTree = h.0 in
+      let passed : all_taken t s f.parameters 0 all ≡ true =
+      given_taken t s f.parameters f.parameters 0 all (whole_rest f.parameters) h.6 in
+      let many : nat_eq (argument_count all) (length f.parameters) ≡ true =
+      rw (counted t s f.parameters all h.6) (same_true (length f.parameters)) in
+      rw (h.4, h.2, many, h.5, passed) (ap Value (declared_is t h.1 x h.3))
+
+  pub given_array : (t : Tables) (s : List Scope) (e : ExprTree) (x : StaticType)
+      → GivesArray t s e x
+      → (n : ℕ) × (kind_of t s e ≡ Array (value_type x) n) × EndsAt e n
+  given_array t s (expr.Root name) x h =
+      (name.place, rw h.1 (array_is t h.0 name x h.2), refl)
+  given_array t s (expr.Arrow base place name) x h =
+      (name.place, rw (given_kind t s base (PointerTo h.0) h.1) (array_is t h.0 name x h.2), refl)
+  given_array t s (expr.Number n) x h = absurd h
+  given_array t s expr.Null x h = absurd h
+  given_array t s (expr.Variable name) x h = absurd h
+  given_array t s (expr.Call name all) x h = absurd h
+  given_array t s (expr.New place name) x h = absurd h
+  given_array t s (expr.Index base place index) x h = absurd h
+  given_array t s (expr.Unary op place a) x h = absurd h
+  given_array t s (expr.Binary op place a b) x h = absurd h
+
+  pub given_taken : (t : Tables) (s : List Scope) (ps qs : List ParameterTree) (i : ℕ)
+      (all : Arguments) → IsRest ps i qs → AreTaken t s qs all → all_taken t s ps i all ≡ true
+  given_taken t s ps [] i expr.None rest h = refl
+  given_taken t s ps [] i (expr.More first e others) rest h = absurd h
+  given_taken t s ps (q ∷ qs) i expr.None rest h = absurd h
+  given_taken t s ps (q ∷ qs) i (expr.More first e others) rest h =
+      let k = given_kind t s e h.2 h.4 in
+      let is : type_of t s e ≡ value_type h.2 = ap type_of_kind k in
+      let good : type_takes (parameter_type t ps i) (value_type h.2) ≡ true =
+      subst (λ ty. type_takes ty (value_type h.2) ≡ true) (sym (rest_type t ps qs q i rest))
+      (takes_true (declared_type t q.ty) (value_type h.2) h.1 h.2 h.3 (inl refl) h.5) in
+      rw (
+        is,
+        good,
+        no_any h.2,
+        given_taken t s ps qs (i + 1) others (next_rest ps qs q i rest) h.0,
+      ) refl
+
+pub given_type : (t : Tables) (s : List Scope) (e : ExprTree) (x : StaticType)
+    → Gives t s e x → type_of t s e ≡ value_type x
+given_type t s e x h = ap type_of_kind (given_kind t s e x h)
+
+pub type_given_of : (t : Tables) (s : List Scope) (e : ExprTree) (x : StaticType)
+    → type_of t s e ≡ value_type x → Gives t s e x
+type_given_of t s e x is =
+    says_type (Gives t s e) (GivesArray t s e) (kind_of t s e) x (says t s e) is
+
+-- an array field, whose name stands where its kind says
+array_from : (F A : StaticType → Type 0) (k : Kind) (x : StaticType) (n : ℕ) → Says F A k
+    → k ≡ Array (value_type x) n → A x
+array_from F A (Array el m) x n h is = h x (same el (value_type x) m n is)
+  where
+    same : (a b : ValueType) (m n : ℕ) → Array a m ≡ Array b n → a ≡ b
+    same a b m n e = cc
+array_from F A (Value ty) x n h is = absurd (cc is)
+
+place_from : (k : Kind) (x : StaticType) (n m : ℕ) → k ≡ Array (value_type x) m
+    → k ≡ Array (value_type x) n → m ≡ n
+place_from k x n m one two = cc
+
+array_given : (t : Tables) (s : List Scope) (e : ExprTree) (x : StaticType) (n : ℕ)
+    → kind_of t s e ≡ Array (value_type x) n → GivesArray t s e x × EndsAt e n
+array_given t s e x n is =
+    let g = array_from (Gives t s e) (GivesArray t s e) (kind_of t s e) x n (says t s e) is in
+    let a = given_array t s e x g in
+    (g, subst (EndsAt e) (place_from (kind_of t s e) x n a.0 a.1 is) a.2)
+
+ends_same : (e : ExprTree) (m n : ℕ) → EndsAt e m → EndsAt e n → m ≡ n
+ends_same (expr.Root name) m n a b = a ∙ sym b
+ends_same (expr.Arrow base place name) m n a b = a ∙ sym b
+ends_same (expr.Number k) m n a b = absurd a
+ends_same expr.Null m n a b = absurd a
+ends_same (expr.Variable name) m n a b = absurd a
+ends_same (expr.Call name all) m n a b = absurd a
+ends_same (expr.New place name) m n a b = absurd a
+ends_same (expr.Index base place index) m n a b = absurd a
+ends_same (expr.Unary op place c) m n a b = absurd a
+ends_same (expr.Binary op place c d) m n a b = absurd a
+
+given_at : (t : Tables) (s : List Scope) (e : ExprTree) (x : StaticType) (n : ℕ)
+    → GivesArray t s e x → EndsAt e n → kind_of t s e ≡ Array (value_type x) n
+given_at t s e x n h ends =
+    let a = given_array t s e x h in
+    subst (λ n. kind_of t s e ≡ Array (value_type x) n) (ends_same e a.0 n a.2 ends) a.1
+
+pub types_law : TypesLaw
+types_law t s e x = (type_given_of t s e x, given_type t s e x)
+
+pub arrays_law : ArraysLaw
+arrays_law t s e x n = (array_given t s e x n, λ h. given_at t s e x n h.0 h.1)
