@@ -1,6 +1,6 @@
 -- A test of types fails exactly where no types that its operands may have fit.
 use Rattle.std.proofs.Common.{◌≡◌, ℕ, ◌⊎◌, inl, inr, Bool, true, false, refl, sym, ap, ◌∙◌}
-use Rattle.std.specs.Prelude.{◌&&◌, ◌||◌, not, is_some, Option, None, Some}
+use Rattle.std.specs.Prelude.{◌&&◌, ◌||◌, not, is_some, Option, None, Some, ◌↔◌}
 use Rattle.c_tree.specs.declared.expr.UnaryOp.{UnaryOp}
 use Rattle.c_tree.specs.declared.expr.UnaryOp.TheVariants as unary
 use Rattle.c_tree.specs.declared.expr.BinaryOp.{BinaryOp}
@@ -19,8 +19,8 @@ use Rattle.typed_law.specs.Types.{Compares, Joins, AreNumbers, AcceptsType}
 use Rattle.typed_law.specs.Statements.{IsAssigned}
 use Rattle.typed_law.proofs.Broken.{false_true, and_left, and_right, same_from}
 use Rattle.typed_law.proofs.Fitting.{joined_fits, taken_fits}
-use Rattle.rules_law.specs.Rules.{MayBe, NoOperand, NoOperands, NoAssignment, NoGift, NoNumber}
-use Rattle.rules_law.specs.Rules.{NoPointer}
+use Rattle.rules_law.specs.Given.{MayBe}
+use Rattle.rules_law.specs.Rules.{NoOperand, NoOperands, NoAssignment, NoGift, NoNumber, NoPointer}
 
 -- a test that holds where something does fails exactly where that doesn't
 pub fails : (b : Bool) (P : Type 0) → (P → b ≡ true) → b ≡ false → P → ⊥
@@ -57,55 +57,86 @@ pub or_false_right : (a b : Bool) → (a || b) ≡ false → b ≡ false
 or_false_right true b e = absurd (false_true (sym e))
 or_false_right false b e = e
 
--- a type that something may have
-some_type : (a : ValueType) → (x : StaticType) × MayBe a x
+-- a type that something may have, by the type that the check finds
+abbrev pub CanBe : ValueType → StaticType → Type 0
+CanBe ty x = (ty ≡ value_type x) ⊎ (ty ≡ Any)
+
+-- the check finds the type that F says, and any where F says none
+abbrev pub IsOf : (F : StaticType → Type 0) → ValueType → Type 0
+IsOf F a = (x : StaticType) → (a ≡ value_type x) ↔ F x
+
+pub any_not : {C : Type 0} (x : StaticType) → Any ≡ value_type x → C
+any_not Number e = absurd (cc e)
+any_not (PointerTo i) e = absurd (cc e)
+any_not NullPointer e = absurd (cc e)
+
+any_by : (a : ValueType) → ((y : StaticType) → a ≡ value_type y → ⊥) → a ≡ Any
+any_by Int none = absurd (none Number refl)
+any_by (Pointer i) none = absurd (none (PointerTo i) refl)
+any_by Null none = absurd (none NullPointer refl)
+any_by Any none = refl
+
+pub can_be : (F : StaticType → Type 0) (a : ValueType) → IsOf F a → (x : StaticType) → MayBe F x
+    → CanBe a x
+can_be F a is x (inl h) = inl ((is x).1 h)
+can_be F a is x (inr none) = inr (any_by a (λ y e. none y ((is y).0 e)))
+
+pub may_be : (F : StaticType → Type 0) (a : ValueType) → IsOf F a → (x : StaticType) → CanBe a x
+    → MayBe F x
+may_be F a is x (inl e) = inl ((is x).0 e)
+may_be F a is x (inr e) = inr (λ y h. any_not y (sym e ∙ (is y).1 h))
+
+some_type : (a : ValueType) → (x : StaticType) × CanBe a x
 some_type Int = (Number, inl refl)
 some_type (Pointer i) = (PointerTo i, inl refl)
 some_type Null = (NullPointer, inl refl)
 some_type Any = (Number, inr refl)
 
-number_true : (a : ValueType) → MayBe a Number → is_int a ≡ true
+number_true : (a : ValueType) → CanBe a Number → is_int a ≡ true
 number_true a (inl e) = rw e refl
 number_true a (inr e) = rw e refl
 
-true_number : (a : ValueType) → is_int a ≡ true → MayBe a Number
+true_number : (a : ValueType) → is_int a ≡ true → CanBe a Number
 true_number Int e = inl refl
 true_number (Pointer i) e = absurd (false_true e)
 true_number Null e = absurd (false_true e)
 true_number Any e = inr refl
 
-number_at : (a : ValueType) (x : StaticType) → MayBe a x → x ≡ Number → MayBe a Number
+number_at : (a : ValueType) (x : StaticType) → CanBe a x → x ≡ Number → CanBe a Number
 number_at a x (inl e) is = inl (e ∙ ap value_type is)
 number_at a x (inr e) is = inr e
 
-pub no_number : (a : ValueType) → is_int a ≡ false → NoNumber a
-no_number a e = fails (is_int a) (MayBe a Number) (number_true a) e
+pub no_number : (F : StaticType → Type 0) (a : ValueType) → IsOf F a → is_int a ≡ false → NoNumber F
+no_number F a is e m = false_true (sym e ∙ number_true a (can_be F a is Number m))
 
-pub number_no : (a : ValueType) → NoNumber a → is_int a ≡ false
-number_no a never = failed (is_int a) (MayBe a Number) (true_number a) never
+pub number_no : (F : StaticType → Type 0) (a : ValueType) → IsOf F a → NoNumber F → is_int a ≡ false
+number_no F a is never = failed (is_int a) (CanBe a Number) (true_number a)
+    (λ h. never (may_be F a is Number h))
 
-pointer_true : (a : ValueType) (i : ℕ) → MayBe a (PointerTo i) → is_pointer a ≡ true
+pointer_true : (a : ValueType) (i : ℕ) → CanBe a (PointerTo i) → is_pointer a ≡ true
 pointer_true a i (inl e) = rw e refl
 pointer_true a i (inr e) = rw e refl
 
-true_pointer : (a : ValueType) → is_pointer a ≡ true → (i : ℕ) × MayBe a (PointerTo i)
+true_pointer : (a : ValueType) → is_pointer a ≡ true → (i : ℕ) × CanBe a (PointerTo i)
 true_pointer Int e = absurd (false_true e)
 true_pointer (Pointer i) e = (i, inl refl)
 true_pointer Null e = absurd (false_true e)
 true_pointer Any e = (0, inr refl)
 
-pub no_pointer : (a : ValueType) → is_pointer a ≡ false → NoPointer a
-no_pointer a e i m = false_true (sym e ∙ pointer_true a i m)
+pub no_pointer : (F : StaticType → Type 0) (a : ValueType) → IsOf F a → is_pointer a ≡ false
+    → NoPointer F
+no_pointer F a is e i m = false_true (sym e ∙ pointer_true a i (can_be F a is (PointerTo i) m))
 
-pub pointer_no : (a : ValueType) → NoPointer a → is_pointer a ≡ false
-pointer_no a never = failed (is_pointer a) ((i : ℕ) × MayBe a (PointerTo i)) (true_pointer a)
-    (λ h. never h.0 h.1)
+pub pointer_no : (F : StaticType → Type 0) (a : ValueType) → IsOf F a → NoPointer F
+    → is_pointer a ≡ false
+pointer_no F a is never = failed (is_pointer a) ((i : ℕ) × CanBe a (PointerTo i)) (true_pointer a)
+    (λ h. never h.0 (may_be F a is (PointerTo h.0) h.1))
 
 -- two types that fit each other
 abbrev Pair : ValueType → ValueType → (StaticType → StaticType → Type 0) → Type 0
-Pair a b R = (x : StaticType) × (y : StaticType) × MayBe a x × MayBe b y × R x y
+Pair a b R = (x : StaticType) × (y : StaticType) × CanBe a x × CanBe b y × R x y
 
-numbers_true : (a b : ValueType) (x y : StaticType) → MayBe a x → MayBe b y → AreNumbers x y
+numbers_true : (a b : ValueType) (x y : StaticType) → CanBe a x → CanBe b y → AreNumbers x y
     → (is_int a && is_int b) ≡ true
 numbers_true a b x y m n h = rw (
   number_true a (number_at a x m h.0),
@@ -131,14 +162,14 @@ compares_itself Number = refl
 compares_itself (PointerTo i) = inl refl
 compares_itself NullPointer = inl refl
 
-compare_true : (a b : ValueType) (x y : StaticType) → MayBe a x → MayBe b y → Compares x y
+compare_true : (a b : ValueType) (x y : StaticType) → CanBe a x → CanBe b y → Compares x y
     → comparable a b ≡ true
 compare_true a b x y (inl e) (inl f) h = rw (e, f) (joined_fits binary.Equal x y h)
 compare_true a b x y (inl e) (inr f) h = rw (e, f) (compares_any x)
 compare_true a b x y (inr e) n h = rw e refl
 
 pointer_pair : (i : ℕ) (b : ValueType) → is_pointer_to i b ≡ true
-    → (y : StaticType) × MayBe b y × ((y ≡ PointerTo i) ⊎ (y ≡ NullPointer))
+    → (y : StaticType) × CanBe b y × ((y ≡ PointerTo i) ⊎ (y ≡ NullPointer))
 pointer_pair i Int e = absurd (false_true e)
 pointer_pair i (Pointer j) e = (PointerTo j, inl refl, inl (ap PointerTo (sym (same_from i j e))))
 pointer_pair i Null e = (NullPointer, inl refl, inr refl)
@@ -155,7 +186,7 @@ true_compare Null Any e = (NullPointer, NullPointer, inl refl, inr refl, inl ref
 true_compare Any b e =
     let y = some_type b in (y.0, y.0, inr refl, y.1, compares_itself y.0)
 
-joins_true : (op : BinaryOp) (a b : ValueType) (x y : StaticType) → MayBe a x → MayBe b y
+joins_true : (op : BinaryOp) (a b : ValueType) (x y : StaticType) → CanBe a x → CanBe b y
     → Joins op x y → joins_types op a b ≡ true
 joins_true binary.Both a b x y m n h = refl
 joins_true binary.Either a b x y m n h = refl
@@ -199,46 +230,51 @@ true_joins binary.And a b e = true_numbers a b e
 true_joins binary.Xor a b e = true_numbers a b e
 true_joins binary.Or a b e = true_numbers a b e
 
-pub no_operands : (op : BinaryOp) (a b : ValueType) → joins_types op a b ≡ false
-    → NoOperands op a b
-no_operands op a b e x y m n h = false_true (sym e ∙ joins_true op a b x y m n h)
+pub no_operands : (op : BinaryOp) (F G : StaticType → Type 0) (a b : ValueType) → IsOf F a → IsOf G b
+    → joins_types op a b ≡ false → NoOperands op F G
+no_operands op F G a b is same e x y m n h =
+    false_true (sym e ∙ joins_true op a b x y (can_be F a is x m) (can_be G b same y n) h)
 
-pub operands_no : (op : BinaryOp) (a b : ValueType) → NoOperands op a b
-    → joins_types op a b ≡ false
-operands_no op a b never = failed (joins_types op a b) (Pair a b (Joins op)) (true_joins op a b)
-    (λ h. never h.0 h.1 h.2 h.3 h.4)
+pub operands_no : (op : BinaryOp) (F G : StaticType → Type 0) (a b : ValueType) → IsOf F a → IsOf G b
+    → NoOperands op F G → joins_types op a b ≡ false
+operands_no op F G a b is same never = failed (joins_types op a b) (Pair a b (Joins op))
+    (true_joins op a b)
+    (λ h. never h.0 h.1 (may_be F a is h.0 h.2) (may_be G b same h.1 h.3) h.4)
 
-applies_true : (op : UnaryOp) (a : ValueType) (x : StaticType) → MayBe a x → Applies op x
+applies_true : (op : UnaryOp) (a : ValueType) (x : StaticType) → CanBe a x → Applies op x
     → applies op a ≡ true
 applies_true unary.Not a x m h = refl
 applies_true unary.Negate a x m h = number_true a (number_at a x m h)
 applies_true unary.Complement a x m h = number_true a (number_at a x m h)
 
 true_applies : (op : UnaryOp) (a : ValueType) → applies op a ≡ true
-    → (x : StaticType) × MayBe a x × Applies op x
+    → (x : StaticType) × CanBe a x × Applies op x
 true_applies unary.Not a e = let x = some_type a in (x.0, x.1, tt)
 true_applies unary.Negate a e = (Number, true_number a e, refl)
 true_applies unary.Complement a e = (Number, true_number a e, refl)
 
-pub no_operand : (op : UnaryOp) (a : ValueType) → applies op a ≡ false → NoOperand op a
-no_operand op a e x m h = false_true (sym e ∙ applies_true op a x m h)
+pub no_operand : (op : UnaryOp) (F : StaticType → Type 0) (a : ValueType) → IsOf F a
+    → applies op a ≡ false → NoOperand op F
+no_operand op F a is e x m h = false_true (sym e ∙ applies_true op a x (can_be F a is x m) h)
 
-pub operand_no : (op : UnaryOp) (a : ValueType) → NoOperand op a → applies op a ≡ false
-operand_no op a never = failed (applies op a) ((x : StaticType) × MayBe a x × Applies op x)
-    (true_applies op a) (λ h. never h.0 h.1 h.2)
+pub operand_no : (op : UnaryOp) (F : StaticType → Type 0) (a : ValueType) → IsOf F a
+    → NoOperand op F → applies op a ≡ false
+operand_no op F a is never = failed (applies op a)
+    ((x : StaticType) × CanBe a x × Applies op x) (true_applies op a)
+    (λ h. never h.0 (may_be F a is h.0 h.1) h.2)
 
 takes_any : (x : StaticType) → type_takes (value_type x) Any ≡ true
 takes_any Number = refl
 takes_any (PointerTo i) = refl
 takes_any NullPointer = refl
 
-pub takes_true : (a b : ValueType) (x y : StaticType) → MayBe a x → MayBe b y → AcceptsType x y
+pub takes_true : (a b : ValueType) (x y : StaticType) → CanBe a x → CanBe b y → AcceptsType x y
     → type_takes a b ≡ true
 takes_true a b x y (inl e) (inl f) h = rw (e, f) (taken_fits x y h)
 takes_true a b x y (inl e) (inr f) h = rw (e, f) (takes_any x)
 takes_true a b x y (inr e) n h = rw e refl
 
-null_pair : (b : ValueType) → is_null b ≡ true → MayBe b NullPointer
+null_pair : (b : ValueType) → is_null b ≡ true → CanBe b NullPointer
 null_pair Int e = absurd (false_true e)
 null_pair (Pointer i) e = absurd (false_true e)
 null_pair Null e = inl refl
@@ -256,14 +292,18 @@ true_takes (Pointer i) b e =
 true_takes Null b e = (NullPointer, NullPointer, inl refl, null_pair b e, inl refl)
 true_takes Any b e = let y = some_type b in (y.0, y.0, inr refl, y.1, inl refl)
 
-pub no_gift : (a b : ValueType) → type_takes a b ≡ false → NoGift a b
-no_gift a b e x y m n h = false_true (sym e ∙ takes_true a b x y m n h)
+pub no_gift : (F G : StaticType → Type 0) (a b : ValueType) → IsOf F a → IsOf G b
+    → type_takes a b ≡ false → NoGift F G
+no_gift F G a b is same e x y m n h =
+    false_true (sym e ∙ takes_true a b x y (can_be F a is x m) (can_be G b same y n) h)
 
-pub gift_no : (a b : ValueType) → NoGift a b → type_takes a b ≡ false
-gift_no a b never = failed (type_takes a b) (Pair a b AcceptsType) (true_takes a b)
-    (λ h. never h.0 h.1 h.2 h.3 h.4)
+pub gift_no : (F G : StaticType → Type 0) (a b : ValueType) → IsOf F a → IsOf G b
+    → NoGift F G → type_takes a b ≡ false
+gift_no F G a b is same never = failed (type_takes a b) (Pair a b AcceptsType)
+    (true_takes a b)
+    (λ h. never h.0 h.1 (may_be F a is h.0 h.2) (may_be G b same h.1 h.3) h.4)
 
-assigns_true : (op : AssignOp) (a b : ValueType) (x y : StaticType) → MayBe a x → MayBe b y
+assigns_true : (op : AssignOp) (a b : ValueType) (x y : StaticType) → CanBe a x → CanBe b y
     → IsAssigned op x y → assigns op a b ≡ true
 assigns_true assign.Set a b x y m n h = takes_true a b x y m n h
 assigns_true assign.Add a b x y m n h = numbers_true a b x y m n h
@@ -275,14 +315,16 @@ true_assigns assign.Set a b e = true_takes a b e
 true_assigns assign.Add a b e = true_numbers a b e
 true_assigns assign.Sub a b e = true_numbers a b e
 
-pub no_assignment : (op : AssignOp) (a b : ValueType) → assigns op a b ≡ false
-    → NoAssignment op a b
-no_assignment op a b e x y m n h = false_true (sym e ∙ assigns_true op a b x y m n h)
+pub no_assignment : (op : AssignOp) (F G : StaticType → Type 0) (a b : ValueType) → IsOf F a → IsOf G b
+    → assigns op a b ≡ false → NoAssignment op F G
+no_assignment op F G a b is same e x y m n h =
+    false_true (sym e ∙ assigns_true op a b x y (can_be F a is x m) (can_be G b same y n) h)
 
-pub assignment_no : (op : AssignOp) (a b : ValueType) → NoAssignment op a b
-    → assigns op a b ≡ false
-assignment_no op a b never = failed (assigns op a b) (Pair a b (IsAssigned op)) (true_assigns op a b)
-    (λ h. never h.0 h.1 h.2 h.3 h.4)
+pub assignment_no : (op : AssignOp) (F G : StaticType → Type 0) (a b : ValueType) → IsOf F a → IsOf G b
+    → NoAssignment op F G → assigns op a b ≡ false
+assignment_no op F G a b is same never = failed (assigns op a b) (Pair a b (IsAssigned op))
+    (true_assigns op a b)
+    (λ h. never h.0 h.1 (may_be F a is h.0 h.2) (may_be G b same h.1 h.3) h.4)
 
 -- what stands before `[`
 pub no_array : (k : Kind) → is_indexed k ≡ false → (x : StaticType) × (k ≡ Value (value_type x))

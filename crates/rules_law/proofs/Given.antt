@@ -1,5 +1,5 @@
 -- The type that the check finds is the one that the rules give, also where a rule is broken.
-use Rattle.std.proofs.Common.{◌≡◌, ℕ, suc, ◌+◌, ◌≤◌, ◌⊎◌, inl, inr, Bool, true, false, List, [], ◌∷◌}
+use Rattle.std.proofs.Common.{◌≡◌, ℕ, suc, ◌+◌, inl, inr, Bool, true, false, List, [], ◌∷◌}
 use Rattle.std.proofs.Common.{length, refl, sym, ap, ◌∙◌, subst}
 use Rattle.std.specs.Prelude.{if◌then◌else◌, ◌&&◌, ◌||◌, not, nat_eq, nat_le, is_some, unwrap_or}
 use Rattle.std.specs.Prelude.{slice_get, Option, None, Some, option_and_then}
@@ -16,25 +16,18 @@ use Rattle.c_types.specs.declared.value_type.Kind.TheVariants.{Value, Array}
 use Rattle.c_types.specs.Fits.{is_any, is_int, type_takes, joins_types, applies}
 use Rattle.c_types.specs.Tables.{Tables, StructTree, struct_named, function_named, field_named}
 use Rattle.c_types.specs.Tables.{root_struct, words_at, is_length, pointer_type, declared_type}
-use Rattle.c_types.specs.Expressions.{Scope, variable_type, type_of_kind, field_kind, member}
+use Rattle.c_types.specs.Expressions.{Scope, variable_type, type_of_kind, field_kind}
 use Rattle.c_types.specs.Expressions.{member_kind, arrow_kind, is_indexed, element_of, type_if}
 use Rattle.c_types.specs.Expressions.{may_call, call_type, result_type, parameters_of}
 use Rattle.c_types.specs.Expressions.{parameter_type, argument_count, kind_of, all_taken, type_of}
 use Rattle.typed_law.specs.Types.{StaticType, Number, PointerTo, NullPointer, value_type, IsPointer}
-use Rattle.typed_law.specs.Types.{IsWritten, HasValueField, HasArray, Applies, Joins, AcceptsType}
+use Rattle.typed_law.specs.Types.{IsWritten, HasValueField, HasArray, AcceptsType}
 use Rattle.typed_law.proofs.Broken.{false_true, and_left, and_right, not_true, le_from, same_from}
-use Rattle.typed_law.proofs.Broken.{same_true}
-use Rattle.typed_law.proofs.Fitting.{no_any, applied_fits, joined_fits, applied_answer}
-use Rattle.typed_law.proofs.Fitting.{joined_answer, pointer_is, declared_is}
+use Rattle.typed_law.proofs.Fitting.{applied_answer}
+use Rattle.typed_law.proofs.Fitting.{joined_answer, declared_is}
 use Rattle.typed_law.proofs.Expressions.{IsRest, whole_rest, next_rest, rest_type}
-use Rattle.rules_law.specs.Rules.{MayBe}
-use Rattle.rules_law.specs.Given.{Gives, GivesArray, AreTaken, EndsAt}
-use Rattle.rules_law.proofs.Fits.{takes_true, true_takes}
-
-pub any_not : {C : Type 0} (x : StaticType) → Any ≡ value_type x → C
-any_not Number e = absurd (cc e)
-any_not (PointerTo i) e = absurd (cc e)
-any_not NullPointer e = absurd (cc e)
+use Rattle.rules_law.specs.Given.{Gives, GivesArray, AreTaken}
+use Rattle.rules_law.proofs.Fits.{CanBe, IsOf, any_not, may_be, true_takes}
 
 number_is : (x : StaticType) → Int ≡ value_type x → x ≡ Number
 number_is Number e = refl
@@ -88,10 +81,13 @@ written_of : (t : Tables) (ty : TypeTree) (x : StaticType) → declared_type t t
 written_of t stmt.Int x e = number_is x e
 written_of t (stmt.Pointer name) x e = pointer_of t name.text x e
 
+pub written_is : (t : Tables) (ty : TypeTree) → IsOf (IsWritten t ty) (declared_type t ty)
+written_is t ty x = (written_of t ty x, declared_is t ty x)
+
 -- what a kind says of the types of F, if it is a value, and of A, if it is an array
 abbrev pub Says : (F A : StaticType → Type 0) → Kind → Type 0
 Says F A (Value ty) = (x : StaticType) → ty ≡ value_type x → F x
-Says F A (Array el n) = (x : StaticType) → el ≡ value_type x → A x
+Says F A (Array el n) = (x : StaticType) × (el ≡ value_type x) × A x
 
 says_none : (F A : StaticType → Type 0) → Says F A (Value Any)
 says_none F A x e = any_not x e
@@ -106,21 +102,27 @@ field_says : (t : Tables) (i place : ℕ) (name : List ℕ) (s : StructTree) (f 
     → Says (HasValueField t i name) (HasArray t i name) (field_kind t place f)
 field_says t i place name s f there named = by f.len refl
   where
-    long : (l : LengthTree) (any is : Bool) → f.len ≡ Some l → is_length l.value ≡ is
+    long : (l : LengthTree) (any is : Bool) → f.len ≡ Some l
+        → is_any (declared_type t f.ty) ≡ any → is_length l.value ≡ is
         → Says (HasValueField t i name) (HasArray t i name) (if any || not is then Value Any
         else Array (declared_type t f.ty) place)
-    long l true is many within = λ x e. any_not x e
-    long l false false many within = λ x e. any_not x e
-    long l false true many within = λ x e. record {
-      owner = s;
-      there = there;
-      field = f;
-      named = named;
-      size = l;
-      many = many;
-      within = within;
-      typed = written_of t f.ty x e;
-    }
+    long l true is many known within = λ x e. any_not x e
+    long l false false many known within = λ x e. any_not x e
+    long l false true many known within =
+        let x = static_of (declared_type t f.ty) known in (
+          x.0,
+          x.1,
+          record {
+            owner = s;
+            there = there;
+            field = f;
+            named = named;
+            size = l;
+            many = many;
+            within = within;
+            typed = written_of t f.ty x.0 x.1;
+          },
+        )
 
     by : (o : Option LengthTree) → f.len ≡ o
         → Says (HasValueField t i name) (HasArray t i name) (option_map_or
@@ -135,6 +137,7 @@ field_says t i place name s f there named = by f.len refl
       typed = written_of t f.ty x e;
     }
     by (Some l) many = long l (is_any (declared_type t f.ty)) (is_length l.value) many refl
+        refl
 
 member_says : (t : Tables) (i : ℕ) (name : Ident)
     → Says (HasValueField t i name.text) (HasArray t i name.text) (member_kind t i name)
@@ -158,7 +161,7 @@ root_says : (t : Tables) (s : List Scope) (name : Ident) (i : ℕ) (k : Kind)
     → root_struct t ≡ Some i → Says (HasValueField t i name.text) (HasArray t i name.text) k
     → Says (Gives t s (expr.Root name)) (GivesArray t s (expr.Root name)) k
 root_says t s name i (Value ty) is m = λ x e. (i, is, m x e)
-root_says t s name i (Array el n) is m = λ x e. (i, is, m x e)
+root_says t s name i (Array el n) is m = (m.0, m.1, (i, is, m.2))
 
 root_by : (t : Tables) (s : List Scope) (name : Ident) (o : Option ℕ) → root_struct t ≡ o
     → Says (Gives t s (expr.Root name)) (GivesArray t s (expr.Root name)) (option_map_or
@@ -171,7 +174,7 @@ arrow_says : (t : Tables) (s : List Scope) (base : ExprTree) (place : ℕ) (name
     → Says (HasValueField t i name.text) (HasArray t i name.text) k
     → Says (Gives t s (expr.Arrow base place name)) (GivesArray t s (expr.Arrow base place name)) k
 arrow_says t s base place name i (Value ty) g m = λ x e. (i, g, m x e)
-arrow_says t s base place name i (Array el n) g m = λ x e. (i, g, m x e)
+arrow_says t s base place name i (Array el n) g m = (m.0, m.1, (i, g, m.2))
 
 arrow_by : (t : Tables) (s : List Scope) (base : ExprTree) (place : ℕ) (name : Ident)
     (ty : ValueType) → ((i : ℕ) → ty ≡ Pointer i → Gives t s base (PointerTo i))
@@ -191,7 +194,7 @@ kept_of false ty x e = any_not x e
 
 element_says : (F A : StaticType → Type 0) (k : Kind) (x : StaticType) → Says F A k
     → element_of k ≡ value_type x → A x
-element_says F A (Array el n) x m e = m x e
+element_says F A (Array el n) x m e = subst A (same_type x m.0 (sym e ∙ m.1)) m.2
 element_says F A (Value ty) x m e = any_not x e
 
 int_only : (ty : ValueType) → is_int ty ≡ true → is_any ty ≡ false → ty ≡ Int
@@ -207,12 +210,12 @@ variable_by (Some ty) x e = ap Some e
 
 -- an argument of a type that its parameter takes
 taken_by : (a b : ValueType) (y : StaticType) → b ≡ value_type y → type_takes a b ≡ true
-    → (x : StaticType) × MayBe a x × AcceptsType x y
+    → (x : StaticType) × CanBe a x × AcceptsType x y
 taken_by a b y is good =
     let p = true_takes a b good in
     (p.0, p.2, subst (λ y. AcceptsType p.0 y) (same p.1 p.3) p.4)
   where
-    same : (z : StaticType) → MayBe b z → z ≡ y
+    same : (z : StaticType) → CanBe b z → z ≡ y
     same z (inl e) = same_type y z (sym is ∙ e)
     same z (inr e) = any_not y (sym e ∙ is)
 
@@ -330,7 +333,7 @@ mutual
             (suc_same (argument_count others) (length qs) n) (and_right one later h),
         p.0,
         y.0,
-        p.1,
+        may_be (IsWritten t q.ty) (declared_type t q.ty) (written_is t q.ty) p.0 p.1,
         says_type (Gives t s e) (GivesArray t s e) (kind_of t s e) y.0 (says t s e) y.1,
         p.2,
       )

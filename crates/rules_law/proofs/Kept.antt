@@ -1,30 +1,28 @@
 -- The check finds the type that the rules give.
-use Rattle.std.proofs.Common.{◌≡◌, ℕ, suc, ◌+◌, inl, inr, Bool, true, false, List, [], ◌∷◌, length}
+use Rattle.std.proofs.Common.{◌≡◌, ℕ, suc, ◌+◌, inl, true, List, [], ◌∷◌, length}
 use Rattle.std.proofs.Common.{refl, sym, ap, ◌∙◌, subst}
-use Rattle.std.specs.Prelude.{if◌then◌else◌, ◌||◌, not, nat_eq, slice_get, Option, None, Some}
-use Rattle.std.specs.Prelude.{option_and_then}
-use Rattle.std.specs.Option.{option_map_or}
+use Rattle.std.specs.Prelude.{nat_eq}
 use Rattle.c_tree.specs.ExprTree.{ExprTree, Arguments, Ident}
 use Rattle.c_tree.specs.ExprTree as expr
-use Rattle.c_tree.specs.ItemTree.{FieldTree, FunctionTree, LengthTree, ParameterTree}
+use Rattle.c_tree.specs.ItemTree.{FunctionTree, ParameterTree}
 use Rattle.c_types.specs.declared.value_type.ValueType.{ValueType}
-use Rattle.c_types.specs.declared.value_type.ValueType.TheVariants.{Int, Pointer, Null, Any}
 use Rattle.c_types.specs.declared.value_type.Kind.{Kind}
 use Rattle.c_types.specs.declared.value_type.Kind.TheVariants.{Value, Array}
-use Rattle.c_types.specs.Fits.{is_any, type_takes}
-use Rattle.c_types.specs.Tables.{Tables, StructTree, field_named, root_struct, is_length}
+use Rattle.c_types.specs.Fits.{type_takes}
+use Rattle.c_types.specs.Tables.{Tables}
 use Rattle.c_types.specs.Tables.{declared_type}
-use Rattle.c_types.specs.Expressions.{Scope, type_of_kind, field_kind, member_kind, arrow_kind}
+use Rattle.c_types.specs.Expressions.{Scope, type_of_kind, member_kind}
 use Rattle.c_types.specs.Expressions.{parameter_type, argument_count, kind_of, all_taken, type_of}
-use Rattle.typed_law.specs.Types.{StaticType, Number, PointerTo, value_type, HasValueField}
+use Rattle.typed_law.specs.Types.{StaticType, Number, PointerTo, value_type, IsWritten, HasValueField}
 use Rattle.typed_law.specs.Types.{HasArray}
 use Rattle.typed_law.proofs.Broken.{same_true}
 use Rattle.typed_law.proofs.Fitting.{no_any, applied_fits, joined_fits, pointer_is, declared_is}
 use Rattle.typed_law.proofs.Expressions.{IsRest, whole_rest, next_rest, rest_type}
 use Rattle.rules_law.specs.Given.{Gives, GivesArray, AreTaken, EndsAt}
-use Rattle.rules_law.specs.Law.{TypesLaw, ArraysLaw}
-use Rattle.rules_law.proofs.Fits.{takes_true}
-use Rattle.rules_law.proofs.Given.{Says, says, says_type, any_not}
+use Rattle.typed_law.proofs.TypedExpressions.{typed_is}
+use Rattle.rules_law.specs.Law.{TypesLaw, ArraysLaw, TypedLaw}
+use Rattle.rules_law.proofs.Fits.{IsOf, can_be, takes_true}
+use Rattle.rules_law.proofs.Given.{Says, says, says_type, same_type, written_is}
 
 -- a field that is there
 member_is : (t : Tables) (i : ℕ) (name : Ident) (x : StaticType) → HasValueField t i name.text x
@@ -104,7 +102,9 @@ mutual
       let is : type_of t s e ≡ value_type h.2 = ap type_of_kind k in
       let good : type_takes (parameter_type t ps i) (value_type h.2) ≡ true =
       subst (λ ty. type_takes ty (value_type h.2) ≡ true) (sym (rest_type t ps qs q i rest))
-      (takes_true (declared_type t q.ty) (value_type h.2) h.1 h.2 h.3 (inl refl) h.5) in
+      (takes_true (declared_type t q.ty) (value_type h.2) h.1 h.2
+      (can_be (IsWritten t q.ty) (declared_type t q.ty) (written_is t q.ty) h.1 h.3) (inl refl)
+      h.5) in
       rw (
         is,
         good,
@@ -121,25 +121,38 @@ pub type_given_of : (t : Tables) (s : List Scope) (e : ExprTree) (x : StaticType
 type_given_of t s e x is =
     says_type (Gives t s e) (GivesArray t s e) (kind_of t s e) x (says t s e) is
 
--- an array field, whose name stands where its kind says
-array_from : (F A : StaticType → Type 0) (k : Kind) (x : StaticType) (n : ℕ) → Says F A k
-    → k ≡ Array (value_type x) n → A x
-array_from F A (Array el m) x n h is = h x (same el (value_type x) m n is)
-  where
-    same : (a b : ValueType) (m n : ℕ) → Array a m ≡ Array b n → a ≡ b
-    same a b m n e = cc
-array_from F A (Value ty) x n h is = absurd (cc is)
+pub gives_is : (t : Tables) (s : List Scope) (e : ExprTree) → IsOf (Gives t s e) (type_of t s e)
+gives_is t s e x = (type_given_of t s e x, given_type t s e x)
 
-place_from : (k : Kind) (x : StaticType) (n m : ℕ) → k ≡ Array (value_type x) m
-    → k ≡ Array (value_type x) n → m ≡ n
-place_from k x n m one two = cc
+-- an array field, whose name stands where its kind says
+array_from : (F A : StaticType → Type 0) (k : Kind) (el : ValueType) (n : ℕ) → Says F A k
+    → k ≡ Array el n → (x : StaticType) × (el ≡ value_type x) × A x
+array_from F A (Array e m) el n h is = (h.0, same el e m n is ∙ h.1, h.2)
+  where
+    same : (a b : ValueType) (m n : ℕ) → Array b m ≡ Array a n → a ≡ b
+    same a b m n e = cc
+array_from F A (Value ty) el n h is = absurd (cc is)
+
+place_from : (k : Kind) (a b : ValueType) (n m : ℕ) → k ≡ Array a m → k ≡ Array b n → m ≡ n
+place_from k a b n m one two = cc
+
+pub array_at : (t : Tables) (s : List Scope) (e : ExprTree) (el : ValueType) (n : ℕ)
+    → kind_of t s e ≡ Array el n
+    → (x : StaticType) × (el ≡ value_type x) × GivesArray t s e x × EndsAt e n
+array_at t s e el n is =
+    let g = array_from (Gives t s e) (GivesArray t s e) (kind_of t s e) el n (says t s e) is in
+    let a = given_array t s e g.0 g.2 in (
+      g.0,
+      g.1,
+      g.2,
+      subst (EndsAt e) (place_from (kind_of t s e) (value_type g.0) el n a.0 a.1 is) a.2,
+    )
 
 array_given : (t : Tables) (s : List Scope) (e : ExprTree) (x : StaticType) (n : ℕ)
     → kind_of t s e ≡ Array (value_type x) n → GivesArray t s e x × EndsAt e n
 array_given t s e x n is =
-    let g = array_from (Gives t s e) (GivesArray t s e) (kind_of t s e) x n (says t s e) is in
-    let a = given_array t s e x g in
-    (g, subst (EndsAt e) (place_from (kind_of t s e) x n a.0 a.1 is) a.2)
+    let g = array_at t s e (value_type x) n is in
+    (subst (GivesArray t s e) (same_type x g.0 g.1) g.2, g.3)
 
 ends_same : (e : ExprTree) (m n : ℕ) → EndsAt e m → EndsAt e n → m ≡ n
 ends_same (expr.Root name) m n a b = a ∙ sym b
@@ -153,7 +166,7 @@ ends_same (expr.Index base place index) m n a b = absurd a
 ends_same (expr.Unary op place c) m n a b = absurd a
 ends_same (expr.Binary op place c d) m n a b = absurd a
 
-given_at : (t : Tables) (s : List Scope) (e : ExprTree) (x : StaticType) (n : ℕ)
+pub given_at : (t : Tables) (s : List Scope) (e : ExprTree) (x : StaticType) (n : ℕ)
     → GivesArray t s e x → EndsAt e n → kind_of t s e ≡ Array (value_type x) n
 given_at t s e x n h ends =
     let a = given_array t s e x h in
@@ -164,3 +177,6 @@ types_law t s e x = (type_given_of t s e x, given_type t s e x)
 
 pub arrays_law : ArraysLaw
 arrays_law t s e x n = (array_given t s e x n, λ h. given_at t s e x n h.0 h.1)
+
+pub typed_law : TypedLaw
+typed_law t s e x h = type_given_of t s e x (typed_is t s e x h)

@@ -1,5 +1,5 @@
 -- What a row gives for a part is among the rules that `c_types` lists for it.
-use Rattle.std.proofs.Common.{◌≡◌, ◌≢◌, ℕ, ◌<◌, inl, inr, Bool, true, false, List, [], ◌++◌}
+use Rattle.std.proofs.Common.{◌≡◌, ◌≢◌, ℕ, ◌<◌, inl, Bool, true, false, List, [], ◌++◌}
 use Rattle.std.proofs.Common.{length, refl, sym, subst, arith}
 use Rattle.std.specs.Prelude.{◌&&◌, ◌||◌, not, nat_eq, nat_le, is_some, slice_get, None}
 use Rattle.std.specs.Prelude.{Some}
@@ -29,9 +29,12 @@ use Rattle.c_types.specs.Expressions.{is_indexed, unindexed, kind_of, type_of, c
 use Rattle.c_types.specs.Expressions.{call_broken, argument_count, parameter_type, parameters_of}
 use Rattle.c_types.specs.Statements.{is_declared, is_target}
 use Rattle.c_types.specs.Declarations.{length_broken, all_ints, is_transaction}
+use Rattle.typed_law.specs.Types.{PointerTo, IsWritten}
+use Rattle.typed_law.proofs.Broken.{false_true}
 use Rattle.rules_law.specs.Part.{Part}
 use Rattle.rules_law.specs.Part as part
-use Rattle.rules_law.specs.Rules.{Breaks, NoPointer, NoNumber}
+use Rattle.rules_law.specs.Given.{Gives}
+use Rattle.rules_law.specs.Rules.{Breaks}
 use Rattle.rules_law.specs.Rules as row
 use Rattle.rules_law.proofs.Among.{Told, among_left, among_right, unless_told}
 use Rattle.rules_law.proofs.Fits.{and_false_left, and_false_right, number_no, pointer_no}
@@ -39,13 +42,15 @@ use Rattle.rules_law.proofs.Fits.{operands_no, operand_no, gift_no, assignment_n
 use Rattle.rules_law.proofs.Own.{own, own_initial, own_local, own_field}
 use Rattle.rules_law.proofs.Own.{not_le, not_same, first_not, is_the_first}
 use Rattle.rules_law.proofs.Own.{among_no_int}
+use Rattle.rules_law.proofs.Given.{written_is}
+use Rattle.rules_law.proofs.Kept.{given_kind, given_type, gives_is, given_at}
 
-arrow_listed : (t : Tables) (place : ℕ) (name : Ident) (ty : ValueType) → NoPointer ty
+arrow_listed : (t : Tables) (place : ℕ) (name : Ident) (ty : ValueType) → is_pointer ty ≡ false
     → IsAmong (Told Mismatch place) (arrow_broken t ty place name)
-arrow_listed t place name answered.Int never = inl refl
-arrow_listed t place name (answered.Pointer i) never = absurd (never i (inl refl))
-arrow_listed t place name answered.Null never = inl refl
-arrow_listed t place name answered.Any never = absurd (never 0 (inr refl))
+arrow_listed t place name answered.Int e = inl refl
+arrow_listed t place name (answered.Pointer i) e = absurd (false_true (sym e))
+arrow_listed t place name answered.Null e = inl refl
+arrow_listed t place name answered.Any e = absurd (false_true (sym e))
 
 -- one of the three rules of a call
 call_listed : (t : Tables) (used : Bool) (name : Ident) (all : Arguments) (f : FunctionTree)
@@ -180,7 +185,8 @@ listed {t} (row.no_struct_of_root {i = i} {r = r} is) =
     (unless (nat_eq i 0) r.place Twice) (Told UnknownName r.name.place)
     (unless_told (is_some (struct_named t r.name.text)) r.name.place UnknownName (rw is refl))
 listed {t} (row.no_field {s = s} {base = base} {place = place} {name = name} i is none) =
-    subst (λ ty. IsAmong (Told UnknownName name.place) (arrow_broken t ty place name)) (sym is)
+    subst (λ ty. IsAmong (Told UnknownName name.place) (arrow_broken t ty place name))
+    (sym (given_type t s base (PointerTo i) is))
     (unless_told (is_some (member t i name)) name.place UnknownName (rw none refl))
 listed {t} (row.no_field_of_root {name = name} i is none) =
     subst (λ o. IsAmong (Told UnknownName name.place) (option_map_or
@@ -216,21 +222,25 @@ listed {t} (row.root_again {i = i} {r = r} lt) =
     (unless_told (nat_eq i 0) r.place Twice (not_zero i lt))
 listed {t} (row.operands {s = s} {op = op} {place = place} {a = a} {b = b} never) =
     unless_told (joins_types op (type_of t s a) (type_of t s b)) place Mismatch
-    (operands_no op (type_of t s a) (type_of t s b) never)
+    (operands_no op (Gives t s a) (Gives t s b) (type_of t s a) (type_of t s b) (gives_is t s a)
+    (gives_is t s b) never)
 listed {t} (row.operand {s = s} {op = op} {place = place} {a = a} never) =
-    unless_told (applies op (type_of t s a)) place Mismatch (operand_no op (type_of t s a) never)
+    unless_told (applies op (type_of t s a)) place Mismatch (operand_no op
+    (Gives t s a) (type_of t s a) (gives_is t s a) never)
 listed {t} (row.before_arrow {s = s} {base = base} {place = place} {name = name} never) =
-    arrow_listed t place name (type_of t s base) never
+    arrow_listed t place name (type_of t s base)
+    (pointer_no (Gives t s base) (type_of t s base) (gives_is t s base) never)
 listed {t} (row.before_index {s = s} {base = base} {index = index} {place = place} x is) =
     unless_told (is_indexed (kind_of t s base) && is_int (type_of t s index)) place Mismatch
     (and_false_left (is_indexed (kind_of t s base)) (is_int (type_of t s index))
-    (array_no (kind_of t s base) x is))
+    (array_no (kind_of t s base) x (given_kind t s base x is)))
 listed {t} (row.index {s = s} {base = base} {index = index} {place = place} never) =
     unless_told (is_indexed (kind_of t s base) && is_int (type_of t s index)) place Mismatch
     (and_false_right (is_indexed (kind_of t s base)) (is_int (type_of t s index))
-    (number_no (type_of t s index) never))
-listed {t} (row.not_indexed {s = s} {e = e} {place = place} element is) =
-    subst (λ (k : Kind). IsAmong (Told Mismatch place) (unindexed k)) (sym is) (inl refl)
+    (number_no (Gives t s index) (type_of t s index) (gives_is t s index) never))
+listed {t} (row.not_indexed {s = s} {e = e} {place = place} x is ends) =
+    subst (λ (k : Kind). IsAmong (Told Mismatch place) (unindexed k))
+    (sym (given_at t s e x place is ends)) (inl refl)
 listed {t} (row.void_used {name = name} {all = all} f is none) =
     call_listed t true name all f (Told Mismatch name.place) is
     (void_listed f (argument_count all) name.place none)
@@ -238,28 +248,33 @@ listed {t} (row.assigned {s = s} {target = target} {e = e} {op = op} {place = pl
     among_left (unless (assigns op (type_of t s target) (type_of t s e)) place Mismatch)
     (unless (is_target target) place NotAssignable) (Told Mismatch place)
     (unless_told (assigns op (type_of t s target) (type_of t s e)) place Mismatch
-    (assignment_no op (type_of t s target) (type_of t s e) never))
+    (assignment_no op (Gives t s target) (Gives t s e) (type_of t s target) (type_of t s e)
+    (gives_is t s target) (gives_is t s e) never))
 listed {t} (row.initial {s = s} {d = d} i is never) =
-    initial_listed t s d i is (gift_no (declared_type t d.ty) (type_of t s i.value) never)
+    initial_listed t s d i is (gift_no (IsWritten t d.ty) (Gives t s i.value) (declared_type t d.ty)
+    (type_of t s i.value) (written_is t d.ty) (gives_is t s i.value) never)
 listed {t} (row.stepped {s = s} {target = target} {place = place} never) =
     among_left (unless (is_int (type_of t s target)) place Mismatch)
     (unless (is_target target) place NotAssignable) (Told Mismatch place)
     (unless_told (is_int (type_of t s target)) place Mismatch
-    (number_no (type_of t s target) never))
+    (number_no (Gives t s target) (type_of t s target) (gives_is t s target) never))
 listed {t} (row.passed {s = s} {name = name} {i = i} {first = first} {e = e} f q is at never) =
     let wanted : parameter_type t (parameters_of (function_named t name.text)) i
     ≡ declared_type t q.ty = rw (is, at) refl in
     unless_told (type_takes (parameter_type t (parameters_of (function_named t name.text)) i)
     (type_of t s e)) first Mismatch
     (subst (λ ty. type_takes ty (type_of t s e) ≡ false) (sym wanted)
-    (gift_no (declared_type t q.ty) (type_of t s e) never))
+    (gift_no (IsWritten t q.ty) (Gives t s e) (declared_type t q.ty) (type_of t s e)
+    (written_is t q.ty) (gives_is t s e) never))
 listed row.value_in_void = inl refl
 listed row.no_value = inl refl
 listed {t} (row.returned {s = s} {place = place} {ty = ty} {e = e} never) =
     unless_told (type_takes (declared_type t ty) (type_of t s e)) place Mismatch
-    (gift_no (declared_type t ty) (type_of t s e) never)
+    (gift_no (IsWritten t ty) (Gives t s e) (declared_type t ty) (type_of t s e)
+    (written_is t ty) (gives_is t s e) never)
 listed {t} (row.freed {s = s} {place = place} {e = e} never) =
-    unless_told (is_pointer (type_of t s e)) place Mismatch (pointer_no (type_of t s e) never)
+    unless_told (is_pointer (type_of t s e)) place Mismatch (pointer_no
+    (Gives t s e) (type_of t s e) (gives_is t s e) never)
 listed {t} (row.no_target {s = s} {target = target} {e = e} {op = op} {place = place} is) =
     among_right (unless (assigns op (type_of t s target) (type_of t s e)) place Mismatch)
     (unless (is_target target) place NotAssignable) (Told NotAssignable place)
@@ -314,9 +329,11 @@ listed (row.many_parameters {s = s} {q = q}) =
 listed (row.no_root none) = rw none (inl refl)
 listed {t} (row.tx_void {i = i} {f = f} tx none) = bad_listed t i f tx (no_result t f none)
 listed {t} (row.tx_result {i = i} {f = f} ty tx is never) =
-    bad_listed t i f tx (no_int_result t f ty is (number_no (declared_type t ty) never))
+    bad_listed t i f tx (no_int_result t f ty is (number_no (IsWritten t ty) (declared_type t ty)
+    (written_is t ty) never))
 listed {t} (row.tx_parameter {i = i} {f = f} j q tx is never) =
-    bad_listed t i f tx (no_int_parameter t f j q is (number_no (declared_type t q.ty) never))
+    bad_listed t i f tx (no_int_parameter t f j q is (number_no (IsWritten t q.ty)
+    (declared_type t q.ty) (written_is t q.ty) never))
 listed {t} (row.tx_called {used = used} {name = name} {all = all} f is tx) =
     call_listed t used name all f (Told BadTx name.place) is
     (tx_listed used f (argument_count all) name.place tx)

@@ -29,21 +29,25 @@ use Rattle.c_types.specs.Tables.{function_names, function_named, struct_named, r
 use Rattle.c_types.specs.Tables.{words_of_struct, words_at, is_length, declared_type}
 use Rattle.c_types.specs.Expressions.{Scope, variable_type, variable_broken, member, member_broken}
 use Rattle.c_types.specs.Expressions.{root_broken, arrow_broken, is_indexed, unindexed, kind_of}
-use Rattle.c_types.specs.Expressions.{type_of, pointer_broken, call_broken}
+use Rattle.c_types.specs.Expressions.{type_of, type_of_kind, pointer_broken, call_broken}
 use Rattle.c_types.specs.Expressions.{parameters_of, parameter_type, argument_count}
 use Rattle.c_types.specs.Statements.{is_declared, is_target}
 use Rattle.c_types.specs.Declarations.{length_broken, struct_broken, root_item_broken, all_ints}
 use Rattle.c_types.specs.Declarations.{is_transaction}
 use Rattle.typed_law.proofs.Broken.{false_true, same_from, same_true}
+use Rattle.typed_law.specs.Types.{PointerTo, IsWritten}
 use Rattle.rules_law.specs.Part.{Part}
 use Rattle.rules_law.specs.Part as part
-use Rattle.rules_law.specs.Rules.{Breaks, NoPointer}
+use Rattle.rules_law.specs.Given.{Gives}
+use Rattle.rules_law.specs.Rules.{Breaks}
 use Rattle.rules_law.specs.Rules as row
 use Rattle.rules_law.proofs.Among.{either, one_of, unless_of}
 use Rattle.rules_law.proofs.Fits.{none_of, not_false, and_false, and_false_left, and_false_right}
 use Rattle.rules_law.proofs.Fits.{or_false_left, or_false_right, no_number, no_pointer}
 use Rattle.rules_law.proofs.Fits.{no_operands, no_operand}
 use Rattle.rules_law.proofs.Fits.{no_gift, no_assignment, no_array}
+use Rattle.rules_law.proofs.Given.{written_is}
+use Rattle.rules_law.proofs.Kept.{gives_is, type_given_of, array_at}
 
 -- the rules that an expression breaks, without those of its parts
 abbrev pub own_expression : Tables → List Scope → ExprTree → List Broken
@@ -179,14 +183,14 @@ arrow_rows : (t : Tables) (s : List Scope) (base : ExprTree) (place : ℕ) (name
     → Breaks t (part.Expression s (expr.Arrow base place name)) b.rule b.place
 arrow_rows t s base place name b answered.Int is h =
     one_of (Breaks t (part.Expression s (expr.Arrow base place name))) b place Mismatch h
-    (row.before_arrow (no_pointer (type_of t s base) (ap is_pointer is)))
+    (row.before_arrow (no_pointer (Gives t s base) (type_of t s base) (gives_is t s base) (ap is_pointer is)))
 arrow_rows t s base place name b (answered.Pointer i) is h =
     unless_of (Breaks t (part.Expression s (expr.Arrow base place name))) b
     (is_some (member t i name)) name.place UnknownName h
-    (λ e. row.no_field i is (none_of (member t i name) e))
+    (λ e. row.no_field i (type_given_of t s base (PointerTo i) is) (none_of (member t i name) e))
 arrow_rows t s base place name b answered.Null is h =
     one_of (Breaks t (part.Expression s (expr.Arrow base place name))) b place Mismatch h
-    (row.before_arrow (no_pointer (type_of t s base) (ap is_pointer is)))
+    (row.before_arrow (no_pointer (Gives t s base) (type_of t s base) (gives_is t s base) (ap is_pointer is)))
 arrow_rows t s base place name b answered.Any is h = absurd h
 
 index_rows : (t : Tables) (s : List Scope) (base index : ExprTree) (place : ℕ)
@@ -197,8 +201,9 @@ index_rows t s base index place e =
   where
     by : (is_indexed (kind_of t s base) ≡ false) ⊎ (is_int (type_of t s index) ≡ false)
         → Breaks t (part.Expression s (expr.Index base place index)) Mismatch place
-    by (inl e) = let x = no_array (kind_of t s base) e in row.before_index x.0 x.1
-    by (inr e) = row.index (no_number (type_of t s index) e)
+    by (inl e) = let x = no_array (kind_of t s base) e in
+        row.before_index x.0 (type_given_of t s base x.0 (ap type_of_kind x.1))
+    by (inr e) = row.index (no_number (Gives t s index) (type_of t s index) (gives_is t s index) e)
 
 rows_expression : (t : Tables) (s : List Scope) (e : ExprTree) (b : Broken)
     → IsAmong b (own_expression t s e) → Breaks t (part.Expression s e) b.rule b.place
@@ -220,17 +225,19 @@ rows_expression t s (expr.Index base place index) b h =
 rows_expression t s (expr.Unary op place a) b h =
     unless_of (Breaks t (part.Expression s (expr.Unary op place a))) b
     (applies op (type_of t s a)) place Mismatch h
-    (λ e. row.operand (no_operand op (type_of t s a) e))
+    (λ e. row.operand (no_operand op (Gives t s a) (type_of t s a) (gives_is t s a) e))
 rows_expression t s (expr.Binary op place x y) b h =
     unless_of (Breaks t (part.Expression s (expr.Binary op place x y))) b
     (joins_types op (type_of t s x) (type_of t s y)) place Mismatch h
-    (λ e. row.operands (no_operands op (type_of t s x) (type_of t s y) e))
+    (λ e. row.operands (no_operands op (Gives t s x) (Gives t s y) (type_of t s x) (type_of t s y)
+    (gives_is t s x) (gives_is t s y) e))
 
 rows_value : (t : Tables) (s : List Scope) (e : ExprTree) (b : Broken) (k : Kind)
     → kind_of t s e ≡ k → IsAmong b (unindexed k) → Breaks t (part.Value s e) b.rule b.place
 rows_value t s e b (kind.Value ty) is h = absurd h
 rows_value t s e b (kind.Array element place) is h =
-    one_of (Breaks t (part.Value s e)) b place Mismatch h (row.not_indexed element is)
+    let x = array_at t s e element place is in
+    one_of (Breaks t (part.Value s e)) b place Mismatch h (row.not_indexed x.0 x.2 x.3)
 
 rows_pointer : (t : Tables) (name : Ident) (b : Broken) (o : Option ℕ)
     → struct_named t name.text ≡ o
@@ -278,7 +285,8 @@ passed_case : (t : Tables) (s : List Scope) (name : Ident) (i first : ℕ) (e : 
     → Breaks t (part.Argument s name i first e) Mismatch first
 passed_case t s name i first e f None is at e1 = absurd (false_true (sym e1))
 passed_case t s name i first e f (Some q) is at e1 =
-    row.passed f q is at (no_gift (declared_type t q.ty) (type_of t s e) e1)
+    row.passed f q is at (no_gift (IsWritten t q.ty) (Gives t s e) (declared_type t q.ty)
+    (type_of t s e) (written_is t q.ty) (gives_is t s e) e1)
 
 passed_rows : (t : Tables) (s : List Scope) (name : Ident) (i first : ℕ) (e : ExprTree)
     (o : Option FunctionTree) → function_named t name.text ≡ o
@@ -296,20 +304,21 @@ rows_simple t s (stmt.Assign target op place e) b h =
     either (unless (assigns op (type_of t s target) (type_of t s e)) place Mismatch)
     (unless (is_target target) place NotAssignable) b h
     (λ h. unless_of P b (assigns op (type_of t s target) (type_of t s e)) place Mismatch h
-    (λ n. row.assigned (no_assignment op (type_of t s target) (type_of t s e) n)))
+    (λ n. row.assigned (no_assignment op (Gives t s target) (Gives t s e) (type_of t s target)
+    (type_of t s e) (gives_is t s target) (gives_is t s e) n)))
     (λ h. unless_of P b (is_target target) place NotAssignable h (λ n. row.no_target n))
 rows_simple t s (stmt.Step target op place) b h =
     let P : Rule → ℕ → Type 0 = Breaks t (part.Simple s (stmt.Step target op place)) in
     either (unless (is_int (type_of t s target)) place Mismatch)
     (unless (is_target target) place NotAssignable) b h
     (λ h. unless_of P b (is_int (type_of t s target)) place Mismatch h
-    (λ n. row.stepped (no_number (type_of t s target) n)))
+    (λ n. row.stepped (no_number (Gives t s target) (type_of t s target) (gives_is t s target) n)))
     (λ h. unless_of P b (is_target target) place NotAssignable h
     (λ n. row.no_target_stepped n))
 rows_simple t s (stmt.Call name all) b h = absurd h
 rows_simple t s (stmt.Free place e) b h =
     unless_of (Breaks t (part.Simple s (stmt.Free place e))) b (is_pointer (type_of t s e)) place
-    Mismatch h (λ n. row.freed (no_pointer (type_of t s e) n))
+    Mismatch h (λ n. row.freed (no_pointer (Gives t s e) (type_of t s e) (gives_is t s e) n))
 rows_simple t s (stmt.Abort place) b h = absurd h
 
 initial_rows : (t : Tables) (s : List Scope) (d : DeclarationTree) (b : Broken)
@@ -320,7 +329,8 @@ initial_rows t s d b None is h = absurd h
 initial_rows t s d b (Some i) is h =
     unless_of (Breaks t (part.Local s d)) b
     (type_takes (declared_type t d.ty) (type_of t s i.value)) i.place Mismatch h
-    (λ n. row.initial i is (no_gift (declared_type t d.ty) (type_of t s i.value) n))
+    (λ n. row.initial i is (no_gift (IsWritten t d.ty) (Gives t s i.value) (declared_type t d.ty)
+    (type_of t s i.value) (written_is t d.ty) (gives_is t s i.value) n))
 
 rows_local : (t : Tables) (s : List Scope) (d : DeclarationTree) (b : Broken)
     → IsAmong b (own_local t s d) → Breaks t (part.Local s d) b.rule b.place
@@ -342,7 +352,8 @@ rows_return t (Some ty) s place None b h =
 rows_return t (Some ty) s place (Some e) b h =
     unless_of (Breaks t (part.Returned (Some ty) s place (Some e))) b
     (type_takes (declared_type t ty) (type_of t s e)) place Mismatch h
-    (λ n. row.returned (no_gift (declared_type t ty) (type_of t s e) n))
+    (λ n. row.returned (no_gift (IsWritten t ty) (Gives t s e) (declared_type t ty)
+    (type_of t s e) (written_is t ty) (gives_is t s e) n))
 
 -- the rows of declarations
 length_rows : (t : Tables) (s : StructTree) (j : ℕ) (f : FieldTree) (b : Broken)
@@ -465,10 +476,12 @@ tx_rows t i f (Some ty) tx is e =
   where
     by : (is_int (declared_type t ty) ≡ false) ⊎ (all_ints t f.parameters ≡ false)
         → Breaks t (part.Function i f) BadTx f.name.place
-    by (inl e) = row.tx_result ty tx is (no_number (declared_type t ty) e)
+    by (inl e) = row.tx_result ty tx is
+        (no_number (IsWritten t ty) (declared_type t ty) (written_is t ty) e)
     by (inr e) =
         let q = no_int_among t f.parameters e in
-        row.tx_parameter q.0 q.1 tx q.2 (no_number (declared_type t q.1.ty) q.3)
+        row.tx_parameter q.0 q.1 tx q.2
+        (no_number (IsWritten t q.1.ty) (declared_type t q.1.ty) (written_is t q.1.ty) q.3)
 
 many_functions_at : (t : Tables) (i : ℕ) (f : FunctionTree) → not (nat_eq i 1024) ≡ false
     → Breaks t (part.Function i f) (TooBig limit.Functions 1025) f.name.place

@@ -1,16 +1,20 @@
 -- The types that expressions have in a program that may break rules, as rules. An expression that
 -- has none is *any*: it breaks a rule itself, or a part of it has none. These are the rules of
 -- typed_law but for one: an argument for a parameter of a refused type may have any type.
-use Rattle.std.specs.Prelude.{ℕ, ◌≡◌, List, [], ◌∷◌, Some, false}
+use Rattle.std.specs.Prelude.{ℕ, ◌≡◌, ◌⊎◌, List, [], ◌∷◌, Some, false}
 use Rattle.c_tree.specs.ExprTree.{ExprTree, Arguments}
 use Rattle.c_tree.specs.ExprTree as expr
 use Rattle.c_tree.specs.StmtTree.{TypeTree}
 use Rattle.c_tree.specs.ItemTree.{FunctionTree, ParameterTree}
-use Rattle.c_types.specs.Tables.{Tables, function_named, root_struct, declared_type}
+use Rattle.c_types.specs.Tables.{Tables, function_named, root_struct}
 use Rattle.c_types.specs.Expressions.{Scope, variable_type}
 use Rattle.typed_law.specs.Types.{StaticType, Number, PointerTo, NullPointer, value_type, IsPointer}
 use Rattle.typed_law.specs.Types.{IsWritten, HasValueField, HasArray, Applies, Joins, AcceptsType}
-use Rattle.rules_law.specs.Rules.{MayBe}
+
+-- Something whose type F says may have the type x: it has, or it has none, since it was refused. So
+-- a rule that no type keeps is broken, and one that some type would keep isn't.
+abbrev pub MayBe : (F : StaticType → Type 0) → StaticType → Type 0
+MayBe F x = F x ⊎ ((y : StaticType) → F y → ⊥)
 
 abbrev mutual
   pub Gives : Tables → List Scope → ExprTree → StaticType → Type 0
@@ -54,7 +58,7 @@ abbrev mutual
   AreTaken t s [] (expr.More first e rest) = ⊥
   AreTaken t s (q ∷ qs) expr.None = ⊥
   AreTaken t s (q ∷ qs) (expr.More first e rest) = AreTaken t s qs rest
-      × (x : StaticType) × (y : StaticType) × MayBe (declared_type t q.ty) x × Gives t s e y
+      × (x : StaticType) × (y : StaticType) × MayBe (IsWritten t q.ty) x × Gives t s e y
       × AcceptsType x y
 
 -- the name of the field that an expression ends with stands at that place

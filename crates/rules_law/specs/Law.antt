@@ -12,6 +12,7 @@ use Rattle.c_types.specs.Broken.{is_before, least_broken}
 use Rattle.c_types.specs.LeastLaw.{IsAmong}
 use Rattle.c_types.specs.Fault.{breaks}
 use Rattle.typed_law.specs.Types.{StaticType, value_type}
+use Rattle.typed_law.specs.Expressions.{HasType}
 use Rattle.rules_law.specs.Part.{Part}
 use Rattle.rules_law.specs.Stands.{StandsIn}
 use Rattle.rules_law.specs.Rules.{Breaks}
@@ -42,3 +43,8 @@ TypesLaw = (t : Tables) (s : List Scope) (e : ExprTree) (x : StaticType) →
 abbrev pub ArraysLaw : Type 0
 ArraysLaw = (t : Tables) (s : List Scope) (e : ExprTree) (x : StaticType) (n : ℕ) →
     kind_of t s e ≡ kind.Array (value_type x) n ↔ (GivesArray t s e x × EndsAt e n)
+
+-- a type that an expression has by the rules of typed_law is one that it has by these
+abbrev pub TypedLaw : Type 0
+TypedLaw = (t : Tables) (s : List Scope) (e : ExprTree) (x : StaticType) →
+    HasType t s e x → Gives t s e x

@@ -1,6 +1,6 @@
 -- The typing rules, a case for each row of their table: which part breaks which rule, at the token
 -- of which place. Each rule has the number that docs/LANGUAGE.md gives it.
-use Rattle.std.specs.Prelude.{ℕ, ◌≡◌, ◌≢◌, ◌<◌, ◌⊎◌, List, [], Bool, true, false, None, Some}
+use Rattle.std.specs.Prelude.{ℕ, ◌≡◌, ◌≢◌, ◌<◌, List, [], Bool, true, false, None, Some}
 use Rattle.std.specs.Prelude.{length, slice_get}
 use Rattle.std.specs.Int.{w64, cast_unsigned}
 use Rattle.c_tree.specs.ExprTree.{ExprTree, Arguments, Ident}
@@ -17,47 +17,43 @@ use Rattle.c_types.specs.declared.broken.Rule.{Rule}
 use Rattle.c_types.specs.declared.broken.Rule.TheVariants.{UnknownName, Twice, Mismatch}
 use Rattle.c_types.specs.declared.broken.Rule.TheVariants.{NotAssignable, Arity, TooBig, NoRoot}
 use Rattle.c_types.specs.declared.broken.Rule.TheVariants.{BadTx}
-use Rattle.c_types.specs.declared.value_type.ValueType.{ValueType}
-use Rattle.c_types.specs.declared.value_type.ValueType.TheVariants as answered
-use Rattle.c_types.specs.declared.value_type.Kind.TheVariants as kind
 use Rattle.c_types.specs.Tables.{Tables, StructTree, RootTree, index_of, field_names}
 use Rattle.c_types.specs.Tables.{function_names, function_named, struct_named, root_struct}
-use Rattle.c_types.specs.Tables.{words_of_struct, words_at, is_length, declared_type}
-use Rattle.c_types.specs.Expressions.{Scope, variable_type, member, kind_of, type_of}
-use Rattle.c_types.specs.Expressions.{argument_count}
+use Rattle.c_types.specs.Tables.{words_of_struct, words_at, is_length}
+use Rattle.c_types.specs.Expressions.{Scope, variable_type, member, argument_count}
 use Rattle.c_types.specs.Statements.{is_declared, is_target}
-use Rattle.typed_law.specs.Types.{StaticType, Number, PointerTo, value_type, Applies, Joins}
+use Rattle.typed_law.specs.Types.{StaticType, Number, PointerTo, IsWritten, Applies, Joins}
 use Rattle.typed_law.specs.Types.{AcceptsType}
 use Rattle.typed_law.specs.Statements.{IsAssigned}
+use Rattle.rules_law.specs.Given.{MayBe, Gives, GivesArray, EndsAt}
 use Rattle.rules_law.specs.Part.{Part}
 use Rattle.rules_law.specs.Part as part
 
--- Something of type ty may be of type x: it is, or ty is *any*, since a part of it was refused. So a
--- row that asks for no two types that fit isn't broken for the refused part's sake alone.
-abbrev pub MayBe : ValueType → StaticType → Type 0
-MayBe ty x = (ty ≡ value_type x) ⊎ (ty ≡ answered.Any)
+-- Conditions on what has types as F and G say. A refused part may have any type, so none of these
+-- holds for its sake alone.
 
--- no type of it is taken by the operator
-abbrev pub NoOperand : UnaryOp → ValueType → Type 0
-NoOperand op a = (x : StaticType) → MayBe a x → Applies op x → ⊥
+-- the operator takes no type that F may be
+abbrev pub NoOperand : UnaryOp → (F : StaticType → Type 0) → Type 0
+NoOperand op F = (x : StaticType) → MayBe F x → Applies op x → ⊥
 
--- no two types of them are joined by the operator
-abbrev pub NoOperands : BinaryOp → (a b : ValueType) → Type 0
-NoOperands op a b = (x y : StaticType) → MayBe a x → MayBe b y → Joins op x y → ⊥
+-- the operator joins no two types that F and G may be
+abbrev pub NoOperands : BinaryOp → (F G : StaticType → Type 0) → Type 0
+NoOperands op F G = (x y : StaticType) → MayBe F x → MayBe G y → Joins op x y → ⊥
 
--- no type of the value is given to one of the target, by `=`, `+=` or `-=`
-abbrev pub NoAssignment : AssignOp → (target value : ValueType) → Type 0
-NoAssignment op a b = (x y : StaticType) → MayBe a x → MayBe b y → IsAssigned op x y → ⊥
+-- a target of F takes no value of G, by `=`, `+=` or `-=`
+abbrev pub NoAssignment : AssignOp → (F G : StaticType → Type 0) → Type 0
+NoAssignment op F G = (x y : StaticType) → MayBe F x → MayBe G y → IsAssigned op x y → ⊥
 
-abbrev pub NoGift : (target value : ValueType) → Type 0
-NoGift a b = (x y : StaticType) → MayBe a x → MayBe b y → AcceptsType x y → ⊥
+-- what is declared as F takes no value of G
+abbrev pub NoGift : (F G : StaticType → Type 0) → Type 0
+NoGift F G = (x y : StaticType) → MayBe F x → MayBe G y → AcceptsType x y → ⊥
 
-abbrev pub NoNumber : ValueType → Type 0
-NoNumber a = MayBe a Number → ⊥
+abbrev pub NoNumber : (F : StaticType → Type 0) → Type 0
+NoNumber F = MayBe F Number → ⊥
 
--- null isn't one
-abbrev pub NoPointer : ValueType → Type 0
-NoPointer a = (i : ℕ) → MayBe a (PointerTo i) → ⊥
+-- null isn't a pointer
+abbrev pub NoPointer : (F : StaticType → Type 0) → Type 0
+NoPointer F = (i : ℕ) → MayBe F (PointerTo i) → ⊥
 
 pub data Breaks (t : Tables) : Part → Rule → (place : ℕ) → Type 0 where
   -- 1, unknown name: a variable, function, struct or field isn't there; the name
@@ -70,7 +66,7 @@ pub data Breaks (t : Tables) : Part → Rule → (place : ℕ) → Type 0 where
   no_struct_of_root : {i : ℕ} {r : RootTree} → struct_named t r.name.text ≡ None
       → Breaks t (part.Root i r) UnknownName r.name.place
   no_field : {s : List Scope} {base : ExprTree} {place : ℕ} {name : Ident} (i : ℕ)
-      → type_of t s base ≡ answered.Pointer i → member t i name ≡ None
+      → Gives t s base (PointerTo i) → member t i name ≡ None
       → Breaks t (part.Expression s (expr.Arrow base place name)) UnknownName name.place
   no_field_of_root : {s : List Scope} {name : Ident} (i : ℕ)
       → root_struct t ≡ Some i → member t i name ≡ None
@@ -95,25 +91,25 @@ pub data Breaks (t : Tables) : Part → Rule → (place : ℕ) → Type 0 where
   -- 3, mismatch: operands of arithmetic, bits, shifts or an order that aren't ints, or of `==` and
   -- `!=` that don't compare; the operator
   operands : {s : List Scope} {op : BinaryOp} {place : ℕ} {a b : ExprTree}
-      → NoOperands op (type_of t s a) (type_of t s b)
+      → NoOperands op (Gives t s a) (Gives t s b)
       → Breaks t (part.Expression s (expr.Binary op place a b)) Mismatch place
   -- an operand of unary `-` or `~` isn't an int; the operator
   operand : {s : List Scope} {op : UnaryOp} {place : ℕ} {a : ExprTree}
-      → NoOperand op (type_of t s a)
+      → NoOperand op (Gives t s a)
       → Breaks t (part.Expression s (expr.Unary op place a)) Mismatch place
   -- what comes before `->` isn't a pointer; `->`
   before_arrow : {s : List Scope} {base : ExprTree} {place : ℕ} {name : Ident}
-      → NoPointer (type_of t s base)
+      → NoPointer (Gives t s base)
       → Breaks t (part.Expression s (expr.Arrow base place name)) Mismatch place
   -- what comes before `[` is no array field, or the index isn't an int; `[`
   before_index : {s : List Scope} {base index : ExprTree} {place : ℕ} (x : StaticType)
-      → kind_of t s base ≡ kind.Value (value_type x)
+      → Gives t s base x
       → Breaks t (part.Expression s (expr.Index base place index)) Mismatch place
-  index : {s : List Scope} {base index : ExprTree} {place : ℕ} → NoNumber (type_of t s index)
+  index : {s : List Scope} {base index : ExprTree} {place : ℕ} → NoNumber (Gives t s index)
       → Breaks t (part.Expression s (expr.Index base place index)) Mismatch place
   -- an array field isn't indexed; the field's name
-  not_indexed : {s : List Scope} {e : ExprTree} {place : ℕ} (element : ValueType)
-      → kind_of t s e ≡ kind.Array element place → Breaks t (part.Value s e) Mismatch place
+  not_indexed : {s : List Scope} {e : ExprTree} {place : ℕ} (x : StaticType)
+      → GivesArray t s e x → EndsAt e place → Breaks t (part.Value s e) Mismatch place
   -- the result of a void function is used; the call's name
   void_used : {name : Ident} {all : Arguments} (f : FunctionTree)
       → function_named t name.text ≡ Some f → f.result_type ≡ None
@@ -121,20 +117,20 @@ pub data Breaks (t : Tables) : Part → Rule → (place : ℕ) → Type 0 where
   -- a value is assigned to something of another type, where it isn't null for a pointer; `+=` or
   -- `-=` on what isn't an int, or with what isn't one; the operator
   assigned : {s : List Scope} {target e : ExprTree} {op : AssignOp} {place : ℕ}
-      → NoAssignment op (type_of t s target) (type_of t s e)
+      → NoAssignment op (Gives t s target) (Gives t s e)
       → Breaks t (part.Simple s (stmt.Assign target op place e)) Mismatch place
   -- or it is given at first; `=`
   initial : {s : List Scope} {d : DeclarationTree} (i : InitialTree)
-      → d.initial ≡ Some i → NoGift (declared_type t d.ty) (type_of t s i.value)
+      → d.initial ≡ Some i → NoGift (IsWritten t d.ty) (Gives t s i.value)
       → Breaks t (part.Local s d) Mismatch i.place
   -- `++` or `--` on what isn't an int; the operator
   stepped : {s : List Scope} {target : ExprTree} {op : StepOp} {place : ℕ}
-      → NoNumber (type_of t s target)
+      → NoNumber (Gives t s target)
       → Breaks t (part.Simple s (stmt.Step target op place)) Mismatch place
   -- an argument isn't what could be assigned to the parameter; its first token
   passed : {s : List Scope} {name : Ident} {i first : ℕ} {e : ExprTree} (f : FunctionTree)
       (q : ParameterTree) → function_named t name.text ≡ Some f → slice_get f.parameters i ≡ Some q
-      → NoGift (declared_type t q.ty) (type_of t s e)
+      → NoGift (IsWritten t q.ty) (Gives t s e)
       → Breaks t (part.Argument s name i first e) Mismatch first
   -- `return` has a value in a void function, none in another, or one that the result's type doesn't
   -- take; `return`
@@ -143,10 +139,10 @@ pub data Breaks (t : Tables) : Part → Rule → (place : ℕ) → Type 0 where
   no_value : {s : List Scope} {place : ℕ} {ty : TypeTree}
       → Breaks t (part.Returned (Some ty) s place None) Mismatch place
   returned : {s : List Scope} {place : ℕ} {ty : TypeTree} {e : ExprTree}
-      → NoGift (declared_type t ty) (type_of t s e)
+      → NoGift (IsWritten t ty) (Gives t s e)
       → Breaks t (part.Returned (Some ty) s place (Some e)) Mismatch place
   -- `pm_free` of what isn't a pointer; `pm_free`
-  freed : {s : List Scope} {place : ℕ} {e : ExprTree} → NoPointer (type_of t s e)
+  freed : {s : List Scope} {place : ℕ} {e : ExprTree} → NoPointer (Gives t s e)
       → Breaks t (part.Simple s (stmt.Free place e)) Mismatch place
   -- 4, not assignable: the target is no variable, no field of the root or after `->`, and no element
   -- of one; the operator
@@ -188,10 +184,10 @@ pub data Breaks (t : Tables) : Part → Rule → (place : ℕ) → Type 0 where
   tx_void : {i : ℕ} {f : FunctionTree} → f.tx ≡ true → f.result_type ≡ None
       → Breaks t (part.Function i f) BadTx f.name.place
   tx_result : {i : ℕ} {f : FunctionTree} (ty : TypeTree) → f.tx ≡ true
-      → f.result_type ≡ Some ty → NoNumber (declared_type t ty)
+      → f.result_type ≡ Some ty → NoNumber (IsWritten t ty)
       → Breaks t (part.Function i f) BadTx f.name.place
   tx_parameter : {i : ℕ} {f : FunctionTree} (j : ℕ) (q : ParameterTree) → f.tx ≡ true
-      → slice_get f.parameters j ≡ Some q → NoNumber (declared_type t q.ty)
+      → slice_get f.parameters j ≡ Some q → NoNumber (IsWritten t q.ty)
       → Breaks t (part.Function i f) BadTx f.name.place
   -- a `tx` is called; the call's name
   tx_called : {used : Bool} {name : Ident} {all : Arguments} (f : FunctionTree)

@@ -1,5 +1,5 @@
 use Rattle.rules_law.proofs.Laws.{rows_law, told_law}
-use Rattle.rules_law.proofs.Kept.{types_law, arrays_law}
+use Rattle.rules_law.proofs.Kept.{types_law, arrays_law, typed_law}
 use Rattle.rules_law.proofs.law.Goals as goal
 
 pub returns-clause-rows : goal.returns-clause-rows
@@ -13,3 +13,6 @@ returns-clause-types c = types_law
 
 pub returns-clause-arrays : goal.returns-clause-arrays
 returns-clause-arrays c = arrays_law
+
+pub returns-clause-typed : goal.returns-clause-typed
+returns-clause-typed c = typed_law
