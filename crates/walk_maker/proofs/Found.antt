@@ -1,6 +1,6 @@
 -- What a search gives: a walk, or none where there is none.
 use Rattle.std.proofs.Common.{◌≡◌, ◌<◌, ◌+◌, ℕ, zero, suc, true, List, [], ◌∷◌}
-use Rattle.std.proofs.Common.{Option, Some, None, length, refl, sym, ◌∙◌, subst, arith}
+use Rattle.std.proofs.Common.{Result, Ok, Err, IfOk, Option, Some, None, length, refl, sym, ◌∙◌, subst, arith}
 use Rattle.std.specs.Prelude.{slice_get, position, get_or}
 use Rattle.std.proofs.lemmas.Bool.{false≢true, and_parts, and_from, eqb-true}
 use Rattle.std.proofs.lemmas.Option.{slice_get-get_or, slice_get_within}
@@ -27,14 +27,14 @@ use Rattle.walk_maker.specs.inside.Table.{has}
 use Rattle.walk_maker.specs.inside.Reading.{entry_fact, piece_of, pieces_of}
 use Rattle.walk_maker.specs.inside.Search.{State, state, expanded, later_at, starts_in}
 use Rattle.walk_maker.specs.inside.Search.{starts_at, is_start}
-use Rattle.walk_maker.specs.inside.Search.{Swept, Searched}
-use Rattle.walk_maker.specs.inside.Search.Searched.{found, closed, goes_on}
+use Rattle.walk_maker.specs.inside.Search.{Swept, Searched, Stopped}
+use Rattle.walk_maker.specs.inside.Search.Searched.{found, closed, goes_on, begins_by}
 use Rattle.walk_maker.specs.inside.Reasons.{FactThere, WalkGiven}
 use Rattle.walk_maker.proofs.Grown.{Holds, AllHold, Steps, steps_on, steps_hold, steps_passing}
 use Rattle.walk_maker.proofs.Grown.{steps_grow, steps_has, steps_same, same_spot-refl}
 use Rattle.walk_maker.proofs.Grown.Steps.{still}
 use Rattle.walk_maker.proofs.Read.{piece_read, walk_read}
-use Rattle.walk_maker.proofs.Swept.{steps_swept, swept_still}
+use Rattle.walk_maker.proofs.Swept.{steps_swept, steps_stopped, swept_still}
 use Rattle.walk_maker.proofs.Closing.{spot}
 use Rattle.walk_maker.proofs.Closed.{none_flows}
 use Rattle.walk_maker.proofs.Still.{Has, is_closed}
@@ -84,6 +84,21 @@ module _ (ir : Ir) (goal : Entry) where
         starts = r.starts;
         still = r.still;
       }
+  ended (begins_by w more) all =
+      let first = steps_stopped ir goal w all in
+      let r = ended more (steps_hold ir goal first all) in
+      record {
+        steps = steps_on ir goal first r.steps;
+        starts = r.starts;
+        still = r.still;
+      }
+
+-- a search after a part of a sweep
+pub searched_on : (ir : Ir) (s middle end : State) {E : Type 0} (r : Result (Option ℕ) E)
+    → Stopped ir 0 s middle → IfOk r (λ (n : Option ℕ). Searched ir middle n end)
+    → IfOk r (λ (n : Option ℕ). Searched ir s n end)
+searched_on ir s middle end (Ok n) part more = begins_by part more
+searched_on ir s middle end (Err e) part more = more
 
 -- a start, by its tests
 record Start (ir : Ir) (e : Entry) : Type 0 where

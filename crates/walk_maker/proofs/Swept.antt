@@ -23,8 +23,9 @@ use Rattle.walk_maker.specs.inside.Expand.{all_before_tried, bound_fact, callers
 use Rattle.walk_maker.specs.inside.Search.{State, state, goes_from, is_known}
 use Rattle.walk_maker.specs.inside.Search.{piece_added, aim_table}
 use Rattle.walk_maker.specs.inside.Search.{aim_passed, entered, expanded, expanded_in, later_at}
-use Rattle.walk_maker.specs.inside.Search.{Swept}
+use Rattle.walk_maker.specs.inside.Search.{Swept, Stopped}
 use Rattle.walk_maker.specs.inside.Search.Swept.{ends, goes}
+use Rattle.walk_maker.specs.inside.Search.Stopped.{stops, goes_past}
 use Rattle.walk_maker.proofs.Grown.{AtAim, LinkHolds, AllHold, Adds, Steps, steps_on, adds_steps}
 use Rattle.walk_maker.proofs.Grown.{adds_hold, adds_get, steps_hold, steps_longer}
 use Rattle.walk_maker.proofs.Grown.{steps_same, any_last}
@@ -188,6 +189,13 @@ module _ (ir : Ir) (goal : Entry) where
   steps_swept (goes {n = n} {s = s} {e = e} is more) all =
       let first = steps_expanded (later_at n e) s all is in
       steps_on ir goal first (steps_swept more (steps_hold ir goal first all))
+
+  pub steps_stopped : {n : ℕ} {s end : State} → Stopped ir n s end
+      → AllHold ir goal s.passed s.table → Steps ir goal s end
+  steps_stopped stops all = still
+  steps_stopped (goes_past {n = n} {s = s} {e = e} is more) all =
+      let first = steps_expanded (later_at n e) s all is in
+      steps_on ir goal first (steps_stopped more (steps_hold ir goal first all))
 
   none_past : {X : Type 0} (xs : List X) (n k : ℕ) (x : X) → slice_get xs n ≡ None
       → slice_get xs (n + k) ≡ Some x → ⊥

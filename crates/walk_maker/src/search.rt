@@ -118,6 +118,33 @@ fn sweep(
     Err(AllocError)
 }
 
+/// Goes through the table, also through what it adds, until a walk begins at an entry. So a walk
+/// that is near is found without the rest.
+fn seek(
+    alloc: Global,
+    ir: &Ir,
+    jumps: &AllJumps,
+    table: &mut Table,
+    passed: &mut Pieces,
+) -> Result<(), AllocError>
+    requires well { IsWellFormed ir.now }
+    requires jumps { AreAllJumps ir.now.functions jumps.now }
+    ensures { OnOk result (search.Stopped ir.now 0 (search.state table.old passed.old)
+        (search.state table.new passed.new)) }
+{
+    for number in 0..usize::MAX {
+        let entry = match entry_at(table.as_slice(), number) {
+            None => return Ok(()),
+            Some(entry) => entry,
+        };
+        if is_start(ir.functions.as_slice(), entry) {
+            return Ok(());
+        }
+        expand(alloc, ir, jumps, Later { number, entry }, table, passed)?;
+    }
+    Err(AllocError)
+}
+
 fn starts_in(functions: &[IrFunction], entry: Entry) -> bool
     ensures { result ≡ search.starts_in entry.fact (slice_get functions.now entry.function) }
 {
@@ -144,10 +171,9 @@ fn first_start(functions: &[IrFunction], table: &[Entry]) -> Option<usize>
     table.iter().position(|entry| is_start(functions, *entry))
 }
 
-/// The number of an entry at which a walk begins, if there is any. The table has all entries then
-/// from which one can begin. If that took as many sweeps as no memory holds entries, memory would
-/// lack.
-pub(crate) fn find_start(
+/// Sweeps until there is an entry at which a walk begins, or nothing new is found. If that took as
+/// many sweeps as no memory holds entries, memory would lack.
+fn sweep_on(
     alloc: Global,
     ir: &Ir,
     jumps: &AllJumps,
@@ -171,4 +197,22 @@ pub(crate) fn find_start(
         }
     }
     Err(AllocError)
+}
+
+/// The number of an entry at which a walk begins, if there is any. If there is none, the table has
+/// all entries that lead to the site.
+pub(crate) fn find_start(
+    alloc: Global,
+    ir: &Ir,
+    jumps: &AllJumps,
+    table: &mut Table,
+    passed: &mut Pieces,
+) -> Result<Option<usize>, AllocError>
+    requires well { IsWellFormed ir.now }
+    requires jumps { AreAllJumps ir.now.functions jumps.now }
+    ensures { IfOk result (λ found. search.Searched ir.now (search.state table.old passed.old)
+        found (search.state table.new passed.new)) }
+{
+    seek(alloc, ir, jumps, table, passed)?;
+    sweep_on(alloc, ir, jumps, table, passed)
 }

@@ -76,6 +76,12 @@ pub data Swept (ir : Ir) : ℕ → State → State → Type 0 where
   goes : {n : ℕ} {s end : State} {e : Entry} → slice_get s.table n ≡ Some e
       → Swept ir (n + 1) (expanded ir (later_at n e) s) end → Swept ir n s end
 
+-- .. or before some of the entries from number n on
+pub data Stopped (ir : Ir) : ℕ → State → State → Type 0 where
+  stops : {n : ℕ} {s : State} → Stopped ir n s s
+  goes_past : {n : ℕ} {s end : State} {e : Entry} → slice_get s.table n ≡ Some e
+      → Stopped ir (n + 1) (expanded ir (later_at n e) s) end → Stopped ir n s end
+
 abbrev pub starts_in : WalkFact → Option IrFunction → Bool
 starts_in x None = false
 starts_in x (Some u) = u.tx && same (entry_fact true u x) Here
@@ -89,7 +95,7 @@ starts_at functions e (ToReturn y) = false
 abbrev pub is_start : List IrFunction → Entry → Bool
 is_start functions e = starts_at functions e e.aim
 
--- sweeps until a start is found, or nothing more
+-- a part of a sweep, and then sweeps until a start is found, or nothing more
 pub data Searched (ir : Ir) : State → Option ℕ → State → Type 0 where
   found : {s : State} {n : ℕ} → position (is_start ir.functions) s.table ≡ Some n
       → Searched ir s (Some n) s
@@ -97,4 +103,6 @@ pub data Searched (ir : Ir) : State → Option ℕ → State → Type 0 where
       → length end.table ≡ length s.table → length end.passed ≡ length s.passed
       → Searched ir s None end
   goes_on : {s middle end : State} {n : Option ℕ} → Swept ir 0 s middle
+      → Searched ir middle n end → Searched ir s n end
+  begins_by : {s middle end : State} {n : Option ℕ} → Stopped ir 0 s middle
       → Searched ir middle n end → Searched ir s n end

@@ -1,6 +1,6 @@
 use Rattle.std.proofs.Common.{ℕ, Option}
 use Rattle.walk_maker.specs.inside.Search.{State, state, Searched}
-use Rattle.walk_maker.proofs.search.find_start.Given as goal
+use Rattle.walk_maker.proofs.search.sweep_on.Given as goal
 
 abbrev pub invariant-loop : goal.invariant-loop
 invariant-loop l = (n : Option ℕ) (end : State) → Searched l.ir (state l.table l.passed) n end
