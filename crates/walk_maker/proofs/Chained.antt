@@ -15,15 +15,17 @@ use Rattle.walk_maker.specs.inside.Buckets.{IsChained, AreAbove, IsPast, IsNoted
 use Rattle.walk_maker.specs.inside.Buckets.{or_other, number_or_other}
 use Rattle.walk_maker.proofs.Grown.{last_or_before}
 
-pub bucket_is : (e : Entry)
-    → (e.place + 61 * e.function + 1009 * fact_register e.fact) % 8192 ≡ bucket_of e
+pub bucket_is : (count : ℕ) (e : Entry)
+    → (e.place + 61 * e.function + 1009 * fact_register e.fact) % (count - 1 + 1)
+    ≡ bucket_of count e
 unfolding bucket_of
-bucket_is e = refl
+bucket_is count e = refl
 
 -- entries of the same spot have the same bucket
-pub same_bucket : (x e : Entry) → same_spot x e ≡ true → bucket_of x ≡ bucket_of e
+pub same_bucket : (count : ℕ) (x e : Entry) → same_spot x e ≡ true
+    → bucket_of count x ≡ bucket_of count e
 unfolding bucket_of
-same_bucket x e is =
+same_bucket count x e is =
     let parts = and_parts _ _ is in
     let rest = and_parts _ _ parts.1 in
     let last = and_parts _ _ rest.1 in
@@ -43,19 +45,20 @@ past_end t e m x there past =
     absurd (omega arith)
 
 -- from a number above a bucket's entries on there is none of its spots
-past_above : (t : List Entry) (e : Entry) (n : ℕ) → IsAbove t (bucket_of e) n → IsPast t e n
-past_above t e n above m x there past =
+past_above : (t : List Entry) (count : ℕ) (e : Entry) (n : ℕ)
+    → IsAbove t count (bucket_of count e) n → IsPast t e n
+past_above t count e n above m x there past =
     not_same (same_spot x e) (λ is.
-    let less : m < n = above m x there (same_bucket x e is) in absurd (omega arith))
+    let less : m < n = above m x there (same_bucket count x e is) in absurd (omega arith))
 
-pub past_last : (t : List Entry) (lasts befores : List ℕ) (e : Entry) → IsChained t lasts befores
-    → IsPast t e (number_or_other lasts (bucket_of e) (length t))
-past_last t lasts befores e is = by_option (slice_get lasts (bucket_of e)) refl
+pub past_last : (count : ℕ) (t : List Entry) (lasts befores : List ℕ) (e : Entry) → IsChained count t lasts befores
+    → IsPast t e (number_or_other lasts (bucket_of count e) (length t))
+past_last count t lasts befores e is = by_option (slice_get lasts (bucket_of count e)) refl
   where
-    by_option : (o : Option ℕ) → slice_get lasts (bucket_of e) ≡ o
+    by_option : (o : Option ℕ) → slice_get lasts (bucket_of count e) ≡ o
         → IsPast t e (or_other o (length t))
     by_option None h = past_end t e
-    by_option (Some n) h = past_above t e n (is.above_all (bucket_of e) n h)
+    by_option (Some n) h = past_above t count e n (is.above_all (bucket_of count e) n h)
 
 pub low_or_high : (m k : ℕ) → (m < k) ⊎ (k ≤ m)
 low_or_high m k = by_test (nat_lt m k) refl
@@ -86,26 +89,26 @@ past_one t e y at is other past m x there from =
     (λ (more : at ≤ m). past m x there more) (here_or_past m at from)
 
 -- .. and it goes on before the entries of its bucket
-past_before : (t : List Entry) (e y : Entry) (at n : ℕ) → slice_get t (at - 1) ≡ Some y
-    → same_spot y e ≡ false → bucket_of y ≡ bucket_of e → IsAboveBefore t (at - 1) n
+past_before : (t : List Entry) (count : ℕ) (e y : Entry) (at n : ℕ) → slice_get t (at - 1) ≡ Some y
+    → same_spot y e ≡ false → bucket_of count y ≡ bucket_of count e → IsAboveBefore t count (at - 1) n
     → IsPast t e at → IsPast t e n
-past_before t e y at n is other bucket above past m x there from =
+past_before t count e y at n is other bucket above past m x there from =
     ⊎_elim (λ (low : m < at - 1). not_same (same_spot x e) (λ h.
-    let one : bucket_of x ≡ bucket_of y = same_bucket x e h ∙ sym bucket in
+    let one : bucket_of count x ≡ bucket_of count y = same_bucket count x e h ∙ sym bucket in
     let less : m < n = above m x y is there low one in absurd (omega arith)))
     (λ (high : at - 1 ≤ m). past_one t e y at is other past m x there high) (low_or_high m (at - 1))
 
-pub past_bucket : (t : List Entry) (befores : List ℕ) (e y : Entry) (at : ℕ)
-    → AreAbove t befores → slice_get t (at - 1) ≡ Some y → same_spot y e ≡ false
-    → bucket_of y ≡ bucket_of e → IsPast t e at
+pub past_bucket : (t : List Entry) (count : ℕ) (befores : List ℕ) (e y : Entry) (at : ℕ)
+    → AreAbove t count befores → slice_get t (at - 1) ≡ Some y → same_spot y e ≡ false
+    → bucket_of count y ≡ bucket_of count e → IsPast t e at
     → IsPast t e (number_or_other befores (at - 1) (at - 1))
-past_bucket t befores e y at all is other bucket past =
+past_bucket t count befores e y at all is other bucket past =
     by_option (slice_get befores (at - 1)) refl
   where
     by_option : (o : Option ℕ) → slice_get befores (at - 1) ≡ o
         → IsPast t e (or_other o (at - 1))
     by_option None h = past_one t e y at is other past
-    by_option (Some n) h = past_before t e y at n is other bucket (all (at - 1) n h) past
+    by_option (Some n) h = past_before t count e y at n is other bucket (all (at - 1) n h) past
 
 -- no entry at all is of the spot
 pub none_left : (t : List Entry) (e : Entry) → IsPast t e 0 → has t e ≡ false
@@ -138,22 +141,23 @@ set_found (y ∷ xs) (suc i) (suc j) v x is =
     ⊎_elim (λ p. let same : j ≡ i = p.0 in inl (ap suc same, p.1))
     (λ p. inr ((λ (e : suc j ≡ suc i). p.0 cc), p.1)) (set_found xs i j v x is)
 
-module _ (t : List Entry) (e : Entry) (h : ℕ) (above : IsAbove t (bucket_of e) h) where
-  above_end : (lasts : List ℕ) (b n : ℕ) → ((c k : ℕ) → slice_get lasts c ≡ Some k → IsAbove t c k)
-      → slice_get (slice_set lasts (bucket_of e) (length t + 1)) b ≡ Some n
-      → IsAbove (t ++ e ∷ []) b n
+module _ (t : List Entry) (count : ℕ) (e : Entry) (h : ℕ)
+    (above : IsAbove t count (bucket_of count e) h) where
+  above_end : (lasts : List ℕ) (b n : ℕ) → ((c k : ℕ) → slice_get lasts c ≡ Some k → IsAbove t count c k)
+      → slice_get (slice_set lasts (bucket_of count e) (length t + 1)) b ≡ Some n
+      → IsAbove (t ++ e ∷ []) count b n
   above_end lasts b n all is m x there bucket =
       ⊎_elim (λ p. let n_is : length t + 1 ≡ n = p.1 in
       ⊎_elim (λ (old : slice_get t m ≡ Some x).
       let within : m < length t = slice_get_within t m x old in omega arith)
       (λ q. let m_is : m ≡ length t = q.0 in omega arith) (last_or_before t e m x there))
       (λ p. ⊎_elim (λ (old : slice_get t m ≡ Some x). all b n p.1 m x old bucket)
-      (λ q. let same : b ≡ bucket_of e = sym bucket ∙ ap bucket_of (sym q.1) in
+      (λ q. let same : b ≡ bucket_of count e = sym bucket ∙ ap (bucket_of count) (sym q.1) in
       absurd (p.0 same)) (last_or_before t e m x there))
-      (set_found lasts (bucket_of e) b (length t + 1) n is)
+      (set_found lasts (bucket_of count e) b (length t + 1) n is)
 
   -- of the entries before one of the old ones nothing changes
-  before_old : (k n : ℕ) → k < length t → IsAboveBefore t k n → IsAboveBefore (t ++ e ∷ []) k n
+  before_old : (k n : ℕ) → k < length t → IsAboveBefore t count k n → IsAboveBefore (t ++ e ∷ []) count k n
   before_old k n less all m x y is there low bucket =
       let y_old : slice_get t k ≡ Some y = old k y less is in
       let m_less : m < length t = omega arith in
@@ -164,17 +168,17 @@ module _ (t : List Entry) (e : Entry) (h : ℕ) (above : IsAbove t (bucket_of e)
       old j z less is = ⊎_elim (λ (h : slice_get t j ≡ Some z). h)
           (λ q. let j_is : j ≡ length t = q.0 in absurd (omega arith)) (last_or_before t e j z is)
 
-  before_new : (k : ℕ) → k ≡ length t → IsAboveBefore (t ++ e ∷ []) k h
+  before_new : (k : ℕ) → k ≡ length t → IsAboveBefore (t ++ e ∷ []) count k h
   before_new k k_is m x y is there low bucket =
       ⊎_elim (λ (h : slice_get t k ≡ Some y).
       let within : k < length t = slice_get_within t k y h in absurd (omega arith))
       (λ q. ⊎_elim (λ (old : slice_get t m ≡ Some x).
-      above m x old (bucket ∙ ap bucket_of (sym q.1)))
+      above m x old (bucket ∙ ap (bucket_of count) (sym q.1)))
       (λ r. let m_is : m ≡ length t = r.0 in absurd (omega arith)) (last_or_before t e m x there))
       (last_or_before t e k y is)
 
-  kept_same : (lasts befores : List ℕ) → IsChained t lasts befores
-      → IsChained (t ++ e ∷ []) (slice_set lasts (bucket_of e) (length t + 1)) befores
+  kept_same : (lasts befores : List ℕ) → IsChained count t lasts befores
+      → IsChained count (t ++ e ∷ []) (slice_set lasts (bucket_of count e) (length t + 1)) befores
   kept_same lasts befores is = record {
     above_all = λ b n. above_end lasts b n is.above_all;
     not_longer =
@@ -186,8 +190,8 @@ module _ (t : List Entry) (e : Entry) (h : ℕ) (above : IsAbove t (bucket_of e)
         before_old k n (omega arith) (is.above_before k n there);
   }
 
-  kept_more : (lasts befores : List ℕ) → IsChained t lasts befores → length befores ≡ length t
-      → IsChained (t ++ e ∷ []) (slice_set lasts (bucket_of e) (length t + 1)) (befores ++ h ∷ [])
+  kept_more : (lasts befores : List ℕ) → IsChained count t lasts befores → length befores ≡ length t
+      → IsChained count (t ++ e ∷ []) (slice_set lasts (bucket_of count e) (length t + 1)) (befores ++ h ∷ [])
   kept_more lasts befores is whole = record {
     above_all = λ b n. above_end lasts b n is.above_all;
     not_longer =
@@ -199,46 +203,53 @@ module _ (t : List Entry) (e : Entry) (h : ℕ) (above : IsAbove t (bucket_of e)
         let within : k < length befores = slice_get_within befores k n old in
         before_old k n (omega arith) (is.above_before k n old))
         (λ q. let k_is : k ≡ length t = q.0 ∙ whole in
-        subst (λ v. IsAboveBefore (t ++ e ∷ []) k v) q.1 (before_new k k_is))
+        subst (λ v. IsAboveBefore (t ++ e ∷ []) count k v) q.1 (before_new k k_is))
         (last_or_before befores h k n there);
   }
 
-  kept_either : (lasts befores new : List ℕ) → IsChained t lasts befores
+  kept_either : (lasts befores new : List ℕ) → IsChained count t lasts befores
       → IsNotedAt befores (length t) h new
-      → IsChained (t ++ e ∷ []) (slice_set lasts (bucket_of e) (length t + 1)) new
+      → IsChained count (t ++ e ∷ []) (slice_set lasts (bucket_of count e) (length t + 1)) new
   kept_either lasts befores new is kept =
       ⊎_elim (λ (same : new ≡ befores).
-      subst (λ bs. IsChained (t ++ e ∷ []) (slice_set lasts (bucket_of e) (length t + 1)) bs)
+      subst (λ bs. IsChained count (t ++ e ∷ []) (slice_set lasts (bucket_of count e) (length t + 1)) bs)
       (sym same) (kept_same lasts befores is))
-      (λ p. subst (λ bs. IsChained (t ++ e ∷ [])
-      (slice_set lasts (bucket_of e) (length t + 1)) bs) (sym p.1)
+      (λ p. subst (λ bs. IsChained count (t ++ e ∷ [])
+      (slice_set lasts (bucket_of count e) (length t + 1)) bs) (sym p.1)
       (kept_more lasts befores is p.0)) kept
 
-above_last : (t : List Entry) (lasts befores : List ℕ) (e : Entry) → IsChained t lasts befores
-    → IsAbove t (bucket_of e) (number_or_other lasts (bucket_of e) (length t))
-above_last t lasts befores e is = by_option (slice_get lasts (bucket_of e)) refl
+above_last : (count : ℕ) (t : List Entry) (lasts befores : List ℕ) (e : Entry) → IsChained count t lasts befores
+    → IsAbove t count (bucket_of count e) (number_or_other lasts (bucket_of count e) (length t))
+above_last count t lasts befores e is = by_option (slice_get lasts (bucket_of count e)) refl
   where
-    by_option : (o : Option ℕ) → slice_get lasts (bucket_of e) ≡ o
-        → IsAbove t (bucket_of e) (or_other o (length t))
+    by_option : (o : Option ℕ) → slice_get lasts (bucket_of count e) ≡ o
+        → IsAbove t count (bucket_of count e) (or_other o (length t))
     by_option None h = λ m x there bucket. slice_get_within t m x there
-    by_option (Some n) h = is.above_all (bucket_of e) n h
+    by_option (Some n) h = is.above_all (bucket_of count e) n h
 
 -- with an entry at the end
-pub pushed : (t all : List Entry) (lasts ends befores new : List ℕ) (e : Entry) (h : ℕ)
-    → IsChained t lasts befores → all ≡ t ++ e ∷ []
-    → h ≡ number_or_other lasts (bucket_of e) (length t) → IsNotedAt befores (length t) h new
-    → ends ≡ slice_set lasts (bucket_of e) (length t + 1) → IsChained all ends new
-pushed t all lasts ends befores new e h is all_is h_is kept ends_is =
-    let above : IsAbove t (bucket_of e) h =
-    subst (λ n. IsAbove t (bucket_of e) n) (sym h_is) (above_last t lasts befores e is) in
-    subst (λ xs. IsChained xs ends new) (sym all_is)
-    (subst (λ ls. IsChained (t ++ e ∷ []) ls new) (sym ends_is)
-    (kept_either t e h above lasts befores new is kept))
+pub pushed : (count : ℕ) (t all : List Entry) (lasts ends befores new : List ℕ) (e : Entry) (h : ℕ)
+    → IsChained count t lasts befores → all ≡ t ++ e ∷ []
+    → h ≡ number_or_other lasts (bucket_of count e) (length t) → IsNotedAt befores (length t) h new
+    → ends ≡ slice_set lasts (bucket_of count e) (length t + 1) → IsChained count all ends new
+pushed count t all lasts ends befores new e h is all_is h_is kept ends_is =
+    let above : IsAbove t count (bucket_of count e) h =
+    subst (λ n. IsAbove t count (bucket_of count e) n) (sym h_is) (above_last count t lasts befores e is) in
+    subst (λ xs. IsChained count xs ends new) (sym all_is)
+    (subst (λ ls. IsChained count (t ++ e ∷ []) ls new) (sym ends_is)
+    (kept_either t count e h above lasts befores new is kept))
 
 -- a table without entries
-pub nothing_there : (lasts : List ℕ) → IsChained [] lasts []
-nothing_there lasts = record {
+pub nothing_there : (count : ℕ) (lasts : List ℕ) → IsChained count [] lasts []
+nothing_there count lasts = record {
   above_all = λ b n is m x there. absurd cc;
   not_longer = omega arith;
   above_before = λ k n there. absurd cc;
 }
+
+pub length_set : {X : Type 0} (xs : List X) (i : ℕ) (x : X)
+    → length (slice_set xs i x) ≡ length xs
+length_set [] zero x = refl
+length_set [] (suc i) x = refl
+length_set (y ∷ xs) zero x = refl
+length_set (y ∷ xs) (suc i) x = ap suc (length_set xs i x)

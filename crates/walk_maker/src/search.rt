@@ -8,7 +8,7 @@ ghost use Rattle.walk_maker.specs.inside.Search as search;
 use crate::expand::{Later, try_all_before, try_callers};
 use crate::jumps::AllJumps;
 use crate::reading::{entry_fact, piece_of};
-use crate::table::{Aim, Entry, Table, entry_at};
+use crate::table::{Aim, Entry, Table, entry_at, make_room};
 use ir::{Fact as WalkFact, Ir, IrFunction};
 use std::alloc::{AllocError, Global};
 use walk_check::{Piece, Pieces, first_fact, last_fact, same};
@@ -90,6 +90,7 @@ fn expand(
     let Some(body) = ir.functions.as_slice().get(later.entry.function as usize) else {
         return Ok(());
     };
+    make_room(alloc, table)?;
     try_all_before(ir, jumps, passed.as_slice(), body, later, table)?;
     try_entry(alloc, ir, body, later, table, passed)
 }

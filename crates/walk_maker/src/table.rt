@@ -1,6 +1,6 @@
 //! The table of a search: the spots from which a walk can reach its aim, each with how it goes on.
 
-ghost use Rattle.std.specs.Prelude.{◌≡◌, ◌++◌, ◌∷◌, ◌<◌, [], ℕ, OnOk, IfOk, Some, slice_get, slice_set};
+ghost use Rattle.std.specs.Prelude.{◌≡◌, ◌++◌, ◌∷◌, ◌<◌, [], ℕ, length, OnOk, IfOk, Some, slice_get, slice_set};
 ghost use Rattle.walk_maker.specs.inside.Table as table;
 ghost use Rattle.walk_maker.specs.inside.Buckets as buckets;
 
@@ -36,8 +36,8 @@ pub(crate) struct Entry {
     pub(crate) link: Link,
 }
 
-/// How many buckets there are.
-const BUCKETS: usize = 8192;
+/// How many buckets a new table has.
+const BUCKETS: usize = 1024;
 
 /// The entries, in the order in which they were found: those near the aim first. A spot is sought
 /// among the entries of its bucket alone, from the last one back.
@@ -52,7 +52,7 @@ pub(crate) struct Table {
 }
 
 impl Model for Table {
-    ghost use Rattle.std.specs.Prelude.{List};
+    ghost use Rattle.std.specs.Prelude.{List, length};
     ghost use Rattle.walk_maker.specs.declared.table.Entry.{Entry};
     ghost use Rattle.walk_maker.specs.inside.Buckets.{IsChained};
 
@@ -60,7 +60,7 @@ impl Model for Table {
 
     ghost view = { λ t. t.all };
 
-    ghost invariant = { λ t. IsChained t.all t.lasts t.befores };
+    ghost invariant = { λ t. IsChained (length t.lasts) t.all t.lasts t.befores };
 }
 
 /// What is known of a spot after a look at one entry: it is in the table, or it isn't, or it isn't
@@ -77,19 +77,31 @@ impl Table {
     pub(crate) fn of(alloc: Global, entry: Entry) -> Result<Self, AllocError>
         ensures { IfOk result (λ t. t ≡ entry ∷ []) }
     {
-        let mut table = Table::empty(alloc)?;
+        let mut table = Table::empty(alloc, BUCKETS)?;
         table.push(entry)?;
         Ok(table)
     }
 
-    fn empty(alloc: Global) -> Result<Self, AllocError>
+    /// The table without entries, with so many buckets.
+    #[tactic(auto, using(crate::proofs::Chained::nothing_there))]
+    fn empty(alloc: Global, buckets: usize) -> Result<Self, AllocError>
         ensures { IfOk result (λ t. t ≡ []) }
     {
         Ok(Table {
             all: List::new(alloc),
-            lasts: zeros(alloc)?,
+            lasts: zeros(alloc, buckets)?,
             befores: List::new(alloc),
         })
+    }
+
+    /// Whether the buckets have more than two entries each, taken together.
+    fn is_crowded(&self) -> bool {
+        self.all.as_slice().len() / 2 > self.lasts.as_slice().len()
+    }
+
+    /// How many buckets a table with more room has.
+    fn more_buckets(&self) -> usize {
+        self.lasts.as_slice().len().saturating_mul(8)
     }
 
     /// The entries.
@@ -122,10 +134,31 @@ impl Table {
     }
 }
 
+/// The table of some entries, with so many buckets.
+fn table_of(alloc: Global, entries: &[Entry], buckets: usize) -> Result<Table, AllocError>
+    ensures { IfOk result (λ t. t ≡ entries.now) }
+{
+    let mut table = Table::empty(alloc, buckets)?;
+    for entry in entries {
+        table.push(*entry)?;
+    }
+    Ok(table)
+}
+
+/// Gives a table more buckets, if it has many entries for those that it has.
+pub(crate) fn make_room(alloc: Global, table: &mut Table) -> Result<(), AllocError>
+    ensures { OnOk result (table.new ≡ table.old) }
+{
+    if table.is_crowded() {
+        *table = table_of(alloc, table.as_slice(), table.more_buckets())?;
+    }
+    Ok(())
+}
+
 /// A 0 for each bucket.
-fn zeros(alloc: Global) -> Result<List<usize>, AllocError> {
+fn zeros(alloc: Global, buckets: usize) -> Result<List<usize>, AllocError> {
     let mut numbers = List::new(alloc);
-    for _ in 0..BUCKETS {
+    for _ in 0..buckets {
         numbers.push(0)?;
     }
     Ok(numbers)
@@ -177,12 +210,12 @@ fn put(
     befores: &mut List<usize>,
     entry: Entry,
 ) -> Result<(), AllocError>
-    requires { buckets.IsChained all.old lasts.old befores.old }
-    ensures chained { buckets.IsChained all.new lasts.new befores.new }
+    requires { buckets.IsChained (length lasts.old) all.old lasts.old befores.old }
+    ensures chained { buckets.IsChained (length lasts.new) all.new lasts.new befores.new }
     ensures done { OnOk result (all.new ≡ all.old ++ entry ∷ []) }
 {
     let count = all.as_slice().len();
-    let bucket = bucket_of(entry);
+    let bucket = bucket_of(lasts.as_slice().len(), entry);
     let last = number_at(lasts, bucket, count);
     all.push(entry)?;
     keep_at(befores, count, last);
@@ -191,9 +224,9 @@ fn put(
 }
 
 /// Looks at the entry before a number, from which on there is no entry of the spot.
-fn look_before(all: &[Entry], befores: &List<usize>, entry: Entry, at: usize) -> Look
+fn look_before(all: &[Entry], befores: &List<usize>, count: usize, entry: Entry, at: usize) -> Look
     requires past { buckets.IsPast all.now entry at }
-    requires befores { buckets.AreAbove all.now befores.now }
+    requires befores { buckets.AreAbove all.now count befores.now }
     ensures { buckets.LookTells all.now entry result }
 {
     if at == 0 {
@@ -205,7 +238,7 @@ fn look_before(all: &[Entry], befores: &List<usize>, entry: Entry, at: usize) ->
     if same_spot(known, entry) {
         return Look::Known;
     }
-    if bucket_of(known) == bucket_of(entry) {
+    if bucket_of(count, known) == bucket_of(count, entry) {
         Look::Below(number_at(befores, at - 1, at - 1))
     } else {
         Look::Below(at - 1)
@@ -214,12 +247,13 @@ fn look_before(all: &[Entry], befores: &List<usize>, entry: Entry, at: usize) ->
 
 /// Whether an entry's spot is in a table, which keeps these numbers.
 fn has_chained(all: &[Entry], lasts: &List<usize>, befores: &List<usize>, entry: Entry) -> bool
-    requires { buckets.IsChained all.now lasts.now befores.now }
+    requires { buckets.IsChained (length lasts.now) all.now lasts.now befores.now }
     ensures { result ≡ table.has all.now entry }
 {
-    let mut at = number_at(lasts, bucket_of(entry), all.len());
+    let count = lasts.as_slice().len();
+    let mut at = number_at(lasts, bucket_of(count, entry), all.len());
     for _ in 0..all.len() {
-        match look_before(all, befores, entry, at) {
+        match look_before(all, befores, count, entry, at) {
             Look::Known => return true,
             Look::New => return false,
             Look::Below(next) => at = next,
@@ -262,14 +296,16 @@ fn register_of(fact: WalkFact) -> u32
     }
 }
 
-/// The bucket of an entry's spot, by its function, its place, and the register of its fact.
+/// Of so many buckets the one of an entry's spot, by its function, its place, and the register of
+/// its fact.
 #[tactic(auto, using(crate::proofs::Chained::bucket_is))]
-fn bucket_of(entry: Entry) -> usize
-    ensures { result ≡ buckets.bucket_of entry }
+fn bucket_of(count: usize, entry: Entry) -> usize
+    ensures { result ≡ buckets.bucket_of count entry }
 {
+    let count = count.saturating_sub(1) as u64 + 1;
     let function = 61 * u64::from(entry.function);
     let register = 1009 * u64::from(register_of(entry.fact));
-    ((u64::from(entry.place) + function + register) % 8192) as usize
+    ((u64::from(entry.place) + function + register) % count) as usize
 }
 
 /// Adds an entry, unless its spot is in the table.

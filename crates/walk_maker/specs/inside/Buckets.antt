@@ -1,5 +1,5 @@
 -- The buckets of spots, and what a table keeps so that a spot is sought in its bucket alone.
-use Rattle.std.specs.Prelude.{◌≡◌, ◌+◌, ◌*◌, ◌%◌, ◌<◌, ◌≤◌, ◌⊎◌, ◌++◌, ℕ, true, false, List, []}
+use Rattle.std.specs.Prelude.{◌≡◌, ◌+◌, ◌-◌, ◌*◌, ◌%◌, ◌<◌, ◌≤◌, ◌⊎◌, ◌++◌, ℕ, true, false, List, []}
 use Rattle.std.specs.Prelude.{◌∷◌, Option, Some, None, length, slice_get}
 use Rattle.ir.specs.declared.fact.Fact.{Fact}
 use Rattle.ir.specs.declared.fact.Fact.TheVariants.{Here, Unwritten, RootUnwritten, ReadRoot}
@@ -18,28 +18,31 @@ fact_register (ReadRoot x) = 0
 fact_register (ReadField s x) = 0
 fact_register Freed = 0
 
-unfoldable pub bucket_of : Entry → ℕ
-bucket_of e = (e.place + 61 * e.function + 1009 * fact_register e.fact) % 8192
+-- of so many buckets the one of an entry's spot
+unfoldable pub bucket_of : (count : ℕ) → Entry → ℕ
+bucket_of count e =
+    (e.place + 61 * e.function + 1009 * fact_register e.fact) % (count - 1 + 1)
 
 -- the number is above the numbers of a bucket's entries
-abbrev pub IsAbove : List Entry → (bucket n : ℕ) → Type 0
-IsAbove t bucket n =
-    (m : ℕ) (x : Entry) → slice_get t m ≡ Some x → bucket_of x ≡ bucket → m < n
+abbrev pub IsAbove : List Entry → (count bucket n : ℕ) → Type 0
+IsAbove t count bucket n =
+    (m : ℕ) (x : Entry) → slice_get t m ≡ Some x → bucket_of count x ≡ bucket → m < n
 
 -- the number is above those of the entries before entry k that are of its bucket
-abbrev pub IsAboveBefore : List Entry → (k n : ℕ) → Type 0
-IsAboveBefore t k n = (m : ℕ) (x y : Entry) → slice_get t k ≡ Some y → slice_get t m ≡ Some x
-    → m < k → bucket_of x ≡ bucket_of y → m < n
+abbrev pub IsAboveBefore : List Entry → (count k n : ℕ) → Type 0
+IsAboveBefore t count k n = (m : ℕ) (x y : Entry) → slice_get t k ≡ Some y
+    → slice_get t m ≡ Some x → m < k → bucket_of count x ≡ bucket_of count y → m < n
 
 -- each of the numbers is above those of the entries before its own that are of its bucket
-abbrev pub AreAbove : List Entry → (befores : List ℕ) → Type 0
-AreAbove t befores = (k n : ℕ) → slice_get befores k ≡ Some n → IsAboveBefore t k n
+abbrev pub AreAbove : List Entry → (count : ℕ) → (befores : List ℕ) → Type 0
+AreAbove t count befores =
+    (k n : ℕ) → slice_get befores k ≡ Some n → IsAboveBefore t count k n
 
 -- each number that is kept is above what it is to be above
-pub record IsChained (t : List Entry) (lasts befores : List ℕ) : Type 0 where
-  pub above_all : (b n : ℕ) → slice_get lasts b ≡ Some n → IsAbove t b n
+pub record IsChained (count : ℕ) (t : List Entry) (lasts befores : List ℕ) : Type 0 where
+  pub above_all : (b n : ℕ) → slice_get lasts b ≡ Some n → IsAbove t count b n
   pub not_longer : length befores ≤ length t
-  pub above_before : AreAbove t befores
+  pub above_before : AreAbove t count befores
 
 abbrev pub or_other : Option ℕ → ℕ → ℕ
 or_other None other = other

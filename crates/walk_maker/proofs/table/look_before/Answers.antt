@@ -25,9 +25,10 @@ pub returns-then-bucket_of : goal.returns-then-bucket_of
 returns-then-bucket_of c =
     let is : slice_get c.args.all.now (c.args.at - 1) ≡ Some c.in-Some.known = search rules in
     let other : same_spot c.in-Some.known c.args.entry ≡ false = search rules in
-    let bucket : bucket_of c.in-Some.known ≡ bucket_of c.args.entry = search rules in
+    let bucket : bucket_of c.args.count c.in-Some.known ≡ bucket_of c.args.count c.args.entry =
+    search rules in
     subst (λ n. IsPast c.args.all.now c.args.entry n) (sym c.number_at.ensures)
-    (past_bucket c.args.all.now c.args.befores.now c.args.entry c.in-Some.known c.args.at
+    (past_bucket c.args.all.now c.args.count c.args.befores.now c.args.entry c.in-Some.known c.args.at
     c.requires.befores is other bucket c.requires.past)
 
 pub returns-else-bucket_of : goal.returns-else-bucket_of
