@@ -20,7 +20,8 @@ use Rattle.typed_law.specs.Statements.{IsAssigned}
 use Rattle.typed_law.proofs.Broken.{false_true, and_left, and_right, same_from}
 use Rattle.typed_law.proofs.Fitting.{joined_fits, taken_fits}
 use Rattle.rules_law.specs.Given.{MayBe}
-use Rattle.rules_law.specs.Rules.{NoOperand, NoOperands, NoAssignment, NoGift, NoNumber, NoPointer}
+use Rattle.rules_law.specs.Rules.{NoOperand, NoOperands, NoAssignment, NoGift, NoNumber}
+use Rattle.rules_law.specs.Rules.{NoPointer}
 
 -- a test that holds where something does fails exactly where that doesn't
 pub fails : (b : Bool) (P : Type 0) → (P → b ≡ true) → b ≡ false → P → ⊥
@@ -230,13 +231,13 @@ true_joins binary.And a b e = true_numbers a b e
 true_joins binary.Xor a b e = true_numbers a b e
 true_joins binary.Or a b e = true_numbers a b e
 
-pub no_operands : (op : BinaryOp) (F G : StaticType → Type 0) (a b : ValueType) → IsOf F a → IsOf G b
-    → joins_types op a b ≡ false → NoOperands op F G
+pub no_operands : (op : BinaryOp) (F G : StaticType → Type 0) (a b : ValueType) → IsOf F a
+    → IsOf G b → joins_types op a b ≡ false → NoOperands op F G
 no_operands op F G a b is same e x y m n h =
     false_true (sym e ∙ joins_true op a b x y (can_be F a is x m) (can_be G b same y n) h)
 
-pub operands_no : (op : BinaryOp) (F G : StaticType → Type 0) (a b : ValueType) → IsOf F a → IsOf G b
-    → NoOperands op F G → joins_types op a b ≡ false
+pub operands_no : (op : BinaryOp) (F G : StaticType → Type 0) (a b : ValueType) → IsOf F a
+    → IsOf G b → NoOperands op F G → joins_types op a b ≡ false
 operands_no op F G a b is same never = failed (joins_types op a b) (Pair a b (Joins op))
     (true_joins op a b)
     (λ h. never h.0 h.1 (may_be F a is h.0 h.2) (may_be G b same h.1 h.3) h.4)
@@ -292,13 +293,13 @@ true_takes (Pointer i) b e =
 true_takes Null b e = (NullPointer, NullPointer, inl refl, null_pair b e, inl refl)
 true_takes Any b e = let y = some_type b in (y.0, y.0, inr refl, y.1, inl refl)
 
-pub no_gift : (F G : StaticType → Type 0) (a b : ValueType) → IsOf F a → IsOf G b
-    → type_takes a b ≡ false → NoGift F G
+pub no_gift : (F G : StaticType → Type 0) (a b : ValueType) → IsOf F a
+    → IsOf G b → type_takes a b ≡ false → NoGift F G
 no_gift F G a b is same e x y m n h =
     false_true (sym e ∙ takes_true a b x y (can_be F a is x m) (can_be G b same y n) h)
 
-pub gift_no : (F G : StaticType → Type 0) (a b : ValueType) → IsOf F a → IsOf G b
-    → NoGift F G → type_takes a b ≡ false
+pub gift_no : (F G : StaticType → Type 0) (a b : ValueType) → IsOf F a
+    → IsOf G b → NoGift F G → type_takes a b ≡ false
 gift_no F G a b is same never = failed (type_takes a b) (Pair a b AcceptsType)
     (true_takes a b)
     (λ h. never h.0 h.1 (may_be F a is h.0 h.2) (may_be G b same h.1 h.3) h.4)
@@ -315,13 +316,13 @@ true_assigns assign.Set a b e = true_takes a b e
 true_assigns assign.Add a b e = true_numbers a b e
 true_assigns assign.Sub a b e = true_numbers a b e
 
-pub no_assignment : (op : AssignOp) (F G : StaticType → Type 0) (a b : ValueType) → IsOf F a → IsOf G b
-    → assigns op a b ≡ false → NoAssignment op F G
+pub no_assignment : (op : AssignOp) (F G : StaticType → Type 0) (a b : ValueType) → IsOf F a
+    → IsOf G b → assigns op a b ≡ false → NoAssignment op F G
 no_assignment op F G a b is same e x y m n h =
     false_true (sym e ∙ assigns_true op a b x y (can_be F a is x m) (can_be G b same y n) h)
 
-pub assignment_no : (op : AssignOp) (F G : StaticType → Type 0) (a b : ValueType) → IsOf F a → IsOf G b
-    → NoAssignment op F G → assigns op a b ≡ false
+pub assignment_no : (op : AssignOp) (F G : StaticType → Type 0) (a b : ValueType) → IsOf F a
+    → IsOf G b → NoAssignment op F G → assigns op a b ≡ false
 assignment_no op F G a b is same never = failed (assigns op a b) (Pair a b (IsAssigned op))
     (true_assigns op a b)
     (λ h. never h.0 h.1 (may_be F a is h.0 h.2) (may_be G b same h.1 h.3) h.4)

@@ -13,7 +13,8 @@ use Rattle.c_types.specs.Tables.{Tables}
 use Rattle.c_types.specs.Tables.{declared_type}
 use Rattle.c_types.specs.Expressions.{Scope, type_of_kind, member_kind}
 use Rattle.c_types.specs.Expressions.{parameter_type, argument_count, kind_of, all_taken, type_of}
-use Rattle.typed_law.specs.Types.{StaticType, Number, PointerTo, value_type, IsWritten, HasValueField}
+use Rattle.typed_law.specs.Types.{StaticType, Number, PointerTo, value_type, IsWritten}
+use Rattle.typed_law.specs.Types.{HasValueField}
 use Rattle.typed_law.specs.Types.{HasArray}
 use Rattle.typed_law.proofs.Broken.{same_true}
 use Rattle.typed_law.proofs.Fitting.{no_any, applied_fits, joined_fits, pointer_is, declared_is}

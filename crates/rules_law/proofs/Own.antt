@@ -183,14 +183,16 @@ arrow_rows : (t : Tables) (s : List Scope) (base : ExprTree) (place : ℕ) (name
     → Breaks t (part.Expression s (expr.Arrow base place name)) b.rule b.place
 arrow_rows t s base place name b answered.Int is h =
     one_of (Breaks t (part.Expression s (expr.Arrow base place name))) b place Mismatch h
-    (row.before_arrow (no_pointer (Gives t s base) (type_of t s base) (gives_is t s base) (ap is_pointer is)))
+    (row.before_arrow (no_pointer (Gives t s base) (type_of t s base) (gives_is t s base)
+    (ap is_pointer is)))
 arrow_rows t s base place name b (answered.Pointer i) is h =
     unless_of (Breaks t (part.Expression s (expr.Arrow base place name))) b
     (is_some (member t i name)) name.place UnknownName h
     (λ e. row.no_field i (type_given_of t s base (PointerTo i) is) (none_of (member t i name) e))
 arrow_rows t s base place name b answered.Null is h =
     one_of (Breaks t (part.Expression s (expr.Arrow base place name))) b place Mismatch h
-    (row.before_arrow (no_pointer (Gives t s base) (type_of t s base) (gives_is t s base) (ap is_pointer is)))
+    (row.before_arrow (no_pointer (Gives t s base) (type_of t s base) (gives_is t s base)
+    (ap is_pointer is)))
 arrow_rows t s base place name b answered.Any is h = absurd h
 
 index_rows : (t : Tables) (s : List Scope) (base index : ExprTree) (place : ℕ)

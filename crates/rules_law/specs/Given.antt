@@ -1,6 +1,7 @@
 -- The types that expressions have in a program that may break rules, as rules. An expression that
--- has none is *any*: it breaks a rule itself, or a part of it has none. These are the rules of
--- typed_law but for one: an argument for a parameter of a refused type may have any type.
+-- has none is *any*: it breaks a rule itself, or a part of it has none, or it is an array field.
+-- These are the rules of typed_law but for one: an argument for a parameter of a refused type may
+-- have any type.
 use Rattle.std.specs.Prelude.{ℕ, ◌≡◌, ◌⊎◌, List, [], ◌∷◌, Some, false}
 use Rattle.c_tree.specs.ExprTree.{ExprTree, Arguments}
 use Rattle.c_tree.specs.ExprTree as expr

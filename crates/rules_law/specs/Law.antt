@@ -1,5 +1,5 @@
--- The laws of the typing rules: what `c_types` lists is what the rows give, and the one that is told
--- is the least of them by place, number and limit.
+-- The laws of the typing rules: what `c_types` lists is what the rows give, and the one that is
+-- told is the least of them by place, number and limit.
 use Rattle.std.specs.Prelude.{ℕ, ◌≡◌, ◌↔◌, List, false, length, Option, None, Some}
 use Rattle.c_tree.specs.ExprTree.{ExprTree}
 use Rattle.c_tree.specs.Program.{Program, tree_of}

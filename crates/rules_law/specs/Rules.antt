@@ -144,8 +144,8 @@ pub data Breaks (t : Tables) : Part → Rule → (place : ℕ) → Type 0 where
   -- `pm_free` of what isn't a pointer; `pm_free`
   freed : {s : List Scope} {place : ℕ} {e : ExprTree} → NoPointer (Gives t s e)
       → Breaks t (part.Simple s (stmt.Free place e)) Mismatch place
-  -- 4, not assignable: the target is no variable, no field of the root or after `->`, and no element
-  -- of one; the operator
+  -- 4, not assignable: the target is no variable, no field of the root or after `->`, and no
+  -- element of one; the operator
   no_target : {s : List Scope} {target e : ExprTree} {op : AssignOp} {place : ℕ}
       → is_target target ≡ false
       → Breaks t (part.Simple s (stmt.Assign target op place e)) NotAssignable place
