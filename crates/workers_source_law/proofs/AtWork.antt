@@ -1,0 +1,366 @@
+-- A worker that is in a transaction: how its compartment stands to the one in which the transaction
+-- began, and what the source says when it ends.
+use Rattle.std.proofs.Common.{◌≡◌, ℕ, zero, suc, ◌+◌, ◌-◌, ◌^◌, ◌<◌, ◌≤◌, Bool, true}
+use Rattle.std.proofs.Common.{false, ◌&&◌, ◌==◌, if◌then◌else◌, List, [], length, Some}
+use Rattle.std.proofs.Common.{None, ℤ, pos, refl, sym, ap, ◌∙◌, subst, arith}
+use Rattle.cache_model.specs.Event.{CacheEvent}
+use Rattle.cache_model.specs.Cache.{Words, Cache, view}
+use Rattle.cache_model.specs.Play.{play}
+use Rattle.cache_model.specs.Image.{Images}
+use Rattle.pmem.specs.Device.{Device}
+use Rattle.pool_layout.specs.declared.places.TheConstants.{DONE, ATTEMPT, MARK}
+use Rattle.pool_layout.specs.Good.{Lost, Good}
+use Rattle.pool_map.specs.declared.trap.TrapKind.{TrapKind}
+use Rattle.pool_map.specs.declared.trap.TrapKind.TheVariants as trap
+use Rattle.pool_map.specs.Trap.{trap_number}
+use Rattle.pm_machine.specs.declared.effect.End.{End}
+use Rattle.pm_machine.specs.declared.effect.End.TheVariants.{Halted, Trapped}
+use Rattle.pm_machine.specs.declared.image.Image.{Image}
+use Rattle.pm_machine.specs.Effects.{heap_end, events_of, records_past}
+use Rattle.pm_machine.specs.Machine.{State, StepOutcome, Goes, Ends, step, start}
+use Rattle.pm_machine.specs.Runs.{heap_in, due, owing}
+use Rattle.crash_law.specs.Law.{IsAtRest, IsCut, AreMarked}
+use Rattle.run_law.specs.Seen.{result_of, E, W}
+use Rattle.tx_run.specs.declared.standing.Standing.TheVariants as stands
+use Rattle.tx_run.specs.Standing.{is_number, standing_of}
+use Rattle.tx_run.specs.declared.answer.CallAnswer.{CallAnswer}
+use Rattle.tx_run.specs.declared.answer.CallAnswer.TheVariants as called
+use Rattle.tx_run.specs.Due.{due_seal, due_call}
+use Rattle.tx_run.specs.Called.{Called, IsTxCalled}
+use Rattle.cut_law.specs.Law.{call_of, pool_with, BeginsOn, RunsSound}
+use Rattle.pool_workers.specs.declared.answer.TurnAnswer.{TurnAnswer}
+use Rattle.pool_workers.specs.declared.task.Task.{Task}
+use Rattle.pool_workers.specs.declared.task.Task.TheVariants.{Begun, Running, Ending, Cut}
+use Rattle.pool_workers.specs.Task.{going, stepped_task, task_past}
+use Rattle.pool_workers.specs.Task.{end_answer, piece_of, IsTask, IsUncut, IsUncutOr, WentWhole}
+use Rattle.workers_law.specs.AsCall.{begun_task}
+use Rattle.workers_law.specs.Fate.{fate_of, task_logs, task_steps}
+use Rattle.workers_law.specs.Fenced.{fenced_cache}
+use Rattle.workers_law.specs.Standing.{ShowsPlayed, ShowsSome, TaskStands}
+use Rattle.workers_law.proofs.Powers.{fenced}
+use Rattle.workers_law.proofs.Stands.{turns, shown_images}
+use Rattle.workers_law.proofs.Fates.{fates}
+use Rattle.workers_law.proofs.CutsTurned.{cut_turns}
+use Rattle.workers_law.proofs.AsCalls as ascalls
+use Rattle.workers_law.specs.Phases.{InPhase}
+use Rattle.workers_law.proofs.Phases.{phases}
+use Rattle.workers_source_law.proofs.Phases.{rest_lacks, rest_number}
+use Rattle.pmem.proofs.Refused.{all_cache}
+use Rattle.cnvm_session.specs.declared.mode.Mode.TheVariants as mode
+use Rattle.cnvm_session.specs.declared.program.Program.{Program}
+use Rattle.cnvm_session.specs.Commands.{tx_parameters}
+use Rattle.cnvm_session.specs.Marks.{rolls_back_of}
+use Rattle.session_law.specs.Source.{sizes_of}
+use Rattle.session_law.specs.Words.{AreWords}
+use Rattle.session_law.specs.Agrees.{Agrees, RunsAs}
+use Rattle.session_law.specs.State.{Pending, Ready, Unusable, SourceState, standing_as}
+use Rattle.session_law.specs.State.{done_with}
+use Rattle.session_law.specs.Answers.{IsDoneWith, TrapsAs}
+use Rattle.session_law.specs.Holds.{IsResting, OwesOne, Holds}
+use Rattle.session_law.proofs.Words.{held_words}
+use Rattle.session_law.proofs.Ones.{rest_one}
+use Rattle.session_law.proofs.Retired.{count_at}
+use Rattle.session_law.proofs.Reading.{numbers_small, stands_numbers}
+use Rattle.session_law.proofs.Calls.{call_runs}
+use Rattle.workers_source_law.proofs.Stills.{still, AreFewer}
+use Rattle.workers_source_law.proofs.Stills.{rest_stands, rest_same}
+
+-- The compartment's cache c is as some first events of the call left the cache `start`, which was
+-- at rest in this state; the task is what is left, and its fate is that of the whole call.
+pub record IsAtWork (program : Program) (super : Words) (call : Pending) (t : Task) (c : Cache)
+    (s : SourceState) : Type 0 where
+  pub start : Cache
+  pub marked : AreMarked start
+  pub resting : IsResting program super (still start) s
+  pub takes : tx_parameters program.image call.tx ≡ Some (length call.args)
+  pub words : AreWords call.args
+  pub plain : rolls_back_of program call.tx ≡ false
+  pub ready : standing_of (view start) ≡ stands.Ready
+  pub task : IsTask program.image t
+  pub uncut : IsUncut t
+  pub stands : TaskStands program.image call.tx call.args start t c
+  pub fate : fate_of program.image t c
+      ≡ fate_of program.image (begun_task program.image call.tx call.args) start
+  pub logs : task_logs program.image t c
+      ≡ task_logs program.image (begun_task program.image call.tx call.args) start
+  pub phase : InPhase (pos (suc s.done)) t c
+
+-- a run takes at most the steps that it may
+
+owing_few : (image : Image) (a k n : ℕ) (c : Cache) (o : StepOutcome) →
+    ((m : ℕ) (t : State) (d : Cache) → (due image a k m t d).steps ≤ k) →
+    (owing n (events_of image.parts.sizes a n (heap_in image.parts.sizes c))
+    (λ e t. due image a k (records_past n e) t
+    (play c (events_of image.parts.sizes a n (heap_in image.parts.sizes c) e))) o).steps ≤ suc k
+owing_few image a k n c (Ends end) rest = omega arith
+owing_few image a k n c (Goes e t) rest =
+    let later = rest (records_past n e) t
+    (play c (events_of image.parts.sizes a n (heap_in image.parts.sizes c) e)) in
+    omega arith
+
+steps_few : (image : Image) (a k n : ℕ) (s : State) (c : Cache) → (due image a k n s c).steps ≤ k
+steps_few image a zero n s c = omega arith
+steps_few image a (suc k) n s c =
+    owing_few image a k n c (step image n s (heap_in image.parts.sizes c))
+    (λ m t d. steps_few image a k m t d)
+
+call_steps : (image : Image) (tx : ℕ) (args : List ℤ) (c : Cache)
+    → task_steps image (begun_task image tx args) c ≤ image.parts.most
+call_steps image tx args c =
+    let b = play c (due_seal tx args c) in
+    steps_few image _ image.parts.most _ (start image tx args) b
+
+-- a pool that takes calls has numbers in range
+numbers_of : (image : Words) → standing_of image ≡ stands.Ready → image MARK ≡ pos 0
+    → (is_number (image DONE) && is_number (image ATTEMPT)) ≡ true
+numbers_of image ready mark = go (is_number (image DONE) && is_number (image ATTEMPT)) refl
+  where
+    go : (b : Bool) → (is_number (image DONE) && is_number (image ATTEMPT)) ≡ b → b ≡ true
+    go true is = refl
+    go false is = let none = sym ready ∙ stands_numbers image mark is in absurd cc
+
+-- after a turn that wasn't refused the task is uncut
+
+going_uncut : (s : State) (a n k : ℕ) → IsUncut (going s a n k)
+going_uncut s a n k = go (k == 0)
+  where
+    go : (b : Bool) → IsUncut (if b then Ending (Trapped trap.Steps) s.logged else Running s a n k)
+    go true = tt
+    go false = tt
+
+stepped_uncut : (a n k l : ℕ) (o : StepOutcome) → IsUncut (stepped_task a n k l o)
+stepped_uncut a n k l (Goes e t) = going_uncut t a (records_past n e) (k - 1)
+stepped_uncut a n k l (Ends end) = tt
+
+past_uncut : (image : Image) (t : Task) (c : Cache) → IsUncut t → IsUncutOr (task_past image t c)
+past_uncut image (Begun tx args s) c uncut =
+    going_uncut s _ _ image.parts.most
+past_uncut image (Running s a n k) c uncut =
+    stepped_uncut a n k s.logged (step image n s (heap_in image.parts.sizes c))
+past_uncut image (Ending end l) c uncut = tt
+past_uncut image (Cut p) c uncut = absurd uncut
+
+module _ (program : Program) (super : Words) (call : Pending) (s : SourceState) where
+  abbrev due_of : Cache → List CacheEvent
+  due_of c = due_call program.image call.tx call.args c
+
+  -- another worker's fence
+  pub work_fenced : (t : Task) (k : Bool) (c : Cache) → IsAtWork program super call t c s
+      → IsAtWork program super call t (fenced_cache k c) s
+  work_fenced t k c w =
+      let same : view (fenced_cache k c) ≡ view c = (fenced k c).1 in
+      let fate = fates.1 program.image t (fenced_cache k c) c same in
+      record {
+        start = w.start;
+        marked = w.marked;
+        resting = w.resting;
+        takes = w.takes;
+        words = w.words;
+        plain = w.plain;
+        ready = w.ready;
+        task = w.task;
+        uncut = w.uncut;
+        stands = (turns program.image call.tx call.args w.start).2 t c k w.stands;
+        fate = fate.0 ∙ w.fate;
+        logs = fate.1 ∙ w.logs;
+        phase = phases.2 (pos (suc s.done)) t c k w.uncut w.phase;
+      }
+
+  -- its own whole turn
+  pub work_goes : (a : TurnAnswer) (t u : Task) (d b : Device) → IsTask program.image u
+      → IsAtWork program super call t d.cache s → WentWhole a program.image t (Some u) d b
+      → IsAtWork program super call u b.cache s
+  work_goes a t u d b task w went =
+      let played : b.cache ≡ play d.cache (piece_of program.image t d.cache) =
+      all_cache (piece_of program.image t d.cache) d b went.2 in
+      let now = fates.0 program.image t u d.cache w.task w.uncut (sym went.1) in
+      record {
+        start = w.start;
+        marked = w.marked;
+        resting = w.resting;
+        takes = w.takes;
+        words = w.words;
+        plain = w.plain;
+        ready = w.ready;
+        task = task;
+        uncut = subst IsUncutOr (sym went.1) (past_uncut program.image t d.cache w.uncut);
+        stands = (turns program.image call.tx call.args w.start).1 a t (Some u) d b w.task w.stands
+            went;
+        fate = ap (fate_of program.image u) played ∙ now.0 ∙ w.fate;
+        logs = ap (task_logs program.image u) played ∙ now.1 ∙ w.logs;
+        phase = phases.1 program.image (pos (suc s.done)) a t u d b w.uncut w.phase went;
+      }
+
+  -- it begins
+  pub work_begins : (c : Cache) → AreMarked c → IsResting program super (still c) s
+      → tx_parameters program.image call.tx ≡ Some (length call.args) → AreWords call.args
+      → rolls_back_of program call.tx ≡ false → standing_of (view c) ≡ stands.Ready
+      → IsAtWork program super call (begun_task program.image call.tx call.args) c s
+  work_begins c marked resting takes words plain ready = record {
+    start = c;
+    marked = marked;
+    resting = resting;
+    takes = takes;
+    words = words;
+    plain = plain;
+    ready = ready;
+    task = refl;
+    uncut = tt;
+    stands = (turns program.image call.tx call.args c).0;
+    fate = refl;
+    logs = refl;
+    phase = phases.0 program.image (pos (suc s.done)) call.tx call.args c
+        (rest_lacks program super c s resting) (rest_number program super c s resting);
+  }
+
+  module _ (agrees : Agrees program) (t : Task) (c0 : Cache)
+      (w : IsAtWork program super call t c0 s) where
+    abbrev start_of : Cache
+    start_of = w.start
+
+    abbrev h : Words
+    h = heap_in (sizes_of program) start_of
+
+    runs : RunsAs program h call.tx call.args
+    runs = agrees.runs h call.tx call.args w.resting.holds.headers
+        (held_words program h s w.resting.holds) w.words w.takes
+
+    few : (call.tx < 2 ^ 63) × (length call.args ≤ 22)
+    few = agrees.few call.tx (length call.args) w.takes
+
+    good : Good (pool_with program.image super) s.done h (view start_of)
+    good = w.resting.before.good
+
+    small : (s.done < 2 ^ 62) × (good.attempt < 2 ^ 62)
+    small = numbers_small (view start_of) s.done good.attempt good.done good.attempt_is
+        (numbers_of (view start_of) w.ready good.mark)
+
+    begins : BeginsOn program.image super call.tx s.done start_of (view start_of)
+    begins = record {
+      tx_fits = few.0;
+      d_fits = small.0;
+      only = rest_one start_of w.resting.rest;
+      good = good;
+      a_fits = small.1;
+      empty = sym (count_at (sizes_of program) (view start_of) good.attempt good.attempt_is
+          (let fits = good.attempt_fits in omega arith)) ∙ w.resting.empty;
+    }
+
+    sound : RunsSound program.image call.tx call.args h runs.end runs.effects
+    sound = record { few = few.1; ran = runs.ran; sound = runs.sound }
+
+    -- whatever a cut leaves of the compartment, it is as of a cut call
+    pub work_owes : (c : Cache) → ShowsSome (due_of start_of) start_of c
+        → OwesOne program super call (still c) s
+    work_owes c shows =
+        let cut = (cut_turns program.image super call.tx call.args start_of (view start_of) s.done
+        runs.end runs.effects begins sound w.marked).0 c shows in
+        record {
+          heap = h;
+          holds = w.resting.holds;
+          takes = w.takes;
+          words = w.words;
+          end = runs.end;
+          effects = runs.effects;
+          ran = runs.ran;
+          left = subst (λ (last : ℤ).
+              Images (IsCut (pool_with program.image super) (call_of s.done call.tx call.args)
+              (E runs.effects) (W runs.effects) h (heap_end h runs.effects) last
+              (result_of runs.end)) c) w.resting.before.last_is cut;
+        }
+
+    -- the end of the call on a device that refuses nothing
+    abbrev over : Cache
+    over = play start_of (due_of start_of)
+
+    abbrev fate0 : End
+    fate0 = fate_of program.image (begun_task program.image call.tx call.args) start_of
+
+    as_called : (r : CallAnswer) → Called r program.image call.tx call.args (still start_of)
+        (still over) 0 (0 + task_steps program.image (begun_task program.image call.tx call.args)
+        start_of)
+        → IsTxCalled r program.image call.tx call.args (still start_of) (still over) 0
+        (0 + task_steps program.image (begun_task program.image call.tx call.args) start_of)
+    as_called r is = record {
+      ready = λ on stands. is;
+      unusable = λ kind on stands. let no = sym w.ready ∙ stands in absurd cc;
+      numbers = λ on stands. let no = sym w.ready ∙ stands in absurd cc;
+      off = λ off. absurd cc;
+      bound = λ on. omega arith;
+      most = let few = call_steps program.image call.tx call.args start_of in omega arith;
+    }
+
+    module _ (c : Cache) (all : ShowsPlayed (due_of start_of) [] start_of c) where
+      shown_rest : IsAtRest over → IsAtRest c
+      shown_rest = (shown_images (due_of start_of) start_of c w.marked).2 all
+
+      shown_view : view c ≡ view over
+      shown_view = (shown_images (due_of start_of) start_of c w.marked).3 all
+
+      shown_fewer : AreFewer over c
+      shown_fewer image is = (shown_images (due_of start_of) start_of c w.marked).1 image all is
+
+      -- it ended with a value
+      pub work_done : (v : ℤ) (l : ℕ) → fate0 ≡ Halted v
+          → l ≡ task_logs program.image (begun_task program.image call.tx call.args) start_of
+          → (u : SourceState) × IsDoneWith program s call.tx call.args v l Ready u
+          × (u.standing ≡ Ready) × IsResting program super (still c) u
+      work_done v l halted logs =
+          let ran = (ascalls.called program.image call.tx call.args 0 start_of 0).0 v halted in
+          let own_logs = task_logs program.image (begun_task program.image call.tx call.args)
+          start_of in
+          let done = call_runs program super agrees (still start_of) (standing_as Ready s)
+          (rest_stands program super (still start_of) s Ready w.resting) call.tx call.args w.takes
+          w.words w.plain (called.Done v own_logs) (still over) 0
+          (0 + task_steps program.image (begun_task program.image call.tx call.args) start_of) refl
+          (as_called (called.Done v own_logs) ran) in
+          let at : IsDoneWith program s call.tx call.args v own_logs Ready done.0 = done.1 in
+          let u : SourceState = done_with at.0 v Ready s in
+          let rests : IsResting program super (still over) u =
+          (subst (λ (x : SourceState). Holds program super mode.Ready (still over) x) at.2 done.2).1
+          in (
+            u,
+            subst (λ (n : ℕ). IsDoneWith program s call.tx call.args v n Ready u) (sym logs)
+                (at.0, at.1, refl),
+            refl,
+            rest_same program super over c u (shown_rest rests.rest) shown_view rests,
+          )
+
+      -- it trapped
+      pub work_traps : (kind : TrapKind) → fate0 ≡ Trapped kind
+          → TrapsAs program s call.tx call.args kind
+          × Images (Lost program.image.parts.sizes (trap_number kind)) c
+      work_traps kind trapped =
+          let ran = (ascalls.called program.image call.tx call.args 0 start_of 0).1 kind trapped in
+          let done = call_runs program super agrees (still start_of) (standing_as Ready s)
+          (rest_stands program super (still start_of) s Ready w.resting) call.tx call.args w.takes
+          w.words w.plain (called.Trap kind) (still over) 0
+          (0 + task_steps program.image (begun_task program.image call.tx call.args) start_of) refl
+          (as_called (called.Trap kind) ran) in
+          let at : TrapsAs program s call.tx call.args kind
+          × (done.0 ≡ standing_as (Unusable kind) (standing_as Ready s)) = done.1 in
+          let lost : Images (Lost program.image.parts.sizes (trap_number kind)) over =
+          (subst (λ (x : SourceState). Holds program super (mode.Unusable kind) (still over) x)
+          at.1 done.2).1 in
+          (at.0, λ image is. lost image (shown_fewer image is))
+
+-- the last turn: the task was at its end, and the answer tells the fate
+pub record HasEnded (program : Program) (super : Words) (call : Pending) (t : Task)
+    (s : SourceState) (c : Cache) (w : IsAtWork program super call t c s) (b : Cache)
+    (a : TurnAnswer) : Type 0 where
+  pub all : ShowsPlayed (due_call program.image call.tx call.args w.start) [] w.start b
+  pub told : a ≡ end_answer
+      (fate_of program.image (begun_task program.image call.tx call.args) w.start)
+      (task_logs program.image (begun_task program.image call.tx call.args) w.start)
+
+pub work_ends : (program : Program) (super : Words) (call : Pending) (s : SourceState)
+    (a : TurnAnswer) (t : Task) (d b : Device)
+    (w : IsAtWork program super call t d.cache s) → WentWhole a program.image t None d b
+    → HasEnded program super call t s d.cache w b.cache a
+work_ends program super call s a t d b w went = record {
+  all = (turns program.image call.tx call.args w.start).1 a t None d b w.task w.stands went;
+  told = went.0 ∙ fates.2 program.image t d.cache (sym went.1)
+      ∙ ap (λ (e : End). end_answer e (task_logs program.image t d.cache)) w.fate
+      ∙ ap (end_answer (fate_of program.image (begun_task program.image call.tx call.args) w.start))
+      w.logs;
+}

@@ -1,0 +1,10 @@
+pub mod Stills
+pub mod Phases
+pub mod AtWork
+pub mod Invariants
+pub mod Turns
+pub mod Recoveries
+pub mod Powering
+pub mod Commands
+pub mod Runs
+pub mod Scripts

@@ -1,0 +1,178 @@
+-- A run of a script is a chain of commands, from new compartments on.
+use Rattle.std.proofs.Common.{◌≡◌, inl, inr, ℕ, zero, suc, false, List, [], ◌∷◌}
+use Rattle.std.proofs.Common.{length, replicate, Option, None, refl, sym, ap, subst, arith}
+use Rattle.std.specs.List.{AllByRecursion}
+use Rattle.std.proofs.lemmas.Option.{none-some}
+use Rattle.cache_model.specs.Event.{CacheEvent}
+use Rattle.cache_model.specs.Cache.{Words, Cache, blank}
+use Rattle.cache_model.specs.Play.{apply, play}
+use Rattle.pmem.specs.Device.{Device}
+use Rattle.pmem.specs.Played.{PlaysAll}
+use Rattle.pool_layout.specs.Sizes.{pool_lines}
+use Rattle.args_log.specs.Created.{creation_events}
+use Rattle.crash_law.specs.Law.{AreMarked}
+use Rattle.pool_workers.specs.declared.task.Task.{Task}
+use Rattle.pool_workers.specs.Crew.{task_at}
+use Rattle.workers_law.specs.AsCall.{quiet_on}
+use Rattle.workers_law.specs.Standing.{ShowsPlayed}
+use Rattle.workers_law.proofs.Stands.{shown_images}
+use Rattle.workers_law.proofs.Powers as laws
+use Rattle.cnvm_session.specs.declared.program.Program.{Program}
+use Rattle.workers_script.specs.declared.command.WorkersCommand.{WorkersCommand}
+use Rattle.workers_session.specs.WorkersCommands.{Scene, scene_of}
+use Rattle.workers_run.specs.WorkersRan.{RunsWorkers, BreaksOff, AreCreated, new_workers}
+use Rattle.session_law.specs.Source.{sizes_of}
+use Rattle.session_law.specs.Agrees.{Agrees}
+use Rattle.session_law.specs.State.{created}
+use Rattle.session_law.specs.Holds.{IsResting}
+use Rattle.session_law.specs.Law.{super_words}
+use Rattle.session_law.proofs.Creating.{created_rests}
+use Rattle.workers_source_law.specs.States.{States, all_created}
+use Rattle.workers_source_law.specs.Law.{IsWordCommand, RanWorkers, BrokeOff}
+use Rattle.workers_source_law.specs.Law.{WorkersLaw, WorkersPartLaw}
+use Rattle.workers_source_law.proofs.Stills.{still, own, marks_play, rest_same}
+use Rattle.workers_source_law.proofs.Invariants.{Stands, AllStand, stands_rest}
+use Rattle.workers_source_law.proofs.Recoveries.{still_rest}
+use Rattle.workers_source_law.proofs.Commands.{command_gives, all_hold}
+
+-- new compartments
+
+plays_quiet : (lines : ℕ) (es : List CacheEvent) (c : Cache) →
+    PlaysAll (quiet_on lines c) es (quiet_on lines (play c es))
+plays_quiet lines [] c = refl
+plays_quiet lines (e ∷ es) c = (((refl, none-some 0), tt), plays_quiet lines es (apply c e))
+
+count_new : (n : ℕ) → length (replicate {A = Option Task} n None) ≡ n
+count_new zero = refl
+count_new (suc n) = ap suc (count_new n)
+
+none_new : (n j : ℕ) → task_at (replicate n None) j ≡ None
+none_new zero j = refl
+none_new (suc n) zero = refl
+none_new (suc n) (suc j) = none_new n j
+
+module _ (program : Program) where
+  abbrev super : Words
+  super = super_words program
+
+  abbrev events : List CacheEvent
+  events = creation_events (sizes_of program) program.digest
+
+  abbrev made : Cache
+  made = play blank events
+
+  made_rests : IsResting program super (still made) (created program)
+  made_rests =
+      let n = pool_lines (sizes_of program) in
+      still_rest program super (quiet_on n made) (created program)
+      (created_rests program (quiet_on n blank) (quiet_on n made) (plays_quiet n events blank)).1
+
+  new_stands : (count : ℕ) (d b : Device) (k : ℕ) → AreCreated program count d b
+      → AllStand program super (scene_of (new_workers count) b k) (all_created program)
+  new_stands count d b k is j less =
+      let shown : ShowsPlayed events [] blank (own program j b) =
+      laws.created (sizes_of program) program.digest count d b is j
+      (let same = count_new count in omega (arith, same, less)) in
+      let looks = shown_images events blank (own program j b) (λ l. tt) in
+      subst (λ (o : Option Task). Stands program super false o (own program j b) (created program))
+      (sym (none_new count j))
+      (stands_rest program super false (own program j b) (created program) refl
+      (subst AreMarked (sym shown.now_is) (marks_play shown.shown blank (λ l. tt)))
+      (rest_same program super made (own program j b) (created program)
+      (looks.2 shown made_rests.rest) (looks.3 shown) made_rests))
+
+  module _ (agrees : Agrees program) where
+    runs_give : (commands : List WorkersCommand) (x y : Scene) (s : States)
+        (w w' : Option (List ℕ)) → AllByRecursion IsWordCommand commands
+        → AllStand program super x s → RunsWorkers program commands x w y w'
+        → (t : States) × RanWorkers program commands (record { scene = x; states = s }) w
+        (record { scene = y; states = t }) w'
+    runs_give [] x y s w w' words all is =
+        (s, (λ i. record { scene = is.0 i; states = s }, is.1))
+    runs_give (c ∷ commands) x y s w w' words all is =
+        let z = is.1 in
+        let one = command_gives program super agrees c x z s is.0 words.0 all is.3 in
+        let more = runs_give commands z y one.0 is.2 w' words.1 one.2 is.5 in (
+          more.0,
+          (
+            is.0,
+            record { scene = z; states = one.0 },
+            is.2,
+            record {
+              did = is.3;
+              meant = one.1;
+              holds = all_hold program super z one.0 one.2;
+              phases = one.3;
+            },
+            is.4,
+            more.1,
+          ),
+        )
+
+    breaks_give : (commands : List WorkersCommand) (x y : Scene) (s : States)
+        (w w' : Option (List ℕ)) → AllByRecursion IsWordCommand commands
+        → AllStand program super x s → BreaksOff program commands x w y w'
+        → (t : States) × BrokeOff program commands (record { scene = x; states = s }) w
+        (record { scene = y; states = t }) w'
+    breaks_give [] x y s w w' words all is = absurd is
+    breaks_give (c ∷ commands) x y s w w' words all (inl is) =
+        let one = command_gives program super agrees c x y s is.0 words.0 all is.1 in (
+          one.0,
+          inl (
+            is.0,
+            record {
+              did = is.1;
+              meant = one.1;
+              holds = all_hold program super y one.0 one.2;
+              phases = one.3;
+            },
+            is.2,
+          ),
+        )
+    breaks_give (c ∷ commands) x y s w w' words all (inr is) =
+        let z = is.1 in
+        let one = command_gives program super agrees c x z s is.0 words.0 all is.3 in
+        let more = breaks_give commands z y one.0 is.2 w' words.1 one.2 is.5 in (
+          more.0,
+          inr (
+            is.0,
+            record { scene = z; states = one.0 },
+            is.2,
+            record {
+              did = is.3;
+              meant = one.1;
+              holds = all_hold program super z one.0 one.2;
+              phases = one.3;
+            },
+            is.4,
+            more.1,
+          ),
+        )
+
+pub workers_run : WorkersLaw
+workers_run program count commands w w' d d' k k' agrees words is =
+    let all = new_stands program count d is.0 k is.2 in
+    let ran = runs_give program agrees commands (scene_of (new_workers count) is.0 k)
+    (scene_of is.1 d' k') (all_created program) w w' words all is.3 in (
+      is.0,
+      is.1,
+      ran.0,
+      is.2,
+      all_hold program (super_words program) (scene_of (new_workers count) is.0 k)
+          (all_created program) all,
+      ran.1,
+    )
+
+pub workers_part : WorkersPartLaw
+workers_part program count commands w w' d d' k k' agrees words is =
+    let all = new_stands program count d is.0 k is.2 in
+    let ran = breaks_give program agrees commands (scene_of (new_workers count) is.0 k)
+    (scene_of is.1 d' k') (all_created program) w w' words all is.3 in (
+      is.0,
+      is.1,
+      ran.0,
+      is.2,
+      all_hold program (super_words program) (scene_of (new_workers count) is.0 k)
+          (all_created program) all,
+      ran.1,
+    )

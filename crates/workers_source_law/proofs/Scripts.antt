@@ -1,0 +1,209 @@
+-- The arguments of a script's commands are words.
+use Rattle.std.proofs.Common.{◌≡◌, ℕ, zero, suc, ◌+◌, ◌^◌, ◌<◌, ◌≤◌, Bool, true, false}
+use Rattle.std.proofs.Common.{if◌then◌else◌, ltb, leb, List, [], ◌∷◌, Option, Some, None, IfSome}
+use Rattle.std.proofs.Common.{option_map, Result, Ok, Err, ℤ, pos, neg_ℤ, refl, subst, arith}
+use Rattle.std.specs.Prelude.{bytes_eq, codes, drop, option_and_then}
+use Rattle.std.specs.List.{AllByRecursion}
+use Rattle.std.specs.Str.Parse.{starts_with_minus}
+use Rattle.std.proofs.lemmas.Bool.{ltb-true, leb-true}
+use Rattle.std.proofs.lemmas.Int.{ints}
+use Rattle.nvm_base.specs.Wrap.{IsWord}
+use Rattle.cnvm_script.specs.Name.{is_name}
+use Rattle.cnvm_script.specs.Number.{bounded_numeral, as_positive, as_negative, argument}
+use Rattle.session_law.specs.Words.{AreWords}
+use Rattle.cnvm_script.specs.declared.command.Command.{Command}
+use Rattle.cnvm_script.specs.declared.command.Command.TheVariants as script
+use Rattle.cnvm_script.specs.Commands.{with_first, each, event_of, call_command, power_of}
+use Rattle.cnvm_script.specs.Commands.{is_remark}
+use Rattle.cnvm_script.specs.Lines.{lines}
+use Rattle.cnvm_script.specs.Lines as line_of
+use Rattle.workers_script.specs.declared.command.WorkersCommand.{WorkersCommand}
+use Rattle.workers_script.specs.declared.command.WorkersCommand.TheVariants as command
+use Rattle.workers_script.specs.WorkersGrammar.{worker_number, start_with, start_of, turn_of}
+use Rattle.workers_script.specs.WorkersGrammar.{power_with, worker_of, finish_of, workers_command}
+use Rattle.workers_script.specs.WorkersGrammar.{workers_meaning, workers_line_meaning}
+use Rattle.workers_script.specs.WorkersGrammar.{joined_workers, workers_from}
+use Rattle.session_law.specs.Law as session
+use Rattle.workers_source_law.specs.Law.{IsWordCommand, WordsLaw}
+
+either : {A : Type 0} (P : A → Type 0) (b : Bool) (x y : Option A) → IfSome x P → IfSome y P
+    → IfSome (if b then x else y) P
+either P true x y first second = first
+either P false x y first second = second
+
+-- an argument
+
+positive_word : (n : ℕ) → IfSome (as_positive n) IsWord
+positive_word n = go (ltb n (2 ^ 63)) refl
+  where
+    go : (b : Bool) → ltb n (2 ^ 63) ≡ b → IfSome (if b then Some (pos n) else None) IsWord
+    go true is = let less : n < 2 ^ 63 = ltb-true n (2 ^ 63) is in
+        (omega (arith, ints), omega (arith, ints))
+    go false is = tt
+
+minus_word : (n : ℕ) → n ≤ 2 ^ 63 → IsWord (neg_ℤ (pos n))
+minus_word zero less = (omega (arith, ints), omega (arith, ints))
+minus_word (suc n) less = (omega (arith, ints), omega (arith, ints))
+
+negative_word : (n : ℕ) → IfSome (as_negative n) IsWord
+negative_word n = go (leb n (2 ^ 63)) refl
+  where
+    go : (b : Bool) → leb n (2 ^ 63) ≡ b → IfSome (if b then Some (neg_ℤ (pos n)) else None) IsWord
+    go true is = minus_word n (leb-true n (2 ^ 63) is)
+    go false is = tt
+
+then_word : (f : ℕ → Option ℤ) (o : Option ℕ) → ((n : ℕ) → IfSome (f n) IsWord)
+    → IfSome (option_and_then f o) IsWord
+then_word f None each_is = tt
+then_word f (Some n) each_is = each_is n
+
+argument_word : (word : List ℕ) → IfSome (argument word) IsWord
+argument_word word =
+    either IsWord (starts_with_minus word)
+    (option_and_then as_negative (bounded_numeral 19 (drop 1 word)))
+    (option_and_then as_positive (bounded_numeral 19 word))
+    (then_word as_negative (bounded_numeral 19 (drop 1 word)) negative_word)
+    (then_word as_positive (bounded_numeral 19 word) positive_word)
+
+first_words : (first : Option ℤ) (others : Option (List ℤ)) → IfSome first IsWord
+    → IfSome others AreWords → IfSome (with_first first others) AreWords
+first_words None others is are = tt
+first_words (Some x) None is are = tt
+first_words (Some x) (Some xs) is are = both
+  where
+    both : AreWords (x ∷ xs)
+    both zero = is
+    both (suc i) = are i
+
+none_words : AreWords []
+none_words i = (omega (arith, ints), omega (arith, ints))
+
+each_words : (words : List (List ℕ)) → IfSome (each argument words) AreWords
+each_words [] = none_words
+each_words (word ∷ words) = first_words (argument word) (each argument words) (argument_word word)
+    (each_words words)
+
+-- a call
+
+named_words : (name : List ℕ) (o : Option (List ℤ)) → IfSome o AreWords
+    → IfSome (option_map (script.Call name) o) session.IsWordCommand
+named_words name None are = tt
+named_words name (Some args) are = are
+
+call_words : (words : List (List ℕ)) → IfSome (call_command words) session.IsWordCommand
+call_words [] = tt
+call_words (name ∷ args) =
+    either session.IsWordCommand (is_name name) (option_map (script.Call name) (each argument args))
+    None (named_words name (each argument args) (each_words args)) tt
+
+abbrev AreWordy : Option WorkersCommand → Type 0
+AreWordy o = IfSome o IsWordCommand
+
+start_words : (worker : ℕ) (c : Command) → session.IsWordCommand c
+    → AreWordy (start_with worker c)
+start_words worker (script.Call name args) words = words
+start_words worker (script.Stop left) words = tt
+start_words worker (script.Fault at) words = tt
+start_words worker (script.Power choice) words = tt
+start_words worker script.Show words = tt
+start_words worker script.Last words = tt
+
+called_words : (worker : ℕ) (o : Option Command) → IfSome o session.IsWordCommand
+    → AreWordy (option_and_then (start_with worker) o)
+called_words worker None words = tt
+called_words worker (Some c) words = start_words worker c words
+
+worker_words : (call : List (List ℕ)) (o : Option ℕ)
+    → AreWordy (option_and_then (λ (worker : ℕ). option_and_then (start_with worker)
+    (call_command call)) o)
+worker_words call None = tt
+worker_words call (Some worker) = called_words worker (call_command call) (call_words call)
+
+started_words : (words : List (List ℕ)) → AreWordy (start_of words)
+started_words [] = tt
+started_words (word ∷ call) = worker_words call (worker_number word)
+
+-- a command that has no arguments to check
+other_words : {A : Type 0} (f : A → WorkersCommand) (o : Option A) → ((x : A) → IsWordCommand (f x))
+    → AreWordy (option_map f o)
+other_words f None is = tt
+other_words f (Some x) is = is x
+
+turn_words : (words : List (List ℕ)) → AreWordy (turn_of words)
+turn_words [] = tt
+turn_words (word ∷ words) =
+    other_words command.Turn (each worker_number (word ∷ words)) (λ n. tt)
+
+finish_words : (words : List (List ℕ)) → AreWordy (finish_of words)
+finish_words [] = tt
+finish_words (word ∷ words) = tt
+
+power_words : (c : Command) → AreWordy (power_with c)
+power_words (script.Call name args) = tt
+power_words (script.Stop left) = tt
+power_words (script.Fault at) = tt
+power_words (script.Power choice) = tt
+power_words script.Show = tt
+power_words script.Last = tt
+
+powered_words : (o : Option Command) → AreWordy (option_and_then power_with o)
+powered_words None = tt
+powered_words (Some c) = power_words c
+
+command_words : (word : List ℕ) (others : List (List ℕ)) → AreWordy (workers_command word others)
+command_words word others =
+    either IsWordCommand (bytes_eq word (codes "start")) (start_of others) _ (started_words others)
+    (either IsWordCommand (bytes_eq word (codes "turn")) (turn_of others) _ (turn_words others)
+    (either IsWordCommand (bytes_eq word (codes "finish")) (finish_of others) _
+    (finish_words others)
+    (either IsWordCommand (bytes_eq word (codes "stop")) (option_map command.Stop (event_of others))
+    _ (other_words command.Stop (event_of others) (λ n. tt))
+    (either IsWordCommand (bytes_eq word (codes "fault"))
+    (option_map command.Fault (event_of others)) _
+    (other_words command.Fault (event_of others) (λ n. tt))
+    (either IsWordCommand (bytes_eq word (codes "power"))
+    (option_and_then power_with (power_of others)) _ (powered_words (power_of others))
+    (either IsWordCommand (bytes_eq word (codes "show"))
+    (option_map command.Show (worker_of others)) _
+    (other_words command.Show (worker_of others) (λ n. tt))
+    (either IsWordCommand (bytes_eq word (codes "last"))
+    (option_map command.Last (worker_of others)) None
+    (other_words command.Last (worker_of others) (λ n. tt)) tt)))))))
+
+-- a line, and the lines
+
+abbrev AreAllSome : Option (Option WorkersCommand) → Type 0
+AreAllSome found = IfSome found AreWordy
+
+found_words : (o : Option WorkersCommand) → AreWordy o
+    → AreAllSome (option_map (λ (c : WorkersCommand). Some c) o)
+found_words None is = tt
+found_words (Some c) is = is
+
+meaning_words : (words : List (List ℕ)) → AreAllSome (workers_meaning words)
+meaning_words [] = tt
+meaning_words (word ∷ others) =
+    either AreWordy (is_remark word) (Some None)
+    (option_map (λ (c : WorkersCommand). Some c) (workers_command word others)) tt
+    (found_words (workers_command word others) (command_words word others))
+
+-- the condition on each command of a result, if it has commands
+abbrev HasAll : Result (List WorkersCommand) ℕ → Type 0
+HasAll (Ok commands) = AllByRecursion IsWordCommand commands
+HasAll (Err bad) = Unit {0}
+
+joined_words : (n : ℕ) (found : Option (Option WorkersCommand))
+    (others : Result (List WorkersCommand) ℕ) → AreAllSome found → HasAll others
+    → HasAll (joined_workers n found others)
+joined_words n None others is all = tt
+joined_words n (Some None) others is all = all
+joined_words n (Some (Some c)) (Ok commands) is all = (is, all)
+joined_words n (Some (Some c)) (Err bad) is all = tt
+
+from_words : (n : ℕ) (ls : List (List ℕ)) → HasAll (workers_from n ls)
+from_words n [] = tt
+from_words n (line ∷ ls) = joined_words n (workers_line_meaning line) (workers_from (n + 1) ls)
+    (meaning_words (line_of.words_of_line line)) (from_words (n + 1) ls)
+
+pub word_commands : WordsLaw
+word_commands text commands is = subst HasAll is (from_words 1 (lines text))

@@ -1,0 +1,166 @@
+-- Several workers do what the source says, each as if it were alone: one chain of states for each
+-- compartment, whatever the order of the turns, and wherever the power is cut.
+use Rattle.std.specs.Prelude.{ℕ, ◌<◌, ◌≡◌, ◌⊎◌, false, List, [], ◌∷◌, length, Option, None, Some}
+use Rattle.std.specs.Prelude.{Ok, pos, is_some, true}
+use Rattle.std.specs.List.{AllByRecursion}
+use Rattle.std.specs.Io.KnownBytes.{Appends}
+use Rattle.nvm_base.specs.Parts.{AppendsPart}
+use Rattle.cache_model.specs.Cache.{view}
+use Rattle.cache_model.specs.Image.{Images}
+use Rattle.pmem.specs.Device.{Device}
+use Rattle.pool_layout.specs.declared.places.TheConstants.{DONE, LAST}
+use Rattle.pm_machine.specs.Runs.{heap_in}
+use Rattle.pool_workers.specs.declared.task.Task.{Task}
+use Rattle.pool_workers.specs.Crew.{task_at, compartment}
+use Rattle.cnvm_session.specs.declared.answer.Answer.{Answer}
+use Rattle.cnvm_session.specs.declared.answer.Answer.TheVariants as answer
+use Rattle.cnvm_session.specs.declared.program.Program.{Program}
+use Rattle.workers_script.specs.declared.command.WorkersCommand.{WorkersCommand}
+use Rattle.workers_script.specs.declared.command.WorkersCommand.TheVariants as command
+use Rattle.workers_script.specs.WorkersGrammar.{workers_script_meaning}
+use Rattle.workers_session.specs.declared.line.WorkersLine.{WorkersLine}
+use Rattle.workers_session.specs.declared.line.WorkersLine.TheVariants as line
+use Rattle.workers_session.specs.WorkersState.{WorkersState}
+use Rattle.workers_session.specs.WorkersCommands.{Scene, scene_of, WorkersCommanded}
+use Rattle.workers_run.specs.WorkersRan.{lines_text, AreCreated, new_workers, RunsNew, BreaksOffNew}
+use Rattle.session_law.specs.Source.{sizes_of, source_pool}
+use Rattle.session_law.specs.Words.{AreWords}
+use Rattle.session_law.specs.Agrees.{Agrees}
+use Rattle.session_law.specs.Law.{HasPhase}
+use Rattle.session_law.specs.State.{Standing, Ready, Down, Unusable, SourceState}
+use Rattle.workers_source_law.specs.States.{States, all_created}
+use Rattle.workers_source_law.specs.Lines.{LinesMean}
+
+-- the arguments of a command are words
+abbrev pub IsWordCommand : WorkersCommand → Type 0
+IsWordCommand (command.Start worker name args) = AreWords args
+IsWordCommand c = Unit {0}
+
+-- The commands of each script of workers have words as arguments, since a script's argument fits a
+-- word.
+abbrev pub WordsLaw : Type 0
+WordsLaw = (text : List ℕ) (commands : List WorkersCommand)
+    → workers_script_meaning text ≡ Ok commands → AllByRecursion IsWordCommand commands
+
+-- the workers and the device, and what the source knows of each worker
+pub record Instant : Type 0 where
+  pub scene : Scene
+  pub states : States
+
+-- The view of a compartment is that of a pool with this many transactions finished and this value
+-- of the last, and its heap holds the source's pool.
+pub record HoldsState (program : Program) (worker : ℕ) (d : Device) (s : SourceState) :
+    Type 0 where
+  pub pool : source_pool program
+      (heap_in (sizes_of program) (compartment program.image worker d).cache) ≡ s.pool
+  pub done : view (compartment program.image worker d).cache DONE ≡ pos s.done
+  pub last : view (compartment program.image worker d).cache LAST ≡ s.last
+
+-- A worker without a transaction whose compartment takes calls has it in this state; one that owes
+-- a transaction is in it.
+abbrev pub WorkerHolds : Standing → Program → (worker : ℕ) → Option Task → Device → SourceState
+    → Type 0
+WorkerHolds Ready program worker o d s = (o ≡ None) × HoldsState program worker d s
+WorkerHolds (Down None) program worker o d s = ⊥
+WorkerHolds (Down (Some owed)) program worker o d s = is_some o ≡ true
+WorkerHolds (Unusable kind) program worker o d s = o ≡ None
+
+-- so it is for each worker while the workers aren't down
+abbrev pub AllHold : Program → Instant → Type 0
+AllHold program x =
+    x.scene.workers.down ≡ false → (worker : ℕ) → worker < length x.scene.workers.tasks →
+    WorkerHolds (x.states worker).standing program worker (task_at x.scene.workers.tasks worker)
+    x.scene.device (x.states worker)
+
+-- A worker whose transaction the power cut stopped in this phase: the images of its compartment
+-- have the transaction's seal, or don't have it, as the phase says.
+abbrev pub PhaseHolds : Program → (worker : ℕ) → Answer → Instant → Type 0
+PhaseHolds program worker (answer.Stopped at) y =
+    Images (HasPhase at (y.states worker)) (compartment program.image worker y.scene.device).cache
+PhaseHolds program worker a y = Unit {0}
+
+abbrev pub LineHolds : Program → WorkersLine → Instant → Type 0
+LineHolds program (line.Own worker a) y = PhaseHolds program worker a y
+LineHolds program l y = Unit {0}
+
+abbrev pub LinesHold : Program → List WorkersLine → Instant → Type 0
+LinesHold program [] y = Unit {0}
+LinesHold program (l ∷ lines) y = LineHolds program l y × LinesHold program lines y
+
+-- so it is for each line of turns
+abbrev pub PhasesHold : Program → WorkersCommand → List WorkersLine → Instant → Type 0
+PhasesHold program (command.Turn workers) lines y = LinesHold program lines y
+PhasesHold program command.Finish lines y = LinesHold program lines y
+PhasesHold program c lines y = Unit {0}
+
+-- One command: what the machine and the device did, what the source says of its lines, what the
+-- compartments then hold, and what phases say of their images.
+pub record WorkersStep (program : Program) (c : WorkersCommand) (x : Instant)
+    (lines : List WorkersLine) (y : Instant) : Type 0 where
+  pub did : WorkersCommanded program c x.scene lines y.scene
+  pub meant : LinesMean program c x.scene.device lines x.states y.states
+  pub holds : AllHold program y
+  pub phases : PhasesHold program c lines y
+
+-- all commands, one after another, and the texts of all their lines are written
+abbrev pub RanWorkers : Program → List WorkersCommand → Instant → Option (List ℕ) → Instant
+    → Option (List ℕ) → Type 0
+RanWorkers program [] x w y w' = (y ≡ x) × (w' ≡ w)
+RanWorkers program (c ∷ commands) x w y w' =
+    (lines : List WorkersLine) × (z : Instant) × (w1 : Option (List ℕ))
+    × WorkersStep program c x lines z
+    × Appends w w1 (lines_text lines) × RanWorkers program commands z w1 y w'
+
+-- the first commands, and of the lines of the last of these a part is written, perhaps none
+abbrev pub BrokeOff : Program → List WorkersCommand → Instant → Option (List ℕ) → Instant
+    → Option (List ℕ) → Type 0
+BrokeOff program [] x w y w' = ⊥
+BrokeOff program (c ∷ commands) x w y w' =
+    ((lines : List WorkersLine) × WorkersStep program c x lines y
+    × AppendsPart w w' (lines_text lines))
+    ⊎ ((lines : List WorkersLine) × (z : Instant) × (w1 : Option (List ℕ))
+    × WorkersStep program c x lines z
+    × Appends w w1 (lines_text lines) × BrokeOff program commands z w1 y w')
+
+-- new compartments: each holds the empty pool, and no worker has a transaction
+abbrev pub first_instant : Program → (count : ℕ) → Device → (k : ℕ) → Instant
+first_instant program count d k = record {
+  scene = scene_of (new_workers count) d k;
+  states = all_created program;
+}
+
+abbrev pub last_instant : WorkersState → Device → (k : ℕ) → States → Instant
+last_instant s d k t = record { scene = scene_of s d k; states = t }
+
+-- The compartments are created and hold the empty pool, and the run on them is such a chain.
+abbrev pub RanNew : Program → (count : ℕ) → List WorkersCommand → (w w' : Option (List ℕ))
+    → (d d' : Device) → (k k' : ℕ) → Type 0
+RanNew program count commands w w' d d' k k' =
+    (b : Device) × (s : WorkersState) × (t : States)
+    × AreCreated program count d b × AllHold program (first_instant program count b k)
+    × RanWorkers program commands (first_instant program count b k) w (last_instant s d' k' t) w'
+
+abbrev pub BrokeOffNew : Program → (count : ℕ) → List WorkersCommand → (w w' : Option (List ℕ))
+    → (d d' : Device) → (k k' : ℕ) → Type 0
+BrokeOffNew program count commands w w' d d' k k' =
+    (b : Device) × (s : WorkersState) × (t : States)
+    × AreCreated program count d b × AllHold program (first_instant program count b k)
+    × BrokeOff program commands (first_instant program count b k) w (last_instant s d' k' t) w'
+
+-- What the machine and the device do in a run of a script on new compartments is what the source
+-- says of each compartment, whatever the order of turns, and wherever power is cut.
+abbrev pub WorkersLaw : Type 0
+WorkersLaw =
+    (program : Program) (count : ℕ) (commands : List WorkersCommand) (w w' : Option (List ℕ))
+    (d d' : Device) (k k' : ℕ) →
+    Agrees program → AllByRecursion IsWordCommand commands →
+    RunsNew program count commands w w' d d' k k' → RanNew program count commands w w' d d' k k'
+
+-- the same of a run that breaks off
+abbrev pub WorkersPartLaw : Type 0
+WorkersPartLaw =
+    (program : Program) (count : ℕ) (commands : List WorkersCommand) (w w' : Option (List ℕ))
+    (d d' : Device) (k k' : ℕ) →
+    Agrees program → AllByRecursion IsWordCommand commands →
+    BreaksOffNew program count commands w w' d d' k k'
+    → BrokeOffNew program count commands w w' d d' k k'

@@ -1,0 +1,15 @@
+//! Several workers on one device do what the source says. It rests on `session_law`, which says so
+//! of one session, and on `workers_law`, by which a transaction that was played turn by turn is a
+//! call on its worker's own compartment. Its one contract for the crates above: where the image
+//! agrees with its source, a run of a script of workers is a chain of steps with one state of the
+//! source for each compartment, which only its own worker's lines change.
+#![tactic(auto)]
+
+ghost use Rattle.workers_source_law.specs.Law.{WorkersLaw, WorkersPartLaw, WordsLaw};
+
+/// Each line of a script of workers is what the source gives. The function does nothing.
+pub fn law()
+    ensures run { WorkersLaw }
+    ensures part { WorkersPartLaw }
+    ensures words { WordsLaw }
+{}
