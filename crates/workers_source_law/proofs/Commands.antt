@@ -357,8 +357,9 @@ module _ (program : Program) (super : Words) where
   -- what the compartments hold
 
   holds_up : (st : Standing) (worker : ℕ) (o : Option Task) (d : Device) (s : SourceState)
+      → HeldAs st program super (still (own program worker d)) s
       → UpAs st program super o (own program worker d) s → WorkerHolds st program worker o d s
-  holds_up Ready worker o d s up = (
+  holds_up Ready worker o d s held up = (
     up.0,
     record {
       pool = up.1.holds.pool;
@@ -366,15 +367,18 @@ module _ (program : Program) (super : Words) where
       last = up.1.before.last_is;
     },
   )
-  holds_up (Down None) worker o d s up = up
-  holds_up (Down (Some owed)) worker o d s up = ap (λ (p : Option Task). is_some p) up.1
-  holds_up (Unusable kind) worker o d s up = up
+  holds_up (Down None) worker o d s held up = up
+  holds_up (Down (Some owed)) worker o d s held up = ap (λ (p : Option Task). is_some p) up.1
+  holds_up (Unusable kind) worker o d s held up = (
+    up,
+    (at_view (Lost program.image.parts.sizes (trap_number kind)) (own program worker d) held).0,
+  )
 
   pub all_hold : (x : Scene) (s : States) → AllStand program super x s
       → AllHold program (record { scene = x; states = s })
   all_hold x s all up worker less =
       holds_up (s worker).standing worker (task_at x.workers.tasks worker) x.device (s worker)
-      ((all worker less).up up)
+      (all worker less).held ((all worker less).up up)
 
   pub command_gives : (agrees : Agrees program) (c : WorkersCommand) (x y : Scene) (s : States)
       (lines : List WorkersLine) → IsWordCommand c → AllStand program super x s

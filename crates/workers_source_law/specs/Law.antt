@@ -8,7 +8,8 @@ use Rattle.nvm_base.specs.Parts.{AppendsPart}
 use Rattle.cache_model.specs.Cache.{view}
 use Rattle.cache_model.specs.Image.{Images}
 use Rattle.pmem.specs.Device.{Device}
-use Rattle.pool_layout.specs.declared.places.TheConstants.{DONE, LAST}
+use Rattle.pool_layout.specs.declared.places.TheConstants.{DONE, LAST, MARK}
+use Rattle.pool_map.specs.Trap.{trap_number}
 use Rattle.pm_machine.specs.Runs.{heap_in}
 use Rattle.pool_workers.specs.declared.task.Task.{Task}
 use Rattle.pool_workers.specs.Crew.{task_at, compartment}
@@ -56,14 +57,16 @@ pub record HoldsState (program : Program) (worker : ℕ) (d : Device) (s : Sourc
   pub done : view (compartment program.image worker d).cache DONE ≡ pos s.done
   pub last : view (compartment program.image worker d).cache LAST ≡ s.last
 
--- A worker without a transaction whose compartment takes calls has it in this state; one that owes
--- a transaction is in it.
+-- A worker without a transaction whose compartment takes calls has it in this state, or the
+-- compartment has the mark of its trap; one that owes a transaction is in it.
 abbrev pub WorkerHolds : Standing → Program → (worker : ℕ) → Option Task → Device → SourceState
     → Type 0
 WorkerHolds Ready program worker o d s = (o ≡ None) × HoldsState program worker d s
 WorkerHolds (Down None) program worker o d s = ⊥
 WorkerHolds (Down (Some owed)) program worker o d s = is_some o ≡ true
-WorkerHolds (Unusable kind) program worker o d s = o ≡ None
+WorkerHolds (Unusable kind) program worker o d s =
+    (o ≡ None)
+    × (view (compartment program.image worker d).cache MARK ≡ pos (trap_number kind))
 
 -- so it is for each worker while the workers aren't down
 abbrev pub AllHold : Program → Instant → Type 0
