@@ -219,11 +219,11 @@ module _ (image : Image) where
   step_alike heap n m s le = act_alike heap n m s (fetch image s) le
 
   -- a store that is due is done
-  record Stored (heap : Words) (n : ℕ) (s : State) (w : ℕ) (i : Option Op) : Type 0 where
-    value : ℤ
-    done : tally (execute image heap n s i) ≡ Goes (Stores w value) (stored s w)
+  pub record Stored (heap : Words) (n : ℕ) (s : State) (w : ℕ) (i : Option Op) : Type 0 where
+    pub value : ℤ
+    pub done : tally (execute image heap n s i) ≡ Goes (Stores w value) (stored s w)
 
-  due_done : (heap : Words) (n : ℕ) (s : State) (w : ℕ) (i : Option Op) →
+  pub due_done : (heap : Words) (n : ℕ) (s : State) (w : ℕ) (i : Option Op) →
       stored_by image s i ≡ Some w → Stored heap n s w i
   due_done heap n s w None e = absurd (cc (e))
   due_done heap n s w (Some (op.Store a o b)) e =

@@ -8,5 +8,6 @@ pub mod Calls
 pub mod Redoes
 pub mod AfterAnswers
 pub mod Taken
+pub mod Appended
 pub mod Rollbacks
 pub mod FaultCounts

@@ -8,6 +8,7 @@ ghost use Rattle.abort_law.specs.Cuts.{MarkedRunLaw, CutMarkedLaw, RedoMarkedLaw
 ghost use Rattle.abort_law.specs.Cuts.{AbortCallLeavesLaw, AbortRedoLeavesLaw, RollbackAgainLaw};
 ghost use Rattle.abort_law.specs.Beside.{BesideLaw};
 ghost use Rattle.abort_law.specs.Steps.{AbortCallStepsLaw, AbortRedoStepsLaw, BesideStepsLaw};
+ghost use Rattle.abort_law.specs.Records.{BesideRecordsLaw};
 ghost use Rattle.abort_law.specs.Faults.{AbortCallFaults, AbortRedoFaults};
 ghost use Rattle.abort_law.specs.Rollback.{RollbackCallLaw, RollbackRedoLaw};
 
@@ -22,6 +23,7 @@ pub fn law()
     ensures redid { AbortRedoLeavesLaw }
     ensures again { RollbackAgainLaw }
     ensures beside { BesideLaw }
+    ensures records { BesideRecordsLaw }
 {}
 
 /// Rollback: the effect of a marked call or its recovery, whatever it answers, in terms of the

@@ -2,6 +2,7 @@ use Rattle.abort_law.proofs.Calls.{marked_sound, cut_marked}
 use Rattle.abort_law.proofs.Redoes.{cut_remarked}
 use Rattle.abort_law.proofs.AfterAnswers.{call_leaves, redo_leaves, cut_again}
 use Rattle.abort_law.proofs.Besides.{besides}
+use Rattle.abort_law.proofs.Appended.{beside_records}
 use Rattle.abort_law.proofs.law.Goals as goal
 
 pub returns-clause-run : goal.returns-clause-run
@@ -39,3 +40,8 @@ returns-clause-again c =
 pub returns-clause-beside : goal.returns-clause-beside
 returns-clause-beside c =
     λ image k h tx args end0 fs ran sound. besides image k h tx args end0 fs ran sound
+
+pub returns-clause-records : goal.returns-clause-records
+returns-clause-records c =
+    λ image k h tx args end0 end fs es ran marked.
+    beside_records image k h tx args end0 end fs es ran marked
