@@ -8,7 +8,6 @@ use Rattle.std.proofs.lemmas.List.{length-map}
 use Rattle.std.proofs.lemmas.Option.{slice_get-map, slice_get_within}
 use Rattle.cache_model.specs.Cache.{Words}
 use Rattle.pool_layout.specs.declared.limits.Sizes.{Sizes}
-use Rattle.pool_map.specs.PoolFits.{PoolFits}
 use Rattle.pool_map.specs.PoolMap.{PoolMap}
 use Rattle.nvm_base.specs.Wrap.{IsWord}
 use Rattle.c_lexer.specs.TokenList.{Tokens}
@@ -75,16 +74,17 @@ use Rattle.match_law.specs.Match.{most}
 use Rattle.match_law.proofs.Keep.{kept_all}
 use Rattle.cnvm_session.specs.declared.program.Program.{Program}
 use Rattle.cnvm_session.specs.Commands.{tx_parameters}
-use Rattle.session_law.specs.Logged.{stored_at, AreLogged}
+use Rattle.session_law.specs.Logged.{stored_at, AreLogged, stores_in, AreLoggedFirst}
 use Rattle.session_law.specs.Source.{source_parameters, means, deeds_in, LogsStores, outcome_with}
-use Rattle.session_law.specs.Source.{ComesTo, source_pool, HasSourceHeaders}
+use Rattle.session_law.specs.Source.{LogsFirst, ComesTo, source_pool, HasSourceHeaders}
 use Rattle.session_law.specs.Words.{AreWords, HasPoolWords}
 use Rattle.session_law.specs.Agrees.{Matches, RunsAs, Agrees}
 use Rattle.compiled_law.specs.inside.Runs.{EndsAs, EndsIf}
-use Rattle.compiled_law.specs.inside.Records.{records_of}
+use Rattle.compiled_law.specs.inside.Records.{records_of, records_with}
 use Rattle.compiled_law.specs.Law.{IsCompiledFrom, CompiledLaw, ComesLaw}
 use Rattle.compiled_law.proofs.Apart.{heap_apart}
 use Rattle.compiled_law.proofs.Exact.{are_logged}
+use Rattle.compiled_law.proofs.Firsts.{are_firsts}
 use Rattle.compiled_law.proofs.Marked.{all_stores}
 use Rattle.compiled_law.proofs.Entering.{code_of, parameters_same, entries_same, entry_is}
 use Rattle.compiled_law.proofs.Numbers.{few_tokens, part_of_whole, all_below, logged_long}
@@ -342,6 +342,17 @@ module _ (text : List ℕ) (list : Tokens) (program : Program)
       are_logged marks plain c.exact (deeds_in plain s.ticks w args g)
       (all_stores plain ((s.ticks + 1) * whole plain.functions) (code_start g args w s.ticks))
 
+  -- those of a marked transaction
+  abbrev first_by : PoolMap → List ℤ → Option ℕ → ℕ
+  first_by w args o = records_with (table.is_logged marks) s [] (deeds_by w args o)
+
+  firsts_by : (w : PoolMap) (args : List ℤ) (o : Option ℕ) →
+      AreLoggedFirst plain.functions [] (stores_in s (deeds_by w args o)) (first_by w args o)
+  firsts_by w args None = refl
+  firsts_by w args (Some g) =
+      are_firsts marks plain c.exact s [] (deeds_in plain s.ticks w args g)
+      (all_stores plain ((s.ticks + 1) * whole plain.functions) (code_start g args w s.ticks))
+
   pub comes : (w : PoolMap) (tx : ℕ) (args : List ℤ) →
       (logged : ℕ) × (o : Outcome) × ComesTo program w tx args logged o
   comes w tx args =
@@ -355,15 +366,21 @@ module _ (text : List ℕ) (list : Tokens) (program : Program)
   counted : (i : ℕ) (args : List ℤ) (w : PoolMap) (entry : TxEntry) →
       slice_get program.image.parts.txs i ≡ Some entry →
       LogsStores program w (suc i) args (number_by w args (Some entry.function))
+      × LogsFirst program w (suc i) args (first_by w args (Some entry.function))
   counted i args w entry found =
       let function : slice_get (lower.entries_from 0 plain.functions) i ≡ Some entry.function =
       sym (entries_same marks t tree 0 0 t.functions i)
       ∙ ap (λ (es : List TxEntry). option_map (λ (e : TxEntry). e.function) (slice_get es i))
-      (sym txs_are) ∙ ap (option_map (λ (e : TxEntry). e.function)) found in
-      subst (λ (o : Option ℕ).
-      AreLogged plain.functions (stored_at (deeds_by w args o))
-      (number_by w args (Some entry.function))) (sym function)
-      (logs_by w args (Some entry.function))
+      (sym txs_are) ∙ ap (option_map (λ (e : TxEntry). e.function)) found in (
+        subst (λ (o : Option ℕ).
+            AreLogged plain.functions (stored_at (deeds_by w args o))
+            (number_by w args (Some entry.function))) (sym function)
+            (logs_by w args (Some entry.function)),
+        subst (λ (o : Option ℕ).
+            AreLoggedFirst plain.functions [] (stores_in s (deeds_by w args o))
+            (first_by w args (Some entry.function))) (sym function)
+            (firsts_by w args (Some entry.function)),
+      )
 
   runs : (h : Words) (tx : ℕ) (args : List ℤ) → HasSourceHeaders program h
       → HasPoolWords (source_pool program h) → AreWords args
@@ -428,8 +445,12 @@ module _ (text : List ℕ) (list : Tokens) (program : Program)
             ran = ran.is;
             sound = ran.sound;
             logged = number;
-            logs = counted i args w entry found;
+            logs = (counted i args w entry found).0;
             counted = ran.records;
+            firsts = records_with (table.is_logged marks) s []
+                (deeds plain k (code_start entry.function args w n));
+            logs_firsts = (counted i args w entry found).1;
+            counted_firsts = ran.firsts;
             matches =
                 subst (λ (x : Outcome). Matches program x ran.end (heap_end h ran.effects))
                 same_outcome

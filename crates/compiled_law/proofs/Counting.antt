@@ -187,7 +187,7 @@ module _ (marks : MarkTable) (ir : Ir) (formed : IsWellFormed ir) (bare : (f p :
           ∙ no_log (places_from (flags_from marks f 0 (code_in ir.functions f)) 0 0
           (code_in ir.functions f)) (flagged marks f q j.0) j.0 bare_at
 
-  logged_same : (fill : Bool) (f p : ℕ) → IsStoreAt ir.functions fill f p
+  pub logged_same : (fill : Bool) (f p : ℕ) → IsStoreAt ir.functions fill f p
       → is_logged_in_code L (moved_site marks ir.functions (site f p fill)) ≡ table.is_logged marks
       (site f p fill)
   logged_same true f p fill = fill_at (slice_get L.functions f) (stands marks ir.functions f p)

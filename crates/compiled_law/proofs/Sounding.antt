@@ -1,7 +1,7 @@
 -- The machine's run of a compiled transaction is sound, and ends as its code does, or with a full
 -- log if the code does more logged stores than the log has records.
 use Rattle.std.proofs.Common.{◌≡◌, ℕ, zero, suc, ◌*◌, ◌-◌, ◌<◌, ◌≤◌, Bool, ℤ, true, false, nat_lt}
-use Rattle.std.proofs.Common.{List, Some, refl, sym, subst, inl, inr, arith}
+use Rattle.std.proofs.Common.{List, [], Some, refl, sym, subst, inl, inr, arith}
 use Rattle.std.specs.Prelude.{slice_get}
 use Rattle.std.proofs.lemmas.Bool.{lt-ltb, le-ltb}
 use Rattle.cache_model.specs.Cache.{Words}
@@ -47,10 +47,12 @@ use Rattle.match_law.specs.Accesses.{accesses}
 use Rattle.match_law.specs.Compiled.{IsCodeOf, is_logged_in_code}
 use Rattle.match_law.specs.Law.{RunMatches, RunFull, KeepLaw}
 use Rattle.match_law.specs.Match.{most}
-use Rattle.compiled_law.specs.inside.Records.{records_of}
+use Rattle.abort_law.specs.Records.{records_marked}
+use Rattle.compiled_law.specs.inside.Records.{records_of, records_with}
 use Rattle.compiled_law.specs.inside.Runs.{EndsAs, EndsIf, RunIs}
 use Rattle.compiled_law.proofs.Bounded.{run_bounded}
 use Rattle.compiled_law.proofs.Counting.{records_are, records_cut}
+use Rattle.compiled_law.proofs.Firsts.{firsts_are}
 use Rattle.compiled_law.proofs.Covering.{covered_run, covered_cut}
 use Rattle.compiled_law.proofs.Marked.{inputs_logged}
 
@@ -64,7 +66,9 @@ module _ (apart : HeapApart) (image : Image) (L : Ir) (compiled : IsCodeOf image
     (n : ℕ) (count : (es : List Effect) → ShowsDeeds image.parts.sizes (is_logged_in_code L) ds
     (accesses es) → records_end 0 es ≡ n) (more : (es : List Effect)
     → IsCutAtStore image.parts.sizes (is_logged_in_code L) ds (accesses es)
-    → records_end 0 es < n) where
+    → records_end 0 es < n) (n1 : ℕ) (count_firsts : (es : List Effect)
+    → ShowsDeeds image.parts.sizes (is_logged_in_code L) ds (accesses es)
+    → records_marked [] es ≡ n1) where
   sound_end : (end : End) (es : List Effect) → mrun image m heap tx args ≡ Finished end es
       → IsCoveredRun es → IsSoundRun end es
   sound_end end es is covered =
@@ -91,7 +95,7 @@ module _ (apart : HeapApart) (image : Image) (L : Ir) (compiled : IsCodeOf image
   with_room e end h room ends = subst (λ (b : Bool). EndsIf b image L e end h) (sym room) ends
 
   full : (e : code.CodeEnd) → RunFull image L ds (mrun image m heap tx args) →
-      RunIs image L heap e n (mrun image m heap tx args)
+      RunIs image L heap e n n1 (mrun image m heap tx args)
   full e r = record {
     end = Trapped LogFull;
     effects = r.effects;
@@ -102,11 +106,12 @@ module _ (apart : HeapApart) (image : Image) (L : Ir) (compiled : IsCodeOf image
         subst (λ (b : Bool). EndsIf b image L e (Trapped LogFull) (heap_end heap r.effects))
         (sym (too_many r)) refl;
     records = λ v e. absurd (trapped LogFull v e);
+    firsts = λ v e. absurd (trapped LogFull v e);
   }
 
   run_is : (e : code.CodeEnd) → HasResult e → IsWordEnd e
       → RunMatches image L heap ds e (mrun image m heap tx args)
-      → RunIs image L heap e n (mrun image m heap tx args)
+      → RunIs image L heap e n n1 (mrun image m heap tx args)
   run_is (code.Ended w v t) over words (inl r) = record {
     end = Halted v;
     effects = r.effects;
@@ -117,6 +122,7 @@ module _ (apart : HeapApart) (image : Image) (L : Ir) (compiled : IsCodeOf image
         with_room (code.Ended w v t) (Halted v) (heap_end heap r.effects)
         (has_room (Halted v) r.effects r.is r.shows) (refl, r.stands, r.fits, words.0);
     records = λ x e. count r.effects r.shows;
+    firsts = λ x e. count_firsts r.effects r.shows;
   }
   run_is (code.Ended w v t) over words (inr r) = full (code.Ended w v t) r
   run_is (code.Trapped k) over words (inl r) = record {
@@ -129,22 +135,24 @@ module _ (apart : HeapApart) (image : Image) (L : Ir) (compiled : IsCodeOf image
         with_room (code.Trapped k) (Trapped k) (heap_end heap r.effects)
         (has_room (Trapped k) r.effects r.is r.shows) refl;
     records = λ v e. absurd (trapped k v e);
+    firsts = λ v e. absurd (trapped k v e);
   }
   run_is (code.Trapped k) over words (inr r) = full (code.Trapped k) r
   run_is code.Unfinished over words r = absurd over
   run_is code.Stuck over words r = absurd over
 
 -- a larger bound on steps changes nothing
-run_more : (image : Image) (L : Ir) (heap : Words) (e : code.CodeEnd) (n k m tx : ℕ) (args : List ℤ)
-    → k ≤ m → RunIs image L heap e n (mrun image k heap tx args)
-    → RunIs image L heap e n (mrun image m heap tx args)
-run_more image L heap e n k m tx args le r = record {
+run_more : (image : Image) (L : Ir) (heap : Words) (e : code.CodeEnd) (n n1 k m tx : ℕ)
+    (args : List ℤ) → k ≤ m → RunIs image L heap e n n1 (mrun image k heap tx args)
+    → RunIs image L heap e n n1 (mrun image m heap tx args)
+run_more image L heap e n n1 k m tx args le r = record {
   end = r.end;
   effects = r.effects;
   is = more_fuel image k m 0 (machine.start image tx args) heap r.end r.effects le r.is;
   sound = r.sound;
   agrees = r.agrees;
   records = r.records;
+  firsts = r.firsts;
 }
 
 -- a run on words ends with words
@@ -177,6 +185,8 @@ pub compiled_run : HeapApart → CoverLaw → KeepLaw → WordsLaw → (marks : 
     (exec ir k (code_start entry.function args w image.parts.sizes.ticks))
     (records_of (table.is_logged marks)
     (deeds ir k (code_start entry.function args w image.parts.sizes.ticks)))
+    (records_with (table.is_logged marks) image.parts.sizes []
+    (deeds ir k (code_start entry.function args w image.parts.sizes.ticks)))
     (mrun image m heap tx args)
 compiled_run apart cover keep law marks ir formed keeps whole constants bare image compiled tx entry
     found transaction args heap w words pool stands fits k m over enough =
@@ -199,12 +209,22 @@ compiled_run apart cover keep law marks ir formed keeps whole constants bare ima
     records_cut marks ir formed bare image.parts.sizes k (code_start entry.function args w t) es
     (subst (λ (ds : List Deed). IsCutAtStore image.parts.sizes (is_logged_in_code L) ds
     (accesses es)) (same_deeds marks ir formed entry.function args w t k over) cut) in
-    run_more image L heap (exec ir k (code_start entry.function args w t)) n (2 * k * most) m tx
+    let n1 : ℕ = records_with (table.is_logged marks) image.parts.sizes []
+    (deeds ir k (code_start entry.function args w t)) in
+    let firsts : (es : List Effect)
+    → ShowsDeeds image.parts.sizes (is_logged_in_code L)
+    (deeds L (2 * k) (code_start entry.function args w t)) (accesses es)
+    → records_marked [] es ≡ n1 =
+    λ es shows.
+    firsts_are marks ir formed bare image.parts.sizes k (code_start entry.function args w t) es
+    (subst (λ (ds : List Deed). ShowsDeeds image.parts.sizes (is_logged_in_code L) ds
+    (accesses es)) (same_deeds marks ir formed entry.function args w t k over) shows) in
+    run_more image L heap (exec ir k (code_start entry.function args w t)) n n1 (2 * k * most) m tx
     args enough
     (run_is apart image L compiled tx entry found args heap (2 * k * most)
     (deeds L (2 * k) (code_start entry.function args w t))
     (inputs_logged cover marks ir formed keeps whole entry.function transaction args w t k over) n
-    count more
+    count more n1 firsts
     (exec ir k (code_start entry.function args w t)) over
     (words_end law ir constants k (code_start entry.function args w t) (words, tt, pool))
     (subst (λ (e : code.CodeEnd). RunMatches image L heap

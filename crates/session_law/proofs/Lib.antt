@@ -13,6 +13,7 @@ pub mod Resting
 pub mod Calls
 pub mod Recoveries
 pub mod MarkedRuns
+pub mod MarkedCounts
 pub mod MarkedCalls
 pub mod MarkedRecoveries
 pub mod Powers

@@ -24,7 +24,6 @@ use Rattle.session_law.specs.Agrees.{RunsAs}
 use Rattle.session_law.specs.Marked.{marked_outcome, ComesOn}
 use Rattle.session_law.specs.State.{Pending, SourceState}
 use Rattle.session_law.specs.Holds.{HoldsPool}
-use Rattle.session_law.specs.Law.{MarkedDeterminedLaw}
 use Rattle.session_law.proofs.Coming.{comes_done, comes_trap}
 use Rattle.session_law.proofs.Heaps.{pool_same}
 use Rattle.session_law.proofs.Resting.{Meant, meant, HasHalted, run_halted, run_trapped}
@@ -123,7 +122,9 @@ module _ (program : Program) (s : SourceState) (owed : Pending) (h : Words)
       marked_run.3)
 
 -- a heap determines what a transaction comes to on it
-pub one_marked : MarkedDeterminedLaw
+pub one_marked : (program : Program) (h : Words) (pool : PoolMap) (tx : ℕ) (args : List ℤ)
+    (n m : ℕ) (o p : Outcome) → ComesOn program h pool tx args n o
+    → ComesOn program h pool tx args m p → (n ≡ m) × (o ≡ p)
 one_marked program h pool tx args n m o p first second =
     let ends : first.end ≡ second.end = let e = sym first.ran ∙ second.ran in cc in
     let effects : first.effects ≡ second.effects = let e = sym first.ran ∙ second.ran in cc in (

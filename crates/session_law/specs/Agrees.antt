@@ -2,7 +2,7 @@
 -- valid headers, is sound and ends as the transaction comes to on the heap's pool: as the source
 -- says, or with a full log exactly where its logged stores are more than the log has records. Each
 -- compiled program agrees with its source.
-use Rattle.std.specs.Prelude.{ℕ, ◌^◌, ◌<◌, ◌≤◌, ◌≡◌, List, length, Some, ℤ}
+use Rattle.std.specs.Prelude.{ℕ, ◌^◌, ◌<◌, ◌≤◌, ◌≡◌, List, [], length, Some, ℤ}
 use Rattle.cache_model.specs.Cache.{Words}
 use Rattle.pool_map.specs.PoolFits.{words_of}
 use Rattle.c_types.specs.Shapes.{shapes_of}
@@ -16,8 +16,9 @@ use Rattle.run_law.specs.Sound.{IsSoundRun}
 use Rattle.cnvm_session.specs.declared.program.Program.{Program}
 use Rattle.cnvm_session.specs.Commands.{tx_parameters}
 use Rattle.session_law.specs.Words.{AreWords, HasPoolWords}
-use Rattle.session_law.specs.Source.{sizes_of, source_parameters, LogsStores, outcome_with}
-use Rattle.session_law.specs.Source.{source_pool, HasSourceHeaders}
+use Rattle.abort_law.specs.Records.{records_marked}
+use Rattle.session_law.specs.Source.{sizes_of, source_parameters, LogsStores, LogsFirst}
+use Rattle.session_law.specs.Source.{outcome_with, source_pool, HasSourceHeaders}
 
 -- a run ends as the outcome says: with its value, on a heap that holds its pool, or with its trap
 abbrev pub Matches : Program → Outcome → End → Words → Type 0
@@ -27,8 +28,9 @@ Matches program (Done pool value) (Trapped k) h = ⊥
 Matches program (Trap trap) (Halted v) h = ⊥
 Matches program (Trap trap) (Trapped k) h = k ≡ trap
 
--- the run of a transaction from a heap; a run that ends with a value writes a log record for each
--- of its logged stores
+-- The run of a transaction from a heap. A run that ends with a value writes a log record for each
+-- of its logged stores, and, with a record for the first store to each heap word, one for each
+-- logged store of a marked transaction.
 pub record RunsAs (program : Program) (h : Words) (tx : ℕ) (args : List ℤ) : Type 0 where
   pub end : End
   pub effects : List Effect
@@ -40,6 +42,9 @@ pub record RunsAs (program : Program) (h : Words) (tx : ℕ) (args : List ℤ) :
       Matches program (outcome_with program (source_pool program h) tx args logged) end
       (heap_end h effects)
   pub counted : (value : ℤ) → end ≡ Halted value → records_end 0 effects ≡ logged
+  pub firsts : ℕ
+  pub logs_firsts : LogsFirst program (source_pool program h) tx args firsts
+  pub counted_firsts : (value : ℤ) → end ≡ Halted value → records_marked [] effects ≡ firsts
 
 -- The root has as many words as the source's root struct. The image has the transactions of the
 -- source, each with as many parameters. A transaction's number is below 2^63 and it has at most 22

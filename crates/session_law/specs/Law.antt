@@ -31,18 +31,18 @@ use Rattle.cnvm_session.specs.declared.answer.Answer.TheVariants as answer
 use Rattle.cnvm_session.specs.declared.mode.Mode.{Mode}
 use Rattle.cnvm_session.specs.declared.mode.Mode.TheVariants.{Ready}
 use Rattle.cnvm_session.specs.declared.program.Program.{Program}
-use Rattle.cnvm_session.specs.Commands.{call_number, Commanded}
+use Rattle.cnvm_session.specs.Commands.{call_number, tx_parameters, Commanded}
 use Rattle.cnvm_session.specs.Marks.{rolls_back_of}
 use Rattle.cnvm_session.specs.Steps.{most_of_program}
 use Rattle.cnvm_session.specs.Laws.{IsRefused}
 use Rattle.cnvm_session.specs.Outcomes.{Opens}
 use Rattle.args_log.specs.Created.{creation_events}
-use Rattle.c_meaning.specs.Transaction.{Outcome}
+use Rattle.c_meaning.specs.Transaction.{Outcome, Done}
 use Rattle.ir.specs.declared.function.IrFunction.{IrFunction}
 use Rattle.ir.specs.declared.site.Site.{Site}
 use Rattle.session_law.specs.Logged.{AreLogged, FillsLog}
-use Rattle.session_law.specs.Source.{sizes_of, ComesTo, source_pool}
-use Rattle.session_law.specs.Words.{AreWords}
+use Rattle.session_law.specs.Source.{sizes_of, LogsFirst, ComesTo, source_pool, HasSourceHeaders}
+use Rattle.session_law.specs.Words.{AreWords, HasPoolWords}
 use Rattle.session_law.specs.Agrees.{Agrees}
 use Rattle.session_law.specs.State.{Pending, Down, SourceState, standing_as, created}
 use Rattle.session_law.specs.State as state
@@ -79,12 +79,28 @@ FullLaw =
     (records < n → FillsLog functions records sites)
     × (FillsLog functions records sites → records < n)
 
--- So is what a marked transaction comes to on a heap, and how many records its run appends there.
+-- How many records a marked transaction that comes to a value appends is the number of its logged
+-- stores by the source: those at logged sites, and the first to each heap word. The program, the
+-- pool and the arguments determine it.
+abbrev pub MarkedCountLaw : Type 0
+MarkedCountLaw =
+    ((program : Program) (h : Words) (pool after : PoolMap) (tx : ℕ) (args : List ℤ) (value : ℤ)
+    (logged : ℕ) →
+    Agrees program → HasSourceHeaders program h → HasPoolWords pool → AreWords args
+    → tx_parameters program.image tx ≡ Some (length args)
+    → ComesOn program h pool tx args logged (Done after value) →
+    LogsFirst program pool tx args logged)
+    × ((program : Program) (pool : PoolMap) (tx : ℕ) (args : List ℤ) (n m : ℕ) →
+    LogsFirst program pool tx args n → LogsFirst program pool tx args m → n ≡ m)
+
+-- A heap determines what a marked transaction comes to on it, and how many records its run appends
+-- there.
 abbrev pub MarkedDeterminedLaw : Type 0
 MarkedDeterminedLaw =
-    (program : Program) (h : Words) (pool : PoolMap) (tx : ℕ) (args : List ℤ) (n m : ℕ)
+    ((program : Program) (h : Words) (pool : PoolMap) (tx : ℕ) (args : List ℤ) (n m : ℕ)
     (o p : Outcome) →
-    ComesOn program h pool tx args n o → ComesOn program h pool tx args m p → (n ≡ m) × (o ≡ p)
+    ComesOn program h pool tx args n o → ComesOn program h pool tx args m p → (n ≡ m) × (o ≡ p))
+    × MarkedCountLaw
 
 -- Each answer to a command whose arguments are words is one that the source gives, and the device
 -- then holds what the source knows.

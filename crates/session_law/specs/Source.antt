@@ -1,13 +1,11 @@
 -- What the source of a program says: how many parameters a transaction has, what it means on a pool
 -- and what it comes to there, with how many logged stores, and the pool that a heap holds under the
 -- program's shapes.
-use Rattle.std.specs.Prelude.{ℕ, ◌+◌, ◌*◌, ◌≤◌, ◌≡◌, if◌then◌else◌, nat_lt, List, [], length}
+use Rattle.std.specs.Prelude.{ℕ, ◌+◌, ◌*◌, ◌≡◌, if◌then◌else◌, nat_lt, List, [], length}
 use Rattle.std.specs.Prelude.{Option, option_map, ℤ}
 use Rattle.std.specs.Option.{option_map_or}
 use Rattle.cache_model.specs.Cache.{Words}
 use Rattle.pool_layout.specs.declared.limits.Sizes.{Sizes}
-use Rattle.pool_layout.specs.Sizes.{slot_word}
-use Rattle.pool_layout.specs.Image.{IsUpTo}
 use Rattle.pool_layout.specs.Headers.{HasHeaders}
 use Rattle.pool_map.specs.PoolMap.{PoolMap}
 use Rattle.pool_map.specs.declared.trap.TrapKind.TheVariants.{LogFull}
@@ -25,7 +23,7 @@ use Rattle.code_meaning.specs.Whole.{whole}
 use Rattle.lower.specs.Program.{lowered}
 use Rattle.lower_law.specs.Law.{entry_in}
 use Rattle.cnvm_session.specs.declared.program.Program.{Program}
-use Rattle.session_law.specs.Logged.{stored_at, AreLogged}
+use Rattle.session_law.specs.Logged.{stored_at, AreLogged, StoreAt, stores_in, AreLoggedFirst}
 
 abbrev pub sizes_of : Program → Sizes
 sizes_of program = program.image.parts.sizes
@@ -58,6 +56,19 @@ store_sites program pool tx args =
 abbrev pub LogsStores : Program → PoolMap → (tx : ℕ) → List ℤ → (logged : ℕ) → Type 0
 LogsStores program pool tx args logged =
     AreLogged (lowered program.typed).functions (store_sites program pool tx args) logged
+
+-- the stores of the same run, with their heap words
+abbrev pub run_stores : Program → PoolMap → (tx : ℕ) → List ℤ → List StoreAt
+run_stores program pool tx args =
+    stores_in (sizes_of program)
+    (option_map_or (deeds_in (lowered program.typed) (sizes_of program).ticks pool args)
+    (entry_in tx (lowered program.typed).functions) [])
+
+-- the run of a marked transaction does this many logged stores until it ends: those at logged
+-- sites, and the first to each heap word
+abbrev pub LogsFirst : Program → PoolMap → (tx : ℕ) → List ℤ → (logged : ℕ) → Type 0
+LogsFirst program pool tx args logged =
+    AreLoggedFirst (lowered program.typed).functions [] (run_stores program pool tx args) logged
 
 -- The outcome on a pool whose log has C records: a full log if there are more than C logged stores,
 -- since one of them then finds no free record; else what the source says.

@@ -1,7 +1,7 @@
 -- How the machine's run of a compiled transaction ends, given how the run of its intermediate code
 -- does: it is sound, and it ends as the code does, on a heap that stands for the code's pool; or
 -- with a full log, if the code does more logged stores than the log has records.
-use Rattle.std.specs.Prelude.{◌≡◌, ℕ, ℤ, Bool, true, false, nat_lt, List}
+use Rattle.std.specs.Prelude.{◌≡◌, ℕ, ℤ, Bool, true, false, nat_lt, List, []}
 use Rattle.cache_model.specs.Cache.{Words}
 use Rattle.pool_map.specs.declared.trap.TrapKind.TheVariants.{LogFull}
 use Rattle.pool_map.specs.PoolFits.{PoolFits}
@@ -14,6 +14,7 @@ use Rattle.pm_machine.specs.declared.image.Image.{Image}
 use Rattle.pm_machine.specs.Effects.{heap_end, records_end}
 use Rattle.pm_machine.specs.Machine.{Run, Finished}
 use Rattle.run_law.specs.Sound.{IsSoundRun}
+use Rattle.abort_law.specs.Records.{records_marked}
 use Rattle.piece_law.specs.Stands.{Stands}
 use Rattle.piece_law.specs.Words.{HasWords}
 
@@ -29,12 +30,14 @@ abbrev pub EndsIf : (full : Bool) → Image → Ir → code.CodeEnd → End → 
 EndsIf true image ir e end heap = end ≡ Trapped LogFull
 EndsIf false image ir e end heap = EndsAs image ir e end heap
 
--- `n`: the code's logged stores, one log record each in a run that gives a word
-pub record RunIs (image : Image) (ir : Ir) (heap : Words) (e : code.CodeEnd) (n : ℕ) (run : Run) :
-    Type 0 where
+-- `n`: the code's logged stores, one log record each in a run that gives a word; `m`: the same with
+-- the first store to each heap word
+pub record RunIs (image : Image) (ir : Ir) (heap : Words) (e : code.CodeEnd) (n m : ℕ)
+    (run : Run) : Type 0 where
   pub end : End
   pub effects : List Effect
   pub is : run ≡ Finished end effects
   pub sound : IsSoundRun end effects
   pub agrees : EndsIf (nat_lt image.parts.sizes.records n) image ir e end (heap_end heap effects)
   pub records : (v : ℤ) → end ≡ Halted v → records_end 0 effects ≡ n
+  pub firsts : (v : ℤ) → end ≡ Halted v → records_marked [] effects ≡ m

@@ -12,6 +12,7 @@ use Rattle.session_law.proofs.Unchanged.{step_unchanged}
 use Rattle.session_law.proofs.Bounded.{chain_bounded}
 use Rattle.session_law.proofs.Logging.{one_outcome, full_law}
 use Rattle.session_law.proofs.MarkedRuns.{one_marked}
+use Rattle.session_law.proofs.MarkedCounts.{count_law}
 use Rattle.session_law.proofs.RolledBack.{call_rolled_back, power_rolled_back}
 use Rattle.session_law.proofs.KeepingChains.{chain_rolled_back}
 use Rattle.session_law.proofs.law.Goals as goal
@@ -65,7 +66,7 @@ pub returns-clause-full : goal.returns-clause-full
 returns-clause-full c = full_law
 
 pub returns-clause-marked : goal.returns-clause-marked
-returns-clause-marked c = one_marked
+returns-clause-marked c = (one_marked, count_law)
 
 pub returns-clause-rollback : goal.returns-clause-rollback
 returns-clause-rollback c = (call_rolled_back, power_rolled_back, chain_rolled_back)
