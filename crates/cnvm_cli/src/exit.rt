@@ -3,14 +3,16 @@
 
 ghost use Rattle.std.specs.Prelude.{◌≡◌, ◌⊎◌, ◌<◌, map, string_bytes, None, IfSome};
 ghost use Rattle.nvm_base.specs.Path.{path_of_source, path_of_sink, path_of_saved};
+ghost use Rattle.nvm_base.specs.Path.{source_below, sink_below};
 ghost use Rattle.cnvm_cli.specs.Exits.{EndsCall, Exits};
 ghost use Rattle.cnvm_cli.specs.Paths.{path_or_none, program_alone, paths_in};
 ghost use Rattle.cnvm_cli.specs.World.{plan_in};
 
+use crate::notes::{FileWorld, Named, put_bytes, tell_end};
 use crate::run::cnvm;
 use crate::status::{Status, World};
 use cnvm_words::{Plan, WordsFault, plan_of};
-use nvm_base::{SavedFile, StdSink, StdSource, Steps, Text};
+use nvm_base::{KeptSink, KeptSource, SavedFile, StdNotes, StdSink, StdSource, Steps, Text};
 use pmem::SparsePmem;
 use std::alloc::Global;
 use std::env;
@@ -19,12 +21,15 @@ use std::rt::{Env, Files};
 use std::sync::ledger::{Blank, Ledger};
 
 /// Runs the program on the words of the command line; the answer is its exit status.
-pub fn exit_code<R: Files + Print + Env + AllocGlobal>(rt: &R) -> u8
+pub fn exit_code<R: Files + Print + Eprint + Env + AllocGlobal>(rt: &R) -> u8
     ensures { Exits result }
 {
     match words_of(rt) {
         Some(words) => run_on(rt, &words).number(),
-        None => Status::NoMemory.number(),
+        None => {
+            tell_no_memory(rt);
+            Status::NoMemory.number()
+        }
     }
 }
 
@@ -112,7 +117,7 @@ fn given_or_empty(alloc: Global, path: Option<Text>) -> Text
 }
 
 /// Runs what these words ask for on the files that they name.
-pub fn run_on<R: Files + Print + AllocGlobal>(rt: &R, words: &[String]) -> Status
+pub fn run_on<R: Files + Print + Eprint + AllocGlobal>(rt: &R, words: &[String]) -> Status
     ensures usage { result ≡ Status.Usage → plan_in words.entry.now ≡ None }
     ensures wrong { plan_in words.entry.now ≡ None → (result ≡ Status.Usage)
         ⊎ ((result ≡ Status.NoMemory) ⊎ (result ≡ Status.WriteFault)) }
@@ -120,44 +125,45 @@ pub fn run_on<R: Files + Print + AllocGlobal>(rt: &R, words: &[String]) -> Statu
 {
     match paths_of(rt.alloc(), words) {
         Some(paths) => run_with::<R, Brand>(rt, words, &paths, Blank::new(1)),
-        None => Status::NoMemory,
+        None => {
+            tell_no_memory(rt);
+            Status::NoMemory
+        }
     }
 }
 
-/// Files, standard output and a device in memory.
-type FileWorld<'a, R> = World<
-    StdSource<'a, R>,
-    StdSource<'a, R>,
-    StdSource<'a, R>,
-    StdSink<'a, R>,
-    SavedFile<'a, R>,
-    SparsePmem,
->;
+/// Tells that there was no memory for the words.
+fn tell_no_memory<R: Eprint>(rt: &R) {
+    let mut notes = StdNotes::new(rt);
+    put_bytes(&mut notes, b"cnvm: out of memory\n");
+}
 
 /// The files of these paths, each opened at its own; the answers go to standard output.
-fn world_on<'a, R: Files + Print + AllocGlobal>(
+fn world_on<'a, R: Files + Print + AllocGlobal, P>(
     rt: &'a R,
     paths: &'a Paths,
-    dev: SparsePmem,
-) -> FileWorld<'a, R>
-    ensures program { path_of_source result.program ≡ paths.now.program }
-    ensures script { path_of_source result.script ≡ paths.now.script }
-    ensures image_in { path_of_source result.image_in ≡ paths.now.image_in }
-    ensures out { path_of_sink result.out ≡ None }
+    dev: P,
+) -> FileWorld<'a, R, P>
+    ensures program { path_of_source (source_below result.program) ≡ paths.now.program }
+    ensures script { path_of_source (source_below result.script) ≡ paths.now.script }
+    ensures image_in { path_of_source (source_below result.image_in) ≡ paths.now.image_in }
+    ensures out { path_of_sink (sink_below result.out) ≡ None }
     ensures image_out { path_of_saved result.image_out ≡ paths.now.image_out }
+    ensures dev { result.dev ≡ dev }
 {
+    let alloc = rt.alloc();
     World {
-        program: StdSource::new(rt, paths.program.as_str()),
-        script: StdSource::new(rt, paths.script.as_str()),
-        image_in: StdSource::new(rt, paths.image_in.as_str()),
-        out: StdSink::standard(rt),
+        program: KeptSource::new(alloc, StdSource::new(rt, paths.program.as_str())),
+        script: KeptSource::new(alloc, StdSource::new(rt, paths.script.as_str())),
+        image_in: KeptSource::new(alloc, StdSource::new(rt, paths.image_in.as_str())),
+        out: KeptSink::new(alloc, StdSink::standard(rt)),
         image_out: SavedFile::new(rt, paths.image_out.as_str()),
         dev,
     }
 }
 
 /// Runs what the words ask for on the files of these paths.
-fn run_with<R: Files + Print + AllocGlobal, L: Ledger>(
+fn run_with<R: Files + Print + Eprint + AllocGlobal, L: Ledger>(
     rt: &R,
     words: &[String],
     paths: &Paths,
@@ -173,7 +179,20 @@ fn run_with<R: Files + Print + AllocGlobal, L: Ledger>(
     ensures source { EndsCall (map string_bytes words.entry.now) result }
 {
     let alloc = rt.alloc();
-    let mut world = world_on(rt, paths, SparsePmem::new(alloc));
+    let mut world = world_on(rt, paths, SparsePmem::new(rt.alloc()));
     let mut steps = Steps::<L>::new(blank);
-    cnvm(alloc, words, &mut world, &mut steps)
+    let status = cnvm(alloc, words, &mut world, &mut steps);
+    let mut notes = StdNotes::new(rt);
+    tell_end(alloc, words, names_of(paths), status, &world, &mut notes);
+    status
+}
+
+/// The paths as texts.
+fn names_of(paths: &Paths) -> Named<'_> {
+    Named {
+        program: paths.program.as_str(),
+        script: paths.script.as_str(),
+        image_in: paths.image_in.as_str(),
+        image_out: paths.image_out.as_str(),
+    }
 }

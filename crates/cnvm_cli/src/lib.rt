@@ -7,6 +7,7 @@
 mod commands;
 mod exit;
 mod image;
+mod notes;
 mod reading;
 mod reasons;
 mod refused;

@@ -1,0 +1,304 @@
+//! What is told to a person after a run: made from its status and from what it read and wrote. No
+//! status and no byte of standard output depends on it.
+
+use crate::status::{Status, World};
+use cnvm_notes::{RunTexts, answers_note, script_note, workers_answers_note, workers_note};
+use cnvm_words::{Plan, plan_of};
+use nvm_base::{KeptSink, KeptSource, SavedFile, Sink, StdSink, StdSource, write_all};
+use plain_notes::{ImageRefusal, Told, message_of, of_image, of_words, unread, unsaved, unwritten};
+use pool_layout::digest;
+use program_notes::program_note;
+use std::alloc::{AllocError, Global};
+use std::rt::Files;
+
+/// What a run on files reads and writes, with a copy of what went through.
+pub(crate) type FileWorld<'a, R, P> = World<
+    KeptSource<StdSource<'a, R>>,
+    KeptSource<StdSource<'a, R>>,
+    KeptSource<StdSource<'a, R>>,
+    KeptSink<StdSink<'a, R>>,
+    SavedFile<'a, R>,
+    P,
+>;
+
+/// The paths of a run.
+#[derive(Clone, Copy)]
+pub(crate) struct Named<'a> {
+    pub program: &'a str,
+    pub script: &'a str,
+    pub image_in: &'a str,
+    pub image_out: &'a str,
+}
+
+/// Tells how a run ended. Where there is no memory for the message a short one is told, and where
+/// the sink fails none.
+pub(crate) fn tell_end<R: Files + Print + AllocGlobal, P: Drop, N: Sink>(
+    alloc: Global,
+    words: &[String],
+    named: Named<'_>,
+    status: Status,
+    world: &FileWorld<'_, R, P>,
+    notes: &mut N,
+) {
+    let message = match message(alloc, words, named, status, world) {
+        Ok(Some(message)) => message,
+        Ok(None) => return,
+        Err(_) => return put_bytes(notes, b"cnvm: out of memory\n"),
+    };
+    put_bytes(notes, message.as_str().as_bytes());
+}
+
+/// Writes the bytes. Where that fails, nothing else changes.
+pub(crate) fn put_bytes<N: Sink>(notes: &mut N, bytes: &[u8]) {
+    match write_all(notes, bytes) {
+        Ok(()) => (),
+        Err(_) => (),
+    }
+}
+
+fn message<R: Files + Print + AllocGlobal, P: Drop>(
+    alloc: Global,
+    words: &[String],
+    named: Named<'_>,
+    status: Status,
+    world: &FileWorld<'_, R, P>,
+) -> Result<Option<String>, AllocError> {
+    match status {
+        Status::Done => of_done(alloc, words, named, world),
+        Status::NoMemory => plain(alloc, "out of memory"),
+        Status::Usage => Ok(Some(of_words(alloc, words)?)),
+        Status::Program => of_program(alloc, named.program, world.program.kept()),
+        Status::Script => of_script(alloc, words, named.script, world.script.kept()),
+        Status::ReadFault => Ok(Some(of_read(alloc, named, world)?)),
+        Status::WriteFault => Ok(Some(of_write(alloc, named, world)?)),
+        Status::DeviceFault => plain(alloc, "the device failed while the pool was made"),
+        Status::Image => of_refused_image(alloc, words, named, world),
+    }
+}
+
+fn plain(alloc: Global, what: &str) -> Result<Option<String>, AllocError> {
+    let told = Told::new(alloc, what)?;
+    Ok(Some(message_of(alloc, &told)?))
+}
+
+/// The message of a refused program.
+fn of_program(
+    alloc: Global,
+    path: &str,
+    text: Option<&[u8]>,
+) -> Result<Option<String>, AllocError> {
+    let note = match text {
+        Some(text) => program_note(alloc, path, text)?,
+        None => None,
+    };
+    note_or(alloc, note, "the program was refused")
+}
+
+/// The message of a refused script, by the grammar of the command.
+fn of_script(
+    alloc: Global,
+    words: &[String],
+    path: &str,
+    text: Option<&[u8]>,
+) -> Result<Option<String>, AllocError> {
+    let note = match text {
+        Some(text) if has_workers(alloc, words) => workers_note(alloc, path, text)?,
+        Some(text) => script_note(alloc, path, text)?,
+        None => None,
+    };
+    note_or(alloc, note, "the script was refused")
+}
+
+/// Whether the words ask for workers.
+fn has_workers(alloc: Global, words: &[String]) -> bool {
+    match plan_of(alloc, words) {
+        Ok(Plan::Workers { .. }) => true,
+        _ => false,
+    }
+}
+
+/// The message, or a plain one where there is none.
+fn note_or(alloc: Global, note: Option<String>, what: &str) -> Result<Option<String>, AllocError> {
+    match note {
+        Some(note) => Ok(Some(note)),
+        None => plain(alloc, what),
+    }
+}
+
+/// The message of answers that are traps or refusals.
+fn of_done<R: Files + Print + AllocGlobal, P: Drop>(
+    alloc: Global,
+    words: &[String],
+    named: Named<'_>,
+    world: &FileWorld<'_, R, P>,
+) -> Result<Option<String>, AllocError> {
+    let opened = match plan_of(alloc, words) {
+        Ok(Plan::Run { start_image, .. }) => start_image.is_some(),
+        Ok(Plan::Workers { .. }) => return of_workers(alloc, named.script, world.out.kept()),
+        _ => return Ok(None),
+    };
+    let (Some(program), Some(script), Some(answers)) = (
+        world.program.kept(),
+        world.script.kept(),
+        world.out.kept(),
+    ) else {
+        return Ok(None);
+    };
+    let run = RunTexts {
+        program_path: named.program,
+        program,
+        script_path: named.script,
+        script,
+        answers,
+        opened,
+        saved: named.image_out,
+    };
+    answers_note(alloc, run)
+}
+
+/// The message of answers to workers that are traps or refusals.
+fn of_workers(
+    alloc: Global,
+    path: &str,
+    answers: Option<&[u8]>,
+) -> Result<Option<String>, AllocError> {
+    match answers {
+        Some(answers) => workers_answers_note(alloc, path, answers),
+        None => Ok(None),
+    }
+}
+
+fn of_read<R: Files + Print + AllocGlobal, P: Drop>(
+    alloc: Global,
+    named: Named<'_>,
+    world: &FileWorld<'_, R, P>,
+) -> Result<String, AllocError> {
+    let program = world.program.source().reason();
+    let script = world.script.source().reason();
+    let told = if program.is_some() {
+        unread(alloc, named.program, program)?
+    } else if script.is_some() {
+        unread(alloc, named.script, script)?
+    } else {
+        unread(alloc, named.image_in, world.image_in.source().reason())?
+    };
+    message_of(alloc, &told)
+}
+
+fn of_write<R: Files + Print + AllocGlobal, P: Drop>(
+    alloc: Global,
+    named: Named<'_>,
+    world: &FileWorld<'_, R, P>,
+) -> Result<String, AllocError> {
+    let out = world.out.sink().reason();
+    let told = if out.is_some() {
+        unwritten(alloc, out)?
+    } else {
+        unsaved(alloc, named.image_out, world.image_out.reason())?
+    };
+    message_of(alloc, &told)
+}
+
+/// The message of an image, from the line that was written of it.
+fn of_refused_image<R: Files + Print + AllocGlobal, P: Drop>(
+    alloc: Global,
+    words: &[String],
+    named: Named<'_>,
+    world: &FileWorld<'_, R, P>,
+) -> Result<Option<String>, AllocError> {
+    let (Some(text), Some(image), Some(line)) = (
+        world.program.kept(),
+        world.image_in.kept(),
+        world.out.kept(),
+    ) else {
+        return plain(alloc, "the image was refused");
+    };
+    let line = String::from_utf8_lossy(alloc, line)?;
+    let refusal = refusal_of(alloc, words, line.as_str(), image);
+    let is_image = image.starts_with(b"CNVMPOOL");
+    let same_text = has_digest(image, &digest(text));
+    let told = of_image(alloc, named.image_in, refusal, is_image, same_text)?;
+    Ok(Some(message_of(alloc, &told)?))
+}
+
+/// The refusal that a line `image KIND A B` tells.
+fn refusal_of(alloc: Global, words: &[String], line: &str, image: &[u8]) -> ImageRefusal {
+    let mut parts = line.split_whitespace();
+    parts.next();
+    let kind = parts.next().unwrap_or("");
+    let found = number(parts.next());
+    let wanted = number(parts.next());
+    if kind == "short" {
+        return ImageRefusal::Short(found.unsigned_abs(), wanted.unsigned_abs());
+    }
+    if kind == "version" {
+        return ImageRefusal::Version(found, wanted);
+    }
+    if kind == "sizes" {
+        return ImageRefusal::Sizes(option_of(alloc, words, image), found, wanted);
+    }
+    if kind == "digest" {
+        return ImageRefusal::Digest;
+    }
+    if kind == "content" {
+        return ImageRefusal::Content(found.unsigned_abs(), wanted);
+    }
+    ImageRefusal::Magic
+}
+
+fn number(word: Option<&str>) -> i64 {
+    match word {
+        Some(word) => word.parse::<i64>().unwrap_or(0),
+        None => 0,
+    }
+}
+
+/// The option that asks for the first size in which the image differs.
+fn option_of(alloc: Global, words: &[String], image: &[u8]) -> Option<&'static str> {
+    let Ok(
+        Plan::Run {
+            slots,
+            records,
+            ticks,
+            ..
+        },
+    ) = plan_of(alloc, words)
+    else {
+        return None;
+    };
+    if word_at(image, 2) != slots {
+        return Some("--slots");
+    }
+    if word_at(image, 3) != records {
+        return Some("--log");
+    }
+    if word_at(image, 5) != ticks && word_at(image, 5) > 0 {
+        return Some("--ticks");
+    }
+    None
+}
+
+/// A word of an image, its lowest byte first; 0 past its end.
+fn word_at(image: &[u8], place: usize) -> u64 {
+    let mut word = 0u64;
+    for at in 0..8usize {
+        let byte = place
+            .saturating_mul(8)
+            .saturating_add(7usize.saturating_sub(at));
+        let value = image.get(byte).copied().unwrap_or(0);
+        word = word.wrapping_mul(256).wrapping_add(u64::from(value));
+    }
+    word
+}
+
+/// Whether an image has this digest.
+fn has_digest(image: &[u8], digest: &[i64; 4]) -> bool {
+    let mut place = 8usize;
+    for word in digest.as_slice() {
+        if word_at(image, place) != word.cast_unsigned() {
+            return false;
+        }
+        place = place.saturating_add(1);
+    }
+    true
+}

@@ -1,0 +1,10 @@
+//! What is told to a person of a script that was refused, and of answers that are traps or
+//! refusals. It rests on `cnvm_script` and `workers_script`, on `program_notes`, which finds where a
+//! trap came, and on `plain_notes`, which lays messages out.
+#![tactic(auto)]
+
+mod answers;
+mod refused_script;
+
+pub use answers::{RunTexts, answers_note, workers_answers_note};
+pub use refused_script::{script_note, workers_note};

@@ -1,0 +1,490 @@
+//! The C that isn't in the language, and what to write instead.
+
+use crate::spelled::{Spelled, Within, is, is_name, is_number, is_one};
+use std::alloc::{AllocError, Global};
+
+/// Words that C reserves and the language leaves out.
+const RESERVED: [(&str, &str); 26] = [
+    (
+        "char",
+        "every number is an `int64_t`: write `int64_t` for `char`",
+    ),
+    (
+        "short",
+        "every number is an `int64_t`: write `int64_t` for `short`",
+    ),
+    (
+        "int",
+        "every number is an `int64_t`: write `int64_t` for `int`",
+    ),
+    (
+        "long",
+        "every number is an `int64_t`: write `int64_t` for `long`",
+    ),
+    (
+        "float",
+        "numbers are whole: write an `int64_t` of smaller units for `float`",
+    ),
+    (
+        "double",
+        "numbers are whole: write an `int64_t` of smaller units for `double`",
+    ),
+    (
+        "signed",
+        "every number is an `int64_t`, which has a sign: leave `signed` out",
+    ),
+    (
+        "unsigned",
+        "every number is an `int64_t`: write `int64_t` for `unsigned`",
+    ),
+    (
+        "const",
+        "leave `const` out: the language has no marks on types",
+    ),
+    (
+        "volatile",
+        "leave `volatile` out: the language has no marks on types",
+    ),
+    (
+        "restrict",
+        "leave `restrict` out: the language has no marks on types",
+    ),
+    ("static", "leave `static` out: a program is one file"),
+    ("extern", "leave `extern` out: a program is one file"),
+    ("inline", "leave `inline` out"),
+    ("register", "leave `register` out"),
+    ("auto", "leave `auto` out, and write the type"),
+    (
+        "typedef",
+        "there is no `typedef`: write `struct NAME` each time",
+    ),
+    (
+        "enum",
+        "there is no `enum`: write a function for each number, as `int64_t size() { return 64; }`",
+    ),
+    ("union", "there is no `union`: write a field for each part"),
+    (
+        "sizeof",
+        "there is no `sizeof`: each value is one word, and `pm_new(struct NAME)` knows its size",
+    ),
+    (
+        "do",
+        "there is no `do`: write `while (1) { .. if (!c) { break; } }`",
+    ),
+    (
+        "switch",
+        "there is no `switch`: write `if (x == 1) { .. } else if (x == 2) { .. }`",
+    ),
+    (
+        "case",
+        "there is no `switch`: write `if (x == 1) { .. } else if (x == 2) { .. }`",
+    ),
+    (
+        "default",
+        "there is no `switch`: write `if (x == 1) { .. } else { .. }`",
+    ),
+    (
+        "goto",
+        "there is no `goto`: write a function with `return`, or a flag that a loop tests",
+    ),
+    (
+        "_Bool",
+        "there is no `_Bool`: write `int64_t`, with 0 and 1",
+    ),
+];
+
+/// Names that stand for types of numbers in C.
+const NUMBER_TYPES: [&str; 17] = [
+    "bool",
+    "uint64_t",
+    "int32_t",
+    "uint32_t",
+    "int16_t",
+    "uint16_t",
+    "int8_t",
+    "uint8_t",
+    "size_t",
+    "ssize_t",
+    "intptr_t",
+    "uintptr_t",
+    "off_t",
+    "u64",
+    "i64",
+    "uint",
+    "ulong",
+];
+
+/// Words of the language that are no names.
+const WORDS: [&str; 17] = [
+    "int64_t",
+    "void",
+    "struct",
+    "persistent",
+    "root",
+    "tx",
+    "if",
+    "else",
+    "while",
+    "for",
+    "break",
+    "continue",
+    "return",
+    "NULL",
+    "pm_new",
+    "pm_free",
+    "abort",
+];
+
+/// Tokens after which a name stands.
+const BEFORE_NAMES: [&str; 5] = ["int64_t", "*", "struct", "->", "."];
+
+/// What to write instead of what stands at a refused token, if it is C that was left out. `value`
+/// says whether a value could stand there.
+pub fn left_out(
+    alloc: Global,
+    near: &Spelled<'_>,
+    value: bool,
+) -> Result<Option<String>, AllocError> {
+    if let Some(note) = by_word(near.here()) {
+        return some(alloc, note);
+    }
+    if let Some(note) = by_mark(near, value) {
+        return some(alloc, note);
+    }
+    if let Some(note) = by_place(near) {
+        return some(alloc, note);
+    }
+    by_name(alloc, near)
+}
+
+fn some(alloc: Global, note: &str) -> Result<Option<String>, AllocError> {
+    Ok(Some(String::from_str(alloc, note)?))
+}
+
+/// A word that C reserves.
+fn by_word(here: &[u8]) -> Option<&'static str> {
+    for (word, note) in RESERVED {
+        if is(here, word) {
+            return Some(note);
+        }
+    }
+    None
+}
+
+/// A mark that has another place in C.
+fn by_mark(near: &Spelled<'_>, value: bool) -> Option<&'static str> {
+    let here = near.here();
+    if is_one(here, &JOINED) && is(near.after(1), "=") {
+        return Some(JOINED_NOTE);
+    }
+    if is(here, "*") && (value || !is_number(near.before(1))) {
+        return by_star(near);
+    }
+    if value {
+        return by_sign(near);
+    }
+    if is(here, ",") {
+        return by_comma(near);
+    }
+    if is(here, "[") {
+        return by_bracket(near);
+    }
+    if is(here, "=") {
+        return by_assign(near);
+    }
+    if is_one(here, &["++", "--"]) {
+        return Some(STEP_NOTE);
+    }
+    if is(here, ".") {
+        return by_dot(near);
+    }
+    if is(here, "->") && is(near.before(1), "root") {
+        return Some("the root is no pointer: write `root.f`");
+    }
+    if is_one(here, &OPERATORS) && near.within() == Within::Body {
+        return Some(VALUE_NOTE);
+    }
+    None
+}
+
+const JOINED_NOTE: &str = "there are `=`, `+=` and `-=` alone: write `x = x * 2` for `x *= 2`";
+
+const STEP_NOTE: &str =
+    "`x++` and `x--` are statements of their own, with the mark after the target";
+
+const VALUE_NOTE: &str = "a value alone is no statement: assign it, return it, or leave it out";
+
+/// A mark where a value could stand.
+fn by_sign(near: &Spelled<'_>) -> Option<&'static str> {
+    let here = near.here();
+    if is(here, "&") {
+        return Some("there are no addresses: only objects have pointers, and `pm_new` gives them");
+    }
+    if is(here, "+") {
+        return Some("there is no unary `+`: leave it out");
+    }
+    if is_one(here, &["++", "--"]) {
+        return Some(STEP_NOTE);
+    }
+    if is(here, "{") && is(near.before(1), "=") {
+        return Some("there are no lists of first values: assign each field");
+    }
+    if is_one(here, &[";", ")", "]", ","]) {
+        return Some("a value is missing here");
+    }
+    None
+}
+
+fn by_star(near: &Spelled<'_>) -> Option<&'static str> {
+    let last = near.before(1);
+    if is(near.before(3), "persistent") {
+        return by_root(near.here());
+    }
+    if is(last, "int64_t") || is_one(last, &NUMBER_TYPES) {
+        return Some("there are no pointers to numbers: put the number into a struct, or return it");
+    }
+    if is(last, "*") {
+        return Some("there are no pointers to pointers: put the pointer into a struct");
+    }
+    if is(last, "void") {
+        return Some("there is no `void *`: a pointer leads to objects of one struct");
+    }
+    if is_name(last) {
+        return Some("a pointer is declared with its struct: write `struct NAME *p`");
+    }
+    Some("there is no `*p`: write `p->field`")
+}
+
+fn by_comma(near: &Spelled<'_>) -> Option<&'static str> {
+    if near.in_for() {
+        return Some(
+            "each part of a `for` is one statement: write others before the loop and at its end",
+        );
+    }
+    match near.within() {
+        Within::Body if is_one(near.first(), &["int64_t", "struct"]) => {
+            Some("one declaration declares one name: write one for each")
+        }
+        Within::Body => Some("there is no comma operator: write two statements"),
+        Within::Fields => Some("one declaration declares one field: write one for each"),
+        Within::Parameters => Some("a parameter has a type and a name, as `int64_t n`"),
+        Within::Top => Some(
+            "there are no global variables but the root: write a field of its struct",
+        ),
+    }
+}
+
+fn by_bracket(near: &Spelled<'_>) -> Option<&'static str> {
+    match near.within() {
+        Within::Body => Some(
+            "there are no local arrays: write an array field of the root or of an object",
+        ),
+        Within::Fields => Some(
+            "an array has one length: write `t[16]` and `t[4 * i + j]` for `t[4][4]`",
+        ),
+        Within::Parameters => Some("an array is no parameter: pass a pointer to its object"),
+        Within::Top => Some(
+            "there are no global variables but the root: write a field of its struct",
+        ),
+    }
+}
+
+/// The marks that C joins with `=` and the language doesn't.
+const JOINED: [&str; 8] = ["*", "/", "%", "<<", ">>", "&", "|", "^"];
+
+/// The binary operators.
+const OPERATORS: [&str; 18] = [
+    "*", "/", "%", "+", "-", "<<", ">>", "<", "<=", ">", ">=", "==", "!=", "&", "^", "|", "&&",
+    "||",
+];
+
+fn by_assign(near: &Spelled<'_>) -> Option<&'static str> {
+    if is_one(near.before(1), &JOINED) {
+        return Some(JOINED_NOTE);
+    }
+    if is_one(near.before(1), &["int64_t", "*"]) {
+        return Some("a name is missing before the `=`");
+    }
+    match near.within() {
+        Within::Top => Some("there are no global variables but the root, whose words begin with 0"),
+        Within::Fields => Some("a field has no first value: it begins with 0"),
+        Within::Parameters => Some("a parameter has no first value: each call gives one"),
+        Within::Body => Some(
+            "an assignment is a statement, to a name, a field or an element; `==` compares",
+        ),
+    }
+}
+
+fn by_dot(near: &Spelled<'_>) -> Option<&'static str> {
+    let last = near.before(1);
+    if is_number(last) {
+        return Some("numbers are whole: write a number of smaller units");
+    }
+    if near.within() == Within::Parameters {
+        return Some("a function has a fixed number of parameters");
+    }
+    Some("an object is reached by a pointer: write `p->f`; only the root has `root.f`")
+}
+
+/// What the place of the token tells.
+fn by_place(near: &Spelled<'_>) -> Option<&'static str> {
+    let here = near.here();
+    if is_one(near.before(1), &["if", "while"]) {
+        return Some("a condition stands in brackets, as in `if (x)`");
+    }
+    if here.is_empty() {
+        return Some("the text ends here: a `}` or a `;` is missing above");
+    }
+    if is_one(here, &["break", "continue"]) {
+        return Some("`break` and `continue` stand in loops alone");
+    }
+    if is(here, "else") {
+        return Some("an `else` follows one statement after its `if`: put several into `{ }`");
+    }
+    match near.within() {
+        Within::Top => at_top(near),
+        Within::Parameters => in_parameters(near),
+        Within::Fields => in_fields(near),
+        Within::Body => in_body(near),
+    }
+}
+
+fn at_top(near: &Spelled<'_>) -> Option<&'static str> {
+    let here = near.here();
+    let last = near.before(1);
+    if is(last, "tx") && !is_one(here, &NUMBER_TYPES) {
+        return Some(MARK_NOTE);
+    }
+    if is(here, "abort") && is(last, "abort") {
+        return Some("one `abort` is enough");
+    }
+    if is(here, "abort") {
+        return Some("`abort` follows `tx`: write `tx abort int64_t f() { .. }`");
+    }
+    if is(near.before(3), "persistent") && is(near.before(2), "struct") {
+        return by_root(here);
+    }
+    if is(last, "persistent") {
+        return Some(ROOT_NOTE);
+    }
+    if is(here, "root") && is(near.before(2), "struct") {
+        return Some(ROOT_NOTE);
+    }
+    if is(last, "}") && is_name(here) && is(near.after(1), ";") {
+        return Some("write `struct NAME { .. };`, and then `persistent struct NAME root;`");
+    }
+    if is_one(here, &["if", "while", "for", "return", "}"]) {
+        return Some("this stands outside of every function: a `}` above it is one too many");
+    }
+    if is(here, ";") && is(last, ")") {
+        return Some(
+            "there are no prototypes, and none is needed: functions are known in the whole file",
+        );
+    }
+    if is(here, ";") && is(near.before(2), "struct") {
+        return Some("there are no forward declarations: structs are known in the whole file");
+    }
+    if is(here, ";") {
+        return Some("there are no global variables but the root: write a field of its struct");
+    }
+    None
+}
+
+const MARK_NOTE: &str =
+    "`tx` takes no mark but `abort`: a trap in `tx abort int64_t f()` restores the pool";
+
+const ROOT_NOTE: &str = "the root is declared once: write `persistent struct NAME root;`";
+
+fn by_root(here: &[u8]) -> Option<&'static str> {
+    if is(here, "*") {
+        return Some("the root is a struct and no pointer: write `persistent struct NAME root;`");
+    }
+    Some("the one persistent variable is named `root`: write `persistent struct NAME root;`")
+}
+
+fn in_parameters(near: &Spelled<'_>) -> Option<&'static str> {
+    let here = near.here();
+    if is_one(here, &[",", ")"]) && is_one(near.before(1), &["int64_t", "*"]) {
+        return Some("a parameter has a name too, as `int64_t n`");
+    }
+    if is_name(here) && is(near.before(2), "struct") {
+        return Some("a struct is no value: pass a pointer, as `struct NAME *p`");
+    }
+    if is(here, "(") {
+        return Some("there are no pointers to functions");
+    }
+    if is_name(here) && is_one(near.before(1), &["(", ","]) && !is_one(here, &NUMBER_TYPES) {
+        return Some("a parameter has a type and a name, as `int64_t n`");
+    }
+    None
+}
+
+fn in_fields(near: &Spelled<'_>) -> Option<&'static str> {
+    let here = near.here();
+    if is(here, "{") {
+        return Some("a struct holds no struct: write its fields, or a pointer to an object");
+    }
+    if is_name(here) && is(near.before(2), "struct") {
+        return Some("a struct holds no struct: write its fields, or a pointer to an object");
+    }
+    if is(here, "}") && is(near.before(1), "{") {
+        return Some("a struct has a field at least");
+    }
+    if is_name(here) && is(near.before(1), "[") {
+        return Some("the length of an array is a numeral");
+    }
+    None
+}
+
+fn in_body(near: &Spelled<'_>) -> Option<&'static str> {
+    let here = near.here();
+    let last = near.before(1);
+    if is(here, "void") && is(near.after(1), "*") {
+        return Some("there is no `void *`: a pointer leads to objects of one struct");
+    }
+    if is_one(here, &["tx", "persistent", "void"]) && !is_one(last, &BEFORE_NAMES) {
+        return Some("this stands in the body of a function: a `}` above it is missing");
+    }
+    if is_one(here, &["int64_t", "struct"]) && is(last, "(") {
+        return Some(
+            "there are no casts, and a declaration stands in no brackets but those of `for`",
+        );
+    }
+    if is(last, "(") && is(near.before(2), "pm_new") {
+        return Some("write `pm_new(struct NAME)`");
+    }
+    if is_name(here) && is(near.before(2), "struct") {
+        return Some("a struct is no value: declare a pointer, as `struct NAME *p`");
+    }
+    if is(here, ";") {
+        return Some(VALUE_NOTE);
+    }
+    None
+}
+
+/// A name where none can stand.
+fn by_name(alloc: Global, near: &Spelled<'_>) -> Result<Option<String>, AllocError> {
+    let here = near.here();
+    let last = near.before(1);
+    if is_one(here, &NUMBER_TYPES) || is_one(last, &NUMBER_TYPES) {
+        return some(alloc, "every number is an `int64_t`: write `int64_t`");
+    }
+    if is_one(here, &WORDS) && is_one(last, &BEFORE_NAMES) {
+        return some(alloc, "this is a word of the language: choose another name");
+    }
+    if is_name(here) && is_name(last) && !is_one(last, &WORDS) && near.first() == last {
+        let named = String::from_utf8_lossy(alloc, last)?;
+        let name = named.as_str();
+        let note = format!(in alloc;
+            "`{name}` is no type: there are `int64_t` and `struct {name} *`"
+        )?;
+        return Ok(Some(note));
+    }
+    if is_name(here) && near.within() == Within::Top {
+        return some(
+            alloc,
+            "an item begins with `struct`, `persistent`, `tx`, `void` or `int64_t`",
+        );
+    }
+    Ok(None)
+}

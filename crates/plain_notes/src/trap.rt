@@ -1,0 +1,133 @@
+//! Messages of traps and refused commands.
+
+use crate::told::Told;
+use std::alloc::{AllocError, Global};
+
+/// Each trap by the name that answers print, in words, and with its remedy.
+const TRAPS: [(&str, &str, &str); 8] = [
+    (
+        "null",
+        "a pointer that is NULL was followed or freed",
+        "test what `pm_new` and a search give",
+    ),
+    (
+        "stale",
+        "a pointer led to a slot that is free or holds another struct",
+        "set each pointer to NULL when its object is freed",
+    ),
+    (
+        "index",
+        "an index was outside of its array",
+        "test an argument before it is an index",
+    ),
+    (
+        "divide",
+        "a number was divided by 0",
+        "test the divisor before `/` and `%`",
+    ),
+    (
+        "steps",
+        "the transaction needs more ticks than it has",
+        "do less in one call, or give more with `--ticks`, up to 1000000, to a new pool",
+    ),
+    (
+        "abort",
+        "`abort()` was reached",
+        "return a value of its own where nothing is broken",
+    ),
+    (
+        "logfull",
+        "a store has to be logged, and the log is full",
+        "do less in one call, or give a new pool more records with `--log`, up to 4096",
+    ),
+    (
+        "depth",
+        "more than 256 functions would be open",
+        "write a loop in place of the recursion",
+    ),
+];
+
+/// What a trap leaves of the pool.
+#[derive(Clone, Copy, Debug, PartialEq, Eq)]
+pub enum PoolLeft {
+    /// It takes no more calls.
+    Unusable,
+    /// It is as it was before the call.
+    Restored,
+}
+
+/// The message of a trap in a call of this transaction, from this line of the script. Line 0 is the
+/// recovery that opens an image.
+pub fn of_trap(
+    alloc: Global,
+    script: &str,
+    line: u64,
+    transaction: &str,
+    kind: &str,
+    left: PoolLeft,
+) -> Result<Told, AllocError> {
+    let call = call_text(alloc, script, line, transaction)?;
+    trapped(alloc, call.as_str(), kind, left)
+}
+
+/// The message of a trap in a transaction of this worker.
+pub fn of_worker_trap(alloc: Global, worker: &str, kind: &str) -> Result<Told, AllocError> {
+    let call = format!(in alloc; "worker {worker}")?;
+    trapped(alloc, call.as_str(), kind, PoolLeft::Unusable)
+}
+
+fn trapped(alloc: Global, call: &str, kind: &str, left: PoolLeft) -> Result<Told, AllocError> {
+    for (name, words, remedy) in TRAPS {
+        if name == kind {
+            let what = format!(in alloc; "{call} trapped: {words}")?;
+            let told = Told::new(alloc, what.as_str())?;
+            return with_left(alloc, told, kind, remedy, left);
+        }
+    }
+    let what = format!(in alloc; "{call} trapped: {kind}")?;
+    Told::new(alloc, what.as_str())
+}
+
+/// The message with its remedy and with what is left of the pool. A transaction that rolls back
+/// may well reach `abort()`, so that needs no remedy.
+fn with_left(
+    alloc: Global,
+    told: Told,
+    kind: &str,
+    remedy: &str,
+    left: PoolLeft,
+) -> Result<Told, AllocError> {
+    match left {
+        PoolLeft::Unusable => told.with(alloc, remedy)?.with(
+            alloc,
+            "the pool takes no more calls; the stores before the trap stand",
+        ),
+        PoolLeft::Restored => {
+            let told = if kind == "abort" {
+                told
+            } else {
+                told.with(alloc, remedy)?
+            };
+            told.with(
+                alloc,
+                "the pool was restored as it was before the call, and takes further calls",
+            )
+        }
+    }
+}
+
+/// The call in words.
+fn call_text(
+    alloc: Global,
+    script: &str,
+    line: u64,
+    transaction: &str,
+) -> Result<String, AllocError> {
+    if line == 0 {
+        return String::from_str(alloc, "the recovery of the opened image");
+    }
+    if transaction.is_empty() {
+        return format!(in alloc; "{script}:{line}: the owed transaction");
+    }
+    format!(in alloc; "{script}:{line}: `{transaction}`")
+}

@@ -1,0 +1,135 @@
+-- What each stage of the front end refuses is refused at the byte that its answer tells.
+use Rattle.std.proofs.Common.{◌≡◌, ◌⊎◌, ℕ, ◌+◌, ◌≤◌, List, [], ◌++◌, Some}
+use Rattle.std.proofs.Common.{None, Ok, Err, length, map, min, refl, ⊎_elim, ap}
+use Rattle.std.proofs.Common.{◌≢◌, ◌<◌, ◌∙◌, inl, inr, sym, subst, arith}
+use Rattle.std.proofs.Math.Nat.{min-eq_left, min-eq_right, min-le_right}
+use Rattle.std.proofs.lemmas.Bool.{cases_order}
+use Rattle.std.proofs.lemmas.Option.{slice_get_past}
+use Rattle.c_lexer.specs.Cuts.{answer}
+use Rattle.c_lexer.specs.TokenList.{Tokens, start_at}
+use Rattle.c_lexer.specs.declared.fault.LexFault.{LexFault}
+use Rattle.c_lexer.specs.declared.fault.LexFault.TheVariants as lex
+use Rattle.c_parser.specs.Exact.{LightBefore, NoneBegins, SomeBegins, SomeSinks}
+use Rattle.c_parser.specs.Weight.{spelled_weights}
+use Rattle.c_tree.specs.ItemSpelling.{SpellsProgram}
+use Rattle.c_tree.specs.ItemTree.{ItemTree}
+use Rattle.c_tree.specs.Program.{Program, tree_of}
+use Rattle.c_types.specs.declared.fault.TypeFault.{TypeFault}
+use Rattle.c_types.specs.declared.fault.TypeFault.TheVariants as fault
+use Rattle.c_types.specs.Fault.{breaks, refusal}
+use Rattle.program_notes.specs.RefusedAt.{ReadsAs, RefusedAt, Tells}
+use Rattle.program_notes.specs.RefusedAt.{Byte, Number, Comment, Syntax, Deep, Rule}
+use Rattle.program_notes.specs.RefusedAt.{Long, Nothing, AtPlace, rule_place}
+use Rattle.plain_notes.specs.Head.{head_text}
+use Rattle.plain_notes.specs.Place.{place_of}
+
+-- a refusal of the lexer is want of memory, or the text's own
+abbrev LexRefuses : List ℕ → LexFault → Type 0
+LexRefuses text f = (f ≡ lex.NoMemory) ⊎ (answer text ≡ Err f)
+
+pub byte_refused : (text : List ℕ) (f : LexFault) (line start : ℕ) → LexRefuses text f
+    → f ≡ lex.BadByte line start → RefusedAt text start
+byte_refused text f line start (inl e) is = let no : ⊥ = cc in absurd no
+byte_refused text f line start (inr told) is = Byte line start (told ∙ ap Err is)
+
+pub number_refused : (text : List ℕ) (f : LexFault) (line start : ℕ) → LexRefuses text f
+    → f ≡ lex.BadNumber line start → RefusedAt text start
+number_refused text f line start (inl e) is = let no : ⊥ = cc in absurd no
+number_refused text f line start (inr told) is = Number line start (told ∙ ap Err is)
+
+pub comment_refused : (text : List ℕ) (f : LexFault) (line start : ℕ) → LexRefuses text f
+    → f ≡ lex.OpenComment line start → RefusedAt text start
+comment_refused text f line start (inl e) is = let no : ⊥ = cc in absurd no
+comment_refused text f line start (inr told) is = Comment line start (told ∙ ap Err is)
+
+pub long_refused : (text : List ℕ) → LexRefuses text lex.TooLong → answer text ≡ Err lex.TooLong
+long_refused text (inl e) = let no : ⊥ = cc in absurd no
+long_refused text (inr is) = is
+
+pub long : (path text message : List ℕ) → answer text ≡ Err lex.TooLong
+    → Tells path text (Some message)
+long path text message is = Long message is
+
+-- what `message_at` promises of a message of a place
+pub placed : (path text message what : List ℕ) (start : ℕ) → RefusedAt text start
+    → ((rest : List ℕ) × (message ≡ head_text path (place_of text start) what ++ rest))
+    → Tells path text (Some message)
+placed path text message what start refused begins = AtPlace message (record {
+  start = start;
+  refused = refused;
+  what = what;
+  rest = begins.0;
+  begins = begins.1;
+})
+
+-- from the end on, a place is that of the end
+pub start_min : (list : Tokens) (t : ℕ)
+    → start_at list (min t (length list.tokens)) ≡ start_at list t
+start_min list t =
+    ⊎_elim (λ e. within (omega arith)) (⊎_elim (λ less. within (omega arith)) past)
+    (cases_order t (length list.tokens))
+  where
+    within : t ≤ length list.tokens
+        → start_at list (min t (length list.tokens)) ≡ start_at list t
+    within inside = ap (λ (n : ℕ). start_at list n) (min-eq_left inside)
+
+    past : length list.tokens < t
+        → start_at list (min t (length list.tokens)) ≡ start_at list t
+    past far =
+        ap (λ (n : ℕ). start_at list n) (min-eq_right (omega arith))
+        ∙ rw (
+          slice_get_past list.tokens (length list.tokens) (omega arith),
+          slice_get_past list.tokens t (omega arith),
+        ) refl
+
+pub min_within : (a b : ℕ) → min a b ≤ b
+min_within a b = min-le_right a b
+
+pub ruleset start = (start_min, min_within)
+
+pub syntax_refused : (text : List ℕ) (list : Tokens) (t : ℕ) → answer text ≡ Ok list
+    → NoneBegins list.tokens (t + 1) → SomeBegins list.tokens t
+    → RefusedAt text (start_at list t)
+syntax_refused text list t lexed none some = Syntax list t lexed none some
+
+pub deep_refused : (text : List ℕ) (list : Tokens) (t : ℕ) → answer text ≡ Ok list
+    → SomeSinks list.tokens t → RefusedAt text (start_at list t)
+deep_refused text list t lexed some = Deep list t lexed some
+
+-- what `parse` promises of a tree
+pub reads : (text : List ℕ) (list : Tokens) (tree : Program) → answer text ≡ Ok list
+    → SpellsProgram list.tokens (tree_of tree)
+    → ((xs : List ItemTree) (spelled : SpellsProgram list.tokens xs)
+    → LightBefore (spelled_weights spelled) (length list.tokens))
+    → tree.lines ≡ map (λ placed. placed.line) list.tokens → ReadsAs text list tree
+reads text list tree lexed spelled light lines = record {
+  lexed = lexed;
+  spelled = spelled;
+  light = light (tree_of tree) spelled;
+  lines = lines;
+}
+
+pub ruleset of_tokens = (syntax_refused, deep_refused, reads)
+
+pub accepted : (path text : List ℕ) (list : Tokens) (tree : Program) → ReadsAs text list tree
+    → breaks tree ≡ [] → Tells path text None
+accepted path text list tree is holds = Nothing (record {
+  list = list;
+  tree = tree;
+  reads = is;
+  holds = holds;
+})
+
+pub rule_refused : (text : List ℕ) (list : Tokens) (tree : Program) (f : TypeFault)
+    → ReadsAs text list tree → (f ≡ fault.NoMemory) ⊎ (refusal tree ≡ Some f)
+    → (f ≡ fault.NoMemory) ⊎ RefusedAt text (start_at list (rule_place f))
+rule_refused text list tree f is (inl e) = inl e
+rule_refused text list tree f is (inr told) = inr (Rule list tree f is told)
+
+-- another refusal than want of memory has a place
+pub refused_there : (text : List ℕ) (list : Tokens) (f : TypeFault) (t : ℕ)
+    → (f ≡ fault.NoMemory) ⊎ RefusedAt text (start_at list (rule_place f))
+    → f ≢ fault.NoMemory → t ≡ rule_place f → RefusedAt text (start_at list t)
+refused_there text list f t (inl e) other is = absurd (other e)
+refused_there text list f t (inr refused) other is =
+    subst (λ (u : ℕ). RefusedAt text (start_at list u)) (sym is) refused

@@ -1,0 +1,70 @@
+-- At which byte of a program's text the front end refuses it, and what a message of it says.
+use Rattle.std.specs.Prelude.{◌≡◌, ℕ, ◌+◌, List, [], ◌++◌, Option, Some, None, Ok, Err, length, map}
+use Rattle.c_lexer.specs.Cuts.{answer}
+use Rattle.c_lexer.specs.TokenList.{Tokens, start_at}
+use Rattle.c_lexer.specs.declared.fault.LexFault.TheVariants as lex
+use Rattle.c_parser.specs.Exact.{LightBefore, NoneBegins, SomeBegins, SomeSinks}
+use Rattle.c_parser.specs.Weight.{spelled_weights}
+use Rattle.c_tree.specs.ItemSpelling.{SpellsProgram}
+use Rattle.c_tree.specs.Program.{Program, tree_of}
+use Rattle.c_types.specs.declared.fault.TypeFault.{TypeFault}
+use Rattle.c_types.specs.declared.fault.TypeFault.TheVariants as fault
+use Rattle.c_types.specs.Fault.{breaks, refusal}
+use Rattle.plain_notes.specs.Head.{head_text}
+use Rattle.plain_notes.specs.Place.{place_of}
+
+-- the token at which a rule is broken
+abbrev pub rule_place : TypeFault → ℕ
+rule_place (fault.UnknownName line place) = place
+rule_place (fault.Twice line place) = place
+rule_place (fault.Mismatch line place) = place
+rule_place (fault.NotAssignable line place) = place
+rule_place (fault.Arity line place) = place
+rule_place (fault.TooBig line place limit value) = place
+rule_place (fault.NoRoot line place) = place
+rule_place (fault.BadTx line place) = place
+rule_place fault.NoMemory = 0
+
+-- the text has these tokens, and the parser gives this tree for them
+pub record ReadsAs (text : List ℕ) (list : Tokens) (tree : Program) : Type 0 where
+  pub lexed : answer text ≡ Ok list
+  pub spelled : SpellsProgram list.tokens (tree_of tree)
+  pub light : LightBefore (spelled_weights spelled) (length list.tokens)
+  pub lines : tree.lines ≡ map (λ placed. placed.line) list.tokens
+
+-- The text is refused at the byte that has so many before it: a byte that begins no token, a run
+-- that is no number, a comment that is never closed; the first token with which no program begins,
+-- or the first that stands too deep; or the token at which the reported rule is broken.
+pub data RefusedAt (text : List ℕ) : ℕ → Type 0 where
+  Byte : (line start : ℕ) → answer text ≡ Err (lex.BadByte line start) → RefusedAt text start
+  Number : (line start : ℕ) → answer text ≡ Err (lex.BadNumber line start) → RefusedAt text start
+  Comment : (line start : ℕ) → answer text ≡ Err (lex.OpenComment line start)
+      → RefusedAt text start
+  Syntax : (list : Tokens) (t : ℕ) → answer text ≡ Ok list → NoneBegins list.tokens (t + 1)
+      → SomeBegins list.tokens t → RefusedAt text (start_at list t)
+  Deep : (list : Tokens) (t : ℕ) → answer text ≡ Ok list → SomeSinks list.tokens t
+      → RefusedAt text (start_at list t)
+  Rule : (list : Tokens) (tree : Program) (f : TypeFault) → ReadsAs text list tree
+      → refusal tree ≡ Some f → RefusedAt text (start_at list (rule_place f))
+
+-- the text has a tree that breaks no rule
+pub record IsAccepted (text : List ℕ) : Type 0 where
+  pub list : Tokens
+  pub tree : Program
+  pub reads : ReadsAs text list tree
+  pub holds : breaks tree ≡ []
+
+-- a message that begins with the path, the line and the column of the refused byte
+pub record TellsPlace (path text message : List ℕ) : Type 0 where
+  pub start : ℕ
+  pub refused : RefusedAt text start
+  pub what : List ℕ
+  pub rest : List ℕ
+  pub begins : message ≡ head_text path (place_of text start) what ++ rest
+
+-- A text that is too long has no place; every other refused text has one; an accepted text has no
+-- message.
+pub data Tells (path text : List ℕ) : Option (List ℕ) → Type 0 where
+  Long : (message : List ℕ) → answer text ≡ Err lex.TooLong → Tells path text (Some message)
+  AtPlace : (message : List ℕ) → TellsPlace path text message → Tells path text (Some message)
+  Nothing : IsAccepted text → Tells path text None

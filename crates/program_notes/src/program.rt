@@ -1,0 +1,268 @@
+//! The message of a program that is refused.
+
+ghost use Rattle.std.specs.Prelude.{◌≡◌, ◌≢◌, ◌⊎◌, ℕ, ◌+◌, List, [], Ok, Err, Some, IfOk, IfErr};
+ghost use Rattle.std.specs.Prelude.{IfSome};
+ghost use Rattle.std.specs.Prelude.{option_map, string_bytes};
+ghost use Rattle.c_lexer.specs.Cuts.{answer};
+ghost use Rattle.c_lexer.specs.TokenList.{start_at};
+ghost use Rattle.program_notes.specs.RefusedAt.{ReadsAs, RefusedAt, Tells, rule_place};
+ghost use Rattle.c_types.specs.Fault.{breaks, refusal};
+
+use crate::syntax::syntax;
+use crate::typing::typing;
+use c_lexer::{LexFault, TokenList, tokens};
+use c_parser::{ParseFault, parse};
+use c_tree::Ast;
+use c_types::{TypeFault, check};
+use plain_notes::{Spelled, Told, bad_byte, bad_number, first_token, message_at, message_of};
+use std::alloc::{AllocError, Global};
+
+/// The message of a program's text, if it is refused. It begins with the path, the line and the
+/// column of the refused byte or token, but for a text that is too long.
+pub fn program_note(alloc: Global, path: &str, text: &[u8]) -> Result<Option<String>, AllocError>
+    ensures tells { IfOk result (λ note. Tells path.now text.now (option_map string_bytes note)) }
+{
+    match list_of(alloc, text) {
+        Err(fault) => by_lexer(alloc, path, text, fault),
+        Ok(list) => of_tokens(alloc, path, text, &list),
+    }
+}
+
+fn list_of(alloc: Global, text: &[u8]) -> Result<TokenList, LexFault>
+    ensures ok { IfOk result (λ list. answer text.now ≡ Ok list) }
+    ensures err { IfErr result (λ fault. (fault ≡ LexFault.NoMemory)
+        ⊎ (answer text.now ≡ Err fault)) }
+{
+    tokens(alloc, text)
+}
+
+/// The text from a byte on.
+fn after(text: &[u8], start: u64) -> &[u8] {
+    text.split_at(text.len().min(start as usize)).1
+}
+
+#[tactic(auto, using(crate::proofs::Refusals::long_refused))]
+fn by_lexer(
+    alloc: Global,
+    path: &str,
+    text: &[u8],
+    fault: LexFault,
+) -> Result<Option<String>, AllocError>
+    requires { (fault ≡ LexFault.NoMemory) ⊎ (answer text.now ≡ Err fault) }
+    ensures tells { IfOk result (λ note. Tells path.now text.now (option_map string_bytes note)) }
+{
+    match fault {
+        LexFault::BadByte { start, .. } => {
+            let told = byte_told(alloc, after(text, start))?;
+            at(alloc, path, text, start, &told)
+        }
+        LexFault::BadNumber { start, .. } => {
+            let told = number_told(alloc, after(text, start))?;
+            at(alloc, path, text, start, &told)
+        }
+        LexFault::OpenComment { start, .. } => {
+            let told = Told::new(alloc, "this comment is never closed")?.with(
+                alloc,
+                "close it with `*/`",
+            )?;
+            at(alloc, path, text, start, &told)
+        }
+        LexFault::TooLong => too_long(alloc, path, text),
+        LexFault::NoMemory => Err(AllocError),
+    }
+}
+
+/// What is told of a byte that begins no token; `left` is the text from it on.
+fn byte_told(alloc: Global, left: &[u8]) -> Result<Told, AllocError> {
+    Told::new(alloc, "no token begins with this byte")?.with(alloc, bad_byte(left))
+}
+
+/// What is told of a run that is no number; `left` is the text from it on.
+fn number_told(alloc: Global, left: &[u8]) -> Result<Told, AllocError> {
+    let run = first_token(left);
+    let shown = String::from_utf8_lossy(alloc, run)?;
+    let shown = shown.as_str();
+    let what = format!(in alloc; "`{shown}` is no number")?;
+    let note = bad_number(alloc, run)?;
+    Told::new(alloc, what.as_str())?.with(alloc, note.as_str())
+}
+
+/// The most bytes of a program.
+const BYTES: usize = 262_144;
+
+#[tactic(auto, using(crate::proofs::Refusals::long))]
+fn too_long(alloc: Global, path: &str, text: &[u8]) -> Result<Option<String>, AllocError>
+    requires { answer text.now ≡ Err LexFault.TooLong }
+    ensures tells { IfOk result (λ note. Tells path.now text.now (option_map string_bytes note)) }
+{
+    let message = long_text(alloc, path, text.len())?;
+    Ok(Some(message))
+}
+
+fn long_text(alloc: Global, path: &str, size: usize) -> Result<String, AllocError> {
+    let what = if size > BYTES {
+        format!(in alloc; "{path}: the program has {size} bytes; 262144 is the limit")?
+    } else {
+        format!(in alloc; "{path}: the program has more than 16384 tokens")?
+    };
+    let told = Told::new(alloc, what.as_str())?;
+    message_of(alloc, &told)
+}
+
+/// The message of a text that is refused at this byte.
+#[tactic(auto, using(crate::proofs::Refusals::placed))]
+fn at(
+    alloc: Global,
+    path: &str,
+    text: &[u8],
+    start: u64,
+    told: &Told,
+) -> Result<Option<String>, AllocError>
+    requires { RefusedAt text.now start }
+    ensures tells { IfOk result (λ note. Tells path.now text.now (option_map string_bytes note)) }
+{
+    let message = message_at(alloc, path, text, start, told)?;
+    Ok(Some(message))
+}
+
+/// The message of a text that is refused at this token.
+fn at_token(
+    alloc: Global,
+    path: &str,
+    text: &[u8],
+    list: &TokenList,
+    place: u64,
+    told: &Told,
+) -> Result<Option<String>, AllocError>
+    requires { RefusedAt text.now (start_at list.now place) }
+    ensures tells { IfOk result (λ note. Tells path.now text.now (option_map string_bytes note)) }
+{
+    at(alloc, path, text, start_of(list, place), told)
+}
+
+/// The number of bytes before the token at a place; from the list's length on, the text's size.
+#[tactic(auto, using(crate::proofs::Refusals::start))]
+pub(crate) fn start_of(list: &TokenList, place: u64) -> u64
+    ensures { result ≡ start_at list.now place }
+{
+    list.start(place.min(list.len()))
+}
+
+/// The tokens of a text as they are spelled.
+pub(crate) fn spelled<'a>(
+    alloc: Global,
+    text: &'a [u8],
+    list: &TokenList,
+) -> Result<Vec<&'a [u8]>, AllocError> {
+    let mut words = Vec::new(alloc);
+    for place in 0..list.len() {
+        words.push(first_token(after(text, start_of(list, place))))?;
+    }
+    Ok(words)
+}
+
+#[tactic(auto, using(crate::proofs::Refusals::of_tokens))]
+fn of_tokens(
+    alloc: Global,
+    path: &str,
+    text: &[u8],
+    list: &TokenList,
+) -> Result<Option<String>, AllocError>
+    requires { answer text.now ≡ Ok list.now }
+    ensures tells { IfOk result (λ note. Tells path.now text.now (option_map string_bytes note)) }
+{
+    let words = spelled(alloc, text, list)?;
+    match parse(alloc, list) {
+        Ok(ast) => of_tree(alloc, path, text, list, &words, ast),
+        Err(ParseFault::Syntax(place)) => {
+            let near = Spelled {
+                words: &words,
+                place,
+            };
+            let told = syntax(alloc, text, list, &near)?;
+            at_token(alloc, path, text, list, place, &told)
+        }
+        Err(ParseFault::TooDeep(place)) => {
+            let told = deep_told(alloc)?;
+            at_token(alloc, path, text, list, place, &told)
+        }
+        Err(ParseFault::NoMemory) => Err(AllocError),
+    }
+}
+
+fn deep_told(alloc: Global) -> Result<Told, AllocError> {
+    Told::new(alloc, "this stands too deep: a token weighs at most 64")?.with(
+        alloc,
+        "write a local for a part of the expression, or a function for a part of the nesting",
+    )
+}
+
+/// The message of a tree, if it breaks a rule.
+fn of_tree(
+    alloc: Global,
+    path: &str,
+    text: &[u8],
+    list: &TokenList,
+    words: &[&[u8]],
+    ast: Ast,
+) -> Result<Option<String>, AllocError>
+    requires { ReadsAs text.now list.now ast }
+    ensures tells { IfOk result (λ note. Tells path.now text.now (option_map string_bytes note)) }
+{
+    let fault = match check(alloc, ast) {
+        Ok(_) => return Ok(None),
+        Err(fault) => fault,
+    };
+    of_rule(alloc, path, text, list, words, fault)
+}
+
+/// The message of a broken rule. The tree went with the refusal, so it is made once more.
+#[tactic(auto, using(crate::proofs::Refusals::refused_there))]
+fn of_rule(
+    alloc: Global,
+    path: &str,
+    text: &[u8],
+    list: &TokenList,
+    words: &[&[u8]],
+    fault: TypeFault,
+) -> Result<Option<String>, AllocError>
+    requires { (fault ≡ TypeFault.NoMemory)
+        ⊎ RefusedAt text.now (start_at list.now (rule_place fault)) }
+    ensures tells { IfOk result (λ note. Tells path.now text.now (option_map string_bytes note)) }
+{
+    let Some(place) = rule_place(fault) else {
+        return Err(AllocError);
+    };
+    let told = rule_told(alloc, list, Spelled { words, place }, fault)?;
+    at_token(alloc, path, text, list, place, &told)
+}
+
+fn rule_told(
+    alloc: Global,
+    list: &TokenList,
+    near: Spelled<'_>,
+    fault: TypeFault,
+) -> Result<Told, AllocError> {
+    match parse(alloc, list) {
+        Ok(ast) => typing(alloc, &ast, &near, fault),
+        Err(_) => Err(AllocError),
+    }
+}
+
+/// The place of the token at which a rule is broken. Want of memory has none.
+fn rule_place(fault: TypeFault) -> Option<u64>
+    ensures place { IfSome result (λ place. place ≡ rule_place fault) }
+    ensures rule { IfSome result (λ place. fault ≢ TypeFault.NoMemory) }
+{
+    match fault {
+        TypeFault::UnknownName { place, .. } => Some(place),
+        TypeFault::Twice { place, .. } => Some(place),
+        TypeFault::Mismatch { place, .. } => Some(place),
+        TypeFault::NotAssignable { place, .. } => Some(place),
+        TypeFault::Arity { place, .. } => Some(place),
+        TypeFault::TooBig { place, .. } => Some(place),
+        TypeFault::NoRoot { place, .. } => Some(place),
+        TypeFault::BadTx { place, .. } => Some(place),
+        TypeFault::NoMemory => None,
+    }
+}

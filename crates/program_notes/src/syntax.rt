@@ -1,0 +1,132 @@
+//! Messages of tokens that continue no program.
+
+use crate::names::is_one;
+use crate::program::start_of;
+use c_lexer::{TokenList, tokens};
+use c_parser::{ParseFault, parse};
+use nvm_base::Bytes;
+use plain_notes::{Spelled, TOKENS, Told, expected, left_out};
+use std::alloc::{AllocError, Global};
+
+/// The message of a refused token: what it is, what to write instead, and what could stand there.
+pub(crate) fn syntax(
+    alloc: Global,
+    text: &[u8],
+    list: &TokenList,
+    near: &Spelled<'_>,
+) -> Result<Told, AllocError> {
+    let able = able_there(alloc, text, list, near)?;
+    let told = Told::new(alloc, what(alloc, near.here())?.as_str())?;
+    let told = told.with_some(alloc, missing(alloc, list, near, &able)?)?;
+    told.with_some(alloc, expected(alloc, &able)?)
+}
+
+/// The tokens that could stand there.
+fn able_there(
+    alloc: Global,
+    text: &[u8],
+    list: &TokenList,
+    near: &Spelled<'_>,
+) -> Result<Vec<&'static str>, AllocError> {
+    let before = item_before(text, list, near);
+    let mut able = Vec::new(alloc);
+    for token in TOKENS {
+        if goes_on(alloc, before, token)? {
+            able.push(token)?;
+        }
+    }
+    Ok(able)
+}
+
+/// The text of the item in which the token stands, up to it.
+fn item_before<'a>(text: &'a [u8], list: &TokenList, near: &Spelled<'_>) -> &'a [u8] {
+    let place = near.place.min(list.len());
+    let first = start_of(list, near.item_start().min(place));
+    between(text, first, start_of(list, place))
+}
+
+/// What to write instead, by what could stand there.
+fn missing(
+    alloc: Global,
+    list: &TokenList,
+    near: &Spelled<'_>,
+    able: &[&str],
+) -> Result<Option<String>, AllocError> {
+    if lacks_semicolon(list, near, able) {
+        return semicolon(alloc, near);
+    }
+    if able.contains(&")") && is_one(near.here(), &[";", "{"]) {
+        return some_text(alloc, "a `)` is missing here");
+    }
+    let in_expression = able.contains(&"pm_new") && !able.contains(&"while");
+    match left_out(alloc, near, in_expression)? {
+        Some(note) => Ok(Some(note)),
+        None => comma(alloc, able),
+    }
+}
+
+fn comma(alloc: Global, able: &[&str]) -> Result<Option<String>, AllocError> {
+    if able.contains(&",") {
+        return some_text(alloc, "a `,` is missing here");
+    }
+    Ok(None)
+}
+
+fn some_text(alloc: Global, text: &str) -> Result<Option<String>, AllocError> {
+    Ok(Some(String::from_str(alloc, text)?))
+}
+
+fn lacks_semicolon(list: &TokenList, near: &Spelled<'_>, able: &[&str]) -> bool {
+    if !able.contains(&";") || able.contains(&"while") {
+        return false;
+    }
+    near.here() == b"}".as_slice() || on_another_line(list, near.place.min(list.len()))
+}
+
+/// The text from a byte to another.
+fn between(text: &[u8], from: u64, to: u64) -> &[u8] {
+    let first = text.split_at(text.len().min(to as usize)).0;
+    first.split_at(first.len().min(from as usize)).1
+}
+
+fn what(alloc: Global, here: &[u8]) -> Result<String, AllocError> {
+    if here.is_empty() {
+        return String::from_str(alloc, "syntax at the end of the text");
+    }
+    let token = String::from_utf8_lossy(alloc, here)?;
+    let token = token.as_str();
+    format!(in alloc; "syntax at `{token}`")
+}
+
+/// Whether the token stands on another line than the one before it.
+#[tactic(auto, using(crate::proofs::Refusals::min_within))]
+fn on_another_line(list: &TokenList, place: u64) -> bool {
+    match place.checked_sub(1) {
+        Some(last) => list.line(last.min(list.len())) < list.line(place.min(list.len())),
+        None => false,
+    }
+}
+
+fn semicolon(alloc: Global, near: &Spelled<'_>) -> Result<Option<String>, AllocError> {
+    let last = String::from_utf8_lossy(alloc, near.before(1))?;
+    let last = last.as_str();
+    Ok(Some(format!(in alloc; "a `;` is missing after `{last}`")?))
+}
+
+/// Whether some program goes on with this token after this text, the first part of an item. What
+/// comes before an item makes no difference.
+fn goes_on(alloc: Global, before: &[u8], token: &str) -> Result<bool, AllocError> {
+    let mut text = Bytes::new(alloc);
+    text.extend(before)?;
+    text.extend(b"\n")?;
+    text.extend(token.as_bytes())?;
+    let Ok(list) = tokens(alloc, text.as_slice()) else {
+        return Ok(false);
+    };
+    match parse(alloc, &list) {
+        Err(ParseFault::Syntax(place)) => Ok(place >= list.len()),
+        Err(ParseFault::NoMemory) => Err(AllocError),
+        Err(ParseFault::TooDeep(_)) => Ok(false),
+        Ok(_) => Ok(true),
+    }
+}
