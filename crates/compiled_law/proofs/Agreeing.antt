@@ -355,11 +355,14 @@ module _ (text : List ℕ) (list : Tokens) (program : Program)
 
   pub comes : (w : PoolMap) (tx : ℕ) (args : List ℤ) →
       (logged : ℕ) × (o : Outcome) × ComesTo program w tx args logged o
+      × (firsts : ℕ) × LogsFirst program w tx args firsts
   comes w tx args =
       let number : ℕ = number_by w args (lower.entry_in tx plain.functions) in (
         number,
         outcome_with program w tx args number,
         record { logs = logs_by w args (lower.entry_in tx plain.functions); is = refl },
+        first_by w args (lower.entry_in tx plain.functions),
+        firsts_by w args (lower.entry_in tx plain.functions),
       )
 
   -- the logged stores of the run of a transaction that the image has

@@ -19,7 +19,7 @@ use Rattle.clobber_pass.specs.Logged.{IsExact}
 use Rattle.instrument.specs.Insert.{logged_program}
 use Rattle.codegen.specs.Emit.{functions_of, parts_of}
 use Rattle.cnvm_session.specs.declared.program.Program.{Program}
-use Rattle.session_law.specs.Source.{ComesTo}
+use Rattle.session_law.specs.Source.{LogsFirst, ComesTo}
 use Rattle.session_law.specs.Agrees.{Agrees}
 
 -- What the compiler makes of a text: the tree of its tokens, which breaks no rule, and the image of
@@ -44,8 +44,9 @@ CompiledLaw = (text : List ℕ) (list : Tokens) (program : Program)
     → IsCompiledFrom text list program → Agrees program
 
 -- On every pool each transaction of a compiled program comes to something, with some number of
--- logged stores.
+-- logged stores, and has some number of those that a marked one logs.
 abbrev pub ComesLaw : Type 0
 ComesLaw = (text : List ℕ) (list : Tokens) (program : Program) → IsCompiledFrom text list program
     → (pool : PoolMap) (tx : ℕ) (args : List ℤ)
     → (logged : ℕ) × (outcome : Outcome) × ComesTo program pool tx args logged outcome
+    × (firsts : ℕ) × LogsFirst program pool tx args firsts
