@@ -1,0 +1,10 @@
+pub mod Pools
+pub mod Words
+pub mod Fields
+pub mod Scopes
+pub mod Expressions
+pub mod Declared
+pub mod Ends
+pub mod Simple
+pub mod Statements
+pub mod Laws

@@ -1,0 +1,4 @@
+pub mod Places
+pub mod Expressions
+pub mod Statements
+pub mod Law

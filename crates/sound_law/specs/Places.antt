@@ -1,0 +1,76 @@
+-- What must be there where a program reads or stores: the local, the struct, the field in it, and
+-- the word of the pool. Each of these is a row for a place where the meaning is total by a value
+-- of its own: 0 for a local, a field or a word that isn't there, no change by a store to it, NULL
+-- for a new object of a struct that isn't there, an offset that stays at the greatest number.
+use Rattle.std.specs.Prelude.{ℕ, ℤ, ◌≡◌, ◌+◌, ◌-◌, ◌^◌, ◌<◌, ◌≤◌, ◌⊎◌, List, [], ◌∷◌, length, true}
+use Rattle.std.specs.Prelude.{Option, None, Some, Result, Ok, Err, bytes_eq, slice_get}
+use Rattle.c_tree.specs.ExprTree.{ExprTree}
+use Rattle.c_tree.specs.ExprTree as expr
+use Rattle.c_tree.specs.ItemTree.{FieldTree, LengthTree}
+use Rattle.c_types.specs.Tables.{Tables, StructTree, index_of, field_names, root_struct, is_length}
+use Rattle.c_types.specs.Tables.{field_words, field_words_before, words_of_struct}
+use Rattle.pool_map.specs.declared.trap.TrapKind.{TrapKind}
+use Rattle.pool_map.specs.PoolMap.{PoolMap, HasField}
+use Rattle.c_meaning.specs.declared.word.Word.{Word}
+use Rattle.c_meaning.specs.declared.word.Word.TheVariants.{Root, Field}
+use Rattle.c_meaning.specs.Locals.{Local}
+use Rattle.c_meaning.specs.Access.{struct_pointed_by, word_named}
+
+-- a local of this name is there
+abbrev pub IsLocal : List ℕ → List Local → Type 0
+IsLocal name [] = ⊥
+IsLocal name (l ∷ ls) = (bytes_eq name l.name ≡ true) ⊎ IsLocal name ls
+
+-- the pool has the word
+abbrev pub IsWord : PoolMap → Word → Type 0
+IsWord p (Root i) = i < length p.root
+IsWord p (Field s i) = HasField p s i
+
+-- the word that the checks lead to, if they don't trap
+abbrev pub LeadsInto : PoolMap → Result Word TrapKind → Type 0
+LeadsInto p (Ok w) = IsWord p w
+LeadsInto p (Err trap) = Unit {0}
+
+-- a struct that pointers lead to: it is there, and it is one of those that have a number
+abbrev pub IsNumbered : Tables → Option ℕ → Type 0
+IsNumbered t at = (i : ℕ) × (s : StructTree)
+    × (at ≡ Some i) × (slice_get t.structs i ≡ Some s) × (words_of_struct s ≤ 15)
+
+-- an index stands on an array of a length that is allowed, and nothing else does without one
+abbrev pub IsIndexed : Option LengthTree → Option ℤ → Type 0
+IsIndexed None None = Unit {0}
+IsIndexed None (Some j) = ⊥
+IsIndexed (Some l) None = ⊥
+IsIndexed (Some l) (Some j) = is_length l.value ≡ true
+
+-- the struct at this place is there and has the field, whose words are all counted exactly
+pub record HasMember (t : Tables) (at : Option ℕ) (name : List ℕ) (index : Option ℤ) :
+    Type 0 where
+  pub number : ℕ
+  pub known : at ≡ Some number
+  pub owner : StructTree
+  pub there : slice_get t.structs number ≡ Some owner
+  pub place : ℕ
+  pub found : index_of name (field_names owner) ≡ Some place
+  pub field : FieldTree
+  pub stands : slice_get owner.fields place ≡ Some field
+  pub indexed : IsIndexed field.len index
+  pub counted : field_words_before place 0 owner.fields + field_words field ≤ 2 ^ 64 - 1
+
+-- the word that a field names, or one of its elements, given the pointer that leads to it: a field
+-- of the root, or of a struct that the expression before `->` points to; nothing else names a word
+abbrev pub FindsWord : Tables → List Local → PoolMap → ExprTree → (pointer : ℤ) → Option ℤ → Type 0
+FindsWord t ls p (expr.Root name) pointer index = HasMember t (root_struct t) name.text index
+    × LeadsInto p (word_named t ls p (expr.Root name) pointer index)
+FindsWord t ls p (expr.Arrow base place name) pointer index =
+    IsNumbered t (struct_pointed_by t ls base)
+    × HasMember t (struct_pointed_by t ls base) name.text index
+    × LeadsInto p (word_named t ls p (expr.Arrow base place name) pointer index)
+FindsWord t ls p (expr.Number n) pointer index = ⊥
+FindsWord t ls p expr.Null pointer index = ⊥
+FindsWord t ls p (expr.Variable name) pointer index = ⊥
+FindsWord t ls p (expr.Call name all) pointer index = ⊥
+FindsWord t ls p (expr.New place name) pointer index = ⊥
+FindsWord t ls p (expr.Index a place i) pointer index = ⊥
+FindsWord t ls p (expr.Unary op place a) pointer index = ⊥
+FindsWord t ls p (expr.Binary op place a b) pointer index = ⊥

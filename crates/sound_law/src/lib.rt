@@ -1,0 +1,12 @@
+//! What a checked program never does while it runs: it never asks for what isn't there. So where
+//! the meaning gives a value only to be total, that value is never met. It rests on `c_meaning` and
+//! `typed_law`, and has no code. Its one contract: the law of `specs/`.
+#![tactic(auto)]
+
+ghost use Rattle.sound_law.specs.Law.{SoundLaw};
+
+/// A transaction of a checked tree, called with its arguments on a pool that fits, finds all that
+/// it asks for, and leaves a pool that fits. The function does nothing.
+pub fn law()
+    ensures sound { SoundLaw }
+{}
