@@ -8,3 +8,4 @@ pub mod Sources
 pub mod Statuses
 pub mod StormMeaning
 pub mod Verdicts
+pub mod WorkersMeaning

@@ -51,6 +51,7 @@ use Rattle.cnvm_cli.specs.inside.Opened as cli
 use Rattle.cnvm_cli.proofs.Sources.{known_bytes}
 use Rattle.cnvm_cli.proofs.Statuses.{status_map}
 use Rattle.cnvm_cli.proofs.StormMeaning.{storm_meant}
+use Rattle.cnvm_cli.proofs.WorkersMeaning.{workers_meant}
 
 -- nothing is written
 none_written : (w w' : Option (List ℕ)) → w' ≡ w → Appends w w' []
@@ -316,7 +317,11 @@ plan_meant (plan.Storm p start count slots records ticks) told result before aft
   ends.1,
 )
 plan_meant (plan.Why p) told result before after ends = ends
-plan_meant (plan.Workers p s workers slots records ticks) told result before after ends = ends
+plan_meant (plan.Workers p s workers slots records ticks) told result before after ends = (
+  workers_meant (asked_by slots records ticks) workers told.program told.script result before.out
+      after.out before.dev after.dev before.steps after.steps ends.0,
+  ends.1,
+)
 
 -- words that make a plan
 pub plan_meant_as : (words : Option Plan) (asked : Plan) (told : Sources) (result : Status)

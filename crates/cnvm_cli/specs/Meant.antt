@@ -33,7 +33,7 @@ use Rattle.cnvm_cli.specs.Saved.{SavedAs}
 use Rattle.cnvm_cli.specs.StormMeant.{StormMeant}
 use Rattle.cnvm_cli.specs.Verdict.{asked_by, TextsGive, TextsRefuse}
 use Rattle.cnvm_cli.specs.WhyEnds.{WhyEnds}
-use Rattle.cnvm_cli.specs.WorkersEnds.{WorkersEnds}
+use Rattle.cnvm_cli.specs.WorkersMeant.{WorkersMeant}
 use Rattle.cnvm_cli.specs.World.{Sources, Outside, IsUntouched}
 
 -- the texts of answers, one after another
@@ -180,7 +180,7 @@ PlanMeant (plan.Storm p start count slots records ticks) told result before afte
 PlanMeant (plan.Why p) told result before after =
     WhyEnds told.program result before.out after.out × IsUntouched before after
 PlanMeant (plan.Workers p s workers slots records ticks) told result before after =
-    WorkersEnds (asked_by slots records ticks) workers told.program told.script result
+    WorkersMeant (asked_by slots records ticks) workers told.program told.script result
     before.out after.out before.dev after.dev before.steps after.steps
     × Keeps before.image after.image
 
