@@ -34,7 +34,8 @@ use Rattle.cnvm_cli.specs.Run.{Uncreated, TellsAs, RefusedAs}
 use Rattle.cnvm_cli.specs.Opened.{wanted_of, read_part, ImageRefuses, Unopened}
 use Rattle.cnvm_cli.specs.Saved.{SavedAs}
 use Rattle.cnvm_cli.specs.WhyEnds.{WhyEnds}
-use Rattle.cnvm_cli.specs.WorkersEnds.{make_fault, WorkersRanAs, WorkersEnds}
+use Rattle.cnvm_cli.specs.inside.WorkersEnds.{WorkersRanAs, WorkersEnds}
+use Rattle.cnvm_cli.specs.WorkersMeant.{make_fault}
 use Rattle.cnvm_cli.specs.World.{Sources, Outside}
 use Rattle.cnvm_cli.specs.Meant.{Start, Fresh, FromImage, start_if}
 use Rattle.cnvm_cli.specs.inside.Ends.{PoolEnds, JobEnds, RunEnds, StormEnds, PlanEnds}

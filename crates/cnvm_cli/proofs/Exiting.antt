@@ -4,7 +4,7 @@ use Rattle.cache_model.specs.Cache.{blank}
 use Rattle.pmem.specs.Device.{Device}
 use Rattle.cnvm_words.specs.Asked.{plan_of}
 use Rattle.cnvm_cli.specs.declared.status.Status.TheVariants as status
-use Rattle.cnvm_cli.specs.Exits.{untold, EndsCall}
+use Rattle.cnvm_cli.specs.Exits.{no_sources, EndsCall}
 use Rattle.cnvm_cli.specs.World.{seen}
 use Rattle.cnvm_cli.proofs.Meaning.{memory_meant}
 
@@ -17,6 +17,6 @@ memory_ends words = (
   no_device,
   0,
   0,
-  memory_meant (plan_of words) untold (seen None None no_device 0) (seen None None no_device 0)
+  memory_meant (plan_of words) no_sources (seen None None no_device 0) (seen None None no_device 0)
       tt (tt, refl, refl),
 )

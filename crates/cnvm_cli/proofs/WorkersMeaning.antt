@@ -14,8 +14,8 @@ use Rattle.cnvm_compile.specs.declared.asked.Asked.{Asked}
 use Rattle.cnvm_compile.specs.Compilation.{IsCompiled}
 use Rattle.cnvm_cli.specs.declared.status.Status.{Status}
 use Rattle.cnvm_cli.specs.Verdict.{SpellsIn}
-use Rattle.cnvm_cli.specs.WorkersEnds.{make_fault, WorkersRanAs, WorkersEnds}
-use Rattle.cnvm_cli.specs.WorkersMeant.{WorkersMeantAs, WorkersMeant}
+use Rattle.cnvm_cli.specs.inside.WorkersEnds.{WorkersRanAs, WorkersEnds}
+use Rattle.cnvm_cli.specs.WorkersMeant.{make_fault, WorkersMeantAs, WorkersMeant}
 use Rattle.cnvm_cli.proofs.Sources.{known_bytes}
 use Rattle.cnvm_cli.proofs.Statuses.{status_map}
 

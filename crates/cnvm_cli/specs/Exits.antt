@@ -9,14 +9,14 @@ use Rattle.cnvm_cli.specs.Meant.{CallMeant}
 use Rattle.cnvm_cli.specs.StatusNumber.{status_number}
 use Rattle.cnvm_cli.specs.World.{Sources, seen}
 
-abbrev pub untold : Sources
-untold = record { program = None; script = None; image = None }
+abbrev pub no_sources : Sources
+no_sources = record { program = None; script = None; image = None }
 
 -- a call on these words and on files ends so
 abbrev pub EndsCall : List (List ℕ) → Status → Type 0
 EndsCall words result =
     (d d' : Device) × (k k' : ℕ)
-    × CallMeant (plan_of words) untold result (seen None None d k) (seen None None d' k')
+    × CallMeant (plan_of words) no_sources result (seen None None d k) (seen None None d' k')
 
 -- the exit status is the number of the status with which a call on some words ends
 abbrev pub Exits : ℕ → Type 0

@@ -14,7 +14,6 @@ pub mod StormMeant
 pub mod Stormed
 pub mod Verdict
 pub mod WhyEnds
-pub mod WorkersEnds
 pub mod WorkersMeant
 pub mod World
 pub mod inside

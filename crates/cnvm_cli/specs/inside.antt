@@ -4,3 +4,4 @@ pub mod Opened
 pub mod Run
 pub mod Stormed
 pub mod Texts
+pub mod WorkersEnds

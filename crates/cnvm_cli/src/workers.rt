@@ -5,7 +5,7 @@ ghost use Rattle.std.specs.Io.KnownBytes.{IsAtEnd};
 ghost use Rattle.nvm_base.specs.Rose.{Rose};
 ghost use Rattle.pmem.specs.Device as device;
 ghost use Rattle.workers_script.specs.WorkersGrammar.{workers_script_meaning};
-ghost use Rattle.cnvm_cli.specs.WorkersEnds.{WorkersRanAs, WorkersEnds};
+ghost use Rattle.cnvm_cli.specs.inside.WorkersEnds.{WorkersRanAs, WorkersEnds};
 ghost use Rattle.cnvm_cli.specs.inside.Texts.{ReadIn};
 
 use crate::reading::{SCRIPT_LIMIT, read_program, read_text};

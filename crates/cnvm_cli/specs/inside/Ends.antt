@@ -17,7 +17,7 @@ use Rattle.cnvm_cli.specs.Run.{RefusedAs}
 use Rattle.cnvm_cli.specs.Saved.{SavedAs}
 use Rattle.cnvm_cli.specs.Verdict.{asked_by, OfBytes, ProgramRefuses, TextsGive, TextsRefuse}
 use Rattle.cnvm_cli.specs.WhyEnds.{WhyEnds}
-use Rattle.cnvm_cli.specs.WorkersEnds.{WorkersEnds}
+use Rattle.cnvm_cli.specs.inside.WorkersEnds.{WorkersEnds}
 use Rattle.cnvm_cli.specs.World.{Sources, Outside, IsUntouched}
 use Rattle.cnvm_cli.specs.inside.Opened.{ImageEnds}
 use Rattle.cnvm_cli.specs.inside.Run.{RanAs}

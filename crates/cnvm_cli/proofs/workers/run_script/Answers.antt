@@ -2,7 +2,7 @@ use Rattle.std.proofs.Common.{List, inl, inr, refl, subst}
 use Rattle.cnvm_compile.specs.Compilation.{IsCompiled}
 use Rattle.workers_script.specs.declared.command.WorkersCommand.{WorkersCommand}
 use Rattle.cnvm_cli.specs.Verdict.{IsAccepted}
-use Rattle.cnvm_cli.specs.WorkersEnds.{WorkersRanAs}
+use Rattle.cnvm_cli.specs.inside.WorkersEnds.{WorkersRanAs}
 use Rattle.cnvm_cli.proofs.Sources.{of_map}
 use Rattle.cnvm_cli.proofs.workers.run_script.Goals as goal
 

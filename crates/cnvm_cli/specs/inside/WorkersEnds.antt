@@ -1,10 +1,6 @@
 -- How a run of a script of workers ends.
 use Rattle.std.specs.Prelude.{ℕ, List, Option, ◌≡◌, ◌⊎◌}
 use Rattle.pmem.specs.Device.{Device}
-use Rattle.pool_workers.specs.declared.answer.MakeFault.{MakeFault}
-use Rattle.pool_workers.specs.declared.answer.MakeFault.TheVariants as make
-use Rattle.cnvm_session.specs.declared.creating.StartFault.{StartFault}
-use Rattle.cnvm_session.specs.declared.creating.StartFault.TheVariants as start
 use Rattle.cnvm_session.specs.declared.program.Program.{Program}
 use Rattle.workers_script.specs.declared.command.WorkersCommand.{WorkersCommand}
 use Rattle.workers_script.specs.WorkersGrammar.{workers_script_meaning}
@@ -17,11 +13,7 @@ use Rattle.cnvm_cli.specs.declared.status.Status.{Status}
 use Rattle.cnvm_cli.specs.AsStatus.{AsStatus}
 use Rattle.cnvm_cli.specs.Run.{RefusedAs}
 use Rattle.cnvm_cli.specs.Verdict.{OfBytes, SpellsIn, RefuseIn}
-
--- the same cause, of a pool of compartments
-abbrev pub make_fault : StartFault → MakeFault
-make_fault start.Failed = make.Failed
-make_fault start.NoMemory = make.NoMemory
+use Rattle.cnvm_cli.specs.WorkersMeant.{make_fault}
 
 -- how the commands end on a new pool of compartments, by the status
 abbrev pub WorkersRanAs : Program → (count : ℕ) → List WorkersCommand → Status
