@@ -7,7 +7,7 @@ use Rattle.workers_script.specs.declared.command.WorkersCommand.{WorkersCommand}
 use Rattle.workers_script.specs.WorkersGrammar.{workers_script_meaning}
 use Rattle.workers_run.specs.WorkersRan.{Unbegun}
 use Rattle.session_law.specs.Agrees.{Agrees}
-use Rattle.workers_source_law.specs.Law.{IsWordCommand}
+use Rattle.workers_source_law.specs.Law.{HasWordArgs}
 use Rattle.workers_source_law.proofs.Runs.{workers_run, workers_part}
 use Rattle.workers_source_law.proofs.Scripts.{word_commands}
 use Rattle.cnvm_compile.specs.declared.asked.Asked.{Asked}
@@ -20,7 +20,7 @@ use Rattle.cnvm_cli.proofs.Sources.{known_bytes}
 use Rattle.cnvm_cli.proofs.Statuses.{status_map}
 
 ran_meant : (program : Program) → Agrees program → (count : ℕ) (commands : List WorkersCommand)
-    → AllByRecursion IsWordCommand commands → (result : Status) (w w' : Option (List ℕ))
+    → AllByRecursion HasWordArgs commands → (result : Status) (w w' : Option (List ℕ))
     (d d' : Device) (k k' : ℕ) → WorkersRanAs program count commands result w w' d d' k k'
     → WorkersMeantAs program count commands result w w' d d' k k'
 ran_meant program agrees count commands words result w w' d d' k k' ran =

@@ -26,7 +26,7 @@ use Rattle.typed_law.proofs.Broken.{false_true, and_left, and_right, not_true, l
 use Rattle.typed_law.proofs.Fitting.{applied_answer}
 use Rattle.typed_law.proofs.Fitting.{joined_answer, declared_is}
 use Rattle.typed_law.proofs.Expressions.{IsRest, whole_rest, next_rest, rest_type}
-use Rattle.rules_law.specs.Given.{Gives, GivesArray, AreTaken}
+use Rattle.rules_law.specs.Given.{Types, GivesArray, AreTaken}
 use Rattle.rules_law.proofs.Fits.{CanBe, IsOf, any_not, may_be, true_takes}
 
 number_is : (x : StaticType) → Int ≡ value_type x → x ≡ Number
@@ -159,26 +159,26 @@ member_says t i name = by_struct (slice_get t.structs i) refl
 
 root_says : (t : Tables) (s : List Scope) (name : Ident) (i : ℕ) (k : Kind)
     → root_struct t ≡ Some i → Says (HasValueField t i name.text) (HasArray t i name.text) k
-    → Says (Gives t s (expr.Root name)) (GivesArray t s (expr.Root name)) k
+    → Says (Types t s (expr.Root name)) (GivesArray t s (expr.Root name)) k
 root_says t s name i (Value ty) is m = λ x e. (i, is, m x e)
 root_says t s name i (Array el n) is m = (m.0, m.1, (i, is, m.2))
 
 root_by : (t : Tables) (s : List Scope) (name : Ident) (o : Option ℕ) → root_struct t ≡ o
-    → Says (Gives t s (expr.Root name)) (GivesArray t s (expr.Root name)) (option_map_or
+    → Says (Types t s (expr.Root name)) (GivesArray t s (expr.Root name)) (option_map_or
     (λ i. member_kind t i name) o (Value Any))
 root_by t s name None is = λ x e. any_not x e
 root_by t s name (Some i) is = root_says t s name i (member_kind t i name) is (member_says t i name)
 
 arrow_says : (t : Tables) (s : List Scope) (base : ExprTree) (place : ℕ) (name : Ident) (i : ℕ)
-    (k : Kind) → Gives t s base (PointerTo i)
+    (k : Kind) → Types t s base (PointerTo i)
     → Says (HasValueField t i name.text) (HasArray t i name.text) k
-    → Says (Gives t s (expr.Arrow base place name)) (GivesArray t s (expr.Arrow base place name)) k
+    → Says (Types t s (expr.Arrow base place name)) (GivesArray t s (expr.Arrow base place name)) k
 arrow_says t s base place name i (Value ty) g m = λ x e. (i, g, m x e)
 arrow_says t s base place name i (Array el n) g m = (m.0, m.1, (i, g, m.2))
 
 arrow_by : (t : Tables) (s : List Scope) (base : ExprTree) (place : ℕ) (name : Ident)
-    (ty : ValueType) → ((i : ℕ) → ty ≡ Pointer i → Gives t s base (PointerTo i))
-    → Says (Gives t s (expr.Arrow base place name)) (GivesArray t s (expr.Arrow base place name))
+    (ty : ValueType) → ((i : ℕ) → ty ≡ Pointer i → Types t s base (PointerTo i))
+    → Says (Types t s (expr.Arrow base place name)) (GivesArray t s (expr.Arrow base place name))
     (arrow_kind t ty name)
 arrow_by t s base place name Int g = λ x e. any_not x e
 arrow_by t s base place name (Pointer i) g =
@@ -239,7 +239,7 @@ call_by : (t : Tables) (s : List Scope) (name : Ident) (all : Arguments) (o : Op
     → ((f : FunctionTree) → argument_count all ≡ length f.parameters
     → all_taken t s f.parameters 0 all ≡ true → AreTaken t s f.parameters all)
     → (x : StaticType) → call_type t true o (argument_count all)
-    (all_taken t s (parameters_of o) 0 all) ≡ value_type x → Gives t s (expr.Call name all) x
+    (all_taken t s (parameters_of o) 0 all) ≡ value_type x → Types t s (expr.Call name all) x
 call_by t s name all None is g x e = any_not x e
 call_by t s name all (Some f) is g x e =
     let n : ℕ = argument_count all in
@@ -263,14 +263,14 @@ call_by t s name all (Some f) is g x e =
 
 mutual
   pub says : (t : Tables) (s : List Scope) (e : ExprTree)
-      → Says (Gives t s e) (GivesArray t s e) (kind_of t s e)
+      → Says (Types t s e) (GivesArray t s e) (kind_of t s e)
   says t s (expr.Number n) = λ x e. number_is x e
   says t s expr.Null = λ x e. null_is x e
   says t s (expr.Variable name) = λ x e. variable_by (variable_type name.text s) x e
   says t s (expr.Root name) = root_by t s name (root_struct t) refl
   says t s (expr.New place name) = λ x e. pointer_of t name.text x e
   says t s (expr.Arrow base place name) = arrow_by t s base place name (type_of t s base)
-      (λ i e. says_type (Gives t s base) (GivesArray t s base) (kind_of t s base) (PointerTo i)
+      (λ i e. says_type (Types t s base) (GivesArray t s base) (kind_of t s base) (PointerTo i)
       (says t s base) e)
   says t s (expr.Index base place index) = λ x e.
       let i : ValueType = type_of t s index in
@@ -279,9 +279,9 @@ mutual
       let int = int_only i (and_right (is_indexed (kind_of t s base)) (is_int i)
       (and_left both (not (is_any i)) k.0)) (not_true (is_any i) (and_right both (not (is_any i))
       k.0)) in (
-        element_says (Gives t s base) (GivesArray t s base) (kind_of t s base) x (says t s base)
+        element_says (Types t s base) (GivesArray t s base) (kind_of t s base) x (says t s base)
             k.1,
-        says_type (Gives t s index) (GivesArray t s index) (kind_of t s index) Number
+        says_type (Types t s index) (GivesArray t s index) (kind_of t s index) Number
             (says t s index) int,
       )
   says t s (expr.Unary op place a) = λ x e.
@@ -290,7 +290,7 @@ mutual
       let z = static_of y (not_true (is_any y) (and_right (applies op y) (not (is_any y)) k.0)) in (
         number_is x k.1,
         z.0,
-        says_type (Gives t s a) (GivesArray t s a) (kind_of t s a) z.0 (says t s a) z.1,
+        says_type (Types t s a) (GivesArray t s a) (kind_of t s a) z.0 (says t s a) z.1,
         applied_answer op y z.0 z.1 (and_left (applies op y) (not (is_any y)) k.0),
       )
   says t s (expr.Binary op place a b) = λ x e.
@@ -305,8 +305,8 @@ mutual
         number_is x k.1,
         p.0,
         q.0,
-        says_type (Gives t s a) (GivesArray t s a) (kind_of t s a) p.0 (says t s a) p.1,
-        says_type (Gives t s b) (GivesArray t s b) (kind_of t s b) q.0 (says t s b) q.1,
+        says_type (Types t s a) (GivesArray t s a) (kind_of t s a) p.0 (says t s a) p.1,
+        says_type (Types t s b) (GivesArray t s b) (kind_of t s b) q.0 (says t s b) q.1,
         joined_answer op y z p.0 q.0 p.1 q.1 (and_left one (not (is_any y)) left),
       )
   says t s (expr.Call name all) = call_by t s name all (function_named t name.text) refl
@@ -334,6 +334,6 @@ mutual
         p.0,
         y.0,
         may_be (IsWritten t q.ty) (declared_type t q.ty) (written_is t q.ty) p.0 p.1,
-        says_type (Gives t s e) (GivesArray t s e) (kind_of t s e) y.0 (says t s e) y.1,
+        says_type (Types t s e) (GivesArray t s e) (kind_of t s e) y.0 (says t s e) y.1,
         p.2,
       )

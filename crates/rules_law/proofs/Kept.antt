@@ -19,7 +19,7 @@ use Rattle.typed_law.specs.Types.{HasArray}
 use Rattle.typed_law.proofs.Broken.{same_true}
 use Rattle.typed_law.proofs.Fitting.{no_any, applied_fits, joined_fits, pointer_is, declared_is}
 use Rattle.typed_law.proofs.Expressions.{IsRest, whole_rest, next_rest, rest_type}
-use Rattle.rules_law.specs.Given.{Gives, GivesArray, AreTaken, EndsAt}
+use Rattle.rules_law.specs.Given.{Types, GivesArray, AreTaken, EndsAt}
 use Rattle.typed_law.proofs.TypedExpressions.{typed_is}
 use Rattle.rules_law.specs.Law.{TypesLaw, ArraysLaw, TypedLaw}
 use Rattle.rules_law.proofs.Fits.{IsOf, can_be, takes_true}
@@ -47,7 +47,7 @@ counted t s (q ∷ qs) (expr.More first e rest) h = ap suc (counted t s qs rest 
 
 mutual
   pub given_kind : (t : Tables) (s : List Scope) (e : ExprTree) (x : StaticType)
-      → Gives t s e x → kind_of t s e ≡ Value (value_type x)
+      → Types t s e x → kind_of t s e ≡ Value (value_type x)
   given_kind t s (expr.Number n) x h = rw h refl
   given_kind t s expr.Null x h = rw h refl
   given_kind t s (expr.Variable name) x h = rw h refl
@@ -114,15 +114,15 @@ mutual
       ) refl
 
 pub given_type : (t : Tables) (s : List Scope) (e : ExprTree) (x : StaticType)
-    → Gives t s e x → type_of t s e ≡ value_type x
+    → Types t s e x → type_of t s e ≡ value_type x
 given_type t s e x h = ap type_of_kind (given_kind t s e x h)
 
 pub type_given_of : (t : Tables) (s : List Scope) (e : ExprTree) (x : StaticType)
-    → type_of t s e ≡ value_type x → Gives t s e x
+    → type_of t s e ≡ value_type x → Types t s e x
 type_given_of t s e x is =
-    says_type (Gives t s e) (GivesArray t s e) (kind_of t s e) x (says t s e) is
+    says_type (Types t s e) (GivesArray t s e) (kind_of t s e) x (says t s e) is
 
-pub gives_is : (t : Tables) (s : List Scope) (e : ExprTree) → IsOf (Gives t s e) (type_of t s e)
+pub gives_is : (t : Tables) (s : List Scope) (e : ExprTree) → IsOf (Types t s e) (type_of t s e)
 gives_is t s e x = (type_given_of t s e x, given_type t s e x)
 
 -- an array field, whose name stands where its kind says
@@ -141,7 +141,7 @@ pub array_at : (t : Tables) (s : List Scope) (e : ExprTree) (el : ValueType) (n 
     → kind_of t s e ≡ Array el n
     → (x : StaticType) × (el ≡ value_type x) × GivesArray t s e x × EndsAt e n
 array_at t s e el n is =
-    let g = array_from (Gives t s e) (GivesArray t s e) (kind_of t s e) el n (says t s e) is in
+    let g = array_from (Types t s e) (GivesArray t s e) (kind_of t s e) el n (says t s e) is in
     let a = given_array t s e g.0 g.2 in (
       g.0,
       g.1,

@@ -9,7 +9,7 @@ use Rattle.c_types.specs.LeastLaw.{IsAmong, NoneBefore, IsTold}
 use Rattle.c_types.specs.Fault.{breaks}
 use Rattle.c_types.proofs.Least.{least_is_least}
 use Rattle.rules_law.specs.Stands.{StandsIn}
-use Rattle.rules_law.specs.Law.{IsBroken, RowsLaw, IsLeast, ToldLaw}
+use Rattle.rules_law.specs.Law.{IsBroken, RowsLaw, IsFault, ToldLaw}
 use Rattle.rules_law.proofs.Own.{rows}
 use Rattle.rules_law.proofs.Listed.{listed}
 use Rattle.rules_law.proofs.Found.{Found}
@@ -35,7 +35,7 @@ none_before a [] b h is = absurd is
 none_before a (x ∷ bs) b h (inl e) = subst (λ (b : Broken). is_before b a ≡ false) (sym e) h.0
 none_before a (x ∷ bs) b h (inr is) = none_before a bs b h.1 is
 
-told_of : (tree : Program) (o : Option Broken) → IsTold o (breaks tree) → IsLeast tree o
+told_of : (tree : Program) (o : Option Broken) → IsTold o (breaks tree) → IsFault tree o
 told_of tree None none = λ b h. subst (λ bs. IsAmong b bs) none (is_listed tree b h)
 told_of tree (Some a) h = (
   is_broken tree a h.0,

@@ -33,7 +33,7 @@ use Rattle.typed_law.specs.Types.{PointerTo, IsWritten}
 use Rattle.typed_law.proofs.Broken.{false_true}
 use Rattle.rules_law.specs.Part.{Part}
 use Rattle.rules_law.specs.Part as part
-use Rattle.rules_law.specs.Given.{Gives}
+use Rattle.rules_law.specs.Given.{Types}
 use Rattle.rules_law.specs.Rules.{Breaks}
 use Rattle.rules_law.specs.Rules as row
 use Rattle.rules_law.proofs.Among.{Told, among_left, among_right, unless_told}
@@ -222,14 +222,14 @@ listed {t} (row.root_again {i = i} {r = r} lt) =
     (unless_told (nat_eq i 0) r.place Twice (not_zero i lt))
 listed {t} (row.operands {s = s} {op = op} {place = place} {a = a} {b = b} never) =
     unless_told (joins_types op (type_of t s a) (type_of t s b)) place Mismatch
-    (operands_no op (Gives t s a) (Gives t s b) (type_of t s a) (type_of t s b) (gives_is t s a)
+    (operands_no op (Types t s a) (Types t s b) (type_of t s a) (type_of t s b) (gives_is t s a)
     (gives_is t s b) never)
 listed {t} (row.operand {s = s} {op = op} {place = place} {a = a} never) =
     unless_told (applies op (type_of t s a)) place Mismatch (operand_no op
-    (Gives t s a) (type_of t s a) (gives_is t s a) never)
+    (Types t s a) (type_of t s a) (gives_is t s a) never)
 listed {t} (row.before_arrow {s = s} {base = base} {place = place} {name = name} never) =
     arrow_listed t place name (type_of t s base)
-    (pointer_no (Gives t s base) (type_of t s base) (gives_is t s base) never)
+    (pointer_no (Types t s base) (type_of t s base) (gives_is t s base) never)
 listed {t} (row.before_index {s = s} {base = base} {index = index} {place = place} x is) =
     unless_told (is_indexed (kind_of t s base) && is_int (type_of t s index)) place Mismatch
     (and_false_left (is_indexed (kind_of t s base)) (is_int (type_of t s index))
@@ -237,7 +237,7 @@ listed {t} (row.before_index {s = s} {base = base} {index = index} {place = plac
 listed {t} (row.index {s = s} {base = base} {index = index} {place = place} never) =
     unless_told (is_indexed (kind_of t s base) && is_int (type_of t s index)) place Mismatch
     (and_false_right (is_indexed (kind_of t s base)) (is_int (type_of t s index))
-    (number_no (Gives t s index) (type_of t s index) (gives_is t s index) never))
+    (number_no (Types t s index) (type_of t s index) (gives_is t s index) never))
 listed {t} (row.not_indexed {s = s} {e = e} {place = place} x is ends) =
     subst (λ (k : Kind). IsAmong (Told Mismatch place) (unindexed k))
     (sym (given_at t s e x place is ends)) (inl refl)
@@ -248,33 +248,33 @@ listed {t} (row.assigned {s = s} {target = target} {e = e} {op = op} {place = pl
     among_left (unless (assigns op (type_of t s target) (type_of t s e)) place Mismatch)
     (unless (is_target target) place NotAssignable) (Told Mismatch place)
     (unless_told (assigns op (type_of t s target) (type_of t s e)) place Mismatch
-    (assignment_no op (Gives t s target) (Gives t s e) (type_of t s target) (type_of t s e)
+    (assignment_no op (Types t s target) (Types t s e) (type_of t s target) (type_of t s e)
     (gives_is t s target) (gives_is t s e) never))
 listed {t} (row.initial {s = s} {d = d} i is never) =
-    initial_listed t s d i is (gift_no (IsWritten t d.ty) (Gives t s i.value) (declared_type t d.ty)
+    initial_listed t s d i is (gift_no (IsWritten t d.ty) (Types t s i.value) (declared_type t d.ty)
     (type_of t s i.value) (written_is t d.ty) (gives_is t s i.value) never)
 listed {t} (row.stepped {s = s} {target = target} {place = place} never) =
     among_left (unless (is_int (type_of t s target)) place Mismatch)
     (unless (is_target target) place NotAssignable) (Told Mismatch place)
     (unless_told (is_int (type_of t s target)) place Mismatch
-    (number_no (Gives t s target) (type_of t s target) (gives_is t s target) never))
+    (number_no (Types t s target) (type_of t s target) (gives_is t s target) never))
 listed {t} (row.passed {s = s} {name = name} {i = i} {first = first} {e = e} f q is at never) =
     let wanted : parameter_type t (parameters_of (function_named t name.text)) i
     ≡ declared_type t q.ty = rw (is, at) refl in
     unless_told (type_takes (parameter_type t (parameters_of (function_named t name.text)) i)
     (type_of t s e)) first Mismatch
     (subst (λ ty. type_takes ty (type_of t s e) ≡ false) (sym wanted)
-    (gift_no (IsWritten t q.ty) (Gives t s e) (declared_type t q.ty) (type_of t s e)
+    (gift_no (IsWritten t q.ty) (Types t s e) (declared_type t q.ty) (type_of t s e)
     (written_is t q.ty) (gives_is t s e) never))
 listed row.value_in_void = inl refl
 listed row.no_value = inl refl
 listed {t} (row.returned {s = s} {place = place} {ty = ty} {e = e} never) =
     unless_told (type_takes (declared_type t ty) (type_of t s e)) place Mismatch
-    (gift_no (IsWritten t ty) (Gives t s e) (declared_type t ty) (type_of t s e)
+    (gift_no (IsWritten t ty) (Types t s e) (declared_type t ty) (type_of t s e)
     (written_is t ty) (gives_is t s e) never)
 listed {t} (row.freed {s = s} {place = place} {e = e} never) =
     unless_told (is_pointer (type_of t s e)) place Mismatch (pointer_no
-    (Gives t s e) (type_of t s e) (gives_is t s e) never)
+    (Types t s e) (type_of t s e) (gives_is t s e) never)
 listed {t} (row.no_target {s = s} {target = target} {e = e} {op = op} {place = place} is) =
     among_right (unless (assigns op (type_of t s target) (type_of t s e)) place Mismatch)
     (unless (is_target target) place NotAssignable) (Told NotAssignable place)

@@ -38,7 +38,7 @@ use Rattle.typed_law.proofs.Broken.{false_true, same_from, same_true}
 use Rattle.typed_law.specs.Types.{PointerTo, IsWritten}
 use Rattle.rules_law.specs.Part.{Part}
 use Rattle.rules_law.specs.Part as part
-use Rattle.rules_law.specs.Given.{Gives}
+use Rattle.rules_law.specs.Given.{Types}
 use Rattle.rules_law.specs.Rules.{Breaks}
 use Rattle.rules_law.specs.Rules as row
 use Rattle.rules_law.proofs.Among.{either, one_of, unless_of}
@@ -183,7 +183,7 @@ arrow_rows : (t : Tables) (s : List Scope) (base : ExprTree) (place : ℕ) (name
     → Breaks t (part.Expression s (expr.Arrow base place name)) b.rule b.place
 arrow_rows t s base place name b answered.Int is h =
     one_of (Breaks t (part.Expression s (expr.Arrow base place name))) b place Mismatch h
-    (row.before_arrow (no_pointer (Gives t s base) (type_of t s base) (gives_is t s base)
+    (row.before_arrow (no_pointer (Types t s base) (type_of t s base) (gives_is t s base)
     (ap is_pointer is)))
 arrow_rows t s base place name b (answered.Pointer i) is h =
     unless_of (Breaks t (part.Expression s (expr.Arrow base place name))) b
@@ -191,7 +191,7 @@ arrow_rows t s base place name b (answered.Pointer i) is h =
     (λ e. row.no_field i (type_given_of t s base (PointerTo i) is) (none_of (member t i name) e))
 arrow_rows t s base place name b answered.Null is h =
     one_of (Breaks t (part.Expression s (expr.Arrow base place name))) b place Mismatch h
-    (row.before_arrow (no_pointer (Gives t s base) (type_of t s base) (gives_is t s base)
+    (row.before_arrow (no_pointer (Types t s base) (type_of t s base) (gives_is t s base)
     (ap is_pointer is)))
 arrow_rows t s base place name b answered.Any is h = absurd h
 
@@ -205,7 +205,7 @@ index_rows t s base index place e =
         → Breaks t (part.Expression s (expr.Index base place index)) Mismatch place
     by (inl e) = let x = no_array (kind_of t s base) e in
         row.before_index x.0 (type_given_of t s base x.0 (ap type_of_kind x.1))
-    by (inr e) = row.index (no_number (Gives t s index) (type_of t s index) (gives_is t s index) e)
+    by (inr e) = row.index (no_number (Types t s index) (type_of t s index) (gives_is t s index) e)
 
 rows_expression : (t : Tables) (s : List Scope) (e : ExprTree) (b : Broken)
     → IsAmong b (own_expression t s e) → Breaks t (part.Expression s e) b.rule b.place
@@ -227,11 +227,11 @@ rows_expression t s (expr.Index base place index) b h =
 rows_expression t s (expr.Unary op place a) b h =
     unless_of (Breaks t (part.Expression s (expr.Unary op place a))) b
     (applies op (type_of t s a)) place Mismatch h
-    (λ e. row.operand (no_operand op (Gives t s a) (type_of t s a) (gives_is t s a) e))
+    (λ e. row.operand (no_operand op (Types t s a) (type_of t s a) (gives_is t s a) e))
 rows_expression t s (expr.Binary op place x y) b h =
     unless_of (Breaks t (part.Expression s (expr.Binary op place x y))) b
     (joins_types op (type_of t s x) (type_of t s y)) place Mismatch h
-    (λ e. row.operands (no_operands op (Gives t s x) (Gives t s y) (type_of t s x) (type_of t s y)
+    (λ e. row.operands (no_operands op (Types t s x) (Types t s y) (type_of t s x) (type_of t s y)
     (gives_is t s x) (gives_is t s y) e))
 
 rows_value : (t : Tables) (s : List Scope) (e : ExprTree) (b : Broken) (k : Kind)
@@ -287,7 +287,7 @@ passed_case : (t : Tables) (s : List Scope) (name : Ident) (i first : ℕ) (e : 
     → Breaks t (part.Argument s name i first e) Mismatch first
 passed_case t s name i first e f None is at e1 = absurd (false_true (sym e1))
 passed_case t s name i first e f (Some q) is at e1 =
-    row.passed f q is at (no_gift (IsWritten t q.ty) (Gives t s e) (declared_type t q.ty)
+    row.passed f q is at (no_gift (IsWritten t q.ty) (Types t s e) (declared_type t q.ty)
     (type_of t s e) (written_is t q.ty) (gives_is t s e) e1)
 
 passed_rows : (t : Tables) (s : List Scope) (name : Ident) (i first : ℕ) (e : ExprTree)
@@ -306,7 +306,7 @@ rows_simple t s (stmt.Assign target op place e) b h =
     either (unless (assigns op (type_of t s target) (type_of t s e)) place Mismatch)
     (unless (is_target target) place NotAssignable) b h
     (λ h. unless_of P b (assigns op (type_of t s target) (type_of t s e)) place Mismatch h
-    (λ n. row.assigned (no_assignment op (Gives t s target) (Gives t s e) (type_of t s target)
+    (λ n. row.assigned (no_assignment op (Types t s target) (Types t s e) (type_of t s target)
     (type_of t s e) (gives_is t s target) (gives_is t s e) n)))
     (λ h. unless_of P b (is_target target) place NotAssignable h (λ n. row.no_target n))
 rows_simple t s (stmt.Step target op place) b h =
@@ -314,13 +314,13 @@ rows_simple t s (stmt.Step target op place) b h =
     either (unless (is_int (type_of t s target)) place Mismatch)
     (unless (is_target target) place NotAssignable) b h
     (λ h. unless_of P b (is_int (type_of t s target)) place Mismatch h
-    (λ n. row.stepped (no_number (Gives t s target) (type_of t s target) (gives_is t s target) n)))
+    (λ n. row.stepped (no_number (Types t s target) (type_of t s target) (gives_is t s target) n)))
     (λ h. unless_of P b (is_target target) place NotAssignable h
     (λ n. row.no_target_stepped n))
 rows_simple t s (stmt.Call name all) b h = absurd h
 rows_simple t s (stmt.Free place e) b h =
     unless_of (Breaks t (part.Simple s (stmt.Free place e))) b (is_pointer (type_of t s e)) place
-    Mismatch h (λ n. row.freed (no_pointer (Gives t s e) (type_of t s e) (gives_is t s e) n))
+    Mismatch h (λ n. row.freed (no_pointer (Types t s e) (type_of t s e) (gives_is t s e) n))
 rows_simple t s (stmt.Abort place) b h = absurd h
 
 initial_rows : (t : Tables) (s : List Scope) (d : DeclarationTree) (b : Broken)
@@ -331,7 +331,7 @@ initial_rows t s d b None is h = absurd h
 initial_rows t s d b (Some i) is h =
     unless_of (Breaks t (part.Local s d)) b
     (type_takes (declared_type t d.ty) (type_of t s i.value)) i.place Mismatch h
-    (λ n. row.initial i is (no_gift (IsWritten t d.ty) (Gives t s i.value) (declared_type t d.ty)
+    (λ n. row.initial i is (no_gift (IsWritten t d.ty) (Types t s i.value) (declared_type t d.ty)
     (type_of t s i.value) (written_is t d.ty) (gives_is t s i.value) n))
 
 rows_local : (t : Tables) (s : List Scope) (d : DeclarationTree) (b : Broken)
@@ -354,7 +354,7 @@ rows_return t (Some ty) s place None b h =
 rows_return t (Some ty) s place (Some e) b h =
     unless_of (Breaks t (part.Returned (Some ty) s place (Some e))) b
     (type_takes (declared_type t ty) (type_of t s e)) place Mismatch h
-    (λ n. row.returned (no_gift (IsWritten t ty) (Gives t s e) (declared_type t ty)
+    (λ n. row.returned (no_gift (IsWritten t ty) (Types t s e) (declared_type t ty)
     (type_of t s e) (written_is t ty) (gives_is t s e) n))
 
 -- the rows of declarations

@@ -18,23 +18,23 @@ abbrev pub MayBe : (F : StaticType → Type 0) → StaticType → Type 0
 MayBe F x = F x ⊎ ((y : StaticType) → F y → ⊥)
 
 abbrev mutual
-  pub Gives : Tables → List Scope → ExprTree → StaticType → Type 0
-  Gives t s (expr.Number n) x = x ≡ Number
-  Gives t s expr.Null x = x ≡ NullPointer
+  pub Types : Tables → List Scope → ExprTree → StaticType → Type 0
+  Types t s (expr.Number n) x = x ≡ Number
+  Types t s expr.Null x = x ≡ NullPointer
   -- a name that is declared with a type that isn't refused
-  Gives t s (expr.Variable name) x = variable_type name.text s ≡ Some (value_type x)
-  Gives t s (expr.Root name) x =
+  Types t s (expr.Variable name) x = variable_type name.text s ≡ Some (value_type x)
+  Types t s (expr.Root name) x =
       (i : ℕ) × (root_struct t ≡ Some i) × HasValueField t i name.text x
-  Gives t s (expr.New place name) x = IsPointer t name.text x
-  Gives t s (expr.Arrow base place name) x =
-      (i : ℕ) × Gives t s base (PointerTo i) × HasValueField t i name.text x
-  Gives t s (expr.Index base place index) x = GivesArray t s base x × Gives t s index Number
-  Gives t s (expr.Unary op place a) x =
-      (x ≡ Number) × (y : StaticType) × Gives t s a y × Applies op y
-  Gives t s (expr.Binary op place a b) x =
-      (x ≡ Number) × (y : StaticType) × (z : StaticType) × Gives t s a y × Gives t s b z
+  Types t s (expr.New place name) x = IsPointer t name.text x
+  Types t s (expr.Arrow base place name) x =
+      (i : ℕ) × Types t s base (PointerTo i) × HasValueField t i name.text x
+  Types t s (expr.Index base place index) x = GivesArray t s base x × Types t s index Number
+  Types t s (expr.Unary op place a) x =
+      (x ≡ Number) × (y : StaticType) × Types t s a y × Applies op y
+  Types t s (expr.Binary op place a b) x =
+      (x ≡ Number) × (y : StaticType) × (z : StaticType) × Types t s a y × Types t s b z
       × Joins op y z
-  Gives t s (expr.Call name all) x = (f : FunctionTree) × (ty : TypeTree)
+  Types t s (expr.Call name all) x = (f : FunctionTree) × (ty : TypeTree)
       × (f.result_type ≡ Some ty)
       × IsWritten t ty x × (function_named t name.text ≡ Some f) × (f.tx ≡ false)
       × AreTaken t s f.parameters all
@@ -43,7 +43,7 @@ abbrev mutual
   pub GivesArray : Tables → List Scope → ExprTree → StaticType → Type 0
   GivesArray t s (expr.Root name) x = (i : ℕ) × (root_struct t ≡ Some i) × HasArray t i name.text x
   GivesArray t s (expr.Arrow base place name) x =
-      (i : ℕ) × Gives t s base (PointerTo i) × HasArray t i name.text x
+      (i : ℕ) × Types t s base (PointerTo i) × HasArray t i name.text x
   GivesArray t s (expr.Number n) x = ⊥
   GivesArray t s expr.Null x = ⊥
   GivesArray t s (expr.Variable name) x = ⊥
@@ -59,7 +59,7 @@ abbrev mutual
   AreTaken t s [] (expr.More first e rest) = ⊥
   AreTaken t s (q ∷ qs) expr.None = ⊥
   AreTaken t s (q ∷ qs) (expr.More first e rest) = AreTaken t s qs rest
-      × (x : StaticType) × (y : StaticType) × MayBe (IsWritten t q.ty) x × Gives t s e y
+      × (x : StaticType) × (y : StaticType) × MayBe (IsWritten t q.ty) x × Types t s e y
       × AcceptsType x y
 
 -- the name of the field that an expression ends with stands at that place

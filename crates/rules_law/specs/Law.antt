@@ -16,7 +16,7 @@ use Rattle.typed_law.specs.Expressions.{HasType}
 use Rattle.rules_law.specs.Part.{Part}
 use Rattle.rules_law.specs.Stands.{StandsIn}
 use Rattle.rules_law.specs.Rules.{Breaks}
-use Rattle.rules_law.specs.Given.{Gives, GivesArray, EndsAt}
+use Rattle.rules_law.specs.Given.{Types, GivesArray, EndsAt}
 
 -- some part of the tree breaks the rule, at the token of that place
 abbrev pub IsBroken : Program → Rule → (place : ℕ) → Type 0
@@ -27,18 +27,18 @@ abbrev pub RowsLaw : Type 0
 RowsLaw = (tree : Program) (b : Broken) → IsAmong b (breaks tree) ↔ IsBroken tree b.rule b.place
 
 -- what is told of a tree: nothing where no rule is broken, else a broken rule that none goes before
-abbrev pub IsLeast : Program → Option Broken → Type 0
-IsLeast tree None = (b : Broken) → IsBroken tree b.rule b.place → ⊥
-IsLeast tree (Some a) = IsBroken tree a.rule a.place
+abbrev pub IsFault : Program → Option Broken → Type 0
+IsFault tree None = (b : Broken) → IsBroken tree b.rule b.place → ⊥
+IsFault tree (Some a) = IsBroken tree a.rule a.place
     × ((b : Broken) → IsBroken tree b.rule b.place → is_before b a ≡ false)
 
 abbrev pub ToldLaw : Type 0
-ToldLaw = (tree : Program) → IsLeast tree (least_broken (breaks tree))
+ToldLaw = (tree : Program) → IsFault tree (least_broken (breaks tree))
 
 -- the types and the arrays that the rows speak of are those that the rules give
 abbrev pub TypesLaw : Type 0
 TypesLaw = (t : Tables) (s : List Scope) (e : ExprTree) (x : StaticType) →
-    type_of t s e ≡ value_type x ↔ Gives t s e x
+    type_of t s e ≡ value_type x ↔ Types t s e x
 
 abbrev pub ArraysLaw : Type 0
 ArraysLaw = (t : Tables) (s : List Scope) (e : ExprTree) (x : StaticType) (n : ℕ) →
@@ -47,4 +47,4 @@ ArraysLaw = (t : Tables) (s : List Scope) (e : ExprTree) (x : StaticType) (n : �
 -- a type that an expression has by the rules of typed_law is one that it has by these
 abbrev pub TypedLaw : Type 0
 TypedLaw = (t : Tables) (s : List Scope) (e : ExprTree) (x : StaticType) →
-    HasType t s e x → Gives t s e x
+    HasType t s e x → Types t s e x

@@ -25,7 +25,7 @@ use Rattle.c_types.specs.Statements.{is_declared, is_target}
 use Rattle.typed_law.specs.Types.{StaticType, Number, PointerTo, IsWritten, Applies, Joins}
 use Rattle.typed_law.specs.Types.{AcceptsType}
 use Rattle.typed_law.specs.Statements.{IsAssigned}
-use Rattle.rules_law.specs.Given.{MayBe, Gives, GivesArray, EndsAt}
+use Rattle.rules_law.specs.Given.{MayBe, Types, GivesArray, EndsAt}
 use Rattle.rules_law.specs.Part.{Part}
 use Rattle.rules_law.specs.Part as part
 
@@ -66,7 +66,7 @@ pub data Breaks (t : Tables) : Part → Rule → (place : ℕ) → Type 0 where
   no_struct_of_root : {i : ℕ} {r : RootTree} → struct_named t r.name.text ≡ None
       → Breaks t (part.Root i r) UnknownName r.name.place
   no_field : {s : List Scope} {base : ExprTree} {place : ℕ} {name : Ident} (i : ℕ)
-      → Gives t s base (PointerTo i) → member t i name ≡ None
+      → Types t s base (PointerTo i) → member t i name ≡ None
       → Breaks t (part.Expression s (expr.Arrow base place name)) UnknownName name.place
   no_field_of_root : {s : List Scope} {name : Ident} (i : ℕ)
       → root_struct t ≡ Some i → member t i name ≡ None
@@ -91,21 +91,21 @@ pub data Breaks (t : Tables) : Part → Rule → (place : ℕ) → Type 0 where
   -- 3, mismatch: operands of arithmetic, bits, shifts or an order that aren't ints, or of `==` and
   -- `!=` that don't compare; the operator
   operands : {s : List Scope} {op : BinaryOp} {place : ℕ} {a b : ExprTree}
-      → NoOperands op (Gives t s a) (Gives t s b)
+      → NoOperands op (Types t s a) (Types t s b)
       → Breaks t (part.Expression s (expr.Binary op place a b)) Mismatch place
   -- an operand of unary `-` or `~` isn't an int; the operator
   operand : {s : List Scope} {op : UnaryOp} {place : ℕ} {a : ExprTree}
-      → NoOperand op (Gives t s a)
+      → NoOperand op (Types t s a)
       → Breaks t (part.Expression s (expr.Unary op place a)) Mismatch place
   -- what comes before `->` isn't a pointer; `->`
   before_arrow : {s : List Scope} {base : ExprTree} {place : ℕ} {name : Ident}
-      → NoPointer (Gives t s base)
+      → NoPointer (Types t s base)
       → Breaks t (part.Expression s (expr.Arrow base place name)) Mismatch place
   -- what comes before `[` is no array field, or the index isn't an int; `[`
   before_index : {s : List Scope} {base index : ExprTree} {place : ℕ} (x : StaticType)
-      → Gives t s base x
+      → Types t s base x
       → Breaks t (part.Expression s (expr.Index base place index)) Mismatch place
-  index : {s : List Scope} {base index : ExprTree} {place : ℕ} → NoNumber (Gives t s index)
+  index : {s : List Scope} {base index : ExprTree} {place : ℕ} → NoNumber (Types t s index)
       → Breaks t (part.Expression s (expr.Index base place index)) Mismatch place
   -- an array field isn't indexed; the field's name
   not_indexed : {s : List Scope} {e : ExprTree} {place : ℕ} (x : StaticType)
@@ -117,20 +117,20 @@ pub data Breaks (t : Tables) : Part → Rule → (place : ℕ) → Type 0 where
   -- a value is assigned to something of another type, where it isn't null for a pointer; `+=` or
   -- `-=` on what isn't an int, or with what isn't one; the operator
   assigned : {s : List Scope} {target e : ExprTree} {op : AssignOp} {place : ℕ}
-      → NoAssignment op (Gives t s target) (Gives t s e)
+      → NoAssignment op (Types t s target) (Types t s e)
       → Breaks t (part.Simple s (stmt.Assign target op place e)) Mismatch place
   -- or it is given at first; `=`
   initial : {s : List Scope} {d : DeclarationTree} (i : InitialTree)
-      → d.initial ≡ Some i → NoGift (IsWritten t d.ty) (Gives t s i.value)
+      → d.initial ≡ Some i → NoGift (IsWritten t d.ty) (Types t s i.value)
       → Breaks t (part.Local s d) Mismatch i.place
   -- `++` or `--` on what isn't an int; the operator
   stepped : {s : List Scope} {target : ExprTree} {op : StepOp} {place : ℕ}
-      → NoNumber (Gives t s target)
+      → NoNumber (Types t s target)
       → Breaks t (part.Simple s (stmt.Step target op place)) Mismatch place
   -- an argument isn't what could be assigned to the parameter; its first token
   passed : {s : List Scope} {name : Ident} {i first : ℕ} {e : ExprTree} (f : FunctionTree)
       (q : ParameterTree) → function_named t name.text ≡ Some f → slice_get f.parameters i ≡ Some q
-      → NoGift (IsWritten t q.ty) (Gives t s e)
+      → NoGift (IsWritten t q.ty) (Types t s e)
       → Breaks t (part.Argument s name i first e) Mismatch first
   -- `return` has a value in a void function, none in another, or one that the result's type doesn't
   -- take; `return`
@@ -139,10 +139,10 @@ pub data Breaks (t : Tables) : Part → Rule → (place : ℕ) → Type 0 where
   no_value : {s : List Scope} {place : ℕ} {ty : TypeTree}
       → Breaks t (part.Returned (Some ty) s place None) Mismatch place
   returned : {s : List Scope} {place : ℕ} {ty : TypeTree} {e : ExprTree}
-      → NoGift (IsWritten t ty) (Gives t s e)
+      → NoGift (IsWritten t ty) (Types t s e)
       → Breaks t (part.Returned (Some ty) s place (Some e)) Mismatch place
   -- `pm_free` of what isn't a pointer; `pm_free`
-  freed : {s : List Scope} {place : ℕ} {e : ExprTree} → NoPointer (Gives t s e)
+  freed : {s : List Scope} {place : ℕ} {e : ExprTree} → NoPointer (Types t s e)
       → Breaks t (part.Simple s (stmt.Free place e)) Mismatch place
   -- 4, not assignable: the target is no variable, no field of the root or after `->`, and no
   -- element of one; the operator

@@ -50,7 +50,7 @@ use Rattle.session_law.proofs.Reading.{is_marked}
 use Rattle.session_law.proofs.Powers.{HeldAs}
 use Rattle.workers_source_law.specs.States.{States}
 use Rattle.workers_source_law.specs.Lines.{StartLines, TellsState, LinesMean}
-use Rattle.workers_source_law.specs.Law.{IsWordCommand, WorkerHolds, AllHold}
+use Rattle.workers_source_law.specs.Law.{HasWordArgs, WorkerHolds, AllHold}
 use Rattle.workers_source_law.specs.Law.{PhasesHold}
 use Rattle.workers_source_law.proofs.Stills.{still, own, rest_stands}
 use Rattle.workers_source_law.proofs.AtWork.{IsAtWork, work_begins, work_owes}
@@ -381,7 +381,7 @@ module _ (program : Program) (super : Words) where
       (all worker less).held ((all worker less).up up)
 
   pub command_gives : (agrees : Agrees program) (c : WorkersCommand) (x y : Scene) (s : States)
-      (lines : List WorkersLine) → IsWordCommand c → AllStand program super x s
+      (lines : List WorkersLine) → HasWordArgs c → AllStand program super x s
       → WorkersCommanded program c x lines y
       → (t : States) × LinesMean program c x.device lines s t × AllStand program super y t
       × PhasesHold program c lines (record { scene = y; states = t })

@@ -24,7 +24,7 @@ use Rattle.session_law.specs.State.{Pending, Standing, Ready, Down, Unusable, So
 use Rattle.session_law.specs.Holds.{IsResting, OwesOne, OwesBy}
 use Rattle.session_law.proofs.Resting.{resting_owes}
 use Rattle.session_law.proofs.Powers.{HeldAs}
-use Rattle.workers_source_law.specs.States.{States, OthersStay}
+use Rattle.workers_source_law.specs.States.{States, RestStays}
 use Rattle.workers_source_law.proofs.Stills.{still, own, fewer_fenced, marks_fenced}
 use Rattle.workers_source_law.proofs.Stills.{rest_fenced, fewer_held}
 use Rattle.workers_source_law.proofs.AtWork.{IsAtWork, work_fenced}
@@ -66,7 +66,7 @@ pub changed_own : (worker : ℕ) (u : SourceState) (s : States) → changed work
 changed_own worker u s = ap (λ (b : Bool). cond b u (s worker)) (eq-eqb worker worker refl)
 
 pub changed_others : (worker : ℕ) (u : SourceState) (s : States)
-    → OthersStay worker s (changed worker u s)
+    → RestStays worker s (changed worker u s)
 changed_others worker u s j ne = ap (λ (b : Bool). cond b u (s j)) (ne_eqb j worker ne)
 
 module _ (program : Program) (super : Words) where
@@ -179,7 +179,7 @@ module _ (program : Program) (super : Words) where
   pub others_stand : (worker : ℕ) (x y : Scene) (s t : States)
       → length y.workers.tasks ≡ length x.workers.tasks
       → OtherTasksStay worker x.workers.tasks y.workers.tasks
-      → StaysAside program.image worker x.device y.device → OthersStay worker s t
+      → StaysAside program.image worker x.device y.device → RestStays worker s t
       → x.workers.down ≡ false → AllStand program super x s
       → (worker < length x.workers.tasks → Stands program super y.workers.down
       (task_at y.workers.tasks worker) (own program worker y.device) (t worker))

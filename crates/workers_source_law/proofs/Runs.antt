@@ -28,7 +28,7 @@ use Rattle.session_law.specs.Holds.{IsResting}
 use Rattle.session_law.specs.Law.{super_words}
 use Rattle.session_law.proofs.Creating.{created_rests}
 use Rattle.workers_source_law.specs.States.{States, all_created}
-use Rattle.workers_source_law.specs.Law.{IsWordCommand, RanWorkers, BrokeOff}
+use Rattle.workers_source_law.specs.Law.{HasWordArgs, RanWorkers, BrokeOff}
 use Rattle.workers_source_law.specs.Law.{WorkersLaw, WorkersPartLaw}
 use Rattle.workers_source_law.proofs.Stills.{still, own, marks_play, rest_same}
 use Rattle.workers_source_law.proofs.Invariants.{Stands, AllStand, stands_rest}
@@ -83,7 +83,7 @@ module _ (program : Program) where
 
   module _ (agrees : Agrees program) where
     runs_give : (commands : List WorkersCommand) (x y : Scene) (s : States)
-        (w w' : Option (List ℕ)) → AllByRecursion IsWordCommand commands
+        (w w' : Option (List ℕ)) → AllByRecursion HasWordArgs commands
         → AllStand program super x s → RunsWorkers program commands x w y w'
         → (t : States) × RanWorkers program commands (record { scene = x; states = s }) w
         (record { scene = y; states = t }) w'
@@ -110,7 +110,7 @@ module _ (program : Program) where
         )
 
     breaks_give : (commands : List WorkersCommand) (x y : Scene) (s : States)
-        (w w' : Option (List ℕ)) → AllByRecursion IsWordCommand commands
+        (w w' : Option (List ℕ)) → AllByRecursion HasWordArgs commands
         → AllStand program super x s → BreaksOff program commands x w y w'
         → (t : States) × BrokeOff program commands (record { scene = x; states = s }) w
         (record { scene = y; states = t }) w'

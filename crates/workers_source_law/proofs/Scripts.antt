@@ -24,7 +24,7 @@ use Rattle.workers_script.specs.WorkersGrammar.{power_with, worker_of, finish_of
 use Rattle.workers_script.specs.WorkersGrammar.{workers_meaning, workers_line_meaning}
 use Rattle.workers_script.specs.WorkersGrammar.{joined_workers, workers_from}
 use Rattle.session_law.specs.Law as session
-use Rattle.workers_source_law.specs.Law.{IsWordCommand, WordsLaw}
+use Rattle.workers_source_law.specs.Law.{HasWordArgs, ArgsLaw}
 
 either : {A : Type 0} (P : A → Type 0) (b : Bool) (x y : Option A) → IfSome x P → IfSome y P
     → IfSome (if b then x else y) P
@@ -97,7 +97,7 @@ call_words (name ∷ args) =
     None (named_words name (each argument args) (each_words args)) tt
 
 abbrev AreWordy : Option WorkersCommand → Type 0
-AreWordy o = IfSome o IsWordCommand
+AreWordy o = IfSome o HasWordArgs
 
 start_words : (worker : ℕ) (c : Command) → session.IsWordCommand c
     → AreWordy (start_with worker c)
@@ -124,7 +124,7 @@ started_words [] = tt
 started_words (word ∷ call) = worker_words call (worker_number word)
 
 -- a command that has no arguments to check
-other_words : {A : Type 0} (f : A → WorkersCommand) (o : Option A) → ((x : A) → IsWordCommand (f x))
+other_words : {A : Type 0} (f : A → WorkersCommand) (o : Option A) → ((x : A) → HasWordArgs (f x))
     → AreWordy (option_map f o)
 other_words f None is = tt
 other_words f (Some x) is = is x
@@ -152,21 +152,21 @@ powered_words (Some c) = power_words c
 
 command_words : (word : List ℕ) (others : List (List ℕ)) → AreWordy (workers_command word others)
 command_words word others =
-    either IsWordCommand (bytes_eq word (codes "start")) (start_of others) _ (started_words others)
-    (either IsWordCommand (bytes_eq word (codes "turn")) (turn_of others) _ (turn_words others)
-    (either IsWordCommand (bytes_eq word (codes "finish")) (finish_of others) _
+    either HasWordArgs (bytes_eq word (codes "start")) (start_of others) _ (started_words others)
+    (either HasWordArgs (bytes_eq word (codes "turn")) (turn_of others) _ (turn_words others)
+    (either HasWordArgs (bytes_eq word (codes "finish")) (finish_of others) _
     (finish_words others)
-    (either IsWordCommand (bytes_eq word (codes "stop")) (option_map command.Stop (event_of others))
+    (either HasWordArgs (bytes_eq word (codes "stop")) (option_map command.Stop (event_of others))
     _ (other_words command.Stop (event_of others) (λ n. tt))
-    (either IsWordCommand (bytes_eq word (codes "fault"))
+    (either HasWordArgs (bytes_eq word (codes "fault"))
     (option_map command.Fault (event_of others)) _
     (other_words command.Fault (event_of others) (λ n. tt))
-    (either IsWordCommand (bytes_eq word (codes "power"))
+    (either HasWordArgs (bytes_eq word (codes "power"))
     (option_and_then power_with (power_of others)) _ (powered_words (power_of others))
-    (either IsWordCommand (bytes_eq word (codes "show"))
+    (either HasWordArgs (bytes_eq word (codes "show"))
     (option_map command.Show (worker_of others)) _
     (other_words command.Show (worker_of others) (λ n. tt))
-    (either IsWordCommand (bytes_eq word (codes "last"))
+    (either HasWordArgs (bytes_eq word (codes "last"))
     (option_map command.Last (worker_of others)) None
     (other_words command.Last (worker_of others) (λ n. tt)) tt)))))))
 
@@ -189,7 +189,7 @@ meaning_words (word ∷ others) =
 
 -- the condition on each command of a result, if it has commands
 abbrev HasAll : Result (List WorkersCommand) ℕ → Type 0
-HasAll (Ok commands) = AllByRecursion IsWordCommand commands
+HasAll (Ok commands) = AllByRecursion HasWordArgs commands
 HasAll (Err bad) = Unit {0}
 
 joined_words : (n : ℕ) (found : Option (Option WorkersCommand))
@@ -205,5 +205,5 @@ from_words n [] = tt
 from_words n (line ∷ ls) = joined_words n (workers_line_meaning line) (workers_from (n + 1) ls)
     (meaning_words (line_of.words_of_line line)) (from_words (n + 1) ls)
 
-pub word_commands : WordsLaw
+pub word_commands : ArgsLaw
 word_commands text commands is = subst HasAll is (from_words 1 (lines text))

@@ -41,7 +41,7 @@ use Rattle.workers_session.specs.WorkersCommands.{round_from}
 use Rattle.workers_session.specs.WorkersCommands.{FinishesAll}
 use Rattle.session_law.specs.Agrees.{Agrees}
 use Rattle.session_law.specs.State.{Pending, Down, Unusable, SourceState, standing_as}
-use Rattle.workers_source_law.specs.States.{States, OthersStay}
+use Rattle.workers_source_law.specs.States.{States, RestStays}
 use Rattle.workers_source_law.specs.Lines.{Ends, TurnLines}
 use Rattle.workers_source_law.specs.Law.{Instant, LinesHold}
 use Rattle.workers_source_law.proofs.Phases.{phase_images}
@@ -130,7 +130,7 @@ module _ (program : Program) (super : Words) (agrees : Agrees program) where
         (subst (λ (is : Bool). Stands program super is (task_at x.workers.tasks worker) c
         (s worker)) up (all worker less)) turn.task_is
 
-    rest_of : (t : States) → OthersStay worker s t
+    rest_of : (t : States) → RestStays worker s t
         → Stands program super y.workers.down (task_at y.workers.tasks worker) b (t worker)
         → AllStand program super y t
     rest_of t stay mine = others_stand program super worker x y s t count turn.others turn.aside

@@ -33,15 +33,15 @@ use Rattle.workers_source_law.specs.States.{States, all_created}
 use Rattle.workers_source_law.specs.Lines.{LinesMean}
 
 -- the arguments of a command are words
-abbrev pub IsWordCommand : WorkersCommand → Type 0
-IsWordCommand (command.Start worker name args) = AreWords args
-IsWordCommand c = Unit {0}
+abbrev pub HasWordArgs : WorkersCommand → Type 0
+HasWordArgs (command.Start worker name args) = AreWords args
+HasWordArgs c = Unit {0}
 
 -- The commands of each script of workers have words as arguments, since a script's argument fits a
 -- word.
-abbrev pub WordsLaw : Type 0
-WordsLaw = (text : List ℕ) (commands : List WorkersCommand)
-    → workers_script_meaning text ≡ Ok commands → AllByRecursion IsWordCommand commands
+abbrev pub ArgsLaw : Type 0
+ArgsLaw = (text : List ℕ) (commands : List WorkersCommand)
+    → workers_script_meaning text ≡ Ok commands → AllByRecursion HasWordArgs commands
 
 -- the workers and the device, and what the source knows of each worker
 pub record Instant : Type 0 where
@@ -156,7 +156,7 @@ abbrev pub WorkersLaw : Type 0
 WorkersLaw =
     (program : Program) (count : ℕ) (commands : List WorkersCommand) (w w' : Option (List ℕ))
     (d d' : Device) (k k' : ℕ) →
-    Agrees program → AllByRecursion IsWordCommand commands →
+    Agrees program → AllByRecursion HasWordArgs commands →
     RunsNew program count commands w w' d d' k k' → RanNew program count commands w w' d d' k k'
 
 -- the same of a run that breaks off
@@ -164,6 +164,6 @@ abbrev pub WorkersPartLaw : Type 0
 WorkersPartLaw =
     (program : Program) (count : ℕ) (commands : List WorkersCommand) (w w' : Option (List ℕ))
     (d d' : Device) (k k' : ℕ) →
-    Agrees program → AllByRecursion IsWordCommand commands →
+    Agrees program → AllByRecursion HasWordArgs commands →
     BreaksOffNew program count commands w w' d d' k k'
     → BrokeOffNew program count commands w w' d d' k k'

@@ -19,11 +19,11 @@ use Rattle.workers_session.specs.declared.line.WorkersLine.TheVariants as line
 use Rattle.session_law.specs.Source.{source_parameters}
 use Rattle.session_law.specs.State.{Pending, Ready, Down, Unusable, SourceState, standing_as}
 use Rattle.session_law.specs.Answers.{IsDoneWith, TrapsAs, Powers}
-use Rattle.workers_source_law.specs.States.{States, OthersStay}
+use Rattle.workers_source_law.specs.States.{States, RestStays}
 
 -- The worker's compartment takes calls, and from now on it owes this transaction of the source,
 -- which takes these arguments and isn't marked.
-pub record Begins (program : Program) (worker : ℕ) (name : List ℕ) (args : List ℤ) (s t : States) :
+pub record Owes (program : Program) (worker : ℕ) (name : List ℕ) (args : List ℤ) (s t : States) :
     Type 0 where
   pub tx : ℕ
   pub named : call_number program name ≡ Some tx
@@ -31,13 +31,13 @@ pub record Begins (program : Program) (worker : ℕ) (name : List ℕ) (args : L
   pub plain : rolls_back_of program tx ≡ false
   pub ready : (s worker).standing ≡ Ready
   pub owed : t worker ≡ standing_as (Down (Some (record { tx = tx; args = args }))) (s worker)
-  pub others : OthersStay worker s t
+  pub others : RestStays worker s t
 
 -- `start` begins the transaction, or is refused and changes nothing
 abbrev pub StartLines : Program → (worker : ℕ) → (name : List ℕ) → List ℤ → List WorkersLine
     → (s t : States) → Type 0
 StartLines program worker name args (line.Started w ∷ []) s t =
-    (w ≡ worker) × Begins program worker name args s t
+    (w ≡ worker) × Owes program worker name args s t
 StartLines program worker name args (l ∷ []) s t = t ≡ s
 StartLines program worker name args lines s t = ⊥
 
@@ -57,7 +57,7 @@ Ends program call a s t = ⊥
 abbrev pub TurnLine : Program → WorkersLine → (s t : States) → Type 0
 TurnLine program (line.Own worker a) s t =
     (call : Pending) × ((s worker).standing ≡ Down (Some call))
-    × Ends program call a (s worker) (t worker) × OthersStay worker s t
+    × Ends program call a (s worker) (t worker) × RestStays worker s t
 TurnLine program l s t = t ≡ s
 
 -- the lines of turns, one after another
@@ -77,7 +77,7 @@ abbrev pub RecoveryLines : Program → (cut : Device) → (worker : ℕ) → Lis
 RecoveryLines program cut worker [] s t = t ≡ s
 RecoveryLines program cut worker (l ∷ lines) s t =
     (a : Answer) × (r : States) × (l ≡ line.Own worker a)
-    × Powers program (s worker) (left_of program worker cut) a (r worker) × OthersStay worker s r
+    × Powers program (s worker) (left_of program worker cut) a (r worker) × RestStays worker s r
     × RecoveryLines program cut (suc worker) lines r t
 
 -- a pick that doesn't fit changes nothing

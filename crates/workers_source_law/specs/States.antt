@@ -8,8 +8,8 @@ abbrev pub States : Type 0
 States = ℕ → SourceState
 
 -- the other workers' states stay
-abbrev pub OthersStay : (worker : ℕ) → (s t : States) → Type 0
-OthersStay worker s t = (j : ℕ) → j ≢ worker → t j ≡ s j
+abbrev pub RestStays : (worker : ℕ) → (s t : States) → Type 0
+RestStays worker s t = (j : ℕ) → j ≢ worker → t j ≡ s j
 
 -- each compartment of a new pool holds the empty pool
 abbrev pub all_created : Program → States

@@ -5,11 +5,11 @@
 //! source for each compartment, which only its own worker's lines change.
 #![tactic(auto)]
 
-ghost use Rattle.workers_source_law.specs.Law.{WorkersLaw, WorkersPartLaw, WordsLaw};
+ghost use Rattle.workers_source_law.specs.Law.{WorkersLaw, WorkersPartLaw, ArgsLaw};
 
 /// Each line of a script of workers is what the source gives. The function does nothing.
 pub fn law()
     ensures run { WorkersLaw }
     ensures part { WorkersPartLaw }
-    ensures words { WordsLaw }
+    ensures words { ArgsLaw }
 {}
