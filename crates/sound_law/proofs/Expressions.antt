@@ -111,7 +111,8 @@ module _ (t : Tables) where
   binary_leaves binary.Less a b left right = strict_leaves binary.Less a b left right
   binary_leaves binary.LessEqual a b left right = strict_leaves binary.LessEqual a b left right
   binary_leaves binary.Greater a b left right = strict_leaves binary.Greater a b left right
-  binary_leaves binary.GreaterEqual a b left right = strict_leaves binary.GreaterEqual a b left right
+  binary_leaves binary.GreaterEqual a b left right =
+      strict_leaves binary.GreaterEqual a b left right
   binary_leaves binary.Equal a b left right = strict_leaves binary.Equal a b left right
   binary_leaves binary.NotEqual a b left right = strict_leaves binary.NotEqual a b left right
   binary_leaves binary.And a b left right = strict_leaves binary.And a b left right

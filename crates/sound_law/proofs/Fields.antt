@@ -1,6 +1,7 @@
 -- A field of the root, a field behind a pointer, a new object and a freed one find what they ask
 -- for.
-use Rattle.std.proofs.Common.{◌≡◌, ℕ, zero, suc, ◌+◌, ◌≤◌, min, ◌^◌, ◌-◌, ℤ, pos, negsuc, Bool, true}
+use Rattle.std.proofs.Common.{◌≡◌, ℕ, zero, suc, ◌+◌, ◌≤◌, min, ◌^◌, ◌-◌, ℤ, pos, negsuc, Bool}
+use Rattle.std.proofs.Common.{true}
 use Rattle.std.proofs.Common.{false, List, [], ◌∷◌, length, map, refl, sym, ap, ◌∙◌, subst, arith}
 use Rattle.std.proofs.Common.{IfSome, IsSomeAnd, ⊎_elim, ◌≢◌}
 use Rattle.std.specs.Prelude.{Option, None, Some, Result, Ok, Err, slice_get, nat_eq}

@@ -74,7 +74,8 @@ same_type NullPointer Number e = cc
 same_type NullPointer (PointerTo j) e = cc
 same_type NullPointer NullPointer e = refl
 
-pub local_small : (t : Tables) (name : List ℕ) (ls : List Local) (x : StaticType) → AreSmall t (scopes_of ls)
+pub local_small : (t : Tables) (name : List ℕ) (ls : List Local) (x : StaticType)
+    → AreSmall t (scopes_of ls)
     → variable_type name (scopes_of ls) ≡ Some (value_type x) → IsSmall t x
 local_small t name ls x all e = there ls all (sym (scopes_type name ls) ∙ e)
   where
@@ -93,7 +94,8 @@ local_small t name ls x all e = there ls all (sym (scopes_type name ls) ∙ e)
         by_test false rest e = rest e
 
 -- a pointer that an expression gives leads to a small struct
-pub type_small : (t : Tables) (ls : List Local) (e : ExprTree) (x : StaticType) → AreSmall t (scopes_of ls)
+pub type_small : (t : Tables) (ls : List Local) (e : ExprTree) (x : StaticType)
+    → AreSmall t (scopes_of ls)
     → HasType t (scopes_of ls) e x → IsSmall t x
 type_small t ls (expr.Number n) x all h = rw h tt
 type_small t ls expr.Null x all h = rw h tt

@@ -312,8 +312,10 @@ module _ (t : Tables) (sane : IsSane t) (calls : Calls)
                 (λ ks p k is fits. over_from w ks _ is
                 (turns_end t w _ _ _ _ _ _ tests bodies thirds k ks p k is fits)))),
           )
-      stmt_sound stmt.Break result s ls p k h sees fits = (tt, (over_same (scopes_of ls) ls refl, fits))
-      stmt_sound stmt.Continue result s ls p k h sees fits = (tt, (over_same (scopes_of ls) ls refl, fits))
+      stmt_sound stmt.Break result s ls p k h sees fits =
+          (tt, (over_same (scopes_of ls) ls refl, fits))
+      stmt_sound stmt.Continue result s ls p k h sees fits =
+          (tt, (over_same (scopes_of ls) ls refl, fits))
       stmt_sound (stmt.Return place e) result s ls p k h sees fits =
           return_sound result e s (scopes_of ls) ls p k h sees fits
 

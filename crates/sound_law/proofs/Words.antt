@@ -31,23 +31,25 @@ abbrev pub Below : ℕ → Result ℕ TrapKind → Type 0
 Below n (Ok i) = i < n
 Below n (Err k) = Unit {0}
 
--- the words of a field end where the next one's begin, before the end of the struct's
 none_some : {A : Type 0} (x : A) → None ≡ Some x → ⊥
 none_some x e = cc
 
 some_same : {A : Type 0} (x y : A) → Some x ≡ Some y → x ≡ y
 some_same x y e = cc
 
+-- the words of a field end before those of the struct do
 shape_within : (fs : List FieldShape) (n : ℕ) (f : FieldShape) → slice_get fs n ≡ Some f
     → words_before n fs + words_of_field f ≤ words_of fs
 shape_within [] n f is = absurd (none_some f is)
 shape_within (x ∷ fs) zero f is =
     let same : words_of_field x ≡ words_of_field f = ap words_of_field (some_same x f is) in
-    let sum : words_of (x ∷ fs) ≡ words_of_field x + words_of fs = sum_by-cons words_of_field x fs in
+    let sum : words_of (x ∷ fs) ≡ words_of_field x + words_of fs =
+    sum_by-cons words_of_field x fs in
     omega (arith, same, sum)
 shape_within (x ∷ fs) (suc n) f is =
     let rest : words_before n fs + words_of_field f ≤ words_of fs = shape_within fs n f is in
-    let sum : words_of (x ∷ fs) ≡ words_of_field x + words_of fs = sum_by-cons words_of_field x fs in
+    let sum : words_of (x ∷ fs) ≡ words_of_field x + words_of fs =
+    sum_by-cons words_of_field x fs in
     omega (arith, rest, sum)
 
 -- a field, its place and its words
@@ -71,7 +73,8 @@ placed t i s name f h is named =
     let small : field_words_before at.place 0 s.fields ≤ 512 * length s.fields =
     before_small t (field_names s) at.place 0 s.fields kept.1 in
     let before : field_words_before at.place 0 s.fields ≡ words_before at.place
-    (map field_shape s.fields) = ap (λ n. field_words_before n 0 s.fields) (sym (zero_plus at.place))
+    (map field_shape s.fields) =
+    ap (λ n. field_words_before n 0 s.fields) (sym (zero_plus at.place))
     ∙ before_same t (field_names s) 0 at.place s.fields kept.1 in
     let own = sane.field_at_place t (field_names s) 0 s.fields at.place f kept.1 at.stands in
     let words : field_words f ≡ words_of_field (field_shape f) =
@@ -168,7 +171,8 @@ word_below s name f index h named indexed =
         let many : field_elements s name ≡ array_length l.value =
         ap (λ (o : Option FieldTree). option_map_or (λ (x : FieldTree).
         option_map_or (λ (l : LengthTree). array_length l.value) x.len 0) o 0) named
-        ∙ ap (λ (o : Option LengthTree). option_map_or (λ (l : LengthTree). array_length l.value) o 0)
+        ∙ ap (λ (o : Option LengthTree).
+        option_map_or (λ (l : LengthTree). array_length l.value) o 0)
         long in
         let within : before + field_words f ≤ words_of (map field_shape s.fields) = h.within in
         rw (first, many)

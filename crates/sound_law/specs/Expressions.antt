@@ -2,7 +2,8 @@
 -- `value_of` evaluates it: each part is looked at with the pool and the ticks that the parts before
 -- it leave, and a part that isn't reached asks for nothing.
 --
--- Each place where the meaning is total by a value of its own has its row:
+-- Each place where the meaning is total by a value of its own has its row. After the row, the
+-- definitions of c_meaning that give such a value:
 --     a variable             the local is there (`value_named`, `assigned`)
 --     a call                 the function is there (`called`), with an argument for each of its
 --                            parameters (`bound`; the row is `FunctionFinds`)
@@ -10,6 +11,13 @@
 --     a field, an element    the struct, the field and the word are there, the offset is exact
 --                            (`word_named`, `pointer_of`, `first_word`, `field_elements`,
 --                            `word_in_struct`, `struct_word_at`, `read_word`, `write_word`)
+--     a transaction          it is there (`run_transaction`; the law's own premise)
+--
+-- Three things have no row. How many turns a loop may take is no limit of its own: it is the ticks
+-- left when the loop begins, and each turn takes one; the code, which counts no turns, comes to the
+-- same end (lower_law). A body never ends by `break` or `continue`, which the grammar has in loops
+-- alone. And the counts of a struct's words bend only where a field is declared twice or has a
+-- refused length, which typed_law's `IsStruct` rules out.
 use Rattle.std.specs.Prelude.{ℕ, zero, suc, ℤ, pos, ◌≡◌, List, None, Some, Bool, true, not}
 use Rattle.c_tree.specs.ExprTree.{ExprTree, Arguments}
 use Rattle.c_tree.specs.ExprTree as expr

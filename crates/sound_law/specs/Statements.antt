@@ -1,6 +1,7 @@
 -- What statements, functions and their calls ask for while they run is there, followed as
 -- `end_of_stmt` runs them.
-use Rattle.std.specs.Prelude.{ℕ, zero, suc, ℤ, pos, ◌≡◌, List, [], length, Option, None, Some, true, false}
+use Rattle.std.specs.Prelude.{ℕ, zero, suc, ℤ, pos, ◌≡◌, List, [], length, Option, None, Some}
+use Rattle.std.specs.Prelude.{true, false}
 use Rattle.c_tree.specs.ExprTree.{ExprTree}
 use Rattle.c_tree.specs.ExprTree as expr
 use Rattle.c_tree.specs.StmtTree.{StmtTree, Statements, SimpleTree, FirstTree}
