@@ -1,5 +1,5 @@
 -- How statements end: with a pool that fits, and with the locals' names and types as they must be.
-use Rattle.std.proofs.Common.{◌≡◌, ℕ, zero, suc, ℤ, Bool, true, false, List, length}
+use Rattle.std.proofs.Common.{◌≡◌, ◌≤◌, ℕ, zero, suc, ℤ, Bool, true, false, List, length, arith}
 use Rattle.std.specs.Prelude.{if◌then◌else◌}
 use Rattle.c_types.specs.Tables.{Tables}
 use Rattle.c_types.specs.Expressions.{Scope}
@@ -13,8 +13,14 @@ use Rattle.c_meaning.specs.Meaning.{with_value, then_next, after_turn, in_scope,
 use Rattle.c_meaning.specs.Meaning.{given}
 use Rattle.sound_law.specs.Expressions.{After}
 use Rattle.sound_law.specs.Statements.{AfterNext, AfterTurn, TurnsFind}
-use Rattle.sound_law.proofs.Expressions.{Fits, Leaves, after_more, after_tick}
+use Rattle.sound_law.proofs.Expressions.{Fits, Leaves}
+use Rattle.sound_law.proofs.Ticks.{Falls, EndsBelow}
 use Rattle.sound_law.proofs.Declared.{Over, over_same, over_more, own_end}
+
+after_both : {A : Type 0} (o : Out A) (P R Q : A → PoolMap → ℕ → Type 0) → After o P → After o R
+    → ((a : A) (p : PoolMap) (k : ℕ) → P a p k → R a p k → Q a p k) → After o Q
+after_both (Got a p k) P R Q one two next = next a p k one two
+after_both (Stops trap) P R Q one two next = tt
 
 module _ (t : Tables) where
   -- normally with locals of the scopes d, and by `break` or `continue` with those of c and newer
@@ -131,14 +137,23 @@ module _ (t : Tables) where
   turn_ends c (Gave v p k) go h next = h
   turn_ends c (Traps trap) go h next = tt
 
-  turn_next : (c : List Scope) (e : StmtEnd) (Q : List Local → PoolMap → ℕ → Type 0)
-      → EndsWith c e → ((ls : List Local) (p : PoolMap) (k : ℕ) → scopes_of ls ≡ c → Fits t p
-      → Q ls p k) → AfterTurn e Q
-  turn_next c (Next ls p k) Q h next = next ls p k h.0 h.1
-  turn_next c (Again ls p k) Q h next = next ls p k h.0 h.1
-  turn_next c (Broke ls p k) Q h next = tt
-  turn_next c (Gave v p k) Q h next = tt
-  turn_next c (Traps trap) Q h next = tt
+  turn_next : (c : List Scope) (k : ℕ) (e : StmtEnd) (Q : List Local → PoolMap → ℕ → Type 0)
+      → EndsWith c e → EndsBelow k e → ((ls : List Local) (p : PoolMap) (j : ℕ)
+      → scopes_of ls ≡ c → Fits t p → j ≤ k → Q ls p j) → AfterTurn e Q
+  turn_next c k (Next ls p j) Q h le next = next ls p j h.0 h.1 le
+  turn_next c k (Again ls p j) Q h le next = next ls p j h.0 h.1 le
+  turn_next c k (Broke ls p j) Q h le next = tt
+  turn_next c k (Gave v p j) Q h le next = tt
+  turn_next c k (Traps trap) Q h le next = tt
+
+  third_next : (c : List Scope) (k : ℕ) (e : StmtEnd) (Q : List Local → PoolMap → ℕ → Type 0)
+      → EndsWith c e → EndsBelow k e → ((ls : List Local) (p : PoolMap) (j : ℕ)
+      → scopes_of ls ≡ c → Fits t p → j ≤ k → Q ls p j) → AfterNext e Q
+  third_next c k (Next ls p j) Q h le next = next ls p j h.0 h.1 le
+  third_next c k (Again ls p j) Q h le next = tt
+  third_next c k (Broke ls p j) Q h le next = tt
+  third_next c k (Gave v p j) Q h le next = tt
+  third_next c k (Traps trap) Q h le next = tt
 
   -- a loop, from locals of the scopes c, which each of its parts keeps
   module _ (c : List Scope)
@@ -151,23 +166,28 @@ module _ (t : Tables) where
       → Body ls p k × EndsWith c (body ls p k))
       (thirds : (ls : List Local) (p : PoolMap) (k : ℕ) → scopes_of ls ≡ c → Fits t p
       → Third ls p k × EndsWith c (third ls p k)) where
-    pub turns_find : (n : ℕ) (ls : List Local) (p : PoolMap) (k : ℕ) → scopes_of ls ≡ c → Fits t p
+    pub turns_find : ((ls : List Local) (p : PoolMap) (k : ℕ) → Falls k (test ls p k))
+        → ((ls : List Local) (p : PoolMap) (k : ℕ) → EndsBelow k (body ls p k))
+        → ((ls : List Local) (p : PoolMap) (k : ℕ) → EndsBelow k (third ls p k))
+        → (n : ℕ) (ls : List Local) (p : PoolMap) (k : ℕ) → scopes_of ls ≡ c → Fits t p → k ≤ n
         → TurnsFind n test Test body Body third Third ls p k
-    turns_find zero ls p k is fits = tt
-    turns_find (suc n) ls p k is fits = after_tick k _ (λ k. (
+    turns_find f g h zero ls p k is fits le = omega (arith, le)
+    turns_find f g h (suc n) ls p zero is fits le = tt
+    turns_find f g h (suc n) ls p (suc k) is fits le = (
       (tests ls p k is fits).0,
-      after_more (test ls p k) (λ v p k. Fits t p) _ (tests ls p k is fits).1
-          (λ v p k fits e. (
-            (bodies ls p k is fits).0,
-            turn_next c (body ls p k) _ (bodies ls p k is fits).1
-                (λ ls p k is fits. (
-                  (thirds ls p k is fits).0,
-                  declared_next c c (third ls p k) _ (with_as c (third ls p k)
-                      (thirds ls p k is fits).1)
-                      (λ ls p k is fits. turns_find n ls p k is fits),
+      after_both (test ls p k) (λ v p j. Fits t p) (λ v p j. j ≤ k) _ (tests ls p k is fits).1
+          (f ls p k)
+          (λ v p j fits one e. (
+            (bodies ls p j is fits).0,
+            turn_next c j (body ls p j) _ (bodies ls p j is fits).1 (g ls p j)
+                (λ ks p i is fits two. (
+                  (thirds ks p i is fits).0,
+                  third_next c i (third ks p i) _ (thirds ks p i is fits).1 (h ks p i)
+                      (λ ks p m is fits three. turns_find f g h n ks p m is fits
+                      (omega (arith, le, one, two, three))),
                 )),
           )),
-    ))
+    )
 
     tick_ends : (k : ℕ) (go : ℕ → StmtEnd) → ((k : ℕ) → EndsWith c (go k))
         → EndsWith c (tick k (Traps trap.Steps) go)

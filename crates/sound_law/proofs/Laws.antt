@@ -21,6 +21,7 @@ use Rattle.sound_law.specs.Law.{LeavesFitting, SoundLaw}
 use Rattle.sound_law.proofs.Expressions.{Fits, Leaves, AreSound}
 use Rattle.sound_law.proofs.Declared.{Sees, parameters_seen}
 use Rattle.sound_law.proofs.Ends.{given_leaves}
+use Rattle.sound_law.proofs.Ticks.{CallsFall, calls_fall}
 use Rattle.sound_law.proofs.Statements.{statements_sound}
 
 -- no locals and no names
@@ -29,14 +30,14 @@ none_seen t = record { same = λ name. refl; paired = tt; small = tt }
 
 module _ (t : Tables) (sane : IsSane t) (typed : IsWellTyped t) where
   function_sound : (calls : Calls) (found : FunctionTree → List ℤ → PoolMap → ℕ → Type 0)
-      → AreSound t sane calls found → (i : ℕ) (f : FunctionTree) (vs : List ℤ) (p : PoolMap)
+      → AreSound t sane calls found → CallsFall calls → (i : ℕ) (f : FunctionTree) (vs : List ℤ) (p : PoolMap)
       (k : ℕ) → slice_get t.functions i ≡ Some f → length vs ≡ length f.parameters → Fits t p
       → FunctionFinds t calls found f vs p k × Leaves t (function_value t calls f vs p k)
-  function_sound calls found sound i f vs p k is many fits =
+  function_sound calls found sound fall i f vs p k is many fits =
       let h : IsTypedFunction t i f = typed.functions i f is in
       let sees = parameters_seen t f.parameters 0 (inner_scopes []) vs [] h.parameters
       (none_seen t) in
-      let r = statements_sound t sane calls found sound f.body f.result_type
+      let r = statements_sound t sane calls found sound fall f.body f.result_type
       (scopes_after_parameters t (inner_scopes []) f.parameters) (bound t f.parameters vs []) p k
       h.body sees fits in (
         (many, r.0),
@@ -49,7 +50,7 @@ module _ (t : Tables) (sane : IsSane t) (typed : IsWellTyped t) where
   calls_sound zero i f vs p k is many fits = (tt, tt)
   calls_sound (suc room) i f vs p k is many fits =
       function_sound (calls_of t room) (λ f vs p k. CallFinds t room f vs p k) (calls_sound room)
-      i f vs p k is many fits
+      (calls_fall t room) i f vs p k is many fits
 
 none_some : {A : Type 0} (x : A) → None ≡ Some x → ⊥
 none_some x e = cc
@@ -87,7 +88,7 @@ sound tree b number f is p args ticks fits many =
     let at = numbered_stands t.functions number f is in
     let r = function_sound t (sane tree b) (accepted tree b) (calls_of t 255)
     (λ f vs p k. CallFinds t 255 f vs p k)
-    (calls_sound t (sane tree b) (accepted tree b) 255) at.0 f args p ticks at.1 many fits in (
+    (calls_sound t (sane tree b) (accepted tree b) 255) (calls_fall t 255) at.0 f args p ticks at.1 many fits in (
       r.0,
       subst (λ (o : Option FunctionTree). LeavesFitting (shapes_in t)
           (run_transaction t o p args ticks)) (sym is)

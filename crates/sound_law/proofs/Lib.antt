@@ -7,4 +7,5 @@ pub mod Declared
 pub mod Ends
 pub mod Simple
 pub mod Statements
+pub mod Ticks
 pub mod Laws

@@ -45,13 +45,13 @@ AfterTurn (Gave v p k) next = Unit {0}
 AfterTurn (Traps trap) next = Unit {0}
 
 -- at most n turns of a loop: its condition, its body and its third part, with what each of them
--- asks for
+-- asks for; no turn is left only where no tick is
 abbrev pub TurnsFind : ℕ
     → (test : List Local → PoolMap → ℕ → Out ℤ) → (List Local → PoolMap → ℕ → Type 0)
     → (body : List Local → PoolMap → ℕ → StmtEnd) → (List Local → PoolMap → ℕ → Type 0)
     → (third : List Local → PoolMap → ℕ → StmtEnd) → (List Local → PoolMap → ℕ → Type 0)
     → List Local → PoolMap → ℕ → Type 0
-TurnsFind zero test Test body Body third Third ls p k = Unit {0}
+TurnsFind zero test Test body Body third Third ls p k = k ≡ 0
 TurnsFind (suc n) test Test body Body third Third ls p k = AfterTick k (λ k. Test ls p k
     × After (test ls p k) (λ v p k. is_zero v ≡ false → Body ls p k
     × AfterTurn (body ls p k) (λ ls p k. Third ls p k
