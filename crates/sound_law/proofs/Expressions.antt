@@ -22,6 +22,7 @@ use Rattle.c_meaning.specs.Meaning.{at_zero, both, either, binary_means, called,
 use Rattle.c_meaning.specs.Meaning.{values_of, pointer_of}
 use Rattle.c_meaning.specs.Operators.{binary_of}
 use Rattle.lower.proofs.Sane.{IsSane}
+use Rattle.typed_law.specs.Programs.{IsWellTyped}
 use Rattle.typed_law.specs.Types.{StaticType, Number, PointerTo, value_type}
 use Rattle.typed_law.specs.Expressions.{HasType, IsArray, ArePassed}
 use Rattle.typed_law.proofs.TypedExpressions.{typed_is}
@@ -119,7 +120,7 @@ module _ (t : Tables) where
   binary_leaves binary.Xor a b left right = strict_leaves binary.Xor a b left right
   binary_leaves binary.Or a b left right = strict_leaves binary.Or a b left right
 
-  module _ (sane : IsSane t) (calls : Calls)
+  module _ (sane : IsSane t) (typed : IsWellTyped t) (calls : Calls)
       (found : FunctionTree → List ℤ → PoolMap → ℕ → Type 0) where
     -- each function, called with its arguments, finds what it asks for
     abbrev pub AreSound : Type 0
@@ -131,9 +132,9 @@ module _ (t : Tables) where
       pub element_finds : (e : ExprTree) (x : StaticType) (p : PoolMap) (b j : ℤ)
           → IsArray t (scopes_of ls) e x → Fits p → FindsWord t ls p e b (Some j)
       element_finds (expr.Root name) x p b j h fits =
-          root_finds t sane h.0 name ls p b (Some j) h.1 (many t h.0 name.text x j h.2) fits
+          root_finds t sane typed h.0 name ls p b (Some j) h.1 (many t h.0 name.text x j h.2) fits
       element_finds (expr.Arrow base place name) x p b j h fits =
-          arrow_finds t sane h.0 base place name ls p b (Some j)
+          arrow_finds t sane typed h.0 base place name ls p b (Some j)
           (typed_is t (scopes_of ls) base (PointerTo h.0) h.1)
           (type_small t ls base (PointerTo h.0) small h.1) (many t h.0 name.text x j h.2) fits
       element_finds (expr.Number n) x p b j h fits = absurd h
@@ -149,13 +150,13 @@ module _ (t : Tables) where
           → HasType t (scopes_of ls) (expr.Root name) x → Fits p
           → FindsWord t ls p (expr.Root name) b None
       root_value_finds name x p b h fits =
-          root_finds t sane h.0 name ls p b None h.1 (single t h.0 name.text x h.2) fits
+          root_finds t sane typed h.0 name ls p b None h.1 (single t h.0 name.text x h.2) fits
 
       pub arrow_value_finds : (base : ExprTree) (place : ℕ) (name : Ident) (x : StaticType)
           (p : PoolMap) (b : ℤ) → HasType t (scopes_of ls) (expr.Arrow base place name) x → Fits p
           → FindsWord t ls p (expr.Arrow base place name) b None
       arrow_value_finds base place name x p b h fits =
-          arrow_finds t sane h.0 base place name ls p b None
+          arrow_finds t sane typed h.0 base place name ls p b None
           (typed_is t (scopes_of ls) base (PointerTo h.0) h.1)
           (type_small t ls base (PointerTo h.0) small h.1) (single t h.0 name.text x h.2) fits
 
@@ -200,7 +201,7 @@ module _ (t : Tables) where
           loaded_leaves (word_named t ls p (expr.Root name) (pos 0) None) p k fits,
         )
         exp_sound (expr.New place name) x p k h fits =
-            (new_numbered t sane name x h, new_leaves t sane name x p h fits)
+            (new_numbered t sane typed name x h, new_leaves t sane typed name x p h fits)
         exp_sound (expr.Arrow base place name) x p k h fits =
             let b = exp_sound base (PointerTo h.0) p k h.1 fits in (
               (

@@ -36,6 +36,7 @@ use Rattle.code_meaning.specs.Code.{fields_of}
 use Rattle.lower_law.proofs.Fields.{new_word}
 use Rattle.typed_law.specs.Types.{StaticType, Number, PointerTo, NullPointer, value_type}
 use Rattle.typed_law.specs.Types.{IsPointer, IsWritten, HasValueField, HasArray}
+use Rattle.typed_law.specs.Programs.{IsWellTyped}
 use Rattle.typed_law.proofs.Fitting.{pointer_kept}
 use Rattle.sound_law.specs.Places.{LeadsInto, IsNumbered, IsIndexed, HasMember, FindsWord}
 use Rattle.sound_law.proofs.Pools.{object_fits, new_fits}
@@ -141,7 +142,7 @@ numbered_few n i (s ∷ ss) = by_test _ (numbered_up_to n (i + 1) ss) (numbered_
     by_test true m le = omega (arith, le)
     by_test false m le = omega (arith, le)
 
-module _ (t : Tables) (sane : IsSane t) where
+module _ (t : Tables) (sane : IsSane t) (typed : IsWellTyped t) where
   number_is : (i : ℕ) → struct_kind_at t (Some i) ≡ number_at t i
   number_is i = small (number_at t i) (length t.structs) (numbered_few i 0 t.structs) sane.structs
     where
@@ -177,7 +178,7 @@ module _ (t : Tables) (sane : IsSane t) where
   member_there : (i : ℕ) (at : Option ℕ) (name : List ℕ) (index : Option ℤ) → at ≡ Some i
       → Member t i name index → HasMember t at name index
   member_there i at name index known h =
-      member t at i h.owner name h.field index known h.there
+      member t at i h.owner name h.field index known h.there (typed.structs i h.owner h.there)
       (placed t i h.owner name h.field sane h.there h.named) h.indexed
 
   words_below : (i : ℕ) (name : List ℕ) (index : Option ℤ) (h : Member t i name index)
@@ -203,7 +204,7 @@ module _ (t : Tables) (sane : IsSane t) where
 
   pub small_numbered : (i : ℕ) (at : Option ℕ) → at ≡ Some i → IsSmall t (PointerTo i)
       → IsNumbered t at
-  small_numbered i at is small = (i, small.0, is, small.1, small.2)
+  small_numbered i at is small = (i, small.0, is, small.1, small.2, typed.structs i small.0 small.1)
 
   pub points_to : (ls : List Local) (e : ExprTree) (i : ℕ)
       → type_of t (scopes_of ls) e ≡ value_type (PointerTo i)

@@ -30,14 +30,15 @@ none_seen t = record { same = λ name. refl; paired = tt; small = tt }
 
 module _ (t : Tables) (sane : IsSane t) (typed : IsWellTyped t) where
   function_sound : (calls : Calls) (found : FunctionTree → List ℤ → PoolMap → ℕ → Type 0)
-      → AreSound t sane calls found → CallsFall calls → (i : ℕ) (f : FunctionTree) (vs : List ℤ) (p : PoolMap)
+      → AreSound t sane typed calls found → CallsFall calls → (i : ℕ) (f : FunctionTree)
+      (vs : List ℤ) (p : PoolMap)
       (k : ℕ) → slice_get t.functions i ≡ Some f → length vs ≡ length f.parameters → Fits t p
       → FunctionFinds t calls found f vs p k × Leaves t (function_value t calls f vs p k)
   function_sound calls found sound fall i f vs p k is many fits =
       let h : IsTypedFunction t i f = typed.functions i f is in
       let sees = parameters_seen t f.parameters 0 (inner_scopes []) vs [] h.parameters
       (none_seen t) in
-      let r = statements_sound t sane calls found sound fall f.body f.result_type
+      let r = statements_sound t sane typed calls found sound fall f.body f.result_type
       (scopes_after_parameters t (inner_scopes []) f.parameters) (bound t f.parameters vs []) p k
       h.body sees fits in (
         (many, r.0),
@@ -45,7 +46,7 @@ module _ (t : Tables) (sane : IsSane t) (typed : IsWellTyped t) where
             (ends_of t calls f.body (bound t f.parameters vs []) p k) r.1,
       )
 
-  calls_sound : (room : ℕ) → AreSound t sane (calls_of t room)
+  calls_sound : (room : ℕ) → AreSound t sane typed (calls_of t room)
       (λ f vs p k. CallFinds t room f vs p k)
   calls_sound zero i f vs p k is many fits = (tt, tt)
   calls_sound (suc room) i f vs p k is many fits =
@@ -88,7 +89,8 @@ sound tree b number f is p args ticks fits many =
     let at = numbered_stands t.functions number f is in
     let r = function_sound t (sane tree b) (accepted tree b) (calls_of t 255)
     (λ f vs p k. CallFinds t 255 f vs p k)
-    (calls_sound t (sane tree b) (accepted tree b) 255) (calls_fall t 255) at.0 f args p ticks at.1 many fits in (
+    (calls_sound t (sane tree b) (accepted tree b) 255) (calls_fall t 255) at.0 f args p
+    ticks at.1 many fits in (
       r.0,
       subst (λ (o : Option FunctionTree). LeavesFitting (shapes_in t)
           (run_transaction t o p args ticks)) (sym is)

@@ -27,6 +27,7 @@ use Rattle.c_meaning.specs.Meaning.{Out, Got, StmtEnd, Calls, with_value}
 use Rattle.c_meaning.specs.Meaning.{value_of, pointer_of, operands_of, stored_end, assign_to}
 use Rattle.c_meaning.specs.Meaning.{update, target_local, freed, loaded, or_trap, end_of_simple}
 use Rattle.lower.proofs.Sane.{IsSane}
+use Rattle.typed_law.specs.Programs.{IsWellTyped}
 use Rattle.typed_law.specs.Types.{StaticType, Number, PointerTo, value_type}
 use Rattle.typed_law.specs.Expressions.{HasType}
 use Rattle.typed_law.specs.Statements.{IsAssignable, IsSimple, IsInitial}
@@ -54,8 +55,9 @@ some_none x e = cc
 some_same : {A : Type 0} (x y : A) → Some x ≡ Some y → x ≡ y
 some_same x y e = cc
 
-module _ (t : Tables) (sane : IsSane t) (calls : Calls)
-    (found : FunctionTree → List ℤ → PoolMap → ℕ → Type 0) (sound : AreSound t sane calls found)
+module _ (t : Tables) (sane : IsSane t) (typed : IsWellTyped t) (calls : Calls)
+    (found : FunctionTree → List ℤ → PoolMap → ℕ → Type 0)
+    (sound : AreSound t sane typed calls found)
     (ls : List Local) (small : AreSmall t (scopes_of ls)) where
   -- the word of a target is there in every pool that fits
   abbrev IsTarget : ExprTree → ℤ × Option ℤ → Type 0
@@ -69,37 +71,39 @@ module _ (t : Tables) (sane : IsSane t) (calls : Calls)
     tt,
     (
       fits,
-      (λ p fits. root_value_finds t sane calls found sound ls small name x p (pos 0) h fits),
+      (λ p fits. root_value_finds t sane typed calls found sound ls small name x p (pos 0) h fits),
     ),
   )
   operands_sound (expr.Arrow base place name) x p k good is h fits =
-      let b = exp_sound t sane calls found sound ls small base (PointerTo h.0) p k h.1 fits in (
+      let b =
+      exp_sound t sane typed calls found sound ls small base (PointerTo h.0) p k h.1 fits in (
         b.0,
         after_do (value_of t calls base ls p k) _ (λ v p k. Fits t p)
             (λ o p k. Fits t p × IsTarget (expr.Arrow base place name) o) b.1
             (λ v p k fits. (
               fits,
-              (λ p fits. arrow_value_finds t sane calls found sound ls small base place name x p v
+              (λ p fits. arrow_value_finds t sane typed calls found sound ls small base place name x
+                  p v
                   h fits),
             )),
       )
   operands_sound (expr.Index a place i) x p k good is h fits =
-      let b = pointer_sound t sane calls found sound ls small a x p k h.0 fits in (
+      let b = pointer_sound t sane typed calls found sound ls small a x p k h.0 fits in (
         (
           b.0,
           after_more (pointer_of t calls a ls p k) (λ v p k. Fits t p)
               (λ v p k. Finds t calls found i ls p k) b.1
               (λ v p k fits.
-              (exp_sound t sane calls found sound ls small i Number p k h.1 fits).0),
+              (exp_sound t sane typed calls found sound ls small i Number p k h.1 fits).0),
         ),
         after_do (pointer_of t calls a ls p k) _ (λ v p k. Fits t p)
             (λ o p k. Fits t p × IsTarget (expr.Index a place i) o) b.1
             (λ v p k fits. after_do (value_of t calls i ls p k) _ (λ j p k. Fits t p)
             (λ o p k. Fits t p × IsTarget (expr.Index a place i) o)
-            (exp_sound t sane calls found sound ls small i Number p k h.1 fits).1
+            (exp_sound t sane typed calls found sound ls small i Number p k h.1 fits).1
             (λ j p k fits. (
               fits,
-              (λ p fits. element_finds t sane calls found sound ls small a x p v j h.0 fits),
+              (λ p fits. element_finds t sane typed calls found sound ls small a x p v j h.0 fits),
             ))),
       )
   operands_sound (expr.Variable name) x p k good is h fits = absurd (some_none name.text is)
@@ -143,7 +147,7 @@ module _ (t : Tables) (sane : IsSane t) (calls : Calls)
       → HasType t (scopes_of ls) e y → Fits t p → SetFinds t calls found o target e ls p k
       × Ends (assign_to t calls o target (λ p k. value_of t calls e ls p k) ls p k)
   set_sound (Some name) target e x y p k is good h g fits =
-      let v = exp_sound t sane calls found sound ls small e y p k g fits in (
+      let v = exp_sound t sane typed calls found sound ls small e y p k g fits in (
         (target_there target name x is h, v.0),
         value_then (value_of t calls e ls p k) _ (λ v p k. Fits t p) v.1
             (λ v p k fits. (assigned_scopes name v ls, fits)),
@@ -155,16 +159,16 @@ module _ (t : Tables) (sane : IsSane t) (calls : Calls)
           after_more (operands_of t calls target ls p k) (λ o p k. Fits t p × IsTarget target o) _
               o.1
               (λ o p k there. (
-                (exp_sound t sane calls found sound ls small e y p k g there.0).0,
+                (exp_sound t sane typed calls found sound ls small e y p k g there.0).0,
                 after_more (value_of t calls e ls p k) (λ v p k. Fits t p) _
-                    (exp_sound t sane calls found sound ls small e y p k g there.0).1
+                    (exp_sound t sane typed calls found sound ls small e y p k g there.0).1
                     (λ v p k fits. there.1 p fits),
               )),
         ),
         value_then (operands_of t calls target ls p k) _
             (λ o p k. Fits t p × IsTarget target o) o.1
             (λ o p k there. value_then (value_of t calls e ls p k) _ (λ v p k. Fits t p)
-            (exp_sound t sane calls found sound ls small e y p k g there.0).1
+            (exp_sound t sane typed calls found sound ls small e y p k g there.0).1
             (λ v p k fits. stored_ends (word_named t ls p (target_field target) o.0 o.1) v p k
             fits)),
       )
@@ -233,13 +237,13 @@ module _ (t : Tables) (sane : IsSane t) (calls : Calls)
       update_sound (target_local target) target binary.Add (λ p k. value_of t calls e ls p k)
       (λ p k. Finds t calls found e ls p k) h.1 p k refl h.0
       (type_moved t s (scopes_of ls) target h.1 same h.3)
-      (λ p k fits. exp_sound t sane calls found sound ls small e h.2 p k
+      (λ p k fits. exp_sound t sane typed calls found sound ls small e h.2 p k
       (type_moved t s (scopes_of ls) e h.2 same h.4) fits) fits
   simple_sound (stmt.Assign target assign.Sub place e) s p k h same fits =
       update_sound (target_local target) target binary.Sub (λ p k. value_of t calls e ls p k)
       (λ p k. Finds t calls found e ls p k) h.1 p k refl h.0
       (type_moved t s (scopes_of ls) target h.1 same h.3)
-      (λ p k fits. exp_sound t sane calls found sound ls small e h.2 p k
+      (λ p k fits. exp_sound t sane typed calls found sound ls small e h.2 p k
       (type_moved t s (scopes_of ls) e h.2 same h.4) fits) fits
   simple_sound (stmt.Step target step.Up place) s p k h same fits =
       update_sound (target_local target) target binary.Add (λ p k. Got (pos 1) p k)
@@ -250,7 +254,7 @@ module _ (t : Tables) (sane : IsSane t) (calls : Calls)
       (λ p k. Unit {0}) Number p k refl h.0
       (type_moved t s (scopes_of ls) target Number same h.1) (λ p k fits. (tt, fits)) fits
   simple_sound (stmt.Call name all) s p k h same fits =
-      let r = call_sound t sane calls found sound ls small name all h.0 p k h.1
+      let r = call_sound t sane typed calls found sound ls small name all h.0 p k h.1
       (passed_moved t s (scopes_of ls) h.0.parameters all same h.3) fits in (
         r.0,
         value_then (value_of t calls (expr.Call name all) ls p k) _ (λ v p k. Fits t p) r.1
@@ -258,11 +262,11 @@ module _ (t : Tables) (sane : IsSane t) (calls : Calls)
       )
   simple_sound (stmt.Free place e) s p k h same fits =
       let has = type_moved t s (scopes_of ls) e (PointerTo h.0) same h.1 in
-      let r = exp_sound t sane calls found sound ls small e (PointerTo h.0) p k has fits in (
+      let r = exp_sound t sane typed calls found sound ls small e (PointerTo h.0) p k has fits in (
         (
           r.0,
-          small_numbered t sane h.0 (struct_pointed_by t ls e)
-              (points_to t sane ls e h.0 (typed_is t (scopes_of ls) e (PointerTo h.0) has))
+          small_numbered t sane typed h.0 (struct_pointed_by t ls e)
+              (points_to t sane typed ls e h.0 (typed_is t (scopes_of ls) e (PointerTo h.0) has))
               (type_small t ls e (PointerTo h.0) small has),
         ),
         value_then (value_of t calls e ls p k) _ (λ v p k. Fits t p) r.1
@@ -277,5 +281,5 @@ module _ (t : Tables) (sane : IsSane t) (calls : Calls)
       × Leaves t (option_map_or (λ i. value_of t calls i.value ls p k) o (Got (pos 0) p k))
   initial_sound None s x p k h same fits = (tt, fits)
   initial_sound (Some i) s x p k h same fits =
-      exp_sound t sane calls found sound ls small i.value h.0 p k
+      exp_sound t sane typed calls found sound ls small i.value h.0 p k
       (type_moved t s (scopes_of ls) i.value h.0 same h.1) fits

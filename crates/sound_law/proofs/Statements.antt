@@ -20,6 +20,7 @@ use Rattle.c_meaning.specs.Meaning.{value_of, declaration_end, return_end}
 use Rattle.c_meaning.specs.Meaning.{end_of_first, end_of_third, condition_of, in_scope}
 use Rattle.c_meaning.specs.Meaning.{end_of_stmt, ends_of}
 use Rattle.lower.proofs.Sane.{IsSane}
+use Rattle.typed_law.specs.Programs.{IsWellTyped}
 use Rattle.typed_law.specs.Types.{StaticType}
 use Rattle.typed_law.specs.Expressions.{HasType}
 use Rattle.typed_law.specs.Statements.{IsDeclared, IsFirst, IsCondition, IsThird, IsReturned}
@@ -121,13 +122,15 @@ sees_first t (Some (stmt.Declare d)) s u h sees =
     sees_new t (inner_scopes s) u d h (sees_inside t s u sees)
 sees_first t (Some (stmt.Simply x)) s u h sees = sees_inside t s u sees
 
-module _ (t : Tables) (sane : IsSane t) (calls : Calls)
-    (found : FunctionTree → List ℤ → PoolMap → ℕ → Type 0) (sound : AreSound t sane calls found)
+module _ (t : Tables) (sane : IsSane t) (typed : IsWellTyped t) (calls : Calls)
+    (found : FunctionTree → List ℤ → PoolMap → ℕ → Type 0)
+    (sound : AreSound t sane typed calls found)
     (fall : CallsFall calls) where
   value_sound : (e : ExprTree) (x : StaticType) (s : List Scope) (ls : List Local) (p : PoolMap)
       (k : ℕ) → HasType t s e x → Sees t s (scopes_of ls) → Fits t p
       → Finds t calls found e ls p k × Leaves t (value_of t calls e ls p k)
-  value_sound e x s ls p k h sees fits = exp_sound t sane calls found sound ls sees.small e x p k
+  value_sound e x s ls p k h sees fits =
+      exp_sound t sane typed calls found sound ls sees.small e x p k
       (type_moved t s (scopes_of ls) e x sees.same h) fits
 
   declaration_sound : (d : DeclarationTree) (s : List Scope) (ls : List Local) (p : PoolMap)
@@ -136,7 +139,7 @@ module _ (t : Tables) (sane : IsSane t) (calls : Calls)
       × EndsAs t (scopes_of ls) (declared_then t d (scopes_of ls))
       (declaration_end t calls d ls p k)
   declaration_sound d s ls p k h sees fits =
-      let r = initial_sound t sane calls found sound ls sees.small d.initial s h.1 p k h.3
+      let r = initial_sound t sane typed calls found sound ls sees.small d.initial s h.1 p k h.3
       sees.same fits in (
         r.0,
         value_ends t (option_map_or (λ i. value_of t calls i.value ls p k) d.initial
@@ -153,7 +156,7 @@ module _ (t : Tables) (sane : IsSane t) (calls : Calls)
   first_sound (Some (stmt.Declare d)) s ls p k h sees fits =
       declaration_sound d s ls p k h sees fits
   first_sound (Some (stmt.Simply x)) s ls p k h sees fits =
-      let r = simple_sound t sane calls found sound ls sees.small x s p k h sees.same fits in
+      let r = simple_sound t sane typed calls found sound ls sees.small x s p k h sees.same fits in
       (r.0, with_as t (scopes_of ls) (end_of_first t calls (Some (stmt.Simply x)) ls p k) r.1)
 
   third_sound : (o : Option SimpleTree) (s : List Scope) (ls : List Local) (p : PoolMap) (k : ℕ)
@@ -162,7 +165,7 @@ module _ (t : Tables) (sane : IsSane t) (calls : Calls)
       × EndsWith t (scopes_of ls) (end_of_third t calls o ls p k)
   third_sound None s ls p k h sees fits = (tt, (refl, fits))
   third_sound (Some x) s ls p k h sees fits =
-      simple_sound t sane calls found sound ls sees.small x s p k h sees.same fits
+      simple_sound t sane typed calls found sound ls sees.small x s p k h sees.same fits
 
   condition_sound : (o : Option ExprTree) (s : List Scope) (ls : List Local) (p : PoolMap) (k : ℕ)
       → IsCondition t s o → Sees t s (scopes_of ls) → Fits t p
@@ -231,7 +234,8 @@ module _ (t : Tables) (sane : IsSane t) (calls : Calls)
     stmt_sound (stmt.Declares d) result s ls p k h sees fits =
         declaration_sound d s ls p k h sees fits
     stmt_sound (stmt.Simple x) result s ls p k h sees fits =
-        let r = simple_sound t sane calls found sound ls sees.small x s p k h sees.same fits in
+        let r =
+        simple_sound t sane typed calls found sound ls sees.small x s p k h sees.same fits in
         (r.0, with_as t (scopes_of ls) (end_of_stmt t calls (stmt.Simple x) ls p k) r.1)
     stmt_sound (stmt.Block all) result s ls p k h sees fits =
         let r = statements_sound all result (inner_scopes s) ls p k h

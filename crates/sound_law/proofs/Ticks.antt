@@ -117,7 +117,8 @@ loaded_falls : (r : Result Word TrapKind) (p : PoolMap) (k : ℕ) → Falls k (l
 loaded_falls (Ok w) p k = same k
 loaded_falls (Err trap) p k = tt
 
-or_trap_falls : (o : Option ℤ) (trap : TrapKind) (p : PoolMap) (k : ℕ) → Falls k (or_trap o trap p k)
+or_trap_falls : (o : Option ℤ) (trap : TrapKind) (p : PoolMap) (k : ℕ)
+    → Falls k (or_trap o trap p k)
 or_trap_falls None trap p k = tt
 or_trap_falls (Some v) trap p k = same k
 

@@ -24,6 +24,7 @@ use Rattle.lower.proofs.Sane as sane
 use Rattle.code_meaning.specs.Code.{words_before}
 use Rattle.lower_law.proofs.Typed.{before_same, before_small, field_same, field_length}
 use Rattle.lower_law.proofs.Typed.{FieldThere, field_there}
+use Rattle.typed_law.specs.Programs.{IsStruct}
 use Rattle.sound_law.specs.Places.{IsIndexed, HasMember}
 
 -- a number of a word, if there is one, is less than n
@@ -111,13 +112,14 @@ few_words (Some l) (Some j) h =
     let w = array_words l.value h in omega (arith, w.0, w.1)
 
 pub member : (t : Tables) (at : Option ℕ) (i : ℕ) (s : StructTree) (name : List ℕ) (f : FieldTree)
-    (index : Option ℤ) → at ≡ Some i → slice_get t.structs i ≡ Some s → Placed s name f
-    → IsIndexed f.len index → HasMember t at name index
-member t at i s name f index known is h indexed = record {
+    (index : Option ℤ) → at ≡ Some i → slice_get t.structs i ≡ Some s → IsStruct t i s
+    → Placed s name f → IsIndexed f.len index → HasMember t at name index
+member t at i s name f index known is whole h indexed = record {
   number = i;
   known = known;
   owner = s;
   there = is;
+  whole = whole;
   place = h.place;
   found = h.found;
   field = f;

@@ -11,12 +11,12 @@
 --     a field, an element    the struct, the field and the word are there, the offset is exact
 --                            (`word_named`, `pointer_of`, `first_word`, `field_elements`,
 --                            `word_in_struct`, `struct_word_at`, `read_word`, `write_word`)
---     a loop                 no turn is left only where no tick is (`turns`; the row is `TurnsFind`)
+--     a loop                 the count of turns ends only where the ticks do (`turns`; the row is
+--                            `TurnsFind`)
 --     a transaction          it is there (`run_transaction`; the law's own premise)
 --
--- Two things have no row. A body that ends by `break` or `continue` gives 0 (`given`): the grammar
--- has these words in loops alone. And the counts of a struct's words bend only where a field is
--- declared twice or has a refused length, which typed_law's `IsStruct` rules out.
+-- One thing has no row: a body that ends by `break` or `continue` gives 0 (`given`). The grammar
+-- has these words in loops alone, but a tree that no tokens spell might have them elsewhere.
 use Rattle.std.specs.Prelude.{ℕ, zero, suc, ℤ, pos, ◌≡◌, List, None, Some, Bool, true, not}
 use Rattle.c_tree.specs.ExprTree.{ExprTree, Arguments}
 use Rattle.c_tree.specs.ExprTree as expr

@@ -15,6 +15,7 @@ use Rattle.c_meaning.specs.declared.word.Word.{Word}
 use Rattle.c_meaning.specs.declared.word.Word.TheVariants.{Root, Field}
 use Rattle.c_meaning.specs.Locals.{Local}
 use Rattle.c_meaning.specs.Access.{struct_pointed_by, word_named}
+use Rattle.typed_law.specs.Programs.{IsStruct}
 
 -- a local of this name is there
 abbrev pub IsLocal : List ℕ → List Local → Type 0
@@ -31,25 +32,29 @@ abbrev pub LeadsInto : PoolMap → Result Word TrapKind → Type 0
 LeadsInto p (Ok w) = IsWord p w
 LeadsInto p (Err trap) = Unit {0}
 
--- a struct that pointers lead to: it is there, and it is one of those that have a number
+-- a struct that pointers lead to: it is there, keeps the rules, so that each of its words counts
+-- once, and is one of those that have a number
 abbrev pub IsNumbered : Tables → Option ℕ → Type 0
 IsNumbered t at = (i : ℕ) × (s : StructTree)
     × (at ≡ Some i) × (slice_get t.structs i ≡ Some s) × (words_of_struct s ≤ 15)
+    × IsStruct t i s
 
--- an index stands on an array of a length that is allowed, and nothing else does without one
+-- an array, of a length that is allowed, has an index, and a field that is no array has none
 abbrev pub IsIndexed : Option LengthTree → Option ℤ → Type 0
 IsIndexed None None = Unit {0}
 IsIndexed None (Some j) = ⊥
 IsIndexed (Some l) None = ⊥
 IsIndexed (Some l) (Some j) = is_length l.value ≡ true
 
--- the struct at this place is there and has the field, whose words are all counted exactly
+-- the struct at this place is there, keeps the rules and has the field, and no count of words up to
+-- the field's last is cut
 pub record HasMember (t : Tables) (at : Option ℕ) (name : List ℕ) (index : Option ℤ) :
     Type 0 where
   pub number : ℕ
   pub known : at ≡ Some number
   pub owner : StructTree
   pub there : slice_get t.structs number ≡ Some owner
+  pub whole : IsStruct t number owner
   pub place : ℕ
   pub found : index_of name (field_names owner) ≡ Some place
   pub field : FieldTree

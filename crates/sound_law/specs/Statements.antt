@@ -45,7 +45,7 @@ AfterTurn (Gave v p k) next = Unit {0}
 AfterTurn (Traps trap) next = Unit {0}
 
 -- at most n turns of a loop: its condition, its body and its third part, with what each of them
--- asks for; no turn is left only where no tick is
+-- asks for; the count of turns ends only where the ticks do
 abbrev pub TurnsFind : ℕ
     → (test : List Local → PoolMap → ℕ → Out ℤ) → (List Local → PoolMap → ℕ → Type 0)
     → (body : List Local → PoolMap → ℕ → StmtEnd) → (List Local → PoolMap → ℕ → Type 0)
