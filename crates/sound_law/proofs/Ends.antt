@@ -11,14 +11,14 @@ use Rattle.c_meaning.specs.Locals.{Local, scopes_of}
 use Rattle.c_meaning.specs.Meaning.{Out, Got, Stops, StmtEnd, Next, Broke, Again, Gave, Traps}
 use Rattle.c_meaning.specs.Meaning.{with_value, then_next, after_turn, in_scope, turns, tick}
 use Rattle.c_meaning.specs.Meaning.{given}
-use Rattle.sound_law.specs.Expressions.{After}
+use Rattle.sound_law.specs.Expressions.{Past}
 use Rattle.sound_law.specs.Statements.{AfterNext, AfterTurn, TurnsFind}
 use Rattle.sound_law.proofs.Expressions.{Fits, Leaves}
 use Rattle.sound_law.proofs.Ticks.{Falls, EndsBelow}
 use Rattle.sound_law.proofs.Declared.{Over, over_same, over_more, own_end}
 
-after_both : {A : Type 0} (o : Out A) (P R Q : A → PoolMap → ℕ → Type 0) → After o P → After o R
-    → ((a : A) (p : PoolMap) (k : ℕ) → P a p k → R a p k → Q a p k) → After o Q
+after_both : {A : Type 0} (o : Out A) (P R Q : A → PoolMap → ℕ → Type 0) → Past o P → Past o R
+    → ((a : A) (p : PoolMap) (k : ℕ) → P a p k → R a p k → Q a p k) → Past o Q
 after_both (Got a p k) P R Q one two next = next a p k one two
 after_both (Stops trap) P R Q one two next = tt
 
@@ -63,7 +63,7 @@ module _ (t : Tables) where
 
   pub value_ends : {A : Type 0} (o : Out A) (go : A → PoolMap → ℕ → StmtEnd)
       (P : A → PoolMap → ℕ → Type 0) (Q : StmtEnd → Type 0)
-      → ((k : TrapKind) → Q (Traps k)) → After o P
+      → ((k : TrapKind) → Q (Traps k)) → Past o P
       → ((a : A) (p : PoolMap) (k : ℕ) → P a p k → Q (go a p k)) → Q (with_value o go)
   value_ends (Got a p k) go P Q trapped h next = next a p k h
   value_ends (Stops trap) go P Q trapped h next = trapped trap

@@ -28,23 +28,23 @@ use Rattle.typed_law.specs.Expressions.{HasType, IsArray, ArePassed}
 use Rattle.typed_law.proofs.TypedExpressions.{typed_is}
 use Rattle.typed_law.proofs.Known.{function_at}
 use Rattle.sound_law.specs.Places.{FindsWord}
-use Rattle.sound_law.specs.Expressions.{After, AfterTick, goes_on, Finds, FindsPointer, FindsAll}
+use Rattle.sound_law.specs.Expressions.{Past, AfterTick, goes_right, Finds, FindsPointer, FindsAll}
 use Rattle.sound_law.proofs.Fields.{single, many, root_finds, arrow_finds, new_leaves, new_numbered}
 use Rattle.sound_law.proofs.Scopes.{AreSmall, is_local, type_small}
 
 pub after_do : {A B : Type 0} (o : Out A) (go : A → PoolMap → ℕ → Out B)
-    (P : A → PoolMap → ℕ → Type 0) (Q : B → PoolMap → ℕ → Type 0) → After o P
-    → ((a : A) (p : PoolMap) (k : ℕ) → P a p k → After (go a p k) Q) → After (then_do o go) Q
+    (P : A → PoolMap → ℕ → Type 0) (Q : B → PoolMap → ℕ → Type 0) → Past o P
+    → ((a : A) (p : PoolMap) (k : ℕ) → P a p k → Past (go a p k) Q) → Past (then_do o go) Q
 after_do (Got a p k) go P Q h next = next a p k h
 after_do (Stops trap) go P Q h next = tt
 
-pub after_more : {A : Type 0} (o : Out A) (P Q : A → PoolMap → ℕ → Type 0) → After o P
-    → ((a : A) (p : PoolMap) (k : ℕ) → P a p k → Q a p k) → After o Q
+pub after_more : {A : Type 0} (o : Out A) (P Q : A → PoolMap → ℕ → Type 0) → Past o P
+    → ((a : A) (p : PoolMap) (k : ℕ) → P a p k → Q a p k) → Past o Q
 after_more (Got a p k) P Q h next = next a p k h
 after_more (Stops trap) P Q h next = tt
 
 pub tick_after : {A : Type 0} (k : ℕ) (go : ℕ → Out A) (Q : A → PoolMap → ℕ → Type 0)
-    → ((k : ℕ) → After (go k) Q) → After (tick k (Stops trap.Steps) go) Q
+    → ((k : ℕ) → Past (go k) Q) → Past (tick k (Stops trap.Steps) go) Q
 tick_after zero go Q next = tt
 tick_after (suc k) go Q next = next k
 
@@ -59,7 +59,7 @@ module _ (t : Tables) where
 
   -- the outcome's pool fits
   abbrev pub Leaves : {A : Type 0} → Out A → Type 0
-  Leaves o = After o (λ a p k. Fits p)
+  Leaves o = Past o (λ a p k. Fits p)
 
   pub loaded_leaves : (r : Result Word TrapKind) (p : PoolMap) (k : ℕ) → Fits p
       → Leaves (loaded r p k)
@@ -162,7 +162,7 @@ module _ (t : Tables) where
 
       -- a call of a function that is there
       abbrev Passed : FunctionTree → Arguments → PoolMap → ℕ → Type 0
-      Passed f all p k = FindsAll t calls found all ls p k × After (values_of t calls all ls p k)
+      Passed f all p k = FindsAll t calls found all ls p k × Past (values_of t calls all ls p k)
           (λ vs p k. (length vs ≡ length f.parameters) × Fits p)
 
       call_from : (name : Ident) (all : Arguments) (f : FunctionTree) (p : PoolMap) (k : ℕ)
@@ -219,7 +219,7 @@ module _ (t : Tables) where
               (
                 b.0,
                 after_more (pointer_of t calls a ls p k) (λ v p k. Fits p)
-                    (λ v p k. Finds t calls found i ls p k × After (value_of t calls i ls p k)
+                    (λ v p k. Finds t calls found i ls p k × Past (value_of t calls i ls p k)
                     (λ j p k. FindsWord t ls p a v (Some j))) b.1
                     (λ v p k fits. (
                       (exp_sound i Number p k h.1 fits).0,
@@ -245,7 +245,7 @@ module _ (t : Tables) where
               (
                 r.0,
                 after_more (value_of t calls a ls p k) (λ v p k. Fits p)
-                    (λ v p k. goes_on op v ≡ true → Finds t calls found b ls p k) r.1
+                    (λ v p k. goes_right op v ≡ true → Finds t calls found b ls p k) r.1
                     (λ v p k fits e. (exp_sound b h.2 p k h.4 fits).0),
               ),
               binary_leaves op (value_of t calls a ls p k) (λ p k. value_of t calls b ls p k) r.1
@@ -271,7 +271,7 @@ module _ (t : Tables) where
 
         all_sound : (ps : List ParameterTree) (all : Arguments) (p : PoolMap) (k : ℕ)
             → ArePassed t (scopes_of ls) ps all → Fits p
-            → FindsAll t calls found all ls p k × After (values_of t calls all ls p k)
+            → FindsAll t calls found all ls p k × Past (values_of t calls all ls p k)
             (λ vs p k. (length vs ≡ length ps) × Fits p)
         all_sound [] expr.None p k h fits = (tt, (refl, fits))
         all_sound [] (expr.More first e rest) p k h fits = absurd h

@@ -38,7 +38,7 @@ use Rattle.typed_law.specs.Types.{StaticType, Number, PointerTo, NullPointer, va
 use Rattle.typed_law.specs.Types.{IsPointer, IsWritten, HasValueField, HasArray}
 use Rattle.typed_law.specs.Programs.{IsWellTyped}
 use Rattle.typed_law.proofs.Fitting.{pointer_kept}
-use Rattle.sound_law.specs.Places.{LeadsInto, IsNumbered, IsIndexed, HasMember, FindsWord}
+use Rattle.sound_law.specs.Places.{LeadsInto, IsNumbered, IndexFits, HasMember, FindsWord}
 use Rattle.sound_law.proofs.Pools.{object_fits, new_fits}
 use Rattle.sound_law.proofs.Words.{Below, placed, member, word_below}
 
@@ -68,7 +68,7 @@ pub record Member (t : Tables) (i : ℕ) (name : List ℕ) (index : Option ℤ) 
   pub there : slice_get t.structs i ≡ Some owner
   pub field : FieldTree
   pub named : field_named owner name ≡ Some field
-  pub indexed : IsIndexed field.len index
+  pub indexed : IndexFits field.len index
 
 pub single : (t : Tables) (i : ℕ) (name : List ℕ) (x : StaticType) → HasValueField t i name x
     → Member t i name None
@@ -77,7 +77,7 @@ single t i name x h = record {
   there = h.there;
   field = h.field;
   named = h.named;
-  indexed = subst (λ (o : Option LengthTree). IsIndexed o None) (sym h.single) tt;
+  indexed = subst (λ (o : Option LengthTree). IndexFits o None) (sym h.single) tt;
 }
 
 pub many : (t : Tables) (i : ℕ) (name : List ℕ) (x : StaticType) (j : ℤ) → HasArray t i name x
@@ -87,7 +87,7 @@ many t i name x j h = record {
   there = h.there;
   field = h.field;
   named = h.named;
-  indexed = subst (λ (o : Option LengthTree). IsIndexed o (Some j)) (sym h.many) h.within;
+  indexed = subst (λ (o : Option LengthTree). IndexFits o (Some j)) (sym h.many) h.within;
 }
 
 into_root : (p : PoolMap) (n : ℕ) (r : Result ℕ TrapKind) → length p.root ≡ n → Below n r

@@ -33,7 +33,7 @@ use Rattle.typed_law.specs.Expressions.{HasType}
 use Rattle.typed_law.specs.Statements.{IsAssignable, IsSimple, IsInitial}
 use Rattle.typed_law.proofs.TypedExpressions.{typed_is}
 use Rattle.sound_law.specs.Places.{IsLocal, FindsWord}
-use Rattle.sound_law.specs.Expressions.{After, Finds, FindsOperands}
+use Rattle.sound_law.specs.Expressions.{Past, Finds, FindsOperands}
 use Rattle.sound_law.specs.Statements.{SetFinds, UpdateFinds, SimpleFinds, InitialFinds}
 use Rattle.sound_law.proofs.Pools.{store_fits, free_fits}
 use Rattle.sound_law.proofs.Fields.{small_numbered, points_to}
@@ -66,7 +66,7 @@ module _ (t : Tables) (sane : IsSane t) (typed : IsWellTyped t) (calls : Calls)
   operands_sound : (target : ExprTree) (x : StaticType) (p : PoolMap) (k : ℕ) → IsAssignable target
       → target_local target ≡ None → HasType t (scopes_of ls) target x → Fits t p
       → FindsOperands t calls found target ls p k
-      × After (operands_of t calls target ls p k) (λ o p k. Fits t p × IsTarget target o)
+      × Past (operands_of t calls target ls p k) (λ o p k. Fits t p × IsTarget target o)
   operands_sound (expr.Root name) x p k good is h fits = (
     tt,
     (
@@ -138,7 +138,7 @@ module _ (t : Tables) (sane : IsSane t) (typed : IsWellTyped t) (calls : Calls)
   stored_ends (Err trap) v p k fits = tt
 
   value_then : {A : Type 0} (o : Out A) (go : A → PoolMap → ℕ → StmtEnd)
-      (P : A → PoolMap → ℕ → Type 0) → After o P
+      (P : A → PoolMap → ℕ → Type 0) → Past o P
       → ((a : A) (p : PoolMap) (k : ℕ) → P a p k → Ends (go a p k)) → Ends (with_value o go)
   value_then o go P h next = value_ends t o go P (EndsWith t (scopes_of ls)) (λ trap. tt) h next
 

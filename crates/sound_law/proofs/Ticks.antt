@@ -30,12 +30,12 @@ use Rattle.c_meaning.specs.Meaning.{update, target_local, freed, end_of_simple, 
 use Rattle.c_meaning.specs.Meaning.{end_of_first, end_of_third, condition_of, return_end, in_scope}
 use Rattle.c_meaning.specs.Meaning.{after_turn, turns, end_of_stmt, ends_of, given, function_value}
 use Rattle.c_meaning.specs.Meaning.{calls_of}
-use Rattle.sound_law.specs.Expressions.{After}
+use Rattle.sound_law.specs.Expressions.{Past}
 use Rattle.sound_law.proofs.Expressions.{after_do}
 
 -- at most k ticks are left
 abbrev pub Falls : {A : Type 0} → ℕ → Out A → Type 0
-Falls k o = After o (λ a p j. j ≤ k)
+Falls k o = Past o (λ a p j. j ≤ k)
 
 abbrev pub EndsBelow : ℕ → StmtEnd → Type 0
 EndsBelow k (Next ls p j) = j ≤ k

@@ -25,7 +25,7 @@ use Rattle.code_meaning.specs.Code.{words_before}
 use Rattle.lower_law.proofs.Typed.{before_same, before_small, field_same, field_length}
 use Rattle.lower_law.proofs.Typed.{FieldThere, field_there}
 use Rattle.typed_law.specs.Programs.{IsStruct}
-use Rattle.sound_law.specs.Places.{IsIndexed, HasMember}
+use Rattle.sound_law.specs.Places.{IndexFits, HasMember}
 
 -- a number of a word, if there is one, is less than n
 abbrev pub Below : ℕ → Result ℕ TrapKind → Type 0
@@ -103,7 +103,7 @@ array_words (negsuc n) e = absurd (false_true e)
     false_true e = cc
 
 -- the words of a field are few
-few_words : (o : Option LengthTree) (index : Option ℤ) → IsIndexed o index
+few_words : (o : Option LengthTree) (index : Option ℤ) → IndexFits o index
     → (option_map_or (λ (l : LengthTree). length_words l.value) o 1) ≤ 512
 few_words None None h = omega arith
 few_words None (Some j) h = absurd h
@@ -113,7 +113,7 @@ few_words (Some l) (Some j) h =
 
 pub member : (t : Tables) (at : Option ℕ) (i : ℕ) (s : StructTree) (name : List ℕ) (f : FieldTree)
     (index : Option ℤ) → at ≡ Some i → slice_get t.structs i ≡ Some s → IsStruct t i s
-    → Placed s name f → IsIndexed f.len index → HasMember t at name index
+    → Placed s name f → IndexFits f.len index → HasMember t at name index
 member t at i s name f index known is whole h indexed = record {
   number = i;
   known = known;
@@ -144,7 +144,7 @@ element_below n a w (pos j) le = by_test (nat_lt j n) refl
     by_test false e = tt
 
 pub word_below : (s : StructTree) (name : List ℕ) (f : FieldTree) (index : Option ℤ)
-    → Placed s name f → field_named s name ≡ Some f → IsIndexed f.len index
+    → Placed s name f → field_named s name ≡ Some f → IndexFits f.len index
     → Below (words_of (map field_shape s.fields)) (word_in_struct s name index)
 word_below s name f index h named indexed =
     by_index f.len refl index indexed
@@ -155,7 +155,7 @@ word_below s name f index h named indexed =
     first : first_word s name ≡ min before (2 ^ 64 - 1)
     first = ap (λ (o : Option ℕ). option_map_or (field_start s) o 0) h.found
 
-    by_index : (o : Option LengthTree) → f.len ≡ o → (j : Option ℤ) → IsIndexed o j
+    by_index : (o : Option LengthTree) → f.len ≡ o → (j : Option ℤ) → IndexFits o j
         → Below (words_of (map field_shape s.fields)) (word_in_struct s name j)
     by_index None long None ok =
         let one : field_words f ≡ 1 =

@@ -31,9 +31,9 @@ use Rattle.c_meaning.specs.Meaning.{Out, Got, Stops, Calls, value_of, values_of,
 use Rattle.sound_law.specs.Places.{IsLocal, IsNumbered, FindsWord}
 
 -- what holds of a value, its pool and its ticks, unless there was a trap
-abbrev pub After : {A : Type 0} → Out A → (A → PoolMap → ℕ → Type 0) → Type 0
-After (Got a p k) next = next a p k
-After (Stops trap) next = Unit {0}
+abbrev pub Past : {A : Type 0} → Out A → (A → PoolMap → ℕ → Type 0) → Type 0
+Past (Got a p k) next = next a p k
+Past (Stops trap) next = Unit {0}
 
 -- what holds after a tick, if there is one
 abbrev pub AfterTick : ℕ → (ℕ → Type 0) → Type 0
@@ -41,25 +41,25 @@ AfterTick zero next = Unit {0}
 AfterTick (suc k) next = next k
 
 -- the right side is evaluated, given the value of the left one
-abbrev pub goes_on : BinaryOp → ℤ → Bool
-goes_on binary.Both x = not (is_zero x)
-goes_on binary.Either x = is_zero x
-goes_on binary.Mul x = true
-goes_on binary.Div x = true
-goes_on binary.Rem x = true
-goes_on binary.Add x = true
-goes_on binary.Sub x = true
-goes_on binary.ShiftLeft x = true
-goes_on binary.ShiftRight x = true
-goes_on binary.Less x = true
-goes_on binary.LessEqual x = true
-goes_on binary.Greater x = true
-goes_on binary.GreaterEqual x = true
-goes_on binary.Equal x = true
-goes_on binary.NotEqual x = true
-goes_on binary.And x = true
-goes_on binary.Xor x = true
-goes_on binary.Or x = true
+abbrev pub goes_right : BinaryOp → ℤ → Bool
+goes_right binary.Both x = not (is_zero x)
+goes_right binary.Either x = is_zero x
+goes_right binary.Mul x = true
+goes_right binary.Div x = true
+goes_right binary.Rem x = true
+goes_right binary.Add x = true
+goes_right binary.Sub x = true
+goes_right binary.ShiftLeft x = true
+goes_right binary.ShiftRight x = true
+goes_right binary.Less x = true
+goes_right binary.LessEqual x = true
+goes_right binary.Greater x = true
+goes_right binary.GreaterEqual x = true
+goes_right binary.Equal x = true
+goes_right binary.NotEqual x = true
+goes_right binary.And x = true
+goes_right binary.Xor x = true
+goes_right binary.Or x = true
 
 -- `found` says of a function that is called what this says of an expression
 module _ (t : Tables) (calls : Calls) (found : FunctionTree → List ℤ → PoolMap → ℕ → Type 0) where
@@ -70,18 +70,18 @@ module _ (t : Tables) (calls : Calls) (found : FunctionTree → List ℤ → Poo
     Finds (expr.Variable name) ls p k = IsLocal name.text ls
     Finds (expr.Call name all) ls p k = (f : FunctionTree)
         × (function_named t name.text ≡ Some f) × FindsAll all ls p k
-        × After (values_of t calls all ls p k) (λ vs p k. AfterTick k (λ k. found f vs p k))
+        × Past (values_of t calls all ls p k) (λ vs p k. AfterTick k (λ k. found f vs p k))
     Finds (expr.New place name) ls p k = IsNumbered t (struct_named t name.text)
     Finds (expr.Root name) ls p k = FindsWord t ls p (expr.Root name) (pos 0) None
     Finds (expr.Arrow base place name) ls p k = Finds base ls p k
-        × After (value_of t calls base ls p k)
+        × Past (value_of t calls base ls p k)
         (λ b p k. FindsWord t ls p (expr.Arrow base place name) b None)
     Finds (expr.Index a place i) ls p k = FindsPointer a ls p k
-        × After (pointer_of t calls a ls p k) (λ b p k. Finds i ls p k
-        × After (value_of t calls i ls p k) (λ j p k. FindsWord t ls p a b (Some j)))
+        × Past (pointer_of t calls a ls p k) (λ b p k. Finds i ls p k
+        × Past (value_of t calls i ls p k) (λ j p k. FindsWord t ls p a b (Some j)))
     Finds (expr.Unary op place a) ls p k = Finds a ls p k
     Finds (expr.Binary op place a b) ls p k = Finds a ls p k
-        × After (value_of t calls a ls p k) (λ x p k. goes_on op x ≡ true → Finds b ls p k)
+        × Past (value_of t calls a ls p k) (λ x p k. goes_right op x ≡ true → Finds b ls p k)
 
     -- what stands before `[` is a field
     pub FindsPointer : ExprTree → List Local → PoolMap → ℕ → Type 0
@@ -100,12 +100,12 @@ module _ (t : Tables) (calls : Calls) (found : FunctionTree → List ℤ → Poo
     pub FindsAll : Arguments → List Local → PoolMap → ℕ → Type 0
     FindsAll expr.None ls p k = Unit {0}
     FindsAll (expr.More first e rest) ls p k = Finds e ls p k
-        × After (value_of t calls e ls p k) (λ v p k. FindsAll rest ls p k)
+        × Past (value_of t calls e ls p k) (λ v p k. FindsAll rest ls p k)
 
   -- a target that is no local
   abbrev pub FindsOperands : ExprTree → List Local → PoolMap → ℕ → Type 0
   FindsOperands (expr.Index a place i) ls p k = FindsPointer a ls p k
-      × After (pointer_of t calls a ls p k) (λ b p k. Finds i ls p k)
+      × Past (pointer_of t calls a ls p k) (λ b p k. Finds i ls p k)
   FindsOperands (expr.Arrow base place name) ls p k = Finds base ls p k
   FindsOperands (expr.Root name) ls p k = Unit {0}
   FindsOperands (expr.Number n) ls p k = ⊥

@@ -23,13 +23,13 @@ IsLocal name [] = ⊥
 IsLocal name (l ∷ ls) = (bytes_eq name l.name ≡ true) ⊎ IsLocal name ls
 
 -- the pool has the word
-abbrev pub IsWord : PoolMap → Word → Type 0
-IsWord p (Root i) = i < length p.root
-IsWord p (Field s i) = HasField p s i
+abbrev pub InPool : PoolMap → Word → Type 0
+InPool p (Root i) = i < length p.root
+InPool p (Field s i) = HasField p s i
 
 -- the word that the checks lead to, if they don't trap
 abbrev pub LeadsInto : PoolMap → Result Word TrapKind → Type 0
-LeadsInto p (Ok w) = IsWord p w
+LeadsInto p (Ok w) = InPool p w
 LeadsInto p (Err trap) = Unit {0}
 
 -- a struct that pointers lead to: it is there, keeps the rules, so that each of its words counts
@@ -40,11 +40,11 @@ IsNumbered t at = (i : ℕ) × (s : StructTree)
     × IsStruct t i s
 
 -- an array, of a length that is allowed, has an index, and a field that is no array has none
-abbrev pub IsIndexed : Option LengthTree → Option ℤ → Type 0
-IsIndexed None None = Unit {0}
-IsIndexed None (Some j) = ⊥
-IsIndexed (Some l) None = ⊥
-IsIndexed (Some l) (Some j) = is_length l.value ≡ true
+abbrev pub IndexFits : Option LengthTree → Option ℤ → Type 0
+IndexFits None None = Unit {0}
+IndexFits None (Some j) = ⊥
+IndexFits (Some l) None = ⊥
+IndexFits (Some l) (Some j) = is_length l.value ≡ true
 
 -- the struct at this place is there, keeps the rules and has the field, and no count of words up to
 -- the field's last is cut
@@ -59,7 +59,7 @@ pub record HasMember (t : Tables) (at : Option ℕ) (name : List ℕ) (index : O
   pub found : index_of name (field_names owner) ≡ Some place
   pub field : FieldTree
   pub stands : slice_get owner.fields place ≡ Some field
-  pub indexed : IsIndexed field.len index
+  pub indexed : IndexFits field.len index
   pub counted : field_words_before place 0 owner.fields + field_words field ≤ 2 ^ 64 - 1
 
 -- the word that a field names, or one of its elements, given the pointer that leads to it: a field

@@ -26,7 +26,7 @@ use Rattle.c_meaning.specs.Meaning.{value_of, operands_of, loaded, or_trap, targ
 use Rattle.c_meaning.specs.Meaning.{end_of_first, end_of_third, condition_of, in_scope}
 use Rattle.c_meaning.specs.Meaning.{end_of_stmt, calls_of}
 use Rattle.sound_law.specs.Places.{IsLocal, IsNumbered, FindsWord}
-use Rattle.sound_law.specs.Expressions.{After, AfterTick, Finds, FindsOperands}
+use Rattle.sound_law.specs.Expressions.{Past, AfterTick, Finds, FindsOperands}
 
 -- what holds where a statement ends normally
 abbrev pub AfterNext : StmtEnd → (List Local → PoolMap → ℕ → Type 0) → Type 0
@@ -53,7 +53,7 @@ abbrev pub TurnsFind : ℕ
     → List Local → PoolMap → ℕ → Type 0
 TurnsFind zero test Test body Body third Third ls p k = k ≡ 0
 TurnsFind (suc n) test Test body Body third Third ls p k = AfterTick k (λ k. Test ls p k
-    × After (test ls p k) (λ v p k. is_zero v ≡ false → Body ls p k
+    × Past (test ls p k) (λ v p k. is_zero v ≡ false → Body ls p k
     × AfterTurn (body ls p k) (λ ls p k. Third ls p k
     × AfterNext (third ls p k) (λ ls p k.
     TurnsFind n test Test body Body third Third ls p k))))
@@ -64,8 +64,8 @@ module _ (t : Tables) (calls : Calls) (found : FunctionTree → List ℤ → Poo
   abbrev pub SetFinds : Option (List ℕ) → ExprTree → ExprTree → List Local → PoolMap → ℕ → Type 0
   SetFinds (Some name) target e ls p k = IsLocal name ls × Finds t calls found e ls p k
   SetFinds None target e ls p k = FindsOperands t calls found target ls p k
-      × After (operands_of t calls target ls p k) (λ o p k. Finds t calls found e ls p k
-      × After (value_of t calls e ls p k)
+      × Past (operands_of t calls target ls p k) (λ o p k. Finds t calls found e ls p k
+      × Past (value_of t calls e ls p k)
       (λ v p k. FindsWord t ls p (target_field target) o.0 o.1))
 
   -- the word is there for the load, and once more for the store after the right side
@@ -74,11 +74,11 @@ module _ (t : Tables) (calls : Calls) (found : FunctionTree → List ℤ → Poo
       → List Local → PoolMap → ℕ → Type 0
   UpdateFinds (Some name) target op right Right ls p k = IsLocal name ls × Right p k
   UpdateFinds None target op right Right ls p k = FindsOperands t calls found target ls p k
-      × After (operands_of t calls target ls p k)
+      × Past (operands_of t calls target ls p k)
       (λ o p k. FindsWord t ls p (target_field target) o.0 o.1
-      × After (loaded (word_named t ls p (target_field target) o.0 o.1) p k)
-      (λ x p k. Right p k × After (right p k)
-      (λ y p k. After (or_trap (binary_of op x y) trap.Divide p k)
+      × Past (loaded (word_named t ls p (target_field target) o.0 o.1) p k)
+      (λ x p k. Right p k × Past (right p k)
+      (λ y p k. Past (or_trap (binary_of op x y) trap.Divide p k)
       (λ v p k. FindsWord t ls p (target_field target) o.0 o.1))))
 
   abbrev pub AssignFinds : AssignOp → ExprTree → ExprTree → List Local → PoolMap → ℕ → Type 0
@@ -126,9 +126,9 @@ module _ (t : Tables) (calls : Calls) (found : FunctionTree → List ℤ → Poo
     StmtFinds (stmt.Simple x) ls p k = SimpleFinds x ls p k
     StmtFinds (stmt.Block all) ls p k = StatementsFind all ls p k
     StmtFinds (stmt.If c a) ls p k = Finds t calls found c ls p k
-        × After (value_of t calls c ls p k) (λ v p k. is_zero v ≡ false → StmtFinds a ls p k)
+        × Past (value_of t calls c ls p k) (λ v p k. is_zero v ≡ false → StmtFinds a ls p k)
     StmtFinds (stmt.IfElse c a b) ls p k = Finds t calls found c ls p k
-        × After (value_of t calls c ls p k) (λ v p k. (is_zero v ≡ false → StmtFinds a ls p k)
+        × Past (value_of t calls c ls p k) (λ v p k. (is_zero v ≡ false → StmtFinds a ls p k)
         × (is_zero v ≡ true → StmtFinds b ls p k))
     StmtFinds (stmt.While c a) ls p k = TurnsFind k
         (λ ls p k. value_of t calls c ls p k) (λ ls p k. Finds t calls found c ls p k)
