@@ -4,8 +4,9 @@
 use crate::status::{Status, World};
 use cnvm_notes::{RunTexts, answers_note, script_note, workers_answers_note, workers_note};
 use cnvm_words::{Plan, plan_of};
+use command_notes::{ImageRefusal, of_image, of_words, unread, unsaved, unwritten};
 use nvm_base::{KeptSink, KeptSource, SavedFile, Sink, StdSink, StdSource, write_all};
-use plain_notes::{ImageRefusal, Told, message_of, of_image, of_words, unread, unsaved, unwritten};
+use plain_notes::{Told, message_of};
 use pool_layout::digest;
 use program_notes::program_note;
 use std::alloc::{AllocError, Global};

@@ -1,7 +1,8 @@
 //! The message of answers that are traps or refusals.
 
 use cnvm_script::{Command, next_line, read_line};
-use plain_notes::{PoolLeft, Told, message_of, of_trap, of_worker_trap};
+use command_notes::{PoolLeft, of_trap, of_worker_trap};
+use plain_notes::{Told, message_of};
 use program_notes::trap_place;
 use std::alloc::{AllocError, Global};
 

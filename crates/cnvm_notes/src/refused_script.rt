@@ -1,7 +1,8 @@
 //! The message of a script that is refused.
 
 use cnvm_script::{LineFault, next_line, read_line};
-use plain_notes::{Told, message_at, message_of, of_line, of_workers_line};
+use command_notes::{of_line, of_workers_line};
+use plain_notes::{Told, message_at, message_of};
 use std::alloc::{AllocError, Global};
 use workers_script::read_workers_line;
 

@@ -1,7 +1,7 @@
 //! The messages of words, files and images.
 
+use command_notes::{ImageRefusal, of_image, of_words, unread, unsaved};
 use nvm_base::Reason;
-use plain_notes::{ImageRefusal, of_image, of_words, unread, unsaved};
 use std::alloc::{AllocError, Global};
 use std::test::Fail;
 

@@ -105,7 +105,7 @@ fn push_line(
 }
 
 /// The bytes as they are shown: what is no text and what moves the cursor is replaced.
-pub(crate) fn push_shown(alloc: Global, to: &mut String, bytes: &[u8]) -> Result<(), AllocError> {
+pub fn push_shown(alloc: Global, to: &mut String, bytes: &[u8]) -> Result<(), AllocError> {
     let text = String::from_utf8_lossy(alloc, bytes)?;
     for one in text.as_str().chars() {
         if one == '\t' || !one.is_control() {

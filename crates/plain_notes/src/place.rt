@@ -4,7 +4,7 @@ ghost use Rattle.std.specs.Prelude.{◌≡◌};
 ghost use Rattle.plain_notes.specs.Place.{past_bytes, place_of, text_start};
 
 /// A place in a text: its line and its column, both counted from 1. A column counts bytes.
-#[derive(Clone, Copy, Debug, PartialEq, Eq)]
+#[derive(Clone, Copy)]
 pub struct Place {
     pub line: u64,
     pub column: u64,

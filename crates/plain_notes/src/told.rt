@@ -18,6 +18,13 @@ impl Told {
         })
     }
 
+    /// What was found, with these notes; an empty text is none.
+    pub fn of(alloc: Global, what: &str, texts: &[&str]) -> Result<Told, AllocError> {
+        let what = String::from_str(alloc, what)?;
+        let notes = notes_of(alloc, texts)?;
+        Ok(Told { what, notes })
+    }
+
     /// The same with one more note.
     pub fn with(self, alloc: Global, note: &str) -> Result<Told, AllocError> {
         let Told { what, mut notes } = self;
@@ -32,4 +39,14 @@ impl Told {
             None => Ok(self),
         }
     }
+}
+
+fn notes_of(alloc: Global, texts: &[&str]) -> Result<Vec<String>, AllocError> {
+    let mut notes = Vec::new(alloc);
+    for text in texts {
+        if !text.is_empty() {
+            notes.push(String::from_str(alloc, text)?)?;
+        }
+    }
+    Ok(notes)
 }

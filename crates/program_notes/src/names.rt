@@ -3,8 +3,9 @@
 use c_tree::Ast;
 use c_tree::item::Item;
 use c_types::{Program, ValueType};
-use plain_notes::{Spelled, nearest};
+use plain_notes::nearest;
 use std::alloc::{AllocError, Global};
+use token_notes::{Spelled, is_one};
 
 /// The names of the program's functions.
 pub(crate) fn functions<'a>(alloc: Global, ast: &'a Ast) -> Result<Vec<&'a [u8]>, AllocError> {
@@ -65,16 +66,6 @@ pub(crate) fn root_struct(ast: &Ast) -> Option<&str> {
 pub(crate) fn has_name(names: &[&[u8]], name: &[u8]) -> bool {
     for other in names {
         if *other == name {
-            return true;
-        }
-    }
-    false
-}
-
-/// Whether a token is one of these words.
-pub(crate) fn is_one(token: &[u8], words: &[&str]) -> bool {
-    for word in words {
-        if token == word.as_bytes() {
             return true;
         }
     }

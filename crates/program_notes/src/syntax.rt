@@ -1,12 +1,12 @@
 //! Messages of tokens that continue no program.
 
-use crate::names::is_one;
 use crate::program::start_of;
 use c_lexer::{TokenList, tokens};
 use c_parser::{ParseFault, parse};
 use nvm_base::Bytes;
-use plain_notes::{Spelled, TOKENS, Told, expected, left_out};
+use plain_notes::Told;
 use std::alloc::{AllocError, Global};
+use token_notes::{Spelled, TOKENS, expected, is_one, left_out};
 
 /// The message of a refused token: what it is, what to write instead, and what could stand there.
 pub(crate) fn syntax(

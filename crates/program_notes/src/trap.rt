@@ -2,8 +2,8 @@
 
 use crate::program::spelled;
 use c_lexer::{TokenList, tokens};
-use plain_notes::{Lined, trap_lines};
 use std::alloc::{AllocError, Global};
+use token_notes::{Lined, trap_lines};
 
 /// The most lines that are named.
 const MOST: usize = 6;

@@ -2,12 +2,13 @@
 
 use crate::clash::{Clash, clash_at};
 use crate::names::{
-    did_you_mean, fields, functions, has_name, is_one, locals, root_struct, structs, type_text,
+    did_you_mean, fields, functions, has_name, locals, root_struct, structs, type_text,
 };
 use c_tree::Ast;
 use c_types::{Kind, LimitKind, Program, TypeFault, ValueType};
-use plain_notes::{Spelled, Told};
+use plain_notes::Told;
 use std::alloc::{AllocError, Global};
+use token_notes::{Spelled, is_one};
 
 /// The message of a broken rule.
 pub(crate) fn typing(

@@ -9,7 +9,7 @@ pub struct Spelled<'a> {
 }
 
 /// Where a token stands.
-#[derive(Clone, Copy, Debug, PartialEq, Eq)]
+#[derive(Clone, Copy, PartialEq, Eq)]
 pub(crate) enum Within {
     /// Between items, or in the first part of one.
     Top,
@@ -142,12 +142,12 @@ impl<'a> Spelled<'a> {
 }
 
 /// Whether a token is this word.
-pub(crate) fn is(word: &[u8], text: &str) -> bool {
+pub fn is(word: &[u8], text: &str) -> bool {
     word == text.as_bytes()
 }
 
 /// Whether a token is one of these words.
-pub(crate) fn is_one(word: &[u8], texts: &[&str]) -> bool {
+pub fn is_one(word: &[u8], texts: &[&str]) -> bool {
     for text in texts {
         if is(word, text) {
             return true;

@@ -145,20 +145,30 @@ pub fn left_out(
     near: &Spelled<'_>,
     value: bool,
 ) -> Result<Option<String>, AllocError> {
-    if let Some(note) = by_word(near.here()) {
+    if let Some(note) = plain_note(near, value) {
         return some(alloc, note);
     }
-    if let Some(note) = by_mark(near, value) {
-        return some(alloc, note);
+    if is_no_type(near) {
+        return Ok(Some(no_type(alloc, near.before(1))?));
     }
-    if let Some(note) = by_place(near) {
-        return some(alloc, note);
+    if is_name(near.here()) && near.within() == Within::Top {
+        return some(alloc, ITEM_NOTE);
     }
-    by_name(alloc, near)
+    Ok(None)
 }
 
 fn some(alloc: Global, note: &str) -> Result<Option<String>, AllocError> {
     Ok(Some(String::from_str(alloc, note)?))
+}
+
+const ITEM_NOTE: &str = "an item begins with `struct`, `persistent`, `tx`, `void` or `int64_t`";
+
+/// The first note that says what to write instead.
+fn plain_note(near: &Spelled<'_>, value: bool) -> Option<&'static str> {
+    by_word(near.here())
+        .or(by_mark(near, value))
+        .or(by_place(near))
+        .or(by_name(near))
 }
 
 /// A word that C reserves.
@@ -463,28 +473,29 @@ fn in_body(near: &Spelled<'_>) -> Option<&'static str> {
 }
 
 /// A name where none can stand.
-fn by_name(alloc: Global, near: &Spelled<'_>) -> Result<Option<String>, AllocError> {
+fn by_name(near: &Spelled<'_>) -> Option<&'static str> {
     let here = near.here();
     let last = near.before(1);
     if is_one(here, &NUMBER_TYPES) || is_one(last, &NUMBER_TYPES) {
-        return some(alloc, "every number is an `int64_t`: write `int64_t`");
+        return Some("every number is an `int64_t`: write `int64_t`");
     }
     if is_one(here, &WORDS) && is_one(last, &BEFORE_NAMES) {
-        return some(alloc, "this is a word of the language: choose another name");
+        return Some("this is a word of the language: choose another name");
     }
-    if is_name(here) && is_name(last) && !is_one(last, &WORDS) && near.first() == last {
-        let named = String::from_utf8_lossy(alloc, last)?;
-        let name = named.as_str();
-        let note = format!(in alloc;
-            "`{name}` is no type: there are `int64_t` and `struct {name} *`"
-        )?;
-        return Ok(Some(note));
+    None
+}
+
+/// Whether a name stands after another that begins a declaration.
+fn is_no_type(near: &Spelled<'_>) -> bool {
+    let last = near.before(1);
+    if !is_name(near.here()) || !is_name(last) || is_one(last, &WORDS) {
+        return false;
     }
-    if is_name(here) && near.within() == Within::Top {
-        return some(
-            alloc,
-            "an item begins with `struct`, `persistent`, `tx`, `void` or `int64_t`",
-        );
-    }
-    Ok(None)
+    near.first() == last
+}
+
+fn no_type(alloc: Global, name: &[u8]) -> Result<String, AllocError> {
+    let name = String::from_utf8_lossy(alloc, name)?;
+    let name = name.as_str();
+    format!(in alloc; "`{name}` is no type: there are `int64_t` and `struct {name} *`")
 }

@@ -1,9 +1,8 @@
 //! Messages of the lines of a script.
 
-use crate::near::nearest;
-use crate::spelled::{is, is_one};
-use crate::told::Told;
+use plain_notes::{Told, nearest, push_shown};
 use std::alloc::{AllocError, Global};
+use token_notes::{is, is_one};
 
 /// The commands of a script.
 const COMMANDS: [&str; 6] = ["call", "stop", "fault", "power", "show", "last"];
@@ -121,7 +120,7 @@ pub(crate) fn of_alone(alloc: Global, name: &[u8], others: &Others<'_>) -> Resul
 /// The text of bytes.
 pub(crate) fn shown(alloc: Global, bytes: &[u8]) -> Result<String, AllocError> {
     let mut text = String::new(alloc);
-    crate::layout::push_shown(alloc, &mut text, bytes)?;
+    push_shown(alloc, &mut text, bytes)?;
     Ok(text)
 }
 

@@ -4,9 +4,9 @@ use crate::script::{
     At, Others, Piece, line_part, of_alone, of_call, of_event, of_power, of_unknown, remarked,
     shown, words_of,
 };
-use crate::spelled::is;
-use crate::told::Told;
+use plain_notes::Told;
 use std::alloc::{AllocError, Global};
+use token_notes::is;
 
 /// The commands of a script of workers.
 const COMMANDS: [&str; 8] = [

@@ -1,6 +1,6 @@
 //! Messages of the words of the command line.
 
-use crate::near::nearest;
+use plain_notes::nearest;
 use std::alloc::{AllocError, Global};
 
 /// A number on the command line: its word, and its limits.

@@ -1,6 +1,6 @@
 //! Messages of traps and refused commands.
 
-use crate::told::Told;
+use plain_notes::Told;
 use std::alloc::{AllocError, Global};
 
 /// Each trap by the name that answers print, in words, and with its remedy.

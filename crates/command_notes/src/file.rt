@@ -1,7 +1,7 @@
 //! Messages of files.
 
-use crate::told::Told;
 use nvm_base::Reason;
+use plain_notes::Told;
 use std::alloc::{AllocError, Global};
 
 /// A file that can't be read.

@@ -1,6 +1,6 @@
 //! Messages of images.
 
-use crate::told::Told;
+use plain_notes::Told;
 use std::alloc::{AllocError, Global};
 
 /// Why an image was refused: what the file says, and what the program wants.

@@ -1,0 +1,226 @@
+//! What could stand at a refused token, in words.
+
+use std::alloc::{AllocError, Global};
+
+/// Every kind of token, by one of its spellings.
+pub const TOKENS: [&str; 54] = [
+    "name",
+    "1",
+    "int64_t",
+    "void",
+    "struct",
+    "persistent",
+    "root",
+    "tx",
+    "if",
+    "else",
+    "while",
+    "for",
+    "break",
+    "continue",
+    "return",
+    "NULL",
+    "pm_new",
+    "pm_free",
+    "abort",
+    "->",
+    "++",
+    "--",
+    "+=",
+    "-=",
+    "<<",
+    ">>",
+    "<=",
+    ">=",
+    "==",
+    "!=",
+    "&&",
+    "||",
+    "+",
+    "-",
+    "*",
+    "/",
+    "%",
+    "<",
+    ">",
+    "&",
+    "^",
+    "|",
+    "!",
+    "~",
+    "=",
+    ".",
+    ",",
+    ";",
+    "(",
+    ")",
+    "{",
+    "}",
+    "[",
+    "]",
+];
+
+/// Tokens that come together, the one that tells of them, those that tell of a group which has
+/// them too, and their common name.
+#[derive(Clone, Copy)]
+struct Group {
+    by: &'static str,
+    unless: &'static [&'static str],
+    name: &'static str,
+    tokens: &'static [&'static str],
+}
+
+const STATEMENT: Group = Group {
+    by: "while",
+    unless: &[],
+    name: "a statement",
+    tokens: &[
+        "name", "1", "int64_t", "struct", "if", "while", "for", "break", "continue", "return",
+        "NULL", "pm_new", "pm_free", "abort", ";", "(", "{", "root",
+    ],
+};
+
+const EXPRESSION: Group = Group {
+    by: "pm_new",
+    unless: &["while"],
+    name: "a value",
+    tokens: &["name", "1", "NULL", "pm_new", "(", "-", "!", "~", "root"],
+};
+
+const OPERATOR: Group = Group {
+    by: "%",
+    unless: &[],
+    name: "an operator",
+    tokens: &[
+        "<<", ">>", "<=", ">=", "==", "!=", "&&", "||", "+", "-", "*", "/", "%", "<", ">", "&",
+        "^", "|",
+    ],
+};
+
+const ITEM: Group = Group {
+    by: "persistent",
+    unless: &[],
+    name: "a struct, the root or a function",
+    tokens: &["persistent", "tx", "void", "int64_t", "struct"],
+};
+
+const TYPE: Group = Group {
+    by: "int64_t",
+    unless: &["while", "persistent"],
+    name: "a type",
+    tokens: &["int64_t", "struct"],
+};
+
+const GROUPS: [Group; 5] = [STATEMENT, ITEM, EXPRESSION, OPERATOR, TYPE];
+
+/// What stands for a token or a group in the note, between two marks.
+#[derive(Clone, Copy)]
+struct Name<'a> {
+    mark: &'static str,
+    text: &'a str,
+}
+
+/// The tokens that could stand there, as one note; `None` if there are none.
+pub fn expected(alloc: Global, able: &[&str]) -> Result<Option<String>, AllocError> {
+    let names = names_of(alloc, able)?;
+    if names.is_empty() {
+        return Ok(None);
+    }
+    Ok(Some(listed(alloc, &names)?))
+}
+
+/// The groups that could stand there, and then the other tokens.
+fn names_of<'a>(alloc: Global, able: &[&'a str]) -> Result<Vec<Name<'a>>, AllocError> {
+    let mut names = Vec::new(alloc);
+    for group in GROUPS {
+        if applies(group, able) {
+            names.push(Name {
+                mark: "",
+                text: group.name,
+            })?;
+        }
+    }
+    push_tokens(able, &mut names)?;
+    Ok(names)
+}
+
+/// Adds the tokens that are in no group.
+fn push_tokens<'a>(able: &[&'a str], names: &mut Vec<Name<'a>>) -> Result<(), AllocError> {
+    for token in able {
+        if !is_grouped(able, token) {
+            names.push(name_of(token))?;
+        }
+    }
+    Ok(())
+}
+
+/// Whether a group is told of.
+fn applies(group: Group, able: &[&str]) -> bool {
+    for token in group.unless {
+        if has(able, token) {
+            return false;
+        }
+    }
+    has(able, group.by)
+}
+
+/// Whether a group that is told of has the token.
+fn is_grouped(able: &[&str], token: &str) -> bool {
+    for group in GROUPS {
+        if applies(group, able) && has(group.tokens, token) {
+            return true;
+        }
+    }
+    false
+}
+
+fn has(tokens: &[&str], token: &str) -> bool {
+    for other in tokens {
+        if *other == token {
+            return true;
+        }
+    }
+    false
+}
+
+fn name_of(token: &str) -> Name<'_> {
+    if token == "name" {
+        return Name {
+            mark: "",
+            text: "a name",
+        };
+    }
+    if token == "1" {
+        return Name {
+            mark: "",
+            text: "a number",
+        };
+    }
+    Name {
+        mark: "`",
+        text: token,
+    }
+}
+
+/// The names, with commas and an 'or' between them.
+fn listed(alloc: Global, names: &[Name<'_>]) -> Result<String, AllocError> {
+    let mut note = String::from_str(alloc, "here could stand ")?;
+    for (at, name) in names.iter().enumerate() {
+        note.push_str(between(at, names.len()))?;
+        note.push_str(name.mark)?;
+        note.push_str(name.text)?;
+        note.push_str(name.mark)?;
+    }
+    Ok(note)
+}
+
+/// What stands before the name of this place.
+fn between(at: usize, count: usize) -> &'static str {
+    if at == 0 {
+        ""
+    } else if at.saturating_add(1) == count {
+        " or "
+    } else {
+        ", "
+    }
+}
