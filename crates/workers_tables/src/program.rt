@@ -1,4 +1,4 @@
-//! A program of two transactions on heap word 0.
+//! A program of four transactions on heap word 0.
 
 ghost use Rattle.std.specs.Prelude.{◌≡◌, ◌≤◌, ◌<◌, ◌^◌, length, IfOk, IfSome};
 ghost use Rattle.pm_machine.specs.Few.{AreFew};
@@ -40,23 +40,51 @@ fn abort_code(alloc: Global) -> Result<Code, AllocError>
     Ok(code)
 }
 
+/// `n = d; return d;`: nothing is logged, and the address is the 0 that register 1 begins with.
+fn put_code(alloc: Global) -> Result<Code, AllocError>
+    ensures { IfOk result (λ c. length c < 2 ^ 32) }
+{
+    let mut code = Code::new(alloc);
+    code.push(Op::Store { a: 1, o: 0, b: 0 })?;
+    code.push(Op::Flush)?;
+    code.push(Op::Fence)?;
+    code.push(Op::Halt { a: 0 })?;
+    Ok(code)
+}
+
+/// `return d;`
+fn give_code(alloc: Global) -> Result<Code, AllocError>
+    ensures { IfOk result (λ c. length c < 2 ^ 32) }
+{
+    let mut code = Code::new(alloc);
+    code.push(Op::Halt { a: 0 })?;
+    Ok(code)
+}
+
+/// A function of one parameter.
+fn function_of(code: Code) -> Function
+    ensures { result ≡ record { parameters = 1; registers = 3; code = code } }
+{
+    Function {
+        parameters: 1,
+        registers: 3,
+        code,
+    }
+}
+
 fn parts(alloc: Global, sizes: Sizes) -> Result<ImageParts, AllocError>
     ensures few { IfOk result (λ p. AreFew p.functions) }
-    ensures txs { IfOk result (λ p. 2 ≤ length p.txs) }
+    ensures txs { IfOk result (λ p. 4 ≤ length p.txs) }
 {
     let inc = inc_code(alloc)?;
     let abort = abort_code(alloc)?;
+    let put = put_code(alloc)?;
+    let give = give_code(alloc)?;
     let mut functions = Functions::new(alloc);
-    functions.push(Function {
-        parameters: 1,
-        registers: 3,
-        code: inc,
-    })?;
-    functions.push(Function {
-        parameters: 1,
-        registers: 3,
-        code: abort,
-    })?;
+    functions.push(function_of(inc))?;
+    functions.push(function_of(abort))?;
+    functions.push(function_of(put))?;
+    functions.push(function_of(give))?;
     let mut txs = TxList::new(alloc);
     txs.push(TxEntry {
         function: 0,
@@ -64,6 +92,14 @@ fn parts(alloc: Global, sizes: Sizes) -> Result<ImageParts, AllocError>
     })?;
     txs.push(TxEntry {
         function: 1,
+        parameters: 1,
+    })?;
+    txs.push(TxEntry {
+        function: 2,
+        parameters: 1,
+    })?;
+    txs.push(TxEntry {
+        function: 3,
         parameters: 1,
     })?;
     Ok(ImageParts {
@@ -77,7 +113,7 @@ fn parts(alloc: Global, sizes: Sizes) -> Result<ImageParts, AllocError>
 
 /// The program, for the smallest compartments.
 pub fn program(alloc: Global) -> Option<Image>
-    ensures { IfSome result (λ i. 2 ≤ length i.parts.txs) }
+    ensures { IfSome result (λ i. 4 ≤ length i.parts.txs) }
 {
     let sizes = Sizes::new(1, 1, 1, 100)?;
     let Ok(parts) = parts(alloc, sizes) else {

@@ -17,7 +17,7 @@ use std::sync::ledger::{Blank, Ledger};
 use std::test::Fail;
 
 /// The digest of the program; no recovery reads it.
-const DIGEST: [i64; 4] = [1, 2, 3, 4];
+pub const DIGEST: [i64; 4] = [1, 2, 3, 4];
 
 /// Workers that all begin and take turns in rounds, with a power cut after so many events.
 fn cut_run<P: Pmem + Drop, L: Ledger>(
@@ -52,7 +52,7 @@ fn wrong_cut<L: Ledger>(alloc: Global, rest: Rest, steps: &mut Steps<L>) -> Opti
         let Ok(seen) = cut_run(alloc, &image, 2, stop, rest, &mut dev, steps) else {
             return Some(stop);
         };
-        if !is_right(&seen, rest, 0) || !is_right(&seen, rest, 1) {
+        if !is_right(&seen, rest, 0, 1) || !is_right(&seen, rest, 1, 2) {
             return Some(stop);
         }
     }

@@ -1,0 +1,12 @@
+use Rattle.std.proofs.Common.{◌≡◌, length}
+use Rattle.pool_workers.specs.Crew.{AreTasks, HasCompartments}
+use Rattle.pool_workers.specs.inside.Crew.{AreUncut}
+use Rattle.workers_tables.proofs.runs.ordered.Given as goal
+
+abbrev pub invariant-loop : goal.invariant-loop
+invariant-loop g l = record {
+  tasks : AreTasks l.image l.workers;
+  uncut : AreUncut l.workers;
+  lines : HasCompartments l.image l.workers (g.P.PmemWork.device l.dev);
+  count : length l.workers ≡ length l.initial.workers;
+}
