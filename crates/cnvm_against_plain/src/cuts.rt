@@ -13,7 +13,7 @@ use std::alloc::{AllocError, Global};
 use std::sync::ledger::Ledger;
 
 /// More events than any call of the scripts has.
-const MOST_EVENTS: u64 = 100_000;
+pub(crate) const MOST_EVENTS: u64 = 100_000;
 
 /// A number of events that is never reached.
 const NEVER: u64 = 4_294_967_295;
@@ -21,7 +21,7 @@ const NEVER: u64 = 4_294_967_295;
 /// What a cut leaves of each line: the oldest version, the newest, versions in turn, or versions in
 /// turn with the recovery cut as well.
 #[derive(Clone, Copy, Debug, PartialEq, Eq)]
-enum Keeps {
+pub(crate) enum Keeps {
     Old,
     New,
     Turning,
@@ -29,7 +29,7 @@ enum Keeps {
 }
 
 impl Keeps {
-    fn name(self) -> &'static str {
+    pub(crate) fn name(self) -> &'static str {
         match self {
             Keeps::Old => "old",
             Keeps::New => "new",

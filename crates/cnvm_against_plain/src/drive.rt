@@ -15,13 +15,13 @@ use std::alloc::{AllocError, Global};
 use std::sync::ledger::Ledger;
 
 /// The slots of each pool.
-const SLOTS: u64 = 16;
+pub(crate) const SLOTS: u64 = 16;
 
 /// The ticks of a call.
-const TICKS: u64 = 3000;
+pub(crate) const TICKS: u64 = 3000;
 
 /// What each program is compiled for.
-const ASKED: Asked = Asked {
+pub(crate) const ASKED: Asked = Asked {
     slots: SLOTS,
     records: 72,
     ticks: TICKS,
@@ -68,7 +68,11 @@ pub(crate) fn drive<L: Ledger>(
     Ok(tally)
 }
 
-fn refused(alloc: Global, what: &'static str, tally: &mut Tally) -> Result<(), AllocError> {
+pub(crate) fn refused(
+    alloc: Global,
+    what: &'static str,
+    tally: &mut Tally,
+) -> Result<(), AllocError> {
     let place = Place {
         call: 0,
         at: 0,

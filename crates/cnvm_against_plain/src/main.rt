@@ -4,19 +4,25 @@
 //! recovered. A cut leaves the oldest versions, the newest, or versions in turn; for the last way
 //! the recovery is cut as well. After a cut the pool must be that before the call or that of the
 //! interpreter; docs/PROTOCOL.md says which. A program is two files, `NAME.c` and `NAME.txt`; of
-//! its script only the calls count.
+//! its script only the calls count. After the word `--workers` a program is `NAME.c` and
+//! `NAME.workers`, a script of three workers whose last calls take turns in orders that are drawn;
+//! they are cut after each number of the events of all three.
 #![tactic(auto)]
 
 mod case;
+mod course;
+mod crew;
 mod cuts;
 mod drive;
 mod picks;
 mod rig;
 mod tally;
 mod texts;
+mod turns;
 
 ghost use Rattle.std.specs.Prelude.{◌≡◌, ◌<◌};
 
+use crate::tally::Tally;
 use nvm_base::Steps;
 use std::marker::Brand;
 use std::process::ExitCode;
@@ -24,23 +30,47 @@ use std::rt::{Env, Files};
 use std::sync::ledger::{Blank, Ledger};
 use std::{env, fs, io};
 
+/// What was compared of a program, whose script has this ending.
+fn tally_of<R: Files + AllocGlobal, L: Ledger>(
+    rt: &R,
+    name: &str,
+    ending: &'static str,
+    steps: &mut Steps<L>,
+) -> io::Result<Tally> {
+    let alloc = rt.alloc();
+    let program_path = format!(in alloc; "{name}.c")?;
+    let script_path = format!(in alloc; "{name}.{ending}")?;
+    let text = fs::read(rt, program_path.as_str())?;
+    let script = fs::read(rt, script_path.as_str())?;
+    let tally = if ending == "workers" {
+        turns::drive_workers(alloc, &text, &script, steps)?
+    } else {
+        drive::drive(alloc, &text, &script, steps)?
+    };
+    Ok(tally)
+}
+
 /// Compares one program, and prints its line after its differences.
 fn drive_one<R: Files + Print + AllocGlobal, L: Ledger>(
     rt: &R,
     name: &str,
+    several: bool,
     steps: &mut Steps<L>,
 ) -> io::Result<()> {
-    let alloc = rt.alloc();
-    let program_path = format!(in alloc; "{name}.c")?;
-    let script_path = format!(in alloc; "{name}.txt")?;
-    let text = fs::read(rt, program_path.as_str())?;
-    let script = fs::read(rt, script_path.as_str())?;
-    let tally = drive::drive(alloc, &text, &script, steps)?;
+    let tally = if several {
+        tally_of(rt, name, "workers", steps)?
+    } else {
+        tally_of(rt, name, "txt", steps)?
+    };
     let differences = tally.told();
     print!(rt; "{differences}")?;
-    let line = tally.line(alloc)?;
+    let line = tally.line(rt.alloc())?;
     let line = line.as_str();
-    println!(rt; "{name} {line}")
+    if several {
+        println!(rt; "{name} workers {line}")
+    } else {
+        println!(rt; "{name} {line}")
+    }
 }
 
 /// Compares the programs that the words name.
@@ -55,8 +85,13 @@ fn drive_all<R: Files + Print + Env + AllocGlobal, L: Ledger>(
     let mut steps = Steps::<L>::new(blank);
     let mut names = env::args(rt)?;
     names.next();
+    let mut several = false;
     for name in names {
-        drive_one(rt, name.as_str(), &mut steps)?;
+        if name.as_str() == "--workers" {
+            several = true;
+        } else {
+            drive_one(rt, name.as_str(), several, &mut steps)?;
+        }
     }
     Ok(())
 }

@@ -55,7 +55,10 @@ fn rises(picks: &[Pick]) -> bool
 }
 
 /// Gives power by the choice. The answer says whether its picks exist.
-pub(crate) fn power(dev: &mut SimPmem, choice: &Choice) -> bool {
+pub(crate) fn power<P: Pmem>(dev: &mut P, choice: &Choice) -> bool
+    ensures lines { (P.device dev.new).lines ≡ (P.device dev.old).lines }
+    ensures on { (P.device dev.old).on ≡ true → (P.device dev.new).on ≡ true }
+{
     if !rises(choice.picks.as_slice()) {
         return false;
     }
