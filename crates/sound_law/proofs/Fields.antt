@@ -1,4 +1,4 @@
--- A field of the root, a field behind a pointer, a new object and a freed one find what they ask
+-- A field of the root, a field after `->`, a new object and a freed one find what they ask
 -- for.
 use Rattle.std.proofs.Common.{◌≡◌, ℕ, zero, suc, ◌+◌, ◌≤◌, min, ◌^◌, ◌-◌, ℤ, pos, negsuc, Bool}
 use Rattle.std.proofs.Common.{true}
@@ -211,7 +211,7 @@ module _ (t : Tables) (sane : IsSane t) (typed : IsWellTyped t) where
       → struct_pointed_by t ls e ≡ Some i
   points_to ls e i is = ap pointed_struct is
 
-  -- a field behind a pointer
+  -- a field after `->`
   pub arrow_finds : (i : ℕ) (base : ExprTree) (place : ℕ) (name : Ident) (ls : List Local)
       (p : PoolMap) (b : ℤ) (index : Option ℤ)
       → type_of t (scopes_of ls) base ≡ value_type (PointerTo i) → IsSmall t (PointerTo i)
