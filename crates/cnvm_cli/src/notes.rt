@@ -1,13 +1,16 @@
 //! What is told to a person after a run: made from its status and from what it read and wrote. No
 //! status and no byte of standard output depends on it.
 
+use crate::refused::push_digest;
 use crate::status::{Status, World};
-use cnvm_notes::{RunTexts, answers_note, script_note, workers_answers_note, workers_note};
+use cnvm_notes::{
+    RunTexts, answers_note, script_note, storm_note, workers_answers_note, workers_note,
+};
 use cnvm_words::{Plan, plan_of};
-use command_notes::{ImageRefusal, of_image, of_words, unread, unsaved, unwritten};
+use command_notes::{Digests, ImageRefusal, of_image, of_words, unread, unsaved, unwritten};
 use nvm_base::{KeptSink, KeptSource, SavedFile, Sink, StdSink, StdSource, write_all};
 use plain_notes::{Told, message_of};
-use pool_layout::digest;
+use pool_layout::{FUNCTION, digest};
 use program_notes::program_note;
 use std::alloc::{AllocError, Global};
 use std::rt::Files;
@@ -133,9 +136,17 @@ fn of_done<R: Files + Print + AllocGlobal, P: Drop>(
     named: Named<'_>,
     world: &FileWorld<'_, R, P>,
 ) -> Result<Option<String>, AllocError> {
-    let opened = match plan_of(alloc, words) {
-        Ok(Plan::Run { start_image, .. }) => start_image.is_some(),
+    let (opened, slots, ticks) = match plan_of(alloc, words) {
+        Ok(
+            Plan::Run {
+                start_image,
+                slots,
+                ticks,
+                ..
+            },
+        ) => (start_image.is_some(), slots, ticks),
         Ok(Plan::Workers { .. }) => return of_workers(alloc, named.script, world.out.kept()),
+        Ok(Plan::Storm { .. }) => return of_storm(alloc, world.out.kept()),
         _ => return Ok(None),
     };
     let (Some(program), Some(script), Some(answers)) = (
@@ -152,7 +163,11 @@ fn of_done<R: Files + Print + AllocGlobal, P: Drop>(
         script,
         answers,
         opened,
+        image_path: named.image_in,
+        owed: word_at(world.image_in.kept().unwrap_or(b""), FUNCTION as usize),
         saved: named.image_out,
+        slots,
+        ticks,
     };
     answers_note(alloc, run)
 }
@@ -165,6 +180,14 @@ fn of_workers(
 ) -> Result<Option<String>, AllocError> {
     match answers {
         Some(answers) => workers_answers_note(alloc, path, answers),
+        None => Ok(None),
+    }
+}
+
+/// The message of a storm in which a transaction trapped.
+fn of_storm(alloc: Global, answers: Option<&[u8]>) -> Result<Option<String>, AllocError> {
+    match answers {
+        Some(answers) => storm_note(alloc, answers),
         None => Ok(None),
     }
 }
@@ -217,8 +240,13 @@ fn of_refused_image<R: Files + Print + AllocGlobal, P: Drop>(
     let line = String::from_utf8_lossy(alloc, line)?;
     let refusal = refusal_of(alloc, words, line.as_str(), image);
     let is_image = image.starts_with(b"CNVMPOOL");
-    let same_text = has_digest(image, &digest(text));
-    let told = of_image(alloc, named.image_in, refusal, is_image, same_text)?;
+    let found = image_digest(alloc, image)?;
+    let wanted = digest_text(alloc, &digest(text))?;
+    let digests = Digests {
+        found: found.as_str(),
+        wanted: wanted.as_str(),
+    };
+    let told = of_image(alloc, named.image_in, refusal, is_image, digests)?;
     Ok(Some(message_of(alloc, &told)?))
 }
 
@@ -292,14 +320,22 @@ fn word_at(image: &[u8], place: usize) -> u64 {
     word
 }
 
-/// Whether an image has this digest.
-fn has_digest(image: &[u8], digest: &[i64; 4]) -> bool {
-    let mut place = 8usize;
-    for word in digest.as_slice() {
-        if word_at(image, place) != word.cast_unsigned() {
-            return false;
-        }
-        place = place.saturating_add(1);
+/// The digest of the text that an image was made from; an empty text where it is too short.
+fn image_digest(alloc: Global, image: &[u8]) -> Result<String, AllocError> {
+    if image.len() < 96 {
+        return Ok(String::new(alloc));
     }
-    true
+    let digest = [
+        word_at(image, 8).cast_signed(),
+        word_at(image, 9).cast_signed(),
+        word_at(image, 10).cast_signed(),
+        word_at(image, 11).cast_signed(),
+    ];
+    digest_text(alloc, &digest)
+}
+
+fn digest_text(alloc: Global, digest: &[i64; 4]) -> Result<String, AllocError> {
+    let mut text = String::new(alloc);
+    push_digest(&mut text, digest.as_slice())?;
+    Ok(text)
 }

@@ -1,9 +1,10 @@
 //! The message of answers that are traps or refusals.
 
+use crate::replay::Replay;
 use cnvm_script::{Command, next_line, read_line};
-use command_notes::{PoolLeft, of_trap, of_worker_trap};
+use command_notes::{PoolLeft, of_storm_trap, of_trap, of_unusable_image, of_worker_trap};
 use plain_notes::{Told, message_of};
-use program_notes::trap_place;
+use program_notes::{name_of, trap_place};
 use std::alloc::{AllocError, Global};
 
 /// The texts of a run that came to its end: what it read and what it answered.
@@ -14,24 +15,37 @@ pub struct RunTexts<'a> {
     pub script_path: &'a str,
     pub script: &'a [u8],
     pub answers: &'a [u8],
-    /// Whether the answer of a recovery comes first.
+    /// Whether a pool was opened, so that the answer of its recovery comes first; its path, and
+    /// the number of the transaction whose arguments it has.
     pub opened: bool,
+    pub image_path: &'a str,
+    pub owed: u64,
     /// The path under which the pool was saved, or an empty one.
     pub saved: &'a str,
+    /// The slots of the pool, and the ticks of a call.
+    pub slots: u64,
+    pub ticks: u64,
 }
 
 /// What the answers of a script tell: the first trap, the first call that was rolled back, and how
 /// many calls were rolled back and commands refused.
 #[derive(Drop)]
-struct Found {
+struct Found<'a> {
     trap: Option<Told>,
     undone: Option<Told>,
     undone_calls: u64,
     refused: u64,
     /// The line of the first refused command.
     first: u64,
-    /// The transaction that was called last.
+    /// The transaction that was called last, and the line of that call.
     called: String,
+    call: &'a [u8],
+    /// The pool before the next call, where a trap is to be told; and whether a cut leaves open
+    /// what the pool is.
+    replay: Option<Replay>,
+    unsure: bool,
+    /// Whether an answer tells a trap after which the pool takes no calls.
+    fatal: bool,
 }
 
 /// The message of the answers that a script's commands were given, where one is a trap or a
@@ -44,10 +58,14 @@ pub fn answers_note(alloc: Global, run: RunTexts<'_>) -> Result<Option<String>, 
         refused: 0,
         first: 0,
         called: String::new(alloc),
+        call: b"",
+        replay: replay_of(alloc, run)?,
+        unsure: false,
+        fatal: has_trap(run.answers, true),
     };
     let mut left = run.answers;
     if run.opened {
-        left = answer_of(alloc, &mut found, run, 0, left)?;
+        left = after_opening(alloc, &mut found, run)?;
     }
     let mut rest = run.script;
     let mut number = 0u64;
@@ -58,46 +76,172 @@ pub fn answers_note(alloc: Global, run: RunTexts<'_>) -> Result<Option<String>, 
         let Ok(Some(command)) = read_line(alloc, line) else {
             continue 'lines;
         };
-        left = after_answer(alloc, &mut found, run, number, &command, left)?;
+        let given = Given {
+            number,
+            line,
+            command: &command,
+        };
+        left = after_answer(alloc, &mut found, run, &given, left)?;
     }
     told(alloc, run, found)
 }
 
-/// The text of the answers after that of this command.
-fn after_answer<'a>(
-    alloc: Global,
-    found: &mut Found,
-    run: RunTexts<'_>,
+/// A command of the script, and its line with the number.
+#[derive(Clone, Copy)]
+struct Given<'a, 'c> {
     number: u64,
-    command: &Command,
+    line: &'a [u8],
+    command: &'c Command,
+}
+
+/// The program on its new pool, if a trap is to be told.
+fn replay_of(alloc: Global, run: RunTexts<'_>) -> Result<Option<Replay>, AllocError> {
+    if run.opened || !has_trap(run.answers, false) {
+        return Ok(None);
+    }
+    Replay::new(alloc, run.program, run.slots, run.ticks)
+}
+
+/// Whether one of the answers is a trap, or a trap after which the pool takes no calls.
+fn has_trap(answers: &[u8], fatal: bool) -> bool {
+    let mut rest = answers;
+    'lines: while !rest.is_empty() {
+        let (line, others) = next_line(rest);
+        rest = others;
+        if is_trap(line, fatal) {
+            return true;
+        }
+    }
+    false
+}
+
+/// Whether the line tells a trap, or one after which the pool takes no calls.
+fn is_trap(line: &[u8], fatal: bool) -> bool {
+    match trap_end(line) {
+        Some(end) => match end.left {
+            PoolLeft::Unusable => true,
+            PoolLeft::Restored => !fatal,
+        },
+        None => false,
+    }
+}
+
+/// The text of the answers after that of the recovery that opens an image.
+fn after_opening<'a>(
+    alloc: Global,
+    found: &mut Found<'_>,
+    run: RunTexts<'a>,
+) -> Result<&'a [u8], AllocError> {
+    let (line, others) = first_line(run.answers);
+    if let Some(kind) = unusable(line) {
+        let kind = String::from_utf8_lossy(alloc, kind)?;
+        found.trap = Some(of_unusable_image(alloc, run.image_path, kind.as_str())?);
+        return Ok(others);
+    }
+    found.called = name_of(alloc, run.program, run.owed)?;
+    answer_of(alloc, found, run, 0, run.answers)
+}
+
+/// The first line of a text, and the text after it; both are empty where the text is.
+fn first_line(text: &[u8]) -> (&[u8], &[u8]) {
+    if text.is_empty() {
+        return (text, text);
+    }
+    next_line(text)
+}
+
+/// The trap of a pool that takes no calls, if the line tells it.
+fn unusable(line: &[u8]) -> Option<&[u8]> {
+    let head = b"refused unusable ";
+    if line.starts_with(head) {
+        return Some(line.split_at(line.len().min(head.len())).1);
+    }
+    None
+}
+
+/// The text of the answers after that of this command.
+fn after_answer<'a, 's>(
+    alloc: Global,
+    found: &mut Found<'s>,
+    run: RunTexts<'_>,
+    given: &Given<'s, '_>,
     left: &'a [u8],
 ) -> Result<&'a [u8], AllocError> {
-    match command {
+    match given.command {
         Command::Stop(_) | Command::Fault(_) => Ok(left),
         Command::Call { name, .. } => {
-            found.called = String::from_str(alloc, name.as_str())?;
-            answer_of(alloc, found, run, number, left)
+            if !left.starts_with(b"refused ") {
+                found.called = String::from_str(alloc, name.as_str())?;
+                found.call = given.line;
+            }
+            let others = answer_of(alloc, found, run, given.number, left)?;
+            follow(alloc, found, left);
+            Ok(others)
+        }
+        Command::Power(_) => {
+            let others = answer_of(alloc, found, run, given.number, left)?;
+            follow(alloc, found, left);
+            Ok(others)
         }
         Command::Show => {
-            let others = answer_of(alloc, found, run, number, left)?;
+            let others = answer_of(alloc, found, run, given.number, left)?;
             Ok(after_slots(others))
         }
-        _ => answer_of(alloc, found, run, number, left),
+        _ => answer_of(alloc, found, run, given.number, left),
     }
+}
+
+/// Makes the last call again that is done by this answer, the first line of these.
+fn follow(alloc: Global, found: &mut Found<'_>, answers: &[u8]) {
+    let Some(replay) = found.replay.as_mut() else {
+        return;
+    };
+    if let Some(value) = value_of(first_line(answers).0) {
+        replay.take(alloc, found.call, value);
+        found.unsure = false;
+    } else if answers.starts_with(b"recovered ") {
+        if found.unsure && answers.starts_with(b"recovered none") {
+            replay.forget();
+        }
+        found.unsure = false;
+    } else if leaves_open(answers) {
+        found.unsure = true;
+    }
+}
+
+/// Whether after this answer a recovery may have nothing to do though the call is done.
+fn leaves_open(answer: &[u8]) -> bool {
+    for head in ["stopped seal", "device fault", "no memory"] {
+        if answer.starts_with(head.as_bytes()) {
+            return true;
+        }
+    }
+    false
+}
+
+/// The value that a call gave, if the line tells one.
+fn value_of(line: &[u8]) -> Option<i64> {
+    let Ok(text) = str::from_utf8(line) else {
+        return None;
+    };
+    let mut words = text.split_whitespace();
+    match words.next() {
+        Some("=") => (),
+        Some("recovered") if words.next() == Some("redone") => (),
+        _ => return None,
+    }
+    words.next()?.parse::<i64>().ok()
 }
 
 /// The text of the answers after the first line, which answers this line's command.
 fn answer_of<'a>(
     alloc: Global,
-    found: &mut Found,
+    found: &mut Found<'_>,
     run: RunTexts<'_>,
     number: u64,
     left: &'a [u8],
 ) -> Result<&'a [u8], AllocError> {
-    if left.is_empty() {
-        return Ok(left);
-    }
-    let (line, others) = next_line(left);
+    let (line, others) = first_line(left);
     if let Some(end) = trap_end(line) {
         note_trap(alloc, found, run, number, end)?;
     }
@@ -120,7 +264,7 @@ struct TrapEnd<'a> {
 /// Adds the message of a trap, if it is the first of its sort.
 fn note_trap(
     alloc: Global,
-    found: &mut Found,
+    found: &mut Found<'_>,
     run: RunTexts<'_>,
     number: u64,
     end: TrapEnd<'_>,
@@ -128,13 +272,17 @@ fn note_trap(
     match end.left {
         PoolLeft::Unusable => {
             if found.trap.is_none() {
-                found.trap = Some(trapped(alloc, run, number, found.called.as_str(), end)?);
+                found.trap = Some(trapped(alloc, run, number, found, end)?);
             }
         }
         PoolLeft::Restored => {
             found.undone_calls = found.undone_calls.saturating_add(1);
             if found.undone.is_none() {
-                found.undone = Some(trapped(alloc, run, number, found.called.as_str(), end)?);
+                found.undone = Some(trapped(alloc, run, number, found, end)?);
+            }
+            // No other trap will be told, so the calls after it needn't be made again.
+            if !found.fatal {
+                found.replay = None;
             }
         }
     }
@@ -146,14 +294,39 @@ fn trapped(
     alloc: Global,
     run: RunTexts<'_>,
     number: u64,
-    called: &str,
+    found: &Found<'_>,
     end: TrapEnd<'_>,
 ) -> Result<Told, AllocError> {
     let kind = String::from_utf8_lossy(alloc, end.kind)?;
     let kind = kind.as_str();
+    let called = found.called.as_str();
     let told = of_trap(alloc, run.script_path, number, called, kind, end.left)?;
-    let place = trap_place(alloc, run.program_path, run.program, called, kind)?;
+    let place = match exact_place(alloc, run, found, kind)? {
+        Some(place) => Some(place),
+        None => trap_place(alloc, run.program_path, run.program, called, kind)?,
+    };
     told.with_some(alloc, place)
+}
+
+/// A note that names the line where the last call trapped, if it is known. The interpreter has no
+/// log.
+fn exact_place(
+    alloc: Global,
+    run: RunTexts<'_>,
+    found: &Found<'_>,
+    kind: &str,
+) -> Result<Option<String>, AllocError> {
+    let Some(replay) = found.replay.as_ref() else {
+        return Ok(None);
+    };
+    if kind == "logfull" {
+        return Ok(None);
+    }
+    let path = run.program_path;
+    match replay.line(alloc, found.call)? {
+        Some(line) => Ok(Some(format!(in alloc; "it came in {path}:{line}")?)),
+        None => Ok(None),
+    }
 }
 
 /// The answers that tell a trap, and what each leaves of the pool.
@@ -184,7 +357,7 @@ fn after_slots(left: &[u8]) -> &[u8] {
     rest
 }
 
-fn told(alloc: Global, run: RunTexts<'_>, found: Found) -> Result<Option<String>, AllocError> {
+fn told(alloc: Global, run: RunTexts<'_>, found: Found<'_>) -> Result<Option<String>, AllocError> {
     let Found {
         trap,
         undone,
@@ -271,6 +444,17 @@ fn with_saved(alloc: Global, trap: Told, saved: &str) -> Result<Told, AllocError
     }
     let note = format!(in alloc; "{saved} holds this pool now")?;
     trap.with(alloc, note.as_str())
+}
+
+/// The message of a storm's answers, where a transaction trapped.
+pub fn storm_note(alloc: Global, answers: &[u8]) -> Result<Option<String>, AllocError> {
+    let (_, last) = first_line(answers);
+    let Some(kind) = unusable(first_line(last).0) else {
+        return Ok(None);
+    };
+    let kind = String::from_utf8_lossy(alloc, kind)?;
+    let told = of_storm_trap(alloc, kind.as_str())?;
+    Ok(Some(message_of(alloc, &told)?))
 }
 
 /// The message of the answers that a script of workers was given, where one is a trap or a refusal.

@@ -6,6 +6,8 @@
 
 mod answers;
 mod refused_script;
+mod replay;
 
-pub use answers::{RunTexts, answers_note, workers_answers_note};
+pub use answers::{RunTexts, answers_note, storm_note, workers_answers_note};
 pub use refused_script::{script_note, workers_note};
+pub use replay::{pool_after, trap_line};

@@ -31,8 +31,9 @@ use Rattle.pm_alloc.specs.declared.local.Local.TheVariants.{Const, Mov, Bin, Jmp
 use Rattle.pm_alloc.specs.declared.local.Local.TheVariants.{Find, Log, Tick, Trap}
 use Rattle.pm_alloc.specs.Placing.{sum, register_number, placed}
 use Rattle.codegen.specs.Names.{is_below}
-use Rattle.codegen.specs.Emit.{control, return_code, local_code, piece_width, is_log}
-use Rattle.codegen.specs.Emit.{instruction_places, place_in, instruction_code, code_from}
+use Rattle.codegen.specs.Emit.{control, return_code, local_code, piece_width}
+use Rattle.ir.specs.Moving.{is_log, place_in}
+use Rattle.codegen.specs.Emit.{instruction_places, instruction_code, code_from}
 use Rattle.codegen.specs.Emit.{emitted_code, has_room, trap_function, with_code, function_of}
 use Rattle.codegen.specs.Emit.{functions_of, known}
 use Rattle.codegen.proofs.Fine.{reg_fine, fine, local_fine}

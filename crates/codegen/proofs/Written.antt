@@ -10,7 +10,8 @@ use Rattle.pm_alloc.specs.Placing.{sum}
 use Rattle.pm_alloc.specs.declared.local.Local.{Local}
 use Rattle.pm_alloc.specs.Pieces.{pointer_check}
 use Rattle.codegen.specs.declared.fields.Reach.{Reach}
-use Rattle.codegen.specs.Emit.{at_code, object_code, is_log, piece_width, instruction_places}
+use Rattle.codegen.specs.Emit.{at_code, object_code, piece_width, instruction_places}
+use Rattle.ir.specs.Moving.{is_log}
 use Rattle.codegen.specs.Emit.{instruction_code, code_from}
 
 drop_at : (code : List Instruction) (k : ℕ) (i : Instruction) → slice_get code k ≡ Some i

@@ -4,7 +4,7 @@
 -- jump to an instruction goes to the beginning of its piece. A function's temporary registers come
 -- after its own.
 use Rattle.std.specs.Prelude.{ℕ, ◌+◌, ◌-◌, ◌*◌, ◌^◌, Bool, true, false, ◌&&◌, if◌then◌else◌, nat_lt}
-use Rattle.std.specs.Prelude.{nat_le, List, [], ◌∷◌, ◌++◌, length, map, slice_index_or, ℤ, pos}
+use Rattle.std.specs.Prelude.{nat_le, List, [], ◌∷◌, ◌++◌, length, map, ℤ, pos}
 use Rattle.std.specs.Prelude.{Option, Some, None, option_map}
 use Rattle.std.specs.List.{list_all}
 use Rattle.nvm_base.specs.declared.op.BinOp.{BinOp}
@@ -18,6 +18,7 @@ use Rattle.ir.specs.declared.instruction.Target.TheVariants.{Root, Field}
 use Rattle.ir.specs.declared.instruction.Instruction.{Instruction}
 use Rattle.ir.specs.declared.instruction.Instruction.TheVariants as ir
 use Rattle.ir.specs.declared.function.IrFunction.{IrFunction}
+use Rattle.ir.specs.Moving.{is_log, place_in}
 use Rattle.ir.specs.declared.function.Ir.{Ir}
 use Rattle.pm_machine.specs.declared.op.Op.{Op}
 use Rattle.pm_machine.specs.declared.op.Op.TheVariants as op
@@ -156,31 +157,11 @@ control tx to (ir.Log t) = []
 abbrev pub piece_width : Sizes → Shapes → Bool → Bool → Instruction → ℕ
 piece_width s h tx b i = sum (length (control tx (λ q. 0) i)) (length (local_code s h b i))
 
-abbrev pub is_log : Instruction → Bool
-is_log (ir.Log t) = true
-is_log (ir.Jump place) = false
-is_log (ir.Branch on place) = false
-is_log (ir.Call r function args) = false
-is_log (ir.Return from) = false
-is_log (ir.Const r value) = false
-is_log (ir.Copy r from) = false
-is_log (ir.Bin o r left right) = false
-is_log (ir.Load r t) = false
-is_log (ir.Store t from line) = false
-is_log (ir.New r kind fill line) = false
-is_log (ir.Free from kind line) = false
-is_log ir.Tick = false
-is_log (ir.Trap kind) = false
-
 -- the places where the instructions begin, and the place of the end; p: the place of the first
 abbrev pub instruction_places : Sizes → Shapes → Bool → (p : ℕ) → Bool → List Instruction → List ℕ
 instruction_places s h tx p b [] = p ∷ []
 instruction_places s h tx p b (i ∷ code) =
     p ∷ instruction_places s h tx (sum p (piece_width s h tx b i)) (is_log i) code
-
--- the place of instruction q; if there is no such instruction, a place that no function has
-abbrev pub place_in : List ℕ → ℕ → ℕ
-place_in table q = slice_index_or table q (2 ^ 32 - 1)
 
 -- the instruction at place p; base: the first temporary register
 abbrev pub instruction_code : Sizes → Shapes → Bool → (base : ℕ) → List ℕ → (p : ℕ) → Bool

@@ -2,7 +2,8 @@
 
 ghost use Rattle.std.specs.Prelude.{◌≡◌, ◌++◌, ◌<◌, length, OnOk, IfOk};
 ghost use Rattle.codegen.specs.Emit as definitions;
-ghost use Rattle.codegen.specs.Emit.{control, return_code, place_in};
+ghost use Rattle.codegen.specs.Emit.{control, return_code};
+ghost use Rattle.ir.specs.Moving.{place_in};
 
 use ir::Instruction;
 use nvm_base::Registers;

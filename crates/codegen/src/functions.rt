@@ -2,6 +2,7 @@
 
 ghost use Rattle.std.specs.Prelude.{◌≡◌, ◌++◌, ◌∷◌, [], ◌<◌, ◌+◌, ◌^◌, length, false, true, OnOk};
 ghost use Rattle.std.specs.Prelude.{IfOk, if◌then◌else◌, nat_lt};
+ghost use Rattle.ir.specs.Moving as moving;
 ghost use Rattle.pm_alloc.specs.Placing as placing;
 ghost use Rattle.codegen.specs.Emit as definitions;
 ghost use Rattle.codegen.specs.Emit.{piece_width, instruction_places, instruction_code, code_from};
@@ -18,7 +19,7 @@ use pool_map::Shapes;
 use std::alloc::{AllocError, Global};
 
 fn is_log(instruction: &Instruction) -> bool
-    ensures { result ≡ definitions.is_log instruction.now }
+    ensures { result ≡ moving.is_log instruction.now }
 {
     match instruction {
         Instruction::Log { .. } => true,

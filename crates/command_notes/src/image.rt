@@ -1,5 +1,6 @@
 //! Messages of images.
 
+use crate::trap::trap_words;
 use plain_notes::Told;
 use std::alloc::{AllocError, Global};
 
@@ -20,14 +21,22 @@ pub enum ImageRefusal {
     Content(u64, i64),
 }
 
+/// The digest of the text that an image was made from, and of the given text. The first is empty
+/// where the image is too short to have one.
+#[derive(Clone, Copy)]
+pub struct Digests<'a> {
+    pub found: &'a str,
+    pub wanted: &'a str,
+}
+
 /// The message of an image that was refused. `is_image` says whether the file begins as an image
-/// does, and `same_text` whether it has the digest of the program's text.
+/// does.
 pub fn of_image(
     alloc: Global,
     path: &str,
     refusal: ImageRefusal,
     is_image: bool,
-    same_text: bool,
+    digests: Digests<'_>,
 ) -> Result<Told, AllocError> {
     if !is_image {
         let what = format!(in alloc; "{path}: is no image of a pool")?;
@@ -37,10 +46,45 @@ pub fn of_image(
         );
     }
     let told = of_refusal(alloc, path, refusal)?;
-    if !same_text && refusal != ImageRefusal::Digest {
-        return told.with(alloc, "the image was made from another text of the program");
+    with_digests(alloc, told, refusal == ImageRefusal::Digest, digests)
+}
+
+/// The message with both digests, and with whether they differ where that isn't said yet.
+fn with_digests(
+    alloc: Global,
+    told: Told,
+    is_said: bool,
+    digests: Digests<'_>,
+) -> Result<Told, AllocError> {
+    let Digests { found, wanted } = digests;
+    if found.is_empty() {
+        return with_digest(alloc, told, "the given text", wanted);
     }
-    Ok(told)
+    if found == wanted {
+        return with_digest(alloc, told, "the image's text and of the given one", wanted);
+    }
+    let told = if is_said {
+        told
+    } else {
+        told.with(alloc, "the image was made from another text of the program")?
+    };
+    let told = with_digest(alloc, told, "the image's text", found)?;
+    with_digest(alloc, told, "the given text", wanted)
+}
+
+fn with_digest(alloc: Global, told: Told, of: &str, digest: &str) -> Result<Told, AllocError> {
+    let note = format!(in alloc; "the digest of {of} is {digest}")?;
+    told.with(alloc, note.as_str())
+}
+
+/// The message of an opened image whose pool a trap of this kind made unusable.
+pub fn of_unusable_image(alloc: Global, path: &str, kind: &str) -> Result<Told, AllocError> {
+    let words = trap_words(kind);
+    let what = format!(in alloc; "{path}: is of an unusable pool: a transaction trapped: {words}")?;
+    Told::new(alloc, what.as_str())?.with(
+        alloc,
+        "the pool takes no more calls: open an image that was saved before the trap",
+    )
 }
 
 fn of_refusal(alloc: Global, path: &str, refusal: ImageRefusal) -> Result<Told, AllocError> {

@@ -11,8 +11,8 @@ mod words;
 mod workers_script;
 
 pub use file::{unread, unsaved, unwritten};
-pub use image::{ImageRefusal, of_image};
+pub use image::{Digests, ImageRefusal, of_image, of_unusable_image};
 pub use script::of_line;
-pub use trap::{PoolLeft, of_trap, of_worker_trap};
+pub use trap::{PoolLeft, of_storm_trap, of_trap, of_worker_trap};
 pub use words::of_words;
 pub use workers_script::of_workers_line;

@@ -56,6 +56,16 @@ pub enum PoolLeft {
     Restored,
 }
 
+/// The trap of this name in words.
+pub(crate) fn trap_words(kind: &str) -> &str {
+    for (name, words, _) in TRAPS {
+        if name == kind {
+            return words;
+        }
+    }
+    kind
+}
+
 /// The message of a trap in a call of this transaction, from this line of the script. Line 0 is the
 /// recovery that opens an image.
 pub fn of_trap(
@@ -74,6 +84,12 @@ pub fn of_trap(
 pub fn of_worker_trap(alloc: Global, worker: &str, kind: &str) -> Result<Told, AllocError> {
     let call = format!(in alloc; "worker {worker}")?;
     trapped(alloc, call.as_str(), kind, PoolLeft::Unusable)
+}
+
+/// The message of a storm in which a transaction trapped.
+pub fn of_storm_trap(alloc: Global, kind: &str) -> Result<Told, AllocError> {
+    let told = trapped(alloc, "the storm: a transaction", kind, PoolLeft::Unusable)?;
+    told.with(alloc, "so the storm was over: each later call was refused")
 }
 
 fn trapped(alloc: Global, call: &str, kind: &str, left: PoolLeft) -> Result<Told, AllocError> {
@@ -124,10 +140,18 @@ fn call_text(
     transaction: &str,
 ) -> Result<String, AllocError> {
     if line == 0 {
-        return String::from_str(alloc, "the recovery of the opened image");
+        return opening_text(alloc, transaction);
     }
     if transaction.is_empty() {
         return format!(in alloc; "{script}:{line}: the owed transaction");
     }
     format!(in alloc; "{script}:{line}: `{transaction}`")
+}
+
+/// The recovery that opens an image, in words.
+fn opening_text(alloc: Global, transaction: &str) -> Result<String, AllocError> {
+    if transaction.is_empty() {
+        return String::from_str(alloc, "the recovery of the opened image");
+    }
+    format!(in alloc; "the recovery of the opened image: `{transaction}`")
 }

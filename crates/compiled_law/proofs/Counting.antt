@@ -15,8 +15,8 @@ use Rattle.ir.specs.Places.{instruction_at}
 use Rattle.ir.specs.WellFormed.{IsWellFormed}
 use Rattle.clobber_pass.specs.declared.marking.MarkTable.{MarkTable}
 use Rattle.clobber_pass.specs.Logged as table
-use Rattle.instrument.specs.Insert as insert
-use Rattle.instrument.specs.Insert.{logs, led, place_in, places_from, flags_from, flagged}
+use Rattle.ir.specs.Moving.{place_in, is_log}
+use Rattle.instrument.specs.Insert.{logs, led, places_from, flags_from, flagged}
 use Rattle.instrument.specs.Insert.{logged_program}
 use Rattle.code_meaning.specs.Code.{CodeState}
 use Rattle.code_meaning.specs.Deeds.{Deed, Reads, Writes, Heads, site, deeds}
@@ -26,7 +26,6 @@ use Rattle.pm_machine.specs.declared.effect.Effect.{Effect}
 use Rattle.pm_machine.specs.declared.effect.Effect.TheVariants.{Loads, Scans, Stores, Logs, Flushes}
 use Rattle.pm_machine.specs.declared.effect.Effect.TheVariants.{Fences, Quiet}
 use Rattle.pm_machine.specs.Effects.{records_end}
-use Rattle.codegen.specs.Emit.{is_log}
 use Rattle.piece_law.specs.Shows as shows
 use Rattle.piece_law.specs.Shows.{ShowsDeeds, done, looks, scans, reads, plain, heads, TakesLog}
 use Rattle.piece_law.specs.Shows.{IsCutAtStore}
@@ -106,7 +105,7 @@ no_log table flag Tick none = refl
 no_log table flag (Trap k) none = refl
 
 -- an instruction that is no log stays at its place
-plain_at : (i : Instruction) → ((x : Target) → i ≡ Log x → ⊥) → insert.is_log i ≡ false
+plain_at : (i : Instruction) → ((x : Target) → i ≡ Log x → ⊥) → is_log i ≡ false
 plain_at (Log x) none = absurd (none x refl)
 plain_at (Const to v) none = refl
 plain_at (Copy to from) none = refl

@@ -32,7 +32,7 @@ use Rattle.insert_law.proofs.Standing.{store_stands, fill_stands}
 use Rattle.cover_law.specs.Covered.{IsInput, FirstStore}
 use Rattle.cover_law.specs.Law.{CoverLaw}
 use Rattle.emit_law.specs.Standing.{logged_before}
-use Rattle.codegen.specs.Emit.{is_log}
+use Rattle.ir.specs.Moving.{is_log}
 use Rattle.match_law.specs.Compiled.{logs_fill, logs_at, is_logged_in_code}
 
 module _ (marks : MarkTable) (us : List IrFunction) where

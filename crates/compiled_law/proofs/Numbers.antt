@@ -15,7 +15,8 @@ use Rattle.c_lexer.specs.TokenList.{Tokens}
 use Rattle.ir.specs.declared.instruction.Instruction.{Instruction}
 use Rattle.ir.specs.declared.function.IrFunction.{IrFunction}
 use Rattle.clobber_pass.specs.declared.marking.MarkTable.{MarkTable}
-use Rattle.instrument.specs.Insert.{logs, flag_at, led, is_log, own, logged_from, places_from}
+use Rattle.instrument.specs.Insert.{logs, flag_at, led, own, logged_from, places_from}
+use Rattle.ir.specs.Moving.{is_log}
 use Rattle.instrument.specs.Insert.{flags_from, with_flags, logged_code, logged_functions}
 use Rattle.insert_law.proofs.Follows.{one_log}
 use Rattle.pm_alloc.specs.Search.{IsPool}

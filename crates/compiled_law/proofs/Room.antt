@@ -20,8 +20,9 @@ use Rattle.pm_machine.specs.declared.op.Op.{Op}
 use Rattle.pm_alloc.specs.declared.local.Local.{Local}
 use Rattle.pm_alloc.specs.Placing.{sum, placed}
 use Rattle.codegen.specs.Names.{index_below, target_below, is_below}
-use Rattle.codegen.specs.Emit.{local_code, control, piece_width, is_log, instruction_places}
-use Rattle.codegen.specs.Emit.{place_in, code_from}
+use Rattle.codegen.specs.Emit.{local_code, control, piece_width, instruction_places}
+use Rattle.ir.specs.Moving.{is_log, place_in}
+use Rattle.codegen.specs.Emit.{code_from}
 use Rattle.emit_law.specs.Standing.{HasRoom}
 use Rattle.emit_law.proofs.Steps.{forward_code}
 

@@ -25,7 +25,8 @@ use Rattle.codegen.specs.declared.fields.Reach.{Reach}
 use Rattle.codegen.specs.Fields.{root_reach, struct_reach, object_words}
 use Rattle.codegen.specs.Emit.{at_code, root_code, object_code, address_code, address_offset}
 use Rattle.codegen.specs.Emit.{load_at, store_at, make_words, divides, local_code, control}
-use Rattle.codegen.specs.Emit.{return_code, piece_width, is_log, instruction_places, place_in}
+use Rattle.codegen.specs.Emit.{return_code, piece_width, instruction_places}
+use Rattle.ir.specs.Moving.{is_log, place_in}
 use Rattle.codegen.specs.Emit.{instruction_code, code_from, emitted_code, has_room, trap_function}
 use Rattle.codegen.specs.Emit.{with_code, function_of, known}
 use Rattle.emit_law.specs.Pairs.{IsStoreFirst, ArePaired, HasPairs, EmitsPairs}

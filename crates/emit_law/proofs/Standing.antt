@@ -23,7 +23,8 @@ use Rattle.pm_alloc.specs.declared.local.Local.TheVariants.{Const, Mov, Bin, Jmp
 use Rattle.pm_alloc.specs.declared.local.Local.TheVariants.{Find, Log, Tick, Trap}
 use Rattle.pm_alloc.specs.Placing.{sum, placed}
 use Rattle.codegen.specs.Names.{is_below}
-use Rattle.codegen.specs.Emit.{local_code, piece_width, is_log, instruction_places, place_in}
+use Rattle.codegen.specs.Emit.{local_code, piece_width, instruction_places}
+use Rattle.ir.specs.Moving.{is_log, place_in}
 use Rattle.codegen.specs.Emit.{instruction_code, code_from, emitted_code, trap_function, with_code}
 use Rattle.codegen.specs.Emit.{function_of, known}
 use Rattle.codegen.proofs.Fine.{reg_fine, fine, local_fine}

@@ -21,8 +21,9 @@ use Rattle.pm_alloc.specs.declared.local.Local.TheVariants.{Const, Mov, Bin, Jmp
 use Rattle.pm_alloc.specs.declared.local.Local.TheVariants.{Find, Log, Tick, Trap}
 use Rattle.pm_alloc.specs.Placing.{sum, placed}
 use Rattle.codegen.specs.Names.{is_below}
-use Rattle.codegen.specs.Emit.{local_code, control, return_code, piece_width, is_log}
-use Rattle.codegen.specs.Emit.{instruction_places, place_in, instruction_code, code_from}
+use Rattle.codegen.specs.Emit.{local_code, control, return_code, piece_width}
+use Rattle.ir.specs.Moving.{is_log, place_in}
+use Rattle.codegen.specs.Emit.{instruction_places, instruction_code, code_from}
 use Rattle.codegen.specs.Emit.{emitted_code, has_room, trap_function, with_code, function_of, known}
 use Rattle.codegen.proofs.Fine.{reg_fine, fine, local_fine}
 use Rattle.emit_law.specs.Tidy.{IsPlain, IsPlainAt, MayPrecede, LeadsPlain, IsTidyCode}

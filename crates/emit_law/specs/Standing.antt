@@ -9,7 +9,8 @@ use Rattle.ir.specs.declared.instruction.Instruction.TheVariants as ir
 use Rattle.ir.specs.declared.function.IrFunction.{IrFunction}
 use Rattle.ir.specs.declared.function.Ir.{Ir}
 use Rattle.pm_machine.specs.declared.image.Image.{Image}
-use Rattle.codegen.specs.Emit.{local_code, is_log, instruction_places, place_in, emitted_code}
+use Rattle.codegen.specs.Emit.{local_code, instruction_places, emitted_code}
+use Rattle.ir.specs.Moving.{is_log, place_in}
 use Rattle.codegen.specs.Emit.{has_room, functions_of, known}
 use Rattle.emit_law.specs.Placed.{IsPlaced}
 

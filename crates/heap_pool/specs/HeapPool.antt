@@ -18,7 +18,7 @@ use Rattle.pool_map.specs.PoolFits.{words_of, struct_at}
 abbrev pub heap_of : Sizes → Words → ℕ → ℤ
 heap_of s image w = if nat_lt w (heap_words s) then image (at (pool_of s) (Heap w)) else pos 0
 
--- n words of a heap, from word w on
+-- n words, from word w on
 abbrev pub words_from : (ℕ → ℤ) → ℕ → ℕ → List ℤ
 words_from h w zero = []
 words_from h w (suc n) = h w ∷ words_from h (suc w) n

@@ -21,7 +21,8 @@ use Rattle.ir.specs.declared.function.Ir.{Ir}
 use Rattle.ir.specs.Places.{instruction_at}
 use Rattle.ir.specs.WellFormed.{IsWellFormed}
 use Rattle.clobber_pass.specs.declared.marking.MarkTable.{MarkTable}
-use Rattle.instrument.specs.Insert.{logs, is_log, place_in, places_from, led, flagged, flags_from}
+use Rattle.instrument.specs.Insert.{logs, places_from, led, flagged, flags_from}
+use Rattle.ir.specs.Moving.{is_log, place_in}
 use Rattle.instrument.specs.Insert.{logged_function, logged_program}
 use Rattle.code_meaning.specs.Code.{Frame, frame, CodeState, Here, CodeEnd, Ended, Trapped}
 use Rattle.code_meaning.specs.Code.{Unfinished, Stuck, Move, Goes, Ends, InSlot, register_at}

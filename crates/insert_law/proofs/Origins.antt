@@ -15,7 +15,8 @@ use Rattle.clobber_pass.specs.declared.marking.MarkTable.{MarkTable}
 use Rattle.ir.specs.Places.{instruction_at}
 use Rattle.clobber_pass.specs.Logged.{is_logged}
 use Rattle.code_meaning.specs.Deeds.{site}
-use Rattle.instrument.specs.Insert.{logs, is_log, own, flag_at, places_from, led, logged_from}
+use Rattle.instrument.specs.Insert.{logs, own, flag_at, places_from, led, logged_from}
+use Rattle.ir.specs.Moving.{is_log}
 use Rattle.instrument.specs.Insert.{flags_from, logged_function, logged_program}
 use Rattle.insert_law.specs.Law.{OriginLaw}
 use Rattle.insert_law.proofs.Standing.{function_at, code_is, flag_is}

@@ -17,7 +17,8 @@ use Rattle.ir.specs.Places.{instruction_at}
 use Rattle.ir.specs.WellFormed.{IsFunction, IsWellFormed}
 use Rattle.clobber_pass.specs.declared.marking.MarkTable.{MarkTable}
 use Rattle.clobber_pass.specs.Logged.{is_logged}
-use Rattle.instrument.specs.Insert.{logs, is_log, own, logged_width, flag_at, places_from, led}
+use Rattle.instrument.specs.Insert.{logs, own, logged_width, flag_at, places_from, led}
+use Rattle.ir.specs.Moving.{is_log}
 use Rattle.instrument.specs.Insert.{logged_from, flagged, flags_from, with_flags, logged_function}
 use Rattle.instrument.specs.Insert.{logged_functions, logged_program}
 use Rattle.code_meaning.proofs.Lists.{all_at}

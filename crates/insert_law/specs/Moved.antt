@@ -8,7 +8,8 @@ use Rattle.ir.specs.declared.function.IrFunction.{IrFunction}
 use Rattle.ir.specs.declared.site.Site.{Site}
 use Rattle.ir.specs.Places.{instruction_at}
 use Rattle.clobber_pass.specs.declared.marking.MarkTable.{MarkTable}
-use Rattle.instrument.specs.Insert.{logs, places_from, place_in, flagged, flags_from}
+use Rattle.instrument.specs.Insert.{logs, places_from, flagged, flags_from}
+use Rattle.ir.specs.Moving.{place_in}
 use Rattle.code_meaning.specs.Deeds.{Deed, Reads, Writes, Heads}
 
 abbrev pub code_in : List IrFunction → ℕ → List Instruction

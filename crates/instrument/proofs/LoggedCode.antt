@@ -14,7 +14,8 @@ use Rattle.ir.specs.declared.function.Ir.{Ir}
 use Rattle.ir.specs.WellFormed.{IsInstruction, StopsRun, EndsWell, IsFunction, IsWellFormed}
 use Rattle.ir.specs.WellFormed.{TakesArgs}
 use Rattle.clobber_pass.specs.declared.marking.MarkTable.{MarkTable}
-use Rattle.instrument.specs.Insert.{logs, is_log, own, logged_width, flag_at, places_from, place_in}
+use Rattle.instrument.specs.Insert.{logs, own, logged_width, flag_at, places_from}
+use Rattle.ir.specs.Moving.{is_log, place_in}
 use Rattle.instrument.specs.Insert.{led, logged_from, flags_from, with_flags, logged_code}
 use Rattle.instrument.specs.Insert.{logged_function, logged_functions, logged_program}
 use Rattle.ir.specs.Short.{IsShort}

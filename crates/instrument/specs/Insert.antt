@@ -2,7 +2,7 @@
 -- means that its fill is logged. A jump or a branch that led to a store leads to its log. A log
 -- that was in the code before is left out, and what led to it leads to the next instruction. All
 -- else stays as it was.
-use Rattle.std.specs.Prelude.{ℕ, suc, ◌+◌, ◌^◌, ◌-◌, ◌++◌, Bool, true, false, List, [], ◌∷◌}
+use Rattle.std.specs.Prelude.{ℕ, suc, ◌+◌, ◌^◌, ◌++◌, Bool, true, false, List, [], ◌∷◌}
 use Rattle.std.specs.Prelude.{if◌then◌else◌, nat_lt, length}
 use Rattle.std.specs.List.{slice_index_or}
 use Rattle.ir.specs.declared.instruction.Instruction.{Instruction}
@@ -11,6 +11,7 @@ use Rattle.ir.specs.declared.instruction.Instruction.TheVariants.{Load, Store, N
 use Rattle.ir.specs.declared.instruction.Instruction.TheVariants.{Return, Tick, Trap, Log}
 use Rattle.ir.specs.declared.function.IrFunction.{IrFunction}
 use Rattle.ir.specs.declared.function.Ir.{Ir}
+use Rattle.ir.specs.Moving.{is_log, place_in}
 use Rattle.clobber_pass.specs.declared.marking.MarkTable.{MarkTable}
 use Rattle.clobber_pass.specs.Logged.{is_logged}
 
@@ -32,22 +33,6 @@ logs true Tick = []
 logs true (Trap kind) = []
 logs true (Log target) = []
 
-abbrev pub is_log : Instruction → Bool
-is_log (Log target) = true
-is_log (Const to value) = false
-is_log (Copy to from) = false
-is_log (Bin op to left right) = false
-is_log (Jump place) = false
-is_log (Branch on place) = false
-is_log (Load to target) = false
-is_log (Store target from line) = false
-is_log (New to kind log_fill line) = false
-is_log (Free from kind line) = false
-is_log (Call to function args) = false
-is_log (Return from) = false
-is_log Tick = false
-is_log (Trap kind) = false
-
 -- the number of places of an instruction with its log; a log that was there before takes none
 abbrev pub logged_width : Bool → Instruction → ℕ
 logged_width flag i = length (logs flag i) + (if is_log i then 0 else 1)
@@ -60,10 +45,6 @@ abbrev pub places_from : (flags : List Bool) (k at : ℕ) → List Instruction �
 places_from flags k at [] = at ∷ []
 places_from flags k at (i ∷ is) =
     at ∷ places_from flags (suc k) (at + logged_width (flag_at flags k) i) is
-
--- a place outside the code stays outside
-abbrev pub place_in : List ℕ → ℕ → ℕ
-place_in places t = slice_index_or places t (2 ^ 32 - 1)
 
 -- the instruction with its jumps mapped to their new places, and with the flag of a fill
 abbrev pub led : List ℕ → Bool → Instruction → Instruction

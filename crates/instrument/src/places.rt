@@ -2,7 +2,7 @@
 
 ghost use Rattle.std.specs.Prelude.{◌≡◌, ◌<◌, ◌≤◌, ◌+◌, ◌^◌, length, IfOk};
 ghost use Rattle.instrument.specs.Insert.{logged_width, flag_at, flagged, flags_from, places_from};
-ghost use Rattle.instrument.specs.Insert.{place_in};
+ghost use Rattle.ir.specs.Moving.{place_in};
 
 use clobber_pass::MarkTable;
 use ir::{Instruction, Site};

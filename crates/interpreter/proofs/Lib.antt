@@ -2,4 +2,5 @@ pub mod Tops
 pub mod Ends
 pub mod Numbers
 pub mod Ticks
+pub mod Unplaced
 pub mod Resume

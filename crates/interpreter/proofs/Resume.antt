@@ -14,7 +14,7 @@ use Rattle.c_tree.specs.StmtTree.{StmtTree, DeclarationTree, InitialTree}
 use Rattle.c_tree.specs.StmtTree as stmt
 use Rattle.c_tree.specs.ItemTree.{FunctionTree}
 use Rattle.c_types.specs.Tables.{Tables, function_named}
-use Rattle.pool_map.specs.declared.trap.TrapKind.{TrapKind}
+use Rattle.interpreter.specs.declared.fault.TrapAt.{TrapAt}
 use Rattle.pool_map.specs.declared.trap.TrapKind.TheVariants as trap
 use Rattle.pool_map.specs.PoolMap.{PoolMap}
 use Rattle.interpreter.specs.declared.fault.Fault.{Fault}
@@ -27,14 +27,14 @@ use Rattle.interpreter.specs.declared.work.Work.TheVariants as work
 use Rattle.interpreter.specs.declared.work.Flow.{Flow}
 use Rattle.interpreter.specs.declared.work.Flow.TheVariants as flow
 use Rattle.c_meaning.specs.Locals.{Local, value_named, assigned}
-use Rattle.c_meaning.specs.Access.{target_field, word_named}
-use Rattle.c_meaning.specs.Meaning.{Out, Got, Stops, StmtEnd, Next, Gave, Traps, Calls, then_do}
-use Rattle.c_meaning.specs.Meaning.{with_value, at_zero, after_turn, tick, or_trap, loaded}
-use Rattle.c_meaning.specs.Meaning.{stored_end, called, value_of, pointer_of, values_of}
-use Rattle.c_meaning.specs.Meaning.{operands_of, assign_to, update, target_local, end_of_simple}
-use Rattle.c_meaning.specs.Meaning.{declaration_end, return_end, condition_of, end_of_stmt}
-use Rattle.c_meaning.specs.Meaning.{function_value}
-use Rattle.c_meaning.specs.Transaction.{Outcome, Done, Trap, outcome}
+use Rattle.interpreter.specs.Placed.{Out, Got, Stops, StmtEnd, Next, Gave, Traps, Calls, then_do}
+use Rattle.c_meaning.specs.Meaning.{at_zero, tick, target_local}
+use Rattle.interpreter.specs.Placed.{with_value, after_turn, or_trap, loaded}
+use Rattle.interpreter.specs.Placed.{stored_end, called, value_of, pointer_of, values_of}
+use Rattle.interpreter.specs.Placed.{operands_of, assign_to, update, end_of_simple}
+use Rattle.interpreter.specs.Placed.{declaration_end, return_end, condition_of, end_of_stmt}
+use Rattle.interpreter.specs.Placed.{function_value, trap_at, word_at, unplaced, trap_place}
+use Rattle.interpreter.specs.Placed.{Outcome, Done, Trap, outcome}
 use Rattle.interpreter.specs.inside.Todo.{Todo, todo_of}
 use Rattle.interpreter.specs.inside.Todo as todo
 use Rattle.interpreter.specs.inside.Resume.{ResumeState, Goes, calls, newest, pushed, laid}
@@ -45,7 +45,7 @@ use Rattle.interpreter.specs.inside.Resume.{left_function, todo_act, ended, resu
 use Rattle.interpreter.specs.inside.Resume.{right_of, right_todo, end_at, LeadsToOutcome}
 use Rattle.c_meaning.specs.Operators.{binary_of}
 use Rattle.interpreter.specs.Answers.{PlainAnswers}
-use Rattle.interpreter.specs.inside.Answers.{plain_answer}
+use Rattle.interpreter.specs.inside.Answers.{plain_answer, place_answer}
 use Rattle.interpreter.proofs.Ticks.{within-calls, within-condition, ends-body, ends-third}
 use Rattle.interpreter.proofs.Ticks.{turns-more}
 
@@ -68,7 +68,7 @@ pushed-then go next vs below ls (Stops trap) f h = refl
 
 -- a trap ends the whole remaining run
 pub resume-traps : (t : Tables) (xs : List Todo) (vs : List ℤ) (below : List (List Local))
-    (kind : TrapKind)
+    (kind : TrapAt)
     → resume t xs vs below (Traps kind) ≡ Trap kind
 resume-traps t [] vs below kind = refl
 resume-traps t (todo.Expr task e ∷ xs) vs below kind = resume-traps t xs vs below kind
@@ -172,12 +172,12 @@ forget-then t s a = ended-with t (seen s) (resume t (todo.Word word_task.Forget 
     s.below s.top a _ (λ v p k. refl)
 
 pub free-then : (t : Tables) (s : ResumeState) (place : ℕ) (e : ExprTree)
-    → pushed (resume t (todo.Expr expr_task.Free e ∷ seen s)) s.values s.below s.top
+    → pushed (resume t (todo.Expr (expr_task.Free place) e ∷ seen s)) s.values s.below s.top
     (value_of t (calls t s.below) e s.top s.pool s.ticks)
     ≡ resume t (seen s) s.values s.below
     (end_of_simple t (calls t s.below) (stmt.Free place e) s.top s.pool s.ticks)
-free-then t s place e = ended-with t (seen s) (resume t (todo.Expr expr_task.Free e ∷ seen s))
-    s.values s.below s.top
+free-then t s place e = ended-with t (seen s)
+    (resume t (todo.Expr (expr_task.Free place) e ∷ seen s)) s.values s.below s.top
     (value_of t (calls t s.below) e s.top s.pool s.ticks) _ (λ v p k. refl)
 
 -- one turn of a loop
@@ -256,7 +256,7 @@ pushed_all-call : (t : Tables) (xs : List Todo) (vs : List ℤ) (below : List (L
     (ls : List Local) (f : FunctionTree) (n : ℕ) (a : Out (List ℤ)) → Counted n a
     → pushed_all (resume t (todo.Call f n ∷ xs)) vs below ls a
     ≡ pushed (resume t xs) vs below ls
-    (then_do a (λ vs p k. tick k (Stops trap.Steps) (λ k. calls t below f vs p k)))
+    (then_do a (λ vs p k. tick k (Stops (trap_at trap.Steps None)) (λ k. calls t below f vs p k)))
 pushed_all-call t xs vs below ls f n (Got args p k) is =
     rw (taken-laid n args vs is, dropped-laid n args vs is) refl
 pushed_all-call t xs vs below ls f n (Stops trap) is = refl
@@ -356,7 +356,7 @@ shaped-operands t cs (expr.Binary op place a b) ls p k = λ vs. (refl, refl, ref
 by-load : (t : Tables) (s : ResumeState) (e : ExprTree) (o : Out (ℤ × Option ℤ)) → Shaped e o
     → pushed_operands (resume t (todo.Expr expr_task.Load e ∷ seen s)) s.values s.below s.top o
     ≡ pushed (resume t (seen s)) s.values s.below s.top
-    (then_do o (λ o p k. loaded (word_named t s.top p (target_field e) o.0 o.1) p k))
+    (then_do o (λ o p k. loaded (word_at t s.top p e o.0 o.1) p k))
 by-load t s e (Got o p k) h = let fits = h s.values in rw (fits.0, fits.1, fits.2) refl
 by-load t s e (Stops trap) h = refl
 
@@ -412,7 +412,7 @@ stored-fits : (t : Tables) (s : ResumeState) (e : ExprTree) (o : ℤ × Option �
     (k : ℕ) → Fits e o
     → resume t (seen s) (under e (with_index o.1 (o.0 ∷ s.values))) s.below
     (stored_end (target_word t e (with_index o.1 (o.0 ∷ s.values)) s.top p) v s.top p k)
-    ≡ resume t (seen s) s.values s.below (stored_end (word_named t s.top p (target_field e) o.0 o.1)
+    ≡ resume t (seen s) s.values s.below (stored_end (word_at t s.top p e o.0 o.1)
     v s.top p k)
 stored-fits t s e o v p k h = let fits = h s.values in rw (fits.0, fits.1, fits.2) refl
 
@@ -421,11 +421,11 @@ by-store : (t : Tables) (s : ResumeState) (e : ExprTree) (o : ℤ × Option ℤ)
     → pushed (resume t (todo.Expr expr_task.Store e ∷ seen s)) (with_index o.1 (o.0 ∷ s.values))
     s.below s.top a
     ≡ resume t (seen s) s.values s.below
-    (with_value a (λ v p k. stored_end (word_named t s.top p (target_field e) o.0 o.1) v
+    (with_value a (λ v p k. stored_end (word_at t s.top p e o.0 o.1) v
     s.top p k))
 by-store t s e o a h = ended-onto t (seen s) (resume t (todo.Expr expr_task.Store e ∷ seen s))
     (with_index o.1 (o.0 ∷ s.values)) s.values s.below s.top a
-    (λ v p k. stored_end (word_named t s.top p (target_field e) o.0 o.1) v s.top p k)
+    (λ v p k. stored_end (word_at t s.top p e o.0 o.1) v s.top p k)
     (λ v p k. stored-fits t s e o v p k h)
 
 by-set : (t : Tables) (s : ResumeState) (e right : ExprTree) (o : Out (ℤ × Option ℤ)) → Shaped e o
@@ -433,7 +433,7 @@ by-set : (t : Tables) (s : ResumeState) (e right : ExprTree) (o : Out (ℤ × Op
     ∷ seen s)) s.values s.below s.top o
     ≡ resume t (seen s) s.values s.below
     (with_value o (λ o p k. with_value (value_of t (calls t s.below) right s.top p k)
-    (λ v p k. stored_end (word_named t s.top p (target_field e) o.0 o.1) v s.top p k)))
+    (λ v p k. stored_end (word_at t s.top p e o.0 o.1) v s.top p k)))
 by-set t s e right (Stops trap) h = sym (resume-traps t (seen s) s.values s.below trap)
 by-set t s e right (Got o p k) h = by-store t s e o (value_of t (calls t s.below) right s.top p k) h
 
@@ -485,23 +485,23 @@ by-binary : (t : Tables) (s : ResumeState) (x : Todo) (op : BinaryOp) (xs : List
     (p : PoolMap) (k : ℕ) → IsRight t s x right
     → ((v : ℤ) (p : PoolMap) (k : ℕ) → resume t xs (v ∷ vs) s.below (Next s.top p k)
     ≡ resume t (seen s) s.values s.below (f v p k))
-    → resume t (x ∷ todo.Word (word_task.Binary op) ∷ xs) (left_function ∷ vs) s.below
+    → resume t (x ∷ todo.Word (word_task.Binary op None) ∷ xs) (left_function ∷ vs) s.below
     (Next s.top p k)
     ≡ resume t (seen s) s.values s.below
     (with_value (right p k) (λ y p k.
-    with_value (or_trap (binary_of op left_function y) trap.Divide p k) f))
+    with_value (or_trap (binary_of op left_function y) (trap_at trap.Divide None) p k) f))
 by-binary t s x op xs vs left_function right f p k is h =
-    is (resume t (todo.Word (word_task.Binary op) ∷ xs)) (left_function ∷ vs) p k
-    ∙ ended-onto t (seen s) (resume t (todo.Word (word_task.Binary op) ∷ xs)) (left_function ∷ vs)
-    s.values s.below s.top (right p k)
-    (λ y p k. with_value (or_trap (binary_of op left_function y) trap.Divide p k) f)
+    is (resume t (todo.Word (word_task.Binary op None) ∷ xs)) (left_function ∷ vs) p k
+    ∙ ended-onto t (seen s) (resume t (todo.Word (word_task.Binary op None) ∷ xs))
+    (left_function ∷ vs) s.values s.below s.top (right p k)
+    (λ y p k. with_value (or_trap (binary_of op left_function y) (trap_at trap.Divide None) p k) f)
     (λ y p k. ended-onto t (seen s) (resume t xs) vs s.values s.below s.top
-    (or_trap (binary_of op left_function y) trap.Divide p k) f h)
+    (or_trap (binary_of op left_function y) (trap_at trap.Divide None) p k) f h)
 
 pub update-local : (t : Tables) (s : ResumeState) (e : ExprTree) (name : List ℕ) (x : Todo)
     (op : BinaryOp) (right : PoolMap → ℕ → Out ℤ) → target_local e ≡ Some name → IsRight t s x right
-    → pushed (resume t (x ∷ todo.Word (word_task.Binary op) ∷ todo.Assign name ∷ seen s)) s.values
-    s.below s.top (value_of t (calls t s.below) e s.top s.pool s.ticks)
+    → pushed (resume t (x ∷ todo.Word (word_task.Binary op None) ∷ todo.Assign name ∷ seen s))
+    s.values s.below s.top (value_of t (calls t s.below) e s.top s.pool s.ticks)
     ≡ resume t (seen s) s.values s.below
     (update t (calls t s.below) (target_local e) e op right s.top s.pool s.ticks)
 update-local t s e name x op right is h =
@@ -511,31 +511,32 @@ update-local t s e name x op right is h =
 
 by-update : (t : Tables) (s : ResumeState) (e : ExprTree) (x : Todo) (op : BinaryOp)
     (right : PoolMap → ℕ → Out ℤ) (o : Out (ℤ × Option ℤ)) → IsRight t s x right → Shaped e o
-    → pushed_operands (resume t (todo.Expr expr_task.Fetch e ∷ x ∷ todo.Word (word_task.Binary op)
-    ∷ todo.Expr expr_task.Store e ∷ seen s)) s.values s.below s.top o
+    → pushed_operands (resume t (todo.Expr expr_task.Fetch e ∷ x
+    ∷ todo.Word (word_task.Binary op None) ∷ todo.Expr expr_task.Store e ∷ seen s))
+    s.values s.below s.top o
     ≡ resume t (seen s) s.values s.below
     (with_value o (λ o p k. with_value
-    (loaded (word_named t s.top p (target_field e) o.0 o.1) p k)
+    (loaded (word_at t s.top p e o.0 o.1) p k)
     (λ x p k. with_value (right p k)
-    (λ y p k. with_value (or_trap (binary_of op x y) trap.Divide p k)
-    (λ v p k. stored_end (word_named t s.top p (target_field e) o.0 o.1) v s.top p k)))))
+    (λ y p k. with_value (or_trap (binary_of op x y) (trap_at trap.Divide None) p k)
+    (λ v p k. stored_end (word_at t s.top p e o.0 o.1) v s.top p k)))))
 by-update t s e x op right (Stops trap) is h = sym (resume-traps t (seen s) s.values s.below trap)
 by-update t s e x op right (Got o p k) is h =
     let fits = h s.values in
     let store = todo.Expr expr_task.Store e ∷ seen s in
     rw (fits.0, fits.1, fits.2) (ended-onto t (seen s)
-    (resume t (x ∷ todo.Word (word_task.Binary op) ∷ store)) (with_index o.1 (o.0 ∷ s.values))
+    (resume t (x ∷ todo.Word (word_task.Binary op None) ∷ store)) (with_index o.1 (o.0 ∷ s.values))
     s.values s.below s.top
-    (loaded (word_named t s.top p (target_field e) o.0 o.1) p k) _
+    (loaded (word_at t s.top p e o.0 o.1) p k) _
     (λ l p k. by-binary t s x op store (with_index o.1 (o.0 ∷ s.values)) l right
-    (λ v p k. stored_end (word_named t s.top p (target_field e) o.0 o.1) v s.top p k) p k is
+    (λ v p k. stored_end (word_at t s.top p e o.0 o.1) v s.top p k) p k is
     (λ v p k. stored-fits t s e o v p k h)))
 
 pub update-field : (t : Tables) (s : ResumeState) (e : ExprTree) (x : Todo) (op : BinaryOp)
     (right : PoolMap → ℕ → Out ℤ) → target_local e ≡ None → IsRight t s x right
-    → pushed_operands (resume t (todo.Expr expr_task.Fetch e ∷ x ∷ todo.Word (word_task.Binary op)
-    ∷ todo.Expr expr_task.Store e ∷ seen s)) s.values s.below s.top
-    (operands_of t (calls t s.below) e s.top s.pool s.ticks)
+    → pushed_operands (resume t (todo.Expr expr_task.Fetch e ∷ x
+    ∷ todo.Word (word_task.Binary op None) ∷ todo.Expr expr_task.Store e ∷ seen s))
+    s.values s.below s.top (operands_of t (calls t s.below) e s.top s.pool s.ticks)
     ≡ resume t (seen s) s.values s.below
     (update t (calls t s.below) (target_local e) e op right s.top s.pool s.ticks)
 update-field t s e x op right is h =
@@ -556,7 +557,15 @@ ended-at (flow.Return v) vs ls p k = refl
 
 -- an answer says how the run ended
 pub answered : (r : Result (PoolMap × ℤ) Fault) (out : Outcome)
-    → LeadsToOutcome r out (λ done. Done done.0 done.1) → PlainAnswers (plain_answer r) out
-answered (Ok done) out h = sym h
+    → LeadsToOutcome r out (λ done. Done done.0 done.1)
+    → PlainAnswers (plain_answer r) (unplaced out)
+answered (Ok done) out h = sym (ap unplaced h)
 answered (Err NoMemory) out h = tt
-answered (Err (Trapped kind)) out h = h
+answered (Err (Trapped trap)) out h = ap unplaced h
+
+pub placed : {E : Type 0} (r : Result (PoolMap × ℤ) Fault) (e : E) (out : Outcome)
+    → LeadsToOutcome r out (λ done. Done done.0 done.1)
+    → IfOk (place_answer r e) (λ place. place ≡ trap_place out)
+placed (Ok done) e out h = ap trap_place h
+placed (Err NoMemory) e out h = tt
+placed (Err (Trapped trap)) e out h = sym (ap trap_place h)

@@ -17,22 +17,24 @@ use Rattle.c_tree.specs.declared.stmt.StepOp.{StepOp}
 use Rattle.c_tree.specs.declared.stmt.StepOp.TheVariants as step
 use Rattle.std.specs.Option.{option_map_or}
 use Rattle.c_types.specs.Tables.{Tables, function_named}
-use Rattle.pool_map.specs.declared.trap.TrapKind.{TrapKind}
+use Rattle.interpreter.specs.declared.fault.TrapAt.{TrapAt}
 use Rattle.pool_map.specs.declared.trap.TrapKind.TheVariants as trap
 use Rattle.pool_map.specs.PoolMap.{PoolMap}
 use Rattle.c_meaning.specs.declared.word.Word.{Word}
 use Rattle.c_meaning.specs.Locals.{Local, bound}
-use Rattle.c_meaning.specs.Access.{word_named, target_field, free_object}
+use Rattle.c_meaning.specs.Access.{free_object}
 use Rattle.c_meaning.specs.Operators.{binary_of}
 use Rattle.interpreter.specs.inside.Resume.{body_end}
-use Rattle.c_meaning.specs.Meaning.{Out, Got, Stops, StmtEnd, Next, Broke, Again, Gave, Traps}
-use Rattle.c_meaning.specs.Meaning.{Calls, then_do, with_value, then_next, at_zero, tick, or_trap}
-use Rattle.c_meaning.specs.Meaning.{loaded, strict, both, either, binary_means, called}
-use Rattle.c_meaning.specs.Meaning.{value_of, pointer_of, values_of, operands_of, stored_end}
-use Rattle.c_meaning.specs.Meaning.{assign_to, update, target_local, freed, assign_end, steps}
-use Rattle.c_meaning.specs.Meaning.{end_of_simple, declaration_end, end_of_first, end_of_third}
-use Rattle.c_meaning.specs.Meaning.{condition_of, return_end, in_scope, after_turn, turns}
-use Rattle.c_meaning.specs.Meaning.{end_of_stmt, ends_of, given, calls_of}
+use Rattle.interpreter.specs.Placed.{Out, Got, Stops, StmtEnd, Next, Broke, Again, Gave, Traps}
+use Rattle.c_meaning.specs.Meaning.{at_zero, tick, target_local}
+use Rattle.interpreter.specs.Placed.{Calls, then_do, with_value, then_next, or_trap}
+use Rattle.interpreter.specs.Placed.{loaded, strict, both, either, binary_means, called}
+use Rattle.interpreter.specs.Placed.{value_of, pointer_of, values_of, operands_of, stored_end}
+use Rattle.interpreter.specs.Placed.{assign_to, update, freed, assign_end, steps}
+use Rattle.interpreter.specs.Placed.{end_of_simple, declaration_end, end_of_first, end_of_third}
+use Rattle.interpreter.specs.Placed.{condition_of, return_end, in_scope, after_turn, turns}
+use Rattle.interpreter.specs.Placed.{end_of_stmt, ends_of, given, calls_of, trap_at, word_at}
+use Rattle.interpreter.specs.Placed.{at_place}
 
 -- at most n ticks are left
 abbrev pub Within : {A : Type 0} → ℕ → Out A → Type 0
@@ -61,17 +63,17 @@ within-zero n (pos zero) a b ha hb = ha
 within-zero n (pos (suc x)) a b ha hb = hb
 within-zero n (negsuc x) a b ha hb = hb
 
-within-or_trap : {A : Type 0} (n : ℕ) (o : Option A) (t : TrapKind) (p : PoolMap) (k : ℕ) → k ≤ n
+within-or_trap : {A : Type 0} (n : ℕ) (o : Option A) (t : TrapAt) (p : PoolMap) (k : ℕ) → k ≤ n
     → Within n (or_trap o t p k)
 within-or_trap n None t p k le = tt
 within-or_trap n (Some a) t p k le = le
 
-within-loaded : (n : ℕ) (r : Result Word TrapKind) (p : PoolMap) (k : ℕ) → k ≤ n
+within-loaded : (n : ℕ) (r : Result Word TrapAt) (p : PoolMap) (k : ℕ) → k ≤ n
     → Within n (loaded r p k)
 within-loaded n (Ok w) p k le = le
 within-loaded n (Err t) p k le = tt
 
-within-tick : {A : Type 0} (n k : ℕ) (t : TrapKind) (go : ℕ → Out A) → k ≤ n
+within-tick : {A : Type 0} (n k : ℕ) (t : TrapAt) (go : ℕ → Out A) → k ≤ n
     → ((m : ℕ) → m ≤ n → Within n (go m)) → Within n (tick k (Stops t) go)
 within-tick n zero t go le h = tt
 within-tick n (suc k) t go le h = h k (omega (arith, le))
@@ -80,12 +82,13 @@ within-tick n (suc k) t go le h = h k (omega (arith, le))
 abbrev Keeps : (PoolMap → ℕ → Out ℤ) → Type 0
 Keeps b = (p : PoolMap) (k n : ℕ) → k ≤ n → Within n (b p k)
 
-within-joined : (n : ℕ) (op : BinaryOp) (a : Out ℤ) (b : PoolMap → ℕ → Out ℤ) → Within n a → Keeps b
-    → Within n (strict op a b)
-within-joined n op a b ha hb =
+within-joined : (n : ℕ) (op : BinaryOp) (spot : Option ℕ) (a : Out ℤ) (b : PoolMap → ℕ → Out ℤ)
+    → Within n a → Keeps b
+    → Within n (strict op spot a b)
+within-joined n op spot a b ha hb =
     within-then n a _ ha (λ x p k le.
     within-then n (b p k) _ (hb p k n le) (λ y p k le.
-    within-or_trap n (binary_of op x y) trap.Divide p k le))
+    within-or_trap n (binary_of op x y) (trap_at trap.Divide spot) p k le))
 
 within-truth : (n : ℕ) (b : Out ℤ) → Within n b
     → Within n (then_do b (λ y p k. Got (at_zero y (pos 0) (pos 1)) p k))
@@ -101,26 +104,28 @@ within-either : (n : ℕ) (a : Out ℤ) (b : PoolMap → ℕ → Out ℤ) → Wi
 within-either n a b ha hb = within-then n a _ ha (λ x p k le.
     within-zero n x _ (Got (pos 1) p k) (within-truth n (b p k) (hb p k n le)) le)
 
-within-binary : (n : ℕ) (op : BinaryOp) (a : Out ℤ) (b : PoolMap → ℕ → Out ℤ) → Within n a → Keeps b
-    → Within n (binary_means op a b)
-within-binary n binary.Both a b ha hb = within-both n a b ha hb
-within-binary n binary.Either a b ha hb = within-either n a b ha hb
-within-binary n binary.Mul a b ha hb = within-joined n binary.Mul a b ha hb
-within-binary n binary.Div a b ha hb = within-joined n binary.Div a b ha hb
-within-binary n binary.Rem a b ha hb = within-joined n binary.Rem a b ha hb
-within-binary n binary.Add a b ha hb = within-joined n binary.Add a b ha hb
-within-binary n binary.Sub a b ha hb = within-joined n binary.Sub a b ha hb
-within-binary n binary.ShiftLeft a b ha hb = within-joined n binary.ShiftLeft a b ha hb
-within-binary n binary.ShiftRight a b ha hb = within-joined n binary.ShiftRight a b ha hb
-within-binary n binary.Less a b ha hb = within-joined n binary.Less a b ha hb
-within-binary n binary.LessEqual a b ha hb = within-joined n binary.LessEqual a b ha hb
-within-binary n binary.Greater a b ha hb = within-joined n binary.Greater a b ha hb
-within-binary n binary.GreaterEqual a b ha hb = within-joined n binary.GreaterEqual a b ha hb
-within-binary n binary.Equal a b ha hb = within-joined n binary.Equal a b ha hb
-within-binary n binary.NotEqual a b ha hb = within-joined n binary.NotEqual a b ha hb
-within-binary n binary.And a b ha hb = within-joined n binary.And a b ha hb
-within-binary n binary.Xor a b ha hb = within-joined n binary.Xor a b ha hb
-within-binary n binary.Or a b ha hb = within-joined n binary.Or a b ha hb
+within-binary : (n : ℕ) (op : BinaryOp) (spot : Option ℕ) (a : Out ℤ) (b : PoolMap → ℕ → Out ℤ)
+    → Within n a → Keeps b
+    → Within n (binary_means op spot a b)
+within-binary n binary.Both spot a b ha hb = within-both n a b ha hb
+within-binary n binary.Either spot a b ha hb = within-either n a b ha hb
+within-binary n binary.Mul spot a b ha hb = within-joined n binary.Mul spot a b ha hb
+within-binary n binary.Div spot a b ha hb = within-joined n binary.Div spot a b ha hb
+within-binary n binary.Rem spot a b ha hb = within-joined n binary.Rem spot a b ha hb
+within-binary n binary.Add spot a b ha hb = within-joined n binary.Add spot a b ha hb
+within-binary n binary.Sub spot a b ha hb = within-joined n binary.Sub spot a b ha hb
+within-binary n binary.ShiftLeft spot a b ha hb = within-joined n binary.ShiftLeft spot a b ha hb
+within-binary n binary.ShiftRight spot a b ha hb = within-joined n binary.ShiftRight spot a b ha hb
+within-binary n binary.Less spot a b ha hb = within-joined n binary.Less spot a b ha hb
+within-binary n binary.LessEqual spot a b ha hb = within-joined n binary.LessEqual spot a b ha hb
+within-binary n binary.Greater spot a b ha hb = within-joined n binary.Greater spot a b ha hb
+within-binary n binary.GreaterEqual spot a b ha hb =
+    within-joined n binary.GreaterEqual spot a b ha hb
+within-binary n binary.Equal spot a b ha hb = within-joined n binary.Equal spot a b ha hb
+within-binary n binary.NotEqual spot a b ha hb = within-joined n binary.NotEqual spot a b ha hb
+within-binary n binary.And spot a b ha hb = within-joined n binary.And spot a b ha hb
+within-binary n binary.Xor spot a b ha hb = within-joined n binary.Xor spot a b ha hb
+within-binary n binary.Or spot a b ha hb = within-joined n binary.Or spot a b ha hb
 
 within-called : (n : ℕ) (calls : Calls) (o : Option FunctionTree) (arguments : FunctionTree
     → Out (List ℤ)) (p : PoolMap) (k : ℕ)
@@ -128,7 +133,7 @@ within-called : (n : ℕ) (calls : Calls) (o : Option FunctionTree) (arguments :
     → Within n (called calls o arguments p k)
 within-called n calls None arguments p k h ha le = le
 within-called n calls (Some f) arguments p k h ha le = within-then n (arguments f) _ (ha f)
-    (λ vs p k le. within-tick n k trap.Steps _ le (λ m le. h f vs p m n le))
+    (λ vs p k le. within-tick n k (trap_at trap.Steps None) _ le (λ m le. h f vs p m n le))
 
 mutual
   pub within-value : (t : Tables) (calls : Calls) (h : CallsWithin calls) (e : ExprTree)
@@ -142,21 +147,21 @@ mutual
       (λ f. within-values t calls h all ls p k n le) le
   within-value t calls h (expr.New place name) ls p k n le = le
   within-value t calls h (expr.Root name) ls p k n le =
-      within-loaded n (word_named t ls p (expr.Root name) (pos 0) None) p k le
+      within-loaded n (word_at t ls p (expr.Root name) (pos 0) None) p k le
   within-value t calls h (expr.Arrow base place name) ls p k n le =
       within-then n (value_of t calls base ls p k) _
       (within-value t calls h base ls p k n le) (λ b p k le.
-      within-loaded n (word_named t ls p (expr.Arrow base place name) b None) p k le)
+      within-loaded n (word_at t ls p (expr.Arrow base place name) b None) p k le)
   within-value t calls h (expr.Index a place i) ls p k n le =
       within-then n (pointer_of t calls a ls p k) _ (within-pointer t calls h a ls p k n le)
       (λ b p k le. within-then n (value_of t calls i ls p k) _
       (within-value t calls h i ls p k n le)
-      (λ j p k le. within-loaded n (word_named t ls p a b (Some j)) p k le))
+      (λ j p k le. within-loaded n (word_at t ls p (expr.Index a place i) b (Some j)) p k le))
   within-value t calls h (expr.Unary op place a) ls p k n le =
       within-then n (value_of t calls a ls p k) _ (within-value t calls h a ls p k n le)
       (λ x p k le. le)
   within-value t calls h (expr.Binary op place a b) ls p k n le =
-      within-binary n op (value_of t calls a ls p k) _
+      within-binary n op (Some place) (value_of t calls a ls p k) _
       (within-value t calls h a ls p k n le) (λ p k n le. within-value t calls h b ls p k n le)
 
   pub within-pointer : (t : Tables) (calls : Calls) (h : CallsWithin calls) (e : ExprTree)
@@ -236,17 +241,17 @@ ends-zero n (pos zero) a b ha hb = ha
 ends-zero n (pos (suc x)) a b ha hb = hb
 ends-zero n (negsuc x) a b ha hb = hb
 
-ends-tick : (n k : ℕ) (kind : TrapKind) (go : ℕ → StmtEnd) → k ≤ n
+ends-tick : (n k : ℕ) (kind : TrapAt) (go : ℕ → StmtEnd) → k ≤ n
     → ((m : ℕ) → m ≤ n → Ends n (go m)) → Ends n (tick k (Traps kind) go)
 ends-tick n zero kind go le h = tt
 ends-tick n (suc k) kind go le h = h k (omega (arith, le))
 
-ends-stored : (n : ℕ) (r : Result Word TrapKind) (v : ℤ) (ls : List Local) (p : PoolMap) (k : ℕ)
+ends-stored : (n : ℕ) (r : Result Word TrapAt) (v : ℤ) (ls : List Local) (p : PoolMap) (k : ℕ)
     → k ≤ n → Ends n (stored_end r v ls p k)
 ends-stored n (Ok w) v ls p k le = le
 ends-stored n (Err kind) v ls p k le = tt
 
-ends-freed : (n : ℕ) (r : Result PoolMap TrapKind) (ls : List Local) (k : ℕ) → k ≤ n
+ends-freed : (n : ℕ) (r : Result PoolMap TrapAt) (ls : List Local) (k : ℕ) → k ≤ n
     → Ends n (freed r ls k)
 ends-freed n (Ok p) ls k le = le
 ends-freed n (Err kind) ls k le = tt
@@ -260,7 +265,7 @@ ends-assign_to t calls h (Some name) target value hv ls p k n le =
 ends-assign_to t calls h None target value hv ls p k n le =
     ends-with n (operands_of t calls target ls p k) _ (within-operands t calls h target ls p k n le)
     (λ o p k le. ends-with n (value p k) _ (hv p k n le) (λ v p k le.
-    ends-stored n (word_named t ls p (target_field target) o.0 o.1) v ls p k le))
+    ends-stored n (word_at t ls p target o.0 o.1) v ls p k le))
 
 ends-update : (t : Tables) (calls : Calls) (h : CallsWithin calls) (o : Option (List ℕ))
     (target : ExprTree) (op : BinaryOp) (value : PoolMap → ℕ → Out ℤ)
@@ -268,16 +273,16 @@ ends-update : (t : Tables) (calls : Calls) (h : CallsWithin calls) (o : Option (
     → Ends n (update t calls o target op value ls p k)
 ends-update t calls h (Some name) target op value hv ls p k n le =
     ends-with n (value p k) _ (hv p k n le)
-    (λ y p k le. ends-with n (or_trap (binary_of op _ y) trap.Divide p k) _
-    (within-or_trap n (binary_of op _ y) trap.Divide p k le) (λ v p k le. le))
+    (λ y p k le. ends-with n (or_trap (binary_of op _ y) (trap_at trap.Divide None) p k) _
+    (within-or_trap n (binary_of op _ y) (trap_at trap.Divide None) p k le) (λ v p k le. le))
 ends-update t calls h None target op value hv ls p k n le =
     ends-with n (operands_of t calls target ls p k) _ (within-operands t calls h target ls p k n le)
-    (λ o p k le. ends-with n (loaded (word_named t ls p (target_field target) o.0 o.1) p k) _
-    (within-loaded n (word_named t ls p (target_field target) o.0 o.1) p k le)
+    (λ o p k le. ends-with n (loaded (word_at t ls p target o.0 o.1) p k) _
+    (within-loaded n (word_at t ls p target o.0 o.1) p k le)
     (λ x p k le. ends-with n (value p k) _ (hv p k n le)
-    (λ y p k le. ends-with n (or_trap (binary_of op x y) trap.Divide p k) _
-    (within-or_trap n (binary_of op x y) trap.Divide p k le)
-    (λ v p k le. ends-stored n (word_named t ls p (target_field target) o.0 o.1) v ls p k le))))
+    (λ y p k le. ends-with n (or_trap (binary_of op x y) (trap_at trap.Divide None) p k) _
+    (within-or_trap n (binary_of op x y) (trap_at trap.Divide None) p k le)
+    (λ v p k le. ends-stored n (word_at t ls p target o.0 o.1) v ls p k le))))
 
 ends-assigns : (t : Tables) (calls : Calls) (h : CallsWithin calls) (op : AssignOp)
     (target e : ExprTree) (ls : List Local) (p : PoolMap) (k n : ℕ)
@@ -312,7 +317,7 @@ ends-simple t calls h (stmt.Call name all) ls p k n le =
     (within-value t calls h (expr.Call name all) ls p k n le) (λ v p k le. le)
 ends-simple t calls h (stmt.Free place e) ls p k n le =
     ends-with n (value_of t calls e ls p k) _ (within-value t calls h e ls p k n le)
-    (λ v p k le. ends-freed n (free_object t ls p e v) ls k le)
+    (λ v p k le. ends-freed n (at_place place (free_object t ls p e v)) ls k le)
 ends-simple t calls h (stmt.Abort place) ls p k n le = tt
 
 within-initial : (t : Tables) (calls : Calls) (h : CallsWithin calls) (o : Option InitialTree)
@@ -366,7 +371,8 @@ ends-turns : (m : ℕ) (test : List Local → PoolMap → ℕ → Out ℤ) (body
     (ls : List Local) (p : PoolMap) (k n : ℕ) → k ≤ n → Ends n (turns m test body third ls p k)
 ends-turns zero test body third ht hb h3 ls p k n le = tt
 ends-turns (suc m) test body third ht hb h3 ls p k n le =
-    ends-tick n k trap.Steps _ le (λ k le. ends-with n (test ls p k) _ (ht ls p k n le)
+    ends-tick n k (trap_at trap.Steps None) _ le
+    (λ k le. ends-with n (test ls p k) _ (ht ls p k n le)
     (λ v p k le. ends-zero n v (Next ls p k) _ le (ends-after n (body ls p k) _ (hb ls p k n le)
     (λ ls p k le. ends-then n (third ls p k) _ (h3 ls p k n le) (λ ls p k le.
     ends-turns m test body third ht hb h3 ls p k n le)))))

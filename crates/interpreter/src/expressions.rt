@@ -1,20 +1,20 @@
 //! Evaluating expressions.
 
-ghost use Rattle.std.specs.Prelude.{◌≡◌, OnOk};
+ghost use Rattle.std.specs.Prelude.{◌≡◌, OnOk, Some};
 ghost use Rattle.c_tree.specs.ExprTree as tree;
 ghost use Rattle.c_tree.specs.ExprTree.{expr_of, ident_of, arguments_in};
 ghost use Rattle.c_types.specs.Tables.{Tables};
 ghost use Rattle.c_types.specs.Views.{tables_in};
 ghost use Rattle.interpreter.specs.declared.work.ExprTask.TheVariants as task;
 ghost use Rattle.interpreter.specs.declared.work.WordTask.TheVariants as word_task;
-ghost use Rattle.c_meaning.specs.Meaning.{value_of, binary_means};
+ghost use Rattle.interpreter.specs.Placed.{value_of, binary_means};
 ghost use Rattle.interpreter.specs.inside.Todo as todo;
 ghost use Rattle.interpreter.specs.inside.Resume.{calls, todo_begun, resumed, resumed_with};
 ghost use Rattle.interpreter.specs.inside.Resume.{loaded_from, StepLeads};
 ghost use Rattle.interpreter.specs.inside.Answers.{Quiet};
 
 use crate::access::{free_object, load, new_object, store};
-use crate::fault::Fault;
+use crate::fault::{Fault, TrapAt};
 use crate::operators::{binary, unary};
 use crate::run::Run;
 use crate::work::{ExprTask, WordTask, Work};
@@ -51,10 +51,10 @@ impl<'a> Run<'a> {
             }
             Expr::Binary {
                 op,
+                place,
                 left,
                 right,
-                ..
-            } => self.plan_binary(*op, left, right),
+            } => self.plan_binary(*op, *place, left, right),
         }
     }
 
@@ -62,12 +62,13 @@ impl<'a> Run<'a> {
     fn plan_binary(
         &mut self,
         op: BinaryOp,
+        place: u64,
         left: &'a Expr,
         right: &'a Expr,
     ) -> Result<(), AllocError>
         ensures { (t : Tables) → OnOk result
             (resumed t self.new ≡ resumed_with t self.old
-            (binary_means op (value_of t (calls t self.old.below) (expr_of left.now) self.old.top
+            (binary_means op (Some place) (value_of t (calls t self.old.below) (expr_of left.now) self.old.top
             self.old.pool self.old.ticks) (λ p k.
             value_of t (calls t self.old.below) (expr_of right.now) self.old.top p k))) }
     {
@@ -81,7 +82,7 @@ impl<'a> Run<'a> {
                 self.plan_expr(ExprTask::Eval, left)
             }
             _ => {
-                self.plan(Work::Word(WordTask::Binary(op)))?;
+                self.plan(Work::Word(WordTask::Binary(op, Some(place))))?;
                 self.plan_expr(ExprTask::Eval, right)?;
                 self.plan_expr(ExprTask::Eval, left)
             }
@@ -141,15 +142,18 @@ impl<'a> Run<'a> {
         self.give(unary(op, operand))
     }
 
-    pub fn binary(&mut self, op: BinaryOp) -> Result<(), Fault>
+    pub fn binary(&mut self, op: BinaryOp, place: Option<u64>) -> Result<(), Fault>
         ensures quiet { Quiet result }
-        ensures does { (t : Tables) → StepLeads t (todo.Word (word_task.Binary op)) self.old result
-            self.new }
+        ensures does { (t : Tables) → StepLeads t (todo.Word (word_task.Binary op place)) self.old
+            result self.new }
     {
         let right = self.take();
         let left = self.take();
         match binary(op, left, right) {
-            None => Err(Fault::Trapped(TrapKind::Divide)),
+            None => Err(Fault::Trapped(TrapAt {
+                kind: TrapKind::Divide,
+                place,
+            })),
             Some(value) => {
                 self.give(value)?;
                 Ok(())
@@ -237,13 +241,15 @@ impl<'a> Run<'a> {
     }
 
     #[tactic(auto, using(crate::proofs::Resume::traps))]
-    pub fn free(&mut self, program: &Program<'a>, pointer: &Expr) -> Result<(), Fault>
+    pub fn free(&mut self, program: &Program<'a>, place: u64, pointer: &Expr) -> Result<(), Fault>
         ensures quiet { Quiet result }
-        ensures does { StepLeads (tables_in program.now) (todo.Expr task.Free (expr_of pointer.now))
-            self.old result self.new }
+        ensures does { StepLeads (tables_in program.now)
+            (todo.Expr (task.Free place) (expr_of pointer.now)) self.old result self.new }
     {
         let word = self.take();
-        free_object(program, &self.top, &mut self.pool, pointer, word)?;
-        Ok(())
+        match free_object(program, &self.top, &mut self.pool, pointer, word) {
+            Ok(()) => Ok(()),
+            Err(kind) => Err(Fault::Trapped(TrapAt::at(kind, place))),
+        }
     }
 }

@@ -1,15 +1,42 @@
 //! Why a run stops before its end.
 
-ghost use Rattle.std.specs.Prelude.{◌≡◌};
+ghost use Rattle.std.specs.Prelude.{◌≡◌, Some, None};
 ghost use Rattle.interpreter.specs.declared.fault.Fault.TheVariants.{NoMemory, Trapped};
+ghost use Rattle.interpreter.specs.Placed.{trap_at};
 
 use pool_map::TrapKind;
 use std::alloc::{AllocError, AllocFailed};
 
+/// A trap, and the place of the token where it came, if it has one.
+#[derive(Clone, Copy, Debug, PartialEq, Eq)]
+pub struct TrapAt {
+    pub kind: TrapKind,
+    pub place: Option<u64>,
+}
+
+impl TrapAt {
+    /// A trap of the ticks or of the depth, which has no place.
+    pub fn nowhere(kind: TrapKind) -> Self
+        ensures { result ≡ trap_at kind None }
+    {
+        TrapAt { kind, place: None }
+    }
+
+    /// A trap at this place.
+    pub fn at(kind: TrapKind, place: u64) -> Self
+        ensures { result ≡ trap_at kind (Some place) }
+    {
+        TrapAt {
+            kind,
+            place: Some(place),
+        }
+    }
+}
+
 /// A trap, or want of memory.
 #[derive(Clone, Copy, Debug, PartialEq, Eq)]
 pub enum Fault {
-    Trapped(TrapKind),
+    Trapped(TrapAt),
     NoMemory,
 }
 
@@ -29,10 +56,10 @@ impl<T: Drop> From<AllocFailed<T>> for Fault {
     }
 }
 
-impl From<TrapKind> for Fault {
-    ghost from_gives = { λ kind fault. fault ≡ Trapped kind };
+impl From<TrapAt> for Fault {
+    ghost from_gives = { λ trap fault. fault ≡ Trapped trap };
 
-    fn from(kind: TrapKind) -> Self {
-        Fault::Trapped(kind)
+    fn from(trap: TrapAt) -> Self {
+        Fault::Trapped(trap)
     }
 }

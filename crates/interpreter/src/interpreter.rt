@@ -1,6 +1,6 @@
 //! Calling a transaction.
 
-ghost use Rattle.std.specs.Prelude.{◌≡◌, ◌≢◌, Some, IfOk, option_map};
+ghost use Rattle.std.specs.Prelude.{◌≡◌, ◌≢◌, Some, IfOk, option_map, alloc_error};
 ghost use Rattle.c_tree.specs.ItemTree.{function_tree};
 ghost use Rattle.c_tree.specs.Program.{tree_of};
 ghost use Rattle.c_tree.specs.ExprTree.{expr_of};
@@ -13,8 +13,10 @@ ghost use Rattle.interpreter.specs.Answers.{PlainAnswers};
 ghost use Rattle.interpreter.specs.inside.Answers.{Quiet};
 ghost use Rattle.interpreter.specs.inside.Answers as inside_answers;
 ghost use Rattle.interpreter.specs.declared.work.Flow.TheVariants as flow;
-ghost use Rattle.c_meaning.specs.Transaction as meaning;
-ghost use Rattle.c_meaning.specs.Transaction.{transaction, transaction_means, Done};
+ghost use Rattle.interpreter.specs.Placed as meaning;
+ghost use Rattle.interpreter.specs.Placed.{Unplaced, placed_means};
+ghost use Rattle.c_meaning.specs.Transaction.{transaction, transaction_means};
+ghost use Rattle.interpreter.specs.Placed.{Done};
 ghost use Rattle.interpreter.specs.inside.Todo as todo;
 ghost use Rattle.interpreter.specs.inside.Todo.{todo_of};
 ghost use Rattle.interpreter.specs.inside.Resume.{todo_begun, begun_at, resumed, resumed_at};
@@ -67,10 +69,51 @@ fn answer_of(ended: Result<(Pool, i64), Fault>) -> PlainAnswer
 {
     match ended {
         Ok((pool, value)) => PlainAnswer::Done(pool, value),
-        Err(Fault::Trapped(kind)) => PlainAnswer::Trap(kind),
+        Err(Fault::Trapped(trap)) => PlainAnswer::Trap(trap.kind),
         Err(Fault::NoMemory) => PlainAnswer::NoMemory,
     }
 }
+
+/// The place where transaction `tx` traps, run as `plain_call` runs it: that of its token in the
+/// list of tokens, counted from 0. It is none if nothing traps, and if the trap is of the ticks or of
+/// the depth.
+pub fn trap_place(
+    alloc: Global,
+    typed: &Typed,
+    pool: &Pool,
+    tx: u64,
+    args: &[i64],
+    ticks: u64,
+) -> Result<Option<u64>, AllocError>
+    ensures { IfOk result (λ place. place ≡ meaning.trap_place
+        (placed_means (tables_of (tree_of typed.now)) pool.now tx args.now ticks)) }
+{
+    let Ok(program) = Program::new(alloc, typed.ast().items()) else {
+        return Err(AllocError);
+    };
+    let Ok(copy) = pool.copy() else {
+        return Err(AllocError);
+    };
+    match transaction(&program, tx) {
+        None => Ok(None),
+        Some(function) => place_of(run(alloc, &program, copy, function, args, ticks)),
+    }
+}
+
+fn place_of(ended: Result<(Pool, i64), Fault>) -> Result<Option<u64>, AllocError>
+    ensures { result ≡ inside_answers.place_answer ended alloc_error }
+{
+    match ended {
+        Ok(_) => Ok(None),
+        Err(Fault::Trapped(trap)) => Ok(trap.place),
+        Err(Fault::NoMemory) => Err(AllocError),
+    }
+}
+
+/// Without the places of its traps, the placed meaning is that of `c_meaning`.
+pub fn placed_law()
+    ensures { Unplaced }
+{}
 
 fn run<'a>(
     alloc: Global,
@@ -246,7 +289,7 @@ impl<'a> Run<'a> {
             ExprTask::Load => self.load(program, expr),
             ExprTask::Fetch => self.fetch(program, expr),
             ExprTask::Store => self.store(program, expr),
-            ExprTask::Free => self.free(program, expr),
+            ExprTask::Free(place) => self.free(program, place, expr),
         }
     }
 
@@ -278,7 +321,7 @@ impl<'a> Run<'a> {
         match task {
             WordTask::Put(word) => Ok(self.give(word)?),
             WordTask::Unary(op) => Ok(self.unary(op)?),
-            WordTask::Binary(op) => self.binary(op),
+            WordTask::Binary(op, place) => self.binary(op, place),
             WordTask::Truth => Ok(self.truth()?),
             WordTask::Forget => {
                 self.take();

@@ -12,10 +12,12 @@ mod fault;
 mod interpreter;
 mod locals;
 mod operators;
+mod places;
 mod run;
 mod stacks;
 mod statements;
 mod work;
 
 pub use answer::PlainAnswer;
-pub use interpreter::plain_call;
+pub use fault::TrapAt;
+pub use interpreter::{placed_law, plain_call, trap_place};

@@ -7,7 +7,7 @@ ghost use Rattle.c_tree.specs.ItemTree.{function_tree, parameter_of};
 ghost use Rattle.c_types.specs.Tables.{Tables};
 ghost use Rattle.c_types.specs.Views.{tables_in};
 ghost use Rattle.c_meaning.specs.Locals as local;
-ghost use Rattle.c_meaning.specs.Meaning as meaning;
+ghost use Rattle.interpreter.specs.Placed as meaning;
 ghost use Rattle.c_meaning.specs.Access as access;
 ghost use Rattle.interpreter.specs.inside.Todo as todo;
 ghost use Rattle.interpreter.specs.declared.work.Work.TheVariants as work;
@@ -15,11 +15,12 @@ ghost use Rattle.interpreter.specs.inside.Resume.{calls, newest, pointer_in, ind
 ghost use Rattle.interpreter.specs.inside.Resume.{with_index, planned, plan_going, resumed};
 ghost use Rattle.interpreter.specs.inside.Resume.{resumed_with, with_operands, with_end, entering};
 ghost use Rattle.interpreter.specs.inside.Resume.{left_function, StepLeads, Taken, Ticked};
-ghost use Rattle.interpreter.specs.inside.Answers.{Quiet, QuietTrap};
+ghost use Rattle.interpreter.specs.inside.Answers.{Quiet, QuietAt};
 
 use crate::access::word_named;
-use crate::fault::Fault;
+use crate::fault::{Fault, TrapAt};
 use crate::locals::{Locals, bound};
+use crate::places::target_place;
 use crate::stacks::{Frames, Plan, Values};
 use crate::work::{ExprTask, StmtTask, Work};
 use c_meaning::Word;
@@ -141,11 +142,11 @@ impl<'a> Run<'a> {
         }
     }
 
-    pub fn tick(&mut self) -> Result<(), TrapKind>
+    pub fn tick(&mut self) -> Result<(), TrapAt>
         ensures { Ticked result self.new self.old }
     {
         if self.ticks == 0 {
-            return Err(TrapKind::Steps);
+            return Err(TrapAt::nowhere(TrapKind::Steps));
         }
         self.ticks -= 1;
         Ok(())
@@ -225,24 +226,23 @@ impl<'a> Run<'a> {
         program: &Program<'a>,
         target: &Expr,
         operands: Operands,
-    ) -> Result<Word, TrapKind>
-        ensures value { result ≡ access.word_named (tables_in program.now) self.now.top
-            self.now.pool (access.target_field (expr_of target.now)) operands.pointer
-            operands.index }
-        ensures quiet { QuietTrap result }
+    ) -> Result<Word, TrapAt>
+        ensures value { result ≡ meaning.word_at (tables_in program.now) self.now.top
+            self.now.pool (expr_of target.now) operands.pointer operands.index }
+        ensures quiet { QuietAt result }
     {
         let field = match target {
             Expr::Index { base, .. } => base,
             _ => target,
         };
-        word_named(
-            program,
-            &self.top,
-            &self.pool,
-            field,
-            operands.pointer,
-            operands.index,
-        )
+        let Operands { pointer, index } = operands;
+        match word_named(program, &self.top, &self.pool, field, pointer, index) {
+            Ok(word) => Ok(word),
+            Err(kind) => Err(TrapAt {
+                kind,
+                place: target_place(target, kind),
+            }),
+        }
     }
 
     /// Opens a function, whose arguments are so many of the newest values. It takes a tick, and
@@ -260,7 +260,7 @@ impl<'a> Run<'a> {
     {
         self.tick()?;
         if self.below.count() >= OPEN - 1 {
-            return Err(Fault::Trapped(TrapKind::Depth));
+            return Err(Fault::Trapped(TrapAt::nowhere(TrapKind::Depth)));
         }
         self.open(alloc, program, function, count)?;
         Ok(())

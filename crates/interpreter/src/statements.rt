@@ -1,6 +1,6 @@
 //! Executing statements.
 
-ghost use Rattle.std.specs.Prelude.{◌≡◌, pos, OnOk, IfOk, option_map};
+ghost use Rattle.std.specs.Prelude.{◌≡◌, pos, None, OnOk, IfOk, option_map};
 ghost use Rattle.std.specs.Option.{option_map_or};
 ghost use Rattle.c_tree.specs.ExprTree.{expr_of};
 ghost use Rattle.c_tree.specs.StmtTree.{stmt_of, statements_in, simple_of, tree_of_first};
@@ -11,15 +11,16 @@ ghost use Rattle.interpreter.specs.declared.work.ExprTask.TheVariants as expr_ta
 ghost use Rattle.interpreter.specs.declared.work.StmtTask.TheVariants as task;
 ghost use Rattle.interpreter.specs.declared.work.Work.TheVariants as work;
 ghost use Rattle.interpreter.specs.declared.work.WordTask.TheVariants as word_task;
-ghost use Rattle.c_meaning.specs.Meaning as meaning;
-ghost use Rattle.c_meaning.specs.Meaning.{value_of};
+ghost use Rattle.c_meaning.specs.Meaning.{target_local};
+ghost use Rattle.interpreter.specs.Placed as meaning;
+ghost use Rattle.interpreter.specs.Placed.{value_of};
 ghost use Rattle.interpreter.specs.inside.Todo as todo;
 ghost use Rattle.interpreter.specs.inside.Resume.{calls, planned, todo_begun, resumed, resumed_at};
 ghost use Rattle.interpreter.specs.inside.Resume.{resumed_with, with_end, scoped, condition_in};
 ghost use Rattle.interpreter.specs.inside.Resume.{body_end, right_of, StepLeads, LeadsToOutcome};
 ghost use Rattle.interpreter.specs.inside.Answers.{Quiet};
 
-use crate::fault::Fault;
+use crate::fault::{Fault, TrapAt};
 use crate::locals::Locals;
 use crate::run::Run;
 use crate::work::{ExprTask, Flow, StmtTask, WordTask, Work};
@@ -32,7 +33,7 @@ use std::mem;
 
 /// The local that a target is, if it is one.
 fn local_of(target: &Expr) -> Option<&Name>
-    ensures { option_map (λ name. name.now.text) result ≡ meaning.target_local
+    ensures { option_map (λ name. name.now.text) result ≡ target_local
         (expr_of target.now) }
 {
     match target {
@@ -315,12 +316,12 @@ impl<'a> Run<'a> {
                 self.plan_call(program, name, arguments)?;
                 Ok(())
             }
-            Simple::Free { pointer, .. } => {
-                self.plan_expr(ExprTask::Free, pointer)?;
+            Simple::Free { place, pointer } => {
+                self.plan_expr(ExprTask::Free(*place), pointer)?;
                 self.plan_expr(ExprTask::Eval, pointer)?;
                 Ok(())
             }
-            Simple::Abort { .. } => Err(Fault::Trapped(TrapKind::Abort)),
+            Simple::Abort { place } => Err(Fault::Trapped(TrapAt::at(TrapKind::Abort, *place))),
         }
     }
 
@@ -359,7 +360,7 @@ impl<'a> Run<'a> {
         ensures { (t : Tables) → OnOk result
             (resumed t self.new ≡ with_end t self.old
             (meaning.assign_to t (calls t self.old.below)
-            (meaning.target_local (expr_of target.now)) (expr_of target.now)
+            (target_local (expr_of target.now)) (expr_of target.now)
             (λ p k. value_of t (calls t self.old.below) (expr_of value.now) self.old.top p k)
             self.old.top self.old.pool self.old.ticks)) }
     {
@@ -386,7 +387,7 @@ impl<'a> Run<'a> {
     ) -> Result<(), AllocError>
         ensures { (t : Tables) → OnOk result
             (resumed t self.new ≡ with_end t self.old
-            (meaning.update t (calls t self.old.below) (meaning.target_local (expr_of target.now))
+            (meaning.update t (calls t self.old.below) (target_local (expr_of target.now))
             (expr_of target.now) op (λ p k.
             right_of t (calls t self.old.below) (option_map (λ e. expr_of e.now) right.entry)
             self.old.top p k) self.old.top self.old.pool self.old.ticks)) }
@@ -411,9 +412,9 @@ impl<'a> Run<'a> {
         ensures { OnOk result (self.new
             ≡ planned (option_map_or (λ e. work.Expr expr_task.Eval e) right.entry
             (work.Word (word_task.Put (pos 1))))
-            (planned (work.Word (word_task.Binary op)) self.old)) }
+            (planned (work.Word (word_task.Binary op None)) self.old)) }
     {
-        self.plan(Work::Word(WordTask::Binary(op)))?;
+        self.plan(Work::Word(WordTask::Binary(op, None)))?;
         match right {
             None => self.plan(Work::Word(WordTask::Put(1))),
             Some(right) => self.plan_expr(ExprTask::Eval, right),

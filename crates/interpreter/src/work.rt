@@ -20,8 +20,8 @@ pub enum ExprTask {
     Fetch,
     /// Pops a word and then the target's operands; makes the checks and stores the word.
     Store,
-    /// Pops the pointer that it gave, and frees the object.
-    Free,
+    /// Pops the pointer that it gave, and frees the object; the place is that of `pm_free`.
+    Free(u64),
 }
 
 /// A task on a statement.
@@ -48,8 +48,9 @@ pub enum WordTask {
     Forget,
     /// Pops an operand and pushes the operator's result.
     Unary(UnaryOp),
-    /// Pops the right operand and the left one, and pushes the operator's result.
-    Binary(BinaryOp),
+    /// Pops the right operand and the left one, and pushes the operator's result; the place is
+    /// that of an operator in an expression.
+    Binary(BinaryOp, Option<u64>),
     /// Pops a word and pushes 0 if it is 0, else 1.
     Truth,
 }

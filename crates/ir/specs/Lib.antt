@@ -7,4 +7,5 @@ pub mod Derived
 pub mod Matched
 pub mod Clobber
 pub mod Short
+pub mod Moving
 pub mod inside

@@ -36,6 +36,7 @@ pub enum Case {
     WrittenAlias,
     /// A store to an element after one to the same array.
     RootArray,
+    ManyStores,
 }
 
 const RETURN: Line = Line::Return { from: 0 };
@@ -204,6 +205,14 @@ fn written_alias(alloc: Global) -> Result<Ir, AllocError> {
     )
 }
 
+/// So many logged stores that their walks are shared.
+fn many_stores(alloc: Global) -> Result<Ir, AllocError> {
+    let mut lines = [store_element(); 42];
+    lines[0] = load_element(1);
+    lines[41] = RETURN;
+    one(alloc, &lines)
+}
+
 /// The program of a case.
 pub fn case_program(alloc: Global, case: Case) -> Result<Ir, AllocError> {
     match case {
@@ -224,5 +233,6 @@ pub fn case_program(alloc: Global, case: Case) -> Result<Ir, AllocError> {
             alloc,
             &[store_element(), load_element(1), store_element(), RETURN],
         ),
+        Case::ManyStores => many_stores(alloc),
     }
 }

@@ -16,7 +16,7 @@ use walk_maker::explain;
 /// How many programs are drawn.
 const PROGRAMS: u64 = 2_500;
 
-const CASES: [Case; 14] = [
+const CASES: [Case; 15] = [
     Case::WrittenFirst,
     Case::ReadFirst,
     Case::Fill,
@@ -31,6 +31,7 @@ const CASES: [Case; 14] = [
     Case::Alias,
     Case::WrittenAlias,
     Case::RootArray,
+    Case::ManyStores,
 ];
 
 /// What came of the certificates. What differs is the first program's number.

@@ -29,7 +29,8 @@ use Rattle.pm_machine.specs.declared.op.Op.TheVariants as op
 use Rattle.pm_machine.specs.Machine.{fetch, fetch_in, tally, moved_to, passed, frame_at, entered}
 use Rattle.pm_machine.specs.Machine.{returned, registers_placed}
 use Rattle.pm_machine.specs.Machine as machine
-use Rattle.codegen.specs.Emit.{place_in, instruction_code, return_code}
+use Rattle.codegen.specs.Emit.{instruction_code, return_code}
+use Rattle.ir.specs.Moving.{place_in}
 use Rattle.emit_law.specs.Moments.{RunMoment, RunStage, On, Over, moment_after, staged, go}
 use Rattle.emit_law.specs.Standing.{logged_before, table_of}
 use Rattle.piece_law.specs.Shows.{done}

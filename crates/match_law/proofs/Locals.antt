@@ -17,7 +17,8 @@ use Rattle.pm_alloc.specs.declared.local.Local.{Local}
 use Rattle.pm_alloc.specs.LocalRun.{World, Loc, local_step}
 use Rattle.pm_alloc.specs.Search.{temporaries}
 use Rattle.pm_alloc.specs.Runs as alone
-use Rattle.codegen.specs.Emit.{local_code, place_in}
+use Rattle.codegen.specs.Emit.{local_code}
+use Rattle.ir.specs.Moving.{place_in}
 use Rattle.emit_law.specs.Dirty.{IsCleanState}
 use Rattle.emit_law.specs.Moments.{RunMoment, On, go}
 use Rattle.emit_law.specs.Placed.{heard, Setting, Same, IsPlaced}

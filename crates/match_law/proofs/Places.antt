@@ -10,7 +10,8 @@ use Rattle.ir.specs.declared.function.IrFunction.{IrFunction}
 use Rattle.pm_machine.specs.declared.op.Op.{Op}
 use Rattle.pm_machine.specs.declared.op.Function.{Function}
 use Rattle.pm_alloc.specs.Placing.{sum}
-use Rattle.codegen.specs.Emit.{piece_width, is_log, instruction_places, place_in, instruction_code}
+use Rattle.codegen.specs.Emit.{piece_width, instruction_places, instruction_code}
+use Rattle.ir.specs.Moving.{is_log, place_in}
 use Rattle.codegen.specs.Emit.{code_from, emitted_code, trap_function, with_code, function_of}
 use Rattle.emit_law.specs.Standing.{table_of, logged_before, HasRoom}
 use Rattle.emit_law.proofs.TidyCode.{next_is, get_after}

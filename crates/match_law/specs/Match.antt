@@ -19,7 +19,7 @@ use Rattle.pm_machine.specs.declared.effect.Effect.{Effect}
 use Rattle.pm_machine.specs.declared.effect.End.TheVariants.{Halted, Trapped}
 use Rattle.pm_machine.specs.declared.frame.Frame.{Frame}
 use Rattle.pm_machine.specs.declared.image.Image.{Image}
-use Rattle.codegen.specs.Emit.{place_in}
+use Rattle.ir.specs.Moving.{place_in}
 use Rattle.emit_law.specs.Dirty.{IsCleanState}
 use Rattle.emit_law.specs.Moments.{RunMoment, RunStage, On, Over, go, onto}
 use Rattle.emit_law.specs.Standing.{table_of}

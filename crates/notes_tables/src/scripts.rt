@@ -1,6 +1,8 @@
 //! The messages of refused scripts, and of answers.
 
-use cnvm_notes::{RunTexts, answers_note, script_note, workers_answers_note, workers_note};
+use cnvm_notes::{
+    RunTexts, answers_note, script_note, storm_note, workers_answers_note, workers_note,
+};
 use std::alloc::{AllocError, Global};
 use std::test::Fail;
 
@@ -300,11 +302,13 @@ const PROGRAM: &str = concat!(
     "tx int64_t div(int64_t y) {\n    root.n = part(root.n, y);\n    return root.n;\n}\n",
     "tx int64_t at(int64_t i) {\n    root.n = root.t[i];\n    root.t[i] = 1;\n",
     "    return 0;\n}\ntx int64_t stops() {\n    if (root.n) { abort(); }\n    return 0;\n",
-    "}\n",
+    "}\ntx int64_t loop(int64_t x) {\n    while (x) {\n        half(x);\n    }\n",
+    "    return 0;\n}\nint64_t deeper(int64_t x) {\n    return deeper(x);\n}\n",
+    "tx int64_t deep(int64_t x) {\n    return deeper(x);\n}\n",
 );
 
 /// Scripts, their answers, and what is told.
-const ANSWERS: [(&str, &str, bool, &str, &str); 12] = [
+const ANSWERS: [(&str, &str, bool, &str, &str); 16] = [
     (
         "call stops\nshow\n",
         "aborted abort\nroot n=5\n",
@@ -340,7 +344,7 @@ const ANSWERS: [(&str, &str, bool, &str, &str); 12] = [
             "cnvm: s:4: `at` trapped: an index was outside of its array\n",
             "note: test an argument before it is an index\n",
             "note: the pool takes no more calls; the stores before the trap stand\n",
-            "note: it came in one of these lines of p.c: 15, 16\n",
+            "note: it came in p.c:15\n",
             "cnvm: s:5: a command was refused\n",
         ),
     ),
@@ -358,7 +362,7 @@ const ANSWERS: [(&str, &str, bool, &str, &str); 12] = [
         ),
     ),
     (
-        "show\nstop 3\ncall add 5\npower old\nlast\n",
+        "show\nstop 3\ncall at 2\npower old\nlast\n",
         concat!(
             "root n=1\nslot 1 Node v=1\nstopped sealed\nrecovered trap logfull\n",
             "refused unusable logfull\n",
@@ -366,9 +370,10 @@ const ANSWERS: [(&str, &str, bool, &str, &str); 12] = [
         false,
         "",
         concat!(
-            "cnvm: s:4: `add` trapped: a store has to be logged, and the log is full\n",
+            "cnvm: s:4: `at` trapped: a store has to be logged, and the log is full\n",
             "note: do less in one call, or give a new pool more records with `--log`, up to 4096\n",
             "note: the pool takes no more calls; the stores before the trap stand\n",
+            "note: it came in one of these lines of p.c: 15, 16\n",
             "cnvm: s:5: a command was refused\n",
         ),
     ),
@@ -389,7 +394,7 @@ const ANSWERS: [(&str, &str, bool, &str, &str); 12] = [
             "cnvm: s:1: `at` trapped: an index was outside of its array\n",
             "note: test an argument before it is an index\n",
             "note: the pool takes no more calls; the stores before the trap stand\n",
-            "note: it came in one of these lines of p.c: 15, 16\n",
+            "note: it came in p.c:15\n",
         ),
     ),
     (
@@ -410,7 +415,7 @@ const ANSWERS: [(&str, &str, bool, &str, &str); 12] = [
         true,
         "",
         concat!(
-            "cnvm: the recovery of the opened image trapped: ",
+            "cnvm: the recovery of the opened image: `at` trapped: ",
             "a pointer that is NULL was followed or freed\n",
             "note: test what `pm_new` and a search give\n",
             "note: the pool takes no more calls; the stores before the trap stand\n",
@@ -427,10 +432,85 @@ const ANSWERS: [(&str, &str, bool, &str, &str); 12] = [
             "note: do less in one call, or give more with `--ticks`, up to 1000000, ",
             "to a new pool\n",
             "note: the pool takes no more calls; the stores before the trap stand\n",
+            "note: it came in one of these lines of p.c: 24, 25\n",
             "note: out.img holds this pool now\n",
         ),
     ),
+    (
+        "call deep 1\n",
+        "trap depth\n",
+        false,
+        "",
+        concat!(
+            "cnvm: s:1: `deep` trapped: more than 256 functions would be open\n",
+            "note: write a loop in place of the recursion\n",
+            "note: the pool takes no more calls; the stores before the trap stand\n",
+            "note: it came in one of these lines of p.c: 33, 30\n",
+        ),
+    ),
+    (
+        "call div 1\nlast\n",
+        "recovered aborted index\n= 1 log 1\nlast 2 1\n",
+        true,
+        "",
+        concat!(
+            "cnvm: the recovery of the opened image: `at` trapped: ",
+            "an index was outside of its array\n",
+            "note: test an argument before it is an index\n",
+            "note: the pool was restored as it was before the call, and takes further calls\n",
+            "note: it came in one of these lines of p.c: 15, 16\n",
+        ),
+    ),
+    (
+        "call div 0\n",
+        "refused unusable divide\nrefused unusable divide\n",
+        true,
+        "out.img",
+        concat!(
+            "cnvm: i: is of an unusable pool: a transaction trapped: a number was divided by 0\n",
+            "note: the pool takes no more calls: open an image that was saved before the trap\n",
+            "note: out.img holds this pool now\n",
+            "cnvm: s:1: a command was refused\n",
+        ),
+    ),
+    (
+        "stop 28\ncall div 0\ncall at 9\npower old\n",
+        "stopped sealed\nrefused down\nrecovered trap divide\n",
+        false,
+        "",
+        concat!(
+            "cnvm: s:4: `div` trapped: a number was divided by 0\n",
+            "note: test the divisor before `/` and `%`\n",
+            "note: the pool takes no more calls; the stores before the trap stand\n",
+            "note: it came in p.c:7\ncnvm: s:3: a command was refused\n",
+        ),
+    ),
 ];
+
+#[test]
+fn answers_of_storms(rt: HostRuntime) -> Result<(), Fail> {
+    let none = storm_note(
+        rt.alloc(),
+        b"storm calls 2 done 2 trapped 0 other 0\nlast 2 5\n",
+    )?;
+    assert_eq!(rt; none.is_none(), true);
+    let told = storm_note(
+        rt.alloc(),
+        b"storm calls 9 done 1 trapped 1 other 7\nrefused unusable stale\n",
+    )?;
+    let told = told.unwrap_or(String::new(rt.alloc()));
+    assert_eq!(rt;
+        told.as_str(),
+        concat!(
+            "cnvm: the storm: a transaction trapped: ",
+            "a pointer led to a slot that is free or holds another struct\n",
+            "note: set each pointer to NULL when its object is freed\n",
+            "note: the pool takes no more calls; the stores before the trap stand\n",
+            "note: so the storm was over: each later call was refused\n",
+        )
+    );
+    Ok(())
+}
 
 #[test]
 fn answers(rt: HostRuntime) -> Result<(), Fail> {
@@ -442,7 +522,11 @@ fn answers(rt: HostRuntime) -> Result<(), Fail> {
             script: script.as_bytes(),
             answers: answers.as_bytes(),
             opened,
+            image_path: "i",
+            owed: 2,
             saved,
+            slots: 4,
+            ticks: 1000,
         };
         let told = answers_note(rt.alloc(), run)?;
         let told = told.unwrap_or(String::new(rt.alloc()));

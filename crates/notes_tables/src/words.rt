@@ -1,7 +1,8 @@
 //! The messages of words, files and images.
 
-use command_notes::{ImageRefusal, of_image, of_words, unread, unsaved};
+use command_notes::{Digests, ImageRefusal, of_image, of_words, unread, unsaved};
 use nvm_base::Reason;
+use plain_notes::message_of;
 use std::alloc::{AllocError, Global};
 use std::test::Fail;
 
@@ -107,64 +108,114 @@ fn files(rt: HostRuntime) -> Result<(), Fail> {
     Ok(())
 }
 
-/// Refusals of images, whether the file begins as an image does and has the program's digest, and
-/// what is told.
-const IMAGES: [(ImageRefusal, bool, bool, &str); 8] = [
+/// Refusals of images, whether the file begins as an image does, the digest of its text, and what is
+/// told. The given text has the digest `2f`.
+const IMAGES: [(ImageRefusal, bool, &str, &str); 9] = [
     (
         ImageRefusal::Short(176, 147904),
         false,
-        false,
-        "i: is no image of a pool",
+        "",
+        concat!(
+            "cnvm: i: is no image of a pool\n",
+            "note: an image is a file that `--save` wrote: its first word is the mark of a pool\n",
+        ),
     ),
     (
         ImageRefusal::Short(20480, 147904),
         true,
+        "2f",
+        concat!(
+            "cnvm: i: has 20480 bytes where the pool needs 147904\n",
+            "note: it was cut short, or saved with other `--slots` or `--log`: ",
+            "give the same again\n",
+            "note: the digest of the image's text and of the given one is 2f\n",
+        ),
+    ),
+    (
+        ImageRefusal::Short(40, 147904),
         true,
-        "i: has 20480 bytes where the pool needs 147904",
+        "",
+        concat!(
+            "cnvm: i: has 40 bytes where the pool needs 147904\n",
+            "note: it was cut short, or saved with other `--slots` or `--log`: ",
+            "give the same again\n",
+            "note: the digest of the given text is 2f\n",
+        ),
     ),
     (
         ImageRefusal::Magic,
         false,
-        false,
-        "i: is no image of a pool",
+        "11",
+        concat!(
+            "cnvm: i: is no image of a pool\n",
+            "note: an image is a file that `--save` wrote: its first word is the mark of a pool\n",
+        ),
     ),
     (
         ImageRefusal::Version(7, 2),
         true,
-        true,
-        "i: is of version 7, where this program reads up to 2",
+        "2f",
+        concat!(
+            "cnvm: i: is of version 7, where this program reads up to 2\n",
+            "note: the digest of the image's text and of the given one is 2f\n",
+        ),
     ),
     (
         ImageRefusal::Sizes(Some("--slots"), 64, 1024),
         true,
-        true,
-        "i: was saved with `--slots 64`, and 1024 is asked for",
+        "2f",
+        concat!(
+            "cnvm: i: was saved with `--slots 64`, and 1024 is asked for\n",
+            "note: give `--slots 64`: an image keeps the sizes of its pool\n",
+            "note: the digest of the image's text and of the given one is 2f\n",
+        ),
     ),
     (
         ImageRefusal::Sizes(None, 3, 4),
         true,
-        false,
-        "i: has the size 3, and the program's pool 4",
+        "11",
+        concat!(
+            "cnvm: i: has the size 3, and the program's pool 4\n",
+            "note: the image is of another program, or it is damaged\n",
+            "note: the image was made from another text of the program\n",
+            "note: the digest of the image's text is 11\n",
+            "note: the digest of the given text is 2f\n",
+        ),
     ),
     (
         ImageRefusal::Digest,
         true,
-        false,
-        "i: was made from another text of the program",
+        "11",
+        concat!(
+            "cnvm: i: was made from another text of the program\n",
+            "note: a changed comment is another text: take the one that the image was ",
+            "saved with\n",
+            "note: the digest of the image's text is 11\n",
+            "note: the digest of the given text is 2f\n",
+        ),
     ),
     (
         ImageRefusal::Content(18, 9),
         true,
-        true,
-        "i: is damaged: no pool has 9 in its word 18",
+        "2f",
+        concat!(
+            "cnvm: i: is damaged: no pool has 9 in its word 18\n",
+            "note: take another image of the pool\n",
+            "note: the digest of the image's text and of the given one is 2f\n",
+        ),
     ),
 ];
 
 #[test]
 fn images(rt: HostRuntime) -> Result<(), Fail> {
-    for (refusal, is_image, same_text, wanted) in IMAGES {
-        let told = of_image(rt.alloc(), "i", refusal, is_image, same_text)?;
-        assert_eq!(rt; told.what.as_str(), wanted);
+    for (refusal, is_image, found, wanted) in IMAGES {
+        let digests = Digests {
+            found,
+            wanted: "2f",
+        };
+        let told = of_image(rt.alloc(), "i", refusal, is_image, digests)?;
+        let message = message_of(rt.alloc(), &told)?;
+        assert_eq!(rt; message.as_str(), wanted);
     }
     Ok(())
 }

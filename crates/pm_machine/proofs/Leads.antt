@@ -1,24 +1,30 @@
 -- The loop of a run: playing the remaining events gives what playing all of them gives from the
 -- start.
 use Rattle.std.proofs.Common.{◌≡◌, ℕ, suc, ◌+◌, ◌-◌, ◌<◌, ◌≤◌, List, [], ◌∷◌, Some, None, refl, sym}
-use Rattle.std.proofs.Common.{ap, ◌∙◌, subst, arith}
+use Rattle.std.proofs.Common.{ap, ◌∙◌, subst, arith, slice_get, Option}
 use Rattle.cache_model.specs.Event.{CacheEvent}
-use Rattle.cache_model.specs.Cache.{Cache}
+use Rattle.cache_model.specs.Cache.{Cache, Words}
 use Rattle.cache_model.specs.Play.{play}
 use Rattle.pmem.specs.declared.answer.Refusal.{Refusal}
 use Rattle.pmem.specs.Device.{Device, spent}
 use Rattle.pmem.specs.Played.{PlaysAll, PlaysPart}
 use Rattle.pmem.proofs.Glue.{all_append, part_left, part_right}
+use Rattle.pm_machine.specs.declared.op.Op.{Op}
+use Rattle.pm_machine.specs.declared.op.Function.{Function}
 use Rattle.pm_machine.specs.declared.effect.Effect.{Effect}
+use Rattle.pm_machine.specs.declared.effect.Effect.TheVariants.{Loads, Scans, Stores, Logs, Flushes}
+use Rattle.pm_machine.specs.declared.effect.Effect.TheVariants.{Fences, Quiet}
 use Rattle.pm_machine.specs.declared.effect.End.{End}
 use Rattle.pm_machine.specs.declared.machine.Progress.{Progress}
 use Rattle.pm_machine.specs.declared.machine.Progress.TheVariants.{Did, Ended}
 use Rattle.pm_machine.specs.declared.image.Image.{Image}
 use Rattle.pm_machine.specs.Effects.{events_of, records_past}
 use Rattle.pm_machine.specs.Machine.{State, StepOutcome, Goes, Ends, decide, tally, step}
+use Rattle.pm_machine.specs.Machine.{execute, fetch, fetch_in}
 use Rattle.pm_machine.specs.Runs.{heap_in, outcome_of, effect_of, effect_in, Due, due_before, owing}
 use Rattle.pm_machine.specs.Runs.{due}
-use Rattle.pm_machine.specs.inside.Runs.{DueLeads}
+use Rattle.pm_machine.specs.inside.Runs.{DueLeads, GoesSilently}
+use Rattle.pm_machine.specs.inside.Code.{code_in, code_of}
 
 pub all_cache : (es : List CacheEvent) (d b : Device) → PlaysAll d es b → b.cache ≡ play d.cache es
 all_cache [] d b all = ap (λ (x : Device). x.cache) all
@@ -37,6 +43,40 @@ leads_next d k es x d0 k0 x0 b all h = record {
   part = λ why c p. h.part why c (part_right es x.events why d b c all p);
   steps = let e = h.steps in omega arith;
   records = h.records;
+}
+
+-- the instruction at a machine's place, found in the code of its open function
+fetched : (image : Image) (s : State) (code : List Op)
+    → code ≡ code_of image.parts.functions s.top.function
+    → slice_get code s.top.place ≡ fetch image s
+fetched image s code is =
+    ap (λ (ops : List Op). slice_get ops s.top.place) is
+    ∙ go (slice_get image.parts.functions s.top.function)
+  where
+    go : (o : Option Function) → slice_get (code_in o) s.top.place ≡ fetch_in s.top.place o
+    go None = refl
+    go (Some f) = refl
+
+-- nothing was played
+pub leads_same : (d : Device) (k : ℕ) (x : Due) → DueLeads d k x d k x
+leads_same d k x = record {
+  fate = refl;
+  whole = λ b p. p;
+  part = λ why b p. p;
+  steps = refl;
+  records = refl;
+}
+
+-- first one part of a run, and then the next
+pub leads_after : (d : Device) (k : ℕ) (x : Due) (d1 : Device) (k1 : ℕ) (x1 : Due) (d0 : Device)
+    (k0 : ℕ) (x0 : Due) → DueLeads d k x d1 k1 x1 → DueLeads d1 k1 x1 d0 k0 x0
+    → DueLeads d k x d0 k0 x0
+leads_after d k x d1 k1 x1 d0 k0 x0 next first = record {
+  fate = next.fate ∙ first.fate;
+  whole = λ b p. first.whole b (next.whole b p);
+  part = λ why b p. first.part why b (next.part why b p);
+  steps = next.steps ∙ first.steps;
+  records = next.records ∙ first.records;
 }
 
 -- one step of the loop, with m steps left
@@ -88,6 +128,34 @@ module _ (image : Image) (a m n : ℕ) (s : State) (d : Device) (k : ℕ) (d0 : 
       let l = opened (Ends end) some h o in
       let same : k + 1 ≡ k0 + x0.steps = l.steps in
       (sym l.fate, l.whole b all, tick ∙ same, sym l.records)
+
+  -- a step without an event
+  pub leads_silent : (code : List Op) (t : State) (k1 : ℕ)
+      → code ≡ code_of image.parts.functions s.top.function
+      → GoesSilently t (execute image (heap_in image.parts.sizes d.cache) n s
+      (slice_get code s.top.place)) → k1 ≡ k + 1 → 0 < m → Left m
+      → DueLeads d k1 (due image a (m - 1) n t d.cache) d0 k0 x0
+  leads_silent code t k1 is silent tick some h =
+      go (execute image heap n s (slice_get code s.top.place))
+      (ap (execute image heap n s) (fetched image s code is)) silent
+    where
+      heap : Words
+      heap = heap_in image.parts.sizes d.cache
+
+      go : (o : StepOutcome) → o ≡ decide image n s heap → GoesSilently t o
+          → DueLeads d k1 (due image a (m - 1) n t d.cache) d0 k0 x0
+      go (Goes Quiet u) same silent =
+          (leads_did (Did Quiet) Quiet t d k1 refl (ap (Goes Quiet) silent ∙ ap tally same) refl
+          tick some h).0
+      go (Goes (Loads w) u) same silent =
+          (leads_did (Did (Loads w)) (Loads w) t d k1 refl
+          (ap (Goes (Loads w)) silent ∙ ap tally same) refl tick some h).0
+      go (Goes (Scans w l) u) same silent = absurd silent
+      go (Goes (Stores w x) u) same silent = absurd silent
+      go (Goes (Logs w) u) same silent = absurd silent
+      go (Goes (Flushes l) u) same silent = absurd silent
+      go (Goes Fences u) same silent = absurd silent
+      go (Ends end) same silent = absurd silent
 
   -- no step is left
   pub leads_over : m ≡ 0 → Left m → (x0.fate ≡ None) × PlaysAll d0 x0.events d × (k ≡ k0 + x0.steps)

@@ -1,93 +1,96 @@
--- The words of registers of which only the first may be other than 0.
+-- The words of registers of which only the first are kept, and all others are 0.
 use Rattle.std.proofs.Common.{◌≡◌, ◌∙◌, ℕ, zero, suc, ◌+◌, ◌-◌, ◌<◌, ◌≤◌, List, [], ◌∷◌, ◌++◌}
-use Rattle.std.proofs.Common.{length, get_or, set, take, drop, replicate, ℤ, pos, refl, sym, ap}
-use Rattle.std.proofs.Common.{arith, append_assoc, length-set}
-use Rattle.std.proofs.lemmas.List.{length-replicate, length_push, drop_more, set_at, replicate_more}
-use Rattle.std.proofs.lemmas.List.{drop-drop, drop-replicate, replicate-append-replicate}
-use Rattle.std.proofs.lemmas.List.{take-append-drop, length-take-le, drop-set-lt}
-use Rattle.pm_machine.specs.Machine.{registers_filled}
+use Rattle.std.proofs.Common.{length, get_or, set, replicate, ℤ, pos, refl, sym, ap}
+use Rattle.std.proofs.Common.{arith, append_assoc, length-set, length-append, append-nil}
+use Rattle.std.proofs.lemmas.List.{length-replicate, length_push, set_at, get_or_append_left}
+use Rattle.std.proofs.lemmas.List.{get_or-append_right, get_or_past, set-append_left, set_past}
+use Rattle.std.proofs.lemmas.List.{replicate-append-replicate}
 
--- the words from number n on are 0
-abbrev pub AreBlank : ℕ → List ℤ → Type 0
-AreBlank n xs = drop n xs ≡ replicate (length xs - n) (pos 0)
+-- the registers after those that are kept, n in all
+abbrev pub all_words : ℕ → List ℤ → List ℤ
+all_words n xs = xs ++ replicate (n - length xs) (pos 0)
 
-pub blank_all : (xs : List ℤ) (k : ℕ) → xs ≡ replicate k (pos 0) → AreBlank 0 xs
-blank_all xs k is =
-    let long : length xs ≡ k = ap (λ (l : List ℤ). length l) is ∙ length-replicate k (pos 0) in
-    let all : k ≡ length xs - 0 = omega (arith, long) in
-    is ∙ ap (λ (n : ℕ). replicate n (pos 0)) all
+pub kept_length : (n : ℕ) (xs : List ℤ) → length xs ≤ n → length (all_words n xs) ≡ n
+kept_length n xs le =
+    length-append xs (replicate (n - length xs) (pos 0))
+    ∙ ap (λ (k : ℕ). length xs + k) (length-replicate (n - length xs) (pos 0)) ∙ omega arith
 
--- fewer words are 0 as well
-pub blank_fewer : (n m : ℕ) (xs : List ℤ) → n ≤ m → AreBlank n xs → AreBlank m xs
-blank_fewer n m xs le blank =
-    let there : m ≡ n + (m - n) = omega arith in
-    let left : length xs - n - (m - n) ≡ length xs - m = omega arith in
-    ap (λ (k : ℕ). drop k xs) there ∙ sym (drop-drop (m - n) n xs)
-    ∙ ap (λ (l : List ℤ). drop (m - n) l) blank
-    ∙ drop-replicate (m - n) (length xs - n) (pos 0)
-    ∙ ap (λ (k : ℕ). replicate k (pos 0)) left
+pub kept_split : (n : ℕ) (xs : List ℤ) → length xs ≤ n
+    → all_words n xs ≡ xs ++ replicate (length (all_words n xs) - length xs) (pos 0)
+kept_split n xs le =
+    ap (λ (k : ℕ). xs ++ replicate (k - length xs) (pos 0)) (sym (kept_length n xs le))
 
-pub blank_set : (n m r : ℕ) (x : ℤ) (xs : List ℤ) → n ≤ m → r < m → AreBlank n xs
-    → AreBlank m (set xs r x)
-blank_set n m r x xs le lt blank =
-    let long : length (set xs r x) ≡ length xs = length-set xs r x in
-    drop-set-lt m xs r x lt ∙ blank_fewer n m xs le blank
-    ∙ ap (λ (k : ℕ). replicate (k - m) (pos 0)) (sym long)
+zeros : (k i : ℕ) → get_or (replicate k (pos 0)) i (pos 0) ≡ pos 0
+zeros zero i = get_or_past [] i (pos 0) (omega arith)
+zeros (suc k) zero = refl
+zeros (suc k) (suc i) = zeros k i
 
--- a word past those that may be other than 0 is written
-pub blank_put : (n r : ℕ) (x : ℤ) (xs : List ℤ) → r < length xs → n ≤ r → AreBlank n xs
-    → (r + 1 ≤ length (set xs r x)) × AreBlank (r + 1) (set xs r x)
-blank_put n r x xs lt le blank =
-    let long : length (set xs r x) ≡ length xs = length-set xs r x in
-    (omega (arith, long), blank_set n (r + 1) r x xs (omega arith) (omega arith) blank)
+pub word_kept : (n r : ℕ) (xs : List ℤ) → r < length xs
+    → get_or (all_words n xs) r (pos 0) ≡ get_or xs r (pos 0)
+word_kept n r xs lt = get_or_append_left xs (replicate (n - length xs) (pos 0)) (pos 0) r lt
 
--- the first words, and then zeros
-pub blank_split : (n : ℕ) (xs : List ℤ) → n ≤ length xs → AreBlank n xs
-    → xs ≡ take n xs ++ replicate (length xs - length (take n xs)) (pos 0)
-blank_split n xs le blank =
-    let long : length (take n xs) ≡ n = length-take-le n xs le in
-    sym (take-append-drop n xs) ∙ ap (λ (l : List ℤ). take n xs ++ l) blank
-    ∙ ap (λ (k : ℕ). take n xs ++ replicate (length xs - k) (pos 0)) (sym long)
+pub word_blank : (n r : ℕ) (xs : List ℤ) → length xs ≤ r
+    → get_or (all_words n xs) r (pos 0) ≡ pos 0
+word_blank n r xs le =
+    get_or-append_right xs (replicate (n - length xs) (pos 0)) (length xs) r (pos 0) refl le
+    ∙ zeros (n - length xs) (r - length xs)
 
--- zeros, and then the blank words, are all 0
-pub blank_cleared : (n : ℕ) (xs : List ℤ) → n ≤ length xs → AreBlank n xs
-    → replicate n (pos 0) ++ drop n xs ≡ replicate (length xs) (pos 0)
-blank_cleared n xs le blank =
-    let all : n + (length xs - n) ≡ length xs = omega arith in
-    ap (λ (l : List ℤ). replicate n (pos 0) ++ l) blank
-    ∙ replicate-append-replicate n (length xs - n) (pos 0)
-    ∙ ap (λ (k : ℕ). replicate k (pos 0)) all
+-- a register that is kept is written
+pub kept_set : (n r : ℕ) (x : ℤ) (xs : List ℤ) → r < length xs
+    → all_words n (set xs r x) ≡ set (all_words n xs) r x
+kept_set n r x xs lt =
+    ap (λ (k : ℕ). set xs r x ++ replicate (n - k) (pos 0)) (length-set xs r x)
+    ∙ sym (set-append_left xs (replicate (n - length xs) (pos 0)) r x lt)
 
--- one turn of a loop that sets the first words to 0
-pub cleared_more : (i : ℕ) (xs : List ℤ) → i < length xs
-    → set (replicate i (pos 0) ++ drop i xs) i (pos 0)
-    ≡ replicate (i + 1) (pos 0) ++ drop (i + 1) xs
-cleared_more i xs lt =
-    ap (λ (l : List ℤ). set (replicate i (pos 0) ++ l) i (pos 0)) (drop_more xs i (pos 0) lt)
-    ∙ set_at (replicate i (pos 0)) (get_or xs i (pos 0)) (drop (i + 1) xs) (pos 0) i
-    (length-replicate i (pos 0))
-    ∙ sym (append_assoc (replicate i (pos 0)) (pos 0 ∷ []) (drop (i + 1) xs))
-    ∙ ap (λ (l : List ℤ). l ++ drop (i + 1) xs) (replicate_more i (pos 0))
+-- one more zero is kept
+pub zeros_more : (n : ℕ) (xs : List ℤ) → length xs < n
+    → all_words n (xs ++ pos 0 ∷ []) ≡ all_words n xs
+zeros_more n xs lt =
+    let left : n - length xs ≡ suc (n - (length xs + 1)) = omega arith in
+    ap (λ (k : ℕ). (xs ++ pos 0 ∷ []) ++ replicate (n - k) (pos 0)) (length_push xs (pos 0))
+    ∙ append_assoc xs (pos 0 ∷ []) (replicate (n - (length xs + 1)) (pos 0))
+    ∙ ap (λ (k : ℕ). xs ++ replicate k (pos 0)) (sym left)
 
--- registers that were 0 past these, after more words were put into them
-filled_from : (done words : List ℤ) (m n : ℕ) → n ≡ length done → length words ≤ m
-    → registers_filled (done ++ replicate m (pos 0)) n words
-    ≡ done ++ (words ++ replicate (m - length words) (pos 0))
-filled_from done [] m n at le =
-    let all : m ≡ m - 0 = omega arith in ap (λ (k : ℕ). done ++ replicate k (pos 0)) all
-filled_from done (v ∷ vs) zero n at le = absurd (omega arith)
-filled_from done (v ∷ vs) (suc m) n at le =
-    let more : length (done ++ v ∷ []) ≡ length done + 1 = length_push done v in
-    let left : m - length vs ≡ suc m - suc (length vs) = omega arith in
-    ap (λ (l : List ℤ). registers_filled l (n + 1) vs)
-    (set_at done (pos 0) (replicate m (pos 0)) v n (sym at)
-    ∙ sym (append_assoc done (v ∷ []) (replicate m (pos 0))))
-    ∙ filled_from (done ++ v ∷ []) vs m (n + 1) (omega (arith, at, more)) (omega arith)
-    ∙ append_assoc done (v ∷ []) (vs ++ replicate (m - length vs) (pos 0))
-    ∙ ap (λ (k : ℕ). done ++ v ∷ (vs ++ replicate k (pos 0))) left
+-- no zero is left out
+pub zeros_all : (n : ℕ) (xs : List ℤ) → n ≤ length xs → all_words n xs ≡ xs
+zeros_all n xs le =
+    let none : n - length xs ≡ 0 = omega arith in
+    ap (λ (k : ℕ). xs ++ replicate k (pos 0)) none ∙ append-nil xs
 
--- registers that were all 0, after words were put into the first of them
-pub filled_is : (n : ℕ) (words : List ℤ) → length words ≤ n
-    → registers_filled (replicate n (pos 0)) 0 words
-    ≡ words ++ replicate (n - length words) (pos 0)
-filled_is n words le = filled_from [] words n 0 refl le
+-- the first register past those that are kept is written
+kept_push : (n : ℕ) (x : ℤ) (xs : List ℤ) → length xs < n
+    → all_words n (xs ++ x ∷ []) ≡ set (all_words n xs) (length xs) x
+kept_push n x xs lt =
+    let left : n - length xs ≡ suc (n - (length xs + 1)) = omega arith in
+    ap (λ (k : ℕ). (xs ++ x ∷ []) ++ replicate (n - k) (pos 0)) (length_push xs x)
+    ∙ append_assoc xs (x ∷ []) (replicate (n - (length xs + 1)) (pos 0))
+    ∙ sym (set_at xs (pos 0) (replicate (n - (length xs + 1)) (pos 0)) x (length xs) refl)
+    ∙ ap (λ (k : ℕ). set (xs ++ replicate k (pos 0)) (length xs) x) (sym left)
+
+-- a register is written after zeros up to it
+pub kept_put : (n r : ℕ) (x : ℤ) (xs ys zs : List ℤ) → length xs ≤ r → r < n
+    → ys ≡ xs ++ replicate (r - length xs) (pos 0) → zs ≡ ys ++ x ∷ []
+    → (all_words n zs ≡ set (all_words n xs) r x) × (length zs ≡ r + 1)
+kept_put n r x xs ys zs le lt zeros put =
+    let long : length ys ≡ r = ap (λ (l : List ℤ). length l) zeros ∙ kept_length r xs le in
+    let longer : length zs ≡ r + 1 =
+    ap (λ (l : List ℤ). length l) put ∙ length_push ys x ∙ ap (λ (k : ℕ). k + 1) long in
+    let rest : r - length xs + (n - r) ≡ n - length xs = omega arith in
+    let same : all_words n ys ≡ all_words n xs =
+    ap (λ (k : ℕ). ys ++ replicate (n - k) (pos 0)) long
+    ∙ ap (λ (l : List ℤ). l ++ replicate (n - r) (pos 0)) zeros
+    ∙ append_assoc xs (replicate (r - length xs) (pos 0)) (replicate (n - r) (pos 0))
+    ∙ ap (λ (l : List ℤ). xs ++ l) (replicate-append-replicate (r - length xs) (n - r) (pos 0))
+    ∙ ap (λ (k : ℕ). xs ++ replicate k (pos 0)) rest in (
+      ap (λ (l : List ℤ). all_words n l) put
+          ∙ kept_push n x ys (omega (arith, long, lt))
+          ∙ ap (λ (k : ℕ). set (all_words n ys) k x) long
+          ∙ ap (λ (l : List ℤ). set l r x) same,
+      longer,
+    )
+
+-- a register that doesn't exist isn't written
+pub kept_past : (n r : ℕ) (x : ℤ) (xs : List ℤ) → length xs ≤ n → n ≤ r
+    → set (all_words n xs) r x ≡ all_words n xs
+kept_past n r x xs le past =
+    set_past (all_words n xs) r x (let long = kept_length n xs le in omega (arith, long, past))

@@ -1,19 +1,17 @@
 -- The frames of a stack whose registers are in one list.
 use Rattle.std.proofs.Common.{◌≡◌, ℕ, ◌+◌, ◌-◌, ◌*◌, ◌<◌, ◌≤◌, suc, List, [], ◌∷◌, ◌++◌, length}
-use Rattle.std.proofs.Common.{get_or, take, drop, replicate, ℤ, pos, Some, refl, sym, ap, ◌∙◌}
-use Rattle.std.proofs.Common.{arith, append_assoc}
+use Rattle.std.proofs.Common.{take, drop, replicate, ℤ, pos, Some, refl, sym, ap, ◌∙◌}
+use Rattle.std.proofs.Common.{arith}
 use Rattle.std.specs.Prelude.{slice_get}
 use Rattle.std.proofs.lemmas.List.{length-drop, length-take-le, length_push, take-append-drop}
-use Rattle.std.proofs.lemmas.List.{take-append-le, drop-append-le, take_all, take_at, drop_more}
+use Rattle.std.proofs.lemmas.List.{take-append-le, drop-append-le, take_all, take_at}
 use Rattle.std.proofs.lemmas.List.{get_or_push, nil_from_length}
 use Rattle.std.proofs.lemmas.Option.{slice_get_read}
 use Rattle.std.proofs.lemmas.Nat.{mul-le}
 use Rattle.pm_machine.specs.declared.frame.Frame.{Frame}
 use Rattle.pm_machine.specs.declared.frames.Waiting.{Waiting}
 use Rattle.pm_machine.specs.Stack.{frame_of, frames_of}
-use Rattle.pm_machine.specs.Machine.{registers_filled}
 use Rattle.pm_machine.specs.inside.Stack.{words_of, AreSized}
-use Rattle.pm_machine.proofs.Registers.{filled_is}
 
 times_suc : (n k : ℕ) → n * suc k ≡ n + n * k
 times_suc n k = omega arith
@@ -103,13 +101,13 @@ module _ (n from : ℕ) (all ws : List Waiting) (w : Waiting) (words : List ℤ)
   -- the frame on top, if its words were put into registers that are 0 past them
   pub popped_top : (kept old registers : List ℤ) → kept ≡ drop from words → length old ≡ n
       → length kept ≤ length old
-      → registers ≡ registers_filled (replicate (length old) (pos 0)) 0 kept
+      → registers ≡ kept ++ replicate (length old - length kept) (pos 0)
       → slice_get (frames_of n all words) (length (frames_of n all words) - 1)
       ≡ Some (record { function = w.function; place = w.place; to = w.to; registers = registers })
   popped_top kept old registers same long few is =
       let count : length kept ≡ w.used = ap (λ (l : List ℤ). length l) same ∙ words_last in
       let all_words : registers ≡ drop from words ++ replicate (n - w.used) (pos 0) =
-      is ∙ filled_is (length old) kept few
+      is
       ∙ ap (λ (l : List ℤ). l ++ replicate (length old - length kept) (pos 0)) same
       ∙ ap (λ (k : ℕ). drop from words ++ replicate (k - length kept) (pos 0)) long
       ∙ ap (λ (k : ℕ). drop from words ++ replicate (n - k) (pos 0)) count in
@@ -124,14 +122,6 @@ module _ (n from : ℕ) (all ws : List Waiting) (w : Waiting) (words : List ℤ)
       → frames_of n ws rest ≡ take (length (frames_of n all words) - 1) (frames_of n all words)
   popped_rest rest same = rw (frames_pop, same)
       (sym (others_of (frames_of n ws (take from words)) (frame_of n w (drop from words))))
-
--- one turn of a loop that appends words
-pub words_step : (done words : List ℤ) (k : ℕ) (x d : ℤ) → k < length words → x ≡ get_or words k d
-    → (done ++ x ∷ []) ++ drop (k + 1) words ≡ done ++ drop k words
-words_step done words k x d lt is =
-    append_assoc done (x ∷ []) (drop (k + 1) words)
-    ∙ ap (λ (y : ℤ). done ++ y ∷ drop (k + 1) words) is
-    ∙ ap (λ (l : List ℤ). done ++ l) (sym (drop_more words k d lt))
 
 -- there is room for one more frame's words
 pub room_for : (n k m r room : ℕ) → k < 255 → m ≤ n * k → r ≤ n → 255 * n ≤ room → m + r ≤ room

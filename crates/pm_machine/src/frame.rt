@@ -1,91 +1,118 @@
 //! An open function of the machine, and the words of its registers.
 
-ghost use Rattle.std.specs.Prelude.{◌≡◌, ◌≤◌, ◌-◌, ◌++◌, length, drop, pos, replicate};
-ghost use Rattle.std.specs.Prelude.{slice_index_or, slice_set, IfOk};
+ghost use Rattle.std.specs.Prelude.{◌≡◌, ◌≤◌, ◌<◌, ◌-◌, ◌++◌, ◌∷◌, [], length, pos, replicate};
+ghost use Rattle.std.specs.Prelude.{slice_index_or, slice_set, IfOk, vec_capacity};
 
 use std::alloc::{AllocError, Global};
 use std::marker::Model;
 
-/// The words of a frame's registers, seen as a list. A register that doesn't exist reads as 0. The
-/// registers from number `used` on are 0, so that the work of a call grows with the registers that
-/// were written, and not with those that a frame has.
+/// The words of a frame's registers, seen as a list. A register that doesn't exist reads as 0. Only
+/// the words up to the last register that was written are kept, and all others are 0, so that the
+/// work of a call grows with the registers that were written, and not with those that a frame has.
 #[derive(Drop)]
 pub struct RegisterWords {
-    all: Vec<i64>,
-    used: usize,
+    kept: Vec<i64>,
+    count: usize,
 }
 
 impl Model for RegisterWords {
-    ghost use Rattle.std.specs.Prelude.{◌≡◌, ◌≤◌, ◌-◌, ℤ, pos, List, length, drop, replicate};
+    ghost use Rattle.std.specs.Prelude.{◌≤◌, ◌-◌, ◌++◌, ℤ, pos, List, length, replicate};
+    ghost use Rattle.std.specs.Prelude.{vec_capacity};
 
     ghost Value = { List ℤ };
 
-    ghost view = { λ w. w.all.items };
+    ghost view = { λ w. w.kept.items ++ replicate (w.count - length w.kept.items) (pos 0) };
 
-    ghost invariant = { λ w. (w.used ≤ length w.all.items)
-        × (drop w.used w.all.items ≡ replicate (length w.all.items - w.used) (pos 0)) };
+    ghost invariant = { λ w. (length w.kept.items ≤ w.count) × (w.count ≤ vec_capacity w.kept) };
 }
 
-/// Sets the first words to 0.
-fn clear_first(words: &mut Vec<i64>, count: usize)
-    requires { count ≤ length words.old.items }
-    ensures { words.new.items ≡ replicate count (pos 0) ++ drop count words.old.items }
+/// Appends a word; there is room for it.
+fn push_word(to: &mut Vec<i64>, word: i64)
+    requires { length to.old.items < vec_capacity to.old }
+    ensures items { to.new.items ≡ to.old.items ++ word ∷ [] }
+    ensures capacity { vec_capacity to.old ≤ vec_capacity to.new }
 {
-    for i in 0..count {
-        words[i] = 0;
+    let _ = to.push(word);
+}
+
+/// Appends zeros up to this length; there is room for them.
+#[tactic(auto, using(crate::proofs::Registers::zeros_more, crate::proofs::Registers::zeros_all))]
+fn push_zeros(to: &mut Vec<i64>, count: usize)
+    requires longer { length to.old.items ≤ count }
+    requires room { count ≤ vec_capacity to.old }
+    ensures items { to.new.items ≡ to.old.items ++ replicate (count - length to.old.items) (pos 0) }
+    ensures capacity { vec_capacity to.old ≤ vec_capacity to.new }
+{
+    while to.len() < count {
+        push_word(to, 0);
     }
 }
 
 impl RegisterWords {
     /// So many registers, all 0.
-    #[tactic(auto, using(crate::proofs::Registers::blank_all))]
     pub fn blank(alloc: Global, count: u32) -> Result<Self, AllocError>
         ensures { IfOk result (λ w. w ≡ replicate count (pos 0)) }
     {
-        let all = vec![in alloc; 0; count as usize]?;
-        Ok(RegisterWords { all, used: 0 })
+        let kept = Vec::with_capacity(alloc, count as usize)?;
+        Ok(RegisterWords {
+            kept,
+            count: count as usize,
+        })
     }
 
     /// The word of a register, or 0 if there is no such register.
+    #[tactic(auto, using(crate::proofs::Registers::word_kept, crate::proofs::Registers::word_blank))]
     pub fn get(&self, register: usize) -> i64
         ensures { result ≡ slice_index_or self.now register (pos 0) }
     {
-        match self.all.get(register) {
-            Some(word) => *word,
-            None => 0,
+        if register < self.kept.len() {
+            self.kept[register]
+        } else {
+            0
         }
     }
 
     /// Writes a register, if it exists.
-    #[tactic(auto, using(crate::proofs::Registers::blank_set))]
+    #[tactic(auto, using(crate::proofs::Registers::kept_set, crate::proofs::Registers::kept_past, std::proofs::lemmas::Int::wraps))]
     pub fn set(&mut self, register: usize, word: i64)
         ensures { self.new ≡ slice_set self.old register word }
     {
-        if register < self.all.len() {
-            self.all[register] = word;
-            if self.used <= register {
-                self.used = register + 1;
-            }
+        if register < self.kept.len() {
+            self.kept[register] = word;
+        } else if register < self.count {
+            push_zeros(&mut self.kept, register);
+            push_word(&mut self.kept, word);
         }
     }
 
     /// The words of the first registers; all others are 0.
-    #[tactic(auto, using(crate::proofs::Registers::blank_split))]
+    #[tactic(auto, using(crate::proofs::Registers::kept_split, crate::proofs::Registers::kept_length))]
     pub fn used(&self) -> &[i64]
         ensures few { length result.now ≤ length self.now }
         ensures words { self.now ≡ result.now
             ++ replicate (length self.now - length result.now) (pos 0) }
     {
-        &self.all[..self.used]
+        &self.kept
+    }
+
+    /// Writes words into the first registers, and 0 into all others.
+    #[tactic(auto, using(crate::proofs::Registers::kept_length))]
+    pub(crate) fn refill(&mut self, words: &[i64])
+        requires { length words.now ≤ length self.old }
+        ensures words { self.new ≡ words.now
+            ++ replicate (length self.old - length words.now) (pos 0) }
+        ensures size { length self.new ≡ length self.old }
+    {
+        self.kept.clear();
+        let _ = self.kept.extend_from_slice(words);
     }
 
     /// Sets all registers to 0.
-    #[tactic(auto, using(crate::proofs::Registers::blank_cleared, crate::proofs::Registers::blank_all))]
+    #[tactic(auto, using(crate::proofs::Registers::kept_length))]
     pub fn clear(&mut self)
         ensures { self.new ≡ replicate (length self.old) (pos 0) }
     {
-        clear_first(&mut self.all, self.used);
-        self.used = 0;
+        self.kept.clear();
     }
 }
 

@@ -5,7 +5,6 @@ ghost use Rattle.std.specs.Prelude.{IfOk, length, take, slice_get, vec_capacity}
 ghost use Rattle.pm_machine.specs.Stack.{Stack};
 
 use crate::frame::Frame;
-use crate::machine::fill;
 use std::alloc::{AllocError, Global};
 use std::marker::Model;
 
@@ -106,8 +105,7 @@ impl Frames {
             return false;
         };
         let from = self.words.len() - waiting.used;
-        frame.registers.clear();
-        fill(&mut frame.registers, &self.words[from..]);
+        frame.registers.refill(&self.words[from..]);
         self.words.truncate(from);
         frame.function = waiting.function;
         frame.place = waiting.place;
@@ -125,22 +123,11 @@ fn push_waiting(to: &mut Vec<Waiting>, waiting: Waiting)
     let _ = to.push(waiting);
 }
 
-/// Appends a word; there is room for it.
-fn push_word(to: &mut Vec<i64>, word: i64)
-    requires { length to.old.items < vec_capacity to.old }
-    ensures items { to.new.items ≡ to.old.items ++ word ∷ [] }
-    ensures capacity { vec_capacity to.old ≤ vec_capacity to.new }
-{
-    let _ = to.push(word);
-}
-
 /// Appends words; there is room for them.
 fn push_words(to: &mut Vec<i64>, words: &[i64])
     requires { length to.old.items + length words.now ≤ vec_capacity to.old }
     ensures items { to.new.items ≡ to.old.items ++ words.now }
     ensures capacity { vec_capacity to.old ≤ vec_capacity to.new }
 {
-    for word in words {
-        push_word(to, *word);
-    }
+    let _ = to.extend_from_slice(words);
 }

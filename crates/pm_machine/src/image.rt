@@ -7,10 +7,12 @@ ghost use Rattle.std.specs.List.{list_all, AllByRecursion};
 ghost use Rattle.pm_machine.specs.Checked.{takes_arguments, op_is_there, is_end, is_good_op};
 ghost use Rattle.pm_machine.specs.Checked.{bad_from, bad_in, bad_of, most_registers};
 ghost use Rattle.pm_machine.specs.Transactions.{entry_function};
+ghost use Rattle.pm_machine.specs.inside.Code.{code_of};
+ghost use Rattle.pool_layout.specs.Sizes as sizes_of;
 ghost use Rattle.pm_machine.specs.Few.{AreFew};
 
 use crate::op::{Function, Functions, Op, TxList};
-use pool_layout::Sizes;
+use pool_layout::{Sizes, heap_start, heap_words};
 use std::alloc::Global;
 
 /// The parts of an image. `most` is a number of steps that no run of it exceeds.
@@ -36,8 +38,13 @@ pub struct Image {
     parts: ImageParts,
     /// The number of registers of the largest function, which every frame has.
     largest: u32,
+    /// The pool's word where the heap begins, and the number of heap words.
+    heap_start: u64,
+    heap_words: u64,
     ghost good: { bad_of parts.functions 0 parts.functions ≡ None },
     ghost most: { largest ≡ most_registers 0 parts.functions },
+    ghost start: { heap_start ≡ sizes_of.heap_start parts.sizes },
+    ghost words: { heap_words ≡ sizes_of.heap_words parts.sizes },
 }
 
 fn all_below(registers: &[u32], count: u32) -> bool
@@ -171,7 +178,14 @@ impl Image {
             return Err(ImageRefused::BadCode(function, place));
         }
         let largest = most_registers(&parts.functions);
-        Ok(Image { parts, largest })
+        let heap_start = heap_start(&parts.sizes);
+        let heap_words = heap_words(&parts.sizes);
+        Ok(Image {
+            parts,
+            largest,
+            heap_start,
+            heap_words,
+        })
     }
 
     /// The functions, which `Image::new` has checked.
@@ -199,6 +213,30 @@ impl Image {
         ensures { result ≡ self.now.largest }
     {
         self.largest
+    }
+
+    /// The pool's word where the heap begins.
+    pub(crate) fn heap_start(&self) -> u64
+        ensures { result ≡ sizes_of.heap_start self.now.parts.sizes }
+    {
+        self.heap_start
+    }
+
+    /// The number of heap words.
+    pub(crate) fn heap_words(&self) -> u64
+        ensures { result ≡ sizes_of.heap_words self.now.parts.sizes }
+    {
+        self.heap_words
+    }
+
+    /// The instructions of a function; none if there is no such function.
+    pub(crate) fn code(&self, function: u32) -> &[Op]
+        ensures { result.now ≡ code_of self.now.parts.functions function }
+    {
+        match self.parts.functions.get(function as usize) {
+            None => &[],
+            Some(function) => function.code.as_slice(),
+        }
     }
 
     /// The function of a transaction.

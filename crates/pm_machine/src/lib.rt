@@ -13,6 +13,7 @@ mod law;
 mod machine;
 mod op;
 mod playing;
+mod silent;
 
 pub use answer::{RunAnswer, StepAnswer};
 pub use effect::{Effect, End};

@@ -24,7 +24,7 @@ ghost use Rattle.pm_machine.specs.Machine.{stored_by, due_store};
 ghost use Rattle.pm_machine.specs.Effects.{events_of, records_past};
 ghost use Rattle.pm_machine.specs.Runs.{heap_in, outcome_of, effect_of, effect_in, AreLines, due};
 ghost use Rattle.pm_machine.specs.Runs.{end_of};
-ghost use Rattle.pm_machine.specs.inside.Runs.{IsStore, IsInRange};
+ghost use Rattle.pm_machine.specs.inside.Runs.{IsStore, IsInRange, DueLeads};
 
 use crate::effect::{Effect, End};
 use crate::find::search;
@@ -32,12 +32,13 @@ use crate::frame::{Frame, RegisterWords};
 use crate::frames::{CALLERS, Frames};
 use crate::image::Image;
 use crate::op::Op;
+use crate::silent::{Reached, run_silently};
 use clobber_log::append_record;
 use indexmap::IndexSet;
 use nvm_base::Steps;
 use pmem::events::{fence, flush, store};
 use pmem::{PmemWork, Refusal};
-use pool_layout::{Sizes, heap_start, heap_words, slot_word};
+use pool_layout::{Sizes, heap_start, slot_word};
 use pool_map::TrapKind;
 use std::alloc::{AllocError, Global};
 use std::marker::Model;
@@ -96,7 +97,7 @@ fn index_of(x: i64) -> Option<u64>
 }
 
 #[tactic(auto, using(std::proofs::lemmas::Int::wraps))]
-fn word_at(heap_words: u64, x: i64) -> Option<u64>
+pub(crate) fn word_at(heap_words: u64, x: i64) -> Option<u64>
     ensures value { result ≡ word_at heap_words x }
     ensures within { ForSome result (λ w. w < heap_words) }
 {
@@ -164,7 +165,7 @@ impl Machine {
         ensures value { result ≡ target image.now self.now a o }
         ensures within { ForSome result (λ w. w < heap_words image.now.parts.sizes) }
     {
-        word_at(heap_words(image.sizes()), self.read(a).wrapping_add(o))
+        word_at(image.heap_words(), self.read(a).wrapping_add(o))
     }
 
     fn store(&mut self, w: u64) -> Result<(), AllocError>
@@ -281,7 +282,7 @@ impl Machine {
                 self.write(r, 0);
                 Ok(Progress::Did(Effect::Quiet))
             }
-            Some(w) => match dev.load(heap_start(image.sizes()) + w) {
+            Some(w) => match dev.load(image.heap_start() + w) {
                 None => Err(Refusal::Off),
                 Some(x) => {
                     self.write(r, x);
@@ -575,7 +576,7 @@ impl Machine {
 }
 
 /// Writes words into the first registers, one after another.
-pub(crate) fn fill(to: &mut RegisterWords, words: &[i64])
+fn fill(to: &mut RegisterWords, words: &[i64])
     ensures filled { to.new ≡ registers_filled to.old 0 words.now }
     ensures size { length to.new ≡ length to.old }
 {
@@ -688,6 +689,36 @@ fn records_past(count: u64, effect: Effect) -> u64
 }
 
 impl Machine {
+    /// Does the next instructions that have no event, in at most `left` steps, and gives the steps
+    /// left after them.
+    fn run_silently<P: PmemWork, L: Ledger>(
+        &mut self,
+        image: &Image,
+        dev: &P,
+        left: u128,
+        steps: &mut Steps<L>,
+    ) -> u128
+        requires lines { (P.device dev.now).lines ≡ pool_lines image.now.parts.sizes }
+        ensures leads { (a n : ℕ) → DueLeads (P.device dev.now) steps.new
+            (due image.now a result n self.new (P.device dev.now).cache) (P.device dev.now)
+            steps.old (due image.now a left n self.old (P.device dev.now).cache) }
+        ensures spent { steps.new + result ≡ steps.old + left }
+        ensures fewer { result ≤ left }
+        ensures dirty { self.new.dirty ≡ self.old.dirty }
+        ensures logged { self.new.logged ≡ self.old.logged }
+    {
+        let from = Reached {
+            place: self.top.place,
+            ticks: self.ticks,
+            left,
+        };
+        let function = self.top.function;
+        let to = run_silently(dev, image, function, &mut self.top.registers, from, steps);
+        self.top.place = to.place;
+        self.ticks = to.ticks;
+        to.left
+    }
+
     /// Runs to the end, or to the refused event, in at most `most` steps. A run that hasn't ended
     /// by then ends as if it had no tick left.
     pub(crate) fn run_on<P: PmemWork, L: Ledger>(
@@ -726,8 +757,8 @@ impl Machine {
             (P.device dev.old).cache).records + self.old.logged) }
         ensures lines { (P.device dev.new).lines ≡ (P.device dev.old).lines }
     {
-        let mut left = image.most();
         let mut records = count;
+        let mut left = self.run_silently(image, dev, image.most(), steps);
         while left > 0 {
             left -= 1;
             steps.tick();
@@ -739,6 +770,7 @@ impl Machine {
                 Progress::Did(effect) => records = records_past(records, effect),
                 Progress::Ended(end) => return Ok(end),
             }
+            left = self.run_silently(image, dev, left, steps);
         }
         Ok(End::Trapped(TrapKind::Steps))
     }

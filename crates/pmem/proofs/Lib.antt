@@ -6,3 +6,4 @@ pub mod Sparses
 pub mod Cuts
 pub mod Counts
 pub mod Zeros
+pub mod Placed

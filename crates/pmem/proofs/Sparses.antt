@@ -1,18 +1,14 @@
 -- The effect of a store, a flush, a fence and a power cut on the cache that a sparse memory stands
 -- for.
 use Rattle.std.proofs.Common.{◌≡◌, ◌≢◌, ◌⊎◌, inl, inr, ⊎_elim, ℕ, ◌+◌, ◌-◌, ◌*◌, ◌/◌, ◌%◌, ◌<◌}
-use Rattle.std.proofs.Common.{◌==◌, cond, Bool, true, false, List, [], ◌∷◌, ◌++◌, map, drop, length}
+use Rattle.std.proofs.Common.{◌==◌, nat_lt, cond, Bool, true, false, List, [], ◌∷◌, ◌++◌, map, drop}
 use Rattle.std.proofs.Common.{set, get_or, slice_range, Option, Some, None, ℤ, pos, refl, sym, ap}
-use Rattle.std.proofs.Common.{◌∙◌, subst, arith, eqb-true, eq-eqb, ne_eqb, length-set}
-use Rattle.std.specs.Ordering.{nat_cmp, is_eq}
+use Rattle.std.proofs.Common.{◌∙◌, subst, arith, eq-eqb, ne_eqb, length, length-set}
+use Rattle.std.specs.Ordering.{nat_cmp}
 use Rattle.std.specs.BTreeMap.{is_at}
 use Rattle.std.specs.Option.{option_map}
-use Rattle.std.specs.Map.Calls.{RetainsPairs}
-use Rattle.std.specs.List.{AllByRecursion}
-use Rattle.std.specs.List.Sorted.{IsStrictlySortedBy}
 use Rattle.std.specs.Cmp.{unsigned_tied}
-use Rattle.std.specs.declared.cmp.Ordering.TheVariants.{Less}
-use Rattle.std.proofs.lemmas.Bool.{cases_eq}
+use Rattle.std.proofs.lemmas.Bool.{cases_eq, ltb-true, ltb-false, lt-ltb, le-ltb}
 use Rattle.std.proofs.lemmas.List.{map-append, length-append, get_or-set_same, get_or-set_other}
 use Rattle.std.proofs.lemmas.List.{get_or-take, get_or-drop, drop-map}
 use Rattle.cache_model.specs.Event.{Store, Flush, Fence}
@@ -25,7 +21,6 @@ use Rattle.pmem.specs.Sparse.{Older, Sparse, kept_at, newest_of, sparse_line, sp
 use Rattle.pmem.specs.Sparse.{sparse_memory, IsTidySparse}
 use Rattle.pmem.specs.inside.Sparse.{more_older, flush_older, fence_older_at, fence_older}
 use Rattle.pmem.specs.inside.Sparse.{has_older, fence_entry, fence_lines, is_listed, AreListed}
-use Rattle.pmem.specs.inside.Sparse.{fence_kept}
 
 -- a key is found exactly if it is equal
 at_key : (l q : ℕ) → is_at (nat_cmp l) q ≡ (l == q)
@@ -213,55 +208,26 @@ flush_sparse s es k is = λ i. record { lines = s.count; cache = λ l. flush_at 
 
 -- a fence of all lines
 
-module _ {F : Type 0} (T : F → ℕ → Older → Bool → Older → F → Type 0) where
-  pub fence_retained : ((f : F) (k : ℕ) (y : Older) (b : Bool) (w : Older) (g : F) → T f k y b w g
-      → (b ≡ has_older w.older) × (w ≡ fence_older y)) →
-      (f : F) (es kept : List (ℕ × Older)) → RetainsPairs T f es kept → kept ≡ fence_kept es
-  fence_retained told f [] kept s = s
-  fence_retained told f (e ∷ es) kept s =
-      let t = told f e.0 e.1 s.0 s.1 s.2 s.4 in
-      let b : s.0 ≡ has_older (fence_older e.1).older =
-      t.0 ∙ ap (λ (w : Older). has_older w.older) t.1 in
-      let rest = fence_retained told s.2 es s.3 s.5 in
-      s.6 ∙ (λ i. cond (b i) ((e.0, t.1 i) ∷ rest i) (rest i))
-
-less_apart : (l q : ℕ) → nat_cmp l q ≡ Less → is_at (nat_cmp l) q ≡ false
-less_apart l q e = ap is_eq e
-
-absent : (q : ℕ) (es : List (ℕ × Older))
-    → AllByRecursion (λ y. nat_cmp q y ≡ Less) (map (λ e. e.0) es) → kept_at es q ≡ None
-absent q [] all = refl
-absent q (e ∷ es) all = ap (λ (b : Bool). cond b (Some e.1) (kept_at es q)) (less_apart q e.0 all.0)
-    ∙ absent q es all.1
-
-key_of : (q l : ℕ) → is_at (nat_cmp q) l ≡ true → q ≡ l
-key_of q l e = eqb-true q l (sym (at_key q l) ∙ e)
-
-fence_step : (q : ℕ) (e : ℕ × Older) (es : List (ℕ × Older)) (b h : Bool)
-    → is_at (nat_cmp q) e.0 ≡ b → has_older (fence_older e.1).older ≡ h →
-    (b ≡ true → kept_at es q ≡ None) → kept_at (fence_kept es) q ≡ fence_entry (kept_at es q) →
-    kept_at (cond h ((e.0, fence_older e.1) ∷ fence_kept es) (fence_kept es)) q
-    ≡ fence_entry (cond b (Some e.1) (kept_at es q))
-fence_step q e es true true at has none rest =
-    ap (λ (b : Bool). cond b (Some (fence_older e.1)) (kept_at (fence_kept es) q)) at
-    ∙ sym (ap (λ (h : Bool). cond h (Some (fence_older e.1)) None) has)
-fence_step q e es true false at has none rest =
-    rest ∙ ap fence_entry (none refl)
-    ∙ sym (ap (λ (h : Bool). cond h (Some (fence_older e.1)) None) has)
-fence_step q e es false true at has none rest =
-    ap (λ (b : Bool). cond b (Some (fence_older e.1)) (kept_at (fence_kept es) q)) at ∙ rest
-fence_step q e es false false at has none rest = rest
-
-fence_found : (es : List (ℕ × Older)) (q : ℕ) → IsStrictlySortedBy nat_cmp (map (λ e. e.0) es)
-    → kept_at (fence_kept es) q ≡ fence_entry (kept_at es q)
-unfolding IsStrictlySortedBy
-fence_found [] q sorted = refl
-fence_found (e ∷ es) q sorted =
-    fence_step q e es (is_at (nat_cmp q) e.0) (has_older (fence_older e.1).older) refl refl
-    (λ at. absent q es (subst (λ (k : ℕ).
-    AllByRecursion (λ y. nat_cmp k y ≡ Less) (map (λ e. e.0) es)) (sym (key_of q e.0 at))
-    sorted.0))
-    (fence_found es q sorted.1)
+-- the lines below k were fenced, and now line k is
+pub fenced_line : (f g h : ℕ → Option Older) (k : ℕ)
+    → ((q : ℕ) → g q ≡ cond (nat_lt q k) (fence_entry (f q)) (f q))
+    → ((q : ℕ) → h q ≡ cond (is_at (nat_cmp k) q) (fence_entry (g k)) (g q))
+    → (q : ℕ) → h q ≡ cond (nat_lt q (k + 1)) (fence_entry (f q)) (f q)
+fenced_line f g h k was is q = ⊎_elim
+    (λ (e : q ≡ k).
+    is q ∙ ap (λ (b : Bool). cond b (fence_entry (g k)) (g q)) (at_same k q e)
+    ∙ ap (λ (r : ℕ). fence_entry (g r)) (sym e)
+    ∙ ap fence_entry (was q ∙ ap (λ (b : Bool). cond b (fence_entry (f q)) (f q))
+    (le-ltb q k (omega arith)))
+    ∙ sym (ap (λ (b : Bool). cond b (fence_entry (f q)) (f q)) (lt-ltb q (k + 1) (omega arith))))
+    (λ (ne : q ≢ k).
+    is q ∙ ap (λ (b : Bool). cond b (fence_entry (g k)) (g q)) (at_other k q ne) ∙ was q
+    ∙ ap (λ (b : Bool). cond b (fence_entry (f q)) (f q)) (below ne (nat_lt q k) refl))
+    (cases_eq q k)
+  where
+    below : q ≢ k → (b : Bool) → nat_lt q k ≡ b → b ≡ nat_lt q (k + 1)
+    below ne true e = let lt = ltb-true q k e in sym (lt-ltb q (k + 1) (omega arith))
+    below ne false e = let le = ltb-false q k e in sym (le-ltb q (k + 1) (omega arith))
 
 fence_mark : (m : Option ℕ) (us : List (List ℤ))
     → (fence_older_at m (record { older = us; mark = m })).mark ≡ None
@@ -305,12 +271,18 @@ has_length : (us : List (List ℤ)) → has_older us ≡ true → 0 < length us
 has_length [] e = absurd (cc)
 has_length (u ∷ us) e = omega arith
 
--- what a fence does to all lines, from what it does to the entries of a sorted list
-pub fence_sorted : (es fs : List (ℕ × Older)) → fs ≡ fence_kept es
-    → IsStrictlySortedBy nat_cmp (map (λ e. e.0) es)
+-- a fence of the first lines is one of all, where the others have no older versions
+pub fenced_first : (es fs : List (ℕ × Older)) (n : ℕ)
+    → ((q : ℕ) (y : Older) → kept_at es q ≡ Some y → q < n)
+    → ((q : ℕ) → kept_at fs q ≡ cond (nat_lt q n) (fence_entry (kept_at es q)) (kept_at es q))
     → (q : ℕ) → kept_at fs q ≡ fence_entry (kept_at es q)
-fence_sorted es fs is sorted q =
-    ap (λ (gs : List (ℕ × Older)). kept_at gs q) is ∙ fence_found es q sorted
+fenced_first es fs n few is q = is q ∙ by (kept_at es q) (few q) (nat_lt q n) (λ lt. lt-ltb q n lt)
+  where
+    by : (o : Option Older) → ((y : Older) → o ≡ Some y → q < n) → (b : Bool)
+        → (q < n → b ≡ true) → cond b (fence_entry o) o ≡ fence_entry o
+    by o few true holds = refl
+    by None few false holds = refl
+    by (Some y) few false holds = absurd (let no : false ≡ true = holds (few y refl) in cc)
 
 -- a fence of a line without a mark leaves it
 unmarked_stays : (y : Older) → y.mark ≡ None → 0 < length y.older

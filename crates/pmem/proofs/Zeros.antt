@@ -1,52 +1,89 @@
--- The first word that is 0, and what stays known of the words before it after a store.
-use Rattle.std.proofs.Common.{◌≡◌, ◌≢◌, ◌⊎◌, inl, inr, ℕ, ◌+◌, ◌-◌, ◌*◌, ◌/◌, ◌%◌, ◌<◌, ◌≤◌, ◌==◌}
-use Rattle.std.proofs.Common.{◌&&◌, if◌then◌else◌, Bool, true, false, List, length, set, get_or, ℤ}
-use Rattle.std.proofs.Common.{pos, refl, sym, ap, ◌∙◌, subst, arith, eqb, leb}
-use Rattle.std.specs.Prelude.{nat_le, min}
-use Rattle.std.specs.Ordering.{int_eq}
-use Rattle.std.proofs.lemmas.Bool.{cases_eq, le-leb, eq-eqb}
+-- The first word that is 0, and what stays known of the words after a search and a store.
+use Rattle.std.proofs.Common.{◌≡◌, ◌≢◌, ◌⊎◌, inl, inr, ⊎_elim, ℕ, zero, suc, ◌+◌, ◌*◌, ◌/◌, ◌<◌}
+use Rattle.std.proofs.Common.{◌≤◌, Bool, true, false, List, [], ◌∷◌, ◌++◌, length, set, get_or, ℤ}
+use Rattle.std.proofs.Common.{pos, refl, sym, ap, ◌∙◌, arith}
+use Rattle.std.proofs.lemmas.Bool.{cases_eq}
 use Rattle.std.proofs.lemmas.List.{get_or-set_same, get_or-set_other, get_or_default}
 use Rattle.cache_model.specs.Cache.{view}
 use Rattle.pmem.specs.Sparse.{Sparse, sparse_cache, IsTidySparse}
 use Rattle.pmem.specs.Zeros.{IsFirstZero}
-use Rattle.pmem.specs.declared.sparse_lines.Full.{Full}
-use Rattle.pmem.specs.inside.Zeros.{AreFull, full_past}
+use Rattle.pmem.specs.inside.Zeros.{AreFull, AreFullChunks}
 use Rattle.pmem.proofs.Cuts.{view_sparse}
 
--- a known word was stored to, and is one of those that are counted
-is_counted : (f : Full) (w i : ℕ) (x : ℤ) → f.first + 16 * i ≡ w → x ≡ pos 0
-    → (int_eq x (pos 0) && (nat_le f.first w && ((w - f.first) % 16 == 0))) ≡ true
-is_counted f w i x at zero =
-    let above : leb f.first w ≡ true = le-leb f.first w (omega arith) in
-    let row : (w - f.first) % 16 ≡ 0 = omega arith in
-    let is_row : eqb ((w - f.first) % 16) 0 ≡ true = eq-eqb ((w - f.first) % 16) 0 row in
-    let is_zero : int_eq x (pos 0) ≡ true = ap (λ (z : ℤ). int_eq z (pos 0)) zero in
-    rw (is_zero, above, is_row) refl
+-- flags after one was set or taken away
 
-module _ (words : List ℤ) (f : Full) (w : ℕ) (x : ℤ) (within : w < length words)
-    (known : AreFull words f.first f.count) where
-  by : (b : Bool) → (int_eq x (pos 0) && (nat_le f.first w && ((w - f.first) % 16 == 0))) ≡ b
-      → AreFull (set words w x)
-      (if b then record { first = f.first; count = min f.count ((w - f.first) / 16) } else f).first
-      (if b then record { first = f.first; count = min f.count ((w - f.first) / 16) } else f).count
-  by true test i less e =
-      let few : i < f.count = omega arith in
-      let other : f.first + 16 * i ≢ w = omega arith in
-      known i few (sym (get_or-set_other words w (f.first + 16 * i) x (pos 0) other) ∙ e)
-  by false test i less e = at (cases_eq (f.first + 16 * i) w)
-    where
-      at : (f.first + 16 * i ≡ w) ⊎ (f.first + 16 * i ≢ w) → ⊥
-      at (inr other) =
-          known i less (sym (get_or-set_other words w (f.first + 16 * i) x (pos 0) other) ∙ e)
-      at (inl same) =
-          let zero : x ≡ pos 0 = sym (get_or-set_same words w x (pos 0) within)
-          ∙ sym (ap (λ (p : ℕ). get_or (set words w x) p (pos 0)) same) ∙ e in
-          let yes = is_counted f w i x same zero in
-          absurd (cc)
+pub flag_set : (flags : List Bool) (c k : ℕ) → get_or (set flags c true) k false ≡ true
+    → (k ≡ c) ⊎ (get_or flags k false ≡ true)
+flag_set flags c k is = ⊎_elim
+    (λ (same : k ≡ c). inl same)
+    (λ (other : k ≢ c). inr (sym (get_or-set_other flags c k true false other) ∙ is))
+    (cases_eq k c)
 
-  pub full_stored : (g : Full) → g ≡ full_past f w x → AreFull (set words w x) g.first g.count
-  full_stored g is = subst (λ (h : Full). AreFull (set words w x) h.first h.count) (sym is)
-      (by (int_eq x (pos 0) && (nat_le f.first w && ((w - f.first) % 16 == 0))) refl)
+pub flag_pushed : (flags : List Bool) (c k : ℕ) → c ≡ length flags
+    → get_or (flags ++ true ∷ []) k false ≡ true → (k ≡ c) ⊎ (get_or flags k false ≡ true)
+flag_pushed flags c k at is = ⊎_elim
+    (λ (last : k ≡ length flags). inl (last ∙ sym at))
+    (λ (had : get_or flags k false ≡ true). inr had)
+    (by flags k is)
+  where
+    by : (bs : List Bool) (j : ℕ) → get_or (bs ++ true ∷ []) j false ≡ true
+        → (j ≡ length bs) ⊎ (get_or bs j false ≡ true)
+    by [] zero e = inl refl
+    by [] (suc j) e = inr e
+    by (b ∷ bs) zero e = inr e
+    by (b ∷ bs) (suc j) e = ⊎_elim
+        (λ (last : j ≡ length bs). inl (omega (arith, last)))
+        (λ (had : get_or bs j false ≡ true). inr had)
+        (by bs j e)
+
+flag_within : (flags : List Bool) (k : ℕ) → get_or flags k false ≡ true → k < length flags
+flag_within [] k is = absurd (let no_flag : false ≡ true = is in cc)
+flag_within (b ∷ bs) zero is = omega arith
+flag_within (b ∷ bs) (suc k) is = let lt = flag_within bs k is in omega arith
+
+pub flag_cleared : (flags : List Bool) (c k : ℕ) → c < length flags
+    → get_or (set flags c false) k false ≡ true → (k ≢ c) × (get_or flags k false ≡ true)
+flag_cleared flags c k lt is = ⊎_elim
+    (λ (same : k ≡ c). absurd (let no_flag : false ≡ true =
+    sym (get_or-set_same flags c false false lt)
+    ∙ sym (ap (λ (j : ℕ). get_or (set flags c false) j false) same) ∙ is in cc))
+    (λ (other : k ≢ c). (other, sym (get_or-set_other flags c k false false other) ∙ is))
+    (cases_eq k c)
+
+pub flag_past : (flags : List Bool) (c k : ℕ) → length flags ≤ c → get_or flags k false ≡ true
+    → (k ≢ c) × (get_or flags k false ≡ true)
+flag_past flags c k past is =
+    let lt = flag_within flags k is in
+    (λ same. absurd (let nothing : ⊥ = omega arith in nothing), is)
+
+-- nothing is known at first
+
+pub known_none : (words : List ℤ) (w : ℕ) (flags : List Bool) → flags ≡ []
+    → AreFull words w 0 × AreFullChunks words w flags
+known_none words w flags none = (
+  λ i lt. absurd (let nothing : ⊥ = omega arith in nothing),
+  λ i flag. absurd (let no_flag : false ≡ true =
+      sym (ap (λ (fs : List Bool). get_or fs (i / 128) false) none) ∙ flag in cc),
+)
+
+-- a store of another word, or of another value than 0
+
+stays : (words : List ℤ) (w p : ℕ) (x : ℤ) → w < length words → get_or words p (pos 0) ≢ pos 0
+    → (p ≡ w → x ≢ pos 0) → get_or (set words w x) p (pos 0) ≢ pos 0
+stays words w p x lt full ok e = ⊎_elim
+    (λ (same : p ≡ w). ok same (sym (get_or-set_same words w x (pos 0) lt)
+    ∙ sym (ap (λ (q : ℕ). get_or (set words w x) q (pos 0)) same) ∙ e))
+    (λ (other : p ≢ w). full (sym (get_or-set_other words w p x (pos 0) other) ∙ e))
+    (cases_eq p w)
+
+pub known_stored : (words : List ℤ) (f n : ℕ) (flags : List Bool) (w : ℕ) (x : ℤ)
+    → ((i : ℕ) → f + 16 * i ≡ w → x ≢ pos 0) → w < length words
+    → AreFull words f n × AreFullChunks words f flags
+    → AreFull (set words w x) f n × AreFullChunks (set words w x) f flags
+known_stored words f n flags w x ok lt known = (
+  λ i less. stays words w (f + 16 * i) x lt (known.0 i less) (ok i),
+  λ i flag. stays words w (f + 16 * i) x lt (known.1 i flag) (ok i),
+)
 
 -- the first 0 among the newest words is the first in the view
 pub first_in_view : (s m : Sparse) (words : List ℤ) (w k n : ℕ) → s ≡ m → IsTidySparse s

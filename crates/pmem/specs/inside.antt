@@ -1,4 +1,5 @@
 -- What only bodies and proofs need: no public clause rests on it.
 pub mod Sparse
+pub mod Placed
 pub mod Zeros
 pub mod Switch

@@ -8,6 +8,8 @@ mod answer;
 mod device;
 pub mod events;
 mod fail;
+mod full_words;
+mod kept_lines;
 mod law;
 mod lines;
 mod mem;

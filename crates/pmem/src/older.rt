@@ -40,6 +40,16 @@ impl Kept {
         })
     }
 
+    /// One older version in place of all, with no mark, in the same buffer.
+    pub fn again(mut self, version: [i64; 8]) -> Result<Self, AllocError>
+        ensures { IfOk result (λ kept. kept ≡ record { older = version ∷ []; mark = None }) }
+    {
+        self.mark = None;
+        self.versions.clear();
+        self.versions.push(version)?;
+        Ok(self)
+    }
+
     /// The number of older versions.
     pub fn len(&self) -> u64
         ensures len { result ≡ length self.now.older }

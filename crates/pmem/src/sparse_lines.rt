@@ -1,12 +1,11 @@
 //! Lines in one list of words, with older versions only for the lines that have any.
 
 ghost use Rattle.std.specs.Prelude.{◌≡◌, ◌⊎◌, ◌*◌, ◌+◌, ◌/◌, ◌%◌, ◌<◌, ◌≤◌, ◌==◌, cond, ℕ, Some};
-ghost use Rattle.std.specs.Prelude.{None, OnOk, OnErr, IfOk, IfErr, map, [], ◌∷◌, ◌++◌, true};
-ghost use Rattle.std.specs.Prelude.{false, length, slice_range, slice_index_or, pos};
+ghost use Rattle.std.specs.Prelude.{None, OnOk, OnErr, IfOk, IfErr, [], ◌∷◌, ◌++◌, true};
+ghost use Rattle.std.specs.Prelude.{false, length, slice_range, slice_index_or, pos, nat_lt};
 ghost use Rattle.std.specs.Ordering.{nat_cmp};
 ghost use Rattle.std.specs.BTreeMap.{is_at};
 ghost use Rattle.std.specs.Option.{option_map};
-ghost use Rattle.std.specs.List.Sorted.{IsStrictlySortedBy};
 ghost use Rattle.cache_model.specs.Event.{Store, Flush, Fence};
 ghost use Rattle.cache_model.specs.Play.{after};
 ghost use Rattle.cache_model.specs.Cache.{blank, view};
@@ -15,54 +14,45 @@ ghost use Rattle.pmem.specs.Kept.{more_lines};
 ghost use Rattle.pmem.specs.Sparse.{Older, sparse_line, sparse_cache, sparse_memory, newest_of};
 ghost use Rattle.pmem.specs.Sparse.{kept_at};
 ghost use Rattle.pmem.specs.inside.Sparse.{count_of, more_older, flush_older, fence_entry};
-ghost use Rattle.pmem.specs.inside.Sparse.{fence_lines, AreListed, fence_kept, left_older};
+ghost use Rattle.pmem.specs.inside.Sparse.{fence_lines, AreListed, left_older};
 ghost use Rattle.pmem.specs.inside.Sparse.{or_newest};
 ghost use Rattle.pmem.specs.Zeros.{IsFirstZero};
-ghost use Rattle.pmem.specs.inside.Zeros.{AreFull, full_past};
 
+use crate::full_words::FullWords;
+use crate::kept_lines::KeptLines;
 use crate::lines::Lines;
 use crate::older::Kept;
 use cache_model::{BadPick, Choice, Pick, Rest};
 use std::alloc::{AllocError, Global};
-use std::collections::BTreeMap;
 use std::marker::Model;
 
-/// Where a search for a word that is 0 began, and how many words from there on, two lines apart,
-/// are known not to be 0.
-#[derive(Clone, Copy, Debug, PartialEq, Eq)]
-pub struct Full {
-    pub first: u64,
-    pub count: u64,
-}
-
 /// The number of lines, their newest words, the older versions of the lines that have any, the
-/// lines that were marked since the last fence, and what the last search saw.
+/// lines that were marked since the last fence, and what searches for a 0 left known.
 #[derive(Drop)]
 pub struct SparseLines {
-    alloc: Global,
     count: u64,
     words: Vec<i64>,
-    kept: BTreeMap<u64, Kept>,
+    kept: KeptLines,
     marked: Vec<u64>,
     /// Whether a marked line isn't listed, since memory lacked.
     unlisted: bool,
-    full: Full,
+    full: FullWords,
 }
 
 impl Model for SparseLines {
     ghost use Rattle.std.specs.Prelude.{◌≡◌, ◌⊎◌, true};
     ghost use Rattle.pmem.specs.Sparse.{Sparse, IsTidySparse};
     ghost use Rattle.pmem.specs.inside.Sparse.{AreListed};
-    ghost use Rattle.pmem.specs.inside.Zeros.{AreFull};
+    ghost use Rattle.pmem.specs.inside.Zeros.{IsKnown};
 
     ghost Value = { Sparse };
 
-    ghost view = { λ s. record { count = s.count; words = s.words.items; kept = s.kept.entries } };
+    ghost view = { λ s. record { count = s.count; words = s.words.items; kept = s.kept } };
 
     ghost invariant = { λ s.
-        IsTidySparse (record { count = s.count; words = s.words.items; kept = s.kept.entries })
-        × ((s.unlisted ≡ true) ⊎ AreListed s.marked.items s.kept.entries)
-        × AreFull s.words.items s.full.first s.full.count };
+        IsTidySparse (record { count = s.count; words = s.words.items; kept = s.kept })
+        × ((s.unlisted ≡ true) ⊎ AreListed s.marked.items s.kept)
+        × IsKnown s.words.items s.full };
 }
 
 impl SparseLines {
@@ -70,17 +60,14 @@ impl SparseLines {
     pub fn kept(&self) -> u64
         ensures { result ≡ more_lines (sparse_memory self.now) }
     {
-        self.kept.len() as u64
+        self.kept.len()
     }
 
     /// The number of versions of a line.
     fn versions(&self, line: u64) -> u64
         ensures { result ≡ count_of (kept_at self.now.kept line) }
     {
-        match self.kept.get(&line) {
-            Some(older) => older.len() + 1,
-            None => 1,
-        }
+        self.kept.versions(line)
     }
 
     /// Whether the line exists and has the picked version.
@@ -115,13 +102,12 @@ impl Lines for SparseLines {
 
     fn empty(alloc: Global) -> Self {
         SparseLines {
-            alloc,
             count: 0,
             words: Vec::new(alloc),
-            kept: BTreeMap::new(alloc),
+            kept: KeptLines::empty(alloc),
             marked: Vec::new(alloc),
             unlisted: false,
-            full: NOTHING,
+            full: FullWords::new(alloc),
         }
     }
 
@@ -130,14 +116,14 @@ impl Lines for SparseLines {
             return Err(AllocError);
         };
         let words = vec![in alloc; 0; len as usize]?;
+        let kept = KeptLines::blank(alloc, count)?;
         Ok(SparseLines {
-            alloc,
             count,
             words,
-            kept: BTreeMap::new(alloc),
+            kept,
             marked: Vec::new(alloc),
             unlisted: false,
-            full: NOTHING,
+            full: FullWords::new(alloc),
         })
     }
 
@@ -146,25 +132,15 @@ impl Lines for SparseLines {
     }
 
     fn first_zero(&mut self, word: u64, count: u64) -> u64 {
-        if self.full.first != word {
-            self.full = Full {
-                first: word,
-                count: 0,
-            };
-        }
-        let found = first_zero_in(&self.words, word, count, self.full.count.min(count));
-        if self.full.count < found {
-            self.full.count = found;
-        }
-        found
+        self.full.first_zero(&self.words, word, count)
     }
 
     fn store(&mut self, word: u64, value: i64) -> Result<(), AllocError> {
         let line = word / 8;
         let version = version_of(&self.words, line);
-        keep_version(self.alloc, &mut self.kept, line, version)?;
+        self.kept.keep(line, version)?;
         self.words[word as usize] = value;
-        self.full = full_past(self.full, word, value);
+        self.full.store(word, value);
         Ok(())
     }
 
@@ -174,7 +150,12 @@ impl Lines for SparseLines {
     }
 
     fn fence(&mut self) {
-        fence_marked(&mut self.kept, self.marked.as_slice(), self.unlisted);
+        fence_marked(
+            &mut self.kept,
+            self.count,
+            self.marked.as_slice(),
+            self.unlisted,
+        );
         self.marked.clear();
         self.unlisted = false;
     }
@@ -185,41 +166,8 @@ impl Lines for SparseLines {
             return Err(BadPick { line });
         }
         leave_all(&mut self.words, &mut self.kept, choice.rest, picks);
-        self.full = NOTHING;
+        self.full.start_at(0);
         Ok(())
-    }
-}
-
-/// Nothing is known to be other than 0.
-const NOTHING: Full = Full { first: 0, count: 0 };
-
-/// How many of `count` words, two lines apart from `word` on, come before the first that is 0, if
-/// none of the first `known` is.
-fn first_zero_in(words: &[i64], word: u64, count: u64, known: u64) -> u64
-    requires inside { word + 16 * count ≤ length words.now }
-    requires few { known ≤ count }
-    requires known { AreFull words.now word known }
-    ensures { IsFirstZero (λ w. slice_index_or words.now w (pos 0)) word count result }
-{
-    for n in known..count {
-        if words[(word + 16 * n) as usize] == 0 {
-            return n;
-        }
-    }
-    count
-}
-
-/// What is still known not to be 0 after a store.
-fn full_past(full: Full, word: u64, value: i64) -> Full
-    ensures { result ≡ full_past full word value }
-{
-    if value == 0 && full.first <= word && (word - full.first) % 16 == 0 {
-        Full {
-            first: full.first,
-            count: full.count.min((word - full.first) / 16),
-        }
-    } else {
-        full
     }
 }
 
@@ -245,103 +193,51 @@ fn write_version(words: &mut Vec<i64>, line: u64, version: [i64; 8])
     words[from..from + 8].copy_from_slice(&version);
 }
 
-/// Adds one version to the older ones of a line.
-fn keep_version(
-    alloc: Global,
-    kept: &mut BTreeMap<u64, Kept>,
-    line: u64,
-    version: [i64; 8],
-) -> Result<(), AllocError>
-    ensures done { OnOk result ((q : ℕ) → kept_at kept.new.entries q ≡ cond (is_at (nat_cmp line) q)
-        (Some (more_older (kept_at kept.old.entries line) version)) (kept_at kept.old.entries q)) }
-    ensures refused { OnErr result ((q : ℕ)
-        → kept_at kept.new.entries q ≡ kept_at kept.old.entries q) }
-{
-    if let Some(older) = kept.get_mut(&line) {
-        return older.push(version);
-    }
-    let one = Kept::one(alloc, version)?;
-    kept.insert(line, one)?;
-    Ok(())
-}
-
-/// Marks the newest version of a line.
-fn mark_line(kept: &mut BTreeMap<u64, Kept>, line: u64)
-    ensures { (q : ℕ) → kept_at kept.new.entries q ≡ cond (is_at (nat_cmp line) q)
-        (option_map flush_older (kept_at kept.old.entries line)) (kept_at kept.old.entries q) }
-{
-    if let Some(older) = kept.get_mut(&line) {
-        older.flush();
-    }
-}
-
 /// Marks the newest version of a line, and lists the line. The answer is whether some marked line
 /// isn't listed.
-fn mark_listed(
-    kept: &mut BTreeMap<u64, Kept>,
-    marked: &mut Vec<u64>,
-    unlisted: bool,
-    line: u64,
-) -> bool
-    ensures kept { (q : ℕ) → kept_at kept.new.entries q ≡ cond (is_at (nat_cmp line) q)
-        (option_map flush_older (kept_at kept.old.entries line)) (kept_at kept.old.entries q) }
+fn mark_listed(kept: &mut KeptLines, marked: &mut Vec<u64>, unlisted: bool, line: u64) -> bool
+    ensures kept { (q : ℕ) → kept_at kept.new q ≡ cond (is_at (nat_cmp line) q)
+        (option_map flush_older (kept_at kept.old line)) (kept_at kept.old q) }
     ensures listed { (result ≡ true) ⊎ ((unlisted ≡ false)
         × (marked.new.items ≡ marked.old.items ++ line ∷ [])) }
 {
-    mark_line(kept, line);
+    kept.mark(line);
     match marked.push(line) {
         Ok(()) => unlisted,
         Err(_) => true,
     }
 }
 
-/// Fences all lines that have older versions.
-fn fence_all(kept: &mut BTreeMap<u64, Kept>)
-    ensures entries { kept.new.entries ≡ fence_kept kept.old.entries }
-    ensures ordered { IsStrictlySortedBy nat_cmp (map (λ e. e.0) kept.old.entries) }
+/// Fences the first lines, so many of them.
+fn fence_all(kept: &mut KeptLines, count: u64)
+    ensures { (q : ℕ) → kept_at kept.new q
+        ≡ cond (nat_lt q count) (fence_entry (kept_at kept.old q)) (kept_at kept.old q) }
 {
-    kept.retain(|_, older| {
-        older.fence();
-        older.has_older()
-    });
-}
-
-/// Fences one line, if it has older versions.
-fn fence_line(kept: &mut BTreeMap<u64, Kept>, line: u64)
-    ensures { (q : ℕ) → kept_at kept.new.entries q ≡ cond (is_at (nat_cmp line) q)
-        (fence_entry (kept_at kept.old.entries line)) (kept_at kept.old.entries q) }
-{
-    let is_bare = match kept.get_mut(&line) {
-        Some(older) => {
-            older.fence();
-            !older.has_older()
-        }
-        None => false,
-    };
-    if is_bare {
-        kept.remove(&line);
+    for line in 0..count {
+        kept.fence(line);
     }
 }
 
 /// Fences the listed lines.
-fn fence_listed(kept: &mut BTreeMap<u64, Kept>, lines: &[u64])
-    ensures { (q : ℕ) → kept_at kept.new.entries q
-        ≡ fence_lines lines.now (kept_at kept.old.entries) q }
+fn fence_listed(kept: &mut KeptLines, lines: &[u64])
+    ensures { (q : ℕ) → kept_at kept.new q
+        ≡ fence_lines lines.now (kept_at kept.old) q }
 {
     for line in lines {
-        fence_line(kept, *line);
+        kept.fence(*line);
     }
 }
 
 /// Fences the lines that have a mark: those that are listed, or all if one isn't listed.
-fn fence_marked(kept: &mut BTreeMap<u64, Kept>, lines: &[u64], unlisted: bool)
-    requires listed { (unlisted ≡ true) ⊎ AreListed lines.now kept.old.entries }
-    requires more { (q : ℕ) (y : Older) → kept_at kept.old.entries q ≡ Some y
+fn fence_marked(kept: &mut KeptLines, count: u64, lines: &[u64], unlisted: bool)
+    requires few { (q : ℕ) (y : Older) → kept_at kept.old q ≡ Some y → q < count }
+    requires listed { (unlisted ≡ true) ⊎ AreListed lines.now kept.old }
+    requires more { (q : ℕ) (y : Older) → kept_at kept.old q ≡ Some y
         → 0 < length y.older }
-    ensures { (q : ℕ) → kept_at kept.new.entries q ≡ fence_entry (kept_at kept.old.entries q) }
+    ensures { (q : ℕ) → kept_at kept.new q ≡ fence_entry (kept_at kept.old q) }
 {
     if unlisted {
-        fence_all(kept);
+        fence_all(kept, count);
     } else {
         fence_listed(kept, lines);
     }
@@ -374,15 +270,16 @@ fn leave_line(words: &mut Vec<i64>, line: u64, older: &Kept, rest: Rest, pick: O
 
 /// Cuts each line to the version that the choice says. Lines without older versions stay as they
 /// are.
-fn leave_all(words: &mut Vec<i64>, lines: &mut BTreeMap<u64, Kept>, rest: Rest, picks: &[Pick])
-    requires { (l : ℕ) (y : Older) → kept_at lines.old.entries l ≡ Some y
+fn leave_all(words: &mut Vec<i64>, lines: &mut KeptLines, rest: Rest, picks: &[Pick])
+    requires { (l : ℕ) (y : Older) → kept_at lines.old l ≡ Some y
         → 8 * l + 8 ≤ length words.old.items }
-    ensures none { lines.new.entries ≡ [] }
+    ensures none { lines.new ≡ [] }
     ensures length { length words.new.items ≡ length words.old.items }
     ensures left { (l q : ℕ) → newest_of words.new.items l q ≡ kept rest (picked picks.now l)
-        (sparse_line words.old.items (kept_at lines.old.entries l) l) q }
+        (sparse_line words.old.items (kept_at lines.old l) l) q }
 {
-    'leaving: while let Some((line, older)) = lines.pop_first() {
+    'leaving: while let Some((line, older)) = lines.pop() {
         leave_line(words, line, &older, rest, pick_of(picks, line));
+        lines.give(older);
     }
 }

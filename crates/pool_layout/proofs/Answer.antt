@@ -1,6 +1,7 @@
 -- The words of an image that was read hold what a recovery needs.
 use Rattle.std.proofs.Common.{◌≡◌, ◌≢◌, ℕ, suc, ◌+◌, ◌*◌, ◌^◌, ◌≤◌, ◌==◌, cond, Result, Ok, Err}
-use Rattle.std.proofs.Common.{IfOk, List, length, true, false, ℤ, pos, refl, sym, ap, ◌∙◌, subst, arith}
+use Rattle.std.proofs.Common.{IfOk, List, length, true, false, ℤ, pos}
+use Rattle.std.proofs.Common.{refl, sym, ap, ◌∙◌, subst, arith}
 use Rattle.cache_model.specs.Cache.{Words}
 use Rattle.pool_layout.specs.declared.places.Version.{Version}
 use Rattle.pool_layout.specs.declared.places.Version.TheVariants.{First, Second}

@@ -73,7 +73,8 @@ function_inside : (v : Version) → 24 + 0 < seal_word v
 function_inside First = omega arith
 function_inside Second = omega arith
 
-function_is : (r : Rules) (image : Words) → KeepsRules r image → is_sealed_in r.layout.version image ≡ true
+function_is : (r : Rules) (image : Words) → KeepsRules r image
+    → is_sealed_in r.layout.version image ≡ true
     → (f : ℕ) × (1 ≤ f) × (f ≤ r.txs) × (image (at r.layout (Argument 0)) ≡ pos f)
 unfolding breaks_rule
 function_is r image keeps sealed = within_is 1 r.txs (image (at r.layout (Argument 0)))
@@ -82,7 +83,8 @@ function_is r image keeps sealed = within_is 1 r.txs (image (at r.layout (Argume
     (not (is_within 1 r.txs (image (at r.layout (Argument 0)))))
     (keeps (Argument 0) (function_inside r.layout.version)) sealed))
 
-record_inside : (r : Rules) (image : Words) → KeepsRules r image → is_sealed_in r.layout.version image ≡ true
+record_inside : (r : Rules) (image : Words) → KeepsRules r image
+    → is_sealed_in r.layout.version image ≡ true
     → (j : ℕ) → j < r.layout.sizes.records → is_valid r.layout image j ≡ true
     → IsBelow (heap_words r.layout.sizes) (image (at r.layout (RecordWord j)))
 unfolding breaks_rule
@@ -95,7 +97,8 @@ record_inside r image keeps sealed j lt valid_j =
     (keeps (RecordWord j) lt) sealed)
     valid_j)
 
-old_fits : (r : Rules) (image : Words) → KeepsRules r image → is_sealed_in r.layout.version image ≡ true
+old_fits : (r : Rules) (image : Words) → KeepsRules r image
+    → is_sealed_in r.layout.version image ≡ true
     → (j : ℕ) → j < r.layout.sizes.records → is_valid r.layout image j ≡ true
     → names_header r.layout.sizes (image (at r.layout (RecordWord j))) ≡ true
     → IsUpTo r.structs (image (at r.layout (RecordOld j)))
@@ -128,7 +131,8 @@ restored_headers r image keeps a is log sealed = λ slot low high.
     (headers_fit r image keeps slot low high)
 
 owed : (r : Rules) (image : Words) → KeepsRules r image → (a : ℕ)
-    → image (at r.layout Attempt) ≡ pos a → is_sealed_in r.layout.version image ≡ true → NamesOwed r a image
+    → image (at r.layout Attempt) ≡ pos a → is_sealed_in r.layout.version image ≡ true
+    → NamesOwed r a image
 owed r image keeps a is sealed =
     let log : LogIs r.layout a (count r.layout a image) image =
     log_is r.layout a (count r.layout a image) image (well_made r image keeps a is) refl in

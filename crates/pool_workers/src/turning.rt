@@ -113,7 +113,8 @@ fn first_turn<P: PmemWork>(image: &Image, task: &mut Task, dev: &mut P) -> TurnA
 
 /// Whether a run goes on. If no more instructions are allowed it ends as if it had no tick left.
 fn goes_on(machine: &Machine, left: u128) -> Stepped
-    ensures left { (a n : ℕ) → stepped_left result machine.now a n left ≡ going machine.now a n left }
+    ensures left { (a n : ℕ)
+        → stepped_left result machine.now a n left ≡ going machine.now a n left }
     ensures answer { stepped_answer result ≡ TurnAnswer.Went }
 {
     if left == 0 {

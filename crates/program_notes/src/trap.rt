@@ -3,7 +3,7 @@
 use crate::program::spelled;
 use c_lexer::{TokenList, tokens};
 use std::alloc::{AllocError, Global};
-use token_notes::{Lined, trap_lines};
+use token_notes::{Lined, transaction_name, trap_lines};
 
 /// The most lines that are named.
 const MOST: usize = 6;
@@ -27,6 +27,16 @@ pub fn trap_place(
     };
     let found = trap_lines(alloc, program, transaction.as_bytes(), kind)?;
     named(alloc, path, &found)
+}
+
+/// The name of the program's transaction of this number, counted from 1; an empty one if there is
+/// none.
+pub fn name_of(alloc: Global, text: &[u8], transaction: u64) -> Result<String, AllocError> {
+    let Ok(list) = tokens(alloc, text) else {
+        return Ok(String::new(alloc));
+    };
+    let words = spelled(alloc, text, &list)?;
+    String::from_utf8_lossy(alloc, transaction_name(&words, transaction))
 }
 
 /// The lines of a text's tokens.

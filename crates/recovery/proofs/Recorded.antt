@@ -5,11 +5,12 @@ use Rattle.std.proofs.Common.{◌∙◌, arith}
 use Rattle.cache_model.specs.Cache.{Words}
 use Rattle.args_log.specs.Pending.{HoldsArguments}
 use Rattle.pm_machine.specs.declared.op.TxEntry.{TxEntry}
-use Rattle.recovery.specs.Found.{words_from, entry_words}
+use Rattle.heap_pool.specs.HeapPool.{words_from}
+use Rattle.recovery.specs.Found.{entry_words}
 
 pub take_words : (xs : List ℤ) (p m : ℕ) (w : Words) → m ≤ length xs
     → ((k : ℕ) → k < length xs → slice_index_or xs k (pos 0) ≡ w (p + k))
-    → take m xs ≡ words_from p m w
+    → take m xs ≡ words_from w p m
 take_words xs p zero w few same = refl
 take_words [] p (suc m) w few same = absurd (let h : ⊥ = omega arith in h)
 take_words (x ∷ xs) p (suc m) w few same =
@@ -21,7 +22,7 @@ take_words (x ∷ xs) p (suc m) w few same =
 
 all_words : (xs : List ℤ) (p : ℕ) (w : Words)
     → ((k : ℕ) → k < length xs → slice_index_or xs k (pos 0) ≡ w (p + k))
-    → xs ≡ words_from p (length xs) w
+    → xs ≡ words_from w p (length xs)
 all_words [] p w same = refl
 all_words (x ∷ xs) p w same =
     let head : x ≡ w p = same 0 (omega arith) ∙ ap w (omega arith) in
@@ -32,17 +33,17 @@ all_words (x ∷ xs) p w same =
 -- a transaction of fewer than 22 parameters, and one of 22
 pub given_few : (o : Option TxEntry) (n : ℕ) (xs : List ℤ) (w : Words)
     → IsSomeAnd o (λ e. n ≡ e.parameters) → n < 22 → length xs ≡ 22 → HoldsArguments w xs
-    → take n xs ≡ words_from 25 (entry_words o) w
+    → take n xs ≡ words_from w 25 (entry_words o)
 given_few None n xs w is less whole holds = absurd is
 given_few (Some e) n xs w is less whole holds =
     let same : n ≡ min e.parameters 22 = omega arith in
     take_words xs 25 n w (omega arith) (λ k below. holds k (omega arith))
-    ∙ ap (λ (m : ℕ). words_from 25 m w) same
+    ∙ ap (λ (m : ℕ). words_from w 25 m) same
 
 pub given_all : (o : Option TxEntry) (n : ℕ) (xs : List ℤ) (w : Words)
     → IsSomeAnd o (λ e. n ≡ e.parameters) → 22 ≤ n → length xs ≡ 22 → HoldsArguments w xs
-    → xs ≡ words_from 25 (entry_words o) w
+    → xs ≡ words_from w 25 (entry_words o)
 given_all None n xs w is more whole holds = absurd is
 given_all (Some e) n xs w is more whole holds =
     let same : length xs ≡ min e.parameters 22 = omega arith in
-    all_words xs 25 w (λ k below. holds k (omega arith)) ∙ ap (λ (m : ℕ). words_from 25 m w) same
+    all_words xs 25 w (λ k below. holds k (omega arith)) ∙ ap (λ (m : ℕ). words_from w 25 m) same

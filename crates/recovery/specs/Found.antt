@@ -1,11 +1,12 @@
 -- What a recovery finds in a pool: its mark, its valid records and the content of its argument
 -- record.
-use Rattle.std.specs.Prelude.{ℕ, zero, suc, ◌-◌, ◌^◌, ◌≡◌, ◌≢◌, ◌⊎◌, Bool, true, false, ◌&&◌}
-use Rattle.std.specs.Prelude.{nat_le, nat_lt, min, List, [], ◌∷◌, length, slice_get, Option, Some}
+use Rattle.std.specs.Prelude.{ℕ, ◌-◌, ◌^◌, ◌≡◌, ◌≢◌, ◌⊎◌, Bool, true, false, ◌&&◌}
+use Rattle.std.specs.Prelude.{nat_le, nat_lt, min, List, length, slice_get, Option, Some}
 use Rattle.std.specs.Prelude.{None, ℤ, pos}
 use Rattle.cache_model.specs.Cache.{Words}
 use Rattle.pool_layout.specs.declared.places.TheConstants.{MARK, FUNCTION}
 use Rattle.pool_layout.specs.Image.{is_sealed}
+use Rattle.heap_pool.specs.HeapPool.{words_from}
 use Rattle.clobber_log.specs.Logs.{attempt_in, count_in}
 use Rattle.args_log.specs.Pending.{tx_number, HoldsArguments}
 use Rattle.pm_machine.specs.declared.image.Image.{Image}
@@ -40,11 +41,6 @@ Finds (Unsealed n) image w = IsOpen image n w × (is_sealed w ≡ false)
 Finds (Sealed tx args n) image w = IsOpen image n w × (is_sealed w ≡ true)
     × (tx ≡ tx_number (w FUNCTION)) × (names_tx image tx ≡ true) × HoldsArguments w args
 
--- so many words from word p on
-abbrev pub words_from : (p : ℕ) → ℕ → Words → List ℤ
-words_from p zero w = []
-words_from p (suc m) w = w p ∷ words_from (suc p) m w
-
 -- the number of argument words, of the 22, that a transaction's entry takes
 abbrev pub entry_words : Option TxEntry → ℕ
 entry_words None = 0
@@ -52,4 +48,4 @@ entry_words (Some entry) = min entry.parameters 22
 
 -- the arguments that a pool's record holds for a transaction
 abbrev pub recorded : Image → (tx : ℕ) → Words → List ℤ
-recorded image tx w = words_from 25 (entry_words (slice_get image.parts.txs (tx - 1))) w
+recorded image tx w = words_from w 25 (entry_words (slice_get image.parts.txs (tx - 1)))

@@ -88,7 +88,7 @@ shown_same s c w less = go (nat_lt w (heap_words s)) refl
     go true e = refl
     go false e = let more : heap_words s ≤ w = ltb-false w (heap_words s) e in absurd (omega arith)
 
-length_words : (h : Words) (w n : ℕ) → length (words_from h w n) ≡ n
+pub length_words : (h : Words) (w n : ℕ) → length (words_from h w n) ≡ n
 length_words h w zero = refl
 length_words h w (suc n) = ap suc (length_words h (suc w) n)
 

@@ -27,10 +27,11 @@ use Rattle.clobber_log.specs.Logs.{attempt_of, attempt_in}
 use Rattle.args_log.specs.Pending.{tx_number}
 use Rattle.pm_machine.specs.Effects.{heap_end}
 use Rattle.pool_layout.specs.Good.{Lost, Pool}
+use Rattle.heap_pool.specs.HeapPool.{words_from}
 use Rattle.crash_law.specs.Pools.{Owed, IsBefore}
 use Rattle.crash_law.specs.Law.{IsAtRest, IsCut}
 use Rattle.run_law.specs.Seen.{result_of, E, W}
-use Rattle.recovery.specs.Found.{words_from, recorded}
+use Rattle.recovery.specs.Found.{recorded}
 use Rattle.tx_run.specs.Standing.{trap_of_mark}
 use Rattle.cut_law.specs.Law.{call_of, pool_with}
 use Rattle.cnvm_session.specs.declared.mode.Mode.{Mode}
@@ -52,6 +53,7 @@ use Rattle.session_law.specs.Answers.{Powers}
 use Rattle.session_law.specs.Opened.{wanted_of, opened_heap, recorded_in, opened}
 use Rattle.session_law.specs.Holds.{HoldsPool, OwesNone, OwesOne, OwesMarked, OwesBy, Holds}
 use Rattle.session_law.proofs.Words.{AreAll, pool_words, restored_words, recorded_words}
+use Rattle.session_law.proofs.Heaps.{length_words}
 use Rattle.session_law.proofs.Ones.{rest_images}
 use Rattle.session_law.proofs.Retired.{attempt_small}
 use Rattle.session_law.proofs.Reading.{kind_read, trap_some, taken_is, next_done}
@@ -87,11 +89,7 @@ takes_some program agrees (suc i) first last =
     let found = there (transactions_of program.typed) i (omega arith) in
     (found.0, agrees.parameters (suc i) ∙ found.1)
 
-length_words : (p n : ℕ) (w : Words) → length (words_from p n w) ≡ n
-length_words p zero w = refl
-length_words p (suc n) w = ap suc (length_words (suc p) n w)
-
-word_at : (n p j : ℕ) (w : Words) → j < n → slice_index_or (words_from p n w) j (pos 0) ≡ w (p + j)
+word_at : (n p j : ℕ) (w : Words) → j < n → slice_index_or (words_from w p n) j (pos 0) ≡ w (p + j)
 word_at zero p j w less = absurd (omega arith)
 word_at (suc n) p zero w less = ap w (let e : p ≡ p + 0 = omega arith in e)
 word_at (suc n) p (suc j) w less = word_at n (suc p) j w (omega arith)
@@ -228,11 +226,11 @@ module _ (program : Program) (agrees : Agrees program) (words : List ℤ)
       few : some.0 ≤ 22
       few = (agrees.few tx some.0 some.1).1
 
-      args_is : args ≡ words_from 25 some.0 image
-      args_is = ap (λ (n : ℕ). words_from 25 n image) (taken_is program.image tx some.0 some.1 few)
+      args_is : args ≡ words_from image 25 some.0
+      args_is = ap (λ (n : ℕ). words_from image 25 n) (taken_is program.image tx some.0 some.1 few)
 
       long : length args ≡ some.0
-      long = ap (λ (xs : List ℤ). length xs) args_is ∙ length_words 25 some.0 image
+      long = ap (λ (xs : List ℤ). length xs) args_is ∙ length_words image 25 some.0
 
       takes : tx_parameters program.image tx ≡ Some (length args)
       takes = some.1 ∙ ap (λ (n : ℕ). Some n) (sym long)

@@ -17,7 +17,8 @@ use Rattle.pm_machine.specs.declared.image.Image.{Image}
 use Rattle.pm_machine.specs.declared.op.TxEntry.{TxEntry}
 use Rattle.tx_run.specs.declared.standing.Standing.TheVariants as stands
 use Rattle.tx_run.specs.Standing.{trap_of_mark, is_number, standing_of}
-use Rattle.recovery.specs.Found.{has_numbers, names_tx, words_from, entry_words, recorded}
+use Rattle.heap_pool.specs.HeapPool.{words_from}
+use Rattle.recovery.specs.Found.{has_numbers, names_tx, entry_words, recorded}
 use Rattle.cnvm_session.specs.Commands.{tx_parameters}
 
 -- the mark's trap
@@ -132,7 +133,7 @@ names_one image (suc i) n is = go (slice_get image.parts.txs i) refl is
 
 words_listed : (args : List ℤ) (p : ℕ) (w : Words)
     → ((j : ℕ) → j < length args → w (p + j) ≡ slice_index_or args j (pos 0))
-    → words_from p (length args) w ≡ args
+    → words_from w p (length args) ≡ args
 words_listed [] p w is = refl
 words_listed (x ∷ args) p w is =
     let head : w p ≡ x = ap w (let e : p ≡ p + 0 = omega arith in e) ∙ is 0 (omega arith) in
@@ -158,6 +159,6 @@ pub recorded_is : (image : Image) (tx : ℕ) (args : List ℤ) (w : Words)
     → ((k : ℕ) → k ≤ length args → w (24 + k) ≡ slice_index_or (pos tx ∷ args) k (pos 0))
     → recorded image tx w ≡ args
 recorded_is image tx args w takes few is =
-    ap (λ (n : ℕ). words_from 25 n w) (taken_is image tx (length args) takes few)
+    ap (λ (n : ℕ). words_from w 25 n) (taken_is image tx (length args) takes few)
     ∙ words_listed args 25 w (λ j less. ap w (let e : 25 + j ≡ 24 + suc j = omega arith in
     e) ∙ is (suc j) (omega arith))

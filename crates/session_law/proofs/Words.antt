@@ -20,7 +20,6 @@ use Rattle.pool_map.specs.PoolMap.{field_of, empty_pool, read}
 use Rattle.heap_pool.specs.HeapPool.{words_from, object_with, kind_in, object_of, objects_from}
 use Rattle.c_types.specs.Shapes.{shapes_of}
 use Rattle.pm_machine.specs.declared.image.Image.{Image}
-use Rattle.recovery.specs.Found as record_of
 use Rattle.recovery.specs.Found.{entry_words, recorded}
 use Rattle.cnvm_session.specs.declared.program.Program.{Program}
 use Rattle.session_law.specs.Source.{sizes_of, source_pool}
@@ -134,12 +133,7 @@ restored_words l a image are =
 
 -- the words of a record's arguments
 
-from_words : (p n : ℕ) (image : Words) → AreAll image → AreWords (record_of.words_from p n image)
-from_words p zero image are i = zero_word
-from_words p (suc n) image are zero = are p
-from_words p (suc n) image are (suc i) = from_words (suc p) n image are i
-
 pub recorded_words : (image : Image) (tx : ℕ) (w : Words) → AreAll w
     → AreWords (recorded image tx w)
 recorded_words image tx w are =
-    from_words 25 (entry_words (slice_get image.parts.txs (tx - 1))) w are
+    list_words w are 25 (entry_words (slice_get image.parts.txs (tx - 1)))

@@ -13,4 +13,4 @@ pub use could_stand::{TOKENS, expected};
 pub use left::left_out;
 pub use lexical::{bad_byte, bad_number};
 pub use spelled::{Spelled, first_token, is, is_one};
-pub use trap_line::{Lined, trap_lines};
+pub use trap_line::{Lined, transaction_name, trap_lines};

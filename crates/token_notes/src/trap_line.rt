@@ -10,6 +10,20 @@ pub struct Lined<'a> {
     pub lines: &'a [u64],
 }
 
+/// The name of the transaction of this number, counted from 1 in the order of the text; an empty
+/// one if there is none.
+pub fn transaction_name<'a>(words: &[&'a [u8]], number: u64) -> &'a [u8] {
+    let mut left = number;
+    for (at, word) in words.iter().enumerate() {
+        if is(word, "tx") {
+            left = left.saturating_sub(1);
+        } else if left == 0 && number > 0 && is(word, "(") {
+            return before(words, at, 1);
+        }
+    }
+    b""
+}
+
 /// The lines where a trap of this kind may come in a call of the transaction: those of the tokens
 /// that can trap so, in it and in the functions that it calls.
 pub fn trap_lines(
@@ -68,7 +82,7 @@ fn push_sites(
     lines: &mut Vec<u64>,
 ) -> Result<(), AllocError> {
     for (at, word) in program.words.iter().enumerate() {
-        if body.from <= at && at < body.to && can_trap(word, next(program.words, at), kind) {
+        if body.from <= at && at < body.to && can_trap(program.words, at, word, kind) {
             let line = program.lines.get(at).copied().unwrap_or(0);
             if lines.last().copied() != Some(line) {
                 lines.push(line)?;
@@ -85,10 +99,25 @@ fn next<'a>(words: &[&'a [u8]], at: usize) -> &'a [u8] {
     }
 }
 
-/// Whether a token, with the one after it, can trap so.
-fn can_trap(word: &[u8], next: &[u8], kind: &str) -> bool {
+/// The word that is so many before this one.
+fn before<'a>(words: &[&'a [u8]], at: usize, count: usize) -> &'a [u8] {
+    match at.checked_sub(count) {
+        Some(at) => word_at(words, at),
+        None => b"",
+    }
+}
+
+fn word_at<'a>(words: &[&'a [u8]], at: usize) -> &'a [u8] {
+    match words.get(at) {
+        Some(word) => word,
+        None => b"",
+    }
+}
+
+/// Whether the token of this place can trap so.
+fn can_trap(words: &[&[u8]], at: usize, word: &[u8], kind: &str) -> bool {
     if kind == "divide" {
-        return is_one(word, &["/", "%"]) && (!is_number(next) || next.starts_with(b"0"));
+        return divides(word, next(words, at));
     }
     if kind == "index" {
         return is(word, "[");
@@ -96,7 +125,38 @@ fn can_trap(word: &[u8], next: &[u8], kind: &str) -> bool {
     if kind == "null" || kind == "stale" {
         return is_one(word, &["->", "pm_free"]);
     }
+    if kind == "steps" {
+        return is_one(word, &["while", "for"]) || is_call(words, at, word);
+    }
+    if kind == "depth" {
+        return is_call(words, at, word);
+    }
+    if kind == "logfull" {
+        return stores(words, at, word);
+    }
     kind == "abort" && is(word, "abort")
+}
+
+/// Whether this divides by what may be 0.
+fn divides(word: &[u8], next: &[u8]) -> bool {
+    is_one(word, &["/", "%"]) && (!is_number(next) || next.starts_with(b"0"))
+}
+
+/// Whether this is the name of a function that is called.
+fn is_call(words: &[&[u8]], at: usize, word: &[u8]) -> bool {
+    is_name(word) && is(next(words, at), "(") && body_of(words, word).to > 0
+}
+
+/// Whether this stores to the pool: it assigns to a field or an element, makes an object or frees
+/// one.
+fn stores(words: &[&[u8]], at: usize, word: &[u8]) -> bool {
+    if is_one(word, &["pm_new", "pm_free"]) {
+        return true;
+    }
+    if !is_one(word, &["=", "+=", "-=", "++", "--"]) {
+        return false;
+    }
+    is(before(words, at, 1), "]") || is_one(before(words, at, 2), &[".", "->"])
 }
 
 /// Adds the names that a body calls and that aren't there yet.

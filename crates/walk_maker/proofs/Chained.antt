@@ -1,6 +1,7 @@
 -- A spot that is sought in its bucket alone is found where it is in the table.
 use Rattle.std.proofs.Common.{◌≡◌, ◌+◌, ◌*◌, ◌%◌, ◌++◌, ◌-◌, ◌<◌, ◌≤◌, ◌⊎◌, ℕ, zero, suc, Bool}
-use Rattle.std.proofs.Common.{true, false, List, [], ◌∷◌, Option, Some, None, length, refl, sym, ◌∙◌, ap, subst}
+use Rattle.std.proofs.Common.{true, false, List, [], ◌∷◌, Option, Some, None, length, refl, sym}
+use Rattle.std.proofs.Common.{◌∙◌, ap, subst}
 use Rattle.std.proofs.Common.{arith, inl, inr, ⊎_elim}
 use Rattle.std.specs.Prelude.{nat_lt, slice_get, slice_set}
 use Rattle.std.specs.List.{list_any}
@@ -51,7 +52,8 @@ past_above t count e n above m x there past =
     not_same (same_spot x e) (λ is.
     let less : m < n = above m x there (same_bucket count x e is) in absurd (omega arith))
 
-pub past_last : (count : ℕ) (t : List Entry) (lasts befores : List ℕ) (e : Entry) → IsChained count t lasts befores
+pub past_last : (count : ℕ) (t : List Entry) (lasts befores : List ℕ) (e : Entry)
+    → IsChained count t lasts befores
     → IsPast t e (number_or_other lasts (bucket_of count e) (length t))
 past_last count t lasts befores e is = by_option (slice_get lasts (bucket_of count e)) refl
   where
@@ -90,7 +92,8 @@ past_one t e y at is other past m x there from =
 
 -- .. and it goes on before the entries of its bucket
 past_before : (t : List Entry) (count : ℕ) (e y : Entry) (at n : ℕ) → slice_get t (at - 1) ≡ Some y
-    → same_spot y e ≡ false → bucket_of count y ≡ bucket_of count e → IsAboveBefore t count (at - 1) n
+    → same_spot y e ≡ false → bucket_of count y ≡ bucket_of count e
+    → IsAboveBefore t count (at - 1) n
     → IsPast t e at → IsPast t e n
 past_before t count e y at n is other bucket above past m x there from =
     ⊎_elim (λ (low : m < at - 1). not_same (same_spot x e) (λ h.
@@ -130,7 +133,8 @@ one_there (z ∷ t) e y (suc k) is same =
     or_right (same_spot z e) (list_any (λ (x : Entry). same_spot x e) t) (one_there t e y k is same)
 
 -- what stands in a list with one item changed
-pub set_found : {X : Type 0} (xs : List X) (i j : ℕ) (v x : X) → slice_get (slice_set xs i v) j ≡ Some x
+pub set_found : {X : Type 0} (xs : List X) (i j : ℕ) (v x : X)
+    → slice_get (slice_set xs i v) j ≡ Some x
     → ((j ≡ i) × (v ≡ x)) ⊎ ((j ≡ i → ⊥) × (slice_get xs j ≡ Some x))
 set_found [] zero j v x is = absurd cc
 set_found [] (suc i) j v x is = absurd cc
@@ -143,7 +147,8 @@ set_found (y ∷ xs) (suc i) (suc j) v x is =
 
 module _ (t : List Entry) (count : ℕ) (e : Entry) (h : ℕ)
     (above : IsAbove t count (bucket_of count e) h) where
-  above_end : (lasts : List ℕ) (b n : ℕ) → ((c k : ℕ) → slice_get lasts c ≡ Some k → IsAbove t count c k)
+  above_end : (lasts : List ℕ) (b n : ℕ) → ((c k : ℕ) → slice_get lasts c ≡ Some k
+      → IsAbove t count c k)
       → slice_get (slice_set lasts (bucket_of count e) (length t + 1)) b ≡ Some n
       → IsAbove (t ++ e ∷ []) count b n
   above_end lasts b n all is m x there bucket =
@@ -157,7 +162,8 @@ module _ (t : List Entry) (count : ℕ) (e : Entry) (h : ℕ)
       (set_found lasts (bucket_of count e) b (length t + 1) n is)
 
   -- of the entries before one of the old ones nothing changes
-  before_old : (k n : ℕ) → k < length t → IsAboveBefore t count k n → IsAboveBefore (t ++ e ∷ []) count k n
+  before_old : (k n : ℕ) → k < length t → IsAboveBefore t count k n
+      → IsAboveBefore (t ++ e ∷ []) count k n
   before_old k n less all m x y is there low bucket =
       let y_old : slice_get t k ≡ Some y = old k y less is in
       let m_less : m < length t = omega arith in
@@ -191,7 +197,8 @@ module _ (t : List Entry) (count : ℕ) (e : Entry) (h : ℕ)
   }
 
   kept_more : (lasts befores : List ℕ) → IsChained count t lasts befores → length befores ≡ length t
-      → IsChained count (t ++ e ∷ []) (slice_set lasts (bucket_of count e) (length t + 1)) (befores ++ h ∷ [])
+      → IsChained count (t ++ e ∷ []) (slice_set lasts (bucket_of count e) (length t + 1))
+      (befores ++ h ∷ [])
   kept_more lasts befores is whole = record {
     above_all = λ b n. above_end lasts b n is.above_all;
     not_longer =
@@ -212,13 +219,15 @@ module _ (t : List Entry) (count : ℕ) (e : Entry) (h : ℕ)
       → IsChained count (t ++ e ∷ []) (slice_set lasts (bucket_of count e) (length t + 1)) new
   kept_either lasts befores new is kept =
       ⊎_elim (λ (same : new ≡ befores).
-      subst (λ bs. IsChained count (t ++ e ∷ []) (slice_set lasts (bucket_of count e) (length t + 1)) bs)
+      subst (λ bs. IsChained count (t ++ e ∷ [])
+      (slice_set lasts (bucket_of count e) (length t + 1)) bs)
       (sym same) (kept_same lasts befores is))
       (λ p. subst (λ bs. IsChained count (t ++ e ∷ [])
       (slice_set lasts (bucket_of count e) (length t + 1)) bs) (sym p.1)
       (kept_more lasts befores is p.0)) kept
 
-above_last : (count : ℕ) (t : List Entry) (lasts befores : List ℕ) (e : Entry) → IsChained count t lasts befores
+above_last : (count : ℕ) (t : List Entry) (lasts befores : List ℕ) (e : Entry)
+    → IsChained count t lasts befores
     → IsAbove t count (bucket_of count e) (number_or_other lasts (bucket_of count e) (length t))
 above_last count t lasts befores e is = by_option (slice_get lasts (bucket_of count e)) refl
   where
@@ -234,7 +243,8 @@ pub pushed : (count : ℕ) (t all : List Entry) (lasts ends befores new : List �
     → ends ≡ slice_set lasts (bucket_of count e) (length t + 1) → IsChained count all ends new
 pushed count t all lasts ends befores new e h is all_is h_is kept ends_is =
     let above : IsAbove t count (bucket_of count e) h =
-    subst (λ n. IsAbove t count (bucket_of count e) n) (sym h_is) (above_last count t lasts befores e is) in
+    subst (λ n. IsAbove t count (bucket_of count e) n) (sym h_is)
+    (above_last count t lasts befores e is) in
     subst (λ xs. IsChained count xs ends new) (sym all_is)
     (subst (λ ls. IsChained count (t ++ e ∷ []) ls new) (sym ends_is)
     (kept_either t count e h above lasts befores new is kept))

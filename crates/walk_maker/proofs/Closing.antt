@@ -162,7 +162,7 @@ module _ (ir : Ir) (goal : Entry) (ps : List Piece) (later : Later) where
         → fact_is_there ir.shapes u a ≡ true
         → follows ps u (step_of (expand.next_to later p a through)) (step_of later.entry) through
         ≡ true
-        → has (expand.tried ir ps u later.entry (expand.next_to later p a through) t)
+        → has (expand.step_tried ir ps u later.entry (expand.next_to later p a through) t)
         (expand.next_to later p a through) ≡ true
     has_tried p a through t fits follow =
         let test = and_from _ _ fits follow in
@@ -174,19 +174,20 @@ module _ (ir : Ir) (goal : Entry) (ps : List Piece) (later : Later) where
         → has (expand.tried_origins ir ps u later p o t) (expand.next_to later p a None) ≡ true
     has_origins p a Nowhere t known m fits follow = absurd m
     has_origins p a (One b) t known m fits follow =
-        subst (λ c. has (expand.tried ir ps u later.entry (expand.next_to later p c None) t)
+        subst (λ c. has (expand.step_tried ir ps u later.entry (expand.next_to later p c None) t)
         (expand.next_to later p a None) ≡ true) m (has_tried p a None t fits follow)
     has_origins p a (Two b c) t known (inl m) fits follow =
         let first =
-        subst (λ d. has (expand.tried ir ps u later.entry (expand.next_to later p d None) t)
+        subst (λ d. has (expand.step_tried ir ps u later.entry (expand.next_to later p d None) t)
         (expand.next_to later p a None) ≡ true) m (has_tried p a None t fits follow) in
         let one = tried.adds_tried ir goal ps later u there p b None t known in
         adds_has ir goal (expand.next_to later p a None) (tried.adds_tried ir goal ps later u there
-        p c None (expand.tried ir ps u later.entry (expand.next_to later p b None) t)
+        p c None (expand.step_tried ir ps u later.entry (expand.next_to later p b None) t)
         (adds_get ir goal later.number later.entry one known)) first
     has_origins p a (Two b c) t known (inr m) fits follow =
-        let before = expand.tried ir ps u later.entry (expand.next_to later p b None) t in
-        subst (λ d. has (expand.tried ir ps u later.entry (expand.next_to later p d None) before)
+        let before = expand.step_tried ir ps u later.entry (expand.next_to later p b None) t in
+        subst (λ d. has (expand.step_tried ir ps u later.entry (expand.next_to later p d None)
+        before)
         (expand.next_to later p a None) ≡ true) m (has_tried p a None before fits follow)
 
     pub has_along : (p : ℕ) (i : Instruction) (a : WalkFact) (t : List Entry) → Is t

@@ -1,6 +1,7 @@
 -- What a search gives: a walk, or none where there is none.
 use Rattle.std.proofs.Common.{◌≡◌, ◌<◌, ◌+◌, ℕ, zero, suc, true, List, [], ◌∷◌}
-use Rattle.std.proofs.Common.{Result, Ok, Err, IfOk, Option, Some, None, length, refl, sym, ◌∙◌, subst, arith}
+use Rattle.std.proofs.Common.{Result, Ok, Err, IfOk, Option, Some, None, length, refl, sym, ◌∙◌}
+use Rattle.std.proofs.Common.{subst, arith}
 use Rattle.std.specs.Prelude.{slice_get, position, get_or}
 use Rattle.std.proofs.lemmas.Bool.{false≢true, and_parts, and_from, eqb-true}
 use Rattle.std.proofs.lemmas.Option.{slice_get-get_or, slice_get_within}
@@ -24,8 +25,8 @@ use Rattle.walk_maker.specs.declared.table.Aim.{Aim}
 use Rattle.walk_maker.specs.declared.table.Aim.TheVariants.{ToSite, ToReturn}
 use Rattle.walk_maker.specs.declared.table.Entry.{Entry}
 use Rattle.walk_maker.specs.inside.Table.{has}
-use Rattle.walk_maker.specs.inside.Reading.{entry_fact, piece_of, pieces_of}
-use Rattle.walk_maker.specs.inside.Search.{State, state, expanded, later_at, starts_in}
+use Rattle.walk_maker.specs.inside.Reading.{entry_fact, piece_from, pieces_of}
+use Rattle.walk_maker.specs.inside.Search.{SearchState, state, expanded, later_at, starts_in}
 use Rattle.walk_maker.specs.inside.Search.{starts_at, is_start}
 use Rattle.walk_maker.specs.inside.Search.{Swept, Searched, Stopped}
 use Rattle.walk_maker.specs.inside.Search.Searched.{found, closed, goes_on, begins_by}
@@ -41,13 +42,13 @@ use Rattle.walk_maker.proofs.Still.{Has, is_closed}
 
 module _ (ir : Ir) (goal : Entry) where
   -- what is so of the last state of a search
-  record Ended (s : State) (n : Option ℕ) (end : State) : Type 0 where
+  record Ended (s : SearchState) (n : Option ℕ) (end : SearchState) : Type 0 where
     pub steps : Steps ir goal s end
     pub starts : position (is_start ir.functions) end.table ≡ n
     pub still : n ≡ None → (k : ℕ) (e : Entry) → slice_get end.table k ≡ Some e
         → end ≡ expanded ir (later_at k e) end
 
-  ended_still : {s end : State} → Swept ir 0 s end → AllHold ir goal s.passed s.table
+  ended_still : {s end : SearchState} → Swept ir 0 s end → AllHold ir goal s.passed s.table
       → length end.table ≡ length s.table → length end.passed ≡ length s.passed
       → position (is_start ir.functions) s.table ≡ None → Ended s None end
   ended_still {s = s} {end = end} w all few less none =
@@ -62,13 +63,16 @@ module _ (ir : Ir) (goal : Entry) where
       (swept_still ir goal w all few less k e there) in
       record {
         steps = steps;
-        starts = subst (λ (v : State). position (is_start ir.functions) v.table ≡ None) same none;
+        starts = subst (λ (v : SearchState). position (is_start ir.functions) v.table
+            ≡ None) same none;
         still =
-            λ no_start. subst (λ (v : State). (k : ℕ) (e : Entry) → slice_get v.table k ≡ Some e
+            λ no_start. subst (λ (v : SearchState). (k : ℕ) (e : Entry)
+            → slice_get v.table k ≡ Some e
             → v ≡ expanded ir (later_at k e) v) same calm;
       }
 
-  ended : {s end : State} {n : Option ℕ} → Searched ir s n end → AllHold ir goal s.passed s.table
+  ended : {s end : SearchState} {n : Option ℕ} → Searched ir s n end
+      → AllHold ir goal s.passed s.table
       → Ended s n end
   ended (found starts) all = record {
     steps = still;
@@ -94,7 +98,7 @@ module _ (ir : Ir) (goal : Entry) where
       }
 
 -- a search after a part of a sweep
-pub searched_on : (ir : Ir) (s middle end : State) {E : Type 0} (r : Result (Option ℕ) E)
+pub searched_on : (ir : Ir) (s middle end : SearchState) {E : Type 0} (r : Result (Option ℕ) E)
     → Stopped ir 0 s middle → IfOk r (λ (n : Option ℕ). Searched ir middle n end)
     → IfOk r (λ (n : Option ℕ). Searched ir s n end)
 searched_on ir s middle end (Ok n) part more = begins_by part more
@@ -165,7 +169,7 @@ module _ (ir : Ir) (well : IsWellFormed ir) (site : Site) (fact : WalkFact) wher
       let w =
       walk_read ir Goal ps t all well site ends refl refl named (length t) true n e s.body less
       some.1 s.there s.aim s.entry in
-      let piece = piece_of ir.functions t true n in
+      let piece = piece_from ir.functions t true n in
       let named_so : piece.function ≡ e.function =
       subst (λ (p : Piece). p.function ≡ e.function) r.is_piece r.closed.named in
       let tx : is_tx (slice_get ir.functions piece.function) ≡ true = rw (named_so, s.there) s.tx in
@@ -175,7 +179,7 @@ module _ (ir : Ir) (well : IsWellFormed ir) (site : Site) (fact : WalkFact) wher
       let begins : same (first_fact piece) Here ≡ true = rw first_so refl in
       rw w.is_walk (and_from _ _ (and_from _ _ tx begins) w.keeps)
 
-  no_walk : (end : State) → AllHold ir Goal end.passed end.table
+  no_walk : (end : SearchState) → AllHold ir Goal end.passed end.table
       → ((k : ℕ) (e : Entry) → slice_get end.table k ≡ Some e
       → end ≡ expanded ir (later_at k e) end)
       → position (is_start ir.functions) end.table ≡ None → has end.table Goal ≡ true

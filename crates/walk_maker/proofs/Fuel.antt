@@ -10,8 +10,8 @@ use Rattle.walk_maker.specs.inside.Reading.{next_of, steps_on}
 use Rattle.std.specs.Prelude.{slice_get, drop}
 use Rattle.ir.specs.declared.function.IrFunction.{IrFunction}
 use Rattle.walk_maker.specs.declared.table.Entry.{Entry}
-use Rattle.walk_maker.specs.inside.Reading.{next_from, steps_of, steps_at, end_of, end_at}
-use Rattle.walk_maker.specs.inside.Reading.{entered_from, piece_of, pieces_of, pieces_on}
+use Rattle.walk_maker.specs.inside.Reading.{next_from, steps_of, steps_at, piece_end, end_from}
+use Rattle.walk_maker.specs.inside.Reading.{entered_from, piece_from, pieces_of, pieces_on}
 
 less_one : (d c : ℕ) → c < d → d - c ≡ suc (d - (c + 1))
 less_one d c less = omega arith
@@ -49,30 +49,30 @@ module _ (t : List Entry) (d c n : ℕ) (steps whole : List Step) (less : c < d)
       ∙ subst (λ o. steps ++ step_of e ∷ steps_on (steps_of t (d - (c + 1))) o ≡ whole) next here
 
 pub end_more : (t : List Entry) (d c n : ℕ) → c < d
-    → end_of t (d - c) n ≡ end_at (end_of t (d - (c + 1))) n (next_from (slice_get t n))
-end_more t d c n less = ap (λ k. end_of t k n) (less_one d c less)
+    → piece_end t (d - c) n ≡ end_from (piece_end t (d - (c + 1))) n (next_from (slice_get t n))
+end_more t d c n less = ap (λ k. piece_end t k n) (less_one d c less)
 
 pub pieces_more : (functions : List IrFunction) (t : List Entry) (d c : ℕ) (opens : Bool) (n : ℕ)
     → c < d → pieces_of functions t (d - c) opens n
-    ≡ piece_of functions t opens n ∷ pieces_on (pieces_of functions t (d - (c + 1)) false)
-    (entered_from (slice_get t (end_of t (length t) n)))
+    ≡ piece_from functions t opens n ∷ pieces_on (pieces_of functions t (d - (c + 1)) false)
+    (entered_from (slice_get t (piece_end t (length t) n)))
 pieces_more functions t d c opens n less =
     ap (λ k. pieces_of functions t k opens n) (less_one d c less)
 
 pub pieces_next : (functions : List IrFunction) (t : List Entry) (d c : ℕ) (opens : Bool)
     (n m : ℕ) (pieces whole : List Piece) → c < d
-    → entered_from (slice_get t (end_of t (length t) n)) ≡ Some m
+    → entered_from (slice_get t (piece_end t (length t) n)) ≡ Some m
     → pieces ++ pieces_of functions t (d - c) opens n ≡ whole
-    → (pieces ++ piece_of functions t opens n ∷ []) ++ pieces_of functions t (d - (c + 1)) false m
+    → (pieces ++ piece_from functions t opens n ∷ []) ++ pieces_of functions t (d - (c + 1)) false m
     ≡ whole
 pieces_next functions t d c opens n m pieces whole less enters rest =
-    let opened : pieces ++ piece_of functions t opens n
+    let opened : pieces ++ piece_from functions t opens n
     ∷ pieces_on (pieces_of functions t (d - (c + 1)) false)
-    (entered_from (slice_get t (end_of t (length t) n))) ≡ whole =
+    (entered_from (slice_get t (piece_end t (length t) n))) ≡ whole =
     subst (λ xs. pieces ++ xs ≡ whole) (pieces_more functions t d c opens n less) rest in
-    append_assoc pieces (piece_of functions t opens n ∷ [])
+    append_assoc pieces (piece_from functions t opens n ∷ [])
     (pieces_of functions t (d - (c + 1)) false m)
-    ∙ subst (λ o. pieces ++ piece_of functions t opens n
+    ∙ subst (λ o. pieces ++ piece_from functions t opens n
     ∷ pieces_on (pieces_of functions t (d - (c + 1)) false) o ≡ whole) enters opened
 
 -- the rest of a list from an element on

@@ -27,7 +27,7 @@ use Rattle.walk_maker.specs.declared.table.Link.TheVariants.{End, Next, Enter}
 use Rattle.walk_maker.specs.declared.table.Entry.{Entry}
 use Rattle.walk_maker.specs.inside.Table.{same_aim, same_spot, has, step_of}
 use Rattle.walk_maker.specs.inside.Reading.{entry_fact}
-use Rattle.walk_maker.specs.inside.Search.{State, state}
+use Rattle.walk_maker.specs.inside.Search.{SearchState, state}
 
 -- an element of a longer list is the last one or one before it
 pub last_or_before : {X : Type 0} (xs : List X) (y : X) (k : ℕ) (x : X)
@@ -115,18 +115,18 @@ module _ (ir : Ir) (goal : Entry) where
         → Adds ps s (t ++ e ∷ [])
 
   -- entries and pieces are added
-  pub data Steps : State → State → Type 0 where
-    still : {s : State} → Steps s s
-    entry : {s t : State} (e : Entry) → Steps s t → Holds t.passed t.table (length t.table) e
+  pub data Steps : SearchState → SearchState → Type 0 where
+    still : {s : SearchState} → Steps s s
+    entry : {s t : SearchState} (e : Entry) → Steps s t → Holds t.passed t.table (length t.table) e
         → Steps s (state (t.table ++ e ∷ []) t.passed)
-    piece : {s t : State} (p : Piece) → Steps s t → passing_keeps ir t.passed p ≡ true
+    piece : {s t : SearchState} (p : Piece) → Steps s t → passing_keeps ir t.passed p ≡ true
         → Steps s (state t.table (t.passed ++ p ∷ []))
 
   pub adds_on : {ps : List Piece} {s t v : List Entry} → Adds ps s t → Adds ps t v → Adds ps s v
   adds_on a no_more = a
   adds_on a (one e b h) = one e (adds_on a b) h
 
-  pub steps_on : {s t v : State} → Steps s t → Steps t v → Steps s v
+  pub steps_on : {s t v : SearchState} → Steps s t → Steps t v → Steps s v
   steps_on a still = a
   steps_on a (entry e b h) = entry e (steps_on a b) h
   steps_on a (piece p b h) = piece p (steps_on a b) h
@@ -147,13 +147,13 @@ module _ (ir : Ir) (goal : Entry) where
   adds_has x (one {t = t} e a k) h =
       any_more (λ (y : Entry). same_spot y x) t e (adds_has x a h)
 
-  pub steps_get : {s t : State} (n : ℕ) (e : Entry) → Steps s t
+  pub steps_get : {s t : SearchState} (n : ℕ) (e : Entry) → Steps s t
       → slice_get s.table n ≡ Some e → slice_get t.table n ≡ Some e
   steps_get n e still is = is
   steps_get n e (entry {t = t} x a h) is = slice_get_more t.table x n e (steps_get n e a is)
   steps_get n e (piece p a h) is = steps_get n e a is
 
-  pub steps_has : {s t : State} (x : Entry) → Steps s t → has s.table x ≡ true
+  pub steps_has : {s t : SearchState} (x : Entry) → Steps s t → has s.table x ≡ true
       → has t.table x ≡ true
   steps_has x still h = h
   steps_has x (entry {t = t} e a k) h =
@@ -247,24 +247,25 @@ module _ (ir : Ir) (goal : Entry) where
   adds_hold no_more all = all
   adds_hold {ps = ps} (one {t = t} e a h) all = all_more ps t e (adds_hold a all) h
 
-  pub steps_hold : {s t : State} → Steps s t → AllHold s.passed s.table → AllHold t.passed t.table
+  pub steps_hold : {s t : SearchState} → Steps s t → AllHold s.passed s.table
+      → AllHold t.passed t.table
   steps_hold still all = all
   steps_hold (entry {t = t} e a h) all = all_more t.passed t.table e (steps_hold a all) h
   steps_hold (piece {t = t} p a h) all =
       λ n e is. holds_passed t.passed p t.table n e (steps_hold a all n e is)
 
-  pub steps_passing : {s t : State} → Steps s t → Passing ir s.passed → Passing ir t.passed
+  pub steps_passing : {s t : SearchState} → Steps s t → Passing ir s.passed → Passing ir t.passed
   steps_passing still all = all
   steps_passing (entry e a h) all = steps_passing a all
   steps_passing (piece p a h) all = one_more p (steps_passing a all) h
 
-  pub steps_grow : {s t : State} → Steps s t → Grows s.passed t.passed
+  pub steps_grow : {s t : SearchState} → Steps s t → Grows s.passed t.passed
   steps_grow still = stays
   steps_grow (entry e a h) = steps_grow a
   steps_grow (piece p a h) = grows p (steps_grow a)
 
   -- a search that adds nothing
-  pub steps_longer : {s t : State} → Steps s t
+  pub steps_longer : {s t : SearchState} → Steps s t
       → (length s.table ≤ length t.table) × (length s.passed ≤ length t.passed)
   steps_longer {s = s} still = (omega arith, omega arith)
   steps_longer {s = s} (entry {t = t} e a h) =
@@ -279,7 +280,7 @@ module _ (ir : Ir) (goal : Entry) where
       length-append t.passed (p ∷ []) in
       (before.0, omega arith)
 
-  pub steps_same : {s t : State} → Steps s t → length t.table ≤ length s.table
+  pub steps_same : {s t : SearchState} → Steps s t → length t.table ≤ length s.table
       → length t.passed ≤ length s.passed → s ≡ t
   steps_same still few less = refl
   steps_same {s = s} (entry {t = t} e a h) few less =

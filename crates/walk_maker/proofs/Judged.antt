@@ -38,7 +38,7 @@ use Rattle.walk_check.proofs.Shown.{all_logged}
 use Rattle.walk_maker.specs.Lists.{ListsLogged}
 use Rattle.walk_maker.specs.Lists.ListsLogged.{no_site, logged, unlogged}
 use Rattle.walk_maker.specs.inside.Reasons.{FactThere, WalkGiven, ReasonGiven, StoresAt, FillsAt}
-use Rattle.walk_maker.specs.inside.Reasons.{kind_of, with_reason, AllKept, Skips}
+use Rattle.walk_maker.specs.inside.Reasons.{written_kind, with_reason, AllKept, Skips}
 use Rattle.walk_maker.specs.inside.Reasons.Skips.{no_more, kept, skipped}
 use Rattle.walk_maker.specs.declared.reasons.Kind.TheVariants.{Store as Written, Header, Fill}
 use Rattle.walk_maker.specs.declared.reasons.Kind.TheVariants.{Nothing}
@@ -164,7 +164,7 @@ module _ (ir : Ir) (well : IsWellFormed ir) (site : Site) where
 
   -- what the kind of a site says
   store_kind : (o : Option Instruction) (fill : Bool) (target : Target) → Here ≡ o
-      → site.fill ≡ fill → kind_of o fill ≡ Written target → StoresAt ir site target
+      → site.fill ≡ fill → written_kind o fill ≡ Written target → StoresAt ir site target
   store_kind (Some (Store t from line)) false target is fill h =
       let same : t ≡ target = cc in
       (fill, from, line, is ∙ ap (λ x. Some (Store x from line)) same)
@@ -173,12 +173,12 @@ module _ (ir : Ir) (well : IsWellFormed ir) (site : Site) where
   store_kind (Some (Free from kind line)) false target is fill h = absurd cc
   store_kind _ _ target is fill h = absurd cc
 
-  pub stores_at : (target : Target) → kind_of Here site.fill ≡ Written target
+  pub stores_at : (target : Target) → written_kind Here site.fill ≡ Written target
       → StoresAt ir site target
   stores_at target h = store_kind Here site.fill target refl refl h
 
   fill_kind : (o : Option Instruction) (fill : Bool) → Here ≡ o → site.fill ≡ fill
-      → kind_of o fill ≡ Fill → FillsAt ir site
+      → written_kind o fill ≡ Fill → FillsAt ir site
   fill_kind (Some (Store t from line)) false is fill h = absurd cc
   fill_kind (Some (New to kind log_fill line)) false is fill h = absurd cc
   fill_kind (Some (New to kind log_fill line)) true is fill h =
@@ -186,11 +186,11 @@ module _ (ir : Ir) (well : IsWellFormed ir) (site : Site) where
   fill_kind (Some (Free from kind line)) false is fill h = absurd cc
   fill_kind _ _ is fill h = absurd cc
 
-  pub fills_at : kind_of Here site.fill ≡ Fill → FillsAt ir site
+  pub fills_at : written_kind Here site.fill ≡ Fill → FillsAt ir site
   fills_at h = fill_kind Here site.fill refl refl h
 
   header_kind : (o : Option Instruction) (fill : Bool) (ps : List Piece) → Here ≡ o
-      → site.fill ≡ fill → kind_of o fill ≡ Header
+      → site.fill ≡ fill → written_kind o fill ≡ Header
       → reason_keeps ir ps site Always ≡ true
   header_kind (Some (Store t from line)) false ps is fill h = absurd cc
   header_kind (Some (New to kind log_fill line)) false ps is fill h = rw (is, fill) refl
@@ -198,7 +198,7 @@ module _ (ir : Ir) (well : IsWellFormed ir) (site : Site) where
   header_kind (Some (Free from kind line)) false ps is fill h = rw (is, fill) refl
   header_kind _ _ ps is fill h = absurd cc
 
-  pub header_given : (ps : List Piece) → Passing ir ps → kind_of Here site.fill ≡ Header
+  pub header_given : (ps : List Piece) → Passing ir ps → written_kind Here site.fill ≡ Header
       → ReasonGiven ir site ps ps (Some Always)
   header_given ps all h = record {
     passing = all;
@@ -207,22 +207,22 @@ module _ (ir : Ir) (well : IsWellFormed ir) (site : Site) where
   }
 
   -- other sites aren't logged
-  not_logged : (o : Option Instruction) (fill : Bool) → Here ≡ o → kind_of o fill ≡ Nothing
+  not_logged : (o : Option Instruction) (fill : Bool) → Here ≡ o → written_kind o fill ≡ Nothing
       → LoggedAt ir.functions fill site.function site.place → ⊥
   not_logged o true is h l =
-      let kind : kind_of o true ≡ Fill = rw (sym is ∙ l.4) refl in
+      let kind : written_kind o true ≡ Fill = rw (sym is ∙ l.4) refl in
       let clash : Fill ≡ Nothing = sym kind ∙ h in absurd cc
   not_logged o false is h (inl c) =
-      let kind : kind_of o false ≡ Written c.0 = rw (sym is ∙ c.3) refl in
+      let kind : written_kind o false ≡ Written c.0 = rw (sym is ∙ c.3) refl in
       let clash : Written c.0 ≡ Nothing = sym kind ∙ h in absurd cc
   not_logged o false is h (inr (inl w)) =
-      let kind : kind_of o false ≡ Header = rw (sym is ∙ w.4) refl in
+      let kind : written_kind o false ≡ Header = rw (sym is ∙ w.4) refl in
       let clash : Header ≡ Nothing = sym kind ∙ h in absurd cc
   not_logged o false is h (inr (inr w)) =
-      let kind : kind_of o false ≡ Header = rw (sym is ∙ w.3) refl in
+      let kind : written_kind o false ≡ Header = rw (sym is ∙ w.3) refl in
       let clash : Header ≡ Nothing = sym kind ∙ h in absurd cc
 
-  pub nothing_given : (ps : List Piece) → Passing ir ps → kind_of Here site.fill ≡ Nothing
+  pub nothing_given : (ps : List Piece) → Passing ir ps → written_kind Here site.fill ≡ Nothing
       → ReasonGiven ir site ps ps None
   nothing_given ps all h = record {
     passing = all;

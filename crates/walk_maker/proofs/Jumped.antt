@@ -181,7 +181,8 @@ next_is : (code : List Instruction) (j : Jumps) (p q : ℕ) (i : Instruction) �
     → NoneJumps code q (p + 1) (next_jump j p)
 next_is code j p q i are there jump = by_option (slice_get j.nexts p) refl
   where
-    by_option : (o : Option ℕ) → slice_get j.nexts p ≡ o → NoneJumps code q (p + 1) (number_or_zero o)
+    by_option : (o : Option ℕ) → slice_get j.nexts p ≡ o
+        → NoneJumps code q (p + 1) (number_or_zero o)
     by_option None is = λ r k here from below. absurd (omega arith)
     by_option (Some n) is = are.quiet_next p n q i (omega arith) is there jump
 
@@ -196,7 +197,8 @@ module _ (functions : List IrFunction) (js : List Jumps) (all : AreAllJumps func
 
   pub after_quiet : (q at jump p : ℕ) (i : Instruction) → slice_get u.code p ≡ Some i → at ≤ p
       → NoneJumps u.code q at jump → NoneJumps u.code q (p + 1) (jump_after js f q jump p i)
-  after_quiet q at jump p i there from quiet = by_test ((p == jump) && jumps_to (landing_of i) q) refl
+  after_quiet q at jump p i there from quiet =
+      by_test ((p == jump) && jumps_to (landing_of i) q) refl
     where
       by_option : (o : Option Jumps) → slice_get js f ≡ o → jumps_to (landing_of i) q ≡ true
           → NoneJumps u.code q (p + 1) (next_at o p)
@@ -240,7 +242,8 @@ module _ (code : List Instruction) (d : ℕ) (i : Instruction) (j : Jumps)
 
   by_target : (o : Option ℕ) → landing_of i ≡ o → AreJumpsFrom code d (noted o d j)
   by_target None t = record {
-    quiet_first = λ q n there. quiet_more q n (ap (λ o. jumps_to o q) t) (are.quiet_first q n there);
+    quiet_first = λ q n there. quiet_more q n (ap (λ o. jumps_to o q) t)
+        (are.quiet_first q n there);
     quiet_next = λ p n q k from there at_p goes.
         ⊎_elim (λ (here : p ≡ d).
         let same : i ≡ k = same_there p k here at_p in

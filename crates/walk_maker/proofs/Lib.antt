@@ -8,5 +8,6 @@ pub mod Still
 pub mod Found
 pub mod Judged
 pub mod Fuel
+pub mod Marked
 pub mod Chained
 pub mod Jumped

@@ -28,8 +28,8 @@ use Rattle.walk_maker.specs.declared.table.Link.TheVariants.{End, Next, Enter}
 use Rattle.walk_maker.specs.declared.table.Entry.{Entry}
 use Rattle.walk_maker.specs.inside.Table.{step_of, through_of}
 use Rattle.walk_maker.specs.inside.Reading.{entry_fact, next_of, steps_of}
-use Rattle.walk_maker.specs.inside.Reading.{end_of}
-use Rattle.walk_maker.specs.inside.Reading.{piece_of, pieces_of}
+use Rattle.walk_maker.specs.inside.Reading.{piece_end}
+use Rattle.walk_maker.specs.inside.Reading.{piece_from, pieces_of}
 use Rattle.walk_maker.proofs.Grown.{AtAim, NextHolds, EnterHolds, LinkHolds, AllHold}
 use Rattle.walk_maker.proofs.Tried.{at_place}
 
@@ -45,8 +45,8 @@ module _ (ir : Ir) (goal : Entry) (ps : List Piece) (t : List Entry)
   -- the steps from an entry on
   pub record Read (d n : ℕ) (e : Entry) (u : IrFunction) : Type 0 where
     pub end : Entry
-    pub at : slice_get t (end_of t d n) ≡ Some end
-    pub within : end_of t d n ≤ n
+    pub at : slice_get t (piece_end t d n) ≡ Some end
+    pub within : piece_end t d n ≤ n
     pub aim : end.aim ≡ e.aim
     pub function : end.function ≡ e.function
     pub tail : Tail ir ps u e.place e.fact end.place end.fact
@@ -63,11 +63,11 @@ module _ (ir : Ir) (goal : Entry) (ps : List Piece) (t : List Entry)
       → fact_is_there ir.shapes u e.fact ≡ true → next_of e.link ≡ None
       → through_of e.link ≡ None → Read (suc d) n e u
   read_end d n e u is fits stops through =
-      let ends : end_of t (suc d) n ≡ n = rw (is, stops) refl in
+      let ends : piece_end t (suc d) n ≡ n = rw (is, stops) refl in
       record {
         end = e;
         at = rw ends is;
-        within = let same : end_of t (suc d) n ≡ n = ends in omega arith;
+        within = let same : piece_end t (suc d) n ≡ n = ends in omega arith;
         aim = refl;
         function = refl;
         tail =
@@ -88,7 +88,7 @@ module _ (ir : Ir) (goal : Entry) (ps : List Piece) (t : List Entry)
       → e.link ≡ Next m through → (h : NextHolds ir goal ps t n e u m through)
       → Read d m h.later u → Read (suc d) n e u
   read_next d n e u m through is fits link h r =
-      let ends : end_of t (suc d) n ≡ end_of t d m = rw (is, link) refl in
+      let ends : piece_end t (suc d) n ≡ piece_end t d m = rw (is, link) refl in
       let first : step_of e ≡ step_at e.place e.fact through = rw link refl in
       let second : step_of h.later ≡ step_at h.later.place h.later.fact r.tail.passing =
       rw r.passing refl in
@@ -97,7 +97,7 @@ module _ (ir : Ir) (goal : Entry) (ps : List Piece) (t : List Entry)
       subst (λ b. follows ps u (step_at e.place e.fact through) b through ≡ true) second
       (subst (λ a. follows ps u a (step_of h.later) through ≡ true) first h.follow) in
       let less : m < n = h.less in
-      let inner : end_of t d m ≤ m = r.within in
+      let inner : piece_end t d m ≤ m = r.within in
       record {
         end = r.end;
         at = rw ends r.at;
@@ -146,15 +146,15 @@ module _ (ir : Ir) (goal : Entry) (ps : List Piece) (t : List Entry)
   -- a piece from an entry at its function's entry
   pub record PieceRead (opens : Bool) (n : ℕ) (e : Entry) (u : IrFunction) : Type 0 where
     pub end : Entry
-    pub at : slice_get t (end_of t (length t) n) ≡ Some end
-    pub within : end_of t (length t) n ≤ n
+    pub at : slice_get t (piece_end t (length t) n) ≡ Some end
+    pub within : piece_end t (length t) n ≤ n
     pub aim : end.aim ≡ e.aim
     pub function : end.function ≡ e.function
     pub stops : next_of end.link ≡ None
     pub first : WalkFact
     pub first_is : first ≡ entry_fact opens u e.fact
     pub closed : Closed ir ps opens e.function first end.place end.fact
-    pub is_piece : closed.piece ≡ piece_of ir.functions t opens n
+    pub is_piece : closed.piece ≡ piece_from ir.functions t opens n
 
   -- a whole piece from its tail, whose steps can be seen
   abbrev closed_at : (opens : Bool) (g : ℕ) (v : IrFunction) (x : WalkFact) (q : ℕ)
@@ -256,12 +256,12 @@ module _ (ir : Ir) (goal : Entry) (ps : List Piece) (t : List Entry)
       (named : AmongOrigins goal.fact ends) where
     pub record WalkRead (d : ℕ) (opens : Bool) (n : ℕ) : Type 0 where
       pub rest : List Piece
-      pub is_walk : pieces_of ir.functions t d opens n ≡ piece_of ir.functions t opens n ∷ rest
-      pub keeps : pieces_keep ir ps site ends opens (piece_of ir.functions t opens n) rest ≡ true
+      pub is_walk : pieces_of ir.functions t d opens n ≡ piece_from ir.functions t opens n ∷ rest
+      pub keeps : pieces_keep ir ps site ends opens (piece_from ir.functions t opens n) rest ≡ true
 
     walk_from : (opens : Bool) (n : ℕ) (e : Entry) (u : IrFunction) (r : PieceRead opens n e u)
         (rest : List Piece) → Later ir well site ends ps e.function r.end.place r.end.fact rest
-        → pieces_keep ir ps site ends opens (piece_of ir.functions t opens n) rest ≡ true
+        → pieces_keep ir ps site ends opens (piece_from ir.functions t opens n) rest ≡ true
     walk_from opens n e u r rest l =
         subst (λ p. pieces_keep ir ps site ends opens p rest ≡ true) r.is_piece
         (later_keeps ir well site ends ps opens e.function r.first r.end.place r.end.fact rest
@@ -284,10 +284,10 @@ module _ (ir : Ir) (goal : Entry) (ps : List Piece) (t : List Entry)
     walk_enters : (d : ℕ) (opens : Bool) (n : ℕ) (e : Entry) (u : IrFunction)
         (r : PieceRead opens n e u) (m : ℕ) → r.end.link ≡ Enter m
         → slice_get ir.functions r.end.function ≡ Some u
-        → (h : EnterHolds ir goal t (end_of t (length t) n) r.end u m)
+        → (h : EnterHolds ir goal t (piece_end t (length t) n) r.end u m)
         → PieceRead false m h.later h.callee → WalkRead d false m → WalkRead (suc d) opens n
     walk_enters d opens n e u r m link there h p w =
-        let piece = piece_of ir.functions t false m in
+        let piece = piece_from ir.functions t false m in
         let function : piece.function ≡ h.later.function =
         subst (λ (q : Piece). q.function ≡ h.later.function) p.is_piece p.closed.named in
         let call : instruction_at ir.functions e.function r.end.place
@@ -310,14 +310,14 @@ module _ (ir : Ir) (goal : Entry) (ps : List Piece) (t : List Entry)
     walk_read zero opens n e u less is there aim zero_is = absurd (omega arith)
     walk_read (suc d) opens n e u less is there aim zero_is =
         let r = piece_read opens n e u is there zero_is in
-        let last = all (end_of t (length t) n) r.end r.at in
+        let last = all (piece_end t (length t) n) r.end r.at in
         let end_there : slice_get ir.functions r.end.function ≡ Some u = rw r.function there in
         let same : last.body ≡ u =
         same_body ir.functions r.end.function r.end.function u last.body end_there last.there
         refl in
         by_link (λ m x v small at body aim' entry. walk_read d false m x v small at body aim' entry)
         r end_there r.end.link refl
-        (subst (λ v. LinkHolds ir goal ps t (end_of t (length t) n) r.end v r.end.link) same
+        (subst (λ v. LinkHolds ir goal ps t (piece_end t (length t) n) r.end v r.end.link) same
         last.link)
       where
         by_link : ((m : ℕ) (x : Entry) (v : IrFunction) → m < d → slice_get t m ≡ Some x
@@ -325,7 +325,7 @@ module _ (ir : Ir) (goal : Entry) (ps : List Piece) (t : List Entry)
             → WalkRead d false m)
             → (r : PieceRead opens n e u) → slice_get ir.functions r.end.function ≡ Some u
             → (l : Link) → r.end.link ≡ l
-            → LinkHolds ir goal ps t (end_of t (length t) n) r.end u l
+            → LinkHolds ir goal ps t (piece_end t (length t) n) r.end u l
             → WalkRead (suc d) opens n
         by_link on r end_there End link h =
             walk_ends d opens n e u r link
@@ -334,8 +334,8 @@ module _ (ir : Ir) (goal : Entry) (ps : List Piece) (t : List Entry)
             let next : next_of r.end.link ≡ Some m = rw link refl in
             let clash : Some m ≡ None = sym next ∙ r.stops in absurd cc
         by_link on r end_there (Enter m) link h =
-            let inside : end_of t (length t) n ≤ n = r.within in
-            let before : m < end_of t (length t) n = h.less in
+            let inside : piece_end t (length t) n ≤ n = r.within in
+            let before : m < piece_end t (length t) n = h.less in
             let small : m < d = omega arith in
             walk_enters d opens n e u r m link end_there h
             (piece_read false m h.later h.callee h.there h.callee_is h.entry)

@@ -34,7 +34,7 @@ use Rattle.walk_maker.specs.inside.Table.{has, step_of, through_of}
 use Rattle.walk_maker.specs.inside.Calls.{back_in, exit_of, before_call}
 use Rattle.walk_maker.specs.inside.Reading.{entry_fact}
 use Rattle.walk_maker.specs.inside.Expand as expand
-use Rattle.walk_maker.specs.inside.Search.{State, goes_from, is_known, entered}
+use Rattle.walk_maker.specs.inside.Search.{SearchState, goes_from, is_known, with_entered}
 use Rattle.walk_maker.specs.inside.Search.{expanded, later_at, is_start}
 use Rattle.walk_maker.proofs.Grown.{AllHold, adds_has, adds_get, adds_hold, steps_has}
 use Rattle.walk_maker.proofs.Tried as tried
@@ -76,7 +76,7 @@ position_none p xs n x none is h =
     let some : position p xs ≡ Some (position_or_len p xs) = rw test refl in
     let no : None ≡ Some (position_or_len p xs) = sym none ∙ some in absurd cc
 
-module _ (ir : Ir) (goal : Entry) (well : IsWellFormed ir) (s : State)
+module _ (ir : Ir) (goal : Entry) (well : IsWellFormed ir) (s : SearchState)
     (all : AllHold ir goal s.passed s.table)
     (still : (n : ℕ) (e : Entry) → slice_get s.table n ≡ Some e
     → s ≡ expanded ir (later_at n e) s) where
@@ -92,7 +92,7 @@ module _ (ir : Ir) (goal : Entry) (well : IsWellFormed ir) (s : State)
     abbrev Before : List Entry
     Before = expand.all_before_tried ir s.passed u At 0 u.code s.table
 
-    whole : s ≡ entered ir u At Before s.passed
+    whole : s ≡ with_entered ir u At Before s.passed
     whole = still n e is ∙ rw there refl
 
     held : AllHold ir goal s.passed Before
@@ -104,7 +104,7 @@ module _ (ir : Ir) (goal : Entry) (well : IsWellFormed ir) (s : State)
     -- what comes before the entry is in the table
     had : (x : Entry) → has Before x ≡ true → has s.table x ≡ true
     had x h =
-        subst (λ (v : State). has v.table x ≡ true) (sym whole)
+        subst (λ (v : SearchState). has v.table x ≡ true) (sym whole)
         (steps_has ir goal x (steps_entered ir goal At u there s.passed Before held after) h)
 
     pub has_origin : (p : ℕ) (i : Instruction) (a : WalkFact) → slice_get u.code p ≡ Some i
@@ -207,7 +207,8 @@ module _ (ir : Ir) (goal : Entry) (well : IsWellFormed ir) (s : State)
       known_here : (y : WalkFact) → e.aim ≡ ToReturn y
           → is_known s.passed e.function (entry_fact false u e.fact) y ≡ true
       known_here y aim =
-          subst (λ (v : State). is_known v.passed e.function (entry_fact false u e.fact) y ≡ true)
+          subst (λ (v : SearchState). is_known v.passed e.function (entry_fact false u e.fact) y
+          ≡ true)
           (sym whole) (subst (λ ps. is_known ps e.function (entry_fact false u e.fact) y ≡ true)
           (sym (entered_return ir goal At u there s.passed Before y aim entry))
           (known_piece ir goal At u there s.passed Before y held after aim entry))
@@ -216,7 +217,7 @@ module _ (ir : Ir) (goal : Entry) (well : IsWellFormed ir) (s : State)
           → has (expand.callers_tried ir At (entry_fact false u e.fact) 0 ir.functions Before) x
           ≡ true → has s.table x ≡ true
       had_callers x aim h =
-          subst (λ (v : State). has v.table x ≡ true) (sym whole) (subst (λ t. has t x ≡ true)
+          subst (λ (v : SearchState). has v.table x ≡ true) (sym whole) (subst (λ t. has t x ≡ true)
           (sym (entered_site ir goal At u there s.passed Before aim entry)) h)
 
       pub has_caller : (f p to : ℕ) (args : List ℕ) (w : IrFunction) → e.aim ≡ ToSite

@@ -18,11 +18,12 @@ use Rattle.walk_maker.specs.declared.table.Link.{Link}
 use Rattle.walk_maker.specs.declared.table.Link.TheVariants.{End, Next, Enter}
 use Rattle.walk_maker.specs.declared.table.Entry.{Entry}
 use Rattle.walk_maker.specs.declared.expand.Later.{Later}
-use Rattle.walk_maker.specs.inside.Reading.{entry_fact, next_of, end_of, piece_of}
+use Rattle.walk_maker.specs.inside.Reading.{entry_fact, next_of, piece_end, piece_from}
 use Rattle.walk_maker.specs.inside.Expand.{all_before_tried, bound_fact, callers_tried}
-use Rattle.walk_maker.specs.inside.Search.{State, state, goes_from, is_known}
+use Rattle.walk_maker.specs.inside.Search.{SearchState, state, goes_from, is_known}
 use Rattle.walk_maker.specs.inside.Search.{piece_added, aim_table}
-use Rattle.walk_maker.specs.inside.Search.{aim_passed, entered, expanded, expanded_in, later_at}
+use Rattle.walk_maker.specs.inside.Search.{aim_passed, with_entered, expanded, expanded_in}
+use Rattle.walk_maker.specs.inside.Search.{later_at}
 use Rattle.walk_maker.specs.inside.Search.{Swept, Stopped}
 use Rattle.walk_maker.specs.inside.Search.Swept.{ends, goes}
 use Rattle.walk_maker.specs.inside.Search.Stopped.{stops, goes_past}
@@ -45,7 +46,7 @@ module _ (ir : Ir) (goal : Entry) where
   aims ps t n e u y all aim r = by_link r.end.link refl (all _ r.end r.at).link
     where
       by_link : (l : Link) → r.end.link ≡ l
-          → LinkHolds ir goal ps t (end_of t (length t) n) r.end (all _ r.end r.at).body l
+          → LinkHolds ir goal ps t (piece_end t (length t) n) r.end (all _ r.end r.at).body l
           → AtAim ir goal r.end (ToReturn y)
       by_link End link h = subst (λ a. AtAim ir goal r.end a) (r.aim ∙ aim) h
       by_link (Next m through) link h =
@@ -58,7 +59,7 @@ module _ (ir : Ir) (goal : Entry) where
   piece_passes : (ps : List Piece) (t : List Entry) (n : ℕ) (e : Entry) (u : IrFunction)
       (y : WalkFact) (all : AllHold ir goal ps t) → e.aim ≡ ToReturn y
       → PieceRead ir goal ps t all false n e u
-      → passing_keeps ir ps (piece_of ir.functions t false n) ≡ true
+      → passing_keeps ir ps (piece_from ir.functions t false n) ≡ true
   piece_passes ps t n e u y all aim r =
       let ret = (aims ps t n e u y all aim r).0 in
       let at : instruction_at ir.functions e.function r.end.place ≡ Some (Return ret.0) =
@@ -72,7 +73,8 @@ module _ (ir : Ir) (goal : Entry) where
   piece_goes : (ps : List Piece) (t : List Entry) (n : ℕ) (e : Entry) (u : IrFunction)
       (y : WalkFact) (all : AllHold ir goal ps t) → e.aim ≡ ToReturn y
       → PieceRead ir goal ps t all false n e u
-      → goes_from e.function (entry_fact false u e.fact) y (piece_of ir.functions t false n) ≡ true
+      → goes_from e.function (entry_fact false u e.fact) y (piece_from ir.functions t false n)
+      ≡ true
   piece_goes ps t n e u y all aim r =
       let last = (aims ps t n e u y all aim r).1 in
       let x = entry_fact false u e.fact in
@@ -96,10 +98,10 @@ module _ (ir : Ir) (goal : Entry) where
         by_test (is_known ps later.entry.function (bound_fact u later) y)
       where
         by_test : (b : Bool) → Steps ir goal (state t ps)
-            (state t (if b then ps else ps ++ piece_of ir.functions t false later.number ∷ []))
+            (state t (if b then ps else ps ++ piece_from ir.functions t false later.number ∷ []))
         by_test true = still
         by_test false =
-            piece (piece_of ir.functions t false later.number) still
+            piece (piece_from ir.functions t false later.number) still
             (piece_passes ps t later.number later.entry u y all aim
             (piece_read ir goal ps t all false later.number later.entry u is there zero_is))
 
@@ -112,12 +114,12 @@ module _ (ir : Ir) (goal : Entry) where
         by_test (is_known ps later.entry.function (bound_fact u later) y) refl
       where
         by_test : (b : Bool) → is_known ps later.entry.function (bound_fact u later) y ≡ b
-            → is_known (if b then ps else ps ++ piece_of ir.functions t false later.number ∷ [])
+            → is_known (if b then ps else ps ++ piece_from ir.functions t false later.number ∷ [])
             later.entry.function (bound_fact u later) y ≡ true
         by_test true h = h
         by_test false h =
             any_last (goes_from later.entry.function (bound_fact u later) y) ps
-            (piece_of ir.functions t false later.number)
+            (piece_from ir.functions t false later.number)
             (piece_goes ps t later.number later.entry u y all aim
             (piece_read ir goal ps t all false later.number later.entry u is there zero_is))
 
@@ -132,21 +134,21 @@ module _ (ir : Ir) (goal : Entry) where
 
     pub entered_return : (ps : List Piece) (t : List Entry) (y : WalkFact)
         → later.entry.aim ≡ ToReturn y → later.entry.place ≡ 0
-        → (entered ir u later t ps).passed ≡ piece_added ir u later y t ps
+        → (with_entered ir u later t ps).passed ≡ piece_added ir u later y t ps
     entered_return ps t y aim zero_is =
         let test = eq-eqb later.entry.place 0 zero_is in
         rw test (ap (λ a. aim_passed ir u later a t ps) aim)
 
     pub entered_site : (ps : List Piece) (t : List Entry) → later.entry.aim ≡ ToSite
         → later.entry.place ≡ 0
-        → (entered ir u later t ps).table ≡ callers_tried ir later (bound_fact u later) 0
+        → (with_entered ir u later t ps).table ≡ callers_tried ir later (bound_fact u later) 0
         ir.functions t
     entered_site ps t aim zero_is =
         let test = eq-eqb later.entry.place 0 zero_is in
         rw test (ap (λ a. aim_table ir u later a t) aim)
 
     pub steps_entered : (ps : List Piece) (t : List Entry) → AllHold ir goal ps t → Is t
-        → Steps ir goal (state t ps) (entered ir u later t ps)
+        → Steps ir goal (state t ps) (with_entered ir u later t ps)
     steps_entered ps t all is = by_test (later.entry.place == 0) refl
       where
         by_test : (b : Bool) → (later.entry.place == 0) ≡ b → Steps ir goal (state t ps)
@@ -164,7 +166,7 @@ module _ (ir : Ir) (goal : Entry) where
         → Is (all_before_tried ir ps u later 0 u.code t)
     is_after ps t is = adds_get ir goal later.number later.entry (adds_here ps t is) is
 
-    steps_in : (s : State) → AllHold ir goal s.passed s.table → Is s.table
+    steps_in : (s : SearchState) → AllHold ir goal s.passed s.table → Is s.table
         → Steps ir goal s (expanded_in ir later (Some u) s)
     steps_in s all is =
         let first = adds_here s.passed s.table is in
@@ -172,7 +174,7 @@ module _ (ir : Ir) (goal : Entry) where
         (all_before_tried ir s.passed u later 0 u.code s.table) (adds_hold ir goal first all)
         (is_after s.passed s.table is))
 
-  pub steps_expanded : (later : Later) (s : State) → AllHold ir goal s.passed s.table
+  pub steps_expanded : (later : Later) (s : SearchState) → AllHold ir goal s.passed s.table
       → slice_get s.table later.number ≡ Some later.entry
       → Steps ir goal s (expanded ir later s)
   steps_expanded later s all is =
@@ -183,14 +185,14 @@ module _ (ir : Ir) (goal : Entry) where
       by_body None there = still
       by_body (Some u) there = steps_in later u there s all is
 
-  pub steps_swept : {n : ℕ} {s end : State} → Swept ir n s end
+  pub steps_swept : {n : ℕ} {s end : SearchState} → Swept ir n s end
       → AllHold ir goal s.passed s.table → Steps ir goal s end
   steps_swept (ends past) all = still
   steps_swept (goes {n = n} {s = s} {e = e} is more) all =
       let first = steps_expanded (later_at n e) s all is in
       steps_on ir goal first (steps_swept more (steps_hold ir goal first all))
 
-  pub steps_stopped : {n : ℕ} {s end : State} → Stopped ir n s end
+  pub steps_stopped : {n : ℕ} {s end : SearchState} → Stopped ir n s end
       → AllHold ir goal s.passed s.table → Steps ir goal s end
   steps_stopped stops all = still
   steps_stopped (goes_past {n = n} {s = s} {e = e} is more) all =
@@ -207,11 +209,11 @@ module _ (ir : Ir) (goal : Entry) where
       subst (λ m. slice_get (y ∷ xs) m ≡ Some x) sum is in none_past xs n k x past at
 
   -- no entry of the state has anything new before it
-  abbrev pub StillFrom : ℕ → State → Type 0
+  abbrev pub StillFrom : ℕ → SearchState → Type 0
   StillFrom n s = (k : ℕ) (e : Entry) → slice_get s.table (n + k) ≡ Some e
       → s ≡ expanded ir (later_at (n + k) e) s
 
-  still_more : (n : ℕ) (s : State) (e : Entry) → slice_get s.table n ≡ Some e
+  still_more : (n : ℕ) (s : SearchState) (e : Entry) → slice_get s.table n ≡ Some e
       → s ≡ expanded ir (later_at n e) s → StillFrom (n + 1) s → StillFrom n s
   still_more n s e is same more zero x at =
       let place : n + 0 ≡ n = omega arith in
@@ -227,7 +229,7 @@ module _ (ir : Ir) (goal : Entry) where
       subst (λ m. slice_get s.table m ≡ Some x) place at in
       subst (λ m. s ≡ expanded ir (later_at m x) s) (sym place) (more k x there)
 
-  pub swept_still : {n : ℕ} {s end : State} → Swept ir n s end
+  pub swept_still : {n : ℕ} {s end : SearchState} → Swept ir n s end
       → AllHold ir goal s.passed s.table → length end.table ≡ length s.table
       → length end.passed ≡ length s.passed → StillFrom n s
   swept_still (ends {n = n} {s = s} past) all few less =
@@ -241,5 +243,5 @@ module _ (ir : Ir) (goal : Entry) where
       let passed_up : length after.passed ≤ length end.passed = rest.1 in
       let same : s ≡ after = steps_same ir goal first (omega arith) (omega arith) in
       still_more n s e is same (subst (λ v. StillFrom (n + 1) v) (sym same)
-      (swept_still more held (few ∙ ap (λ (v : State). length v.table) same)
-      (less ∙ ap (λ (v : State). length v.passed) same)))
+      (swept_still more held (few ∙ ap (λ (v : SearchState). length v.table) same)
+      (less ∙ ap (λ (v : SearchState). length v.passed) same)))

@@ -76,7 +76,7 @@ module _ (ir : Ir) (goal : Entry) (ps : List Piece) where
     module _ (u : IrFunction) (there : slice_get ir.functions later.entry.function ≡ Some u) where
       pub adds_tried : (p : ℕ) (a : WalkFact) (through : Option ℕ) (t : List Entry) → Known t
           → Adds ir goal ps t
-          (expand.tried ir ps u later.entry (expand.next_to later p a through) t)
+          (expand.step_tried ir ps u later.entry (expand.next_to later p a through) t)
       adds_tried p a through t known =
           by_test (fact_is_there ir.shapes u a && follows ps u
           (step_of (expand.next_to later p a through)) (step_of later.entry) through) refl
@@ -110,7 +110,7 @@ module _ (ir : Ir) (goal : Entry) (ps : List Piece) where
       adds_origins p (Two a b) t known =
           let first = adds_tried p a None t known in
           adds_on ir goal first (adds_tried p b None
-          (expand.tried ir ps u later.entry (expand.next_to later p a None) t)
+          (expand.step_tried ir ps u later.entry (expand.next_to later p a None) t)
           (known_on first known))
 
       pub adds_through : (call : Passed) (args : List ℕ) (n : ℕ) (piece : Piece)
@@ -121,7 +121,7 @@ module _ (ir : Ir) (goal : Entry) (ps : List Piece) where
           && same (last_fact piece) (exit_of call.origin))
         where
           by_test : (b : Bool) → Adds ir goal ps t (if b
-              then expand.tried ir ps u later.entry (expand.next_to later call.place
+              then expand.step_tried ir ps u later.entry (expand.next_to later call.place
               (before_call call.origin args (first_fact piece) later.entry.fact) (Some n)) t else t)
           by_test true =
               adds_tried call.place (before_call call.origin args (first_fact piece)

@@ -23,16 +23,16 @@ use Rattle.walk_check.specs.declared.certificate.Reason.{Reason}
 use Rattle.walk_check.specs.declared.certificate.Reason.TheVariants.{Always, PastFree, Clobber}
 use Rattle.walk_check.specs.declared.certificate.Certificate.{Certificate}
 
-abbrev pub field_text : Shapes → ℕ → ℕ → List ℕ
-field_text shapes s x = struct_name shapes s ++ (codes "." ++ field_of_struct shapes s x)
+abbrev pub struct_field_text : Shapes → ℕ → ℕ → List ℕ
+struct_field_text shapes s x = struct_name shapes s ++ (codes "." ++ field_of_struct shapes s x)
 
 abbrev pub unwritten_text : Shapes → ℕ → ℕ → ℕ → List ℕ
 unwritten_text shapes r s x =
-    codes "unwritten r" ++ (decimal r ++ (codes " " ++ field_text shapes s x))
+    codes "unwritten r" ++ (decimal r ++ (codes " " ++ struct_field_text shapes s x))
 
 abbrev pub class_text : Shapes → Class → List ℕ
 class_text shapes (Root x) = codes "root." ++ field_name shapes.root x
-class_text shapes (Field s x) = field_text shapes s x
+class_text shapes (Field s x) = struct_field_text shapes s x
 
 abbrev pub fact_text : Shapes → Fact → List ℕ
 fact_text shapes Start = codes "start"
@@ -98,15 +98,15 @@ one_if true = 1
 one_if false = 0
 
 -- how many of the reasons say so
-abbrev pub counted : (Reason → Bool) → List (Site × Reason) → ℕ
-counted says [] = 0
-counted says (r ∷ rs) = one_if (says r.1) + counted says rs
+abbrev pub reasons_counted : (Reason → Bool) → List (Site × Reason) → ℕ
+reasons_counted says [] = 0
+reasons_counted says (r ∷ rs) = one_if (says r.1) + reasons_counted says rs
 
 abbrev pub reasons_line : List (Site × Reason) → List ℕ
 reasons_line rs = codes "reasons " ++ (decimal (length rs)
-    ++ (codes " always " ++ (decimal (counted says_always rs)
-    ++ (codes " free " ++ (decimal (counted says_past_free rs)
-    ++ (codes " clobber " ++ (decimal (counted says_clobber rs) ++ codes "\n")))))))
+    ++ (codes " always " ++ (decimal (reasons_counted says_always rs)
+    ++ (codes " free " ++ (decimal (reasons_counted says_past_free rs)
+    ++ (codes " clobber " ++ (decimal (reasons_counted says_clobber rs) ++ codes "\n")))))))
 
 abbrev pub why_text : Ir → Certificate → List ℕ
 why_text ir c =

@@ -6,4 +6,5 @@ pub mod Reading
 pub mod Jumps
 pub mod Expand
 pub mod Search
+pub mod Marked
 pub mod Reasons

@@ -51,7 +51,7 @@ fn try_step(
     table: &mut Table,
 ) -> Result<(), AllocError>
     ensures { OnOk result (table.new
-        ≡ expand.tried ir.now passed.now body.now later before table.old) }
+        ≡ expand.step_tried ir.now passed.now body.now later before table.old) }
 {
     if is_there(&ir.shapes, body, before.fact)
         && follows(passed, body, step_of(before), step_of(later))

@@ -10,8 +10,10 @@ mod jumps;
 mod reading;
 mod reasons;
 mod search;
+mod shared;
 mod table;
 mod text;
+mod trails;
 
 pub use reasons::explain;
 pub use text::why_text;

@@ -53,7 +53,7 @@ fn push_steps(entries: &[Entry], number: usize, steps: &mut StepList) -> Result<
 /// The number of the entry from which a walk doesn't go on in its function.
 #[tactic(auto, using(crate::proofs::Fuel::end_more))]
 fn end_of(entries: &[Entry], number: usize) -> usize
-    ensures { result ≡ reading.end_of entries.now (length entries.now) number }
+    ensures { result ≡ reading.piece_end entries.now (length entries.now) number }
 {
     let mut at = number;
     for _ in 0..entries.len() {
@@ -98,7 +98,7 @@ pub(crate) fn piece_of(
     number: usize,
 ) -> Result<Piece, AllocError>
     ensures { IfOk result (λ piece.
-        piece ≡ reading.piece_of functions.now entries.now opens number) }
+        piece ≡ reading.piece_from functions.now entries.now opens number) }
 {
     let mut steps = StepList::new(alloc);
     let Some(entry) = entries.get(number) else {
@@ -120,7 +120,8 @@ pub(crate) fn piece_of(
 
 /// Whether each walk has an entry's fact at its function's entry.
 fn begins(functions: &[IrFunction], opens: bool, entry: Entry) -> bool
-    ensures { result ≡ reading.begins opens entry.fact (slice_get functions.now entry.function) }
+    ensures { result
+        ≡ reading.has_at_entry opens entry.fact (slice_get functions.now entry.function) }
 {
     match functions.get(entry.function as usize) {
         None => false,

@@ -15,11 +15,25 @@ ghost use Rattle.walk_maker.specs.inside.Reasons as judged;
 use crate::jumps::{AllJumps, all_jumps};
 use crate::reading::pieces_of;
 use crate::search::find_start;
+use crate::shared::{marked_among, shared_certificate};
 use crate::table::{Aim, Entry, Link, Table};
 use clobber_pass::{MarkTable, marks};
 use ir::{Fact as WalkFact, Instruction, Ir, Site, Target};
 use std::alloc::{AllocError, Global};
 use walk_check::{Certificate, Pieces, Reason, Reasons, Walk, instruction_at};
+
+/// The entry with which a search begins: a site with a fact.
+pub(crate) fn goal_at(site: Site, fact: WalkFact) -> Entry
+    ensures { result ≡ judged.goal_at site fact }
+{
+    Entry {
+        aim: Aim::ToSite,
+        function: site.function,
+        place: site.place,
+        fact,
+        link: Link::End,
+    }
+}
 
 /// A walk that reaches a site with a fact, if there is any.
 #[tactic(auto, using(crate::proofs::Found::found_walk, crate::proofs::Found::found_none))]
@@ -38,14 +52,7 @@ fn walk_to(
     ensures { IfOk result (λ walk.
         judged.WalkGiven ir.now site fact passed.old passed.new walk) }
 {
-    let goal = Entry {
-        aim: Aim::ToSite,
-        function: site.function,
-        place: site.place,
-        fact,
-        link: Link::End,
-    };
-    let mut table = Table::of(alloc, goal)?;
+    let mut table = Table::of(alloc, goal_at(site, fact))?;
     match find_start(alloc, ir, jumps, &mut table, passed)? {
         None => Ok(None),
         Some(number) => {
@@ -57,7 +64,7 @@ fn walk_to(
 }
 
 /// The fact that a store's target isn't surely written.
-fn unwritten(target: Target) -> WalkFact
+pub(crate) fn unwritten(target: Target) -> WalkFact
     ensures { result ≡ unwritten target }
 {
     match target {
@@ -76,7 +83,7 @@ fn unwritten(target: Target) -> WalkFact
 }
 
 /// The fact that a store's class was read.
-fn read(target: Target) -> WalkFact
+pub(crate) fn read(target: Target) -> WalkFact
     ensures { result ≡ read_fact target }
 {
     match target {
@@ -135,15 +142,15 @@ fn fill_reason(
 
 /// What is written at a site, as far as its log depends on it.
 #[derive(Clone, Copy, Debug, PartialEq, Eq)]
-enum Kind {
+pub(crate) enum Kind {
     Store(Target),
     Header,
     Fill,
     Nothing,
 }
 
-fn kind_of(instruction: Option<&Instruction>, fill: bool) -> Kind
-    ensures { result ≡ judged.kind_of (option_map (λ i. i.now) instruction.entry) fill }
+pub(crate) fn kind_of(instruction: Option<&Instruction>, fill: bool) -> Kind
+    ensures { result ≡ judged.written_kind (option_map (λ i. i.now) instruction.entry) fill }
 {
     match (instruction, fill) {
         (Some(Instruction::Store { target, .. }), false) => Kind::Store(*target),
@@ -211,6 +218,30 @@ fn push_reason(reasons: &mut Reasons, site: Site, reason: Option<Reason>) -> Res
     }
 }
 
+/// A certificate of the logged sites among these, in their order, each sought on its own.
+fn each_certificate(
+    alloc: Global,
+    ir: &Ir,
+    jumps: &AllJumps,
+    table: &MarkTable,
+    sites: &[Site],
+) -> Result<Certificate, AllocError>
+    requires well { IsWellFormed ir.now }
+    requires jumps { AreAllJumps ir.now.functions jumps.now }
+    requires exact { IsExact ir.now.functions table.now }
+    ensures lists { IfOk result (λ c. ListsLogged ir.now.functions sites.now (listed c)) }
+    ensures keeps { IfOk result (λ c. certificate_fault ir.now c ≡ None) }
+{
+    let mut passed = Pieces::new(alloc);
+    let mut reasons = Reasons::new(alloc);
+    for index in 0..sites.len() {
+        let site = sites[index];
+        let reason = marked_reason(alloc, ir, jumps, table, &mut passed, site)?;
+        push_reason(&mut reasons, site, reason)?;
+    }
+    Ok(Certificate { passed, reasons })
+}
+
 /// A certificate of why the logged sites are logged: it lists exactly these, in code order, and
 /// keeps the checker's rules. `Err` means only that the allocator refused memory.
 pub fn explain(alloc: Global, ir: &Ir) -> Result<Certificate, AllocError>
@@ -222,13 +253,9 @@ pub fn explain(alloc: Global, ir: &Ir) -> Result<Certificate, AllocError>
     let table = marks(alloc, ir)?;
     let jumps = all_jumps(alloc, ir.functions.as_slice())?;
     let sites = ir.sites(alloc)?;
-    let mut passed = Pieces::new(alloc);
-    let mut reasons = Reasons::new(alloc);
-    let all = sites.as_slice();
-    for index in 0..all.len() {
-        let site = all[index];
-        let reason = marked_reason(alloc, ir, &jumps, &table, &mut passed, site)?;
-        push_reason(&mut reasons, site, reason)?;
+    let marked = marked_among(alloc, &table, sites.as_slice())?;
+    match shared_certificate(alloc, ir, &jumps, marked.as_slice())? {
+        Some(certificate) => Ok(certificate),
+        None => each_certificate(alloc, ir, &jumps, &table, sites.as_slice()),
     }
-    Ok(Certificate { passed, reasons })
 }

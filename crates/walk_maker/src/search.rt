@@ -74,7 +74,7 @@ fn try_entry(
 }
 
 /// Adds what comes before an entry.
-fn expand(
+pub(crate) fn expand(
     alloc: Global,
     ir: &Ir,
     jumps: &AllJumps,
@@ -156,7 +156,7 @@ fn starts_in(functions: &[IrFunction], entry: Entry) -> bool
 }
 
 /// Whether a walk from a transaction's entry begins at an entry.
-fn is_start(functions: &[IrFunction], entry: Entry) -> bool
+pub(crate) fn is_start(functions: &[IrFunction], entry: Entry) -> bool
     ensures { result ≡ search.is_start functions.now entry }
 {
     match entry.aim {

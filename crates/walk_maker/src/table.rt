@@ -1,6 +1,7 @@
 //! The table of a search: the spots from which a walk can reach its aim, each with how it goes on.
 
-ghost use Rattle.std.specs.Prelude.{◌≡◌, ◌++◌, ◌∷◌, ◌<◌, [], ℕ, length, OnOk, IfOk, Some, slice_get, slice_set};
+ghost use Rattle.std.specs.Prelude.{◌≡◌, ◌++◌, ◌∷◌, ◌<◌, [], ℕ, length, OnOk, IfOk, Some};
+ghost use Rattle.std.specs.Prelude.{slice_get, slice_set};
 ghost use Rattle.walk_maker.specs.inside.Table as table;
 ghost use Rattle.walk_maker.specs.inside.Buckets as buckets;
 
@@ -37,7 +38,7 @@ pub(crate) struct Entry {
 }
 
 /// How many buckets a new table has.
-const BUCKETS: usize = 1024;
+pub(crate) const BUCKETS: usize = 1024;
 
 /// The entries, in the order in which they were found: those near the aim first. A spot is sought
 /// among the entries of its bucket alone, from the last one back.
@@ -84,7 +85,7 @@ impl Table {
 
     /// The table without entries, with so many buckets.
     #[tactic(auto, using(crate::proofs::Chained::nothing_there))]
-    fn empty(alloc: Global, buckets: usize) -> Result<Self, AllocError>
+    pub(crate) fn empty(alloc: Global, buckets: usize) -> Result<Self, AllocError>
         ensures { IfOk result (λ t. t ≡ []) }
     {
         Ok(Table {
@@ -117,10 +118,25 @@ impl Table {
         has_chained(self.all.as_slice(), &self.lasts, &self.befores, entry)
     }
 
-    fn push(&mut self, entry: Entry) -> Result<(), AllocError>
+    pub(crate) fn push(&mut self, entry: Entry) -> Result<(), AllocError>
         ensures { OnOk result (self.new ≡ self.old ++ entry ∷ []) }
     {
         put(&mut self.all, &mut self.lasts, &mut self.befores, entry)
+    }
+
+    /// The number of an entry of the same spot, if there is one.
+    pub(crate) fn number_of(&self, entry: Entry) -> Option<usize> {
+        let entries = self.all.as_slice();
+        let bucket = bucket_of(self.lasts.as_slice().len(), entry);
+        let mut above = number_at(&self.lasts, bucket, 0);
+        for _ in 0..entries.len() {
+            let number = above.checked_sub(1)?;
+            if same_spot(entry_at(entries, number)?, entry) {
+                return Some(number);
+            }
+            above = number_at(&self.befores, number, 0);
+        }
+        None
     }
 
     /// Adds an entry, unless its spot is in the table.

@@ -25,7 +25,7 @@ pub fn why_text(alloc: Global, ir: &Ir, certificate: &Certificate) -> Result<Tex
 
 /// Writes a struct's field as `S.f`.
 fn push_field(text: &mut Text, shapes: &Shapes, kind: u32, field: u32) -> Result<(), AllocError>
-    ensures { OnOk result (text.new ≡ text.old ++ why.field_text shapes.now kind field) }
+    ensures { OnOk result (text.new ≡ text.old ++ why.struct_field_text shapes.now kind field) }
 {
     text.push(struct_name(shapes, kind))?;
     text.push(".")?;
@@ -259,7 +259,7 @@ fn one_if(holds: bool) -> usize
 }
 
 fn always_in(reasons: &[(Site, Reason)]) -> usize
-    ensures { result ≡ why.counted why.says_always reasons.now }
+    ensures { result ≡ why.reasons_counted why.says_always reasons.now }
 {
     let mut count = 0;
     for reason in reasons {
@@ -269,7 +269,7 @@ fn always_in(reasons: &[(Site, Reason)]) -> usize
 }
 
 fn past_free_in(reasons: &[(Site, Reason)]) -> usize
-    ensures { result ≡ why.counted why.says_past_free reasons.now }
+    ensures { result ≡ why.reasons_counted why.says_past_free reasons.now }
 {
     let mut count = 0;
     for reason in reasons {
@@ -279,7 +279,7 @@ fn past_free_in(reasons: &[(Site, Reason)]) -> usize
 }
 
 fn clobber_in(reasons: &[(Site, Reason)]) -> usize
-    ensures { result ≡ why.counted why.says_clobber reasons.now }
+    ensures { result ≡ why.reasons_counted why.says_clobber reasons.now }
 {
     let mut count = 0;
     for reason in reasons {

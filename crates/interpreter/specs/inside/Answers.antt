@@ -1,7 +1,8 @@
 -- What only bodies and proofs need beside `Answers`.
-use Rattle.std.specs.Prelude.{◌≡◌, ℤ, Result, Ok, Err, IsErrOf}
+use Rattle.std.specs.Prelude.{◌≢◌, ℕ, ℤ, Option, None, Result, Ok, Err, IsErrOf}
 use Rattle.pool_map.specs.declared.trap.TrapKind.{TrapKind}
 use Rattle.pool_map.specs.declared.trap.TrapKind.TheVariants.{LogFull}
+use Rattle.interpreter.specs.declared.fault.TrapAt.{TrapAt}
 use Rattle.interpreter.specs.declared.fault.Fault.{Fault}
 use Rattle.interpreter.specs.declared.fault.Fault.TheVariants.{Trapped, NoMemory}
 use Rattle.interpreter.specs.declared.answer.PlainAnswer.{PlainAnswer}
@@ -11,12 +12,25 @@ use Rattle.pool_map.specs.PoolMap.{PoolMap}
 -- the answer for a run that ended like this
 abbrev pub plain_answer : Result (PoolMap × ℤ) Fault → PlainAnswer
 plain_answer (Ok done) = answer.Done done.0 done.1
-plain_answer (Err (Trapped kind)) = answer.Trap kind
+plain_answer (Err (Trapped trap)) = answer.Trap trap.kind
 plain_answer (Err NoMemory) = answer.NoMemory
+
+-- the place where it trapped, or want of memory
+abbrev pub place_answer : {E : Type 0} → Result (PoolMap × ℤ) Fault → E → Result (Option ℕ) E
+place_answer (Ok done) e = Ok None
+place_answer (Err (Trapped trap)) e = Ok trap.place
+place_answer (Err NoMemory) e = Err e
 
 -- the trap logfull, which belongs to the runtime, doesn't occur
 abbrev pub Quiet : {A : Type 0} → Result A Fault → Type 0
-Quiet r = IsErrOf r (Trapped LogFull) → ⊥
+Quiet (Ok a) = Unit
+Quiet (Err NoMemory) = Unit
+Quiet (Err (Trapped trap)) = trap.kind ≢ LogFull
+
+-- the same of a trap with its place, and of one without
+abbrev pub QuietAt : {A : Type 0} → Result A TrapAt → Type 0
+QuietAt (Ok a) = Unit
+QuietAt (Err trap) = trap.kind ≢ LogFull
 
 abbrev pub QuietTrap : {A : Type 0} → Result A TrapKind → Type 0
 QuietTrap r = IsErrOf r LogFull → ⊥

@@ -1,5 +1,5 @@
 -- What only bodies and proofs need beside `Meaning`.
-use Rattle.std.specs.Prelude.{ℕ, [], ◌∷◌, Result, Ok, Err, if◌then◌else◌}
+use Rattle.std.specs.Prelude.{ℕ, Result, Ok, Err}
 use Rattle.pool_map.specs.declared.trap.TrapKind.{TrapKind}
 use Rattle.pool_map.specs.PoolMap.{PoolMap}
 use Rattle.c_meaning.specs.Meaning.{Out, Got, Stops}

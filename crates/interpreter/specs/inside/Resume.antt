@@ -24,14 +24,17 @@ use Rattle.interpreter.specs.declared.work.Flow.{Flow}
 use Rattle.interpreter.specs.declared.work.Flow.TheVariants as flow
 use Rattle.c_meaning.specs.Locals.{Local, assigned, local_declared, bound}
 use Rattle.c_meaning.specs.declared.word.Word.{Word}
-use Rattle.c_meaning.specs.Access.{target_field, word_named, free_object}
+use Rattle.c_meaning.specs.Access.{free_object}
 use Rattle.c_meaning.specs.Operators.{unary_of, binary_of}
-use Rattle.c_meaning.specs.Meaning.{Out, Got, Stops, StmtEnd, Next, Broke, Again, Gave, Traps}
-use Rattle.c_meaning.specs.Meaning.{Calls, then_do, then_next, at_zero, tick, or_trap, loaded}
-use Rattle.c_meaning.specs.Meaning.{stored_end, freed, value_of, values_of, operands_of}
-use Rattle.c_meaning.specs.Meaning.{end_of_simple, end_of_third, condition_of, in_scope, after_turn}
-use Rattle.c_meaning.specs.Meaning.{turns, end_of_stmt, ends_of, given, calls_of}
-use Rattle.c_meaning.specs.Transaction.{Outcome, Done, Trap}
+use Rattle.interpreter.specs.Placed.{Out, Got, Stops, StmtEnd, Next, Broke, Again, Gave, Traps}
+use Rattle.c_meaning.specs.Meaning.{at_zero, tick}
+use Rattle.interpreter.specs.Placed.{Calls, then_do, then_next, or_trap, loaded}
+use Rattle.interpreter.specs.Placed.{stored_end, freed, value_of, values_of, operands_of}
+use Rattle.interpreter.specs.Placed.{end_of_simple, end_of_third, condition_of, in_scope}
+use Rattle.interpreter.specs.Placed.{after_turn, turns, end_of_stmt, ends_of, given, calls_of}
+use Rattle.interpreter.specs.Placed.{trap_at, word_at, at_place}
+use Rattle.interpreter.specs.declared.fault.TrapAt.{TrapAt}
+use Rattle.interpreter.specs.Placed.{Outcome, Done, Trap}
 use Rattle.interpreter.specs.declared.work.Work.{Work}
 use Rattle.interpreter.specs.declared.work.Work.TheVariants as work
 use Rattle.interpreter.specs.inside.Todo.{Todo, todo_of}
@@ -125,11 +128,11 @@ ObjectFreed out (Err kind) new = out ≡ Err kind
 abbrev pub loaded_from : Tables → Calls → ExprTree → List Local → PoolMap → ℕ → Out ℤ
 loaded_from t calls e ls p k =
     then_do (operands_of t calls e ls p k)
-    (λ o p k. loaded (word_named t ls p (target_field e) o.0 o.1) p k)
+    (λ o p k. loaded (word_at t ls p e o.0 o.1) p k)
 
 -- the checks, and then the word that a target's operands lead to
-abbrev pub target_word : Tables → ExprTree → List ℤ → List Local → PoolMap → Result Word TrapKind
-target_word t e vs ls p = word_named t ls p (target_field e) (pointer_in e vs) (index_operand e vs)
+abbrev pub target_word : Tables → ExprTree → List ℤ → List Local → PoolMap → Result Word TrapAt
+target_word t e vs ls p = word_at t ls p e (pointer_in e vs) (index_operand e vs)
 
 -- the effect of each task on an expression, after which `go` continues
 abbrev pub expr_act : Tables → ExprTask → ExprTree → Goes → List ℤ → List (List Local) → List Local
@@ -151,8 +154,8 @@ expr_act t expr_task.Fetch e go vs below ls p k =
 expr_act t expr_task.Store e go vs below ls p k =
     go (under e (drop 1 vs)) below
     (stored_end (target_word t e (drop 1 vs) ls p) (newest vs) ls p k)
-expr_act t expr_task.Free e go vs below ls p k =
-    go (drop 1 vs) below (freed (free_object t ls p e (newest vs)) ls k)
+expr_act t (expr_task.Free place) e go vs below ls p k =
+    go (drop 1 vs) below (freed (at_place place (free_object t ls p e (newest vs))) ls k)
 
 -- the effect of each task on the waiting words
 abbrev pub word_act : WordTask → Goes → List ℤ → List (List Local) → List Local → PoolMap
@@ -161,8 +164,8 @@ word_act (word_task.Put v) go vs below ls p k = go (v ∷ vs) below (Next ls p k
 word_act word_task.Forget go vs below ls p k = go (drop 1 vs) below (Next ls p k)
 word_act (word_task.Unary op) go vs below ls p k =
     go (unary_of op (newest vs) ∷ drop 1 vs) below (Next ls p k)
-word_act (word_task.Binary op) go vs below ls p k = pushed go (drop 1 (drop 1 vs)) below ls
-    (or_trap (binary_of op (newest (drop 1 vs)) (newest vs)) trap.Divide p k)
+word_act (word_task.Binary op spot) go vs below ls p k = pushed go (drop 1 (drop 1 vs)) below ls
+    (or_trap (binary_of op (newest (drop 1 vs)) (newest vs)) (trap_at trap.Divide spot) p k)
 word_act word_task.Truth go vs below ls p k =
     go (at_zero (newest vs) (pos 0) (pos 1) ∷ drop 1 vs) below (Next ls p k)
 
@@ -281,7 +284,7 @@ todo_act t (todo.Assign name) go vs below end =
     go (drop 1 vs) below (Next (assigned name (newest vs) ls) p k))
 todo_act t (todo.Call f count) go vs below end =
     if_next go vs below end (λ ls p k. pushed go (drop count vs) below ls
-    (tick k (Stops trap.Steps) (λ k. calls t below f (reverse (take count vs)) p k)))
+    (tick k (Stops (trap_at trap.Steps None)) (λ k. calls t below f (reverse (take count vs)) p k)))
 todo_act t todo.Leave go vs below end = left_function go vs below (given end)
 todo_act t (todo.Close count) go vs below end = go vs below (in_scope count end)
 todo_act t (todo.Word task) go vs below end =
@@ -377,6 +380,6 @@ abbrev pub StepLeads : {A : Type 0} → Tables → Todo → (old : ResumeState) 
 StepLeads t x old result new = LeadsToOutcome result (todo_begun t x old) (λ _. resumed t new)
 
 -- a tick was taken, if one was left
-abbrev pub Ticked : {A : Type 0} → Result A TrapKind → (new old : ResumeState) → Type 0
+abbrev pub Ticked : {A : Type 0} → Result A TrapAt → (new old : ResumeState) → Type 0
 Ticked (Ok a) new old = old ≡ record new { ticks = suc new.ticks }
-Ticked (Err kind) new old = (kind ≡ trap.Steps) × (old.ticks ≡ zero)
+Ticked (Err stop) new old = (stop ≡ trap_at trap.Steps None) × (old.ticks ≡ zero)

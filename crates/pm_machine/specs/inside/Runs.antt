@@ -1,5 +1,5 @@
 -- What only bodies and proofs need beside `Runs`.
-use Rattle.std.specs.Prelude.{ℕ, ◌+◌, ◌*◌, ◌<◌, ◌≤◌, ◌≡◌}
+use Rattle.std.specs.Prelude.{ℕ, ◌+◌, ◌*◌, ◌<◌, ◌≤◌, ◌≡◌, List, ℤ}
 use Rattle.pmem.specs.Device.{Device}
 use Rattle.pmem.specs.declared.answer.Refusal.{Refusal}
 use Rattle.pmem.specs.Played.{PlaysAll, PlaysPart}
@@ -7,7 +7,7 @@ use Rattle.pm_machine.specs.declared.effect.Effect.{Effect}
 use Rattle.pm_machine.specs.declared.effect.Effect.TheVariants.{Loads, Scans, Stores, Logs, Flushes}
 use Rattle.pm_machine.specs.declared.effect.Effect.TheVariants.{Fences, Quiet}
 use Rattle.pm_machine.specs.Effects.{records_past}
-use Rattle.pm_machine.specs.Machine.{StepOutcome, Goes, Ends}
+use Rattle.pm_machine.specs.Machine.{State, StepOutcome, Goes, Ends}
 use Rattle.pm_machine.specs.Runs.{AreLines, Due}
 
 abbrev pub IsStore : Effect → Type 0
@@ -29,6 +29,33 @@ IsInRange C H n (Logs w) = (w < H) × (n < C)
 IsInRange C H n (Flushes l) = 8 * l < H
 IsInRange C H n Fences = Unit {0}
 IsInRange C H n Quiet = Unit {0}
+
+-- the outcome goes on to this state, with an effect that has no event
+abbrev pub GoesSilently : State → StepOutcome → Type 0
+GoesSilently t (Goes Quiet s) = t ≡ s
+GoesSilently t (Goes (Loads w) s) = t ≡ s
+GoesSilently t (Goes (Scans w m) s) = ⊥
+GoesSilently t (Goes (Stores w x) s) = ⊥
+GoesSilently t (Goes (Logs w) s) = ⊥
+GoesSilently t (Goes (Flushes l) s) = ⊥
+GoesSilently t (Goes Fences s) = ⊥
+GoesSilently t (Ends e) = ⊥
+
+-- a state with these registers, ticks and place
+abbrev pub worked : State → List ℤ → (ticks place : ℕ) → State
+worked s registers ticks place = record {
+  top = record {
+    function = s.top.function;
+    place = place;
+    to = s.top.to;
+    registers = registers;
+  };
+  below = s.below;
+  ticks = ticks;
+  logged = s.logged;
+  dirty = s.dirty;
+  size = s.size;
+}
 
 -- the invariant of a step: its effect is in range, the dirty lines are lines of the heap, and the
 -- LOGs are counted from k on

@@ -51,12 +51,6 @@ abbrev pub AreListed : List ℕ → List (ℕ × Older) → Type 0
 AreListed ls es = (q : ℕ) (y : Older) → kept_at es q ≡ Some y
     → (y.mark ≡ None) ⊎ (is_listed ls q ≡ true)
 
--- a fence of all entries: a line without older versions loses its entry
-abbrev pub fence_kept : List (ℕ × Older) → List (ℕ × Older)
-fence_kept [] = []
-fence_kept (e ∷ es) = cond (has_older (fence_older e.1).older)
-    ((e.0, fence_older e.1) ∷ fence_kept es) (fence_kept es)
-
 -- the older version that a power cut leaves of a line; none if it leaves the newest
 abbrev pub left_older : Rest → Option ℕ → Older → Option (List ℤ)
 left_older rest (Some k) y = slice_get y.older k

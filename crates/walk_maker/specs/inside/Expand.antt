@@ -33,18 +33,19 @@ next_to later p a through =
       link = Next later.number through;
     }
 
-abbrev pub tried : Ir → List Piece → IrFunction → (later before : Entry) → List Entry → List Entry
-tried ir ps u later before t =
+abbrev pub step_tried : Ir → List Piece → IrFunction → (later before : Entry) → List Entry
+    → List Entry
+step_tried ir ps u later before t =
     if fact_is_there ir.shapes u before.fact && follows ps u (step_of before) (step_of later)
     (through_of before.link) then added before t else t
 
 abbrev pub tried_origins : Ir → List Piece → IrFunction → Later → (p : ℕ) → Origins → List Entry
     → List Entry
 tried_origins ir ps u later p Nowhere t = t
-tried_origins ir ps u later p (One a) t = tried ir ps u later.entry (next_to later p a None) t
+tried_origins ir ps u later p (One a) t = step_tried ir ps u later.entry (next_to later p a None) t
 tried_origins ir ps u later p (Two a b) t =
-    tried ir ps u later.entry (next_to later p b None)
-    (tried ir ps u later.entry (next_to later p a None) t)
+    step_tried ir ps u later.entry (next_to later p b None)
+    (step_tried ir ps u later.entry (next_to later p a None) t)
 
 -- the spot at a return, with the fact that a piece is to end with
 abbrev pub return_at : (g q : ℕ) → WalkFact → Entry
@@ -65,7 +66,7 @@ abbrev pub through_tried : Ir → List Piece → IrFunction → Later → Passed
     → Piece → List Entry → List Entry
 through_tried ir ps u later call args n piece t =
     if (piece.function == call.function) && same (last_fact piece) (exit_of call.origin)
-    then tried ir ps u later.entry (next_to later call.place (before_call call.origin args
+    then step_tried ir ps u later.entry (next_to later call.place (before_call call.origin args
     (first_fact piece) later.entry.fact) (Some n)) t else t
 
 abbrev pub throughs_tried : Ir → List Piece → IrFunction → Later → Passed → List ℕ → (n : ℕ)

@@ -40,14 +40,14 @@ abbrev pub steps_of : List Entry → (d n : ℕ) → List Step
 steps_of t zero n = []
 steps_of t (suc d) n = steps_at (steps_of t d) (slice_get t n)
 
-abbrev pub end_at : (ℕ → ℕ) → (n : ℕ) → Option ℕ → ℕ
-end_at from n None = n
-end_at from n (Some m) = from m
+abbrev pub end_from : (ℕ → ℕ) → (n : ℕ) → Option ℕ → ℕ
+end_from from n None = n
+end_from from n (Some m) = from m
 
 -- the entry at which the piece ends that begins at entry n
-abbrev pub end_of : List Entry → (d n : ℕ) → ℕ
-end_of t zero n = n
-end_of t (suc d) n = end_at (end_of t d) n (next_from (slice_get t n))
+abbrev pub piece_end : List Entry → (d n : ℕ) → ℕ
+piece_end t zero n = n
+piece_end t (suc d) n = end_from (piece_end t d) n (next_from (slice_get t n))
 
 abbrev pub entered_by : Link → Option ℕ
 entered_by End = None
@@ -59,21 +59,21 @@ entered_from None = None
 entered_from (Some e) = entered_by e.link
 
 -- each walk has the fact at the function's entry
-abbrev pub begins : (opens : Bool) → WalkFact → Option IrFunction → Bool
-begins opens x None = false
-begins opens x (Some u) = holds_at_entry opens u x
+abbrev pub has_at_entry : (opens : Bool) → WalkFact → Option IrFunction → Bool
+has_at_entry opens x None = false
+has_at_entry opens x (Some u) = holds_at_entry opens u x
 
 abbrev pub piece_at : List IrFunction → List Entry → (opens : Bool) → ℕ → Option Entry → Piece
 piece_at functions t opens n None = record { function = 0; steps = [] }
 piece_at functions t opens n (Some e) = record {
   function = e.function;
-  steps = if begins opens e.fact (slice_get functions e.function)
+  steps = if has_at_entry opens e.fact (slice_get functions e.function)
       then blank_step ∷ steps_of t (length t) n else steps_of t (length t) n;
 }
 
 -- the piece that begins at entry n
-abbrev pub piece_of : List IrFunction → List Entry → (opens : Bool) → ℕ → Piece
-piece_of functions t opens n = piece_at functions t opens n (slice_get t n)
+abbrev pub piece_from : List IrFunction → List Entry → (opens : Bool) → ℕ → Piece
+piece_from functions t opens n = piece_at functions t opens n (slice_get t n)
 
 abbrev pub pieces_on : (ℕ → List Piece) → Option ℕ → List Piece
 pieces_on from None = []
@@ -83,5 +83,5 @@ pieces_on from (Some n) = from n
 abbrev pub pieces_of : List IrFunction → List Entry → (d : ℕ) → (opens : Bool) → ℕ → List Piece
 pieces_of functions t zero opens n = []
 pieces_of functions t (suc d) opens n =
-    piece_of functions t opens n ∷ pieces_on (pieces_of functions t d false)
-    (entered_from (slice_get t (end_of t (length t) n)))
+    piece_from functions t opens n ∷ pieces_on (pieces_of functions t d false)
+    (entered_from (slice_get t (piece_end t (length t) n)))

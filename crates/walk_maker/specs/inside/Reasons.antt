@@ -18,9 +18,22 @@ use Rattle.walk_check.specs.declared.certificate.Walk.{Walk}
 use Rattle.walk_check.specs.declared.certificate.Reason.{Reason}
 use Rattle.walk_check.specs.Keeps.{fact_is_there, walk_keeps, reason_keeps}
 use Rattle.walk_check.specs.inside.Grown.{Passing, Grows}
+use Rattle.walk_maker.specs.declared.table.Aim.TheVariants.{ToSite}
+use Rattle.walk_maker.specs.declared.table.Link.TheVariants.{End}
+use Rattle.walk_maker.specs.declared.table.Entry.{Entry}
 use Rattle.walk_maker.specs.declared.reasons.Kind.{Kind}
 use Rattle.walk_maker.specs.declared.reasons.Kind.TheVariants.{Store as Written, Header}
 use Rattle.walk_maker.specs.declared.reasons.Kind.TheVariants.{Fill, Nothing}
+
+-- the entry with which a search for a walk to the site begins
+abbrev pub goal_at : Site → WalkFact → Entry
+goal_at site a = record {
+  aim = ToSite;
+  function = site.function;
+  place = site.place;
+  fact = a;
+  link = End;
+}
 
 -- what the fact names exists in the site's function
 abbrev pub FactThere : Ir → Site → WalkFact → Type 0
@@ -59,12 +72,12 @@ FillsAt ir site = (site.fill ≡ true) × (to : ℕ) × (kind : ℕ) × (log_fil
     × (instruction_at ir.functions site.function site.place ≡ Some (New to kind log_fill line))
 
 -- what is written at a site, as far as its log depends on it
-abbrev pub kind_of : Option Instruction → (fill : Bool) → Kind
-kind_of (Some (Store target from line)) false = Written target
-kind_of (Some (New to kind log_fill line)) false = Header
-kind_of (Some (Free from kind line)) false = Header
-kind_of (Some (New to kind log_fill line)) true = Fill
-kind_of _ fill = Nothing
+abbrev pub written_kind : Option Instruction → (fill : Bool) → Kind
+written_kind (Some (Store target from line)) false = Written target
+written_kind (Some (New to kind log_fill line)) false = Header
+written_kind (Some (Free from kind line)) false = Header
+written_kind (Some (New to kind log_fill line)) true = Fill
+written_kind _ fill = Nothing
 
 -- with the site and its reason, if it has one
 abbrev pub with_reason : List (Site × Reason) → Site → Option Reason → List (Site × Reason)

@@ -14,15 +14,15 @@ use Rattle.walk_maker.specs.declared.table.Aim.{Aim}
 use Rattle.walk_maker.specs.declared.table.Aim.TheVariants.{ToSite, ToReturn}
 use Rattle.walk_maker.specs.declared.table.Entry.{Entry}
 use Rattle.walk_maker.specs.declared.expand.Later.{Later}
-use Rattle.walk_maker.specs.inside.Reading.{entry_fact, piece_of}
+use Rattle.walk_maker.specs.inside.Reading.{entry_fact, piece_from}
 use Rattle.walk_maker.specs.inside.Expand.{all_before_tried, bound_fact, callers_tried}
 
 -- the table, and the pieces that pass calls
-pub record State : Type 0 where
+pub record SearchState : Type 0 where
   pub table : List Entry
   pub passed : List Piece
 
-abbrev pub state : List Entry → List Piece → State
+abbrev pub state : List Entry → List Piece → SearchState
 state table passed = record { table = table; passed = passed }
 
 -- the piece of the function goes from x to y
@@ -36,7 +36,7 @@ is_known ps g x y = list_any (goes_from g x y) ps
 abbrev pub piece_added : Ir → IrFunction → Later → (exit : WalkFact) → List Entry → List Piece
     → List Piece
 piece_added ir u later exit t ps = if is_known ps later.entry.function (bound_fact u later) exit
-    then ps else ps ++ piece_of ir.functions t false later.number ∷ []
+    then ps else ps ++ piece_from ir.functions t false later.number ∷ []
 
 abbrev pub aim_table : Ir → IrFunction → Later → Aim → List Entry → List Entry
 aim_table ir u later ToSite t = callers_tried ir later (bound_fact u later) 0 ir.functions t
@@ -55,31 +55,31 @@ abbrev pub entry_passed : Ir → IrFunction → Later → List Entry → List Pi
 entry_passed ir u later t ps = if later.entry.place == 0
     then aim_passed ir u later later.entry.aim t ps else ps
 
-abbrev pub entered : Ir → IrFunction → Later → List Entry → List Piece → State
-entered ir u later t ps = state (entry_table ir u later t) (entry_passed ir u later t ps)
+abbrev pub with_entered : Ir → IrFunction → Later → List Entry → List Piece → SearchState
+with_entered ir u later t ps = state (entry_table ir u later t) (entry_passed ir u later t ps)
 
-abbrev pub expanded_in : Ir → Later → Option IrFunction → State → State
+abbrev pub expanded_in : Ir → Later → Option IrFunction → SearchState → SearchState
 expanded_in ir later None s = s
 expanded_in ir later (Some u) s =
-    entered ir u later (all_before_tried ir s.passed u later 0 u.code s.table) s.passed
+    with_entered ir u later (all_before_tried ir s.passed u later 0 u.code s.table) s.passed
 
 -- with what comes before an entry
-abbrev pub expanded : Ir → Later → State → State
+abbrev pub expanded : Ir → Later → SearchState → SearchState
 expanded ir later s = expanded_in ir later (slice_get ir.functions later.entry.function) s
 
 abbrev pub later_at : ℕ → Entry → Later
 later_at n e = record { number = n; entry = e }
 
 -- with what comes before the entries from number n on, also before new ones
-pub data Swept (ir : Ir) : ℕ → State → State → Type 0 where
-  ends : {n : ℕ} {s : State} → slice_get s.table n ≡ None → Swept ir n s s
-  goes : {n : ℕ} {s end : State} {e : Entry} → slice_get s.table n ≡ Some e
+pub data Swept (ir : Ir) : ℕ → SearchState → SearchState → Type 0 where
+  ends : {n : ℕ} {s : SearchState} → slice_get s.table n ≡ None → Swept ir n s s
+  goes : {n : ℕ} {s end : SearchState} {e : Entry} → slice_get s.table n ≡ Some e
       → Swept ir (n + 1) (expanded ir (later_at n e) s) end → Swept ir n s end
 
 -- .. or before some of the entries from number n on
-pub data Stopped (ir : Ir) : ℕ → State → State → Type 0 where
-  stops : {n : ℕ} {s : State} → Stopped ir n s s
-  goes_past : {n : ℕ} {s end : State} {e : Entry} → slice_get s.table n ≡ Some e
+pub data Stopped (ir : Ir) : ℕ → SearchState → SearchState → Type 0 where
+  stops : {n : ℕ} {s : SearchState} → Stopped ir n s s
+  goes_past : {n : ℕ} {s end : SearchState} {e : Entry} → slice_get s.table n ≡ Some e
       → Stopped ir (n + 1) (expanded ir (later_at n e) s) end → Stopped ir n s end
 
 abbrev pub starts_in : WalkFact → Option IrFunction → Bool
@@ -96,13 +96,14 @@ abbrev pub is_start : List IrFunction → Entry → Bool
 is_start functions e = starts_at functions e e.aim
 
 -- a part of a sweep, and then sweeps until a start is found, or nothing more
-pub data Searched (ir : Ir) : State → Option ℕ → State → Type 0 where
-  found : {s : State} {n : ℕ} → position (is_start ir.functions) s.table ≡ Some n
+pub data Searched (ir : Ir) : SearchState → Option ℕ → SearchState → Type 0 where
+  found : {s : SearchState} {n : ℕ} → position (is_start ir.functions) s.table ≡ Some n
       → Searched ir s (Some n) s
-  closed : {s end : State} → position (is_start ir.functions) s.table ≡ None → Swept ir 0 s end
+  closed : {s end : SearchState} → position (is_start ir.functions) s.table ≡ None
+      → Swept ir 0 s end
       → length end.table ≡ length s.table → length end.passed ≡ length s.passed
       → Searched ir s None end
-  goes_on : {s middle end : State} {n : Option ℕ} → Swept ir 0 s middle
+  goes_on : {s middle end : SearchState} {n : Option ℕ} → Swept ir 0 s middle
       → Searched ir middle n end → Searched ir s n end
-  begins_by : {s middle end : State} {n : Option ℕ} → Stopped ir 0 s middle
+  begins_by : {s middle end : SearchState} {n : Option ℕ} → Stopped ir 0 s middle
       → Searched ir middle n end → Searched ir s n end

@@ -3,8 +3,8 @@ use Rattle.std.specs.Prelude.{FitsSigned}
 use Rattle.std.proofs.lemmas.Int.{to_z-of_z}
 use Rattle.c_tree.specs.ItemTree.{function_tree}
 use Rattle.c_types.specs.Views.{tables_in}
-use Rattle.c_meaning.specs.Meaning.{function_value, calls_of}
-use Rattle.c_meaning.specs.Transaction.{outcome}
+use Rattle.interpreter.specs.Placed.{function_value, calls_of}
+use Rattle.interpreter.specs.Placed.{outcome}
 use Rattle.interpreter.specs.inside.Resume.{ResumeState, resumed}
 use Rattle.interpreter.proofs.Resume.{left-outcome}
 use Rattle.interpreter.proofs.interpreter.run.Goals as goal

@@ -1,7 +1,7 @@
-use Rattle.std.proofs.Common.{rules}
-use Rattle.pmem.proofs.Sparses.{fence_retained}
+use Rattle.pmem.specs.Sparse.{kept_at}
+use Rattle.pmem.proofs.Sparses.{fenced_line}
 use Rattle.pmem.proofs.sparse_lines.fence_all.Goals as goal
 
-pub returns-clause-entries : goal.returns-clause-entries
-returns-clause-entries c = fence_retained _ (λ f k y b w g call. search rules) _ _ _
-    c.retain.ensures.filtered
+pub loop-line-preserved : goal.loop-line-preserved
+loop-line-preserved c = fenced_line (kept_at c.args.kept.now) (kept_at c.loop-line.kept)
+    (kept_at c.fence.new.self) c.loop-line.line c.loop-line.invariant c.fence.ensures

@@ -4,5 +4,5 @@ use Rattle.pmem.specs.inside.Sparse.{fence_lines}
 use Rattle.pmem.proofs.sparse_lines.fence_listed.Given as goal
 
 abbrev pub invariant-loop-line : goal.invariant-loop-line
-invariant-loop-line l = (q : ℕ) → fence_lines (drop l.line-index l.lines) (kept_at l.kept.entries) q
-    ≡ fence_lines l.lines (kept_at l.initial.kept.entries) q
+invariant-loop-line l = (q : ℕ) → fence_lines (drop l.line-index l.lines) (kept_at l.kept) q
+    ≡ fence_lines l.lines (kept_at l.initial.kept) q

@@ -1,4 +1,5 @@
-use Rattle.std.proofs.Common.{rules, arith, ◌≡◌, ◌<◌, ◌+◌, ◌≤◌, Some, slice_get, length, subst, sym, refl}
+use Rattle.std.proofs.Common.{rules, arith, ◌≡◌, ◌<◌, ◌+◌, ◌≤◌, Some, slice_get, length, subst, sym}
+use Rattle.std.proofs.Common.{refl}
 use Rattle.std.specs.Prelude.{get_or}
 use Rattle.std.proofs.lemmas.Option.{slice_get-get_or}
 use Rattle.walk_maker.specs.inside.Expand as expand
@@ -51,6 +52,7 @@ loop-preserved c =
           c.loop.table _ is c.loop.invariant.0),
       subst (λ n. NoneJumps u.code later.entry.place (next + 1) n) (sym jump)
           (after_quiet ir.functions c.args.jumps.now c.requires.jumps later.entry.function u
-          c.requires.body later.entry.place c.loop.at c.loop.jump next i is from c.loop.invariant.1),
+          c.requires.body later.entry.place c.loop.at c.loop.jump next i is from
+          c.loop.invariant.1),
       omega arith,
     )

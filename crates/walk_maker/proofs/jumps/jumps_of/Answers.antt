@@ -1,4 +1,5 @@
-use Rattle.std.proofs.Common.{rules, arith, ◌≡◌, ◌-◌, ◌<◌, ◌≤◌, Some, slice_get, length, subst, refl}
+use Rattle.std.proofs.Common.{rules, arith, ◌≡◌, ◌-◌, ◌<◌, ◌≤◌, Some, slice_get, length, subst}
+use Rattle.std.proofs.Common.{refl}
 use Rattle.std.specs.Prelude.{get_or}
 use Rattle.std.proofs.lemmas.Option.{slice_get-get_or}
 use Rattle.walk_maker.specs.inside.Jumps.{AreJumpsFrom, noted, landing_of}

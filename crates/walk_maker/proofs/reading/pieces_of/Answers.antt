@@ -10,9 +10,10 @@ loop-preserved c =
     let entries = c.args.entries.now in
     let functions = c.args.functions.now in
     let less : c.loop.counter < length entries = search rules in
-    let enters : reading.entered_from (slice_get entries (reading.end_of entries (length entries)
+    let enters : reading.entered_from (slice_get entries (reading.piece_end entries (length entries)
     c.loop.at)) ≡ Some c.in-Some.next = search rules in
-    let pushed : c.push.new.self ≡ c.loop.pieces ++ reading.piece_of functions entries c.loop.opens
+    let pushed : c.push.new.self ≡ c.loop.pieces
+    ++ reading.piece_from functions entries c.loop.opens
     c.loop.at ∷ [] = search rules in
     let whole = reading.pieces_of functions entries (length entries) true c.args.number in
     subst (λ xs. xs ++ reading.pieces_of functions entries (length entries - (c.loop.counter + 1))

@@ -1,48 +1,18 @@
-use Rattle.std.proofs.Common.{rules, ◌≡◌, ◌≤◌, ◌+◌, List, [], drop, length, subst, sym}
-use Rattle.std.proofs.Common.{arith}
-use Rattle.std.proofs.lemmas.Option.{slice_get-get_or}
+use Rattle.std.proofs.Common.{rules, ◌≡◌, []}
 use Rattle.ir.specs.Sites.{sites_of}
-use Rattle.ir.specs.declared.site.Site.{Site}
-use Rattle.walk_check.specs.inside.Grown.Passing.{no_piece}
+use Rattle.clobber_pass.specs.Logged.{IsExact}
 use Rattle.walk_check.specs.Law.{listed}
-use Rattle.walk_maker.specs.Lists.{ListsLogged}
-use Rattle.walk_maker.proofs.Fuel.{drop_past}
-use Rattle.walk_maker.proofs.Judged.{Reasoned, reasoned_at, reasoned_all, no_fault, lists_logged}
+use Rattle.walk_maker.specs.inside.Marked.{all_marked}
+use Rattle.walk_maker.proofs.Marked.{marked_listed}
 use Rattle.walk_maker.proofs.reasons.explain.Goals as goal
 
-pub loop-index-init : goal.loop-index-init
-loop-index-init c =
-    let none : c.new-passed.result ≡ [] = search rules in
-    let empty : c.new-reasons.result ≡ [] = search rules in
-    rw (none, empty) (no_piece, tt, λ rest more. more)
-
-pub loop-index-preserved : goal.loop-index-preserved
-loop-index-preserved c =
-    let ir = c.args.ir.now in
-    let all = c.as_slice-all.result.now in
-    let left = drop (c.loop-index.index + 1) all in
-    subst (λ rs. Reasoned ir all left c.marked_reason.new.passed rs)
-    (sym c.in_ok-push_reason.ensures)
-    (reasoned_at ir all c.loop-index.index _ c.loop-index.passed c.marked_reason.new.passed
-    c.loop-index.reasons c.in_ok-reason.reason c.requires
-    (slice_get-get_or all c.loop-index.index _ c.loop-index-test.true) c.in_ok-reason.ensures
-    c.loop-index.invariant)
-
-pub returns-clause-lists : goal.returns-clause-lists
-returns-clause-lists c =
-    let ir = c.args.ir.now in
-    let all = c.as_slice-all.result.now in
-    let whole : all ≡ sites_of 0 ir.functions = search rules in
-    let past : length all ≤ c.loop-index.index = omega (arith, c.loop-index-test.false) in
-    let h : Reasoned ir all [] c.loop-index.passed c.loop-index.reasons =
-    subst (λ xs. Reasoned ir all xs c.loop-index.passed c.loop-index.reasons)
-    (drop_past all c.loop-index.index past) c.loop-index.invariant in
-    let skips = reasoned_all ir all c.loop-index.passed c.loop-index.reasons h in
-    subst (λ (sites : List Site). ListsLogged ir.functions sites
-    (listed (record { passed = c.loop-index.passed; reasons = c.loop-index.reasons }))) whole
-    (lists_logged ir all c.loop-index.passed c.loop-index.reasons c.requires h.0 h.1 skips)
-
-pub returns-clause-keeps : goal.returns-clause-keeps
-returns-clause-keeps c =
-    no_fault c.args.ir.now c.loop-index.passed c.loop-index.reasons c.loop-index.invariant.0
-    c.loop-index.invariant.1
+pub returns-in-Some-clause-lists : goal.returns-in-Some-clause-lists
+returns-in-Some-clause-lists c =
+    let functions = c.args.ir.now.functions in
+    let table = c.in_ok-table.table in
+    let marked = c.as_slice-3.result.now in
+    let exact : IsExact functions table = search rules in
+    let is : marked ≡ all_marked table (sites_of 0 functions) [] = search rules in
+    let same : listed c.in-Some.certificate ≡ marked = search rules in
+    marked_listed functions table exact (sites_of 0 functions) marked
+    (listed c.in-Some.certificate) is same

@@ -28,7 +28,8 @@ returns-then-bucket_of c =
     let bucket : bucket_of c.args.count c.in-Some.known ≡ bucket_of c.args.count c.args.entry =
     search rules in
     subst (λ n. IsPast c.args.all.now c.args.entry n) (sym c.number_at.ensures)
-    (past_bucket c.args.all.now c.args.count c.args.befores.now c.args.entry c.in-Some.known c.args.at
+    (past_bucket c.args.all.now c.args.count c.args.befores.now c.args.entry c.in-Some.known
+    c.args.at
     c.requires.befores is other bucket c.requires.past)
 
 pub returns-else-bucket_of : goal.returns-else-bucket_of

@@ -1,4 +1,5 @@
-use Rattle.std.proofs.Common.{rules, ◌≡◌, ◌+◌, ◌++◌, ◌∷◌, [], length, slice_set, subst, sym, ◌∙◌, ap}
+use Rattle.std.proofs.Common.{rules, ◌≡◌, ◌+◌, ◌++◌, ◌∷◌, [], length, slice_set, subst, sym, ◌∙◌}
+use Rattle.std.proofs.Common.{ap}
 use Rattle.walk_maker.specs.inside.Buckets.{bucket_of, number_or_other, IsNotedAt, IsChained}
 use Rattle.walk_maker.proofs.Chained.{pushed, length_set}
 use Rattle.walk_maker.proofs.table.put.Goals as goal

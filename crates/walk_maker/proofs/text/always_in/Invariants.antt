@@ -4,5 +4,5 @@ use Rattle.walk_maker.proofs.text.always_in.Given as goal
 
 abbrev pub invariant-loop-reason : goal.invariant-loop-reason
 invariant-loop-reason l =
-    (l.count + why.counted why.says_always (drop l.reason-index l.reasons)
-    ≡ why.counted why.says_always l.reasons) × (l.count ≤ l.reason-index)
+    (l.count + why.reasons_counted why.says_always (drop l.reason-index l.reasons)
+    ≡ why.reasons_counted why.says_always l.reasons) × (l.count ≤ l.reason-index)

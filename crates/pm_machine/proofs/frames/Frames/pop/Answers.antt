@@ -1,8 +1,7 @@
-use Rattle.std.proofs.Common.{◌≡◌, ◌∙◌, ◌-◌, ◌≤◌, ℕ, ℤ, pos, List, [], ◌∷◌, ◌++◌, ap, refl, sym}
+use Rattle.std.proofs.Common.{◌≡◌, ◌∙◌, ◌-◌, ◌≤◌, ℕ, ℤ, List, [], ◌∷◌, ◌++◌, ap, refl, sym}
 use Rattle.std.proofs.Common.{subst, arith, length, drop, take, vec_len}
-use Rattle.std.proofs.lemmas.List.{take_rest, length_push, length-replicate}
+use Rattle.std.proofs.lemmas.List.{take_rest, length_push}
 use Rattle.pm_machine.specs.Stack.{Stack}
-use Rattle.pm_machine.specs.Machine.{registers_filled}
 use Rattle.pm_machine.specs.declared.frames.Waiting.{Waiting}
 use Rattle.pm_machine.specs.inside.Stack.{words_of, AreSized}
 use Rattle.pm_machine.proofs.Stacks.{popped_top, popped_rest, words_are, words_before, words_last}
@@ -29,6 +28,20 @@ overflow_sub-from c =
     c.in-Some.ensures.items c.self.invariant.3 refl in
     omega (arith, whole, long, c.len.ensures)
 
+pub refill-requires : goal.refill-requires
+refill-requires c =
+    let long : vec_len c.self.inside.words ≡ length c.self.inside.words.items =
+    cc c.self.inside.words.ok.0 in
+    let from : ℕ = c.len.result - c.in-Some.waiting.used in
+    let at = ap (λ (m : ℕ). m - c.in-Some.waiting.used) (c.len.ensures ∙ long) in
+    let same = take_rest c.deref.result.now from
+    ∙ ap (λ (l : List ℤ). drop from l) c.deref.ensures.value in
+    let sized = c.requires.size ∙ ap (λ (t : Stack). t.size) (sym c.self.view_is) in
+    let fits = kept_fits c.self.inside.size from c.self.inside.waiting.items c.pop.new.self.items
+    c.in-Some.waiting c.self.inside.words.items _ c.in-Some.ensures.items c.self.invariant.3 at
+    c.self.invariant.4 same in
+    omega (arith, fits, sized)
+
 pub returns-clause-some : goal.returns-clause-some
 returns-clause-some c =
     let long : vec_len c.self.inside.words ≡ length c.self.inside.words.items =
@@ -46,9 +59,8 @@ returns-clause-some c =
     let few : length kept ≤ length c.args.frame.now.registers = omega (arith, fits, sized) in
     λ yes. rw (← c.self.view_is) (popped_top c.self.inside.size from c.self.inside.waiting.items
     c.pop.new.self.items w c.self.inside.words.items c.in-Some.ensures.items c.self.invariant.3
-    at _ c.args.frame.now.registers c.fill.new.to same sized few
-    (c.fill.ensures.filled
-    ∙ ap (λ (l : List ℤ). registers_filled l 0 kept) c.clear.ensures))
+    at _ c.args.frame.now.registers c.refill.new.self same sized few
+    c.refill.ensures.words)
 
 pub returns-clause-others : goal.returns-clause-others
 returns-clause-others c =
@@ -61,9 +73,7 @@ returns-clause-others c =
     c.truncate.ensures.items)
 
 pub returns-clause-sized : goal.returns-clause-sized
-returns-clause-sized c =
-    c.fill.ensures.size ∙ ap (λ (l : List ℤ). length l) c.clear.ensures
-    ∙ length-replicate (length c.args.frame.now.registers) (pos 0) ∙ c.requires.size
+returns-clause-sized c = c.refill.ensures.size ∙ c.requires.size
 
 pub invariant_of-self-2 : goal.invariant_of-self-2
 invariant_of-self-2 c =

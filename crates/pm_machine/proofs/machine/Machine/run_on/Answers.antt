@@ -2,9 +2,10 @@ use Rattle.std.proofs.Common.{◌≡◌, ◌+◌, ◌-◌, ◌≤◌, ℕ, Some,
 use Rattle.pmem.specs.Played.{PlaysAll, PlaysPart}
 use Rattle.pm_machine.specs.Effects.{records_past}
 use Rattle.pm_machine.specs.declared.machine.Progress.{Progress}
-use Rattle.pm_machine.specs.Runs.{heap_in, due, end_of, effect_of}
+use Rattle.pm_machine.specs.Runs.{heap_in, due, end_of, effect_of, AreLines}
 use Rattle.pm_machine.specs.inside.Runs.{DueLeads}
 use Rattle.pm_machine.proofs.Leads.{leads_did, leads_ended, leads_refused, leads_over}
+use Rattle.pm_machine.proofs.Leads.{leads_after}
 use Rattle.pm_machine.proofs.Range.{keeps_progress, records_fit, logged_fit}
 use Rattle.pool_layout.specs.Sizes.{heap_words}
 use Rattle.pm_machine.proofs.machine.Machine.run_on.Goals as goal
@@ -161,16 +162,23 @@ loop-left-preserved g c =
     c.args.self.now.logged c.in-Did.effect c.loop-left.invariant.logged in
     let counted = keeps.2 in
     let past = c.records_past-records.ensures in
+    let silent = c.run_silently-left-in-loop-left in
+    let b = device c.step_on.new.dev in
+    let left = due c.args.image.now c.args.attempt in
+    let n = c.records_past-records.result in
     record {
-      leads = subst (λ (i : ℕ). DueLeads (device c.step_on.new.dev) c.tick.new.self
-          (due c.args.image.now c.args.attempt (c.loop-left.left - 1) i c.step_on.new.self
-          (device c.step_on.new.dev).cache) (device c.args.dev.now) c.args.steps.now x0)
-          (sym past) next.0;
-      dirty = keeps.1;
+      leads = leads_after b silent.new.steps (left silent.result n silent.new.self b.cache) b
+          c.tick.new.self (left (c.loop-left.left - 1) n c.step_on.new.self b.cache)
+          (device c.args.dev.now) c.args.steps.now x0 (silent.ensures.leads c.args.attempt n)
+          (subst (λ (i : ℕ). DueLeads b c.tick.new.self
+          (left (c.loop-left.left - 1) i c.step_on.new.self b.cache) (device c.args.dev.now)
+          c.args.steps.now x0) (sym past) next.0);
+      dirty = subst (AreLines (heap_words c.args.image.now.parts.sizes)) (sym silent.ensures.dirty)
+          keeps.1;
       lines = search rules;
       on = next.1 ∙ c.loop-left.invariant.on;
       few = rw past few;
-      logged = rw (counted, past) logged;
+      logged = rw (silent.ensures.logged, counted, past) logged;
       spent = let e = c.loop-left.invariant.spent in let t = c.tick.ensures in
-          let some = c.loop-left-test.true in omega arith;
+          let s = silent.ensures.spent in let some = c.loop-left-test.true in omega arith;
     }

@@ -10,15 +10,15 @@ invariant-loop-left g l =
     record {
       leads : DueLeads (device l.dev) l.steps
           (due l.image l.attempt l.left l.records l.self (device l.dev).cache)
-          (device l.initial.dev)
-          l.initial.steps (due l.image l.attempt l.image.parts.most l.initial.count l.initial.self
-          (device l.initial.dev).cache);
+          (device l.fn.dev)
+          l.fn.steps (due l.image l.attempt l.image.parts.most l.fn.count l.fn.self
+          (device l.fn.dev).cache);
       dirty : AreLines (heap_words l.image.parts.sizes) l.self.dirty;
-      lines : (device l.dev).lines ≡ (device l.initial.dev).lines;
+      lines : (device l.dev).lines ≡ (device l.fn.dev).lines;
       on : (device l.dev).on ≡ true;
       few : l.records ≤ l.image.parts.sizes.records;
-      logged : l.self.logged + l.initial.count ≡ l.records + l.initial.self.logged;
-      spent : l.steps + l.left ≡ l.initial.steps + l.image.parts.most;
+      logged : l.self.logged + l.fn.count ≡ l.records + l.fn.self.logged;
+      spent : l.steps + l.left ≡ l.fn.steps + l.image.parts.most;
     }
 
 abbrev pub decreases-loop-left : goal.decreases-loop-left

@@ -9,7 +9,7 @@ returns c =
     let s : Sparse = record {
       count = c.self.inside.count;
       words = c.self.inside.words.items;
-      kept = c.self.inside.kept.entries;
+      kept = c.self.inside.kept;
     } in
-    c.len.ensures.len ∙ sym (count_sparse s c.self.invariant.0 c.len.ensures.ordered)
+    c.len.ensures.len ∙ sym (count_sparse s c.self.invariant.0 c.len.ensures.apart)
     ∙ ap (λ (z : Sparse). more_lines (sparse_memory z)) c.self.view_is

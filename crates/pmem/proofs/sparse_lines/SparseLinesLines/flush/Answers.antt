@@ -11,11 +11,11 @@ invariant_of-self c =
     let s : Sparse = record {
       count = c.self.inside.count;
       words = c.self.inside.words.items;
-      kept = c.self.inside.kept.entries;
+      kept = c.self.inside.kept;
     } in (
-      tidy_flush s m.new.kept.entries c.args.line c.self.invariant.0 m.ensures.kept,
+      tidy_flush s m.new.kept c.args.line c.self.invariant.0 m.ensures.kept,
       listed_flushed c.self.inside.unlisted m.result c.self.inside.marked.items
-          m.new.marked.items s.kept m.new.kept.entries c.args.line
+          m.new.marked.items s.kept m.new.kept c.args.line
           c.self.invariant.1 m.ensures.listed m.ensures.kept,
       c.self.invariant.2,
     )
@@ -26,7 +26,7 @@ returns c =
     let s : Sparse = record {
       count = c.self.inside.count;
       words = c.self.inside.words.items;
-      kept = c.self.inside.kept.entries;
+      kept = c.self.inside.kept;
     } in
-    flush_sparse s m.new.kept.entries c.args.line m.ensures.kept
+    flush_sparse s m.new.kept c.args.line m.ensures.kept
     ∙ ap (λ (z : Sparse). after (sparse_memory z) (Flush c.args.line)) c.self.view_is

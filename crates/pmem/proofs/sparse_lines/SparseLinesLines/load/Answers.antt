@@ -8,7 +8,7 @@ returns c =
     let s : Sparse = record {
       count = c.self.inside.count;
       words = c.self.inside.words.items;
-      kept = c.self.inside.kept.entries;
+      kept = c.self.inside.kept;
     } in
     let fits : FitsSigned w64 c.index.result.now = search rules in
     round c.index.result.now fits ∙ view_sparse s c.args.self.now c.args.word c.index.result.now

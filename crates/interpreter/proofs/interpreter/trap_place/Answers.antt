@@ -1,0 +1,18 @@
+use Rattle.std.proofs.Common.{◌≡◌, ◌∙◌, ap, sym, Some}
+use Rattle.c_tree.specs.ItemTree.{function_tree}
+use Rattle.c_tree.specs.Program.{tree_of}
+use Rattle.c_types.specs.Tables.{Tables, tables_of}
+use Rattle.c_types.specs.Views.{tables_in}
+use Rattle.c_meaning.specs.Transaction.{transaction}
+use Rattle.interpreter.proofs.Resume.{placed}
+use Rattle.interpreter.proofs.interpreter.trap_place.Goals as goal
+
+pub returns : goal.returns
+returns c =
+    let tables : tables_in c.in-Ok.program ≡ tables_of (tree_of c.args.typed.now) =
+    rw (c.items.ensures, c.ast.ensures) at c.in-Ok.ensures in
+    let found : transaction (tables_of (tree_of c.args.typed.now)) c.args.tx
+    ≡ Some (function_tree c.in-Some.function.now) =
+    ap (λ (t : Tables). transaction t c.args.tx) (sym tables) ∙ sym c.in-Some.ensures in
+    rw (c.place_of.ensures, found, ← tables, ← c.in-Ok-copy.ensures)
+    (placed c.run.result _ _ c.run.ensures.exact)

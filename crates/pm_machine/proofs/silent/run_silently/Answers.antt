@@ -1,0 +1,34 @@
+use Rattle.std.proofs.Common.{◌≡◌, rules, arith}
+use Rattle.pm_machine.specs.Machine.{State}
+use Rattle.pm_machine.specs.Runs.{due}
+use Rattle.pm_machine.specs.inside.Code.{code_of}
+use Rattle.pm_machine.specs.inside.Runs.{worked}
+use Rattle.pm_machine.proofs.Leads.{leads_silent}
+use Rattle.pm_machine.proofs.silent.run_silently.Goals as goal
+
+pub loop-left-preserved : goal.loop-left-preserved
+loop-left-preserved g c =
+    let image = c.args.image.now in
+    let d = g.P.PmemWork.device c.args.dev.now in
+    let i = c.loop-left in
+    let tick = c.tick.ensures in
+    let some = c.loop-left-test.true in
+    let spent = i.invariant.spent in
+    let fewer = i.invariant.fewer in
+    let code_at : (s : State) → s.top.function ≡ c.args.function
+    → c.code-code.result.now ≡ code_of image.parts.functions s.top.function =
+    λ s is. rw is c.code-code.ensures in
+    record {
+      leads = λ a n s is.
+          leads_silent image a i.left n (worked s i.registers i.ticks i.place) d i.steps d
+          c.args.steps.now
+          (due image a c.args.from.left n
+          (worked s c.args.registers.now c.args.from.ticks c.args.from.place) d.cache)
+          c.code-code.result.now
+          (worked s c.step.new.registers c.step.new.ticks c.in-Some.next) c.tick.new.self
+          (code_at s is)
+          (c.in-Some.ensures.done n s) tick some (i.invariant.leads a n s is);
+      spent = omega arith;
+      fewer = omega arith;
+      size = search rules;
+    }

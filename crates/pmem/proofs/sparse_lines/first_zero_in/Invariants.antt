@@ -1,5 +1,0 @@
-use Rattle.pmem.specs.inside.Zeros.{AreFull}
-use Rattle.pmem.proofs.sparse_lines.first_zero_in.Given as goal
-
-abbrev pub invariant-loop-n : goal.invariant-loop-n
-invariant-loop-n l = AreFull l.words l.word l.n
