@@ -1,6 +1,8 @@
 //! Two workers with a short call each, in every order of their turns, uncut and cut at each event.
 
 ghost use Rattle.std.specs.Prelude.{◌≡◌, ◌≤◌, ◌<◌, length};
+ghost use Rattle.pool_workers.specs.Crew.{AreTasks, HasCompartments};
+ghost use Rattle.pool_workers.specs.inside.Crew.{AreUncut};
 
 use crate::program::program;
 use crate::runs::{Seen, is_right, order_and_recover};
@@ -32,6 +34,29 @@ struct Counted {
     wrong: u64,
 }
 
+/// A worker begins a transaction with one argument.
+fn begin_with<P: Pmem>(
+    workers: &mut Workers,
+    image: &Image,
+    worker: u32,
+    tx: u64,
+    value: i64,
+    dev: &P,
+)
+    requires worker { worker < length workers.old }
+    requires first { 1 ≤ tx }
+    requires last { tx ≤ length image.now.parts.txs }
+    requires tasks { AreTasks image.now workers.old }
+    requires uncut { AreUncut workers.old }
+    requires lines { HasCompartments image.now workers.old (P.device dev.now) }
+    ensures tasks { AreTasks image.now workers.new }
+    ensures uncut { AreUncut workers.new }
+    ensures lines { HasCompartments image.now workers.new (P.device dev.now) }
+    ensures count { length workers.new ≡ length workers.old }
+{
+    let _ = workers.begin(image, worker, tx, &[value], dev);
+}
+
 /// Worker 0 begins a call of `PUT`, and worker 1 of this transaction. They take turns in this
 /// order, and the power goes off after so many events.
 fn order_run<L: Ledger>(
@@ -51,8 +76,8 @@ fn order_run<L: Ledger>(
     let Ok(mut workers) = Workers::create(alloc, image, DIGEST, 2, &mut dev) else {
         return None;
     };
-    let _ = workers.begin(image, 0, PUT, &[1], &dev);
-    let _ = workers.begin(image, 1, second, &[2], &dev);
+    begin_with(&mut workers, image, 0, PUT, 1, &dev);
+    begin_with(&mut workers, image, 1, second, 2, &dev);
     dev.arm(stop);
     Some(order_and_recover(alloc, &mut workers, image, order, rest, &mut dev, steps))
 }
