@@ -2,6 +2,11 @@
 -- expression gives a value, a pool and ticks; a statement also gives locals, and how it ended.
 -- Either may trap, which ends the whole evaluation, and nothing is said of the pool then.
 --
+-- A trap has the place of the token where it came: the operator of a division, the `[` of an index
+-- that is outside, the `->` of a pointer that leads nowhere, the word of `pm_free`, of `abort` and
+-- of a loop that has no tick left for a turn, and the name in a call that has none left or is too
+-- deep.
+--
 -- The outer recursion is on `room`, the number of functions that may still be opened, and the inner
 -- one on the tree, to which the calls are passed as a function. A loop is a recursion on the ticks
 -- left when it begins, since each of its turns takes one.
@@ -24,16 +29,70 @@ use Rattle.pool_map.specs.declared.trap.TrapKind.{TrapKind}
 use Rattle.pool_map.specs.declared.trap.TrapKind.TheVariants as trap
 use Rattle.pool_map.specs.PoolMap.{PoolMap}
 use Rattle.c_meaning.specs.Locals.{Local, value_named, assigned, oldest, local_declared, bound}
+use Rattle.c_meaning.specs.declared.trap_at.TrapAt.{TrapAt}
 use Rattle.c_meaning.specs.declared.word.Word.{Word}
 use Rattle.c_meaning.specs.Access.{read_word, write_word, target_field, word_named, new_object}
 use Rattle.c_meaning.specs.Access.{free_object}
 use Rattle.c_meaning.specs.Operators.{unary_of, binary_of}
 use Rattle.pool_map.specs.Checks.{is_zero}
 
+-- The place of a field's `->` or, of the root, of its name. Any other expression names no field,
+-- and a checked tree has none here; its place is 0.
+abbrev pub field_place : ExprTree → ℕ
+field_place (expr.Arrow base place name) = place
+field_place (expr.Root name) = name.place
+field_place (expr.Number n) = 0
+field_place expr.Null = 0
+field_place (expr.Variable name) = 0
+field_place (expr.Call name all) = 0
+field_place (expr.New place name) = 0
+field_place (expr.Index a place i) = 0
+field_place (expr.Unary op place a) = 0
+field_place (expr.Binary op place a b) = 0
+
+-- where a target traps: an element by its index at the `[`, and else as its field
+abbrev pub element_place : (place field : ℕ) → TrapKind → ℕ
+element_place place field trap.Index = place
+element_place place field trap.Null = field
+element_place place field trap.Stale = field
+element_place place field trap.Divide = field
+element_place place field trap.Steps = field
+element_place place field trap.Abort = field
+element_place place field trap.LogFull = field
+element_place place field trap.Depth = field
+
+abbrev pub target_place : ExprTree → TrapKind → ℕ
+target_place (expr.Index a place i) kind = element_place place (field_place a) kind
+target_place (expr.Arrow base place name) kind = place
+target_place (expr.Root name) kind = name.place
+target_place (expr.Number n) kind = 0
+target_place expr.Null kind = 0
+target_place (expr.Variable name) kind = 0
+target_place (expr.Call name all) kind = 0
+target_place (expr.New place name) kind = 0
+target_place (expr.Unary op place a) kind = 0
+target_place (expr.Binary op place a b) kind = 0
+
+abbrev pub placed_trap : TrapKind → (place : ℕ) → TrapAt
+placed_trap kind place = record { kind = kind; place = place }
+
+abbrev pub at_place : {A : Type 0} → (place : ℕ) → Result A TrapKind → Result A TrapAt
+at_place place (Ok a) = Ok a
+at_place place (Err kind) = Err (placed_trap kind place)
+
+abbrev pub at_target : {A : Type 0} → ExprTree → Result A TrapKind → Result A TrapAt
+at_target e (Ok a) = Ok a
+at_target e (Err kind) = Err (placed_trap kind (target_place e kind))
+
+-- the word that a target names
+abbrev pub located : Tables → List Local → PoolMap → ExprTree → (pointer : ℤ) → Option ℤ
+    → Result Word TrapAt
+located t ls p e pointer index = at_target e (word_named t ls p (target_field e) pointer index)
+
 -- a value, the pool and the ticks left; or a trap
 pub data Out (A : Type 0) : Type 0 where
   Got : A → PoolMap → ℕ → Out A
-  Stops : TrapKind → Out A
+  Stops : TrapAt → Out A
 
 -- how a statement ends: normally, by `break`, `continue` or `return`, or by a trap
 pub data StmtEnd : Type 0 where
@@ -41,11 +100,11 @@ pub data StmtEnd : Type 0 where
   Broke : List Local → PoolMap → ℕ → StmtEnd
   Again : List Local → PoolMap → ℕ → StmtEnd
   Gave : ℤ → PoolMap → ℕ → StmtEnd
-  Traps : TrapKind → StmtEnd
+  Traps : TrapAt → StmtEnd
 
--- the effect of a function call, from its arguments
+-- the effect of a function call, from the place of the call and its arguments
 abbrev pub Calls : Type 0
-Calls = FunctionTree → List ℤ → PoolMap → ℕ → Out ℤ
+Calls = (place : ℕ) → FunctionTree → List ℤ → PoolMap → ℕ → Out ℤ
 
 abbrev pub then_do : {A B : Type 0} → Out A → (A → PoolMap → ℕ → Out B) → Out B
 then_do (Got a p k) go = go a p k
@@ -70,11 +129,11 @@ abbrev pub tick : {A : Type 0} → ℕ → A → (ℕ → A) → A
 tick zero none go = none
 tick (suc k) none go = go k
 
-abbrev pub or_trap : {A : Type 0} → Option A → TrapKind → PoolMap → ℕ → Out A
+abbrev pub or_trap : {A : Type 0} → Option A → TrapAt → PoolMap → ℕ → Out A
 or_trap None trap p k = Stops trap
 or_trap (Some a) trap p k = Got a p k
 
-abbrev pub loaded : Result Word TrapKind → PoolMap → ℕ → Out ℤ
+abbrev pub loaded : Result Word TrapAt → PoolMap → ℕ → Out ℤ
 loaded (Ok w) p k = Got (read_word p w) p k
 loaded (Err trap) p k = Stops trap
 
@@ -82,9 +141,10 @@ abbrev pub made : ℤ × PoolMap → ℕ → Out ℤ
 made r k = Got r.0 r.1 k
 
 -- both sides are evaluated, the left one first; a division by 0 traps
-abbrev pub strict : BinaryOp → Out ℤ → (PoolMap → ℕ → Out ℤ) → Out ℤ
-strict op a b = then_do a
-    (λ x p k. then_do (b p k) (λ y p k. or_trap (binary_of op x y) trap.Divide p k))
+abbrev pub strict : BinaryOp → (place : ℕ) → Out ℤ → (PoolMap → ℕ → Out ℤ) → Out ℤ
+strict op place a b = then_do a
+    (λ x p k. then_do (b p k)
+    (λ y p k. or_trap (binary_of op x y) (placed_trap trap.Divide place) p k))
 
 -- `&&` and `||` evaluate their right side only if the left side doesn't decide
 abbrev pub both : Out ℤ → (PoolMap → ℕ → Out ℤ) → Out ℤ
@@ -95,33 +155,33 @@ abbrev pub either : Out ℤ → (PoolMap → ℕ → Out ℤ) → Out ℤ
 either a b = then_do a (λ x p k.
     at_zero x (then_do (b p k) (λ y p k. Got (at_zero y (pos 0) (pos 1)) p k)) (Got (pos 1) p k))
 
-abbrev pub binary_means : BinaryOp → Out ℤ → (PoolMap → ℕ → Out ℤ) → Out ℤ
-binary_means binary.Both a b = both a b
-binary_means binary.Either a b = either a b
-binary_means binary.Mul a b = strict binary.Mul a b
-binary_means binary.Div a b = strict binary.Div a b
-binary_means binary.Rem a b = strict binary.Rem a b
-binary_means binary.Add a b = strict binary.Add a b
-binary_means binary.Sub a b = strict binary.Sub a b
-binary_means binary.ShiftLeft a b = strict binary.ShiftLeft a b
-binary_means binary.ShiftRight a b = strict binary.ShiftRight a b
-binary_means binary.Less a b = strict binary.Less a b
-binary_means binary.LessEqual a b = strict binary.LessEqual a b
-binary_means binary.Greater a b = strict binary.Greater a b
-binary_means binary.GreaterEqual a b = strict binary.GreaterEqual a b
-binary_means binary.Equal a b = strict binary.Equal a b
-binary_means binary.NotEqual a b = strict binary.NotEqual a b
-binary_means binary.And a b = strict binary.And a b
-binary_means binary.Xor a b = strict binary.Xor a b
-binary_means binary.Or a b = strict binary.Or a b
+abbrev pub binary_means : BinaryOp → (place : ℕ) → Out ℤ → (PoolMap → ℕ → Out ℤ) → Out ℤ
+binary_means binary.Both place a b = both a b
+binary_means binary.Either place a b = either a b
+binary_means binary.Mul place a b = strict binary.Mul place a b
+binary_means binary.Div place a b = strict binary.Div place a b
+binary_means binary.Rem place a b = strict binary.Rem place a b
+binary_means binary.Add place a b = strict binary.Add place a b
+binary_means binary.Sub place a b = strict binary.Sub place a b
+binary_means binary.ShiftLeft place a b = strict binary.ShiftLeft place a b
+binary_means binary.ShiftRight place a b = strict binary.ShiftRight place a b
+binary_means binary.Less place a b = strict binary.Less place a b
+binary_means binary.LessEqual place a b = strict binary.LessEqual place a b
+binary_means binary.Greater place a b = strict binary.Greater place a b
+binary_means binary.GreaterEqual place a b = strict binary.GreaterEqual place a b
+binary_means binary.Equal place a b = strict binary.Equal place a b
+binary_means binary.NotEqual place a b = strict binary.NotEqual place a b
+binary_means binary.And place a b = strict binary.And place a b
+binary_means binary.Xor place a b = strict binary.Xor place a b
+binary_means binary.Or place a b = strict binary.Or place a b
 
 -- A call takes a tick after its arguments and before its body. A call of a function that doesn't
 -- exist gives 0.
-abbrev pub called : Calls → Option FunctionTree → (FunctionTree → Out (List ℤ)) → PoolMap
-    → ℕ → Out ℤ
-called calls None arguments p k = Got (pos 0) p k
-called calls (Some f) arguments p k =
-    then_do (arguments f) (λ vs p k. tick k (Stops trap.Steps) (λ k. calls f vs p k))
+abbrev pub called : Calls → (place : ℕ) → Option FunctionTree → (FunctionTree → Out (List ℤ))
+    → PoolMap → ℕ → Out ℤ
+called calls place None arguments p k = Got (pos 0) p k
+called calls place (Some f) arguments p k = then_do (arguments f)
+    (λ vs p k. tick k (Stops (placed_trap trap.Steps place)) (λ k. calls place f vs p k))
 
 abbrev mutual
   pub value_of : Tables → Calls → ExprTree → List Local → PoolMap → ℕ → Out ℤ
@@ -129,21 +189,22 @@ abbrev mutual
   value_of t calls expr.Null ls p k = Got (pos 0) p k
   value_of t calls (expr.Variable name) ls p k = Got (value_named name.text ls) p k
   value_of t calls (expr.Call name all) ls p k =
-      called calls (function_named t name.text) (λ f. values_of t calls all ls p k) p k
+      called calls name.place (function_named t name.text) (λ f. values_of t calls all ls p k)
+      p k
   value_of t calls (expr.New place name) ls p k = made (new_object t p name.text) k
   value_of t calls (expr.Root name) ls p k =
-      loaded (word_named t ls p (expr.Root name) (pos 0) None) p k
+      loaded (located t ls p (expr.Root name) (pos 0) None) p k
   value_of t calls (expr.Arrow base place name) ls p k =
       then_do (value_of t calls base ls p k)
-      (λ b p k. loaded (word_named t ls p (expr.Arrow base place name) b None) p k)
+      (λ b p k. loaded (located t ls p (expr.Arrow base place name) b None) p k)
   value_of t calls (expr.Index a place i) ls p k =
       then_do (pointer_of t calls a ls p k)
       (λ b p k. then_do (value_of t calls i ls p k)
-      (λ j p k. loaded (word_named t ls p a b (Some j)) p k))
+      (λ j p k. loaded (located t ls p (expr.Index a place i) b (Some j)) p k))
   value_of t calls (expr.Unary op place a) ls p k =
       then_do (value_of t calls a ls p k) (λ x p k. Got (unary_of op x) p k)
   value_of t calls (expr.Binary op place a b) ls p k =
-      binary_means op (value_of t calls a ls p k) (λ p k. value_of t calls b ls p k)
+      binary_means op place (value_of t calls a ls p k) (λ p k. value_of t calls b ls p k)
 
   -- the pointer that leads to a field; 0 for a field of the root
   pub pointer_of : Tables → Calls → ExprTree → List Local → PoolMap → ℕ → Out ℤ
@@ -182,7 +243,7 @@ operands_of t calls (expr.Unary op place a) ls p k = Got (pos 0, None) p k
 operands_of t calls (expr.Binary op place a b) ls p k = Got (pos 0, None) p k
 
 -- the checks, and then the store
-abbrev pub stored_end : Result Word TrapKind → ℤ → List Local → PoolMap → ℕ → StmtEnd
+abbrev pub stored_end : Result Word TrapAt → ℤ → List Local → PoolMap → ℕ → StmtEnd
 stored_end (Ok w) v ls p k = Next ls (write_word p w v) k
 stored_end (Err trap) v ls p k = Traps trap
 
@@ -194,21 +255,21 @@ assign_to t calls (Some name) target value ls p k =
     with_value (value p k) (λ v p k. Next (assigned name v ls) p k)
 assign_to t calls None target value ls p k = with_value (operands_of t calls target ls p k)
     (λ o p k. with_value (value p k)
-    (λ v p k. stored_end (word_named t ls p (target_field target) o.0 o.1) v ls p k))
+    (λ v p k. stored_end (located t ls p target o.0 o.1) v ls p k))
 
 -- base and index once, the checks and the load, the right side, and then the checks again and the
 -- store
-abbrev pub update : Tables → Calls → Option (List ℕ) → ExprTree → BinaryOp → (PoolMap → ℕ → Out ℤ)
-    → List Local → PoolMap → ℕ → StmtEnd
-update t calls (Some name) target op right ls p k =
+abbrev pub update : Tables → Calls → Option (List ℕ) → ExprTree → BinaryOp → (place : ℕ)
+    → (PoolMap → ℕ → Out ℤ) → List Local → PoolMap → ℕ → StmtEnd
+update t calls (Some name) target op place right ls p k =
     with_value (right p k) (λ y p k.
-    with_value (or_trap (binary_of op (value_named name ls) y) trap.Divide p k)
+    with_value (or_trap (binary_of op (value_named name ls) y) (placed_trap trap.Divide place) p k)
     (λ v p k. Next (assigned name v ls) p k))
-update t calls None target op right ls p k = with_value (operands_of t calls target ls p k)
-    (λ o p k. with_value (loaded (word_named t ls p (target_field target) o.0 o.1) p k)
+update t calls None target op place right ls p k = with_value (operands_of t calls target ls p k)
+    (λ o p k. with_value (loaded (located t ls p target o.0 o.1) p k)
     (λ x p k. with_value (right p k)
-    (λ y p k. with_value (or_trap (binary_of op x y) trap.Divide p k)
-    (λ v p k. stored_end (word_named t ls p (target_field target) o.0 o.1) v ls p k))))
+    (λ y p k. with_value (or_trap (binary_of op x y) (placed_trap trap.Divide place) p k)
+    (λ v p k. stored_end (located t ls p target o.0 o.1) v ls p k))))
 
 -- the local that a target is, if it is one
 abbrev pub target_local : ExprTree → Option (List ℕ)
@@ -223,33 +284,35 @@ target_local (expr.Index a place i) = None
 target_local (expr.Unary op place a) = None
 target_local (expr.Binary op place a b) = None
 
-abbrev pub freed : Result PoolMap TrapKind → List Local → ℕ → StmtEnd
+abbrev pub freed : Result PoolMap TrapAt → List Local → ℕ → StmtEnd
 freed (Ok p) ls k = Next ls p k
 freed (Err trap) ls k = Traps trap
 
-abbrev pub assign_end : Tables → Calls → AssignOp → ExprTree → ExprTree → List Local → PoolMap
-    → ℕ → StmtEnd
-assign_end t calls assign.Set target e ls p k =
+abbrev pub assign_end : Tables → Calls → AssignOp → (place : ℕ) → ExprTree → ExprTree → List Local
+    → PoolMap → ℕ → StmtEnd
+assign_end t calls assign.Set place target e ls p k =
     assign_to t calls (target_local target) target (λ p k. value_of t calls e ls p k) ls p k
-assign_end t calls assign.Add target e ls p k =
-    update t calls (target_local target) target binary.Add (λ p k. value_of t calls e ls p k) ls p k
-assign_end t calls assign.Sub target e ls p k =
-    update t calls (target_local target) target binary.Sub (λ p k. value_of t calls e ls p k) ls p k
+assign_end t calls assign.Add place target e ls p k = update t calls (target_local target) target
+    binary.Add place (λ p k. value_of t calls e ls p k) ls p k
+assign_end t calls assign.Sub place target e ls p k = update t calls (target_local target) target
+    binary.Sub place (λ p k. value_of t calls e ls p k) ls p k
 
-abbrev pub steps : Tables → Calls → StepOp → ExprTree → List Local → PoolMap → ℕ → StmtEnd
-steps t calls step.Up target ls p k =
-    update t calls (target_local target) target binary.Add (λ p k. Got (pos 1) p k) ls p k
-steps t calls step.Down target ls p k =
-    update t calls (target_local target) target binary.Sub (λ p k. Got (pos 1) p k) ls p k
+abbrev pub steps : Tables → Calls → StepOp → (place : ℕ) → ExprTree → List Local → PoolMap
+    → ℕ → StmtEnd
+steps t calls step.Up place target ls p k = update t calls (target_local target) target binary.Add
+    place (λ p k. Got (pos 1) p k) ls p k
+steps t calls step.Down place target ls p k = update t calls (target_local target) target binary.Sub
+    place (λ p k. Got (pos 1) p k) ls p k
 
 abbrev pub end_of_simple : Tables → Calls → SimpleTree → List Local → PoolMap → ℕ → StmtEnd
-end_of_simple t calls (stmt.Assign target op place e) ls p k = assign_end t calls op target e ls p k
-end_of_simple t calls (stmt.Step target op place) ls p k = steps t calls op target ls p k
+end_of_simple t calls (stmt.Assign target op place e) ls p k =
+    assign_end t calls op place target e ls p k
+end_of_simple t calls (stmt.Step target op place) ls p k = steps t calls op place target ls p k
 end_of_simple t calls (stmt.Call name all) ls p k =
     with_value (value_of t calls (expr.Call name all) ls p k) (λ v p k. Next ls p k)
-end_of_simple t calls (stmt.Free place e) ls p k =
-    with_value (value_of t calls e ls p k) (λ v p k. freed (free_object t ls p e v) ls k)
-end_of_simple t calls (stmt.Abort place) ls p k = Traps trap.Abort
+end_of_simple t calls (stmt.Free place e) ls p k = with_value (value_of t calls e ls p k)
+    (λ v p k. freed (at_place place (free_object t ls p e v)) ls k)
+end_of_simple t calls (stmt.Abort place) ls p k = Traps (placed_trap trap.Abort place)
 
 -- a local without an initial value becomes 0 each time its declaration is reached
 abbrev pub declaration_end : Tables → Calls → DeclarationTree → List Local → PoolMap → ℕ → StmtEnd
@@ -291,15 +354,16 @@ after_turn (Broke ls p k) go = Next ls p k
 after_turn (Gave v p k) go = Gave v p k
 after_turn (Traps trap) go = Traps trap
 
--- at most n turns of a loop: a tick, the condition, the body, and the third part
-abbrev pub turns : ℕ → (List Local → PoolMap → ℕ → Out ℤ) → (List Local → PoolMap → ℕ → StmtEnd)
-    → (List Local → PoolMap → ℕ → StmtEnd)
+-- at most n turns of a loop whose word has this place: a tick, the condition, the body, and the
+-- third part
+abbrev pub turns : ℕ → (place : ℕ) → (List Local → PoolMap → ℕ → Out ℤ)
+    → (List Local → PoolMap → ℕ → StmtEnd) → (List Local → PoolMap → ℕ → StmtEnd)
     → List Local → PoolMap → ℕ → StmtEnd
-turns zero test body third ls p k = Traps trap.Steps
-turns (suc n) test body third ls p k = tick k (Traps trap.Steps) (λ k. with_value (test ls p k)
-    (λ v p k. at_zero v (Next ls p k)
+turns zero place test body third ls p k = Traps (placed_trap trap.Steps place)
+turns (suc n) place test body third ls p k = tick k (Traps (placed_trap trap.Steps place))
+    (λ k. with_value (test ls p k) (λ v p k. at_zero v (Next ls p k)
     (after_turn (body ls p k) (λ ls p k.
-    then_next (third ls p k) (λ ls p k. turns n test body third ls p k)))))
+    then_next (third ls p k) (λ ls p k. turns n place test body third ls p k)))))
 
 abbrev mutual
   pub end_of_stmt : Tables → Calls → StmtTree → List Local → PoolMap → ℕ → StmtEnd
@@ -314,11 +378,12 @@ abbrev mutual
       with_value (value_of t calls c ls p k)
       (λ v p k. at_zero v (in_scope (length ls) (end_of_stmt t calls b ls p k))
       (in_scope (length ls) (end_of_stmt t calls a ls p k)))
-  end_of_stmt t calls (stmt.While c a) ls p k = turns k (λ ls p k. value_of t calls c ls p k)
-      (λ ls p k. in_scope (length ls) (end_of_stmt t calls a ls p k)) (λ ls p k. Next ls p k) ls p k
+  end_of_stmt t calls (stmt.While place c a) ls p k =
+      turns k place (λ ls p k. value_of t calls c ls p k) (λ ls p k.
+      in_scope (length ls) (end_of_stmt t calls a ls p k)) (λ ls p k. Next ls p k) ls p k
   -- a `for` is a scope around its parts
-  end_of_stmt t calls (stmt.For first c third a) ls p k =
-      in_scope (length ls) (then_next (end_of_first t calls first ls p k) (λ ls p k. turns k
+  end_of_stmt t calls (stmt.For place first c third a) ls p k =
+      in_scope (length ls) (then_next (end_of_first t calls first ls p k) (λ ls p k. turns k place
       (λ ls p k. condition_of t calls c ls p k) (λ ls p k.
       in_scope (length ls) (end_of_stmt t calls a ls p k)) (λ ls p k.
       end_of_third t calls third ls p k) ls p k))
@@ -344,5 +409,5 @@ function_value t calls f vs p k = given (ends_of t calls f.body (bound t f.param
 
 -- a call when so many more functions may be opened
 abbrev pub calls_of : Tables → ℕ → Calls
-calls_of t zero f vs p k = Stops trap.Depth
-calls_of t (suc room) f vs p k = function_value t (calls_of t room) f vs p k
+calls_of t zero place f vs p k = Stops (placed_trap trap.Depth place)
+calls_of t (suc room) place f vs p k = function_value t (calls_of t room) f vs p k

@@ -525,7 +525,7 @@ module _ (ts : List Placed) where
     statement_back loop k kind.If is u (m, e, br, (j, s, h, after)) =
         choice_back loop m j e s k is br h after
     statement_back loop k kind.While is u (m, e, br, (j, s, h, after)) =
-        (j, tree.While e s, repeats is br h, after)
+        (j, tree.While i e s, repeats is br h, after)
     statement_back loop k kind.For is u (
       o,
       m,
@@ -541,7 +541,7 @@ module _ (ts : List Placed) where
       tp,
       c,
       (j, s, h, after),
-    ) = (j, tree.For f v t s, counts is o fp z vp z2 tp c h, after)
+    ) = (j, tree.For i f v t s, counts is o fp z vp z2 tp c h, after)
     statement_back true k kind.Break is u (z, st) = (i + 1 + 1, tree.Break, breaks is z, st)
     statement_back false k kind.Break is u h = absurd h
     statement_back true k kind.Continue is u (z, st) =

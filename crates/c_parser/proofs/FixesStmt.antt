@@ -607,8 +607,8 @@ abbrev StmtOf : List Placed → ℕ → ℕ → StmtTree → Kind → Type 0
 StmtOf ts i k t kind.OpenBrace = (all : Statements) × StatedAll ts (i + 1) k all
     × (t ≡ tree.Block all)
 StmtOf ts i k t kind.If = SpellsChoice ts (i + 1) k t
-StmtOf ts i k t kind.While = SpellsWhile ts (i + 1) k t
-StmtOf ts i k t kind.For = SpellsCounted ts (i + 1) k t
+StmtOf ts i k t kind.While = SpellsWhile ts i (i + 1) k t
+StmtOf ts i k t kind.For = SpellsCounted ts i (i + 1) k t
 StmtOf ts i k t _ = SpellsPlain ts i k t
 
 type_stmt : (ts : List Placed) (i k : ℕ) (t : StmtTree) (s : Kind) → TypeBegins s
@@ -672,18 +672,18 @@ stated_choice ts i n is to_n =
     }
 
 pub stated_while : (ts : List Placed) (i n : ℕ) → kind.While ≡ kind_at ts i
-    → (i < length ts → n ≡ i + 1) → DerivesFrom (Stated ts i) (SpellsWhile ts n)
+    → (i < length ts → n ≡ i + 1) → DerivesFrom (Stated ts i) (SpellsWhile ts i n)
 stated_while ts i n is to_n = record {
   on = λ k t d.
-      subst (λ n. SpellsWhile ts n k t) (sym (after ts i n kind.While (sym is) tt to_n))
+      subst (λ n. SpellsWhile ts i n k t) (sym (after ts i n kind.While (sym is) tt to_n))
       (stmt_is kind.While is d);
 }
 
 pub stated_for : (ts : List Placed) (i n : ℕ) → kind.For ≡ kind_at ts i
-    → (i < length ts → n ≡ i + 1) → DerivesFrom (Stated ts i) (SpellsCounted ts n)
+    → (i < length ts → n ≡ i + 1) → DerivesFrom (Stated ts i) (SpellsCounted ts i n)
 stated_for ts i n is to_n = record {
   on = λ k t d.
-      subst (λ n. SpellsCounted ts n k t) (sym (after ts i n kind.For (sym is) tt to_n))
+      subst (λ n. SpellsCounted ts i n k t) (sym (after ts i n kind.For (sym is) tt to_n))
       (stmt_is kind.For is d);
 }
 
@@ -738,29 +738,29 @@ alone_read ts i m j e a x condition first not h = record { same = λ k t d. take
         let g = first.same r s (subst (λ p. Stated ts p r s) (sym f.0) one) in
         absurd (not (ap (kind_at ts) g.0 ∙ was))
 
-pub while_read : (ts : List Placed) (i m j : ℕ) (e : ExprTree) (a x : StmtTree)
+pub while_read : (ts : List Placed) (w i m j : ℕ) (e : ExprTree) (a x : StmtTree)
     → Fixes (Bracketed ts i) m e → Fixes (Stated ts m) j a
-    → x ≡ tree.While e a → Fixes (SpellsWhile ts i) j x
-while_read ts i m j e a x condition first h = record { same = λ k t d. taken d }
+    → x ≡ tree.While w e a → Fixes (SpellsWhile ts w i) j x
+while_read ts w i m j e a x condition first h = record { same = λ k t d. taken d }
   where
-    taken : {k : ℕ} {t : StmtTree} → SpellsWhile ts i k t → (j ≡ k) × (x ≡ t)
+    taken : {k : ℕ} {t : StmtTree} → SpellsWhile ts w i k t → (j ≡ k) × (x ≡ t)
     taken {k} (repeated {m = p} {e = c} {s = s} d one) =
         let f = condition.same p c d in
         let g = first.same k s (subst (λ p. Stated ts p k s) (sym f.0) one) in
-        (g.0, h ∙ ap (λ e. tree.While e a) f.1 ∙ ap (tree.While c) g.1)
+        (g.0, h ∙ ap (λ e. tree.While w e a) f.1 ∙ ap (tree.While w c) g.1)
 
-pub counted_read : (ts : List Placed) (i m j : ℕ) (p : ForTree) (a x : StmtTree)
+pub counted_read : (ts : List Placed) (w i m j : ℕ) (p : ForTree) (a x : StmtTree)
     → Fixes (SpellsFor ts i) m p → Fixes (Stated ts m) j a
-    → x ≡ tree.For p.first p.condition p.third a → Fixes (SpellsCounted ts i) j x
-counted_read ts i m j p a x parts first h = record { same = λ k t d. taken d }
+    → x ≡ tree.For w p.first p.condition p.third a → Fixes (SpellsCounted ts w i) j x
+counted_read ts w i m j p a x parts first h = record { same = λ k t d. taken d }
   where
-    taken : {k : ℕ} {t : StmtTree} → SpellsCounted ts i k t → (j ≡ k) × (x ≡ t)
+    taken : {k : ℕ} {t : StmtTree} → SpellsCounted ts w i k t → (j ≡ k) × (x ≡ t)
     taken {k} (counted {m = q} {p = r} {s = s} d one) =
         let f = parts.same q r d in
         let g = first.same k s (subst (λ q. Stated ts q k s) (sym f.0) one) in (
           g.0,
-          h ∙ ap (λ p. tree.For p.first p.condition p.third a) f.1
-              ∙ ap (tree.For r.first r.condition r.third) g.1,
+          h ∙ ap (λ p. tree.For w p.first p.condition p.third a) f.1
+              ∙ ap (tree.For w r.first r.condition r.third) g.1,
         )
 
 -- the statements so far, and the rest from a place on

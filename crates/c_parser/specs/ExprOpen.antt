@@ -1,6 +1,6 @@
 -- What is open after each token of an expression, production by production. The operators of an
--- expression are its binary and unary ones, each `->`, each `[` and the `.` after `root`, but for
--- those in brackets inside it, which are the operators of an expression of their own.
+-- expression are its binary and unary ones, each `->`, each `[` and the `.` after `root`. It
+-- doesn't count those inside its brackets, which are the operators of an expression of their own.
 use Rattle.std.specs.Prelude.{ℕ, ◌+◌, List, [], ◌∷◌, ◌++◌}
 use Rattle.c_lexer.specs.declared.token.Placed.{Placed}
 use Rattle.c_tree.specs.ExprTree.{ExprTree, Arguments}

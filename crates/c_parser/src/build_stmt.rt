@@ -177,10 +177,14 @@ fn make_if_else(condition: Expr, body: Box<Stmt>, other: Box<Stmt>) -> Stmt
     }
 }
 
-fn make_while(condition: Expr, body: Box<Stmt>) -> Stmt
-    ensures { stmt_of result ≡ trees.While (expr_of condition) (stmt_of body.value) }
+fn make_while(place: u64, condition: Expr, body: Box<Stmt>) -> Stmt
+    ensures { stmt_of result ≡ trees.While place (expr_of condition) (stmt_of body.value) }
 {
-    Stmt::While { condition, body }
+    Stmt::While {
+        place,
+        condition,
+        body,
+    }
 }
 
 /// The three parts of a `for`.
@@ -191,8 +195,8 @@ struct ForParts {
     third: Option<Simple>,
 }
 
-fn make_for(parts: ForParts, body: Box<Stmt>) -> Stmt
-    ensures { stmt_of result ≡ trees.For (for_of parts).first (for_of parts).condition
+fn make_for(place: u64, parts: ForParts, body: Box<Stmt>) -> Stmt
+    ensures { stmt_of result ≡ trees.For place (for_of parts).first (for_of parts).condition
         (for_of parts).third (stmt_of body.value) }
 {
     let ForParts {
@@ -201,6 +205,7 @@ fn make_for(parts: ForParts, body: Box<Stmt>) -> Stmt
         third,
     } = parts;
     Stmt::For {
+        place,
         first,
         condition,
         third,
@@ -351,8 +356,8 @@ pub fn statement(alloc: Global, tokens: &TokenList, at: u64) -> Result<(Stmt, u6
             Ok((make_block(all), end))
         }
         Kind::If => choice(alloc, tokens, place_after(tokens, at)),
-        Kind::While => repeated(alloc, tokens, place_after(tokens, at)),
-        Kind::For => counted(alloc, tokens, place_after(tokens, at)),
+        Kind::While => repeated(alloc, tokens, at, place_after(tokens, at)),
+        Kind::For => counted(alloc, tokens, at, place_after(tokens, at)),
         _ => plain(alloc, tokens, at),
     }
 }
@@ -383,29 +388,35 @@ fn choice(alloc: Global, tokens: &TokenList, at: u64) -> Result<(Stmt, u64), All
     Ok((make_if(condition, first), end))
 }
 
-/// A loop, from the place after its `while`.
+/// A loop, from the place after its `while`, which stands at `word`.
 #[cycle(statements)]
 #[tactic(auto, using(crate::proofs::FixesStmt::while_read))]
-fn repeated(alloc: Global, tokens: &TokenList, at: u64) -> Result<(Stmt, u64), AllocError>
+fn repeated(
+    alloc: Global,
+    tokens: &TokenList,
+    word: u64,
+    at: u64,
+) -> Result<(Stmt, u64), AllocError>
     ensures stays { IfOk result (λ r. at ≤ r.1) }
-    ensures fixes { IfOk result (λ r. Fixes (SpellsWhile tokens.now.tokens at) r.1 (stmt_of r.0)) }
+    ensures fixes { IfOk result (λ r. Fixes (SpellsWhile tokens.now.tokens word at) r.1
+        (stmt_of r.0)) }
 {
     let (condition, place) = bracketed(alloc, tokens, at)?;
     let (body, end) = body(alloc, tokens, place)?;
-    Ok((make_while(condition, body), end))
+    Ok((make_while(word, condition, body), end))
 }
 
-/// A loop with three parts, from the place after its `for`.
+/// A loop with three parts, from the place after its `for`, which stands at `word`.
 #[cycle(statements)]
 #[tactic(auto, using(crate::proofs::FixesStmt::counted_read))]
-fn counted(alloc: Global, tokens: &TokenList, at: u64) -> Result<(Stmt, u64), AllocError>
+fn counted(alloc: Global, tokens: &TokenList, word: u64, at: u64) -> Result<(Stmt, u64), AllocError>
     ensures stays { IfOk result (λ r. at ≤ r.1) }
-    ensures fixes { IfOk result (λ r. Fixes (SpellsCounted tokens.now.tokens at) r.1
+    ensures fixes { IfOk result (λ r. Fixes (SpellsCounted tokens.now.tokens word at) r.1
         (stmt_of r.0)) }
 {
     let (parts, place) = for_parts(alloc, tokens, at)?;
     let (body, end) = body(alloc, tokens, place)?;
-    Ok((make_for(parts, body), end))
+    Ok((make_for(word, parts, body), end))
 }
 
 /// The statements from the place after an opening brace to the place after the closing one.

@@ -105,14 +105,14 @@ mutual
         → Spells ts loop i k (tree.IfElse e a b)
     repeats : {loop : Bool} {i m j : ℕ} {e : ExprTree} {s : StmtTree}
         → kind_at ts i ≡ kind.While → Bracketed ts (i + 1) m e → Spells ts true m j s
-        → Spells ts loop i j (tree.While e s)
+        → Spells ts loop i j (tree.While i e s)
     counts : {loop : Bool} {i m n p j : ℕ} {f : Option FirstTree} {c : Option ExprTree}
         {t : Option SimpleTree} {s : StmtTree}
         → kind_at ts i ≡ kind.For → kind_at ts (i + 1) ≡ kind.OpenRound
         → FirstPart ts (i + 1 + 1) m f → kind_at ts m ≡ kind.Semicolon
         → ValuePart ts (m + 1) n c → kind_at ts n ≡ kind.Semicolon → ThirdPart ts (n + 1) p t
         → kind_at ts p ≡ kind.CloseRound
-        → Spells ts true (p + 1) j s → Spells ts loop i j (tree.For f c t s)
+        → Spells ts true (p + 1) j s → Spells ts loop i j (tree.For i f c t s)
     breaks : {i : ℕ} → kind_at ts i ≡ kind.Break → kind_at ts (i + 1) ≡ kind.Semicolon
         → Spells ts true i (i + 1 + 1) tree.Break
     continues : {i : ℕ} → kind_at ts i ≡ kind.Continue → kind_at ts (i + 1) ≡ kind.Semicolon

@@ -48,8 +48,8 @@ mutual
     Block : Statements → StmtTree
     If : ExprTree → StmtTree → StmtTree
     IfElse : ExprTree → StmtTree → StmtTree → StmtTree
-    While : ExprTree → StmtTree → StmtTree
-    For : Option FirstTree → Option ExprTree → Option SimpleTree → StmtTree → StmtTree
+    While : (place : ℕ) → ExprTree → StmtTree → StmtTree
+    For : (place : ℕ) → Option FirstTree → Option ExprTree → Option SimpleTree → StmtTree → StmtTree
     Break : StmtTree
     Continue : StmtTree
     Return : (place : ℕ) → Option ExprTree → StmtTree
@@ -90,9 +90,9 @@ abbrev mutual
   stmt_of (node.Simple s) = Simple (simple_of s)
   stmt_of (node.Block' shape all) = Block (statements_of all)
   stmt_of (node.If' condition p body other) = with_else (expr_of condition) (stmt_of body) other
-  stmt_of (node.While' condition p body) = While (expr_of condition) (stmt_of body)
-  stmt_of (node.For' f c t p body) =
-      For (option_map tree_of_first f) (option_map expr_of c) (option_map simple_of t)
+  stmt_of (node.While' place condition p body) = While place (expr_of condition) (stmt_of body)
+  stmt_of (node.For' place f c t p body) =
+      For place (option_map tree_of_first f) (option_map expr_of c) (option_map simple_of t)
       (stmt_of body)
   stmt_of node.Break = Break
   stmt_of node.Continue = Continue

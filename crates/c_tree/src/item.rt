@@ -44,7 +44,7 @@ pub struct Parameter {
 pub struct Function {
     /// Whether it is a transaction.
     pub tx: bool,
-    /// Whether it is one that rolls back where it traps.
+    /// Whether a trap rolls it back.
     pub rolls_back: bool,
     pub result_type: Option<TypeName>,
     pub name: Name,

@@ -95,11 +95,15 @@ pub enum Stmt {
         body: Box<Stmt>,
         other: Option<Box<Stmt>>,
     },
+    /// A `while`; the place is that of the word.
     While {
+        place: u64,
         condition: Expr,
         body: Box<Stmt>,
     },
+    /// A `for`; the place is that of the word.
     For {
+        place: u64,
         first: Option<First>,
         condition: Option<Expr>,
         third: Option<Simple>,

@@ -52,7 +52,7 @@ rule_before a b = nat_lt (rule_number a) (rule_number b)
 abbrev pub is_before : Broken → Broken → Bool
 is_before a b = nat_lt a.place b.place || (nat_eq a.place b.place && rule_before a.rule b.rule)
 
--- of the broken rule that was found first so far, if any, and one more, the one that goes first
+-- the lesser of the best so far and a new one
 abbrev pub lesser : Option Broken → Broken → Option Broken
 lesser None b = Some b
 lesser (Some a) b = if is_before b a then Some b else Some a

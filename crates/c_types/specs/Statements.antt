@@ -121,8 +121,8 @@ scopes_after t (stmt.Simple x) s = s
 scopes_after t (stmt.Block all) s = s
 scopes_after t (stmt.If c a) s = s
 scopes_after t (stmt.IfElse c a b) s = s
-scopes_after t (stmt.While c a) s = s
-scopes_after t (stmt.For first c third a) s = s
+scopes_after t (stmt.While place c a) s = s
+scopes_after t (stmt.For place first c third a) s = s
 scopes_after t stmt.Break s = s
 scopes_after t stmt.Continue s = s
 scopes_after t (stmt.Return place value) s = s
@@ -139,10 +139,10 @@ abbrev mutual
   statement_broken t gives s (stmt.IfElse c a b) =
       value_broken t s c ++ (statement_broken t gives (inner_scopes s) a ++ statement_broken t gives
       (inner_scopes s) b)
-  statement_broken t gives s (stmt.While c a) =
+  statement_broken t gives s (stmt.While place c a) =
       value_broken t s c ++ statement_broken t gives (inner_scopes s) a
   -- a `for` is a scope around its parts
-  statement_broken t gives s (stmt.For first c third a) = let inner =
+  statement_broken t gives s (stmt.For place first c third a) = let inner =
       option_map_or (λ f. scopes_after_first t f (inner_scopes s)) first (inner_scopes s) in
       option_map_or (first_broken t (inner_scopes s)) first []
       ++ (option_map_or (value_broken t inner) c []

@@ -1,4 +1,4 @@
-//! The typing rules of a program. It rests on `c_parser`'s tree and gives `pool_map`'s shapes. Its
+//! The typing rules of a program. It rests on `c_tree`'s trees and gives `pool_map`'s shapes. Its
 //! one contract for the crates above: `check` answers a tree that breaks no rule, or the rule that
 //! is broken at the least token, and at that token the one with the least number.
 #![tactic(auto)]

@@ -84,7 +84,11 @@ fn statement<'a>(
                 Some(other) => inside(alloc, program, gives, scopes, other, least),
             }
         }
-        Stmt::While { condition, body } => {
+        Stmt::While {
+            condition,
+            body,
+            ..
+        } => {
             value(program, scopes, condition, least);
             inside(alloc, program, gives, scopes, body, least)
         }
@@ -93,6 +97,7 @@ fn statement<'a>(
             condition,
             third,
             body,
+            ..
         } => {
             scopes.open(alloc)?;
             begin(program, scopes, first, least)?;

@@ -2,5 +2,4 @@ pub mod Tops
 pub mod Ends
 pub mod Numbers
 pub mod Ticks
-pub mod Unplaced
 pub mod Resume

@@ -14,9 +14,9 @@ use Rattle.c_tree.specs.StmtTree.{StmtTree, DeclarationTree, InitialTree}
 use Rattle.c_tree.specs.StmtTree as stmt
 use Rattle.c_tree.specs.ItemTree.{FunctionTree}
 use Rattle.c_types.specs.Tables.{Tables, function_named}
-use Rattle.interpreter.specs.declared.fault.TrapAt.{TrapAt}
 use Rattle.pool_map.specs.declared.trap.TrapKind.TheVariants as trap
 use Rattle.pool_map.specs.PoolMap.{PoolMap}
+use Rattle.c_meaning.specs.declared.trap_at.TrapAt.{TrapAt}
 use Rattle.interpreter.specs.declared.fault.Fault.{Fault}
 use Rattle.interpreter.specs.declared.fault.Fault.TheVariants.{NoMemory, Trapped}
 use Rattle.interpreter.specs.declared.work.ExprTask.TheVariants as expr_task
@@ -27,14 +27,14 @@ use Rattle.interpreter.specs.declared.work.Work.TheVariants as work
 use Rattle.interpreter.specs.declared.work.Flow.{Flow}
 use Rattle.interpreter.specs.declared.work.Flow.TheVariants as flow
 use Rattle.c_meaning.specs.Locals.{Local, value_named, assigned}
-use Rattle.interpreter.specs.Placed.{Out, Got, Stops, StmtEnd, Next, Gave, Traps, Calls, then_do}
+use Rattle.c_meaning.specs.Meaning.{Out, Got, Stops, StmtEnd, Next, Gave, Traps, Calls, then_do}
 use Rattle.c_meaning.specs.Meaning.{at_zero, tick, target_local}
-use Rattle.interpreter.specs.Placed.{with_value, after_turn, or_trap, loaded}
-use Rattle.interpreter.specs.Placed.{stored_end, called, value_of, pointer_of, values_of}
-use Rattle.interpreter.specs.Placed.{operands_of, assign_to, update, end_of_simple}
-use Rattle.interpreter.specs.Placed.{declaration_end, return_end, condition_of, end_of_stmt}
-use Rattle.interpreter.specs.Placed.{function_value, trap_at, word_at, unplaced, trap_place}
-use Rattle.interpreter.specs.Placed.{Outcome, Done, Trap, outcome}
+use Rattle.c_meaning.specs.Meaning.{with_value, after_turn, or_trap, loaded}
+use Rattle.c_meaning.specs.Meaning.{stored_end, called, value_of, pointer_of, values_of}
+use Rattle.c_meaning.specs.Meaning.{operands_of, assign_to, update, end_of_simple}
+use Rattle.c_meaning.specs.Meaning.{declaration_end, return_end, condition_of, end_of_stmt}
+use Rattle.c_meaning.specs.Meaning.{function_value, placed_trap, located}
+use Rattle.c_meaning.specs.Transaction.{Done, outcome, stop_place}
 use Rattle.interpreter.specs.inside.Todo.{Todo, todo_of}
 use Rattle.interpreter.specs.inside.Todo as todo
 use Rattle.interpreter.specs.inside.Resume.{ResumeState, Goes, calls, newest, pushed, laid}
@@ -45,7 +45,7 @@ use Rattle.interpreter.specs.inside.Resume.{left_function, todo_act, ended, resu
 use Rattle.interpreter.specs.inside.Resume.{right_of, right_todo, end_at, LeadsToOutcome}
 use Rattle.c_meaning.specs.Operators.{binary_of}
 use Rattle.interpreter.specs.Answers.{PlainAnswers}
-use Rattle.interpreter.specs.inside.Answers.{plain_answer, place_answer}
+use Rattle.interpreter.specs.inside.Answers.{plain_answer, place_answer, RunGives}
 use Rattle.interpreter.proofs.Ticks.{within-calls, within-condition, ends-body, ends-third}
 use Rattle.interpreter.proofs.Ticks.{turns-more}
 
@@ -68,26 +68,26 @@ pushed-then go next vs below ls (Stops trap) f h = refl
 
 -- a trap ends the whole remaining run
 pub resume-traps : (t : Tables) (xs : List Todo) (vs : List ℤ) (below : List (List Local))
-    (kind : TrapAt)
-    → resume t xs vs below (Traps kind) ≡ Trap kind
-resume-traps t [] vs below kind = refl
-resume-traps t (todo.Expr task e ∷ xs) vs below kind = resume-traps t xs vs below kind
-resume-traps t (todo.Stmt stmt_task.Exec s ∷ xs) vs below kind = resume-traps t xs vs below kind
-resume-traps t (todo.Stmt stmt_task.Choose s ∷ xs) vs below kind = resume-traps t xs vs below kind
-resume-traps t (todo.Stmt stmt_task.Turn s ∷ xs) vs below kind = resume-traps t xs vs below kind
-resume-traps t (todo.Stmt stmt_task.Test s ∷ xs) vs below kind = resume-traps t xs vs below kind
-resume-traps t (todo.Stmt stmt_task.Again s ∷ xs) vs below kind = resume-traps t xs vs below kind
-resume-traps t (todo.Arguments all ∷ xs) vs below kind = resume-traps t xs vs below kind
-resume-traps t (todo.Rest all ∷ xs) vs below kind = resume-traps t xs vs below kind
-resume-traps t (todo.Simple x ∷ xs) vs below kind = resume-traps t xs vs below kind
-resume-traps t (todo.Declare d ∷ xs) vs below kind = resume-traps t xs vs below kind
-resume-traps t (todo.Assign name ∷ xs) vs below kind = resume-traps t xs vs below kind
-resume-traps t (todo.Call f count ∷ xs) vs below kind = resume-traps t xs vs below kind
-resume-traps t (todo.Leave ∷ xs) vs [] kind = refl
-resume-traps t (todo.Leave ∷ xs) vs (ls ∷ below) kind = refl
-resume-traps t (todo.Close count ∷ xs) vs below kind = resume-traps t xs vs below kind
-resume-traps t (todo.Word task ∷ xs) vs below kind = resume-traps t xs vs below kind
-resume-traps t (todo.Give ∷ xs) vs below kind = resume-traps t xs vs below kind
+    (trap : TrapAt)
+    → resume t xs vs below (Traps trap) ≡ Stops trap
+resume-traps t [] vs below trap = refl
+resume-traps t (todo.Expr task e ∷ xs) vs below trap = resume-traps t xs vs below trap
+resume-traps t (todo.Stmt stmt_task.Exec s ∷ xs) vs below trap = resume-traps t xs vs below trap
+resume-traps t (todo.Stmt stmt_task.Choose s ∷ xs) vs below trap = resume-traps t xs vs below trap
+resume-traps t (todo.Stmt stmt_task.Turn s ∷ xs) vs below trap = resume-traps t xs vs below trap
+resume-traps t (todo.Stmt stmt_task.Test s ∷ xs) vs below trap = resume-traps t xs vs below trap
+resume-traps t (todo.Stmt stmt_task.Again s ∷ xs) vs below trap = resume-traps t xs vs below trap
+resume-traps t (todo.Arguments all ∷ xs) vs below trap = resume-traps t xs vs below trap
+resume-traps t (todo.Rest all ∷ xs) vs below trap = resume-traps t xs vs below trap
+resume-traps t (todo.Simple x ∷ xs) vs below trap = resume-traps t xs vs below trap
+resume-traps t (todo.Declare d ∷ xs) vs below trap = resume-traps t xs vs below trap
+resume-traps t (todo.Assign name ∷ xs) vs below trap = resume-traps t xs vs below trap
+resume-traps t (todo.Call place f count ∷ xs) vs below trap = resume-traps t xs vs below trap
+resume-traps t (todo.Leave ∷ xs) vs [] trap = refl
+resume-traps t (todo.Leave ∷ xs) vs (ls ∷ below) trap = refl
+resume-traps t (todo.Close count ∷ xs) vs below trap = resume-traps t xs vs below trap
+resume-traps t (todo.Word task ∷ xs) vs below trap = resume-traps t xs vs below trap
+resume-traps t (todo.Give ∷ xs) vs below trap = resume-traps t xs vs below trap
 
 pub ruleset traps = (resume-traps)
 
@@ -136,8 +136,8 @@ IsIf stmt.Empty e = ⊥
 IsIf (stmt.Declares d) e = ⊥
 IsIf (stmt.Simple x) e = ⊥
 IsIf (stmt.Block all) e = ⊥
-IsIf (stmt.While c a) e = ⊥
-IsIf (stmt.For first c third a) e = ⊥
+IsIf (stmt.While place c a) e = ⊥
+IsIf (stmt.For place first c third a) e = ⊥
 IsIf stmt.Break e = ⊥
 IsIf stmt.Continue e = ⊥
 IsIf (stmt.Return place value) e = ⊥
@@ -158,8 +158,8 @@ if-then t s stmt.Empty e is = absurd is
 if-then t s (stmt.Declares d) e is = absurd is
 if-then t s (stmt.Simple x) e is = absurd is
 if-then t s (stmt.Block all) e is = absurd is
-if-then t s (stmt.While c a) e is = absurd is
-if-then t s (stmt.For first c third a) e is = absurd is
+if-then t s (stmt.While place c a) e is = absurd is
+if-then t s (stmt.For place first c third a) e is = absurd is
 if-then t s stmt.Break e is = absurd is
 if-then t s stmt.Continue e is = absurd is
 if-then t s (stmt.Return place value) e is = absurd is
@@ -189,7 +189,7 @@ pub turn-then : (t : Tables) (s : ResumeState) (x : StmtTree)
 turn-then t s x = ended-with t (seen s) (resume t (todo.Stmt stmt_task.Test x ∷ seen s)) s.values
     s.below s.top
     (condition_of t (calls t s.below) (condition_in x) s.top s.pool s.ticks) _ (λ v p k. refl)
-    ∙ sym (ap (resume t (seen s) s.values s.below) (turns-more _ _ _
+    ∙ sym (ap (resume t (seen s) s.values s.below) (turns-more _ _ _ _
     (λ ls p k n le. within-condition t (calls t s.below) (within-calls t _) (condition_in x)
     ls p k n le)
     (λ ls p k n le. ends-body t (calls t s.below) (within-calls t _) x ls p k n le)
@@ -253,32 +253,33 @@ counted-values t cs (x ∷ xs) ls p k =
     (λ p k. counted-values t cs xs ls p k)
 
 pushed_all-call : (t : Tables) (xs : List Todo) (vs : List ℤ) (below : List (List Local))
-    (ls : List Local) (f : FunctionTree) (n : ℕ) (a : Out (List ℤ)) → Counted n a
-    → pushed_all (resume t (todo.Call f n ∷ xs)) vs below ls a
+    (ls : List Local) (place : ℕ) (f : FunctionTree) (n : ℕ) (a : Out (List ℤ)) → Counted n a
+    → pushed_all (resume t (todo.Call place f n ∷ xs)) vs below ls a
     ≡ pushed (resume t xs) vs below ls
-    (then_do a (λ vs p k. tick k (Stops (trap_at trap.Steps None)) (λ k. calls t below f vs p k)))
-pushed_all-call t xs vs below ls f n (Got args p k) is =
+    (then_do a (λ vs p k. tick k (Stops (placed_trap trap.Steps place)) (λ k.
+    calls t below place f vs p k)))
+pushed_all-call t xs vs below ls place f n (Got args p k) is =
     rw (taken-laid n args vs is, dropped-laid n args vs is) refl
-pushed_all-call t xs vs below ls f n (Stops trap) is = refl
+pushed_all-call t xs vs below ls place f n (Stops trap) is = refl
 
 -- a call of a function that exists
-pub call-then : (t : Tables) (s : ResumeState) (name : List ℕ) (f : FunctionTree)
+pub call-then : (t : Tables) (s : ResumeState) (place : ℕ) (name : List ℕ) (f : FunctionTree)
     (args : List Argument) → function_named t name ≡ Some f
-    → pushed_all (resume t (todo.Call f (length args) ∷ seen s)) s.values s.below s.top
+    → pushed_all (resume t (todo.Call place f (length args) ∷ seen s)) s.values s.below s.top
     (values_of t (calls t s.below) (arguments_in args) s.top s.pool s.ticks)
     ≡ pushed (resume t (seen s)) s.values s.below s.top
-    (called (calls t s.below) (function_named t name)
+    (called (calls t s.below) place (function_named t name)
     (λ f. values_of t (calls t s.below) (arguments_in args) s.top s.pool s.ticks) s.pool s.ticks)
-call-then t s name f args is =
-    rw is (pushed_all-call t (seen s) s.values s.below s.top f (length args)
+call-then t s place name f args is =
+    rw is (pushed_all-call t (seen s) s.values s.below s.top place f (length args)
     (values_of t (calls t s.below) (arguments_in args) s.top s.pool s.ticks)
     (counted-values t (calls t s.below) args s.top s.pool s.ticks))
 
 -- a call opens a function if there is room for it
-pub calls-open : (t : Tables) (ls : List Local) (below : List (List Local)) (f : FunctionTree)
-    (vs : List ℤ) (p : PoolMap) (k : ℕ) → length below < 255
-    → calls t below f vs p k ≡ function_value t (calls t (ls ∷ below)) f vs p k
-calls-open t ls below f vs p k room =
+pub calls-open : (t : Tables) (ls : List Local) (below : List (List Local)) (place : ℕ)
+    (f : FunctionTree) (vs : List ℤ) (p : PoolMap) (k : ℕ) → length below < 255
+    → calls t below place f vs p k ≡ function_value t (calls t (ls ∷ below)) f vs p k
+calls-open t ls below place f vs p k room =
     let e : 255 - length below ≡ suc (255 - suc (length below)) = omega (arith, room) in rw e refl
 
 -- a target's operands: those of an element, and of a field of a pointer's object
@@ -356,7 +357,7 @@ shaped-operands t cs (expr.Binary op place a b) ls p k = λ vs. (refl, refl, ref
 by-load : (t : Tables) (s : ResumeState) (e : ExprTree) (o : Out (ℤ × Option ℤ)) → Shaped e o
     → pushed_operands (resume t (todo.Expr expr_task.Load e ∷ seen s)) s.values s.below s.top o
     ≡ pushed (resume t (seen s)) s.values s.below s.top
-    (then_do o (λ o p k. loaded (word_at t s.top p e o.0 o.1) p k))
+    (then_do o (λ o p k. loaded (located t s.top p e o.0 o.1) p k))
 by-load t s e (Got o p k) h = let fits = h s.values in rw (fits.0, fits.1, fits.2) refl
 by-load t s e (Stops trap) h = refl
 
@@ -412,7 +413,7 @@ stored-fits : (t : Tables) (s : ResumeState) (e : ExprTree) (o : ℤ × Option �
     (k : ℕ) → Fits e o
     → resume t (seen s) (under e (with_index o.1 (o.0 ∷ s.values))) s.below
     (stored_end (target_word t e (with_index o.1 (o.0 ∷ s.values)) s.top p) v s.top p k)
-    ≡ resume t (seen s) s.values s.below (stored_end (word_at t s.top p e o.0 o.1)
+    ≡ resume t (seen s) s.values s.below (stored_end (located t s.top p e o.0 o.1)
     v s.top p k)
 stored-fits t s e o v p k h = let fits = h s.values in rw (fits.0, fits.1, fits.2) refl
 
@@ -421,11 +422,11 @@ by-store : (t : Tables) (s : ResumeState) (e : ExprTree) (o : ℤ × Option ℤ)
     → pushed (resume t (todo.Expr expr_task.Store e ∷ seen s)) (with_index o.1 (o.0 ∷ s.values))
     s.below s.top a
     ≡ resume t (seen s) s.values s.below
-    (with_value a (λ v p k. stored_end (word_at t s.top p e o.0 o.1) v
+    (with_value a (λ v p k. stored_end (located t s.top p e o.0 o.1) v
     s.top p k))
 by-store t s e o a h = ended-onto t (seen s) (resume t (todo.Expr expr_task.Store e ∷ seen s))
     (with_index o.1 (o.0 ∷ s.values)) s.values s.below s.top a
-    (λ v p k. stored_end (word_at t s.top p e o.0 o.1) v s.top p k)
+    (λ v p k. stored_end (located t s.top p e o.0 o.1) v s.top p k)
     (λ v p k. stored-fits t s e o v p k h)
 
 by-set : (t : Tables) (s : ResumeState) (e right : ExprTree) (o : Out (ℤ × Option ℤ)) → Shaped e o
@@ -433,7 +434,7 @@ by-set : (t : Tables) (s : ResumeState) (e right : ExprTree) (o : Out (ℤ × Op
     ∷ seen s)) s.values s.below s.top o
     ≡ resume t (seen s) s.values s.below
     (with_value o (λ o p k. with_value (value_of t (calls t s.below) right s.top p k)
-    (λ v p k. stored_end (word_at t s.top p e o.0 o.1) v s.top p k)))
+    (λ v p k. stored_end (located t s.top p e o.0 o.1) v s.top p k)))
 by-set t s e right (Stops trap) h = sym (resume-traps t (seen s) s.values s.below trap)
 by-set t s e right (Got o p k) h = by-store t s e o (value_of t (calls t s.below) right s.top p k) h
 
@@ -480,92 +481,104 @@ variable-value t cs (expr.Unary op place a) name ls p k is = cc
 variable-value t cs (expr.Binary op place a b) name ls p k is = cc
 
 -- the right side and the operator, with the left value on the stack
-by-binary : (t : Tables) (s : ResumeState) (x : Todo) (op : BinaryOp) (xs : List Todo) (vs : List ℤ)
-    (left_function : ℤ) (right : PoolMap → ℕ → Out ℤ) (f : ℤ → PoolMap → ℕ → StmtEnd)
+by-binary : (t : Tables) (s : ResumeState) (x : Todo) (op : BinaryOp) (place : ℕ) (xs : List Todo)
+    (vs : List ℤ) (left_function : ℤ) (right : PoolMap → ℕ → Out ℤ) (f : ℤ → PoolMap → ℕ → StmtEnd)
     (p : PoolMap) (k : ℕ) → IsRight t s x right
     → ((v : ℤ) (p : PoolMap) (k : ℕ) → resume t xs (v ∷ vs) s.below (Next s.top p k)
     ≡ resume t (seen s) s.values s.below (f v p k))
-    → resume t (x ∷ todo.Word (word_task.Binary op None) ∷ xs) (left_function ∷ vs) s.below
+    → resume t (x ∷ todo.Word (word_task.Binary op place) ∷ xs) (left_function ∷ vs) s.below
     (Next s.top p k)
     ≡ resume t (seen s) s.values s.below
     (with_value (right p k) (λ y p k.
-    with_value (or_trap (binary_of op left_function y) (trap_at trap.Divide None) p k) f))
-by-binary t s x op xs vs left_function right f p k is h =
-    is (resume t (todo.Word (word_task.Binary op None) ∷ xs)) (left_function ∷ vs) p k
-    ∙ ended-onto t (seen s) (resume t (todo.Word (word_task.Binary op None) ∷ xs))
+    with_value (or_trap (binary_of op left_function y) (placed_trap trap.Divide place) p k) f))
+by-binary t s x op place xs vs left_function right f p k is h =
+    is (resume t (todo.Word (word_task.Binary op place) ∷ xs)) (left_function ∷ vs) p k
+    ∙ ended-onto t (seen s) (resume t (todo.Word (word_task.Binary op place) ∷ xs))
     (left_function ∷ vs) s.values s.below s.top (right p k)
-    (λ y p k. with_value (or_trap (binary_of op left_function y) (trap_at trap.Divide None) p k) f)
+    (λ y p k. with_value
+    (or_trap (binary_of op left_function y) (placed_trap trap.Divide place) p k) f)
     (λ y p k. ended-onto t (seen s) (resume t xs) vs s.values s.below s.top
-    (or_trap (binary_of op left_function y) (trap_at trap.Divide None) p k) f h)
+    (or_trap (binary_of op left_function y) (placed_trap trap.Divide place) p k) f h)
 
 pub update-local : (t : Tables) (s : ResumeState) (e : ExprTree) (name : List ℕ) (x : Todo)
-    (op : BinaryOp) (right : PoolMap → ℕ → Out ℤ) → target_local e ≡ Some name → IsRight t s x right
-    → pushed (resume t (x ∷ todo.Word (word_task.Binary op None) ∷ todo.Assign name ∷ seen s))
+    (op : BinaryOp) (place : ℕ) (right : PoolMap → ℕ → Out ℤ) → target_local e ≡ Some name
+    → IsRight t s x right
+    → pushed (resume t (x ∷ todo.Word (word_task.Binary op place) ∷ todo.Assign name ∷ seen s))
     s.values s.below s.top (value_of t (calls t s.below) e s.top s.pool s.ticks)
     ≡ resume t (seen s) s.values s.below
-    (update t (calls t s.below) (target_local e) e op right s.top s.pool s.ticks)
-update-local t s e name x op right is h =
+    (update t (calls t s.below) (target_local e) e op place right s.top s.pool s.ticks)
+update-local t s e name x op place right is h =
     rw (variable-value t (calls t s.below) e name s.top s.pool s.ticks is, is)
-    (by-binary t s x op (todo.Assign name ∷ seen s) s.values (value_named name s.top) right
+    (by-binary t s x op place (todo.Assign name ∷ seen s) s.values (value_named name s.top) right
     (λ v p k. Next (assigned name v s.top) p k) s.pool s.ticks h (λ v p k. refl))
 
-by-update : (t : Tables) (s : ResumeState) (e : ExprTree) (x : Todo) (op : BinaryOp)
+by-update : (t : Tables) (s : ResumeState) (e : ExprTree) (x : Todo) (op : BinaryOp) (place : ℕ)
     (right : PoolMap → ℕ → Out ℤ) (o : Out (ℤ × Option ℤ)) → IsRight t s x right → Shaped e o
     → pushed_operands (resume t (todo.Expr expr_task.Fetch e ∷ x
-    ∷ todo.Word (word_task.Binary op None) ∷ todo.Expr expr_task.Store e ∷ seen s))
+    ∷ todo.Word (word_task.Binary op place) ∷ todo.Expr expr_task.Store e ∷ seen s))
     s.values s.below s.top o
     ≡ resume t (seen s) s.values s.below
     (with_value o (λ o p k. with_value
-    (loaded (word_at t s.top p e o.0 o.1) p k)
+    (loaded (located t s.top p e o.0 o.1) p k)
     (λ x p k. with_value (right p k)
-    (λ y p k. with_value (or_trap (binary_of op x y) (trap_at trap.Divide None) p k)
-    (λ v p k. stored_end (word_at t s.top p e o.0 o.1) v s.top p k)))))
-by-update t s e x op right (Stops trap) is h = sym (resume-traps t (seen s) s.values s.below trap)
-by-update t s e x op right (Got o p k) is h =
+    (λ y p k. with_value (or_trap (binary_of op x y) (placed_trap trap.Divide place) p k)
+    (λ v p k. stored_end (located t s.top p e o.0 o.1) v s.top p k)))))
+by-update t s e x op place right (Stops trap) is h =
+    sym (resume-traps t (seen s) s.values s.below trap)
+by-update t s e x op place right (Got o p k) is h =
     let fits = h s.values in
     let store = todo.Expr expr_task.Store e ∷ seen s in
     rw (fits.0, fits.1, fits.2) (ended-onto t (seen s)
-    (resume t (x ∷ todo.Word (word_task.Binary op None) ∷ store)) (with_index o.1 (o.0 ∷ s.values))
+    (resume t (x ∷ todo.Word (word_task.Binary op place) ∷ store)) (with_index o.1 (o.0 ∷ s.values))
     s.values s.below s.top
-    (loaded (word_at t s.top p e o.0 o.1) p k) _
-    (λ l p k. by-binary t s x op store (with_index o.1 (o.0 ∷ s.values)) l right
-    (λ v p k. stored_end (word_at t s.top p e o.0 o.1) v s.top p k) p k is
+    (loaded (located t s.top p e o.0 o.1) p k) _
+    (λ l p k. by-binary t s x op place store (with_index o.1 (o.0 ∷ s.values)) l right
+    (λ v p k. stored_end (located t s.top p e o.0 o.1) v s.top p k) p k is
     (λ v p k. stored-fits t s e o v p k h)))
 
 pub update-field : (t : Tables) (s : ResumeState) (e : ExprTree) (x : Todo) (op : BinaryOp)
-    (right : PoolMap → ℕ → Out ℤ) → target_local e ≡ None → IsRight t s x right
+    (place : ℕ) (right : PoolMap → ℕ → Out ℤ) → target_local e ≡ None → IsRight t s x right
     → pushed_operands (resume t (todo.Expr expr_task.Fetch e ∷ x
-    ∷ todo.Word (word_task.Binary op None) ∷ todo.Expr expr_task.Store e ∷ seen s))
+    ∷ todo.Word (word_task.Binary op place) ∷ todo.Expr expr_task.Store e ∷ seen s))
     s.values s.below s.top (operands_of t (calls t s.below) e s.top s.pool s.ticks)
     ≡ resume t (seen s) s.values s.below
-    (update t (calls t s.below) (target_local e) e op right s.top s.pool s.ticks)
-update-field t s e x op right is h =
-    rw is (by-update t s e x op right (operands_of t (calls t s.below) e s.top s.pool s.ticks) h
+    (update t (calls t s.below) (target_local e) e op place right s.top s.pool s.ticks)
+update-field t s e x op place right is h =
+    rw is (by-update t s e x op place right
+    (operands_of t (calls t s.below) e s.top s.pool s.ticks) h
     (shaped-operands t (calls t s.below) e s.top s.pool s.ticks))
 
 -- the whole run, and its end
-pub left-outcome : (t : Tables) (a : Out ℤ) → left_function (resume t []) [] [] a ≡ outcome a
+pub left-outcome : (t : Tables) (a : Out ℤ) → left_function (resume t []) [] [] a ≡ a
 left-outcome t (Got v p k) = refl
 left-outcome t (Stops trap) = refl
 
 pub ended-at : (how : Flow) (vs : List ℤ) (ls : List Local) (p : PoolMap) (k : ℕ)
-    → ended vs (end_at how ls p k) ≡ Done p (newest vs)
+    → ended vs (end_at how ls p k) ≡ Got (newest vs) p k
 ended-at flow.Next vs ls p k = refl
 ended-at flow.Break vs ls p k = refl
 ended-at flow.Continue vs ls p k = refl
 ended-at (flow.Return v) vs ls p k = refl
 
--- an answer says how the run ended
-pub answered : (r : Result (PoolMap × ℤ) Fault) (out : Outcome)
-    → LeadsToOutcome r out (λ done. Done done.0 done.1)
-    → PlainAnswers (plain_answer r) (unplaced out)
-answered (Ok done) out h = sym (ap unplaced h)
-answered (Err NoMemory) out h = tt
-answered (Err (Trapped trap)) out h = ap unplaced h
+-- a run that stopped, as its caller sees it
+pub stopped-as : {A : Type 0} (fault : Fault) (out : Out ℤ) (now : A → Out ℤ)
+    → LeadsToOutcome (Err fault) out now → RunGives (Err fault) out
+stopped-as NoMemory out now h = tt
+stopped-as (Trapped trap) out now h = h
 
-pub placed : {E : Type 0} (r : Result (PoolMap × ℤ) Fault) (e : E) (out : Outcome)
-    → LeadsToOutcome r out (λ done. Done done.0 done.1)
-    → IfOk (place_answer r e) (λ place. place ≡ trap_place out)
-placed (Ok done) e out h = ap trap_place h
+-- an answer says how the run ended
+pub answered : (r : Result (PoolMap × ℤ) Fault) (out : Out ℤ) → RunGives r out
+    → PlainAnswers (plain_answer r) (outcome out)
+answered (Ok done) out h = h
+answered (Err NoMemory) out h = tt
+answered (Err (Trapped trap)) out h = ap outcome h
+
+done-place : (out : Out ℤ) (p : PoolMap) (v : ℤ) → outcome out ≡ Done p v → None ≡ stop_place out
+done-place (Got v' p' k) p v h = refl
+done-place (Stops trap) p v h = cc
+
+pub placed : {E : Type 0} (r : Result (PoolMap × ℤ) Fault) (e : E) (out : Out ℤ) → RunGives r out
+    → IfOk (place_answer r e) (λ place. place ≡ stop_place out)
+placed (Ok done) e out h = done-place out done.0 done.1 h
 placed (Err NoMemory) e out h = tt
-placed (Err (Trapped trap)) e out h = sym (ap trap_place h)
+placed (Err (Trapped trap)) e out h = sym (ap stop_place h)

@@ -17,24 +17,24 @@ use Rattle.c_tree.specs.declared.stmt.StepOp.{StepOp}
 use Rattle.c_tree.specs.declared.stmt.StepOp.TheVariants as step
 use Rattle.std.specs.Option.{option_map_or}
 use Rattle.c_types.specs.Tables.{Tables, function_named}
-use Rattle.interpreter.specs.declared.fault.TrapAt.{TrapAt}
 use Rattle.pool_map.specs.declared.trap.TrapKind.TheVariants as trap
 use Rattle.pool_map.specs.PoolMap.{PoolMap}
+use Rattle.c_meaning.specs.declared.trap_at.TrapAt.{TrapAt}
 use Rattle.c_meaning.specs.declared.word.Word.{Word}
 use Rattle.c_meaning.specs.Locals.{Local, bound}
 use Rattle.c_meaning.specs.Access.{free_object}
 use Rattle.c_meaning.specs.Operators.{binary_of}
 use Rattle.interpreter.specs.inside.Resume.{body_end}
-use Rattle.interpreter.specs.Placed.{Out, Got, Stops, StmtEnd, Next, Broke, Again, Gave, Traps}
+use Rattle.c_meaning.specs.Meaning.{Out, Got, Stops, StmtEnd, Next, Broke, Again, Gave, Traps}
 use Rattle.c_meaning.specs.Meaning.{at_zero, tick, target_local}
-use Rattle.interpreter.specs.Placed.{Calls, then_do, with_value, then_next, or_trap}
-use Rattle.interpreter.specs.Placed.{loaded, strict, both, either, binary_means, called}
-use Rattle.interpreter.specs.Placed.{value_of, pointer_of, values_of, operands_of, stored_end}
-use Rattle.interpreter.specs.Placed.{assign_to, update, freed, assign_end, steps}
-use Rattle.interpreter.specs.Placed.{end_of_simple, declaration_end, end_of_first, end_of_third}
-use Rattle.interpreter.specs.Placed.{condition_of, return_end, in_scope, after_turn, turns}
-use Rattle.interpreter.specs.Placed.{end_of_stmt, ends_of, given, calls_of, trap_at, word_at}
-use Rattle.interpreter.specs.Placed.{at_place}
+use Rattle.c_meaning.specs.Meaning.{Calls, then_do, with_value, then_next, or_trap}
+use Rattle.c_meaning.specs.Meaning.{loaded, strict, both, either, binary_means, called}
+use Rattle.c_meaning.specs.Meaning.{value_of, pointer_of, values_of, operands_of, stored_end}
+use Rattle.c_meaning.specs.Meaning.{assign_to, update, freed, assign_end, steps}
+use Rattle.c_meaning.specs.Meaning.{end_of_simple, declaration_end, end_of_first, end_of_third}
+use Rattle.c_meaning.specs.Meaning.{condition_of, return_end, in_scope, after_turn, turns}
+use Rattle.c_meaning.specs.Meaning.{end_of_stmt, ends_of, given, calls_of, placed_trap, located}
+use Rattle.c_meaning.specs.Meaning.{at_place}
 
 -- at most n ticks are left
 abbrev pub Within : {A : Type 0} → ℕ → Out A → Type 0
@@ -49,8 +49,8 @@ Ends n (Gave v p k) = k ≤ n
 Ends n (Traps trap) = Unit {0}
 
 abbrev pub CallsWithin : Calls → Type 0
-CallsWithin calls = (f : FunctionTree) (vs : List ℤ) (p : PoolMap) (k n : ℕ) → k ≤ n
-    → Within n (calls f vs p k)
+CallsWithin calls = (place : ℕ) (f : FunctionTree) (vs : List ℤ) (p : PoolMap) (k n : ℕ) → k ≤ n
+    → Within n (calls place f vs p k)
 
 within-then : {A B : Type 0} (n : ℕ) (a : Out A) (f : A → PoolMap → ℕ → Out B) → Within n a
     → ((x : A) (p : PoolMap) (k : ℕ) → k ≤ n → Within n (f x p k)) → Within n (then_do a f)
@@ -82,13 +82,13 @@ within-tick n (suc k) t go le h = h k (omega (arith, le))
 abbrev Keeps : (PoolMap → ℕ → Out ℤ) → Type 0
 Keeps b = (p : PoolMap) (k n : ℕ) → k ≤ n → Within n (b p k)
 
-within-joined : (n : ℕ) (op : BinaryOp) (spot : Option ℕ) (a : Out ℤ) (b : PoolMap → ℕ → Out ℤ)
+within-joined : (n : ℕ) (op : BinaryOp) (place : ℕ) (a : Out ℤ) (b : PoolMap → ℕ → Out ℤ)
     → Within n a → Keeps b
-    → Within n (strict op spot a b)
-within-joined n op spot a b ha hb =
+    → Within n (strict op place a b)
+within-joined n op place a b ha hb =
     within-then n a _ ha (λ x p k le.
     within-then n (b p k) _ (hb p k n le) (λ y p k le.
-    within-or_trap n (binary_of op x y) (trap_at trap.Divide spot) p k le))
+    within-or_trap n (binary_of op x y) (placed_trap trap.Divide place) p k le))
 
 within-truth : (n : ℕ) (b : Out ℤ) → Within n b
     → Within n (then_do b (λ y p k. Got (at_zero y (pos 0) (pos 1)) p k))
@@ -104,36 +104,38 @@ within-either : (n : ℕ) (a : Out ℤ) (b : PoolMap → ℕ → Out ℤ) → Wi
 within-either n a b ha hb = within-then n a _ ha (λ x p k le.
     within-zero n x _ (Got (pos 1) p k) (within-truth n (b p k) (hb p k n le)) le)
 
-within-binary : (n : ℕ) (op : BinaryOp) (spot : Option ℕ) (a : Out ℤ) (b : PoolMap → ℕ → Out ℤ)
+within-binary : (n : ℕ) (op : BinaryOp) (place : ℕ) (a : Out ℤ) (b : PoolMap → ℕ → Out ℤ)
     → Within n a → Keeps b
-    → Within n (binary_means op spot a b)
-within-binary n binary.Both spot a b ha hb = within-both n a b ha hb
-within-binary n binary.Either spot a b ha hb = within-either n a b ha hb
-within-binary n binary.Mul spot a b ha hb = within-joined n binary.Mul spot a b ha hb
-within-binary n binary.Div spot a b ha hb = within-joined n binary.Div spot a b ha hb
-within-binary n binary.Rem spot a b ha hb = within-joined n binary.Rem spot a b ha hb
-within-binary n binary.Add spot a b ha hb = within-joined n binary.Add spot a b ha hb
-within-binary n binary.Sub spot a b ha hb = within-joined n binary.Sub spot a b ha hb
-within-binary n binary.ShiftLeft spot a b ha hb = within-joined n binary.ShiftLeft spot a b ha hb
-within-binary n binary.ShiftRight spot a b ha hb = within-joined n binary.ShiftRight spot a b ha hb
-within-binary n binary.Less spot a b ha hb = within-joined n binary.Less spot a b ha hb
-within-binary n binary.LessEqual spot a b ha hb = within-joined n binary.LessEqual spot a b ha hb
-within-binary n binary.Greater spot a b ha hb = within-joined n binary.Greater spot a b ha hb
-within-binary n binary.GreaterEqual spot a b ha hb =
-    within-joined n binary.GreaterEqual spot a b ha hb
-within-binary n binary.Equal spot a b ha hb = within-joined n binary.Equal spot a b ha hb
-within-binary n binary.NotEqual spot a b ha hb = within-joined n binary.NotEqual spot a b ha hb
-within-binary n binary.And spot a b ha hb = within-joined n binary.And spot a b ha hb
-within-binary n binary.Xor spot a b ha hb = within-joined n binary.Xor spot a b ha hb
-within-binary n binary.Or spot a b ha hb = within-joined n binary.Or spot a b ha hb
+    → Within n (binary_means op place a b)
+within-binary n binary.Both place a b ha hb = within-both n a b ha hb
+within-binary n binary.Either place a b ha hb = within-either n a b ha hb
+within-binary n binary.Mul place a b ha hb = within-joined n binary.Mul place a b ha hb
+within-binary n binary.Div place a b ha hb = within-joined n binary.Div place a b ha hb
+within-binary n binary.Rem place a b ha hb = within-joined n binary.Rem place a b ha hb
+within-binary n binary.Add place a b ha hb = within-joined n binary.Add place a b ha hb
+within-binary n binary.Sub place a b ha hb = within-joined n binary.Sub place a b ha hb
+within-binary n binary.ShiftLeft place a b ha hb = within-joined n binary.ShiftLeft place a b ha hb
+within-binary n binary.ShiftRight place a b ha hb =
+    within-joined n binary.ShiftRight place a b ha hb
+within-binary n binary.Less place a b ha hb = within-joined n binary.Less place a b ha hb
+within-binary n binary.LessEqual place a b ha hb = within-joined n binary.LessEqual place a b ha hb
+within-binary n binary.Greater place a b ha hb = within-joined n binary.Greater place a b ha hb
+within-binary n binary.GreaterEqual place a b ha hb =
+    within-joined n binary.GreaterEqual place a b ha hb
+within-binary n binary.Equal place a b ha hb = within-joined n binary.Equal place a b ha hb
+within-binary n binary.NotEqual place a b ha hb = within-joined n binary.NotEqual place a b ha hb
+within-binary n binary.And place a b ha hb = within-joined n binary.And place a b ha hb
+within-binary n binary.Xor place a b ha hb = within-joined n binary.Xor place a b ha hb
+within-binary n binary.Or place a b ha hb = within-joined n binary.Or place a b ha hb
 
-within-called : (n : ℕ) (calls : Calls) (o : Option FunctionTree) (arguments : FunctionTree
-    → Out (List ℤ)) (p : PoolMap) (k : ℕ)
+within-called : (n : ℕ) (calls : Calls) (place : ℕ) (o : Option FunctionTree)
+    (arguments : FunctionTree → Out (List ℤ)) (p : PoolMap) (k : ℕ)
     → CallsWithin calls → ((f : FunctionTree) → Within n (arguments f)) → k ≤ n
-    → Within n (called calls o arguments p k)
-within-called n calls None arguments p k h ha le = le
-within-called n calls (Some f) arguments p k h ha le = within-then n (arguments f) _ (ha f)
-    (λ vs p k le. within-tick n k (trap_at trap.Steps None) _ le (λ m le. h f vs p m n le))
+    → Within n (called calls place o arguments p k)
+within-called n calls place None arguments p k h ha le = le
+within-called n calls place (Some f) arguments p k h ha le = within-then n (arguments f) _ (ha f)
+    (λ vs p k le. within-tick n k (placed_trap trap.Steps place) _ le
+    (λ m le. h place f vs p m n le))
 
 mutual
   pub within-value : (t : Tables) (calls : Calls) (h : CallsWithin calls) (e : ExprTree)
@@ -143,25 +145,25 @@ mutual
   within-value t calls h expr.Null ls p k n le = le
   within-value t calls h (expr.Variable name) ls p k n le = le
   within-value t calls h (expr.Call name all) ls p k n le =
-      within-called n calls (function_named t name.text) _ p k h
+      within-called n calls name.place (function_named t name.text) _ p k h
       (λ f. within-values t calls h all ls p k n le) le
   within-value t calls h (expr.New place name) ls p k n le = le
   within-value t calls h (expr.Root name) ls p k n le =
-      within-loaded n (word_at t ls p (expr.Root name) (pos 0) None) p k le
+      within-loaded n (located t ls p (expr.Root name) (pos 0) None) p k le
   within-value t calls h (expr.Arrow base place name) ls p k n le =
       within-then n (value_of t calls base ls p k) _
       (within-value t calls h base ls p k n le) (λ b p k le.
-      within-loaded n (word_at t ls p (expr.Arrow base place name) b None) p k le)
+      within-loaded n (located t ls p (expr.Arrow base place name) b None) p k le)
   within-value t calls h (expr.Index a place i) ls p k n le =
       within-then n (pointer_of t calls a ls p k) _ (within-pointer t calls h a ls p k n le)
       (λ b p k le. within-then n (value_of t calls i ls p k) _
       (within-value t calls h i ls p k n le)
-      (λ j p k le. within-loaded n (word_at t ls p (expr.Index a place i) b (Some j)) p k le))
+      (λ j p k le. within-loaded n (located t ls p (expr.Index a place i) b (Some j)) p k le))
   within-value t calls h (expr.Unary op place a) ls p k n le =
       within-then n (value_of t calls a ls p k) _ (within-value t calls h a ls p k n le)
       (λ x p k le. le)
   within-value t calls h (expr.Binary op place a b) ls p k n le =
-      within-binary n op (Some place) (value_of t calls a ls p k) _
+      within-binary n op place (value_of t calls a ls p k) _
       (within-value t calls h a ls p k n le) (λ p k n le. within-value t calls h b ls p k n le)
 
   pub within-pointer : (t : Tables) (calls : Calls) (h : CallsWithin calls) (e : ExprTree)
@@ -265,53 +267,55 @@ ends-assign_to t calls h (Some name) target value hv ls p k n le =
 ends-assign_to t calls h None target value hv ls p k n le =
     ends-with n (operands_of t calls target ls p k) _ (within-operands t calls h target ls p k n le)
     (λ o p k le. ends-with n (value p k) _ (hv p k n le) (λ v p k le.
-    ends-stored n (word_at t ls p target o.0 o.1) v ls p k le))
+    ends-stored n (located t ls p target o.0 o.1) v ls p k le))
 
 ends-update : (t : Tables) (calls : Calls) (h : CallsWithin calls) (o : Option (List ℕ))
-    (target : ExprTree) (op : BinaryOp) (value : PoolMap → ℕ → Out ℤ)
+    (target : ExprTree) (op : BinaryOp) (place : ℕ) (value : PoolMap → ℕ → Out ℤ)
     (hv : Keeps value) (ls : List Local) (p : PoolMap) (k n : ℕ) → k ≤ n
-    → Ends n (update t calls o target op value ls p k)
-ends-update t calls h (Some name) target op value hv ls p k n le =
+    → Ends n (update t calls o target op place value ls p k)
+ends-update t calls h (Some name) target op place value hv ls p k n le =
     ends-with n (value p k) _ (hv p k n le)
-    (λ y p k le. ends-with n (or_trap (binary_of op _ y) (trap_at trap.Divide None) p k) _
-    (within-or_trap n (binary_of op _ y) (trap_at trap.Divide None) p k le) (λ v p k le. le))
-ends-update t calls h None target op value hv ls p k n le =
+    (λ y p k le. ends-with n (or_trap (binary_of op _ y) (placed_trap trap.Divide place) p k) _
+    (within-or_trap n (binary_of op _ y) (placed_trap trap.Divide place) p k le) (λ v p k le. le))
+ends-update t calls h None target op place value hv ls p k n le =
     ends-with n (operands_of t calls target ls p k) _ (within-operands t calls h target ls p k n le)
-    (λ o p k le. ends-with n (loaded (word_at t ls p target o.0 o.1) p k) _
-    (within-loaded n (word_at t ls p target o.0 o.1) p k le)
+    (λ o p k le. ends-with n (loaded (located t ls p target o.0 o.1) p k) _
+    (within-loaded n (located t ls p target o.0 o.1) p k le)
     (λ x p k le. ends-with n (value p k) _ (hv p k n le)
-    (λ y p k le. ends-with n (or_trap (binary_of op x y) (trap_at trap.Divide None) p k) _
-    (within-or_trap n (binary_of op x y) (trap_at trap.Divide None) p k le)
-    (λ v p k le. ends-stored n (word_at t ls p target o.0 o.1) v ls p k le))))
+    (λ y p k le. ends-with n (or_trap (binary_of op x y) (placed_trap trap.Divide place) p k) _
+    (within-or_trap n (binary_of op x y) (placed_trap trap.Divide place) p k le)
+    (λ v p k le. ends-stored n (located t ls p target o.0 o.1) v ls p k le))))
 
-ends-assigns : (t : Tables) (calls : Calls) (h : CallsWithin calls) (op : AssignOp)
+ends-assigns : (t : Tables) (calls : Calls) (h : CallsWithin calls) (op : AssignOp) (place : ℕ)
     (target e : ExprTree) (ls : List Local) (p : PoolMap) (k n : ℕ)
-    → k ≤ n → Ends n (assign_end t calls op target e ls p k)
-ends-assigns t calls h assign.Set target e ls p k n le =
+    → k ≤ n → Ends n (assign_end t calls op place target e ls p k)
+ends-assigns t calls h assign.Set place target e ls p k n le =
     ends-assign_to t calls h (target_local target) target _ (λ p k n le.
     within-value t calls h e ls p k n le) ls p k n le
-ends-assigns t calls h assign.Add target e ls p k n le =
-    ends-update t calls h (target_local target) target binary.Add _ (λ p k n le.
+ends-assigns t calls h assign.Add place target e ls p k n le =
+    ends-update t calls h (target_local target) target binary.Add place _ (λ p k n le.
     within-value t calls h e ls p k n le) ls p k n le
-ends-assigns t calls h assign.Sub target e ls p k n le =
-    ends-update t calls h (target_local target) target binary.Sub _ (λ p k n le.
+ends-assigns t calls h assign.Sub place target e ls p k n le =
+    ends-update t calls h (target_local target) target binary.Sub place _ (λ p k n le.
     within-value t calls h e ls p k n le) ls p k n le
 
-ends-steps : (t : Tables) (calls : Calls) (h : CallsWithin calls) (op : StepOp) (target : ExprTree)
-    (ls : List Local) (p : PoolMap) (k n : ℕ)
-    → k ≤ n → Ends n (steps t calls op target ls p k)
-ends-steps t calls h step.Up target ls p k n le =
-    ends-update t calls h (target_local target) target binary.Add _ (λ p k n le. le) ls p k n le
-ends-steps t calls h step.Down target ls p k n le =
-    ends-update t calls h (target_local target) target binary.Sub _ (λ p k n le. le) ls p k n le
+ends-steps : (t : Tables) (calls : Calls) (h : CallsWithin calls) (op : StepOp) (place : ℕ)
+    (target : ExprTree) (ls : List Local) (p : PoolMap) (k n : ℕ)
+    → k ≤ n → Ends n (steps t calls op place target ls p k)
+ends-steps t calls h step.Up place target ls p k n le =
+    ends-update t calls h (target_local target) target binary.Add place _ (λ p k n le. le) ls p
+    k n le
+ends-steps t calls h step.Down place target ls p k n le =
+    ends-update t calls h (target_local target) target binary.Sub place _ (λ p k n le. le) ls p
+    k n le
 
 ends-simple : (t : Tables) (calls : Calls) (h : CallsWithin calls) (x : SimpleTree)
     (ls : List Local) (p : PoolMap) (k n : ℕ)
     → k ≤ n → Ends n (end_of_simple t calls x ls p k)
 ends-simple t calls h (stmt.Assign target op place e) ls p k n le =
-    ends-assigns t calls h op target e ls p k n le
+    ends-assigns t calls h op place target e ls p k n le
 ends-simple t calls h (stmt.Step target op place) ls p k n le =
-    ends-steps t calls h op target ls p k n le
+    ends-steps t calls h op place target ls p k n le
 ends-simple t calls h (stmt.Call name all) ls p k n le =
     ends-with n (value_of t calls (expr.Call name all) ls p k) _
     (within-value t calls h (expr.Call name all) ls p k n le) (λ v p k le. le)
@@ -366,16 +370,17 @@ Tests test = (ls : List Local) (p : PoolMap) (k n : ℕ) → k ≤ n → Within 
 abbrev pub Does : (List Local → PoolMap → ℕ → StmtEnd) → Type 0
 Does body = (ls : List Local) (p : PoolMap) (k n : ℕ) → k ≤ n → Ends n (body ls p k)
 
-ends-turns : (m : ℕ) (test : List Local → PoolMap → ℕ → Out ℤ) (body third : List Local → PoolMap
-    → ℕ → StmtEnd) (ht : Tests test) (hb : Does body) (h3 : Does third)
-    (ls : List Local) (p : PoolMap) (k n : ℕ) → k ≤ n → Ends n (turns m test body third ls p k)
-ends-turns zero test body third ht hb h3 ls p k n le = tt
-ends-turns (suc m) test body third ht hb h3 ls p k n le =
-    ends-tick n k (trap_at trap.Steps None) _ le
+ends-turns : (m place : ℕ) (test : List Local → PoolMap → ℕ → Out ℤ)
+    (body third : List Local → PoolMap → ℕ → StmtEnd) (ht : Tests test) (hb : Does body)
+    (h3 : Does third) (ls : List Local) (p : PoolMap) (k n : ℕ) → k ≤ n
+    → Ends n (turns m place test body third ls p k)
+ends-turns zero place test body third ht hb h3 ls p k n le = tt
+ends-turns (suc m) place test body third ht hb h3 ls p k n le =
+    ends-tick n k (placed_trap trap.Steps place) _ le
     (λ k le. ends-with n (test ls p k) _ (ht ls p k n le)
     (λ v p k le. ends-zero n v (Next ls p k) _ le (ends-after n (body ls p k) _ (hb ls p k n le)
     (λ ls p k le. ends-then n (third ls p k) _ (h3 ls p k n le) (λ ls p k le.
-    ends-turns m test body third ht hb h3 ls p k n le)))))
+    ends-turns m place test body third ht hb h3 ls p k n le)))))
 
 mutual
   pub ends-stmt : (t : Tables) (calls : Calls) (h : CallsWithin calls) (s : StmtTree)
@@ -397,14 +402,15 @@ mutual
       (ends-scope n (length ls) (end_of_stmt t calls b ls p k)
       (ends-stmt t calls h b ls p k n le))
       (ends-scope n (length ls) (end_of_stmt t calls a ls p k) (ends-stmt t calls h a ls p k n le)))
-  ends-stmt t calls h (stmt.While c a) ls p k n le =
-      ends-turns k _ _ _ (λ ls p k n le. within-value t calls h c ls p k n le)
+  ends-stmt t calls h (stmt.While place c a) ls p k n le =
+      ends-turns k place _ _ _ (λ ls p k n le. within-value t calls h c ls p k n le)
       (λ ls p k n le. ends-scope n (length ls) (end_of_stmt t calls a ls p k)
       (ends-stmt t calls h a ls p k n le)) (λ ls p k n le. le) ls p k n le
-  ends-stmt t calls h (stmt.For first c third a) ls p k n le =
+  ends-stmt t calls h (stmt.For place first c third a) ls p k n le =
       ends-scope n (length ls) _ (ends-then n (end_of_first t calls first ls p k) _
       (ends-first t calls h first ls p k n le)
-      (λ ls p k le. ends-turns k _ _ _ (λ ls p k n le. within-condition t calls h c ls p k n le)
+      (λ ls p k le. ends-turns k place _ _ _
+      (λ ls p k n le. within-condition t calls h c ls p k n le)
       (λ ls p k n le. ends-scope n (length ls) (end_of_stmt t calls a ls p k)
       (ends-stmt t calls h a ls p k n le)) (λ ls p k n le. ends-third t calls h third ls p k n le)
       ls p k n le))
@@ -423,9 +429,9 @@ mutual
 pub ends-body : (t : Tables) (calls : Calls) (h : CallsWithin calls) (s : StmtTree)
     (ls : List Local) (p : PoolMap) (k n : ℕ)
     → k ≤ n → Ends n (body_end t calls s ls p k)
-ends-body t calls h (stmt.While c a) ls p k n le =
+ends-body t calls h (stmt.While place c a) ls p k n le =
     ends-scope n (length ls) (end_of_stmt t calls a ls p k) (ends-stmt t calls h a ls p k n le)
-ends-body t calls h (stmt.For first c third a) ls p k n le =
+ends-body t calls h (stmt.For place first c third a) ls p k n le =
     ends-scope n (length ls) (end_of_stmt t calls a ls p k) (ends-stmt t calls h a ls p k n le)
 ends-body t calls h stmt.Empty ls p k n le = le
 ends-body t calls h (stmt.Declares d) ls p k n le = le
@@ -445,8 +451,8 @@ within-given n (Gave v p k) h = h
 within-given n (Traps trap) h = tt
 
 pub within-calls : (t : Tables) (room : ℕ) → CallsWithin (calls_of t room)
-within-calls t zero f vs p k n le = tt
-within-calls t (suc room) f vs p k n le =
+within-calls t zero place f vs p k n le = tt
+within-calls t (suc room) place f vs p k n le =
     within-given n (ends_of t (calls_of t room) f.body (bound t f.parameters vs []) p k)
     (ends-all t (calls_of t room) (within-calls t room) f.body
     (bound t f.parameters vs []) p k n le)
@@ -493,29 +499,31 @@ turn-same m test body third f g ht hb h3 ls p k le same =
     (λ ls p k le. same-next m (third ls p k) _ _ (h3 ls p k m le) same)))
 
 -- allowing more turns than there are ticks changes nothing
-turns-same : (m n : ℕ) (test : List Local → PoolMap → ℕ → Out ℤ) (body third : List Local → PoolMap
-    → ℕ → StmtEnd) (ht : Tests test) (hb : Does body) (h3 : Does third)
-    (ls : List Local) (p : PoolMap) (k : ℕ) → k ≤ m → k ≤ n
-    → turns m test body third ls p k ≡ turns n test body third ls p k
-turns-same zero zero test body third ht hb h3 ls p k le le' = refl
-turns-same zero (suc n) test body third ht hb h3 ls p zero le le' = refl
-turns-same zero (suc n) test body third ht hb h3 ls p (suc k) le le' = absurd (omega (arith, le))
-turns-same (suc m) zero test body third ht hb h3 ls p zero le le' = refl
-turns-same (suc m) zero test body third ht hb h3 ls p (suc k) le le' = absurd (omega (arith, le'))
-turns-same (suc m) (suc n) test body third ht hb h3 ls p zero le le' = refl
-turns-same (suc m) (suc n) test body third ht hb h3 ls p (suc k) le le' =
-    turn-same k test body third (λ ls p k. turns m test body third ls p k) (λ ls p k.
-    turns n test body third ls p k) ht hb h3 ls p k (omega arith)
-    (λ ls p j lj. turns-same m n test body third ht hb h3 ls p j (omega (arith, le, lj))
+turns-same : (m n place : ℕ) (test : List Local → PoolMap → ℕ → Out ℤ)
+    (body third : List Local → PoolMap → ℕ → StmtEnd) (ht : Tests test) (hb : Does body)
+    (h3 : Does third) (ls : List Local) (p : PoolMap) (k : ℕ) → k ≤ m → k ≤ n
+    → turns m place test body third ls p k ≡ turns n place test body third ls p k
+turns-same zero zero place test body third ht hb h3 ls p k le le' = refl
+turns-same zero (suc n) place test body third ht hb h3 ls p zero le le' = refl
+turns-same zero (suc n) place test body third ht hb h3 ls p (suc k) le le' =
+    absurd (omega (arith, le))
+turns-same (suc m) zero place test body third ht hb h3 ls p zero le le' = refl
+turns-same (suc m) zero place test body third ht hb h3 ls p (suc k) le le' =
+    absurd (omega (arith, le'))
+turns-same (suc m) (suc n) place test body third ht hb h3 ls p zero le le' = refl
+turns-same (suc m) (suc n) place test body third ht hb h3 ls p (suc k) le le' =
+    turn-same k test body third (λ ls p k. turns m place test body third ls p k) (λ ls p k.
+    turns n place test body third ls p k) ht hb h3 ls p k (omega arith)
+    (λ ls p j lj. turns-same m n place test body third ht hb h3 ls p j (omega (arith, le, lj))
     (omega (arith, le', lj)))
 
 -- all turns of a loop: the first, and then as many as the ticks allow
-pub turns-more : (test : List Local → PoolMap → ℕ → Out ℤ) (body third : List Local → PoolMap → ℕ
-    → StmtEnd) (ht : Tests test) (hb : Does body) (h3 : Does third)
-    (ls : List Local) (p : PoolMap) (k : ℕ)
-    → turns (suc k) test body third ls p (suc k) ≡ turn_then test body third (λ ls p k.
-    turns k test body third ls p k) ls p k
-turns-more test body third ht hb h3 ls p k =
-    turn-same k test body third (λ ls p j. turns k test body third ls p j) (λ ls p j.
-    turns j test body third ls p j) ht hb h3 ls p k (omega arith)
-    (λ ls p j lj. turns-same k j test body third ht hb h3 ls p j lj (omega arith))
+pub turns-more : (place : ℕ) (test : List Local → PoolMap → ℕ → Out ℤ)
+    (body third : List Local → PoolMap → ℕ → StmtEnd) (ht : Tests test) (hb : Does body)
+    (h3 : Does third) (ls : List Local) (p : PoolMap) (k : ℕ)
+    → turns (suc k) place test body third ls p (suc k) ≡ turn_then test body third (λ ls p k.
+    turns k place test body third ls p k) ls p k
+turns-more place test body third ht hb h3 ls p k =
+    turn-same k test body third (λ ls p j. turns k place test body third ls p j) (λ ls p j.
+    turns j place test body third ls p j) ht hb h3 ls p k (omega arith)
+    (λ ls p j lj. turns-same k j place test body third ht hb h3 ls p j lj (omega arith))

@@ -4,4 +4,3 @@ pub mod Resume
 pub mod Stacks
 pub mod Todo
 pub mod Answers
-pub mod Meaning

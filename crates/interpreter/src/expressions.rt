@@ -1,23 +1,24 @@
 //! Evaluating expressions.
 
-ghost use Rattle.std.specs.Prelude.{◌≡◌, OnOk, Some};
+ghost use Rattle.std.specs.Prelude.{◌≡◌, OnOk};
 ghost use Rattle.c_tree.specs.ExprTree as tree;
 ghost use Rattle.c_tree.specs.ExprTree.{expr_of, ident_of, arguments_in};
 ghost use Rattle.c_types.specs.Tables.{Tables};
 ghost use Rattle.c_types.specs.Views.{tables_in};
 ghost use Rattle.interpreter.specs.declared.work.ExprTask.TheVariants as task;
 ghost use Rattle.interpreter.specs.declared.work.WordTask.TheVariants as word_task;
-ghost use Rattle.interpreter.specs.Placed.{value_of, binary_means};
+ghost use Rattle.c_meaning.specs.Meaning.{value_of, binary_means};
 ghost use Rattle.interpreter.specs.inside.Todo as todo;
 ghost use Rattle.interpreter.specs.inside.Resume.{calls, todo_begun, resumed, resumed_with};
 ghost use Rattle.interpreter.specs.inside.Resume.{loaded_from, StepLeads};
 ghost use Rattle.interpreter.specs.inside.Answers.{Quiet};
 
 use crate::access::{free_object, load, new_object, store};
-use crate::fault::{Fault, TrapAt};
+use crate::fault::Fault;
 use crate::operators::{binary, unary};
 use crate::run::Run;
 use crate::work::{ExprTask, WordTask, Work};
+use c_meaning::TrapAt;
 use c_tree::expr::{Argument, BinaryOp, Expr, Name, UnaryOp};
 use c_types::Program;
 use pool_map::TrapKind;
@@ -68,8 +69,8 @@ impl<'a> Run<'a> {
     ) -> Result<(), AllocError>
         ensures { (t : Tables) → OnOk result
             (resumed t self.new ≡ resumed_with t self.old
-            (binary_means op (Some place) (value_of t (calls t self.old.below) (expr_of left.now) self.old.top
-            self.old.pool self.old.ticks) (λ p k.
+            (binary_means op place (value_of t (calls t self.old.below) (expr_of left.now)
+            self.old.top self.old.pool self.old.ticks) (λ p k.
             value_of t (calls t self.old.below) (expr_of right.now) self.old.top p k))) }
     {
         match op {
@@ -82,7 +83,7 @@ impl<'a> Run<'a> {
                 self.plan_expr(ExprTask::Eval, left)
             }
             _ => {
-                self.plan(Work::Word(WordTask::Binary(op, Some(place))))?;
+                self.plan(Work::Word(WordTask::Binary(op, place)))?;
                 self.plan_expr(ExprTask::Eval, right)?;
                 self.plan_expr(ExprTask::Eval, left)
             }
@@ -115,7 +116,7 @@ impl<'a> Run<'a> {
         match program.function_named(name.text.as_str()) {
             None => self.give(0),
             Some(function) => {
-                self.plan(Work::Call(function, arguments.len()))?;
+                self.plan(Work::Call(name.place, function, arguments.len()))?;
                 self.plan(Work::Arguments(arguments))
             }
         }
@@ -142,7 +143,7 @@ impl<'a> Run<'a> {
         self.give(unary(op, operand))
     }
 
-    pub fn binary(&mut self, op: BinaryOp, place: Option<u64>) -> Result<(), Fault>
+    pub fn binary(&mut self, op: BinaryOp, place: u64) -> Result<(), Fault>
         ensures quiet { Quiet result }
         ensures does { (t : Tables) → StepLeads t (todo.Word (word_task.Binary op place)) self.old
             result self.new }
@@ -249,7 +250,7 @@ impl<'a> Run<'a> {
         let word = self.take();
         match free_object(program, &self.top, &mut self.pool, pointer, word) {
             Ok(()) => Ok(()),
-            Err(kind) => Err(Fault::Trapped(TrapAt::at(kind, place))),
+            Err(kind) => Err(Fault::Trapped(TrapAt { kind, place })),
         }
     }
 }

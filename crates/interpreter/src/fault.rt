@@ -1,37 +1,10 @@
 //! Why a run stops before its end.
 
-ghost use Rattle.std.specs.Prelude.{◌≡◌, Some, None};
+ghost use Rattle.std.specs.Prelude.{◌≡◌};
 ghost use Rattle.interpreter.specs.declared.fault.Fault.TheVariants.{NoMemory, Trapped};
-ghost use Rattle.interpreter.specs.Placed.{trap_at};
 
-use pool_map::TrapKind;
+use c_meaning::TrapAt;
 use std::alloc::{AllocError, AllocFailed};
-
-/// A trap, and the place of the token where it came, if it has one.
-#[derive(Clone, Copy, Debug, PartialEq, Eq)]
-pub struct TrapAt {
-    pub kind: TrapKind,
-    pub place: Option<u64>,
-}
-
-impl TrapAt {
-    /// A trap of the ticks or of the depth, which has no place.
-    pub fn nowhere(kind: TrapKind) -> Self
-        ensures { result ≡ trap_at kind None }
-    {
-        TrapAt { kind, place: None }
-    }
-
-    /// A trap at this place.
-    pub fn at(kind: TrapKind, place: u64) -> Self
-        ensures { result ≡ trap_at kind (Some place) }
-    {
-        TrapAt {
-            kind,
-            place: Some(place),
-        }
-    }
-}
 
 /// A trap, or want of memory.
 #[derive(Clone, Copy, Debug, PartialEq, Eq)]

@@ -10,13 +10,12 @@ ghost use Rattle.c_types.specs.Views.{tables_in};
 ghost use Rattle.pool_map.specs.declared.trap.TrapKind.TheVariants as trap;
 ghost use Rattle.interpreter.specs.declared.answer.PlainAnswer.TheVariants as answer;
 ghost use Rattle.interpreter.specs.Answers.{PlainAnswers};
-ghost use Rattle.interpreter.specs.inside.Answers.{Quiet};
+ghost use Rattle.interpreter.specs.inside.Answers.{Quiet, RunGives};
 ghost use Rattle.interpreter.specs.inside.Answers as inside_answers;
 ghost use Rattle.interpreter.specs.declared.work.Flow.TheVariants as flow;
-ghost use Rattle.interpreter.specs.Placed as meaning;
-ghost use Rattle.interpreter.specs.Placed.{Unplaced, placed_means};
-ghost use Rattle.c_meaning.specs.Transaction.{transaction, transaction_means};
-ghost use Rattle.interpreter.specs.Placed.{Done};
+ghost use Rattle.c_meaning.specs.Meaning.{Got};
+ghost use Rattle.c_meaning.specs.Transaction.{transaction, run_transaction, transaction_means};
+ghost use Rattle.c_meaning.specs.Transaction as meaning;
 ghost use Rattle.interpreter.specs.inside.Todo as todo;
 ghost use Rattle.interpreter.specs.inside.Todo.{todo_of};
 ghost use Rattle.interpreter.specs.inside.Resume.{todo_begun, begun_at, resumed, resumed_at};
@@ -75,8 +74,8 @@ fn answer_of(ended: Result<(Pool, i64), Fault>) -> PlainAnswer
 }
 
 /// The place where transaction `tx` traps, run as `plain_call` runs it: that of its token in the
-/// list of tokens, counted from 0. It is none if nothing traps, and if the trap is of the ticks or of
-/// the depth.
+/// list of tokens, counted from 0. It is none if nothing traps. Where the ticks have run out, the
+/// token is the name in a call or the word of a loop; where a call is too deep, it is its name.
 pub fn trap_place(
     alloc: Global,
     typed: &Typed,
@@ -85,8 +84,8 @@ pub fn trap_place(
     args: &[i64],
     ticks: u64,
 ) -> Result<Option<u64>, AllocError>
-    ensures { IfOk result (λ place. place ≡ meaning.trap_place
-        (placed_means (tables_of (tree_of typed.now)) pool.now tx args.now ticks)) }
+    ensures { IfOk result (λ place. place ≡ meaning.trap_place (tables_of (tree_of typed.now))
+        pool.now tx args.now ticks) }
 {
     let Ok(program) = Program::new(alloc, typed.ast().items()) else {
         return Err(AllocError);
@@ -105,15 +104,10 @@ fn place_of(ended: Result<(Pool, i64), Fault>) -> Result<Option<u64>, AllocError
 {
     match ended {
         Ok(_) => Ok(None),
-        Err(Fault::Trapped(trap)) => Ok(trap.place),
+        Err(Fault::Trapped(trap)) => Ok(Some(trap.place)),
         Err(Fault::NoMemory) => Err(AllocError),
     }
 }
-
-/// Without the places of its traps, the placed meaning is that of `c_meaning`.
-pub fn placed_law()
-    ensures { Unplaced }
-{}
 
 fn run<'a>(
     alloc: Global,
@@ -124,9 +118,8 @@ fn run<'a>(
     ticks: u64,
 ) -> Result<(Pool, i64), Fault>
     ensures quiet { Quiet result }
-    ensures exact { LeadsToOutcome result
-        (meaning.run_transaction (tables_in program.now) (Some (function_tree function.now)) pool
-        args.now ticks) (λ done. Done done.0 done.1) }
+    ensures exact { RunGives result (run_transaction (tables_in program.now)
+        (Some (function_tree function.now)) pool args.now ticks) }
 {
     let top = bound(alloc, program, &function.parameters, args)?;
     let mut run = Run::new(alloc, pool, top, ticks);
@@ -160,7 +153,7 @@ fn transaction<'a>(program: &Program<'a>, tx: u64) -> Option<&'a Function>
 fn finish<'a>(alloc: Global, program: &Program<'a>, run: &mut Run<'a>) -> Result<(), Fault>
     ensures quiet { Quiet result }
     ensures exact { LeadsToOutcome result (resumed (tables_in program.now) run.old)
-        (λ _. Done run.new.pool (newest run.new.values)) }
+        (λ _. Got (newest run.new.values) run.new.pool run.new.ticks) }
 {
     let mut how = Flow::Next;
     for _ in 0..u64::MAX {
@@ -264,7 +257,9 @@ impl<'a> Run<'a> {
             Work::Simple(simple) => self.simple(program, simple)?,
             Work::Declare(declaration) => self.declare(alloc, program, declaration)?,
             Work::Assign(name) => self.assign(name),
-            Work::Call(function, count) => self.call(alloc, program, function, count)?,
+            Work::Call(place, function, count) => {
+                self.call(alloc, program, place, function, count)?;
+            }
             Work::Leave => self.leave(alloc, 0)?,
             Work::Close(count) => self.top.close_to(count),
             Work::Give => return Ok(Flow::Return(self.take())),

@@ -7,7 +7,7 @@ ghost use Rattle.c_tree.specs.ItemTree.{function_tree, parameter_of};
 ghost use Rattle.c_types.specs.Tables.{Tables};
 ghost use Rattle.c_types.specs.Views.{tables_in};
 ghost use Rattle.c_meaning.specs.Locals as local;
-ghost use Rattle.interpreter.specs.Placed as meaning;
+ghost use Rattle.c_meaning.specs.Meaning as meaning;
 ghost use Rattle.c_meaning.specs.Access as access;
 ghost use Rattle.interpreter.specs.inside.Todo as todo;
 ghost use Rattle.interpreter.specs.declared.work.Work.TheVariants as work;
@@ -18,12 +18,12 @@ ghost use Rattle.interpreter.specs.inside.Resume.{left_function, StepLeads, Take
 ghost use Rattle.interpreter.specs.inside.Answers.{Quiet, QuietAt};
 
 use crate::access::word_named;
-use crate::fault::{Fault, TrapAt};
+use crate::fault::Fault;
 use crate::locals::{Locals, bound};
 use crate::places::target_place;
 use crate::stacks::{Frames, Plan, Values};
 use crate::work::{ExprTask, StmtTask, Work};
-use c_meaning::Word;
+use c_meaning::{TrapAt, Word};
 use c_tree::expr::Expr;
 use c_tree::item::Function;
 use c_tree::stmt::Stmt;
@@ -142,11 +142,13 @@ impl<'a> Run<'a> {
         }
     }
 
-    pub fn tick(&mut self) -> Result<(), TrapAt>
-        ensures { Ticked result self.new self.old }
+    /// Takes a tick, for the token at a place.
+    pub fn tick(&mut self, place: u64) -> Result<(), TrapAt>
+        ensures { Ticked place result self.new self.old }
     {
         if self.ticks == 0 {
-            return Err(TrapAt::nowhere(TrapKind::Steps));
+            let kind = TrapKind::Steps;
+            return Err(TrapAt { kind, place });
         }
         self.ticks -= 1;
         Ok(())
@@ -227,7 +229,7 @@ impl<'a> Run<'a> {
         target: &Expr,
         operands: Operands,
     ) -> Result<Word, TrapAt>
-        ensures value { result ≡ meaning.word_at (tables_in program.now) self.now.top
+        ensures value { result ≡ meaning.located (tables_in program.now) self.now.top
             self.now.pool (expr_of target.now) operands.pointer operands.index }
         ensures quiet { QuietAt result }
     {
@@ -245,22 +247,24 @@ impl<'a> Run<'a> {
         }
     }
 
-    /// Opens a function, whose arguments are so many of the newest values. It takes a tick, and
-    /// then a place among the open functions.
+    /// Opens a function, whose arguments are so many of the newest values, for the call at a place.
+    /// It takes a tick, and then room among the open functions.
     pub fn call(
         &mut self,
         alloc: Global,
         program: &Program<'a>,
+        place: u64,
         function: &'a Function,
         count: usize,
     ) -> Result<(), Fault>
         ensures quiet { Quiet result }
         ensures does { StepLeads (tables_in program.now)
-            (todo.Call (function_tree function.now) count) self.old result self.new }
+            (todo.Call place (function_tree function.now) count) self.old result self.new }
     {
-        self.tick()?;
+        self.tick(place)?;
         if self.below.count() >= OPEN - 1 {
-            return Err(Fault::Trapped(TrapAt::nowhere(TrapKind::Depth)));
+            let kind = TrapKind::Depth;
+            return Err(Fault::Trapped(TrapAt { kind, place }));
         }
         self.open(alloc, program, function, count)?;
         Ok(())

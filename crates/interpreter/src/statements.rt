@@ -11,19 +11,20 @@ ghost use Rattle.interpreter.specs.declared.work.ExprTask.TheVariants as expr_ta
 ghost use Rattle.interpreter.specs.declared.work.StmtTask.TheVariants as task;
 ghost use Rattle.interpreter.specs.declared.work.Work.TheVariants as work;
 ghost use Rattle.interpreter.specs.declared.work.WordTask.TheVariants as word_task;
-ghost use Rattle.c_meaning.specs.Meaning.{target_local};
-ghost use Rattle.interpreter.specs.Placed as meaning;
-ghost use Rattle.interpreter.specs.Placed.{value_of};
+ghost use Rattle.c_meaning.specs.Meaning as meaning;
+ghost use Rattle.c_meaning.specs.Meaning.{target_local, value_of};
 ghost use Rattle.interpreter.specs.inside.Todo as todo;
 ghost use Rattle.interpreter.specs.inside.Resume.{calls, planned, todo_begun, resumed, resumed_at};
 ghost use Rattle.interpreter.specs.inside.Resume.{resumed_with, with_end, scoped, condition_in};
 ghost use Rattle.interpreter.specs.inside.Resume.{body_end, right_of, StepLeads, LeadsToOutcome};
 ghost use Rattle.interpreter.specs.inside.Answers.{Quiet};
 
-use crate::fault::{Fault, TrapAt};
+use crate::fault::Fault;
 use crate::locals::Locals;
+use crate::places::loop_place;
 use crate::run::Run;
 use crate::work::{ExprTask, Flow, StmtTask, WordTask, Work};
+use c_meaning::TrapAt;
 use c_tree::expr::{BinaryOp, Expr, Name};
 use c_tree::stmt::{AssignOp, Declaration, First, Simple, StepOp, Stmt};
 use c_types::Program;
@@ -227,7 +228,7 @@ impl<'a> Run<'a> {
         ensures does { (t : Tables) → StepLeads t (todo.Stmt task.Turn (stmt_of stmt.now)) self.old
             result self.new }
     {
-        self.tick()?;
+        self.tick(loop_place(stmt))?;
         self.plan_stmt(StmtTask::Test, stmt)?;
         self.plan_condition(stmt)?;
         Ok(())
@@ -301,14 +302,14 @@ impl<'a> Run<'a> {
             Simple::Assign {
                 target,
                 op,
+                place,
                 value,
-                ..
             } => {
-                self.plan_assign(target, *op, value)?;
+                self.plan_assign(target, *op, *place, value)?;
                 Ok(())
             }
-            Simple::Step { target, op, .. } => {
-                self.plan_step(target, *op)?;
+            Simple::Step { target, op, place } => {
+                self.plan_step(target, *op, *place)?;
                 Ok(())
             }
             Simple::Call { name, arguments } => {
@@ -321,7 +322,10 @@ impl<'a> Run<'a> {
                 self.plan_expr(ExprTask::Eval, pointer)?;
                 Ok(())
             }
-            Simple::Abort { place } => Err(Fault::Trapped(TrapAt::at(TrapKind::Abort, *place))),
+            Simple::Abort { place } => Err(Fault::Trapped(TrapAt {
+                kind: TrapKind::Abort,
+                place: *place,
+            })),
         }
     }
 
@@ -329,29 +333,30 @@ impl<'a> Run<'a> {
         &mut self,
         target: &'a Expr,
         op: AssignOp,
+        place: u64,
         value: &'a Expr,
     ) -> Result<(), AllocError>
         ensures { (t : Tables) → OnOk result
             (resumed t self.new ≡ with_end t self.old
-            (meaning.assign_end t (calls t self.old.below) op (expr_of target.now)
+            (meaning.assign_end t (calls t self.old.below) op place (expr_of target.now)
             (expr_of value.now) self.old.top self.old.pool self.old.ticks)) }
     {
         match op {
             AssignOp::Set => self.plan_set(target, value),
-            AssignOp::Add => self.plan_update(target, BinaryOp::Add, Some(value)),
-            AssignOp::Sub => self.plan_update(target, BinaryOp::Sub, Some(value)),
+            AssignOp::Add => self.plan_update(target, BinaryOp::Add, place, Some(value)),
+            AssignOp::Sub => self.plan_update(target, BinaryOp::Sub, place, Some(value)),
         }
     }
 
-    fn plan_step(&mut self, target: &'a Expr, op: StepOp) -> Result<(), AllocError>
+    fn plan_step(&mut self, target: &'a Expr, op: StepOp, place: u64) -> Result<(), AllocError>
         ensures { (t : Tables) → OnOk result
             (resumed t self.new ≡ with_end t self.old
-            (meaning.steps t (calls t self.old.below) op (expr_of target.now) self.old.top
+            (meaning.steps t (calls t self.old.below) op place (expr_of target.now) self.old.top
             self.old.pool self.old.ticks)) }
     {
         match op {
-            StepOp::Up => self.plan_update(target, BinaryOp::Add, None),
-            StepOp::Down => self.plan_update(target, BinaryOp::Sub, None),
+            StepOp::Up => self.plan_update(target, BinaryOp::Add, place, None),
+            StepOp::Down => self.plan_update(target, BinaryOp::Sub, place, None),
         }
     }
 
@@ -383,24 +388,25 @@ impl<'a> Run<'a> {
         &mut self,
         target: &'a Expr,
         op: BinaryOp,
+        place: u64,
         right: Option<&'a Expr>,
     ) -> Result<(), AllocError>
         ensures { (t : Tables) → OnOk result
             (resumed t self.new ≡ with_end t self.old
             (meaning.update t (calls t self.old.below) (target_local (expr_of target.now))
-            (expr_of target.now) op (λ p k.
+            (expr_of target.now) op place (λ p k.
             right_of t (calls t self.old.below) (option_map (λ e. expr_of e.now) right.entry)
             self.old.top p k) self.old.top self.old.pool self.old.ticks)) }
     {
         match local_of(target) {
             Some(name) => {
                 self.plan(Work::Assign(name))?;
-                self.plan_right(op, right)?;
+                self.plan_right(op, place, right)?;
                 self.plan_expr(ExprTask::Eval, target)
             }
             None => {
                 self.plan_expr(ExprTask::Store, target)?;
-                self.plan_right(op, right)?;
+                self.plan_right(op, place, right)?;
                 self.plan_expr(ExprTask::Fetch, target)?;
                 self.plan_operands(target)
             }
@@ -408,13 +414,18 @@ impl<'a> Run<'a> {
     }
 
     /// Plans the right side of an operator, which is 1 if none is written.
-    fn plan_right(&mut self, op: BinaryOp, right: Option<&'a Expr>) -> Result<(), AllocError>
+    fn plan_right(
+        &mut self,
+        op: BinaryOp,
+        place: u64,
+        right: Option<&'a Expr>,
+    ) -> Result<(), AllocError>
         ensures { OnOk result (self.new
             ≡ planned (option_map_or (λ e. work.Expr expr_task.Eval e) right.entry
             (work.Word (word_task.Put (pos 1))))
-            (planned (work.Word (word_task.Binary op None)) self.old)) }
+            (planned (work.Word (word_task.Binary op place)) self.old)) }
     {
-        self.plan(Work::Word(WordTask::Binary(op, None)))?;
+        self.plan(Work::Word(WordTask::Binary(op, place)))?;
         match right {
             None => self.plan(Work::Word(WordTask::Put(1))),
             Some(right) => self.plan_expr(ExprTask::Eval, right),

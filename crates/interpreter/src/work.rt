@@ -49,8 +49,8 @@ pub enum WordTask {
     /// Pops an operand and pushes the operator's result.
     Unary(UnaryOp),
     /// Pops the right operand and the left one, and pushes the operator's result; the place is
-    /// that of an operator in an expression.
-    Binary(BinaryOp, Option<u64>),
+    /// that of the operator.
+    Binary(BinaryOp, u64),
     /// Pops a word and pushes 0 if it is 0, else 1.
     Truth,
 }
@@ -71,8 +71,8 @@ pub enum Work<'a> {
     Declare(&'a Declaration),
     /// Pops a word and assigns it to a local.
     Assign(&'a Name),
-    /// Pops so many arguments, and opens the function.
-    Call(&'a Function, usize),
+    /// Pops so many arguments, and opens the function; the place is that of its name in the call.
+    Call(u64, &'a Function, usize),
     /// Ends the open function, and pushes its value.
     Leave,
     /// Forgets the locals of a scope, so that so many are left.

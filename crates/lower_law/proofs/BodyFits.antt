@@ -246,8 +246,8 @@ module _ (k : Context) (ir : Ir) (whole : IsSane k.tables) (shaped : ir.shapes â
     statement_within give s v es (stmt.Block all) p h b = h
     statement_within give s v es (stmt.If c a) p h b = h
     statement_within give s v es (stmt.IfElse c a d) p h b = h
-    statement_within give s v es (stmt.While c a) p h b = h
-    statement_within give s v es (stmt.For first c third a) p h b = h
+    statement_within give s v es (stmt.While place c a) p h b = h
+    statement_within give s v es (stmt.For place first c third a) p h b = h
     statement_within give s v es stmt.Break p h b = h
     statement_within give s v es stmt.Continue p h b = h
     statement_within give s v es (stmt.Return place value) p h b = h
@@ -289,13 +289,13 @@ module _ (k : Context) (ir : Ir) (whole : IsSane k.tables) (shaped : ir.shapes â
                 inner
                 (none_right (statement_broken k.tables give start a) _ rest),
           )
-      stmt_fits give s v es (stmt.While c a) p h b = (
+      stmt_fits give s v es (stmt.While place c a) p h b = (
         test_fits s v es c _ h b,
         stmt_fits give (types.inner_scopes s) (inner_variables v) es a (suc (exp_end c (suc p)))
             (stands_within k.tables (types.inner_scopes s) (inner_variables v) es
             (within_inside k.tables s v es h)) (none_right (value_broken k.tables s c) _ b),
       )
-      stmt_fits give s v es (stmt.For first c third a) p h b =
+      stmt_fits give s v es (stmt.For place first c third a) p h b =
           let t : Tables = k.tables in
           let start : List Scope = types.inner_scopes s in
           let u : Variables = variables_after_first k first p (inner_variables v) in

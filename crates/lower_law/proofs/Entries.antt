@@ -80,7 +80,7 @@ transaction_keeps tree keeps (suc i) f is w args n =
         j,
         ap ended_outcome (keeps.ends r.g f args w n r.stands)
             ∙ outcome_same (function_value t (calls_of t 255) f args w n)
-            ∙ ap Some (sym (ap (λ o. run_transaction t o w args n) is)),
+            ∙ ap Some (sym (ap (λ o. outcome (run_transaction t o w args n)) is)),
       ),
     )
   where

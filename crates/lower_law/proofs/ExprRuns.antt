@@ -12,9 +12,10 @@ use Rattle.pool_map.specs.PoolMap.{PoolMap}
 use Rattle.pool_map.specs.declared.trap.TrapKind.TheVariants as trap
 use Rattle.c_meaning.specs.Locals.{Local, value_named}
 use Rattle.c_meaning.specs.Operators.{unary_of}
-use Rattle.c_meaning.specs.Access.{word_named, new_object}
+use Rattle.c_meaning.specs.Access.{new_object}
+use Rattle.c_meaning.specs.Meaning as meaning
 use Rattle.c_meaning.specs.Meaning.{Out, Got, Stops, Calls, then_do, loaded, made, tick, called}
-use Rattle.c_meaning.specs.Meaning.{value_of, pointer_of, values_of}
+use Rattle.c_meaning.specs.Meaning.{value_of, pointer_of, values_of, placed_trap}
 use Rattle.ir.specs.declared.instruction.Target.{Target}
 use Rattle.ir.specs.declared.instruction.Instruction.{Instruction}
 use Rattle.ir.specs.declared.instruction.Instruction.TheVariants.{Const, Bin, Load, Call, Tick}
@@ -128,16 +129,18 @@ module _ (ir : Ir) (m f : ℕ) (k : Context) (rises : (p q : ℕ) → p < q → 
           let hq : HasAt ir f p1 tail = arguments_has ir f k v all p tail ha in
           subst (λ (o : Option FunctionTree).
           Gives ir m f k rises below (word_at ir m f k rises below to) p (suc (suc p1)) regs w t
-          (called calls o (λ f. values_of k.tables calls all ls w t) w t)) (sym fits.0.named)
+          (called calls name.place o (λ f. values_of k.tables calls all ls w t) w t))
+          (sym fits.0.named)
           (gives_then ir m f k rises below (words_at ir m f k rises below rs)
           (word_at ir m f k rises below to) p p1 (suc (suc p1)) regs w t
           (values_of k.tables calls all ls w t) (λ vs w t.
-          tick t (Stops trap.Steps) (λ t. calls fn vs w t)) (arguments_end_le all p) (omega arith)
+          tick t (Stops (placed_trap trap.Steps name.place)) (λ t. calls name.place fn vs w t))
+          (arguments_end_le all p) (omega arith)
           (arguments_run all p tail regs w t fits.1 ha ready)
-          (λ vs w1 t1 regs1 s1 e1. tick_gives ir m f k rises below calls p1 g fn rs vs regs1 w1 t1
-          run fits.0.stands e1 hq.0 hq.1.0))
+          (λ vs w1 t1 regs1 s1 e1. tick_gives ir m f k rises below calls name.place p1 g fn rs vs
+          regs1 w1 t1 run fits.0.stands e1 hq.0 hq.1.0))
       exp_runs (expr.Root name) p rest regs w t fits h ready =
-          field_gives ir m f k rises below es ls p (expr.Root name)
+          field_gives ir m f k rises below es ls p (expr.Root name) (expr.Root name)
           (target_of k v (expr.Root name) p) (pos 0) None regs w t (fits p) refl refl h.0
           ready.holds
       exp_runs (expr.New place name) p rest regs w t fits h ready =
@@ -164,10 +167,12 @@ module _ (ir : Ir) (m f : ℕ) (k : Context) (rises : (p q : ℕ) → p < q → 
           gives_then ir m f k rises below (word_at ir m f k rises below (reg_of k v base p1))
           (word_at ir m f k rises below (k.node (suc p1))) p p1 (suc p1) regs w t
           (value_of k.tables calls base ls w t)
-          (λ b w t. loaded (word_named k.tables ls w (expr.Arrow base place name) b None) w t) le
+          (λ b w t. loaded (meaning.located k.tables ls w (expr.Arrow base place name) b None) w
+          t) le
           (omega arith) (exp_runs base p (i ∷ rest) regs w t fits.0 ha ready)
           (λ b w1 t1 regs1 s1 e1. field_gives ir m f k rises below es ls p1
-          (expr.Arrow base place name) x b None regs1 w1 t1 (fits.1 p) e1 refl hi.0
+          (expr.Arrow base place name) (expr.Arrow base place name) x b None regs1 w1 t1
+          (fits.1 p) e1 refl hi.0
           (ready_after p p1 regs regs1 le s1 ready).holds)
       exp_runs (expr.Index a place i) p rest regs w t fits h ready =
           let q : ℕ = target_end a p in
@@ -187,17 +192,20 @@ module _ (ir : Ir) (m f : ℕ) (k : Context) (rises : (p q : ℕ) → p < q → 
           (word_at ir m f k rises below to) p q (suc q1) regs w t
           (pointer_of k.tables calls a ls w t)
           (λ b w t. then_do (value_of k.tables calls i ls w t)
-          (λ j w t. loaded (word_named k.tables ls w a b (Some j)) w t)) le (omega (arith, le1))
+          (λ j w t. loaded (meaning.located k.tables ls w (expr.Index a place i) b (Some j)) w t))
+          le (omega (arith, le1))
           (pointer_runs a p (exp_code k v i q ++ ld ∷ rest) regs w t fits.0 ha ready)
           (λ b w1 t1 regs1 s1 e1. let ready1 : Ready q regs1 = ready_after p q regs regs1 le
           s1 ready in
           gives_then ir m f k rises below (word_at ir m f k rises below ri)
           (word_at ir m f k rises below to) q q1 (suc q1) regs1 w1 t1
           (value_of k.tables calls i ls w1 t1)
-          (λ j w t. loaded (word_named k.tables ls w a b (Some j)) w t) le1 (omega arith)
+          (λ j w t. loaded (meaning.located k.tables ls w (expr.Index a place i) b (Some j)) w t)
+          le1 (omega arith)
           (exp_runs i q (ld ∷ rest) regs1 w1 t1 fits.1 hi ready1)
-          (λ j w2 t2 regs2 s2 e2. field_gives ir m f k rises below es ls q1 a (element_target x ri)
-          b (Some j) regs2 w2 t2 (element_fits k.tables ir es a x ri (pointer_word a p fits.0))
+          (λ j w2 t2 regs2 s2 e2. field_gives ir m f k rises below es ls q1
+          (expr.Index a place i) a (element_target x ri) b (Some j) regs2 w2 t2
+          (element_fits k.tables ir es a x ri (pointer_word a p fits.0))
           (element_base x ri regs2 ∙ pointer_kept a p regs1 regs2 ready.under fits.0 s2 ∙ e1)
           (element_index x ri regs2 ∙ ap Some e2) hl.0
           (ready_after q q1 regs1 regs2 le1 s2 ready1).holds))
@@ -294,15 +302,16 @@ module _ (ir : Ir) (m f : ℕ) (k : Context) (rises : (p q : ℕ) → p < q → 
           let le : p ≤ q = exp_end_le a p in
           subst (λ (out : Out ℤ). Gives ir m f k rises below
           (word_at ir m f k rises below (k.node end)) p end regs w t out)
-          (sym (form_means o (value_of k.tables calls a ls w t) right))
+          (sym (form_means o place (value_of k.tables calls a ls w t) right))
           (gives_then ir m f k rises below (word_at ir m f k rises below ra)
           (word_at ir m f k rises below (k.node end)) p q end regs w t
-          (value_of k.tables calls a ls w t) (λ x w t. form_value (form_of o) x right w t) le
+          (value_of k.tables calls a ls w t) (λ x w t. form_value (form_of o) place x right w t) le
           (form_end_le (form_of o) (exp_end b) q (λ z. exp_end_le b z))
           (exp_runs a p (is ++ rest) regs w t fits.0 ha ready)
           (λ x w1 t1 regs1 s1 e1. let ready1 : Ready q regs1 = ready_after p q regs regs1 le
           s1 ready in
-          form_runs ir m f k rises below (form_of o) (exp_code k v b) (exp_end b) (reg_of k v b)
+          form_runs ir m f k rises below (form_of o) place (exp_code k v b) (exp_end b)
+          (reg_of k v b)
           right ra q x rest regs1 w1 t1 (λ z. exp_end_le b z) (λ z r hz.
           exp_has ir f k v b z r hz)
           (λ z r lez hz. exp_runs b z r regs1 w1 t1 fits.1 hz

@@ -17,7 +17,7 @@ use Rattle.c_meaning.specs.declared.word.Word.TheVariants.{Root, Field}
 use Rattle.c_meaning.specs.Locals.{Local}
 use Rattle.c_meaning.specs.Access.{word_named}
 use Rattle.c_meaning.specs.Meaning.{Out, Got, Stops, Calls, then_do, or_trap, loaded, at_zero, tick}
-use Rattle.c_meaning.specs.Meaning.{binary_means}
+use Rattle.c_meaning.specs.Meaning.{binary_means, placed_trap, at_target}
 use Rattle.ir.specs.declared.instruction.Target.{Target}
 use Rattle.ir.specs.declared.instruction.Target.TheVariants as aim
 use Rattle.ir.specs.declared.instruction.Instruction.{Instruction}
@@ -45,46 +45,47 @@ abbrev pub Called : Ir → (m f : ℕ) → List Frame → (to p : ℕ) (regs : L
 Called ir m f below to p regs w t (Got v w' t') =
     Path ir m (Here f p regs below w t) (Goes (Here f (suc p) (put_register regs to v) below w' t'))
     0 t (suc m) t'
-Called ir m f below to p regs w t (Stops k) =
-    Path ir m (Here f p regs below w t) (Ends (Trapped k)) 0 t (suc m) 0
+Called ir m f below to p regs w t (Stops stop) =
+    Path ir m (Here f p regs below w t) (Ends (Trapped stop.kind)) 0 t (suc m) 0
 
 -- every call that a function makes does what the trees say
 abbrev pub CallsRun : Tables → Ir → (m f : ℕ) → List Frame → Calls → Type 0
 CallsRun tables ir m f below calls =
-    (to g : ℕ) (fn : FunctionTree) (rs : List ℕ) (p : ℕ) (regs : List ℤ) (w : PoolMap) (t : ℕ)
+    (place to g : ℕ) (fn : FunctionTree) (rs : List ℕ) (p : ℕ) (regs : List ℤ) (w : PoolMap) (t : ℕ)
     → slice_get tables.functions g ≡ Some fn → At ir f p (Call to g rs)
-    → Called ir m f below to p regs w t (calls fn (map (register_at regs) rs) w t)
+    → Called ir m f below to p regs w t (calls place fn (map (register_at regs) rs) w t)
 
 -- the value of an operator, given its left side
-abbrev pub form_value : Form → ℤ → (PoolMap → ℕ → Out ℤ) → PoolMap → ℕ → Out ℤ
-form_value Both x b w t = at_zero x (Got (pos 0) w t)
+abbrev pub form_value : Form → (place : ℕ) → ℤ → (PoolMap → ℕ → Out ℤ) → PoolMap → ℕ → Out ℤ
+form_value Both place x b w t = at_zero x (Got (pos 0) w t)
     (then_do (b w t) (λ y w t. Got (at_zero y (pos 0) (pos 1)) w t))
-form_value Either x b w t = at_zero x
+form_value Either place x b w t = at_zero x
     (then_do (b w t) (λ y w t. Got (at_zero y (pos 0) (pos 1)) w t)) (Got (pos 1) w t)
-form_value (Direct o) x b w t = then_do (b w t) (λ y w t. or_trap (word_of o x y) trap.Divide w t)
-form_value (Exchanged o) x b w t =
-    then_do (b w t) (λ y w t. or_trap (word_of o y x) trap.Divide w t)
+form_value (Direct o) place x b w t =
+    then_do (b w t) (λ y w t. or_trap (word_of o x y) (placed_trap trap.Divide place) w t)
+form_value (Exchanged o) place x b w t =
+    then_do (b w t) (λ y w t. or_trap (word_of o y x) (placed_trap trap.Divide place) w t)
 
-pub form_means : (o : BinaryOp) (a : Out ℤ) (b : PoolMap → ℕ → Out ℤ)
-    → binary_means o a b ≡ then_do a (λ x w t. form_value (form_of o) x b w t)
-form_means binary.Mul a b = refl
-form_means binary.Div a b = refl
-form_means binary.Rem a b = refl
-form_means binary.Add a b = refl
-form_means binary.Sub a b = refl
-form_means binary.ShiftLeft a b = refl
-form_means binary.ShiftRight a b = refl
-form_means binary.Less a b = refl
-form_means binary.LessEqual a b = refl
-form_means binary.Greater a b = refl
-form_means binary.GreaterEqual a b = refl
-form_means binary.Equal a b = refl
-form_means binary.NotEqual a b = refl
-form_means binary.And a b = refl
-form_means binary.Xor a b = refl
-form_means binary.Or a b = refl
-form_means binary.Both a b = refl
-form_means binary.Either a b = refl
+pub form_means : (o : BinaryOp) (place : ℕ) (a : Out ℤ) (b : PoolMap → ℕ → Out ℤ)
+    → binary_means o place a b ≡ then_do a (λ x w t. form_value (form_of o) place x b w t)
+form_means binary.Mul place a b = refl
+form_means binary.Div place a b = refl
+form_means binary.Rem place a b = refl
+form_means binary.Add place a b = refl
+form_means binary.Sub place a b = refl
+form_means binary.ShiftLeft place a b = refl
+form_means binary.ShiftRight place a b = refl
+form_means binary.Less place a b = refl
+form_means binary.LessEqual place a b = refl
+form_means binary.Greater place a b = refl
+form_means binary.GreaterEqual place a b = refl
+form_means binary.Equal place a b = refl
+form_means binary.NotEqual place a b = refl
+form_means binary.And place a b = refl
+form_means binary.Xor place a b = refl
+form_means binary.Or place a b = refl
+form_means binary.Both place a b = refl
+form_means binary.Either place a b = refl
 
 -- an element's target is its field's with an index
 pub element_fits : (tables : Tables) (ir : Ir) (es : List Entry) (e : ExprTree) (x : Target) (r : ℕ)
@@ -125,8 +126,8 @@ module _ (ir : Ir) (m f : ℕ) (k : Context) (rises : (p q : ℕ) → p < q → 
   abbrev pub Gives : {A : Type 0} (is : List ℤ → A → Type 0) (p q : ℕ) (regs : List ℤ) (w : PoolMap)
       (t : ℕ) → Out A → Type 0
   Gives is p q regs w t (Got v w' t') = Given is p q regs w t v w' t'
-  Gives is p q regs w t (Stops trap) =
-      Path ir m (Here f p regs below w t) (Ends (Trapped trap)) p t q 0
+  Gives is p q regs w t (Stops stop) =
+      Path ir m (Here f p regs below w t) (Ends (Trapped stop.kind)) p t q 0
 
   abbrev pub word_at : ℕ → List ℤ → ℤ → Type 0
   word_at r regs v = register_at regs r ≡ v
@@ -181,32 +182,38 @@ module _ (ir : Ir) (m f : ℕ) (k : Context) (rises : (p q : ℕ) → p < q → 
   }
 
   -- a last instruction that may trap
-  pub last_gives : (p : ℕ) (o : Option ℤ) (regs : List ℤ) (w : PoolMap) (t : ℕ)
+  pub last_gives : (p place : ℕ) (o : Option ℤ) (regs : List ℤ) (w : PoolMap) (t : ℕ)
       → instruction_step ir (Here f p regs below w t)
       ≡ with_word o (λ v. Goes (Here f (suc p) (put_register regs (k.node (suc p)) v) below w t))
-      → Gives (word_at (k.node (suc p))) p (suc p) regs w t (or_trap o trap.Divide w t)
-  last_gives p None regs w t st = path_ends p t st
-  last_gives p (Some v) regs w t st = puts p (suc p) v regs w t (omega arith) st
+      → Gives (word_at (k.node (suc p))) p (suc p) regs w t
+      (or_trap o (placed_trap trap.Divide place) w t)
+  last_gives p place None regs w t st = path_ends p t st
+  last_gives p place (Some v) regs w t st = puts p (suc p) v regs w t (omega arith) st
 
-  pub load_gives : (p : ℕ) (o : Result Word TrapKind) (regs : List ℤ) (w : PoolMap) (t : ℕ)
+  pub load_gives : (p : ℕ) (target : ExprTree) (o : Result Word TrapKind) (regs : List ℤ)
+      (w : PoolMap) (t : ℕ)
       → instruction_step ir (Here f p regs below w t) ≡ with_ok (spot_in o)
       (λ s. Goes (Here f (suc p) (put_register regs (k.node (suc p)) (load_spot w s)) below w t))
-      → Gives (word_at (k.node (suc p))) p (suc p) regs w t (loaded o w t)
-  load_gives p (Err trap) regs w t st = path_ends p t st
-  load_gives p (Ok (Root i)) regs w t st = puts p (suc p) (read_root w i) regs w t (omega arith) st
-  load_gives p (Ok (Field s i)) regs w t st = puts p (suc p) (read w s i) regs w t (omega arith) st
+      → Gives (word_at (k.node (suc p))) p (suc p) regs w t
+      (loaded (at_target target o) w t)
+  load_gives p target (Err kind) regs w t st = path_ends p t st
+  load_gives p target (Ok (Root i)) regs w t st =
+      puts p (suc p) (read_root w i) regs w t (omega arith) st
+  load_gives p target (Ok (Field s i)) regs w t st =
+      puts p (suc p) (read w s i) regs w t (omega arith) st
 
-  -- a load of a field's word, after its base and index
-  pub field_gives : (es : List Entry) (ls : List Local) (p : ℕ) (e : ExprTree) (x : Target) (b : ℤ)
-      (j : Option ℤ) (regs : List ℤ) (w : PoolMap) (t : ℕ) → WordFits k.tables ir.shapes es e x
+  -- a load of a field's word, after its base and index; the target is the field or its element
+  pub field_gives : (es : List Entry) (ls : List Local) (p : ℕ) (target e : ExprTree) (x : Target)
+      (b : ℤ) (j : Option ℤ) (regs : List ℤ) (w : PoolMap) (t : ℕ)
+      → WordFits k.tables ir.shapes es e x
       → base_in regs x ≡ b → index_in regs x ≡ j
       → At ir f p (Load (k.node (suc p)) x) → Holds es ls regs
       → Gives (word_at (k.node (suc p))) p (suc p) regs w t
-      (loaded (word_named k.tables ls w e b j) w t)
-  field_gives es ls p e x b j regs w t fits eb ej st held =
+      (loaded (at_target target (word_named k.tables ls w e b j)) w t)
+  field_gives es ls p target e x b j regs w t fits eb ej st held =
       let go : Spot → Move = λ s. Goes
       (Here f (suc p) (put_register regs (k.node (suc p)) (load_spot w s)) below w t) in
-      load_gives p (word_named k.tables ls w e b j) regs w t
+      load_gives p target (word_named k.tables ls w e b j) regs w t
       (ap (λ i. act ir i f p regs below w t) st
       ∙ ap (λ c. with_ok (spot_of ir.shapes w x c (index_in regs x)) go) eb
       ∙ ap (λ i. with_ok (spot_of ir.shapes w x b i) go) ej
@@ -312,24 +319,25 @@ module _ (ir : Ir) (m f : ℕ) (k : Context) (rises : (p q : ℕ) → p < q → 
   }
   call_gives p regs w t (Stops trap) st c = path_tick p (suc (suc p)) (omega arith) st c
 
-  pub tick_gives : (calls : Calls) (p g : ℕ) (fn : FunctionTree) (rs : List ℕ) (vs regs : List ℤ)
-      (w : PoolMap) (t : ℕ) → CallsRun k.tables ir m f below calls
+  pub tick_gives : (calls : Calls) (place p g : ℕ) (fn : FunctionTree) (rs : List ℕ)
+      (vs regs : List ℤ) (w : PoolMap) (t : ℕ) → CallsRun k.tables ir m f below calls
       → slice_get k.tables.functions g ≡ Some fn → words_at rs regs vs → At ir f p Tick
       → At ir f (suc p) (Call (k.node (suc (suc p))) g rs)
       → Gives (word_at (k.node (suc (suc p)))) p (suc (suc p)) regs w t
-      (tick t (Stops trap.Steps) (λ t. calls fn vs w t))
-  tick_gives calls p g fn rs vs regs w zero run is args st st1 =
+      (tick t (Stops (placed_trap trap.Steps place)) (λ t. calls place fn vs w t))
+  tick_gives calls place p g fn rs vs regs w zero run is args st st1 =
       path_more (omega arith) (path_ends p zero (ap (λ i. act ir i f p regs below w zero) st))
-  tick_gives calls p g fn rs vs regs w (suc t) run is args st st1 =
+  tick_gives calls place p g fn rs vs regs w (suc t) run is args st st1 =
       let to : ℕ = k.node (suc (suc p)) in
-      let c = run to g fn rs (suc p) regs w t is st1 in
-      call_gives p regs w t (calls fn vs w t) (ap (λ i. act ir i f p regs below w (suc t)) st)
-      (subst (λ l. Called ir m f below to (suc p) regs w t (calls fn l w t)) args c)
+      let c = run place to g fn rs (suc p) regs w t is st1 in
+      call_gives p regs w t (calls place fn vs w t) (ap (λ i. act ir i f p regs below w (suc t)) st)
+      (subst (λ l. Called ir m f below to (suc p) regs w t (calls place fn l w t)) args c)
 
   -- an operator and its right side, after its left side; the conditions on the right side hold at
   -- every later place
-  pub form_runs : (form : Form) (code : ℕ → List Instruction) (end reg : ℕ → ℕ) (b : PoolMap → ℕ
-      → Out ℤ) (on p : ℕ) (x : ℤ) (rest : List Instruction) (regs : List ℤ) (w : PoolMap) (t : ℕ)
+  pub form_runs : (form : Form) (place : ℕ) (code : ℕ → List Instruction) (end reg : ℕ → ℕ)
+      (b : PoolMap → ℕ → Out ℤ) (on p : ℕ) (x : ℤ) (rest : List Instruction) (regs : List ℤ)
+      (w : PoolMap) (t : ℕ)
       → ((z : ℕ) → z ≤ end z) → ((z : ℕ) (r : List Instruction) → HasAt ir f z (code z ++ r)
       → HasAt ir f (end z) r)
       → ((z : ℕ) (r : List Instruction) → p ≤ z → HasAt ir f z (code z ++ r)
@@ -337,8 +345,8 @@ module _ (ir : Ir) (m f : ℕ) (k : Context) (rises : (p q : ℕ) → p < q → 
       → on ≤ k.node p → register_at regs on ≡ x
       → HasAt ir f p (form_code form k.node code end reg on p ++ rest)
       → Gives (word_at (k.node (form_end form end p))) p (form_end form end p) regs w t
-      (form_value form x b w t)
-  form_runs Both code end reg b on p x rest regs w t le has right small is h =
+      (form_value form place x b w t)
+  form_runs Both place code end reg b on p x rest regs w t le has right small is h =
       let q : ℕ = end (suc p) in
       let off : ℕ = suc (suc (suc q)) in
       let to : ℕ = k.node (suc off) in
@@ -355,7 +363,7 @@ module _ (ir : Ir) (m f : ℕ) (k : Context) (rises : (p q : ℕ) → p < q → 
       (λ y w t. Got (at_zero y (pos 0) (pos 1)) w t) leq (omega arith)
       (right (suc p) (truth_code (reg q) to q ++ rest) (omega arith) hb)
       (λ y w1 t1 regs1 s1 e1. outcome_gives q (reg q) y rest regs1 w1 t1 e1 hq))
-  form_runs Either code end reg b on p x rest regs w t le has right small is h =
+  form_runs Either place code end reg b on p x rest regs w t le has right small is h =
       let p2 : ℕ = suc (suc p) in
       let q : ℕ = end p2 in
       let off : ℕ = suc (suc (suc q)) in
@@ -374,31 +382,31 @@ module _ (ir : Ir) (m f : ℕ) (k : Context) (rises : (p q : ℕ) → p < q → 
       (λ y w1 t1 regs1 s1 e1. outcome_gives q (reg q) y rest regs1 w1 t1 e1 hq))
       (moves (word_at to) (suc p) (suc q) (suc off) regs w t (Got (pos 1) w t) (omega (arith, leq))
       (ap (λ i. act ir i f (suc p) regs below w t) h.1.0) (one_gives q regs w t hq.1.0 hq.1.1.0))
-  form_runs (Direct o) code end reg b on p x rest regs w t le has right small is h =
+  form_runs (Direct o) place code end reg b on p x rest regs w t le has right small is h =
       let q : ℕ = end p in
       let to : ℕ = k.node (suc q) in
       let i : Instruction = Bin o to on (reg q) in
       let hb : HasAt ir f p (code p ++ i ∷ rest) = simp append_assoc at h in
       let hq : HasAt ir f q (i ∷ rest) = has p (i ∷ rest) hb in
       gives_then (word_at (reg q)) (word_at to) p q (suc q) regs w t (b w t)
-      (λ y w t. or_trap (word_of o x y) trap.Divide w t) (le p) (omega arith)
+      (λ y w t. or_trap (word_of o x y) (placed_trap trap.Divide place) w t) (le p) (omega arith)
       (right p (i ∷ rest) (omega arith) hb)
       (λ y w1 t1 regs1 s1 e1. let go : ℤ → Move = λ v.
       Goes (Here f (suc q) (put_register regs1 to v) below w1 t1) in
-      last_gives q (word_of o x y) regs1 w1 t1 (ap (λ i. act ir i f q regs1 below w1 t1) hq.0
+      last_gives q place (word_of o x y) regs1 w1 t1 (ap (λ i. act ir i f q regs1 below w1 t1) hq.0
       ∙ ap (λ u. with_word (word_of o u (register_at regs1 (reg q))) go) (s1 on small ∙ is)
       ∙ ap (λ u. with_word (word_of o x u) go) e1))
-  form_runs (Exchanged o) code end reg b on p x rest regs w t le has right small is h =
+  form_runs (Exchanged o) place code end reg b on p x rest regs w t le has right small is h =
       let q : ℕ = end p in
       let to : ℕ = k.node (suc q) in
       let i : Instruction = Bin o to (reg q) on in
       let hb : HasAt ir f p (code p ++ i ∷ rest) = simp append_assoc at h in
       let hq : HasAt ir f q (i ∷ rest) = has p (i ∷ rest) hb in
       gives_then (word_at (reg q)) (word_at to) p q (suc q) regs w t (b w t)
-      (λ y w t. or_trap (word_of o y x) trap.Divide w t) (le p) (omega arith)
+      (λ y w t. or_trap (word_of o y x) (placed_trap trap.Divide place) w t) (le p) (omega arith)
       (right p (i ∷ rest) (omega arith) hb)
       (λ y w1 t1 regs1 s1 e1. let go : ℤ → Move = λ v.
       Goes (Here f (suc q) (put_register regs1 to v) below w1 t1) in
-      last_gives q (word_of o y x) regs1 w1 t1 (ap (λ i. act ir i f q regs1 below w1 t1) hq.0
+      last_gives q place (word_of o y x) regs1 w1 t1 (ap (λ i. act ir i f q regs1 below w1 t1) hq.0
       ∙ ap (λ u. with_word (word_of o (register_at regs1 (reg q)) u) go) (s1 on small ∙ is)
       ∙ ap (λ u. with_word (word_of o u x) go) e1))

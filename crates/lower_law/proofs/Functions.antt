@@ -227,8 +227,8 @@ module _ (ir : Ir) (m f : ℕ) (k : Context) (rises : (p q : ℕ) → p < q → 
 abbrev pub Returns : Ir → (m f q : ℕ) → List Frame → List ℤ → PoolMap → ℕ → Out ℤ → Type 0
 Returns ir m f q below regs w t (Got v w' t') =
     Path ir m (Here f 0 regs below w t) (gives below v w' t') 0 t q t'
-Returns ir m f q below regs w t (Stops k) =
-    Path ir m (Here f 0 regs below w t) (Ends (Trapped k)) 0 t q 0
+Returns ir m f q below regs w t (Stops stop) =
+    Path ir m (Here f 0 regs below w t) (Ends (Trapped stop.kind)) 0 t q 0
 
 more_returns : (ir : Ir) (m f q q' : ℕ) (below : List Frame) (regs : List ℤ) (w : PoolMap) (t : ℕ)
     (o : Out ℤ) → q ≤ q' → Returns ir m f q below regs w t o → Returns ir m f q' below regs w t o
@@ -369,12 +369,12 @@ module _ (t : Tables) (tree : Program) (ir : Ir) (m : ℕ) (fits : ProgramFits t
 
   calls_run : (room f : ℕ) (below : List Frame) → room + suc (length below) ≡ 256
       → CallsRun t ir m f below (calls_of t room)
-  calls_run zero f below e to g fn rs p regs w n is st =
+  calls_run zero f below e place to g fn rs p regs w n is st =
       path_more (omega arith) (path_ends 0 n
       (opened f g to p below regs (map (register_at regs) rs) w n (lowered_function t tree fn)
       false (ap (λ i. act ir i f p regs below w n) st) (fits.stands g fn is)
       (limit_reached (length below) e)))
-  calls_run (suc room) f below e to g fn rs p regs w n is st =
+  calls_run (suc room) f below e place to g fn rs p regs w n is st =
       let args : List ℤ = map (register_at regs) rs in
       let above : List Frame = frame f (suc p) regs to ∷ below in
       entered_at f g to p below regs args w n (function_value t (calls_of t room) fn args w n)
@@ -392,8 +392,9 @@ module _ (t : Tables) (tree : Program) (ir : Ir) (m : ℕ) (fits : ProgramFits t
   ends_by f args w n (Got v w' t') r =
       past ir ((n + 1) * m) (code_start f args w n) r.n (Ended w' v t') r.comes
       (omega (arith, r.cost))
-  ends_by f args w n (Stops k) r =
-      past ir ((n + 1) * m) (code_start f args w n) r.n (Trapped k) r.comes (omega (arith, r.cost))
+  ends_by f args w n (Stops stop) r =
+      past ir ((n + 1) * m) (code_start f args w n) r.n (Trapped stop.kind) r.comes
+      (omega (arith, r.cost))
 
   pub ends_within : (g : ℕ) (fn : FunctionTree) (args : List ℤ) (w : PoolMap) (n : ℕ)
       → slice_get t.functions g ≡ Some fn → exec ir ((n + 1) * m) (code_start g args w n)

@@ -230,7 +230,7 @@ module _ (ir : Ir) (f : ℕ) where
           ++ back)) (simp append_assoc at h) in
           stmt_has (inner_variables v) b out again (suc p2) rest
           (stmt_has (inner_variables v) a out again (suc p1) back hc.1).1
-      stmt_has v (stmt.While c a) out again p rest h =
+      stmt_has v (stmt.While place c a) out again p rest h =
           let p1 : ℕ = exp_end c (suc p) in
           let p2 : ℕ = stmt_end a (suc p1) in
           let i : Instruction = Branch (reg_of k v c p1) (suc p2) in
@@ -239,7 +239,7 @@ module _ (ir : Ir) (f : ℕ) where
           ∷ (stmt_code k (inner_variables v) a (suc p2) p (suc p1) ++ j ∷ rest))
           (simp append_assoc at h.1) in
           (stmt_has (inner_variables v) a (suc p2) p (suc p1) (j ∷ rest) hc.1).1
-      stmt_has v (stmt.For first c third a) out again p rest h =
+      stmt_has v (stmt.For place first c third a) out again p rest h =
           let u : Variables = variables_after_first k first p (inner_variables v) in
           let p0 : ℕ = first_end first p in
           let p1 : ℕ = or_end c (suc p0) in

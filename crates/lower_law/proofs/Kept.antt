@@ -150,8 +150,8 @@ module _ (n : ℕ) (k : Context) (from : (q : ℕ) → n ≤ k.node q) where
     statement_agrees v es (stmt.Block all) p agrees fits = agrees
     statement_agrees v es (stmt.If c a) p agrees fits = agrees
     statement_agrees v es (stmt.IfElse c a b) p agrees fits = agrees
-    statement_agrees v es (stmt.While c a) p agrees fits = agrees
-    statement_agrees v es (stmt.For first c third a) p agrees fits = agrees
+    statement_agrees v es (stmt.While place c a) p agrees fits = agrees
+    statement_agrees v es (stmt.For place first c third a) p agrees fits = agrees
     statement_agrees v es stmt.Break p agrees fits = agrees
     statement_agrees v es stmt.Continue p agrees fits = agrees
     statement_agrees v es (stmt.Return place value) p agrees fits = agrees
@@ -173,9 +173,9 @@ module _ (n : ℕ) (k : Context) (from : (q : ℕ) → n ≤ k.node q) where
     after_spares es (stmt.If c a) p f g part h = spares_part n es f g (λ name e. part name refl e) h
     after_spares es (stmt.IfElse c a b) p f g part h =
         spares_part n es f g (λ name e. part name refl e) h
-    after_spares es (stmt.While c a) p f g part h =
+    after_spares es (stmt.While place c a) p f g part h =
         spares_part n es f g (λ name e. part name refl e) h
-    after_spares es (stmt.For first c third a) p f g part h =
+    after_spares es (stmt.For place first c third a) p f g part h =
         spares_part n es f g (λ name e. part name refl e) h
     after_spares es stmt.Break p f g part h = spares_part n es f g (λ name e. part name refl e) h
     after_spares es stmt.Continue p f g part h = spares_part n es f g (λ name e. part name refl e) h
@@ -222,7 +222,7 @@ module _ (n : ℕ) (k : Context) (from : (q : ℕ) → n ≤ k.node q) where
                       h),
                 ),
           )
-      stmt_leaves v es (stmt.While c a) out again p agrees fits h =
+      stmt_leaves v es (stmt.While place c a) out again p agrees fits h =
           let p1 : ℕ = exp_end c (suc p) in
           let p2 : ℕ = stmt_end a (suc p1) in (
             tt,
@@ -233,14 +233,14 @@ module _ (n : ℕ) (k : Context) (from : (q : ℕ) → n ≤ k.node q) where
                   (tt, tt),
             ),
           )
-      stmt_leaves v es (stmt.For first c third a) out again p agrees fits h =
+      stmt_leaves v es (stmt.For place first c third a) out again p agrees fits h =
           let u : Variables = variables_after_first k first p (inner_variables v) in
           let us : List Entry = first_entries k ir first p es in
           let p0 : ℕ = first_end first p in
           let p1 : ℕ = or_end c (suc p0) in
           let p2 : ℕ = stmt_end a (suc p1) in
           let p3 : ℕ = third_end third p2 in
-          let all : List ℕ → Bool = λ y. assigns_name y (stmt.For first c third a) in
+          let all : List ℕ → Bool = λ y. assigns_name y (stmt.For place first c third a) in
           let known : Agrees u us = first_agrees (inner_variables v) es first p agrees fits.0 in
           both_leave n (first_code k (inner_variables v) first p) _
           (first_leaves (inner_variables v) es first p agrees fits.0
@@ -318,8 +318,8 @@ module _ (n : ℕ) (k : Context) (from : (q : ℕ) → n ≤ k.node q) where
           own y (stmt.Block all) a b e = ap (λ (c : Bool). if c then true else b) e
           own y (stmt.If c d) a b e = ap (λ (c : Bool). if c then true else b) e
           own y (stmt.IfElse c d f) a b e = ap (λ (c : Bool). if c then true else b) e
-          own y (stmt.While c d) a b e = ap (λ (c : Bool). if c then true else b) e
-          own y (stmt.For first c third d) a b e = ap (λ (c : Bool). if c then true else b) e
+          own y (stmt.While place c d) a b e = ap (λ (c : Bool). if c then true else b) e
+          own y (stmt.For place first c third d) a b e = ap (λ (c : Bool). if c then true else b) e
           own y stmt.Break a b e = absurd (false_true e)
           own y stmt.Continue a b e = absurd (false_true e)
           own y (stmt.Return place value) a b e = absurd (false_true e)

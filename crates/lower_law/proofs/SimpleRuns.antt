@@ -27,6 +27,7 @@ use Rattle.c_meaning.specs.Meaning.{Out, Got, Stops, StmtEnd, Next, Broke, Again
 use Rattle.c_meaning.specs.Meaning.{Calls, then_do, with_value, then_next, or_trap, loaded, at_zero}
 use Rattle.c_meaning.specs.Meaning.{value_of, pointer_of, operands_of, stored_end, assign_to}
 use Rattle.c_meaning.specs.Meaning.{update, target_local, freed, declaration_end, condition_of}
+use Rattle.c_meaning.specs.Meaning.{placed_trap, at_target, at_place, located}
 use Rattle.c_meaning.specs.Meaning.{return_end, in_scope, after_turn, turns, end_of_stmt, ends_of}
 use Rattle.ir.specs.declared.instruction.Target.{Target}
 use Rattle.ir.specs.declared.instruction.Instruction.{Instruction}
@@ -228,16 +229,16 @@ module _ (ir : Ir) (m f : ℕ) (k : Context) (rises : (p q : ℕ) → p < q → 
     operands_word (expr.Binary u place a b) p s fits = absurd fits
 
     -- the checks and the store, after the operands
-    pub store_at : (out again q : ℕ) (L : List Local → List ℤ → Type 0) (e : ExprTree) (x : Target)
-        (o : ℤ × Option ℤ) (r line : ℕ) (u : ℤ) (ls : List Local) (regs : List ℤ) (w : PoolMap)
-        (t : ℕ) → WordFits k.tables ir.shapes es e x
+    pub store_at : (out again q : ℕ) (L : List Local → List ℤ → Type 0) (target e : ExprTree)
+        (x : Target) (o : ℤ × Option ℤ) (r line : ℕ) (u : ℤ) (ls : List Local) (regs : List ℤ)
+        (w : PoolMap) (t : ℕ) → WordFits k.tables ir.shapes es e x
         → operands_at ir m f k rises below calls run x regs o → register_at regs r ≡ u
         → At ir f q (Store x r line) → Holds es ls regs
         → Runs ir m f k rises below calls run out again (suc q) q q (suc q) (Holds es) L regs w t
-        (stored_end (word_named k.tables ls w e o.0 o.1) u ls w t)
-    store_at out again q L e x o r line u ls regs w t fits is eu st held =
+        (stored_end (at_target target (word_named k.tables ls w e o.0 o.1)) u ls w t)
+    store_at out again q L target e x o r line u ls regs w t fits is eu st held =
         let go : ℤ → Spot → Move = λ c a. Goes (Here f (suc q) regs below (store_spot w a c) t) in
-        store_runs ir m f k rises below calls run out again q (Holds es) L
+        store_runs ir m f k rises below calls run out again q (Holds es) L target
         (word_named k.tables ls w e o.0 o.1) u ls regs w t held
         (ap (λ i. act ir i f q regs below w t) st
         ∙ ap (λ c. with_ok (spot_of ir.shapes w x c (index_in regs x)) (go (register_at regs r)))
@@ -288,16 +289,16 @@ module _ (ir : Ir) (m f : ℕ) (k : Context) (rises : (p q : ℕ) → p < q → 
         again (suc p2) p p1 (suc p2) (Holds es) L regs w t
         (operands_of k.tables calls target ls w t)
         (λ o w t. with_value (value_of k.tables calls value ls w t)
-        (λ u w t. stored_end (word_named k.tables ls w (target_field target) o.0 o.1) u ls w t))
+        (λ u w t. stored_end (located k.tables ls w target o.0 o.1) u ls w t))
         (omega (arith, le1)) (operands_run target p (exp_code k v value p1 ++ i ∷ rest) ls regs w
         t s fits ha held)
         (λ o w1 t1 regs1 f1 s1 e1. value_then ir m f k rises below calls run (λ regs u.
         register_at regs rv ≡ u) out again (suc p2) p1 p2 (suc p2) (Holds es) L regs1 w1 t1
         (value_of k.tables calls value ls w1 t1)
-        (λ u w t. stored_end (word_named k.tables ls w (target_field target) o.0 o.1) u ls w t)
+        (λ u w t. stored_end (located k.tables ls w target o.0 o.1) u ls w t)
         (omega arith) (exp_gives value p1 (i ∷ rest) ls regs1 w1 t1 (scoped_after p p1 le s) fits1
         hv (held_at p ls regs regs1 s s1 held))
-        (λ u w2 t2 regs2 f2 s2 e2. store_at out again p2 L (target_field target) x o rv
+        (λ u w2 t2 regs2 f2 s2 e2. store_at out again p2 L target (target_field target) x o rv
         (source_line k.tree place) u ls regs2 w2 t2 (operands_word target p s fits)
         (operands_kept target p regs1 regs2 o s fits s2 e1) e2 hi.0
         (held_at p1 ls regs1 regs2 (scoped_after p p1 le s) s2
@@ -313,7 +314,7 @@ module _ (ir : Ir) (m f : ℕ) (k : Context) (rises : (p q : ℕ) → p < q → 
         → Holds es ls regs
         → Runs ir m f k rises below calls run out again (update_end name target value p) p p
         (update_end name target value p) (Holds es) L regs w t
-        (update k.tables calls (option_map (λ (n : Ident). n.text) name) target b
+        (update k.tables calls (option_map (λ (n : Ident). n.text) name) target b place
         (λ w t. or_value k calls (pos 1) value ls w t) ls w t)
     update_runs (Some name) target place b o value out again p rest ls L regs w t same s fits
         fits1 h held =
@@ -332,7 +333,8 @@ module _ (ir : Ir) (m f : ℕ) (k : Context) (rises : (p q : ℕ) → p < q → 
         register_found v es name.text fits.0 s.agrees fits.1 in
         value_then ir m f k rises below calls run (λ regs y. register_at regs rv ≡ y) out again q p
         p1 q (Holds es) L regs w t (or_value k calls (pos 1) value ls w t)
-        (λ y w t. with_value (or_trap (binary_of b (value_named name.text ls) y) trap.Divide w t)
+        (λ y w t. with_value (or_trap (binary_of b (value_named name.text ls) y)
+        (placed_trap trap.Divide place) w t)
         (λ u w t. Next (assigned name.text u ls) w t)) (omega arith)
         (or_gives (pos 1) value p (i ∷ j ∷ rest) ls regs w t s fits1 ha held)
         (λ y w1 t1 regs1 f1 s1 e1. let held1 : Holds es ls regs1 = held_at p ls regs regs1 s
@@ -342,9 +344,10 @@ module _ (ir : Ir) (m f : ℕ) (k : Context) (rises : (p q : ℕ) → p < q → 
         ap (register_at regs1) found ∙ value_held name.text es ls regs1 fits.0 held1 fits.1 in
         let go : ℤ → Move = λ u. Goes (Here f (suc p1) (put_register regs1 to u) below w1 t1) in
         value_then ir m f k rises below calls run (λ regs u. register_at regs to ≡ u) out again q p1
-        (suc p1) q (Holds es) L regs1 w1 t1 (or_trap (binary_of b x y) trap.Divide w1 t1)
+        (suc p1) q (Holds es) L regs1 w1 t1
+        (or_trap (binary_of b x y) (placed_trap trap.Divide place) w1 t1)
         (λ u w t. Next (assigned name.text u ls) w t) (omega arith)
-        (last_gives ir m f k rises below p1 (binary_of b x y) regs1 w1 t1
+        (last_gives ir m f k rises below p1 place (binary_of b x y) regs1 w1 t1
         (ap (λ i. act ir i f p1 regs1 below w1 t1) hi.0
         ∙ ap (λ c. with_word (word_of o c (register_at regs1 rv)) go) ex
         ∙ ap (λ c. with_word (word_of o x c) go) e1 ∙ ap (λ c. with_word c go) (sym (same x y))))
@@ -380,42 +383,44 @@ module _ (ir : Ir) (m f : ℕ) (k : Context) (rises : (p q : ℕ) → p < q → 
         let e : ExprTree = target_field target in
         value_then ir m f k rises below calls run (operands_at ir m f k rises below calls run x) out
         again q p p1 q (Holds es) L regs w t (operands_of k.tables calls target ls w t)
-        (λ z w t. with_value (loaded (word_named k.tables ls w e z.0 z.1) w t)
+        (λ z w t. with_value (loaded (located k.tables ls w target z.0 z.1) w t)
         (λ x w t. with_value (or_value k calls (pos 1) value ls w t)
-        (λ y w t. with_value (or_trap (binary_of b x y) trap.Divide w t)
-        (λ u w t. stored_end (word_named k.tables ls w e z.0 z.1) u ls w t))))
+        (λ y w t. with_value (or_trap (binary_of b x y) (placed_trap trap.Divide place) w t)
+        (λ u w t. stored_end (located k.tables ls w target z.0 z.1) u ls w t))))
         (omega (arith, le1)) (operands_run target p later ls regs w t s fits ha held)
         (λ z w1 t1 regs1 f1 s1 e1. let held1 : Holds es ls regs1 = held_at p ls regs regs1 s
         s1 held in
         value_then ir m f k rises below calls run (λ regs x. register_at regs got ≡ x) out again q
         p1 (suc p1) q (Holds es) L regs1 w1 t1
-        (loaded (word_named k.tables ls w1 e z.0 z.1) w1 t1)
+        (loaded (located k.tables ls w1 target z.0 z.1) w1 t1)
         (λ x w t. with_value (or_value k calls (pos 1) value ls w t)
-        (λ y w t. with_value (or_trap (binary_of b x y) trap.Divide w t)
-        (λ u w t. stored_end (word_named k.tables ls w e z.0 z.1) u ls w t))) (omega (arith, le1))
-        (field_gives ir m f k rises below es ls p1 e x z.0 z.1 regs1 w1 t1
+        (λ y w t. with_value (or_trap (binary_of b x y) (placed_trap trap.Divide place) w t)
+        (λ u w t. stored_end (located k.tables ls w target z.0 z.1) u ls w t))) (omega (arith, le1))
+        (field_gives ir m f k rises below es ls p1 target e x z.0 z.1 regs1 w1 t1
         (operands_word target p s fits) e1.0 e1.1 hl.0 held1)
         (λ c w2 t2 regs2 f2 s2 e2. let held2 : Holds es ls regs2 = held_at p1 ls regs1 regs2 sp1
         s2 held1 in
         value_then ir m f k rises below calls run (λ regs y. register_at regs rv ≡ y) out again q
         (suc p1) p2 q (Holds es) L regs2 w2 t2 (or_value k calls (pos 1) value ls w2 t2)
-        (λ y w t. with_value (or_trap (binary_of b c y) trap.Divide w t)
-        (λ u w t. stored_end (word_named k.tables ls w e z.0 z.1) u ls w t)) (omega arith)
+        (λ y w t. with_value (or_trap (binary_of b c y) (placed_trap trap.Divide place) w t)
+        (λ u w t. stored_end (located k.tables ls w target z.0 z.1) u ls w t)) (omega arith)
         (or_gives (pos 1) value (suc p1) (i ∷ j ∷ rest) ls regs2 w2 t2 sp2 fits1 hl.1 held2)
         (λ y w3 t3 regs3 f3 s3 e3. let held3 : Holds es ls regs3 = held_at (suc p1) ls regs2 regs3
         sp2 s3 held2 in
         let ec : register_at regs3 got ≡ c = s3 got (omega arith) ∙ e2 in
         let go : ℤ → Move = λ u. Goes (Here f (suc p2) (put_register regs3 to u) below w3 t3) in
         value_then ir m f k rises below calls run (λ regs u. register_at regs to ≡ u) out again q p2
-        (suc p2) q (Holds es) L regs3 w3 t3 (or_trap (binary_of b c y) trap.Divide w3 t3)
-        (λ u w t. stored_end (word_named k.tables ls w e z.0 z.1) u ls w t) (omega arith)
-        (last_gives ir m f k rises below p2 (binary_of b c y) regs3 w3 t3
+        (suc p2) q (Holds es) L regs3 w3 t3
+        (or_trap (binary_of b c y) (placed_trap trap.Divide place) w3 t3)
+        (λ u w t. stored_end (located k.tables ls w target z.0 z.1) u ls w t) (omega arith)
+        (last_gives ir m f k rises below p2 place (binary_of b c y) regs3 w3 t3
         (ap (λ i. act ir i f p2 regs3 below w3 t3) hi.0
         ∙ ap (λ d. with_word (word_of o d (register_at regs3 rv)) go) ec
         ∙ ap (λ d. with_word (word_of o c d) go) e3 ∙ ap (λ d. with_word d go) (sym (same c y))))
         (λ u w4 t4 regs4 f4 s4 e4. let s14 : Same (k.node p1) regs1 regs4 = λ r small.
         s4 r (omega (arith, small, up, up2)) ∙ s3 r (omega (arith, small, up)) ∙ s2 r small in
-        store_at out again (suc p2) L e x z to line u ls regs4 w4 t4 (operands_word target p s fits)
+        store_at out again (suc p2) L target e x z to line u ls regs4 w4 t4
+        (operands_word target p s fits)
         (operands_kept target p regs1 regs4 z s fits s14 e1) e4 hi.1.0
         (held_at p1 ls regs1 regs4 sp1 s14 held1)))))
 
@@ -440,7 +445,8 @@ module _ (ir : Ir) (m f : ℕ) (k : Context) (rises : (p q : ℕ) → p < q → 
         Runs ir m f k rises below calls run out again
         (update_end (variable_of target) target (Some value) p) p p
         (update_end (variable_of target) target (Some value) p) (Holds es) L regs w t
-        (update k.tables calls o target binary.Add (λ w t. value_of k.tables calls value ls w t)
+        (update k.tables calls o target binary.Add place
+        (λ w t. value_of k.tables calls value ls w t)
         ls w t)) (sym (local_is target))
         (update_runs (variable_of target) target place binary.Add op.Add (Some value) out again p
         rest ls L regs w t (λ x y. refl) s fits.0 fits.1 h held)
@@ -450,7 +456,8 @@ module _ (ir : Ir) (m f : ℕ) (k : Context) (rises : (p q : ℕ) → p < q → 
         Runs ir m f k rises below calls run out again
         (update_end (variable_of target) target (Some value) p) p p
         (update_end (variable_of target) target (Some value) p) (Holds es) L regs w t
-        (update k.tables calls o target binary.Sub (λ w t. value_of k.tables calls value ls w t)
+        (update k.tables calls o target binary.Sub place
+        (λ w t. value_of k.tables calls value ls w t)
         ls w t)) (sym (local_is target))
         (update_runs (variable_of target) target place binary.Sub op.Sub (Some value) out again p
         rest ls L regs w t (λ x y. refl) s fits.0 fits.1 h held)
@@ -459,7 +466,7 @@ module _ (ir : Ir) (m f : ℕ) (k : Context) (rises : (p q : ℕ) → p < q → 
         Runs ir m f k rises below calls run out again
         (update_end (variable_of target) target None p) p p
         (update_end (variable_of target) target None p) (Holds es) L regs w t
-        (update k.tables calls o target binary.Add (λ w t. Got (pos 1) w t) ls w t))
+        (update k.tables calls o target binary.Add place (λ w t. Got (pos 1) w t) ls w t))
         (sym (local_is target))
         (update_runs (variable_of target) target place binary.Add op.Add None out again p rest ls L
         regs w t (λ x y. refl) s fits tt h held)
@@ -469,7 +476,7 @@ module _ (ir : Ir) (m f : ℕ) (k : Context) (rises : (p q : ℕ) → p < q → 
         Runs ir m f k rises below calls run out again
         (update_end (variable_of target) target None p) p p
         (update_end (variable_of target) target None p) (Holds es) L regs w t
-        (update k.tables calls o target binary.Sub (λ w t. Got (pos 1) w t) ls w t))
+        (update k.tables calls o target binary.Sub place (λ w t. Got (pos 1) w t) ls w t))
         (sym (local_is target))
         (update_runs (variable_of target) target place binary.Sub op.Sub None out again p rest ls L
         regs w t (λ x y. refl) s fits tt h held)
@@ -491,11 +498,11 @@ module _ (ir : Ir) (m f : ℕ) (k : Context) (rises : (p q : ℕ) → p < q → 
         let hi : HasAt ir f q (i ∷ rest) = exp_has ir f k v pointer p (i ∷ rest) ha in
         value_then ir m f k rises below calls run (λ regs x. register_at regs rp ≡ x) out again
         (suc q) p q (suc q) (Holds es) L regs w t (value_of k.tables calls pointer ls w t)
-        (λ b w t. freed (free_object k.tables ls w pointer b) ls t) (omega arith)
+        (λ b w t. freed (at_place place (free_object k.tables ls w pointer b)) ls t) (omega arith)
         (exp_gives pointer p (i ∷ rest) ls regs w t s fits.0 ha held)
         (λ b w1 t1 regs1 f1 s1 e1. let held1 : Holds es ls regs1 = held_at p ls regs regs1 s
         s1 held in
-        free_runs ir m f k rises below calls run out again q (Holds es) L
+        free_runs ir m f k rises below calls run out again q (Holds es) L place
         (free_object k.tables ls w1 pointer b) ls regs1 w1 t1 held1
         (ap (λ i. act ir i f q regs1 below w1 t1) hi.0
         ∙ ap (λ c. with_ok (free_in w1 kind c) (λ w. Goes (Here f (suc q) regs1 below w t1))) e1

@@ -91,8 +91,8 @@ module _ (k : Context) (ir : Ir) where
   entries_after (stmt.Block all) p es = es
   entries_after (stmt.If c a) p es = es
   entries_after (stmt.IfElse c a b) p es = es
-  entries_after (stmt.While c a) p es = es
-  entries_after (stmt.For first c third a) p es = es
+  entries_after (stmt.While place c a) p es = es
+  entries_after (stmt.For place first c third a) p es = es
   entries_after stmt.Break p es = es
   entries_after stmt.Continue p es = es
   entries_after (stmt.Return place value) p es = es
@@ -108,9 +108,9 @@ module _ (k : Context) (ir : Ir) where
     StmtFits v es (stmt.IfElse c a b) p =
         ExpFits k ir v es c × StmtFits (inner_variables v) es a (suc (exp_end c p))
         × StmtFits (inner_variables v) es b (suc (stmt_end a (suc (exp_end c p))))
-    StmtFits v es (stmt.While c a) p =
+    StmtFits v es (stmt.While place c a) p =
         ExpFits k ir v es c × StmtFits (inner_variables v) es a (suc (exp_end c (suc p)))
-    StmtFits v es (stmt.For first c third a) p =
+    StmtFits v es (stmt.For place first c third a) p =
         let u : Variables = variables_after_first k first p (inner_variables v) in
         let us : List Entry = first_entries first p es in
         FirstFits (inner_variables v) es first × OrFits u us c × ThirdFits u us third

@@ -99,12 +99,13 @@ module _ (ir : Ir) (m f : ℕ) (k : Context) (rises : (p q : ℕ) → p < q → 
   scoped_from_after v es (stmt.IfElse c a b) p s fits =
       scoped_after ir m f k rises below calls run v es p (stmt_end (stmt.IfElse c a b) p)
       (stmt_end_le (stmt.IfElse c a b) p) s
-  scoped_from_after v es (stmt.While c a) p s fits =
-      scoped_after ir m f k rises below calls run v es p (stmt_end (stmt.While c a) p)
-      (stmt_end_le (stmt.While c a) p) s
-  scoped_from_after v es (stmt.For first c third a) p s fits =
-      scoped_after ir m f k rises below calls run v es p (stmt_end (stmt.For first c third a) p)
-      (stmt_end_le (stmt.For first c third a) p) s
+  scoped_from_after v es (stmt.While place c a) p s fits =
+      scoped_after ir m f k rises below calls run v es p (stmt_end (stmt.While place c a) p)
+      (stmt_end_le (stmt.While place c a) p) s
+  scoped_from_after v es (stmt.For place first c third a) p s fits =
+      scoped_after ir m f k rises below calls run v es p
+      (stmt_end (stmt.For place first c third a) p)
+      (stmt_end_le (stmt.For place first c third a) p) s
   scoped_from_after v es stmt.Break p s fits =
       scoped_after ir m f k rises below calls run v es p (suc p) (omega arith) s
   scoped_from_after v es stmt.Continue p s fits =
@@ -122,8 +123,8 @@ module _ (ir : Ir) (m f : ℕ) (k : Context) (rises : (p q : ℕ) → p < q → 
   over_after (stmt.Block all) p es ls regs h = h
   over_after (stmt.If c a) p es ls regs h = h
   over_after (stmt.IfElse c a b) p es ls regs h = h
-  over_after (stmt.While c a) p es ls regs h = h
-  over_after (stmt.For first c third a) p es ls regs h = h
+  over_after (stmt.While place c a) p es ls regs h = h
+  over_after (stmt.For place first c third a) p es ls regs h = h
   over_after stmt.Break p es ls regs h = h
   over_after stmt.Continue p es ls regs h = h
   over_after (stmt.Return place value) p es ls regs h = h
@@ -295,7 +296,7 @@ module _ (ir : Ir) (m f : ℕ) (k : Context) (rises : (p q : ℕ) → p < q → 
           hb.0 (body_of es a out again (suc p1) ls regs1 w1 t1 held1
           (stmt_runs (inner_variables v) es a out again (suc p1) back ls regs1 w1 t1 s1 fits.1
           hc.1 held1))))
-      stmt_runs v es (stmt.While c a) out again p rest ls regs w t s fits h held =
+      stmt_runs v es (stmt.While place c a) out again p rest ls regs w t s fits h held =
           let p1 : ℕ = exp_end c (suc p) in
           let p2 : ℕ = stmt_end a (suc p1) in
           let q : ℕ = suc p2 in
@@ -313,7 +314,8 @@ module _ (ir : Ir) (m f : ℕ) (k : Context) (rises : (p q : ℕ) → p < q → 
           let s1 : Scoped ir m f k rises below calls run (inner_variables v) es (suc p1) =
           scoped_inside v es (suc p1) (scoped_after ir m f k rises below calls run v es p (suc p1)
           (omega (arith, le)) s) in
-          loop_runs ir m f k rises below calls run out again p p1 p q q rc (Holds es) (Over es)
+          loop_runs ir m f k rises below calls run place out again p p1 p q q rc (Holds es)
+          (Over es)
           (λ ls w t. value_of k.tables calls c ls w t) (λ ls w t.
           in_scope (length ls) (end_of_stmt k.tables calls a ls w t)) (λ ls w t. Next ls w t) le
           (omega (arith, le1)) (omega arith) (small p2 (Jump p) hj.0) h.0 hc.0
@@ -330,7 +332,7 @@ module _ (ir : Ir) (m f : ℕ) (k : Context) (rises : (p q : ℕ) → p < q → 
           (λ ls regs w t held. still_at ir m f k rises below calls run out again p q (Holds es)
           (Over es) ls regs w t held)
           t ls regs w t (omega arith) held
-      stmt_runs v es (stmt.For first c third a) out again p rest ls regs w t s fits h held =
+      stmt_runs v es (stmt.For place first c third a) out again p rest ls regs w t s fits h held =
           let u : Variables = variables_after_first k first p (inner_variables v) in
           let us : List Entry = first_entries k ir first p es in
           let p0 : ℕ = first_end first p in
@@ -371,7 +373,7 @@ module _ (ir : Ir) (m f : ℕ) (k : Context) (rises : (p q : ℕ) → p < q → 
           let then_third : List Local → PoolMap → ℕ → StmtEnd =
           λ ls w t. meaning.end_of_third k.tables calls third ls w t in
           let go : List Local → PoolMap → ℕ → StmtEnd =
-          λ ls w t. turns t test body then_third ls w t in
+          λ ls w t. turns t place test body then_third ls w t in
           widen out again q p p q es regs w t
           (in_scope (length ls) (then_next (meaning.end_of_first k.tables calls first ls w t) go))
           (leave_scope out again q p p q es ls regs (Holds us) regs w t
@@ -381,7 +383,8 @@ module _ (ir : Ir) (m f : ℕ) (k : Context) (rises : (p q : ℕ) → p < q → 
           (Over es) regs w t (meaning.end_of_first k.tables calls first ls w t) go
           (omega (arith, le, le1, le2)) (first_runs (inner_variables v) es first out again p all
           ls regs w t (scoped_inside v es p s) fits.0 ha held)
-          (λ ls1 w1 t1 regs1 f1 held1. loop_runs ir m f k rises below calls run out again p0 p1 p2
+          (λ ls1 w1 t1 regs1 f1 held1. loop_runs ir m f k rises below calls run place out again p0
+          p1 p2
           p2 q rc (Holds us) (Over es) test body then_third le (omega (arith, le1, le2))
           (omega (arith, le2)) (small p3 (Jump p0) hj.0) hf.0 hc.0
           (λ ls regs w t held. subst (λ (o : Out ℤ).

@@ -13,7 +13,8 @@ use Rattle.pool_map.specs.Checks.{is_zero}
 use Rattle.c_meaning.specs.Access.{write_word as store_word}
 use Rattle.c_meaning.specs.Meaning.{Out, Got, Stops, StmtEnd, Next, Broke, Again, Gave, Traps}
 use Rattle.c_meaning.specs.Meaning.{Calls, with_value, then_next, at_zero, value_of, stored_end}
-use Rattle.c_meaning.specs.Meaning.{target_local, freed, in_scope, after_turn, turns}
+use Rattle.c_meaning.specs.Meaning.{target_local, freed, in_scope, after_turn, turns, at_target}
+use Rattle.c_meaning.specs.Meaning.{at_place}
 use Rattle.ir.specs.declared.instruction.Target.{Target}
 use Rattle.ir.specs.declared.instruction.Instruction.TheVariants.{Jump, Branch, Tick}
 use Rattle.ir.specs.declared.function.Ir.{Ir}
@@ -73,8 +74,8 @@ module _ (ir : Ir) (m f : ℕ) (k : Context) (rises : (p q : ℕ) → p < q → 
   Runs out again next s p q N L regs w t (Again ls w' t') = Came again s p q (L ls) regs w t w' t'
   Runs out again next s p q N L regs w t (Gave v w' t') =
       Path ir m (Here f s regs below w t) (gives below v w' t') p t q t'
-  Runs out again next s p q N L regs w t (Traps trap) =
-      Path ir m (Here f s regs below w t) (Ends (Trapped trap)) p t q 0
+  Runs out again next s p q N L regs w t (Traps stop) =
+      Path ir m (Here f s regs below w t) (Ends (Trapped stop.kind)) p t q 0
 
   pub runs_then : (out again next s s1 p p1 q : ℕ) (N L : List Local → List ℤ → Type 0)
       (regs regs1 : List ℤ) (w w1 : PoolMap) (t t1 : ℕ)
@@ -293,7 +294,7 @@ module _ (ir : Ir) (m f : ℕ) (k : Context) (rises : (p q : ℕ) → p < q → 
 
   -- a loop: its tick at p, its condition up to p1, then its body, after which the run reaches c,
   -- and its third part, which leads back to p; q is the loop's end
-  pub loop_runs : (out again p p1 c c1 q r : ℕ) (N L : List Local → List ℤ → Type 0)
+  pub loop_runs : (place out again p p1 c c1 q r : ℕ) (N L : List Local → List ℤ → Type 0)
       (test : List Local → PoolMap → ℕ → Out ℤ) (body third : List Local → PoolMap → ℕ → StmtEnd)
       → suc p ≤ p1 → suc p1 ≤ q → c1 ≤ q → q ≤ m → At ir f p Tick → At ir f p1 (Branch r q)
       → ((ls : List Local) (regs : List ℤ) (w : PoolMap) (t : ℕ) → N ls regs
@@ -306,20 +307,21 @@ module _ (ir : Ir) (m f : ℕ) (k : Context) (rises : (p q : ℕ) → p < q → 
       → ((ls : List Local) (regs : List ℤ) (w : PoolMap) (t : ℕ) → N ls regs
       → Runs out again p c c1 q N L regs w t (third ls w t))
       → (n : ℕ) (ls : List Local) (regs : List ℤ) (w : PoolMap) (t : ℕ) → t ≤ n → N ls regs
-      → Runs out again q p p q N L regs w t (turns n test body third ls w t)
-  loop_runs out again p p1 c c1 q r N L test body third le le1 le2 small st st1 tests kept bodies
-      thirds zero ls regs w zero tn holds =
+      → Runs out again q p p q N L regs w t (turns n place test body third ls w t)
+  loop_runs place out again p p1 c c1 q r N L test body third le le1 le2 small st st1 tests kept
+      bodies thirds zero ls regs w zero tn holds =
       path_more (omega (arith, le, le1))
       (path_ends p zero (ap (λ i. act ir i f p regs below w zero) st))
-  loop_runs out again p p1 c c1 q r N L test body third le le1 le2 small st st1 tests kept bodies
-      thirds zero ls regs w (suc t) tn holds = absurd (omega (arith, tn))
-  loop_runs out again p p1 c c1 q r N L test body third le le1 le2 small st st1 tests kept bodies
-      thirds (suc n) ls regs w zero tn holds =
+  loop_runs place out again p p1 c c1 q r N L test body third le le1 le2 small st st1 tests kept
+      bodies thirds zero ls regs w (suc t) tn holds = absurd (omega (arith, tn))
+  loop_runs place out again p p1 c c1 q r N L test body third le le1 le2 small st st1 tests kept
+      bodies thirds (suc n) ls regs w zero tn holds =
       path_more (omega (arith, le, le1))
       (path_ends p zero (ap (λ i. act ir i f p regs below w zero) st))
-  loop_runs out again p p1 c c1 q r N L test body third le le1 le2 small st st1 tests kept bodies
-      thirds (suc n) ls regs w (suc t) tn holds =
-      let go : List Local → PoolMap → ℕ → StmtEnd = λ ls w t. turns n test body third ls w t in
+  loop_runs place out again p p1 c c1 q r N L test body third le le1 le2 small st st1 tests kept
+      bodies thirds (suc n) ls regs w (suc t) tn holds =
+      let go : List Local → PoolMap → ℕ → StmtEnd =
+      λ ls w t. turns n place test body third ls w t in
       runs_tick out again q p q N L regs w t
       (with_value (test ls w t) (λ v w t.
       at_zero v (Next ls w t) (after_turn (body ls w t) (λ ls w t. then_next (third ls w t) go))))
@@ -341,22 +343,23 @@ module _ (ir : Ir) (m f : ℕ) (k : Context) (rises : (p q : ℕ) → p < q → 
       (third ls2 w2 t2) go (omega arith) (thirds ls2 regs2 w2 t2 held2)
       (λ ls3 w3 t3 regs3 f3 held3. runs_shift out again q p p q q N L regs3 w3 t3 (go ls3 w3 t3)
       (omega (arith, small))
-      (loop_runs out again p p1 c c1 q r N L test body third le le1 le2 small st st1 tests kept
-      bodies thirds n ls3 regs3 w3 t3 (omega (arith, tn, f1, f2, f3)) held3))))))
+      (loop_runs place out again p p1 c c1 q r N L test body third le le1 le2 small st st1 tests
+      kept bodies thirds n ls3 regs3 w3 t3 (omega (arith, tn, f1, f2, f3)) held3))))))
 
   pub store_same : (w : PoolMap) (a i : ℕ) (x : ℤ)
       → store_word w (Field a i) x ≡ store_spot w (InSlot a i) x
   store_same w a i x = refl
 
-  pub store_runs : (out again p : ℕ) (N L : List Local → List ℤ → Type 0) (o : Result Word TrapKind)
-      (x : ℤ) (ls : List Local) (regs : List ℤ) (w : PoolMap) (t : ℕ) → N ls regs
+  pub store_runs : (out again p : ℕ) (N L : List Local → List ℤ → Type 0) (target : ExprTree)
+      (o : Result Word TrapKind) (x : ℤ) (ls : List Local) (regs : List ℤ) (w : PoolMap) (t : ℕ)
+      → N ls regs
       → instruction_step ir (Here f p regs below w t) ≡ with_ok (spot_in o)
       (λ a. Goes (Here f (suc p) regs below (store_spot w a x) t))
-      → Runs out again (suc p) p p (suc p) N L regs w t (stored_end o x ls w t)
-  store_runs out again p N L (Err trap) x ls regs w t held st = path_ends p t st
-  store_runs out again p N L (Ok (Root i)) x ls regs w t held st =
+      → Runs out again (suc p) p p (suc p) N L regs w t (stored_end (at_target target o) x ls w t)
+  store_runs out again p N L target (Err kind) x ls regs w t held st = path_ends p t st
+  store_runs out again p N L target (Ok (Root i)) x ls regs w t held st =
       record { regs' = regs; path = path_step p t st; holds = held }
-  store_runs out again p N L (Ok (Field a i)) x ls regs w t held st =
+  store_runs out again p N L target (Ok (Field a i)) x ls regs w t held st =
       record {
         regs' = regs;
         path = path_step p t
@@ -365,14 +368,14 @@ module _ (ir : Ir) (m f : ℕ) (k : Context) (rises : (p q : ℕ) → p < q → 
       }
 
   -- an object that is freed
-  pub free_runs : (out again p : ℕ) (N L : List Local → List ℤ → Type 0)
+  pub free_runs : (out again p : ℕ) (N L : List Local → List ℤ → Type 0) (place : ℕ)
       (o : Result PoolMap TrapKind) (ls : List Local) (regs : List ℤ) (w : PoolMap) (t : ℕ)
       → N ls regs
       → instruction_step ir (Here f p regs below w t)
       ≡ with_ok o (λ w. Goes (Here f (suc p) regs below w t))
-      → Runs out again (suc p) p p (suc p) N L regs w t (freed o ls t)
-  free_runs out again p N L (Err trap) ls regs w t held st = path_ends p t st
-  free_runs out again p N L (Ok w') ls regs w t held st =
+      → Runs out again (suc p) p p (suc p) N L regs w t (freed (at_place place o) ls t)
+  free_runs out again p N L place (Err kind) ls regs w t held st = path_ends p t st
+  free_runs out again p N L place (Ok w') ls regs w t held st =
       record { regs' = regs; path = path_step p t st; holds = held }
 
   abbrev pub operands_at : Target → List ℤ → ℤ × Option ℤ → Type 0

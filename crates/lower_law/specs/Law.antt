@@ -18,7 +18,7 @@ use Rattle.code_meaning.specs.Code.{Means}
 -- the end of a run that does what a call does
 abbrev pub call_end : Out ℤ → CodeEnd
 call_end (Got v w t) = Ended w v t
-call_end (Stops k) = Trapped k
+call_end (Stops trap) = Trapped trap.kind
 
 -- Each function, called with n ticks while no other is open, reaches within (n + 1) times the
 -- length of the code the end that its tree means, with value, pool and ticks left or with its trap,

@@ -147,7 +147,11 @@ fn statement<'a>(
                 None => Ok(found),
             }
         }
-        Stmt::While { condition, body } => {
+        Stmt::While {
+            condition,
+            body,
+            ..
+        } => {
             let found = expr(look, scopes, condition);
             unless_found(alloc, look, scopes, found, body)
         }
@@ -156,6 +160,7 @@ fn statement<'a>(
             condition,
             third,
             body,
+            ..
         } => {
             scopes.open(alloc)?;
             let found = head(look, scopes, first, condition, third)?;

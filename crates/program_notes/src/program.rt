@@ -102,7 +102,7 @@ fn too_long(alloc: Global, path: &str, text: &[u8]) -> Result<Option<String>, Al
 
 fn long_text(alloc: Global, path: &str, size: usize) -> Result<String, AllocError> {
     let what = if size > BYTES {
-        format!(in alloc; "{path}: the program has {size} bytes; 262144 is the limit")?
+        format!(in alloc; "{path}: the program has more than 262144 bytes")?
     } else {
         format!(in alloc; "{path}: the program has more than 16384 tokens")?
     };

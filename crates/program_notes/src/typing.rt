@@ -240,7 +240,7 @@ fn count(alloc: Global, limit: LimitKind, value: u64) -> Result<String, AllocErr
         LimitKind::Parameters => ("parameter", 22),
         _ => return format!(in alloc; "the length {value} is not from 1 to 512"),
     };
-    format!(in alloc; "this is the {value}th {what}; {most} is the limit")
+    format!(in alloc; "this is {what} number {value}; {most} is the limit")
 }
 
 fn bad_tx(alloc: Global, near: &Spelled<'_>, name: &str) -> Result<Told, AllocError> {

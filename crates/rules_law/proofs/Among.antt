@@ -2,11 +2,13 @@
 -- holds, and of a list that was made one after another.
 use Rattle.std.proofs.Common.{◌≡◌, ℕ, zero, suc, ◌+◌, inl, inr, Bool, true, false, List, []}
 use Rattle.std.proofs.Common.{◌∷◌, ◌++◌, refl, sym, subst, arith}
-use Rattle.std.specs.Prelude.{slice_get, None, Some}
+use Rattle.std.specs.Prelude.{slice_get, Some}
+use Rattle.std.proofs.lemmas.Option.{none-some, same_Some}
 use Rattle.c_types.specs.declared.broken.Broken.{Broken}
 use Rattle.c_types.specs.declared.broken.Rule.{Rule}
 use Rattle.c_types.specs.Broken.{broken_at, unless}
 use Rattle.c_types.specs.LeastLaw.{IsAmong}
+use Rattle.typed_law.proofs.Programs.{plus_zero, zero_plus}
 
 abbrev pub Told : Rule → ℕ → Broken
 Told rule place = record { place = place; rule = rule }
@@ -49,17 +51,8 @@ abbrev pub each : {A : Type 0} → (ℕ → A → List Broken) → ℕ → List 
 each f i [] = []
 each f i (x ∷ xs) = f i x ++ each f (i + 1) xs
 
-plus_zero : (i : ℕ) → i + 0 ≡ i
-plus_zero i = omega arith
-
 plus_next : (i j : ℕ) → (i + 1) + j ≡ i + suc j
 plus_next i j = omega arith
-
-some_same : {A : Type 0} (x y : A) → Some x ≡ Some y → x ≡ y
-some_same x y e = cc
-
-none_some : {A : Type 0} (x : A) → None ≡ Some x → ⊥
-none_some x e = cc
 
 each_from : {A C : Type 0} (f : ℕ → A → List Broken) (i : ℕ) (xs : List A) (b : Broken)
     → IsAmong b (each f i xs)
@@ -72,15 +65,12 @@ each_from f i (x ∷ xs) b h g = either (f i x) (each f (i + 1) xs) b h
 
 from_each : {A : Type 0} (f : ℕ → A → List Broken) (i : ℕ) (xs : List A) (b : Broken) (j : ℕ)
     (x : A) → slice_get xs j ≡ Some x → IsAmong b (f (i + j) x) → IsAmong b (each f i xs)
-from_each f i [] b j x is h = absurd (none_some x is)
+from_each f i [] b j x is h = absurd (none-some x is)
 from_each f i (y ∷ xs) b zero x is h = among_left (f i y) (each f (i + 1) xs) b
-    (subst (λ z. IsAmong b (f i z)) (sym (some_same y x is))
+    (subst (λ z. IsAmong b (f i z)) (sym (same_Some y x is))
     (subst (λ n. IsAmong b (f n x)) (plus_zero i) h))
 from_each f i (y ∷ xs) b (suc j) x is h = among_right (f i y) (each f (i + 1) xs) b
     (from_each f (i + 1) xs b j x is (subst (λ n. IsAmong b (f n x)) (sym (plus_next i j)) h))
-
-zero_plus : (j : ℕ) → 0 + j ≡ j
-zero_plus j = omega arith
 
 pub each_of : {A C : Type 0} (f : ℕ → A → List Broken) (xs : List A) (b : Broken)
     → IsAmong b (each f 0 xs)

@@ -201,27 +201,30 @@ found_return t (Some ty) s place (Some e) b h =
 
 -- the parts of a `for`
 for_first_found : (t : Tables) (result : Option TypeTree) (s : List Scope)
-    (first : Option FirstTree) (c : Option ExprTree) (third : Option SimpleTree) (a : StmtTree)
-    (b : Broken) → IsAmong b (option_map_or (first_broken t (inner_scopes s)) first [])
-    → Found t b (InStatement t result s (stmt.For first c third a))
-for_first_found t result s None c third a b h = absurd h
-for_first_found t result s (Some f) c third a b h =
+    (place : ℕ) (first : Option FirstTree) (c : Option ExprTree) (third : Option SimpleTree)
+    (a : StmtTree) (b : Broken)
+    → IsAmong b (option_map_or (first_broken t (inner_scopes s)) first [])
+    → Found t b (InStatement t result s (stmt.For place first c third a))
+for_first_found t result s place None c third a b h = absurd h
+for_first_found t result s place (Some f) c third a b h =
     further t b (found_first t (inner_scopes s) f b h) (λ p d. at.for_first d)
 
 for_condition_found : (t : Tables) (result : Option TypeTree) (s : List Scope)
-    (first : Option FirstTree) (c : Option ExprTree) (third : Option SimpleTree) (a : StmtTree)
-    (b : Broken) → IsAmong b (option_map_or (value_broken t (for_scopes t first s)) c [])
-    → Found t b (InStatement t result s (stmt.For first c third a))
-for_condition_found t result s first None third a b h = absurd h
-for_condition_found t result s first (Some e) third a b h =
+    (place : ℕ) (first : Option FirstTree) (c : Option ExprTree) (third : Option SimpleTree)
+    (a : StmtTree) (b : Broken)
+    → IsAmong b (option_map_or (value_broken t (for_scopes t first s)) c [])
+    → Found t b (InStatement t result s (stmt.For place first c third a))
+for_condition_found t result s place first None third a b h = absurd h
+for_condition_found t result s place first (Some e) third a b h =
     further t b (found_value t (for_scopes t first s) e b h) (λ p d. at.for_condition d)
 
 for_third_found : (t : Tables) (result : Option TypeTree) (s : List Scope)
-    (first : Option FirstTree) (c : Option ExprTree) (third : Option SimpleTree) (a : StmtTree)
-    (b : Broken) → IsAmong b (option_map_or (simple_broken t (for_scopes t first s)) third [])
-    → Found t b (InStatement t result s (stmt.For first c third a))
-for_third_found t result s first c None a b h = absurd h
-for_third_found t result s first c (Some x) a b h =
+    (place : ℕ) (first : Option FirstTree) (c : Option ExprTree) (third : Option SimpleTree)
+    (a : StmtTree) (b : Broken)
+    → IsAmong b (option_map_or (simple_broken t (for_scopes t first s)) third [])
+    → Found t b (InStatement t result s (stmt.For place first c third a))
+for_third_found t result s place first c None a b h = absurd h
+for_third_found t result s place first c (Some x) a b h =
     further t b (found_simple t (for_scopes t first s) x b h) (λ p d. at.for_third d)
 
 mutual
@@ -247,22 +250,22 @@ mutual
       (λ h. either one other b h
       (λ h. further t b (found_statement t result (inner_scopes s) x b h) (λ p e. at.then_body e))
       (λ h. further t b (found_statement t result (inner_scopes s) y b h) (λ p e. at.else_body e)))
-  found_statement t result s (stmt.While c a) b h =
+  found_statement t result s (stmt.While place c a) b h =
       either (value_broken t s c) (statement_broken t (type_given t result) (inner_scopes s) a) b h
       (λ h. further t b (found_value t s c b h) (λ p e. at.while_condition e))
       (λ h. further t b (found_statement t result (inner_scopes s) a b h)
       (λ p e. at.while_body e))
-  found_statement t result s (stmt.For first c third a) b h =
+  found_statement t result s (stmt.For place first c third a) b h =
       let one = option_map_or (first_broken t (inner_scopes s)) first [] in
       let two = option_map_or (value_broken t (for_scopes t first s)) c [] in
       let three = option_map_or (simple_broken t (for_scopes t first s)) third [] in
       let four = statement_broken t (type_given t result) (for_scopes t first s) a in
       either one (two ++ (three ++ four)) b h
-      (λ h. for_first_found t result s first c third a b h)
+      (λ h. for_first_found t result s place first c third a b h)
       (λ h. either two (three ++ four) b h
-      (λ h. for_condition_found t result s first c third a b h)
+      (λ h. for_condition_found t result s place first c third a b h)
       (λ h. either three four b h
-      (λ h. for_third_found t result s first c third a b h)
+      (λ h. for_third_found t result s place first c third a b h)
       (λ h. further t b (found_statement t result (for_scopes t first s) a b h)
       (λ p e. at.for_body e))))
   found_statement t result s stmt.Break b h = absurd h

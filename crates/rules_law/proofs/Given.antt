@@ -25,7 +25,7 @@ use Rattle.typed_law.specs.Types.{IsWritten, HasValueField, HasArray, AcceptsTyp
 use Rattle.typed_law.proofs.Broken.{false_true, and_left, and_right, not_true, le_from, same_from}
 use Rattle.typed_law.proofs.Fitting.{applied_answer}
 use Rattle.typed_law.proofs.Fitting.{joined_answer, declared_is}
-use Rattle.typed_law.proofs.Expressions.{IsRest, whole_rest, next_rest, rest_type}
+use Rattle.typed_law.proofs.Expressions.{IsRest, whole_rest, next_rest, rest_type, suc_zero, suc_same}
 use Rattle.rules_law.specs.Given.{Types, GivesArray, AreTaken}
 use Rattle.rules_law.proofs.Fits.{CanBe, IsOf, any_not, may_be, true_takes}
 
@@ -219,14 +219,8 @@ taken_by a b y is good =
     same z (inl e) = same_type y z (sym is ∙ e)
     same z (inr e) = any_not y (sym e ∙ is)
 
-suc_zero : (n : ℕ) → suc n ≡ 0 → ⊥
-suc_zero n e = cc
-
 zero_suc : (n : ℕ) → 0 ≡ suc n → ⊥
 zero_suc n e = cc
-
-suc_same : (m n : ℕ) → suc m ≡ suc n → m ≡ n
-suc_same m n e = cc
 
 result_of : (t : Tables) (f : FunctionTree) (x : StaticType) (o : Option TypeTree)
     → f.result_type ≡ o → is_some o ≡ true → option_map_or (declared_type t) o Any ≡ value_type x

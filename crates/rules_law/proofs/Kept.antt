@@ -2,7 +2,7 @@
 use Rattle.std.proofs.Common.{◌≡◌, ℕ, suc, ◌+◌, inl, true, List, [], ◌∷◌, length}
 use Rattle.std.proofs.Common.{refl, sym, ap, ◌∙◌, subst}
 use Rattle.std.specs.Prelude.{nat_eq}
-use Rattle.c_tree.specs.ExprTree.{ExprTree, Arguments, Ident}
+use Rattle.c_tree.specs.ExprTree.{ExprTree, Arguments}
 use Rattle.c_tree.specs.ExprTree as expr
 use Rattle.c_tree.specs.ItemTree.{FunctionTree, ParameterTree}
 use Rattle.c_types.specs.declared.value_type.ValueType.{ValueType}
@@ -11,32 +11,17 @@ use Rattle.c_types.specs.declared.value_type.Kind.TheVariants.{Value, Array}
 use Rattle.c_types.specs.Fits.{type_takes}
 use Rattle.c_types.specs.Tables.{Tables}
 use Rattle.c_types.specs.Tables.{declared_type}
-use Rattle.c_types.specs.Expressions.{Scope, type_of_kind, member_kind}
+use Rattle.c_types.specs.Expressions.{Scope, type_of_kind}
 use Rattle.c_types.specs.Expressions.{parameter_type, argument_count, kind_of, all_taken, type_of}
 use Rattle.typed_law.specs.Types.{StaticType, Number, PointerTo, value_type, IsWritten}
-use Rattle.typed_law.specs.Types.{HasValueField}
-use Rattle.typed_law.specs.Types.{HasArray}
 use Rattle.typed_law.proofs.Broken.{same_true}
 use Rattle.typed_law.proofs.Fitting.{no_any, applied_fits, joined_fits, pointer_is, declared_is}
 use Rattle.typed_law.proofs.Expressions.{IsRest, whole_rest, next_rest, rest_type}
 use Rattle.rules_law.specs.Given.{Types, GivesArray, AreTaken, EndsAt}
-use Rattle.typed_law.proofs.TypedExpressions.{typed_is}
+use Rattle.typed_law.proofs.TypedExpressions.{member_is, array_is, typed_is}
 use Rattle.rules_law.specs.Law.{TypesLaw, ArraysLaw, TypedLaw}
 use Rattle.rules_law.proofs.Fits.{IsOf, can_be, takes_true}
 use Rattle.rules_law.proofs.Given.{Says, says, says_type, same_type, written_is}
-
--- a field that is there
-member_is : (t : Tables) (i : ℕ) (name : Ident) (x : StaticType) → HasValueField t i name.text x
-    → member_kind t i name ≡ Value (value_type x)
-member_is t i name x h =
-    let is : declared_type t h.field.ty ≡ value_type x = declared_is t h.field.ty x h.typed in
-    rw (h.there, h.named, h.single, is) refl
-
-array_is : (t : Tables) (i : ℕ) (name : Ident) (x : StaticType) → HasArray t i name.text x
-    → member_kind t i name ≡ Array (value_type x) name.place
-array_is t i name x h =
-    let is : declared_type t h.field.ty ≡ value_type x = declared_is t h.field.ty x h.typed in
-    rw (h.there, h.named, h.many, is, no_any x, h.within) refl
 
 counted : (t : Tables) (s : List Scope) (qs : List ParameterTree) (all : Arguments)
     → AreTaken t s qs all → argument_count all ≡ length qs

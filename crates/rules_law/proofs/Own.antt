@@ -6,6 +6,7 @@ use Rattle.std.specs.Prelude.{Some}
 use Rattle.std.specs.Option.{option_map_or}
 use Rattle.std.specs.Int.{w64, cast_unsigned}
 use Rattle.std.proofs.lemmas.Bool.Decides.{nat_tests}
+use Rattle.std.proofs.lemmas.Option.{none-some, same_Some}
 use Rattle.c_tree.specs.ExprTree.{ExprTree, Arguments, Ident}
 use Rattle.c_tree.specs.ExprTree as expr
 use Rattle.c_tree.specs.StmtTree.{SimpleTree, TypeTree, InitialTree, DeclarationTree}
@@ -35,6 +36,7 @@ use Rattle.c_types.specs.Statements.{is_declared, is_target}
 use Rattle.c_types.specs.Declarations.{length_broken, struct_broken, root_item_broken, all_ints}
 use Rattle.c_types.specs.Declarations.{is_transaction}
 use Rattle.typed_law.proofs.Broken.{false_true, same_from, same_true}
+use Rattle.typed_law.proofs.Programs.{first_at}
 use Rattle.typed_law.specs.Types.{PointerTo, IsWritten}
 use Rattle.rules_law.specs.Part.{Part}
 use Rattle.rules_law.specs.Part as part
@@ -140,22 +142,12 @@ not_same a b other = by (nat_eq a b) refl
     by false e = e
 
 pub not_first : (o : Option ℕ) (i : ℕ) → is_first o i ≡ false → o ≢ Some i
-not_first None i e is = none_some i is
-  where
-    none_some : (i : ℕ) → None ≡ Some i → ⊥
-    none_some i e = cc
-not_first (Some j) i e is = same_not i j e (sym (same j i is))
-  where
-    same : (j i : ℕ) → Some j ≡ Some i → j ≡ i
-    same j i e = cc
+not_first None i e is = none-some i is
+not_first (Some j) i e is = same_not i j e (sym (same_Some j i is))
 
 pub first_not : (o : Option ℕ) (i : ℕ) → o ≢ Some i → is_first o i ≡ false
 first_not None i other = refl
 first_not (Some j) i other = not_same i j (λ (e : i ≡ j). other (ap Some (sym e)))
-
-pub first_is : (o : Option ℕ) (i : ℕ) → is_first o i ≡ true → o ≡ Some i
-first_is None i e = absurd (false_true e)
-first_is (Some j) i e = ap Some (sym (same_from i j e))
 
 pub is_the_first : (o : Option ℕ) (i : ℕ) → o ≡ Some i → is_first o i ≡ true
 is_the_first o i e = rw e (same_true i)
@@ -434,7 +426,7 @@ rows_struct t i s b h =
     (λ n. row.struct_words (not_first (root_struct t) i (or_false_left root (nat_le words 15) n))
     (le_not words 15 (or_false_right root (nat_le words 15) n))))
     (λ h. unless_of P b (not root || nat_le words 512) at (TooBig limit.Root words) h
-    (λ n. row.root_words (first_is (root_struct t) i (not_false root
+    (λ n. row.root_words (first_at (root_struct t) i (not_false root
     (or_false_left (not root) (nat_le words 512) n)))
     (le_not words 512 (or_false_right (not root) (nat_le words 512) n))))))
 
@@ -456,15 +448,9 @@ no_int_among t (q ∷ qs) e =
 
 pub among_no_int : (t : Tables) (qs : List ParameterTree) (j : ℕ) (q : ParameterTree)
     → slice_get qs j ≡ Some q → is_int (declared_type t q.ty) ≡ false → all_ints t qs ≡ false
-among_no_int t [] j q is e = absurd (none_some q is)
-  where
-    none_some : (q : ParameterTree) → None ≡ Some q → ⊥
-    none_some q e = cc
+among_no_int t [] j q is e = absurd (none-some q is)
 among_no_int t (p ∷ qs) zero q is e = and_false_left (is_int (declared_type t p.ty)) (all_ints t qs)
-    (subst (λ (p : ParameterTree). is_int (declared_type t p.ty) ≡ false) (sym (same p q is)) e)
-  where
-    same : (p q : ParameterTree) → Some p ≡ Some q → p ≡ q
-    same p q e = cc
+    (subst (λ (p : ParameterTree). is_int (declared_type t p.ty) ≡ false) (sym (same_Some p q is)) e)
 among_no_int t (p ∷ qs) (suc j) q is e =
     and_false_right (is_int (declared_type t p.ty)) (all_ints t qs) (among_no_int t qs j q is e)
 

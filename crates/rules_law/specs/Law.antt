@@ -44,7 +44,7 @@ abbrev pub ArraysLaw : Type 0
 ArraysLaw = (t : Tables) (s : List Scope) (e : ExprTree) (x : StaticType) (n : ℕ) →
     kind_of t s e ≡ kind.Array (value_type x) n ↔ (GivesArray t s e x × EndsAt e n)
 
--- a type that an expression has by the rules of typed_law is one that it has by these
+-- typed_law's types are types of these rules
 abbrev pub TypedLaw : Type 0
 TypedLaw = (t : Tables) (s : List Scope) (e : ExprTree) (x : StaticType) →
     HasType t s e x → Types t s e x

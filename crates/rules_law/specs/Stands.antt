@@ -109,25 +109,27 @@ mutual
         → InStatement t result (inner_scopes s) a p → InStatement t result s (stmt.IfElse c a b) p
     else_body : {s : List Scope} {c : ExprTree} {a b : StmtTree} {p : Part}
         → InStatement t result (inner_scopes s) b p → InStatement t result s (stmt.IfElse c a b) p
-    while_condition : {s : List Scope} {c : ExprTree} {a : StmtTree} {p : Part}
-        → InValue s c p → InStatement t result s (stmt.While c a) p
-    while_body : {s : List Scope} {c : ExprTree} {a : StmtTree} {p : Part}
-        → InStatement t result (inner_scopes s) a p → InStatement t result s (stmt.While c a) p
-    for_first : {s : List Scope} {f : FirstTree} {c : Option ExprTree}
+    while_condition : {s : List Scope} {place : ℕ} {c : ExprTree} {a : StmtTree} {p : Part}
+        → InValue s c p → InStatement t result s (stmt.While place c a) p
+    while_body : {s : List Scope} {place : ℕ} {c : ExprTree} {a : StmtTree} {p : Part}
+        → InStatement t result (inner_scopes s) a p
+        → InStatement t result s (stmt.While place c a) p
+    for_first : {s : List Scope} {place : ℕ} {f : FirstTree} {c : Option ExprTree}
         {third : Option SimpleTree} {a : StmtTree} {p : Part}
-        → InFirst (inner_scopes s) f p → InStatement t result s (stmt.For (Some f) c third a) p
-    for_condition : {s : List Scope} {first : Option FirstTree} {c : ExprTree}
+        → InFirst (inner_scopes s) f p
+        → InStatement t result s (stmt.For place (Some f) c third a) p
+    for_condition : {s : List Scope} {place : ℕ} {first : Option FirstTree} {c : ExprTree}
         {third : Option SimpleTree} {a : StmtTree} {p : Part}
         → InValue (for_scopes t first s) c p
-        → InStatement t result s (stmt.For first (Some c) third a) p
-    for_third : {s : List Scope} {first : Option FirstTree} {c : Option ExprTree}
+        → InStatement t result s (stmt.For place first (Some c) third a) p
+    for_third : {s : List Scope} {place : ℕ} {first : Option FirstTree} {c : Option ExprTree}
         {x : SimpleTree} {a : StmtTree} {p : Part}
         → InSimple (for_scopes t first s) x p
-        → InStatement t result s (stmt.For first c (Some x) a) p
-    for_body : {s : List Scope} {first : Option FirstTree} {c : Option ExprTree}
+        → InStatement t result s (stmt.For place first c (Some x) a) p
+    for_body : {s : List Scope} {place : ℕ} {first : Option FirstTree} {c : Option ExprTree}
         {third : Option SimpleTree} {a : StmtTree} {p : Part}
         → InStatement t result (for_scopes t first s) a p
-        → InStatement t result s (stmt.For first c third a) p
+        → InStatement t result s (stmt.For place first c third a) p
     returned : {s : List Scope} {place : ℕ} {given : Option ExprTree}
         → InStatement t result s (stmt.Return place given) (part.Returned result s place given)
     returned_value : {s : List Scope} {place : ℕ} {e : ExprTree} {p : Part}

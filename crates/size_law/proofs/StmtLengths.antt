@@ -93,12 +93,12 @@ mutual
       joined (exp_leads k v c p) (first
       (joined (stmt_leads k (inner_variables v) a out again (suc p1))
       (first (stmt_leads k (inner_variables v) b out again (suc p2)))))
-  stmt_leads k v (stmt.While c a) out again p =
+  stmt_leads k v (stmt.While place c a) out again p =
       let p1 : ℕ = exp_end c (suc p) in
       let p2 : ℕ = stmt_end a (suc p1) in
       first (joined (exp_leads k v c (suc p))
       (first (joined (stmt_leads k (inner_variables v) a (suc p2) p (suc p1)) one)))
-  stmt_leads k v (stmt.For x c third a) out again p =
+  stmt_leads k v (stmt.For place x c third a) out again p =
       let u : Variables = variables_after_first k x p (inner_variables v) in
       let p0 : ℕ = first_end x p in
       let p1 : ℕ = or_end c (suc p0) in

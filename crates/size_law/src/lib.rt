@@ -1,4 +1,4 @@
-//! The length of lowered code. It rests on `c_parser`, whose trees are spelled by tokens, and on
+//! The length of lowered code. It rests on `c_tree`, whose trees are spelled by tokens, and on
 //! `lower`, and has no code. Its one contract for the crates above: the number of instructions is
 //! bounded by the number of tokens.
 #![tactic(auto)]

@@ -3,14 +3,14 @@ use Rattle.std.proofs.Common.{◌≡◌, ◌≤◌, ℕ, zero, suc, ℤ, Bool, t
 use Rattle.std.specs.Prelude.{if◌then◌else◌}
 use Rattle.c_types.specs.Tables.{Tables}
 use Rattle.c_types.specs.Expressions.{Scope}
-use Rattle.pool_map.specs.declared.trap.TrapKind.{TrapKind}
+use Rattle.c_meaning.specs.declared.trap_at.TrapAt.{TrapAt}
 use Rattle.pool_map.specs.declared.trap.TrapKind.TheVariants as trap
 use Rattle.pool_map.specs.PoolMap.{PoolMap}
 use Rattle.pool_map.specs.Checks.{is_zero}
 use Rattle.c_meaning.specs.Locals.{Local, scopes_of}
 use Rattle.c_meaning.specs.Meaning.{Out, Got, Stops, StmtEnd, Next, Broke, Again, Gave, Traps}
 use Rattle.c_meaning.specs.Meaning.{with_value, then_next, after_turn, in_scope, turns, tick}
-use Rattle.c_meaning.specs.Meaning.{given}
+use Rattle.c_meaning.specs.Meaning.{given, placed_trap}
 use Rattle.sound_law.specs.Expressions.{Past}
 use Rattle.sound_law.specs.Statements.{AfterNext, AfterTurn, TurnsFind}
 use Rattle.sound_law.proofs.Expressions.{Fits, Leaves}
@@ -63,7 +63,7 @@ module _ (t : Tables) where
 
   pub value_ends : {A : Type 0} (o : Out A) (go : A → PoolMap → ℕ → StmtEnd)
       (P : A → PoolMap → ℕ → Type 0) (Q : StmtEnd → Type 0)
-      → ((k : TrapKind) → Q (Traps k)) → Past o P
+      → ((stop : TrapAt) → Q (Traps stop)) → Past o P
       → ((a : A) (p : PoolMap) (k : ℕ) → P a p k → Q (go a p k)) → Q (with_value o go)
   value_ends (Got a p k) go P Q trapped h next = next a p k h
   value_ends (Stops trap) go P Q trapped h next = trapped trap
@@ -189,18 +189,18 @@ module _ (t : Tables) where
           )),
     )
 
-    tick_ends : (k : ℕ) (go : ℕ → StmtEnd) → ((k : ℕ) → EndsWith c (go k))
-        → EndsWith c (tick k (Traps trap.Steps) go)
-    tick_ends zero go next = tt
-    tick_ends (suc k) go next = next k
+    tick_ends : (stop : TrapAt) (k : ℕ) (go : ℕ → StmtEnd) → ((k : ℕ) → EndsWith c (go k))
+        → EndsWith c (tick k (Traps stop) go)
+    tick_ends stop zero go next = tt
+    tick_ends stop (suc k) go next = next k
 
-    pub turns_end : (n : ℕ) (ls : List Local) (p : PoolMap) (k : ℕ) → scopes_of ls ≡ c → Fits t p
-        → EndsWith c (turns n test body third ls p k)
-    turns_end zero ls p k is fits = tt
-    turns_end (suc n) ls p k is fits = tick_ends k _ (λ k.
+    pub turns_end : (n place : ℕ) (ls : List Local) (p : PoolMap) (k : ℕ) → scopes_of ls ≡ c
+        → Fits t p → EndsWith c (turns n place test body third ls p k)
+    turns_end zero place ls p k is fits = tt
+    turns_end (suc n) place ls p k is fits = tick_ends (placed_trap trap.Steps place) k _ (λ k.
         value_ends (test ls p k) _ (λ v p k. Fits t p) (EndsWith c) (λ trap. tt)
         (tests ls p k is fits).1
         (λ v p k fits. zero_ends (is_zero v) (Next ls p k) _ (EndsWith c) (is, fits)
         (turn_ends c (body ls p k) _ (bodies ls p k is fits).1
         (λ ls p k is fits. next_ends c (third ls p k) _ (thirds ls p k is fits).1
-        (λ ls p k is fits. turns_end n ls p k is fits)))))
+        (λ ls p k is fits. turns_end n place ls p k is fits)))))

@@ -9,17 +9,16 @@ use Rattle.c_tree.specs.declared.expr.BinaryOp.{BinaryOp}
 use Rattle.c_tree.specs.declared.expr.BinaryOp.TheVariants as binary
 use Rattle.c_types.specs.Tables.{Tables, function_named}
 use Rattle.c_types.specs.Shapes.{shapes_in}
-use Rattle.pool_map.specs.declared.trap.TrapKind.{TrapKind}
 use Rattle.pool_map.specs.declared.trap.TrapKind.TheVariants as trap
 use Rattle.pool_map.specs.PoolMap.{PoolMap}
 use Rattle.pool_map.specs.PoolFits.{PoolFits}
 use Rattle.pool_map.specs.Checks.{is_zero}
+use Rattle.c_meaning.specs.declared.trap_at.TrapAt.{TrapAt}
 use Rattle.c_meaning.specs.declared.word.Word.{Word}
 use Rattle.c_meaning.specs.Locals.{Local, scopes_of}
-use Rattle.c_meaning.specs.Access.{word_named}
 use Rattle.c_meaning.specs.Meaning.{Out, Got, Stops, Calls, then_do, tick, or_trap, loaded, strict}
 use Rattle.c_meaning.specs.Meaning.{at_zero, both, either, binary_means, called, value_of}
-use Rattle.c_meaning.specs.Meaning.{values_of, pointer_of}
+use Rattle.c_meaning.specs.Meaning.{values_of, pointer_of, placed_trap, located}
 use Rattle.c_meaning.specs.Operators.{binary_of}
 use Rattle.lower.proofs.Sane.{IsSane}
 use Rattle.typed_law.specs.Programs.{IsWellTyped}
@@ -43,10 +42,10 @@ pub after_more : {A : Type 0} (o : Out A) (P Q : A → PoolMap → ℕ → Type 
 after_more (Got a p k) P Q h next = next a p k h
 after_more (Stops trap) P Q h next = tt
 
-pub tick_after : {A : Type 0} (k : ℕ) (go : ℕ → Out A) (Q : A → PoolMap → ℕ → Type 0)
-    → ((k : ℕ) → Past (go k) Q) → Past (tick k (Stops trap.Steps) go) Q
-tick_after zero go Q next = tt
-tick_after (suc k) go Q next = next k
+pub tick_after : {A : Type 0} (stop : TrapAt) (k : ℕ) (go : ℕ → Out A)
+    (Q : A → PoolMap → ℕ → Type 0) → ((k : ℕ) → Past (go k) Q) → Past (tick k (Stops stop) go) Q
+tick_after stop zero go Q next = tt
+tick_after stop (suc k) go Q next = next k
 
 pub after_tick : (k : ℕ) (Q : ℕ → Type 0) → ((k : ℕ) → Q k) → AfterTick k Q
 after_tick zero Q next = tt
@@ -61,22 +60,22 @@ module _ (t : Tables) where
   abbrev pub Leaves : {A : Type 0} → Out A → Type 0
   Leaves o = Past o (λ a p k. Fits p)
 
-  pub loaded_leaves : (r : Result Word TrapKind) (p : PoolMap) (k : ℕ) → Fits p
+  pub loaded_leaves : (r : Result Word TrapAt) (p : PoolMap) (k : ℕ) → Fits p
       → Leaves (loaded r p k)
   loaded_leaves (Ok w) p k fits = fits
   loaded_leaves (Err trap) p k fits = tt
 
-  pub or_trap_leaves : (o : Option ℤ) (trap : TrapKind) (p : PoolMap) (k : ℕ) → Fits p
-      → Leaves (or_trap o trap p k)
-  or_trap_leaves None trap p k fits = tt
-  or_trap_leaves (Some v) trap p k fits = fits
+  pub or_trap_leaves : (o : Option ℤ) (stop : TrapAt) (p : PoolMap) (k : ℕ) → Fits p
+      → Leaves (or_trap o stop p k)
+  or_trap_leaves None stop p k fits = tt
+  or_trap_leaves (Some v) stop p k fits = fits
 
-  strict_leaves : (op : BinaryOp) (a : Out ℤ) (b : PoolMap → ℕ → Out ℤ) → Leaves a
-      → ((p : PoolMap) (k : ℕ) → Fits p → Leaves (b p k)) → Leaves (strict op a b)
-  strict_leaves op a b left right =
+  strict_leaves : (op : BinaryOp) (place : ℕ) (a : Out ℤ) (b : PoolMap → ℕ → Out ℤ) → Leaves a
+      → ((p : PoolMap) (k : ℕ) → Fits p → Leaves (b p k)) → Leaves (strict op place a b)
+  strict_leaves op place a b left right =
       after_do a _ (λ v p k. Fits p) (λ v p k. Fits p) left
       (λ x p k fits. after_do (b p k) _ (λ v p k. Fits p) (λ v p k. Fits p) (right p k fits)
-      (λ y p k fits. or_trap_leaves (binary_of op x y) trap.Divide p k fits))
+      (λ y p k fits. or_trap_leaves (binary_of op x y) (placed_trap trap.Divide place) p k fits))
 
   zero_leaves : (c : Bool) (a b : Out ℤ) → Leaves a → Leaves b → Leaves (if c then a else b)
   zero_leaves true a b left right = left
@@ -98,35 +97,40 @@ module _ (t : Tables) where
       (λ x p k fits. zero_leaves (is_zero x) _ (Got (pos 1) p k)
       (truth_leaves (b p k) (right p k fits)) fits)
 
-  binary_leaves : (op : BinaryOp) (a : Out ℤ) (b : PoolMap → ℕ → Out ℤ) → Leaves a
-      → ((p : PoolMap) (k : ℕ) → Fits p → Leaves (b p k)) → Leaves (binary_means op a b)
-  binary_leaves binary.Both a b left right = both_leaves a b left right
-  binary_leaves binary.Either a b left right = either_leaves a b left right
-  binary_leaves binary.Mul a b left right = strict_leaves binary.Mul a b left right
-  binary_leaves binary.Div a b left right = strict_leaves binary.Div a b left right
-  binary_leaves binary.Rem a b left right = strict_leaves binary.Rem a b left right
-  binary_leaves binary.Add a b left right = strict_leaves binary.Add a b left right
-  binary_leaves binary.Sub a b left right = strict_leaves binary.Sub a b left right
-  binary_leaves binary.ShiftLeft a b left right = strict_leaves binary.ShiftLeft a b left right
-  binary_leaves binary.ShiftRight a b left right = strict_leaves binary.ShiftRight a b left right
-  binary_leaves binary.Less a b left right = strict_leaves binary.Less a b left right
-  binary_leaves binary.LessEqual a b left right = strict_leaves binary.LessEqual a b left right
-  binary_leaves binary.Greater a b left right = strict_leaves binary.Greater a b left right
-  binary_leaves binary.GreaterEqual a b left right =
-      strict_leaves binary.GreaterEqual a b left right
-  binary_leaves binary.Equal a b left right = strict_leaves binary.Equal a b left right
-  binary_leaves binary.NotEqual a b left right = strict_leaves binary.NotEqual a b left right
-  binary_leaves binary.And a b left right = strict_leaves binary.And a b left right
-  binary_leaves binary.Xor a b left right = strict_leaves binary.Xor a b left right
-  binary_leaves binary.Or a b left right = strict_leaves binary.Or a b left right
+  binary_leaves : (op : BinaryOp) (place : ℕ) (a : Out ℤ) (b : PoolMap → ℕ → Out ℤ) → Leaves a
+      → ((p : PoolMap) (k : ℕ) → Fits p → Leaves (b p k)) → Leaves (binary_means op place a b)
+  binary_leaves binary.Both place a b left right = both_leaves a b left right
+  binary_leaves binary.Either place a b left right = either_leaves a b left right
+  binary_leaves binary.Mul place a b left right = strict_leaves binary.Mul place a b left right
+  binary_leaves binary.Div place a b left right = strict_leaves binary.Div place a b left right
+  binary_leaves binary.Rem place a b left right = strict_leaves binary.Rem place a b left right
+  binary_leaves binary.Add place a b left right = strict_leaves binary.Add place a b left right
+  binary_leaves binary.Sub place a b left right = strict_leaves binary.Sub place a b left right
+  binary_leaves binary.ShiftLeft place a b left right =
+      strict_leaves binary.ShiftLeft place a b left right
+  binary_leaves binary.ShiftRight place a b left right =
+      strict_leaves binary.ShiftRight place a b left right
+  binary_leaves binary.Less place a b left right = strict_leaves binary.Less place a b left right
+  binary_leaves binary.LessEqual place a b left right =
+      strict_leaves binary.LessEqual place a b left right
+  binary_leaves binary.Greater place a b left right =
+      strict_leaves binary.Greater place a b left right
+  binary_leaves binary.GreaterEqual place a b left right =
+      strict_leaves binary.GreaterEqual place a b left right
+  binary_leaves binary.Equal place a b left right = strict_leaves binary.Equal place a b left right
+  binary_leaves binary.NotEqual place a b left right =
+      strict_leaves binary.NotEqual place a b left right
+  binary_leaves binary.And place a b left right = strict_leaves binary.And place a b left right
+  binary_leaves binary.Xor place a b left right = strict_leaves binary.Xor place a b left right
+  binary_leaves binary.Or place a b left right = strict_leaves binary.Or place a b left right
 
   module _ (sane : IsSane t) (typed : IsWellTyped t) (calls : Calls)
       (found : FunctionTree → List ℤ → PoolMap → ℕ → Type 0) where
     -- each function, called with its arguments, finds what it asks for
     abbrev pub AreSound : Type 0
-    AreSound = (i : ℕ) (f : FunctionTree) (vs : List ℤ) (p : PoolMap) (k : ℕ)
+    AreSound = (place i : ℕ) (f : FunctionTree) (vs : List ℤ) (p : PoolMap) (k : ℕ)
         → slice_get t.functions i ≡ Some f → length vs ≡ length f.parameters → Fits p
-        → found f vs p k × Leaves (calls f vs p k)
+        → found f vs p k × Leaves (calls place f vs p k)
 
     module _ (sound : AreSound) (ls : List Local) (small : AreSmall t (scopes_of ls)) where
       pub element_finds : (e : ExprTree) (x : StaticType) (p : PoolMap) (b j : ℤ)
@@ -179,14 +183,15 @@ module _ (t : Tables) where
                   (λ vs p k. (length vs ≡ length f.parameters) × Fits p)
                   (λ vs p k. AfterTick k (λ k. found f vs p k)) r.1
                   (λ vs p k h. after_tick k (λ k. found f vs p k)
-                  (λ k. (sound at.0 f vs p k at.1 h.0 h.1).0)),
+                  (λ k. (sound name.place at.0 f vs p k at.1 h.0 h.1).0)),
             ),
-            subst (λ (o : Option FunctionTree). Leaves (called calls o
+            subst (λ (o : Option FunctionTree). Leaves (called calls name.place o
                 (λ f. values_of t calls all ls p k) p k)) (sym named)
                 (after_do (values_of t calls all ls p k) _
                 (λ vs p k. (length vs ≡ length f.parameters) × Fits p) (λ v p k. Fits p) r.1
-                (λ vs p k h. tick_after k (λ k. calls f vs p k) (λ v p k. Fits p)
-                (λ k. (sound at.0 f vs p k at.1 h.0 h.1).1))),
+                (λ vs p k h. tick_after (placed_trap trap.Steps name.place) k
+                (λ k. calls name.place f vs p k) (λ v p k. Fits p)
+                (λ k. (sound name.place at.0 f vs p k at.1 h.0 h.1).1))),
           )
 
       mutual
@@ -198,7 +203,7 @@ module _ (t : Tables) where
         exp_sound (expr.Variable name) x p k h fits = (is_local name.text ls (value_type x) h, fits)
         exp_sound (expr.Root name) x p k h fits = (
           root_value_finds name x p (pos 0) h fits,
-          loaded_leaves (word_named t ls p (expr.Root name) (pos 0) None) p k fits,
+          loaded_leaves (located t ls p (expr.Root name) (pos 0) None) p k fits,
         )
         exp_sound (expr.New place name) x p k h fits =
             (new_numbered t sane typed name x h, new_leaves t sane typed name x p h fits)
@@ -211,7 +216,7 @@ module _ (t : Tables) where
                     (λ v p k fits. arrow_value_finds base place name x p v h fits),
               ),
               after_do (value_of t calls base ls p k) _ (λ v p k. Fits p) (λ v p k. Fits p) b.1
-                  (λ v p k fits. loaded_leaves (word_named t ls p (expr.Arrow base place name) v
+                  (λ v p k fits. loaded_leaves (located t ls p (expr.Arrow base place name) v
                   None) p k fits),
             )
         exp_sound (expr.Index a place i) x p k h fits =
@@ -232,7 +237,8 @@ module _ (t : Tables) where
               after_do (pointer_of t calls a ls p k) _ (λ v p k. Fits p) (λ v p k. Fits p) b.1
                   (λ v p k fits. after_do (value_of t calls i ls p k) _ (λ v p k. Fits p)
                   (λ v p k. Fits p) (exp_sound i Number p k h.1 fits).1
-                  (λ j p k fits. loaded_leaves (word_named t ls p a v (Some j)) p k fits)),
+                  (λ j p k fits. loaded_leaves (located t ls p (expr.Index a place i) v (Some j))
+                  p k fits)),
             )
         exp_sound (expr.Unary op place a) x p k h fits =
             let r = exp_sound a h.1 p k h.2 fits in (
@@ -248,7 +254,8 @@ module _ (t : Tables) where
                     (λ v p k. goes_right op v ≡ true → Finds t calls found b ls p k) r.1
                     (λ v p k fits e. (exp_sound b h.2 p k h.4 fits).0),
               ),
-              binary_leaves op (value_of t calls a ls p k) (λ p k. value_of t calls b ls p k) r.1
+              binary_leaves op place (value_of t calls a ls p k)
+                  (λ p k. value_of t calls b ls p k) r.1
                   (λ p k fits. (exp_sound b h.2 p k h.4 fits).1),
             )
         exp_sound (expr.Call name all) x p k h fits =

@@ -48,8 +48,8 @@ module _ (t : Tables) (sane : IsSane t) (typed : IsWellTyped t) where
 
   calls_sound : (room : ℕ) → AreSound t sane typed (calls_of t room)
       (λ f vs p k. CallFinds t room f vs p k)
-  calls_sound zero i f vs p k is many fits = (tt, tt)
-  calls_sound (suc room) i f vs p k is many fits =
+  calls_sound zero place i f vs p k is many fits = (tt, tt)
+  calls_sound (suc room) place i f vs p k is many fits =
       function_sound (calls_of t room) (λ f vs p k. CallFinds t room f vs p k) (calls_sound room)
       (calls_fall t room) i f vs p k is many fits
 
@@ -93,6 +93,6 @@ sound tree b number f is p args ticks fits many =
     ticks at.1 many fits in (
       r.0,
       subst (λ (o : Option FunctionTree). LeavesFitting (shapes_in t)
-          (run_transaction t o p args ticks)) (sym is)
+          (outcome (run_transaction t o p args ticks))) (sym is)
           (outcome_fits t (function_value t (calls_of t 255) f args p ticks) r.1),
     )

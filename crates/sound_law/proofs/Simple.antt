@@ -19,13 +19,15 @@ use Rattle.pool_map.specs.declared.trap.TrapKind.{TrapKind}
 use Rattle.pool_map.specs.declared.trap.TrapKind.TheVariants as trap
 use Rattle.pool_map.specs.PoolMap.{PoolMap, free}
 use Rattle.pool_map.specs.Checks.{then_on}
+use Rattle.c_meaning.specs.declared.trap_at.TrapAt.{TrapAt}
 use Rattle.c_meaning.specs.declared.word.Word.{Word}
 use Rattle.c_meaning.specs.Locals.{Local, scopes_of, value_named}
-use Rattle.c_meaning.specs.Access.{target_field, word_named, struct_pointed_by}
+use Rattle.c_meaning.specs.Access.{target_field, struct_pointed_by}
 use Rattle.c_meaning.specs.Operators.{binary_of}
 use Rattle.c_meaning.specs.Meaning.{Out, Got, StmtEnd, Calls, with_value}
 use Rattle.c_meaning.specs.Meaning.{value_of, pointer_of, operands_of, stored_end, assign_to}
 use Rattle.c_meaning.specs.Meaning.{update, target_local, freed, loaded, or_trap, end_of_simple}
+use Rattle.c_meaning.specs.Meaning.{placed_trap, at_place, located}
 use Rattle.lower.proofs.Sane.{IsSane}
 use Rattle.typed_law.specs.Programs.{IsWellTyped}
 use Rattle.typed_law.specs.Types.{StaticType, Number, PointerTo, value_type}
@@ -132,7 +134,7 @@ module _ (t : Tables) (sane : IsSane t) (typed : IsWellTyped t) (calls : Calls)
   abbrev Ends : StmtEnd → Type 0
   Ends e = EndsWith t (scopes_of ls) e
 
-  stored_ends : (r : Result Word TrapKind) (v : ℤ) (p : PoolMap) (k : ℕ) → Fits t p
+  stored_ends : (r : Result Word TrapAt) (v : ℤ) (p : PoolMap) (k : ℕ) → Fits t p
       → Ends (stored_end r v ls p k)
   stored_ends (Ok w) v p k fits = (refl, store_fits (shapes_in t) p w v fits)
   stored_ends (Err trap) v p k fits = tt
@@ -169,26 +171,27 @@ module _ (t : Tables) (sane : IsSane t) (typed : IsWellTyped t) (calls : Calls)
             (λ o p k. Fits t p × IsTarget target o) o.1
             (λ o p k there. value_then (value_of t calls e ls p k) _ (λ v p k. Fits t p)
             (exp_sound t sane typed calls found sound ls small e y p k g there.0).1
-            (λ v p k fits. stored_ends (word_named t ls p (target_field target) o.0 o.1) v p k
-            fits)),
+            (λ v p k fits. stored_ends (located t ls p target o.0 o.1) v p k fits)),
       )
 
-  update_sound : (o : Option (List ℕ)) (target : ExprTree) (op : BinaryOp)
+  update_sound : (o : Option (List ℕ)) (target : ExprTree) (op : BinaryOp) (place : ℕ)
       (right : PoolMap → ℕ → Out ℤ) (Right : PoolMap → ℕ → Type 0) (x : StaticType)
       (p : PoolMap) (k : ℕ) → target_local target ≡ o → IsAssignable target
       → HasType t (scopes_of ls) target x
       → ((p : PoolMap) (k : ℕ) → Fits t p → Right p k × Leaves t (right p k)) → Fits t p
-      → UpdateFinds t calls found o target op right Right ls p k
-      × Ends (update t calls o target op right ls p k)
-  update_sound (Some name) target op right Right x p k is good h each fits = (
+      → UpdateFinds t calls found o target op place right Right ls p k
+      × Ends (update t calls o target op place right ls p k)
+  update_sound (Some name) target op place right Right x p k is good h each fits = (
     (target_there target name x is h, (each p k fits).0),
     value_then (right p k) _ (λ v p k. Fits t p) (each p k fits).1
-        (λ y p k fits. value_then (or_trap (binary_of op (value_named name ls) y) trap.Divide p k) _
+        (λ y p k fits. value_then
+        (or_trap (binary_of op (value_named name ls) y) (placed_trap trap.Divide place) p k) _
         (λ v p k. Fits t p)
-        (or_trap_leaves t (binary_of op (value_named name ls) y) trap.Divide p k fits)
+        (or_trap_leaves t (binary_of op (value_named name ls) y) (placed_trap trap.Divide place) p k
+        fits)
         (λ v p k fits. (assigned_scopes name v ls, fits))),
   )
-  update_sound None target op right Right x p k is good h each fits =
+  update_sound None target op place right Right x p k is good h each fits =
       let o = operands_sound target x p k good is h fits in (
         (
           o.0,
@@ -196,15 +199,17 @@ module _ (t : Tables) (sane : IsSane t) (typed : IsWellTyped t) (calls : Calls)
               o.1
               (λ o p k there. (
                 there.1 p there.0,
-                after_more (loaded (word_named t ls p (target_field target) o.0 o.1) p k)
+                after_more (loaded (located t ls p target o.0 o.1) p k)
                     (λ v p k. Fits t p) _
-                    (loaded_leaves t (word_named t ls p (target_field target) o.0 o.1) p k there.0)
+                    (loaded_leaves t (located t ls p target o.0 o.1) p k there.0)
                     (λ x p k fits. (
                       (each p k fits).0,
                       after_more (right p k) (λ v p k. Fits t p) _ (each p k fits).1
-                          (λ y p k fits. after_more (or_trap (binary_of op x y) trap.Divide p k)
+                          (λ y p k fits. after_more
+                          (or_trap (binary_of op x y) (placed_trap trap.Divide place) p k)
                           (λ v p k. Fits t p) _
-                          (or_trap_leaves t (binary_of op x y) trap.Divide p k fits)
+                          (or_trap_leaves t (binary_of op x y)
+                          (placed_trap trap.Divide place) p k fits)
                           (λ v p k fits. there.1 p fits)),
                     )),
               )),
@@ -212,19 +217,20 @@ module _ (t : Tables) (sane : IsSane t) (typed : IsWellTyped t) (calls : Calls)
         value_then (operands_of t calls target ls p k) _
             (λ o p k. Fits t p × IsTarget target o) o.1
             (λ o p k there. value_then
-            (loaded (word_named t ls p (target_field target) o.0 o.1) p k) _ (λ v p k. Fits t p)
-            (loaded_leaves t (word_named t ls p (target_field target) o.0 o.1) p k there.0)
+            (loaded (located t ls p target o.0 o.1) p k) _ (λ v p k. Fits t p)
+            (loaded_leaves t (located t ls p target o.0 o.1) p k there.0)
             (λ x p k fits. value_then (right p k) _ (λ v p k. Fits t p) (each p k fits).1
-            (λ y p k fits. value_then (or_trap (binary_of op x y) trap.Divide p k) _
-            (λ v p k. Fits t p) (or_trap_leaves t (binary_of op x y) trap.Divide p k fits)
-            (λ v p k fits. stored_ends (word_named t ls p (target_field target) o.0 o.1) v p k
-            fits)))),
+            (λ y p k fits. value_then
+            (or_trap (binary_of op x y) (placed_trap trap.Divide place) p k) _
+            (λ v p k. Fits t p)
+            (or_trap_leaves t (binary_of op x y) (placed_trap trap.Divide place) p k fits)
+            (λ v p k fits. stored_ends (located t ls p target o.0 o.1) v p k fits)))),
       )
 
-  freed_ends : (r : Result ℕ TrapKind) (p : PoolMap) (k : ℕ) → Fits t p
-      → Ends (freed (then_on r (λ s. Ok (free p s))) ls k)
-  freed_ends (Ok s) p k fits = (refl, free_fits (shapes_in t) p s fits)
-  freed_ends (Err trap) p k fits = tt
+  freed_ends : (place : ℕ) (r : Result ℕ TrapKind) (p : PoolMap) (k : ℕ) → Fits t p
+      → Ends (freed (at_place place (then_on r (λ s. Ok (free p s)))) ls k)
+  freed_ends place (Ok s) p k fits = (refl, free_fits (shapes_in t) p s fits)
+  freed_ends place (Err kind) p k fits = tt
 
   pub simple_sound : (x : SimpleTree) (s : List Scope) (p : PoolMap) (k : ℕ) → IsSimple t s x
       → IsSame s (scopes_of ls) → Fits t p → SimpleFinds t calls found x ls p k
@@ -234,23 +240,23 @@ module _ (t : Tables) (sane : IsSane t) (typed : IsWellTyped t) (calls : Calls)
       (type_moved t s (scopes_of ls) target h.1 same h.3)
       (type_moved t s (scopes_of ls) e h.2 same h.4) fits
   simple_sound (stmt.Assign target assign.Add place e) s p k h same fits =
-      update_sound (target_local target) target binary.Add (λ p k. value_of t calls e ls p k)
+      update_sound (target_local target) target binary.Add place (λ p k. value_of t calls e ls p k)
       (λ p k. Finds t calls found e ls p k) h.1 p k refl h.0
       (type_moved t s (scopes_of ls) target h.1 same h.3)
       (λ p k fits. exp_sound t sane typed calls found sound ls small e h.2 p k
       (type_moved t s (scopes_of ls) e h.2 same h.4) fits) fits
   simple_sound (stmt.Assign target assign.Sub place e) s p k h same fits =
-      update_sound (target_local target) target binary.Sub (λ p k. value_of t calls e ls p k)
+      update_sound (target_local target) target binary.Sub place (λ p k. value_of t calls e ls p k)
       (λ p k. Finds t calls found e ls p k) h.1 p k refl h.0
       (type_moved t s (scopes_of ls) target h.1 same h.3)
       (λ p k fits. exp_sound t sane typed calls found sound ls small e h.2 p k
       (type_moved t s (scopes_of ls) e h.2 same h.4) fits) fits
   simple_sound (stmt.Step target step.Up place) s p k h same fits =
-      update_sound (target_local target) target binary.Add (λ p k. Got (pos 1) p k)
+      update_sound (target_local target) target binary.Add place (λ p k. Got (pos 1) p k)
       (λ p k. Unit {0}) Number p k refl h.0
       (type_moved t s (scopes_of ls) target Number same h.1) (λ p k fits. (tt, fits)) fits
   simple_sound (stmt.Step target step.Down place) s p k h same fits =
-      update_sound (target_local target) target binary.Sub (λ p k. Got (pos 1) p k)
+      update_sound (target_local target) target binary.Sub place (λ p k. Got (pos 1) p k)
       (λ p k. Unit {0}) Number p k refl h.0
       (type_moved t s (scopes_of ls) target Number same h.1) (λ p k fits. (tt, fits)) fits
   simple_sound (stmt.Call name all) s p k h same fits =
@@ -270,7 +276,7 @@ module _ (t : Tables) (sane : IsSane t) (typed : IsWellTyped t) (calls : Calls)
               (type_small t ls e (PointerTo h.0) small has),
         ),
         value_then (value_of t calls e ls p k) _ (λ v p k. Fits t p) r.1
-            (λ v p k fits. freed_ends _ p k fits),
+            (λ v p k fits. freed_ends place _ p k fits),
       )
   simple_sound (stmt.Abort place) s p k h same fits = (tt, tt)
 

@@ -51,8 +51,8 @@ scopes_then t (stmt.Simple x) c = c
 scopes_then t (stmt.Block all) c = c
 scopes_then t (stmt.If e a) c = c
 scopes_then t (stmt.IfElse e a b) c = c
-scopes_then t (stmt.While e a) c = c
-scopes_then t (stmt.For first e third a) c = c
+scopes_then t (stmt.While place e a) c = c
+scopes_then t (stmt.For place first e third a) c = c
 scopes_then t stmt.Break c = c
 scopes_then t stmt.Continue c = c
 scopes_then t (stmt.Return place e) c = c
@@ -75,8 +75,8 @@ over_then t (stmt.Simple x) c ls e = over_same c ls e
 over_then t (stmt.Block all) c ls e = over_same c ls e
 over_then t (stmt.If v a) c ls e = over_same c ls e
 over_then t (stmt.IfElse v a b) c ls e = over_same c ls e
-over_then t (stmt.While v a) c ls e = over_same c ls e
-over_then t (stmt.For first v third a) c ls e = over_same c ls e
+over_then t (stmt.While place v a) c ls e = over_same c ls e
+over_then t (stmt.For place first v third a) c ls e = over_same c ls e
 over_then t stmt.Break c ls e = over_same c ls e
 over_then t stmt.Continue c ls e = over_same c ls e
 over_then t (stmt.Return place v) c ls e = over_same c ls e
@@ -101,8 +101,8 @@ sees_then t result (stmt.Simple x) s u h sees = sees
 sees_then t result (stmt.Block all) s u h sees = sees
 sees_then t result (stmt.If v a) s u h sees = sees
 sees_then t result (stmt.IfElse v a b) s u h sees = sees
-sees_then t result (stmt.While v a) s u h sees = sees
-sees_then t result (stmt.For first v third a) s u h sees = sees
+sees_then t result (stmt.While place v a) s u h sees = sees
+sees_then t result (stmt.For place first v third a) s u h sees = sees
 sees_then t result stmt.Break s u h sees = sees
 sees_then t result stmt.Continue s u h sees = sees
 sees_then t result (stmt.Return place v) s u h sees = sees
@@ -280,7 +280,7 @@ module _ (t : Tables) (sane : IsSane t) (typed : IsWellTyped t) (calls : Calls)
               (scoped a (scopes_of ls) ls p k refl
               (stmt_sound a result (inner_scopes s) ls p k h.1 inner fits)).1)),
         )
-    stmt_sound (stmt.While c a) result s ls p k h sees fits =
+    stmt_sound (stmt.While place c a) result s ls p k h sees fits =
         let u = scopes_of ls in
         let tests = λ (ks : List Local) (p : PoolMap) (k : ℕ) (is : scopes_of ks ≡ u)
         (fits : Fits t p). value_sound c h.0.0 s ks p k h.0.1 (moved s u ks is sees) fits in
@@ -292,11 +292,11 @@ module _ (t : Tables) (sane : IsSane t) (typed : IsWellTyped t) (calls : Calls)
               (λ ks p k. value_falls t calls fall c ks p k)
               (λ ks p k. scoped_below t calls fall a ks p k) (λ ks p k. same k)
               k ls p k refl fits (same k),
-          with_as t u (end_of_stmt t calls (stmt.While c a) ls p k)
+          with_as t u (end_of_stmt t calls (stmt.While place c a) ls p k)
               (turns_end t u _ _ _ _ (λ ks p k. Next ks p k) (λ ks p k. Unit {0}) tests bodies
-              (λ ks p k is fits. (tt, (is, fits))) k ls p k refl fits),
+              (λ ks p k is fits. (tt, (is, fits))) k place ls p k refl fits),
         )
-    stmt_sound (stmt.For first c third a) result s ls p k h sees fits =
+    stmt_sound (stmt.For place first c third a) result s ls p k h sees fits =
         let u = scopes_of ls in
         let inside = for_scopes t first s in
         let w = first_then t first u in
@@ -317,11 +317,11 @@ module _ (t : Tables) (sane : IsSane t) (typed : IsWellTyped t) (calls : Calls)
                 (λ ks p k. scoped_below t calls fall a ks p k)
                 (λ ks p k. third_below t calls fall third ks p k) k ks p k is fits (same k)),
           ),
-          with_as t u (end_of_stmt t calls (stmt.For first c third a) ls p k)
+          with_as t u (end_of_stmt t calls (stmt.For place first c third a) ls p k)
               (scope_ends t ls _ (declared_ends t u w (end_of_first t calls first ls p k) _
               (λ ks e. over_first t first u ks e) f.1
               (λ ks p k is fits. over_from w ks _ is
-              (turns_end t w _ _ _ _ _ _ tests bodies thirds k ks p k is fits)))),
+              (turns_end t w _ _ _ _ _ _ tests bodies thirds k place ks p k is fits)))),
         )
     stmt_sound stmt.Break result s ls p k h sees fits =
         (tt, (over_same (scopes_of ls) ls refl, fits))

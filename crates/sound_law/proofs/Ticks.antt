@@ -14,13 +14,12 @@ use Rattle.c_tree.specs.declared.expr.BinaryOp.TheVariants as binary
 use Rattle.c_tree.specs.declared.stmt.AssignOp.TheVariants as assign
 use Rattle.c_tree.specs.declared.stmt.StepOp.TheVariants as step
 use Rattle.c_types.specs.Tables.{Tables, function_named}
-use Rattle.pool_map.specs.declared.trap.TrapKind.{TrapKind}
 use Rattle.pool_map.specs.declared.trap.TrapKind.TheVariants as trap
 use Rattle.pool_map.specs.PoolMap.{PoolMap}
 use Rattle.pool_map.specs.Checks.{is_zero}
+use Rattle.c_meaning.specs.declared.trap_at.TrapAt.{TrapAt}
 use Rattle.c_meaning.specs.declared.word.Word.{Word}
 use Rattle.c_meaning.specs.Locals.{Local, bound, value_named}
-use Rattle.c_meaning.specs.Access.{word_named, target_field}
 use Rattle.c_meaning.specs.Operators.{binary_of}
 use Rattle.c_meaning.specs.Meaning.{Out, Got, Stops, StmtEnd, Next, Broke, Again, Gave, Traps}
 use Rattle.c_meaning.specs.Meaning.{Calls, then_do, with_value, then_next, at_zero, tick, or_trap}
@@ -29,7 +28,7 @@ use Rattle.c_meaning.specs.Meaning.{pointer_of, values_of, operands_of, stored_e
 use Rattle.c_meaning.specs.Meaning.{update, target_local, freed, end_of_simple, declaration_end}
 use Rattle.c_meaning.specs.Meaning.{end_of_first, end_of_third, condition_of, return_end, in_scope}
 use Rattle.c_meaning.specs.Meaning.{after_turn, turns, end_of_stmt, ends_of, given, function_value}
-use Rattle.c_meaning.specs.Meaning.{calls_of}
+use Rattle.c_meaning.specs.Meaning.{calls_of, placed_trap, located}
 use Rattle.sound_law.specs.Expressions.{Past}
 use Rattle.sound_law.proofs.Expressions.{after_do}
 
@@ -103,24 +102,24 @@ zero_falls : (k : ℕ) (c : Bool) (a b : Out ℤ) → Falls k a → Falls k b
 zero_falls k true a b left right = left
 zero_falls k false a b left right = right
 
-tick_falls : (k : ℕ) (go : ℕ → Out ℤ) → ((j : ℕ) → Falls j (go j))
-    → Falls k (tick k (Stops trap.Steps) go)
-tick_falls zero go next = tt
-tick_falls (suc k) go next = falls_more k (suc k) (go k) (omega arith) (next k)
+tick_falls : (stop : TrapAt) (k : ℕ) (go : ℕ → Out ℤ) → ((j : ℕ) → Falls j (go j))
+    → Falls k (tick k (Stops stop) go)
+tick_falls stop zero go next = tt
+tick_falls stop (suc k) go next = falls_more k (suc k) (go k) (omega arith) (next k)
 
-tick_below : (k : ℕ) (go : ℕ → StmtEnd) → ((j : ℕ) → EndsBelow j (go j))
-    → EndsBelow k (tick k (Traps trap.Steps) go)
-tick_below zero go next = tt
-tick_below (suc k) go next = below_more k (suc k) (go k) (omega arith) (next k)
+tick_below : (stop : TrapAt) (k : ℕ) (go : ℕ → StmtEnd) → ((j : ℕ) → EndsBelow j (go j))
+    → EndsBelow k (tick k (Traps stop) go)
+tick_below stop zero go next = tt
+tick_below stop (suc k) go next = below_more k (suc k) (go k) (omega arith) (next k)
 
-loaded_falls : (r : Result Word TrapKind) (p : PoolMap) (k : ℕ) → Falls k (loaded r p k)
+loaded_falls : (r : Result Word TrapAt) (p : PoolMap) (k : ℕ) → Falls k (loaded r p k)
 loaded_falls (Ok w) p k = same k
 loaded_falls (Err trap) p k = tt
 
-or_trap_falls : (o : Option ℤ) (trap : TrapKind) (p : PoolMap) (k : ℕ)
-    → Falls k (or_trap o trap p k)
-or_trap_falls None trap p k = tt
-or_trap_falls (Some v) trap p k = same k
+or_trap_falls : (o : Option ℤ) (stop : TrapAt) (p : PoolMap) (k : ℕ)
+    → Falls k (or_trap o stop p k)
+or_trap_falls None stop p k = tt
+or_trap_falls (Some v) stop p k = same k
 
 abbrev Each : (PoolMap → ℕ → Out ℤ) → Type 0
 Each b = (p : PoolMap) (k : ℕ) → Falls k (b p k)
@@ -129,44 +128,55 @@ truth_falls : (k : ℕ) (b : Out ℤ) → Falls k b
     → Falls k (then_do b (λ y p k. Got (at_zero y (pos 0) (pos 1)) p k))
 truth_falls k b h = do_falls k b _ h (λ y p j. same j)
 
-strict_falls : (k : ℕ) (op : BinaryOp) (a : Out ℤ) (b : PoolMap → ℕ → Out ℤ) → Falls k a → Each b
-    → Falls k (strict op a b)
-strict_falls k op a b left right = do_falls k a _ left (λ x p j. do_falls j (b p j) _ (right p j)
-    (λ y p i. or_trap_falls (binary_of op x y) trap.Divide p i))
+strict_falls : (k : ℕ) (op : BinaryOp) (place : ℕ) (a : Out ℤ) (b : PoolMap → ℕ → Out ℤ)
+    → Falls k a → Each b → Falls k (strict op place a b)
+strict_falls k op place a b left right = do_falls k a _ left
+    (λ x p j. do_falls j (b p j) _ (right p j)
+    (λ y p i. or_trap_falls (binary_of op x y) (placed_trap trap.Divide place) p i))
 
-binary_falls : (k : ℕ) (op : BinaryOp) (a : Out ℤ) (b : PoolMap → ℕ → Out ℤ) → Falls k a → Each b
-    → Falls k (binary_means op a b)
-binary_falls k binary.Both a b left right = do_falls k a _ left (λ x p j. zero_falls j (is_zero x)
-    (Got (pos 0) p j) _ (same j) (truth_falls j (b p j) (right p j)))
-binary_falls k binary.Either a b left right = do_falls k a _ left (λ x p j. zero_falls j (is_zero x)
-    _ (Got (pos 1) p j) (truth_falls j (b p j) (right p j)) (same j))
-binary_falls k binary.Mul a b left right = strict_falls k binary.Mul a b left right
-binary_falls k binary.Div a b left right = strict_falls k binary.Div a b left right
-binary_falls k binary.Rem a b left right = strict_falls k binary.Rem a b left right
-binary_falls k binary.Add a b left right = strict_falls k binary.Add a b left right
-binary_falls k binary.Sub a b left right = strict_falls k binary.Sub a b left right
-binary_falls k binary.ShiftLeft a b left right = strict_falls k binary.ShiftLeft a b left right
-binary_falls k binary.ShiftRight a b left right = strict_falls k binary.ShiftRight a b left right
-binary_falls k binary.Less a b left right = strict_falls k binary.Less a b left right
-binary_falls k binary.LessEqual a b left right = strict_falls k binary.LessEqual a b left right
-binary_falls k binary.Greater a b left right = strict_falls k binary.Greater a b left right
-binary_falls k binary.GreaterEqual a b left right =
-    strict_falls k binary.GreaterEqual a b left right
-binary_falls k binary.Equal a b left right = strict_falls k binary.Equal a b left right
-binary_falls k binary.NotEqual a b left right = strict_falls k binary.NotEqual a b left right
-binary_falls k binary.And a b left right = strict_falls k binary.And a b left right
-binary_falls k binary.Xor a b left right = strict_falls k binary.Xor a b left right
-binary_falls k binary.Or a b left right = strict_falls k binary.Or a b left right
+binary_falls : (k : ℕ) (op : BinaryOp) (place : ℕ) (a : Out ℤ) (b : PoolMap → ℕ → Out ℤ)
+    → Falls k a → Each b → Falls k (binary_means op place a b)
+binary_falls k binary.Both place a b left right = do_falls k a _ left
+    (λ x p j. zero_falls j (is_zero x) (Got (pos 0) p j) _ (same j)
+    (truth_falls j (b p j) (right p j)))
+binary_falls k binary.Either place a b left right = do_falls k a _ left
+    (λ x p j. zero_falls j (is_zero x) _ (Got (pos 1) p j)
+    (truth_falls j (b p j) (right p j)) (same j))
+binary_falls k binary.Mul place a b left right = strict_falls k binary.Mul place a b left right
+binary_falls k binary.Div place a b left right = strict_falls k binary.Div place a b left right
+binary_falls k binary.Rem place a b left right = strict_falls k binary.Rem place a b left right
+binary_falls k binary.Add place a b left right = strict_falls k binary.Add place a b left right
+binary_falls k binary.Sub place a b left right = strict_falls k binary.Sub place a b left right
+binary_falls k binary.ShiftLeft place a b left right =
+    strict_falls k binary.ShiftLeft place a b left right
+binary_falls k binary.ShiftRight place a b left right =
+    strict_falls k binary.ShiftRight place a b left right
+binary_falls k binary.Less place a b left right = strict_falls k binary.Less place a b left right
+binary_falls k binary.LessEqual place a b left right =
+    strict_falls k binary.LessEqual place a b left right
+binary_falls k binary.Greater place a b left right =
+    strict_falls k binary.Greater place a b left right
+binary_falls k binary.GreaterEqual place a b left right =
+    strict_falls k binary.GreaterEqual place a b left right
+binary_falls k binary.Equal place a b left right = strict_falls k binary.Equal place a b left right
+binary_falls k binary.NotEqual place a b left right =
+    strict_falls k binary.NotEqual place a b left right
+binary_falls k binary.And place a b left right = strict_falls k binary.And place a b left right
+binary_falls k binary.Xor place a b left right = strict_falls k binary.Xor place a b left right
+binary_falls k binary.Or place a b left right = strict_falls k binary.Or place a b left right
 
 abbrev pub CallsFall : Calls → Type 0
-CallsFall calls = (f : FunctionTree) (vs : List ℤ) (p : PoolMap) (k : ℕ) → Falls k (calls f vs p k)
+CallsFall calls = (place : ℕ) (f : FunctionTree) (vs : List ℤ) (p : PoolMap) (k : ℕ)
+    → Falls k (calls place f vs p k)
 
 module _ (t : Tables) (calls : Calls) (fall : CallsFall calls) where
-  called_falls : (o : Option FunctionTree) (all : FunctionTree → Out (List ℤ)) (p : PoolMap)
-      (k : ℕ) → ((f : FunctionTree) → Falls k (all f)) → Falls k (called calls o all p k)
-  called_falls None all p k h = same k
-  called_falls (Some f) all p k h = do_falls k (all f) _ (h f)
-      (λ vs p j. tick_falls j (λ i. calls f vs p i) (λ i. fall f vs p i))
+  called_falls : (place : ℕ) (o : Option FunctionTree) (all : FunctionTree → Out (List ℤ))
+      (p : PoolMap) (k : ℕ) → ((f : FunctionTree) → Falls k (all f))
+      → Falls k (called calls place o all p k)
+  called_falls place None all p k h = same k
+  called_falls place (Some f) all p k h = do_falls k (all f) _ (h f)
+      (λ vs p j. tick_falls (placed_trap trap.Steps place) j (λ i. calls place f vs p i)
+      (λ i. fall place f vs p i))
 
   mutual
     pub value_falls : (e : ExprTree) (ls : List Local) (p : PoolMap) (k : ℕ)
@@ -174,22 +184,22 @@ module _ (t : Tables) (calls : Calls) (fall : CallsFall calls) where
     value_falls (expr.Number n) ls p k = same k
     value_falls expr.Null ls p k = same k
     value_falls (expr.Variable name) ls p k = same k
-    value_falls (expr.Call name all) ls p k = called_falls (function_named t name.text)
+    value_falls (expr.Call name all) ls p k = called_falls name.place (function_named t name.text)
         (λ f. values_of t calls all ls p k) p k (λ f. values_fall all ls p k)
     value_falls (expr.New place name) ls p k = same k
     value_falls (expr.Root name) ls p k =
-        loaded_falls (word_named t ls p (expr.Root name) (pos 0) None) p k
+        loaded_falls (located t ls p (expr.Root name) (pos 0) None) p k
     value_falls (expr.Arrow base place name) ls p k =
         do_falls k (value_of t calls base ls p k) _ (value_falls base ls p k)
-        (λ b p j. loaded_falls (word_named t ls p (expr.Arrow base place name) b None) p j)
+        (λ b p j. loaded_falls (located t ls p (expr.Arrow base place name) b None) p j)
     value_falls (expr.Index a place i) ls p k =
         do_falls k (pointer_of t calls a ls p k) _ (pointer_falls a ls p k)
         (λ b p j. do_falls j (value_of t calls i ls p j) _ (value_falls i ls p j)
-        (λ x p n. loaded_falls (word_named t ls p a b (Some x)) p n))
+        (λ x p n. loaded_falls (located t ls p (expr.Index a place i) b (Some x)) p n))
     value_falls (expr.Unary op place a) ls p k =
         do_falls k (value_of t calls a ls p k) _ (value_falls a ls p k) (λ x p j. same j)
     value_falls (expr.Binary op place a b) ls p k =
-        binary_falls k op (value_of t calls a ls p k) (λ p k. value_of t calls b ls p k)
+        binary_falls k op place (value_of t calls a ls p k) (λ p k. value_of t calls b ls p k)
         (value_falls a ls p k) (λ p j. value_falls b ls p j)
 
     pointer_falls : (e : ExprTree) (ls : List Local) (p : PoolMap) (k : ℕ)
@@ -229,7 +239,7 @@ module _ (t : Tables) (calls : Calls) (fall : CallsFall calls) where
   operands_fall (expr.Unary op place a) ls p k = same k
   operands_fall (expr.Binary op place a b) ls p k = same k
 
-  stored_below : (r : Result Word TrapKind) (v : ℤ) (ls : List Local) (p : PoolMap) (k : ℕ)
+  stored_below : (r : Result Word TrapAt) (v : ℤ) (ls : List Local) (p : PoolMap) (k : ℕ)
       → EndsBelow k (stored_end r v ls p k)
   stored_below (Ok w) v ls p k = same k
   stored_below (Err trap) v ls p k = tt
@@ -242,24 +252,26 @@ module _ (t : Tables) (calls : Calls) (fall : CallsFall calls) where
   assign_below None e value ls p k h =
       value_below k (operands_of t calls e ls p k) _ (operands_fall e ls p k)
       (λ o p j. value_below j (value p j) _ (h p j)
-      (λ v p i. stored_below (word_named t ls p (target_field e) o.0 o.1) v ls p i))
+      (λ v p i. stored_below (located t ls p e o.0 o.1) v ls p i))
 
-  update_below : (o : Option (List ℕ)) (e : ExprTree) (op : BinaryOp)
+  update_below : (o : Option (List ℕ)) (e : ExprTree) (op : BinaryOp) (place : ℕ)
       (right : PoolMap → ℕ → Out ℤ) (ls : List Local) (p : PoolMap) (k : ℕ) → Each right
-      → EndsBelow k (update t calls o e op right ls p k)
-  update_below (Some name) e op right ls p k h = value_below k (right p k) _ (h p k)
-      (λ y p j. value_below j (or_trap (binary_of op (value_named name ls) y) trap.Divide p j) _
-      (or_trap_falls (binary_of op (value_named name ls) y) trap.Divide p j) (λ v p i. same i))
-  update_below None e op right ls p k h =
+      → EndsBelow k (update t calls o e op place right ls p k)
+  update_below (Some name) e op place right ls p k h = value_below k (right p k) _ (h p k)
+      (λ y p j. value_below j
+      (or_trap (binary_of op (value_named name ls) y) (placed_trap trap.Divide place) p j) _
+      (or_trap_falls (binary_of op (value_named name ls) y) (placed_trap trap.Divide place) p j)
+      (λ v p i. same i))
+  update_below None e op place right ls p k h =
       value_below k (operands_of t calls e ls p k) _ (operands_fall e ls p k)
-      (λ o p j. value_below j (loaded (word_named t ls p (target_field e) o.0 o.1) p j) _
-      (loaded_falls (word_named t ls p (target_field e) o.0 o.1) p j)
+      (λ o p j. value_below j (loaded (located t ls p e o.0 o.1) p j) _
+      (loaded_falls (located t ls p e o.0 o.1) p j)
       (λ x p i. value_below i (right p i) _ (h p i)
-      (λ y p n. value_below n (or_trap (binary_of op x y) trap.Divide p n) _
-      (or_trap_falls (binary_of op x y) trap.Divide p n)
-      (λ v p m. stored_below (word_named t ls p (target_field e) o.0 o.1) v ls p m))))
+      (λ y p n. value_below n (or_trap (binary_of op x y) (placed_trap trap.Divide place) p n) _
+      (or_trap_falls (binary_of op x y) (placed_trap trap.Divide place) p n)
+      (λ v p m. stored_below (located t ls p e o.0 o.1) v ls p m))))
 
-  freed_below : (r : Result PoolMap TrapKind) (ls : List Local) (k : ℕ)
+  freed_below : (r : Result PoolMap TrapAt) (ls : List Local) (k : ℕ)
       → EndsBelow k (freed r ls k)
   freed_below (Ok p) ls k = same k
   freed_below (Err trap) ls k = tt
@@ -270,16 +282,18 @@ module _ (t : Tables) (calls : Calls) (fall : CallsFall calls) where
       assign_below (target_local target) target (λ p k. value_of t calls e ls p k) ls p k
       (λ p k. value_falls e ls p k)
   simple_below (stmt.Assign target assign.Add place e) ls p k =
-      update_below (target_local target) target binary.Add (λ p k. value_of t calls e ls p k) ls p
+      update_below (target_local target) target binary.Add place
+      (λ p k. value_of t calls e ls p k) ls p
       k (λ p k. value_falls e ls p k)
   simple_below (stmt.Assign target assign.Sub place e) ls p k =
-      update_below (target_local target) target binary.Sub (λ p k. value_of t calls e ls p k) ls p
+      update_below (target_local target) target binary.Sub place
+      (λ p k. value_of t calls e ls p k) ls p
       k (λ p k. value_falls e ls p k)
   simple_below (stmt.Step target step.Up place) ls p k =
-      update_below (target_local target) target binary.Add (λ p k. Got (pos 1) p k) ls p k
+      update_below (target_local target) target binary.Add place (λ p k. Got (pos 1) p k) ls p k
       (λ p k. same k)
   simple_below (stmt.Step target step.Down place) ls p k =
-      update_below (target_local target) target binary.Sub (λ p k. Got (pos 1) p k) ls p k
+      update_below (target_local target) target binary.Sub place (λ p k. Got (pos 1) p k) ls p k
       (λ p k. same k)
   simple_below (stmt.Call name all) ls p k =
       value_below k (value_of t calls (expr.Call name all) ls p k) _
@@ -322,19 +336,20 @@ module _ (t : Tables) (calls : Calls) (fall : CallsFall calls) where
   return_below (Some e) ls p k = value_below k (value_of t calls e ls p k) _
       (value_falls e ls p k) (λ v p j. same j)
 
-  turns_below : (n : ℕ) (test : List Local → PoolMap → ℕ → Out ℤ)
+  turns_below : (n place : ℕ) (test : List Local → PoolMap → ℕ → Out ℤ)
       (body third : List Local → PoolMap → ℕ → StmtEnd) (ls : List Local) (p : PoolMap) (k : ℕ)
       → ((ls : List Local) (p : PoolMap) (k : ℕ) → Falls k (test ls p k))
       → ((ls : List Local) (p : PoolMap) (k : ℕ) → EndsBelow k (body ls p k))
       → ((ls : List Local) (p : PoolMap) (k : ℕ) → EndsBelow k (third ls p k))
-      → EndsBelow k (turns n test body third ls p k)
-  turns_below zero test body third ls p k a b c = tt
-  turns_below (suc n) test body third ls p k a b c = tick_below k _
+      → EndsBelow k (turns n place test body third ls p k)
+  turns_below zero place test body third ls p k a b c = tt
+  turns_below (suc n) place test body third ls p k a b c =
+      tick_below (placed_trap trap.Steps place) k _
       (λ k. value_below k (test ls p k) _ (a ls p k)
       (λ v p k. zero_below k (is_zero v) (Next ls p k) _ (same k)
       (turn_below k (body ls p k) _ (b ls p k)
       (λ ls p k. next_below k (third ls p k) _ (c ls p k)
-      (λ ls p k. turns_below n test body third ls p k a b c)))))
+      (λ ls p k. turns_below n place test body third ls p k a b c)))))
 
   mutual
     pub stmt_below : (x : StmtTree) (ls : List Local) (p : PoolMap) (k : ℕ)
@@ -351,13 +366,13 @@ module _ (t : Tables) (calls : Calls) (fall : CallsFall calls) where
         (value_falls c ls p k) (λ v p j. zero_below j (is_zero v) _ _
         (scope_below j (length ls) (end_of_stmt t calls b ls p j) (stmt_below b ls p j))
         (scope_below j (length ls) (end_of_stmt t calls a ls p j) (stmt_below a ls p j)))
-    stmt_below (stmt.While c a) ls p k = turns_below k _ _ _ ls p k
+    stmt_below (stmt.While place c a) ls p k = turns_below k place _ _ _ ls p k
         (λ ls p k. value_falls c ls p k)
         (λ ls p k. scope_below k (length ls) (end_of_stmt t calls a ls p k) (stmt_below a ls p k))
         (λ ls p k. same k)
-    stmt_below (stmt.For first c third a) ls p k = scope_below k (length ls) _
+    stmt_below (stmt.For place first c third a) ls p k = scope_below k (length ls) _
         (next_below k (end_of_first t calls first ls p k) _ (first_below first ls p k)
-        (λ ls p k. turns_below k _ _ _ ls p k (λ ls p k. condition_falls c ls p k)
+        (λ ls p k. turns_below k place _ _ _ ls p k (λ ls p k. condition_falls c ls p k)
         (λ ls p k. scope_below k (length ls) (end_of_stmt t calls a ls p k) (stmt_below a ls p k))
         (λ ls p k. third_below third ls p k)))
     stmt_below stmt.Break ls p k = same k
@@ -390,5 +405,6 @@ module _ (t : Tables) (calls : Calls) (fall : CallsFall calls) where
       (statements_below f.body (bound t f.parameters vs []) p k)
 
 pub calls_fall : (t : Tables) (room : ℕ) → CallsFall (calls_of t room)
-calls_fall t zero f vs p k = tt
-calls_fall t (suc room) f vs p k = function_falls t (calls_of t room) (calls_fall t room) f vs p k
+calls_fall t zero place f vs p k = tt
+calls_fall t (suc room) place f vs p k =
+    function_falls t (calls_of t room) (calls_fall t room) f vs p k

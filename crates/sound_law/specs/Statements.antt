@@ -19,12 +19,12 @@ use Rattle.pool_map.specs.declared.trap.TrapKind.TheVariants as trap
 use Rattle.pool_map.specs.PoolMap.{PoolMap}
 use Rattle.pool_map.specs.Checks.{is_zero}
 use Rattle.c_meaning.specs.Locals.{Local, bound}
-use Rattle.c_meaning.specs.Access.{target_field, word_named, struct_pointed_by}
+use Rattle.c_meaning.specs.Access.{target_field, struct_pointed_by}
 use Rattle.c_meaning.specs.Operators.{binary_of}
 use Rattle.c_meaning.specs.Meaning.{Out, Got, StmtEnd, Next, Broke, Again, Gave, Traps, Calls}
 use Rattle.c_meaning.specs.Meaning.{value_of, operands_of, loaded, or_trap, target_local}
 use Rattle.c_meaning.specs.Meaning.{end_of_first, end_of_third, condition_of, in_scope}
-use Rattle.c_meaning.specs.Meaning.{end_of_stmt, calls_of}
+use Rattle.c_meaning.specs.Meaning.{end_of_stmt, calls_of, placed_trap, located}
 use Rattle.sound_law.specs.Places.{IsLocal, IsNumbered, FindsWord}
 use Rattle.sound_law.specs.Expressions.{Past, AfterTick, Finds, FindsOperands}
 
@@ -69,34 +69,35 @@ module _ (t : Tables) (calls : Calls) (found : FunctionTree → List ℤ → Poo
       (λ v p k. FindsWord t ls p (target_field target) o.0 o.1))
 
   -- the word is there for the load, and once more for the store after the right side
-  abbrev pub UpdateFinds : Option (List ℕ) → ExprTree → BinaryOp
+  abbrev pub UpdateFinds : Option (List ℕ) → ExprTree → BinaryOp → (place : ℕ)
       → (right : PoolMap → ℕ → Out ℤ) → (PoolMap → ℕ → Type 0)
       → List Local → PoolMap → ℕ → Type 0
-  UpdateFinds (Some name) target op right Right ls p k = IsLocal name ls × Right p k
-  UpdateFinds None target op right Right ls p k = FindsOperands t calls found target ls p k
+  UpdateFinds (Some name) target op place right Right ls p k = IsLocal name ls × Right p k
+  UpdateFinds None target op place right Right ls p k = FindsOperands t calls found target ls p k
       × Past (operands_of t calls target ls p k)
       (λ o p k. FindsWord t ls p (target_field target) o.0 o.1
-      × Past (loaded (word_named t ls p (target_field target) o.0 o.1) p k)
+      × Past (loaded (located t ls p target o.0 o.1) p k)
       (λ x p k. Right p k × Past (right p k)
-      (λ y p k. Past (or_trap (binary_of op x y) trap.Divide p k)
+      (λ y p k. Past (or_trap (binary_of op x y) (placed_trap trap.Divide place) p k)
       (λ v p k. FindsWord t ls p (target_field target) o.0 o.1))))
 
-  abbrev pub AssignFinds : AssignOp → ExprTree → ExprTree → List Local → PoolMap → ℕ → Type 0
-  AssignFinds assign.Set target e ls p k = SetFinds (target_local target) target e ls p k
-  AssignFinds assign.Add target e ls p k = UpdateFinds (target_local target) target binary.Add
-      (λ p k. value_of t calls e ls p k) (λ p k. Finds t calls found e ls p k) ls p k
-  AssignFinds assign.Sub target e ls p k = UpdateFinds (target_local target) target binary.Sub
-      (λ p k. value_of t calls e ls p k) (λ p k. Finds t calls found e ls p k) ls p k
+  abbrev pub AssignFinds : AssignOp → (place : ℕ) → ExprTree → ExprTree → List Local → PoolMap → ℕ
+      → Type 0
+  AssignFinds assign.Set place target e ls p k = SetFinds (target_local target) target e ls p k
+  AssignFinds assign.Add place target e ls p k = UpdateFinds (target_local target) target binary.Add
+      place (λ p k. value_of t calls e ls p k) (λ p k. Finds t calls found e ls p k) ls p k
+  AssignFinds assign.Sub place target e ls p k = UpdateFinds (target_local target) target binary.Sub
+      place (λ p k. value_of t calls e ls p k) (λ p k. Finds t calls found e ls p k) ls p k
 
-  abbrev pub StepFinds : StepOp → ExprTree → List Local → PoolMap → ℕ → Type 0
-  StepFinds step.Up target ls p k = UpdateFinds (target_local target) target binary.Add
+  abbrev pub StepFinds : StepOp → (place : ℕ) → ExprTree → List Local → PoolMap → ℕ → Type 0
+  StepFinds step.Up place target ls p k = UpdateFinds (target_local target) target binary.Add place
       (λ p k. Got (pos 1) p k) (λ p k. Unit {0}) ls p k
-  StepFinds step.Down target ls p k = UpdateFinds (target_local target) target binary.Sub
-      (λ p k. Got (pos 1) p k) (λ p k. Unit {0}) ls p k
+  StepFinds step.Down place target ls p k = UpdateFinds (target_local target) target binary.Sub
+      place (λ p k. Got (pos 1) p k) (λ p k. Unit {0}) ls p k
 
   abbrev pub SimpleFinds : SimpleTree → List Local → PoolMap → ℕ → Type 0
-  SimpleFinds (stmt.Assign target op place e) ls p k = AssignFinds op target e ls p k
-  SimpleFinds (stmt.Step target op place) ls p k = StepFinds op target ls p k
+  SimpleFinds (stmt.Assign target op place e) ls p k = AssignFinds op place target e ls p k
+  SimpleFinds (stmt.Step target op place) ls p k = StepFinds op place target ls p k
   SimpleFinds (stmt.Call name all) ls p k = Finds t calls found (expr.Call name all) ls p k
   SimpleFinds (stmt.Free place e) ls p k = Finds t calls found e ls p k
       × IsNumbered t (struct_pointed_by t ls e)
@@ -130,12 +131,12 @@ module _ (t : Tables) (calls : Calls) (found : FunctionTree → List ℤ → Poo
     StmtFinds (stmt.IfElse c a b) ls p k = Finds t calls found c ls p k
         × Past (value_of t calls c ls p k) (λ v p k. (is_zero v ≡ false → StmtFinds a ls p k)
         × (is_zero v ≡ true → StmtFinds b ls p k))
-    StmtFinds (stmt.While c a) ls p k = TurnsFind k
+    StmtFinds (stmt.While place c a) ls p k = TurnsFind k
         (λ ls p k. value_of t calls c ls p k) (λ ls p k. Finds t calls found c ls p k)
         (λ ls p k. in_scope (length ls) (end_of_stmt t calls a ls p k))
         (λ ls p k. StmtFinds a ls p k)
         (λ ls p k. Next ls p k) (λ ls p k. Unit {0}) ls p k
-    StmtFinds (stmt.For first c third a) ls p k = FirstFinds first ls p k
+    StmtFinds (stmt.For place first c third a) ls p k = FirstFinds first ls p k
         × AfterNext (end_of_first t calls first ls p k) (λ ls p k. TurnsFind k
         (λ ls p k. condition_of t calls c ls p k) (λ ls p k. OptionFinds c ls p k)
         (λ ls p k. in_scope (length ls) (end_of_stmt t calls a ls p k))

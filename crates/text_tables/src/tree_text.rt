@@ -215,7 +215,11 @@ fn show_statement(
             }
             out.push_str(">")?;
         }
-        Stmt::While { condition, body } => {
+        Stmt::While {
+            condition,
+            body,
+            ..
+        } => {
             out.push_str("while ")?;
             show(alloc, out, condition, 100)?;
             out.push_str("<")?;
@@ -227,6 +231,7 @@ fn show_statement(
             condition,
             third,
             body,
+            ..
         } => {
             out.push_str("for ")?;
             match first {

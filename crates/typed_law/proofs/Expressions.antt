@@ -120,10 +120,10 @@ rest_type t ps qs q i h =
     same : (i : ℕ) → i ≡ i + 0
     same i = omega arith
 
-suc_zero : (n : ℕ) → suc n ≡ 0 → ⊥
+pub suc_zero : (n : ℕ) → suc n ≡ 0 → ⊥
 suc_zero n e = cc
 
-suc_same : (m n : ℕ) → suc m ≡ suc n → m ≡ n
+pub suc_same : (m n : ℕ) → suc m ≡ suc n → m ≡ n
 suc_same m n e = cc
 
 -- a field of the root, and one reached by `->`

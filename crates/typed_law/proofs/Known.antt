@@ -3,6 +3,7 @@ use Rattle.std.proofs.Common.{◌≡◌, ℕ, zero, suc, true, false, List, [], 
 use Rattle.std.specs.Prelude.{if◌then◌else◌, ◌||◌, not, is_some, slice_get, Option, None, Some}
 use Rattle.std.specs.Prelude.{option_and_then}
 use Rattle.std.specs.Option.{option_map_or}
+use Rattle.std.proofs.lemmas.Option.{none-some, same_Some}
 use Rattle.c_tree.specs.ExprTree.{Ident}
 use Rattle.c_tree.specs.ItemTree.{FieldTree, FunctionTree, LengthTree, ParameterTree}
 use Rattle.c_types.specs.declared.value_type.ValueType.{ValueType}
@@ -30,26 +31,20 @@ abbrev pub AreKnown : List Scope → Type 0
 AreKnown [] = Unit {0}
 AreKnown (s ∷ ss) = AreTypes s.types × AreKnown ss
 
-none_some : {A : Type 0} (x : A) → None ≡ Some x → ⊥
-none_some x e = cc
-
-some_same : {A : Type 0} (x y : A) → Some x ≡ Some y → x ≡ y
-some_same x y e = cc
-
 type_at : (tys : List ValueType) (j : ℕ) (ty : ValueType) → AreTypes tys
     → slice_get tys j ≡ Some ty → (x : StaticType) × (ty ≡ value_type x)
-type_at [] j ty h e = absurd (none_some ty e)
-type_at (y ∷ tys) zero ty h e = (h.0.0, sym (some_same y ty e) ∙ h.0.1)
+type_at [] j ty h e = absurd (none-some ty e)
+type_at (y ∷ tys) zero ty h e = (h.0.0, sym (same_Some y ty e) ∙ h.0.1)
 type_at (y ∷ tys) (suc j) ty h e = type_at tys j ty h.1 e
 
 type_found : (tys : List ValueType) (o : Option ℕ) (ty : ValueType) → AreTypes tys
     → option_and_then (slice_get tys) o ≡ Some ty → (x : StaticType) × (ty ≡ value_type x)
-type_found tys None ty h e = absurd (none_some ty e)
+type_found tys None ty h e = absurd (none-some ty e)
 type_found tys (Some j) ty h e = type_at tys j ty h e
 
 pub variable_known : (name : List ℕ) (ss : List Scope) (ty : ValueType) → AreKnown ss
     → variable_type name ss ≡ Some ty → (x : StaticType) × (ty ≡ value_type x)
-variable_known name [] ty h e = absurd (none_some ty e)
+variable_known name [] ty h e = absurd (none-some ty e)
 variable_known name (s ∷ ss) ty h e =
     by_scope (type_in name s) refl e (variable_known name ss ty h.1)
   where
@@ -91,7 +86,7 @@ pub record IsReady (t : Tables) : Type 0 where
 -- what is found by a name stands at some place
 found_at : {A : Type 0} (xs : List A) (o : Option ℕ) (x : A)
     → option_and_then (slice_get xs) o ≡ Some x → (j : ℕ) × (slice_get xs j ≡ Some x)
-found_at xs None x e = absurd (none_some x e)
+found_at xs None x e = absurd (none-some x e)
 found_at xs (Some j) x e = (j, e)
 
 pub function_at : (t : Tables) (name : List ℕ) (f : FunctionTree)

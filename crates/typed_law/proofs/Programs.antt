@@ -4,6 +4,7 @@ use Rattle.std.proofs.Common.{length, refl, sym, ap, arith}
 use Rattle.std.specs.Prelude.{◌||◌, not, nat_le, nat_eq, is_some, slice_get, Option, None, Some}
 use Rattle.std.specs.Option.{option_map_or}
 use Rattle.std.proofs.lemmas.Bool.Decides.{nat_tests}
+use Rattle.std.proofs.lemmas.Option.{none-some, same_Some}
 use Rattle.c_tree.specs.StmtTree.{TypeTree}
 use Rattle.c_tree.specs.StmtTree as stmt
 use Rattle.c_tree.specs.ItemTree.{FieldTree, FunctionTree, LengthTree, ParameterTree}
@@ -33,12 +34,6 @@ use Rattle.typed_law.proofs.Broken.{and_right, not_true, le_from, same_from, sam
 use Rattle.typed_law.proofs.Fitting.{type_written, declared_is}
 use Rattle.typed_law.proofs.Known.{AreKnown, known_inside, known_declared, AreWritten, IsReady}
 use Rattle.typed_law.proofs.Statements.{statements_are}
-
-none_some : {A : Type 0} (x : A) → None ≡ Some x → ⊥
-none_some x e = cc
-
-some_same : {A : Type 0} (x y : A) → Some x ≡ Some y → x ≡ y
-some_same x y e = cc
 
 pub plus_zero : (i : ℕ) → i + 0 ≡ i
 plus_zero i = omega arith
@@ -73,9 +68,9 @@ field_is t s j f b =
 field_found : (t : Tables) (s : StructTree) (i : ℕ) (fs : List FieldTree)
     → fields_broken t (field_names s) i fs ≡ [] → (j : ℕ) (f : FieldTree)
     → slice_get fs j ≡ Some f → IsField t s (i + j) f
-field_found t s i [] b j f e = absurd (none_some f e)
+field_found t s i [] b j f e = absurd (none-some f e)
 field_found t s i (x ∷ fs) b zero f e =
-    rw (← some_same x f e, plus_zero i) (field_is t s i x (none_left (field_broken t
+    rw (← same_Some x f e, plus_zero i) (field_is t s i x (none_left (field_broken t
     (field_names s) i x) _ b))
 field_found t s i (x ∷ fs) b (suc j) f e =
     rw (plus_next i j) (field_found t s (i + 1) fs (none_right (field_broken t
@@ -133,9 +128,9 @@ struct_is t i s le b =
 struct_found : (t : Tables) (i : ℕ) (ss : List StructTree) → i ≤ 255
     → structs_broken t i ss ≡ [] → (j : ℕ) (s : StructTree) → slice_get ss j ≡ Some s
     → IsStruct t (i + j) s
-struct_found t i [] le b j s e = absurd (none_some s e)
+struct_found t i [] le b j s e = absurd (none-some s e)
 struct_found t i (x ∷ ss) le b zero s e =
-    rw (← some_same x s e, plus_zero i) (struct_is t i x le (none_left
+    rw (← same_Some x s e, plus_zero i) (struct_is t i x le (none_left
     (whole_struct_broken t i x) _ b))
 struct_found t i (x ∷ ss) le b (suc j) s e =
     let here : IsStruct t i x = struct_is t i x le (none_left (whole_struct_broken t i x) _ b) in
@@ -267,9 +262,9 @@ head_is t i f le b =
 head_found : (t : Tables) (i : ℕ) (fs : List FunctionTree) → i ≤ 1024
     → functions_broken t i fs ≡ [] → (j : ℕ) (f : FunctionTree) → slice_get fs j ≡ Some f
     → IsHead t (i + j) f
-head_found t i [] le b j f e = absurd (none_some f e)
+head_found t i [] le b j f e = absurd (none-some f e)
 head_found t i (x ∷ fs) le b zero f e =
-    rw (← some_same x f e, plus_zero i) (head_is t i x le (none_left
+    rw (← same_Some x f e, plus_zero i) (head_is t i x le (none_left
     (whole_function_broken t i x) _ b))
 head_found t i (x ∷ fs) le b (suc j) f e =
     let here : IsHead t i x = head_is t i x le (none_left (whole_function_broken t i x) _ b) in

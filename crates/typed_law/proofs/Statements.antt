@@ -194,8 +194,8 @@ statement_known t result s (stmt.Simple x) known b = known
 statement_known t result s (stmt.Block all) known b = known
 statement_known t result s (stmt.If c a) known b = known
 statement_known t result s (stmt.IfElse c a e) known b = known
-statement_known t result s (stmt.While c a) known b = known
-statement_known t result s (stmt.For first c third a) known b = known
+statement_known t result s (stmt.While place c a) known b = known
+statement_known t result s (stmt.For place first c third a) known b = known
 statement_known t result s stmt.Break known b = known
 statement_known t result s stmt.Continue known b = known
 statement_known t result s (stmt.Return place value) known b = known
@@ -223,12 +223,12 @@ mutual
         statement_is t result (inner_scopes s) e ready res (known_inside s known)
             (none_right one _ rest),
       )
-  statement_is t result s (stmt.While c a) ready res known b = (
+  statement_is t result s (stmt.While place c a) ready res known b = (
     typed_is t s c ready known (none_left (value_broken t s c) _ b),
     statement_is t result
         (inner_scopes s) a ready res (known_inside s known) (none_right (value_broken t s c) _ b),
   )
-  statement_is t result s (stmt.For first c third a) ready res known b =
+  statement_is t result s (stmt.For place first c third a) ready res known b =
       let s1 : List Scope = inner_scopes s in
       let inner : List Scope = option_map_or (λ f. scopes_after_first t f s1) first s1 in
       let k1 : AreKnown s1 = known_inside s known in

@@ -22,7 +22,7 @@ use Rattle.typed_law.proofs.Fitting.{pointer_kept, declared_is}
 use Rattle.typed_law.proofs.Expressions.{IsRest, whole_rest, next_rest, rest_type}
 
 -- a field that is there
-member_is : (t : Tables) (i : ℕ) (name : Ident) (x : StaticType) → HasValueField t i name.text x
+pub member_is : (t : Tables) (i : ℕ) (name : Ident) (x : StaticType) → HasValueField t i name.text x
     → member_kind t i name ≡ Value (value_type x)
 member_is t i name x h =
     let is : declared_type t h.field.ty ≡ value_type x = declared_is t h.field.ty x h.typed in
@@ -32,7 +32,7 @@ member_some : (t : Tables) (i : ℕ) (name : Ident) (x : StaticType) → HasValu
     → is_some (member t i name) ≡ true
 member_some t i name x h = rw (h.there, h.named) refl
 
-array_is : (t : Tables) (i : ℕ) (name : Ident) (x : StaticType) → HasArray t i name.text x
+pub array_is : (t : Tables) (i : ℕ) (name : Ident) (x : StaticType) → HasArray t i name.text x
     → member_kind t i name ≡ Array (value_type x) name.place
 array_is t i name x h =
     let is : declared_type t h.field.ty ≡ value_type x = declared_is t h.field.ty x h.typed in

@@ -141,10 +141,10 @@ mutual
       (none_both (statement_broken t (option_map (declared_type t) result) (inner_scopes s) a) _
       (statement_kept t result (inner_scopes s) a h.1)
       (statement_kept t result (inner_scopes s) e h.2))
-  statement_kept t result s (stmt.While c a) h =
+  statement_kept t result s (stmt.While place c a) h =
       none_both (value_broken t s c) _ (value_kept t s c h.0.0 h.0.1) (statement_kept t result
       (inner_scopes s) a h.1)
-  statement_kept t result s (stmt.For first c third a) h =
+  statement_kept t result s (stmt.For place first c third a) h =
       let s1 : List Scope = inner_scopes s in
       let inner : List Scope = option_map_or (λ f. scopes_after_first t f s1) first s1 in
       none_both (option_map_or (first_broken t s1) first []) _ (first_kept t s1 first h.0)

@@ -84,9 +84,10 @@ abbrev mutual
   IsStatement t result s (stmt.IfElse c a b) =
       IsTyped t s c × IsStatement t result (inner_scopes s) a
       × IsStatement t result (inner_scopes s) b
-  IsStatement t result s (stmt.While c a) = IsTyped t s c × IsStatement t result (inner_scopes s) a
+  IsStatement t result s (stmt.While place c a) =
+      IsTyped t s c × IsStatement t result (inner_scopes s) a
   -- a `for` is a scope round its parts and its body
-  IsStatement t result s (stmt.For first c third a) = let inner =
+  IsStatement t result s (stmt.For place first c third a) = let inner =
       option_map_or (λ f. scopes_after_first t f (inner_scopes s)) first (inner_scopes s) in
       IsFirst t (inner_scopes s) first × IsCondition t inner c × IsThird t inner third
       × IsStatement t result inner a

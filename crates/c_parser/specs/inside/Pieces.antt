@@ -62,16 +62,16 @@ pub data SpellsChoice (ts : List Placed) : ℕ → ℕ → StmtTree → Type 0 w
       → Bracketed ts i m e → Stated ts m j a → kind_at ts j ≡ kind.Else → Stated ts (j + 1) k b
       → SpellsChoice ts i k (tree.IfElse e a b)
 
--- from the place after a `while`
-pub data SpellsWhile (ts : List Placed) : ℕ → ℕ → StmtTree → Type 0 where
+-- from the place after a `while`, whose own place is that of the word
+pub data SpellsWhile (ts : List Placed) (word : ℕ) : ℕ → ℕ → StmtTree → Type 0 where
   repeated : {i m j : ℕ} {e : ExprTree} {s : StmtTree} → Bracketed ts i m e → Stated ts m j s
-      → SpellsWhile ts i j (tree.While e s)
+      → SpellsWhile ts word i j (tree.While word e s)
 
--- from the place after a `for`
-pub data SpellsCounted (ts : List Placed) : ℕ → ℕ → StmtTree → Type 0 where
+-- from the place after a `for`, whose own place is that of the word
+pub data SpellsCounted (ts : List Placed) (word : ℕ) : ℕ → ℕ → StmtTree → Type 0 where
   counted : {i m j : ℕ} {p : ForTree} {s : StmtTree}
       → SpellsFor ts i m p → Stated ts m j s
-      → SpellsCounted ts i j (tree.For p.first p.condition p.third s)
+      → SpellsCounted ts word i j (tree.For word p.first p.condition p.third s)
 
 -- a statement that contains no other
 pub data SpellsPlain (ts : List Placed) : ℕ → ℕ → StmtTree → Type 0 where

@@ -26,15 +26,13 @@ use Rattle.c_meaning.specs.Locals.{Local, assigned, local_declared, bound}
 use Rattle.c_meaning.specs.declared.word.Word.{Word}
 use Rattle.c_meaning.specs.Access.{free_object}
 use Rattle.c_meaning.specs.Operators.{unary_of, binary_of}
-use Rattle.interpreter.specs.Placed.{Out, Got, Stops, StmtEnd, Next, Broke, Again, Gave, Traps}
-use Rattle.c_meaning.specs.Meaning.{at_zero, tick}
-use Rattle.interpreter.specs.Placed.{Calls, then_do, then_next, or_trap, loaded}
-use Rattle.interpreter.specs.Placed.{stored_end, freed, value_of, values_of, operands_of}
-use Rattle.interpreter.specs.Placed.{end_of_simple, end_of_third, condition_of, in_scope}
-use Rattle.interpreter.specs.Placed.{after_turn, turns, end_of_stmt, ends_of, given, calls_of}
-use Rattle.interpreter.specs.Placed.{trap_at, word_at, at_place}
-use Rattle.interpreter.specs.declared.fault.TrapAt.{TrapAt}
-use Rattle.interpreter.specs.Placed.{Outcome, Done, Trap}
+use Rattle.c_meaning.specs.declared.trap_at.TrapAt.{TrapAt}
+use Rattle.c_meaning.specs.Meaning.{Out, Got, Stops, StmtEnd, Next, Broke, Again, Gave, Traps}
+use Rattle.c_meaning.specs.Meaning.{at_zero, tick, Calls, then_do, then_next, or_trap, loaded}
+use Rattle.c_meaning.specs.Meaning.{stored_end, freed, value_of, values_of, operands_of}
+use Rattle.c_meaning.specs.Meaning.{end_of_simple, end_of_third, condition_of, in_scope}
+use Rattle.c_meaning.specs.Meaning.{after_turn, turns, end_of_stmt, ends_of, given, calls_of}
+use Rattle.c_meaning.specs.Meaning.{placed_trap, located, at_place}
 use Rattle.interpreter.specs.declared.work.Work.{Work}
 use Rattle.interpreter.specs.declared.work.Work.TheVariants as work
 use Rattle.interpreter.specs.inside.Todo.{Todo, todo_of}
@@ -53,7 +51,7 @@ pub record ResumeState : Type 0 where
 -- the outcome of the remaining work, from the values, the locals below and how the last statement
 -- ended
 abbrev pub Goes : Type 0
-Goes = List ℤ → List (List Local) → StmtEnd → Outcome
+Goes = List ℤ → List (List Local) → StmtEnd → Out ℤ
 
 -- the effect of a function call while these functions wait: at most 256 may be open
 abbrev pub calls : Tables → List (List Local) → Calls
@@ -65,17 +63,17 @@ newest [] = pos 0
 newest (v ∷ vs) = v
 
 -- continues with one value, or with several, the last of them the newest
-abbrev pub pushed : Goes → List ℤ → List (List Local) → List Local → Out ℤ → Outcome
+abbrev pub pushed : Goes → List ℤ → List (List Local) → List Local → Out ℤ → Out ℤ
 pushed go vs below ls (Got v p k) = go (v ∷ vs) below (Next ls p k)
-pushed go vs below ls (Stops trap) = Trap trap
+pushed go vs below ls (Stops trap) = Stops trap
 
 abbrev pub laid : List ℤ → List ℤ → List ℤ
 laid [] vs = vs
 laid (x ∷ xs) vs = laid xs (x ∷ vs)
 
-abbrev pub pushed_all : Goes → List ℤ → List (List Local) → List Local → Out (List ℤ) → Outcome
+abbrev pub pushed_all : Goes → List ℤ → List (List Local) → List Local → Out (List ℤ) → Out ℤ
 pushed_all go vs below ls (Got xs p k) = go (laid xs vs) below (Next ls p k)
-pushed_all go vs below ls (Stops trap) = Trap trap
+pushed_all go vs below ls (Stops trap) = Stops trap
 
 -- chooses by whether a target is an element, whose operands are the pointer and, above it, the
 -- index
@@ -105,13 +103,13 @@ with_index None vs = vs
 with_index (Some j) vs = j ∷ vs
 
 abbrev pub pushed_operands : Goes → List ℤ → List (List Local) → List Local
-    → Out (ℤ × Option ℤ) → Outcome
+    → Out (ℤ × Option ℤ) → Out ℤ
 pushed_operands go vs below ls (Got o p k) = go (with_index o.1 (o.0 ∷ vs)) below (Next ls p k)
-pushed_operands go vs below ls (Stops trap) = Trap trap
+pushed_operands go vs below ls (Stops trap) = Stops trap
 
 -- does something if the last statement ended normally; else nothing
 abbrev pub if_next : Goes → List ℤ → List (List Local) → StmtEnd
-    → (List Local → PoolMap → ℕ → Outcome) → Outcome
+    → (List Local → PoolMap → ℕ → Out ℤ) → Out ℤ
 if_next go vs below (Next ls p k) does = does ls p k
 if_next go vs below (Broke ls p k) does = go vs below (Broke ls p k)
 if_next go vs below (Again ls p k) does = go vs below (Again ls p k)
@@ -128,15 +126,15 @@ ObjectFreed out (Err kind) new = out ≡ Err kind
 abbrev pub loaded_from : Tables → Calls → ExprTree → List Local → PoolMap → ℕ → Out ℤ
 loaded_from t calls e ls p k =
     then_do (operands_of t calls e ls p k)
-    (λ o p k. loaded (word_at t ls p e o.0 o.1) p k)
+    (λ o p k. loaded (located t ls p e o.0 o.1) p k)
 
 -- the checks, and then the word that a target's operands lead to
 abbrev pub target_word : Tables → ExprTree → List ℤ → List Local → PoolMap → Result Word TrapAt
-target_word t e vs ls p = word_at t ls p e (pointer_in e vs) (index_operand e vs)
+target_word t e vs ls p = located t ls p e (pointer_in e vs) (index_operand e vs)
 
 -- the effect of each task on an expression, after which `go` continues
 abbrev pub expr_act : Tables → ExprTask → ExprTree → Goes → List ℤ → List (List Local) → List Local
-    → PoolMap → ℕ → Outcome
+    → PoolMap → ℕ → Out ℤ
 expr_act t expr_task.Eval e go vs below ls p k =
     pushed go vs below ls (value_of t (calls t below) e ls p k)
 expr_act t expr_task.Both e go vs below ls p k = pushed go (drop 1 vs) below ls
@@ -159,13 +157,13 @@ expr_act t (expr_task.Free place) e go vs below ls p k =
 
 -- the effect of each task on the waiting words
 abbrev pub word_act : WordTask → Goes → List ℤ → List (List Local) → List Local → PoolMap
-    → ℕ → Outcome
+    → ℕ → Out ℤ
 word_act (word_task.Put v) go vs below ls p k = go (v ∷ vs) below (Next ls p k)
 word_act word_task.Forget go vs below ls p k = go (drop 1 vs) below (Next ls p k)
 word_act (word_task.Unary op) go vs below ls p k =
     go (unary_of op (newest vs) ∷ drop 1 vs) below (Next ls p k)
-word_act (word_task.Binary op spot) go vs below ls p k = pushed go (drop 1 (drop 1 vs)) below ls
-    (or_trap (binary_of op (newest (drop 1 vs)) (newest vs)) (trap_at trap.Divide spot) p k)
+word_act (word_task.Binary op place) go vs below ls p k = pushed go (drop 1 (drop 1 vs)) below ls
+    (or_trap (binary_of op (newest (drop 1 vs)) (newest vs)) (placed_trap trap.Divide place) p k)
 word_act word_task.Truth go vs below ls p k =
     go (at_zero (newest vs) (pos 0) (pos 1) ∷ drop 1 vs) below (Next ls p k)
 
@@ -180,16 +178,29 @@ branch_chosen t calls stmt.Empty v ls p k = Next ls p k
 branch_chosen t calls (stmt.Declares d) v ls p k = Next ls p k
 branch_chosen t calls (stmt.Simple x) v ls p k = Next ls p k
 branch_chosen t calls (stmt.Block all) v ls p k = Next ls p k
-branch_chosen t calls (stmt.While c a) v ls p k = Next ls p k
-branch_chosen t calls (stmt.For first c third a) v ls p k = Next ls p k
+branch_chosen t calls (stmt.While place c a) v ls p k = Next ls p k
+branch_chosen t calls (stmt.For place first c third a) v ls p k = Next ls p k
 branch_chosen t calls stmt.Break v ls p k = Next ls p k
 branch_chosen t calls stmt.Continue v ls p k = Next ls p k
 branch_chosen t calls (stmt.Return place e) v ls p k = Next ls p k
 
--- the parts of a loop: its condition, its third part and its body
+-- the parts of a loop: the place of its word, its condition, its third part and its body
+abbrev pub loop_place : StmtTree → ℕ
+loop_place (stmt.While place c a) = place
+loop_place (stmt.For place first c third a) = place
+loop_place stmt.Empty = 0
+loop_place (stmt.Declares d) = 0
+loop_place (stmt.Simple x) = 0
+loop_place (stmt.Block all) = 0
+loop_place (stmt.If c a) = 0
+loop_place (stmt.IfElse c a b) = 0
+loop_place stmt.Break = 0
+loop_place stmt.Continue = 0
+loop_place (stmt.Return place e) = 0
+
 abbrev pub condition_in : StmtTree → Option ExprTree
-condition_in (stmt.While c a) = Some c
-condition_in (stmt.For first c third a) = c
+condition_in (stmt.While place c a) = Some c
+condition_in (stmt.For place first c third a) = c
 condition_in stmt.Empty = None
 condition_in (stmt.Declares d) = None
 condition_in (stmt.Simple x) = None
@@ -201,8 +212,8 @@ condition_in stmt.Continue = None
 condition_in (stmt.Return place e) = None
 
 abbrev pub third_in : StmtTree → Option SimpleTree
-third_in (stmt.For first c third a) = third
-third_in (stmt.While c a) = None
+third_in (stmt.For place first c third a) = third
+third_in (stmt.While place c a) = None
 third_in stmt.Empty = None
 third_in (stmt.Declares d) = None
 third_in (stmt.Simple x) = None
@@ -214,8 +225,8 @@ third_in stmt.Continue = None
 third_in (stmt.Return place e) = None
 
 abbrev pub body_end : Tables → Calls → StmtTree → List Local → PoolMap → ℕ → StmtEnd
-body_end t calls (stmt.While c a) ls p k = in_scope (length ls) (end_of_stmt t calls a ls p k)
-body_end t calls (stmt.For first c third a) ls p k =
+body_end t calls (stmt.While place c a) ls p k = in_scope (length ls) (end_of_stmt t calls a ls p k)
+body_end t calls (stmt.For place first c third a) ls p k =
     in_scope (length ls) (end_of_stmt t calls a ls p k)
 body_end t calls stmt.Empty ls p k = Next ls p k
 body_end t calls (stmt.Declares d) ls p k = Next ls p k
@@ -230,7 +241,7 @@ body_end t calls (stmt.Return place e) ls p k = Next ls p k
 -- at most n turns of a loop, and all of them; its turns after the end of a body
 abbrev pub some_turns : Tables → Calls → StmtTree → ℕ → List Local → PoolMap → ℕ → StmtEnd
 some_turns t calls s n ls p k =
-    turns n (λ ls p k. condition_of t calls (condition_in s) ls p k) (λ ls p k.
+    turns n (loop_place s) (λ ls p k. condition_of t calls (condition_in s) ls p k) (λ ls p k.
     body_end t calls s ls p k)
     (λ ls p k. end_of_third t calls (third_in s) ls p k) ls p k
 
@@ -243,7 +254,7 @@ more_turns t calls s ls p k = then_next (end_of_third t calls (third_in s) ls p 
 
 -- the effect of each task on a statement
 abbrev pub stmt_act : Tables → StmtTask → StmtTree → Goes → List ℤ → List (List Local)
-    → StmtEnd → Outcome
+    → StmtEnd → Out ℤ
 stmt_act t stmt_task.Exec s go vs below end =
     go vs below (then_next end (λ ls p k. end_of_stmt t (calls t below) s ls p k))
 stmt_act t stmt_task.Choose s go vs below end =
@@ -260,12 +271,12 @@ stmt_act t stmt_task.Again s go vs below end =
     go vs below (after_turn end (λ ls p k. more_turns t (calls t below) s ls p k))
 
 -- the end of the open function, whose value the caller gets
-abbrev pub left_function : Goes → List ℤ → List (List Local) → Out ℤ → Outcome
+abbrev pub left_function : Goes → List ℤ → List (List Local) → Out ℤ → Out ℤ
 left_function go vs [] out = pushed go vs [] [] out
 left_function go vs (ls ∷ below) out = pushed go vs below ls out
 
 -- one item, and then the remaining work
-abbrev pub todo_act : Tables → Todo → Goes → List ℤ → List (List Local) → StmtEnd → Outcome
+abbrev pub todo_act : Tables → Todo → Goes → List ℤ → List (List Local) → StmtEnd → Out ℤ
 todo_act t (todo.Expr task e) go vs below end =
     if_next go vs below end (λ ls p k. expr_act t task e go vs below ls p k)
 todo_act t (todo.Stmt task s) go vs below end = stmt_act t task s go vs below end
@@ -282,9 +293,10 @@ todo_act t (todo.Declare d) go vs below end = if_next go vs below end
 todo_act t (todo.Assign name) go vs below end =
     if_next go vs below end (λ ls p k.
     go (drop 1 vs) below (Next (assigned name (newest vs) ls) p k))
-todo_act t (todo.Call f count) go vs below end =
+todo_act t (todo.Call place f count) go vs below end =
     if_next go vs below end (λ ls p k. pushed go (drop count vs) below ls
-    (tick k (Stops (trap_at trap.Steps None)) (λ k. calls t below f (reverse (take count vs)) p k)))
+    (tick k (Stops (placed_trap trap.Steps place)) (λ k.
+    calls t below place f (reverse (take count vs)) p k)))
 todo_act t todo.Leave go vs below end = left_function go vs below (given end)
 todo_act t (todo.Close count) go vs below end = go vs below (in_scope count end)
 todo_act t (todo.Word task) go vs below end =
@@ -293,15 +305,15 @@ todo_act t todo.Give go vs below end =
     if_next go vs below end (λ ls p k. go (drop 1 vs) below (Gave (newest vs) p k))
 
 -- when nothing remains, the newest value is the transaction's
-abbrev pub ended : List ℤ → StmtEnd → Outcome
-ended vs (Next ls p k) = Done p (newest vs)
-ended vs (Broke ls p k) = Done p (newest vs)
-ended vs (Again ls p k) = Done p (newest vs)
-ended vs (Gave v p k) = Done p (newest vs)
-ended vs (Traps trap) = Trap trap
+abbrev pub ended : List ℤ → StmtEnd → Out ℤ
+ended vs (Next ls p k) = Got (newest vs) p k
+ended vs (Broke ls p k) = Got (newest vs) p k
+ended vs (Again ls p k) = Got (newest vs) p k
+ended vs (Gave v p k) = Got (newest vs) p k
+ended vs (Traps trap) = Stops trap
 
 -- the whole work list, one item after another
-abbrev pub resume : Tables → List Todo → List ℤ → List (List Local) → StmtEnd → Outcome
+abbrev pub resume : Tables → List Todo → List ℤ → List (List Local) → StmtEnd → Out ℤ
 resume t [] vs below end = ended vs end
 resume t (x ∷ xs) vs below end = todo_act t x (resume t xs) vs below end
 
@@ -315,26 +327,26 @@ end_at flow.Break ls p k = Broke ls p k
 end_at flow.Continue ls p k = Again ls p k
 end_at (flow.Return v) ls p k = Gave v p k
 
-abbrev pub resumed_at : Tables → Flow → ResumeState → Outcome
+abbrev pub resumed_at : Tables → Flow → ResumeState → Out ℤ
 resumed_at t how s = plan_going t s s.values s.below (end_at how s.top s.pool s.ticks)
 
 -- the outcome of a run from now on; with a value on top; with operands on top; and after a
 -- statement that ends like this
-abbrev pub resumed : Tables → ResumeState → Outcome
+abbrev pub resumed : Tables → ResumeState → Out ℤ
 resumed t s = plan_going t s s.values s.below (Next s.top s.pool s.ticks)
 
-abbrev pub resumed_with : Tables → ResumeState → Out ℤ → Outcome
+abbrev pub resumed_with : Tables → ResumeState → Out ℤ → Out ℤ
 resumed_with t s out = pushed (plan_going t s) s.values s.below s.top out
 
-abbrev pub with_operands : Tables → ResumeState → Out (ℤ × Option ℤ) → Outcome
+abbrev pub with_operands : Tables → ResumeState → Out (ℤ × Option ℤ) → Out ℤ
 with_operands t s out = pushed_operands (plan_going t s) s.values s.below s.top out
 
-abbrev pub with_end : Tables → ResumeState → StmtEnd → Outcome
+abbrev pub with_end : Tables → ResumeState → StmtEnd → Out ℤ
 with_end t s end = plan_going t s s.values s.below end
 
 -- the body of a function that is opened above the open one, with so many of the newest values as
 -- arguments
-abbrev pub entering : Tables → FunctionTree → (count : ℕ) → ResumeState → Outcome
+abbrev pub entering : Tables → FunctionTree → (count : ℕ) → ResumeState → Out ℤ
 entering t f count s = resume t (todo.Rest f.body ∷ todo.Leave ∷ map todo_of s.plan)
     (drop count s.values) (s.top ∷ s.below)
     (Next (bound t f.parameters (reverse (take count s.values)) []) s.pool s.ticks)
@@ -343,11 +355,11 @@ entering t f count s = resume t (todo.Rest f.body ∷ todo.Leave ∷ map todo_of
 abbrev pub planned : Work → ResumeState → ResumeState
 planned x s = record s { plan = x ∷ s.plan }
 
-abbrev pub begun_at : Tables → Todo → Flow → ResumeState → Outcome
+abbrev pub begun_at : Tables → Todo → Flow → ResumeState → Out ℤ
 begun_at t x how s = todo_act t x (plan_going t s) s.values s.below
     (end_at how s.top s.pool s.ticks)
 
-abbrev pub todo_begun : Tables → Todo → ResumeState → Outcome
+abbrev pub todo_begun : Tables → Todo → ResumeState → Out ℤ
 todo_begun t x s = todo_act t x (plan_going t s) s.values s.below (Next s.top s.pool s.ticks)
 
 -- the next item was popped, if there was one
@@ -369,10 +381,10 @@ right_todo None = todo.Word (word_task.Put (pos 1))
 right_todo (Some e) = todo.Expr expr_task.Eval e
 
 -- A step leads on to the outcome, or ends in its trap. Of want of memory nothing is said.
-abbrev pub LeadsToOutcome : {A : Type 0} → Result A Fault → Outcome → (A → Outcome) → Type 0
+abbrev pub LeadsToOutcome : {A : Type 0} → Result A Fault → Out ℤ → (A → Out ℤ) → Type 0
 LeadsToOutcome (Ok a) out now = now a ≡ out
 LeadsToOutcome (Err NoMemory) out now = Unit
-LeadsToOutcome (Err (Trapped kind)) out now = out ≡ Trap kind
+LeadsToOutcome (Err (Trapped trap)) out now = out ≡ Stops trap
 
 -- a step that did this item leads on
 abbrev pub StepLeads : {A : Type 0} → Tables → Todo → (old : ResumeState) → Result A Fault
@@ -380,6 +392,6 @@ abbrev pub StepLeads : {A : Type 0} → Tables → Todo → (old : ResumeState) 
 StepLeads t x old result new = LeadsToOutcome result (todo_begun t x old) (λ _. resumed t new)
 
 -- a tick was taken, if one was left
-abbrev pub Ticked : {A : Type 0} → Result A TrapAt → (new old : ResumeState) → Type 0
-Ticked (Ok a) new old = old ≡ record new { ticks = suc new.ticks }
-Ticked (Err stop) new old = (stop ≡ trap_at trap.Steps None) × (old.ticks ≡ zero)
+abbrev pub Ticked : {A : Type 0} → (place : ℕ) → Result A TrapAt → (new old : ResumeState) → Type 0
+Ticked place (Ok a) new old = old ≡ record new { ticks = suc new.ticks }
+Ticked place (Err stop) new old = (stop ≡ placed_trap trap.Steps place) × (old.ticks ≡ zero)

@@ -19,7 +19,7 @@ pub data Todo : Type 0 where
   Simple : SimpleTree → Todo
   Declare : DeclarationTree → Todo
   Assign : (name : List ℕ) → Todo
-  Call : FunctionTree → (count : ℕ) → Todo
+  Call : (place : ℕ) → FunctionTree → (count : ℕ) → Todo
   Leave : Todo
   Close : (count : ℕ) → Todo
   Word : WordTask → Todo
@@ -33,7 +33,7 @@ todo_of (work.Rest all) = Rest (statements_in all.now)
 todo_of (work.Simple s) = Simple (simple_of s.now)
 todo_of (work.Declare d) = Declare (declaration_of d.now)
 todo_of (work.Assign name) = Assign name.now.text
-todo_of (work.Call f count) = Call (function_tree f.now) count
+todo_of (work.Call place f count) = Call place (function_tree f.now) count
 todo_of work.Leave = Leave
 todo_of (work.Close count) = Close count
 todo_of (work.Word task) = Word task

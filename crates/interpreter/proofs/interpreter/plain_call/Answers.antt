@@ -1,13 +1,10 @@
-use Rattle.std.proofs.Common.{◌≡◌, ◌∙◌, ap, sym, subst, Some}
+use Rattle.std.proofs.Common.{◌≡◌, ◌∙◌, ap, sym, Some}
 use Rattle.c_tree.specs.ItemTree.{function_tree}
 use Rattle.c_tree.specs.Program.{tree_of}
 use Rattle.c_types.specs.Tables.{Tables, tables_of}
 use Rattle.c_types.specs.Views.{tables_in}
 use Rattle.c_meaning.specs.Transaction.{transaction}
 use Rattle.interpreter.proofs.Resume.{answered}
-use Rattle.interpreter.proofs.Unplaced.{unplaced-run}
-use Rattle.interpreter.specs.Answers.{PlainAnswers}
-use Rattle.interpreter.specs.inside.Answers.{plain_answer}
 use Rattle.interpreter.proofs.interpreter.plain_call.Goals as goal
 
 pub returns-clause-exact : goal.returns-clause-exact
@@ -18,6 +15,4 @@ returns-clause-exact c =
     ≡ Some (function_tree c.in-Some.function.now) =
     ap (λ (t : Tables). transaction t c.args.tx) (sym tables) ∙ sym c.in-Some.ensures in
     rw (c.answer_of.ensures.exact, found, ← tables, ← c.in-Ok-copy.ensures)
-    (subst (PlainAnswers (plain_answer c.run.result)) (unplaced-run (tables_in c.in-Ok.program)
-    (Some (function_tree c.in-Some.function.now)) c.in-Ok-copy.copy c.args.args.now c.args.ticks)
-    (answered c.run.result _ c.run.ensures.exact))
+    (answered c.run.result _ c.run.ensures.exact)

@@ -12,5 +12,5 @@ returns-clause-does c =
     let room : length s.below < 255 = omega (arith, view, c.count.ensures) in
     c.in_ok-open.ensures ∙ rw c.in_ok-tick.ensures
     (ap (pushed (plan_going t s) (drop c.args.count s.values) s.below s.top)
-    (sym (calls-open t s.top s.below (function_tree c.args.function.now)
+    (sym (calls-open t s.top s.below c.args.place (function_tree c.args.function.now)
     (reverse (take c.args.count s.values)) s.pool s.ticks room)))

@@ -1,6 +1,6 @@
 use Rattle.c_tree.specs.ExprTree.{expr_of}
 use Rattle.interpreter.proofs.Resume.{then_ok, operands-element, operands-pointer}
-use Rattle.interpreter.specs.Placed.{value_of}
+use Rattle.c_meaning.specs.Meaning.{value_of}
 use Rattle.interpreter.specs.inside.Resume.{plan_going, calls}
 use Rattle.interpreter.proofs.run.Run.plan_operands.Goals as goal
 

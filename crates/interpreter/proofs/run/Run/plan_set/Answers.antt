@@ -1,6 +1,6 @@
 use Rattle.std.proofs.Common.{sym}
 use Rattle.c_tree.specs.ExprTree.{expr_of}
-use Rattle.interpreter.specs.Placed.{value_of}
+use Rattle.c_meaning.specs.Meaning.{value_of}
 use Rattle.interpreter.specs.inside.Resume.{calls}
 use Rattle.interpreter.proofs.Resume.{then_ok, assign-local, assign-field}
 use Rattle.interpreter.proofs.run.Run.plan_set.Goals as goal

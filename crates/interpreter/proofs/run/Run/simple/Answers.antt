@@ -1,6 +1,6 @@
 use Rattle.c_tree.specs.ExprTree.{expr_of, ident_of, arguments_in, Call}
 use Rattle.c_types.specs.Views.{tables_in}
-use Rattle.interpreter.specs.Placed.{value_of}
+use Rattle.c_meaning.specs.Meaning.{value_of}
 use Rattle.interpreter.specs.inside.Resume.{calls}
 use Rattle.interpreter.proofs.Resume.{forget-then, free-then}
 use Rattle.interpreter.proofs.run.Run.simple.Goals as goal
