@@ -1,5 +1,5 @@
 -- The laws, put together from facts on the tables of a program that breaks no rule.
-use Rattle.std.proofs.Common.{◌≡◌, ℕ, zero, suc, ◌+◌, ◌≤◌, Bool, true, false, List, [], ◌∷◌, length}
+use Rattle.std.proofs.Common.{◌≡◌, ℕ, ◌+◌, ◌≤◌, Bool, true, false, List, [], ◌∷◌, length}
 use Rattle.std.proofs.Common.{map, refl, sym, ap, ◌∙◌, subst, arith}
 use Rattle.std.specs.Prelude.{if◌then◌else◌, slice_get, Option, None, Some, option_map}
 use Rattle.std.specs.Prelude.{option_and_then}
@@ -24,11 +24,11 @@ use Rattle.ir.specs.Places.{instruction_at}
 use Rattle.code_meaning.proofs.Lists.{all_at}
 use Rattle.lower.specs.Program.{context_at, lowered_function, lowered}
 use Rattle.lower.proofs.Few.{none_left, none_right, few_parameters}
-use Rattle.lower.proofs.Sane.{IsSane, sane, broken_functions, function_at_place}
+use Rattle.lower.proofs.Sane.{IsSane, sane, broken_functions, struct_at_place, function_at_place}
 use Rattle.checked_law.specs.Law.{ShapesLaw, RootHasWordLaw, CallsLaw, LogsLaw, LimitsLaw}
 use Rattle.checked_law.specs.Law.{ConstantsLaw, marked, EntriesLaw}
 use Rattle.checked_law.proofs.Words.{fields_counted, struct_words, numbered_one, numbered_few}
-use Rattle.checked_law.proofs.Words.{struct_at, root_counted, spelled_have}
+use Rattle.checked_law.proofs.Words.{root_counted, spelled_have}
 use Rattle.checked_law.proofs.PlainCalls.{IsPlain, IsPlainInstruction, AllPlain}
 use Rattle.checked_law.proofs.PlainStatements.{function_plain}
 use Rattle.checked_law.proofs.Tokens.{answer_words}
@@ -77,7 +77,7 @@ has_root tree e =
     let words = fields_counted t (field_names s) 0 s.fields fields in
     let whole : whole_struct_broken t i s ≡ [] =
     subst (λ n. whole_struct_broken t n s ≡ []) (zero_plus i)
-    (struct_at t 0 t.structs i s (broken_structs tree e) h.root.3) in
+    (struct_at_place t 0 t.structs i s (broken_structs tree e) h.root.3) in
     record {
       place = i;
       root = s;

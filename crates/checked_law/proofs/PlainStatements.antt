@@ -187,7 +187,7 @@ mutual
                   (none_right (statement_broken t type_given inner x) _ rest),
             ),
       )
-  stmt_plain k type_given s v (stmt.While c x) out again p h b =
+  stmt_plain k type_given s v (stmt.While place c x) out again p h b =
       let t : Tables = k.tables in
       let p1 : ℕ = suc (exp_end c (suc p)) in
       let p2 : ℕ = suc (stmt_end x p1) in (
@@ -200,7 +200,7 @@ mutual
                   (none_right (value_broken t s c) _ b)) (tt, tt),
             ),
       )
-  stmt_plain k type_given s v (stmt.For first c third x) out again p h b =
+  stmt_plain k type_given s v (stmt.For place first c third x) out again p h b =
       let t : Tables = k.tables in
       let w : Variables = inner_variables v in
       let u : Variables = variables_after_first k first p w in

@@ -24,7 +24,7 @@ use Rattle.c_types.specs.Tables as counted
 use Rattle.c_types.specs.Statements.{type_broken}
 use Rattle.c_types.specs.Shapes.{field_shape, numbered}
 use Rattle.c_types.specs.Declarations.{length_broken, field_broken, fields_broken, struct_broken}
-use Rattle.c_types.specs.Declarations.{whole_struct_broken, structs_broken}
+use Rattle.c_types.specs.Declarations.{whole_struct_broken}
 use Rattle.pool_map.specs.PoolFits.{words_of_field, words_of}
 use Rattle.lower.proofs.Few.{none_left, none_right, kept, and_left, and_right, le_from}
 
@@ -139,29 +139,6 @@ numbered_few (x ∷ ss) = by_test (nat_le (counted.words_of_struct x) 15) (numbe
         → length (if b then x ∷ numbered ss else numbered ss) ≤ suc (length ss)
     by_test true rest = omega (arith, rest)
     by_test false rest = omega (arith, rest)
-
--- if a list of structs breaks no rule, none of them does
-pub struct_at : (t : Tables) (i : ℕ) (ss : List StructTree) (j : ℕ) (s : StructTree)
-    → structs_broken t i ss ≡ [] → slice_get ss j ≡ Some s → whole_struct_broken t (i + j) s ≡ []
-struct_at t i [] j s e is = absurd (none_some is)
-  where
-    none_some : None ≡ Some s → ⊥
-    none_some e = cc
-struct_at t i (x ∷ ss) zero s e is =
-    rw (← some_same is, plus_zero i)
-    (none_left (whole_struct_broken t i x) (structs_broken t (i + 1) ss) e)
-  where
-    some_same : Some x ≡ Some s → x ≡ s
-    some_same e = cc
-
-    plus_zero : (i : ℕ) → i + 0 ≡ i
-    plus_zero i = omega arith
-struct_at t i (x ∷ ss) (suc j) s e is =
-    rw (next i j) (struct_at t (i + 1) ss j s
-    (none_right (whole_struct_broken t i x) (structs_broken t (i + 1) ss) e) is)
-  where
-    next : (i j : ℕ) → i + suc j ≡ (i + 1) + j
-    next i j = omega arith
 
 -- the root's struct is counted as having at most 512 words
 pub root_counted : (t : Tables) (i : ℕ) (s : StructTree) → root_struct t ≡ Some i

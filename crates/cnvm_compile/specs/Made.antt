@@ -7,8 +7,8 @@ use Rattle.ir.specs.declared.function.Ir.{Ir}
 use Rattle.clobber_pass.specs.declared.marking.MarkTable.{MarkTable}
 use Rattle.instrument.specs.Insert.{logged_program}
 use Rattle.pm_machine.specs.declared.image.ImageParts.{ImageParts}
-use Rattle.codegen.specs.Emit.{functions_of, parts_of}
+use Rattle.codegen.specs.Emit.{parts_of}
 
 abbrev pub image_of : MarkTable → Ir → Sizes → (tokens : ℕ) → ImageParts
 image_of marks ir sizes tokens =
-    parts_of (logged_program marks ir) sizes tokens (functions_of sizes (logged_program marks ir))
+    parts_of (logged_program marks ir) sizes tokens

@@ -1,6 +1,6 @@
 -- The sizes of the pool of a compiled program: the numbers that were asked for, or the nearest
 -- limit for a number outside its limits; and as many root words as the program's root has.
-use Rattle.std.specs.Prelude.{ℕ, ◌≡◌, ◌≤◌, nat_lt, if◌then◌else◌}
+use Rattle.std.specs.Prelude.{ℕ, ◌≡◌, nat_lt, if◌then◌else◌}
 use Rattle.pool_map.specs.declared.shapes.Shapes.{Shapes}
 use Rattle.pool_map.specs.PoolFits.{words_of}
 use Rattle.pool_layout.specs.declared.limits.Sizes.{Sizes}

@@ -89,18 +89,18 @@ fn sizes_of(shapes: &Shapes, slots: u64, records: u64, ticks: u64) -> Sizes
 }
 
 /// The code and the image of a checked tree.
-#[tactic(auto, using(crate::proofs::Made::made))]
 fn back_end(
     alloc: Global,
     typed: Typed,
     sizes: Sizes,
     digest: [i64; 4],
 ) -> Result<Compiled, AllocError>
+    requires { breaks typed ≡ [] }
     ensures tree { IfOk result (λ compiled. compiled.program.typed ≡ typed) }
     ensures sizes { IfOk result (λ compiled. compiled.program.sizes ≡ sizes) }
     ensures image { IfOk result (λ compiled. compiled.program.image.parts.sizes ≡ sizes) }
     ensures digest { IfOk result (λ compiled. compiled.program.digest ≡ digest) }
-    ensures ir { IfOk result (λ compiled. breaks typed ≡ [] → compiled.ir ≡ lowered typed) }
+    ensures ir { IfOk result (λ compiled. compiled.ir ≡ lowered typed) }
     ensures marks { IfOk result (λ compiled. IsExact compiled.ir.functions compiled.marks) }
     ensures well_formed { IfOk result (λ compiled. IsWellFormed compiled.ir) }
     ensures code { IfOk result (λ compiled. compiled.program.image.parts ≡

@@ -35,9 +35,8 @@ use Rattle.codegen.specs.Emit.{control, return_code, local_code, piece_width}
 use Rattle.ir.specs.Moving.{is_log, place_in}
 use Rattle.codegen.specs.Emit.{instruction_places, instruction_code, code_from}
 use Rattle.codegen.specs.Emit.{emitted_code, has_room, trap_function, with_code, function_of}
-use Rattle.codegen.specs.Emit.{functions_of, known}
+use Rattle.codegen.specs.Emit.{functions_of}
 use Rattle.codegen.proofs.Fine.{reg_fine, fine, local_fine}
-use Rattle.codegen.proofs.Traps.{trap_good}
 
 number_below : (r : ℕ) (a : Reg) → r + 8 < 2 ^ 32 → reg_fine r a ≡ true
     → ltb (register_number r a) (r + 8) ≡ true
@@ -362,10 +361,8 @@ module _ (us : List Function) (u : Function) (s : Sizes) (h : Shapes) (tx : Bool
             (omega arith) (omega arith),
       )
 
-known_all : (us : List IrFunction) → length us < 2 ^ 32 → known us ≡ us
-known_all us few =
-    let e : ltb (length us) (2 ^ 32) ≡ true = lt-ltb (length us) (2 ^ 32) few in
-    ap (λ (b : Bool). if b then us else []) e
+trap_good : (us : List Function) (n : ℕ) → bad_in us (trap_function n) ≡ None
+trap_good us n = let same : leb n n ≡ true = le-leb n n (omega arith) in rw same refl
 
 abbrev made_if : IrFunction → List Op → Bool → Function
 made_if u ops d = if d then record {
@@ -396,14 +393,11 @@ takes_mapped s h (Some u) args same =
     (parameters_if u (emitted_code s h u.tx u.registers u.code) (has_room u.registers u.code)
     ∙ sym same)
 
-takes_known : (s : Sizes) (program : Ir) (f : ℕ) (args : List ℕ) → length program.functions < 2 ^ 32
+takes_called : (s : Sizes) (program : Ir) (f : ℕ) (args : List ℕ)
     → TakesArgs (slice_get program.functions f) args
     → takes_arguments (slice_get (functions_of s program) f) (length args) ≡ true
-takes_known s program f args few same =
-    ap (λ (us : List IrFunction). takes_arguments
-    (slice_get (map (function_of s program.shapes) us) f) (length args))
-    (known_all program.functions few)
-    ∙ ap (λ (o : Option Function). takes_arguments o (length args))
+takes_called s program f args same =
+    ap (λ (o : Option Function). takes_arguments o (length args))
     (slice_get-map (function_of s program.shapes) program.functions f)
     ∙ takes_mapped s program.shapes (slice_get program.functions f) args same
 
@@ -439,8 +433,7 @@ all_reach program us table size r n low takes_all (i ∷ code) is = (
 )
 
 -- u is well formed, and so is the program
-module _ (s : Sizes) (program : Ir) (few : length program.functions < 2 ^ 32) (u : IrFunction)
-    (formed : IsFunction program u) where
+module _ (s : Sizes) (program : Ir) (u : IrFunction) (formed : IsFunction program u) where
   abbrev us : List Function
   us = functions_of s program
 
@@ -476,7 +469,7 @@ module _ (s : Sizes) (program : Ir) (few : length program.functions < 2 ^ 32) (u
       )) in
       let leads : AllByRecursion (Reaches us table (length ops)) u.code =
       all_reach program us table (length ops) u.registers (length u.code) low (λ f args same.
-      takes_known s program f args few same) u.code formed.3 in
+      takes_called s program f args same) u.code formed.3 in
       ap (λ (b : Bool). if b then bad_from us made 0 ops else Some 0) both
       ∙ code_good us made s program.shapes u.tx u.registers table refl room short u.code 0 false
       formed.2 parts.1 leads (omega arith)
@@ -495,21 +488,17 @@ module _ (s : Sizes) (program : Ir) (few : length program.functions < 2 ^ 32) (u
   function_good : bad_in us (function_of s program.shapes u) ≡ None
   function_good = function_good_if (has_room u.registers u.code) refl
 
-functions_good : (s : Sizes) (program : Ir) → length program.functions < 2 ^ 32
-    → (f : ℕ) (vs : List IrFunction) → AllByRecursion (IsFunction program) vs
+functions_good : (s : Sizes) (program : Ir) (f : ℕ) (vs : List IrFunction)
+    → AllByRecursion (IsFunction program) vs
     → bad_of (functions_of s program) f (map (function_of s program.shapes) vs) ≡ None
-functions_good s program few f [] formed = refl
-functions_good s program few f (v ∷ vs) formed =
+functions_good s program f [] formed = refl
+functions_good s program f (v ∷ vs) formed =
     ap (λ (b : Option ℕ). at_function f b
     (bad_of (functions_of s program) (f + 1) (map (function_of s program.shapes) vs)))
-    (function_good s program few v formed.0)
-    ∙ functions_good s program few (f + 1) vs formed.1
+    (function_good s program v formed.0)
+    ∙ functions_good s program (f + 1) vs formed.1
 
 -- no place of the code of a well formed program is bad
 pub program_good : (s : Sizes) (program : Ir) → IsWellFormed program
     → bad_of (functions_of s program) 0 (functions_of s program) ≡ None
-program_good s program formed =
-    let few : length program.functions < 2 ^ 32 = omega (arith, formed.0) in
-    ap (λ (vs : List IrFunction). bad_of (functions_of s program) 0
-    (map (function_of s program.shapes) vs)) (known_all program.functions few)
-    ∙ functions_good s program few 0 program.functions formed.1
+program_good s program formed = functions_good s program 0 program.functions formed.1

@@ -1,5 +1,5 @@
 pub mod Bound
+pub mod Few
 pub mod Fine
 pub mod Good
-pub mod Traps
 pub mod Written

@@ -203,12 +203,8 @@ abbrev pub function_of : Sizes → Shapes → IrFunction → Function
 function_of s h u = if has_room u.registers u.code
     then with_code u (emitted_code s h u.tx u.registers u.code) else trap_function u.parameters
 
--- an image has fewer than 2^32 functions; of a program with more it has none
-abbrev pub known : List IrFunction → List IrFunction
-known functions = if nat_lt (length functions) (2 ^ 32) then functions else []
-
 abbrev pub functions_of : Sizes → Ir → List Function
-functions_of s program = map (function_of s program.shapes) (known program.functions)
+functions_of s program = map (function_of s program.shapes) program.functions
 
 -- a function marked tx, with its parameters
 abbrev pub tx_of : ℕ → IrFunction → List TxEntry
@@ -224,12 +220,13 @@ txs_from f (u ∷ us) = tx_of f u ++ txs_from (f + 1) us
 abbrev pub most_steps : Sizes → ℕ → ℕ
 most_steps s q = 256 * (s.ticks + 1) * (64 * q + 256) * 80
 
-abbrev pub parts_of : Ir → Sizes → (tokens : ℕ) → List Function → ImageParts
-parts_of program s q functions =
+-- the parts of the image of a program of q tokens, for a pool of sizes s
+abbrev pub parts_of : Ir → Sizes → (q : ℕ) → ImageParts
+parts_of program s q =
     record {
-      functions = functions;
+      functions = functions_of s program;
       sizes = s;
-      txs = txs_from 0 (known program.functions);
+      txs = txs_from 0 program.functions;
       structs = length program.shapes.structs;
       most = most_steps s q;
     }

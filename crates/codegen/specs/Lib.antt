@@ -2,4 +2,3 @@ pub mod Fields
 pub mod Names
 pub mod Emit
 pub mod Law
-pub mod inside

@@ -1,52 +1,31 @@
 //! The image of a program.
 
-ghost use Rattle.std.specs.Prelude.{◌≡◌, ◌++◌, ◌<◌, ◌≤◌, ◌^◌, length, map, None, true, OnOk, IfOk};
-ghost use Rattle.std.specs.Prelude.{ℕ};
-ghost use Rattle.pm_machine.specs.Checked.{bad_of};
-ghost use Rattle.pm_machine.specs.Few.{AreFew};
+ghost use Rattle.std.specs.Prelude.{◌≡◌, ◌++◌, ◌<◌, ◌^◌, length, map, OnOk, IfOk};
 ghost use Rattle.ir.specs.WellFormed.{IsWellFormed};
 ghost use Rattle.codegen.specs.Emit as definitions;
-ghost use Rattle.codegen.specs.Emit.{known, functions_of, txs_from, most_steps};
-ghost use Rattle.codegen.specs.inside.Emit.{traps_of};
+ghost use Rattle.codegen.specs.Emit.{function_of, txs_from, most_steps, parts_of};
 
-use crate::functions::{machine_function, trap_function};
+use crate::functions::machine_function;
 use ir::{Ir, IrFunction};
 use pm_machine::{Functions, Image, ImageParts, ImageRefused, TxEntry, TxList};
 use pool_layout::Sizes;
+use pool_map::Shapes;
 use std::alloc::{AllocError, Global};
 
-/// The functions, if there are few enough for an image.
-#[tactic(auto, using(crate::proofs::Traps::known_few))]
-fn known(functions: &[IrFunction]) -> &[IrFunction]
-    ensures value { result.now ≡ known functions.now }
-    ensures few { length result.now < 2 ^ 32 }
+#[tactic(auto, using(crate::proofs::Written::functions_step))]
+fn machine_functions(
+    alloc: Global,
+    sizes: &Sizes,
+    shapes: &Shapes,
+    functions: &[IrFunction],
+) -> Result<Functions, AllocError>
+    ensures { IfOk result (λ f. f ≡ map (function_of sizes.now shapes.now) functions.now) }
 {
-    if functions.len() <= u32::MAX as usize {
-        functions
-    } else {
-        &functions[..0]
+    let mut emitted = Functions::new(alloc);
+    for function in functions {
+        emitted.push(machine_function(alloc, sizes, shapes, function)?)?;
     }
-}
-
-fn machine_functions(alloc: Global, ir: &Ir, sizes: &Sizes) -> Result<Functions, AllocError>
-    ensures { IfOk result (λ f. f ≡ functions_of sizes.now ir.now) }
-{
-    let mut functions = Functions::new(alloc);
-    for function in known(ir.functions.as_slice()) {
-        functions.push(machine_function(alloc, sizes, &ir.shapes, function)?)?;
-    }
-    Ok(functions)
-}
-
-/// Functions that only trap, in place of these.
-fn trap_functions(alloc: Global, ir: &Ir) -> Result<Functions, AllocError>
-    ensures { IfOk result (λ f. f ≡ traps_of ir.now) }
-{
-    let mut functions = Functions::new(alloc);
-    for function in known(ir.functions.as_slice()) {
-        functions.push(trap_function(alloc, function.parameters)?)?;
-    }
-    Ok(functions)
+    Ok(emitted)
 }
 
 fn push_tx(txs: &mut TxList, number: u32, function: &IrFunction) -> Result<(), AllocError>
@@ -62,11 +41,12 @@ fn push_tx(txs: &mut TxList, number: u32, function: &IrFunction) -> Result<(), A
 }
 
 /// The functions that are transactions.
-fn transactions(alloc: Global, ir: &Ir) -> Result<TxList, AllocError>
-    ensures { IfOk result (λ t. t ≡ txs_from 0 (known ir.now.functions)) }
+fn transactions(alloc: Global, functions: &[IrFunction]) -> Result<TxList, AllocError>
+    requires { length functions.now < 2 ^ 32 }
+    ensures { IfOk result (λ t. t ≡ txs_from 0 functions.now) }
 {
     let mut txs = TxList::new(alloc);
-    for (number, function) in known(ir.functions.as_slice()).iter().enumerate() {
+    for (number, function) in functions.iter().enumerate() {
         push_tx(&mut txs, number as u32, function)?;
     }
     Ok(txs)
@@ -82,16 +62,13 @@ fn most_steps(sizes: &Sizes, tokens: u64) -> u128
     ticks * code * 80
 }
 
-fn image_parts(
-    alloc: Global,
-    ir: &Ir,
-    sizes: &Sizes,
-    tokens: u64,
-    functions: Functions,
-) -> Result<ImageParts, AllocError>
-    ensures { IfOk result (λ p. p ≡ definitions.parts_of ir.now sizes.now tokens functions) }
+fn image_parts(alloc: Global, ir: &Ir, sizes: &Sizes, tokens: u64) -> Result<ImageParts, AllocError>
+    requires { length ir.now.functions < 2 ^ 32 }
+    ensures { IfOk result (λ p. p ≡ parts_of ir.now sizes.now tokens) }
 {
-    let txs = transactions(alloc, ir)?;
+    let functions = ir.functions.as_slice();
+    let txs = transactions(alloc, functions)?;
+    let functions = machine_functions(alloc, sizes, &ir.shapes, functions)?;
     Ok(ImageParts {
         functions,
         sizes: *sizes,
@@ -101,51 +78,13 @@ fn image_parts(
     })
 }
 
-/// The image of a program, if its code breaks no rule of the machine; else the image of traps.
-#[tactic(auto, using(crate::proofs::Traps::functions_few))]
-fn checked_image(alloc: Global, ir: &Ir, sizes: &Sizes, tokens: u64) -> Result<Image, AllocError>
-    ensures sizes { IfOk result (λ i. i.parts.sizes ≡ sizes.now) }
-    ensures structs { IfOk result (λ i. i.parts.structs ≡ length ir.now.shapes.structs) }
-    ensures most { IfOk result (λ i. i.parts.most ≡ most_steps sizes.now tokens) }
-    ensures txs { IfOk result (λ i. i.parts.txs ≡ txs_from 0 (known ir.now.functions)) }
-    ensures exact { bad_of (functions_of sizes.now ir.now) 0 (functions_of sizes.now ir.now) ≡ None
-        → IfOk result (λ i. i.parts.functions ≡ functions_of sizes.now ir.now) }
-{
-    let functions = machine_functions(alloc, ir, sizes)?;
-    let parts = image_parts(alloc, ir, sizes, tokens, functions)?;
-    match Image::new(alloc, parts) {
-        Ok(image) => Ok(image),
-        Err(ImageRefused::NoMemory) => Err(AllocError),
-        Err(ImageRefused::BadCode(..)) => trap_image(alloc, ir, sizes, tokens),
-    }
-}
-
-/// The image of a program, for a pool of these sizes and a text of so many tokens.
-///
-/// Its code is that of the definition for all well formed code, and for any other code whose
-/// emission breaks no rule of the machine. If it would break one, each function only traps, and all
-/// else is the same.
+/// The image of a well formed program, for a pool of these sizes and a text of so many tokens.
+#[tactic(auto, using(crate::proofs::Few::functions_few, crate::proofs::Good::program_good))]
 pub fn emit(alloc: Global, ir: &Ir, sizes: &Sizes, tokens: u64) -> Result<Image, AllocError>
-    ensures sizes { IfOk result (λ i. i.parts.sizes ≡ sizes.now) }
-    ensures structs { IfOk result (λ i. i.parts.structs ≡ length ir.now.shapes.structs) }
-    ensures most { IfOk result (λ i. i.parts.most ≡ most_steps sizes.now tokens) }
-    ensures txs { IfOk result (λ i. i.parts.txs ≡ txs_from 0 (known ir.now.functions)) }
-    ensures exact { bad_of (functions_of sizes.now ir.now) 0 (functions_of sizes.now ir.now) ≡ None
-        → IfOk result (λ i. i.parts.functions ≡ functions_of sizes.now ir.now) }
-    ensures code { IsWellFormed ir.now
-        → IfOk result (λ i. i.parts.functions ≡ functions_of sizes.now ir.now) }
+    requires { IsWellFormed ir.now }
+    ensures { IfOk result (λ i. i.parts ≡ parts_of ir.now sizes.now tokens) }
 {
-    checked_image(alloc, ir, sizes, tokens)
-}
-
-/// The image of the same transactions, whose functions only trap.
-#[tactic(auto, using(crate::proofs::Traps::traps_good, crate::proofs::Traps::traps_few))]
-fn trap_image(alloc: Global, ir: &Ir, sizes: &Sizes, tokens: u64) -> Result<Image, AllocError>
-    ensures { IfOk result (λ i. i.parts ≡ definitions.parts_of ir.now sizes.now tokens
-        (traps_of ir.now)) }
-{
-    let functions = trap_functions(alloc, ir)?;
-    let parts = image_parts(alloc, ir, sizes, tokens, functions)?;
+    let parts = image_parts(alloc, ir, sizes, tokens)?;
     match Image::new(alloc, parts) {
         Ok(image) => Ok(image),
         Err(ImageRefused::NoMemory) => Err(AllocError),

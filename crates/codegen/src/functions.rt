@@ -180,7 +180,7 @@ fn has_room(registers: u32, code: &[Instruction]) -> bool
 }
 
 /// A function of so many parameters that only traps.
-pub fn trap_function(alloc: Global, parameters: u32) -> Result<Function, AllocError>
+fn trap_function(alloc: Global, parameters: u32) -> Result<Function, AllocError>
     ensures { IfOk result (λ f. f ≡ trap_function parameters) }
 {
     let mut code = Code::new(alloc);

@@ -88,7 +88,7 @@ use Rattle.compiled_law.proofs.Firsts.{are_firsts}
 use Rattle.compiled_law.proofs.Marked.{all_stores}
 use Rattle.compiled_law.proofs.Entering.{code_of, parameters_same, entries_same, entry_is}
 use Rattle.compiled_law.proofs.Numbers.{few_tokens, part_of_whole, all_below, logged_long}
-use Rattle.compiled_law.proofs.Numbers.{functions_long, all_known, is_pool, enough_steps}
+use Rattle.compiled_law.proofs.Numbers.{functions_long, is_pool, enough_steps}
 use Rattle.compiled_law.proofs.Room.{has_room_for}
 use Rattle.compiled_law.proofs.Sounding.{compiled_run}
 
@@ -166,7 +166,7 @@ one_less i = omega arith
 
 done_end : (o : Out ℤ) → HasResult (lower.call_end o)
 done_end (Got v w t) = tt
-done_end (Stops k) = tt
+done_end (Stops stop) = tt
 
 module _ (text : List ℕ) (list : Tokens) (program : Program)
     (c : IsCompiledFrom text list program) where
@@ -292,7 +292,7 @@ module _ (text : List ℕ) (list : Tokens) (program : Program)
 
   -- the image's transactions are those of the code with its logs
   txs_are : program.image.parts.txs ≡ txs_from 0 (code_of marks t tree 0 t.functions)
-  txs_are = has_code.txs ∙ ap (txs_from 0) (all_known L.functions functions_few)
+  txs_are = has_code.txs
 
   parameters_are : (tx : ℕ) → tx_parameters program.image tx ≡ source_parameters program tx
   parameters_are zero = refl
@@ -312,8 +312,8 @@ module _ (text : List ℕ) (list : Tokens) (program : Program)
       let pool : source_pool program h ≡ w = sym head.1 in
       subst (λ (x : machine_end.End). Matches program (outcome (Got v w k)) x h) (sym e.0)
       (refl, head.0, pool, words_had w e.3)
-  matched (Stops kind) end h e =
-      subst (λ (x : machine_end.End). Matches program (outcome (Stops kind)) x h) (sym e) refl
+  matched (Stops stop) end h e =
+      subst (λ (x : machine_end.End). Matches program (outcome (Stops stop)) x h) (sym e) refl
 
   -- the same, by whether the log has room for the run's logged stores
   matched_if : (full : Bool) (o : Out ℤ) (end : machine_end.End) (h : Words) →
@@ -435,7 +435,7 @@ module _ (text : List ℕ) (list : Tokens) (program : Program)
           stands stood.1 k program.image.parts.most
           (subst HasResult (sym ends) (done_end o)) enough in
           let means_is : means program w (suc i) args ≡ outcome o =
-          ap (λ (x : Option FunctionTree). run_transaction t x w args n) e.named in
+          ap (λ (x : Option FunctionTree). outcome (run_transaction t x w args n)) e.named in
           let number : ℕ = records_of (table.is_logged marks)
           (deeds plain k (code_start entry.function args w n)) in
           let same_outcome : (if nat_lt s.records number then meaning.Trap LogFull else outcome o)

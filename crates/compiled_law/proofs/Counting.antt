@@ -20,7 +20,7 @@ use Rattle.instrument.specs.Insert.{logs, led, places_from, flags_from, flagged}
 use Rattle.instrument.specs.Insert.{logged_program}
 use Rattle.code_meaning.specs.Code.{CodeState}
 use Rattle.code_meaning.specs.Deeds.{Deed, Reads, Writes, Heads, site, deeds}
-use Rattle.insert_law.specs.Moved.{code_in, begins, stands, moved_site, moved_deeds}
+use Rattle.insert_law.specs.Moved.{code_of_function, begins, stands, moved_site, moved_deeds}
 use Rattle.insert_law.proofs.Standing.{standing, fill_stands}
 use Rattle.pm_machine.specs.declared.effect.Effect.{Effect}
 use Rattle.pm_machine.specs.declared.effect.Effect.TheVariants.{Loads, Scans, Stores, Logs, Flushes}
@@ -170,7 +170,7 @@ module _ (marks : MarkTable) (ir : Ir) (formed : IsWellFormed ir) (bare : (f p :
       by_place : (q : ℕ) → p ≡ q → logs_at (slice_get L.functions f) (begins marks ir.functions f q)
           false ≡ false
       by_place zero is = ap (λ (n : ℕ). logs_at (slice_get L.functions f) n false)
-          (first (flags_from marks f 0 (code_in ir.functions f)) (code_in ir.functions f))
+          (first (flags_from marks f 0 (code_of_function ir.functions f)) (code_of_function ir.functions f))
           ∙ first_unlogged (slice_get L.functions f)
       by_place (suc q) is =
           let j = before_it ir.functions f q (Store x from line)
@@ -181,10 +181,10 @@ module _ (marks : MarkTable) (ir : Ir) (formed : IsWellFormed ir) (bare : (f p :
           let own = plain_at j.0 bare_at in
           ap (λ (n : ℕ). logs_at (slice_get L.functions f) n false) (s.next own)
           ∙ logged_after (slice_get L.functions f) (stands marks ir.functions f q)
-          (led (places_from (flags_from marks f 0 (code_in ir.functions f)) 0 0
-          (code_in ir.functions f)) (flagged marks f q j.0) j.0) (s.self own)
-          ∙ no_log (places_from (flags_from marks f 0 (code_in ir.functions f)) 0 0
-          (code_in ir.functions f)) (flagged marks f q j.0) j.0 bare_at
+          (led (places_from (flags_from marks f 0 (code_of_function ir.functions f)) 0 0
+          (code_of_function ir.functions f)) (flagged marks f q j.0) j.0) (s.self own)
+          ∙ no_log (places_from (flags_from marks f 0 (code_of_function ir.functions f)) 0 0
+          (code_of_function ir.functions f)) (flagged marks f q j.0) j.0 bare_at
 
   pub logged_same : (fill : Bool) (f p : ℕ) → IsStoreAt ir.functions fill f p
       → is_logged_in_code L (moved_site marks ir.functions (site f p fill)) ≡ table.is_logged marks

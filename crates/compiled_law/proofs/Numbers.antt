@@ -4,7 +4,7 @@ use Rattle.std.proofs.Common.{[], ◌∷◌, ◌++◌, length, Some, refl, sym, 
 use Rattle.std.proofs.Common.{⊎_elim}
 use Rattle.std.specs.Prelude.{slice_get, nat_lt, if◌then◌else◌, Result, Ok, Err}
 use Rattle.std.specs.List.{AllByRecursion}
-use Rattle.std.proofs.lemmas.Bool.{lt-ltb, ltb-false}
+use Rattle.std.proofs.lemmas.Bool.{ltb-false}
 use Rattle.std.proofs.lemmas.Nat.{mul-le}
 use Rattle.pool_layout.specs.declared.limits.Sizes.{Sizes}
 use Rattle.c_lexer.specs.declared.fault.LexFault.{LexFault}
@@ -20,7 +20,7 @@ use Rattle.ir.specs.Moving.{is_log}
 use Rattle.instrument.specs.Insert.{flags_from, with_flags, logged_code, logged_functions}
 use Rattle.insert_law.proofs.Follows.{one_log}
 use Rattle.pm_alloc.specs.Search.{IsPool}
-use Rattle.codegen.specs.Emit.{most_steps, known}
+use Rattle.codegen.specs.Emit.{most_steps}
 use Rattle.code_meaning.specs.Whole.{whole}
 
 -- a text has at most 16,384 tokens
@@ -113,9 +113,6 @@ pub functions_long : (marks : MarkTable) (k : ℕ) (us : List IrFunction)
     → length (logged_functions marks k us) ≡ length us
 functions_long marks k [] = refl
 functions_long marks k (u ∷ us) = ap suc (functions_long marks (suc k) us)
-
-pub all_known : (us : List IrFunction) → length us < 2 ^ 32 → known us ≡ us
-all_known us few = ap (λ (b : Bool). if b then us else []) (lt-ltb (length us) (2 ^ 32) few)
 
 -- a pool of these sizes has room for the search for a slot
 pub is_pool : (s : Sizes) → IsPool s

@@ -17,7 +17,7 @@ use Rattle.lower.specs.Program.{lowered}
 use Rattle.clobber_pass.specs.declared.marking.MarkTable.{MarkTable}
 use Rattle.clobber_pass.specs.Logged.{IsExact}
 use Rattle.instrument.specs.Insert.{logged_program}
-use Rattle.codegen.specs.Emit.{functions_of, parts_of}
+use Rattle.codegen.specs.Emit.{parts_of}
 use Rattle.cnvm_session.specs.declared.program.Program.{Program}
 use Rattle.session_law.specs.Source.{LogsFirst, ComesTo}
 use Rattle.session_law.specs.Agrees.{Agrees}
@@ -37,14 +37,13 @@ pub record IsCompiledFrom (text : List ℕ) (list : Tokens) (program : Program) 
   pub root : program.sizes.root_words ≡ words_of (shapes_of program.typed).root
   pub made : program.image.parts ≡ parts_of (logged_program marks (lowered program.typed))
       program.sizes (length program.typed.lines)
-      (functions_of program.sizes (logged_program marks (lowered program.typed)))
 
 abbrev pub CompiledLaw : Type 0
 CompiledLaw = (text : List ℕ) (list : Tokens) (program : Program)
     → IsCompiledFrom text list program → Agrees program
 
--- On every pool each transaction of a compiled program comes to something, with some number of
--- logged stores, and has some number of those that a marked one logs.
+-- On every pool each transaction of a compiled program has an outcome, a number of logged stores,
+-- and a number of those that a marked one logs.
 abbrev pub ComesLaw : Type 0
 ComesLaw = (text : List ℕ) (list : Tokens) (program : Program) → IsCompiledFrom text list program
     → (pool : PoolMap) (tx : ℕ) (args : List ℤ)

@@ -28,7 +28,7 @@ use Rattle.codegen.specs.Emit.{load_at, store_at, make_words, divides, local_cod
 use Rattle.codegen.specs.Emit.{return_code, piece_width, instruction_places}
 use Rattle.ir.specs.Moving.{is_log, place_in}
 use Rattle.codegen.specs.Emit.{instruction_code, code_from, emitted_code, has_room, trap_function}
-use Rattle.codegen.specs.Emit.{with_code, function_of, known}
+use Rattle.codegen.specs.Emit.{with_code, function_of}
 use Rattle.emit_law.specs.Pairs.{IsStoreFirst, ArePaired, HasPairs, EmitsPairs}
 
 first_append : (a : ℕ) (o : ℤ) (xs ys : List Op) → IsStoreFirst a o xs → IsStoreFirst a o (xs ++ ys)
@@ -177,4 +177,4 @@ all_pairs s h [] = tt
 all_pairs s h (u ∷ us) = (function_if s h u (has_room u.registers u.code), all_pairs s h us)
 
 pub emits_pairs : EmitsPairs
-emits_pairs s program = all_pairs s program.shapes (known program.functions)
+emits_pairs s program = all_pairs s program.shapes program.functions

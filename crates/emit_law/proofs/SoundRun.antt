@@ -26,7 +26,7 @@ use Rattle.codegen.specs.Emit.{local_code, control, return_code, piece_width}
 use Rattle.ir.specs.Moving.{is_log, place_in}
 use Rattle.codegen.specs.Emit.{instruction_places, instruction_code, code_from}
 use Rattle.codegen.specs.Emit.{emitted_code, has_room, trap_function, with_code, function_of}
-use Rattle.codegen.specs.Emit.{txs_from, known}
+use Rattle.codegen.specs.Emit.{txs_from}
 use Rattle.emit_law.specs.Pairs.{HasPairs}
 use Rattle.emit_law.specs.Tidy.{IsTidyCode, IsReturnless, OpenFramesTidy}
 use Rattle.emit_law.specs.TidyCode.{HasCode, SoundRunLaw}
@@ -126,14 +126,15 @@ function_if s h u true e =
 function_if s h u false e = returnless_from (trap_function u.parameters) (tt, tt)
 
 -- an entry belongs to a function marked tx
-record IsTx (f : ℕ) (us : List IrFunction) (entry : TxEntry) : Type 0 where
+pub record IsTx (f : ℕ) (us : List IrFunction) (entry : TxEntry) : Type 0 where
   pub number : ℕ
   pub u : IrFunction
   pub there : slice_get us number ≡ Some u
   pub marked : u.tx ≡ true
   pub is : entry.function ≡ f + number
 
-tx_after : (f : ℕ) (v : IrFunction) (us : List IrFunction) (entry : TxEntry) → IsTx (f + 1) us entry
+pub tx_after : (f : ℕ) (v : IrFunction) (us : List IrFunction) (entry : TxEntry)
+    → IsTx (f + 1) us entry
     → IsTx f (v ∷ us) entry
 tx_after f v us entry h = record {
   number = suc h.number;
@@ -150,7 +151,7 @@ tx_first f v us first entry at marked e =
     let is : entry.function ≡ f = sym (ap (λ (x : TxEntry). x.function) same) ∙ at in
     record { number = zero; u = v; there = refl; marked = marked; is = omega arith }
 
-entry_if : (f : ℕ) (v : IrFunction) (us : List IrFunction)
+pub entry_if : (f : ℕ) (v : IrFunction) (us : List IrFunction)
     → ((k : ℕ) (entry : TxEntry) → slice_get (txs_from (f + 1) us) k ≡ Some entry
     → IsTx (f + 1) us entry) → (d : Bool) → v.tx ≡ d → (k : ℕ) (entry : TxEntry)
     → slice_get ((if d then record { function = f; parameters = v.parameters } ∷ [] else [])
@@ -160,7 +161,7 @@ entry_if f v us next true marked zero entry e =
 entry_if f v us next true marked (suc k) entry e = tx_after f v us entry (next k entry e)
 entry_if f v us next false marked k entry e = tx_after f v us entry (next k entry e)
 
-entry_is : (f : ℕ) (us : List IrFunction) (k : ℕ) (entry : TxEntry)
+pub entry_is : (f : ℕ) (us : List IrFunction) (k : ℕ) (entry : TxEntry)
     → slice_get (txs_from f us) k ≡ Some entry → IsTx f us entry
 entry_is f [] k entry e = absurd (cc)
 entry_is f (v ∷ us) k entry e = entry_if f v us (λ j x. entry_is (f + 1) us j x) v.tx refl k entry e
@@ -182,12 +183,12 @@ start_open : (image : Image) (s : Sizes) (program : Ir) (tx : ℕ) (entry : TxEn
     → ((f : ℕ) → IsTidyCode (slice_get image.parts.functions f))
     → OpenFramesTidy image (start image tx args)
 start_open image s program tx entry args has found tidy =
-    let listed : slice_get (txs_from 0 (known program.functions)) (tx - 1) ≡ Some entry =
+    let listed : slice_get (txs_from 0 program.functions) (tx - 1) ≡ Some entry =
     subst (λ (ts : List TxEntry). slice_get ts (tx - 1) ≡ Some entry) has.txs found in
     let last : IsReturnless (slice_get image.parts.functions entry.function) =
     subst (λ (us : List Function). IsReturnless (slice_get us entry.function)) (sym has.functions)
-    (entry_returnless s program.shapes (known program.functions) entry
-    (entry_is 0 (known program.functions) (tx - 1) entry listed)) in
+    (entry_returnless s program.shapes program.functions entry
+    (entry_is 0 program.functions (tx - 1) entry listed)) in
     record {
       here = (tidy (transactions.entry_function (slice_get image.parts.txs (tx - 1)))).first;
       below = tt;

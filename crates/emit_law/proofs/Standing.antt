@@ -26,7 +26,7 @@ use Rattle.codegen.specs.Names.{is_below}
 use Rattle.codegen.specs.Emit.{local_code, piece_width, instruction_places}
 use Rattle.ir.specs.Moving.{is_log, place_in}
 use Rattle.codegen.specs.Emit.{instruction_code, code_from, emitted_code, trap_function, with_code}
-use Rattle.codegen.specs.Emit.{function_of, known}
+use Rattle.codegen.specs.Emit.{function_of}
 use Rattle.codegen.proofs.Fine.{reg_fine, fine, local_fine}
 use Rattle.emit_law.specs.Placed.{IsReg, IsFine, IsPlaced}
 use Rattle.emit_law.specs.Standing.{logged_before, Stays, table_of, HasRoom, StandsLaw}
@@ -174,7 +174,7 @@ stands_all image s program f u q i functions found room at stays =
     let h : Shapes = program.shapes in
     let there : slice_get image.parts.functions f ≡ Some (made s h u room) =
     ap (λ (us : List Function). slice_get us f) functions
-    ∙ slice_get-map (function_of s h) (known program.functions) f
+    ∙ slice_get-map (function_of s h) program.functions f
     ∙ ap (λ (o : Option IrFunction). option_map (function_of s h) o) found
     ∙ ap (λ (v : Function). Some v) (made_is s h u room) in
     let parts = and_parts (nat_le u.registers (2 ^ 32 - 9)) (list_all (is_below u.registers) u.code)

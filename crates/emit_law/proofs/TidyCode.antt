@@ -24,7 +24,7 @@ use Rattle.codegen.specs.Names.{is_below}
 use Rattle.codegen.specs.Emit.{local_code, control, return_code, piece_width}
 use Rattle.ir.specs.Moving.{is_log, place_in}
 use Rattle.codegen.specs.Emit.{instruction_places, instruction_code, code_from}
-use Rattle.codegen.specs.Emit.{emitted_code, has_room, trap_function, with_code, function_of, known}
+use Rattle.codegen.specs.Emit.{emitted_code, has_room, trap_function, with_code, function_of}
 use Rattle.codegen.proofs.Fine.{reg_fine, fine, local_fine}
 use Rattle.emit_law.specs.Tidy.{IsPlain, IsPlainAt, MayPrecede, LeadsPlain, IsTidyCode}
 use Rattle.emit_law.specs.TidyCode.{EmitsTidy}
@@ -414,4 +414,4 @@ all_tidy s h (u ∷ us) zero = function_if s h u (has_room u.registers u.code) r
 all_tidy s h (u ∷ us) (suc f) = all_tidy s h us f
 
 pub emits_tidy : EmitsTidy
-emits_tidy s program f = all_tidy s program.shapes (known program.functions) f
+emits_tidy s program f = all_tidy s program.shapes program.functions f

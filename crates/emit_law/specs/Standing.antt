@@ -11,7 +11,7 @@ use Rattle.ir.specs.declared.function.Ir.{Ir}
 use Rattle.pm_machine.specs.declared.image.Image.{Image}
 use Rattle.codegen.specs.Emit.{local_code, instruction_places, emitted_code}
 use Rattle.ir.specs.Moving.{is_log, place_in}
-use Rattle.codegen.specs.Emit.{has_room, functions_of, known}
+use Rattle.codegen.specs.Emit.{has_room, functions_of}
 use Rattle.emit_law.specs.Placed.{IsPlaced}
 
 -- whether a log comes right before instruction q; b: whether one comes before the first
@@ -49,7 +49,7 @@ pub record HasRoom (s : Sizes) (h : Shapes) (u : IrFunction) : Type 0 where
 abbrev pub StandsLaw : Type 0
 StandsLaw = (image : Image) (s : Sizes) (program : Ir) (f : ℕ) (u : IrFunction) (q : ℕ)
     (i : Instruction) →
-    image.parts.functions ≡ functions_of s program → slice_get (known program.functions) f ≡ Some u
+    image.parts.functions ≡ functions_of s program → slice_get program.functions f ≡ Some u
     → HasRoom s program.shapes u →
     slice_get u.code q ≡ Some i → Stays i →
     IsPlaced image f u.registers (place_in (table_of s program.shapes u) q)

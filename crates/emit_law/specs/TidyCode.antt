@@ -9,7 +9,7 @@ use Rattle.pm_machine.specs.declared.effect.End.{End}
 use Rattle.pm_machine.specs.declared.image.Image.{Image}
 use Rattle.pm_machine.specs.declared.op.TxEntry.{TxEntry}
 use Rattle.pm_machine.specs.Machine.{Finished, mrun}
-use Rattle.codegen.specs.Emit.{functions_of, txs_from, known}
+use Rattle.codegen.specs.Emit.{functions_of, txs_from}
 use Rattle.run_law.specs.Sound.{IsPairedRun, IsTidyEnd}
 use Rattle.emit_law.specs.Tidy.{IsTidyCode}
 
@@ -20,7 +20,7 @@ EmitsTidy = (s : Sizes) (program : Ir) (f : ℕ) → IsTidyCode (slice_get (func
 -- an image with the emitted code of a program and its transactions
 pub record HasCode (image : Image) (s : Sizes) (program : Ir) : Type 0 where
   pub functions : image.parts.functions ≡ functions_of s program
-  pub txs : image.parts.txs ≡ txs_from 0 (known program.functions)
+  pub txs : image.parts.txs ≡ txs_from 0 program.functions
 
 -- Each run of a transaction of emitted code, from any heap: each LOG is followed by its STORE; if
 -- it halts, it flushes each stored line once, in the order of first stores, after its last store,

@@ -117,9 +117,9 @@ mutual
         stmt_end_le a (suc (exp_end c p)),
         stmt_end_le b (suc (stmt_end a (suc (exp_end c p)))),
       )
-  stmt_end_le (stmt.While c a) p =
+  stmt_end_le (stmt.While place c a) p =
       omega (arith, exp_end_le c (suc p), stmt_end_le a (suc (exp_end c (suc p))))
-  stmt_end_le (stmt.For first c third a) p =
+  stmt_end_le (stmt.For place first c third a) p =
       let p0 : ℕ = first_end first p in
       let p1 : ℕ = or_end c (suc p0) in
       let p2 : ℕ = stmt_end a (suc p1) in

@@ -2,6 +2,7 @@
 use Rattle.std.proofs.Common.{◌≡◌, ℕ, ◌+◌, ◌≤◌, ◌<◌, Bool, true, false, List, [], ◌∷◌, ◌++◌, length}
 use Rattle.std.proofs.Common.{refl, arith, rules, ⊎_elim, ◌≢◌}
 use Rattle.std.specs.Prelude.{nat_lt, nat_le, nat_eq, ◌&&◌, not, is_some, slice_get}
+use Rattle.std.specs.List.{AllByRecursion}
 use Rattle.std.proofs.lemmas.Bool.Decides.{eqb_tells}
 use Rattle.c_tree.specs.ItemTree.{FunctionTree, ParameterTree}
 use Rattle.c_tree.specs.Program.{Program, tree_of}
@@ -16,7 +17,7 @@ use Rattle.c_types.specs.Fault.{breaks}
 use Rattle.c_types.specs.Declarations.{structs_broken, roots_broken, function_broken, body_broken}
 use Rattle.c_types.specs.Declarations.{parameter_broken, parameters_broken, functions_broken}
 use Rattle.c_types.specs.Declarations.{scopes_after_parameter}
-use Rattle.lower.specs.inside.Program.{take_few}
+use Rattle.lower.specs.inside.Program.{TakesFew}
 
 -- a list that is empty has no parts
 pub none_left : {A : Type 0} (xs ys : List A) → xs ++ ys ≡ [] → xs ≡ []
@@ -82,26 +83,24 @@ few_parameters t s i (p ∷ ps) le e =
     omega (arith, less)
 
 few_from : (t : Tables) (i : ℕ) (fs : List FunctionTree) → functions_broken t i fs ≡ []
-    → take_few fs ≡ true
-few_from t i [] e = refl
+    → AllByRecursion TakesFew fs
+few_from t i [] e = tt
 few_from t i (f ∷ fs) e =
     let here : function_broken t i f ++ body_broken t f ≡ [] =
     none_left (function_broken t i f ++ body_broken t f) (functions_broken t (i + 1) fs) e in
     let body : body_broken t f ≡ [] = none_right (function_broken t i f) (body_broken t f) here in
     let few : 0 + length f.parameters ≤ 22 =
     few_parameters t (inner_scopes []) 0 f.parameters (omega arith)
-    (none_left (parameters_broken t (inner_scopes []) 0 f.parameters) _ body) in
-    let rest : take_few fs ≡ true =
-    few_from t (i + 1) fs (none_right (function_broken t i f ++ body_broken t f)
-    (functions_broken t (i + 1) fs) e) in
-    rw (rest, lt_true (length f.parameters) 65536 (omega (arith, few))) refl
+    (none_left (parameters_broken t (inner_scopes []) 0 f.parameters) _ body) in (
+      omega (arith, few),
+      few_from t (i + 1) fs (none_right (function_broken t i f ++ body_broken t f)
+          (functions_broken t (i + 1) fs) e),
+    )
 
 pub few_functions : (tree : Program) → breaks tree ≡ []
-    → take_few (tables_of (tree_of tree)).functions ≡ true
+    → AllByRecursion TakesFew (tables_of (tree_of tree)).functions
 few_functions tree e =
     let t : Tables = tables_of (tree_of tree) in
     few_from t 0 t.functions (none_right (unless (is_some (slice_get t.roots 0)) (length tree.lines)
     NoRoot) (functions_broken t 0 t.functions)
     (none_right (roots_broken t 0 t.roots) _ (none_right (structs_broken t 0 t.structs) _ e)))
-
-pub ruleset few = (few_functions)

@@ -241,7 +241,7 @@ mutual
         stmt_filled k (inner_variables v) b out again (suc p2) h place lt,
         to_place_same h place (stmt_end b (suc p2)) lt,
       )
-  stmt_filled k v (stmt.While c a) out again p h place lt =
+  stmt_filled k v (stmt.While at c a) out again p h place lt =
       let p1 : ℕ = exp_end c (suc p) in
       let p2 : ℕ = stmt_end a (suc p1) in
       let le1 : suc p ≤ p1 = exp_end_le c (suc p) in
@@ -253,7 +253,7 @@ mutual
         to_place_same h place (suc p2) lt,
         to_place_same h place p (omega arith),
       )
-  stmt_filled k v (stmt.For first c third a) out again p h place lt =
+  stmt_filled k v (stmt.For at first c third a) out again p h place lt =
       let u : Variables = variables_after_first k first p (inner_variables v) in
       let p0 : ℕ = first_end first p in
       let p1 : ℕ = or_end c (suc p0) in

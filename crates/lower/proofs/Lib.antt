@@ -1,5 +1,4 @@
 pub mod Fills
-pub mod Checks
 pub mod Ends
 pub mod Filled
 pub mod ExprAdds

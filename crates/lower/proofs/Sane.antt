@@ -70,13 +70,13 @@ index_of_in {A} name_of name (x ∷ xs) i e =
         (here.0, rw (← at) here.1)
 
 -- if no rule is broken in a list, none is broken by an element
-struct_at : (t : Tables) (i : ℕ) (ss : List StructTree) (j : ℕ) (s : StructTree)
+pub struct_at_place : (t : Tables) (i : ℕ) (ss : List StructTree) (j : ℕ) (s : StructTree)
     → structs_broken t i ss ≡ [] → slice_get ss j ≡ Some s → whole_struct_broken t (i + j) s ≡ []
-struct_at t i [] j s e is = absurd (none_some is)
+struct_at_place t i [] j s e is = absurd (none_some is)
   where
     none_some : None ≡ Some s → ⊥
     none_some e = cc
-struct_at t i (x ∷ ss) zero s e is =
+struct_at_place t i (x ∷ ss) zero s e is =
     rw (← some_same is, plus_zero i)
     (none_left (whole_struct_broken t i x) (structs_broken t (i + 1) ss) e)
   where
@@ -85,8 +85,8 @@ struct_at t i (x ∷ ss) zero s e is =
 
     plus_zero : (i : ℕ) → i + 0 ≡ i
     plus_zero i = omega arith
-struct_at t i (x ∷ ss) (suc j) s e is =
-    rw (next i j) (struct_at t (i + 1) ss j s
+struct_at_place t i (x ∷ ss) (suc j) s e is =
+    rw (next i j) (struct_at_place t (i + 1) ss j s
     (none_right (whole_struct_broken t i x) (structs_broken t (i + 1) ss) e) is)
   where
     next : (i j : ℕ) → i + suc j ≡ (i + 1) + j
@@ -300,7 +300,7 @@ sane tree e =
     record {
       structs = omega (arith, structs_few t 0 t.structs (omega arith) e1);
       functions = omega (arith, functions_few t 0 t.functions (omega arith) e4);
-      fields = λ i s is. struct_fields t (0 + i) s (struct_at t 0 t.structs i s e1 is);
+      fields = λ i s is. struct_fields t (0 + i) s (struct_at_place t 0 t.structs i s e1 is);
       results = λ i f is. none_left (option_map_or (type_broken t) f.result_type []) _
           (none_left (function_broken t (0 + i) f) (body_broken t f)
           (function_at_place t 0 t.functions i f e4 is));

@@ -65,8 +65,8 @@ outer_after k (stmt.Simple x) p v = refl
 outer_after k (stmt.Block all) p v = refl
 outer_after k (stmt.If c a) p v = refl
 outer_after k (stmt.IfElse c a b) p v = refl
-outer_after k (stmt.While c a) p v = refl
-outer_after k (stmt.For first c third a) p v = refl
+outer_after k (stmt.While place c a) p v = refl
+outer_after k (stmt.For place first c third a) p v = refl
 outer_after k stmt.Break p v = refl
 outer_after k stmt.Continue p v = refl
 outer_after k (stmt.Return place value) p v = refl
@@ -457,12 +457,12 @@ for_added k v e third a c c1 c2 c3 c4 c5 c6 c7 c8 c9 u r top n m l ht h1 he hn h
       variables = ha.variables;
     }
 
-pub for_stmt : (k : Context) (v : Variables) (f : Option FirstTree) (e : Option ExprTree)
-    (third : Option SimpleTree) (a : StmtTree) (out again : ℕ) (c c1 c2 : List Instruction)
-    (u w x : Variables)
+pub for_stmt : (k : Context) (v : Variables) (place : ℕ) (f : Option FirstTree)
+    (e : Option ExprTree) (third : Option SimpleTree) (a : StmtTree) (out again : ℕ)
+    (c c1 c2 : List Instruction) (u w x : Variables)
     → FirstAdded k (inner_variables v) f c c1 u → ForAdded k u e third a c1 c2 w
-    → x ≡ outer_variables w → StmtAdded k v (stmt.For f e third a) out again c c2 x
-for_stmt k v f e third a out again c c1 c2 u w x hf hr is =
+    → x ≡ outer_variables w → StmtAdded k v (stmt.For place f e third a) out again c c2 x
+for_stmt k v place f e third a out again c c1 c2 u w x hf hr is =
     let p0 : ℕ = first_end f (length c) in
     let u' : Variables = variables_after_first k f (length c) (inner_variables v) in
     let e2 : c2 ≡ c1 ++ for_code k u' e third a p0 =
@@ -648,10 +648,10 @@ after_all_more k v x rest out again c c1 u h =
     ap (λ n. variables_after_all k rest n u) h.long
     ∙ ap (variables_after_all k rest (stmt_end x (length c))) h.variables
 
-pub while_stmt : (k : Context) (v : Variables) (e : ExprTree) (a : StmtTree) (out again : ℕ)
-    (c c1 : List Instruction) (u : Variables)
-    → WhileAdded k v e a c c1 u → StmtAdded k v (stmt.While e a) out again c c1 u
-while_stmt k v e a out again c c1 u h =
+pub while_stmt : (k : Context) (v : Variables) (place : ℕ) (e : ExprTree) (a : StmtTree)
+    (out again : ℕ) (c c1 : List Instruction) (u : Variables)
+    → WhileAdded k v e a c c1 u → StmtAdded k v (stmt.While place e a) out again c c1 u
+while_stmt k v place e a out again c c1 u h =
     record { code = h.code; long = h.long; variables = h.variables }
 
 pub return_stmt : (k : Context) (v : Variables) (place : ℕ) (value : Option ExprTree)

@@ -379,8 +379,8 @@ agree_after k ir r n gives s v (stmt.Simple x) p h a b lt = a
 agree_after k ir r n gives s v (stmt.Block all) p h a b lt = a
 agree_after k ir r n gives s v (stmt.If c x) p h a b lt = a
 agree_after k ir r n gives s v (stmt.IfElse c x y) p h a b lt = a
-agree_after k ir r n gives s v (stmt.While c x) p h a b lt = a
-agree_after k ir r n gives s v (stmt.For first c third x) p h a b lt = a
+agree_after k ir r n gives s v (stmt.While place c x) p h a b lt = a
+agree_after k ir r n gives s v (stmt.For place first c third x) p h a b lt = a
 agree_after k ir r n gives s v stmt.Break p h a b lt = a
 agree_after k ir r n gives s v stmt.Continue p h a b lt = a
 agree_after k ir r n gives s v (stmt.Return place value) p h a b lt = a
@@ -394,8 +394,8 @@ after_alike k (stmt.Simple x) p s v h = h
 after_alike k (stmt.Block all) p s v h = h
 after_alike k (stmt.If c a) p s v h = h
 after_alike k (stmt.IfElse c a b) p s v h = h
-after_alike k (stmt.While c a) p s v h = h
-after_alike k (stmt.For first c third a) p s v h = h
+after_alike k (stmt.While place c a) p s v h = h
+after_alike k (stmt.For place first c third a) p s v h = h
 after_alike k stmt.Break p s v h = h
 after_alike k stmt.Continue p s v h = h
 after_alike k (stmt.Return place value) p s v h = h
@@ -458,7 +458,7 @@ mutual
                   (suc p2) h (tt, a) same by o g lt,
             ),
       )
-  stmt_sound k ir r n gives s v (stmt.While c x) out again p h a same b o g lt =
+  stmt_sound k ir r n gives s v (stmt.While place c x) out again p h a same b o g lt =
       let t : Tables = k.tables in
       let p1 : ℕ = exp_end c (suc p) in
       let p2 : ℕ = stmt_end x (suc p1) in
@@ -480,7 +480,7 @@ mutual
                   (start, tt),
             ),
       )
-  stmt_sound k ir r n gives s v (stmt.For first c third x) out again p h a same b o g lt =
+  stmt_sound k ir r n gives s v (stmt.For place first c third x) out again p h a same b o g lt =
       let t : Tables = k.tables in
       let w : Variables = inner_variables v in
       let u : Variables = variables_after_first k first p w in

@@ -26,8 +26,8 @@ declares name (stmt.Simple x) = false
 declares name (stmt.Block all) = false
 declares name (stmt.If c a) = false
 declares name (stmt.IfElse c a b) = false
-declares name (stmt.While c a) = false
-declares name (stmt.For first c third a) = false
+declares name (stmt.While place c a) = false
+declares name (stmt.For place first c third a) = false
 declares name stmt.Break = false
 declares name stmt.Continue = false
 declares name (stmt.Return place value) = false
@@ -54,8 +54,8 @@ abbrev mutual
   assigns_name name (stmt.Block all) = is_assigned name all
   assigns_name name (stmt.If c a) = assigns_name name a
   assigns_name name (stmt.IfElse c a b) = if assigns_name name a then true else assigns_name name b
-  assigns_name name (stmt.While c a) = assigns_name name a
-  assigns_name name (stmt.For first c third a) = if first_declares name first then false
+  assigns_name name (stmt.While place c a) = assigns_name name a
+  assigns_name name (stmt.For place first c third a) = if first_declares name first then false
       else (first_assigns name first || third_assigns name third || assigns_name name a)
   assigns_name name stmt.Break = false
   assigns_name name stmt.Continue = false

@@ -316,8 +316,8 @@ variables_after s (stmt.Simple x) p v = v
 variables_after s (stmt.Block all) p v = v
 variables_after s (stmt.If c a) p v = v
 variables_after s (stmt.IfElse c a b) p v = v
-variables_after s (stmt.While c a) p v = v
-variables_after s (stmt.For first c third a) p v = v
+variables_after s (stmt.While place c a) p v = v
+variables_after s (stmt.For place first c third a) p v = v
 variables_after s stmt.Break p v = v
 variables_after s stmt.Continue p v = v
 variables_after s (stmt.Return place value) p v = v
@@ -330,8 +330,8 @@ abbrev mutual
   stmt_end (stmt.Block all) p = statements_end all p
   stmt_end (stmt.If c a) p = stmt_end a (suc (exp_end c p))
   stmt_end (stmt.IfElse c a b) p = stmt_end b (suc (stmt_end a (suc (exp_end c p))))
-  stmt_end (stmt.While c a) p = suc (stmt_end a (suc (exp_end c (suc p))))
-  stmt_end (stmt.For first c third a) p =
+  stmt_end (stmt.While place c a) p = suc (stmt_end a (suc (exp_end c (suc p))))
+  stmt_end (stmt.For place first c third a) p =
       suc (third_end third (stmt_end a (suc (or_end c (suc (first_end first p))))))
   stmt_end stmt.Break p = suc p
   stmt_end stmt.Continue p = suc p
@@ -359,13 +359,13 @@ abbrev mutual
       exp_code s v c p ++ (Branch (reg_of s v c p1) (suc p2)
       ∷ (stmt_code s (inner_variables v) a out again (suc p1) ++ Jump (stmt_end b (suc p2))
       ∷ stmt_code s (inner_variables v) b out again (suc p2)))
-  stmt_code s v (stmt.While c a) out again p =
+  stmt_code s v (stmt.While place c a) out again p =
       let p1 : ℕ = exp_end c (suc p) in
       let p2 : ℕ = stmt_end a (suc p1) in
       Tick ∷ (exp_code s v c (suc p)
       ++ (Branch (reg_of s v c p1) (suc p2)
       ∷ (stmt_code s (inner_variables v) a (suc p2) p (suc p1) ++ Jump p ∷ [])))
-  stmt_code s v (stmt.For first c third a) out again p =
+  stmt_code s v (stmt.For place first c third a) out again p =
       let u : Variables = variables_after_first s first p (inner_variables v) in
       let p0 : ℕ = first_end first p in
       let p1 : ℕ = or_end c (suc p0) in

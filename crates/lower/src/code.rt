@@ -5,12 +5,13 @@ ghost use Rattle.std.specs.Prelude.{◌≡◌, ◌≤◌, ◌+◌, ◌^◌, [], 
 ghost use Rattle.lower.specs.inside.Holes as holes;
 ghost use Rattle.lower.specs.inside.Holes.{fill_from};
 
+use crate::names::NOWHERE;
 use ir::{Instruction, Instructions};
 use std::alloc::{AllocError, Global};
 use std::marker::Model;
 
 /// The hole for a jump out of the innermost loop.
-pub const LEAVE: u32 = u32::MAX;
+pub const LEAVE: u32 = NOWHERE;
 
 /// The hole for a jump to the third part of the innermost `for`.
 pub const NEXT: u32 = u32::MAX - 1;

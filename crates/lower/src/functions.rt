@@ -1,21 +1,19 @@
 //! The code of functions and programs.
 
-ghost use Rattle.std.specs.Prelude.{◌≡◌, ◌<◌, [], true, length, map, IfOk, OnOk};
+ghost use Rattle.std.specs.Prelude.{◌≡◌, ◌<◌, ◌^◌, [], length, map, IfOk, OnOk};
 ghost use Rattle.std.specs.List.{AllByRecursion};
 ghost use Rattle.c_tree.specs.ItemTree.{function_tree, parameter_of};
 ghost use Rattle.c_tree.specs.StmtTree.{statements_in};
 ghost use Rattle.c_types.specs.Fault.{breaks};
-ghost use Rattle.c_types.specs.Shapes.{shapes_of};
 ghost use Rattle.c_types.specs.Views.{tables_in};
 ghost use Rattle.ir.specs.WellFormed.{IsWellFormed};
 ghost use Rattle.lower.specs.inside.Added.{ParameterAdded, ParametersAdded, context_of};
 ghost use Rattle.lower.specs.Program as programs;
-ghost use Rattle.lower.specs.inside.Program as inside_programs;
+ghost use Rattle.lower.specs.inside.Program.{function_end, IsCounted, TakesFew};
 ghost use Rattle.lower.specs.Program.{lowered};
 ghost use Rattle.ir.specs.Short.{IsShort};
 
 use crate::assigned::is_assigned;
-use crate::checked::is_well_formed;
 use crate::code::{Code, LEAVE};
 use crate::expressions::{add_constant, add_copy};
 use crate::source::Source;
@@ -26,68 +24,23 @@ use c_tree::item::Function;
 use c_types::{Program, Typed};
 use ir::{Instruction, Ir, IrFunction, IrFunctions};
 use nvm_base::Text;
-use pool_map::Shapes;
 use std::alloc::{AllocError, Global};
 
-/// The code of a program: one function for each of the program's, in their order, with no log and
-/// every flag off. A tree that breaks a typing rule may have code that isn't well formed, or a
-/// function with 65,536 parameters; the answer then has no functions. The error is want of memory,
-/// which is also answered if a function has over 2^29 instructions.
-#[tactic(auto, using(crate::proofs::Whole::whole))]
+/// The code of a program that breaks no typing rule: one function for each of the program's, in
+/// their order, with no log and every flag off. The error is want of memory, which is also answered
+/// if a function has over 2^29 instructions.
+#[tactic(auto, using(crate::proofs::Few::few_functions))]
 pub fn lower(alloc: Global, typed: &Typed) -> Result<Ir, AllocError>
-    ensures code { IfOk result (λ ir. breaks typed.now ≡ [] → ir ≡ lowered typed.now) }
+    requires { breaks typed.now ≡ [] }
+    ensures code { IfOk result (λ ir. ir ≡ lowered typed.now) }
     ensures well_formed { IfOk result (λ ir. IsWellFormed ir) }
     ensures short { IfOk result (λ ir. IsShort ir) }
-    ensures shapes { IfOk result (λ ir. ir.shapes ≡ shapes_of typed.now) }
 {
     let ast = typed.ast();
     let program = Program::new(alloc, ast.items())?;
-    let shapes = typed.shapes().copy(alloc)?;
-    if !take_few(program.functions()) {
-        return Ok(nothing(alloc, shapes));
-    }
     let functions = lower_functions(alloc, ast, &program, program.functions())?;
-    Ok(kept(alloc, Ir { functions, shapes }))
-}
-
-/// The code, if it is well formed. The code of a checked tree always is; for any other the answer
-/// has no functions.
-fn kept(alloc: Global, ir: Ir) -> Ir
-    ensures same { IsWellFormed ir → result ≡ ir }
-    ensures well_formed { IsWellFormed result }
-    ensures short { IsShort ir → IsShort result }
-    ensures shapes { result.shapes ≡ ir.shapes }
-{
-    if is_well_formed(&ir) {
-        return ir;
-    }
-    nothing(alloc, ir.shapes)
-}
-
-/// A program without functions, which is well formed and short.
-fn nothing(alloc: Global, shapes: Shapes) -> Ir
-    ensures well_formed { IsWellFormed result }
-    ensures short { IsShort result }
-    ensures shapes { result.shapes ≡ shapes }
-{
-    Ir {
-        functions: IrFunctions::new(alloc),
-        shapes,
-    }
-}
-
-/// Whether each function has fewer than 65,536 parameters. Those of a checked tree have at most 22.
-#[tactic(auto, using(crate::proofs::Whole::parameters))]
-fn take_few(functions: &[&Function]) -> bool
-    ensures { result ≡ inside_programs.take_few
-        (map function_tree (map (λ f. f.now) functions.now)) }
-{
-    for function in functions {
-        if function.parameters.len() >= 65_536 {
-            return false;
-        }
-    }
-    true
+    let shapes = typed.shapes().copy(alloc)?;
+    Ok(Ir { functions, shapes })
 }
 
 /// The functions, in the order of the text.
@@ -97,13 +50,12 @@ fn lower_functions<'s, 'a>(
     program: &'s Program<'a>,
     functions: &[&'a Function],
 ) -> Result<IrFunctions, AllocError>
-    requires few { inside_programs.take_few (map function_tree (map (λ f. f.now) functions.now))
-        ≡ true }
+    requires few { AllByRecursion TakesFew (map function_tree (map (λ f. f.now) functions.now)) }
     ensures code { IfOk result (λ us.
         us ≡ map (programs.lowered_function (tables_in program.now) ast.now)
         (map function_tree (map (λ f. f.now) functions.now))) }
     ensures counted { IfOk result (λ us.
-        AllByRecursion (inside_programs.IsCounted (tables_in program.now) ast.now)
+        AllByRecursion (IsCounted (tables_in program.now) ast.now)
         (map function_tree (map (λ f. f.now) functions.now))) }
 {
     let mut lowered = IrFunctions::new(alloc);
@@ -121,10 +73,10 @@ fn lower_function<'s, 'a>(
     program: &'s Program<'a>,
     function: &'a Function,
 ) -> Result<IrFunction, AllocError>
-    requires few { length function.now.parameters.items < 65536 }
+    requires few { length function.now.parameters.items < 2 ^ 16 }
     ensures code { IfOk result (λ u. u ≡ programs.lowered_function (tables_in program.now) ast.now
         (function_tree function.now)) }
-    ensures counted { IfOk result (λ u. inside_programs.IsCounted (tables_in program.now) ast.now
+    ensures counted { IfOk result (λ u. IsCounted (tables_in program.now) ast.now
         (function_tree function.now)) }
 {
     let source = Source {
@@ -147,11 +99,11 @@ fn lower_function<'s, 'a>(
 
 /// The code of a function: copies of the parameters that it assigns, its body, and the return of 0.
 fn function_code<'a>(source: &Source<'_, 'a>, function: &'a Function) -> Result<Code, AllocError>
-    requires few { length function.now.parameters.items < 65536 }
+    requires few { length function.now.parameters.items < 2 ^ 16 }
     ensures code { IfOk result (λ c. c ≡ programs.function_code (context_of source.now)
         (function_tree function.now)) }
     ensures long { IfOk result (λ c.
-        length c ≡ inside_programs.function_end (function_tree function.now)) }
+        length c ≡ function_end (function_tree function.now)) }
 {
     let mut variables = Variables::new(source.alloc);
     let mut code = Code::new(source.alloc);
@@ -172,7 +124,7 @@ fn add_parameters<'a>(
     code: &mut Code,
     function: &'a Function,
 ) -> Result<(), AllocError>
-    requires few { length function.now.parameters.items < 65536 }
+    requires few { length function.now.parameters.items < 2 ^ 16 }
     ensures { OnOk result (ParametersAdded (context_of source.now)
         (statements_in function.now.body.items) (map parameter_of function.now.parameters.items)
         variables.old code.old code.new variables.new) }

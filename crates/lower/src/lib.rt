@@ -5,7 +5,6 @@
 #![tactic(auto)]
 
 mod assigned;
-mod checked;
 mod code;
 mod expressions;
 mod form;

@@ -72,12 +72,17 @@ fn add_statement<'a>(
                 add_else(source, variables, code, again, other)
             }
         },
-        Stmt::While { condition, body } => add_while(source, variables, code, body, condition),
+        Stmt::While {
+            condition,
+            body,
+            ..
+        } => add_while(source, variables, code, body, condition),
         Stmt::For {
             first,
             condition,
             third,
             body,
+            ..
         } => {
             variables.open(source.alloc)?;
             add_first(source, variables, code, first)?;

@@ -5,8 +5,8 @@ ghost use Rattle.ir.specs.WellFormed.{IsWellFormed};
 
 use crate::cases::{Case, case_program};
 use crate::programs::program;
-use crate::well::is_well_formed;
 use clobber_pass::{MarkTable, marks};
+use code_check::is_well_formed;
 use ir::{Ir, Site};
 use std::alloc::{AllocError, Global};
 use std::test::Fail;

@@ -24,5 +24,3 @@ mod programs;
 mod rows;
 #[cfg(test)]
 mod walks;
-#[cfg(test)]
-mod well;

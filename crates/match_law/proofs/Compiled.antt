@@ -1,10 +1,9 @@
 -- The content of an image with emitted code.
-use Rattle.std.proofs.Common.{◌≡◌, ℕ, zero, suc, ◌+◌, ◌<◌, ◌≤◌, ◌^◌, Bool, true, false, List, []}
+use Rattle.std.proofs.Common.{◌≡◌, ℕ, zero, suc, ◌+◌, ◌<◌, ◌≤◌, Bool, true, false, List, []}
 use Rattle.std.proofs.Common.{◌∷◌, length, slice_get, Option, Some, refl, sym, ap, ◌∙◌, subst}
 use Rattle.std.proofs.Common.{arith}
 use Rattle.std.specs.Prelude.{option_map, if◌then◌else◌, nat_lt}
-use Rattle.std.specs.List.{AllByRecursion}
-use Rattle.std.proofs.lemmas.Bool.{lt-ltb, ltb-true, ltb-false}
+use Rattle.std.proofs.lemmas.Bool.{ltb-true, ltb-false}
 use Rattle.std.proofs.lemmas.Option.{slice_get-map}
 use Rattle.ir.specs.declared.instruction.Instruction.{Instruction}
 use Rattle.ir.specs.declared.function.IrFunction.{IrFunction}
@@ -13,7 +12,7 @@ use Rattle.ir.specs.WellFormed.{IsInstruction, IsFunction}
 use Rattle.pm_machine.specs.declared.image.Image.{Image}
 use Rattle.pm_machine.specs.declared.op.Function.{Function}
 use Rattle.pm_machine.specs.Checked.{most_registers}
-use Rattle.codegen.specs.Emit.{function_of, known}
+use Rattle.codegen.specs.Emit.{function_of}
 use Rattle.code_meaning.proofs.Lists.{all_at}
 use Rattle.match_law.specs.Compiled.{IsCodeOf}
 use Rattle.match_law.proofs.Places.{made, made_is}
@@ -45,25 +44,16 @@ most_at n (v ∷ us) zero u e =
 most_at n (v ∷ us) (suc k) u e = most_at (if nat_lt n v.registers then v.registers else n) us k u e
 
 module _ (image : Image) (ir : Ir) (c : IsCodeOf image ir) where
-  pub known_is : known ir.functions ≡ ir.functions
-  known_is =
-      let few : nat_lt (length ir.functions) (2 ^ 32) ≡ true =
-      lt-ltb (length ir.functions) (2 ^ 32) (omega (arith, c.well.0)) in
-      ap (λ (b : Bool). if b then ir.functions else []) few
-
   module _ (f : ℕ) (u : IrFunction) (found : slice_get ir.functions f ≡ Some u) where
     abbrev pub made_here : Function
     made_here = made image.parts.sizes ir.shapes u (c.room f u found)
 
-    pub known_at : slice_get (known ir.functions) f ≡ Some u
-    known_at = ap (λ (us : List IrFunction). slice_get us f) known_is ∙ found
-
     pub function_is : slice_get image.parts.functions f ≡ Some made_here
     function_is =
         ap (λ (us : List Function). slice_get us f) c.code.functions
-        ∙ slice_get-map (function_of image.parts.sizes ir.shapes) (known ir.functions) f
+        ∙ slice_get-map (function_of image.parts.sizes ir.shapes) ir.functions f
         ∙ ap (λ (o : Option IrFunction). option_map (function_of image.parts.sizes ir.shapes) o)
-        known_at
+        found
         ∙ ap (λ (v : Function). Some v) (made_is image.parts.sizes ir.shapes u (c.room f u found))
 
     pub largest_room : u.registers + 8 ≤ image.largest

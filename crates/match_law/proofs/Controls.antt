@@ -1,6 +1,6 @@
 -- Jumps, branches, calls and returns: one step of the machine each, except for the return of a
 -- transaction.
-use Rattle.std.proofs.Common.{◌≡◌, inl, ℕ, zero, suc, ◌+◌, ◌*◌, ◌<◌, ◌≤◌, Bool, true, false, List}
+use Rattle.std.proofs.Common.{◌≡◌, inl, ℕ, zero, suc, ◌+◌, ◌<◌, ◌≤◌, Bool, true, false, List}
 use Rattle.std.proofs.Common.{[], ◌∷◌, ◌++◌, length, map, replicate, slice_get, get_or, set, Option}
 use Rattle.std.proofs.Common.{None, Some, ℤ, pos, negsuc, refl, sym, ap, ◌∙◌, subst, arith, ltb}
 use Rattle.std.proofs.Common.{length-set}
@@ -16,7 +16,7 @@ use Rattle.ir.specs.declared.instruction.Instruction.TheVariants as ir
 use Rattle.ir.specs.declared.function.IrFunction.{IrFunction}
 use Rattle.ir.specs.declared.function.Ir.{Ir}
 use Rattle.ir.specs.WellFormed.{TakesArgs}
-use Rattle.code_meaning.specs.Code.{CodeState, Here, Move, register_at, put_register, gives, opens}
+use Rattle.code_meaning.specs.Code.{Here, Move, register_at, put_register, gives, opens}
 use Rattle.pool_map.specs.Checks.{is_zero}
 use Rattle.code_meaning.specs.Code.{open_limit}
 use Rattle.code_meaning.specs.Code as code
@@ -36,7 +36,7 @@ use Rattle.emit_law.specs.Standing.{logged_before, table_of}
 use Rattle.piece_law.specs.Shows.{done}
 use Rattle.piece_law.specs.Stands.{Stands}
 use Rattle.match_law.specs.Compiled.{IsCodeOf}
-use Rattle.match_law.specs.Match.{IsOpenIn, is_last, Waits, AreMatched, MovesToo, own_steps}
+use Rattle.match_law.specs.Match.{IsOpenIn, is_outermost, Waits, AreMatched, MovesToo, own_steps}
 use Rattle.match_law.specs.Match.{flushes}
 use Rattle.match_law.proofs.Runs.{single, returns}
 use Rattle.match_law.proofs.Registers.{set_put, placed_is, placed_length}
@@ -62,7 +62,7 @@ module _ (image : Image) (program : Ir) (c : IsCodeOf image program) (f p : ℕ)
 
   -- the function at another place, with the same registers
   opened : (q j : ℕ) → j ≡ to_place q
-      → IsOpenIn image.parts.sizes program f q regs (is_last callers) (frame_at m.state.top j)
+      → IsOpenIn image.parts.sizes program f q regs (is_outermost callers) (frame_at m.state.top j)
   opened q j register_at = record {
     u = u;
     found = same.top.found;
@@ -289,7 +289,7 @@ module _ (image : Image) (program : Ir) (c : IsCodeOf image program) (f p : ℕ)
     back h q rs r cs tx waits =
         let hs : List Frame = waits.0 in
         let g : Frame = waits.1 in
-        let waiting : IsOpenIn image.parts.sizes program h q rs (is_last cs) g = waits.4 in
+        let waiting : IsOpenIn image.parts.sizes program h q rs (is_outermost cs) g = waits.4 in
         let z : m.state.top.place + 0 ≡ m.state.top.place = omega arith in
         let there : fetch image m.state ≡ Some (op.Ret from) =
         ap (λ (j : ℕ). fetch_in j (slice_get image.parts.functions m.state.top.function)) (sym z)
@@ -336,7 +336,7 @@ module _ (image : Image) (program : Ir) (c : IsCodeOf image program) (f p : ℕ)
           }),
         )
 
-    gives_back : (cs : List code.Frame) → u.tx ≡ is_last cs
+    gives_back : (cs : List code.Frame) → u.tx ≡ is_outermost cs
         → Waits image.parts.sizes program m.state.top.to cs m.state.below →
         (n : ℕ) × (n ≤ own_steps + flushes (gives cs (register_at regs from) w t) m)
         × MovesToo image program [] (gives cs (register_at regs from) w t) m (go image n m)

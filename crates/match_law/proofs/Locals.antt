@@ -32,7 +32,7 @@ use Rattle.piece_law.specs.Words.{HoldWords}
 use Rattle.match_law.specs.Compiled.{IsCodeOf, is_logged_in_code, logs_at, logs_fill}
 use Rattle.match_law.specs.Match.{AreMatched}
 use Rattle.match_law.proofs.Places.{place_next}
-use Rattle.match_law.proofs.Compiled.{known_at, well_at}
+use Rattle.match_law.proofs.Compiled.{well_at}
 use Rattle.match_law.proofs.Leads.{leads_on, piece_length}
 use Rattle.match_law.proofs.Moves.{Steps, combined}
 
@@ -109,7 +109,7 @@ module _ (piece_law : PieceLaw) (fits_law : FitsLaw) (image : Image) (program : 
 
     placed_here : IsPlaced image f u.registers (to_place p) piece
     placed_here = stands_all image image.parts.sizes program f u p i c.code.functions
-        (known_at image program c f u same.top.found) (c.room f u same.top.found) e is
+        same.top.found (c.room f u same.top.found) e is
 
     starts : Same setting begins m
     starts = record {

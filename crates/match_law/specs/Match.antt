@@ -40,9 +40,9 @@ pub record IsOpenIn (s : Sizes) (ir : Ir) (f p : ℕ) (regs : List ℤ) (last : 
   pub holds : (r : ℕ) → r < u.registers → get_or g.registers r (pos 0) ≡ register_at regs r
   pub room : u.registers + 8 ≤ length g.registers
 
-abbrev pub is_last : List code.Frame → Bool
-is_last [] = true
-is_last (c ∷ cs) = false
+abbrev pub is_outermost : List code.Frame → Bool
+is_outermost [] = true
+is_outermost (c ∷ cs) = false
 
 -- the frames below, the innermost last, hold the callers, the innermost first; to: the register for
 -- the result of the frame above
@@ -50,11 +50,11 @@ abbrev pub Waits : Sizes → Ir → (to : ℕ) → List code.Frame → List Fram
 Waits s ir to [] gs = gs ≡ []
 Waits s ir to (code.frame f p regs r ∷ cs) gs =
     (hs : List Frame) × (g : Frame) × (gs ≡ hs ++ g ∷ []) × (to ≡ r)
-    × IsOpenIn s ir f p regs (is_last cs) g × Waits s ir g.to cs hs
+    × IsOpenIn s ir f p regs (is_outermost cs) g × Waits s ir g.to cs hs
 
 pub record AreMatched (image : Image) (ir : Ir) (f p : ℕ) (regs : List ℤ)
     (callers : List code.Frame) (w : PoolMap) (t : ℕ) (m : RunMoment) : Type 0 where
-  pub top : IsOpenIn image.parts.sizes ir f p regs (is_last callers) m.state.top
+  pub top : IsOpenIn image.parts.sizes ir f p regs (is_outermost callers) m.state.top
   pub below : Waits image.parts.sizes ir m.state.top.to callers m.state.below
   pub size : m.state.size ≡ image.largest
   pub ticks : m.state.ticks ≡ t

@@ -37,7 +37,7 @@ use Rattle.pm_alloc.proofs.Runs.{run_on}
 use Rattle.piece_law.specs.Stands.{Stands, header_of}
 use Rattle.piece_law.specs.Shows.{ShowsDeeds, done, looks}
 use Rattle.piece_law.specs.Law.{onward}
-use Rattle.piece_law.proofs.Stores.{Here}
+use Rattle.pm_alloc.proofs.New.{Here}
 
 -- the object in slot q has the kind
 pub record IsObject (s : Sizes) (w : PoolMap) (kind q : ℕ) : Type 0 where

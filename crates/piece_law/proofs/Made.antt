@@ -41,7 +41,8 @@ use Rattle.piece_law.specs.Shows.{ShowsDeeds}
 use Rattle.piece_law.specs.Law.{onward}
 use Rattle.piece_law.proofs.Shown.{heap_append, looks_heap, looks_records}
 use Rattle.piece_law.proofs.Comes.{Comes, comes, comes_on, comes_quiet, done_by}
-use Rattle.piece_law.proofs.Stores.{Here, here_all, here_back, store_effects, zero_effects}
+use Rattle.pm_alloc.proofs.New.{Here, here_all, here_back}
+use Rattle.piece_law.proofs.Stores.{store_effects, zero_effects}
 use Rattle.piece_law.proofs.Stores.{fill_steps, fill_few, head_comes, fill_comes}
 use Rattle.piece_law.proofs.Changes.{stands_new}
 use Rattle.piece_law.proofs.Fields.{words_is}

@@ -14,10 +14,10 @@ use Rattle.pool_map.specs.PoolMap.{PoolMap, free}
 use Rattle.ir.specs.declared.site.Site.{Site}
 use Rattle.ir.specs.declared.instruction.Target.{Target}
 use Rattle.ir.specs.WellFormed.{IsTarget}
-use Rattle.code_meaning.specs.Code.{Frame, Move, Ends, Trapped, Spot, register_at, put_register}
+use Rattle.code_meaning.specs.Code.{Frame, Move, Spot, register_at, put_register}
 use Rattle.code_meaning.specs.Code.{load_spot, store_spot, spot_of, slot_of, base_in, index_in}
 use Rattle.pool_map.specs.Checks.{then_on}
-use Rattle.code_meaning.specs.Code.{with_ok, with_word, word_of, takes_tick, free_in}
+use Rattle.code_meaning.specs.Code.{with_ok, free_in}
 use Rattle.code_meaning.specs.Code as code
 use Rattle.code_meaning.specs.Deeds.{Deed, Reads, Writes, Heads, site, if_ok}
 use Rattle.pm_machine.specs.declared.effect.Effect.{Effect}
@@ -41,7 +41,8 @@ use Rattle.piece_law.specs.Law.{onward}
 use Rattle.piece_law.proofs.Shown.{heap_append, looks_heap, looks_records}
 use Rattle.piece_law.proofs.Comes.{comes, comes_on, done_by, traps_by}
 use Rattle.piece_law.proofs.Addresses.{within}
-use Rattle.piece_law.proofs.Stores.{Here, here_all, store_effects, store_end, store_steps}
+use Rattle.pm_alloc.proofs.New.{Here, here_all}
+use Rattle.piece_law.proofs.Stores.{store_effects, store_end, store_steps}
 use Rattle.piece_law.proofs.Stores.{store_comes, head_comes}
 use Rattle.piece_law.proofs.Changes.{there_of, stored_heap, stands_store, stands_free}
 use Rattle.piece_law.proofs.Checks.{IsObject, rest_of, Pointed, pointer_runs}

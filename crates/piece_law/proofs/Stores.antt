@@ -1,7 +1,7 @@
 -- A store with or without its log, and the zeros of a new object, whether or not the log has room.
 use Rattle.std.proofs.Common.{◌≡◌, ℕ, zero, suc, ◌+◌, ◌*◌, ◌≤◌, Bool, true, false, List, [], ◌∷◌}
 use Rattle.std.proofs.Common.{◌++◌, length, Some, ℤ, pos, refl, sym, ap, ◌∙◌, subst, arith, ltb}
-use Rattle.std.proofs.Common.{append_assoc, length-append, get_or}
+use Rattle.std.proofs.Common.{append_assoc, get_or}
 use Rattle.std.specs.Prelude.{◌+ℤ◌, slice_get}
 use Rattle.std.specs.Int.{w64, int_wrap}
 use Rattle.std.proofs.lemmas.Bool.{ltb-true, ltb-false}
@@ -28,32 +28,9 @@ use Rattle.pm_alloc.proofs.Search.{address_is}
 use Rattle.piece_law.specs.Stands.{heap_word, header_word}
 use Rattle.piece_law.specs.Shows.{ShowsDeeds, done, plain, logs, heads, IsThere, IsCutAtStore}
 use Rattle.piece_law.specs.Law.{onward}
+use Rattle.pm_alloc.proofs.New.{Here}
 use Rattle.piece_law.proofs.Addresses.{within, header_within}
 use Rattle.piece_law.proofs.Comes.{Comes, comes, cuts, comes_on}
-
--- these instructions come here, one after another
-abbrev pub Here : List Local → ℕ → List Local → Type 0
-Here piece p [] = Unit {0}
-Here piece p (i ∷ is) = (slice_get piece p ≡ Some i) × Here piece (p + 1) is
-
-get_seam : (pre is : List Local) (i : Local) → slice_get (pre ++ i ∷ is) (length pre) ≡ Some i
-get_seam [] is i = refl
-get_seam (j ∷ pre) is i = get_seam pre is i
-
-pub here_all : (is pre : List Local) → Here (pre ++ is) (length pre) is
-here_all [] pre = tt
-here_all (i ∷ is) pre =
-    let n : length (pre ++ i ∷ []) ≡ length pre + 1 = omega (arith, length-append pre (i ∷ [])) in
-    let rest = subst (λ (l : List Local). Here l (length (pre ++ i ∷ [])) is)
-    (append_assoc pre (i ∷ []) is) (here_all is (pre ++ i ∷ [])) in
-    (get_seam pre is i, subst (λ (m : ℕ). Here (pre ++ i ∷ is) m is) n rest)
-
-pub here_back : (piece : List Local) (p : ℕ) (a b : List Local) → Here piece p (a ++ b)
-    → Here piece (p + length a) b
-here_back piece p [] b h = let e : p ≡ p + 0 = omega arith in subst (λ (n : ℕ). Here piece n b) e h
-here_back piece p (i ∷ a) b h =
-    let e : p + 1 + length a ≡ p + length (i ∷ a) = omega arith in
-    subst (λ (n : ℕ). Here piece n b) e (here_back piece (p + 1) a b h.1)
 
 -- the effects of a store and of c zeros
 abbrev pub store_effects : Bool → ℕ → ℤ → List Effect

@@ -39,7 +39,7 @@ use Rattle.piece_law.specs.Stands.{Stands, HasWord, heap_word}
 use Rattle.piece_law.specs.Fits.{IsFit}
 use Rattle.piece_law.specs.Shows.{ShowsDeeds, done}
 use Rattle.piece_law.specs.Law.{onward}
-use Rattle.piece_law.proofs.Stores.{Here}
+use Rattle.pm_alloc.proofs.New.{Here}
 use Rattle.piece_law.proofs.Addresses.{element_address, root_address}
 use Rattle.piece_law.proofs.Changes.{object_fits}
 use Rattle.piece_law.specs.Words.{HoldWords}

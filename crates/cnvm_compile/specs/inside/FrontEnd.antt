@@ -1,5 +1,5 @@
 -- What only bodies and proofs need beside `FrontEnd`.
-use Rattle.std.specs.Prelude.{◌+◌, [], ◌≡◌, ◌≢◌, Some, ⊤}
+use Rattle.std.specs.Prelude.{◌≡◌, Some, ⊤}
 use Rattle.c_lexer.specs.TokenList.{Tokens}
 use Rattle.c_tree.specs.Program.{Program, tree_of}
 use Rattle.c_types.specs.Fault.{refusal}

@@ -173,8 +173,8 @@ pub record ElseAdded (k : Context) (v : Variables) (b : StmtTree) (out again : �
 -- a statement that doesn't depend on the targets of break and continue
 pub record WhileAdded (k : Context) (v : Variables) (e : ExprTree) (a : StmtTree)
     (old new : List Instruction) (u : Variables) : Type 0 where
-  pub code : new ≡ old ++ stmt_code k v (stmt.While e a) 0 0 (length old)
-  pub long : length new ≡ stmt_end (stmt.While e a) (length old)
+  pub code : new ≡ old ++ stmt_code k v (stmt.While 0 e a) 0 0 (length old)
+  pub long : length new ≡ stmt_end (stmt.While 0 e a) (length old)
   pub variables : u ≡ v
 
 pub record ReturnAdded (k : Context) (v : Variables) (value : Option ExprTree)

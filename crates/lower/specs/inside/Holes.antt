@@ -6,10 +6,11 @@ use Rattle.ir.specs.declared.instruction.Instruction.{Instruction}
 use Rattle.ir.specs.declared.instruction.Instruction.TheVariants.{Const, Copy, Bin, Jump, Branch}
 use Rattle.ir.specs.declared.instruction.Instruction.TheVariants.{Load, Store, New, Free, Call}
 use Rattle.ir.specs.declared.instruction.Instruction.TheVariants.{Return, Tick, Trap, Log}
+use Rattle.lower.specs.Names.{nowhere}
 
 -- the hole for jumps out of the innermost loop
 abbrev pub leave : ℕ
-leave = 2 ^ 32 - 1
+leave = nowhere
 
 -- the hole for jumps to the third part of the innermost `for`
 abbrev pub third_part : ℕ

@@ -1,5 +1,5 @@
 -- What only bodies and proofs need beside `Names`.
-use Rattle.std.specs.Prelude.{◌-◌, ◌^◌, List, [], ◌∷◌, ◌++◌, if◌then◌else◌}
+use Rattle.std.specs.Prelude.{List, [], ◌∷◌}
 use Rattle.c_types.specs.Statements as scopes
 use Rattle.lower.specs.Names.{LocalRegister, Variables}
 

@@ -1,6 +1,5 @@
 -- What only bodies and proofs need beside `Program`.
-use Rattle.std.specs.Prelude.{◌≡◌, ◌≤◌, ◌^◌, ◌+◌, ℕ, suc, List, [], ◌∷◌, ◌++◌, length, Bool, true}
-use Rattle.std.specs.Prelude.{◌&&◌, nat_lt, if◌then◌else◌}
+use Rattle.std.specs.Prelude.{◌≡◌, ◌<◌, ◌≤◌, ◌^◌, ℕ, suc, length}
 use Rattle.c_tree.specs.ItemTree.{FunctionTree}
 use Rattle.c_tree.specs.Program.{Program}
 use Rattle.c_types.specs.Tables.{Tables}
@@ -11,10 +10,9 @@ use Rattle.lower.specs.Program.{parameters_end, lowered_function}
 abbrev pub function_end : FunctionTree → ℕ
 function_end f = suc (suc (statements_end f.body (parameters_end f.body f.parameters 0)))
 
--- every function has a number of parameters that fits 16 bits
-abbrev pub take_few : List FunctionTree → Bool
-take_few [] = true
-take_few (f ∷ fs) = nat_lt (length f.parameters) 65536 && take_few fs
+-- the parameters of a function are numbered in 16 bits
+abbrev pub TakesFew : FunctionTree → Type 0
+TakesFew f = length f.parameters < 2 ^ 16
 
 -- a function's code has as many instructions as its definition counts, and not too many
 abbrev pub IsCounted : Tables → Program → FunctionTree → Type 0

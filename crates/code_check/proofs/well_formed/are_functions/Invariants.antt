@@ -1,7 +1,7 @@
 use Rattle.std.proofs.Common.{drop}
 use Rattle.std.specs.List.{AllByRecursion}
 use Rattle.ir.specs.WellFormed.{IsFunction}
-use Rattle.lower.proofs.checked.are_functions.Given as goal
+use Rattle.code_check.proofs.well_formed.are_functions.Given as goal
 
 abbrev pub invariant-loop-function : goal.invariant-loop-function
 invariant-loop-function l = record {

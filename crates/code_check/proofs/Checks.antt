@@ -3,22 +3,18 @@ use Rattle.std.proofs.Common.{◌≡◌, ℕ, suc, ◌+◌, ◌-◌, ◌<◌, Li
 use Rattle.std.proofs.Common.{arith}
 use Rattle.std.specs.Prelude.{None, Some, slice_get}
 use Rattle.std.specs.List.{AllByRecursion}
-use Rattle.c_types.proofs.Elements.{drop_at}
+use Rattle.std.proofs.lemmas.List.{drop_more}
 use Rattle.ir.specs.declared.instruction.Instruction.{Instruction}
 use Rattle.ir.specs.WellFormed.{EndsWell, StopsRun}
 
 -- what holds of the element here and of those after it
 pub all_from : {A : Type 0} (P : A → Type 0) (xs : List A) (i : ℕ) (x : A) → i < length xs
     → x ≡ get_or xs i x → P x → AllByRecursion P (drop (i + 1) xs) → AllByRecursion P (drop i xs)
-all_from P xs i x lt is here afterwards = rw (drop_at xs i x lt is) (here, afterwards)
+all_from P xs i x lt is here rest = rw (drop_more xs i x lt, ← is) (here, rest)
 
 pub all_after : {A : Type 0} (P : A → Type 0) (xs : List A) (i : ℕ) (x : A) → i < length xs
-    → x ≡ get_or xs i x → AllByRecursion P (drop i xs) → AllByRecursion P (drop (i + 1) xs)
-all_after P xs i x lt is all = (rw (drop_at xs i x lt is) at all).1
-
-pub all_here : {A : Type 0} (P : A → Type 0) (xs : List A) (i : ℕ) (x : A) → i < length xs
-    → x ≡ get_or xs i x → AllByRecursion P (drop i xs) → P x
-all_here P xs i x lt is all = (rw (drop_at xs i x lt is) at all).0
+    → AllByRecursion P (drop i xs) → AllByRecursion P (drop (i + 1) xs)
+all_after P xs i x lt all = (rw (drop_more xs i x lt) at all).1
 
 pub ends_well : (xs : List Instruction) (x : Instruction) → slice_get xs (length xs - 1) ≡ Some x
     → StopsRun x → EndsWell xs

@@ -1,7 +1,7 @@
 use Rattle.std.proofs.Common.{drop, length}
 use Rattle.std.specs.List.{AllByRecursion}
 use Rattle.ir.specs.WellFormed.{IsInstruction}
-use Rattle.lower.proofs.checked.are_instructions.Given as goal
+use Rattle.code_check.proofs.well_formed.are_instructions.Given as goal
 
 abbrev pub invariant-loop-instruction : goal.invariant-loop-instruction
 invariant-loop-instruction l = record {

@@ -1,6 +1,6 @@
 use Rattle.std.proofs.Common.{◌<◌, drop}
 use Rattle.std.specs.List.{AllByRecursion}
-use Rattle.lower.proofs.checked.are_below.Given as goal
+use Rattle.code_check.proofs.well_formed.are_below.Given as goal
 
 abbrev pub invariant-loop-arg : goal.invariant-loop-arg
 invariant-loop-arg l = record {

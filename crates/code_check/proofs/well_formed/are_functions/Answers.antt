@@ -1,6 +1,6 @@
 use Rattle.ir.specs.WellFormed.{IsFunction}
-use Rattle.lower.proofs.Checks.{all_from, all_after}
-use Rattle.lower.proofs.checked.are_functions.Goals as goal
+use Rattle.code_check.proofs.Checks.{all_from, all_after}
+use Rattle.code_check.proofs.well_formed.are_functions.Goals as goal
 
 pub loop-function-preserved : goal.loop-function-preserved
 loop-function-preserved c = record {
@@ -10,5 +10,5 @@ loop-function-preserved c = record {
       (c.is_function.ensures.sound c.if-not-is_function.false) afterwards);
   complete = λ all. all_after (IsFunction c.args.ir.now) c.args.functions.now
       c.loop-function.function-index c.function-item.result c.loop-function-test.true
-      c.function-item.is (c.loop-function.invariant.complete all);
+      (c.loop-function.invariant.complete all);
 }

@@ -1,9 +1,0 @@
-use Rattle.std.proofs.Common.{drop}
-use Rattle.std.specs.List.{AllByRecursion}
-use Rattle.ir.specs.WellFormed.{IsFunction}
-use Rattle.marks_tables.proofs.well.are_functions.Given as goal
-
-abbrev pub invariant-loop-function : goal.invariant-loop-function
-invariant-loop-function l =
-    AllByRecursion (IsFunction l.ir) (drop l.function-index l.functions)
-    → AllByRecursion (IsFunction l.ir) l.functions
