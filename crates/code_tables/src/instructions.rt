@@ -1,5 +1,8 @@
 //! The code of each production and of whole programs, written down from the rules.
 
+ghost use Rattle.std.specs.Prelude.{◌≡◌, [], IfSome};
+ghost use Rattle.c_types.specs.Fault.{breaks};
+
 use c_lexer::tokens;
 use c_parser::parse;
 use c_types::{Typed, check};
@@ -197,7 +200,9 @@ const DENSE: [&str; 4] = [
 ];
 
 /// The tree of a text, where it is accepted.
-fn typed_of(alloc: Global, text: &[u8]) -> Option<Typed> {
+fn typed_of(alloc: Global, text: &[u8]) -> Option<Typed>
+    ensures { IfSome result (λ typed. breaks typed ≡ []) }
+{
     let Ok(list) = tokens(alloc, text) else {
         return None;
     };

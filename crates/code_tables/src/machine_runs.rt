@@ -3,6 +3,7 @@
 
 ghost use Rattle.std.specs.Prelude.{◌≡◌, ◌<◌};
 
+use code_check::is_well_formed;
 use codegen::emit;
 use ir::{Instruction, Instructions, Ir, IrFunction, IrFunctions, Target};
 use nvm_base::{BinOp, Registers, Steps, Text};
@@ -450,7 +451,12 @@ fn programs(rt: HostRuntime) -> Result<(), Fail> {
     let Some(sizes) = Sizes::new(2, 64, 5, 400) else {
         return Ok(());
     };
-    let image = emit(alloc, &program(alloc)?, &sizes, 100)?;
+    let code = program(alloc)?;
+    if !is_well_formed(&code) {
+        assert!(rt; false, "the code is well formed");
+        return Ok(());
+    }
+    let image = emit(alloc, &code, &sizes, 100)?;
     assert_eq!(rt; image.txs(), 10);
     let mut dev = SimPmem::new(alloc);
     dev.blank(pool_lines(&sizes))?;

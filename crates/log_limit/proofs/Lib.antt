@@ -1,0 +1,6 @@
+pub mod Written
+pub mod Callers
+pub mod Pools
+pub mod Counted
+pub mod Due
+pub mod Entries
