@@ -9,7 +9,7 @@ use crate::answer::AbortAnswer;
 use crate::settling::settle;
 use args_log::{SealAnswer, seal};
 use nvm_base::Steps;
-use pm_machine::{Image, Machine};
+use pm_machine::{Image, Machine, Spare};
 use pmem::{Phase, PmemWork};
 use std::alloc::Global;
 use std::sync::ledger::Ledger;
@@ -65,14 +65,36 @@ pub fn call_abort<P: PmemWork, L: Ledger>(
     ensures most { steps.new ≤ steps.old + image.now.parts.most + image.now.parts.sizes.records }
     ensures lines { (P.device dev.new).lines ≡ (P.device dev.old).lines }
 {
+    call_abort_with(alloc, &mut Spare::new(), image, tx, args, dev, steps)
+}
+
+/// Calls a transaction as `call_abort` does, with the machine that is kept, so that memory for its
+/// frames is taken only the first time.
+pub fn call_abort_with<P: PmemWork, L: Ledger>(
+    alloc: Global,
+    spare: &mut Spare,
+    image: &Image,
+    tx: u64,
+    args: &[i64],
+    dev: &mut P,
+    steps: &mut Steps<L>,
+) -> AbortAnswer
+    requires lines { (P.device dev.old).lines ≡ pool_lines image.now.parts.sizes }
+    requires first { 1 ≤ tx }
+    requires last { tx ≤ length image.now.parts.txs }
+    ensures called { IsAbortCalled result image.now tx args.now (P.device dev.old)
+        (P.device dev.new) steps.old steps.new }
+    ensures most { steps.new ≤ steps.old + image.now.parts.most + image.now.parts.sizes.records }
+    ensures lines { (P.device dev.new).lines ≡ (P.device dev.old).lines }
+{
     match assess(dev) {
         Standing::Ready => {}
         Standing::Off => return AbortAnswer::Off(Phase::Unsealed),
         Standing::Unusable(kind) => return AbortAnswer::Unusable(kind),
         Standing::Numbers => return AbortAnswer::Numbers,
     }
-    match Machine::new(alloc, image, tx, args) {
-        Ok(mut machine) => run(image, &mut machine, tx, args, dev, steps),
-        Err(_) => AbortAnswer::NoMemory,
+    match spare.start(alloc, image, tx, args) {
+        Some(machine) => run(image, machine, tx, args, dev, steps),
+        None => AbortAnswer::NoMemory,
     }
 }

@@ -12,5 +12,5 @@ mod running;
 mod settling;
 
 pub use answer::AbortAnswer;
-pub use calling::call_abort;
+pub use calling::{call_abort, call_abort_with};
 pub use redoing::redo_abort;

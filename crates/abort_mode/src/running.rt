@@ -8,7 +8,6 @@ ghost use Rattle.cache_model.specs.Cache.{view};
 ghost use Rattle.pmem.specs.Played.{PlaysAll, PlaysPart};
 ghost use Rattle.pool_layout.specs.Sizes.{heap_words, pool_lines};
 ghost use Rattle.clobber_log.specs.Restore.{word_in_record};
-ghost use Rattle.pm_machine.specs.Effects.{records_past};
 ghost use Rattle.pm_machine.specs.Runs.{AreLines, end_of};
 ghost use Rattle.abort_mode.specs.Runs.{has_record, wanted, due_all};
 ghost use Rattle.abort_mode.specs.inside.Turns.{logging, due_first, TurnStepped, TookTurn};
@@ -16,7 +15,7 @@ ghost use Rattle.abort_mode.specs.inside.Turns.{TurnKept};
 
 use clobber_log::append_record;
 use nvm_base::Steps;
-use pm_machine::{Effect, End, Image, Machine, Progress};
+use pm_machine::{End, Image, Machine, Progress, records_past};
 use pmem::{PmemWork, Refusal};
 use pool_layout::Sizes;
 use pool_map::TrapKind;
@@ -127,22 +126,6 @@ fn log_first<P: PmemWork>(
 pub enum Turn {
     Went(u64),
     Over(End, u64),
-}
-
-/// The number of records after an effect.
-fn records_past(count: u64, effect: Effect) -> u64
-    requires { count < 2 ^ 63 }
-    ensures { result ≡ records_past count effect }
-{
-    match effect {
-        Effect::Logs(_) => count + 1,
-        Effect::Loads(_)
-        | Effect::Scans(..)
-        | Effect::Stores(..)
-        | Effect::Flushes(_)
-        | Effect::Fences
-        | Effect::Quiet => count,
-    }
 }
 
 /// One step.

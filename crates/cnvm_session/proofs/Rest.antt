@@ -60,16 +60,16 @@ alike_next s u v w first rest =
     }
 
 -- words that differ only in the attempt are alike in the heap and in line 2
-alike_at : (s : Sizes) (v w : Words) → ((p : ℕ) → p ≢ 18 → v p ≡ w p) → TellTheSame s v w
+alike_at : (s : Sizes) (v w : Words) → ((p : ℕ) → p ≢ ATTEMPT → v p ≡ w p) → TellTheSame s v w
 alike_at s v w same =
     record {
       heap = λ i p. (if nat_lt p (heap_words s)
           then same (at (pool_of s) (Heap p)) (λ e. absurd (omega arith)) i else pos 0);
-      done = same 17 (λ e. absurd (omega arith));
-      value = same 16 (λ e. absurd (omega arith));
+      done = same DONE (λ e. absurd (omega arith));
+      value = same LAST (λ e. absurd (omega arith));
     }
 
-stored_else : (c : Cache) (q p : ℕ) (x : ℤ) → q ≡ 18 → p ≢ 18
+stored_else : (c : Cache) (q p : ℕ) (x : ℤ) → q ≡ ATTEMPT → p ≢ ATTEMPT
     → view (apply c (Store q x)) p ≡ view c p
 stored_else c q p x is ne = view_other c q p x (λ e. ne (e ∙ is))
 

@@ -31,24 +31,25 @@ use crate::outcome::{
 };
 use crate::program::Program;
 use crate::showing::pool_text;
-use abort_mode::{call_abort, redo_abort};
+use abort_mode::{call_abort_with, redo_abort};
 use cache_model::{Choice, Pick};
 use cnvm_script::Command;
 use nvm_base::Steps;
-use pm_machine::Image;
+use pm_machine::{Image, Spare};
 use pmem::{Pmem, PmemWork};
 use pool_layout::{DONE, LAST};
 use recovery::recover;
 use std::alloc::Global;
 use std::marker::Model;
 use std::sync::ledger::Ledger;
-use tx_run::call;
+use tx_run::call_with;
 
 /// A pool of a program and whether it takes calls, seen as the latter. The pool's words are on the
-/// device.
+/// device. The machine of a call is kept for the next.
 #[derive(Drop)]
 pub struct Session {
     mode: Mode,
+    spare: Spare,
 }
 
 impl Model for Session {
@@ -57,6 +58,18 @@ impl Model for Session {
     ghost Value = { Mode };
 
     ghost view = { λ s. s.mode };
+}
+
+impl Session {
+    /// A session that has no machine yet.
+    fn in_mode(mode: Mode) -> Session
+        ensures { result ≡ mode }
+    {
+        Session {
+            mode,
+            spare: Spare::new(),
+        }
+    }
 }
 
 /// Starts a session on a new pool of the program: its root words are 0, its slots are free, and no
@@ -76,7 +89,7 @@ pub fn create<P: Pmem>(program: &Program, dev: &mut P) -> Result<Session, StartF
         → FaultsRose (P.device dev.old).faults (P.device dev.new).faults }
 {
     match create_pool(program.image.sizes(), &program.digest, dev) {
-        Ok(()) => Ok(Session { mode: Mode::Ready }),
+        Ok(()) => Ok(Session::in_mode(Mode::Ready)),
         Err(fault) => Err(fault),
     }
 }
@@ -106,7 +119,7 @@ pub fn start_from<P: Pmem, L: Ledger>(
     match open_pool(program.image.sizes(), words, dev) {
         Err(fault) => Err(fault),
         Ok(()) => {
-            let mut session = Session { mode: Mode::Down };
+            let mut session = Session::in_mode(Mode::Down);
             let answer = session.recover(alloc, program, dev, steps);
             Ok((session, answer))
         }
@@ -290,7 +303,7 @@ impl Session {
         ensures most { steps.new ≤ steps.old + image.now.parts.most }
         ensures lines { (P.device dev.new).lines ≡ (P.device dev.old).lines }
     {
-        let tx_answer = call(alloc, image, tx, args, dev, steps);
+        let tx_answer = call_with(alloc, &mut self.spare, image, tx, args, dev, steps);
         self.mode = mode_of_call(tx_answer);
         answer_of_call(tx_answer)
     }
@@ -316,7 +329,7 @@ impl Session {
         ensures most { steps.new ≤ steps.old + bounded_steps false image.now }
         ensures lines { (P.device dev.new).lines ≡ (P.device dev.old).lines }
     {
-        let tx_answer = call_abort(alloc, image, tx, args, dev, steps);
+        let tx_answer = call_abort_with(alloc, &mut self.spare, image, tx, args, dev, steps);
         self.mode = mode_of_marked_call(tx_answer);
         answer_of_marked_call(tx_answer)
     }

@@ -164,8 +164,8 @@ fn push_objects<P: PmemWork>(
     Ok(())
 }
 
-/// The pool that a device holds, under these shapes.
-fn pool_in<P: PmemWork>(
+/// The pool that a device holds, under these shapes; nothing is said of a device that is off.
+pub fn pool_in<P: PmemWork>(
     alloc: Global,
     sizes: &Sizes,
     dev: &P,

@@ -23,7 +23,7 @@ use Rattle.pm_alloc.proofs.Runs.{run_on}
 use Rattle.pm_alloc.proofs.Search.{small, address_is, header_address, searched_least, least_within}
 
 -- these instructions come here, one after another
-abbrev Here : List Local → ℕ → List Local → Type 0
+abbrev pub Here : List Local → ℕ → List Local → Type 0
 Here frag p [] = Unit {0}
 Here frag p (i ∷ is) = (slice_get frag p ≡ Some i) × Here frag (p + 1) is
 
@@ -31,7 +31,7 @@ get_seam : (pre is : List Local) (i : Local) → slice_get (pre ++ i ∷ is) (le
 get_seam [] is i = refl
 get_seam (j ∷ pre) is i = get_seam pre is i
 
-here_all : (is pre : List Local) → Here (pre ++ is) (length pre) is
+pub here_all : (is pre : List Local) → Here (pre ++ is) (length pre) is
 here_all [] pre = tt
 here_all (i ∷ is) pre =
     let n : length (pre ++ i ∷ []) ≡ length pre + 1 = omega (arith, length-append pre (i ∷ [])) in
@@ -39,7 +39,7 @@ here_all (i ∷ is) pre =
     (append_assoc pre (i ∷ []) is) (here_all is (pre ++ i ∷ [])) in
     (get_seam pre is i, subst (λ (m : ℕ). Here (pre ++ i ∷ is) m is) n rest)
 
-here_back : (frag : List Local) (p : ℕ) (a b : List Local) → Here frag p (a ++ b)
+pub here_back : (frag : List Local) (p : ℕ) (a b : List Local) → Here frag p (a ++ b)
     → Here frag (p + length a) b
 here_back frag p [] b h = let e : p ≡ p + 0 = omega arith in subst (λ (n : ℕ). Here frag n b) e h
 here_back frag p (i ∷ a) b h =

@@ -1,8 +1,8 @@
 -- The words of registers of which only the first are kept, and all others are 0.
-use Rattle.std.proofs.Common.{◌≡◌, ◌∙◌, ℕ, zero, suc, ◌+◌, ◌-◌, ◌<◌, ◌≤◌, List, [], ◌∷◌, ◌++◌}
+use Rattle.std.proofs.Common.{◌≡◌, ◌∙◌, ℕ, zero, suc, ◌+◌, ◌-◌, ◌<◌, ◌≤◌, List, [], ◌++◌}
 use Rattle.std.proofs.Common.{length, get_or, set, replicate, ℤ, pos, refl, sym, ap}
-use Rattle.std.proofs.Common.{arith, append_assoc, length-set, length-append, append-nil}
-use Rattle.std.proofs.lemmas.List.{length-replicate, length_push, set_at, get_or_append_left}
+use Rattle.std.proofs.Common.{arith, append_assoc, length-set, length-append}
+use Rattle.std.proofs.lemmas.List.{length-replicate, get_or_append_left}
 use Rattle.std.proofs.lemmas.List.{get_or-append_right, get_or_past, set-append_left, set_past}
 use Rattle.std.proofs.lemmas.List.{replicate-append-replicate}
 
@@ -19,6 +19,22 @@ pub kept_split : (n : ℕ) (xs : List ℤ) → length xs ≤ n
     → all_words n xs ≡ xs ++ replicate (length (all_words n xs) - length xs) (pos 0)
 kept_split n xs le =
     ap (λ (k : ℕ). xs ++ replicate (k - length xs) (pos 0)) (sym (kept_length n xs le))
+
+-- zeros that are kept are as zeros that aren't
+pub zeros_kept : (n k : ℕ) (xs ys : List ℤ) → length xs ≤ k → k ≤ n
+    → ys ≡ xs ++ replicate (k - length xs) (pos 0)
+    → (all_words n ys ≡ all_words n xs) × (length ys ≡ k)
+zeros_kept n k xs ys le few is =
+    let long : length ys ≡ k = ap (λ (l : List ℤ). length l) is ∙ kept_length k xs le in
+    let rest : k - length xs + (n - k) ≡ n - length xs = omega arith in (
+      ap (λ (j : ℕ). ys ++ replicate (n - j) (pos 0)) long
+          ∙ ap (λ (l : List ℤ). l ++ replicate (n - k) (pos 0)) is
+          ∙ append_assoc xs (replicate (k - length xs) (pos 0)) (replicate (n - k) (pos 0))
+          ∙ ap (λ (l : List ℤ). xs ++ l) (replicate-append-replicate (k - length xs) (n - k)
+          (pos 0))
+          ∙ ap (λ (j : ℕ). xs ++ replicate j (pos 0)) rest,
+      long,
+    )
 
 zeros : (k i : ℕ) → get_or (replicate k (pos 0)) i (pos 0) ≡ pos 0
 zeros zero i = get_or_past [] i (pos 0) (omega arith)
@@ -42,52 +58,11 @@ kept_set n r x xs lt =
     ap (λ (k : ℕ). set xs r x ++ replicate (n - k) (pos 0)) (length-set xs r x)
     ∙ sym (set-append_left xs (replicate (n - length xs) (pos 0)) r x lt)
 
--- one more zero is kept
-pub zeros_more : (n : ℕ) (xs : List ℤ) → length xs < n
-    → all_words n (xs ++ pos 0 ∷ []) ≡ all_words n xs
-zeros_more n xs lt =
-    let left : n - length xs ≡ suc (n - (length xs + 1)) = omega arith in
-    ap (λ (k : ℕ). (xs ++ pos 0 ∷ []) ++ replicate (n - k) (pos 0)) (length_push xs (pos 0))
-    ∙ append_assoc xs (pos 0 ∷ []) (replicate (n - (length xs + 1)) (pos 0))
-    ∙ ap (λ (k : ℕ). xs ++ replicate k (pos 0)) (sym left)
-
--- no zero is left out
-pub zeros_all : (n : ℕ) (xs : List ℤ) → n ≤ length xs → all_words n xs ≡ xs
-zeros_all n xs le =
-    let none : n - length xs ≡ 0 = omega arith in
-    ap (λ (k : ℕ). xs ++ replicate k (pos 0)) none ∙ append-nil xs
-
--- the first register past those that are kept is written
-kept_push : (n : ℕ) (x : ℤ) (xs : List ℤ) → length xs < n
-    → all_words n (xs ++ x ∷ []) ≡ set (all_words n xs) (length xs) x
-kept_push n x xs lt =
-    let left : n - length xs ≡ suc (n - (length xs + 1)) = omega arith in
-    ap (λ (k : ℕ). (xs ++ x ∷ []) ++ replicate (n - k) (pos 0)) (length_push xs x)
-    ∙ append_assoc xs (x ∷ []) (replicate (n - (length xs + 1)) (pos 0))
-    ∙ sym (set_at xs (pos 0) (replicate (n - (length xs + 1)) (pos 0)) x (length xs) refl)
-    ∙ ap (λ (k : ℕ). set (xs ++ replicate k (pos 0)) (length xs) x) (sym left)
-
--- a register is written after zeros up to it
-pub kept_put : (n r : ℕ) (x : ℤ) (xs ys zs : List ℤ) → length xs ≤ r → r < n
-    → ys ≡ xs ++ replicate (r - length xs) (pos 0) → zs ≡ ys ++ x ∷ []
-    → (all_words n zs ≡ set (all_words n xs) r x) × (length zs ≡ r + 1)
-kept_put n r x xs ys zs le lt zeros put =
-    let long : length ys ≡ r = ap (λ (l : List ℤ). length l) zeros ∙ kept_length r xs le in
-    let longer : length zs ≡ r + 1 =
-    ap (λ (l : List ℤ). length l) put ∙ length_push ys x ∙ ap (λ (k : ℕ). k + 1) long in
-    let rest : r - length xs + (n - r) ≡ n - length xs = omega arith in
-    let same : all_words n ys ≡ all_words n xs =
-    ap (λ (k : ℕ). ys ++ replicate (n - k) (pos 0)) long
-    ∙ ap (λ (l : List ℤ). l ++ replicate (n - r) (pos 0)) zeros
-    ∙ append_assoc xs (replicate (r - length xs) (pos 0)) (replicate (n - r) (pos 0))
-    ∙ ap (λ (l : List ℤ). xs ++ l) (replicate-append-replicate (r - length xs) (n - r) (pos 0))
-    ∙ ap (λ (k : ℕ). xs ++ replicate k (pos 0)) rest in (
-      ap (λ (l : List ℤ). all_words n l) put
-          ∙ kept_push n x ys (omega (arith, long, lt))
-          ∙ ap (λ (k : ℕ). set (all_words n ys) k x) long
-          ∙ ap (λ (l : List ℤ). set l r x) same,
-      longer,
-    )
+-- a register is written once it is kept
+pub more_set : (n r : ℕ) (x : ℤ) (xs ys : List ℤ) → r < length ys
+    → all_words n ys ≡ all_words n xs → all_words n (set ys r x) ≡ set (all_words n xs) r x
+more_set n r x xs ys lt same =
+    kept_set n r x ys lt ∙ ap (λ (l : List ℤ). set l r x) same
 
 -- a register that doesn't exist isn't written
 pub kept_past : (n r : ℕ) (x : ℤ) (xs : List ℤ) → length xs ≤ n → n ≤ r

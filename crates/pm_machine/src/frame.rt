@@ -1,14 +1,15 @@
 //! An open function of the machine, and the words of its registers.
 
-ghost use Rattle.std.specs.Prelude.{◌≡◌, ◌≤◌, ◌<◌, ◌-◌, ◌++◌, ◌∷◌, [], length, pos, replicate};
+ghost use Rattle.std.specs.Prelude.{◌≡◌, ◌≤◌, ◌<◌, ◌-◌, ◌++◌, length, pos, replicate};
 ghost use Rattle.std.specs.Prelude.{slice_index_or, slice_set, IfOk, vec_capacity};
 
 use std::alloc::{AllocError, Global};
 use std::marker::Model;
 
 /// The words of a frame's registers, seen as a list. A register that doesn't exist reads as 0. Only
-/// the words up to the last register that was written are kept, and all others are 0, so that the
-/// work of a call grows with the registers that were written, and not with those that a frame has.
+/// the words up to the last register that was written and a few more are kept, and all others are
+/// 0, so that the work of a call grows with the registers that were written, and not with those
+/// that a frame has.
 #[derive(Drop)]
 pub struct RegisterWords {
     kept: Vec<i64>,
@@ -26,26 +27,23 @@ impl Model for RegisterWords {
     ghost invariant = { λ w. (length w.kept.items ≤ w.count) × (w.count ≤ vec_capacity w.kept) };
 }
 
-/// Appends a word; there is room for it.
-fn push_word(to: &mut Vec<i64>, word: i64)
-    requires { length to.old.items < vec_capacity to.old }
-    ensures items { to.new.items ≡ to.old.items ++ word ∷ [] }
-    ensures capacity { vec_capacity to.old ≤ vec_capacity to.new }
-{
-    let _ = to.push(word);
-}
+/// How many words are kept from a newly written register on.
+const MORE: usize = 8;
 
-/// Appends zeros up to this length; there is room for them.
-#[tactic(auto, using(crate::proofs::Registers::zeros_more, crate::proofs::Registers::zeros_all))]
-fn push_zeros(to: &mut Vec<i64>, count: usize)
-    requires longer { length to.old.items ≤ count }
-    requires room { count ≤ vec_capacity to.old }
-    ensures items { to.new.items ≡ to.old.items ++ replicate (count - length to.old.items) (pos 0) }
-    ensures capacity { vec_capacity to.old ≤ vec_capacity to.new }
+/// Keeps more words, up to this register and a few more; there is room for all `count` of them.
+#[tactic(auto, using(std::proofs::lemmas::List::take_all, crate::proofs::Registers::zeros_kept))]
+fn keep(words: &mut Vec<i64>, register: usize, count: usize)
+    requires past { length words.old.items ≤ register }
+    requires inside { register < count }
+    requires room { count ≤ vec_capacity words.old }
+    ensures same { words.new.items ++ replicate (count - length words.new.items) (pos 0)
+        ≡ words.old.items ++ replicate (count - length words.old.items) (pos 0) }
+    ensures more { register < length words.new.items }
+    ensures few { length words.new.items ≤ count }
+    ensures capacity { vec_capacity words.old ≤ vec_capacity words.new }
 {
-    while to.len() < count {
-        push_word(to, 0);
-    }
+    let more = (count - register).min(MORE);
+    let _ = words.resize(register + more, 0);
 }
 
 impl RegisterWords {
@@ -73,15 +71,15 @@ impl RegisterWords {
     }
 
     /// Writes a register, if it exists.
-    #[tactic(auto, using(crate::proofs::Registers::kept_set, crate::proofs::Registers::kept_past, std::proofs::lemmas::Int::wraps))]
+    #[tactic(auto, using(crate::proofs::Registers::kept_set, crate::proofs::Registers::kept_past, crate::proofs::Registers::more_set, std::proofs::lemmas::Int::wraps))]
     pub fn set(&mut self, register: usize, word: i64)
         ensures { self.new ≡ slice_set self.old register word }
     {
         if register < self.kept.len() {
             self.kept[register] = word;
         } else if register < self.count {
-            push_zeros(&mut self.kept, register);
-            push_word(&mut self.kept, word);
+            keep(&mut self.kept, register, self.count);
+            self.kept[register] = word;
         }
     }
 

@@ -61,6 +61,22 @@ impl Frames {
         })
     }
 
+    /// The number of registers of a frame.
+    pub(crate) fn size(&self) -> u32
+        ensures { result ≡ self.now.size }
+    {
+        self.size
+    }
+
+    /// Takes all frames off the stack, and keeps its memory.
+    pub(crate) fn clear(&mut self)
+        ensures empty { self.new.frames ≡ [] }
+        ensures size { self.new.size ≡ self.old.size }
+    {
+        self.waiting.clear();
+        self.words.clear();
+    }
+
     pub fn len(&self) -> usize
         ensures len { result ≡ length self.now.frames }
         ensures most { result ≤ 255 }

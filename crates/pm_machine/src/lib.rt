@@ -14,6 +14,7 @@ mod machine;
 mod op;
 mod playing;
 mod silent;
+mod spare;
 
 pub use answer::{RunAnswer, StepAnswer};
 pub use effect::{Effect, End};
@@ -22,5 +23,6 @@ pub use frame::{Frame, RegisterWords};
 pub use frames::Frames;
 pub use image::{Image, ImageParts, ImageRefused};
 pub use law::laws;
-pub use machine::{Machine, Progress};
+pub use machine::{Machine, Progress, records_past};
 pub use op::{Code, Function, Functions, Op, TxEntry, TxList};
+pub use spare::Spare;

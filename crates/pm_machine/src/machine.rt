@@ -5,7 +5,7 @@ ghost use Rattle.std.specs.Prelude.{◌≡◌, ◌≢◌, IfErr, IsOk, true, Lis
 ghost use Rattle.std.specs.Prelude.{◌^◌, replicate, ◌<◌, ◌≤◌, ◌++◌, ◌∷◌, [], ℕ, pos, Option, Some};
 ghost use Rattle.std.specs.Prelude.{None, IfOk, IfSome, IfNone, OnOk, OnErr, IsErrOf, length, take};
 ghost use Rattle.std.specs.Prelude.{drop, map, slice_get, option_copied, IsSome, if◌then◌else◌};
-ghost use Rattle.std.specs.Prelude.{◌==◌};
+ghost use Rattle.std.specs.Prelude.{◌==◌, false};
 ghost use Rattle.std.specs.Option.{ForSome};
 ghost use Rattle.std.specs.Ordering.{int_eq};
 ghost use Rattle.pool_map.specs.declared.trap.TrapKind.TheVariants as trap;
@@ -526,22 +526,65 @@ impl Machine {
         ensures { IfOk result (λ m. m ≡ start image.now tx args.now) }
     {
         let size = image.largest();
-        let mut registers = RegisterWords::blank(alloc, size)?;
-        fill(&mut registers, args);
-        Ok(Machine {
+        let mut machine = Machine {
             top: Frame {
-                function: image.function(tx),
+                function: 0,
                 place: 0,
                 to: 0,
-                registers,
+                registers: RegisterWords::blank(alloc, size)?,
             },
             below: Frames::new(alloc, size)?,
             spare: RegisterWords::blank(alloc, size)?,
-            ticks: image.sizes().ticks(),
+            ticks: 0,
             logged: 0,
             lines: IndexSet::new(alloc),
             flushed: 0,
-        })
+        };
+        machine.begin(image, tx, args);
+        Ok(machine)
+    }
+
+    /// Whether the machine's frames have the size of the image's.
+    fn fits(&self, image: &Image) -> bool
+        ensures { result ≡ (self.now.size == image.now.largest) }
+    {
+        self.below.size() == image.largest()
+    }
+
+    /// Goes to the first place of a transaction. It takes no memory.
+    fn begin(&mut self, image: &Image, tx: u64, args: &[i64])
+        requires size { self.old.size ≡ image.now.largest }
+        requires first { 1 ≤ tx }
+        requires last { tx ≤ length image.now.parts.txs }
+        ensures { self.new ≡ start image.now tx args.now }
+    {
+        self.top.function = image.function(tx);
+        self.top.place = 0;
+        self.top.to = 0;
+        self.top.registers.clear();
+        fill(&mut self.top.registers, args);
+        self.below.clear();
+        self.ticks = image.sizes().ticks();
+        self.logged = 0;
+        self.lines.clear();
+        self.flushed = 0;
+    }
+
+    /// Takes a machine that was used, whatever became of its run, to the first place of a
+    /// transaction, if its frames have the size of the image's. Else the answer is `false`, and it
+    /// stays as it was. It takes no memory.
+    pub fn restart(&mut self, image: &Image, tx: u64, args: &[i64]) -> bool
+        requires first { 1 ≤ tx }
+        requires last { tx ≤ length image.now.parts.txs }
+        ensures fits { result ≡ (self.old.size == image.now.largest) }
+        ensures started { result ≡ true → self.new ≡ start image.now tx args.now }
+        ensures left { result ≡ false → self.new ≡ self.old }
+    {
+        if !self.fits(image) {
+            return false;
+        }
+        self.begin(image, tx, args);
+        true
     }
 
     /// The heap word that the next instruction would store to; `None` if it isn't a STORE inside
@@ -617,7 +660,7 @@ fn perform<P: PmemWork>(
 
 impl Machine {
     /// One step, on a pool with that attempt and so many records. After an end or a refusal the
-    /// machine must not be used again.
+    /// machine has to be restarted before it is used again.
     pub fn step_on<P: PmemWork>(
         &mut self,
         image: &Image,
@@ -673,7 +716,7 @@ impl Machine {
 }
 
 /// The number of records after an effect.
-fn records_past(count: u64, effect: Effect) -> u64
+pub fn records_past(count: u64, effect: Effect) -> u64
     requires { count < 2 ^ 63 }
     ensures { result ≡ records_past count effect }
 {

@@ -19,8 +19,8 @@ use std::sync::ledger::Ledger;
 
 impl Machine {
     /// One step, on the pool of the image that the machine was made for. After an end or a refusal
-    /// the machine must not be used again. On a device that is off the answer is `Off`, and nothing
-    /// has changed.
+    /// the machine has to be restarted before it is used again. On a device that is off the answer
+    /// is `Off`, and nothing has changed.
     pub fn step<P: PmemWork>(&mut self, image: &Image, dev: &mut P) -> StepAnswer
         requires lines { (P.device dev.old).lines ≡ pool_lines image.now.parts.sizes }
         requires dirty { AreLines (heap_words image.now.parts.sizes) self.old.dirty }

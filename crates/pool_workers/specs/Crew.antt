@@ -15,7 +15,7 @@ use Rattle.pool_workers.specs.declared.answer.TurnAnswer.{TurnAnswer}
 use Rattle.pool_workers.specs.declared.task.Task.{Task}
 use Rattle.pool_workers.specs.declared.task.Task.TheVariants.{Begun}
 use Rattle.pool_workers.specs.Compartment.{device_in, first_line, Aside}
-use Rattle.pool_workers.specs.Task.{IsTaskOr, Turned}
+use Rattle.pool_workers.specs.Task.{IsTaskOr, IsUncutOr, Turned}
 
 abbrev pub Tasks : Type 0
 Tasks = List (Option Task)
@@ -27,6 +27,10 @@ task_at ts worker = slice_index_or ts worker None
 -- each is a transaction of the image
 abbrev pub AreTasks : Image → Tasks → Type 0
 AreTasks image ts = AllByRecursion (IsTaskOr image) ts
+
+-- no turn of any of them was refused
+abbrev pub AreUncut : Tasks → Type 0
+AreUncut ts = (worker : ℕ) → IsUncutOr (task_at ts worker)
 
 -- the other workers' transactions stay
 abbrev pub OtherTasksStay : ℕ → Tasks → Tasks → Type 0
@@ -41,6 +45,11 @@ compartment image worker d =
 abbrev pub StaysAside : Image → ℕ → (d b : Device) → Type 0
 StaysAside image worker d b =
     Aside (first_line image.parts.sizes worker) (pool_lines image.parts.sizes) d b
+
+-- the compartment lies within the device
+abbrev pub HasCompartment : Image → ℕ → Device → Type 0
+HasCompartment image worker d =
+    first_line image.parts.sizes worker + pool_lines image.parts.sizes ≤ d.lines
 
 -- as many compartments as workers
 abbrev pub HasCompartments : Image → Tasks → Device → Type 0

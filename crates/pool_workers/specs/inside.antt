@@ -1,4 +1,3 @@
 -- What only bodies and proofs need: no public clause rests on it.
-pub mod Crew
 pub mod Making
 pub mod Task

@@ -6,8 +6,7 @@ ghost use Rattle.pmem.specs.declared.answer.Phase.TheVariants as at_phase;
 ghost use Rattle.recovery.specs.Recovered.{IsRecovered};
 ghost use Rattle.pool_workers.specs.Compartment.{first_line};
 ghost use Rattle.pool_workers.specs.Task.{Turned, IsTask, IsUncut, IsUncutOr, IsGoing, ticks_of};
-ghost use Rattle.pool_workers.specs.Crew.{compartment, StaysAside};
-ghost use Rattle.pool_workers.specs.inside.Crew.{HasCompartment};
+ghost use Rattle.pool_workers.specs.Crew.{compartment, HasCompartment, StaysAside};
 ghost use Rattle.pool_workers.specs.inside.Task.{left_task};
 
 use crate::answer::TurnAnswer;

@@ -1,13 +1,12 @@
 //! An unfinished transaction.
 
 ghost use Rattle.std.specs.Prelude.{◌≡◌, ◌<◌, ◌^◌, Some};
-ghost use Rattle.pm_machine.specs.Effects.{records_past};
 ghost use Rattle.pool_workers.specs.Task.{IsUncut, going, task_phase};
 ghost use Rattle.pool_workers.specs.inside.Task.{last_answer, last_task, is_last};
 
 use crate::answer::TurnAnswer;
 use nvm_base::Words;
-use pm_machine::{Effect, End, Machine};
+use pm_machine::{End, Machine};
 use pmem::{LogAnswer, Phase, Refusal};
 use pool_map::TrapKind;
 
@@ -101,22 +100,6 @@ pub(crate) fn is_last(answer: TurnAnswer) -> bool
         | TurnAnswer::Off
         | TurnAnswer::Failed
         | TurnAnswer::NoMemory => false,
-    }
-}
-
-/// The number of records after an effect.
-pub(crate) fn records_past(count: u64, effect: Effect) -> u64
-    requires { count < 2 ^ 63 }
-    ensures { result ≡ records_past count effect }
-{
-    match effect {
-        Effect::Logs(_) => count + 1,
-        Effect::Loads(_)
-        | Effect::Scans(..)
-        | Effect::Stores(..)
-        | Effect::Flushes(_)
-        | Effect::Fences
-        | Effect::Quiet => count,
     }
 }
 

@@ -10,11 +10,11 @@ ghost use Rattle.pool_workers.specs.inside.Task.{IsBegun, left_task, stepped_lef
 ghost use Rattle.pool_workers.specs.inside.Task.{settled};
 
 use crate::answer::TurnAnswer;
-use crate::task::{Stepped, Task, cut, going, last, records_past};
+use crate::task::{Stepped, Task, cut, going, last};
 use args_log::{SealAnswer, mark_unusable, retire, seal};
 use clobber_log::{attempt, count};
 use nvm_base::{Steps, Words};
-use pm_machine::{End, Image, Machine, Progress};
+use pm_machine::{End, Image, Machine, Progress, records_past};
 use pmem::{Phase, PmemWork, Refusal};
 use pool_map::TrapKind;
 use std::mem;

@@ -10,7 +10,7 @@ use crate::settling::settle;
 use crate::standing::{Standing, assess};
 use args_log::{SealAnswer, seal};
 use nvm_base::Steps;
-use pm_machine::{Image, Machine};
+use pm_machine::{Image, Machine, Spare};
 use pmem::{Phase, PmemWork};
 use std::alloc::Global;
 use std::sync::ledger::Ledger;
@@ -63,14 +63,36 @@ pub fn call<P: PmemWork, L: Ledger>(
     ensures most { steps.new ≤ steps.old + image.now.parts.most }
     ensures lines { (P.device dev.new).lines ≡ (P.device dev.old).lines }
 {
+    call_with(alloc, &mut Spare::new(), image, tx, args, dev, steps)
+}
+
+/// Calls a transaction as `call` does, with the machine that is kept, so that memory for its frames
+/// is taken only the first time.
+pub fn call_with<P: PmemWork, L: Ledger>(
+    alloc: Global,
+    spare: &mut Spare,
+    image: &Image,
+    tx: u64,
+    args: &[i64],
+    dev: &mut P,
+    steps: &mut Steps<L>,
+) -> CallAnswer
+    requires lines { (P.device dev.old).lines ≡ pool_lines image.now.parts.sizes }
+    requires first { 1 ≤ tx }
+    requires last { tx ≤ length image.now.parts.txs }
+    ensures called { IsTxCalled result image.now tx args.now (P.device dev.old) (P.device dev.new)
+        steps.old steps.new }
+    ensures most { steps.new ≤ steps.old + image.now.parts.most }
+    ensures lines { (P.device dev.new).lines ≡ (P.device dev.old).lines }
+{
     match assess(dev) {
         Standing::Ready => {}
         Standing::Off => return CallAnswer::Off(Phase::Unsealed),
         Standing::Unusable(kind) => return CallAnswer::Unusable(kind),
         Standing::Numbers => return CallAnswer::Numbers,
     }
-    match Machine::new(alloc, image, tx, args) {
-        Ok(mut machine) => run(image, &mut machine, tx, args, dev, steps),
-        Err(_) => CallAnswer::NoMemory,
+    match spare.start(alloc, image, tx, args) {
+        Some(machine) => run(image, machine, tx, args, dev, steps),
+        None => CallAnswer::NoMemory,
     }
 }

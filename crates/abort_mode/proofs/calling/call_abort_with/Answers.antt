@@ -1,9 +1,9 @@
 use Rattle.std.proofs.Common.{arith}
 use Rattle.abort_mode.proofs.Parts.{short}
-use Rattle.abort_mode.proofs.calling.call_abort.Goals as goal
+use Rattle.abort_mode.proofs.calling.call_abort_with.Goals as goal
 
-pub returns-in-Err-clause-called : goal.returns-in-Err-clause-called
-returns-in-Err-clause-called g c =
+pub returns-in-None-clause-called : goal.returns-in-None-clause-called
+returns-in-None-clause-called g c =
     let d = g.P.PmemWork.device c.args.dev.now in
     let k = c.args.steps.now in record {
       ready = λ on ready. short c.args.image.now c.args.tx c.args.args.now d d k k;

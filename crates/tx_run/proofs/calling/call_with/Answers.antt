@@ -1,9 +1,9 @@
 use Rattle.std.proofs.Common.{arith}
 use Rattle.tx_run.proofs.CallParts.{short}
-use Rattle.tx_run.proofs.calling.call.Goals as goal
+use Rattle.tx_run.proofs.calling.call_with.Goals as goal
 
-pub returns-in-Err-clause-called : goal.returns-in-Err-clause-called
-returns-in-Err-clause-called g c =
+pub returns-in-None-clause-called : goal.returns-in-None-clause-called
+returns-in-None-clause-called g c =
     let d = g.P.PmemWork.device c.args.dev.now in record {
       ready = λ on ready. short c.args.image.now c.args.tx c.args.args.now d d;
       unusable = λ kind on unusable. let ready = c.in-Ready.ensures.on on in absurd cc;
