@@ -1,6 +1,6 @@
--- The table of statuses: what each says where nothing was refused. With `Done` all is so, and a
--- sink that failed leaves a part. The device fails only while the pool is made. Want of memory
--- comes then, or leaves what `starved` says. No other status comes.
+-- What each status says where nothing was refused. `Done`: all holds. A sink that failed leaves a
+-- part. The device fails only while the pool is made. Want of memory comes then, or leaves what
+-- `starved` says. No other status comes.
 use Rattle.std.specs.Prelude.{◌⊎◌}
 use Rattle.cnvm_session.specs.declared.creating.StartFault.{StartFault}
 use Rattle.cnvm_session.specs.declared.creating.StartFault.TheVariants as start

@@ -1,6 +1,5 @@
--- How the program ends. A file and standard output tell no bytes: so there are bytes of the
--- program,
--- of the script and of the image of which the clause of the top call holds.
+-- How the program ends. Files and standard output tell no bytes, so the clause of the top call
+-- holds of some bytes of the program, the script and the image.
 use Rattle.std.specs.Prelude.{ℕ, List, None, ◌≡◌}
 use Rattle.pmem.specs.Device.{Device}
 use Rattle.cnvm_words.specs.Asked.{plan_of}

@@ -52,8 +52,8 @@ pub record RanAll (program : Program) (super : Words) (commands : List Command)
   pub steps : last.steps ≡ k'
   pub written : Appends w w' (text_of answers)
 
--- A chain of steps over the first commands, whose answers' texts are all written, and one more
--- step, of whose text a part is written, perhaps none.
+-- A chain of steps over the first commands, whose answers are written, and one more step, whose
+-- answer is written in part, perhaps not at all.
 pub record RanPart (program : Program) (super : Words) (commands : List Command)
     (x : Moment) (w w' : Option (List ℕ)) (d' : Device) (k' : ℕ) : Type 0 where
   pub first : List Command

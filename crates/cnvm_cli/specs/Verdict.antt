@@ -25,8 +25,7 @@ abbrev pub IsTextRefused : List ℕ → Refused → Type 0
 IsTextRefused text why = (fault : ProgramFault) × RefusesText text fault
     × (refused_by (told_of fault) ≡ why)
 
--- It holds of a source's bytes; where the source doesn't tell them, there are bytes of which it
--- holds.
+-- It holds of a source's bytes. If a source tells no bytes, it holds of some bytes.
 abbrev pub OfBytes : Option (List ℕ) → (List ℕ → Type 0) → Type 0
 OfBytes None P = (text : List ℕ) × P text
 OfBytes (Some text) P = P text

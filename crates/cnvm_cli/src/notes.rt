@@ -1,17 +1,22 @@
 //! What is told to a person after a run: made from its status and from what it read and wrote. No
 //! status and no byte of standard output depends on it.
 
+use crate::reading::words_of;
 use crate::refused::push_digest;
 use crate::status::{Status, World};
+use cnvm_compile::{Asked, Compiled, compile};
 use cnvm_notes::{
-    RunTexts, answers_note, script_note, storm_note, workers_answers_note, workers_note,
+    Opened, ProgramText, RunTexts, Stormed, WorkersTexts, answers_note, is_storm_over, script_note,
+    storm_note, tells_trap, workers_answers_note, workers_note,
 };
+use cnvm_session::Program;
 use cnvm_words::{Plan, plan_of};
 use command_notes::{Digests, ImageRefusal, of_image, of_words, unread, unsaved, unwritten};
 use nvm_base::{KeptSink, KeptSource, SavedFile, Sink, StdSink, StdSource, write_all};
 use plain_notes::{Told, message_of};
 use pool_layout::{FUNCTION, digest};
 use program_notes::program_note;
+use run_again::{opened_again, storm_again};
 use std::alloc::{AllocError, Global};
 use std::rt::Files;
 
@@ -129,65 +134,189 @@ fn note_or(alloc: Global, note: Option<String>, what: &str) -> Result<Option<Str
     }
 }
 
-/// The message of answers that are traps or refusals.
-fn of_done<R: Files + Print + AllocGlobal, P: Drop>(
-    alloc: Global,
-    words: &[String],
-    named: Named<'_>,
-    world: &FileWorld<'_, R, P>,
-) -> Result<Option<String>, AllocError> {
-    let (opened, slots, ticks) = match plan_of(alloc, words) {
-        Ok(
-            Plan::Run {
-                start_image,
-                slots,
-                ticks,
-                ..
-            },
-        ) => (start_image.is_some(), slots, ticks),
-        Ok(Plan::Workers { .. }) => return of_workers(alloc, named.script, world.out.kept()),
-        Ok(Plan::Storm { .. }) => return of_storm(alloc, world.out.kept()),
-        _ => return Ok(None),
-    };
-    let (Some(program), Some(script), Some(answers)) = (
-        world.program.kept(),
-        world.script.kept(),
-        world.out.kept(),
-    ) else {
-        return Ok(None);
-    };
-    let run = RunTexts {
-        program_path: named.program,
-        program,
-        script_path: named.script,
-        script,
-        answers,
-        opened,
-        image_path: named.image_in,
-        owed: word_at(world.image_in.kept().unwrap_or(b""), FUNCTION as usize),
-        saved: named.image_out,
-        slots,
-        ticks,
-    };
-    answers_note(alloc, run)
+/// The texts that went through in a run; an empty one where none did.
+#[derive(Clone, Copy)]
+struct Texts<'a> {
+    program: &'a [u8],
+    script: &'a [u8],
+    image: &'a [u8],
+    answers: &'a [u8],
 }
 
-/// The message of answers to workers that are traps or refusals.
-fn of_workers(
+/// The message of answers that are traps or refusals.
+fn of_done<'a, R: Files + Print + AllocGlobal, P: Drop>(
     alloc: Global,
-    path: &str,
-    answers: Option<&[u8]>,
+    words: &[String],
+    named: Named<'a>,
+    world: &'a FileWorld<'_, R, P>,
 ) -> Result<Option<String>, AllocError> {
-    match answers {
-        Some(answers) => workers_answers_note(alloc, path, answers),
-        None => Ok(None),
+    let (Some(program), Some(answers)) = (world.program.kept(), world.out.kept()) else {
+        return Ok(None);
+    };
+    let texts = Texts {
+        program,
+        script: world.script.kept().unwrap_or(b""),
+        image: world.image_in.kept().unwrap_or(b""),
+        answers,
+    };
+    match plan_of(alloc, words) {
+        Ok(plan) => of_plan(alloc, &plan, named, texts),
+        Err(_) => Ok(None),
     }
 }
 
+/// The message of the answers to this plan.
+fn of_plan<'a>(
+    alloc: Global,
+    plan: &Plan,
+    named: Named<'a>,
+    texts: Texts<'a>,
+) -> Result<Option<String>, AllocError> {
+    let Some(asked) = asked_of(plan) else {
+        return Ok(None);
+    };
+    match plan {
+        Plan::Run { start_image, .. } => {
+            of_run(alloc, named, texts, asked, start_image.is_some())
+        }
+        Plan::Workers { .. } => of_workers(alloc, named, texts, asked),
+        Plan::Storm { start, count, .. } => of_storm(alloc, named, texts, asked, *start, *count),
+        Plan::List { .. } | Plan::Why { .. } => Ok(None),
+    }
+}
+
+/// The sizes of the pool that the plan asks for.
+fn asked_of(plan: &Plan) -> Option<Asked> {
+    match plan {
+        Plan::Run {
+            slots,
+            records,
+            ticks,
+            ..
+        }
+        | Plan::Storm {
+            slots,
+            records,
+            ticks,
+            ..
+        }
+        | Plan::Workers {
+            slots,
+            records,
+            ticks,
+            ..
+        } => Some(Asked {
+            slots: *slots,
+            records: *records,
+            ticks: *ticks,
+        }),
+        Plan::List { .. } | Plan::Why { .. } => None,
+    }
+}
+
+/// The program with the sizes of its pool.
+fn program_text<'a>(named: Named<'a>, texts: Texts<'a>, asked: Asked) -> ProgramText<'a> {
+    ProgramText {
+        path: named.program,
+        text: texts.program,
+        slots: asked.slots,
+        records: asked.records,
+        ticks: asked.ticks,
+    }
+}
+
+/// The message of a run's answers that are traps or refusals.
+fn of_run<'a>(
+    alloc: Global,
+    named: Named<'a>,
+    texts: Texts<'a>,
+    asked: Asked,
+    opened: bool,
+) -> Result<Option<String>, AllocError> {
+    let run = RunTexts {
+        program: program_text(named, texts, asked),
+        script_path: named.script,
+        script: texts.script,
+        answers: texts.answers,
+        opened,
+        image_path: named.image_in,
+        owed: word_at(texts.image, FUNCTION as usize),
+        saved: named.image_out,
+    };
+    if opened && tells_trap(texts.answers) {
+        let image = opened_of(alloc, texts.program, asked, texts.image)?;
+        return answers_note(alloc, run, image);
+    }
+    answers_note(alloc, run, None)
+}
+
+/// The pool that was opened, if its image is read again.
+fn opened_of(
+    alloc: Global,
+    text: &[u8],
+    asked: Asked,
+    image: &[u8],
+) -> Result<Option<Opened>, AllocError> {
+    let Some(program) = program_again(alloc, text, asked) else {
+        return Ok(None);
+    };
+    match words_of(alloc, image, &program) {
+        Ok(words) => opened_again(alloc, &program, words.as_slice()),
+        Err(_) => Ok(None),
+    }
+}
+
+/// The program of a text that was compiled before.
+fn program_again(alloc: Global, text: &[u8], asked: Asked) -> Option<Program> {
+    match compile(alloc, text, asked) {
+        Ok(Compiled { program, .. }) => Some(program),
+        Err(_) => None,
+    }
+}
+
+/// The message of answers to workers that are traps or refusals.
+fn of_workers<'a>(
+    alloc: Global,
+    named: Named<'a>,
+    texts: Texts<'a>,
+    asked: Asked,
+) -> Result<Option<String>, AllocError> {
+    let run = WorkersTexts {
+        program: program_text(named, texts, asked),
+        script_path: named.script,
+        script: texts.script,
+        answers: texts.answers,
+    };
+    workers_answers_note(alloc, run)
+}
+
 /// The message of a storm in which a transaction trapped.
-fn of_storm(alloc: Global, answers: Option<&[u8]>) -> Result<Option<String>, AllocError> {
-    match answers {
-        Some(answers) => storm_note(alloc, answers),
+fn of_storm<'a>(
+    alloc: Global,
+    named: Named<'a>,
+    texts: Texts<'a>,
+    asked: Asked,
+    start: u64,
+    count: u64,
+) -> Result<Option<String>, AllocError> {
+    let program = program_text(named, texts, asked);
+    if !is_storm_over(texts.answers) {
+        return storm_note(alloc, program, texts.answers, None);
+    }
+    let stormed = stormed_of(alloc, texts.program, asked, start, count)?;
+    storm_note(alloc, program, texts.answers, stormed)
+}
+
+/// The calls of a storm up to the one that trapped, if they are found again.
+fn stormed_of(
+    alloc: Global,
+    text: &[u8],
+    asked: Asked,
+    start: u64,
+    count: u64,
+) -> Result<Option<Stormed>, AllocError> {
+    match program_again(alloc, text, asked) {
+        Some(program) => storm_again(alloc, &program, start, count),
         None => Ok(None),
     }
 }

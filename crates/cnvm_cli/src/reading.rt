@@ -142,7 +142,7 @@ pub(crate) fn read_words<I: Source>(
 }
 
 /// The words of an image's bytes.
-fn words_of(alloc: Global, bytes: &[u8], program: &Program) -> Result<Words, Refused>
+pub(crate) fn words_of(alloc: Global, bytes: &[u8], program: &Program) -> Result<Words, Refused>
     ensures are { ImageIs program.now result bytes.now }
     ensures read { IsErrOf result Refused.ReadFault → ⊥ }
     ensures usage { IsErrOf result Refused.Usage → ⊥ }

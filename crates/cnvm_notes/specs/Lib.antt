@@ -1,1 +1,5 @@
+pub mod FullAfter
+pub mod History
+pub mod RefusedLine
+pub mod Replayed
 pub mod TrapLine

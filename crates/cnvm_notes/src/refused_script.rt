@@ -1,72 +1,127 @@
 //! The message of a script that is refused.
 
-use cnvm_script::{LineFault, next_line, read_line};
+ghost use Rattle.std.specs.Prelude.{◌≡◌, ◌+◌, ◌≤◌, ℕ, IfOk, length, true};
+ghost use Rattle.std.specs.Prelude.{option_map, string_bytes};
+ghost use Rattle.cnvm_script.specs.Commands.{script_meaning};
+ghost use Rattle.workers_script.specs.WorkersGrammar.{workers_script_meaning};
+ghost use Rattle.cnvm_notes.specs.RefusedLine.{begins_word, is_between_words, numbered_line, TellsLine};
+ghost use Rattle.cnvm_notes.specs.RefusedLine.{TellsScript};
+
+use cnvm_script::{ScriptFault, next_line, read_script};
 use command_notes::{of_line, of_workers_line};
-use plain_notes::{Told, message_at, message_of};
+use plain_notes::{Place, Told, message_in_line, message_of};
 use std::alloc::{AllocError, Global};
-use workers_script::read_workers_line;
+use workers_script::read_workers;
 
 /// The most bytes of a script.
 const BYTES: usize = 1_048_576;
 
-/// The message of a script's text, if it is refused.
-pub fn script_note(alloc: Global, path: &str, text: &[u8]) -> Result<Option<String>, AllocError> {
+/// The message of a script's text, if it is refused. It begins with the path, the first bad line
+/// and the column of a word, but for a text that is too long.
+#[tactic(auto, using(crate::proofs::Refused::long, crate::proofs::Refused::at_line, crate::proofs::Refused::nothing))]
+pub fn script_note(alloc: Global, path: &str, text: &[u8]) -> Result<Option<String>, AllocError>
+    ensures tells { IfOk result (λ note. TellsScript path.now text.now (script_meaning text.now)
+        (option_map string_bytes note)) }
+{
     if text.len() > BYTES {
-        return too_long(alloc, path);
+        return Ok(Some(too_long(alloc, path)?));
     }
-    let mut rest = text;
-    'lines: while !rest.is_empty() {
-        let (line, others) = next_line(rest);
-        match read_line(alloc, line) {
-            Ok(_) => (),
-            Err(LineFault::NoMemory) => return Err(AllocError),
-            Err(LineFault::Bad) => {
-                let (at, told) = of_line(alloc, line)?;
-                return at_line(alloc, path, text, rest, at, &told);
-            }
+    match read_script(alloc, text) {
+        Ok(_) => Ok(None),
+        Err(ScriptFault::BadLine(number)) => {
+            let (at, told) = of_line(alloc, line_at(text, number))?;
+            Ok(Some(message_of_line(alloc, path, text, number, at, &told)?))
         }
-        rest = others;
+        Err(ScriptFault::NoMemory) => Err(AllocError),
     }
-    Ok(None)
 }
 
 /// The message of the text of a script of workers, if it is refused.
-pub fn workers_note(alloc: Global, path: &str, text: &[u8]) -> Result<Option<String>, AllocError> {
+#[tactic(auto, using(crate::proofs::Refused::long, crate::proofs::Refused::at_line, crate::proofs::Refused::nothing))]
+pub fn workers_note(alloc: Global, path: &str, text: &[u8]) -> Result<Option<String>, AllocError>
+    ensures tells { IfOk result (λ note. TellsScript path.now text.now
+        (workers_script_meaning text.now) (option_map string_bytes note)) }
+{
     if text.len() > BYTES {
-        return too_long(alloc, path);
+        return Ok(Some(too_long(alloc, path)?));
     }
-    let mut rest = text;
-    'lines: while !rest.is_empty() {
-        let (line, others) = next_line(rest);
-        match read_workers_line(alloc, line) {
-            Ok(_) => (),
-            Err(LineFault::NoMemory) => return Err(AllocError),
-            Err(LineFault::Bad) => {
-                let (at, told) = of_workers_line(alloc, line)?;
-                return at_line(alloc, path, text, rest, at, &told);
-            }
+    match read_workers(alloc, text) {
+        Ok(_) => Ok(None),
+        Err(ScriptFault::BadLine(number)) => {
+            let (at, told) = of_workers_line(alloc, line_at(text, number))?;
+            Ok(Some(message_of_line(alloc, path, text, number, at, &told)?))
         }
-        rest = others;
+        Err(ScriptFault::NoMemory) => Err(AllocError),
     }
-    Ok(None)
 }
 
-fn too_long(alloc: Global, path: &str) -> Result<Option<String>, AllocError> {
+fn too_long(alloc: Global, path: &str) -> Result<String, AllocError> {
     let what = format!(in alloc; "{path}: the script has more than 1048576 bytes")?;
     let told = Told::new(alloc, what.as_str())?;
-    Ok(Some(message_of(alloc, &told)?))
+    message_of(alloc, &told)
 }
 
-/// The message of a line of the text, the first of these that are left, at this byte of it.
-fn at_line(
+/// The line of this number, counted from 1.
+fn line_at(text: &[u8], number: u64) -> &[u8]
+    ensures { result.now ≡ numbered_line text.now number }
+{
+    let mut rest = text;
+    let mut left = number.saturating_sub(1);
+    'lines: while !rest.is_empty() {
+        let (line, others) = next_line(rest);
+        if left == 0 {
+            return line;
+        }
+        left -= 1;
+        rest = others;
+    }
+    rest
+}
+
+/// The message of a line of the text, at this byte of it.
+fn message_of_line(
     alloc: Global,
     path: &str,
     text: &[u8],
-    left: &[u8],
+    number: u64,
     at: u64,
     told: &Told,
-) -> Result<Option<String>, AllocError> {
-    let passed = text.len().saturating_sub(left.len()) as u64;
-    let start = passed.saturating_add(at);
-    Ok(Some(message_at(alloc, path, text, start, told)?))
+) -> Result<String, AllocError>
+    ensures { IfOk result (λ s. TellsLine path.now text.now number (string_bytes s)) }
+{
+    let line = line_at(text, number);
+    let column = word_column(line, at as usize);
+    let place = Place {
+        line: number,
+        column,
+    };
+    message_in_line(alloc, path, line, place, told)
+}
+
+/// The column of the word that begins after so many bytes of the line; of the line's end if none
+/// does.
+fn word_column(line: &[u8], at: usize) -> u64
+    ensures { (before : ℕ) × ((result ≡ before + 1) × (begins_word line.now before ≡ true)) }
+{
+    if begins_word(line, at) {
+        return at as u64 + 1;
+    }
+    line.len() as u64 + 1
+}
+
+/// Whether a word of the line begins after so many bytes, or the line ends there.
+fn begins_word(line: &[u8], at: usize) -> bool
+    ensures value { result ≡ begins_word line.now at }
+    ensures within { result ≡ true → at ≤ length line.now }
+{
+    if at >= line.len() {
+        return at == line.len();
+    }
+    !is_blank(line[at]) && (at == 0 || is_blank(line[at - 1]))
+}
+
+fn is_blank(byte: u8) -> bool
+    ensures { result ≡ is_between_words byte }
+{
+    byte == b' ' || byte == b'\t' || byte == b'\r'
 }

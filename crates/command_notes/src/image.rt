@@ -11,9 +11,9 @@ pub enum ImageRefusal {
     Short(u64, u64),
     /// It doesn't begin as an image does.
     Magic,
-    /// It is of this version, where that one is known.
+    /// It is of the first version; only the second is known.
     Version(i64, i64),
-    /// It has this size, where that one was asked for, by this option if there is one.
+    /// It has the first size; the second was asked for, by this option if there is one.
     Sizes(Option<&'static str>, i64, i64),
     /// It was made from another text.
     Digest,

@@ -80,16 +80,52 @@ pub fn of_trap(
     trapped(alloc, call.as_str(), kind, left)
 }
 
-/// The message of a trap in a transaction of this worker.
-pub fn of_worker_trap(alloc: Global, worker: &str, kind: &str) -> Result<Told, AllocError> {
-    let call = format!(in alloc; "worker {worker}")?;
+/// The message of a trap in a transaction of this worker, begun by this line of the script. An
+/// empty transaction isn't known.
+pub fn of_worker_trap(
+    alloc: Global,
+    script: &str,
+    line: u64,
+    transaction: &str,
+    worker: u64,
+    kind: &str,
+) -> Result<Told, AllocError> {
+    let call = worker_text(alloc, script, line, transaction, worker)?;
     trapped(alloc, call.as_str(), kind, PoolLeft::Unusable)
 }
 
-/// The message of a storm in which a transaction trapped.
-pub fn of_storm_trap(alloc: Global, kind: &str) -> Result<Told, AllocError> {
-    let told = trapped(alloc, "the storm: a transaction", kind, PoolLeft::Unusable)?;
+/// The call of a worker in words.
+fn worker_text(
+    alloc: Global,
+    script: &str,
+    line: u64,
+    transaction: &str,
+    worker: u64,
+) -> Result<String, AllocError> {
+    if transaction.is_empty() {
+        return format!(in alloc; "worker {worker}");
+    }
+    format!(in alloc; "{script}:{line}: `{transaction}` of worker {worker}")
+}
+
+/// The message of a storm in which this call of this round trapped. An empty call isn't known.
+pub fn of_storm_trap(
+    alloc: Global,
+    round: u64,
+    call: &str,
+    kind: &str,
+) -> Result<Told, AllocError> {
+    let call = storm_text(alloc, round, call)?;
+    let told = trapped(alloc, call.as_str(), kind, PoolLeft::Unusable)?;
     told.with(alloc, "so the storm was over: each later call was refused")
+}
+
+/// The call of a storm in words.
+fn storm_text(alloc: Global, round: u64, call: &str) -> Result<String, AllocError> {
+    if call.is_empty() {
+        return String::from_str(alloc, "the storm: a transaction");
+    }
+    format!(in alloc; "the storm, round {round}: `{call}`")
 }
 
 fn trapped(alloc: Global, call: &str, kind: &str, left: PoolLeft) -> Result<Told, AllocError> {

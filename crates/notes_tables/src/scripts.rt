@@ -1,8 +1,11 @@
 //! The messages of refused scripts, and of answers.
 
 use cnvm_notes::{
-    RunTexts, answers_note, script_note, storm_note, workers_answers_note, workers_note,
+    Call, Fate, History, Opened, ProgramText, RunTexts, Stormed, WorkersTexts, answers_note,
+    script_note, storm_note, workers_answers_note, workers_note,
 };
+use nvm_base::{Text, Words};
+use pool_map::Pool;
 use std::alloc::{AllocError, Global};
 use std::test::Fail;
 
@@ -266,14 +269,16 @@ fn refused_lines_of_workers(rt: HostRuntime) -> Result<(), Fail> {
     Ok(())
 }
 
-/// Answers of scripts of workers, and what is told.
-const WORKERS_ANSWERS: [(&str, &str); 3] = [
-    ("started 0\n0 = 5 log 1\nroot n=5\n", ""),
+/// Scripts of workers, their answers, and what is told.
+const WORKERS_ANSWERS: [(&str, &str, &str); 11] = [
+    ("", "started 0\n0 = 5 log 1\nroot n=5\n", ""),
     (
+        "",
         "started 0\nrefused busy 0\nrefused worker 2\n",
         "cnvm: s: refusals among the answers: 2\n",
     ),
     (
+        "",
         "started 1\n1 trap divide\n0 trap index\n1 refused unusable divide\n",
         concat!(
             "cnvm: worker 1 trapped: a number was divided by 0\n",
@@ -282,12 +287,110 @@ const WORKERS_ANSWERS: [(&str, &str); 3] = [
             "cnvm: s: refusals among the answers: 1\n",
         ),
     ),
+    (
+        "start 0 set 3\nstart 1 set 0\nfinish\nstart 1 both 2\nstart 0 both 0\nfinish\n",
+        concat!(
+            "started 0\nstarted 1\n0 = 3 log 0\n1 = 0 log 0\n",
+            "started 1\nstarted 0\n0 trap divide\n1 trap divide\n",
+        ),
+        concat!(
+            "cnvm: s:5: `both` of worker 0 trapped: a number was divided by 0\n",
+            "note: test the divisor before `/` and `%`\n",
+            "note: the pool takes no more calls; the stores before the trap stand\n",
+            "note: it came in p.c:40\n",
+        ),
+    ),
+    (
+        "start 0 set 3\nstart 1 set 0\nfinish\nstart 1 both 2\nturn 1 1\nturn 1\n",
+        "started 0\nstarted 1\n0 = 3 log 0\n1 = 0 log 0\nstarted 1\n1 trap divide\n",
+        concat!(
+            "cnvm: s:4: `both` of worker 1 trapped: a number was divided by 0\n",
+            "note: test the divisor before `/` and `%`\n",
+            "note: the pool takes no more calls; the stores before the trap stand\n",
+            "note: it came in p.c:41\n",
+        ),
+    ),
+    (
+        "start 0 set 7\nstart 0 set 0\nfinish\nshow 0\nstart 0 both 0\nfinish\n",
+        concat!(
+            "started 0\nrefused busy 0\n0 = 7 log 0\nroot n=7 t=[0,0,0,0]\nslot 1 N v=1\n",
+            "started 0\n0 trap divide\n",
+        ),
+        concat!(
+            "cnvm: s:5: `both` of worker 0 trapped: a number was divided by 0\n",
+            "note: test the divisor before `/` and `%`\n",
+            "note: the pool takes no more calls; the stores before the trap stand\n",
+            "note: it came in p.c:40\ncnvm: s: refusals among the answers: 1\n",
+        ),
+    ),
+    (
+        "stop 9\nstart 0 set 0\nturn 0\nfinish\npower new\nstart 0 both 1\nfinish\n",
+        concat!(
+            "started 0\n0 stopped sealed\nrefused down\n0 recovered redone 0 log 0\n",
+            "started 0\n0 trap divide\n",
+        ),
+        concat!(
+            "cnvm: s:6: `both` of worker 0 trapped: a number was divided by 0\n",
+            "note: test the divisor before `/` and `%`\n",
+            "note: the pool takes no more calls; the stores before the trap stand\n",
+            "note: it came in p.c:41\ncnvm: s: refusals among the answers: 1\n",
+        ),
+    ),
+    (
+        "stop 9\nstart 0 set 0\nturn 0\npower old\nlast 0\nstart 0 both 1\nfinish\n",
+        concat!(
+            "started 0\n0 stopped sealed\n0 recovered none\nlast 1 0\nstarted 0\n",
+            "0 trap divide\n",
+        ),
+        concat!(
+            "cnvm: s:6: `both` of worker 0 trapped: a number was divided by 0\n",
+            "note: test the divisor before `/` and `%`\n",
+            "note: the pool takes no more calls; the stores before the trap stand\n",
+            "note: it came in one of these lines of p.c: 40, 41\n",
+        ),
+    ),
+    (
+        "start 0 both 0\nfinish\npower new\n",
+        "started 0\n0 stopped sealed\n0 recovered trap divide\n",
+        concat!(
+            "cnvm: s:1: `both` of worker 0 trapped: a number was divided by 0\n",
+            "note: test the divisor before `/` and `%`\n",
+            "note: the pool takes no more calls; the stores before the trap stand\n",
+            "note: it came in p.c:40\n",
+        ),
+    ),
+    (
+        "turn 0\nturn 9\nstart 9 set 1\nstart 0 both 0\nfinish\n",
+        "refused worker 9\nrefused worker 9\nstarted 0\n0 trap divide\n",
+        concat!(
+            "cnvm: s:4: `both` of worker 0 trapped: a number was divided by 0\n",
+            "note: test the divisor before `/` and `%`\n",
+            "note: the pool takes no more calls; the stores before the trap stand\n",
+            "note: it came in p.c:40\ncnvm: s: refusals among the answers: 2\n",
+        ),
+    ),
+    (
+        "start 0 both 1\nturn 0\nfault 0\nfinish\npower new\nstart 0 both 0\nfinish\n",
+        "started 0\ndevice fault\n0 recovered redone 5 log 0\nstarted 0\n0 trap divide\n",
+        concat!(
+            "cnvm: s:6: `both` of worker 0 trapped: a number was divided by 0\n",
+            "note: test the divisor before `/` and `%`\n",
+            "note: the pool takes no more calls; the stores before the trap stand\n",
+            "note: it came in one of these lines of p.c: 40, 41\n",
+        ),
+    ),
 ];
 
 #[test]
 fn answers_of_workers(rt: HostRuntime) -> Result<(), Fail> {
-    for (answers, wanted) in WORKERS_ANSWERS {
-        let told = workers_answers_note(rt.alloc(), "s", answers.as_bytes())?;
+    for (script, answers, wanted) in WORKERS_ANSWERS {
+        let run = WorkersTexts {
+            program: the_program(),
+            script_path: "s",
+            script: script.as_bytes(),
+            answers: answers.as_bytes(),
+        };
+        let told = workers_answers_note(rt.alloc(), run)?;
         let told = told.unwrap_or(String::new(rt.alloc()));
         assert_eq!(rt; told.as_str(), wanted, "at {answers}");
     }
@@ -305,10 +408,72 @@ const PROGRAM: &str = concat!(
     "}\ntx int64_t loop(int64_t x) {\n    while (x) {\n        half(x);\n    }\n",
     "    return 0;\n}\nint64_t deeper(int64_t x) {\n    return deeper(x);\n}\n",
     "tx int64_t deep(int64_t x) {\n    return deeper(x);\n}\n",
+    "tx int64_t set(int64_t x) {\n    root.n = x;\n    return x;\n}\n",
+    "tx int64_t both(int64_t a) {\n    int64_t q = 8 / a;\n    return q / root.n;\n}\n",
+    "tx int64_t fill(int64_t k) {\n    for (int64_t i = 0; i < k; i++) {\n",
+    "        root.t[i] += 1;\n    }\n    return 0;\n}\n",
 );
 
+/// The same, with the sizes of its pool.
+fn the_program() -> ProgramText<'static> {
+    ProgramText {
+        path: "p.c",
+        text: PROGRAM.as_bytes(),
+        slots: 4,
+        records: 2,
+        ticks: 1000,
+    }
+}
+
 /// Scripts, their answers, and what is told.
-const ANSWERS: [(&str, &str, bool, &str, &str); 16] = [
+const ANSWERS: [(&str, &str, bool, &str, &str); 20] = [
+    (
+        "call fill 2\ncall fill 3\n",
+        "= 0 log 2\ntrap logfull\n",
+        false,
+        "",
+        concat!(
+            "cnvm: s:2: `fill` trapped: a store has to be logged, and the log is full\n",
+            "note: do less in one call, or give a new pool more records with `--log`, up to 4096\n",
+            "note: the pool takes no more calls; the stores before the trap stand\n",
+            "note: it came in p.c:45\n",
+        ),
+    ),
+    (
+        "call both 2\n",
+        "trap index\n",
+        false,
+        "",
+        concat!(
+            "cnvm: s:1: `both` trapped: an index was outside of its array\n",
+            "note: test an argument before it is an index\n",
+            "note: the pool takes no more calls; the stores before the trap stand\n",
+        ),
+    ),
+    (
+        "call set 2\ncall both 1\ncall set 0\ncall both 1\n",
+        "= 2 log 0\n= 4 log 0\n= 0 log 0\ntrap divide\n",
+        false,
+        "",
+        concat!(
+            "cnvm: s:4: `both` trapped: a number was divided by 0\n",
+            "note: test the divisor before `/` and `%`\n",
+            "note: the pool takes no more calls; the stores before the trap stand\n",
+            "note: it came in p.c:41\n",
+        ),
+    ),
+    (
+        "call set 2\ncall both 1\ncall set 0\ncall both 1\n",
+        "= 2 log 0\n= 3 log 0\n= 0 log 0\ntrap divide\n",
+        false,
+        "",
+        concat!(
+            "cnvm: s:4: `both` trapped: a number was divided by 0\n",
+            "note: test the divisor before `/` and `%`\n",
+            "note: the pool takes no more calls; the stores before the trap stand\n",
+            "note: it came in one of these lines of p.c: 40, 41\n",
+        ),
+    ),
     (
         "call stops\nshow\n",
         "aborted abort\nroot n=5\n",
@@ -432,7 +597,7 @@ const ANSWERS: [(&str, &str, bool, &str, &str); 16] = [
             "note: do less in one call, or give more with `--ticks`, up to 1000000, ",
             "to a new pool\n",
             "note: the pool takes no more calls; the stores before the trap stand\n",
-            "note: it came in one of these lines of p.c: 24, 25\n",
+            "note: it came in p.c:24\n",
             "note: out.img holds this pool now\n",
         ),
     ),
@@ -445,7 +610,7 @@ const ANSWERS: [(&str, &str, bool, &str, &str); 16] = [
             "cnvm: s:1: `deep` trapped: more than 256 functions would be open\n",
             "note: write a loop in place of the recursion\n",
             "note: the pool takes no more calls; the stores before the trap stand\n",
-            "note: it came in one of these lines of p.c: 33, 30\n",
+            "note: it came in p.c:30\n",
         ),
     ),
     (
@@ -487,16 +652,29 @@ const ANSWERS: [(&str, &str, bool, &str, &str); 16] = [
     ),
 ];
 
+/// A call of a transaction with one argument.
+fn call(alloc: Global, name: &str, arg: i64) -> Result<Call, AllocError> {
+    let mut text = Text::new(alloc);
+    text.push(name)?;
+    let mut args = Words::new(alloc);
+    args.push(arg)?;
+    Ok(Call { name: text, args })
+}
+
 #[test]
 fn answers_of_storms(rt: HostRuntime) -> Result<(), Fail> {
     let none = storm_note(
         rt.alloc(),
+        the_program(),
         b"storm calls 2 done 2 trapped 0 other 0\nlast 2 5\n",
+        None,
     )?;
     assert_eq!(rt; none.is_none(), true);
     let told = storm_note(
         rt.alloc(),
+        the_program(),
         b"storm calls 9 done 1 trapped 1 other 7\nrefused unusable stale\n",
+        None,
     )?;
     let told = told.unwrap_or(String::new(rt.alloc()));
     assert_eq!(rt;
@@ -513,11 +691,119 @@ fn answers_of_storms(rt: HostRuntime) -> Result<(), Fail> {
 }
 
 #[test]
+fn a_storm_told_by_its_calls(rt: HostRuntime) -> Result<(), Fail> {
+    let alloc = rt.alloc();
+    let mut history = History::new(alloc, None);
+    history.call(call(alloc, "set", 0)?);
+    history.tell(Fate::Gave(0))?;
+    history.call(call(alloc, "both", 15)?);
+    let told = storm_note(
+        alloc,
+        the_program(),
+        b"storm calls 9 done 1 trapped 1 other 7\nrefused unusable divide\n",
+        Some(Stormed { round: 2, history }),
+    )?;
+    let told = told.unwrap_or(String::new(alloc));
+    assert_eq!(rt;
+        told.as_str(),
+        concat!(
+            "cnvm: the storm, round 2: `both 15` trapped: a number was divided by 0\n",
+            "note: test the divisor before `/` and `%`\n",
+            "note: the pool takes no more calls; the stores before the trap stand\n",
+            "note: so the storm was over: each later call was refused\n",
+            "note: it came in p.c:41\n",
+        )
+    );
+    Ok(())
+}
+
+/// The number in an opened pool, what it owes, a script, its answers, and the line that is told.
+const OPENED: [(i64, Option<(&str, i64)>, &str, &str, &str); 5] = [
+    (
+        0,
+        None,
+        "call both 1\n",
+        "recovered none\ntrap divide\n",
+        "note: it came in p.c:41\n",
+    ),
+    (
+        5,
+        Some(("set", 0)),
+        "call both 1\n",
+        "recovered redone 0 log 0\ntrap divide\n",
+        "note: it came in p.c:41\n",
+    ),
+    (
+        5,
+        Some(("at", 9)),
+        "show\n",
+        "recovered trap index\nrefused unusable index\n",
+        "note: it came in p.c:15\ncnvm: s:1: a command was refused\n",
+    ),
+    (
+        5,
+        Some(("at", 9)),
+        "call set 0\ncall both 1\n",
+        "recovered aborted index\n= 0 log 0\ntrap divide\n",
+        "note: it came in p.c:41\n",
+    ),
+    (
+        5,
+        None,
+        "call both 1\n",
+        "recovered redone 0 log 0\ntrap divide\n",
+        "note: it came in one of these lines of p.c: 40, 41\n",
+    ),
+];
+
+/// The pool whose root has this number.
+fn opened(alloc: Global, n: i64, owed: Option<(&str, i64)>) -> Result<Opened, AllocError> {
+    let mut root = Words::new(alloc);
+    root.push(n)?;
+    for _ in 0..4 {
+        root.push(0)?;
+    }
+    let mut pool = Pool::of_root(alloc, root);
+    for _ in 0..4 {
+        pool.push_slot(None)?;
+    }
+    let owed = match owed {
+        Some((name, arg)) => Some(call(alloc, name, arg)?),
+        None => None,
+    };
+    Ok(Opened { pool, owed })
+}
+
+#[test]
+fn answers_of_opened_pools(rt: HostRuntime) -> Result<(), Fail> {
+    let alloc = rt.alloc();
+    for (n, owed, script, answers, wanted) in OPENED {
+        let run = RunTexts {
+            program: the_program(),
+            script_path: "s",
+            script: script.as_bytes(),
+            answers: answers.as_bytes(),
+            opened: true,
+            image_path: "i",
+            owed: 2,
+            saved: "",
+        };
+        let told = answers_note(alloc, run, Some(opened(alloc, n, owed)?))?;
+        let told = told.unwrap_or(String::new(alloc));
+        assert_eq!(rt;
+            told.as_str().ends_with(wanted),
+            true,
+            "at {answers}: {told}"
+        );
+    }
+    Ok(())
+}
+
+#[test]
 fn answers(rt: HostRuntime) -> Result<(), Fail> {
     for (script, answers, opened, saved, wanted) in ANSWERS {
         let run = RunTexts {
-            program_path: "p.c",
-            program: PROGRAM.as_bytes(),
+            program: the_program(),
             script_path: "s",
             script: script.as_bytes(),
             answers: answers.as_bytes(),
@@ -525,10 +811,8 @@ fn answers(rt: HostRuntime) -> Result<(), Fail> {
             image_path: "i",
             owed: 2,
             saved,
-            slots: 4,
-            ticks: 1000,
         };
-        let told = answers_note(rt.alloc(), run)?;
+        let told = answers_note(rt.alloc(), run, None)?;
         let told = told.unwrap_or(String::new(rt.alloc()));
         assert_eq!(rt; told.as_str(), wanted, "at {script}");
     }

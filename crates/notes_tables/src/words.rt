@@ -108,8 +108,8 @@ fn files(rt: HostRuntime) -> Result<(), Fail> {
     Ok(())
 }
 
-/// Refusals of images, whether the file begins as an image does, the digest of its text, and what is
-/// told. The given text has the digest `2f`.
+/// Refusals of images, whether the file begins as an image does, the digest of its text, and what
+/// is told. The given text has the digest `2f`.
 const IMAGES: [(ImageRefusal, bool, &str, &str); 9] = [
     (
         ImageRefusal::Short(176, 147904),

@@ -30,6 +30,23 @@ pub fn message_at(
     Ok(message)
 }
 
+/// The same, of a text of which only the line with the place is given.
+pub fn message_in_line(
+    alloc: Global,
+    path: &str,
+    line: &[u8],
+    place: Place,
+    told: &Told,
+) -> Result<String, AllocError>
+    ensures begins { IfOk result (λ s. (rest : List ℕ) × (string_bytes s
+        ≡ head_text path.now place (string_bytes told.now.what) ++ rest)) }
+{
+    let mut message = head_text(alloc, path, place, told.what.as_str())?;
+    let below = rest_in_line(alloc, line, place.column, told)?;
+    message.push_str(below.as_str())?;
+    Ok(message)
+}
+
 fn head_text(alloc: Global, path: &str, place: Place, what: &str) -> Result<String, AllocError>
     ensures { IfOk result (λ s. string_bytes s ≡ head_text path.now place what.now) }
 {
@@ -51,6 +68,21 @@ fn rest_text(alloc: Global, text: &[u8], start: u64, told: &Told) -> Result<Stri
     let start = text.len().min(start as usize);
     let (passed, left) = text.split_at(start);
     push_line(alloc, &mut rest, after_last(passed), before_first(left))?;
+    push_notes(alloc, &mut rest, told)?;
+    Ok(rest)
+}
+
+/// What comes after the head, where this column of the line is told.
+fn rest_in_line(
+    alloc: Global,
+    line: &[u8],
+    column: u64,
+    told: &Told,
+) -> Result<String, AllocError> {
+    let mut rest = String::new(alloc);
+    let start = line.len().min(column.saturating_sub(1) as usize);
+    let (before, after) = line.split_at(start);
+    push_line(alloc, &mut rest, before, after)?;
     push_notes(alloc, &mut rest, told)?;
     Ok(rest)
 }

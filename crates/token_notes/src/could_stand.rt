@@ -60,8 +60,8 @@ pub const TOKENS: [&str; 54] = [
     "]",
 ];
 
-/// Tokens that come together, the one that tells of them, those that tell of a group which has
-/// them too, and their common name.
+/// Tokens that are told by one name: the token that names the group, the groups that include it,
+/// and the name.
 #[derive(Clone, Copy)]
 struct Group {
     by: &'static str,

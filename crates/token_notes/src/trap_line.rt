@@ -99,7 +99,7 @@ fn next<'a>(words: &[&'a [u8]], at: usize) -> &'a [u8] {
     }
 }
 
-/// The word that is so many before this one.
+/// The word `count` places earlier.
 fn before<'a>(words: &[&'a [u8]], at: usize, count: usize) -> &'a [u8] {
     match at.checked_sub(count) {
         Some(at) => word_at(words, at),

@@ -1,0 +1,16 @@
+-- What is told of a script, by what was found of it.
+use Rattle.std.proofs.Common.{◌≡◌, ◌<◌, ℕ, List, Some, None, Result, Ok, Err, length}
+use Rattle.cnvm_notes.specs.RefusedLine.{TellsLine, TellsScript, Long, AtLine, Nothing}
+
+pub long : {A : Type 0} (path text message : List ℕ) (means : Result A ℕ) → 1048576 < length text
+    → TellsScript path text means (Some message)
+long path text message means more = Long message more
+
+pub at_line : {A : Type 0} (path text message : List ℕ) (means : Result A ℕ) (number : ℕ)
+    → means ≡ Err number → TellsLine path text number message
+    → TellsScript path text means (Some message)
+at_line path text message means number is tells = AtLine message number is tells
+
+pub nothing : {A : Type 0} (path text : List ℕ) (means : Result A ℕ) (commands : A)
+    → means ≡ Ok commands → TellsScript path text means None
+nothing path text means commands is = Nothing commands is

@@ -1,0 +1,359 @@
+//! The message of the answers to a script of workers.
+
+use crate::call::{Call, History};
+use crate::lines::{after_slots, fate_of, first_line, trap_end, worker_answer};
+use crate::place::{ProgramText, place_note};
+use crate::summary::{push_message, push_refusals, unless_empty};
+use cnvm_script::{is_word, next_line};
+use command_notes::of_worker_trap;
+use plain_notes::Told;
+use std::alloc::{AllocError, Global};
+use workers_script::{WorkersCommand, read_workers_line};
+
+/// The texts of a run of workers that came to its end: what it read and what it answered.
+#[derive(Clone, Copy)]
+pub struct WorkersTexts<'a> {
+    pub program: ProgramText<'a>,
+    pub script_path: &'a str,
+    pub script: &'a [u8],
+    pub answers: &'a [u8],
+}
+
+/// A worker: its calls, and the line of the script that began the last one; 0 before the first.
+#[derive(Drop)]
+struct Worker {
+    history: History,
+    line: u64,
+}
+
+/// What the answers tell: the first trap, how many refusals there are, and whether the workers are
+/// down.
+#[derive(Drop)]
+struct Found {
+    trap: Option<Told>,
+    refused: u64,
+    workers: Vec<Worker>,
+    down: bool,
+}
+
+/// The most workers that a line can name.
+const WORKERS: u64 = 100;
+
+/// The message of the answers that a script of workers was given, where one is a trap or a refusal.
+pub fn workers_answers_note(
+    alloc: Global,
+    run: WorkersTexts<'_>,
+) -> Result<Option<String>, AllocError> {
+    let mut found = Found {
+        trap: None,
+        refused: 0,
+        workers: Vec::new(alloc),
+        down: false,
+    };
+    let mut left = run.answers;
+    let mut rest = run.script;
+    let mut number = 0u64;
+    'lines: while !rest.is_empty() {
+        let (line, others) = next_line(rest);
+        number = number.saturating_add(1);
+        rest = others;
+        let Ok(Some(command)) = read_workers_line(alloc, line) else {
+            continue 'lines;
+        };
+        left = after_command(alloc, &mut found, run, number, command, left)?;
+    }
+    all_answers(alloc, &mut found, run, left)?;
+    message(alloc, run, found)
+}
+
+/// Takes the answers that are left.
+fn all_answers(
+    alloc: Global,
+    found: &mut Found,
+    run: WorkersTexts<'_>,
+    left: &[u8],
+) -> Result<(), AllocError> {
+    let mut rest = left;
+    'answers: while !rest.is_empty() {
+        let (line, others) = next_line(rest);
+        rest = others;
+        found.answer(alloc, run, line)?;
+    }
+    Ok(())
+}
+
+fn message(
+    alloc: Global,
+    run: WorkersTexts<'_>,
+    found: Found,
+) -> Result<Option<String>, AllocError> {
+    let Found { trap, refused, .. } = found;
+    let mut message = String::new(alloc);
+    if let Some(trap) = trap {
+        push_message(alloc, &mut message, &trap)?;
+    }
+    push_refusals(alloc, &mut message, run.script_path, refused)?;
+    Ok(unless_empty(message))
+}
+
+/// The answers after those of this command.
+fn after_command<'a>(
+    alloc: Global,
+    found: &mut Found,
+    run: WorkersTexts<'_>,
+    number: u64,
+    command: WorkersCommand,
+    left: &'a [u8],
+) -> Result<&'a [u8], AllocError> {
+    let lines = lines_of(alloc, &command, left)?;
+    if let Some(begun) = begun_by(command) {
+        return after_start(alloc, found, run, number, begun, left);
+    }
+    match lines {
+        Lines::None => Ok(left),
+        Lines::One => after_one(alloc, found, run, left),
+        Lines::Pool => {
+            let others = after_one(alloc, found, run, left)?;
+            Ok(after_slots(others))
+        }
+        Lines::Turns => after_turns(alloc, found, run, left),
+    }
+}
+
+/// The lines of a command's answer.
+#[derive(Clone, Copy)]
+enum Lines {
+    None,
+    One,
+    /// One, and one for each slot with an object.
+    Pool,
+    /// Those of turns.
+    Turns,
+}
+
+fn lines_of(alloc: Global, command: &WorkersCommand, left: &[u8]) -> Result<Lines, AllocError> {
+    match command {
+        WorkersCommand::Stop(_) | WorkersCommand::Fault(_) => Ok(Lines::None),
+        WorkersCommand::Start { .. } | WorkersCommand::Last(_) => Ok(Lines::One),
+        WorkersCommand::Show(_) => Ok(Lines::Pool),
+        WorkersCommand::Finish => Ok(Lines::Turns),
+        WorkersCommand::Power(_) => Ok(one_if(left.starts_with(b"refused pick "))),
+        WorkersCommand::Turn(workers) => {
+            let answer = first_line(left).0;
+            Ok(one_if(is_no_worker(alloc, answer, workers.as_slice())?))
+        }
+    }
+}
+
+/// One line if the command is refused, and else those of turns.
+fn one_if(refused: bool) -> Lines {
+    if refused { Lines::One } else { Lines::Turns }
+}
+
+/// What a `start` begins: a call of this worker.
+#[derive(Drop)]
+struct Begun {
+    worker: u64,
+    call: Call,
+}
+
+fn begun_by(command: WorkersCommand) -> Option<Begun> {
+    match command {
+        WorkersCommand::Start { worker, name, args } => Some(Begun {
+            worker: u64::from(worker),
+            call: Call { name, args },
+        }),
+        WorkersCommand::Turn(_workers) => None,
+        WorkersCommand::Finish => None,
+        WorkersCommand::Stop(_left) => None,
+        WorkersCommand::Fault(_at) => None,
+        WorkersCommand::Power(_choice) => None,
+        WorkersCommand::Show(_worker) => None,
+        WorkersCommand::Last(_worker) => None,
+    }
+}
+
+/// Whether the answer refuses one of these workers as one that there isn't.
+fn is_no_worker(alloc: Global, answer: &[u8], workers: &[u32]) -> Result<bool, AllocError> {
+    for worker in workers {
+        let text = format!(in alloc; "refused worker {worker}")?;
+        if answer == text.as_str().as_bytes() {
+            return Ok(true);
+        }
+    }
+    Ok(false)
+}
+
+/// The answers after that of a `start`.
+fn after_start<'a>(
+    alloc: Global,
+    found: &mut Found,
+    run: WorkersTexts<'_>,
+    number: u64,
+    begun: Begun,
+    left: &'a [u8],
+) -> Result<&'a [u8], AllocError> {
+    let Begun { worker, call } = begun;
+    let (line, others) = first_line(left);
+    let started = format!(in alloc; "started {worker}")?;
+    if line == started.as_str().as_bytes() {
+        found.start(alloc, worker, number, call)?;
+        return Ok(others);
+    }
+    if line.starts_with(b"refused ") || is_word(line, "no memory") {
+        return after_one(alloc, found, run, left);
+    }
+    Ok(left)
+}
+
+/// The answers after the first one.
+fn after_one<'a>(
+    alloc: Global,
+    found: &mut Found,
+    run: WorkersTexts<'_>,
+    left: &'a [u8],
+) -> Result<&'a [u8], AllocError> {
+    let (line, others) = first_line(left);
+    found.answer(alloc, run, line)?;
+    Ok(others)
+}
+
+/// The answers after those of turns: one if the workers are down, since all turns are refused then,
+/// and else each line of a worker and of the device.
+fn after_turns<'a>(
+    alloc: Global,
+    found: &mut Found,
+    run: WorkersTexts<'_>,
+    left: &'a [u8],
+) -> Result<&'a [u8], AllocError> {
+    if found.down && left.starts_with(b"refused ") {
+        return after_one(alloc, found, run, left);
+    }
+    let mut rest = left;
+    'answers: while is_of_turn(first_line(rest).0) && !rest.is_empty() {
+        let (line, others) = next_line(rest);
+        rest = others;
+        found.answer(alloc, run, line)?;
+    }
+    Ok(rest)
+}
+
+/// Whether a turn or a power cut has such an answer.
+fn is_of_turn(line: &[u8]) -> bool {
+    worker_answer(line).0.is_some() || is_want(line)
+}
+
+/// Whether the answer tells that the device failed, or that memory was wanted.
+fn is_want(line: &[u8]) -> bool {
+    is_word(line, "device fault") || is_word(line, "no memory")
+}
+
+impl Found {
+    /// The worker begins a call.
+    fn start(
+        &mut self,
+        alloc: Global,
+        worker: u64,
+        line: u64,
+        call: Call,
+    ) -> Result<(), AllocError> {
+        for _ in 0..WORKERS {
+            if self.workers.len() as u64 <= worker {
+                self.workers.push(Worker {
+                    history: History::new(alloc, None),
+                    line: 0,
+                })?;
+            }
+        }
+        if let Some(own) = self.workers.get_mut(worker as usize) {
+            own.history.call(call);
+            own.line = line;
+        }
+        Ok(())
+    }
+
+    /// Takes an answer.
+    fn answer(
+        &mut self,
+        alloc: Global,
+        run: WorkersTexts<'_>,
+        line: &[u8],
+    ) -> Result<(), AllocError> {
+        let (worker, answer) = worker_answer(line);
+        if answer.starts_with(b"refused ") {
+            self.refused = self.refused.saturating_add(1);
+        }
+        if is_want(answer) || answer.starts_with(b"stopped ") {
+            self.down = true;
+        }
+        match worker {
+            Some(worker) => self.answer_of(alloc, run, worker, answer),
+            None => self.answer_to_all(answer),
+        }
+    }
+
+    /// Takes an answer of this worker.
+    fn answer_of(
+        &mut self,
+        alloc: Global,
+        run: WorkersTexts<'_>,
+        worker: u64,
+        answer: &[u8],
+    ) -> Result<(), AllocError> {
+        if answer.starts_with(b"recovered ") || answer.starts_with(b"refused ") {
+            self.down = false;
+        }
+        if self.trap.is_none() {
+            self.trap = trapped(
+                alloc,
+                run,
+                self.workers.get(worker as usize),
+                worker,
+                answer,
+            )?;
+        }
+        if let Some(own) = self.workers.get_mut(worker as usize) {
+            own.history.tell(fate_of(answer))?;
+        }
+        Ok(())
+    }
+
+    /// Takes an answer that names no worker.
+    fn answer_to_all(&mut self, answer: &[u8]) -> Result<(), AllocError> {
+        for own in self.workers.iter_mut() {
+            own.history.tell(fate_of(answer))?;
+        }
+        Ok(())
+    }
+}
+
+/// The message of a trap, if the answer of this worker tells one.
+fn trapped(
+    alloc: Global,
+    run: WorkersTexts<'_>,
+    own: Option<&Worker>,
+    worker: u64,
+    answer: &[u8],
+) -> Result<Option<Told>, AllocError> {
+    let Some(end) = trap_end(answer) else {
+        return Ok(None);
+    };
+    let kind = String::from_utf8_lossy(alloc, end.kind)?;
+    let kind = kind.as_str();
+    let Some(own) = own else {
+        let told = of_worker_trap(alloc, run.script_path, 0, "", worker, kind)?;
+        return Ok(Some(told));
+    };
+    let called = called_of(&own.history);
+    let told = of_worker_trap(alloc, run.script_path, own.line, called, worker, kind)?;
+    let place = place_note(alloc, run.program, None, Some(&own.history), called, kind)?;
+    Ok(Some(told.with_some(alloc, place)?))
+}
+
+/// The name of the transaction that was called last, or an empty one.
+fn called_of(history: &History) -> &str {
+    match &history.last {
+        Some(call) => call.name.as_str(),
+        None => "",
+    }
+}
