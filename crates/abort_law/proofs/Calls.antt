@@ -10,7 +10,7 @@ use Rattle.cache_model.specs.Cache.{Words, Cache, view}
 use Rattle.cache_model.specs.Play.{play}
 use Rattle.cache_model.specs.Image.{Images, HasOne}
 use Rattle.cache_model.specs.During.{during}
-use Rattle.pool_layout.specs.declared.places.TheConstants.{DONE, ATTEMPT}
+use Rattle.pool_layout.specs.declared.places.TheConstants.{LAST, DONE, ATTEMPT, FUNCTION, SEAL}
 use Rattle.pool_layout.specs.declared.limits.Sizes.{Sizes}
 use Rattle.pool_layout.specs.declared.places.Place.TheVariants.{Last, RecordStamp, Heap}
 use Rattle.pool_layout.specs.Places.{at, pool_of}
@@ -106,13 +106,13 @@ module _ (image : Image) (super : Words) (tx : ℕ) (args : List ℤ) (c : Cache
   both : IsSoundRun end es × IsMarkedTrace z (trace_in es)
   both = marked_sound image image.parts.most s h end es tt ran tidy
 
-  missed : (p : ℕ) → (p < 24) ⊎ (48 ≤ p) → Misses p sealing
+  missed : (p : ℕ) → (p < FUNCTION) ⊎ (SEAL < p) → Misses p sealing
   missed p out =
       misses_seal (cast_signed w64 tx) (take 22 args)
       (number_after (view c DONE)) p
       (subst (λ (xs : List ℤ). length xs ≤ 22) (sym (take_all 22 args few)) few) out
 
-  seen : (p : ℕ) → (p < 24) ⊎ (48 ≤ p) → view sealed p ≡ one p
+  seen : (p : ℕ) → (p < FUNCTION) ⊎ (SEAL < p) → view sealed p ≡ one p
   seen p out = view_missed sealing c p (missed p out) ∙ view_one c one only p
 
   same_heap : heap_in z sealed ≡ h
@@ -120,10 +120,10 @@ module _ (image : Image) (super : Words) (tx : ℕ) (args : List ℤ) (c : Cache
       (missed (at (pool_of z) (Heap w)) (inr (omega arith))) i
 
   done : view sealed DONE ≡ pos d
-  done = seen 17 (inl (omega arith)) ∙ good.done
+  done = seen DONE (inl (omega arith)) ∙ good.done
 
   attempt : view sealed ATTEMPT ≡ pos a
-  attempt = seen 18 (inl (omega arith)) ∙ good.attempt_is
+  attempt = seen ATTEMPT (inl (omega arith)) ∙ good.attempt_is
 
   none : Holds z a no_records sealed
   none = record {
@@ -163,7 +163,7 @@ module _ (image : Image) (super : Words) (tx : ℕ) (args : List ℤ) (c : Cache
       ∙ ap (λ (xs : List ℤ). seal_events (pos tx) xs (number_after (view c DONE)) ++ rest)
       (take_all 22 args few)
       ∙ ap (λ (k : ℤ). seal_events (pos tx) args k ++ rest)
-      (next_is (view c DONE) d (view_one c one only 17 ∙ good.done) d_le)
+      (next_is (view c DONE) d (view_one c one only DONE ∙ good.done) d_le)
 
   abbrev list : End → List CacheEvent
   list (Halted v) = crash.due_call z a call h (crash.Halted v) (trace_in es)
@@ -183,7 +183,7 @@ module _ (image : Image) (super : Words) (tx : ℕ) (args : List ℤ) (c : Cache
       (ran ∙ ap (λ (q : End). Finished q es) is) tt
       (subst (λ (q : End). IsSoundRun q es) is both.0) both.1
       ∙ ap (λ (x : ℤ). due_undone z a (suc d) h (trace_in es) x)
-      (seen 16 (inl (omega arith))))
+      (seen LAST (inl (omega arith))))
       ∙ sealed_is (due_undone z a (suc d) h (trace_in es) last)
 
   abbrev Cuts : List CacheEvent → Words → End → Type 0

@@ -31,7 +31,7 @@ use Rattle.undo_law.specs.Undo.{Records, with_record, records_after}
 use Rattle.abort_mode.specs.Runs.{append_events, events_before, stepping, full, turning, due_marked}
 use Rattle.abort_mode.specs.Due.{abort_due_on}
 use Rattle.abort_law.specs.Machine.{logged_past, missing, stepped, turned, run_marked}
-use Rattle.abort_law.specs.Steps.{CountAfter, counted, count_stepped, count_turned, steps_marked}
+use Rattle.abort_law.specs.Steps.{CountAfter, count_outcome, count_stepped, count_turned, steps_marked}
 use Rattle.abort_law.specs.Steps.{BesideStepsLaw}
 use Rattle.abort_law.proofs.Marks.{AreRecorded, stored_below, wanted_same, recorded_past}
 use Rattle.abort_law.proofs.Marks.{length_past, step_same, past_same}
@@ -61,7 +61,7 @@ module _ (image : Image) (a : ℕ) where
       (owing (length ls) (events_of z a (length ls) (heap_of c))
       (λ e t. due_marked image a k (records_past (length ls) e) t
       (play c (events_of z a (length ls) (heap_of c) e))) o).steps
-      ≡ counted (λ e t. steps_marked image k (logged_past ls e) t (heap_past (heap_of c) e)) o
+      ≡ count_outcome (λ e t. steps_marked image k (logged_past ls e) t (heap_past (heap_of c) e)) o
   step_count k ls s c (Ends q) known keeps le recorded = refl
   step_count k ls s c (Goes e t) known keeps le recorded =
       let n : ℕ = length ls in
@@ -157,9 +157,9 @@ module _ (image : Image) where
       ((u : ℕ) → u < HeapEnd → h u ≡ r u) →
       count_stepped image ls s h rest ≡ count_stepped image ls s r rest
   stepped_alike ls s h r rest both same =
-      ap (counted (λ e t. rest (logged_past ls e) t (heap_past h e)))
+      ap (count_outcome (λ e t. rest (logged_past ls e) t (heap_past h e)))
       (step_same image (length ls) s h r same)
-      ∙ (λ i. counted
+      ∙ (λ i. count_outcome
       (λ e t. both (logged_past ls e) t (heap_past h e) (heap_past r e)
       (past_same HeapEnd e h r same) i) (step image (length ls) s r))
 
@@ -254,7 +254,7 @@ module _ (image : Image) where
       follow (λ e t. run_marked image k (logged_past ls e) t (heap_past h e)) p
       ≡ Finished end es →
       Full end
-      ⊎ (counted (λ e t. steps_marked image k (logged_past ls e) t (heap_past h e)) p
+      ⊎ (count_outcome (λ e t. steps_marked image k (logged_past ls e) t (heap_past h e)) p
       ≡ suc (length fs))
   by_step k n ls s h end0 end fs es known le o p (Filled w t is full) ran marked =
       let same : Finished (Trapped trap.LogFull) [] ≡ Finished end es =
@@ -263,7 +263,8 @@ module _ (image : Image) where
       inl (cc (same))
   by_step k n ls s h end0 end fs es known le (Ends q) p (Equal same) ran marked =
       let none : fs ≡ [] = cc (ran) in
-      inr (ap (counted (λ e t. steps_marked image k (logged_past ls e) t (heap_past h e))) same
+      inr (ap (count_outcome (λ e t. steps_marked image k (logged_past ls e) t (heap_past h e)))
+      same
       ∙ ap (λ (l : List Effect). suc (length l)) (sym none))
   by_step k n ls s h end0 end fs es known le (Goes e t) p (Equal same) ran marked =
       let here = sym (ap (follow
@@ -279,11 +280,12 @@ module _ (image : Image) where
           Full end ⊎ (steps_marked image k (logged_past ls e) t (heap_past h e)
           ≡ suc (length gs)) →
           Full end
-          ⊎ (counted (λ e t. steps_marked image k (logged_past ls e) t (heap_past h e)) p
+          ⊎ (count_outcome (λ e t. steps_marked image k (logged_past ls e) t (heap_past h e)) p
           ≡ suc (length fs))
       later gs is (inl full) = inl full
       later gs is (inr count) =
-          inr (ap (counted (λ e t. steps_marked image k (logged_past ls e) t (heap_past h e))) same
+          inr (ap (count_outcome (λ e t. steps_marked image k (logged_past ls e) t (heap_past h e)))
+          same
           ∙ ap suc count ∙ ap (λ (l : List Effect). suc (length l)) (sym is))
 
   by_turn : (k n : ℕ) (ls : List ℕ) (s : State) (h : Words) (end0 end : End) (fs es : List Effect)

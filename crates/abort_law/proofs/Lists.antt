@@ -8,7 +8,7 @@ use Rattle.cache_model.specs.Cache.{Words, Cache, put, view}
 use Rattle.cache_model.specs.Play.{apply, play}
 use Rattle.cache_model.proofs.Versions.{put_same, put_other}
 use Rattle.cache_model.proofs.Views.{view_same, view_other, view_flush, view_fence}
-use Rattle.pool_layout.specs.declared.places.TheConstants.{LAST, DONE, ATTEMPT}
+use Rattle.pool_layout.specs.declared.places.TheConstants.{LAST, DONE, ATTEMPT, SEAL}
 use Rattle.pool_layout.specs.declared.limits.Sizes.{Sizes}
 use Rattle.pool_layout.specs.declared.places.Layout.{Layout}
 use Rattle.pool_layout.specs.declared.places.Place.TheVariants.{RecordWord, RecordOld, RecordStamp}
@@ -206,16 +206,17 @@ module _ (z : Sizes) (a : ℕ) where
     abbrev back : List CacheEvent
     back = restore_events z (view c)
 
-    low : (p : ℕ) → p < 48 → view (play c back) p ≡ view c p
+    low : (p : ℕ) → p ≤ SEAL → view (play c back) p ≡ view c p
     low p lt = view_missed back c p (misses_restore z p (view c) (omega arith))
 
     retiring_is : retiring (view (play c back) LAST) (play c back)
         ≡ retire_events last (pos (suc d)) (pos (suc a))
     unfolding retire_events
     retiring_is =
-        let v = low 16 (omega arith) ∙ last_is in
-        let k = next_is (view (play c back) DONE) d (low 17 (omega arith) ∙ done) d_fits in
-        let b = next_is (view (play c back) ATTEMPT) a (low 18 (omega arith) ∙ attempt) a_fits in
+        let v = low LAST (omega arith) ∙ last_is in
+        let k = next_is (view (play c back) DONE) d (low DONE (omega arith) ∙ done) d_fits in
+        let b = next_is (view (play c back) ATTEMPT) a (low ATTEMPT (omega arith) ∙ attempt)
+        a_fits in
         λ i. Store LAST (v i) ∷ Store DONE (k i) ∷ Store ATTEMPT (b i) ∷ Flush 2 ∷ Fence ∷ []
 
     pub undo_is : due_undo z c ≡ undo_events z a (suc d) r last
@@ -260,8 +261,9 @@ module _ (image : Image) (s : State) (c : Cache) (d a : ℕ) (g : Words) (es : L
       ∙ ap (λ (f : Option End). events_all z a 0 g es ++ abort_tail_events z (end_of f)
       (play c (events_all z a 0 g es))) owed.1
 
-  low_words : (p : ℕ) → p < 48 → view (play c (events_all z a 0 g es)) p ≡ view c p
-  low_words p lt = view_missed (events_all z a 0 g es) c p (misses_run z a 0 p g es lt)
+  low_words : (p : ℕ) → p ≤ SEAL → view (play c (events_all z a 0 g es)) p ≡ view c p
+  low_words p lt = view_missed (events_all z a 0 g es) c p
+      (misses_run z a 0 p g es (omega (arith, lt)))
 
   -- a run that traps ends with its trace's events, and with its records in the view
   trapped_events : (k : TrapKind) → IsSoundRun (Trapped k) es →
@@ -283,8 +285,8 @@ module _ (image : Image) (s : State) (c : Cache) (d a : ℕ) (g : Words) (es : L
   tail_count (Halted v) sound marks = refl
   tail_count (Trapped k) sound marks =
       counted z a (records_after no_records g (trace_in es)) (play c (events_all z a 0 g es))
-      (trapped_holds k sound marks) d (view c LAST) d_fits a_fits (low_words 16 (omega arith))
-      (low_words 17 (omega arith) ∙ done) (low_words 18 (omega arith) ∙ attempt)
+      (trapped_holds k sound marks) d (view c LAST) d_fits a_fits (low_words LAST (omega arith))
+      (low_words DONE (omega arith) ∙ done) (low_words ATTEMPT (omega arith) ∙ attempt)
       ∙ trace_records es no_records g sound.paired
 
   -- the steps after the seal
@@ -317,8 +319,8 @@ module _ (image : Image) (s : State) (c : Cache) (d a : ℕ) (g : Words) (es : L
       tails (Trapped k) (owes (Trapped k) ran lines)
       ∙ ap (λ (rest : List CacheEvent). events ++ rest)
       (undo_is z a (records_after no_records g trace)
-      (play c events) held d (view c LAST) d_fits a_fits (low_words 16 (omega arith))
-      (low_words 17 (omega arith) ∙ done) (low_words 18 (omega arith) ∙ attempt))
+      (play c events) held d (view c LAST) d_fits a_fits (low_words LAST (omega arith))
+      (low_words DONE (omega arith) ∙ done) (low_words ATTEMPT (omega arith) ∙ attempt))
       ∙ ap (λ (fs : List CacheEvent). fs ++ undo_events z a (suc d)
       (records_after no_records g trace) (view c LAST)) same
 
@@ -336,12 +338,12 @@ module _ (image : Image) (s : State) (c : Cache) (d a : ℕ) (g : Words) (es : L
       due_run image s c ≡ crash.due_run z a (suc d) g (crash.Halted v) (trace_in es)
   done_is v ran lines sound =
       let events : List CacheEvent = events_all z a 0 g es in
-      let low : (p : ℕ) → p < 48 → view (play c events) p ≡ view c p =
-      λ p lt. view_missed events c p (misses_run z a 0 p g es lt) in
+      let low : (p : ℕ) → p ≤ SEAL → view (play c events) p ≡ view c p =
+      λ p lt. view_missed events c p (misses_run z a 0 p g es (omega (arith, lt))) in
       tails (Halted v) (owes (Halted v) ran lines)
       ∙ ap (λ (rest : List CacheEvent). events ++ rest)
-      (retiring_of v (play c events) (low 17 (omega arith) ∙ done)
-      (low 18 (omega arith) ∙ attempt))
+      (retiring_of v (play c events) (low DONE (omega arith) ∙ done)
+      (low ATTEMPT (omega arith) ∙ attempt))
       ∙ due_run_is z a (suc d) g (Halted v) es sound
 
   -- what is due of the run, from its answer

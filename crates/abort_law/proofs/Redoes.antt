@@ -8,7 +8,7 @@ use Rattle.cache_model.specs.Image.{Images, HasOne}
 use Rattle.cache_model.specs.During.{during}
 use Rattle.cache_model.proofs.Views.{view_same, view_other, view_flush, view_fence}
 use Rattle.cache_model.proofs.During.{play_append}
-use Rattle.pool_layout.specs.declared.places.TheConstants.{LAST, DONE, ATTEMPT}
+use Rattle.pool_layout.specs.declared.places.TheConstants.{LAST, DONE, ATTEMPT, SEAL}
 use Rattle.pool_layout.specs.declared.limits.Sizes.{Sizes}
 use Rattle.pool_layout.specs.declared.places.Layout.{Layout}
 use Rattle.pool_layout.specs.declared.places.Place.TheVariants.{Last, RecordWord, RecordOld}
@@ -176,17 +176,17 @@ module _ (image : Image) (super : Words) (tx : ℕ) (args : List ℤ) (c : Cache
     heap_there = λ i w. (view_one c one only (at l (Heap w)) ∙ sym (restored_is 0 counted w)) i
 
     pub none_same : due_run image s c ≡ run_list end a
-    none_same = run_same c a attempt_fits (view_one c one only 16)
-        (view_one c one only 17 ∙ owed.done)
-        (view_one c one only 18 ∙ owed.attempt_is) none_there heap_there end refl
+    none_same = run_same c a attempt_fits (view_one c one only LAST)
+        (view_one c one only DONE ∙ owed.done)
+        (view_one c one only ATTEMPT ∙ owed.attempt_is) none_there heap_there end refl
 
     none_owes : Owes (abort_due_on image s c) z a 0 r end es × (count_in z (view c) ≡ 0)
-    none_owes = owing c a attempt_fits (view_one c one only 17 ∙ owed.done)
-        (view_one c one only 18 ∙ owed.attempt_is) none_there heap_there
+    none_owes = owing c a attempt_fits (view_one c one only DONE ∙ owed.done)
+        (view_one c one only ATTEMPT ∙ owed.attempt_is) none_there heap_there
 
     none_counts : run_steps image s c ≡ marked_steps image h tx args end es
-    none_counts = counting c a attempt_fits (view_one c one only 17 ∙ owed.done)
-        (view_one c one only 18 ∙ owed.attempt_is) none_there heap_there
+    none_counts = counting c a attempt_fits (view_one c one only DONE ∙ owed.done)
+        (view_one c one only ATTEMPT ∙ owed.attempt_is) none_there heap_there
 
   -- some records are valid
   module _ (m : ℕ) (counted : count l a one ≡ suc m) (lower : a < 2 ^ 62) where
@@ -208,7 +208,7 @@ module _ (image : Image) (super : Words) (tx : ℕ) (args : List ℤ) (c : Cache
     attempt_middle : attempt_in z (view middle) ≡ a
     attempt_middle =
         ap attempt_of
-        (view_missed first c 18 (misses_restore z 18 one (omega arith))
+        (view_missed first c ATTEMPT (misses_restore z ATTEMPT one (omega arith))
         ∙ ap (λ (v : Words). v ATTEMPT) seen) ∙ attempt_one
 
     back_is : due_back z (suc m) c ≡ first ++ reset
@@ -216,20 +216,20 @@ module _ (image : Image) (super : Words) (tx : ℕ) (args : List ℤ) (c : Cache
         ap (λ (v : Words). restore_events z v ++ due_reset z (play c (restore_events z v))) seen
         ∙ ap (λ (b : ℕ). first ++ reset_events z b) attempt_middle
 
-    reset_other : (p : ℕ) → p ≢ 18 → view begun p ≡ view middle p
+    reset_other : (p : ℕ) → p ≢ ATTEMPT → view begun p ≡ view middle p
     reset_other p ne =
         view_fence (apply (apply middle (Store ATTEMPT (pos (a + 1)))) (Flush 2)) p
         ∙ view_flush (apply middle (Store ATTEMPT (pos (a + 1)))) 2 p
-        ∙ view_other middle 18 p (pos (a + 1)) ne
+        ∙ view_other middle ATTEMPT p (pos (a + 1)) ne
 
     attempt_reset : view begun ATTEMPT ≡ pos (suc a)
     attempt_reset =
-        view_fence (apply (apply middle (Store ATTEMPT (pos (a + 1)))) (Flush 2)) 18
-        ∙ view_flush (apply middle (Store ATTEMPT (pos (a + 1)))) 2 18
-        ∙ view_same middle 18 (pos (a + 1))
+        view_fence (apply (apply middle (Store ATTEMPT (pos (a + 1)))) (Flush 2)) ATTEMPT
+        ∙ view_flush (apply middle (Store ATTEMPT (pos (a + 1)))) 2 ATTEMPT
+        ∙ view_same middle ATTEMPT (pos (a + 1))
         ∙ ap pos (let e : a + 1 ≡ suc a = omega arith in e)
 
-    low_reset : (p : ℕ) → p < 48 → p ≢ 18 → view begun p ≡ one p
+    low_reset : (p : ℕ) → p ≤ SEAL → p ≢ ATTEMPT → view begun p ≡ one p
     low_reset p less ne = reset_other p ne
         ∙ view_missed first c p (misses_restore z p one (omega arith)) ∙ view_one c one only p
 
@@ -276,8 +276,8 @@ module _ (image : Image) (super : Words) (tx : ℕ) (args : List ℤ) (c : Cache
         ap (λ (b : Cache). due_back z (suc m) c ++ due_run image s b) reset_is
         ∙ ap (λ (fs : List CacheEvent). fs ++ due_run image s begun) back_is
         ∙ ap (λ (rest : List CacheEvent). (first ++ reset) ++ rest)
-        (run_same begun (suc a) next_fits (low_reset 16 (omega arith) (λ e. absurd (omega arith)))
-        (low_reset 17 (omega arith) (λ e. absurd (omega arith)) ∙ owed.done) attempt_reset
+        (run_same begun (suc a) next_fits (low_reset LAST (omega arith) (λ e. absurd (omega arith)))
+        (low_reset DONE (omega arith) (λ e. absurd (omega arith)) ∙ owed.done) attempt_reset
         none_reset heap_reset end refl)
         ∙ append_assoc first reset (run_list end (suc a))
         ∙ ap (λ (fs : List CacheEvent). fs ++ (reset ++ run_list end (suc a)))
@@ -286,12 +286,12 @@ module _ (image : Image) (super : Words) (tx : ℕ) (args : List ℤ) (c : Cache
     some_owes : Owes (abort_due_on image s begun) z (suc a) 0 r end es
         × (count_in z (view begun) ≡ 0)
     some_owes = owing begun (suc a) next_fits
-        (low_reset 17 (omega arith) (λ e. absurd (omega arith)) ∙ owed.done) attempt_reset
+        (low_reset DONE (omega arith) (λ e. absurd (omega arith)) ∙ owed.done) attempt_reset
         none_reset heap_reset
 
     some_counts : run_steps image s begun ≡ marked_steps image h tx args end es
     some_counts = counting begun (suc a) next_fits
-        (low_reset 17 (omega arith) (λ e. absurd (omega arith)) ∙ owed.done) attempt_reset
+        (low_reset DONE (omega arith) (λ e. absurd (omega arith)) ∙ owed.done) attempt_reset
         none_reset heap_reset
 
   pub redo_counts : (n : ℕ) → count l a one ≡ n → (0 < n → a < 2 ^ 62) →

@@ -12,8 +12,7 @@ use Rattle.run_law.specs.Sound.{IsSoundRun}
 use Rattle.abort_law.specs.Machine.{mrun_marked}
 use Rattle.abort_law.specs.Cuts.{IsTidyRun}
 
--- the marked run ends as the other one does, with the same heap; or there was no room for a record
--- first
+-- the marked run ends as the other one, with the same heap; or with a full log
 abbrev pub EndsBeside : Words → (end0 end : End) → (fs es : List Effect) → Type 0
 EndsBeside h end0 end fs es =
     ((end ≡ end0) × (heap_end h es ≡ heap_end h fs)) ⊎ (end ≡ Trapped LogFull)

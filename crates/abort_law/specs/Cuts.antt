@@ -64,8 +64,8 @@ IsMarkedLeft pool call h h' last (Halted v) image =
     IsOwed pool call h image ⊎ IsDone pool (suc call.done) h' v image
 IsMarkedLeft pool call h h' last (Trapped t) image = IsReabortCut pool call h last image
 
--- These three, for the call of a transaction after n finished ones, from the heap h and the one
--- image, whose marked run has this end and these effects.
+-- The same three for one transaction's run, after n finished calls: from the heap h and the image
+-- `one`, with this end and these effects.
 module _ (image : Image) (super : Words) (n tx : ℕ) (args : List ℤ) (h one : Words) (end : End)
     (es : List Effect) where
   abbrev pub EndOf : Words → Type 0
@@ -83,16 +83,15 @@ module _ (image : Image) (super : Words) (n tx : ℕ) (args : List ℤ) (h one :
       IsMarkedLeft (pool_with image super) (call_of n tx args) h (heap_end h es)
       (last_of (pool_with image super) one) end other
 
--- After each event every image is of the first kind, and after all of them it is of the second; and
--- then each line has one version, if it had one before.
+-- Every image is of the first kind after each event, and of the second after the last. Then each
+-- line has one version, if it had one before.
 abbrev pub Plays : Cache → List CacheEvent → (cut whole : Words → Type 0) → Type 0
 Plays c events cut whole =
     during c events (Images cut) × Images whole (play c events)
     × (IsAtRest c → IsAtRest (play c events))
 
--- Cut call, for a marked transaction: from one image that is at rest with no valid record, after
--- each event of the call every image is one from before the call, one in which the call is owed, or
--- the call's end; and after all events it is the end.
+-- A cut of a marked call, which begins on one image, at rest with no valid record. After each event
+-- every image is from before the call, owes the call, or is its end; after the last it is the end.
 abbrev pub CutMarkedLaw : Type 0
 CutMarkedLaw =
     (image : Image) (super : Words) (tx : ℕ) (args : List ℤ) (c : Cache) (one : Words) (d : ℕ)
@@ -104,7 +103,7 @@ CutMarkedLaw =
     (CutOf image super d tx args (heap_in image.parts.sizes c) one end es)
     (EndOf image super d tx args (heap_in image.parts.sizes c) one end es)
 
--- Cut recovery, for a marked transaction: from one image in which the call is owed for the heap h.
+-- A cut of its recovery, which begins on one image that owes the call for the heap h.
 abbrev pub RedoMarkedLaw : Type 0
 RedoMarkedLaw =
     (image : Image) (super : Words) (tx : ℕ) (args : List ℤ) (c : Cache) (one : Words) (d : ℕ)
@@ -165,7 +164,7 @@ pub record IsRolledBackTo (image : Image) (super : Words) (tx : ℕ) (args : Lis
   pub left : IsLeft (collapsed one) (abort_due_redo image tx args n (collapsed one)) other
 
 -- However often the recovery is cut, what is left is what one cut of it leaves: a call that traps
--- is owed for the same heap, with word 16 as it was, or undone.
+-- is owed for the same heap, with the last value as it was, or undone.
 abbrev pub RollbackAgainLaw : Type 0
 RollbackAgainLaw =
     (image : Image) (super : Words) (tx : ℕ) (args : List ℤ) (d : ℕ) (h : Words) (last : ℤ)

@@ -1,5 +1,5 @@
--- How many steps a marked call and its recovery take that come to their end: one for each
--- instruction of the run, and one for each record that is put back.
+-- How many steps a marked call and its recovery take to their end: one for each instruction of the
+-- run, and one for each record that is put back.
 use Rattle.std.specs.Prelude.{ℕ, zero, suc, ◌+◌, ◌^◌, ◌<◌, ◌≤◌, ◌≡◌, ◌⊎◌, if◌then◌else◌, nat_lt}
 use Rattle.std.specs.Prelude.{List, [], ◌∷◌, length, Option, Some, None, ℤ}
 use Rattle.cache_model.specs.Cache.{Words}
@@ -29,13 +29,14 @@ abbrev pub CountAfter : Type 0
 CountAfter = List ℕ → State → Words → ℕ
 
 -- an outcome and the rest; the last instruction has no effect
-abbrev pub counted : (Effect → State → ℕ) → StepOutcome → ℕ
-counted rest (Goes e t) = suc (rest e t)
-counted rest (Ends end) = 1
+abbrev pub count_outcome : (Effect → State → ℕ) → StepOutcome → ℕ
+count_outcome rest (Goes e t) = suc (rest e t)
+count_outcome rest (Ends end) = 1
 
 abbrev pub count_stepped : Image → List ℕ → State → Words → CountAfter → ℕ
 count_stepped image ls s heap rest =
-    counted (λ e t. rest (logged_past ls e) t (heap_past heap e)) (step image (length ls) s heap)
+    count_outcome (λ e t. rest (logged_past ls e) t (heap_past heap e))
+    (step image (length ls) s heap)
 
 -- a record of the runner takes no step; a turn that finds no room for one takes a step
 abbrev pub count_turned : Image → List ℕ → State → Words → CountAfter → Option ℕ → ℕ

@@ -12,7 +12,7 @@ use Rattle.std.proofs.lemmas.Bool.{false≢true, cases_lt, eqb-true, eq-eqb, lt-
 use mathlib.Core.Logic.{◌⊎◌}
 use Rattle.clobber_pass.specs.declared.topic.StructField.{StructField}
 use Rattle.clobber_pass.specs.Row.{has_bit}
-use Rattle.clobber_pass.specs.inside.Row.{mask, without, place_bit, is_field, bit_of, fields_from}
+use Rattle.clobber_pass.specs.inside.Row.{mask, without, place_bit, names_field, bit_of, fields_from}
 use Rattle.clobber_pass.specs.inside.Row.{fields_mask}
 
 -- writing outside a row does nothing
@@ -142,8 +142,8 @@ has_bit_place x k few = ⊎_elim near far (cases_lt k 16)
         rw (le-ltb k 16 past, has_bit_zero x) (sym (apart x k unlike))
 
 has_bit_of : (x k : ℕ) (c : StructField) (t y : ℕ) → x < 16
-    → has_bit x (bit_of c k t y) ≡ ((x == k) && is_field c t y)
-has_bit_of x k c t y few = by_cases (is_field c t y)
+    → has_bit x (bit_of c k t y) ≡ ((x == k) && names_field c t y)
+has_bit_of x k c t y few = by_cases (names_field c t y)
   where
     and_true : (a : Bool) → a ≡ (a && true)
     and_true true = refl
@@ -160,7 +160,7 @@ has_bit_of x k c t y few = by_cases (is_field c t y)
 -- a field is at the place x among those from the place k on
 field_in : List StructField → ℕ → ℕ → ℕ → ℕ → Bool
 field_in [] k x t y = false
-field_in (c ∷ cs) k x t y = ((x == k) && is_field c t y) || field_in cs (k + 1) x t y
+field_in (c ∷ cs) k x t y = ((x == k) && names_field c t y) || field_in cs (k + 1) x t y
 
 or_assoc : (a b c : Bool) → ((a || b) || c) ≡ (a || (b || c))
 or_assoc true b c = refl
@@ -178,20 +178,20 @@ has_bit_from x (c ∷ cs) k t y bits few =
     has_bit_from x cs (k + 1) t y (bit_or bits (bit_of c k t y)) few
     ∙ ap (λ b. b || field_in cs (k + 1) x t y) (has_bit_or x bits (bit_of c k t y)
     ∙ ap (λ b. has_bit x bits || b) (has_bit_of x k c t y few))
-    ∙ or_assoc (has_bit x bits) ((x == k) && is_field c t y) (field_in cs (k + 1) x t y)
+    ∙ or_assoc (has_bit x bits) ((x == k) && names_field c t y) (field_in cs (k + 1) x t y)
 
 field_below : (cs : List StructField) (k x t y : ℕ) → x < k → field_in cs k x t y ≡ false
 unfolding field_in
 field_below [] k x t y less = refl
 field_below (c ∷ cs) k x t y less =
     let unlike : (x ≡ k → ⊥) = λ (e : x ≡ k). omega arith in
-    ap (λ b. (b && is_field c t y) || field_in cs (k + 1) x t y) (apart x k unlike)
+    ap (λ b. (b && names_field c t y) || field_in cs (k + 1) x t y) (apart x k unlike)
     ∙ field_below cs (k + 1) x t y (omega arith)
 
 -- the field of a place, if there is one, is this field
 abbrev pub names : Option StructField → ℕ → ℕ → Bool
 names None t y = false
-names (Some c) t y = is_field c t y
+names (Some c) t y = names_field c t y
 
 field_at : (cs : List StructField) (k j t y : ℕ)
     → field_in cs k (k + j) t y ≡ names (slice_get cs j) t y
@@ -199,13 +199,13 @@ unfolding field_in
 field_at [] k j t y = refl
 field_at (c ∷ cs) k zero t y =
     let same : k + 0 ≡ k = omega arith in
-    ap (λ b. (b && is_field c t y) || field_in cs (k + 1) (k + 0) t y) (eq-eqb (k + 0) k same)
-    ∙ ap (λ b. is_field c t y || b) (field_below cs (k + 1) (k + 0) t y (omega arith))
-    ∙ sym (or_none (is_field c t y))
+    ap (λ b. (b && names_field c t y) || field_in cs (k + 1) (k + 0) t y) (eq-eqb (k + 0) k same)
+    ∙ ap (λ b. names_field c t y || b) (field_below cs (k + 1) (k + 0) t y (omega arith))
+    ∙ sym (or_none (names_field c t y))
 field_at (c ∷ cs) k (suc j) t y =
     let unlike : (k + suc j ≡ k → ⊥) = λ (e : k + suc j ≡ k). omega arith in
     let moved : k + suc j ≡ (k + 1) + j = omega arith in
-    ap (λ b. (b && is_field c t y) || field_in cs (k + 1) (k + suc j) t y)
+    ap (λ b. (b && names_field c t y) || field_in cs (k + 1) (k + suc j) t y)
     (apart (k + suc j) k unlike)
     ∙ ap (λ x. field_in cs (k + 1) x t y) moved ∙ field_at cs (k + 1) j t y
 
@@ -235,7 +235,7 @@ from_few : (cs : List StructField) (k t y bits : ℕ) → bits < 2 ^ 16
 from_few [] k t y bits few = few
 from_few (c ∷ cs) k t y bits few =
     from_few cs (k + 1) t y (bit_or bits (bit_of c k t y))
-    (or_lt 16 bits (bit_of c k t y) few (of_few (is_field c t y)))
+    (or_lt 16 bits (bit_of c k t y) few (of_few (names_field c t y)))
   where
     some : 0 < 2 ^ 16
     some = omega arith

@@ -20,7 +20,7 @@ use Rattle.clobber_pass.specs.Row.{word}
 use Rattle.clobber_pass.specs.Sweep.{row_in}
 use Rattle.clobber_pass.specs.inside.Row.{without, mask, fields_mask, after_row, with_read}
 use Rattle.clobber_pass.specs.inside.Sweep.{next_row, jump_target, call_from, slot_after}
-use Rattle.clobber_pass.specs.inside.Closed.{Reached, Made, only, raised_in}
+use Rattle.clobber_pass.specs.inside.Closed.{Reached, Made, one_word_row, raised_in}
 use Rattle.clobber_pass.specs.inside.Closed.Stage.{RowAt}
 use Rattle.clobber_pass.specs.inside.Closed.Reached.{raised, taken, picked, dropped, leads, goes}
 use Rattle.clobber_pass.specs.inside.Carrying.{result_slot, grown_from, Arrives, AllArrive}
@@ -57,7 +57,7 @@ cleared [] s = refl
 cleared (v ∷ row) zero = refl
 cleared (v ∷ row) (suc s) = cleared row s
 
--- where a slot is 0 wherever it isn't this one, it is 0 once this one is cleared
+-- if only this slot is set, clearing it leaves zeros
 clear_rest : (row : List ℕ) (s t : ℕ) → (t ≢ s → word row t ≡ 0) → word (slice_set row s 0) t ≡ 0
 clear_rest row s t rest = ⊎_elim
     (λ (e : t ≡ s). subst (λ k. word (slice_set row s 0) k ≡ 0) (sym e) (cleared row s))
@@ -101,32 +101,33 @@ after_zero (Fields all) (Store (Field b c y None) from line) row t one other is 
     set_low row (b + 2) (without (word row (b + 2)) m) t is
     (λ (e : word row (b + 2) ≡ 0). ap (λ w. without w m) e ∙ without_zero m)
 
-only_zero : (n s w t : ℕ) → t ≢ s → word (only n s w) t ≡ 0
-only_zero n s w t unlike = at_other (replicate n 0) s t w unlike ∙ word_zeros n t
+one_word_zero : (n s w t : ℕ) → t ≢ s → word (one_word_row n s w) t ≡ 0
+one_word_zero n s w t unlike = at_other (replicate n 0) s t w unlike ∙ word_zeros n t
 
-length_only : (n s w : ℕ) → length (only n s w) ≡ n
-length_only n s w = length-set (replicate n 0) s w ∙ length-replicate n 0
+length_one_word : (n s w : ℕ) → length (one_word_row n s w) ≡ n
+length_one_word n s w = length-set (replicate n 0) s w ∙ length-replicate n 0
 
 -- once its word is cleared, a row with one word is blank
-pub only_cleared : (n s w : ℕ) → slice_set (only n s w) s 0 ≡ replicate n 0
-only_cleared n s w =
-    let row = slice_set (only n s w) s 0 in
-    zeros_of row (λ t. clear_rest (only n s w) s t (only_zero n s w t))
-    ∙ ap (λ m. replicate m 0) (length-set (only n s w) s 0 ∙ length_only n s w)
+pub one_word_cleared : (n s w : ℕ) → slice_set (one_word_row n s w) s 0 ≡ replicate n 0
+one_word_cleared n s w =
+    let row = slice_set (one_word_row n s w) s 0 in
+    zeros_of row (λ t. clear_rest (one_word_row n s w) s t (one_word_zero n s w t))
+    ∙ ap (λ m. replicate m 0) (length-set (one_word_row n s w) s 0 ∙ length_one_word n s w)
 
 -- the same after an instruction, for the slots that it may write
 pub step_cleared : (topic : Topic) (i : Instruction) (n s w : ℕ)
-    → slice_set (slice_set (slice_set (after_row topic i (only n s w)) s 0) 1 0) (result_slot i) 0
+    → slice_set (slice_set (slice_set (after_row topic i (one_word_row n s w)) s 0) 1 0)
+    (result_slot i) 0
     ≡ replicate n 0
 step_cleared topic i n s w =
     zeros_of last (λ t. clear_rest second (result_slot i) t (λ other.
     clear_rest first 1 t (λ one. clear_rest row s t (λ unlike.
-    after_zero topic i (only n s w) t one other (only_zero n s w t unlike)))))
+    after_zero topic i (one_word_row n s w) t one other (one_word_zero n s w t unlike)))))
     ∙ ap (λ m. replicate m 0) (length-set second (result_slot i) 0 ∙ length-set first 1 0
-    ∙ length-set row s 0 ∙ length_after topic i (only n s w) ∙ length_only n s w)
+    ∙ length-set row s 0 ∙ length_after topic i (one_word_row n s w) ∙ length_one_word n s w)
   where
     row : List ℕ
-    row = after_row topic i (only n s w)
+    row = after_row topic i (one_word_row n s w)
 
     first : List ℕ
     first = slice_set row s 0
@@ -246,7 +247,7 @@ step_carries p row r0 r1 r2 s t rows a b new growth c d later is0 is1 is2 one tw
     (subst (λ r. Carries p r b new d later) is2 three))))))
 
 pub step_blank : (topic : Topic) (i : Instruction) (n s w d : ℕ) (r0 r1 r2 r3 : List ℕ)
-    → r0 ≡ after_row topic i (only n s w) → r1 ≡ slice_set r0 s 0 → r2 ≡ slice_set r1 1 0
+    → r0 ≡ after_row topic i (one_word_row n s w) → r1 ≡ slice_set r0 s 0 → r2 ≡ slice_set r1 1 0
     → d ≡ result_slot i → r3 ≡ slice_set r2 d 0 → r3 ≡ replicate n 0
 step_blank topic i n s w d r0 r1 r2 r3 is0 is1 is2 is_d is3 =
     is3 ∙ ap (λ k. slice_set r2 k 0) is_d
@@ -277,7 +278,7 @@ module _ (topic : Topic) (exits : List (List (List ℕ))) (code : List Instructi
       (subst (Carrying topic exits entry code rows) (sym still.1) c)
   led_carrying (Some q) same a entry at c =
       arrived_carrying topic exits entry code q g.slot g.word rows led growth between a
-      (leads g.place q i (only (length entry) g.slot g.word) there same at) c
+      (leads g.place q i (one_word_row (length entry) g.slot g.word) there same at) c
 
   pub leads_on : CarriesOn topic exits code n g rows led growth between
   leads_on = record {
@@ -286,7 +287,8 @@ module _ (topic : Topic) (exits : List (List (List ℕ))) (code : List Instructi
   }
 
   pub passes_on : (new : List (List ℕ)) (later : List Grown) → g.place + 1 < length code
-      → Carries (g.place + 1) (next_row topic exits i (only n g.slot g.word)) led new between later
+      → Carries (g.place + 1) (next_row topic exits i (one_word_row n g.slot g.word)) led new
+      between later
       → CarriesOn topic exits code n g rows new growth later
   passes_on new later inside on = record {
     keeps = λ entry long at c.
@@ -294,10 +296,10 @@ module _ (topic : Topic) (exits : List (List (List ℕ))) (code : List Instructi
         let less : suc g.place < length code = omega (arith, inside) in
         on.keeps topic exits entry code
         (subst (λ q. Reached topic exits entry code (RowAt q
-        (next_row topic exits i (only n g.slot g.word)))) next
+        (next_row topic exits i (one_word_row n g.slot g.word)))) next
         (subst (λ m. Reached topic exits entry code (RowAt (suc g.place)
-        (next_row topic exits i (only m g.slot g.word)))) long
-        (goes g.place i (only (length entry) g.slot g.word) there less at)))
+        (next_row topic exits i (one_word_row m g.slot g.word)))) long
+        (goes g.place i (one_word_row (length entry) g.slot g.word) there less at)))
         (led_carrying (jump_target (length code) i) refl leading entry at c);
   }
 

@@ -34,7 +34,7 @@ use Rattle.clobber_pass.specs.inside.Sweep.{exits_of, exit, call_from, next_row,
 use Rattle.clobber_pass.specs.inside.Sweep.{or_from, row_joined, join_in, meet_in, row_or, here_in}
 use Rattle.clobber_pass.specs.inside.Sweep.{rows_led, swept}
 use Rattle.clobber_pass.specs.inside.Sound.{Backed, SoundExits}
-use Rattle.clobber_pass.specs.inside.Closed.{Stage, Reached, only}
+use Rattle.clobber_pass.specs.inside.Closed.{Stage, Reached, one_word_row}
 use Rattle.clobber_pass.specs.inside.Closed.Stage.{Table, RowAt}
 use Rattle.clobber_pass.specs.inside.Closed.Reached.{none, again, raised, taken, picked, dropped}
 use Rattle.clobber_pass.specs.inside.Closed.Reached.{leads, goes}
@@ -374,7 +374,7 @@ module _ (ir : Ir) (well : IsWellFormed ir) (topic : Topic) (exits : List (List 
   -- a row with one word, all of whose facts hold
   good_only : (p n s w : ℕ) → n ≡ row_width topic u.registers
       → ((b : Fact) → is_about class b ≡ true → slot b ≡ s → has_bit x w ≡ true → At p b)
-      → GoodRow p (only n s w)
+      → GoodRow p (one_word_row n s w)
   good_only p n s w long holds = (
     length-set (replicate n 0) s w ∙ length-replicate n 0 ∙ long,
     λ b about h.
@@ -402,7 +402,7 @@ module _ (ir : Ir) (well : IsWellFormed ir) (topic : Topic) (exits : List (List 
   )
 
   good_raised : (p n : ℕ) (row : List ℕ) (s w : ℕ) → n ≡ row_width topic u.registers
-      → GoodOrNone p row → GoodRow p (only n s w)
+      → GoodOrNone p row → GoodRow p (one_word_row n s w)
       → GoodOrNone p (slice_set row s (bit_or (word row s) w))
   good_raised p n row s w long (inl is) more =
       inl (ap (λ r. slice_set r s (bit_or (word r s) w)) is)
@@ -414,7 +414,7 @@ module _ (ir : Ir) (well : IsWellFormed ir) (topic : Topic) (exits : List (List 
       added b about same inside t =
           let within : s < length (replicate n 0) =
           omega (arith, length-replicate {A = ℕ} n 0, long, one.0) in
-          sound_at p (only n s w) s b more.1 about same
+          sound_at p (one_word_row n s w) s b more.1 about same
           (ap (has_bit x) (at_same (replicate n 0) s w within) ∙ t)
 
       told : Sound p (slice_set row s (bit_or (word row s) w))

@@ -4,7 +4,7 @@
 ghost use Rattle.std.specs.Prelude.{◌≡◌, ◌<◌, ◌≤◌, ◌+◌, ◌^◌, length, replicate, slice_set, OnOk};
 ghost use Rattle.clobber_pass.specs.inside.Row.{after_row};
 ghost use Rattle.clobber_pass.specs.inside.Sweep as inside_sweeps;
-ghost use Rattle.clobber_pass.specs.inside.Closed.{Made, only};
+ghost use Rattle.clobber_pass.specs.inside.Closed.{Made, one_word_row};
 ghost use Rattle.clobber_pass.specs.inside.Carrying as carrying;
 ghost use Rattle.clobber_pass.specs.inside.Carrying.{Arrived, Carries, CarriesOn, Carrying};
 ghost use Rattle.clobber_pass.specs.inside.Room.{room};
@@ -58,8 +58,7 @@ fn hand_on(
     Ok(())
 }
 
-/// The slot that an instruction may write, other than that of the word that it meets; that of the
-/// sought fact, if there is none.
+/// The other slot that an instruction may write, or that of the sought fact.
 fn result_slot(instruction: &Instruction) -> usize
     ensures { result ≡ carrying.result_slot instruction.now }
 {
@@ -85,7 +84,8 @@ fn past_step(
     requires place { grown.place < 2 ^ 63 }
     requires blank { row.old ≡ replicate (length row.old) 0 }
     ensures carries { OnOk result (Carries (grown.place + 1)
-        (after_row topic.entry instruction.now (only (length row.old) grown.slot grown.word))
+        (after_row topic.entry instruction.now
+        (one_word_row (length row.old) grown.slot grown.word))
         rows.old rows.new growth.old growth.new) }
     ensures blank { OnOk result (row.new ≡ row.old) }
     ensures room { OnOk result (room rows.new ≤ room rows.old) }
@@ -180,8 +180,9 @@ fn past_call(
     requires blank { row.old ≡ replicate (length row.old) 0 }
     ensures carries { OnOk result (Carries (grown.place + 1)
         (inside_sweeps.call_from (inside_sweeps.exits_of exits.now function) to args.now
-        (only (length row.old) grown.slot grown.word) 0
-        (only (length row.old) grown.slot grown.word)) rows.old rows.new growth.old growth.new) }
+        (one_word_row (length row.old) grown.slot grown.word) 0
+        (one_word_row (length row.old) grown.slot grown.word)) rows.old rows.new growth.old
+        growth.new) }
     ensures blank { OnOk result (row.new ≡ row.old) }
     ensures room { OnOk result (room rows.new ≤ room rows.old) }
 {
@@ -231,7 +232,8 @@ fn pass(
     requires blank { row.old ≡ replicate (length row.old) 0 }
     ensures carries { OnOk result (Carries (grown.place + 1)
         (inside_sweeps.next_row topic.entry exits.now instruction.now
-        (only (length row.old) grown.slot grown.word)) rows.old rows.new growth.old growth.new) }
+        (one_word_row (length row.old) grown.slot grown.word)) rows.old rows.new growth.old
+        growth.new) }
     ensures blank { OnOk result (row.new ≡ row.old) }
     ensures room { OnOk result (room rows.new ≤ room rows.old) }
 {

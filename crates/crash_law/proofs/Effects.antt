@@ -13,7 +13,8 @@ use Rattle.crash_law.specs.Effects.{Effect, Loads, Stores, Logs, Still, entry, t
 use Rattle.crash_law.specs.Effects.{IsOverwritten, IsLoggedFirst, IsPaired, logs_of, IsSound}
 use Rattle.crash_law.specs.Effects.{effect_events}
 
-word_entry : (last : Option ℕ) (w : ℕ) (x : ℤ) → word_of_entry (entry last w x) ≡ w
+-- the word of an entry, logged or not
+pub word_entry : (last : Option ℕ) (w : ℕ) (x : ℤ) → word_of_entry (entry last w x) ≡ w
 word_entry None w x = refl
 word_entry (Some u) w x = go (u == w)
   where

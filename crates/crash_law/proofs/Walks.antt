@@ -6,6 +6,7 @@ use Rattle.std.proofs.Common.{None, ℤ, pos, nat_abs, refl, sym, ap, ◌∙◌,
 use Rattle.std.proofs.lemmas.Bool.{ltb-false}
 use Rattle.cache_model.specs.Event.{CacheEvent, Store, Flush, Fence}
 use Rattle.cache_model.specs.Cache.{Words}
+use Rattle.pool_layout.specs.declared.places.TheConstants.{FUNCTION, SEAL}
 use Rattle.pool_layout.specs.declared.limits.Sizes.{Sizes}
 use Rattle.pool_layout.specs.declared.places.Layout.{Layout}
 use Rattle.pool_layout.specs.declared.places.Place.TheVariants.{Attempt, Argument, Seal, Heap}
@@ -39,14 +40,14 @@ seal_walk C call rest =
 
 stores_same : (l : Layout) (xs : List ℤ) (j : ℕ) (word : ℕ → ℤ) (rest : List CacheEvent) →
     ((i : ℕ) → i < length xs → slice_index_or xs i (pos 0) ≡ word (j + i)) →
-    stores_from (24 + j) xs ++ rest ≡ store_words l word j (length xs) rest
+    stores_from (FUNCTION + j) xs ++ rest ≡ store_words l word j (length xs) rest
 stores_same l [] j word rest same = refl
 stores_same l (x ∷ xs) j word rest same =
     let head : x ≡ word j = same 0 (omega arith) ∙ ap word (omega arith) in
-    let place : suc (24 + j) ≡ 24 + suc j = omega arith in
-    ap (λ (y : ℤ). Store (24 + j) y ∷ (stores_from (suc (24 + j)) xs ++ rest)) head
-    ∙ ap (λ (p : ℕ). Store (24 + j) (word j) ∷ (stores_from p xs ++ rest)) place
-    ∙ ap (λ (r : List CacheEvent). Store (24 + j) (word j) ∷ r)
+    let place : suc (FUNCTION + j) ≡ FUNCTION + suc j = omega arith in
+    ap (λ (y : ℤ). Store (FUNCTION + j) y ∷ (stores_from (suc (FUNCTION + j)) xs ++ rest)) head
+    ∙ ap (λ (p : ℕ). Store (FUNCTION + j) (word j) ∷ (stores_from p xs ++ rest)) place
+    ∙ ap (λ (r : List CacheEvent). Store (FUNCTION + j) (word j) ∷ r)
     (stores_same l xs (suc j) word rest (λ i less. same (suc i) (omega arith)
     ∙ ap word (omega arith)))
 
@@ -61,11 +62,11 @@ unfolding seal_events unsealed_events payload_events sealing_events
 seal_same z call rest =
     let words : List ℤ = call.function ∷ call.args in
     let k : ℤ = pos (suc call.done) in
-    let xs : List CacheEvent = stores_from 24 words in
+    let xs : List CacheEvent = stores_from FUNCTION words in
     let ys : List CacheEvent = flushes_from 3 (payload_lines (length call.args)) in
-    let tail : List CacheEvent = Store 47 k ∷ Flush 5 ∷ Fence ∷ rest in
-    append_assoc ((xs ++ (ys ++ Fence ∷ [])) ++ Store 47 k ∷ []) (Flush 5 ∷ Fence ∷ []) rest
-    ∙ append_assoc (xs ++ (ys ++ Fence ∷ [])) (Store 47 k ∷ []) (Flush 5 ∷ Fence ∷ rest)
+    let tail : List CacheEvent = Store SEAL k ∷ Flush 5 ∷ Fence ∷ rest in
+    append_assoc ((xs ++ (ys ++ Fence ∷ [])) ++ Store SEAL k ∷ []) (Flush 5 ∷ Fence ∷ []) rest
+    ∙ append_assoc (xs ++ (ys ++ Fence ∷ [])) (Store SEAL k ∷ []) (Flush 5 ∷ Fence ∷ rest)
     ∙ append_assoc xs (ys ++ Fence ∷ []) tail
     ∙ ap (λ (r : List CacheEvent). xs ++ r) (append_assoc ys (Fence ∷ []) tail
     ∙ flushes_same 3 (payload_lines (length call.args)) (Fence ∷ tail))

@@ -1,7 +1,6 @@
--- The lists of events that the calls play. The seal, the records, the end, the restoring and the
--- next attempt are the lists of the
--- logs themselves, as the calls promise them; the stores and the flushes of a run are listed here
--- by its trace.
+-- The lists of events that the calls play. Seal, records, end, restoring and next attempt are the
+-- logs' own lists, as the calls promise them. The stores and flushes of a run are listed here, by
+-- its trace.
 use Rattle.std.specs.Prelude.{ℕ, zero, suc, ◌<◌, ◌≡◌, ◌⊎◌, ◌==◌, ◌||◌, Bool, false, cond, List, []}
 use Rattle.std.specs.Prelude.{◌∷◌, ◌++◌, ℤ, pos}
 use Rattle.cache_model.specs.Event.{CacheEvent, Store, Flush, Fence}
@@ -36,8 +35,8 @@ heap_after heap [] = heap
 heap_after heap (Plain w x ∷ trace) = heap_after (put heap w x) trace
 heap_after heap (Logged w x ∷ trace) = heap_after (put heap w x) trace
 
--- A property of a trace, given the number n of records and the words stored before it: each word is
--- in W and in the heap, the first entry of each word of E is logged, and the records fit.
+-- A trace that comes after n records and these stores: each of its words is in W and in the heap,
+-- the first store to each word of E is logged, and the records fit.
 abbrev pub IsTrace : (C H : ℕ) (E W : ℕ → Type 0) → ℕ → (ℕ → Type 0) → List Entry → Type 0
 IsTrace C H E W n stored [] = Unit {0}
 IsTrace C H E W n stored (Plain w x ∷ trace) =

@@ -36,12 +36,11 @@ IsCut pool call E W h h' last result image =
     IsBefore pool call.done h last image
     ⊎ (Owed pool call E W h image ⊎ IsEnd pool call h' result image)
 
--- After each event every image is of the first kind, and after all of them it is of the second.
+-- Every image is of the first kind after each event, and of the second after the last.
 abbrev pub Leaves : Cache → List CacheEvent → (cut whole : Words → Type 0) → Type 0
 Leaves c events cut whole = during c events (Images cut) × Images whole (play c events)
 
--- after each event of a call, every image is one of the four, and after all of them it is the
--- call's end
+-- after each event of a call every image is one of the four; after the last it is the call's end
 abbrev pub CutCall : Pool → Call → (E W : ℕ → Type 0) → (h : ℕ → ℤ) → Result → List Entry → Cache
     → (last : ℤ) → (a : ℕ) → Type 0
 CutCall pool call E W h result trace c last a =
@@ -49,8 +48,8 @@ CutCall pool call E W h result trace c last a =
     (IsCut pool call E W h (heap_after h trace) last result)
     (IsEnd pool call (heap_after h trace) result)
 
--- after each event of the recovery of an image in which a call is owed, it is still owed or has
--- come to its end; and after all of them it has come to its end
+-- a recovery of an owed call: after each event the call is still owed or has ended; after the last
+-- it has ended
 abbrev pub CutRedo : Pool → Call → (E W : ℕ → Type 0) → (h : ℕ → ℤ) → Result → List Entry → Cache
     → Words → (a n : ℕ) → Type 0
 CutRedo pool call E W h result trace c one a n =
@@ -58,8 +57,8 @@ CutRedo pool call E W h result trace c one a n =
     (λ image. Owed pool call E W h image ⊎ IsEnd pool call (heap_after h trace) result image)
     (IsEnd pool call (heap_after h trace) result)
 
--- after each event of the recovery of an image that isn't sealed, the image is good, and after all
--- of them it has no record
+-- a recovery of an image that isn't sealed: after each event the image is good; after the last it
+-- has no valid record
 pub record IsClean (pool : Pool) (d : ℕ) (h : ℕ → ℤ) (image : Words) : Type 0 where
   pub good : Good pool d h image
   pub empty : HasNoRecord pool image
@@ -111,8 +110,8 @@ RestLaw =
     IsAtRest (play c (due_call pool.sizes a call heap (Halted value) trace))
     × IsAtRest (play c (redo_events pool.sizes a (suc call.done) one n (Halted value) trace))
 
--- the cache after a power cut that left this image: the image's lines are the only versions, with
--- no mark
+-- the cache after a power cut that left this image: each line has the image's version alone, and no
+-- mark
 abbrev pub collapsed : Words → Cache
 collapsed image l = record { older = []; newest = image; mark = None }
 
@@ -137,7 +136,7 @@ AreInARow leads zero one other = one ≡ other
 AreInARow leads (suc k) one other =
     (next : Words) × leads one next × AreInARow leads k next other
 
--- However often recovery is cut, in the image that is left the call is owed or has come to its end.
+-- However often recovery is cut, the image that is left still owes the call, or is its end.
 abbrev pub AgainLaw : Type 0
 AgainLaw =
     (pool : Pool) (call : Call) (E W : ℕ → Bool) (h : ℕ → ℤ) (result : Result) (trace : List Entry)

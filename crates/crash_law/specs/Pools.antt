@@ -1,10 +1,10 @@
 -- What an image of a pool holds where a call is owed, and before and after a call.
-use Rattle.std.specs.Prelude.{ℕ, suc, ◌+◌, ◌^◌, ◌<◌, ◌≤◌, ◌≡◌, ◌⊎◌, List, ◌∷◌, length}
+use Rattle.std.specs.Prelude.{ℕ, suc, ◌^◌, ◌<◌, ◌≤◌, ◌≡◌, ◌⊎◌, List, ◌∷◌, length}
 use Rattle.std.specs.Prelude.{slice_index_or, ℤ, pos}
 use Rattle.cache_model.specs.Cache.{Words}
-use Rattle.pool_layout.specs.declared.limits.Sizes.{Sizes}
+use Rattle.pool_layout.specs.declared.places.TheConstants.{LAST}
 use Rattle.pool_layout.specs.declared.places.Place.TheVariants.{Super, Last, Done, Attempt, Mark}
-use Rattle.pool_layout.specs.declared.places.Place.TheVariants.{Argument, Seal, RecordWord, Heap}
+use Rattle.pool_layout.specs.declared.places.Place.TheVariants.{Argument, Seal, RecordWord}
 use Rattle.pool_layout.specs.Sizes.{heap_words}
 use Rattle.pool_layout.specs.Places.{at, pool_of}
 use Rattle.pool_layout.specs.Log.{WellMade, count}
@@ -28,7 +28,7 @@ IsKept E W w = (W w → ⊥) ⊎ E w
 -- the call is owed: it is sealed, and the log restores what it needs
 pub record Owed (pool : Pool) (call : Call) (E W : ℕ → Type 0) (h : ℕ → ℤ) (image : Words) :
     Type 0 where
-  pub super : (k : ℕ) → k < 16 → image (at (pool_of pool.sizes) (Super k)) ≡ pool.super k
+  pub super : (k : ℕ) → k < LAST → image (at (pool_of pool.sizes) (Super k)) ≡ pool.super k
   pub mark : image (at (pool_of pool.sizes) Mark) ≡ pos 0
   pub done : image (at (pool_of pool.sizes) Done) ≡ pos call.done
   pub done_fits : call.done ≤ 2 ^ 62
@@ -45,7 +45,7 @@ pub record Owed (pool : Pool) (call : Call) (E W : ℕ → Type 0) (h : ℕ → 
   pub restores : (w : ℕ) → w < heap_words pool.sizes → IsKept E W w
       → restored (pool_of pool.sizes) attempt image w ≡ h w
 
--- before the call, with word 16 known too
+-- before the call, with the last value known too
 pub record IsBefore (pool : Pool) (d : ℕ) (h : ℕ → ℤ) (last : ℤ) (image : Words) : Type 0 where
   pub good : Good pool d h image
   pub last_is : image (at (pool_of pool.sizes) Last) ≡ last
@@ -56,7 +56,7 @@ pub record IsDone (pool : Pool) (d : ℕ) (h : ℕ → ℤ) (value : ℤ) (image
   pub last_is : image (at (pool_of pool.sizes) Last) ≡ value
   pub seal_is : image (at (pool_of pool.sizes) Seal) ≡ pos d
 
--- word 16, the value of the last call
+-- the last value
 abbrev pub last_of : Pool → Words → ℤ
 last_of pool image = image (at (pool_of pool.sizes) Last)
 

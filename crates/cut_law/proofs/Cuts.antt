@@ -6,7 +6,7 @@ use Rattle.cache_model.specs.Cache.{Words, Cache, view}
 use Rattle.cache_model.specs.Play.{play}
 use Rattle.cache_model.specs.Image.{Images, HasOne}
 use Rattle.cache_model.specs.During.{during}
-use Rattle.pool_layout.specs.declared.places.TheConstants.{ATTEMPT}
+use Rattle.pool_layout.specs.declared.places.TheConstants.{DONE, ATTEMPT}
 use Rattle.pool_layout.specs.declared.limits.Sizes.{Sizes}
 use Rattle.pool_layout.specs.declared.places.Place.TheVariants.{Last}
 use Rattle.pool_layout.specs.Places.{at, pool_of}
@@ -58,7 +58,7 @@ module _ (image : Image) (super : Words) (tx : ℕ) (args : List ℤ) (c : Cache
   last = one (at (pool_of z) Last)
 
   pub attempt : view c ATTEMPT ≡ pos good.attempt
-  attempt = view_one c one only 18 ∙ good.attempt_is
+  attempt = view_one c one only ATTEMPT ∙ good.attempt_is
 
   pub none : count_in z (view c) ≡ 0
   none =
@@ -69,7 +69,7 @@ module _ (image : Image) (super : Words) (tx : ℕ) (args : List ℤ) (c : Cache
   same : due_call image tx args c
       ≡ crash.due_call z good.attempt call h (result_of end) (trace_in es)
   same = call_is image tx args c d good.attempt end es tx_fits few d_fits a_fits
-      (view_one c one only 17 ∙ good.done) attempt none ran sound
+      (view_one c one only DONE ∙ good.done) attempt none ran sound
 
   pub cut_call :
       during c (due_call image tx args c)

@@ -9,7 +9,7 @@ use Rattle.std.proofs.lemmas.List.{take_all}
 use Rattle.cache_model.specs.Event.{CacheEvent, Store, Flush, Fence}
 use Rattle.cache_model.specs.Cache.{Words, Cache, view}
 use Rattle.cache_model.specs.Play.{play}
-use Rattle.pool_layout.specs.declared.places.TheConstants.{LAST, DONE, ATTEMPT}
+use Rattle.pool_layout.specs.declared.places.TheConstants.{LAST, DONE, ATTEMPT, FUNCTION, SEAL}
 use Rattle.pool_layout.specs.declared.limits.Sizes.{Sizes}
 use Rattle.pool_layout.specs.declared.places.Place.TheVariants.{RecordStamp, Heap}
 use Rattle.pool_layout.specs.Places.{at, pool_of}
@@ -66,7 +66,7 @@ tail_is z d a (Halted v) c done attempt d_fits a_fits =
     λ i. Store LAST v ∷ Store DONE (finished i) ∷ Store ATTEMPT (begun i) ∷ Flush 2 ∷ Fence ∷ []
 tail_is z d a (Trapped k) c done attempt d_fits a_fits = refl
 
-pub count_same : (z : Sizes) (a : ℕ) (u v : Words) → ((p : ℕ) → 48 ≤ p → u p ≡ v p)
+pub count_same : (z : Sizes) (a : ℕ) (u v : Words) → ((p : ℕ) → SEAL < p → u p ≡ v p)
     → count (pool_of z) a u ≡ count (pool_of z) a v
 unfolding count
 count_same z a u v same = ap (λ (stamps : ℕ → ℤ). leading stamps a z.records)
@@ -111,8 +111,9 @@ run_same image tx args c d a h r end es d_fits a_fits done attempt empty heap al
     (owes_same image tx args c a h r end es a_fits attempt empty heap alike ran)
     ∙ ap (λ (rest : List CacheEvent). events_all z a 0 r es ++ rest)
     (tail_is z d a end (play c (events_all z a 0 r es))
-    (view_missed (events_all z a 0 r es) c 17 (misses_run z a 0 17 r es (omega arith)) ∙ done)
-    (view_missed (events_all z a 0 r es) c 18 (misses_run z a 0 18 r es (omega arith)) ∙ attempt)
+    (view_missed (events_all z a 0 r es) c DONE (misses_run z a 0 DONE r es (omega arith)) ∙ done)
+    (view_missed (events_all z a 0 r es) c ATTEMPT (misses_run z a 0 ATTEMPT r es (omega arith))
+    ∙ attempt)
     d_fits a_fits)
     ∙ due_run_is z a (suc d) r end es sound
 
@@ -138,11 +139,11 @@ module _ (image : Image) (tx : ℕ) (args : List ℤ) (c : Cache) (d a : ℕ) (e
   abbrev cache_after : Cache
   cache_after = play c sealing
 
-  missed : (p : ℕ) → (p < 24) ⊎ (48 ≤ p) → Misses p sealing
+  missed : (p : ℕ) → (p < FUNCTION) ⊎ (SEAL < p) → Misses p sealing
   missed p out = misses_seal (cast_signed w64 tx) (take 22 args) (number_after (view c DONE)) p
       (subst (λ (xs : List ℤ). length xs ≤ 22) (sym (take_all 22 args few)) few) out
 
-  seen : (p : ℕ) → (p < 24) ⊎ (48 ≤ p) → view cache_after p ≡ view c p
+  seen : (p : ℕ) → (p < FUNCTION) ⊎ (SEAL < p) → view cache_after p ≡ view c p
   seen p out = view_missed sealing c p (missed p out)
 
   same_heap : heap_in z cache_after ≡ h
@@ -152,7 +153,7 @@ module _ (image : Image) (tx : ℕ) (args : List ℤ) (c : Cache) (d a : ℕ) (e
   attempt_before = ap attempt_of attempt ∙ attempt_small a (omega arith)
 
   attempt_after : attempt_in z (view cache_after) ≡ a
-  attempt_after = ap attempt_of (seen 18 (inl (omega arith))) ∙ attempt_before
+  attempt_after = ap attempt_of (seen ATTEMPT (inl (omega arith))) ∙ attempt_before
 
   pub empty_after : count_in z (view cache_after) ≡ 0
   empty_after =
@@ -164,7 +165,7 @@ module _ (image : Image) (tx : ℕ) (args : List ℤ) (c : Cache) (d a : ℕ) (e
       (trace_in es)
   run_is =
       run_same image tx args cache_after d a h h end es (omega arith) (omega arith)
-      (seen 17 (inl (omega arith)) ∙ done) (seen 18 (inl (omega arith)) ∙ attempt)
+      (seen DONE (inl (omega arith)) ∙ done) (seen ATTEMPT (inl (omega arith)) ∙ attempt)
       empty_after same_heap (λ u less kept. refl) ran sound
 
   pub owes_after : plays.due_on image s cache_after
@@ -175,7 +176,7 @@ module _ (image : Image) (tx : ℕ) (args : List ℤ) (c : Cache) (d a : ℕ) (e
         records = records_end 0 es;
       }
   owes_after = owes_same image tx args cache_after a h h end es (omega arith)
-      (seen 18 (inl (omega arith)) ∙ attempt) empty_after same_heap (λ u less kept. refl) ran
+      (seen ATTEMPT (inl (omega arith)) ∙ attempt) empty_after same_heap (λ u less kept. refl) ran
 
   pub call_is : plays.due_call image tx args c
       ≡ crash.due_call z a (call_of d tx args) h (result_of end) (trace_in es)

@@ -48,7 +48,7 @@ misses_flushes : (l n p : ℕ) → Misses p (flushes_from l n)
 misses_flushes l zero p = tt
 misses_flushes l (suc n) p = misses_flushes (suc l) n p
 
--- a seal stores only to words 24 to 47
+-- a seal stores only to the words from the function to the seal
 pub misses_seal : (f : ℤ) (args : List ℤ) (k : ℤ) (p : ℕ) → length args ≤ 22 → (p < 24) ⊎ (48 ≤ p)
     → Misses p (seal_events f args k)
 unfolding seal_events unsealed_events payload_events sealing_events
@@ -97,7 +97,7 @@ misses_run z a n p h (e ∷ es) less =
     (misses_run z a (records_past n e) p (heap_past h e) es less)
 
 -- the view of a cache is one of its images
-view_image : (c : Cache) → IsImage c (view c)
+pub view_image : (c : Cache) → IsImage c (view c)
 unfolding view
 view_image c l = ((c l).newest, inl refl, λ p on. ap (λ (i : ℕ). (c i).newest p) on)
 

@@ -8,7 +8,7 @@ use Rattle.cache_model.specs.Image.{Images, HasOne}
 use Rattle.cache_model.specs.During.{during}
 use Rattle.cache_model.proofs.Views.{view_same, view_other, view_flush, view_fence}
 use Rattle.cache_model.proofs.During.{play_append}
-use Rattle.pool_layout.specs.declared.places.TheConstants.{DONE, ATTEMPT}
+use Rattle.pool_layout.specs.declared.places.TheConstants.{DONE, ATTEMPT, SEAL}
 use Rattle.pool_layout.specs.declared.limits.Sizes.{Sizes}
 use Rattle.pool_layout.specs.declared.places.Layout.{Layout}
 use Rattle.pool_layout.specs.declared.places.Place.TheVariants.{RecordWord, RecordOld, RecordStamp}
@@ -147,7 +147,8 @@ module _ (image : Image) (super : Words) (tx : ℕ) (args : List ℤ) (c : Cache
     cache_after = play middle reset
 
     attempt_middle : attempt_in z (view middle) ≡ a
-    attempt_middle = ap attempt_of (view_missed first c 18 (misses_restore z 18 one (omega arith))
+    attempt_middle = ap attempt_of (view_missed first c ATTEMPT
+        (misses_restore z ATTEMPT one (omega arith))
         ∙ ap (λ (v : Words). v ATTEMPT) seen) ∙ attempt_one
 
     back_is : due_back z (suc m) c ≡ first ++ reset
@@ -156,20 +157,20 @@ module _ (image : Image) (super : Words) (tx : ℕ) (args : List ℤ) (c : Cache
         ∙ ap (λ (b : ℕ). first ++ reset_events z b) attempt_middle
 
     -- after the reset
-    reset_other : (p : ℕ) → p ≢ 18 → view cache_after p ≡ view middle p
+    reset_other : (p : ℕ) → p ≢ ATTEMPT → view cache_after p ≡ view middle p
     reset_other p ne =
         view_fence (apply (apply middle (Store ATTEMPT (pos (a + 1)))) (Flush 2)) p
         ∙ view_flush (apply middle (Store ATTEMPT (pos (a + 1)))) 2 p
-        ∙ view_other middle 18 p (pos (a + 1)) ne
+        ∙ view_other middle ATTEMPT p (pos (a + 1)) ne
 
     attempt_after : view cache_after ATTEMPT ≡ pos (suc a)
     attempt_after =
-        view_fence (apply (apply middle (Store ATTEMPT (pos (a + 1)))) (Flush 2)) 18
-        ∙ view_flush (apply middle (Store ATTEMPT (pos (a + 1)))) 2 18
-        ∙ view_same middle 18 (pos (a + 1))
+        view_fence (apply (apply middle (Store ATTEMPT (pos (a + 1)))) (Flush 2)) ATTEMPT
+        ∙ view_flush (apply middle (Store ATTEMPT (pos (a + 1)))) 2 ATTEMPT
+        ∙ view_same middle ATTEMPT (pos (a + 1))
         ∙ ap pos (let e : a + 1 ≡ suc a = omega arith in e)
 
-    low_after : (p : ℕ) → p < 48 → p ≢ 18 → view cache_after p ≡ one p
+    low_after : (p : ℕ) → p ≤ SEAL → p ≢ ATTEMPT → view cache_after p ≡ one p
     low_after p less ne = reset_other p ne
         ∙ view_missed first c p (misses_restore z p one (omega arith)) ∙ view_one c one only p
 
@@ -218,7 +219,7 @@ module _ (image : Image) (super : Words) (tx : ℕ) (args : List ℤ) (c : Cache
         back_is
         ∙ ap (λ (rest : List CacheEvent). (first ++ reset) ++ rest)
         (run_same image tx args cache_after d (suc a) h r end es owed.done_fits (omega arith)
-        (low_after 17 (omega arith) (λ e. absurd (omega arith)) ∙ owed.done) attempt_after
+        (low_after DONE (omega arith) (λ e. absurd (omega arith)) ∙ owed.done) attempt_after
         empty_after heap_of_after alike ran sound)
         ∙ append_assoc first reset (run_list (suc a))
         ∙ ap (λ (es : List CacheEvent). es ++ (reset ++ run_list (suc a)))

@@ -34,7 +34,7 @@ use Rattle.code_meaning.specs.Code.{free_in, new_in, load_spot, store_spot, IsOv
 use Rattle.code_meaning.specs.Deeds.{Deed, Writes, Heads, if_ok, zeros, site, deeds_new, deeds_at}
 use Rattle.code_meaning.specs.Deeds.{deeds_of, deeds_on, deeds}
 use Rattle.code_meaning.proofs.More.{end, done}
-use Rattle.insert_law.specs.Moved.{code_in, begins, stands, moved_site, moved_deed, moved_deeds}
+use Rattle.insert_law.specs.Moved.{code_of_function, begins, stands, moved_site, moved_deed, moved_deeds}
 use Rattle.insert_law.specs.inside.Moved.{moved_frames, moved_state, move_moved}
 use Rattle.insert_law.specs.Law.{HasResult, LoggedEndLaw, MovedDeedsLaw}
 use Rattle.insert_law.proofs.Standing.{function_at, standing}
@@ -120,7 +120,7 @@ module _ (marks : MarkTable) (ir : Ir) (formed : IsWellFormed ir) where
   moves_gives (frame f p regs to ∷ below) v w t = refl
 
   first_place : (g : ℕ) → begins marks us g 0 ≡ 0
-  first_place g = first (flags_from marks g 0 (code_in us g)) (code_in us g)
+  first_place g = first (flags_from marks g 0 (code_of_function us g)) (code_of_function us g)
     where
       first : (flags : List Bool) (code : List Instruction)
           → place_in (places_from flags 0 0 code) 0 ≡ 0
@@ -145,7 +145,8 @@ module _ (marks : MarkTable) (ir : Ir) (formed : IsWellFormed ir) where
   -- q: the new place of the instruction; the next instruction begins right after it
   acts : (i : Instruction) (f p q : ℕ) (regs : List ℤ) (below : List Frame) (w : PoolMap) (t : ℕ)
       → begins marks us f (suc p) ≡ suc q →
-      act M (Some (led (places_from (flags_from marks f 0 (code_in us f)) 0 0 (code_in us f))
+      act M (Some (led (places_from (flags_from marks f 0 (code_of_function us f)) 0 0
+      (code_of_function us f))
       (flagged marks f p i) i)) f q regs (moved_frames marks us below) w t ≡ move_moved marks us
       (act ir (Some i) f p regs below w t)
   acts (Const to v) f p q regs below w t e =
@@ -303,7 +304,8 @@ module _ (marks : MarkTable) (ir : Ir) (formed : IsWellFormed ir) where
   follows_own f p regs below w t i e no_log =
       let s = standing marks ir formed f p i e in
       let q : ℕ = stands marks us f p in
-      let table : List ℕ = places_from (flags_from marks f 0 (code_in us f)) 0 0 (code_in us f) in
+      let table : List ℕ = places_from (flags_from marks f 0 (code_of_function us f)) 0 0
+      (code_of_function us f) in
       let act_is : instruction_step ir (Here f p regs below w t) ≡ act ir (Some i) f p regs below w
       t = ap (λ (o : Option Instruction). act ir o f p regs below w t) e in
       let self_is : instruction_step M (Here f q regs (moved_frames marks us below) w t)

@@ -24,7 +24,7 @@ use Rattle.instrument.specs.Insert.{logged_functions, logged_program}
 use Rattle.code_meaning.proofs.Lists.{all_at}
 use Rattle.code_meaning.specs.Deeds.{site}
 use Rattle.instrument.proofs.LoggedCode.{own_length}
-use Rattle.insert_law.specs.Moved.{code_in, begins, logs_before, stands}
+use Rattle.insert_law.specs.Moved.{code_of_function, begins, logs_before, stands}
 use Rattle.insert_law.specs.Law.{LoggedStoreLaw, FillLaw}
 
 get_after : {A : Type 0} (pre rest : List A) (k : ℕ) → slice_get (pre ++ rest) (length pre + k)
@@ -142,8 +142,8 @@ module _ (marks : MarkTable) (ir : Ir) (formed : IsWellFormed ir) where
   -- function f of the code with its logs, at an instruction
   pub record Stands (f p : ℕ) (i : Instruction) : Type 0 where
     pub self : is_log i ≡ false → instruction_at L.functions f (stands marks ir.functions f p)
-        ≡ Some (led (places_from (flags_from marks f 0 (code_in ir.functions f)) 0 0
-        (code_in ir.functions f)) (flagged marks f p i) i)
+        ≡ Some (led (places_from (flags_from marks f 0 (code_of_function ir.functions f)) 0 0
+        (code_of_function ir.functions f)) (flagged marks f p i) i)
     pub next : is_log i ≡ false → begins marks ir.functions f (suc p)
         ≡ suc (stands marks ir.functions f p)
     pub skipped : is_log i ≡ true → begins marks ir.functions f (suc p)
@@ -183,22 +183,23 @@ module _ (marks : MarkTable) (ir : Ir) (formed : IsWellFormed ir) where
       let o = found_in f p (slice_get ir.functions f) i e in
       let u : IrFunction = o.0 in
       let found : slice_get ir.functions f ≡ Some u = o.1 in
-      let code : code_in ir.functions f ≡ u.code =
+      let code : code_of_function ir.functions f ≡ u.code =
       ap (λ (v : Option IrFunction). option_map_or (λ (x : IrFunction). x.code) v []) found in
-      let flags : List Bool = flags_from marks f 0 (code_in ir.functions f) in
-      let table : List ℕ = places_from flags 0 0 (code_in ir.functions f) in
+      let flags : List Bool = flags_from marks f 0 (code_of_function ir.functions f) in
+      let table : List ℕ = places_from flags 0 0 (code_of_function ir.functions f) in
       let flag : Bool = flagged marks f p i in
       let zero_p : 0 + p ≡ p = omega arith in
-      let inside : slice_get (code_in ir.functions f) p ≡ Some i =
+      let inside : slice_get (code_of_function ir.functions f) p ≡ Some i =
       ap (λ (is : List Instruction). slice_get is p) code ∙ o.2 in
       let flag_at_p : flag_at flags (0 + p) ≡ flag =
-      ap (flag_at flags) zero_p ∙ flag_is marks f 0 (code_in ir.functions f) p i inside
+      ap (flag_at flags) zero_p ∙ flag_is marks f 0 (code_of_function ir.functions f) p i inside
       ∙ ap (λ (n : ℕ). flagged marks f n i) zero_p in
-      let at : IsAt table flags (logged_from table flags 0 (code_in ir.functions f))
+      let at : IsAt table flags (logged_from table flags 0 (code_of_function ir.functions f))
       (begins marks ir.functions f p) (begins marks ir.functions f (suc p)) flag i =
-      subst (λ (b : Bool). IsAt table flags (logged_from table flags 0 (code_in ir.functions f))
+      subst (λ (b : Bool). IsAt table flags
+      (logged_from table flags 0 (code_of_function ir.functions f))
       (begins marks ir.functions f p) (begins marks ir.functions f (suc p)) b i) flag_at_p
-      (at_is table flags 0 0 [] (code_in ir.functions f) p (2 ^ 32 - 1) i refl inside) in
+      (at_is table flags 0 0 [] (code_of_function ir.functions f) p (2 ^ 32 - 1) i refl inside) in
       let before : logs_before marks f p (instruction_at ir.functions f p) ≡ logs flag i =
       ap (logs_before marks f p) e in
       let place : stands marks ir.functions f p ≡ begins marks ir.functions f p

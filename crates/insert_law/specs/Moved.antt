@@ -12,13 +12,14 @@ use Rattle.instrument.specs.Insert.{logs, places_from, flagged, flags_from}
 use Rattle.ir.specs.Moving.{place_in}
 use Rattle.code_meaning.specs.Deeds.{Deed, Reads, Writes, Heads}
 
-abbrev pub code_in : List IrFunction → ℕ → List Instruction
-code_in functions f = option_map_or (λ (u : IrFunction). u.code) (slice_get functions f) []
+abbrev pub code_of_function : List IrFunction → ℕ → List Instruction
+code_of_function functions f = option_map_or (λ (u : IrFunction). u.code) (slice_get functions f) []
 
 -- the new place at which the instruction at place p of function f begins, with its log
 abbrev pub begins : MarkTable → List IrFunction → (f p : ℕ) → ℕ
-begins marks functions f p = place_in (places_from (flags_from marks f 0 (code_in functions f)) 0 0
-    (code_in functions f)) p
+begins marks functions f p = place_in
+    (places_from (flags_from marks f 0 (code_of_function functions f)) 0 0
+    (code_of_function functions f)) p
 
 abbrev pub logs_before : MarkTable → (f p : ℕ) → Option Instruction → List Instruction
 logs_before marks f p None = []

@@ -35,8 +35,8 @@ pub trait Sink {
         ensures failed { OnWriteFailed result (Rose (faults self.old) (faults self.new)) }
         ensures count { faults self.old ≤ faults self.new };
 
-    /// Ends the sink after its last write. A sink that makes what it took stand only then, as a
-    /// file that takes the place of an older one, does so here.
+    /// Commits what was written, for sinks that need it: a file that replaces an older one does so
+    /// here.
     fn finish(&mut self) -> Result<(), WriteFault>
         ensures kept { Keeps (written self.old) (written self.new) }
         ensures failed { OnErr result (Rose (faults self.old) (faults self.new)) }

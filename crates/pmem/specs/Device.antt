@@ -1,7 +1,5 @@
--- A device of persistent memory. It has lines, a cache of them, a switch, the number of events left
--- before the power goes (if that is bounded), the number of events before an armed fault (if the
--- device shows it and one is armed), and a count of faults, which stays at its last value once it
--- has reached it.
+-- A device of persistent memory: its lines, its cache and its switch; how many events are left; at
+-- which event a fault is armed; and a count of faults, which never wraps.
 use Rattle.std.specs.Prelude.{ℕ, ◌-◌, ◌^◌, ◌<◌, ◌≡◌, ◌≢◌, ◌⊎◌, Bool, true, false, Option, Some}
 use Rattle.std.specs.Prelude.{None}
 use Rattle.cache_model.specs.Event.{CacheEvent}

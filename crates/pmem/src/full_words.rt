@@ -10,9 +10,8 @@ use std::alloc::Global;
 /// How many words share a flag.
 const CHUNK: u64 = 128;
 
-/// Where the searches began, how many words from there on, two lines apart, are known not to be 0,
-/// and by a flag for each chunk of these words that none of it is 0. A chunk past the last flag has
-/// none.
+/// Words, two lines apart, that are known not to be 0: a run from where the searches began, and
+/// whole chunks, by a flag for each. A chunk past the last flag has none.
 #[derive(Drop)]
 pub struct FullWords {
     first: u64,

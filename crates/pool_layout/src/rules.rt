@@ -142,7 +142,8 @@ impl Rules {
     #[tactic(auto, using(std::proofs::lemmas::Int::wraps))]
     fn is_sealed(&self, bytes: &[u8]) -> bool
         requires { 8 * layout_words self.now.layout ≤ length bytes.now }
-        ensures { result ≡ image.is_sealed_in self.now.layout.version (bytes_are.word_in bytes.now) }
+        ensures { result
+            ≡ image.is_sealed_in self.now.layout.version (bytes_are.word_in bytes.now) }
     {
         is_next(self.word(bytes, Place::Seal), self.word(bytes, Place::Done))
     }

@@ -17,7 +17,7 @@ use Rattle.pool_layout.specs.Places.{at, line_of, pool_of}
 use Rattle.crash_law.specs.Due.{Entry, Plain, Logged, word_of_entry, run_events, flush_all}
 use Rattle.crash_law.specs.Due.{lines_of, is_listed, heap_after}
 use Rattle.crash_law.specs.Effects.{entry, trace_of, effect_events}
-use Rattle.crash_law.proofs.Effects.{step_events}
+use Rattle.crash_law.proofs.Effects.{word_entry, step_events}
 use Rattle.pm_machine.specs.declared.effect.Effect.{Effect}
 use Rattle.pm_machine.specs.declared.effect.Effect.TheVariants.{Loads, Scans, Stores, Logs, Flushes}
 use Rattle.pm_machine.specs.declared.effect.Effect.TheVariants.{Fences, Quiet}
@@ -130,15 +130,6 @@ module _ (z : Sizes) (a : ℕ) where
   tidy_events (Flushes l ∷ es) ls n heap tidy = flushed_end (Flushes l ∷ es) ls n heap tidy
   tidy_events (Fences ∷ es) ls n heap tidy = flushed_end (Fences ∷ es) ls n heap tidy
   tidy_events (Quiet ∷ es) ls n heap tidy = tidy_events es ls n heap tidy
-
--- the word of an entry, logged or not
-word_entry : (last : Option ℕ) (w : ℕ) (x : ℤ) → word_of_entry (entry last w x) ≡ w
-word_entry None w x = refl
-word_entry (Some u) w x = go (u == w)
-  where
-    go : (b : Bool) → word_of_entry (cond b (Logged w x) (Plain w x)) ≡ w
-    go true = refl
-    go false = refl
 
 or_swap : (x y : Bool) → (x || (y || false)) ≡ (y || x)
 or_swap true true = refl

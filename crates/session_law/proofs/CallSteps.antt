@@ -25,12 +25,12 @@ use Rattle.session_law.specs.Words.{AreWords}
 use Rattle.session_law.specs.Agrees.{Agrees}
 use Rattle.session_law.specs.State.{Standing, Ready, Down, Unusable, SourceState}
 use Rattle.session_law.specs.Holds.{IsResting, HoldsAs}
-use Rattle.session_law.specs.Law.{IsRun, TakesBy, CallStepsLaw}
+use Rattle.session_law.specs.Law.{RanToEnd, TakesBy, CallStepsLaw}
 use Rattle.session_law.proofs.Reading.{numbers_small, stands_ready, stands_numbers}
 use Rattle.session_law.proofs.Calls.{call_counts}
 use Rattle.session_law.proofs.MarkedCalls.{marked_call_counts}
 
-played_out : (r : AbortAnswer) → IsRun (answer_of_marked_call r) → IsPlayedOut r
+played_out : (r : AbortAnswer) → RanToEnd (answer_of_marked_call r) → IsPlayedOut r
 played_out (aborted.Done v l) run = tt
 played_out (aborted.Aborted kind) run = tt
 played_out (aborted.Off p) run = run
@@ -41,7 +41,7 @@ played_out aborted.NoMemory run = run
 
 module _ (program : Program) (super : Words) (agrees : Agrees program)
     (d b : Device) (s : SourceState) (resting : IsResting program super d s)
-    (args : List ℤ) (words : AreWords args) (tx : ℕ) (a : Answer) (run : IsRun a) (n : Mode)
+    (args : List ℤ) (words : AreWords args) (tx : ℕ) (a : Answer) (run : RanToEnd a) (n : Mode)
     (k k1 : ℕ) where
   abbrev Taken : Bool → Type 0
   Taken marked =
@@ -62,13 +62,13 @@ module _ (program : Program) (super : Words) (agrees : Agrees program)
           let good = resting.before.good in
           call_counts program super agrees d s resting tx args takes words
           (numbers_small (view d.cache) s.done good.attempt good.done good.attempt_is numbers) b
-          mark is.tx_answer k k1 (subst IsRun is.answer run)
+          mark is.tx_answer k k1 (subst RanToEnd is.answer run)
           (is.called.ready resting.on (stands_ready (view d.cache) good.mark numbers))
       go false numbers =
           let same = (is.called.numbers resting.on
           (stands_numbers (view d.cache) resting.before.good.mark numbers)).0 in
-          absurd (subst (λ (r : CallAnswer). IsRun (answer_of_call r)) same
-          (subst IsRun is.answer run))
+          absurd (subst (λ (r : CallAnswer). RanToEnd (answer_of_call r)) same
+          (subst RanToEnd is.answer run))
   by_mark takes true mark is =
       go (is_number (view d.cache DONE) && is_number (view d.cache ATTEMPT)) refl
     where
@@ -77,13 +77,13 @@ module _ (program : Program) (super : Words) (agrees : Agrees program)
           let good = resting.before.good in
           marked_call_counts program super agrees d s resting tx args takes words
           (numbers_small (view d.cache) s.done good.attempt good.done good.attempt_is numbers) b
-          mark is.tx_answer k k1 (played_out is.tx_answer (subst IsRun is.answer run))
+          mark is.tx_answer k k1 (played_out is.tx_answer (subst RanToEnd is.answer run))
           (is.called.ready resting.on (stands_ready (view d.cache) good.mark numbers))
       go false numbers =
           let same = (is.called.numbers resting.on
           (stands_numbers (view d.cache) resting.before.good.mark numbers)).0 in
-          absurd (subst (λ (r : AbortAnswer). IsRun (answer_of_marked_call r)) same
-          (subst IsRun is.answer run))
+          absurd (subst (λ (r : AbortAnswer). RanToEnd (answer_of_marked_call r)) same
+          (subst RanToEnd is.answer run))
 
   by_count : (count : ℕ) (same : Bool) → (count == length args) ≡ same
       → tx_parameters program.image tx ≡ Some count
@@ -91,11 +91,11 @@ module _ (program : Program) (super : Words) (agrees : Agrees program)
   by_count count true same takes h =
       by_mark (takes ∙ ap (λ (i : ℕ). Some i) (eqb-true count (length args) same))
       (rolls_back_of program tx) refl h
-  by_count count false same takes h = absurd (subst IsRun h.0 run)
+  by_count count false same takes h = absurd (subst RanToEnd h.0 run)
 
   by_parameters : (count : Option ℕ) → tx_parameters program.image tx ≡ count
       → commanded.CallsTo count program tx args d a n b k k1 → Taken (rolls_back_of program tx)
-  by_parameters None takes h = absurd (subst IsRun h.0 run)
+  by_parameters None takes h = absurd (subst RanToEnd h.0 run)
   by_parameters (Some count) takes h = by_count count (count == length args) refl takes h
 
   pub call_taken : (number : Option ℕ) → number ≡ Some tx
@@ -106,7 +106,7 @@ module _ (program : Program) (super : Words) (agrees : Agrees program)
 
 module _ (program : Program) (super : Words) (agrees : Agrees program) (name : List ℕ)
     (args : List ℤ) (words : AreWords args) (tx : ℕ) (m n : Mode) (d b : Device) (s : SourceState)
-    (a : Answer) (run : IsRun a) (k k1 : ℕ) (is : call_number program name ≡ Some tx)
+    (a : Answer) (run : RanToEnd a) (k k1 : ℕ) (is : call_number program name ≡ Some tx)
     (h : commanded.Calls program name args m d a n b k k1) where
   abbrev TakenCall : Type 0
   TakenCall =
@@ -118,8 +118,8 @@ module _ (program : Program) (super : Words) (agrees : Agrees program) (name : L
   in_mode mode.Ready calls resting =
       call_taken program super agrees d b s (resting refl) args words tx a run n k k1
       (call_number program name) is calls
-  in_mode mode.Down calls resting = absurd (subst IsRun calls.0 run)
-  in_mode (mode.Unusable trap) calls resting = absurd (subst IsRun calls.0 run)
+  in_mode mode.Down calls resting = absurd (subst RanToEnd calls.0 run)
+  in_mode (mode.Unusable trap) calls resting = absurd (subst RanToEnd calls.0 run)
 
   at_rest : (st : Standing) → HoldsAs st program super m d s → m ≡ mode.Ready
       → IsResting program super d s

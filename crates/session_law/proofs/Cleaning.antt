@@ -13,27 +13,24 @@ use Rattle.pool_layout.specs.declared.limits.Sizes.{Sizes}
 use Rattle.clobber_log.specs.Logs.{attempt_in}
 use Rattle.crash_law.specs.Law.{IsAtRest}
 use Rattle.crash_law.proofs.Rest.{reset_at_rest}
+use Rattle.undo_law.proofs.Kept.{Has}
 use Rattle.recovery.specs.Due.{due_clean}
 use Rattle.cut_law.proofs.Misses.{Misses}
 use Rattle.session_law.proofs.Ones.{rest_newest}
 
--- each version of the word's line has this value at word p
-abbrev pub AreAt : ℕ → ℤ → Cache → Type 0
-AreAt p x c = (v : Words) → IsVersion (c (p / 8)) v → v p ≡ x
-
-at_images : (p : ℕ) (x : ℤ) (c : Cache) → AreAt p x c → Images (λ (image : Words). image p ≡ x) c
+at_images : (p : ℕ) (x : ℤ) (c : Cache) → Has p x c → Images (λ (image : Words). image p ≡ x) c
 at_images p x c all image is = let version = is (p / 8) in
     version.2 p refl ∙ all version.0 version.1
 
-at_store : (p : ℕ) (x : ℤ) (c : Cache) (q : ℕ) (y : ℤ) → p ≢ q → AreAt p x c
-    → AreAt p x (apply c (Store q y))
+at_store : (p : ℕ) (x : ℤ) (c : Cache) (q : ℕ) (y : ℤ) → p ≢ q → Has p x c
+    → Has p x (apply c (Store q y))
 at_store p x c q y ne all v is = ⊎_elim
     (λ (old : IsVersion (c (p / 8)) v). all v old)
     (λ (new : (p / 8 ≡ q / 8) × (v ≡ put (c (p / 8)).newest q y)). ap (λ (u : Words). u p) new.1
     ∙ put_other (c (p / 8)).newest q p y ne ∙ all (c (p / 8)).newest (inl refl))
     (store_version c q y (p / 8) v is)
 
-pub missed_at : (p : ℕ) (x : ℤ) (es : List CacheEvent) (c : Cache) → Misses p es → AreAt p x c
+pub missed_at : (p : ℕ) (x : ℤ) (es : List CacheEvent) (c : Cache) → Misses p es → Has p x c
     → during c es (Images (λ (image : Words). image p ≡ x))
 missed_at p x [] c misses all = at_images p x c all
 missed_at p x (Store q y ∷ es) c misses all = (
@@ -52,7 +49,7 @@ missed_at p x (Fence ∷ es) c misses all = (
       (λ v is. all v (fence_version c (p / 8) v is)),
 )
 
-pub rest_at : (p : ℕ) (c : Cache) → IsAtRest c → AreAt p (view c p) c
+pub rest_at : (p : ℕ) (c : Cache) → IsAtRest c → Has p (view c p) c
 unfolding view
 rest_at p c rest v is = ap (λ (u : Words). u p) (rest_newest c rest (p / 8) v is)
 

@@ -8,6 +8,7 @@ use Rattle.cache_model.specs.Play.{flush_line, fence_line, apply, play}
 use Rattle.cache_model.proofs.Versions.{store_other}
 use Rattle.pmem.specs.Device.{blanked}
 use Rattle.pmem.proofs.Refused.{all_cache, all_on}
+use Rattle.pool_layout.specs.declared.places.TheConstants.{LAST, DONE, ATTEMPT, MARK, SEAL}
 use Rattle.pool_layout.specs.declared.limits.Sizes.{Sizes}
 use Rattle.pool_layout.specs.declared.places.Place.TheVariants.{RecordStamp, Heap}
 use Rattle.pool_layout.specs.Places as places
@@ -106,7 +107,7 @@ module _ (program : Program) where
   far_line : (l : ℕ) → 2 ≤ l → new l ≡ blank_line
   far_line l far = stays_blank events blank l (avoids l far) refl
 
-  far_word : (p : ℕ) → 16 ≤ p → view new p ≡ pos 0
+  far_word : (p : ℕ) → LAST ≤ p → view new p ≡ pos 0
   unfolding view
   far_word p far = ap (λ (y : Line). y.newest p) (far_line (p / 8) (omega arith))
 
@@ -117,7 +118,7 @@ module _ (program : Program) where
   rest (suc (suc l)) = ap (λ (y : Line). y.older) (far_line (suc (suc l)) (omega arith))
 
   -- the words of lines 0 and 1
-  super_is : (k : ℕ) → k < 16 → view new k ≡ super_words program k
+  super_is : (k : ℕ) → k < LAST → view new k ≡ super_words program k
   unfolding view apply put sizes_events digest_events
   super_is zero less = refl
   super_is (suc zero) less = refl
@@ -152,12 +153,12 @@ module _ (program : Program) where
   good : Good (pool_with program.image (super_words program)) 0 zeros (view new)
   good = record {
     super = super_is;
-    mark = far_word 19 (omega arith);
-    done = far_word 17 (omega arith);
+    mark = far_word MARK (omega arith);
+    done = far_word DONE (omega arith);
     done_fits = omega arith;
-    unsealed = λ e. never (far_word 47 (omega arith)) e;
+    unsealed = λ e. never (far_word SEAL (omega arith)) e;
     attempt = 0;
-    attempt_is = far_word 18 (omega arith);
+    attempt_is = far_word ATTEMPT (omega arith);
     attempt_fits = omega arith;
     log = record {
       stamps = λ j less. (0, omega arith, stamp_is j);
@@ -168,7 +169,7 @@ module _ (program : Program) where
 
   none : count_in z (view new) ≡ 0
   none =
-      count_at z (view new) 0 (far_word 18 (omega arith)) (omega arith)
+      count_at z (view new) 0 (far_word ATTEMPT (omega arith)) (omega arith)
       ∙ count_is (places.pool_of z) 0 0 (view new) (omega arith) (λ j less. absurd (omega arith))
       (λ j ge less e. not_valid j e)
 
@@ -200,7 +201,7 @@ created_rests program d b all =
     let before : IsBefore (pool_with program.image (super_words program)) 0 zeros (pos 0)
     (view (play blank events)) = record {
       good = good program;
-      last_is = far_word program 16 (omega arith);
+      last_is = far_word program LAST (omega arith);
     } in (
       refl,
       resting_at program (super_words program) b (created program) zeros

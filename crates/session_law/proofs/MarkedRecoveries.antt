@@ -73,7 +73,7 @@ use Rattle.session_law.proofs.MarkedRuns.{MarkedMeant, marked_meant, comes_same,
 use Rattle.session_law.proofs.MarkedRuns.{marked_trapped}
 use Rattle.session_law.proofs.MarkedCalls.{marked_redo_retires, undone_empty}
 
--- where the call is undone, word 16 has to be as it was
+-- where the call is undone, the last value is as it was
 abbrev pub KeepsLast : End → (last : ℤ) → Words → Type 0
 KeepsLast (Halted v) last image = Unit {0}
 KeepsLast (Trapped kind) last image = image LAST ≡ last
@@ -224,7 +224,7 @@ module _ (program : Program) (super : Words) (agrees : Agrees program)
           ),
         )
 
-    -- word 16 is as it was where the run is aborted
+    -- the last value is as it was where the run is aborted
     last_is : (x : End) (kind : TrapKind) → x ≡ Trapped kind → KeepsLast x s.last image
         → image LAST ≡ s.last
     last_is x kind is keeps = subst (λ (y : End). KeepsLast y s.last image) is keeps

@@ -1,16 +1,13 @@
 -- A cache at rest has one image, its view, and a power cut leaves a cache with that image alone.
-use Rattle.std.proofs.Common.{◌≡◌, inl, ⊎_elim, ℕ, ◌/◌, List, refl, sym, ap, ◌∙◌, subst}
+use Rattle.std.proofs.Common.{◌≡◌, ⊎_elim, ℕ, ◌/◌, List, refl, sym, ap, ◌∙◌, subst}
 use Rattle.cache_model.specs.Cache.{Words, Cache, view}
-use Rattle.cache_model.specs.Image.{Among, IsVersion, IsImage, Images, HasOne}
+use Rattle.cache_model.specs.Image.{Among, IsVersion, Images, HasOne}
 use Rattle.cache_model.specs.Collapse.{left_cache}
 use Rattle.cache_model.specs.declared.choice.Rest.{Rest}
 use Rattle.cache_model.specs.declared.choice.Pick.{Pick}
 use Rattle.cache_model.proofs.Collapses.{left_image}
 use Rattle.crash_law.specs.Law.{IsAtRest}
-
-view_image : (c : Cache) → IsImage c (view c)
-unfolding view
-view_image c l = ((c l).newest, inl refl, λ p on. ap (λ (i : ℕ). (c i).newest p) on)
+use Rattle.cut_law.proofs.Misses.{view_image}
 
 -- each version of a line at rest is its newest
 pub rest_newest : (c : Cache) → IsAtRest c → (l : ℕ) (v : Words) → IsVersion (c l) v

@@ -235,11 +235,13 @@ module _ (program : Program) (agrees : Agrees program) (words : List ℤ)
       takes : tx_parameters program.image tx ≡ Some (length args)
       takes = some.1 ∙ ap (λ (n : ℕ). Some n) (sym long)
 
-      called : (k : ℕ) → k ≤ length args → image (24 + k) ≡ slice_index_or (pos tx ∷ args) k (pos 0)
-      called zero less = ap image (let f : 24 + 0 ≡ 24 = omega arith in f) ∙ is_owed.function.3
+      called : (k : ℕ) → k ≤ length args → image (FUNCTION + k)
+          ≡ slice_index_or (pos tx ∷ args) k (pos 0)
+      called zero less = ap image (let f : FUNCTION + 0 ≡ FUNCTION = omega arith in f)
+          ∙ is_owed.function.3
           ∙ ap pos (sym tx_is)
       called (suc j) less =
-          ap image (let f : 24 + suc j ≡ 25 + j = omega arith in f)
+          ap image (let f : FUNCTION + suc j ≡ 25 + j = omega arith in f)
           ∙ sym (word_at some.0 25 j image (let is = long in omega arith))
           ∙ ap (λ (xs : List ℤ). slice_index_or xs j (pos 0)) (sym args_is)
 

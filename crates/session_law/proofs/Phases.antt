@@ -80,23 +80,24 @@ part_before Q why (e ∷ es) x d b (inr rest) h = part_before Q why es x (spent 
 
 -- the record's own words end before the seal
 
-misses_stores : (xs : List ℤ) (q : ℕ) → q + length xs ≤ 47 → Misses 47 (stores_from q xs)
+misses_stores : (xs : List ℤ) (q : ℕ) → q + length xs ≤ SEAL → Misses SEAL (stores_from q xs)
 misses_stores [] q few = tt
 misses_stores (x ∷ xs) q few = ((λ e. absurd (omega arith)), misses_stores xs (suc q) (omega arith))
 
-misses_flushes : (l n : ℕ) → Misses 47 (flushes_from l n)
+misses_flushes : (l n : ℕ) → Misses SEAL (flushes_from l n)
 misses_flushes l zero = tt
 misses_flushes l (suc n) = misses_flushes (suc l) n
 
-misses_payload : (f : ℤ) (args : List ℤ) → length args ≤ 22 → Misses 47 (payload_events f args)
+misses_payload : (f : ℤ) (args : List ℤ) → length args ≤ 22 → Misses SEAL (payload_events f args)
 unfolding payload_events
 misses_payload f args few =
-    misses_append 47 (stores_from FUNCTION (f ∷ args)) (flushes_from 3 (payload_lines (length args))
-    ++ Fence ∷ []) (misses_stores (f ∷ args) 24 (omega arith))
-    (misses_append 47 (flushes_from 3 (payload_lines (length args))) (Fence ∷ [])
+    misses_append SEAL (stores_from FUNCTION (f ∷ args))
+    (flushes_from 3 (payload_lines (length args))
+    ++ Fence ∷ []) (misses_stores (f ∷ args) FUNCTION (omega arith))
+    (misses_append SEAL (flushes_from 3 (payload_lines (length args))) (Fence ∷ [])
     (misses_flushes 3 (payload_lines (length args))) tt)
 
-misses_tail : (end : End) (c : Cache) → Misses 47 (tail_events end c)
+misses_tail : (end : End) (c : Cache) → Misses SEAL (tail_events end c)
 unfolding retire_events mark_events
 misses_tail (Halted v) c = (
   (λ e. absurd (omega arith)),
@@ -105,16 +106,16 @@ misses_tail (Halted v) c = (
 misses_tail (Trapped kind) c = ((λ e. absurd (omega arith)), tt)
 
 -- the log's events store no word below the heap
-misses_undo : (z : Sizes) (end : End) (c : Cache) → Misses 47 (abort.abort_tail_events z end c)
+misses_undo : (z : Sizes) (end : End) (c : Cache) → Misses SEAL (abort.abort_tail_events z end c)
 unfolding retire_events
 misses_undo z (Halted v) c = (
   (λ e. absurd (omega arith)),
   ((λ e. absurd (omega arith)), ((λ e. absurd (omega arith)), tt)),
 )
 misses_undo z (Trapped kind) c =
-    misses_append 47 (restore_events z (view c))
+    misses_append SEAL (restore_events z (view c))
     (abort.retiring_still (play c (restore_events z (view c))))
-    (misses_restore z 47 (view c) (omega arith)) (
+    (misses_restore z SEAL (view c) (omega arith)) (
       (λ e. absurd (omega arith)),
       ((λ e. absurd (omega arith)), ((λ e. absurd (omega arith)), tt)),
     )
@@ -130,16 +131,16 @@ sealed_rest z f args done c rest =
     (due_seal_rest z 0 call [] c rest (λ d at_rest. at_rest))
 
 sealed_word : (f : ℤ) (args : List ℤ) (k : ℤ) (c : Cache)
-    → view (play c (seal_events f args k)) 47 ≡ k
+    → view (play c (seal_events f args k)) SEAL ≡ k
 unfolding seal_events unsealed_events sealing_events
 sealed_word f args k c =
     let paid : Cache = play c (payload_events f args) in
     ap (λ (d : Cache). view d SEAL) (play_append c (payload_events f args ++ Store SEAL k ∷ [])
     (Flush 5 ∷ Fence ∷ []) ∙ ap (λ (d : Cache). play d (Flush 5 ∷ Fence ∷ []))
     (play_append c (payload_events f args) (Store SEAL k ∷ [])))
-    ∙ view_fence (apply (apply paid (Store SEAL k)) (Flush 5)) 47
-    ∙ view_flush (apply paid (Store SEAL k)) 5 47
-    ∙ view_same paid 47 k
+    ∙ view_fence (apply (apply paid (Store SEAL k)) (Flush 5)) SEAL
+    ∙ view_flush (apply paid (Store SEAL k)) 5 SEAL
+    ∙ view_same paid SEAL k
 
 module _ (program : Program) (super : Words) (agrees : Agrees program)
     (d b : Device) (s : SourceState) (resting : IsResting program super d s) where
@@ -161,12 +162,12 @@ module _ (program : Program) (super : Words) (agrees : Agrees program)
           → Images (HasPhase phase.Unsealed s) b.cache
       unfolding unsealed_events
       unsealed part image is seal =
-          let kept : Images (λ (other : Words). other 47 ≡ view c SEAL) b.cache =
-          part_before (Images (λ (other : Words). other 47 ≡ view c SEAL)) refusal.Off
+          let kept : Images (λ (other : Words). other SEAL ≡ view c SEAL) b.cache =
+          part_before (Images (λ (other : Words). other SEAL ≡ view c SEAL)) refusal.Off
           (payload_events (cast_signed w64 tx) (take 22 args))
           (Store SEAL (number_after (view c DONE))) d b part
-          (missed_at 47 (view c SEAL) (payload_events (cast_signed w64 tx) (take 22 args)) c
-          (misses_payload (cast_signed w64 tx) (take 22 args) few) (rest_at 47 c resting.rest)) in
+          (missed_at SEAL (view c SEAL) (payload_events (cast_signed w64 tx) (take 22 args)) c
+          (misses_payload (cast_signed w64 tx) (take 22 args) few) (rest_at SEAL c resting.rest)) in
           resting.before.good.unsealed (sym (kept image is) ∙ seal)
 
       abbrev cache_after : Cache
@@ -182,34 +183,35 @@ module _ (program : Program) (super : Words) (agrees : Agrees program)
       seal_after = sealed_word (cast_signed w64 tx) (take 22 args) (number_after (view c DONE))
           c ∙ number
 
-      run_misses : Misses 47 (due_run program.image (start program.image tx args) cache_after)
+      run_misses : Misses SEAL (due_run program.image (start program.image tx args) cache_after)
       run_misses =
           let ran : Due = due_on program.image (start program.image tx args) cache_after in
-          misses_append 47 ran.events (tail_events (end_of ran.fate) (play cache_after ran.events))
-          (ran_events program super agrees d s resting tx args takes words small 47
+          misses_append SEAL ran.events (tail_events (end_of ran.fate)
+          (play cache_after ran.events))
+          (ran_events program super agrees d s resting tx args takes words small SEAL
           (omega arith))
           (misses_tail (end_of ran.fate) (play cache_after ran.events))
 
-      marked_misses : Misses 47
+      marked_misses : Misses SEAL
           (abort.due_run program.image (start program.image tx args) cache_after)
       marked_misses =
           let ran : Due = abort.abort_due_on program.image (start program.image tx args)
           cache_after in
-          misses_append 47 ran.events
+          misses_append SEAL ran.events
           (abort.abort_tail_events (sizes_of program) (end_of ran.fate)
           (play cache_after ran.events))
-          (marked_events program super agrees d s resting tx args takes words small 47
+          (marked_events program super agrees d s resting tx args takes words small SEAL
           (omega arith))
           (misses_undo (sizes_of program) (end_of ran.fate) (play cache_after ran.events))
 
-      sealed : (list : List CacheEvent) → Misses 47 list → (between : Device)
+      sealed : (list : List CacheEvent) → Misses SEAL list → (between : Device)
           → between.cache ≡ cache_after → PlaysPart refusal.Off between list b
           → Images (HasPhase phase.Sealed s) b.cache
       sealed list misses between same part =
-          let Q : Cache → Type 0 = Images (λ (other : Words). other 47 ≡ view cache_after SEAL) in
+          let Q : Cache → Type 0 = Images (λ (other : Words). other SEAL ≡ view cache_after SEAL) in
           let all : during cache_after list Q =
-          missed_at 47 (view cache_after SEAL) list cache_after misses
-          (rest_at 47 cache_after after_rest) in
+          missed_at SEAL (view cache_after SEAL) list cache_after misses
+          (rest_at SEAL cache_after after_rest) in
           let kept : Q b.cache = part_during Q refusal.Off list between b part
           (subst (λ (x : Cache). during x list Q) (sym same) all) in
           λ image is. kept image is ∙ seal_after

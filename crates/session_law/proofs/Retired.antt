@@ -13,7 +13,7 @@ use Rattle.cache_model.specs.Image.{Images}
 use Rattle.cache_model.specs.During.{during}
 use Rattle.cache_model.proofs.Views.{view_same, view_flush, view_fence}
 use Rattle.cache_model.proofs.During.{play_append, during_prefix}
-use Rattle.pool_layout.specs.declared.places.TheConstants.{LAST, DONE, ATTEMPT}
+use Rattle.pool_layout.specs.declared.places.TheConstants.{LAST, DONE, ATTEMPT, SEAL}
 use Rattle.pool_layout.specs.declared.limits.Sizes.{Sizes}
 use Rattle.pool_layout.specs.declared.places.Place.TheVariants.{RecordStamp}
 use Rattle.pool_layout.specs.Places.{at, pool_of}
@@ -101,9 +101,9 @@ cut_attempt pool call E W h h' last value image (inl before) =
 cut_attempt pool call E W h h' last value image (inr left) =
     left_attempt pool call E W h h' value image left
 
--- the events that retire a call store words 16 to 18 alone
+-- the events that retire a call store the last value, the count and the attempt alone
 
-retired_other : (c : Cache) (v k x : ℤ) (p : ℕ) → 48 ≤ p → view (play c (retire_events v k x)) p
+retired_other : (c : Cache) (v k x : ℤ) (p : ℕ) → SEAL < p → view (play c (retire_events v k x)) p
     ≡ view c p
 unfolding retire_events
 retired_other c v k x p more =
@@ -115,12 +115,12 @@ retired_other c v k x p more =
       ),
     )
 
-retired_attempt : (c : Cache) (v k x : ℤ) → view (play c (retire_events v k x)) 18 ≡ x
+retired_attempt : (c : Cache) (v k x : ℤ) → view (play c (retire_events v k x)) ATTEMPT ≡ x
 unfolding retire_events
 retired_attempt c v k x =
     let c3 : Cache = apply (apply (apply c (Store LAST v)) (Store DONE k)) (Store ATTEMPT x) in
-    view_fence (apply c3 (Flush 2)) 18 ∙ view_flush c3 2 18
-    ∙ view_same (apply (apply c (Store LAST v)) (Store DONE k)) 18 x
+    view_fence (apply c3 (Flush 2)) ATTEMPT ∙ view_flush c3 2 ATTEMPT
+    ∙ view_same (apply (apply c (Store LAST v)) (Store DONE k)) ATTEMPT x
 
 -- no log record has the stamp of the next attempt, so none is valid
 empty_after : (z : Sizes) (c : Cache) (v k : ℤ) → HasAttempt z (view c)

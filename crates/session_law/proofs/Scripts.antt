@@ -24,7 +24,7 @@ use Rattle.cnvm_script.specs.Commands.{joined_commands, commands_from}
 use Rattle.session_law.specs.Words.{AreWords}
 use Rattle.session_law.specs.Law.{IsWordCommand, ScriptLaw}
 
-either : {A : Type 0} (P : A → Type 0) (b : Bool) (x y : Option A) → IfSome x P → IfSome y P
+pub either : {A : Type 0} (P : A → Type 0) (b : Bool) (x y : Option A) → IfSome x P → IfSome y P
     → IfSome (if b then x else y) P
 either P true x y first second = first
 either P false x y first second = second
@@ -88,7 +88,7 @@ called_words : (name : List ℕ) (o : Option (List ℤ)) → IfSome o AreWords
 called_words name None are = tt
 called_words name (Some args) are = are
 
-call_words : (words : List (List ℕ)) → IfSome (call_command words) IsWordCommand
+pub call_words : (words : List (List ℕ)) → IfSome (call_command words) IsWordCommand
 call_words [] = tt
 call_words (name ∷ args) =
     either IsWordCommand (is_name name) (option_map (Call name) (each argument args)) None

@@ -1,54 +1,22 @@
 -- The events that write an image on blank lines leave its words, and each line has one version.
 use Rattle.std.proofs.Common.{◌≡◌, ◌≢◌, ◌⊎◌, inl, inr, ⊎_elim, ℕ, zero, suc, ◌+◌, ◌*◌, ◌/◌, ◌%◌}
 use Rattle.std.proofs.Common.{◌<◌, ◌≤◌, Bool, true, false, not, if◌then◌else◌, List, [], ◌∷◌, ◌++◌}
-use Rattle.std.proofs.Common.{length, take, drop, get_or, slice_index_or, Option, Some, None, ℤ}
+use Rattle.std.proofs.Common.{length, take, drop, get_or, slice_index_or, ℤ}
 use Rattle.std.proofs.Common.{pos, int_eq, refl, sym, ap, ◌∙◌, subst, arith}
 use Rattle.std.proofs.lemmas.Bool.{cases_eq, cases_lt}
 use Rattle.std.proofs.lemmas.Bool.Decides.{Decides-int_eq}
-use Rattle.std.proofs.lemmas.List.{drop_all, get_or-take, get_or-drop, length-take, length-drop}
+use Rattle.std.proofs.lemmas.List.{get_or-take, get_or-drop, length-take, length-drop}
 use Rattle.std.proofs.lemmas.List.Folds.{list_any_at}
 use Rattle.cache_model.specs.Event.{CacheEvent, Store, Flush, Fence}
-use Rattle.cache_model.specs.Cache.{Words, Line, Cache, view, blank}
-use Rattle.cache_model.specs.Play.{apply, play, fence_at, IsReady}
+use Rattle.cache_model.specs.Cache.{Cache, view, blank}
+use Rattle.cache_model.specs.Play.{apply, play}
 use Rattle.cache_model.proofs.Views.{view_same, view_other, view_flush, view_fence}
-use Rattle.cache_model.proofs.Versions.{store_other}
-use Rattle.cache_model.proofs.Ready.{flush_ready}
 use Rattle.cache_model.proofs.During.{play_append}
 use Rattle.pool_layout.specs.Image.{image_words}
 use Rattle.crash_law.specs.Law.{IsAtRest}
+use Rattle.crash_law.proofs.Rest.{Clean, Nowhere, clean_more, clean_store, clean_flush}
 use Rattle.cnvm_session.specs.Opening.{is_other, store_of, stores_of, has_other, flush_of}
 use Rattle.cnvm_session.specs.Opening.{flushes_of, opening_events}
-
--- each line has one version after the next fence, except those of D
-
-abbrev Clean : (ℕ → Type 0) → Cache → Type 0
-Clean D c = (l : ℕ) → IsReady (c l) ⊎ D l
-
-abbrev Nowhere : ℕ → Type 0
-Nowhere l = ⊥
-
-single_ready_of : (m : Option ℕ) (l : Line) → l.older ≡ [] → (fence_at m l).older ≡ []
-single_ready_of None l e = e
-single_ready_of (Some k) l e = drop_all k l.older (omega (arith, ap (length {A = Words}) e))
-
-clean_more : (D M : ℕ → Type 0) (c : Cache) → ((l : ℕ) → D l → M l) → Clean D c → Clean M c
-clean_more D M c f clean l = ⊎_elim (λ r. inl r) (λ d. inr (f l d)) (clean l)
-
-clean_store : (D : ℕ → Type 0) (c : Cache) (p : ℕ) (x : ℤ) → D (p / 8) → Clean D c
-    → Clean D (apply c (Store p x))
-clean_store D c p x there clean l = ⊎_elim
-    (λ (e : l ≡ p / 8). inr (subst D (sym e) there))
-    (λ (ne : l ≢ p / 8). ⊎_elim (λ r. inl (subst IsReady (sym (store_other c p l x ne)) r))
-    (λ d. inr d) (clean l))
-    (cases_eq l (p / 8))
-
-clean_flush : (D M : ℕ → Type 0) (c : Cache) (k : ℕ) → ((l : ℕ) → D l → (l ≡ k) ⊎ M l) → Clean D c
-    → Clean M (apply c (Flush k))
-clean_flush D M c k f clean l = ⊎_elim
-    (λ r. inl (flush_ready c k l (λ ne. r)))
-    (λ d. ⊎_elim (λ (e : l ≡ k). inl (flush_ready c k l (λ ne. absurd (ne e))))
-    (λ m. inr m) (f l d))
-    (clean l)
 
 fence_rest : (c : Cache) → Clean Nowhere c → IsAtRest (apply c Fence)
 unfolding apply

@@ -1,7 +1,7 @@
--- A program's image agrees with its source if the run of each transaction, from every heap with
--- valid headers, is sound and ends as the transaction comes to on the heap's pool: as the source
--- says, or with a full log exactly where its logged stores are more than the log has records. Each
--- compiled program agrees with its source.
+-- A program's image agrees with its source if, from every heap with valid headers, the run of each
+-- transaction is sound and ends as the source says on the heap's pool, or with a full log, exactly
+-- if it has more logged stores than the log has records. Each compiled program agrees with its
+-- source.
 use Rattle.std.specs.Prelude.{ℕ, ◌^◌, ◌<◌, ◌≤◌, ◌≡◌, List, [], length, Some, ℤ}
 use Rattle.cache_model.specs.Cache.{Words}
 use Rattle.pool_map.specs.PoolFits.{words_of}
@@ -28,9 +28,9 @@ Matches program (Done pool value) (Trapped k) h = ⊥
 Matches program (Trap trap) (Halted v) h = ⊥
 Matches program (Trap trap) (Trapped k) h = k ≡ trap
 
--- The run of a transaction from a heap. A run that ends with a value writes a log record for each
--- of its logged stores, and, with a record for the first store to each heap word, one for each
--- logged store of a marked transaction.
+-- The run of a transaction from a heap. If it ends with a value, it writes one log record for each
+-- of its logged stores. With a record before the first store to each heap word too, it writes as
+-- many as a marked transaction logs.
 pub record RunsAs (program : Program) (h : Words) (tx : ℕ) (args : List ℤ) : Type 0 where
   pub end : End
   pub effects : List Effect

@@ -1,7 +1,7 @@
 -- What a command answers in a session by the source alone, and what the source knows after it. Of
 -- the device it looks only at the image that the command finds: for `power` what the cut left, for
--- any other command the view. Of the image's words it reads the number of transactions done (17),
--- the attempt (18), the mark (19) and the seal (47), and for a marked transaction the heap.
+-- any other command the view. Of the image it reads the number of transactions done, the attempt,
+-- the mark and the seal, and for a marked transaction the heap.
 use Rattle.std.specs.Prelude.{ℕ, suc, ◌≡◌, ◌≢◌, ◌⊎◌, ◌==◌, ◌&&◌, Bool, true, false, List, length}
 use Rattle.std.specs.Prelude.{Option, Some, None, ℤ, pos}
 use Rattle.cache_model.specs.Cache.{Words}
@@ -33,8 +33,8 @@ use Rattle.session_law.specs.Opened.{opened_heap}
 abbrev pub Refused : Answer → SourceState → Answer → SourceState → Type 0
 Refused why s a t = (a ≡ why) × (t ≡ s)
 
--- The transaction is done: with this many logged stores it comes to this value and to the pool that
--- follows.
+-- The transaction is done: it comes to this value and to the next pool, with this many logged
+-- stores.
 abbrev pub IsDoneWith : Program → SourceState → (tx : ℕ) → List ℤ → (value : ℤ) → (logged : ℕ)
     → Standing → SourceState → Type 0
 IsDoneWith program s tx args value logged standing t =
@@ -50,7 +50,7 @@ TrapsAs program s tx args kind =
 abbrev pub IsCutOff : SourceState → (tx : ℕ) → List ℤ → SourceState → Type 0
 IsCutOff s tx args t = t ≡ standing_as (Down (Some (record { tx = tx; args = args }))) s
 
--- no call can follow by the image's numbers, and nothing changes
+-- the image's numbers are at their ends, so no call can follow; nothing changes
 abbrev pub IsOutOfNumbers : SourceState → Words → SourceState → Type 0
 IsOutOfNumbers s image t =
     (is_number (image DONE) && is_number (image ATTEMPT) ≡ false) × (t ≡ s)
@@ -138,8 +138,8 @@ Lasts (Unusable kind) s a t = Refused (answer.RefusedUnusable kind) s a t
 abbrev pub HasSeal : SourceState → Words → Type 0
 HasSeal s image = image SEAL ≡ pos (suc s.done)
 
--- The owed transaction was run to its end: it is done or, if it is marked, done or rolled back. One
--- that was rolled back leaves the heap that it began on, so it was so on the image's heap.
+-- The owed transaction was run to its end: it is done or, if it is marked, done or rolled back. If
+-- it was rolled back, the heap is the one that it began on.
 abbrev pub IsConcluded : (marked : Bool) → Program → Pending → SourceState → Words → Standing
     → SourceState → Type 0
 IsConcluded false program owed s image standing t =
@@ -163,7 +163,7 @@ FindsOwed Ready program s image t = FindsOf None program s image t
 FindsOwed (Down owed) program s image t = FindsOf owed program s image t
 FindsOwed (Unusable kind) program s image t = ⊥
 
--- no attempt can follow those of the valid records, and nothing changes
+-- the attempts are at their end, so no recovery can follow; nothing changes
 abbrev pub HasNumbers : Program → Words → SourceState → SourceState → Type 0
 HasNumbers program image s t =
     (has_numbers (count_in (sizes_of program) image) (attempt_in (sizes_of program) image) ≡ true)
@@ -218,7 +218,7 @@ Recovers (Down None) program s image a t = Rests program s image a t
 Recovers (Down (Some owed)) program s image a t = Redoes program owed s image a t
 Recovers (Unusable kind) program s image a t = ⊥
 
--- the trap of the owed transaction marks the pool; but never that of one that rolls back
+-- a trap of the owed transaction marks the pool, unless the transaction rolls back
 abbrev pub MarksAs : (marked : Bool) → Program → SourceState → Pending → TrapKind → Type 0
 MarksAs false program s owed kind = TrapsAs program s owed.tx owed.args kind
 MarksAs true program s owed kind = ⊥
@@ -231,8 +231,8 @@ IsMarked (Down (Some owed)) program s kind =
     MarksAs (rolls_back_of program owed.tx) program s owed kind
 IsMarked (Unusable trap) program s kind = kind ≡ trap
 
--- The answer of `power`. A pick that doesn't fit changes nothing. Else the mark comes first;
--- without one, what is owed is found and recovered.
+-- The answer of `power`. A pick that doesn't fit changes nothing. Else a pool with a mark is
+-- unusable; without one, what is owed is recovered.
 abbrev pub Powers : Program → SourceState → Words → Answer → SourceState → Type 0
 Powers program s image (answer.RefusedPick line) t = t ≡ s
 Powers program s image (answer.RefusedUnusable kind) t =

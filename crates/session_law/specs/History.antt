@@ -40,7 +40,7 @@ abbrev pub calls_in : Program → List Command → List Pending
 calls_in program [] = []
 calls_in program (c ∷ commands) = call_in program c ++ calls_in program commands
 
--- a call that is answered with a value is done, and one that is aborted is finished too
+-- a call that is answered with a value is done; an aborted one is finished too
 abbrev pub called_by : List Pending → Answer → List Pending
 called_by call (answer.Done value logged) = call
 called_by call (answer.Aborted kind) = call
@@ -53,8 +53,8 @@ is_retired s image = int_eq (image SEAL) (pos (suc s.done))
     && int_eq (image DONE) (pos (suc s.done))
 
 -- After a power cut the owed transaction is finished if the recovery ran it to a value or rolled it
--- back, or if the image shows that it was finished before. A refused cut does nothing, and neither
--- does one that finds a mark.
+-- back, or if the image shows that it was finished before. A refused cut finishes nothing; nor does
+-- one that finds a mark.
 abbrev pub recovered_by : SourceState → Words → Answer → List Pending
 recovered_by s image (answer.RecoveredRedone value logged) = waiting_of s.standing
 recovered_by s image (answer.RecoveredAborted kind) = waiting_of s.standing
@@ -85,9 +85,8 @@ answered_in program (c ∷ commands) [] = []
 answered_in program (c ∷ commands) (a ∷ answers) =
     answered_by program c a ++ answered_in program commands answers
 
--- The pool that one transaction gives from this pool. One without the mark gives the source's, and
--- only if it comes to a value. A marked one gives the source's, or the pool that was there, where
--- it is rolled back.
+-- One transaction leads from the first pool to the second: it comes to a value, and the second pool
+-- is the source's; or it is marked and rolled back, and the pool stays.
 abbrev pub GivesPool : (marked : Bool) → Program → Pending → (p q : PoolMap) → Type 0
 GivesPool false program call p q =
     (value : ℤ) × (means program p call.tx call.args ≡ Done q value)

@@ -63,8 +63,8 @@ abbrev pub ScriptLaw : Type 0
 ScriptLaw = (text : List ℕ) (commands : List Command) → script_meaning text ≡ Ok commands
     → AllByRecursion IsWordCommand commands
 
--- How many stores a transaction logs on a pool, and what it comes to there, is determined by the
--- program, the pool and the arguments.
+-- The program, the pool and the arguments determine how many stores a transaction logs, and what it
+-- comes to.
 abbrev pub DeterminedLaw : Type 0
 DeterminedLaw =
     (program : Program) (pool : PoolMap) (tx : ℕ) (args : List ℤ) (n m : ℕ) (o p : Outcome) →
@@ -79,9 +79,9 @@ FullLaw =
     (records < n → FillsLog functions records sites)
     × (FillsLog functions records sites → records < n)
 
--- How many records a marked transaction that comes to a value appends is the number of its logged
--- stores by the source: those at logged sites, and the first to each heap word. The program, the
--- pool and the arguments determine it.
+-- A marked transaction that comes to a value appends one record for each of its logged stores by
+-- the source: those at logged sites, and the first to each heap word. The program, the pool and the
+-- arguments determine their number.
 abbrev pub MarkedCountLaw : Type 0
 MarkedCountLaw =
     ((program : Program) (h : Words) (pool after : PoolMap) (tx : ℕ) (args : List ℤ) (value : ℤ)
@@ -119,8 +119,8 @@ IsCompleted (answer.RecoveredRedone value logged) = Unit {0}
 IsCompleted (answer.RecoveredAborted kind) = Unit {0}
 IsCompleted a = ⊥
 
--- Exactly if sealed: after the next completed recovery an owed transaction is in the history if its
--- seal is in the image that the power cut left; it is done or, if it is marked and aborted, rolled
+-- Exactly if sealed: if the image that the power cut left has the seal of the owed transaction, the
+-- history has it after the next completed recovery: done or, if it is marked and aborted, rolled
 -- back. Else nothing of it is done, and the history is unchanged.
 abbrev pub SealedLaw : Type 0
 SealedLaw =
@@ -150,7 +150,7 @@ PhaseLaw =
     → Commanded program (command.Call name args) m d (answer.Stopped at) n b k k1 →
     Images (HasPhase at s) b.cache
 
--- The device's heap is this one, word for word, and its word 16 is this value, the last one's.
+-- The device holds this heap, word for word, and this last value.
 pub record IsRolledBack (program : Program) (h : Words) (last : ℤ) (b : Device) : Type 0 where
   pub heap : (w : ℕ) → w < heap_words (sizes_of program)
       → heap_in (sizes_of program) b.cache w ≡ h w
@@ -172,18 +172,16 @@ OnlyRollsBack program super (c ∷ commands) (a ∷ answers) x y ran =
     ((ran.0.history ≡ x.history) ⊎ IsRollback a)
     × OnlyRollsBack program super commands answers ran.0 y ran.2
 
--- The source's pool and the last value are those of an earlier moment; and where calls are taken,
--- so are the heap, word for word, and word 16.
+-- The source's pool and last value are those of an earlier moment; where calls are taken, so are
+-- the device's heap, word for word, and its last value.
 pub record IsAsBefore (program : Program) (x y : Moment) : Type 0 where
   pub pool : y.state.pool ≡ x.state.pool
   pub last : y.state.last ≡ x.state.last
   pub device : y.state.standing ≡ state.Ready
       → IsRolledBack program (heap_in (sizes_of program) x.device.cache) x.state.last y.device
 
--- Rollback of a whole script: wherever power is cut, and however often, a chain that begins where
--- calls are taken, and that finishes no transaction but those that it rolls back, leaves the pool
--- and the heap that were there at its start. So a recovery that rolls a call back leaves those from
--- before the call, however many cuts came between.
+-- A script that finishes only transactions that it rolls back leaves pool and heap as they were,
+-- however often power is cut. It begins where calls are taken.
 abbrev pub RollbackChainLaw : Type 0
 RollbackChainLaw =
     (program : Program) (super : Words) (commands : List Command) (answers : List Answer)
@@ -193,9 +191,9 @@ RollbackChainLaw =
     (ran : Ran program super commands answers x y) →
     OnlyRollsBack program super commands answers x y ran → IsAsBefore program x y
 
--- Rollback: after a call that is aborted the heap is word for word as it was before the call, and
--- after an owed transaction's recovery that is aborted as it was before that transaction. The last
--- value is that of the transaction before. The third law says so of a whole script.
+-- Rollback: an aborted call leaves the heap word for word as it was before the call, and an aborted
+-- recovery as it was before the owed transaction. The last value stays. The third law says so of a
+-- whole script.
 abbrev pub RollbackLaw : Type 0
 RollbackLaw =
     ((program : Program) (super : Words) (name : List ℕ) (args : List ℤ) (m n : Mode) (d b : Device)
@@ -218,14 +216,14 @@ IsRedone (answer.RecoveredAborted kind) = Unit {0}
 IsRedone a = ⊥
 
 -- the called transaction was run to its end
-abbrev pub IsRun : Answer → Type 0
-IsRun (answer.Done value logged) = Unit {0}
-IsRun (answer.Trap kind) = Unit {0}
-IsRun (answer.Aborted kind) = Unit {0}
-IsRun a = ⊥
+abbrev pub RanToEnd : Answer → Type 0
+RanToEnd (answer.Done value logged) = Unit {0}
+RanToEnd (answer.Trap kind) = Unit {0}
+RanToEnd (answer.Aborted kind) = Unit {0}
+RanToEnd a = ⊥
 
--- The machine's run of a transaction on a heap takes this many steps: one for each instruction, the
--- last of which has no effect; and, of one that is rolled back, one for each of its records.
+-- The steps of the machine's run of a transaction on a heap: one for each instruction, of which the
+-- last has no effect; and, if it is rolled back, one for each of its records.
 abbrev pub TakesBy : (marked : Bool) → Program → Words → (tx : ℕ) → List ℤ → ℕ → Type 0
 TakesBy false program h tx args n =
     (end : End) × (effects : List Effect)
@@ -236,10 +234,9 @@ TakesBy true program h tx args n =
     × (mrun_marked program.image program.image.parts.most h tx args ≡ Finished end effects)
     × (n ≡ marked_steps program.image h tx args end effects)
 
--- Steps of a recovery: one that runs an owed transaction without the mark to its end takes one step
--- for each valid record of the image that the power cut left, and one for each instruction of the
--- transaction's run; the last instruction has no effect. One that runs a marked transaction to its
--- end takes one for each valid record too, and the steps of its run.
+-- A recovery that redoes an unmarked transaction takes one step for each valid record and one for
+-- each instruction. Redoing a marked one takes one step for each valid record too, and the steps of
+-- its run (`marked_steps`).
 abbrev pub RecoveryStepsLaw : Type 0
 RecoveryStepsLaw =
     ((program : Program) (super : Words) (choice : Choice) (owed : Pending) (m n : Mode)
@@ -264,7 +261,7 @@ CallStepsLaw =
     (program : Program) (super : Words) (name : List ℕ) (args : List ℤ) (tx : ℕ) (m n : Mode)
     (d b : Device) (s : SourceState) (a : Answer) (k k1 : ℕ) →
     Agrees program → AreWords args → Holds program super m d s
-    → call_number program name ≡ Some tx → IsRun a
+    → call_number program name ≡ Some tx → RanToEnd a
     → Commanded program (command.Call name args) m d a n b k k1 →
     (taken : ℕ)
     × TakesBy (rolls_back_of program tx) program (heap_in (sizes_of program) d.cache) tx args taken

@@ -59,8 +59,8 @@ fresh_moment program d k = record {
   history = [];
 }
 
--- The pool of an image is opened: from the device and the steps before to the moment after its
--- recovery. If the image owed a transaction, it may have been done by then.
+-- The pool of an image is opened and recovered. If the image owed a transaction, it may be done by
+-- then.
 pub record OpenStep (program : Program) (words : List ℤ) (d : Device) (k : ℕ) (a : Answer)
     (y : Moment) : Type 0 where
   pub did : Opens program words d a y.mode y.device k y.steps

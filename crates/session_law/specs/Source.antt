@@ -1,5 +1,5 @@
--- What the source of a program says: how many parameters a transaction has, what it means on a pool
--- and what it comes to there, with how many logged stores, and the pool that a heap holds under the
+-- What the source of a program says of a transaction: its parameters, its meaning on a pool, its
+-- outcome there and the number of its logged stores; and which pool a heap holds under the
 -- program's shapes.
 use Rattle.std.specs.Prelude.{ℕ, ◌+◌, ◌*◌, ◌≡◌, if◌then◌else◌, nat_lt, List, [], length}
 use Rattle.std.specs.Prelude.{Option, option_map, ℤ}
@@ -41,7 +41,7 @@ abbrev pub means : Program → PoolMap → (tx : ℕ) → List ℤ → Outcome
 means program pool tx args = transaction_means (program_tables program) pool tx args
     (sizes_of program).ticks
 
--- what the run of function g does on a pool until it ends, which these ticks bound
+-- what a run of function g does on a pool until it ends, within these ticks
 abbrev pub deeds_in : Ir → (ticks : ℕ) → PoolMap → List ℤ → (g : ℕ) → List Deed
 deeds_in ir ticks pool args g =
     deeds ir ((ticks + 1) * whole ir.functions) (code_start g args pool ticks)
@@ -70,8 +70,8 @@ abbrev pub LogsFirst : Program → PoolMap → (tx : ℕ) → List ℤ → (logg
 LogsFirst program pool tx args logged =
     AreLoggedFirst (lowered program.typed).functions [] (run_stores program pool tx args) logged
 
--- The outcome on a pool whose log has C records: a full log if there are more than C logged stores,
--- since one of them then finds no free record; else what the source says.
+-- The outcome with a log of C records: a full log if there are more than C logged stores; else what
+-- the source says.
 abbrev pub outcome_with : Program → PoolMap → (tx : ℕ) → List ℤ → (logged : ℕ) → Outcome
 outcome_with program pool tx args logged =
     if nat_lt (sizes_of program).records logged then Trap LogFull else means program pool tx args

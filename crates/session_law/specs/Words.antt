@@ -1,6 +1,5 @@
--- Numbers that are words, from -2^63 to 2^63 - 1: the arguments of a transaction, and the words of
--- a pool. A session's arguments and pools are made of words, so it meets no other numbers, whatever
--- the definitions say of those.
+-- Numbers that are words, from -2^63 to 2^63 - 1. A session's arguments and pools are made of
+-- words, so what the definitions say of other numbers doesn't matter.
 use Rattle.std.specs.Prelude.{ℕ, List, slice_index_or, ℤ, pos}
 use Rattle.nvm_base.specs.Wrap.{IsWord}
 use Rattle.pool_map.specs.PoolMap.{PoolMap, read, read_root}

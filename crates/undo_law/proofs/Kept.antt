@@ -11,6 +11,7 @@ use Rattle.cache_model.specs.Image.{IsVersion, Images, HasOne}
 use Rattle.cache_model.specs.During.{during}
 use Rattle.cache_model.proofs.Versions.{put_same, put_other, store_version, flush_version}
 use Rattle.cache_model.proofs.Versions.{fence_version}
+use Rattle.pool_layout.specs.declared.places.TheConstants.{FUNCTION, SEAL}
 use Rattle.pool_layout.specs.declared.places.Place.TheVariants.{Last}
 use Rattle.pool_layout.specs.declared.places.Layout.{Layout}
 use Rattle.pool_layout.specs.declared.limits.Sizes.{Sizes}
@@ -84,7 +85,7 @@ pub images_during : (p : ℕ) (x : ℤ) (c : Cache) (es : List CacheEvent) → d
 images_during p x c [] h = has_image p x c h
 images_during p x c (e ∷ es) h = (has_image p x c h.0, images_during p x (apply c e) es h.1)
 
--- the events of an aborted call don't change word 16
+-- the events of an aborted call don't change the last value
 
 writes_append : (p : ℕ) (x : ℤ) (es fs : List CacheEvent) → Writes p x es → Writes p x fs →
     Writes p x (es ++ fs)
@@ -149,7 +150,7 @@ module _ (z : Sizes) (x : ℤ) where
       (writes_append (at C Last) x (back_events z r.word r.old r.n ++ fence_after r.n)
       (retire_events x (pos k) (pos (suc a))) (still_back r.word r.old r.n) (still_retire a k))
 
-  still_stores : (xs : List ℤ) (q : ℕ) → 24 ≤ q → Still (stores_from q xs)
+  still_stores : (xs : List ℤ) (q : ℕ) → FUNCTION ≤ q → Still (stores_from q xs)
   still_stores [] q more = tt
   still_stores (y ∷ ys) q more =
       ((λ e. absurd (omega arith)), still_stores ys (suc q) (omega arith))
@@ -163,16 +164,16 @@ module _ (z : Sizes) (x : ℤ) where
   still_seal call =
       let p : ℕ = at C Last in
       let k : ℤ = pos (suc call.done) in
-      let xs : List CacheEvent = stores_from 24 (call.function ∷ call.args) in
+      let xs : List CacheEvent = stores_from FUNCTION (call.function ∷ call.args) in
       let ys : List CacheEvent = flushes_from 3 (payload_lines (length call.args)) in
       let lines : Still (ys ++ Fence ∷ []) =
       writes_append p x ys (Fence ∷ []) (still_flushes 3 (payload_lines (length call.args))) tt in
       let payload : Still (xs ++ (ys ++ Fence ∷ [])) =
       writes_append p x xs (ys ++ Fence ∷ [])
-      (still_stores (call.function ∷ call.args) 24 (omega arith)) lines in
-      let seal : Still (Store 47 k ∷ []) = ((λ e. absurd (omega arith)), tt) in
-      writes_append p x ((xs ++ (ys ++ Fence ∷ [])) ++ Store 47 k ∷ []) (Flush 5 ∷ Fence ∷ [])
-      (writes_append p x (xs ++ (ys ++ Fence ∷ [])) (Store 47 k ∷ []) payload seal) tt
+      (still_stores (call.function ∷ call.args) FUNCTION (omega arith)) lines in
+      let seal : Still (Store SEAL k ∷ []) = ((λ e. absurd (omega arith)), tt) in
+      writes_append p x ((xs ++ (ys ++ Fence ∷ [])) ++ Store SEAL k ∷ []) (Flush 5 ∷ Fence ∷ [])
+      (writes_append p x (xs ++ (ys ++ Fence ∷ [])) (Store SEAL k ∷ []) payload seal) tt
 
   pub still_abort : (a : ℕ) (call : Call) (heap : ℕ → ℤ) (trace : List Entry) →
       Still (due_abort z a call heap trace x)

@@ -123,7 +123,7 @@ module _ (pool : Pool) (call : Call) (h : ℕ → ℤ) (trace : List Entry)
       (λ e q image im. let u = q image im in record { undone = u.0; empty = u.1 })
       (undone_part setting a fits (λ w. refl) last trace d is run))
 
-  -- with word 16
+  -- with the last value
   still : (image : Words) → Cut image → image (at (pool_of pool.sizes) Last) ≡ last →
       IsAbortCut pool call h last image
   still image (inl before) e = inl before

@@ -18,13 +18,13 @@ use Rattle.undo_law.specs.Undo.{Every, IsMarkedTrace, due_abort, due_reabort}
 abbrev pub IsOwed : Pool → Call → (ℕ → ℤ) → Words → Type 0
 IsOwed pool call h image = Owed pool call Every Every h image
 
--- the call is owed, with word 16 as it was before the call
+-- the call is owed, and the last value is the one from before the call
 pub record IsOwedStill (pool : Pool) (call : Call) (h : ℕ → ℤ) (last : ℤ)
     (image : Words) : Type 0 where
   pub owed : IsOwed pool call h image
   pub last_is : last_of pool image ≡ last
 
--- the call is retired by its undo: the heap and word 16 are those from before the call
+-- the call is retired by its undo: the heap and the last value are those from before the call
 abbrev pub IsUndone : Pool → Call → (ℕ → ℤ) → ℤ → Words → Type 0
 IsUndone pool call h last image = IsDone pool (suc call.done) h last image
 

@@ -1,6 +1,6 @@
 -- The due events of a call of a transaction marked abort whose run traps, on plain lists. The first
--- store of each heap word is logged. So the records that the run appended restore every stored
--- word, and then the call is retired with word 16, the last value, as it was.
+-- store of each heap word is logged, so the records that the run appended restore every stored
+-- word. Then the call is retired, and the last value stays.
 use Rattle.std.specs.Prelude.{ℕ, zero, suc, List, [], ◌∷◌, ◌++◌, ℤ, pos, IsTrue, true}
 use Rattle.cache_model.specs.Event.{CacheEvent}
 use Rattle.cache_model.specs.Cache.{Words, put}

@@ -35,8 +35,8 @@ use Rattle.walk_check.specs.Keeps.{pieces_keep, walk_keeps, gives_reason, reason
 use Rattle.walk_check.specs.Law.{LoggedHaveCertificates}
 use Rattle.walk_check.proofs.Named.{There, there_origins, called_at, well_at, call_there}
 use Rattle.walk_check.proofs.Named.{return_there, target_unwritten, target_read}
-use Rattle.walk_check.specs.inside.Grown.{Passing, Grows}
-use Rattle.walk_check.specs.inside.Grown.Passing.{no_piece}
+use Rattle.walk_check.specs.inside.Grown.{ArePassing, Grows}
+use Rattle.walk_check.specs.inside.Grown.ArePassing.{no_piece}
 use Rattle.walk_check.specs.inside.Grown.Grows.{stays}
 use Rattle.walk_check.proofs.Grown.{grows_on, pieces_grown}
 use Rattle.walk_check.proofs.Grown.{walk_grown, no_bad_piece}
@@ -44,7 +44,7 @@ use Rattle.walk_check.proofs.Made.{among-from, code_at, Tail, tail_end, before_a
 use Rattle.walk_check.proofs.Made.{close, close_begun, entry, by_return, by_staying, build}
 
 -- the function that an instruction is in
-body_of : (functions : List IrFunction) (f p : ℕ) (i : Instruction) (o : Option IrFunction)
+pub body_of : (functions : List IrFunction) (f p : ℕ) (i : Instruction) (o : Option IrFunction)
     → slice_get functions f ≡ o
     → option_and_then (λ (u : IrFunction). slice_get u.code p) o ≡ Some i
     → (u : IrFunction) × (slice_get functions f ≡ Some u)
@@ -93,7 +93,7 @@ module _ (ir : Ir) (well : IsWellFormed ir) where
 
     record WalkBuilt (ps : List Piece) : Type 0 where
       pub pieces : List Piece
-      pub all : Passing ir pieces
+      pub all : ArePassing ir pieces
       pub grown : Grows ps pieces
       pub walk : List Piece
       pub keeps : walk_keeps ir pieces site ends walk ≡ true
@@ -115,7 +115,7 @@ module _ (ir : Ir) (well : IsWellFormed ir) where
         sym is ∙ t.1 in cc in rw e t.2
 
     opens_with : (ps : List Piece) (f : ℕ) (q : ℕ) (z : WalkFact) (later : List Piece)
-        (c : Closed ir ps true f Here q z) → Passing ir ps → IsTransaction ir.functions f
+        (c : Closed ir ps true f Here q z) → ArePassing ir ps → IsTransaction ir.functions f
         → Later ps f q z later → WalkBuilt ps
     opens_with ps f q z later c all t h =
         let transaction : is_tx (slice_get ir.functions c.piece.function) ≡ true =
@@ -132,7 +132,7 @@ module _ (ir : Ir) (well : IsWellFormed ir) where
         }
 
     begins_walk : (ps : List Piece) (f : ℕ) (u : IrFunction) (e : WalkFact) (q : ℕ) (z : WalkFact)
-        (later : List Piece) → Passing ir ps → slice_get ir.functions f ≡ Some u
+        (later : List Piece) → ArePassing ir ps → slice_get ir.functions f ≡ Some u
         → IsTransaction ir.functions f → holds at_start e ≡ true → Tail ir ps u 0 e q z
         → Later ps f q z later → WalkBuilt ps
     begins_walk ps f u Here q z later all there t h tail l =
@@ -149,7 +149,7 @@ module _ (ir : Ir) (well : IsWellFormed ir) where
 
     build_walk : {f p : ℕ} {b : WalkFact} → Flows ir.functions f p b
         → (ps : List Piece) (u : IrFunction) (q : ℕ) (z : WalkFact) (later : List Piece)
-        → Passing ir ps → slice_get ir.functions f ≡ Some u → There ir.shapes u.registers b
+        → ArePassing ir ps → slice_get ir.functions f ≡ Some u → There ir.shapes u.registers b
         → Tail ir ps u p b q z → Later ps f q z later → WalkBuilt ps
     build_walk (first {f = f} {e = e} t h) ps u q z later all there fits tail l =
         begins_walk ps f u e q z later all there t h tail l
@@ -201,7 +201,7 @@ module _ (ir : Ir) (well : IsWellFormed ir) where
         (later_grown f q z later s.grown l))
 
     -- a walk to the site
-    to_site : (ps : List Piece) (u : IrFunction) (b : WalkFact) → Passing ir ps
+    to_site : (ps : List Piece) (u : IrFunction) (b : WalkFact) → ArePassing ir ps
         → slice_get ir.functions site.function ≡ Some u → There ir.shapes u.registers b
         → AmongOrigins b ends → SomeWalk ir.functions site.function site.place b → WalkBuilt ps
     to_site ps u b all there fits m w =
@@ -211,7 +211,7 @@ module _ (ir : Ir) (well : IsWellFormed ir) where
   -- a reason for a site
   record ReasonBuilt (ps : List Piece) (site : Site) : Type 0 where
     pub pieces : List Piece
-    pub all : Passing ir pieces
+    pub all : ArePassing ir pieces
     pub grown : Grows ps pieces
     pub reason : Reason
     pub keeps : reason_keeps ir pieces site reason ≡ true
@@ -221,7 +221,7 @@ module _ (ir : Ir) (well : IsWellFormed ir) where
   target_end (Root x (Some i)) = inl refl
   target_end (Field b s x i) = refl
 
-  fill_reason : (ps : List Piece) (site : Site) → Passing ir ps → site.fill ≡ true
+  fill_reason : (ps : List Piece) (site : Site) → ArePassing ir ps → site.fill ≡ true
       → IsClobberFill ir.functions site.function site.place → ReasonBuilt ps site
   fill_reason ps site all fill h =
       let u = body site.function site.place (New h.0 h.1 h.2 h.3) h.4 in
@@ -244,7 +244,7 @@ module _ (ir : Ir) (well : IsWellFormed ir) where
   clobber_keeps ps site target from line unwrites reads is fill u r =
       rw is (and_from _ _ (ap not fill) (and_from _ _ u r))
 
-  clobber_reason : (ps : List Piece) (site : Site) → Passing ir ps → site.fill ≡ false
+  clobber_reason : (ps : List Piece) (site : Site) → ArePassing ir ps → site.fill ≡ false
       → IsClobber ir.functions site.function site.place → ReasonBuilt ps site
   clobber_reason ps site all fill h =
       let target = h.0 in
@@ -269,7 +269,7 @@ module _ (ir : Ir) (well : IsWellFormed ir) where
             reads.keeps;
       }
 
-  header_reason : (ps : List Piece) (site : Site) → Passing ir ps → site.fill ≡ false
+  header_reason : (ps : List Piece) (site : Site) → ArePassing ir ps → site.fill ≡ false
       → WritesHeader ir.functions site.function site.place → ReasonBuilt ps site
   header_reason ps site all fill h = record {
     pieces = ps;
@@ -284,7 +284,7 @@ module _ (ir : Ir) (well : IsWellFormed ir) where
       header (inl e) = rw e.4 (ap not fill)
       header (inr e) = rw e.3 (ap not fill)
 
-  reason_of : (ps : List Piece) (site : Site) (fill : Bool) → Passing ir ps → site.fill ≡ fill
+  reason_of : (ps : List Piece) (site : Site) (fill : Bool) → ArePassing ir ps → site.fill ≡ fill
       → LoggedAt ir.functions fill site.function site.place → ReasonBuilt ps site
   reason_of ps site true all is h = fill_reason ps site all is h
   reason_of ps site false all is (inl h) = clobber_reason ps site all is h
@@ -309,13 +309,13 @@ module _ (ir : Ir) (well : IsWellFormed ir) where
   -- reasons for sites
   record ReasonsBuilt (ps : List Piece) (sites : List Site) : Type 0 where
     pub pieces : List Piece
-    pub all : Passing ir pieces
+    pub all : ArePassing ir pieces
     pub grown : Grows ps pieces
     pub reasons : List (Site × Reason)
     pub lists : map (λ (r : Site × Reason). r.0) reasons ≡ sites
     pub keep : (n : ℕ) → bad_reason ir pieces n reasons ≡ None
 
-  reasons_of : (ps : List Piece) (sites : List Site) → Passing ir ps
+  reasons_of : (ps : List Piece) (sites : List Site) → ArePassing ir ps
       → AllByRecursion (IsLogged ir.functions) sites → ReasonsBuilt ps sites
   reasons_of ps [] all h =
       record {

@@ -14,8 +14,8 @@ use Rattle.ir.specs.declared.fact.Origins.{Origins}
 use Rattle.ir.specs.declared.site.Site.{Site}
 use Rattle.walk_check.specs.declared.certificate.Step.{Step}
 use Rattle.walk_check.specs.declared.certificate.Piece.{Piece}
-use Rattle.walk_check.specs.inside.Grown.{Passing, Grows}
-use Rattle.walk_check.specs.inside.Grown.Passing.{no_piece, one_more}
+use Rattle.walk_check.specs.inside.Grown.{ArePassing, Grows}
+use Rattle.walk_check.specs.inside.Grown.ArePassing.{no_piece, one_more}
 use Rattle.walk_check.specs.inside.Grown.Grows.{stays, grows}
 use Rattle.walk_check.specs.Keeps.{goes_past, follows, begins_piece, chain, steps_keep, piece_keeps}
 use Rattle.walk_check.specs.Keeps.{passing_keeps, pieces_keep, walk_keeps, bad_piece}
@@ -132,7 +132,7 @@ module _ (ir : Ir) where
       (λ e. let same : k ≡ length xs = e.0 in inr (ap suc same, e.1))
       (split_last xs y k x is)
 
-  each_keeps : {ps : List Piece} → Passing ir ps → EachKeeps ps
+  each_keeps : {ps : List Piece} → ArePassing ir ps → EachKeeps ps
   each_keeps no_piece k piece is = absurd cc
   each_keeps (one_more {ps = ps} p all keeps) k piece is =
       ⊎_elim
@@ -158,7 +158,7 @@ module _ (ir : Ir) where
       let more : n + suc k ≡ (n + 1) + k = omega arith in
       subst (λ m. passing_keeps ir (take m ps) piece ≡ true) more (all (suc k) piece is)))
 
-  pub no_bad_piece : (ps : List Piece) → Passing ir ps → bad_piece ir ps 0 ps ≡ None
+  pub no_bad_piece : (ps : List Piece) → ArePassing ir ps → bad_piece ir ps 0 ps ≡ None
   no_bad_piece ps all = none_bad ps 0 ps (λ k piece is.
       let same : k ≡ 0 + k = omega arith in
       subst (λ m. passing_keeps ir (take m ps) piece ≡ true) same (each_keeps all k piece is))

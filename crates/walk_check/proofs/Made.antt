@@ -31,8 +31,8 @@ use Rattle.walk_check.specs.Keeps.{begins_piece, chain}
 use Rattle.walk_check.specs.Keeps.{piece_keeps, is_return, passing_keeps}
 use Rattle.walk_check.proofs.Named.{There, is_there-from, there_origins, Called, called_at}
 use Rattle.walk_check.proofs.Named.{well_at, call_there, return_there}
-use Rattle.walk_check.specs.inside.Grown.{Passing, Grows}
-use Rattle.walk_check.specs.inside.Grown.Passing.{one_more}
+use Rattle.walk_check.specs.inside.Grown.{ArePassing, Grows}
+use Rattle.walk_check.specs.inside.Grown.ArePassing.{one_more}
 use Rattle.walk_check.specs.inside.Grown.Grows.{stays, grows}
 use Rattle.walk_check.proofs.Grown.{grows_on}
 use Rattle.walk_check.proofs.Grown.{slice_get_last, chain_grown}
@@ -273,7 +273,7 @@ module _ (ir : Ir) where
   pub record Built (ps : List Piece) (u : IrFunction) (o : ℕ) (e : WalkFact) (q : ℕ)
       (z : WalkFact) : Type 0 where
     pub pieces : List Piece
-    pub all : Passing ir pieces
+    pub all : ArePassing ir pieces
     pub grown : Grows ps pieces
     pub tail : Tail pieces u o e q z
     pub fits : There ir.shapes u.registers e
@@ -349,7 +349,7 @@ module _ (ir : Ir) where
 
   module _ (well : IsWellFormed ir) where
     pub build : {f o p : ℕ} {e b : WalkFact} → Passes ir.functions f o e p b
-        → (ps : List Piece) (u : IrFunction) (q : ℕ) (z : WalkFact) → Passing ir ps
+        → (ps : List Piece) (u : IrFunction) (q : ℕ) (z : WalkFact) → ArePassing ir ps
         → slice_get ir.functions f ≡ Some u → There ir.shapes u.registers b → Tail ps u p b q z
         → Built ps u o e q z
     build starts ps u q z all there fits t =

@@ -19,7 +19,7 @@ use Rattle.ir.proofs.Law.{exact}
 use Rattle.walk_check.specs.declared.certificate.Piece.{Piece}
 use Rattle.walk_check.specs.Facts.{same}
 use Rattle.walk_check.specs.Keeps.{first_fact, is_tx, walk_keeps}
-use Rattle.walk_check.specs.inside.Grown.{Passing}
+use Rattle.walk_check.specs.inside.Grown.{ArePassing}
 use Rattle.walk_check.proofs.Tests.{same-true}
 use Rattle.walk_maker.specs.declared.table.Aim.{Aim}
 use Rattle.walk_maker.specs.declared.table.Aim.TheVariants.{ToSite, ToReturn}
@@ -190,7 +190,7 @@ module _ (ir : Ir) (well : IsWellFormed ir) (site : Site) (fact : WalkFact) wher
       ((exact ir.functions site.function site.place fact).0 w) has_goal
 
   pub found_walk : (t : List Entry) (old new : List Piece) (n : ℕ) → FactThere ir site fact
-      → Passing ir old → Searched ir (state (Goal ∷ []) old) (Some n) (state t new)
+      → ArePassing ir old → Searched ir (state (Goal ∷ []) old) (Some n) (state t new)
       → WalkGiven ir site fact old new
       (Some (record { pieces = pieces_of ir.functions t (length t) true n }))
   found_walk t old new n there passing searched =
@@ -203,7 +203,7 @@ module _ (ir : Ir) (well : IsWellFormed ir) (site : Site) (fact : WalkFact) wher
       }
 
   pub found_none : (t : List Entry) (old new : List Piece) → FactThere ir site fact
-      → Passing ir old → Searched ir (state (Goal ∷ []) old) None (state t new)
+      → ArePassing ir old → Searched ir (state (Goal ∷ []) old) None (state t new)
       → WalkGiven ir site fact old new None
   found_none t old new there passing searched =
       let all = first_holds old there in

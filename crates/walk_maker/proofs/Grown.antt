@@ -15,8 +15,8 @@ use Rattle.ir.specs.Places.{ReturnsAt}
 use Rattle.walk_check.specs.declared.certificate.Piece.{Piece}
 use Rattle.walk_check.specs.Follow.{binds}
 use Rattle.walk_check.specs.Keeps.{fact_is_there, follows, passing_keeps}
-use Rattle.walk_check.specs.inside.Grown.{Passing, Grows}
-use Rattle.walk_check.specs.inside.Grown.Passing.{one_more}
+use Rattle.walk_check.specs.inside.Grown.{ArePassing, Grows}
+use Rattle.walk_check.specs.inside.Grown.ArePassing.{one_more}
 use Rattle.walk_check.specs.inside.Grown.Grows.{stays, grows}
 use Rattle.walk_check.proofs.Grown.{slice_get_more, follows_more}
 use Rattle.walk_check.proofs.Made.{same-refl}
@@ -254,7 +254,8 @@ module _ (ir : Ir) (goal : Entry) where
   steps_hold (piece {t = t} p a h) all =
       λ n e is. holds_passed t.passed p t.table n e (steps_hold a all n e is)
 
-  pub steps_passing : {s t : SearchState} → Steps s t → Passing ir s.passed → Passing ir t.passed
+  pub steps_passing : {s t : SearchState} → Steps s t → ArePassing ir s.passed
+      → ArePassing ir t.passed
   steps_passing still all = all
   steps_passing (entry e a h) all = steps_passing a all
   steps_passing (piece p a h) all = one_more p (steps_passing a all) h

@@ -28,12 +28,12 @@ use Rattle.walk_check.specs.Follow.{unwritten_ends}
 use Rattle.walk_check.specs.Keeps.{reason_keeps, bad_reason}
 use Rattle.walk_check.specs.Keeps.{certificate_fault}
 use Rattle.walk_check.specs.Law.{listed}
-use Rattle.walk_check.specs.inside.Grown.{Passing, Grows}
+use Rattle.walk_check.specs.inside.Grown.{ArePassing, Grows}
 use Rattle.walk_check.specs.inside.Grown.Grows.{stays}
 use Rattle.walk_check.proofs.Named.{is_there-from, well_at, target_unwritten, target_read}
 use Rattle.walk_check.proofs.Grown.{grows_on, walk_grown, no_bad_piece}
 use Rattle.walk_check.proofs.Made.{code_at}
-use Rattle.walk_check.proofs.Explained.{target_end, clobber_keeps, gives_grown}
+use Rattle.walk_check.proofs.Explained.{body_of, target_end, clobber_keeps, gives_grown}
 use Rattle.walk_check.proofs.Shown.{all_logged}
 use Rattle.walk_maker.specs.Lists.{ListsLogged}
 use Rattle.walk_maker.specs.Lists.ListsLogged.{no_site, logged, unlogged}
@@ -44,7 +44,6 @@ use Rattle.walk_maker.specs.declared.reasons.Kind.TheVariants.{Store as Written,
 use Rattle.walk_maker.specs.declared.reasons.Kind.TheVariants.{Nothing}
 use Rattle.std.proofs.lemmas.List.{append-nil}
 use Rattle.walk_maker.proofs.Fuel.{drop_at}
-use Rattle.walk_maker.proofs.Still.{body_of}
 
 body : (ir : Ir) (f p : ℕ) (i : Instruction) → instruction_at ir.functions f p ≡ Some i
     → (u : IrFunction) × (slice_get ir.functions f ≡ Some u)
@@ -198,7 +197,7 @@ module _ (ir : Ir) (well : IsWellFormed ir) (site : Site) where
   header_kind (Some (Free from kind line)) false ps is fill h = rw (is, fill) refl
   header_kind _ _ ps is fill h = absurd cc
 
-  pub header_given : (ps : List Piece) → Passing ir ps → written_kind Here site.fill ≡ Header
+  pub header_given : (ps : List Piece) → ArePassing ir ps → written_kind Here site.fill ≡ Header
       → ReasonGiven ir site ps ps (Some Always)
   header_given ps all h = record {
     passing = all;
@@ -222,7 +221,7 @@ module _ (ir : Ir) (well : IsWellFormed ir) (site : Site) where
       let kind : written_kind o false ≡ Header = rw (sym is ∙ w.3) refl in
       let clash : Header ≡ Nothing = sym kind ∙ h in absurd cc
 
-  pub nothing_given : (ps : List Piece) → Passing ir ps → written_kind Here site.fill ≡ Nothing
+  pub nothing_given : (ps : List Piece) → ArePassing ir ps → written_kind Here site.fill ≡ Nothing
       → ReasonGiven ir site ps ps None
   nothing_given ps all h = record {
     passing = all;
@@ -234,7 +233,7 @@ not_both : (b : Bool) → b ≡ true → b ≡ false → ⊥
 not_both b holds never = cc
 
 -- a site that exact marks don't log has no reason
-pub unmarked : (ir : Ir) (site : Site) (table : MarkTable) (ps : List Piece) → Passing ir ps
+pub unmarked : (ir : Ir) (site : Site) (table : MarkTable) (ps : List Piece) → ArePassing ir ps
     → IsExact ir.functions table → is_logged table site ≡ false → ReasonGiven ir site ps ps None
 unmarked ir site table ps all exact plain = record {
   passing = all;
@@ -263,7 +262,7 @@ module _ (ir : Ir) where
   none_bad ps n [] all = refl
   none_bad ps n (r ∷ rs) all = rw all.0 (none_bad ps (n + 1) rs all.1)
 
-  pub no_fault : (ps : List Piece) (rs : List (Site × Reason)) → Passing ir ps
+  pub no_fault : (ps : List Piece) (rs : List (Site × Reason)) → ArePassing ir ps
       → AllKept ir ps rs → certificate_fault ir (record { passed = ps; reasons = rs }) ≡ None
   no_fault ps rs passing all =
       rw (no_bad_piece ir ps passing, none_bad ps 0 rs all) refl
@@ -286,7 +285,7 @@ module _ (ir : Ir) where
   -- one more site
   abbrev pub Reasoned : List Site → List Site → List Piece → List (Site × Reason) → Type 0
   Reasoned sites left ps rs =
-      Passing ir ps × AllKept ir ps rs × ((rest : List Site) → Skips ir.functions left rest
+      ArePassing ir ps × AllKept ir ps rs × ((rest : List Site) → Skips ir.functions left rest
       → Skips ir.functions sites (map (λ (r : Site × Reason). r.0) rs ++ rest))
 
   map_last : (rs : List (Site × Reason)) (s : Site) (reason : Reason) (rest : List Site)
@@ -325,7 +324,7 @@ module _ (ir : Ir) where
       (append-nil (map (λ (r : Site × Reason). r.0) rs)) (h.2 [] no_more)
 
   pub lists_logged : (sites : List Site) (ps : List Piece) (rs : List (Site × Reason))
-      → IsWellFormed ir → Passing ir ps → AllKept ir ps rs
+      → IsWellFormed ir → ArePassing ir ps → AllKept ir ps rs
       → Skips ir.functions sites (map (λ (r : Site × Reason). r.0) rs)
       → ListsLogged ir.functions sites (listed (record { passed = ps; reasons = rs }))
   lists_logged sites ps rs well passing all h =

@@ -1,7 +1,7 @@
 -- A search that ended without a start: no walk reaches the site with the fact.
 use Rattle.std.proofs.Common.{◌≡◌, ◌<◌, ◌+◌, ◌&&◌, ℕ, zero, suc, Bool, true, false, List, []}
-use Rattle.std.proofs.Common.{◌∷◌, Option, Some, None, length, refl, sym, ◌∙◌, ap, subst, arith}
-use Rattle.std.specs.Prelude.{◌==◌, slice_get, position, option_and_then, nat_lt}
+use Rattle.std.proofs.Common.{◌∷◌, Some, None, length, refl, sym, ◌∙◌, ap, subst, arith}
+use Rattle.std.specs.Prelude.{◌==◌, slice_get, position, nat_lt}
 use Rattle.std.specs.List.{position_or_len}
 use Rattle.std.proofs.lemmas.Bool.{false≢true, and_parts, and_from, eq-eqb, eqb-true, lt-ltb}
 use Rattle.ir.specs.declared.instruction.Instruction.{Instruction}
@@ -26,6 +26,7 @@ use Rattle.walk_check.proofs.Named.{There, is_there-from, there_origins, Called,
 use Rattle.walk_check.proofs.Named.{well_at, call_there, return_there}
 use Rattle.walk_check.proofs.Made.{same-refl, next-from, leads-from, goes-from}
 use Rattle.walk_check.proofs.Made.{past-from, code_at, step_at}
+use Rattle.walk_check.proofs.Explained.{body_of}
 use Rattle.walk_maker.specs.declared.table.Aim.{Aim}
 use Rattle.walk_maker.specs.declared.table.Aim.TheVariants.{ToSite, ToReturn}
 use Rattle.walk_maker.specs.declared.table.Entry.{Entry}
@@ -44,13 +45,6 @@ use Rattle.walk_maker.proofs.Closing.{there-from, passing_element, spot, Found, 
 use Rattle.walk_maker.proofs.Closing.{bound_is, has_tried, has_along, has_here, has_returns}
 use Rattle.walk_maker.proofs.Closing.{has_throughs, has_callers_in, has_callers}
 use Rattle.walk_maker.proofs.Closed.{IsClosed}
-
-pub body_of : (functions : List IrFunction) (f p : ℕ) (i : Instruction) (o : Option IrFunction)
-    → slice_get functions f ≡ o
-    → option_and_then (λ (u : IrFunction). slice_get u.code p) o ≡ Some i
-    → (u : IrFunction) × (slice_get functions f ≡ Some u)
-body_of functions f p i None is there = absurd cc
-body_of functions f p i (Some u) is there = (u, is)
 
 -- no element passes a test that finds none
 prefix_within : {X : Type 0} (p : X → Bool) (xs : List X) (n : ℕ) (x : X)

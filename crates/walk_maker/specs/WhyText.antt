@@ -4,7 +4,7 @@
 -- `reasons A always B free C clobber D`. A line of a piece goes on with ` P FACT` for each step,
 -- and with ` via I` where it passes a call.
 use Rattle.std.specs.Prelude.{ℕ, ◌+◌, List, [], ◌∷◌, ◌++◌, Bool, true, false, Option, Some, None}
-use Rattle.std.specs.Prelude.{length, codes, flat_map}
+use Rattle.std.specs.Prelude.{length, codes, flat_map, if◌then◌else◌}
 use Rattle.std.specs.Fmt.{decimal}
 use Rattle.pool_map.specs.declared.shapes.Shapes.{Shapes}
 use Rattle.ir.specs.declared.function.Ir.{Ir}
@@ -93,14 +93,10 @@ says_clobber Always = false
 says_clobber (PastFree walk) = false
 says_clobber (Clobber unwrites reads) = true
 
-abbrev pub one_if : Bool → ℕ
-one_if true = 1
-one_if false = 0
-
 -- how many of the reasons say so
 abbrev pub reasons_counted : (Reason → Bool) → List (Site × Reason) → ℕ
 reasons_counted says [] = 0
-reasons_counted says (r ∷ rs) = one_if (says r.1) + reasons_counted says rs
+reasons_counted says (r ∷ rs) = (if says r.1 then 1 else 0) + reasons_counted says rs
 
 abbrev pub reasons_line : List (Site × Reason) → List ℕ
 reasons_line rs = codes "reasons " ++ (decimal (length rs)

@@ -13,9 +13,9 @@ use std::marker::Model;
 /// The jumps of a function.
 #[derive(Drop)]
 pub(crate) struct Jumps {
-    /// For each place, no jump before this one leads there.
+    /// For each place, a bound: no jump before it leads there.
     firsts: List<usize>,
-    /// For each place, no jump between it and this one leads to where the jump at it leads.
+    /// For each jump, a bound: no jump between leads to the same place.
     nexts: List<usize>,
 }
 

@@ -7,7 +7,7 @@ ghost use Rattle.ir.specs.WellFormed.{IsWellFormed};
 ghost use Rattle.clobber_pass.specs.Logged.{IsExact};
 ghost use Rattle.walk_check.specs.Keeps.{certificate_fault};
 ghost use Rattle.walk_check.specs.Law.{listed};
-ghost use Rattle.walk_check.specs.inside.Grown.{Passing};
+ghost use Rattle.walk_check.specs.inside.Grown.{ArePassing};
 ghost use Rattle.walk_maker.specs.Lists.{ListsLogged};
 ghost use Rattle.walk_maker.specs.inside.Jumps.{AreAllJumps};
 ghost use Rattle.walk_maker.specs.inside.Reasons as judged;
@@ -47,7 +47,7 @@ fn walk_to(
 ) -> Result<Option<Walk>, AllocError>
     requires well { IsWellFormed ir.now }
     requires jumps { AreAllJumps ir.now.functions jumps.now }
-    requires passing { Passing ir.now passed.old }
+    requires passing { ArePassing ir.now passed.old }
     requires there { judged.FactThere ir.now site fact }
     ensures { IfOk result (λ walk.
         judged.WalkGiven ir.now site fact passed.old passed.new walk) }
@@ -104,7 +104,7 @@ fn store_reason(
 ) -> Result<Option<Reason>, AllocError>
     requires well { IsWellFormed ir.now }
     requires jumps { AreAllJumps ir.now.functions jumps.now }
-    requires passing { Passing ir.now passed.old }
+    requires passing { ArePassing ir.now passed.old }
     requires store { judged.StoresAt ir.now site target }
     ensures { IfOk result (λ reason.
         judged.ReasonGiven ir.now site passed.old passed.new reason) }
@@ -129,7 +129,7 @@ fn fill_reason(
 ) -> Result<Option<Reason>, AllocError>
     requires well { IsWellFormed ir.now }
     requires jumps { AreAllJumps ir.now.functions jumps.now }
-    requires passing { Passing ir.now passed.old }
+    requires passing { ArePassing ir.now passed.old }
     requires fill { judged.FillsAt ir.now site }
     ensures { IfOk result (λ reason.
         judged.ReasonGiven ir.now site passed.old passed.new reason) }
@@ -171,7 +171,7 @@ fn reason_of(
 ) -> Result<Option<Reason>, AllocError>
     requires well { IsWellFormed ir.now }
     requires jumps { AreAllJumps ir.now.functions jumps.now }
-    requires passing { Passing ir.now passed.old }
+    requires passing { ArePassing ir.now passed.old }
     ensures { IfOk result (λ reason.
         judged.ReasonGiven ir.now site passed.old passed.new reason) }
 {
@@ -197,7 +197,7 @@ fn marked_reason(
     requires well { IsWellFormed ir.now }
     requires jumps { AreAllJumps ir.now.functions jumps.now }
     requires exact { IsExact ir.now.functions table.now }
-    requires passing { Passing ir.now passed.old }
+    requires passing { ArePassing ir.now passed.old }
     ensures { IfOk result (λ reason.
         judged.ReasonGiven ir.now site passed.old passed.new reason) }
 {

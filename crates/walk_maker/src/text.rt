@@ -1,6 +1,6 @@
 //! The text of a certificate.
 
-ghost use Rattle.std.specs.Prelude.{◌≡◌, ◌≤◌, ◌++◌, flat_map, OnOk, IfOk};
+ghost use Rattle.std.specs.Prelude.{◌≡◌, ◌≤◌, ◌++◌, if◌then◌else◌, flat_map, OnOk, IfOk};
 ghost use Rattle.walk_maker.specs.WhyText as why;
 
 use ir::{Ir, Site};
@@ -252,7 +252,7 @@ fn says_clobber(reason: &Reason) -> bool
 }
 
 fn one_if(holds: bool) -> usize
-    ensures value { result ≡ why.one_if holds }
+    ensures value { result ≡ if holds then 1 else 0 }
     ensures small { result ≤ 1 }
 {
     if holds { 1 } else { 0 }

@@ -17,7 +17,7 @@ use Rattle.tx_run.specs.Due.{due_on, due_seal, due_call}
 use Rattle.tx_run.specs.Settled.{HasLogged}
 use Rattle.workers_law.specs.AsCall.{quiet_on, CalledLaw}
 
-plays_quiet : (lines : ℕ) (es : List CacheEvent) (c : Cache) →
+pub plays_quiet : (lines : ℕ) (es : List CacheEvent) (c : Cache) →
     PlaysAll (quiet_on lines c) es (quiet_on lines (play c es))
 plays_quiet lines [] c = refl
 plays_quiet lines (e ∷ es) c = (((refl, none-some 0), tt), plays_quiet lines es (apply c e))

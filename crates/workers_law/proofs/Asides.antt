@@ -8,9 +8,9 @@ use Rattle.crash_law.specs.Law.{IsMarkIn, AreMarked}
 use Rattle.pool_workers.specs.Compartment.{words_from, line_counted_from, cache_in, IsOutside}
 use Rattle.pool_workers.specs.Compartment.{fenced_if, AreAside}
 use Rattle.pool_workers.proofs.Windows.{fence_from}
-use Rattle.workers_law.specs.Fenced.{AreApart, fenced_cache}
+use Rattle.workers_law.specs.Fenced.{AreDisjoint, fenced_cache}
 
-pub inside_part : (f n g m l : ℕ) → AreApart f n g m → l < m → IsOutside f n (g + l)
+pub inside_part : (f n g m l : ℕ) → AreDisjoint f n g m → l < m → IsOutside f n (g + l)
 inside_part f n g m l (inl before) lt = inr (omega arith)
 inside_part f n g m l (inr beyond) lt = inl (omega arith)
 
@@ -34,7 +34,7 @@ fenced_line true c l = refl
 fenced_line false c l = refl
 
 -- the effect of another compartment on this one: a fence or nothing
-pub aside_in : (f n g m : ℕ) (k : Bool) (c b : Cache) → AreApart f n g m → AreAside f n k c b →
+pub aside_in : (f n g m : ℕ) (k : Bool) (c b : Cache) → AreDisjoint f n g m → AreAside f n k c b →
     cache_in g m b ≡ fenced_cache k (cache_in g m c)
 unfolding cache_in
 aside_in f n g m k c b apart aside = λ i l.

@@ -15,14 +15,14 @@ use Rattle.workers_law.specs.Interleaved.{WorkerEvent, Piece, steps_by, worker_e
 use Rattle.workers_law.specs.Interleaved.{own_events, own_pieces, fence_of, seen_events, AreInside}
 use Rattle.workers_law.specs.Interleaved.{IsPrefix, Interleaves}
 use Rattle.workers_law.specs.Compartments.{CompartmentLaw, CompartmentImagesLaw}
-use Rattle.workers_law.specs.Fenced.{AreApart}
+use Rattle.workers_law.specs.Fenced.{AreDisjoint}
 use Rattle.pool_workers.proofs.Windows.{own_event, outside_store, outside_flush}
 use Rattle.workers_law.proofs.Asides.{inside_part, cache_cong, marked_in}
 
-pub apart : (n i j : ℕ) → i ≢ j → AreApart (n * i) n (n * j) n
+pub apart : (n i j : ℕ) → i ≢ j → AreDisjoint (n * i) n (n * j) n
 apart n i j ne = by_order (nat_lt i j) refl
   where
-    by_order : (b : Bool) → nat_lt i j ≡ b → AreApart (n * i) n (n * j) n
+    by_order : (b : Bool) → nat_lt i j ≡ b → AreDisjoint (n * i) n (n * j) n
     by_order true is =
         let lt : i + 1 ≤ j = omega (arith, ltb-true i j is) in
         let more : n * (i + 1) ≤ n * j = mul-le-mul_left n lt in

@@ -5,6 +5,7 @@ use Rattle.cache_model.specs.Event.{CacheEvent}
 use Rattle.cache_model.specs.Cache.{Words, Cache, view}
 use Rattle.cache_model.specs.Play.{play}
 use Rattle.cache_model.specs.Image.{HasOne}
+use Rattle.pool_layout.specs.declared.places.TheConstants.{DONE}
 use Rattle.pool_layout.specs.Places.{pool_of}
 use Rattle.pool_layout.specs.Log.{count}
 use Rattle.pool_layout.specs.Good.{Good}
@@ -51,7 +52,7 @@ module _ (image : Image) (tx : ℕ) (args : List ℤ) (c : Cache) (one : Words) 
       }
   owes =
       owes_after image tx args c n good.attempt end es tx_fits few n_fits a_fits
-      (view_one c one only 17 ∙ good.done)
+      (view_one c one only DONE ∙ good.done)
       (attempt image super tx args c one n end es tx_fits few n_fits only good a_fits empty ran
       sound)
       (none image super tx args c one n end es tx_fits few n_fits only good a_fits empty ran
@@ -60,7 +61,7 @@ module _ (image : Image) (tx : ℕ) (args : List ℤ) (c : Cache) (one : Words) 
   none_left : count_in image.parts.sizes (view (play c (due_seal tx args c))) ≡ 0
   none_left =
       empty_after image tx args c n good.attempt end es tx_fits few n_fits a_fits
-      (view_one c one only 17 ∙ good.done)
+      (view_one c one only DONE ∙ good.done)
       (attempt image super tx args c one n end es tx_fits few n_fits only good a_fits empty ran
       sound)
       (none image super tx args c one n end es tx_fits few n_fits only good a_fits empty ran

@@ -62,7 +62,7 @@ inside_seal n f args k le m =
     ++ (flushes_from 3 (payload_lines (length args)) ++ Fence ∷ [])) (Store SEAL k ∷ [])
     (inside_append n (stores_from FUNCTION (f ∷ args))
     (flushes_from 3 (payload_lines (length args)) ++ Fence ∷ [])
-    (inside_stores n 24 (f ∷ args) (omega arith))
+    (inside_stores n FUNCTION (f ∷ args) (omega arith))
     (inside_append n (flushes_from 3 (payload_lines (length args))) (Fence ∷ [])
     (inside_flushes n 3 (payload_lines (length args)) (omega arith)) (tt, tt)))
     (omega arith, tt))

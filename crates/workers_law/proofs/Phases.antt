@@ -19,7 +19,7 @@ use Rattle.pmem.specs.declared.answer.Phase.{Phase}
 use Rattle.pmem.specs.declared.answer.Phase.TheVariants.{Unsealed, Sealing, Sealed}
 use Rattle.pmem.specs.declared.answer.Refusal.TheVariants.{Off}
 use Rattle.pmem.proofs.Refused.{all_cache}
-use Rattle.pool_layout.specs.declared.places.TheConstants.{SEAL}
+use Rattle.pool_layout.specs.declared.places.TheConstants.{DONE, SEAL}
 use Rattle.pool_layout.specs.declared.limits.Sizes.{Sizes}
 use Rattle.pool_map.specs.declared.trap.TrapKind.TheVariants.{Steps}
 use Rattle.clobber_log.specs.Logs.{attempt_in, count_in}
@@ -298,7 +298,7 @@ unfolding apply
 fence k t c false uncut h = h
 fence k (Begun tx args s) c true uncut h = (
   (λ v version. h.0 v (fence_version c 5 v version)),
-  h.1 ∙ ap number_after (sym (view_fence c 17)),
+  h.1 ∙ ap number_after (sym (view_fence c DONE)),
 )
 fence k (Running s a n j) c true uncut h = sealed_fence k (c 5) h
 fence k (Ending end l) c true uncut h = sealed_fence k (c 5) h

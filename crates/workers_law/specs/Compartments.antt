@@ -8,7 +8,7 @@ use Rattle.cache_model.specs.Play.{apply, play}
 use Rattle.cache_model.specs.Image.{IsImage}
 use Rattle.crash_law.specs.Law.{IsAtRest, IsLeft, IsFenced, AreMarked}
 use Rattle.pool_workers.specs.Compartment.{cache_in, lifted, IsInside, AreAside}
-use Rattle.workers_law.specs.Fenced.{AreApart, fenced_cache}
+use Rattle.workers_law.specs.Fenced.{AreDisjoint, fenced_cache}
 use Rattle.workers_law.specs.Interleaved.{WorkerEvent, Piece, worker_events, whole_events}
 use Rattle.workers_law.specs.Interleaved.{own_events, seen_events, AreInside, IsPrefix, Interleaves}
 
@@ -59,6 +59,6 @@ abbrev pub EventLaw : Type 0
 EventLaw =
     ((f n : ℕ) (c : Cache) (e : CacheEvent) → IsInside n e →
     cache_in f n (apply c (lifted f e)) ≡ apply (cache_in f n c) e)
-    × ((f n g m : ℕ) (k : Bool) (c b : Cache) → AreApart f n g m → AreAside f n k c b →
+    × ((f n g m : ℕ) (k : Bool) (c b : Cache) → AreDisjoint f n g m → AreAside f n k c b →
     cache_in g m b ≡ fenced_cache k (cache_in g m c))
-    × ((n i j : ℕ) → i ≢ j → AreApart (n * i) n (n * j) n)
+    × ((n i j : ℕ) → i ≢ j → AreDisjoint (n * i) n (n * j) n)

@@ -5,8 +5,8 @@ use Rattle.cache_model.specs.Cache.{Cache}
 use Rattle.cache_model.specs.Play.{apply}
 
 -- two compartments that share no line
-abbrev pub AreApart : (f n g m : ℕ) → Type 0
-AreApart f n g m = (f + n ≤ g) ⊎ (g + m ≤ f)
+abbrev pub AreDisjoint : (f n g m : ℕ) → Type 0
+AreDisjoint f n g m = (f + n ≤ g) ⊎ (g + m ≤ f)
 
 -- a fence of all lines, or none
 abbrev pub fenced_cache : Bool → Cache → Cache

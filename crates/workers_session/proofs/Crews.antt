@@ -11,9 +11,9 @@ use Rattle.pmem.specs.Played.{PlaysAll}
 use Rattle.pmem.proofs.Refused.{all_on}
 use Rattle.pm_machine.specs.declared.image.Image.{Image}
 use Rattle.pool_workers.specs.Task.{IsUncutOr}
-use Rattle.pool_workers.specs.Crew.{Tasks, task_at, AreTasks, HasCompartments, OtherTasksStay}
+use Rattle.pool_workers.specs.Crew.{Tasks, task_at, AreTasks, AreUncut, HasCompartments, OtherTasksStay}
 use Rattle.workers_session.specs.declared.line.WorkersLine.{WorkersLine}
-use Rattle.workers_session.specs.WorkersState.{WorkersState, IsReadyFor, AreUninterrupted}
+use Rattle.workers_session.specs.WorkersState.{WorkersState, IsReadyFor}
 use Rattle.workers_session.specs.WorkersState.{stranger_in}
 use Rattle.workers_session.specs.WorkersCommands.{Scene, AreIdle, stopped_line, stopped_lines}
 use Rattle.workers_session.proofs.Rounds.{split_last}
@@ -28,7 +28,7 @@ out_of [] j past = refl
 out_of (o ∷ os) zero past = absurd (omega arith)
 out_of (o ∷ os) (suc j) past = out_of os j (omega arith)
 
-pub idle_uncut : (ts : Tasks) → AreIdle ts → AreUninterrupted ts
+pub idle_uncut : (ts : Tasks) → AreIdle ts → AreUncut ts
 idle_uncut ts idle = λ j. subst IsUncutOr (sym (idle j)) tt
 
 split_at : (j n : ℕ) → (j < n) ⊎ (n ≤ j)

@@ -8,9 +8,9 @@ use Rattle.pool_workers.specs.declared.answer.TurnAnswer.{TurnAnswer}
 use Rattle.pool_workers.specs.declared.answer.TurnAnswer.TheVariants as turned
 use Rattle.pool_workers.specs.declared.task.Task.{Task}
 use Rattle.pool_workers.specs.Task.{ticks_of, IsUncutOr, IsGoing}
-use Rattle.pool_workers.specs.Crew.{Tasks, task_at, AreTasks, HasCompartments, OtherTasksStay}
+use Rattle.pool_workers.specs.Crew.{Tasks, task_at, AreTasks, AreUncut, HasCompartments, OtherTasksStay}
 use Rattle.pool_workers.specs.Crew.{TurnOf, compartment}
-use Rattle.workers_session.specs.WorkersState.{WorkersState, IsReadyFor, AreUninterrupted}
+use Rattle.workers_session.specs.WorkersState.{WorkersState, IsReadyFor}
 use Rattle.workers_session.specs.WorkersCommands.{scene_of, is_interrupted, TurnFor}
 use Rattle.workers_session.specs.inside.Turning.{turns_in, busy_one}
 use Rattle.workers_session.proofs.Crews.{scene_is}
@@ -62,7 +62,7 @@ module _ (image : Image) (i : ℕ) (a : TurnAnswer) (w : WorkersState) (us : Tas
       turned_on a image one.task (task_at us i) (compartment image i d) (compartment image i b)
       one.turned goes ∙ on
 
-  uncut_by : is_interrupted a ≡ false → AreUninterrupted us
+  uncut_by : is_interrupted a ≡ false → AreUncut us
   uncut_by goes =
       λ j. ⊎_elim
       (λ (e : j ≡ i). subst (λ (n : ℕ). IsUncutOr (task_at us n)) (sym e)

@@ -1,22 +1,14 @@
 -- The text of the pool in a worker's compartment.
-use Rattle.std.specs.Prelude.{ℕ, ◌+◌, ◌≤◌, ◌≡◌, List}
+use Rattle.std.specs.Prelude.{ℕ, ◌≡◌, List}
 use Rattle.cache_model.specs.Cache.{view}
 use Rattle.pmem.specs.Device.{Device}
-use Rattle.pool_layout.specs.Sizes.{pool_lines}
 use Rattle.pool_map.specs.PoolMap.{PoolMap}
 use Rattle.pool_map.specs.PoolFits.{PoolFits}
 use Rattle.pool_map.specs.PoolText.{pool_text}
 use Rattle.heap_pool.specs.HeapPool.{heap_of, pool_in}
 use Rattle.c_types.specs.Shapes.{shapes_of}
-use Rattle.pm_machine.specs.declared.image.Image.{Image}
-use Rattle.pool_workers.specs.Compartment.{first_line}
 use Rattle.pool_workers.specs.Crew.{compartment}
 use Rattle.cnvm_session.specs.declared.program.Program.{Program}
-
--- the compartment lies within the device
-abbrev pub LiesWithin : Image → ℕ → Device → Type 0
-LiesWithin image worker d =
-    first_line image.parts.sizes worker + pool_lines image.parts.sizes ≤ d.lines
 
 abbrev pub worker_pool : Program → ℕ → Device → PoolMap
 worker_pool program worker d =

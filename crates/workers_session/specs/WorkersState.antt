@@ -7,8 +7,7 @@ use Rattle.pm_machine.specs.declared.image.Image.{Image}
 use Rattle.tx_run.specs.declared.standing.Standing.{Standing}
 use Rattle.tx_run.specs.declared.standing.Standing.TheVariants as stands
 use Rattle.pool_workers.specs.declared.task.Task.{Task}
-use Rattle.pool_workers.specs.Task.{IsUncutOr}
-use Rattle.pool_workers.specs.Crew.{Tasks, task_at, AreTasks, HasCompartments, standing_at}
+use Rattle.pool_workers.specs.Crew.{Tasks, task_at, AreTasks, AreUncut, HasCompartments, standing_at}
 use Rattle.cnvm_session.specs.declared.answer.Answer.TheVariants as answer
 use Rattle.workers_session.specs.declared.line.WorkersLine.{WorkersLine}
 use Rattle.workers_session.specs.declared.line.WorkersLine.TheVariants.{Plain, RefusedWorker}
@@ -18,10 +17,6 @@ pub record WorkersState : Type 0 where
   pub tasks : Tasks
   pub down : Bool
 
--- no turn of an unfinished transaction was refused
-abbrev pub AreUninterrupted : Tasks → Type 0
-AreUninterrupted ts = (worker : ℕ) → IsUncutOr (task_at ts worker)
-
 -- What holds between commands: the transactions are the image's, and each worker has a compartment.
 -- While the workers aren't down, the device is on and no turn was refused.
 pub record IsReadyFor (image : Image) (w : WorkersState) (d : Device) : Type 0 where
@@ -29,7 +24,7 @@ pub record IsReadyFor (image : Image) (w : WorkersState) (d : Device) : Type 0 w
   pub tasks : AreTasks image w.tasks
   pub lines : HasCompartments image w.tasks d
   pub on : w.down ≡ false → d.on ≡ true
-  pub uncut : w.down ≡ false → AreUninterrupted w.tasks
+  pub uncut : w.down ≡ false → AreUncut w.tasks
 
 -- the line for a worker that has an unfinished transaction
 abbrev pub busy_line : ℕ → Option Task → Option WorkersLine

@@ -6,8 +6,8 @@ ghost use Rattle.c_types.specs.Shapes.{shapes_of};
 ghost use Rattle.pool_layout.specs.Sizes.{pool_lines};
 ghost use Rattle.pool_layout.specs.declared.places.TheConstants as place;
 ghost use Rattle.pool_workers.specs.Compartment.{first_line};
-ghost use Rattle.pool_workers.specs.Crew.{compartment, standing_at};
-ghost use Rattle.workers_session.specs.Looks.{LiesWithin, IsPoolText};
+ghost use Rattle.pool_workers.specs.Crew.{compartment, HasCompartment, standing_at};
+ghost use Rattle.workers_session.specs.Looks.{IsPoolText};
 
 use cnvm_session::{Program, pool_text};
 use nvm_base::Text;
@@ -28,7 +28,7 @@ pub(crate) fn standing_of<P: Pmem + Drop, O: Origin>(
     requires first { O.first ≡ first_line image.now.parts.sizes worker }
     requires lines { O.lines ≡ pool_lines image.now.parts.sizes }
     requires whole { O.whole ≡ P.device dev.old }
-    requires inside { LiesWithin image.now worker (P.device dev.old) }
+    requires inside { HasCompartment image.now worker (P.device dev.old) }
     ensures on { (P.device dev.old).on ≡ true
         → result ≡ standing_at image.now worker (P.device dev.old) }
     ensures same { P.device dev.new ≡ P.device dev.old }
@@ -50,7 +50,7 @@ pub(crate) fn text_of<P: Pmem + Drop, O: Origin>(
     requires first { O.first ≡ first_line program.now.image.parts.sizes worker }
     requires lines { O.lines ≡ pool_lines program.now.image.parts.sizes }
     requires whole { O.whole ≡ P.device dev.old }
-    requires inside { LiesWithin program.now.image worker (P.device dev.old) }
+    requires inside { HasCompartment program.now.image worker (P.device dev.old) }
     ensures on { (P.device dev.old).on ≡ true
         → IfOk result (λ text. IsPoolText program.now worker (P.device dev.old) text) }
     ensures same { P.device dev.new ≡ P.device dev.old }
@@ -71,7 +71,7 @@ pub(crate) fn last_of<P: Pmem + Drop, O: Origin>(
     requires first { O.first ≡ first_line image.now.parts.sizes worker }
     requires lines { O.lines ≡ pool_lines image.now.parts.sizes }
     requires whole { O.whole ≡ P.device dev.old }
-    requires inside { LiesWithin image.now worker (P.device dev.old) }
+    requires inside { HasCompartment image.now worker (P.device dev.old) }
     ensures done { (P.device dev.old).on ≡ true → result.0
         ≡ view (compartment image.now worker (P.device dev.old)).cache place.DONE }
     ensures value { (P.device dev.old).on ≡ true → result.1

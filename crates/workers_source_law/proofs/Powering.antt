@@ -27,7 +27,7 @@ use Rattle.session_law.specs.Agrees.{Agrees}
 use Rattle.session_law.specs.State.{SourceState}
 use Rattle.session_law.specs.Answers.{Powers}
 use Rattle.workers_source_law.specs.States.{States}
-use Rattle.workers_source_law.specs.Lines.{left_of, RecoveryLines, PowerLines}
+use Rattle.workers_source_law.specs.Lines.{worker_image, RecoveryLines, PowerLines}
 use Rattle.workers_source_law.proofs.Stills.{own}
 use Rattle.workers_source_law.proofs.Invariants.{Stands, AllStand, changed, changed_own}
 use Rattle.workers_source_law.proofs.Invariants.{changed_others, stands_fenced, stands_down}
@@ -97,10 +97,10 @@ module _ (program : Program) (super : Words) where
           (compartment program.image worker z.device) mine.marked on a program.image x.steps
           z.steps one.recovered).on
 
-      told : Powers program (s worker) (left_of program worker cut) (answer_of_recovery a)
+      told : Powers program (s worker) (worker_image program worker cut) (answer_of_recovery a)
           (after_it worker)
       told =
-          subst (λ (u : SourceState). Powers program (s worker) (left_of program worker cut)
+          subst (λ (u : SourceState). Powers program (s worker) (worker_image program worker cut)
           (answer_of_recovery a) u) (sym (changed_own worker given.0 s))
           (subst (λ (v : Words). Powers program (s worker) v (answer_of_recovery a) given.0)
           (half.seen worker (omega arith)) given.1)

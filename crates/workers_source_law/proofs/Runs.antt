@@ -2,24 +2,23 @@
 use Rattle.std.proofs.Common.{◌≡◌, inl, inr, ℕ, zero, suc, false, List, [], ◌∷◌}
 use Rattle.std.proofs.Common.{length, replicate, Option, None, refl, sym, ap, subst, arith}
 use Rattle.std.specs.List.{AllByRecursion}
-use Rattle.std.proofs.lemmas.Option.{none-some}
 use Rattle.cache_model.specs.Event.{CacheEvent}
 use Rattle.cache_model.specs.Cache.{Words, Cache, blank}
-use Rattle.cache_model.specs.Play.{apply, play}
+use Rattle.cache_model.specs.Play.{play}
 use Rattle.pmem.specs.Device.{Device}
-use Rattle.pmem.specs.Played.{PlaysAll}
 use Rattle.pool_layout.specs.Sizes.{pool_lines}
 use Rattle.args_log.specs.Created.{creation_events}
 use Rattle.crash_law.specs.Law.{AreMarked}
 use Rattle.pool_workers.specs.declared.task.Task.{Task}
-use Rattle.pool_workers.specs.Crew.{task_at}
 use Rattle.workers_law.specs.AsCall.{quiet_on}
 use Rattle.workers_law.specs.Standing.{ShowsPlayed}
+use Rattle.workers_law.proofs.AsCalls.{plays_quiet}
 use Rattle.workers_law.proofs.Stands.{shown_images}
 use Rattle.workers_law.proofs.Powers as laws
 use Rattle.cnvm_session.specs.declared.program.Program.{Program}
 use Rattle.workers_script.specs.declared.command.WorkersCommand.{WorkersCommand}
 use Rattle.workers_session.specs.WorkersCommands.{Scene, scene_of}
+use Rattle.workers_session.proofs.Crews.{idle_at}
 use Rattle.workers_run.specs.WorkersRan.{RunsWorkers, BreaksOff, AreCreated, new_workers}
 use Rattle.session_law.specs.Source.{sizes_of}
 use Rattle.session_law.specs.Agrees.{Agrees}
@@ -37,19 +36,9 @@ use Rattle.workers_source_law.proofs.Commands.{command_gives, all_hold}
 
 -- new compartments
 
-plays_quiet : (lines : ℕ) (es : List CacheEvent) (c : Cache) →
-    PlaysAll (quiet_on lines c) es (quiet_on lines (play c es))
-plays_quiet lines [] c = refl
-plays_quiet lines (e ∷ es) c = (((refl, none-some 0), tt), plays_quiet lines es (apply c e))
-
 count_new : (n : ℕ) → length (replicate {A = Option Task} n None) ≡ n
 count_new zero = refl
 count_new (suc n) = ap suc (count_new n)
-
-none_new : (n j : ℕ) → task_at (replicate n None) j ≡ None
-none_new zero j = refl
-none_new (suc n) zero = refl
-none_new (suc n) (suc j) = none_new n j
 
 module _ (program : Program) where
   abbrev super : Words
@@ -75,7 +64,7 @@ module _ (program : Program) where
       (let same = count_new count in omega (arith, same, less)) in
       let looks = shown_images events blank (own program j b) (λ l. tt) in
       subst (λ (o : Option Task). Stands program super false o (own program j b) (created program))
-      (sym (none_new count j))
+      (sym (idle_at count j))
       (stands_rest program super false (own program j b) (created program) refl
       (subst AreMarked (sym shown.now_is) (marks_play shown.shown blank (λ l. tt)))
       (rest_same program super made (own program j b) (created program)

@@ -1,19 +1,12 @@
 -- The arguments of a script's commands are words.
-use Rattle.std.proofs.Common.{◌≡◌, ℕ, zero, suc, ◌+◌, ◌^◌, ◌<◌, ◌≤◌, Bool, true, false}
-use Rattle.std.proofs.Common.{if◌then◌else◌, ltb, leb, List, [], ◌∷◌, Option, Some, None, IfSome}
-use Rattle.std.proofs.Common.{option_map, Result, Ok, Err, ℤ, pos, neg_ℤ, refl, subst, arith}
-use Rattle.std.specs.Prelude.{bytes_eq, codes, drop, option_and_then}
+use Rattle.std.proofs.Common.{ℕ, ◌+◌}
+use Rattle.std.proofs.Common.{List, [], ◌∷◌, Option, Some, None, IfSome}
+use Rattle.std.proofs.Common.{option_map, Result, Ok, Err, subst}
+use Rattle.std.specs.Prelude.{bytes_eq, codes, option_and_then}
 use Rattle.std.specs.List.{AllByRecursion}
-use Rattle.std.specs.Str.Parse.{starts_with_minus}
-use Rattle.std.proofs.lemmas.Bool.{ltb-true, leb-true}
-use Rattle.std.proofs.lemmas.Int.{ints}
-use Rattle.nvm_base.specs.Wrap.{IsWord}
-use Rattle.cnvm_script.specs.Name.{is_name}
-use Rattle.cnvm_script.specs.Number.{bounded_numeral, as_positive, as_negative, argument}
-use Rattle.session_law.specs.Words.{AreWords}
 use Rattle.cnvm_script.specs.declared.command.Command.{Command}
 use Rattle.cnvm_script.specs.declared.command.Command.TheVariants as script
-use Rattle.cnvm_script.specs.Commands.{with_first, each, event_of, call_command, power_of}
+use Rattle.cnvm_script.specs.Commands.{each, event_of, call_command, power_of}
 use Rattle.cnvm_script.specs.Commands.{is_remark}
 use Rattle.cnvm_script.specs.Lines.{lines}
 use Rattle.cnvm_script.specs.Lines as line_of
@@ -24,77 +17,8 @@ use Rattle.workers_script.specs.WorkersGrammar.{power_with, worker_of, finish_of
 use Rattle.workers_script.specs.WorkersGrammar.{workers_meaning, workers_line_meaning}
 use Rattle.workers_script.specs.WorkersGrammar.{joined_workers, workers_from}
 use Rattle.session_law.specs.Law as session
+use Rattle.session_law.proofs.Scripts.{either, call_words}
 use Rattle.workers_source_law.specs.Law.{HasWordArgs, ArgsLaw}
-
-either : {A : Type 0} (P : A → Type 0) (b : Bool) (x y : Option A) → IfSome x P → IfSome y P
-    → IfSome (if b then x else y) P
-either P true x y first second = first
-either P false x y first second = second
-
--- an argument
-
-positive_word : (n : ℕ) → IfSome (as_positive n) IsWord
-positive_word n = go (ltb n (2 ^ 63)) refl
-  where
-    go : (b : Bool) → ltb n (2 ^ 63) ≡ b → IfSome (if b then Some (pos n) else None) IsWord
-    go true is = let less : n < 2 ^ 63 = ltb-true n (2 ^ 63) is in
-        (omega (arith, ints), omega (arith, ints))
-    go false is = tt
-
-minus_word : (n : ℕ) → n ≤ 2 ^ 63 → IsWord (neg_ℤ (pos n))
-minus_word zero less = (omega (arith, ints), omega (arith, ints))
-minus_word (suc n) less = (omega (arith, ints), omega (arith, ints))
-
-negative_word : (n : ℕ) → IfSome (as_negative n) IsWord
-negative_word n = go (leb n (2 ^ 63)) refl
-  where
-    go : (b : Bool) → leb n (2 ^ 63) ≡ b → IfSome (if b then Some (neg_ℤ (pos n)) else None) IsWord
-    go true is = minus_word n (leb-true n (2 ^ 63) is)
-    go false is = tt
-
-then_word : (f : ℕ → Option ℤ) (o : Option ℕ) → ((n : ℕ) → IfSome (f n) IsWord)
-    → IfSome (option_and_then f o) IsWord
-then_word f None each_is = tt
-then_word f (Some n) each_is = each_is n
-
-argument_word : (word : List ℕ) → IfSome (argument word) IsWord
-argument_word word =
-    either IsWord (starts_with_minus word)
-    (option_and_then as_negative (bounded_numeral 19 (drop 1 word)))
-    (option_and_then as_positive (bounded_numeral 19 word))
-    (then_word as_negative (bounded_numeral 19 (drop 1 word)) negative_word)
-    (then_word as_positive (bounded_numeral 19 word) positive_word)
-
-first_words : (first : Option ℤ) (others : Option (List ℤ)) → IfSome first IsWord
-    → IfSome others AreWords → IfSome (with_first first others) AreWords
-first_words None others is are = tt
-first_words (Some x) None is are = tt
-first_words (Some x) (Some xs) is are = both
-  where
-    both : AreWords (x ∷ xs)
-    both zero = is
-    both (suc i) = are i
-
-none_words : AreWords []
-none_words i = (omega (arith, ints), omega (arith, ints))
-
-each_words : (words : List (List ℕ)) → IfSome (each argument words) AreWords
-each_words [] = none_words
-each_words (word ∷ words) = first_words (argument word) (each argument words) (argument_word word)
-    (each_words words)
-
--- a call
-
-named_words : (name : List ℕ) (o : Option (List ℤ)) → IfSome o AreWords
-    → IfSome (option_map (script.Call name) o) session.IsWordCommand
-named_words name None are = tt
-named_words name (Some args) are = are
-
-call_words : (words : List (List ℕ)) → IfSome (call_command words) session.IsWordCommand
-call_words [] = tt
-call_words (name ∷ args) =
-    either session.IsWordCommand (is_name name) (option_map (script.Call name) (each argument args))
-    None (named_words name (each argument args) (each_words args)) tt
 
 abbrev AreWordy : Option WorkersCommand → Type 0
 AreWordy o = IfSome o HasWordArgs

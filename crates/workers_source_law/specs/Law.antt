@@ -57,8 +57,8 @@ pub record HoldsState (program : Program) (worker : ℕ) (d : Device) (s : Sourc
   pub done : view (compartment program.image worker d).cache DONE ≡ pos s.done
   pub last : view (compartment program.image worker d).cache LAST ≡ s.last
 
--- A worker without a transaction whose compartment takes calls has it in this state, or the
--- compartment has the mark of its trap; one that owes a transaction is in it.
+-- The compartment of an idle worker holds the worker's state, or has the mark of its trap; a worker
+-- that owes a transaction is in it.
 abbrev pub WorkerHolds : Standing → Program → (worker : ℕ) → Option Task → Device → SourceState
     → Type 0
 WorkerHolds Ready program worker o d s = (o ≡ None) × HoldsState program worker d s
@@ -75,8 +75,8 @@ AllHold program x =
     WorkerHolds (x.states worker).standing program worker (task_at x.scene.workers.tasks worker)
     x.scene.device (x.states worker)
 
--- A worker whose transaction the power cut stopped in this phase: the images of its compartment
--- have the transaction's seal, or don't have it, as the phase says.
+-- Where the power cut stopped a worker's transaction in this phase, the images of its compartment
+-- have the transaction's seal or don't, as the phase says.
 abbrev pub PhaseHolds : Program → (worker : ℕ) → Answer → Instant → Type 0
 PhaseHolds program worker (answer.Stopped at) y =
     Images (HasPhase at (y.states worker)) (compartment program.image worker y.scene.device).cache
@@ -114,7 +114,7 @@ RanWorkers program (c ∷ commands) x w y w' =
     × WorkersStep program c x lines z
     × Appends w w1 (lines_text lines) × RanWorkers program commands z w1 y w'
 
--- the first commands, and of the lines of the last of these a part is written, perhaps none
+-- the first commands; the lines of the last one are written in part, perhaps not at all
 abbrev pub BrokeOff : Program → List WorkersCommand → Instant → Option (List ℕ) → Instant
     → Option (List ℕ) → Type 0
 BrokeOff program [] x w y w' = ⊥

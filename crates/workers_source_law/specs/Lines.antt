@@ -67,8 +67,8 @@ TurnLines program (l ∷ lines) s t =
     (r : States) × TurnLine program l s r × TurnLines program lines r t
 
 -- the image that a power cut leaves of a worker's compartment
-abbrev pub left_of : Program → (worker : ℕ) → Device → Words
-left_of program worker cut = view (compartment program.image worker cut).cache
+abbrev pub worker_image : Program → (worker : ℕ) → Device → Words
+worker_image program worker cut = view (compartment program.image worker cut).cache
 
 -- The recoveries after a power cut, from this worker on, each with a line: each is answered as that
 -- of a session would be, from the worker's own state and the image of its own compartment.
@@ -77,7 +77,7 @@ abbrev pub RecoveryLines : Program → (cut : Device) → (worker : ℕ) → Lis
 RecoveryLines program cut worker [] s t = t ≡ s
 RecoveryLines program cut worker (l ∷ lines) s t =
     (a : Answer) × (r : States) × (l ≡ line.Own worker a)
-    × Powers program (s worker) (left_of program worker cut) a (r worker) × RestStays worker s r
+    × Powers program (s worker) (worker_image program worker cut) a (r worker) × RestStays worker s r
     × RecoveryLines program cut (suc worker) lines r t
 
 -- a pick that doesn't fit changes nothing

@@ -1,8 +1,7 @@
 //! Two workers with a short call each, in every order of their turns, uncut and cut at each event.
 
 ghost use Rattle.std.specs.Prelude.{◌≡◌, ◌≤◌, ◌<◌, length};
-ghost use Rattle.pool_workers.specs.Crew.{AreTasks, HasCompartments};
-ghost use Rattle.pool_workers.specs.inside.Crew.{AreUncut};
+ghost use Rattle.pool_workers.specs.Crew.{AreTasks, AreUncut, HasCompartments};
 
 use crate::program::program;
 use crate::runs::{Seen, is_right, order_and_recover};

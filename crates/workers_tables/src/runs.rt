@@ -2,8 +2,7 @@
 //! compartments.
 
 ghost use Rattle.std.specs.Prelude.{◌≡◌, ◌≤◌, ◌<◌, ◌^◌, true, false, length};
-ghost use Rattle.pool_workers.specs.Crew.{AreTasks, HasCompartments};
-ghost use Rattle.pool_workers.specs.inside.Crew.{AreUncut};
+ghost use Rattle.pool_workers.specs.Crew.{AreTasks, AreUncut, HasCompartments};
 ghost use Rattle.pool_workers.specs.Task.{IsGoing};
 
 use cache_model::{Choice, Picks, Rest};

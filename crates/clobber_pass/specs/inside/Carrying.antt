@@ -7,11 +7,10 @@ use Rattle.ir.specs.declared.instruction.Instruction.TheVariants.{Load, Store, N
 use Rattle.ir.specs.declared.instruction.Instruction.TheVariants.{Return, Tick, Trap, Log}
 use Rattle.clobber_pass.specs.declared.topic.Topic.{Topic}
 use Rattle.clobber_pass.specs.declared.growth.Grown.{Grown}
-use Rattle.clobber_pass.specs.inside.Closed.{Reached, Made, only, raised_in}
+use Rattle.clobber_pass.specs.inside.Closed.{Reached, Made, one_word_row, raised_in}
 use Rattle.clobber_pass.specs.inside.Closed.Stage.{RowAt}
 
--- the slot that an instruction may write, other than that of the word that it meets; that of the
--- sought fact, if there is none
+-- the other slot that an instruction may write, or that of the sought fact
 abbrev pub result_slot : Instruction → ℕ
 result_slot (Const to v) = to + 2
 result_slot (Copy to from) = to + 2
@@ -36,7 +35,7 @@ grown_from p s (w ∷ ws) = record { place = p; slot = s; word = w } ∷ grown_f
 -- a word reaches a place
 abbrev pub Arrives : Topic → List (List (List ℕ)) → List ℕ → List Instruction → ℕ → ℕ → ℕ → Type 0
 Arrives topic exits entry code p s w =
-    Reached topic exits entry code (RowAt p (only (length entry) s w))
+    Reached topic exits entry code (RowAt p (one_word_row (length entry) s w))
 
 abbrev pub AllArrive : Topic → List (List (List ℕ)) → List ℕ → List Instruction → List Grown
     → Type 0

@@ -51,8 +51,8 @@ pass_in functions exits x g e y =
     has_bit x (exit (exits_of exits g) (column (parameters_at functions g) e) (slot y))
 
 -- a row that has one word
-abbrev pub only : ℕ → ℕ → ℕ → List ℕ
-only n s w = slice_set (replicate n 0) s w
+abbrev pub one_word_row : ℕ → ℕ → ℕ → List ℕ
+one_word_row n s w = slice_set (replicate n 0) s w
 
 -- a table after bits were added to a word of a place's row
 abbrev pub raised_in : List (List ℕ) → ℕ → ℕ → ℕ → List (List ℕ)
@@ -73,12 +73,13 @@ pub data Reached (topic : Topic) (exits : List (List (List ℕ))) (entry : List 
   again : (rows : List (List ℕ)) → Reached topic exits entry code (Table rows)
       → Reached topic exits entry code (Table (swept topic exits (length code) rows entry 0 code))
   raised : (rows : List (List ℕ)) (p s w : ℕ) → Reached topic exits entry code (Table rows)
-      → Reached topic exits entry code (RowAt p (only (length entry) s w))
+      → Reached topic exits entry code (RowAt p (one_word_row (length entry) s w))
       → Reached topic exits entry code (Table (raised_in rows p s w))
   taken : (rows : List (List ℕ)) (p s : ℕ) → Reached topic exits entry code (Table rows)
-      → Reached topic exits entry code (RowAt p (only (length entry) s (word (row_in rows p) s)))
+      → Reached topic exits entry code (RowAt p
+      (one_word_row (length entry) s (word (row_in rows p) s)))
   picked : (p : ℕ) (row : List ℕ) (s : ℕ) → Reached topic exits entry code (RowAt p row)
-      → Reached topic exits entry code (RowAt p (only (length entry) s (word row s)))
+      → Reached topic exits entry code (RowAt p (one_word_row (length entry) s (word row s)))
   dropped : (p : ℕ) (row : List ℕ) (s : ℕ) → Reached topic exits entry code (RowAt p row)
       → Reached topic exits entry code (RowAt p (slice_set row s 0))
   leads : (p q : ℕ) (i : Instruction) (row : List ℕ) → slice_get code p ≡ Some i

@@ -23,11 +23,11 @@ mask first field = if nat_lt field first then 0
 unfoldable pub place_bit : ℕ → ℕ
 place_bit x = if nat_lt x 16 then 2 ^ x else 0
 
-abbrev pub is_field : StructField → ℕ → ℕ → Bool
-is_field c t y = (c.kind == t) && (c.field == y)
+abbrev pub names_field : StructField → ℕ → ℕ → Bool
+names_field c t y = (c.kind == t) && (c.field == y)
 
 abbrev pub bit_of : StructField → ℕ → ℕ → ℕ → ℕ
-bit_of c x t y = if is_field c t y then place_bit x else 0
+bit_of c x t y = if names_field c t y then place_bit x else 0
 
 -- the bits of a field among those from the place x on, and more bits
 abbrev pub fields_from : List StructField → ℕ → ℕ → ℕ → ℕ → ℕ

@@ -5,10 +5,10 @@ use Rattle.walk_check.specs.declared.certificate.Piece.{Piece}
 use Rattle.walk_check.specs.Keeps.{passing_keeps}
 
 -- pieces that pass calls: none, or one more that keeps the rules
-pub data Passing (ir : Ir) : List Piece → Type 0 where
-  no_piece : Passing ir []
-  one_more : {ps : List Piece} (p : Piece) → Passing ir ps → passing_keeps ir ps p ≡ true
-      → Passing ir (ps ++ p ∷ [])
+pub data ArePassing (ir : Ir) : List Piece → Type 0 where
+  no_piece : ArePassing ir []
+  one_more : {ps : List Piece} (p : Piece) → ArePassing ir ps → passing_keeps ir ps p ≡ true
+      → ArePassing ir (ps ++ p ∷ [])
 
 -- the first pieces and more
 pub data Grows : List Piece → List Piece → Type 0 where

@@ -34,12 +34,12 @@ abbrev pub IsAboveBefore : List Entry → (count k n : ℕ) → Type 0
 IsAboveBefore t count k n = (m : ℕ) (x y : Entry) → slice_get t k ≡ Some y
     → slice_get t m ≡ Some x → m < k → bucket_of count x ≡ bucket_of count y → m < n
 
--- each of the numbers is above those of the entries before its own that are of its bucket
+-- each of the numbers is above those of the earlier entries of its bucket
 abbrev pub AreAbove : List Entry → (count : ℕ) → (befores : List ℕ) → Type 0
 AreAbove t count befores =
     (k n : ℕ) → slice_get befores k ≡ Some n → IsAboveBefore t count k n
 
--- each number that is kept is above what it is to be above
+-- each kept number is an upper bound
 pub record IsChained (count : ℕ) (t : List Entry) (lasts befores : List ℕ) : Type 0 where
   pub above_all : (b n : ℕ) → slice_get lasts b ≡ Some n → IsAbove t count b n
   pub not_longer : length befores ≤ length t

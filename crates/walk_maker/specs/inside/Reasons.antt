@@ -17,7 +17,7 @@ use Rattle.walk_check.specs.declared.certificate.Piece.{Piece}
 use Rattle.walk_check.specs.declared.certificate.Walk.{Walk}
 use Rattle.walk_check.specs.declared.certificate.Reason.{Reason}
 use Rattle.walk_check.specs.Keeps.{fact_is_there, walk_keeps, reason_keeps}
-use Rattle.walk_check.specs.inside.Grown.{Passing, Grows}
+use Rattle.walk_check.specs.inside.Grown.{ArePassing, Grows}
 use Rattle.walk_maker.specs.declared.table.Aim.TheVariants.{ToSite}
 use Rattle.walk_maker.specs.declared.table.Link.TheVariants.{End}
 use Rattle.walk_maker.specs.declared.table.Entry.{Entry}
@@ -48,7 +48,7 @@ IsWalkTo ir site a ps None = SomeWalk ir.functions site.function site.place a �
 
 pub record WalkGiven (ir : Ir) (site : Site) (a : WalkFact) (old new : List Piece)
     (walk : Option Walk) : Type 0 where
-  pub passing : Passing ir new
+  pub passing : ArePassing ir new
   pub grown : Grows old new
   pub given : IsWalkTo ir site a new walk
 
@@ -59,7 +59,7 @@ IsReason ir site ps None = IsLogged ir.functions site → ⊥
 
 pub record ReasonGiven (ir : Ir) (site : Site) (old new : List Piece)
     (reason : Option Reason) : Type 0 where
-  pub passing : Passing ir new
+  pub passing : ArePassing ir new
   pub grown : Grows old new
   pub given : IsReason ir site new reason
 

@@ -1,7 +1,7 @@
 use Rattle.std.proofs.Common.{◌≡◌, ◌∙◌, ◌+◌, sym, ap, length, slice_set}
 use Rattle.std.proofs.lemmas.Result.{IfOk-weaker}
 use Rattle.clobber_pass.specs.inside.Row.{after_row}
-use Rattle.clobber_pass.specs.inside.Closed.{only}
+use Rattle.clobber_pass.specs.inside.Closed.{one_word_row}
 use Rattle.clobber_pass.proofs.Carrying.{step_carries, step_blank}
 use Rattle.clobber_pass.proofs.carry.past_step.Goals as goal
 
@@ -9,7 +9,8 @@ pub returns-clause-carries : goal.returns-clause-carries
 returns-clause-carries c =
     let s = c.args.grown.slot in
     let w = c.args.grown.word in
-    let row = after_row c.args.topic c.args.instruction.now (only (length c.args.row.now) s w) in
+    let row = after_row c.args.topic c.args.instruction.now
+    (one_word_row (length c.args.row.now) s w) in
     let row_is : c.step.new.row ≡ row = c.step.ensures
     ∙ ap (after_row c.args.topic c.args.instruction.now)
     (c.put.ensures ∙ ap (λ r. slice_set r s w) c.requires.blank) in
@@ -25,7 +26,8 @@ returns-clause-blank c =
     let s = c.args.grown.slot in
     let w = c.args.grown.word in
     let n = length c.args.row.now in
-    let row_is : c.step.new.row ≡ after_row c.args.topic c.args.instruction.now (only n s w) =
+    let row_is : c.step.new.row ≡ after_row c.args.topic c.args.instruction.now
+    (one_word_row n s w) =
     c.step.ensures ∙ ap (after_row c.args.topic c.args.instruction.now)
     (c.put.ensures ∙ ap (λ r. slice_set r s w) c.requires.blank) in
     IfOk-weaker c.hand_on-3.result _ _ (λ done is.

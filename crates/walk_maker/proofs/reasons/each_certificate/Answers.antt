@@ -1,7 +1,7 @@
 use Rattle.std.proofs.Common.{rules, ◌≡◌, ◌≤◌, ◌+◌, [], drop, length, subst, sym}
 use Rattle.std.proofs.Common.{arith}
 use Rattle.std.proofs.lemmas.Option.{slice_get-get_or}
-use Rattle.walk_check.specs.inside.Grown.Passing.{no_piece}
+use Rattle.walk_check.specs.inside.Grown.ArePassing.{no_piece}
 use Rattle.walk_maker.proofs.Fuel.{drop_past}
 use Rattle.walk_maker.proofs.Judged.{Reasoned, reasoned_at, reasoned_all, no_fault, lists_logged}
 use Rattle.walk_maker.proofs.reasons.each_certificate.Goals as goal

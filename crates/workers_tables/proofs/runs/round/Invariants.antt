@@ -1,6 +1,5 @@
 use Rattle.std.proofs.Common.{◌≡◌, length}
-use Rattle.pool_workers.specs.Crew.{AreTasks, HasCompartments}
-use Rattle.pool_workers.specs.inside.Crew.{AreUncut}
+use Rattle.pool_workers.specs.Crew.{AreTasks, AreUncut, HasCompartments}
 use Rattle.workers_tables.proofs.runs.round.Given as goal
 
 abbrev pub invariant-loop-worker : goal.invariant-loop-worker
