@@ -1,4 +1,4 @@
-"""The page that tools/explore writes: one file that needs nothing else."""
+"""The pages that tools/explore writes: each is one file that needs nothing else."""
 
 import html
 import json
@@ -266,4 +266,35 @@ recovery at which the power went off again, and the cells of a column are the ol
 versions.</p>
 {page.recoveries()}
 {embedded("cuts", page.data())}{embedded("before", explored.before)}<script>{SCRIPT}</script></body></html>
+"""
+
+
+def storm_call(explored, cuts):
+    """One call of a storm: a cell for each drawn cut, at its event, and the other pools that cuts left."""
+    counts = explored.counts(cuts)
+    columns = []
+    for event in sorted({cut.event for cut in cuts}):
+        cells = "".join(f'<div class="cell {explored.kind(cut.outcome)}" title="stop {cut.event}, {cut.choice}: '
+                        f'{html.escape(cut.outcome.answer)}">{cut.choice.split()[1]}</div>' for cut in cuts if cut.event == event)
+        columns.append(f'<div><div class="number">{event}</div>{cells}</div>')
+    others = "".join(f'<div class="card">{code(f"stop {cut.event}")}, {code(cut.choice)}: {code(cut.outcome.answer)}'
+                     f'{pool_of(cut.outcome, explored.pool_before)}</div>'
+                     for cut in cuts if explored.kind(cut.outcome) == "other")
+    key = "; ".join(f'<b class="{kind}">{counts[kind]}</b> left {words}' for kind, words in KINDS.items() if counts[kind])
+    return (f'<h2>{code(explored.call)}</h2><p class="small">{explored.events} events; without a cut the answer is '
+            f'{code(explored.value)}. {len(cuts)} cuts: {key or "none"}.</p><div class="scroll"><div class="grid" '
+            f'style="grid-template-columns: repeat({len(columns) or 1}, 44px)">{"".join(columns)}</div></div>{others}')
+
+
+def storm_page_of(program, calls):
+    """The drawn cuts of a storm, each call of the script with its own, as a page."""
+    title = html.escape(f"{os.path.basename(program)}, {sum(len(cuts) for _, cuts in calls)} drawn cuts")
+    return f"""<!doctype html>
+<html lang="en"><head><meta charset="utf-8"><meta name="viewport" content="width=device-width, initial-scale=1">
+<title>{title}</title><style>{STYLE}</style></head><body>
+<h1>{title}</h1>
+<p>The calls of the script in their order. A column is an event of the call at which the power went off; each cell is a
+drawn cut there, with the oldest (old) or the newest (new) version of each cache line.</p>
+{"".join(storm_call(explored, cuts) for explored, cuts in calls)}
+</body></html>
 """
