@@ -15,6 +15,7 @@ use Rattle.pmem.specs.declared.answer.Phase.TheVariants as phase
 use Rattle.pmem.proofs.Refused.{all_cache}
 use Rattle.pmem.proofs.Parts.{part_during, all_during, during_start}
 use Rattle.pool_layout.specs.declared.places.Place.TheVariants.{Last}
+use Rattle.pool_layout.specs.declared.places.TheConstants.{ARGUMENTS}
 use Rattle.pool_layout.specs.Places.{at, pool_of}
 use Rattle.pool_layout.specs.Log.{count}
 use Rattle.pool_layout.specs.Good.{Pool, Good}
@@ -44,7 +45,7 @@ use Rattle.abort_law.proofs.Redoes.{redo_owes, cut_remarked}
 
 module _ (image : Image) (super : Words) (tx : ℕ) (args : List ℤ) (d b : Device) (one : Words)
     (n : ℕ) (end : End) (es : List Effect)
-    (tx_fits : tx < 2 ^ 63) (few : length args ≤ 22) (n_fits : n < 2 ^ 62)
+    (tx_fits : tx < 2 ^ 63) (few : length args ≤ ARGUMENTS) (n_fits : n < 2 ^ 62)
     (only : HasOne d.cache one)
     (good : Good (pool_with image super) n (heap_in image.parts.sizes d.cache) one)
     (a_fits : good.attempt < 2 ^ 62)
@@ -107,7 +108,7 @@ module _ (image : Image) (super : Words) (tx : ℕ) (args : List ℤ) (d b : Dev
 
 module _ (image : Image) (super : Words) (tx : ℕ) (args : List ℤ) (d b : Device) (one : Words)
     (n : ℕ) (g : Words) (end : End) (es : List Effect)
-    (few : length args ≤ 22) (only : HasOne d.cache one)
+    (few : length args ≤ ARGUMENTS) (only : HasOne d.cache one)
     (owed : IsOwed (pool_with image super) (call_of n tx args) g one)
     (ran : mrun_marked image image.parts.most g tx args ≡ Finished end es) (tidy : IsTidyRun end es)
     (m : ℕ) (counted : count (pool_of image.parts.sizes) owed.attempt one ≡ m)
@@ -169,7 +170,8 @@ module _ (image : Image) (super : Words) (tx : ℕ) (args : List ℤ) (d b : Dev
 -- however often a recovery is cut
 module _ (image : Image) (super : Words) (tx : ℕ) (args : List ℤ) (d : ℕ) (g : Words) (last : ℤ)
     (end : End) (es : List Effect)
-    (few : length args ≤ 22) (ran : mrun_marked image image.parts.most g tx args ≡ Finished end es)
+    (few : length args ≤ ARGUMENTS)
+    (ran : mrun_marked image image.parts.most g tx args ≡ Finished end es)
     (tidy : IsTidyRun end es) where
   abbrev pool : Pool
   pool = pool_with image super

@@ -11,6 +11,7 @@ use Rattle.cache_model.specs.Play.{play}
 use Rattle.cache_model.specs.Image.{Images, HasOne}
 use Rattle.cache_model.specs.During.{during}
 use Rattle.pool_layout.specs.declared.places.TheConstants.{LAST, DONE, ATTEMPT, FUNCTION, SEAL}
+use Rattle.pool_layout.specs.declared.places.TheConstants.{ARGUMENTS}
 use Rattle.pool_layout.specs.declared.limits.Sizes.{Sizes}
 use Rattle.pool_layout.specs.declared.places.Place.TheVariants.{Last, RecordStamp, Heap}
 use Rattle.pool_layout.specs.Places.{at, pool_of}
@@ -70,7 +71,8 @@ marked_sound image k s heap end es lines ran tidy =
 
 module _ (image : Image) (super : Words) (tx : ℕ) (args : List ℤ) (c : Cache) (one : Words) (d : ℕ)
     (end : End) (es : List Effect)
-    (tx_fits : tx < 2 ^ 63) (few : length args ≤ 22) (d_fits : d < 2 ^ 62) (only : HasOne c one)
+    (tx_fits : tx < 2 ^ 63) (few : length args ≤ ARGUMENTS) (d_fits : d < 2 ^ 62)
+    (only : HasOne c one)
     (good : Good (pool_with image super) d (heap_in image.parts.sizes c) one)
     (a_fits : good.attempt < 2 ^ 62)
     (empty : count (pool_of image.parts.sizes) good.attempt one ≡ 0)
@@ -108,9 +110,9 @@ module _ (image : Image) (super : Words) (tx : ℕ) (args : List ℤ) (c : Cache
 
   missed : (p : ℕ) → (p < FUNCTION) ⊎ (SEAL < p) → Misses p sealing
   missed p out =
-      misses_seal (cast_signed w64 tx) (take 22 args)
+      misses_seal (cast_signed w64 tx) (take ARGUMENTS args)
       (number_after (view c DONE)) p
-      (subst (λ (xs : List ℤ). length xs ≤ 22) (sym (take_all 22 args few)) few) out
+      (subst (λ (xs : List ℤ). length xs ≤ ARGUMENTS) (sym (take_all ARGUMENTS args few)) few) out
 
   seen : (p : ℕ) → (p < FUNCTION) ⊎ (SEAL < p) → view sealed p ≡ one p
   seen p out = view_missed sealing c p (missed p out) ∙ view_one c one only p
@@ -158,10 +160,10 @@ module _ (image : Image) (super : Words) (tx : ℕ) (args : List ℤ) (c : Cache
   -- a seal, and a list after it
   sealed_is : (rest : List CacheEvent) → sealing ++ rest ≡ crash.due_seal call ++ rest
   sealed_is rest =
-      ap (λ (f : ℤ). seal_events f (take 22 args) (number_after (view c DONE)) ++ rest)
+      ap (λ (f : ℤ). seal_events f (take ARGUMENTS args) (number_after (view c DONE)) ++ rest)
       (to_z_pos w64 tx tx_fits)
       ∙ ap (λ (xs : List ℤ). seal_events (pos tx) xs (number_after (view c DONE)) ++ rest)
-      (take_all 22 args few)
+      (take_all ARGUMENTS args few)
       ∙ ap (λ (k : ℤ). seal_events (pos tx) args k ++ rest)
       (next_is (view c DONE) d (view_one c one only DONE ∙ good.done) d_le)
 

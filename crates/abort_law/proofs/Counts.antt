@@ -179,7 +179,7 @@ module _ (image : Image) where
       turned_alike ls s h r (λ ms t g. steps_marked image k ms t g)
       (missing ls (due_store image s)) (λ ms t g f e. steps_same k ms t g f e) same
 
--- The records after a run's trace are those that its effects tell, if each LOG has its STORE.
+-- The records after a run's trace are those that its effects append, if each LOG has its STORE.
 
 trace_headers : (last : Option ℕ) (w m : ℕ) (es : List past.Effect) →
     trace_of last (headers_before w m es) ≡ trace_of last es

@@ -5,7 +5,7 @@ use Rattle.std.proofs.Common.{if◌then◌else◌, nat_lt, Bool, true, false, Li
 use Rattle.std.proofs.Common.{slice_get, Option, Some, None, ℤ, ◌+ℤ◌, pos, int_eq, w64, refl, sym}
 use Rattle.std.proofs.Common.{ap, ◌∙◌, subst, arith, eq-eqb, ne_eqb}
 use Rattle.std.specs.Int.{int_wrap}
-use Rattle.std.proofs.lemmas.Bool.{cases_eq}
+use Rattle.std.proofs.lemmas.Bool.{cases_eq, false_from_ne_true}
 use Rattle.std.proofs.lemmas.Bool.Decides.{Decides-int_eq}
 use Rattle.cache_model.specs.Event.{Store, Flush}
 use Rattle.cache_model.specs.Cache.{Words, put, Cache, view}
@@ -192,14 +192,10 @@ module _ (image : Image) where
   name_same : (u w : ℕ) → int_eq (pos u) (pos w) ≡ (w == u)
   name_same u w = ⊎_elim
       (λ (e : w ≡ u). (Decides-int_eq (pos u) (pos w)).1 (ap pos (sym e)) ∙ sym (eq-eqb w u e))
-      (λ (ne : w ≢ u). false_of (int_eq (pos u) (pos w))
+      (λ (ne : w ≢ u). false_from_ne_true (int_eq (pos u) (pos w))
       (λ is. ne (sym (pos_inj u w ((Decides-int_eq (pos u) (pos w)).0 is))))
       ∙ sym (ne_eqb w u ne))
       (cases_eq w u)
-    where
-      false_of : (b : Bool) → (b ≡ true → ⊥) → b ≡ false
-      false_of true never = absurd (never refl)
-      false_of false never = refl
 
   has_same : (ls : List ℕ) (c : Cache) (w : ℕ) → AreRecorded image.parts.sizes ls c →
       has_record (word_in_record image.parts.sizes (view c)) (length ls) w ≡ is_listed w ls

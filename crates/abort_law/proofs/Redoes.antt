@@ -8,7 +8,7 @@ use Rattle.cache_model.specs.Image.{Images, HasOne}
 use Rattle.cache_model.specs.During.{during}
 use Rattle.cache_model.proofs.Views.{view_same, view_other, view_flush, view_fence}
 use Rattle.cache_model.proofs.During.{play_append}
-use Rattle.pool_layout.specs.declared.places.TheConstants.{LAST, DONE, ATTEMPT, SEAL}
+use Rattle.pool_layout.specs.declared.places.TheConstants.{LAST, DONE, ATTEMPT, SEAL, ARGUMENTS}
 use Rattle.pool_layout.specs.declared.limits.Sizes.{Sizes}
 use Rattle.pool_layout.specs.declared.places.Layout.{Layout}
 use Rattle.pool_layout.specs.declared.places.Place.TheVariants.{Last, RecordWord, RecordOld}
@@ -58,7 +58,7 @@ use Rattle.undo_law.proofs.Rest.{reabort_rest}
 
 module _ (image : Image) (super : Words) (tx : ℕ) (args : List ℤ) (c : Cache) (one : Words) (d : ℕ)
     (h : Words) (end : End) (es : List Effect)
-    (few : length args ≤ 22) (only : HasOne c one)
+    (few : length args ≤ ARGUMENTS) (only : HasOne c one)
     (owed : IsOwed (pool_with image super) (call_of d tx args) h one)
     (ran : mrun_marked image image.parts.most h tx args ≡ Finished end es)
     (tidy : IsTidyRun end es) where
@@ -136,9 +136,6 @@ module _ (image : Image) (super : Words) (tx : ℕ) (args : List ℤ) (c : Cache
       (ran_again ∙ ap (λ (q : End). Finished q es) is) tt
       (subst (λ (q : End). IsSoundRun q es) is both.0) both.1
       ∙ ap (λ (x : ℤ). due_undone z k (suc d) r (trace_in es) x) last_is
-
-  abbrev Ready : Cache → Type 0
-  Ready b = Owes (abort_due_on image s b) z 0 0 r end es
 
   owing : (b : Cache) (k : ℕ) → k ≤ 2 ^ 62 → view b DONE ≡ pos d → view b ATTEMPT ≡ pos k →
       Holds z k no_records b → heap_in z b ≡ r → Owes (abort_due_on image s b) z k 0 r end es

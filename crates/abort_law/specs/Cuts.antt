@@ -11,6 +11,7 @@ use Rattle.pool_layout.specs.Places.{pool_of}
 use Rattle.pool_layout.specs.Sizes.{heap_words}
 use Rattle.pool_layout.specs.Log.{count}
 use Rattle.pool_layout.specs.Good.{Pool}
+use Rattle.pool_layout.specs.declared.places.TheConstants.{ARGUMENTS}
 use Rattle.pm_machine.specs.declared.effect.Effect.{Effect}
 use Rattle.pm_machine.specs.declared.effect.End.{End}
 use Rattle.pm_machine.specs.declared.effect.End.TheVariants.{Halted, Trapped}
@@ -96,7 +97,7 @@ abbrev pub CutMarkedLaw : Type 0
 CutMarkedLaw =
     (image : Image) (super : Words) (tx : ℕ) (args : List ℤ) (c : Cache) (one : Words) (d : ℕ)
     (end : End) (es : List Effect) →
-    BeginsOn image super tx d c one → length args ≤ 22 →
+    BeginsOn image super tx d c one → length args ≤ ARGUMENTS →
     mrun_marked image image.parts.most (heap_in image.parts.sizes c) tx args ≡ Finished end es →
     IsTidyRun end es →
     Plays c (due_call image tx args c)
@@ -108,7 +109,7 @@ abbrev pub RedoMarkedLaw : Type 0
 RedoMarkedLaw =
     (image : Image) (super : Words) (tx : ℕ) (args : List ℤ) (c : Cache) (one : Words) (d : ℕ)
     (h : Words) (end : End) (es : List Effect) →
-    length args ≤ 22 → HasOne c one →
+    length args ≤ ARGUMENTS → HasOne c one →
     (owed : IsOwed (pool_with image super) (call_of d tx args) h one) →
     mrun_marked image image.parts.most h tx args ≡ Finished end es → IsTidyRun end es →
     (n : ℕ) → count (pool_of image.parts.sizes) owed.attempt one ≡ n →
@@ -129,7 +130,7 @@ abbrev pub AbortCallLeavesLaw : Type 0
 AbortCallLeavesLaw =
     (image : Image) (super : Words) (tx : ℕ) (args : List ℤ) (d b : Device) (one : Words) (n : ℕ)
     (end : End) (es : List Effect) →
-    BeginsOn image super tx n d.cache one → length args ≤ 22 →
+    BeginsOn image super tx n d.cache one → length args ≤ ARGUMENTS →
     mrun_marked image image.parts.most (heap_in image.parts.sizes d.cache) tx args
     ≡ Finished end es →
     IsTidyRun end es →
@@ -144,7 +145,7 @@ abbrev pub AbortRedoLeavesLaw : Type 0
 AbortRedoLeavesLaw =
     (image : Image) (super : Words) (tx : ℕ) (args : List ℤ) (d b : Device) (one : Words) (n : ℕ)
     (h : Words) (end : End) (es : List Effect) →
-    length args ≤ 22 → HasOne d.cache one →
+    length args ≤ ARGUMENTS → HasOne d.cache one →
     (owed : IsOwed (pool_with image super) (call_of n tx args) h one) →
     mrun_marked image image.parts.most h tx args ≡ Finished end es → IsTidyRun end es →
     (m : ℕ) → count (pool_of image.parts.sizes) owed.attempt one ≡ m →
@@ -169,7 +170,7 @@ abbrev pub RollbackAgainLaw : Type 0
 RollbackAgainLaw =
     (image : Image) (super : Words) (tx : ℕ) (args : List ℤ) (d : ℕ) (h : Words) (last : ℤ)
     (end : End) (es : List Effect) →
-    length args ≤ 22 → mrun_marked image image.parts.most h tx args ≡ Finished end es →
+    length args ≤ ARGUMENTS → mrun_marked image image.parts.most h tx args ≡ Finished end es →
     IsTidyRun end es → (k : ℕ) (one other : Words) →
     IsMarkedLeft (pool_with image super) (call_of d tx args) h (heap_end h es) last end one →
     AreInARow (IsRolledBackTo image super tx args d h) k one other →

@@ -7,6 +7,7 @@ use Rattle.cache_model.specs.Image.{HasOne}
 use Rattle.pmem.specs.Device.{Device}
 use Rattle.pool_layout.specs.Places.{pool_of}
 use Rattle.pool_layout.specs.Log.{count}
+use Rattle.pool_layout.specs.declared.places.TheConstants.{ARGUMENTS}
 use Rattle.pool_map.specs.declared.trap.TrapKind.TheVariants.{LogFull}
 use Rattle.pm_machine.specs.declared.effect.Effect.{Effect}
 use Rattle.pm_machine.specs.declared.effect.End.{End}
@@ -78,7 +79,7 @@ abbrev pub AbortCallStepsLaw : Type 0
 AbortCallStepsLaw =
     (image : Image) (super : Words) (tx : ℕ) (args : List ℤ) (d b : Device) (one : Words) (n : ℕ)
     (end : End) (es : List Effect) →
-    BeginsOn image super tx n d.cache one → length args ≤ 22 →
+    BeginsOn image super tx n d.cache one → length args ≤ ARGUMENTS →
     mrun_marked image image.parts.most (heap_in image.parts.sizes d.cache) tx args
     ≡ Finished end es →
     IsTidyRun end es →
@@ -90,7 +91,7 @@ abbrev pub AbortRedoStepsLaw : Type 0
 AbortRedoStepsLaw =
     (image : Image) (super : Words) (tx : ℕ) (args : List ℤ) (d b : Device) (one : Words) (n : ℕ)
     (h : Words) (end : End) (es : List Effect) →
-    length args ≤ 22 → HasOne d.cache one →
+    length args ≤ ARGUMENTS → HasOne d.cache one →
     (owed : IsOwed (pool_with image super) (call_of n tx args) h one) →
     mrun_marked image image.parts.most h tx args ≡ Finished end es → IsTidyRun end es →
     (m : ℕ) → count (pool_of image.parts.sizes) owed.attempt one ≡ m →

@@ -1,7 +1,6 @@
 -- The parts of a call and of a recovery, one after the other.
-use Rattle.std.proofs.Common.{◌≡◌, ℕ, zero, suc, ◌+◌, ◌≤◌, ◌==◌, ◌&&◌, Bool, true, false, List, []}
-use Rattle.std.proofs.Common.{if◌then◌else◌, ℤ, pos, take, w64, inl, inr, refl, sym, ap, ◌∙◌, subst}
-use Rattle.std.proofs.Common.{arith, int_eq}
+use Rattle.std.proofs.Common.{◌≡◌, ℕ, ◌+◌, ◌≤◌, List, ℤ, take, w64, inl, inr, refl, sym, ap, ◌∙◌}
+use Rattle.std.proofs.Common.{subst, arith}
 use Rattle.std.specs.Int.{cast_signed}
 use Rattle.cache_model.specs.Cache.{Cache, Words, view}
 use Rattle.cache_model.specs.Event.{CacheEvent}
@@ -16,12 +15,13 @@ use Rattle.pmem.specs.declared.answer.Phase.{Phase}
 use Rattle.pmem.specs.declared.answer.Phase.TheVariants.{Unsealed, Sealing, Sealed}
 use Rattle.pmem.proofs.Glue.{all_append, part_left, part_right}
 use Rattle.pmem.proofs.Refused.{all_cache, all_on}
-use Rattle.pool_layout.specs.declared.places.TheConstants.{DONE}
+use Rattle.pool_layout.specs.declared.places.TheConstants.{DONE, ARGUMENTS}
 use Rattle.pool_layout.specs.declared.limits.Sizes.{Sizes}
 use Rattle.pool_map.specs.declared.trap.TrapKind.{TrapKind}
-use Rattle.pool_layout.specs.Log.{leading, count}
+use Rattle.pool_layout.specs.Log.{count}
 use Rattle.pool_layout.specs.declared.places.Place.TheVariants.{RecordStamp}
 use Rattle.pool_layout.specs.Places.{at, pool_of}
+use Rattle.pool_layout.proofs.Records.{leading_le}
 use Rattle.clobber_log.specs.Logs.{attempt_in, count_in}
 use Rattle.clobber_log.specs.Restore.{restore_events}
 use Rattle.args_log.specs.Next.{number_after}
@@ -51,20 +51,10 @@ use Rattle.abort_mode.specs.Answers.{after_back, abort_redo_steps, HasAbortRedon
 
 -- there are no more valid records than records
 
-leading_few : (stamps : ℕ → ℤ) (a n : ℕ) → leading stamps a n ≤ n
-leading_few stamps a zero = omega arith
-leading_few stamps a (suc n) =
-    one ((leading stamps a n == n) && int_eq (stamps n) (pos (suc a)))
-    (leading stamps a n) (leading_few stamps a n)
-  where
-    one : (b : Bool) (m : ℕ) → m ≤ n → (if b then suc n else m) ≤ suc n
-    one true m le = omega arith
-    one false m le = omega arith
-
 pub count_few : (z : Sizes) (image : Words) → count_in z image ≤ z.records
 unfolding count
 count_few z image =
-    leading_few (λ j. image (at (pool_of z) (RecordStamp j))) (attempt_in z image) z.records
+    leading_le (λ j. image (at (pool_of z) (RecordStamp j))) (attempt_in z image) z.records
 
 -- the undo
 
@@ -213,7 +203,7 @@ module _ (image : Image) (tx : ℕ) (args : List ℤ) (d b : Device) (k k1 : ℕ
   short = inl (tt, refl)
 
   pub seal_off : (p : Phase) →
-      sealing.Seals (seal.Off p) d (cast_signed w64 tx) (take 22 args)
+      sealing.Seals (seal.Off p) d (cast_signed w64 tx) (take ARGUMENTS args)
       (number_after (view d.cache DONE)) b →
       AbortCalled (Off p) image tx args d b k k1
   unfolding seal_events

@@ -1,41 +1,34 @@
 -- One turn of a marked run.
-use Rattle.std.proofs.Common.{◌≡◌, ◌||◌, ℕ, zero, suc, ◌+◌, ◌-◌, ◌<◌, ◌≤◌, if◌then◌else◌, nat_lt}
+use Rattle.std.proofs.Common.{◌≡◌, ◌||◌, ℕ, zero, suc, ◌-◌, ◌<◌, ◌≤◌, if◌then◌else◌, nat_lt}
 use Rattle.std.proofs.Common.{Bool, true, false, List, [], Option, Some, None, Result, Ok, Err, ℤ}
-use Rattle.std.proofs.Common.{pos, refl, sym, ap, ◌∙◌, subst, arith}
+use Rattle.std.proofs.Common.{pos, sym, ap, ◌∙◌, subst, arith}
 use Rattle.std.specs.Ordering.{int_eq}
-use borrow.Author.Tests.{ltb-true}
 use Rattle.cache_model.specs.Event.{CacheEvent}
 use Rattle.cache_model.specs.Cache.{Cache}
 use Rattle.cache_model.specs.Play.{play}
 use Rattle.pmem.specs.Device.{Device}
-use Rattle.pmem.specs.Played.{PlaysAll, PlaysPart}
+use Rattle.pmem.specs.Played.{PlaysAll}
 use Rattle.pmem.specs.declared.answer.Refusal.{Refusal}
-use Rattle.pmem.proofs.Glue.{all_append, part_left, part_right}
+use Rattle.pmem.proofs.Glue.{all_append, part_right}
 use Rattle.pmem.proofs.Refused.{all_cache, all_on}
 use Rattle.pool_layout.specs.declared.limits.Sizes.{Sizes}
 use Rattle.pool_layout.specs.Sizes.{heap_words}
-use Rattle.pool_map.specs.declared.trap.TrapKind.TheVariants.{LogFull}
 use Rattle.pm_machine.specs.declared.effect.Effect.{Effect}
 use Rattle.pm_machine.specs.declared.effect.Effect.TheVariants.{Loads, Scans, Stores, Logs, Flushes}
 use Rattle.pm_machine.specs.declared.effect.Effect.TheVariants.{Fences, Quiet}
-use Rattle.pm_machine.specs.declared.effect.End.{End}
-use Rattle.pm_machine.specs.declared.effect.End.TheVariants.{Trapped}
 use Rattle.pm_machine.specs.declared.machine.Progress.{Progress}
-use Rattle.pm_machine.specs.declared.machine.Progress.TheVariants.{Did, Ended}
+use Rattle.pm_machine.specs.declared.machine.Progress.TheVariants.{Did}
 use Rattle.pm_machine.specs.declared.image.Image.{Image}
 use Rattle.pm_machine.specs.Effects.{events_of, records_past}
-use Rattle.pm_machine.specs.Machine.{State, StepOutcome, Goes, Ends, decide, tally, step}
-use Rattle.pm_machine.specs.Runs.{heap_in, outcome_of, effect_of, effect_in, AreLines}
-use Rattle.pm_machine.specs.Runs.{Due, due_before, owing}
+use Rattle.pm_machine.specs.Machine.{State, StepOutcome, step}
+use Rattle.pm_machine.specs.Runs.{heap_in, outcome_of, effect_of, AreLines, Due}
 use Rattle.pm_machine.specs.inside.Runs.{DueLeads}
 use Rattle.pm_machine.proofs.Range.{keeps_progress, records_fit}
 use Rattle.abort_mode.specs.declared.running.Logging.TheVariants.{Not, Added, Full}
 use Rattle.abort_mode.specs.declared.running.Turn.{Turn}
 use Rattle.abort_mode.specs.declared.running.Turn.TheVariants.{Went, Over}
-use Rattle.abort_mode.specs.Runs.{has_record, wanted, append_events, events_before, Rest}
-use Rattle.abort_mode.specs.Runs.{step_events}
-use Rattle.abort_mode.specs.Runs.{stepping, full}
-use Rattle.abort_mode.specs.Runs.{turning, due_marked}
+use Rattle.abort_mode.specs.Runs.{has_record, wanted, append_events, events_before, Rest, stepping}
+use Rattle.abort_mode.specs.Runs.{full, turning, due_marked}
 use Rattle.abort_mode.specs.inside.Turns.{logging, before_step, TurnLeads, TurnKept}
 
 -- records, from the last one down
@@ -46,29 +39,12 @@ has_open word zero w some = absurd (omega arith)
 has_open word (suc k) w some = let e : k ≡ suc k - 1 = omega arith in
     ap (λ (i : ℕ). int_eq (word i) (pos w) || has_record word i w) e
 
-pub has_hit : (word : ℕ → ℤ) (m w : ℕ) → 0 < m → int_eq (word (m - 1)) (pos w) ≡ true →
-    has_record word m w ≡ true
-has_hit word m w some is = has_open word m w some
-    ∙ ap (λ (b : Bool). b || has_record word (m - 1) w) is
-
 pub has_missed : (word : ℕ → ℤ) (m w : ℕ) → 0 < m → int_eq (word (m - 1)) (pos w) ≡ false →
     has_record word m w ≡ has_record word (m - 1) w
 has_missed word m w some is = has_open word m w some
     ∙ ap (λ (b : Bool). b || has_record word (m - 1) w) is
 
 -- after events that are done, the rest of the run follows
-
-leads_next : (d : Device) (k : ℕ) (es : List CacheEvent) (x : Due) (d0 : Device) (k0 : ℕ) (x0 : Due)
-    (b : Device) → PlaysAll d es b → DueLeads d k (due_before es x) d0 k0 x0
-    → DueLeads b (k + 1) x d0 k0 x0
-leads_next d k es x d0 k0 x0 b all h = record {
-  fate = h.fate;
-  whole = λ c p. h.whole c (all_append es x.events d b c all p);
-  part = λ why c p. h.part why c (part_right es x.events why d b c all p);
-  steps = let e = h.steps in omega arith;
-  records = h.records;
-}
-
 leads_before : (d : Device) (k : ℕ) (es : List CacheEvent) (x : Due) (d0 : Device) (k0 : ℕ)
     (x0 : Due) (b : Device) → PlaysAll d es b → DueLeads d k (events_before es x) d0 k0 x0 →
     DueLeads b k x d0 k0 x0
@@ -80,17 +56,6 @@ leads_before d k es x d0 k0 x0 b all h = record {
   records = h.records;
 }
 
--- a step is counted
-step_some : (image : Image) (a n : ℕ) (s : State) (c : Cache) (rest : Rest) →
-    1 ≤ (stepping image a n s c rest).steps
-step_some image a n s c rest = go (step image n s (heap_in image.parts.sizes c))
-  where
-    go : (o : StepOutcome) →
-        1 ≤ (owing n (step_events image a n c)
-        (λ e t. rest (records_past n e) t (play c (step_events image a n c e))) o).steps
-    go (Goes e u) = omega arith
-    go (Ends end) = omega arith
-
 -- a step
 module _ (image : Image) (a n : ℕ) (s t : State) (d b : Device) where
   abbrev taken : StepOutcome
@@ -98,63 +63,6 @@ module _ (image : Image) (a n : ℕ) (s t : State) (d b : Device) where
 
   abbrev events : Effect → List CacheEvent
   events = events_of image.parts.sizes a n (heap_in image.parts.sizes d.cache)
-
-  abbrev All : Rest → Due
-  All rest = stepping image a n s d.cache rest
-
-  abbrev next : Rest → Effect → State → Due
-  next rest e t = rest (records_past n e) t (play d.cache (events e))
-
-  opened : (rest : Rest) (k : ℕ) (d0 : Device) (k0 : ℕ) (x0 : Due) (o : StepOutcome) → o ≡ taken →
-      DueLeads d k (All rest) d0 k0 x0 → DueLeads d k (owing n events (next rest) o) d0 k0 x0
-  opened rest k d0 k0 x0 o is h =
-      subst (λ (o : StepOutcome). DueLeads d k (owing n events (next rest) o) d0 k0 x0) (sym is) h
-
-  pub step_did : (p : Progress) (e : Effect) (m : ℕ) → p ≡ Did e → outcome_of p t ≡ taken →
-      PlaysAll d (events (effect_of p)) b → m ≡ records_past n e → TurnLeads (Ok (Went m)) All t d b
-  step_did p e m did is played past = λ rest k d0 k0 x0 h.
-      let o : Goes e t ≡ taken = ap (λ (p : Progress). outcome_of p t) (sym did) ∙ is in
-      let all : PlaysAll d (events e) b =
-      subst (λ (p : Progress). PlaysAll d (events (effect_of p)) b) did played in
-      let led : DueLeads b (k + 1) (next rest e t) d0 k0 x0 =
-      leads_next d k (events e)
-      (next rest e t) d0 k0 x0 b all (opened rest k d0 k0 x0 (Goes e t) o h) in
-      subst (λ (c : Cache). DueLeads b (k + 1) (rest m t c) d0 k0 x0)
-      (sym (all_cache (events e) d b all))
-      (subst (λ (i : ℕ). DueLeads b (k + 1) (rest i t (play d.cache (events e))) d0 k0 x0)
-      (sym past) led)
-
-  pub step_ended : (p : Progress) (end : End) → p ≡ Ended end → outcome_of p t ≡ taken →
-      PlaysAll d (events (effect_of p)) b → TurnLeads (Ok (Over end n)) All t d b
-  step_ended p end ended is played = λ rest k d0 k0 x0 h.
-      let o : Ends end ≡ taken = ap (λ (p : Progress). outcome_of p t) (sym ended) ∙ is in
-      let all : PlaysAll d [] b =
-      subst (λ (p : Progress). PlaysAll d (events (effect_of p)) b) ended played in
-      let l = opened rest k d0 k0 x0 (Ends end) o h in
-      (sym l.fate, l.whole b all, l.steps, sym l.records)
-
-  tally_effect : (o : StepOutcome) → effect_in (tally o) ≡ effect_in o
-  tally_effect (Goes e t) = refl
-  tally_effect (Ends end) = refl
-
-  pub step_refused : (why : Refusal) →
-      PlaysPart why d (events (effect_in (decide image n s (heap_in image.parts.sizes d.cache))))
-      b →
-      TurnLeads (Err why) All t d b
-  step_refused why part = λ rest k d0 k0 x0 h. (
-    go rest k d0 k0 x0 taken
-        (subst (λ (e : Effect). PlaysPart why d (events e) b)
-        (sym (tally_effect (decide image n s (heap_in image.parts.sizes d.cache)))) part) h,
-    (let some = step_some image a n s d.cache rest in let led = h.steps in omega arith),
-  )
-    where
-      go : (rest : Rest) (k : ℕ) (d0 : Device) (k0 : ℕ) (x0 : Due) (o : StepOutcome) →
-          PlaysPart why d (events (effect_in o)) b →
-          DueLeads d k (owing n events (next rest) o) d0 k0 x0 →
-          PlaysPart why d0 x0.events b
-      go rest k d0 k0 x0 (Goes e u) part l =
-          l.part why b (part_left (events e) (next rest e u).events why d b part)
-      go rest k d0 k0 x0 (Ends end) part l = absurd part
 
   past_more : (e : Effect) → n ≤ records_past n e
   past_more (Loads w) = omega arith
@@ -200,45 +108,6 @@ module _ (image : Image) (a n : ℕ) (s t : State) (d b : Device) where
 
   abbrev TurnAll : Option ℕ → Rest → Due
   TurnAll o rest = turning image a n s d.cache rest o
-
-  -- no room for a record is left
-  pub turn_full : (o : Option ℕ) → Full ≡ logging z n o →
-      PlaysAll d (before_step z a n d.cache o) b →
-      TurnLeads (Ok (Over (Trapped LogFull) n)) (TurnAll o) t d b
-  turn_full None is played = absurd (cc (is))
-  turn_full (Some w) is played = go (nat_lt n z.records) is played
-    where
-      go : (x : Bool) → Full ≡ (if x then Added else Full) →
-          PlaysAll d (if x then append_events z a n w d.cache else []) b →
-          TurnLeads (Ok (Over (Trapped LogFull) n))
-          (λ rest. if x then events_before (append_events z a n w d.cache)
-          (stepping image a (suc n) s (play d.cache (append_events z a n w d.cache)) rest)
-          else full n) t d b
-      go true is played = absurd (cc (is))
-      go false is played =
-          λ rest k d0 k0 x0 h. (sym h.fate, h.whole b played, h.steps, sym h.records)
-
-  -- the append was cut
-  pub turn_cut : (o : Option ℕ) (why : Refusal) → PlaysPart why d (before_step z a n d.cache o) b →
-      TurnLeads (Err why) (TurnAll o) t d b
-  turn_cut None why part = absurd part
-  turn_cut (Some w) why part = go (nat_lt n z.records) part
-    where
-      go : (x : Bool) → PlaysPart why d (if x then append_events z a n w d.cache else []) b →
-          TurnLeads (Err why)
-          (λ rest. if x then events_before (append_events z a n w d.cache)
-          (stepping image a (suc n) s (play d.cache (append_events z a n w d.cache)) rest)
-          else full n) t d b
-      go true part = λ rest k d0 k0 x0 h.
-          let es : List CacheEvent = append_events z a n w d.cache in
-          let some = step_some image a (suc n) s (play d.cache es) rest in
-          let led = h.steps in (
-            h.part why b
-                (part_left es (stepping image a (suc n) s (play d.cache es) rest).events why d b
-                part),
-            omega arith,
-          )
-      go false part = absurd part
 
   module _ (m : Device) where
     -- what follows from m follows from d
@@ -292,19 +161,6 @@ module _ (image : Image) (a n : ℕ) (s t : State) (d b : Device) where
             played l)))
             h
 
--- a record was appended only if there was room
-pub added_room : (z : Sizes) (n : ℕ) (o : Option ℕ) → Added ≡ logging z n o → n < z.records
-added_room z n None is = absurd (cc (is))
-added_room z n (Some w) is = go (nat_lt n z.records) refl is
-  where
-    go : (x : Bool) → nat_lt n z.records ≡ x → Added ≡ (if x then Added else Full) → n < z.records
-    go true e is = ltb-true n z.records e
-    go false e is = absurd (cc (is))
-
-pub first_on : (z : Sizes) (a n : ℕ) (c : Cache) (o : Option ℕ) (d b : Device) →
-    PlaysAll d (before_step z a n c o) b → b.on ≡ d.on
-first_on z a n c o d b played = all_on (before_step z a n c o) d b played
-
 -- if turns are left, the run is one turn and then the rest
 pub turn_opened : (image : Image) (a m n : ℕ) (s : State) (c : Cache) (d : Device) (k : ℕ)
     (d0 : Device) (k0 : ℕ) (x0 : Due) → 0 < m → DueLeads d k (due_marked image a m n s c) d0 k0 x0 →
@@ -313,12 +169,3 @@ pub turn_opened : (image : Image) (a m n : ℕ) (s : State) (c : Cache) (d : Dev
 turn_opened image a m n s c d k d0 k0 x0 some h =
     let e : m ≡ suc (m - 1) = omega arith in
     subst (λ (i : ℕ). DueLeads d k (due_marked image a i n s c) d0 k0 x0) e h
-
--- no turn is left
-pub turn_none : (image : Image) (a m n : ℕ) (s : State) (d : Device) (k : ℕ) (d0 : Device) (k0 : ℕ)
-    (x0 : Due) → m ≡ 0 → DueLeads d k (due_marked image a m n s d.cache) d0 k0 x0 →
-    (x0.fate ≡ None) × PlaysAll d0 x0.events d × (k ≡ k0 + x0.steps) × (x0.records ≡ n)
-turn_none image a m n s d k d0 k0 x0 none h =
-    let l = subst (λ (i : ℕ). DueLeads d k (due_marked image a i n s d.cache) d0 k0 x0) none h in
-    let same : k + 0 ≡ k0 + x0.steps = l.steps in
-    (sym l.fate, l.whole d refl, omega arith, sym l.records)

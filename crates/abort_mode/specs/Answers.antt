@@ -38,7 +38,7 @@ pub record HasAbortSettled (e : End) (image : Image) (s : State) (d b : Device) 
   pub played : PlaysAll d (due_run image s d.cache) b
   pub steps : k1 ≡ k + run_steps image s d.cache
 
--- so many records were appended
+-- l records were appended
 abbrev pub HasAppended : (l : ℕ) → Image → State → Cache → Type 0
 HasAppended l image s c = l + count_in image.parts.sizes (view c) ≡ (abort_due_on image s c).records
 

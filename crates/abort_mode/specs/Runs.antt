@@ -5,10 +5,9 @@ use Rattle.std.specs.Prelude.{ℕ, zero, suc, ◌+◌, ◌++◌, nat_lt, ℤ, po
 use Rattle.std.specs.Prelude.{Bool, false, ◌||◌, if◌then◌else◌, List, [], Option, Some, None}
 use Rattle.std.specs.Ordering.{int_eq}
 use Rattle.cache_model.specs.Event.{CacheEvent}
-use Rattle.cache_model.specs.Cache.{Words, Cache, view}
+use Rattle.cache_model.specs.Cache.{Cache, view}
 use Rattle.cache_model.specs.Play.{play}
 use Rattle.pool_layout.specs.declared.limits.Sizes.{Sizes}
-use Rattle.pool_layout.specs.Places.{at, pool_of}
 use Rattle.pool_map.specs.declared.trap.TrapKind.TheVariants.{LogFull}
 use Rattle.clobber_log.specs.Record.{record_events}
 use Rattle.clobber_log.specs.Restore.{word_in_record}

@@ -19,7 +19,7 @@ use pool_layout::{LAST, Sizes};
 use pool_map::TrapKind;
 use std::sync::ledger::Ledger;
 
-/// Retires the call with word 16, the last value, as it is.
+/// Retires the call. The last value stays as it is.
 #[tactic(auto, using(std::proofs::lemmas::Int::wraps))]
 fn retire_still<P: PmemWork>(dev: &mut P) -> LogAnswer
     requires lines { 6 ≤ (P.device dev.old).lines }

@@ -121,7 +121,7 @@ fn log_first<P: PmemWork>(
     }
 }
 
-/// How a turn went: there are so many records after it, or the run ended with so many.
+/// How a turn went: the run goes on, or it ended; each with the number of records after it.
 #[derive(Clone, Copy, Debug, PartialEq, Eq, Drop)]
 pub enum Turn {
     Went(u64),

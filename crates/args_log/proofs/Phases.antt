@@ -6,6 +6,7 @@ use Rattle.std.specs.List.{list_all, list_any}
 use Rattle.std.proofs.lemmas.Bool.Decides.{Decides-int_eq}
 use Rattle.std.proofs.lemmas.List.{drop_all}
 use Rattle.std.proofs.lemmas.List.Folds.{list_all-append, list_any-append}
+use Rattle.std.proofs.lemmas.Bool.{false_from_ne_true}
 use Rattle.cache_model.specs.Event.{CacheEvent, Store, Flush, Fence}
 use Rattle.cache_model.specs.Cache.{Words, put, Line, Cache, versions}
 use Rattle.cache_model.specs.Play.{store_line, flush_line, fence_line, fence_at, mark_of, apply}
@@ -16,7 +17,7 @@ use Rattle.pmem.specs.Device.{Device, spent}
 use Rattle.pmem.specs.Played.{PlaysAll, PlaysPart}
 use Rattle.pmem.specs.declared.answer.Phase.TheVariants.{Unsealed, Sealing, Sealed}
 use Rattle.pmem.specs.declared.answer.Refusal.TheVariants.{Off}
-use Rattle.pool_layout.specs.declared.places.TheConstants.{FUNCTION, SEAL}
+use Rattle.pool_layout.specs.declared.places.TheConstants.{FUNCTION, SEAL, ARGUMENTS}
 use Rattle.args_log.specs.Seal.{stores_from, flushes_from, payload_lines, payload_events}
 use Rattle.args_log.specs.Seal.{unsealed_events, sealing_events, seal_events}
 use Rattle.args_log.specs.Sealing.{WentAfter}
@@ -48,7 +49,7 @@ others_flushes : (l n : ℕ) → Others (flushes_from l n)
 others_flushes l zero = tt
 others_flushes l (suc n) = (tt, others_flushes (suc l) n)
 
-others_payload : (f : ℤ) (args : List ℤ) → length args ≤ 22 → Others (payload_events f args)
+others_payload : (f : ℤ) (args : List ℤ) → length args ≤ ARGUMENTS → Others (payload_events f args)
 unfolding payload_events
 others_payload f args few =
     others_append (stores_from FUNCTION (f ∷ args)) (flushes_from 3 (payload_lines (length args))
@@ -101,12 +102,9 @@ all_split [] fs d b all = (d, refl, all)
 all_split (e ∷ es) fs d b all = let rest = all_split es fs (spent d e) b all.1 in
     (rest.0, (all.0, rest.1), rest.2)
 
-false_of : (b : Bool) → (b ≡ true → ⊥) → b ≡ false
-false_of true never = absurd (never refl)
-false_of false never = refl
-
 lacks_seal : (k : ℤ) (v : Words) → v SEAL ≢ k → has_seal k v ≡ false
-lacks_seal k v ne = false_of (int_eq (v SEAL) k) (λ e. ne ((Decides-int_eq (v SEAL) k).0 e))
+lacks_seal k v ne =
+    false_from_ne_true (int_eq (v SEAL) k) (λ e. ne ((Decides-int_eq (v SEAL) k).0 e))
 
 none_any : (k : ℤ) (us : List Words) → ((v : Words) → Among us v → v SEAL ≢ k)
     → list_any (has_seal k) us ≡ false
@@ -168,7 +166,7 @@ is_sealed k l =
     fence_whole k (flush_line (store_line l SEAL k)) _ (length (l.older ++ l.newest ∷ []))
     (marked l.older l.newest l.mark) (omega arith) (sealed_word k l)
 
-pub unsealed_law : (d b : Device) (f : ℤ) (args : List ℤ) (k : ℤ) → length args ≤ 22
+pub unsealed_law : (d b : Device) (f : ℤ) (args : List ℤ) (k : ℤ) → length args ≤ ARGUMENTS
     → LacksSeal k (d.cache 5)
     → PlaysPart Off d (unsealed_events f args k) b → phase_of (b.cache 5) k ≡ Unsealed
 unfolding unsealed_events
@@ -187,7 +185,7 @@ phase_after k d b stored (inr (ready, inl refused)) =
     stored.is ∙ is_sealing k stored.before stored.lacks
 phase_after k d b stored (inr (ready, inr rest)) = absurd rest.1
 
-pub sealing_law : (d b : Device) (f : ℤ) (args : List ℤ) (k : ℤ) → length args ≤ 22
+pub sealing_law : (d b : Device) (f : ℤ) (args : List ℤ) (k : ℤ) → length args ≤ ARGUMENTS
     → LacksSeal k (d.cache 5)
     → WentAfter d f args k b → phase_of (b.cache 5) k ≡ Sealing
 unfolding unsealed_events sealing_events
@@ -203,7 +201,7 @@ settled k d b stored all =
     ∙ ap (λ (l : Line). phase_of (fence_line (flush_line l)) k) stored.is
     ∙ is_sealed k stored.before
 
-pub sealed_law : (d b : Device) (f : ℤ) (args : List ℤ) (k : ℤ) → length args ≤ 22
+pub sealed_law : (d b : Device) (f : ℤ) (args : List ℤ) (k : ℤ) → length args ≤ ARGUMENTS
     → LacksSeal k (d.cache 5)
     → PlaysAll d (seal_events f args k) b → phase_of (b.cache 5) k ≡ Sealed
 unfolding seal_events unsealed_events sealing_events

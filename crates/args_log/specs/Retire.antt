@@ -1,6 +1,5 @@
 -- The events that finish a call, and those that make a pool unusable. Line 2 holds the value of the
--- last call (word 16), the number of finished calls (word 17), the attempt (word 18) and the mark
--- (word 19).
+-- last call (LAST), the number of finished calls (DONE), the attempt (ATTEMPT) and the mark (MARK).
 use Rattle.std.specs.Prelude.{ℕ, ℤ, pos, List, [], ◌∷◌}
 use Rattle.cache_model.specs.Event.{CacheEvent, Store, Flush, Fence}
 use Rattle.pool_layout.specs.declared.places.TheConstants.{LAST, DONE, ATTEMPT, MARK}

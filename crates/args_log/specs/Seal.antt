@@ -1,7 +1,7 @@
 -- The events that seal the call of a transaction: the function and its arguments are stored, their
 -- lines are flushed and fenced, and only then is the seal stored, flushed and fenced. So an image
--- that has the seal has the whole record. The function is word 24, argument k (from 1) is word 24 +
--- k, and the seal is word 47; these are lines 3 to 5.
+-- that has the seal has the whole record. The function is word FUNCTION, argument k (from 1) is
+-- word FUNCTION + k, and the seal is word SEAL. These are lines 3 to 5.
 use Rattle.std.specs.Prelude.{ℕ, zero, suc, ◌+◌, ◌/◌, ℤ, List, [], ◌∷◌, ◌++◌, length}
 use Rattle.cache_model.specs.Event.{CacheEvent, Store, Flush, Fence}
 use Rattle.pool_layout.specs.declared.places.TheConstants.{FUNCTION, SEAL}

@@ -5,11 +5,11 @@
 
 mod finishing;
 mod following_number;
-mod law;
+mod laws;
 mod reading;
 mod sealing;
 
 pub use finishing::{mark_unusable, retire};
-pub use law::laws;
+pub use laws::call_laws;
 pub use reading::{PendingAnswer, pending};
 pub use sealing::{SealAnswer, seal};

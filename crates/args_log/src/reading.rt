@@ -4,30 +4,20 @@ ghost use Rattle.std.specs.Prelude.{◌≡◌, ◌≤◌, ◌<◌, ◌+ℤ◌, p
 ghost use Rattle.std.specs.Ordering.{int_eq};
 ghost use Rattle.cache_model.specs.Cache.{view};
 ghost use Rattle.pool_layout.specs.Image.{is_sealed};
-ghost use Rattle.args_log.specs.Pending.{tx_number, HoldsArguments};
+ghost use Rattle.args_log.specs.Pending.{HoldsArguments};
 ghost use Rattle.args_log.specs.Reading.{Reads};
 
+use nvm_base::natural_of;
 use pmem::PmemWork;
-use pool_layout::{DONE, FUNCTION, SEAL};
+use pool_layout::{ARGUMENTS, DONE, FIRST_ARGUMENT, FUNCTION, SEAL};
 
 /// The content of a pool's record: no sealed call, or the number of its transaction and its
 /// argument words, including those after the last argument.
 #[derive(Clone, Copy, Debug, PartialEq, Eq, Drop)]
 pub enum PendingAnswer {
     Nothing,
-    Sealed { tx: u64, args: [i64; 22] },
+    Sealed { tx: u64, args: [i64; ARGUMENTS] },
     Off,
-}
-
-/// A function word as a transaction's number; a word below 0 counts as 0, which no transaction has.
-#[tactic(auto, using(std::proofs::lemmas::Int::wraps))]
-fn number_of(word: i64) -> u64
-    ensures { result ≡ tx_number word }
-{
-    match u64::try_from(word) {
-        Ok(number) => number,
-        Err(_) => 0,
-    }
 }
 
 /// Whether a seal is one more than the number of finished calls.
@@ -62,15 +52,15 @@ fn word<P: PmemWork>(dev: &P, word: u64) -> i64
     }
 }
 
-/// The 22 argument words of a device that is on.
-fn arguments<P: PmemWork>(dev: &P) -> [i64; 22]
+/// The argument words of a device that is on.
+fn arguments<P: PmemWork>(dev: &P) -> [i64; ARGUMENTS]
     requires lines { 6 ≤ (P.device dev.now).lines }
     requires on { (P.device dev.now).on ≡ true }
     ensures { HoldsArguments (view (P.device dev.now).cache) result }
 {
-    let mut args = [0; 22];
-    for k in 0..22 {
-        args[k] = word(dev, 25 + k as u64);
+    let mut args = [0; ARGUMENTS];
+    for k in 0..ARGUMENTS {
+        args[k] = word(dev, FIRST_ARGUMENT + k as u64);
     }
     args
 }
@@ -82,7 +72,7 @@ fn record<P: PmemWork>(dev: &P) -> PendingAnswer
     requires sealed { is_sealed (view (P.device dev.now).cache) ≡ true }
     ensures { Reads result (view (P.device dev.now).cache) }
 {
-    let tx = number_of(word(dev, FUNCTION));
+    let tx = natural_of(word(dev, FUNCTION));
     let args = arguments(dev);
     PendingAnswer::Sealed { tx, args }
 }

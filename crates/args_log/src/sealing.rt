@@ -7,7 +7,7 @@ ghost use Rattle.cache_model.specs.Cache.{view};
 ghost use Rattle.cache_model.specs.Event.{Store, Fence};
 ghost use Rattle.pmem.specs.Played.{PlaysAll, PlaysPart};
 ghost use Rattle.pmem.specs.declared.answer.Phase.TheVariants as at_phase;
-ghost use Rattle.pool_layout.specs.declared.places.TheConstants.{DONE};
+ghost use Rattle.pool_layout.specs.declared.places.TheConstants.{ARGUMENTS, DONE, FIRST_ARGUMENT};
 ghost use Rattle.args_log.specs.Next.{number_after};
 ghost use Rattle.args_log.specs.Seal.{stores_from, flushes_from, payload_lines, payload_events};
 ghost use Rattle.args_log.specs.Seal.{unsealed_events, sealing_events, seal_events};
@@ -16,10 +16,7 @@ ghost use Rattle.args_log.specs.Sealing.{Seals};
 use crate::following_number::following;
 use pmem::events::{fence, flush, store};
 use pmem::{Phase, PmemWork, Refusal};
-use pool_layout::{DONE, FUNCTION, SEAL};
-
-/// The greatest number of arguments that a record holds.
-const ARGUMENTS: usize = 22;
+use pool_layout::{ARGUMENTS, DONE, FIRST_ARGUMENT, FUNCTION, SEAL};
 
 /// The answer of a seal. `Off` has the phase at the power cut: `Sealing` if the seal was stored,
 /// else `Unsealed`.
@@ -33,23 +30,24 @@ pub enum SealAnswer {
 
 /// Stores the arguments after the function, in order.
 fn store_arguments<P: PmemWork>(dev: &mut P, args: &[i64]) -> Result<(), Refusal>
-    requires few { length args.now ≤ 22 }
+    requires few { length args.now ≤ ARGUMENTS }
     requires lines { 6 ≤ (P.device dev.old).lines }
-    ensures done { OnOk result (PlaysAll (P.device dev.old) (stores_from 25 args.now)
+    ensures done { OnOk result (PlaysAll (P.device dev.old) (stores_from FIRST_ARGUMENT args.now)
         (P.device dev.new)) }
     ensures refused { IfErr result
-        (λ why. PlaysPart why (P.device dev.old) (stores_from 25 args.now) (P.device dev.new)) }
+        (λ why. PlaysPart why (P.device dev.old) (stores_from FIRST_ARGUMENT args.now)
+        (P.device dev.new)) }
     ensures lines { (P.device dev.new).lines ≡ (P.device dev.old).lines }
 {
     for (k, arg) in args.iter().enumerate() {
-        if let Err(why) = store(dev, 25 + k as u64, *arg) {
+        if let Err(why) = store(dev, FIRST_ARGUMENT + k as u64, *arg) {
             return Err(why);
         }
     }
     Ok(())
 }
 
-/// Flushes so many lines from line 3 on, in order.
+/// Flushes `count` lines from line 3 on, in order.
 fn flush_payload<P: PmemWork>(dev: &mut P, count: u64) -> Result<(), Refusal>
     requires few { count ≤ 3 }
     requires lines { 6 ≤ (P.device dev.old).lines }
@@ -70,7 +68,7 @@ fn flush_payload<P: PmemWork>(dev: &mut P, count: u64) -> Result<(), Refusal>
 /// Stores the function and its arguments, and makes them durable.
 #[tactic(auto, using(pmem::proofs::Glue::all_append, pmem::proofs::Glue::part_left, pmem::proofs::Glue::part_right), unfolding(crate::specs::Seal::payload_events))]
 fn play_payload<P: PmemWork>(dev: &mut P, function: i64, args: &[i64]) -> Result<(), Refusal>
-    requires few { length args.now ≤ 22 }
+    requires few { length args.now ≤ ARGUMENTS }
     requires lines { 6 ≤ (P.device dev.old).lines }
     ensures done { OnOk result (PlaysAll (P.device dev.old) (payload_events function args.now)
         (P.device dev.new)) }
@@ -93,7 +91,7 @@ fn play_unsealed<P: PmemWork>(
     args: &[i64],
     number: i64,
 ) -> Result<(), Refusal>
-    requires few { length args.now ≤ 22 }
+    requires few { length args.now ≤ ARGUMENTS }
     requires lines { 6 ≤ (P.device dev.old).lines }
     ensures done { OnOk result (PlaysAll (P.device dev.old)
         (unsealed_events function args.now number) (P.device dev.new)) }
@@ -122,7 +120,7 @@ fn play_sealing<P: PmemWork>(dev: &mut P) -> Result<(), Refusal>
 /// Seals a record of a function and its arguments.
 #[tactic(auto, using(pmem::proofs::Glue::all_append, pmem::proofs::Glue::part_left, pmem::proofs::Glue::part_right), unfolding(crate::specs::Seal::seal_events))]
 fn play_seal<P: PmemWork>(dev: &mut P, function: i64, args: &[i64], number: i64) -> SealAnswer
-    requires few { length args.now ≤ 22 }
+    requires few { length args.now ≤ ARGUMENTS }
     requires lines { 6 ≤ (P.device dev.old).lines }
     ensures played { Seals result (P.device dev.old) function args.now number (P.device dev.new) }
     ensures lines { (P.device dev.new).lines ≡ (P.device dev.old).lines }
@@ -144,8 +142,8 @@ fn play_seal<P: PmemWork>(dev: &mut P, function: i64, args: &[i64], number: i64)
 /// The arguments that a record can hold.
 #[tactic(auto, using(std::proofs::lemmas::List::take_all))]
 fn recorded(args: &[i64]) -> &[i64]
-    ensures value { result.now ≡ take 22 args.now }
-    ensures few { length result.now ≤ 22 }
+    ensures value { result.now ≡ take ARGUMENTS args.now }
+    ensures few { length result.now ≤ ARGUMENTS }
 {
     if args.len() <= ARGUMENTS {
         args
@@ -155,12 +153,12 @@ fn recorded(args: &[i64]) -> &[i64]
 }
 
 /// Seals the call of a transaction, whose number is one more than that of the finished ones: m + p
-/// + 5 events, with m arguments in p lines. A record holds 22 arguments; any after these are left
-/// out. On a device that is off the answer is `Off(Unsealed)`, and nothing has changed.
+/// + 5 events, with m arguments in p lines. Arguments that the record has no word for are left out.
+/// On a device that is off the answer is `Off(Unsealed)`, and nothing has changed.
 pub fn seal<P: PmemWork>(dev: &mut P, tx: u64, args: &[i64]) -> SealAnswer
     requires lines { 6 ≤ (P.device dev.old).lines }
     ensures played { (P.device dev.old).on ≡ true
-        → Seals result (P.device dev.old) (cast_signed w64 tx) (take 22 args.now)
+        → Seals result (P.device dev.old) (cast_signed w64 tx) (take ARGUMENTS args.now)
         (number_after (view (P.device dev.old).cache DONE)) (P.device dev.new) }
     ensures off { (P.device dev.old).on ≡ false → result ≡ SealAnswer.Off at_phase.Unsealed }
     ensures same { (P.device dev.old).on ≡ false → P.device dev.new ≡ P.device dev.old }

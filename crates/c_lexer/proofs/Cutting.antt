@@ -17,7 +17,7 @@ cut_inside zero spot (b ∷ bs) = refl
 cut_inside (suc inside) spot [] = refl
 cut_inside (suc inside) spot (b ∷ bs) = cut_inside inside (past_byte spot b) bs
 
--- the cut after the first byte of a piece, of which so many bytes remain
+-- the cut after the first byte of a piece, of which n bytes remain
 abbrev pub after_first : Spot → List ℕ → ℕ → Cut
 after_first spot left inside = cut_left inside (past_byte spot (get_or left 0 0)) (drop 1 left)
 

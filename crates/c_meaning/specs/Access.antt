@@ -6,36 +6,21 @@ use Rattle.std.specs.Prelude.{option_and_then, slice_get, nat_eq, if◌then◌el
 use Rattle.std.specs.Option.{option_map_or}
 use Rattle.c_tree.specs.ExprTree.{ExprTree}
 use Rattle.c_tree.specs.ExprTree as expr
-use Rattle.c_types.specs.declared.value_type.ValueType.{ValueType}
-use Rattle.c_types.specs.declared.value_type.ValueType.TheVariants.{Int, Pointer, Null, Any}
 use Rattle.c_types.specs.Expressions.{type_of}
 use Rattle.c_types.specs.Tables.{Tables, StructTree, index_of, field_names, field_named}
 use Rattle.c_types.specs.Tables.{root_struct, struct_named, field_start, words_at, number_at}
+use Rattle.c_types.specs.Tables.{pointed_struct}
+use Rattle.nvm_base.specs.Naturals.{natural_of}
 use Rattle.pool_map.specs.declared.object.Object.{Object}
 use Rattle.pool_map.specs.declared.trap.TrapKind.{TrapKind}
 use Rattle.pool_map.specs.declared.trap.TrapKind.TheVariants as trap
-use Rattle.pool_map.specs.PoolMap.{PoolMap, object_at, least_free, free, read, write}
-use Rattle.pool_map.specs.PoolMap.{read_root, write_root}
-use Rattle.c_meaning.specs.declared.word.Word.{Word}
-use Rattle.c_meaning.specs.declared.word.Word.TheVariants.{Root, Field}
+use Rattle.pool_map.specs.PoolMap.{PoolMap, object_at, least_free, free}
+use Rattle.pool_map.specs.declared.word.PoolWord.{PoolWord}
+use Rattle.pool_map.specs.declared.word.PoolWord.TheVariants.{Root, Field}
 use Rattle.c_meaning.specs.Locals.{Local, scopes_of}
-use Rattle.pool_map.specs.Checks.{has_word, then_on, element_in, new_at}
-
-abbrev pub read_word : PoolMap → Word → ℤ
-read_word p (Root i) = read_root p i
-read_word p (Field s i) = read p s i
-
-abbrev pub write_word : PoolMap → Word → ℤ → PoolMap
-write_word p (Root i) v = write_root p i v
-write_word p (Field s i) v = if has_word (object_at p s) i then write p s i v else p
+use Rattle.pool_map.specs.Checks.{then_on, element_in, new_at}
 
 -- the place of the struct that an expression points to
-abbrev pub pointed_struct : ValueType → Option ℕ
-pointed_struct (Pointer i) = Some i
-pointed_struct Int = None
-pointed_struct Null = None
-pointed_struct Any = None
-
 abbrev pub struct_pointed_by : Tables → List Local → ExprTree → Option ℕ
 struct_pointed_by t ls e = pointed_struct (type_of t (scopes_of ls) e)
 
@@ -52,13 +37,9 @@ struct_slot p kind (pos (suc n)) = if is_struct_kind (object_at p (suc n)) kind 
     else Err trap.Stale
 struct_slot p kind (negsuc n) = Err trap.Stale
 
-abbrev pub array_length : ℤ → ℕ
-array_length (pos n) = n
-array_length (negsuc n) = 0
-
 -- the number of elements of a field; 0 for a field that is no array or doesn't exist
 abbrev pub field_elements : StructTree → List ℕ → ℕ
-field_elements s name = option_map_or (λ f. option_map_or (λ l. array_length l.value) f.len 0)
+field_elements s name = option_map_or (λ f. option_map_or (λ l. natural_of l.value) f.len 0)
     (field_named s name) 0
 
 abbrev pub first_word : StructTree → List ℕ → ℕ
@@ -76,19 +57,21 @@ struct_word_at t at name index =
     option_map_or (λ s. word_in_struct s name index) (option_and_then (slice_get t.structs) at)
     (Ok 0)
 
--- The word that a field names, or one of its elements if there is an index: a field of the root, or
--- a field of the object named by the pointer that the expression `base` gave. Any other expression
--- names no word and leads nowhere.
-abbrev pub pointed_word : Tables → PoolMap → Option ℕ → ℤ → List ℕ → Option ℤ → Result Word TrapKind
+-- a field of the object that a pointer leads to, whose struct is the one at a place
+abbrev pub pointed_word : Tables → PoolMap → Option ℕ → ℤ → List ℕ → Option ℤ → Result PoolWord TrapKind
 pointed_word t p at pointer name index =
     then_on (struct_slot p (option_map (number_at t) at) pointer)
     (λ s. then_on (struct_word_at t at name index) (λ i. Ok (Field s i)))
 
-abbrev pub of_root : Tables → List ℕ → Option ℤ → Result Word TrapKind
+-- a field of the root
+abbrev pub of_root : Tables → List ℕ → Option ℤ → Result PoolWord TrapKind
 of_root t name index = then_on (struct_word_at t (root_struct t) name index) (λ i. Ok (Root i))
 
+-- The word that a field names, or one of its elements if there is an index: a field of the root, or
+-- a field of the object named by the pointer that the expression `base` gave. Any other expression
+-- names no word and leads nowhere.
 abbrev pub word_named : Tables → List Local → PoolMap → ExprTree → (pointer : ℤ) → Option ℤ
-    → Result Word TrapKind
+    → Result PoolWord TrapKind
 word_named t ls p (expr.Root name) pointer index = of_root t name.text index
 word_named t ls p (expr.Arrow base place name) pointer index =
     pointed_word t p (struct_pointed_by t ls base) pointer name.text index

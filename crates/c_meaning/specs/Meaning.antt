@@ -2,10 +2,12 @@
 -- expression gives a value, a pool and ticks; a statement also gives locals, and how it ended.
 -- Either may trap, which ends the whole evaluation, and nothing is said of the pool then.
 --
--- A trap has the place of the token where it came: the operator of a division, the `[` of an index
--- that is outside, the `->` of a pointer that leads nowhere, the word of `pm_free`, of `abort` and
--- of a loop that has no tick left for a turn, and the name in a call that has none left or is too
--- deep.
+-- A trap has the place of a token: the operator of a division, the `[` of a bad index, the `->` of a
+-- bad pointer, the word of `pm_free`, `abort` or a loop out of ticks, or the name of a call that is
+-- too deep or out of ticks.
+--
+-- Types are recomputed while a program runs: `struct_pointed_by` calls `type_of`. So the typing
+-- definitions of c_types are part of what must be believed.
 --
 -- The outer recursion is on `room`, the number of functions that may still be opened, and the inner
 -- one on the tree, to which the calls are passed as a function. A loop is a recursion on the ticks
@@ -30,9 +32,9 @@ use Rattle.pool_map.specs.declared.trap.TrapKind.TheVariants as trap
 use Rattle.pool_map.specs.PoolMap.{PoolMap}
 use Rattle.c_meaning.specs.Locals.{Local, value_named, assigned, oldest, local_declared, bound}
 use Rattle.c_meaning.specs.declared.trap_at.TrapAt.{TrapAt}
-use Rattle.c_meaning.specs.declared.word.Word.{Word}
-use Rattle.c_meaning.specs.Access.{read_word, write_word, target_field, word_named, new_object}
-use Rattle.c_meaning.specs.Access.{free_object}
+use Rattle.pool_map.specs.declared.word.PoolWord.{PoolWord}
+use Rattle.pool_map.specs.Words.{read_word, write_word}
+use Rattle.c_meaning.specs.Access.{target_field, word_named, new_object, free_object}
 use Rattle.c_meaning.specs.Operators.{unary_of, binary_of}
 use Rattle.pool_map.specs.Checks.{is_zero}
 
@@ -86,7 +88,7 @@ at_target e (Err kind) = Err (placed_trap kind (target_place e kind))
 
 -- the word that a target names
 abbrev pub located : Tables → List Local → PoolMap → ExprTree → (pointer : ℤ) → Option ℤ
-    → Result Word TrapAt
+    → Result PoolWord TrapAt
 located t ls p e pointer index = at_target e (word_named t ls p (target_field e) pointer index)
 
 -- a value, the pool and the ticks left; or a trap
@@ -133,7 +135,7 @@ abbrev pub or_trap : {A : Type 0} → Option A → TrapAt → PoolMap → ℕ �
 or_trap None trap p k = Stops trap
 or_trap (Some a) trap p k = Got a p k
 
-abbrev pub loaded : Result Word TrapAt → PoolMap → ℕ → Out ℤ
+abbrev pub loaded : Result PoolWord TrapAt → PoolMap → ℕ → Out ℤ
 loaded (Ok w) p k = Got (read_word p w) p k
 loaded (Err trap) p k = Stops trap
 
@@ -243,7 +245,7 @@ operands_of t calls (expr.Unary op place a) ls p k = Got (pos 0, None) p k
 operands_of t calls (expr.Binary op place a b) ls p k = Got (pos 0, None) p k
 
 -- the checks, and then the store
-abbrev pub stored_end : Result Word TrapAt → ℤ → List Local → PoolMap → ℕ → StmtEnd
+abbrev pub stored_end : Result PoolWord TrapAt → ℤ → List Local → PoolMap → ℕ → StmtEnd
 stored_end (Ok w) v ls p k = Next ls (write_word p w v) k
 stored_end (Err trap) v ls p k = Traps trap
 
@@ -407,7 +409,7 @@ given (Traps trap) = Stops trap
 abbrev pub function_value : Tables → Calls → FunctionTree → List ℤ → PoolMap → ℕ → Out ℤ
 function_value t calls f vs p k = given (ends_of t calls f.body (bound t f.parameters vs []) p k)
 
--- a call when so many more functions may be opened
-abbrev pub calls_of : Tables → ℕ → Calls
+-- a call when `room` more functions may be opened
+abbrev pub calls_of : Tables → (room : ℕ) → Calls
 calls_of t zero place f vs p k = Stops (placed_trap trap.Depth place)
 calls_of t (suc room) place f vs p k = function_value t (calls_of t room) f vs p k

@@ -556,7 +556,7 @@ finish_no_else (OpenBody ∷ k) = λ h. cc
 finish_no_else (StructOrFunction ∷ k) = λ h. cc
 finish_no_else (Items ∷ k) = tt
 
-else_step : (loop : Bool) (k : List Want) (t : Kind) → t ≢ kind.Else
+pub else_step : (loop : Bool) (k : List Want) (t : Kind) → t ≢ kind.Else
     → parser_step (Else loop ∷ k) t ≡ parser_step k t
 else_step loop k kind.Else h = absurd (h refl)
 else_step loop k _ h = refl

@@ -65,10 +65,6 @@ chain_over : {ts : List Placed} {l i j : ℕ} {a e : ExprTree} → Chain ts l i 
 chain_over {ts} {l} {i} chain_end over = less_over l (kind_at ts i) over
 chain_over {ts} {l} {i} (chain_more o is b c) over = operator_over l (kind_at ts i) o is
 
-begins_token : (k : Kind) → Begins k → IsToken k
-begins_token kind.End h = h
-begins_token _ h = tt
-
 -- the levels of binary operators
 level_down : {ts : List Placed} {i k : ℕ} {t : ExprTree} → Level ts zero i k t → Unary ts i k t
 level_down (level_zero u) = u

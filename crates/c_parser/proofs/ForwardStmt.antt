@@ -43,6 +43,7 @@ use Rattle.c_parser.proofs.RunsPast.{RunsPast, goes, begins_alike, ends_alike, s
 use Rattle.c_parser.proofs.RunsPast.{inside_bracket, inside_body, after_operators}
 use Rattle.c_parser.proofs.Forward.{expression_runs, arguments_run, new_run, level_begins}
 use Rattle.c_parser.proofs.Forward.{value_enters}
+use Rattle.c_parser.proofs.Finish.{else_step}
 
 -- a token whose step is known from the wants that it enters
 pub enters : (ts : List Placed) (i around : ℕ) (o : OpenParts) (s next : List Want)
@@ -496,11 +497,6 @@ body_enters loop k kind.PmFree h o = refl
 body_enters loop k kind.Abort h o = refl
 body_enters loop k _ h o = absurd h
 
-else_yields : (loop : Bool) (k : List Want) (t : Kind) → t ≢ kind.Else
-    → parser_step (Else loop ∷ k) t ≡ parser_step k t
-else_yields loop k kind.Else h = absurd (h refl)
-else_yields loop k _ h = refl
-
 value_stops : (k : List Want) (t : Kind) → t ≡ kind.Semicolon
     → parser_step (Value ∷ k) t ≡ parser_step k t
 value_stops k t is = subst (λ t. parser_step (Value ∷ k) t ≡ parser_step k t) (sym is) refl
@@ -607,7 +603,7 @@ mutual
       enters ts i around none_open s (OpenExpression ∷ Body loop ∷ Else loop ∷ below)
       (statement_step loop below) kind.If enter is tt refl (omega (arith, same))
       ▸ bracketed_runs c around (Body loop ∷ Else loop ∷ below) e
-      ▸ ends_alike ts j (Else loop ∷ below) below (else_yields loop below (kind_at ts j) other)
+      ▸ ends_alike ts j (Else loop ∷ below) below (else_step loop below (kind_at ts j) other)
       (body_by ts loop m j around (Else loop ∷ below) (statement_open one) (has_braces one)
       (omega (arith, same)) (is_braced one) (spells_starts one)
       (λ n s k e h. spells_runs one n s k e h))

@@ -1,6 +1,7 @@
 -- The laws that the parser's contract cites.
 use Rattle.std.proofs.Common.{ℕ, zero, suc, ◌+◌, ◌≡◌, ◌<◌, List, [], ◌∷◌, length, Option, Some}
 use Rattle.std.proofs.Common.{None, slice_get, refl, sym, ap, ◌∙◌, subst, arith}
+use Rattle.std.proofs.lemmas.Option.{none-some, same_Some}
 use Rattle.c_lexer.specs.declared.token.Placed.{Placed}
 use Rattle.c_parser.specs.declared.fault.ParseFault.{ParseFault}
 use Rattle.c_parser.specs.declared.fault.ParseFault.TheVariants as fault
@@ -12,10 +13,10 @@ use Rattle.c_tree.specs.ItemSpelling.{SpellsProgram}
 use Rattle.c_parser.specs.inside.Wants.{parser_step}
 use Rattle.c_parser.specs.inside.Run.{Verdict, Accepted, Refused, parse_on, run_from, parse_run}
 use Rattle.c_parser.specs.inside.Run.{ParseRefuses}
-use Rattle.c_parser.specs.Exact.{LightBefore, NoneBegins}
+use Rattle.c_parser.specs.Exact.{LightBefore, NoneBegins, Agree}
 use Rattle.c_parser.specs.inside.Stacks.{weigh, weights_from, weights}
 use Rattle.c_parser.specs.Weight.{spelled_weights}
-use Rattle.c_parser.specs.WeightLaw.{OneWeightEach}
+use Rattle.c_parser.specs.WeightLaw.{OneWeightEach, EqualWeights}
 use Rattle.c_parser.proofs.ForwardItem.{program_runs}
 use Rattle.c_parser.proofs.Weighs.{drop_none, weights_spelled, light_spelled, light_counted}
 use Rattle.c_parser.proofs.Prefix.{refused_alike, refused_unlimited, accepted_light, light_accepted}
@@ -25,7 +26,7 @@ pub run_whole : (limit : Option ℕ) (ts : List Placed) (k : List Want)
 unfolding parse_run
 run_whole limit ts k = ap (λ ts. run_from limit ts 0 k) (drop_none ts)
 
-weights_inside : (ts : List Placed) (k : List Want) (i w : ℕ)
+pub weights_inside : (ts : List Placed) (k : List Want) (i w : ℕ)
     → slice_get (weights_from ts k) i ≡ Some w → i < length ts
 weights_inside [] k i w h = cc
 weights_inside (x ∷ xs) k i w h =
@@ -106,3 +107,34 @@ one_weight_each ts xs spelled =
     ap (λ ws. length ws) (sym (weights_spelled spelled))
     ∙ weights_each ts 0 (Items ∷ []) (sym (run_whole None ts (Items ∷ []))
     ∙ program_runs ts xs spelled)
+
+-- what the stack counts before a place depends only on the tokens before it
+equal_before : (o : Option (List Want)) (ts us : List Placed) (n : ℕ)
+    → ((k : List Want) (i : ℕ) → i < n
+    → slice_get (weights_from us k) i ≡ slice_get (weights_from ts k) i)
+    → (i : ℕ) → i < suc n
+    → slice_get (weigh o (λ k. weights_from us k)) i
+    ≡ slice_get (weigh o (λ k. weights_from ts k)) i
+equal_before None ts us n rest i less = refl
+equal_before (Some k) ts us n rest zero less = refl
+equal_before (Some k) ts us n rest (suc i) less = rest k i (omega (arith, less))
+
+equal_from : (ts us : List Placed) (place : ℕ) → Agree ts us place → (k : List Want) (i : ℕ)
+    → i < place → slice_get (weights_from us k) i ≡ slice_get (weights_from ts k) i
+equal_from ts us zero agree k i less = absurd (omega (arith, less))
+equal_from [] [] (suc n) agree k i less = refl
+equal_from [] (u ∷ us) (suc n) agree k i less = absurd (none-some u (sym (agree 0 (omega arith))))
+equal_from (t ∷ ts) [] (suc n) agree k i less = absurd (none-some t (agree 0 (omega arith)))
+equal_from (t ∷ ts) (u ∷ us) (suc n) agree k i less =
+    let same : u ≡ t = same_Some u t (agree 0 (omega arith)) in
+    ap (λ (x : Placed). slice_get (weigh (parser_step k (token_kind x.token))
+    (λ k. weights_from us k)) i) same
+    ∙ equal_before (parser_step k (token_kind t.token)) ts us n
+    (equal_from ts us n (λ j less. agree (suc j) (omega (arith, less)))) i less
+
+pub equal_weights : EqualWeights
+unfolding weights
+equal_weights ts us xs ys place agree spelled other i less =
+    ap (λ ws. slice_get ws i) (sym (weights_spelled other))
+    ∙ equal_from ts us place agree (Items ∷ []) i less
+    ∙ ap (λ ws. slice_get ws i) (weights_spelled spelled)

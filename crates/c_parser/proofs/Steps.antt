@@ -85,17 +85,6 @@ module _ (ts : List Placed) (i : ℕ) where
       go None h = ap (ends i) h
       go (Some t) h = ap (λ o. parse_on limit i o (λ k. parse_run limit ts (i + 1) k)) h
 
-  -- a token that may come, without a limit
-  pub goes_in : (k next : List Want) → i < length ts → parser_step k (kind_at ts i) ≡ Some next
-      → parse_run None ts i k ≡ parse_run None ts (i + 1) next
-  goes_in k next inside may = run_at None ts i k ∙ go (slice_get ts i) (present ts i inside) may
-    where
-      go : (o : Option Placed) → (x : Placed) × (o ≡ Some x)
-          → parser_step k (placed_kind o) ≡ Some next
-          → at_token None i o k (λ k. parse_run None ts (i + 1) k) ≡ parse_run None ts (i + 1) next
-      go None is may = absurd (cc (is.1))
-      go (Some x) is may = ap (λ o. parse_on None i o (λ k. parse_run None ts (i + 1) k)) may
-
   -- the same, if the token's kind is known
   pub goes_on : (k next : List Want) (t : Kind) → kind_at ts i ≡ t → IsToken t
       → parser_step k t ≡ Some next → parse_run None ts i k ≡ parse_run None ts (i + 1) next
@@ -106,12 +95,6 @@ module _ (ts : List Placed) (i : ℕ) where
       go None e = absurd (subst IsToken (sym e) token)
       go (Some x) e = ap (λ o. parse_on None i o (λ k. parse_run None ts (i + 1) k))
           (ap (parser_step k) e ∙ may)
-
-  -- the same, if the step at the place is given
-  pub goes_at : (k next : List Want) (t : Kind) → kind_at ts i ≡ t → IsToken t
-      → parser_step k (kind_at ts i) ≡ Some next
-      → parse_run None ts i k ≡ parse_run None ts (i + 1) next
-  goes_at k next t is token may = goes_on k next t is token (ap (parser_step k) (sym is) ∙ may)
 
   -- two stacks that do the same with the next token have the same run
   pub alike : (limit : Option ℕ) (a b : List Want)

@@ -31,7 +31,7 @@ abbrev pub in_body : List OpenParts → List OpenParts
 in_body os = map (λ o.
     record { brackets = o.brackets; bodies = o.bodies + 1; operators = o.operators }) os
 
--- after so many more operators of the same expression
+-- after n more operators of the same expression
 abbrev pub so_far : ℕ → List OpenParts → List OpenParts
 so_far n os = map (λ o.
     record { brackets = o.brackets; bodies = o.bodies; operators = o.operators + n }) os

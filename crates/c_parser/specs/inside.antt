@@ -3,6 +3,5 @@ pub mod Fixes
 pub mod Pieces
 pub mod Run
 pub mod Exact
-pub mod Spelling
 pub mod Wants
 pub mod Stacks

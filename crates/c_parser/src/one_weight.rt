@@ -1,8 +1,10 @@
-//! The law that each token of a program has one weight.
+//! The laws of the tokens' weights.
 
-ghost use Rattle.c_parser.specs.WeightLaw.{OneWeightEach};
+ghost use Rattle.c_parser.specs.WeightLaw.{OneWeightEach, EqualWeights};
 
-/// Each token of a program has one weight.
+/// Each token of a program has one weight, which depends only on the tokens so far. The function
+/// does nothing.
 pub fn weight_law()
-    ensures { OneWeightEach }
+    ensures each { OneWeightEach }
+    ensures equal { EqualWeights }
 {}

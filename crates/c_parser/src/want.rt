@@ -2,6 +2,7 @@
 
 ghost use Rattle.std.specs.Prelude.{ℕ, List, [], ◌∷◌, ◌++◌, ◌≡◌, ◌≤◌, ◌<◌, ◌+◌, OnOk, IfOk};
 ghost use Rattle.std.specs.Prelude.{reverse, nat_lt};
+ghost use Rattle.nvm_base.specs.Stacks.{Popped};
 ghost use Rattle.c_parser.specs.inside.Wants as wants;
 ghost use Rattle.c_parser.specs.inside.Wants.{moves_to, done};
 ghost use Rattle.c_parser.specs.inside.Stacks as stacks;
@@ -155,7 +156,7 @@ impl Wants {
     /// Pops the want on top.
     #[tactic(auto, using(crate::proofs::Stack::stack))]
     pub fn pop(&mut self) -> Option<Want>
-        ensures { wants.WantPopped result self.new self.old }
+        ensures { Popped result self.new self.old }
     {
         self.all.pop()
     }

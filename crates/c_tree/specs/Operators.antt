@@ -31,7 +31,7 @@ abbrev pub op_of : Kind → Option BinaryOp
 op_of (kind.Operator o) = Some o
 op_of _ = None
 
--- the operator of that level that a token is, if it is one
+-- the token's operator, if it is one of that level
 abbrev pub op_at : ℕ → Kind → Option BinaryOp
 op_at l k = option_and_then (λ o. if nat_eq (level_of o) l then Some o else None) (op_of k)
 

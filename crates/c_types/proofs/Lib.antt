@@ -5,3 +5,4 @@ pub mod Arguments
 pub mod After
 pub mod Elements
 pub mod Least
+pub mod Unbroken

@@ -62,7 +62,7 @@ abbrev pub least_from : Option Broken → List Broken → Option Broken
 least_from first [] = first
 least_from first (b ∷ bs) = least_from (lesser first b) bs
 
--- the one of a list that goes first: it is told
+-- the least of the broken rules, which is the one reported
 abbrev pub least_broken : List Broken → Option Broken
 least_broken bs = least_from None bs
 

@@ -117,8 +117,7 @@ abbrev pub functions_broken : Tables → ℕ → List FunctionTree → List Brok
 functions_broken t i [] = []
 functions_broken t i (f ∷ fs) = whole_function_broken t i f ++ functions_broken t (i + 1) fs
 
--- all rules that a program breaks, if its tokens end at that place: those of its structs, of its
--- root declarations, of which there must be one, and of its functions
+-- all rules that a program breaks: in its structs, its root (exactly one) and its functions
 abbrev pub broken_of : ℕ → Tables → List Broken
 broken_of end t = structs_broken t 0 t.structs ++ (roots_broken t 0 t.roots
     ++ (unless (is_some (slice_get t.roots 0)) end NoRoot ++ functions_broken t 0 t.functions))

@@ -1,6 +1,5 @@
--- The law of `least_broken`: if it reports nothing, no rule is broken; else the reported one is
--- among the
--- broken ones, and none of them comes before it.
+-- The law of `least_broken`: if it reports nothing, no rule is broken; else the reported rule is
+-- among the broken ones, and none of them comes before it.
 use Rattle.std.specs.Prelude.{List, [], ◌∷◌, ◌≡◌, ◌⊎◌, false, Option, None, Some}
 use Rattle.c_types.specs.declared.broken.Broken.{Broken}
 use Rattle.c_types.specs.Broken.{is_before, least_broken}

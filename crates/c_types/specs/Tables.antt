@@ -9,7 +9,7 @@ use Rattle.c_tree.specs.StmtTree.{TypeTree}
 use Rattle.c_tree.specs.StmtTree as stmt
 use Rattle.c_tree.specs.ItemTree.{ItemTree, Struct, Root, Function, FunctionTree, FieldTree}
 use Rattle.c_types.specs.declared.value_type.ValueType.{ValueType}
-use Rattle.c_types.specs.declared.value_type.ValueType.TheVariants.{Int, Pointer, Any}
+use Rattle.c_types.specs.declared.value_type.ValueType.TheVariants.{Int, Pointer, Null, Any}
 
 pub record StructTree : Type 0 where
   pub name : Ident
@@ -121,6 +121,13 @@ pointer_type t name = option_map_or (λ i. if nat_le (words_at t i) 15 then Poin
 abbrev pub declared_type : Tables → TypeTree → ValueType
 declared_type t stmt.Int = Int
 declared_type t (stmt.Pointer name) = pointer_type t name.text
+
+-- the place of the struct that a value of this type points to
+abbrev pub pointed_struct : ValueType → Option ℕ
+pointed_struct (Pointer i) = Some i
+pointed_struct Int = None
+pointed_struct Null = None
+pointed_struct Any = None
 
 -- the words of the fields from place i on that come before the field at place n
 abbrev pub field_words_before : ℕ → ℕ → List FieldTree → ℕ

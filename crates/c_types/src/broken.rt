@@ -74,8 +74,8 @@ fn limit_in(rule: Rule) -> u64
     }
 }
 
-/// Whether at one token the one rule is told rather than the other: the one with the less number,
-/// and of two limits the one listed first.
+/// Whether at one token the one rule is reported rather than the other: the one with the lesser
+/// number, and of two limits the one listed first.
 fn rule_before(one: Rule, other: Rule) -> bool
     ensures { result ≡ rule_before one other }
 {
@@ -90,7 +90,7 @@ fn comes_before(one: Broken, other: Broken) -> bool
     one.place < other.place || (one.place == other.place && rule_before(one.rule, other.rule))
 }
 
-/// Notes a rule as broken: of the broken rules the one that is told is kept.
+/// Notes a rule as broken, and keeps the least of the broken rules, which is the one reported.
 pub fn note(least: &mut Option<Broken>, place: u64, rule: Rule)
     ensures { least.new ≡ least_from least.old (broken_at place rule) }
 {

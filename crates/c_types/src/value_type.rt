@@ -1,5 +1,8 @@
 //! The types of values, and what an expression denotes.
 
+ghost use Rattle.std.specs.Prelude.{◌≡◌};
+ghost use Rattle.c_types.specs.Tables.{pointed_struct};
+
 /// The type of a value. If a part of an expression was refused, its type is `Any`, which breaks no
 /// rule.
 #[derive(Clone, Copy, Debug, PartialEq, Eq)]
@@ -11,6 +14,20 @@ pub enum ValueType {
     /// `NULL`
     Null,
     Any,
+}
+
+impl ValueType {
+    /// The place of the struct that a value of this type points to, counted from 0.
+    pub fn pointed_struct(self) -> Option<u64>
+        ensures { result ≡ pointed_struct self }
+    {
+        match self {
+            ValueType::Pointer(at) => Some(at),
+            ValueType::Int => None,
+            ValueType::Null => None,
+            ValueType::Any => None,
+        }
+    }
 }
 
 /// What an expression denotes: a value, or a whole array field, which is no value.

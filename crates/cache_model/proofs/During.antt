@@ -6,12 +6,6 @@ use Rattle.cache_model.specs.Play.{apply, play}
 use Rattle.cache_model.specs.During.{during}
 use Rattle.cache_model.specs.inside.During.{Through}
 
-pub during_append : (c : Cache) (es fs : List CacheEvent) (Q : Cache → Type 0) → during c es Q
-    → during (play c es) fs Q → during c (es ++ fs) Q
-during_append c [] fs Q first second = second
-during_append c (e ∷ es) fs Q first second =
-    (first.0, during_append (apply c e) es fs Q first.1 second)
-
 pub play_append : (c : Cache) (es fs : List CacheEvent) → play c (es ++ fs) ≡ play (play c es) fs
 play_append c [] fs = refl
 play_append c (e ∷ es) fs = play_append (apply c e) es fs

@@ -194,12 +194,12 @@ view_list ls m p v x same within found is =
     is ∙ ap (λ (z : ListLine). get_or z.newest (p % 8) (pos 0)) old ∙ sym (view_at ls p)
     ∙ ap (λ (z : List ListLine). view (cache_from z) p) same
 
-zeros_at : (n k : ℕ) → get_or (replicate n (pos 0)) k (pos 0) ≡ pos 0
+pub zeros_at : (n k : ℕ) → get_or (replicate n (pos 0)) k (pos 0) ≡ pos 0
 zeros_at zero k = refl
 zeros_at (suc n) zero = refl
 zeros_at (suc n) (suc k) = zeros_at n k
 
-cond_same : (b : Bool) (x : ℤ) → x ≡ pos 0 → cond b x (pos 0) ≡ pos 0
+pub cond_same : (b : Bool) (x : ℤ) → x ≡ pos 0 → cond b x (pos 0) ≡ pos 0
 cond_same true x e = e
 cond_same false x e = refl
 

@@ -1,15 +1,11 @@
 -- The effect of a store, a flush and a fence on the view.
-use Rattle.std.proofs.Common.{◌≡◌, ◌≢◌, inl, ℕ, ◌/◌, ◌==◌, cond, Bool, true, false, Some, None}
+use Rattle.std.proofs.Common.{◌≡◌, ◌≢◌, ℕ, ◌/◌, ◌==◌, cond, Bool, true, false, Some, None}
 use Rattle.std.proofs.Common.{Option, ℤ, refl, sym, ap, ◌∙◌}
 use Rattle.std.proofs.lemmas.Bool.{eqb-false}
 use Rattle.cache_model.specs.Event.{Store, Flush, Fence}
 use Rattle.cache_model.specs.Cache.{put, Line, Cache, view}
 use Rattle.cache_model.specs.Play.{store_line, flush_line, fence_at, apply}
-use Rattle.cache_model.specs.Image.{IsVersion}
 use Rattle.cache_model.proofs.Versions.{put_same, put_other}
-
-pub view_version : (c : Cache) (p : ℕ) → IsVersion (c (p / 8)) (c (p / 8)).newest
-view_version c p = inl refl
 
 view_store_of : (b : Bool) (l : Line) (p q : ℕ) (x : ℤ) → (b ≡ false → q ≢ p)
     → (cond b (store_line l p x) l).newest q ≡ put l.newest p x q

@@ -1,6 +1,6 @@
 -- The same cache as lists: a cache is a list of lines, and a version is a list of eight words. A
 -- line past the list is blank.
-use Rattle.std.specs.Prelude.{ℕ, ◌/◌, ◌%◌, ◌<◌, ◌≡◌, ◌==◌, cond, List, [], ◌∷◌, ◌++◌, map, length}
+use Rattle.std.specs.Prelude.{ℕ, ◌/◌, ◌%◌, ◌<◌, ◌≡◌, ◌==◌, cond, List, [], map, length}
 use Rattle.std.specs.Prelude.{slice_index_or, Option, None, ℤ, pos}
 use Rattle.cache_model.specs.Cache.{Words, Line, Cache, Memory}
 

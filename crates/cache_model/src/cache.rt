@@ -32,7 +32,7 @@ impl Model for Cache {
 }
 
 impl Cache {
-    /// Makes so many blank lines.
+    /// Makes this many blank lines.
     pub fn new(alloc: Global, lines: u64) -> Result<Self, AllocError>
         ensures done { IfOk result (λ c. memory_from c ≡ record { lines = lines; cache = blank }) }
         ensures lines { IfOk result (λ c. length c ≡ lines) }

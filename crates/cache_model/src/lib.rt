@@ -6,9 +6,9 @@
 
 mod cache;
 mod choice;
-mod law;
+mod laws;
 mod line;
 
 pub use cache::Cache;
 pub use choice::{BadPick, Choice, Pick, Picks, Rest};
-pub use law::laws;
+pub use laws::cache_laws;

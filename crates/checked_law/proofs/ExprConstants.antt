@@ -3,6 +3,7 @@ use Rattle.std.proofs.Common.{ℕ, suc, ◌+◌, pos, negsuc, List, ◌++◌, ar
 use Rattle.std.specs.List.{AllByRecursion}
 use Rattle.std.proofs.lemmas.Int.{ints}
 use Rattle.nvm_base.specs.Wrap.{IsWord}
+use Rattle.nvm_base.proofs.Lists.{all_append}
 use Rattle.c_lexer.specs.declared.token.Placed.{Placed}
 use Rattle.c_tree.specs.declared.expr.BinaryOp.{BinaryOp}
 use Rattle.c_tree.specs.declared.expr.UnaryOp.{UnaryOp}
@@ -25,7 +26,6 @@ use Rattle.lower.specs.Forms.{form_of}
 use Rattle.lower.specs.Names.{Variables}
 use Rattle.lower.specs.Lowers.{Context, exp_end, exp_code, reg_of, target_end, target_code}
 use Rattle.lower.specs.Lowers.{arguments_code, form_code}
-use Rattle.lower.proofs.ExprSound.{all_append}
 use Rattle.checked_law.proofs.Tokens.{small_word}
 
 abbrev pub IsWordConstant : Instruction → Type 0

@@ -5,7 +5,8 @@ use Rattle.std.specs.Prelude.{if◌then◌else◌, slice_get, Option, None, Some
 use Rattle.std.specs.Prelude.{option_and_then}
 use Rattle.std.specs.List.{AllByRecursion}
 use Rattle.std.proofs.lemmas.List.{length-map}
-use Rattle.std.proofs.lemmas.Option.{slice_get-map}
+use Rattle.std.proofs.lemmas.Option.{slice_get-map, none-some, same_Some}
+use Rattle.nvm_base.proofs.Lists.{all_at}
 use Rattle.c_tree.specs.ItemTree.{FunctionTree}
 use Rattle.c_tree.specs.Program.{Program, tree_of}
 use Rattle.pool_map.specs.declared.shapes.StructShape.{StructShape}
@@ -17,13 +18,13 @@ use Rattle.c_types.specs.Fault.{breaks}
 use Rattle.c_types.specs.Shapes.{field_shape, struct_shape, numbered, root_fields, transactions_in}
 use Rattle.c_types.specs.Declarations.{parameters_broken, function_broken, body_broken}
 use Rattle.c_types.specs.Declarations.{structs_broken, whole_struct_broken}
+use Rattle.c_types.proofs.Unbroken.{none_left, none_right}
 use Rattle.ir.specs.declared.instruction.Instruction.{Instruction}
 use Rattle.ir.specs.declared.instruction.Instruction.TheVariants.{Call, Const}
 use Rattle.ir.specs.declared.function.IrFunction.{IrFunction}
 use Rattle.ir.specs.Places.{instruction_at}
-use Rattle.code_meaning.proofs.Lists.{all_at}
 use Rattle.lower.specs.Program.{context_at, lowered_function, lowered}
-use Rattle.lower.proofs.Few.{none_left, none_right, few_parameters}
+use Rattle.lower.proofs.Few.{few_parameters}
 use Rattle.lower.proofs.Sane.{IsSane, sane, broken_functions, struct_at_place, function_at_place}
 use Rattle.checked_law.specs.Law.{ShapesLaw, RootHasWordLaw, CallsLaw, LogsLaw, LimitsLaw}
 use Rattle.checked_law.specs.Law.{ConstantsLaw, marked, EntriesLaw}
@@ -40,15 +41,12 @@ mapped_one : {A B : Type 0} (f : A → B) (xs : List A) (k : ℕ) (y : B)
     → slice_get (map f xs) k ≡ Some y → (x : A) × (slice_get xs k ≡ Some x) × (f x ≡ y)
 mapped_one {A} {B} f xs k y e = by_found (slice_get xs k) refl (sym (slice_get-map f xs k) ∙ e)
   where
-    none_some : None ≡ Some y → ⊥
-    none_some e = cc
-
     some_same : (x : A) → Some (f x) ≡ Some y → f x ≡ y
     some_same x e = cc
 
     by_found : (o : Option A) → slice_get xs k ≡ o → option_map f o ≡ Some y
         → (x : A) × (slice_get xs k ≡ Some x) × (f x ≡ y)
-    by_found None is e = absurd (none_some e)
+    by_found None is e = absurd (none-some y e)
     by_found (Some x) is e = (x, is, some_same x e)
 
 broken_structs : (tree : Program) → breaks tree ≡ []
@@ -151,12 +149,9 @@ instruction_in : (tree : Program) (f p : ℕ) (i : Instruction)
     → instruction_at (lowered tree).functions f p ≡ Some i → IsIn tree f p i
 instruction_in tree f p i is = by_function (slice_get (lowered tree).functions f) refl is
   where
-    none_some : None ≡ Some i → ⊥
-    none_some e = cc
-
     by_function : (o : Option IrFunction) → slice_get (lowered tree).functions f ≡ o
         → option_and_then (λ (u : IrFunction). slice_get u.code p) o ≡ Some i → IsIn tree f p i
-    by_function None at is = absurd (none_some is)
+    by_function None at is = absurd (none-some i is)
     by_function (Some u) at is =
         let x : (x : FunctionTree) × (slice_get (tables_of (tree_of tree)).functions f ≡ Some x)
         × (lowered_function (tables_of (tree_of tree)) tree x ≡ u) = source_of tree f u at in
@@ -185,10 +180,7 @@ calls tree e f p to g args u is found =
     let y : (y : FunctionTree) × (slice_get t.functions g ≡ Some y)
     × (lowered_function t tree y ≡ u) = source_of tree g u found in
     subst (λ (z : IrFunction). z.tx ≡ false) y.2
-    (ap (λ (z : FunctionTree). z.tx) (some_same y.0 plain.0 (sym y.1 ∙ plain.1)) ∙ plain.2)
-  where
-    some_same : (y z : FunctionTree) → Some y ≡ Some z → y ≡ z
-    some_same y z e = cc
+    (ap (λ (z : FunctionTree). z.tx) (same_Some y.0 plain.0 (sym y.1 ∙ plain.1)) ∙ plain.2)
 
 pub logs : LogsLaw
 logs tree e f p x is = plain_at tree f p _ e is

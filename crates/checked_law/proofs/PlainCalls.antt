@@ -1,9 +1,11 @@
 -- The code of an expression that breaks no rule calls no transaction, and has no log.
 use Rattle.std.proofs.Common.{◌≡◌, ℕ, suc, ◌+◌, ◌≤◌, ◌<◌, Bool, true, false, List, [], ◌++◌, length}
-use Rattle.std.proofs.Common.{refl, ap, ◌∙◌, arith}
+use Rattle.std.proofs.Common.{ap, ◌∙◌, arith}
 use Rattle.std.specs.Prelude.{nat_eq, ◌||◌, not, is_some, slice_get, Option, Some}
 use Rattle.std.specs.List.{AllByRecursion}
 use Rattle.std.proofs.lemmas.Option.{slice_get_within}
+use Rattle.std.proofs.lemmas.Bool.{not-true}
+use Rattle.nvm_base.proofs.Lists.{all_append}
 use Rattle.c_tree.specs.declared.expr.UnaryOp.TheVariants as unary
 use Rattle.c_tree.specs.ExprTree as expr
 use Rattle.c_tree.specs.ExprTree.{ExprTree, Arguments, Ident}
@@ -15,6 +17,7 @@ use Rattle.c_types.specs.Tables.{Tables, index_of, function_names, function_name
 use Rattle.c_types.specs.Expressions.{Scope, value_broken, call_broken, parameters_of}
 use Rattle.c_types.specs.Expressions.{parameter_type, argument_count, type_of, broken_in}
 use Rattle.c_types.specs.Expressions.{broken_in_all}
+use Rattle.c_types.proofs.Unbroken.{none_left, none_right, holds}
 use Rattle.ir.specs.declared.instruction.Instruction.{Instruction}
 use Rattle.ir.specs.declared.instruction.Instruction.TheVariants.{Const, Copy, Bin, Jump, Branch}
 use Rattle.ir.specs.declared.instruction.Instruction.TheVariants.{Load, Store, New, Free, Call}
@@ -25,10 +28,8 @@ use Rattle.lower.specs.Forms.{form_of}
 use Rattle.lower.specs.Names.{Variables, found_number, function_number}
 use Rattle.lower.specs.Lowers.{Context, exp_end, exp_code, reg_of, target_end, target_code}
 use Rattle.lower.specs.Lowers.{arguments_code, form_code}
-use Rattle.lower.proofs.Few.{none_left, none_right, kept}
 use Rattle.lower.proofs.Sane.{IsSane}
 use Rattle.lower.proofs.GoodTypes.{callee, function_there}
-use Rattle.lower.proofs.ExprSound.{all_append}
 
 -- function g exists, and is no transaction
 abbrev pub IsPlain : Tables → ℕ → Type 0
@@ -70,21 +71,14 @@ call_plain t wanted name n h e =
     let number : function_number t name.text ≡ there.0 =
     ap found_number there.1 ∙ small_number there.0
     (slice_get_within t.functions there.0 f there.2) h.functions in
-    let plain : not f.tx ≡ true = kept (not f.tx) name.place BadTx
+    let plain : not f.tx ≡ true = holds (not f.tx) name.place BadTx
     (none_right (unless (nat_eq n (length f.parameters)) name.place Arity) _
     (none_right (unless (not wanted || is_some f.result_type) name.place Mismatch) _ c.2)) in
-    (f, rw number there.2, not_true f.tx plain)
+    (f, rw number there.2, not-true f.tx plain)
   where
     small_number : (n : ℕ) → n < length t.functions → length t.functions ≤ 1024
         → found_number (Some n) ≡ n
     small_number n lt le = omega (arith, lt, le)
-
-    not_true : (b : Bool) → not b ≡ true → b ≡ false
-    not_true true e = absurd (false_true e)
-      where
-        false_true : false ≡ true → ⊥
-        false_true e = cc
-    not_true false e = refl
 
 form_plain : (t : Tables) (f : Form) (node : ℕ → ℕ) (code : ℕ → List Instruction) (end reg : ℕ → ℕ)
     (on p : ℕ) → ((q : ℕ) → AllPlain t (code q)) → AllPlain t (form_code f node code end reg on p)
@@ -99,7 +93,7 @@ value_own : (t : Tables) (s : List Scope) (e : ExprTree) → value_broken t s e 
     → broken_in t s e ≡ []
 value_own t s e b = none_left (broken_in t s e) _ b
 
--- the rules are kept in any scopes, since the meaning of a function's name doesn't depend on them
+-- the rules are holds in any scopes, since the meaning of a function's name doesn't depend on them
 mutual
   pub exp_plain : (k : Context) (s : List Scope) (v : Variables) (e : ExprTree) (p : ℕ)
       → IsSane k.tables → broken_in k.tables s e ≡ [] → AllPlain k.tables (exp_code k v e p)

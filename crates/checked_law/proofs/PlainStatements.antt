@@ -20,6 +20,7 @@ use Rattle.c_types.specs.Statements.{first_broken, return_broken, statement_brok
 use Rattle.c_types.specs.Statements.{statements_broken}
 use Rattle.c_types.specs.Declarations as declarations
 use Rattle.c_types.specs.Declarations.{type_given, parameters_broken, body_broken}
+use Rattle.c_types.proofs.Unbroken.{none_left, none_right}
 use Rattle.ir.specs.declared.instruction.Instruction.TheVariants.{Copy}
 use Rattle.lower.specs.Assigned.{is_assigned}
 use Rattle.lower.specs.Names.{Variables, inner_variables, variable_of}
@@ -30,7 +31,6 @@ use Rattle.lower.specs.Lowers.{third_end, third_code, variables_after, stmt_end,
 use Rattle.lower.specs.Lowers.{statements_end, statements_code}
 use Rattle.lower.specs.Program.{parameters_end, parameters_code, variables_after_parameters}
 use Rattle.lower.specs.Program.{no_variables, function_code}
-use Rattle.lower.proofs.Few.{none_left, none_right}
 use Rattle.lower.proofs.Sane.{IsSane}
 use Rattle.checked_law.proofs.PlainCalls.{AllPlain, both_plain, call_plain, exp_plain, target_plain}
 use Rattle.checked_law.proofs.PlainCalls.{arguments_plain}

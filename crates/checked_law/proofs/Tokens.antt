@@ -7,7 +7,9 @@ use Rattle.std.specs.List.{AllByRecursion, list_all, starts_with}
 use Rattle.std.specs.Char.{is_digit, is_ascii_digit}
 use Rattle.std.specs.Str.Parse.{digits_value_after}
 use Rattle.std.proofs.lemmas.Int.{ints}
+use Rattle.std.proofs.lemmas.Bool.{and_parts}
 use Rattle.nvm_base.specs.Wrap.{IsWord}
+use Rattle.nvm_base.proofs.Tests.{le_from}
 use Rattle.c_lexer.specs.declared.fault.LexFault.{LexFault}
 use Rattle.c_lexer.specs.declared.fault.LexFault.TheVariants.{TooLong}
 use Rattle.c_lexer.specs.declared.token.Placed.{Placed}
@@ -22,7 +24,6 @@ use Rattle.c_lexer.specs.Spots.{text_start, past_byte}
 use Rattle.c_lexer.specs.TokenList.{Tokens}
 use Rattle.c_lexer.specs.Words.{spelled_by, word_spelled, is_never_accepted}
 use Rattle.c_tree.specs.Kinds.{placed_value, value_at}
-use Rattle.lower.proofs.Few.{and_right, le_from}
 
 abbrev IsWordToken : Placed → Type 0
 IsWordToken p = IsWord (placed_value (Some p))
@@ -44,8 +45,8 @@ digits_words base before digits =
         → IsWordOr (if b then Some (pos (digits_value_after base before digits)) else None)
     by_test true at = small_word (digits_value_after base before digits)
         (le_from (digits_value_after base before digits) (2 ^ 63 - 1)
-        (and_right (list_all (λ d. is_digit d base) digits)
-        (nat_le (digits_value_after base before digits) (2 ^ 63 - 1)) at))
+        (and_parts (list_all (λ d. is_digit d base) digits)
+        (nat_le (digits_value_after base before digits) (2 ^ 63 - 1)) at).1)
     by_test false at = tt
 
 either_words : (b : Bool) (x y : Option ℤ) → IsWordOr x → IsWordOr y → IsWordOr (if b then x else y)

@@ -8,6 +8,9 @@ use Rattle.std.specs.Prelude.{Some, option_map, unwrap_or}
 use Rattle.std.specs.Option.{option_map_or}
 use Rattle.std.specs.Int.{w64, cast_unsigned}
 use Rattle.std.proofs.lemmas.List.Sums.{sum_by-cons}
+use Rattle.std.proofs.lemmas.Bool.{false≢true, and_parts}
+use Rattle.std.proofs.lemmas.Option.{none-some, same_Some}
+use Rattle.nvm_base.proofs.Tests.{le_from}
 use Rattle.c_lexer.specs.declared.token.Placed.{Placed}
 use Rattle.c_tree.specs.ItemTree.{ItemTree, FieldTree, LengthTree}
 use Rattle.c_tree.specs.Kinds.{ident_at}
@@ -25,8 +28,8 @@ use Rattle.c_types.specs.Statements.{type_broken}
 use Rattle.c_types.specs.Shapes.{field_shape, numbered}
 use Rattle.c_types.specs.Declarations.{length_broken, field_broken, fields_broken, struct_broken}
 use Rattle.c_types.specs.Declarations.{whole_struct_broken}
+use Rattle.c_types.proofs.Unbroken.{none_left, none_right, holds}
 use Rattle.pool_map.specs.PoolFits.{words_of_field, words_of}
-use Rattle.lower.proofs.Few.{none_left, none_right, kept, and_left, and_right, le_from}
 
 -- a field has as many words as its shape, and at least one
 abbrev pub IsCountedField : FieldTree → Type 0
@@ -35,16 +38,13 @@ IsCountedField f = (words_of_field (field_shape f) ≡ field_words f) × (1 ≤ 
 array_words : (n : ℤ) → is_length n ≡ true → (cast_unsigned w64 n ≡ length_words n)
     × (1 ≤ length_words n)
 array_words (pos n) e =
-    let one : 1 ≤ n = le_from 1 n (and_left (nat_le 1 n) (nat_le n 512) e) in
-    let most : n ≤ 512 = le_from n 512 (and_right (nat_le 1 n) (nat_le n 512) e) in
+    let one : 1 ≤ n = le_from 1 n (and_parts (nat_le 1 n) (nat_le n 512) e).0 in
+    let most : n ≤ 512 = le_from n 512 (and_parts (nat_le 1 n) (nat_le n 512) e).1 in
     rw e (small n most, one)
   where
     small : (n : ℕ) → n ≤ 512 → cast_unsigned w64 (pos n) ≡ n
     small n le = refl
-array_words (negsuc n) e = absurd (false_true e)
-  where
-    false_true : false ≡ true → ⊥
-    false_true e = cc
+array_words (negsuc n) e = absurd (false≢true e)
 
 field_counted : (f : FieldTree) → option_map_or length_broken f.len [] ≡ [] → IsCountedField f
 field_counted f e = by_length f.len e
@@ -55,7 +55,7 @@ field_counted f e = by_length f.len e
         × (1 ≤ option_map_or (λ (l : LengthTree). length_words l.value) l 1)
     by_length None e = (refl, omega arith)
     by_length (Some l) e = array_words l.value
-        (kept (is_length l.value) l.place (TooBig limit.Array (cast_unsigned w64 l.value)) e)
+        (holds (is_length l.value) l.place (TooBig limit.Array (cast_unsigned w64 l.value)) e)
 
 -- the fields from place i on
 pub fields_counted : (t : Tables) (names : List (List ℕ)) (i : ℕ) (fs : List FieldTree)
@@ -68,7 +68,7 @@ fields_counted t names i (f ∷ fs) e =
     let later : unless (is_first (index_of f.name.text names) i) f.name.place Twice
     ++ option_map_or length_broken f.len [] ≡ [] = none_right (type_broken t f.ty) _ own in
     let first : is_first (index_of f.name.text names) i ≡ true =
-    kept (is_first (index_of f.name.text names) i) f.name.place Twice
+    holds (is_first (index_of f.name.text names) i) f.name.place Twice
     (none_left (unless (is_first (index_of f.name.text names) i) f.name.place Twice) _ later) in
     let here : IsCountedField f = field_counted f
     (none_right (unless (is_first (index_of f.name.text names) i) f.name.place Twice)
@@ -106,10 +106,7 @@ struct_words t s n e small le =
 pub numbered_one : (ss : List StructTree) (k : ℕ) (s : StructTree)
     → slice_get (numbered ss) k ≡ Some s → (j : ℕ) × (slice_get ss j ≡ Some s)
     × (nat_le (counted.words_of_struct s) 15 ≡ true)
-numbered_one [] k s is = absurd (none_some is)
-  where
-    none_some : None ≡ Some s → ⊥
-    none_some e = cc
+numbered_one [] k s is = absurd (none-some s is)
 numbered_one (x ∷ ss) k s is =
     by_test (nat_le (counted.words_of_struct x) 15) refl (λ j at. later (numbered_one ss j s at)) k
     is
@@ -118,15 +115,12 @@ numbered_one (x ∷ ss) k s is =
         → (j : ℕ) × (slice_get (x ∷ ss) j ≡ Some s) × (nat_le (counted.words_of_struct s) 15 ≡ true)
     later h = (suc h.0, h.1, h.2)
 
-    some_same : Some x ≡ Some s → x ≡ s
-    some_same e = cc
-
     by_test : (b : Bool) → nat_le (counted.words_of_struct x) 15 ≡ b
         → ((j : ℕ) → slice_get (numbered ss) j ≡ Some s → (j : ℕ) × (slice_get (x ∷ ss) j ≡ Some s)
         × (nat_le (counted.words_of_struct s) 15 ≡ true))
         → (k : ℕ) → slice_get (if b then x ∷ numbered ss else numbered ss) k ≡ Some s
         → (j : ℕ) × (slice_get (x ∷ ss) j ≡ Some s) × (nat_le (counted.words_of_struct s) 15 ≡ true)
-    by_test true at rest zero is = let same : x ≡ s = some_same is in
+    by_test true at rest zero is = let same : x ≡ s = same_Some x s is in
         (0, is, subst (λ (y : StructTree). nat_le (counted.words_of_struct y) 15 ≡ true) same at)
     by_test true at rest (suc k) is = rest k is
     by_test false at rest k is = rest k is
@@ -154,7 +148,7 @@ root_counted t i s is e =
     none_right (unless (not (nat_eq i 255)) s.name.place (TooBig limit.Structs 256)) _
     (none_right (unless (is_first (struct_named t s.name.text) i) s.name.place Twice) _ own) in
     let last : (not root || nat_le (counted.words_of_struct s) 512) ≡ true =
-    kept (not root || nat_le (counted.words_of_struct s) 512) s.name.place
+    holds (not root || nat_le (counted.words_of_struct s) 512) s.name.place
     (TooBig limit.Root (counted.words_of_struct s))
     (none_right (unless (root || nat_le (counted.words_of_struct s) 15) s.name.place
     (TooBig limit.Struct (counted.words_of_struct s))) _ third) in
@@ -166,10 +160,7 @@ root_counted t i s is e =
 
     where_root : (root b : Bool) → root ≡ true → (not root || b) ≡ true → b ≡ true
     where_root true b r e = e
-    where_root false b r e = absurd (false_true r)
-      where
-        false_true : false ≡ true → ⊥
-        false_true e = cc
+    where_root false b r e = absurd (false≢true r)
 
 -- a struct that tokens spell has a field
 abbrev pub HaveFields : List StructTree → Type 0
@@ -177,11 +168,8 @@ HaveFields ss = (j : ℕ) (s : StructTree) → slice_get ss j ≡ Some s → 1 �
 
 more_have : (x : StructTree) (ss : List StructTree) → 1 ≤ length x.fields → HaveFields ss
     → HaveFields (x ∷ ss)
-more_have x ss one rest zero s is = let same : x ≡ s = some_same is in
+more_have x ss one rest zero s is = let same : x ≡ s = same_Some x s is in
     subst (λ (y : StructTree). 1 ≤ length y.fields) same one
-  where
-    some_same : Some x ≡ Some s → x ≡ s
-    some_same e = cc
 more_have x ss one rest (suc j) s is = rest j s is
 
 function_none : {ts : List Placed} {tx b : Bool} {i j : ℕ} {x : ItemTree} (xs : List ItemTree)
@@ -201,9 +189,6 @@ pub spelled_have : {ts : List Placed} {i j : ℕ} {xs : List ItemTree} → Spell
     → HaveFields (structs_of xs)
 spelled_have items_end = none_have
   where
-    none_some : (s : StructTree) → None ≡ Some s → ⊥
-    none_some s e = cc
-
     none_have : HaveFields []
-    none_have j s is = absurd (none_some s is)
+    none_have j s is = absurd (none-some s is)
 spelled_have (items_more {xs = xs} h others) = item_has xs h (spelled_have others)

@@ -3,7 +3,6 @@ use Rattle.std.proofs.Common.{◌≡◌, ◌≢◌, ⊎_elim, ℕ, zero, suc, �
 use Rattle.std.proofs.Common.{Bool, true, false, Option, Some, None, Result, Ok, Err, OnOk, ◌++◌, ℤ}
 use Rattle.std.proofs.Common.{pos, negsuc, refl, sym, ap, ◌∙◌, subst, arith, int_eq}
 use Rattle.std.proofs.lemmas.Bool.{cases_eq, ltb-false}
-use Rattle.std.proofs.lemmas.Bool.Decides.{Decides-int_eq}
 use Rattle.cache_model.specs.Event.{Store}
 use Rattle.cache_model.specs.Play.{apply}
 use Rattle.cache_model.proofs.Views.{view_same, view_other, view_flush}
@@ -20,6 +19,7 @@ use Rattle.pool_layout.specs.declared.places.Place.TheVariants.{Heap}
 use Rattle.pool_layout.specs.Sizes.{heap_start, heap_words}
 use Rattle.pool_layout.specs.Places.{at, pool_of, line_of}
 use Rattle.pool_layout.specs.Restored.{undo, undone, restored}
+use Rattle.pool_layout.proofs.Undone.{undo_same, undo_other}
 use Rattle.clobber_log.specs.Logs.{attempt_in, count_in}
 use Rattle.clobber_log.specs.Restore.{as_heap_word, back_at, back_events, word_in_record}
 use Rattle.clobber_log.specs.Restore.{old_in_record, first_events, restore_events}
@@ -41,16 +41,6 @@ kept_after d b s (Some w) old plays p before =
     ∙ view_flush _ (line_of (pool_of s) (Heap w)) p
     ∙ view_other d.cache (at (pool_of s) (Heap w)) p old (λ (e : p ≡ at (pool_of s) (Heap w)).
     absurd (omega arith))
-
-undo_other : (x old : ℤ) (h : ℕ → ℤ) (w : ℕ) → x ≢ pos w → undo x old h w ≡ h w
-undo_other x old h w ne = one (int_eq x (pos w)) (λ e. ne ((Decides-int_eq x (pos w)).0 e))
-  where
-    one : (b : Bool) → (b ≡ true → ⊥) → cond b old (h w) ≡ h w
-    one true never = absurd (never refl)
-    one false never = refl
-
-undo_same : (x old : ℤ) (h : ℕ → ℤ) (w : ℕ) → x ≡ pos w → undo x old h w ≡ old
-undo_same x old h w is = ap (λ (b : Bool). cond b old (h w)) ((Decides-int_eq x (pos w)).1 is)
 
 pos_other : (v w : ℕ) → v ≢ w → pos v ≢ pos w
 pos_other v w ne e = ne cc
@@ -85,7 +75,7 @@ heap_after d b s (pos v) old plays w inside =
     ltb-false v (heap_words s) e in absurd (omega arith)) plays
 heap_after d b s (negsuc n) old plays w inside = ap (λ (k : Device). heap s k w) plays
 
-undone_same : (word old : ℕ → ℤ) (n : ℕ) (h k : ℕ → ℤ) (w : ℕ) → h w ≡ k w
+pub undone_same : (word old : ℕ → ℤ) (n : ℕ) (h k : ℕ → ℤ) (w : ℕ) → h w ≡ k w
     → undone word old n h w ≡ undone word old n k w
 undone_same word old zero h k w e = e
 undone_same word old (suc n) h k w e =

@@ -1,13 +1,10 @@
 //! Appending a record to the log.
 
-ghost use Rattle.std.specs.Prelude.{◌≡◌, ◌≢◌, ◌≤◌, ◌<◌, ◌+◌, ◌^◌, ◌↔◌, ℕ, true, false};
+ghost use Rattle.std.specs.Prelude.{◌≡◌, ◌≢◌, ◌<◌, true, false};
 ghost use Rattle.cache_model.specs.Cache.{view};
 ghost use Rattle.pool_layout.specs.Sizes.{pool_lines, heap_words};
-ghost use Rattle.pool_layout.specs.Places.{at, pool_of};
-ghost use Rattle.pool_layout.specs.declared.places.Place.TheVariants.{Heap};
-ghost use Rattle.clobber_log.specs.Record.{record_events};
-ghost use Rattle.clobber_log.specs.Logs.{attempt_in, count_in};
-ghost use Rattle.clobber_log.specs.Append.{Appended};
+ghost use Rattle.clobber_log.specs.Logs.{count_in};
+ghost use Rattle.clobber_log.specs.Append.{due_append, Appended};
 
 use crate::record::append_record;
 use crate::valid::{attempt, count};
@@ -35,9 +32,7 @@ pub fn append<P: PmemWork>(sizes: &Sizes, dev: &mut P, heap_word: u64) -> Append
     ensures played { (P.device dev.old).on ≡ true
         → count_in sizes.now (view (P.device dev.old).cache) ≢ sizes.now.records
         → Appended result (P.device dev.old)
-        (record_events sizes.now (count_in sizes.now (view (P.device dev.old).cache)) heap_word
-        (view (P.device dev.old).cache (at (pool_of sizes.now) (Heap heap_word)))
-        (attempt_in sizes.now (view (P.device dev.old).cache) + 1)) (P.device dev.new) }
+        (due_append sizes.now heap_word (P.device dev.old).cache) (P.device dev.new) }
     ensures off { (P.device dev.old).on ≡ false → (result ≡ AppendAnswer.Off)
         × (P.device dev.new ≡ P.device dev.old) }
     ensures lines { (P.device dev.new).lines ≡ (P.device dev.old).lines }

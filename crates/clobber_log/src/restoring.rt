@@ -1,17 +1,16 @@
 //! Restoring the old values of the log into the heap.
 
-ghost use Rattle.std.specs.Prelude.{◌≡◌, ◌+◌, ◌*◌, ◌<◌, ◌≤◌, ℕ, true, false, Some, IfSome, OnOk};
-ghost use Rattle.std.specs.Prelude.{IfErr};
+ghost use Rattle.std.specs.Prelude.{◌≡◌, ◌+◌, ◌<◌, ◌≤◌, ℕ, true, false, Some, OnOk, IfErr};
 ghost use Rattle.std.specs.Option.{ForSome};
-ghost use Rattle.cache_model.specs.Cache.{view, put};
+ghost use Rattle.cache_model.specs.Cache.{view};
 ghost use Rattle.pmem.specs.Played.{PlaysAll, PlaysPart, Played};
-ghost use Rattle.pool_layout.specs.Sizes.{pool_lines, heap_start, heap_words};
+ghost use Rattle.pool_layout.specs.Sizes.{pool_lines, heap_words};
 ghost use Rattle.pool_layout.specs.Places.{at, pool_of};
 ghost use Rattle.pool_layout.specs.declared.places.Place.TheVariants.{Heap};
-ghost use Rattle.pool_layout.specs.Restored.{undo, undone, restored};
+ghost use Rattle.pool_layout.specs.Restored.{restored};
 ghost use Rattle.clobber_log.specs.Logs.{attempt_in, count_in};
-ghost use Rattle.clobber_log.specs.Restore.{as_heap_word, back_at, back_events, word_in_record};
-ghost use Rattle.clobber_log.specs.Restore.{old_in_record, fence_after, first_events};
+ghost use Rattle.clobber_log.specs.Restore.{as_heap_word, back_at, back_record, back_first};
+ghost use Rattle.clobber_log.specs.Restore.{fence_after, first_events, IsUndoneFirst};
 ghost use Rattle.clobber_log.specs.Restore.{restore_events};
 
 use crate::valid::{attempt, count};
@@ -55,14 +54,10 @@ fn restore_record<P: PmemWork>(sizes: &Sizes, dev: &mut P, i: u64) -> Result<(),
     requires lines { (P.device dev.old).lines ≡ pool_lines sizes.now }
     requires on { (P.device dev.old).on ≡ true }
     ensures done { OnOk result (PlaysAll (P.device dev.old)
-        (back_at sizes.now (as_heap_word sizes.now
-        (word_in_record sizes.now (view (P.device dev.old).cache) i))
-        (old_in_record sizes.now (view (P.device dev.old).cache) i)) (P.device dev.new)) }
+        (back_record sizes.now (view (P.device dev.old).cache) i) (P.device dev.new)) }
     ensures refused { IfErr result
         (λ why. PlaysPart why (P.device dev.old)
-        (back_at sizes.now (as_heap_word sizes.now
-        (word_in_record sizes.now (view (P.device dev.old).cache) i))
-        (old_in_record sizes.now (view (P.device dev.old).cache) i)) (P.device dev.new)) }
+        (back_record sizes.now (view (P.device dev.old).cache) i) (P.device dev.new)) }
     ensures lines { (P.device dev.new).lines ≡ (P.device dev.old).lines }
 {
     let first = 8 * (6 + i);
@@ -89,17 +84,12 @@ fn restore_records<P: PmemWork, L: Ledger>(
     requires lines { (P.device dev.old).lines ≡ pool_lines sizes.now }
     requires on { (P.device dev.old).on ≡ true }
     ensures done { OnOk result (PlaysAll (P.device dev.old)
-        (back_events sizes.now (word_in_record sizes.now (view (P.device dev.old).cache))
-        (old_in_record sizes.now (view (P.device dev.old).cache)) count) (P.device dev.new)) }
+        (back_first sizes.now (view (P.device dev.old).cache) count) (P.device dev.new)) }
     ensures refused { IfErr result
         (λ why. PlaysPart why (P.device dev.old)
-        (back_events sizes.now (word_in_record sizes.now (view (P.device dev.old).cache))
-        (old_in_record sizes.now (view (P.device dev.old).cache)) count) (P.device dev.new)) }
-    ensures heap { OnOk result ((w : ℕ) → w < heap_words sizes.now
-        → view (P.device dev.new).cache (at (pool_of sizes.now) (Heap w))
-        ≡ undone (word_in_record sizes.now (view (P.device dev.old).cache))
-        (old_in_record sizes.now (view (P.device dev.old).cache)) count
-        (λ v. view (P.device dev.old).cache (at (pool_of sizes.now) (Heap v))) w) }
+        (back_first sizes.now (view (P.device dev.old).cache) count) (P.device dev.new)) }
+    ensures heap { OnOk result (IsUndoneFirst sizes.now count (view (P.device dev.old).cache)
+        (view (P.device dev.new).cache)) }
     ensures cost { OnOk result (steps.new ≡ steps.old + count) }
     ensures bound { steps.new ≤ steps.old + count }
     ensures lines { (P.device dev.new).lines ≡ (P.device dev.old).lines }
@@ -148,11 +138,8 @@ fn restore_first<P: PmemWork, L: Ledger>(
     ensures refused { IfErr result
         (λ why. PlaysPart why (P.device dev.old)
         (first_events sizes.now (view (P.device dev.old).cache) count) (P.device dev.new)) }
-    ensures heap { OnOk result ((w : ℕ) → w < heap_words sizes.now
-        → view (P.device dev.new).cache (at (pool_of sizes.now) (Heap w))
-        ≡ undone (word_in_record sizes.now (view (P.device dev.old).cache))
-        (old_in_record sizes.now (view (P.device dev.old).cache)) count
-        (λ v. view (P.device dev.old).cache (at (pool_of sizes.now) (Heap v))) w) }
+    ensures heap { OnOk result (IsUndoneFirst sizes.now count (view (P.device dev.old).cache)
+        (view (P.device dev.new).cache)) }
     ensures cost { OnOk result (steps.new ≡ steps.old + count) }
     ensures bound { steps.new ≤ steps.old + count }
     ensures lines { (P.device dev.new).lines ≡ (P.device dev.old).lines }

@@ -132,10 +132,6 @@ has_split (i ∷ one) two (suc k) item is = shift (has_split one two k item is)
     shift (inl (less, there)) = inl (omega (arith, less), there)
     shift (inr has) = inr has
 
-pub none_marked : (functions : List IrFunction) (fields : List StructField)
-    (table : List (List ℕ)) → OthersMarked functions fields fields table
-none_marked functions fields table = record { each = λ c has. inl has }
-
 -- one more topic of fields
 pub more_fields : (functions : List IrFunction) (fields left all others : List StructField)
     (table new : List (List ℕ)) → left ≡ all ++ others → length all ≤ 16 → KeepsRows table new

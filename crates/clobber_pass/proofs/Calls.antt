@@ -2,9 +2,10 @@
 use Rattle.std.proofs.Common.{◌≡◌, ◌<◌, ◌≤◌, ◌+◌, ◌-◌, ℕ, zero, suc, Bool, true, false, List, []}
 use Rattle.std.proofs.Common.{◌∷◌, Option, Some, None, length, refl, sym, ◌∙◌, ap, subst, arith}
 use Rattle.std.proofs.Common.{inl, inr, ⊎_elim}
-use Rattle.std.specs.Prelude.{◌==◌, ◌||◌, slice_get, slice_index_or, bit_and, bit_or, position}
+use Rattle.std.specs.Prelude.{◌==◌, slice_get, slice_index_or, bit_and, bit_or, position}
 use Rattle.std.specs.Prelude.{if◌then◌else◌}
-use Rattle.std.proofs.lemmas.Bool.{false≢true, and_parts, and_from, cases_lt, lt-ltb, le-ltb}
+use Rattle.std.proofs.lemmas.Bool.{and_parts, and_from, cases_lt, lt-ltb, le-ltb}
+use Rattle.std.proofs.lemmas.Bool.{or_left, or_right, or_cases}
 use Rattle.std.proofs.lemmas.Option.{slice_get_past, slice_get-get_or}
 use mathlib.Core.Logic.{◌⊎◌}
 use Rattle.ir.specs.declared.fact.Fact.{Fact}
@@ -19,18 +20,6 @@ use Rattle.clobber_pass.specs.inside.Told.{column_of, column}
 use Rattle.clobber_pass.specs.inside.Sweep.{exit, comes, from_args, gather, passed_on}
 use Rattle.clobber_pass.specs.inside.Sweep.{register_after, slot_after, call_from}
 use Rattle.clobber_pass.proofs.Bits.{has_bit_or, has_bit_and}
-
-pub or_left : (a b : Bool) → a ≡ true → (a || b) ≡ true
-or_left true b h = refl
-or_left false b h = absurd (false≢true h)
-
-pub or_right : (a b : Bool) → b ≡ true → (a || b) ≡ true
-or_right true b h = refl
-or_right false b h = h
-
-pub or_parts : (a b : Bool) → (a || b) ≡ true → (a ≡ true) ⊎ (b ≡ true)
-or_parts true b h = inl refl
-or_parts false b h = inr h
 
 -- the words after a call, from a slot on
 call_word : (exits : List (List ℕ)) (to : ℕ) (args row words : List ℕ) (k s : ℕ) → s < length words
@@ -117,7 +106,7 @@ module _ (exits : List (List ℕ)) (row : List ℕ) (x : ℕ) where
           (λ (u : has_bit x (comes exits row c (d + 2) s) ≡ true).
           let first : c ≡ c + 0 = omega arith in
           inr (0, d, refl, subst (λ j. Brings j (d + 2) s) first (comes_out c (d + 2) s u)))
-          (or_parts (has_bit x bits) (has_bit x (comes exits row c (d + 2) s))
+          (or_cases (has_bit x bits) (has_bit x (comes exits row c (d + 2) s))
           (sym (has_bit_or x bits (comes exits row c (d + 2) s)) ∙ t))
 
       later : SomeArgument (c + 1) args s → (has_bit x bits ≡ true) ⊎ SomeArgument c (d ∷ args) s
@@ -151,7 +140,7 @@ module _ (exits : List (List ℕ)) (row : List ℕ) (x : ℕ) where
           ⊎_elim
           (λ (u : has_bit x (comes exits row 0 0 s) ≡ true). (0, 0, start, comes_out 0 0 s u))
           (λ (u : has_bit x (comes exits row 1 1 s) ≡ true). (1, 1, sought, comes_out 1 1 s u))
-          (or_parts (has_bit x (comes exits row 0 0 s)) (has_bit x (comes exits row 1 1 s))
+          (or_cases (has_bit x (comes exits row 0 0 s)) (has_bit x (comes exits row 1 1 s))
           (sym (has_bit_or x (comes exits row 0 0 s) (comes exits row 1 1 s)) ∙ t))
 
       of_argument : SomeArgument 2 args s → (c : ℕ) × (at : ℕ) × Entry args c at × Brings c at s

@@ -107,13 +107,6 @@ one_word_zero n s w t unlike = at_other (replicate n 0) s t w unlike ∙ word_ze
 length_one_word : (n s w : ℕ) → length (one_word_row n s w) ≡ n
 length_one_word n s w = length-set (replicate n 0) s w ∙ length-replicate n 0
 
--- once its word is cleared, a row with one word is blank
-pub one_word_cleared : (n s w : ℕ) → slice_set (one_word_row n s w) s 0 ≡ replicate n 0
-one_word_cleared n s w =
-    let row = slice_set (one_word_row n s w) s 0 in
-    zeros_of row (λ t. clear_rest (one_word_row n s w) s t (one_word_zero n s w t))
-    ∙ ap (λ m. replicate m 0) (length-set (one_word_row n s w) s 0 ∙ length_one_word n s w)
-
 -- the same after an instruction, for the slots that it may write
 pub step_cleared : (topic : Topic) (i : Instruction) (n s w : ℕ)
     → slice_set (slice_set (slice_set (after_row topic i (one_word_row n s w)) s 0) 1 0)
@@ -302,8 +295,3 @@ module _ (topic : Topic) (exits : List (List (List ℕ))) (code : List Instructi
         (goes g.place i (one_word_row (length entry) g.slot g.word) there less at)))
         (led_carrying (jump_target (length code) i) refl leading entry at c);
   }
-
-pub on_none : (topic : Topic) (exits : List (List (List ℕ))) (code : List Instruction) (n : ℕ)
-    (g : Grown) (rows : List (List ℕ)) (growth : List Grown)
-    → CarriesOn topic exits code n g rows rows growth growth
-on_none topic exits code n g rows growth = record { keeps = λ entry long at c. c }

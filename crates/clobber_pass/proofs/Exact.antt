@@ -13,8 +13,7 @@ use Rattle.ir.specs.Clobber.{unwritten, read_fact, LoggedAt, IsLogged}
 use Rattle.ir.proofs.Law.{exact}
 use Rattle.clobber_pass.specs.declared.classes.Stored.{Stored}
 use Rattle.clobber_pass.specs.declared.topic.Topic.TheVariants.{Frees}
-use Rattle.clobber_pass.specs.Marking.{says, site_said}
-use Rattle.clobber_pass.specs.inside.Marking.{Logged, Marks, Headers, AllMarked}
+use Rattle.clobber_pass.specs.inside.Marking.{says, Logged, Marks, Headers, AllMarked}
 use Rattle.clobber_pass.specs.inside.Classes.{HasTarget, HasAll, TargetMarked, RootsMarked}
 use Rattle.clobber_pass.specs.inside.Classes.{FieldsMarked}
 use Rattle.clobber_pass.proofs.Fits.{standing}
@@ -58,7 +57,8 @@ module _ (ir : Ir) (well : IsWellFormed ir) (stored : Stored)
       ((exact ir.functions f p (read_fact target)).0 seen_before)
   back_to false f p (inr h) = header.marked f p h
 
-  pub marks_exact : (site : Site) → (site_said table site ≡ true) ↔ IsLogged ir.functions site
+  pub marks_exact : (site : Site)
+      → (says table site.fill site.function site.place ≡ true) ↔ IsLogged ir.functions site
   marks_exact site = (
     (λ h. forth site.fill site.function site.place
         (marks.sound.logged site.fill site.function site.place h)),

@@ -1,10 +1,11 @@
 -- All that well formed code names exists; and the origins of a fact that matters in a function
 -- matter too.
-use Rattle.std.proofs.Common.{◌≡◌, ◌<◌, ◌≤◌, ℕ, zero, suc, Bool, true, false, cond, List, [], ◌∷◌}
+use Rattle.std.proofs.Common.{◌≡◌, ◌<◌, ◌≤◌, ℕ, Bool, true, false, cond, List}
 use Rattle.std.proofs.Common.{Option, Some, None, length, refl, sym, ap, subst, arith, inl, inr}
 use Rattle.std.specs.Prelude.{◌==◌, ◌&&◌, slice_get, position, option_and_then}
 use Rattle.std.specs.List.{AllByRecursion}
 use Rattle.std.proofs.lemmas.List.Quantifiers.{position-Some}
+use Rattle.nvm_base.proofs.Lists.{all_at}
 use Rattle.ir.specs.declared.instruction.Target.TheVariants.{Root, Field}
 use Rattle.ir.specs.declared.instruction.Instruction.{Instruction}
 use Rattle.ir.specs.declared.instruction.Instruction.TheVariants.{Const, Copy, Bin, Load, Store}
@@ -24,12 +25,6 @@ use Rattle.clobber_pass.specs.inside.Class.{Class}
 use Rattle.clobber_pass.specs.inside.Told.{parameter_count, parameters_at, register_count}
 use Rattle.clobber_pass.specs.inside.Told.{registers_at, Fits, Matters}
 use Rattle.clobber_pass.proofs.About.{about_origins, about_at_call, about_return, about_stays}
-
-pub all_at : {X : Type 0} (P : X → Type 0) (xs : List X) (k : ℕ) (x : X) → AllByRecursion P xs
-    → slice_get xs k ≡ Some x → P x
-all_at P [] k x all is = absurd cc
-all_at P (y ∷ xs) zero x all is = let same : y ≡ x = cc in subst P same all.0
-all_at P (y ∷ xs) (suc k) x all is = all_at P xs k x all.1 is
 
 -- an instruction of well formed code, with its function
 pub record Standing (ir : Ir) (f p : ℕ) (i : Instruction) : Type 0 where

@@ -3,10 +3,11 @@ use Rattle.std.proofs.Common.{◌≡◌, ◌<◌, ◌≤◌, ◌+◌, ◌-◌, �
 use Rattle.std.proofs.Common.{◌∷◌, Option, Some, None, length, refl, sym, ◌∙◌, ap, subst, arith}
 use Rattle.std.proofs.Common.{inl, inr, ⊎_elim}
 use Rattle.std.specs.Prelude.{◌==◌, slice_get, slice_set, nat_lt, if◌then◌else◌}
-use Rattle.std.proofs.lemmas.Bool.{false≢true, le-ltb, eqb-true, eq-eqb}
+use Rattle.std.proofs.lemmas.Bool.{false≢true, le-ltb, eqb-true, eq-eqb, or_left}
 use Rattle.std.proofs.lemmas.List.{length-set, get_or-set_same}
 use Rattle.std.proofs.lemmas.Option.{slice_get_within}
 use Rattle.std.specs.List.{AllByRecursion}
+use Rattle.nvm_base.proofs.Lists.{all_at}
 use mathlib.Core.Logic.{◌⊎◌}
 use Rattle.ir.specs.declared.instruction.Instruction.{Instruction}
 use Rattle.ir.specs.declared.instruction.Instruction.TheVariants.{Const, Copy, Bin, Jump, Branch}
@@ -37,9 +38,7 @@ use Rattle.clobber_pass.specs.inside.Flow.{enter_from, enter_row, entries_after_
 use Rattle.clobber_pass.specs.inside.Flow.{entries_after_calls, SoundEntries, ShapedEntries}
 use Rattle.clobber_pass.specs.inside.Flow.{at_entry}
 use Rattle.clobber_pass.proofs.Bits.{has_bit_zero, has_bit_or}
-use Rattle.clobber_pass.proofs.Calls.{or_left}
 use Rattle.clobber_pass.proofs.Waking.{waits_other}
-use Rattle.clobber_pass.proofs.Fits.{all_at}
 use Rattle.clobber_pass.proofs.About.{about_at_call}
 use Rattle.clobber_pass.proofs.Joins.{tells_inside, word_or, row_in_set, joined_tells}
 use Rattle.clobber_pass.proofs.Joins.{exits_of_other}
@@ -656,18 +655,3 @@ module _ (ir : Ir) (well : IsWellFormed ir) (topic : Topic) (exits : List (List 
     size = wakes.size ∙ length-set waiting f false ∙ flow.size;
     settled = settled;
   }
-
--- at first, each function whose entry has a row waits
-pub flowing_first : (functions : List IrFunction) (topic : Topic) (exits : List (List (List ℕ)))
-    (entries : List (List ℕ)) (tables : List (List (List ℕ))) (waiting : List Bool)
-    → Entries functions topic entries → StartEntries functions topic entries
-    → length tables ≡ length functions → length waiting ≡ length functions
-    → ((f : ℕ) → waits waiting f ≡ false → row_in entries f ≡ [])
-    → Flowing functions topic exits entries tables waiting
-flowing_first functions topic exits entries tables waiting all start count long nothing = record {
-  entries_are = all;
-  start = start;
-  count = count;
-  size = long;
-  settled = λ f quiet. record { ends = λ u there reached. absurd (reached (nothing f quiet)) };
-}

@@ -2,9 +2,10 @@
 use Rattle.std.proofs.Common.{◌≡◌, ◌<◌, ◌+◌, ℕ, suc, true, List, [], ◌∷◌, Option, Some, None}
 use Rattle.std.proofs.Common.{length, replicate, refl, sym, ◌∙◌, ap, subst, arith, inl, inr, ⊎_elim}
 use Rattle.std.specs.Prelude.{slice_get, slice_set, bit_or}
-use Rattle.std.proofs.lemmas.Bool.{false≢true, and_parts}
+use Rattle.std.proofs.lemmas.Bool.{false≢true, and_parts, or_cases}
 use Rattle.std.proofs.lemmas.List.{length-replicate, length-set}
 use Rattle.std.proofs.lemmas.Option.{slice_get_within}
+use Rattle.nvm_base.proofs.Lists.{all_at}
 use mathlib.Core.Logic.{◌⊎◌}
 use Rattle.ir.specs.declared.instruction.Instruction.{Instruction}
 use Rattle.ir.specs.declared.instruction.Instruction.TheVariants.{Const, Copy, Bin, Jump, Branch}
@@ -39,11 +40,11 @@ use Rattle.clobber_pass.specs.inside.Closed.Stage.{Table, RowAt}
 use Rattle.clobber_pass.specs.inside.Closed.Reached.{none, again, raised, taken, picked, dropped}
 use Rattle.clobber_pass.specs.inside.Closed.Reached.{leads, goes}
 use Rattle.clobber_pass.proofs.About.{about_origins, about_at_call, about_return, about_stays}
-use Rattle.clobber_pass.proofs.Fits.{all_at, args_count}
+use Rattle.clobber_pass.proofs.Fits.{args_count}
 use Rattle.clobber_pass.proofs.Bits.{has_bit_zero, has_bit_and, has_bit_or}
 use Rattle.clobber_pass.proofs.Steps.{at_same}
 use Rattle.clobber_pass.proofs.After.{after_told, length_after}
-use Rattle.clobber_pass.proofs.Calls.{or_parts, word_call, length_call, Entry, Brings, gather_out}
+use Rattle.clobber_pass.proofs.Calls.{word_call, length_call, Entry, Brings, gather_out}
 use Rattle.clobber_pass.proofs.Calls.{entry_is, By, after_by}
 use Rattle.clobber_pass.proofs.Joins.{tells_inside, word_zeros, length_or, or_out, set_out}
 use Rattle.clobber_pass.proofs.Joins.{row_in_set, row_in_replicate}
@@ -71,7 +72,7 @@ any_out row x (One a) h = (a, refl, h)
 any_out row x (Two a b) h =
     ⊎_elim (λ (t : tells row x (slot a) ≡ true). (a, inl refl, t))
     (λ (t : tells row x (slot b) ≡ true). (b, inr refl, t))
-    (or_parts (tells row x (slot a)) (tells row x (slot b)) h)
+    (or_cases (tells row x (slot a)) (tells row x (slot b)) h)
 
 -- a jump changes no fact
 pub jump_keeps : (place : ℕ) (b : Fact) → AmongOrigins b (origins (Jump place) b)
@@ -423,7 +424,7 @@ module _ (ir : Ir) (well : IsWellFormed ir) (topic : Topic) (exits : List (List 
           (λ (e : (slot b ≡ s) × (s < length row) × (has_bit x (bit_or (word row s) w) ≡ true)).
           ⊎_elim (λ (t : has_bit x (word row s) ≡ true). sound_at p row s b one.1 about e.0 t)
           (λ (t : has_bit x w ≡ true). added b about e.0 e.1 t)
-          (or_parts (has_bit x (word row s)) (has_bit x w)
+          (or_cases (has_bit x (word row s)) (has_bit x w)
           (sym (has_bit_or x (word row s) w) ∙ e.2)))
           (set_out row s (bit_or (word row s) w) (slot b) x h)
 

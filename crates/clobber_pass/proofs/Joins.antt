@@ -2,13 +2,12 @@
 use Rattle.std.proofs.Common.{◌≡◌, ◌<◌, ◌≤◌, ◌+◌, ℕ, zero, suc, true, List, [], ◌∷◌, length}
 use Rattle.std.proofs.Common.{replicate, refl, sym, ◌∙◌, ap, subst, arith, inl, inr, ⊎_elim}
 use Rattle.std.specs.Prelude.{slice_set, bit_or}
-use Rattle.std.proofs.lemmas.Bool.{false≢true, cases_lt}
+use Rattle.std.proofs.lemmas.Bool.{false≢true, cases_lt, or_right, or_cases}
 use mathlib.Core.Logic.{◌⊎◌}
 use Rattle.clobber_pass.specs.Row.{word, has_bit, tells}
 use Rattle.clobber_pass.specs.Sweep.{row_in}
 use Rattle.clobber_pass.specs.inside.Sweep.{exits_of, or_from, row_joined}
 use Rattle.clobber_pass.proofs.Bits.{has_bit_zero, has_bit_or}
-use Rattle.clobber_pass.proofs.Calls.{or_right, or_parts}
 
 pub word_past : (row : List ℕ) (s : ℕ) → length row ≤ s → word row s ≡ 0
 word_past [] s past = refl
@@ -50,7 +49,7 @@ pub or_out : (more ws : List ℕ) (x s : ℕ) → tells (or_from more 0 ws) x s 
 or_out more ws x s h =
     let less : s < length ws = subst (λ n. s < n) (length_or more ws 0)
     (tells_inside (or_from more 0 ws) x s h) in
-    or_parts (tells ws x s) (tells more x s)
+    or_cases (tells ws x s) (tells more x s)
     (sym (ap (has_bit x) (word_or more ws s less) ∙ has_bit_or x (word ws s) (word more s)) ∙ h)
 
 pub or_more : (more ws : List ℕ) (x s : ℕ) → s < length ws → tells more x s ≡ true

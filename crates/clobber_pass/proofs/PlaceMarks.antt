@@ -6,6 +6,7 @@ use Rattle.std.specs.Borrow.{Bor}
 use Rattle.std.specs.Prelude.{◌==◌, ◌&&◌, slice_get, if◌then◌else◌}
 use Rattle.std.proofs.lemmas.Bool.{false≢true, and_parts, and_from, eqb-true, eq-eqb}
 use Rattle.std.proofs.lemmas.Option.{slice_get_within}
+use Rattle.nvm_base.proofs.Lists.{all_at}
 use mathlib.Core.Logic.{◌⊎◌}
 use Rattle.ir.specs.declared.instruction.Target.{Target}
 use Rattle.ir.specs.declared.instruction.Target.TheVariants.{Root, Field}
@@ -36,11 +37,11 @@ use Rattle.clobber_pass.specs.inside.Closed.{row_reaching, seen_in_row}
 use Rattle.clobber_pass.specs.inside.Calling.{CalledEnded}
 use Rattle.clobber_pass.specs.inside.Sound.{SoundExits}
 use Rattle.clobber_pass.specs.inside.Flow.{Entries, StartEntries, at_entry, AllFlow}
-use Rattle.clobber_pass.specs.Marking.{part}
+use Rattle.clobber_pass.specs.Logged.{part}
 use Rattle.clobber_pass.specs.inside.Marking.{meets, store_word, fill_word, mark_word, marks_from}
 use Rattle.clobber_pass.specs.inside.Marking.{Logged, Covers}
 use Rattle.clobber_pass.proofs.Bits.{has_bit_zero, names, has_bit_fields, fields_few}
-use Rattle.clobber_pass.proofs.Fits.{all_at, registers_there}
+use Rattle.clobber_pass.proofs.Fits.{registers_there}
 use Rattle.clobber_pass.proofs.Flowing.{GoodAt, AllGood, pick_is_good, next_is_good, flow_good}
 use Rattle.clobber_pass.proofs.Flowing.{entry_is_good}
 use Rattle.clobber_pass.proofs.FlowLaw.{told_there}

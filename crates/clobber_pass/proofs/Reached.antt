@@ -3,7 +3,7 @@ use Rattle.std.proofs.Common.{◌≡◌, ◌<◌, ◌≤◌, ◌+◌, ℕ, zero,
 use Rattle.std.proofs.Common.{None}
 use Rattle.std.proofs.Common.{length, refl, sym, ◌∙◌, ap, subst, arith, inl, inr, ⊎_elim}
 use Rattle.std.specs.Prelude.{slice_get, slice_set}
-use Rattle.std.proofs.lemmas.Bool.{false≢true, cases_lt}
+use Rattle.std.proofs.lemmas.Bool.{false≢true, cases_lt, or_left, or_right}
 use Rattle.std.proofs.lemmas.List.{length-replicate, get_or-set_same}
 use mathlib.Core.Logic.{◌⊎◌}
 use Rattle.ir.specs.declared.instruction.Instruction.{Instruction}
@@ -28,7 +28,7 @@ use Rattle.clobber_pass.specs.inside.Sweep.{exits_of, next_row, jump_target, or_
 use Rattle.clobber_pass.specs.inside.Sweep.{join_in, meet_in, row_or, rows_led}
 use Rattle.clobber_pass.specs.inside.Closed.{Closed, row_reaching, seen_in_row, Shaped}
 use Rattle.clobber_pass.proofs.After.{length_after}
-use Rattle.clobber_pass.proofs.Calls.{or_left, or_right, length_call}
+use Rattle.clobber_pass.proofs.Calls.{length_call}
 use Rattle.clobber_pass.proofs.Joins.{or_more}
 
 pub length_next : (topic : Topic) (exits : List (List (List ℕ))) (i : Instruction) (row : List ℕ)

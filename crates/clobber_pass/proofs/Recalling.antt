@@ -1,12 +1,11 @@
 -- A function whose callees' exits stayed need not be swept again.
 use Rattle.std.proofs.Common.{◌≡◌, ◌<◌, ◌+◌, ℕ, zero, suc, Bool, true, false, List, [], ◌∷◌, ◌++◌}
-use Rattle.std.proofs.Common.{Some, None}
+use Rattle.std.proofs.Common.{Some}
 use Rattle.std.proofs.Common.{length, replicate, refl, sym, ◌∙◌, ap, subst, arith, inl, inr}
 use Rattle.std.proofs.Common.{⊎_elim}
 use Rattle.std.specs.Prelude.{◌==◌, slice_get, slice_set, if◌then◌else◌, option_and_then}
 use Rattle.std.proofs.lemmas.Bool.{false≢true, eqb-true, eq-eqb}
 use Rattle.std.proofs.lemmas.List.{length-set, length-replicate}
-use Rattle.std.proofs.lemmas.Option.{none-some}
 use mathlib.Core.Logic.{◌⊎◌}
 use Rattle.ir.specs.declared.instruction.Instruction.{Instruction}
 use Rattle.ir.specs.declared.instruction.Instruction.TheVariants.{Const, Copy, Bin, Jump, Branch}
@@ -405,15 +404,6 @@ alone_keeps functions topic exits new f c apart before =
     record {
       ends = λ others. ended_apart functions topic exits new f c apart others
           (before.ends others);
-    }
-
-pub alone_none : (functions : List IrFunction) (topic : Topic) (exits : List (List (List ℕ)))
-    (f c : ℕ) → slice_get functions f ≡ None → EndedAlone functions topic exits f c
-alone_none functions topic exits f c missing =
-    record {
-      ends = λ others. record {
-        ends = λ u there. absurd (none-some u (sym missing ∙ there));
-      };
     }
 
 -- the column that was swept

@@ -1,6 +1,6 @@
 -- A row that grows leaves less room.
-use Rattle.std.proofs.Common.{◌≡◌, ◌<◌, ◌≤◌, ◌+◌, ◌*◌, ◌^◌, ℕ, zero, suc, List, [], ◌∷◌, length}
-use Rattle.std.proofs.Common.{take, drop, slice_set, refl, sym, ◌∙◌, ap, subst, arith, ◌++◌, map}
+use Rattle.std.proofs.Common.{◌≡◌, ◌<◌, ◌≤◌, ◌*◌, ◌^◌, ℕ, zero, suc, List, [], ◌∷◌, length}
+use Rattle.std.proofs.Common.{slice_set, refl, sym, ◌∙◌, ap, subst, arith, map}
 use Rattle.std.proofs.Common.{get_or, Vec, Global}
 use Rattle.std.specs.Prelude.{bit_or, slice_index_or}
 use Rattle.std.proofs.lemmas.List.{get_or-map, map-set, length-set}
@@ -35,19 +35,6 @@ words_room_most (v ∷ row) (suc s) w inside more =
     omega arith
 
 pub ruleset raising = (words_room_less, words_room_most, set_again)
-
--- one more word of a row is joined
-pub or_step : (more row : List ℕ) (k s : ℕ) → s < length row
-    → take (s + 1) (slice_set row s (bit_or (word row s) (word more (k + s))))
-    ++ or_from more (k + s + 1) (drop (s + 1)
-    (slice_set row s (bit_or (word row s) (word more (k + s)))))
-    ≡ take s row ++ or_from more (k + s) (drop s row)
-or_step more [] k s inside = absurd (omega arith)
-or_step more (v ∷ row) k zero inside = refl
-or_step more (v ∷ row) k (suc s) inside =
-    let next : suc s + 1 ≡ suc (s + 1) = omega arith in
-    let e : k + suc s ≡ (k + 1) + s = omega arith in
-    rw (next, e) (ap (λ rest. v ∷ rest) (or_step more row (k + 1) s (omega arith)))
 
 -- a row of a table that leaves less room
 pub room_less : (rows : List (List ℕ)) (p : ℕ) (row : List ℕ) → p < length rows

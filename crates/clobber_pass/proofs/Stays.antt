@@ -3,6 +3,7 @@ use Rattle.std.proofs.Common.{◌≡◌, ◌<◌, ◌+◌, ℕ, suc, Bool, true,
 use Rattle.std.proofs.Common.{sym, ◌∙◌, ap, subst, arith, inl, inr}
 use Rattle.std.specs.Prelude.{slice_get}
 use Rattle.std.proofs.lemmas.Bool.{and_from, lt-ltb}
+use Rattle.nvm_base.proofs.Lists.{all_at}
 use Rattle.ir.specs.declared.instruction.Instruction.{Instruction}
 use Rattle.ir.specs.declared.instruction.Instruction.TheVariants.{Const, Copy, Bin, Jump, Branch}
 use Rattle.ir.specs.declared.instruction.Instruction.TheVariants.{Load, Store, New, Free, Call}
@@ -26,7 +27,7 @@ use Rattle.clobber_pass.specs.inside.Sweep.{rows_led}
 use Rattle.clobber_pass.specs.inside.Closed.{Closed, row_reaching, seen_in_row, told_in, Shaped}
 use Rattle.clobber_pass.specs.inside.Closed.{pass_in}
 use Rattle.clobber_pass.specs.inside.Law.{StaysTold}
-use Rattle.clobber_pass.proofs.Fits.{all_at, args_count, registers_there}
+use Rattle.clobber_pass.proofs.Fits.{args_count, registers_there}
 use Rattle.clobber_pass.proofs.Bits.{has_bit_and}
 use Rattle.clobber_pass.proofs.After.{after_told}
 use Rattle.clobber_pass.proofs.Calls.{word_call, gather_in, entry_of, By, after_by}

@@ -30,9 +30,9 @@ use Rattle.clobber_pass.specs.inside.Sweep.{exits_of, row_joined, join_in}
 use Rattle.clobber_pass.specs.inside.Calling.{CalledEnded}
 use Rattle.clobber_pass.specs.inside.Sound.{SoundExits}
 use Rattle.clobber_pass.specs.inside.Flow.{Entries, StartEntries, at_entry, AllFlow}
-use Rattle.clobber_pass.specs.Marking.{part, says}
+use Rattle.clobber_pass.specs.Logged.{part}
 use Rattle.clobber_pass.specs.inside.Marking.{Covers, marks_from, Logged, SoundMarks, ShapedMarks}
-use Rattle.clobber_pass.specs.inside.Marking.{Headers, Marked, KeepsRows, Marks, header_mark}
+use Rattle.clobber_pass.specs.inside.Marking.{says, Headers, Marked, KeepsRows, Marks, header_mark}
 use Rattle.clobber_pass.specs.inside.Marking.{headers, headers_of}
 use Rattle.clobber_pass.proofs.Joins.{row_in_set, joined_tells}
 use Rattle.clobber_pass.proofs.Columns.{joined_out, joined_shape}

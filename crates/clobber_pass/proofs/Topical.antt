@@ -4,6 +4,7 @@ use Rattle.std.proofs.Common.{length}
 use Rattle.std.proofs.Common.{refl, sym, ◌∙◌, subst, arith, slice_get}
 use Rattle.std.specs.Prelude.{◌%◌}
 use Rattle.std.proofs.lemmas.Option.{slice_get_within}
+use Rattle.nvm_base.proofs.Lists.{get_last}
 use Rattle.ir.specs.declared.function.IrFunction.{IrFunction}
 use Rattle.ir.specs.declared.instruction.Instruction.{Instruction}
 use Rattle.ir.specs.declared.instruction.Instruction.TheVariants.{Store}
@@ -13,12 +14,6 @@ use Rattle.clobber_pass.specs.declared.classes.Stored.{Stored}
 use Rattle.clobber_pass.specs.inside.Classes.{Has, Keeps, HasTarget, KeepsStored, HasIn, HasAll}
 use Rattle.clobber_pass.specs.inside.Classes.{HasStore}
 use Rattle.clobber_pass.proofs.Rounds.{below_next}
-
--- a list that got one more item
-get_last : {T : Type 0} (items : List T) (item : T)
-    → slice_get (items ++ item ∷ []) (length items) ≡ Some item
-get_last [] item = refl
-get_last (i ∷ is) item = get_last is item
 
 last_of : {T : Type 0} (items : List T) (item : T) → Has (items ++ item ∷ []) item
 last_of items item = record { at = length items; is = get_last items item }

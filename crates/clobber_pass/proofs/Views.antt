@@ -1,19 +1,10 @@
 -- Rows of a table that is seen through a function.
-use Rattle.std.proofs.Common.{◌≡◌, ◌≤◌, ◌<◌, ◌+◌, ◌-◌, ℕ, zero, suc, List, [], ◌∷◌, map, length}
-use Rattle.std.proofs.Common.{replicate, slice_set, drop, refl, subst, sym, ◌∙◌, ◌++◌, append_assoc}
-use Rattle.std.proofs.Common.{ap, arith, Vec, Global}
+use Rattle.std.proofs.Common.{◌≡◌, ◌<◌, ◌+◌, ◌-◌, ℕ, zero, suc, List, [], ◌∷◌, length}
+use Rattle.std.proofs.Common.{replicate, drop, refl, subst, sym, ◌∙◌, ◌++◌, append_assoc}
+use Rattle.std.proofs.Common.{ap, arith}
 use Rattle.clobber_pass.specs.inside.Sweep.{slot_after, call_from}
 use Rattle.clobber_pass.specs.inside.Closed.{entry_word, entry_from}
 use Rattle.clobber_pass.specs.inside.Flow.{enter_word, enter_from}
-
--- writing outside the table
-pub set_past_rows : (vs : List (Vec ℕ Global)) (p : ℕ) (row : List ℕ) → length vs ≤ p
-    → map (λ (v : Vec ℕ Global). v.items) vs ≡ slice_set (map (λ (v : Vec ℕ Global). v.items) vs) p
-    row
-set_past_rows [] p row past = refl
-set_past_rows (v ∷ vs) zero row past = absurd (omega arith)
-set_past_rows (v ∷ vs) (suc p) row past =
-    ap (λ (rest : List (List ℕ)). v.items ∷ rest) (set_past_rows vs p row (omega arith))
 
 pub replicate_next : (n k : ℕ) (row : List ℕ) → k < n
     → replicate (n - k) row ≡ row ∷ replicate (n - (k + 1)) row

@@ -1,6 +1,6 @@
 -- Which functions wait as entries grow.
-use Rattle.std.proofs.Common.{◌≡◌, ◌<◌, ℕ, zero, suc, Bool, true, false, List, [], ◌∷◌, ◌++◌}
-use Rattle.std.proofs.Common.{length, refl, sym, ◌∙◌, ap, subst, arith, inl, inr, ⊎_elim}
+use Rattle.std.proofs.Common.{◌≡◌, ◌<◌, ℕ, zero, suc, Bool, true, false, List, [], ◌∷◌}
+use Rattle.std.proofs.Common.{length, refl, sym, ◌∙◌, ap, arith, ⊎_elim}
 use Rattle.std.specs.Prelude.{slice_set}
 use Rattle.std.proofs.lemmas.Bool.{false≢true}
 use Rattle.std.proofs.lemmas.List.{length-set}
@@ -77,26 +77,5 @@ waits_still (w ∷ ws) zero zero quiet = refl
 waits_still (w ∷ ws) zero (suc g) quiet = quiet
 waits_still (w ∷ ws) (suc f) zero quiet = quiet
 waits_still (w ∷ ws) (suc f) (suc g) quiet = waits_still ws f g quiet
-
--- one more function, which waits if its entry has a row
-pub waits_next : (entries : List (List ℕ)) (waiting new : List Bool) (b : Bool) (n : ℕ)
-    → length waiting ≡ n → new ≡ waiting ++ b ∷ [] → (b ≡ false → row_in entries n ≡ [])
-    → ((f : ℕ) → waits waiting f ≡ false → row_in entries f ≡ []) → (f : ℕ) → waits new f ≡ false
-    → row_in entries f ≡ []
-waits_next entries waiting new b n size is this before f quiet =
-    by_place f (split waiting f (subst (λ w. waits w f ≡ false) is quiet))
-  where
-    split : (ws : List Bool) (g : ℕ) → waits (ws ++ b ∷ []) g ≡ false → (waits ws g ≡ false)
-        ⊎ ((g ≡ length ws) × (b ≡ false))
-    split [] zero h = inr (refl, h)
-    split [] (suc g) h = inl h
-    split (w ∷ ws) zero h = inl h
-    split (w ∷ ws) (suc g) h = ⊎_elim inl (λ (e : (g ≡ length ws) × (b ≡ false)).
-        inr (ap suc e.0, e.1)) (split ws g h)
-
-    by_place : (g : ℕ) → (waits waiting g ≡ false) ⊎ ((g ≡ length waiting) × (b ≡ false))
-        → row_in entries g ≡ []
-    by_place g (inl h) = before g h
-    by_place g (inr e) = subst (λ k. row_in entries k ≡ []) (sym (e.0 ∙ size)) (this e.1)
 
 pub ruleset settling = (waits_settled, waits_still)

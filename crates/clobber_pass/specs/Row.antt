@@ -1,4 +1,4 @@
--- A row, and the effect on it of an instruction that is no call.
+-- A row of words, and the bits of its words.
 use Rattle.std.specs.Prelude.{◌==◌, ℕ, Bool, List, slice_index_or}
 use Rattle.std.specs.Int.{bit_at}
 

@@ -72,7 +72,7 @@ fn wake_caller(edge: &Edge, called: usize, waiting: &mut [bool])
     }
 }
 
-/// The waiting list, of so many functions, in which each called function waits.
+/// The waiting list of `count` functions, in which each called function waits.
 pub fn called_wait(alloc: Global, edges: &[Edge], count: usize) -> Result<Vec<bool>, AllocError>
     ensures { IfOk result (λ waiting.
         waiting.items ≡ all_called edges.now (replicate count false)) }

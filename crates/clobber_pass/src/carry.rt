@@ -10,6 +10,7 @@ ghost use Rattle.clobber_pass.specs.inside.Carrying.{Arrived, Carries, CarriesOn
 ghost use Rattle.clobber_pass.specs.inside.Room.{room};
 
 use crate::growth::{Grown, Growth};
+use crate::order::MOST_TURNS;
 use crate::row::{put, word};
 use crate::rows::Rows;
 use crate::step::step;
@@ -279,9 +280,6 @@ fn carry_word(
     Ok(())
 }
 
-/// The most words that are carried on from one place. The sweeps find what is left.
-const MOST: u32 = u32::MAX;
-
 /// Carries on the words of a list, and what grows by them.
 fn carry_growth(
     alloc: Global,
@@ -297,7 +295,7 @@ fn carry_growth(
     ensures room { OnOk result (room rows.new ≤ room rows.old) }
 {
     let mut row = vec![in alloc; 0; entry.len()]?;
-    for _ in 0..MOST {
+    for _ in 0..MOST_TURNS {
         let Some(grown) = growth.pop() else {
             return Ok(());
         };

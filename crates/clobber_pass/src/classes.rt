@@ -7,13 +7,13 @@ ghost use Rattle.ir.specs.declared.instruction.Instruction.TheVariants.{Store};
 ghost use Rattle.clobber_pass.specs.inside.Classes.{Has, HasAll, HasIn, HasStore, HasTarget};
 ghost use Rattle.clobber_pass.specs.inside.Classes.{Keeps, KeepsStored};
 
-use crate::topic::StructField;
+use crate::topic::{StructField, TOPIC_FIELDS};
 use ir::{Instruction, IrFunction, Target};
 use nvm_base::List;
 use std::alloc::{AllocError, Global};
 
-/// The classes of stores, each once: of the root's fields the first of each 16, and the fields of
-/// structs.
+/// The classes of stores, each once: of the root's fields the first of each topic, and the fields
+/// of structs.
 #[derive(Drop)]
 pub struct Stored {
     pub roots: List<u32>,
@@ -77,7 +77,7 @@ fn add_target(stored: &mut Stored, target: Target) -> Result<(), AllocError>
     ensures kept { OnOk result (KeepsStored stored.old stored.new) }
 {
     match target {
-        Target::Root { field, .. } => add_root(&mut stored.roots, field - field % 16),
+        Target::Root { field, .. } => add_root(&mut stored.roots, field - field % TOPIC_FIELDS),
         Target::Field { kind, field, .. } => add_field(
             &mut stored.fields,
             StructField { kind, field },

@@ -17,8 +17,8 @@ pub fn width(topic: Topic<'_>, registers: u32) -> usize
     }
 }
 
-/// The column of a slot at the entry of a function with so many parameters. A register that is no
-/// parameter has the column of the walk itself.
+/// The column of a slot at a function's entry. A register that is no parameter has the column of
+/// the walk itself.
 fn column_of(parameters: u32, slot: usize) -> usize
     ensures { result ≡ told.column_of parameters slot }
 {

@@ -10,7 +10,7 @@ ghost use Rattle.clobber_pass.specs.inside.Classes.{RootsMarked, TopicMarked};
 use crate::calling::Edge;
 use crate::rows::Rows;
 use crate::table::mark_topic;
-use crate::topic::{StructField, Topic};
+use crate::topic::{StructField, TOPIC_FIELDS, Topic};
 use ir::Ir;
 use std::alloc::{AllocError, Global};
 
@@ -94,7 +94,7 @@ pub fn mark_fields(
 {
     let mut left = fields;
     while !left.is_empty() {
-        let (all, others) = left.split_at(left.len().min(16));
+        let (all, others) = left.split_at(left.len().min(TOPIC_FIELDS as usize));
         mark_some(alloc, ir, all, edges, order, table)?;
         left = others;
     }

@@ -5,6 +5,9 @@ use crate::calling::Edge;
 use ir::Ir;
 use std::alloc::{AllocError, Global};
 
+/// The most turns of a loop that works off a stack. The sweeps find what it leaves.
+pub const MOST_TURNS: u32 = u32::MAX;
+
 /// What is next in a walk along calls: a function is met, or is left after all that it calls.
 #[derive(Clone, Copy, Debug, PartialEq, Eq)]
 enum Turn {
@@ -58,7 +61,7 @@ impl Walk {
     /// Walks from a function.
     fn walk_from(&mut self, edges: &[Edge], function: usize) -> Result<(), AllocError> {
         self.meet(edges, function)?;
-        for _ in 0..MOST {
+        for _ in 0..MOST_TURNS {
             let Some(turn) = self.turns.pop() else {
                 return Ok(());
             };
@@ -67,9 +70,6 @@ impl Walk {
         Ok(())
     }
 }
-
-/// The most turns of a walk. The rounds sweep the functions that it doesn't come to.
-const MOST: u32 = u32::MAX;
 
 /// The functions, each after those that it calls, as far as no calls go in circles.
 pub fn call_order(alloc: Global, ir: &Ir, edges: &[Edge]) -> Result<Vec<usize>, AllocError> {

@@ -5,7 +5,7 @@ ghost use Rattle.std.specs.Prelude.{◌≡◌, slice_set};
 ghost use Rattle.clobber_pass.specs.Row as rows;
 ghost use Rattle.clobber_pass.specs.inside.Row as inside_rows;
 
-use crate::topic::StructField;
+use crate::topic::{StructField, TOPIC_FIELDS};
 
 /// The word of a slot, or 0 if there is none.
 #[tactic(auto, using(crate::proofs::Lookup::lookup))]
@@ -33,19 +33,23 @@ pub fn mask(first: u32, field: u32) -> u16
     if field < first {
         return 0;
     }
-    if field - first < 16 {
+    if field - first < TOPIC_FIELDS {
         1 << (field - first)
     } else {
         0
     }
 }
 
-/// The bit of a place in a topic, or 0 past its 16 places.
+/// The bit of a place in a topic, or 0 past its last place.
 #[tactic(auto, using(std::proofs::lemmas::Nat::one_shl), unfolding(crate::specs::inside::Row::place_bit))]
 fn place_bit(place: usize) -> u16
     ensures { result ≡ inside_rows.place_bit place }
 {
-    if place < 16 { 1 << place } else { 0 }
+    if place < TOPIC_FIELDS as usize {
+        1 << place
+    } else {
+        0
+    }
 }
 
 /// The bit of a place, if the field there is this one.

@@ -27,7 +27,7 @@ impl Model for Rows {
 }
 
 impl Rows {
-    /// So many empty rows.
+    /// `count` empty rows.
     pub fn new(alloc: Global, count: usize) -> Result<Self, AllocError>
         ensures { IfOk result (λ rows. rows ≡ replicate count []) }
     {

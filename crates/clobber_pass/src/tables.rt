@@ -89,7 +89,7 @@ impl Tables {
         }
     }
 
-    /// So many tables without rows.
+    /// `count` tables without rows.
     pub fn blank(alloc: Global, count: usize) -> Result<Self, AllocError>
         ensures { IfOk result (λ tables. length tables ≡ count) }
     {

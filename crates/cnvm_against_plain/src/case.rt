@@ -56,7 +56,7 @@ pub(crate) fn logged_of(answer: &Answer) -> u64 {
     }
 }
 
-/// What is wanted of a call that writes this many records, and of one whose transaction rolls back.
+/// What is wanted of a call that writes `logged` records, and of one whose transaction rolls back.
 pub(crate) fn wanted_of(
     alloc: Global,
     program: &Program,
@@ -127,9 +127,8 @@ fn undone(alloc: Global, before: &Before, kind: TrapKind) -> Result<Wanted, Allo
     })
 }
 
-/// The phase of a call with this many arguments that is cut after this many events: the arguments
-/// and the function are stored, their lines are flushed and fenced, and then the seal is stored,
-/// flushed and fenced.
+/// The phase of a call that is cut after `at` events: the arguments and the function are stored,
+/// their lines are flushed and fenced, and then the seal is stored, flushed and fenced.
 pub(crate) fn phase_at(at: u64, arguments: u64) -> Phase {
     let lines = if arguments <= 7 {
         1

@@ -21,8 +21,8 @@ struct Course {
     value: i64,
 }
 
-/// What is wanted of the last call of a worker, which writes this many records. All calls before
-/// it end with values.
+/// What is wanted of the last call of a worker, which writes `logged` records. All calls before it
+/// end with values.
 pub(crate) fn wanted_at(
     alloc: Global,
     program: &Program,
@@ -31,7 +31,7 @@ pub(crate) fn wanted_at(
     logged: u64,
 ) -> Result<Wanted, AllocError> {
     let mut course = Course {
-        pool: Pool::empty(alloc, program.sizes.root_words(), SLOTS)?,
+        pool: Pool::empty(alloc, program.image.sizes().root_words(), SLOTS)?,
         plain: PlainAnswer::NoMemory,
         done: 0,
         value: 0,

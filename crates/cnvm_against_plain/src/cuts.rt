@@ -55,8 +55,7 @@ pub(crate) fn cut_all<L: Ledger>(
     Ok(())
 }
 
-/// Cuts the call after this many events, in each way. The answer says whether it has more events
-/// than these.
+/// Cuts the call after `at` events, in each way. The answer says whether it has more events.
 fn cut_at<L: Ledger>(
     alloc: Global,
     case: Case,

@@ -44,7 +44,7 @@ pub(crate) fn drive<L: Ledger>(
         return Ok(tally);
     };
     let program = &compiled.program;
-    let mut pool = Pool::empty(alloc, program.sizes.root_words(), SLOTS)?;
+    let mut pool = Pool::empty(alloc, program.image.sizes().root_words(), SLOTS)?;
     let Some(rig) = Rig::create(alloc, program) else {
         return Err(AllocError);
     };

@@ -103,8 +103,7 @@ impl Tally {
         let events = self.events;
         let compared = self.compared;
         let differ = self.differ;
-        format!(in alloc;
-            "transactions {calls} traps {traps} events cut {events} comparisons {compared} differences {differ}"
-        )
+        let head = format!(in alloc; "transactions {calls} traps {traps} events cut {events}")?;
+        format!(in alloc; "{head} comparisons {compared} differences {differ}")
     }
 }

@@ -240,8 +240,7 @@ fn cut_all<L: Ledger>(
     Ok(())
 }
 
-/// Cuts the calls after this many events, in each way. The answer says whether they have more
-/// events than these.
+/// Cuts the calls after `at` events, in each way. The answer says whether they have more events.
 fn cut_at<L: Ledger>(
     alloc: Global,
     program: &Program,

@@ -20,6 +20,7 @@ use Rattle.workers_script.specs.declared.command.WorkersCommand.{WorkersCommand}
 use Rattle.workers_script.specs.WorkersGrammar.{workers_script_meaning}
 use Rattle.workers_run.specs.WorkersRan.{Unbegun, RunsNew, BreaksOffNew}
 use Rattle.cnvm_session.specs.declared.program.Program.{Program}
+use Rattle.cnvm_session.specs.Pool.{wanted_of}
 use Rattle.cnvm_words.specs.declared.plan.Plan.{Plan}
 use Rattle.cnvm_words.specs.declared.plan.Plan.TheVariants as plan
 use Rattle.cnvm_compile.specs.declared.asked.Asked.{Asked}
@@ -31,7 +32,7 @@ use Rattle.cnvm_cli.specs.RefusalText.{has_line}
 use Rattle.cnvm_cli.specs.Verdict.{refused_by, IsTextRefused, IsAccepted, Grammar, SpellsIn}
 use Rattle.cnvm_cli.specs.Verdict.{ProgramRefuses, ScriptRefuses, RefuseIn, asked_by}
 use Rattle.cnvm_cli.specs.Run.{Uncreated, TellsAs, RefusedAs}
-use Rattle.cnvm_cli.specs.Opened.{wanted_of, read_part, ImageRefuses, Unopened}
+use Rattle.cnvm_cli.specs.Opened.{read_part, ImageRefuses, Unopened}
 use Rattle.cnvm_cli.specs.Saved.{SavedAs}
 use Rattle.cnvm_cli.specs.WhyEnds.{WhyEnds}
 use Rattle.cnvm_cli.specs.inside.WorkersEnds.{WorkersRanAs, WorkersEnds}

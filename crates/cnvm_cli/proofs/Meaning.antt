@@ -1,20 +1,19 @@
 -- A run means what its program's source says.
 use Rattle.std.proofs.Common.{◌≡◌, ℕ, ℤ, List, [], ◌∷◌, Bool, true, false, Option, Some, None}
-use Rattle.std.proofs.Common.{is_some, inl, inr, length, append-nil, refl, sym, ap, subst}
+use Rattle.std.proofs.Common.{is_some, inl, inr, append-nil, refl, sym, ap, subst}
 use Rattle.std.specs.List.{AllByRecursion}
 use Rattle.std.specs.Io.KnownBytes.{Appends, Keeps}
 use Rattle.nvm_base.proofs.Pieces.{appends_more}
 use Rattle.cache_model.specs.Cache.{Words}
 use Rattle.pmem.specs.Device.{Device}
-use Rattle.pool_layout.specs.declared.limits.Sizes.{Sizes}
 use Rattle.pool_layout.specs.Image.{image_words}
 use Rattle.pool_layout.specs.Opened.{IsOpened}
-use Rattle.c_types.specs.Shapes.{shapes_of, transactions_of}
 use Rattle.cnvm_script.specs.declared.command.Command.{Command}
 use Rattle.cnvm_session.specs.declared.answer.Answer.{Answer}
 use Rattle.cnvm_session.specs.AnswerText.{answer_text}
 use Rattle.cnvm_session.specs.declared.mode.Mode.{Mode}
 use Rattle.cnvm_session.specs.declared.program.Program.{Program}
+use Rattle.cnvm_session.specs.Pool.{wanted_of}
 use Rattle.session_law.specs.Agrees.{Agrees}
 use Rattle.session_law.specs.State.{SourceState}
 use Rattle.session_law.specs.Holds.{Holds}
@@ -37,7 +36,7 @@ use Rattle.cnvm_cli.specs.declared.refused.Refused.TheVariants as refused
 use Rattle.cnvm_cli.specs.declared.status.Status.{Status}
 use Rattle.cnvm_cli.specs.declared.status.Status.TheVariants as status
 use Rattle.cnvm_cli.specs.Verdict.{HasCommands, TextsGive, asked_by}
-use Rattle.cnvm_cli.specs.Opened.{wanted_of, ImageGives, Unopened}
+use Rattle.cnvm_cli.specs.Opened.{ImageGives, Unopened}
 use Rattle.cnvm_cli.specs.inside.Opened.{OpensAll, OpenedAs}
 use Rattle.cnvm_cli.specs.Run.{Uncreated}
 use Rattle.cnvm_cli.specs.inside.Run.{RunsAndWrites, RunsPart, CreatedAll, CreatedPart, RanAs}
@@ -195,7 +194,7 @@ module _ (program : Program) (agrees : Agrees program)
     history = recovered_by (session.opened program (image_words list)) (image_words list) a;
   }
 
-  opens_meant : (words : List ℤ) → AreWords words → IsOpened (session.wanted_of program) words →
+  opens_meant : (words : List ℤ) → AreWords words → IsOpened (wanted_of program) words →
       (w w' : Option (List ℕ)) (d d' : Device) (k k' : ℕ) →
       OpensAll program commands words w w' d d' k k' →
       OpensMeant program commands words w w' d d' k k'
@@ -212,7 +211,7 @@ module _ (program : Program) (agrees : Agrees program)
             d' r.3 w' k' first.1.holds r.7,
       )
 
-  part_meant : (words : List ℤ) → AreWords words → IsOpened (session.wanted_of program) words →
+  part_meant : (words : List ℤ) → AreWords words → IsOpened (wanted_of program) words →
       (w w' : Option (List ℕ)) (d d' : Device) (k k' : ℕ) →
       cli.OpensPart program commands words w w' d d' k k' →
       OpenMeansPart program commands words w w' d d' k k'
@@ -234,7 +233,7 @@ module _ (program : Program) (agrees : Agrees program)
             words x d' r.3 w' k' first.1.holds r.7,
       )
 
-  opened_meant : (words : List ℤ) → AreWords words → IsOpened (session.wanted_of program) words →
+  opened_meant : (words : List ℤ) → AreWords words → IsOpened (wanted_of program) words →
       (result : Status) (w w' : Option (List ℕ)) (d d' : Device) (k k' : ℕ) →
       OpenedAs program commands words result w w' d d' k k' →
       OpenedMeantAs program commands words result w w' d d' k k'
@@ -243,49 +242,37 @@ module _ (program : Program) (agrees : Agrees program)
       (part_meant list are opened w w' d d' k k') (opens_meant list are opened w w' d d' k k')
       (part_meant list are opened w w' d d' k k') result r
 
-  module _ (sizes : program.image.parts.sizes ≡ program.sizes) where
-    wanted_same : (list : List ℤ) → IsOpened (wanted_of program) list
-        → IsOpened (session.wanted_of program) list
-    wanted_same list is =
-        subst (λ (z : Sizes). IsOpened
-        (record {
-          sizes = z;
-          digest = program.digest;
-          txs = length (transactions_of program.typed);
-          structs = length (shapes_of program.typed).structs;
-        }) list) (sym sizes) is
+  start_meant :
+      (start : Start) (result : Status) (w w' : Option (List ℕ)) (d d' : Device) (k k' : ℕ) →
+      PoolEnds start program commands result w w' d d' k k' →
+      StartMeant start program commands result w w' d d' k k'
+  start_meant Fresh result w w' d d' k k' ends = ran_meant result w w' d d' k k' ends
+  start_meant (FromImage image) result w w' d d' k k' (inl refused) =
+      inl (refused.0, refused.1, refused.2, refused.3, refused.4)
+  start_meant (FromImage image) result w w' d d' k k' (inr ran) =
+      let gives : ImageGives program image ran.0 = ran.1 in
+      inr (
+        ran.0,
+        gives,
+        opened_meant ran.0 gives.1 gives.0 result w w' d d'
+            k k' ran.2,
+      )
 
-    start_meant :
-        (start : Start) (result : Status) (w w' : Option (List ℕ)) (d d' : Device) (k k' : ℕ) →
-        PoolEnds start program commands result w w' d d' k k' →
-        StartMeant start program commands result w w' d d' k k'
-    start_meant Fresh result w w' d d' k k' ends = ran_meant result w w' d d' k k' ends
-    start_meant (FromImage image) result w w' d d' k k' (inl refused) =
-        inl (refused.0, refused.1, refused.2, refused.3, refused.4)
-    start_meant (FromImage image) result w w' d d' k k' (inr ran) =
-        let gives : ImageGives program image ran.0 = ran.1 in
-        inr (
-          ran.0,
-          gives,
-          opened_meant ran.0 gives.1 (wanted_same ran.0 gives.0) result w w' d d'
-              k k' ran.2,
-        )
-
-    job_meant : (saves : Bool) (start : Start) (result : Status) (before after : Outside)
-        → JobEnds saves start program commands result before after
-        → JobMeant saves start program commands result before after
-    job_meant false start result before after ends = (
-      start_meant start result before.out after.out before.dev after.dev before.steps
-          after.steps ends.0,
-      ends.1,
-    )
-    job_meant true start result before after ends = (
-      ends.0,
-      ends.1,
-      start_meant start ends.0 before.out after.out before.dev ends.1
-          before.steps after.steps ends.2,
-      ends.3,
-    )
+  job_meant : (saves : Bool) (start : Start) (result : Status) (before after : Outside)
+      → JobEnds saves start program commands result before after
+      → JobMeant saves start program commands result before after
+  job_meant false start result before after ends = (
+    start_meant start result before.out after.out before.dev after.dev before.steps
+        after.steps ends.0,
+    ends.1,
+  )
+  job_meant true start result before after ends = (
+    ends.0,
+    ends.1,
+    start_meant start ends.0 before.out after.out before.dev ends.1
+        before.steps after.steps ends.2,
+    ends.3,
+  )
 
 run_meant : (asked : Asked) (told : Sources) (opens saves : Bool) (result : Status)
     (before after : Outside) → RunEnds asked told opens saves result before after
@@ -302,7 +289,7 @@ run_meant asked told opens saves result before after (inr ran) =
       ran.1,
       gives,
       job_meant compiled.program from.1.agrees ran.1 (script_words has.0 ran.1 has.1.1)
-          from.1.image saves (start_if opens told.image) result before after ran.3,
+          saves (start_if opens told.image) result before after ran.3,
     )
 
 plan_meant : (asked : Plan) (told : Sources) (result : Status) (before after : Outside)

@@ -1,37 +1,15 @@
 -- The rounds of a storm, one after another.
-use Rattle.std.proofs.Common.{◌≡◌, ℕ, suc, ◌+◌, ◌-◌, ◌^◌, ◌<◌, ◌≤◌, min, List, [], ◌∷◌, Some}
-use Rattle.std.proofs.Common.{length, drop, get_or, Result, Ok, Err, OnErr, refl, sym, subst, arith}
-use Rattle.std.proofs.lemmas.List.{drop_all}
+use Rattle.std.proofs.Common.{◌≡◌, ℕ, suc, ◌-◌, ◌^◌, ◌<◌, min, List, [], ◌∷◌, Some}
+use Rattle.std.proofs.Common.{length, Result, Ok, Err, OnErr, sym, subst, arith}
 use Rattle.pmem.specs.Device.{Device}
 use Rattle.c_tree.specs.ItemTree.{FunctionTree}
 use Rattle.c_types.specs.Shapes.{transactions_of}
 use Rattle.cnvm_script.specs.declared.command.Command.{Command}
 use Rattle.cnvm_script.specs.Storm.{storm_round, storm_after}
-use Rattle.cnvm_session.specs.declared.answer.Answer.{Answer}
 use Rattle.cnvm_session.specs.declared.mode.Mode.{Mode}
 use Rattle.cnvm_session.specs.declared.program.Program.{Program}
-use Rattle.cnvm_session.specs.Commands.{Commanded}
 use Rattle.cnvm_cli.specs.declared.storm.Tally.{Tally}
-use Rattle.cnvm_cli.specs.Stormed.{counted}
 use Rattle.cnvm_cli.specs.inside.Stormed.{CountsAnswers, Rounds, RoundsPart, RoundsOf, RagesPart}
-use Rattle.cnvm_cli.proofs.Running.{commands_at}
-
--- one command is counted, followed by the rest
-pub counts_more : (p : Program) (cs : List Command) (i : ℕ) (x : Command) (t t' : Tally)
-    (m m1 m' : Mode) (d d1 d' : Device) (k k1 k' : ℕ) (a : Answer)
-    → i < length cs → x ≡ get_or cs i x → Commanded p x m d a m1 d1 k k1
-    → CountsAnswers p (drop (i + 1) cs) (counted x a t) m1 d1 k1 t' m' d' k'
-    → CountsAnswers p (drop i cs) t m d k t' m' d' k'
-counts_more p cs i x t t' m m1 m' d d1 d' k k1 k' a less is one rest =
-    subst (λ (l : List Command). CountsAnswers p l t m d k t' m' d' k')
-    (sym (commands_at cs i x less is)) (a, m1, d1, k1, one, rest)
-
-pub counts_none : (p : Program) (cs : List Command) (i : ℕ) (t : Tally) (m : Mode)
-    (d : Device) (k : ℕ)
-    → length cs ≤ i → CountsAnswers p (drop i cs) t m d k t m d k
-counts_none p cs i t m d k none =
-    subst (λ (l : List Command). CountsAnswers p l t m d k t m d k) (sym (drop_all i cs none))
-    (refl, refl, refl, refl)
 
 -- one round, followed by the rest
 pub rounds_more : (p : Program) (x y n less : ℕ) (cs : List Command) (t t1 t' : Tally)
@@ -54,11 +32,6 @@ rounds_more p x y n less cs t t1 t' m m1 m' d d1 d' k k1 k' is commands next one
       rest,
     )
 
-pub rounds_none : (p : Program) (x n : ℕ) (t : Tally) (m : Mode) (d : Device) (k : ℕ) → n ≡ 0
-    → Rounds p x n t m d k t m d k
-rounds_none p x n t m d k is =
-    subst (λ (i : ℕ). Rounds p x i t m d k t m d k) (sym is) (refl, refl, refl, refl)
-
 -- one round, followed by fewer than the rest
 pub rounds_part_more : (p : Program) (x y n less : ℕ) (cs : List Command) (t t1 : Tally)
     (m m1 : Mode) (d d1 d' : Device) (k k1 k' : ℕ)
@@ -75,22 +48,11 @@ rounds_part_more p x y n less cs t t1 m m1 d d1 d' k k1 k' is commands next one 
       (cs, y, commands, next, t1, m1, d1, k1, one, rest.4),
     )
 
--- no round of some
-pub rounds_part_none : (p : Program) (x n : ℕ) (t : Tally) (m : Mode) (d : Device) (k : ℕ) → 0 < n
-    → RoundsPart p x n t m d k d k
-rounds_part_none p x n t m d k some = (0, some, t, m, (refl, refl, refl, refl))
-
 pub some_rounds : (fs : List FunctionTree) (p : Program) (x n : ℕ) (t t' : Tally) (m m' : Mode)
     (d d' : Device) (k k' : ℕ)
     → 0 < length fs → Rounds p x n t m d k t' m' d' k' → RoundsOf fs p x n t m d k t' m' d' k'
 some_rounds [] p x n t t' m m' d d' k k' some rounds = let no : ⊥ = omega (arith, some) in absurd no
 some_rounds (f ∷ fs) p x n t t' m m' d d' k k' some rounds = rounds
-
-pub no_rounds : (fs : List FunctionTree) (p : Program) (x n : ℕ) (t : Tally) (m : Mode)
-    (d : Device) (k : ℕ)
-    → length fs ≡ 0 → RoundsOf fs p x n t m d k t m d k
-no_rounds [] p x n t m d k none = (refl, refl, refl, refl)
-no_rounds (f ∷ fs) p x n t m d k none = let no : ⊥ = omega (arith, none) in absurd no
 
 pub some_rages : (p : Program) (start n : ℕ) (t : Tally) (m : Mode) (d d' : Device) (k k' : ℕ)
     → 0 < length (transactions_of p.typed)

@@ -8,11 +8,12 @@ use Rattle.cnvm_compile.specs.declared.asked.Asked.{Asked}
 use Rattle.cnvm_compile.specs.declared.compiling.Compiled.{Compiled}
 use Rattle.cnvm_compile.specs.Compilation.{IsCompiled}
 use Rattle.cnvm_session.specs.declared.program.Program.{Program}
+use Rattle.cnvm_session.specs.Pool.{wanted_of, sizes_of}
 use Rattle.cnvm_cli.specs.declared.refused.Refused.{Refused}
 use Rattle.cnvm_cli.specs.declared.refused.Refused.TheVariants as refused
 use Rattle.cnvm_cli.specs.inside.Opened.{ImageIs, ImageReadAs}
 use Rattle.cnvm_cli.specs.inside.Texts.{ProgramReadAs, ReadIn}
-use Rattle.cnvm_cli.specs.Opened.{wanted_of, read_part, AreImageWords}
+use Rattle.cnvm_cli.specs.Opened.{read_part, AreImageWords}
 use Rattle.cnvm_cli.specs.Verdict.{OfBytes, IsTextRefused, IsLongScript, Grammar, IsBadIn, SpellsIn}
 
 -- what holds of a source's bytes holds of some bytes
@@ -102,16 +103,16 @@ script_read {C} means w (Err refused.Device) bytes same is = absurd is
 
 pub image_read : (program : Program) (w : Option (List ℕ)) (r : Result (List ℤ) Refused)
     (bytes : List ℕ) → IfSome w (λ all. bytes ≡ read_part program all)
-    → length bytes ≤ 64 * pool_lines program.sizes + 1
+    → length bytes ≤ 64 * pool_lines (sizes_of program) + 1
     → ImageIs program r bytes → ImageReadAs program r w
 image_read program w (Ok words) bytes first within is = (
   is.0,
   is.1,
-  of_part (64 * pool_lines program.sizes + 1) w (λ part. AreImageWords program part words) bytes
-      first within is.2,
+  of_part (64 * pool_lines (sizes_of program) + 1) w
+      (λ part. AreImageWords program part words) bytes first within is.2,
 )
 image_read program w (Err (refused.Image fault)) bytes first within is =
-    of_part (64 * pool_lines program.sizes + 1) w
+    of_part (64 * pool_lines (sizes_of program) + 1) w
     (λ part. IsFirstFault (wanted_of program) part fault) bytes first within is
 image_read program w (Err refused.ReadFault) bytes first within is = tt
 image_read program w (Err refused.NoMemory) bytes first within is = tt

@@ -35,7 +35,7 @@ status_kept N Z A P status.ReadFault h refuses = refuses
 status_kept N Z A P status.WriteFault h refuses = refuses
 status_kept N Z A P status.DeviceFault h refuses = refuses
 
--- a text that is told with status 0
+-- a text that is written with status 0
 pub written_as : (text : List ℕ) (result : Status) (w w' : Option (List ℕ))
     → TellsAs status.Done text result w w' → WrittenAs text result w w'
 written_as text result w w' tells =

@@ -26,7 +26,7 @@ long_refused text long = (
   refl,
 )
 
--- what is told of a refused text is why it is refused
+-- what is reported of a refused text is why it is refused
 pub told_refuses : (text : List ℕ) (fault : ProgramFault) (tells : Told) → told_of fault ≡ tells
     → RefusesText text fault → ProgramRefuses (Some text) (refused_by tells)
 told_refuses text fault told.Long is refuses = (fault, refuses, ap refused_by is)

@@ -12,9 +12,10 @@ use Rattle.cnvm_compile.specs.declared.asked.Asked.{Asked}
 use Rattle.cnvm_cli.specs.declared.status.Status.{Status}
 use Rattle.cnvm_cli.specs.declared.status.Status.TheVariants as status
 use Rattle.cnvm_cli.specs.Listed.{listing_sizes}
-use Rattle.cnvm_cli.specs.Opened.{wanted_of, read_part}
+use Rattle.cnvm_cli.specs.Opened.{read_part}
 use Rattle.cnvm_cli.specs.Verdict.{asked_by, IsAccepted, Grammar, SpellsIn}
 use Rattle.cnvm_cli.specs.World.{Sources}
+use Rattle.cnvm_session.specs.Pool.{wanted_of}
 
 -- the source shows a program's text whose tokens spell a tree that breaks no rule
 abbrev pub HasProgram : Asked → Option (List ℕ) → Type 0

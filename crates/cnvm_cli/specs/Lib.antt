@@ -4,7 +4,6 @@ pub mod Exits
 pub mod Listed
 pub mod Meant
 pub mod Opened
-pub mod Paths
 pub mod Read
 pub mod RefusalText
 pub mod Run

@@ -1,43 +1,33 @@
 -- The image of a pool, and the pool that it gives.
-use Rattle.std.specs.Prelude.{ℕ, ℤ, ◌+◌, ◌*◌, List, length, take, Option, ◌≡◌, ⊤}
+use Rattle.std.specs.Prelude.{ℕ, ℤ, ◌+◌, ◌*◌, List, take, Option, ◌≡◌, ⊤}
 use Rattle.std.specs.Io.KnownBytes.{Keeps}
 use Rattle.pmem.specs.Device.{Device}
 use Rattle.pool_layout.specs.declared.places.Version.TheVariants.{First, Second}
-use Rattle.pool_layout.specs.declared.wanted.Wanted.{Wanted}
 use Rattle.pool_layout.specs.Bytes.{bytes_of, word_in}
 use Rattle.pool_layout.specs.Fault.{version_of, Accepts, IsFirstFault}
 use Rattle.pool_layout.specs.Moved.{AreMoved}
 use Rattle.pool_layout.specs.Opened.{IsOpened}
 use Rattle.pool_layout.specs.Sizes.{pool_lines}
-use Rattle.c_types.specs.Shapes.{shapes_of, transactions_of}
 use Rattle.cnvm_session.specs.declared.creating.StartFault.{StartFault}
 use Rattle.cnvm_session.specs.declared.program.Program.{Program}
 use Rattle.cnvm_session.specs.Opening.{opening_events}
 use Rattle.cnvm_session.specs.Unmade.{IsUnmade}
+use Rattle.cnvm_session.specs.Pool.{sizes_of, wanted_of}
 use Rattle.session_law.specs.Words.{AreWords}
 use Rattle.cnvm_cli.specs.declared.refused.Refused.{Refused}
 use Rattle.cnvm_cli.specs.declared.refused.Refused.TheVariants as refused
 use Rattle.cnvm_cli.specs.Verdict.{OfBytes}
 
--- the pool that an image must fit
-abbrev pub wanted_of : Program → Wanted
-wanted_of program = record {
-  sizes = program.sizes;
-  digest = program.digest;
-  txs = length (transactions_of program.typed);
-  structs = length (shapes_of program.typed).structs;
-}
-
 -- at most one byte past an image's length is read
 abbrev pub read_part : Program → List ℕ → List ℕ
-read_part program bytes = take (64 * pool_lines program.sizes + 1) bytes
+read_part program bytes = take (64 * pool_lines (sizes_of program) + 1) bytes
 
 -- the words of an image's bytes; those of an image of version 1 are moved to the places of version
 -- 2
 pub record AreImageWords (program : Program) (bytes : List ℕ) (words : List ℤ) : Type 0 where
   pub accepted : Accepts (wanted_of program) bytes
   pub second : version_of bytes ≡ Second → bytes_of words ≡ bytes
-  pub first : version_of bytes ≡ First → AreMoved program.sizes (word_in bytes) words
+  pub first : version_of bytes ≡ First → AreMoved (sizes_of program) (word_in bytes) words
 
 -- the image is refused for this; of a source that failed, and of want of memory, nothing is said
 abbrev pub ImageRefuses : Program → (image : Option (List ℕ)) → Refused → Type 0
@@ -59,5 +49,5 @@ abbrev pub Unopened : Program → List ℤ → StartFault → Option (List ℕ) 
     → Device → (k k' : ℕ) → Type 0
 Unopened program words why w w' d d' k k' =
     Keeps w w' × (k' ≡ k)
-    × IsUnmade why (pool_lines program.image.parts.sizes)
-    (opening_events (pool_lines program.image.parts.sizes) words) d d'
+    × IsUnmade why (pool_lines (sizes_of program))
+    (opening_events (pool_lines (sizes_of program)) words) d d'

@@ -30,7 +30,7 @@ use Rattle.cnvm_cli.specs.Verdict.{OfBytes, ProgramRefuses}
 use Rattle.cnvm_cli.specs.Run.{Created, Uncreated, RefusedAs}
 use Rattle.cnvm_cli.specs.Stormed.{counted, no_tally, tally_text}
 
--- the commands of this many rounds of the generator, from this number on
+-- the commands of `count` rounds of the generator, from the number x on
 abbrev pub Drawn : List FunctionTree → ℕ → (count : ℕ) → List Command → Type 0
 Drawn fs x zero commands = commands ≡ []
 Drawn fs x (suc count) commands =

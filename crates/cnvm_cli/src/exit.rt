@@ -1,12 +1,12 @@
 //! The program's edge: the words of the command line, files, standard output and a device in
 //! memory.
 
-ghost use Rattle.std.specs.Prelude.{◌≡◌, ◌⊎◌, ◌<◌, map, string_bytes, None, IfSome};
+ghost use Rattle.std.specs.Prelude.{◌≡◌, ◌≢◌, ◌⊎◌, ◌<◌, map, string_bytes, None, IfSome};
 ghost use Rattle.nvm_base.specs.Path.{path_of_source, path_of_sink, path_of_saved};
 ghost use Rattle.nvm_base.specs.Path.{source_below, sink_below};
 ghost use Rattle.cnvm_cli.specs.Exits.{EndsCall, Exits};
-ghost use Rattle.cnvm_cli.specs.Paths.{path_or_none, program_alone, paths_in};
 ghost use Rattle.cnvm_cli.specs.World.{plan_in};
+ghost use Rattle.cnvm_cli.specs.inside.Paths.{path_or_none, program_alone, paths_in};
 
 use crate::notes::{FileWorld, Named, put_bytes, tell_end};
 use crate::run::cnvm;
@@ -121,6 +121,7 @@ pub fn run_on<R: Files + Print + Eprint + AllocGlobal>(rt: &R, words: &[String])
     ensures usage { result ≡ Status.Usage → plan_in words.entry.now ≡ None }
     ensures wrong { plan_in words.entry.now ≡ None → (result ≡ Status.Usage)
         ⊎ ((result ≡ Status.NoMemory) ⊎ (result ≡ Status.WriteFault)) }
+    ensures never { result ≢ Status.DeviceFault }
     ensures source { EndsCall (map string_bytes words.entry.now) result }
 {
     match paths_of(rt.alloc(), words) {

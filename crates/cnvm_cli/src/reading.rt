@@ -5,7 +5,6 @@ ghost use Rattle.std.specs.Io.KnownBytes.{IsAtEnd};
 ghost use Rattle.nvm_base.specs.Rose.{Rose};
 ghost use Rattle.session_law.specs.Words.{AreWords};
 ghost use Rattle.cnvm_cli.specs.Verdict.{refused_by};
-ghost use Rattle.cnvm_cli.specs.Opened.{wanted_of};
 ghost use Rattle.cnvm_cli.specs.inside.Opened.{ImageIs, ImageReadAs};
 ghost use Rattle.cnvm_cli.specs.inside.Texts.{TextIs, ProgramReadAs, ScriptReadAs};
 
@@ -14,7 +13,7 @@ use cnvm_compile::{Asked, Compiled, Told, compile, told_of};
 use cnvm_script::{Script, ScriptFault, read_script};
 use cnvm_session::Program;
 use nvm_base::{Bytes, ReadAllFault, Source, UpToFault, Words, read_all, read_up_to};
-use pool_layout::{ImageFault, Wanted, pool_lines, read_image};
+use pool_layout::{ImageFault, pool_lines, read_image};
 use std::alloc::Global;
 
 /// The most bytes of a program's text.
@@ -132,7 +131,7 @@ pub(crate) fn read_words<I: Source>(
     ensures usage { IsErrOf result Refused.Usage → ⊥ }
     ensures device { IsErrOf result Refused.Device → ⊥ }
 {
-    let most = 64 * pool_lines(&program.sizes) as usize + 1;
+    let most = 64 * pool_lines(program.image.sizes()) as usize + 1;
     let bytes = match read_up_to(alloc, source, most) {
         Ok(bytes) => bytes,
         Err(UpToFault::ReadFault) => return Err(Refused::ReadFault),
@@ -148,7 +147,7 @@ pub(crate) fn words_of(alloc: Global, bytes: &[u8], program: &Program) -> Result
     ensures usage { IsErrOf result Refused.Usage → ⊥ }
     ensures device { IsErrOf result Refused.Device → ⊥ }
 {
-    match read_image(alloc, bytes, &wanted_of(program)) {
+    match read_image(alloc, bytes, &program.wanted()) {
         Ok(words) => {
             are_words(words.as_slice());
             Ok(words)
@@ -164,17 +163,5 @@ fn are_words(words: &[i64])
 {
     for word in words {
         let _word = *word;
-    }
-}
-
-/// The pool that an image must fit.
-fn wanted_of(program: &Program) -> Wanted
-    ensures { result ≡ wanted_of program.now }
-{
-    Wanted {
-        sizes: program.sizes,
-        digest: program.digest,
-        txs: program.typed.txs(),
-        structs: program.typed.structs(),
     }
 }

@@ -87,7 +87,7 @@ impl Tally {
     }
 }
 
-/// Runs this many rounds, and writes the summary and the answer of `last`.
+/// Runs `count` rounds, and writes the summary and the answer of `last`.
 pub(crate) fn storm<K: Sink, P: Pmem, L: Ledger>(
     alloc: Global,
     program: &Program,
@@ -183,7 +183,7 @@ fn seed(start: u64) -> u32
     }
 }
 
-/// Runs this many rounds of a program that has a transaction.
+/// Runs `count` rounds of a program that has a transaction.
 fn run_rounds<P: Pmem, L: Ledger>(
     alloc: Global,
     program: &Program,

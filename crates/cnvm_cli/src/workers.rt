@@ -1,7 +1,7 @@
 //! Runs a script of workers.
 
 ghost use Rattle.std.specs.Prelude.{◌≡◌, ◌≢◌, ◌≤◌, ◌⊎◌, Some, length, OnOk, IsErrOf};
-ghost use Rattle.std.specs.Io.KnownBytes.{IsAtEnd};
+ghost use Rattle.std.specs.Io.KnownBytes.{IsAtEnd, Keeps};
 ghost use Rattle.nvm_base.specs.Rose.{Rose};
 ghost use Rattle.pmem.specs.Device as device;
 ghost use Rattle.workers_script.specs.WorkersGrammar.{workers_script_meaning};
@@ -10,7 +10,7 @@ ghost use Rattle.cnvm_cli.specs.inside.Texts.{ReadIn};
 
 use crate::reading::{SCRIPT_LIMIT, read_program, read_text};
 use crate::refused::{Refused, refuse};
-use crate::status::Status;
+use crate::status::{Status, World};
 use cnvm_compile::Asked;
 use cnvm_script::ScriptFault;
 use cnvm_session::Program;
@@ -22,47 +22,55 @@ use workers_run::{RunFault, run_workers};
 use workers_script::{WorkersCommand, WorkersScript, read_workers};
 
 /// Reads the program and the script, and runs the script's commands on a new pool of compartments,
-/// one for each of so many workers.
-pub(crate) fn run_script<S: Source, T: Source, K: Sink, P: Pmem + Drop, L: Ledger>(
+/// one for each worker. Nothing is saved.
+#[tactic(auto, using(crate::proofs::Running::keeps_same))]
+pub(crate) fn run_script<
+    S: Source,
+    T: Source,
+    I: Source,
+    K: Sink,
+    O: Sink,
+    P: Pmem + Drop,
+    L: Ledger,
+>(
     alloc: Global,
     asked: Asked,
     count: u32,
-    program: &mut S,
-    script: &mut T,
-    out: &mut K,
-    dev: &mut P,
+    world: &mut World<S, T, I, K, O, P>,
     steps: &mut Steps<L>,
 ) -> Status
     requires first { 1 ≤ count }
     requires last { count ≤ 8 }
     ensures read { result ≡ Status.ReadFault
-        → Rose (S.faults program.old) (S.faults program.new)
-        ⊎ Rose (T.faults script.old) (T.faults script.new) }
+        → Rose (S.faults world.old.program) (S.faults world.new.program)
+        ⊎ Rose (T.faults world.old.script) (T.faults world.new.script) }
     ensures usage { result ≢ Status.Usage }
-    ensures write { result ≡ Status.WriteFault → Rose (K.faults out.old) (K.faults out.new) }
+    ensures write { result ≡ Status.WriteFault
+        → Rose (K.faults world.old.out) (K.faults world.new.out) }
     ensures device { result ≡ Status.DeviceFault
-        → device.FaultsRose (P.device dev.old).faults (P.device dev.new).faults }
-    ensures program_end { result ≡ Status.Done → IsAtEnd (S.left program.new) }
-    ensures script_end { result ≡ Status.Done → IsAtEnd (T.left script.new) }
-    ensures ends { WorkersEnds asked count (S.left program.old) (T.left script.old) result
-        (K.written out.old) (K.written out.new) (P.device dev.old) (P.device dev.new) steps.old
-        steps.new }
+        → device.FaultsRose (P.device world.old.dev).faults (P.device world.new.dev).faults }
+    ensures program_end { result ≡ Status.Done → IsAtEnd (S.left world.new.program) }
+    ensures script_end { result ≡ Status.Done → IsAtEnd (T.left world.new.script) }
+    ensures ends { WorkersEnds asked count (S.left world.old.program) (T.left world.old.script)
+        result (K.written world.old.out) (K.written world.new.out) (P.device world.old.dev)
+        (P.device world.new.dev) steps.old steps.new }
+    ensures image { Keeps (O.written world.old.image_out) (O.written world.new.image_out) }
 {
-    let compiled = match read_program(alloc, program, asked) {
+    let compiled = match read_program(alloc, &mut world.program, asked) {
         Ok(compiled) => compiled,
-        Err(refused) => return refuse(alloc, refused, out),
+        Err(refused) => return refuse(alloc, refused, &mut world.out),
     };
-    match read_turns(alloc, script) {
+    match read_turns(alloc, &mut world.script) {
         Ok(commands) => run_turns(
             alloc,
             &compiled.program,
             count,
             commands.as_slice(),
-            out,
-            dev,
+            &mut world.out,
+            &mut world.dev,
             steps,
         ),
-        Err(refused) => refuse(alloc, refused, out),
+        Err(refused) => refuse(alloc, refused, &mut world.out),
     }
 }
 

@@ -11,6 +11,7 @@ use Rattle.lower.specs.Program.{lowered}
 use Rattle.clobber_pass.specs.declared.marking.MarkTable.{MarkTable}
 use Rattle.checked_law.proofs.Laws as checked
 use Rattle.cnvm_session.specs.declared.program.Program.{Program}
+use Rattle.cnvm_session.specs.Pool.{sizes_of}
 use Rattle.session_law.specs.Agrees.{Agrees}
 use Rattle.compiled_law.proofs.Agreeing.{compiled}
 use Rattle.cnvm_compile.specs.FrontEnd.{AcceptsText}
@@ -31,11 +32,11 @@ within_same most n low high = by_least (nat_lt n 1) refl (nat_lt most n) refl
 module _ (text : List ℕ) (marks : MarkTable) (program : Program) where
   agreed_of : (ir : Ir) → AcceptsText text program.typed → lowered program.typed ≡ ir
       → IsExact (lowered program.typed).functions marks → IsWellFormed (lowered program.typed)
-      → program.image.parts.sizes ≡ program.sizes → HasRoot (shapes_of program.typed) program.sizes
-      → program.image.parts ≡ image_of marks (lowered program.typed) program.sizes
+      → HasRoot (shapes_of program.typed) (sizes_of program)
+      → program.image.parts ≡ image_of marks (lowered program.typed) (sizes_of program)
       (length program.typed.lines)
       → Agrees program
-  agreed_of ir accepted is marked formed sizes root made =
+  agreed_of ir accepted is marked formed root made =
       let tree = accepted.0 in
       let least : 1 ≤ words_of (shapes_of program.typed).root =
       checked.root program.typed tree.0.tokens tree.2.spelled accepted.1 in
@@ -49,7 +50,6 @@ module _ (text : List ℕ) (marks : MarkTable) (program : Program) where
         formed = formed;
         marks = marks;
         exact = marked;
-        sizes = sizes;
         root = root ∙ within_same 512 (words_of (shapes_of program.typed).root) least most;
         made = made;
       })
@@ -57,10 +57,10 @@ module _ (text : List ℕ) (marks : MarkTable) (program : Program) where
   -- a program agrees with its source, for any name of its code
   pub agreed : (ir : Ir) → AcceptsText text program.typed → ir ≡ lowered program.typed
       → IsExact ir.functions marks → IsWellFormed ir
-      → program.image.parts.sizes ≡ program.sizes → HasRoot (shapes_of program.typed) program.sizes
-      → program.image.parts ≡ image_of marks ir program.sizes (length program.typed.lines)
+      → HasRoot (shapes_of program.typed) (sizes_of program)
+      → program.image.parts ≡ image_of marks ir (sizes_of program) (length program.typed.lines)
       → Agrees program
-  agreed ir accepted is marked formed sizes root made =
+  agreed ir accepted is marked formed root made =
       agreed_of ir accepted (sym is) (subst (λ (x : Ir). IsExact x.functions marks) is marked)
-      (subst IsWellFormed is formed) sizes root
-      (made ∙ ap (λ (x : Ir). image_of marks x program.sizes (length program.typed.lines)) is)
+      (subst IsWellFormed is formed) root
+      (made ∙ ap (λ (x : Ir). image_of marks x (sizes_of program) (length program.typed.lines)) is)

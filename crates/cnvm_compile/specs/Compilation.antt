@@ -11,6 +11,7 @@ use Rattle.cnvm_compile.specs.declared.compiling.Compiled.{Compiled}
 use Rattle.cnvm_compile.specs.FrontEnd.{AcceptsText}
 use Rattle.cnvm_compile.specs.Made.{image_of}
 use Rattle.cnvm_compile.specs.SizesAsked.{HasRoot, HasSizes}
+use Rattle.cnvm_session.specs.Pool.{sizes_of}
 
 -- The program of a text: its tree, which breaks no rule; the code of the tree, without logs; exact
 -- marks of the code's stores; the image of the code with the logs of these marks, for a pool of the
@@ -22,10 +23,9 @@ pub record IsCompiled (asked : Asked) (text : List ℕ) (compiled : Compiled) : 
   pub well_formed : IsWellFormed compiled.ir
   pub marks : IsExact compiled.ir.functions compiled.marks
   pub code : compiled.program.image.parts ≡
-      image_of compiled.marks compiled.ir compiled.program.sizes
+      image_of compiled.marks compiled.ir (sizes_of compiled.program)
       (length compiled.program.typed.lines)
-  pub sizes : HasSizes asked.slots asked.records asked.ticks compiled.program.sizes
-  pub image : compiled.program.image.parts.sizes ≡ compiled.program.sizes
-  pub root : HasRoot (shapes_of compiled.program.typed) compiled.program.sizes
+  pub sizes : HasSizes asked.slots asked.records asked.ticks (sizes_of compiled.program)
+  pub root : HasRoot (shapes_of compiled.program.typed) (sizes_of compiled.program)
   pub digest : compiled.program.digest ≡ digest_of text
   pub agrees : Agrees compiled.program

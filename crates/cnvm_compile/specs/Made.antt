@@ -1,6 +1,6 @@
 -- The image of a program: the machine's code for its intermediate code with its logs, its
--- transactions and structs, and the bound on steps, for a pool of these sizes and a text of this
--- many tokens.
+-- transactions and structs, and the bound on steps, by the pool's sizes and the number of tokens of
+-- the text.
 use Rattle.std.specs.Prelude.{ℕ}
 use Rattle.pool_layout.specs.declared.limits.Sizes.{Sizes}
 use Rattle.ir.specs.declared.function.Ir.{Ir}
@@ -10,5 +10,4 @@ use Rattle.pm_machine.specs.declared.image.ImageParts.{ImageParts}
 use Rattle.codegen.specs.Emit.{parts_of}
 
 abbrev pub image_of : MarkTable → Ir → Sizes → (tokens : ℕ) → ImageParts
-image_of marks ir sizes tokens =
-    parts_of (logged_program marks ir) sizes tokens
+image_of marks ir sizes tokens = parts_of (logged_program marks ir) sizes tokens

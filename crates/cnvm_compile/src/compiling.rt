@@ -10,6 +10,7 @@ ghost use Rattle.cnvm_compile.specs.FrontEnd.{RefusesText};
 ghost use Rattle.cnvm_compile.specs.Made.{image_of};
 ghost use Rattle.pool_map.specs.PoolFits.{words_of};
 ghost use Rattle.cnvm_compile.specs.SizesAsked.{within, HasRoot, HasSizes};
+ghost use Rattle.cnvm_session.specs.Pool.{sizes_of};
 
 use crate::asked::Asked;
 use crate::front_end::{ProgramFault, typed_of};
@@ -97,8 +98,7 @@ fn back_end(
 ) -> Result<Compiled, AllocError>
     requires { breaks typed ≡ [] }
     ensures tree { IfOk result (λ compiled. compiled.program.typed ≡ typed) }
-    ensures sizes { IfOk result (λ compiled. compiled.program.sizes ≡ sizes) }
-    ensures image { IfOk result (λ compiled. compiled.program.image.parts.sizes ≡ sizes) }
+    ensures sizes { IfOk result (λ compiled. sizes_of compiled.program ≡ sizes) }
     ensures digest { IfOk result (λ compiled. compiled.program.digest ≡ digest) }
     ensures ir { IfOk result (λ compiled. compiled.ir ≡ lowered typed) }
     ensures marks { IfOk result (λ compiled. IsExact compiled.ir.functions compiled.marks) }
@@ -114,7 +114,6 @@ fn back_end(
         program: Program {
             typed,
             image,
-            sizes,
             digest,
         },
         ir,

@@ -8,7 +8,7 @@ mod asked;
 mod compiling;
 mod complaint;
 mod front_end;
-mod law;
+mod laws;
 mod listing;
 mod told;
 
@@ -16,6 +16,6 @@ pub use asked::Asked;
 pub use compiling::{Compiled, compile};
 pub use complaint::{Complaint, complaint_line};
 pub use front_end::ProgramFault;
-pub use law::answer_law;
+pub use laws::answer_law;
 pub use listing::list_text;
 pub use told::{Told, told_of};

@@ -1,6 +1,7 @@
 //! The listing of a program's store sites: which of them are logged.
 
 ghost use Rattle.std.specs.Prelude.{◌≡◌, ◌++◌, length, flat_map, OnOk, IfOk};
+ghost use Rattle.ir.specs.WellFormed.{IsWellFormed};
 ghost use Rattle.cnvm_compile.specs.Listing.{row_line, logged_rows, listing};
 
 use crate::compiling::Compiled;
@@ -12,6 +13,7 @@ use std::alloc::{AllocError, Global};
 /// The listing: one line for each store site, in code order, and a last line with the number of
 /// sites and of logged ones.
 pub fn list_text(alloc: Global, compiled: &Compiled) -> Result<Text, AllocError>
+    requires { IsWellFormed compiled.now.ir }
     ensures { IfOk result (λ text. text ≡ listing compiled.now.marks compiled.now.ir) }
 {
     let rows = rows_of(alloc, &compiled.ir)?;

@@ -1,4 +1,4 @@
--- The line that is told of a full log. The calls before it are made again, by what the program
+-- The line that is reported of a full log. The calls before it are made again, by what the program
 -- means, and each must give the value that was answered; then the code of the call that filled its
 -- log is run on the pool that they leave.
 use Rattle.std.specs.Prelude.{◌≡◌, ℕ, ℤ, Bool, true, false, List, Option, None, Some}

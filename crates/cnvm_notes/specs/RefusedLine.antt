@@ -1,15 +1,15 @@
 -- What a message of a script says.
 use Rattle.std.specs.Prelude.{ℕ, ◌+◌, ◌-◌, ◌<◌, ◌≡◌, ◌==◌, List, [], ◌++◌, length, Bool, true, not}
-use Rattle.std.specs.Prelude.{◌&&◌, ◌||◌, Option, None, Some, Result, Ok, Err, slice_index}
+use Rattle.std.specs.Prelude.{◌&&◌, ◌||◌, Option, None, Some, Result, Ok, Err, slice_index, codes}
 use Rattle.std.specs.Prelude.{slice_index_or}
 use Rattle.cnvm_script.specs.Lines.{lines}
-use Rattle.plain_notes.specs.Head.{head_text}
+use Rattle.plain_notes.specs.Head.{file_head, head_text}
 
 -- a blank or a tab, or a carriage return
 abbrev pub is_between_words : ℕ → Bool
 is_between_words b = (b == 32) || ((b == 9) || (b == 13))
 
--- whether a word of the line begins after so many bytes, or the line ends there
+-- whether a word of the line begins after `at` bytes, or the line ends there
 abbrev pub begins_word : (line : List ℕ) → (at : ℕ) → Bool
 begins_word line at =
     (at == length line) || (not (is_between_words (slice_index line at))
@@ -29,11 +29,15 @@ pub record TellsLine (path text : List ℕ) (number : ℕ) (message : List ℕ) 
   pub begins : message
       ≡ head_text path (record { line = number; column = at + 1 }) what ++ rest
 
--- A script that is too long has no line; another one that is refused has that of the first bad
--- line; one that is read has no message.
+abbrev pub long_script : List ℕ
+long_script = codes "the script has more than 1048576 bytes"
+
+-- The message of a script that is too long has the path alone; that of another one that is refused
+-- has the first bad line; one that is read has no message.
 pub data TellsScript {A : Type 0} (path text : List ℕ) (means : Result A ℕ)
     : Option (List ℕ) → Type 0 where
-  Long : (message : List ℕ) → 1048576 < length text → TellsScript path text means (Some message)
+  Long : (message : List ℕ) → 1048576 < length text → message ≡ file_head path long_script
+      → TellsScript path text means (Some message)
   AtLine : (message : List ℕ) (number : ℕ) → means ≡ Err number
       → TellsLine path text number message → TellsScript path text means (Some message)
   Nothing : (commands : A) → means ≡ Ok commands → TellsScript path text means None

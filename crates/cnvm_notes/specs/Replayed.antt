@@ -1,4 +1,4 @@
--- The line that is told of a trap. The calls before it are made again, by what the program means,
+-- The line that is reported of a trap. The calls before it are made again, by what the program means,
 -- and each must give the value that was answered; then the call that trapped is made, and must trap
 -- as it did.
 use Rattle.std.specs.Prelude.{ℕ, suc, ℤ, List, [], ◌∷◌, map, Option, None, Some}

@@ -44,7 +44,7 @@ pub struct History {
     pub last: Option<Call>,
     /// Whether the last call may be done although its recovery has nothing to do.
     pub unsure: bool,
-    /// Whether it isn't known of some call if it is done.
+    /// Whether some call's outcome is unknown.
     pub lost: bool,
 }
 

@@ -11,14 +11,13 @@ use pool_map::Pool;
 use std::alloc::{AllocError, Global};
 
 impl Replay {
-    /// The sizes of a pool of so many slots and records.
+    /// The sizes of a pool with these numbers of slots and records.
     pub(crate) fn sizes(&self, slots: u64, records: u64) -> Option<Sizes> {
         Sizes::new(slots, records, root_words(self.typed.shapes()), self.ticks)
     }
 
-    /// The line where the last call fills its log, after the calls before it on this pool. It is
-    /// none where some of them are lost or give another value than they gave, and where the log has
-    /// room for the call.
+    /// The line where the last call fills its log. None if calls are missing or gave other values,
+    /// or the log has room.
     pub fn full_line_after(
         &self,
         alloc: Global,

@@ -2,7 +2,7 @@
 //! refusals. It rests on `cnvm_script` and `workers_script`, on `command_notes`, which says what is
 //! wrong with a line, on `program_notes`, which finds where a trap may have come, on `interpreter`,
 //! which makes calls again, and on `plain_notes`, which lays messages out. Its one contract for the
-//! crates above: a line that is told of a trap is the one where the call traps by what the program
+//! crates above: the line reported of a trap is the one where the call traps by what the program
 //! means, on the pool that the calls before it leave with their values.
 #![tactic(auto)]
 

@@ -3,7 +3,7 @@
 use crate::call::History;
 use crate::replay::Replay;
 use pool_map::Pool;
-use program_notes::trap_place;
+use program_notes::trap_lines_note;
 use std::alloc::{AllocError, Global};
 
 /// A program: its path, its text, and the slots, records and ticks of its pool.
@@ -31,7 +31,7 @@ pub(crate) fn place_note(
             return Ok(Some(line_note(alloc, program.path, line)?));
         }
     }
-    trap_place(alloc, program.path, program.text, called, kind)
+    trap_lines_note(alloc, program.path, program.text, called, kind)
 }
 
 fn line_note(alloc: Global, path: &str, line: u64) -> Result<String, AllocError> {

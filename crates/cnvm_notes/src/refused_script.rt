@@ -4,12 +4,13 @@ ghost use Rattle.std.specs.Prelude.{◌≡◌, ◌+◌, ◌≤◌, ℕ, IfOk, le
 ghost use Rattle.std.specs.Prelude.{option_map, string_bytes};
 ghost use Rattle.cnvm_script.specs.Commands.{script_meaning};
 ghost use Rattle.workers_script.specs.WorkersGrammar.{workers_script_meaning};
-ghost use Rattle.cnvm_notes.specs.RefusedLine.{begins_word, is_between_words, numbered_line, TellsLine};
-ghost use Rattle.cnvm_notes.specs.RefusedLine.{TellsScript};
+ghost use Rattle.plain_notes.specs.Head.{file_head};
+ghost use Rattle.cnvm_notes.specs.RefusedLine.{begins_word, is_between_words, numbered_line};
+ghost use Rattle.cnvm_notes.specs.RefusedLine.{TellsLine, TellsScript, long_script};
 
 use cnvm_script::{ScriptFault, next_line, read_script};
 use command_notes::{of_line, of_workers_line};
-use plain_notes::{Place, Told, message_in_line, message_of};
+use plain_notes::{Place, Told, message_in_line, message_of_file};
 use std::alloc::{AllocError, Global};
 use workers_script::read_workers;
 
@@ -55,10 +56,10 @@ pub fn workers_note(alloc: Global, path: &str, text: &[u8]) -> Result<Option<Str
     }
 }
 
-fn too_long(alloc: Global, path: &str) -> Result<String, AllocError> {
-    let what = format!(in alloc; "{path}: the script has more than 1048576 bytes")?;
-    let told = Told::new(alloc, what.as_str())?;
-    message_of(alloc, &told)
+fn too_long(alloc: Global, path: &str) -> Result<String, AllocError>
+    ensures { IfOk result (λ s. string_bytes s ≡ file_head path.now long_script) }
+{
+    message_of_file(alloc, path, "the script has more than 1048576 bytes")
 }
 
 /// The line of this number, counted from 1.
@@ -98,7 +99,7 @@ fn message_of_line(
     message_in_line(alloc, path, line, place, told)
 }
 
-/// The column of the word that begins after so many bytes of the line; of the line's end if none
+/// The column of the word that begins after `at` bytes of the line; of the line's end if none
 /// does.
 fn word_column(line: &[u8], at: usize) -> u64
     ensures { (before : ℕ) × ((result ≡ before + 1) × (begins_word line.now before ≡ true)) }
@@ -109,7 +110,7 @@ fn word_column(line: &[u8], at: usize) -> u64
     line.len() as u64 + 1
 }
 
-/// Whether a word of the line begins after so many bytes, or the line ends there.
+/// Whether a word of the line begins after `at` bytes, or the line ends there.
 fn begins_word(line: &[u8], at: usize) -> bool
     ensures value { result ≡ begins_word line.now at }
     ensures within { result ≡ true → at ≤ length line.now }

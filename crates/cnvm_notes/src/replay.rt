@@ -47,9 +47,8 @@ impl Replay {
         Pool::empty(alloc, root_words(self.typed.shapes()), slots)
     }
 
-    /// The line where the last call traps with the trap of this name, after the calls before it on
-    /// this pool. It is none where some of them are lost or give another value than they gave, and
-    /// where the call doesn't trap so.
+    /// The line where the last call traps with the trap of this name. None if calls are missing or
+    /// gave other values, or the call doesn't trap so.
     pub fn line_after(
         &self,
         alloc: Global,

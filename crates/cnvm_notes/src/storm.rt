@@ -26,7 +26,7 @@ fn kind_of(answers: &[u8]) -> Option<&[u8]> {
 }
 
 /// The message of a storm's answers, where a transaction trapped. It names the call where the
-/// storm's calls are told.
+/// storm's calls are known.
 pub fn storm_note(
     alloc: Global,
     program: ProgramText<'_>,

@@ -11,7 +11,7 @@ use Rattle.std.specs.Str.Parse.{digits_value, starts_with_minus}
 use Rattle.cache_model.specs.declared.choice.Pick.{Pick}
 use Rattle.cnvm_script.specs.Pieces.{pieces}
 
--- the value of a numeral of at most so many digits
+-- the value of a numeral of at most `most` digits
 abbrev pub bounded_numeral : (most : ℕ) → List ℕ → Option ℕ
 bounded_numeral most word =
     if nat_lt 0 (length word) && (nat_le (length word) most && list_all is_ascii_digit word)

@@ -8,9 +8,9 @@ use nvm_base::{List, Text, Words};
 pub enum Command {
     /// Runs a transaction.
     Call { name: Text, args: Words },
-    /// The power goes off after so many events.
+    /// The power goes off after n events.
     Stop(u64),
-    /// The device fails after so many events.
+    /// The device fails after n events.
     Fault(u64),
     /// A power cut, and its choice.
     Power(Choice),

@@ -76,7 +76,7 @@ impl Storm {
         self.round_of(alloc, chosen.cut, name, parameters)
     }
 
-    /// The choice of a round, among so many transactions.
+    /// The choice of a round, among the transactions.
     fn choose(&mut self, transactions: u64) -> Chosen
         requires { 0 < transactions }
         ensures cut { result.cut ≡ is_cut self.old }
@@ -90,8 +90,8 @@ impl Storm {
         Chosen { cut, transaction }
     }
 
-    /// The commands of a round whose choice is made, for a transaction with this name and so many
-    /// parameters. After an error some of its draws have been made.
+    /// The commands of a round whose choice is made, for a transaction with this name and this
+    /// number of parameters. After an error some of its draws have been made.
     fn round_of(
         &mut self,
         alloc: Global,

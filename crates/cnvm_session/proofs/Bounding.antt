@@ -1,8 +1,9 @@
 -- The most steps that a command takes.
-use Rattle.std.proofs.Common.{◌≡◌, ◌≤◌, ℕ, zero, suc, ◌+◌, Bool, true, false, ◌==◌, ◌||◌, ◌&&◌}
+use Rattle.std.proofs.Common.{◌≡◌, ◌≤◌, ℕ, zero, suc, ◌+◌, Bool, true, false, ◌==◌}
 use Rattle.std.proofs.Common.{List, [], ◌∷◌, Option, Some, None, length, slice_get, ℤ, refl, arith}
 use Rattle.std.specs.List.{list_any}
 use Rattle.std.specs.Option.{option_map_or}
+use Rattle.std.proofs.lemmas.Bool.{or_left, or_right, and_parts}
 use Rattle.cache_model.specs.Cache.{view}
 use Rattle.cache_model.specs.Collapse.{bad}
 use Rattle.cache_model.specs.declared.choice.Choice.{Choice}
@@ -119,25 +120,13 @@ within_command program command.Last m n d b a k k1 h = last_most _ m d a n b k k
 any_at : {A : Type 0} (p : A → Bool) (xs : List A) (i : ℕ)
     → option_map_or p (slice_get xs i) false ≡ true → list_any p xs ≡ true
 any_at p [] i is = is
-any_at p (x ∷ xs) zero is = any_first (p x) (list_any p xs) is
-  where
-    any_first : (a b : Bool) → a ≡ true → (a || b) ≡ true
-    any_first true b is = refl
-    any_first false b is = absurd cc
-any_at p (x ∷ xs) (suc i) is = any_rest (p x) (list_any p xs) (any_at p xs i is)
-  where
-    any_rest : (a b : Bool) → b ≡ true → (a || b) ≡ true
-    any_rest true b is = refl
-    any_rest false b is = is
+any_at p (x ∷ xs) zero is = or_left (p x) (list_any p xs) is
+any_at p (x ∷ xs) (suc i) is = or_right (p x) (list_any p xs) (any_at p xs i is)
 
 marked_has : (program : Program) (tx : ℕ) → rolls_back_of program tx ≡ true
     → has_marked program ≡ true
 marked_has program zero is = absurd cc
 marked_has program (suc i) is = any_at is_marked (transactions_of program.typed) i is
-
-both_true : (a b : Bool) → (a && b) ≡ true → b ≡ true
-both_true true b is = is
-both_true false b is = absurd cc
 
 -- what a pool may owe is within the bound of the program
 pub owed_most : (program : Program) (d : Device)
@@ -145,7 +134,7 @@ pub owed_most : (program : Program) (d : Device)
 owed_most program d =
     by_owed (owes_marked program d) (has_marked program)
     (λ owes. marked_has program (tx_in d)
-    (both_true (is_sealed (view d.cache)) (rolls_back_of program (tx_in d)) owes))
+    (and_parts (is_sealed (view d.cache)) (rolls_back_of program (tx_in d)) owes).1)
   where
     by_owed : (owes has : Bool) → (owes ≡ true → has ≡ true)
         → bounded_steps owes program.image ≤ bounded_steps has program.image

@@ -1,5 +1,6 @@
 pub mod AnswerText
 pub mod Opening
+pub mod Pool
 pub mod Unmade
 pub mod Marks
 pub mod Outcomes

@@ -9,7 +9,7 @@ use pool_map::TrapKind;
 pub enum Answer {
     /// `stop` and `fault` have no answer line.
     Silent,
-    /// The transaction ended with this value, and its run wrote this many log records.
+    /// The transaction ended with this value; its run wrote `logged` log records.
     Done { value: i64, logged: u64 },
     /// The transaction trapped.
     Trap(TrapKind),

@@ -1,11 +1,11 @@
 //! Creates a new pool.
 
-ghost use Rattle.std.specs.Prelude.{◌≡◌, ◌≤◌, OnOk, IfErr, IsErrOf};
+ghost use Rattle.std.specs.Prelude.{◌≡◌, ◌≢◌, ◌≤◌, OnOk, IfErr, IsErrOf};
 ghost use Rattle.pmem.specs.Device.{FaultsRose, blanked};
 ghost use Rattle.pmem.specs.Played.{PlaysAll, PlaysPart};
 ghost use Rattle.pool_layout.specs.Sizes as sizes_of;
 ghost use Rattle.args_log.specs.Created.{sizes_events, digest_events, head_events, creation_events};
-ghost use Rattle.cnvm_session.specs.Unmade.{IsUnmade};
+ghost use Rattle.cnvm_session.specs.Unmade.{cause_of, IsUnmade};
 
 use pmem::events::{fence, flush, store};
 use pmem::{Pmem, PmemWork, Refusal};
@@ -20,6 +20,19 @@ pub enum StartFault {
     /// The device failed at an event.
     Failed,
     NoMemory,
+}
+
+impl StartFault {
+    /// The cause of a refusal by a device that is on.
+    pub(crate) fn of(refusal: Refusal) -> StartFault
+        requires on { refusal ≢ Refusal.Off }
+        ensures { cause_of result ≡ refusal }
+    {
+        match refusal {
+            Refusal::NoMemory => StartFault::NoMemory,
+            Refusal::Failed | Refusal::Off => StartFault::Failed,
+        }
+    }
 }
 
 /// Stores the words of the first line.
@@ -101,9 +114,6 @@ pub fn create_pool<P: Pmem>(sizes: &Sizes, digest: &[i64; 4], dev: &mut P) -> Re
     }
     match play_creation(sizes, digest, dev) {
         Ok(()) => Ok(()),
-        Err(Refusal::NoMemory) => Err(StartFault::NoMemory),
-        Err(Refusal::Failed) => Err(StartFault::Failed),
-        // This never happens: the device was switched on.
-        Err(Refusal::Off) => Err(StartFault::Failed),
+        Err(refusal) => Err(StartFault::of(refusal)),
     }
 }

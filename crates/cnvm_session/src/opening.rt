@@ -148,9 +148,6 @@ pub fn open_pool<P: Pmem>(sizes: &Sizes, words: &[i64], dev: &mut P) -> Result<(
     }
     match play_opening(dev, words, lines) {
         Ok(()) => Ok(()),
-        Err(Refusal::NoMemory) => Err(StartFault::NoMemory),
-        Err(Refusal::Failed) => Err(StartFault::Failed),
-        // This never happens: the device was switched on.
-        Err(Refusal::Off) => Err(StartFault::Failed),
+        Err(refusal) => Err(StartFault::of(refusal)),
     }
 }

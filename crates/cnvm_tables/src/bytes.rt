@@ -201,7 +201,7 @@ fn each_port_may_fail(rt: HostRuntime) -> Result<(), Fail> {
     Ok(())
 }
 
-/// A text of this many blanks.
+/// A text of n blanks.
 fn blanks(alloc: Global, count: usize) -> Result<String, AllocError> {
     let mut text = String::new(alloc);
     for _ in 0..count {

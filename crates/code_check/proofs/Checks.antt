@@ -4,6 +4,7 @@ use Rattle.std.proofs.Common.{arith}
 use Rattle.std.specs.Prelude.{None, Some, slice_get}
 use Rattle.std.specs.List.{AllByRecursion}
 use Rattle.std.proofs.lemmas.List.{drop_more}
+use Rattle.std.proofs.lemmas.Option.{same_Some}
 use Rattle.ir.specs.declared.instruction.Instruction.{Instruction}
 use Rattle.ir.specs.WellFormed.{EndsWell, StopsRun}
 
@@ -22,10 +23,7 @@ ends_well [] x is end = absurd (some_none is)
   where
     some_none : {x : Instruction} → None ≡ Some x → ⊥
     some_none e = cc
-ends_well (y ∷ []) x is end = rw (some_same is) end
-  where
-    some_same : Some y ≡ Some x → y ≡ x
-    some_same e = cc
+ends_well (y ∷ []) x is end = rw (same_Some y x is) end
 ends_well (y ∷ z ∷ zs) x is end = ends_well (z ∷ zs) x (one_less is) end
   where
     one_less : slice_get (y ∷ z ∷ zs) (length (y ∷ z ∷ zs) - 1) ≡ Some x
@@ -37,10 +35,7 @@ ends_well (y ∷ z ∷ zs) x is end = ends_well (z ∷ zs) x (one_less is) end
 pub last_ends : (xs : List Instruction) (x : Instruction) → slice_get xs (length xs - 1) ≡ Some x
     → EndsWell xs → StopsRun x
 last_ends [] x is end = absurd end
-last_ends (y ∷ []) x is end = rw (← some_same is) end
-  where
-    some_same : Some y ≡ Some x → y ≡ x
-    some_same e = cc
+last_ends (y ∷ []) x is end = rw (← same_Some y x is) end
 last_ends (y ∷ z ∷ zs) x is end = last_ends (z ∷ zs) x (one_less is) end
   where
     one_less : slice_get (y ∷ z ∷ zs) (length (y ∷ z ∷ zs) - 1) ≡ Some x

@@ -92,7 +92,7 @@ fn are_instructions(ir: &Ir, registers: u32, code: &[Instruction]) -> bool
     true
 }
 
-/// Whether all that an instruction names exists, in a function with so many registers and
+/// Whether all that an instruction names exists, in a function with these numbers of registers and
 /// instructions.
 fn is_instruction(ir: &Ir, registers: u32, length: u32, instruction: &Instruction) -> bool
     ensures sound { result ≡ true → well.IsInstruction ir.now registers length instruction.now }
@@ -141,7 +141,7 @@ fn are_below(args: &[u32], registers: u32) -> bool
     true
 }
 
-/// Whether there is a function of that number, with so many parameters.
+/// Whether the function exists, and these are as many arguments as it takes.
 fn takes(ir: &Ir, function: u32, args: &[u32]) -> bool
     ensures sound { result ≡ true → well.TakesArgs (slice_get ir.now.functions function) args.now }
     ensures complete { well.TakesArgs (slice_get ir.now.functions function) args.now
@@ -193,7 +193,7 @@ fn field_of(shapes: &Shapes, kind: u32, field: u32) -> Option<&FieldShape>
     }
 }
 
-/// Whether there is an index, in one of so many registers, exactly if the field is an array.
+/// Whether there is an index, in one of the registers, exactly if the field is an array.
 fn is_indexed(registers: u32, field: &FieldShape, index: Option<u32>) -> bool
     ensures sound { result ≡ true → well.IsIndexed registers (Some field.now) index }
     ensures complete { well.IsIndexed registers (Some field.now) index → result ≡ true }

@@ -1,2 +1,3 @@
-pub mod Lists
 pub mod More
+pub mod Rows
+pub mod Registers

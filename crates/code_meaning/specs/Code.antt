@@ -19,8 +19,11 @@ use Rattle.pool_map.specs.declared.shapes.Shapes.{Shapes}
 use Rattle.pool_map.specs.declared.trap.TrapKind.{TrapKind}
 use Rattle.pool_map.specs.declared.trap.TrapKind.TheVariants as trap
 use Rattle.pool_map.specs.PoolFits.{words_of, words_of_field}
-use Rattle.pool_map.specs.PoolMap.{PoolMap, object_at, least_free, free, read, write}
-use Rattle.pool_map.specs.PoolMap.{read_root, write_root}
+use Rattle.pool_map.specs.PoolMap.{PoolMap, object_at, least_free, free}
+-- a word of the pool: of the root, or of the object in a slot
+pub use Rattle.pool_map.specs.declared.word.PoolWord.{PoolWord as Spot}
+pub use Rattle.pool_map.specs.declared.word.PoolWord.TheVariants.{Root as InRoot, Field as InSlot}
+pub use Rattle.pool_map.specs.Words.{read_word as load_spot, write_word as store_spot}
 use Rattle.ir.specs.declared.instruction.Target.{Target}
 use Rattle.ir.specs.declared.instruction.Target.TheVariants.{Root, Field}
 use Rattle.ir.specs.declared.instruction.Instruction.{Instruction}
@@ -31,7 +34,7 @@ use Rattle.ir.specs.declared.function.IrFunction.{IrFunction}
 use Rattle.ir.specs.declared.function.Ir.{Ir}
 use Rattle.ir.specs.WellFormed.{struct_of}
 use Rattle.ir.specs.Places.{instruction_at}
-use Rattle.pool_map.specs.Checks.{has_word, then_on, element_in, new_at, is_zero, unless_zero}
+use Rattle.pool_map.specs.Checks.{then_on, element_in, new_at, is_zero, unless_zero}
 
 -- a caller: its function, the place to return to, its registers, and the register for the result
 pub data Frame : Type 0 where
@@ -81,19 +84,6 @@ word_of op.Le a b = Some (word.le a b)
 word_of op.Eq a b = Some (word.eq a b)
 word_of op.Ne a b = Some (word.ne a b)
 word_of op.Ult a b = Some (word.ult a b)
-
--- a word of the pool: of the root, or of the object in a slot
-pub data Spot : Type 0 where
-  InRoot : ℕ → Spot
-  InSlot : (slot word : ℕ) → Spot
-
-abbrev pub load_spot : PoolMap → Spot → ℤ
-load_spot p (InRoot i) = read_root p i
-load_spot p (InSlot s i) = read p s i
-
-abbrev pub store_spot : PoolMap → Spot → ℤ → PoolMap
-store_spot p (InRoot i) v = write_root p i v
-store_spot p (InSlot s i) v = if has_word (object_at p s) i then write p s i v else p
 
 abbrev pub is_kind : Option Object → ℕ → Bool
 is_kind None kind = false

@@ -1,6 +1,8 @@
--- Which stores a run logs: its stores at the sites that the definition of clobber writes names. The
--- fill of a new object does one store for each of its words.
-use Rattle.std.specs.Prelude.{◌≡◌, ◌⊎◌, ℕ, suc, List, [], ◌∷◌, ◌++◌}
+-- Which stores a run logs: its stores at the sites that the definition of clobber writes names, and
+-- in a transaction that rolls back also the first to each heap word. The fill of a new object does
+-- one store for each of its words.
+use Rattle.std.specs.Prelude.{◌≡◌, ◌⊎◌, ℕ, suc, true, false, List, [], ◌∷◌, ◌++◌}
+use Rattle.nvm_base.specs.Listed.{is_listed}
 use Rattle.pool_layout.specs.declared.limits.Sizes.{Sizes}
 use Rattle.pool_layout.specs.declared.places.HeapPlace.TheVariants.{Root, Header, Field}
 use Rattle.pool_layout.specs.Places.{heap_at}
@@ -17,7 +19,7 @@ stored_at (Reads spot ∷ ds) = stored_at ds
 stored_at (Writes site spot word ∷ ds) = site ∷ stored_at ds
 stored_at (Heads site slot word ∷ ds) = site ∷ stored_at ds
 
--- this many of the stores are logged
+-- n of the stores are logged
 abbrev pub AreLogged : List IrFunction → List Site → ℕ → Type 0
 AreLogged functions [] n = n ≡ 0
 AreLogged functions (site ∷ sites) n =
@@ -50,3 +52,23 @@ stores_in s (Writes site spot word ∷ ds) =
     record { site = site; word = spot_word s spot } ∷ stores_in s ds
 stores_in s (Heads site slot word ∷ ds) =
     record { site = site; word = heap_at s (Header slot) } ∷ stores_in s ds
+
+-- n of the stores of a transaction that rolls back are logged: those at logged sites, and those that
+-- are the first to their heap word. `ls` are the words that are logged already.
+abbrev pub AreLoggedFirst : List IrFunction → (ls : List ℕ) → List StoreAt → ℕ → Type 0
+AreLoggedFirst functions ls [] n = n ≡ 0
+AreLoggedFirst functions ls (a ∷ stores) n =
+    ((m : ℕ) × (n ≡ suc m) × (IsLogged functions a.site ⊎ (is_listed a.word ls ≡ false))
+    × AreLoggedFirst functions (a.word ∷ ls) stores m)
+    ⊎ ((IsLogged functions a.site → ⊥) × (is_listed a.word ls ≡ true)
+    × AreLoggedFirst functions ls stores n)
+
+-- the same: a logged store comes after as many others as the log has records
+pub record FillsLogFirst (functions : List IrFunction) (ls : List ℕ) (records : ℕ)
+    (stores : List StoreAt) : Type 0 where
+  pub before : List StoreAt
+  pub due : StoreAt
+  pub later : List StoreAt
+  pub is : stores ≡ before ++ due ∷ later
+  pub full : AreLoggedFirst functions ls before records
+  pub logged : AreLoggedFirst functions ls (before ++ due ∷ []) (suc records)

@@ -1,4 +1,4 @@
-//! The lines at which the logs of calls are full, told by counting from the rules.
+//! The lines at which the logs of calls are full, counted by the rules.
 
 ghost use Rattle.std.specs.Prelude.{◌≡◌, [], IfSome};
 ghost use Rattle.c_types.specs.Fault.{breaks};

@@ -78,7 +78,7 @@ fn image_parts(alloc: Global, ir: &Ir, sizes: &Sizes, tokens: u64) -> Result<Ima
     })
 }
 
-/// The image of a well formed program, for a pool of these sizes and a text of so many tokens.
+/// The image of a well formed program, for a pool of these sizes and a text of this many tokens.
 #[tactic(auto, using(crate::proofs::Few::functions_few, crate::proofs::Good::program_good))]
 pub fn emit(alloc: Global, ir: &Ir, sizes: &Sizes, tokens: u64) -> Result<Image, AllocError>
     requires { IsWellFormed ir.now }

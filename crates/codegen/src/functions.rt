@@ -179,7 +179,7 @@ fn has_room(registers: u32, code: &[Instruction]) -> bool
     registers <= u32::MAX - 8 && all_below(registers, code)
 }
 
-/// A function of so many parameters that only traps.
+/// A function with this many parameters that only traps.
 fn trap_function(alloc: Global, parameters: u32) -> Result<Function, AllocError>
     ensures { IfOk result (λ f. f ≡ trap_function parameters) }
 {

@@ -7,7 +7,7 @@ use std::alloc::{AllocError, Global};
 /// Why an image was refused: what the file says, and what the program wants.
 #[derive(Clone, Copy, Debug, PartialEq, Eq)]
 pub enum ImageRefusal {
-    /// It has so many bytes, where so many are needed.
+    /// The bytes that it has, and those that are needed.
     Short(u64, u64),
     /// It doesn't begin as an image does.
     Magic,
@@ -49,7 +49,7 @@ pub fn of_image(
     with_digests(alloc, told, refusal == ImageRefusal::Digest, digests)
 }
 
-/// The message with both digests, and with whether they differ where that isn't said yet.
+/// Adds both digests to the message, and says that they differ if it doesn't yet.
 fn with_digests(
     alloc: Global,
     told: Told,

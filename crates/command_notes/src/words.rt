@@ -85,8 +85,10 @@ const WORKERS: Shape = Shape {
 };
 
 /// The commands and the options with their defaults.
-const HELP: [&str; 14] = [
+const HELP: [&str; 16] = [
     "cnvm run PROGRAM SCRIPT          runs the script's calls on a new pool",
+    "    --open IMAGE                 runs them on the pool of a saved image",
+    "    --save IMAGE                 saves the pool at the end",
     "cnvm list PROGRAM                tells of each store whether it is logged",
     "cnvm storm PROGRAM START COUNT   runs rounds of drawn calls and power cuts",
     "    START                        chooses them, from 0 to 2147483647",
@@ -94,15 +96,15 @@ const HELP: [&str; 14] = [
     "cnvm why PROGRAM                 tells why each logged store is logged",
     "cnvm workers PROGRAM SCRIPT      runs the script's calls of several workers",
     "    --workers W                  how many, from 1 to 8; without it 2",
-    "    --open IMAGE                 runs on the pool of a saved image",
-    "    --save IMAGE                 saves the pool at the end",
+    "run, storm and workers have these options too:",
     "    --slots N                    slots for objects, from 1 to 65535; without it 1024",
     "    --log N                      records of the log, from 1 to 4096; without it 256",
     "    --ticks N                    ticks of a call, from 1 to 1000000; without it 100000",
-    "An option and its value are two words, and each option is given once at most.",
+    "The value of an option is the next word, or stands after `=`.",
+    "Each option is given once at most.",
 ];
 
-/// What is wrong with words that ask for nothing that exists, and what could be asked for.
+/// What is wrong with the words, and what may stand there.
 pub fn of_words(alloc: Global, words: &[String]) -> Result<String, AllocError> {
     let what = wrong_word(alloc, words)?;
     let what = what.as_str();
@@ -164,9 +166,12 @@ fn wrong_of(alloc: Global, shape: &Shape, words: &[String]) -> Result<String, Al
                 wrong_value(alloc, option, word)?
             }
             None if word.starts_with("--") => {
-                open = Some(word);
-                let wrong = wrong_option(alloc, shape, &given, word)?;
-                given.push(word)?;
+                let (option, value) = parts_of(word);
+                let wrong = wrong_option(alloc, shape, &given, option, value)?;
+                given.push(option)?;
+                if value.is_none() {
+                    open = Some(option);
+                }
                 wrong
             }
             None => {
@@ -205,20 +210,35 @@ fn wrong_place(
     Ok(None)
 }
 
-/// What is wrong with an option.
+/// An option, and the value after its `=` if it has one.
+fn parts_of(word: &str) -> (&str, Option<&str>) {
+    let Some(at) = word.find("=") else {
+        return (word, None);
+    };
+    match word.split_at_checked(at) {
+        None => (word, None),
+        Some((option, rest)) => (option, rest.strip_prefix("=")),
+    }
+}
+
+/// What is wrong with an option, or with the value that stands after its `=`.
 fn wrong_option(
     alloc: Global,
     shape: &Shape,
     given: &[&str],
-    word: &str,
+    option: &str,
+    value: Option<&str>,
 ) -> Result<Option<String>, AllocError> {
-    if !has(shape.options, word) {
-        return Ok(Some(no_option(alloc, shape, word)?));
+    if !has(shape.options, option) {
+        return Ok(Some(no_option(alloc, shape, option)?));
     }
-    if has(given, word) {
-        return Ok(Some(format!(in alloc; "{word}: is given twice")?));
+    if has(given, option) {
+        return Ok(Some(format!(in alloc; "{option}: is given twice")?));
     }
-    Ok(None)
+    match value {
+        None => Ok(None),
+        Some(value) => wrong_value(alloc, option, value),
+    }
 }
 
 fn has(words: &[&str], word: &str) -> bool {
@@ -245,9 +265,6 @@ fn no_option(alloc: Global, shape: &Shape, word: &str) -> Result<String, AllocEr
     let mut options = Vec::new(alloc);
     for option in shape.options {
         options.push(option.as_bytes())?;
-    }
-    if word.contains("=") {
-        return format!(in alloc; "{word}: an option and its value are two words, without `=`");
     }
     match nearest(word.as_bytes(), &options) {
         Some(near) => {

@@ -1,15 +1,16 @@
 -- A compiled program agrees with its source.
-use Rattle.std.proofs.Common.{◌≡◌, ℕ, zero, suc, ◌+◌, ◌-◌, ◌*◌, ◌<◌, ◌≤◌, ◌^◌, ℤ, pos, Bool, true}
+use Rattle.std.proofs.Common.{◌≡◌, ℕ, zero, suc, ◌+◌, ◌-◌, ◌*◌, ◌<◌, ◌≤◌, ◌^◌, ℤ, Bool, true}
 use Rattle.std.proofs.Common.{false, List, [], ◌∷◌, ◌++◌, length, Option, Some, None, refl, sym, ap}
 use Rattle.std.proofs.Common.{◌∙◌, subst, arith, ⊎_elim}
 use Rattle.std.specs.Option.{option_map_or}
-use Rattle.std.specs.Prelude.{slice_get, slice_index_or, option_map, if◌then◌else◌, nat_lt, Ok}
+use Rattle.std.specs.Prelude.{slice_get, option_map, if◌then◌else◌, nat_lt, Ok}
 use Rattle.std.proofs.lemmas.List.{length-map}
-use Rattle.std.proofs.lemmas.Option.{slice_get-map, slice_get_within}
+use Rattle.std.proofs.lemmas.Option.{slice_get-map, slice_get_within, none-some}
 use Rattle.cache_model.specs.Cache.{Words}
 use Rattle.pool_layout.specs.declared.limits.Sizes.{Sizes}
 use Rattle.pool_map.specs.PoolMap.{PoolMap}
 use Rattle.nvm_base.specs.Wrap.{IsWord}
+use Rattle.nvm_base.proofs.Lists.{all_at}
 use Rattle.c_lexer.specs.TokenList.{Tokens}
 use Rattle.c_tree.specs.ItemTree.{FunctionTree}
 use Rattle.c_tree.specs.Program as parser
@@ -34,7 +35,7 @@ use Rattle.ir.specs.WellFormed.{IsFunction, IsWellFormed}
 use Rattle.lower.specs.Program.{lowered_function, lowered}
 use Rattle.lower_law.specs.Law as lower
 use Rattle.lower_law.proofs.Laws as lowering
-use Rattle.code_meaning.proofs.Lists.{all_at}
+use Rattle.lower_law.proofs.Functions.{whole_le}
 use Rattle.code_meaning.specs.Calls.{CallsNoTransaction}
 use Rattle.code_meaning.specs.Constants.{HasWordConstants}
 use Rattle.code_meaning.specs.Whole.{whole}
@@ -42,20 +43,22 @@ use Rattle.size_law.proofs.ProgramShort.{allowed}
 use Rattle.checked_law.proofs.Laws.{shapes, calls, limits, constants, logs}
 use Rattle.clobber_pass.specs.declared.marking.MarkTable.{MarkTable}
 use Rattle.clobber_pass.specs.Logged as table
-use Rattle.instrument.specs.Insert.{led, logged_function, logged_program}
-use Rattle.instrument.proofs.LoggedCode.{answer_well_formed}
+use Rattle.instrument.specs.Insert.{flagged, led, logged_function, logged_program}
+use Rattle.instrument.proofs.LoggedCode.{answer_well_formed, functions_length}
 use Rattle.insert_law.specs.Law.{HasResult}
+use Rattle.insert_law.specs.Moved.{places_of}
 use Rattle.insert_law.proofs.Standing.{function_at}
 use Rattle.insert_law.proofs.Origins.{origin}
 use Rattle.code_meaning.specs.Code.{CodeEnd, code_start, exec, register_at}
 use Rattle.code_meaning.specs.Code.{load_spot}
 use Rattle.code_meaning.specs.Code as code
 use Rattle.code_meaning.specs.Deeds.{Deed, deeds}
+use Rattle.code_meaning.proofs.Registers.{register_at-is}
 use Rattle.pm_machine.specs.declared.effect.End as machine_end
 use Rattle.pm_machine.specs.declared.image.ImageParts.{ImageParts}
 use Rattle.pm_machine.specs.declared.op.TxEntry.{TxEntry}
 use Rattle.pm_machine.specs.Effects.{heap_end}
-use Rattle.codegen.specs.Emit.{functions_of, txs_from, most_steps}
+use Rattle.codegen.specs.Emit.{txs_from}
 use Rattle.emit_law.specs.Standing.{HasRoom}
 use Rattle.emit_law.specs.TidyCode.{HasCode}
 use Rattle.piece_law.specs.Fits.{IsFit}
@@ -87,8 +90,8 @@ use Rattle.compiled_law.proofs.Exact.{are_logged}
 use Rattle.compiled_law.proofs.Firsts.{are_firsts}
 use Rattle.compiled_law.proofs.Marked.{all_stores}
 use Rattle.compiled_law.proofs.Entering.{code_of, parameters_same, entries_same, entry_is}
-use Rattle.compiled_law.proofs.Numbers.{few_tokens, part_of_whole, all_below, logged_long}
-use Rattle.compiled_law.proofs.Numbers.{functions_long, is_pool, enough_steps}
+use Rattle.compiled_law.proofs.Numbers.{few_tokens, all_below, logged_long}
+use Rattle.compiled_law.proofs.Numbers.{is_pool, enough_steps}
 use Rattle.compiled_law.proofs.Room.{has_room_for}
 use Rattle.compiled_law.proofs.Sounding.{compiled_run}
 
@@ -127,14 +130,8 @@ led_call table flag Tick to g args e = absurd (cc)
 led_call table flag (Trap k) to g args e = absurd (cc)
 led_call table flag (Log x) to g args e = absurd (cc)
 
--- words of a list, read from either side
-at_slice : (vs : List ℤ) (i : ℕ) → register_at vs i ≡ slice_index_or vs i (pos 0)
-at_slice [] i = refl
-at_slice (v ∷ vs) zero = refl
-at_slice (v ∷ vs) (suc i) = at_slice vs i
-
 hold_words : (args : List ℤ) → AreWords args → words.HoldWords args
-hold_words args are r = subst IsWord (sym (at_slice args r)) (are r)
+hold_words args are r = subst IsWord (sym (register_at-is args r)) (are r)
 
 word_in : (w : PoolMap) → HasPoolWords w → (x : code.Spot) → IsWord (load_spot w x)
 word_in w has (code.InRoot i) = has.root i
@@ -206,18 +203,17 @@ module _ (text : List ℕ) (list : Tokens) (program : Program)
   fit : IsFit s (shapes_of tree)
   fit = record {
     pool = is_pool s;
-    root = sym (ap (λ (z : Sizes). z.root_words) c.sizes ∙ c.root);
+    root = sym c.root;
     short = (shapes tree c.checked).short;
     few = (shapes tree c.checked).few;
   }
 
   functions_few : length L.functions < 2 ^ 32
-  functions_few = omega (arith, functions_long marks 0 plain.functions, (limits tree c.checked).few)
+  functions_few = omega (arith, functions_length marks 0 plain.functions, (limits tree c.checked).few)
 
   has_code : HasCode program.image s L
   has_code = record {
-    functions = ap (λ (p : ImageParts). p.functions) c.made ∙ ap (λ (z : Sizes). functions_of z L)
-        (sym c.sizes);
+    functions = ap (λ (p : ImageParts). p.functions) c.made;
     txs = ap (λ (p : ImageParts). p.txs) c.made;
   }
 
@@ -242,7 +238,7 @@ module _ (text : List ℕ) (list : Tokens) (program : Program)
       let code_long : length v.code ≤ 2 * length u.0.code =
       subst (λ (x : IrFunction). length x.code ≤ 2 * length u.0.code) (sym u.2)
       (logged_long marks f u.0.code) in
-      let part = part_of_whole plain.functions f u.0 u.1 in
+      let part = whole_le plain.functions f u.0 u.1 in
       has_room_for s L v (all_at (IsFunction L) L.functions f v formed.1 e)
       (omega (
         arith,
@@ -259,10 +255,11 @@ module _ (text : List ℕ) (list : Tokens) (program : Program)
   calls_logged f p to g args v call found =
       let v_is = found_logged g v found in
       ⊎_elim (λ log. absurd (no_log to g args log.1 log.4))
-      (λ from. let i : from.1 ≡ Call to g args = led_call from.2 from.3 from.1 to g args from.5 in
+      (λ from. let i : from.1 ≡ Call to g args = led_call
+      (places_of marks plain.functions f) (flagged marks f from.0 from.1) from.1 to g args from.5 in
       ap (λ (x : IrFunction). x.tx) v_is.2 ∙ calls tree c.checked f from.0 to g args v_is.0
-      (from.4 ∙ ap (λ (x : Instruction). Some x) i) v_is.1)
-      (origin marks plain c.formed f p (Call to g args) call)
+      (from.2 ∙ ap (λ (x : Instruction). Some x) i) v_is.1)
+      (origin marks plain f p (Call to g args) call)
     where
       no_log : (to g : ℕ) (args : List ℕ) (x : Target) → Call to g args ≡ Log x → ⊥
       no_log to g args x e = cc
@@ -273,9 +270,10 @@ module _ (text : List ℕ) (list : Tokens) (program : Program)
   constants_logged : HasWordConstants L.functions
   constants_logged f p to v e =
       ⊎_elim (λ log. absurd (no_log to v log.1 log.4))
-      (λ from. let i : from.1 ≡ Const to v = led_const from.2 from.3 from.1 to v from.5 in
-      constants_plain f from.0 to v (from.4 ∙ ap (λ (x : Instruction). Some x) i))
-      (origin marks plain c.formed f p (Const to v) e)
+      (λ from. let i : from.1 ≡ Const to v = led_const
+      (places_of marks plain.functions f) (flagged marks f from.0 from.1) from.1 to v from.5 in
+      constants_plain f from.0 to v (from.2 ∙ ap (λ (x : Instruction). Some x) i))
+      (origin marks plain f p (Const to v) e)
     where
       no_log : (to : ℕ) (v : ℤ) (x : Target) → Const to v ≡ Log x → ⊥
       no_log to v x e = cc
@@ -395,11 +393,8 @@ module _ (text : List ℕ) (list : Tokens) (program : Program)
     where
       by_entry : (o : Option TxEntry) → slice_get program.image.parts.txs i ≡ o
           → RunsAs program h (suc i) args
-      by_entry None found = absurd (none_some (length args)
+      by_entry None found = absurd (none-some (length args)
           (sym (ap (option_map (λ (e : TxEntry). e.parameters)) found) ∙ takes))
-        where
-          none_some : (n : ℕ) → None ≡ Some n → ⊥
-          none_some n e = cc
       by_entry (Some entry) found =
           let e = entry_is marks t tree 0 0 t.functions i entry
           (sym (ap (λ (es : List TxEntry). slice_get es i) txs_are) ∙ found) in
@@ -424,8 +419,7 @@ module _ (text : List ℕ) (list : Tokens) (program : Program)
           ) in
           let enough : 2 * k * most ≤ program.image.parts.most =
           subst (λ (x : ℕ). 2 * k * most ≤ x)
-          (sym (ap (λ (p : ImageParts). p.most) c.made
-          ∙ ap (λ (z : Sizes). most_steps z (length tree.lines)) (sym c.sizes)))
+          (sym (ap (λ (p : ImageParts). p.most) c.made))
           (enough_steps s (length tree.lines) (whole plain.functions) long) in
           let ran = compiled_run heap_apart covered keep words_stay marks plain c.formed
           (lowering.parameters tree c.checked) all_marked constants_plain (logs tree c.checked)
@@ -466,12 +460,9 @@ module _ (text : List ℕ) (list : Tokens) (program : Program)
   few_are zero n takes = absurd (cc)
   few_are (suc i) n takes = by_entry (slice_get program.image.parts.txs i) refl
     where
-      none_some : (m : ℕ) → None ≡ Some m → ⊥
-      none_some m e = cc
-
       by_entry : (o : Option TxEntry) → slice_get program.image.parts.txs i ≡ o → (suc i < 2 ^ 63)
           × (n ≤ 22)
-      by_entry None found = absurd (none_some n
+      by_entry None found = absurd (none-some n
           (sym (ap (option_map (λ (e : TxEntry). e.parameters)) found) ∙ takes))
       by_entry (Some entry) found =
           let in_order : slice_get (txs_from 0 (code_of marks t tree 0 t.functions)) i

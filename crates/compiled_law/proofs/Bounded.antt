@@ -13,7 +13,7 @@ use Rattle.run_law.specs.Seen.{seen_all}
 use Rattle.run_law.proofs.Headers.{logs_headers}
 use Rattle.run_law.proofs.Sounds.{run_held}
 
-next : (n m : ℕ) → suc n + m ≡ n + suc m
+pub next : (n m : ℕ) → suc n + m ≡ n + suc m
 next n m = omega arith
 
 records_logs : (n : ℕ) (es : List Effect) → records_end n es ≡ n + logs_of (seen_all es)

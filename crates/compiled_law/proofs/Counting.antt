@@ -12,7 +12,6 @@ use Rattle.ir.specs.declared.function.IrFunction.{IrFunction}
 use Rattle.ir.specs.declared.function.Ir.{Ir}
 use Rattle.ir.specs.declared.site.Site.{Site}
 use Rattle.ir.specs.Places.{instruction_at}
-use Rattle.ir.specs.WellFormed.{IsWellFormed}
 use Rattle.clobber_pass.specs.declared.marking.MarkTable.{MarkTable}
 use Rattle.clobber_pass.specs.Logged as table
 use Rattle.ir.specs.Moving.{place_in, is_log}
@@ -20,7 +19,8 @@ use Rattle.instrument.specs.Insert.{logs, led, places_from, flags_from, flagged}
 use Rattle.instrument.specs.Insert.{logged_program}
 use Rattle.code_meaning.specs.Code.{CodeState}
 use Rattle.code_meaning.specs.Deeds.{Deed, Reads, Writes, Heads, site, deeds}
-use Rattle.insert_law.specs.Moved.{code_of_function, begins, stands, moved_site, moved_deeds}
+use Rattle.insert_law.specs.Moved.{code_of_function, places_of, begins, stands, moved_site}
+use Rattle.insert_law.specs.Moved.{moved_deeds}
 use Rattle.insert_law.proofs.Standing.{standing, fill_stands}
 use Rattle.pm_machine.specs.declared.effect.Effect.{Effect}
 use Rattle.pm_machine.specs.declared.effect.Effect.TheVariants.{Loads, Scans, Stores, Logs, Flushes}
@@ -34,6 +34,7 @@ use Rattle.match_law.specs.Compiled.{logs_at, is_logged_in_code}
 use Rattle.compiled_law.specs.inside.Records.{records_of}
 use Rattle.compiled_law.proofs.Marked.{IsStoreAt, AreStores, all_stores, logged_at, fill_at}
 use Rattle.compiled_law.proofs.Marked.{moved_logged_true}
+use Rattle.compiled_law.proofs.Bounded.{next}
 
 records_accesses : (n : ℕ) (es : List Effect) → records_end n (accesses es) ≡ records_end n es
 records_accesses n [] = refl
@@ -44,9 +45,6 @@ records_accesses n (Logs w ∷ es) = records_accesses (suc n) es
 records_accesses n (Flushes l ∷ es) = records_accesses n es
 records_accesses n (Fences ∷ es) = records_accesses n es
 records_accesses n (Quiet ∷ es) = records_accesses n es
-
-next : (n m : ℕ) → suc n + m ≡ n + suc m
-next n m = omega arith
 
 module _ (s : Sizes) (logged : Site → Bool) where
   records_shown : (n : ℕ) (ds : List Deed) (es : List Effect) → ShowsDeeds s logged ds es
@@ -148,7 +146,7 @@ before_it us f p i e = by_function (slice_get us f) e
     by_function None e = absurd (cc)
     by_function (Some u) e = in_code u.code p e
 
-module _ (marks : MarkTable) (ir : Ir) (formed : IsWellFormed ir) (bare : (f p : ℕ) (x : Target)
+module _ (marks : MarkTable) (ir : Ir) (bare : (f p : ℕ) (x : Target)
     → instruction_at ir.functions f p ≡ Some (Log x) → ⊥) where
   abbrev L : Ir
   L = logged_program marks ir
@@ -158,7 +156,7 @@ module _ (marks : MarkTable) (ir : Ir) (formed : IsWellFormed ir) (bare : (f p :
       → table.is_logged marks (site f p false) ≡ false
       → logs_at (slice_get L.functions f) (stands marks ir.functions f p) false ≡ false
   unlogged f p x from line e off =
-      let s = standing marks ir formed f p (Store x from line) e in
+      let s = standing marks ir f p (Store x from line) e in
       ap (λ (q : ℕ). logs_at (slice_get L.functions f) q false)
       (s.none (ap (λ (b : Bool). logs b (Store x from line)) off)) ∙ by_place p refl
     where
@@ -170,34 +168,33 @@ module _ (marks : MarkTable) (ir : Ir) (formed : IsWellFormed ir) (bare : (f p :
       by_place : (q : ℕ) → p ≡ q → logs_at (slice_get L.functions f) (begins marks ir.functions f q)
           false ≡ false
       by_place zero is = ap (λ (n : ℕ). logs_at (slice_get L.functions f) n false)
-          (first (flags_from marks f 0 (code_of_function ir.functions f)) (code_of_function ir.functions f))
+          (first (flags_from marks f 0 (code_of_function ir.functions f))
+          (code_of_function ir.functions f))
           ∙ first_unlogged (slice_get L.functions f)
       by_place (suc q) is =
           let j = before_it ir.functions f q (Store x from line)
           (ap (instruction_at ir.functions f) (sym is) ∙ e) in
-          let s = standing marks ir formed f q j.0 j.1 in
+          let s = standing marks ir f q j.0 j.1 in
           let bare_at : (y : Target) → j.0 ≡ Log y → ⊥ =
           λ y h. bare f q y (j.1 ∙ ap (λ (i : Instruction). Some i) h) in
           let own = plain_at j.0 bare_at in
           ap (λ (n : ℕ). logs_at (slice_get L.functions f) n false) (s.next own)
           ∙ logged_after (slice_get L.functions f) (stands marks ir.functions f q)
-          (led (places_from (flags_from marks f 0 (code_of_function ir.functions f)) 0 0
-          (code_of_function ir.functions f)) (flagged marks f q j.0) j.0) (s.self own)
-          ∙ no_log (places_from (flags_from marks f 0 (code_of_function ir.functions f)) 0 0
-          (code_of_function ir.functions f)) (flagged marks f q j.0) j.0 bare_at
+          (led (places_of marks ir.functions f) (flagged marks f q j.0) j.0) (s.self own)
+          ∙ no_log (places_of marks ir.functions f) (flagged marks f q j.0) j.0 bare_at
 
   pub logged_same : (fill : Bool) (f p : ℕ) → IsStoreAt ir.functions fill f p
       → is_logged_in_code L (moved_site marks ir.functions (site f p fill)) ≡ table.is_logged marks
       (site f p fill)
   logged_same true f p fill = fill_at (slice_get L.functions f) (stands marks ir.functions f p)
       fill.0 fill.1 fill.3 (table.is_logged marks (site f p true))
-      (fill_stands marks ir formed f p fill.0 fill.1 fill.3 fill.2 fill.4)
+      (fill_stands marks ir f p fill.0 fill.1 fill.3 fill.2 fill.4)
   logged_same false f p store = by_test (table.is_logged marks (site f p false)) refl
     where
       by_test : (b : Bool) → table.is_logged marks (site f p false) ≡ b
           → is_logged_in_code L (moved_site marks ir.functions (site f p false)) ≡ table.is_logged
           marks (site f p false)
-      by_test true on = moved_logged_true marks ir formed f p store on ∙ sym on
+      by_test true on = moved_logged_true marks ir f p store on ∙ sym on
       by_test false off = unlogged f p store.0 store.1 store.2 store.3 off ∙ sym off
 
   records_moved : (ds : List Deed) → AreStores ir ds

@@ -7,7 +7,6 @@ use Rattle.ir.specs.declared.instruction.Instruction.TheVariants.{Log}
 use Rattle.ir.specs.declared.instruction.Target.{Target}
 use Rattle.ir.specs.declared.site.Site.{Site}
 use Rattle.ir.specs.Places.{instruction_at}
-use Rattle.ir.specs.WellFormed.{IsWellFormed}
 use Rattle.instrument.specs.Insert.{logged_program}
 use Rattle.insert_law.specs.Moved.{moved_site, moved_deeds}
 use Rattle.clobber_pass.specs.declared.marking.MarkTable.{MarkTable}
@@ -89,7 +88,7 @@ module _ (s : Sizes) (logged : Site → Bool) where
       logged_store ls (header_word s q) v b
       ∙ ap suc (marked_shown (header_word s q ∷ ls) a b rest)
 
-module _ (marks : MarkTable) (ir : Ir) (formed : IsWellFormed ir) (bare : (f p : ℕ) (x : Target)
+module _ (marks : MarkTable) (ir : Ir) (bare : (f p : ℕ) (x : Target)
     → instruction_at ir.functions f p ≡ Some (Log x) → ⊥) where
   abbrev L : Ir
   L = logged_program marks ir
@@ -112,7 +111,7 @@ module _ (marks : MarkTable) (ir : Ir) (formed : IsWellFormed ir) (bare : (f p :
       if c then suc (records_with (table.is_logged marks) s (heap_word s x ∷ ls) ds)
       else (if is_listed (heap_word s x) ls then records_with (table.is_logged marks) s ls ds
       else suc (records_with (table.is_logged marks) s (heap_word s x ∷ ls) ds)))
-      (logged_same marks ir formed bare a.fill a.function a.place are.0)
+      (logged_same marks ir bare a.fill a.function a.place are.0)
   with_moved s ls (Heads a q v ∷ ds) are = ap suc (with_moved s (header_word s q ∷ ls) ds are.1)
 
   pub firsts_are : (s : Sizes) (k : ℕ) (c : CodeState) (es : List Effect)

@@ -160,14 +160,14 @@ pub fill_at : (o : Option IrFunction) (q to kind line : ℕ) (flag : Bool)
 fill_at None q to kind line flag e = absurd (cc)
 fill_at (Some u) q to kind line flag e = ap logs_fill e
 
-module _ (marks : MarkTable) (ir : Ir) (formed : IsWellFormed ir) where
+module _ (marks : MarkTable) (ir : Ir) where
   -- a store that the marks log is still logged at the place it has moved to
   pub moved_logged_true : (f p : ℕ) → IsStoreAt ir.functions false f p
       → table.is_logged marks (site f p false) ≡ true
       → is_logged_in_code (logged_program marks ir) (moved_site marks ir.functions (site f p false))
       ≡ true
   moved_logged_true f p store marked =
-      let s = store_stands marks ir formed f p store.0 store.1 store.2 store.3 marked in
+      let s = store_stands marks ir f p store.0 store.1 store.2 store.3 marked in
       ap (λ (q : ℕ). logs_at (slice_get (logged_program marks ir).functions f) q false)
       (s.0 ∙ plus_one (begins marks ir.functions f p))
       ∙ log_at (slice_get (logged_program marks ir).functions f) (begins marks ir.functions f p)
@@ -184,7 +184,7 @@ module _ (marks : MarkTable) (ir : Ir) (formed : IsWellFormed ir) where
   moved_logged true f p fill marked =
       fill_at (slice_get (logged_program marks ir).functions f) (stands marks ir.functions f p)
       fill.0 fill.1 fill.3 (table.is_logged marks (site f p true))
-      (fill_stands marks ir formed f p fill.0 fill.1 fill.3 fill.2 fill.4)
+      (fill_stands marks ir f p fill.0 fill.1 fill.3 fill.2 fill.4)
       ∙ marked
 
 module _ (cover : CoverLaw) (marks : MarkTable) (ir : Ir) (formed : IsWellFormed ir)
@@ -197,7 +197,7 @@ module _ (cover : CoverLaw) (marks : MarkTable) (ir : Ir) (formed : IsWellFormed
       → FirstStore (deeds (logged_program marks ir) (2 * k) (code_start f args w t)) x b
       → is_logged_in_code (logged_program marks ir) b ≡ true
   inputs_logged f tx args w t k over x b input first =
-      let same = same_deeds marks ir formed f args w t k over in
+      let same = same_deeds marks ir f args w t k over in
       let ds : List Deed = deeds ir k (code_start f args w t) in
       let m = first_moved marks ir.functions ds x b
       (subst (λ (l : List Deed). FirstStore l x b) same first) in
@@ -207,6 +207,6 @@ module _ (cover : CoverLaw) (marks : MarkTable) (ir : Ir) (formed : IsWellFormed
       (input_moved marks ir.functions ds x (subst (λ (l : List Deed). IsInput l x) same input))
       m.1 in
       ap (is_logged_in_code (logged_program marks ir)) m.2
-      ∙ moved_logged marks ir formed a.fill a.function a.place
+      ∙ moved_logged marks ir a.fill a.function a.place
       (first_site ir (deeds ir k (code_start f args w t)) x a
       (all_stores ir k (code_start f args w t)) m.1) (whole a logged)

@@ -1,8 +1,7 @@
 -- The numbers of a compiled program: its tokens, the length of its code, and the bound on steps.
-use Rattle.std.proofs.Common.{◌≡◌, ℕ, zero, suc, ◌+◌, ◌*◌, ◌<◌, ◌≤◌, ◌^◌, Bool, true, false, List}
-use Rattle.std.proofs.Common.{[], ◌∷◌, ◌++◌, length, Some, refl, sym, ap, arith, length-append}
-use Rattle.std.proofs.Common.{⊎_elim}
-use Rattle.std.specs.Prelude.{slice_get, nat_lt, if◌then◌else◌, Result, Ok, Err}
+use Rattle.std.proofs.Common.{◌≡◌, ℕ, ◌+◌, ◌*◌, ◌<◌, ◌≤◌, Bool, true, false, List}
+use Rattle.std.proofs.Common.{[], ◌∷◌, length, refl, sym, ap, arith}
+use Rattle.std.specs.Prelude.{nat_lt, if◌then◌else◌, Result, Ok, Err}
 use Rattle.std.specs.List.{AllByRecursion}
 use Rattle.std.proofs.lemmas.Bool.{ltb-false}
 use Rattle.std.proofs.lemmas.Nat.{mul-le}
@@ -15,10 +14,8 @@ use Rattle.c_lexer.specs.TokenList.{Tokens}
 use Rattle.ir.specs.declared.instruction.Instruction.{Instruction}
 use Rattle.ir.specs.declared.function.IrFunction.{IrFunction}
 use Rattle.clobber_pass.specs.declared.marking.MarkTable.{MarkTable}
-use Rattle.instrument.specs.Insert.{logs, flag_at, led, own, logged_from, places_from}
-use Rattle.ir.specs.Moving.{is_log}
-use Rattle.instrument.specs.Insert.{flags_from, with_flags, logged_code, logged_functions}
-use Rattle.insert_law.proofs.Follows.{one_log}
+use Rattle.instrument.specs.Insert.{places_from, flags_from, logged_code}
+use Rattle.instrument.proofs.LoggedCode.{logged_length}
 use Rattle.pm_alloc.specs.Search.{IsPool}
 use Rattle.codegen.specs.Emit.{most_steps}
 use Rattle.code_meaning.specs.Whole.{whole}
@@ -52,67 +49,16 @@ few_tokens text list e = by_test (nat_lt 262144 (length text)) e
     by_test true e = absurd (cc)
     by_test false e = limited_few (cut text) list e
 
--- a function's code is a part of all code
-pub part_of_whole : (us : List IrFunction) (f : ℕ) (u : IrFunction) → slice_get us f ≡ Some u
-    → length u.code ≤ whole us
-part_of_whole [] f u e = absurd (cc)
-part_of_whole (v ∷ us) zero u e = let same : v ≡ u = cc in
-    let long : length v.code ≡ length u.code = ap (λ (x : IrFunction). length x.code) same in
-    omega arith
-part_of_whole (v ∷ us) (suc f) u e = omega (arith, part_of_whole us f u e)
-
 pub all_below : (n : ℕ) (us : List IrFunction) → whole us < n
     → AllByRecursion (λ (u : IrFunction). length u.code < n) us
 all_below n [] low = tt
 all_below n (u ∷ us) low = (omega (arith, low), all_below n us (omega (arith, low)))
 
 -- logs at most double the code
-one_long : (flag : Bool) (i : Instruction) → length (logs flag i) ≤ 1
-one_long flag i = ⊎_elim (λ (none : logs flag i ≡ []). let e : length (logs flag i) ≡ 0 =
-    ap (λ (ls : List Instruction). length ls) none in omega arith)
-    (λ (one : (x : Instruction) × (logs flag i ≡ x ∷ [])). let e : length (logs flag i) ≡ 1 =
-    ap (λ (ls : List Instruction). length ls) one.1 in omega arith) (one_log flag i)
-
-own_long : (table : List ℕ) (flag : Bool) (i : Instruction) → length (own table flag i) ≤ 1
-own_long table flag i = by_test (is_log i)
-  where
-    by_test : (b : Bool) → length (if b then [] else led table flag i ∷ []) ≤ 1
-    by_test true = omega arith
-    by_test false = omega arith
-
-from_long : (table : List ℕ) (flags : List Bool) (k : ℕ) (code : List Instruction)
-    → length (logged_from table flags k code) ≤ 2 * length code
-from_long table flags k [] = omega arith
-from_long table flags k (i ∷ code) =
-    let rest : List Instruction = logged_from table flags (suc k) code in
-    let mine : List Instruction = own table (flag_at flags k) i in
-    let cut : length (logs (flag_at flags k) i ++ (mine ++ rest))
-    ≡ length (logs (flag_at flags k) i) + length (mine ++ rest) =
-    length-append (logs (flag_at flags k) i) (mine ++ rest) in
-    let joined : length (mine ++ rest) ≡ length mine + length rest = length-append mine rest in
-    omega (
-      arith,
-      cut,
-      joined,
-      one_long (flag_at flags k) i,
-      own_long table (flag_at flags k) i,
-      from_long table flags (suc k) code,
-    )
-
 pub logged_long : (marks : MarkTable) (f : ℕ) (code : List Instruction)
     → length (logged_code marks f code) ≤ 2 * length code
-logged_long marks f code = by_test (nat_lt (length code) (2 ^ 31))
-  where
-    by_test : (b : Bool) → length (if b then with_flags (flags_from marks f 0 code) code else code)
-        ≤ 2 * length code
-    by_test true = from_long (places_from (flags_from marks f 0 code) 0 0 code)
-        (flags_from marks f 0 code) 0 code
-    by_test false = omega arith
-
-pub functions_long : (marks : MarkTable) (k : ℕ) (us : List IrFunction)
-    → length (logged_functions marks k us) ≡ length us
-functions_long marks k [] = refl
-functions_long marks k (u ∷ us) = ap suc (functions_long marks (suc k) us)
+logged_long marks f code = logged_length (places_from (flags_from marks f 0 code) 0 0 code)
+    (flags_from marks f 0 code) 0 code
 
 -- a pool of these sizes has room for the search for a slot
 pub is_pool : (s : Sizes) → IsPool s

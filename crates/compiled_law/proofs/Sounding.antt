@@ -192,7 +192,7 @@ compiled_run apart cover keep law marks ir formed keeps whole constants bare ima
     found transaction args heap w words pool stands fits k m over enough =
     let L : Ir = logged_program marks ir in
     let t : ℕ = image.parts.sizes.ticks in
-    let same = same_end marks ir formed entry.function args w t k over in
+    let same = same_end marks ir entry.function args w t k over in
     let kept = keep image L (2 * k) tx entry args heap w compiled found words pool stands fits in
     let n : ℕ = records_of (table.is_logged marks)
     (deeds ir k (code_start entry.function args w t)) in
@@ -200,15 +200,15 @@ compiled_run apart cover keep law marks ir formed keeps whole constants bare ima
     → ShowsDeeds image.parts.sizes (is_logged_in_code L)
     (deeds L (2 * k) (code_start entry.function args w t)) (accesses es) → records_end 0 es ≡ n =
     λ es shows.
-    records_are marks ir formed bare image.parts.sizes k (code_start entry.function args w t) es
+    records_are marks ir bare image.parts.sizes k (code_start entry.function args w t) es
     (subst (λ (ds : List Deed). ShowsDeeds image.parts.sizes (is_logged_in_code L) ds
-    (accesses es)) (same_deeds marks ir formed entry.function args w t k over) shows) in
+    (accesses es)) (same_deeds marks ir entry.function args w t k over) shows) in
     let more : (es : List Effect) → IsCutAtStore image.parts.sizes (is_logged_in_code L)
     (deeds L (2 * k) (code_start entry.function args w t)) (accesses es) → records_end 0 es < n =
     λ es cut.
-    records_cut marks ir formed bare image.parts.sizes k (code_start entry.function args w t) es
+    records_cut marks ir bare image.parts.sizes k (code_start entry.function args w t) es
     (subst (λ (ds : List Deed). IsCutAtStore image.parts.sizes (is_logged_in_code L) ds
-    (accesses es)) (same_deeds marks ir formed entry.function args w t k over) cut) in
+    (accesses es)) (same_deeds marks ir entry.function args w t k over) cut) in
     let n1 : ℕ = records_with (table.is_logged marks) image.parts.sizes []
     (deeds ir k (code_start entry.function args w t)) in
     let firsts : (es : List Effect)
@@ -216,9 +216,9 @@ compiled_run apart cover keep law marks ir formed keeps whole constants bare ima
     (deeds L (2 * k) (code_start entry.function args w t)) (accesses es)
     → records_marked [] es ≡ n1 =
     λ es shows.
-    firsts_are marks ir formed bare image.parts.sizes k (code_start entry.function args w t) es
+    firsts_are marks ir bare image.parts.sizes k (code_start entry.function args w t) es
     (subst (λ (ds : List Deed). ShowsDeeds image.parts.sizes (is_logged_in_code L) ds
-    (accesses es)) (same_deeds marks ir formed entry.function args w t k over) shows) in
+    (accesses es)) (same_deeds marks ir entry.function args w t k over) shows) in
     run_more image L heap (exec ir k (code_start entry.function args w t)) n n1 (2 * k * most) m tx
     args enough
     (run_is apart image L compiled tx entry found args heap (2 * k * most)

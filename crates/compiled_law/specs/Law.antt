@@ -19,6 +19,7 @@ use Rattle.clobber_pass.specs.Logged.{IsExact}
 use Rattle.instrument.specs.Insert.{logged_program}
 use Rattle.codegen.specs.Emit.{parts_of}
 use Rattle.cnvm_session.specs.declared.program.Program.{Program}
+use Rattle.cnvm_session.specs.Pool.{sizes_of}
 use Rattle.session_law.specs.Source.{LogsFirst, ComesTo}
 use Rattle.session_law.specs.Agrees.{Agrees}
 
@@ -33,10 +34,9 @@ pub record IsCompiledFrom (text : List ℕ) (list : Tokens) (program : Program) 
   pub formed : IsWellFormed (lowered program.typed)
   pub marks : MarkTable
   pub exact : IsExact (lowered program.typed).functions marks
-  pub sizes : program.image.parts.sizes ≡ program.sizes
-  pub root : program.sizes.root_words ≡ words_of (shapes_of program.typed).root
+  pub root : (sizes_of program).root_words ≡ words_of (shapes_of program.typed).root
   pub made : program.image.parts ≡ parts_of (logged_program marks (lowered program.typed))
-      program.sizes (length program.typed.lines)
+      (sizes_of program) (length program.typed.lines)
 
 abbrev pub CompiledLaw : Type 0
 CompiledLaw = (text : List ℕ) (list : Tokens) (program : Program)

@@ -8,6 +8,7 @@ use Rattle.std.specs.List.{AllByRecursion}
 use Rattle.std.proofs.lemmas.Bool.{false≢true, eqb-true, eq-eqb}
 use Rattle.std.proofs.lemmas.Option.{slice_get_within, slice_get-get_or}
 use Rattle.std.proofs.lemmas.List.Quantifiers.{position-Some}
+use Rattle.nvm_base.proofs.Lists.{all_at}
 use Rattle.pool_map.specs.declared.shapes.Shapes.{Shapes}
 use Rattle.pool_map.specs.PoolMap.{PoolMap}
 use Rattle.ir.specs.declared.instruction.Instruction.{Instruction}
@@ -18,10 +19,10 @@ use Rattle.ir.specs.Places.{instruction_at, CallsAt}
 use Rattle.ir.specs.WellFormed.{IsWellFormed, IsFunction, IsInstruction, TakesArgs}
 use Rattle.ir.specs.Walk.{Kept, Open, register_has, facts_passed, facts_at_entry, facts_taken}
 use Rattle.ir.specs.Walk.{given_back}
-use Rattle.code_meaning.proofs.Lists.{all_at}
 use Rattle.code_meaning.specs.Code.{Frame, frame, Spot, register_at, put_register}
 use Rattle.code_meaning.specs.Parameters.{assigned_register, KeepsParameters}
-use Rattle.cover_law.proofs.Registers.{at_put_same, at_put_other, at_map}
+use Rattle.code_meaning.proofs.Registers.{at_put_same, at_put_other}
+use Rattle.cover_law.proofs.Registers.{at_map}
 use Rattle.cover_law.proofs.Spots.{Names, Lies, Sure, Stays, sure_stays}
 
 -- the instruction at a place, from the code

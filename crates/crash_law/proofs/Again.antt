@@ -1,6 +1,6 @@
 -- Recovery that is cut any number of times.
-use Rattle.std.proofs.Common.{length, ◌≡◌, ◌⊎◌, ⊎_elim, ℕ, zero, suc, ◌<◌, ◌/◌, List, ℤ, refl, sym}
-use Rattle.std.proofs.Common.{ap, ◌∙◌, subst}
+use Rattle.std.proofs.Common.{length, ◌≡◌, ◌⊎◌, ⊎_elim, ℕ, zero, suc, ◌/◌, List, ℤ, refl, sym}
+use Rattle.std.proofs.Common.{ap, ◌∙◌, ◌≤◌, subst}
 use Rattle.cache_model.specs.Event.{CacheEvent}
 use Rattle.cache_model.specs.Cache.{Words, Cache}
 use Rattle.cache_model.specs.Image.{Images, HasOne}
@@ -11,6 +11,7 @@ use Rattle.crash_law.specs.Law.{IsRun, IsEnd, collapsed, IsLeft, IsCutTo, AreInA
 use Rattle.cache_model.proofs.During.{during_prefix}
 use Rattle.crash_law.proofs.Redo.{cut_redo}
 use Rattle.pool_layout.specs.Good.{Pool}
+use Rattle.pool_layout.specs.declared.places.TheConstants.{ARGUMENTS}
 
 -- the cache after a power cut has one image
 pub collapsed_one : (image : Words) → HasOne (collapsed image) image
@@ -27,7 +28,7 @@ left_image P c es image all left =
     (subst (λ (fs : List CacheEvent). during c fs (Images P)) (sym left.2) all) image left.3
 
 module _ (pool : Pool) (call : Call) (E W : ℕ → Type 0) (h : ℕ →
-    ℤ) (result : Result) (trace : List Entry) (given_fits : length call.args < 23)
+    ℤ) (result : Result) (trace : List Entry) (given_fits : length call.args ≤ ARGUMENTS)
     (is : IsRun pool E W result trace) where
   abbrev Recoverable : Words → Type 0
   Recoverable image = Owed pool call E W h image ⊎ IsEnd pool call (heap_after h trace) result image

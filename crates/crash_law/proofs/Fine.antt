@@ -9,6 +9,7 @@ use Rattle.pool_layout.specs.declared.places.Place.TheVariants.{Argument, Seal, 
 use Rattle.pool_layout.specs.declared.places.Place.TheVariants.{RecordOld, RecordStamp, Heap, Spare}
 use Rattle.pool_layout.specs.declared.places.Place.TheVariants.{RecordSpare}
 use Rattle.pool_layout.specs.declared.places.Layout.{Layout}
+use Rattle.pool_layout.specs.declared.places.TheConstants.{ARGUMENTS, SUPER_WORDS}
 use Rattle.pool_layout.specs.Places.{at, IsPlace, pool_of}
 use Rattle.pool_layout.specs.Image.{IsUpTo}
 use Rattle.pool_layout.specs.Log.{count}
@@ -64,14 +65,14 @@ pub record Setting : Type 1 where
   pub h : ℕ → ℤ
   pub r : ℕ → ℤ
   pub done_fits : call.done ≤ 2 ^ 62
-  pub given_fits : length call.args < 23
+  pub given_fits : length call.args ≤ ARGUMENTS
   pub from : (w : ℕ) → w < heap_words pool.sizes → IsKept E W w → r w ≡ h w
 
 module _ (s : Setting) where
   -- the call is owed, with attempt a, n records and a heap of which this holds
   abbrev pub owing : (a n : ℕ) → (word old : ℕ → ℤ) → (ℕ → ℤ → Type 0) → Fine
   owing a n word old heap = record {
-    super = λ k x. k < 16 → x ≡ s.pool.super k;
+    super = λ k x. k < SUPER_WORDS → x ≡ s.pool.super k;
     last = λ x. Unit {0};
     done = λ x. x ≡ pos s.call.done;
     attempt = λ x. x ≡ pos a;
@@ -139,7 +140,7 @@ module _ (pool : Pool) (d : ℕ) (h : ℕ → ℤ) (fits : d ≤ 2 ^ 62 + 1) whe
   -- d calls done, with this heap; attempt a, of whose stamps the first n are valid
   abbrev pub at_rest : (a n : ℕ) → (last seal : ℤ → Type 0) → Fine
   at_rest a n last seal = record {
-    super = λ k x. k < 16 → x ≡ pool.super k;
+    super = λ k x. k < SUPER_WORDS → x ≡ pool.super k;
     last = last;
     done = λ x. x ≡ pos d;
     attempt = λ x. x ≡ pos a;

@@ -143,12 +143,6 @@ well_made C a n image good bad = record {
       (cases_lt k n);
 }
 
-pub undone_cong : (word old : ℕ → ℤ) (n : ℕ) (h h' : ℕ → ℤ) (w : ℕ) → h w ≡ h' w
-    → undone word old n h w ≡ undone word old n h' w
-undone_cong word old n h h' w e =
-    undone_found word old n h w ∙ ap (λ (x : ℤ). unwrap_or (found word old n w) x) e
-    ∙ sym (undone_found word old n h' w)
-
 or_else_right : (a b : Option ℤ) → HasRecord b → HasRecord (or_else a b)
 or_else_right None b h = h
 or_else_right (Some x) b h = (x, refl)

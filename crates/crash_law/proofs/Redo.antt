@@ -13,6 +13,7 @@ use Rattle.pool_layout.specs.declared.places.Place.TheVariants.{RecordOld, Recor
 use Rattle.pool_layout.specs.declared.places.Place.TheVariants.{RecordSpare}
 use Rattle.pool_layout.specs.declared.limits.Sizes.{Sizes}
 use Rattle.pool_layout.specs.declared.places.Layout.{Layout}
+use Rattle.pool_layout.specs.declared.places.TheConstants.{ARGUMENTS}
 use Rattle.pool_layout.specs.Places.{at, IsPlace, pool_of}
 use Rattle.pool_layout.specs.Log.{count}
 use Rattle.pool_layout.specs.Restored.{restored, undone}
@@ -20,6 +21,7 @@ use Rattle.crash_law.specs.Pools.{Call, Owed}
 use Rattle.crash_law.specs.Due.{Entry, Result, Halted, Trapped, heap_after, due_run, redo_events}
 use Rattle.clobber_log.specs.Reset.{reset_events}
 use Rattle.clobber_log.specs.Restore.{first_events}
+use Rattle.clobber_log.proofs.Backwards.{undone_same}
 use Rattle.crash_law.proofs.Walks.{restore_walk, reset_walk, reset_same, first_same}
 use Rattle.crash_law.specs.Law.{IsRun, IsEnd, CutRedo}
 use Rattle.cache_model.specs.inside.During.{Through}
@@ -27,7 +29,7 @@ use Rattle.cache_model.proofs.During.{through_more, through_during, through_end}
 use Rattle.crash_law.proofs.Held.{cover_more, cover_view}
 use Rattle.pool_layout.proofs.Records.{LogIs, log_is}
 use Rattle.pool_layout.specs.Good.{Pool, Good}
-use Rattle.crash_law.proofs.Records.{found, found_zero, nothing, undone_found, undone_cong}
+use Rattle.crash_law.proofs.Records.{found, found_zero, nothing, undone_found}
 use Rattle.crash_law.proofs.Fine.{Fine, ok, Setting, owing, IsFine, StampIs}
 use Rattle.crash_law.proofs.Run.{Running, Recorded, running}
 use Rattle.crash_law.proofs.Seal.{one_cover}
@@ -63,7 +65,7 @@ end_same pool call (Trapped trap) h h' image same is = is
 
 -- the whole recovery of an image in which a call is owed
 module _ (pool : Pool) (call : Call) (E W : ℕ → Type 0) (h : ℕ →
-    ℤ) (result : Result) (trace : List Entry) (given_fits : length call.args < 23)
+    ℤ) (result : Result) (trace : List Entry) (given_fits : length call.args ≤ ARGUMENTS)
     (is : IsRun pool E W result trace) (one : Words) (owed : Owed pool call E W h one) (n : ℕ)
     (counted : count (pool_of pool.sizes) owed.attempt one ≡ n) where
   abbrev z : Sizes
@@ -228,7 +230,7 @@ module _ (pool : Pool) (call : Call) (E W : ℕ → Type 0) (h : ℕ →
       (Fence ∷ reset_walk C a rest) c (omega arith)
       (cover_more C (ok start) (ok (restoring redo a a_fits n words olds log.room in_heap recorded))
       c to_restoring (one_cover C start c one only start_fine))
-      (λ w lt. undone_cong words olds n (λ u. view c (at C (Heap u))) heap_now w
+      (λ w lt. undone_same words olds n (λ u. view c (at C (Heap u))) heap_now w
       (one_heap c only w lt) ∙ sym (r_undone w))
       (λ j low high. absurd (omega arith))
       (λ d cover new ready. reset_part redo a a_fits n words olds log.room in_heap recorded
@@ -252,7 +254,7 @@ module _ (pool : Pool) (call : Call) (E W : ℕ → Type 0) (h : ℕ →
 
 -- the recovery of a sealed image
 pub cut_redo : (pool : Pool) (call : Call) (E W : ℕ → Type 0) (h : ℕ →
-    ℤ) (result : Result) (trace : List Entry) → length call.args < 23 →
+    ℤ) (result : Result) (trace : List Entry) → length call.args ≤ ARGUMENTS →
     IsRun pool E W result trace → (one : Words) (owed : Owed pool call E W h one) (n : ℕ) →
     count (pool_of pool.sizes) owed.attempt one ≡ n → (0 < n → owed.attempt < 2 ^ 62) →
     (c : Cache) → HasOne c one → CutRedo pool call E W h result trace c one owed.attempt n

@@ -37,7 +37,7 @@ Clean D c = (l : ℕ) → IsReady (c l) ⊎ D l
 abbrev pub Nowhere : ℕ → Type 0
 Nowhere l = ⊥
 
-single_ready_of : (m : Option ℕ) (l : Line) → l.older ≡ [] → (fence_at m l).older ≡ []
+pub single_ready_of : (m : Option ℕ) (l : Line) → l.older ≡ [] → (fence_at m l).older ≡ []
 single_ready_of None l e = e
 single_ready_of (Some k) l e = drop_all k l.older (omega (arith, ap (length {A = Words}) e))
 

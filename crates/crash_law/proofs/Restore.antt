@@ -25,7 +25,9 @@ use Rattle.cache_model.specs.inside.During.{Through}
 use Rattle.crash_law.proofs.Held.{Cover, cover_image, cover_view, cover_store, cover_flush, Held}
 use Rattle.crash_law.proofs.Held.{held_image, held_flush, held_cover, held_store, held_single}
 use Rattle.pool_layout.proofs.Records.{pos_inj}
-use Rattle.crash_law.proofs.Records.{found, found_has, found_record, undone_cong, nothing}
+use Rattle.pool_layout.proofs.Undone.{if_false}
+use Rattle.clobber_log.proofs.Backwards.{undone_same}
+use Rattle.crash_law.proofs.Records.{found, found_has, found_record, nothing}
 use Rattle.crash_law.proofs.Fine.{Fine, ok, Setting, owing, owed_image, IsFine, StampIs}
 use Rattle.crash_law.proofs.Run.{running, Recorded, Running, pick}
 use Rattle.crash_law.proofs.Finish.{line_two}
@@ -33,10 +35,6 @@ use Rattle.crash_law.proofs.Finish.{line_two}
 pub undo_named : (b : Bool) (old x : ℤ) → b ≡ true → cond b old x ≡ old
 undo_named true old x e = refl
 undo_named false old x e = absurd (cc)
-
-pub undo_other : (b : Bool) (old x : ℤ) → (b ≡ true → ⊥) → cond b old x ≡ x
-undo_other true old x ne = absurd (ne refl)
-undo_other false old x ne = refl
 
 module _ (s : Setting) (a : ℕ) (a_fits : a ≤ 2 ^ 62) (n : ℕ) (word old : ℕ → ℤ)
     (room : n ≤ s.pool.sizes.records)
@@ -82,7 +80,7 @@ module _ (s : Setting) (a : ℕ) (a_fits : a ≤ 2 ^ 62) (n : ℕ) (word old : �
       ≡ undo x old' (seen c) v) (sym same) (view_same c (at C (Heap u)) old'
       ∙ sym (undo_named (int_eq x (pos u)) old' (seen c u) ((Decides-int_eq x (pos u)).1 e))))
       (λ (ne : w ≢ u). view_other c (at C (Heap u)) (at C (Heap w)) old' (omega arith)
-      ∙ sym (undo_other (int_eq x (pos w)) old' (seen c w)
+      ∙ sym (if_false (int_eq x (pos w)) old' (seen c w)
       (λ h. ne (pos_inj w u (sym ((Decides-int_eq x (pos w)).0 h) ∙ e)))))
       (cases_eq w u)
 
@@ -112,7 +110,7 @@ module _ (s : Setting) (a : ℕ) (a_fits : a ≤ 2 ^ 62) (n : ℕ) (word old : �
         (
           inside c1 (restoring_owed c1 cover1),
           restore_part Q F inside m rest c2 (omega arith) cover2
-              (λ w lt. undone_cong word old m (seen c2) (undo (word m) (old m) (seen c)) w
+              (λ w lt. undone_same word old m (seen c2) (undo (word m) (old m) (seen c)) w
               (view_flush c1 (line_at m) (at C (Heap w)) ∙ undo_view c (word m) (old m) k w
               word_is) ∙ left w lt)
               (λ j low high. flush_ready c1 (line_at m) (line_at j) (λ ne. ⊎_elim

@@ -14,6 +14,7 @@ use Rattle.pool_layout.specs.declared.places.Place.TheVariants.{Argument, Seal, 
 use Rattle.pool_layout.specs.declared.places.Place.TheVariants.{RecordOld, RecordStamp, Heap, Spare}
 use Rattle.pool_layout.specs.declared.places.Place.TheVariants.{RecordSpare}
 use Rattle.pool_layout.specs.declared.places.Layout.{Layout}
+use Rattle.pool_layout.specs.declared.places.TheConstants.{ARGUMENTS}
 use Rattle.pool_layout.specs.declared.limits.Sizes.{Sizes}
 use Rattle.pool_layout.specs.Places.{at, line_of, IsPlace, pool_of}
 use Rattle.pool_layout.specs.Log.{count}
@@ -101,7 +102,7 @@ module _ (z : Sizes) (ok_now : Place → ℤ → Type 0) (free : (k : ℕ) (x : 
   Given word k c = (j : ℕ) → j < k → view c (at (pool_of z) (Argument j)) ≡ word j
 
   pub words_part : (word : ℕ → ℤ) (n k m : ℕ) (rest : List CacheEvent) (c : Cache) → k + n ≡ m
-      → m ≤ 23 → Cover (pool_of z) ok_now c → Given word k c
+      → m ≤ ARGUMENTS + 1 → Cover (pool_of z) ok_now c → Given word k c
       → ((d : Cache) → Cover (pool_of z) ok_now d → Given word m d → Through Q F d rest)
       → Through Q F c (store_words (pool_of z) word k n rest)
   words_part word zero k m rest c sum le cover given next = let e : k ≡ m = omega arith in

@@ -8,6 +8,7 @@ use Rattle.cache_model.specs.Image.{Images, HasOne}
 use Rattle.pool_layout.specs.declared.places.Place.TheVariants.{Last}
 use Rattle.pool_layout.specs.declared.limits.Sizes.{Sizes}
 use Rattle.pool_layout.specs.declared.places.Layout.{Layout}
+use Rattle.pool_layout.specs.declared.places.TheConstants.{ARGUMENTS}
 use Rattle.pool_layout.specs.Places.{at, pool_of}
 use Rattle.pool_layout.specs.Log.{count}
 use Rattle.pool_layout.specs.Good.{Pool, Good}
@@ -108,7 +109,7 @@ module _ (s : Setting) (a : ℕ) (a_fits : a ≤ 2 ^ 62) (last : ℤ) where
 -- the whole call
 module _ (pool : Pool) (call : Call) (E W : ℕ → Type 0) (h : ℕ →
     ℤ) (result : Result) (trace : List Entry) (done_fits : call.done ≤ 2 ^ 62)
-    (given_fits : length call.args < 23) (is : IsRun pool E W result trace) where
+    (given_fits : length call.args ≤ ARGUMENTS) (is : IsRun pool E W result trace) where
   setting : Setting
   setting = record {
     pool = pool;

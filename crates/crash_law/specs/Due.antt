@@ -1,8 +1,7 @@
 -- The lists of events that the calls play. Seal, records, end, restoring and next attempt are the
 -- logs' own lists, as the calls promise them. The stores and flushes of a run are listed here, by
 -- its trace.
-use Rattle.std.specs.Prelude.{ℕ, zero, suc, ◌<◌, ◌≡◌, ◌⊎◌, ◌==◌, ◌||◌, Bool, false, cond, List, []}
-use Rattle.std.specs.Prelude.{◌∷◌, ◌++◌, ℤ, pos}
+use Rattle.std.specs.Prelude.{ℕ, zero, suc, ◌<◌, ◌≡◌, ◌⊎◌, cond, List, [], ◌∷◌, ◌++◌, ℤ, pos}
 use Rattle.cache_model.specs.Event.{CacheEvent, Store, Flush, Fence}
 use Rattle.cache_model.specs.Cache.{Words, put}
 use Rattle.pool_layout.specs.declared.limits.Sizes.{Sizes}
@@ -15,6 +14,7 @@ use Rattle.clobber_log.specs.Restore.{first_events}
 use Rattle.args_log.specs.Seal.{seal_events}
 use Rattle.args_log.specs.Retire.{retire_events, mark_events}
 use Rattle.crash_law.specs.Pools.{Call}
+pub use Rattle.nvm_base.specs.Listed.{is_listed}
 
 -- a store of a run: its heap word and value, with or without a LOG
 pub data Entry : Type 0 where
@@ -47,10 +47,6 @@ IsTrace C H E W n stored (Logged w x ∷ trace) =
 abbrev pub word_of_entry : Entry → ℕ
 word_of_entry (Plain w x) = w
 word_of_entry (Logged w x) = w
-
-abbrev pub is_listed : ℕ → List ℕ → Bool
-is_listed l [] = false
-is_listed l (k ∷ ks) = (l == k) || is_listed l ks
 
 -- the lines that the trace stores to, each once, in the order of first stores
 abbrev pub lines_of : Sizes → List ℕ → List Entry → List ℕ

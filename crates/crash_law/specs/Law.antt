@@ -8,6 +8,7 @@ use Rattle.cache_model.specs.Play.{play}
 use Rattle.cache_model.specs.Image.{IsImage, Images, HasOne}
 use Rattle.cache_model.specs.During.{during}
 use Rattle.pool_layout.specs.declared.limits.Sizes.{Sizes}
+use Rattle.pool_layout.specs.declared.places.TheConstants.{ARGUMENTS}
 use Rattle.pool_layout.specs.Places.{pool_of}
 use Rattle.pool_layout.specs.Log.{count}
 use Rattle.pool_layout.specs.Good.{Lost, Pool, Good}
@@ -72,7 +73,7 @@ abbrev pub CallLaw : Type 0
 CallLaw =
     (pool : Pool) (call : Call) (E W : ℕ → Bool) (h : ℕ → ℤ) (result : Result) (trace : List Entry)
     (c : Cache) (one : Words) →
-    length call.args < 23 → call.done < 2 ^ 62 →
+    length call.args ≤ ARGUMENTS → call.done < 2 ^ 62 →
     IsRun pool (λ w. IsTrue (E w)) (λ w. IsTrue (W w)) result trace →
     HasOne c one → (good : Good pool call.done h one) → good.attempt < 2 ^ 62
     → count (pool_of pool.sizes) good.attempt one ≡ 0 →
@@ -84,7 +85,7 @@ abbrev pub RedoLaw : Type 0
 RedoLaw =
     (pool : Pool) (call : Call) (E W : ℕ → Bool) (h : ℕ → ℤ) (result : Result) (trace : List Entry)
     (c : Cache) (one : Words) →
-    length call.args < 23 →
+    length call.args ≤ ARGUMENTS →
     IsRun pool (λ w. IsTrue (E w)) (λ w. IsTrue (W w)) result trace →
     HasOne c one → (owed : Owed pool call (λ w. IsTrue (E w)) (λ w. IsTrue (W w)) h one) → (n : ℕ)
     → count (pool_of pool.sizes) owed.attempt one ≡ n → (0 < n → owed.attempt < 2 ^ 62) →
@@ -141,7 +142,7 @@ abbrev pub AgainLaw : Type 0
 AgainLaw =
     (pool : Pool) (call : Call) (E W : ℕ → Bool) (h : ℕ → ℤ) (result : Result) (trace : List Entry)
     (k : ℕ) (one other : Words) →
-    length call.args < 23 → IsRun pool (λ w. IsTrue (E w)) (λ w. IsTrue (W w)) result trace →
+    length call.args ≤ ARGUMENTS → IsRun pool (λ w. IsTrue (E w)) (λ w. IsTrue (W w)) result trace →
     Owed pool call (λ w. IsTrue (E w)) (λ w. IsTrue (W w)) h one →
     AreInARow
     (IsCutTo pool call (λ w. IsTrue (E w)) (λ w. IsTrue (W w)) h result trace) k one other →

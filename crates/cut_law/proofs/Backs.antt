@@ -15,12 +15,13 @@ use Rattle.pool_layout.specs.Sizes.{heap_words}
 use Rattle.pool_layout.specs.Places.{at, line_of, pool_of}
 use Rattle.pool_layout.specs.Restored.{undo, undone}
 use Rattle.pool_layout.proofs.Records.{pos_inj}
+use Rattle.pool_layout.proofs.Undone.{if_false}
 use Rattle.clobber_log.specs.Logs.{count_in}
 use Rattle.clobber_log.specs.Restore.{as_heap_word, back_at, back_events, word_in_record}
 use Rattle.clobber_log.specs.Restore.{old_in_record, fence_after, first_events, restore_events}
+use Rattle.clobber_log.proofs.Backwards.{undone_same}
 use Rattle.crash_law.proofs.Walks.{AreInHeap, found_word}
-use Rattle.crash_law.proofs.Records.{undone_cong}
-use Rattle.crash_law.proofs.Restore.{undo_named, undo_other}
+use Rattle.crash_law.proofs.Restore.{undo_named}
 use Rattle.cut_law.proofs.Misses.{Misses, misses_append}
 
 misses_at : (z : Sizes) (p : ℕ) (o : Option ℕ) (x : ℤ) → p < 8 * (6 + z.records)
@@ -63,7 +64,7 @@ module _ (z : Sizes) (word old : ℕ → ℤ) where
       ((Decides-int_eq x (pos u)).1 e))))
       (λ (ne : w ≢ u). view_other c (at (pool_of z) (Heap u)) (at (pool_of z) (Heap w)) old'
       (omega arith)
-      ∙ sym (undo_other (int_eq x (pos w)) old' (view c (at (pool_of z) (Heap w)))
+      ∙ sym (if_false (int_eq x (pos w)) old' (view c (at (pool_of z) (Heap w)))
       (λ h. ne (pos_inj w u (sym ((Decides-int_eq x (pos w)).0 h) ∙ e)))))
       (cases_eq w u)
 
@@ -88,7 +89,7 @@ module _ (z : Sizes) (word old : ℕ → ℤ) where
       ap (λ (d : Cache). view d (at (pool_of z) (Heap w)))
       (play_append c first (back_events z word old n))
       ∙ heap_back n (play c first) w (λ j less. inside j (omega arith))
-      ∙ undone_cong word old n (λ v. view (play c first) (at (pool_of z) (Heap v)))
+      ∙ undone_same word old n (λ v. view (play c first) (at (pool_of z) (Heap v)))
       (undo (word n) (old n) (λ v. view c (at (pool_of z) (Heap v)))) w
       (heap_at n c w u.0 u.1 u.2)
 

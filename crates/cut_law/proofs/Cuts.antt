@@ -6,7 +6,7 @@ use Rattle.cache_model.specs.Cache.{Words, Cache, view}
 use Rattle.cache_model.specs.Play.{play}
 use Rattle.cache_model.specs.Image.{Images, HasOne}
 use Rattle.cache_model.specs.During.{during}
-use Rattle.pool_layout.specs.declared.places.TheConstants.{DONE, ATTEMPT}
+use Rattle.pool_layout.specs.declared.places.TheConstants.{DONE, ATTEMPT, ARGUMENTS}
 use Rattle.pool_layout.specs.declared.limits.Sizes.{Sizes}
 use Rattle.pool_layout.specs.declared.places.Place.TheVariants.{Last}
 use Rattle.pool_layout.specs.Places.{at, pool_of}
@@ -36,7 +36,8 @@ use Rattle.cut_law.proofs.Dues.{attempt_small, count_same, call_is}
 
 module _ (image : Image) (super : Words) (tx : ℕ) (args : List ℤ) (c : Cache) (one : Words) (d : ℕ)
     (end : End) (es : List Effect)
-    (tx_fits : tx < 2 ^ 63) (few : length args ≤ 22) (d_fits : d < 2 ^ 62) (only : HasOne c one)
+    (tx_fits : tx < 2 ^ 63) (few : length args ≤ ARGUMENTS) (d_fits : d < 2 ^ 62)
+    (only : HasOne c one)
     (good : Good (pool_with image super) d (heap_in image.parts.sizes c) one)
     (a_fits : good.attempt < 2 ^ 62)
     (empty : count (pool_of image.parts.sizes) good.attempt one ≡ 0)

@@ -10,6 +10,7 @@ use Rattle.cache_model.specs.Event.{CacheEvent, Store, Flush, Fence}
 use Rattle.cache_model.specs.Cache.{Words, Cache, view}
 use Rattle.cache_model.specs.Play.{play}
 use Rattle.pool_layout.specs.declared.places.TheConstants.{LAST, DONE, ATTEMPT, FUNCTION, SEAL}
+use Rattle.pool_layout.specs.declared.places.TheConstants.{ARGUMENTS}
 use Rattle.pool_layout.specs.declared.limits.Sizes.{Sizes}
 use Rattle.pool_layout.specs.declared.places.Place.TheVariants.{RecordStamp, Heap}
 use Rattle.pool_layout.specs.Places.{at, pool_of}
@@ -25,7 +26,7 @@ use Rattle.pm_machine.specs.declared.effect.End.TheVariants.{Halted, Trapped}
 use Rattle.pm_machine.specs.declared.image.Image.{Image}
 use Rattle.pm_machine.specs.Effects.{events_all, records_end}
 use Rattle.pm_machine.specs.Machine.{State, start, Finished, mrun, run}
-use Rattle.pm_machine.specs.Runs.{heap_in, Due, due, end_of, owed}
+use Rattle.pm_machine.specs.Runs.{heap_in, Due, due, end_of, owed, due_on}
 use Rattle.pm_machine.specs.Inputs.{AreAlike}
 use Rattle.pm_machine.proofs.Agree.{alike_due}
 use Rattle.crash_law.specs.Due as crash
@@ -79,7 +80,7 @@ pub owes_same : (image : Image) (tx : ℕ) (args : List ℤ) (c : Cache) (a : �
     → heap_in image.parts.sizes c ≡ r →
     AreAlike (heap_words image.parts.sizes) es h r
     → run image image.parts.most 0 (start image tx args) h ≡ Finished end es →
-    plays.due_on image (start image tx args) c
+    due_on image (start image tx args) c
     ≡ record {
       events = events_all image.parts.sizes a 0 r es;
       fate = Some end;
@@ -119,7 +120,8 @@ run_same image tx args c d a h r end es d_fits a_fits done attempt empty heap al
 
 module _ (image : Image) (tx : ℕ) (args : List ℤ) (c : Cache) (d a : ℕ) (end : End)
     (es : List Effect)
-    (tx_fits : tx < 2 ^ 63) (few : length args ≤ 22) (d_fits : d < 2 ^ 62) (a_fits : a < 2 ^ 62)
+    (tx_fits : tx < 2 ^ 63) (few : length args ≤ ARGUMENTS) (d_fits : d < 2 ^ 62)
+    (a_fits : a < 2 ^ 62)
     (done : view c DONE ≡ pos d) (attempt : view c ATTEMPT ≡ pos a)
     (empty : count_in image.parts.sizes (view c) ≡ 0)
     (ran : mrun image image.parts.most (heap_in image.parts.sizes c) tx args ≡ Finished end es)
@@ -140,8 +142,9 @@ module _ (image : Image) (tx : ℕ) (args : List ℤ) (c : Cache) (d a : ℕ) (e
   cache_after = play c sealing
 
   missed : (p : ℕ) → (p < FUNCTION) ⊎ (SEAL < p) → Misses p sealing
-  missed p out = misses_seal (cast_signed w64 tx) (take 22 args) (number_after (view c DONE)) p
-      (subst (λ (xs : List ℤ). length xs ≤ 22) (sym (take_all 22 args few)) few) out
+  missed p out = misses_seal (cast_signed w64 tx) (take ARGUMENTS args)
+      (number_after (view c DONE)) p
+      (subst (λ (xs : List ℤ). length xs ≤ ARGUMENTS) (sym (take_all ARGUMENTS args few)) few) out
 
   seen : (p : ℕ) → (p < FUNCTION) ⊎ (SEAL < p) → view cache_after p ≡ view c p
   seen p out = view_missed sealing c p (missed p out)
@@ -168,7 +171,7 @@ module _ (image : Image) (tx : ℕ) (args : List ℤ) (c : Cache) (d a : ℕ) (e
       (seen DONE (inl (omega arith)) ∙ done) (seen ATTEMPT (inl (omega arith)) ∙ attempt)
       empty_after same_heap (λ u less kept. refl) ran sound
 
-  pub owes_after : plays.due_on image s cache_after
+  pub owes_after : due_on image s cache_after
       ≡ record {
         events = events_all z a 0 h es;
         fate = Some end;
@@ -184,9 +187,9 @@ module _ (image : Image) (tx : ℕ) (args : List ℤ) (c : Cache) (d a : ℕ) (e
   call_is =
       let rest : List CacheEvent = crash.due_run z a (suc d) h (result_of end) (trace_in es) in
       ap (λ (r : List CacheEvent). sealing ++ r) run_is
-      ∙ ap (λ (f : ℤ). seal_events f (take 22 args) (number_after (view c DONE)) ++ rest)
+      ∙ ap (λ (f : ℤ). seal_events f (take ARGUMENTS args) (number_after (view c DONE)) ++ rest)
       (to_z_pos w64 tx tx_fits)
       ∙ ap (λ (xs : List ℤ). seal_events (pos tx) xs (number_after (view c DONE)) ++ rest)
-      (take_all 22 args few)
+      (take_all ARGUMENTS args few)
       ∙ ap (λ (k : ℤ). seal_events (pos tx) args k ++ rest)
       (next_is (view c DONE) d done (omega arith))

@@ -1,5 +1,5 @@
 -- The effect of a call and of a recovery on the device, by their answers.
-use Rattle.std.proofs.Common.{◌≡◌, ◌⊎◌, ⊎_elim, ℕ, suc, ◌+◌, ◌^◌, ◌<◌, ◌≤◌, List, [], length, Some}
+use Rattle.std.proofs.Common.{◌≡◌, ◌⊎◌, ⊎_elim, ℕ, suc, ◌+◌, ◌^◌, ◌<◌, ◌≤◌, List, length, Some}
 use Rattle.std.proofs.Common.{ℤ, pos, sym, ap, ◌∙◌, subst, arith}
 use Rattle.cache_model.specs.Event.{CacheEvent}
 use Rattle.cache_model.specs.Cache.{Words, view}
@@ -13,7 +13,7 @@ use Rattle.pmem.specs.declared.answer.Refusal.TheVariants.{Off, Failed, NoMemory
 use Rattle.pmem.specs.declared.answer.Phase.TheVariants as phase
 use Rattle.pmem.proofs.Refused.{all_cache}
 use Rattle.pmem.proofs.Parts.{part_during, all_during, during_start}
-use Rattle.pool_layout.specs.declared.places.TheConstants.{DONE}
+use Rattle.pool_layout.specs.declared.places.TheConstants.{DONE, ARGUMENTS}
 use Rattle.pool_layout.specs.declared.places.Place.TheVariants.{Last}
 use Rattle.pool_layout.specs.Places.{at, pool_of}
 use Rattle.pool_layout.specs.Log.{count}
@@ -45,7 +45,7 @@ use Rattle.cut_law.proofs.Redoes.{redo_owes, cut_redo}
 
 module _ (image : Image) (super : Words) (tx : ℕ) (args : List ℤ) (d b : Device) (one : Words)
     (n : ℕ) (end : End) (es : List Effect)
-    (tx_fits : tx < 2 ^ 63) (few : length args ≤ 22) (n_fits : n < 2 ^ 62)
+    (tx_fits : tx < 2 ^ 63) (few : length args ≤ ARGUMENTS) (n_fits : n < 2 ^ 62)
     (only : HasOne d.cache one)
     (good : Good (pool_with image super) n (heap_in image.parts.sizes d.cache) one)
     (a_fits : good.attempt < 2 ^ 62)
@@ -128,7 +128,7 @@ module _ (image : Image) (super : Words) (tx : ℕ) (args : List ℤ) (d b : Dev
 
 module _ (image : Image) (super : Words) (tx : ℕ) (args : List ℤ) (d b : Device) (one : Words)
     (n : ℕ) (g : Words) (end : End) (es : List Effect)
-    (few : length args ≤ 22) (only : HasOne d.cache one)
+    (few : length args ≤ ARGUMENTS) (only : HasOne d.cache one)
     (owed : Owed (pool_with image super) (call_of n tx args) (E es) (W es) g one)
     (ran : mrun image image.parts.most g tx args ≡ Finished end es) (sound : IsSoundRun end es)
     (m : ℕ) (counted : count (pool_of image.parts.sizes) owed.attempt one ≡ m) (room : 0 < m

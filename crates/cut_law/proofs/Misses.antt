@@ -6,7 +6,7 @@ use Rattle.cache_model.specs.Cache.{Words, Cache, view}
 use Rattle.cache_model.specs.Play.{apply, play}
 use Rattle.cache_model.specs.Image.{IsImage, HasOne}
 use Rattle.cache_model.proofs.Views.{view_other, view_flush, view_fence}
-use Rattle.pool_layout.specs.declared.places.TheConstants.{FUNCTION, SEAL}
+use Rattle.pool_layout.specs.declared.places.TheConstants.{FUNCTION, SEAL, ARGUMENTS}
 use Rattle.pool_layout.specs.declared.limits.Sizes.{Sizes}
 use Rattle.args_log.specs.Seal.{stores_from, flushes_from, payload_lines, payload_events}
 use Rattle.args_log.specs.Seal.{unsealed_events, sealing_events, seal_events}
@@ -49,7 +49,8 @@ misses_flushes l zero p = tt
 misses_flushes l (suc n) p = misses_flushes (suc l) n p
 
 -- a seal stores only to the words from the function to the seal
-pub misses_seal : (f : ℤ) (args : List ℤ) (k : ℤ) (p : ℕ) → length args ≤ 22 → (p < 24) ⊎ (48 ≤ p)
+pub misses_seal : (f : ℤ) (args : List ℤ) (k : ℤ) (p : ℕ) → length args ≤ ARGUMENTS
+    → (p < 24) ⊎ (48 ≤ p)
     → Misses p (seal_events f args k)
 unfolding seal_events unsealed_events payload_events sealing_events
 misses_seal f args k p few out =

@@ -14,10 +14,11 @@ use Rattle.run_law.specs.Sound.{IsSoundRun}
 use Rattle.recovery.specs.Due.{due_redo}
 use Rattle.cut_law.specs.Law.{call_of, pool_with, IsRecoveredTo}
 use Rattle.cut_law.proofs.Redoes.{cut_redo}
+use Rattle.pool_layout.specs.declared.places.TheConstants.{ARGUMENTS}
 
 module _ (image : Image) (super : Words) (tx : ℕ) (args : List ℤ) (d : ℕ) (h : Words) (end : End)
     (es : List Effect)
-    (few : length args ≤ 22) (ran : mrun image image.parts.most h tx args ≡ Finished end es)
+    (few : length args ≤ ARGUMENTS) (ran : mrun image image.parts.most h tx args ≡ Finished end es)
     (sound : IsSoundRun end es) where
   abbrev Recoverable : Words → Type 0
   Recoverable other = Owed (pool_with image super) (call_of d tx args) (E es) (W es) h other

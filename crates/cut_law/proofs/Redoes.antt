@@ -8,7 +8,7 @@ use Rattle.cache_model.specs.Image.{Images, HasOne}
 use Rattle.cache_model.specs.During.{during}
 use Rattle.cache_model.proofs.Views.{view_same, view_other, view_flush, view_fence}
 use Rattle.cache_model.proofs.During.{play_append}
-use Rattle.pool_layout.specs.declared.places.TheConstants.{DONE, ATTEMPT, SEAL}
+use Rattle.pool_layout.specs.declared.places.TheConstants.{DONE, ATTEMPT, SEAL, ARGUMENTS}
 use Rattle.pool_layout.specs.declared.limits.Sizes.{Sizes}
 use Rattle.pool_layout.specs.declared.places.Layout.{Layout}
 use Rattle.pool_layout.specs.declared.places.Place.TheVariants.{RecordWord, RecordOld, RecordStamp}
@@ -17,7 +17,7 @@ use Rattle.pool_layout.specs.Sizes.{heap_words}
 use Rattle.pool_layout.specs.Places.{at, pool_of}
 use Rattle.pool_layout.specs.Log.{count}
 use Rattle.pool_layout.specs.Restored.{undone, restored}
-use Rattle.pool_layout.proofs.Records.{LogIs, log_is, count_is, pos_inj}
+use Rattle.pool_layout.proofs.Records.{count_is, pos_inj}
 use Rattle.clobber_log.specs.Logs.{attempt_of, attempt_in, count_in}
 use Rattle.clobber_log.specs.Reset.{reset_events}
 use Rattle.clobber_log.specs.Restore.{restore_events}
@@ -27,7 +27,7 @@ use Rattle.pm_machine.specs.declared.image.Image.{Image}
 use Rattle.pm_machine.specs.Effects.{heap_end, records_end}
 use Rattle.pm_machine.specs.Inputs.{AreAlike}
 use Rattle.pm_machine.specs.Machine.{Finished, mrun, start}
-use Rattle.pm_machine.specs.Runs.{heap_in, Due}
+use Rattle.pm_machine.specs.Runs.{heap_in, Due, due_on}
 use Rattle.crash_law.specs.Pools.{Owed}
 use Rattle.crash_law.specs.Due as crash
 use Rattle.crash_law.specs.Law.{IsEnd}
@@ -45,7 +45,7 @@ use Rattle.cut_law.proofs.Backs.{misses_restore, restore_same, heap_restored}
 
 module _ (image : Image) (super : Words) (tx : ℕ) (args : List ℤ) (c : Cache) (one : Words) (d : ℕ)
     (h : Words) (end : End) (es : List Effect)
-    (few : length args ≤ 22) (only : HasOne c one)
+    (few : length args ≤ ARGUMENTS) (only : HasOne c one)
     (owed : Owed (pool_with image super) (call_of d tx args) (E es) (W es) h one)
     (ran : mrun image image.parts.most h tx args ≡ Finished end es)
     (sound : IsSoundRun end es) where
@@ -104,9 +104,9 @@ module _ (image : Image) (super : Words) (tx : ℕ) (args : List ℤ) (c : Cache
 
   -- what is due of the run of the recovery; no record is valid when it begins
   pub record Owes (b : Cache) : Type 0 where
-    pub fate : (plays.due_on image (start image tx args) b).fate ≡ Some end
-    pub steps : (plays.due_on image (start image tx args) b).steps ≡ suc (length es)
-    pub records : (plays.due_on image (start image tx args) b).records ≡ records_end 0 es
+    pub fate : (due_on image (start image tx args) b).fate ≡ Some end
+    pub steps : (due_on image (start image tx args) b).steps ≡ suc (length es)
+    pub records : (due_on image (start image tx args) b).records ≡ records_end 0 es
     pub none : count_in z (view b) ≡ 0
 
   owing : (b : Cache) (k : ℕ) → k ≤ 2 ^ 62 → view b ATTEMPT ≡ pos k → count_in z (view b) ≡ 0
@@ -128,9 +128,6 @@ module _ (image : Image) (super : Words) (tx : ℕ) (args : List ℤ) (c : Cache
 
   -- some records are valid
   module _ (m : ℕ) (counted : count l a one ≡ suc m) (lower : a < 2 ^ 62) where
-    log : LogIs l a (suc m) one
-    log = log_is l a (suc m) one owed.log counted
-
     in_heap : (j : ℕ) → j < suc m → (u : ℕ) × (words j ≡ pos u) × (u < heap_words z)
     in_heap j less = owed.in_heap j (let e = counted in omega arith)
 

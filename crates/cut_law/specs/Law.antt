@@ -4,7 +4,7 @@ use Rattle.std.specs.Prelude.{ℕ, ◌^◌, ◌<◌, ◌≤◌, ◌≡◌, ◌�
 use Rattle.cache_model.specs.Cache.{Words, Cache, view}
 use Rattle.cache_model.specs.Play.{play}
 use Rattle.cache_model.specs.Image.{HasOne}
-use Rattle.pool_layout.specs.declared.places.TheConstants.{DONE, ATTEMPT}
+use Rattle.pool_layout.specs.declared.places.TheConstants.{DONE, ATTEMPT, ARGUMENTS}
 use Rattle.pool_layout.specs.Places.{pool_of}
 use Rattle.pool_layout.specs.Log.{count}
 use Rattle.pool_layout.specs.Good.{Pool, Good}
@@ -37,7 +37,7 @@ pool_with image super = record { sizes = image.parts.sizes; super = super }
 pub record RunsSound (image : Image) (tx : ℕ) (args : List ℤ) (h : Words)
     (end : End) (es : List Effect)
     : Type 0 where
-  pub few : length args ≤ 22
+  pub few : length args ≤ ARGUMENTS
   pub ran : mrun image image.parts.most h tx args ≡ Finished end es
   pub sound : IsSoundRun end es
 
@@ -94,7 +94,7 @@ RedoImages image super tx args d h end es other =
 abbrev pub DueCallLaw : Type 0
 DueCallLaw =
     (image : Image) (tx : ℕ) (args : List ℤ) (c : Cache) (d a : ℕ) (end : End) (es : List Effect) →
-    tx < 2 ^ 63 → length args ≤ 22 → d < 2 ^ 62 → a < 2 ^ 62 →
+    tx < 2 ^ 63 → length args ≤ ARGUMENTS → d < 2 ^ 62 → a < 2 ^ 62 →
     view c DONE ≡ pos d → view c ATTEMPT ≡ pos a → count_in image.parts.sizes (view c) ≡ 0 →
     mrun image image.parts.most (heap_in image.parts.sizes c) tx args ≡ Finished end es
     → IsSoundRun end es →

@@ -20,7 +20,7 @@ use Rattle.pool_layout.specs.Sizes.{slot_word}
 use Rattle.pm_machine.specs.declared.image.Image.{Image}
 use Rattle.pm_machine.specs.Find.{least, looks}
 use Rattle.pm_machine.specs.declared.op.Op.{Op}
-use Rattle.pm_machine.specs.Machine.{tally, fetch_in}
+use Rattle.pm_machine.specs.Machine.{tally}
 use Rattle.pm_machine.specs.Machine as machine
 use Rattle.pm_alloc.specs.declared.local.Reg.{Reg}
 use Rattle.pm_alloc.specs.declared.local.Reg.TheVariants.{Own, Temp}
@@ -37,7 +37,7 @@ use Rattle.emit_law.specs.Placed.{heard, IsReg, IsFine, IsPlaced, FrameHolds, Se
 use Rattle.emit_law.specs.Placed.{IsShared, Follows}
 
 -- a sum that fits
-sum_is : (a b : ℕ) → a + b < 2 ^ 32 → sum a b ≡ a + b
+pub sum_is : (a b : ℕ) → a + b < 2 ^ 32 → sum a b ≡ a + b
 sum_is a b room = min-eq_left (omega arith)
 
 pub fine_at : (n base : ℕ) (piece : List Local) (k : ℕ) (i : Local)

@@ -248,7 +248,7 @@ forward_append k (x ∷ xs) ys h rest =
     forward_more k Tick ls h rest = rest
     forward_more k (Trap t) ls h rest = rest
 
--- the piece leads forward, and has at most so many instructions
+-- the piece leads forward, and has at most n instructions
 abbrev IsShort : ℕ → List Local → Type 0
 IsShort n piece = AreForward 0 piece × (length piece ≤ n)
 

@@ -5,7 +5,7 @@ use Rattle.std.proofs.Common.{get_or, Option, Some, None, ℤ, pos, ltb, refl, s
 use Rattle.std.proofs.Common.{arith}
 use Rattle.std.specs.List.{AllByRecursion}
 use Rattle.std.specs.Ordering.{int_eq}
-use Rattle.std.proofs.lemmas.Option.{slice_get-get_or}
+use Rattle.std.proofs.lemmas.Option.{slice_get-get_or, same_Some}
 use Rattle.indexmap.specs.IndexSet.{insert_key}
 use Rattle.cache_model.specs.Cache.{Words}
 use Rattle.pool_map.specs.declared.trap.TrapKind.{TrapKind}
@@ -37,9 +37,6 @@ bottom_push (b ∷ bs) x f g e = refl
 none_some : (o : Option Frame) (x : Frame) → o ≡ None → o ≡ Some x → ⊥
 none_some o x e f = absurd (cc)
 
-some_same : (b c : Frame) → Some b ≡ Some c → b ≡ c
-some_same b c e = cc
-
 last_there : (b : Frame) (bs : List Frame) → slice_get (b ∷ bs) (length (b ∷ bs) - 1) ≡ None → ⊥
 last_there b bs e = none_some (slice_get (b ∷ bs) (length (b ∷ bs) - 1))
     (get_or (b ∷ bs) (length (b ∷ bs) - 1) b) e
@@ -50,7 +47,7 @@ bottom_pop : (bs : List Frame) (c : Frame) (f : ℕ) → slice_get bs (length bs
 bottom_pop [] c f e = absurd (cc)
 bottom_pop (b ∷ []) c f e =
     let n : length (b ∷ []) - 1 ≡ 0 = omega arith in
-    let same : b ≡ c = some_same b c (sym (ap (λ (m : ℕ). slice_get (b ∷ []) m) n) ∙ e) in
+    let same : b ≡ c = same_Some b c (sym (ap (λ (m : ℕ). slice_get (b ∷ []) m) n) ∙ e) in
     ap (λ (m : ℕ). bottom (take m (b ∷ [])) c.function) n ∙ ap (λ (x : Frame). x.function)
     (sym same)
 bottom_pop (b ∷ d ∷ bs) c f e =

@@ -7,7 +7,7 @@ use Rattle.std.specs.Prelude.{if◌then◌else◌, nat_lt, nat_le, slice_index_o
 use Rattle.std.specs.List.{list_all, AllByRecursion}
 use Rattle.std.proofs.lemmas.Bool.{leb-true, ltb-true, and_parts}
 use Rattle.std.proofs.lemmas.List.{length-map}
-use Rattle.std.proofs.lemmas.Option.{slice_get_past}
+use Rattle.std.proofs.lemmas.Option.{slice_get_past, none-some}
 use Rattle.pool_map.specs.declared.shapes.Shapes.{Shapes}
 use Rattle.pool_layout.specs.declared.limits.Sizes.{Sizes}
 use Rattle.ir.specs.declared.instruction.Instruction.{Instruction}
@@ -28,6 +28,7 @@ use Rattle.codegen.specs.Emit.{emitted_code, has_room, trap_function, with_code,
 use Rattle.codegen.proofs.Fine.{reg_fine, fine, local_fine}
 use Rattle.emit_law.specs.Tidy.{IsPlain, IsPlainAt, MayPrecede, LeadsPlain, IsTidyCode}
 use Rattle.emit_law.specs.TidyCode.{EmitsTidy}
+use Rattle.emit_law.proofs.Placed.{sum_is}
 
 -- each instruction may come before the next
 abbrev AreTidy : List Op → Type 0
@@ -139,9 +140,6 @@ plain_at pre ops p t long h =
 
 plain_past : (ops : List Op) (n : ℕ) → length ops ≤ n → IsPlainAt (slice_get ops n)
 plain_past ops n past = subst IsPlainAt (sym (slice_get_past ops n past)) tt
-
-room_is : (a b : ℕ) → a + b < 2 ^ 32 → sum a b ≡ a + b
-room_is a b room = omega arith
 
 -- the jumps of a piece
 piece_leads : (all : List Op) (r p n : ℕ) → ((t : ℕ) → t ≤ n → IsPlainAt (slice_get all (sum p t)))
@@ -289,7 +287,7 @@ module _ (s : Sizes) (h : Shapes) (tx : Bool) (r : ℕ) (table : List ℕ) where
     local_leads p piece pre ops at few is well ok =
         piece_leads all r p (length piece)
         (λ t within.
-        subst (λ (n : ℕ). IsPlainAt (slice_get all n)) (sym (room_is p t (omega arith)))
+        subst (λ (n : ℕ). IsPlainAt (slice_get all n)) (sym (sum_is p t (omega arith)))
         (subst (λ (xs : List Op). IsPlainAt (slice_get xs (p + t))) (sym is)
         (plain_at pre (map (placed r p) piece ++ ops) p t
         at (plain_within r p piece t ops within well.first)))) piece ok
@@ -399,13 +397,9 @@ module _ (s : Sizes) (h : Shapes) (u : IrFunction) where
 none_tidy : IsTidyCode None
 none_tidy = record {
   first = tt;
-  next = λ p o e. absurd (nothing o e);
-  leads = λ p o e.
-      absurd (nothing o e);
+  next = λ p o e. absurd (none-some o e);
+  leads = λ p o e. absurd (none-some o e);
 }
-  where
-    nothing : (o : Op) → None ≡ Some o → ⊥
-    nothing o e = absurd (cc)
 
 all_tidy : (s : Sizes) (h : Shapes) (us : List IrFunction) (f : ℕ)
     → IsTidyCode (slice_get (map (function_of s h) us) f)

@@ -19,7 +19,6 @@ use Rattle.ir.specs.declared.instruction.Instruction.TheVariants.{Return, Tick, 
 use Rattle.ir.specs.declared.function.IrFunction.{IrFunction}
 use Rattle.ir.specs.declared.function.Ir.{Ir}
 use Rattle.ir.specs.Places.{instruction_at}
-use Rattle.ir.specs.WellFormed.{IsWellFormed}
 use Rattle.clobber_pass.specs.declared.marking.MarkTable.{MarkTable}
 use Rattle.instrument.specs.Insert.{logs, places_from, led, flagged, flags_from}
 use Rattle.ir.specs.Moving.{is_log, place_in}
@@ -34,7 +33,8 @@ use Rattle.code_meaning.specs.Code.{free_in, new_in, load_spot, store_spot, IsOv
 use Rattle.code_meaning.specs.Deeds.{Deed, Writes, Heads, if_ok, zeros, site, deeds_new, deeds_at}
 use Rattle.code_meaning.specs.Deeds.{deeds_of, deeds_on, deeds}
 use Rattle.code_meaning.proofs.More.{end, done}
-use Rattle.insert_law.specs.Moved.{code_of_function, begins, stands, moved_site, moved_deed, moved_deeds}
+use Rattle.insert_law.specs.Moved.{code_of_function, places_of, begins, stands, moved_site}
+use Rattle.insert_law.specs.Moved.{moved_deed, moved_deeds}
 use Rattle.insert_law.specs.inside.Moved.{moved_frames, moved_state, move_moved}
 use Rattle.insert_law.specs.Law.{HasResult, LoggedEndLaw, MovedDeedsLaw}
 use Rattle.insert_law.proofs.Standing.{function_at, standing}
@@ -76,17 +76,12 @@ log_is true Tick x e = absurd (cc)
 log_is true (Trap kind) x e = absurd (cc)
 log_is true (Log target) x e = absurd (cc)
 
--- the move isn't stuck
-abbrev Runs : Move → Type 0
-Runs (Goes c) = Unit {0}
-Runs (Ends e) = HasResult e
-
 frames_length : (marks : MarkTable) (us : List IrFunction) (below : List Frame)
     → length (moved_frames marks us below) ≡ length below
 frames_length marks us [] = refl
 frames_length marks us (c ∷ below) = ap suc (frames_length marks us below)
 
-module _ (marks : MarkTable) (ir : Ir) (formed : IsWellFormed ir) where
+module _ (marks : MarkTable) (ir : Ir) where
   abbrev us : List IrFunction
   us = ir.functions
 
@@ -145,10 +140,8 @@ module _ (marks : MarkTable) (ir : Ir) (formed : IsWellFormed ir) where
   -- q: the new place of the instruction; the next instruction begins right after it
   acts : (i : Instruction) (f p q : ℕ) (regs : List ℤ) (below : List Frame) (w : PoolMap) (t : ℕ)
       → begins marks us f (suc p) ≡ suc q →
-      act M (Some (led (places_from (flags_from marks f 0 (code_of_function us f)) 0 0
-      (code_of_function us f))
-      (flagged marks f p i) i)) f q regs (moved_frames marks us below) w t ≡ move_moved marks us
-      (act ir (Some i) f p regs below w t)
+      act M (Some (led (places_of marks us f) (flagged marks f p i) i)) f q regs
+      (moved_frames marks us below) w t ≡ move_moved marks us (act ir (Some i) f p regs below w t)
   acts (Const to v) f p q regs below w t e =
       ap (λ (n : ℕ). Goes (Here f n (put_register regs to v) (moved_frames marks us below) w t))
       (sym e)
@@ -263,7 +256,7 @@ module _ (marks : MarkTable) (ir : Ir) (formed : IsWellFormed ir) where
   skips : (f p : ℕ) (regs : List ℤ) (below : List Frame) (w : PoolMap) (t : ℕ) (i : Instruction)
       → instruction_at us f p ≡ Some i → is_log i ≡ true → Step (Here f p regs below w t) 0
   skips f p regs below w t (Log x) e log =
-      let s = standing marks ir formed f p (Log x) e in
+      let s = standing marks ir f p (Log x) e in
       let c : CodeState = Here f p regs below w t in
       let next : instruction_step ir c ≡ Goes (Here f (suc p) regs below w t) =
       ap (λ (o : Option Instruction). act ir o f p regs below w t) e in
@@ -302,10 +295,9 @@ module _ (marks : MarkTable) (ir : Ir) (formed : IsWellFormed ir) where
       (i : Instruction) → instruction_at us f p ≡ Some i → is_log i ≡ false
       → (n : ℕ) × Step (Here f p regs below w t) n
   follows_own f p regs below w t i e no_log =
-      let s = standing marks ir formed f p i e in
+      let s = standing marks ir f p i e in
       let q : ℕ = stands marks us f p in
-      let table : List ℕ = places_from (flags_from marks f 0 (code_of_function us f)) 0 0
-      (code_of_function us f) in
+      let table : List ℕ = places_of marks us f in
       let act_is : instruction_step ir (Here f p regs below w t) ≡ act ir (Some i) f p regs below w
       t = ap (λ (o : Option Instruction). act ir o f p regs below w t) e in
       let self_is : instruction_step M (Here f q regs (moved_frames marks us below) w t)
@@ -451,11 +443,11 @@ module _ (marks : MarkTable) (ir : Ir) (formed : IsWellFormed ir) where
   start_is f args w t = ap (λ (p : ℕ). Here f p args [] w t) (first_place f)
 
 pub same_end : LoggedEndLaw
-same_end marks ir formed f args w t k h =
-    ap (exec (logged_program marks ir) (2 * k)) (sym (start_is marks ir formed f args w t))
-    ∙ (alike marks ir formed k (code_start f args w t) h).0
+same_end marks ir f args w t k h =
+    ap (exec (logged_program marks ir) (2 * k)) (sym (start_is marks ir f args w t))
+    ∙ (alike marks ir k (code_start f args w t) h).0
 
 pub same_deeds : MovedDeedsLaw
-same_deeds marks ir formed f args w t k h =
-    ap (deeds (logged_program marks ir) (2 * k)) (sym (start_is marks ir formed f args w t))
-    ∙ (alike marks ir formed k (code_start f args w t) h).1
+same_deeds marks ir f args w t k h =
+    ap (deeds (logged_program marks ir) (2 * k)) (sym (start_is marks ir f args w t))
+    ∙ (alike marks ir k (code_start f args w t) h).1

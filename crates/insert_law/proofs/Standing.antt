@@ -3,9 +3,9 @@ use Rattle.std.proofs.Common.{◌≡◌, ℕ, zero, suc, ◌+◌, ◌^◌, ◌-�
 use Rattle.std.proofs.Common.{◌++◌, length, Option, Some, None, refl, sym, ap, ◌∙◌, subst, arith}
 use Rattle.std.proofs.Common.{length-append, append_assoc}
 use Rattle.std.specs.Option.{option_map_or}
-use Rattle.std.specs.Prelude.{slice_get, slice_index_or, nat_lt, if◌then◌else◌, option_map}
+use Rattle.std.specs.Prelude.{slice_get, slice_index_or, if◌then◌else◌, option_map}
 use Rattle.std.specs.Prelude.{option_and_then}
-use Rattle.std.proofs.lemmas.Bool.{false≢true, lt-ltb}
+use Rattle.std.proofs.lemmas.Bool.{false≢true}
 use Rattle.ir.specs.declared.instruction.Target.{Target}
 use Rattle.ir.specs.declared.instruction.Instruction.{Instruction}
 use Rattle.ir.specs.declared.instruction.Instruction.TheVariants.{Const, Copy, Bin, Jump, Branch}
@@ -14,17 +14,15 @@ use Rattle.ir.specs.declared.instruction.Instruction.TheVariants.{Return, Tick, 
 use Rattle.ir.specs.declared.function.IrFunction.{IrFunction}
 use Rattle.ir.specs.declared.function.Ir.{Ir}
 use Rattle.ir.specs.Places.{instruction_at}
-use Rattle.ir.specs.WellFormed.{IsFunction, IsWellFormed}
 use Rattle.clobber_pass.specs.declared.marking.MarkTable.{MarkTable}
 use Rattle.clobber_pass.specs.Logged.{is_logged}
 use Rattle.instrument.specs.Insert.{logs, own, logged_width, flag_at, places_from, led}
 use Rattle.ir.specs.Moving.{is_log}
 use Rattle.instrument.specs.Insert.{logged_from, flagged, flags_from, with_flags, logged_function}
 use Rattle.instrument.specs.Insert.{logged_functions, logged_program}
-use Rattle.code_meaning.proofs.Lists.{all_at}
 use Rattle.code_meaning.specs.Deeds.{site}
 use Rattle.instrument.proofs.LoggedCode.{own_length}
-use Rattle.insert_law.specs.Moved.{code_of_function, begins, logs_before, stands}
+use Rattle.insert_law.specs.Moved.{code_of_function, places_of, begins, logs_before, stands}
 use Rattle.insert_law.specs.Law.{LoggedStoreLaw, FillLaw}
 
 get_after : {A : Type 0} (pre rest : List A) (k : ℕ) → slice_get (pre ++ rest) (length pre + k)
@@ -135,15 +133,14 @@ log_alone true (Return from) log = refl
 log_alone true Tick log = refl
 log_alone true (Trap kind) log = refl
 
-module _ (marks : MarkTable) (ir : Ir) (formed : IsWellFormed ir) where
+module _ (marks : MarkTable) (ir : Ir) where
   abbrev pub L : Ir
   L = logged_program marks ir
 
   -- function f of the code with its logs, at an instruction
   pub record Stands (f p : ℕ) (i : Instruction) : Type 0 where
     pub self : is_log i ≡ false → instruction_at L.functions f (stands marks ir.functions f p)
-        ≡ Some (led (places_from (flags_from marks f 0 (code_of_function ir.functions f)) 0 0
-        (code_of_function ir.functions f)) (flagged marks f p i) i)
+        ≡ Some (led (places_of marks ir.functions f) (flagged marks f p i) i)
     pub next : is_log i ≡ false → begins marks ir.functions f (suc p)
         ≡ suc (stands marks ir.functions f p)
     pub skipped : is_log i ≡ true → begins marks ir.functions f (suc p)
@@ -158,15 +155,10 @@ module _ (marks : MarkTable) (ir : Ir) (formed : IsWellFormed ir) where
       → instruction_at L.functions f q ≡ slice_get (with_flags (flags_from marks f 0 u.code) u.code)
       q
   code_is f u found q =
-      let whole = all_at (IsFunction ir) ir.functions f u formed.1 found in
-      let counted : nat_lt (length u.code) (2 ^ 31) ≡ true =
-      lt-ltb (length u.code) (2 ^ 31) whole.1 in
       let there : slice_get L.functions f ≡ Some (logged_function marks f u) =
       function_at marks 0 ir.functions f ∙ ap (option_map (logged_function marks (0 + f))) found
       ∙ ap (λ (n : ℕ). Some (logged_function marks n u)) (zero_add f) in
       ap (option_and_then (λ (v : IrFunction). slice_get v.code q)) there
-      ∙ ap (λ (b : Bool). slice_get (if b then with_flags (flags_from marks f 0 u.code) u.code
-      else u.code) q) counted
     where
       zero_add : (n : ℕ) → 0 + n ≡ n
       zero_add n = omega arith
@@ -186,7 +178,7 @@ module _ (marks : MarkTable) (ir : Ir) (formed : IsWellFormed ir) where
       let code : code_of_function ir.functions f ≡ u.code =
       ap (λ (v : Option IrFunction). option_map_or (λ (x : IrFunction). x.code) v []) found in
       let flags : List Bool = flags_from marks f 0 (code_of_function ir.functions f) in
-      let table : List ℕ = places_from flags 0 0 (code_of_function ir.functions f) in
+      let table : List ℕ = places_of marks ir.functions f in
       let flag : Bool = flagged marks f p i in
       let zero_p : 0 + p ≡ p = omega arith in
       let inside : slice_get (code_of_function ir.functions f) p ≡ Some i =
@@ -262,8 +254,8 @@ logs_store : (flag : Bool) (x : Target) (from line : ℕ) → flag ≡ true
 logs_store flag x from line e = ap (λ (b : Bool). logs b (Store x from line)) e
 
 pub store_stands : LoggedStoreLaw
-store_stands marks ir formed f p x from line e marked =
-    let s = standing marks ir formed f p (Store x from line) e in
+store_stands marks ir f p x from line e marked =
+    let s = standing marks ir f p (Store x from line) e in
     let log = s.log (Log x) (logs_store (is_logged marks (site f p false)) x from line marked) in
     (log.1 ∙ plus_one (begins marks ir.functions f p), log.0, s.self refl)
   where
@@ -271,5 +263,5 @@ store_stands marks ir formed f p x from line e marked =
     plus_one n = omega arith
 
 pub fill_stands : FillLaw
-fill_stands marks ir formed f p to kind line flag e =
-    (standing marks ir formed f p (New to kind flag line) e).self refl
+fill_stands marks ir f p to kind line flag e =
+    (standing marks ir f p (New to kind flag line) e).self refl

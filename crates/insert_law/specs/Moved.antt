@@ -15,11 +15,15 @@ use Rattle.code_meaning.specs.Deeds.{Deed, Reads, Writes, Heads}
 abbrev pub code_of_function : List IrFunction → ℕ → List Instruction
 code_of_function functions f = option_map_or (λ (u : IrFunction). u.code) (slice_get functions f) []
 
+-- the new places at which the instructions of function f begin, with their logs
+abbrev pub places_of : MarkTable → List IrFunction → (f : ℕ) → List ℕ
+places_of marks functions f =
+    places_from (flags_from marks f 0 (code_of_function functions f)) 0 0
+    (code_of_function functions f)
+
 -- the new place at which the instruction at place p of function f begins, with its log
 abbrev pub begins : MarkTable → List IrFunction → (f p : ℕ) → ℕ
-begins marks functions f p = place_in
-    (places_from (flags_from marks f 0 (code_of_function functions f)) 0 0
-    (code_of_function functions f)) p
+begins marks functions f p = place_in (places_of marks functions f) p
 
 abbrev pub logs_before : MarkTable → (f p : ℕ) → Option Instruction → List Instruction
 logs_before marks f p None = []

@@ -9,7 +9,7 @@ ghost use Rattle.insert_law.specs.Law.{LoggedStoreLaw};
 /// Code with its logs has the same end, and the same loads and stores at the moved sites, in at
 /// most twice the steps; a store that the marks name comes right after a log of its target, and a
 /// `new` has the flag of its fill; and there is no other log and no other instruction, even if the
-/// code had logs before. The function does nothing.
+/// code had logs before; and each instruction stands at its place. The function does nothing.
 pub fn law()
     ensures end { LoggedEndLaw }
     ensures deeds { MovedDeedsLaw }

@@ -2,9 +2,9 @@
 use Rattle.std.proofs.Common.{◌≡◌, ℕ, zero, suc, ◌+◌, ◌-◌, ◌*◌, ◌<◌, ◌≤◌, ◌^◌, Bool, true, false}
 use Rattle.std.proofs.Common.{List, [], ◌∷◌, ◌++◌, length, refl, sym, ap, subst, arith}
 use Rattle.std.proofs.Common.{length-append}
-use Rattle.std.specs.Prelude.{slice_get, nat_lt, if◌then◌else◌, Result, Ok, Err, IfOk}
+use Rattle.std.specs.Prelude.{slice_get, if◌then◌else◌, Result, Ok, Err, IfOk}
 use Rattle.std.specs.List.{AllByRecursion, slice_index_or}
-use Rattle.std.proofs.lemmas.Bool.{lt-ltb}
+use Rattle.nvm_base.proofs.Lists.{all_append}
 use Rattle.ir.specs.declared.instruction.Instruction.{Instruction}
 use Rattle.ir.specs.declared.instruction.Instruction.TheVariants.{Const, Copy, Bin, Jump, Branch}
 use Rattle.ir.specs.declared.instruction.Instruction.TheVariants.{Load, Store, New, Free, Call}
@@ -16,7 +16,7 @@ use Rattle.ir.specs.WellFormed.{TakesArgs}
 use Rattle.clobber_pass.specs.declared.marking.MarkTable.{MarkTable}
 use Rattle.instrument.specs.Insert.{logs, own, logged_width, flag_at, places_from}
 use Rattle.ir.specs.Moving.{is_log, place_in}
-use Rattle.instrument.specs.Insert.{led, logged_from, flags_from, with_flags, logged_code}
+use Rattle.instrument.specs.Insert.{led, logged_from, flags_from, with_flags}
 use Rattle.instrument.specs.Insert.{logged_function, logged_functions, logged_program}
 use Rattle.ir.specs.Short.{IsShort}
 
@@ -69,7 +69,7 @@ logged_length_more table flags k i is =
     )
 
 -- logs at most double the code
-logged_length : (table : List ℕ) (flags : List Bool) (k : ℕ) (code : List Instruction)
+pub logged_length : (table : List ℕ) (flags : List Bool) (k : ℕ) (code : List Instruction)
     → length (logged_from table flags k code) ≤ 2 * length code
 logged_length table flags k [] = omega arith
 logged_length table flags k (i ∷ is) =
@@ -166,11 +166,6 @@ logged_ends table flags k (i ∷ j ∷ is) ends =
     ends_append (logs flag i) (own table flag i ++ rest)
     (ends_append (own table flag i) rest (logged_ends table flags (suc k) (j ∷ is) ends))
 
-all_append : {A : Type 0} (P : A → Type 0) (xs ys : List A) → AllByRecursion P xs
-    → AllByRecursion P ys → AllByRecursion P (xs ++ ys)
-all_append P [] ys a b = b
-all_append P (x ∷ xs) ys a b = (a.0, all_append P xs ys a.1 b)
-
 -- functions: those of the program with their logs, which take as many arguments
 module _ (program : Ir) (functions : List IrFunction) (taken : (f : ℕ) (args : List ℕ)
     → TakesArgs (slice_get program.functions f) args → TakesArgs (slice_get functions f) args) where
@@ -252,13 +247,7 @@ module _ (program : Ir) (functions : List IrFunction) (taken : (f : ℕ) (args :
   function_formed : (marks : MarkTable) (f : ℕ) (u : IrFunction) → length u.code < 2 ^ 30
       → IsFunction program u → IsFunction logged (logged_function marks f u)
   function_formed marks f u short formed =
-      let counted : nat_lt (length u.code) (2 ^ 31) ≡ true =
-      lt-ltb (length u.code) (2 ^ 31) formed.1 in
-      let flags : List Bool = flags_from marks f 0 u.code in
-      let code : logged_code marks f u.code ≡ with_flags flags u.code =
-      ap (λ (b : Bool). if b then with_flags flags u.code else u.code) counted in
-      subst (λ (c : List Instruction). IsFunction logged (record u { code = c })) (sym code)
-      (flagged_formed flags u short formed)
+      flagged_formed (flags_from marks f 0 u.code) u short formed
 
   functions_formed : (marks : MarkTable) (f : ℕ) (us : List IrFunction)
       → AllByRecursion (λ (u : IrFunction). length u.code < 2 ^ 30) us
@@ -277,7 +266,7 @@ taken_logged marks k [] f args takes = takes
 taken_logged marks k (u ∷ us) zero args takes = takes
 taken_logged marks k (u ∷ us) (suc f) args takes = taken_logged marks (suc k) us f args takes
 
-functions_length : (marks : MarkTable) (k : ℕ) (us : List IrFunction)
+pub functions_length : (marks : MarkTable) (k : ℕ) (us : List IrFunction)
     → length (logged_functions marks k us) ≡ length us
 functions_length marks k [] = refl
 functions_length marks k (u ∷ us) = ap suc (functions_length marks (suc k) us)

@@ -2,8 +2,8 @@
 -- means that its fill is logged. A jump or a branch that led to a store leads to its log. A log
 -- that was in the code before is left out, and what led to it leads to the next instruction. All
 -- else stays as it was.
-use Rattle.std.specs.Prelude.{ℕ, suc, ◌+◌, ◌^◌, ◌++◌, Bool, true, false, List, [], ◌∷◌}
-use Rattle.std.specs.Prelude.{if◌then◌else◌, nat_lt, length}
+use Rattle.std.specs.Prelude.{ℕ, suc, ◌+◌, ◌++◌, Bool, true, false, List, [], ◌∷◌}
+use Rattle.std.specs.Prelude.{if◌then◌else◌, length}
 use Rattle.std.specs.List.{slice_index_or}
 use Rattle.ir.specs.declared.instruction.Instruction.{Instruction}
 use Rattle.ir.specs.declared.instruction.Instruction.TheVariants.{Const, Copy, Bin, Jump, Branch}
@@ -100,10 +100,9 @@ flags_from marks f p (i ∷ is) = flagged marks f p i ∷ flags_from marks f (su
 abbrev pub with_flags : List Bool → List Instruction → List Instruction
 with_flags flags code = logged_from (places_from flags 0 0 code) flags 0 code
 
--- the code of function f with its logs; code too long to count is left as it is
+-- the code of function f with its logs
 abbrev pub logged_code : MarkTable → (f : ℕ) → List Instruction → List Instruction
-logged_code marks f code = if nat_lt (length code) (2 ^ 31)
-    then with_flags (flags_from marks f 0 code) code else code
+logged_code marks f code = with_flags (flags_from marks f 0 code) code
 
 abbrev pub logged_function : MarkTable → (f : ℕ) → IrFunction → IrFunction
 logged_function marks f u = record u { code = logged_code marks f u.code }

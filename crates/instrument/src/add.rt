@@ -97,16 +97,6 @@ fn logged_from(
     Ok(logged)
 }
 
-fn copied(alloc: Global, code: &[Instruction]) -> Result<Instructions, AllocError>
-    ensures { IfOk result (λ c. c ≡ code.now) }
-{
-    let mut copy = Instructions::new(alloc);
-    for instruction in code {
-        copy.push(instruction.copy(alloc)?)?;
-    }
-    Ok(copy)
-}
-
 /// The code with the logs for these flags.
 fn with_flags(
     alloc: Global,
@@ -120,20 +110,18 @@ fn with_flags(
     logged_from(alloc, places.as_slice(), flags, code)
 }
 
-/// The code of a function with its logs. Code of 2^31 instructions or more is left as it is.
+/// The code of a function with its logs.
 fn logged_code(
     alloc: Global,
     marks: &MarkTable,
     function: u32,
     code: &[Instruction],
 ) -> Result<Instructions, AllocError>
+    requires { length code.now < 2 ^ 31 }
     ensures { IfOk result (λ c. c ≡ logged_code marks.now function code.now) }
 {
-    if code.len() < 1 << 31 {
-        let flags = flags(alloc, marks, function, code)?;
-        return with_flags(alloc, flags.as_slice(), code);
-    }
-    copied(alloc, code)
+    let flags = flags(alloc, marks, function, code)?;
+    with_flags(alloc, flags.as_slice(), code)
 }
 
 fn logged_function(
@@ -142,6 +130,7 @@ fn logged_function(
     number: u32,
     function: &IrFunction,
 ) -> Result<IrFunction, AllocError>
+    requires { length function.now.code < 2 ^ 31 }
     ensures { IfOk result (λ f. f ≡ logged_function marks.now number function.now) }
 {
     Ok(IrFunction {
@@ -153,16 +142,14 @@ fn logged_function(
     })
 }
 
-/// The program with its logs. For functions past the 2^32nd, which no well formed program has, it
-/// uses the marks of the last.
+/// The program with its logs.
 fn logged_program(alloc: Global, ir: &Ir, marks: &MarkTable) -> Result<Ir, AllocError>
-    ensures { IsWellFormed ir.now → IfOk result (λ r. r ≡ logged_program marks.now ir.now) }
+    requires { IsWellFormed ir.now }
+    ensures { IfOk result (λ r. r ≡ logged_program marks.now ir.now) }
 {
     let mut functions = IrFunctions::new(alloc);
-    let mut number = 0u32;
-    for function in ir.functions.as_slice() {
-        functions.push(logged_function(alloc, marks, number, function)?)?;
-        number = number.saturating_add(1);
+    for (number, function) in ir.functions.as_slice().iter().enumerate() {
+        functions.push(logged_function(alloc, marks, number as u32, function)?)?;
     }
     Ok(Ir {
         functions,
@@ -175,8 +162,9 @@ fn logged_program(alloc: Global, ir: &Ir, marks: &MarkTable) -> Result<Ir, Alloc
 /// left out. Each jump to such a store leads to its log. If each function has fewer than 2^30
 /// instructions, the program is well formed with its logs too.
 pub fn add_logs(alloc: Global, ir: &Ir, marks: &MarkTable) -> Result<Ir, AllocError>
-    ensures code { IsWellFormed ir.now → IfOk result (λ r. r ≡ logged_program marks.now ir.now) }
-    ensures well_formed { IsWellFormed ir.now → IsShort ir.now → IfOk result (λ r. IsWellFormed r) }
+    requires { IsWellFormed ir.now }
+    ensures code { IfOk result (λ r. r ≡ logged_program marks.now ir.now) }
+    ensures well_formed { IsShort ir.now → IfOk result (λ r. IsWellFormed r) }
 {
     logged_program(alloc, ir, marks)
 }

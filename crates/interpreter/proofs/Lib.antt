@@ -3,3 +3,4 @@ pub mod Ends
 pub mod Numbers
 pub mod Ticks
 pub mod Resume
+pub mod Quiet

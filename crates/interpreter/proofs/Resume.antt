@@ -24,7 +24,6 @@ use Rattle.interpreter.specs.declared.work.StmtTask.TheVariants as stmt_task
 use Rattle.interpreter.specs.declared.work.WordTask.TheVariants as word_task
 use Rattle.interpreter.specs.declared.work.Work.{Work}
 use Rattle.interpreter.specs.declared.work.Work.TheVariants as work
-use Rattle.interpreter.specs.declared.work.Flow.{Flow}
 use Rattle.interpreter.specs.declared.work.Flow.TheVariants as flow
 use Rattle.c_meaning.specs.Locals.{Local, value_named, assigned}
 use Rattle.c_meaning.specs.Meaning.{Out, Got, Stops, StmtEnd, Next, Gave, Traps, Calls, then_do}
@@ -42,7 +41,7 @@ use Rattle.interpreter.specs.inside.Resume.{pushed_all, pointer_in, index_operan
 use Rattle.interpreter.specs.inside.Resume.{with_index, pushed_operands, loaded_from, condition_in}
 use Rattle.interpreter.specs.inside.Resume.{third_in, some_turns, body_end, more_turns, target_word}
 use Rattle.interpreter.specs.inside.Resume.{left_function, todo_act, ended, resume, plan_going}
-use Rattle.interpreter.specs.inside.Resume.{right_of, right_todo, end_at, LeadsToOutcome}
+use Rattle.interpreter.specs.inside.Resume.{right_of, right_todo, LeadsToOutcome}
 use Rattle.c_meaning.specs.Operators.{binary_of}
 use Rattle.interpreter.specs.Answers.{PlainAnswers}
 use Rattle.interpreter.specs.inside.Answers.{plain_answer, place_answer, RunGives}
@@ -56,15 +55,6 @@ seen s = map todo_of s.plan
 pub then_ok : {T E P Q : Type 0} (r : Result T E) → IfOk r (λ _. P) → (P → Q) → IfOk r (λ _. Q)
 then_ok (Ok a) h f = f h
 then_ok (Err e) h f = tt
-
--- a value, and then what consumes it
-pub pushed-then : (go next : Goes) (vs : List ℤ) (below : List (List Local)) (ls : List Local)
-    (a : Out ℤ) (f : ℤ → PoolMap → ℕ → Out ℤ)
-    → ((x : ℤ) (p : PoolMap) (k : ℕ) → next (x ∷ vs) below (Next ls p k) ≡ pushed go vs below ls
-    (f x p k))
-    → pushed next vs below ls a ≡ pushed go vs below ls (then_do a f)
-pushed-then go next vs below ls (Got x p k) f h = h x p k
-pushed-then go next vs below ls (Stops trap) f h = refl
 
 -- a trap ends the whole remaining run
 pub resume-traps : (t : Tables) (xs : List Todo) (vs : List ℤ) (below : List (List Local))
@@ -552,13 +542,6 @@ update-field t s e x op place right is h =
 pub left-outcome : (t : Tables) (a : Out ℤ) → left_function (resume t []) [] [] a ≡ a
 left-outcome t (Got v p k) = refl
 left-outcome t (Stops trap) = refl
-
-pub ended-at : (how : Flow) (vs : List ℤ) (ls : List Local) (p : PoolMap) (k : ℕ)
-    → ended vs (end_at how ls p k) ≡ Got (newest vs) p k
-ended-at flow.Next vs ls p k = refl
-ended-at flow.Break vs ls p k = refl
-ended-at flow.Continue vs ls p k = refl
-ended-at (flow.Return v) vs ls p k = refl
 
 -- a run that stopped, as its caller sees it
 pub stopped-as : {A : Type 0} (fault : Fault) (out : Out ℤ) (now : A → Out ℤ)

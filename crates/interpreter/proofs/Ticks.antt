@@ -20,7 +20,7 @@ use Rattle.c_types.specs.Tables.{Tables, function_named}
 use Rattle.pool_map.specs.declared.trap.TrapKind.TheVariants as trap
 use Rattle.pool_map.specs.PoolMap.{PoolMap}
 use Rattle.c_meaning.specs.declared.trap_at.TrapAt.{TrapAt}
-use Rattle.c_meaning.specs.declared.word.Word.{Word}
+use Rattle.pool_map.specs.declared.word.PoolWord.{PoolWord}
 use Rattle.c_meaning.specs.Locals.{Local, bound}
 use Rattle.c_meaning.specs.Access.{free_object}
 use Rattle.c_meaning.specs.Operators.{binary_of}
@@ -68,7 +68,7 @@ within-or_trap : {A : Type 0} (n : ℕ) (o : Option A) (t : TrapAt) (p : PoolMap
 within-or_trap n None t p k le = tt
 within-or_trap n (Some a) t p k le = le
 
-within-loaded : (n : ℕ) (r : Result Word TrapAt) (p : PoolMap) (k : ℕ) → k ≤ n
+within-loaded : (n : ℕ) (r : Result PoolWord TrapAt) (p : PoolMap) (k : ℕ) → k ≤ n
     → Within n (loaded r p k)
 within-loaded n (Ok w) p k le = le
 within-loaded n (Err t) p k le = tt
@@ -248,7 +248,7 @@ ends-tick : (n k : ℕ) (kind : TrapAt) (go : ℕ → StmtEnd) → k ≤ n
 ends-tick n zero kind go le h = tt
 ends-tick n (suc k) kind go le h = h k (omega (arith, le))
 
-ends-stored : (n : ℕ) (r : Result Word TrapAt) (v : ℤ) (ls : List Local) (p : PoolMap) (k : ℕ)
+ends-stored : (n : ℕ) (r : Result PoolWord TrapAt) (v : ℤ) (ls : List Local) (p : PoolMap) (k : ℕ)
     → k ≤ n → Ends n (stored_end r v ls p k)
 ends-stored n (Ok w) v ls p k le = le
 ends-stored n (Err kind) v ls p k le = tt

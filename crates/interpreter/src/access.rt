@@ -11,70 +11,18 @@ ghost use Rattle.interpreter.specs.inside.Answers.{QuietTrap};
 ghost use Rattle.interpreter.specs.inside.Resume.{ObjectFreed};
 
 use crate::locals::Locals;
-use c_meaning::Word;
 use c_tree::expr::{Expr, Name};
-use c_types::{Layout, Program, ValueType, type_of};
-use pool_map::{Pool, TrapKind};
+use c_types::{Layout, Program, type_of};
+use nvm_base::natural_of;
+use pool_map::{Pool, PoolWord, TrapKind, element_in};
 use std::alloc::AllocError;
-
-/// The word of the pool, or 0 if the pool has no such word.
-pub fn load(pool: &Pool, word: Word) -> i64
-    ensures { result ≡ meaning.read_word pool.now word }
-{
-    match word {
-        Word::Root(word) => {
-            if pool.has_root_word(word) {
-                pool.root_get(word)
-            } else {
-                0
-            }
-        }
-        Word::Field { slot, word } => {
-            if pool.has_field(slot, word) {
-                pool.get(slot, word)
-            } else {
-                0
-            }
-        }
-    }
-}
-
-/// Writes a word, if the pool has it.
-pub fn store(pool: &mut Pool, word: Word, value: i64)
-    ensures { pool.new ≡ meaning.write_word pool.old word value }
-{
-    match word {
-        Word::Root(word) => {
-            if pool.has_root_word(word) {
-                pool.root_set(word, value);
-            }
-        }
-        Word::Field { slot, word } => {
-            if pool.has_field(slot, word) {
-                pool.set(slot, word, value);
-            }
-        }
-    }
-}
-
-/// The place of the struct that a value of this type points to.
-fn struct_of(ty: ValueType) -> Option<u64>
-    ensures { result ≡ meaning.pointed_struct ty }
-{
-    match ty {
-        ValueType::Pointer(at) => Some(at),
-        ValueType::Int => None,
-        ValueType::Null => None,
-        ValueType::Any => None,
-    }
-}
 
 /// The place of the struct that an expression points to.
 fn struct_reached(program: &Program<'_>, locals: &Locals<'_>, pointer: &Expr) -> Option<u64>
     ensures { result ≡ meaning.struct_pointed_by (tables_in program.now) locals.now
         (expr_of pointer.now) }
 {
-    struct_of(type_of(program, locals.scopes(), pointer))
+    type_of(program, locals.scopes(), pointer).pointed_struct()
 }
 
 /// The kind of the objects of the struct at a place.
@@ -122,6 +70,7 @@ fn is_kind(pool: &Pool, slot: u64, kind: Option<u64>) -> bool
 }
 
 /// A word of a struct: that of a field, or of one of its elements after the check index.
+#[tactic(auto, using(crate::proofs::Quiet::element_quiet))]
 fn word_in(layout: &Layout<'_>, name: &str, index: Option<i64>) -> Result<u64, TrapKind>
     ensures value { result ≡ meaning.word_in_struct layout.now name.now index }
     ensures quiet { QuietTrap result }
@@ -153,34 +102,8 @@ fn elements(layout: &Layout<'_>, name: &str) -> u64
         None => 0,
         Some(field) => match &field.length {
             None => 0,
-            Some(length) => count_of(length.value),
+            Some(length) => natural_of(length.value),
         },
-    }
-}
-
-fn count_of(length: i64) -> u64
-    ensures { result ≡ meaning.array_length length }
-{
-    match u64::try_from(length) {
-        Err(_) => 0,
-        Ok(count) => count,
-    }
-}
-
-/// The check index.
-fn element_in(length: u64, index: i64) -> Result<u64, TrapKind>
-    ensures value { result ≡ checks.element_in length index }
-    ensures quiet { QuietTrap result }
-{
-    match u64::try_from(index) {
-        Err(_) => Err(TrapKind::Index),
-        Ok(at) => {
-            if at < length {
-                Ok(at)
-            } else {
-                Err(TrapKind::Index)
-            }
-        }
     }
 }
 
@@ -211,7 +134,7 @@ fn reached(
     pointer: i64,
     name: &str,
     index: Option<i64>,
-) -> Result<Word, TrapKind>
+) -> Result<PoolWord, TrapKind>
     ensures value { result ≡ meaning.pointed_word (tables_in program.now) pool.now at pointer
         name.now index }
     ensures quiet { QuietTrap result }
@@ -220,19 +143,19 @@ fn reached(
         Err(trap) => Err(trap),
         Ok(slot) => match word_at(program, at, name, index) {
             Err(trap) => Err(trap),
-            Ok(word) => Ok(Word::Field { slot, word }),
+            Ok(word) => Ok(PoolWord::Field { slot, word }),
         },
     }
 }
 
 /// A word of the root.
-fn of_root(program: &Program<'_>, name: &str, index: Option<i64>) -> Result<Word, TrapKind>
+fn of_root(program: &Program<'_>, name: &str, index: Option<i64>) -> Result<PoolWord, TrapKind>
     ensures value { result ≡ meaning.of_root (tables_in program.now) name.now index }
     ensures quiet { QuietTrap result }
 {
     match word_at(program, program.root_struct(), name, index) {
         Err(trap) => Err(trap),
-        Ok(word) => Ok(Word::Root(word)),
+        Ok(word) => Ok(PoolWord::Root(word)),
     }
 }
 
@@ -246,7 +169,7 @@ pub fn word_named(
     field: &Expr,
     pointer: i64,
     index: Option<i64>,
-) -> Result<Word, TrapKind>
+) -> Result<PoolWord, TrapKind>
     ensures value { result ≡ meaning.word_named (tables_in program.now) locals.now pool.now
         (expr_of field.now) pointer index }
     ensures quiet { QuietTrap result }
@@ -280,7 +203,7 @@ pub fn new_object(program: &Program<'_>, pool: &mut Pool, name: &Name) -> Result
     }
 }
 
-/// A new object of this kind, with so many words.
+/// A new object of this kind, with `words` words.
 fn put_object(pool: &mut Pool, kind: u64, words: u64) -> Result<i64, AllocError>
     ensures { IfOk result (λ pointer. checks.new_at pool.old kind words (least_free pool.old)
         ≡ (pointer, pool.new)) }

@@ -13,7 +13,7 @@ ghost use Rattle.interpreter.specs.inside.Resume.{calls, todo_begun, resumed, re
 ghost use Rattle.interpreter.specs.inside.Resume.{loaded_from, StepLeads};
 ghost use Rattle.interpreter.specs.inside.Answers.{Quiet};
 
-use crate::access::{free_object, load, new_object, store};
+use crate::access::{free_object, new_object};
 use crate::fault::Fault;
 use crate::operators::{binary, unary};
 use crate::run::Run;
@@ -202,7 +202,7 @@ impl<'a> Run<'a> {
     {
         let operands = self.take_operands(expr);
         let word = self.locate(program, expr, operands)?;
-        let value = load(&self.pool, word);
+        let value = self.pool.load(word);
         self.give(value)?;
         Ok(())
     }
@@ -214,7 +214,7 @@ impl<'a> Run<'a> {
     {
         let operands = self.take_operands(expr);
         let word = self.locate(program, expr, operands)?;
-        let value = load(&self.pool, word);
+        let value = self.pool.load(word);
         self.give_operands(operands)?;
         self.give(value)?;
         Ok(())
@@ -229,7 +229,7 @@ impl<'a> Run<'a> {
         let value = self.take();
         let operands = self.take_operands(expr);
         let place = self.locate(program, expr, operands)?;
-        store(&mut self.pool, place, value);
+        self.pool.store(place, value);
         Ok(())
     }
 

@@ -33,10 +33,10 @@ use c_types::{Program, Typed};
 use pool_map::Pool;
 use std::alloc::{AllocError, Global};
 
-/// Runs transaction `tx`, counted from 1, with these arguments, on a copy of the pool, with so many
-/// ticks. It interprets the tree, without machine or log; so the trap logfull never occurs. A word
-/// that the pool lacks reads as 0 and is not written; a missing argument is 0; a transaction that
-/// doesn't exist does nothing and gives 0.
+/// Runs transaction `tx`, counted from 1, with these arguments and ticks, on a copy of the pool. It
+/// interprets the tree, without machine or log; so the trap logfull never occurs. A word that the
+/// pool lacks reads as 0 and is not written; a missing argument is 0; a transaction that doesn't
+/// exist does nothing and gives 0.
 pub fn plain_call(
     alloc: Global,
     typed: &Typed,

@@ -78,7 +78,7 @@ impl<'a> Locals<'a> {
         Ok(Locals { scopes, all })
     }
 
-    /// Forgets the newest locals, so that so many are left.
+    /// Forgets the newest locals, so that `count` are left.
     #[tactic(auto, using(crate::proofs::Ends::ends))]
     pub fn close_to(&mut self, count: usize)
         ensures { self.new ≡ meaning.oldest count self.old }

@@ -23,12 +23,12 @@ use crate::locals::{Locals, bound};
 use crate::places::target_place;
 use crate::stacks::{Frames, Plan, Values};
 use crate::work::{ExprTask, StmtTask, Work};
-use c_meaning::{TrapAt, Word};
+use c_meaning::TrapAt;
 use c_tree::expr::Expr;
 use c_tree::item::Function;
 use c_tree::stmt::Stmt;
 use c_types::Program;
-use pool_map::{Pool, TrapKind};
+use pool_map::{Pool, PoolWord, TrapKind};
 use std::alloc::{AllocError, Global};
 use std::marker::Model;
 use std::mem;
@@ -228,7 +228,7 @@ impl<'a> Run<'a> {
         program: &Program<'a>,
         target: &Expr,
         operands: Operands,
-    ) -> Result<Word, TrapAt>
+    ) -> Result<PoolWord, TrapAt>
         ensures value { result ≡ meaning.located (tables_in program.now) self.now.top
             self.now.pool (expr_of target.now) operands.pointer operands.index }
         ensures quiet { QuietAt result }
@@ -247,7 +247,7 @@ impl<'a> Run<'a> {
         }
     }
 
-    /// Opens a function, whose arguments are so many of the newest values, for the call at a place.
+    /// Opens a function, whose arguments are the `count` newest values, for the call at a place.
     /// It takes a tick, and then room among the open functions.
     pub fn call(
         &mut self,
@@ -286,7 +286,7 @@ impl<'a> Run<'a> {
         self.begin(function)
     }
 
-    /// The locals of a function at its start: its parameters, with so many of the newest values.
+    /// The locals of a function at its start: its parameters, with the `count` newest values.
     fn bind(
         &mut self,
         alloc: Global,

@@ -1,7 +1,7 @@
 //! The stacks of a run. Contracts see each as a list that begins with its top.
 
 ghost use Rattle.std.specs.Prelude.{◌≡◌, [], ◌∷◌, OnOk, length, reverse, take, drop};
-ghost use Rattle.interpreter.specs.inside.Stacks.{Popped};
+ghost use Rattle.nvm_base.specs.Stacks.{Popped};
 
 use crate::locals::Locals;
 use crate::work::Work;
@@ -97,7 +97,7 @@ impl Values {
         self.all.pop()
     }
 
-    /// So many of the newest values, as far as there are that many, oldest first.
+    /// The newest values, `count` of them at most, oldest first.
     #[tactic(auto, using(crate::proofs::Tops::tops))]
     pub fn newest(&self, count: usize) -> &[i64]
         ensures { result.now ≡ reverse (take count self.now) }
@@ -106,7 +106,7 @@ impl Values {
         &self.all[first..]
     }
 
-    /// Pops so many of the newest values, as far as there are that many.
+    /// Pops the newest values, `count` of them at most.
     #[tactic(auto, using(crate::proofs::Tops::tops))]
     pub fn forget(&mut self, count: usize)
         ensures { self.new ≡ drop count self.old }

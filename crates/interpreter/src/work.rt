@@ -71,11 +71,11 @@ pub enum Work<'a> {
     Declare(&'a Declaration),
     /// Pops a word and assigns it to a local.
     Assign(&'a Name),
-    /// Pops so many arguments, and opens the function; the place is that of its name in the call.
+    /// Pops n arguments, and opens the function; the place is that of its name in the call.
     Call(u64, &'a Function, usize),
     /// Ends the open function, and pushes its value.
     Leave,
-    /// Forgets the locals of a scope, so that so many are left.
+    /// Forgets the locals of a scope, so that n are left.
     Close(usize),
     Word(WordTask),
     /// Pops the value of a `return`.

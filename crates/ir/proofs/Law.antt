@@ -112,14 +112,6 @@ module _ (functions : List IrFunction) where
   sound (beside {f = f} {p = p} {g = g} {q = q} {to = to} {args = args} {b = b} d call r ret same) =
       then_walks f p (suc p) b b (sound d) (by_staying f p g q to args b call (walks r) ret same)
 
-  -- two derivations in a row are one; so a derivation can also grow at its front
-  pub passes_on : {f o p q : ℕ} {e a b : Fact} → Passes functions f o e p a
-      → Passes functions f p a q b → Passes functions f o e q b
-  passes_on c starts = c
-  passes_on c (along i d is to m) = along i (passes_on c d) is to m
-  passes_on c (through d call r ret same) = through (passes_on c d) call r ret same
-  passes_on c (past d call r ret same) = past (passes_on c d) call r ret same
-
   -- Here comes only from Here
   here_only : {f o p : ℕ} {e b : Fact} → Passes functions f o e p b → b ≡ Here → e ≡ Here
   here_only starts h = h

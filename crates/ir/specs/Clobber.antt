@@ -39,8 +39,7 @@ IsClobberFill functions f p = (to : ℕ) × (kind : ℕ) × (log_fill : Bool) ×
     × (instruction_at functions f p ≡ Some (New to kind log_fill line))
     × SomeWalk functions f p Freed
 
--- A store to a header always counts as clobber, that of a new object and that of a free, whether a
--- walk reaches it or not.
+-- Every store of a header is logged: of a new object and of a freed one.
 abbrev pub WritesHeader : List IrFunction → ℕ → ℕ → Type 0
 WritesHeader functions f p =
     ((to : ℕ) × (kind : ℕ) × (log_fill : Bool) × (line : ℕ)

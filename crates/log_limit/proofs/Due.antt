@@ -4,7 +4,7 @@ use Rattle.std.proofs.Common.{Bool, true, false, if◌then◌else◌, List, [], 
 use Rattle.std.proofs.Common.{Some, refl, sym, ap, subst, ◌∙◌, arith}
 use Rattle.std.proofs.Math.Dec.{eqb-suc-zero}
 use Rattle.std.proofs.lemmas.Bool.{cases_Bool}
-use Rattle.std.proofs.lemmas.Option.{none-some}
+use Rattle.std.proofs.lemmas.Option.{none-some, same_Some}
 use Rattle.std.proofs.lemmas.List.{append_assoc}
 use Rattle.pool_layout.specs.declared.limits.Sizes.{Sizes}
 use Rattle.ir.specs.declared.function.IrFunction.{IrFunction}
@@ -34,20 +34,17 @@ sites_of-stores_in z (Writes site spot word ∷ ds) =
 sites_of-stores_in z (Heads site slot word ∷ ds) =
     ap (λ (l : List Site). site ∷ l) (sites_of-stores_in z ds)
 
-clash : {b : Bool} → b ≡ true → b ≡ false → ⊥
+pub clash : {b : Bool} → b ≡ true → b ≡ false → ⊥
 clash on off = let no : true ≡ false = sym on ∙ off in cc
 
-some_same : (a b : Site) → Some a ≡ Some b → a ≡ b
-some_same a b e = cc
-
-abbrev room_of : ℕ → List ℕ → Room
+abbrev pub room_of : ℕ → List ℕ → Room
 room_of n ls = record { free = n; words = ls }
 
 module _ (functions : List IrFunction) (table : MarkTable) (exact : IsExact functions table) where
   abbrev full : ℕ → List ℕ → List StoreAt → Option Site
   full n ls stores = full_at table false (room_of n ls) stores
 
-  -- a store at a site that isn't logged is at_next_place over
+  -- a store at a site that isn't logged is passed over
   full-off : (n : ℕ) (ls : List ℕ) (a : StoreAt) (stores : List StoreAt)
       → is_logged table a.site ≡ false → full n ls (a ∷ stores) ≡ full n ls stores
   full-off n ls a stores off = rw off refl
@@ -97,7 +94,7 @@ module _ (functions : List IrFunction) (table : MarkTable) (exact : IsExact func
         logged = (exact a.site).0 on;
         full = refl;
       },
-      some_same a.site site (sym (full-none ls a stores on) ∙ is),
+      same_Some a.site site (sym (full-none ls a stores on) ∙ is),
     )
     | inr off ↦ found-more a stores 0 0 site
         (λ before are. inr ((λ logged. clash ((exact a.site).1 logged) off), are))
@@ -116,7 +113,7 @@ module _ (functions : List IrFunction) (table : MarkTable) (exact : IsExact func
       → (s ≡ t) × (ss ≡ ts)
   first_same s t ss ts e = (cc, cc)
 
-  -- stores that fill the log have one that is told
+  -- stores that fill the log have one that is reported
   not_none : (stores : List StoreAt) (n : ℕ) (ls : List ℕ) (before : List Site) (due : Site)
       (later : List Site) → sites_of stores ≡ before ++ due ∷ later → IsLogged functions due
       → AreLogged functions before n → full n ls stores ≡ None → ⊥
@@ -192,30 +189,30 @@ begins ir (suc j) (suc i) c le =
           (deeds_on (deeds ir j) (instruction_step ir c)) more.0),
     )
 
-module _ (law : DeedsLaw) (ir : Ir) (z : Sizes) (table : MarkTable) (n k : ℕ) (c : CodeState)
-    (over : IsOver (exec ir k c)) where
+module _ (law : DeedsLaw) (ir : Ir) (z : Sizes) (table : MarkTable) (marked : Bool) (n k : ℕ)
+    (c : CodeState) (over : IsOver (exec ir k c)) where
   same_deeds : (j : ℕ) → deeds ir (k + j) c ≡ deeds ir k c
   same_deeds j = law ir k (k + j) c (omega arith) over
 
   -- the stores of the run that ended are those of the steps that were taken, up to the one found
-  same_full : (x : Option Site) → FillsLogAt ir z table false (all_free n) c x
-      → full_at table false (all_free n) (stores_in z (deeds ir k c)) ≡ x
+  pub same_full : (x : Option Site) → FillsLogAt ir z table marked (all_free n) c x
+      → full_at table marked (all_free n) (stores_in z (deeds ir k c)) ≡ x
   same_full None fills =
       let j = fills.steps in
       let all : deeds ir (k + j) c ≡ deeds ir j c =
       law ir j (k + j) c (omega arith) (fills.over refl) in
-      ap (λ l. full_at table false (all_free n) (stores_in z l)) (sym (same_deeds j) ∙ all)
+      ap (λ l. full_at table marked (all_free n) (stores_in z l)) (sym (same_deeds j) ∙ all)
       ∙ fills.is
   same_full (Some site) fills =
       let j = fills.steps in
       let more = begins ir j (k + j) c (omega arith) in
-      ap (λ l. full_at table false (all_free n) (stores_in z l)) (sym (same_deeds j) ∙ more.1)
-      ∙ ap (λ l. full_at table false (all_free n) l) (stores_in-append z (deeds ir j c) more.0)
-      ∙ some-append table false (all_free n) (stores_in z (deeds ir j c)) (stores_in z more.0) site
+      ap (λ l. full_at table marked (all_free n) (stores_in z l)) (sym (same_deeds j) ∙ more.1)
+      ∙ ap (λ l. full_at table marked (all_free n) l) (stores_in-append z (deeds ir j c) more.0)
+      ∙ some-append table marked (all_free n) (stores_in z (deeds ir j c)) (stores_in z more.0) site
       fills.is
 
 pub due : DeedsLaw → FullSiteLaw
 due law ir z table exact n k c over x fills =
     subst (λ l. IsDue ir.functions n l x) (sites_of-stores_in z (deeds ir k c))
     (due-stores ir.functions table exact (stores_in z (deeds ir k c)) n x
-    (same_full law ir z table n k c over x fills))
+    (same_full law ir z table false n k c over x fills))

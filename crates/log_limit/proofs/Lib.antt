@@ -4,3 +4,4 @@ pub mod Pools
 pub mod Counted
 pub mod Due
 pub mod Entries
+pub mod MarkedDue

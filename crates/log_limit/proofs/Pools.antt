@@ -2,7 +2,6 @@
 use Rattle.std.proofs.Common.{◌≡◌, ℕ, zero, suc, ◌+◌, ◌≤◌, List, [], ◌∷◌, length, take}
 use Rattle.std.proofs.Common.{refl, ap, ◌∙◌, arith}
 use Rattle.std.proofs.lemmas.List.Sums.{sum_by-cons}
-use Rattle.std.proofs.lemmas.List.{get_or_past, set_past}
 use Rattle.std.proofs.Math.Seq.{take-nil}
 use Rattle.pool_map.specs.declared.shapes.FieldShape.{FieldShape}
 use Rattle.pool_map.specs.PoolFits.{words_of, words_of_field}
@@ -22,7 +21,5 @@ words_before-past (suc n) [] le = refl
 words_before-past zero (f ∷ fs) le = absurd (omega arith)
 words_before-past (suc n) (f ∷ fs) le = sum_by-cons words_of_field f fs
     ∙ ap (λ k. words_of_field f + k) (words_before-past n fs (omega (arith, le)))
-
-pub ruleset pools = (get_or_past, set_past)
 
 pub ruleset fields = (words_before-take, words_before-past)

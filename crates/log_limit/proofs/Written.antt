@@ -1,14 +1,10 @@
 -- Registers as a list: a read, a write inside the list, and zeros put at its end.
 use Rattle.std.proofs.Common.{◌≡◌, ℕ, zero, suc, ◌<◌, ◌≤◌, List, [], ◌∷◌, ◌++◌, length, ℤ, pos}
 use Rattle.std.proofs.Common.{refl, ap, arith}
-use Rattle.std.specs.Prelude.{slice_index_or, slice_set}
+use Rattle.std.specs.Prelude.{slice_set}
 use Rattle.std.proofs.lemmas.List.{get_or_past}
 use Rattle.code_meaning.specs.Code.{register_at, put_register}
-
-pub register_at-is : (regs : List ℤ) (n : ℕ) → register_at regs n ≡ slice_index_or regs n (pos 0)
-register_at-is [] n = refl
-register_at-is (u ∷ us) zero = refl
-register_at-is (u ∷ us) (suc n) = register_at-is us n
+use Rattle.code_meaning.proofs.Registers.{register_at-is}
 
 pub put_register-inside : (regs : List ℤ) (n : ℕ) (v : ℤ) → n < length regs
     → put_register regs n v ≡ slice_set regs n v

@@ -23,7 +23,7 @@ pub record Room : Type 0 where
   pub free : ℕ
   pub words : List ℕ
 
--- a log with so many records, all free
+-- a log whose records are all free
 abbrev pub all_free : (records : ℕ) → Room
 all_free records = record { free = records; words = [] }
 

@@ -5,24 +5,25 @@ ghost use Rattle.ir.specs.declared.instruction.Instruction.TheVariants as instru
 ghost use Rattle.ir.specs.declared.site.Site.{Site};
 ghost use Rattle.code_meaning.specs.Deeds.{deeds_of, deeds_new, zeros};
 ghost use Rattle.code_meaning.specs.Logged as logged;
-ghost use Rattle.log_limit.specs.inside.Run.{Counted, deeds_here, site_of, seen_spot};
+ghost use Rattle.log_limit.specs.inside.Run.{Counted, deeds_here, site_of};
 
 use crate::log::{RunLog, heap_word};
 use crate::registers::get;
 use crate::run::{CodeRun, instruction_at};
-use crate::spots::{Spot, fields_of, slot_of, spot_of, words_of};
+use crate::spots::{fields_of, slot_of, spot_of, words_of};
 use clobber_pass::MarkTable;
 use ir::{Instruction, Ir, Site, Target};
 use pool_layout::{HeapPlace, Sizes};
+use pool_map::PoolWord;
 use std::alloc::AllocError;
 
 /// The heap word of a word of the pool.
-fn spot_word(sizes: &Sizes, spot: Spot) -> Result<u64, AllocError>
-    ensures { IfOk result (λ word. word ≡ logged.spot_word sizes.now (seen_spot spot)) }
+fn spot_word(sizes: &Sizes, spot: PoolWord) -> Result<u64, AllocError>
+    ensures { IfOk result (λ word. word ≡ logged.spot_word sizes.now spot) }
 {
     match spot {
-        Spot::Root(word) => heap_word(sizes, HeapPlace::Root(word)),
-        Spot::Slot(slot, word) => heap_word(sizes, HeapPlace::Field(slot, word)),
+        PoolWord::Root(word) => heap_word(sizes, HeapPlace::Root(word)),
+        PoolWord::Field { slot, word } => heap_word(sizes, HeapPlace::Field(slot, word)),
     }
 }
 

@@ -1,7 +1,7 @@
 //! The functions below the open one. Contracts see them as a list that begins with the innermost.
 
 ghost use Rattle.std.specs.Prelude.{◌≡◌, [], ◌∷◌, OnOk, length};
-ghost use Rattle.log_limit.specs.inside.Run.{IsTopPopped};
+ghost use Rattle.nvm_base.specs.Stacks.{Popped};
 
 use nvm_base::Words;
 use std::alloc::{AllocError, Global};
@@ -65,7 +65,7 @@ impl Frames {
 
     #[tactic(auto, using(crate::proofs::Callers::frames))]
     pub fn pop(&mut self) -> Option<Frame>
-        ensures { IsTopPopped result self.new self.old }
+        ensures { Popped result self.new self.old }
     {
         self.all.pop()
     }

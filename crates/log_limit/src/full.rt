@@ -44,7 +44,7 @@ impl CodeRun {
 /// Runs a function of code without logs on a copy of the pool, with as many records and ticks as
 /// the sizes say, and gives the site of the store that has to be logged and finds no free record,
 /// if there is one. `marked` says whether the transaction rolls back.
-pub fn full_site(
+pub(crate) fn full_site(
     alloc: Global,
     ir: &Ir,
     table: &MarkTable,
@@ -86,7 +86,7 @@ fn store_line(instruction: &Instruction) -> Option<u64>
 }
 
 /// The source line of a site. What is no site has none.
-pub fn site_line(ir: &Ir, site: Site) -> Option<u64>
+pub(crate) fn site_line(ir: &Ir, site: Site) -> Option<u64>
     ensures { result ≡ line_of_site ir.now site }
 {
     match instruction_at(ir, site.function, site.place as usize) {

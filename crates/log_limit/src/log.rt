@@ -58,7 +58,7 @@ pub fn heap_word(sizes: &Sizes, place: HeapPlace) -> Result<u64, AllocError>
 }
 
 impl RunLog {
-    /// A log with so many records, all free. It takes no memory.
+    /// A log whose records are all free. It takes no memory.
     pub fn new(alloc: Global, records: u64) -> Self
         ensures { result ≡ all_free records }
     {

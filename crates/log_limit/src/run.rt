@@ -7,11 +7,12 @@ ghost use Rattle.ir.specs.declared.function.Ir.{Ir};
 ghost use Rattle.ir.specs.Places.{instruction_at};
 ghost use Rattle.code_meaning.specs.Code as code;
 ghost use Rattle.code_meaning.specs.Code.{code_start, instruction_step};
-ghost use Rattle.log_limit.specs.inside.Run.{acts, Moved, put_on, at_next_place, open_place, with_open_function};
+ghost use Rattle.log_limit.specs.inside.Run.{acts, Moved, put_on, at_next_place, open_place};
+ghost use Rattle.log_limit.specs.inside.Run.{with_open_function};
 
 use crate::frames::{Frame, Frames};
 use crate::registers::{gather, get, put};
-use crate::spots::{fields_of, load, slot_of, spot_of, store, words_of};
+use crate::spots::{fields_of, slot_of, spot_of, words_of};
 use ir::{Instruction, Ir, Target};
 use nvm_base::{BinOp, Words, div, rem};
 use pool_map::{Pool, Shapes};
@@ -169,7 +170,7 @@ impl CodeRun {
         match spot_of(&ir.shapes, &self.pool, &self.registers, target)? {
             Err(_) => Ok(false),
             Ok(spot) => {
-                let word = load(&self.pool, spot);
+                let word = self.pool.load(spot);
                 self.put(to, word)?;
                 Ok(true)
             }
@@ -184,7 +185,7 @@ impl CodeRun {
         match spot_of(&ir.shapes, &self.pool, &self.registers, target)? {
             Err(_) => Ok(false),
             Ok(spot) => {
-                store(&mut self.pool, spot, get(&self.registers, from));
+                self.pool.store(spot, get(&self.registers, from));
                 self.pass();
                 Ok(true)
             }

@@ -14,22 +14,23 @@ use pool_layout::Sizes;
 use pool_map::Pool;
 use std::alloc::{AllocError, Global};
 
-/// The function of a transaction that comes after so many others.
+/// The function of the transaction that comes after `others` others.
 #[tactic(auto, using(crate::proofs::Entries::entries))]
 fn entry_after(functions: &[IrFunction], others: u64) -> Result<Option<u32>, AllocError>
     ensures { IfOk result (λ entry. entry ≡ slice_get (entries_from 0 functions.now) others) }
 {
     let mut left = others;
     for (number, function) in functions.iter().enumerate() {
-        if function.tx {
-            if left == 0 {
-                return match u32::try_from(number) {
-                    Err(_) => Err(AllocError),
-                    Ok(entry) => Ok(Some(entry)),
-                };
-            }
-            left -= 1;
+        if !function.tx {
+            continue;
         }
+        if left == 0 {
+            return match u32::try_from(number) {
+                Err(_) => Err(AllocError),
+                Ok(entry) => Ok(Some(entry)),
+            };
+        }
+        left -= 1;
     }
     Ok(None)
 }

@@ -3,64 +3,13 @@
 ghost use Rattle.std.specs.Prelude.{◌≡◌, IfOk, IsSome, slice_get};
 ghost use Rattle.pool_map.specs.PoolMap.{object_at};
 ghost use Rattle.pool_map.specs.PoolFits.{words_of};
-ghost use Rattle.pool_map.specs.Checks as checks;
 ghost use Rattle.code_meaning.specs.Code as code;
-ghost use Rattle.log_limit.specs.inside.Run.{seen_spot, seen_spot_or_trap};
 
 use crate::registers::get;
 use ir::Target;
 use nvm_base::Words;
-use pool_map::{FieldShape, Pool, Shapes, TrapKind};
+use pool_map::{FieldShape, Pool, PoolWord, Shapes, TrapKind, element_in};
 use std::alloc::AllocError;
-
-/// A word of the root, or of the object in a slot.
-#[derive(Clone, Copy)]
-pub enum Spot {
-    Root(u64),
-    Slot(u64, u64),
-}
-
-/// The word of the pool, or 0 if the pool has no such word.
-#[tactic(auto, using(crate::proofs::Pools::pools))]
-pub fn load(pool: &Pool, spot: Spot) -> i64
-    ensures { result ≡ code.load_spot pool.now (seen_spot spot) }
-{
-    match spot {
-        Spot::Root(word) => {
-            if pool.has_root_word(word) {
-                pool.root_get(word)
-            } else {
-                0
-            }
-        }
-        Spot::Slot(slot, word) => {
-            if pool.has_field(slot, word) {
-                pool.get(slot, word)
-            } else {
-                0
-            }
-        }
-    }
-}
-
-/// Writes a word, if the pool has it.
-#[tactic(auto, using(crate::proofs::Pools::pools))]
-pub fn store(pool: &mut Pool, spot: Spot, value: i64)
-    ensures { pool.new ≡ code.store_spot pool.old (seen_spot spot) value }
-{
-    match spot {
-        Spot::Root(word) => {
-            if pool.has_root_word(word) {
-                pool.root_set(word, value);
-            }
-        }
-        Spot::Slot(slot, word) => {
-            if pool.has_field(slot, word) {
-                pool.set(slot, word, value);
-            }
-        }
-    }
-}
 
 /// Whether a slot has an object of this kind.
 fn is_kind(pool: &Pool, slot: u64, kind: u32) -> bool
@@ -141,22 +90,6 @@ fn elements(fields: &[FieldShape], field: u32) -> u64
     }
 }
 
-/// The check index.
-fn element_in(length: u64, index: i64) -> Result<u64, TrapKind>
-    ensures { result ≡ checks.element_in length index }
-{
-    match u64::try_from(index) {
-        Err(_) => Err(TrapKind::Index),
-        Ok(at) => {
-            if at < length {
-                Ok(at)
-            } else {
-                Err(TrapKind::Index)
-            }
-        }
-    }
-}
-
 /// A word of an object: that of a field, or of one of its elements after the check index.
 fn word_in(
     fields: &[FieldShape],
@@ -198,15 +131,15 @@ pub fn spot_of(
     pool: &Pool,
     registers: &Words,
     target: Target,
-) -> Result<Result<Spot, TrapKind>, AllocError>
-    ensures { IfOk result (λ spot. seen_spot_or_trap spot ≡ code.spot_of shapes.now pool.now target
+) -> Result<Result<PoolWord, TrapKind>, AllocError>
+    ensures { IfOk result (λ spot. spot ≡ code.spot_of shapes.now pool.now target
         (code.base_in registers.now target) (code.index_in registers.now target)) }
 {
     let index = index_in(registers, target);
     match target {
         Target::Root { field, .. } => match word_in(shapes.root.as_slice(), field, index)? {
             Err(kind) => Ok(Err(kind)),
-            Ok(word) => Ok(Ok(Spot::Root(word))),
+            Ok(word) => Ok(Ok(PoolWord::Root(word))),
         },
         Target::Field {
             base,
@@ -217,7 +150,7 @@ pub fn spot_of(
             Err(trap) => Ok(Err(trap)),
             Ok(slot) => match word_in(fields_of(shapes, kind), field, index)? {
                 Err(trap) => Ok(Err(trap)),
-                Ok(word) => Ok(Ok(Spot::Slot(slot, word))),
+                Ok(word) => Ok(Ok(PoolWord::Field { slot, word })),
             },
         },
     }

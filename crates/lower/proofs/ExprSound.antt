@@ -1,5 +1,5 @@
 -- The code of expressions that break no rule names only what exists.
-use Rattle.std.proofs.Common.{◌≡◌, ℕ, suc, ◌+◌, ◌≤◌, ◌<◌, Bool, true, false, List, [], ◌∷◌, ◌++◌}
+use Rattle.std.proofs.Common.{◌≡◌, ℕ, suc, ◌+◌, ◌≤◌, ◌<◌, Bool, true, false, List, [], ◌++◌}
 use Rattle.std.proofs.Common.{length, map, refl, sym, ap, subst, ◌∙◌, arith, rules}
 use Rattle.std.specs.Prelude.{nat_eq, ◌&&◌, ◌||◌, not, if◌then◌else◌, is_some, slice_get, Option}
 use Rattle.std.specs.Prelude.{None, Some, option_map, option_and_then}
@@ -7,6 +7,8 @@ use Rattle.std.specs.Option.{option_map_or}
 use Rattle.std.specs.Int.{w64, cast_unsigned}
 use Rattle.std.specs.List.{AllByRecursion}
 use Rattle.std.proofs.lemmas.Option.{slice_get-map, slice_get_within}
+use Rattle.std.proofs.lemmas.Bool.{false≢true, and_parts}
+use Rattle.nvm_base.proofs.Lists.{all_append}
 use Rattle.c_tree.specs.declared.expr.UnaryOp.TheVariants as unary
 use Rattle.c_tree.specs.ExprTree as expr
 use Rattle.c_tree.specs.ExprTree.{ExprTree, Arguments, Ident}
@@ -32,6 +34,7 @@ use Rattle.c_types.specs.Expressions.{field_kind, member, member_kind, member_br
 use Rattle.c_types.specs.Expressions.{root_broken, arrow_kind, arrow_broken, is_indexed}
 use Rattle.c_types.specs.Expressions.{call_broken, parameters_of, parameter_type, argument_count}
 use Rattle.c_types.specs.Expressions.{kind_of, type_of, broken_in, broken_in_all}
+use Rattle.c_types.proofs.Unbroken.{none_left, none_right, holds}
 use Rattle.ir.specs.declared.instruction.Target.{Target}
 use Rattle.ir.specs.declared.instruction.Target.TheVariants.{Root, Field}
 use Rattle.ir.specs.declared.instruction.Instruction.{Instruction}
@@ -47,7 +50,6 @@ use Rattle.lower.specs.Names.{element_target}
 use Rattle.lower.specs.Lowers.{Context, exp_end, exp_code, reg_of, target_end, target_code}
 use Rattle.lower.specs.Lowers.{target_of, arguments_end, arguments_code, registers_of, form_end}
 use Rattle.lower.specs.Lowers.{form_code, truth_code}
-use Rattle.lower.proofs.Few.{none_left, none_right, kept, and_left}
 use Rattle.lower.proofs.Ends.{exp_end_le, arguments_end_le, form_end_le}
 use Rattle.lower.proofs.Sane.{IsSane, IsFieldOf, IsKindOf, kind_of_struct}
 use Rattle.lower.proofs.GoodTypes.{IsGood, IsGoodKind, Agree, found, found_register, pointer_good}
@@ -62,11 +64,6 @@ pub record IsPlaced (k : Context) (ir : Ir) (r n : ℕ) : Type 0 where
       → (u : IrFunction) × (slice_get ir.functions i ≡ Some u)
       × (u.parameters ≡ length f.parameters)
   pub below : (q : ℕ) → q < n → k.node q < r
-
-pub all_append : {A : Type 0} (P : A → Type 0) (xs ys : List A) → AllByRecursion P xs
-    → AllByRecursion P ys → AllByRecursion P (xs ++ ys)
-all_append P [] ys a b = b
-all_append P (x ∷ xs) ys a b = (a.0, all_append P xs ys a.1 b)
 
 -- the target of what is denoted; a whole array still needs an index
 abbrev pub TargetFits : Shapes → ℕ → Kind → Target → Type 0
@@ -105,7 +102,7 @@ field_fits t r place i names f e = by_length f.len (declared_type t f.ty)
           length = option_map (λ l. cast_unsigned w64 l.value) l;
         }))
     by_length None ty g e = refl
-    by_length (Some l) ty g e = rw (good_any t ty g, kept (is_length l.value) l.place _ e)
+    by_length (Some l) ty g e = rw (good_any t ty g, holds (is_length l.value) l.place _ e)
         (λ q lt. (cast_unsigned w64 l.value, refl, lt))
 
 member_fits : (t : Tables) (r i : ℕ) (s : StructTree) (name : Ident) → IsSane t
@@ -120,7 +117,7 @@ member_fits t r i s name h is e =
     ap (slice_get (map field_shape s.fields)) there.2.number ∙ slice_get-map field_shape s.fields
     there.2.place ∙ ap (option_map field_shape) there.2.found in
     rw (there.1, get) (field_fits t r name.place (0 + there.2.place) (field_names s) there.0
-    there.2.kept)
+    there.2.holds)
 
 arrow_fits : (t : Tables) (r : ℕ) (ty : ValueType) (base place : ℕ) (name : Ident) → IsSane t
     → base < r → IsGood t ty → arrow_broken t ty place name ≡ []
@@ -179,18 +176,9 @@ index_fits : (shapes : Shapes) (r : ℕ) (t : Tables) (k : Kind) (target : Targe
     → IsTarget shapes r (element_target target q)
 index_fits shapes r t (Array el place) target q g e h lt = h q lt
 index_fits shapes r t (Value Any) target q g e h lt = absurd g
-index_fits shapes r t (Value Int) target q g e h lt = absurd (false_true e)
-  where
-    false_true : false ≡ true → ⊥
-    false_true e = cc
-index_fits shapes r t (Value Null) target q g e h lt = absurd (false_true e)
-  where
-    false_true : false ≡ true → ⊥
-    false_true e = cc
-index_fits shapes r t (Value (Pointer i)) target q g e h lt = absurd (false_true e)
-  where
-    false_true : false ≡ true → ⊥
-    false_true e = cc
+index_fits shapes r t (Value Int) target q g e h lt = absurd (false≢true e)
+index_fits shapes r t (Value Null) target q g e h lt = absurd (false≢true e)
+index_fits shapes r t (Value (Pointer i)) target q g e h lt = absurd (false≢true e)
 
 -- a field of the root or of an object, or an element
 abbrev pub IsPlace : ExprTree → Type 0
@@ -205,7 +193,7 @@ IsPlace (expr.New place name) = ⊥
 IsPlace (expr.Unary op place a) = ⊥
 IsPlace (expr.Binary op place a b) = ⊥
 
-value_array : (ty el : ValueType) (place : ℕ) → Value ty ≡ Array el place → ⊥
+pub value_array : (ty el : ValueType) (place : ℕ) → Value ty ≡ Array el place → ⊥
 value_array ty el place e = cc
 
 array_place : (t : Tables) (s : List Scope) (e : ExprTree) (el : ValueType) (place : ℕ)
@@ -238,9 +226,9 @@ index_parts t s base place index e =
     none_right (broken_in t s base) _ e in (
       none_left (broken_in t s base) _ e,
       none_left (value_broken t s index) _ rest,
-      and_left (is_indexed (kind_of t s base)) (is_int (type_of t s index))
-          (kept (is_indexed (kind_of t s base) && is_int (type_of t s index)) place Mismatch
-          (none_right (value_broken t s index) _ rest)),
+      (and_parts (is_indexed (kind_of t s base)) (is_int (type_of t s index))
+          (holds (is_indexed (kind_of t s base) && is_int (type_of t s index)) place Mismatch
+          (none_right (value_broken t s index) _ rest))).0,
     )
 
 pub type_good : (t : Tables) (r : ℕ) (v : Variables) (e : ExprTree) → IsSane t
@@ -255,7 +243,7 @@ pub reg_below : (k : Context) (ir : Ir) (r n : ℕ) (v : Variables) (e : ExprTre
 reg_below k ir r n v (expr.Variable name) q h a b lt =
     found_register k.tables r (variable_type name.text v.scopes)
     (variable_register name.text v.locals) (found k.tables r name.text v.scopes v.locals a)
-    (kept (is_some (variable_type name.text v.scopes)) name.place UnknownName b)
+    (holds (is_some (variable_type name.text v.scopes)) name.place UnknownName b)
 reg_below k ir r n v (expr.Number m) q h a b lt = h.below q lt
 reg_below k ir r n v expr.Null q h a b lt = h.below q lt
 reg_below k ir r n v (expr.Call name all) q h a b lt = h.below q lt

@@ -1,12 +1,12 @@
 -- A tree that breaks no rule has few parameters.
-use Rattle.std.proofs.Common.{◌≡◌, ℕ, ◌+◌, ◌≤◌, ◌<◌, Bool, true, false, List, [], ◌∷◌, ◌++◌, length}
-use Rattle.std.proofs.Common.{refl, arith, rules, ⊎_elim, ◌≢◌}
-use Rattle.std.specs.Prelude.{nat_lt, nat_le, nat_eq, ◌&&◌, not, is_some, slice_get}
+use Rattle.std.proofs.Common.{◌≡◌, ℕ, ◌+◌, ◌≤◌, true, false, List, [], ◌∷◌, ◌++◌, length}
+use Rattle.std.proofs.Common.{arith, ⊎_elim, ◌≢◌}
+use Rattle.std.specs.Prelude.{nat_eq, not, is_some, slice_get}
 use Rattle.std.specs.List.{AllByRecursion}
 use Rattle.std.proofs.lemmas.Bool.Decides.{eqb_tells}
+use Rattle.std.proofs.lemmas.Bool.{false≢true}
 use Rattle.c_tree.specs.ItemTree.{FunctionTree, ParameterTree}
 use Rattle.c_tree.specs.Program.{Program, tree_of}
-use Rattle.c_types.specs.declared.broken.Rule.{Rule}
 use Rattle.c_types.specs.declared.broken.Rule.TheVariants.{Twice, TooBig, NoRoot}
 use Rattle.c_types.specs.declared.fault.LimitKind.TheVariants as limit
 use Rattle.c_types.specs.Broken.{unless}
@@ -17,51 +17,15 @@ use Rattle.c_types.specs.Fault.{breaks}
 use Rattle.c_types.specs.Declarations.{structs_broken, roots_broken, function_broken, body_broken}
 use Rattle.c_types.specs.Declarations.{parameter_broken, parameters_broken, functions_broken}
 use Rattle.c_types.specs.Declarations.{scopes_after_parameter}
+use Rattle.c_types.proofs.Unbroken.{none_left, none_right, holds}
 use Rattle.lower.specs.inside.Program.{TakesFew}
-
--- a list that is empty has no parts
-pub none_left : {A : Type 0} (xs ys : List A) → xs ++ ys ≡ [] → xs ≡ []
-none_left [] ys e = refl
-none_left (x ∷ xs) ys e = cc
-
-pub none_right : {A : Type 0} (xs ys : List A) → xs ++ ys ≡ [] → ys ≡ []
-none_right [] ys e = e
-none_right (x ∷ xs) ys e = cc
-
--- a rule that isn't broken is kept
-pub kept : (b : Bool) (place : ℕ) (rule : Rule) → unless b place rule ≡ [] → b ≡ true
-kept true place rule e = refl
-kept false place rule e = cc
 
 pub not_at : (n i : ℕ) → i ≤ n → not (nat_eq i n) ≡ true → i + 1 ≤ n
 not_at n i le e =
     ⊎_elim
-    (λ (d : (nat_eq i n ≡ true) × (i ≡ n)). absurd (true_not (rw d.0 at e)))
+    (λ (d : (nat_eq i n ≡ true) × (i ≡ n)). absurd (false≢true (rw d.0 at e)))
     (λ (d : (nat_eq i n ≡ false) × (i ≢ n)). omega (arith, d.1, le))
     (eqb_tells i n)
-  where
-    true_not : false ≡ true → ⊥
-    true_not x = cc
-
-pub and_left : (a b : Bool) → (a && b) ≡ true → a ≡ true
-and_left true b e = refl
-and_left false b e = e
-
-pub and_right : (a b : Bool) → (a && b) ≡ true → b ≡ true
-and_right true b e = e
-and_right false b e = absurd (false_true e)
-  where
-    false_true : false ≡ true → ⊥
-    false_true x = cc
-
-pub le_from : (a b : ℕ) → nat_le a b ≡ true → a ≤ b
-le_from a b e = search (rules)
-
-pub le_true : (a b : ℕ) → a ≤ b → nat_le a b ≡ true
-le_true a b le = search (rules)
-
-pub lt_true : (a b : ℕ) → a < b → nat_lt a b ≡ true
-lt_true a b lt = search (rules)
 
 pub few_parameters : (t : Tables) (s : List Scope) (i : ℕ) (ps : List ParameterTree) → i ≤ 22
     → parameters_broken t s i ps ≡ [] → i + length ps ≤ 22
@@ -74,7 +38,7 @@ few_parameters t s i (p ∷ ps) le e =
     none_right (parameter_broken t s i p)
     (parameters_broken t (scopes_after_parameter t s p) (i + 1) ps) e in
     let room : i + 1 ≤ 22 = not_at 22 i le
-    (kept (not (nat_eq i 22)) p.name.place (TooBig limit.Parameters 23)
+    (holds (not (nat_eq i 22)) p.name.place (TooBig limit.Parameters 23)
     (none_left (unless (not (nat_eq i 22)) p.name.place (TooBig limit.Parameters 23))
     (unless (not (is_declared p.name.text s)) p.name.place Twice)
     (none_right (type_broken t p.ty) _ here))) in

@@ -5,10 +5,9 @@ use Rattle.std.specs.Prelude.{if◌then◌else◌}
 use Rattle.std.proofs.lemmas.List.{map-append}
 use Rattle.c_tree.specs.StmtTree.{Statements}
 use Rattle.c_tree.specs.ItemTree.{FunctionTree, ParameterTree}
-use Rattle.c_types.specs.Tables.{declared_type}
 use Rattle.ir.specs.declared.instruction.Instruction.{Instruction}
 use Rattle.ir.specs.declared.instruction.Instruction.TheVariants.{Const, Copy, Return}
-use Rattle.lower.specs.Names.{Variables, variable_declared}
+use Rattle.lower.specs.Names.{Variables}
 use Rattle.lower.specs.Assigned.{is_assigned}
 use Rattle.lower.specs.inside.Holes.{leave, hole_filled, fill_from}
 use Rattle.lower.specs.Lowers.{Context, statements_end, statements_code}
@@ -19,84 +18,6 @@ use Rattle.lower.specs.inside.Added.{Put, StatementsAdded, ParameterAdded, Param
 use Rattle.lower.proofs.ExprAdds.{put_long, one_more, seam}
 use Rattle.lower.proofs.StmtAdds.{fill_from_long}
 use Rattle.lower.proofs.Filled.{statements_filled, fill_from_after}
-
-parameters_code_case : (b : Bool) (k : Context) (body : Statements) (n : ℕ)
-    (xs : List ParameterTree) (c c1 : List Instruction)
-    → c1 ≡ (if b then c ++ Copy (k.node (suc (length c))) n ∷ [] else c)
-    → c1 ++ parameters_code k body (suc n) xs (length c1)
-    ≡ c ++ (if b then Copy (k.node (suc (length c))) n ∷ parameters_code k body (suc n) xs
-    (suc (length c)) else parameters_code k body (suc n) xs (length c))
-parameters_code_case true k body n xs c c1 e =
-    let long : length c1 ≡ suc (length c) = one_more c c1 (Copy (k.node (suc (length c))) n) e in
-    ap (λ q. c1 ++ parameters_code k body (suc n) xs q) long
-    ∙ ap (λ l. l ++ parameters_code k body (suc n) xs (suc (length c))) e
-    ∙ append_assoc c (Copy (k.node (suc (length c))) n ∷ [])
-    (parameters_code k body (suc n) xs (suc (length c)))
-parameters_code_case false k body n xs c c1 e =
-    ap (λ l. l ++ parameters_code k body (suc n) xs (length l)) e
-
-pub parameters_code_more : (k : Context) (body : Statements) (n : ℕ) (x : ParameterTree)
-    (xs : List ParameterTree) (b : Bool) (c c1 : List Instruction) (r : ℕ)
-    → b ≡ is_assigned x.name.text body → ParameterAdded k b n c c1 r
-    → c1 ++ parameters_code k body (suc n) xs (length c1) ≡ c ++ parameters_code k body n (x ∷ xs)
-    (length c)
-parameters_code_more k body n x xs b c c1 r is h =
-    parameters_code_case b k body n xs c c1 h.code
-    ∙ ap (λ (a : Bool). c ++ (if a then Copy (k.node (suc (length c))) n ∷ parameters_code k body
-    (suc n) xs (suc (length c)) else parameters_code k body (suc n) xs (length c))) is
-
-parameters_end_case : (b : Bool) (k : Context) (body : Statements) (n : ℕ) (xs : List ParameterTree)
-    (c c1 : List Instruction)
-    → c1 ≡ (if b then c ++ Copy (k.node (suc (length c))) n ∷ [] else c)
-    → parameters_end body xs (length c1) ≡ parameters_end body xs (if b then suc (length c)
-    else length c)
-parameters_end_case true k body n xs c c1 e =
-    ap (parameters_end body xs) (one_more c c1 (Copy (k.node (suc (length c))) n) e)
-parameters_end_case false k body n xs c c1 e = ap (λ l. parameters_end body xs (length l)) e
-
-pub parameters_end_more : (k : Context) (body : Statements) (n : ℕ) (x : ParameterTree)
-    (xs : List ParameterTree) (b : Bool) (c c1 : List Instruction) (r : ℕ)
-    → b ≡ is_assigned x.name.text body → ParameterAdded k b n c c1 r
-    → parameters_end body xs (length c1) ≡ parameters_end body (x ∷ xs) (length c)
-parameters_end_more k body n x xs b c c1 r is h =
-    parameters_end_case b k body n xs c c1 h.code
-    ∙ ap (λ (a : Bool). parameters_end body xs (if a then suc (length c) else length c)) is
-
-after_case : (b : Bool) (k : Context) (body : Statements) (n : ℕ) (x : ParameterTree)
-    (xs : List ParameterTree) (c c1 : List Instruction) (r : ℕ) (v : Variables)
-    → c1 ≡ (if b then c ++ Copy (k.node (suc (length c))) n ∷ [] else c)
-    → r ≡ (if b then k.node (suc (length c)) else n)
-    → variables_after_parameters k body (suc n) xs (length c1)
-    (variable_declared x.name.text (declared_type k.tables x.ty) r v)
-    ≡ (if b then variables_after_parameters k body (suc n) xs (suc (length c))
-    (variable_declared x.name.text (declared_type k.tables x.ty) (k.node (suc (length c))) v)
-    else variables_after_parameters k body (suc n) xs (length c)
-    (variable_declared x.name.text (declared_type k.tables x.ty) n v))
-after_case true k body n x xs c c1 r v e er =
-    ap (λ q. variables_after_parameters k body (suc n) xs q
-    (variable_declared x.name.text (declared_type k.tables x.ty) r v))
-    (one_more c c1 (Copy (k.node (suc (length c))) n) e)
-    ∙ ap (λ y. variables_after_parameters k body (suc n) xs (suc (length c))
-    (variable_declared x.name.text (declared_type k.tables x.ty) y v)) er
-after_case false k body n x xs c c1 r v e er =
-    ap (λ l. variables_after_parameters k body (suc n) xs (length l)
-    (variable_declared x.name.text (declared_type k.tables x.ty) r v)) e
-    ∙ ap (λ y. variables_after_parameters k body (suc n) xs (length c)
-    (variable_declared x.name.text (declared_type k.tables x.ty) y v)) er
-
-pub after_parameters_more : (k : Context) (body : Statements) (n : ℕ) (x : ParameterTree)
-    (xs : List ParameterTree) (b : Bool) (c c1 : List Instruction) (r : ℕ) (v u : Variables)
-    → b ≡ is_assigned x.name.text body → ParameterAdded k b n c c1 r
-    → u ≡ variable_declared x.name.text (declared_type k.tables x.ty) r v
-    → variables_after_parameters k body (suc n) xs (length c1) u ≡ variables_after_parameters k body
-    n (x ∷ xs) (length c) v
-after_parameters_more k body n x xs b c c1 r v u is h eu =
-    ap (variables_after_parameters k body (suc n) xs (length c1)) eu
-    ∙ after_case b k body n x xs c c1 r v h.code h.register
-    ∙ ap (λ (a : Bool). if a then variables_after_parameters k body (suc n) xs (suc (length c))
-    (variable_declared x.name.text (declared_type k.tables x.ty) (k.node (suc (length c))) v)
-    else variables_after_parameters k body (suc n) xs (length c)
-    (variable_declared x.name.text (declared_type k.tables x.ty) n v)) is
 
 -- copies have no holes
 copy_filled : (b : Bool) (h place : ℕ) (i : Instruction) (then_code else_code : List Instruction)

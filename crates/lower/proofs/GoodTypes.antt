@@ -4,6 +4,9 @@ use Rattle.std.proofs.Common.{refl, sym, ap, ◌∙◌}
 use Rattle.std.specs.Prelude.{nat_le, nat_eq, ◌&&◌, ◌||◌, not, if◌then◌else◌, is_some, slice_get}
 use Rattle.std.specs.Prelude.{Option, None, Some, option_map, option_and_then, unwrap_or, bytes_eq}
 use Rattle.std.specs.Option.{option_map_or}
+use Rattle.std.proofs.lemmas.Bool.{false≢true, and_parts}
+use Rattle.std.proofs.lemmas.Option.{none-some}
+use Rattle.nvm_base.proofs.Tests.{some_of}
 use Rattle.c_tree.specs.ExprTree as expr
 use Rattle.c_tree.specs.ExprTree.{ExprTree, Arguments, Ident}
 use Rattle.c_tree.specs.StmtTree as stmt
@@ -27,15 +30,15 @@ use Rattle.c_types.specs.Declarations.{length_broken, field_broken}
 use Rattle.c_types.specs.Expressions.{Scope, or_else, type_in, variable_type, type_of_kind}
 use Rattle.c_types.specs.Expressions.{with_unindexed, field_kind, member, member_kind}
 use Rattle.c_types.specs.Expressions.{member_broken, arrow_kind, arrow_broken, is_indexed}
-use Rattle.c_types.specs.Expressions.{element_of, type_if, pointer_broken, may_call, callee_broken}
+use Rattle.c_types.specs.Expressions.{element_of, pointer_broken, may_call, callee_broken}
 use Rattle.c_types.specs.Expressions.{call_broken, call_type, parameters_of, parameter_type}
 use Rattle.c_types.specs.Expressions.{argument_count, kind_of, all_taken, type_of, broken_in}
 use Rattle.c_types.specs.Expressions.{broken_in_all}
+use Rattle.c_types.proofs.Unbroken.{none_left, none_right, holds}
 use Rattle.lower.specs.Names as names
 use Rattle.lower.specs.Names.{Variables, LocalRegister, register_in, variable_register, register_of}
 use Rattle.lower.specs.Names.{nowhere, with_local, with_name}
-use Rattle.lower.proofs.Few.{none_left, none_right, kept, and_left}
-use Rattle.lower.proofs.Sane.{IsSane, IsFieldOf, index_of_in, field_of_struct, some_of}
+use Rattle.lower.proofs.Sane.{IsSane, IsFieldOf, index_of_in, field_of_struct}
 
 -- a type that isn't any; a pointer leads to a struct of at most 15 words
 abbrev pub IsGood : Tables → ValueType → Type 0
@@ -117,19 +120,13 @@ found t r name (s ∷ ss) (l ∷ ls) h =
 
 pub found_good : (t : Tables) (r : ℕ) (a : Option ValueType) (b : Option ℕ) → Found t r a b
     → is_some a ≡ true → IsGood t (unwrap_or a Any)
-found_good t r None b h e = absurd (false_true e)
-  where
-    false_true : false ≡ true → ⊥
-    false_true e = cc
+found_good t r None b h e = absurd (false≢true e)
 found_good t r (Some ty) None h e = absurd h
 found_good t r (Some ty) (Some q) h e = h.0
 
 pub found_register : (t : Tables) (r : ℕ) (a : Option ValueType) (b : Option ℕ) → Found t r a b
     → is_some a ≡ true → unwrap_or b nowhere < r
-found_register t r None b h e = absurd (false_true e)
-  where
-    false_true : false ≡ true → ⊥
-    false_true e = cc
+found_register t r None b h e = absurd (false≢true e)
 found_register t r (Some ty) None h e = absurd h
 found_register t r (Some ty) (Some q) h e = h.1
 
@@ -173,7 +170,7 @@ pointer_case t name (Some i) is e =
     let s : (s : StructTree) × (slice_get t.structs i ≡ Some s) =
     index_of_in (λ (s : StructTree). s.name.text) name.text t.structs i is in
     let small : nat_le (words_at t i) 15 ≡ true =
-    kept (nat_le (words_at t i) 15) name.place (TooBig limit.Pointer (words_at t i)) e in
+    holds (nat_le (words_at t i) 15) name.place (TooBig limit.Pointer (words_at t i)) e in
     (i, s.0, is, s.1, rw s.1 at small, rw (is, small) refl)
 
 pub pointer_good : (t : Tables) (name : Ident) → pointer_broken t name ≡ []
@@ -197,7 +194,7 @@ pub member_there : (t : Tables) (i : ℕ) (s : StructTree) (name : Ident) → Is
     → (f : FieldTree) × (member t i name ≡ Some f) × IsFieldOf t i s name.text f
 member_there t i s name h is e =
     let there : (f : FieldTree) × (member t i name ≡ Some f) =
-    some_of (member t i name) (kept (is_some (member t i name)) name.place UnknownName e) in
+    some_of (member t i name) (holds (is_some (member t i name)) name.place UnknownName e) in
     let named : field_named s name.text ≡ Some there.0 =
     sym (ap (option_and_then (λ (x : StructTree). field_named x name.text)) is) ∙ there.1 in
     (there.0, there.1, field_of_struct t i s name.text there.0 h is named)
@@ -214,7 +211,7 @@ field_parts t names place i f e = by_length f.len (declared_type t f.ty)
         → IsGoodKind t (option_map_or (λ l. if is_any ty || not (is_length l.value) then Value Any
         else Array ty place) l (Value ty))
     by_length None ty g e = g
-    by_length (Some l) ty g e = rw (good_any t ty g, kept (is_length l.value) l.place _ e) g
+    by_length (Some l) ty g e = rw (good_any t ty g, holds (is_length l.value) l.place _ e) g
 
 member_good : (t : Tables) (i : ℕ) (s : StructTree) (name : Ident) → IsSane t
     → slice_get t.structs i ≡ Some s → member_broken t i name ≡ []
@@ -222,7 +219,7 @@ member_good : (t : Tables) (i : ℕ) (s : StructTree) (name : Ident) → IsSane 
 member_good t i s name h is e =
     let there : (f : FieldTree) × (member t i name ≡ Some f) × IsFieldOf t i s name.text f =
     member_there t i s name h is e in
-    rw there.1 (field_parts t (field_names s) name.place (0 + there.2.place) there.0 there.2.kept)
+    rw there.1 (field_parts t (field_names s) name.place (0 + there.2.place) there.0 there.2.holds)
 
 pub value_good : (t : Tables) (broken : List Broken) (k : Kind) → IsGoodKind t k
     → with_unindexed broken k ≡ [] → IsGood t (type_of_kind k)
@@ -232,20 +229,6 @@ value_good t broken (Array element place) g e =
   where
     some_none : broken_at place Mismatch ≡ [] → ⊥
     some_none e = cc
-
--- a pointer whose object has the field
-pub arrow_pointer : (t : Tables) (ty : ValueType) (place : ℕ) (name : Ident) → IsGood t ty
-    → arrow_broken t ty place name ≡ [] → (i : ℕ) × (ty ≡ Pointer i)
-arrow_pointer t (Pointer i) place name g e = (i, refl)
-arrow_pointer t Int place name g e = absurd (some_none e)
-  where
-    some_none : broken_at place Mismatch ≡ [] → ⊥
-    some_none e = cc
-arrow_pointer t Null place name g e = absurd (some_none e)
-  where
-    some_none : broken_at place Mismatch ≡ [] → ⊥
-    some_none e = cc
-arrow_pointer t Any place name g e = absurd g
 
 arrow_good : (t : Tables) (ty : ValueType) (place : ℕ) (name : Ident) → IsSane t → IsGood t ty
     → arrow_broken t ty place name ≡ [] → IsGoodKind t (arrow_kind t ty name)
@@ -265,35 +248,17 @@ pub indexed_array : (t : Tables) (k : Kind) → IsGoodKind t k → is_indexed k 
     → (el : ValueType) × (place : ℕ) × (k ≡ Array el place)
 indexed_array t (Array el place) g e = (el, place, refl)
 indexed_array t (Value Any) g e = absurd g
-indexed_array t (Value Int) g e = absurd (false_true e)
-  where
-    false_true : false ≡ true → ⊥
-    false_true e = cc
-indexed_array t (Value Null) g e = absurd (false_true e)
-  where
-    false_true : false ≡ true → ⊥
-    false_true e = cc
-indexed_array t (Value (Pointer i)) g e = absurd (false_true e)
-  where
-    false_true : false ≡ true → ⊥
-    false_true e = cc
+indexed_array t (Value Int) g e = absurd (false≢true e)
+indexed_array t (Value Null) g e = absurd (false≢true e)
+indexed_array t (Value (Pointer i)) g e = absurd (false≢true e)
 
 element_good : (t : Tables) (k : Kind) → IsGoodKind t k → is_indexed k ≡ true
     → IsGood t (element_of k)
 element_good t (Array el place) g e = g
 element_good t (Value Any) g e = absurd g
-element_good t (Value Int) g e = absurd (false_true e)
-  where
-    false_true : false ≡ true → ⊥
-    false_true e = cc
-element_good t (Value Null) g e = absurd (false_true e)
-  where
-    false_true : false ≡ true → ⊥
-    false_true e = cc
-element_good t (Value (Pointer i)) g e = absurd (false_true e)
-  where
-    false_true : false ≡ true → ⊥
-    false_true e = cc
+element_good t (Value Int) g e = absurd (false≢true e)
+element_good t (Value Null) g e = absurd (false≢true e)
+element_good t (Value (Pointer i)) g e = absurd (false≢true e)
 
 -- a function that is called
 pub callee : (wanted : Bool) (o : Option FunctionTree) (n place : ℕ)
@@ -308,7 +273,7 @@ callee wanted (Some f) n place e = (f, refl, e)
 pub callee_arity : (wanted : Bool) (f : FunctionTree) (n place : ℕ)
     → callee_broken wanted f n place ≡ [] → nat_eq n (length f.parameters) ≡ true
 callee_arity wanted f n place e =
-    kept (nat_eq n (length f.parameters)) place Arity
+    holds (nat_eq n (length f.parameters)) place Arity
     (none_left (unless (nat_eq n (length f.parameters)) place Arity)
     (unless (not f.tx) place BadTx)
     (none_right (unless (not wanted || is_some f.result_type) place Mismatch) _ e))
@@ -317,20 +282,17 @@ callee_may : (f : FunctionTree) (n place : ℕ) → callee_broken true f n place
     → (is_some f.result_type ≡ true) × (may_call true f n ≡ true)
 callee_may f n place e =
     let a : is_some f.result_type ≡ true =
-    kept (is_some f.result_type) place Mismatch
+    holds (is_some f.result_type) place Mismatch
     (none_left (unless (not true || is_some f.result_type) place Mismatch) _ e) in
     let b : nat_eq n (length f.parameters) ≡ true = callee_arity true f n place e in
-    let c : not f.tx ≡ true = kept (not f.tx) place BadTx
+    let c : not f.tx ≡ true = holds (not f.tx) place BadTx
     (none_right (unless (nat_eq n (length f.parameters)) place Arity) _
     (none_right (unless (not true || is_some f.result_type) place Mismatch) _ e)) in
     (a, rw (a, b, c) refl)
 
 result_good : (t : Tables) (ty : Option TypeTree) → is_some ty ≡ true
     → option_map_or (type_broken t) ty [] ≡ [] → IsGood t (option_map_or (declared_type t) ty Any)
-result_good t None e b = absurd (false_true e)
-  where
-    false_true : false ≡ true → ⊥
-    false_true e = cc
+result_good t None e b = absurd (false≢true e)
 result_good t (Some ty) e b = declared_good t ty b
 
 -- a function that is found is one of the functions
@@ -339,13 +301,10 @@ pub function_there : (t : Tables) (name : List ℕ) (f : FunctionTree)
     × (slice_get t.functions i ≡ Some f)
 function_there t name f e = by_index (index_of name (function_names t)) refl e
   where
-    none_some : None ≡ Some f → ⊥
-    none_some e = cc
-
     by_index : (o : Option ℕ) → index_of name (function_names t) ≡ o
         → option_and_then (slice_get t.functions) o ≡ Some f
         → (i : ℕ) × (index_of name (function_names t) ≡ Some i) × (slice_get t.functions i ≡ Some f)
-    by_index None is e = absurd (none_some e)
+    by_index None is e = absurd (none-some f e)
     by_index (Some i) is e = (i, is, e)
 
 call_good : (t : Tables) (name : List ℕ) (o : Option FunctionTree) (n place : ℕ) (taken : Bool)
@@ -362,14 +321,6 @@ call_good t name (Some f) n place taken h is e all =
     × (slice_get t.functions i ≡ Some f) = function_there t name f is in
     rw (may.1, all) (result_good t f.result_type may.0 (h.results there.0 f there.2))
 
-given_good : (t : Tables) (b : Bool) (ty : ValueType) → b ≡ true → IsGood t ty
-    → IsGood t (type_if b ty)
-given_good t true ty e g = g
-given_good t false ty e g = absurd (false_true e)
-  where
-    false_true : false ≡ true → ⊥
-    false_true e = cc
-
 mutual
   -- an expression that breaks no rule denotes something good
   pub kind_good : (t : Tables) (r : ℕ) (v : Variables) (e : ExprTree) → IsSane t
@@ -380,7 +331,7 @@ mutual
   kind_good t r v (expr.Variable name) h a b =
       found_good t r (variable_type name.text v.scopes) (variable_register name.text v.locals)
       (found t r name.text v.scopes v.locals a)
-      (kept (is_some (variable_type name.text v.scopes)) name.place UnknownName b)
+      (holds (is_some (variable_type name.text v.scopes)) name.place UnknownName b)
   kind_good t r v (expr.Call name all) h a b =
       let o : Option FunctionTree = function_named t name.text in
       call_good t name.text o (argument_count all) name.place
@@ -419,10 +370,10 @@ mutual
       value_good t (broken_in t s index) (kind_of t s index)
       (kind_good t r v index h a (none_left (broken_in t s index) _ u)) u in
       let good : (is_indexed (kind_of t s base) && is_int (type_of t s index)) ≡ true =
-      kept (is_indexed (kind_of t s base) && is_int (type_of t s index)) place Mismatch
+      holds (is_indexed (kind_of t s base) && is_int (type_of t s index)) place Mismatch
       (none_right (with_unindexed (broken_in t s index) (kind_of t s index)) _ rest) in
       let i : is_indexed (kind_of t s base) ≡ true =
-      and_left (is_indexed (kind_of t s base)) (is_int (type_of t s index)) good in
+      (and_parts (is_indexed (kind_of t s base)) (is_int (type_of t s index)) good).0 in
       rw (good, good_any t (type_of t s index) gi) (element_good t (kind_of t s base) gb i)
   kind_good t r v (expr.Unary op place x) h a b =
       let s : List Scope = v.scopes in
@@ -432,7 +383,7 @@ mutual
       value_good t (broken_in t s x) (kind_of t s x)
       (kind_good t r v x h a (none_left (broken_in t s x) _ u)) u in
       let good : applies op (type_of t s x) ≡ true =
-      kept (applies op (type_of t s x)) place Mismatch
+      holds (applies op (type_of t s x)) place Mismatch
       (none_right (with_unindexed (broken_in t s x) (kind_of t s x)) _ b) in
       rw (good, good_any t (type_of t s x) g) tt
   kind_good t r v (expr.Binary op place x y) h a b =
@@ -451,7 +402,7 @@ mutual
       value_good t (broken_in t s y) (kind_of t s y)
       (kind_good t r v y h a (none_left (broken_in t s y) _ w)) w in
       let good : joins_types op (type_of t s x) (type_of t s y) ≡ true =
-      kept (joins_types op (type_of t s x) (type_of t s y)) place Mismatch
+      holds (joins_types op (type_of t s x) (type_of t s y)) place Mismatch
       (none_right (with_unindexed (broken_in t s y) (kind_of t s y)) _ rest) in
       rw (good, good_any t (type_of t s x) gx, good_any t (type_of t s y) gy) tt
 
@@ -470,7 +421,7 @@ mutual
       value_good t (broken_in t s x) (kind_of t s x)
       (kind_good t r v x h a (none_left (broken_in t s x) _ u)) u in
       let good : type_takes (parameter_type t ps i) (type_of t s x) ≡ true =
-      kept (type_takes (parameter_type t ps i) (type_of t s x)) first Mismatch
+      holds (type_takes (parameter_type t ps i) (type_of t s x)) first Mismatch
       (none_left (unless (type_takes (parameter_type t ps i) (type_of t s x)) first Mismatch)
       _ later) in
       let others : all_taken t s ps (i + 1) rest ≡ true =

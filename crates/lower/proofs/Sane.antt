@@ -5,7 +5,9 @@ use Rattle.std.proofs.Common.{rules}
 use Rattle.std.specs.Prelude.{nat_le, nat_eq, ◌&&◌, ◌||◌, not, if◌then◌else◌, is_some, slice_get}
 use Rattle.std.specs.Prelude.{Option, None, Some, option_map, option_and_then, bytes_eq}
 use Rattle.std.specs.Option.{option_map_or}
-use Rattle.std.proofs.lemmas.Option.{slice_get-map, slice_get_within}
+use Rattle.std.proofs.lemmas.Option.{slice_get-map, slice_get_within, none-some, same_Some}
+use Rattle.std.proofs.lemmas.Bool.{false≢true, and_parts}
+use Rattle.nvm_base.proofs.Tests.{le_from, le_true, some_of}
 use Rattle.c_tree.specs.ItemTree.{FunctionTree, FieldTree, LengthTree}
 use Rattle.c_tree.specs.Program.{Program, tree_of}
 use Rattle.c_types.specs.declared.broken.Rule.TheVariants.{UnknownName, Twice, TooBig, NoRoot}
@@ -23,9 +25,10 @@ use Rattle.c_types.specs.Declarations.{length_broken, field_broken, fields_broke
 use Rattle.c_types.specs.Declarations.{whole_struct_broken, structs_broken, root_item_broken}
 use Rattle.c_types.specs.Declarations.{roots_broken, function_broken, body_broken}
 use Rattle.c_types.specs.Declarations.{whole_function_broken, functions_broken}
+use Rattle.c_types.proofs.Unbroken.{none_left, none_right, holds}
 use Rattle.ir.specs.WellFormed.{struct_of, IsKind}
 use Rattle.lower.specs.Names.{found_number, struct_kind_at, field_number}
-use Rattle.lower.proofs.Few.{none_left, none_right, kept, not_at, and_left, le_from, le_true}
+use Rattle.lower.proofs.Few.{not_at}
 
 -- what holds of the tables of a program that breaks no rule
 pub record IsSane (t : Tables) : Type 0 where
@@ -41,29 +44,20 @@ pub record IsSane (t : Tables) : Type 0 where
 -- a name that is found is the name of an element
 pub index_of_in : {A : Type 0} (name_of : A → List ℕ) (name : List ℕ) (xs : List A) (i : ℕ)
     → index_of name (map name_of xs) ≡ Some i → (x : A) × (slice_get xs i ≡ Some x)
-index_of_in {A} name_of name [] i e = absurd (none_some e)
-  where
-    none_some : None ≡ Some i → ⊥
-    none_some e = cc
+index_of_in {A} name_of name [] i e = absurd (none-some i e)
 index_of_in {A} name_of name (x ∷ xs) i e =
     by_test (bytes_eq name (name_of x)) (index_of name (map name_of xs))
     (λ j is. index_of_in name_of name xs j is) e
   where
-    none_some : None ≡ Some i → ⊥
-    none_some e = cc
-
     later_same : (j : ℕ) → Some (suc j) ≡ Some i → suc j ≡ i
     later_same j e = cc
-
-    zero_same : Some 0 ≡ Some i → 0 ≡ i
-    zero_same e = cc
 
     by_test : (b : Bool) (o : Option ℕ)
         → ((j : ℕ) → o ≡ Some j → (y : A) × (slice_get xs j ≡ Some y))
         → (if b then Some 0 else option_map suc o) ≡ Some i
         → (y : A) × (slice_get (x ∷ xs) i ≡ Some y)
-    by_test true o rest e = let at : 0 ≡ i = zero_same e in (x, rw (← at) refl)
-    by_test false None rest e = absurd (none_some e)
+    by_test true o rest e = let at : 0 ≡ i = same_Some 0 i e in (x, rw (← at) refl)
+    by_test false None rest e = absurd (none-some i e)
     by_test false (Some j) rest e =
         let here : (y : A) × (slice_get xs j ≡ Some y) = rest j refl in
         let at : suc j ≡ i = later_same j e in
@@ -72,17 +66,11 @@ index_of_in {A} name_of name (x ∷ xs) i e =
 -- if no rule is broken in a list, none is broken by an element
 pub struct_at_place : (t : Tables) (i : ℕ) (ss : List StructTree) (j : ℕ) (s : StructTree)
     → structs_broken t i ss ≡ [] → slice_get ss j ≡ Some s → whole_struct_broken t (i + j) s ≡ []
-struct_at_place t i [] j s e is = absurd (none_some is)
-  where
-    none_some : None ≡ Some s → ⊥
-    none_some e = cc
+struct_at_place t i [] j s e is = absurd (none-some s is)
 struct_at_place t i (x ∷ ss) zero s e is =
-    rw (← some_same is, plus_zero i)
+    rw (← same_Some x s is, plus_zero i)
     (none_left (whole_struct_broken t i x) (structs_broken t (i + 1) ss) e)
   where
-    some_same : Some x ≡ Some s → x ≡ s
-    some_same e = cc
-
     plus_zero : (i : ℕ) → i + 0 ≡ i
     plus_zero i = omega arith
 struct_at_place t i (x ∷ ss) (suc j) s e is =
@@ -95,17 +83,11 @@ struct_at_place t i (x ∷ ss) (suc j) s e is =
 pub field_at_place : (t : Tables) (names : List (List ℕ)) (i : ℕ) (fs : List FieldTree) (j : ℕ)
     (f : FieldTree) → fields_broken t names i fs ≡ [] → slice_get fs j ≡ Some f
     → field_broken t names (i + j) f ≡ []
-field_at_place t names i [] j f e is = absurd (none_some is)
-  where
-    none_some : None ≡ Some f → ⊥
-    none_some e = cc
+field_at_place t names i [] j f e is = absurd (none-some f is)
 field_at_place t names i (x ∷ fs) zero f e is =
-    rw (← some_same is, plus_zero i)
+    rw (← same_Some x f is, plus_zero i)
     (none_left (field_broken t names i x) (fields_broken t names (i + 1) fs) e)
   where
-    some_same : Some x ≡ Some f → x ≡ f
-    some_same e = cc
-
     plus_zero : (i : ℕ) → i + 0 ≡ i
     plus_zero i = omega arith
 field_at_place t names i (x ∷ fs) (suc j) f e is =
@@ -118,17 +100,11 @@ field_at_place t names i (x ∷ fs) (suc j) f e is =
 pub function_at_place : (t : Tables) (i : ℕ) (fs : List FunctionTree) (j : ℕ) (f : FunctionTree)
     → functions_broken t i fs ≡ [] → slice_get fs j ≡ Some f
     → whole_function_broken t (i + j) f ≡ []
-function_at_place t i [] j f e is = absurd (none_some is)
-  where
-    none_some : None ≡ Some f → ⊥
-    none_some e = cc
+function_at_place t i [] j f e is = absurd (none-some f is)
 function_at_place t i (x ∷ fs) zero f e is =
-    rw (← some_same is, plus_zero i)
+    rw (← same_Some x f is, plus_zero i)
     (none_left (whole_function_broken t i x) (functions_broken t (i + 1) fs) e)
   where
-    some_same : Some x ≡ Some f → x ≡ f
-    some_same e = cc
-
     plus_zero : (i : ℕ) → i + 0 ≡ i
     plus_zero i = omega arith
 function_at_place t i (x ∷ fs) (suc j) f e is =
@@ -147,7 +123,7 @@ structs_few t i (s ∷ ss) le e =
     none_left (whole_struct_broken t i s) (structs_broken t (i + 1) ss) e in
     let own : struct_broken t i s ≡ [] = none_left (struct_broken t i s) _ whole in
     let room : i + 1 ≤ 255 = not_at 255 i le
-    (kept (not (nat_eq i 255)) s.name.place (TooBig limit.Structs 256)
+    (holds (not (nat_eq i 255)) s.name.place (TooBig limit.Structs 256)
     (none_left (unless (not (nat_eq i 255)) s.name.place (TooBig limit.Structs 256)) _
     (none_right (unless (is_first (struct_named t s.name.text) i) s.name.place Twice) _ own))) in
     let less : (i + 1) + length ss ≤ 255 =
@@ -168,7 +144,7 @@ functions_few t i (f ∷ fs) le e =
     ++ unless (not f.tx || _) f.name.place BadTx) ≡ [] =
     none_right (option_map_or (type_broken t) f.result_type []) _ own in
     let room : i + 1 ≤ 1024 = not_at 1024 i le
-    (kept (not (nat_eq i 1024)) f.name.place (TooBig limit.Functions 1025)
+    (holds (not (nat_eq i 1024)) f.name.place (TooBig limit.Functions 1025)
     (none_left (unless (not (nat_eq i 1024)) f.name.place (TooBig limit.Functions 1025)) _
     (none_right (unless (is_first (index_of f.name.text (function_names t)) i) f.name.place Twice)
     _ later))) in
@@ -180,17 +156,14 @@ functions_few t i (f ∷ fs) le e =
 -- each field has at least one word
 length_some : (n : _) → is_length n ≡ true → 1 ≤ length_words n
 length_some (pos n) e =
-    let one : 1 ≤ n = le_from 1 n (and_left (nat_le 1 n) (nat_le n 512) e) in
+    let one : 1 ≤ n = le_from 1 n (and_parts (nat_le 1 n) (nat_le n 512) e).0 in
     rw e one
-length_some (negsuc n) e = absurd (false_true e)
-  where
-    false_true : false ≡ true → ⊥
-    false_true e = cc
+length_some (negsuc n) e = absurd (false≢true e)
 
 words_some : (l : Option LengthTree) → option_map_or length_broken l [] ≡ []
     → 1 ≤ option_map_or (λ l. length_words l.value) l 1
 words_some None e = omega arith
-words_some (Some l) e = length_some l.value (kept (is_length l.value) l.place _ e)
+words_some (Some l) e = length_some l.value (holds (is_length l.value) l.place _ e)
 
 fields_few : (t : Tables) (names : List (List ℕ)) (i : ℕ) (fs : List FieldTree)
     → fields_broken t names i fs ≡ [] → length fs ≤ words_from names i fs
@@ -201,7 +174,7 @@ fields_few t names i (f ∷ fs) e =
     let later : unless (is_first (index_of f.name.text names) i) f.name.place Twice
     ++ option_map_or length_broken f.len [] ≡ [] = none_right (type_broken t f.ty) _ own in
     let first : is_first (index_of f.name.text names) i ≡ true =
-    kept (is_first (index_of f.name.text names) i) f.name.place Twice
+    holds (is_first (index_of f.name.text names) i) f.name.place Twice
     (none_left (unless (is_first (index_of f.name.text names) i) f.name.place Twice) _ later) in
     let one : 1 ≤ field_words f = words_some f.len
     (none_right (unless (is_first (index_of f.name.text names) i) f.name.place Twice)
@@ -231,12 +204,12 @@ struct_fields t i s e =
     none_right (unless (not (nat_eq i 255)) s.name.place (TooBig limit.Structs 256)) _
     (none_right (unless (is_first (struct_named t s.name.text) i) s.name.place Twice) _ own) in
     let a : (root || nat_le (words_of_struct s) 15) ≡ true =
-    kept (root || nat_le (words_of_struct s) 15) s.name.place
+    holds (root || nat_le (words_of_struct s) 15) s.name.place
     (TooBig limit.Struct (words_of_struct s))
     (none_left (unless (root || nat_le (words_of_struct s) 15) s.name.place
     (TooBig limit.Struct (words_of_struct s))) _ third) in
     let b : (not root || nat_le (words_of_struct s) 512) ≡ true =
-    kept (not root || nat_le (words_of_struct s) 512) s.name.place
+    holds (not root || nat_le (words_of_struct s) 512) s.name.place
     (TooBig limit.Root (words_of_struct s))
     (none_right (unless (root || nat_le (words_of_struct s) 15) s.name.place
     (TooBig limit.Struct (words_of_struct s))) _ third) in
@@ -246,25 +219,15 @@ struct_fields t i s e =
     fields_few t (field_names s) 0 s.fields fields in
     (omega (arith, small, less), fields)
 
-pub some_of : {A : Type 0} (o : Option A) → is_some o ≡ true → (x : A) × (o ≡ Some x)
-some_of None e = absurd (false_true e)
-  where
-    false_true : false ≡ true → ⊥
-    false_true e = cc
-some_of (Some x) e = (x, refl)
-
 -- the root's struct
 root_there : (t : Tables) (rs : List RootTree) → is_some (slice_get rs 0) ≡ true
     → roots_broken t 0 rs ≡ []
     → (i : ℕ) × (s : StructTree) × (option_and_then (λ (r : RootTree). struct_named t r.name.text)
     (slice_get rs 0) ≡ Some i) × (slice_get t.structs i ≡ Some s)
-root_there t [] e b = absurd (false_true e)
-  where
-    false_true : false ≡ true → ⊥
-    false_true e = cc
+root_there t [] e b = absurd (false≢true e)
 root_there t (r ∷ rs) e b =
     let i : (i : ℕ) × (struct_named t r.name.text ≡ Some i) =
-    some_of (struct_named t r.name.text) (kept (is_some (struct_named t r.name.text)) r.name.place
+    some_of (struct_named t r.name.text) (holds (is_some (struct_named t r.name.text)) r.name.place
     UnknownName
     (none_left (unless (is_some (struct_named t r.name.text)) r.name.place UnknownName) _
     (none_left (root_item_broken t 0 r) (roots_broken t (0 + 1) rs) b))) in
@@ -291,7 +254,7 @@ sane tree e =
     let l2 : unless (is_some (slice_get t.roots 0)) (length tree.lines) NoRoot ++ functions_broken t
     0 t.functions ≡ [] = none_right (roots_broken t 0 t.roots) _ l1 in
     let e3 : is_some (slice_get t.roots 0) ≡ true =
-    kept (is_some (slice_get t.roots 0)) (length tree.lines) NoRoot
+    holds (is_some (slice_get t.roots 0)) (length tree.lines) NoRoot
     (none_left (unless (is_some (slice_get t.roots 0)) (length tree.lines) NoRoot)
     (functions_broken t 0 t.functions) l2) in
     let e4 : functions_broken t 0 t.functions ≡ [] =
@@ -322,20 +285,14 @@ numbered_at : (i j : ℕ) (ss : List StructTree) (s : StructTree) → slice_get 
     → nat_le (words_of_struct s) 15 ≡ true
     → (m : ℕ) × (numbered_up_to (i + j) i ss ≡ suc m) × (slice_get (numbered ss) m ≡ Some s)
     × (m < length ss)
-numbered_at i j [] s is ok = absurd (none_some is)
-  where
-    none_some : None ≡ Some s → ⊥
-    none_some e = cc
+numbered_at i j [] s is ok = absurd (none-some s is)
 numbered_at i zero (x ∷ ss) s is ok =
-    let same : x ≡ s = some_same is in
+    let same : x ≡ s = same_Some x s is in
     let okx : nat_le (words_of_struct x) 15 ≡ true = rw same ok in
     let here : nat_le i (i + 0) ≡ true = le_true i (i + 0) (omega arith) in
     let rest : numbered_up_to (i + 0) (i + 1) ss ≡ 0 =
     none_later (i + 0) (i + 1) ss (omega arith) in
     (0, rw (here, okx, rest) refl, rw okx (ap Some same), omega arith)
-  where
-    some_same : Some x ≡ Some s → x ≡ s
-    some_same e = cc
 numbered_at i (suc j) (x ∷ ss) s is ok =
     let h : (m : ℕ) × (numbered_up_to ((i + 1) + j) (i + 1) ss ≡ suc m)
     × (slice_get (numbered ss) m ≡ Some s) × (m < length ss) = numbered_at (i + 1) j ss s is ok in
@@ -396,7 +353,7 @@ pub record IsFieldOf (t : Tables) (i : ℕ) (s : StructTree) (name : List ℕ) (
   pub place : ℕ
   pub found : slice_get s.fields place ≡ Some f
   pub number : field_number t name (Some i) ≡ place
-  pub kept : field_broken t (field_names s) (0 + place) f ≡ []
+  pub holds : field_broken t (field_names s) (0 + place) f ≡ []
 
 pub field_of_struct : (t : Tables) (i : ℕ) (s : StructTree) (name : List ℕ) (f : FieldTree)
     → IsSane t → slice_get t.structs i ≡ Some s → field_named s name ≡ Some f
@@ -406,12 +363,9 @@ field_of_struct t i s name f h is named = by_index (index_of name (field_names s
     small_number : (n : ℕ) → n < 512 → found_number (Some n) ≡ n
     small_number n lt = omega (arith, lt)
 
-    none_some : None ≡ Some f → ⊥
-    none_some e = cc
-
     by_index : (o : Option ℕ) → index_of name (field_names s) ≡ o
         → option_and_then (slice_get s.fields) o ≡ Some f → IsFieldOf t i s name f
-    by_index None at e = absurd (none_some e)
+    by_index None at e = absurd (none-some f e)
     by_index (Some j) at e =
         let fields : (length s.fields ≤ 512) × (fields_broken t (field_names s) 0 s.fields ≡ []) =
         h.fields i s is in
@@ -420,5 +374,5 @@ field_of_struct t i s name f h is named = by_index (index_of name (field_names s
           place = j;
           found = e;
           number = rw (is, at) (small_number j (omega (arith, within, fields.0)));
-          kept = field_at_place t (field_names s) 0 s.fields j f fields.1 e;
+          holds = field_at_place t (field_names s) 0 s.fields j f fields.1 e;
         }

@@ -5,6 +5,7 @@ use Rattle.std.specs.Prelude.{Some, slice_get, option_map}
 use Rattle.std.specs.List.{AllByRecursion}
 use Rattle.std.proofs.lemmas.List.{length-map}
 use Rattle.std.proofs.lemmas.Option.{slice_get-map}
+use Rattle.nvm_base.proofs.Lists.{all_append}
 use Rattle.c_tree.specs.ItemTree.{FunctionTree, ParameterTree}
 use Rattle.c_tree.specs.Program.{Program, tree_of}
 use Rattle.c_types.specs.Tables.{Tables, tables_of, declared_type}
@@ -16,6 +17,7 @@ use Rattle.c_types.specs.Declarations.{type_given, parameters_broken, function_b
 use Rattle.c_types.specs.Declarations.{whole_function_broken, functions_broken}
 use Rattle.c_types.specs.Fault.{breaks}
 use Rattle.c_types.specs.Shapes.{shapes_in}
+use Rattle.c_types.proofs.Unbroken.{none_left, none_right}
 use Rattle.ir.specs.declared.instruction.Instruction.{Instruction}
 use Rattle.ir.specs.declared.instruction.Instruction.TheVariants.{Return}
 use Rattle.ir.specs.declared.function.IrFunction.{IrFunction}
@@ -26,11 +28,10 @@ use Rattle.lower.specs.Lowers.{Context, statements_end, statements_code}
 use Rattle.lower.specs.Program.{parameters_end, parameters_code, variables_after_parameters}
 use Rattle.lower.specs.Program.{no_variables, function_code, context_at, lowered_function, lowered}
 use Rattle.lower.specs.inside.Program.{function_end, IsCounted}
-use Rattle.lower.proofs.Few.{none_left, none_right}
 use Rattle.lower.proofs.Ends.{statements_end_le}
 use Rattle.lower.proofs.Sane.{IsSane, sane, broken_functions}
 use Rattle.lower.proofs.Alike.{Alike, alike_declared}
-use Rattle.lower.proofs.ExprSound.{IsPlaced, all_append}
+use Rattle.lower.proofs.ExprSound.{IsPlaced}
 use Rattle.lower.proofs.StmtSound.{statements_sound, parameters_sound}
 
 ends_return : (xs : List Instruction) (from : ℕ) → EndsWell (xs ++ Return from ∷ [])

@@ -18,7 +18,7 @@ use Rattle.c_tree.specs.StmtTree.{StmtTree, Statements, SimpleTree, FirstTree, D
 use Rattle.c_tree.specs.StmtTree.{InitialTree}
 use Rattle.c_tree.specs.Program.{source_line}
 use Rattle.c_tree.proofs.Trees.{stmt_of-Block}
-use Rattle.c_types.specs.Tables.{declared_type}
+use Rattle.c_types.specs.Tables.{declared_type, pointed_struct}
 use Rattle.c_types.specs.declared.value_type.ValueType.{ValueType}
 use Rattle.ir.specs.declared.instruction.Target.{Target}
 use Rattle.ir.specs.declared.instruction.Instruction.{Instruction}
@@ -26,7 +26,7 @@ use Rattle.ir.specs.declared.instruction.Instruction.TheVariants.{Const, Copy, B
 use Rattle.ir.specs.declared.instruction.Instruction.TheVariants.{Load, Store, Free, Return, Tick}
 use Rattle.ir.specs.declared.instruction.Instruction.TheVariants.{Trap}
 use Rattle.lower.specs.Names.{Variables, inner_variables, variable_declared, register_of}
-use Rattle.lower.specs.Names.{variable_of, struct_kind_at, struct_pointed_to}
+use Rattle.lower.specs.Names.{variable_of, struct_kind_at}
 use Rattle.lower.specs.inside.Names.{outer_variables}
 use Rattle.lower.specs.inside.Holes.{leave, third_part, to_place, hole_filled, fill_from}
 use Rattle.lower.specs.Lowers.{Context, exp_end, exp_code, reg_of, target_end, target_code}
@@ -609,12 +609,12 @@ pub free_added : (k : Context) (v : Variables) (place : ℕ) (pointer : ExprTree
     (c c1 c2 : List Instruction) (r : ℕ)
     → ExprAdded k v pointer c c1 r
     → c2 ≡ c1 ++ Free r (struct_kind_at k.tables
-    (struct_pointed_to (type_of k.tables v.scopes pointer))) (source_line k.tree place) ∷ []
+    (pointed_struct (type_of k.tables v.scopes pointer))) (source_line k.tree place) ∷ []
     → SimpleAdded k v (stmt.Free place pointer) c c2
 free_added k v place pointer c c1 c2 r h e =
     let E : List Instruction = exp_code k v pointer (length c) in
     let kind : ℕ = struct_kind_at k.tables
-    (struct_pointed_to (type_of k.tables v.scopes pointer)) in
+    (pointed_struct (type_of k.tables v.scopes pointer)) in
     let r' : r ≡ reg_of k v pointer (exp_end pointer (length c)) =
     h.register ∙ ap (reg_of k v pointer) h.long in
     record {

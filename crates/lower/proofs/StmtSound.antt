@@ -4,8 +4,11 @@ use Rattle.std.proofs.Common.{length, refl, sym, subst, ◌∙◌, arith}
 use Rattle.std.specs.Prelude.{is_some, Option, None, Some, if◌then◌else◌}
 use Rattle.std.specs.Option.{option_map_or}
 use Rattle.std.specs.List.{AllByRecursion}
+use Rattle.std.proofs.lemmas.Bool.{false≢true}
+use Rattle.std.proofs.lemmas.Option.{none-some, same_Some}
 use Rattle.nvm_base.specs.declared.op.BinOp.{BinOp}
 use Rattle.nvm_base.specs.declared.op.BinOp.TheVariants as op
+use Rattle.nvm_base.proofs.Lists.{all_append}
 use Rattle.c_tree.specs.declared.stmt.AssignOp.TheVariants as assign
 use Rattle.c_tree.specs.ExprTree as expr
 use Rattle.c_tree.specs.ExprTree.{ExprTree, Arguments, Ident}
@@ -18,7 +21,7 @@ use Rattle.c_types.specs.declared.value_type.ValueType.TheVariants.{Int, Pointer
 use Rattle.c_types.specs.declared.broken.Rule.TheVariants.{UnknownName, Mismatch, NotAssignable}
 use Rattle.c_types.specs.Broken.{unless}
 use Rattle.c_types.specs.Fits.{is_int, is_pointer, assigns}
-use Rattle.c_types.specs.Tables.{Tables, function_named, declared_type}
+use Rattle.c_types.specs.Tables.{Tables, function_named, declared_type, pointed_struct}
 use Rattle.c_types.specs.Expressions.{Scope, variable_type, value_broken, type_of, kind_of}
 use Rattle.c_types.specs.Expressions.{broken_in, call_broken, parameters_of, argument_count}
 use Rattle.c_types.specs.Statements as types
@@ -27,12 +30,13 @@ use Rattle.c_types.specs.Statements.{declaration_broken, first_broken, return_br
 use Rattle.c_types.specs.Statements.{statement_broken, statements_broken}
 use Rattle.c_types.specs.Declarations as declarations
 use Rattle.c_types.specs.Declarations.{parameter_broken, parameters_broken, scopes_after_parameter}
+use Rattle.c_types.proofs.Unbroken.{none_left, none_right, holds}
 use Rattle.ir.specs.declared.instruction.Instruction.TheVariants.{Copy}
 use Rattle.ir.specs.declared.function.Ir.{Ir}
 use Rattle.ir.specs.WellFormed.{IsTarget, IsKind, IsInstruction}
 use Rattle.lower.specs.Assigned.{is_assigned}
 use Rattle.lower.specs.Names.{Variables, inner_variables, variable_declared, variable_register}
-use Rattle.lower.specs.Names.{register_of, variable_of, struct_kind_at, struct_pointed_to}
+use Rattle.lower.specs.Names.{register_of, variable_of, struct_kind_at}
 use Rattle.lower.specs.Lowers.{Context, exp_end, exp_code, reg_of, target_end, target_code}
 use Rattle.lower.specs.Lowers.{target_of, arguments_end, arguments_code, or_end, or_code, or_reg}
 use Rattle.lower.specs.Lowers.{set_end, set_code, update_end, update_code, step_operation}
@@ -41,14 +45,13 @@ use Rattle.lower.specs.Lowers.{variables_after_declaration, first_end, first_cod
 use Rattle.lower.specs.Lowers.{variables_after_first, third_end, third_code, variables_after}
 use Rattle.lower.specs.Lowers.{stmt_end, stmt_code, statements_end, statements_code}
 use Rattle.lower.specs.Program.{parameters_end, parameters_code, variables_after_parameters}
-use Rattle.lower.proofs.Few.{none_left, none_right, kept}
 use Rattle.lower.proofs.Ends.{exp_end_le, or_end_le, third_end_le, stmt_end_le, statements_end_le}
 use Rattle.lower.proofs.Sane.{IsKindOf, kind_of_struct}
 use Rattle.lower.proofs.GoodTypes.{IsGood, Agree, found, found_register, declared_good}
 use Rattle.lower.proofs.GoodTypes.{agree_declared}
 use Rattle.lower.proofs.Alike.{IsSame, Alike, alike_same, alike_declared, value_same, or_same}
 use Rattle.lower.proofs.Alike.{initial_same, simple_same, third_same}
-use Rattle.lower.proofs.ExprSound.{IsPlaced, IsPlace, all_append, value_fits, type_good, reg_below}
+use Rattle.lower.proofs.ExprSound.{IsPlaced, IsPlace, value_fits, type_good, reg_below}
 use Rattle.lower.proofs.ExprSound.{call_takes, exp_sound, target_sound, arguments_sound}
 
 -- the target of an assignment is a variable or a place
@@ -60,54 +63,30 @@ target_place (expr.Variable name) is e = absurd (some_none is)
 target_place (expr.Root name) is e = tt
 target_place (expr.Arrow base place name) is e = tt
 target_place (expr.Index base place index) is e = tt
-target_place (expr.Number m) is e = absurd (false_true e)
-  where
-    false_true : false ≡ true → ⊥
-    false_true e = cc
-target_place expr.Null is e = absurd (false_true e)
-  where
-    false_true : false ≡ true → ⊥
-    false_true e = cc
-target_place (expr.Call name all) is e = absurd (false_true e)
-  where
-    false_true : false ≡ true → ⊥
-    false_true e = cc
-target_place (expr.New place name) is e = absurd (false_true e)
-  where
-    false_true : false ≡ true → ⊥
-    false_true e = cc
-target_place (expr.Unary o place a) is e = absurd (false_true e)
-  where
-    false_true : false ≡ true → ⊥
-    false_true e = cc
-target_place (expr.Binary o place a b) is e = absurd (false_true e)
-  where
-    false_true : false ≡ true → ⊥
-    false_true e = cc
-
-none_some : (name : Ident) → None ≡ Some name → ⊥
-none_some name e = cc
+target_place (expr.Number m) is e = absurd (false≢true e)
+target_place expr.Null is e = absurd (false≢true e)
+target_place (expr.Call name all) is e = absurd (false≢true e)
+target_place (expr.New place name) is e = absurd (false≢true e)
+target_place (expr.Unary o place a) is e = absurd (false≢true e)
+target_place (expr.Binary o place a b) is e = absurd (false≢true e)
 
 variable_below : (k : Context) (r : ℕ) (v : Variables) (e : ExprTree) (name : Ident)
     → Agree k.tables r v.scopes v.locals → variable_of e ≡ Some name
     → broken_in k.tables v.scopes e ≡ [] → register_of name.text v < r
 variable_below k r v (expr.Variable x) name a is b =
-    subst (λ (y : Ident). register_of y.text v < r) (some_same is)
+    subst (λ (y : Ident). register_of y.text v < r) (same_Some x name is)
     (found_register k.tables r (variable_type x.text v.scopes) (variable_register x.text v.locals)
     (found k.tables r x.text v.scopes v.locals a)
-    (kept (is_some (variable_type x.text v.scopes)) x.place UnknownName b))
-  where
-    some_same : Some x ≡ Some name → x ≡ name
-    some_same e = cc
-variable_below k r v (expr.Root x) name a is b = absurd (none_some name is)
-variable_below k r v (expr.Arrow base place x) name a is b = absurd (none_some name is)
-variable_below k r v (expr.Index base place index) name a is b = absurd (none_some name is)
-variable_below k r v (expr.Number m) name a is b = absurd (none_some name is)
-variable_below k r v expr.Null name a is b = absurd (none_some name is)
-variable_below k r v (expr.Call x all) name a is b = absurd (none_some name is)
-variable_below k r v (expr.New place x) name a is b = absurd (none_some name is)
-variable_below k r v (expr.Unary o place x) name a is b = absurd (none_some name is)
-variable_below k r v (expr.Binary o place x y) name a is b = absurd (none_some name is)
+    (holds (is_some (variable_type x.text v.scopes)) x.place UnknownName b))
+variable_below k r v (expr.Root x) name a is b = absurd (none-some name is)
+variable_below k r v (expr.Arrow base place x) name a is b = absurd (none-some name is)
+variable_below k r v (expr.Index base place index) name a is b = absurd (none-some name is)
+variable_below k r v (expr.Number m) name a is b = absurd (none-some name is)
+variable_below k r v expr.Null name a is b = absurd (none-some name is)
+variable_below k r v (expr.Call x all) name a is b = absurd (none-some name is)
+variable_below k r v (expr.New place x) name a is b = absurd (none-some name is)
+variable_below k r v (expr.Unary o place x) name a is b = absurd (none-some name is)
+variable_below k r v (expr.Binary o place x y) name a is b = absurd (none-some name is)
 
 place_sound : (k : Context) (ir : Ir) (r n : ℕ) (v : Variables) (e : ExprTree) (p : ℕ)
     → IsPlaced k ir r n → Agree k.tables r v.scopes v.locals → variable_of e ≡ None
@@ -195,18 +174,12 @@ update_sound k ir r n v None target place o value p h a is good b c lt =
 
 pointer_kind : (k : Context) (ir : Ir) (r n : ℕ) (ty : ValueType) → IsPlaced k ir r n
     → IsGood k.tables ty → is_pointer ty ≡ true
-    → IsKind ir.shapes (struct_kind_at k.tables (struct_pointed_to ty))
+    → IsKind ir.shapes (struct_kind_at k.tables (pointed_struct ty))
 pointer_kind k ir r n (Pointer i) h g e =
     let kind : IsKindOf k.tables i g.0 = kind_of_struct k.tables i g.0 h.sane.structs g.1 g.2 in
     rw h.shapes kind.kind
-pointer_kind k ir r n Int h g e = absurd (false_true e)
-  where
-    false_true : false ≡ true → ⊥
-    false_true e = cc
-pointer_kind k ir r n Null h g e = absurd (false_true e)
-  where
-    false_true : false ≡ true → ⊥
-    false_true e = cc
+pointer_kind k ir r n Int h g e = absurd (false≢true e)
+pointer_kind k ir r n Null h g e = absurd (false≢true e)
 pointer_kind k ir r n Any h g e = absurd g
 
 simple_sound : (k : Context) (ir : Ir) (r n : ℕ) (v : Variables) (x : SimpleTree) (p : ℕ)
@@ -219,7 +192,7 @@ simple_sound k ir r n v (stmt.Assign target assign.Set place value) p h a b lt =
     let rest = none_right (value_broken t v.scopes target) _ b in
     let d : value_broken t v.scopes value ≡ [] = none_left (value_broken t v.scopes value) _ rest in
     let good : is_target target ≡ true =
-    kept (is_target target) place NotAssignable
+    holds (is_target target) place NotAssignable
     (none_right (unless (assigns assign.Set (type_of t v.scopes target)
     (type_of t v.scopes value)) place Mismatch) _
     (none_right (value_broken t v.scopes value) _ rest)) in
@@ -230,7 +203,7 @@ simple_sound k ir r n v (stmt.Assign target assign.Add place value) p h a b lt =
     let rest = none_right (value_broken t v.scopes target) _ b in
     let d : value_broken t v.scopes value ≡ [] = none_left (value_broken t v.scopes value) _ rest in
     let good : is_target target ≡ true =
-    kept (is_target target) place NotAssignable
+    holds (is_target target) place NotAssignable
     (none_right (unless (assigns assign.Add (type_of t v.scopes target)
     (type_of t v.scopes value)) place Mismatch) _
     (none_right (value_broken t v.scopes value) _ rest)) in
@@ -242,7 +215,7 @@ simple_sound k ir r n v (stmt.Assign target assign.Sub place value) p h a b lt =
     let rest = none_right (value_broken t v.scopes target) _ b in
     let d : value_broken t v.scopes value ≡ [] = none_left (value_broken t v.scopes value) _ rest in
     let good : is_target target ≡ true =
-    kept (is_target target) place NotAssignable
+    holds (is_target target) place NotAssignable
     (none_right (unless (assigns assign.Sub (type_of t v.scopes target)
     (type_of t v.scopes value)) place Mismatch) _
     (none_right (value_broken t v.scopes value) _ rest)) in
@@ -253,7 +226,7 @@ simple_sound k ir r n v (stmt.Step target o place) p h a b lt =
     let c : value_broken t v.scopes target ≡ [] = none_left (value_broken t v.scopes target) _ b in
     let rest = none_right (value_broken t v.scopes target) _ b in
     let good : is_target target ≡ true =
-    kept (is_target target) place NotAssignable
+    holds (is_target target) place NotAssignable
     (none_right (unless (is_int (type_of t v.scopes target)) place Mismatch) _ rest) in
     update_sound k ir r n v (variable_of target) target place (step_operation o) None p h a refl
     good c refl lt
@@ -279,7 +252,7 @@ simple_sound k ir r n v (stmt.Free place pointer) p h a b lt =
     let c : value_broken t v.scopes pointer ≡ [] =
     none_left (value_broken t v.scopes pointer) _ b in
     let good : is_pointer (type_of t v.scopes pointer) ≡ true =
-    kept (is_pointer (type_of t v.scopes pointer)) place Mismatch
+    holds (is_pointer (type_of t v.scopes pointer)) place Mismatch
     (none_right (value_broken t v.scopes pointer) _ b) in
     all_append (IsInstruction ir r n) (exp_code k v pointer p) _
     (exp_sound k ir r n v pointer p h a c (omega (arith, lt))) (
@@ -309,10 +282,6 @@ initial_sound k ir r n v ty (Some i) p h a b lt =
       ),
       tt,
     )
-
-initial_some : (i : Option InitialTree) (p : ℕ) → 1 ≤ initial_end i p
-initial_some None p = omega arith
-initial_some (Some i) p = omega arith
 
 declaration_code_sound : (k : Context) (ir : Ir) (r n : ℕ) (s : List Scope) (v : Variables)
     (d : DeclarationTree) (p : ℕ) → IsPlaced k ir r n → Agree k.tables r v.scopes v.locals
@@ -406,7 +375,7 @@ return_value : (k : Context) (gives : Option ValueType) (s : List Scope) (place 
 return_value k gives s place None b = refl
 return_value k gives s place (Some e) b = none_left (value_broken k.tables s e) _ b
 
--- the rules are kept in scopes in which each name means what it means to the code
+-- the rules are holds in scopes in which each name means what it means to the code
 mutual
   pub stmt_sound : (k : Context) (ir : Ir) (r n : ℕ) (gives : Option ValueType) (s : List Scope)
       (v : Variables) (x : StmtTree) (out again p : ℕ) → IsPlaced k ir r n

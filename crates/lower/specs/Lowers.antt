@@ -14,7 +14,7 @@ use Rattle.c_tree.specs.StmtTree as stmt
 use Rattle.c_tree.specs.StmtTree.{StmtTree, Statements, SimpleTree, FirstTree, DeclarationTree}
 use Rattle.c_tree.specs.StmtTree.{InitialTree}
 use Rattle.c_tree.specs.Program.{Program, source_line}
-use Rattle.c_types.specs.Tables.{Tables, declared_type}
+use Rattle.c_types.specs.Tables.{Tables, declared_type, pointed_struct}
 use Rattle.c_types.specs.Expressions.{type_of}
 use Rattle.ir.specs.declared.instruction.Target.{Target}
 use Rattle.ir.specs.declared.instruction.Instruction.{Instruction}
@@ -25,7 +25,7 @@ use Rattle.lower.specs.declared.form.Form.{Form}
 use Rattle.lower.specs.declared.form.Form.TheVariants.{Both, Either, Direct, Exchanged}
 use Rattle.lower.specs.Forms.{form_of}
 use Rattle.lower.specs.Names.{Variables, inner_variables, variable_declared, register_of}
-use Rattle.lower.specs.Names.{function_number, kind_named, struct_kind_at, struct_pointed_to}
+use Rattle.lower.specs.Names.{function_number, kind_named, struct_kind_at}
 use Rattle.lower.specs.Names.{root_target, field_target, element_target, no_target, variable_of}
 
 -- what code is made from: the meaning of the names of structs and functions, the tree with its
@@ -264,7 +264,7 @@ simple_code s v (stmt.Step target o place) p =
 simple_code s v (stmt.Call name all) p = exp_code s v (expr.Call name all) p
 simple_code s v (stmt.Free place pointer) p =
     exp_code s v pointer p ++ Free (reg_of s v pointer (exp_end pointer p))
-    (struct_kind_at s.tables (struct_pointed_to (type_of s.tables v.scopes pointer)))
+    (struct_kind_at s.tables (pointed_struct (type_of s.tables v.scopes pointer)))
     (source_line s.tree place) ∷ []
 simple_code s v (stmt.Abort place) p = Trap trap.Abort ∷ []
 

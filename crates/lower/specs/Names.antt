@@ -5,9 +5,8 @@ use Rattle.std.specs.Option.{option_map_or}
 use Rattle.c_tree.specs.ExprTree.{ExprTree, Ident}
 use Rattle.c_tree.specs.ExprTree as expr
 use Rattle.c_types.specs.declared.value_type.ValueType.{ValueType}
-use Rattle.c_types.specs.declared.value_type.ValueType.TheVariants.{Int, Pointer, Null, Any}
 use Rattle.c_types.specs.Tables.{Tables, index_of, field_names, struct_named, root_struct}
-use Rattle.c_types.specs.Tables.{number_at, function_names}
+use Rattle.c_types.specs.Tables.{number_at, function_names, pointed_struct}
 use Rattle.c_types.specs.Expressions.{Scope}
 use Rattle.c_types.specs.Statements as scopes
 use Rattle.ir.specs.declared.instruction.Target.{Target}
@@ -83,21 +82,14 @@ field_number t name found = option_map_or
     (λ i. option_map_or (λ s. found_number (index_of name (field_names s))) (slice_get t.structs i)
     nowhere) found nowhere
 
--- the struct that a pointer leads to
-abbrev pub struct_pointed_to : ValueType → Option ℕ
-struct_pointed_to (Pointer i) = Some i
-struct_pointed_to Int = None
-struct_pointed_to Null = None
-struct_pointed_to Any = None
-
 -- a field of the root
 abbrev pub root_target : Tables → List ℕ → Target
 root_target t name = Root (field_number t name (root_struct t)) None
 
 -- a field of the object that a pointer of that type leads to
 abbrev pub field_target : Tables → ValueType → ℕ → List ℕ → Target
-field_target t ty base name = Field base (struct_kind_at t (struct_pointed_to ty))
-    (field_number t name (struct_pointed_to ty)) None
+field_target t ty base name = Field base (struct_kind_at t (pointed_struct ty))
+    (field_number t name (pointed_struct ty)) None
 
 -- the element of an array field at the index in a register
 abbrev pub element_target : Target → ℕ → Target

@@ -3,14 +3,15 @@
 ghost use Rattle.std.specs.Prelude.{◌≡◌, option_map};
 ghost use Rattle.c_tree.specs.ExprTree.{expr_of, ident_of};
 ghost use Rattle.c_types.specs.Expressions as expressions;
+ghost use Rattle.c_types.specs.Tables as tables;
 ghost use Rattle.c_types.specs.Views.{tables_in};
 ghost use Rattle.lower.specs.Names as names;
 
 use c_tree::expr::{Expr, Name};
-use c_types::{Program, Scopes, ValueType, type_of};
+use c_types::{Program, Scopes, type_of};
 use ir::Target;
 
-/// The number for what doesn't exist. No code has so many functions, kinds, fields or registers.
+/// The number for what doesn't exist. No function, kind, field or register has it.
 pub const NOWHERE: u32 = u32::MAX;
 
 /// The number of what was found at this place.
@@ -47,25 +48,13 @@ pub fn kind_named(program: &Program<'_>, name: &Name) -> u32
     kind_at(program, program.struct_named(name.text.as_str()))
 }
 
-/// The place of the struct that a value of this type points to.
-fn struct_reached(ty: ValueType) -> Option<u64>
-    ensures { result ≡ names.struct_pointed_to ty }
-{
-    match ty {
-        ValueType::Pointer(at) => Some(at),
-        ValueType::Int => None,
-        ValueType::Null => None,
-        ValueType::Any => None,
-    }
-}
-
 /// The kind of the objects that an expression points to.
 pub fn kind_of_object(program: &Program<'_>, scopes: &Scopes<'_>, object: &Expr) -> u32
     ensures { result ≡ names.struct_kind_at (tables_in program.now)
-        (names.struct_pointed_to (expressions.type_of (tables_in program.now) scopes.now
+        (tables.pointed_struct (expressions.type_of (tables_in program.now) scopes.now
         (expr_of object.now))) }
 {
-    kind_at(program, struct_reached(type_of(program, scopes, object)))
+    kind_at(program, type_of(program, scopes, object).pointed_struct())
 }
 
 /// The number of a field of the struct at that place.
@@ -103,7 +92,7 @@ pub fn field_target(
         (expressions.type_of (tables_in program.now) scopes.now (expr_of object.now)) base
         field.now.text }
 {
-    let found = struct_reached(type_of(program, scopes, object));
+    let found = type_of(program, scopes, object).pointed_struct();
     Target::Field {
         base,
         kind: kind_at(program, found),

@@ -135,8 +135,8 @@ fn add_body<'a>(
     Ok(())
 }
 
-/// Appends a condition and the body. If the condition is 0, the code goes on so many places after
-/// the body.
+/// Appends a condition and the body. If the condition is 0, the code goes on `afterwards` places
+/// after the body.
 #[cycle(statements)]
 #[tactic(auto, using(crate::proofs::StmtAdds::statements))]
 fn add_if<'a>(

@@ -3,6 +3,7 @@ use Rattle.std.proofs.Common.{◌≡◌, ℕ, suc, ◌+◌, Bool, true, false, L
 use Rattle.std.proofs.Common.{refl, sym, ◌∙◌, subst}
 use Rattle.std.specs.Prelude.{Option, None, Some, not, nat_eq, if◌then◌else◌}
 use Rattle.std.specs.Option.{option_map_or}
+use Rattle.std.proofs.lemmas.Bool.{not-true}
 use Rattle.c_tree.specs.ExprTree.{ExprTree}
 use Rattle.c_tree.specs.StmtTree as stmt
 use Rattle.c_tree.specs.StmtTree.{StmtTree, Statements, SimpleTree, FirstTree, DeclarationTree}
@@ -27,6 +28,7 @@ use Rattle.c_types.specs.Statements.{return_broken, statement_broken, statements
 use Rattle.c_types.specs.Declarations as declarations
 use Rattle.c_types.specs.Declarations.{type_given, parameter_broken, parameters_broken}
 use Rattle.c_types.specs.Declarations.{scopes_after_parameter, function_broken, body_broken}
+use Rattle.c_types.proofs.Unbroken.{none_left, none_right, holds}
 use Rattle.ir.specs.declared.function.Ir.{Ir}
 use Rattle.lower.specs.Assigned.{is_assigned}
 use Rattle.lower.specs.Names.{Variables, inner_variables, variable_declared}
@@ -34,7 +36,6 @@ use Rattle.lower.specs.Lowers.{Context, exp_end, or_end, initial_end, variables_
 use Rattle.lower.specs.Lowers.{first_end, variables_after_first, variables_after, stmt_end}
 use Rattle.lower.specs.Program.{parameters_end, variables_after_parameters, no_variables}
 use Rattle.lower.specs.Program.{context_at, lowered}
-use Rattle.lower.proofs.Few.{none_left, none_right, kept}
 use Rattle.lower.proofs.Sane.{IsSane, sane, broken_functions, function_at_place}
 use Rattle.lower.proofs.GoodTypes.{IsGood, declared_good}
 use Rattle.lower.proofs.Alike.{IsSame, Alike, alike_same, alike_declared, value_same, or_same}
@@ -99,10 +100,6 @@ stands_inside t s v es same sees =
       sees = record { agrees = λ name. sees.agrees name; good = sees.good };
     }
 
-not_false : (b : Bool) → not b ≡ true → b ≡ false
-not_false true e = sym e
-not_false false e = refl
-
 within_declared : (t : Tables) (s : List Scope) (v : Variables) (es : List Entry) (name : List ℕ)
     (ty : ValueType) (r : ℕ) → IsGood t ty → is_declared name s ≡ false → Within t s v es
     → Within t (types.scope_declared name ty s) (variable_declared name ty r v)
@@ -130,7 +127,7 @@ module _ (k : Context) (ir : Ir) (whole : IsSane k.tables) (shaped : ir.shapes �
         let t : Tables = k.tables in
         let rest = none_right (value_broken t v.scopes target) _ b in
         let good : is_target target ≡ true =
-        kept (is_target target) place NotAssignable
+        holds (is_target target) place NotAssignable
         (none_right (unless (assigns o (type_of t v.scopes target) (type_of t v.scopes value)) place
         Mismatch) _ (none_right (value_broken t v.scopes value) _ rest)) in (
           target_fits k ir whole shaped v es h target good
@@ -141,7 +138,7 @@ module _ (k : Context) (ir : Ir) (whole : IsSane k.tables) (shaped : ir.shapes �
     simple_fits v es (stmt.Step target o place) h b =
         let t : Tables = k.tables in
         let good : is_target target ≡ true =
-        kept (is_target target) place NotAssignable
+        holds (is_target target) place NotAssignable
         (none_right (unless (is_int (type_of t v.scopes target)) place Mismatch) _
         (none_right (value_broken t v.scopes target) _ b)) in
         target_fits k ir whole shaped v es h target good
@@ -158,7 +155,7 @@ module _ (k : Context) (ir : Ir) (whole : IsSane k.tables) (shaped : ir.shapes �
         let own : value_broken t v.scopes pointer ≡ [] =
         none_left (value_broken t v.scopes pointer) _ b in
         let good : is_pointer (type_of t v.scopes pointer) ≡ true =
-        kept (is_pointer (type_of t v.scopes pointer)) place Mismatch
+        holds (is_pointer (type_of t v.scopes pointer)) place Mismatch
         (none_right (value_broken t v.scopes pointer) _ b) in (
           value_fits k ir whole shaped v es h pointer own,
           free_fits k ir whole shaped v es h pointer own good,
@@ -177,8 +174,8 @@ module _ (k : Context) (ir : Ir) (whole : IsSane k.tables) (shaped : ir.shapes �
     declared_new : (s : List Scope) (d : DeclarationTree) → declaration_broken k.tables s d ≡ []
         → is_declared d.name.text s ≡ false
     declared_new s d b =
-        not_false (is_declared d.name.text s)
-        (kept (not (is_declared d.name.text s)) d.name.place Twice
+        not-true (is_declared d.name.text s)
+        (holds (not (is_declared d.name.text s)) d.name.place Twice
         (none_right (option_map_or (initial_broken k.tables s (declared_type k.tables d.ty))
         d.initial
         []) _ (none_right (type_broken k.tables d.ty) _ b)))
@@ -349,7 +346,7 @@ module _ (k : Context) (ir : Ir) (whole : IsSane k.tables) (shaped : ir.shapes �
 parameter_new : (t : Tables) (s : List Scope) (i : ℕ) (x : ParameterTree)
     → parameter_broken t s i x ≡ [] → is_declared x.name.text s ≡ false
 parameter_new t s i x b =
-    not_false (is_declared x.name.text s) (kept (not (is_declared x.name.text s)) x.name.place Twice
+    not-true (is_declared x.name.text s) (holds (not (is_declared x.name.text s)) x.name.place Twice
     (none_right (unless (not (nat_eq i 22)) x.name.place (TooBig limit.Parameters 23)) _
     (none_right (type_broken t x.ty) _ b)))
 

@@ -1,7 +1,7 @@
 -- A name that is declared anew in its scope means the new local, and other names keep their
 -- meaning.
 use Rattle.std.proofs.Common.{◌≡◌, ℕ, suc, Bool, true, false, List, [], ◌∷◌, ◌++◌, refl, ap, ◌∙◌}
-use Rattle.std.specs.Prelude.{Option, None, Some, if◌then◌else◌, is_some, option_map}
+use Rattle.std.specs.Prelude.{Option, None, Some, if◌then◌else◌, option_map}
 use Rattle.std.specs.Prelude.{option_and_then, slice_get, bytes_eq}
 use Rattle.std.proofs.lemmas.Slice.Eq.{bytes_eq-Decides}
 use Rattle.c_types.specs.declared.value_type.ValueType.{ValueType}
@@ -10,6 +10,7 @@ use Rattle.c_types.specs.Expressions as types
 use Rattle.c_types.specs.Expressions.{Scope, type_in, variable_type}
 use Rattle.c_types.specs.Statements as scopes
 use Rattle.c_types.specs.Statements.{is_declared}
+use Rattle.c_types.proofs.Index.{is_some_None}
 use Rattle.lower.specs.Names as names
 use Rattle.lower.specs.Names.{Variables, LocalRegister, variable_declared, register_in}
 use Rattle.lower.specs.Names.{variable_register, with_local, with_name}
@@ -99,13 +100,6 @@ register_none x (n ∷ ns) (y ∷ ys) (l ∷ ls) h e =
     by_test false None rest e = rest refl
     by_test false (Some j) rest e = absurd (some_none (suc j) e)
 
-none_of : (o : Option ℕ) → is_some o ≡ false → o ≡ None
-none_of None e = refl
-none_of (Some j) e = absurd (true_false e)
-  where
-    true_false : true ≡ false → ⊥
-    true_false e = cc
-
 type_or_none : (a b : Option ValueType) → types.or_else (types.or_else a None) b ≡ types.or_else a b
 type_or_none None b = refl
 type_or_none (Some ty) b = refl
@@ -138,7 +132,7 @@ agrees_declared name ty r v es level new agrees x = parts v.scopes v.locals leve
       where
         absent : bytes_eq x name ≡ true → index_of x s.names ≡ None
         absent e = ap (λ (y : List ℕ). index_of y s.names) ((bytes_eq-Decides x name).0 e)
-            ∙ none_of (index_of name s.names) new
+            ∙ is_some_None (index_of name s.names) new
 
         type_by : (b : Bool) → bytes_eq x name ≡ b
             → types.or_else (types.or_else (type_in x s) (if b then Some ty else None))

@@ -2,7 +2,8 @@
 -- run.
 use Rattle.std.proofs.Common.{◌≡◌, ℕ, zero, suc, ◌+◌, ◌*◌, ℤ, Bool, true, false, List, [], ◌∷◌, map}
 use Rattle.std.proofs.Common.{refl, sym, ap, ◌∙◌, arith}
-use Rattle.std.specs.Prelude.{None, Some, if◌then◌else◌, slice_get}
+use Rattle.std.specs.Prelude.{Some, if◌then◌else◌, slice_get}
+use Rattle.std.proofs.lemmas.Option.{none-some}
 use Rattle.c_tree.specs.ItemTree.{FunctionTree}
 use Rattle.c_tree.specs.Program.{Program, tree_of}
 use Rattle.c_types.specs.Tables.{Tables, tables_of}
@@ -16,9 +17,6 @@ use Rattle.code_meaning.specs.Code.{exec, code_start}
 use Rattle.code_meaning.specs.Whole.{whole}
 use Rattle.lower_law.specs.Law.{call_end, KeepsMeaning, entries_from, entry_in, ended_outcome}
 
-none_some : {A : Type 0} (x : A) → None ≡ Some x → ⊥
-none_some x e = cc
-
 -- the place of a transaction among the functions
 record Entered (t : Tables) (tree : Program) (fs : List FunctionTree) (g0 i : ℕ)
     (f : FunctionTree) : Type 0 where
@@ -28,7 +26,7 @@ record Entered (t : Tables) (tree : Program) (fs : List FunctionTree) (g0 i : �
 
 entered_from : (t : Tables) (tree : Program) (fs : List FunctionTree) (g0 i : ℕ) (f : FunctionTree)
     → slice_get (transactions_in fs) i ≡ Some f → Entered t tree fs g0 i f
-entered_from t tree [] g0 i f e = absurd (none_some f e)
+entered_from t tree [] g0 i f e = absurd (none-some f e)
 entered_from t tree (x ∷ fs) g0 i f e =
     told (by_test x.tx i (λ j e'. entered_from t tree fs (g0 + 1) j f e') e)
   where
@@ -69,7 +67,7 @@ pub transaction_keeps : (tree : Program) → KeepsMeaning (tables_of (tree_of tr
     → (g : ℕ) × (entry_in number (lowered tree).functions ≡ Some g)
     × ((j : ℕ) × (ended_outcome (exec (lowered tree) j (code_start g args w n))
     ≡ Some (transaction_means (tables_of (tree_of tree)) w number args n)))
-transaction_keeps tree keeps zero f is w args n = absurd (none_some f is)
+transaction_keeps tree keeps zero f is w args n = absurd (none-some f is)
 transaction_keeps tree keeps (suc i) f is w args n =
     let t : Tables = tables_of (tree_of tree) in
     let r = entered_from t tree t.functions 0 i f is in

@@ -3,15 +3,16 @@ use Rattle.std.proofs.Common.{◌≡◌, ℕ, suc, ◌+◌, ◌<◌, Bool, true,
 use Rattle.std.proofs.Common.{ap, ◌∙◌, subst, arith}
 use Rattle.std.specs.Prelude.{Option, None, Some, Ok, is_some, if◌then◌else◌, option_map}
 use Rattle.std.specs.Prelude.{option_and_then, slice_get, bytes_eq}
+use Rattle.std.proofs.lemmas.Bool.{false≢true}
 use Rattle.c_tree.specs.ExprTree as expr
 use Rattle.c_tree.specs.ExprTree.{ExprTree, Arguments, Ident}
 use Rattle.c_tree.specs.ItemTree.{FunctionTree, ParameterTree}
 use Rattle.c_types.specs.declared.value_type.ValueType.{ValueType}
-use Rattle.c_types.specs.declared.value_type.Kind.TheVariants.{Value, Array}
+use Rattle.c_types.specs.declared.value_type.Kind.TheVariants.{Array}
 use Rattle.c_types.specs.declared.broken.Rule.TheVariants.{UnknownName, Mismatch}
 use Rattle.c_types.specs.Broken.{unless}
 use Rattle.c_types.specs.Fits.{type_takes, is_pointer}
-use Rattle.c_types.specs.Tables.{Tables, function_named, number_at}
+use Rattle.c_types.specs.Tables.{Tables, function_named, number_at, pointed_struct}
 use Rattle.c_types.specs.Shapes.{shapes_in}
 use Rattle.c_types.specs.Expressions as types
 use Rattle.c_types.specs.Expressions.{Scope, variable_type, kind_of, type_of, broken_in}
@@ -19,6 +20,7 @@ use Rattle.c_types.specs.Expressions.{broken_in_all, value_broken, with_unindexe
 use Rattle.c_types.specs.Expressions.{parameters_of, parameter_type, argument_count, root_broken}
 use Rattle.c_types.specs.Expressions.{arrow_broken, pointer_broken}
 use Rattle.c_types.specs.Statements.{is_target}
+use Rattle.c_types.proofs.Unbroken.{none_left, none_right, holds}
 use Rattle.pool_map.specs.declared.shapes.Shapes.{Shapes}
 use Rattle.pool_map.specs.PoolMap.{free}
 use Rattle.pool_map.specs.Checks.{then_on}
@@ -29,14 +31,13 @@ use Rattle.ir.specs.declared.function.Ir.{Ir}
 use Rattle.lower.specs.Names.{Variables, LocalRegister, variable_of, root_target, field_target}
 use Rattle.lower.specs.Names.{kind_named}
 use Rattle.lower.specs.Lowers.{Context, exp_end, reg_of}
-use Rattle.lower.proofs.Few.{none_left, none_right, kept}
 use Rattle.lower.proofs.Sane.{IsSane}
 use Rattle.lower.proofs.GoodTypes.{IsGood, IsGoodKind, Agree, kind_good, value_good, indexed_array}
 use Rattle.lower.proofs.Alike.{IsSame, kind_same, broken_same}
-use Rattle.lower.proofs.ExprSound.{arrow_parts, index_parts}
+use Rattle.lower.proofs.ExprSound.{arrow_parts, index_parts, value_array}
 use Rattle.code_meaning.specs.Code.{spot_of, new_in}
 use Rattle.lower_law.proofs.Locals.{Entry, Agrees, entry_type, entry_register, scopes_in}
-use Rattle.lower_law.proofs.Fits.{spot_in, FieldFits, ExpFits, PointerFits, ArgumentsFit}
+use Rattle.lower_law.proofs.Fits.{FieldFits, ExpFits, PointerFits, ArgumentsFit}
 use Rattle.lower_law.proofs.StmtFits.{TargetFits, FreeFits}
 use Rattle.lower_law.proofs.Typed.{call_fits}
 use Rattle.lower_law.proofs.Fields.{root_word, arrow_word, new_word, free_word}
@@ -77,10 +78,7 @@ good_agree t (e ∷ es) g = let lt : 0 < 1 = omega arith in ((refl, g.0, lt, tt)
 
 register_there : (name : List ℕ) (es : List Entry) → is_some (entry_type name es) ≡ true
     → (r : ℕ) × (entry_register name es ≡ Some r)
-register_there name [] e = absurd (false_true e)
-  where
-    false_true : false ≡ true → ⊥
-    false_true e = cc
+register_there name [] e = absurd (false≢true e)
 register_there name (x ∷ es) e =
     by_test (bytes_eq name x.name) (λ rest. register_there name es rest) e
   where
@@ -90,12 +88,6 @@ register_there name (x ∷ es) e =
         → (r : ℕ) × ((if b then Some x.register else entry_register name es) ≡ Some r)
     by_test true rest e = (x.register, refl)
     by_test false rest e = rest e
-
-value_array : (ty el : ValueType) (place : ℕ) → Value ty ≡ Array el place → ⊥
-value_array ty el place e = cc
-
-false_true : false ≡ true → ⊥
-false_true e = cc
 
 module _ (k : Context) (ir : Ir) (sane : IsSane k.tables) (shaped : ir.shapes ≡ shapes_in k.tables)
     (v : Variables) (es : List Entry) (sees : Sees k.tables v es) where
@@ -131,8 +123,8 @@ module _ (k : Context) (ir : Ir) (sane : IsSane k.tables) (shaped : ir.shapes �
   arrow_fits base place name b e p ls is w c j =
       let ty : ValueType = type_of k.tables v.scopes base in
       let reg : ℕ = reg_of k v base (exp_end base p) in
-      ap (λ (y : ValueType). spot_in (access.pointed_word k.tables w (access.pointed_struct y) c
-      name.text j)) (type_met ls base is)
+      ap (λ (y : ValueType). access.pointed_word k.tables w (pointed_struct y) c
+      name.text j) (type_met ls base is)
       ∙ arrow_word k.tables ty place name reg w c j sane (type_is_good base b) e
       ∙ ap (λ (x : Shapes). spot_of x w (field_target k.tables ty reg name.text) c j) (sym shaped)
 
@@ -145,7 +137,7 @@ module _ (k : Context) (ir : Ir) (sane : IsSane k.tables) (shaped : ir.shapes �
     exp_fits expr.Null b = tt
     exp_fits (expr.Variable name) b =
         register_there name.text es (subst (λ (o : Option ValueType). is_some o ≡ true)
-        (sees.agrees name.text).0 (kept (is_some (variable_type name.text v.scopes)) name.place
+        (sees.agrees name.text).0 (holds (is_some (variable_type name.text v.scopes)) name.place
         UnknownName b))
     exp_fits (expr.Call name all) b =
         let f : Option FunctionTree = function_named k.tables name.text in (
@@ -213,18 +205,18 @@ module _ (k : Context) (ir : Ir) (sane : IsSane k.tables) (shaped : ir.shapes �
   target_fits (expr.Root name) is b = value_fits (expr.Root name) b
   target_fits (expr.Arrow base place name) is b = value_fits (expr.Arrow base place name) b
   target_fits (expr.Index base place index) is b = value_fits (expr.Index base place index) b
-  target_fits (expr.Number n) is b = absurd (false_true is)
-  target_fits expr.Null is b = absurd (false_true is)
-  target_fits (expr.Call name all) is b = absurd (false_true is)
-  target_fits (expr.New place name) is b = absurd (false_true is)
-  target_fits (expr.Unary o place a) is b = absurd (false_true is)
-  target_fits (expr.Binary o place a c) is b = absurd (false_true is)
+  target_fits (expr.Number n) is b = absurd (false≢true is)
+  target_fits expr.Null is b = absurd (false≢true is)
+  target_fits (expr.Call name all) is b = absurd (false≢true is)
+  target_fits (expr.New place name) is b = absurd (false≢true is)
+  target_fits (expr.Unary o place a) is b = absurd (false≢true is)
+  target_fits (expr.Binary o place a c) is b = absurd (false≢true is)
 
   -- the operand of `pm_free`
   pub free_fits : (e : ExprTree) → value_broken k.tables v.scopes e ≡ []
       → is_pointer (type_of k.tables v.scopes e) ≡ true → FreeFits k ir v es e
   free_fits e b pointer ls is w c =
       ap (λ (y : ValueType). then_on
-      (access.struct_slot w (option_map (number_at k.tables) (access.pointed_struct y)) c)
+      (access.struct_slot w (option_map (number_at k.tables) (pointed_struct y)) c)
       (λ s. Ok (free w s))) (type_met ls e is)
       ∙ free_word k.tables (type_of k.tables v.scopes e) w c sane (type_is_good e b) pointer

@@ -28,7 +28,8 @@ use Rattle.lower.specs.Lowers.{form_code}
 use Rattle.lower.proofs.Ends.{exp_end_le, target_end_le, arguments_end_le, form_end_le}
 use Rattle.code_meaning.specs.Code.{Frame, Here, Goes, register_at, put_register, act}
 use Rattle.code_meaning.specs.Code.{instruction_step, base_in}
-use Rattle.lower_law.proofs.Paths.{path_step, at-put_same}
+use Rattle.code_meaning.proofs.Registers.{at_put_same}
+use Rattle.lower_law.proofs.Paths.{path_step}
 use Rattle.lower_law.proofs.Has.{HasAt, exp_has, target_has, arguments_has}
 use Rattle.lower_law.proofs.Locals.{Entry, Agrees, Holds, AreBelow, Same, value_held, held_after}
 use Rattle.lower_law.proofs.Locals.{below_more, entry_below, register_found}
@@ -152,7 +153,7 @@ module _ (ir : Ir) (m f : ℕ) (k : Context) (rises : (p q : ℕ) → p < q → 
             regs' = put_register regs (k.node (suc p)) r.0;
             path = path_step p t st;
             same = put_same ir m f k rises below p (suc p) r.0 regs (omega arith);
-            value = at-put_same regs (k.node (suc p)) r.0;
+            value = at_put_same regs (k.node (suc p)) r.0;
           } in
           made_by (new_object k.tables w name.text) (ap (λ i. act ir i f p regs below w t) h.0
           ∙ ap (λ (r : ℤ × PoolMap). Goes

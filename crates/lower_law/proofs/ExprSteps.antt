@@ -12,8 +12,8 @@ use Rattle.c_types.specs.Tables.{Tables}
 use Rattle.pool_map.specs.PoolMap.{PoolMap, read, read_root}
 use Rattle.pool_map.specs.declared.trap.TrapKind.{TrapKind}
 use Rattle.pool_map.specs.declared.trap.TrapKind.TheVariants as trap
-use Rattle.c_meaning.specs.declared.word.Word.{Word}
-use Rattle.c_meaning.specs.declared.word.Word.TheVariants.{Root, Field}
+use Rattle.pool_map.specs.declared.word.PoolWord.{PoolWord}
+use Rattle.pool_map.specs.declared.word.PoolWord.TheVariants.{Root, Field}
 use Rattle.c_meaning.specs.Locals.{Local}
 use Rattle.c_meaning.specs.Access.{word_named}
 use Rattle.c_meaning.specs.Meaning.{Out, Got, Stops, Calls, then_do, or_trap, loaded, at_zero, tick}
@@ -33,11 +33,12 @@ use Rattle.code_meaning.specs.Code.{Frame, Here, Trapped, Goes, Ends, Move, Spot
 use Rattle.pool_map.specs.Checks.{is_zero}
 use Rattle.code_meaning.specs.Code.{put_register, act, instruction_step, exec, word_of}
 use Rattle.code_meaning.specs.Code.{with_word, with_ok, spot_of, base_in, index_in, load_spot}
+use Rattle.code_meaning.proofs.Registers.{at_put_same}
 use Rattle.lower_law.proofs.Paths.{Path, path_then, path_more, path_step, path_ends, path_tick}
-use Rattle.lower_law.proofs.Paths.{at-put_same, at-put_other}
+use Rattle.lower_law.proofs.Paths.{at-put_other}
 use Rattle.lower_law.proofs.Has.{At, HasAt}
 use Rattle.lower_law.proofs.Locals.{Entry, Holds, Same, scopes_held}
-use Rattle.lower_law.proofs.Fits.{spot_in, WordFits}
+use Rattle.lower_law.proofs.Fits.{WordFits}
 
 -- a call of a function, from its instruction on: at most m steps and its own
 abbrev pub Called : Ir → (m f : ℕ) → List Frame → (to p : ℕ) (regs : List ℤ) (w : PoolMap) (t : ℕ)
@@ -178,7 +179,7 @@ module _ (ir : Ir) (m f : ℕ) (k : Context) (rises : (p q : ℕ) → p < q → 
     regs' = put_register regs (k.node q) v;
     path = path_step p t st;
     same = put_same p q v regs lt;
-    value = at-put_same regs (k.node q) v;
+    value = at_put_same regs (k.node q) v;
   }
 
   -- a last instruction that may trap
@@ -190,9 +191,9 @@ module _ (ir : Ir) (m f : ℕ) (k : Context) (rises : (p q : ℕ) → p < q → 
   last_gives p place None regs w t st = path_ends p t st
   last_gives p place (Some v) regs w t st = puts p (suc p) v regs w t (omega arith) st
 
-  pub load_gives : (p : ℕ) (target : ExprTree) (o : Result Word TrapKind) (regs : List ℤ)
+  pub load_gives : (p : ℕ) (target : ExprTree) (o : Result PoolWord TrapKind) (regs : List ℤ)
       (w : PoolMap) (t : ℕ)
-      → instruction_step ir (Here f p regs below w t) ≡ with_ok (spot_in o)
+      → instruction_step ir (Here f p regs below w t) ≡ with_ok o
       (λ s. Goes (Here f (suc p) (put_register regs (k.node (suc p)) (load_spot w s)) below w t))
       → Gives (word_at (k.node (suc p))) p (suc p) regs w t
       (loaded (at_target target o) w t)
@@ -315,7 +316,7 @@ module _ (ir : Ir) (m f : ℕ) (k : Context) (rises : (p q : ℕ) → p < q → 
     regs' = put_register regs (k.node (suc (suc p))) v;
     path = path_tick p (suc (suc p)) (omega arith) st c;
     same = put_same p (suc (suc p)) v regs (omega arith);
-    value = at-put_same regs (k.node (suc (suc p))) v;
+    value = at_put_same regs (k.node (suc (suc p))) v;
   }
   call_gives p regs w t (Stops trap) st c = path_tick p (suc (suc p)) (omega arith) st c
 

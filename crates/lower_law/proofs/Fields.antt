@@ -9,6 +9,8 @@ use Rattle.std.specs.Option.{option_map_or}
 use Rattle.std.specs.Int.{w64, cast_unsigned}
 use Rattle.std.proofs.lemmas.Option.{slice_get-map, slice_get_within}
 use Rattle.std.proofs.lemmas.List.Sums.{sum_by-cons}
+use Rattle.std.proofs.lemmas.Bool.{false≢true, and_parts}
+use Rattle.nvm_base.proofs.Tests.{le_from}
 use Rattle.c_tree.specs.ExprTree.{Ident}
 use Rattle.c_tree.specs.ItemTree.{FieldTree, LengthTree}
 use Rattle.c_types.specs.declared.value_type.ValueType.{ValueType}
@@ -19,11 +21,12 @@ use Rattle.c_types.specs.Fits.{is_pointer}
 use Rattle.c_types.specs.Tables.{Tables, StructTree, index_of, field_names, field_named, is_length}
 use Rattle.c_types.specs.Tables.{is_first, field_words, words_from, words_of_struct, words_at}
 use Rattle.c_types.specs.Tables.{field_start, field_words_before, number_at, numbered_up_to}
-use Rattle.c_types.specs.Tables.{root_struct}
+use Rattle.c_types.specs.Tables.{root_struct, pointed_struct}
 use Rattle.c_types.specs.Statements.{type_broken}
 use Rattle.c_types.specs.Shapes.{field_shape, root_fields, shapes_in}
 use Rattle.c_types.specs.Declarations.{length_broken, field_broken, fields_broken}
 use Rattle.c_types.specs.Expressions.{member_broken, root_broken, arrow_broken, pointer_broken}
+use Rattle.c_types.proofs.Unbroken.{none_left, none_right, holds}
 use Rattle.pool_map.specs.PoolMap.{PoolMap, least_free, free}
 use Rattle.pool_map.specs.PoolFits as pool
 use Rattle.pool_map.specs.PoolFits.{words_of_field}
@@ -31,17 +34,16 @@ use Rattle.pool_map.specs.declared.shapes.StructShape.{StructShape}
 use Rattle.pool_map.specs.declared.shapes.FieldShape.{FieldShape}
 use Rattle.pool_map.specs.declared.trap.TrapKind.{TrapKind}
 use Rattle.pool_map.specs.declared.trap.TrapKind.TheVariants as trap
-use Rattle.c_meaning.specs.declared.word.Word.TheVariants.{Root, Field}
+use Rattle.pool_map.specs.declared.word.PoolWord.TheVariants.{Root, Field}
 use Rattle.pool_map.specs.Checks.{then_on, element_in, new_at}
 use Rattle.c_meaning.specs.Access as access
+use Rattle.nvm_base.specs.Naturals.{natural_of}
 use Rattle.lower.specs.Names.{found_number, struct_kind_at, kind_named, field_number, nowhere}
-use Rattle.lower.specs.Names.{struct_pointed_to, root_target, field_target}
-use Rattle.lower.proofs.Few.{none_left, none_right, kept, and_right, le_from}
+use Rattle.lower.specs.Names.{root_target, field_target}
 use Rattle.lower.proofs.Sane.{IsSane, kind_of_struct}
 use Rattle.lower.proofs.GoodTypes.{IsGood, member_there, pointer_good}
 use Rattle.code_meaning.specs.Code as code
-use Rattle.code_meaning.specs.Code.{Spot, InRoot, InSlot, spot_of, fields_of, new_in, free_in}
-use Rattle.lower_law.proofs.Fits.{spot_in}
+use Rattle.code_meaning.specs.Code.{spot_of, fields_of, new_in, free_in}
 use Rattle.lower_law.proofs.Typed.{slot_same, field_same, field_length, before_same, before_small}
 use Rattle.lower_law.proofs.Typed.{FieldThere, field_there}
 
@@ -50,26 +52,23 @@ zero_plus n = omega arith
 
 -- an array has as many elements as its shape says
 elements_same : (l : Option LengthTree) → option_map_or length_broken l [] ≡ []
-    → option_map_or (λ (x : LengthTree). access.array_length x.value) l 0 ≡ option_map_or (λ n. n)
+    → option_map_or (λ (x : LengthTree). natural_of x.value) l 0 ≡ option_map_or (λ n. n)
     (option_map (λ (x : LengthTree). cast_unsigned w64 x.value) l) 0
 elements_same None e = refl
-elements_same (Some l) e = same l.value (kept (is_length l.value) l.place _ e)
+elements_same (Some l) e = same l.value (holds (is_length l.value) l.place _ e)
   where
-    false_true : false ≡ true → ⊥
-    false_true e = cc
-
-    same : (n : ℤ) → is_length n ≡ true → access.array_length n ≡ cast_unsigned w64 n
+    same : (n : ℤ) → is_length n ≡ true → natural_of n ≡ cast_unsigned w64 n
     same (pos n) e = refl
-    same (negsuc n) e = absurd (false_true e)
+    same (negsuc n) e = absurd (false≢true e)
 
 elements_few : (l : Option LengthTree) → option_map_or length_broken l [] ≡ []
-    → option_map_or (λ (x : LengthTree). access.array_length x.value) l 0 ≤ 512
+    → option_map_or (λ (x : LengthTree). natural_of x.value) l 0 ≤ 512
 elements_few None e = omega arith
-elements_few (Some l) e = few l.value (kept (is_length l.value) l.place _ e)
+elements_few (Some l) e = few l.value (holds (is_length l.value) l.place _ e)
   where
-    few : (n : ℤ) → is_length n ≡ true → access.array_length n ≤ 512
+    few : (n : ℤ) → is_length n ≡ true → natural_of n ≤ 512
     few (pos n) e = let both : (nat_le 1 n && nat_le n 512) ≡ true = e in
-        le_from n 512 (and_right (nat_le 1 n) (nat_le n 512) both)
+        le_from n 512 (and_parts (nat_le 1 n) (nat_le n 512) both).1
     few (negsuc n) e = omega arith
 
 -- the word of an element isn't cut at 64 bits
@@ -120,7 +119,7 @@ named_field t i s name h is e =
           option_map_or (λ (x : StructTree). found_number (index_of name.text (field_names x))) o
           nowhere) is ∙ ap found_number at_place.found
           ∙ small_number at_place.place (omega (arith, few, within));
-      long = field_length t (field_names s) (0 + there.2.place) f there.2.kept;
+      long = field_length t (field_names s) (0 + there.2.place) f there.2.holds;
     }
   where
     small_number : (n : ℕ) → n < 512 → found_number (Some n) ≡ n
@@ -161,7 +160,7 @@ word_same t i s name j h is e =
         ≡ code.elements (slice_get (map field_shape s.fields) f.place)
     long = ap (λ (o : Option FieldTree).
         option_map_or (λ (x : FieldTree).
-        option_map_or (λ (l : LengthTree). access.array_length l.value) x.len 0) o 0) f.named
+        option_map_or (λ (l : LengthTree). natural_of l.value) x.len 0) o 0) f.named
         ∙ elements_same f.field.len f.long
         ∙ sym (ap code.elements (slice_get-map field_shape s.fields f.place
         ∙ ap (option_map field_shape) f.stands))
@@ -170,7 +169,7 @@ word_same t i s name j h is e =
     few = subst (λ n. n ≤ 512) (sym
         (ap (λ (o : Option FieldTree).
         option_map_or (λ (x : FieldTree).
-        option_map_or (λ (l : LengthTree). access.array_length l.value) x.len 0) o 0) f.named))
+        option_map_or (λ (l : LengthTree). natural_of l.value) x.len 0) o 0) f.named))
         (elements_few f.field.len f.long)
 
     by_index : (k : Option ℤ) → access.word_in_struct s name.text k ≡ code.word_in_shape
@@ -187,21 +186,9 @@ word_same t i s name j h is e =
         (code.elements (slice_get (map field_shape s.fields) f.place)) x) (λ i. Ok (a + i)))
         counted_same
 
-in_root : (o : Result ℕ TrapKind) → spot_in (then_on o (λ i. Ok (Root i)))
-    ≡ then_on o (λ i. Ok (InRoot i))
-in_root (Ok i) = refl
-in_root (Err k) = refl
-
-in_slot : (o u : Result ℕ TrapKind)
-    → spot_in (then_on o (λ s. then_on u (λ i. Ok (Field s i))))
-    ≡ then_on o (λ s. then_on u (λ i. Ok (InSlot s i)))
-in_slot (Ok s) (Ok i) = refl
-in_slot (Ok s) (Err k) = refl
-in_slot (Err k) u = refl
-
 -- a field of the root
 pub root_word : (t : Tables) (name : Ident) (w : PoolMap) (b : ℤ) (j : Option ℤ) → IsSane t
-    → root_broken t name ≡ [] → spot_in (access.of_root t name.text j) ≡ spot_of (shapes_in t) w
+    → root_broken t name ≡ [] → access.of_root t name.text j ≡ spot_of (shapes_in t) w
     (root_target t name.text) b j
 root_word t name w b j h e =
     let i : ℕ = h.root.0 in
@@ -220,11 +207,10 @@ root_word t name w b j h e =
     code.word_in_shape (map field_shape fs) (field_number t name.text (Some i)) j) (sym fields)
     ∙ ap (λ (o : Option ℕ). code.word_in_shape (map field_shape (root_fields t))
     (field_number t name.text o) j) (sym h.root.2) in
-    in_root (access.struct_word_at t (root_struct t) name.text j)
-    ∙ ap (λ (o : Result ℕ TrapKind). then_on o (λ i. Ok (InRoot i))) (word ∙ same)
+    ap (λ (o : Result ℕ TrapKind). then_on o (λ i. Ok (Root i))) (word ∙ same)
 
 -- the number of a struct is its kind in the code
-numbered_few : (n i : ℕ) (ss : List StructTree) → numbered_up_to n i ss ≤ length ss
+pub numbered_few : (n i : ℕ) (ss : List StructTree) → numbered_up_to n i ss ≤ length ss
 numbered_few n i [] = omega arith
 numbered_few n i (s ∷ ss) = by_test (nat_le i n && nat_le (words_of_struct s) 15)
     (numbered_up_to n (i + 1) ss) (numbered_few n (i + 1) ss)
@@ -250,7 +236,7 @@ kind_fields t i s h is small =
 -- a field of the object that a pointer names
 pub arrow_word : (t : Tables) (ty : ValueType) (place : ℕ) (name : Ident) (reg : ℕ) (w : PoolMap)
     (b : ℤ) (j : Option ℤ) → IsSane t → IsGood t ty → arrow_broken t ty place name ≡ []
-    → spot_in (access.pointed_word t w (access.pointed_struct ty) b name.text j)
+    → access.pointed_word t w (pointed_struct ty) b name.text j
     ≡ spot_of (shapes_in t) w (field_target t ty reg name.text) b j
 arrow_word t (Pointer i) place name reg w b j h g e =
     let s : StructTree = g.0 in
@@ -265,13 +251,10 @@ arrow_word t (Pointer i) place name reg w b j h g e =
     ∙ ap (λ (fs : List FieldShape). code.word_in_shape fs (field_number t name.text (Some i)) j)
     (sym (kind_fields t i s h g.1 g.2)) in
     ap (λ (o : Result ℕ TrapKind).
-    spot_in (then_on o (λ s. then_on (access.struct_word_at t (Some i) name.text j)
-    (λ i. Ok (Field s i))))) slot
+    then_on o (λ s. then_on (access.struct_word_at t (Some i) name.text j)
+    (λ i. Ok (Field s i)))) slot
     ∙ ap (λ (o : Result ℕ TrapKind).
-    spot_in (then_on (code.slot_of w kind b)
-    (λ s. then_on o (λ i. Ok (Field s i))))) word
-    ∙ in_slot (code.slot_of w kind b)
-    (code.word_in_shape (fields_of (shapes_in t) kind) (field_number t name.text (Some i)) j)
+    then_on (code.slot_of w kind b) (λ s. then_on o (λ i. Ok (Field s i)))) word
 arrow_word t Int place name reg w b j h g e = absurd (some_none e)
   where
     some_none : broken_at place Mismatch ≡ [] → ⊥
@@ -292,7 +275,7 @@ words_same t names i (f ∷ fs) e =
     let rest : fields_broken t names (i + 1) fs ≡ [] =
     none_right (field_broken t names i f) (fields_broken t names (i + 1) fs) e in
     let first : is_first (index_of f.name.text names) i ≡ true =
-    kept (is_first (index_of f.name.text names) i) f.name.place Twice
+    holds (is_first (index_of f.name.text names) i) f.name.place Twice
     (none_left (unless (is_first (index_of f.name.text names) i) f.name.place Twice) _
     (none_right (type_broken t f.ty) _ own)) in
     let here : field_words f ≡ words_of_field (field_shape f) =
@@ -342,8 +325,8 @@ new_word t name w h e =
 -- a freed object
 pub free_word : (t : Tables) (ty : ValueType) (w : PoolMap) (b : ℤ) → IsSane t → IsGood t ty
     → is_pointer ty ≡ true
-    → then_on (access.struct_slot w (option_map (number_at t) (access.pointed_struct ty)) b)
-    (λ s. Ok (free w s)) ≡ free_in w (struct_kind_at t (struct_pointed_to ty)) b
+    → then_on (access.struct_slot w (option_map (number_at t) (pointed_struct ty)) b)
+    (λ s. Ok (free w s)) ≡ free_in w (struct_kind_at t (pointed_struct ty)) b
 free_word t (Pointer i) w b h g e =
     ap (λ (o : Result ℕ TrapKind). then_on o (λ s. Ok (free w s)))
     (slot_same w (number_at t i) b ∙ ap (λ n. code.slot_of w n b) (sym (kind_same t i h)))
@@ -353,12 +336,6 @@ free_word t (Pointer i) w b h g e =
         ≡ then_on o (λ s. Ok (free w s))
     freed (Ok s) = refl
     freed (Err k) = refl
-free_word t Int w b h g e = absurd (false_true e)
-  where
-    false_true : false ≡ true → ⊥
-    false_true e = cc
-free_word t Null w b h g e = absurd (false_true e)
-  where
-    false_true : false ≡ true → ⊥
-    false_true e = cc
+free_word t Int w b h g e = absurd (false≢true e)
+free_word t Null w b h g e = absurd (false≢true e)
 free_word t Any w b h g e = absurd g

@@ -2,35 +2,27 @@
 -- functions, structs and fields exist, and mean the same in the tree and in the code. A tree that
 -- breaks no rule meets them.
 use Rattle.std.proofs.Common.{◌≡◌, ℕ, ℤ, List}
-use Rattle.std.specs.Prelude.{Option, Some, Result, Ok, Err, slice_get}
+use Rattle.std.specs.Prelude.{Option, Some, slice_get}
 use Rattle.c_tree.specs.ExprTree as expr
 use Rattle.c_tree.specs.ExprTree.{ExprTree, Arguments, Ident}
 use Rattle.c_tree.specs.ItemTree.{FunctionTree}
 use Rattle.c_types.specs.Tables.{Tables, function_named}
 use Rattle.pool_map.specs.PoolMap.{PoolMap}
 use Rattle.pool_map.specs.declared.shapes.Shapes.{Shapes}
-use Rattle.pool_map.specs.declared.trap.TrapKind.{TrapKind}
-use Rattle.c_meaning.specs.declared.word.Word.{Word}
-use Rattle.c_meaning.specs.declared.word.Word.TheVariants.{Root, Field}
+use Rattle.pool_map.specs.declared.word.PoolWord.TheVariants.{Root}
 use Rattle.c_meaning.specs.Locals.{Local, scopes_of}
 use Rattle.c_meaning.specs.Access.{word_named, new_object}
 use Rattle.ir.specs.declared.instruction.Target.{Target}
 use Rattle.ir.specs.declared.function.Ir.{Ir}
 use Rattle.lower.specs.Names.{Variables, function_number, kind_named}
 use Rattle.lower.specs.Lowers.{Context, target_of}
-use Rattle.code_meaning.specs.Code.{Spot, InRoot, InSlot, spot_of, new_in}
+use Rattle.code_meaning.specs.Code.{spot_of, new_in}
 use Rattle.lower_law.proofs.Locals.{Entry, entry_register, scopes_in}
-
--- a word of the tree's meaning as a word of the code's
-abbrev pub spot_in : Result Word TrapKind → Result Spot TrapKind
-spot_in (Ok (Root i)) = Ok (InRoot i)
-spot_in (Ok (Field s i)) = Ok (InSlot s i)
-spot_in (Err k) = Err k
 
 -- a field names the same word in the tree and in the code
 abbrev pub WordFits : Tables → Shapes → List Entry → ExprTree → Target → Type 0
 WordFits t shapes es e x = (ls : List Local) → scopes_of ls ≡ scopes_in es
-    → (w : PoolMap) (b : ℤ) (j : Option ℤ) → spot_in (word_named t ls w e b j)
+    → (w : PoolMap) (b : ℤ) (j : Option ℤ) → word_named t ls w e b j
     ≡ spot_of shapes w x b j
 
 -- a function that is called exists, at its number

@@ -31,10 +31,11 @@ use Rattle.code_meaning.specs.Code.{Stuck, Goes, Ends, gives, register_at, put_r
 use Rattle.code_meaning.specs.Code.{instruction_step, go_on, exec, opens, open_limit, IsOver}
 use Rattle.code_meaning.specs.Code.{code_start, Means}
 use Rattle.code_meaning.proofs.More.{end}
+use Rattle.code_meaning.proofs.Registers.{at_put_same}
 use Rattle.code_meaning.specs.Whole.{whole}
 use Rattle.lower_law.specs.Law.{call_end, KeepsMeaning}
 use Rattle.lower_law.proofs.Paths.{Path, path_then, path_more, path_step, path_ends, path_first}
-use Rattle.lower_law.proofs.Paths.{at-put_same, at-put_other}
+use Rattle.lower_law.proofs.Paths.{at-put_other}
 use Rattle.lower_law.proofs.Has.{At, HasAt, statements_has}
 use Rattle.lower_law.proofs.Locals.{Entry, Agrees, Holds, below_more}
 use Rattle.lower_law.proofs.Scopes.{Differs, Over, declared_held, differs_below}
@@ -245,7 +246,7 @@ module _ (ir : Ir) (m f : ℕ) (k : Context) (rises : (p q : ℕ) → p < q → 
       let to : ℕ = k.node (suc q) in
       path_then (path_step q t (ap (λ i. act ir i f q regs below w t) st))
       (path_step (suc q) t (ap (λ i. act ir i f (suc q) (put_register regs to (pos 0)) below w t)
-      st1 ∙ ap (λ v. gives below v w t) (at-put_same regs to (pos 0))))
+      st1 ∙ ap (λ v. gives below v w t) (at_put_same regs to (pos 0))))
 
   returns_from : (p q : ℕ) (N L : List Local → List ℤ → Type 0) (regs0 regs : List ℤ) (w : PoolMap)
       (t : ℕ) (o : StmtEnd) → Path ir m (Here f 0 regs0 below w t)
@@ -421,7 +422,7 @@ one_end ir j n c e e' over over' is is' =
     (cases_lt j n)
 
 -- each function is no longer than the whole code
-whole_le : (us : List IrFunction) (g : ℕ) (u : IrFunction) → slice_get us g ≡ Some u
+pub whole_le : (us : List IrFunction) (g : ℕ) (u : IrFunction) → slice_get us g ≡ Some u
     → length u.code ≤ whole us
 whole_le [] g u e = cc
 whole_le (x ∷ us) zero u e = let same : x ≡ u = same_Some x u e in

@@ -11,6 +11,7 @@ use Rattle.c_tree.specs.StmtTree as stmt
 use Rattle.c_tree.specs.StmtTree.{StmtTree, Statements, SimpleTree, FirstTree, InitialTree}
 use Rattle.c_tree.specs.Program.{source_line}
 use Rattle.c_types.specs.Expressions.{type_of}
+use Rattle.c_types.specs.Tables.{pointed_struct}
 use Rattle.ir.specs.declared.instruction.Target.{Target}
 use Rattle.ir.specs.declared.instruction.Instruction.{Instruction}
 use Rattle.ir.specs.declared.instruction.Instruction.TheVariants.{Const, Copy, Bin, Jump, Branch}
@@ -22,7 +23,7 @@ use Rattle.lower.specs.declared.form.Form.{Form}
 use Rattle.lower.specs.declared.form.Form.TheVariants.{Both, Either, Direct, Exchanged}
 use Rattle.lower.specs.Forms.{form_of}
 use Rattle.lower.specs.Names.{Variables, inner_variables, register_of, function_number}
-use Rattle.lower.specs.Names.{struct_kind_at, struct_pointed_to, variable_of}
+use Rattle.lower.specs.Names.{struct_kind_at, variable_of}
 use Rattle.lower.specs.Lowers.{Context, exp_end, exp_code, reg_of, target_end, target_code}
 use Rattle.lower.specs.Lowers.{target_of, arguments_end, arguments_code, registers_of, form_end}
 use Rattle.lower.specs.Lowers.{form_code, truth_code, or_end, or_code, or_reg, set_end, set_code}
@@ -181,7 +182,7 @@ module _ (ir : Ir) (f : ℕ) where
     simple_has v (stmt.Call name all) p rest h = exp_has v (expr.Call name all) p rest h
     simple_has v (stmt.Free place pointer) p rest h =
         let i : Instruction = Free (reg_of k v pointer (exp_end pointer p))
-        (struct_kind_at k.tables (struct_pointed_to (type_of k.tables v.scopes pointer)))
+        (struct_kind_at k.tables (pointed_struct (type_of k.tables v.scopes pointer)))
         (source_line k.tree place) in
         (exp_has v pointer p (i ∷ rest) (simp append_assoc at h)).1
     simple_has v (stmt.Abort place) p rest h = h.1

@@ -6,7 +6,8 @@ use Rattle.std.specs.Prelude.{Option, None, Some, if◌then◌else◌, ◌||◌,
 use Rattle.std.specs.Prelude.{bytes_eq}
 use Rattle.std.specs.Option.{option_map_or}
 use Rattle.std.proofs.lemmas.Slice.Eq.{bytes_eq-Decides}
-use Rattle.std.proofs.lemmas.Option.{slice_get-map}
+use Rattle.std.proofs.lemmas.Option.{slice_get-map, none-some, same_Some}
+use Rattle.std.proofs.lemmas.Bool.{false≢true}
 use Rattle.nvm_base.specs.declared.op.BinOp.{BinOp}
 use Rattle.nvm_base.specs.declared.op.BinOp.TheVariants as op
 use Rattle.c_tree.specs.declared.stmt.AssignOp.TheVariants as assign
@@ -39,8 +40,8 @@ use Rattle.lower_law.proofs.StmtFits.{TargetFits, SimpleFits, FirstFits, ThirdFi
 use Rattle.lower_law.proofs.StmtFits.{StatementsFit, entry_in, first_entries, entries_after}
 use Rattle.lower_law.proofs.Functions.{parameter_entry, parameter_entries, ParametersFit}
 use Rattle.lower_law.proofs.Functions.{FunctionFits, ProgramFits}
-use Rattle.lower_law.proofs.Leaves.{IsFrom, Leaves, AllLeave, both_leave, Spares, false_true}
-use Rattle.lower_law.proofs.Leaves.{same_some, bytes_self, bytes_turned, spares_part}
+use Rattle.lower_law.proofs.Leaves.{IsFrom, Leaves, AllLeave, both_leave, Spares}
+use Rattle.lower_law.proofs.Leaves.{bytes_self, bytes_turned, spares_part}
 use Rattle.lower_law.proofs.Leaves.{spares_declared, or_leaves, initial_leaves, exp_leaves}
 use Rattle.lower_law.proofs.Leaves.{target_leaves}
 
@@ -267,22 +268,22 @@ module _ (n : ℕ) (k : Context) (from : (q : ℕ) → n ≤ k.node q) where
         where
           third_part : (d f t b : Bool) → d ≡ false → t ≡ true
               → (if d then false else (f || t || b)) ≡ true
-          third_part true f t b new e = absurd (false_true (sym new))
+          third_part true f t b new e = absurd (false≢true (sym new))
           third_part false true t b new e = refl
           third_part false false true b new e = refl
-          third_part false false false b new e = absurd (false_true e)
+          third_part false false false b new e = absurd (false≢true e)
 
           body_part : (d f t b : Bool) → d ≡ false → b ≡ true
               → (if d then false else (f || t || b)) ≡ true
-          body_part true f t b new e = absurd (false_true (sym new))
+          body_part true f t b new e = absurd (false≢true (sym new))
           body_part false true t b new e = refl
           body_part false false true b new e = refl
           body_part false false false b new e = e
 
           begins : (y : List ℕ) (x : Option FirstTree) (f t b : Bool) → first_assigns y x ≡ true
               → (if first_declares y x then false else (first_assigns y x || t || b)) ≡ true
-          begins y None f t b e = absurd (false_true e)
-          begins y (Some (stmt.Declare d)) f t b e = absurd (false_true e)
+          begins y None f t b e = absurd (false≢true e)
+          begins y (Some (stmt.Declare d)) f t b e = absurd (false≢true e)
           begins y (Some (stmt.Simply x)) f t b e = ap (λ (c : Bool). c || t || b) e
       stmt_leaves v es stmt.Break out again p agrees fits h = (tt, tt)
       stmt_leaves v es stmt.Continue out again p agrees fits h = (tt, tt)
@@ -306,23 +307,23 @@ module _ (n : ℕ) (k : Context) (from : (q : ℕ) → n ≤ k.node q) where
         where
           later : (d a b : Bool) → d ≡ false → b ≡ true
               → (if d then false else if a then true else b) ≡ true
-          later true a b new e = absurd (false_true (sym new))
+          later true a b new e = absurd (false≢true (sym new))
           later false true b new e = refl
           later false false b new e = e
 
           own : (y : List ℕ) (x : StmtTree) (a b : Bool) → assigns_name y x ≡ true
               → (if declares y x then false else if assigns_name y x then true else b) ≡ true
-          own y (stmt.Declares d) a b e = absurd (false_true e)
-          own y stmt.Empty a b e = absurd (false_true e)
+          own y (stmt.Declares d) a b e = absurd (false≢true e)
+          own y stmt.Empty a b e = absurd (false≢true e)
           own y (stmt.Simple s) a b e = ap (λ (c : Bool). if c then true else b) e
           own y (stmt.Block all) a b e = ap (λ (c : Bool). if c then true else b) e
           own y (stmt.If c d) a b e = ap (λ (c : Bool). if c then true else b) e
           own y (stmt.IfElse c d f) a b e = ap (λ (c : Bool). if c then true else b) e
           own y (stmt.While place c d) a b e = ap (λ (c : Bool). if c then true else b) e
           own y (stmt.For place first c third d) a b e = ap (λ (c : Bool). if c then true else b) e
-          own y stmt.Break a b e = absurd (false_true e)
-          own y stmt.Continue a b e = absurd (false_true e)
-          own y (stmt.Return place value) a b e = absurd (false_true e)
+          own y stmt.Break a b e = absurd (false≢true e)
+          own y stmt.Continue a b e = absurd (false≢true e)
+          own y (stmt.Return place value) a b e = absurd (false≢true e)
 
 -- the parameters: each has its own register, or that of its copy, if the function assigns it
 parameters_spare : (n : ℕ) (k : Context) (body : Statements) (i : ℕ) (xs : List ParameterTree)
@@ -340,7 +341,7 @@ parameters_spare n k body i (x ∷ xs) p es from h =
         by_name : (b : Bool) → bytes_eq name x.name.text ≡ b
             → (if b then Some r else entry_register name es) ≡ Some q → n ≤ q
         by_name true at is =
-            let same : r ≡ q = same_some r q is in
+            let same : r ≡ q = same_Some r q is in
             let low : n ≤ r = le (ap (λ (y : List ℕ). is_assigned y body)
             (sym ((bytes_eq-Decides name x.name.text).0 at)) ∙ e) in
             omega (arith, low, same)
@@ -355,7 +356,7 @@ parameters_spare n k body i (x ∷ xs) p es from h =
         else parameter_entries k body (suc i) xs p (parameter_entry k.tables x i ∷ es))
         (λ y. is_assigned y body)
     by_test true at next = next (suc p) (k.node (suc p)) (λ e. from (suc p))
-    by_test false at next = next p i (λ e. absurd (false_true (sym at ∙ e)))
+    by_test false at next = next p i (λ e. absurd (false≢true (sym at ∙ e)))
 
 parameters_agree : (k : Context) (body : Statements) (i : ℕ) (xs : List ParameterTree) (p : ℕ)
     (v : Variables) (es : List Entry) → Agrees v es → ParametersFit k.tables xs v es
@@ -407,22 +408,13 @@ function_leaves n k ir fn from fits =
     (parameters_agree k fn.body 0 fn.parameters 0 no_variables [] (λ name. (refl, refl))
     fits.parameters) fits.body
     (parameters_spare n k fn.body 0 fn.parameters 0 [] from (λ name r is e.
-    absurd (none_some r is))))
+    absurd (none-some r is))))
     (from (suc q), (tt, tt)))
-  where
-    none_some : (r : ℕ) → None ≡ Some r → ⊥
-    none_some r e = cc
 
 leaves_at : (n : ℕ) (is : List Instruction) (p : ℕ) (i : Instruction) → AllLeave n is
     → slice_get is p ≡ Some i → Leaves n i
-leaves_at n [] p i all at = absurd (none_some at)
-  where
-    none_some : None ≡ Some i → ⊥
-    none_some e = cc
-leaves_at n (x ∷ xs) zero i all at = subst (Leaves n) (some_same at) all.0
-  where
-    some_same : Some x ≡ Some i → x ≡ i
-    some_same e = cc
+leaves_at n [] p i all at = absurd (none-some i at)
+leaves_at n (x ∷ xs) zero i all at = subst (Leaves n) (same_Some x i at) all.0
 leaves_at n (x ∷ xs) (suc p) i all at = leaves_at n xs p i all.1 at
 
 -- the trees of a program's functions correspond to their code, place by place
@@ -439,10 +431,7 @@ function_of tree g u is =
         → option_map (lowered_function (tables_of (tree_of tree)) tree) o ≡ Some u
         → (fn : FunctionTree) × (slice_get (tables_of (tree_of tree)).functions g ≡ Some fn)
         × (lowered_function (tables_of (tree_of tree)) tree fn ≡ u)
-    by_function None at e = absurd (none_some e)
-      where
-        none_some : None ≡ Some u → ⊥
-        none_some e = cc
+    by_function None at e = absurd (none-some u e)
     by_function (Some fn) at e = (fn, at, some_same e)
       where
         some_same : Some (lowered_function (tables_of (tree_of tree)) tree fn) ≡ Some u

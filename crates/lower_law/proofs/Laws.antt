@@ -1,7 +1,8 @@
 -- The laws of lowering, put together: the names fit, and code whose names fit does what its tree
 -- means.
 use Rattle.std.proofs.Common.{◌≡◌, refl}
-use Rattle.std.specs.Prelude.{None, Some}
+use Rattle.std.specs.Prelude.{Some}
+use Rattle.std.proofs.lemmas.Option.{none-some}
 use Rattle.c_meaning.specs.Transaction.{Outcome}
 use Rattle.lower.specs.Program.{lowered}
 use Rattle.code_meaning.specs.Code.{CodeEnd, Ended, Trapped, Unfinished, Stuck, exec, code_start}
@@ -22,10 +23,7 @@ lower tree e = keeps (tables_of (tree_of tree)) tree (lowered tree) (program_fit
 has_outcome : (e : CodeEnd) (o : Outcome) → ended_outcome e ≡ Some o → IsOver e
 has_outcome (Ended w v t) o is = tt
 has_outcome (Trapped k) o is = tt
-has_outcome Unfinished o is = absurd (none_some is)
-  where
-    none_some : None ≡ Some o → ⊥
-    none_some e = cc
+has_outcome Unfinished o is = absurd (none-some o is)
 has_outcome Stuck o is = tt
 
 pub transaction : TransactionLaw

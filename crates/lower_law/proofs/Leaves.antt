@@ -5,6 +5,9 @@ use Rattle.std.proofs.Common.{◌∙◌, arith}
 use Rattle.std.specs.Prelude.{Option, None, Some, if◌then◌else◌, bytes_eq}
 use Rattle.std.specs.List.{AllByRecursion}
 use Rattle.std.proofs.lemmas.Slice.Eq.{bytes_eq-Decides}
+use Rattle.std.proofs.lemmas.Bool.{false≢true}
+use Rattle.std.proofs.lemmas.Option.{same_Some}
+use Rattle.nvm_base.proofs.Lists.{all_append}
 use Rattle.c_tree.specs.declared.expr.UnaryOp.TheVariants as unary
 use Rattle.c_tree.specs.ExprTree as expr
 use Rattle.c_tree.specs.ExprTree.{ExprTree, Arguments, Ident}
@@ -17,7 +20,6 @@ use Rattle.lower.specs.Names.{Variables}
 use Rattle.lower.specs.Lowers.{Context, exp_end, exp_code, reg_of, target_end, target_code}
 use Rattle.lower.specs.Lowers.{arguments_end, arguments_code, form_code, truth_code, or_code}
 use Rattle.lower.specs.Lowers.{initial_code}
-use Rattle.lower.proofs.ExprSound.{all_append}
 use Rattle.code_meaning.specs.Parameters.{assigned_register}
 use Rattle.lower_law.proofs.Locals.{Entry, entry_register}
 
@@ -41,12 +43,6 @@ abbrev pub Spares : ℕ → List Entry → (List ℕ → Bool) → Type 0
 Spares n es test = (name : List ℕ) (r : ℕ) → entry_register name es ≡ Some r
     → test name ≡ true → n ≤ r
 
-pub false_true : false ≡ true → ⊥
-false_true e = cc
-
-pub same_some : (a b : ℕ) → Some a ≡ Some b → a ≡ b
-same_some a b e = cc
-
 pub bytes_self : (x : List ℕ) → bytes_eq x x ≡ true
 bytes_self x = (bytes_eq-Decides x x).1 refl
 
@@ -57,7 +53,7 @@ pub bytes_turned : (x y : List ℕ) → bytes_eq x y ≡ false → bytes_eq y x 
 bytes_turned x y e = by_test (bytes_eq y x) refl
   where
     by_test : (b : Bool) → bytes_eq y x ≡ b → b ≡ false
-    by_test true at = absurd (false_true (sym e ∙ bytes_swap y x at))
+    by_test true at = absurd (false≢true (sym e ∙ bytes_swap y x at))
     by_test false at = refl
 
 -- a test that holds if one of its parts does
@@ -74,7 +70,7 @@ spares_declared n es x f g le part h name r is e = by_test (bytes_eq name x.name
   where
     by_test : (b : Bool) → bytes_eq name x.name ≡ b
         → (if b then Some x.register else entry_register name es) ≡ Some r → n ≤ r
-    by_test true at is = let same : x.register ≡ r = same_some x.register r is in
+    by_test true at is = let same : x.register ≡ r = same_Some x.register r is in
         omega (arith, le, same)
     by_test false at is = h name r is (part name at e)
 

@@ -4,7 +4,6 @@ pub mod Locals
 pub mod Fits
 pub mod ExprSteps
 pub mod ExprRuns
-pub mod Rows
 pub mod Scopes
 pub mod StmtFits
 pub mod StmtSteps

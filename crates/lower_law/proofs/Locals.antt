@@ -3,6 +3,7 @@
 use Rattle.std.proofs.Common.{◌≡◌, ℕ, ◌≤◌, ℤ, Bool, true, false, List, [], ◌∷◌, refl, sym, ap, ◌∙◌}
 use Rattle.std.proofs.Common.{arith}
 use Rattle.std.specs.Prelude.{Option, None, Some, if◌then◌else◌, bytes_eq, unwrap_or}
+use Rattle.std.proofs.lemmas.Option.{none-some, same_Some}
 use Rattle.c_types.specs.declared.value_type.ValueType.{ValueType}
 use Rattle.c_types.specs.Expressions.{Scope, variable_type}
 use Rattle.c_meaning.specs.Locals.{Local, scopes_of, value_named}
@@ -52,15 +53,9 @@ AreBelow b (e ∷ es) = (e.register ≤ b) × AreBelow b es
 abbrev pub Same : ℕ → List ℤ → List ℤ → Type 0
 Same b regs regs' = (r : ℕ) → r ≤ b → register_at regs' r ≡ register_at regs r
 
-none_some : {A : Type 0} (x : A) → None ≡ Some x → ⊥
-none_some x e = cc
-
-some_same : (x y : ℕ) → Some x ≡ Some y → x ≡ y
-some_same x y e = cc
-
 pub value_held : (name : List ℕ) (es : List Entry) (ls : List Local) (regs : List ℤ) (r : ℕ)
     → Holds es ls regs → entry_register name es ≡ Some r → register_at regs r ≡ value_named name ls
-value_held name [] ls regs r h is = absurd (none_some r is)
+value_held name [] ls regs r h is = absurd (none-some r is)
 value_held name (e ∷ es) [] regs r h is = absurd h
 value_held name (e ∷ es) (l ∷ ls) regs r h is =
     rw h.0.name (by_test (bytes_eq name e.name) (entry_register name es) h.0.value
@@ -70,7 +65,7 @@ value_held name (e ∷ es) (l ∷ ls) regs r h is =
         → (o ≡ Some r → register_at regs r ≡ value_named name ls)
         → (if b then Some e.register else o)
         ≡ Some r → register_at regs r ≡ (if b then l.value else value_named name ls)
-    by_test true o held rest is = ap (register_at regs) (sym (some_same e.register r is)) ∙ held
+    by_test true o held rest is = ap (register_at regs) (sym (same_Some e.register r is)) ∙ held
     by_test false o held rest is = rest is
 
 pub held_after : (b : ℕ) (es : List Entry) (ls : List Local) (regs regs' : List ℤ) → AreBelow b es
@@ -89,14 +84,14 @@ below_more b c (e ∷ es) le h = (omega (arith, le, h.0), below_more b c es le h
 
 pub entry_below : (b : ℕ) (name : List ℕ) (es : List Entry) (r : ℕ) → AreBelow b es
     → entry_register name es ≡ Some r → r ≤ b
-entry_below b name [] r h is = absurd (none_some r is)
+entry_below b name [] r h is = absurd (none-some r is)
 entry_below b name (e ∷ es) r h is =
     by_test (bytes_eq name e.name) (entry_register name es) h.0
     (λ rest. entry_below b name es r h.1 rest) is
   where
     by_test : (c : Bool) (o : Option ℕ) → e.register ≤ b → (o ≡ Some r → r ≤ b)
         → (if c then Some e.register else o) ≡ Some r → r ≤ b
-    by_test true o le rest is = let same : e.register ≡ r = some_same e.register r is in
+    by_test true o le rest is = let same : e.register ≡ r = same_Some e.register r is in
         omega (arith, le, same)
     by_test false o le rest is = rest is
 

@@ -76,13 +76,6 @@ module _ {ir : Ir} {m : ℕ} where
     cost = omega (arith, a.cost);
   }
 
--- lists read as maps
-pub at-put_same : (l : List ℤ) (x : ℕ) (v : ℤ) → register_at (put_register l x v) x ≡ v
-at-put_same [] zero v = refl
-at-put_same [] (suc x) v = at-put_same [] x v
-at-put_same (a ∷ l) zero v = refl
-at-put_same (a ∷ l) (suc x) v = at-put_same l x v
-
 pub at-put_other : (l : List ℤ) (x y : ℕ) (v : ℤ) → x ≢ y → register_at (put_register l x v) y
     ≡ register_at l y
 at-put_other [] zero zero v ne = absurd (ne refl)

@@ -1,11 +1,13 @@
 -- Locals after declarations, assignments and the ends of scopes.
 use Rattle.std.proofs.Common.{◌≡◌, ◌≢◌, ℕ, suc, ◌-◌, ◌≤◌, ℤ, Bool, true, false, List, [], ◌∷◌, ◌++◌}
 use Rattle.std.proofs.Common.{length, refl, sym, ap, ◌∙◌, subst, arith}
-use Rattle.std.specs.Prelude.{Option, None, Some, if◌then◌else◌, bytes_eq}
+use Rattle.std.specs.Prelude.{Option, Some, if◌then◌else◌, bytes_eq}
+use Rattle.std.proofs.lemmas.Option.{none-some, same_Some}
 use Rattle.c_types.specs.declared.value_type.ValueType.{ValueType}
 use Rattle.c_meaning.specs.Locals.{Local, assigned, oldest, local_declared}
 use Rattle.code_meaning.specs.Code.{register_at, put_register}
-use Rattle.lower_law.proofs.Paths.{at-put_same, at-put_other}
+use Rattle.code_meaning.proofs.Registers.{at_put_same}
+use Rattle.lower_law.proofs.Paths.{at-put_other}
 use Rattle.lower_law.proofs.Locals.{Entry, entry_register, Holds, AreBelow, held_after}
 
 abbrev pub Differs : ℕ → List Entry → Type 0
@@ -26,12 +28,6 @@ pub record Over (es : List Entry) (ls : List Local) (regs : List ℤ) : Type 0 w
 
 pub over : (es : List Entry) (ls : List Local) (regs : List ℤ) → Holds es ls regs → Over es ls regs
 over es ls regs h = record { top = []; rest = ls; split = refl; holds = h }
-
-none_some : (x : ℕ) → None ≡ Some x → ⊥
-none_some x e = cc
-
-some_same : (x y : ℕ) → Some x ≡ Some y → x ≡ y
-some_same x y e = cc
 
 pub over_less : (e : Entry) (es : List Entry) (ls : List Local) (regs : List ℤ)
     → Over (e ∷ es) ls regs → Over es ls regs
@@ -86,7 +82,7 @@ pub declared_held : (b to : ℕ) (name : List ℕ) (ty : ValueType) (v : ℤ) (e
     → Holds (record { name = name; ty = ty; register = to } ∷ es) (local_declared name ty v ls)
     (put_register regs to v)
 declared_held b to name ty v es ls regs under lt h = (
-  record { name = refl; ty = refl; value = at-put_same regs to v },
+  record { name = refl; ty = refl; value = at_put_same regs to v },
   held_after b es ls regs (put_register regs to v) under (λ r small.
       at-put_other regs to r v (λ e. let same : to ≡ r = e in
       absurd (omega (arith, small, lt, same)))) h,
@@ -101,14 +97,14 @@ differs_below b to (e ∷ es) under lt = (
 
 differs_found : (name : List ℕ) (q : ℕ) (es : List Entry) (r : ℕ) → Differs q es
     → entry_register name es ≡ Some r → r ≢ q
-differs_found name q [] r d is = absurd (none_some r is)
+differs_found name q [] r d is = absurd (none-some r is)
 differs_found name q (e ∷ es) r d is =
     by_test (bytes_eq name e.name) (entry_register name es)
     (λ rest. differs_found name q es r d.1 rest) is
   where
     by_test : (c : Bool) (o : Option ℕ) → (o ≡ Some r → r ≢ q) → (if c then Some e.register else o)
         ≡ Some r → r ≢ q
-    by_test true o rest is same = d.0 (sym same ∙ sym (some_same e.register r is))
+    by_test true o rest is same = d.0 (sym same ∙ sym (same_Some e.register r is))
     by_test false o rest is same = rest is same
 
 held_put : (q : ℕ) (v : ℤ) (es : List Entry) (ls : List Local) (regs : List ℤ) → Differs q es
@@ -130,7 +126,7 @@ held_put q v (e ∷ es) (l ∷ ls) regs d h = (
 pub assigned_held : (name : List ℕ) (r : ℕ) (v : ℤ) (es : List Entry) (ls : List Local)
     (regs : List ℤ) → AreApart es → entry_register name es ≡ Some r → Holds es ls regs
     → Holds es (assigned name v ls) (put_register regs r v)
-assigned_held name r v [] ls regs apart is h = absurd (none_some r is)
+assigned_held name r v [] ls regs apart is h = absurd (none-some r is)
 assigned_held name r v (e ∷ es) [] regs apart is h = absurd h
 assigned_held name r v (e ∷ es) (l ∷ ls) regs apart is h =
     subst (λ n. Holds (e ∷ es) (if bytes_eq name n
@@ -146,12 +142,12 @@ assigned_held name r v (e ∷ es) (l ∷ ls) regs apart is h =
         → Holds (e ∷ es) (if b then record { name = l.name; ty = l.ty; value = v } ∷ ls
         else l ∷ assigned name v ls) (put_register regs r v)
     by_test true o rest other is =
-        let same : e.register ≡ r = some_same e.register r is in (
+        let same : e.register ≡ r = same_Some e.register r is in (
           record {
             name = h.0.name;
             ty = h.0.ty;
             value = ap (register_at (put_register regs r v))
-                same ∙ at-put_same regs r v;
+                same ∙ at_put_same regs r v;
           },
           held_put r v es ls regs (subst (λ q. Differs q es) same apart.0) h.1,
         )

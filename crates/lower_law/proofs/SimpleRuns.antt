@@ -15,7 +15,7 @@ use Rattle.c_tree.specs.StmtTree as stmt
 use Rattle.c_tree.specs.StmtTree.{StmtTree, Statements, SimpleTree, FirstTree, DeclarationTree}
 use Rattle.c_tree.specs.StmtTree.{InitialTree}
 use Rattle.c_tree.specs.Program.{source_line}
-use Rattle.c_types.specs.Tables.{declared_type}
+use Rattle.c_types.specs.Tables.{declared_type, pointed_struct}
 use Rattle.c_types.specs.Expressions.{type_of}
 use Rattle.pool_map.specs.PoolMap.{PoolMap}
 use Rattle.pool_map.specs.declared.trap.TrapKind.TheVariants as trap
@@ -34,7 +34,7 @@ use Rattle.ir.specs.declared.instruction.Instruction.{Instruction}
 use Rattle.ir.specs.declared.instruction.Instruction.TheVariants.{Copy, Bin, Load, Store, Free}
 use Rattle.ir.specs.declared.function.Ir.{Ir}
 use Rattle.lower.specs.Names.{Variables, register_of, variable_of, struct_kind_at}
-use Rattle.lower.specs.Names.{struct_pointed_to, element_target}
+use Rattle.lower.specs.Names.{element_target}
 use Rattle.lower.specs.Lowers.{Context, exp_end, exp_code, reg_of, target_end, target_code}
 use Rattle.lower.specs.Lowers.{target_of, or_end, or_code, or_reg, set_end, set_code, update_end}
 use Rattle.lower.specs.Lowers.{update_code, simple_end, simple_code, initial_end, initial_code}
@@ -96,12 +96,6 @@ module _ (ir : Ir) (m f : ℕ) (k : Context) (rises : (p q : ℕ) → p < q → 
         (ap (λ i. act ir i f p regs below w t) h.0)
     or_gives n (Some e) p rest ls regs w t s fits h held =
         exp_gives e p rest ls regs w t s fits h held
-
-    pub or_reg_le : (e : Option ExprTree) (p q : ℕ) → p ≤ q → Scoped p → OrFits k ir v es e
-        → or_reg k v e q ≤ k.node q
-    or_reg_le None p q le s fits = omega arith
-    or_reg_le (Some e) p q le s fits =
-        reg_le ir m f k rises below calls run v es s.agrees [] e p q le s.under fits
 
     pub exp_reg_le : (e : ExprTree) (p q : ℕ) → p ≤ q → Scoped p → ExpFits k ir v es e
         → reg_of k v e q ≤ k.node q
@@ -492,7 +486,7 @@ module _ (ir : Ir) (m f : ℕ) (k : Context) (rises : (p q : ℕ) → p < q → 
         let q : ℕ = exp_end pointer p in
         let rp : ℕ = reg_of k v pointer q in
         let kind : ℕ = struct_kind_at k.tables
-        (struct_pointed_to (type_of k.tables v.scopes pointer)) in
+        (pointed_struct (type_of k.tables v.scopes pointer)) in
         let i : Instruction = Free rp kind (source_line k.tree place) in
         let ha : HasAt ir f p (exp_code k v pointer p ++ i ∷ rest) = simp append_assoc at h in
         let hi : HasAt ir f q (i ∷ rest) = exp_has ir f k v pointer p (i ∷ rest) ha in

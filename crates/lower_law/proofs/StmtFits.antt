@@ -6,14 +6,14 @@ use Rattle.c_tree.specs.ExprTree.{ExprTree, Ident}
 use Rattle.c_tree.specs.StmtTree as stmt
 use Rattle.c_tree.specs.StmtTree.{StmtTree, Statements, SimpleTree, FirstTree, DeclarationTree}
 use Rattle.c_tree.specs.StmtTree.{InitialTree}
-use Rattle.c_types.specs.Tables.{declared_type}
+use Rattle.c_types.specs.Tables.{declared_type, pointed_struct}
 use Rattle.c_types.specs.Expressions.{type_of}
 use Rattle.pool_map.specs.PoolMap.{PoolMap}
 use Rattle.c_meaning.specs.Locals.{Local, scopes_of}
 use Rattle.c_meaning.specs.Access.{free_object}
 use Rattle.ir.specs.declared.function.Ir.{Ir}
 use Rattle.lower.specs.Names.{Variables, inner_variables, variable_declared, variable_of}
-use Rattle.lower.specs.Names.{struct_kind_at, struct_pointed_to}
+use Rattle.lower.specs.Names.{struct_kind_at}
 use Rattle.lower.specs.Lowers.{Context, exp_end, or_end, initial_end, first_end}
 use Rattle.lower.specs.Lowers.{variables_after_first, variables_after, stmt_end}
 use Rattle.code_meaning.specs.Code.{free_in}
@@ -46,7 +46,7 @@ module _ (k : Context) (ir : Ir) where
   abbrev pub FreeFits : Variables → List Entry → ExprTree → Type 0
   FreeFits v es e = (ls : List Local) → scopes_of ls ≡ scopes_in es → (w : PoolMap) (b : ℤ)
       → free_object k.tables ls w e b
-      ≡ free_in w (struct_kind_at k.tables (struct_pointed_to (type_of k.tables v.scopes e))) b
+      ≡ free_in w (struct_kind_at k.tables (pointed_struct (type_of k.tables v.scopes e))) b
 
   abbrev pub SimpleFits : Variables → List Entry → SimpleTree → Type 0
   SimpleFits v es (stmt.Assign target o place value) = TargetFits v es (variable_of target) target

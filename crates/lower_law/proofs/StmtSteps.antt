@@ -1,16 +1,15 @@
 -- The steps of a statement's code: how it may end, what follows, branches, loops, stores and frees.
-use Rattle.std.proofs.Common.{◌≡◌, ℕ, zero, suc, ◌+◌, ◌<◌, ◌≤◌, ℤ, pos, negsuc, List, refl, sym, ap}
-use Rattle.std.proofs.Common.{◌∙◌, arith, zero-add}
+use Rattle.std.proofs.Common.{◌≡◌, ℕ, zero, suc, ◌+◌, ◌<◌, ◌≤◌, ℤ, pos, negsuc, List, refl, ap}
+use Rattle.std.proofs.Common.{arith, zero-add}
 use Rattle.std.specs.Prelude.{Option, None, Some, Result, Ok, Err, if◌then◌else◌, option_map}
 use Rattle.c_tree.specs.ExprTree as expr
 use Rattle.c_tree.specs.ExprTree.{ExprTree, Arguments, Ident}
 use Rattle.pool_map.specs.PoolMap.{PoolMap, object_at, write}
 use Rattle.pool_map.specs.declared.trap.TrapKind.{TrapKind}
-use Rattle.c_meaning.specs.declared.word.Word.{Word}
-use Rattle.c_meaning.specs.declared.word.Word.TheVariants.{Root, Field}
+use Rattle.pool_map.specs.declared.word.PoolWord.{PoolWord}
+use Rattle.pool_map.specs.declared.word.PoolWord.TheVariants.{Root, Field}
 use Rattle.c_meaning.specs.Locals.{Local, oldest}
 use Rattle.pool_map.specs.Checks.{is_zero}
-use Rattle.c_meaning.specs.Access.{write_word as store_word}
 use Rattle.c_meaning.specs.Meaning.{Out, Got, Stops, StmtEnd, Next, Broke, Again, Gave, Traps}
 use Rattle.c_meaning.specs.Meaning.{Calls, with_value, then_next, at_zero, value_of, stored_end}
 use Rattle.c_meaning.specs.Meaning.{target_local, freed, in_scope, after_turn, turns, at_target}
@@ -20,13 +19,12 @@ use Rattle.ir.specs.declared.instruction.Instruction.TheVariants.{Jump, Branch, 
 use Rattle.ir.specs.declared.function.Ir.{Ir}
 use Rattle.lower.specs.Names.{variable_of}
 use Rattle.lower.specs.Lowers.{Context}
-use Rattle.code_meaning.specs.Code.{Frame, Here, Trapped, Goes, Ends, Move, InSlot, gives}
+use Rattle.code_meaning.specs.Code.{Frame, Here, Trapped, Goes, Ends, Move, gives}
 use Rattle.code_meaning.specs.Code.{register_at, act, instruction_step, exec, with_ok}
 use Rattle.code_meaning.specs.Code.{base_in, index_in, store_spot}
 use Rattle.lower_law.proofs.Paths.{Path, path_then, path_more, path_step, path_ends, path_tick}
 use Rattle.lower_law.proofs.Has.{At}
 use Rattle.lower_law.proofs.Locals.{Same}
-use Rattle.lower_law.proofs.Fits.{spot_in}
 use Rattle.lower_law.proofs.ExprSteps.{CallsRun, Gives, at_branch}
 
 -- the same path with other marks: a tick pays for the way from p' back to p
@@ -346,26 +344,17 @@ module _ (ir : Ir) (m f : ℕ) (k : Context) (rises : (p q : ℕ) → p < q → 
       (loop_runs place out again p p1 c c1 q r N L test body third le le1 le2 small st st1 tests
       kept bodies thirds n ls3 regs3 w3 t3 (omega (arith, tn, f1, f2, f3)) held3))))))
 
-  pub store_same : (w : PoolMap) (a i : ℕ) (x : ℤ)
-      → store_word w (Field a i) x ≡ store_spot w (InSlot a i) x
-  store_same w a i x = refl
-
   pub store_runs : (out again p : ℕ) (N L : List Local → List ℤ → Type 0) (target : ExprTree)
-      (o : Result Word TrapKind) (x : ℤ) (ls : List Local) (regs : List ℤ) (w : PoolMap) (t : ℕ)
+      (o : Result PoolWord TrapKind) (x : ℤ) (ls : List Local) (regs : List ℤ) (w : PoolMap) (t : ℕ)
       → N ls regs
-      → instruction_step ir (Here f p regs below w t) ≡ with_ok (spot_in o)
+      → instruction_step ir (Here f p regs below w t) ≡ with_ok o
       (λ a. Goes (Here f (suc p) regs below (store_spot w a x) t))
       → Runs out again (suc p) p p (suc p) N L regs w t (stored_end (at_target target o) x ls w t)
   store_runs out again p N L target (Err kind) x ls regs w t held st = path_ends p t st
   store_runs out again p N L target (Ok (Root i)) x ls regs w t held st =
       record { regs' = regs; path = path_step p t st; holds = held }
   store_runs out again p N L target (Ok (Field a i)) x ls regs w t held st =
-      record {
-        regs' = regs;
-        path = path_step p t
-            (st ∙ ap (λ u. Goes (Here f (suc p) regs below u t)) (sym (store_same w a i x)));
-        holds = held;
-      }
+      record { regs' = regs; path = path_step p t st; holds = held }
 
   -- an object that is freed
   pub free_runs : (out again p : ℕ) (N L : List Local → List ℤ → Type 0) (place : ℕ)

@@ -6,7 +6,9 @@ use Rattle.std.specs.Prelude.{Option, None, Some, option_map, option_and_then, s
 use Rattle.std.specs.Prelude.{nat_le, if◌then◌else◌, unwrap_or, ◌&&◌}
 use Rattle.std.specs.Option.{option_map_or}
 use Rattle.std.specs.Int.{w64, cast_unsigned}
-use Rattle.std.proofs.lemmas.Option.{slice_get_within}
+use Rattle.std.proofs.lemmas.Option.{slice_get_within, none-some}
+use Rattle.std.proofs.lemmas.Bool.{false≢true, and_parts}
+use Rattle.nvm_base.proofs.Tests.{le_from}
 use Rattle.c_tree.specs.ExprTree.{Ident}
 use Rattle.c_tree.specs.ItemTree.{FieldTree, LengthTree}
 use Rattle.c_types.specs.declared.broken.Rule.TheVariants.{Twice}
@@ -18,12 +20,12 @@ use Rattle.c_types.specs.Statements.{type_broken}
 use Rattle.c_types.specs.Shapes.{field_shape}
 use Rattle.c_types.specs.Declarations.{length_broken, field_broken, fields_broken}
 use Rattle.c_types.specs.Expressions.{call_broken}
+use Rattle.c_types.proofs.Unbroken.{none_left, none_right, holds}
 use Rattle.pool_map.specs.PoolMap.{PoolMap, object_at}
 use Rattle.pool_map.specs.PoolFits.{words_of_field}
 use Rattle.pool_map.specs.declared.object.Object.{Object}
 use Rattle.c_meaning.specs.Access as access
 use Rattle.lower.specs.Names.{function_number, found_number}
-use Rattle.lower.proofs.Few.{none_left, none_right, kept, and_right, le_from}
 use Rattle.lower.proofs.Sane.{IsSane}
 use Rattle.lower.proofs.GoodTypes.{callee, function_there}
 use Rattle.code_meaning.specs.Code as code
@@ -60,16 +62,13 @@ slot_same w kind (negsuc n) = refl
 -- the words of a field
 length_same : (l : ℤ) → is_length l ≡ true → length_words l ≡ cast_unsigned w64 l
 length_same (pos n) e = rw e refl
-length_same (negsuc n) e = absurd (false_true e)
-  where
-    false_true : false ≡ true → ⊥
-    false_true e = cc
+length_same (negsuc n) e = absurd (false≢true e)
 
 pub field_same : (l : Option LengthTree) → option_map_or length_broken l [] ≡ []
     → option_map_or (λ (x : LengthTree). length_words x.value) l 1
     ≡ unwrap_or (option_map (λ (x : LengthTree). cast_unsigned w64 x.value) l) 1
 field_same None e = refl
-field_same (Some l) e = length_same l.value (kept (is_length l.value) l.place _ e)
+field_same (Some l) e = length_same l.value (holds (is_length l.value) l.place _ e)
 
 pub field_length : (t : Tables) (names : List (List ℕ)) (i : ℕ) (f : FieldTree)
     → field_broken t names i f ≡ [] → option_map_or length_broken f.len [] ≡ []
@@ -116,14 +115,14 @@ before_same t names i (suc n) (f ∷ fs) e =
 length_small : (l : ℤ) → is_length l ≡ true → length_words l ≤ 512
 length_small (pos n) e =
     let both : (nat_le 1 n && nat_le n 512) ≡ true = e in
-    let le : n ≤ 512 = le_from n 512 (and_right (nat_le 1 n) (nat_le n 512) both) in
+    let le : n ≤ 512 = le_from n 512 (and_parts (nat_le 1 n) (nat_le n 512) both).1 in
     rw e le
 length_small (negsuc n) e = omega arith
 
 field_small : (l : Option LengthTree) → option_map_or length_broken l [] ≡ []
     → option_map_or (λ (x : LengthTree). length_words x.value) l 1 ≤ 512
 field_small None e = omega arith
-field_small (Some l) e = length_small l.value (kept (is_length l.value) l.place _ e)
+field_small (Some l) e = length_small l.value (holds (is_length l.value) l.place _ e)
 
 pub before_small : (t : Tables) (names : List (List ℕ)) (n i : ℕ) (fs : List FieldTree)
     → fields_broken t names i fs ≡ [] → field_words_before n i fs ≤ 512 * length fs
@@ -151,10 +150,7 @@ pub field_there : (s : StructTree) (name : List ℕ) (f : FieldTree) → field_n
     → FieldThere s name f
 field_there s name f named = by_index (index_of name (field_names s)) refl named
   where
-    none_some : None ≡ Some f → ⊥
-    none_some e = cc
-
     by_index : (o : Option ℕ) → index_of name (field_names s) ≡ o
         → option_and_then (slice_get s.fields) o ≡ Some f → FieldThere s name f
-    by_index None at e = absurd (none_some e)
+    by_index None at e = absurd (none-some f e)
     by_index (Some j) at e = record { place = j; found = at; stands = e }

@@ -41,7 +41,7 @@ pub enum Case {
 
 const RETURN: Line = Line::Return { from: 0 };
 
-/// A program of three functions, of which the second has so many parameters.
+/// A program of three functions, of which the second has `parameters` parameters.
 fn three(
     alloc: Global,
     parameters: u32,
@@ -205,7 +205,7 @@ fn written_alias(alloc: Global) -> Result<Ir, AllocError> {
     )
 }
 
-/// So many logged stores that their walks are shared.
+/// A program with more logged stores than few, so that their walks are shared.
 fn many_stores(alloc: Global) -> Result<Ir, AllocError> {
     let mut lines = [store_element(); 42];
     lines[0] = load_element(1);

@@ -207,7 +207,7 @@ fn is_told(
     Ok(check(ir, &changed) == wanted)
 }
 
-/// The first kind of damage to a reason of a certificate that is told wrongly.
+/// The first kind of damage to a reason of a certificate that is reported wrongly.
 fn wrong_kind(
     alloc: Global,
     ir: &Ir,
@@ -268,7 +268,7 @@ fn damage_drawn(alloc: Global, number: u64) -> Result<Verdict, AllocError> {
     damage_checked(alloc, &ir)
 }
 
-/// The first fixed program with a damaged certificate that is told wrongly.
+/// The first fixed program with a damaged certificate that is reported wrongly.
 fn wrong_case(alloc: Global) -> Result<Option<(Case, Verdict)>, AllocError> {
     for case in CASES {
         match damage_case(alloc, case)? {
@@ -279,7 +279,7 @@ fn wrong_case(alloc: Global) -> Result<Option<(Case, Verdict)>, AllocError> {
     Ok(None)
 }
 
-/// The first drawn program with a damaged certificate that is told wrongly.
+/// The first drawn program with a damaged certificate that is reported wrongly.
 fn wrong_drawn(alloc: Global, count: u64) -> Result<Option<(u64, Verdict)>, AllocError> {
     for number in 0..count {
         match damage_drawn(alloc, number)? {

@@ -19,7 +19,7 @@ impl Draws {
         ((self.state >> 33) as u32).checked_rem(most).unwrap_or(0)
     }
 
-    /// A number of so many, from the least on.
+    /// One of `many` numbers from the least on.
     pub fn at_least(&mut self, least: u32, many: u32) -> u32 {
         least.saturating_add(self.below(many))
     }

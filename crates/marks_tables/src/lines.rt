@@ -108,7 +108,7 @@ pub enum Line {
     Tick,
 }
 
-/// The first of two registers, up to so many.
+/// The first `count` of two registers.
 fn some_of(alloc: Global, args: [u32; 2], count: u32) -> Result<Registers, AllocError> {
     let mut registers = Registers::new(alloc);
     if 0 < count {
@@ -160,7 +160,7 @@ pub fn parameters_of(parameters: &[u32], function: u32) -> u32 {
     parameters.get(function as usize).copied().unwrap_or(0)
 }
 
-/// The instruction of a line, in a program whose functions have so many parameters.
+/// The instruction of a line, by the numbers of parameters of the functions.
 pub fn instruction(
     alloc: Global,
     line: Line,

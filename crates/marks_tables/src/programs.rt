@@ -66,7 +66,7 @@ fn rare(draws: &mut Draws, length: u32) -> Line {
     }
 }
 
-/// A line of a function of so many lines, in a program of so many functions.
+/// A line of a function of `length` lines, in a program of `functions` functions.
 fn drawn_line(draws: &mut Draws, length: u32, functions: u32) -> Line {
     match draws.below(40) {
         0 => rare(draws, length),

@@ -5,6 +5,7 @@ use Rattle.std.proofs.Common.{arith}
 use Rattle.std.specs.Prelude.{option_map, if◌then◌else◌, nat_lt}
 use Rattle.std.proofs.lemmas.Bool.{ltb-true, ltb-false}
 use Rattle.std.proofs.lemmas.Option.{slice_get-map}
+use Rattle.nvm_base.proofs.Lists.{all_at}
 use Rattle.ir.specs.declared.instruction.Instruction.{Instruction}
 use Rattle.ir.specs.declared.function.IrFunction.{IrFunction}
 use Rattle.ir.specs.declared.function.Ir.{Ir}
@@ -13,7 +14,6 @@ use Rattle.pm_machine.specs.declared.image.Image.{Image}
 use Rattle.pm_machine.specs.declared.op.Function.{Function}
 use Rattle.pm_machine.specs.Checked.{most_registers}
 use Rattle.codegen.specs.Emit.{function_of}
-use Rattle.code_meaning.proofs.Lists.{all_at}
 use Rattle.match_law.specs.Compiled.{IsCodeOf}
 use Rattle.match_law.proofs.Places.{made, made_is}
 

@@ -29,10 +29,6 @@ accesses_onto (Flushes l ∷ es) seen = accesses_onto es (Flushes l ∷ seen)
 accesses_onto (Fences ∷ es) seen = accesses_onto es (Fences ∷ seen)
 accesses_onto (Quiet ∷ es) seen = accesses_onto es (Quiet ∷ seen)
 
-pub onto_append : (es fs seen : List Effect) → onto (es ++ fs) seen ≡ onto fs (onto es seen)
-onto_append [] fs seen = refl
-onto_append (e ∷ es) fs seen = onto_append es fs (e ∷ seen)
-
 onto_onto : (es fs gs : List Effect) → onto (onto es fs) gs ≡ onto fs (es ++ gs)
 onto_onto [] fs gs = refl
 onto_onto (e ∷ es) fs gs = onto_onto es (e ∷ fs) gs ∙ refl

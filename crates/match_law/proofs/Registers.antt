@@ -7,24 +7,8 @@ use Rattle.std.proofs.lemmas.Bool.{cases_eq}
 use Rattle.std.proofs.lemmas.List.{get_or-set_same, get_or-set_other, get_or-replicate}
 use Rattle.std.proofs.lemmas.List.{length-replicate}
 use Rattle.code_meaning.specs.Code.{register_at, put_register}
+use Rattle.code_meaning.proofs.Registers.{at_put_same, at_put_other}
 use Rattle.pm_machine.specs.Machine.{registers_filled, registers_placed}
-
-at_put_same : (regs : List ℤ) (r : ℕ) (v : ℤ) → register_at (put_register regs r v) r ≡ v
-at_put_same [] zero v = refl
-at_put_same [] (suc r) v = at_put_same [] r v
-at_put_same (u ∷ us) zero v = refl
-at_put_same (u ∷ us) (suc r) v = at_put_same us r v
-
-at_put_other : (regs : List ℤ) (r q : ℕ) (v : ℤ) → q ≢ r → register_at (put_register regs r v) q
-    ≡ register_at regs q
-at_put_other [] zero zero v ne = absurd (ne refl)
-at_put_other [] zero (suc q) v ne = refl
-at_put_other [] (suc r) zero v ne = refl
-at_put_other [] (suc r) (suc q) v ne = at_put_other [] r q v (λ e. ne (ap suc e))
-at_put_other (u ∷ us) zero zero v ne = absurd (ne refl)
-at_put_other (u ∷ us) zero (suc q) v ne = refl
-at_put_other (u ∷ us) (suc r) zero v ne = refl
-at_put_other (u ∷ us) (suc r) (suc q) v ne = at_put_other us r q v (λ e. ne (ap suc e))
 
 module _ (n r : ℕ) (regs words : List ℤ) (v : ℤ) (holds : (q : ℕ) → q < n
     → get_or words q (pos 0) ≡ register_at regs q) (room : n ≤ length words) where

@@ -14,11 +14,11 @@ use Rattle.piece_law.specs.Law.{PieceLaw}
 use Rattle.piece_law.specs.Pools.{FitsLaw}
 use Rattle.piece_law.specs.Shows.{ShowsLaw, CutsLaw}
 use Rattle.piece_law.specs.Words.{IsWordState, IsWordMove, WordsLaw}
+use Rattle.piece_law.proofs.Shown.{onto_append}
 use Rattle.match_law.specs.Accesses.{accesses}
 use Rattle.match_law.specs.Compiled.{IsCodeOf, is_logged_in_code}
 use Rattle.match_law.specs.Match.{Match, HasShown, StopsFull, EndsToo, MovesToo, own_steps, flushes}
 use Rattle.match_law.specs.Match.{most, MatchLaw}
-use Rattle.match_law.proofs.Effects.{onto_append}
 use Rattle.match_law.proofs.Moves.{full_ends}
 use Rattle.match_law.proofs.Steps.{step_meets}
 

@@ -3,6 +3,7 @@ use Rattle.std.proofs.Common.{◌≡◌, ◌⊎◌, inl, inr, ℕ, zero, suc, �
 use Rattle.std.proofs.Common.{◌∷◌, length, map, slice_get, Option, None, Some, Result, Ok, Err, ℤ}
 use Rattle.std.proofs.Common.{refl, sym, ap, subst, arith}
 use Rattle.std.specs.Prelude.{if◌then◌else◌, nat_lt, option_and_then}
+use Rattle.nvm_base.proofs.Lists.{all_at}
 use Rattle.pool_map.specs.declared.trap.TrapKind.{TrapKind}
 use Rattle.pool_map.specs.declared.trap.TrapKind.TheVariants as kinds
 use Rattle.pool_map.specs.PoolMap.{PoolMap}
@@ -19,7 +20,6 @@ use Rattle.code_meaning.specs.Code.{with_ok, takes_tick, spot_of, base_in, index
 use Rattle.pool_map.specs.Checks.{is_zero}
 use Rattle.code_meaning.specs.Code.{gives, opens, open_limit, act, instruction_step, go_on}
 use Rattle.code_meaning.specs.Code.{exec}
-use Rattle.code_meaning.proofs.Lists.{all_at}
 
 abbrev pub IsNotStuck : CodeEnd → Type 0
 IsNotStuck (Ended w v t) = Unit {0}

@@ -7,7 +7,7 @@ use std::alloc::{AllocError, Global};
 use std::test::Fail;
 
 /// Words, and what is told of them.
-const WORDS: [(&str, &str); 27] = [
+const WORDS: [(&str, &str); 31] = [
     ("", "a command is missing: run, list, storm, why or workers"),
     ("--help", "the commands and their options:"),
     (
@@ -40,9 +40,16 @@ const WORDS: [(&str, &str); 27] = [
         "run a b --slot 5",
         "--slot: `run` has no such option; did you mean `--slots`?",
     ),
+    ("run a b --slots=0", "--slots: 0 is not from 1 to 65535"),
+    ("run a --slots=5", "SCRIPT: `run` needs this word"),
+    ("run a b --slots=5 --slots 6", "--slots: is given twice"),
     (
-        "run a b --slots=5",
-        "--slots=5: an option and its value are two words, without `=`",
+        "run a b --slot=5",
+        "--slot: `run` has no such option; did you mean `--slots`?",
+    ),
+    (
+        "rnu a b",
+        "rnu: there is no such command; did you mean `run`?",
     ),
     ("run a b --slots", "--slots: its value is missing"),
     ("run a b --slots 5 --slots 6", "--slots: is given twice"),
@@ -83,7 +90,7 @@ fn wrong_words(rt: HostRuntime) -> Result<(), Fail> {
         let first = told.as_str().lines().next().unwrap_or("");
         let wanted = format!(in rt.alloc(); "cnvm: {wanted}")?;
         assert_eq!(rt; first, wanted.as_str(), "at {line}");
-        assert_eq!(rt; told.as_str().lines().count(), 15, "at {line}");
+        assert_eq!(rt; told.as_str().lines().count(), 17, "at {line}");
     }
     Ok(())
 }

@@ -9,6 +9,7 @@ use Rattle.std.proofs.lemmas.Grind.{common_steps}
 use Rattle.std.proofs.lemmas.List.{take-append-drop, drop-drop}
 use Rattle.std.proofs.Math.Seq.{take-append_seam, take-add}
 use Rattle.nvm_base.specs.Parts.{AppendsPart, Takes}
+use Rattle.nvm_base.proofs.Ended.{ended}
 
 -- the first n bytes of a source, copied to the front of a piece, are the bytes taken
 pub left_copied : (left piece copied bytes : List ℕ) (at n : ℕ)
@@ -25,14 +26,6 @@ appends_more None b c xs ys first next = tt
 appends_more (Some us) None c xs ys first next = absurd first
 appends_more (Some us) (Some vs) None xs ys first next = absurd next
 appends_more (Some us) (Some vs) (Some ws) xs ys first next = grind (arith, append_assoc)
-
--- appending nothing keeps what was appended before
-pub appends_keeps : (a b c : Option (List ℕ)) (xs : List ℕ) → Appends a b xs → Keeps b c
-    → Appends a c xs
-appends_keeps None b c xs first next = tt
-appends_keeps (Some us) None c xs first next = absurd first
-appends_keeps (Some us) (Some vs) None xs first next = absurd next
-appends_keeps (Some us) (Some vs) (Some ws) xs first next = next ∙ first
 
 -- the bytes from place `at` to the end are those of `&bytes[at..]`
 pub slice_drop : (at : ℕ) (bs : List ℕ) → take (length bs - at) (drop at bs) ≡ drop at bs
@@ -53,7 +46,7 @@ appends_part a b c bs at first next = record {
   part = take at bs;
   rest = drop at bs;
   split = sym (take-append-drop at bs);
-  appended = appends_keeps a b c (take at bs) first next;
+  appended = ended a b c (take at bs) first next;
 }
 
 -- a first part of ys, appended after the whole of xs
@@ -84,14 +77,6 @@ consumes_more None b c xs ys first next = tt
 consumes_more (Some us) None c xs ys first next = absurd first
 consumes_more (Some us) (Some vs) None xs ys first next = absurd next
 consumes_more (Some us) (Some vs) (Some ws) xs ys first next = grind (arith, append_assoc)
-
--- taking nothing keeps what was taken before
-pub consumes_keeps : (a b c : Option (List ℕ)) (xs : List ℕ) → Consumes a b xs → Keeps b c
-    → Consumes a c xs
-consumes_keeps None b c xs first next = tt
-consumes_keeps (Some us) None c xs first next = absurd first
-consumes_keeps (Some us) (Some vs) None xs first next = absurd next
-consumes_keeps (Some us) (Some vs) (Some ws) xs first next = grind (arith, next)
 
 -- taking bytes, and then a bounded number more
 pub takes_more : (a b c : Option (List ℕ)) (xs : List ℕ) (most : ℕ) (P : ℕ → Type 0)

@@ -1,9 +1,12 @@
 pub mod Answers
 pub mod Applied
+pub mod Listed
+pub mod Naturals
 pub mod Operations
 pub mod Parts
 pub mod Reader
 pub mod Rose
+pub mod Stacks
 pub mod WordLaws
 pub mod Wrap
 pub mod Writer

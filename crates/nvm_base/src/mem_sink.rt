@@ -10,8 +10,7 @@ use crate::sink::{Sink, WriteAnswer};
 use std::alloc::{AllocError, Global};
 use std::marker::Model;
 
-/// A sink in memory, which shows clauses all that was written. Of its writes, numbered from 0,
-/// those fail that were chosen, and those that find no room.
+/// A sink in memory. The chosen writes (numbered from 0) fail, and so does one that doesn't fit.
 #[derive(Drop)]
 pub struct MemSink {
     bytes: Vec<u8>,

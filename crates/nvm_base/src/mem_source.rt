@@ -10,8 +10,8 @@ use crate::source::{ReadAnswer, Source};
 use std::alloc::{AllocError, Global};
 use std::marker::Model;
 
-/// A source over bytes in memory, which shows clauses all the bytes that are left. Of its reads,
-/// numbered from 0, exactly the chosen ones fail; each gives at most a fixed number of bytes.
+/// A source in memory. The chosen reads (numbered from 0) fail; each other gives at most a fixed
+/// number of bytes.
 #[derive(Drop)]
 pub struct MemSource {
     bytes: Vec<u8>,

@@ -39,7 +39,7 @@ impl Reason {
         }
     }
 
-    /// The reason in words. Of another error the number tells more.
+    /// The reason in words. Other errors share one text, and differ by their numbers.
     pub fn words(self) -> &'static str {
         match self {
             Reason::NotFound => "no such file",

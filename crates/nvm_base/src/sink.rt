@@ -11,7 +11,7 @@ use crate::output::WriteFault;
 /// The answer of a write.
 #[derive(Clone, Copy, Debug, PartialEq, Eq)]
 pub enum WriteAnswer {
-    /// So many bytes from the front of the piece were written, at least one.
+    /// This many bytes from the front of the piece were written, at least one.
     Count(usize),
     /// Nothing was written, and the sink's count of faults rose.
     Failed,

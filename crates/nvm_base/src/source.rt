@@ -8,7 +8,7 @@ ghost use Rattle.nvm_base.specs.Rose.{Rose};
 /// The answer of a read.
 #[derive(Clone, Copy, Debug, PartialEq, Eq)]
 pub enum ReadAnswer {
-    /// So many bytes were put at the front of the piece. 0 means the end of input.
+    /// This many bytes were put at the front of the piece; 0 means the end of input.
     Count(usize),
     /// Nothing was taken, and the source's count of faults rose.
     Failed,

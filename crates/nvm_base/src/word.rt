@@ -1,6 +1,7 @@
-//! The operations on 64-bit words, which wrap.
+//! The operations on 64-bit words, which wrap, and the number of a word.
 
 ghost use Rattle.std.specs.Prelude.{◌≡◌, ◌≢◌, pos};
+ghost use Rattle.nvm_base.specs.Naturals.{natural_of};
 ghost use Rattle.nvm_base.specs.Operations as word;
 
 /// `a + b`, wrapped.
@@ -73,4 +74,15 @@ pub fn ult(a: i64, b: i64) -> i64
     ensures { result ≡ word.ult a b }
 {
     i64::from(a.cast_unsigned() < b.cast_unsigned())
+}
+
+/// The word's number; 0 for a word below 0.
+#[tactic(auto, using(std::proofs::lemmas::Int::wraps))]
+pub fn natural_of(word: i64) -> u64
+    ensures { result ≡ natural_of word }
+{
+    match u64::try_from(word) {
+        Ok(number) => number,
+        Err(_) => 0,
+    }
 }

@@ -1,12 +1,12 @@
 -- A pool after a change of one word or one slot, and the heap that stands for it.
 use Rattle.std.proofs.Common.{◌≡◌, ◌≢◌, ◌⊎◌, inl, inr, ⊎_elim, ℕ, zero, suc, ◌+◌, ◌-◌, ◌<◌, ◌≤◌}
-use Rattle.std.proofs.Common.{Bool, true, false, List, [], ◌∷◌, ◌++◌, length, Option, None, Some}
+use Rattle.std.proofs.Common.{Bool, true, false, List, ◌++◌, length, Option, None, Some}
 use Rattle.std.proofs.Common.{IsSomeAnd, IfSome, option_map, replicate, get_or, set, ℤ, pos, refl}
-use Rattle.std.proofs.Common.{sym, ap, ◌∙◌, subst, arith, slice_index_or, slice_get}
+use Rattle.std.proofs.Common.{sym, ap, ◌∙◌, subst, arith, slice_get}
 use Rattle.std.specs.Prelude.{if◌then◌else◌}
-use Rattle.std.specs.List.{AllByRecursion}
 use Rattle.std.proofs.lemmas.Bool.{cases_eq, cases_lt, lt-ltb}
 use Rattle.std.proofs.lemmas.List.{length-set, get_or-replicate, get_or-set_same, get_or-set_other}
+use Rattle.std.proofs.lemmas.List.{length-replicate}
 use Rattle.cache_model.specs.Cache.{Words, put}
 use Rattle.cache_model.proofs.Versions.{put_same, put_other}
 use Rattle.pool_layout.specs.declared.limits.Sizes.{Sizes}
@@ -20,6 +20,7 @@ use Rattle.pool_map.specs.PoolMap.{field_of, with_field, HasField, write, read_r
 use Rattle.pool_map.proofs.Points.{object_at-with_object_same, object_at-with_object_other}
 use Rattle.pool_map.proofs.Points.{IsSlot-HasField, read_root-write_root_same}
 use Rattle.pool_map.proofs.Points.{read_root-write_root_other}
+use Rattle.pool_map.proofs.Fitting.{slot_all}
 use Rattle.pool_map.specs.Checks.{has_word}
 use Rattle.code_meaning.specs.Code.{Spot, InRoot, InSlot, load_spot, store_spot}
 use Rattle.pm_machine.specs.declared.effect.Effect.{Effect}
@@ -28,13 +29,6 @@ use Rattle.piece_law.specs.Stands.{Stands, HasWord, heap_word, header_word, head
 use Rattle.piece_law.specs.Fits.{IsFit}
 use Rattle.piece_law.specs.Shows.{IsThere}
 use Rattle.piece_law.proofs.Stores.{store_effects, zero_effects}
-
--- the object of a slot fits
-slot_all : (P : Object → Type 0) (slots : List (Option Object)) (i : ℕ)
-    → AllByRecursion (λ slot. IfSome slot P) slots → IfSome (slice_index_or slots i None) P
-slot_all P [] i h = tt
-slot_all P (slot ∷ slots) zero h = h.0
-slot_all P (slot ∷ slots) (suc i) h = slot_all P slots i h.1
 
 pub object_fits : (shapes : Shapes) (w : PoolMap) (q : ℕ) → PoolFits shapes w
     → IfSome (object_at w q) (ObjectFits shapes.structs)
@@ -181,10 +175,6 @@ module _ (s : Sizes) (b : Bool) (q : ℕ) where
       (store_heap b heap (heap_word s (InSlot q i)) (pos 0) (zero_effects s b q (suc i) c))
       ∙ zeroed_in c (suc i) k (put heap (heap_word s (InSlot q i)) (pos 0)) (omega arith)
 
-pub length_replicate : (n : ℕ) (x : ℤ) → length (replicate n x) ≡ n
-length_replicate zero x = refl
-length_replicate (suc n) x = ap suc (length_replicate n x)
-
 module _ (s : Sizes) (shapes : Shapes) (heap : Words) (w : PoolMap) (fit : IsFit s shapes)
     (fits : PoolFits shapes w) (stands : Stands s heap w) where
   -- the header and the zeros of a new object
@@ -203,7 +193,7 @@ module _ (s : Sizes) (shapes : Shapes) (heap : Words) (w : PoolMap) (fit : IsFit
       (zeroed_out s b q c 0 h1 (header_word s q) (inl (omega arith))
       ∙ put_same heap (header_word s q) (pos kind))
       (λ i has.
-      let less : i < c = subst (λ (n : ℕ). i < n) (length_replicate c (pos 0)) has in
+      let less : i < c = subst (λ (n : ℕ). i < n) (length-replicate c (pos 0)) has in
       let at : 0 + i ≡ i = omega arith in
       subst (λ (n : ℕ). heap_end h1 (zero_effects s b q 0 c) (heap_word s (InSlot q n)) ≡ pos 0)
       at (zeroed_in s b q c 0 i h1 less) ∙ sym (get_or-replicate c i (pos 0) (pos 0) less))

@@ -3,9 +3,8 @@ use Rattle.std.proofs.Common.{◌≡◌, ℕ, zero, suc, ◌-◌, ◌<◌, Bool,
 use Rattle.std.proofs.Common.{map, Option, None, Some, IfSome, IsSomeAnd, Result, Ok, Err}
 use Rattle.std.proofs.Common.{option_map, set, ℤ, pos, refl, sym, ◌∙◌, subst, arith, ⊎_elim}
 use Rattle.std.specs.Prelude.{slice_get, nat_lt, if◌then◌else◌}
-use Rattle.std.specs.List.{AllByRecursion}
 use Rattle.std.specs.Option.{option_map_or}
-use Rattle.std.proofs.lemmas.List.{length-set}
+use Rattle.std.proofs.lemmas.List.{length-set, length-replicate}
 use Rattle.std.proofs.lemmas.Option.{slice_get_cases}
 use Rattle.pool_map.specs.declared.object.Object.{Object}
 use Rattle.pool_map.specs.declared.trap.TrapKind.{TrapKind}
@@ -21,18 +20,12 @@ use Rattle.ir.specs.WellFormed.{IsKind}
 use Rattle.code_meaning.specs.Code.{Frame, frame, Here, Move, Goes, Ends, Trapped, Spot, InRoot}
 use Rattle.code_meaning.specs.Code.{InSlot, register_at, put_register, load_spot, store_spot}
 use Rattle.pool_map.specs.Checks.{has_word, then_on, new_at, is_zero}
+use Rattle.pool_map.proofs.Fitting.{slot_put}
 use Rattle.code_meaning.specs.Code.{spot_of, slot_of, base_in, index_in, with_ok}
 use Rattle.code_meaning.specs.Code.{with_word, word_of, takes_tick, fields_of}
 use Rattle.code_meaning.specs.Code.{gives, opens}
 use Rattle.piece_law.specs.Pools.{FitsMove, FitsLaw}
-use Rattle.piece_law.proofs.Changes.{object_fits, length_replicate}
-
-slot_put : (P : Object → Type 0) (slots : List (Option Object)) (i : ℕ) (o : Option Object)
-    → AllByRecursion (λ slot. IfSome slot P) slots → IfSome o P
-    → AllByRecursion (λ slot. IfSome slot P) (set slots i o)
-slot_put P [] i o all fits = tt
-slot_put P (slot ∷ slots) zero o all fits = (fits, all.1)
-slot_put P (slot ∷ slots) (suc i) o all fits = (all.0, slot_put P slots i o all.1 fits)
+use Rattle.piece_law.proofs.Changes.{object_fits}
 
 module _ (shapes : Shapes) where
   fits_at : (w : PoolMap) (q : ℕ) (o : Option Object) → PoolFits shapes w
@@ -75,7 +68,7 @@ module _ (shapes : Shapes) where
   blank_fits zero is = absurd (omega (arith, is.0))
   blank_fits (suc k) is = subst (λ (n : ℕ).
       IsSomeAnd (slice_get shapes.structs k) (λ shape. n ≡ words_of shape.fields))
-      (sym (length_replicate (words_of (fields_of shapes (suc k))) (pos 0)))
+      (sym (length-replicate (words_of (fields_of shapes (suc k))) (pos 0)))
       (struct_there k (slice_get shapes.structs k) refl (omega (arith, is.1)))
 
   new_fits : (w : PoolMap) (kind : ℕ) (o : Option ℕ) → IsKind shapes kind → PoolFits shapes w

@@ -29,6 +29,7 @@ use Rattle.code_meaning.specs.Code.{with_ok, with_word, word_of, takes_tick, fre
 use Rattle.pool_map.specs.Checks.{is_zero}
 use Rattle.code_meaning.specs.Code as code
 use Rattle.code_meaning.specs.Deeds.{Deed}
+use Rattle.code_meaning.proofs.Registers.{at_put_same, at_put_other}
 use Rattle.pm_alloc.specs.declared.local.Reg.TheVariants.{Own}
 use Rattle.pm_alloc.specs.declared.local.Local.{Local}
 use Rattle.pm_alloc.specs.declared.local.Local.TheVariants.{Const, Mov, Bin, Jmp, Jz, Tick, Trap}
@@ -44,30 +45,12 @@ use Rattle.piece_law.specs.Shows.{done}
 use Rattle.piece_law.specs.Law.{Does, goes}
 use Rattle.piece_law.proofs.Comes.{comes, done_by, traps_by}
 
--- a register that was written
-pub at_same : (regs : List ℤ) (n : ℕ) (v : ℤ) → register_at (put_register regs n v) n ≡ v
-at_same [] zero v = refl
-at_same [] (suc n) v = at_same [] n v
-at_same (u ∷ us) zero v = refl
-at_same (u ∷ us) (suc n) v = at_same us n v
-
-pub at_other : (regs : List ℤ) (n r : ℕ) (v : ℤ) → (r ≡ n → ⊥)
-    → register_at (put_register regs n v) r ≡ register_at regs r
-at_other [] zero zero v ne = absurd (ne refl)
-at_other [] zero (suc r) v ne = refl
-at_other [] (suc n) zero v ne = refl
-at_other [] (suc n) (suc r) v ne = at_other [] n r v (λ e. ne (ap suc e))
-at_other (u ∷ us) zero zero v ne = absurd (ne refl)
-at_other (u ∷ us) zero (suc r) v ne = refl
-at_other (u ∷ us) (suc n) zero v ne = refl
-at_other (u ∷ us) (suc n) (suc r) v ne = at_other us n r v (λ e. ne (ap suc e))
-
 pub written_is : (regs : List ℤ) (n : ℕ) (v : ℤ) (r : ℕ) → cache.put (register_at regs) n v r
     ≡ register_at (put_register regs n v) r
 written_is regs n v r = ⊎_elim
     (λ (e : r ≡ n). ap (cache.put (register_at regs) n v) e ∙ put_same (register_at regs) n v
-    ∙ sym (ap (register_at (put_register regs n v)) e ∙ at_same regs n v))
-    (λ (ne : r ≡ n → ⊥). put_other (register_at regs) n r v ne ∙ sym (at_other regs n r v ne))
+    ∙ sym (ap (register_at (put_register regs n v)) e ∙ at_put_same regs n v))
+    (λ (ne : r ≡ n → ⊥). put_other (register_at regs) n r v ne ∙ sym (at_put_other regs n r v ne))
     (cases_eq r n)
 
 -- a divisor that is a word is 0 exactly if its unsigned number is

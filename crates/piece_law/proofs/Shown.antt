@@ -59,7 +59,7 @@ pub records_append : (es fs : List Effect) (n : ℕ) → records_end (records_en
 records_append [] fs n = refl
 records_append (e ∷ es) fs n = records_append es fs (records_past n e)
 
-onto_append : (es fs seen : List Effect) → onto (es ++ fs) seen ≡ onto fs (onto es seen)
+pub onto_append : (es fs seen : List Effect) → onto (es ++ fs) seen ≡ onto fs (onto es seen)
 onto_append [] fs seen = refl
 onto_append (e ∷ es) fs seen = onto_append es fs (e ∷ seen)
 

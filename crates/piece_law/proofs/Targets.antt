@@ -1,5 +1,5 @@
 -- The code of a target leads to the word that the target names, or traps as the code does.
-use Rattle.std.proofs.Common.{◌≡◌, ℕ, zero, suc, ◌+◌, ◌*◌, ◌^◌, ◌<◌, ◌≤◌, Bool, List, [], ◌∷◌, ◌++◌}
+use Rattle.std.proofs.Common.{◌≡◌, ℕ, zero, suc, ◌+◌, ◌*◌, ◌<◌, ◌≤◌, Bool, List, [], ◌∷◌, ◌++◌}
 use Rattle.std.proofs.Common.{length, Option, None, Some, IfSome, Result, Ok, Err, ℤ, pos, refl}
 use Rattle.std.proofs.Common.{sym, ap, ◌∙◌, subst, arith}
 use Rattle.std.specs.Prelude.{◌+ℤ◌, slice_get, IsSomeAnd, option_map, option_and_then}
@@ -40,6 +40,7 @@ use Rattle.piece_law.specs.Fits.{IsFit}
 use Rattle.piece_law.specs.Shows.{ShowsDeeds, done}
 use Rattle.piece_law.specs.Law.{onward}
 use Rattle.pm_alloc.proofs.New.{Here}
+use Rattle.emit_law.proofs.Placed.{sum_is}
 use Rattle.piece_law.proofs.Addresses.{element_address, root_address}
 use Rattle.piece_law.proofs.Changes.{object_fits}
 use Rattle.piece_law.specs.Words.{HoldWords}
@@ -75,9 +76,6 @@ abbrev pub Led : Sizes → (Site → Bool) → PoolMap → List Local → (own x
 Led s logged w piece own x v n o r =
     (k : ℕ) × (k ≤ 16) × ((es : List Effect)
     × (ShowsDeeds s logged [] es × Leads s w piece own x v n o k es r))
-
-sum_small : (a b : ℕ) → a + b < 2 ^ 32 → sum a b ≡ a + b
-sum_small a b few = omega arith
 
 pub struct_same : (shapes : Shapes) (kind : ℕ)
     → struct_at shapes.structs kind ≡ struct_of shapes kind
@@ -206,7 +204,7 @@ module _ (s : Sizes) (logged : Site → Bool) (shapes : Shapes) (regs : List ℤ
       → int_wrap w64 (pos (q * 16 + i) +ℤ offset s (sum first 1))
       ≡ pos (heap_word s (InSlot q (first + i)))
   address_in q first i low high few =
-      let one : sum first 1 ≡ first + 1 = sum_small first 1 (omega arith) in
+      let one : sum first 1 ≡ first + 1 = sum_is first 1 (omega arith) in
       let word : slot_word s q + (first + 1) + i ≡ heap_word s (InSlot q (first + i)) =
       omega arith in
       ap (λ (m : ℕ). int_wrap w64 (pos (q * 16 + i) +ℤ offset s m)) one

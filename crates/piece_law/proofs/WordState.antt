@@ -34,8 +34,8 @@ use Rattle.pool_map.specs.Checks.{has_word, then_on, new_at, is_zero}
 use Rattle.code_meaning.specs.Code.{spot_of, slot_of, base_in, index_in, with_ok}
 use Rattle.code_meaning.specs.Code.{with_word, word_of, takes_tick, fields_of}
 use Rattle.code_meaning.specs.Code.{gives, opens, act}
+use Rattle.code_meaning.proofs.Registers.{at_put_same, at_put_other}
 use Rattle.piece_law.specs.Words.{HoldWords, HasWords, IsWordFrame, IsWordMove, WordsLaw}
-use Rattle.piece_law.proofs.Locals.{at_same, at_other}
 
 zero_word : IsWord (pos 0)
 zero_word = (omega (arith, ints), omega (arith, ints))
@@ -89,8 +89,8 @@ put_words : (regs : List ℤ) (to : ℕ) (v : ℤ) → HoldWords regs → IsWord
     → HoldWords (put_register regs to v)
 put_words regs to v words word r = ⊎_elim
     (λ (e : r ≡ to). subst IsWord (sym (ap (register_at (put_register regs to v)) e
-    ∙ at_same regs to v)) word)
-    (λ (ne : r ≡ to → ⊥). subst IsWord (sym (at_other regs to r v ne)) (words r))
+    ∙ at_put_same regs to v)) word)
+    (λ (ne : r ≡ to → ⊥). subst IsWord (sym (at_put_other regs to r v ne)) (words r))
     (cases_eq r to)
 
 args_words : (regs : List ℤ) (args : List ℕ) → HoldWords regs

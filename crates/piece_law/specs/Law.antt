@@ -46,7 +46,7 @@ AgreesOnSites logged f p b ir.Tick = Unit {0}
 AgreesOnSites logged f p b (ir.Trap k) = Unit {0}
 AgreesOnSites logged f p b (ir.Log x) = Unit {0}
 
--- the world after the effects, with so many ticks left
+-- the world after the effects, with t ticks left
 abbrev pub onward : World → List Effect → ℕ → World
 onward v es t = record {
   heap = heap_end v.heap es;

@@ -15,6 +15,6 @@ abbrev pub past_bytes : Place → List ℕ → Place
 past_bytes place [] = place
 past_bytes place (b ∷ bytes) = past_bytes (past_byte place b) bytes
 
--- the place of the byte that has this many before it
+-- the place of the byte that has `start` bytes before it
 abbrev pub place_of : List ℕ → (start : ℕ) → Place
 place_of text start = past_bytes text_start (take start text)

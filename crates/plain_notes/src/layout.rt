@@ -1,7 +1,7 @@
 //! How a message is laid out: its head, the line of the text with a caret below, and the notes.
 
 ghost use Rattle.std.specs.Prelude.{◌≡◌, ◌++◌, ℕ, List, IfOk, string_bytes};
-ghost use Rattle.plain_notes.specs.Head.{head_text};
+ghost use Rattle.plain_notes.specs.Head.{file_head, head_text, plain_head};
 ghost use Rattle.plain_notes.specs.Place.{place_of};
 
 use crate::place::{Place, place_of};
@@ -55,11 +55,33 @@ fn head_text(alloc: Global, path: &str, place: Place, what: &str) -> Result<Stri
 }
 
 /// A message without a place: `cnvm: WHAT`, and the notes.
-pub fn message_of(alloc: Global, told: &Told) -> Result<String, AllocError> {
-    let what = told.what.as_str();
-    let mut message = format!(in alloc; "cnvm: {what}\n")?;
-    push_notes(alloc, &mut message, told)?;
+pub fn message_of(alloc: Global, told: &Told) -> Result<String, AllocError>
+    ensures begins { IfOk result (λ s. (rest : List ℕ) × (string_bytes s
+        ≡ plain_head (string_bytes told.now.what) ++ rest)) }
+{
+    let mut message = plain_head(alloc, told.what.as_str())?;
+    let notes = notes_text(alloc, told)?;
+    message.push_str(notes.as_str())?;
     Ok(message)
+}
+
+fn plain_head(alloc: Global, what: &str) -> Result<String, AllocError>
+    ensures { IfOk result (λ s. string_bytes s ≡ plain_head what.now) }
+{
+    format!(in alloc; "cnvm: {what}\n")
+}
+
+/// A message of a text as a whole: `cnvm: PATH: WHAT`.
+pub fn message_of_file(alloc: Global, path: &str, what: &str) -> Result<String, AllocError>
+    ensures { IfOk result (λ s. string_bytes s ≡ file_head path.now what.now) }
+{
+    format!(in alloc; "cnvm: {path}: {what}\n")
+}
+
+fn notes_text(alloc: Global, told: &Told) -> Result<String, AllocError> {
+    let mut text = String::new(alloc);
+    push_notes(alloc, &mut text, told)?;
+    Ok(text)
 }
 
 /// What comes after the head.
@@ -72,7 +94,7 @@ fn rest_text(alloc: Global, text: &[u8], start: u64, told: &Told) -> Result<Stri
     Ok(rest)
 }
 
-/// What comes after the head, where this column of the line is told.
+/// What comes after the head, where the column of the line is given.
 fn rest_in_line(
     alloc: Global,
     line: &[u8],

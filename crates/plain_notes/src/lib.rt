@@ -8,7 +8,7 @@ mod near;
 mod place;
 mod told;
 
-pub use layout::{message_at, message_in_line, message_of, push_shown};
+pub use layout::{message_at, message_in_line, message_of, message_of_file, push_shown};
 pub use near::nearest;
 pub use place::{Place, place_of};
 pub use told::Told;

@@ -10,7 +10,7 @@ pub struct Place {
     pub column: u64,
 }
 
-/// The place of the byte that has this many before it.
+/// The place of the byte that has `start` bytes before it.
 pub fn place_of(text: &[u8], start: u64) -> Place
     ensures { result ≡ place_of text.now start }
 {

@@ -17,7 +17,7 @@ use Rattle.pm_alloc.specs.Pieces.{offset, fill_code, new_head, new_code}
 use Rattle.pm_alloc.specs.Runs.{Next, Goes, local_run}
 use Rattle.pm_alloc.specs.LocalRun.{World, Loc, local_read, local_stored, logged, searched}
 use Rattle.pm_alloc.specs.LocalRun.{local_step}
-use Rattle.pm_alloc.specs.Search.{temporaries, IsPool}
+use Rattle.pm_alloc.specs.Search.{IsPool}
 use Rattle.pm_alloc.specs.New.{wrote, zeroed, world_after_new, NewCodeLaw}
 use Rattle.pm_alloc.proofs.Runs.{run_on}
 use Rattle.pm_alloc.proofs.Search.{small, address_is, header_address, searched_least, least_within}
@@ -125,9 +125,6 @@ module _ (s : Sizes) (to kind c : ℕ) (b : Bool) (own : Words) (x : ℕ → ℤ
 
   abbrev at_loc : ℕ → Words → List ℤ → World → Loc
   at_loc p regs temp w = record { at = p; own = regs; temp = temp; world = w }
-
-  abbrev begin : Loc
-  begin = at_loc 0 own (temporaries x) w
 
   -- where a search that finds q continues
   abbrev found : ℕ → Loc

@@ -72,8 +72,8 @@ fn push_object(
     piece.push(Local::Mov(Reg::Own(to), Reg::Temp(0)))
 }
 
-/// Appends the code of a `pm_new` of a struct with so many words, at the start of a piece. No slot
-/// has room for more than 15 words: the code of such a struct is a trap.
+/// Appends the code of a `pm_new` of a struct of this many words, at the start of a piece. No slot
+/// has room for more than 15 words: the code of a larger struct is a trap.
 pub fn push_new(
     piece: &mut Locals,
     sizes: &Sizes,

@@ -1,5 +1,5 @@
 -- The count of faults never falls.
-use Rattle.std.proofs.Common.{◌≤◌, List, Result, Ok, Err, OnOk, IfOk, IfErr}
+use Rattle.std.proofs.Common.{◌≤◌, List, Result, Ok, Err, OnOk, IfErr}
 use Rattle.cache_model.specs.Event.{CacheEvent}
 use Rattle.pmem.specs.Device.{Device}
 use Rattle.pmem.specs.Played.{PlaysAll, PlaysPart}
@@ -10,9 +10,3 @@ pub rise_of : {A : Type 0} (r : Result A Refusal) (es : List CacheEvent) (d b : 
     → OnOk r (PlaysAll d es b) → IfErr r (λ why. PlaysPart why d es b) → d.faults ≤ b.faults
 rise_of (Ok _) es d b all part = all_rise es d b all
 rise_of (Err why) es d b all part = part_rise es why d b part
-
-pub rise_each : {A : Type 0} (r : Result A Refusal) (of : A → List CacheEvent)
-    (es : List CacheEvent) (d b : Device) → IfOk r (λ p. PlaysAll d (of p) b)
-    → IfErr r (λ why. PlaysPart why d es b) → d.faults ≤ b.faults
-rise_each (Ok p) of es d b all part = all_rise (of p) d b all
-rise_each (Err why) of es d b all part = part_rise es why d b part

@@ -1,14 +1,15 @@
 -- The loop of a run: playing the remaining events gives what playing all of them gives from the
 -- start.
-use Rattle.std.proofs.Common.{◌≡◌, ℕ, suc, ◌+◌, ◌-◌, ◌<◌, ◌≤◌, List, [], ◌∷◌, Some, None, refl, sym}
+use Rattle.std.proofs.Common.{◌≡◌, ℕ, suc, ◌+◌, ◌-◌, ◌<◌, ◌≤◌, List, [], Some, None, refl, sym}
 use Rattle.std.proofs.Common.{ap, ◌∙◌, subst, arith, slice_get, Option}
 use Rattle.cache_model.specs.Event.{CacheEvent}
 use Rattle.cache_model.specs.Cache.{Cache, Words}
 use Rattle.cache_model.specs.Play.{play}
 use Rattle.pmem.specs.declared.answer.Refusal.{Refusal}
-use Rattle.pmem.specs.Device.{Device, spent}
+use Rattle.pmem.specs.Device.{Device}
 use Rattle.pmem.specs.Played.{PlaysAll, PlaysPart}
 use Rattle.pmem.proofs.Glue.{all_append, part_left, part_right}
+use Rattle.pmem.proofs.Refused.{all_cache, all_on}
 use Rattle.pm_machine.specs.declared.op.Op.{Op}
 use Rattle.pm_machine.specs.declared.op.Function.{Function}
 use Rattle.pm_machine.specs.declared.effect.Effect.{Effect}
@@ -25,14 +26,6 @@ use Rattle.pm_machine.specs.Runs.{heap_in, outcome_of, effect_of, effect_in, Due
 use Rattle.pm_machine.specs.Runs.{due}
 use Rattle.pm_machine.specs.inside.Runs.{DueLeads, GoesSilently}
 use Rattle.pm_machine.specs.inside.Code.{code_in, code_of}
-
-pub all_cache : (es : List CacheEvent) (d b : Device) → PlaysAll d es b → b.cache ≡ play d.cache es
-all_cache [] d b all = ap (λ (x : Device). x.cache) all
-all_cache (e ∷ es) d b all = all_cache es (spent d e) b all.1
-
-pub all_on : (es : List CacheEvent) (d b : Device) → PlaysAll d es b → b.on ≡ d.on
-all_on [] d b all = ap (λ (x : Device). x.on) all
-all_on (e ∷ es) d b all = all_on es (spent d e) b all.1
 
 leads_next : (d : Device) (k : ℕ) (es : List CacheEvent) (x : Due) (d0 : Device) (k0 : ℕ) (x0 : Due)
     (b : Device) → PlaysAll d es b → DueLeads d k (due_before es x) d0 k0 x0
@@ -56,16 +49,6 @@ fetched image s code is =
     go : (o : Option Function) → slice_get (code_in o) s.top.place ≡ fetch_in s.top.place o
     go None = refl
     go (Some f) = refl
-
--- nothing was played
-pub leads_same : (d : Device) (k : ℕ) (x : Due) → DueLeads d k x d k x
-leads_same d k x = record {
-  fate = refl;
-  whole = λ b p. p;
-  part = λ why b p. p;
-  steps = refl;
-  records = refl;
-}
 
 -- first one part of a run, and then the next
 pub leads_after : (d : Device) (k : ℕ) (x : Due) (d1 : Device) (k1 : ℕ) (x1 : Due) (d0 : Device)

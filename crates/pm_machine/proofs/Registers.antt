@@ -1,10 +1,11 @@
 -- The words of registers of which only the first are kept, and all others are 0.
-use Rattle.std.proofs.Common.{◌≡◌, ◌∙◌, ℕ, zero, suc, ◌+◌, ◌-◌, ◌<◌, ◌≤◌, List, [], ◌++◌}
+use Rattle.std.proofs.Common.{◌≡◌, ◌∙◌, ℕ, ◌+◌, ◌-◌, ◌<◌, ◌≤◌, List, ◌++◌}
 use Rattle.std.proofs.Common.{length, get_or, set, replicate, ℤ, pos, refl, sym, ap}
 use Rattle.std.proofs.Common.{arith, append_assoc, length-set, length-append}
 use Rattle.std.proofs.lemmas.List.{length-replicate, get_or_append_left}
-use Rattle.std.proofs.lemmas.List.{get_or-append_right, get_or_past, set-append_left, set_past}
+use Rattle.std.proofs.lemmas.List.{get_or-append_right, set-append_left, set_past}
 use Rattle.std.proofs.lemmas.List.{replicate-append-replicate}
+use Rattle.cache_model.proofs.Lists.{zeros_at}
 
 -- the registers after those that are kept, n in all
 abbrev pub all_words : ℕ → List ℤ → List ℤ
@@ -20,7 +21,7 @@ pub kept_split : (n : ℕ) (xs : List ℤ) → length xs ≤ n
 kept_split n xs le =
     ap (λ (k : ℕ). xs ++ replicate (k - length xs) (pos 0)) (sym (kept_length n xs le))
 
--- zeros that are kept are as zeros that aren't
+-- zeros_at that are kept are as zeros_at that aren't
 pub zeros_kept : (n k : ℕ) (xs ys : List ℤ) → length xs ≤ k → k ≤ n
     → ys ≡ xs ++ replicate (k - length xs) (pos 0)
     → (all_words n ys ≡ all_words n xs) × (length ys ≡ k)
@@ -36,11 +37,6 @@ zeros_kept n k xs ys le few is =
       long,
     )
 
-zeros : (k i : ℕ) → get_or (replicate k (pos 0)) i (pos 0) ≡ pos 0
-zeros zero i = get_or_past [] i (pos 0) (omega arith)
-zeros (suc k) zero = refl
-zeros (suc k) (suc i) = zeros k i
-
 pub word_kept : (n r : ℕ) (xs : List ℤ) → r < length xs
     → get_or (all_words n xs) r (pos 0) ≡ get_or xs r (pos 0)
 word_kept n r xs lt = get_or_append_left xs (replicate (n - length xs) (pos 0)) (pos 0) r lt
@@ -49,7 +45,7 @@ pub word_blank : (n r : ℕ) (xs : List ℤ) → length xs ≤ r
     → get_or (all_words n xs) r (pos 0) ≡ pos 0
 word_blank n r xs le =
     get_or-append_right xs (replicate (n - length xs) (pos 0)) (length xs) r (pos 0) refl le
-    ∙ zeros (n - length xs) (r - length xs)
+    ∙ zeros_at (n - length xs) (r - length xs)
 
 -- a register that is kept is written
 pub kept_set : (n r : ℕ) (x : ℤ) (xs : List ℤ) → r < length xs

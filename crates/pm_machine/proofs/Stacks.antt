@@ -37,7 +37,7 @@ sized_before n [] w sized = (tt, sized.0)
 sized_before n (v ∷ vs) w sized =
     let rest = sized_before n vs w sized.1 in ((sized.0, rest.0), rest.1)
 
--- so many frames keep at most so many words
+-- frames of at most n words each keep at most n words for each frame
 pub words_fit : (n : ℕ) (ws : List Waiting) → AreSized n ws → words_of ws ≤ n * length ws
 words_fit n [] sized = omega arith
 words_fit n (w ∷ ws) sized =

@@ -4,7 +4,9 @@ use Rattle.std.specs.Prelude.{ℕ, ◌+◌, ◌≡◌, List}
 use Rattle.pmem.specs.Device.{Device}
 use Rattle.pmem.specs.Played.{PlaysAll, PlaysPart}
 use Rattle.pmem.specs.declared.answer.Refusal.TheVariants as refusal
+use Rattle.cache_model.specs.Cache.{view}
 use Rattle.cache_model.specs.Event.{CacheEvent}
+use Rattle.clobber_log.specs.Logs.{attempt_in, count_in}
 use Rattle.pm_machine.specs.declared.effect.Effect.{Effect}
 use Rattle.pm_machine.specs.declared.effect.End.{End}
 use Rattle.pm_machine.specs.declared.effect.End.TheVariants as end
@@ -12,8 +14,10 @@ use Rattle.pm_machine.specs.declared.answer.StepAnswer.{StepAnswer}
 use Rattle.pm_machine.specs.declared.answer.StepAnswer.TheVariants as step
 use Rattle.pm_machine.specs.declared.answer.RunAnswer.{RunAnswer}
 use Rattle.pm_machine.specs.declared.answer.RunAnswer.TheVariants as run
-use Rattle.pm_machine.specs.Machine.{State, StepOutcome, Goes, Ends}
-use Rattle.pm_machine.specs.Runs.{Due, end_of, effect_in}
+use Rattle.pm_machine.specs.declared.image.Image.{Image}
+use Rattle.pm_machine.specs.Effects.{events_of}
+use Rattle.pm_machine.specs.Machine.{State, StepOutcome, Goes, Ends, step as next_step}
+use Rattle.pm_machine.specs.Runs.{heap_in, Due, end_of, effect_in, due_on}
 
 -- The answer of a due step with outcome o, on a device that is d before and b after it; the
 -- machine's state is then t.
@@ -42,3 +46,19 @@ RunAnswered (run.Trapped t) x n d b k k1 l l1 = HasRun (end.Trapped t) x n d b k
 RunAnswered run.Off x n d b k k1 l l1 = PlaysPart refusal.Off d x.events b
 RunAnswered run.Failed x n d b k k1 l l1 = PlaysPart refusal.Failed d x.events b
 RunAnswered run.NoMemory x n d b k k1 l l1 = PlaysPart refusal.NoMemory d x.events b
+
+-- The answer of a step on a device that is on. The attempt, the records and the heap are those in
+-- its view.
+abbrev pub StepsOn : StepAnswer → Image → (s t : State) → (d b : Device) → Type 0
+StepsOn a image s t d b =
+    Stepped a
+    (next_step image (count_in image.parts.sizes (view d.cache)) s
+    (heap_in image.parts.sizes d.cache))
+    (events_of image.parts.sizes (attempt_in image.parts.sizes (view d.cache))
+    (count_in image.parts.sizes (view d.cache)) (heap_in image.parts.sizes d.cache)) t d b
+
+-- The answer of a run on a device that is on. The step counter rises from k to k1.
+abbrev pub RunsOn : RunAnswer → Image → (s t : State) → (d b : Device) → (k k1 : ℕ) → Type 0
+RunsOn a image s t d b k k1 =
+    RunAnswered a (due_on image s d.cache) (count_in image.parts.sizes (view d.cache)) d b k k1
+    s.logged t.logged

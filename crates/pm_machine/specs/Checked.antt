@@ -12,7 +12,7 @@ use Rattle.pm_machine.specs.declared.op.Op.TheVariants.{Log, Flush, Fence, Call,
 use Rattle.pm_machine.specs.declared.op.Op.TheVariants.{Halt}
 use Rattle.pm_machine.specs.declared.op.Function.{Function}
 
--- the called function exists and has so many parameters
+-- the called function exists and has n parameters
 abbrev pub takes_arguments : Option Function → ℕ → Bool
 takes_arguments None n = false
 takes_arguments (Some u) n = u.parameters == n

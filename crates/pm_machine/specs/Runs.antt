@@ -7,6 +7,7 @@ use Rattle.cache_model.specs.Play.{play}
 use Rattle.pool_layout.specs.declared.limits.Sizes.{Sizes}
 use Rattle.pool_layout.specs.declared.places.Place.TheVariants.{Heap}
 use Rattle.pool_layout.specs.Places.{at, pool_of}
+use Rattle.clobber_log.specs.Logs.{attempt_in, count_in}
 use Rattle.pm_machine.specs.declared.effect.Effect.{Effect}
 use Rattle.pm_machine.specs.declared.effect.Effect.TheVariants.{Quiet}
 use Rattle.pm_machine.specs.declared.effect.End.{End}
@@ -16,8 +17,8 @@ use Rattle.pm_machine.specs.declared.machine.Progress.{Progress}
 use Rattle.pm_machine.specs.declared.machine.Progress.TheVariants as progress
 use Rattle.pm_machine.specs.declared.image.Image.{Image}
 use Rattle.pm_machine.specs.Effects.{events_of, events_all, records_past, records_end}
-use Rattle.pm_machine.specs.Machine.{State, StepOutcome, Goes, Ends, step, Run, Unfinished}
-use Rattle.pm_machine.specs.Machine.{Finished}
+use Rattle.pm_machine.specs.Machine.{State, StepOutcome, Goes, Ends, decide, step, Run}
+use Rattle.pm_machine.specs.Machine.{Unfinished, Finished}
 
 -- the heap in the view of a cache
 abbrev pub heap_in : Sizes → Cache → Words
@@ -77,6 +78,17 @@ due image a (suc k) n s c =
     (λ e t. due image a k (records_past n e) t
     (play c (events_of image.parts.sizes a n (heap_in image.parts.sizes c) e)))
     (step image n s (heap_in image.parts.sizes c))
+
+-- what is due of the run on a pool, whose attempt and records are those in the view
+abbrev pub due_on : Image → State → Cache → Due
+due_on image s c = due image (attempt_in image.parts.sizes (view c)) image.parts.most
+    (count_in image.parts.sizes (view c)) s c
+
+-- the events of the next step, with attempt a and n records
+abbrev pub due_step : Image → (a n : ℕ) → State → Cache → List CacheEvent
+due_step image a n s c =
+    events_of image.parts.sizes a n (heap_in image.parts.sizes c)
+    (effect_in (decide image n s (heap_in image.parts.sizes c)))
 
 -- what is due of a run that starts with n records and this heap
 abbrev pub owed : Sizes → (a n : ℕ) → Words → Run → Due

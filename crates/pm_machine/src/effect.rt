@@ -7,7 +7,7 @@ use pool_map::TrapKind;
 #[derive(Clone, Copy, Debug, PartialEq, Eq, Drop)]
 pub enum Effect {
     Loads(u64),
-    /// Loads so many slot headers, 16 words apart, from this heap word on.
+    /// Loads slot headers, 16 words apart: from this heap word on, this many.
     Scans(u64, u64),
     Stores(u64, i64),
     Logs(u64),

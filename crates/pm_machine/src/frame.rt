@@ -6,10 +6,8 @@ ghost use Rattle.std.specs.Prelude.{slice_index_or, slice_set, IfOk, vec_capacit
 use std::alloc::{AllocError, Global};
 use std::marker::Model;
 
-/// The words of a frame's registers, seen as a list. A register that doesn't exist reads as 0. Only
-/// the words up to the last register that was written and a few more are kept, and all others are
-/// 0, so that the work of a call grows with the registers that were written, and not with those
-/// that a frame has.
+/// The registers of a frame. Only those up to a little past the last written one are kept; all
+/// others read as 0. So a call's cost depends on the registers that it writes.
 #[derive(Drop)]
 pub struct RegisterWords {
     kept: Vec<i64>,
@@ -47,7 +45,7 @@ fn keep(words: &mut Vec<i64>, register: usize, count: usize)
 }
 
 impl RegisterWords {
-    /// So many registers, all 0.
+    /// `count` registers, all 0.
     pub fn blank(alloc: Global, count: u32) -> Result<Self, AllocError>
         ensures { IfOk result (λ w. w ≡ replicate count (pos 0)) }
     {

@@ -58,7 +58,7 @@ fn all_below(registers: &[u32], count: u32) -> bool
     true
 }
 
-/// Whether the function exists and has so many parameters.
+/// Whether the function exists and has this many parameters.
 fn takes(functions: &Functions, number: u32, arguments: usize) -> bool
     ensures { result ≡ takes_arguments (slice_get functions.now number) arguments }
 {
@@ -68,8 +68,8 @@ fn takes(functions: &Functions, number: u32, arguments: usize) -> bool
     }
 }
 
-/// Whether all that the instruction names exists, in a function of so many registers and
-/// instructions.
+/// Whether all that the instruction names exists, in a function with this many registers and
+/// `places` instructions.
 fn is_there(functions: &Functions, registers: u32, places: usize, op: &Op) -> bool
     ensures { result ≡ op_is_there functions.now registers places op.now }
 {

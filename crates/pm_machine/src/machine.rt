@@ -23,7 +23,7 @@ ghost use Rattle.pm_machine.specs.Machine.{decide, tallied, step, trap_at, start
 ghost use Rattle.pm_machine.specs.Machine.{stored_by, due_store};
 ghost use Rattle.pm_machine.specs.Effects.{events_of, records_past};
 ghost use Rattle.pm_machine.specs.Runs.{heap_in, outcome_of, effect_of, effect_in, AreLines, due};
-ghost use Rattle.pm_machine.specs.Runs.{end_of};
+ghost use Rattle.pm_machine.specs.Runs.{end_of, due_step};
 ghost use Rattle.pm_machine.specs.inside.Runs.{IsStore, IsInRange, DueLeads};
 
 use crate::effect::{Effect, End};
@@ -659,7 +659,7 @@ fn perform<P: PmemWork>(
 }
 
 impl Machine {
-    /// One step, on a pool with that attempt and so many records. After an end or a refusal the
+    /// One step, on a pool with this attempt and `count` records. After an end or a refusal the
     /// machine has to be restarted before it is used again.
     pub fn step_on<P: PmemWork>(
         &mut self,
@@ -679,12 +679,9 @@ impl Machine {
             PlaysAll (P.device dev.old) (events_of image.now.parts.sizes attempt count
             (heap_in image.now.parts.sizes (P.device dev.old).cache) (effect_of p))
             (P.device dev.new)) }
-        ensures refused { IfErr result
-            (λ why. PlaysPart why (P.device dev.old)
-            (events_of image.now.parts.sizes attempt count
-            (heap_in image.now.parts.sizes (P.device dev.old).cache)
-            (effect_in (decide image.now count self.old
-            (heap_in image.now.parts.sizes (P.device dev.old).cache)))) (P.device dev.new)) }
+        ensures refused { IfErr result (λ why. PlaysPart why (P.device dev.old)
+            (due_step image.now attempt count self.old (P.device dev.old).cache)
+            (P.device dev.new)) }
         ensures counted { IfOk result (λ p. self.new.logged ≡ records_past self.old.logged
             (effect_of p)) }
         ensures logged { OnErr result (self.new.logged ≡ self.old.logged) }

@@ -1,13 +1,9 @@
 //! A machine on a pool: one step, or a run to its end.
 
-ghost use Rattle.std.specs.Prelude.{◌≡◌, ◌+◌, ◌-◌, ◌^◌, ◌<◌, ◌≤◌, true, false};
-ghost use Rattle.cache_model.specs.Cache.{view};
+ghost use Rattle.std.specs.Prelude.{◌≡◌, ◌+◌, ◌^◌, ◌<◌, ◌≤◌, true, false};
 ghost use Rattle.pool_layout.specs.Sizes.{heap_words, pool_lines};
-ghost use Rattle.clobber_log.specs.Logs.{attempt_in, count_in};
-ghost use Rattle.pm_machine.specs.Effects.{events_of};
-ghost use Rattle.pm_machine.specs.Machine.{step};
-ghost use Rattle.pm_machine.specs.Runs.{heap_in, AreLines, due};
-ghost use Rattle.pm_machine.specs.Answers.{Stepped, RunAnswered};
+ghost use Rattle.pm_machine.specs.Runs.{AreLines, due_on};
+ghost use Rattle.pm_machine.specs.Answers.{StepsOn, RunsOn};
 
 use crate::answer::{RunAnswer, StepAnswer};
 use crate::image::Image;
@@ -26,14 +22,7 @@ impl Machine {
         requires dirty { AreLines (heap_words image.now.parts.sizes) self.old.dirty }
         requires logged { self.old.logged < 2 ^ 62 }
         ensures stepped { (P.device dev.old).on ≡ true
-            → Stepped result (step image.now
-            (count_in image.now.parts.sizes (view (P.device dev.old).cache)) self.old
-            (heap_in image.now.parts.sizes (P.device dev.old).cache))
-            (events_of image.now.parts.sizes
-            (attempt_in image.now.parts.sizes (view (P.device dev.old).cache))
-            (count_in image.now.parts.sizes (view (P.device dev.old).cache))
-            (heap_in image.now.parts.sizes (P.device dev.old).cache)) self.new (P.device dev.old)
-            (P.device dev.new) }
+            → StepsOn result image.now self.old self.new (P.device dev.old) (P.device dev.new) }
         ensures off { (P.device dev.old).on ≡ false → result ≡ StepAnswer.Off }
         ensures same { (P.device dev.old).on ≡ false → P.device dev.new ≡ P.device dev.old }
         ensures dirty { result ≡ StepAnswer.Next
@@ -64,17 +53,10 @@ impl Machine {
         requires dirty { AreLines (heap_words image.now.parts.sizes) self.old.dirty }
         requires logged { self.old.logged < 2 ^ 62 }
         ensures ran { (P.device dev.old).on ≡ true
-            → RunAnswered result (due image.now
-            (attempt_in image.now.parts.sizes (view (P.device dev.old).cache)) image.now.parts.most
-            (count_in image.now.parts.sizes (view (P.device dev.old).cache)) self.old
-            (P.device dev.old).cache) (count_in image.now.parts.sizes
-            (view (P.device dev.old).cache)) (P.device dev.old) (P.device dev.new) steps.old
-            steps.new self.old.logged self.new.logged }
+            → RunsOn result image.now self.old self.new (P.device dev.old) (P.device dev.new)
+            steps.old steps.new }
         ensures bound { (P.device dev.old).on ≡ true
-            → steps.new ≤ steps.old + (due image.now
-            (attempt_in image.now.parts.sizes (view (P.device dev.old).cache)) image.now.parts.most
-            (count_in image.now.parts.sizes (view (P.device dev.old).cache)) self.old
-            (P.device dev.old).cache).steps }
+            → steps.new ≤ steps.old + (due_on image.now self.old (P.device dev.old).cache).steps }
         ensures most { steps.new ≤ steps.old + image.now.parts.most }
         ensures off { (P.device dev.old).on ≡ false → result ≡ RunAnswer.Off }
         ensures same { (P.device dev.old).on ≡ false → P.device dev.new ≡ P.device dev.old }

@@ -1,5 +1,5 @@
 -- The effect of a power cut on a sparse memory, line by line.
-use Rattle.std.proofs.Common.{◌≡◌, ◌≢◌, ⊎_elim, ℕ, zero, suc, ◌+◌, ◌*◌, ◌/◌, ◌%◌, ◌<◌, ◌==◌, nat_lt}
+use Rattle.std.proofs.Common.{◌≡◌, ◌≢◌, ⊎_elim, ℕ, zero, suc, ◌+◌, ◌*◌, ◌/◌, ◌<◌, ◌==◌, nat_lt}
 use Rattle.std.proofs.Common.{◌&&◌, replicate, cond, Bool, true, false, List, [], ◌∷◌, ◌++◌, map}
 use Rattle.std.proofs.Common.{length, get_or, slice_get, Option, Some, None, Result, Ok, Err, OnErr}
 use Rattle.std.proofs.Common.{ℤ, pos, refl, sym, ap, ◌∙◌, arith, eq-eqb, ne_eqb, FitsSigned, w64}
@@ -16,11 +16,11 @@ use Rattle.cache_model.specs.declared.choice.Rest.{Rest}
 use Rattle.cache_model.specs.declared.choice.Rest.TheVariants.{Old, New}
 use Rattle.cache_model.specs.declared.choice.Pick.{Pick}
 use Rattle.cache_model.specs.declared.choice.Choice.{Choice}
-use Rattle.cache_model.proofs.Lists.{read_on, read_off}
+use Rattle.cache_model.proofs.Lists.{cond_same, zeros_at}
 use Rattle.pmem.specs.Sparse.{Older, Sparse, kept_at, newest_of, sparse_line, sparse_cache}
 use Rattle.pmem.specs.Sparse.{sparse_memory, IsTidySparse}
 use Rattle.pmem.specs.inside.Sparse.{left_older, or_newest, count_of}
-use Rattle.pmem.proofs.Sparses.{newest_on, newest_off, at_same, at_other}
+use Rattle.pmem.proofs.Sparses.{newest_on, at_same, at_other}
 
 pub round : (x : ℤ) → FitsSigned w64 x → to_z w64 (of_z w64 x) ≡ x
 round x fits = simp to_z-of_z refl
@@ -28,46 +28,6 @@ round x fits = simp to_z-of_z refl
 pub on_err : {A E P : Type 0} (r : Result A E) → P → OnErr r P
 on_err (Ok _) p = tt
 on_err (Err _) p = p
-
--- a version overwrites the newest one of its line
-pub write_line : (words other : List ℤ) (line : ℕ) (v : List ℤ) →
-    ((q : ℕ) → get_or other q (pos 0) ≡ cond (q / 8 == line) (get_or v (q % 8) (pos 0))
-    (get_or words q (pos 0))) →
-    (l q : ℕ) → newest_of other l q ≡ or_newest l (newest_of words l)
-    (cond (l == line) (Some v) None) q
-write_line words other line v is l q = ⊎_elim
-    (λ (on : q / 8 ≡ l). ⊎_elim
-    (λ (e : l ≡ line).
-    newest_on other l q on ∙ is q
-    ∙ ap (λ (b : Bool). cond b (get_or v (q % 8) (pos 0)) (get_or words q (pos 0)))
-    (eq-eqb (q / 8) line (on ∙ e))
-    ∙ sym (read_on l v q on)
-    ∙ ap (λ (b : Bool). or_newest l (newest_of words l) (cond b (Some v) None) q)
-    (sym (eq-eqb l line e)))
-    (λ (ne : l ≢ line).
-    newest_on other l q on ∙ is q
-    ∙ ap (λ (b : Bool). cond b (get_or v (q % 8) (pos 0)) (get_or words q (pos 0)))
-    (ne_eqb (q / 8) line (λ f. ne (sym on ∙ f)))
-    ∙ sym (newest_on words l q on)
-    ∙ ap (λ (b : Bool). or_newest l (newest_of words l) (cond b (Some v) None) q)
-    (sym (ne_eqb l line ne)))
-    (cases_eq l line))
-    (λ (off : q / 8 ≢ l). newest_off other l q off ∙ sym (nothing_at (l == line) off))
-    (cases_eq (q / 8) l)
-  where
-    nothing_at : (b : Bool) → q / 8 ≢ l
-        → or_newest l (newest_of words l) (cond b (Some v) None) q ≡ pos 0
-    nothing_at true off = read_off l v q off
-    nothing_at false off = newest_off words l q off
-
-pub write_none : (words : List ℤ) (line l q : ℕ)
-    → newest_of words l q ≡ or_newest l (newest_of words l) (cond (l == line) None None) q
-write_none words line l q = none_at (l == line)
-  where
-    none_at : (b : Bool) → newest_of words l q ≡ or_newest l (newest_of words l)
-        (cond b None None) q
-    none_at true = refl
-    none_at false = refl
 
 at_get : (l : ℕ) (us : List (List ℤ)) (n : Words) (k : ℕ)
     → get_or (map (version_words l) us ++ n ∷ []) k n ≡ or_newest l n (slice_get us k)
@@ -200,15 +160,6 @@ pub gone_some : (b : Bool) (o : Option Older) (y : Older) → cond b None o ≡ 
 gone_some true o y e = absurd (cc)
 gone_some false o y e = e
 
-zeros_at : (n k : ℕ) → get_or (replicate n (pos 0)) k (pos 0) ≡ pos 0
-zeros_at zero k = refl
-zeros_at (suc n) zero = refl
-zeros_at (suc n) (suc k) = zeros_at n k
-
-cond_zero : (b : Bool) (x : ℤ) → x ≡ pos 0 → cond b x (pos 0) ≡ pos 0
-cond_zero true x e = e
-cond_zero false x e = refl
-
 pub blank_sparse : (s : Sparse) (n : ℕ) → s.count ≡ n → s.words ≡ replicate (8 * n) (pos 0)
     → s.kept ≡ [] → sparse_memory s ≡ record { lines = n; cache = blank }
 unfolding sparse_cache
@@ -220,7 +171,7 @@ blank_sparse s n count words none =
           record {
             older = [];
             newest = λ q.
-                cond_zero (q / 8 == l) (get_or (replicate (8 * n) (pos 0)) q (pos 0))
+                cond_same (q / 8 == l) (get_or (replicate (8 * n) (pos 0)) q (pos 0))
                 (zeros_at (8 * n) q) i;
             mark = None;
           };

@@ -8,6 +8,7 @@ use Rattle.std.specs.Ordering.{nat_cmp}
 use Rattle.std.specs.BTreeMap.{is_at}
 use Rattle.std.proofs.lemmas.Bool.{cases_eq}
 use Rattle.std.proofs.lemmas.List.{append-nil}
+use Rattle.std.proofs.lemmas.Option.{same_Some, none-some, slice_get_within, slice_get-get_or}
 use Rattle.pmem.specs.Sparse.{Older, kept_at}
 use Rattle.pmem.specs.inside.Placed.{ArePlaced, AreApart, IsEntry}
 use Rattle.pmem.specs.inside.Sparse.{more_older, flush_older, fence_older, fence_entry}
@@ -27,15 +28,6 @@ key_same a b e = cc
 older_same : (a b : Entry) → Some a ≡ Some b → a.1 ≡ b.1
 older_same a b e = cc
 
-number_same : (a b : ℕ) → Some a ≡ Some b → a ≡ b
-number_same a b e = cc
-
-some_same : (a b : Older) → Some a ≡ Some b → a ≡ b
-some_same a b e = cc
-
-none_some : {A : Type 0} (a : A) → None ≡ Some a → ⊥
-none_some a e = cc
-
 kept_first : (e : Entry) (es : List Entry) (q : ℕ) → e.0 ≡ q → kept_at (e ∷ es) q ≡ Some e.1
 kept_first e es q is = ap (λ (b : Bool). cond b (Some e.1) (kept_at es q)) (at_same q e.0 is)
 
@@ -44,13 +36,13 @@ kept_next e es q ne = ap (λ (b : Bool). cond b (Some e.1) (kept_at es q)) (at_o
 
 -- what is found stands in the list, and what stands in it is found
 pub found_has : (es : List Entry) (q : ℕ) (y : Older) → kept_at es q ≡ Some y → Has es q y
-found_has [] q y is = absurd (none_some y is)
+found_has [] q y is = absurd (none-some y is)
 found_has (e ∷ es) q y is = ⊎_elim
     (λ (same : e.0 ≡ q). (
       0,
       λ i. Some (
         same i,
-        some_same e.1 y
+        same_Some e.1 y
             (sym (kept_first e es q same) ∙ is) i,
       ),
     ))
@@ -60,7 +52,7 @@ found_has (e ∷ es) q y is = ⊎_elim
 
 has_some : (es : List Entry) (i q : ℕ) (y : Older) → slice_get es i ≡ Some (q, y)
     → (z : Older) × (kept_at es q ≡ Some z)
-has_some [] i q y is = absurd (none_some (q, y) is)
+has_some [] i q y is = absurd (none-some (q, y) is)
 has_some (e ∷ es) zero q y is = (e.1, kept_first e es q (key_same e (q, y) is))
 has_some (e ∷ es) (suc i) q y is = ⊎_elim
     (λ (same : e.0 ≡ q). (e.1, kept_first e es q same))
@@ -72,7 +64,7 @@ pub place_found : (ps : List ℕ) (es : List Entry) (i q : ℕ) (y : Older) → 
 place_found ps es i q y placed is =
     let z = has_some es i q y is in
     let j = found_has es q z.0 z.1 in
-    let same : i ≡ j.0 = number_same i j.0
+    let same : i ≡ j.0 = same_Some i j.0
     (sym (placed i (q, y) is) ∙ placed j.0 (q, z.0) j.1) in
     let both : Some (q, y) ≡ Some (q, z.0) =
     sym is ∙ ap (λ (k : ℕ). slice_get es k) same ∙ j.1 in
@@ -103,7 +95,7 @@ kept_none es q missing = by (kept_at es q) (λ y is. missing y (found_has es q y
 
 get_set_same : {X : Type 0} (xs : List X) (i : ℕ) (x y : X) → slice_get xs i ≡ Some y
     → slice_get (set xs i x) i ≡ Some x
-get_set_same [] i x y is = absurd (none_some y is)
+get_set_same [] i x y is = absurd (none-some y is)
 get_set_same (z ∷ xs) zero x y is = refl
 get_set_same (z ∷ xs) (suc i) x y is = get_set_same xs i x y is
 
@@ -117,20 +109,14 @@ get_set_other (z ∷ xs) (suc i) (suc j) x ne = get_set_other xs i j x (λ e. ne
 
 get_set_back : {X : Type 0} (xs : List X) (i : ℕ) (x y : X) → slice_get (set xs i x) i ≡ Some y
     → x ≡ y
-get_set_back [] i x y is = absurd (none_some y is)
-get_set_back (z ∷ xs) zero x y is = by is
-  where
-    by : Some x ≡ Some y → x ≡ y
-    by e = cc
+get_set_back [] i x y is = absurd (none-some y is)
+get_set_back (z ∷ xs) zero x y is = same_Some x y is
 get_set_back (z ∷ xs) (suc i) x y is = get_set_back xs i x y is
 
 get_push : {X : Type 0} (xs : List X) (x y : X) (j : ℕ) → slice_get (xs ++ x ∷ []) j ≡ Some y
     → (slice_get xs j ≡ Some y) ⊎ ((j ≡ length xs) × (x ≡ y))
-get_push [] x y zero is = inr (refl, by is)
-  where
-    by : Some x ≡ Some y → x ≡ y
-    by e = cc
-get_push [] x y (suc j) is = absurd (none_some y is)
+get_push [] x y zero is = inr (refl, same_Some x y is)
+get_push [] x y (suc j) is = absurd (none-some y is)
 get_push (z ∷ xs) x y zero is = inl is
 get_push (z ∷ xs) x y (suc j) is = ⊎_elim
     (λ (had : slice_get xs j ≡ Some y). inl had)
@@ -139,7 +125,7 @@ get_push (z ∷ xs) x y (suc j) is = ⊎_elim
 
 push_had : {X : Type 0} (xs : List X) (x y : X) (j : ℕ) → slice_get xs j ≡ Some y
     → slice_get (xs ++ x ∷ []) j ≡ Some y
-push_had [] x y j is = absurd (none_some y is)
+push_had [] x y j is = absurd (none-some y is)
 push_had (z ∷ xs) x y zero is = is
 push_had (z ∷ xs) x y (suc j) is = push_had xs x y j is
 
@@ -147,32 +133,21 @@ push_last : {X : Type 0} (xs : List X) (x : X) → slice_get (xs ++ x ∷ []) (l
 push_last [] x = refl
 push_last (z ∷ xs) x = push_last xs x
 
-within : {X : Type 0} (xs : List X) (j : ℕ) (x : X) → slice_get xs j ≡ Some x → j < length xs
-within [] j x is = absurd (none_some x is)
-within (z ∷ xs) zero x is = omega arith
-within (z ∷ xs) (suc j) x is = let lt = within xs j x is in omega arith
-
 take_back : {X : Type 0} (xs : List X) (m j : ℕ) (x : X) → slice_get (take m xs) j ≡ Some x
     → (j < m) × (slice_get xs j ≡ Some x)
-take_back [] zero j x is = absurd (none_some x is)
-take_back [] (suc m) j x is = absurd (none_some x is)
-take_back (z ∷ xs) zero j x is = absurd (none_some x is)
+take_back [] zero j x is = absurd (none-some x is)
+take_back [] (suc m) j x is = absurd (none-some x is)
+take_back (z ∷ xs) zero j x is = absurd (none-some x is)
 take_back (z ∷ xs) (suc m) zero x is = (omega arith, is)
 take_back (z ∷ xs) (suc m) (suc j) x is =
     let r = take_back xs m j x is in let lt = r.0 in (omega arith, r.1)
 
 take_had : {X : Type 0} (xs : List X) (m j : ℕ) (x : X) → j < m → slice_get xs j ≡ Some x
     → slice_get (take m xs) j ≡ Some x
-take_had [] m j x lt is = absurd (none_some x is)
+take_had [] m j x lt is = absurd (none-some x is)
 take_had (z ∷ xs) zero j x lt is = absurd (let h : ⊥ = omega arith in h)
 take_had (z ∷ xs) (suc m) zero x lt is = is
 take_had (z ∷ xs) (suc m) (suc j) x lt is = take_had xs m j x (omega arith) is
-
-pub get_at : {X : Type 0} (xs : List X) (j : ℕ) (d : X) → j < length xs
-    → slice_get xs j ≡ Some (get_or xs j d)
-get_at [] j d lt = absurd (let h : ⊥ = omega arith in h)
-get_at (z ∷ xs) zero d lt = refl
-get_at (z ∷ xs) (suc j) d lt = get_at xs j d (omega arith)
 
 -- another value of one entry
 
@@ -221,13 +196,13 @@ pub placed_push : (ps rs : List ℕ) (es fs : List Entry) (l n : ℕ) (z : Older
     → fs ≡ es ++ (l, z) ∷ [] → ArePlaced rs fs
 placed_push ps rs es fs l n z placed none lt count here is j e at = ⊎_elim
     (λ (had : slice_get es j ≡ Some e).
-    let ne : e.0 ≢ l = λ f. let z = has_some es j e.0 e.1 had in none_some z.0
+    let ne : e.0 ≢ l = λ f. let z = has_some es j e.0 e.1 had in none-some z.0
     (sym none ∙ ap (λ (k : ℕ). kept_at es k) (sym f) ∙ z.1) in
     ap (λ (ks : List ℕ). slice_get ks e.0) here ∙ get_set_other ps l e.0 n ne ∙ placed j e had)
     (λ (last : (j ≡ length es) × ((l, z) ≡ e)).
     ap (λ (f : Entry). slice_get rs f.0) (sym last.1)
     ∙ ap (λ (ks : List ℕ). slice_get ks l) here
-    ∙ get_set_same ps l n (get_or ps l 0) (get_at ps l 0 lt)
+    ∙ get_set_same ps l n (get_or ps l 0) (slice_get-get_or ps l 0 lt)
     ∙ ap Some (count ∙ sym last.0))
     (get_push es (l, z) e j (ap (λ (gs : List Entry). slice_get gs j) (sym is) ∙ at))
 
@@ -276,9 +251,9 @@ pop_gone ps es fs x placed is q =
     (λ (e : q ≡ x.0). kept_none fs q (λ w h.
     let first = placed h.0 (q, w) (get h.0 ∙ push_had fs x (q, w) h.0 h.1) in
     let last = placed (length fs) x (get (length fs) ∙ push_last fs x) in
-    let same : h.0 ≡ length fs = number_same h.0 (length fs)
+    let same : h.0 ≡ length fs = same_Some h.0 (length fs)
     (sym first ∙ ap (λ (k : ℕ). slice_get ps k) e ∙ last) in
-    let lt = within fs h.0 (q, w) h.1 in
+    let lt = slice_get_within fs h.0 (q, w) h.1 in
     let no : ⊥ = omega arith in no)
     ∙ sym (ap (λ (b : Bool). cond b None (kept_at es q)) (at_same x.0 q e)))
     (λ (ne : q ≢ x.0). kept_same ps ps es fs q placed after
@@ -306,9 +281,9 @@ swapped : (es fs : List Entry) (i : ℕ) (d : Entry) (y : Entry) → slice_get e
     → fs ≡ swap_remove es i d → IsSwapped es fs i
 swapped es fs i d y here is =
     let n = length es in
-    let lt = within es i y here in
+    let lt = slice_get_within es i y here in
     let last = get_or es (n - 1) d in
-    let at_last : slice_get es (n - 1) ≡ Some last = get_at es (n - 1) d (omega arith) in
+    let at_last : slice_get es (n - 1) ≡ Some last = slice_get-get_or es (n - 1) d (omega arith) in
     let get : (j : ℕ) → slice_get fs j ≡ slice_get (take (n - 1) (set es i last)) j = λ j.
     ap (λ (gs : List Entry). slice_get gs j) is in
     record {
@@ -346,7 +321,7 @@ placed_moved ps rs es fs i d y m placed here is moved set_is j e at =
     (λ (ne : j ≢ i).
     let had = placed j e (b.1.0 ne) in
     let other : e.0 ≢ m.0 = λ f.
-    let same : j ≡ length es - 1 = number_same j (length es - 1)
+    let same : j ≡ length es - 1 = same_Some j (length es - 1)
     (sym had ∙ ap (λ (k : ℕ). slice_get ps k) f ∙ last) in
     let few = b.0 in let no : ⊥ = omega arith in no in
     get_set_other ps m.0 e.0 i other ∙ had)
@@ -358,7 +333,7 @@ pub placed_last : (ps : List ℕ) (es fs : List Entry) (i : ℕ) (d y : Entry) �
 placed_last ps es fs i d y placed here is past j e at =
     let s = swapped es fs i d y here is in
     let b = s.back j e at in
-    let lt = within fs j e at in
+    let lt = slice_get_within fs j e at in
     placed j e (b.1.0 (λ same. absurd (let nothing : ⊥ = omega arith in nothing)))
 
 -- the line that moved has a place before
@@ -368,14 +343,14 @@ pub moved_within : (ps : List ℕ) (es fs : List Entry) (i : ℕ) (d y m : Entry
 moved_within ps es fs i d y m placed here is moved =
     let s = swapped es fs i d y here is in
     let from = s.back i m moved in
-    within ps m.0 (length es - 1) (placed (length es - 1) m (from.1.1 refl))
+    slice_get_within ps m.0 (length es - 1) (placed (length es - 1) m (from.1.1 refl))
 
 pub swap_gone : (ps rs : List ℕ) (es fs : List Entry) (i l : ℕ) (d : Entry) (y : Older)
     → ArePlaced ps es → ArePlaced rs fs → slice_get es i ≡ Some (l, y) → fs ≡ swap_remove es i d
     → (q : ℕ) → kept_at fs q ≡ cond (is_at (nat_cmp l) q) None (kept_at es q)
 swap_gone ps rs es fs i l d y placed after here is q =
     let s = swapped es fs i d (l, y) here is in
-    let lt = within es i (l, y) here in
+    let lt = slice_get_within es i (l, y) here in
     let place : slice_get ps l ≡ Some i = placed i (l, y) here in
     ⊎_elim
     (λ (e : q ≡ l). kept_none fs q (λ w h.
@@ -384,10 +359,10 @@ swap_gone ps rs es fs i l d y placed after here is q =
     let at_q : slice_get ps q ≡ Some i = ap (λ (k : ℕ). slice_get ps k) e ∙ place in
     ⊎_elim
     (λ (same : h.0 ≡ i).
-    let last : length es - 1 ≡ i = number_same (length es - 1) i
+    let last : length es - 1 ≡ i = same_Some (length es - 1) i
     (sym (placed (length es - 1) (q, w) (b.1.1 same)) ∙ at_q) in
     let no : ⊥ = omega arith in no)
-    (λ (ne : h.0 ≢ i). ne (number_same h.0 i
+    (λ (ne : h.0 ≢ i). ne (same_Some h.0 i
     (sym (placed h.0 (q, w) (b.1.0 ne)) ∙ at_q)))
     (cases_eq h.0 i))
     ∙ sym (ap (λ (b : Bool). cond b None (kept_at es q)) (at_same l q e)))
@@ -395,7 +370,7 @@ swap_gone ps rs es fs i l d y placed after here is q =
     (λ w h.
     let apart : h.0 ≢ i = λ e. ne (key_same (q, w) (l, y)
     (sym h.1 ∙ ap (λ (k : ℕ). slice_get es k) e ∙ here)) in
-    let inside = within es h.0 (q, w) h.1 in
+    let inside = slice_get_within es h.0 (q, w) h.1 in
     ⊎_elim
     (λ (e : h.0 ≡ length es - 1). (
       i,
@@ -421,7 +396,7 @@ apart_placed ps es placed = from es 0 (λ i e at. placed i e at ∙ ap Some (ome
     from [] n at = tt
     from (e ∷ fs) n at = (
       kept_none fs e.0 (λ w h.
-          let same : n + 0 ≡ n + suc h.0 = number_same (n + 0) (n + suc h.0)
+          let same : n + 0 ≡ n + suc h.0 = same_Some (n + 0) (n + suc h.0)
           (sym (at 0 e refl) ∙ at (suc h.0) (e.0, w) h.1) in
           let no : ⊥ = omega arith in no),
       from fs (suc n) (λ i f is. at (suc i) f is ∙ ap Some (omega arith)),
@@ -429,11 +404,8 @@ apart_placed ps es placed = from es 0 (λ i e at. placed i e at ∙ ap Some (ome
 
 or_self : {X : Type 0} (xs : List X) (i : ℕ) (v y : X) → slice_get xs i ≡ Some y
     → v ≡ get_or xs i v → v ≡ y
-or_self [] i v y at is = absurd (none_some y at)
-or_self (x ∷ xs) zero v y at is = is ∙ by at
-  where
-    by : Some x ≡ Some y → x ≡ y
-    by e = cc
+or_self [] i v y at is = absurd (none-some y at)
+or_self (x ∷ xs) zero v y at is = is ∙ same_Some x y at
 or_self (x ∷ xs) (suc i) v y at is = or_self xs i v y at is
 
 -- what the search for a line's place finds
@@ -441,29 +413,30 @@ or_self (x ∷ xs) (suc i) v y at is = or_self xs i v y at is
 pub absent_past : (ps : List ℕ) (es : List Entry) (l : ℕ) → ArePlaced ps es → length ps ≤ l
     → kept_at es l ≡ None
 absent_past ps es l placed past = kept_none es l (λ y h.
-    let lt = within ps l h.0 (placed h.0 (l, y) h.1) in
+    let lt = slice_get_within ps l h.0 (placed h.0 (l, y) h.1) in
     let nothing : ⊥ = omega arith in nothing)
 
 pub absent_beyond : (ps : List ℕ) (es : List Entry) (l p : ℕ) → ArePlaced ps es
     → slice_get ps l ≡ Some p → length es ≤ p → kept_at es l ≡ None
 absent_beyond ps es l p placed place past = kept_none es l (λ y h.
-    let same : p ≡ h.0 = number_same p h.0 (sym place ∙ placed h.0 (l, y) h.1) in
-    let lt = within es h.0 (l, y) h.1 in
+    let same : p ≡ h.0 = same_Some p h.0 (sym place ∙ placed h.0 (l, y) h.1) in
+    let lt = slice_get_within es h.0 (l, y) h.1 in
     let nothing : ⊥ = omega arith in nothing)
 
 pub absent_here : (ps : List ℕ) (es : List Entry) (l p : ℕ) (v : Entry) → ArePlaced ps es
     → slice_get ps l ≡ Some p → v ≡ get_or es p v → v.0 ≢ l → kept_at es l ≡ None
 absent_here ps es l p v placed place at ne = kept_none es l (λ y h.
-    let same : p ≡ h.0 = number_same p h.0 (sym place ∙ placed h.0 (l, y) h.1) in
+    let same : p ≡ h.0 = same_Some p h.0 (sym place ∙ placed h.0 (l, y) h.1) in
     let is : v ≡ (l, y) = or_self es p v (l, y) (ap (λ (k : ℕ). slice_get es k) same ∙ h.1) at in
     ne (ap (λ (e : Entry). e.0) is))
 
 pub is_here : (es : List Entry) (p l : ℕ) (v : Entry) → p < length es → v ≡ get_or es p v
     → v.0 ≡ l → IsEntry es p l
-is_here es p l v lt at same = (v.1, get_at es p v lt ∙ ap Some (sym at) ∙ (λ j. Some (same j, v.1)))
+is_here es p l v lt at same =
+    (v.1, slice_get-get_or es p v lt ∙ ap Some (sym at) ∙ (λ j. Some (same j, v.1)))
 
 pub entry_within : (es : List Entry) (i l : ℕ) → IsEntry es i l → i < length es
-entry_within es i l entry = within es i (l, entry.0) entry.1
+entry_within es i l entry = slice_get_within es i (l, entry.0) entry.1
 
 -- one entry changed in place, as an index of the code gives it
 
@@ -583,7 +556,7 @@ pop_each ps es fs None placed is = tt
 
 -- no entries are placed
 pub placed_none : (ps : List ℕ) (es : List Entry) → es ≡ [] → ArePlaced ps es
-placed_none ps es none i e at = absurd (none_some e
+placed_none ps es none i e at = absurd (none-some e
     (sym (ap (λ (fs : List Entry). slice_get fs i) none) ∙ at))
 
 -- a line without older versions

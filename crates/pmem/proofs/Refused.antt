@@ -2,6 +2,7 @@
 use Rattle.std.proofs.Common.{◌≡◌, ◌≢◌, inl, inr, ⊎_elim, ℕ, zero, suc, ◌-◌, ◌<◌, ◌≤◌, List, []}
 use Rattle.std.proofs.Common.{◌∷◌, length, take, Option, Some, None, false, refl, sym, ap, ◌∙◌}
 use Rattle.std.proofs.Common.{subst, arith}
+use Rattle.std.proofs.lemmas.Option.{same_Some}
 use Rattle.cache_model.specs.Event.{CacheEvent}
 use Rattle.cache_model.specs.Play.{play}
 use Rattle.pmem.specs.Device.{Device, less_one, armed_less, armed_as, FaultsRose, MayFail, MayGo}
@@ -115,9 +116,6 @@ stops (e ∷ es) why d b (inr part) =
       refuses = s.refuses;
     }
 
-some_same : (m n : ℕ) → Some m ≡ Some n → m ≡ n
-some_same m n e = cc
-
 left_of : (l : Option ℕ) (k : ℕ) (m : Option ℕ)
     → ((n : ℕ) → l ≡ Some n → (k ≤ n) × (m ≡ Some (n - k))) → (l ≡ None → m ≡ None) → m ≡ Some 0
     → l ≡ Some k
@@ -125,7 +123,7 @@ left_of None k m some none is = absurd (let e = none refl in cc)
 left_of (Some n) k m some none is =
     let h = some n refl in
     let le = h.0 in
-    let e : n - k ≡ 0 = some_same (n - k) 0 (sym h.1 ∙ is) in
+    let e : n - k ≡ 0 = same_Some (n - k) 0 (sym h.1 ∙ is) in
     ap Some (omega arith)
 
 pub went_off : OffLaw
@@ -157,7 +155,7 @@ armed_of (Some i) o k m same some none may =
     let h = some i refl in
     let le = h.0 in
     let f : Some (i - k) ≡ Some 0 = subst MayFail h.1 may in
-    let e : i - k ≡ 0 = some_same (i - k) 0 f in
+    let e : i - k ≡ 0 = same_Some (i - k) 0 f in
     (sym same ∙ ap Some (omega arith), ap (armed_as None) h.1)
 
 pub has_failed : FailedLaw

@@ -8,9 +8,10 @@ use Rattle.std.specs.Ordering.{nat_cmp}
 use Rattle.std.specs.BTreeMap.{is_at}
 use Rattle.std.specs.Option.{option_map}
 use Rattle.std.specs.Cmp.{unsigned_tied}
-use Rattle.std.proofs.lemmas.Bool.{cases_eq, ltb-true, ltb-false, lt-ltb, le-ltb}
+use Rattle.std.proofs.lemmas.Bool.{cases_eq, ltb-true, ltb-false, lt-ltb, le-ltb, false≢true}
 use Rattle.std.proofs.lemmas.List.{map-append, length-append, get_or-set_same, get_or-set_other}
 use Rattle.std.proofs.lemmas.List.{get_or-take, get_or-drop, drop-map}
+use Rattle.std.proofs.lemmas.Option.{same_Some, none-some}
 use Rattle.cache_model.specs.Event.{Store, Flush, Fence}
 use Rattle.cache_model.specs.Cache.{Words, put}
 use Rattle.cache_model.specs.Play.{store_line, flush_line, fence_at, fence_line, apply, after}
@@ -264,9 +265,6 @@ line_fence words (Some y) l =
     line_had words l (fence_older y).older (fence_older y).mark (fence_mark y.mark y.older)
     ∙ line_older y.mark y.older l (newest_of words l)
 
-some_older : (a b : Older) → Some a ≡ Some b → a ≡ b
-some_older a b e = cc
-
 has_length : (us : List (List ℤ)) → has_older us ≡ true → 0 < length us
 has_length [] e = absurd (cc)
 has_length (u ∷ us) e = omega arith
@@ -316,7 +314,7 @@ entry_mark (Some z) y e = by (has_older (fence_older z).older) refl e
     by : (b : Bool) → has_older (fence_older z).older ≡ b
         → cond b (Some (fence_older z)) None ≡ Some y → (y.mark ≡ None) × (0 < length y.older)
     by true has e =
-        let same : fence_older z ≡ y = some_older (fence_older z) y e in (
+        let same : fence_older z ≡ y = same_Some (fence_older z) y e in (
           ap (λ (w : Older). w.mark) (sym same) ∙ fence_mark z.mark z.older,
           subst (λ (w : Older). 0 < length w.older) same (has_length (fence_older z).older has),
         )
@@ -360,17 +358,6 @@ fence_sparse s es is = λ i. record {
       ∙ line_fence s.words (kept_at s.kept l) l) i;
 }
 
--- tidiness depends only on the older versions of each line
-
-pub tidy_same : (s : Sparse) (es : List (ℕ × Older)) → IsTidySparse s
-    → ((l : ℕ) → kept_at es l ≡ kept_at s.kept l)
-    → IsTidySparse (record { count = s.count; words = s.words; kept = es })
-tidy_same s es tidy is = record {
-  words = tidy.words;
-  lines = λ l y e. tidy.lines l y (sym (is l) ∙ e);
-  more = λ l y e. tidy.more l y (sym (is l) ∙ e);
-}
-
 more_some : (o : Option Older) (v : List ℤ) → 0 < length (more_older o v).older
 more_some None v = omega arith
 more_some (Some y) v = let n : length (y.older ++ v ∷ []) ≡ length y.older + 1 =
@@ -392,7 +379,7 @@ tidy_store s es p x v tidy lt is = record {
   more = λ l y found. ⊎_elim
       (λ (e : l ≡ p / 8).
       let same : more_older (kept_at s.kept (p / 8)) v ≡ y =
-      some_older (more_older (kept_at s.kept (p / 8)) v) y
+      same_Some (more_older (kept_at s.kept (p / 8)) v) y
       (sym (ap (λ (b : Bool). cond b (Some (more_older (kept_at s.kept (p / 8)) v))
       (kept_at s.kept l)) (at_same (p / 8) l e)) ∙ sym (is l) ∙ found) in
       subst (λ (z : Older). 0 < length z.older) same (more_some (kept_at s.kept (p / 8)) v))
@@ -408,7 +395,7 @@ flush_some None y e = absurd (cc)
 flush_some (Some z) y e = (
   z,
   refl,
-  sym (ap (λ (w : Older). w.older) (some_older (flush_older z) y e)),
+  sym (ap (λ (w : Older). w.older) (same_Some (flush_older z) y e)),
 )
 
 pub tidy_flush : (s : Sparse) (es : List (ℕ × Older)) (k : ℕ) → IsTidySparse s
@@ -440,7 +427,7 @@ tidy_flush s es k tidy is =
 
 fence_cond : (b : Bool) (z y : Older) → b ≡ has_older z.older → cond b (Some z) None ≡ Some y
     → 0 < length y.older
-fence_cond true z y is e = subst (λ (w : Older). 0 < length w.older) (some_older z y e)
+fence_cond true z y is e = subst (λ (w : Older). 0 < length w.older) (same_Some z y e)
     (has_length z.older (sym is))
 fence_cond false z y is e = absurd (cc)
 
@@ -492,7 +479,7 @@ pub listed_store : (ls : List ℕ) (es fs : List (ℕ × Older)) (k : ℕ) (v : 
     (kept_at es l)) → AreListed ls fs
 listed_store ls es fs k v listed is q y found = ⊎_elim
     (λ (e : q ≡ k).
-    by_entry (kept_at es q) refl (some_older (more_older (kept_at es q) v) y
+    by_entry (kept_at es q) refl (same_Some (more_older (kept_at es q) v) y
     (ap (λ (j : ℕ). Some (more_older (kept_at es j) v)) e
     ∙ sym (ap (λ (b : Bool). cond b (Some (more_older (kept_at es k) v)) (kept_at es q))
     (at_same k q e)) ∙ sym (is q) ∙ found)))
@@ -508,10 +495,6 @@ listed_store ls es fs k v listed is q y found = ⊎_elim
         (λ (none : z.mark ≡ None). inl (ap (λ (w : Older). w.mark) (sym same) ∙ none))
         (λ (in_list : is_listed ls q ≡ true). inr in_list)
         (listed q z e)
-
-pub listed_same : (ls : List ℕ) (es fs : List (ℕ × Older)) → AreListed ls es
-    → ((l : ℕ) → kept_at fs l ≡ kept_at es l) → AreListed ls fs
-listed_same ls es fs listed is q y found = listed q y (sym (is q) ∙ found)
 
 -- the line that is flushed is listed last
 pub listed_flush : (ls : List ℕ) (es fs : List (ℕ × Older)) (k : ℕ) → AreListed ls es
@@ -535,10 +518,7 @@ listed_fence es fs is q y found = inl (entry_mark (kept_at es q) y (sym (is q) �
 -- a map without entries has no marks
 pub listed_none : (ls : List ℕ) (es : List (ℕ × Older)) → es ≡ [] → AreListed ls es
 listed_none ls es none q y found =
-    absurd (nothing (sym (ap (λ (fs : List (ℕ × Older)). kept_at fs q) none) ∙ found))
-  where
-    nothing : None ≡ Some y → ⊥
-    nothing e = cc
+    absurd (none-some y (sym (ap (λ (fs : List (ℕ × Older)). kept_at fs q) none) ∙ found))
 
 -- a fence of the listed lines, where each line with a mark is listed
 pub fence_is : (es fs : List (ℕ × Older)) (ls : List ℕ)
@@ -568,14 +548,11 @@ pub listed_flushed : (u v : Bool) (ls ms : List ℕ) (es fs : List (ℕ × Older
 listed_flushed u v ls ms es fs k had now is = ⊎_elim
     (λ (all : v ≡ true). inl all)
     (λ (h : (u ≡ false) × (ms ≡ ls ++ k ∷ [])). ⊎_elim
-    (λ (all : u ≡ true). absurd (apart (sym h.0 ∙ all)))
+    (λ (all : u ≡ true). absurd (false≢true (sym h.0 ∙ all)))
     (λ (listed : AreListed ls es). inr (subst (λ (ns : List ℕ). AreListed ns fs) (sym h.1)
     (listed_flush ls es fs k listed is)))
     had)
     now
-  where
-    apart : false ≡ true → ⊥
-    apart e = cc
 
 pub listed_stored : (u : Bool) (ls : List ℕ) (es fs : List (ℕ × Older)) (k : ℕ) (v : List ℤ)
     → Lists u ls es
@@ -603,8 +580,5 @@ pub fence_or_all : (u : Bool) (es fs : List (ℕ × Older)) (ls : List ℕ) → 
     → ((q : ℕ) → kept_at fs q ≡ fence_lines ls (kept_at es) q)
     → (q : ℕ) → kept_at fs q ≡ fence_entry (kept_at es q)
 fence_or_all u es fs ls none had more is = ⊎_elim
-    (λ (all : u ≡ true). absurd (apart (sym none ∙ all)))
+    (λ (all : u ≡ true). absurd (false≢true (sym none ∙ all)))
     (λ (listed : AreListed ls es). fence_is es fs ls more listed is) had
-  where
-    apart : false ≡ true → ⊥
-    apart e = cc

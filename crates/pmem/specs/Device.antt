@@ -115,7 +115,7 @@ powered choice d = record {
   faults = d.faults;
 }
 
--- the device with so many events left
+-- the device with k events left until the power goes
 abbrev pub with_left : ℕ → Device → Device
 with_left k d = record {
   lines = d.lines;
@@ -126,7 +126,7 @@ with_left k d = record {
   faults = d.faults;
 }
 
--- the device with a fault armed after so many events, if it shows this
+-- the device with a fault armed after k events, if it shows this
 abbrev pub with_armed : ℕ → Device → Device
 with_armed k d = record {
   lines = d.lines;

@@ -26,7 +26,7 @@ untold m s = record {
   faults = s.faults;
 }
 
--- on, with nothing armed, and so many faults
+-- on, with nothing armed, and n faults counted
 abbrev pub fresh_switch : ℕ → Switch
 fresh_switch n = record { on = true; left = None; armed = None; faults = n }
 

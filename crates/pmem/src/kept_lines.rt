@@ -53,7 +53,7 @@ impl KeptLines {
         }
     }
 
-    /// No entry, with a place for each of so many lines.
+    /// No entry, with a place for each of `count` lines.
     #[tactic(auto, using(crate::proofs::Placed::placed_none))]
     pub fn blank(alloc: Global, count: u64) -> Result<Self, AllocError>
         ensures { IfOk result (λ lines. lines ≡ []) }

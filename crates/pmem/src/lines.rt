@@ -20,7 +20,7 @@ pub trait Lines {
     fn empty(alloc: Global) -> Self
         ensures { memory result ≡ record { lines = 0; cache = blank } };
 
-    /// Makes so many blank lines.
+    /// Makes `count` blank lines.
     fn blank(alloc: Global, count: u64) -> Result<Self, AllocError>
         ensures { IfOk result (λ s. memory s ≡ record { lines = count; cache = blank }) };
 

@@ -1,4 +1,4 @@
-//! The device in memory. It tells its armed fault, and fails exactly there.
+//! The device in memory. It shows its armed fault, and fails exactly there.
 
 ghost use Rattle.std.specs.Prelude.{◌≡◌, ◌*◌, ◌+◌, ◌<◌, length, slice_index_or, true, false, Some};
 ghost use Rattle.std.specs.Prelude.{None, IsSome, IsNone, IfSome, OnOk, OnErr, IfErr};

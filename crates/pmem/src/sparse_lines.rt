@@ -26,8 +26,8 @@ use cache_model::{BadPick, Choice, Pick, Rest};
 use std::alloc::{AllocError, Global};
 use std::marker::Model;
 
-/// The number of lines, their newest words, the older versions of the lines that have any, the
-/// lines that were marked since the last fence, and what searches for a 0 left known.
+/// The lines: newest words, older versions, lines flushed since the last fence, and what searches
+/// remembered.
 #[derive(Drop)]
 pub struct SparseLines {
     count: u64,
@@ -208,7 +208,7 @@ fn mark_listed(kept: &mut KeptLines, marked: &mut Vec<u64>, unlisted: bool, line
     }
 }
 
-/// Fences the first lines, so many of them.
+/// Fences the first `count` lines.
 fn fence_all(kept: &mut KeptLines, count: u64)
     ensures { (q : ℕ) → kept_at kept.new q
         ≡ cond (nat_lt q count) (fence_entry (kept_at kept.old q)) (kept_at kept.old q) }

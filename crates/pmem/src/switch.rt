@@ -27,7 +27,7 @@ fn less_of(number: Option<u64>) -> Option<u64>
 }
 
 impl Switch {
-    /// A switch that is on, with nothing armed and so many faults counted.
+    /// A switch that is on, with nothing armed and this count of faults.
     pub fn fresh(faults: u64) -> Self
         ensures { result ≡ fresh_switch faults }
     {

@@ -1,9 +1,9 @@
 -- If no word breaks a rule of content, the image holds what a recovery needs.
-use Rattle.std.proofs.Common.{◌≡◌, ◌≢◌, ⊎_elim, ℕ, zero, suc, ◌+◌, ◌<◌, ◌≤◌, ◌&&◌, ◌||◌, not}
+use Rattle.std.proofs.Common.{◌≡◌, ◌≢◌, ⊎_elim, ℕ, zero, suc, ◌+◌, ◌<◌, ◌≤◌, ◌&&◌, not}
 use Rattle.std.proofs.Common.{nat_le, nat_lt, Bool, true, false, ℤ, pos, negsuc, ◌+ℤ◌, refl, sym}
 use Rattle.std.proofs.Common.{ap, ◌∙◌, subst, arith}
 use Rattle.std.specs.Prelude.{int_le}
-use Rattle.std.proofs.lemmas.Bool.{cases_eq, cases_lt}
+use Rattle.std.proofs.lemmas.Bool.{cases_eq, cases_lt, and_parts, not-false, and_right, and_left}
 use Rattle.std.proofs.lemmas.Bool.Decides.{Decides-int_eq, nat_tests}
 use Rattle.cache_model.specs.Cache.{Words}
 use Rattle.pool_layout.specs.declared.limits.Sizes.{Sizes}
@@ -21,41 +21,21 @@ pub and_rest : (a b : Bool) → (a && b) ≡ false → a ≡ true → b ≡ fals
 and_rest true b e is = e
 and_rest false b e is = absurd (cc)
 
-pub or_left : (a b : Bool) → (a || b) ≡ false → a ≡ false
-or_left true b e = absurd (cc)
-or_left false b e = refl
-
-pub or_right : (a b : Bool) → (a || b) ≡ false → b ≡ false
-or_right true b e = absurd (cc)
-or_right false b e = e
-
-pub and_left : (a b : Bool) → (a && b) ≡ true → a ≡ true
-and_left true b e = refl
-and_left false b e = absurd (cc)
-
-pub and_right : (a b : Bool) → (a && b) ≡ true → b ≡ true
-and_right true b e = e
-and_right false b e = absurd (cc)
-
-pub not_false : (a : Bool) → not a ≡ false → a ≡ true
-not_false true e = refl
-not_false false e = absurd (cc)
-
 -- a word that is within its bounds
 pub within_is : (low high : ℕ) (x : ℤ) → is_within low high x ≡ true → (s : ℕ) × (low ≤ s)
     × (s ≤ high) × (x ≡ pos s)
 within_is low high (pos n) e =
-    let a : nat_le low n ≡ true = and_left (nat_le low n) (nat_le n high) e in
-    let b : nat_le n high ≡ true = and_right (nat_le low n) (nat_le n high) e in
+    let a : nat_le low n ≡ true = (and_parts (nat_le low n) (nat_le n high) e).0 in
+    let b : nat_le n high ≡ true = (and_parts (nat_le low n) (nat_le n high) e).1 in
     (n, grind (arith, nat_tests), grind (arith, nat_tests), refl)
 within_is low high (negsuc n) e = absurd (cc)
 
 pub up_to : (high : ℕ) (x : ℤ) → not (is_within 0 high x) ≡ false → IsUpTo high x
-up_to high x e = let w = within_is 0 high x (not_false (is_within 0 high x) e) in (w.0, w.2, w.3)
+up_to high x e = let w = within_is 0 high x (not-false (is_within 0 high x) e) in (w.0, w.2, w.3)
 
 pub below_is : (s : Sizes) (x : ℤ) → not (in_heap s x) ≡ false → IsBelow (heap_words s) x
 below_is s (pos w) e =
-    let a : nat_lt w (heap_words s) ≡ true = not_false (nat_lt w (heap_words s)) e in
+    let a : nat_lt w (heap_words s) ≡ true = not-false (nat_lt w (heap_words s)) e in
     (w, grind (arith, nat_tests), refl)
 below_is s (negsuc n) e = absurd (cc)
 
@@ -90,15 +70,15 @@ is_valid_of x y a is e = let n : suc a ≡ a + 1 = omega arith in
 stamp_at : (a : ℕ) (x : ℤ) → (int_le (pos 0) x && int_le x (pos (a + 1))) ≡ true → IsUpTo (suc a) x
 stamp_at a (pos n) e =
     let b : nat_le n (a + 1) ≡ true =
-    and_right (int_le (pos 0) (pos n)) (int_le (pos n) (pos (a + 1))) e in
+    (and_parts (int_le (pos 0) (pos n)) (int_le (pos n) (pos (a + 1))) e).1 in
     (n, grind (arith, nat_tests), refl)
 stamp_at a (negsuc n) e = absurd
-    (cc (and_left (int_le (pos 0) (negsuc n)) (int_le (negsuc n) (pos (a + 1))) e))
+    (cc (and_parts (int_le (pos 0) (negsuc n)) (int_le (negsuc n) (pos (a + 1))) e).0)
 
 pub stamp_is : (attempt x : ℤ) (a : ℕ) → attempt ≡ pos a → not (is_stamp attempt x) ≡ false
     → IsUpTo (suc a) x
 stamp_is attempt x a is e = stamp_at a x
-    (subst (λ (z : ℤ). is_stamp z x ≡ true) is (not_false (is_stamp attempt x) e))
+    (subst (λ (z : ℤ). is_stamp z x ≡ true) is (not-false (is_stamp attempt x) e))
 
 -- the records before a valid one are valid
 pub are_valid_below : (l : Layout) (image : Words) (j k : ℕ) → j < k → are_valid l image k ≡ true
@@ -106,28 +86,20 @@ pub are_valid_below : (l : Layout) (image : Words) (j k : ℕ) → j < k → are
 are_valid_below l image j zero lt e = absurd (omega arith)
 are_valid_below l image j (suc k) lt e = ⊎_elim
     (λ (same : j ≡ k). subst (λ (i : ℕ). is_valid l image i ≡ true) (sym same)
-    (and_right (are_valid l image k) (is_valid l image k) e))
+    (and_parts (are_valid l image k) (is_valid l image k) e).1)
     (λ (ne : j ≢ k). are_valid_below l image j k (omega arith)
-    (and_left (are_valid l image k) (is_valid l image k) e))
+    (and_parts (are_valid l image k) (is_valid l image k) e).0)
     (cases_eq j k)
 
 are_valid_above : (l : Layout) (image : Words) (n i : ℕ) → n < i → is_valid l image n ≡ false
     → are_valid l image i ≡ false
 are_valid_above l image n zero lt e = absurd (omega arith)
 are_valid_above l image n (suc i) lt e = ⊎_elim
-    (λ (same : n ≡ i). and_false (are_valid l image i) (is_valid l image i)
+    (λ (same : n ≡ i). and_right (are_valid l image i) (is_valid l image i)
     (subst (λ (k : ℕ). is_valid l image k ≡ false) same e))
-    (λ (ne : n ≢ i). false_and (are_valid l image i) (is_valid l image i)
+    (λ (ne : n ≢ i). and_left (are_valid l image i) (is_valid l image i)
     (are_valid_above l image n i (omega arith) e))
     (cases_eq n i)
-  where
-    and_false : (a b : Bool) → b ≡ false → (a && b) ≡ false
-    and_false true b e = e
-    and_false false b e = refl
-
-    false_and : (a b : Bool) → a ≡ false → (a && b) ≡ false
-    false_and true b e = absurd (cc)
-    false_and false b e = refl
 
 -- the first n records are valid, and record n isn't
 pub leading_to : (l : Layout) (image : Words) (n : ℕ)

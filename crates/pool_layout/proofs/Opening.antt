@@ -1,6 +1,7 @@
 -- An image that breaks no rule of content opens.
 use Rattle.std.proofs.Common.{◌≡◌, ℕ, ◌+◌, ◌^◌, ◌<◌, ◌≤◌, ◌&&◌, not, true, false, ℤ, pos}
 use Rattle.std.proofs.Common.{refl, ap, arith}
+use Rattle.std.proofs.lemmas.Bool.{not-false, or_parts}
 use Rattle.cache_model.specs.Cache.{Words}
 use Rattle.pool_layout.specs.declared.places.Version.{Version}
 use Rattle.pool_layout.specs.declared.places.Version.TheVariants.{First, Second}
@@ -19,7 +20,7 @@ use Rattle.pool_layout.specs.Opens.{IsOpenable, NamesOwed, IsBelow}
 use Rattle.pool_layout.specs.Headers.{HasHeaders}
 use Rattle.pool_layout.proofs.Records.{LogIs, log_is}
 use Rattle.pool_layout.proofs.Undone.{undone_each}
-use Rattle.pool_layout.proofs.Kept.{and_rest, or_left, or_right, not_false, within_is, up_to}
+use Rattle.pool_layout.proofs.Kept.{and_rest, within_is, up_to}
 use Rattle.pool_layout.proofs.Kept.{below_is, slot_header, slot_inside, slot_named, valid_is}
 use Rattle.pool_layout.proofs.Kept.{is_valid_of, stamp_is, are_valid_below}
 use Rattle.pool_layout.specs.Content.{KeepsRules, breaks_rule, is_within, is_valid}
@@ -43,16 +44,18 @@ well_made : (r : Rules) (image : Words) → KeepsRules r image → (a : ℕ)
 unfolding breaks_rule
 well_made r image keeps a is = record {
   stamps = λ j lt. stamp_is (image (at r.layout Attempt)) (image (at r.layout (RecordStamp j))) a is
-      (or_left (not (is_stamp (image (at r.layout Attempt)) (image (at r.layout (RecordStamp j)))))
+      (or_parts
+      (not (is_stamp (image (at r.layout Attempt)) (image (at r.layout (RecordStamp j)))))
       (is_valid r.layout image j && not (are_valid r.layout image j))
-      (keeps (RecordStamp j) lt));
+      (keeps (RecordStamp j) lt)).0;
   first = λ j k jk lt valid_k. valid_is (image (at r.layout (RecordStamp j)))
       (image (at r.layout Attempt)) a is
-      (are_valid_below r.layout image j k jk (not_false (are_valid r.layout image k)
+      (are_valid_below r.layout image j k jk (not-false (are_valid r.layout image k)
       (and_rest (is_valid r.layout image k) (not (are_valid r.layout image k))
-      (or_right (not (is_stamp (image (at r.layout Attempt)) (image (at r.layout (RecordStamp k)))))
+      (or_parts
+      (not (is_stamp (image (at r.layout Attempt)) (image (at r.layout (RecordStamp k)))))
       (is_valid r.layout image k && not (are_valid r.layout image k))
-      (keeps (RecordStamp k) lt))
+      (keeps (RecordStamp k) lt)).1
       (is_valid_of (image (at r.layout (RecordStamp k))) (image (at r.layout Attempt)) a is
       valid_k))));
 }
@@ -78,7 +81,7 @@ function_is : (r : Rules) (image : Words) → KeepsRules r image
     → (f : ℕ) × (1 ≤ f) × (f ≤ r.txs) × (image (at r.layout (Argument 0)) ≡ pos f)
 unfolding breaks_rule
 function_is r image keeps sealed = within_is 1 r.txs (image (at r.layout (Argument 0)))
-    (not_false (is_within 1 r.txs (image (at r.layout (Argument 0))))
+    (not-false (is_within 1 r.txs (image (at r.layout (Argument 0))))
     (and_rest (is_sealed_in r.layout.version image)
     (not (is_within 1 r.txs (image (at r.layout (Argument 0)))))
     (keeps (Argument 0) (function_inside r.layout.version)) sealed))

@@ -2,7 +2,7 @@
 use Rattle.std.proofs.Common.{◌≡◌, ◌≢◌, ◌⊎◌, inl, inr, ⊎_elim, ℕ, zero, suc, ◌<◌, ◌≤◌, min}
 use Rattle.std.proofs.Common.{Bool, true, false, ℤ, pos, refl, sym, ap, ◌∙◌, subst, arith}
 use Rattle.std.proofs.Common.{int_eq, ◌==◌, ◌&&◌, if◌then◌else◌}
-use Rattle.std.proofs.lemmas.Bool.{cases_eq, cases_lt}
+use Rattle.std.proofs.lemmas.Bool.{cases_eq, cases_lt, and_from, and_parts}
 use Rattle.std.proofs.lemmas.Bool.Decides.{Decides-int_eq, Decides-eqb}
 use Rattle.cache_model.specs.Cache.{Words}
 use Rattle.pool_layout.specs.declared.places.Layout.{Layout}
@@ -14,18 +14,6 @@ use Rattle.pool_layout.specs.Log.{WellMade, leading, count}
 pub pos_inj : (m n : ℕ) → pos m ≡ pos n → m ≡ n
 pos_inj m n e = cc
 
-both_true : (b c : Bool) → b ≡ true → c ≡ true → (b && c) ≡ true
-both_true true c is and = and
-both_true false c is and = cc is
-
-left_of : (b c : Bool) → (b && c) ≡ true → b ≡ true
-left_of true c both = refl
-left_of false c both = both
-
-right_of : (b c : Bool) → (b && c) ≡ true → c ≡ true
-right_of true c both = both
-right_of false c both = absurd (cc both)
-
 -- whether the count goes on past stamp n, where it is m up to there
 module _ (stamps : ℕ → ℤ) (a n m : ℕ) where
   abbrev goes_on : Bool
@@ -33,14 +21,14 @@ module _ (stamps : ℕ → ℤ) (a n m : ℕ) where
 
   count_at : goes_on ≡ true → m ≡ n
   count_at on = (Decides-eqb m n).0
-      (left_of ((m == n)) (int_eq (stamps n) (pos (suc a))) on)
+      (and_parts ((m == n)) (int_eq (stamps n) (pos (suc a))) on).0
 
   stamp_at : goes_on ≡ true → stamps n ≡ pos (suc a)
   stamp_at on = (Decides-int_eq (stamps n) (pos (suc a))).0
-      (right_of ((m == n)) (int_eq (stamps n) (pos (suc a))) on)
+      (and_parts ((m == n)) (int_eq (stamps n) (pos (suc a))) on).1
 
   on_past : m ≡ n → stamps n ≡ pos (suc a) → goes_on ≡ true
-  on_past same here = both_true ((m == n)) (int_eq (stamps n) (pos (suc a)))
+  on_past same here = and_from ((m == n)) (int_eq (stamps n) (pos (suc a)))
       ((Decides-eqb m n).1 same) ((Decides-int_eq (stamps n) (pos (suc a))).1 here)
 
 leading_step : (b : Bool) (n m k : ℕ) → (b ≡ true → n < k) → (n < k → b ≡ true) → m ≡ min n k
@@ -76,7 +64,7 @@ count_is l a n image le good bad =
     (omega arith) in
     omega arith
 
-leading_le : (stamps : ℕ → ℤ) (a n : ℕ) → leading stamps a n ≤ n
+pub leading_le : (stamps : ℕ → ℤ) (a n : ℕ) → leading stamps a n ≤ n
 leading_le stamps a zero = omega arith
 leading_le stamps a (suc n) =
     one (goes_on stamps a n (leading stamps a n)) (leading stamps a n) (leading_le stamps a n)
@@ -133,16 +121,6 @@ leading_stays stamps a j n all bad le =
     let up = leading_mono stamps a j n le in
     let stop = leading_stop stamps a j n bad in
     omega arith
-
--- all of the first j stamps are valid and stamp j is too
-pub leading_on : (stamps : ℕ → ℤ) (a j : ℕ) → leading stamps a j ≡ j → stamps j ≡ pos (suc a)
-    → leading stamps a (suc j) ≡ suc j
-leading_on stamps a j all here = one (goes_on stamps a j (leading stamps a j))
-    (on_past stamps a j (leading stamps a j) all here)
-  where
-    one : (b : Bool) → b ≡ true → (if b then suc j else leading stamps a j) ≡ suc j
-    one true is = refl
-    one false is = absurd (cc is)
 
 -- if stamp j is valid, so are those before it, and the count is above j
 above : (l : Layout) (a : ℕ) (image : Words) → WellMade l a image → (j : ℕ) → j < l.sizes.records

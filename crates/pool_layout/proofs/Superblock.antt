@@ -5,6 +5,7 @@ use Rattle.std.proofs.Common.{Some, None, ℤ, pos, refl, ap, ◌∙◌, arith}
 use Rattle.std.specs.Ordering.{int_eq}
 use Rattle.std.specs.Cmp.Lexicographic.{pointwise}
 use Rattle.std.proofs.lemmas.Bool.Decides.{Decides-int_eq, nat_tests}
+use Rattle.std.proofs.lemmas.Bool.{and_parts, not-false}
 use Rattle.pool_layout.specs.declared.places.Version.TheVariants.{First, Second}
 use Rattle.pool_layout.specs.declared.wanted.Wanted.{Wanted}
 use Rattle.pool_layout.specs.declared.wanted.ImageFault.{ImageFault}
@@ -16,7 +17,7 @@ use Rattle.pool_layout.specs.Good.{magic, sizes_words}
 use Rattle.pool_layout.specs.Fault.{when, first_fault, early_fault, short_fault, magic_fault}
 use Rattle.pool_layout.specs.Fault.{version_fault, size_fault, sizes_fault, length_fault}
 use Rattle.pool_layout.specs.Fault.{digest_fault, digest_in, needed, version_of}
-use Rattle.pool_layout.proofs.Kept.{not_false, and_rest, and_right, and_left}
+use Rattle.pool_layout.proofs.Kept.{and_rest}
 
 head_none : (o : Option ImageFault) (os : List (Option ImageFault)) → first_fault (o ∷ os) ≡ None
     → o ≡ None
@@ -33,7 +34,7 @@ when_none true fault e = absurd (cc)
 when_none false fault e = refl
 
 same : (x y : ℤ) → not (int_eq x y) ≡ false → x ≡ y
-same x y e = (Decides-int_eq x y).0 (not_false (int_eq x y) e)
+same x y e = (Decides-int_eq x y).0 (not-false (int_eq x y) e)
 
 size_same : (bytes : List ℕ) (k wanted : ℕ) → size_fault bytes k wanted ≡ None
     → word_in bytes k ≡ pos wanted
@@ -93,7 +94,7 @@ has_head wanted bytes e =
       short = when_none (nat_lt (needed wanted bytes) (length bytes))
           (OfSizes (pos (length bytes)) (pos (needed wanted bytes)))
           (head_none (length_fault wanted bytes) [] f4);
-      digest = not_false (pointwise int_eq (digest_in bytes) wanted.digest)
+      digest = not-false (pointwise int_eq (digest_in bytes) wanted.digest)
           (when_none (not (pointwise int_eq (digest_in bytes) wanted.digest))
           (Digest (digest_in bytes) wanted.digest) (head_none (digest_fault wanted bytes) [] e4));
     }
@@ -103,8 +104,9 @@ same_list [] [] e = refl
 same_list [] (y ∷ ys) e = absurd (cc)
 same_list (x ∷ xs) [] e = absurd (cc)
 same_list (x ∷ xs) (y ∷ ys) e =
-    let first : x ≡ y = (Decides-int_eq x y).0 (and_left (int_eq x y) (pointwise int_eq xs ys) e) in
-    let rest : xs ≡ ys = same_list xs ys (and_right (int_eq x y) (pointwise int_eq xs ys) e) in
+    let first : x ≡ y =
+    (Decides-int_eq x y).0 (and_parts (int_eq x y) (pointwise int_eq xs ys) e).0 in
+    let rest : xs ≡ ys = same_list xs ys (and_parts (int_eq x y) (pointwise int_eq xs ys) e).1 in
     λ i. first i ∷ rest i
 
 -- the digest's words, one by one
@@ -140,7 +142,7 @@ sizes_word wanted bytes image head second others (suc (suc (suc (suc (suc (suc k
 
 not_or : (a b : Bool) → not (a || b) ≡ false → a ≡ false → b ≡ true
 not_or true b e f = absurd (cc)
-not_or false b e f = not_false b e
+not_or false b e f = not-false b e
 
 -- word 1 of an image that isn't read as one of the first version
 pub second_word : (wanted : Wanted) (bytes : List ℕ) → HasHead wanted bytes → 16 ≤ length bytes

@@ -5,15 +5,15 @@ use Rattle.std.proofs.lemmas.Bool.{cases_eq}
 use Rattle.std.proofs.lemmas.Bool.Decides.{Decides-int_eq}
 use Rattle.pool_layout.specs.Restored.{undo, undone}
 
-if_false : (b : Bool) (x y : ℤ) → (b ≡ true → ⊥) → cond b x y ≡ y
+pub if_false : (b : Bool) (x y : ℤ) → (b ≡ true → ⊥) → cond b x y ≡ y
 if_false true x y no_test = absurd (no_test refl)
 if_false false x y no_test = refl
 
-undo_other : (x old : ℤ) (h : ℕ → ℤ) (w : ℕ) → x ≢ pos w → undo x old h w ≡ h w
+pub undo_other : (x old : ℤ) (h : ℕ → ℤ) (w : ℕ) → x ≢ pos w → undo x old h w ≡ h w
 undo_other x old h w ne = if_false (int_eq x (pos w)) old (h w)
     (λ e. ne ((Decides-int_eq x (pos w)).0 e))
 
-undo_same : (x old : ℤ) (h : ℕ → ℤ) (w : ℕ) → x ≡ pos w → undo x old h w ≡ old
+pub undo_same : (x old : ℤ) (h : ℕ → ℤ) (w : ℕ) → x ≡ pos w → undo x old h w ≡ old
 undo_same x old h w is = ap (λ (b : Bool). cond b old (h w)) ((Decides-int_eq x (pos w)).1 is)
 
 -- a word that no record names stays

@@ -5,6 +5,7 @@ use Rattle.cache_model.specs.Cache.{Words}
 use Rattle.pool_layout.specs.declared.limits.Sizes.{Sizes}
 use Rattle.pool_layout.specs.declared.places.Place.TheVariants.{Super, Done, Attempt, Mark, Seal}
 use Rattle.pool_layout.specs.declared.places.Place.TheVariants.{Heap}
+use Rattle.pool_layout.specs.declared.places.TheConstants.{SUPER_WORDS}
 use Rattle.pool_layout.specs.Sizes.{heap_words}
 use Rattle.pool_layout.specs.Places.{at, pool_of}
 use Rattle.pool_layout.specs.Bytes.{word_in}
@@ -35,7 +36,7 @@ pub record Pool : Type 0 where
 -- An image at rest, with d finished transactions and heap h. The function, the arguments and the
 -- unread words may have any value.
 pub record Good (pool : Pool) (d : ℕ) (h : ℕ → ℤ) (image : Words) : Type 0 where
-  pub super : (k : ℕ) → k < 16 → image (at (pool_of pool.sizes) (Super k)) ≡ pool.super k
+  pub super : (k : ℕ) → k < SUPER_WORDS → image (at (pool_of pool.sizes) (Super k)) ≡ pool.super k
   pub mark : image (at (pool_of pool.sizes) Mark) ≡ pos 0
   pub done : image (at (pool_of pool.sizes) Done) ≡ pos d
   pub done_fits : d ≤ 2 ^ 62 + 1

@@ -21,7 +21,8 @@ pub use image_laws::{moved_law, opens_law, restored_law};
 pub use limits::Sizes;
 pub use measures::{heap_start, heap_words, pool_lines, slot_word};
 pub use places::{
-    ATTEMPT, DONE, FUNCTION, HeapPlace, LAST, Layout, MARK, Place, SEAL, Version, places_law,
+    ARGUMENTS, ATTEMPT, DONE, FIRST_ARGUMENT, FUNCTION, HeapPlace, LAST, Layout, MARK, Place, SEAL,
+    SUPER_WORDS, Version, places_law,
 };
 pub use read::read_image;
 pub use rules::Rules;

@@ -1,13 +1,15 @@
 //! The places of a pool: each word by its name, and its number in the pool.
 
 ghost use Rattle.std.specs.Prelude.{◌≡◌, ◌<◌, ◌≤◌, ◌*◌};
-ghost use Rattle.pool_layout.specs.Sizes.{heap_words};
-ghost use Rattle.pool_layout.specs.Places.{at, layout_words, log_line, seal_word, pool_of, heap_at};
-ghost use Rattle.pool_layout.specs.Places.{IsPlace, IsHeapPlace, PlacesApart, PlacesFit, HeapLines};
+ghost use Rattle.pool_layout.specs.Places.{at, layout_words, log_line, seal_word, pool_of};
+ghost use Rattle.pool_layout.specs.Places.{IsPlace, PlacesApart, PlacesFit, HeapLines};
 ghost use Rattle.pool_layout.specs.Places.{HeapApart, HeapFits, SizesAgree};
 
 use crate::limits::Sizes;
-use crate::measures::{heap_words, slot_word};
+use crate::measures::heap_words;
+
+/// The number of words of lines 0 and 1.
+pub const SUPER_WORDS: u64 = 16;
 
 /// The word of the last value.
 pub const LAST: u64 = 16;
@@ -23,6 +25,12 @@ pub const MARK: u64 = 19;
 
 /// The word of the function, at the start of the argument record.
 pub const FUNCTION: u64 = 24;
+
+/// The word of the first argument.
+pub const FIRST_ARGUMENT: u64 = FUNCTION + 1;
+
+/// The greatest number of arguments in the argument record.
+pub const ARGUMENTS: usize = 22;
 
 /// The word of the seal, at the end of the argument record.
 pub const SEAL: u64 = 47;
@@ -150,23 +158,6 @@ impl Layout {
             Place::Seal
         } else {
             self.tail_place(word)
-        }
-    }
-
-    /// The place of a heap word within the heap. Each heap word has one.
-    pub fn heap_place(&self, word: u64) -> HeapPlace
-        requires { word < heap_words self.now.sizes }
-        ensures valid { IsHeapPlace self.now.sizes result }
-        ensures same { heap_at self.now.sizes result ≡ word }
-    {
-        let slots = slot_word(&self.sizes, 1);
-        if word < slots {
-            return HeapPlace::Root(word);
-        }
-        let slot = (word - slots) / 16 + 1;
-        match (word - slots) % 16 {
-            0 => HeapPlace::Header(slot),
-            k => HeapPlace::Field(slot, k - 1),
         }
     }
 

@@ -1,19 +1,15 @@
 -- The test whether a pool fits the shapes is exact.
-use Rattle.std.proofs.Common.{◌≡◌, Bool, true, false, ◌&&◌, List, [], ◌∷◌, Option, None, Some}
+use Rattle.std.proofs.Common.{◌≡◌, List, [], ◌∷◌, Option, None, Some}
 use Rattle.std.proofs.Common.{IfSome, IsSomeAnd, length, refl}
 use Rattle.std.specs.Bool.{Decides}
 use Rattle.std.specs.List.{AllByRecursion, list_all}
-use Rattle.std.proofs.lemmas.Bool.Decides.{Decides-eqb}
+use Rattle.std.proofs.lemmas.Bool.Decides.{Decides-eqb, Decides-and}
 use Rattle.pool_map.specs.declared.object.Object.{Object}
 use Rattle.pool_map.specs.declared.shapes.StructShape.{StructShape}
 use Rattle.pool_map.specs.declared.shapes.Shapes.{Shapes}
 use Rattle.pool_map.specs.PoolMap.{PoolMap}
 use Rattle.pool_map.specs.PoolFits.{words_of, struct_at, ObjectFits, PoolFits}
 use Rattle.pool_map.specs.inside.PoolFits.{has_words, slot_fits, pool_fits}
-
-both : {P Q : Type 0} (a b : Bool) → Decides a P → Decides b Q → Decides (a && b) (P × Q)
-both true b p q = (λ h. (p.0 refl, q.0 h), λ h. q.1 h.1)
-both false b p q = (λ h. absurd (cc), λ h. absurd (let e : false ≡ true = p.1 h.0 in cc))
 
 words_decide : (shape : Option StructShape) (object : Object)
     → Decides (has_words shape object)
@@ -31,10 +27,10 @@ slots_decide : (structs : List StructShape) (slots : List (Option Object))
     (AllByRecursion (λ slot. IfSome slot (ObjectFits structs)) slots)
 slots_decide structs [] = (λ h. tt, λ h. refl)
 slots_decide structs (slot ∷ slots) =
-    both _ _ (slot_decides structs slot) (slots_decide structs slots)
+    Decides-and _ _ (slot_decides structs slot) (slots_decide structs slots)
 
 pub decides : (shapes : Shapes) (pool : PoolMap)
     → Decides (pool_fits shapes pool) (PoolFits shapes pool)
 decides shapes pool =
-    both _ _ (Decides-eqb (length pool.root) (words_of shapes.root))
+    Decides-and _ _ (Decides-eqb (length pool.root) (words_of shapes.root))
     (slots_decide shapes.structs pool.slots)

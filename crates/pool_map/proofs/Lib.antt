@@ -2,3 +2,4 @@ pub mod FitTests
 pub mod Least
 pub mod Points
 pub mod Slots
+pub mod Fitting

@@ -18,7 +18,7 @@ abbrev pub then_on : {A B : Type 0} → Result A TrapKind → (A → Result B Tr
 then_on (Ok a) go = go a
 then_on (Err k) go = Err k
 
--- an index among so many elements
+-- an index among n elements
 abbrev pub element_in : (len : ℕ) → ℤ → Result ℕ TrapKind
 element_in n (pos i) = if nat_lt i n then Ok i else Err trap.Index
 element_in n (negsuc i) = Err trap.Index

@@ -4,4 +4,5 @@ pub mod PoolFits
 pub mod PoolMap
 pub mod PoolText
 pub mod Trap
+pub mod Words
 pub mod inside

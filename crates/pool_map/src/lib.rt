@@ -3,6 +3,7 @@
 //! `specs/PoolMap.antt` does, and `show_text` writes the text of a pool.
 #![tactic(auto)]
 
+mod checks;
 mod fit;
 mod law;
 mod object;
@@ -10,7 +11,9 @@ mod pool;
 mod shapes;
 mod show;
 mod trap;
+mod word;
 
+pub use checks::element_in;
 pub use fit::fits;
 pub use law::laws;
 pub use object::Object;
@@ -18,3 +21,4 @@ pub use pool::Pool;
 pub use shapes::{FieldShape, FieldShapes, Shapes, StructShape, StructShapes};
 pub use show::show_text;
 pub use trap::TrapKind;
+pub use word::PoolWord;

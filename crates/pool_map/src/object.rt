@@ -15,7 +15,7 @@ pub struct Object {
     pub fields: Words,
 }
 
-/// So many words, all 0.
+/// Words that are all 0.
 pub(crate) fn zeros(alloc: Global, words: u64) -> Result<Words, AllocError>
     ensures { IfOk result (λ all. all ≡ replicate words (pos 0)) }
 {

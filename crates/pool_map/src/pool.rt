@@ -27,7 +27,7 @@ impl Model for Pool {
 }
 
 impl Pool {
-    /// A pool of so many root words, all 0, and so many slots, all free.
+    /// A pool whose root words are all 0 and whose slots are all free.
     pub fn empty(alloc: Global, root_words: u64, slots: u64) -> Result<Pool, AllocError>
         ensures { IfOk result (λ pool. pool ≡ empty_pool root_words slots) }
     {
@@ -196,7 +196,7 @@ impl Pool {
     }
 }
 
-/// So many slots without an object.
+/// Slots without an object.
 fn free_slots(alloc: Global, slots: u64) -> Result<Vec<Option<Object>>, AllocError>
     ensures { IfOk result (λ all. all.items ≡ replicate slots None) }
 {

@@ -1,6 +1,6 @@
 -- An answered event of the whole device, as the window sees it, and its effect outside.
-use Rattle.std.proofs.Common.{◌≡◌, ◌≢◌, ◌⊎◌, inl, inr, ℕ, ◌+◌, ◌*◌, ◌<◌, Bool, true, Option, Some}
-use Rattle.std.proofs.Common.{None, IfSome, ℤ, refl, sym, ap, ◌∙◌, subst, ◌≤◌, arith}
+use Rattle.std.proofs.Common.{◌≡◌, ◌⊎◌, inl, inr, ℕ, ◌+◌, ◌*◌, ◌<◌, Bool, true, Option, Some}
+use Rattle.std.proofs.Common.{None, IfSome, ℤ, sym, ap, ◌∙◌, subst, ◌≤◌, arith}
 use Rattle.cache_model.specs.Event.{CacheEvent, Store, Flush, Fence}
 use Rattle.cache_model.specs.Cache.{Cache, view}
 use Rattle.cache_model.specs.Play.{apply}
@@ -126,11 +126,3 @@ fence_aside f n k c event.Done d b is h was =
     (aside_fence f n k c d.cache was)
 fence_aside f n k c event.Off d b is h was = absurd (cc)
 fence_aside f n k c event.Failed d b is h was = absurd (cc)
-
-pub fence_none : (f n : ℕ) (k : Bool) (c : Cache) (a : Event) (d b : Device) → a ≢ event.Done →
-    Answered a d Fence b → AreAside f n k c d.cache → AreAside f n k c b.cache
-fence_none f n k c event.Done d b not h was = absurd (not refl)
-fence_none f n k c event.Off d b not h was =
-    subst (λ (x : Device). AreAside f n k c x.cache) (sym h.1) was
-fence_none f n k c event.Failed d b not h was =
-    subst (λ (x : Device). AreAside f n k c x.cache) (sym h.3) was

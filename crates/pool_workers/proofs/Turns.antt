@@ -11,7 +11,7 @@ use Rattle.pmem.specs.declared.answer.Phase.TheVariants.{Unsealed, Sealing, Seal
 use Rattle.pmem.specs.declared.answer.Refusal.TheVariants as refusal
 use Rattle.pmem.proofs.Glue.{part_left, part_right}
 use Rattle.pmem.proofs.Refused.{all_cache}
-use Rattle.pool_layout.specs.declared.places.TheConstants.{DONE}
+use Rattle.pool_layout.specs.declared.places.TheConstants.{DONE, ARGUMENTS}
 use Rattle.pool_layout.specs.Sizes.{heap_words}
 use Rattle.args_log.specs.Next.{number_after}
 use Rattle.args_log.specs.Seal.{sealing_events, seal_events}
@@ -57,7 +57,7 @@ module _ (image : Image) (tx : ℕ) (args : List ℤ) (s : State) (d b : Device)
   )
 
   seal_part : (p : Phase) →
-      sealing.Seals (seal.Off p) d (cast_signed w64 tx) (take 22 args)
+      sealing.Seals (seal.Off p) d (cast_signed w64 tx) (take ARGUMENTS args)
       (number_after (view d.cache DONE)) b
       → Turned answer.Off image (Begun tx args s) (Some (Cut p)) d b
   unfolding seal_events
@@ -72,7 +72,7 @@ module _ (image : Image) (tx : ℕ) (args : List ℤ) (s : State) (d b : Device)
 
   pub seal_cut : (p : Phase) (a : TurnAnswer) (o : Option Task) → a ≡ answer.Off →
       o ≡ Some (Cut p) →
-      sealing.Seals (seal.Off p) d (cast_signed w64 tx) (take 22 args)
+      sealing.Seals (seal.Off p) d (cast_signed w64 tx) (take ARGUMENTS args)
       (number_after (view d.cache DONE)) b → Turned a image (Begun tx args s) o d b
   seal_cut p a o is_off is_cut h =
       subst (λ (x : TurnAnswer). Turned x image (Begun tx args s) o d b) (sym is_off)

@@ -4,7 +4,7 @@ use Rattle.std.proofs.Common.{◌≡◌, ◌≢◌, inl, inr, ⊎_elim, ℕ, zer
 use Rattle.std.proofs.Common.{◌==◌, nat_lt, cond, Bool, true, false, List, [], ◌∷◌, ◌++◌, drop, map}
 use Rattle.std.proofs.Common.{length, Option, Some, None, ℤ, refl, sym, ap, ◌∙◌, arith, eq-eqb}
 use Rattle.std.proofs.Common.{ne_eqb}
-use Rattle.std.proofs.lemmas.Bool.{cases_eq, ltb-false, lt-ltb}
+use Rattle.std.proofs.lemmas.Bool.{cases_eq, ltb-false, lt-ltb, cond-false}
 use Rattle.cache_model.specs.Event.{CacheEvent, Store, Flush, Fence}
 use Rattle.cache_model.specs.Cache.{Words, put, Line, Cache, blank_line, view}
 use Rattle.cache_model.specs.Play.{store_line, mark_of, flush_line, fence_at, fence_line, apply}
@@ -160,23 +160,19 @@ far_flush : (f n k l : ℕ) → k < n → IsOutside f n l → l ≢ f + k
 far_flush f n k l lt (inl below) e = let h : ⊥ = omega arith in h
 far_flush f n k l lt (inr above) e = let h : ⊥ = omega arith in h
 
-cond_off : (b : Bool) (x y : Line) → b ≡ false → cond b x y ≡ y
-cond_off true x y e = absurd (cc)
-cond_off false x y e = refl
-
 -- a line outside
 pub outside_store : (f n w l : ℕ) (x : ℤ) (c : Cache) → w < 8 * n → IsOutside f n l →
     apply c (Store (8 * f + w) x) l ≡ c l
 unfolding apply
 outside_store f n w l x c lt out =
-    cond_off (l == (8 * f + w) / 8) (store_line (c l) (8 * f + w) x) (c l)
+    cond-false (l == (8 * f + w) / 8) (store_line (c l) (8 * f + w) x) (c l)
     (ne_eqb l ((8 * f + w) / 8) (far_store f n w l lt out))
 
 pub outside_flush : (f n k l : ℕ) (c : Cache) → k < n → IsOutside f n l →
     apply c (Flush (f + k)) l ≡ c l
 unfolding apply
 outside_flush f n k l c lt out =
-    cond_off (l == f + k) (flush_line (c l)) (c l) (ne_eqb l (f + k) (far_flush f n k l lt out))
+    cond-false (l == f + k) (flush_line (c l)) (c l) (ne_eqb l (f + k) (far_flush f n k l lt out))
 
 -- a second fence of a line does nothing
 fence_again_at : (m : Option ℕ) (l : Line) → l.mark ≡ m → fence_line (fence_at m l) ≡ fence_at m l
@@ -189,9 +185,6 @@ fence_again l = fence_again_at l.mark l refl
 fence_either : (k : Bool) (l : Line) → fence_line (fenced_if k l) ≡ fence_line l
 fence_either true l = fence_again l
 fence_either false l = refl
-
-pub aside_start : (f n : ℕ) (c : Cache) → AreAside f n false c c
-aside_start f n c l out = refl
 
 pub aside_store : (f n w : ℕ) (x : ℤ) (k : Bool) (c b : Cache) → w < 8 * n → AreAside f n k c b →
     AreAside f n k c (apply b (Store (8 * f + w) x))

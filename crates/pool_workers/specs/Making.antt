@@ -24,7 +24,7 @@ creations s digest worker zero = []
 creations s digest worker (suc n) =
     lifted_all (first_line s worker) (creation_events s digest) ++ creations s digest (suc worker) n
 
--- the first events of the creation of so many compartments, up to the one that was refused
+-- the events that create the compartments, up to the one that was refused
 abbrev pub MadePart : Refusal → Sizes → List ℤ → (count : ℕ) → (d b : Device) → Type 0
 MadePart why s digest count d b =
     PlaysPart why (blanked (pool_lines s * count) d) (creations s digest 0 count) b

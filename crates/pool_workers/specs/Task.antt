@@ -9,6 +9,7 @@ use Rattle.pmem.specs.Device.{Device}
 use Rattle.pmem.specs.Played.{PlaysAll, PlaysPart}
 use Rattle.pmem.specs.declared.answer.Phase.{Phase}
 use Rattle.pmem.specs.declared.answer.Phase.TheVariants.{Unsealed, Sealing, Sealed}
+use Rattle.pmem.specs.declared.answer.Refusal.{Refusal}
 use Rattle.pmem.specs.declared.answer.Refusal.TheVariants as refusal
 use Rattle.pool_layout.specs.Sizes.{heap_words}
 use Rattle.pool_map.specs.declared.trap.TrapKind.TheVariants.{Steps}
@@ -110,6 +111,11 @@ abbrev pub WentWhole : TurnAnswer → Image → Task → Option Task → (d b : 
 WentWhole a image t o d b =
     (a ≡ answer_past t) × (o ≡ task_past image t d.cache) × PlaysAll d (piece_of image t d.cache) b
 
+-- A turn that failed or found no memory leaves the transaction cut, in the phase that it had.
+abbrev pub WasRefused : Refusal → Image → Task → Option Task → (d b : Device) → Type 0
+WasRefused why image t o d b =
+    PlaysPart why d (piece_of image t d.cache) b × (o ≡ Some (Cut (task_phase t)))
+
 -- The answer of a turn of a transaction, on a device that is on.
 abbrev pub Turned : TurnAnswer → Image → Task → Option Task → (d b : Device) → Type 0
 Turned answer.Idle image t o d b = ⊥
@@ -118,8 +124,8 @@ Turned (answer.Done v l) image t o d b = WentWhole (answer.Done v l) image t o d
 Turned (answer.Trap k) image t o d b = WentWhole (answer.Trap k) image t o d b
 Turned answer.Off image t o d b =
     PlaysPart refusal.Off d (piece_of image t d.cache) b × IsCutAt image t o d b
-Turned answer.Failed image t o d b = PlaysPart refusal.Failed d (piece_of image t d.cache) b
-Turned answer.NoMemory image t o d b = PlaysPart refusal.NoMemory d (piece_of image t d.cache) b
+Turned answer.Failed image t o d b = WasRefused refusal.Failed image t o d b
+Turned answer.NoMemory image t o d b = WasRefused refusal.NoMemory image t o d b
 
 -- The invariant of a transaction of the image.
 abbrev pub IsTask : Image → Task → Type 0

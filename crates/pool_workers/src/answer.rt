@@ -2,7 +2,7 @@
 
 use pool_map::TrapKind;
 
-/// Why a pool of compartments couldn't be created. The events so far are done.
+/// Why a pool of compartments couldn't be created. The events before the fault are done.
 #[derive(Clone, Copy, Debug, PartialEq, Eq, Drop)]
 pub enum MakeFault {
     /// The device failed at an event.

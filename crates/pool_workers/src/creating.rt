@@ -164,7 +164,7 @@ pub(crate) fn idle(alloc: Global, count: u32) -> Result<Vec<Option<Task>>, Alloc
     Ok(tasks)
 }
 
-/// Creates so many pools on blank lines. After a fault the events so far are done.
+/// Creates `count` pools on blank lines. After a fault the events before it are done.
 pub(crate) fn create_pools<P: Pmem>(
     sizes: &Sizes,
     digest: &[i64; 4],

@@ -19,7 +19,7 @@ pub enum Task {
         args: Words,
         machine: Machine,
     },
-    /// An instruction, in a pool with this attempt and so many records. At most so many
+    /// An instruction, in a pool with this attempt and number of records. At most `left`
     /// instructions are left.
     Running {
         machine: Machine,

@@ -101,8 +101,8 @@ impl Workers {
         }
     }
 
-    /// Creates so many pools on blank lines, for the program with this digest. No worker has a
-    /// transaction. After a fault the events so far are done; `Failed` is answered only if the
+    /// Creates `count` pools on blank lines, for the program with this digest. No worker has a
+    /// transaction. After a fault the events before it are done; `Failed` is answered only if the
     /// device's count of faults rose.
     pub fn create<P: Pmem>(
         alloc: Global,

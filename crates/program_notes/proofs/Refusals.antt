@@ -20,7 +20,7 @@ use Rattle.c_types.specs.Fault.{breaks, refusal}
 use Rattle.program_notes.specs.RefusedAt.{ReadsAs, RefusedAt, Tells}
 use Rattle.program_notes.specs.RefusedAt.{Byte, Number, Comment, Syntax, Deep, Rule}
 use Rattle.program_notes.specs.RefusedAt.{Long, Nothing, AtPlace, rule_place}
-use Rattle.plain_notes.specs.Head.{head_text}
+use Rattle.plain_notes.specs.Head.{file_head, head_text}
 use Rattle.plain_notes.specs.Place.{place_of}
 
 -- a refusal of the lexer is want of memory, or the text's own
@@ -46,9 +46,9 @@ pub long_refused : (text : List ℕ) → LexRefuses text lex.TooLong → answer 
 long_refused text (inl e) = let no : ⊥ = cc in absurd no
 long_refused text (inr is) = is
 
-pub long : (path text message : List ℕ) → answer text ≡ Err lex.TooLong
-    → Tells path text (Some message)
-long path text message is = Long message is
+pub long : (path text message what : List ℕ) → answer text ≡ Err lex.TooLong
+    → message ≡ file_head path what → Tells path text (Some message)
+long path text message what is begins = Long message what is begins
 
 -- what `message_at` promises of a message of a place
 pub placed : (path text message what : List ℕ) (start : ℕ) → RefusedAt text start

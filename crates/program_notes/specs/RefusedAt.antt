@@ -10,7 +10,7 @@ use Rattle.c_tree.specs.Program.{Program, tree_of}
 use Rattle.c_types.specs.declared.fault.TypeFault.{TypeFault}
 use Rattle.c_types.specs.declared.fault.TypeFault.TheVariants as fault
 use Rattle.c_types.specs.Fault.{breaks, refusal}
-use Rattle.plain_notes.specs.Head.{head_text}
+use Rattle.plain_notes.specs.Head.{file_head, head_text}
 use Rattle.plain_notes.specs.Place.{place_of}
 
 -- the token at which a rule is broken
@@ -32,7 +32,7 @@ pub record ReadsAs (text : List ℕ) (list : Tokens) (tree : Program) : Type 0 w
   pub light : LightBefore (spelled_weights spelled) (length list.tokens)
   pub lines : tree.lines ≡ map (λ placed. placed.line) list.tokens
 
--- The text is refused at the byte that has so many before it: a byte that begins no token, a run
+-- The text is refused at the byte that has n bytes before it: a byte that begins no token, a run
 -- that is no number, a comment that is never closed; the first token with which no program begins,
 -- or the first that stands too deep; or the token at which the reported rule is broken.
 pub data RefusedAt (text : List ℕ) : ℕ → Type 0 where
@@ -62,9 +62,10 @@ pub record TellsPlace (path text message : List ℕ) : Type 0 where
   pub rest : List ℕ
   pub begins : message ≡ head_text path (place_of text start) what ++ rest
 
--- A text that is too long has no place; every other refused text has one; an accepted text has no
--- message.
+-- The message of a text that is too long has the path alone; that of every other refused text has a
+-- place; an accepted text has no message.
 pub data Tells (path text : List ℕ) : Option (List ℕ) → Type 0 where
-  Long : (message : List ℕ) → answer text ≡ Err lex.TooLong → Tells path text (Some message)
+  Long : (message what : List ℕ) → answer text ≡ Err lex.TooLong → message ≡ file_head path what
+      → Tells path text (Some message)
   AtPlace : (message : List ℕ) → TellsPlace path text message → Tells path text (Some message)
   Nothing : IsAccepted text → Tells path text None

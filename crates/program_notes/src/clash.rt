@@ -20,7 +20,7 @@ pub(crate) enum Clash {
     Index(Kind, ValueType),
     /// An array field without an index.
     Array,
-    /// A call with so many arguments.
+    /// A call, by the number of its arguments.
     Call(u64),
     /// An argument of this type, where a parameter has that one.
     Argument {

@@ -14,7 +14,7 @@ use c_lexer::{LexFault, TokenList, tokens};
 use c_parser::{ParseFault, parse};
 use c_tree::Ast;
 use c_types::{TypeFault, check};
-use plain_notes::{Told, message_at, message_of};
+use plain_notes::{Told, message_at, message_of_file};
 use std::alloc::{AllocError, Global};
 use token_notes::{Spelled, bad_byte, bad_number, first_token};
 
@@ -96,18 +96,17 @@ fn too_long(alloc: Global, path: &str, text: &[u8]) -> Result<Option<String>, Al
     requires { answer text.now ≡ Err LexFault.TooLong }
     ensures tells { IfOk result (λ note. Tells path.now text.now (option_map string_bytes note)) }
 {
-    let message = long_text(alloc, path, text.len())?;
+    let message = message_of_file(alloc, path, too_much(text.len()))?;
     Ok(Some(message))
 }
 
-fn long_text(alloc: Global, path: &str, size: usize) -> Result<String, AllocError> {
-    let what = if size > BYTES {
-        format!(in alloc; "{path}: the program has more than 262144 bytes")?
+/// What a text of this size has too many of.
+fn too_much(size: usize) -> &'static str {
+    if size > BYTES {
+        "the program has more than 262144 bytes"
     } else {
-        format!(in alloc; "{path}: the program has more than 16384 tokens")?
-    };
-    let told = Told::new(alloc, what.as_str())?;
-    message_of(alloc, &told)
+        "the program has more than 16384 tokens"
+    }
 }
 
 /// The message of a text that is refused at this byte.

@@ -6,7 +6,7 @@ use c_parser::{ParseFault, parse};
 use nvm_base::Bytes;
 use plain_notes::Told;
 use std::alloc::{AllocError, Global};
-use token_notes::{Spelled, TOKENS, expected, is_one, left_out};
+use token_notes::{MARKS, NAMES, Spelled, WORDS, expected, is_one, left_out};
 
 /// The message of a refused token: what it is, what to write instead, and what could stand there.
 pub(crate) fn syntax(
@@ -30,7 +30,17 @@ fn able_there(
 ) -> Result<Vec<&'static str>, AllocError> {
     let before = item_before(text, list, near);
     let mut able = Vec::new(alloc);
-    for token in TOKENS {
+    for token in NAMES {
+        if goes_on(alloc, before, token)? {
+            able.push(token)?;
+        }
+    }
+    for token in WORDS {
+        if goes_on(alloc, before, token)? {
+            able.push(token)?;
+        }
+    }
+    for token in MARKS {
         if goes_on(alloc, before, token)? {
             able.push(token)?;
         }

@@ -9,7 +9,7 @@ use token_notes::{Lined, transaction_name, trap_lines};
 const MOST: usize = 6;
 
 /// A note that names the lines of the program where the trap may have come, if they are few.
-pub fn trap_place(
+pub fn trap_lines_note(
     alloc: Global,
     path: &str,
     text: &[u8],

@@ -133,7 +133,7 @@ fn numbered(
     Ok(text)
 }
 
-/// A text whose value stands in so many brackets.
+/// A text whose value stands in n brackets.
 fn bracketed(alloc: Global, count: u64) -> Result<String, AllocError> {
     let mut text = String::from_str(
         alloc,
@@ -328,7 +328,7 @@ fn transactions_keep_their_marks(rt: HostRuntime) -> Result<(), Fail> {
 /// A struct and the root, on lines 1 and 2.
 const ROOT: &str = "struct R { int64_t n; };\npersistent struct R root;\n";
 
-/// So many pieces with their numbers in them, and a last one.
+/// n pieces with their numbers in them, and a last one.
 const COUNTS: [(u64, &str, &str, &str, &str); 11] = [
     (254, "struct S", " { int64_t v; };\n", "", "ok"),
     (
@@ -898,7 +898,7 @@ const TRANSACTIONS: [(&str, &str); 12] = [
     ("tx abort int64_t f() { return\nf(); }", "BadTx(6)"),
 ];
 
-/// Two rules broken: the lesser token is told, and at one token the lesser number.
+/// Two rules broken: the lesser token is reported, and at one token the lesser number.
 const TWO_FAULTS: [(&str, &str); 30] = [
     (
         "tx int64_t g() { return 0; }\nint64_t f() { return\ng(1); }",

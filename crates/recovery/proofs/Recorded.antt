@@ -7,6 +7,7 @@ use Rattle.args_log.specs.Pending.{HoldsArguments}
 use Rattle.pm_machine.specs.declared.op.TxEntry.{TxEntry}
 use Rattle.heap_pool.specs.HeapPool.{words_from}
 use Rattle.recovery.specs.Found.{entry_words}
+use Rattle.pool_layout.specs.declared.places.TheConstants.{ARGUMENTS, FIRST_ARGUMENT}
 
 pub take_words : (xs : List ℤ) (p m : ℕ) (w : Words) → m ≤ length xs
     → ((k : ℕ) → k < length xs → slice_index_or xs k (pos 0) ≡ w (p + k))
@@ -30,20 +31,23 @@ all_words (x ∷ xs) p w same =
     ∙ ap (λ (ys : List ℤ). w p ∷ ys)
     (all_words xs (suc p) w (λ k less. same (suc k) (omega arith) ∙ ap w (omega arith)))
 
--- a transaction of fewer than 22 parameters, and one of 22
+-- a transaction of fewer parameters than a record has argument words, and one of as many
 pub given_few : (o : Option TxEntry) (n : ℕ) (xs : List ℤ) (w : Words)
-    → IsSomeAnd o (λ e. n ≡ e.parameters) → n < 22 → length xs ≡ 22 → HoldsArguments w xs
-    → take n xs ≡ words_from w 25 (entry_words o)
+    → IsSomeAnd o (λ e. n ≡ e.parameters) → n < ARGUMENTS → length xs ≡ ARGUMENTS
+    → HoldsArguments w xs
+    → take n xs ≡ words_from w FIRST_ARGUMENT (entry_words o)
 given_few None n xs w is less whole holds = absurd is
 given_few (Some e) n xs w is less whole holds =
-    let same : n ≡ min e.parameters 22 = omega arith in
-    take_words xs 25 n w (omega arith) (λ k below. holds k (omega arith))
-    ∙ ap (λ (m : ℕ). words_from w 25 m) same
+    let same : n ≡ min e.parameters ARGUMENTS = omega arith in
+    take_words xs FIRST_ARGUMENT n w (omega arith) (λ k below. holds k (omega arith))
+    ∙ ap (λ (m : ℕ). words_from w FIRST_ARGUMENT m) same
 
 pub given_all : (o : Option TxEntry) (n : ℕ) (xs : List ℤ) (w : Words)
-    → IsSomeAnd o (λ e. n ≡ e.parameters) → 22 ≤ n → length xs ≡ 22 → HoldsArguments w xs
-    → xs ≡ words_from w 25 (entry_words o)
+    → IsSomeAnd o (λ e. n ≡ e.parameters) → ARGUMENTS ≤ n → length xs ≡ ARGUMENTS
+    → HoldsArguments w xs
+    → xs ≡ words_from w FIRST_ARGUMENT (entry_words o)
 given_all None n xs w is more whole holds = absurd is
 given_all (Some e) n xs w is more whole holds =
-    let same : length xs ≡ min e.parameters 22 = omega arith in
-    all_words xs 25 w (λ k below. holds k (omega arith)) ∙ ap (λ (m : ℕ). words_from w 25 m) same
+    let same : length xs ≡ min e.parameters ARGUMENTS = omega arith in
+    all_words xs FIRST_ARGUMENT w (λ k below. holds k (omega arith))
+    ∙ ap (λ (m : ℕ). words_from w FIRST_ARGUMENT m) same

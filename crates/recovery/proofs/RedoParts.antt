@@ -12,10 +12,10 @@ use Rattle.pmem.proofs.Refused.{all_cache, all_on}
 use Rattle.pm_machine.specs.declared.effect.End.{End}
 use Rattle.pm_machine.specs.declared.image.Image.{Image}
 use Rattle.pm_machine.specs.Machine.{State, start}
-use Rattle.pm_machine.specs.Runs.{end_of}
+use Rattle.pm_machine.specs.Runs.{end_of, due_on}
 use Rattle.tx_run.specs.declared.answer.Settled.{Settled}
 use Rattle.tx_run.specs.declared.answer.Settled.TheVariants.{Done, Trap, Off, Failed, NoMemory}
-use Rattle.tx_run.specs.Due.{due_on, due_run}
+use Rattle.tx_run.specs.Due.{due_run}
 use Rattle.tx_run.specs.Settled.{HasSettled, HasLogged, Settles}
 use Rattle.recovery.specs.Due.{due_back, due_redo}
 use Rattle.recovery.specs.Recovered.{redo_run, HasRedone, Redid}

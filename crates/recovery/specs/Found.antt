@@ -4,7 +4,8 @@ use Rattle.std.specs.Prelude.{ℕ, ◌-◌, ◌^◌, ◌≡◌, ◌≢◌, ◌�
 use Rattle.std.specs.Prelude.{nat_le, nat_lt, min, List, length, slice_get, Option, Some}
 use Rattle.std.specs.Prelude.{None, ℤ, pos}
 use Rattle.cache_model.specs.Cache.{Words}
-use Rattle.pool_layout.specs.declared.places.TheConstants.{MARK, FUNCTION}
+use Rattle.pool_layout.specs.declared.places.TheConstants.{MARK, FUNCTION, ARGUMENTS}
+use Rattle.pool_layout.specs.declared.places.TheConstants.{FIRST_ARGUMENT}
 use Rattle.pool_layout.specs.Image.{is_sealed}
 use Rattle.heap_pool.specs.HeapPool.{words_from}
 use Rattle.clobber_log.specs.Logs.{attempt_in, count_in}
@@ -24,7 +25,7 @@ has_numbers count attempt = nat_lt 0 count && nat_le (2 ^ 62) attempt
 abbrev pub names_tx : Image → ℕ → Bool
 names_tx image tx = nat_le 1 tx && nat_le tx (length image.parts.txs)
 
--- a pool without a mark, with so many valid records, which can be restored
+-- a pool without a mark, whose valid records can be restored
 pub record IsOpen (image : Image) (count : ℕ) (w : Words) : Type 0 where
   pub mark : w MARK ≡ pos 0
   pub count_is : count ≡ count_in image.parts.sizes w
@@ -41,11 +42,11 @@ Finds (Unsealed n) image w = IsOpen image n w × (is_sealed w ≡ false)
 Finds (Sealed tx args n) image w = IsOpen image n w × (is_sealed w ≡ true)
     × (tx ≡ tx_number (w FUNCTION)) × (names_tx image tx ≡ true) × HoldsArguments w args
 
--- the number of argument words, of the 22, that a transaction's entry takes
+-- the number of argument words that a transaction's entry takes, of those that a record has
 abbrev pub entry_words : Option TxEntry → ℕ
 entry_words None = 0
-entry_words (Some entry) = min entry.parameters 22
+entry_words (Some entry) = min entry.parameters ARGUMENTS
 
 -- the arguments that a pool's record holds for a transaction
 abbrev pub recorded : Image → (tx : ℕ) → Words → List ℤ
-recorded image tx w = words_from w 25 (entry_words (slice_get image.parts.txs (tx - 1)))
+recorded image tx w = words_from w FIRST_ARGUMENT (entry_words (slice_get image.parts.txs (tx - 1)))

@@ -16,9 +16,8 @@ use Rattle.pm_machine.specs.declared.effect.End.{End}
 use Rattle.pm_machine.specs.declared.effect.End.TheVariants.{Halted, Trapped}
 use Rattle.pm_machine.specs.declared.image.Image.{Image}
 use Rattle.pm_machine.specs.Machine.{start}
-use Rattle.pm_machine.specs.Runs.{Due, end_of}
+use Rattle.pm_machine.specs.Runs.{Due, end_of, due_on}
 use Rattle.tx_run.specs.Standing.{trap_of_mark}
-use Rattle.tx_run.specs.Due.{due_on}
 use Rattle.tx_run.specs.Settled.{HasLogged}
 use Rattle.recovery.specs.declared.answer.RecoverAnswer.{RecoverAnswer}
 use Rattle.recovery.specs.declared.answer.RecoverAnswer.TheVariants.{Clean, Redone, Trap, Off}

@@ -9,7 +9,7 @@ use args_log::{PendingAnswer, pending};
 use clobber_log::{attempt, count};
 use pm_machine::Image;
 use pmem::PmemWork;
-use pool_layout::MARK;
+use pool_layout::{ARGUMENTS, MARK};
 use pool_map::TrapKind;
 use tx_run::marked_kind;
 
@@ -20,14 +20,14 @@ pub enum Found {
     Unusable(TrapKind),
     /// Its records can't be restored, or its argument record names no transaction of the image.
     Numbers,
-    /// No call was cut after its seal; so many records are valid.
+    /// No call was cut after its seal; `count` records are valid.
     Unsealed {
         count: u64,
     },
-    /// A call was cut after its seal; it has all argument words, and so many records are valid.
+    /// A call was cut after its seal. `count` records are valid.
     Sealed {
         tx: u64,
-        args: [i64; 22],
+        args: [i64; ARGUMENTS],
         count: u64,
     },
 }
@@ -35,7 +35,7 @@ pub enum Found {
 /// The numbers of attempts are below this.
 const NUMBERS: u64 = 4611686018427387904;
 
-/// The content of the pool's argument record, if so many records are valid.
+/// The content of the pool's argument record, if `count` records are valid.
 fn record<P: PmemWork>(image: &Image, dev: &P, count: u64) -> Found
     requires lines { (P.device dev.now).lines ≡ pool_lines image.now.parts.sizes }
     requires few { count ≤ image.now.parts.sizes.records }

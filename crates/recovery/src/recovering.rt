@@ -16,7 +16,7 @@ use clobber_log::{reset, restore};
 use nvm_base::Steps;
 use pm_machine::{Image, Machine};
 use pmem::{LogAnswer, Phase, PmemWork};
-use pool_layout::Sizes;
+use pool_layout::{ARGUMENTS, Sizes};
 use std::alloc::Global;
 use std::sync::ledger::Ledger;
 use tx_run::settle;
@@ -62,17 +62,17 @@ pub fn put_back<P: PmemWork, L: Ledger>(
     }
 }
 
-/// The first of the 22 words, as many as the transaction has parameters.
-pub fn given<'a>(image: &Image, tx: u64, args: &'a [i64; 22]) -> &'a [i64]
+/// The first of the words, as many as the transaction has parameters.
+pub fn given<'a>(image: &Image, tx: u64, args: &'a [i64; ARGUMENTS]) -> &'a [i64]
     requires first { 1 ≤ tx }
     requires last { tx ≤ length image.now.parts.txs }
     ensures { (w : ℕ → ℤ) → HoldsArguments w args.now → result.now ≡ recorded image.now tx w }
 {
     let count = image.parameters(tx);
-    if count < 22 {
+    if count < ARGUMENTS as u64 {
         &args[..count as usize]
     } else {
-        &args[..22]
+        &args[..ARGUMENTS]
     }
 }
 

@@ -1,4 +1,4 @@
--- What is among the broken rules of lists put together, of a rule that is told unless something
+-- What is among the broken rules of lists put together, of a rule that is reported unless something
 -- holds, and of a list that was made one after another.
 use Rattle.std.proofs.Common.{◌≡◌, ℕ, zero, suc, ◌+◌, inl, inr, Bool, true, false, List, []}
 use Rattle.std.proofs.Common.{◌∷◌, ◌++◌, refl, sym, subst, arith}
@@ -38,9 +38,6 @@ pub unless_of : (P : Rule → ℕ → Type 0) (b : Broken) (holds : Bool) (place
     → IsAmong b (unless holds place rule) → (holds ≡ false → P rule place) → P b.rule b.place
 unless_of P b true place rule e h = absurd e
 unless_of P b false place rule e h = one_of P b place rule e (h refl)
-
-pub one_told : (place : ℕ) (rule : Rule) → IsAmong (Told rule place) (broken_at place rule)
-one_told place rule = inl refl
 
 pub unless_told : (holds : Bool) (place : ℕ) (rule : Rule) → holds ≡ false
     → IsAmong (Told rule place) (unless holds place rule)

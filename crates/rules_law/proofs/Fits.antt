@@ -1,6 +1,8 @@
 -- A test of types fails exactly where no types that its operands may have fit.
 use Rattle.std.proofs.Common.{◌≡◌, ℕ, ◌⊎◌, inl, inr, Bool, true, false, refl, sym, ap, ◌∙◌}
-use Rattle.std.specs.Prelude.{◌&&◌, ◌||◌, not, is_some, Option, None, Some, ◌↔◌}
+use Rattle.std.specs.Prelude.{◌&&◌, is_some, Option, None, Some, ◌↔◌}
+use Rattle.std.proofs.lemmas.Bool.{false≢true, and_parts}
+use Rattle.nvm_base.proofs.Tests.{same_from}
 use Rattle.c_tree.specs.declared.expr.UnaryOp.{UnaryOp}
 use Rattle.c_tree.specs.declared.expr.UnaryOp.TheVariants as unary
 use Rattle.c_tree.specs.declared.expr.BinaryOp.{BinaryOp}
@@ -17,15 +19,10 @@ use Rattle.c_types.specs.Expressions.{is_indexed}
 use Rattle.typed_law.specs.Types.{StaticType, Number, PointerTo, NullPointer, value_type, Applies}
 use Rattle.typed_law.specs.Types.{Compares, Joins, AreNumbers, AcceptsType}
 use Rattle.typed_law.specs.Statements.{IsAssigned}
-use Rattle.typed_law.proofs.Broken.{false_true, and_left, and_right, same_from}
 use Rattle.typed_law.proofs.Fitting.{joined_fits, taken_fits}
 use Rattle.rules_law.specs.Given.{MayBe}
 use Rattle.rules_law.specs.Rules.{NoOperand, NoOperands, NoAssignment, NoGift, NoNumber}
 use Rattle.rules_law.specs.Rules.{NoPointer}
-
--- a test that holds where something does fails exactly where that doesn't
-pub fails : (b : Bool) (P : Type 0) → (P → b ≡ true) → b ≡ false → P → ⊥
-fails b P f e p = false_true (sym e ∙ f p)
 
 pub failed : (b : Bool) (P : Type 0) → (b ≡ true → P) → (P → ⊥) → b ≡ false
 failed true P f never = absurd (never (f refl))
@@ -33,30 +30,7 @@ failed false P f never = refl
 
 pub none_of : {A : Type 0} (o : Option A) → is_some o ≡ false → o ≡ None
 none_of None e = refl
-none_of (Some x) e = absurd (false_true (sym e))
-
-pub not_false : (b : Bool) → not b ≡ false → b ≡ true
-not_false true e = refl
-not_false false e = absurd (false_true (sym e))
-
-pub and_false : (a b : Bool) → (a && b) ≡ false → (a ≡ false) ⊎ (b ≡ false)
-and_false true b e = inr e
-and_false false b e = inl refl
-
-pub and_false_left : (a b : Bool) → a ≡ false → (a && b) ≡ false
-and_false_left a b e = rw e refl
-
-pub and_false_right : (a b : Bool) → b ≡ false → (a && b) ≡ false
-and_false_right true b e = e
-and_false_right false b e = refl
-
-pub or_false_left : (a b : Bool) → (a || b) ≡ false → a ≡ false
-or_false_left true b e = absurd (false_true (sym e))
-or_false_left false b e = refl
-
-pub or_false_right : (a b : Bool) → (a || b) ≡ false → b ≡ false
-or_false_right true b e = absurd (false_true (sym e))
-or_false_right false b e = e
+none_of (Some x) e = absurd (false≢true (sym e))
 
 -- a type that something may have, by the type that the check finds
 abbrev pub CanBe : ValueType → StaticType → Type 0
@@ -99,8 +73,8 @@ number_true a (inr e) = rw e refl
 
 true_number : (a : ValueType) → is_int a ≡ true → CanBe a Number
 true_number Int e = inl refl
-true_number (Pointer i) e = absurd (false_true e)
-true_number Null e = absurd (false_true e)
+true_number (Pointer i) e = absurd (false≢true e)
+true_number Null e = absurd (false≢true e)
 true_number Any e = inr refl
 
 number_at : (a : ValueType) (x : StaticType) → CanBe a x → x ≡ Number → CanBe a Number
@@ -108,7 +82,7 @@ number_at a x (inl e) is = inl (e ∙ ap value_type is)
 number_at a x (inr e) is = inr e
 
 pub no_number : (F : StaticType → Type 0) (a : ValueType) → IsOf F a → is_int a ≡ false → NoNumber F
-no_number F a is e m = false_true (sym e ∙ number_true a (can_be F a is Number m))
+no_number F a is e m = false≢true (sym e ∙ number_true a (can_be F a is Number m))
 
 pub number_no : (F : StaticType → Type 0) (a : ValueType) → IsOf F a → NoNumber F → is_int a ≡ false
 number_no F a is never = failed (is_int a) (CanBe a Number) (true_number a)
@@ -119,14 +93,14 @@ pointer_true a i (inl e) = rw e refl
 pointer_true a i (inr e) = rw e refl
 
 true_pointer : (a : ValueType) → is_pointer a ≡ true → (i : ℕ) × CanBe a (PointerTo i)
-true_pointer Int e = absurd (false_true e)
+true_pointer Int e = absurd (false≢true e)
 true_pointer (Pointer i) e = (i, inl refl)
-true_pointer Null e = absurd (false_true e)
+true_pointer Null e = absurd (false≢true e)
 true_pointer Any e = (0, inr refl)
 
 pub no_pointer : (F : StaticType → Type 0) (a : ValueType) → IsOf F a → is_pointer a ≡ false
     → NoPointer F
-no_pointer F a is e i m = false_true (sym e ∙ pointer_true a i (can_be F a is (PointerTo i) m))
+no_pointer F a is e i m = false≢true (sym e ∙ pointer_true a i (can_be F a is (PointerTo i) m))
 
 pub pointer_no : (F : StaticType → Type 0) (a : ValueType) → IsOf F a → NoPointer F
     → is_pointer a ≡ false
@@ -148,8 +122,8 @@ true_numbers : (a b : ValueType) → (is_int a && is_int b) ≡ true → Pair a 
 true_numbers a b e = (
   Number,
   Number,
-  true_number a (and_left (is_int a) (is_int b) e),
-  true_number b (and_right (is_int a) (is_int b) e),
+  true_number a (and_parts (is_int a) (is_int b) e).0,
+  true_number b (and_parts (is_int a) (is_int b) e).1,
   (refl, refl),
 )
 
@@ -171,7 +145,7 @@ compare_true a b x y (inr e) n h = rw e refl
 
 pointer_pair : (i : ℕ) (b : ValueType) → is_pointer_to i b ≡ true
     → (y : StaticType) × CanBe b y × ((y ≡ PointerTo i) ⊎ (y ≡ NullPointer))
-pointer_pair i Int e = absurd (false_true e)
+pointer_pair i Int e = absurd (false≢true e)
 pointer_pair i (Pointer j) e = (PointerTo j, inl refl, inl (ap PointerTo (sym (same_from i j e))))
 pointer_pair i Null e = (NullPointer, inl refl, inr refl)
 pointer_pair i Any e = (PointerTo i, inr refl, inl refl)
@@ -180,7 +154,7 @@ true_compare : (a b : ValueType) → comparable a b ≡ true → Pair a b Compar
 true_compare Int b e = (Number, Number, inl refl, true_number b e, refl)
 true_compare (Pointer i) b e =
     let p = pointer_pair i b e in (PointerTo i, p.0, inl refl, p.1, p.2)
-true_compare Null Int e = absurd (false_true e)
+true_compare Null Int e = absurd (false≢true e)
 true_compare Null (Pointer j) e = (NullPointer, PointerTo j, inl refl, inl refl, inr (j, refl))
 true_compare Null Null e = (NullPointer, NullPointer, inl refl, inl refl, inl refl)
 true_compare Null Any e = (NullPointer, NullPointer, inl refl, inr refl, inl refl)
@@ -234,7 +208,7 @@ true_joins binary.Or a b e = true_numbers a b e
 pub no_operands : (op : BinaryOp) (F G : StaticType → Type 0) (a b : ValueType) → IsOf F a
     → IsOf G b → joins_types op a b ≡ false → NoOperands op F G
 no_operands op F G a b is same e x y m n h =
-    false_true (sym e ∙ joins_true op a b x y (can_be F a is x m) (can_be G b same y n) h)
+    false≢true (sym e ∙ joins_true op a b x y (can_be F a is x m) (can_be G b same y n) h)
 
 pub operands_no : (op : BinaryOp) (F G : StaticType → Type 0) (a b : ValueType) → IsOf F a
     → IsOf G b → NoOperands op F G → joins_types op a b ≡ false
@@ -256,7 +230,7 @@ true_applies unary.Complement a e = (Number, true_number a e, refl)
 
 pub no_operand : (op : UnaryOp) (F : StaticType → Type 0) (a : ValueType) → IsOf F a
     → applies op a ≡ false → NoOperand op F
-no_operand op F a is e x m h = false_true (sym e ∙ applies_true op a x (can_be F a is x m) h)
+no_operand op F a is e x m h = false≢true (sym e ∙ applies_true op a x (can_be F a is x m) h)
 
 pub operand_no : (op : UnaryOp) (F : StaticType → Type 0) (a : ValueType) → IsOf F a
     → NoOperand op F → applies op a ≡ false
@@ -276,8 +250,8 @@ takes_true a b x y (inl e) (inr f) h = rw (e, f) (takes_any x)
 takes_true a b x y (inr e) n h = rw e refl
 
 null_pair : (b : ValueType) → is_null b ≡ true → CanBe b NullPointer
-null_pair Int e = absurd (false_true e)
-null_pair (Pointer i) e = absurd (false_true e)
+null_pair Int e = absurd (false≢true e)
+null_pair (Pointer i) e = absurd (false≢true e)
 null_pair Null e = inl refl
 null_pair Any e = inr refl
 
@@ -296,7 +270,7 @@ true_takes Any b e = let y = some_type b in (y.0, y.0, inr refl, y.1, inl refl)
 pub no_gift : (F G : StaticType → Type 0) (a b : ValueType) → IsOf F a
     → IsOf G b → type_takes a b ≡ false → NoGift F G
 no_gift F G a b is same e x y m n h =
-    false_true (sym e ∙ takes_true a b x y (can_be F a is x m) (can_be G b same y n) h)
+    false≢true (sym e ∙ takes_true a b x y (can_be F a is x m) (can_be G b same y n) h)
 
 pub gift_no : (F G : StaticType → Type 0) (a b : ValueType) → IsOf F a
     → IsOf G b → NoGift F G → type_takes a b ≡ false
@@ -319,7 +293,7 @@ true_assigns assign.Sub a b e = true_numbers a b e
 pub no_assignment : (op : AssignOp) (F G : StaticType → Type 0) (a b : ValueType) → IsOf F a
     → IsOf G b → assigns op a b ≡ false → NoAssignment op F G
 no_assignment op F G a b is same e x y m n h =
-    false_true (sym e ∙ assigns_true op a b x y (can_be F a is x m) (can_be G b same y n) h)
+    false≢true (sym e ∙ assigns_true op a b x y (can_be F a is x m) (can_be G b same y n) h)
 
 pub assignment_no : (op : AssignOp) (F G : StaticType → Type 0) (a b : ValueType) → IsOf F a
     → IsOf G b → NoAssignment op F G → assigns op a b ≡ false
@@ -329,11 +303,11 @@ assignment_no op F G a b is same never = failed (assigns op a b) (Pair a b (IsAs
 
 -- what stands before `[`
 pub no_array : (k : Kind) → is_indexed k ≡ false → (x : StaticType) × (k ≡ Value (value_type x))
-no_array (Array element place) e = absurd (false_true (sym e))
+no_array (Array element place) e = absurd (false≢true (sym e))
 no_array (Value Int) e = (Number, refl)
 no_array (Value (Pointer i)) e = (PointerTo i, refl)
 no_array (Value Null) e = (NullPointer, refl)
-no_array (Value Any) e = absurd (false_true (sym e))
+no_array (Value Any) e = absurd (false≢true (sym e))
 
 value_no : (x : StaticType) → is_indexed (Value (value_type x)) ≡ false
 value_no Number = refl

@@ -4,6 +4,8 @@ use Rattle.std.proofs.Common.{length, refl, sym, ap, ◌∙◌, subst}
 use Rattle.std.specs.Prelude.{if◌then◌else◌, ◌&&◌, ◌||◌, not, nat_eq, nat_le, is_some, unwrap_or}
 use Rattle.std.specs.Prelude.{slice_get, Option, None, Some, option_and_then}
 use Rattle.std.specs.Option.{option_map_or}
+use Rattle.std.proofs.lemmas.Bool.{false≢true, and_parts, not-true}
+use Rattle.nvm_base.proofs.Tests.{le_from, same_from}
 use Rattle.c_tree.specs.ExprTree.{ExprTree, Arguments, Ident}
 use Rattle.c_tree.specs.ExprTree as expr
 use Rattle.c_tree.specs.StmtTree.{TypeTree}
@@ -22,7 +24,6 @@ use Rattle.c_types.specs.Expressions.{may_call, call_type, result_type, paramete
 use Rattle.c_types.specs.Expressions.{parameter_type, argument_count, kind_of, all_taken, type_of}
 use Rattle.typed_law.specs.Types.{StaticType, Number, PointerTo, NullPointer, value_type, IsPointer}
 use Rattle.typed_law.specs.Types.{IsWritten, HasValueField, HasArray, AcceptsType}
-use Rattle.typed_law.proofs.Broken.{false_true, and_left, and_right, not_true, le_from, same_from}
 use Rattle.typed_law.proofs.Fitting.{applied_answer}
 use Rattle.typed_law.proofs.Fitting.{joined_answer, declared_is}
 use Rattle.typed_law.proofs.Expressions.{IsRest, whole_rest, next_rest, rest_type, suc_zero, suc_same}
@@ -53,7 +54,7 @@ static_of : (ty : ValueType) → is_any ty ≡ false → (x : StaticType) × (ty
 static_of Int e = (Number, refl)
 static_of (Pointer i) e = (PointerTo i, refl)
 static_of Null e = (NullPointer, refl)
-static_of Any e = absurd (false_true (sym e))
+static_of Any e = absurd (false≢true (sym e))
 
 -- a type as it is written
 pointer_of : (t : Tables) (name : List ℕ) (x : StaticType) → pointer_type t name ≡ value_type x
@@ -88,9 +89,6 @@ written_is t ty x = (written_of t ty x, declared_is t ty x)
 abbrev pub Says : (F A : StaticType → Type 0) → Kind → Type 0
 Says F A (Value ty) = (x : StaticType) → ty ≡ value_type x → F x
 Says F A (Array el n) = (x : StaticType) × (el ≡ value_type x) × A x
-
-says_none : (F A : StaticType → Type 0) → Says F A (Value Any)
-says_none F A x e = any_not x e
 
 pub says_type : (F A : StaticType → Type 0) (k : Kind) (x : StaticType) → Says F A k
     → type_of_kind k ≡ value_type x → F x
@@ -199,9 +197,9 @@ element_says F A (Value ty) x m e = any_not x e
 
 int_only : (ty : ValueType) → is_int ty ≡ true → is_any ty ≡ false → ty ≡ Int
 int_only Int i a = refl
-int_only (Pointer n) i a = absurd (false_true i)
-int_only Null i a = absurd (false_true i)
-int_only Any i a = absurd (false_true (sym a))
+int_only (Pointer n) i a = absurd (false≢true i)
+int_only Null i a = absurd (false≢true i)
+int_only Any i a = absurd (false≢true (sym a))
 
 variable_by : (o : Option ValueType) (x : StaticType) → unwrap_or o Any ≡ value_type x
     → o ≡ Some (value_type x)
@@ -225,7 +223,7 @@ zero_suc n e = cc
 result_of : (t : Tables) (f : FunctionTree) (x : StaticType) (o : Option TypeTree)
     → f.result_type ≡ o → is_some o ≡ true → option_map_or (declared_type t) o Any ≡ value_type x
     → (ty : TypeTree) × (f.result_type ≡ Some ty) × IsWritten t ty x
-result_of t f x None is some e = absurd (false_true some)
+result_of t f x None is some e = absurd (false≢true some)
 result_of t f x (Some ty) is some e = (ty, is, written_of t ty x e)
 
 call_by : (t : Tables) (s : List Scope) (name : Ident) (all : Arguments) (o : Option FunctionTree)
@@ -239,20 +237,20 @@ call_by t s name all (Some f) is g x e =
     let n : ℕ = argument_count all in
     let passed : Bool = all_taken t s f.parameters 0 all in
     let k = kept_of (may_call true f n && passed) (result_type t f) x e in
-    let may : may_call true f n ≡ true = and_left (may_call true f n) passed k.0 in
-    let two = and_left ((not true || is_some f.result_type) && nat_eq n (length f.parameters))
-    (not f.tx) may in
+    let may : may_call true f n ≡ true = (and_parts (may_call true f n) passed k.0).0 in
+    let two = (and_parts ((not true || is_some f.result_type) && nat_eq n (length f.parameters))
+    (not f.tx) may).0 in
     let r = result_of t f x f.result_type refl
-    (and_left (not true || is_some f.result_type) (nat_eq n (length f.parameters)) two) k.1 in (
+    (and_parts (not true || is_some f.result_type) (nat_eq n (length f.parameters)) two).0 k.1 in (
       f,
       r.0,
       r.1,
       r.2,
       is,
-      not_true f.tx (and_right ((not true || is_some f.result_type)
-          && nat_eq n (length f.parameters)) (not f.tx) may),
-      g f (same_from n (length f.parameters) (and_right (not true || is_some f.result_type)
-          (nat_eq n (length f.parameters)) two)) (and_right (may_call true f n) passed k.0),
+      not-true f.tx (and_parts ((not true || is_some f.result_type)
+          && nat_eq n (length f.parameters)) (not f.tx) may).1,
+      g f (same_from n (length f.parameters) (and_parts (not true || is_some f.result_type)
+          (nat_eq n (length f.parameters)) two).1) (and_parts (may_call true f n) passed k.0).1,
     )
 
 mutual
@@ -270,9 +268,9 @@ mutual
       let i : ValueType = type_of t s index in
       let both : Bool = is_indexed (kind_of t s base) && is_int i in
       let k = kept_of (both && not (is_any i)) (element_of (kind_of t s base)) x e in
-      let int = int_only i (and_right (is_indexed (kind_of t s base)) (is_int i)
-      (and_left both (not (is_any i)) k.0)) (not_true (is_any i) (and_right both (not (is_any i))
-      k.0)) in (
+      let parts = and_parts both (not (is_any i)) k.0 in
+      let indexed = and_parts (is_indexed (kind_of t s base)) (is_int i) parts.0 in
+      let int = int_only i indexed.1 (not-true (is_any i) parts.1) in (
         element_says (Types t s base) (GivesArray t s base) (kind_of t s base) x (says t s base)
             k.1,
         says_type (Types t s index) (GivesArray t s index) (kind_of t s index) Number
@@ -281,11 +279,12 @@ mutual
   says t s (expr.Unary op place a) = λ x e.
       let y : ValueType = type_of t s a in
       let k = kept_of (applies op y && not (is_any y)) Int x e in
-      let z = static_of y (not_true (is_any y) (and_right (applies op y) (not (is_any y)) k.0)) in (
+      let parts = and_parts (applies op y) (not (is_any y)) k.0 in
+      let z = static_of y (not-true (is_any y) parts.1) in (
         number_is x k.1,
         z.0,
         says_type (Types t s a) (GivesArray t s a) (kind_of t s a) z.0 (says t s a) z.1,
-        applied_answer op y z.0 z.1 (and_left (applies op y) (not (is_any y)) k.0),
+        applied_answer op y z.0 z.1 (and_parts (applies op y) (not (is_any y)) k.0).0,
       )
   says t s (expr.Binary op place a b) = λ x e.
       let y : ValueType = type_of t s a in
@@ -293,15 +292,15 @@ mutual
       let one : Bool = joins_types op y z in
       let two : Bool = one && not (is_any y) in
       let k = kept_of (two && not (is_any z)) Int x e in
-      let left = and_left two (not (is_any z)) k.0 in
-      let p = static_of y (not_true (is_any y) (and_right one (not (is_any y)) left)) in
-      let q = static_of z (not_true (is_any z) (and_right two (not (is_any z)) k.0)) in (
+      let left = (and_parts two (not (is_any z)) k.0).0 in
+      let p = static_of y (not-true (is_any y) (and_parts one (not (is_any y)) left).1) in
+      let q = static_of z (not-true (is_any z) (and_parts two (not (is_any z)) k.0).1) in (
         number_is x k.1,
         p.0,
         q.0,
         says_type (Types t s a) (GivesArray t s a) (kind_of t s a) p.0 (says t s a) p.1,
         says_type (Types t s b) (GivesArray t s b) (kind_of t s b) q.0 (says t s b) q.1,
-        joined_answer op y z p.0 q.0 p.1 q.1 (and_left one (not (is_any y)) left),
+        joined_answer op y z p.0 q.0 p.1 q.1 (and_parts one (not (is_any y)) left).0,
       )
   says t s (expr.Call name all) = call_by t s name all (function_named t name.text) refl
       (λ f n h. taken t s f.parameters f.parameters 0 all (whole_rest f.parameters) n h)
@@ -318,13 +317,13 @@ mutual
       let fits : Bool = type_takes (parameter_type t ps i) x in
       let one : Bool = fits && not (is_any x) in
       let later : Bool = all_taken t s ps (i + 1) others in
-      let here = and_left one later h in
-      let y = static_of x (not_true (is_any x) (and_right fits (not (is_any x)) here)) in
+      let here = (and_parts one later h).0 in
+      let y = static_of x (not-true (is_any x) (and_parts fits (not (is_any x)) here).1) in
       let good = subst (λ ty. type_takes ty x ≡ true) (rest_type t ps qs q i rest)
-      (and_left fits (not (is_any x)) here) in
+      (and_parts fits (not (is_any x)) here).0 in
       let p = taken_by (declared_type t q.ty) x y.0 y.1 good in (
         taken t s ps qs (i + 1) others (next_rest ps qs q i rest)
-            (suc_same (argument_count others) (length qs) n) (and_right one later h),
+            (suc_same (argument_count others) (length qs) n) (and_parts one later h).1,
         p.0,
         y.0,
         may_be (IsWritten t q.ty) (declared_type t q.ty) (written_is t q.ty) p.0 p.1,

@@ -2,6 +2,7 @@
 use Rattle.std.proofs.Common.{◌≡◌, ℕ, suc, ◌+◌, inl, true, List, [], ◌∷◌, length}
 use Rattle.std.proofs.Common.{refl, sym, ap, ◌∙◌, subst}
 use Rattle.std.specs.Prelude.{nat_eq}
+use Rattle.nvm_base.proofs.Tests.{same_true}
 use Rattle.c_tree.specs.ExprTree.{ExprTree, Arguments}
 use Rattle.c_tree.specs.ExprTree as expr
 use Rattle.c_tree.specs.ItemTree.{FunctionTree, ParameterTree}
@@ -14,7 +15,6 @@ use Rattle.c_types.specs.Tables.{declared_type}
 use Rattle.c_types.specs.Expressions.{Scope, type_of_kind}
 use Rattle.c_types.specs.Expressions.{parameter_type, argument_count, kind_of, all_taken, type_of}
 use Rattle.typed_law.specs.Types.{StaticType, Number, PointerTo, value_type, IsWritten}
-use Rattle.typed_law.proofs.Broken.{same_true}
 use Rattle.typed_law.proofs.Fitting.{no_any, applied_fits, joined_fits, pointer_is, declared_is}
 use Rattle.typed_law.proofs.Expressions.{IsRest, whole_rest, next_rest, rest_type}
 use Rattle.rules_law.specs.Given.{Types, GivesArray, AreTaken, EndsAt}

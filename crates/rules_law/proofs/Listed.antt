@@ -6,6 +6,7 @@ use Rattle.std.specs.Prelude.{Some}
 use Rattle.std.specs.Option.{option_map_or}
 use Rattle.std.specs.Int.{w64, cast_unsigned}
 use Rattle.std.proofs.lemmas.Bool.Decides.{nat_tests}
+use Rattle.std.proofs.lemmas.Bool.{or_from, and_left, and_right, false≢true}
 use Rattle.c_tree.specs.ExprTree.{Arguments, Ident}
 use Rattle.c_tree.specs.StmtTree.{TypeTree, InitialTree, DeclarationTree}
 use Rattle.c_tree.specs.ItemTree.{FieldTree, FunctionTree, LengthTree, ParameterTree}
@@ -30,17 +31,17 @@ use Rattle.c_types.specs.Expressions.{call_broken, argument_count, parameter_typ
 use Rattle.c_types.specs.Statements.{is_declared, is_target}
 use Rattle.c_types.specs.Declarations.{length_broken, all_ints, is_transaction}
 use Rattle.typed_law.specs.Types.{PointerTo, IsWritten}
-use Rattle.typed_law.proofs.Broken.{false_true}
+use Rattle.typed_law.proofs.Programs.{root_first}
 use Rattle.rules_law.specs.Part.{Part}
 use Rattle.rules_law.specs.Part as part
 use Rattle.rules_law.specs.Given.{Types}
 use Rattle.rules_law.specs.Rules.{Breaks}
 use Rattle.rules_law.specs.Rules as row
 use Rattle.rules_law.proofs.Among.{Told, among_left, among_right, unless_told}
-use Rattle.rules_law.proofs.Fits.{and_false_left, and_false_right, number_no, pointer_no}
+use Rattle.rules_law.proofs.Fits.{number_no, pointer_no}
 use Rattle.rules_law.proofs.Fits.{operands_no, operand_no, gift_no, assignment_no, array_no}
 use Rattle.rules_law.proofs.Own.{own, own_initial, own_local, own_field}
-use Rattle.rules_law.proofs.Own.{not_le, not_same, first_not, is_the_first}
+use Rattle.rules_law.proofs.Own.{not_le, not_same, first_not}
 use Rattle.rules_law.proofs.Own.{among_no_int}
 use Rattle.rules_law.proofs.Given.{written_is}
 use Rattle.rules_law.proofs.Kept.{given_kind, given_type, gives_is, given_at}
@@ -48,9 +49,9 @@ use Rattle.rules_law.proofs.Kept.{given_kind, given_type, gives_is, given_at}
 arrow_listed : (t : Tables) (place : ℕ) (name : Ident) (ty : ValueType) → is_pointer ty ≡ false
     → IsAmong (Told Mismatch place) (arrow_broken t ty place name)
 arrow_listed t place name answered.Int e = inl refl
-arrow_listed t place name (answered.Pointer i) e = absurd (false_true (sym e))
+arrow_listed t place name (answered.Pointer i) e = absurd (false≢true (sym e))
 arrow_listed t place name answered.Null e = inl refl
-arrow_listed t place name answered.Any e = absurd (false_true (sym e))
+arrow_listed t place name answered.Any e = absurd (false≢true (sym e))
 
 -- one of the three rules of a call
 call_listed : (t : Tables) (used : Bool) (name : Ident) (all : Arguments) (f : FunctionTree)
@@ -110,9 +111,6 @@ words_listed t i s b h =
     among_right (again_struct t i s) (count_structs i s ++ (of_struct t i s ++ of_root t i s)) b
     (among_right (count_structs i s) (of_struct t i s ++ of_root t i s) b h)
 
-or_false : (a b : Bool) → a ≡ false → b ≡ false → (a || b) ≡ false
-or_false a b e f = rw (e, f) refl
-
 -- one of the three rules of a function
 abbrev again_function : Tables → ℕ → FunctionTree → List Broken
 again_function t i f =
@@ -130,22 +128,22 @@ bad_listed t i f tx e =
     among_right (again_function t i f) (count_functions i f ++ of_tx t f) (Told BadTx f.name.place)
     (among_right (count_functions i f) (of_tx t f) (Told BadTx f.name.place)
     (unless_told (not f.tx || is_transaction t f) f.name.place BadTx
-    (or_false (not f.tx) (is_transaction t f) (rw tx refl) e)))
+    (or_from (not f.tx) (is_transaction t f) (rw tx refl) e)))
 
 no_result : (t : Tables) (f : FunctionTree) → f.result_type ≡ None → is_transaction t f ≡ false
-no_result t f none = and_false_left (option_map_or (λ ty. is_int (declared_type t ty))
+no_result t f none = and_left (option_map_or (λ ty. is_int (declared_type t ty))
     f.result_type false) (all_ints t f.parameters) (rw none refl)
 
 no_int_result : (t : Tables) (f : FunctionTree) (ty : TypeTree) → f.result_type ≡ Some ty
     → is_int (declared_type t ty) ≡ false → is_transaction t f ≡ false
-no_int_result t f ty is e = and_false_left (option_map_or (λ ty. is_int (declared_type t ty))
+no_int_result t f ty is e = and_left (option_map_or (λ ty. is_int (declared_type t ty))
     f.result_type false) (all_ints t f.parameters)
     (subst (λ o. option_map_or (λ ty. is_int (declared_type t ty)) o false ≡ false) (sym is) e)
 
 no_int_parameter : (t : Tables) (f : FunctionTree) (j : ℕ) (q : ParameterTree)
     → slice_get f.parameters j ≡ Some q → is_int (declared_type t q.ty) ≡ false
     → is_transaction t f ≡ false
-no_int_parameter t f j q is e = and_false_right (option_map_or (λ ty. is_int (declared_type t ty))
+no_int_parameter t f j q is e = and_right (option_map_or (λ ty. is_int (declared_type t ty))
     f.result_type false) (all_ints t f.parameters) (among_no_int t f.parameters j q is e)
 
 -- one of the rules of a field, of a parameter, of a local, of a target
@@ -232,11 +230,11 @@ listed {t} (row.before_arrow {s = s} {base = base} {place = place} {name = name}
     (pointer_no (Types t s base) (type_of t s base) (gives_is t s base) never)
 listed {t} (row.before_index {s = s} {base = base} {index = index} {place = place} x is) =
     unless_told (is_indexed (kind_of t s base) && is_int (type_of t s index)) place Mismatch
-    (and_false_left (is_indexed (kind_of t s base)) (is_int (type_of t s index))
+    (and_left (is_indexed (kind_of t s base)) (is_int (type_of t s index))
     (array_no (kind_of t s base) x (given_kind t s base x is)))
 listed {t} (row.index {s = s} {base = base} {index = index} {place = place} never) =
     unless_told (is_indexed (kind_of t s base) && is_int (type_of t s index)) place Mismatch
-    (and_false_right (is_indexed (kind_of t s base)) (is_int (type_of t s index))
+    (and_right (is_indexed (kind_of t s base)) (is_int (type_of t s index))
     (number_no (Types t s index) (type_of t s index) (gives_is t s index) never))
 listed {t} (row.not_indexed {s = s} {e = e} {place = place} x is ends) =
     subst (λ (k : Kind). IsAmong (Told Mismatch place) (unindexed k))
@@ -293,7 +291,7 @@ listed {t} (row.struct_words {i = i} {s = s} other more) =
     (Told (TooBig limit.Struct (words_of_struct s)) s.name.place)
     (unless_told (is_first (root_struct t) i || nat_le (words_of_struct s) 15) s.name.place
     (TooBig limit.Struct (words_of_struct s))
-    (or_false (is_first (root_struct t) i) (nat_le (words_of_struct s) 15)
+    (or_from (is_first (root_struct t) i) (nat_le (words_of_struct s) 15)
     (first_not (root_struct t) i other) (not_le (words_of_struct s) 15 more))))
 listed {t} (row.root_words {i = i} {s = s} is more) =
     words_listed t i s (Told (TooBig limit.Root (words_of_struct s)) s.name.place)
@@ -301,8 +299,8 @@ listed {t} (row.root_words {i = i} {s = s} is more) =
     (Told (TooBig limit.Root (words_of_struct s)) s.name.place)
     (unless_told (not (is_first (root_struct t) i) || nat_le (words_of_struct s) 512) s.name.place
     (TooBig limit.Root (words_of_struct s))
-    (or_false (not (is_first (root_struct t) i)) (nat_le (words_of_struct s) 512)
-    (rw (is_the_first (root_struct t) i is) refl) (not_le (words_of_struct s) 512 more))))
+    (or_from (not (is_first (root_struct t) i)) (nat_le (words_of_struct s) 512)
+    (rw (root_first (root_struct t) i is) refl) (not_le (words_of_struct s) 512 more))))
 listed {t} (row.pointed_words {name = name} i is more) =
     subst (λ o. IsAmong (Told (TooBig limit.Pointer (words_at t i)) name.place) (option_map_or
     (λ i. unless (nat_le (words_at t i) 15) name.place (TooBig limit.Pointer (words_at t i))) o

@@ -7,6 +7,8 @@ use Rattle.std.specs.Option.{option_map_or}
 use Rattle.std.specs.Int.{w64, cast_unsigned}
 use Rattle.std.proofs.lemmas.Bool.Decides.{nat_tests}
 use Rattle.std.proofs.lemmas.Option.{none-some, same_Some}
+use Rattle.std.proofs.lemmas.Bool.{not-false, and_cases, and_left, and_right, false≢true, or_parts}
+use Rattle.nvm_base.proofs.Tests.{same_from, same_true}
 use Rattle.c_tree.specs.ExprTree.{ExprTree, Arguments, Ident}
 use Rattle.c_tree.specs.ExprTree as expr
 use Rattle.c_tree.specs.StmtTree.{SimpleTree, TypeTree, InitialTree, DeclarationTree}
@@ -35,7 +37,6 @@ use Rattle.c_types.specs.Expressions.{parameters_of, parameter_type, argument_co
 use Rattle.c_types.specs.Statements.{is_declared, is_target}
 use Rattle.c_types.specs.Declarations.{length_broken, struct_broken, root_item_broken, all_ints}
 use Rattle.c_types.specs.Declarations.{is_transaction}
-use Rattle.typed_law.proofs.Broken.{false_true, same_from, same_true}
 use Rattle.typed_law.proofs.Programs.{first_at}
 use Rattle.typed_law.specs.Types.{PointerTo, IsWritten}
 use Rattle.rules_law.specs.Part.{Part}
@@ -44,8 +45,8 @@ use Rattle.rules_law.specs.Given.{Types}
 use Rattle.rules_law.specs.Rules.{Breaks}
 use Rattle.rules_law.specs.Rules as row
 use Rattle.rules_law.proofs.Among.{either, one_of, unless_of}
-use Rattle.rules_law.proofs.Fits.{none_of, not_false, and_false, and_false_left, and_false_right}
-use Rattle.rules_law.proofs.Fits.{or_false_left, or_false_right, no_number, no_pointer}
+use Rattle.rules_law.proofs.Fits.{none_of}
+use Rattle.rules_law.proofs.Fits.{no_number, no_pointer}
 use Rattle.rules_law.proofs.Fits.{no_operands, no_operand}
 use Rattle.rules_law.proofs.Fits.{no_gift, no_assignment, no_array}
 use Rattle.rules_law.proofs.Given.{written_is}
@@ -132,7 +133,7 @@ pub not_le : (a b : ℕ) → b < a → nat_le a b ≡ false
 not_le a b lt = grind (arith, nat_tests)
 
 pub same_not : (a b : ℕ) → nat_eq a b ≡ false → a ≢ b
-same_not a b e is = false_true (sym e ∙ (ap (nat_eq a) (sym is) ∙ same_true a))
+same_not a b e is = false≢true (sym e ∙ (ap (nat_eq a) (sym is) ∙ same_true a))
 
 pub not_same : (a b : ℕ) → a ≢ b → nat_eq a b ≡ false
 not_same a b other = by (nat_eq a b) refl
@@ -149,12 +150,9 @@ pub first_not : (o : Option ℕ) (i : ℕ) → o ≢ Some i → is_first o i ≡
 first_not None i other = refl
 first_not (Some j) i other = not_same i j (λ (e : i ≡ j). other (ap Some (sym e)))
 
-pub is_the_first : (o : Option ℕ) (i : ℕ) → o ≡ Some i → is_first o i ≡ true
-is_the_first o i e = rw e (same_true i)
-
 pub no_roots : (rs : List RootTree) → is_some (slice_get rs 0) ≡ false → rs ≡ []
 no_roots [] e = refl
-no_roots (r ∷ rs) e = absurd (false_true (sym e))
+no_roots (r ∷ rs) e = absurd (false≢true (sym e))
 
 -- the rows of an expression
 root_rows : (t : Tables) (s : List Scope) (name : Ident) (b : Broken) (o : Option ℕ)
@@ -191,7 +189,7 @@ index_rows : (t : Tables) (s : List Scope) (base index : ExprTree) (place : ℕ)
     → (is_indexed (kind_of t s base) && is_int (type_of t s index)) ≡ false
     → Breaks t (part.Expression s (expr.Index base place index)) Mismatch place
 index_rows t s base index place e =
-    by (and_false (is_indexed (kind_of t s base)) (is_int (type_of t s index)) e)
+    by (and_cases (is_indexed (kind_of t s base)) (is_int (type_of t s index)) e)
   where
     by : (is_indexed (kind_of t s base) ≡ false) ⊎ (is_int (type_of t s index) ≡ false)
         → Breaks t (part.Expression s (expr.Index base place index)) Mismatch place
@@ -250,7 +248,7 @@ void_rows : (t : Tables) (used : Bool) (name : Ident) (all : Arguments) (f : Fun
     → function_named t name.text ≡ Some f → (not used || is_some f.result_type) ≡ false
     → Breaks t (part.Called used name all) Mismatch name.place
 void_rows t true name all f is e = row.void_used f is (none_of f.result_type e)
-void_rows t false name all f is e = absurd (false_true (sym e))
+void_rows t false name all f is e = absurd (false≢true (sym e))
 
 rows_call : (t : Tables) (used : Bool) (name : Ident) (all : Arguments) (b : Broken)
     (o : Option FunctionTree) → function_named t name.text ≡ o
@@ -270,14 +268,14 @@ rows_call t used name all b (Some f) is h =
     (λ h. unless_of P b (nat_eq (argument_count all) (length f.parameters)) name.place Arity h
     (λ e. row.other_number f is (same_not (argument_count all) (length f.parameters) e)))
     (λ h. unless_of P b (not f.tx) name.place BadTx h
-    (λ e. row.tx_called f is (not_false f.tx e))))
+    (λ e. row.tx_called f is (not-false f.tx e))))
 
 passed_case : (t : Tables) (s : List Scope) (name : Ident) (i first : ℕ) (e : ExprTree)
     (f : FunctionTree) (q : Option ParameterTree) → function_named t name.text ≡ Some f
     → slice_get f.parameters i ≡ q
     → type_takes (option_map_or (λ p. declared_type t p.ty) q answered.Any) (type_of t s e) ≡ false
     → Breaks t (part.Argument s name i first e) Mismatch first
-passed_case t s name i first e f None is at e1 = absurd (false_true (sym e1))
+passed_case t s name i first e f None is at e1 = absurd (false≢true (sym e1))
 passed_case t s name i first e f (Some q) is at e1 =
     row.passed f q is at (no_gift (IsWritten t q.ty) (Types t s e) (declared_type t q.ty)
     (type_of t s e) (written_is t q.ty) (gives_is t s e) e1)
@@ -286,7 +284,7 @@ passed_rows : (t : Tables) (s : List Scope) (name : Ident) (i first : ℕ) (e : 
     (o : Option FunctionTree) → function_named t name.text ≡ o
     → type_takes (parameter_type t (parameters_of o) i) (type_of t s e) ≡ false
     → Breaks t (part.Argument s name i first e) Mismatch first
-passed_rows t s name i first e None is e1 = absurd (false_true (sym e1))
+passed_rows t s name i first e None is e1 = absurd (false≢true (sym e1))
 passed_rows t s name i first e (Some f) is e1 =
     passed_case t s name i first e f (slice_get f.parameters i) is refl e1
 
@@ -333,7 +331,7 @@ rows_local t s d b h =
     (unless (not (is_declared d.name.text s)) d.name.place Twice) b h
     (λ h. initial_rows t s d b d.initial refl h)
     (λ h. unless_of (Breaks t (part.Local s d)) b (not (is_declared d.name.text s)) d.name.place
-    Twice h (λ n. row.local_again (not_false (is_declared d.name.text s) n)))
+    Twice h (λ n. row.local_again (not-false (is_declared d.name.text s) n)))
 
 rows_return : (t : Tables) (result : Option TypeTree) (s : List Scope) (place : ℕ)
     (o : Option ExprTree) (b : Broken) → IsAmong b (own_return t result s place o)
@@ -372,7 +370,7 @@ many_parameters_at : (t : Tables) (s : List Scope) (i : ℕ) (q : ParameterTree)
     → Breaks t (part.Parameter s i q) (TooBig limit.Parameters 23) q.name.place
 many_parameters_at t s i q e =
     subst (λ i. Breaks t (part.Parameter s i q) (TooBig limit.Parameters 23) q.name.place)
-    (sym (same_from i 22 (not_false (nat_eq i 22) e))) row.many_parameters
+    (sym (same_from i 22 (not-false (nat_eq i 22) e))) row.many_parameters
 
 rows_parameter : (t : Tables) (s : List Scope) (i : ℕ) (q : ParameterTree) (b : Broken)
     → IsAmong b (own_parameter s i q) → Breaks t (part.Parameter s i q) b.rule b.place
@@ -383,7 +381,7 @@ rows_parameter t s i q b h =
     (λ h. unless_of P b (not (nat_eq i 22)) q.name.place (TooBig limit.Parameters 23) h
     (many_parameters_at t s i q))
     (λ h. unless_of P b (not (is_declared q.name.text s)) q.name.place Twice h
-    (λ n. row.parameter_again (not_false (is_declared q.name.text s) n)))
+    (λ n. row.parameter_again (not-false (is_declared q.name.text s) n)))
 
 rows_root : (t : Tables) (i : ℕ) (r : RootTree) (b : Broken) → IsAmong b (root_item_broken t i r)
     → Breaks t (part.Root i r) b.rule b.place
@@ -402,7 +400,7 @@ many_structs_at : (t : Tables) (i : ℕ) (s : StructTree) → not (nat_eq i 255)
     → Breaks t (part.Struct i s) (TooBig limit.Structs 256) s.name.place
 many_structs_at t i s e =
     subst (λ i. Breaks t (part.Struct i s) (TooBig limit.Structs 256) s.name.place)
-    (sym (same_from i 255 (not_false (nat_eq i 255) e))) row.many_structs
+    (sym (same_from i 255 (not-false (nat_eq i 255) e))) row.many_structs
 
 rows_struct : (t : Tables) (i : ℕ) (s : StructTree) (b : Broken) → IsAmong b (struct_broken t i s)
     → Breaks t (part.Struct i s) b.rule b.place
@@ -423,20 +421,20 @@ rows_struct t i s b h =
     (many_structs_at t i s))
     (λ h. either three four b h
     (λ h. unless_of P b (root || nat_le words 15) at (TooBig limit.Struct words) h
-    (λ n. row.struct_words (not_first (root_struct t) i (or_false_left root (nat_le words 15) n))
-    (le_not words 15 (or_false_right root (nat_le words 15) n))))
+    (λ n. row.struct_words (not_first (root_struct t) i (or_parts root (nat_le words 15) n).0)
+    (le_not words 15 (or_parts root (nat_le words 15) n).1)))
     (λ h. unless_of P b (not root || nat_le words 512) at (TooBig limit.Root words) h
-    (λ n. row.root_words (first_at (root_struct t) i (not_false root
-    (or_false_left (not root) (nat_le words 512) n)))
-    (le_not words 512 (or_false_right (not root) (nat_le words 512) n))))))
+    (λ n. row.root_words (first_at (root_struct t) i (not-false root
+    (or_parts (not root) (nat_le words 512) n).0))
+    (le_not words 512 (or_parts (not root) (nat_le words 512) n).1)))))
 
 -- a parameter that isn't an int
 pub no_int_among : (t : Tables) (qs : List ParameterTree) → all_ints t qs ≡ false
     → (j : ℕ) × (q : ParameterTree) × (slice_get qs j ≡ Some q)
     × (is_int (declared_type t q.ty) ≡ false)
-no_int_among t [] e = absurd (false_true (sym e))
+no_int_among t [] e = absurd (false≢true (sym e))
 no_int_among t (q ∷ qs) e =
-    by (and_false (is_int (declared_type t q.ty)) (all_ints t qs) e) (no_int_among t qs)
+    by (and_cases (is_int (declared_type t q.ty)) (all_ints t qs) e) (no_int_among t qs)
   where
     by : (is_int (declared_type t q.ty) ≡ false) ⊎ (all_ints t qs ≡ false)
         → (all_ints t qs ≡ false → (j : ℕ) × (p : ParameterTree) × (slice_get qs j ≡ Some p)
@@ -449,10 +447,10 @@ no_int_among t (q ∷ qs) e =
 pub among_no_int : (t : Tables) (qs : List ParameterTree) (j : ℕ) (q : ParameterTree)
     → slice_get qs j ≡ Some q → is_int (declared_type t q.ty) ≡ false → all_ints t qs ≡ false
 among_no_int t [] j q is e = absurd (none-some q is)
-among_no_int t (p ∷ qs) zero q is e = and_false_left (is_int (declared_type t p.ty)) (all_ints t qs)
+among_no_int t (p ∷ qs) zero q is e = and_left (is_int (declared_type t p.ty)) (all_ints t qs)
     (subst (λ (p : ParameterTree). is_int (declared_type t p.ty) ≡ false) (sym (same_Some p q is)) e)
 among_no_int t (p ∷ qs) (suc j) q is e =
-    and_false_right (is_int (declared_type t p.ty)) (all_ints t qs) (among_no_int t qs j q is e)
+    and_right (is_int (declared_type t p.ty)) (all_ints t qs) (among_no_int t qs j q is e)
 
 tx_rows : (t : Tables) (i : ℕ) (f : FunctionTree) (o : Option TypeTree) → f.tx ≡ true
     → f.result_type ≡ o
@@ -460,7 +458,7 @@ tx_rows : (t : Tables) (i : ℕ) (f : FunctionTree) (o : Option TypeTree) → f.
     → Breaks t (part.Function i f) BadTx f.name.place
 tx_rows t i f None tx is e = row.tx_void tx is
 tx_rows t i f (Some ty) tx is e =
-    by (and_false (is_int (declared_type t ty)) (all_ints t f.parameters) e)
+    by (and_cases (is_int (declared_type t ty)) (all_ints t f.parameters) e)
   where
     by : (is_int (declared_type t ty) ≡ false) ⊎ (all_ints t f.parameters ≡ false)
         → Breaks t (part.Function i f) BadTx f.name.place
@@ -475,7 +473,7 @@ many_functions_at : (t : Tables) (i : ℕ) (f : FunctionTree) → not (nat_eq i 
     → Breaks t (part.Function i f) (TooBig limit.Functions 1025) f.name.place
 many_functions_at t i f e =
     subst (λ i. Breaks t (part.Function i f) (TooBig limit.Functions 1025) f.name.place)
-    (sym (same_from i 1024 (not_false (nat_eq i 1024) e))) row.many_functions
+    (sym (same_from i 1024 (not-false (nat_eq i 1024) e))) row.many_functions
 
 rows_function : (t : Tables) (i : ℕ) (f : FunctionTree) (b : Broken)
     → IsAmong b (own_function t i f) → Breaks t (part.Function i f) b.rule b.place
@@ -493,9 +491,9 @@ rows_function t i f b h =
     (λ h. unless_of P b (not (nat_eq i 1024)) at (TooBig limit.Functions 1025) h
     (many_functions_at t i f))
     (λ h. unless_of P b (not f.tx || is_transaction t f) at BadTx h
-    (λ n. tx_rows t i f f.result_type (not_false f.tx
-    (or_false_left (not f.tx) (is_transaction t f) n)) refl
-    (or_false_right (not f.tx) (is_transaction t f) n))))
+    (λ n. tx_rows t i f f.result_type (not-false f.tx
+    (or_parts (not f.tx) (is_transaction t f) n).0) refl
+    (or_parts (not f.tx) (is_transaction t f) n).1)))
 
 pub rows : (t : Tables) (p : Part) (b : Broken) → IsAmong b (own t p) → Breaks t p b.rule b.place
 rows t (part.Whole end) b h =

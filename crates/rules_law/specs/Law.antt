@@ -26,7 +26,7 @@ IsBroken tree rule place = (p : Part) × StandsIn (length tree.lines) (tables_of
 abbrev pub RowsLaw : Type 0
 RowsLaw = (tree : Program) (b : Broken) → IsAmong b (breaks tree) ↔ IsBroken tree b.rule b.place
 
--- what is told of a tree: nothing where no rule is broken, else a broken rule that none goes before
+-- what is reported of a tree: nothing where no rule is broken, else the least broken rule
 abbrev pub IsFault : Program → Option Broken → Type 0
 IsFault tree None = (b : Broken) → IsBroken tree b.rule b.place → ⊥
 IsFault tree (Some a) = IsBroken tree a.rule a.place

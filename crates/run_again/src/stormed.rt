@@ -13,8 +13,8 @@ use std::alloc::{AllocError, Global};
 use std::marker::Brand;
 use std::sync::ledger::{Blank, Ledger};
 
-/// The calls of a storm on a new pool up to the one that ended it, with the round of that one. It
-/// is none if none does.
+/// The calls of a storm up to the one that ended it, and that call's round; none if the storm came
+/// to its end.
 pub fn storm_again(
     alloc: Global,
     program: &Program,

@@ -45,7 +45,7 @@ module _ (C H : ℕ) where
   fit_more n Fences es fits rest = rest
   fit_more n Quiet es fits rest = rest
 
-trap_some : (k : TrapKind) → 0 < trap_number k
+pub trap_some : (k : TrapKind) → 0 < trap_number k
 trap_some trap.Null = omega arith
 trap_some trap.Stale = omega arith
 trap_some trap.Index = omega arith

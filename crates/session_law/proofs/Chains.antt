@@ -13,7 +13,8 @@ use Rattle.cnvm_session.specs.declared.answer.Answer.{Answer}
 use Rattle.cnvm_session.specs.declared.mode.Mode.{Mode}
 use Rattle.cnvm_session.specs.declared.program.Program.{Program}
 use Rattle.cnvm_session.specs.Commands.{call_number, Commanded}
-use Rattle.session_law.specs.Source.{sizes_of, source_pool}
+use Rattle.cnvm_session.specs.Pool.{sizes_of}
+use Rattle.session_law.specs.Source.{source_pool}
 use Rattle.session_law.specs.Agrees.{Agrees}
 use Rattle.session_law.specs.State.{Pending, Standing, Ready, SourceState}
 use Rattle.session_law.specs.Holds.{HoldsAs, Holds}

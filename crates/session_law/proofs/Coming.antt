@@ -7,7 +7,8 @@ use Rattle.pool_map.specs.declared.trap.TrapKind.TheVariants.{LogFull}
 use Rattle.pool_map.specs.PoolMap.{PoolMap}
 use Rattle.c_meaning.specs.Transaction.{Outcome, Done, Trap}
 use Rattle.cnvm_session.specs.declared.program.Program.{Program}
-use Rattle.session_law.specs.Source.{sizes_of, means, outcome_with}
+use Rattle.cnvm_session.specs.Pool.{sizes_of}
+use Rattle.session_law.specs.Source.{means, outcome_with}
 
 trap_done : (kind : TrapKind) (p : PoolMap) (v : ℤ) → Trap kind ≡ Done p v → ⊥
 trap_done kind p v e = cc

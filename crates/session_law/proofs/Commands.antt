@@ -29,7 +29,8 @@ use Rattle.cnvm_session.specs.Outcomes as outcomes
 use Rattle.cnvm_session.specs.Marks.{rolls_back_of}
 use Rattle.abort_law.specs.Cuts.{IsMarkedCut}
 use Rattle.cnvm_session.specs.Commands.{call_number, tx_parameters}
-use Rattle.session_law.specs.Source.{sizes_of, source_pool}
+use Rattle.cnvm_session.specs.Pool.{sizes_of}
+use Rattle.session_law.specs.Source.{source_pool}
 use Rattle.session_law.specs.Words.{AreWords}
 use Rattle.session_law.specs.Agrees.{Agrees}
 use Rattle.session_law.specs.State.{Pending, Standing, Ready, Down, Unusable, SourceState}

@@ -24,8 +24,8 @@ use Rattle.crash_law.specs.Law.{IsAtRest}
 use Rattle.c_types.specs.Shapes.{shapes_of}
 use Rattle.cut_law.specs.Law.{pool_with}
 use Rattle.cnvm_session.specs.declared.program.Program.{Program}
+use Rattle.cnvm_session.specs.Pool.{sizes_of}
 use Rattle.args_log.specs.Created.{sizes_events, digest_events, creation_events}
-use Rattle.session_law.specs.Source.{sizes_of}
 use Rattle.session_law.specs.State.{created}
 use Rattle.session_law.specs.Holds.{HoldsPool}
 use Rattle.session_law.specs.Law.{super_words, CreatedLaw}

@@ -17,7 +17,8 @@ use Rattle.heap_pool.specs.HeapPool.{object_in, objects_from}
 use Rattle.pm_machine.specs.Runs.{heap_in}
 use Rattle.c_types.specs.Shapes.{shapes_of}
 use Rattle.cnvm_session.specs.declared.program.Program.{Program}
-use Rattle.session_law.specs.Source.{sizes_of, source_pool, HasSourceHeaders}
+use Rattle.cnvm_session.specs.Pool.{sizes_of}
+use Rattle.session_law.specs.Source.{source_pool, HasSourceHeaders}
 
 -- the two heaps have the same words below this one
 abbrev AreSame : ℕ → Words → Words → Type 0

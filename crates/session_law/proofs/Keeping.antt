@@ -18,8 +18,6 @@ use Rattle.pm_machine.specs.Runs.{heap_in}
 use Rattle.crash_law.specs.Pools.{Call, Owed, IsBefore}
 use Rattle.crash_law.specs.Law.{IsAtRest, IsCut, IsEnd}
 use Rattle.run_law.specs.Seen.{result_of, E, W}
-use Rattle.tx_run.specs.declared.answer.CallAnswer.{CallAnswer}
-use Rattle.tx_run.specs.declared.answer.CallAnswer.TheVariants as called
 use Rattle.recovery.specs.Recovered.{IsRecovered, tx_in}
 use Rattle.recovery.specs.declared.answer.RecoverAnswer.{RecoverAnswer}
 use Rattle.recovery.specs.declared.answer.RecoverAnswer.TheVariants as recovered
@@ -34,10 +32,10 @@ use Rattle.cnvm_session.specs.declared.answer.Answer.{Answer}
 use Rattle.cnvm_session.specs.declared.answer.Answer.TheVariants as answer
 use Rattle.cnvm_session.specs.declared.program.Program.{Program}
 use Rattle.cnvm_session.specs.Marks.{rolls_back_of, owes_marked}
-use Rattle.cnvm_session.specs.Outcomes.{answer_of_call, answer_of_marked_call, answer_of_recovery}
+use Rattle.cnvm_session.specs.Outcomes.{answer_of_recovery}
 use Rattle.cnvm_session.specs.Outcomes.{answer_of_marked_recovery, RecoversBy}
 use Rattle.cnvm_session.specs.Outcomes as outcomes
-use Rattle.session_law.specs.Source.{sizes_of}
+use Rattle.cnvm_session.specs.Pool.{sizes_of}
 use Rattle.session_law.specs.Agrees.{Agrees}
 use Rattle.session_law.specs.State.{Pending, Standing, Ready, Down, Unusable, SourceState}
 use Rattle.session_law.specs.State.{standing_as, undone_as}
@@ -64,16 +62,7 @@ pub not_finished : (s t : SourceState) (a : Answer) → t.done ≡ suc s.done �
 not_finished s t a more never (inl same) = absurd (omega (arith, more, same))
 not_finished s t a more never (inr rolls) = never rolls
 
--- an unmarked transaction isn't rolled back, and neither is what a recovery finds retired
-never_rolls_call : (r : CallAnswer) → IsRollback (answer_of_call r) → ⊥
-never_rolls_call (called.Done v l) rolls = rolls
-never_rolls_call (called.Trap kind) rolls = rolls
-never_rolls_call (called.Off p) rolls = rolls
-never_rolls_call called.Failed rolls = rolls
-never_rolls_call (called.Unusable kind) rolls = rolls
-never_rolls_call called.Numbers rolls = rolls
-never_rolls_call called.NoMemory rolls = rolls
-
+-- an unmarked transaction isn't rolled back by its recovery
 never_rolls : (r : RecoverAnswer) → IsRollback (answer_of_recovery r) → ⊥
 never_rolls recovered.Clean rolls = rolls
 never_rolls (recovered.Redone v l) rolls = rolls

@@ -24,6 +24,7 @@ pub mod Opening
 pub mod Steps
 pub mod CallSteps
 pub mod Phases
+pub mod PowerPhases
 pub mod RolledBack
 pub mod Histories
 pub mod Keeping

@@ -54,7 +54,8 @@ use Rattle.cnvm_session.specs.declared.program.Program.{Program}
 use Rattle.cnvm_session.specs.Commands.{tx_parameters}
 use Rattle.cnvm_session.specs.Marks.{rolls_back_of}
 use Rattle.cnvm_session.specs.Outcomes.{answer_of_marked_call, mode_of_marked_call}
-use Rattle.session_law.specs.Source.{sizes_of, means}
+use Rattle.cnvm_session.specs.Pool.{sizes_of}
+use Rattle.session_law.specs.Source.{means}
 use Rattle.session_law.specs.Words.{AreWords}
 use Rattle.session_law.specs.Agrees.{Agrees, RunsAs}
 use Rattle.session_law.specs.State.{Pending, Standing, Ready, Down, SourceState, standing_as}

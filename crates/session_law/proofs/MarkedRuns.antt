@@ -19,7 +19,8 @@ use Rattle.abort_law.specs.Beside.{EndsBeside}
 use Rattle.abort_law.proofs.Marks.{marked_same}
 use Rattle.abort_law.proofs.Besides.{besides}
 use Rattle.cnvm_session.specs.declared.program.Program.{Program}
-use Rattle.session_law.specs.Source.{sizes_of, means, source_pool, HasSourceHeaders}
+use Rattle.cnvm_session.specs.Pool.{sizes_of}
+use Rattle.session_law.specs.Source.{means, source_pool, HasSourceHeaders}
 use Rattle.session_law.specs.Agrees.{RunsAs}
 use Rattle.session_law.specs.Marked.{marked_outcome, ComesOn}
 use Rattle.session_law.specs.State.{Pending, SourceState}
@@ -154,7 +155,7 @@ module _ (program : Program) (s : SourceState) (owed : Pending) (h : Words) (end
     (es : List Effect) (holds : HoldsPool program h s)
     (ran : mrun_marked program.image program.image.parts.most h owed.tx owed.args
     ≡ Finished end es) (own : MarkedMeant program s owed h end es) where
-  -- a run that ends with a value, with this many records
+  -- a run that ends with a value, and the number of its records
   pub marked_done : (v : ℤ) (is : end ≡ Halted v) (l : ℕ) → l ≡ records_end 0 es →
       ComesOn program h s.pool owed.tx owed.args l (Done (own.halts v is).pool v)
   marked_done v is l records = record {

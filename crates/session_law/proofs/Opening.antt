@@ -31,6 +31,7 @@ use Rattle.heap_pool.specs.HeapPool.{words_from}
 use Rattle.crash_law.specs.Pools.{Owed, IsBefore}
 use Rattle.crash_law.specs.Law.{IsAtRest, IsCut}
 use Rattle.run_law.specs.Seen.{result_of, E, W}
+use Rattle.run_law.proofs.Sounds.{trap_some}
 use Rattle.recovery.specs.Found.{recorded}
 use Rattle.tx_run.specs.Standing.{trap_of_mark}
 use Rattle.cut_law.specs.Law.{call_of, pool_with}
@@ -45,18 +46,19 @@ use Rattle.abort_law.specs.Cuts.{IsMarkedCut}
 use Rattle.cnvm_session.specs.Commands.{tx_parameters}
 use Rattle.cnvm_session.specs.Opening.{opening_events}
 use Rattle.cnvm_session.specs.Outcomes as outcomes
-use Rattle.session_law.specs.Source.{sizes_of, source_pool}
+use Rattle.cnvm_session.specs.Pool.{sizes_of, wanted_of}
+use Rattle.session_law.specs.Source.{source_pool}
 use Rattle.session_law.specs.Words.{AreWords, HasPoolWords}
 use Rattle.session_law.specs.Agrees.{Agrees, RunsAs}
 use Rattle.session_law.specs.State.{Down, Unusable, SourceState}
 use Rattle.session_law.specs.Answers.{Powers}
-use Rattle.session_law.specs.Opened.{wanted_of, opened_heap, recorded_in, opened}
+use Rattle.session_law.specs.Opened.{opened_heap, recorded_in, opened}
 use Rattle.session_law.specs.Holds.{HoldsPool, OwesNone, OwesOne, OwesMarked, OwesBy, Holds}
 use Rattle.session_law.proofs.Words.{AreAll, pool_words, restored_words, recorded_words}
 use Rattle.session_law.proofs.Heaps.{length_words}
 use Rattle.session_law.proofs.Ones.{rest_images}
 use Rattle.session_law.proofs.Retired.{attempt_small}
-use Rattle.session_law.proofs.Reading.{kind_read, trap_some, taken_is, next_done}
+use Rattle.session_law.proofs.Reading.{kind_read, taken_is, next_done}
 use Rattle.session_law.proofs.MarkedRuns.{marked_run}
 use Rattle.session_law.proofs.Powers.{HeldAs, held_recovers}
 use Rattle.session_law.proofs.Writing.{written_word, written_rest}

@@ -30,12 +30,12 @@ use Rattle.args_log.specs.Retire.{retire_events, mark_events}
 use Rattle.pm_machine.specs.declared.effect.End.{End}
 use Rattle.pm_machine.specs.declared.effect.End.TheVariants.{Halted, Trapped}
 use Rattle.pm_machine.specs.Machine.{start}
-use Rattle.pm_machine.specs.Runs.{Due, end_of}
+use Rattle.pm_machine.specs.Runs.{Due, end_of, due_on}
 use Rattle.crash_law.specs.Pools.{Call}
 use Rattle.crash_law.specs.Law.{IsAtRest}
 use Rattle.crash_law.proofs.Rest.{due_seal_rest}
 use Rattle.tx_run.specs.Standing.{is_number}
-use Rattle.tx_run.specs.Due.{due_on, due_run, due_seal, due_unsealed, tail_events}
+use Rattle.tx_run.specs.Due.{due_run, due_seal, due_unsealed, tail_events}
 use Rattle.tx_run.specs.Called.{Called, WentAt}
 use Rattle.tx_run.specs.declared.answer.CallAnswer.{CallAnswer}
 use Rattle.tx_run.specs.declared.answer.CallAnswer.TheVariants as called
@@ -55,7 +55,7 @@ use Rattle.abort_mode.specs.declared.answer.AbortAnswer.{AbortAnswer}
 use Rattle.abort_mode.specs.declared.answer.AbortAnswer.TheVariants as aborted
 use Rattle.cnvm_session.specs.Commands as commanded
 use Rattle.cnvm_session.specs.Commands.{call_number, tx_parameters}
-use Rattle.session_law.specs.Source.{sizes_of}
+use Rattle.cnvm_session.specs.Pool.{sizes_of}
 use Rattle.session_law.specs.Words.{AreWords}
 use Rattle.session_law.specs.Agrees.{Agrees}
 use Rattle.session_law.specs.State.{Standing, Ready, Down, Unusable, SourceState}

@@ -3,7 +3,7 @@ use Rattle.std.proofs.Common.{◌≡◌, ◌≢◌, ℕ, zero, suc, ◌+◌, ◌
 use Rattle.std.proofs.Common.{◌&&◌, ltb, leb, min, List, [], ◌∷◌, length, slice_get, slice_index_or}
 use Rattle.std.proofs.Common.{option_map, Option, Some, None, ℤ, pos, ◌+ℤ◌, int_eq, refl, sym, ap}
 use Rattle.std.proofs.Common.{◌∙◌, arith}
-use Rattle.std.proofs.lemmas.Bool.{ltb-true, leb-false, lt-ltb, le-leb}
+use Rattle.std.proofs.lemmas.Bool.{ltb-true, leb-false, lt-ltb, le-leb, and_parts}
 use Rattle.std.proofs.lemmas.Bool.Decides.{Decides-int_eq}
 use Rattle.std.proofs.lemmas.Option.{slice_get_within}
 use Rattle.cache_model.specs.Cache.{Words}
@@ -35,16 +35,6 @@ kind_read x kind is = ap trap_of_mark is ∙ go kind
     go trap.Abort = refl
     go trap.LogFull = refl
     go trap.Depth = refl
-
-pub trap_some : (kind : TrapKind) → 0 < trap_number kind
-trap_some trap.Null = omega arith
-trap_some trap.Stale = omega arith
-trap_some trap.Index = omega arith
-trap_some trap.Divide = omega arith
-trap_some trap.Steps = omega arith
-trap_some trap.Abort = omega arith
-trap_some trap.LogFull = omega arith
-trap_some trap.Depth = omega arith
 
 pub is_marked : (x : ℤ) (n : ℕ) → x ≡ pos n → 0 < n → x ≢ pos 0
 is_marked x n is more none = let zero_is : n ≡ 0 = pos_inj n 0 (sym is ∙ none) in
@@ -93,17 +83,9 @@ pub numbers_small : (image : Words) (d a : ℕ) → image DONE ≡ pos d → ima
 numbers_small image d a done attempt both =
     let is : (is_number (pos d) && is_number (pos a)) ≡ true =
     (λ i. is_number (sym done i) && is_number (sym attempt i)) ∙ both in (
-      number_small d (left (is_number (pos d)) (is_number (pos a)) is),
-      number_small a (right (is_number (pos d)) (is_number (pos a)) is),
+      number_small d (and_parts (is_number (pos d)) (is_number (pos a)) is).0,
+      number_small a (and_parts (is_number (pos d)) (is_number (pos a)) is).1,
     )
-  where
-    left : (x y : Bool) → (x && y) ≡ true → x ≡ true
-    left true y e = refl
-    left false y e = absurd cc
-
-    right : (x y : Bool) → (x && y) ≡ true → y ≡ true
-    right true y e = e
-    right false y e = absurd cc
 
 -- a pool without a mark is ready if its numbers are in range
 pub stands_ready : (image : Words) → image MARK ≡ pos 0

@@ -22,7 +22,8 @@ use Rattle.crash_law.specs.Law.{IsAtRest}
 use Rattle.run_law.specs.Sound.{IsSoundRun}
 use Rattle.cut_law.specs.Law.{pool_with}
 use Rattle.cnvm_session.specs.declared.program.Program.{Program}
-use Rattle.session_law.specs.Source.{sizes_of, LogsStores, outcome_with, ComesTo, source_pool}
+use Rattle.cnvm_session.specs.Pool.{sizes_of}
+use Rattle.session_law.specs.Source.{LogsStores, outcome_with, ComesTo, source_pool}
 use Rattle.session_law.specs.Source.{HasSourceHeaders}
 use Rattle.session_law.specs.Words.{HasPoolWords}
 use Rattle.session_law.specs.Agrees.{Matches, RunsAs}

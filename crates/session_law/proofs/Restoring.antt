@@ -20,7 +20,7 @@ use Rattle.cut_law.specs.Law.{pool_with}
 use Rattle.undo_law.specs.Law.{IsOwed}
 use Rattle.abort_law.specs.Cuts.{IsMarkedCut, IsMarkedLeft}
 use Rattle.cnvm_session.specs.declared.program.Program.{Program}
-use Rattle.session_law.specs.Source.{sizes_of}
+use Rattle.cnvm_session.specs.Pool.{sizes_of}
 use Rattle.session_law.specs.Opened.{opened_heap}
 use Rattle.session_law.proofs.Retired.{attempt_small}
 use Rattle.session_law.proofs.Reading.{is_marked, is_unsealed, is_owed}

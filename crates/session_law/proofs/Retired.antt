@@ -27,11 +27,11 @@ use Rattle.pm_machine.specs.declared.effect.End.{End}
 use Rattle.pm_machine.specs.declared.effect.End.TheVariants.{Halted}
 use Rattle.pm_machine.specs.declared.image.Image.{Image}
 use Rattle.pm_machine.specs.Machine.{State, start}
-use Rattle.pm_machine.specs.Runs.{end_of}
+use Rattle.pm_machine.specs.Runs.{end_of, due_on}
 use Rattle.crash_law.specs.Pools.{Call, Owed}
 use Rattle.crash_law.specs.Due as crash
 use Rattle.crash_law.specs.Law.{IsCut, IsEnd}
-use Rattle.tx_run.specs.Due.{due_on, due_run, due_seal, due_call, tail_events}
+use Rattle.tx_run.specs.Due.{due_run, due_seal, due_call, tail_events}
 use Rattle.recovery.specs.Due.{due_back, due_redo}
 use Rattle.cut_law.proofs.Misses.{view_missed}
 use Rattle.session_law.proofs.Ones.{at_view}

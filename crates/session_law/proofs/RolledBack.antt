@@ -37,7 +37,7 @@ use Rattle.cnvm_session.specs.Marks.{rolls_back_of}
 use Rattle.cnvm_session.specs.Outcomes.{answer_of_call, answer_of_marked_call, answer_of_recovery}
 use Rattle.cnvm_session.specs.Outcomes.{answer_of_marked_recovery, RecoversBy}
 use Rattle.cnvm_session.specs.Outcomes as outcomes
-use Rattle.session_law.specs.Source.{sizes_of}
+use Rattle.cnvm_session.specs.Pool.{sizes_of}
 use Rattle.session_law.specs.Words.{AreWords}
 use Rattle.session_law.specs.Agrees.{Agrees}
 use Rattle.session_law.specs.State.{Pending, Standing, Ready, Down, Unusable, SourceState}

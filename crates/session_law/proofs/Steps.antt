@@ -38,7 +38,7 @@ use Rattle.cnvm_session.specs.Outcomes.{RecoversUnmarked, RecoversBy}
 use Rattle.cnvm_session.specs.Outcomes as outcomes
 use Rattle.cnvm_session.specs.Commands as commanded
 use Rattle.cnvm_session.specs.Commands.{fallen}
-use Rattle.session_law.specs.Source.{sizes_of}
+use Rattle.cnvm_session.specs.Pool.{sizes_of}
 use Rattle.session_law.specs.Agrees.{Agrees}
 use Rattle.session_law.specs.State.{Pending, SourceState}
 use Rattle.session_law.specs.Holds.{OwesOne, OwesMarked}

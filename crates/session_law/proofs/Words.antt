@@ -22,7 +22,8 @@ use Rattle.c_types.specs.Shapes.{shapes_of}
 use Rattle.pm_machine.specs.declared.image.Image.{Image}
 use Rattle.recovery.specs.Found.{entry_words, recorded}
 use Rattle.cnvm_session.specs.declared.program.Program.{Program}
-use Rattle.session_law.specs.Source.{sizes_of, source_pool}
+use Rattle.cnvm_session.specs.Pool.{sizes_of}
+use Rattle.session_law.specs.Source.{source_pool}
 use Rattle.session_law.specs.Words.{AreWords, HasPoolWords}
 use Rattle.session_law.specs.State.{SourceState}
 use Rattle.session_law.specs.Holds.{HoldsPool}

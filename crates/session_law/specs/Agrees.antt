@@ -15,9 +15,10 @@ use Rattle.pm_machine.specs.Machine.{Finished, mrun}
 use Rattle.run_law.specs.Sound.{IsSoundRun}
 use Rattle.cnvm_session.specs.declared.program.Program.{Program}
 use Rattle.cnvm_session.specs.Commands.{tx_parameters}
+use Rattle.cnvm_session.specs.Pool.{sizes_of}
 use Rattle.session_law.specs.Words.{AreWords, HasPoolWords}
 use Rattle.abort_law.specs.Records.{records_marked}
-use Rattle.session_law.specs.Source.{sizes_of, source_parameters, LogsStores, LogsFirst}
+use Rattle.session_law.specs.Source.{source_parameters, LogsStores, LogsFirst}
 use Rattle.session_law.specs.Source.{outcome_with, source_pool, HasSourceHeaders}
 
 -- a run ends as the outcome says: with its value, on a heap that holds its pool, or with its trap

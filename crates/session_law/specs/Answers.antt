@@ -23,7 +23,8 @@ use Rattle.cnvm_session.specs.declared.answer.Answer.TheVariants as answer
 use Rattle.cnvm_session.specs.declared.program.Program.{Program}
 use Rattle.cnvm_session.specs.Commands.{call_number}
 use Rattle.cnvm_session.specs.Marks.{rolls_back_of}
-use Rattle.session_law.specs.Source.{sizes_of, source_parameters, ComesTo}
+use Rattle.cnvm_session.specs.Pool.{sizes_of}
+use Rattle.session_law.specs.Source.{source_parameters, ComesTo}
 use Rattle.session_law.specs.State.{Pending, Standing, Ready, Down, Unusable, SourceState}
 use Rattle.session_law.specs.State.{standing_as, done_with}
 use Rattle.session_law.specs.Marked.{IsDoneOn, IsUndoneOn, IsConcludedOn}
@@ -33,7 +34,7 @@ use Rattle.session_law.specs.Opened.{opened_heap}
 abbrev pub Refused : Answer → SourceState → Answer → SourceState → Type 0
 Refused why s a t = (a ≡ why) × (t ≡ s)
 
--- The transaction is done: it comes to this value and to the next pool, with this many logged
+-- The transaction is done: it comes to this value and to the next pool, with this number of logged
 -- stores.
 abbrev pub IsDoneWith : Program → SourceState → (tx : ℕ) → List ℤ → (value : ℤ) → (logged : ℕ)
     → Standing → SourceState → Type 0

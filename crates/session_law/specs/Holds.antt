@@ -22,7 +22,8 @@ use Rattle.cnvm_session.specs.declared.mode.Mode.TheVariants as mode
 use Rattle.cnvm_session.specs.declared.program.Program.{Program}
 use Rattle.cnvm_session.specs.Commands.{tx_parameters}
 use Rattle.cnvm_session.specs.Marks.{rolls_back_of}
-use Rattle.session_law.specs.Source.{sizes_of, source_pool, HasSourceHeaders}
+use Rattle.cnvm_session.specs.Pool.{sizes_of}
+use Rattle.session_law.specs.Source.{source_pool, HasSourceHeaders}
 use Rattle.session_law.specs.Words.{AreWords, HasPoolWords}
 use Rattle.session_law.specs.State.{Pending, Standing, Ready, Down, Unusable, SourceState}
 
@@ -32,9 +33,9 @@ pub record HoldsPool (program : Program) (h : Words) (s : SourceState) : Type 0 
   pub pool : source_pool program h ≡ s.pool
   pub words : HasPoolWords s.pool
 
--- At rest the device is on and each line has one version. The view is that of a pool with this many
--- transactions done and this value of the last, no record is valid, and the heap holds the source's
--- pool. `super` has the words of lines 0 and 1.
+-- At rest the device is on and each line has one version. The view is that of a pool with the
+-- state's number of transactions done and value of the last, no record is valid, and the heap holds
+-- the source's pool. `super` has the words of lines 0 and 1.
 pub record IsResting (program : Program) (super : Words) (d : Device) (s : SourceState) :
     Type 0 where
   pub on : d.on ≡ true

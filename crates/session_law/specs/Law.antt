@@ -12,7 +12,7 @@ use Rattle.pmem.specs.declared.answer.Phase.TheVariants as phase
 use Rattle.pool_layout.specs.declared.places.TheConstants.{LAST, SEAL}
 use Rattle.pool_layout.specs.Sizes.{heap_words, pool_lines}
 use Rattle.pool_layout.specs.Image.{image_words}
-use Rattle.pool_layout.specs.Good.{magic}
+use Rattle.pool_layout.specs.Good.{sizes_words}
 use Rattle.pool_layout.specs.Opened.{IsOpened}
 use Rattle.pool_map.specs.declared.trap.TrapKind.{TrapKind}
 use Rattle.pool_map.specs.PoolMap.{PoolMap, empty_pool}
@@ -36,19 +36,20 @@ use Rattle.cnvm_session.specs.Marks.{rolls_back_of}
 use Rattle.cnvm_session.specs.Steps.{most_of_program}
 use Rattle.cnvm_session.specs.Laws.{IsRefused}
 use Rattle.cnvm_session.specs.Outcomes.{Opens}
+use Rattle.cnvm_session.specs.Pool.{sizes_of, wanted_of}
 use Rattle.args_log.specs.Created.{creation_events}
 use Rattle.c_meaning.specs.Transaction.{Outcome, Done}
 use Rattle.ir.specs.declared.function.IrFunction.{IrFunction}
 use Rattle.ir.specs.declared.site.Site.{Site}
 use Rattle.session_law.specs.Logged.{AreLogged, FillsLog}
-use Rattle.session_law.specs.Source.{sizes_of, LogsFirst, ComesTo, source_pool, HasSourceHeaders}
+use Rattle.session_law.specs.Source.{LogsFirst, ComesTo, source_pool, HasSourceHeaders}
 use Rattle.session_law.specs.Words.{AreWords, HasPoolWords}
 use Rattle.session_law.specs.Agrees.{Agrees}
 use Rattle.session_law.specs.State.{Pending, Down, SourceState, standing_as, created}
 use Rattle.session_law.specs.State as state
 use Rattle.session_law.specs.Marked.{ComesOn}
 use Rattle.session_law.specs.Answers.{HasSeal, IsConcluded, Answers}
-use Rattle.session_law.specs.Opened.{wanted_of, opened}
+use Rattle.session_law.specs.Opened.{opened}
 use Rattle.session_law.specs.Holds.{OwesOne, OwesMarked, Holds}
 use Rattle.session_law.specs.History.{recovered_by, LeadsTo, calls_in, answered_in, IsPart, HasDone}
 use Rattle.session_law.specs.Ran.{found_by, Moment, SessionStep, Ran, fresh_moment, OpenStep}
@@ -149,6 +150,17 @@ PhaseLaw =
     Agrees program → AreWords args → Holds program super m d s
     → Commanded program (command.Call name args) m d (answer.Stopped at) n b k k1 →
     Images (HasPhase at s) b.cache
+
+-- The same of a recovery that was stopped, after a power cut and of an opened image.
+abbrev pub RecoveryPhaseLaw : Type 0
+RecoveryPhaseLaw =
+    ((program : Program) (super : Words) (choice : Choice) (x y : Moment) (at : Phase) →
+    Agrees program → Holds program super x.mode x.device x.state →
+    SessionStep program super (command.Power choice) x (answer.Stopped at) y →
+    Images (HasPhase at y.state) y.device.cache)
+    × ((program : Program) (words : List ℤ) (d : Device) (k : ℕ) (y : Moment) (at : Phase) →
+    Agrees program → AreWords words → IsOpened (wanted_of program) words →
+    OpenStep program words d k (answer.Stopped at) y → Images (HasPhase at y.state) y.device.cache)
 
 -- The device holds this heap, word for word, and this last value.
 pub record IsRolledBack (program : Program) (h : Words) (last : ℤ) (b : Device) : Type 0 where
@@ -275,10 +287,9 @@ StepsLaw = RecoveryStepsLaw × CallStepsLaw
 abbrev pub super_words : Program → Words
 super_words program k =
     slice_index_or
-    (magic ∷ pos 2 ∷ pos (sizes_of program).slots ∷ pos (sizes_of program).records
-    ∷ pos (sizes_of program).root_words ∷ pos (sizes_of program).ticks
-    ∷ pos 0 ∷ pos 0 ∷ slice_index_or program.digest 0 (pos 0) ∷ slice_index_or program.digest 1
-    (pos 0) ∷ slice_index_or program.digest 2 (pos 0)
+    (sizes_words (sizes_of program)
+    ++ pos 0 ∷ pos 0 ∷ slice_index_or program.digest 0 (pos 0)
+    ∷ slice_index_or program.digest 1 (pos 0) ∷ slice_index_or program.digest 2 (pos 0)
     ∷ slice_index_or program.digest 3 (pos 0) ∷ [])
     k (pos 0)
 
@@ -393,7 +404,7 @@ UnchangedLaw =
     IsRefused c a → SessionStep program super c x a y →
     (y.device ≡ x.device) × (y.state ≡ x.state) × (y.history ≡ x.history) × (y.steps ≡ x.steps)
 
--- A chain takes at most this many steps for each of its commands.
+-- A chain takes at most `most_of_program` steps for each of its commands.
 abbrev pub BoundLaw : Type 0
 BoundLaw =
     (program : Program) (super : Words) (commands : List Command) (answers : List Answer)

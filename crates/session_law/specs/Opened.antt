@@ -1,33 +1,22 @@
 -- What the source knows of an image that is opened. If the image is sealed, the transaction of its
 -- record is owed, on the pool that its log restores; else nothing is owed, and the pool is the
 -- image's own. If it has a mark, the pool is unusable.
-use Rattle.std.specs.Prelude.{if◌then◌else◌, length, Some, None, pos}
+use Rattle.std.specs.Prelude.{if◌then◌else◌, Some, None, pos}
 use Rattle.std.specs.Ordering.{int_eq}
 use Rattle.cache_model.specs.Cache.{Words}
 use Rattle.pool_layout.specs.declared.places.TheConstants.{LAST, DONE, MARK, FUNCTION}
 use Rattle.pool_layout.specs.declared.places.Place.TheVariants.{Heap}
-use Rattle.pool_layout.specs.declared.wanted.Wanted.{Wanted}
 use Rattle.pool_layout.specs.Places as places
 use Rattle.pool_layout.specs.Image.{is_sealed}
 use Rattle.pool_layout.specs.Restored.{restored}
-use Rattle.c_types.specs.Shapes.{shapes_of, transactions_of}
 use Rattle.clobber_log.specs.Logs.{attempt_in}
 use Rattle.args_log.specs.Pending.{tx_number}
 use Rattle.tx_run.specs.Standing.{trap_of_mark}
 use Rattle.recovery.specs.Found.{recorded}
 use Rattle.cnvm_session.specs.declared.program.Program.{Program}
-use Rattle.session_law.specs.Source.{sizes_of, source_pool}
+use Rattle.cnvm_session.specs.Pool.{sizes_of}
+use Rattle.session_law.specs.Source.{source_pool}
 use Rattle.session_law.specs.State.{Pending, Standing, Down, Unusable, SourceState}
-
--- the pool that an image must fit
-abbrev pub wanted_of : Program → Wanted
-wanted_of program =
-    record {
-      sizes = sizes_of program;
-      digest = program.digest;
-      txs = length (transactions_of program.typed);
-      structs = length (shapes_of program.typed).structs;
-    }
 
 abbrev pub opened_heap : Program → Words → Words
 opened_heap program image =

@@ -5,7 +5,6 @@ use Rattle.std.specs.Prelude.{ℕ, ◌+◌, ◌*◌, ◌≡◌, if◌then◌else
 use Rattle.std.specs.Prelude.{Option, option_map, ℤ}
 use Rattle.std.specs.Option.{option_map_or}
 use Rattle.cache_model.specs.Cache.{Words}
-use Rattle.pool_layout.specs.declared.limits.Sizes.{Sizes}
 use Rattle.pool_layout.specs.Headers.{HasHeaders}
 use Rattle.pool_map.specs.PoolMap.{PoolMap}
 use Rattle.pool_map.specs.declared.trap.TrapKind.TheVariants.{LogFull}
@@ -23,10 +22,8 @@ use Rattle.code_meaning.specs.Whole.{whole}
 use Rattle.lower.specs.Program.{lowered}
 use Rattle.lower_law.specs.Law.{entry_in}
 use Rattle.cnvm_session.specs.declared.program.Program.{Program}
+use Rattle.cnvm_session.specs.Pool.{sizes_of}
 use Rattle.session_law.specs.Logged.{stored_at, AreLogged, StoreAt, stores_in, AreLoggedFirst}
-
-abbrev pub sizes_of : Program → Sizes
-sizes_of program = program.image.parts.sizes
 
 abbrev pub program_tables : Program → Tables
 program_tables program = tables_of (tree_of program.typed)
@@ -52,7 +49,7 @@ store_sites program pool tx args =
     stored_at (option_map_or (deeds_in (lowered program.typed) (sizes_of program).ticks pool args)
     (entry_in tx (lowered program.typed).functions) [])
 
--- the transaction's run does this many logged stores until it ends
+-- the number of logged stores that the transaction's run does until it ends
 abbrev pub LogsStores : Program → PoolMap → (tx : ℕ) → List ℤ → (logged : ℕ) → Type 0
 LogsStores program pool tx args logged =
     AreLogged (lowered program.typed).functions (store_sites program pool tx args) logged
@@ -64,8 +61,8 @@ run_stores program pool tx args =
     (option_map_or (deeds_in (lowered program.typed) (sizes_of program).ticks pool args)
     (entry_in tx (lowered program.typed).functions) [])
 
--- the run of a marked transaction does this many logged stores until it ends: those at logged
--- sites, and the first to each heap word
+-- the number of logged stores that the run of a marked transaction does until it ends: those at
+-- logged sites, and the first to each heap word
 abbrev pub LogsFirst : Program → PoolMap → (tx : ℕ) → List ℤ → (logged : ℕ) → Type 0
 LogsFirst program pool tx args logged =
     AreLoggedFirst (lowered program.typed).functions [] (run_stores program pool tx args) logged

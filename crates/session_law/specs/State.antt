@@ -5,7 +5,7 @@ use Rattle.std.specs.Prelude.{ℕ, suc, List, Option, ℤ, pos}
 use Rattle.pool_map.specs.declared.trap.TrapKind.{TrapKind}
 use Rattle.pool_map.specs.PoolMap.{PoolMap, empty_pool}
 use Rattle.cnvm_session.specs.declared.program.Program.{Program}
-use Rattle.session_law.specs.Source.{sizes_of}
+use Rattle.cnvm_session.specs.Pool.{sizes_of}
 
 pub record Pending : Type 0 where
   pub tx : ℕ

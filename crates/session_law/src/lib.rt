@@ -9,7 +9,7 @@
 ghost use Rattle.session_law.specs.Law.{SessionLaw, SealedLaw, PhaseLaw, StepsLaw, CreatedLaw};
 ghost use Rattle.session_law.specs.Law.{OpenedLaw, SessionRunLaw, KeptLaw, HistoryLaw, BegunLaw};
 ghost use Rattle.session_law.specs.Law.{WholeLaw, UnchangedLaw, BoundLaw, ScriptLaw, DeterminedLaw};
-ghost use Rattle.session_law.specs.Law.{FullLaw};
+ghost use Rattle.session_law.specs.Law.{FullLaw, RecoveryPhaseLaw};
 ghost use Rattle.session_law.specs.Law.{MarkedDeterminedLaw, RollbackLaw};
 
 /// Each command of a session is answered as the source says. The function does nothing.
@@ -17,6 +17,7 @@ pub fn law()
     ensures session { SessionLaw }
     ensures sealed { SealedLaw }
     ensures phase { PhaseLaw }
+    ensures recovery_phase { RecoveryPhaseLaw }
     ensures steps { StepsLaw }
     ensures created { CreatedLaw }
     ensures opened { OpenedLaw }

@@ -13,7 +13,7 @@ abbrev pub SizeLaw : Type 0
 SizeLaw = (tree : Program) (tokens : List Placed) → SpellsProgram tokens (tree_of tree)
     → whole (lowered tree).functions ≤ 4 * length tokens
 
--- the bound on a call's steps allows for so many instructions; it counts the tokens by their lines,
+-- the bound on a call's steps allows for these instructions; it counts the tokens by their lines,
 -- which the parsed tree keeps
 abbrev pub AllowedLaw : Type 0
 AllowedLaw = (tree : Program) (tokens : List Placed) → SpellsProgram tokens (tree_of tree)

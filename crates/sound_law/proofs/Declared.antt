@@ -2,7 +2,7 @@
 -- scope are left at its end.
 use Rattle.std.proofs.Common.{◌≡◌, ℕ, zero, suc, ◌+◌, ◌-◌, ◌≤◌, ℤ, pos, Bool, true, false, List, []}
 use Rattle.std.proofs.Common.{◌∷◌, ◌++◌, length, refl, sym, ap, ◌∙◌, arith}
-use Rattle.std.specs.Prelude.{Option, None, Some, if◌then◌else◌, is_some, option_map, drop}
+use Rattle.std.specs.Prelude.{Option, None, Some, if◌then◌else◌, option_map, drop}
 use Rattle.std.specs.Prelude.{option_and_then, slice_get, slice_index_or, bytes_eq}
 use Rattle.std.proofs.lemmas.Slice.Eq.{bytes_eq-Decides}
 use Rattle.c_tree.specs.ItemTree.{ParameterTree}
@@ -11,6 +11,7 @@ use Rattle.c_types.specs.Tables.{Tables, index_of, declared_type}
 use Rattle.c_types.specs.Expressions.{Scope, type_in, or_else, variable_type}
 use Rattle.c_types.specs.Statements.{scope_declared, is_declared}
 use Rattle.c_types.specs.Declarations.{scopes_after_parameter, scopes_after_parameters}
+use Rattle.c_types.proofs.Index.{is_some_None}
 use Rattle.c_meaning.specs.Locals.{Local, scopes_of, assigned, oldest, bound, local_declared}
 use Rattle.typed_law.specs.Types.{StaticType, value_type}
 use Rattle.typed_law.specs.Programs.{AreParameters}
@@ -61,13 +62,6 @@ last_type x name ty (n ∷ ns) (y ∷ ys) h =
     by_test false (Some i) None e = e
     by_test false (Some i) (Some j) e = e
 
-none_of : (o : Option ℕ) → is_some o ≡ false → o ≡ None
-none_of None e = refl
-none_of (Some j) e = absurd (true_false e)
-  where
-    true_false : true ≡ false → ⊥
-    true_false e = cc
-
 or_none : (a b : Option ValueType) → or_else (or_else a None) b ≡ or_else a b
 or_none None b = refl
 or_none (Some ty) b = refl
@@ -92,7 +86,7 @@ same_declared name ty (s ∷ ss) u paired new same x =
   where
     absent : bytes_eq x name ≡ true → index_of x s.names ≡ None
     absent e = ap (λ (y : List ℕ). index_of y s.names) ((bytes_eq-Decides x name).0 e)
-        ∙ none_of (index_of name s.names) new
+        ∙ is_some_None (index_of name s.names) new
 
     by_test : (b : Bool) → bytes_eq x name ≡ b
         → or_else (or_else (type_in x s) (if b then Some ty else None)) (variable_type x ss)

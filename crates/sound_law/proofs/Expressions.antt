@@ -14,7 +14,7 @@ use Rattle.pool_map.specs.PoolMap.{PoolMap}
 use Rattle.pool_map.specs.PoolFits.{PoolFits}
 use Rattle.pool_map.specs.Checks.{is_zero}
 use Rattle.c_meaning.specs.declared.trap_at.TrapAt.{TrapAt}
-use Rattle.c_meaning.specs.declared.word.Word.{Word}
+use Rattle.pool_map.specs.declared.word.PoolWord.{PoolWord}
 use Rattle.c_meaning.specs.Locals.{Local, scopes_of}
 use Rattle.c_meaning.specs.Meaning.{Out, Got, Stops, Calls, then_do, tick, or_trap, loaded, strict}
 use Rattle.c_meaning.specs.Meaning.{at_zero, both, either, binary_means, called, value_of}
@@ -60,7 +60,7 @@ module _ (t : Tables) where
   abbrev pub Leaves : {A : Type 0} → Out A → Type 0
   Leaves o = Past o (λ a p k. Fits p)
 
-  pub loaded_leaves : (r : Result Word TrapAt) (p : PoolMap) (k : ℕ) → Fits p
+  pub loaded_leaves : (r : Result PoolWord TrapAt) (p : PoolMap) (k : ℕ) → Fits p
       → Leaves (loaded r p k)
   loaded_leaves (Ok w) p k fits = fits
   loaded_leaves (Err trap) p k fits = tt

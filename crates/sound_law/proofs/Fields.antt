@@ -1,20 +1,23 @@
 -- A field of the root, a field after `->`, a new object and a freed one find what they ask
 -- for.
-use Rattle.std.proofs.Common.{◌≡◌, ℕ, zero, suc, ◌+◌, ◌≤◌, min, ◌^◌, ◌-◌, ℤ, pos, negsuc, Bool}
+use Rattle.std.proofs.Common.{◌≡◌, ℕ, zero, suc, ◌≤◌, min, ◌^◌, ◌-◌, ℤ, pos, negsuc, Bool}
 use Rattle.std.proofs.Common.{true}
-use Rattle.std.proofs.Common.{false, List, [], ◌∷◌, length, map, refl, sym, ap, ◌∙◌, subst, arith}
+use Rattle.std.proofs.Common.{false, List, [], length, map, refl, sym, ap, ◌∙◌, subst, arith}
 use Rattle.std.proofs.Common.{IfSome, IsSomeAnd, ⊎_elim, ◌≢◌}
 use Rattle.std.specs.Prelude.{Option, None, Some, Result, Ok, Err, slice_get, nat_eq}
 use Rattle.std.specs.Prelude.{if◌then◌else◌}
 use Rattle.std.specs.Option.{option_map_or}
 use Rattle.std.proofs.lemmas.Bool.Decides.{eqb_tells}
+use Rattle.std.proofs.lemmas.Bool.{true≢false}
+use Rattle.std.proofs.lemmas.Option.{same_Some}
+use Rattle.nvm_base.proofs.Tests.{le_true}
 use Rattle.c_tree.specs.ExprTree.{ExprTree, Ident}
 use Rattle.c_tree.specs.ExprTree as expr
 use Rattle.c_tree.specs.ItemTree.{FieldTree, LengthTree}
 use Rattle.c_tree.specs.StmtTree.{TypeTree}
 use Rattle.c_tree.specs.StmtTree as stmt
 use Rattle.c_types.specs.Tables.{Tables, StructTree, field_named, root_struct, struct_named}
-use Rattle.c_types.specs.Tables.{words_of_struct, number_at, numbered_up_to}
+use Rattle.c_types.specs.Tables.{words_of_struct, number_at, pointed_struct}
 use Rattle.c_types.specs.Expressions.{type_of}
 use Rattle.c_types.specs.Shapes.{field_shape, struct_shape, shapes_in, root_fields}
 use Rattle.pool_map.specs.PoolFits.{PoolFits, ObjectFits, words_of, struct_at}
@@ -24,16 +27,15 @@ use Rattle.pool_map.specs.declared.shapes.StructShape.{StructShape}
 use Rattle.pool_map.specs.declared.trap.TrapKind.{TrapKind}
 use Rattle.pool_map.specs.declared.trap.TrapKind.TheVariants as trap
 use Rattle.pool_map.specs.Checks.{then_on}
-use Rattle.c_meaning.specs.declared.word.Word.TheVariants.{Root, Field}
+use Rattle.pool_map.specs.declared.word.PoolWord.TheVariants.{Root, Field}
 use Rattle.c_meaning.specs.Locals.{Local, scopes_of}
-use Rattle.c_meaning.specs.Access.{struct_slot, is_struct_kind, pointed_struct, struct_pointed_by}
+use Rattle.c_meaning.specs.Access.{struct_slot, is_struct_kind, struct_pointed_by}
 use Rattle.c_meaning.specs.Access.{struct_word_at, new_object}
 use Rattle.ir.specs.WellFormed.{struct_of}
 use Rattle.lower.specs.Names.{struct_kind_at, kind_named}
-use Rattle.lower.proofs.Few.{le_true}
 use Rattle.lower.proofs.Sane.{IsSane, IsKindOf, index_of_in, kind_of_struct}
 use Rattle.code_meaning.specs.Code.{fields_of}
-use Rattle.lower_law.proofs.Fields.{new_word}
+use Rattle.lower_law.proofs.Fields.{new_word, numbered_few}
 use Rattle.typed_law.specs.Types.{StaticType, Number, PointerTo, NullPointer, value_type}
 use Rattle.typed_law.specs.Types.{IsPointer, IsWritten, HasValueField, HasArray}
 use Rattle.typed_law.specs.Programs.{IsWellTyped}
@@ -122,10 +124,7 @@ into_slot p kind n (pos (suc b)) r have h = by_object (object_at p (suc b)) refl
         same : nat_eq object.kind kind ≡ true → object.kind ≡ kind
         same e = ⊎_elim (λ (d : (nat_eq object.kind kind ≡ true) × (object.kind ≡ kind)). d.1)
             (λ (d : (nat_eq object.kind kind ≡ false) × (object.kind ≢ kind)).
-            absurd (true_false (sym e ∙ d.0))) (eqb_tells object.kind kind)
-          where
-            true_false : true ≡ false → ⊥
-            true_false e = cc
+            absurd (true≢false (sym e ∙ d.0))) (eqb_tells object.kind kind)
     by_kind object false at e = tt
 
     by_object : (o : Option Object) → object_at p (suc b) ≡ o
@@ -133,14 +132,6 @@ into_slot p kind n (pos (suc b)) r have h = by_object (object_at p (suc b)) refl
         else Err trap.Stale) (λ s. then_on r (λ i. Ok (Field s i))))
     by_object None at = tt
     by_object (Some object) at = by_kind object (nat_eq object.kind kind) at refl
-
-numbered_few : (n i : ℕ) (ss : List StructTree) → numbered_up_to n i ss ≤ length ss
-numbered_few n i [] = omega arith
-numbered_few n i (s ∷ ss) = by_test _ (numbered_up_to n (i + 1) ss) (numbered_few n (i + 1) ss)
-  where
-    by_test : (b : Bool) (m : ℕ) → m ≤ length ss → (if b then 1 else 0) + m ≤ suc (length ss)
-    by_test true m le = omega (arith, le)
-    by_test false m le = omega (arith, le)
 
 module _ (t : Tables) (sane : IsSane t) (typed : IsWellTyped t) where
   number_is : (i : ℕ) → struct_kind_at t (Some i) ≡ number_at t i
@@ -219,7 +210,7 @@ module _ (t : Tables) (sane : IsSane t) (typed : IsWellTyped t) where
       → FindsWord t ls p (expr.Arrow base place name) b index
   arrow_finds i base place name ls p b index is small h fits =
       let at : struct_pointed_by t ls base ≡ Some i = points_to ls base i is in
-      let same : h.owner ≡ small.0 = some_same h.owner small.0 (sym h.there ∙ small.1) in
+      let same : h.owner ≡ small.0 = same_Some h.owner small.0 (sym h.there ∙ small.1) in
       let few : words_of_struct h.owner ≤ 15 =
       subst (λ (s : StructTree). words_of_struct s ≤ 15) (sym same) small.2 in (
         small_numbered i (struct_pointed_by t ls base) at small,
@@ -228,9 +219,6 @@ module _ (t : Tables) (sane : IsSane t) (typed : IsWellTyped t) where
             (struct_word_at t (Some i) name.text index)
             (have_words i h.owner p h.there few fits) (words_below i name.text index h)),
       )
-    where
-      some_same : (x y : StructTree) → Some x ≡ Some y → x ≡ y
-      some_same x y e = cc
 
   -- a new object
   pub new_leaves : (name : Ident) (x : StaticType) (p : PoolMap) → IsPointer t name.text x

@@ -1,7 +1,8 @@
 -- Functions, calls, and the law.
 use Rattle.std.proofs.Common.{◌≡◌, ℕ, zero, suc, ℤ, Bool, true, false, List, [], ◌∷◌, length, refl}
 use Rattle.std.proofs.Common.{subst, sym}
-use Rattle.std.specs.Prelude.{Option, None, Some, slice_get, if◌then◌else◌}
+use Rattle.std.specs.Prelude.{Option, Some, slice_get, if◌then◌else◌}
+use Rattle.std.proofs.lemmas.Option.{none-some}
 use Rattle.c_tree.specs.ItemTree.{FunctionTree}
 use Rattle.c_tree.specs.Program.{tree_of}
 use Rattle.c_types.specs.Tables.{Tables, tables_of}
@@ -53,13 +54,10 @@ module _ (t : Tables) (sane : IsSane t) (typed : IsWellTyped t) where
       function_sound (calls_of t room) (λ f vs p k. CallFinds t room f vs p k) (calls_sound room)
       (calls_fall t room) i f vs p k is many fits
 
-none_some : {A : Type 0} (x : A) → None ≡ Some x → ⊥
-none_some x e = cc
-
 -- a transaction is one of the functions
 transaction_stands : (fs : List FunctionTree) (i : ℕ) (f : FunctionTree)
     → slice_get (transactions_in fs) i ≡ Some f → (g : ℕ) × (slice_get fs g ≡ Some f)
-transaction_stands [] i f e = absurd (none_some f e)
+transaction_stands [] i f e = absurd (none-some f e)
 transaction_stands (x ∷ fs) i f e =
     by_test x.tx i (λ j e. next (transaction_stands fs j f e)) e
   where
@@ -76,7 +74,7 @@ transaction_stands (x ∷ fs) i f e =
 
 numbered_stands : (fs : List FunctionTree) (number : ℕ) (f : FunctionTree)
     → transaction_in number fs ≡ Some f → (g : ℕ) × (slice_get fs g ≡ Some f)
-numbered_stands fs zero f e = absurd (none_some f e)
+numbered_stands fs zero f e = absurd (none-some f e)
 numbered_stands fs (suc i) f e = transaction_stands fs i f e
 
 outcome_fits : (t : Tables) (o : Out ℤ) → Leaves t o → LeavesFitting (shapes_in t) (outcome o)

@@ -1,10 +1,9 @@
 -- A pool that fits still fits after a store, a free and a new object.
-use Rattle.std.proofs.Common.{◌≡◌, ℕ, zero, suc, ◌-◌, Bool, true, false, List, [], ◌∷◌, length}
+use Rattle.std.proofs.Common.{◌≡◌, ℕ, zero, suc, ◌-◌, Bool, true, false, length}
 use Rattle.std.proofs.Common.{Option, None, Some, IfSome, IsSomeAnd, option_map}
-use Rattle.std.proofs.Common.{set, ℤ, pos, refl, sym, ap, ◌∙◌, subst}
-use Rattle.std.specs.Prelude.{if◌then◌else◌, replicate, slice_index_or}
-use Rattle.std.specs.List.{AllByRecursion}
-use Rattle.std.proofs.lemmas.List.{length-set}
+use Rattle.std.proofs.Common.{set, ℤ, pos, sym, ◌∙◌, subst}
+use Rattle.std.specs.Prelude.{if◌then◌else◌, replicate}
+use Rattle.std.proofs.lemmas.List.{length-set, length-replicate}
 use Rattle.pool_map.specs.declared.object.Object.{Object}
 use Rattle.pool_map.specs.declared.shapes.StructShape.{StructShape}
 use Rattle.pool_map.specs.declared.shapes.Shapes.{Shapes}
@@ -12,26 +11,10 @@ use Rattle.pool_map.specs.PoolFits.{PoolFits, ObjectFits, words_of, struct_at}
 use Rattle.pool_map.specs.PoolMap.{PoolMap, object_at, with_object, blank_object, with_field}
 use Rattle.pool_map.specs.PoolMap.{write, free}
 use Rattle.pool_map.specs.Checks.{has_word, new_at}
-use Rattle.c_meaning.specs.declared.word.Word.{Word}
-use Rattle.c_meaning.specs.declared.word.Word.TheVariants.{Root, Field}
-use Rattle.c_meaning.specs.Access.{write_word}
-
-slot_put : (P : Object → Type 0) (slots : List (Option Object)) (i : ℕ) (o : Option Object)
-    → AllByRecursion (λ slot. IfSome slot P) slots → IfSome o P
-    → AllByRecursion (λ slot. IfSome slot P) (set slots i o)
-slot_put P [] i o all fits = tt
-slot_put P (slot ∷ slots) zero o all fits = (fits, all.1)
-slot_put P (slot ∷ slots) (suc i) o all fits = (all.0, slot_put P slots i o all.1 fits)
-
-slot_all : (P : Object → Type 0) (slots : List (Option Object)) (i : ℕ)
-    → AllByRecursion (λ slot. IfSome slot P) slots → IfSome (slice_index_or slots i None) P
-slot_all P [] i all = tt
-slot_all P (slot ∷ slots) zero all = all.0
-slot_all P (slot ∷ slots) (suc i) all = slot_all P slots i all.1
-
-length_replicate : (n : ℕ) (x : ℤ) → length (replicate n x) ≡ n
-length_replicate zero x = refl
-length_replicate (suc n) x = ap suc (length_replicate n x)
+use Rattle.pool_map.proofs.Fitting.{slot_put, slot_all}
+use Rattle.pool_map.specs.declared.word.PoolWord.{PoolWord}
+use Rattle.pool_map.specs.declared.word.PoolWord.TheVariants.{Root, Field}
+use Rattle.pool_map.specs.Words.{write_word}
 
 module _ (shapes : Shapes) where
   pub object_fits : (w : PoolMap) (q : ℕ) → PoolFits shapes w
@@ -58,7 +41,7 @@ module _ (shapes : Shapes) where
       (field_fits (object_at w q) i v (object_fits w q fits))
   write_fits w q i v false fits = fits
 
-  pub store_fits : (w : PoolMap) (x : Word) (v : ℤ) → PoolFits shapes w
+  pub store_fits : (w : PoolMap) (x : PoolWord) (v : ℤ) → PoolFits shapes w
       → PoolFits shapes (write_word w x v)
   store_fits w (Root i) v fits = (length-set w.root i v ∙ fits.0, fits.1)
   store_fits w (Field q i) v fits = write_fits w q i v (has_word (object_at w q) i) fits
@@ -69,7 +52,7 @@ module _ (shapes : Shapes) where
   blank_fits : (kind words : ℕ) (shape : StructShape)
       → struct_at shapes.structs kind ≡ Some shape → words ≡ words_of shape.fields
       → ObjectFits shapes.structs (blank_object kind words)
-  blank_fits kind words shape at same = rw at (length_replicate words (pos 0) ∙ same)
+  blank_fits kind words shape at same = rw at (length-replicate words (pos 0) ∙ same)
 
   pub new_fits : (w : PoolMap) (kind words : ℕ) (o : Option ℕ) (shape : StructShape)
       → struct_at shapes.structs kind ≡ Some shape → words ≡ words_of shape.fields

@@ -3,6 +3,7 @@ use Rattle.std.proofs.Common.{◌≡◌, ℕ, suc, Bool, true, false, List, [], 
 use Rattle.std.proofs.Common.{refl, sym, ◌∙◌, subst, ◌⊎◌, inl, inr}
 use Rattle.std.specs.Prelude.{Option, None, Some, if◌then◌else◌, option_map}
 use Rattle.std.specs.Prelude.{option_and_then, slice_get, bytes_eq}
+use Rattle.std.proofs.lemmas.Option.{none-some, same_Some}
 use Rattle.c_tree.specs.ExprTree.{ExprTree, Arguments}
 use Rattle.c_tree.specs.ExprTree as expr
 use Rattle.c_tree.specs.ItemTree.{ParameterTree}
@@ -14,12 +15,6 @@ use Rattle.typed_law.specs.Types.{StaticType, Number, PointerTo, NullPointer, va
 use Rattle.typed_law.specs.Expressions.{HasType, IsArray, ArePassed}
 use Rattle.sound_law.specs.Places.{IsLocal}
 use Rattle.sound_law.proofs.Fields.{IsSmall, pointer_small, written_small}
-
-none_some : {A : Type 0} (x : A) → None ≡ Some x → ⊥
-none_some x e = cc
-
-some_same : {A : Type 0} (x y : A) → Some x ≡ Some y → x ≡ y
-some_same x y e = cc
 
 -- the look-up of a name among locals
 abbrev pub local_type : List ℕ → List Local → Option ValueType
@@ -43,7 +38,7 @@ pub is_local : (name : List ℕ) (ls : List Local) (ty : ValueType)
 is_local name ls ty e = there ls (sym (scopes_type name ls) ∙ e)
   where
     there : (ls : List Local) → local_type name ls ≡ Some ty → IsLocal name ls
-    there [] e = none_some ty e
+    there [] e = none-some ty e
     there (l ∷ ls) e = by_test (bytes_eq name l.name) refl (there ls) e
       where
         by_test : (b : Bool) → bytes_eq name l.name ≡ b
@@ -81,12 +76,12 @@ local_small t name ls x all e = there ls all (sym (scopes_type name ls) ∙ e)
   where
     there : (ls : List Local) → AreSmall t (scopes_of ls) → local_type name ls ≡ Some (value_type x)
         → IsSmall t x
-    there [] all e = absurd (none_some (value_type x) e)
+    there [] all e = absurd (none-some (value_type x) e)
     there (l ∷ ls) all e = by_test (bytes_eq name l.name) (there ls all.1) e
       where
         own : Some l.ty ≡ Some (value_type x) → IsSmall t x
         own e = subst (λ (y : StaticType). IsSmall t y) (same_type all.0.0.0 x (sym all.0.0.1
-            ∙ some_same l.ty (value_type x) e)) all.0.0.2
+            ∙ same_Some l.ty (value_type x) e)) all.0.0.2
 
         by_test : (b : Bool) → (local_type name ls ≡ Some (value_type x) → IsSmall t x)
             → (if b then Some l.ty else local_type name ls) ≡ Some (value_type x) → IsSmall t x

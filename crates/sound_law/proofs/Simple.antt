@@ -3,6 +3,7 @@
 use Rattle.std.proofs.Common.{◌≡◌, ℕ, ℤ, pos, List, refl, subst}
 use Rattle.std.specs.Prelude.{Option, None, Some, Result, Ok, Err}
 use Rattle.std.specs.Option.{option_map_or}
+use Rattle.std.proofs.lemmas.Option.{none-some, same_Some}
 use Rattle.c_tree.specs.ExprTree.{ExprTree}
 use Rattle.c_tree.specs.ExprTree as expr
 use Rattle.c_tree.specs.StmtTree.{SimpleTree, InitialTree, DeclarationTree}
@@ -20,7 +21,7 @@ use Rattle.pool_map.specs.declared.trap.TrapKind.TheVariants as trap
 use Rattle.pool_map.specs.PoolMap.{PoolMap, free}
 use Rattle.pool_map.specs.Checks.{then_on}
 use Rattle.c_meaning.specs.declared.trap_at.TrapAt.{TrapAt}
-use Rattle.c_meaning.specs.declared.word.Word.{Word}
+use Rattle.pool_map.specs.declared.word.PoolWord.{PoolWord}
 use Rattle.c_meaning.specs.Locals.{Local, scopes_of, value_named}
 use Rattle.c_meaning.specs.Access.{target_field, struct_pointed_by}
 use Rattle.c_meaning.specs.Operators.{binary_of}
@@ -48,14 +49,8 @@ use Rattle.sound_law.proofs.Expressions.{pointer_sound}
 use Rattle.sound_law.proofs.Declared.{assigned_scopes}
 use Rattle.sound_law.proofs.Ends.{EndsWith, value_ends}
 
-none_some : {A : Type 0} (x : A) → None ≡ Some x → ⊥
-none_some x e = cc
-
 some_none : {A : Type 0} (x : A) → Some x ≡ None → ⊥
 some_none x e = cc
-
-some_same : {A : Type 0} (x y : A) → Some x ≡ Some y → x ≡ y
-some_same x y e = cc
 
 module _ (t : Tables) (sane : IsSane t) (typed : IsWellTyped t) (calls : Calls)
     (found : FunctionTree → List ℤ → PoolMap → ℕ → Type 0)
@@ -119,22 +114,22 @@ module _ (t : Tables) (sane : IsSane t) (typed : IsWellTyped t) (calls : Calls)
   target_there : (target : ExprTree) (name : List ℕ) (x : StaticType)
       → target_local target ≡ Some name → HasType t (scopes_of ls) target x → IsLocal name ls
   target_there (expr.Variable y) name x is h =
-      subst (λ (n : List ℕ). IsLocal n ls) (some_same y.text name is)
+      subst (λ (n : List ℕ). IsLocal n ls) (same_Some y.text name is)
       (is_local y.text ls (value_type x) h)
-  target_there (expr.Number n) name x is h = absurd (none_some name is)
-  target_there expr.Null name x is h = absurd (none_some name is)
-  target_there (expr.Call y all) name x is h = absurd (none_some name is)
-  target_there (expr.Root y) name x is h = absurd (none_some name is)
-  target_there (expr.New place y) name x is h = absurd (none_some name is)
-  target_there (expr.Arrow base place y) name x is h = absurd (none_some name is)
-  target_there (expr.Index a place i) name x is h = absurd (none_some name is)
-  target_there (expr.Unary op place a) name x is h = absurd (none_some name is)
-  target_there (expr.Binary op place a b) name x is h = absurd (none_some name is)
+  target_there (expr.Number n) name x is h = absurd (none-some name is)
+  target_there expr.Null name x is h = absurd (none-some name is)
+  target_there (expr.Call y all) name x is h = absurd (none-some name is)
+  target_there (expr.Root y) name x is h = absurd (none-some name is)
+  target_there (expr.New place y) name x is h = absurd (none-some name is)
+  target_there (expr.Arrow base place y) name x is h = absurd (none-some name is)
+  target_there (expr.Index a place i) name x is h = absurd (none-some name is)
+  target_there (expr.Unary op place a) name x is h = absurd (none-some name is)
+  target_there (expr.Binary op place a b) name x is h = absurd (none-some name is)
 
   abbrev Ends : StmtEnd → Type 0
   Ends e = EndsWith t (scopes_of ls) e
 
-  stored_ends : (r : Result Word TrapAt) (v : ℤ) (p : PoolMap) (k : ℕ) → Fits t p
+  stored_ends : (r : Result PoolWord TrapAt) (v : ℤ) (p : PoolMap) (k : ℕ) → Fits t p
       → Ends (stored_end r v ls p k)
   stored_ends (Ok w) v p k fits = (refl, store_fits (shapes_in t) p w v fits)
   stored_ends (Err trap) v p k fits = tt

@@ -18,7 +18,7 @@ use Rattle.pool_map.specs.declared.trap.TrapKind.TheVariants as trap
 use Rattle.pool_map.specs.PoolMap.{PoolMap}
 use Rattle.pool_map.specs.Checks.{is_zero}
 use Rattle.c_meaning.specs.declared.trap_at.TrapAt.{TrapAt}
-use Rattle.c_meaning.specs.declared.word.Word.{Word}
+use Rattle.pool_map.specs.declared.word.PoolWord.{PoolWord}
 use Rattle.c_meaning.specs.Locals.{Local, bound, value_named}
 use Rattle.c_meaning.specs.Operators.{binary_of}
 use Rattle.c_meaning.specs.Meaning.{Out, Got, Stops, StmtEnd, Next, Broke, Again, Gave, Traps}
@@ -112,7 +112,7 @@ tick_below : (stop : TrapAt) (k : ℕ) (go : ℕ → StmtEnd) → ((j : ℕ) →
 tick_below stop zero go next = tt
 tick_below stop (suc k) go next = below_more k (suc k) (go k) (omega arith) (next k)
 
-loaded_falls : (r : Result Word TrapAt) (p : PoolMap) (k : ℕ) → Falls k (loaded r p k)
+loaded_falls : (r : Result PoolWord TrapAt) (p : PoolMap) (k : ℕ) → Falls k (loaded r p k)
 loaded_falls (Ok w) p k = same k
 loaded_falls (Err trap) p k = tt
 
@@ -239,7 +239,7 @@ module _ (t : Tables) (calls : Calls) (fall : CallsFall calls) where
   operands_fall (expr.Unary op place a) ls p k = same k
   operands_fall (expr.Binary op place a b) ls p k = same k
 
-  stored_below : (r : Result Word TrapAt) (v : ℤ) (ls : List Local) (p : PoolMap) (k : ℕ)
+  stored_below : (r : Result PoolWord TrapAt) (v : ℤ) (ls : List Local) (p : PoolMap) (k : ℕ)
       → EndsBelow k (stored_end r v ls p k)
   stored_below (Ok w) v ls p k = same k
   stored_below (Err trap) v ls p k = tt

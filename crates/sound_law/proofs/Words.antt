@@ -5,20 +5,22 @@ use Rattle.std.proofs.Common.{arith, rules}
 use Rattle.std.specs.Prelude.{Option, None, Some, Result, Ok, Err, option_map}
 use Rattle.std.specs.Prelude.{slice_get, nat_lt, nat_le, if◌then◌else◌}
 use Rattle.std.specs.Option.{option_map_or}
-use Rattle.std.proofs.lemmas.Option.{slice_get-map}
+use Rattle.std.proofs.lemmas.Option.{slice_get-map, none-some, same_Some}
 use Rattle.std.proofs.lemmas.List.Sums.{sum_by-cons}
+use Rattle.std.proofs.lemmas.Bool.{false≢true, and_parts}
+use Rattle.nvm_base.proofs.Tests.{le_from}
 use Rattle.c_tree.specs.ItemTree.{FieldTree, LengthTree}
 use Rattle.c_types.specs.Tables.{Tables, StructTree, index_of, field_names, field_named, is_length}
 use Rattle.c_types.specs.Tables.{length_words, field_words, field_words_before, field_start}
 use Rattle.c_types.specs.Declarations.{fields_broken}
 use Rattle.c_types.specs.Shapes.{field_shape}
+use Rattle.nvm_base.specs.Naturals.{natural_of}
 use Rattle.pool_map.specs.PoolFits.{words_of_field, words_of}
 use Rattle.pool_map.specs.declared.shapes.FieldShape.{FieldShape}
 use Rattle.pool_map.specs.declared.trap.TrapKind.{TrapKind}
 use Rattle.pool_map.specs.declared.trap.TrapKind.TheVariants as trap
 use Rattle.pool_map.specs.Checks.{then_on, element_in}
-use Rattle.c_meaning.specs.Access.{array_length, first_word, field_elements, word_in_struct}
-use Rattle.lower.proofs.Few.{and_right, le_from}
+use Rattle.c_meaning.specs.Access.{first_word, field_elements, word_in_struct}
 use Rattle.lower.proofs.Sane.{IsSane}
 use Rattle.lower.proofs.Sane as sane
 use Rattle.code_meaning.specs.Code.{words_before}
@@ -32,18 +34,12 @@ abbrev pub Below : ℕ → Result ℕ TrapKind → Type 0
 Below n (Ok i) = i < n
 Below n (Err k) = Unit {0}
 
-none_some : {A : Type 0} (x : A) → None ≡ Some x → ⊥
-none_some x e = cc
-
-some_same : {A : Type 0} (x y : A) → Some x ≡ Some y → x ≡ y
-some_same x y e = cc
-
 -- the words of a field end before those of the struct do
 shape_within : (fs : List FieldShape) (n : ℕ) (f : FieldShape) → slice_get fs n ≡ Some f
     → words_before n fs + words_of_field f ≤ words_of fs
-shape_within [] n f is = absurd (none_some f is)
+shape_within [] n f is = absurd (none-some f is)
 shape_within (x ∷ fs) zero f is =
-    let same : words_of_field x ≡ words_of_field f = ap words_of_field (some_same x f is) in
+    let same : words_of_field x ≡ words_of_field f = ap words_of_field (same_Some x f is) in
     let sum : words_of (x ∷ fs) ≡ words_of_field x + words_of fs =
     sum_by-cons words_of_field x fs in
     omega (arith, same, sum)
@@ -95,12 +91,9 @@ placed t i s name f h is named =
 
 -- an array has as many words as elements, at most 512
 array_words : (n : ℤ) → is_length n ≡ true
-    → (length_words n ≡ array_length n) × (array_length n ≤ 512)
-array_words (pos n) e = (rw e refl, le_from n 512 (and_right (nat_le 1 n) (nat_le n 512) e))
-array_words (negsuc n) e = absurd (false_true e)
-  where
-    false_true : false ≡ true → ⊥
-    false_true e = cc
+    → (length_words n ≡ natural_of n) × (natural_of n ≤ 512)
+array_words (pos n) e = (rw e refl, le_from n 512 (and_parts (nat_le 1 n) (nat_le n 512) e).1)
+array_words (negsuc n) e = absurd (false≢true e)
 
 -- the words of a field are few
 few_words : (o : Option LengthTree) (index : Option ℤ) → IndexFits o index
@@ -170,13 +163,13 @@ word_below s name f index h named indexed =
         let own : field_words f ≡ length_words l.value =
         ap (λ (o : Option LengthTree). option_map_or (λ (l : LengthTree). length_words l.value) o 1)
         long in
-        let many : field_elements s name ≡ array_length l.value =
+        let many : field_elements s name ≡ natural_of l.value =
         ap (λ (o : Option FieldTree). option_map_or (λ (x : FieldTree).
-        option_map_or (λ (l : LengthTree). array_length l.value) x.len 0) o 0) named
+        option_map_or (λ (l : LengthTree). natural_of l.value) x.len 0) o 0) named
         ∙ ap (λ (o : Option LengthTree).
-        option_map_or (λ (l : LengthTree). array_length l.value) o 0)
+        option_map_or (λ (l : LengthTree). natural_of l.value) o 0)
         long in
         let within : before + field_words f ≤ words_of (map field_shape s.fields) = h.within in
         rw (first, many)
-        (element_below (array_length l.value) (min before (2 ^ 64 - 1))
+        (element_below (natural_of l.value) (min before (2 ^ 64 - 1))
         (words_of (map field_shape s.fields)) j (omega (arith, within, own, words.0)))

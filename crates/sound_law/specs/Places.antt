@@ -1,7 +1,5 @@
--- What must be there where a program reads or stores: the local, the struct, the field in it, and
--- the word of the pool. Each of these is a row for a place where the meaning is total by a value
--- of its own: 0 for a local, a field or a word that isn't there, no change by a store to it, NULL
--- for a new object of a struct that isn't there, an offset that stays at the greatest number.
+-- What a program reads or stores exists: the local, the struct, its field, the pool's word. Where one
+-- is missing the meaning gives a default: 0, an unchanged pool, NULL, or the greatest offset.
 use Rattle.std.specs.Prelude.{ℕ, ℤ, ◌≡◌, ◌+◌, ◌-◌, ◌^◌, ◌<◌, ◌≤◌, ◌⊎◌, List, [], ◌∷◌, length, true}
 use Rattle.std.specs.Prelude.{Option, None, Some, Result, Ok, Err, bytes_eq, slice_get}
 use Rattle.c_tree.specs.ExprTree.{ExprTree}
@@ -11,8 +9,8 @@ use Rattle.c_types.specs.Tables.{Tables, StructTree, index_of, field_names, root
 use Rattle.c_types.specs.Tables.{field_words, field_words_before, words_of_struct}
 use Rattle.pool_map.specs.declared.trap.TrapKind.{TrapKind}
 use Rattle.pool_map.specs.PoolMap.{PoolMap, HasField}
-use Rattle.c_meaning.specs.declared.word.Word.{Word}
-use Rattle.c_meaning.specs.declared.word.Word.TheVariants.{Root, Field}
+use Rattle.pool_map.specs.declared.word.PoolWord.{PoolWord}
+use Rattle.pool_map.specs.declared.word.PoolWord.TheVariants.{Root, Field}
 use Rattle.c_meaning.specs.Locals.{Local}
 use Rattle.c_meaning.specs.Access.{struct_pointed_by, word_named}
 use Rattle.typed_law.specs.Programs.{IsStruct}
@@ -23,17 +21,16 @@ IsLocal name [] = ⊥
 IsLocal name (l ∷ ls) = (bytes_eq name l.name ≡ true) ⊎ IsLocal name ls
 
 -- the pool has the word
-abbrev pub InPool : PoolMap → Word → Type 0
+abbrev pub InPool : PoolMap → PoolWord → Type 0
 InPool p (Root i) = i < length p.root
 InPool p (Field s i) = HasField p s i
 
 -- the word that the checks lead to, if they don't trap
-abbrev pub LeadsInto : PoolMap → Result Word TrapKind → Type 0
+abbrev pub LeadsInto : PoolMap → Result PoolWord TrapKind → Type 0
 LeadsInto p (Ok w) = InPool p w
 LeadsInto p (Err trap) = Unit {0}
 
--- a struct that pointers lead to: it is there, keeps the rules, so that each of its words counts
--- once, and is one of those that have a number
+-- the struct that a pointer leads to exists, has a number, and breaks no rule
 abbrev pub IsNumbered : Tables → Option ℕ → Type 0
 IsNumbered t at = (i : ℕ) × (s : StructTree)
     × (at ≡ Some i) × (slice_get t.structs i ≡ Some s) × (words_of_struct s ≤ 15)

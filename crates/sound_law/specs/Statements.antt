@@ -156,8 +156,8 @@ module _ (t : Tables) (calls : Calls) (found : FunctionTree → List ℤ → Poo
   FunctionFinds f vs p k = (length vs ≡ length f.parameters)
       × StatementsFind f.body (bound t f.parameters vs []) p k
 
--- a call when so many more functions may be opened
-abbrev pub CallFinds : Tables → ℕ → FunctionTree → List ℤ → PoolMap → ℕ → Type 0
+-- a call when `room` more functions may be opened
+abbrev pub CallFinds : Tables → (room : ℕ) → FunctionTree → List ℤ → PoolMap → ℕ → Type 0
 CallFinds t zero f vs p k = Unit {0}
 CallFinds t (suc room) f vs p k =
     FunctionFinds t (calls_of t room) (λ f vs p k. CallFinds t room f vs p k) f vs p k

@@ -2,10 +2,11 @@
 
 use std::alloc::{AllocError, Global};
 
-/// Every kind of token, by one of its spellings.
-pub const TOKENS: [&str; 54] = [
-    "name",
-    "1",
+/// The tokens that are no words of the language and no marks, by one of their spellings.
+pub const NAMES: [&str; 2] = ["name", "1"];
+
+/// The words of the language, which are no names.
+pub const WORDS: [&str; 17] = [
     "int64_t",
     "void",
     "struct",
@@ -23,44 +24,15 @@ pub const TOKENS: [&str; 54] = [
     "pm_new",
     "pm_free",
     "abort",
-    "->",
-    "++",
-    "--",
-    "+=",
-    "-=",
-    "<<",
-    ">>",
-    "<=",
-    ">=",
-    "==",
-    "!=",
-    "&&",
-    "||",
-    "+",
-    "-",
-    "*",
-    "/",
-    "%",
-    "<",
-    ">",
-    "&",
-    "^",
-    "|",
-    "!",
-    "~",
-    "=",
-    ".",
-    ",",
-    ";",
-    "(",
-    ")",
-    "{",
-    "}",
-    "[",
-    "]",
 ];
 
-/// Tokens that are told by one name: the token that names the group, the groups that include it,
+/// The marks.
+pub const MARKS: [&str; 35] = [
+    "->", "++", "--", "+=", "-=", "<<", ">>", "<=", ">=", "==", "!=", "&&", "||", "+", "-", "*",
+    "/", "%", "<", ">", "&", "^", "|", "!", "~", "=", ".", ",", ";", "(", ")", "{", "}", "[", "]",
+];
+
+/// Tokens that have one name: the token that names the group, the groups that include it,
 /// and the name.
 #[derive(Clone, Copy)]
 struct Group {
@@ -154,7 +126,7 @@ fn push_tokens<'a>(able: &[&'a str], names: &mut Vec<Name<'a>>) -> Result<(), Al
     Ok(())
 }
 
-/// Whether a group is told of.
+/// Whether a group is named.
 fn applies(group: Group, able: &[&str]) -> bool {
     for token in group.unless {
         if has(able, token) {
@@ -164,7 +136,7 @@ fn applies(group: Group, able: &[&str]) -> bool {
     has(able, group.by)
 }
 
-/// Whether a group that is told of has the token.
+/// Whether a group that is named has the token.
 fn is_grouped(able: &[&str], token: &str) -> bool {
     for group in GROUPS {
         if applies(group, able) && has(group.tokens, token) {

@@ -1,5 +1,6 @@
 //! The C that isn't in the language, and what to write instead.
 
+use crate::could_stand::WORDS;
 use crate::spelled::{Spelled, Within, is, is_name, is_number, is_one};
 use std::alloc::{AllocError, Global};
 
@@ -112,27 +113,6 @@ const NUMBER_TYPES: [&str; 17] = [
     "i64",
     "uint",
     "ulong",
-];
-
-/// Words of the language that are no names.
-const WORDS: [&str; 17] = [
-    "int64_t",
-    "void",
-    "struct",
-    "persistent",
-    "root",
-    "tx",
-    "if",
-    "else",
-    "while",
-    "for",
-    "break",
-    "continue",
-    "return",
-    "NULL",
-    "pm_new",
-    "pm_free",
-    "abort",
 ];
 
 /// Tokens after which a name stands.

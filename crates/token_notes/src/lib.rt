@@ -9,7 +9,7 @@ mod lexical;
 mod spelled;
 mod trap_line;
 
-pub use could_stand::{TOKENS, expected};
+pub use could_stand::{MARKS, NAMES, WORDS, expected};
 pub use left::left_out;
 pub use lexical::{bad_byte, bad_number};
 pub use spelled::{Spelled, first_token, is, is_one};

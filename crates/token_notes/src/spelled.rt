@@ -27,7 +27,7 @@ impl<'a> Spelled<'a> {
         self.word(self.place)
     }
 
-    /// The token that is so many tokens before.
+    /// The token that is n tokens before.
     pub fn before(&self, count: u64) -> &'a [u8] {
         match self.place.checked_sub(count) {
             Some(place) => self.word(place),
@@ -35,7 +35,7 @@ impl<'a> Spelled<'a> {
         }
     }
 
-    /// The token that is so many tokens after.
+    /// The token that is n tokens after.
     pub fn after(&self, count: u64) -> &'a [u8] {
         self.word(self.place.saturating_add(count))
     }

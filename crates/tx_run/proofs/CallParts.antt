@@ -12,7 +12,7 @@ use Rattle.pmem.specs.declared.answer.Phase.{Phase}
 use Rattle.pmem.specs.declared.answer.Phase.TheVariants.{Unsealed, Sealing, Sealed}
 use Rattle.pmem.proofs.Glue.{all_append, part_left, part_right}
 use Rattle.pmem.proofs.Refused.{all_cache, all_on}
-use Rattle.pool_layout.specs.declared.places.TheConstants.{DONE}
+use Rattle.pool_layout.specs.declared.places.TheConstants.{DONE, ARGUMENTS}
 use Rattle.args_log.specs.Next.{number_after}
 use Rattle.args_log.specs.Seal.{payload_events, unsealed_events, sealing_events, seal_events}
 use Rattle.args_log.specs.Sealing as sealing
@@ -20,11 +20,11 @@ use Rattle.args_log.specs.declared.sealing.SealAnswer.TheVariants as seal
 use Rattle.pm_machine.specs.declared.effect.End.{End}
 use Rattle.pm_machine.specs.declared.image.Image.{Image}
 use Rattle.pm_machine.specs.Machine.{State, start}
-use Rattle.pm_machine.specs.Runs.{end_of}
+use Rattle.pm_machine.specs.Runs.{end_of, due_on}
 use Rattle.tx_run.specs.declared.answer.CallAnswer.TheVariants as call
 use Rattle.tx_run.specs.declared.answer.Settled.{Settled}
 use Rattle.tx_run.specs.declared.answer.Settled.TheVariants.{Done, Trap, Off, Failed, NoMemory}
-use Rattle.tx_run.specs.Due.{due_on, due_run, due_seal, due_unsealed, due_call}
+use Rattle.tx_run.specs.Due.{due_run, due_seal, due_unsealed, due_call}
 use Rattle.tx_run.specs.Settled.{HasSettled, HasLogged, Settles}
 use Rattle.tx_run.specs.inside.Settled.{call_answer}
 use Rattle.tx_run.specs.Called.{called_run, HasCalled, Called}
@@ -50,7 +50,7 @@ module _ (image : Image) (tx : ℕ) (args : List ℤ) (d b : Device) where
   short = inl (tt, refl)
 
   pub seal_off : (p : Phase) (k k1 : ℕ)
-      → sealing.Seals (seal.Off p) d (cast_signed w64 tx) (take 22 args)
+      → sealing.Seals (seal.Off p) d (cast_signed w64 tx) (take ARGUMENTS args)
       (number_after (view d.cache DONE)) b → Called (call.Off p) image tx args d b k k1
   unfolding seal_events
   seal_off Unsealed k k1 h = (

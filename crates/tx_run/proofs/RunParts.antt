@@ -17,9 +17,9 @@ use Rattle.pm_machine.specs.declared.effect.End.{End}
 use Rattle.pm_machine.specs.declared.effect.End.TheVariants.{Halted, Trapped}
 use Rattle.pm_machine.specs.declared.image.Image.{Image}
 use Rattle.pm_machine.specs.Machine.{State}
-use Rattle.pm_machine.specs.Runs.{Due, end_of}
+use Rattle.pm_machine.specs.Runs.{Due, end_of, due_on}
 use Rattle.pm_machine.specs.Answers.{HasRun}
-use Rattle.tx_run.specs.Due.{due_on, tail_events, due_run}
+use Rattle.tx_run.specs.Due.{tail_events, due_run}
 use Rattle.tx_run.specs.Settled.{HasSettled, Settles}
 use Rattle.tx_run.specs.inside.Settled.{log_done, log_trap}
 

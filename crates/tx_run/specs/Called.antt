@@ -11,7 +11,7 @@ use Rattle.pm_machine.specs.declared.effect.End.{End}
 use Rattle.pm_machine.specs.declared.effect.End.TheVariants.{Halted, Trapped}
 use Rattle.pm_machine.specs.declared.image.Image.{Image}
 use Rattle.pm_machine.specs.Machine.{start}
-use Rattle.pm_machine.specs.Runs.{Due, end_of}
+use Rattle.pm_machine.specs.Runs.{Due, end_of, due_on}
 use Rattle.tx_run.specs.declared.answer.CallAnswer.{CallAnswer}
 use Rattle.tx_run.specs.declared.answer.CallAnswer.TheVariants.{Done, Trap, Off, Failed, Unusable}
 use Rattle.tx_run.specs.declared.answer.CallAnswer.TheVariants.{Numbers, NoMemory}
@@ -21,7 +21,7 @@ use Rattle.pool_map.specs.declared.trap.TrapKind.{TrapKind}
 use Rattle.tx_run.specs.declared.standing.Standing.TheVariants as stands
 use Rattle.tx_run.specs.Standing.{standing_of}
 use Rattle.tx_run.specs.Settled.{HasLogged}
-use Rattle.tx_run.specs.Due.{due_on, due_run, due_seal, due_unsealed, due_call}
+use Rattle.tx_run.specs.Due.{due_run, due_seal, due_unsealed, due_call}
 
 -- the run of a call, on the cache after its seal
 abbrev pub called_run : Image → (tx : ℕ) → List ℤ → Device → Due

@@ -5,9 +5,8 @@ use Rattle.std.specs.Int.{w64, cast_signed}
 use Rattle.cache_model.specs.Event.{CacheEvent}
 use Rattle.cache_model.specs.Cache.{Cache, view}
 use Rattle.cache_model.specs.Play.{play}
-use Rattle.pool_layout.specs.declared.places.TheConstants.{DONE, ATTEMPT}
+use Rattle.pool_layout.specs.declared.places.TheConstants.{DONE, ATTEMPT, ARGUMENTS}
 use Rattle.pool_map.specs.Trap.{trap_number}
-use Rattle.clobber_log.specs.Logs.{attempt_in, count_in}
 use Rattle.args_log.specs.Next.{number_after}
 use Rattle.args_log.specs.Seal.{unsealed_events, seal_events}
 use Rattle.args_log.specs.Retire.{retire_events, mark_events}
@@ -15,12 +14,7 @@ use Rattle.pm_machine.specs.declared.effect.End.{End}
 use Rattle.pm_machine.specs.declared.effect.End.TheVariants.{Halted, Trapped}
 use Rattle.pm_machine.specs.declared.image.Image.{Image}
 use Rattle.pm_machine.specs.Machine.{State, start}
-use Rattle.pm_machine.specs.Runs.{Due, due, end_of}
-
--- the run of a machine on a pool, with the pool's attempt and records
-abbrev pub due_on : Image → State → Cache → Due
-due_on image s c = due image (attempt_in image.parts.sizes (view c)) image.parts.most
-    (count_in image.parts.sizes (view c)) s c
+use Rattle.pm_machine.specs.Runs.{due_on, end_of}
 
 -- after the run: a value is retired, a trap is marked
 abbrev pub tail_events : End → Cache → List CacheEvent
@@ -36,10 +30,11 @@ due_run image s c = (due_on image s c).events ++ tail_events (end_of (due_on ima
 -- the seal, whose number is one more than that of the finished calls; and its part up to and
 -- including the store of the seal
 abbrev pub due_seal : (tx : ℕ) → List ℤ → Cache → List CacheEvent
-due_seal tx args c = seal_events (cast_signed w64 tx) (take 22 args) (number_after (view c DONE))
+due_seal tx args c = seal_events (cast_signed w64 tx) (take ARGUMENTS args)
+    (number_after (view c DONE))
 
 abbrev pub due_unsealed : (tx : ℕ) → List ℤ → Cache → List CacheEvent
-due_unsealed tx args c = unsealed_events (cast_signed w64 tx) (take 22 args)
+due_unsealed tx args c = unsealed_events (cast_signed w64 tx) (take ARGUMENTS args)
     (number_after (view c DONE))
 
 -- the call

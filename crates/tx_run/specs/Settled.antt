@@ -9,10 +9,10 @@ use Rattle.pm_machine.specs.declared.effect.End.{End}
 use Rattle.pm_machine.specs.declared.effect.End.TheVariants.{Halted, Trapped}
 use Rattle.pm_machine.specs.declared.image.Image.{Image}
 use Rattle.pm_machine.specs.Machine.{State}
-use Rattle.pm_machine.specs.Runs.{end_of}
+use Rattle.pm_machine.specs.Runs.{end_of, due_on}
 use Rattle.tx_run.specs.declared.answer.Settled.{Settled}
 use Rattle.tx_run.specs.declared.answer.Settled.TheVariants as settled
-use Rattle.tx_run.specs.Due.{due_on, due_run}
+use Rattle.tx_run.specs.Due.{due_run}
 
 -- The run from the machine's state s came to this end, and all due events after the seal were
 -- played; the step counter rose from k to k1 by the run's instructions.
@@ -21,7 +21,7 @@ pub record HasSettled (e : End) (image : Image) (s : State) (d b : Device) (k k1
   pub played : PlaysAll d (due_run image s d.cache) b
   pub steps : k1 ≡ k + (due_on image s d.cache).steps
 
--- a machine that had done s.logged LOGs has now done so many
+-- a machine that had done s.logged LOGs has now done l
 abbrev pub HasLogged : (l : ℕ) → Image → State → Cache → Type 0
 HasLogged l image s c = l + count_in image.parts.sizes (view c) ≡ (due_on image s c).records
     + s.logged

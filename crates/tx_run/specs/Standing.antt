@@ -1,5 +1,5 @@
--- Whether a pool takes a call: its mark is 0, and the number of finished calls (word 17) and the
--- attempt (word 18) are from 0 to 2^62 - 1. The mark is checked first.
+-- Whether a pool takes a call: its mark is 0, and the number of finished calls (DONE) and the
+-- attempt (ATTEMPT) are from 0 to 2^62 - 1. The mark is checked first.
 use Rattle.std.specs.Prelude.{◌^◌, Bool, false, ◌&&◌, nat_lt, if◌then◌else◌, ℤ, pos, negsuc}
 use Rattle.std.specs.Ordering.{int_eq}
 use Rattle.cache_model.specs.Cache.{Words}

@@ -5,8 +5,7 @@ ghost use Rattle.cache_model.specs.Cache.{view};
 ghost use Rattle.pool_layout.specs.Sizes.{heap_words, pool_lines};
 ghost use Rattle.pool_map.specs.Trap.{trap_number};
 ghost use Rattle.args_log.specs.Retire.{retire_events, mark_events};
-ghost use Rattle.pm_machine.specs.Runs.{AreLines};
-ghost use Rattle.tx_run.specs.Due.{due_on};
+ghost use Rattle.pm_machine.specs.Runs.{AreLines, due_on};
 ghost use Rattle.tx_run.specs.Settled.{Settles};
 ghost use Rattle.tx_run.specs.inside.Settled.{log_done, log_trap};
 

@@ -4,6 +4,8 @@ use Rattle.std.proofs.Common.{refl, sym, ap, ◌∙◌, arith}
 use Rattle.std.specs.Prelude.{◌&&◌, ◌||◌, not, nat_eq, is_some, unwrap_or, slice_get, Option, None}
 use Rattle.std.specs.Prelude.{Some}
 use Rattle.std.specs.Option.{option_map_or}
+use Rattle.std.proofs.lemmas.Bool.{false≢true, and_parts, not-true}
+use Rattle.nvm_base.proofs.Tests.{same_from, some_of}
 use Rattle.c_tree.specs.ExprTree.{ExprTree, Arguments, Ident}
 use Rattle.c_tree.specs.ExprTree as expr
 use Rattle.c_tree.specs.StmtTree.{TypeTree}
@@ -22,12 +24,11 @@ use Rattle.c_types.specs.Expressions.{with_unindexed, arrow_kind, arrow_broken, 
 use Rattle.c_types.specs.Expressions.{element_of, type_if, call_broken, call_type, result_type}
 use Rattle.c_types.specs.Expressions.{parameters_of, parameter_type, argument_count, kind_of}
 use Rattle.c_types.specs.Expressions.{all_taken, type_of, broken_in, broken_in_all, value_broken}
+use Rattle.c_types.proofs.Unbroken.{none_left, none_right, some_none, holds}
 use Rattle.typed_law.specs.Types.{StaticType, Number, PointerTo, NullPointer, value_type, IsWritten}
 use Rattle.typed_law.specs.Types.{HasValueField, HasArray}
 use Rattle.typed_law.specs.Expressions.{HasType, IsArray, ArePassed, IsTyped, IsTypedCall}
 use Rattle.typed_law.specs.Programs.{IsResult}
-use Rattle.typed_law.proofs.Broken.{none_left, none_right, some_none, holds, false_true, and_left}
-use Rattle.typed_law.proofs.Broken.{and_right, not_true, same_from, some_of}
 use Rattle.typed_law.proofs.Fitting.{no_any, number_only, applied_answer, joined_answer}
 use Rattle.typed_law.proofs.Fitting.{taken_answer, pointer_written, pointer_is, declared_is}
 use Rattle.typed_law.proofs.Known.{AreKnown, variable_known, AreWritten, IsReady, function_at}
@@ -40,9 +41,9 @@ value_means F A (Array el place) b m e =
     absurd (some_none place Mismatch (none_right b (broken_at place Mismatch) e))
 
 not_indexed : (x : StaticType) → is_indexed (Value (value_type x)) ≡ true → ⊥
-not_indexed Number e = false_true e
-not_indexed (PointerTo i) e = false_true e
-not_indexed NullPointer e = false_true e
+not_indexed Number e = false≢true e
+not_indexed (PointerTo i) e = false≢true e
+not_indexed NullPointer e = false≢true e
 
 array_means : (F A : StaticType → Type 0) (k : Kind) → Means F A k → is_indexed k ≡ true
     → (x : StaticType) × (element_of k ≡ value_type x) × A x
@@ -91,7 +92,7 @@ callee_of wanted (Some f) n place e =
 -- the result of a function that gives one
 result_is : (t : Tables) (o : Option TypeTree) → is_some o ≡ true → IsResult t o
     → (ty : TypeTree) × (o ≡ Some ty) × (x : StaticType) × IsWritten t ty x
-result_is t None e r = absurd (false_true e)
+result_is t None e r = absurd (false≢true e)
 result_is t (Some ty) e r = (ty, refl, r.0, r.1)
 
 -- the parameters from place i on are these
@@ -208,11 +209,11 @@ mutual
       holds (is_indexed (kind_of t s base) && is_int (type_of t s index)) place Mismatch
       (none_right (value_broken t s index) _ rest) in
       let a = array_means (HasType t s base) (IsArray t s base) (kind_of t s base)
-      (kind_means t s base ready known b1) (and_left _ _ both) in
+      (kind_means t s base ready known b1) (and_parts _ _ both).0 in
       let v : (x : StaticType) × (type_of t s index ≡ value_type x)
       × HasType t s index x = value_from t s index (kind_means t s index ready known) b2 in
       let int : is_int (type_of t s index) ≡ true =
-      and_right (is_indexed (kind_of t s base)) _ both in
+      (and_parts (is_indexed (kind_of t s base)) _ both).1 in
       let number : v.0 ≡ Number = number_only v.0 (rw v.1 at int) in
       let any : is_any (type_of t s index) ≡ false = rw v.1 (no_any v.0) in (
         a.0,
@@ -279,7 +280,7 @@ mutual
       ∙ declared_is t r.0 r.2 r.3 in (
         r.2,
         call_typed t s all o f r.2 c.found gives c.counted c.plain passed.0 typed,
-        (f, r.0, r.1, r.3, c.found, not_true f.tx c.plain, passed.1),
+        (f, r.0, r.1, r.3, c.found, not-true f.tx c.plain, passed.1),
       )
 
   -- the arguments from place i on, for these parameters
@@ -347,7 +348,7 @@ call_is t s name all ready known b =
     let passed = arguments_are t s f.parameters f.parameters 0 all ready known
     (whole_rest f.parameters) (same_from _ _ c.counted)
     (ready.parameters at_place.0 f at_place.1) (rw c.found at later) in
-    (f, c.found, not_true f.tx c.plain, passed.1)
+    (f, c.found, not-true f.tx c.plain, passed.1)
 
 pub typed_is : (t : Tables) (s : List Scope) (e : ExprTree) → IsReady t → AreKnown s
     → value_broken t s e ≡ [] → IsTyped t s e

@@ -2,6 +2,8 @@
 use Rattle.std.proofs.Common.{◌≡◌, ℕ, ◌⊎◌, ⊎_elim, inl, inr, true, false, List, [], refl, sym, ap}
 use Rattle.std.specs.Prelude.{◌&&◌, nat_le, Option, None, Some}
 use Rattle.std.specs.Option.{option_map_or}
+use Rattle.std.proofs.lemmas.Bool.{false≢true, and_parts}
+use Rattle.nvm_base.proofs.Tests.{le_from, le_true, same_from, same_true}
 use Rattle.c_tree.specs.declared.expr.UnaryOp.{UnaryOp}
 use Rattle.c_tree.specs.declared.expr.UnaryOp.TheVariants as unary
 use Rattle.c_tree.specs.declared.expr.BinaryOp.{BinaryOp}
@@ -18,10 +20,9 @@ use Rattle.c_types.specs.Fits.{comparable, joins_types, applies}
 use Rattle.c_types.specs.Tables.{Tables, struct_named, words_at, pointer_type, declared_type}
 use Rattle.c_types.specs.Expressions.{pointer_broken}
 use Rattle.c_types.specs.Statements.{type_broken}
+use Rattle.c_types.proofs.Unbroken.{some_none, holds}
 use Rattle.typed_law.specs.Types.{StaticType, Number, PointerTo, NullPointer, value_type, IsPointer}
 use Rattle.typed_law.specs.Types.{IsWritten, Applies, Compares, Joins, AcceptsType}
-use Rattle.typed_law.proofs.Broken.{some_none, holds, false_true, and_left, and_right, le_from}
-use Rattle.typed_law.proofs.Broken.{le_true, same_from, same_true}
 
 pub no_any : (x : StaticType) → is_any (value_type x) ≡ false
 no_any Number = refl
@@ -30,25 +31,25 @@ no_any NullPointer = refl
 
 pub number_only : (x : StaticType) → is_int (value_type x) ≡ true → x ≡ Number
 number_only Number e = refl
-number_only (PointerTo i) e = absurd (false_true e)
-number_only NullPointer e = absurd (false_true e)
+number_only (PointerTo i) e = absurd (false≢true e)
+number_only NullPointer e = absurd (false≢true e)
 
 pub number_fits : (x : StaticType) → x ≡ Number → is_int (value_type x) ≡ true
 number_fits x e = rw e refl
 
 null_only : (x : StaticType) → is_null (value_type x) ≡ true → x ≡ NullPointer
-null_only Number e = absurd (false_true e)
-null_only (PointerTo i) e = absurd (false_true e)
+null_only Number e = absurd (false≢true e)
+null_only (PointerTo i) e = absurd (false≢true e)
 null_only NullPointer e = refl
 
 pub pointer_only : (x : StaticType) → is_pointer (value_type x) ≡ true → (i : ℕ) × (x ≡ PointerTo i)
-pointer_only Number e = absurd (false_true e)
+pointer_only Number e = absurd (false≢true e)
 pointer_only (PointerTo i) e = (i, refl)
-pointer_only NullPointer e = absurd (false_true e)
+pointer_only NullPointer e = absurd (false≢true e)
 
 pointer_to : (i : ℕ) (y : StaticType) → is_pointer_to i (value_type y) ≡ true
     → (y ≡ PointerTo i) ⊎ (y ≡ NullPointer)
-pointer_to i Number e = absurd (false_true e)
+pointer_to i Number e = absurd (false≢true e)
 pointer_to i (PointerTo j) e = inl (ap PointerTo (sym (same_from i j e)))
 pointer_to i NullPointer e = inr refl
 
@@ -61,7 +62,7 @@ pointer_fits i y h = ⊎_elim
 pub numbers_only : (x y : StaticType) → (is_int (value_type x) && is_int (value_type y)) ≡ true
     → (x ≡ Number) × (y ≡ Number)
 numbers_only x y e =
-    (number_only x (and_left _ _ e), number_only y (and_right (is_int (value_type x)) _ e))
+    (number_only x (and_parts _ _ e).0, number_only y (and_parts (is_int (value_type x)) _ e).1)
 
 pub numbers_fit : (x y : StaticType) → (x ≡ Number) × (y ≡ Number)
     → (is_int (value_type x) && is_int (value_type y)) ≡ true
@@ -80,7 +81,7 @@ applied_fits unary.Complement x h = number_fits x h
 compared : (x y : StaticType) → comparable (value_type x) (value_type y) ≡ true → Compares x y
 compared Number y e = number_only y e
 compared (PointerTo i) y e = pointer_to i y e
-compared NullPointer Number e = absurd (false_true e)
+compared NullPointer Number e = absurd (false≢true e)
 compared NullPointer (PointerTo i) e = inr (i, refl)
 compared NullPointer NullPointer e = inl refl
 

@@ -4,6 +4,7 @@ use Rattle.std.specs.Prelude.{if◌then◌else◌, ◌||◌, not, is_some, slice
 use Rattle.std.specs.Prelude.{option_and_then}
 use Rattle.std.specs.Option.{option_map_or}
 use Rattle.std.proofs.lemmas.Option.{none-some, same_Some}
+use Rattle.std.proofs.lemmas.Bool.{false≢true}
 use Rattle.c_tree.specs.ExprTree.{Ident}
 use Rattle.c_tree.specs.ItemTree.{FieldTree, FunctionTree, LengthTree, ParameterTree}
 use Rattle.c_types.specs.declared.value_type.ValueType.{ValueType}
@@ -19,7 +20,6 @@ use Rattle.c_types.specs.Expressions.{member_kind}
 use Rattle.c_types.specs.Statements.{inner_scopes, scope_declared}
 use Rattle.typed_law.specs.Types.{StaticType, value_type, IsWritten, HasValueField, HasArray}
 use Rattle.typed_law.specs.Programs.{IsLength, IsField, IsResult}
-use Rattle.typed_law.proofs.Broken.{false_true}
 use Rattle.typed_law.proofs.Fitting.{no_any, declared_is}
 
 -- every name of the scopes has a type
@@ -153,7 +153,7 @@ member_means t i name ready e = by_struct (slice_get t.structs i) refl e
         → field_named s name.text ≡ o → is_some o ≡ true
         → Means (HasValueField t i name.text) (HasArray t i name.text) (option_map_or
         (field_kind t name.place) o (Value Any))
-    by_field s None is named e = absurd (false_true e)
+    by_field s None is named e = absurd (false≢true e)
     by_field s (Some f) is named e =
         let j : (j : ℕ) × (slice_get s.fields j ≡ Some f) = field_at s name.text f named in
         let ok : IsField t s j.0 f = ready.fields i s is j.0 f j.1 in
@@ -164,5 +164,5 @@ member_means t i name ready e = by_struct (slice_get t.structs i) refl e
         → Means (HasValueField t i name.text) (HasArray t i name.text) (option_map_or
         (field_kind t name.place) (option_and_then (λ s. field_named s name.text) o)
         (Value Any))
-    by_struct None is e = absurd (false_true e)
+    by_struct None is e = absurd (false≢true e)
     by_struct (Some s) is e = by_field s (field_named s name.text) is refl e

@@ -5,6 +5,8 @@ use Rattle.std.specs.Prelude.{◌||◌, not, nat_le, nat_eq, is_some, slice_get,
 use Rattle.std.specs.Option.{option_map_or}
 use Rattle.std.proofs.lemmas.Bool.Decides.{nat_tests}
 use Rattle.std.proofs.lemmas.Option.{none-some, same_Some}
+use Rattle.std.proofs.lemmas.Bool.{false_from_ne_true, false≢true, and_parts, not-true}
+use Rattle.nvm_base.proofs.Tests.{le_from, same_from, same_true, some_of}
 use Rattle.c_tree.specs.StmtTree.{TypeTree}
 use Rattle.c_tree.specs.StmtTree as stmt
 use Rattle.c_tree.specs.ItemTree.{FieldTree, FunctionTree, LengthTree, ParameterTree}
@@ -26,11 +28,10 @@ use Rattle.c_types.specs.Declarations.{scopes_after_parameter, scopes_after_para
 use Rattle.c_types.specs.Declarations.{is_transaction, function_broken, body_broken}
 use Rattle.c_types.specs.Declarations.{whole_function_broken, functions_broken}
 use Rattle.c_types.specs.Fault.{breaks}
+use Rattle.c_types.proofs.Unbroken.{none_left, none_right, some_none, holds}
 use Rattle.typed_law.specs.Types.{StaticType, IsWritten}
 use Rattle.typed_law.specs.Programs.{IsLength, IsField, IsStruct, AreParameters, AreInts, IsResult}
 use Rattle.typed_law.specs.Programs.{IsTypedFunction, IsWellTyped}
-use Rattle.typed_law.proofs.Broken.{none_left, none_right, some_none, holds, false_true, and_left}
-use Rattle.typed_law.proofs.Broken.{and_right, not_true, le_from, same_from, same_true, some_of}
 use Rattle.typed_law.proofs.Fitting.{type_written, declared_is}
 use Rattle.typed_law.proofs.Known.{AreKnown, known_inside, known_declared, AreWritten, IsReady}
 use Rattle.typed_law.proofs.Statements.{statements_are}
@@ -43,7 +44,7 @@ plus_next i j = omega arith
 
 -- the first of its name
 pub first_at : (o : Option ℕ) (i : ℕ) → is_first o i ≡ true → o ≡ Some i
-first_at None i e = absurd (false_true e)
+first_at None i e = absurd (false≢true e)
 first_at (Some j) i e = ap Some (sym (same_from i j e))
 
 below : (n i : ℕ) → i ≤ n → not (nat_eq i n) ≡ true → i < n
@@ -79,20 +80,16 @@ field_found t s i (x ∷ fs) b (suc j) f e =
 pub zero_plus : (j : ℕ) → 0 + j ≡ j
 zero_plus j = omega arith
 
-root_first : (o : Option ℕ) (i : ℕ) → o ≡ Some i → is_first o i ≡ true
+pub root_first : (o : Option ℕ) (i : ℕ) → o ≡ Some i → is_first o i ≡ true
 root_first o i e = rw (e, same_true i) refl
 
 small_words : (b : Bool) (n : ℕ) → (b || nat_le n 15) ≡ true → b ≡ false → n ≤ 15
-small_words true n e is = absurd (false_true (sym is))
+small_words true n e is = absurd (false≢true (sym is))
 small_words false n e is = le_from n 15 e
 
 root_words : (b : Bool) (n : ℕ) → (not b || nat_le n 512) ≡ true → b ≡ true → n ≤ 512
 root_words true n e is = le_from n 512 e
-root_words false n e is = absurd (false_true is)
-
-true_or_false : (b : Bool) → (b ≡ true → ⊥) → b ≡ false
-true_or_false true h = absurd (h refl)
-true_or_false false h = refl
+root_words false n e is = absurd (false≢true is)
 
 struct_is : (t : Tables) (i : ℕ) (s : StructTree) → i ≤ 255 → whole_struct_broken t i s ≡ []
     → IsStruct t i s
@@ -120,8 +117,8 @@ struct_is t i s le b =
       first = first_at (struct_named t s.name.text) i (holds (is_first
           (struct_named t s.name.text) i) s.name.place Twice (none_left one _ own));
       root = λ is. root_words root (words_of_struct s) large (root_first (root_struct t) i is);
-      small = λ other. small_words root (words_of_struct s) small (true_or_false root (λ is. other
-          (first_at (root_struct t) i is)));
+      small = λ other. small_words root (words_of_struct s) small
+          (false_from_ne_true root (λ is. other (first_at (root_struct t) i is)));
       fields = λ j f e. rw (← zero_plus j) (field_found t s 0 s.fields fields j f e);
     }
 
@@ -140,7 +137,7 @@ struct_found t i (x ∷ ss) le b (suc j) s e =
 root_is : (t : Tables) (rs : List RootTree) → is_some (slice_get rs 0) ≡ true
     → roots_broken t 0 rs ≡ []
     → (r : RootTree) × (i : ℕ) × (rs ≡ r ∷ []) × (struct_named t r.name.text ≡ Some i)
-root_is t [] e b = absurd (false_true e)
+root_is t [] e b = absurd (false≢true e)
 root_is t (r ∷ []) e b =
     let own : root_item_broken t 0 r ≡ [] = none_left (root_item_broken t 0 r) _ b in
     let known = unless (is_some (struct_named t r.name.text)) r.name.place UnknownName in
@@ -166,7 +163,7 @@ parameters_are t s i (p ∷ ps) le b =
     (none_left one _ rest)) in (
       type_written t p.ty (none_left (type_broken t p.ty) _ own),
       lt,
-      not_true _ (holds (not
+      not-true _ (holds (not
           (is_declared p.name.text s)) p.name.place Twice (none_right one _ rest)),
       parameters_are t (scopes_after_parameter t s p) (i + 1) ps (omega (arith, lt)) (none_right
           (parameter_broken t s i p) _ b),
@@ -191,20 +188,20 @@ int_only : (t : Tables) (ty : TypeTree) (x : StaticType) → IsWritten t ty x
 int_only t stmt.Int x h e = refl
 int_only t (stmt.Pointer name) x h e =
     let is = declared_is t (stmt.Pointer name) x h in
-    absurd (false_true (rw (is, h.is) at e))
+    absurd (false≢true (rw (is, h.is) at e))
 
 ints_only : (t : Tables) (ps : List ParameterTree) → AreWritten t ps → all_ints t ps ≡ true
     → AreInts ps
 ints_only t [] h e = tt
 ints_only t (p ∷ ps) h e = (
-  int_only t p.ty h.0.0 h.0.1 (and_left _ _ e),
-  ints_only t ps h.1 (and_right (is_int
-      (declared_type t p.ty)) _ e),
+  int_only t p.ty h.0.0 h.0.1 (and_parts _ _ e).0,
+  ints_only t ps h.1 (and_parts (is_int
+      (declared_type t p.ty)) _ e).1,
 )
 
 result_int : (t : Tables) (o : Option TypeTree) → IsResult t o
     → option_map_or (λ ty. is_int (declared_type t ty)) o false ≡ true → o ≡ Some stmt.Int
-result_int t None h e = absurd (false_true e)
+result_int t None h e = absurd (false≢true e)
 result_int t (Some ty) h e = ap Some (int_only t ty h.0 h.1 e)
 
 result_written : (t : Tables) (o : Option TypeTree) → option_map_or (type_broken t) o [] ≡ []
@@ -214,7 +211,7 @@ result_written t (Some ty) b = type_written t ty b
 
 good_tx : (tx good : Bool) → (not tx || good) ≡ true → tx ≡ true → good ≡ true
 good_tx true good e is = e
-good_tx false good e is = absurd (false_true is)
+good_tx false good e is = absurd (false≢true is)
 
 -- all of a function but its body
 pub record IsHead (t : Tables) (i : ℕ) (f : FunctionTree) : Type 0 where
@@ -250,10 +247,10 @@ head_is t i f le b =
       result = result;
       transaction = λ is.
           let good : is_transaction t f ≡ true = good_tx f.tx (is_transaction t f) tx is in (
-            result_int t f.result_type result (and_left _ _ good),
+            result_int t f.result_type result (and_parts _ _ good).0,
             ints_only t f.parameters (parameters_written t
-                (inner_scopes []) 0 f.parameters parameters) (and_right (option_map_or (λ ty. is_int
-                (declared_type t ty)) f.result_type false) _ good),
+                (inner_scopes []) 0 f.parameters parameters) (and_parts (option_map_or (λ ty. is_int
+                (declared_type t ty)) f.result_type false) _ good).1,
           );
       parameters = parameters;
       body = body;

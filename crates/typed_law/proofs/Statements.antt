@@ -2,6 +2,7 @@
 use Rattle.std.proofs.Common.{◌≡◌, ℕ, true, false, List, []}
 use Rattle.std.specs.Prelude.{not, Option, None, Some, option_map}
 use Rattle.std.specs.Option.{option_map_or}
+use Rattle.std.proofs.lemmas.Bool.{false≢true, not-true}
 use Rattle.c_tree.specs.ExprTree.{ExprTree}
 use Rattle.c_tree.specs.ExprTree as expr
 use Rattle.c_tree.specs.StmtTree.{StmtTree, Statements, SimpleTree, FirstTree, TypeTree}
@@ -20,13 +21,13 @@ use Rattle.c_types.specs.Statements.{scopes_after_first, scopes_after_declaratio
 use Rattle.c_types.specs.Statements.{simple_broken, initial_broken, declaration_broken}
 use Rattle.c_types.specs.Statements.{first_broken, return_broken, statement_broken}
 use Rattle.c_types.specs.Statements.{statements_broken}
+use Rattle.c_types.proofs.Unbroken.{none_left, none_right, holds}
 use Rattle.typed_law.specs.Types.{StaticType, Number, PointerTo, value_type}
 use Rattle.typed_law.specs.Expressions.{HasType}
 use Rattle.typed_law.specs.Statements.{IsAssignable, IsAssigned, IsSimple, IsInitial, IsDeclared}
 use Rattle.typed_law.specs.Statements.{IsFirst, IsCondition, IsThird, IsReturned, IsStatement}
 use Rattle.typed_law.specs.Statements.{AreStatements}
 use Rattle.typed_law.specs.Programs.{IsResult}
-use Rattle.typed_law.proofs.Broken.{none_left, none_right, holds, false_true, not_true}
 use Rattle.typed_law.proofs.Fitting.{number_only, numbers_only, pointer_only, taken, taken_answer}
 use Rattle.typed_law.proofs.Fitting.{type_written, declared_is}
 use Rattle.typed_law.proofs.Known.{AreKnown, known_inside, known_declared, IsReady}
@@ -37,12 +38,12 @@ target_form (expr.Variable name) is = tt
 target_form (expr.Root name) is = tt
 target_form (expr.Arrow base place name) is = tt
 target_form (expr.Index base place index) is = tt
-target_form (expr.Number n) is = absurd (false_true is)
-target_form expr.Null is = absurd (false_true is)
-target_form (expr.Call name all) is = absurd (false_true is)
-target_form (expr.New place name) is = absurd (false_true is)
-target_form (expr.Unary op place a) is = absurd (false_true is)
-target_form (expr.Binary op place a b) is = absurd (false_true is)
+target_form (expr.Number n) is = absurd (false≢true is)
+target_form expr.Null is = absurd (false≢true is)
+target_form (expr.Call name all) is = absurd (false≢true is)
+target_form (expr.New place name) is = absurd (false≢true is)
+target_form (expr.Unary op place a) is = absurd (false≢true is)
+target_form (expr.Binary op place a b) is = absurd (false≢true is)
 
 assigned_types : (op : AssignOp) (x y : StaticType)
     → assigns op (value_type x) (value_type y) ≡ true → IsAssigned op x y
@@ -125,7 +126,7 @@ declaration_is t s d ready known b =
     (declared_type t d.ty)) d.initial []) _ rest in
     let new = holds (not (is_declared d.name.text s)) d.name.place Twice (none_right
     (option_map_or (initial_broken t s (declared_type t d.ty)) d.initial []) _ rest) in (
-      not_true _ new,
+      not-true _ new,
       w.0,
       w.1,
       initial_is t s (declared_type t d.ty) w.0 d.initial ready known
@@ -168,9 +169,9 @@ return_is : (t : Tables) (s : List Scope) (result : Option TypeTree) (place : �
     → IsReturned t s result value
 return_is t s None place None ready known res b = tt
 return_is t s None place (Some e) ready known res b =
-    absurd (false_true (holds false place Mismatch (none_right (value_broken t s e) _ b)))
+    absurd (false≢true (holds false place Mismatch (none_right (value_broken t s e) _ b)))
 return_is t s (Some ty) place None ready known res b =
-    absurd (false_true (holds false place Mismatch b))
+    absurd (false≢true (holds false place Mismatch b))
 return_is t s (Some ty) place (Some e) ready known res b =
     let v : (y : StaticType) × (type_of t s e ≡ value_type y)
     × HasType t s e y = value_is t s e ready known (none_left (value_broken t s e) _ b) in

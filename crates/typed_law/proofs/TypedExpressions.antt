@@ -2,6 +2,8 @@
 use Rattle.std.proofs.Common.{◌≡◌, ℕ, suc, ◌+◌, Bool, true, false, List, [], ◌∷◌, ◌++◌, length}
 use Rattle.std.proofs.Common.{refl, ap, ◌∙◌}
 use Rattle.std.specs.Prelude.{◌||◌, not, nat_eq, is_some, Some}
+use Rattle.std.proofs.lemmas.Bool.{not_from_false}
+use Rattle.nvm_base.proofs.Tests.{same_true}
 use Rattle.c_tree.specs.ExprTree.{ExprTree, Arguments, Ident}
 use Rattle.c_tree.specs.ExprTree as expr
 use Rattle.c_tree.specs.ItemTree.{FunctionTree, ParameterTree}
@@ -16,7 +18,7 @@ use Rattle.c_types.specs.Expressions.{all_taken, type_of, broken_in, broken_in_a
 use Rattle.typed_law.specs.Types.{StaticType, Number, PointerTo, value_type, HasValueField}
 use Rattle.typed_law.specs.Types.{HasArray}
 use Rattle.typed_law.specs.Expressions.{HasType, IsArray, ArePassed, IsTypedCall}
-use Rattle.typed_law.proofs.Broken.{none_both, kept, not_false, same_true}
+use Rattle.typed_law.proofs.Broken.{none_both, kept}
 use Rattle.typed_law.proofs.Fitting.{no_any, applied_fits, joined_fits, taken_fits, pointer_is}
 use Rattle.typed_law.proofs.Fitting.{pointer_kept, declared_is}
 use Rattle.typed_law.proofs.Expressions.{IsRest, whole_rest, next_rest, rest_type}
@@ -129,7 +131,7 @@ callee_kept wanted f n place gives many plain =
     none_both (unless (not wanted || is_some f.result_type) place Mismatch) _
     (kept _ place Mismatch gives)
     (none_both (unless (nat_eq n (length f.parameters)) place Arity) _ (kept _ place Arity many)
-    (kept _ place BadTx (not_false f.tx plain)))
+    (kept _ place BadTx (not_from_false f.tx plain)))
 
 -- a call whose arguments break no rule
 call_parts : (t : Tables) (s : List Scope) (wanted : Bool) (name : Ident) (all : Arguments)

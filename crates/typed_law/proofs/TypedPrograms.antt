@@ -4,6 +4,8 @@ use Rattle.std.proofs.Common.{refl, arith}
 use Rattle.std.specs.Prelude.{◌||◌, not, nat_le, nat_eq, is_some, slice_get, Option, None, Some}
 use Rattle.std.specs.Option.{option_map_or}
 use Rattle.std.proofs.lemmas.Bool.Decides.{nat_tests}
+use Rattle.std.proofs.lemmas.Bool.{false≢true, not_from_false}
+use Rattle.nvm_base.proofs.Tests.{le_true}
 use Rattle.c_tree.specs.StmtTree.{TypeTree}
 use Rattle.c_tree.specs.StmtTree as stmt
 use Rattle.c_tree.specs.ItemTree.{FieldTree, FunctionTree, LengthTree, ParameterTree}
@@ -24,13 +26,10 @@ use Rattle.c_types.specs.Declarations.{function_broken, whole_function_broken, f
 use Rattle.c_types.specs.Fault.{breaks}
 use Rattle.typed_law.specs.Programs.{IsLength, IsField, IsStruct, AreParameters, AreInts, IsResult}
 use Rattle.typed_law.specs.Programs.{IsTypedFunction, IsWellTyped}
-use Rattle.typed_law.proofs.Broken.{none_both, kept, false_true, not_false, le_true, same_true}
+use Rattle.typed_law.proofs.Broken.{none_both, kept}
 use Rattle.typed_law.proofs.Fitting.{written_kept}
-use Rattle.typed_law.proofs.Programs.{plus_zero, plus_next, zero_plus, first_at}
+use Rattle.typed_law.proofs.Programs.{plus_zero, plus_next, zero_plus, first_at, root_first}
 use Rattle.typed_law.proofs.TypedStatements.{statements_kept}
-
-first_true : (o : Option ℕ) (i : ℕ) → o ≡ Some i → is_first o i ≡ true
-first_true o i e = rw (e, same_true i) refl
 
 not_last : (n i : ℕ) → i < n → not (nat_eq i n) ≡ true
 not_last n i lt = grind (arith, nat_tests)
@@ -44,7 +43,7 @@ field_kept : (t : Tables) (s : StructTree) (j : ℕ) (f : FieldTree) → IsField
 field_kept t s j f h =
     none_both (type_broken t f.ty) _ (written_kept t f.ty h.typed.0 h.typed.1)
     (none_both (unless (is_first (index_of f.name.text (field_names s)) j) f.name.place Twice) _
-    (kept _ f.name.place Twice (first_true (index_of f.name.text
+    (kept _ f.name.place Twice (root_first (index_of f.name.text
     (field_names s)) j h.first)) (length_kept f.len h.long))
 
 fields_kept : (t : Tables) (s : StructTree) (i : ℕ) (fs : List FieldTree)
@@ -65,7 +64,7 @@ either_large true n h = le_true n 512 (h refl)
 either_large false n h = refl
 
 other_struct : (o : Option ℕ) (i : ℕ) → is_first o i ≡ false → o ≡ Some i → ⊥
-other_struct o i other is = false_true (rw other at (first_true o i is))
+other_struct o i other is = false≢true (rw other at (root_first o i is))
 
 struct_kept : (t : Tables) (i : ℕ) (s : StructTree) → IsStruct t i s
     → whole_struct_broken t i s ≡ []
@@ -78,7 +77,7 @@ struct_kept t i s h =
     either_large root (words_of_struct s) (λ is. h.root (first_at (root_struct t) i is)) in
     none_both (struct_broken t i s) _
     (none_both (unless (is_first (struct_named t s.name.text) i) s.name.place Twice) _
-    (kept _ s.name.place Twice (first_true (struct_named t s.name.text) i h.first))
+    (kept _ s.name.place Twice (root_first (struct_named t s.name.text) i h.first))
     (none_both (unless (not (nat_eq i 255)) s.name.place (TooBig limit.Structs 256)) _
     (kept _ s.name.place (TooBig limit.Structs 256) (not_last 255 i h.few))
     (none_both (unless (root || nat_le (words_of_struct s) 15) s.name.place (TooBig limit.Struct
@@ -106,7 +105,7 @@ parameters_kept t s i (p ∷ ps) h =
     (none_both (type_broken t p.ty) _ (written_kept t p.ty h.0.0 h.0.1)
     (none_both (unless (not (nat_eq i 22)) p.name.place (TooBig limit.Parameters 23)) _
     (kept _ p.name.place (TooBig limit.Parameters 23) (not_last 22 i h.1))
-    (kept (not (is_declared p.name.text s)) p.name.place Twice (not_false _ h.2))))
+    (kept (not (is_declared p.name.text s)) p.name.place Twice (not_from_false _ h.2))))
     (parameters_kept t (scopes_after_parameter t s p) (i + 1) ps h.3)
 
 ints_true : (t : Tables) (ps : List ParameterTree) → AreInts ps → all_ints t ps ≡ true
@@ -131,7 +130,7 @@ function_kept t i f h =
     (none_both (option_map_or (type_broken t) f.result_type []) _
     (result_kept t f.result_type h.result)
     (none_both (unless (is_first (index_of f.name.text
-    (function_names t)) i) f.name.place Twice) _ (kept _ f.name.place Twice (first_true
+    (function_names t)) i) f.name.place Twice) _ (kept _ f.name.place Twice (root_first
     (index_of f.name.text (function_names t)) i h.first))
     (none_both (unless (not (nat_eq i 1024)) f.name.place (TooBig limit.Functions 1025)) _
     (kept _ f.name.place (TooBig limit.Functions 1025) (not_last 1024 i h.few))

@@ -2,6 +2,7 @@
 use Rattle.std.proofs.Common.{◌≡◌, ℕ, true, List, [], refl}
 use Rattle.std.specs.Prelude.{not, Option, None, Some, option_map}
 use Rattle.std.specs.Option.{option_map_or}
+use Rattle.std.proofs.lemmas.Bool.{not_from_false}
 use Rattle.c_tree.specs.ExprTree.{ExprTree}
 use Rattle.c_tree.specs.ExprTree as expr
 use Rattle.c_tree.specs.StmtTree.{StmtTree, Statements, SimpleTree, FirstTree, TypeTree}
@@ -24,7 +25,7 @@ use Rattle.typed_law.specs.Expressions.{HasType, IsArray}
 use Rattle.typed_law.specs.Statements.{IsAssignable, IsAssigned, IsSimple, IsInitial, IsDeclared}
 use Rattle.typed_law.specs.Statements.{IsFirst, IsCondition, IsThird, IsReturned, IsStatement}
 use Rattle.typed_law.specs.Statements.{AreStatements}
-use Rattle.typed_law.proofs.Broken.{none_both, kept, not_false}
+use Rattle.typed_law.proofs.Broken.{none_both, kept}
 use Rattle.typed_law.proofs.Fitting.{numbers_fit, taken_fits, written_kept, declared_is}
 use Rattle.typed_law.proofs.TypedExpressions.{typed_is, value_kept, called_kept}
 
@@ -96,7 +97,7 @@ declaration_kept t s d h =
     none_both (type_broken t d.ty) _ (written_kept t d.ty h.1 h.2)
     (none_both (option_map_or (initial_broken t s (declared_type t d.ty)) d.initial []) _
     (initial_kept t s (declared_type t d.ty) h.1 d.initial (declared_is t d.ty h.1 h.2) h.3)
-    (kept (not (is_declared d.name.text s)) d.name.place Twice (not_false _ h.0)))
+    (kept (not (is_declared d.name.text s)) d.name.place Twice (not_from_false _ h.0)))
 
 first_kept : (t : Tables) (s : List Scope) (o : Option FirstTree) → IsFirst t s o
     → option_map_or (first_broken t s) o [] ≡ []

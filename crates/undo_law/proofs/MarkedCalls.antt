@@ -1,7 +1,7 @@
 -- A marked call that is done, and its recovery, by the laws of calls.
 use Rattle.pool_layout.specs.Sizes.{heap_words}
 use Rattle.std.proofs.Common.{length, ◌≡◌, ◌⊎◌, inl, inr, ⊎_elim, ℕ, suc, ◌^◌, ◌<◌, List, [], ◌∷◌}
-use Rattle.std.proofs.Common.{ℤ, refl}
+use Rattle.std.proofs.Common.{ℤ, refl, ◌≤◌}
 use Rattle.std.proofs.Common.{arith}
 use Rattle.cache_model.specs.Event.{CacheEvent}
 use Rattle.cache_model.specs.Cache.{Words, Cache}
@@ -10,6 +10,7 @@ use Rattle.cache_model.specs.Image.{Images, HasOne}
 use Rattle.cache_model.specs.During.{during}
 use Rattle.cache_model.proofs.During.{during_more}
 use Rattle.pool_layout.specs.declared.places.Place.TheVariants.{Last}
+use Rattle.pool_layout.specs.declared.places.TheConstants.{ARGUMENTS}
 use Rattle.pool_layout.specs.Places.{at, pool_of}
 use Rattle.pool_layout.specs.Log.{count}
 use Rattle.pool_layout.specs.Good.{Pool, Good}
@@ -60,7 +61,7 @@ trace_in C H W V (Logged w x ∷ trace) n stored over is = (
 )
 
 module _ (pool : Pool) (call : Call) (h : ℕ → ℤ) (value : ℤ) (trace : List Entry)
-    (given_fits : length call.args < 23) (is : IsMarkedTrace pool.sizes trace) where
+    (given_fits : length call.args ≤ ARGUMENTS) (is : IsMarkedTrace pool.sizes trace) where
   abbrev Stored : ℕ → Type 0
   Stored w = IsStored w trace
 

@@ -17,6 +17,7 @@ use Rattle.pool_layout.specs.declared.places.Place.TheVariants.{RecordOld, Recor
 use Rattle.pool_layout.specs.declared.places.Place.TheVariants.{RecordSpare}
 use Rattle.pool_layout.specs.declared.limits.Sizes.{Sizes}
 use Rattle.pool_layout.specs.declared.places.Layout.{Layout}
+use Rattle.pool_layout.specs.declared.places.TheConstants.{ARGUMENTS}
 use Rattle.pool_layout.specs.Places.{at, IsPlace, pool_of}
 use Rattle.pool_layout.specs.Log.{count}
 use Rattle.pool_layout.specs.Restored.{restored, undone}
@@ -25,12 +26,13 @@ use Rattle.pool_layout.specs.Good.{Pool}
 use Rattle.crash_law.specs.Pools.{Call, Owed, IsDone}
 use Rattle.clobber_log.specs.Reset.{reset_events}
 use Rattle.clobber_log.specs.Restore.{first_events}
+use Rattle.clobber_log.proofs.Backwards.{undone_same}
 use Rattle.crash_law.specs.Due.{Entry, Halted}
 use Rattle.crash_law.proofs.Walks.{restore_walk, reset_walk, reset_same, first_same}
 use Rattle.crash_law.proofs.Redo.{end_same}
 use Rattle.crash_law.specs.Law.{collapsed, AreInARow}
 use Rattle.crash_law.proofs.Held.{cover_more, cover_view}
-use Rattle.crash_law.proofs.Records.{found, found_zero, nothing, undone_found, undone_cong}
+use Rattle.crash_law.proofs.Records.{found, found_zero, nothing, undone_found}
 use Rattle.crash_law.proofs.Fine.{Fine, ok, Setting, owing, IsFine, StampIs}
 use Rattle.crash_law.proofs.Run.{Running, Recorded, running}
 use Rattle.crash_law.proofs.Seal.{one_cover}
@@ -42,7 +44,7 @@ use Rattle.undo_law.proofs.Whole.{OwedOrUndone, Undone, undone_part}
 use Rattle.undo_law.proofs.Kept.{has_play, has_one, both_during, images_during, still_reabort}
 
 module _ (pool : Pool) (call : Call) (h : ℕ → ℤ) (trace : List Entry) (last : ℤ)
-    (given_fits : length call.args < 23) (is : IsMarkedTrace pool.sizes trace) (one : Words)
+    (given_fits : length call.args ≤ ARGUMENTS) (is : IsMarkedTrace pool.sizes trace) (one : Words)
     (owed : IsOwed pool call h one) (n : ℕ)
     (counted : count (pool_of pool.sizes) owed.attempt one ≡ n) where
   abbrev z : Sizes
@@ -207,7 +209,7 @@ module _ (pool : Pool) (call : Call) (h : ℕ → ℤ) (trace : List Entry) (las
       (cover_more C (ok start)
       (ok (restoring redo a a_fits n words olds log.room in_heap recorded)) c to_restoring
       (one_cover C start c one only start_fine))
-      (λ w lt. undone_cong words olds n (λ u. view c (at C (Heap u))) heap_now w
+      (λ w lt. undone_same words olds n (λ u. view c (at C (Heap u))) heap_now w
       (one_heap c only w lt) ∙ sym (r_undone w))
       (λ j low high. absurd (omega arith))
       (λ d cover new ready.
@@ -232,7 +234,7 @@ module _ (pool : Pool) (call : Call) (h : ℕ → ℤ) (trace : List Entry) (las
 
 -- each cut, and the whole recovery
 through_reabort : (pool : Pool) (call : Call) (h : ℕ → ℤ) (trace : List Entry) (last : ℤ) →
-    length call.args < 23 → IsMarkedTrace pool.sizes trace →
+    length call.args ≤ ARGUMENTS → IsMarkedTrace pool.sizes trace →
     (one : Words) (owed : IsOwed pool call h one) (n : ℕ) →
     count (pool_of pool.sizes) owed.attempt one ≡ n → (0 < n → owed.attempt < 2 ^ 62) →
     (c : Cache) → HasOne c one →
@@ -252,7 +254,7 @@ still pool call h last image (inl owed) e = inl (record { owed = owed; last_is =
 still pool call h last image (inr undone) e = inr undone
 
 pub cut_reabort : (pool : Pool) (call : Call) (h : ℕ → ℤ) (trace : List Entry) (last : ℤ) →
-    length call.args < 23 → IsMarkedTrace pool.sizes trace →
+    length call.args ≤ ARGUMENTS → IsMarkedTrace pool.sizes trace →
     (one : Words) (owed : IsOwedStill pool call h last one) (n : ℕ) →
     count (pool_of pool.sizes) owed.owed.attempt one ≡ n → (0 < n → owed.owed.attempt < 2 ^ 62) →
     (c : Cache) → HasOne c one →
@@ -282,7 +284,7 @@ cut_reabort pool call h trace last given_fits is one owed n counted room c only 
 
 -- however often it is cut
 module _ (pool : Pool) (call : Call) (h : ℕ → ℤ) (trace : List Entry) (last : ℤ)
-    (given_fits : length call.args < 23) (is : IsMarkedTrace pool.sizes trace) where
+    (given_fits : length call.args ≤ ARGUMENTS) (is : IsMarkedTrace pool.sizes trace) where
   cut_once : (one other : Words) → IsUndoCutTo pool call h trace last one other →
       IsReabortCut pool call h last other
   cut_once one other cut =

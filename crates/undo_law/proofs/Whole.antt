@@ -14,6 +14,7 @@ use Rattle.cache_model.proofs.During.{through_end}
 use Rattle.pool_layout.specs.declared.places.Place.TheVariants.{Attempt, Last}
 use Rattle.pool_layout.specs.declared.limits.Sizes.{Sizes}
 use Rattle.pool_layout.specs.declared.places.Layout.{Layout}
+use Rattle.pool_layout.specs.declared.places.TheConstants.{ARGUMENTS}
 use Rattle.pool_layout.specs.Places.{at, pool_of}
 use Rattle.pool_layout.specs.Log.{count}
 use Rattle.pool_layout.specs.Good.{Pool, Good}
@@ -71,7 +72,7 @@ module _ (s : Setting) (a : ℕ) (a_fits : a ≤ 2 ^ 62) (every : (w : ℕ) → 
 
 -- the whole call
 module _ (pool : Pool) (call : Call) (h : ℕ → ℤ) (trace : List Entry)
-    (done_fits : call.done < 2 ^ 62) (given_fits : length call.args < 23)
+    (done_fits : call.done < 2 ^ 62) (given_fits : length call.args ≤ ARGUMENTS)
     (is : IsMarkedTrace pool.sizes trace)
     (c : Cache) (one : Words) (only : HasOne c one) (g : Good pool call.done h one)
     (a_fits : g.attempt < 2 ^ 62) (empty : count (pool_of pool.sizes) g.attempt one ≡ 0) where

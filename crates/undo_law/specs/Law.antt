@@ -1,5 +1,5 @@
 -- The crash law of a call of a marked transaction, aborted or done, and of its recovery.
-use Rattle.std.specs.Prelude.{ℕ, zero, suc, ◌+◌, ◌*◌, ◌/◌, ◌^◌, ◌<◌, ◌≡◌, ◌⊎◌, List, [], ◌∷◌}
+use Rattle.std.specs.Prelude.{ℕ, zero, suc, ◌+◌, ◌*◌, ◌/◌, ◌^◌, ◌<◌, ◌≡◌, ◌⊎◌, List, [], ◌∷◌, ◌≤◌}
 use Rattle.std.specs.Prelude.{length, ℤ}
 use Rattle.cache_model.specs.Event.{CacheEvent}
 use Rattle.cache_model.specs.Cache.{Words, Cache}
@@ -7,6 +7,7 @@ use Rattle.cache_model.specs.Play.{play}
 use Rattle.cache_model.specs.Image.{HasOne}
 use Rattle.pool_layout.specs.Places.{pool_of}
 use Rattle.pool_layout.specs.declared.limits.Sizes.{Sizes}
+use Rattle.pool_layout.specs.declared.places.TheConstants.{ARGUMENTS}
 use Rattle.pool_layout.specs.Log.{count}
 use Rattle.pool_layout.specs.Good.{Pool, Good}
 use Rattle.crash_law.specs.Pools.{Call, Owed, IsBefore, IsDone, last_of, HasNoRecord}
@@ -48,7 +49,8 @@ IsAbortCut pool call h last image =
 abbrev pub AbortLaw : Type 0
 AbortLaw =
     (pool : Pool) (call : Call) (h : ℕ → ℤ) (trace : List Entry) (c : Cache) (one : Words) →
-    length call.args < 23 → call.done < 2 ^ 62 → IsMarkedTrace pool.sizes trace → HasOne c one →
+    length call.args ≤ ARGUMENTS → call.done < 2 ^ 62 → IsMarkedTrace pool.sizes trace
+    → HasOne c one →
     (good : Good pool call.done h one) →
     good.attempt < 2 ^ 62 → count (pool_of pool.sizes) good.attempt one ≡ 0 →
     Leaves c (due_abort pool.sizes good.attempt call h trace (last_of pool one))
@@ -66,7 +68,7 @@ abbrev pub ReabortLaw : Type 0
 ReabortLaw =
     (pool : Pool) (call : Call) (h : ℕ → ℤ) (trace : List Entry) (last : ℤ) (c : Cache)
     (one : Words) →
-    length call.args < 23 → IsMarkedTrace pool.sizes trace → HasOne c one →
+    length call.args ≤ ARGUMENTS → IsMarkedTrace pool.sizes trace → HasOne c one →
     (still : IsOwedStill pool call h last one) (n : ℕ) →
     count (pool_of pool.sizes) still.owed.attempt one ≡ n → (0 < n → still.owed.attempt < 2 ^ 62) →
     Leaves c (reabort pool call still.owed.attempt n one trace last)
@@ -86,7 +88,8 @@ abbrev pub AbortAgainLaw : Type 0
 AbortAgainLaw =
     (pool : Pool) (call : Call) (h : ℕ → ℤ) (trace : List Entry) (last : ℤ) (k : ℕ)
     (one other : Words) →
-    length call.args < 23 → IsMarkedTrace pool.sizes trace → IsOwedStill pool call h last one →
+    length call.args ≤ ARGUMENTS → IsMarkedTrace pool.sizes trace
+    → IsOwedStill pool call h last one →
     AreInARow (IsUndoCutTo pool call h trace last) k one other → IsReabortCut pool call h last other
 
 -- After an undo each line has one version, if it had one before.
@@ -109,7 +112,8 @@ abbrev pub MarkedCallLaw : Type 0
 MarkedCallLaw =
     (pool : Pool) (call : Call) (h : ℕ → ℤ) (value : ℤ) (trace : List Entry) (c : Cache)
     (one : Words) →
-    length call.args < 23 → call.done < 2 ^ 62 → IsMarkedTrace pool.sizes trace → HasOne c one →
+    length call.args ≤ ARGUMENTS → call.done < 2 ^ 62 → IsMarkedTrace pool.sizes trace
+    → HasOne c one →
     (good : Good pool call.done h one) →
     good.attempt < 2 ^ 62 → count (pool_of pool.sizes) good.attempt one ≡ 0 →
     Leaves c (due_call pool.sizes good.attempt call h (Halted value) trace)
@@ -122,7 +126,7 @@ abbrev pub MarkedRedoLaw : Type 0
 MarkedRedoLaw =
     (pool : Pool) (call : Call) (h : ℕ → ℤ) (value : ℤ) (trace : List Entry) (c : Cache)
     (one : Words) →
-    length call.args < 23 → IsMarkedTrace pool.sizes trace → HasOne c one →
+    length call.args ≤ ARGUMENTS → IsMarkedTrace pool.sizes trace → HasOne c one →
     (owed : IsOwed pool call h one) (n : ℕ) →
     count (pool_of pool.sizes) owed.attempt one ≡ n → (0 < n → owed.attempt < 2 ^ 62) →
     Leaves c
@@ -141,9 +145,9 @@ abbrev pub fences_of : ℕ → ℕ
 fences_of zero = 0
 fences_of (suc n) = 1
 
--- How many events an aborted call of a marked run has: with m arguments, p lines of the function
--- and the arguments,
--- S entries and K of them logged, m + p + 10 + S + 7 K, and one more where K isn't 0.
+-- The number of events of an aborted call of a marked run: one for each argument, one for each line
+-- of the function and the arguments, ten for the function's word, the seal and the retirement, one
+-- for each entry, seven more for each logged entry, and one more if any entry is logged.
 abbrev pub AbortCountLaw : Type 0
 AbortCountLaw =
     (z : Sizes) (a : ℕ) (call : Call) (h : ℕ → ℤ) (trace : List Entry) (last : ℤ) →

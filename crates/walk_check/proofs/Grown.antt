@@ -30,11 +30,6 @@ slice_get_more [] y n x is = absurd cc
 slice_get_more (z ∷ xs) y zero x is = is
 slice_get_more (z ∷ xs) y (suc n) x is = slice_get_more xs y n x is
 
-pub slice_get_last : {X : Type 0} (xs : List X) (y : X)
-    → slice_get (xs ++ y ∷ []) (length xs) ≡ Some y
-slice_get_last [] y = refl
-slice_get_last (z ∷ xs) y = slice_get_last xs y
-
 past_more : (ps : List Piece) (p : Piece) (o : Option Instruction) (q : Option Piece) (n : ℕ)
     (a b : Step) → slice_get ps n ≡ q → goes_past o q a b ≡ true
     → goes_past o (slice_get (ps ++ p ∷ []) n) a b ≡ true

@@ -6,6 +6,7 @@ use Rattle.std.proofs.Common.{⊎_elim}
 use Rattle.std.specs.Prelude.{◌==◌, slice_get, option_and_then}
 use Rattle.std.proofs.lemmas.Bool.{and_parts, and_from, or_left, or_right, eq-eqb, le-leb}
 use Rattle.std.proofs.lemmas.Option.{slice_get_cases}
+use Rattle.nvm_base.proofs.Lists.{get_last}
 use Rattle.ir.specs.declared.instruction.Instruction.{Instruction}
 use Rattle.ir.specs.declared.instruction.Instruction.TheVariants.{Jump, Branch, Call, Return, Trap}
 use Rattle.ir.specs.declared.function.IrFunction.{IrFunction}
@@ -35,7 +36,7 @@ use Rattle.walk_check.specs.inside.Grown.{ArePassing, Grows}
 use Rattle.walk_check.specs.inside.Grown.ArePassing.{one_more}
 use Rattle.walk_check.specs.inside.Grown.Grows.{stays, grows}
 use Rattle.walk_check.proofs.Grown.{grows_on}
-use Rattle.walk_check.proofs.Grown.{slice_get_last, chain_grown}
+use Rattle.walk_check.proofs.Grown.{chain_grown}
 
 pub same-refl : (a : WalkFact) → same a a ≡ true
 same-refl Here = refl
@@ -308,7 +309,7 @@ module _ (ir : Ir) where
         grown = more;
         tail =
             before_past (inner.pieces ++ piece ∷ []) u (length inner.pieces) piece p to g args
-            (at_call args x) b q z (slice_get_last inner.pieces piece) is e.closed.named follow
+            (at_call args x) b q z (get_last inner.pieces piece) is e.closed.named follow
             fits (tail_grown u (suc p) b q z more t);
         fits = fits;
       }
@@ -330,7 +331,7 @@ module _ (ir : Ir) where
         grown = more;
         tail =
             before_past (inner.pieces ++ piece ∷ []) u (length inner.pieces) piece p to g args b b
-            q z (slice_get_last inner.pieces piece) is e.named follow fits
+            q z (get_last inner.pieces piece) is e.named follow fits
             (tail_grown u (suc p) b q z more t);
         fits = fits;
       }

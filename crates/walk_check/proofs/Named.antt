@@ -5,6 +5,7 @@ use Rattle.std.specs.Prelude.{◌==◌, ◌&&◌, slice_get, position, is_some}
 use Rattle.std.specs.List.{AllByRecursion}
 use Rattle.std.proofs.lemmas.Bool.{and_from, lt-ltb}
 use Rattle.std.proofs.lemmas.List.Quantifiers.{position-Some}
+use Rattle.nvm_base.proofs.Lists.{all_at}
 use Rattle.pool_map.specs.declared.shapes.FieldShape.{FieldShape}
 use Rattle.pool_map.specs.declared.shapes.Shapes.{Shapes}
 use Rattle.ir.specs.declared.instruction.Target.{Target}
@@ -25,7 +26,6 @@ use Rattle.ir.specs.Clobber.{unwritten, read_fact}
 use Rattle.ir.specs.WellFormed.{IsIndexed, IsTarget, shape_field, IsInstruction, TakesArgs}
 use Rattle.ir.specs.WellFormed.{IsFunction, IsWellFormed}
 use Rattle.walk_check.specs.Keeps.{fact_is_there}
-use Rattle.walk_check.proofs.Standing.{all_at}
 
 abbrev pub There : Shapes → (registers : ℕ) → Fact → Type 0
 There shapes registers Here = Unit {0}

@@ -3,7 +3,7 @@ use Rattle.std.proofs.Common.{◌≡◌, ◌+◌, ℕ, Bool, true, false, List, 
 use Rattle.std.proofs.Common.{refl, sym, subst, inl, inr, ⊎_elim}
 use Rattle.std.specs.Prelude.{not, slice_get, if◌then◌else◌}
 use Rattle.std.specs.List.{AllByRecursion}
-use Rattle.std.proofs.lemmas.Bool.{false≢true, and_parts, eqb-true, leb-true}
+use Rattle.std.proofs.lemmas.Bool.{false≢true, and_parts, eqb-true, leb-true, not-true}
 use Rattle.ir.specs.declared.instruction.Target.{Target}
 use Rattle.ir.specs.declared.instruction.Target.TheVariants.{Root, Field}
 use Rattle.ir.specs.declared.instruction.Instruction.{Instruction}
@@ -206,17 +206,13 @@ module _ (ir : Ir) (well : IsWellFormed ir) (passed : List Piece) (sound : AllSo
         )
     fill_there site _ walk is h w = absurd (false≢true h)
 
-    not_true : (t : Bool) → not t ≡ true → t ≡ false
-    not_true true h = absurd (false≢true h)
-    not_true false h = refl
-
     reason_there : (site : Site) (o : Option Instruction) (reason : Reason)
         → instruction_at ir.functions site.function site.place ≡ o
         → gives_reason ir passed site o reason ≡ true → IsLogged ir.functions site
     reason_there site None reason is h = absurd (false≢true h)
     reason_there site (Some i) Always is h =
         let parts = and_parts _ _ h in
-        let no_fill : site.fill ≡ false = not_true site.fill parts.1 in
+        let no_fill : site.fill ≡ false = not-true site.fill parts.1 in
         subst (λ t. LoggedAt ir.functions t site.function site.place) (sym no_fill)
         (inr (is_header_there site.function site.place i is parts.0))
     reason_there site (Some i) (PastFree walk) is h =
@@ -226,7 +222,7 @@ module _ (ir : Ir) (well : IsWellFormed ir) (passed : List Piece) (sound : AllSo
         (fill_there site i walk is fill.0 parts.1)
     reason_there site (Some i) (Clobber unwrites reads) is h =
         let parts = and_parts _ _ h in
-        let no_fill : site.fill ≡ false = not_true site.fill parts.0 in
+        let no_fill : site.fill ≡ false = not-true site.fill parts.0 in
         subst (λ t. LoggedAt ir.functions t site.function site.place) (sym no_fill)
         (inl (clobber_there site i unwrites reads is parts.1))
 

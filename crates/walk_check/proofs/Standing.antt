@@ -1,9 +1,9 @@
 -- All that well formed code names exists; and a root's array field is never surely written.
-use Rattle.std.proofs.Common.{◌≡◌, ◌≤◌, ℕ, zero, suc, List, [], ◌∷◌, Option, Some, None, length}
-use Rattle.std.proofs.Common.{refl, sym, ◌∙◌, ap, subst, arith}
+use Rattle.std.proofs.Common.{◌≡◌, ◌≤◌, ℕ, List, Option, Some, None, length}
+use Rattle.std.proofs.Common.{refl, sym, ◌∙◌, ap, arith}
 use Rattle.std.specs.Prelude.{slice_get, option_and_then}
-use Rattle.std.specs.List.{AllByRecursion}
 use Rattle.std.proofs.lemmas.Option.{slice_get_past}
+use Rattle.nvm_base.proofs.Lists.{all_at}
 use Rattle.pool_map.specs.declared.shapes.FieldShape.{FieldShape}
 use Rattle.ir.specs.declared.instruction.Target.TheVariants.{Root}
 use Rattle.ir.specs.declared.instruction.Instruction.{Instruction}
@@ -12,12 +12,6 @@ use Rattle.ir.specs.declared.function.IrFunction.{IrFunction}
 use Rattle.ir.specs.declared.function.Ir.{Ir}
 use Rattle.ir.specs.Places.{instruction_at, CallsAt}
 use Rattle.ir.specs.WellFormed.{IsIndexed, IsInstruction, TakesArgs, IsFunction, IsWellFormed}
-
-pub all_at : {X : Type 0} (P : X → Type 0) (xs : List X) (k : ℕ) (x : X) → AllByRecursion P xs
-    → slice_get xs k ≡ Some x → P x
-all_at P [] k x all is = absurd cc
-all_at P (y ∷ xs) zero x all is = let same : y ≡ x = cc in subst P same all.0
-all_at P (y ∷ xs) (suc k) x all is = all_at P xs k x all.1 is
 
 -- an instruction of a well formed code, with its function
 pub record Standing (ir : Ir) (i : Instruction) : Type 0 where

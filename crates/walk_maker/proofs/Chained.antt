@@ -1,11 +1,12 @@
 -- A spot that is sought in its bucket alone is found where it is in the table.
-use Rattle.std.proofs.Common.{◌≡◌, ◌+◌, ◌*◌, ◌%◌, ◌++◌, ◌-◌, ◌<◌, ◌≤◌, ◌⊎◌, ℕ, zero, suc, Bool}
+use Rattle.std.proofs.Common.{◌≡◌, ◌+◌, ◌*◌, ◌%◌, ◌++◌, ◌-◌, ◌<◌, ◌≤◌, ◌⊎◌, ℕ, zero, suc}
 use Rattle.std.proofs.Common.{true, false, List, [], ◌∷◌, Option, Some, None, length, refl, sym}
 use Rattle.std.proofs.Common.{◌∙◌, ap, subst}
 use Rattle.std.proofs.Common.{arith, inl, inr, ⊎_elim}
-use Rattle.std.specs.Prelude.{nat_lt, slice_get, slice_set}
+use Rattle.std.specs.Prelude.{slice_get, slice_set}
 use Rattle.std.specs.List.{list_any}
-use Rattle.std.proofs.lemmas.Bool.{and_parts, eqb-true, or_left, or_right, ltb-true, ltb-false}
+use Rattle.std.proofs.lemmas.Bool.{and_parts, eqb-true, or_left, or_right}
+use Rattle.std.proofs.lemmas.Bool.{false_from_ne_true, cases_lt}
 use Rattle.std.proofs.lemmas.List.{length-append}
 use Rattle.std.proofs.lemmas.Option.{slice_get_within}
 use Rattle.walk_check.proofs.Tests.{same-true}
@@ -35,10 +36,6 @@ same_bucket count x e is =
     let fact : x.fact ≡ e.fact = same-true x.fact e.fact last.1 in
     rw (function, place, fact) refl
 
-not_same : (b : Bool) → (b ≡ true → ⊥) → b ≡ false
-not_same true never = absurd (never refl)
-not_same false never = refl
-
 -- nothing is past the end
 pub past_end : (t : List Entry) (e : Entry) → IsPast t e (length t)
 past_end t e m x there past =
@@ -49,7 +46,7 @@ past_end t e m x there past =
 past_above : (t : List Entry) (count : ℕ) (e : Entry) (n : ℕ)
     → IsAbove t count (bucket_of count e) n → IsPast t e n
 past_above t count e n above m x there past =
-    not_same (same_spot x e) (λ is.
+    false_from_ne_true (same_spot x e) (λ is.
     let less : m < n = above m x there (same_bucket count x e is) in absurd (omega arith))
 
 pub past_last : (count : ℕ) (t : List Entry) (lasts befores : List ℕ) (e : Entry)
@@ -62,16 +59,9 @@ past_last count t lasts befores e is = by_option (slice_get lasts (bucket_of cou
     by_option None h = past_end t e
     by_option (Some n) h = past_above t count e n (is.above_all (bucket_of count e) n h)
 
-pub low_or_high : (m k : ℕ) → (m < k) ⊎ (k ≤ m)
-low_or_high m k = by_test (nat_lt m k) refl
-  where
-    by_test : (b : Bool) → nat_lt m k ≡ b → (m < k) ⊎ (k ≤ m)
-    by_test true is = inl (ltb-true m k is)
-    by_test false is = inr (ltb-false m k is)
-
 here_or_past : (m at : ℕ) → at - 1 ≤ m → (m ≡ at - 1) ⊎ (at ≤ m)
 here_or_past m at from =
-    ⊎_elim (λ (low : m < at). inl (omega arith)) (λ (high : at ≤ m). inr high) (low_or_high m at)
+    ⊎_elim (λ (low : m < at). inl (omega arith)) (λ (high : at ≤ m). inr high) (cases_lt m at)
 
 -- the search goes on before an entry that isn't there, or is of another spot
 pub past_none : (t : List Entry) (e : Entry) (at : ℕ) → slice_get t (at - 1) ≡ None
@@ -96,10 +86,10 @@ past_before : (t : List Entry) (count : ℕ) (e y : Entry) (at n : ℕ) → slic
     → IsAboveBefore t count (at - 1) n
     → IsPast t e at → IsPast t e n
 past_before t count e y at n is other bucket above past m x there from =
-    ⊎_elim (λ (low : m < at - 1). not_same (same_spot x e) (λ h.
+    ⊎_elim (λ (low : m < at - 1). false_from_ne_true (same_spot x e) (λ h.
     let one : bucket_of count x ≡ bucket_of count y = same_bucket count x e h ∙ sym bucket in
     let less : m < n = above m x y is there low one in absurd (omega arith)))
-    (λ (high : at - 1 ≤ m). past_one t e y at is other past m x there high) (low_or_high m (at - 1))
+    (λ (high : at - 1 ≤ m). past_one t e y at is other past m x there high) (cases_lt m (at - 1))
 
 pub past_bucket : (t : List Entry) (count : ℕ) (befores : List ℕ) (e y : Entry) (at : ℕ)
     → AreAbove t count befores → slice_get t (at - 1) ≡ Some y → same_spot y e ≡ false

@@ -147,12 +147,6 @@ module _ (ir : Ir) (goal : Entry) where
   adds_has x (one {t = t} e a k) h =
       any_more (λ (y : Entry). same_spot y x) t e (adds_has x a h)
 
-  pub steps_get : {s t : SearchState} (n : ℕ) (e : Entry) → Steps s t
-      → slice_get s.table n ≡ Some e → slice_get t.table n ≡ Some e
-  steps_get n e still is = is
-  steps_get n e (entry {t = t} x a h) is = slice_get_more t.table x n e (steps_get n e a is)
-  steps_get n e (piece p a h) is = steps_get n e a is
-
   pub steps_has : {s t : SearchState} (x : Entry) → Steps s t → has s.table x ≡ true
       → has t.table x ≡ true
   steps_has x still h = h

@@ -4,8 +4,7 @@ use Rattle.std.proofs.Common.{Bool, true, false, List, [], ◌∷◌, Option, So
 use Rattle.std.proofs.Common.{refl, sym, ◌∙◌, ap, subst, arith, inl, inr, ⊎_elim}
 use Rattle.std.specs.Prelude.{◌==◌, slice_get, nat_lt, nat_le, if◌then◌else◌}
 use Rattle.std.proofs.lemmas.Bool.{false≢true, and_parts, and_from, eqb-true, lt-ltb, le-leb}
-use Rattle.std.proofs.lemmas.Bool.{ltb-true, leb-true}
-use Rattle.std.proofs.lemmas.Option.{slice_get_within}
+use Rattle.std.proofs.lemmas.Bool.{ltb-true, leb-true, cases_lt}
 use Rattle.ir.specs.declared.instruction.Instruction.{Instruction}
 use Rattle.ir.specs.declared.instruction.Instruction.TheVariants.{Const, Copy, Bin, Jump, Branch}
 use Rattle.ir.specs.declared.instruction.Instruction.TheVariants.{Load, Store, New, Free, Call}
@@ -24,7 +23,7 @@ use Rattle.walk_maker.specs.inside.Jumps.{AreAllJumps, first_at, next_at, first_
 use Rattle.walk_maker.specs.inside.Jumps.{candidate, jump_after}
 use Rattle.walk_maker.proofs.Grown.{last_or_before}
 use Rattle.walk_maker.proofs.Fuel.{drop_at, drop_past}
-use Rattle.walk_maker.proofs.Chained.{set_found, low_or_high}
+use Rattle.walk_maker.proofs.Chained.{set_found}
 
 -- an instruction that doesn't jump to q, and isn't right before it, doesn't lead there
 leads_not : (i : Instruction) (p q : ℕ) → jumps_to (landing_of i) q ≡ false → (q == p + 1) ≡ false
@@ -210,20 +209,10 @@ module _ (functions : List IrFunction) (js : List Jumps) (all : AreAllJumps func
       by_test true h = by_option (slice_get js f) refl (and_parts _ _ h).1
       by_test false h = λ r k here low below. quiet r k here (omega arith) below
 
--- past the code there is nothing to keep
-pub jumps_end : (code : List Instruction) (d : ℕ) (j : Jumps) → length code ≤ d
-    → AreJumpsFrom code d j
-jumps_end code d j past = record {
-  quiet_first = λ q n is p i there from below.
-      let within : p < length code = slice_get_within code p i there in absurd (omega arith);
-  quiet_next = λ p n q i from is there jump.
-      let within : p < length code = slice_get_within code p i there in absurd (omega arith);
-}
-
 here_or_later : (d p : ℕ) → d ≤ p → (p ≡ d) ⊎ (d + 1 ≤ p)
 here_or_later d p from =
     ⊎_elim (λ (low : p < d + 1). inl (omega arith)) (λ (high : d + 1 ≤ p). inr high)
-    (low_or_high p (d + 1))
+    (cases_lt p (d + 1))
 
 -- an instruction more, from the end on
 module _ (code : List Instruction) (d : ℕ) (i : Instruction) (j : Jumps)

@@ -1,5 +1,5 @@
 -- The sites that exact marks log are those that a certificate lists.
-use Rattle.std.proofs.Common.{◌≡◌, ◌++◌, Bool, true, false, List, [], ◌∷◌, refl, sym, ◌∙◌, ap}
+use Rattle.std.proofs.Common.{◌≡◌, ◌++◌, Bool, true, false, List, [], ◌∷◌, refl, sym, ◌∙◌}
 use Rattle.std.proofs.Common.{subst}
 use Rattle.std.proofs.Common.{append_assoc}
 use Rattle.std.specs.Prelude.{if◌then◌else◌}
@@ -9,10 +9,9 @@ use Rattle.ir.specs.declared.site.Site.{Site}
 use Rattle.ir.specs.Clobber.{IsLogged}
 use Rattle.clobber_pass.specs.declared.marking.MarkTable.{MarkTable}
 use Rattle.clobber_pass.specs.Logged.{is_logged, IsExact}
-use Rattle.walk_check.specs.declared.certificate.Reason.{Reason}
 use Rattle.walk_maker.specs.Lists.{ListsLogged}
 use Rattle.walk_maker.specs.Lists.ListsLogged.{no_site, logged, unlogged}
-use Rattle.walk_maker.specs.inside.Marked.{all_marked, sites_in}
+use Rattle.walk_maker.specs.inside.Marked.{all_marked}
 
 not_both : (b : Bool) → b ≡ true → b ≡ false → ⊥
 not_both b holds never = cc
@@ -48,9 +47,3 @@ module _ (functions : List IrFunction) (table : MarkTable) (exact : IsExact func
   marked_listed sites marked told is same =
       let some = marked_on sites [] in
       subst (λ xs. ListsLogged functions sites xs) (sym (same ∙ is ∙ some.1)) some.2
-
-pub sites_last : (rs : List (Site × Reason)) (s : Site) (reason : Reason) (rest : List Site)
-    → sites_in (rs ++ (s, reason) ∷ []) ++ rest ≡ sites_in rs ++ s ∷ rest
-sites_last [] s reason rest = refl
-sites_last (r ∷ rs) s reason rest =
-    ap (λ (xs : List Site). r.0 ∷ xs) (sites_last rs s reason rest)

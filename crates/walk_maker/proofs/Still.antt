@@ -120,9 +120,6 @@ module _ (ir : Ir) (goal : Entry) (well : IsWellFormed ir) (s : SearchState)
       abbrev Origin : Back
       Origin = back_in c.body.parameters to args e.fact
 
-      origin_is : Origin ≡ back to args e.fact
-      origin_is = back_in_is c.body.parameters to args e.fact c.count
-
       has_call : (x : Entry)
           → ((t : List Entry) → slice_get t n ≡ Some e
           → has (expand.call_tried ir s.passed u At p to g args (Some c.body) t) x ≡ true)

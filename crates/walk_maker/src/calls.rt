@@ -13,7 +13,7 @@ fn first_at(args: &[u32], register: u32) -> Option<usize>
     args.iter().position(|a| *a == register)
 }
 
-/// The origin of a fact after a call of a function with this many parameters.
+/// The origin of a fact after a call.
 pub(crate) fn back(parameters: u32, to: u32, args: &[u32], after: WalkFact) -> Back
     ensures { result ≡ calls.back_in parameters to args.now after }
 {
@@ -71,7 +71,7 @@ pub(crate) fn at_call(args: &[u32], inside: WalkFact) -> WalkFact
     }
 }
 
-/// The fact at the called function's return that a call is passed to.
+/// The fact that must hold at the called function's return.
 pub(crate) fn exit_of(origin: Back) -> WalkFact
     ensures { result ≡ calls.exit_of origin }
 {

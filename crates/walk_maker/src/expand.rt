@@ -6,7 +6,7 @@ ghost use Rattle.walk_maker.specs.inside.Expand as expand;
 ghost use Rattle.walk_maker.specs.inside.Jumps as lands;
 
 use crate::calls::{at_call, back, before_call, exit_of};
-use crate::jumps::{AllJumps, jumps_to};
+use crate::jumps::{AllJumps, first_jump, jumps_to, next_jump};
 use crate::reading::entry_fact;
 use crate::table::{Aim, Entry, Link, Table, add, step_of};
 use ir::{Back, Fact as WalkFact, Instruction, Ir, IrFunction, Origins};
@@ -90,7 +90,7 @@ fn try_origins(
     }
 }
 
-/// Adds the returns of a function, with the fact that a piece of it is to end with.
+/// Adds the returns of a function, with the fact that its piece must end with.
 fn add_returns(
     function: u32,
     exit: WalkFact,
@@ -131,7 +131,7 @@ fn add_return(
     }
 }
 
-/// Adds the spot at a call from which a piece passes it.
+/// Adds the spot at a call with the fact that a piece carries past the call.
 fn try_through(
     ir: &Ir,
     passed: &[Piece],
@@ -155,7 +155,7 @@ fn try_through(
     }
 }
 
-/// Adds the spots at a call from which the pieces so far pass it.
+/// Adds the spots at a call with the facts that the pieces so far carry past the call.
 fn try_pieces(
     ir: &Ir,
     passed: &[Piece],
@@ -174,8 +174,8 @@ fn try_pieces(
     Ok(())
 }
 
-/// Adds what may pass a call: the returns of its function, and the spots at the call from which the
-/// pieces so far pass it.
+/// Adds what may lead past a call: the returns of the called function, and the spots at the call
+/// with the facts that the pieces so far carry past it.
 fn try_past(
     ir: &Ir,
     passed: &[Piece],
@@ -234,7 +234,7 @@ fn try_before(
     }
 }
 
-/// The next place that may lead to a place, from `at` on, if no jump before `jump` leads there.
+/// The first place from `at` on that may lead to `place`, if no jump before `jump` leads there.
 fn candidate(place: usize, at: usize, jump: usize) -> usize
     ensures { result ≡ lands.candidate place at jump }
 {
@@ -251,8 +251,8 @@ fn later_of(at: usize, jump: usize) -> usize
     if at < jump { jump } else { at }
 }
 
-/// A place before which no instruction after the one at `next` jumps to a place, if none did before
-/// `jump`.
+/// The bound for the places after `next`: no jump before it leads to `place`. `jump` is the bound
+/// for `next` itself.
 fn jump_after(
     jumps: &AllJumps,
     function: u32,
@@ -264,7 +264,7 @@ fn jump_after(
     ensures { result ≡ lands.jump_after jumps.now function place jump next instruction.now }
 {
     if next == jump && jumps_to(instruction, place) {
-        jumps.next(function, next)
+        next_jump(jumps, function, next)
     } else {
         jump
     }
@@ -290,7 +290,7 @@ pub(crate) fn try_all_before(
     let function = later.entry.function;
     let place = later.entry.place;
     let mut at = 0;
-    let mut jump = jumps.first(function, place);
+    let mut jump = first_jump(jumps, function, place);
     for _ in 0..code.len() {
         let next = candidate(place as usize, at, jump);
         if next >= code.len() {
@@ -304,7 +304,7 @@ pub(crate) fn try_all_before(
     Ok(())
 }
 
-/// Adds the spot at a call, if it enters the function whose entry the later one is at.
+/// Adds the spot at a call, if the call enters the function at whose entry the later spot is.
 fn try_caller(
     ir: &Ir,
     body: &IrFunction,
@@ -374,7 +374,7 @@ fn try_callers_in(
     Ok(())
 }
 
-/// Adds the spots at all calls that enter the function whose entry the later one is at.
+/// Adds the spots at all calls of the function at whose entry the later spot is.
 pub(crate) fn try_callers(
     ir: &Ir,
     callee: &IrFunction,

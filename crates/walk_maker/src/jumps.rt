@@ -1,14 +1,13 @@
 //! Where the jumps of a program lead, so that the places before a place are found without going
 //! through the code.
 
-ghost use Rattle.std.specs.Prelude.{◌≡◌, ◌++◌, ◌∷◌, [], OnOk, IfOk, length};
+ghost use Rattle.std.specs.Prelude.{◌≡◌, IfOk, length};
 ghost use Rattle.walk_maker.specs.inside.Jumps as lands;
 
 use crate::table::write_at;
 use ir::{Instruction, IrFunction};
 use nvm_base::List;
 use std::alloc::{AllocError, Global};
-use std::marker::Model;
 
 /// The jumps of a function.
 #[derive(Drop)]
@@ -20,54 +19,25 @@ pub(crate) struct Jumps {
 }
 
 /// The jumps of each function.
-#[derive(Drop)]
-pub(crate) struct AllJumps {
-    all: Vec<Jumps>,
+pub(crate) type AllJumps = List<Jumps>;
+
+/// A bound: before it, no jump of the function leads to the place.
+pub(crate) fn first_jump(jumps: &AllJumps, function: u32, place: u32) -> usize
+    ensures { result ≡ lands.first_in jumps.now function place }
+{
+    match jumps.get(function as usize) {
+        None => 0,
+        Some(jumps) => first_of(jumps, place),
+    }
 }
 
-impl Model for AllJumps {
-    ghost use Rattle.std.specs.Prelude.{List};
-    ghost use Rattle.walk_maker.specs.declared.jumps.Jumps.{Jumps};
-
-    ghost Value = { List Jumps };
-
-    ghost view = { λ j. j.all.items };
-}
-
-impl AllJumps {
-    fn new(alloc: Global) -> Self
-        ensures { result ≡ [] }
-    {
-        AllJumps {
-            all: Vec::new(alloc),
-        }
-    }
-
-    fn push(&mut self, jumps: Jumps) -> Result<(), AllocError>
-        ensures { OnOk result (self.new ≡ self.old ++ jumps ∷ []) }
-    {
-        self.all.push(jumps)?;
-        Ok(())
-    }
-
-    /// Before this place, no jump of the function leads to the other place.
-    pub(crate) fn first(&self, function: u32, place: u32) -> usize
-        ensures { result ≡ lands.first_in self.now function place }
-    {
-        match self.all.get(function as usize) {
-            None => 0,
-            Some(jumps) => first_of(jumps, place),
-        }
-    }
-
-    /// Between a jump and this place, no other jump of the function leads to where it leads.
-    pub(crate) fn next(&self, function: u32, jump: usize) -> usize
-        ensures { result ≡ lands.next_in self.now function jump }
-    {
-        match self.all.get(function as usize) {
-            None => 0,
-            Some(jumps) => next_of(jumps, jump),
-        }
+/// A bound: between a jump and it, no other jump of the function leads to where the jump leads.
+pub(crate) fn next_jump(jumps: &AllJumps, function: u32, jump: usize) -> usize
+    ensures { result ≡ lands.next_in jumps.now function jump }
+{
+    match jumps.get(function as usize) {
+        None => 0,
+        Some(jumps) => next_of(jumps, jump),
     }
 }
 
@@ -110,7 +80,7 @@ pub(crate) fn jumps_to(instruction: &Instruction, place: u32) -> bool
     }
 }
 
-/// A number so many times.
+/// A list of `count` items, each this number.
 fn filled(alloc: Global, count: usize, number: usize) -> Result<List<usize>, AllocError>
     ensures { IfOk result (λ numbers. length numbers ≡ count) }
 {
@@ -121,7 +91,7 @@ fn filled(alloc: Global, count: usize, number: usize) -> Result<List<usize>, All
     Ok(numbers)
 }
 
-/// Notes the instruction at a place, of which all after it are noted.
+/// Notes the instruction at a place. Those after it were noted before.
 fn note(jumps: &mut Jumps, place: usize, instruction: &Instruction)
     ensures { jumps.new ≡ lands.noted (lands.landing_of instruction.now) place jumps.old }
 {
@@ -152,7 +122,7 @@ fn jumps_of(alloc: Global, code: &[Instruction]) -> Result<Jumps, AllocError>
 pub(crate) fn all_jumps(alloc: Global, functions: &[IrFunction]) -> Result<AllJumps, AllocError>
     ensures { IfOk result (λ jumps. lands.AreAllJumps functions.now jumps) }
 {
-    let mut all = AllJumps::new(alloc);
+    let mut all = List::new(alloc);
     for function in functions {
         all.push(jumps_of(alloc, function.code.as_slice())?)?;
     }

@@ -8,8 +8,8 @@ use ir::{Fact as WalkFact, IrFunction};
 use std::alloc::{AllocError, Global};
 use walk_check::{Fact, Piece, Pieces, Step, StepList, begun};
 
-/// The fact with which a piece begins whose walk has `fact` at the function's entry: nothing, if
-/// each walk has it there.
+/// The fact at the start of a piece whose walk has `fact` at the function's entry: nothing, if each
+/// walk has it there.
 pub(crate) fn entry_fact(opens: bool, body: &IrFunction, fact: WalkFact) -> WalkFact
     ensures { result ≡ reading.entry_fact opens body.now fact }
 {
@@ -50,7 +50,7 @@ fn push_steps(entries: &[Entry], number: usize, steps: &mut StepList) -> Result<
     Ok(())
 }
 
-/// The number of the entry from which a walk doesn't go on in its function.
+/// The number of the last entry of a walk's piece, from an entry on.
 #[tactic(auto, using(crate::proofs::Fuel::end_more))]
 fn end_of(entries: &[Entry], number: usize) -> usize
     ensures { result ≡ reading.piece_end entries.now (length entries.now) number }
@@ -74,7 +74,7 @@ fn next_from(entries: &[Entry], number: usize) -> Option<usize>
     }
 }
 
-/// The entry in a called function to which a walk goes on from an entry at a call.
+/// The entry in a called function that a walk enters from an entry at a call.
 fn entered_from(entries: &[Entry], number: usize) -> Option<usize>
     ensures { result ≡ reading.entered_from (slice_get entries.now number) }
 {

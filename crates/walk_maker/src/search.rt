@@ -95,8 +95,8 @@ pub(crate) fn expand(
     try_entry(alloc, ir, body, later, table, passed)
 }
 
-/// Goes once through the table, also through what it adds. If there were as many entries as no
-/// memory holds, memory would lack.
+/// Goes through the table once, and through what it adds. More entries than memory can hold count
+/// as want of memory.
 fn sweep(
     alloc: Global,
     ir: &Ir,
@@ -119,7 +119,7 @@ fn sweep(
     Err(AllocError)
 }
 
-/// Goes through the table, also through what it adds, until a walk begins at an entry. So a walk
+/// Goes through the table, and through what it adds, until a walk begins at an entry. So a walk
 /// that is near is found without the rest.
 fn seek(
     alloc: Global,
@@ -172,8 +172,8 @@ fn first_start(functions: &[IrFunction], table: &[Entry]) -> Option<usize>
     table.iter().position(|entry| is_start(functions, *entry))
 }
 
-/// Sweeps until there is an entry at which a walk begins, or nothing new is found. If that took as
-/// many sweeps as no memory holds entries, memory would lack.
+/// Sweeps until there is an entry at which a walk begins, or nothing new is found. More sweeps than
+/// memory can hold entries count as want of memory.
 fn sweep_on(
     alloc: Global,
     ir: &Ir,

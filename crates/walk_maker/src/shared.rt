@@ -17,7 +17,7 @@ use nvm_base::List;
 use std::alloc::{AllocError, Global};
 use walk_check::{Certificate, Pieces, Reason, Reasons, Walk, check, instruction_at};
 
-/// How many logged sites are few: the walks of so many are sought one by one, and are short.
+/// Up to this number of logged sites the walks are sought one by one, and are short.
 const FEW: usize = 32;
 
 /// Sites, in order.

@@ -47,8 +47,8 @@ pub(crate) struct Table {
     all: List<Entry>,
     /// For each bucket, a number above the numbers of its entries.
     lasts: List<usize>,
-    /// For each entry, a number above those of the entries of its bucket before it. It ends where
-    /// memory lacked.
+    /// For each entry, a number above those of the earlier entries in its bucket. The list ends
+    /// where memory lacked.
     befores: List<usize>,
 }
 
@@ -83,7 +83,7 @@ impl Table {
         Ok(table)
     }
 
-    /// The table without entries, with so many buckets.
+    /// The table without entries.
     #[tactic(auto, using(crate::proofs::Chained::nothing_there))]
     pub(crate) fn empty(alloc: Global, buckets: usize) -> Result<Self, AllocError>
         ensures { IfOk result (λ t. t ≡ []) }
@@ -150,7 +150,7 @@ impl Table {
     }
 }
 
-/// The table of some entries, with so many buckets.
+/// The table of some entries.
 fn table_of(alloc: Global, entries: &[Entry], buckets: usize) -> Result<Table, AllocError>
     ensures { IfOk result (λ t. t ≡ entries.now) }
 {
@@ -190,7 +190,7 @@ fn keep(numbers: &mut List<usize>, number: usize)
     }
 }
 
-/// Puts a number at the end, if the list has so many numbers.
+/// Puts a number at the end, if the list has `count` numbers.
 fn keep_at(numbers: &mut List<usize>, count: usize, number: usize)
     ensures { buckets.IsNotedAt numbers.old count number numbers.new }
 {
@@ -312,8 +312,8 @@ fn register_of(fact: WalkFact) -> u32
     }
 }
 
-/// Of so many buckets the one of an entry's spot, by its function, its place, and the register of
-/// its fact.
+/// The bucket of an entry's spot among `count`, by its function, its place, and the register of its
+/// fact.
 #[tactic(auto, using(crate::proofs::Chained::bucket_is))]
 fn bucket_of(count: usize, entry: Entry) -> usize
     ensures { result ≡ buckets.bucket_of count entry }

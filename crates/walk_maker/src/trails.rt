@@ -15,8 +15,8 @@ use nvm_base::List;
 use std::alloc::{AllocError, Global};
 use walk_check::{Pieces, Walk};
 
-/// A trail is taken over if it has at most so many spots for each one that the search went through.
-/// So a walk that is near isn't left for a long one.
+/// The most spots that a trail may have for each one that the search went through. So a walk that
+/// is near isn't left for a long one.
 const SPOTS_EACH: usize = 8;
 
 /// The spots of the walks that were found, each with the link back to the spot before it.
@@ -62,8 +62,8 @@ impl Trails {
         }
     }
 
-    /// The number of an entry's spot on a trail, if the trail isn't too long for a search that went
-    /// through so many spots.
+    /// The number of an entry's spot on a trail, if the trail is short enough for a search that
+    /// went through `searched` spots.
     fn near(&self, entry: Entry, searched: usize) -> Option<usize> {
         let number = self.spots.number_of(entry)?;
         if self.length(number) / SPOTS_EACH <= searched {
@@ -92,8 +92,8 @@ impl Trails {
     }
 }
 
-/// Goes through the table, also through what it adds, until a walk begins at an entry or its spot
-/// is on a trail that isn't too long.
+/// Searches the table, and what it adds, until a walk reaches an entry or a trail that is short
+/// enough.
 fn seek_trail(
     alloc: Global,
     ir: &Ir,

@@ -12,8 +12,8 @@ use Rattle.pm_machine.specs.declared.effect.Effect.TheVariants.{Fences, Quiet}
 use Rattle.pm_machine.specs.declared.image.Image.{Image}
 use Rattle.pm_machine.specs.Effects.{events_of, records_past}
 use Rattle.pm_machine.specs.Machine.{State, StepOutcome, Goes, Ends, step, start}
-use Rattle.pm_machine.specs.Runs.{heap_in, due, owing}
-use Rattle.tx_run.specs.Due.{due_on, due_seal, due_call}
+use Rattle.pm_machine.specs.Runs.{heap_in, due, owing, due_on}
+use Rattle.tx_run.specs.Due.{due_seal, due_call}
 use Rattle.tx_run.specs.Settled.{HasLogged}
 use Rattle.workers_law.specs.AsCall.{quiet_on, CalledLaw}
 

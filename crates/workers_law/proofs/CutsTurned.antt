@@ -5,7 +5,7 @@ use Rattle.cache_model.specs.Event.{CacheEvent}
 use Rattle.cache_model.specs.Cache.{Words, Cache, view}
 use Rattle.cache_model.specs.Play.{play}
 use Rattle.cache_model.specs.Image.{HasOne}
-use Rattle.pool_layout.specs.declared.places.TheConstants.{DONE}
+use Rattle.pool_layout.specs.declared.places.TheConstants.{DONE, ARGUMENTS}
 use Rattle.pool_layout.specs.Places.{pool_of}
 use Rattle.pool_layout.specs.Log.{count}
 use Rattle.pool_layout.specs.Good.{Good}
@@ -15,12 +15,12 @@ use Rattle.pm_machine.specs.declared.effect.End.{End}
 use Rattle.pm_machine.specs.declared.image.Image.{Image}
 use Rattle.pm_machine.specs.Effects.{records_end, events_all}
 use Rattle.pm_machine.specs.Machine.{Finished, mrun, start}
-use Rattle.pm_machine.specs.Runs.{Due, heap_in, end_of}
+use Rattle.pm_machine.specs.Runs.{Due, heap_in, end_of, due_on}
 use Rattle.crash_law.specs.Law.{IsLeft}
 use Rattle.recovery.specs.Due.{due_clean, due_redo}
 use Rattle.crash_law.proofs.Again.{left_image}
 use Rattle.run_law.specs.Sound.{IsSoundRun}
-use Rattle.tx_run.specs.Due.{due_on, due_seal, due_call}
+use Rattle.tx_run.specs.Due.{due_seal, due_call}
 use Rattle.cut_law.specs.Law.{pool_with}
 use Rattle.cut_law.proofs.Misses.{view_one}
 use Rattle.cut_law.proofs.Dues.{owes_after, empty_after}
@@ -36,7 +36,8 @@ use Rattle.workers_law.proofs.Stands.{shown_images}
 
 module _ (image : Image) (tx : ℕ) (args : List ℤ) (c : Cache) (one : Words) (n : ℕ) (end : End)
     (es : List Effect) (super : Words)
-    (tx_fits : tx < 2 ^ 63) (few : length args ≤ 22) (n_fits : n < 2 ^ 62) (only : HasOne c one)
+    (tx_fits : tx < 2 ^ 63) (few : length args ≤ ARGUMENTS) (n_fits : n < 2 ^ 62)
+    (only : HasOne c one)
     (good : Good (pool_with image super) n (heap_in image.parts.sizes c) one)
     (a_fits : good.attempt < 2 ^ 62)
     (empty : count (pool_of image.parts.sizes) good.attempt one ≡ 0)

@@ -15,11 +15,11 @@ use Rattle.pm_machine.specs.declared.effect.End.TheVariants.{Trapped}
 use Rattle.pm_machine.specs.declared.image.Image.{Image}
 use Rattle.pm_machine.specs.Effects.{events_of, records_past}
 use Rattle.pm_machine.specs.Machine.{State, StepOutcome, Goes, Ends, step}
-use Rattle.pm_machine.specs.Runs.{Due, heap_in, due, end_of, owing}
+use Rattle.pm_machine.specs.Runs.{Due, heap_in, due, end_of, owing, due_on}
 use Rattle.pm_machine.specs.inside.Runs.{StepKeeps}
 use Rattle.pm_machine.proofs.Range.{keeps_step}
 use Rattle.pool_layout.specs.Sizes.{heap_words}
-use Rattle.tx_run.specs.Due.{due_on, due_seal}
+use Rattle.tx_run.specs.Due.{due_seal}
 use Rattle.pool_workers.specs.declared.task.Task.{Task}
 use Rattle.pool_workers.specs.declared.task.Task.TheVariants.{Begun, Running, Ending, Cut}
 use Rattle.pool_workers.specs.Task.{going, stepped_task, events_in, piece_of, task_past, end_answer}

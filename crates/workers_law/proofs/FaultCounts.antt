@@ -19,13 +19,13 @@ turn_rise (answer.Trap k) image t o d b turned = all_rise (piece_of image t d.ca
 turn_rise answer.Off image t o d b turned =
     part_rise (piece_of image t d.cache) refusal.Off d b turned.0
 turn_rise answer.Failed image t o d b turned =
-    part_rise (piece_of image t d.cache) refusal.Failed d b turned
+    part_rise (piece_of image t d.cache) refusal.Failed d b turned.0
 turn_rise answer.NoMemory image t o d b turned =
-    part_rise (piece_of image t d.cache) refusal.NoMemory d b turned
+    part_rise (piece_of image t d.cache) refusal.NoMemory d b turned.0
 
 pub turn_faults : TurnFaults
 turn_faults a image t o d b turned = (
   turn_rise a image t o d b turned,
   λ is. part_failed (piece_of image t d.cache) d b
-      (subst (λ (x : TurnAnswer). Turned x image t o d b) is turned),
+      (subst (λ (x : TurnAnswer). Turned x image t o d b) is turned).0,
 )

@@ -5,7 +5,7 @@ use Rattle.std.specs.Int.{cast_signed}
 use Rattle.cache_model.specs.Event.{CacheEvent, Store, Flush, Fence}
 use Rattle.cache_model.specs.Cache.{Words, Cache, view}
 use Rattle.cache_model.specs.Play.{play}
-use Rattle.pool_layout.specs.declared.places.TheConstants.{DONE, FUNCTION, SEAL}
+use Rattle.pool_layout.specs.declared.places.TheConstants.{DONE, FUNCTION, SEAL, ARGUMENTS}
 use Rattle.pool_layout.specs.declared.limits.Sizes.{Sizes}
 use Rattle.pool_layout.specs.Sizes.{heap_words, pool_lines}
 use Rattle.clobber_log.specs.Logs.{attempt_in, count_in}
@@ -21,10 +21,10 @@ use Rattle.pm_machine.specs.declared.effect.End.TheVariants.{Halted, Trapped}
 use Rattle.pm_machine.specs.declared.image.Image.{Image}
 use Rattle.pm_machine.specs.Effects.{events_of, records_past}
 use Rattle.pm_machine.specs.Machine.{State, StepOutcome, Goes, Ends, step, start}
-use Rattle.pm_machine.specs.Runs.{heap_in, AreLines, due, end_of, owing}
+use Rattle.pm_machine.specs.Runs.{heap_in, AreLines, due, end_of, owing, due_on}
 use Rattle.pm_machine.specs.inside.Runs.{IsInRange, StepKeeps}
 use Rattle.pm_machine.proofs.Range.{keeps_step}
-use Rattle.tx_run.specs.Due.{due_on, tail_events, due_run, due_seal, due_call}
+use Rattle.tx_run.specs.Due.{tail_events, due_run, due_seal, due_call}
 use Rattle.recovery.specs.Due.{due_clean}
 use Rattle.pool_workers.specs.declared.task.Task.{Task}
 use Rattle.pool_workers.specs.declared.task.Task.TheVariants.{Begun, Running, Ending, Cut}
@@ -50,7 +50,7 @@ few zero xs = omega arith
 few (suc n) [] = omega arith
 few (suc n) (x ∷ xs) = let h = few n xs in omega arith
 
-inside_seal : (n : ℕ) (f : ℤ) (args : List ℤ) (k : ℤ) → 6 ≤ n → length args ≤ 22 →
+inside_seal : (n : ℕ) (f : ℤ) (args : List ℤ) (k : ℤ) → 6 ≤ n → length args ≤ ARGUMENTS →
     AreInside n (seal_events f args k)
 unfolding seal_events unsealed_events payload_events sealing_events
 inside_seal n f args k le m =
@@ -124,8 +124,9 @@ inside_call image tx args c =
     let c1 = play c (due_seal tx args c) in
     let s = start image tx args in
     inside_append (pool_lines z) (due_seal tx args c) (due_run image s c1)
-    (inside_seal (pool_lines z) (cast_signed w64 tx) (take 22 args) (number_after (view c DONE))
-    (omega arith) (few 22 args))
+    (inside_seal (pool_lines z) (cast_signed w64 tx) (take ARGUMENTS args)
+    (number_after (view c DONE))
+    (omega arith) (few ARGUMENTS args))
     (inside_append (pool_lines z) (due_on image s c1).events
     (tail_events (end_of (due_on image s c1).fate) (play c1 (due_on image s c1).events))
     (inside_due image (attempt_in z (view c1)) image.parts.most (count_in z (view c1)) s c1 tt)
@@ -134,8 +135,8 @@ inside_call image tx args c =
 inside_piece : (image : Image) (t : Task) (c : Cache) → IsTask image t →
     AreInside (pool_lines image.parts.sizes) (piece_of image t c)
 inside_piece image (Begun tx args s) c task =
-    inside_seal (pool_lines image.parts.sizes) (cast_signed w64 tx) (take 22 args)
-    (number_after (view c DONE)) (omega arith) (few 22 args)
+    inside_seal (pool_lines image.parts.sizes) (cast_signed w64 tx) (take ARGUMENTS args)
+    (number_after (view c DONE)) (omega arith) (few ARGUMENTS args)
 inside_piece image (Running s a n k) c task =
     let h = heap_in image.parts.sizes c in
     inside_step image.parts.sizes a n s.logged h (step image n s h)

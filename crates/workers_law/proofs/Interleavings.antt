@@ -67,9 +67,9 @@ module _ (image : Image) where
   turned_shows s answer.Off t o d b task h turned =
       (turns image s.tx s.args s.cache).3 Off t d b task h turned.0
   turned_shows s answer.Failed t o d b task h turned =
-      (turns image s.tx s.args s.cache).3 Failed t d b task h turned
+      (turns image s.tx s.args s.cache).3 Failed t d b task h turned.0
   turned_shows s answer.NoMemory t o d b task h turned =
-      (turns image s.tx s.args s.cache).3 NoMemory t d b task h turned
+      (turns image s.tx s.args s.cache).3 NoMemory t d b task h turned.0
 
   module _ (starts : ℕ → Option TaskStart) (worker : ℕ) (a : TurnAnswer) (ts us : Tasks)
       (d b : Device) (all : AllStand image starts ts d)

@@ -1,5 +1,5 @@
 -- The seal of a call in its line, turn by turn.
-use Rattle.std.proofs.Common.{◌≡◌, ◌≢◌, ◌≤◌, ◌-◌, ◌/◌, ◌==◌, ◌&&◌, inl, inr, ℕ, zero, suc, cond}
+use Rattle.std.proofs.Common.{◌≡◌, ◌≢◌, ◌≤◌, ◌-◌, ◌/◌, ◌==◌, ◌&&◌, inl, inr, ℕ, zero, suc}
 use Rattle.std.proofs.Common.{if◌then◌else◌, Bool, true, false, Option, Some, None, List, [], ◌∷◌}
 use Rattle.std.proofs.Common.{◌++◌, drop, length, take, w64, ℤ, refl, sym, ap, ◌∙◌, subst, arith}
 use Rattle.std.proofs.Common.{ne_eqb, int_eq}
@@ -7,6 +7,7 @@ use Rattle.std.specs.Int.{cast_signed}
 use Rattle.std.specs.List.{list_all, list_any}
 use Rattle.std.proofs.lemmas.Bool.Decides.{Decides-int_eq}
 use Rattle.std.proofs.lemmas.List.Folds.{list_all-append, list_any-append}
+use Rattle.std.proofs.lemmas.Bool.{and_parts, and_from, false_from_ne_true, cond-false}
 use Rattle.cache_model.specs.Event.{CacheEvent, Store, Flush, Fence}
 use Rattle.cache_model.specs.Cache.{Words, Line, Cache, versions, view}
 use Rattle.cache_model.specs.Play.{store_line, flush_line, fence_line, fence_at, apply, play}
@@ -19,7 +20,7 @@ use Rattle.pmem.specs.declared.answer.Phase.{Phase}
 use Rattle.pmem.specs.declared.answer.Phase.TheVariants.{Unsealed, Sealing, Sealed}
 use Rattle.pmem.specs.declared.answer.Refusal.TheVariants.{Off}
 use Rattle.pmem.proofs.Refused.{all_cache}
-use Rattle.pool_layout.specs.declared.places.TheConstants.{DONE, SEAL}
+use Rattle.pool_layout.specs.declared.places.TheConstants.{DONE, SEAL, ARGUMENTS}
 use Rattle.pool_layout.specs.declared.limits.Sizes.{Sizes}
 use Rattle.pool_map.specs.declared.trap.TrapKind.TheVariants.{Steps}
 use Rattle.clobber_log.specs.Logs.{attempt_in, count_in}
@@ -65,7 +66,7 @@ beside_first (e ∷ es) fs all = (all.0, beside_first es fs all.1)
 
 -- if all versions have the seal
 
-all_of : (a b : Bool) → (if a then Sealed else (if b then Sealing else Unsealed)) ≡ Sealed →
+pub all_of : (a b : Bool) → (if a then Sealed else (if b then Sealing else Unsealed)) ≡ Sealed →
     a ≡ true
 all_of true b is = refl
 all_of false true is = absurd (cc)
@@ -76,30 +77,18 @@ all_drop : (k : ℤ) (j : ℕ) (us : List Words) → list_all (seal.has_seal k) 
 all_drop k zero us all = all
 all_drop k (suc j) [] all = refl
 all_drop k (suc j) (u ∷ us) all =
-    all_drop k j us (and_right (seal.has_seal k u) (list_all (seal.has_seal k) us) all)
-  where
-    and_right : (a b : Bool) → (a && b) ≡ true → b ≡ true
-    and_right true b is = is
-    and_right false b is = absurd (cc)
+    all_drop k j us (and_parts (seal.has_seal k u) (list_all (seal.has_seal k) us) all).1
 
 fence_all : (k : ℤ) (m : Option ℕ) (l : Line) → list_all (seal.has_seal k) (versions l) ≡ true →
     list_all (seal.has_seal k) (versions (fence_at m l)) ≡ true
 fence_all k None l all = all
 fence_all k (Some j) l all =
     let both = list_all-append (seal.has_seal k) l.older (l.newest ∷ []) in
-    let parts = split (list_all (seal.has_seal k) l.older)
+    let parts = and_parts (list_all (seal.has_seal k) l.older)
     (list_all (seal.has_seal k) (l.newest ∷ [])) (sym both ∙ all) in
     list_all-append (seal.has_seal k) (drop j l.older) (l.newest ∷ [])
-    ∙ join (list_all (seal.has_seal k) (drop j l.older))
+    ∙ and_from (list_all (seal.has_seal k) (drop j l.older))
     (list_all (seal.has_seal k) (l.newest ∷ [])) (all_drop k j l.older parts.0) parts.1
-  where
-    split : (a b : Bool) → (a && b) ≡ true → (a ≡ true) × (b ≡ true)
-    split true b is = (refl, is)
-    split false b is = absurd (cc)
-
-    join : (a b : Bool) → a ≡ true → b ≡ true → (a && b) ≡ true
-    join true b x y = y
-    join false b x y = absurd (cc)
 
 sealed_fence : (k : ℤ) (l : Line) → seal.phase_of l k ≡ Sealed →
     seal.phase_of (fence_line l) k ≡ Sealed
@@ -110,19 +99,15 @@ sealed_fence k l is =
     ap (λ (b : Bool). if b then Sealed else
     (if list_any (seal.has_seal k) (versions (fence_line l)) then Sealing else Unsealed)) all
 
-cond_off : (b : Bool) (x y : Line) → b ≡ false → cond b x y ≡ y
-cond_off true x y e = absurd (cc)
-cond_off false x y e = refl
-
 sealed_event : (k : ℤ) (c : Cache) (e : CacheEvent) → IsBeside e →
     seal.phase_of (c 5) k ≡ Sealed → seal.phase_of (apply c e 5) k ≡ Sealed
 unfolding apply
 sealed_event k c (Store w x) beside is =
     ap (λ (l : Line). seal.phase_of l k)
-    (cond_off (5 == w / 8) (store_line (c 5) w x) (c 5) (ne_eqb 5 (w / 8) beside)) ∙ is
+    (cond-false (5 == w / 8) (store_line (c 5) w x) (c 5) (ne_eqb 5 (w / 8) beside)) ∙ is
 sealed_event k c (Flush l) beside is =
     ap (λ (l : Line). seal.phase_of l k)
-    (cond_off (5 == l) (flush_line (c 5)) (c 5) (ne_eqb 5 l beside)) ∙ is
+    (cond-false (5 == l) (flush_line (c 5)) (c 5) (ne_eqb 5 l beside)) ∙ is
 sealed_event k c Fence beside is = sealed_fence k (c 5) is
 
 sealed_play : (k : ℤ) (es : List CacheEvent) (c : Cache) → AreBeside es →
@@ -175,23 +160,20 @@ beside_tail (Trapped k) c = (
 
 -- if no version has it
 
-false_of : (b : Bool) → (b ≡ true → ⊥) → b ≡ false
-false_of true never = absurd (never refl)
-false_of false never = refl
-
 lacks_any : (k : ℤ) (us : List Words) → ((v : Words) → Among us v → v SEAL ≢ k) →
     list_any (seal.has_seal k) us ≡ false
 lacks_any k [] lacks = refl
 lacks_any k (u ∷ us) lacks =
     rw (
-      false_of (int_eq (u SEAL) k) (λ e. lacks u (inl refl) ((Decides-int_eq (u SEAL) k).0 e)),
+      false_from_ne_true (int_eq (u SEAL) k)
+          (λ e. lacks u (inl refl) ((Decides-int_eq (u SEAL) k).0 e)),
       lacks_any k us (λ v among. lacks v (inr among)),
     ) refl
 
 lacks_phase : (k : ℤ) (l : Line) → LacksSeal k l → seal.phase_of l k ≡ Unsealed
 lacks_phase k l lacks =
     let own : seal.has_seal k l.newest ≡ false =
-    false_of (int_eq (l.newest SEAL) k)
+    false_from_ne_true (int_eq (l.newest SEAL) k)
     (λ e. lacks l.newest (inl refl) ((Decides-int_eq (l.newest SEAL) k).0 e)) in
     let all : list_all (seal.has_seal k) (versions l) ≡ false =
     list_all-append (seal.has_seal k) l.older (l.newest ∷ [])
@@ -205,8 +187,8 @@ lacks_phase k l lacks =
     and_false true = refl
     and_false false = refl
 
-few_args : (args : List ℤ) → length (take 22 args) ≤ 22
-few_args args = few 22 args
+few_args : (args : List ℤ) → length (take ARGUMENTS args) ≤ ARGUMENTS
+few_args args = few ARGUMENTS args
   where
     few : (n : ℕ) (xs : List ℤ) → length (take n xs) ≤ n
     few zero xs = omega arith
@@ -240,8 +222,8 @@ module _ (image : Image) (k : ℤ) where
   whole a (Begun tx args s) u d b uncut h went =
       let z = image.parts.sizes in
       let sealed : seal.phase_of (b.cache 5) k ≡ Sealed =
-      sealed_law d b (cast_signed w64 tx) (take 22 args) k (few_args args) h.0
-      (subst (λ (x : ℤ). PlaysAll d (seal_events (cast_signed w64 tx) (take 22 args) x) b)
+      sealed_law d b (cast_signed w64 tx) (take ARGUMENTS args) k (few_args args) h.0
+      (subst (λ (x : ℤ). PlaysAll d (seal_events (cast_signed w64 tx) (take ARGUMENTS args) x) b)
       (sym h.1) went.2) in
       let c1 = play d.cache (due_seal tx args d.cache) in
       some_to (going s (attempt_in z (view c1)) (count_in z (view c1)) image.parts.most) u b.cache
@@ -270,14 +252,14 @@ module _ (image : Image) (k : ℤ) where
   cut : (t : Task) (p : Phase) (d b : Device) → InPhase k t d.cache →
       Turned answer.Off image t (Some (Cut p)) d b → seal.phase_of (b.cache 5) k ≡ p
   cut (Begun tx args s) Unsealed d b h turned =
-      unsealed_law d b (cast_signed w64 tx) (take 22 args) k (few_args args) h.0
+      unsealed_law d b (cast_signed w64 tx) (take ARGUMENTS args) k (few_args args) h.0
       (subst (λ (x : ℤ). PlaysPart Off d
-      (unsealed_events (cast_signed w64 tx) (take 22 args) x) b) (sym h.1) turned.1)
+      (unsealed_events (cast_signed w64 tx) (take ARGUMENTS args) x) b) (sym h.1) turned.1)
   cut (Begun tx args s) Sealing d b h turned =
-      sealing_law d b (cast_signed w64 tx) (take 22 args) k (few_args args) h.0 (record {
+      sealing_law d b (cast_signed w64 tx) (take ARGUMENTS args) k (few_args args) h.0 (record {
         at_seal = turned.1.between;
         stored = subst (λ (x : ℤ). PlaysAll d
-            (unsealed_events (cast_signed w64 tx) (take 22 args) x) turned.1.between)
+            (unsealed_events (cast_signed w64 tx) (take ARGUMENTS args) x) turned.1.between)
             (sym h.1) turned.1.done;
         went = turned.1.went;
       })

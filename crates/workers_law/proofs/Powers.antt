@@ -1,7 +1,7 @@
 -- The effect of a power cut, a fence and a creation on a compartment.
 use Rattle.std.proofs.Common.{◌≡◌, ◌≢◌, ⊎_elim, ℕ, zero, suc, ◌+◌, ◌-◌, ◌*◌, ◌/◌, ◌<◌, ◌≤◌, ◌==◌}
 use Rattle.std.proofs.Common.{nat_lt, cond, Bool, true, false, List, [], ◌∷◌, ◌++◌, append-nil, map}
-use Rattle.std.proofs.Common.{length, drop, slice_index_or, Option, Some, None, ℤ, refl, sym, ap}
+use Rattle.std.proofs.Common.{length, slice_index_or, Option, Some, None, ℤ, refl, sym, ap}
 use Rattle.std.proofs.Common.{◌∙◌, subst, arith, eq-eqb, ne_eqb, length-append}
 use Rattle.std.proofs.lemmas.Bool.{cases_eq, ltb-true, ltb-false}
 use Rattle.cache_model.specs.Event.{CacheEvent, Store, Flush, Fence}
@@ -21,6 +21,7 @@ use Rattle.pool_layout.specs.declared.limits.Sizes.{Sizes}
 use Rattle.pool_layout.specs.Sizes.{pool_lines}
 use Rattle.args_log.specs.Created.{sizes_events, digest_events, creation_events}
 use Rattle.crash_law.specs.Law.{IsAtRest, IsMarkIn, AreMarked}
+use Rattle.crash_law.proofs.Rest.{single_ready_of}
 use Rattle.pool_workers.specs.Compartment.{words_from, line_counted_from, cache_in, lifted}
 use Rattle.pool_workers.specs.Compartment.{IsInside, first_line}
 use Rattle.workers_law.specs.Interleaved.{WorkerEvent, steps_by, whole_events, own_events}
@@ -133,30 +134,19 @@ fenced_image true c image im l = let pick = im l in
     (pick.0, fence_version c l pick.0 pick.1, pick.2)
 fenced_image false c image im l = im l
 
-fenced_view : (k : Bool) (c : Cache) → view (fenced_cache k c) ≡ view c
+pub fenced_view : (k : Bool) (c : Cache) → view (fenced_cache k c) ≡ view c
 fenced_view true c = λ i q. view_fence c q i
 fenced_view false c = refl
 
-rest_at : (m : Option ℕ) (l : Line) → l.older ≡ [] → (fence_at m l).older ≡ []
-rest_at None l is = is
-rest_at (Some k) l is = ap (λ (us : List Words). drop k us) is ∙ drop_none k
-  where
-    drop_none : (j : ℕ) → drop {A = Words} j [] ≡ []
-    drop_none zero = refl
-    drop_none (suc j) = refl
-
 fenced_rest : (k : Bool) (c : Cache) → IsAtRest c → IsAtRest (fenced_cache k c)
 unfolding apply
-fenced_rest true c rests l = rest_at (c l).mark (c l) (rests l)
+fenced_rest true c rests l = single_ready_of (c l).mark (c l) (rests l)
 fenced_rest false c rests l = rests l
 
 pub fenced : FencedLaw
 fenced k c = (fenced_image k c, fenced_view k c, fenced_rest k c)
 
 -- marks
-
-Marked : Line → Type 0
-Marked l = IsMarkIn l.mark (length l.older)
 
 mark_grows : (m : Option ℕ) (n : ℕ) → IsMarkIn m n → (k : ℕ) → n ≤ k → IsMarkIn m k
 mark_grows None n is k le = tt

@@ -13,7 +13,7 @@ use Rattle.pmem.specs.Played.{PlaysPart}
 use Rattle.pmem.specs.declared.answer.Refusal.{Refusal}
 use Rattle.pmem.proofs.Refused.{all_cache}
 use Rattle.pmem.proofs.Parts.{refused_cache}
-use Rattle.pool_layout.specs.declared.places.TheConstants.{DONE, ATTEMPT}
+use Rattle.pool_layout.specs.declared.places.TheConstants.{DONE, ATTEMPT, ARGUMENTS}
 use Rattle.pool_layout.specs.declared.places.Place.TheVariants.{Heap}
 use Rattle.pool_layout.specs.Places.{at, pool_of}
 use Rattle.pool_map.specs.declared.trap.TrapKind.TheVariants.{Steps}
@@ -41,6 +41,7 @@ use Rattle.workers_law.specs.Standing.{ShowsPlayed, ShowsSome, TaskStands, Stand
 use Rattle.workers_law.specs.Standing.{SameViewLaw, TurnsLaw, ShownImagesLaw}
 use Rattle.workers_law.specs.Fenced.{fenced_cache}
 use Rattle.workers_law.specs.Left.{run_left, left_of, left_or}
+use Rattle.workers_law.proofs.Powers.{fenced_view}
 
 going_left : (image : Image) (s : State) (a n k : ℕ) (c : Cache) →
     left_of image (going s a n k) c ≡ run_left image s a n k c
@@ -138,7 +139,8 @@ same_run image s a n k c d same =
 pub same_seal : (tx : ℕ) (args : List ℤ) (c d : Cache) → view c ≡ view d →
     due_seal tx args c ≡ due_seal tx args d
 same_seal tx args c d same =
-    ap (λ (w : Words). seal_events (cast_signed w64 tx) (take 22 args) (number_after (w DONE))) same
+    ap (λ (w : Words). seal_events (cast_signed w64 tx) (take ARGUMENTS args)
+    (number_after (w DONE))) same
 
 same_call : (image : Image) (tx : ℕ) (args : List ℤ) (c d : Cache) → view c ≡ view d →
     due_call image tx args c ≡ due_call image tx args d
@@ -205,10 +207,6 @@ shows_fence true due left c0 c s = record {
   now_is = ap (λ (d : Cache). apply d Fence) s.now_is ∙ sym (play_append c0 s.shown (Fence ∷ []));
 }
 
-same_fenced : (k : Bool) (c : Cache) → view (fenced_cache k c) ≡ view c
-same_fenced true c = λ i q. view_fence c q i
-same_fenced false c = refl
-
 -- a part of a list was played
 pub record Part (es : List CacheEvent) (c b : Cache) : Type 0 where
   pub first : List CacheEvent
@@ -253,7 +251,7 @@ module _ (image : Image) (tx : ℕ) (args : List ℤ) (c0 : Cache) where
   waits t c k s =
       subst (λ (es : List CacheEvent).
       ShowsPlayed (due_call image tx args c0) es c0 (fenced_cache k c))
-      (same_left image t c (fenced_cache k c) (sym (same_fenced k c)))
+      (same_left image t c (fenced_cache k c) (sym (fenced_view k c)))
       (shows_fence k (due_call image tx args c0) (left_of image t c) c0 c s)
 
   stops : (why : Refusal) (t : Task) (d b : Device) → IsTask image t →
@@ -285,13 +283,13 @@ turns image tx args c0 = (
   stays image tx args c0,
 )
 
-fenced_view : (es fs : List CacheEvent) → IsFenced es fs → (c d : Cache) → view c ≡ view d →
+view_with_fences : (es fs : List CacheEvent) → IsFenced es fs → (c d : Cache) → view c ≡ view d →
     view (play c fs) ≡ view (play d es)
-fenced_view _ _ Empty c d same = same
-fenced_view _ _ (Kept {es = es} {fs = fs} e is) c d same =
-    fenced_view es fs is (apply c e) (apply d e) (same_apply c d e same)
-fenced_view _ _ (Added {es = es} {fs = fs} is) c d same =
-    fenced_view es fs is (apply c Fence) d ((λ i q. view_fence c q i) ∙ same)
+view_with_fences _ _ Empty c d same = same
+view_with_fences _ _ (Kept {es = es} {fs = fs} e is) c d same =
+    view_with_fences es fs is (apply c e) (apply d e) (same_apply c d e same)
+view_with_fences _ _ (Added {es = es} {fs = fs} is) c d same =
+    view_with_fences es fs is (apply c Fence) d ((λ i q. view_fence c q i) ∙ same)
 
 pub shown_images : ShownImagesLaw
 shown_images due c0 c marks = (
@@ -311,6 +309,6 @@ shown_images due c0 c marks = (
       ((fences_add_none c0 h.done h.shown marks h.fenced).2
       (subst (λ (es : List CacheEvent). IsAtRest (play c0 es))
       (sym (sym (append-nil h.done) ∙ h.due_is)) rests))),
-  (λ h. ap view h.now_is ∙ fenced_view h.done h.shown h.fenced c0 c0 refl
+  (λ h. ap view h.now_is ∙ view_with_fences h.done h.shown h.fenced c0 c0 refl
       ∙ ap (λ (es : List CacheEvent). view (play c0 es)) (sym (append-nil h.done) ∙ h.due_is)),
 )

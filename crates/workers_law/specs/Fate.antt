@@ -7,8 +7,8 @@ use Rattle.pool_map.specs.declared.trap.TrapKind.TheVariants.{Steps}
 use Rattle.pm_machine.specs.declared.effect.End.{End}
 use Rattle.pm_machine.specs.declared.effect.End.TheVariants.{Trapped}
 use Rattle.pm_machine.specs.declared.image.Image.{Image}
-use Rattle.pm_machine.specs.Runs.{due, end_of}
-use Rattle.tx_run.specs.Due.{due_on, due_seal}
+use Rattle.pm_machine.specs.Runs.{due, end_of, due_on}
+use Rattle.tx_run.specs.Due.{due_seal}
 use Rattle.pool_workers.specs.declared.task.Task.{Task}
 use Rattle.pool_workers.specs.declared.task.Task.TheVariants.{Begun, Running, Ending, Cut}
 use Rattle.pool_workers.specs.Task.{piece_of, task_past, end_answer, answer_past, ticks_of, IsTask}

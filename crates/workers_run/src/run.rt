@@ -19,8 +19,8 @@ use std::sync::ledger::Ledger;
 use workers_script::WorkersCommand;
 use workers_session::{WorkersSession, create_workers};
 
-/// Runs the commands on a new pool of compartments, one for each of so many workers. The lines of
-/// each command are written before the next.
+/// Runs the commands on a new pool of compartments, one for each worker. The lines of each command
+/// are written before the next.
 pub fn run_workers<K: Sink, P: Pmem + Drop, L: Ledger>(
     alloc: Global,
     program: &Program,

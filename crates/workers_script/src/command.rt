@@ -19,9 +19,9 @@ pub enum WorkersCommand {
     Turn(WorkerList),
     /// All workers have turns in rounds, until each is idle.
     Finish,
-    /// The power goes off after so many events.
+    /// The power goes off after n events.
     Stop(u64),
-    /// The device fails after so many events.
+    /// The device fails after n events.
     Fault(u64),
     /// A power cut, and its choice.
     Power(Choice),

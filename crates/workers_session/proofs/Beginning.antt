@@ -11,8 +11,7 @@ use Rattle.tx_run.specs.declared.standing.Standing.{Standing}
 use Rattle.tx_run.specs.declared.standing.Standing.TheVariants as stands
 use Rattle.pool_workers.specs.declared.answer.BeginAnswer.{BeginAnswer}
 use Rattle.pool_workers.specs.declared.answer.BeginAnswer.TheVariants as begins
-use Rattle.pool_workers.specs.Task.{IsUncutOr}
-use Rattle.pool_workers.specs.Crew.{Tasks, task_at, AreUncut, OtherTasksStay, Begins}
+use Rattle.pool_workers.specs.Crew.{Tasks, task_at, OtherTasksStay, Begins}
 use Rattle.workers_session.specs.WorkersState.{WorkersState, marked_line}
 use Rattle.workers_session.specs.WorkersCommands.{BeginsAs, scene_of}
 use Rattle.workers_session.specs.inside.Turning.{begin_line, begin_runs_out}
@@ -81,11 +80,3 @@ module _ (image : Image) (worker tx : ℕ) (args : List ℤ) (d : Device) (k : �
       )
   begins_as (stands.Unusable kind) a unmarked on numbers ready = absurd cc
   begins_as stands.Off a unmarked on numbers ready = absurd (on refl)
-
-pub begun_uncut : (i : ℕ) (ts us : Tasks) → IsUncutOr (task_at us i) → OtherTasksStay i ts us →
-    AreUncut ts → AreUncut us
-begun_uncut i ts us own others uncut =
-    λ j. ⊎_elim
-    (λ (e : j ≡ i). subst (λ (n : ℕ). IsUncutOr (task_at us n)) (sym e) own)
-    (λ (ne : j ≢ i). subst IsUncutOr (sym (others j ne)) (uncut j))
-    (cases_eq j i)

@@ -1,52 +1,25 @@
 -- Lists of transactions, by what each worker has.
 use Rattle.std.proofs.lemmas.Bool.{cases_eq}
 use Rattle.std.proofs.lemmas.List.{length-replicate}
-use Rattle.std.proofs.Common.{◌≡◌, ◌≢◌, ◌∙◌, ◌⊎◌, inl, inr, ⊎_elim, ℕ, zero, suc, ◌+◌, ◌<◌, ◌≤◌}
-use Rattle.std.proofs.Common.{nat_lt, if◌then◌else◌, Bool, true, false, List, [], ◌∷◌, ◌++◌, Some}
-use Rattle.std.proofs.Common.{None, length, drop, replicate, refl, sym, ap, subst, append-nil}
-use Rattle.std.proofs.Common.{append_assoc, arith}
+use Rattle.std.proofs.Common.{◌≡◌, ◌≢◌, ◌∙◌, ◌⊎◌, ⊎_elim, ℕ, zero, suc, ◌+◌, ◌<◌, ◌≤◌, nat_lt}
+use Rattle.std.proofs.Common.{if◌then◌else◌, Bool, true, false, List, [], ◌∷◌, ◌++◌, Some, None}
+use Rattle.std.proofs.Common.{length, drop, replicate, refl, sym, ap, subst, append_assoc, arith}
 use Rattle.cache_model.specs.Event.{CacheEvent}
 use Rattle.pmem.specs.Device.{Device, blanked}
 use Rattle.pmem.specs.Played.{PlaysAll}
 use Rattle.pmem.proofs.Refused.{all_on}
 use Rattle.pm_machine.specs.declared.image.Image.{Image}
 use Rattle.pool_workers.specs.Task.{IsUncutOr}
-use Rattle.pool_workers.specs.Crew.{Tasks, task_at, AreTasks, AreUncut, HasCompartments, OtherTasksStay}
+use Rattle.pool_workers.specs.Crew.{Tasks, task_at, AreTasks, HasCompartments, OtherTasksStay}
 use Rattle.workers_session.specs.declared.line.WorkersLine.{WorkersLine}
-use Rattle.workers_session.specs.WorkersState.{WorkersState, IsReadyFor}
-use Rattle.workers_session.specs.WorkersState.{stranger_in}
-use Rattle.workers_session.specs.WorkersCommands.{Scene, AreIdle, stopped_line, stopped_lines}
+use Rattle.workers_session.specs.WorkersState.{IsReadyFor, stranger_in}
+use Rattle.workers_session.specs.WorkersCommands.{Scene, stopped_line, stopped_lines}
 use Rattle.workers_session.proofs.Rounds.{split_last}
 
 pub idle_at : (n j : ℕ) → task_at (replicate n None) j ≡ None
 idle_at zero j = refl
 idle_at (suc n) zero = refl
 idle_at (suc n) (suc j) = idle_at n j
-
-pub out_of : (ts : Tasks) (j : ℕ) → length ts ≤ j → task_at ts j ≡ None
-out_of [] j past = refl
-out_of (o ∷ os) zero past = absurd (omega arith)
-out_of (o ∷ os) (suc j) past = out_of os j (omega arith)
-
-pub idle_uncut : (ts : Tasks) → AreIdle ts → AreUncut ts
-idle_uncut ts idle = λ j. subst IsUncutOr (sym (idle j)) tt
-
-split_at : (j n : ℕ) → (j < n) ⊎ (n ≤ j)
-split_at j zero = inr (omega arith)
-split_at zero (suc n) = inl (omega arith)
-split_at (suc j) (suc n) = ⊎_elim
-    (λ (less : j < n). inl (omega arith))
-    (λ (past : n ≤ j). inr (omega arith))
-    (split_at j n)
-
--- all are idle if each that there is is idle
-pub all_idle : (ts : Tasks) (n : ℕ) → length ts ≤ n →
-    ((j : ℕ) → j < n → task_at ts j ≡ None) → AreIdle ts
-all_idle ts n few idle = λ j. by_place j (split_at j n)
-  where
-    by_place : (j : ℕ) → (j < n) ⊎ (n ≤ j) → task_at ts j ≡ None
-    by_place j (inl less) = idle j less
-    by_place j (inr past) = out_of ts j (omega arith)
 
 pub same_tasks : (ts us : Tasks) → length us ≡ length ts →
     ((j : ℕ) → task_at us j ≡ task_at ts j) → us ≡ ts
@@ -57,9 +30,6 @@ same_tasks (o ∷ os) (p ∷ ps) len same =
     let head : p ≡ o = same 0 in
     let rest : ps ≡ os = same_tasks os ps (omega arith) (λ j. same (suc j)) in
     rw (head, rest) refl
-
-pub state_is : (w v : WorkersState) → v.tasks ≡ w.tasks → v.down ≡ w.down → v ≡ w
-state_is w v tasks down = λ i. record { tasks = tasks i; down = down i }
 
 pub scene_is : (x y : Scene) → y.workers.tasks ≡ x.workers.tasks → y.workers.down ≡ x.workers.down
     → y.device ≡ x.device → y.steps ≡ x.steps → y ≡ x
@@ -102,18 +72,6 @@ stopped_more ts i lines first all less is was =
           (stopped_lines (suc i) (drop (suc i) ts)),
       ← stopped_next ts i i less,
     ) was
-
-stopped_past : (ts : Tasks) (i w : ℕ) → length ts ≤ i → stopped_lines w (drop i ts) ≡ []
-stopped_past [] zero w past = refl
-stopped_past [] (suc i) w past = refl
-stopped_past (o ∷ os) zero w past = absurd (omega arith)
-stopped_past (o ∷ os) (suc i) w past = stopped_past os i w (omega arith)
-
-pub stopped_end : (ts : Tasks) (i : ℕ) (lines all : List WorkersLine) → length ts ≤ i →
-    lines ++ stopped_lines i (drop i ts) ≡ all → all ≡ lines
-stopped_end ts i lines all past was =
-    sym was ∙ ap (λ (ls : List WorkersLine). lines ++ ls) (stopped_past ts i i past)
-    ∙ simp append-nil
 
 -- a new pool of compartments, whose workers are idle
 pub created_ready : (image : Image) (count lines : ℕ) (ts : Tasks) (d b : Device)

@@ -1,7 +1,6 @@
 -- Lines that are put at the end of others.
 use Rattle.std.proofs.Common.{List, [], ◌++◌, Option, Some, None, append_assoc, append-nil}
 use Rattle.workers_session.specs.declared.line.WorkersLine.{WorkersLine}
-use Rattle.workers_session.specs.Told.{GivesLines}
 use Rattle.workers_session.specs.inside.Turning.{Extends}
 
 pub extends_nothing : (told : Option (List WorkersLine)) → Extends told told []
@@ -14,8 +13,3 @@ extends_more a b None xs ys p q = tt
 extends_more a None (Some m) xs ys p q = absurd q
 extends_more None (Some l) (Some m) xs ys p q = absurd p
 extends_more (Some k) (Some l) (Some m) xs ys p q = rw (q, p) (append_assoc k xs ys)
-
-pub extends_told : (told : Option (List WorkersLine)) (lines : List WorkersLine) →
-    Extends (Some []) told lines → GivesLines told lines
-extends_told None lines p = tt
-extends_told (Some told) lines p = p

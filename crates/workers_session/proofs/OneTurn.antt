@@ -11,9 +11,8 @@ use Rattle.pool_workers.specs.Task.{ticks_of, IsUncutOr, IsGoing}
 use Rattle.pool_workers.specs.Crew.{Tasks, task_at, AreTasks, AreUncut, HasCompartments, OtherTasksStay}
 use Rattle.pool_workers.specs.Crew.{TurnOf, compartment}
 use Rattle.workers_session.specs.WorkersState.{WorkersState, IsReadyFor}
-use Rattle.workers_session.specs.WorkersCommands.{scene_of, is_interrupted, TurnFor}
+use Rattle.workers_session.specs.WorkersCommands.{is_interrupted}
 use Rattle.workers_session.specs.inside.Turning.{turns_in, busy_one}
-use Rattle.workers_session.proofs.Crews.{scene_is}
 use Rattle.workers_session.proofs.Onward.{turned_on, goes_on}
 use Rattle.workers_session.proofs.Rounds.{turn_fewer}
 
@@ -40,20 +39,6 @@ module _ (image : Image) (i : ℕ) (a : TurnAnswer) (w : WorkersState) (us : Tas
 
   on : d.on ≡ true
   on = p.sound.on p.up
-
-  by_task : (o : Option Task) → task_at w.tasks i ≡ o →
-      TurnFor o image i a (scene_of w d k) (scene_of after b k1)
-  by_task None is =
-      let same = p.idle is in (
-        same.0,
-        scene_is (scene_of w d k) (scene_of after b k1) same.1
-            (ap is_interrupted same.0 ∙ sym p.up) same.2 same.3,
-      )
-  by_task (Some t) is =
-      let one = p.turned t is on in (one.0, p.count, one.1, refl)
-
-  pub turn_for : TurnFor (task_at w.tasks i) image i a (scene_of w d k) (scene_of after b k1)
-  turn_for = by_task (task_at w.tasks i) refl
 
   on_by : (o : Option Task) → task_at w.tasks i ≡ o → is_interrupted a ≡ false → b.on ≡ true
   on_by None is goes = ap (λ (x : Device). x.on) (p.idle is).2 ∙ on

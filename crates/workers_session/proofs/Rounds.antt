@@ -1,7 +1,6 @@
 -- A turn that isn't interrupted lowers the number of turns that are left.
-use Rattle.std.proofs.Common.{◌≡◌, ◌⊎◌, inl, inr, ⊎_elim, ℕ, zero, suc, ◌+◌, ◌-◌, ◌<◌, ◌≤◌, Bool}
-use Rattle.std.proofs.Common.{true, false, if◌then◌else◌, [], ◌∷◌, Option, Some, length, refl, ap}
-use Rattle.std.proofs.Common.{subst, ne_eqb, arith}
+use Rattle.std.proofs.Common.{◌≡◌, ◌⊎◌, inl, inr, ⊎_elim, ℕ, zero, suc, ◌+◌, ◌-◌, ◌<◌, ◌≤◌, false}
+use Rattle.std.proofs.Common.{[], ◌∷◌, Option, Some, length, refl, ap, subst, ne_eqb, arith}
 use Rattle.cache_model.specs.Cache.{Cache, view}
 use Rattle.cache_model.specs.Play.{play}
 use Rattle.pmem.specs.Device.{Device}
@@ -122,16 +121,6 @@ split_last (suc i) (suc n) less = ⊎_elim
     (λ (last : i ≡ n). inr (ap suc last))
     (split_last i n (omega arith))
 
-busy_last : (n i : ℕ) (ts : Tasks) → (i < n → busy_one (task_at ts i) ≤ busy_first n ts) →
-    (i < n) ⊎ (i ≡ n) → busy_one (task_at ts i) ≤ busy_first (suc n) ts
-busy_last n i ts below (inl before) = let most = below before in omega arith
-busy_last n i ts below (inr last) = rw last (omega arith)
-
-pub busy_at : (n i : ℕ) (ts : Tasks) → i < n → busy_one (task_at ts i) ≤ busy_first n ts
-busy_at zero i ts less = absurd (omega arith)
-busy_at (suc n) i ts less =
-    busy_last n i ts (λ before. busy_at n i ts before) (split_last i n less)
-
 -- one more turn of a round, of a worker that has had none before
 pub busy_more : (m i : ℕ) (start now next : Tasks) → task_at now i ≡ task_at start i →
     turns_in m now + busy_first i start ≤ turns_in m start →
@@ -141,11 +130,3 @@ busy_more m i start now next same before one =
     let last : busy_one (task_at now i) ≡ busy_one (task_at start i) = ap busy_one same in
     let next_one : i + 1 ≡ suc i = omega arith in
     rw next_one (omega arith)
-
--- the measure of the rounds falls in each round
-pub round_lower : (was is : Bool) (old new busy : ℕ) → was ≡ false → 0 < busy →
-    (is ≡ false → new + busy ≤ old) →
-    (if is then 0 else 1 + new) < (if was then 0 else 1 + old)
-round_lower true is old new busy up some fewer = let e : true ≡ false = up in absurd cc
-round_lower false true old new busy up some fewer = omega arith
-round_lower false false old new busy up some fewer = let less = fewer refl in omega arith

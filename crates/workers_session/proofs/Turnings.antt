@@ -1,4 +1,4 @@
--- TurnsGiven and recoveries in order, from scene to scene.
+-- Turns and recoveries in order, from scene to scene.
 use Rattle.std.proofs.Common.{◌≡◌, ◌∙◌, ℕ, zero, suc, ◌+◌, ◌-◌, ◌<◌, ◌≤◌, Bool, true, false, List}
 use Rattle.std.proofs.Common.{[], ◌∷◌, ◌++◌, length, drop, slice_index, drop-cons, add-one, refl}
 use Rattle.std.proofs.Common.{sym, ap, append_assoc, append-nil, arith}
@@ -49,9 +49,6 @@ abbrev pub LeadsOn : Image → (left all : List ℕ) → (x z : Scene) → List 
 LeadsOn image left all x z lines =
     (rest : List WorkersLine) (y : Scene) → TurnList image left z rest y →
     TurnList image all x (lines ++ rest) y
-
-pub leads_start : (image : Image) (all : List ℕ) (x : Scene) → LeadsOn image all all x x []
-leads_start image all x = λ rest y turns. turns
 
 pub leads_next : (image : Image) (worker : ℕ) (left all : List ℕ) (x z m : Scene)
     (lines first : List WorkersLine) →
@@ -119,9 +116,6 @@ abbrev pub LeadsBack : Image → (i n all : ℕ) → (x z : Scene) → List Work
 LeadsBack image i n all x z lines =
     (rest : List WorkersLine) (y : Scene) → RecoversFrom image i n z rest y →
     RecoversFrom image 0 all x (lines ++ rest) y
-
-pub back_start : (image : Image) (all : ℕ) (x : Scene) → LeadsBack image 0 all all x x []
-back_start image all x = λ rest y recovers. recovers
 
 pub back_next : (image : Image) (i n all : ℕ) (x z m : Scene) (lines : List WorkersLine)
     (a : RecoverAnswer) → i < all →

@@ -198,7 +198,7 @@ TurnsGiven true image workers x lines y = RefusedWith (Plain answer.RefusedDown)
 TurnsGiven false image workers x lines y =
     TurnsKnown (stranger_in (length x.workers.tasks) workers) image workers x lines y
 
--- n workers from this one on, and rounds of so many workers
+-- the numbers of n workers from this one on; and those of all workers, once for each round
 abbrev pub round_from : (worker n : ℕ) → List ℕ
 round_from worker zero = []
 round_from worker (suc n) = worker ∷ round_from (suc worker) n

@@ -55,7 +55,7 @@ abbrev pub refusal_at : Image → WorkersState → ℕ → Device → Option Wor
 refusal_at image w worker d =
     refused_first (unready w worker) (marked_line (standing_at image worker d))
 
--- the first of these numbers that none of so many workers has
+-- the first of these numbers that is no worker's, since it isn't below the number of workers
 abbrev pub stranger_in : (count : ℕ) → List ℕ → Option ℕ
 stranger_in count [] = None
 stranger_in count (worker ∷ workers) =

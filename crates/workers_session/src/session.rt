@@ -55,7 +55,7 @@ impl Model for WorkersSession {
     ghost view = { λ s. record { tasks = s.workers; down = s.down } };
 }
 
-/// Starts so many workers, each on a new pool of the program in a compartment of its own. After a
+/// Starts `count` workers, each on a new pool of the program in a compartment of its own. After a
 /// fault the events before it stay done.
 pub fn create_workers<P: Pmem>(
     alloc: Global,
@@ -299,7 +299,7 @@ impl WorkersSession {
         told
     }
 
-    /// TurnsGiven of all workers in rounds, until each is idle or one is interrupted.
+    /// Turns of all workers in rounds, until each is idle or one is interrupted.
     fn finish<P: Pmem + Drop, L: Ledger>(
         &mut self,
         alloc: Global,
@@ -319,7 +319,7 @@ impl WorkersSession {
         self.rounds(image, no_line(alloc), dev, steps)
     }
 
-    /// TurnsGiven in rounds, until each worker is idle or a turn is interrupted.
+    /// Turns in rounds, until each worker is idle or a turn is interrupted.
     fn rounds<P: Pmem + Drop, L: Ledger>(
         &mut self,
         image: &Image,

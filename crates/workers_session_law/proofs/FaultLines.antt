@@ -2,6 +2,7 @@
 use Rattle.std.proofs.Common.{◌≡◌, ◌≤◌, ◌⊎◌, ℕ, zero, suc, Bool, true, false, List, [], ◌∷◌, ◌++◌}
 use Rattle.std.proofs.Common.{ℤ, Option, Some, None, length, nat_lt, ◌==◌, if◌then◌else◌, inl, inr}
 use Rattle.std.proofs.Common.{⊎_elim, refl, ap, subst, ◌∙◌, arith}
+use Rattle.std.proofs.lemmas.Bool.{both_ways}
 use Rattle.cache_model.specs.Collapse.{bad}
 use Rattle.cache_model.specs.declared.choice.Choice.{Choice}
 use Rattle.pmem.specs.Device.{Device, FaultsRose, memory_of}
@@ -43,16 +44,13 @@ rose_left a b c rose less = grind arith
 rose_right : (a b c : ℕ) → a ≤ b → FaultsRose b c → FaultsRose a c
 rose_right a b c less rose = grind arith
 
-never : (b : Bool) → b ≡ false → b ≡ true → ⊥
-never b is_false is_true = cc
-
 -- the line, if there is one, tells of no fault
 abbrev QuietOr : Option WorkersLine → Type 0
 QuietOr None = Unit {0}
 QuietOr (Some l) = names_fault l ≡ false
 
 one_quiet : (l : WorkersLine) → names_fault l ≡ false → TellsFault (l ∷ []) → ⊥
-one_quiet l quiet told = ⊎_elim (λ yes. never (names_fault l) quiet yes) (λ none. none) told
+one_quiet l quiet told = ⊎_elim (λ yes. both_ways (names_fault l) quiet yes) (λ none. none) told
 
 tells_append : (xs ys : List WorkersLine) → TellsFault (xs ++ ys) → TellsFault xs ⊎ TellsFault ys
 tells_append [] ys told = inr told
@@ -188,7 +186,7 @@ module _ (program : Program) (worker : ℕ) (x : Scene) (lines : List WorkersLin
 stopped_quiet : (worker : ℕ) (ts : Tasks) → TellsFault (stopped_lines worker ts) → ⊥
 stopped_quiet worker [] told = told
 stopped_quiet worker (None ∷ ts) told = stopped_quiet (suc worker) ts told
-stopped_quiet worker (Some t ∷ ts) (inl told) = never false refl told
+stopped_quiet worker (Some t ∷ ts) (inl told) = both_ways false refl told
 stopped_quiet worker (Some t ∷ ts) (inr told) = stopped_quiet (suc worker) ts told
 
 -- the lines of a turn tell of a fault only where its answer does
@@ -208,14 +206,14 @@ turn_told turned.NoMemory worker ts told =
 -- the line of a recovery tells of a fault only where its answer does
 recovery_told : (a : RecoverAnswer) → is_fault (answer_of_recovery a) ≡ true
     → a ≡ recovered.Failed
-recovery_told recovered.Clean told = absurd (never false refl told)
-recovery_told (recovered.Redone value logged) told = absurd (never false refl told)
-recovery_told (recovered.Trap kind) told = absurd (never false refl told)
-recovery_told (recovered.Unusable kind) told = absurd (never false refl told)
-recovery_told recovered.Numbers told = absurd (never false refl told)
-recovery_told (recovered.Off phase) told = absurd (never false refl told)
+recovery_told recovered.Clean told = absurd (both_ways false refl told)
+recovery_told (recovered.Redone value logged) told = absurd (both_ways false refl told)
+recovery_told (recovered.Trap kind) told = absurd (both_ways false refl told)
+recovery_told (recovered.Unusable kind) told = absurd (both_ways false refl told)
+recovery_told recovered.Numbers told = absurd (both_ways false refl told)
+recovery_told (recovered.Off phase) told = absurd (both_ways false refl told)
 recovery_told recovered.Failed told = refl
-recovery_told recovered.NoMemory told = absurd (never false refl told)
+recovery_told recovered.NoMemory told = absurd (both_ways false refl told)
 
 module _ (image : Image) where
   turn_for : (o : Option Task) (worker : ℕ) (a : TurnAnswer) (x y : Scene)

@@ -1,6 +1,6 @@
 //! The laws of scripts of workers, on definitions alone. It rests on `workers_session`, whose
 //! definition says what each command does, and on `workers_law`. Its one contract for the crates
-//! above: a device that failed is told only where its count of faults rose.
+//! above: a device that failed is reported only where its count of faults rose.
 #![tactic(auto)]
 
 ghost use Rattle.workers_session_law.specs.FaultsTold.{ToldFaultLaw, RunFaultLaw};

@@ -50,7 +50,7 @@ use Rattle.cnvm_session.specs.declared.mode.Mode.TheVariants as mode
 use Rattle.cnvm_session.specs.declared.program.Program.{Program}
 use Rattle.cnvm_session.specs.Commands.{tx_parameters}
 use Rattle.cnvm_session.specs.Marks.{rolls_back_of}
-use Rattle.session_law.specs.Source.{sizes_of}
+use Rattle.cnvm_session.specs.Pool.{sizes_of}
 use Rattle.session_law.specs.Words.{AreWords}
 use Rattle.session_law.specs.Agrees.{Agrees, RunsAs}
 use Rattle.session_law.specs.State.{Pending, Ready, Unusable, SourceState, standing_as}

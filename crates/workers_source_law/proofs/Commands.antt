@@ -27,6 +27,7 @@ use Rattle.cnvm_session.specs.declared.answer.Answer.TheVariants as answer
 use Rattle.cnvm_session.specs.declared.program.Program.{Program}
 use Rattle.cnvm_session.specs.Commands.{call_number, tx_parameters}
 use Rattle.cnvm_session.specs.Marks.{rolls_back_of}
+use Rattle.cnvm_session.specs.Pool.{sizes_of}
 use Rattle.workers_script.specs.declared.command.WorkersCommand.{WorkersCommand}
 use Rattle.workers_script.specs.declared.command.WorkersCommand.TheVariants as command
 use Rattle.workers_session.specs.declared.line.WorkersLine.{WorkersLine}
@@ -38,7 +39,7 @@ use Rattle.workers_session.specs.WorkersCommands.{Scene, Unchanged, RefusedWith,
 use Rattle.workers_session.specs.WorkersCommands.{BeginsAs, BeginsWith, BeginsBy, BeginsTo}
 use Rattle.workers_session.specs.WorkersCommands.{BeginsNamed, Starts, ShowsWorker}
 use Rattle.workers_session.specs.WorkersCommands.{LastsWorker, with_device, WorkersCommanded}
-use Rattle.session_law.specs.Source.{sizes_of, source_pool}
+use Rattle.session_law.specs.Source.{source_pool}
 use Rattle.session_law.specs.Words.{AreWords}
 use Rattle.session_law.specs.Agrees.{Agrees}
 use Rattle.session_law.specs.State.{Pending, Standing, Ready, Down, Unusable, SourceState}

@@ -1,8 +1,9 @@
 -- What the phase of a seal says of the images of a compartment.
-use Rattle.std.proofs.Common.{◌≡◌, ◌≢◌, ◌⊎◌, inl, inr, suc, Bool, true, false, ◌&&◌, ◌||◌}
+use Rattle.std.proofs.Common.{◌≡◌, ◌≢◌, ◌⊎◌, inl, inr, suc, Bool, true, false}
 use Rattle.std.proofs.Common.{if◌then◌else◌, List, [], ◌∷◌, ◌++◌, ℤ, pos, refl, sym, ap, ◌∙◌, arith}
 use Rattle.std.specs.List.{list_all, list_any}
 use Rattle.std.proofs.lemmas.Bool.Decides.{Decides-int_eq}
+use Rattle.std.proofs.lemmas.Bool.{and_parts, or_parts}
 use Rattle.cache_model.specs.Cache.{Words, Cache, view}
 use Rattle.cache_model.specs.Image.{Among, Images}
 use Rattle.pmem.specs.declared.answer.Phase.{Phase}
@@ -11,6 +12,7 @@ use Rattle.pool_layout.specs.declared.places.TheConstants.{SEAL, DONE}
 use Rattle.args_log.specs.Next.{number_after}
 use Rattle.args_log.specs.Phase.{has_seal, phase_of}
 use Rattle.args_log.specs.PhaseLaw.{LacksSeal}
+use Rattle.workers_law.proofs.Phases.{all_of}
 use Rattle.cnvm_session.specs.declared.program.Program.{Program}
 use Rattle.session_law.specs.State.{SourceState}
 use Rattle.session_law.specs.Holds.{IsResting}
@@ -18,22 +20,6 @@ use Rattle.session_law.specs.Law.{HasPhase}
 use Rattle.session_law.proofs.Ones.{rest_newest}
 use Rattle.session_law.proofs.Retired.{next_small}
 use Rattle.workers_source_law.proofs.Stills.{still}
-
-left_true : (a b : Bool) → (a && b) ≡ true → a ≡ true
-left_true true b is = refl
-left_true false b is = absurd cc
-
-right_true : (a b : Bool) → (a && b) ≡ true → b ≡ true
-right_true true b is = is
-right_true false b is = absurd cc
-
-left_false : (a b : Bool) → (a || b) ≡ false → a ≡ false
-left_false true b is = absurd cc
-left_false false b is = refl
-
-right_false : (a b : Bool) → (a || b) ≡ false → b ≡ false
-right_false true b is = absurd cc
-right_false false b is = is
 
 seal_is : (k : ℤ) (v : Words) → has_seal k v ≡ true → v SEAL ≡ k
 seal_is k v is = (Decides-int_eq (v SEAL) k).0 is
@@ -46,40 +32,34 @@ all_versions : (k : ℤ) (us : List Words) (w : Words)
     → list_all (has_seal k) (us ++ w ∷ []) ≡ true
     → (v : Words) → (v ≡ w) ⊎ Among us v → v SEAL ≡ k
 all_versions k [] w all v (inl e) =
-    ap (λ (x : Words). x SEAL) e ∙ seal_is k w (left_true (has_seal k w) true all)
+    ap (λ (x : Words). x SEAL) e ∙ seal_is k w (and_parts (has_seal k w) true all).0
 all_versions k [] w all v (inr none) = absurd none
 all_versions k (u ∷ us) w all v (inl e) =
-    all_versions k us w (right_true (has_seal k u) (list_all (has_seal k) (us ++ w ∷ [])) all) v
+    all_versions k us w (and_parts (has_seal k u) (list_all (has_seal k) (us ++ w ∷ [])) all).1 v
     (inl e)
 all_versions k (u ∷ us) w all v (inr (inl e)) =
     ap (λ (x : Words). x SEAL) e
-    ∙ seal_is k u (left_true (has_seal k u) (list_all (has_seal k) (us ++ w ∷ [])) all)
+    ∙ seal_is k u (and_parts (has_seal k u) (list_all (has_seal k) (us ++ w ∷ [])) all).0
 all_versions k (u ∷ us) w all v (inr (inr more)) =
-    all_versions k us w (right_true (has_seal k u) (list_all (has_seal k) (us ++ w ∷ [])) all) v
+    all_versions k us w (and_parts (has_seal k u) (list_all (has_seal k) (us ++ w ∷ [])) all).1 v
     (inr more)
 
 none_versions : (k : ℤ) (us : List Words) (w : Words)
     → list_any (has_seal k) (us ++ w ∷ []) ≡ false
     → (v : Words) → (v ≡ w) ⊎ Among us v → v SEAL ≢ k
 none_versions k [] w none v (inl e) is =
-    seal_not k w (left_false (has_seal k w) false none)
+    seal_not k w (or_parts (has_seal k w) false none).0
     (sym (ap (λ (x : Words). x SEAL) e) ∙ is)
 none_versions k [] w none v (inr among) is = absurd among
 none_versions k (u ∷ us) w none v (inl e) is =
-    none_versions k us w (right_false (has_seal k u) (list_any (has_seal k) (us ++ w ∷ [])) none) v
+    none_versions k us w (or_parts (has_seal k u) (list_any (has_seal k) (us ++ w ∷ [])) none).1 v
     (inl e) is
 none_versions k (u ∷ us) w none v (inr (inl e)) is =
-    seal_not k u (left_false (has_seal k u) (list_any (has_seal k) (us ++ w ∷ [])) none)
+    seal_not k u (or_parts (has_seal k u) (list_any (has_seal k) (us ++ w ∷ [])) none).0
     (sym (ap (λ (x : Words). x SEAL) e) ∙ is)
 none_versions k (u ∷ us) w none v (inr (inr more)) is =
-    none_versions k us w (right_false (has_seal k u) (list_any (has_seal k) (us ++ w ∷ [])) none) v
+    none_versions k us w (or_parts (has_seal k u) (list_any (has_seal k) (us ++ w ∷ [])) none).1 v
     (inr more) is
-
-all_of : (a b : Bool) → (if a then Sealed else (if b then Sealing else Unsealed)) ≡ Sealed
-    → a ≡ true
-all_of true b is = refl
-all_of false true is = absurd cc
-all_of false false is = absurd cc
 
 none_of : (a b : Bool) → (if a then Sealed else (if b then Sealing else Unsealed)) ≡ Unsealed
     → b ≡ false

@@ -16,11 +16,11 @@ use Rattle.workers_law.proofs.AsCalls.{plays_quiet}
 use Rattle.workers_law.proofs.Stands.{shown_images}
 use Rattle.workers_law.proofs.Powers as laws
 use Rattle.cnvm_session.specs.declared.program.Program.{Program}
+use Rattle.cnvm_session.specs.Pool.{sizes_of}
 use Rattle.workers_script.specs.declared.command.WorkersCommand.{WorkersCommand}
 use Rattle.workers_session.specs.WorkersCommands.{Scene, scene_of}
 use Rattle.workers_session.proofs.Crews.{idle_at}
 use Rattle.workers_run.specs.WorkersRan.{RunsWorkers, BreaksOff, AreCreated, new_workers}
-use Rattle.session_law.specs.Source.{sizes_of}
 use Rattle.session_law.specs.Agrees.{Agrees}
 use Rattle.session_law.specs.State.{created}
 use Rattle.session_law.specs.Holds.{IsResting}

@@ -23,7 +23,7 @@ use Rattle.workers_law.specs.Fenced.{fenced_cache}
 use Rattle.workers_law.proofs.Powers.{fenced, marks}
 use Rattle.cnvm_session.specs.declared.program.Program.{Program}
 use Rattle.cnvm_session.specs.Marks.{rolls_back_of}
-use Rattle.session_law.specs.Source.{sizes_of}
+use Rattle.cnvm_session.specs.Pool.{sizes_of}
 use Rattle.session_law.specs.State.{Pending, Standing, Ready, Down, Unusable, SourceState}
 use Rattle.session_law.specs.State.{standing_as}
 use Rattle.session_law.specs.Holds.{HoldsPool, IsResting, OwesNone, OwesBy}

@@ -104,8 +104,8 @@ refused_or turned.Went image t o d b is = inl is
 refused_or (turned.Done v l) image t o d b is = inl is
 refused_or (turned.Trap k) image t o d b is = inl is
 refused_or turned.Off image t o d b is = inr (refusal.Off, is.0, refl)
-refused_or turned.Failed image t o d b is = inr (refusal.Failed, is, refl)
-refused_or turned.NoMemory image t o d b is = inr (refusal.NoMemory, is, refl)
+refused_or turned.Failed image t o d b is = inr (refusal.Failed, is.0, refl)
+refused_or turned.NoMemory image t o d b is = inr (refusal.NoMemory, is.0, refl)
 
 module _ (program : Program) (super : Words) (agrees : Agrees program) where
   -- what one turn gives

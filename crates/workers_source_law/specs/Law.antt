@@ -16,6 +16,7 @@ use Rattle.pool_workers.specs.Crew.{task_at, compartment}
 use Rattle.cnvm_session.specs.declared.answer.Answer.{Answer}
 use Rattle.cnvm_session.specs.declared.answer.Answer.TheVariants as answer
 use Rattle.cnvm_session.specs.declared.program.Program.{Program}
+use Rattle.cnvm_session.specs.Pool.{sizes_of}
 use Rattle.workers_script.specs.declared.command.WorkersCommand.{WorkersCommand}
 use Rattle.workers_script.specs.declared.command.WorkersCommand.TheVariants as command
 use Rattle.workers_script.specs.WorkersGrammar.{workers_script_meaning}
@@ -24,7 +25,7 @@ use Rattle.workers_session.specs.declared.line.WorkersLine.TheVariants as line
 use Rattle.workers_session.specs.WorkersState.{WorkersState}
 use Rattle.workers_session.specs.WorkersCommands.{Scene, scene_of, WorkersCommanded}
 use Rattle.workers_run.specs.WorkersRan.{lines_text, AreCreated, new_workers, RunsNew, BreaksOffNew}
-use Rattle.session_law.specs.Source.{sizes_of, source_pool}
+use Rattle.session_law.specs.Source.{source_pool}
 use Rattle.session_law.specs.Words.{AreWords}
 use Rattle.session_law.specs.Agrees.{Agrees}
 use Rattle.session_law.specs.Law.{HasPhase}
@@ -48,8 +49,8 @@ pub record Instant : Type 0 where
   pub scene : Scene
   pub states : States
 
--- The view of a compartment is that of a pool with this many transactions finished and this value
--- of the last, and its heap holds the source's pool.
+-- The view of a compartment has the state's number of transactions finished and its value of the
+-- last, and its heap holds the source's pool.
 pub record HoldsState (program : Program) (worker : ℕ) (d : Device) (s : SourceState) :
     Type 0 where
   pub pool : source_pool program

@@ -77,8 +77,8 @@ abbrev pub RecoveryLines : Program → (cut : Device) → (worker : ℕ) → Lis
 RecoveryLines program cut worker [] s t = t ≡ s
 RecoveryLines program cut worker (l ∷ lines) s t =
     (a : Answer) × (r : States) × (l ≡ line.Own worker a)
-    × Powers program (s worker) (worker_image program worker cut) a (r worker) × RestStays worker s r
-    × RecoveryLines program cut (suc worker) lines r t
+    × Powers program (s worker) (worker_image program worker cut) a (r worker)
+    × RestStays worker s r × RecoveryLines program cut (suc worker) lines r t
 
 -- a pick that doesn't fit changes nothing
 abbrev pub PowerLines : Program → (cut : Device) → List WorkersLine → (s t : States) → Type 0

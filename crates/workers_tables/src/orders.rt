@@ -57,7 +57,7 @@ fn begin_with<P: Pmem>(
 }
 
 /// Worker 0 begins a call of `PUT`, and worker 1 of this transaction. They take turns in this
-/// order, and the power goes off after so many events.
+/// order, and the power goes off after `stop` events.
 fn order_run<L: Ledger>(
     alloc: Global,
     image: &Image,
@@ -81,7 +81,8 @@ fn order_run<L: Ledger>(
     Some(order_and_recover(alloc, &mut workers, image, order, rest, &mut dev, steps))
 }
 
-/// Whether the first so many turns of an order give worker 1 its turns, and no later one does.
+/// Whether the first `turns` turns of an order give worker 1 its `second` turns, and no later one
+/// gives it one.
 fn is_whole(order: u64, turns: u64, second: u64) -> bool {
     let mut left = order;
     let mut given: u64 = 0;

@@ -19,7 +19,7 @@ use std::test::Fail;
 /// The digest of the program; no recovery reads it.
 pub const DIGEST: [i64; 4] = [1, 2, 3, 4];
 
-/// Workers that all begin and take turns in rounds, with a power cut after so many events.
+/// Workers that all begin and take turns in rounds, with a power cut after `stop` events.
 fn cut_run<P: Pmem + Drop, L: Ledger>(
     alloc: Global,
     image: &Image,

@@ -1,5 +1,5 @@
 -- What only bodies and proofs need beside `Answers`.
-use Rattle.std.specs.Prelude.{ℕ, ◌+◌, ◌*◌, ◌≤◌, ◌≡◌, ◌≢◌, ℤ}
+use Rattle.std.specs.Prelude.{ℕ, ℤ}
 use Rattle.pmem.specs.Device.{Device}
 use Rattle.pmem.specs.Played.{PlaysPart}
 use Rattle.pmem.specs.declared.answer.Phase.TheVariants as phase

@@ -2,7 +2,7 @@
 -- kind of token on it. The want on top takes the token and is replaced by the rest of its
 -- production; or it doesn't take it but may stay unmet, and the token goes to the next want; or the
 -- token is refused.
-use Rattle.std.specs.Prelude.{ℕ, ◌+◌, ◌≡◌, List, [], ◌∷◌, ◌++◌, Option, Some, None, Bool, true}
+use Rattle.std.specs.Prelude.{ℕ, ◌+◌, List, [], ◌∷◌, ◌++◌, Option, Some, None, Bool, true}
 use Rattle.std.specs.Prelude.{false}
 use Rattle.c_tree.specs.declared.expr.BinaryOp.TheVariants as op
 use Rattle.c_tree.specs.declared.stmt.AssignOp.TheVariants as assign
@@ -326,10 +326,6 @@ abbrev pub done : Taken → List Want → MoveOutcome
 done taken.Refused k = Refuses
 done taken.Yielded k = Yields k
 done taken.Taken k = Takes k
-
-abbrev pub WantPopped : Option Want → List Want → List Want → Type 0
-WantPopped None new old = (old ≡ []) × (new ≡ [])
-WantPopped (Some w) new old = old ≡ w ∷ new
 
 abbrev pub perhaps_taken : Taken → Taken
 perhaps_taken taken.Refused = taken.Yielded

@@ -1,4 +1,5 @@
--- The classes of a program's stores, and marks of all stores of a class.
+-- The classes of a program's stores, and marks of all stores of a class. A topic has 16 bits, so of
+-- the root's fields 16 are one class, and of the structs' fields 16 are one topic.
 use Rattle.std.specs.Prelude.{◌≡◌, ◌-◌, ◌%◌, ◌<◌, ℕ, true, false, List, Option, Some, length}
 use Rattle.std.specs.Prelude.{slice_get}
 use mathlib.Core.Logic.{◌⊎◌}
@@ -12,7 +13,7 @@ use Rattle.ir.specs.Clobber.{unwritten, read_fact}
 use Rattle.ir.specs.Derived.{Flows}
 use Rattle.clobber_pass.specs.declared.topic.StructField.{StructField}
 use Rattle.clobber_pass.specs.declared.classes.Stored.{Stored}
-use Rattle.clobber_pass.specs.Marking.{says}
+use Rattle.clobber_pass.specs.inside.Marking.{says}
 
 -- the item is in the list
 pub record Has {T : Type 0} (items : List T) (item : T) : Type 0 where

@@ -41,9 +41,9 @@ abbrev pub told_in : Topic → List (List (List ℕ)) → List (List ℕ) → Li
 told_in topic exits rows entry code x p b =
     seen_in_row x (slot b) (row_reaching topic exits rows entry 0 code p)
 
--- each row of a table has so many words, or is empty
-abbrev pub Shaped : ℕ → List (List ℕ) → Type 0
-Shaped row_width rows = (q : ℕ) → (row_in rows q ≡ []) ⊎ (length (row_in rows q) ≡ row_width)
+-- each row of a table has n words, or is empty
+abbrev pub Shaped : (n : ℕ) → List (List ℕ) → Type 0
+Shaped n rows = (q : ℕ) → (row_in rows q ≡ []) ⊎ (length (row_in rows q) ≡ n)
 
 -- what is recorded to pass through a function
 abbrev pub pass_in : List IrFunction → List (List (List ℕ)) → ℕ → ℕ → Fact → Fact → Bool

@@ -29,8 +29,8 @@ abbrev pub enter_from : List ℕ → List ℕ → ℕ → ℕ → List ℕ
 enter_from args row s zero = []
 enter_from args row s (suc k) = enter_word args row s ∷ enter_from args row (s + 1) k
 
--- the row at the entry of a called function with so many registers
-abbrev pub enter_row : Topic → ℕ → List ℕ → List ℕ → List ℕ
+-- the row at the entry of a called function
+abbrev pub enter_row : Topic → (registers : ℕ) → List ℕ → List ℕ → List ℕ
 enter_row topic registers args row = enter_from args row 0 (row_width topic registers)
 
 -- the entries joined with what a call brings
@@ -64,7 +64,7 @@ AllBrought functions topic exits rows entries row p (i ∷ is) =
     × AllBrought functions topic exits rows entries
     (next_row topic exits i (row_or (row_in rows p) row)) (p + 1) is
 
--- what entries record is derived
+-- what entries record is derived, for each of a topic's 16 bits
 pub record SoundEntries (functions : List IrFunction) (topic : Topic) (entries : List (List ℕ)) :
     Type 0 where
   pub flows : (x f : ℕ) (b : Fact) → x < 16 → is_about (class_at topic x) b ≡ true

@@ -1,4 +1,4 @@
--- What only bodies and proofs need beside `Marking`.
+-- The marks of places: what each topic marks, and what a table of marks must hold.
 use Rattle.std.specs.Prelude.{◌≡◌, ◌==◌, ◌+◌, ◌<◌, not, ℕ, Bool, true, false, List, []}
 use Rattle.std.specs.Prelude.{◌∷◌, Some, length, slice_get, bit_and, if◌then◌else◌}
 use mathlib.Core.Logic.{◌⊎◌}
@@ -17,12 +17,12 @@ use Rattle.clobber_pass.specs.declared.topic.Topic.{Topic}
 use Rattle.clobber_pass.specs.declared.topic.Topic.TheVariants.{Frees, Root as Roots}
 use Rattle.clobber_pass.specs.declared.topic.Topic.TheVariants.{Fields}
 use Rattle.clobber_pass.specs.inside.Class.{class_at, is_about}
-use Rattle.clobber_pass.specs.Row.{word}
+use Rattle.clobber_pass.specs.Logged.{part}
+use Rattle.clobber_pass.specs.Row.{word, tells}
 use Rattle.clobber_pass.specs.inside.Row.{mask, fields_mask}
 use Rattle.clobber_pass.specs.Sweep.{row_in}
 use Rattle.clobber_pass.specs.inside.Sweep.{next_row, row_or}
 use Rattle.clobber_pass.specs.inside.Closed.{Within}
-use Rattle.clobber_pass.specs.Marking.{says}
 
 -- two words and a mask have a bit in common
 unfoldable pub meets : ℕ → ℕ → ℕ → Bool
@@ -102,6 +102,10 @@ Logged functions false f p =
     × Flows functions f p (unwritten target) × Flows functions f p (read_fact target))
     ⊎ WritesHeader functions f p
 
+-- what a table of marks says of a store or a fill
+abbrev pub says : List (List ℕ) → (fill : Bool) → (function place : ℕ) → Bool
+says table fill f p = tells (row_in table f) (part fill) p
+
 -- what is marked is logged
 pub record SoundMarks (functions : List IrFunction) (table : List (List ℕ)) : Type 0 where
   pub logged : (fill : Bool) (f p : ℕ) → says table fill f p ≡ true → Logged functions fill f p
@@ -114,7 +118,7 @@ pub record ShapedMarks (functions : List IrFunction) (table : List (List ℕ)) :
 pub record Headers (functions : List IrFunction) (table : List (List ℕ)) : Type 0 where
   pub marked : (f p : ℕ) → WritesHeader functions f p → says table false f p ≡ true
 
--- a bit of the topic stands for the target's class
+-- one of the topic's 16 bits stands for the target's class
 pub record Covers (topic : Topic) (target : Target) : Type 0 where
   pub x : ℕ
   pub few : x < 16

@@ -1,4 +1,5 @@
--- What only bodies and proofs need beside `Row`.
+-- The effect on a row of an instruction that is no call. A word has 16 bits, one for each of the
+-- fields of a topic, of which there are at most 16.
 use Rattle.std.specs.Prelude.{◌==◌, ◌&&◌, ◌+◌, ◌-◌, ◌^◌, ℕ, Bool, List, [], ◌∷◌, Some, None}
 use Rattle.std.specs.Prelude.{slice_set, bit_and, bit_or}
 use Rattle.std.specs.Prelude.{bit_xor, nat_lt, if◌then◌else◌}
@@ -19,7 +20,7 @@ unfoldable pub mask : ℕ → ℕ → ℕ
 mask first field = if nat_lt field first then 0
     else (if nat_lt (field - first) 16 then 2 ^ (field - first) else 0)
 
--- the bit of a place in a topic, which has 16 places
+-- the bit of a place in a topic
 unfoldable pub place_bit : ℕ → ℕ
 place_bit x = if nat_lt x 16 then 2 ^ x else 0
 

@@ -16,6 +16,7 @@ Backed functions class g c y = (e : Fact) × (q : ℕ) × (is_about class e ≡ 
     × (column (parameters_at functions g) e ≡ c) × Passes functions g 0 e q y
     × ReturnsAt functions g q
 
+-- for each of a topic's 16 bits
 pub record SoundExits (functions : List IrFunction) (topic : Topic) (exits : List (List (List ℕ))) :
     Type 0 where
   pub backed : (x g c : ℕ) (y : Fact) → x < 16 → is_about (class_at topic x) y ≡ true

@@ -1,4 +1,5 @@
--- What only bodies and proofs need beside `Sweep`.
+-- One sweep through a function: a row is changed in place, place by place, and joined at the
+-- targets of jumps. A call gives the row what its function's returns record.
 use Rattle.std.specs.Prelude.{◌==◌, ◌+◌, ◌-◌, ℕ, List, [], ◌∷◌, Option, Some, None, length}
 use Rattle.std.specs.Prelude.{replicate, slice_index_or, slice_set, bit_and, bit_or, nat_lt}
 use Rattle.std.specs.Prelude.{position, if◌then◌else◌}

@@ -18,8 +18,8 @@ tells_any row x Nowhere = false
 tells_any row x (One a) = tells row x (slot a)
 tells_any row x (Two a b) = tells row x (slot a) || tells row x (slot b)
 
--- the number of words of a row in a function with so many registers
-abbrev pub row_width : Topic → ℕ → ℕ
+-- the number of words of a row
+abbrev pub row_width : Topic → (registers : ℕ) → ℕ
 row_width Frees registers = 2
 row_width (Root first) registers = 2
 row_width (Fields all) registers = registers + 2
@@ -46,7 +46,7 @@ register_count (Some u) = u.registers
 abbrev pub registers_at : List IrFunction → ℕ → ℕ
 registers_at functions g = register_count (slice_get functions g)
 
--- the fact's register is among so many
+-- the fact's register is among the first n
 abbrev pub Fits : ℕ → Fact → Type 0
 Fits n (Unwritten r s x) = r < n
 Fits n Here = Unit {0}

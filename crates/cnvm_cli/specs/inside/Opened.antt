@@ -12,12 +12,13 @@ use Rattle.cnvm_session.specs.declared.mode.Mode.{Mode}
 use Rattle.cnvm_session.specs.declared.program.Program.{Program}
 use Rattle.cnvm_session.specs.AnswerText.{answer_text}
 use Rattle.cnvm_session.specs.Outcomes.{Opens}
+use Rattle.cnvm_session.specs.Pool.{wanted_of}
 use Rattle.session_law.specs.Words.{AreWords}
 use Rattle.cnvm_cli.specs.declared.refused.Refused.{Refused}
 use Rattle.cnvm_cli.specs.declared.refused.Refused.TheVariants as refused
 use Rattle.cnvm_cli.specs.declared.status.Status.{Status}
 use Rattle.cnvm_cli.specs.AsStatus.{AsStatus}
-use Rattle.cnvm_cli.specs.Opened.{wanted_of, AreImageWords, ImageRefuses, ImageGives, Unopened}
+use Rattle.cnvm_cli.specs.Opened.{AreImageWords, ImageRefuses, ImageGives, Unopened}
 use Rattle.cnvm_cli.specs.Run.{RefusedAs}
 use Rattle.cnvm_cli.specs.inside.Run.{RunsAndWrites, RunsPart}
 

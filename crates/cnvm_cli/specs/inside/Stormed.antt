@@ -29,7 +29,7 @@ CountsAnswers program (c ∷ cs) t m d k t' m' d' k' =
     (a : Answer) × (m1 : Mode) × (d1 : Device) × (k1 : ℕ) × Commanded program c m d a m1 d1 k k1
     × CountsAnswers program cs (counted c a t) m1 d1 k1 t' m' d' k'
 
--- this many rounds of the generator, from this number on
+-- `count` rounds of the generator, from the number x on
 abbrev pub Rounds : Program → ℕ → (count : ℕ) → Tally → Mode → Device → ℕ → Tally → Mode → Device
     → ℕ → Type 0
 Rounds program x zero t m d k t' m' d' k' = (t' ≡ t) × (m' ≡ m) × (d' ≡ d) × (k' ≡ k)

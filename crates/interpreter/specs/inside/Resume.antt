@@ -23,7 +23,7 @@ use Rattle.interpreter.specs.declared.work.WordTask.TheVariants as word_task
 use Rattle.interpreter.specs.declared.work.Flow.{Flow}
 use Rattle.interpreter.specs.declared.work.Flow.TheVariants as flow
 use Rattle.c_meaning.specs.Locals.{Local, assigned, local_declared, bound}
-use Rattle.c_meaning.specs.declared.word.Word.{Word}
+use Rattle.pool_map.specs.declared.word.PoolWord.{PoolWord}
 use Rattle.c_meaning.specs.Access.{free_object}
 use Rattle.c_meaning.specs.Operators.{unary_of, binary_of}
 use Rattle.c_meaning.specs.declared.trap_at.TrapAt.{TrapAt}
@@ -75,8 +75,7 @@ abbrev pub pushed_all : Goes → List ℤ → List (List Local) → List Local �
 pushed_all go vs below ls (Got xs p k) = go (laid xs vs) below (Next ls p k)
 pushed_all go vs below ls (Stops trap) = Stops trap
 
--- chooses by whether a target is an element, whose operands are the pointer and, above it, the
--- index
+-- case on whether a target is an element: its operands are the pointer, then the index
 abbrev pub element_operand : {A : Type 0} → ExprTree → A → A → A
 element_operand (expr.Index a place i) x y = x
 element_operand (expr.Number n) x y = y
@@ -129,7 +128,7 @@ loaded_from t calls e ls p k =
     (λ o p k. loaded (located t ls p e o.0 o.1) p k)
 
 -- the checks, and then the word that a target's operands lead to
-abbrev pub target_word : Tables → ExprTree → List ℤ → List Local → PoolMap → Result Word TrapAt
+abbrev pub target_word : Tables → ExprTree → List ℤ → List Local → PoolMap → Result PoolWord TrapAt
 target_word t e vs ls p = located t ls p e (pointer_in e vs) (index_operand e vs)
 
 -- the effect of each task on an expression, after which `go` continues
@@ -344,7 +343,7 @@ with_operands t s out = pushed_operands (plan_going t s) s.values s.below s.top 
 abbrev pub with_end : Tables → ResumeState → StmtEnd → Out ℤ
 with_end t s end = plan_going t s s.values s.below end
 
--- the body of a function that is opened above the open one, with so many of the newest values as
+-- the body of a function that is opened above the open one, with the `count` newest values as
 -- arguments
 abbrev pub entering : Tables → FunctionTree → (count : ℕ) → ResumeState → Out ℤ
 entering t f count s = resume t (todo.Rest f.body ∷ todo.Leave ∷ map todo_of s.plan)

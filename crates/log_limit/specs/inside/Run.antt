@@ -1,7 +1,6 @@
 -- A run step by step.
-use Rattle.std.specs.Prelude.{◌≡◌, ℕ, suc, ◌++◌, ℤ, Bool, true, false, List, [], ◌∷◌}
-use Rattle.std.specs.Prelude.{Option, None, Some, Result, Ok, Err}
-use Rattle.pool_map.specs.declared.trap.TrapKind.{TrapKind}
+use Rattle.std.specs.Prelude.{◌≡◌, ℕ, suc, ◌++◌, ℤ, Bool, true, false, List, ◌∷◌}
+use Rattle.std.specs.Prelude.{Option, None, Some}
 use Rattle.ir.specs.declared.instruction.Instruction.{Instruction}
 use Rattle.ir.specs.declared.site.Site.{Site}
 use Rattle.ir.specs.declared.function.Ir.{Ir}
@@ -10,19 +9,7 @@ use Rattle.code_meaning.specs.Code as code
 use Rattle.code_meaning.specs.Code.{CodeState, Here, CodeEnd, Move, Goes, Ends, act, IsOver}
 use Rattle.code_meaning.specs.Deeds.{Deed, deeds_at, site}
 use Rattle.code_meaning.specs.Logged.{StoreAt}
-use Rattle.log_limit.specs.declared.spots.Spot.{Spot}
-use Rattle.log_limit.specs.declared.spots.Spot.TheVariants.{Root, Slot}
 use Rattle.log_limit.specs.Full.{Room, full_at}
-
--- a word of the pool
-abbrev pub seen_spot : Spot → code.Spot
-seen_spot (Root word) = code.InRoot word
-seen_spot (Slot slot word) = code.InSlot slot word
-
--- a word of the pool, or the trap of its checks
-abbrev pub seen_spot_or_trap : Result Spot TrapKind → Result code.Spot TrapKind
-seen_spot_or_trap (Ok spot) = Ok (seen_spot spot)
-seen_spot_or_trap (Err kind) = Err kind
 
 -- what an instruction does in a state
 abbrev pub acts : Ir → Option Instruction → CodeState → Move
@@ -42,10 +29,6 @@ Moved false c move = EndsRun move
 abbrev pub put_on : CodeState → (to : ℕ) → ℤ → CodeState
 put_on (Here f p regs below w t) to v = Here f (suc p) (code.put_register regs to v) below w t
 
--- the state at a place of the open function
-abbrev pub at_code_place : CodeState → ℕ → CodeState
-at_code_place (Here f p regs below w t) q = Here f q regs below w t
-
 -- the state at the next place
 abbrev pub at_next_place : CodeState → CodeState
 at_next_place (Here f p regs below w t) = Here f (suc p) regs below w t
@@ -54,7 +37,7 @@ at_next_place (Here f p regs below w t) = Here f (suc p) regs below w t
 abbrev pub open_place : CodeState → ℕ
 open_place (Here f p regs below w t) = p
 
--- the state with a function with_open_function above the open one
+-- the state with one more function open, at its first place
 abbrev pub with_open_function : CodeState → (function : ℕ) → List ℤ → (to : ℕ) → CodeState
 with_open_function (Here f p regs below w t) g args to =
     Here g 0 args (code.frame f (suc p) regs to ∷ below) w t
@@ -78,8 +61,3 @@ abbrev pub Counted : MarkTable → (marked : Bool) → (old new : Room) → List
     → Type 0
 Counted table marked old new stores found = (rest : List StoreAt)
     → full_at table marked old (stores ++ rest) ≡ found_or found (full_at table marked new rest)
-
--- the top of a stack was popped, if there was one
-abbrev pub IsTopPopped : {A : Type 0} → Option A → (new old : List A) → Type 0
-IsTopPopped None new old = (old ≡ []) × (new ≡ [])
-IsTopPopped (Some a) new old = old ≡ a ∷ new

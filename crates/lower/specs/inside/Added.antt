@@ -153,7 +153,7 @@ pub record ParametersAdded (k : Context) (body : Statements) (xs : List Paramete
   pub long : length new ≡ parameters_end body xs (length old)
   pub variables : u ≡ variables_after_parameters k body 0 xs (length old) v
 
--- a condition and the body; if the condition is 0 the code goes on so many places after the body
+-- a condition and the body; if the condition is 0 the code goes on n places after the body
 pub record IfAdded (k : Context) (v : Variables) (e : ExprTree) (a : StmtTree) (out again ahead : ℕ)
     (old new : List Instruction) (u : Variables) : Type 0 where
   pub code : new ≡ old ++ (exp_code k v e (length old)

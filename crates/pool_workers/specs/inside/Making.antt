@@ -1,5 +1,5 @@
 -- What only bodies and proofs need beside `Making`.
-use Rattle.std.specs.Prelude.{ℕ, ℤ, List, [], ◌++◌}
+use Rattle.std.specs.Prelude.{ℕ, ℤ, List, ◌++◌}
 use Rattle.cache_model.specs.Event.{CacheEvent}
 use Rattle.pool_layout.specs.declared.limits.Sizes.{Sizes}
 use Rattle.args_log.specs.Created.{sizes_events, digest_events, head_events}

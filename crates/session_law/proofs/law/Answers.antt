@@ -4,6 +4,7 @@ use Rattle.session_law.proofs.Chains.{run_chain, chain_kept, chain_grows, chain_
 use Rattle.session_law.proofs.Chains.{created_after, opened_after, open_step}
 use Rattle.session_law.proofs.Opening.{opened_answers}
 use Rattle.session_law.proofs.Phases.{stopped_phase}
+use Rattle.session_law.proofs.PowerPhases.{recovery_phase}
 use Rattle.session_law.proofs.Scripts.{script_words}
 use Rattle.session_law.proofs.Steps.{redone_steps}
 use Rattle.session_law.proofs.CallSteps.{call_steps}
@@ -25,6 +26,9 @@ returns-clause-sealed c = exactly_sealed
 
 pub returns-clause-phase : goal.returns-clause-phase
 returns-clause-phase c = stopped_phase
+
+pub returns-clause-recovery_phase : goal.returns-clause-recovery_phase
+returns-clause-recovery_phase c = recovery_phase
 
 pub returns-clause-steps : goal.returns-clause-steps
 returns-clause-steps c = (redone_steps, call_steps)

@@ -19,7 +19,7 @@ fact_register (ReadRoot x) = 0
 fact_register (ReadField s x) = 0
 fact_register Freed = 0
 
--- of so many buckets the one of an entry's spot
+-- the bucket of an entry's spot among `count`
 unfoldable pub bucket_of : (count : ℕ) → Entry → ℕ
 bucket_of count e =
     (e.place + 61 * e.function + 1009 * fact_register e.fact) % (count - 1 + 1)
@@ -29,12 +29,12 @@ abbrev pub IsAbove : List Entry → (count bucket n : ℕ) → Type 0
 IsAbove t count bucket n =
     (m : ℕ) (x : Entry) → slice_get t m ≡ Some x → bucket_of count x ≡ bucket → m < n
 
--- the number is above those of the entries before entry k that are of its bucket
+-- the number is above those of the earlier entries in entry k's bucket
 abbrev pub IsAboveBefore : List Entry → (count k n : ℕ) → Type 0
 IsAboveBefore t count k n = (m : ℕ) (x y : Entry) → slice_get t k ≡ Some y
     → slice_get t m ≡ Some x → m < k → bucket_of count x ≡ bucket_of count y → m < n
 
--- each of the numbers is above those of the earlier entries of its bucket
+-- the same for each entry and its number in the list
 abbrev pub AreAbove : List Entry → (count : ℕ) → (befores : List ℕ) → Type 0
 AreAbove t count befores =
     (k n : ℕ) → slice_get befores k ≡ Some n → IsAboveBefore t count k n
@@ -66,6 +66,6 @@ LookTells t e (Below n) = IsPast t e n
 abbrev pub IsNoted : List ℕ → ℕ → List ℕ → Type 0
 IsNoted old n new = (new ≡ old) ⊎ (new ≡ old ++ n ∷ [])
 
--- .. and only if there were so many
+-- .. and only if there were `count`
 abbrev pub IsNotedAt : List ℕ → (count n : ℕ) → List ℕ → Type 0
 IsNotedAt old count n new = (new ≡ old) ⊎ ((length old ≡ count) × (new ≡ old ++ n ∷ []))

@@ -14,7 +14,7 @@ abbrev pub from_position : (parameters : ℕ) → Option ℕ → (s x : ℕ) →
 from_position parameters None s x = Stays
 from_position parameters (Some j) s x = from_place parameters j s x
 
--- the origin of a fact after a call of a function with this many parameters
+-- the origin of a fact after a call
 abbrev pub back_in : (parameters to : ℕ) → List ℕ → Fact → Back
 back_in parameters to args (Unwritten r s x) = if r == to then FromReturn Here
     else from_position parameters (position (λ a. a == r) args) s x

@@ -47,7 +47,7 @@ tried_origins ir ps u later p (Two a b) t =
     step_tried ir ps u later.entry (next_to later p b None)
     (step_tried ir ps u later.entry (next_to later p a None) t)
 
--- the spot at a return, with the fact that a piece is to end with
+-- the spot at a return, with the fact that its piece must end with
 abbrev pub return_at : (g q : ℕ) → WalkFact → Entry
 return_at g q y =
     record { aim = ToReturn y; function = g; place = q; fact = y; link = End }
@@ -61,7 +61,7 @@ abbrev pub returns_added : (g : ℕ) → WalkFact → (q : ℕ) → List Instruc
 returns_added g y q [] t = t
 returns_added g y q (i ∷ is) t = returns_added g y (q + 1) is (return_added g y q i t)
 
--- the spot at a call from which a piece passes it
+-- the spot at a call with the fact that a piece carries past the call
 abbrev pub through_tried : Ir → List Piece → IrFunction → Later → Passed → List ℕ → (n : ℕ)
     → Piece → List Entry → List Entry
 through_tried ir ps u later call args n piece t =

@@ -70,11 +70,11 @@ next_in js f p = next_at (slice_get js f) p
 abbrev pub later_of : (at jump : ℕ) → ℕ
 later_of at jump = if nat_lt at jump then jump else at
 
--- the next place from `at` on that may lead to q, where none jumps there before `jump`
+-- the first place from `at` on that may lead to q, if no jump before `jump` leads there
 abbrev pub candidate : (q at jump : ℕ) → ℕ
 candidate q at jump = if nat_lt at q && nat_le q jump then q - 1 else later_of at jump
 
--- no place between place p and this one jumps to q, where none did between p and `jump`
+-- the bound for the places after p: no jump before it leads to q; `jump` is the bound for p itself
 abbrev pub jump_after : List Jumps → (f q jump p : ℕ) → Instruction → ℕ
 jump_after js f q jump p i =
     if (p == jump) && jumps_to (landing_of i) q then next_in js f p else jump

@@ -12,7 +12,7 @@ use Rattle.walk_maker.specs.declared.table.Link.TheVariants.{End, Next, Enter}
 use Rattle.walk_maker.specs.declared.table.Entry.{Entry}
 use Rattle.walk_maker.specs.inside.Table.{step_of}
 
--- the fact with which a piece begins whose walk has this fact at the function's entry
+-- the fact at the start of a piece whose walk has the fact x at the function's entry
 abbrev pub entry_fact : (opens : Bool) → IrFunction → WalkFact → WalkFact
 entry_fact opens u x = if holds_at_entry opens u x then Here else x
 

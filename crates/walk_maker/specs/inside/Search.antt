@@ -95,7 +95,7 @@ starts_at functions e (ToReturn y) = false
 abbrev pub is_start : List IrFunction → Entry → Bool
 is_start functions e = starts_at functions e e.aim
 
--- a part of a sweep, and then sweeps until a start is found, or nothing more
+-- a part of a sweep, and then sweeps until a start is found, or until a sweep adds nothing
 pub data Searched (ir : Ir) : SearchState → Option ℕ → SearchState → Type 0 where
   found : {s : SearchState} {n : ℕ} → position (is_start ir.functions) s.table ≡ Some n
       → Searched ir s (Some n) s

@@ -5,6 +5,7 @@ use Rattle.std.proofs.lemmas.Int.{to_z-of_z}
 use Rattle.std.proofs.lemmas.List.{get_or-set_same, get_or-set_other, length-set}
 use Rattle.cache_model.specs.Cache.{view}
 use Rattle.args_log.proofs.reading.arguments.Goals as goal
+use Rattle.pool_layout.specs.declared.places.TheConstants.{FIRST_ARGUMENT}
 
 pub loop-k-preserved : goal.loop-k-preserved
 loop-k-preserved g c =
@@ -20,7 +21,7 @@ loop-k-preserved g c =
       words = λ j lt. ⊎_elim
           (λ (same : j ≡ k).
           subst (λ (i : ℕ). slice_index_or (slice_set args k new) i (pos 0)
-          ≡ view (g.P.PmemWork.device c.args.dev.now).cache (25 + i)) (sym same)
+          ≡ view (g.P.PmemWork.device c.args.dev.now).cache (FIRST_ARGUMENT + i)) (sym same)
           (get_or-set_same args k new (pos 0) (omega arith) ∙ back ∙ c.word.ensures))
           (λ (ne : j ≢ k). get_or-set_other args k j new (pos 0) ne
           ∙ c.loop-k.invariant.words j (omega arith))

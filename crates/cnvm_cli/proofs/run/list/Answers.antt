@@ -1,7 +1,16 @@
 use Rattle.std.proofs.Common.{inr}
+use Rattle.cnvm_compile.specs.Compilation.{IsCompiled}
+use Rattle.cnvm_cli.specs.Listed.{listing_sizes}
 use Rattle.cnvm_cli.proofs.Running.{keeps_same}
+use Rattle.cnvm_cli.proofs.Sources.{known_bytes}
 use Rattle.cnvm_cli.proofs.Statuses.{written_as}
 use Rattle.cnvm_cli.proofs.run.list.Goals as goal
+
+pub list_text-requires : goal.list_text-requires
+list_text-requires g c =
+    let is = known_bytes _ (λ text. IsCompiled listing_sizes text c.in-Ok.compiled)
+    c.in-Ok.ensures.told in
+    is.1.well_formed
 
 pub returns-in-Ok-list_text-clause-ends : goal.returns-in-Ok-list_text-clause-ends
 returns-in-Ok-list_text-clause-ends g c =

@@ -1,13 +1,20 @@
-use Rattle.cnvm_cli.proofs.Running.{keeps_same}
 use Rattle.cnvm_cli.proofs.run.run_plan.Goals as goal
 
 pub returns-in-Run-clause-ends : goal.returns-in-Run-clause-ends
 returns-in-Run-clause-ends g c =
-    rw (c.in-Run.is, ← c.is_some.ensures, ← c.is_some-in-Run.ensures) c.run.ensures.ends
+    rw (
+      c.in-Run.is,
+      ← c.asked_by-asked.ensures,
+      ← c.is_some-opens.ensures,
+      ← c.is_some-saves.ensures,
+    ) c.run.ensures.ends
 
 pub returns-in-Storm-clause-ends : goal.returns-in-Storm-clause-ends
-returns-in-Storm-clause-ends g c = rw c.in-Storm.is (c.run_storm.ensures.ends, keeps_same _)
+returns-in-Storm-clause-ends g c =
+    rw (c.in-Storm.is, ← c.asked_by-asked-in-Storm.ensures)
+    (c.run_storm.ensures.ends, c.run_storm.ensures.image)
 
 pub returns-in-Workers-clause-ends : goal.returns-in-Workers-clause-ends
 returns-in-Workers-clause-ends g c =
-    rw c.in-Workers.is (c.run_script.ensures.ends, keeps_same _)
+    rw (c.in-Workers.is, ← c.asked_by-asked-in-Workers.ensures)
+    (c.run_script.ensures.ends, c.run_script.ensures.image)

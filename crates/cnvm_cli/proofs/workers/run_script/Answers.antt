@@ -17,8 +17,9 @@ returns-in-Ok-read_turns-clause-ends g c =
       c.in-Ok-read_turns.ensures.told,
       subst
           (λ (commands : List WorkersCommand). WorkersRanAs c.in-Ok.compiled.program c.args.count
-          commands c.run_turns.result (written c.args.out.now) (written c.run_turns.new.out)
-          (dev c.args.dev.now) (dev c.run_turns.new.dev) c.args.steps.now c.run_turns.new.steps)
+          commands c.run_turns.result (written c.args.world.now.out) (written c.run_turns.new.out)
+          (dev c.args.world.now.dev) (dev c.run_turns.new.dev) c.args.steps.now
+          c.run_turns.new.steps)
           c.as_slice.ensures c.run_turns.ensures.ran,
     )
 

@@ -7,6 +7,7 @@ use Rattle.cnvm_compile.specs.Made.{image_of}
 use Rattle.cnvm_compile.specs.SizesAsked.{HasRoot, HasSizes}
 use Rattle.cnvm_compile.proofs.Agreeing.{agreed}
 use Rattle.cnvm_compile.proofs.compiling.compile.Goals as goal
+use Rattle.cnvm_session.specs.Pool.{sizes_of}
 
 pub returns-in-Ok-clause-compiled : goal.returns-in-Ok-clause-compiled
 returns-in-Ok-clause-compiled c =
@@ -17,10 +18,10 @@ returns-in-Ok-clause-compiled c =
     let asked = c.args.asked in
     let accepted : AcceptsText c.args.text.now p.typed = search rules in
     let is : ir ≡ lowered p.typed = search rules in
-    let image : p.image.parts.sizes ≡ p.sizes = search rules in
-    let root : HasRoot (shapes_of p.typed) p.sizes = search rules in
-    let code : p.image.parts ≡ image_of marks ir p.sizes (length p.typed.lines) = search rules in
-    let sizes : HasSizes asked.slots asked.records asked.ticks p.sizes = search rules in
+    let root : HasRoot (shapes_of p.typed) (sizes_of p) = search rules in
+    let code : p.image.parts ≡ image_of marks ir (sizes_of p) (length p.typed.lines) =
+    search rules in
+    let sizes : HasSizes asked.slots asked.records asked.ticks (sizes_of p) = search rules in
     let digest : p.digest ≡ digest_of c.args.text.now = search rules in record {
       accepted = accepted;
       ir = is;
@@ -28,9 +29,8 @@ returns-in-Ok-clause-compiled c =
       marks = made.marks;
       code = code;
       sizes = sizes;
-      image = image;
       root = root;
       digest = digest;
-      agrees = agreed c.args.text.now marks p ir accepted is made.marks made.well_formed image
-          root code;
+      agrees = agreed c.args.text.now marks p ir accepted is made.marks made.well_formed root
+          code;
     }

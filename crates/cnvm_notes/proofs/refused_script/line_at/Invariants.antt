@@ -1,4 +1,4 @@
--- The line that is sought stands among those that are left, so many lines further.
+-- The line that is sought stands among those that are left, `left` lines further.
 use Rattle.std.proofs.Common.{◌≡◌, ◌-◌, [], length, slice_index_or}
 use Rattle.cnvm_script.specs.Lines.{lines}
 use Rattle.cnvm_notes.proofs.refused_script.line_at.Given as goal

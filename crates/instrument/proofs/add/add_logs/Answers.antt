@@ -3,5 +3,5 @@ use Rattle.instrument.proofs.add.add_logs.Goals as goal
 
 pub returns-clause-well_formed : goal.returns-clause-well_formed
 returns-clause-well_formed c =
-    λ formed short. answer_well_formed c.args.marks.now c.args.ir.now c.logged_program.result formed
-    short (c.logged_program.ensures formed)
+    λ short. answer_well_formed c.args.marks.now c.args.ir.now c.logged_program.result
+    c.requires short c.logged_program.ensures

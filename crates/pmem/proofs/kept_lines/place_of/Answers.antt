@@ -1,5 +1,6 @@
 use Rattle.std.proofs.Common.{◌≡◌, ◌<◌, ◌≤◌, ◌∙◌, Some, slice_get, length, sym, ap, rules}
-use Rattle.pmem.proofs.Placed.{absent_past, absent_beyond, absent_here, is_here, get_at}
+use Rattle.std.proofs.lemmas.Option.{slice_get-get_or}
+use Rattle.pmem.proofs.Placed.{absent_past, absent_beyond, absent_here, is_here}
 use Rattle.pmem.proofs.kept_lines.place_of.Goals as goal
 
 pub returns-then-line-len-clause-none : goal.returns-then-line-len-clause-none
@@ -11,7 +12,7 @@ pub returns-then-place-len-clause-none : goal.returns-then-place-len-clause-none
 returns-then-place-len-clause-none c =
     let within : c.args.line < length c.args.places.now.items = search rules in
     let some : slice_get c.args.places.now.items c.args.line ≡ Some c.index-place.result.now =
-    get_at c.args.places.now.items c.args.line c.index-place.result.now within
+    slice_get-get_or c.args.places.now.items c.args.line c.index-place.result.now within
     ∙ ap Some (sym c.index-place.ensures) in
     let past : length c.args.entries.now.items ≤ c.index-place.result.now = search rules in
     absent_beyond c.args.places.now.items c.args.entries.now.items c.args.line
@@ -27,7 +28,7 @@ pub returns-else-index-line-clause-none : goal.returns-else-index-line-clause-no
 returns-else-index-line-clause-none c =
     let within : c.args.line < length c.args.places.now.items = search rules in
     let some : slice_get c.args.places.now.items c.args.line ≡ Some c.index-place.result.now =
-    get_at c.args.places.now.items c.args.line c.index-place.result.now within
+    slice_get-get_or c.args.places.now.items c.args.line c.index-place.result.now within
     ∙ ap Some (sym c.index-place.ensures) in
     absent_here c.args.places.now.items c.args.entries.now.items c.args.line
     c.index-place.result.now c.index.result.now c.requires some c.index.ensures

@@ -1,6 +1,7 @@
 use Rattle.std.proofs.Common.{◌≡◌, ◌<◌, ◌≤◌, ◌∙◌, Some, slice_get, slice_set, length}
 use Rattle.std.proofs.Common.{refl, sym, ap, rules}
-use Rattle.pmem.proofs.Placed.{placed_moved, placed_last, moved_within, swap_gone, get_at}
+use Rattle.std.proofs.lemmas.Option.{slice_get-get_or}
+use Rattle.pmem.proofs.Placed.{placed_moved, placed_last, moved_within, swap_gone}
 use Rattle.pmem.proofs.kept_lines.remove_at.Goals as goal
 
 pub index_mut-requires : goal.index_mut-requires
@@ -8,7 +9,7 @@ index_mut-requires c =
     let here : c.args.place < length c.swap_remove-kept.new.self.items = search rules in
     let moved : slice_get c.swap_remove-kept.new.self.items c.args.place
     ≡ Some c.index.result.now =
-    get_at c.swap_remove-kept.new.self.items c.args.place c.index.result.now here
+    slice_get-get_or c.swap_remove-kept.new.self.items c.args.place c.index.result.now here
     ∙ ap Some (sym c.index.ensures) in
     let lt : c.index.result.now.0 < length c.args.places.now.items =
     moved_within c.args.places.now.items c.args.entries.now.items
@@ -22,7 +23,7 @@ returns-then-place-len-clause-placed c =
     let here : c.args.place < length c.swap_remove-kept.new.self.items = search rules in
     let moved : slice_get c.swap_remove-kept.new.self.items c.args.place
     ≡ Some c.index.result.now =
-    get_at c.swap_remove-kept.new.self.items c.args.place c.index.result.now here
+    slice_get-get_or c.swap_remove-kept.new.self.items c.args.place c.index.result.now here
     ∙ ap Some (sym c.index.ensures) in
     placed_moved c.args.places.now.items
     (slice_set c.args.places.now.items c.index.result.now.0 c.args.place)

@@ -3,7 +3,7 @@ use Rattle.std.specs.Int.{cast_signed}
 use Rattle.cache_model.specs.Cache.{view}
 use Rattle.pmem.specs.Played.{PlaysAll}
 use Rattle.pmem.proofs.Refused.{all_on}
-use Rattle.pool_layout.specs.declared.places.TheConstants.{DONE}
+use Rattle.pool_layout.specs.declared.places.TheConstants.{DONE, ARGUMENTS}
 use Rattle.args_log.specs.Next.{number_after}
 use Rattle.args_log.specs.Sealing.{Seals}
 use Rattle.args_log.specs.declared.sealing.SealAnswer.TheVariants as seal
@@ -45,5 +45,5 @@ returns-in-Off-clause-turned g c =
     seal_cut c.args.image.now c.args.tx c.args.args c.args.machine d b c.in-Off.phase
     answer.Off (Some (Cut c.in-Off.phase)) refl refl
     (subst (λ (xs : List ℤ). Seals (seal.Off c.in-Off.phase) d (cast_signed w64 c.args.tx)
-    (take 22 xs) (number_after (view d.cache DONE)) b) c.as_slice.ensures
+    (take ARGUMENTS xs) (number_after (view d.cache DONE)) b) c.as_slice.ensures
     (c.in-Off.ensures.played c.requires.on))

@@ -3,7 +3,7 @@ use Rattle.pmem.specs.Played.{PlaysAll, PlaysPart}
 use Rattle.pmem.specs.declared.answer.Refusal.TheVariants as refusal
 use Rattle.pool_layout.specs.declared.limits.Sizes.{Sizes}
 use Rattle.pm_machine.specs.Machine.{State}
-use Rattle.tx_run.specs.Due.{due_on}
+use Rattle.pm_machine.specs.Runs.{due_on}
 use Rattle.tx_run.specs.Settled.{Settles}
 use Rattle.recovery.specs.declared.answer.RecoverAnswer.{RecoverAnswer}
 use Rattle.recovery.specs.Due.{due_back}

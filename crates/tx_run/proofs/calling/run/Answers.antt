@@ -1,8 +1,8 @@
 use Rattle.std.proofs.Common.{◌≡◌, ◌≤◌, ◌+◌, true, sym, ◌∙◌, subst}
 use Rattle.pm_machine.specs.Machine.{State}
+use Rattle.pm_machine.specs.Runs.{due_on}
 use Rattle.tx_run.specs.declared.answer.CallAnswer.{CallAnswer}
 use Rattle.tx_run.specs.Settled.{Settles}
-use Rattle.tx_run.specs.Due.{due_on}
 use Rattle.tx_run.specs.Called.{Called}
 use Rattle.tx_run.proofs.CallParts.{still_on, spent_of, called_of, seal_off, seal_failed}
 use Rattle.tx_run.proofs.CallParts.{seal_short}

@@ -1,0 +1,212 @@
+-- A new device in memory shows that no fault is armed, so it never fails, and no call on it ends
+-- with `DeviceFault`.
+use Rattle.std.proofs.Common.{◌≡◌, ℕ, ◌*◌, List, [], ◌∷◌, Bool, true, false, Option, Some, None}
+use Rattle.std.proofs.Common.{is_some, ℤ, inl, inr, refl, sym, ap, subst}
+use Rattle.cache_model.specs.Event.{CacheEvent}
+use Rattle.pmem.specs.Device.{Device, MayFail, armed_less, armed_as, spent, blanked}
+use Rattle.pmem.specs.Played.{PlaysPart}
+use Rattle.pmem.specs.declared.answer.Refusal.TheVariants as refusal
+use Rattle.pool_layout.specs.declared.limits.Sizes.{Sizes}
+use Rattle.pool_layout.specs.Sizes.{pool_lines}
+use Rattle.pool_layout.specs.declared.wanted.ImageFault.TheVariants as image
+use Rattle.pool_workers.specs.Making.{creations, Unmade}
+use Rattle.pool_workers.specs.declared.answer.MakeFault.TheVariants as make
+use Rattle.cnvm_script.specs.declared.command.Command.{Command}
+use Rattle.cnvm_session.specs.declared.creating.StartFault.TheVariants as start
+use Rattle.cnvm_session.specs.declared.program.Program.{Program}
+use Rattle.cnvm_session.specs.Unmade.{IsUnmade}
+use Rattle.cnvm_words.specs.Asked.{plan_of}
+use Rattle.cnvm_words.specs.declared.plan.Plan.{Plan}
+use Rattle.cnvm_words.specs.declared.plan.Plan.TheVariants as plan
+use Rattle.cnvm_compile.specs.declared.asked.Asked.{Asked}
+use Rattle.cnvm_cli.specs.declared.refused.Refused.{Refused}
+use Rattle.cnvm_cli.specs.declared.refused.Refused.TheVariants as refused
+use Rattle.cnvm_cli.specs.declared.status.Status.{Status}
+use Rattle.cnvm_cli.specs.declared.status.Status.TheVariants as status
+use Rattle.cnvm_cli.specs.Exits.{no_sources, new_device, EndsCall}
+use Rattle.cnvm_cli.specs.Listed.{ListEnds}
+use Rattle.cnvm_cli.specs.Meant.{Start, Fresh, FromImage, start_if, StartMeant, JobMeant, RunMeant}
+use Rattle.cnvm_cli.specs.Meant.{PlanMeant, CallMeant}
+use Rattle.cnvm_cli.specs.Opened.{ImageRefuses}
+use Rattle.cnvm_cli.specs.Run.{TellsAs, RefusedAs}
+use Rattle.cnvm_cli.specs.Saved.{SavedAs}
+use Rattle.cnvm_cli.specs.StormMeant.{StormMeant}
+use Rattle.cnvm_cli.specs.Verdict.{Grammar, ProgramRefuses, ScriptRefuses, RefuseIn, asked_by}
+use Rattle.cnvm_cli.specs.WhyEnds.{WhyEnds}
+use Rattle.cnvm_cli.specs.WorkersMeant.{WorkersMeant}
+use Rattle.cnvm_cli.specs.World.{Sources, Outside, seen}
+
+-- the device shows that no fault is armed
+abbrev IsFaultless : Device → Type 0
+IsFaultless d = d.armed ≡ Some None
+
+never_fails : (es : List CacheEvent) (d b : Device) → IsFaultless d
+    → PlaysPart refusal.Failed d es b → ⊥
+never_fails [] d b none part = part
+never_fails (e ∷ es) d b none (inl refused) =
+    let may : MayFail (Some None) = subst MayFail none refused.1.1 in absurd cc
+never_fails (e ∷ es) d b none (inr rest) =
+    never_fails es (spent d e) b (ap armed_less none) rest.1
+
+never_unmade : (lines : ℕ) (es : List CacheEvent) (d b : Device) → IsFaultless d
+    → IsUnmade start.Failed lines es d b → ⊥
+never_unmade lines es d b none (inl wanted) = let e = wanted.0 in absurd cc
+never_unmade lines es d b none (inr part) =
+    never_fails es (blanked lines d) b (ap (armed_as None) none) part
+
+never_made : (sizes : Sizes) (digest : List ℤ) (count : ℕ) (d b : Device) → IsFaultless d
+    → Unmade make.Failed sizes digest count d b → ⊥
+never_made sizes digest count d b none part =
+    never_fails (creations sizes digest 0 count) (blanked (pool_lines sizes * count) d) b
+    (ap (armed_as None) none) part
+
+-- no refusal but that of a device has this status
+
+tells_never : (due : Status) (line : List ℕ) (w w' : Option (List ℕ))
+    → (due ≡ status.DeviceFault → ⊥) → TellsAs due line status.DeviceFault w w' → ⊥
+tells_never due line w w' other (inl all) = other (sym all.0)
+tells_never due line w w' other (inr (inl none)) = let e = none.0 in absurd cc
+tells_never due line w w' other (inr (inr part)) = let e = part.0 in absurd cc
+
+device_refused : (why : Refused) (w w' : Option (List ℕ))
+    → RefusedAs why status.DeviceFault w w' → why ≡ refused.Device
+device_refused refused.Usage w w' told =
+    absurd (tells_never status.Usage _ w w' (λ e. cc) told)
+device_refused refused.LongProgram w w' told =
+    absurd (tells_never status.Program _ w w' (λ e. cc) told)
+device_refused (refused.Program line complaint) w w' told =
+    absurd (tells_never status.Program _ w w' (λ e. cc) told)
+device_refused refused.LongScript w w' told =
+    absurd (tells_never status.Script _ w w' (λ e. cc) told)
+device_refused (refused.Script number) w w' told =
+    absurd (tells_never status.Script _ w w' (λ e. cc) told)
+device_refused (refused.Image (image.Short a b)) w w' told =
+    absurd (tells_never status.Image _ w w' (λ e. cc) told)
+device_refused (refused.Image (image.Magic a b)) w w' told =
+    absurd (tells_never status.Image _ w w' (λ e. cc) told)
+device_refused (refused.Image (image.Version a b)) w w' told =
+    absurd (tells_never status.Image _ w w' (λ e. cc) told)
+device_refused (refused.Image (image.Sizes a b)) w w' told =
+    absurd (tells_never status.Image _ w w' (λ e. cc) told)
+device_refused (refused.Image (image.Digest a b)) w w' told =
+    absurd (tells_never status.Image _ w w' (λ e. cc) told)
+device_refused (refused.Image (image.Content a b)) w w' told =
+    absurd (tells_never status.Image _ w w' (λ e. cc) told)
+device_refused (refused.Image image.NoMemory) w w' told = let e = told.0 in absurd cc
+device_refused refused.Device w w' told = refl
+device_refused refused.ReadFault w w' told = let e = told.0 in absurd cc
+device_refused refused.NoMemory w w' told = let e = told.0 in absurd cc
+
+program_never : (p : Option (List ℕ)) (why : Refused) (w w' : Option (List ℕ))
+    → ProgramRefuses p why → RefusedAs why status.DeviceFault w w' → ⊥
+program_never p why w w' refuses told =
+    subst (ProgramRefuses p) (device_refused why w w' told) refuses
+
+texts_never : {C : Type 0} (means : Grammar C) (asked : Asked) (p s : Option (List ℕ))
+    (why : Refused) (w w' : Option (List ℕ))
+    → RefuseIn means asked p s why → RefusedAs why status.DeviceFault w w' → ⊥
+texts_never means asked p s why w w' (inl refuses) told = program_never p why w w' refuses told
+texts_never means asked p s why w w' (inr refuses) told =
+    subst (ScriptRefuses means s) (device_refused why w w' told) refuses.1
+
+-- no pool fails to be made, and none is saved so
+
+start_never : (from : Start) (program : Program) (commands : List Command)
+    (w w' : Option (List ℕ)) (d d' : Device) (k k' : ℕ) → IsFaultless d
+    → StartMeant from program commands status.DeviceFault w w' d d' k k' → ⊥
+start_never Fresh program commands w w' d d' k k' none meant =
+    never_unmade _ _ d d' none meant.2
+start_never (FromImage bytes) program commands w w' d d' k k' none (inl refuses) =
+    subst (ImageRefuses program bytes) (device_refused refuses.0 w w' refuses.2) refuses.1
+start_never (FromImage bytes) program commands w w' d d' k k' none (inr meant) =
+    let unopened = meant.2 in never_unmade _ _ d d' none unopened.2
+
+saved_ran : (ran : Status) (o o' : Option (List ℕ)) (d d' : Device)
+    → SavedAs ran status.DeviceFault o o' d d' → ran ≡ status.DeviceFault
+saved_ran status.Done o o' d d' saved =
+    absurd (tells_never status.Done _ o o' (λ e. cc) saved.1)
+saved_ran status.NoMemory o o' d d' saved = sym saved.0
+saved_ran status.Usage o o' d d' saved = sym saved.0
+saved_ran status.Program o o' d d' saved = sym saved.0
+saved_ran status.Script o o' d d' saved = sym saved.0
+saved_ran status.ReadFault o o' d d' saved = sym saved.0
+saved_ran status.WriteFault o o' d d' saved = sym saved.0
+saved_ran status.DeviceFault o o' d d' saved = sym saved.0
+saved_ran status.Image o o' d d' saved = sym saved.0
+
+job_never : (saves : Bool) (from : Start) (program : Program) (commands : List Command)
+    (before after : Outside) → IsFaultless before.dev
+    → JobMeant saves from program commands status.DeviceFault before after → ⊥
+job_never false from program commands before after none meant =
+    start_never from program commands before.out after.out before.dev after.dev before.steps
+    after.steps none meant.0
+job_never true from program commands before after none meant =
+    start_never from program commands before.out after.out before.dev meant.1 before.steps
+    after.steps none
+    (subst (λ (s : Status). StartMeant from program commands s before.out after.out before.dev
+    meant.1 before.steps after.steps)
+    (saved_ran meant.0 before.image after.image meant.1 after.dev meant.3) meant.2)
+
+run_never : (asked : Asked) (told : Sources) (opens saves : Bool) (before after : Outside)
+    → IsFaultless before.dev
+    → RunMeant asked told opens saves status.DeviceFault before after → ⊥
+run_never asked told opens saves before after none (inl refuses) =
+    texts_never _ asked told.program told.script refuses.0 before.out after.out refuses.1 refuses.2
+run_never asked told opens saves before after none (inr meant) =
+    job_never saves (start_if opens told.image) meant.0.program meant.1 before after none meant.3
+
+list_never : (p w w' : Option (List ℕ)) → ListEnds p status.DeviceFault w w' → ⊥
+list_never p w w' (inl refuses) = program_never p refuses.0 w w' refuses.1 refuses.2
+list_never p w w' (inr written) = written.2
+
+why_never : (p w w' : Option (List ℕ)) → WhyEnds p status.DeviceFault w w' → ⊥
+why_never p w w' (inl refuses) = program_never p refuses.0 w w' refuses.1 refuses.2
+why_never p w w' (inr written) = written.4
+
+storm_never : (asked : Asked) (first count : ℕ) (p w w' : Option (List ℕ)) (d d' : Device)
+    (k k' : ℕ) → IsFaultless d
+    → StormMeant asked first count p status.DeviceFault w w' d d' k k' → ⊥
+storm_never asked first count p w w' d d' k k' none (inl refuses) =
+    program_never p refuses.0 w w' refuses.1 refuses.2
+storm_never asked first count p w w' d d' k k' none (inr meant) =
+    let uncreated = meant.2 in never_unmade _ _ d d' none uncreated.2
+
+workers_never : (asked : Asked) (count : ℕ) (p s w w' : Option (List ℕ)) (d d' : Device)
+    (k k' : ℕ) → IsFaultless d
+    → WorkersMeant asked count p s status.DeviceFault w w' d d' k k' → ⊥
+workers_never asked count p s w w' d d' k k' none (inl refuses) =
+    texts_never _ asked p s refuses.0 w w' refuses.1 refuses.2
+workers_never asked count p s w w' d d' k k' none (inr meant) =
+    let unbegun = meant.4 in never_made _ _ _ d d' none unbegun.2
+
+plan_never : (asked : Plan) (told : Sources) (before after : Outside) → IsFaultless before.dev
+    → PlanMeant asked told status.DeviceFault before after → ⊥
+plan_never (plan.Run p s slots records ticks from save) told before after none meant =
+    run_never (asked_by slots records ticks) told (is_some from) (is_some save) before after none
+    meant
+plan_never (plan.List p) told before after none meant =
+    list_never told.program before.out after.out meant.0
+plan_never (plan.Storm p first count slots records ticks) told before after none meant =
+    storm_never (asked_by slots records ticks) first count told.program before.out after.out
+    before.dev after.dev before.steps after.steps none meant.0
+plan_never (plan.Why p) told before after none meant =
+    why_never told.program before.out after.out meant.0
+plan_never (plan.Workers p s workers slots records ticks) told before after none meant =
+    workers_never (asked_by slots records ticks) workers told.program told.script before.out
+    after.out before.dev after.dev before.steps after.steps none meant.0
+
+call_never : (words : Option Plan) (told : Sources) (before after : Outside)
+    → IsFaultless before.dev → CallMeant words told status.DeviceFault before after → ⊥
+call_never None told before after none meant =
+    let is : refused.Usage ≡ refused.Device =
+    device_refused refused.Usage before.out after.out meant.0 in
+    absurd cc
+call_never (Some asked) told before after none meant =
+    plan_never asked told before after none meant
+
+pub never_ends : (words : List (List ℕ)) (result : Status) → EndsCall words result
+    → result ≡ status.DeviceFault → ⊥
+never_ends words result ends is =
+    let call : EndsCall words status.DeviceFault = subst (EndsCall words) is ends in
+    call_never (plan_of words) no_sources (seen None None new_device 0)
+    (seen None None call.0 call.1) refl call.2

@@ -1,5 +1,0 @@
-use Rattle.cnvm_compile.proofs.Once.{once}
-use Rattle.cnvm_compile.proofs.law.answer_law.Goals as goal
-
-pub returns : goal.returns
-returns c = once

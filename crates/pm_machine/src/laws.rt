@@ -1,0 +1,15 @@
+//! The laws of the machine's runs, for the crates above.
+
+ghost use Rattle.pm_machine.specs.Find.{FindLaw};
+ghost use Rattle.pm_machine.specs.Law.{FuelLaw, Agreement, DueLaw, AlikeDueLaw};
+
+/// More fuel doesn't change a run that finished; heaps that are alike for a run have the same run;
+/// the due events of a run on a cache are those of the run on its heap; and FIND finds the least
+/// free slot. The function does nothing.
+pub fn machine_laws()
+    ensures fuel { FuelLaw }
+    ensures agreement { Agreement }
+    ensures due { DueLaw }
+    ensures alike { AlikeDueLaw }
+    ensures find { FindLaw }
+{}
