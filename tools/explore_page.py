@@ -171,6 +171,16 @@ class Page:
                 + spans("part of the call", self.explored.parts(), {})
                 + spans("stopped", self.explored.phases(), PHASES) + rows + "</div></div>")
 
+    def told_of_images(self):
+        """How many images the cuts leave, and what their rows show."""
+        images, left_out = self.explored.images(), self.explored.left_out
+        of_all = sum(it.recovery_events for it in images)
+        left = f" Of their {of_all} events {left_out} are left out." if left_out else ""
+        return (f'<p class="small">The cuts of the call leave {len(images)} different images. For '
+                "each of them a column is an event of its recovery at which the power went off "
+                "again, and the cells of a column are the oldest, the newest and the drawn versions."
+                f"{left}</p>")
+
     def recoveries(self):
         """For each different image a row of its recovery's cuts."""
         images, rows = {}, []
@@ -183,13 +193,16 @@ class Page:
             name = (f"stop {cuts[0].event}, {html.escape(cuts[0].choice)}"
                     + (f", and {len(cuts) - 1} cut{'s' * (len(cuts) > 2)} with the same image" if len(cuts) > 1 else ""))
             columns = []
-            for event in range(1 + max(it.event for it in again)):
+            for event in sorted({it.event for it in again}):
                 columns.append("<div>" + "".join(self.cell(it, 1, " small-cell") for it in again
                                                  if it.event == event) + "</div>")
-            rows.append(f'<div class="image"><div class="small">{name}: {html.escape(cuts[0].outcome.answer)}; '
-                        f'{len(columns)} events</div><div class="grid" style="grid-template-columns: '
+            events = cuts[0].recovery_events
+            cut_at = f", cut at {len(columns)} of them" if len(columns) < events else ""
+            rows.append(f'<div class="image"><div class="small">{name}: '
+                        f'{html.escape(cuts[0].outcome.answer)}; {events} events{cut_at}</div>'
+                        f'<div class="grid" style="grid-template-columns: '
                         f'repeat({len(columns)}, 22px)">{"".join(columns)}</div></div>')
-        return "".join(rows) or "<p>No recovery has an event.</p>"
+        return "".join(rows) or "<p>No recovery was cut.</p>"
 
     def outcomes(self):
         cards = []
@@ -227,7 +240,6 @@ def page_of(explored, listing):
     page = Page(explored, listing)
     title = html.escape(f"{explored.call}, cut everywhere")
     plain, again = explored.counts(explored.cuts), explored.counts(explored.again)
-    images = len({cut.image for cut in explored.cuts})
     key = "".join(f'<th><b class="{kind}">{words}</b></th>' for kind, words in KINDS.items())
     chosen = next((cut for cut in explored.cuts if cut.phase == "sealing" and cut.choice == "power new"), explored.cuts[0])
     line = page.time_line().replace(f'data-at="{page.places[id(chosen)]}"', f'data-at="{page.places[id(chosen)]}" data-first="1"')
@@ -261,9 +273,7 @@ Choose a cell to see its commands and answers.</p>
 <h2>All outcomes</h2>
 <div class="cards">{page.outcomes()}</div>
 <h2>Recoveries that were cut, too</h2>
-<p class="small">The cuts of the call leave {images} different images. For each of them a column is an event of its
-recovery at which the power went off again, and the cells of a column are the oldest, the newest and the drawn
-versions.</p>
+{page.told_of_images()}
 {page.recoveries()}
 {embedded("cuts", page.data())}{embedded("before", explored.before)}<script>{SCRIPT}</script></body></html>
 """
