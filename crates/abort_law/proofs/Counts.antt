@@ -31,7 +31,8 @@ use Rattle.undo_law.specs.Undo.{Records, with_record, records_after}
 use Rattle.abort_mode.specs.Runs.{append_events, events_before, stepping, full, turning, due_marked}
 use Rattle.abort_mode.specs.Due.{abort_due_on}
 use Rattle.abort_law.specs.Machine.{logged_past, missing, stepped, turned, run_marked}
-use Rattle.abort_law.specs.Steps.{CountAfter, count_outcome, count_stepped, count_turned, steps_marked}
+use Rattle.abort_law.specs.Steps.{CountAfter, count_outcome, count_stepped, count_turned}
+use Rattle.abort_law.specs.Steps.{steps_marked}
 use Rattle.abort_law.specs.Steps.{BesideStepsLaw}
 use Rattle.abort_law.proofs.Marks.{AreRecorded, stored_below, wanted_same, recorded_past}
 use Rattle.abort_law.proofs.Marks.{length_past, step_same, past_same}

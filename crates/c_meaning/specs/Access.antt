@@ -58,7 +58,8 @@ struct_word_at t at name index =
     (Ok 0)
 
 -- a field of the object that a pointer leads to, whose struct is the one at a place
-abbrev pub pointed_word : Tables → PoolMap → Option ℕ → ℤ → List ℕ → Option ℤ → Result PoolWord TrapKind
+abbrev pub pointed_word
+    : Tables → PoolMap → Option ℕ → ℤ → List ℕ → Option ℤ → Result PoolWord TrapKind
 pointed_word t p at pointer name index =
     then_on (struct_slot p (option_map (number_at t) at) pointer)
     (λ s. then_on (struct_word_at t at name index) (λ i. Ok (Field s i)))

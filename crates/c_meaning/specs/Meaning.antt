@@ -2,9 +2,9 @@
 -- expression gives a value, a pool and ticks; a statement also gives locals, and how it ended.
 -- Either may trap, which ends the whole evaluation, and nothing is said of the pool then.
 --
--- A trap has the place of a token: the operator of a division, the `[` of a bad index, the `->` of a
--- bad pointer, the word of `pm_free`, `abort` or a loop out of ticks, or the name of a call that is
--- too deep or out of ticks.
+-- A trap has the place of a token: the operator of a division, the `[` of a bad index, the `->` of
+-- a bad pointer, the word of `pm_free`, `abort` or a loop out of ticks, or the name of a call that
+-- is too deep or out of ticks.
 --
 -- Types are recomputed while a program runs: `struct_pointed_by` calls `type_of`. So the typing
 -- definitions of c_types are part of what must be believed.

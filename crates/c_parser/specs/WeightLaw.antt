@@ -1,5 +1,5 @@
--- The laws of `spelled_weights`: the list has one entry for each token, and an entry depends only on
--- the tokens up to its own.
+-- The laws of `spelled_weights`: the list has one entry for each token, and an entry depends only
+-- on the tokens up to its own.
 use Rattle.std.specs.Prelude.{◌≡◌, ◌<◌, ℕ, List, length, slice_get}
 use Rattle.c_lexer.specs.declared.token.Placed.{Placed}
 use Rattle.c_tree.specs.ItemTree.{ItemTree}

@@ -12,7 +12,8 @@ use Rattle.std.proofs.lemmas.Bool.{false≢true, cases_lt, eqb-true, eq-eqb, lt-
 use mathlib.Core.Logic.{◌⊎◌}
 use Rattle.clobber_pass.specs.declared.topic.StructField.{StructField}
 use Rattle.clobber_pass.specs.Row.{has_bit}
-use Rattle.clobber_pass.specs.inside.Row.{mask, without, place_bit, names_field, bit_of, fields_from}
+use Rattle.clobber_pass.specs.inside.Row.{mask, without, place_bit, names_field, bit_of}
+use Rattle.clobber_pass.specs.inside.Row.{fields_from}
 use Rattle.clobber_pass.specs.inside.Row.{fields_mask}
 
 -- writing outside a row does nothing

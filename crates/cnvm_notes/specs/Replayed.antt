@@ -1,6 +1,6 @@
--- The line that is reported of a trap. The calls before it are made again, by what the program means,
--- and each must give the value that was answered; then the call that trapped is made, and must trap
--- as it did.
+-- The line that is reported of a trap. The calls before it are made again, by what the program
+-- means, and each must give the value that was answered; then the call that trapped is made, and
+-- must trap as it did.
 use Rattle.std.specs.Prelude.{ℕ, suc, ℤ, List, [], ◌∷◌, map, Option, None, Some}
 use Rattle.std.specs.Prelude.{option_map, option_and_then, if◌then◌else◌, bytes_eq}
 use Rattle.std.specs.Ordering.{int_eq}

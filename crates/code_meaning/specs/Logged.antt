@@ -53,8 +53,8 @@ stores_in s (Writes site spot word ∷ ds) =
 stores_in s (Heads site slot word ∷ ds) =
     record { site = site; word = heap_at s (Header slot) } ∷ stores_in s ds
 
--- n of the stores of a transaction that rolls back are logged: those at logged sites, and those that
--- are the first to their heap word. `ls` are the words that are logged already.
+-- n of the stores of a transaction that rolls back are logged: those at logged sites, and those
+-- that are the first to their heap word. `ls` are the words that are logged already.
 abbrev pub AreLoggedFirst : List IrFunction → (ls : List ℕ) → List StoreAt → ℕ → Type 0
 AreLoggedFirst functions ls [] n = n ≡ 0
 AreLoggedFirst functions ls (a ∷ stores) n =

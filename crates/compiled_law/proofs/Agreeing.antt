@@ -209,7 +209,8 @@ module _ (text : List ℕ) (list : Tokens) (program : Program)
   }
 
   functions_few : length L.functions < 2 ^ 32
-  functions_few = omega (arith, functions_length marks 0 plain.functions, (limits tree c.checked).few)
+  functions_few =
+      omega (arith, functions_length marks 0 plain.functions, (limits tree c.checked).few)
 
   has_code : HasCode program.image s L
   has_code = record {

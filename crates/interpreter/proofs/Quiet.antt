@@ -1,6 +1,5 @@
 -- The check index doesn't give the trap logfull.
 use Rattle.std.proofs.Common.{ℕ, ℤ, pos, negsuc, Bool, true, false, if◌then◌else◌, Ok, Err, nat_lt}
-use Rattle.pool_map.specs.declared.trap.TrapKind.{TrapKind}
 use Rattle.pool_map.specs.declared.trap.TrapKind.TheVariants as trap
 use Rattle.pool_map.specs.Checks.{element_in}
 use Rattle.interpreter.specs.inside.Answers.{QuietTrap}

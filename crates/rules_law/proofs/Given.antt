@@ -26,7 +26,8 @@ use Rattle.typed_law.specs.Types.{StaticType, Number, PointerTo, NullPointer, va
 use Rattle.typed_law.specs.Types.{IsWritten, HasValueField, HasArray, AcceptsType}
 use Rattle.typed_law.proofs.Fitting.{applied_answer}
 use Rattle.typed_law.proofs.Fitting.{joined_answer, declared_is}
-use Rattle.typed_law.proofs.Expressions.{IsRest, whole_rest, next_rest, rest_type, suc_zero, suc_same}
+use Rattle.typed_law.proofs.Expressions.{IsRest, whole_rest, next_rest, rest_type, suc_zero}
+use Rattle.typed_law.proofs.Expressions.{suc_same}
 use Rattle.rules_law.specs.Given.{Types, GivesArray, AreTaken}
 use Rattle.rules_law.proofs.Fits.{CanBe, IsOf, any_not, may_be, true_takes}
 

@@ -448,7 +448,8 @@ pub among_no_int : (t : Tables) (qs : List ParameterTree) (j : ℕ) (q : Paramet
     → slice_get qs j ≡ Some q → is_int (declared_type t q.ty) ≡ false → all_ints t qs ≡ false
 among_no_int t [] j q is e = absurd (none-some q is)
 among_no_int t (p ∷ qs) zero q is e = and_left (is_int (declared_type t p.ty)) (all_ints t qs)
-    (subst (λ (p : ParameterTree). is_int (declared_type t p.ty) ≡ false) (sym (same_Some p q is)) e)
+    (subst (λ (p : ParameterTree). is_int (declared_type t p.ty) ≡ false)
+    (sym (same_Some p q is)) e)
 among_no_int t (p ∷ qs) (suc j) q is e =
     and_right (is_int (declared_type t p.ty)) (all_ints t qs) (among_no_int t qs j q is e)
 

@@ -1,5 +1,5 @@
--- What a program reads or stores exists: the local, the struct, its field, the pool's word. Where one
--- is missing the meaning gives a default: 0, an unchanged pool, NULL, or the greatest offset.
+-- What a program reads or stores exists: the local, the struct, its field, the pool's word. Where
+-- one is missing the meaning gives a default: 0, an unchanged pool, NULL, or the greatest offset.
 use Rattle.std.specs.Prelude.{ℕ, ℤ, ◌≡◌, ◌+◌, ◌-◌, ◌^◌, ◌<◌, ◌≤◌, ◌⊎◌, List, [], ◌∷◌, length, true}
 use Rattle.std.specs.Prelude.{Option, None, Some, Result, Ok, Err, bytes_eq, slice_get}
 use Rattle.c_tree.specs.ExprTree.{ExprTree}

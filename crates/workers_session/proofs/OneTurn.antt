@@ -8,7 +8,8 @@ use Rattle.pool_workers.specs.declared.answer.TurnAnswer.{TurnAnswer}
 use Rattle.pool_workers.specs.declared.answer.TurnAnswer.TheVariants as turned
 use Rattle.pool_workers.specs.declared.task.Task.{Task}
 use Rattle.pool_workers.specs.Task.{ticks_of, IsUncutOr, IsGoing}
-use Rattle.pool_workers.specs.Crew.{Tasks, task_at, AreTasks, AreUncut, HasCompartments, OtherTasksStay}
+use Rattle.pool_workers.specs.Crew.{Tasks, task_at, AreTasks, AreUncut, HasCompartments}
+use Rattle.pool_workers.specs.Crew.{OtherTasksStay}
 use Rattle.pool_workers.specs.Crew.{TurnOf, compartment}
 use Rattle.workers_session.specs.WorkersState.{WorkersState, IsReadyFor}
 use Rattle.workers_session.specs.WorkersCommands.{is_interrupted}

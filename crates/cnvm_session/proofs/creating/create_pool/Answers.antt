@@ -14,6 +14,6 @@ of-requires g c = record {
 pub returns-in-Err-play_creation-clause-failed : goal.returns-in-Err-play_creation-clause-failed
 returns-in-Err-play_creation-clause-failed g c is =
     let fails : c.of.result ≡ Failed = cc in
+    let refused = c.in-Err-play_creation.ensures.refused in
     subst (λ (d : Device). FaultsRose d.faults (g.P.PmemWork.device c.play_creation.new.dev).faults)
-    c.in_default.ensures.done
-    (rose_part _ _ _ _ (sym c.of.ensures ∙ ap cause_of fails) c.in-Err-play_creation.ensures.refused)
+    c.in_default.ensures.done (rose_part _ _ _ _ (sym c.of.ensures ∙ ap cause_of fails) refused)

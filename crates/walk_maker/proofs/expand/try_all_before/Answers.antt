@@ -11,7 +11,8 @@ pub loop-init : goal.loop-init
 loop-init c =
     let function = c.args.later.entry.function in
     let place = c.args.later.entry.place in
-    let first : c.first_jump-jump.result ≡ first_in c.args.jumps.now function place = search rules in
+    let jumps = c.args.jumps.now in
+    let first : c.first_jump-jump.result ≡ first_in jumps function place = search rules in
     let quiet : NoneJumps c.args.body.now.code place 0 c.first_jump-jump.result =
     subst (λ n. NoneJumps c.args.body.now.code place 0 n) (sym first)
     (first_quiet c.args.ir.now.functions c.args.jumps.now c.requires.jumps function
