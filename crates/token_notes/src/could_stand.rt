@@ -94,7 +94,7 @@ struct Name<'a> {
 
 /// The tokens that could stand there, as one note; `None` if there are none.
 pub fn expected(alloc: Global, able: &[&str]) -> Result<Option<String>, AllocError> {
-    let names = names_of(alloc, able)?;
+    let names = names_of(alloc, &GROUPS, able)?;
     if names.is_empty() {
         return Ok(None);
     }
@@ -102,9 +102,13 @@ pub fn expected(alloc: Global, able: &[&str]) -> Result<Option<String>, AllocErr
 }
 
 /// The groups that could stand there, and then the other tokens.
-fn names_of<'a>(alloc: Global, able: &[&'a str]) -> Result<Vec<Name<'a>>, AllocError> {
+fn names_of<'a>(
+    alloc: Global,
+    groups: &[Group],
+    able: &[&'a str],
+) -> Result<Vec<Name<'a>>, AllocError> {
     let mut names = Vec::new(alloc);
-    for group in GROUPS {
+    for group in groups {
         if applies(group, able) {
             names.push(Name {
                 mark: "",
@@ -112,14 +116,18 @@ fn names_of<'a>(alloc: Global, able: &[&'a str]) -> Result<Vec<Name<'a>>, AllocE
             })?;
         }
     }
-    push_tokens(able, &mut names)?;
+    push_tokens(groups, able, &mut names)?;
     Ok(names)
 }
 
 /// Adds the tokens that are in no group.
-fn push_tokens<'a>(able: &[&'a str], names: &mut Vec<Name<'a>>) -> Result<(), AllocError> {
+fn push_tokens<'a>(
+    groups: &[Group],
+    able: &[&'a str],
+    names: &mut Vec<Name<'a>>,
+) -> Result<(), AllocError> {
     for token in able {
-        if !is_grouped(able, token) {
+        if !is_grouped(groups, able, token) {
             names.push(name_of(token))?;
         }
     }
@@ -127,19 +135,29 @@ fn push_tokens<'a>(able: &[&'a str], names: &mut Vec<Name<'a>>) -> Result<(), Al
 }
 
 /// Whether a group is named.
-fn applies(group: Group, able: &[&str]) -> bool {
-    for token in group.unless {
-        if has(able, token) {
-            return false;
-        }
-    }
-    has(able, group.by)
+fn applies(group: &Group, able: &[&str]) -> bool {
+    !has_any(able, group.unless) && has(able, group.by)
+}
+
+/// Whether the group is named and has the token.
+fn includes(group: &Group, able: &[&str], token: &str) -> bool {
+    applies(group, able) && has(group.tokens, token)
 }
 
 /// Whether a group that is named has the token.
-fn is_grouped(able: &[&str], token: &str) -> bool {
-    for group in GROUPS {
-        if applies(group, able) && has(group.tokens, token) {
+fn is_grouped(groups: &[Group], able: &[&str], token: &str) -> bool {
+    for group in groups {
+        if includes(group, able, token) {
+            return true;
+        }
+    }
+    false
+}
+
+/// Whether one of the others is among the tokens.
+fn has_any(tokens: &[&str], others: &[&str]) -> bool {
+    for other in others {
+        if has(tokens, other) {
             return true;
         }
     }
@@ -177,13 +195,22 @@ fn name_of(token: &str) -> Name<'_> {
 /// The names, with commas and an 'or' between them.
 fn listed(alloc: Global, names: &[Name<'_>]) -> Result<String, AllocError> {
     let mut note = String::from_str(alloc, "here could stand ")?;
+    push_names(&mut note, names)?;
+    Ok(note)
+}
+
+fn push_names(note: &mut String, names: &[Name<'_>]) -> Result<(), AllocError> {
     for (at, name) in names.iter().enumerate() {
         note.push_str(between(at, names.len()))?;
-        note.push_str(name.mark)?;
-        note.push_str(name.text)?;
-        note.push_str(name.mark)?;
+        push_name(note, name)?;
     }
-    Ok(note)
+    Ok(())
+}
+
+fn push_name(note: &mut String, name: &Name<'_>) -> Result<(), AllocError> {
+    note.push_str(name.mark)?;
+    note.push_str(name.text)?;
+    note.push_str(name.mark)
 }
 
 /// What stands before the name of this place.

@@ -145,17 +145,17 @@ const ITEM_NOTE: &str = "an item begins with `struct`, `persistent`, `tx`, `void
 
 /// The first note that says what to write instead.
 fn plain_note(near: &Spelled<'_>, value: bool) -> Option<&'static str> {
-    by_word(near.here())
+    by_word(&RESERVED, near.here())
         .or(by_mark(near, value))
         .or(by_place(near))
         .or(by_name(near))
 }
 
 /// A word that C reserves.
-fn by_word(here: &[u8]) -> Option<&'static str> {
-    for (word, note) in RESERVED {
+fn by_word(reserved: &[(&str, &'static str)], here: &[u8]) -> Option<&'static str> {
+    for (word, note) in reserved {
         if is(here, word) {
-            return Some(note);
+            return Some(*note);
         }
     }
     None

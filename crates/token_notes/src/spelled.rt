@@ -41,10 +41,7 @@ impl<'a> Spelled<'a> {
     }
 
     fn word(&self, place: u64) -> &'a [u8] {
-        match self.words.get(place as usize) {
-            Some(word) => word,
-            None => b"",
-        }
+        word_at(self.words, place as usize)
     }
 
     /// Where the token stands.
@@ -56,18 +53,11 @@ impl<'a> Spelled<'a> {
             if at as u64 >= self.place {
                 break;
             }
-            if is(word, "{") {
-                if braces == 0 {
-                    fields = rounds == 0 && !is(self.word((at as u64).saturating_sub(1)), ")");
-                }
-                braces = braces.saturating_add(1);
-            } else if is(word, "}") {
-                braces = braces.saturating_sub(1);
-            } else if is(word, "(") {
-                rounds = rounds.saturating_add(1);
-            } else if is(word, ")") {
-                rounds = rounds.saturating_sub(1);
+            if braces == 0 && is(word, "{") {
+                fields = rounds == 0 && !is(self.word((at as u64).saturating_sub(1)), ")");
             }
+            braces = depth_after(braces, word, "{", "}");
+            rounds = depth_after(rounds, word, "(", ")");
         }
         if braces > 0 && fields {
             Within::Fields
@@ -90,12 +80,10 @@ impl<'a> Spelled<'a> {
             if at as u64 >= self.place {
                 break;
             }
-            if is(word, "{") {
-                fields = if braces == 0 { !is(last, ")") } else { fields };
-                braces = braces.saturating_add(1);
-            } else if is(word, "}") {
-                braces = braces.saturating_sub(1);
+            if braces == 0 && is(word, "{") {
+                fields = !is(last, ")");
             }
+            braces = depth_after(braces, word, "{", "}");
             if braces == 0 && (is(word, ";") || is(word, "}") && !fields) {
                 start = (at as u64).saturating_add(1);
             }
@@ -141,6 +129,25 @@ impl<'a> Spelled<'a> {
     }
 }
 
+/// The token of this place; an empty one past the end.
+pub(crate) fn word_at<'a>(words: &[&'a [u8]], at: usize) -> &'a [u8] {
+    match words.get(at) {
+        Some(word) => word,
+        None => b"",
+    }
+}
+
+/// How many brackets of this kind are open after the token.
+pub(crate) fn depth_after(depth: u64, word: &[u8], open: &str, close: &str) -> u64 {
+    if is(word, open) {
+        return depth.saturating_add(1);
+    }
+    if is(word, close) {
+        return depth.saturating_sub(1);
+    }
+    depth
+}
+
 /// Whether a token is this word.
 pub fn is(word: &[u8], text: &str) -> bool {
     word == text.as_bytes()
@@ -174,15 +181,24 @@ pub(crate) fn is_number(word: &[u8]) -> bool {
 
 /// The longest token that a text begins with: letters and digits, a mark of two bytes, or one byte.
 pub fn first_token(text: &[u8]) -> &[u8] {
+    first_bytes(text, token_len(text))
+}
+
+/// So many of the first bytes, or all.
+fn first_bytes(text: &[u8], count: usize) -> &[u8] {
+    text.split_at(count.min(text.len())).0
+}
+
+fn token_len(text: &[u8]) -> usize {
     let run = word_len(text);
     if run > 0 {
-        return text.split_at(run.min(text.len())).0;
+        return run;
     }
-    let pair = text.split_at(text.len().min(2)).0;
-    if is_one(pair, &PAIRS) {
-        return pair;
+    if is_one(first_bytes(text, 2), &PAIRS) {
+        2
+    } else {
+        1
     }
-    text.split_at(text.len().min(1)).0
 }
 
 /// The marks of two bytes.

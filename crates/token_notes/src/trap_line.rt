@@ -1,6 +1,6 @@
 //! The lines of a program where a trap may have come.
 
-use crate::spelled::{is, is_name, is_number, is_one};
+use crate::spelled::{depth_after, is, is_name, is_number, is_one, word_at};
 use std::alloc::{AllocError, Global};
 
 /// A program's tokens, as they are spelled and with their lines.
@@ -32,18 +32,39 @@ pub fn trap_lines(
     transaction: &[u8],
     kind: &str,
 ) -> Result<Vec<u64>, AllocError> {
+    let mut lines = Vec::new(alloc);
+    push_all(alloc, program, transaction, kind, &mut lines)?;
+    Ok(lines)
+}
+
+fn push_all(
+    alloc: Global,
+    program: Lined<'_>,
+    transaction: &[u8],
+    kind: &str,
+    lines: &mut Vec<u64>,
+) -> Result<(), AllocError> {
     let mut names = Vec::new(alloc);
     names.push(transaction)?;
-    let mut lines = Vec::new(alloc);
+    push_lines(program, kind, &mut names, lines)
+}
+
+/// Adds the lines of the named functions, and names those that they call.
+fn push_lines<'a>(
+    program: Lined<'a>,
+    kind: &str,
+    names: &mut Vec<&'a [u8]>,
+    lines: &mut Vec<u64>,
+) -> Result<(), AllocError> {
     for turn in 0..program.words.len() {
         let Some(name) = names.get(turn) else {
-            return Ok(lines);
+            return Ok(());
         };
         let body = body_of(program.words, name);
-        push_sites(program, body, kind, &mut lines)?;
-        push_calls(program.words, body, &mut names)?;
+        push_sites(program, body, kind, lines)?;
+        push_calls(program.words, body, names)?;
     }
-    Ok(lines)
+    Ok(())
 }
 
 /// The places of a function's body: its first token, and the one after its last.
@@ -57,21 +78,21 @@ struct Body {
 fn body_of(words: &[&[u8]], name: &[u8]) -> Body {
     let mut braces = 0u64;
     let mut from = None;
-    let mut last: &[u8] = b"";
     for (at, word) in words.iter().enumerate() {
-        if is(word, "{") {
-            braces = braces.saturating_add(1);
-        } else if is(word, "}") {
-            braces = braces.saturating_sub(1);
-            if let (0, Some(from)) = (braces, from) {
-                return Body { from, to: at };
-            }
-        } else if braces == 0 && is(word, "(") && last == name {
+        braces = depth_after(braces, word, "{", "}");
+        if braces == 0 && is(word, "(") && before(words, at, 1) == name {
             from = Some(at);
         }
-        last = word;
+        match from {
+            Some(from) if braces == 0 && is(word, "}") => return Body { from, to: at },
+            _ => (),
+        }
     }
     Body { from: 0, to: 0 }
+}
+
+fn is_inside(body: Body, at: usize) -> bool {
+    body.from <= at && at < body.to
 }
 
 /// Adds the lines of the tokens of a body that can trap so.
@@ -82,34 +103,30 @@ fn push_sites(
     lines: &mut Vec<u64>,
 ) -> Result<(), AllocError> {
     for (at, word) in program.words.iter().enumerate() {
-        if body.from <= at && at < body.to && can_trap(program.words, at, word, kind) {
-            let line = program.lines.get(at).copied().unwrap_or(0);
-            if lines.last().copied() != Some(line) {
-                lines.push(line)?;
-            }
+        if is_inside(body, at) && can_trap(program.words, at, word, kind) {
+            push_line(lines, program.lines.get(at).copied().unwrap_or(0))?;
         }
     }
     Ok(())
 }
 
-fn next<'a>(words: &[&'a [u8]], at: usize) -> &'a [u8] {
-    match words.get(at.saturating_add(1)) {
-        Some(word) => word,
-        None => b"",
+/// Adds a line that isn't the last one.
+fn push_line(lines: &mut Vec<u64>, line: u64) -> Result<(), AllocError> {
+    if lines.last().copied() == Some(line) {
+        return Ok(());
     }
+    lines.push(line)?;
+    Ok(())
+}
+
+fn next<'a>(words: &[&'a [u8]], at: usize) -> &'a [u8] {
+    word_at(words, at.saturating_add(1))
 }
 
 /// The word `count` places earlier.
 fn before<'a>(words: &[&'a [u8]], at: usize, count: usize) -> &'a [u8] {
     match at.checked_sub(count) {
         Some(at) => word_at(words, at),
-        None => b"",
-    }
-}
-
-fn word_at<'a>(words: &[&'a [u8]], at: usize) -> &'a [u8] {
-    match words.get(at) {
-        Some(word) => word,
         None => b"",
     }
 }
@@ -144,7 +161,12 @@ fn divides(word: &[u8], next: &[u8]) -> bool {
 
 /// Whether this is the name of a function that is called.
 fn is_call(words: &[&[u8]], at: usize, word: &[u8]) -> bool {
-    is_name(word) && is(next(words, at), "(") && body_of(words, word).to > 0
+    is_called(words, at, word) && body_of(words, word).to > 0
+}
+
+/// Whether this is a name with a bracket after it.
+fn is_called(words: &[&[u8]], at: usize, word: &[u8]) -> bool {
+    is_name(word) && is(next(words, at), "(")
 }
 
 /// Whether this stores to the pool: it assigns to a field or an element, makes an object or frees
@@ -166,8 +188,7 @@ fn push_calls<'a>(
     names: &mut Vec<&'a [u8]>,
 ) -> Result<(), AllocError> {
     for (at, word) in words.iter().enumerate() {
-        let inside = body.from <= at && at < body.to;
-        if inside && is_name(word) && is(next(words, at), "(") && !has(names, word) {
+        if is_inside(body, at) && is_called(words, at, word) && !has(names, word) {
             names.push(*word)?;
         }
     }
