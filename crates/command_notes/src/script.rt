@@ -5,7 +5,7 @@ use std::alloc::{AllocError, Global};
 use token_notes::{is, is_one};
 
 /// The commands of a script.
-const COMMANDS: [&str; 6] = ["call", "stop", "fault", "power", "show", "last"];
+const COMMANDS: [&[u8]; 6] = [b"call", b"stop", b"fault", b"power", b"show", b"last"];
 
 const COMMANDS_NOTE: &str =
     "the commands are `call NAME A..`, `stop K`, `fault K`, `power old P..`, `show` and `last`";
@@ -14,13 +14,23 @@ const COMMANDS_NOTE: &str =
 /// fault.
 pub fn of_line(alloc: Global, line: &[u8]) -> Result<(u64, Told), AllocError> {
     let words = words_of(alloc, line)?;
-    let Some(first) = words.first() else {
-        return Ok((0, Told::new(alloc, "no command")?));
+    of_pieces(alloc, line, &words)
+}
+
+fn of_pieces(alloc: Global, line: &[u8], words: &[Piece]) -> Result<(u64, Told), AllocError> {
+    let Some((first, words)) = words.split_first() else {
+        return no_command(alloc);
     };
     let name = line_part(line, first);
-    let others = words.split_first().map_or(&[][..], |parts| parts.1);
-    let (at, told) = of_command(alloc, line, name, others)?;
-    Ok((at.unwrap_or(first.from) as u64, told))
+    let others = Others { line, words };
+    match of_command(name, &others) {
+        Some(fault) => told_of(alloc, first.from, &fault),
+        None => of_unknown(alloc, first.from, name, &COMMANDS, COMMANDS_NOTE),
+    }
+}
+
+pub(crate) fn no_command(alloc: Global) -> Result<(u64, Told), AllocError> {
+    Ok((0, Told::new(alloc, "no command")?))
 }
 
 /// A word of a line: the places of its first byte and after its last.
@@ -29,9 +39,6 @@ pub(crate) struct Piece {
     pub from: usize,
     pub to: usize,
 }
-
-/// Where a message points, if not at the command, and the message.
-pub(crate) type At = (Option<usize>, Told);
 
 pub(crate) fn line_part<'a>(line: &'a [u8], piece: &Piece) -> &'a [u8] {
     let to = piece.to.min(line.len());
@@ -89,125 +96,206 @@ impl<'a> Others<'a> {
     }
 }
 
-fn of_command(alloc: Global, line: &[u8], name: &[u8], words: &[Piece]) -> Result<At, AllocError> {
-    let others = Others { line, words };
-    if is(name, "call") {
-        return of_call(alloc, &others);
-    }
-    if is(name, "stop") || is(name, "fault") {
-        return of_event(alloc, name, &others);
-    }
-    if is(name, "power") {
-        return of_power(alloc, &others);
-    }
-    if is(name, "show") || is(name, "last") {
-        return of_alone(alloc, name, &others);
-    }
-    if is_one(name, &["start", "turn", "finish"]) {
-        return of_unknown(alloc, name, &[], "it is a command of `cnvm workers`");
-    }
-    of_unknown(alloc, name, &COMMANDS, COMMANDS_NOTE)
+/// What is wrong with a line, chosen before anything is made: where a message points, if not at the
+/// command; a word between two texts; and two notes, of which each may be empty.
+#[derive(Clone, Copy)]
+pub(crate) struct Fault<'a> {
+    at: Option<usize>,
+    before: &'static str,
+    word: &'a [u8],
+    after: &'static str,
+    remark: &'static str,
+    note: &'static str,
 }
 
-/// A command that takes no words.
-pub(crate) fn of_alone(alloc: Global, name: &[u8], others: &Others<'_>) -> Result<At, AllocError> {
-    let name = shown(alloc, name)?;
-    let name = name.as_str();
-    let what = format!(in alloc; "`{name}` is alone on its line")?;
-    Ok((others.from(0), remarked(alloc, others, what.as_str())?))
+impl<'a> Fault<'a> {
+    /// A fault that is told without a word of the line.
+    pub(crate) fn new(at: Option<usize>, what: &'static str, note: &'static str) -> Fault<'a> {
+        Fault {
+            at,
+            before: "",
+            word: b"",
+            after: what,
+            remark: "",
+            note,
+        }
+    }
+
+    /// A fault that is told of this word, which stands before the text.
+    pub(crate) fn of(
+        at: Option<usize>,
+        word: &'a [u8],
+        after: &'static str,
+        note: &'static str,
+    ) -> Fault<'a> {
+        Fault {
+            at,
+            before: "`",
+            word,
+            after,
+            remark: "",
+            note,
+        }
+    }
+
+    /// The same, with a note where a remark stands after the command.
+    pub(crate) fn remarked(self, others: &Others<'_>) -> Fault<'a> {
+        Fault {
+            remark: remark_note(others),
+            ..self
+        }
+    }
 }
 
-/// The text of bytes.
-pub(crate) fn shown(alloc: Global, bytes: &[u8]) -> Result<String, AllocError> {
-    let mut text = String::new(alloc);
-    push_shown(alloc, &mut text, bytes)?;
+/// The place and the message of what is wrong with a line whose command stands here.
+pub(crate) fn told_of(
+    alloc: Global,
+    from: usize,
+    fault: &Fault<'_>,
+) -> Result<(u64, Told), AllocError> {
+    let what = framed(alloc, fault.before, fault.word, fault.after)?;
+    let told = Told::of(alloc, what.as_str(), &[fault.remark, fault.note])?;
+    Ok((fault.at.unwrap_or(from) as u64, told))
+}
+
+/// A word, as it is shown, between two texts.
+fn framed(alloc: Global, before: &str, word: &[u8], after: &str) -> Result<String, AllocError> {
+    let mut text = String::from_str(alloc, before)?;
+    push_shown(alloc, &mut text, word)?;
+    text.push_str(after)?;
     Ok(text)
 }
 
-/// The message, with a note where a remark stands after a command.
-pub(crate) fn remarked(alloc: Global, others: &Others<'_>, what: &str) -> Result<Told, AllocError> {
-    let told = Told::new(alloc, what)?;
+fn of_command<'a>(name: &'a [u8], others: &Others<'a>) -> Option<Fault<'a>> {
+    if is(name, "call") {
+        return Some(of_call(others));
+    }
+    if is_one(name, &["start", "turn", "finish"]) {
+        let note = "it is a command of `cnvm workers`";
+        return Some(Fault::of(None, name, NO_COMMAND, note));
+    }
+    of_shared(name, others)
+}
+
+/// A command that scripts of one and of several workers have in the same form.
+pub(crate) fn of_shared<'a>(name: &'a [u8], others: &Others<'a>) -> Option<Fault<'a>> {
+    if is(name, "power") {
+        return Some(of_power(others));
+    }
+    if is_one(name, &["stop", "fault"]) {
+        return Some(of_event(name, others));
+    }
+    if is_one(name, &["show", "last"]) {
+        return Some(of_alone(name, others));
+    }
+    None
+}
+
+/// A command that takes no words.
+pub(crate) fn of_alone<'a>(name: &'a [u8], others: &Others<'a>) -> Fault<'a> {
+    Fault::of(others.from(0), name, "` is alone on its line", "").remarked(others)
+}
+
+/// The note where a remark stands after a command.
+fn remark_note(others: &Others<'_>) -> &'static str {
     for at in 0..others.words.len() {
-        if others.word(at).starts_with(b"#") || others.word(at).starts_with(b"//") {
-            return told.with(
-                alloc,
-                "a remark has a line of its own, which begins with `#`",
-            );
+        if is_remark(others.word(at)) {
+            return REMARK_NOTE;
         }
     }
-    Ok(told)
+    ""
 }
+
+const REMARK_NOTE: &str = "a remark has a line of its own, which begins with `#`";
+
+fn is_remark(word: &[u8]) -> bool {
+    word.starts_with(b"#") || word.starts_with(b"//")
+}
+
+const NO_COMMAND: &str = "` is no command";
 
 /// A word that is none of these commands, which the note lists.
 pub(crate) fn of_unknown(
     alloc: Global,
+    from: usize,
     name: &[u8],
-    commands: &[&str],
+    commands: &[&[u8]],
     note: &str,
-) -> Result<At, AllocError> {
-    let word = shown(alloc, name)?;
-    let word = word.as_str();
-    let what = format!(in alloc; "`{word}` is no command")?;
-    let told = Told::new(alloc, what.as_str())?;
-    if name.starts_with(b"//") {
-        return Ok((None, told.with(alloc, "a remark begins with `#`")?));
-    }
-    let mut small = Vec::new(alloc);
-    for byte in name {
-        small.push(byte.to_ascii_lowercase())?;
-    }
-    let mut names = Vec::new(alloc);
-    for command in commands {
-        names.push(command.as_bytes())?;
-        if command.as_bytes() == small.as_slice() {
-            let note = format!(in alloc; "commands are small letters: write `{command}`")?;
-            return Ok((None, told.with(alloc, note.as_str())?));
-        }
-    }
-    if let Some(near) = nearest(&small, &names) {
-        let near = shown(alloc, near)?;
-        let near = near.as_str();
-        let note = format!(in alloc; "did you mean `{near}`?")?;
-        return Ok((None, told.with(alloc, note.as_str())?));
-    }
-    Ok((None, told.with(alloc, note)?))
+) -> Result<(u64, Told), AllocError> {
+    let small = lowered(alloc, name)?;
+    let what = framed(alloc, "`", name, NO_COMMAND)?;
+    let note = unknown_note(alloc, name, &small, commands, note)?;
+    let told = Told::of(alloc, what.as_str(), &[note.as_str()])?;
+    Ok((from as u64, told))
 }
 
-pub(crate) fn of_call(alloc: Global, others: &Others<'_>) -> Result<At, AllocError> {
+/// The word in small letters.
+fn lowered(alloc: Global, word: &[u8]) -> Result<Vec<u8>, AllocError> {
+    let mut small = Vec::new(alloc);
+    for byte in word {
+        small.push(byte.to_ascii_lowercase())?;
+    }
+    Ok(small)
+}
+
+/// The note of a word that is none of these commands.
+fn unknown_note(
+    alloc: Global,
+    name: &[u8],
+    small: &[u8],
+    commands: &[&[u8]],
+    note: &str,
+) -> Result<String, AllocError> {
+    if name.starts_with(b"//") {
+        return String::from_str(alloc, "a remark begins with `#`");
+    }
+    if has(commands, small) {
+        return framed(alloc, "commands are small letters: write `", small, "`");
+    }
+    match nearest(small, commands) {
+        Some(near) => framed(alloc, "did you mean `", near, "`?"),
+        None => String::from_str(alloc, note),
+    }
+}
+
+pub(crate) fn has(words: &[&[u8]], word: &[u8]) -> bool {
+    for other in words {
+        if *other == word {
+            return true;
+        }
+    }
+    false
+}
+
+pub(crate) fn of_call<'a>(others: &Others<'a>) -> Fault<'a> {
     let name = others.word(0);
     if name.is_empty() {
-        let told = Told::new(alloc, "the name of a transaction is missing")?;
-        return Ok((others.from(0), told.with(alloc, "write `call NAME A..`")?));
+        let what = "the name of a transaction is missing";
+        return Fault::new(others.from(0), what, "write `call NAME A..`");
     }
     if !is_name(name) {
-        let word = shown(alloc, name)?;
-        let word = word.as_str();
-        let what = format!(in alloc; "`{word}` is no name of a transaction")?;
-        let mut told = Told::new(alloc, what.as_str())?;
-        if name.contains(&b'(') {
-            told = told.with(
-                alloc,
-                "arguments stand without brackets and commas: write `add 5 7`",
-            )?;
-        }
-        return Ok((others.from(0), told));
+        let note = if name.contains(&b'(') {
+            "arguments stand without brackets and commas: write `add 5 7`"
+        } else {
+            ""
+        };
+        return Fault::of(others.from(0), name, "` is no name of a transaction", note);
     }
+    of_arguments(others)
+}
+
+/// The first wrong argument of a call; if there is none, its name is wrong.
+fn of_arguments<'a>(others: &Others<'a>) -> Fault<'a> {
     for at in 1..others.words.len() {
         if let Some(note) = wrong_argument(others.word(at)) {
-            let word = shown(alloc, others.word(at))?;
-            let word = word.as_str();
-            let what = format!(in alloc; "`{word}` is no argument")?;
-            return Ok((
-                others.from(at),
-                Told::new(alloc, what.as_str())?.with(alloc, note)?,
-            ));
+            return Fault::of(others.from(at), others.word(at), "` is no argument", note);
         }
     }
-    let told = Told::new(alloc, "this is no name of a transaction")?;
-    Ok((
+    Fault::new(
         others.from(0),
-        told.with(alloc, "it is a word that C or the language reserves")?,
-    ))
+        "this is no name of a transaction",
+        "it is a word that C or the language reserves",
+    )
 }
 
 /// Whether a word is letters, digits and `_`, and begins with no digit.
@@ -243,22 +331,21 @@ fn wrong_argument(word: &[u8]) -> Option<&'static str> {
     };
     match digits(size) {
         Some(count) if count < 19 => None,
-        Some(19) => {
-            if is_greater(
-                size,
-                if size.len() < word.len() {
-                    b"9223372036854775808"
-                } else {
-                    b"9223372036854775807"
-                },
-            ) {
-                Some("an argument is from -9223372036854775808 to 9223372036854775807")
-            } else {
-                None
-            }
+        Some(19) if is_greater(size, greatest(size.len() < word.len())) => {
+            Some("an argument is from -9223372036854775808 to 9223372036854775807")
         }
+        Some(19) => None,
         Some(_) => Some("an argument has at most 19 digits"),
         None => Some(argument_note(word)),
+    }
+}
+
+/// The greatest size of a number with a `-` or without.
+fn greatest(is_negative: bool) -> &'static [u8] {
+    if is_negative {
+        b"9223372036854775808"
+    } else {
+        b"9223372036854775807"
     }
 }
 
@@ -274,8 +361,8 @@ fn is_greater(left: &[u8], right: &[u8]) -> bool {
 }
 
 fn argument_note(word: &[u8]) -> &'static str {
-    if word.starts_with(b"#") || word.starts_with(b"//") {
-        return "a remark has a line of its own, which begins with `#`";
+    if is_remark(word) {
+        return REMARK_NOTE;
     }
     if word.starts_with(b"0x") || word.starts_with(b"0X") || word.starts_with(b"-0x") {
         return "numbers are decimal: write 16 for 0x10";
@@ -292,66 +379,51 @@ fn argument_note(word: &[u8]) -> &'static str {
     "an argument is an optional `-` and 1 to 19 decimal digits"
 }
 
-pub(crate) fn of_event(alloc: Global, name: &[u8], others: &Others<'_>) -> Result<At, AllocError> {
-    let name = shown(alloc, name)?;
-    let name = name.as_str();
+pub(crate) fn of_event<'a>(name: &'a [u8], others: &Others<'a>) -> Fault<'a> {
     if others.words.len() > 1 {
-        let what = format!(in alloc; "`{name}` takes one number")?;
-        return Ok((others.from(1), remarked(alloc, others, what.as_str())?));
+        return Fault::of(others.from(1), name, "` takes one number", "").remarked(others);
     }
     if others.words.is_empty() {
-        let what = format!(in alloc; "`{name}` needs a number of events")?;
-        let note = format!(in alloc; "write `{name} 0` for the next event")?;
-        return Ok((
-            others.from(0),
-            Told::new(alloc, what.as_str())?.with(alloc, note.as_str())?,
-        ));
+        let note = if is(name, "stop") {
+            "write `stop 0` for the next event"
+        } else {
+            "write `fault 0` for the next event"
+        };
+        return Fault::of(others.from(0), name, "` needs a number of events", note);
     }
-    let word = shown(alloc, others.word(0))?;
-    let word = word.as_str();
-    let what = format!(in alloc; "`{word}` is no number of events")?;
-    let note = "a number of events has 1 to 10 decimal digits, and is at most 4294967295";
-    Ok((
+    Fault::of(
         others.from(0),
-        Told::new(alloc, what.as_str())?.with(alloc, note)?,
-    ))
+        others.word(0),
+        "` is no number of events",
+        "a number of events has 1 to 10 decimal digits, and is at most 4294967295",
+    )
 }
 
-pub(crate) fn of_power(alloc: Global, others: &Others<'_>) -> Result<At, AllocError> {
-    let word = others.word(0);
-    if !is(word, "old") && !is(word, "new") {
-        let told = Told::new(alloc, "`power` needs `old` or `new`")?;
-        return Ok((
+pub(crate) fn of_power<'a>(others: &Others<'a>) -> Fault<'a> {
+    if !is_one(others.word(0), &["old", "new"]) {
+        return Fault::new(
             others.from(0),
-            told.with(
-                alloc,
-                "each line keeps its oldest or its newest version, but for the picks after it",
-            )?,
-        ));
+            "`power` needs `old` or `new`",
+            "each line keeps its oldest or its newest version, but for the picks after it",
+        );
     }
+    of_picks(others)
+}
+
+/// The first wrong pick of a power cut; if there is none, their order is wrong.
+fn of_picks<'a>(others: &Others<'a>) -> Fault<'a> {
     for at in 1..others.words.len() {
         if !is_pick(others.word(at)) {
-            let word = shown(alloc, others.word(at))?;
-            let word = word.as_str();
-            let what = format!(in alloc; "`{word}` is no pick")?;
-            let told = remarked(alloc, others, what.as_str())?;
-            return Ok((
-                others.from(at),
-                told.with(
-                    alloc,
-                    "a pick is `LINE:VERSION`, two numbers of 1 to 10 digits with no blank",
-                )?,
-            ));
+            let note = "a pick is `LINE:VERSION`, two numbers of 1 to 10 digits with no blank";
+            let fault = Fault::of(others.from(at), others.word(at), "` is no pick", note);
+            return fault.remarked(others);
         }
     }
-    let told = Told::new(alloc, "the lines of these picks do not rise")?;
-    Ok((
+    Fault::new(
         others.from(1),
-        told.with(
-            alloc,
-            "write the picks in the order of their lines, each line once",
-        )?,
-    ))
+        "the lines of these picks do not rise",
+        "write the picks in the order of their lines, each line once",
+    )
 }
 
 fn is_pick(word: &[u8]) -> bool {

@@ -3,48 +3,56 @@
 use plain_notes::Told;
 use std::alloc::{AllocError, Global};
 
-/// Each trap by the name that answers print, in words, and with its remedy.
-const TRAPS: [(&str, &str, &str); 8] = [
-    (
-        "null",
-        "a pointer that is NULL was followed or freed",
-        "test what `pm_new` and a search give",
-    ),
-    (
-        "stale",
-        "a pointer led to a slot that is free or holds another struct",
-        "set each pointer to NULL when its object is freed",
-    ),
-    (
-        "index",
-        "an index was outside of its array",
-        "test an argument before it is an index",
-    ),
-    (
-        "divide",
-        "a number was divided by 0",
-        "test the divisor before `/` and `%`",
-    ),
-    (
-        "steps",
-        "the transaction needs more ticks than it has",
-        "do less in one call, or give more with `--ticks`, up to 1000000, to a new pool",
-    ),
-    (
-        "abort",
-        "`abort()` was reached",
-        "return a value of its own where nothing is broken",
-    ),
-    (
-        "logfull",
-        "a store has to be logged, and the log is full",
-        "do less in one call, or give a new pool more records with `--log`, up to 4096",
-    ),
-    (
-        "depth",
-        "more than 256 functions would be open",
-        "write a loop in place of the recursion",
-    ),
+/// A trap by the name that answers print, in words, and with its remedy.
+#[derive(Clone, Copy)]
+struct Trap {
+    name: &'static str,
+    words: &'static str,
+    remedy: &'static str,
+}
+
+/// All traps.
+const TRAPS: [Trap; 8] = [
+    Trap {
+        name: "null",
+        words: "a pointer that is NULL was followed or freed",
+        remedy: "test what `pm_new` and a search give",
+    },
+    Trap {
+        name: "stale",
+        words: "a pointer led to a slot that is free or holds another struct",
+        remedy: "set each pointer to NULL when its object is freed",
+    },
+    Trap {
+        name: "index",
+        words: "an index was outside of its array",
+        remedy: "test an argument before it is an index",
+    },
+    Trap {
+        name: "divide",
+        words: "a number was divided by 0",
+        remedy: "test the divisor before `/` and `%`",
+    },
+    Trap {
+        name: "steps",
+        words: "the transaction needs more ticks than it has",
+        remedy: "do less in one call, or give more with `--ticks`, up to 1000000, to a new pool",
+    },
+    Trap {
+        name: "abort",
+        words: "`abort()` was reached",
+        remedy: "return a value of its own where nothing is broken",
+    },
+    Trap {
+        name: "logfull",
+        words: "a store has to be logged, and the log is full",
+        remedy: "do less in one call, or give a new pool more records with `--log`, up to 4096",
+    },
+    Trap {
+        name: "depth",
+        words: "more than 256 functions would be open",
+        remedy: "write a loop in place of the recursion",
+    },
 ];
 
 /// What a trap leaves of the pool.
@@ -58,12 +66,19 @@ pub enum PoolLeft {
 
 /// The trap of this name in words.
 pub(crate) fn trap_words(kind: &str) -> &str {
-    for (name, words, _) in TRAPS {
-        if name == kind {
-            return words;
+    match trap_of(&TRAPS, kind) {
+        Some(trap) => trap.words,
+        None => kind,
+    }
+}
+
+fn trap_of(traps: &[Trap], kind: &str) -> Option<Trap> {
+    for trap in traps {
+        if trap.name == kind {
+            return Some(*trap);
         }
     }
-    kind
+    None
 }
 
 /// The message of a trap in a call of this transaction, from this line of the script. Line 0 is the
@@ -129,41 +144,28 @@ fn storm_text(alloc: Global, round: u64, call: &str) -> Result<String, AllocErro
 }
 
 fn trapped(alloc: Global, call: &str, kind: &str, left: PoolLeft) -> Result<Told, AllocError> {
-    for (name, words, remedy) in TRAPS {
-        if name == kind {
-            let what = format!(in alloc; "{call} trapped: {words}")?;
-            let told = Told::new(alloc, what.as_str())?;
-            return with_left(alloc, told, kind, remedy, left);
-        }
+    let words = trap_words(kind);
+    let what = format!(in alloc; "{call} trapped: {words}")?;
+    match trap_of(&TRAPS, kind) {
+        Some(trap) => Told::of(alloc, what.as_str(), &[remedy(trap, left), left_note(left)]),
+        None => Told::new(alloc, what.as_str()),
     }
-    let what = format!(in alloc; "{call} trapped: {kind}")?;
-    Told::new(alloc, what.as_str())
 }
 
-/// The message with its remedy and with what is left of the pool. A transaction that rolls back
-/// may well reach `abort()`, so that needs no remedy.
-fn with_left(
-    alloc: Global,
-    told: Told,
-    kind: &str,
-    remedy: &str,
-    left: PoolLeft,
-) -> Result<Told, AllocError> {
+/// The remedy of a trap. `abort()` in a transaction that rolls back needs none.
+fn remedy(trap: Trap, left: PoolLeft) -> &'static str {
     match left {
-        PoolLeft::Unusable => told.with(alloc, remedy)?.with(
-            alloc,
-            "the pool takes no more calls; the stores before the trap stand",
-        ),
+        PoolLeft::Restored if trap.name == "abort" => "",
+        _ => trap.remedy,
+    }
+}
+
+/// What is left of the pool.
+fn left_note(left: PoolLeft) -> &'static str {
+    match left {
+        PoolLeft::Unusable => "the pool takes no more calls; the stores before the trap stand",
         PoolLeft::Restored => {
-            let told = if kind == "abort" {
-                told
-            } else {
-                told.with(alloc, remedy)?
-            };
-            told.with(
-                alloc,
-                "the pool was restored as it was before the call, and takes further calls",
-            )
+            "the pool was restored as it was before the call, and takes further calls"
         }
     }
 }

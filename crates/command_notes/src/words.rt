@@ -1,63 +1,75 @@
 //! Messages of the words of the command line.
 
-use plain_notes::nearest;
+use crate::script::has;
+use plain_notes::{nearest, push_shown};
 use std::alloc::{AllocError, Global};
 
-/// A number on the command line: its word, and its limits.
+/// A number on the command line: its word, its limits, and what is told of them.
 #[derive(Clone, Copy)]
 struct Number {
     name: &'static str,
     least: u64,
     most: u64,
+    limits: &'static str,
 }
 
 const SLOTS: Number = Number {
     name: "--slots",
     least: 1,
     most: 65_535,
+    limits: "from 1 to 65535",
 };
 
 const LOG: Number = Number {
     name: "--log",
     least: 1,
     most: 4_096,
+    limits: "from 1 to 4096",
 };
 
 const TICKS: Number = Number {
     name: "--ticks",
     least: 1,
     most: 1_000_000,
+    limits: "from 1 to 1000000",
 };
 
 const START: Number = Number {
     name: "START",
     least: 0,
     most: 2_147_483_647,
+    limits: "from 0 to 2147483647",
 };
 
 const COUNT: Number = Number {
     name: "COUNT",
     least: 0,
     most: 20_000,
+    limits: "from 0 to 20000",
 };
 
 const WORKER_COUNT: Number = Number {
     name: "--workers",
     least: 1,
     most: 8,
+    limits: "from 1 to 8",
 };
 
+/// The numbers by their words.
+const NUMBERS: [Number; 6] = [SLOTS, LOG, TICKS, WORKER_COUNT, START, COUNT];
+
 /// One command: the names of its places, and its options.
+#[derive(Clone, Copy)]
 struct Shape {
     name: &'static str,
     places: &'static [&'static str],
-    options: &'static [&'static str],
+    options: &'static [&'static [u8]],
 }
 
 const RUN: Shape = Shape {
     name: "run",
     places: &["PROGRAM", "SCRIPT"],
-    options: &["--open", "--save", "--slots", "--log", "--ticks"],
+    options: &[b"--open", b"--save", b"--slots", b"--log", b"--ticks"],
 };
 
 const LIST: Shape = Shape {
@@ -69,7 +81,7 @@ const LIST: Shape = Shape {
 const STORM: Shape = Shape {
     name: "storm",
     places: &["PROGRAM", "START", "COUNT"],
-    options: &["--slots", "--log", "--ticks"],
+    options: &[b"--slots", b"--log", b"--ticks"],
 };
 
 const WHY: Shape = Shape {
@@ -81,8 +93,13 @@ const WHY: Shape = Shape {
 const WORKERS: Shape = Shape {
     name: "workers",
     places: &["PROGRAM", "SCRIPT"],
-    options: &["--workers", "--slots", "--log", "--ticks"],
+    options: &[b"--workers", b"--slots", b"--log", b"--ticks"],
 };
+
+const SHAPES: [Shape; 5] = [RUN, LIST, STORM, WHY, WORKERS];
+
+/// The names of the commands.
+const COMMANDS: [&[u8]; 5] = [b"run", b"list", b"storm", b"why", b"workers"];
 
 /// The commands and the options with their defaults.
 const HELP: [&str; 16] = [
@@ -106,108 +123,184 @@ const HELP: [&str; 16] = [
 
 /// What is wrong with the words, and what may stand there.
 pub fn of_words(alloc: Global, words: &[String]) -> Result<String, AllocError> {
-    let what = wrong_word(alloc, words)?;
-    let what = what.as_str();
-    let mut message = format!(in alloc; "cnvm: {what}\n")?;
-    for line in HELP {
+    let mut message = String::from_str(alloc, "cnvm: ")?;
+    push_wrong(alloc, &mut message, words)?;
+    message.push_str("\n")?;
+    push_lines(&mut message, &HELP)?;
+    Ok(message)
+}
+
+fn push_lines(message: &mut String, lines: &[&str]) -> Result<(), AllocError> {
+    for line in lines {
         message.push_str("  ")?;
         message.push_str(line)?;
         message.push_str("\n")?;
     }
-    Ok(message)
+    Ok(())
 }
 
-fn wrong_word(alloc: Global, words: &[String]) -> Result<String, AllocError> {
-    let Some(first) = words.first() else {
-        return String::from_str(
-            alloc,
-            "a command is missing: run, list, storm, why or workers",
-        );
+fn push_wrong(alloc: Global, message: &mut String, words: &[String]) -> Result<(), AllocError> {
+    let Some((first, rest)) = words.split_first() else {
+        return message.push_str("a command is missing: run, list, storm, why or workers");
     };
-    for shape in [&RUN, &LIST, &STORM, &WHY, &WORKERS] {
-        if first.as_str() == shape.name {
-            return wrong_of(alloc, shape, words);
+    match shape_of(&SHAPES, first.as_str()) {
+        Some(shape) => {
+            let wrong = wrong_of(alloc, shape, rest)?;
+            push_texts(alloc, message, &wrong)
+        }
+        None => push_no_command(alloc, message, first.as_str()),
+    }
+}
+
+fn shape_of(shapes: &[Shape], name: &str) -> Option<Shape> {
+    for shape in shapes {
+        if shape.name == name {
+            return Some(*shape);
         }
     }
-    let first = first.as_str();
-    if is_help(first) {
-        return String::from_str(alloc, "the commands and their options:");
+    None
+}
+
+fn push_no_command(alloc: Global, message: &mut String, word: &str) -> Result<(), AllocError> {
+    if is_help(word) {
+        return message.push_str("the commands and their options:");
     }
-    match nearest(
-        first.as_bytes(),
-        &[b"run", b"list", b"storm", b"why", b"workers"],
-    ) {
-        Some(near) => {
-            let near = String::from_utf8_lossy(alloc, near)?;
-            let near = near.as_str();
-            format!(in alloc; "{first}: there is no such command; did you mean `{near}`?")
-        }
-        None => format!(in alloc;
-            "{first}: there is no such command; there are run, list, storm, why and workers"
-        ),
+    message.push_str(word)?;
+    message.push_str(": there is no such command; ")?;
+    match nearest(word.as_bytes(), &COMMANDS) {
+        Some(near) => push_near(alloc, message, near),
+        None => message.push_str("there are run, list, storm, why and workers"),
     }
+}
+
+fn push_near(alloc: Global, message: &mut String, near: &[u8]) -> Result<(), AllocError> {
+    message.push_str("did you mean `")?;
+    push_shown(alloc, message, near)?;
+    message.push_str("`?")
 }
 
 fn is_help(word: &str) -> bool {
     word == "--help" || word == "-h" || word == "help"
 }
 
+/// What is wrong with a word: texts that are told one after the other, and the nearest word.
+#[derive(Clone, Copy)]
+struct Wrong<'a> {
+    word: &'a str,
+    middle: &'static str,
+    other: &'a str,
+    after: &'static str,
+    limits: &'static str,
+    near: Option<&'static [u8]>,
+}
+
+impl<'a> Wrong<'a> {
+    /// What is wrong, told of this word alone.
+    fn new(word: &'a str, after: &'static str) -> Wrong<'a> {
+        Wrong {
+            word,
+            middle: "",
+            other: "",
+            after,
+            limits: "",
+            near: None,
+        }
+    }
+
+    /// What a word is to the command of this name.
+    fn of(word: &'a str, name: &'static str, after: &'static str) -> Wrong<'a> {
+        Wrong {
+            word,
+            middle: ": `",
+            other: name,
+            after,
+            limits: "",
+            near: None,
+        }
+    }
+}
+
+fn push_texts(alloc: Global, message: &mut String, wrong: &Wrong<'_>) -> Result<(), AllocError> {
+    message.push_str(wrong.word)?;
+    message.push_str(wrong.middle)?;
+    message.push_str(wrong.other)?;
+    message.push_str(wrong.after)?;
+    message.push_str(wrong.limits)?;
+    match wrong.near {
+        Some(near) => {
+            message.push_str("; ")?;
+            push_near(alloc, message, near)
+        }
+        None => Ok(()),
+    }
+}
+
+/// The words of a command that were read: how many stood at places, the options, and the option
+/// whose value is next.
+#[derive(Drop)]
+struct Read<'a> {
+    shape: Shape,
+    places: usize,
+    given: Vec<&'a [u8]>,
+    open: Option<&'a str>,
+}
+
 /// The first wrong word of a command.
-fn wrong_of(alloc: Global, shape: &Shape, words: &[String]) -> Result<String, AllocError> {
-    let mut places = 0usize;
-    let mut given = Vec::new(alloc);
-    let mut open = None;
-    for (at, word) in words.iter().enumerate() {
-        let word = word.as_str();
-        let wrong = match open {
-            _ if at == 0 => None,
-            Some(option) => {
-                open = None;
-                wrong_value(alloc, option, word)?
-            }
-            None if word.starts_with("--") => {
-                let (option, value) = parts_of(word);
-                let wrong = wrong_option(alloc, shape, &given, option, value)?;
-                given.push(option)?;
-                if value.is_none() {
-                    open = Some(option);
-                }
-                wrong
-            }
-            None => {
-                let wrong = wrong_place(alloc, shape, places, word)?;
-                places = places.saturating_add(1);
-                wrong
-            }
-        };
-        if let Some(wrong) = wrong {
+fn wrong_of<'a>(alloc: Global, shape: Shape, words: &'a [String]) -> Result<Wrong<'a>, AllocError> {
+    let mut read = Read {
+        shape,
+        places: 0,
+        given: Vec::new(alloc),
+        open: None,
+    };
+    for word in words {
+        if let Some(wrong) = read.next(word.as_str())? {
             return Ok(wrong);
         }
     }
-    match open {
-        Some(option) => format!(in alloc; "{option}: its value is missing"),
-        None => missing(alloc, shape, places),
+    Ok(read.end())
+}
+
+impl<'a> Read<'a> {
+    /// Reads one more word, and tells what is wrong with it.
+    fn next(&mut self, word: &'a str) -> Result<Option<Wrong<'a>>, AllocError> {
+        if let Some(option) = self.open {
+            self.open = None;
+            return Ok(wrong_value(&NUMBERS, option, word));
+        }
+        if word.starts_with("--") {
+            return self.option(word);
+        }
+        let wrong = wrong_place(self.shape, self.places, word);
+        self.places = self.places.saturating_add(1);
+        Ok(wrong)
+    }
+
+    fn option(&mut self, word: &'a str) -> Result<Option<Wrong<'a>>, AllocError> {
+        let (option, value) = parts_of(word);
+        let wrong = wrong_option(self.shape, &self.given, option, value);
+        self.given.push(option.as_bytes())?;
+        if value.is_none() {
+            self.open = Some(option);
+        }
+        Ok(wrong)
+    }
+
+    /// What is missing at the end.
+    fn end(&self) -> Wrong<'a> {
+        match self.open {
+            Some(option) => Wrong::new(option, ": its value is missing"),
+            None => missing(self.shape, self.places),
+        }
     }
 }
 
 /// What is wrong with a word at a place.
-fn wrong_place(
-    alloc: Global,
-    shape: &Shape,
-    place: usize,
-    word: &str,
-) -> Result<Option<String>, AllocError> {
-    let name = shape.name;
-    let Some(wanted) = shape.places.get(place) else {
-        return Ok(Some(format!(in alloc; "{word}: `{name}` takes no further word")?));
-    };
-    if *wanted == START.name {
-        return wrong_number(alloc, START, word);
+fn wrong_place<'a>(shape: Shape, place: usize, word: &'a str) -> Option<Wrong<'a>> {
+    match shape.places.get(place) {
+        Some(wanted) => wrong_value(&NUMBERS, wanted, word),
+        None => Some(Wrong::of(word, shape.name, "` takes no further word")),
     }
-    if *wanted == COUNT.name {
-        return wrong_number(alloc, COUNT, word);
-    }
-    Ok(None)
 }
 
 /// An option, and the value after its `=` if it has one.
@@ -222,70 +315,49 @@ fn parts_of(word: &str) -> (&str, Option<&str>) {
 }
 
 /// What is wrong with an option, or with the value that stands after its `=`.
-fn wrong_option(
-    alloc: Global,
-    shape: &Shape,
-    given: &[&str],
-    option: &str,
-    value: Option<&str>,
-) -> Result<Option<String>, AllocError> {
-    if !has(shape.options, option) {
-        return Ok(Some(no_option(alloc, shape, option)?));
+fn wrong_option<'a>(
+    shape: Shape,
+    given: &[&[u8]],
+    option: &'a str,
+    value: Option<&'a str>,
+) -> Option<Wrong<'a>> {
+    if !has(shape.options, option.as_bytes()) {
+        return Some(Wrong {
+            near: nearest(option.as_bytes(), shape.options),
+            ..Wrong::of(option, shape.name, "` has no such option")
+        });
     }
-    if has(given, option) {
-        return Ok(Some(format!(in alloc; "{option}: is given twice")?));
+    if has(given, option.as_bytes()) {
+        return Some(Wrong::new(option, ": is given twice"));
     }
-    match value {
-        None => Ok(None),
-        Some(value) => wrong_value(alloc, option, value),
-    }
+    wrong_value(&NUMBERS, option, value?)
 }
 
-fn has(words: &[&str], word: &str) -> bool {
-    for other in words {
-        if *other == word {
-            return true;
+/// What is wrong with the value of an option or of a place, if that is a number.
+fn wrong_value<'a>(numbers: &[Number], name: &str, value: &'a str) -> Option<Wrong<'a>> {
+    for number in numbers {
+        if number.name == name {
+            return wrong_number(number, value);
         }
     }
-    false
-}
-
-/// What is wrong with the value of an option.
-fn wrong_value(alloc: Global, option: &str, value: &str) -> Result<Option<String>, AllocError> {
-    for number in [SLOTS, LOG, TICKS, WORKER_COUNT] {
-        if option == number.name {
-            return wrong_number(alloc, number, value);
-        }
-    }
-    Ok(None)
-}
-
-fn no_option(alloc: Global, shape: &Shape, word: &str) -> Result<String, AllocError> {
-    let name = shape.name;
-    let mut options = Vec::new(alloc);
-    for option in shape.options {
-        options.push(option.as_bytes())?;
-    }
-    match nearest(word.as_bytes(), &options) {
-        Some(near) => {
-            let near = String::from_utf8_lossy(alloc, near)?;
-            let near = near.as_str();
-            format!(in alloc; "{word}: `{name}` has no such option; did you mean `{near}`?")
-        }
-        None => format!(in alloc; "{word}: `{name}` has no such option"),
-    }
+    None
 }
 
 /// What is wrong with a number.
-fn wrong_number(alloc: Global, number: Number, word: &str) -> Result<Option<String>, AllocError> {
-    let Number { name, least, most } = number;
-    match plain_number(word) {
-        Some(value) if least <= value && value <= most => Ok(None),
-        Some(_) => Ok(Some(format!(in alloc; "{name}: {word} is not from {least} to {most}")?)),
-        None => Ok(Some(format!(in alloc;
-            "{name}: {word} is no number of 1 to 10 digits, from {least} to {most}"
-        )?)),
-    }
+fn wrong_number<'a>(number: &Number, word: &'a str) -> Option<Wrong<'a>> {
+    let after = match plain_number(word) {
+        Some(value) if number.least <= value && value <= number.most => return None,
+        Some(_) => " is not ",
+        None => " is no number of 1 to 10 digits, ",
+    };
+    Some(Wrong {
+        word: number.name,
+        middle: ": ",
+        other: word,
+        after,
+        limits: number.limits,
+        near: None,
+    })
 }
 
 /// The number of 1 to 10 decimal digits.
@@ -307,10 +379,9 @@ fn plain_number(word: &str) -> Option<u64> {
 }
 
 /// The first place whose word is missing.
-fn missing(alloc: Global, shape: &Shape, places: usize) -> Result<String, AllocError> {
-    let name = shape.name;
+fn missing<'a>(shape: Shape, places: usize) -> Wrong<'a> {
     match shape.places.get(places) {
-        Some(place) => format!(in alloc; "{place}: `{name}` needs this word"),
-        None => String::from_str(alloc, "these words ask for nothing that exists"),
+        Some(place) => Wrong::of(place, shape.name, "` needs this word"),
+        None => Wrong::new("", "these words ask for nothing that exists"),
     }
 }

@@ -1,16 +1,16 @@
 //! Messages of the lines of a script of workers.
 
 use crate::script::{
-    At, Others, Piece, line_part, of_alone, of_call, of_event, of_power, of_unknown, remarked,
-    shown, words_of,
+    Fault, Others, Piece, line_part, no_command, of_alone, of_call, of_shared, of_unknown, told_of,
+    words_of,
 };
 use plain_notes::Told;
 use std::alloc::{AllocError, Global};
-use token_notes::is;
+use token_notes::{is, is_one};
 
 /// The commands of a script of workers.
-const COMMANDS: [&str; 8] = [
-    "start", "turn", "finish", "stop", "fault", "power", "show", "last",
+const COMMANDS: [&[u8]; 8] = [
+    b"start", b"turn", b"finish", b"stop", b"fault", b"power", b"show", b"last",
 ];
 
 const COMMANDS_NOTE: &str =
@@ -20,102 +20,88 @@ const COMMANDS_NOTE: &str =
 /// word at fault.
 pub fn of_workers_line(alloc: Global, line: &[u8]) -> Result<(u64, Told), AllocError> {
     let words = words_of(alloc, line)?;
-    let Some(first) = words.first() else {
-        return Ok((0, Told::new(alloc, "no command")?));
+    of_pieces(alloc, line, &words)
+}
+
+fn of_pieces(alloc: Global, line: &[u8], words: &[Piece]) -> Result<(u64, Told), AllocError> {
+    let Some((first, words)) = words.split_first() else {
+        return no_command(alloc);
     };
     let name = line_part(line, first);
-    let others = words.split_first().map_or(&[][..], |parts| parts.1);
-    let (at, told) = of_command(alloc, line, name, others)?;
-    Ok((at.unwrap_or(first.from) as u64, told))
+    let others = Others { line, words };
+    match of_command(name, &others) {
+        Some(fault) => told_of(alloc, first.from, &fault),
+        None => of_unknown(alloc, first.from, name, &COMMANDS, COMMANDS_NOTE),
+    }
 }
 
-fn of_command(alloc: Global, line: &[u8], name: &[u8], words: &[Piece]) -> Result<At, AllocError> {
-    let others = Others { line, words };
+fn of_command<'a>(name: &'a [u8], others: &Others<'a>) -> Option<Fault<'a>> {
     if is(name, "start") {
-        return of_start(alloc, &others);
+        return Some(of_start(others));
     }
     if is(name, "turn") {
-        return of_turn(alloc, &others);
+        return Some(of_turn(others));
     }
     if is(name, "finish") {
-        return of_alone(alloc, name, &others);
+        return Some(of_alone(name, others));
     }
-    if is(name, "stop") || is(name, "fault") {
-        return of_event(alloc, name, &others);
-    }
-    if is(name, "power") {
-        return of_power(alloc, &others);
-    }
-    if is(name, "show") || is(name, "last") {
-        return of_worker(alloc, name, &others);
+    if is_one(name, &["show", "last"]) {
+        return Some(of_worker(name, others));
     }
     if is(name, "call") {
-        let told = Told::new(alloc, "`call` is no command of workers")?;
-        return Ok((
-            None,
-            told.with(alloc, "write `start I NAME A..`, and then `turn I`")?,
-        ));
+        let what = "`call` is no command of workers";
+        let note = "write `start I NAME A..`, and then `turn I`";
+        return Some(Fault::new(None, what, note));
     }
-    of_unknown(alloc, name, &COMMANDS, COMMANDS_NOTE)
+    of_shared(name, others)
 }
 
-fn of_start(alloc: Global, others: &Others<'_>) -> Result<At, AllocError> {
+fn of_start<'a>(others: &Others<'a>) -> Fault<'a> {
     if !is_worker(others.word(0)) {
-        return no_worker(
-            alloc,
-            others,
-            0,
-            "write `start 0 NAME A..` for the first worker",
-        );
+        return no_worker(others, 0, "write `start 0 NAME A..` for the first worker");
     }
     if others.word(1).is_empty() {
-        let told = Told::new(alloc, "the name of a transaction is missing")?;
-        return Ok((
-            others.from(1),
-            told.with(alloc, "write `start 0 NAME A..`")?,
-        ));
+        let what = "the name of a transaction is missing";
+        return Fault::new(others.from(1), what, "write `start 0 NAME A..`");
     }
     let call = Others {
         line: others.line,
         words: others.words.split_first().map_or(&[][..], |parts| parts.1),
     };
-    of_call(alloc, &call)
+    of_call(&call)
 }
 
-fn of_turn(alloc: Global, others: &Others<'_>) -> Result<At, AllocError> {
+fn of_turn<'a>(others: &Others<'a>) -> Fault<'a> {
     for at in 0..others.words.len() {
         if !is_worker(others.word(at)) {
-            return no_worker(alloc, others, at, TURN_NOTE);
+            return no_worker(others, at, TURN_NOTE);
         }
     }
-    no_worker(alloc, others, 0, TURN_NOTE)
+    no_worker(others, 0, TURN_NOTE)
 }
 
 const TURN_NOTE: &str = "write `turn 0 1` for a turn of the first worker and one of the second";
 
-fn of_worker(alloc: Global, name: &[u8], others: &Others<'_>) -> Result<At, AllocError> {
-    let name = shown(alloc, name)?;
-    let name = name.as_str();
+fn of_worker<'a>(name: &'a [u8], others: &Others<'a>) -> Fault<'a> {
     if is_worker(others.word(0)) {
-        let what = format!(in alloc; "`{name}` takes one number of a worker")?;
-        return Ok((others.from(1), remarked(alloc, others, what.as_str())?));
+        let after = "` takes one number of a worker";
+        return Fault::of(others.from(1), name, after, "").remarked(others);
     }
-    let note = format!(in alloc; "write `{name} 0` for the first worker")?;
-    no_worker(alloc, others, 0, note.as_str())
+    let note = if is(name, "show") {
+        "write `show 0` for the first worker"
+    } else {
+        "write `last 0` for the first worker"
+    };
+    no_worker(others, 0, note)
 }
 
 /// The word of this place, which is no number of a worker.
-fn no_worker(alloc: Global, others: &Others<'_>, at: usize, note: &str) -> Result<At, AllocError> {
+fn no_worker<'a>(others: &Others<'a>, at: usize, note: &'static str) -> Fault<'a> {
     let word = others.word(at);
     if word.is_empty() {
-        let told = Told::new(alloc, "the number of a worker is missing")?;
-        return Ok((others.from(at), told.with(alloc, note)?));
+        return Fault::new(others.from(at), "the number of a worker is missing", note);
     }
-    let word = shown(alloc, word)?;
-    let word = word.as_str();
-    let what = format!(in alloc; "`{word}` is no number of a worker")?;
-    let told = remarked(alloc, others, what.as_str())?;
-    Ok((others.from(at), told.with(alloc, note)?))
+    Fault::of(others.from(at), word, "` is no number of a worker", note).remarked(others)
 }
 
 /// Whether a word is one or two digits.
