@@ -24,7 +24,7 @@ ghost use Rattle.pm_machine.specs.Machine.{stored_by, due_store};
 ghost use Rattle.pm_machine.specs.Effects.{events_of, records_past};
 ghost use Rattle.pm_machine.specs.Runs.{heap_in, outcome_of, effect_of, effect_in, AreLines, due};
 ghost use Rattle.pm_machine.specs.Runs.{end_of, due_step};
-ghost use Rattle.pm_machine.specs.inside.Runs.{IsStore, IsInRange, DueLeads};
+ghost use Rattle.pm_machine.specs.inside.Runs.{IsStore, IsInRange, RestLeads};
 
 use crate::effect::{Effect, End};
 use crate::find::search;
@@ -739,9 +739,8 @@ impl Machine {
         steps: &mut Steps<L>,
     ) -> u128
         requires lines { (P.device dev.now).lines ≡ pool_lines image.now.parts.sizes }
-        ensures leads { (a n : ℕ) → DueLeads (P.device dev.now) steps.new
-            (due image.now a result n self.new (P.device dev.now).cache) (P.device dev.now)
-            steps.old (due image.now a left n self.old (P.device dev.now).cache) }
+        ensures leads { RestLeads image.now (P.device dev.now) result steps.new self.new left
+            steps.old self.old }
         ensures spent { steps.new + result ≡ steps.old + left }
         ensures fewer { result ≤ left }
         ensures dirty { self.new.dirty ≡ self.old.dirty }

@@ -9,8 +9,8 @@ ghost use Rattle.std.specs.Int.{w64, int_wrap};
 ghost use Rattle.std.specs.Ordering.{int_eq};
 ghost use Rattle.pool_layout.specs.Sizes.{heap_words, pool_lines};
 ghost use Rattle.pm_machine.specs.Machine.{State, execute, load, word_at, moved_to, passed};
-ghost use Rattle.pm_machine.specs.Runs.{heap_in, due};
-ghost use Rattle.pm_machine.specs.inside.Runs.{GoesSilently, DueLeads, worked};
+ghost use Rattle.pm_machine.specs.Runs.{heap_in};
+ghost use Rattle.pm_machine.specs.inside.Runs.{GoesSilently, StretchLeads, worked};
 
 use crate::frame::RegisterWords;
 use crate::image::Image;
@@ -186,12 +186,8 @@ pub(crate) fn run_silently<P: PmemWork, L: Ledger>(
     steps: &mut Steps<L>,
 ) -> Reached
     requires lines { (P.device dev.now).lines ≡ pool_lines image.now.parts.sizes }
-    ensures leads { (a n : ℕ) (s : State) → s.top.function ≡ function
-        → DueLeads (P.device dev.now) steps.new
-        (due image.now a result.left n (worked s registers.new result.ticks result.place)
-        (P.device dev.now).cache) (P.device dev.now) steps.old
-        (due image.now a from.left n (worked s registers.old from.ticks from.place)
-        (P.device dev.now).cache) }
+    ensures leads { StretchLeads image.now (P.device dev.now) function registers.new result
+        steps.new registers.old from steps.old }
     ensures spent { steps.new + result.left ≡ steps.old + from.left }
     ensures fewer { result.left ≤ from.left }
     ensures size { length registers.new ≡ length registers.old }

@@ -6,9 +6,11 @@ use Rattle.pmem.specs.Played.{PlaysAll, PlaysPart}
 use Rattle.pm_machine.specs.declared.effect.Effect.{Effect}
 use Rattle.pm_machine.specs.declared.effect.Effect.TheVariants.{Loads, Scans, Stores, Logs, Flushes}
 use Rattle.pm_machine.specs.declared.effect.Effect.TheVariants.{Fences, Quiet}
+use Rattle.pm_machine.specs.declared.image.Image.{Image}
+use Rattle.pm_machine.specs.declared.silent.Reached.{Reached}
 use Rattle.pm_machine.specs.Effects.{records_past}
 use Rattle.pm_machine.specs.Machine.{State, StepOutcome, Goes, Ends}
-use Rattle.pm_machine.specs.Runs.{AreLines, Due}
+use Rattle.pm_machine.specs.Runs.{AreLines, Due, due}
 
 abbrev pub IsStore : Effect → Type 0
 IsStore (Stores w x) = Unit {0}
@@ -72,3 +74,18 @@ pub record DueLeads (d : Device) (k : ℕ) (x : Due) (d0 : Device) (k0 : ℕ) (x
       → PlaysPart why d0 x0.events b
   pub steps : k + x.steps ≡ k0 + x0.steps
   pub records : x.records ≡ x0.records
+
+-- on one device and from any attempt and records, what is left of a run in state s after k steps
+-- completes what was left of it in state s0 after k0 steps
+abbrev pub RestLeads : Image → Device → (left k : ℕ) → State → (left0 k0 : ℕ) → State → Type 0
+RestLeads image d left k s left0 k0 s0 = (a n : ℕ) → DueLeads d k (due image a left n s d.cache)
+    d k0 (due image a left0 n s0 d.cache)
+
+-- the same of a stretch without events, from one place to another with these registers, in any
+-- state whose open function this is
+abbrev pub StretchLeads : Image → Device → (function : ℕ) → List ℤ → Reached → (k : ℕ) → List ℤ
+    → Reached → (k0 : ℕ) → Type 0
+StretchLeads image d function registers to k registers0 from k0 = (s : State)
+    → s.top.function ≡ function
+    → RestLeads image d to.left k (worked s registers to.ticks to.place)
+    from.left k0 (worked s registers0 from.ticks from.place)

@@ -14,4 +14,4 @@ returns-clause-leads g c =
       size = length m.top.registers;
     } in
     let size = c.run_silently-to.ensures.size in
-    rw (← c.self.view_is, size) (λ a n. c.run_silently-to.ensures.leads a n s refl)
+    rw (← c.self.view_is, size) (c.run_silently-to.ensures.leads s refl)
