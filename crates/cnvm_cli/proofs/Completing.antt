@@ -26,14 +26,16 @@ use Rattle.cnvm_words.specs.declared.plan.Plan.TheVariants as plan
 use Rattle.cnvm_compile.specs.declared.asked.Asked.{Asked}
 use Rattle.cnvm_cli.specs.declared.refused.Refused.{Refused}
 use Rattle.cnvm_cli.specs.declared.refused.Refused.TheVariants as refused
-use Rattle.cnvm_cli.specs.declared.status.Status.{Status}
-use Rattle.cnvm_cli.specs.declared.status.Status.TheVariants as status
+use Rattle.session_run.specs.declared.status.Status.{Status}
+use Rattle.session_run.specs.declared.status.Status.TheVariants as status
 use Rattle.cnvm_cli.specs.RefusalText.{has_line}
 use Rattle.cnvm_cli.specs.Verdict.{refused_by, IsTextRefused, IsAccepted, Grammar, SpellsIn}
 use Rattle.cnvm_cli.specs.Verdict.{ProgramRefuses, ScriptRefuses, RefuseIn, asked_by}
-use Rattle.cnvm_cli.specs.Run.{Uncreated, TellsAs, RefusedAs}
-use Rattle.cnvm_cli.specs.Opened.{read_part, ImageRefuses, Unopened}
-use Rattle.cnvm_cli.specs.Saved.{SavedAs}
+use Rattle.cnvm_cli.specs.Run.{RefusedAs}
+use Rattle.session_run.specs.Made.{Uncreated, Unopened}
+use Rattle.session_run.specs.Told.{TellsAs}
+use Rattle.cnvm_cli.specs.Opened.{read_part, ImageRefuses}
+use Rattle.session_run.specs.Saved.{SavedAs}
 use Rattle.cnvm_cli.specs.WhyEnds.{WhyEnds}
 use Rattle.cnvm_cli.specs.inside.WorkersEnds.{WorkersRanAs, WorkersEnds}
 use Rattle.cnvm_cli.specs.WorkersMeant.{make_fault}
@@ -41,9 +43,9 @@ use Rattle.cnvm_cli.specs.World.{Sources, Outside}
 use Rattle.cnvm_cli.specs.Meant.{Start, Fresh, FromImage, start_if}
 use Rattle.cnvm_cli.specs.inside.Ends.{PoolEnds, JobEnds, RunEnds, StormEnds, PlanEnds}
 use Rattle.cnvm_cli.specs.Listed.{ListEnds, WrittenAs, listing_sizes}
-use Rattle.cnvm_cli.specs.inside.Opened.{OpensAll, OpensPart, OpenedAs}
-use Rattle.cnvm_cli.specs.inside.Run.{CreatedAll, CreatedPart, RanAs}
-use Rattle.cnvm_cli.specs.inside.Stormed.{StormedAll, StormedPart, StormedStarved, StormedAs}
+use Rattle.session_run.specs.Commands.{OpensAll, OpensPart, OpenedAs}
+use Rattle.session_run.specs.Commands.{CreatedAll, CreatedPart, RanAs}
+use Rattle.session_run.specs.Storms.{StormedAll, StormedPart, StormedStarved, StormedAs}
 use Rattle.cnvm_cli.specs.Complete.{HasProgram, HasScript, HasImage, IsRunServed, IsPlanServed}
 use Rattle.cnvm_cli.specs.Complete.{IsServed, IsRefusalStatus}
 use Rattle.cnvm_cli.proofs.Statuses.{status_kept}

@@ -21,15 +21,16 @@ use Rattle.cnvm_words.specs.declared.plan.Plan.TheVariants as plan
 use Rattle.cnvm_compile.specs.declared.asked.Asked.{Asked}
 use Rattle.cnvm_cli.specs.declared.refused.Refused.{Refused}
 use Rattle.cnvm_cli.specs.declared.refused.Refused.TheVariants as refused
-use Rattle.cnvm_cli.specs.declared.status.Status.{Status}
-use Rattle.cnvm_cli.specs.declared.status.Status.TheVariants as status
+use Rattle.session_run.specs.declared.status.Status.{Status}
+use Rattle.session_run.specs.declared.status.Status.TheVariants as status
 use Rattle.cnvm_cli.specs.Exits.{no_sources, new_device, EndsCall}
 use Rattle.cnvm_cli.specs.Listed.{ListEnds}
 use Rattle.cnvm_cli.specs.Meant.{Start, Fresh, FromImage, start_if, StartMeant, JobMeant, RunMeant}
 use Rattle.cnvm_cli.specs.Meant.{PlanMeant, CallMeant}
 use Rattle.cnvm_cli.specs.Opened.{ImageRefuses}
-use Rattle.cnvm_cli.specs.Run.{TellsAs, RefusedAs}
-use Rattle.cnvm_cli.specs.Saved.{SavedAs}
+use Rattle.cnvm_cli.specs.Run.{RefusedAs}
+use Rattle.session_run.specs.Told.{TellsAs}
+use Rattle.session_run.specs.Saved.{SavedAs}
 use Rattle.cnvm_cli.specs.StormMeant.{StormMeant}
 use Rattle.cnvm_cli.specs.Verdict.{Grammar, ProgramRefuses, ScriptRefuses, RefuseIn, asked_by}
 use Rattle.cnvm_cli.specs.WhyEnds.{WhyEnds}

@@ -3,8 +3,6 @@ pub mod Digits
 pub mod Exiting
 pub mod Faultless
 pub mod Meaning
-pub mod Raging
-pub mod Running
 pub mod Sources
 pub mod Statuses
 pub mod StormMeaning

@@ -33,20 +33,21 @@ use Rattle.cnvm_compile.specs.declared.asked.Asked.{Asked}
 use Rattle.cnvm_compile.specs.declared.compiling.Compiled.{Compiled}
 use Rattle.cnvm_compile.specs.Compilation.{IsCompiled}
 use Rattle.cnvm_cli.specs.declared.refused.Refused.TheVariants as refused
-use Rattle.cnvm_cli.specs.declared.status.Status.{Status}
-use Rattle.cnvm_cli.specs.declared.status.Status.TheVariants as status
+use Rattle.session_run.specs.declared.status.Status.{Status}
+use Rattle.session_run.specs.declared.status.Status.TheVariants as status
 use Rattle.cnvm_cli.specs.Verdict.{HasCommands, TextsGive, asked_by}
-use Rattle.cnvm_cli.specs.Opened.{ImageGives, Unopened}
-use Rattle.cnvm_cli.specs.inside.Opened.{OpensAll, OpenedAs}
-use Rattle.cnvm_cli.specs.Run.{Uncreated}
-use Rattle.cnvm_cli.specs.inside.Run.{RunsAndWrites, RunsPart, CreatedAll, CreatedPart, RanAs}
+use Rattle.cnvm_cli.specs.Opened.{ImageGives}
+use Rattle.session_run.specs.Made.{Unopened}
+use Rattle.session_run.specs.Commands.{OpensAll, OpenedAs}
+use Rattle.session_run.specs.Made.{Uncreated}
+use Rattle.session_run.specs.Commands.{RunsAndWrites, RunsPart, CreatedAll, CreatedPart, RanAs}
 use Rattle.cnvm_cli.specs.World.{Sources, Outside, IsUntouched}
 use Rattle.cnvm_cli.specs.Meant.{Start, Fresh, FromImage, start_if, text_of, RanAll, RanPart}
 use Rattle.cnvm_cli.specs.Meant.{MeansAll, MeansPart, MeantAs, OpensMeant, OpenMeansPart}
 use Rattle.cnvm_cli.specs.Meant.{OpenedMeantAs, StartMeant, JobMeant, RunMeant, PlanMeant}
 use Rattle.cnvm_cli.specs.Meant.{CallMeant}
 use Rattle.cnvm_cli.specs.inside.Ends.{PoolEnds, JobEnds, RunEnds, PlanEnds}
-use Rattle.cnvm_cli.specs.inside.Opened as cli
+use Rattle.session_run.specs.Commands as cli
 use Rattle.cnvm_cli.proofs.Sources.{known_bytes}
 use Rattle.cnvm_cli.proofs.Statuses.{status_map}
 use Rattle.cnvm_cli.proofs.StormMeaning.{storm_meant}

@@ -1,12 +1,12 @@
 -- The table of statuses.
 use Rattle.std.proofs.Common.{List, ℕ, Option, inl, inr, ⊎_elim, sym, subst}
 use Rattle.cnvm_session.specs.declared.creating.StartFault.{StartFault}
-use Rattle.cnvm_cli.specs.declared.status.Status.{Status}
-use Rattle.cnvm_cli.specs.declared.status.Status.TheVariants as status
-use Rattle.cnvm_cli.specs.AsStatus.{AsStatus}
+use Rattle.session_run.specs.declared.status.Status.{Status}
+use Rattle.session_run.specs.declared.status.Status.TheVariants as status
+use Rattle.session_run.specs.AsStatus.{AsStatus}
 use Rattle.cnvm_cli.specs.Complete.{IsRefusalStatus}
 use Rattle.cnvm_cli.specs.Listed.{WrittenAs}
-use Rattle.cnvm_cli.specs.Run.{TellsAs}
+use Rattle.session_run.specs.Told.{TellsAs}
 
 -- what follows of each of three facts follows at each status
 pub status_map : (N : StartFault → Type 0) {Z A P Y B Q : Type 0} → (Z → Y) → (A → B) → (P → Q)

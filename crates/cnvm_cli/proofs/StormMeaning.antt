@@ -33,14 +33,14 @@ use Rattle.session_law.proofs.Creating.{created_rests}
 use Rattle.cnvm_compile.specs.declared.asked.Asked.{Asked}
 use Rattle.cnvm_compile.specs.declared.compiling.Compiled.{Compiled}
 use Rattle.cnvm_compile.specs.Compilation.{IsCompiled}
-use Rattle.cnvm_cli.specs.declared.status.Status.{Status}
-use Rattle.cnvm_cli.specs.declared.storm.Tally.{Tally}
-use Rattle.cnvm_cli.specs.Stormed as stormed
-use Rattle.cnvm_cli.specs.Run.{Created, Uncreated}
-use Rattle.cnvm_cli.specs.Stormed.{no_tally, tally_text}
-use Rattle.cnvm_cli.specs.inside.Stormed as inside
-use Rattle.cnvm_cli.specs.inside.Stormed.{Rounds, RoundsOf, StormStarves, StormedAll, StormedPart}
-use Rattle.cnvm_cli.specs.inside.Stormed.{StormedAs}
+use Rattle.session_run.specs.declared.status.Status.{Status}
+use Rattle.session_run.specs.declared.storm.Tally.{Tally}
+use Rattle.session_run.specs.Stormed as stormed
+use Rattle.session_run.specs.Made.{Created, Uncreated}
+use Rattle.session_run.specs.Stormed.{no_tally, tally_text}
+use Rattle.session_run.specs.Storms as inside
+use Rattle.session_run.specs.Storms.{Rounds, RoundsOf, StormStarves, StormedAll, StormedPart}
+use Rattle.session_run.specs.Storms.{StormedAs}
 use Rattle.cnvm_cli.specs.inside.Ends.{StormEnds}
 use Rattle.cnvm_cli.specs.StormMeant.{Drawn, DrawnOf, tally_of, SummaryPart, CountsMeant}
 use Rattle.cnvm_cli.specs.StormMeant.{CountsPart, CountsCut, StormMeantAs, StormMeant}

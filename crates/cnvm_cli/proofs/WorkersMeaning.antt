@@ -12,7 +12,7 @@ use Rattle.workers_source_law.proofs.Runs.{workers_run, workers_part}
 use Rattle.workers_source_law.proofs.Scripts.{word_commands}
 use Rattle.cnvm_compile.specs.declared.asked.Asked.{Asked}
 use Rattle.cnvm_compile.specs.Compilation.{IsCompiled}
-use Rattle.cnvm_cli.specs.declared.status.Status.{Status}
+use Rattle.session_run.specs.declared.status.Status.{Status}
 use Rattle.cnvm_cli.specs.Verdict.{SpellsIn}
 use Rattle.cnvm_cli.specs.inside.WorkersEnds.{WorkersRanAs, WorkersEnds}
 use Rattle.cnvm_cli.specs.WorkersMeant.{make_fault, WorkersMeantAs, WorkersMeant}

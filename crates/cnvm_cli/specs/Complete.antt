@@ -9,8 +9,8 @@ use Rattle.cnvm_compile.specs.Compilation.{IsCompiled}
 use Rattle.cnvm_words.specs.declared.plan.Plan.{Plan}
 use Rattle.cnvm_words.specs.declared.plan.Plan.TheVariants as plan
 use Rattle.cnvm_compile.specs.declared.asked.Asked.{Asked}
-use Rattle.cnvm_cli.specs.declared.status.Status.{Status}
-use Rattle.cnvm_cli.specs.declared.status.Status.TheVariants as status
+use Rattle.session_run.specs.declared.status.Status.{Status}
+use Rattle.session_run.specs.declared.status.Status.TheVariants as status
 use Rattle.cnvm_cli.specs.Listed.{listing_sizes}
 use Rattle.cnvm_cli.specs.Opened.{read_part}
 use Rattle.cnvm_cli.specs.Verdict.{asked_by, IsAccepted, Grammar, SpellsIn}

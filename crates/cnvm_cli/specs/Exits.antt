@@ -5,9 +5,9 @@ use Rattle.cache_model.specs.Cache.{blank}
 use Rattle.pmem.specs.Device.{Device}
 use Rattle.pmem.specs.Switch.{told_device, fresh_switch}
 use Rattle.cnvm_words.specs.Asked.{plan_of}
-use Rattle.cnvm_cli.specs.declared.status.Status.{Status}
+use Rattle.session_run.specs.declared.status.Status.{Status}
 use Rattle.cnvm_cli.specs.Meant.{CallMeant}
-use Rattle.cnvm_cli.specs.StatusNumber.{status_number}
+use Rattle.session_run.specs.StatusNumber.{status_number}
 use Rattle.cnvm_cli.specs.World.{Sources, seen}
 
 abbrev pub no_sources : Sources

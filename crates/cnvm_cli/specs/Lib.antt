@@ -1,4 +1,3 @@
-pub mod AsStatus
 pub mod Complete
 pub mod Exits
 pub mod Listed
@@ -7,10 +6,7 @@ pub mod Opened
 pub mod Read
 pub mod RefusalText
 pub mod Run
-pub mod Saved
-pub mod StatusNumber
 pub mod StormMeant
-pub mod Stormed
 pub mod Verdict
 pub mod WhyEnds
 pub mod WorkersMeant

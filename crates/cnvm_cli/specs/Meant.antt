@@ -24,12 +24,13 @@ use Rattle.cnvm_words.specs.declared.plan.Plan.{Plan}
 use Rattle.cnvm_words.specs.declared.plan.Plan.TheVariants as plan
 use Rattle.cnvm_cli.specs.declared.refused.Refused.{Refused}
 use Rattle.cnvm_cli.specs.declared.refused.Refused.TheVariants as refused
-use Rattle.cnvm_cli.specs.declared.status.Status.{Status}
-use Rattle.cnvm_cli.specs.AsStatus.{AsStatus}
+use Rattle.session_run.specs.declared.status.Status.{Status}
+use Rattle.session_run.specs.AsStatus.{AsStatus}
 use Rattle.cnvm_cli.specs.Listed.{ListEnds}
-use Rattle.cnvm_cli.specs.Opened.{ImageRefuses, ImageGives, Unopened}
-use Rattle.cnvm_cli.specs.Run.{Created, Uncreated, RefusedAs}
-use Rattle.cnvm_cli.specs.Saved.{SavedAs}
+use Rattle.cnvm_cli.specs.Opened.{ImageRefuses, ImageGives}
+use Rattle.cnvm_cli.specs.Run.{RefusedAs}
+use Rattle.session_run.specs.Made.{Created, Uncreated, Unopened}
+use Rattle.session_run.specs.Saved.{SavedAs}
 use Rattle.cnvm_cli.specs.StormMeant.{StormMeant}
 use Rattle.cnvm_cli.specs.Verdict.{asked_by, TextsGive, TextsRefuse}
 use Rattle.cnvm_cli.specs.WhyEnds.{WhyEnds}

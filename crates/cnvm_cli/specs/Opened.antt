@@ -1,17 +1,12 @@
--- The image of a pool, and the pool that it gives.
+-- The image of a pool, and the words that it gives.
 use Rattle.std.specs.Prelude.{ℕ, ℤ, ◌+◌, ◌*◌, List, take, Option, ◌≡◌, ⊤}
-use Rattle.std.specs.Io.KnownBytes.{Keeps}
-use Rattle.pmem.specs.Device.{Device}
 use Rattle.pool_layout.specs.declared.places.Version.TheVariants.{First, Second}
 use Rattle.pool_layout.specs.Bytes.{bytes_of, word_in}
 use Rattle.pool_layout.specs.Fault.{version_of, Accepts, IsFirstFault}
 use Rattle.pool_layout.specs.Moved.{AreMoved}
 use Rattle.pool_layout.specs.Opened.{IsOpened}
 use Rattle.pool_layout.specs.Sizes.{pool_lines}
-use Rattle.cnvm_session.specs.declared.creating.StartFault.{StartFault}
 use Rattle.cnvm_session.specs.declared.program.Program.{Program}
-use Rattle.cnvm_session.specs.Opening.{opening_events}
-use Rattle.cnvm_session.specs.Unmade.{IsUnmade}
 use Rattle.cnvm_session.specs.Pool.{sizes_of, wanted_of}
 use Rattle.session_law.specs.Words.{AreWords}
 use Rattle.cnvm_cli.specs.declared.refused.Refused.{Refused}
@@ -42,12 +37,3 @@ abbrev pub ImageGives : Program → (image : Option (List ℕ)) → List ℤ →
 ImageGives program image words =
     IsOpened (wanted_of program) words × AreWords words
     × OfBytes image (λ bytes. AreImageWords program (read_part program bytes) words)
-
--- The pool of an image couldn't be opened for this cause: nothing is written, no step is taken, and
--- of the events that write the image some first ones may be done.
-abbrev pub Unopened : Program → List ℤ → StartFault → Option (List ℕ) → Option (List ℕ) → Device
-    → Device → (k k' : ℕ) → Type 0
-Unopened program words why w w' d d' k k' =
-    Keeps w w' × (k' ≡ k)
-    × IsUnmade why (pool_lines (sizes_of program))
-    (opening_events (pool_lines (sizes_of program)) words) d d'

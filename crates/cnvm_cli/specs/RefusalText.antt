@@ -9,8 +9,8 @@ use Rattle.pool_layout.specs.declared.wanted.ImageFault.TheVariants as image
 use Rattle.cnvm_compile.specs.ComplaintText.{complaint_line}
 use Rattle.cnvm_cli.specs.declared.refused.Refused.{Refused}
 use Rattle.cnvm_cli.specs.declared.refused.Refused.TheVariants as refused
-use Rattle.cnvm_cli.specs.declared.status.Status.{Status}
-use Rattle.cnvm_cli.specs.declared.status.Status.TheVariants as status
+use Rattle.session_run.specs.declared.status.Status.{Status}
+use Rattle.session_run.specs.declared.status.Status.TheVariants as status
 
 -- a hexadecimal digit
 abbrev pub digit : ℕ → ℕ

@@ -23,12 +23,13 @@ use Rattle.cnvm_compile.specs.declared.asked.Asked.{Asked}
 use Rattle.cnvm_compile.specs.declared.compiling.Compiled.{Compiled}
 use Rattle.cnvm_compile.specs.Compilation.{IsCompiled}
 use Rattle.cnvm_cli.specs.declared.refused.Refused.{Refused}
-use Rattle.cnvm_cli.specs.declared.status.Status.{Status}
-use Rattle.cnvm_cli.specs.declared.storm.Tally.{Tally}
-use Rattle.cnvm_cli.specs.AsStatus.{AsStatus}
+use Rattle.session_run.specs.declared.status.Status.{Status}
+use Rattle.session_run.specs.declared.storm.Tally.{Tally}
+use Rattle.session_run.specs.AsStatus.{AsStatus}
 use Rattle.cnvm_cli.specs.Verdict.{OfBytes, ProgramRefuses}
-use Rattle.cnvm_cli.specs.Run.{Created, Uncreated, RefusedAs}
-use Rattle.cnvm_cli.specs.Stormed.{counted, no_tally, tally_text}
+use Rattle.cnvm_cli.specs.Run.{RefusedAs}
+use Rattle.session_run.specs.Made.{Created, Uncreated}
+use Rattle.session_run.specs.Stormed.{counted, no_tally, tally_text}
 
 -- the commands of `count` rounds of the generator, from the number x on
 abbrev pub Drawn : List FunctionTree → ℕ → (count : ℕ) → List Command → Type 0

@@ -10,7 +10,7 @@ use Rattle.walk_maker.specs.WhyText.{why_text}
 use Rattle.cnvm_compile.specs.declared.compiling.Compiled.{Compiled}
 use Rattle.cnvm_compile.specs.Compilation.{IsCompiled}
 use Rattle.cnvm_cli.specs.declared.refused.Refused.{Refused}
-use Rattle.cnvm_cli.specs.declared.status.Status.{Status}
+use Rattle.session_run.specs.declared.status.Status.{Status}
 use Rattle.cnvm_cli.specs.Listed.{listing_sizes, WrittenAs}
 use Rattle.cnvm_cli.specs.Run.{RefusedAs}
 use Rattle.cnvm_cli.specs.Verdict.{OfBytes, ProgramRefuses}

@@ -6,7 +6,7 @@ use Rattle.std.specs.declared.string.String.{String}
 use Rattle.pmem.specs.Device.{Device}
 use Rattle.cnvm_words.specs.Asked as words
 use Rattle.cnvm_words.specs.declared.plan.Plan.{Plan}
-use Rattle.cnvm_cli.specs.declared.status.World.{World}
+use Rattle.cnvm_cli.specs.declared.world.World.{World}
 
 abbrev pub plan_in : {A : Type 0} → List (String A) → Option Plan
 plan_in given = words.plan_of (map string_bytes given)

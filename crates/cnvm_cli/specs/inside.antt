@@ -2,7 +2,5 @@
 pub mod Ends
 pub mod Opened
 pub mod Paths
-pub mod Run
-pub mod Stormed
 pub mod Texts
 pub mod WorkersEnds

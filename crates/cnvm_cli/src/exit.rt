@@ -10,10 +10,11 @@ ghost use Rattle.cnvm_cli.specs.inside.Paths.{path_or_none, program_alone, paths
 
 use crate::notes::{FileWorld, Named, put_bytes, tell_end};
 use crate::run::cnvm;
-use crate::status::{Status, World};
+use crate::world::World;
 use cnvm_words::{Plan, WordsFault, plan_of};
 use nvm_base::{KeptSink, KeptSource, SavedFile, StdNotes, StdSink, StdSource, Steps, Text};
 use pmem::SparsePmem;
+use session_run::Status;
 use std::alloc::Global;
 use std::env;
 use std::marker::Brand;

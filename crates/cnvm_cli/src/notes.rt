@@ -3,7 +3,7 @@
 
 use crate::reading::words_of;
 use crate::refused::push_digest;
-use crate::status::{Status, World};
+use crate::world::World;
 use cnvm_compile::{Asked, Compiled, compile};
 use cnvm_notes::{
     Opened, ProgramText, RunTexts, Stormed, WorkersTexts, answers_note, is_storm_over, script_note,
@@ -17,6 +17,7 @@ use plain_notes::{Told, message_of};
 use pool_layout::{FUNCTION, digest};
 use program_notes::program_note;
 use run_again::{opened_again, storm_again};
+use session_run::Status;
 use std::alloc::{AllocError, Global};
 use std::rt::Files;
 

@@ -7,11 +7,10 @@ ghost use Rattle.cnvm_cli.specs.RefusalText.{refusal_line, image_has_line, has_l
 ghost use Rattle.cnvm_cli.specs.RefusalText.{refusal_status};
 ghost use Rattle.cnvm_cli.specs.Run.{RefusedAs};
 
-use crate::status::Status;
-use crate::writing::tell;
 use cnvm_compile::{Complaint, complaint_line};
 use nvm_base::Sink;
 use pool_layout::ImageFault;
+use session_run::{Status, tell};
 use std::alloc::{AllocError, Global};
 
 /// Why there is nothing to run.
@@ -39,7 +38,7 @@ const USAGE: &str = "usage: cnvm run PROGRAM SCRIPT | list PROGRAM \
 
 /// Reports a refusal; the status is the refusal's. Of a source or a device that failed, and of want
 /// of memory, nothing is reported.
-#[tactic(auto, using(crate::proofs::Running::keeps_same))]
+#[tactic(auto, using(session_run::proofs::Running::keeps_same))]
 pub(crate) fn refuse<K: Sink>(alloc: Global, refused: Refused, out: &mut K) -> Status
     ensures refused { RefusedAs refused result (K.written out.old) (K.written out.new) }
     ensures status { (result ≡ refusal_status refused)

@@ -10,12 +10,13 @@ ghost use Rattle.cnvm_cli.specs.inside.Texts.{ReadIn};
 
 use crate::reading::{SCRIPT_LIMIT, read_program, read_text};
 use crate::refused::{Refused, refuse};
-use crate::status::{Status, World};
+use crate::world::World;
 use cnvm_compile::Asked;
 use cnvm_script::ScriptFault;
 use cnvm_session::Program;
 use nvm_base::{ReadAllFault, Sink, Source, Steps};
 use pmem::Pmem;
+use session_run::Status;
 use std::alloc::Global;
 use std::sync::ledger::Ledger;
 use workers_run::{RunFault, run_workers};
@@ -23,7 +24,7 @@ use workers_script::{WorkersCommand, WorkersScript, read_workers};
 
 /// Reads the program and the script, and runs the script's commands on a new pool of compartments,
 /// one for each worker. Nothing is saved.
-#[tactic(auto, using(crate::proofs::Running::keeps_same))]
+#[tactic(auto, using(session_run::proofs::Running::keeps_same))]
 pub(crate) fn run_script<
     S: Source,
     T: Source,

@@ -10,18 +10,18 @@ use Rattle.cnvm_compile.specs.Compilation.{IsCompiled}
 use Rattle.cnvm_words.specs.declared.plan.Plan.{Plan}
 use Rattle.cnvm_words.specs.declared.plan.Plan.TheVariants as plan
 use Rattle.cnvm_cli.specs.declared.refused.Refused.{Refused}
-use Rattle.cnvm_cli.specs.declared.status.Status.{Status}
+use Rattle.session_run.specs.declared.status.Status.{Status}
 use Rattle.cnvm_cli.specs.Listed.{ListEnds}
 use Rattle.cnvm_cli.specs.Meant.{Start, Fresh, FromImage, start_if}
 use Rattle.cnvm_cli.specs.Run.{RefusedAs}
-use Rattle.cnvm_cli.specs.Saved.{SavedAs}
+use Rattle.session_run.specs.Saved.{SavedAs}
 use Rattle.cnvm_cli.specs.Verdict.{asked_by, OfBytes, ProgramRefuses, TextsGive, TextsRefuse}
 use Rattle.cnvm_cli.specs.WhyEnds.{WhyEnds}
 use Rattle.cnvm_cli.specs.inside.WorkersEnds.{WorkersEnds}
 use Rattle.cnvm_cli.specs.World.{Sources, Outside, IsUntouched}
 use Rattle.cnvm_cli.specs.inside.Opened.{ImageEnds}
-use Rattle.cnvm_cli.specs.inside.Run.{RanAs}
-use Rattle.cnvm_cli.specs.inside.Stormed.{StormedAs}
+use Rattle.session_run.specs.Commands.{RanAs}
+use Rattle.session_run.specs.Storms.{StormedAs}
 
 -- How the commands end on the pool that they start from.
 abbrev pub PoolEnds : Start → Program → List Command → Status → Option (List ℕ) → Option (List ℕ)

@@ -1,5 +1,5 @@
 use Rattle.std.proofs.Common.{[]}
-use Rattle.cnvm_cli.specs.declared.status.Status.TheVariants as status
+use Rattle.session_run.specs.declared.status.Status.TheVariants as status
 use Rattle.cnvm_cli.proofs.Exiting.{memory_ends}
 use Rattle.cnvm_cli.proofs.exit.exit_code.Goals as goal
 

@@ -1,5 +1,5 @@
 use Rattle.std.proofs.Common.{ℤ, List, inr, subst}
-use Rattle.cnvm_cli.specs.inside.Opened.{OpenedAs}
+use Rattle.session_run.specs.Commands.{OpenedAs}
 use Rattle.cnvm_cli.proofs.run.run_opened.Goals as goal
 
 pub returns-in-Ok-clause-ends : goal.returns-in-Ok-clause-ends

@@ -1,0 +1,13 @@
+//! What a run reads and writes.
+
+/// What a run reads and writes: the program, the script and an image; the answers and an image; and
+/// the device.
+#[derive(Drop)]
+pub struct World<S, T, I, K, O, P> {
+    pub program: S,
+    pub script: T,
+    pub image_in: I,
+    pub out: K,
+    pub image_out: O,
+    pub dev: P,
+}

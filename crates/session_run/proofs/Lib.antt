@@ -1,0 +1,2 @@
+pub mod Raging
+pub mod Running

@@ -1,0 +1,25 @@
+use Rattle.std.proofs.Common.{◌-◌, ◌+◌, List, Some, ap, ◌∙◌, arith, rules}
+use Rattle.cnvm_script.specs.declared.command.Command.{Command}
+use Rattle.session_run.proofs.Raging.{rounds_more, rounds_part_more}
+use Rattle.session_run.proofs.storm.run_rounds.Goals as goal
+
+pub loop-preserved : goal.loop-preserved
+loop-preserved g c =
+    let less = c.loop-test.true in record {
+      lines = search rules;
+      same = search rules;
+      leads = λ t m d k rest. c.loop.invariant.leads t m d k
+          (rounds_more c.args.program.now c.loop.storm c.round.new.self
+          (c.args.count - c.loop.counter) (c.args.count - (c.loop.counter + 1))
+          c.as_slice.result.now _ _ t _ _ m _ _ d _ _ k (omega arith)
+          (ap (λ (l : List Command). Some l) c.as_slice.ensures ∙ c.in_ok-script.ensures.commands)
+          c.in_ok-script.ensures.state
+          c.run_round.ensures.counts rest);
+      part = λ d k rest. c.loop.invariant.part d k
+          (rounds_part_more c.args.program.now c.loop.storm c.round.new.self
+          (c.args.count - c.loop.counter) (c.args.count - (c.loop.counter + 1))
+          c.as_slice.result.now _ _ _ _ _ _ d _ _ k (omega arith)
+          (ap (λ (l : List Command). Some l) c.as_slice.ensures ∙ c.in_ok-script.ensures.commands)
+          c.in_ok-script.ensures.state
+          c.run_round.ensures.counts rest);
+    }

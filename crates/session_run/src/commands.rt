@@ -1,0 +1,43 @@
+//! Runs a script's commands and answers each before the next.
+
+ghost use Rattle.std.specs.Prelude.{◌≡◌, ◌≤◌, OnOk, OnErr, IsErrOf};
+ghost use Rattle.nvm_base.specs.Rose.{Rose};
+ghost use Rattle.pool_layout.specs.Sizes.{pool_lines};
+ghost use Rattle.session_run.specs.Commands.{RunsAndWrites, RunsPart};
+
+use crate::writing::{Unwritten, put_answer};
+use cnvm_script::Command;
+use cnvm_session::{Program, Session};
+use nvm_base::{Sink, Steps};
+use pmem::Pmem;
+use std::alloc::Global;
+use std::sync::ledger::Ledger;
+
+/// Runs the commands in order, and writes each answer before the next command.
+pub(crate) fn answer_all<K: Sink, P: Pmem, L: Ledger>(
+    alloc: Global,
+    program: &Program,
+    commands: &[Command],
+    session: &mut Session,
+    out: &mut K,
+    dev: &mut P,
+    steps: &mut Steps<L>,
+) -> Result<(), Unwritten>
+    requires lines { (P.device dev.old).lines ≡ pool_lines program.now.image.parts.sizes }
+    ensures whole { OnOk result (RunsAndWrites program.now commands.now session.old
+        (P.device dev.old) (K.written out.old) steps.old (P.device dev.new) (K.written out.new)
+        steps.new) }
+    ensures part { OnErr result (RunsPart program.now commands.now session.old (P.device dev.old)
+        (K.written out.old) steps.old (P.device dev.new) (K.written out.new) steps.new) }
+    ensures write { IsErrOf result Unwritten.WriteFault
+        → Rose (K.faults out.old) (K.faults out.new) }
+    ensures lines { (P.device dev.new).lines ≡ pool_lines program.now.image.parts.sizes }
+{
+    for given in commands {
+        let answer = session.command(alloc, program, given, dev, steps);
+        if let Err(why) = put_answer(alloc, &answer, out) {
+            return Err(why);
+        }
+    }
+    Ok(())
+}

@@ -1,0 +1,17 @@
+//! Runs the commands of a script, or a storm, on the pool of a program, and writes the answers; saves
+//! the pool as an image. It rests on the session. Its one contract for the call above: the status,
+//! the lines written and what the device holds are those that the session's definitions give.
+#![tactic(auto)]
+
+mod commands;
+mod image;
+mod running;
+mod status;
+mod storm;
+mod writing;
+
+pub use image::save;
+pub use running::{run_created, run_from};
+pub use status::Status;
+pub use storm::storm_over;
+pub use writing::{put, tell};

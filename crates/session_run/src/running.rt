@@ -1,0 +1,111 @@
+//! Runs commands on a new pool, or on the pool of an image.
+
+ghost use Rattle.std.specs.Prelude.{◌≡◌, ◌≢◌, ◌⊎◌};
+ghost use Rattle.nvm_base.specs.Rose.{Rose};
+ghost use Rattle.pmem.specs.Device as device;
+ghost use Rattle.pool_layout.specs.Sizes.{pool_lines};
+ghost use Rattle.session_run.specs.Commands.{CommandsEnd, RanAs, OpenedAs};
+
+use crate::commands::answer_all;
+use crate::status::Status;
+use crate::writing::{Unwritten, put_answer};
+use cnvm_script::Command;
+use cnvm_session::{Program, Session, StartFault, create, start_from};
+use nvm_base::{Sink, Steps};
+use pmem::Pmem;
+use std::alloc::Global;
+use std::sync::ledger::Ledger;
+
+/// Makes a new pool, runs the commands on it, and writes each answer before the next command.
+#[tactic(auto, using(crate::proofs::Running::keeps_same))]
+pub fn run_created<K: Sink, P: Pmem, L: Ledger>(
+    alloc: Global,
+    program: &Program,
+    commands: &[Command],
+    out: &mut K,
+    dev: &mut P,
+    steps: &mut Steps<L>,
+) -> Status
+    ensures read { result ≢ Status.ReadFault }
+    ensures usage { result ≢ Status.Usage }
+    ensures write { result ≡ Status.WriteFault → Rose (K.faults out.old) (K.faults out.new) }
+    ensures device { result ≡ Status.DeviceFault
+        → device.FaultsRose (P.device dev.old).faults (P.device dev.new).faults }
+    ensures ran { RanAs program.now commands.now result (K.written out.old)
+        (K.written out.new) (P.device dev.old) (P.device dev.new) steps.old steps.new }
+    ensures lines { result ≡ Status.Done
+        → (P.device dev.new).lines ≡ pool_lines program.now.image.parts.sizes }
+{
+    let mut session = match create(program, dev) {
+        Ok(session) => session,
+        Err(StartFault::Failed) => return Status::DeviceFault,
+        Err(StartFault::NoMemory) => return Status::NoMemory,
+    };
+    match answer_all(alloc, program, commands, &mut session, out, dev, steps) {
+        Ok(()) => Status::Done,
+        Err(Unwritten::NoMemory) => Status::NoMemory,
+        Err(Unwritten::WriteFault) => Status::WriteFault,
+    }
+}
+
+/// Opens the pool with these words, and writes how it was recovered; then runs the commands, and
+/// writes each answer before the next.
+pub fn run_from<K: Sink, P: Pmem, L: Ledger>(
+    alloc: Global,
+    program: &Program,
+    commands: &[Command],
+    words: &[i64],
+    out: &mut K,
+    dev: &mut P,
+    steps: &mut Steps<L>,
+) -> Status
+    ensures read { result ≢ Status.ReadFault }
+    ensures usage { result ≢ Status.Usage }
+    ensures write { result ≡ Status.WriteFault → Rose (K.faults out.old) (K.faults out.new) }
+    ensures device { result ≡ Status.DeviceFault
+        → device.FaultsRose (P.device dev.old).faults (P.device dev.new).faults }
+    ensures ran { OpenedAs program.now commands.now words.now result
+        (K.written out.old) (K.written out.new) (P.device dev.old) (P.device dev.new) steps.old
+        steps.new }
+    ensures lines { result ≡ Status.Done
+        → (P.device dev.new).lines ≡ pool_lines program.now.image.parts.sizes }
+{
+    let (mut session, answer) = match start_from(alloc, program, words, dev, steps) {
+        Ok(started) => started,
+        Err(StartFault::Failed) => return Status::DeviceFault,
+        Err(StartFault::NoMemory) => return Status::NoMemory,
+    };
+    match put_answer(alloc, &answer, out) {
+        Ok(()) => run_commands(alloc, program, commands, &mut session, out, dev, steps),
+        Err(Unwritten::NoMemory) => Status::NoMemory,
+        Err(Unwritten::WriteFault) => Status::WriteFault,
+    }
+}
+
+/// Runs the commands on an open session.
+fn run_commands<K: Sink, P: Pmem, L: Ledger>(
+    alloc: Global,
+    program: &Program,
+    commands: &[Command],
+    session: &mut Session,
+    out: &mut K,
+    dev: &mut P,
+    steps: &mut Steps<L>,
+) -> Status
+    requires lines { (P.device dev.old).lines
+        ≡ pool_lines program.now.image.parts.sizes }
+    ensures status { (result ≡ Status.Done)
+        ⊎ ((result ≡ Status.NoMemory) ⊎ (result ≡ Status.WriteFault)) }
+    ensures write { result ≡ Status.WriteFault → Rose (K.faults out.old) (K.faults out.new) }
+    ensures ran { CommandsEnd program.now commands.now result session.old
+        (P.device dev.old) (K.written out.old) steps.old (P.device dev.new) (K.written out.new)
+        steps.new }
+    ensures lines { (P.device dev.new).lines
+        ≡ pool_lines program.now.image.parts.sizes }
+{
+    match answer_all(alloc, program, commands, session, out, dev, steps) {
+        Ok(()) => Status::Done,
+        Err(Unwritten::NoMemory) => Status::NoMemory,
+        Err(Unwritten::WriteFault) => Status::WriteFault,
+    }
+}

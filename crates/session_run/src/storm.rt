@@ -1,0 +1,325 @@
+//! A storm: a generated script, and how its commands were answered.
+
+ghost use Rattle.std.specs.Prelude.{◌≡◌, ◌≢◌, ◌<◌, ◌≤◌, ◌-◌, ◌^◌, min, length, OnOk};
+ghost use Rattle.std.specs.Prelude.{OnErr, IfOk, IsErrOf, string_bytes};
+ghost use Rattle.std.specs.Io.KnownBytes.{Appends};
+ghost use Rattle.nvm_base.specs.Parts.{AppendsPart};
+ghost use Rattle.nvm_base.specs.Rose.{Rose};
+ghost use Rattle.pmem.specs.Device as device;
+ghost use Rattle.pool_layout.specs.Sizes.{pool_lines};
+ghost use Rattle.c_types.specs.Shapes.{transactions_of};
+ghost use Rattle.session_run.specs.Stormed.{command_counted, answer_counted, counted, with_count};
+ghost use Rattle.session_run.specs.Stormed.{tally_text, no_tally};
+ghost use Rattle.session_run.specs.Storms.{CountsAnswers, Rounds, RoundsPart, Rages};
+ghost use Rattle.session_run.specs.Storms.{RagesPart, TallyAll, TallyPart, StormsAll};
+ghost use Rattle.session_run.specs.Storms.{StormsPart, StormStarves, StormedAs};
+
+use crate::status::Status;
+use crate::writing::{Unwritten, put_answer};
+use cnvm_script::{Command, Storm};
+use cnvm_session::{Answer, Program, Session, StartFault, create};
+use nvm_base::{Sink, Steps, write_all};
+use pmem::Pmem;
+use std::alloc::{AllocError, Global};
+use std::sync::ledger::Ledger;
+
+/// How many commands were answered in each way.
+#[derive(Clone, Copy, Debug, PartialEq, Eq)]
+pub(crate) struct Tally {
+    calls: u64,
+    done: u64,
+    stopped: u64,
+    redone: u64,
+    none: u64,
+    trapped: u64,
+    other: u64,
+}
+
+impl Tally {
+    fn new() -> Tally
+        ensures { result ≡ no_tally }
+    {
+        Tally {
+            calls: 0,
+            done: 0,
+            stopped: 0,
+            redone: 0,
+            none: 0,
+            trapped: 0,
+            other: 0,
+        }
+    }
+
+    /// Counts one command, and how it was answered.
+    fn count(&mut self, command: &Command, answer: &Answer)
+        ensures { self.new ≡ counted command.now answer.now self.old }
+    {
+        self.count_command(command);
+        self.count_answer(answer);
+    }
+
+    fn count_command(&mut self, command: &Command)
+        ensures { self.new ≡ command_counted command.now self.old }
+    {
+        match command {
+            Command::Call { .. } => self.calls = self.calls.saturating_add(1),
+            Command::Stop(_) => (),
+            Command::Fault(_) => (),
+            Command::Power(_) => (),
+            Command::Show => (),
+            Command::Last => (),
+        }
+    }
+
+    /// An answer without a line doesn't count.
+    fn count_answer(&mut self, answer: &Answer)
+        ensures { self.new ≡ answer_counted answer.now self.old }
+    {
+        match answer {
+            Answer::Silent => (),
+            Answer::Done { .. } => self.done = self.done.saturating_add(1),
+            Answer::Stopped(_) => self.stopped = self.stopped.saturating_add(1),
+            Answer::RecoveredRedone { .. } => self.redone = self.redone.saturating_add(1),
+            Answer::RecoveredNone => self.none = self.none.saturating_add(1),
+            Answer::Trap(_) | Answer::RecoveredTrap(_) => {
+                self.trapped = self.trapped.saturating_add(1)
+            }
+            _ => self.other = self.other.saturating_add(1),
+        }
+    }
+}
+
+/// Makes a new pool, runs a storm on it, and writes the summary and the answer of `last`.
+pub fn storm_over<K: Sink, P: Pmem, L: Ledger>(
+    alloc: Global,
+    program: &Program,
+    start: u64,
+    count: u64,
+    out: &mut K,
+    dev: &mut P,
+    steps: &mut Steps<L>,
+) -> Status
+    ensures read { result ≢ Status.ReadFault }
+    ensures usage { result ≢ Status.Usage }
+    ensures write { result ≡ Status.WriteFault → Rose (K.faults out.old) (K.faults out.new) }
+    ensures device { result ≡ Status.DeviceFault
+        → device.FaultsRose (P.device dev.old).faults (P.device dev.new).faults }
+    ensures storms { StormedAs program.now start count result (K.written out.old)
+        (K.written out.new) (P.device dev.old) (P.device dev.new) steps.old steps.new }
+{
+    let mut session = match create(program, dev) {
+        Ok(session) => session,
+        Err(StartFault::Failed) => return Status::DeviceFault,
+        Err(StartFault::NoMemory) => return Status::NoMemory,
+    };
+    match storm(alloc, program, start, count, &mut session, out, dev, steps) {
+        Ok(()) => Status::Done,
+        Err(Unwritten::NoMemory) => Status::NoMemory,
+        Err(Unwritten::WriteFault) => Status::WriteFault,
+    }
+}
+
+/// Runs `count` rounds, and writes the summary and the answer of `last`.
+fn storm<K: Sink, P: Pmem, L: Ledger>(
+    alloc: Global,
+    program: &Program,
+    start: u64,
+    count: u64,
+    session: &mut Session,
+    out: &mut K,
+    dev: &mut P,
+    steps: &mut Steps<L>,
+) -> Result<(), Unwritten>
+    requires lines { (P.device dev.old).lines ≡ pool_lines program.now.image.parts.sizes }
+    ensures whole { OnOk result (StormsAll program.now start count session.old (P.device dev.old)
+        (K.written out.old) steps.old (P.device dev.new) (K.written out.new) steps.new) }
+    ensures part { OnErr result (StormStarves program.now start count session.old
+        (P.device dev.old) (K.written out.old) steps.old (P.device dev.new) (K.written out.new)
+        steps.new) }
+    ensures fault { IsErrOf result Unwritten.WriteFault
+        → StormsPart program.now start count session.old (P.device dev.old) (K.written out.old)
+        steps.old (P.device dev.new) (K.written out.new) steps.new }
+    ensures write { IsErrOf result Unwritten.WriteFault
+        → Rose (K.faults out.old) (K.faults out.new) }
+{
+    let mut tally = Tally::new();
+    if rounds(
+        alloc, program, start, count, session, &mut tally, dev, steps,
+    )
+    .is_err()
+    {
+        return Err(Unwritten::NoMemory);
+    }
+    put_counts(alloc, program, &tally, session, out, dev, steps)
+}
+
+/// Writes the summary and the answer of `last`.
+fn put_counts<K: Sink, P: Pmem, L: Ledger>(
+    alloc: Global,
+    program: &Program,
+    tally: &Tally,
+    session: &mut Session,
+    out: &mut K,
+    dev: &mut P,
+    steps: &mut Steps<L>,
+) -> Result<(), Unwritten>
+    requires lines { (P.device dev.old).lines ≡ pool_lines program.now.image.parts.sizes }
+    ensures whole { OnOk result (TallyAll program.now tally.now session.old (P.device dev.old)
+        (K.written out.old) steps.old (P.device dev.new) (K.written out.new) steps.new) }
+    ensures part { OnErr result (TallyPart program.now tally.now session.old (P.device dev.old)
+        (K.written out.old) steps.old (P.device dev.new) (K.written out.new) steps.new) }
+    ensures write { IsErrOf result Unwritten.WriteFault
+        → Rose (K.faults out.old) (K.faults out.new) }
+{
+    if let Err(why) = put_tally(alloc, tally, out) {
+        return Err(why);
+    }
+    let last = session.command(alloc, program, &Command::Last, dev, steps);
+    put_answer(alloc, &last, out)
+}
+
+/// Runs the rounds if the program has a transaction; else nothing is run.
+fn rounds<P: Pmem, L: Ledger>(
+    alloc: Global,
+    program: &Program,
+    start: u64,
+    count: u64,
+    session: &mut Session,
+    tally: &mut Tally,
+    dev: &mut P,
+    steps: &mut Steps<L>,
+) -> Result<(), AllocError>
+    requires lines { (P.device dev.old).lines ≡ pool_lines program.now.image.parts.sizes }
+    ensures rages { OnOk result (Rages program.now start count tally.old session.old
+        (P.device dev.old) steps.old tally.new session.new (P.device dev.new) steps.new) }
+    ensures part { OnErr result (RagesPart program.now start count tally.old session.old
+        (P.device dev.old) steps.old (P.device dev.new) steps.new) }
+    ensures lines { (P.device dev.new).lines ≡ (P.device dev.old).lines }
+{
+    if program.typed.txs() == 0 {
+        return Ok(());
+    }
+    let mut storm = Storm::new(seed(start));
+    run_rounds(
+        alloc, program, count, &mut storm, session, tally, dev, steps,
+    )
+}
+
+/// The number at which the generator starts.
+fn seed(start: u64) -> u32
+    ensures { result ≡ min start (2 ^ 32 - 1) }
+{
+    match u32::try_from(start) {
+        Ok(seed) => seed,
+        Err(_) => u32::MAX,
+    }
+}
+
+/// Runs `count` rounds of a program that has a transaction.
+fn run_rounds<P: Pmem, L: Ledger>(
+    alloc: Global,
+    program: &Program,
+    count: u64,
+    storm: &mut Storm,
+    session: &mut Session,
+    tally: &mut Tally,
+    dev: &mut P,
+    steps: &mut Steps<L>,
+) -> Result<(), AllocError>
+    requires lines { (P.device dev.old).lines ≡ pool_lines program.now.image.parts.sizes }
+    requires some { 0 < length (transactions_of program.now.typed) }
+    ensures rounds { OnOk result (Rounds program.now storm.old count tally.old session.old
+        (P.device dev.old) steps.old tally.new session.new (P.device dev.new) steps.new) }
+    ensures part { OnErr result (RoundsPart program.now storm.old count tally.old session.old
+        (P.device dev.old) steps.old (P.device dev.new) steps.new) }
+    ensures lines { (P.device dev.new).lines ≡ (P.device dev.old).lines }
+{
+    for _ in 0..count {
+        let script = storm.round(alloc, &program.typed)?;
+        run_round(
+            alloc,
+            program,
+            script.as_slice(),
+            session,
+            tally,
+            dev,
+            steps,
+        );
+    }
+    Ok(())
+}
+
+/// Runs the commands of a round, and counts each.
+fn run_round<P: Pmem, L: Ledger>(
+    alloc: Global,
+    program: &Program,
+    commands: &[Command],
+    session: &mut Session,
+    tally: &mut Tally,
+    dev: &mut P,
+    steps: &mut Steps<L>,
+)
+    requires lines { (P.device dev.old).lines ≡ pool_lines program.now.image.parts.sizes }
+    ensures counts { CountsAnswers program.now commands.now tally.old session.old (P.device dev.old)
+        steps.old tally.new session.new (P.device dev.new) steps.new }
+    ensures lines { (P.device dev.new).lines ≡ (P.device dev.old).lines }
+{
+    for command in commands {
+        let answer = session.command(alloc, program, command, dev, steps);
+        tally.count(command, &answer);
+    }
+}
+
+/// Writes the summary's line.
+fn put_tally<K: Sink>(alloc: Global, tally: &Tally, out: &mut K) -> Result<(), Unwritten>
+    ensures whole { OnOk result (Appends (K.written out.old) (K.written out.new)
+        (tally_text tally.now)) }
+    ensures part { OnErr result (AppendsPart (K.written out.old) (K.written out.new)
+        (tally_text tally.now)) }
+    ensures write { IsErrOf result Unwritten.WriteFault
+        → Rose (K.faults out.old) (K.faults out.new) }
+    ensures count { K.faults out.old ≤ K.faults out.new }
+{
+    let Ok(line) = tally_line(alloc, tally) else {
+        return Err(Unwritten::NoMemory);
+    };
+    match write_all(out, line.as_str().as_bytes()) {
+        Ok(()) => Ok(()),
+        Err(_) => Err(Unwritten::WriteFault),
+    }
+}
+
+fn tally_line(alloc: Global, tally: &Tally) -> Result<String, AllocError>
+    ensures { IfOk result (λ s. string_bytes s ≡ tally_text tally.now) }
+{
+    let Tally {
+        calls,
+        done,
+        stopped,
+        redone,
+        none,
+        trapped,
+        other,
+    } = *tally;
+    let mut line = String::new(alloc);
+    push_count(alloc, &mut line, "storm calls ", calls)?;
+    push_count(alloc, &mut line, " done ", done)?;
+    push_count(alloc, &mut line, " stopped ", stopped)?;
+    push_count(alloc, &mut line, " redone ", redone)?;
+    push_count(alloc, &mut line, " none ", none)?;
+    push_count(alloc, &mut line, " trapped ", trapped)?;
+    push_count(alloc, &mut line, " other ", other)?;
+    line.push_str("\n")?;
+    Ok(line)
+}
+
+/// Appends the name of a count, followed by the count.
+fn push_count(alloc: Global, line: &mut String, name: &str, count: u64) -> Result<(), AllocError>
+    ensures { OnOk result (string_bytes line.new ≡ with_count (string_bytes line.old)
+        name.now count) }
+{
+    let number = format!(in alloc; "{count}")?;
+    line.push_str(name)?;
+    line.push_str(number.as_str())?;
+    Ok(())
+}

@@ -1,0 +1,73 @@
+//! Writes lines.
+
+ghost use Rattle.std.specs.Prelude.{◌≡◌, ◌≢◌, ◌⊎◌, ◌≤◌, ℕ, List, OnOk, OnErr, IfOk, IsErrOf};
+ghost use Rattle.std.specs.Prelude.{string_bytes};
+ghost use Rattle.std.specs.Io.KnownBytes.{Appends};
+ghost use Rattle.nvm_base.specs.Parts.{AppendsPart};
+ghost use Rattle.nvm_base.specs.Rose.{Rose};
+ghost use Rattle.cnvm_session.specs.AnswerText.{answer_text};
+ghost use Rattle.session_run.specs.Told.{TellsAs};
+
+use crate::status::Status;
+use cnvm_session::{Answer, answer_text};
+use nvm_base::{Sink, write_all};
+use std::alloc::{AllocError, Global};
+
+/// Why a line wasn't written.
+#[derive(Clone, Copy, Debug, PartialEq, Eq)]
+pub(crate) enum Unwritten {
+    NoMemory,
+    WriteFault,
+}
+
+/// Writes the text; the status is this one, unless the sink failed.
+pub fn put<K: Sink>(out: &mut K, text: &str, status: Status) -> Status
+    ensures tells { TellsAs status text.now result (K.written out.old) (K.written out.new) }
+    ensures status { (result ≡ status) ⊎ (result ≡ Status.WriteFault) }
+    ensures write { result ≡ Status.WriteFault → (status ≡ Status.WriteFault)
+        ⊎ Rose (K.faults out.old) (K.faults out.new) }
+{
+    match write_all(out, text.as_bytes()) {
+        Ok(()) => status,
+        Err(_) => Status::WriteFault,
+    }
+}
+
+/// Writes a line; there may have been no memory to make it.
+#[tactic(auto, using(crate::proofs::Running::keeps_same))]
+pub fn tell<K: Sink>(out: &mut K, line: Result<String, AllocError>, status: Status) -> Status
+    ensures tells { (text : List ℕ) → IfOk line (λ s. string_bytes s ≡ text)
+        → TellsAs status text result (K.written out.old) (K.written out.new) }
+    ensures status { (result ≡ status)
+        ⊎ ((result ≡ Status.NoMemory) ⊎ (result ≡ Status.WriteFault)) }
+    ensures write { result ≡ Status.WriteFault → (status ≡ Status.WriteFault)
+        ⊎ Rose (K.faults out.old) (K.faults out.new) }
+{
+    match line {
+        Ok(line) => put(out, line.as_str(), status),
+        Err(_) => Status::NoMemory,
+    }
+}
+
+/// Writes the whole lines of an answer.
+pub(crate) fn put_answer<K: Sink>(
+    alloc: Global,
+    answer: &Answer,
+    out: &mut K,
+) -> Result<(), Unwritten>
+    ensures whole { OnOk result (Appends (K.written out.old) (K.written out.new)
+        (answer_text answer.now)) }
+    ensures part { OnErr result (AppendsPart (K.written out.old) (K.written out.new)
+        (answer_text answer.now)) }
+    ensures write { IsErrOf result Unwritten.WriteFault
+        → Rose (K.faults out.old) (K.faults out.new) }
+    ensures count { K.faults out.old ≤ K.faults out.new }
+{
+    let Ok(text) = answer_text(alloc, answer) else {
+        return Err(Unwritten::NoMemory);
+    };
+    match write_all(out, text.as_str().as_bytes()) {
+        Ok(()) => Ok(()),
+        Err(_) => Err(Unwritten::WriteFault),
+    }
+}
