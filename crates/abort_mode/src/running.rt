@@ -76,7 +76,7 @@ fn unlogged<P: PmemWork>(image: &Image, machine: &Machine, dev: &P, count: u64) 
 }
 
 /// What was done before a step.
-#[derive(Clone, Copy, Debug, PartialEq, Eq, Drop)]
+#[derive(Clone, Copy, Drop)]
 pub enum Logging {
     Not,
     Added,
@@ -122,7 +122,7 @@ fn log_first<P: PmemWork>(
 }
 
 /// How a turn went: the run goes on, or it ended; each with the number of records after it.
-#[derive(Clone, Copy, Debug, PartialEq, Eq, Drop)]
+#[derive(Clone, Copy, Drop)]
 pub enum Turn {
     Went(u64),
     Over(End, u64),
@@ -182,7 +182,7 @@ fn take_turn<P: PmemWork>(
 }
 
 /// How a run ended, and the records after it.
-#[derive(Clone, Copy, Debug, PartialEq, Eq, Drop)]
+#[derive(Clone, Copy, Drop)]
 pub struct Ran {
     pub end: End,
     pub records: u64,

@@ -20,7 +20,7 @@ use pmem::{Phase, PmemWork, Refusal};
 use std::sync::ledger::Ledger;
 
 /// How a run ended, and the number of records that it appended.
-#[derive(Clone, Copy, Debug, PartialEq, Eq, Drop)]
+#[derive(Clone, Copy, Drop)]
 pub struct Ended {
     pub end: End,
     pub logged: u64,

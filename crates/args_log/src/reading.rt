@@ -13,7 +13,7 @@ use pool_layout::{ARGUMENTS, DONE, FIRST_ARGUMENT, FUNCTION, SEAL};
 
 /// The content of a pool's record: no sealed call, or the number of its transaction and its
 /// argument words, including those after the last argument.
-#[derive(Clone, Copy, Debug, PartialEq, Eq, Drop)]
+#[derive(Clone, Copy, Drop)]
 pub enum PendingAnswer {
     Nothing,
     Sealed { tx: u64, args: [i64; ARGUMENTS] },

@@ -20,7 +20,7 @@ use pool_layout::{ARGUMENTS, DONE, FIRST_ARGUMENT, FUNCTION, SEAL};
 
 /// The answer of a seal. `Off` has the phase at the power cut: `Sealing` if the seal was stored,
 /// else `Unsealed`.
-#[derive(Clone, Copy, Debug, PartialEq, Eq, Drop)]
+#[derive(Clone, Copy, Drop)]
 pub enum SealAnswer {
     Done,
     Off(Phase),

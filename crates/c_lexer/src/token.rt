@@ -3,7 +3,7 @@
 use nvm_base::Text;
 
 /// A mark, named as in C.
-#[derive(Clone, Copy, Debug, PartialEq, Eq)]
+#[derive(Clone, Copy, Debug)]
 pub enum Mark {
     /// `->`
     Arrow,
@@ -78,7 +78,7 @@ pub enum Mark {
 }
 
 /// A reserved word of the profile.
-#[derive(Clone, Copy, Debug, PartialEq, Eq)]
+#[derive(Clone, Copy, Debug)]
 pub enum Word {
     /// `int64_t`
     Int64,

@@ -3,7 +3,7 @@
 use pool_map::TrapKind;
 
 /// A trap, and the place of the token where it came, counted from 0.
-#[derive(Clone, Copy, Debug, PartialEq, Eq)]
+#[derive(Clone, Copy, PartialEq, Eq)]
 pub struct TrapAt {
     pub kind: TrapKind,
     pub place: u64,

@@ -11,7 +11,7 @@ use nvm_base::Text;
 use std::alloc::{AllocError, Global};
 
 /// A token without its text and value. Marks that the grammar treats alike are one kind.
-#[derive(Clone, Copy, Debug, PartialEq, Eq)]
+#[derive(Clone, Copy, PartialEq, Eq)]
 pub enum Kind {
     Name,
     Number,

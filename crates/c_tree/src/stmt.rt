@@ -27,7 +27,7 @@ pub struct Declaration {
 }
 
 /// The action of an assignment on its target.
-#[derive(Clone, Copy, Debug, PartialEq, Eq)]
+#[derive(Clone, Copy, PartialEq, Eq)]
 pub enum AssignOp {
     /// `=`
     Set,
@@ -38,7 +38,7 @@ pub enum AssignOp {
 }
 
 /// The action of a step on its target.
-#[derive(Clone, Copy, Debug, PartialEq, Eq)]
+#[derive(Clone, Copy, PartialEq, Eq)]
 pub enum StepOp {
     /// `++`
     Up,

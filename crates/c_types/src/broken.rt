@@ -7,7 +7,7 @@ ghost use Rattle.c_types.specs.Broken.{lesser, least_from, broken_at, unless};
 use crate::fault::LimitKind;
 
 /// A rule that a program breaks.
-#[derive(Clone, Copy, Debug, PartialEq, Eq)]
+#[derive(Clone, Copy)]
 pub enum Rule {
     UnknownName,
     Twice,
@@ -21,7 +21,7 @@ pub enum Rule {
 }
 
 /// A rule that is broken at the token of this place.
-#[derive(Clone, Copy, Debug, PartialEq, Eq)]
+#[derive(Clone, Copy)]
 pub struct Broken {
     pub place: u64,
     pub rule: Rule,

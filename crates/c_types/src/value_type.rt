@@ -5,7 +5,7 @@ ghost use Rattle.c_types.specs.Tables.{pointed_struct};
 
 /// The type of a value. If a part of an expression was refused, its type is `Any`, which breaks no
 /// rule.
-#[derive(Clone, Copy, Debug, PartialEq, Eq)]
+#[derive(Clone, Copy, PartialEq, Eq)]
 pub enum ValueType {
     /// `int64_t`
     Int,
@@ -31,7 +31,7 @@ impl ValueType {
 }
 
 /// What an expression denotes: a value, or a whole array field, which is no value.
-#[derive(Clone, Copy, Debug, PartialEq, Eq)]
+#[derive(Clone, Copy, PartialEq, Eq)]
 pub enum Kind {
     Value(ValueType),
     /// An array field, with the type of its elements and the place of its name.

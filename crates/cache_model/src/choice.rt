@@ -14,7 +14,7 @@ pub enum Rest {
 }
 
 /// A line, and the version that it keeps, counted from 0 at the oldest.
-#[derive(Clone, Copy, Debug, PartialEq, Eq, Drop)]
+#[derive(Clone, Copy, Drop)]
 pub struct Pick {
     pub line: u64,
     pub version: u64,

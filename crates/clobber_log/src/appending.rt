@@ -12,7 +12,7 @@ use pmem::{PmemWork, Refusal};
 use pool_layout::Sizes;
 
 /// The answer of an append.
-#[derive(Clone, Copy, Debug, PartialEq, Eq, Drop)]
+#[derive(Clone, Copy, Drop)]
 pub enum AppendAnswer {
     Done,
     /// The log has no room for another record; there was no event.

@@ -11,7 +11,7 @@ use nvm_base::List;
 use std::alloc::{AllocError, Global};
 
 /// One function calls another. Both are numbers of functions.
-#[derive(Clone, Copy, Debug, PartialEq, Eq)]
+#[derive(Clone, Copy)]
 pub struct Edge {
     pub caller: usize,
     pub called: usize,

@@ -9,7 +9,7 @@ use std::alloc::{AllocError, Global};
 pub const MOST_TURNS: u32 = u32::MAX;
 
 /// What is next in a walk along calls: a function is met, or is left after all that it calls.
-#[derive(Clone, Copy, Debug, PartialEq, Eq)]
+#[derive(Clone, Copy)]
 enum Turn {
     Meet(usize),
     Leave(usize),

@@ -14,7 +14,7 @@ use session_run::{Status, tell};
 use std::alloc::{AllocError, Global};
 
 /// Why there is nothing to run.
-#[derive(Clone, Copy, Debug, PartialEq, Eq)]
+#[derive(Clone, Copy)]
 pub enum Refused {
     Usage,
     /// The program has too many bytes, or too many tokens.

@@ -2,7 +2,7 @@
 
 /// Slots, log records and ticks. A number outside the limits of a pool stands for the nearest
 /// limit.
-#[derive(Clone, Copy, Debug, PartialEq, Eq)]
+#[derive(Clone, Copy)]
 pub struct Asked {
     pub slots: u64,
     pub records: u64,

@@ -8,7 +8,7 @@ use c_types::LimitKind;
 use std::alloc::{AllocError, Global};
 
 /// What is wrong at a line.
-#[derive(Clone, Copy, Debug, PartialEq, Eq)]
+#[derive(Clone, Copy)]
 pub enum Complaint {
     BadByte,
     BadNumber,

@@ -16,7 +16,7 @@ use std::alloc::Global;
 
 /// Why a text is no program. Want of memory in any stage is `NoMemory`, and no other variant holds
 /// it.
-#[derive(Clone, Copy, Debug, PartialEq, Eq)]
+#[derive(Clone, Copy)]
 pub enum ProgramFault {
     /// It has no tokens.
     Lex(LexFault),

@@ -10,7 +10,7 @@ use c_parser::ParseFault;
 use c_types::TypeFault;
 
 /// What is reported of a program that is refused.
-#[derive(Clone, Copy, Debug, PartialEq, Eq)]
+#[derive(Clone, Copy)]
 pub enum Told {
     /// It has too many bytes, or too many tokens.
     Long,

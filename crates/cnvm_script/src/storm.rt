@@ -30,7 +30,7 @@ impl Model for Storm {
 }
 
 /// The choice that the first two draws of a round make.
-#[derive(Clone, Copy, Debug, PartialEq, Eq)]
+#[derive(Clone, Copy)]
 struct Chosen {
     /// Whether the power fails in the round.
     cut: bool,

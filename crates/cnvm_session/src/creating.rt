@@ -15,7 +15,7 @@ use pool_layout::{Sizes, pool_lines};
 const MAGIC: i64 = 5498700876356144707;
 
 /// Why a pool couldn't be created or opened.
-#[derive(Clone, Copy, Debug, PartialEq, Eq, Drop)]
+#[derive(Clone, Copy, Drop)]
 pub enum StartFault {
     /// The device failed at an event.
     Failed,

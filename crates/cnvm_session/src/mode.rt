@@ -3,7 +3,7 @@
 use pool_map::TrapKind;
 
 /// Whether a session takes calls.
-#[derive(Clone, Copy, Debug, PartialEq, Eq, Drop)]
+#[derive(Clone, Copy, Drop)]
 pub enum Mode {
     Ready,
     /// A command was interrupted; only `power` ends this.

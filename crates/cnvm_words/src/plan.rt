@@ -46,7 +46,7 @@ pub enum Plan {
 }
 
 /// Why words give no plan.
-#[derive(Clone, Copy, Debug, PartialEq, Eq)]
+#[derive(Clone, Copy)]
 pub enum WordsFault {
     /// The words ask for nothing that exists.
     Usage,

@@ -9,21 +9,21 @@ use pool_layout::Sizes;
 use pool_map::{FieldShape, Shapes, StructShape};
 
 /// A field's first word, and its number of elements if it is an array.
-#[derive(Clone, Copy, Debug, PartialEq, Eq)]
+#[derive(Clone, Copy)]
 pub struct FieldPlace {
     pub first: u32,
     pub length: Option<u32>,
 }
 
 /// A word, or an element of an array: the register of its index, and the array's length.
-#[derive(Clone, Copy, Debug, PartialEq, Eq)]
+#[derive(Clone, Copy)]
 pub enum At {
     Word,
     Element(u32, u32),
 }
 
 /// A field's first word, and which part of the field is meant.
-#[derive(Clone, Copy, Debug, PartialEq, Eq)]
+#[derive(Clone, Copy)]
 pub struct Reach {
     pub first: u32,
     pub at: At,

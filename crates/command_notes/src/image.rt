@@ -5,7 +5,7 @@ use plain_notes::Told;
 use std::alloc::{AllocError, Global};
 
 /// Why an image was refused: what the file says, and what the program wants.
-#[derive(Clone, Copy, Debug, PartialEq, Eq)]
+#[derive(Clone, Copy, PartialEq, Eq)]
 pub enum ImageRefusal {
     /// The bytes that it has, and those that are needed.
     Short(u64, u64),

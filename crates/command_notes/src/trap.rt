@@ -56,7 +56,7 @@ const TRAPS: [Trap; 8] = [
 ];
 
 /// What a trap leaves of the pool.
-#[derive(Clone, Copy, Debug, PartialEq, Eq)]
+#[derive(Clone, Copy)]
 pub enum PoolLeft {
     /// It takes no more calls.
     Unusable,

@@ -7,7 +7,7 @@ use c_meaning::TrapAt;
 use std::alloc::{AllocError, AllocFailed};
 
 /// A trap, or want of memory.
-#[derive(Clone, Copy, Debug, PartialEq, Eq)]
+#[derive(Clone, Copy, PartialEq, Eq)]
 pub enum Fault {
     Trapped(TrapAt),
     NoMemory,

@@ -3,7 +3,7 @@
 
 /// One fact: some walk reaches this place; a field isn't surely written through a register; a root
 /// field isn't surely written; a class was read before; a `pm_free` was passed.
-#[derive(Clone, Copy, PartialEq, Eq, Debug)]
+#[derive(Clone, Copy, PartialEq, Eq)]
 pub enum Fact {
     Here,
     Unwritten {
@@ -25,7 +25,7 @@ pub enum Fact {
 }
 
 /// The facts before an instruction, any of which gives the fact after it.
-#[derive(Clone, Copy, PartialEq, Eq, Debug)]
+#[derive(Clone, Copy)]
 pub enum Origins {
     Nowhere,
     One(Fact),
@@ -33,7 +33,7 @@ pub enum Origins {
 }
 
 /// The origin of a fact after a call: the callee's return, or the place of the call.
-#[derive(Clone, Copy, PartialEq, Eq, Debug)]
+#[derive(Clone, Copy)]
 pub enum Back {
     FromReturn(Fact),
     Stays,

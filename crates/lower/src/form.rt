@@ -7,7 +7,7 @@ use c_tree::expr::BinaryOp;
 use nvm_base::BinOp;
 
 /// `&&` and `||` are branches. Each other operator is one operation, and `a > b` is `b < a`.
-#[derive(Clone, Copy, Debug, PartialEq, Eq)]
+#[derive(Clone, Copy)]
 pub enum Form {
     Both,
     Either,

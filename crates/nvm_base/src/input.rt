@@ -12,7 +12,7 @@ use crate::source::{ReadAnswer, Source};
 use std::alloc::{AllocError, Global};
 
 /// Why `read_up_to` gives no bytes.
-#[derive(Clone, Copy, Debug, PartialEq, Eq)]
+#[derive(Clone, Copy)]
 pub enum UpToFault {
     /// A read failed, and the source's count of faults rose.
     ReadFault,

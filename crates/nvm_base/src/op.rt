@@ -7,7 +7,7 @@ use crate::word::{add, div, less, mul, rem, shl, shr, sub, ult};
 
 /// A binary operation on 64-bit words. `Lt`, `Le`, `Eq`, `Ne` and `Ult` give 0 or 1; `Ult` compares
 /// its operands as unsigned numbers.
-#[derive(Clone, Copy, Debug, PartialEq, Eq)]
+#[derive(Clone, Copy, Debug)]
 pub enum BinOp {
     Add,
     Sub,

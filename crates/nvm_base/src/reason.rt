@@ -3,7 +3,7 @@
 use std::io::{self, ErrorKind};
 
 /// Why the system refused to read or to write.
-#[derive(Clone, Copy, Debug, PartialEq, Eq)]
+#[derive(Clone, Copy)]
 pub enum Reason {
     NotFound,
     Denied,

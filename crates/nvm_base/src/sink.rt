@@ -9,7 +9,7 @@ ghost use Rattle.nvm_base.specs.Rose.{Rose};
 use crate::output::WriteFault;
 
 /// The answer of a write.
-#[derive(Clone, Copy, Debug, PartialEq, Eq)]
+#[derive(Clone, Copy)]
 pub enum WriteAnswer {
     /// This many bytes from the front of the piece were written, at least one.
     Count(usize),

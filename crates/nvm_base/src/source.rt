@@ -6,7 +6,7 @@ ghost use Rattle.nvm_base.specs.Answers.{IfRead, OnReadFailed};
 ghost use Rattle.nvm_base.specs.Rose.{Rose};
 
 /// The answer of a read.
-#[derive(Clone, Copy, Debug, PartialEq, Eq)]
+#[derive(Clone, Copy)]
 pub enum ReadAnswer {
     /// This many bytes were put at the front of the piece; 0 means the end of input.
     Count(usize),

@@ -14,7 +14,7 @@ use std::alloc::{AllocError, Global};
 
 /// A `pm_new`: the struct's number and its number of words, whether the fill is logged, the first
 /// free register, and the register of the result. Only a struct of at most 15 words has room.
-#[derive(Clone, Copy, Debug, PartialEq, Eq)]
+#[derive(Clone, Copy)]
 pub struct NewShape {
     pub sizes: Sizes,
     pub kind: u32,
@@ -25,7 +25,7 @@ pub struct NewShape {
 }
 
 /// A `pm_free`: the struct's number, the first free register, and the register of the pointer.
-#[derive(Clone, Copy, Debug, PartialEq, Eq)]
+#[derive(Clone, Copy)]
 pub struct FreeShape {
     pub sizes: Sizes,
     pub kind: u32,

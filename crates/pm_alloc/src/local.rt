@@ -7,14 +7,14 @@ ghost use Rattle.pm_alloc.specs.declared.local.Local.TheVariants.{Const, Load};
 use nvm_base::{BinOp, List};
 
 /// A register: one of the function's own, or one of eight temporary ones.
-#[derive(Clone, Copy, Debug, PartialEq, Eq)]
+#[derive(Clone, Copy)]
 pub enum Reg {
     Own(u32),
     Temp(u32),
 }
 
 /// An instruction of the machine before it has a place.
-#[derive(Clone, Copy, Debug, PartialEq, Eq)]
+#[derive(Clone, Copy)]
 pub enum Local {
     Const(Reg, i64),
     Mov(Reg, Reg),

@@ -10,7 +10,7 @@ use pool_map::TrapKind;
 
 /// The answer of a step: the run goes on, or has ended, or an event was refused. Only STORE and LOG
 /// answer want of memory.
-#[derive(Clone, Copy, Debug, PartialEq, Eq, Drop)]
+#[derive(Clone, Copy, Drop)]
 pub enum StepAnswer {
     Next,
     Halted(i64),
@@ -21,7 +21,7 @@ pub enum StepAnswer {
 }
 
 /// The answer of a run: its end, or the refusal of an event.
-#[derive(Clone, Copy, Debug, PartialEq, Eq, Drop)]
+#[derive(Clone, Copy, PartialEq, Eq, Drop)]
 pub enum RunAnswer {
     Halted(i64),
     Trapped(TrapKind),

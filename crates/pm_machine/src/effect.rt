@@ -4,7 +4,7 @@ use pool_map::TrapKind;
 
 /// The effect of one step on heap words and heap lines, both counted from the heap's start. A step
 /// without such an effect, and an access outside the heap, is `Quiet`.
-#[derive(Clone, Copy, Debug, PartialEq, Eq, Drop)]
+#[derive(Clone, Copy, Drop)]
 pub enum Effect {
     Loads(u64),
     /// Loads slot headers, 16 words apart: from this heap word on, this many.
@@ -17,7 +17,7 @@ pub enum Effect {
 }
 
 /// How a run ends.
-#[derive(Clone, Copy, Debug, PartialEq, Eq, Drop)]
+#[derive(Clone, Copy, PartialEq, Eq, Drop)]
 pub enum End {
     Halted(i64),
     Trapped(TrapKind),

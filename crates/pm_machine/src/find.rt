@@ -8,7 +8,7 @@ use pmem::PmemWork;
 use pool_layout::{Sizes, heap_start, slot_word};
 
 /// A slot, or 0 if none is free, and the number of headers that the search loads.
-#[derive(Clone, Copy, Debug, PartialEq, Eq)]
+#[derive(Clone, Copy)]
 pub struct Found {
     pub slot: u64,
     pub looks: u64,

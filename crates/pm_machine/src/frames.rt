@@ -12,7 +12,7 @@ use std::marker::Model;
 pub const CALLERS: usize = 255;
 
 /// A frame without its registers, and how many of these are kept; all others are 0.
-#[derive(Clone, Copy, Debug, PartialEq, Eq)]
+#[derive(Clone, Copy)]
 pub struct Waiting {
     pub function: u32,
     pub place: usize,

@@ -26,7 +26,7 @@ pub struct ImageParts {
 }
 
 /// Why parts make no image. `BadCode` has the first function and place that break a rule.
-#[derive(Clone, Copy, Debug, PartialEq, Eq, Drop)]
+#[derive(Clone, Copy, Drop)]
 pub enum ImageRefused {
     BadCode(u32, u32),
     NoMemory,

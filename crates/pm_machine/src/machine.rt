@@ -46,7 +46,7 @@ use std::mem;
 use std::sync::ledger::Ledger;
 
 /// A step goes on with an effect, or ends the run.
-#[derive(Clone, Copy, Debug, PartialEq, Eq, Drop)]
+#[derive(Clone, Copy, Drop)]
 pub enum Progress {
     Did(Effect),
     Ended(End),

@@ -58,7 +58,7 @@ pub struct Function {
 pub type Functions = List<Function>;
 
 /// A transaction: its function, and the number of its parameters.
-#[derive(Clone, Copy, Debug, PartialEq, Eq)]
+#[derive(Clone, Copy)]
 pub struct TxEntry {
     pub function: u32,
     pub parameters: u32,

@@ -21,7 +21,7 @@ use pmem::PmemWork;
 use std::sync::ledger::Ledger;
 
 /// How far a run has come: the place in the open function, the ticks left, and the steps left.
-#[derive(Clone, Copy, Debug, PartialEq, Eq)]
+#[derive(Clone, Copy)]
 pub struct Reached {
     pub place: usize,
     pub ticks: u64,

@@ -4,7 +4,7 @@ ghost use Rattle.std.specs.Prelude.{◌≡◌};
 ghost use Rattle.pmem.specs.Answer.{answer_of};
 
 /// The answer of a flush or a fence.
-#[derive(Clone, Copy, Debug, PartialEq, Eq, Drop)]
+#[derive(Clone, Copy, Drop)]
 pub enum Event {
     Done,
     Off,
@@ -12,7 +12,7 @@ pub enum Event {
 }
 
 /// The answer of a store.
-#[derive(Clone, Copy, Debug, PartialEq, Eq, Drop)]
+#[derive(Clone, Copy, Drop)]
 pub enum StoreEvent {
     Done,
     Off,
@@ -22,7 +22,7 @@ pub enum StoreEvent {
 
 /// The answer of a list of events: all were done, or some event was the first refused, for this
 /// cause.
-#[derive(Clone, Copy, Debug, PartialEq, Eq, Drop)]
+#[derive(Clone, Copy, Drop)]
 pub enum LogAnswer {
     Done,
     Off,
@@ -31,7 +31,7 @@ pub enum LogAnswer {
 }
 
 /// Why an event wasn't done.
-#[derive(Clone, Copy, Debug, PartialEq, Eq, Drop)]
+#[derive(Clone, Copy, Drop)]
 pub enum Refusal {
     Off,
     Failed,

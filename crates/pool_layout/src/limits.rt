@@ -5,7 +5,7 @@ ghost use Rattle.pool_layout.specs.Limits.{IsWithin, InLimits};
 
 /// The sizes of a pool, each within its limit: 1 to 65,535 slots, 1 to 4,096 log records, 1 to 512
 /// root words, and 1 to 1,000,000 ticks for a transaction.
-#[derive(Clone, Copy, Debug, PartialEq, Eq)]
+#[derive(Clone, Copy)]
 pub struct Sizes {
     slots: u64,
     records: u64,

@@ -37,14 +37,14 @@ pub const SEAL: u64 = 47;
 
 /// The two versions of the layout. A pool is created and saved in the second. The argument record
 /// is one line in the first version, and three lines in the second.
-#[derive(Clone, Copy, Debug, PartialEq, Eq)]
+#[derive(Clone, Copy)]
 pub enum Version {
     First,
     Second,
 }
 
 /// The layout of a pool of these sizes.
-#[derive(Clone, Copy, Debug, PartialEq, Eq)]
+#[derive(Clone, Copy)]
 pub struct Layout {
     pub version: Version,
     pub sizes: Sizes,
@@ -72,7 +72,7 @@ pub enum Place {
 
 /// A word of the heap by its name: a word of the root, or the header or a field of a slot. Slots
 /// are counted from 1, fields from 0.
-#[derive(Clone, Copy, Debug, PartialEq, Eq)]
+#[derive(Clone, Copy)]
 pub enum HeapPlace {
     Root(u64),
     Header(u64),

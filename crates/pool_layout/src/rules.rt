@@ -15,7 +15,7 @@ use crate::places::{Layout, Place, Version};
 
 /// What the rules of content depend on: the layout, the number of transactions of the program, and
 /// the number of its structs.
-#[derive(Clone, Copy, Debug, PartialEq, Eq)]
+#[derive(Clone, Copy)]
 pub struct Rules {
     pub layout: Layout,
     pub txs: u64,

@@ -8,7 +8,7 @@ use std::alloc::AllocError;
 
 /// The pool that an image must be of: its sizes, the digest of its program's text, and the numbers
 /// of the program's transactions and structs.
-#[derive(Clone, Copy, Debug, PartialEq, Eq)]
+#[derive(Clone, Copy)]
 pub struct Wanted {
     pub sizes: Sizes,
     pub digest: [i64; 4],

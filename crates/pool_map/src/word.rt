@@ -6,7 +6,7 @@ ghost use Rattle.pool_map.specs.Words.{read_word, write_word};
 use crate::pool::Pool;
 
 /// A word of the pool: a root word, or a field word of the object in a slot.
-#[derive(Clone, Copy, Debug, PartialEq, Eq)]
+#[derive(Clone, Copy)]
 pub enum PoolWord {
     Root(u64),
     Field { slot: u64, word: u64 },

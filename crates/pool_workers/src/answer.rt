@@ -3,7 +3,7 @@
 use pool_map::TrapKind;
 
 /// Why a pool of compartments couldn't be created. The events before the fault are done.
-#[derive(Clone, Copy, Debug, PartialEq, Eq, Drop)]
+#[derive(Clone, Copy, Drop)]
 pub enum MakeFault {
     /// The device failed at an event.
     Failed,

@@ -58,7 +58,7 @@ pub(crate) fn going(machine: Machine, attempt: u64, records: u64, left: u128) ->
 }
 
 /// What an instruction leaves of a run that stays in its place.
-#[derive(Clone, Copy, Debug, PartialEq, Eq)]
+#[derive(Clone, Copy)]
 pub(crate) enum Stepped {
     /// It goes on.
     On,

@@ -8,7 +8,7 @@ use c_types::{Kind, Program, Scopes, ValueType, kind_of, type_of};
 use std::alloc::{AllocError, Global};
 
 /// What stands at a token that breaks a rule.
-#[derive(Clone, Copy, Debug, PartialEq, Eq)]
+#[derive(Clone, Copy)]
 pub(crate) enum Clash {
     /// A binary operator, with the types of both sides.
     Sides(ValueType, ValueType),

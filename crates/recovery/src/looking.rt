@@ -14,7 +14,7 @@ use pool_map::TrapKind;
 use tx_run::marked_kind;
 
 /// The content of a pool after a power cut.
-#[derive(Clone, Copy, Debug, PartialEq, Eq, Drop)]
+#[derive(Clone, Copy, Drop)]
 pub enum Found {
     Off,
     Unusable(TrapKind),

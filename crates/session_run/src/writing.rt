@@ -14,7 +14,7 @@ use nvm_base::{Sink, write_all};
 use std::alloc::{AllocError, Global};
 
 /// Why a line wasn't written.
-#[derive(Clone, Copy, Debug, PartialEq, Eq)]
+#[derive(Clone, Copy, PartialEq, Eq)]
 pub(crate) enum Unwritten {
     NoMemory,
     WriteFault,

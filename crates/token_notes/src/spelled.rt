@@ -9,7 +9,7 @@ pub struct Spelled<'a> {
 }
 
 /// Where a token stands.
-#[derive(Clone, Copy, PartialEq, Eq)]
+#[derive(Clone, Copy)]
 pub(crate) enum Within {
     /// Between items, or in the first part of one.
     Top,

@@ -28,7 +28,7 @@ pub enum CallAnswer {
 
 /// How a sealed call was settled: it was retired with the value of its run, or marked with its
 /// trap, or a refusal cut it short.
-#[derive(Clone, Copy, Debug, PartialEq, Eq, Drop)]
+#[derive(Clone, Copy, Drop)]
 pub enum Settled {
     Done { value: i64, logged: u64 },
     Trap(TrapKind),

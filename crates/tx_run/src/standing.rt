@@ -11,7 +11,7 @@ use pool_layout::{ATTEMPT, DONE, MARK};
 use pool_map::TrapKind;
 
 /// Whether a pool takes a call, according to its line 2.
-#[derive(Clone, Copy, Debug, PartialEq, Eq, Drop)]
+#[derive(Clone, Copy, Drop)]
 pub enum Standing {
     Ready,
     Unusable(TrapKind),

@@ -5,7 +5,7 @@ use nvm_base::List;
 
 /// A field of the root by its number, or a field of a struct by the struct's number, counted from
 /// 1, and the field's.
-#[derive(Clone, Copy, Debug, PartialEq, Eq)]
+#[derive(Clone, Copy, PartialEq, Eq)]
 pub enum Class {
     Root(u32),
     Field(u32, u32),
@@ -14,7 +14,7 @@ pub enum Class {
 /// A fact about one walk: nothing but its being here; a struct's field not surely written through a
 /// register of the open function (the register, the struct's number, the field); a root field not
 /// surely written; a class read before; a free passed.
-#[derive(Clone, Copy, Debug, PartialEq, Eq)]
+#[derive(Clone, Copy, PartialEq, Eq)]
 pub enum Fact {
     Start,
     Unwritten(u32, u32, u32),
@@ -25,7 +25,7 @@ pub enum Fact {
 
 /// A fact at a place. If there is a call at the place and it is passed, `through` is the number of
 /// the piece that passes it.
-#[derive(Clone, Copy, Debug, PartialEq, Eq)]
+#[derive(Clone, Copy, PartialEq, Eq)]
 pub struct Step {
     pub place: u32,
     pub fact: Fact,

@@ -16,7 +16,7 @@ use ir::{Fact as WalkFact, Instruction, Ir, Origins, Site, Target};
 
 /// The first fault of a certificate, by number: the first bad piece among those that pass calls,
 /// else the first bad reason.
-#[derive(Clone, Copy, Debug, PartialEq, Eq)]
+#[derive(Clone, Copy, PartialEq, Eq)]
 pub enum CheckFault {
     BadPiece(u64),
     BadReason(u64),

@@ -14,14 +14,14 @@ use std::alloc::AllocError;
 use walk_check::{Piece, binds, first_fact, follows, is_there, last_fact, leads, origins, same};
 
 /// An entry with its number in the table.
-#[derive(Clone, Copy, Debug, PartialEq, Eq)]
+#[derive(Clone, Copy)]
 pub(crate) struct Later {
     pub(crate) number: usize,
     pub(crate) entry: Entry,
 }
 
 /// A call that is passed: its place, its function, and the origin of the fact after it.
-#[derive(Clone, Copy, Debug, PartialEq, Eq)]
+#[derive(Clone, Copy)]
 struct Passed {
     place: u32,
     function: u32,

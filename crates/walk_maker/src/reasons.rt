@@ -141,7 +141,7 @@ fn fill_reason(
 }
 
 /// What is written at a site, as far as its log depends on it.
-#[derive(Clone, Copy, Debug, PartialEq, Eq)]
+#[derive(Clone, Copy, PartialEq, Eq)]
 pub(crate) enum Kind {
     Store(Target),
     Header,

@@ -12,7 +12,7 @@ use std::marker::Model;
 use walk_check::{Step, same, told};
 
 /// What a walk is to reach: the site, or a return of the spot's function with a fact.
-#[derive(Clone, Copy, Debug, PartialEq, Eq)]
+#[derive(Clone, Copy)]
 pub(crate) enum Aim {
     ToSite,
     ToReturn(WalkFact),
@@ -20,7 +20,7 @@ pub(crate) enum Aim {
 
 /// How a walk goes on from a spot: not at all, since it is at its aim; to an earlier spot of the
 /// table, perhaps through a piece that passes a call; or into a call, to an earlier spot.
-#[derive(Clone, Copy, Debug, PartialEq, Eq)]
+#[derive(Clone, Copy)]
 pub(crate) enum Link {
     End,
     Next(usize, Option<u64>),
@@ -28,7 +28,7 @@ pub(crate) enum Link {
 }
 
 /// A fact at a place of a function, from which a walk can reach the aim.
-#[derive(Clone, Copy, Debug, PartialEq, Eq)]
+#[derive(Clone, Copy)]
 pub(crate) struct Entry {
     pub(crate) aim: Aim,
     pub(crate) function: u32,
@@ -66,7 +66,7 @@ impl Model for Table {
 
 /// What is known of a spot after a look at one entry: it is in the table, or it isn't, or it isn't
 /// among the entries from a number on.
-#[derive(Clone, Copy, Debug, PartialEq, Eq)]
+#[derive(Clone, Copy)]
 enum Look {
     Known,
     New,

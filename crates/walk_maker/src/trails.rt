@@ -29,7 +29,7 @@ pub(crate) struct Trails {
 
 /// Where a search ends: at an entry where a walk begins, or at one whose spot is on a trail, by
 /// their numbers.
-#[derive(Clone, Copy, Debug, PartialEq, Eq)]
+#[derive(Clone, Copy)]
 struct Met {
     number: usize,
     trail: Option<usize>,

@@ -1,7 +1,7 @@
 //! Why a run of a script of workers ended early.
 
 /// Why not all lines of a run were written.
-#[derive(Clone, Copy, Debug, PartialEq, Eq)]
+#[derive(Clone, Copy)]
 pub enum RunFault {
     /// The device failed while the compartments were created.
     Device,

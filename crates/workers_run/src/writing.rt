@@ -12,7 +12,7 @@ use std::alloc::Global;
 use workers_session::{WorkersLine, line_text};
 
 /// Why a line wasn't written.
-#[derive(Clone, Copy, Debug, PartialEq, Eq)]
+#[derive(Clone, Copy, PartialEq, Eq)]
 pub(crate) enum Unwritten {
     NoMemory,
     WriteFault,
