@@ -5,7 +5,7 @@ use crate::lines::{
     TrapEnd, after_slots, fate_of, first_line, has_trap, tells_trap, trap_end, unusable,
 };
 use crate::place::{ProgramText, place_note};
-use crate::summary::{push_message, push_refused, unless_empty};
+use crate::summary::{Refusals, push_message, push_refused, unless_empty};
 use cnvm_script::{Command, next_line, read_line};
 use command_notes::{PoolLeft, of_trap, of_unusable_image};
 use plain_notes::Told;
@@ -43,9 +43,7 @@ struct Found {
     trap: Option<Told>,
     undone: Option<Told>,
     undone_calls: u64,
-    refused: u64,
-    /// The line of the first refused command.
-    first: u64,
+    refusals: Refusals,
     /// The transaction that was called last.
     called: String,
     /// The pool on which the calls began; without one that is a new pool.
@@ -89,8 +87,7 @@ fn found_of(alloc: Global, run: RunTexts<'_>, image: Option<Opened>) -> Found {
         trap: None,
         undone: None,
         undone_calls: 0,
-        refused: 0,
-        first: 0,
+        refusals: Refusals::none(),
         called: String::new(alloc),
         pool,
         history,
@@ -207,12 +204,7 @@ fn after_answer<'a>(
     if let Some(end) = trap_end(line) {
         note_trap(alloc, found, run, number, end)?;
     }
-    if line.starts_with(b"refused ") {
-        if found.refused == 0 {
-            found.first = number;
-        }
-        found.refused = found.refused.saturating_add(1);
-    }
+    found.refusals = found.refusals.after(number, line);
     if let Some(history) = found.history.as_mut() {
         history.tell(fate_of(line))?;
     }
@@ -270,8 +262,7 @@ fn message(alloc: Global, run: RunTexts<'_>, found: Found) -> Result<Option<Stri
         trap,
         undone,
         undone_calls,
-        refused,
-        first,
+        refusals,
         ..
     } = found;
     let mut message = String::new(alloc);
@@ -283,7 +274,7 @@ fn message(alloc: Global, run: RunTexts<'_>, found: Found) -> Result<Option<Stri
         let told = with_saved(alloc, trap, run.saved)?;
         push_message(alloc, &mut message, &told)?;
     }
-    push_refused(alloc, &mut message, run.script_path, first, refused)?;
+    push_refused(alloc, &mut message, run.script_path, refusals)?;
     Ok(unless_empty(message))
 }
 

@@ -13,19 +13,82 @@ pub(crate) fn push_message(
     message.push_str(text.as_str())
 }
 
-/// Adds the number of refused commands, and the line of the first.
+/// The refused commands: how many, the line of the first, and a note on it, which may be empty.
+#[derive(Clone, Copy)]
+pub(crate) struct Refusals {
+    count: u64,
+    first: u64,
+    note: &'static str,
+}
+
+impl Refusals {
+    pub(crate) fn none() -> Refusals {
+        Refusals {
+            count: 0,
+            first: 0,
+            note: "",
+        }
+    }
+
+    /// The refusals with the command of this line, whose answer begins with these bytes.
+    pub(crate) fn after(self, number: u64, answer: &[u8]) -> Refusals {
+        if !answer.starts_with(b"refused ") {
+            return self;
+        }
+        if self.count == 0 {
+            return Refusals {
+                count: 1,
+                first: number,
+                note: refusal_note(answer),
+            };
+        }
+        Refusals {
+            count: self.count.saturating_add(1),
+            ..self
+        }
+    }
+}
+
+/// What a refusal means; empty where another message tells it.
+fn refusal_note(answer: &[u8]) -> &'static str {
+    if answer.starts_with(b"refused unknown") {
+        return "the program has no transaction of this name";
+    }
+    if answer.starts_with(b"refused arity") {
+        return "the transaction takes another number of arguments";
+    }
+    if answer.starts_with(b"refused down") {
+        return "the pool waits for `power`";
+    }
+    if answer.starts_with(b"refused pick") {
+        return "a line or a version that it names isn't there";
+    }
+    ""
+}
+
+/// Adds the number of refused commands, and the line of the first with its note.
 pub(crate) fn push_refused(
     alloc: Global,
     message: &mut String,
     path: &str,
-    first: u64,
-    refused: u64,
+    refusals: Refusals,
 ) -> Result<(), AllocError> {
-    if refused == 0 {
+    if refusals.count == 0 {
         return Ok(());
     }
-    let line = refused_line(alloc, path, first, refused)?;
-    message.push_str(line.as_str())
+    let line = refused_line(alloc, path, refusals.first, refusals.count)?;
+    message.push_str(line.as_str())?;
+    push_note(message, refusals.note)
+}
+
+/// Adds a note as a line of its own, unless it is empty.
+fn push_note(message: &mut String, note: &str) -> Result<(), AllocError> {
+    if note.is_empty() {
+        return Ok(());
+    }
+    message.push_str("note: ")?;
+    message.push_str(note)?;
+    message.push_str("\n")
 }
 
 fn refused_line(alloc: Global, path: &str, first: u64, refused: u64) -> Result<String, AllocError> {

@@ -238,6 +238,8 @@ fn lowered(alloc: Global, word: &[u8]) -> Result<Vec<u8>, AllocError> {
     Ok(small)
 }
 
+const BYTE_ORDER_NOTE: &str = "the text begins with a byte order mark: save it without one";
+
 /// The note of a word that is none of these commands.
 fn unknown_note(
     alloc: Global,
@@ -248,6 +250,9 @@ fn unknown_note(
 ) -> Result<String, AllocError> {
     if name.starts_with(b"//") {
         return String::from_str(alloc, "a remark begins with `#`");
+    }
+    if name.starts_with(b"\xEF\xBB\xBF") {
+        return String::from_str(alloc, BYTE_ORDER_NOTE);
     }
     if has(commands, small) {
         return framed(alloc, "commands are small letters: write `", small, "`");

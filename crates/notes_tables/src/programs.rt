@@ -818,7 +818,7 @@ const NAMES: [Body; 41] = [
 ];
 
 /// Whole texts, with what is told of them.
-const WHOLE: [(&str, &str, &str); 58] = [
+const WHOLE: [(&str, &str, &str); 60] = [
     (
         "tx rollback int64_t f() { return 1; }\n",
         "1:4: error: syntax at `rollback`",
@@ -842,6 +842,11 @@ const WHOLE: [(&str, &str, &str); 58] = [
     (
         "tx abort int32_t f() { return 1; }\n",
         "1:10: error: syntax at `int32_t`",
+        "every number is an `int64_t`: write `int64_t`",
+    ),
+    (
+        "tx int64 f() { return 1; }\n",
+        "1:4: error: syntax at `int64`",
         "every number is an `int64_t`: write `int64_t`",
     ),
     (
@@ -1115,6 +1120,11 @@ const WHOLE: [(&str, &str, &str); 58] = [
         "int64_t f() { return 1; } é\n",
         "1:27: error: no token begins with this byte",
         "outside of comments a text is ASCII",
+    ),
+    (
+        "\u{feff}int64_t f() { return 1; }\n",
+        "1:1: error: no token begins with this byte",
+        "the text begins with a byte order mark: save it without one",
     ),
     (
         "",

@@ -10,7 +10,7 @@ use std::alloc::{AllocError, Global};
 use std::test::Fail;
 
 /// Lines, the column of the word at fault, what is told of it, and a note.
-const LINES: [(&str, &str, &str, &str); 27] = [
+const LINES: [(&str, &str, &str, &str); 28] = [
     (
         "start 0 add 5",
         "1:1",
@@ -100,6 +100,12 @@ const LINES: [(&str, &str, &str, &str); 27] = [
         "1:1",
         "`//` is no command",
         "a remark begins with `#`",
+    ),
+    (
+        "\u{feff}call add 5",
+        "1:1",
+        "`\u{feff}call` is no command",
+        "the text begins with a byte order mark: save it without one",
     ),
     (
         "add 5",
@@ -426,7 +432,7 @@ fn the_program() -> ProgramText<'static> {
 }
 
 /// Scripts, their answers, and what is told.
-const ANSWERS: [(&str, &str, bool, &str, &str); 20] = [
+const ANSWERS: [(&str, &str, bool, &str, &str); 22] = [
     (
         "call fill 2\ncall fill 3\n",
         "= 0 log 2\ntrap logfull\n",
@@ -548,7 +554,30 @@ const ANSWERS: [(&str, &str, bool, &str, &str); 20] = [
         "refused unknown\nrefused arity\n",
         false,
         "",
-        "cnvm: s:1: 2 commands were refused, this one first\n",
+        concat!(
+            "cnvm: s:1: 2 commands were refused, this one first\n",
+            "note: the program has no transaction of this name\n",
+        ),
+    ),
+    (
+        "call add\ncall ad 5\n",
+        "refused arity\nrefused unknown\n",
+        false,
+        "",
+        concat!(
+            "cnvm: s:1: 2 commands were refused, this one first\n",
+            "note: the transaction takes another number of arguments\n",
+        ),
+    ),
+    (
+        "power old 9999:1\n",
+        "refused pick 9999\n",
+        false,
+        "",
+        concat!(
+            "cnvm: s:1: a command was refused\n",
+            "note: a line or a version that it names isn't there\n",
+        ),
     ),
     (
         "call at 9\n",
@@ -648,6 +677,7 @@ const ANSWERS: [(&str, &str, bool, &str, &str); 20] = [
             "note: test the divisor before `/` and `%`\n",
             "note: the pool takes no more calls; the stores before the trap stand\n",
             "note: it came in p.c:7\ncnvm: s:3: a command was refused\n",
+            "note: the pool waits for `power`\n",
         ),
     ),
 ];

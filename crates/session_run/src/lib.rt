@@ -1,6 +1,7 @@
-//! Runs the commands of a script, or a storm, on the pool of a program, and writes the answers; saves
-//! the pool as an image. It rests on the session. Its one contract for the call above: the status,
-//! the lines written and what the device holds are those that the session's definitions give.
+//! Runs the commands of a script, or a storm, on the pool of a program, and writes the answers;
+//! saves the pool as an image. It rests on the session. Its one contract for the call above: the
+//! status, the lines written and what the device holds are those that the session's definitions
+//! give.
 #![tactic(auto)]
 
 mod commands;

@@ -95,8 +95,11 @@ const RESERVED: [(&str, &str); 26] = [
 ];
 
 /// Names that stand for types of numbers in C.
-const NUMBER_TYPES: [&str; 17] = [
+const NUMBER_TYPES: [&str; 20] = [
     "bool",
+    "int64",
+    "uint64",
+    "int32",
     "uint64_t",
     "int32_t",
     "uint32_t",

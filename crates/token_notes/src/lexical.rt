@@ -18,9 +18,16 @@ pub fn bad_byte(left: &[u8]) -> &'static str {
         b'\\' => "a line is not continued: leave the `\\` out",
         b'@' | b'$' | b'`' => "this byte has no meaning in the language",
         0..=31 | 127 => "a control byte has no meaning in the language",
-        128..=255 => "outside of comments a text is ASCII",
+        128..=255 => beyond_ascii(left),
         _ => "this byte has no meaning in the language",
     }
+}
+
+fn beyond_ascii(left: &[u8]) -> &'static str {
+    if left.starts_with(b"\xEF\xBB\xBF") {
+        return "the text begins with a byte order mark: save it without one";
+    }
+    "outside of comments a text is ASCII"
 }
 
 fn hash_note(left: &[u8]) -> &'static str {
