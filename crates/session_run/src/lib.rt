@@ -6,13 +6,13 @@
 
 mod commands;
 mod image;
-mod running;
+mod runs;
 mod status;
 mod storm;
 mod writing;
 
 pub use image::save;
-pub use running::{run_created, run_from};
+pub use runs::{run_created, run_from};
 pub use status::Status;
 pub use storm::storm_over;
 pub use writing::{put, tell};
