@@ -14,5 +14,5 @@ mod writing;
 pub use image::save;
 pub use runs::{run_created, run_from};
 pub use status::Status;
-pub use storm::storm_over;
+pub use storm::{Tally, storm_over};
 pub use writing::{put, tell};

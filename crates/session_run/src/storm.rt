@@ -25,14 +25,14 @@ use std::sync::ledger::Ledger;
 
 /// How many commands were answered in each way.
 #[derive(Clone, Copy, PartialEq, Eq)]
-pub(crate) struct Tally {
-    calls: u64,
-    done: u64,
-    stopped: u64,
-    redone: u64,
-    none: u64,
-    trapped: u64,
-    other: u64,
+pub struct Tally {
+    pub calls: u64,
+    pub done: u64,
+    pub stopped: u64,
+    pub redone: u64,
+    pub none: u64,
+    pub trapped: u64,
+    pub other: u64,
 }
 
 impl Tally {
