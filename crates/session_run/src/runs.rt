@@ -9,19 +9,20 @@ ghost use Rattle.session_run.specs.Commands.{CommandsEnd, RanAs, OpenedAs};
 use crate::commands::answer_all;
 use crate::status::Status;
 use crate::writing::{Unwritten, put_answer};
-use cnvm_script::Command;
+use cnvm_script::Script;
 use cnvm_session::{Program, Session, StartFault, create, start_from};
 use nvm_base::{Sink, Steps};
 use pmem::Pmem;
 use std::alloc::Global;
 use std::sync::ledger::Ledger;
 
-/// Makes a new pool, runs the commands on it, and writes each answer before the next command.
+/// Makes a new pool, runs the script's commands on it, and writes each answer before the next
+/// command.
 #[tactic(auto, using(crate::proofs::Running::keeps_same))]
 pub fn run_created<K: Sink, P: Pmem, L: Ledger>(
     alloc: Global,
     program: &Program,
-    commands: &[Command],
+    script: &Script,
     out: &mut K,
     dev: &mut P,
     steps: &mut Steps<L>,
@@ -31,7 +32,7 @@ pub fn run_created<K: Sink, P: Pmem, L: Ledger>(
     ensures write { result ≡ Status.WriteFault → Rose (K.faults out.old) (K.faults out.new) }
     ensures device { result ≡ Status.DeviceFault
         → device.FaultsRose (P.device dev.old).faults (P.device dev.new).faults }
-    ensures ran { RanAs program.now commands.now result (K.written out.old)
+    ensures ran { RanAs program.now script.now result (K.written out.old)
         (K.written out.new) (P.device dev.old) (P.device dev.new) steps.old steps.new }
     ensures lines { result ≡ Status.Done
         → (P.device dev.new).lines ≡ pool_lines program.now.image.parts.sizes }
@@ -41,19 +42,27 @@ pub fn run_created<K: Sink, P: Pmem, L: Ledger>(
         Err(StartFault::Failed) => return Status::DeviceFault,
         Err(StartFault::NoMemory) => return Status::NoMemory,
     };
-    match answer_all(alloc, program, commands, &mut session, out, dev, steps) {
+    match answer_all(
+        alloc,
+        program,
+        script.as_slice(),
+        &mut session,
+        out,
+        dev,
+        steps,
+    ) {
         Ok(()) => Status::Done,
         Err(Unwritten::NoMemory) => Status::NoMemory,
         Err(Unwritten::WriteFault) => Status::WriteFault,
     }
 }
 
-/// Opens the pool with these words, and writes how it was recovered; then runs the commands, and
-/// writes each answer before the next.
+/// Opens the pool with these words, and writes how it was recovered; then runs the script's
+/// commands, and writes each answer before the next.
 pub fn run_from<K: Sink, P: Pmem, L: Ledger>(
     alloc: Global,
     program: &Program,
-    commands: &[Command],
+    script: &Script,
     words: &[i64],
     out: &mut K,
     dev: &mut P,
@@ -64,7 +73,7 @@ pub fn run_from<K: Sink, P: Pmem, L: Ledger>(
     ensures write { result ≡ Status.WriteFault → Rose (K.faults out.old) (K.faults out.new) }
     ensures device { result ≡ Status.DeviceFault
         → device.FaultsRose (P.device dev.old).faults (P.device dev.new).faults }
-    ensures ran { OpenedAs program.now commands.now words.now result
+    ensures ran { OpenedAs program.now script.now words.now result
         (K.written out.old) (K.written out.new) (P.device dev.old) (P.device dev.new) steps.old
         steps.new }
     ensures lines { result ≡ Status.Done
@@ -76,7 +85,7 @@ pub fn run_from<K: Sink, P: Pmem, L: Ledger>(
         Err(StartFault::NoMemory) => return Status::NoMemory,
     };
     match put_answer(alloc, &answer, out) {
-        Ok(()) => run_commands(alloc, program, commands, &mut session, out, dev, steps),
+        Ok(()) => run_commands(alloc, program, script, &mut session, out, dev, steps),
         Err(Unwritten::NoMemory) => Status::NoMemory,
         Err(Unwritten::WriteFault) => Status::WriteFault,
     }
@@ -86,7 +95,7 @@ pub fn run_from<K: Sink, P: Pmem, L: Ledger>(
 fn run_commands<K: Sink, P: Pmem, L: Ledger>(
     alloc: Global,
     program: &Program,
-    commands: &[Command],
+    script: &Script,
     session: &mut Session,
     out: &mut K,
     dev: &mut P,
@@ -97,13 +106,13 @@ fn run_commands<K: Sink, P: Pmem, L: Ledger>(
     ensures status { (result ≡ Status.Done)
         ⊎ ((result ≡ Status.NoMemory) ⊎ (result ≡ Status.WriteFault)) }
     ensures write { result ≡ Status.WriteFault → Rose (K.faults out.old) (K.faults out.new) }
-    ensures ran { CommandsEnd program.now commands.now result session.old
+    ensures ran { CommandsEnd program.now script.now result session.old
         (P.device dev.old) (K.written out.old) steps.old (P.device dev.new) (K.written out.new)
         steps.new }
     ensures lines { (P.device dev.new).lines
         ≡ pool_lines program.now.image.parts.sizes }
 {
-    match answer_all(alloc, program, commands, session, out, dev, steps) {
+    match answer_all(alloc, program, script.as_slice(), session, out, dev, steps) {
         Ok(()) => Status::Done,
         Err(Unwritten::NoMemory) => Status::NoMemory,
         Err(Unwritten::WriteFault) => Status::WriteFault,
