@@ -8,7 +8,9 @@ mod cache;
 mod choice;
 mod laws;
 mod line;
+mod slot;
 
 pub use cache::Cache;
 pub use choice::{BadPick, Choice, Pick, Picks, Rest};
 pub use laws::cache_laws;
+pub use slot::SLOT_WORDS;

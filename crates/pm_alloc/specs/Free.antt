@@ -15,6 +15,7 @@ use Rattle.pm_alloc.specs.Runs.{Goes, Traps, local_run}
 use Rattle.pm_alloc.specs.LocalRun.{World, Loc, see, local_step}
 use Rattle.pm_alloc.specs.Search.{temporaries, IsPool}
 use Rattle.pm_alloc.specs.New.{wrote}
+use Rattle.cache_model.specs.declared.slot.TheConstants.{SLOT_WORDS}
 
 -- what a pointer is: null, no slot, a slot that has no object of the kind, or a slot that has one
 pub data Looked : Type 0 where
@@ -50,7 +51,7 @@ Checked s code own x w n (Is q) =
     ≡ Goes (record {
       at = 12;
       own = own;
-      temp = pos (q * 16) ∷ u ∷ v ∷ x 3 ∷ x 4 ∷ x 5 ∷ x 6 ∷ x 7
+      temp = pos (q * SLOT_WORDS) ∷ u ∷ v ∷ x 3 ∷ x 4 ∷ x 5 ∷ x 6 ∷ x 7
           ∷ [];
       world = header_seen s w q;
     }))

@@ -11,10 +11,11 @@ use Rattle.pm_alloc.specs.declared.local.Reg.TheVariants.{Own, Temp}
 use Rattle.pm_alloc.specs.declared.local.Local.{Local}
 use Rattle.pm_alloc.specs.declared.local.Local.TheVariants.{Const, Mov, Bin, Jmp, Jz, Load, Store}
 use Rattle.pm_alloc.specs.declared.local.Local.TheVariants.{Find, Log, Trap}
+use Rattle.cache_model.specs.declared.slot.TheConstants.{SLOT_WORDS}
 
 -- word j of the object in slot s is heap word 16 s + offset; word 0 is its header
 abbrev pub offset : Sizes → ℕ → ℤ
-offset s j = pos (8 * root_lines s + j) -ℤ pos 16
+offset s j = pos (8 * root_lines s + j) -ℤ pos SLOT_WORDS
 
 -- a store, with or without its log
 abbrev pub store_code : Bool → Reg → ℤ → Reg → List Local
@@ -28,7 +29,8 @@ abbrev pub pointer_steps : (past header : ℤ) → (p kind : ℕ) → List Local
 pointer_steps past header p kind =
     Jz (Own p) 11
     ∷ Const (Temp 1) past ∷ Bin Ult (Temp 2) (Own p) (Temp 1) ∷ Jz (Temp 2) 10
-    ∷ Const (Temp 0) (pos 16) ∷ Bin Mul (Temp 0) (Own p) (Temp 0) ∷ Load (Temp 1) (Temp 0) header
+    ∷ Const (Temp 0) (pos SLOT_WORDS) ∷ Bin Mul (Temp 0) (Own p) (Temp 0)
+    ∷ Load (Temp 1) (Temp 0) header
     ∷ Const (Temp 2) (pos kind) ∷ Bin Ne (Temp 1) (Temp 1) (Temp 2) ∷ Jz (Temp 1) 12
     ∷ Trap 2 ∷ Trap 1 ∷ []
 
@@ -55,7 +57,7 @@ fill_code s b j (suc c) = store_code b (Temp 1) (offset s j) (Temp 6) ++ fill_co
 -- past the fill.
 abbrev pub new_head : Sizes → (kind n : ℕ) → List Local
 new_head s kind n =
-    Find (Temp 0) ∷ Jz (Temp 0) (8 + n) ∷ Const (Temp 1) (pos 16)
+    Find (Temp 0) ∷ Jz (Temp 0) (8 + n) ∷ Const (Temp 1) (pos SLOT_WORDS)
     ∷ Bin Mul (Temp 1) (Temp 0) (Temp 1)
     ∷ Const (Temp 5) (pos kind) ∷ Log (Temp 1) (offset s 0) ∷ Store (Temp 1) (offset s 0) (Temp 5)
     ∷ Const (Temp 6) (pos 0) ∷ []

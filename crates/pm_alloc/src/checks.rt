@@ -5,6 +5,7 @@ ghost use Rattle.pm_alloc.specs.Pieces.{pointer_check, pointer_steps, index_chec
 
 use crate::local::{Local, Locals, Reg};
 use crate::stores::field_offset;
+use cache_model::SLOT_WORDS;
 use nvm_base::BinOp;
 use pool_layout::Sizes;
 use std::alloc::AllocError;
@@ -30,7 +31,7 @@ fn push_pointer_steps(
         Local::Const(Reg::Temp(1), past),
         Local::Bin(BinOp::Ult, Reg::Temp(2), Reg::Own(pointer), Reg::Temp(1)),
         Local::Jz(Reg::Temp(2), 10),
-        Local::Const(Reg::Temp(0), 16),
+        Local::Const(Reg::Temp(0), SLOT_WORDS as i64),
         Local::Bin(BinOp::Mul, Reg::Temp(0), Reg::Own(pointer), Reg::Temp(0)),
         Local::Load(Reg::Temp(1), Reg::Temp(0), header),
         Local::Const(Reg::Temp(2), i64::from(kind)),

@@ -7,6 +7,7 @@ ghost use Rattle.pm_alloc.specs.Pieces.{fill_code, new_head, new_code, new_or_tr
 use crate::checks::push_pointer_check;
 use crate::local::{Local, Locals, Reg};
 use crate::stores::{field_offset, push_store};
+use cache_model::SLOT_WORDS;
 use nvm_base::BinOp;
 use pool_layout::Sizes;
 use std::alloc::AllocError;
@@ -44,7 +45,7 @@ fn push_search(piece: &mut Locals, sizes: &Sizes, kind: u32, fill: u32) -> Resul
     piece.extend(&[
         Local::Find(Reg::Temp(0)),
         Local::Jz(Reg::Temp(0), 8 + fill),
-        Local::Const(Reg::Temp(1), 16),
+        Local::Const(Reg::Temp(1), SLOT_WORDS as i64),
         Local::Bin(BinOp::Mul, Reg::Temp(1), Reg::Temp(0), Reg::Temp(1)),
         Local::Const(Reg::Temp(5), i64::from(kind)),
         Local::Log(Reg::Temp(1), header),

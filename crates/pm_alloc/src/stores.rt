@@ -4,6 +4,7 @@ ghost use Rattle.std.specs.Prelude.{◌≡◌, ◌≤◌, ◌^◌, ◌++◌, OnO
 ghost use Rattle.pm_alloc.specs.Pieces.{store_code, offset};
 
 use crate::local::{Local, Locals, Reg};
+use cache_model::SLOT_WORDS;
 use pool_layout::{Sizes, slot_word};
 use std::alloc::AllocError;
 
@@ -12,7 +13,7 @@ use std::alloc::AllocError;
 pub fn field_offset(sizes: &Sizes, word: u32) -> i64
     ensures { result ≡ offset sizes.now word }
 {
-    (slot_word(sizes, 1) + u64::from(word)) as i64 - 16
+    (slot_word(sizes, 1) + u64::from(word)) as i64 - SLOT_WORDS as i64
 }
 
 /// Appends a store of `from` at `to + offset`, right after its log if it is logged.

@@ -1,4 +1,4 @@
--- The search for the least free slot. Headers are 16 words apart, and a slot is free if its header
+-- The search for the least free slot. Headers are a slot apart, and a slot is free if its header
 -- is 0. A search loads the headers from the first one on, up to and including that of the slot that
 -- it finds.
 use Rattle.std.specs.Prelude.{ℕ, zero, suc, ◌+◌, ◌<◌, ◌≤◌, if◌then◌else◌, ◌≡◌, ◌≢◌, ◌⊎◌, pos}
@@ -6,16 +6,18 @@ use Rattle.std.specs.Ordering.{int_eq}
 use Rattle.cache_model.specs.Cache.{Words}
 use Rattle.pool_layout.specs.declared.limits.Sizes.{Sizes}
 use Rattle.pool_layout.specs.Sizes.{slot_word}
+use Rattle.cache_model.specs.declared.slot.TheConstants.{SLOT_WORDS}
 
 -- the least free of n slots from number q on, whose headers begin at heap word w; 0 if none is free
 abbrev pub free_of : Words → (n q w : ℕ) → ℕ
 free_of heap zero q w = 0
-free_of heap (suc n) q w = if int_eq (heap w) (pos 0) then q else free_of heap n (q + 1) (w + 16)
+free_of heap (suc n) q w = if int_eq (heap w) (pos 0) then q
+    else free_of heap n (q + 1) (w + SLOT_WORDS)
 
 -- the number of headers that this search loads
 abbrev pub tried : Words → (n w : ℕ) → ℕ
 tried heap zero w = 0
-tried heap (suc n) w = suc (if int_eq (heap w) (pos 0) then 0 else tried heap n (w + 16))
+tried heap (suc n) w = suc (if int_eq (heap w) (pos 0) then 0 else tried heap n (w + SLOT_WORDS))
 
 -- the least free slot of a pool, or 0, and the number of headers that the search loads
 abbrev pub least : Sizes → Words → ℕ
@@ -27,7 +29,7 @@ looks s heap = tried heap s.slots (slot_word s 1)
 -- u is one of n headers from word w on
 abbrev pub IsHeader : (w n u : ℕ) → Type 0
 IsHeader w zero u = ⊥
-IsHeader w (suc n) u = (u ≡ w) ⊎ IsHeader (w + 16) n u
+IsHeader w (suc n) u = (u ≡ w) ⊎ IsHeader (w + SLOT_WORDS) n u
 
 -- q is the least free slot, or 0 if none is free
 abbrev pub IsLeast : Sizes → Words → ℕ → Type 0

@@ -9,6 +9,7 @@ ghost use Rattle.cache_model.specs.Collapse.{bad, Rises};
 ghost use Rattle.pmem.specs.Device.{Device, memory_of, blanked, powered, with_left, with_armed};
 ghost use Rattle.pmem.specs.Played.{Answered, Stored};
 ghost use Rattle.pmem.specs.Zeros.{IsFirstZero};
+ghost use Rattle.cache_model.specs.declared.slot.TheConstants.{SLOT_WORDS};
 
 use crate::answer::{Event, StoreEvent};
 use cache_model::{BadPick, Choice};
@@ -34,8 +35,8 @@ pub trait PmemWork {
     /// or `None` while the device is off. A search is no event. The device may remember what it
     /// saw, so that later searches are shorter.
     fn first_zero(&mut self, word: u64, count: u64) -> Option<u64>
-        requires inside { word + 16 * count ≤ 8 * (device self.old).lines }
-        requires fits { word + 16 * count < 2 ^ 64 }
+        requires inside { word + SLOT_WORDS * count ≤ 8 * (device self.old).lines }
+        requires fits { word + SLOT_WORDS * count < 2 ^ 64 }
         ensures value { IfSome result (IsFirstZero (view (device self.old).cache) word count) }
         ensures on { IsSome result → (device self.old).on ≡ true }
         ensures off { IsNone result → (device self.old).on ≡ false }

@@ -5,6 +5,7 @@ ghost use Rattle.std.specs.Prelude.{pos, true, false, slice_set, slice_index_or,
 ghost use Rattle.pmem.specs.Zeros.{IsFirstZero};
 ghost use Rattle.pmem.specs.inside.Zeros.{AreFull, IsKnown};
 
+use cache_model::SLOT_WORDS;
 use std::alloc::Global;
 
 /// How many words share a flag.
@@ -60,7 +61,7 @@ impl FullWords {
 
     /// How many of `count` words, two lines apart from `word` on, come before the first that is 0.
     pub fn first_zero(&mut self, words: &[i64], word: u64, count: u64) -> u64
-        requires inside { word + 16 * count ≤ length words.now }
+        requires inside { word + SLOT_WORDS * count ≤ length words.now }
         requires known { IsKnown words.now self.old }
         ensures value { IsFirstZero (λ w. slice_index_or words.now w (pos 0)) word count result }
         ensures known { IsKnown words.now self.new }
@@ -75,7 +76,7 @@ impl FullWords {
 
     /// How many of `count` words come before the first that is 0.
     fn search(&mut self, words: &[i64], count: u64) -> u64
-        requires inside { self.old.first + 16 * count ≤ length words.now }
+        requires inside { self.old.first + SLOT_WORDS * count ≤ length words.now }
         requires known { IsKnown words.now self.old }
         ensures first { self.new.first ≡ self.old.first }
         ensures value { IsFirstZero (λ w. slice_index_or words.now w (pos 0)) self.old.first count
@@ -97,7 +98,7 @@ impl FullWords {
     /// How many of the words before `until` come before the first that is 0, if none of the first
     /// `known` is 0 and the others lie in one chunk.
     fn search_chunk(&mut self, words: &[i64], known: u64, until: u64) -> u64
-        requires inside { self.old.first + 16 * until ≤ length words.now }
+        requires inside { self.old.first + SLOT_WORDS * until ≤ length words.now }
         requires some { known < until }
         requires chunk { until ≤ 128 * (known / 128 + 1) }
         requires full { AreFull words.now self.old.first known }
@@ -120,15 +121,15 @@ impl FullWords {
 
     /// A word's number among those that are searched, if it is one of them.
     fn number(&self, word: u64) -> Option<u64>
-        ensures some { IfSome result (λ i. self.now.first + 16 * i ≡ word) }
-        ensures none { IfNone result ((i : ℕ) → self.now.first + 16 * i ≢ word) }
+        ensures some { IfSome result (λ i. self.now.first + SLOT_WORDS * i ≡ word) }
+        ensures none { IfNone result ((i : ℕ) → self.now.first + SLOT_WORDS * i ≢ word) }
     {
         if word < self.first {
             return None;
         }
         let past = word - self.first;
-        if past % 16 == 0 {
-            Some(past / 16)
+        if past % SLOT_WORDS == 0 {
+            Some(past / SLOT_WORDS)
         } else {
             None
         }
@@ -138,13 +139,13 @@ impl FullWords {
 /// How many of `count` words, two lines apart from `word` on, come before the first that is 0, if
 /// none of the first `known` is.
 fn first_zero_in(words: &[i64], word: u64, count: u64, known: u64) -> u64
-    requires inside { word + 16 * count ≤ length words.now }
+    requires inside { word + SLOT_WORDS * count ≤ length words.now }
     requires few { known ≤ count }
     requires known { AreFull words.now word known }
     ensures { IsFirstZero (λ w. slice_index_or words.now w (pos 0)) word count result }
 {
     for n in known..count {
-        if words[(word + 16 * n) as usize] == 0 {
+        if words[(word + SLOT_WORDS * n) as usize] == 0 {
             return n;
         }
     }

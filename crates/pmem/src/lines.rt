@@ -9,7 +9,7 @@ ghost use Rattle.cache_model.specs.Collapse.{bad, collapse, Rises};
 ghost use Rattle.cache_model.specs.Lists.{memory_from};
 ghost use Rattle.pmem.specs.Zeros.{IsFirstZero};
 
-use cache_model::{BadPick, Cache, Choice};
+use cache_model::{BadPick, Cache, Choice, SLOT_WORDS};
 use std::alloc::{AllocError, Global};
 
 /// Lines with all their versions and marks. Each call does to them what the cache model says.
@@ -35,8 +35,8 @@ pub trait Lines {
 
     /// How many of `count` words, two lines apart from `word` on, come before the first that is 0.
     fn first_zero(&mut self, word: u64, count: u64) -> u64
-        requires inside { word + 16 * count ≤ 8 * (memory self.old).lines }
-        requires fits { word + 16 * count < 2 ^ 64 }
+        requires inside { word + SLOT_WORDS * count ≤ 8 * (memory self.old).lines }
+        requires fits { word + SLOT_WORDS * count < 2 ^ 64 }
         ensures value { IsFirstZero (view (memory self.old).cache) word count result }
         ensures same { memory self.new ≡ memory self.old };
 
@@ -68,12 +68,12 @@ pub trait Lines {
 
 /// How many of `count` words, two lines apart from `word` on, come before the first that is 0.
 pub fn first_zero_of(cache: &Cache, word: u64, count: u64) -> u64
-    requires inside { word + 16 * count ≤ 8 * length cache.now }
-    requires fits { word + 16 * count < 2 ^ 64 }
+    requires inside { word + SLOT_WORDS * count ≤ 8 * length cache.now }
+    requires fits { word + SLOT_WORDS * count < 2 ^ 64 }
     ensures { IsFirstZero (view (memory_from cache.now).cache) word count result }
 {
     for n in 0..count {
-        if cache.load(word + 16 * n) == 0 {
+        if cache.load(word + SLOT_WORDS * n) == 0 {
             return n;
         }
     }

@@ -1,6 +1,7 @@
 -- Numbers that follow from a pool's sizes: N slots, C records, R root words.
 use Rattle.std.specs.Prelude.{ℕ, ◌+◌, ◌-◌, ◌*◌, ◌/◌}
 use Rattle.pool_layout.specs.declared.limits.Sizes.{Sizes}
+use Rattle.cache_model.specs.declared.slot.TheConstants.{SLOT_WORDS}
 
 -- RL, the number of lines that hold the root words: R divided by 8, rounded up
 abbrev pub root_lines : Sizes → ℕ
@@ -16,8 +17,8 @@ heap_start s = 8 * (6 + s.records)
 
 -- the number of heap words: 8 RL + 16 N
 abbrev pub heap_words : Sizes → ℕ
-heap_words s = 8 * root_lines s + 16 * s.slots
+heap_words s = 8 * root_lines s + SLOT_WORDS * s.slots
 
 -- the heap word where a slot begins; slots are counted from 1
 abbrev pub slot_word : Sizes → ℕ → ℕ
-slot_word s slot = 8 * root_lines s + 16 * (slot - 1)
+slot_word s slot = 8 * root_lines s + SLOT_WORDS * (slot - 1)

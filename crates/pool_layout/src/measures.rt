@@ -4,6 +4,7 @@ ghost use Rattle.std.specs.Prelude.{◌≡◌, ◌≤◌};
 ghost use Rattle.pool_layout.specs.Sizes as sizes_of;
 
 use crate::limits::Sizes;
+use cache_model::SLOT_WORDS;
 
 /// The number of lines, of eight words each, of the pool.
 pub fn pool_lines(sizes: &Sizes) -> u64
@@ -23,7 +24,7 @@ pub fn heap_start(sizes: &Sizes) -> u64
 pub fn heap_words(sizes: &Sizes) -> u64
     ensures { result ≡ sizes_of.heap_words sizes.now }
 {
-    8 * root_lines(sizes) + 16 * sizes.slots()
+    8 * root_lines(sizes) + SLOT_WORDS * sizes.slots()
 }
 
 /// The heap word where a slot begins, which is its header. Slots are counted from 1.
@@ -32,7 +33,7 @@ pub fn slot_word(sizes: &Sizes, slot: u64) -> u64
     requires last { slot ≤ sizes.now.slots }
     ensures { result ≡ sizes_of.slot_word sizes.now slot }
 {
-    8 * root_lines(sizes) + 16 * (slot - 1)
+    8 * root_lines(sizes) + SLOT_WORDS * (slot - 1)
 }
 
 fn root_lines(sizes: &Sizes) -> u64

@@ -9,11 +9,12 @@ use Rattle.pm_machine.specs.declared.effect.End.TheVariants.{Halted, Trapped}
 use Rattle.pm_machine.specs.Inputs.{IsInput, IsOverwritten}
 use Rattle.crash_law.specs.Due as due
 use Rattle.crash_law.specs.Effects as past
+use Rattle.cache_model.specs.declared.slot.TheConstants.{SLOT_WORDS}
 
 -- the loads of n headers from word w on, followed by these effects
 abbrev pub headers_before : (w n : ℕ) → List past.Effect → List past.Effect
 headers_before w zero es = es
-headers_before w (suc n) es = past.Loads w ∷ headers_before (w + 16) n es
+headers_before w (suc n) es = past.Loads w ∷ headers_before (w + SLOT_WORDS) n es
 
 -- an effect, followed by these
 abbrev pub seen_before : Effect → List past.Effect → List past.Effect

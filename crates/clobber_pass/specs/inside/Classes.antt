@@ -14,6 +14,7 @@ use Rattle.ir.specs.Derived.{Flows}
 use Rattle.clobber_pass.specs.declared.topic.StructField.{StructField}
 use Rattle.clobber_pass.specs.declared.classes.Stored.{Stored}
 use Rattle.clobber_pass.specs.inside.Marking.{says}
+use Rattle.clobber_pass.specs.declared.topic.TheConstants.{TOPIC_FIELDS}
 
 -- the item is in the list
 pub record Has {T : Type 0} (items : List T) (item : T) : Type 0 where
@@ -26,7 +27,7 @@ pub record Keeps {T : Type 0} (items new : List T) : Type 0 where
 
 -- the class of a target is in the lists
 abbrev pub HasTarget : Stored → Target → Type 0
-HasTarget stored (Root y i) = Has stored.roots (y - y % 16)
+HasTarget stored (Root y i) = Has stored.roots (y - y % TOPIC_FIELDS)
 HasTarget stored (Field b t y i) = Has stored.fields (record { kind = t; field = y })
 
 pub record KeepsStored (stored new : Stored) : Type 0 where
@@ -53,10 +54,11 @@ pub record TargetMarked (functions : List IrFunction) (table : List (List ℕ)) 
       → Flows functions f p (unwritten target) → Flows functions f p (read_fact target)
       → says table false f p ≡ true
 
--- the same for 16 fields of the root, and for a field of a struct
+-- the same for a topic of fields of the root, and for a field of a struct
 pub record RootMarked (functions : List IrFunction) (table : List (List ℕ)) (first : ℕ) :
     Type 0 where
-  pub each : (y : ℕ) (i : Option ℕ) → y - y % 16 ≡ first → TargetMarked functions table (Root y i)
+  pub each : (y : ℕ) (i : Option ℕ) → y - y % TOPIC_FIELDS ≡ first
+      → TargetMarked functions table (Root y i)
 
 pub record FieldMarked (functions : List IrFunction) (table : List (List ℕ)) (c : StructField) :
     Type 0 where
@@ -71,10 +73,11 @@ pub record FieldsMarked (functions : List IrFunction) (fields : List StructField
     (table : List (List ℕ)) : Type 0 where
   pub each : (c : StructField) → Has fields c → FieldMarked functions table c
 
--- the same for the first 16 of a list
+-- the same for the first topic of a list
 pub record TopicMarked (functions : List IrFunction) (all : List StructField)
     (table : List (List ℕ)) : Type 0 where
-  pub each : (c : StructField) (has : Has all c) → has.at < 16 → FieldMarked functions table c
+  pub each : (c : StructField) (has : Has all c) → has.at < TOPIC_FIELDS
+      → FieldMarked functions table c
 
 -- the same for those of a list that aren't left
 pub record OthersMarked (functions : List IrFunction) (fields left : List StructField)

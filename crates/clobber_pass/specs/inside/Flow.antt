@@ -15,6 +15,7 @@ use Rattle.clobber_pass.specs.inside.Told.{row_width, registers_at}
 use Rattle.clobber_pass.specs.Sweep.{row_in}
 use Rattle.clobber_pass.specs.inside.Sweep.{exits_of, next_row, join_in, row_or}
 use Rattle.clobber_pass.specs.inside.Closed.{Closed, Made, Within, entry_row}
+use Rattle.clobber_pass.specs.declared.topic.TheConstants.{TOPIC_FIELDS}
 
 -- a parameter has what its argument has; any other register has what the walk itself has
 abbrev pub argument_word : List ℕ → Option ℕ → ℕ
@@ -64,10 +65,10 @@ AllBrought functions topic exits rows entries row p (i ∷ is) =
     × AllBrought functions topic exits rows entries
     (next_row topic exits i (row_or (row_in rows p) row)) (p + 1) is
 
--- what entries record is derived, for each of a topic's 16 bits
+-- what entries record is derived, for each of a topic's bits
 pub record SoundEntries (functions : List IrFunction) (topic : Topic) (entries : List (List ℕ)) :
     Type 0 where
-  pub flows : (x f : ℕ) (b : Fact) → x < 16 → is_about (class_at topic x) b ≡ true
+  pub flows : (x f : ℕ) (b : Fact) → x < TOPIC_FIELDS → is_about (class_at topic x) b ≡ true
       → tells (row_in entries f) x (slot b) ≡ true → Flows functions f 0 b
 
 pub record ShapedEntries (functions : List IrFunction) (topic : Topic) (entries : List (List ℕ)) :

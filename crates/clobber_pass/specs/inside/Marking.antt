@@ -23,6 +23,7 @@ use Rattle.clobber_pass.specs.inside.Row.{mask, fields_mask}
 use Rattle.clobber_pass.specs.Sweep.{row_in}
 use Rattle.clobber_pass.specs.inside.Sweep.{next_row, row_or}
 use Rattle.clobber_pass.specs.inside.Closed.{Within}
+use Rattle.clobber_pass.specs.declared.topic.TheConstants.{TOPIC_FIELDS}
 
 -- two words and a mask have a bit in common
 unfoldable pub meets : ℕ → ℕ → ℕ → Bool
@@ -118,10 +119,10 @@ pub record ShapedMarks (functions : List IrFunction) (table : List (List ℕ)) :
 pub record Headers (functions : List IrFunction) (table : List (List ℕ)) : Type 0 where
   pub marked : (f p : ℕ) → WritesHeader functions f p → says table false f p ≡ true
 
--- one of the topic's 16 bits stands for the target's class
+-- one of the topic's bits stands for the target's class
 pub record Covers (topic : Topic) (target : Target) : Type 0 where
   pub x : ℕ
-  pub few : x < 16
+  pub few : x < TOPIC_FIELDS
   pub bare : is_about (class_at topic x) (unwritten target) ≡ true
   pub before : is_about (class_at topic x) (read_fact target) ≡ true
 

@@ -14,15 +14,16 @@ use Rattle.clobber_pass.specs.declared.topic.Topic.{Topic}
 use Rattle.clobber_pass.specs.declared.topic.Topic.TheVariants.{Frees, Root as Roots}
 use Rattle.clobber_pass.specs.declared.topic.Topic.TheVariants.{Fields}
 use Rattle.clobber_pass.specs.Row.{word}
+use Rattle.clobber_pass.specs.declared.topic.TheConstants.{TOPIC_FIELDS}
 
 -- the bit of a field, counted from the first field of a topic
 unfoldable pub mask : ℕ → ℕ → ℕ
 mask first field = if nat_lt field first then 0
-    else (if nat_lt (field - first) 16 then 2 ^ (field - first) else 0)
+    else (if nat_lt (field - first) TOPIC_FIELDS then 2 ^ (field - first) else 0)
 
 -- the bit of a place in a topic
 unfoldable pub place_bit : ℕ → ℕ
-place_bit x = if nat_lt x 16 then 2 ^ x else 0
+place_bit x = if nat_lt x TOPIC_FIELDS then 2 ^ x else 0
 
 abbrev pub names_field : StructField → ℕ → ℕ → Bool
 names_field c t y = (c.kind == t) && (c.field == y)

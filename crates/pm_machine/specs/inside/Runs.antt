@@ -11,6 +11,7 @@ use Rattle.pm_machine.specs.declared.silent.Reached.{Reached}
 use Rattle.pm_machine.specs.Effects.{records_past}
 use Rattle.pm_machine.specs.Machine.{State, StepOutcome, Goes, Ends}
 use Rattle.pm_machine.specs.Runs.{AreLines, Due, due}
+use Rattle.cache_model.specs.declared.slot.TheConstants.{SLOT_WORDS}
 
 abbrev pub IsStore : Effect → Type 0
 IsStore (Stores w x) = Unit {0}
@@ -25,7 +26,7 @@ IsStore Quiet = ⊥
 -- of them written
 abbrev pub IsInRange : (C H n : ℕ) → Effect → Type 0
 IsInRange C H n (Loads w) = w < H
-IsInRange C H n (Scans w m) = w + 16 * m ≤ H
+IsInRange C H n (Scans w m) = w + SLOT_WORDS * m ≤ H
 IsInRange C H n (Stores w x) = w < H
 IsInRange C H n (Logs w) = (w < H) × (n < C)
 IsInRange C H n (Flushes l) = 8 * l < H
