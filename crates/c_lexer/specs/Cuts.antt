@@ -14,6 +14,7 @@ use Rattle.c_lexer.specs.declared.token.Token.{Token}
 use Rattle.c_lexer.specs.Next.{next_piece}
 use Rattle.c_lexer.specs.Spots.{text_start, past_byte}
 use Rattle.c_lexer.specs.TokenList.{Tokens}
+use Rattle.c_lexer.specs.declared.scan.TheConstants.{MOST_BYTES, MOST_TOKENS}
 
 -- the end of a text: its line, and the number of bytes before it
 pub record TextEnd : Type 0 where
@@ -59,8 +60,8 @@ Cuts text list =
 
 -- the limits: 262,144 bytes and 16,384 tokens
 pub record IsWithinLimits (text : List ℕ) (list : Tokens) : Type 0 where
-  pub bytes : length text ≤ 262144
-  pub count : length list.tokens ≤ 16384
+  pub bytes : length text ≤ MOST_BYTES
+  pub count : length list.tokens ≤ MOST_TOKENS
 
 -- the answer: too many bytes are refused before all else, and the 16,385th token is refused where
 -- it begins
@@ -70,7 +71,8 @@ lex_answer tokens (Ok end) =
 lex_answer tokens (Err fault) = Err fault
 
 abbrev pub limited : Cut → Result Tokens LexFault
-limited c = if nat_lt 16384 (length c.tokens) then Err TooLong else lex_answer c.tokens c.ending
+limited c = if nat_lt MOST_TOKENS (length c.tokens) then Err TooLong
+    else lex_answer c.tokens c.ending
 
 abbrev pub answer : List ℕ → Result Tokens LexFault
-answer text = if nat_lt 262144 (length text) then Err TooLong else limited (cut text)
+answer text = if nat_lt MOST_BYTES (length text) then Err TooLong else limited (cut text)

@@ -17,5 +17,5 @@ mod word;
 
 pub use fault::LexFault;
 pub use list::TokenList;
-pub use scan::tokens;
+pub use scan::{MOST_BYTES, MOST_TOKENS, tokens};
 pub use token::{Mark, Placed, Token, Word};

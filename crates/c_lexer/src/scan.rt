@@ -16,17 +16,17 @@ use crate::token::{Placed, Token};
 use std::alloc::Global;
 
 /// The most bytes that a text may have.
-const MOST_BYTES: usize = 262_144;
+pub const MOST_BYTES: usize = 262_144;
 
 /// The most tokens that a text may have.
-const MOST_TOKENS: usize = 16_384;
+pub const MOST_TOKENS: usize = 16_384;
 
 /// Appends one more token, if there is room.
 fn keep(all: &mut Vec<Placed>, token: Token, spot: Spot) -> Result<(), LexFault>
     ensures ok { OnOk result (all.new.items ≡ all.old.items ++ placed_at spot token ∷ []) }
-    ensures room { OnOk result (length all.old.items < 16384) }
+    ensures room { OnOk result (length all.old.items < MOST_TOKENS) }
     ensures err { IfErr result (λ fault. (fault ≡ LexFault.NoMemory)
-        ⊎ ((fault ≡ LexFault.TooLong) × (16384 ≤ length all.old.items))) }
+        ⊎ ((fault ≡ LexFault.TooLong) × (MOST_TOKENS ≤ length all.old.items))) }
 {
     if all.len() >= MOST_TOKENS {
         return Err(LexFault::TooLong);
@@ -66,7 +66,7 @@ fn take(all: &mut Vec<Placed>, piece: Piece, spot: Spot) -> Result<usize, LexFau
 
 /// The tokens of a text that isn't longer than the limit.
 fn scan(alloc: Global, text: &[u8]) -> Result<TokenList, LexFault>
-    requires { length text.now ≤ 262144 }
+    requires { length text.now ≤ MOST_BYTES }
     ensures exact { (result ≡ Err LexFault.NoMemory) ⊎ (result ≡ limited (cut text.now)) }
 {
     let mut all = Vec::new(alloc);

@@ -14,6 +14,7 @@ use Rattle.cnvm_compile.specs.Told.{told_of}
 use Rattle.cnvm_compile.specs.declared.asked.Asked.{Asked}
 use Rattle.cnvm_cli.specs.declared.refused.Refused.{Refused}
 use Rattle.cnvm_cli.specs.declared.refused.Refused.TheVariants as refused
+use Rattle.cnvm_script.specs.declared.read.TheConstants.{SCRIPT_BYTES}
 
 abbrev pub refused_by : Told → Refused
 refused_by told.Long = refused.LongProgram
@@ -39,17 +40,17 @@ IsAccepted asked text = (compiled : Compiled) × IsCompiled asked text compiled
 
 -- a script has at most 1,048,576 bytes
 abbrev pub IsLongScript : List ℕ → Type 0
-IsLongScript script = 1048576 < length script
+IsLongScript script = SCRIPT_BYTES < length script
 
 -- the commands of a text, or the number of its first bad line
 abbrev pub Grammar : Type 0 → Type 0
 Grammar C = List ℕ → Result (List C) ℕ
 
 abbrev pub IsBadIn : {C : Type 0} → Grammar C → ℕ → List ℕ → Type 0
-IsBadIn means number script = (length script ≤ 1048576) × (means script ≡ Err number)
+IsBadIn means number script = (length script ≤ SCRIPT_BYTES) × (means script ≡ Err number)
 
 abbrev pub SpellsIn : {C : Type 0} → Grammar C → List C → List ℕ → Type 0
-SpellsIn means commands script = (length script ≤ 1048576) × (means script ≡ Ok commands)
+SpellsIn means commands script = (length script ≤ SCRIPT_BYTES) × (means script ≡ Ok commands)
 
 abbrev pub HasCommands : List Command → List ℕ → Type 0
 HasCommands commands script = SpellsIn script_meaning commands script

@@ -9,18 +9,13 @@ ghost use Rattle.cnvm_cli.specs.inside.Opened.{ImageIs, ImageReadAs};
 ghost use Rattle.cnvm_cli.specs.inside.Texts.{TextIs, ProgramReadAs, ScriptReadAs};
 
 use crate::refused::Refused;
+use c_lexer::MOST_BYTES;
 use cnvm_compile::{Asked, Compiled, Told, compile, told_of};
-use cnvm_script::{Script, ScriptFault, read_script};
+use cnvm_script::{SCRIPT_BYTES, Script, ScriptFault, read_script};
 use cnvm_session::Program;
 use nvm_base::{Bytes, ReadAllFault, Source, UpToFault, Words, read_all, read_up_to};
 use pool_layout::{ImageFault, pool_lines, read_image};
 use std::alloc::Global;
-
-/// The most bytes of a program's text.
-const PROGRAM_LIMIT: usize = 262144;
-
-/// The most bytes of a script.
-pub(crate) const SCRIPT_LIMIT: usize = 1048576;
 
 /// All bytes of the source, if they are within the limit.
 pub(crate) fn read_text<S: Source>(
@@ -51,7 +46,7 @@ pub(crate) fn read_program<S: Source>(
     ensures usage { IsErrOf result Refused.Usage → ⊥ }
     ensures device { IsErrOf result Refused.Device → ⊥ }
 {
-    let text = match read_text(alloc, source, PROGRAM_LIMIT) {
+    let text = match read_text(alloc, source, MOST_BYTES) {
         Ok(text) => text,
         Err(ReadAllFault::ReadFault) => return Err(Refused::ReadFault),
         Err(ReadAllFault::Long) => return Err(Refused::LongProgram),
@@ -95,7 +90,7 @@ pub(crate) fn read_commands<T: Source>(alloc: Global, source: &mut T) -> Result<
     ensures usage { IsErrOf result Refused.Usage → ⊥ }
     ensures device { IsErrOf result Refused.Device → ⊥ }
 {
-    let text = match read_text(alloc, source, SCRIPT_LIMIT) {
+    let text = match read_text(alloc, source, SCRIPT_BYTES) {
         Ok(text) => text,
         Err(ReadAllFault::ReadFault) => return Err(Refused::ReadFault),
         Err(ReadAllFault::Long) => return Err(Refused::LongScript),
@@ -106,7 +101,7 @@ pub(crate) fn read_commands<T: Source>(alloc: Global, source: &mut T) -> Result<
 
 /// The commands of a script's text.
 fn commands_of(alloc: Global, text: &[u8]) -> Result<Script, Refused>
-    requires { length text.now ≤ 1048576 }
+    requires { length text.now ≤ SCRIPT_BYTES }
     ensures are { ScriptReadAs result (Some text.now) }
     ensures read { IsErrOf result Refused.ReadFault → ⊥ }
     ensures usage { IsErrOf result Refused.Usage → ⊥ }

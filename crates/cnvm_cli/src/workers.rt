@@ -8,11 +8,11 @@ ghost use Rattle.workers_script.specs.WorkersGrammar.{workers_script_meaning};
 ghost use Rattle.cnvm_cli.specs.inside.WorkersEnds.{WorkersRanAs, WorkersEnds};
 ghost use Rattle.cnvm_cli.specs.inside.Texts.{ReadIn};
 
-use crate::reading::{SCRIPT_LIMIT, read_program, read_text};
+use crate::reading::{read_program, read_text};
 use crate::refused::{Refused, refuse};
 use crate::world::World;
 use cnvm_compile::Asked;
-use cnvm_script::ScriptFault;
+use cnvm_script::{SCRIPT_BYTES, ScriptFault};
 use cnvm_session::Program;
 use nvm_base::{ReadAllFault, Sink, Source, Steps};
 use pmem::Pmem;
@@ -84,7 +84,7 @@ fn read_turns<T: Source>(alloc: Global, source: &mut T) -> Result<WorkersScript,
     ensures usage { IsErrOf result Refused.Usage → ⊥ }
     ensures device { IsErrOf result Refused.Device → ⊥ }
 {
-    let text = match read_text(alloc, source, SCRIPT_LIMIT) {
+    let text = match read_text(alloc, source, SCRIPT_BYTES) {
         Ok(text) => text,
         Err(ReadAllFault::ReadFault) => return Err(Refused::ReadFault),
         Err(ReadAllFault::Long) => return Err(Refused::LongScript),
@@ -95,7 +95,7 @@ fn read_turns<T: Source>(alloc: Global, source: &mut T) -> Result<WorkersScript,
 
 /// The commands of a script's text.
 fn turns_of(alloc: Global, text: &[u8]) -> Result<WorkersScript, Refused>
-    requires { length text.now ≤ 1048576 }
+    requires { length text.now ≤ SCRIPT_BYTES }
     ensures are { ReadIn workers_script_meaning result (Some text.now) }
     ensures read { IsErrOf result Refused.ReadFault → ⊥ }
     ensures usage { IsErrOf result Refused.Usage → ⊥ }

@@ -4,6 +4,7 @@ use Rattle.std.specs.Prelude.{◌&&◌, ◌||◌, Option, None, Some, Result, Ok
 use Rattle.std.specs.Prelude.{slice_index_or}
 use Rattle.cnvm_script.specs.Lines.{lines}
 use Rattle.plain_notes.specs.Head.{file_head, head_text}
+use Rattle.cnvm_script.specs.declared.read.TheConstants.{SCRIPT_BYTES}
 
 -- a blank or a tab, or a carriage return
 abbrev pub is_between_words : ℕ → Bool
@@ -36,7 +37,7 @@ long_script = codes "the script has more than 1048576 bytes"
 -- has the first bad line; one that is read has no message.
 pub data TellsScript {A : Type 0} (path text : List ℕ) (means : Result A ℕ)
     : Option (List ℕ) → Type 0 where
-  Long : (message : List ℕ) → 1048576 < length text → message ≡ file_head path long_script
+  Long : (message : List ℕ) → SCRIPT_BYTES < length text → message ≡ file_head path long_script
       → TellsScript path text means (Some message)
   AtLine : (message : List ℕ) (number : ℕ) → means ≡ Err number
       → TellsLine path text number message → TellsScript path text means (Some message)

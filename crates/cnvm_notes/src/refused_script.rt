@@ -8,14 +8,11 @@ ghost use Rattle.plain_notes.specs.Head.{file_head};
 ghost use Rattle.cnvm_notes.specs.RefusedLine.{begins_word, is_between_words, numbered_line};
 ghost use Rattle.cnvm_notes.specs.RefusedLine.{TellsLine, TellsScript, long_script};
 
-use cnvm_script::{ScriptFault, next_line, read_script};
+use cnvm_script::{SCRIPT_BYTES, ScriptFault, next_line, read_script};
 use command_notes::{of_line, of_workers_line};
 use plain_notes::{Place, Told, message_in_line, message_of_file};
 use std::alloc::{AllocError, Global};
 use workers_script::read_workers;
-
-/// The most bytes of a script.
-const BYTES: usize = 1_048_576;
 
 /// The message of a script's text, if it is refused. It begins with the path, the first bad line
 /// and the column of a word, but for a text that is too long.
@@ -24,7 +21,7 @@ pub fn script_note(alloc: Global, path: &str, text: &[u8]) -> Result<Option<Stri
     ensures tells { IfOk result (λ note. TellsScript path.now text.now (script_meaning text.now)
         (option_map string_bytes note)) }
 {
-    if text.len() > BYTES {
+    if text.len() > SCRIPT_BYTES {
         return Ok(Some(too_long(alloc, path)?));
     }
     match read_script(alloc, text) {
@@ -43,7 +40,7 @@ pub fn workers_note(alloc: Global, path: &str, text: &[u8]) -> Result<Option<Str
     ensures tells { IfOk result (λ note. TellsScript path.now text.now
         (workers_script_meaning text.now) (option_map string_bytes note)) }
 {
-    if text.len() > BYTES {
+    if text.len() > SCRIPT_BYTES {
         return Ok(Some(too_long(alloc, path)?));
     }
     match read_workers(alloc, text) {

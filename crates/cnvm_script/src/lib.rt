@@ -15,5 +15,5 @@ pub use command::{Command, Script};
 pub use cut::{next_line, words_of};
 pub use fault::{LineFault, ScriptFault};
 pub use number::numeral;
-pub use read::{is_word, read_call, read_event, read_line, read_power, read_script};
+pub use read::{SCRIPT_BYTES, is_word, read_call, read_event, read_line, read_power, read_script};
 pub use storm::Storm;

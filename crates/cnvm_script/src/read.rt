@@ -16,6 +16,9 @@ use cache_model::{Choice, Pick, Picks, Rest};
 use nvm_base::Words;
 use std::alloc::{AllocError, Global};
 
+/// The most bytes of a script that is run.
+pub const SCRIPT_BYTES: usize = 1_048_576;
+
 /// The commands of a script, in order. `BadLine` names the first line that isn't in the grammar.
 #[tactic(auto, using(crate::proofs::Scripts::after_nothing))]
 pub fn read_script(alloc: Global, bytes: &[u8]) -> Result<Script, ScriptFault>

@@ -9,10 +9,7 @@ ghost use Rattle.cnvm_session.specs.Unmade.{cause_of, IsUnmade};
 
 use pmem::events::{fence, flush, store};
 use pmem::{Pmem, PmemWork, Refusal};
-use pool_layout::{Sizes, pool_lines};
-
-/// The eight bytes `CNVMPOOL` as a word, the lowest byte first.
-const MAGIC: i64 = 5498700876356144707;
+use pool_layout::{Sizes, magic, pool_lines};
 
 /// Why a pool couldn't be created or opened.
 #[derive(Clone, Copy, Drop)]
@@ -36,7 +33,7 @@ impl StartFault {
 }
 
 /// Stores the words of the first line.
-#[tactic(auto, unfolding(args_log::specs::Created::sizes_events, pool_layout::specs::Bytes::word_from))]
+#[tactic(auto, unfolding(args_log::specs::Created::sizes_events))]
 fn store_sizes<P: PmemWork>(sizes: &Sizes, dev: &mut P) -> Result<(), Refusal>
     requires { 6 ≤ (P.device dev.old).lines }
     ensures done { OnOk result (PlaysAll (P.device dev.old) (sizes_events sizes.now)
@@ -45,7 +42,7 @@ fn store_sizes<P: PmemWork>(sizes: &Sizes, dev: &mut P) -> Result<(), Refusal>
         (P.device dev.new)) }
     ensures lines { (P.device dev.new).lines ≡ (P.device dev.old).lines }
 {
-    store(dev, 0, MAGIC)?;
+    store(dev, 0, magic())?;
     store(dev, 1, 2)?;
     store(dev, 2, sizes.slots() as i64)?;
     store(dev, 3, sizes.records() as i64)?;

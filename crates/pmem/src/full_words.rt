@@ -100,7 +100,7 @@ impl FullWords {
     fn search_chunk(&mut self, words: &[i64], known: u64, until: u64) -> u64
         requires inside { self.old.first + SLOT_WORDS * until ≤ length words.now }
         requires some { known < until }
-        requires chunk { until ≤ 128 * (known / 128 + 1) }
+        requires chunk { until ≤ CHUNK * (known / CHUNK + 1) }
         requires full { AreFull words.now self.old.first known }
         requires known { IsKnown words.now self.old }
         ensures first { self.new.first ≡ self.old.first }

@@ -180,8 +180,8 @@ fn needed(bytes: &[u8], wanted: &Wanted) -> u64
     8 * rules_for(bytes, wanted).layout.words()
 }
 
-/// The bytes `CNVMPOOL` as a word.
-fn magic() -> i64
+/// The first word of a pool: the bytes `CNVMPOOL`, the lowest byte first.
+pub fn magic() -> i64
     ensures { result ≡ magic }
 {
     word_in(b"CNVMPOOL", 0)

@@ -17,8 +17,9 @@ mod wanted;
 
 pub use bytes::image_bytes;
 pub use fingerprint::digest;
+pub use head::magic;
 pub use image_laws::{moved_law, opens_law, restored_law};
-pub use limits::Sizes;
+pub use limits::{NUMBER_LIMIT, Sizes};
 pub use measures::{heap_start, heap_words, pool_lines, slot_word};
 pub use places::{
     ARGUMENTS, ATTEMPT, DONE, FIRST_ARGUMENT, FUNCTION, HeapPlace, LAST, Layout, MARK, Place, SEAL,

@@ -3,6 +3,9 @@
 ghost use Rattle.std.specs.Prelude.{◌≡◌, IfSome, IfNone};
 ghost use Rattle.pool_layout.specs.Limits.{IsWithin, InLimits};
 
+/// A pool takes a call if its numbers of finished calls and of attempts are below this.
+pub const NUMBER_LIMIT: u64 = 1 << 62;
+
 /// The sizes of a pool, each within its limit: 1 to 65,535 slots, 1 to 4,096 log records, 1 to 512
 /// root words, and 1 to 1,000,000 ticks for a transaction.
 #[derive(Clone, Copy)]

@@ -9,7 +9,7 @@ ghost use Rattle.pool_layout.specs.inside.Content as inside_content;
 ghost use Rattle.pool_layout.specs.Image as image;
 
 use crate::bytes::word_in;
-use crate::limits::Sizes;
+use crate::limits::{NUMBER_LIMIT, Sizes};
 use crate::measures::{heap_words, slot_word};
 use crate::places::{Layout, Place, Version};
 use cache_model::SLOT_WORDS;
@@ -63,8 +63,8 @@ impl Rules {
         ensures { result ≡ content.breaks_rule self.now (bytes_are.word_in bytes.now) place }
     {
         match place {
-            Place::Done => !is_within(0, 1 << 62, self.word(bytes, Place::Done)),
-            Place::Attempt => !is_within(0, 1 << 62, self.word(bytes, Place::Attempt)),
+            Place::Done => !is_within(0, NUMBER_LIMIT, self.word(bytes, Place::Done)),
+            Place::Attempt => !is_within(0, NUMBER_LIMIT, self.word(bytes, Place::Attempt)),
             Place::Mark => !is_within(0, 8, self.word(bytes, Place::Mark)),
             Place::Argument(k) => self.breaks_argument(bytes, k),
             Place::Seal => self.layout.version == Version::First && self.is_sealed(bytes),

@@ -16,11 +16,8 @@ use crate::task::Task;
 use crate::window::first_line;
 use pmem::events::{fence, flush, store};
 use pmem::{Pmem, PmemWork, Refusal};
-use pool_layout::{Sizes, pool_lines};
+use pool_layout::{Sizes, magic, pool_lines};
 use std::alloc::{AllocError, Global};
-
-/// The eight bytes `CNVMPOOL` as a word, the lowest first.
-const MAGIC: i64 = 5498700876356144707;
 
 /// Stores in the compartment that begins at line `first`.
 fn put<P: PmemWork>(dev: &mut P, first: u64, word: u64, value: i64) -> Result<(), Refusal>
@@ -52,7 +49,7 @@ fn flush_in<P: PmemWork>(dev: &mut P, first: u64, line: u64) -> Result<(), Refus
 }
 
 /// The words of the first line.
-#[tactic(auto, unfolding(args_log::specs::Created::sizes_events, pool_layout::specs::Bytes::word_from))]
+#[tactic(auto, unfolding(args_log::specs::Created::sizes_events))]
 fn store_sizes<P: PmemWork>(sizes: &Sizes, first: u64, dev: &mut P) -> Result<(), Refusal>
     requires small { first ≤ 2 ^ 22 }
     requires lines { first + 6 ≤ (P.device dev.old).lines }
@@ -64,7 +61,7 @@ fn store_sizes<P: PmemWork>(sizes: &Sizes, first: u64, dev: &mut P) -> Result<()
         (P.device dev.new)) }
     ensures lines { (P.device dev.new).lines ≡ (P.device dev.old).lines }
 {
-    put(dev, first, 0, MAGIC)?;
+    put(dev, first, 0, magic())?;
     put(dev, first, 1, 2)?;
     put(dev, first, 2, sizes.slots() as i64)?;
     put(dev, first, 3, sizes.records() as i64)?;

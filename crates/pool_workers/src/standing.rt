@@ -10,20 +10,7 @@ ghost use Rattle.pool_workers.specs.Compartment.{first_line, cache_in};
 use crate::window::first_line;
 use pmem::PmemWork;
 use pool_layout::{ATTEMPT, DONE, MARK, Sizes};
-use tx_run::{Standing, marked_kind};
-
-/// The numbers of calls and attempts are below this.
-const NUMBERS: u64 = 4611686018427387904;
-
-/// Whether a word is a number from 0 to 2^62 - 1.
-fn is_number(word: i64) -> bool
-    ensures { result ≡ standing_law.is_number word }
-{
-    match u64::try_from(word) {
-        Ok(number) => number < NUMBERS,
-        Err(_) => false,
-    }
-}
+use tx_run::{Standing, is_number, marked_kind};
 
 /// A word of a compartment, counted from its first.
 fn load_at<P: PmemWork>(sizes: &Sizes, worker: u32, dev: &P, word: u64) -> Option<i64>

@@ -10,7 +10,7 @@ ghost use Rattle.c_types.specs.Fault.{breaks, refusal};
 
 use crate::syntax::syntax;
 use crate::typing::typing;
-use c_lexer::{LexFault, TokenList, tokens};
+use c_lexer::{LexFault, MOST_BYTES, TokenList, tokens};
 use c_parser::{ParseFault, parse};
 use c_tree::Ast;
 use c_types::{TypeFault, check};
@@ -88,9 +88,6 @@ fn number_told(alloc: Global, left: &[u8]) -> Result<Told, AllocError> {
     Told::new(alloc, what.as_str())?.with(alloc, note.as_str())
 }
 
-/// The most bytes of a program.
-const BYTES: usize = 262_144;
-
 #[tactic(auto, using(crate::proofs::Refusals::long))]
 fn too_long(alloc: Global, path: &str, text: &[u8]) -> Result<Option<String>, AllocError>
     requires { answer text.now ≡ Err LexFault.TooLong }
@@ -102,7 +99,7 @@ fn too_long(alloc: Global, path: &str, text: &[u8]) -> Result<Option<String>, Al
 
 /// What a text of this size has too many of.
 fn too_much(size: usize) -> &'static str {
-    if size > BYTES {
+    if size > MOST_BYTES {
         "the program has more than 262144 bytes"
     } else {
         "the program has more than 16384 tokens"

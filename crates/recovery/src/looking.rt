@@ -9,7 +9,7 @@ use args_log::{PendingAnswer, pending};
 use clobber_log::{attempt, count};
 use pm_machine::Image;
 use pmem::PmemWork;
-use pool_layout::{ARGUMENTS, MARK};
+use pool_layout::{ARGUMENTS, MARK, NUMBER_LIMIT};
 use pool_map::TrapKind;
 use tx_run::marked_kind;
 
@@ -31,9 +31,6 @@ pub enum Found {
         count: u64,
     },
 }
-
-/// The numbers of attempts are below this.
-const NUMBERS: u64 = 4611686018427387904;
 
 /// The content of the pool's argument record, if `count` records are valid.
 fn record<P: PmemWork>(image: &Image, dev: &P, count: u64) -> Found
@@ -79,7 +76,7 @@ pub fn look<P: PmemWork>(image: &Image, dev: &P) -> Found
     let Some(count) = count(image.sizes(), dev, attempt) else {
         return Found::Off;
     };
-    if count != 0 && attempt >= NUMBERS {
+    if count != 0 && attempt >= NUMBER_LIMIT {
         return Found::Numbers;
     }
     record(image, dev, count)

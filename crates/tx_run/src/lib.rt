@@ -12,4 +12,4 @@ mod standing;
 pub use answer::{CallAnswer, Settled};
 pub use calling::{call, call_with};
 pub use settling::settle;
-pub use standing::{Standing, assess, marked_kind};
+pub use standing::{Standing, assess, is_number, marked_kind};

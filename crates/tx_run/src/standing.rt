@@ -7,7 +7,7 @@ ghost use Rattle.pm_machine.specs.Machine.{trap_at};
 ghost use Rattle.tx_run.specs.Standing.{trap_of_mark, is_number, standing_of};
 
 use pmem::PmemWork;
-use pool_layout::{ATTEMPT, DONE, MARK};
+use pool_layout::{ATTEMPT, DONE, MARK, NUMBER_LIMIT};
 use pool_map::TrapKind;
 
 /// Whether a pool takes a call, according to its line 2.
@@ -40,18 +40,16 @@ fn kind_at(number: u32) -> TrapKind
     }
 }
 
-/// Whether a word is a number from 0 to 2^62 - 1.
-fn is_number(word: i64) -> bool
+/// Whether a word is a number from 0 to 2^62 - 1, as a pool that takes a call has for its finished
+/// calls and its attempt.
+pub fn is_number(word: i64) -> bool
     ensures { result ≡ is_number word }
 {
     match u64::try_from(word) {
-        Ok(number) => number < NUMBERS,
+        Ok(number) => number < NUMBER_LIMIT,
         Err(_) => false,
     }
 }
-
-/// The numbers of calls and attempts are below this.
-const NUMBERS: u64 = 4611686018427387904;
 
 /// Whether a pool takes a call: checks its mark, its number of finished calls and its attempt, in
 /// this order.
