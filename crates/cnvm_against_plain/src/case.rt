@@ -19,21 +19,31 @@ pub(crate) struct Before {
     pub(crate) value: i64,
 }
 
+/// What `show` and `last` answer of a pool.
+#[derive(Drop)]
+pub(crate) struct Shown {
+    pub(crate) pool: Text,
+    pub(crate) last: Text,
+}
+
+/// What a call answers, what a recovery that runs it again, and what one that finds its mark, which
+/// is empty where there is none.
+#[derive(Drop)]
+pub(crate) struct Answers {
+    pub(crate) call: Text,
+    redone: Text,
+    marked: Text,
+}
+
 /// What a call must answer and leave, as the interpreter says.
 #[derive(Drop)]
 pub(crate) struct Wanted {
     /// The call's number, one more than the number of transactions before it.
-    pub(crate) number: i64,
-    /// The answer of the call, and of a recovery that runs it again.
-    pub(crate) done: Text,
-    pub(crate) redone: Text,
-    /// The answer of a recovery that finds the mark, empty where there is none.
-    pub(crate) marked: Text,
-    /// What `show` and `last` answer after the call, and without it.
-    pub(crate) shown: Text,
-    pub(crate) last: Text,
-    pub(crate) shown_before: Text,
-    pub(crate) last_before: Text,
+    number: i64,
+    pub(crate) answers: Answers,
+    /// The pool after the call, and the one without it.
+    pub(crate) after: Shown,
+    before: Shown,
 }
 
 /// One call.
@@ -53,6 +63,20 @@ pub(crate) fn logged_of(answer: &Answer) -> u64 {
     match answer {
         Answer::Done { logged, .. } => *logged,
         _ => 0,
+    }
+}
+
+impl Before {
+    /// The number of the next call.
+    fn number(&self) -> i64 {
+        self.done.saturating_add(1)
+    }
+
+    /// What `show` and `last` answer of it, if this many transactions are done.
+    fn shown(&self, alloc: Global, done: i64) -> Result<Shown, AllocError> {
+        let pool = text_of(alloc, self.shown.as_str())?;
+        let last = last_line(alloc, done, self.value)?;
+        Ok(Shown { pool, last })
     }
 }
 
@@ -76,55 +100,76 @@ pub(crate) fn wanted_of(
     }
 }
 
+/// What is wanted with these answers, and this pool after the call.
+fn wanted_with(
+    alloc: Global,
+    before: &Before,
+    answers: Answers,
+    after: Shown,
+) -> Result<Wanted, AllocError> {
+    Ok(Wanted {
+        number: before.number(),
+        answers,
+        after,
+        before: before.shown(alloc, before.done)?,
+    })
+}
+
+/// The answers of a call that leaves no mark.
+fn answers_of(alloc: Global, call: &Answer, redone: &Answer) -> Result<Answers, AllocError> {
+    let call = answer_line(alloc, call)?;
+    let redone = answer_line(alloc, redone)?;
+    let marked = Text::new(alloc);
+    Ok(Answers {
+        call,
+        redone,
+        marked,
+    })
+}
+
 /// A call that ends with a value.
 fn ended(
     alloc: Global,
     before: &Before,
-    shown: Text,
+    pool: Text,
     value: i64,
     logged: u64,
 ) -> Result<Wanted, AllocError> {
-    let number = before.done.saturating_add(1);
-    Ok(Wanted {
-        number,
-        done: answer_line(alloc, &Answer::Done { value, logged })?,
-        redone: answer_line(alloc, &Answer::RecoveredRedone { value, logged })?,
-        marked: Text::new(alloc),
-        shown,
-        last: last_line(alloc, number, value)?,
-        shown_before: text_of(alloc, before.shown.as_str())?,
-        last_before: last_line(alloc, before.done, before.value)?,
-    })
+    let last = last_line(alloc, before.number(), value)?;
+    let after = Shown { pool, last };
+    let redone = Answer::RecoveredRedone { value, logged };
+    let answers = answers_of(alloc, &Answer::Done { value, logged }, &redone)?;
+    wanted_with(alloc, before, answers, after)
 }
 
 /// A call that traps.
 fn trapped(alloc: Global, before: &Before, kind: TrapKind) -> Result<Wanted, AllocError> {
-    let unusable = Answer::RefusedUnusable(kind);
-    Ok(Wanted {
-        number: before.done.saturating_add(1),
-        done: answer_line(alloc, &Answer::Trap(kind))?,
-        redone: answer_line(alloc, &Answer::RecoveredTrap(kind))?,
-        marked: answer_line(alloc, &unusable)?,
-        shown: answer_line(alloc, &unusable)?,
-        last: answer_line(alloc, &unusable)?,
-        shown_before: text_of(alloc, before.shown.as_str())?,
-        last_before: last_line(alloc, before.done, before.value)?,
-    })
+    let mut answers = answers_of(alloc, &Answer::Trap(kind), &Answer::RecoveredTrap(kind))?;
+    answers.marked = unusable(alloc, kind)?;
+    let after = unusable_pool(alloc, kind)?;
+    wanted_with(alloc, before, answers, after)
+}
+
+/// The answer of each command on a pool that is marked.
+fn unusable(alloc: Global, kind: TrapKind) -> Result<Text, AllocError> {
+    answer_line(alloc, &Answer::RefusedUnusable(kind))
+}
+
+fn unusable_pool(alloc: Global, kind: TrapKind) -> Result<Shown, AllocError> {
+    let pool = unusable(alloc, kind)?;
+    let last = unusable(alloc, kind)?;
+    Ok(Shown { pool, last })
 }
 
 /// A call that traps and is rolled back: the pool and the last value are those from before it.
 fn undone(alloc: Global, before: &Before, kind: TrapKind) -> Result<Wanted, AllocError> {
-    let number = before.done.saturating_add(1);
-    Ok(Wanted {
-        number,
-        done: answer_line(alloc, &Answer::Aborted(kind))?,
-        redone: answer_line(alloc, &Answer::RecoveredAborted(kind))?,
-        marked: Text::new(alloc),
-        shown: text_of(alloc, before.shown.as_str())?,
-        last: last_line(alloc, number, before.value)?,
-        shown_before: text_of(alloc, before.shown.as_str())?,
-        last_before: last_line(alloc, before.done, before.value)?,
-    })
+    let answers = answers_of(
+        alloc,
+        &Answer::Aborted(kind),
+        &Answer::RecoveredAborted(kind),
+    )?;
+    let after = before.shown(alloc, before.number())?;
+    wanted_with(alloc, before, answers, after)
 }
 
 /// The phase of a call that is cut after `at` events: the arguments and the function are stored,
@@ -156,9 +201,9 @@ impl Wanted {
     /// What the recovery of what the power cut left must answer.
     pub(crate) fn recovery(&self, left: Left) -> &str {
         if left.mark != 0 {
-            self.marked.as_str()
+            self.answers.marked.as_str()
         } else if left.seal == left.done.saturating_add(1) {
-            self.redone.as_str()
+            self.answers.redone.as_str()
         } else {
             "recovered none\n"
         }
@@ -167,18 +212,18 @@ impl Wanted {
     /// What `show` must then answer.
     pub(crate) fn shown(&self, left: Left) -> &str {
         if self.is_in(left) {
-            self.shown.as_str()
+            self.after.pool.as_str()
         } else {
-            self.shown_before.as_str()
+            self.before.pool.as_str()
         }
     }
 
     /// What `last` must then answer.
     pub(crate) fn last(&self, left: Left) -> &str {
         if self.is_in(left) {
-            self.last.as_str()
+            self.after.last.as_str()
         } else {
-            self.last_before.as_str()
+            self.before.last.as_str()
         }
     }
 }

@@ -90,22 +90,52 @@ fn cut<L: Ledger>(
     let Some(mut rig) = opened(alloc, case, place, tally, steps)? else {
         return Ok(false);
     };
-    rig.command(alloc, case.program, &Command::Stop(at), steps);
-    let answer = rig.command(alloc, case.program, case.call, steps);
-    let seen = answer_line(alloc, &answer)?;
+    cut_on(alloc, case, keeps, place, &mut rig, tally, steps)
+}
+
+/// The same, on the pool as it was before the call.
+fn cut_on<L: Ledger>(
+    alloc: Global,
+    case: Case,
+    keeps: Keeps,
+    place: Place,
+    rig: &mut Rig,
+    tally: &mut Tally,
+    steps: &mut Steps<L>,
+) -> Result<bool, AllocError> {
     let place = Place {
         what: "call",
         ..place
     };
-    if !matches!(&answer, Answer::Stopped(_)) {
-        tally.compare(alloc, place, case.wanted.done.as_str(), seen.as_str())?;
+    if !is_cut(alloc, case, place, rig, tally, steps)? {
         return Ok(false);
     }
-    let stopped = Answer::Stopped(phase_at(at, case.arguments));
+    leave(alloc, case, place.at, keeps, rig, steps)?;
+    settle(alloc, case, place, rig, tally, steps)?;
+    Ok(true)
+}
+
+/// Makes the call, whose power is to be cut, and compares its answer. The answer says whether the
+/// cut came.
+fn is_cut<L: Ledger>(
+    alloc: Global,
+    case: Case,
+    place: Place,
+    rig: &mut Rig,
+    tally: &mut Tally,
+    steps: &mut Steps<L>,
+) -> Result<bool, AllocError> {
+    rig.command(alloc, case.program, &Command::Stop(place.at), steps);
+    let answer = rig.command(alloc, case.program, case.call, steps);
+    let seen = answer_line(alloc, &answer)?;
+    if !matches!(&answer, Answer::Stopped(_)) {
+        let wanted = case.wanted.answers.call.as_str();
+        tally.compare(alloc, place, wanted, seen.as_str())?;
+        return Ok(false);
+    }
+    let stopped = Answer::Stopped(phase_at(place.at, case.arguments));
     let wanted = answer_line(alloc, &stopped)?;
     tally.compare(alloc, place, wanted.as_str(), seen.as_str())?;
-    leave(alloc, case, at, keeps, &mut rig, steps)?;
-    settle(alloc, case, place, &mut rig, tally, steps)?;
     Ok(true)
 }
 
@@ -211,18 +241,48 @@ pub(crate) fn compare_pool<L: Ledger>(
     steps: &mut Steps<L>,
 ) -> Result<(), AllocError> {
     let (shown, last) = wanted;
-    let answer = rig.command(alloc, case.program, &Command::Show, steps);
-    let seen = answer_line(alloc, &answer)?;
     let show_place = Place {
         what: "show",
         ..place
     };
-    tally.compare(alloc, show_place, shown, seen.as_str())?;
-    let answer = rig.command(alloc, case.program, &Command::Last, steps);
-    let seen = answer_line(alloc, &answer)?;
+    compare_answer(
+        alloc,
+        case,
+        show_place,
+        &Command::Show,
+        shown,
+        rig,
+        tally,
+        steps,
+    )?;
     let last_place = Place {
         what: "last",
         ..place
     };
-    tally.compare(alloc, last_place, last, seen.as_str())
+    compare_answer(
+        alloc,
+        case,
+        last_place,
+        &Command::Last,
+        last,
+        rig,
+        tally,
+        steps,
+    )
+}
+
+/// Compares the answer of a command.
+fn compare_answer<L: Ledger>(
+    alloc: Global,
+    case: Case,
+    place: Place,
+    command: &Command,
+    wanted: &str,
+    rig: &mut Rig,
+    tally: &mut Tally,
+    steps: &mut Steps<L>,
+) -> Result<(), AllocError> {
+    let answer = rig.command(alloc, case.program, command, steps);
+    let seen = answer_line(alloc, &answer)?;
+    tally.compare(alloc, place, wanted, seen.as_str())
 }

@@ -43,29 +43,53 @@ pub(crate) fn drive<L: Ledger>(
         refused(alloc, "script", &mut tally)?;
         return Ok(tally);
     };
-    let program = &compiled.program;
+    take_all(
+        alloc,
+        &compiled.program,
+        commands.as_slice(),
+        &mut tally,
+        steps,
+    )?;
+    Ok(tally)
+}
+
+/// Takes all commands of a script, on a new pool.
+fn take_all<L: Ledger>(
+    alloc: Global,
+    program: &Program,
+    script: &[Command],
+    tally: &mut Tally,
+    steps: &mut Steps<L>,
+) -> Result<(), AllocError> {
     let mut pool = Pool::empty(alloc, program.image.sizes().root_words(), SLOTS)?;
-    let Some(rig) = Rig::create(alloc, program) else {
-        return Err(AllocError);
-    };
-    let mut before = Before {
-        words: rig.words(alloc)?,
-        shown: pool_lines_of(alloc, program.typed.shapes(), &pool)?,
-        done: 0,
-        value: 0,
-    };
-    for command in commands.as_slice() {
+    let mut before = new_pool(alloc, program, &pool)?;
+    for command in script {
         step(
             alloc,
             program,
             command,
             &mut pool,
             &mut before,
-            &mut tally,
+            tally,
             steps,
         )?;
     }
-    Ok(tally)
+    Ok(())
+}
+
+/// A new pool, whose content is this one.
+fn new_pool(alloc: Global, program: &Program, pool: &Pool) -> Result<Before, AllocError> {
+    let Some(rig) = Rig::create(alloc, program) else {
+        return Err(AllocError);
+    };
+    let words = rig.words(alloc)?;
+    let shown = pool_lines_of(alloc, program.typed.shapes(), pool)?;
+    Ok(Before {
+        words,
+        shown,
+        done: 0,
+        value: 0,
+    })
 }
 
 pub(crate) fn refused(
@@ -160,6 +184,24 @@ fn compared<L: Ledger>(
     let Some((mut rig, _)) = Rig::open(alloc, program, before.words.as_slice(), steps) else {
         return Err(AllocError);
     };
+    compare_call(
+        alloc, program, call, before, plain, marked, &mut rig, tally, steps,
+    )?;
+    rig.words(alloc)
+}
+
+/// The same, and leaves the pool after the call.
+fn compare_call<L: Ledger>(
+    alloc: Global,
+    program: &Program,
+    call: &Command,
+    before: &Before,
+    plain: &PlainAnswer,
+    marked: bool,
+    rig: &mut Rig,
+    tally: &mut Tally,
+    steps: &mut Steps<L>,
+) -> Result<(), AllocError> {
     let answer = rig.command(alloc, program, call, steps);
     let wanted = wanted_of(alloc, program, before, plain, marked, logged_of(&answer))?;
     let case = Case {
@@ -170,9 +212,8 @@ fn compared<L: Ledger>(
         place: tally.begin(),
         wanted: &wanted,
     };
-    uncut(alloc, case, &answer, &mut rig, tally, steps)?;
-    cut_all(alloc, case, tally, steps)?;
-    rig.words(alloc)
+    uncut(alloc, case, &answer, rig, tally, steps)?;
+    cut_all(alloc, case, tally, steps)
 }
 
 /// Makes the call without a cut.
@@ -192,7 +233,7 @@ fn uncut<L: Ledger>(
     };
     let wanted = case.wanted;
     let seen = answer_line(alloc, answer)?;
-    tally.compare(alloc, place, wanted.done.as_str(), seen.as_str())?;
-    let pool = (wanted.shown.as_str(), wanted.last.as_str());
+    tally.compare(alloc, place, wanted.answers.call.as_str(), seen.as_str())?;
+    let pool = (wanted.after.pool.as_str(), wanted.after.last.as_str());
     compare_pool(alloc, case, place, pool, rig, tally, steps)
 }

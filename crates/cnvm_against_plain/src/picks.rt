@@ -15,29 +15,32 @@ pub(crate) fn rest_choice(alloc: Global, rest: Rest) -> Choice {
     }
 }
 
-/// Keeps versions in turn of the lines that have several: the k-th such line, counted from 0, keeps
-/// version `turn + k` modulo its number of versions.
-pub(crate) fn turning_choice(
-    alloc: Global,
-    dev: &SimPmem,
-    turn: u64,
-) -> Result<Choice, AllocError> {
-    let mut picks = Picks::new(alloc);
-    let mut next = turn;
-    for line in 0..dev.lines() {
-        let versions = dev.versions(line);
-        if versions > 1 {
-            picks.push(Pick {
-                line,
-                version: next % versions,
-            })?;
-            next = next.saturating_add(1);
+/// A device whose versions can be kept in turn.
+pub(crate) trait Turning {
+    /// Keeps versions in turn of the lines that have several: the k-th such line, counted from 0,
+    /// keeps version `turn + k` modulo its number of versions.
+    fn turning_choice(&self, alloc: Global, turn: u64) -> Result<Choice, AllocError>;
+}
+
+impl Turning for SimPmem {
+    fn turning_choice(&self, alloc: Global, turn: u64) -> Result<Choice, AllocError> {
+        let mut picks = Picks::new(alloc);
+        let mut next = turn;
+        for line in 0..self.lines() {
+            let versions = self.versions(line);
+            if versions > 1 {
+                picks.push(Pick {
+                    line,
+                    version: next % versions,
+                })?;
+                next = next.saturating_add(1);
+            }
         }
+        Ok(Choice {
+            rest: Rest::Old,
+            picks,
+        })
     }
-    Ok(Choice {
-        rest: Rest::Old,
-        picks,
-    })
 }
 
 /// Whether the lines of the picks rise.

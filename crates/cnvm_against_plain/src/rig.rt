@@ -1,6 +1,7 @@
 //! A session over a device in memory.
 
 use crate::picks;
+use crate::picks::Turning;
 use cache_model::{Choice, Rest};
 use cnvm_script::Command;
 use cnvm_session::{Answer, Program, Session, create, start_from};
@@ -83,7 +84,7 @@ impl Rig {
 
     /// The choice that keeps versions in turn.
     pub(crate) fn turning_choice(&self, alloc: Global, turn: u64) -> Result<Choice, AllocError> {
-        picks::turning_choice(alloc, &self.dev, turn)
+        self.dev.turning_choice(alloc, turn)
     }
 
     /// A word of the pool; 0 if it doesn't exist, and while the device is off.

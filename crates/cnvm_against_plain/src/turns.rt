@@ -10,7 +10,7 @@ use crate::crew::{
 };
 use crate::cuts::{Keeps, MOST_EVENTS};
 use crate::drive::{ASKED, refused};
-use crate::picks::{rest_choice, turning_choice};
+use crate::picks::{Turning, rest_choice};
 use crate::rig::Left;
 use crate::tally::{Place, Tally};
 use cache_model::{Choice, Rest};
@@ -21,7 +21,7 @@ use pmem::{Pmem, SimPmem};
 use std::alloc::{AllocError, Global};
 use std::sync::ledger::Ledger;
 use workers_script::{WorkerList, WorkersCommand, read_workers};
-use workers_session::{WorkersLine, WorkersSession};
+use workers_session::{WorkersLine, WorkersLines, WorkersSession};
 
 /// The orders of turns that are drawn.
 const ORDERS: u64 = 4;
@@ -98,7 +98,32 @@ fn compared<L: Ledger>(
 ) -> Result<(), AllocError> {
     let mut dev = SimPmem::new(alloc);
     let mut session = begun(alloc, program, script, &mut dev, steps)?;
-    let lines = give(alloc, program, turns, &mut session, &mut dev, steps)?;
+    compared_on(
+        alloc,
+        program,
+        script,
+        turns,
+        &mut session,
+        &mut dev,
+        tally,
+        steps,
+    )
+}
+
+/// The same, from the begin of each worker's last call.
+fn compared_on<P: Pmem + Drop, L: Ledger>(
+    alloc: Global,
+    program: &Program,
+    script: &[WorkersCommand],
+    turns: &WorkersCommand,
+    session: &mut WorkersSession,
+    dev: &mut P,
+    tally: &mut Tally,
+    steps: &mut Steps<L>,
+) -> Result<(), AllocError>
+    requires sound { IsReadyFor program.now.image session.old (P.device dev.old) }
+{
+    let lines = give(alloc, program, turns, session, dev, steps)?;
     let lines = lines.as_slice();
     let wanted = all_wanted(alloc, program, script, lines)?;
     let crew = Crew {
@@ -107,16 +132,7 @@ fn compared<L: Ledger>(
         wanted: wanted.as_slice(),
         first: begin_all(tally),
     };
-    uncut(
-        alloc,
-        program,
-        crew,
-        lines,
-        &mut session,
-        &mut dev,
-        tally,
-        steps,
-    )?;
+    uncut(alloc, program, crew, lines, session, dev, tally, steps)?;
     cut_all(alloc, program, crew, tally, steps)
 }
 
@@ -168,8 +184,8 @@ fn uncut<P: Pmem + Drop, L: Ledger>(
             what: "call",
         };
         let seen = own_text(alloc, lines, worker)?;
-        tally.compare(alloc, place, wanted.done.as_str(), seen.as_str())?;
-        let pool = (wanted.shown.as_str(), wanted.last.as_str());
+        tally.compare(alloc, place, wanted.answers.call.as_str(), seen.as_str())?;
+        let pool = (wanted.after.pool.as_str(), wanted.after.last.as_str());
         compare_pool(
             alloc, program, place, worker, pool, session, dev, tally, steps,
         )?;
@@ -193,34 +209,42 @@ fn compare_pool<P: Pmem + Drop, L: Ledger>(
     ensures sound { IsReadyFor program.now.image session.new (P.device dev.new) }
 {
     let (shown, last) = wanted;
-    let lines = give(
-        alloc,
-        program,
-        &WorkersCommand::Show(worker),
-        session,
-        dev,
-        steps,
-    )?;
-    let seen = first_text(alloc, lines.as_slice())?;
     let show_place = Place {
         what: "show",
         ..place
     };
-    tally.compare(alloc, show_place, shown, seen.as_str())?;
-    let lines = give(
-        alloc,
-        program,
-        &WorkersCommand::Last(worker),
-        session,
-        dev,
-        steps,
+    let show = WorkersCommand::Show(worker);
+    compare_answer(
+        alloc, program, show_place, &show, shown, session, dev, tally, steps,
     )?;
-    let seen = first_text(alloc, lines.as_slice())?;
     let last_place = Place {
         what: "last",
         ..place
     };
-    tally.compare(alloc, last_place, last, seen.as_str())
+    let command = WorkersCommand::Last(worker);
+    compare_answer(
+        alloc, program, last_place, &command, last, session, dev, tally, steps,
+    )
+}
+
+/// Compares the first line of a command's answer.
+fn compare_answer<P: Pmem + Drop, L: Ledger>(
+    alloc: Global,
+    program: &Program,
+    place: Place,
+    command: &WorkersCommand,
+    wanted: &str,
+    session: &mut WorkersSession,
+    dev: &mut P,
+    tally: &mut Tally,
+    steps: &mut Steps<L>,
+) -> Result<(), AllocError>
+    requires sound { IsReadyFor program.now.image session.old (P.device dev.old) }
+    ensures sound { IsReadyFor program.now.image session.new (P.device dev.new) }
+{
+    let lines = give(alloc, program, command, session, dev, steps)?;
+    let seen = first_text(alloc, lines.as_slice())?;
+    tally.compare(alloc, place, wanted, seen.as_str())
 }
 
 /// Cuts the calls after each number of their events.
@@ -270,21 +294,39 @@ fn cut<L: Ledger>(
 ) -> Result<bool, AllocError> {
     let mut dev = SimPmem::new(alloc);
     let mut session = begun(alloc, program, crew.script, &mut dev, steps)?;
-    give(
+    cut_on(
         alloc,
         program,
-        &WorkersCommand::Stop(at),
+        crew,
+        at,
+        keeps,
         &mut session,
         &mut dev,
+        tally,
         steps,
-    )?;
-    let lines = give(alloc, program, crew.turns, &mut session, &mut dev, steps)?;
+    )
+}
+
+/// The same, from the begin of each worker's last call.
+fn cut_on<P: Pmem + Turning + Drop, L: Ledger>(
+    alloc: Global,
+    program: &Program,
+    crew: Crew,
+    at: u64,
+    keeps: Keeps,
+    session: &mut WorkersSession,
+    dev: &mut P,
+    tally: &mut Tally,
+    steps: &mut Steps<L>,
+) -> Result<bool, AllocError>
+    requires sound { IsReadyFor program.now.image session.old (P.device dev.old) }
+{
+    let lines = lines_of(alloc, program, crew, at, session, dev, steps)?;
     let lines = lines.as_slice();
     if !is_stopped(lines) {
         return Ok(false);
     }
-    let choice = choice_of(alloc, at, keeps, &dev)?;
-    power(program, &choice, &session, &mut dev);
+    leave(alloc, program, at, keeps, session, dev)?;
     let place = Place {
         call: crew.first,
         at,
@@ -292,24 +334,56 @@ fn cut<L: Ledger>(
         what: "seal",
     };
     settle(
-        alloc,
-        program,
-        crew,
-        place,
-        lines,
-        &mut session,
-        &mut dev,
-        tally,
-        steps,
+        alloc, program, crew, place, lines, session, dev, tally, steps,
     )?;
     Ok(true)
 }
 
-fn choice_of(alloc: Global, at: u64, keeps: Keeps, dev: &SimPmem) -> Result<Choice, AllocError> {
+/// What the turns answer if power is cut after `at` events.
+fn lines_of<P: Pmem + Drop, L: Ledger>(
+    alloc: Global,
+    program: &Program,
+    crew: Crew,
+    at: u64,
+    session: &mut WorkersSession,
+    dev: &mut P,
+    steps: &mut Steps<L>,
+) -> Result<WorkersLines, AllocError>
+    requires sound { IsReadyFor program.now.image session.old (P.device dev.old) }
+    ensures sound { IsReadyFor program.now.image session.new (P.device dev.new) }
+{
+    let stop = WorkersCommand::Stop(at);
+    give(alloc, program, &stop, session, dev, steps)?;
+    give(alloc, program, crew.turns, session, dev, steps)
+}
+
+/// Gives power, with the versions that are to be kept.
+fn leave<P: Pmem + Turning>(
+    alloc: Global,
+    program: &Program,
+    at: u64,
+    keeps: Keeps,
+    session: &WorkersSession,
+    dev: &mut P,
+) -> Result<(), AllocError>
+    requires sound { IsReadyFor program.now.image session.now (P.device dev.old) }
+    ensures sound { IsReadyFor program.now.image session.now (P.device dev.new) }
+{
+    let choice = choice_of(alloc, at, keeps, dev)?;
+    power(program, &choice, session, dev);
+    Ok(())
+}
+
+fn choice_of<P: Turning>(
+    alloc: Global,
+    at: u64,
+    keeps: Keeps,
+    dev: &P,
+) -> Result<Choice, AllocError> {
     match keeps {
         Keeps::Old => Ok(rest_choice(alloc, Rest::Old)),
         Keeps::New => Ok(rest_choice(alloc, Rest::New)),
-        Keeps::Turning | Keeps::Twice => turning_choice(alloc, dev, at),
+        Keeps::Turning | Keeps::Twice => dev.turning_choice(alloc, at),
     }
 }
 
@@ -339,6 +413,36 @@ fn settle<P: Pmem + Drop, L: Ledger>(
     let all = all_left(alloc, program, dev)?;
     let again = WorkersCommand::Power(rest_choice(alloc, Rest::New));
     let recovered = give(alloc, program, &again, session, dev, steps)?;
+    let seen = (stopped, recovered.as_slice());
+    settle_all(
+        alloc,
+        program,
+        crew,
+        place,
+        all.as_slice(),
+        seen,
+        session,
+        dev,
+        tally,
+        steps,
+    )
+}
+
+/// Compares each compartment, by what the power cut left of it and what was answered.
+fn settle_all<P: Pmem + Drop, L: Ledger>(
+    alloc: Global,
+    program: &Program,
+    crew: Crew,
+    place: Place,
+    all: &[Left],
+    seen: (&[WorkersLine], &[WorkersLine]),
+    session: &mut WorkersSession,
+    dev: &mut P,
+    tally: &mut Tally,
+    steps: &mut Steps<L>,
+) -> Result<(), AllocError>
+    requires sound { IsReadyFor program.now.image session.old (P.device dev.old) }
+{
     for worker in 0..WORKERS {
         let Some(left) = all.get(worker as usize) else {
             return Err(AllocError);
@@ -350,7 +454,6 @@ fn settle<P: Pmem + Drop, L: Ledger>(
             call: crew.first.saturating_add(u64::from(worker)),
             ..place
         };
-        let seen = (stopped, recovered.as_slice());
         settle_one(
             alloc, program, wanted, place, worker, *left, seen, session, dev, tally, steps,
         )?;
