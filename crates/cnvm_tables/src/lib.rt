@@ -1,6 +1,5 @@
 //! Tables of runs in memory: devices that fail at each event, sources and sinks that fail at each
-//! byte, worked rows, two devices beside each other, and an image in another's place. It stands on
-//! cnvm_cli and holds nothing but tests.
+//! byte, and worked rows. It stands on cnvm_cli and holds nothing but tests.
 #![tactic(auto)]
 
 #[cfg(test)]
@@ -12,10 +11,6 @@ mod devices;
 #[cfg(test)]
 mod program;
 #[cfg(test)]
-mod rolled_back;
-#[cfg(test)]
 mod rows;
 #[cfg(test)]
 mod runs;
-#[cfg(test)]
-mod sessions;

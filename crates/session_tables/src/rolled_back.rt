@@ -4,7 +4,7 @@
 ghost use Rattle.std.specs.Prelude.{◌≡◌, ◌<◌};
 
 use crate::sessions::answers;
-use cnvm_cli::{Asked, compile};
+use cnvm_compile::{Asked, compile};
 use cnvm_session::Program;
 use nvm_base::Steps;
 use pmem::{SimPmem, SparsePmem};

@@ -2,8 +2,7 @@
 
 ghost use Rattle.std.specs.Prelude.{◌≡◌, ◌<◌};
 
-use crate::program::COUNTER;
-use cnvm_cli::{Asked, compile};
+use cnvm_compile::{Asked, compile};
 use cnvm_script::{Command, read_script};
 use cnvm_session::{Answer, Program, Session, answer_text, create};
 use nvm_base::{Steps, Text};
@@ -13,6 +12,10 @@ use std::alloc::{AllocError, Global};
 use std::marker::Brand;
 use std::sync::ledger::{Blank, Ledger};
 use std::test::Fail;
+
+/// A counter.
+const COUNTER: &str =
+    "struct R { int64_t n; };\npersistent struct R root;\ntx int64_t inc(int64_t d) { root.n = root.n + d; return root.n; }\n";
 
 /// What the programs are compiled for.
 const ASKED: Asked = Asked {
