@@ -14,8 +14,8 @@ use std::sync::ledger::{Blank, Ledger};
 use std::test::Fail;
 
 /// A counter.
-const COUNTER: &str =
-    "struct R { int64_t n; };\npersistent struct R root;\ntx int64_t inc(int64_t d) { root.n = root.n + d; return root.n; }\n";
+const COUNTER: &str = "struct R { int64_t n; };\npersistent struct R root;\n\
+     tx int64_t inc(int64_t d) { root.n = root.n + d; return root.n; }\n";
 
 /// What the programs are compiled for.
 const ASKED: Asked = Asked {
@@ -215,8 +215,8 @@ fn two_devices_answer_the_same(rt: HostRuntime) -> Result<(), Fail> {
 }
 
 /// The counter that subtracts.
-const DOWN: &str =
-    "struct R { int64_t n; };\npersistent struct R root;\ntx int64_t inc(int64_t d) { root.n = root.n - d; return root.n; }\n";
+const DOWN: &str = "struct R { int64_t n; };\npersistent struct R root;\n\
+     tx int64_t inc(int64_t d) { root.n = root.n - d; return root.n; }\n";
 
 /// The counter's program with the image of the other program.
 fn exchanged(alloc: Global) -> Option<Program> {
