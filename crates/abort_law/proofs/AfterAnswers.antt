@@ -21,6 +21,7 @@ use Rattle.pool_layout.specs.Log.{count}
 use Rattle.pool_layout.specs.Good.{Pool, Good}
 use Rattle.clobber_log.specs.Logs.{count_in}
 use Rattle.pm_machine.specs.declared.effect.Effect.{Effect}
+use Rattle.pool_map.specs.declared.trap.TrapKind.{TrapKind}
 use Rattle.pm_machine.specs.declared.effect.End.{End}
 use Rattle.pm_machine.specs.declared.effect.End.TheVariants.{Halted, Trapped}
 use Rattle.pm_machine.specs.declared.image.Image.{Image}
@@ -34,7 +35,7 @@ use Rattle.tx_run.specs.Due.{due_seal}
 use Rattle.cut_law.specs.Law.{call_of, pool_with}
 use Rattle.abort_mode.specs.declared.answer.AbortAnswer.{AbortAnswer}
 use Rattle.abort_mode.specs.declared.answer.AbortAnswer.TheVariants as answer
-use Rattle.undo_law.specs.Law.{IsOwed, IsReabortCut}
+use Rattle.abort_law.specs.Owing.{IsOwed}
 use Rattle.abort_mode.specs.Due.{abort_due_on, due_call, abort_due_redo}
 use Rattle.abort_mode.specs.Answers.{AbortCalled, AbortRedid}
 use Rattle.abort_law.specs.Machine.{mrun_marked}
@@ -182,16 +183,16 @@ module _ (image : Image) (super : Words) (tx : ℕ) (args : List ℤ) (d : ℕ) 
   abbrev LeftAs : ℤ → End → Words → Type 0
   LeftAs x e image = IsMarkedLeft pool call g (heap_end g es) x e image
 
-  last_is : (one : Words) → IsReabortCut pool call g last one →
+  last_is : (k : TrapKind) (one : Words) → LeftAs last (Trapped k) one →
       one (at (pool_of image.parts.sizes) Last) ≡ last
-  last_is one (inl still) = still.last_is
-  last_is one (inr undone) = undone.last_is
+  last_is k one (inl owed) = owed.last_is
+  last_is k one (inr undone) = undone.last_is
 
   move : (e : End) (one other : Words) → LeftAs last e one →
       LeftAs (one (at (pool_of image.parts.sizes) Last)) e other → LeftAs last e other
   move (Halted v) one other now then = then
   move (Trapped k) one other now then =
-      subst (λ (x : ℤ). IsReabortCut pool call g x other) (last_is one now) then
+      subst (λ (x : ℤ). LeftAs x (Trapped k) other) (last_is k one now) then
 
   recovered : (one other : Words) → LeftAs last end one →
       IsRolledBackTo image super tx args d g one other → LeftAs last end other

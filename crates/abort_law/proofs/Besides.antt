@@ -233,7 +233,7 @@ module _ (image : Image) where
       }
   due_done heap n s w (Some i) e = absurd (cc (e))
 
-  not_due : (heap : Words) (n : ℕ) (s t : State) (e : Effect) → step image n s heap ≡ Goes e t →
+  pub not_due : (heap : Words) (n : ℕ) (s t : State) (e : Effect) → step image n s heap ≡ Goes e t →
       ((w : ℕ) (x : ℤ) → e ≡ Stores w x → ⊥) → (o : Option ℕ) → due_store image s ≡ o → o ≡ None
   not_due heap n s t e is never None due = refl
   not_due heap n s t e is never (Some w) due =
@@ -243,7 +243,7 @@ module _ (image : Image) where
       goes_same : (e f : Effect) (t u : State) → Goes e t ≡ Goes f u → e ≡ f
       goes_same e f t u h = cc (h)
 
-  no_end_due : (heap : Words) (n : ℕ) (s : State) (q : End) → step image n s heap ≡ Ends q →
+  pub no_end_due : (heap : Words) (n : ℕ) (s : State) (q : End) → step image n s heap ≡ Ends q →
       (o : Option ℕ) → due_store image s ≡ o → o ≡ None
   no_end_due heap n s q is None due = refl
   no_end_due heap n s q is (Some w) due = let d = due_done heap n s w (fetch image s) due in
@@ -334,14 +334,14 @@ module _ (image : Image) where
   same_effect e f t u h = cc (h)
 
   -- with at least as many records a store is the same step
-  store_alike : (h : Words) (n m : ℕ) (s t : State) (w : ℕ) (x : ℤ) →
+  pub store_alike : (h : Words) (n m : ℕ) (s t : State) (w : ℕ) (x : ℤ) →
       step image n s h ≡ Goes (Stores w x) t → Alike (step image n s h) (step image m s h) →
       step image m s h ≡ Goes (Stores w x) t
   store_alike h n m s t w x is (Equal same) = same ∙ is
   store_alike h n m s t w x is (Filled v u log_is full) = let e : Stores w x ≡ Logs v =
       same_effect (Stores w x) (Logs v) t u (sym is ∙ log_is) in absurd (cc (e))
 
-  end_alike : (h : Words) (n m : ℕ) (s : State) (q : End) → step image n s h ≡ Ends q →
+  pub end_alike : (h : Words) (n m : ℕ) (s : State) (q : End) → step image n s h ≡ Ends q →
       Alike (step image n s h) (step image m s h) → step image m s h ≡ Ends q
   end_alike h n m s q is (Equal same) = same ∙ is
   end_alike h n m s q is (Filled v u log_is full) = absurd (cc (is, log_is))

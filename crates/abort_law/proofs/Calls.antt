@@ -31,7 +31,7 @@ use Rattle.pm_machine.specs.Machine.{State, Finished, start}
 use Rattle.pm_machine.specs.Runs.{heap_in, AreLines}
 use Rattle.crash_law.specs.Pools.{Call}
 use Rattle.crash_law.specs.Due as crash
-use Rattle.crash_law.specs.Law.{IsAtRest}
+use Rattle.crash_law.specs.Law.{IsAtRest, IsCut, KeepsLast}
 use Rattle.crash_law.proofs.Rest.{call_rest}
 use Rattle.run_law.specs.Seen.{trace_in}
 use Rattle.run_law.specs.Sound.{IsSoundRun}
@@ -41,7 +41,7 @@ use Rattle.tx_run.specs.Due.{due_seal}
 use Rattle.cut_law.specs.Law.{call_of, pool_with}
 use Rattle.cut_law.proofs.Misses.{Misses, view_missed, misses_seal, view_one}
 use Rattle.cut_law.proofs.Dues.{next_is}
-use Rattle.undo_law.specs.Undo.{IsMarkedTrace, no_records, due_undone, due_abort}
+use Rattle.abort_law.specs.Owing.{Every, IsMarkedTrace, result_by}
 use Rattle.abort_mode.specs.Due.{abort_due_on, due_call, run_steps}
 use Rattle.abort_law.specs.Machine.{run_marked, mrun_marked}
 use Rattle.abort_law.specs.Cuts.{IsTidyRun, IsMarkedEnd, IsMarkedCut}
@@ -49,9 +49,9 @@ use Rattle.abort_law.specs.Steps.{marked_steps}
 use Rattle.abort_law.proofs.Dues.{Owes}
 use Rattle.abort_law.proofs.Firsts.{run_good, run_marks}
 use Rattle.abort_law.proofs.Lists.{Holds, aborted_is, done_is, owes_of, steps_are}
-use Rattle.undo_law.proofs.Whole.{cut_abort}
-use Rattle.undo_law.proofs.MarkedCalls.{marked_call}
-use Rattle.undo_law.proofs.Rest.{abort_rest}
+use Rattle.abort_law.proofs.Owing.{owed_any, Stored, marked_run, keeps_by, retires_by}
+use Rattle.crash_law.proofs.Whole as whole
+use Rattle.cache_model.proofs.During.{during_more}
 
 -- the runner's records make a run sound
 pub marked_sound : (image : Image) (k : ℕ) (s : State) (heap : Words) (end : End)
@@ -127,7 +127,7 @@ module _ (image : Image) (super : Words) (tx : ℕ) (args : List ℤ) (c : Cache
   attempt : view sealed ATTEMPT ≡ pos a
   attempt = seen ATTEMPT (inl (omega arith)) ∙ good.attempt_is
 
-  none : Holds z a no_records sealed
+  none : Holds z a crash.no_records sealed
   none = record {
     room = omega arith;
     in_heap = λ j lt. absurd (omega arith);
@@ -168,8 +168,7 @@ module _ (image : Image) (super : Words) (tx : ℕ) (args : List ℤ) (c : Cache
       (next_is (view c DONE) d (view_one c one only DONE ∙ good.done) d_le)
 
   abbrev list : End → List CacheEvent
-  list (Halted v) = crash.due_call z a call h (crash.Halted v) (trace_in es)
-  list (Trapped k) = due_abort z a call h (trace_in es) last
+  list e = crash.due_call z a call h (result_by last e) (trace_in es)
 
   list_of : (e : End) → end ≡ e → due_call image tx args c ≡ list e
   unfolding due_call
@@ -184,9 +183,9 @@ module _ (image : Image) (super : Words) (tx : ℕ) (args : List ℤ) (c : Cache
       (aborted_is image s sealed d a h es d_le a_le done attempt none same_heap k
       (ran ∙ ap (λ (q : End). Finished q es) is) tt
       (subst (λ (q : End). IsSoundRun q es) is both.0) both.1
-      ∙ ap (λ (x : ℤ). due_undone z a (suc d) h (trace_in es) x)
+      ∙ ap (λ (x : ℤ). crash.due_run z a (suc d) h (crash.Undone x) (trace_in es))
       (seen LAST (inl (omega arith))))
-      ∙ sealed_is (due_undone z a (suc d) h (trace_in es) last)
+      ∙ sealed_is (crash.due_run z a (suc d) h (crash.Undone last) (trace_in es))
 
   abbrev Cuts : List CacheEvent → Words → End → Type 0
   Cuts events h' e =
@@ -197,15 +196,32 @@ module _ (image : Image) (super : Words) (tx : ℕ) (args : List ℤ) (c : Cache
   heap_is : heap_end h es ≡ crash.heap_after h (trace_in es)
   heap_is = (join z a h end es both.0.paired both.0.tidy).1
 
+  -- every word is restored
+  cut_any : (e : End) (image : Words) →
+      IsCut pool call Every (Stored (trace_in es)) h (crash.heap_after h (trace_in es)) last
+      (result_by last e) image →
+      IsMarkedCut pool call h (crash.heap_after h (trace_in es)) last e image
+  cut_any e image (inl before) = inl before
+  cut_any e image (inr (inl owed)) =
+      inr (inl (owed_any pool call (Stored (trace_in es)) Every h (KeepsLast (result_by last e))
+      (KeepsLast (result_by last e)) image (λ k. k) owed))
+  cut_any e image (inr (inr end)) = inr (inr end)
+
   cuts_of : (e : End) → Cuts (list e) (crash.heap_after h (trace_in es)) e
-  cuts_of (Halted v) =
-      let cut = marked_call pool call h v (trace_in es)
-      (omega arith) both.1 c one d_fits only good a_fits empty in
-      (cut.0, cut.1, λ rest. call_rest z a call h v (trace_in es) c rest)
-  cuts_of (Trapped k) =
-      let cut = cut_abort pool call h (trace_in es) d_fits (omega arith) both.1 c one only good
-      a_fits empty in
-      (cut.0, cut.1, λ rest. abort_rest z a call h (trace_in es) last c both.1 rest)
+  cuts_of e =
+      let run = marked_run pool (trace_in es) last e both.1 in
+      let cut = whole.cut_call pool call Every (Stored (trace_in es)) h (result_by last e)
+      (trace_in es) (omega arith) (omega arith) run last (keeps_by last e) c one refl only good a_le
+      empty in (
+        during_more c (list e)
+            (Images (IsCut pool call Every (Stored (trace_in es)) h
+            (crash.heap_after h (trace_in es)) last (result_by last e)))
+            (Images (IsMarkedCut pool call h (crash.heap_after h (trace_in es)) last e))
+            (λ b q image im. cut_any e image (q image im)) cut.0,
+        cut.1,
+        λ rest. call_rest pool Every (Stored (trace_in es)) (result_by last e) (trace_in es) run
+            (retires_by last e) a call h c rest,
+      )
 
   pub cut_marked : Cuts (due_call image tx args c) (heap_end h es) end
   cut_marked = subst (λ (g : Words). Cuts (due_call image tx args c) g end) (sym heap_is)

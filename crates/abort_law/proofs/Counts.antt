@@ -27,7 +27,7 @@ use Rattle.crash_law.specs.Due.{Entry, Plain, Logged, is_listed}
 use Rattle.crash_law.specs.Effects.{IsPaired, trace_of}
 use Rattle.crash_law.specs.Effects as past
 use Rattle.run_law.specs.Seen.{headers_before, seen_all}
-use Rattle.undo_law.specs.Undo.{Records, with_record, records_after}
+use Rattle.crash_law.specs.Due.{Records, with_record, records_after}
 use Rattle.abort_mode.specs.Runs.{append_events, events_before, stepping, full, turning, due_marked}
 use Rattle.abort_mode.specs.Due.{abort_due_on}
 use Rattle.abort_law.specs.Machine.{logged_past, missing, stepped, turned, run_marked}

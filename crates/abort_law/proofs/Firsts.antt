@@ -26,7 +26,7 @@ use Rattle.crash_law.specs.Effects.{IsOverwritten, IsLoggedFirst, logs_of}
 use Rattle.crash_law.proofs.Effects.{trace_from}
 use Rattle.run_law.specs.Seen.{seen_all, trace_in}
 use Rattle.run_law.specs.Sound.{IsPairedRun}
-use Rattle.undo_law.specs.Undo.{Every, IsMarkedTrace}
+use Rattle.abort_law.specs.Owing.{Every, IsMarkedTrace}
 use Rattle.run_law.proofs.Headers.{headers_over, logs_headers, first_headers}
 use Rattle.abort_law.specs.Machine.{logged_past, missing, stepped, turned, run_marked}
 use Rattle.abort_law.proofs.Marks.{step_stores, stored_below, length_past}

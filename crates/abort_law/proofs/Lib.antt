@@ -1,3 +1,4 @@
+pub mod Owing
 pub mod Marks
 pub mod Dues
 pub mod Firsts
@@ -8,6 +9,6 @@ pub mod Calls
 pub mod Redoes
 pub mod AfterAnswers
 pub mod Taken
-pub mod Appended
 pub mod Rollbacks
 pub mod FaultCounts
+pub mod Exact

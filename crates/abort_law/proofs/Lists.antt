@@ -39,9 +39,8 @@ use Rattle.run_law.proofs.Runs.{due_run_is}
 use Rattle.cut_law.proofs.Misses.{view_missed, misses_run}
 use Rattle.cut_law.proofs.Dues.{next_is, attempt_small}
 use Rattle.cut_law.proofs.Backs.{misses_restore, restore_same}
-use Rattle.undo_law.specs.Undo.{Every, IsMarkedTrace, Records, no_records, with_record}
-use Rattle.undo_law.specs.Undo.{records_after}
-use Rattle.undo_law.specs.Undo.{undo_events, due_undone}
+use Rattle.crash_law.specs.Due.{Records, no_records, with_record, records_after, undo_events}
+use Rattle.abort_law.specs.Owing.{Every, IsMarkedTrace}
 use Rattle.abort_mode.specs.Due.{abort_due_on, retiring, due_undo, abort_tail_events, due_run}
 use Rattle.abort_mode.specs.Due.{tail_steps, run_steps}
 use Rattle.abort_law.specs.Machine.{run_marked}
@@ -309,7 +308,7 @@ module _ (image : Image) (s : State) (c : Cache) (d a : ℕ) (g : Words) (es : L
   pub aborted_is : (k : TrapKind) →
       run_marked image image.parts.most [] s g ≡ Finished (Trapped k) es →
       AreLines (heap_words z) s.dirty → IsSoundRun (Trapped k) es → IsMarkedTrace z (trace_in es) →
-      due_run image s c ≡ due_undone z a (suc d) g (trace_in es) (view c LAST)
+      due_run image s c ≡ crash.due_run z a (suc d) g (crash.Undone (view c LAST)) (trace_in es)
   aborted_is k ran lines sound marks =
       let events : List CacheEvent = events_all z a 0 g es in
       let trace : List Entry = trace_in es in

@@ -1,5 +1,5 @@
 -- After each event of the recovery of a marked call the image is one of those that the law names.
-use Rattle.std.proofs.Common.{◌≡◌, ◌≢◌, inr, ℕ, zero, suc, ◌+◌, ◌^◌, ◌<◌, ◌≤◌, List, [], ◌++◌}
+use Rattle.std.proofs.Common.{◌≡◌, ◌≢◌, ◌⊎◌, inl, inr, ℕ, zero, suc, ◌+◌, ◌^◌, ◌<◌, ◌≤◌, List, [], ◌++◌}
 use Rattle.std.proofs.Common.{length, ℤ, pos, refl, sym, ap, ◌∙◌, subst, arith, append_assoc}
 use Rattle.cache_model.specs.Event.{CacheEvent, Store, Flush}
 use Rattle.cache_model.specs.Cache.{Words, Cache, view}
@@ -29,9 +29,9 @@ use Rattle.pm_machine.specs.declared.image.Image.{Image}
 use Rattle.pm_machine.specs.Effects.{heap_end}
 use Rattle.pm_machine.specs.Machine.{State, Finished, start}
 use Rattle.pm_machine.specs.Runs.{heap_in}
-use Rattle.crash_law.specs.Pools.{Call}
+use Rattle.crash_law.specs.Pools.{Call, Owed}
 use Rattle.crash_law.specs.Due as crash
-use Rattle.crash_law.specs.Law.{IsAtRest}
+use Rattle.crash_law.specs.Law.{IsAtRest, IsEnd, KeepsLast}
 use Rattle.crash_law.proofs.Rest.{redo_rest}
 use Rattle.run_law.specs.Seen.{trace_in}
 use Rattle.run_law.specs.Sound.{IsSoundRun}
@@ -41,8 +41,7 @@ use Rattle.cut_law.specs.Law.{call_of, pool_with}
 use Rattle.cut_law.proofs.Misses.{view_missed, view_one}
 use Rattle.cut_law.proofs.Dues.{attempt_small}
 use Rattle.cut_law.proofs.Backs.{misses_restore, restore_same, heap_restored}
-use Rattle.undo_law.specs.Undo.{IsMarkedTrace, no_records, due_undone, due_reabort}
-use Rattle.undo_law.specs.Law.{IsOwed}
+use Rattle.abort_law.specs.Owing.{Every, IsMarkedTrace, AnyLast, IsOwed, result_by}
 use Rattle.abort_mode.specs.Due.{abort_due_on, due_run, abort_due_redo, run_steps}
 use Rattle.abort_law.specs.Machine.{run_marked, mrun_marked}
 use Rattle.abort_law.specs.Cuts.{IsTidyRun, IsMarkedEnd, IsMarkedLeft}
@@ -52,9 +51,9 @@ use Rattle.abort_law.proofs.Marks.{marked_same}
 use Rattle.abort_law.proofs.Counts.{steps_same}
 use Rattle.abort_law.proofs.Lists.{Holds, aborted_is, done_is, owes_of, steps_are}
 use Rattle.abort_law.proofs.Calls.{marked_sound}
-use Rattle.undo_law.proofs.Reabort.{cut_reabort}
-use Rattle.undo_law.proofs.MarkedCalls.{marked_redo}
-use Rattle.undo_law.proofs.Rest.{reabort_rest}
+use Rattle.abort_law.proofs.Owing.{owed_any, Stored, marked_run, keeps_by, retires_by}
+use Rattle.crash_law.proofs.Redo as due
+use Rattle.cache_model.proofs.During.{during_more}
 
 module _ (image : Image) (super : Words) (tx : ℕ) (args : List ℤ) (c : Cache) (one : Words) (d : ℕ)
     (h : Words) (end : End) (es : List Effect)
@@ -121,11 +120,10 @@ module _ (image : Image) (super : Words) (tx : ℕ) (args : List ℤ) (c : Cache
 
   -- the list of the run from attempt b, by its end
   abbrev run_list : End → ℕ → List CacheEvent
-  run_list (Halted v) b = crash.due_run z b (suc d) r (crash.Halted v) (trace_in es)
-  run_list (Trapped k) b = due_undone z b (suc d) r (trace_in es) last
+  run_list e b = crash.due_run z b (suc d) r (result_by last e) (trace_in es)
 
   run_same : (b : Cache) (k : ℕ) → k ≤ 2 ^ 62 → view b LAST ≡ last → view b DONE ≡ pos d →
-      view b ATTEMPT ≡ pos k → Holds z k no_records b → heap_in z b ≡ r → (e : End) → end ≡ e →
+      view b ATTEMPT ≡ pos k → Holds z k crash.no_records b → heap_in z b ≡ r → (e : End) → end ≡ e →
       due_run image s b ≡ run_list e k
   run_same b k fits last_is done attempt none heap (Halted v) is =
       done_is image s b d k r es owed.done_fits fits done attempt none heap v
@@ -135,16 +133,16 @@ module _ (image : Image) (super : Words) (tx : ℕ) (args : List ℤ) (c : Cache
       aborted_is image s b d k r es owed.done_fits fits done attempt none heap t
       (ran_again ∙ ap (λ (q : End). Finished q es) is) tt
       (subst (λ (q : End). IsSoundRun q es) is both.0) both.1
-      ∙ ap (λ (x : ℤ). due_undone z k (suc d) r (trace_in es) x) last_is
+      ∙ ap (λ (x : ℤ). crash.due_run z k (suc d) r (crash.Undone x) (trace_in es)) last_is
 
   owing : (b : Cache) (k : ℕ) → k ≤ 2 ^ 62 → view b DONE ≡ pos d → view b ATTEMPT ≡ pos k →
-      Holds z k no_records b → heap_in z b ≡ r → Owes (abort_due_on image s b) z k 0 r end es
+      Holds z k crash.no_records b → heap_in z b ≡ r → Owes (abort_due_on image s b) z k 0 r end es
       × (count_in z (view b) ≡ 0)
   owing b k fits done attempt none heap =
       owes_of image s b d k r es owed.done_fits fits done attempt none heap end ran_again tt
 
   counting : (b : Cache) (k : ℕ) → k ≤ 2 ^ 62 → view b DONE ≡ pos d → view b ATTEMPT ≡ pos k →
-      Holds z k no_records b → heap_in z b ≡ r → run_steps image s b ≡ marked_steps image h tx args
+      Holds z k crash.no_records b → heap_in z b ≡ r → run_steps image s b ≡ marked_steps image h tx args
       end es
   counting b k fits done attempt none heap =
       steps_are image s b d k r es owed.done_fits fits done attempt none heap end ran_again tt
@@ -154,7 +152,7 @@ module _ (image : Image) (super : Words) (tx : ℕ) (args : List ℤ) (c : Cache
 
   -- no record is valid
   module _ (counted : count l a one ≡ 0) where
-    none_there : Holds z a no_records c
+    none_there : Holds z a crash.no_records c
     none_there = record {
       room = omega arith;
       in_heap = λ j lt. absurd (omega arith);
@@ -239,7 +237,7 @@ module _ (image : Image) (super : Words) (tx : ℕ) (args : List ℤ) (c : Cache
         ∙ sym (restored_is (suc m) counted w)
         ) i
 
-    none_reset : Holds z (suc a) no_records begun
+    none_reset : Holds z (suc a) crash.no_records begun
     none_reset = record {
       room = omega arith;
       in_heap = λ j lt. absurd (omega arith);
@@ -300,22 +298,12 @@ module _ (image : Image) (super : Words) (tx : ℕ) (args : List ℤ) (c : Cache
 
   -- the whole list, by the end
   abbrev list : End → ℕ → List CacheEvent
-  list (Halted v) n = crash.redo_events z a (suc d) one n (crash.Halted v) (trace_in es)
-  list (Trapped k) n = due_reabort z a (suc d) one n (trace_in es) last
-
-  first_list : (e : End) → list e 0 ≡ run_list e a
-  first_list (Halted v) = refl
-  first_list (Trapped k) = refl
-
-  more_list : (e : End) (m : ℕ) →
-      list e (suc m) ≡ first_events z one (suc m) ++ (reset_events z a ++ run_list e (suc a))
-  more_list (Halted v) m = refl
-  more_list (Trapped k) m = refl
+  list e n = crash.redo_events z a (suc d) one n (result_by last e) (trace_in es)
 
   list_is : (n : ℕ) → count l a one ≡ n → (0 < n → a < 2 ^ 62) →
       abort_due_redo image tx args n c ≡ list end n
-  list_is zero counted room = none_same counted ∙ sym (first_list end)
-  list_is (suc m) counted room = some_same m counted (room (omega arith)) ∙ sym (more_list end m)
+  list_is zero counted room = none_same counted
+  list_is (suc m) counted room = some_same m counted (room (omega arith))
 
   -- what is due of the run of the recovery
   pub record Told (b : Cache) : Type 0 where
@@ -337,16 +325,31 @@ module _ (image : Image) (super : Words) (tx : ℕ) (args : List ℤ) (c : Cache
       × Images (IsMarkedEnd pool call h h' last e) (play c events)
       × (IsAtRest c → IsAtRest (play c events))
 
+  abbrev Left : End → (ℕ → Type 0) → Words → Type 0
+  Left e V image = Owed pool call Every V h (KeepsLast (result_by last e)) image
+      ⊎ IsEnd pool call h (crash.heap_after h (trace_in es)) (result_by last e) image
+
+  -- every word is restored
+  left_any : (e : End) (image : Words) → Left e (Stored (trace_in es)) image → Left e Every image
+  left_any e image (inl owed) =
+      inl (owed_any pool call (Stored (trace_in es)) Every h (KeepsLast (result_by last e))
+      (KeepsLast (result_by last e)) image (λ k. k) owed)
+  left_any e image (inr end) = inr end
+
   cuts_of : (e : End) (n : ℕ) → count l a one ≡ n → (0 < n → a < 2 ^ 62) →
       Cuts (list e n) (crash.heap_after h (trace_in es)) e
-  cuts_of (Halted v) n counted room =
-      let cut = marked_redo pool call h v (trace_in es)
-      (omega arith) both.1 c one only owed n counted room in
-      (cut.0, cut.1, λ rest. redo_rest z a (suc d) one n v (trace_in es) c rest)
-  cuts_of (Trapped k) n counted room =
-      let cut = cut_reabort pool call h (trace_in es) last (omega arith) both.1 one
-      (record { owed = owed; last_is = refl }) n counted room c only in
-      (cut.0, cut.1, λ rest. reabort_rest z a (suc d) one n (trace_in es) last c both.1 rest)
+  cuts_of e n counted room =
+      let run = marked_run pool (trace_in es) last e both.1 in
+      let cut = due.cut_redo pool call Every (Stored (trace_in es)) h (result_by last e)
+      (trace_in es) (omega arith) run one
+      (owed_any pool call Every (Stored (trace_in es)) h AnyLast (KeepsLast (result_by last e)) one
+      (λ any. keeps_by last e) owed) n counted room c only in (
+        during_more c (list e n) (Images (Left e (Stored (trace_in es)))) (Images (Left e Every))
+            (λ b q image im. left_any e image (q image im)) cut.0,
+        cut.1,
+        λ rest. redo_rest pool Every (Stored (trace_in es)) (result_by last e) (trace_in es) run
+            (retires_by last e) a (suc d) one n c rest,
+      )
 
   heap_is : heap_end h es ≡ crash.heap_after h (trace_in es)
   heap_is = (join z a h end es both.0.paired both.0.tidy).1

@@ -1,6 +1,6 @@
 -- What a cut of a marked call and of its recovery leaves, in terms of the machine's run and of the
 -- calls' answers.
-use Rattle.std.specs.Prelude.{ℕ, suc, ◌^◌, ◌<◌, ◌≤◌, ◌≡◌, ◌⊎◌, List, [], length, ℤ}
+use Rattle.std.specs.Prelude.{ℕ, ◌^◌, ◌<◌, ◌≤◌, ◌≡◌, ◌⊎◌, List, [], length, ℤ}
 use Rattle.cache_model.specs.Event.{CacheEvent}
 use Rattle.cache_model.specs.Cache.{Words, Cache}
 use Rattle.cache_model.specs.Play.{play}
@@ -19,13 +19,13 @@ use Rattle.pm_machine.specs.declared.image.Image.{Image}
 use Rattle.pm_machine.specs.Effects.{heap_end, records_end}
 use Rattle.pm_machine.specs.Machine.{State, Finished}
 use Rattle.pm_machine.specs.Runs.{heap_in, AreLines}
-use Rattle.crash_law.specs.Pools.{Call, IsBefore, IsDone, last_of}
-use Rattle.crash_law.specs.Law.{IsAtRest, IsLeft, collapsed, AreInARow}
+use Rattle.crash_law.specs.Pools.{Call, last_of}
+use Rattle.crash_law.specs.Law.{KeepsLast, IsCut, IsEnd, IsEnded, IsAtRest, IsLeft, collapsed}
+use Rattle.crash_law.specs.Law.{AreInARow}
 use Rattle.run_law.specs.Seen.{trace_in}
 use Rattle.run_law.specs.Sound.{IsPairedRun, IsTidyEnd, IsSoundRun}
 use Rattle.cut_law.specs.Law.{call_of, pool_with, BeginsOn}
-use Rattle.undo_law.specs.Undo.{IsMarkedTrace}
-use Rattle.undo_law.specs.Law.{IsOwed, IsEmptied, IsAbortCut, IsReabortCut}
+use Rattle.abort_law.specs.Owing.{Every, IsMarkedTrace, IsOwed, IsOwedWith, result_by}
 use Rattle.abort_mode.specs.declared.answer.AbortAnswer.{AbortAnswer}
 use Rattle.abort_mode.specs.declared.answer.AbortAnswer.TheVariants as answer
 use Rattle.abort_mode.specs.Due.{due_call, abort_due_redo}
@@ -47,23 +47,20 @@ MarkedRunLaw =
     run_marked image k [] s heap ≡ Finished end es →
     IsTidyRun end es → IsSoundRun end es × IsMarkedTrace image.parts.sizes (trace_in es)
 
--- the end of a marked call from the heap h: done with the heap h', or undone with no record
+-- the end of a marked call from the heap h: done with the heap h', or undone; no record is valid
 abbrev pub IsMarkedEnd : Pool → Call → (h h' : ℕ → ℤ) → (last : ℤ) → End → Words → Type 0
-IsMarkedEnd pool call h h' last (Halted v) image = IsDone pool (suc call.done) h' v image
-IsMarkedEnd pool call h h' last (Trapped t) image = IsEmptied pool call h last image
+IsMarkedEnd pool call h h' last end image = IsEnded pool call h h' (result_by last end) image
 
 -- what a cut of the call may leave
 abbrev pub IsMarkedCut : Pool → Call → (h h' : ℕ → ℤ) → (last : ℤ) → End → Words → Type 0
-IsMarkedCut pool call h h' last (Halted v) image =
-    IsBefore pool call.done h last image
-    ⊎ (IsOwed pool call h image ⊎ IsDone pool (suc call.done) h' v image)
-IsMarkedCut pool call h h' last (Trapped t) image = IsAbortCut pool call h last image
+IsMarkedCut pool call h h' last end image =
+    IsCut pool call Every Every h h' last (result_by last end) image
 
 -- what a cut of its recovery may leave
 abbrev pub IsMarkedLeft : Pool → Call → (h h' : ℕ → ℤ) → (last : ℤ) → End → Words → Type 0
-IsMarkedLeft pool call h h' last (Halted v) image =
-    IsOwed pool call h image ⊎ IsDone pool (suc call.done) h' v image
-IsMarkedLeft pool call h h' last (Trapped t) image = IsReabortCut pool call h last image
+IsMarkedLeft pool call h h' last end image =
+    IsOwedWith pool call h (KeepsLast (result_by last end)) image
+    ⊎ IsEnd pool call h h' (result_by last end) image
 
 -- The same three for one transaction's run, after n finished calls: from the heap h and the image
 -- `one`, with this end and these effects.

@@ -12,7 +12,7 @@ use Rattle.pm_machine.specs.declared.image.Image.{Image}
 use Rattle.pm_machine.specs.Machine.{Finished}
 use Rattle.pm_machine.specs.Runs.{heap_in}
 use Rattle.cut_law.specs.Law.{call_of, pool_with, RunsSound, BeginsOn}
-use Rattle.undo_law.specs.Law.{IsOwed}
+use Rattle.abort_law.specs.Owing.{IsOwed}
 use Rattle.abort_mode.specs.declared.answer.AbortAnswer.{AbortAnswer}
 use Rattle.abort_mode.specs.Answers.{AbortCalled, AbortRedid}
 use Rattle.abort_law.specs.Machine.{mrun_marked}

@@ -18,7 +18,7 @@ use Rattle.pm_machine.specs.Machine.{State, StepOutcome, Goes, Ends, Finished, d
 use Rattle.pm_machine.specs.Machine.{start, mrun}
 use Rattle.pm_machine.specs.Runs.{heap_in}
 use Rattle.cut_law.specs.Law.{call_of, pool_with, BeginsOn}
-use Rattle.undo_law.specs.Law.{IsOwed}
+use Rattle.abort_law.specs.Owing.{IsOwed}
 use Rattle.abort_mode.specs.declared.answer.AbortAnswer.{AbortAnswer}
 use Rattle.abort_mode.specs.declared.answer.AbortAnswer.TheVariants as answer
 use Rattle.abort_mode.specs.Answers.{AbortCalled, AbortRedid}

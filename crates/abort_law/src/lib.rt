@@ -1,5 +1,5 @@
 //! What a power cut during a call that rolls back, or during its recovery, leaves. It rests on
-//! `abort_mode`, whose calls play exactly the due events, and on the laws of `undo_law` and
+//! `abort_mode`, whose calls play exactly the due events, and on the laws of `crash_law` and
 //! `run_law`. Its one contract for the crates above: after each event the pool is as it was, or the
 //! call is owed, or has come to its end, which after a trap is the heap from before.
 #![tactic(auto)]
@@ -9,6 +9,7 @@ ghost use Rattle.abort_law.specs.Cuts.{AbortCallLeavesLaw, AbortRedoLeavesLaw, R
 ghost use Rattle.abort_law.specs.Beside.{BesideLaw};
 ghost use Rattle.abort_law.specs.Steps.{AbortCallStepsLaw, AbortRedoStepsLaw, BesideStepsLaw};
 ghost use Rattle.abort_law.specs.Records.{BesideRecordsLaw};
+ghost use Rattle.abort_law.specs.Exact.{FirstsLaw, ExactLaw};
 ghost use Rattle.abort_law.specs.Faults.{AbortCallFaults, AbortRedoFaults};
 ghost use Rattle.abort_law.specs.Rollback.{RollbackCallLaw, RollbackRedoLaw};
 
@@ -46,4 +47,12 @@ pub fn steps()
     ensures call { AbortCallStepsLaw }
     ensures redo { AbortRedoStepsLaw }
     ensures beside { BesideStepsLaw }
+{}
+
+/// A marked run is the effects of the run without the runner's records, with a record before each
+/// first store; and it ends with a full log exactly if more records are due than the log has. The
+/// function does nothing.
+pub fn exactly()
+    ensures runs { FirstsLaw }
+    ensures full { ExactLaw }
 {}

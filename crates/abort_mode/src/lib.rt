@@ -13,4 +13,4 @@ mod settling;
 
 pub use answer::AbortAnswer;
 pub use calling::{call_abort, call_abort_with};
-pub use redoing::redo_abort;
+pub use redoing::{redo_abort, redo_abort_with};

@@ -10,7 +10,7 @@ ghost use Rattle.abort_mode.specs.Answers.{abort_redo_steps, AbortRedid, IsAbort
 use crate::answer::AbortAnswer;
 use crate::settling::settle;
 use nvm_base::Steps;
-use pm_machine::{Image, Machine};
+use pm_machine::{Image, Spare};
 use pmem::{LogAnswer, Phase, PmemWork};
 use recovery::{Found, given, look, put_back};
 use std::alloc::Global;
@@ -19,6 +19,7 @@ use std::sync::ledger::Ledger;
 /// Runs a sealed call again. Memory for the machine's frames is allocated before the first event.
 fn redo<P: PmemWork, L: Ledger>(
     alloc: Global,
+    spare: &mut Spare,
     image: &Image,
     tx: u64,
     args: &[i64],
@@ -40,12 +41,11 @@ fn redo<P: PmemWork, L: Ledger>(
         steps.old + count + image.now.parts.most + image.now.parts.sizes.records }
     ensures lines { (P.device dev.new).lines ≡ (P.device dev.old).lines }
 {
-    let mut machine = match Machine::new(alloc, image, tx, args) {
-        Ok(machine) => machine,
-        Err(_) => return AbortAnswer::NoMemory,
+    let Some(machine) = spare.start(alloc, image, tx, args) else {
+        return AbortAnswer::NoMemory;
     };
     match put_back(image.sizes(), dev, count, steps) {
-        LogAnswer::Done => settle(image, &mut machine, dev, steps),
+        LogAnswer::Done => settle(image, machine, dev, steps),
         LogAnswer::Off => AbortAnswer::Off(Phase::Sealed),
         LogAnswer::Failed => AbortAnswer::Failed,
         LogAnswer::NoMemory => AbortAnswer::NoMemory,
@@ -74,13 +74,33 @@ pub fn redo_abort<P: PmemWork, L: Ledger>(
         steps.old + image.now.parts.most + 2 * image.now.parts.sizes.records }
     ensures lines { (P.device dev.new).lines ≡ (P.device dev.old).lines }
 {
+    redo_abort_with(alloc, &mut Spare::new(), image, dev, steps)
+}
+
+/// Recovers the pool as `redo_abort` does, with the machine that is kept.
+pub fn redo_abort_with<P: PmemWork, L: Ledger>(
+    alloc: Global,
+    spare: &mut Spare,
+    image: &Image,
+    dev: &mut P,
+    steps: &mut Steps<L>,
+) -> AbortAnswer
+    requires lines { (P.device dev.old).lines ≡ pool_lines image.now.parts.sizes }
+    requires sealed { is_sealed (view (P.device dev.old).cache) ≡ true }
+    ensures redone { IsAbortRedone result image.now (P.device dev.old) (P.device dev.new)
+        steps.old steps.new }
+    ensures most { steps.new ≤
+        steps.old + image.now.parts.most + 2 * image.now.parts.sizes.records }
+    ensures lines { (P.device dev.new).lines ≡ (P.device dev.old).lines }
+{
     match look(image, dev) {
         Found::Off => AbortAnswer::Off(Phase::Unsealed),
         Found::Unusable(kind) => AbortAnswer::Unusable(kind),
         // the pool is sealed, so `Unsealed` never occurs
         Found::Numbers | Found::Unsealed { count: _ } => AbortAnswer::Numbers,
         Found::Sealed { tx, args, count } => {
-            redo(alloc, image, tx, given(image, tx, &args), count, dev, steps)
+            let args = given(image, tx, &args);
+            redo(alloc, spare, image, tx, args, count, dev, steps)
         }
     }
 }

@@ -1,6 +1,5 @@
 pub mod Completing
 pub mod Digits
-pub mod Exiting
 pub mod Faultless
 pub mod Meaning
 pub mod Sources

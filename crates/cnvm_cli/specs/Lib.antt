@@ -1,5 +1,4 @@
 pub mod Complete
-pub mod Exits
 pub mod Listed
 pub mod Meant
 pub mod Opened

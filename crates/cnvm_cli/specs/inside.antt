@@ -1,6 +1,5 @@
 -- What only bodies and proofs need: no public clause rests on it.
 pub mod Ends
 pub mod Opened
-pub mod Paths
 pub mod Texts
 pub mod WorkersEnds

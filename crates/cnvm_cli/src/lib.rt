@@ -4,18 +4,18 @@
 //! lines written are those that the words, the program, the script and the image call for.
 #![tactic(auto)]
 
-mod exit;
-mod notes;
 mod reading;
 mod reasons;
 mod refused;
 mod run;
+mod traps;
 mod workers;
 mod world;
 
 pub use cnvm_compile::{Asked, Compiled, ProgramFault, compile, list_text};
+pub use cnvm_session::Traps;
 pub use cnvm_words::{Plan, WordsFault, plan_of};
-pub use exit::{exit_code, run_on};
+pub use refused::push_digest;
 pub use run::cnvm;
 pub use session_run::Status;
 pub use world::World;

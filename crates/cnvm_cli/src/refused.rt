@@ -212,7 +212,7 @@ fn digest_line(alloc: Global, found: &[i64; 4], wanted: &[i64; 4]) -> Result<Str
 }
 
 /// Appends a digest as 64 hexadecimal digits in the order of its bytes.
-pub(crate) fn push_digest(line: &mut String, digest: &[i64]) -> Result<(), AllocError>
+pub fn push_digest(line: &mut String, digest: &[i64]) -> Result<(), AllocError>
     ensures { OnOk result (string_bytes line.new ≡ string_bytes line.old
         ++ digest_text digest.now) }
 {

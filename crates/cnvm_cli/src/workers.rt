@@ -10,10 +10,11 @@ ghost use Rattle.cnvm_cli.specs.inside.Texts.{ReadIn};
 
 use crate::reading::{read_program, read_text};
 use crate::refused::{Refused, refuse};
+use crate::traps::look_up;
 use crate::world::World;
 use cnvm_compile::Asked;
 use cnvm_script::{SCRIPT_BYTES, ScriptFault};
-use cnvm_session::Program;
+use cnvm_session::{Program, Traps};
 use nvm_base::{ReadAllFault, Sink, Source, Steps};
 use pmem::Pmem;
 use session_run::Status;
@@ -62,15 +63,20 @@ pub(crate) fn run_script<
         Err(refused) => return refuse(alloc, refused, &mut world.out),
     };
     match read_turns(alloc, &mut world.script) {
-        Ok(commands) => run_turns(
-            alloc,
-            &compiled.program,
-            count,
-            commands.as_slice(),
-            &mut world.out,
-            &mut world.dev,
-            steps,
-        ),
+        Ok(commands) => {
+            let status = run_turns(
+                alloc,
+                &compiled.program,
+                count,
+                commands.as_slice(),
+                &mut world.traps,
+                &mut world.out,
+                &mut world.dev,
+                steps,
+            );
+            look_up(alloc, &compiled, &mut world.traps);
+            status
+        }
         Err(refused) => refuse(alloc, refused, &mut world.out),
     }
 }
@@ -114,6 +120,7 @@ fn run_turns<K: Sink, P: Pmem + Drop, L: Ledger>(
     program: &Program,
     count: u32,
     commands: &[WorkersCommand],
+    traps: &mut Traps,
     out: &mut K,
     dev: &mut P,
     steps: &mut Steps<L>,
@@ -128,7 +135,7 @@ fn run_turns<K: Sink, P: Pmem + Drop, L: Ledger>(
     ensures ran { WorkersRanAs program.now count commands.now result (K.written out.old)
         (K.written out.new) (P.device dev.old) (P.device dev.new) steps.old steps.new }
 {
-    match run_workers(alloc, program, count, commands, out, dev, steps) {
+    match run_workers(alloc, program, count, commands, traps, out, dev, steps) {
         Ok(()) => Status::Done,
         Err(RunFault::Device) => Status::DeviceFault,
         Err(RunFault::NoMemory) => Status::NoMemory,

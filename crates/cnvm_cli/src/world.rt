@@ -1,7 +1,9 @@
 //! What a run reads and writes.
 
-/// What a run reads and writes: the program, the script and an image; the answers and an image; and
-/// the device.
+use cnvm_session::Traps;
+
+/// What a run reads and writes: the program, the script and an image; the answers and an image; the
+/// device; and the traps that it answered, which no clause names.
 #[derive(Drop)]
 pub struct World<S, T, I, K, O, P> {
     pub program: S,
@@ -10,4 +12,5 @@ pub struct World<S, T, I, K, O, P> {
     pub out: K,
     pub image_out: O,
     pub dev: P,
+    pub traps: Traps,
 }

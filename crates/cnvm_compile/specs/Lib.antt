@@ -1,6 +1,7 @@
 pub mod Compilation
 pub mod ComplaintText
 pub mod FrontEnd
+pub mod Lines
 pub mod Listing
 pub mod Made
 pub mod OneAnswer

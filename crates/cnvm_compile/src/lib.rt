@@ -9,6 +9,7 @@ mod compiling;
 mod complaint;
 mod front_end;
 mod laws;
+mod lines;
 mod listing;
 mod told;
 
@@ -17,5 +18,6 @@ pub use compiling::{Compiled, compile};
 pub use complaint::{Complaint, complaint_line};
 pub use front_end::ProgramFault;
 pub use laws::answer_law;
+pub use lines::line_at;
 pub use listing::list_text;
 pub use told::{Told, told_of};

@@ -1,5 +1,1 @@
-pub mod FullAfter
-pub mod History
 pub mod RefusedLine
-pub mod Replayed
-pub mod TrapLine

@@ -1,39 +1,30 @@
 //! The message of answers that are traps or refusals.
 
-use crate::call::{Call, History};
-use crate::lines::{
-    TrapEnd, after_slots, fate_of, first_line, has_trap, tells_trap, trap_end, unusable,
-};
-use crate::place::{ProgramText, place_note};
-use crate::summary::{Refusals, push_message, push_refused, unless_empty};
+use crate::lines::{TrapEnd, after_slots, first_line, trap_end, unusable};
+use crate::summary::{Refusals, push_message, push_refused, unless_empty, with_line};
 use cnvm_script::{Command, next_line, read_line};
 use command_notes::{PoolLeft, of_trap, of_unusable_image};
 use plain_notes::Told;
-use pool_map::Pool;
-use program_notes::name_of;
 use std::alloc::{AllocError, Global};
 
 /// The texts of a run that came to its end: what it read and what it answered.
 #[derive(Clone, Copy)]
 pub struct RunTexts<'a> {
-    pub program: ProgramText<'a>,
+    pub program_path: &'a str,
     pub script_path: &'a str,
     pub script: &'a [u8],
     pub answers: &'a [u8],
     /// Whether a pool was opened, so that the answer of its recovery comes first; its path, and
-    /// the number of the transaction whose arguments it has.
+    /// the transaction whose arguments it has.
     pub opened: bool,
     pub image_path: &'a str,
-    pub owed: u64,
+    pub owed: &'a str,
     /// The path under which the pool was saved, or an empty one.
     pub saved: &'a str,
-}
-
-/// The pool of an image, as the call that it owes finds it, if it owes one.
-#[derive(Drop)]
-pub struct Opened {
-    pub pool: Pool,
-    pub owed: Option<Call>,
+    /// The lines of the program of the first trap that ended the use of the pool, and of the first
+    /// that was rolled back.
+    pub ended: Option<u64>,
+    pub undone: Option<u64>,
 }
 
 /// What the answers of a script tell: the first trap, the first call that was rolled back, and how
@@ -46,22 +37,12 @@ struct Found {
     refusals: Refusals,
     /// The transaction that was called last.
     called: String,
-    /// The pool on which the calls began; without one that is a new pool.
-    pool: Option<Pool>,
-    /// The calls, where a trap is to be told and the pool is known.
-    history: Option<History>,
-    /// Whether an answer tells a trap after which the pool takes no calls.
-    fatal: bool,
 }
 
 /// The message of the answers that a script's commands were given, where one is a trap or a
-/// refusal. The calls begin on the pool of the image, if one was opened.
-pub fn answers_note(
-    alloc: Global,
-    run: RunTexts<'_>,
-    image: Option<Opened>,
-) -> Result<Option<String>, AllocError> {
-    let mut found = found_of(alloc, run, image);
+/// refusal.
+pub fn answers_note(alloc: Global, run: RunTexts<'_>) -> Result<Option<String>, AllocError> {
+    let mut found = found_of(alloc);
     let mut left = run.answers;
     if run.opened {
         left = after_opening(alloc, &mut found, run)?;
@@ -81,33 +62,13 @@ pub fn answers_note(
 }
 
 /// Nothing is found yet.
-fn found_of(alloc: Global, run: RunTexts<'_>, image: Option<Opened>) -> Found {
-    let (pool, history) = begun(alloc, run, image);
+fn found_of(alloc: Global) -> Found {
     Found {
         trap: None,
         undone: None,
         undone_calls: 0,
         refusals: Refusals::none(),
         called: String::new(alloc),
-        pool,
-        history,
-        fatal: has_trap(run.answers, true),
-    }
-}
-
-/// The pool on which the calls begin, and the calls, if a trap is to be told and the pool is known.
-fn begun(
-    alloc: Global,
-    run: RunTexts<'_>,
-    image: Option<Opened>,
-) -> (Option<Pool>, Option<History>) {
-    if !tells_trap(run.answers) {
-        return (None, None);
-    }
-    match image {
-        Some(Opened { pool, owed }) => (Some(pool), Some(History::new(alloc, owed))),
-        None if run.opened => (None, None),
-        None => (None, Some(History::new(alloc, None))),
     }
 }
 
@@ -123,7 +84,7 @@ fn after_opening<'a>(
         found.trap = Some(of_unusable_image(alloc, run.image_path, kind.as_str())?);
         return Ok(others);
     }
-    found.called = name_of(alloc, run.program.text, run.owed)?;
+    found.called = String::from_str(alloc, run.owed)?;
     after_answer(alloc, found, run, 0, run.answers)
 }
 
@@ -137,9 +98,9 @@ fn after_command<'a>(
     left: &'a [u8],
 ) -> Result<&'a [u8], AllocError> {
     let lines = lines_of(&command);
-    if let Some(call) = call_of(command) {
+    if let Some(name) = called_by(&command) {
         if !left.starts_with(b"refused ") {
-            found.call(alloc, call)?;
+            found.called = String::from_str(alloc, name)?;
         }
     }
     match lines {
@@ -169,26 +130,11 @@ fn lines_of(command: &Command) -> Lines {
     }
 }
 
-/// The call, if the command is one.
-fn call_of(command: Command) -> Option<Call> {
+/// The transaction that is called, if the command is a call.
+fn called_by(command: &Command) -> Option<&str> {
     match command {
-        Command::Call { name, args } => Some(Call { name, args }),
-        Command::Stop(_left) => None,
-        Command::Fault(_at) => None,
-        Command::Power(_choice) => None,
-        Command::Show => None,
-        Command::Last => None,
-    }
-}
-
-impl Found {
-    /// A call begins.
-    fn call(&mut self, alloc: Global, call: Call) -> Result<(), AllocError> {
-        self.called = String::from_str(alloc, call.name.as_str())?;
-        if let Some(history) = self.history.as_mut() {
-            history.call(call);
-        }
-        Ok(())
+        Command::Call { name, .. } => Some(name.as_str()),
+        _ => None,
     }
 }
 
@@ -205,9 +151,6 @@ fn after_answer<'a>(
         note_trap(alloc, found, run, number, end)?;
     }
     found.refusals = found.refusals.after(number, line);
-    if let Some(history) = found.history.as_mut() {
-        history.tell(fate_of(line))?;
-    }
     Ok(others)
 }
 
@@ -230,10 +173,6 @@ fn note_trap(
             if found.undone.is_none() {
                 found.undone = Some(trapped(alloc, run, number, found, end)?);
             }
-            // No other trap will be told, so the calls after it needn't be kept.
-            if !found.fatal {
-                found.history = None;
-            }
         }
     }
     Ok(())
@@ -251,10 +190,11 @@ fn trapped(
     let kind = kind.as_str();
     let called = found.called.as_str();
     let told = of_trap(alloc, run.script_path, number, called, kind, end.left)?;
-    let pool = found.pool.as_ref();
-    let history = found.history.as_ref();
-    let place = place_note(alloc, run.program, pool, history, called, kind)?;
-    told.with_some(alloc, place)
+    let line = match end.left {
+        PoolLeft::Unusable => run.ended,
+        PoolLeft::Restored => run.undone,
+    };
+    with_line(alloc, told, run.program_path, line)
 }
 
 fn message(alloc: Global, run: RunTexts<'_>, found: Found) -> Result<Option<String>, AllocError> {
@@ -263,7 +203,7 @@ fn message(alloc: Global, run: RunTexts<'_>, found: Found) -> Result<Option<Stri
         undone,
         undone_calls,
         refusals,
-        ..
+        called: _called,
     } = found;
     let mut message = String::new(alloc);
     if let Some(undone) = undone {

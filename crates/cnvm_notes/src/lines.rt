@@ -1,6 +1,5 @@
 //! Lines of answers, and what each tells.
 
-use crate::call::Fate;
 use cnvm_script::next_line;
 use command_notes::PoolLeft;
 
@@ -57,73 +56,6 @@ pub(crate) fn trap_end(line: &[u8]) -> Option<TrapEnd<'_>> {
         }
     }
     None
-}
-
-/// Whether one of the answers of a run is a trap.
-pub fn tells_trap(answers: &[u8]) -> bool {
-    has_trap(answers, false)
-}
-
-/// Whether one of the answers is a trap, or a trap after which the pool takes no calls.
-pub(crate) fn has_trap(answers: &[u8], fatal: bool) -> bool {
-    let mut rest = answers;
-    'lines: while !rest.is_empty() {
-        let (line, others) = next_line(rest);
-        rest = others;
-        if is_trap(line, fatal) {
-            return true;
-        }
-    }
-    false
-}
-
-/// Whether the line tells a trap, or one after which the pool takes no calls.
-fn is_trap(line: &[u8], fatal: bool) -> bool {
-    match trap_end(line) {
-        Some(end) => match end.left {
-            PoolLeft::Unusable => true,
-            PoolLeft::Restored => !fatal,
-        },
-        None => false,
-    }
-}
-
-/// The answers without a value that tell what became of a call.
-const FATES: [(&str, Fate); 7] = [
-    ("recovered none", Fate::Nothing),
-    ("stopped unsealed", Fate::Untold),
-    ("stopped ", Fate::Open),
-    ("device fault", Fate::Open),
-    ("no memory", Fate::Open),
-    ("aborted ", Fate::Undone),
-    ("recovered aborted ", Fate::Undone),
-];
-
-/// What the line tells of the last call.
-pub(crate) fn fate_of(line: &[u8]) -> Fate {
-    if let Some(value) = value_of(line) {
-        return Fate::Gave(value);
-    }
-    for (head, fate) in FATES {
-        if line.starts_with(head.as_bytes()) {
-            return fate;
-        }
-    }
-    Fate::Untold
-}
-
-/// The value that a call gave, if the line tells one.
-fn value_of(line: &[u8]) -> Option<i64> {
-    let Ok(text) = str::from_utf8(line) else {
-        return None;
-    };
-    let mut words = text.split_whitespace();
-    match words.next() {
-        Some("=") => (),
-        Some("recovered") if words.next() == Some("redone") => (),
-        _ => return None,
-    }
-    words.next()?.parse::<i64>().ok()
 }
 
 /// The number of a worker at the head of an answer, if there is one, and the rest.

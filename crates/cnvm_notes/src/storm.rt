@@ -1,17 +1,18 @@
 //! The message of a storm in which a transaction trapped.
 
-use crate::call::{Call, History};
 use crate::lines::{first_line, unusable};
-use crate::place::{ProgramText, place_note};
+use crate::summary::with_line;
 use command_notes::of_storm_trap;
 use plain_notes::message_of;
 use std::alloc::{AllocError, Global};
 
-/// The calls of a storm up to the one that trapped, and its round, counted from 1.
-#[derive(Drop)]
-pub struct Stormed {
+/// The call of a storm that trapped: its round, counted from 1, its text, which may be empty, and the
+/// line of the program.
+#[derive(Clone, Copy)]
+pub struct Stormed<'a> {
     pub round: u64,
-    pub history: History,
+    pub call: &'a str,
+    pub line: Option<u64>,
 }
 
 /// Whether a storm's answers tell that a transaction trapped, so that it was over.
@@ -25,46 +26,18 @@ fn kind_of(answers: &[u8]) -> Option<&[u8]> {
     unusable(first_line(last).0)
 }
 
-/// The message of a storm's answers, where a transaction trapped. It names the call where the
-/// storm's calls are known.
+/// The message of a storm's answers, where a transaction trapped.
 pub fn storm_note(
     alloc: Global,
-    program: ProgramText<'_>,
+    program_path: &str,
     answers: &[u8],
-    stormed: Option<Stormed>,
+    stormed: Stormed<'_>,
 ) -> Result<Option<String>, AllocError> {
     let Some(kind) = kind_of(answers) else {
         return Ok(None);
     };
     let kind = String::from_utf8_lossy(alloc, kind)?;
-    let kind = kind.as_str();
-    let (round, history) = match stormed {
-        Some(Stormed { round, history }) => (round, history),
-        None => (0, History::new(alloc, None)),
-    };
-    let text = text_of(alloc, history.last.as_ref())?;
-    let told = of_storm_trap(alloc, round, text.as_str(), kind)?;
-    let place = match &history.last {
-        Some(call) => {
-            let called = call.name.as_str();
-            place_note(alloc, program, None, Some(&history), called, kind)?
-        }
-        None => None,
-    };
-    let told = told.with_some(alloc, place)?;
+    let told = of_storm_trap(alloc, stormed.round, stormed.call, kind.as_str())?;
+    let told = with_line(alloc, told, program_path, stormed.line)?;
     Ok(Some(message_of(alloc, &told)?))
-}
-
-/// A call as a script has it, or an empty text.
-fn text_of(alloc: Global, call: Option<&Call>) -> Result<String, AllocError> {
-    let mut text = String::new(alloc);
-    let Some(call) = call else {
-        return Ok(text);
-    };
-    text.push_str(call.name.as_str())?;
-    for arg in call.args.as_slice() {
-        let word = format!(in alloc; " {arg}")?;
-        text.push_str(word.as_str())?;
-    }
-    Ok(text)
 }

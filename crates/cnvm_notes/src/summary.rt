@@ -13,6 +13,22 @@ pub(crate) fn push_message(
     message.push_str(text.as_str())
 }
 
+/// The message of a trap, with the line of the program where it came, if it is known.
+pub(crate) fn with_line(
+    alloc: Global,
+    told: Told,
+    path: &str,
+    line: Option<u64>,
+) -> Result<Told, AllocError> {
+    match line {
+        Some(line) => {
+            let note = format!(in alloc; "it came in {path}:{line}")?;
+            told.with(alloc, note.as_str())
+        }
+        None => Ok(told),
+    }
+}
+
 /// The refused commands: how many, the line of the first, and a note on it, which may be empty.
 #[derive(Clone, Copy)]
 pub(crate) struct Refusals {

@@ -1,11 +1,10 @@
 //! The message of the answers to a script of workers.
 
-use crate::call::{Call, History};
-use crate::lines::{after_slots, fate_of, first_line, trap_end, worker_answer};
-use crate::place::{ProgramText, place_note};
-use crate::summary::{push_message, push_refusals, unless_empty};
+use crate::lines::{after_slots, first_line, trap_end, worker_answer};
+use crate::summary::{push_message, push_refusals, unless_empty, with_line};
 use cnvm_script::{is_word, next_line};
 use command_notes::of_worker_trap;
+use nvm_base::Text;
 use plain_notes::Told;
 use std::alloc::{AllocError, Global};
 use workers_script::{WorkersCommand, read_workers_line};
@@ -13,16 +12,18 @@ use workers_script::{WorkersCommand, read_workers_line};
 /// The texts of a run of workers that came to its end: what it read and what it answered.
 #[derive(Clone, Copy)]
 pub struct WorkersTexts<'a> {
-    pub program: ProgramText<'a>,
+    pub program_path: &'a str,
     pub script_path: &'a str,
     pub script: &'a [u8],
     pub answers: &'a [u8],
+    /// The line of the program of the first trap.
+    pub ended: Option<u64>,
 }
 
-/// A worker: its calls, and the line of the script that began the last one; 0 before the first.
+/// A worker: its last call, and the line of the script that began it; 0 before the first.
 #[derive(Drop)]
 struct Worker {
-    history: History,
+    called: Text,
     line: u64,
 }
 
@@ -154,14 +155,18 @@ fn one_if(refused: bool) -> Lines {
 #[derive(Drop)]
 struct Begun {
     worker: u64,
-    call: Call,
+    called: Text,
 }
 
 fn begun_by(command: WorkersCommand) -> Option<Begun> {
     match command {
-        WorkersCommand::Start { worker, name, args } => Some(Begun {
+        WorkersCommand::Start {
+            worker,
+            name,
+            args: _args,
+        } => Some(Begun {
             worker: u64::from(worker),
-            call: Call { name, args },
+            called: name,
         }),
         WorkersCommand::Turn(_workers) => None,
         WorkersCommand::Finish => None,
@@ -193,11 +198,11 @@ fn after_start<'a>(
     begun: Begun,
     left: &'a [u8],
 ) -> Result<&'a [u8], AllocError> {
-    let Begun { worker, call } = begun;
+    let Begun { worker, called } = begun;
     let (line, others) = first_line(left);
     let started = format!(in alloc; "started {worker}")?;
     if line == started.as_str().as_bytes() {
-        found.start(alloc, worker, number, call)?;
+        found.start(alloc, worker, number, called)?;
         return Ok(others);
     }
     if line.starts_with(b"refused ") || is_word(line, "no memory") {
@@ -255,18 +260,18 @@ impl Found {
         alloc: Global,
         worker: u64,
         line: u64,
-        call: Call,
+        called: Text,
     ) -> Result<(), AllocError> {
         for _ in 0..WORKERS {
             if self.workers.len() as u64 <= worker {
                 self.workers.push(Worker {
-                    history: History::new(alloc, None),
+                    called: Text::new(alloc),
                     line: 0,
                 })?;
             }
         }
         if let Some(own) = self.workers.get_mut(worker as usize) {
-            own.history.call(call);
+            own.called = called;
             own.line = line;
         }
         Ok(())
@@ -288,7 +293,7 @@ impl Found {
         }
         match worker {
             Some(worker) => self.answer_of(alloc, run, worker, answer),
-            None => self.answer_to_all(answer),
+            None => Ok(()),
         }
     }
 
@@ -312,17 +317,6 @@ impl Found {
                 answer,
             )?;
         }
-        if let Some(own) = self.workers.get_mut(worker as usize) {
-            own.history.tell(fate_of(answer))?;
-        }
-        Ok(())
-    }
-
-    /// Takes an answer that names no worker.
-    fn answer_to_all(&mut self, answer: &[u8]) -> Result<(), AllocError> {
-        for own in self.workers.iter_mut() {
-            own.history.tell(fate_of(answer))?;
-        }
         Ok(())
     }
 }
@@ -342,18 +336,9 @@ fn trapped(
     let kind = kind.as_str();
     let Some(own) = own else {
         let told = of_worker_trap(alloc, run.script_path, 0, "", worker, kind)?;
-        return Ok(Some(told));
+        return Ok(Some(with_line(alloc, told, run.program_path, run.ended)?));
     };
-    let called = called_of(&own.history);
+    let called = own.called.as_str();
     let told = of_worker_trap(alloc, run.script_path, own.line, called, worker, kind)?;
-    let place = place_note(alloc, run.program, None, Some(&own.history), called, kind)?;
-    Ok(Some(told.with_some(alloc, place)?))
-}
-
-/// The name of the transaction that was called last, or an empty one.
-fn called_of(history: &History) -> &str {
-    match &history.last {
-        Some(call) => call.name.as_str(),
-        None => "",
-    }
+    Ok(Some(with_line(alloc, told, run.program_path, run.ended)?))
 }

@@ -1,5 +1,5 @@
 //! Runs worked rows of the product and prints what each does: the row's name, what the run wrote,
-//! and its status. It rests on `cnvm_cli`. A row is a set of files: `NAME.words` has the words, one
+//! and its status. It rests on `cnvm_exit`. A row is a set of files: `NAME.words` has the words, one
 //! on each line, and the words name the other files. Rows share the folder and run in order, so a
 //! row can open what an earlier one has saved; the words `words IMAGE` run nothing and show what an
 //! image holds.
@@ -57,7 +57,7 @@ fn run_row<R: Files + Print + Eprint + AllocGlobal>(rt: &R, name: &str) -> io::R
     if let Some(image) = shown_image(&words) {
         return show_image(rt, image);
     }
-    let status = cnvm_cli::run_on(rt, &words).number();
+    let status = cnvm_exit::run_on(rt, &words).number();
     println!(rt; "status {status}")
 }
 

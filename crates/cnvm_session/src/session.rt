@@ -31,14 +31,14 @@ use crate::outcome::{
 };
 use crate::program::Program;
 use crate::showing::pool_text;
-use abort_mode::{call_abort_with, redo_abort};
+use abort_mode::{call_abort_with, redo_abort_with};
 use cache_model::{Choice, Pick};
 use cnvm_script::Command;
 use nvm_base::Steps;
-use pm_machine::{Image, Spare};
+use pm_machine::{Image, Spare, Stop};
 use pmem::{Pmem, PmemWork};
 use pool_layout::{DONE, LAST};
-use recovery::recover;
+use recovery::recover_with;
 use std::alloc::Global;
 use std::marker::Model;
 use std::sync::ledger::Ledger;
@@ -69,6 +69,12 @@ impl Session {
             mode,
             spare: Spare::new(),
         }
+    }
+
+    /// Where the last run of a transaction ended, if there was one: after an answer that tells a
+    /// trap, where it trapped.
+    pub fn stop(&self) -> Option<Stop> {
+        self.spare.stop()
     }
 }
 
@@ -124,6 +130,21 @@ pub fn start_from<P: Pmem, L: Ledger>(
             Ok((session, answer))
         }
     }
+}
+
+/// Starts a session on the pool that lies on the device, and gives the answer of its recovery.
+pub fn resume<P: Pmem, L: Ledger>(
+    alloc: Global,
+    program: &Program,
+    dev: &mut P,
+    steps: &mut Steps<L>,
+) -> (Session, Answer)
+    requires lines { (P.device dev.old).lines ≡ pool_lines program.now.image.parts.sizes }
+    requires on { (P.device dev.old).on ≡ true }
+{
+    let mut session = Session::in_mode(Mode::Down);
+    let answer = session.recover(alloc, program, dev, steps);
+    (session, answer)
 }
 
 /// How many parameters a transaction of the image has, for any number.
@@ -405,7 +426,7 @@ impl Session {
         ensures most { steps.new ≤ steps.old + bounded_steps false image.now }
         ensures lines { (P.device dev.new).lines ≡ (P.device dev.old).lines }
     {
-        let tx_answer = recover(alloc, image, dev, steps);
+        let tx_answer = recover_with(alloc, &mut self.spare, image, dev, steps);
         self.mode = mode_of_recovery(tx_answer);
         answer_of_recovery(tx_answer)
     }
@@ -428,7 +449,7 @@ impl Session {
         ensures most { steps.new ≤ steps.old + bounded_steps true image.now }
         ensures lines { (P.device dev.new).lines ≡ (P.device dev.old).lines }
     {
-        let tx_answer = redo_abort(alloc, image, dev, steps);
+        let tx_answer = redo_abort_with(alloc, &mut self.spare, image, dev, steps);
         self.mode = mode_of_marked_recovery(tx_answer);
         answer_of_marked_recovery(tx_answer)
     }

@@ -4,7 +4,7 @@ ghost use Rattle.std.specs.Prelude.{◌≡◌, ◌<◌};
 
 use crate::program::COUNTER;
 use crate::runs::NEVER;
-use cnvm_cli::{Status, World, cnvm};
+use cnvm_cli::{Status, Traps, World, cnvm};
 use nvm_base::{MemSink, MemSource, Steps};
 use pmem::{Pmem, SimPmem};
 use std::alloc::{AllocError, Global};
@@ -32,6 +32,7 @@ fn ends<P: Pmem + Drop, L: Ledger>(
         out: MemSink::new(alloc, 4096, &[fail.2])?,
         image_out: MemSink::new(alloc, 0, &[])?,
         dev,
+        traps: Traps::new(),
     };
     let status = cnvm(alloc, &words, &mut world, steps);
     Ok((status, world.out.bytes() == wanted.as_bytes()))

@@ -3,7 +3,7 @@
 ghost use Rattle.std.specs.Prelude.{◌<◌};
 
 use crate::byte_sink::ByteSink;
-use cnvm_cli::{Status, World, cnvm};
+use cnvm_cli::{Status, Traps, World, cnvm};
 use nvm_base::{MemSource, Steps};
 use pmem::Pmem;
 use std::alloc::{AllocError, Global};
@@ -79,6 +79,7 @@ pub(crate) fn run<P: Pmem + Drop, L: Ledger>(
         out: ByteSink::new(alloc, fails.out),
         image_out: ByteSink::new(alloc, fails.image_out),
         dev,
+        traps: Traps::new(),
     };
     let status = cnvm(alloc, &words, &mut world, steps);
     Ok(Ended {

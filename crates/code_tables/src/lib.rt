@@ -1,10 +1,7 @@
-//! Tables of code: the three-address code of texts, small programs of it run on the machine, and
-//! the lines where logs are full. It stands on `lower`, `codegen` and `log_limit` and holds nothing
-//! but tests.
+//! Tables of code: the three-address code of texts, and small programs of it run on the machine. It
+//! stands on `lower` and `codegen` and holds nothing but tests.
 #![tactic(auto)]
 
-#[cfg(test)]
-mod full_logs;
 #[cfg(test)]
 mod instructions;
 #[cfg(test)]

@@ -73,7 +73,7 @@ fn push_place(table: &mut Vec<u32>, place: u32) -> Result<(), AllocError>
 
 /// The place where each instruction's code begins, and where the last one's ends.
 #[tactic(auto, using(crate::proofs::Written::places_step))]
-fn places_of(
+pub fn places_of(
     alloc: Global,
     sizes: &Sizes,
     shapes: &Shapes,

@@ -13,4 +13,5 @@ mod laws;
 mod names;
 
 pub use emission::emit;
+pub use functions::places_of;
 pub use laws::good_law;

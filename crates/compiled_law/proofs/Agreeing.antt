@@ -449,6 +449,7 @@ module _ (text : List ℕ) (list : Tokens) (program : Program)
                 (deeds plain k (code_start entry.function args w n));
             logs_firsts = (counted i args w entry found).1;
             counted_firsts = ran.firsts;
+            at_least = ran.at_least;
             matches =
                 subst (λ (x : Outcome). Matches program x ran.end (heap_end h ran.effects))
                 same_outcome

@@ -1,6 +1,6 @@
 -- A marked run logs its stores at logged sites, and the first store to each heap word.
 use Rattle.std.proofs.Common.{◌≡◌, ◌||◌, inl, inr, ℕ, suc, if◌then◌else◌, Bool, true, false}
-use Rattle.std.proofs.Common.{Some, List, [], ◌∷◌, ℤ, refl, sym, ap, ◌∙◌, eq-eqb}
+use Rattle.std.proofs.Common.{Some, List, [], ◌∷◌, ℤ, refl, sym, ap, ◌∙◌, eq-eqb, ◌≤◌, arith}
 use Rattle.pool_layout.specs.declared.limits.Sizes.{Sizes}
 use Rattle.ir.specs.declared.function.Ir.{Ir}
 use Rattle.ir.specs.declared.instruction.Instruction.TheVariants.{Log}
@@ -24,7 +24,7 @@ use Rattle.match_law.specs.Accesses.{accesses}
 use Rattle.match_law.specs.Compiled.{is_logged_in_code}
 use Rattle.abort_law.specs.Records.{records_marked}
 use Rattle.session_law.specs.Logged.{StoreAt, stores_in, AreLoggedFirst}
-use Rattle.compiled_law.specs.inside.Records.{records_with}
+use Rattle.compiled_law.specs.inside.Records.{records_of, records_with}
 use Rattle.compiled_law.proofs.Marked.{AreStores, all_stores}
 use Rattle.compiled_law.proofs.Counting.{logged_same}
 
@@ -87,6 +87,27 @@ module _ (s : Sizes) (logged : Site → Bool) where
   marked_shown ls ds es (heads {ds = a} {es = b} site q v there rest) =
       logged_store ls (header_word s q) v b
       ∙ ap suc (marked_shown (header_word s q ∷ ls) a b rest)
+
+-- with the first store to each heap word too there are at least as many
+pub records_least : (logged : Site → Bool) (s : Sizes) (ls : List ℕ) (ds : List Deed)
+    → records_of logged ds ≤ records_with logged s ls ds
+records_least logged s ls [] = omega arith
+records_least logged s ls (Reads x ∷ ds) = records_least logged s ls ds
+records_least logged s ls (Writes a x v ∷ ds) =
+    go (logged a) (is_listed (heap_word s x) ls) (records_least logged s ls ds)
+    (records_least logged s (heap_word s x ∷ ls) ds)
+  where
+    go : (b c : Bool) → records_of logged ds ≤ records_with logged s ls ds
+        → records_of logged ds ≤ records_with logged s (heap_word s x ∷ ls) ds
+        → (if b then suc (records_of logged ds) else records_of logged ds)
+        ≤ (if b then suc (records_with logged s (heap_word s x ∷ ls) ds)
+        else (if c then records_with logged s ls ds
+        else suc (records_with logged s (heap_word s x ∷ ls) ds)))
+    go true c few more = omega (arith, more)
+    go false true few more = few
+    go false false few more = omega (arith, more)
+records_least logged s ls (Heads a q v ∷ ds) =
+    let more = records_least logged s (header_word s q ∷ ls) ds in omega (arith, more)
 
 module _ (marks : MarkTable) (ir : Ir) (bare : (f p : ℕ) (x : Target)
     → instruction_at ir.functions f p ≡ Some (Log x) → ⊥) where

@@ -1,7 +1,7 @@
 -- The machine's run of a compiled transaction is sound, and ends as its code does, or with a full
 -- log if the code does more logged stores than the log has records.
 use Rattle.std.proofs.Common.{◌≡◌, ℕ, zero, suc, ◌*◌, ◌-◌, ◌<◌, ◌≤◌, Bool, ℤ, true, false, nat_lt}
-use Rattle.std.proofs.Common.{List, [], Some, refl, sym, subst, inl, inr, arith}
+use Rattle.std.proofs.Common.{List, [], Some, refl, sym, ◌∙◌, subst, inl, inr, arith}
 use Rattle.std.specs.Prelude.{slice_get}
 use Rattle.std.proofs.lemmas.Bool.{lt-ltb, le-ltb}
 use Rattle.cache_model.specs.Cache.{Words}
@@ -52,12 +52,15 @@ use Rattle.compiled_law.specs.inside.Records.{records_of, records_with}
 use Rattle.compiled_law.specs.inside.Runs.{EndsAs, EndsIf, RunIs}
 use Rattle.compiled_law.proofs.Bounded.{run_bounded}
 use Rattle.compiled_law.proofs.Counting.{records_are, records_cut}
-use Rattle.compiled_law.proofs.Firsts.{firsts_are}
+use Rattle.compiled_law.proofs.Firsts.{firsts_are, records_least}
 use Rattle.compiled_law.proofs.Covering.{covered_run, covered_cut}
 use Rattle.compiled_law.proofs.Marked.{inputs_logged}
 
 trapped : (k : TrapKind) (v : ℤ) → Trapped k ≡ Halted v → ⊥
 trapped k v e = cc
+
+both : (b : Bool) → b ≡ true → b ≡ false → ⊥
+both b t f = let clash : true ≡ false = sym t ∙ f in absurd cc
 
 module _ (apart : HeapApart) (image : Image) (L : Ir) (compiled : IsCodeOf image L) (tx : ℕ)
     (entry : TxEntry) (found : slice_get image.parts.txs (tx - 1) ≡ Some entry) (args : List ℤ)
@@ -68,7 +71,7 @@ module _ (apart : HeapApart) (image : Image) (L : Ir) (compiled : IsCodeOf image
     → IsCutAtStore image.parts.sizes (is_logged_in_code L) ds (accesses es)
     → records_end 0 es < n) (n1 : ℕ) (count_firsts : (es : List Effect)
     → ShowsDeeds image.parts.sizes (is_logged_in_code L) ds (accesses es)
-    → records_marked [] es ≡ n1) where
+    → records_marked [] es ≡ n1) (least : n ≤ n1) where
   sound_end : (end : End) (es : List Effect) → mrun image m heap tx args ≡ Finished end es
       → IsCoveredRun es → IsSoundRun end es
   sound_end end es is covered =
@@ -106,7 +109,8 @@ module _ (apart : HeapApart) (image : Image) (L : Ir) (compiled : IsCodeOf image
         subst (λ (b : Bool). EndsIf b image L e (Trapped LogFull) (heap_end heap r.effects))
         (sym (too_many r)) refl;
     records = λ v e. absurd (trapped LogFull v e);
-    firsts = λ v e. absurd (trapped LogFull v e);
+    firsts = λ room. absurd (both (nat_lt image.parts.sizes.records n) (too_many r) room);
+    at_least = least;
   }
 
   run_is : (e : code.CodeEnd) → HasResult e → IsWordEnd e
@@ -122,7 +126,8 @@ module _ (apart : HeapApart) (image : Image) (L : Ir) (compiled : IsCodeOf image
         with_room (code.Ended w v t) (Halted v) (heap_end heap r.effects)
         (has_room (Halted v) r.effects r.is r.shows) (refl, r.stands, r.fits, words.0);
     records = λ x e. count r.effects r.shows;
-    firsts = λ x e. count_firsts r.effects r.shows;
+    firsts = λ room. count_firsts r.effects r.shows;
+    at_least = least;
   }
   run_is (code.Ended w v t) over words (inr r) = full (code.Ended w v t) r
   run_is (code.Trapped k) over words (inl r) = record {
@@ -135,7 +140,8 @@ module _ (apart : HeapApart) (image : Image) (L : Ir) (compiled : IsCodeOf image
         with_room (code.Trapped k) (Trapped k) (heap_end heap r.effects)
         (has_room (Trapped k) r.effects r.is r.shows) refl;
     records = λ v e. absurd (trapped k v e);
-    firsts = λ v e. absurd (trapped k v e);
+    firsts = λ room. count_firsts r.effects r.shows;
+    at_least = least;
   }
   run_is (code.Trapped k) over words (inr r) = full (code.Trapped k) r
   run_is code.Unfinished over words r = absurd over
@@ -153,6 +159,7 @@ run_more image L heap e n n1 k m tx args le r = record {
   agrees = r.agrees;
   records = r.records;
   firsts = r.firsts;
+  at_least = r.at_least;
 }
 
 -- a run on words ends with words
@@ -225,6 +232,8 @@ compiled_run apart cover keep law marks ir formed keeps whole constants bare ima
     (deeds L (2 * k) (code_start entry.function args w t))
     (inputs_logged cover marks ir formed keeps whole entry.function transaction args w t k over) n
     count more n1 firsts
+    (records_least (table.is_logged marks) image.parts.sizes []
+    (deeds ir k (code_start entry.function args w t)))
     (exec ir k (code_start entry.function args w t)) over
     (words_end law ir constants k (code_start entry.function args w t) (words, tt, pool))
     (subst (λ (e : code.CodeEnd). RunMatches image L heap

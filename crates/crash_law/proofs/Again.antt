@@ -7,7 +7,7 @@ use Rattle.cache_model.specs.Image.{Images, HasOne}
 use Rattle.cache_model.specs.During.{during}
 use Rattle.crash_law.specs.Pools.{Call, Owed}
 use Rattle.crash_law.specs.Due.{Entry, Result, heap_after, redo_events}
-use Rattle.crash_law.specs.Law.{IsRun, IsEnd, collapsed, IsLeft, IsCutTo, AreInARow}
+use Rattle.crash_law.specs.Law.{IsRun, IsEnd, KeepsLast, collapsed, IsLeft, IsCutTo, AreInARow}
 use Rattle.cache_model.proofs.During.{during_prefix}
 use Rattle.crash_law.proofs.Redo.{cut_redo}
 use Rattle.pool_layout.specs.Good.{Pool}
@@ -31,7 +31,8 @@ module _ (pool : Pool) (call : Call) (E W : ℕ → Type 0) (h : ℕ →
     ℤ) (result : Result) (trace : List Entry) (given_fits : length call.args ≤ ARGUMENTS)
     (is : IsRun pool E W result trace) where
   abbrev Recoverable : Words → Type 0
-  Recoverable image = Owed pool call E W h image ⊎ IsEnd pool call (heap_after h trace) result image
+  Recoverable image = Owed pool call E W h (KeepsLast result) image
+      ⊎ IsEnd pool call h (heap_after h trace) result image
 
   cut_once : (one other : Words) → IsCutTo pool call E W h result trace one other
       → Recoverable other

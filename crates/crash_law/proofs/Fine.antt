@@ -56,7 +56,8 @@ abbrev pub IsFine : Layout → Fine → Words → Type 0
 IsFine C f image = (q : Place) → IsPlace C q → ok f q (image (at C q))
 
 -- The setting of a call's law: the pool and the call, the inputs E and overwrites W of its run from
--- h, and a heap r that differs from h only in words of W that aren't in E.
+-- h, a heap r that differs from h only in words of W that aren't in E, and what is asked of the last
+-- value.
 pub record Setting : Type 1 where
   pub pool : Pool
   pub call : Call
@@ -64,6 +65,7 @@ pub record Setting : Type 1 where
   pub W : ℕ → Type 0
   pub h : ℕ → ℤ
   pub r : ℕ → ℤ
+  pub kept : ℤ → Type 0
   pub done_fits : call.done ≤ 2 ^ 62
   pub given_fits : length call.args ≤ ARGUMENTS
   pub from : (w : ℕ) → w < heap_words pool.sizes → IsKept E W w → r w ≡ h w
@@ -73,7 +75,7 @@ module _ (s : Setting) where
   abbrev pub owing : (a n : ℕ) → (word old : ℕ → ℤ) → (ℕ → ℤ → Type 0) → Fine
   owing a n word old heap = record {
     super = λ k x. k < SUPER_WORDS → x ≡ s.pool.super k;
-    last = λ x. Unit {0};
+    last = s.kept;
     done = λ x. x ≡ pos s.call.done;
     attempt = λ x. x ≡ pos a;
     mark = λ x. x ≡ pos 0;
@@ -98,7 +100,7 @@ module _ (s : Setting) where
       → ((w : ℕ) (x : ℤ) → w < heap_words s.pool.sizes → IsKept s.E s.W w → heap w x
       → found word old n w ≡ None → x ≡ s.h w)
       → IsFine (pool_of s.pool.sizes) (owing a n word old heap) image
-      → Owed s.pool s.call s.E s.W s.h image
+      → Owed s.pool s.call s.E s.W s.h s.kept image
   unfolding restored
   owed_image a n word old heap image a_fits room in_heap recorded plain fine =
       let C = pool_of s.pool.sizes in
@@ -108,6 +110,7 @@ module _ (s : Setting) where
       absurd (omega (arith, u.1, pos_inj (suc a) u.0 (sym e ∙ u.2)))) in
       record {
         super = λ k lt. fine (Super k) (omega arith) lt;
+        last_is = fine Last tt;
         mark = fine Mark tt;
         done = fine Done tt;
         done_fits = s.done_fits;

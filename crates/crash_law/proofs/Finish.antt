@@ -16,7 +16,7 @@ use Rattle.pool_layout.specs.declared.limits.Sizes.{Sizes}
 use Rattle.pool_layout.specs.declared.places.Layout.{Layout}
 use Rattle.pool_layout.specs.Places.{at, line_of, IsPlace, pool_of}
 use Rattle.pool_layout.specs.Good.{Lost}
-use Rattle.crash_law.specs.Pools.{Owed, IsDone}
+use Rattle.crash_law.specs.Pools.{Owed, IsDone, IsRetired}
 use Rattle.crash_law.specs.Due.{Entry, word_of_entry, is_listed, lines_of, flush_all, IsStored}
 use Rattle.args_log.specs.Retire.{retire_events, mark_events}
 use Rattle.cache_model.proofs.Views.{view_same, view_other, view_flush}
@@ -27,7 +27,8 @@ use Rattle.cache_model.specs.inside.During.{Through}
 use Rattle.crash_law.proofs.Held.{Cover, cover_more, cover_image, cover_view, cover_store}
 use Rattle.crash_law.proofs.Held.{cover_flush, Held, held_image, held_flush, held_cover, held_store}
 use Rattle.crash_law.proofs.Held.{held_single}
-use Rattle.pool_layout.proofs.Records.{pos_inj}
+use Rattle.pool_layout.proofs.Records.{pos_inj, count_is}
+use Rattle.pool_layout.specs.Log.{count}
 use Rattle.crash_law.proofs.Records.{HasRecord, found}
 use Rattle.crash_law.proofs.Fine.{Fine, ok, Setting, owing, at_rest, good_image, IsFine, StampIs}
 use Rattle.crash_law.proofs.Run.{Allowed, running, Recorded, Running, pick, covered}
@@ -99,7 +100,7 @@ module _ (s : Setting) (a : ℕ) (a_fits : a ≤ 2 ^ 62) where
   Run n word old heap c = Running s a a_fits n word old heap c
 
   abbrev pub IsOwed : Words → Type 0
-  IsOwed image = Owed s.pool s.call s.E s.W s.h image
+  IsOwed image = Owed s.pool s.call s.E s.W s.h s.kept image
 
   -- the flushes of the heap's lines
   flush_part : (Q F : Cache → Type 0) (owed : (d : Cache) → Images IsOwed d → Q d) (ls : List ℕ)
@@ -207,15 +208,15 @@ module _ (s : Setting) (a : ℕ) (a_fits : a ≤ 2 ^ 62) where
         (λ x. x ≡ pos (suc s.call.done))
 
     pub data Stage : Type 0 where
-      Before Retired Fresh : Stage
+      Before Counted Fresh : Stage
 
     abbrev pub stage : Stage → Place → ℤ → Type 0
     stage Before = ok (settled n word old heap)
-    stage Retired = ok (done_with a n)
+    stage Counted = ok (done_with a n)
     stage Fresh = ok (done_with (suc a) 0)
 
     to_retired : (q : Place) → IsPlace C q → line_of C q ≢ 2 → (x : ℤ) → stage Before q x
-        → stage Retired q x
+        → stage Counted q x
     to_retired Last is ne x fine = absurd (ne refl)
     to_retired Done is ne x fine = absurd (ne refl)
     to_retired Attempt is ne x fine = absurd (ne refl)
@@ -233,7 +234,7 @@ module _ (s : Setting) (a : ℕ) (a_fits : a ≤ 2 ^ 62) where
           (u.0, omega (arith, u.1), u.2)) (cases_lt j n),
     )
 
-    to_fresh : (q : Place) → IsPlace C q → line_of C q ≢ 2 → (x : ℤ) → stage Retired q x
+    to_fresh : (q : Place) → IsPlace C q → line_of C q ≢ 2 → (x : ℤ) → stage Counted q x
         → stage Fresh q x
     to_fresh Attempt is ne x fine = absurd (ne refl)
     to_fresh (RecordStamp j) is ne x fine = fresh_stamp j x fine
@@ -242,7 +243,7 @@ module _ (s : Setting) (a : ℕ) (a_fits : a ≤ 2 ^ 62) where
     at_each : (q : Place) → IsPlace C q → line_of C q ≢ 2 → (x : ℤ) → stage Before q x → (k : Stage)
         → stage k q x
     at_each q is ne x fine Before = fine
-    at_each q is ne x fine Retired = to_retired q is ne x fine
+    at_each q is ne x fine Counted = to_retired q is ne x fine
     at_each q is ne x fine Fresh = to_fresh q is ne x (to_retired q is ne x fine)
 
     pub done_image : (b m : ℕ) (image : Words) → b ≤ 2 ^ 62 + 1 → IsFine C (done_with b m) image
@@ -255,6 +256,28 @@ module _ (s : Setting) (a : ℕ) (a_fits : a ≤ 2 ^ 62) where
       last_is = fine Last tt;
       seal_is = fine Seal tt;
     }
+
+    -- at the end each stamp is below that of the attempt that begins
+    emptied : (image : Words) → IsFine C (done_with (suc a) 0) image → (b : ℕ)
+        → image (at C Attempt) ≡ pos b → count C b image ≡ 0
+    emptied image fine b is =
+        let same : suc a ≡ b = pos_inj (suc a) b (sym (fine Attempt tt) ∙ is) in
+        subst (λ (i : ℕ). count C i image ≡ 0) same
+        (count_is C (suc a) 0 image (omega arith) (λ j lt. absurd (omega arith))
+        (λ j ge lt e. let u = (fine (RecordStamp j) lt).1 ge in
+        absurd (omega (arith, u.1, pos_inj (suc (suc a)) u.0 (sym e ∙ u.2)))))
+
+    abbrev Retired : Words → Type 0
+    Retired image = IsRetired s.pool (suc s.call.done) heap value image
+
+    all_retired : (c : Cache) → Cover C (stage Fresh) c → Images Retired c
+    all_retired c cover image im =
+        let fine : IsFine C (done_with (suc a) 0) image =
+        λ q is. cover_image C (stage Fresh) c image cover im q is in
+        record {
+          done = done_image (suc a) 0 image (omega arith) fine;
+          empty = emptied image fine;
+        }
 
     abbrev pub OwedOrDone : Words → Type 0
     OwedOrDone image = IsOwed image ⊎ IsDone s.pool (suc s.call.done) heap value image
@@ -270,22 +293,22 @@ module _ (s : Setting) (a : ℕ) (a_fits : a ≤ 2 ^ 62) where
         → ((w : ℕ) → Allowed s a a_fits n word old w (heap w)) → (k : Stage)
         → ((q : Place) → IsPlace C q → stage k q (image (at C q))) → OwedOrDone image
     of_stage image facts allowed Before fine = inl (owed_before image facts allowed fine)
-    of_stage image facts allowed Retired fine = inr (done_image a n image (omega arith) fine)
+    of_stage image facts allowed Counted fine = inr (done_image a n image (omega arith) fine)
     of_stage image facts allowed Fresh fine = inr (done_image (suc a) 0 image (omega arith) fine)
 
     -- from the durable heap to the call that is done
-    pub retire_part : (c : Cache) → Settled n word old heap c →
-        Through (Images OwedOrDone) (Cover C (stage Fresh)) c
+    pub retire_part : s.kept value → (c : Cache) → Settled n word old heap c →
+        Through (Images OwedOrDone) (Images Retired) c
         (retire_events value (pos (suc s.call.done)) (pos (suc a)))
     unfolding retire_events
-    retire_part c st =
+    retire_part keeps c st =
         let now = stage Before in
         let k : ℕ = suc s.call.done in
         let c1 : Cache = apply c (Store (at C Last) value) in
         let c2 : Cache = apply c1 (Store (at C Done) (pos k)) in
         let c3 : Cache = apply c2 (Store (at C Attempt) (pos (suc a))) in
         let c4 : Cache = apply c3 (Flush 2) in
-        let cover1 : Cover C now c1 = cover_store C now c Last value tt tt st.cover in
+        let cover1 : Cover C now c1 = cover_store C now c Last value tt keeps st.cover in
         let st1 : Settled n word old heap c1 =
         record { facts = st.facts; allowed = st.allowed; cover = cover1 } in
         let last1 : view c1 (at C Last) ≡ value = view_same c (at C Last) value in
@@ -308,7 +331,7 @@ module _ (s : Setting) (a : ℕ) (a_fits : a ≤ 2 ^ 62) where
         view_other c2 (at C Attempt) (at C Mark) (pos (suc a)) (omega arith) ∙ mark2 in
         let held1 : Held C 2 stage c1 = held_cover C 2 stage c1 Before cover1 at_each in
         let held2 : Held C 2 stage c2 =
-        held_store C 2 stage c1 Done (pos k) Retired refl
+        held_store C 2 stage c1 Done (pos k) Counted refl
         (line_two (done_with a n) c2 last2 done2 attempt2 mark2) held1 in
         let held3 : Held C 2 stage c3 =
         held_store C 2 stage c2 Attempt (pos (suc a)) Fresh refl
@@ -332,11 +355,8 @@ module _ (s : Setting) (a : ℕ) (a_fits : a ≤ 2 ^ 62) where
                 (
                   choose c4 held4,
                   (
-                    (λ image im.
-                        inr (done_image (suc a) 0 image (omega arith)
-                        (λ q is. cover_image C (stage Fresh) (apply c4 Fence) image cover5
-                        im q is))),
-                    cover5,
+                    (λ image im. inr (all_retired (apply c4 Fence) cover5 image im).done),
+                    all_retired (apply c4 Fence) cover5,
                   ),
                 ),
               ),
@@ -344,19 +364,19 @@ module _ (s : Setting) (a : ℕ) (a_fits : a ≤ 2 ^ 62) where
           ),
         )
 
-    pub finish_part : (c : Cache) (ls : List ℕ) → Run n word old heap c →
+    pub finish_part : s.kept value → (c : Cache) (ls : List ℕ) → Run n word old heap c →
         ((w : ℕ) → s.W w → IsIn (line_of C (Heap w)) ls) →
-        Through (Images OwedOrDone) (Cover C (stage Fresh)) c
+        Through (Images OwedOrDone) (Images Retired) c
         (flush_all ls (Fence ∷ retire_events value (pos (suc s.call.done)) (pos (suc a))))
-    finish_part c ls run listed =
+    finish_part keeps c ls run listed =
         let Q : Cache → Type 0 = Images OwedOrDone in
-        let F : Cache → Type 0 = Cover C (stage Fresh) in
+        let F : Cache → Type 0 = Images Retired in
         flush_part Q F (λ d q image im. inl (q image im)) ls
         (Fence ∷ retire_events value (pos (suc s.call.done)) (pos (suc a))) n word old heap c
         (λ l. ⊥) run (λ l none. absurd none)
         (λ d run_d ready. (
           (λ image im. inl (covered s a a_fits n word old d run_d.facts run_d.cover image im)),
-          retire_part (apply d Fence) (settle n word old heap d run_d
+          retire_part keeps (apply d Fence) (settle n word old heap d run_d
               (λ w lt. ⊎_elim (λ here. inl (ready (line_of C (Heap w)) (inr here))) (λ absent.
               inr (λ stored. absent (listed w stored))) (in_or_out (line_of C (Heap w)) ls))),
         ))

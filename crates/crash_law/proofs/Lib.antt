@@ -6,6 +6,8 @@ pub mod Finish
 pub mod Seal
 pub mod Restore
 pub mod Walks
+pub mod Inside
+pub mod Undoing
 pub mod Whole
 pub mod Redo
 pub mod Clean
@@ -13,3 +15,4 @@ pub mod Rest
 pub mod Effects
 pub mod Again
 pub mod Fences
+pub mod EventCounts

@@ -33,7 +33,7 @@ found word old zero w = None
 found word old (suc n) w = or_else (found word old n w) (if_named (word n) w (old n))
 
 -- words of no record
-pub nothing : ℕ → ℤ
+abbrev pub nothing : ℕ → ℤ
 nothing = λ j. pos 0
 
 abbrev pub HasRecord : Option ℤ → Type 0

@@ -1,11 +1,11 @@
 -- After a call that is done, and after a recovery, each line has one version.
 use Rattle.std.proofs.Common.{◌≡◌, ◌≢◌, ◌⊎◌, inl, inr, ⊎_elim, ℕ, zero, suc, ◌+◌, ◌/◌, ◌<◌, ◌≤◌}
 use Rattle.std.proofs.Common.{List, [], ◌∷◌, ◌++◌, length, Some, None, Option, ℤ, pos, refl, sym}
-use Rattle.std.proofs.Common.{ap, subst, arith}
+use Rattle.std.proofs.Common.{ap, ◌∙◌, subst, arith, nat_abs}
 use Rattle.std.proofs.lemmas.Bool.{cases_eq}
 use Rattle.std.proofs.lemmas.List.{drop_all}
 use Rattle.cache_model.specs.Event.{CacheEvent, Store, Flush, Fence}
-use Rattle.cache_model.specs.Cache.{Words, Line, Cache}
+use Rattle.cache_model.specs.Cache.{Words, Line, Cache, put}
 use Rattle.cache_model.specs.Play.{apply, play, fence_at}
 use Rattle.pool_layout.specs.declared.places.Place.TheVariants.{Last, Done, Attempt, Argument, Seal}
 use Rattle.pool_layout.specs.declared.places.Place.TheVariants.{RecordWord, RecordOld, RecordStamp}
@@ -15,8 +15,16 @@ use Rattle.pool_layout.specs.declared.limits.Sizes.{Sizes}
 use Rattle.pool_layout.specs.Places.{at, line_of, pool_of}
 use Rattle.pool_layout.specs.Restored.{restored}
 use Rattle.crash_law.specs.Pools.{Call, call_word}
-use Rattle.crash_law.specs.Due.{Entry, Plain, Logged, Halted, run_events, IsStored, lines_of}
-use Rattle.crash_law.specs.Due.{flush_all, end_events, due_run, due_seal, due_call, redo_events}
+use Rattle.crash_law.specs.Due.{Entry, Plain, Logged, Result, Halted, Trapped, Undone, Records}
+use Rattle.crash_law.specs.Due.{no_records, with_record, records_after, word_of_entry, IsTrace}
+use Rattle.crash_law.specs.Due.{run_events, IsStored, lines_of, flush_all, end_events, undo_events}
+use Rattle.crash_law.specs.Due.{due_run, due_seal, due_call, redo_events}
+use Rattle.pool_layout.specs.Sizes.{heap_words}
+use Rattle.pool_layout.specs.Good.{Pool}
+use Rattle.crash_law.specs.Law.{IsRun, Retires}
+use Rattle.cache_model.proofs.Versions.{put_same, put_other}
+use Rattle.crash_law.proofs.Walks.{AreInHeap, restore_walk, backs_same}
+use Rattle.crash_law.proofs.Inside.{all_inside}
 use Rattle.crash_law.proofs.Walks.{store_words, flush_from, seal_walk, seal_same, reset_walk}
 use Rattle.crash_law.proofs.Walks.{reset_same}
 use Rattle.args_log.specs.Retire.{retire_events}
@@ -149,7 +157,7 @@ module _ (z : Sizes) (a : ℕ) where
       let ran : Clean D (play c (run_events z a 0 heap trace)) =
       run_clean D trace 0 heap c (λ w stored. stored_listed z trace w stored) clean in
       subst IsAtRest
-      (sym (play_append c (run_events z a 0 heap trace) (end_events z a k (Halted value) trace)))
+      (sym (play_append c (run_events z a 0 heap trace) (end_events z a k heap (Halted value) trace)))
       (flush_rest (lines_of z [] trace) (Fence ∷ retire_events value (pos k) (pos (suc a)))
       (play c (run_events z a 0 heap trace)) ran
       (λ d clean_d. retire_rest k value (apply d Fence) (fence_rest d clean_d)))
@@ -255,22 +263,140 @@ pub after_rest : (es fs : List CacheEvent) (c : Cache) → IsAtRest (play c es) 
     ((d : Cache) → IsAtRest d → IsAtRest (play d fs)) → IsAtRest (play c (es ++ fs))
 after_rest es fs c first next = subst IsAtRest (sym (play_append c es fs)) (next (play c es) first)
 
-pub call_rest : (z : Sizes) (a : ℕ) (call : Call) (heap : ℕ →
-    ℤ) (value : ℤ) (trace : List Entry) (c : Cache) → IsAtRest c →
-    IsAtRest (play c (due_call z a call heap (Halted value) trace))
-call_rest z a call heap value trace c at_rest =
-    due_seal_rest z a call (due_run z a (suc call.done) heap (Halted value) trace) c at_rest
-    (λ d rest. run_rest z a (suc call.done) heap value trace d rest)
+-- the word has a record
+abbrev Named : Records → ℕ → Type 0
+Named r u = (j : ℕ) × (j < r.n) × (r.word j ≡ pos u)
 
-pub redo_rest : (z : Sizes) (a k : ℕ) (image : Words) (n : ℕ) (value : ℤ) (trace : List Entry)
-    (c : Cache) → IsAtRest c → IsAtRest (play c (redo_events z a k image n (Halted value) trace))
-redo_rest z a k image zero value trace c at_rest =
-    run_rest z a k (restored (pool_of z) a image) value trace c at_rest
-redo_rest z a k image (suc n) value trace c at_rest =
-    let again : List CacheEvent =
-    due_run z (suc a) k (restored (pool_of z) a image) (Halted value) trace in
-    after_rest (first_events z image (suc n)) (reset_events z a ++ again) c
-    (back_rest z a (word_in_record z image) (old_in_record z image) (suc n) c at_rest)
-    (λ d rest.
-    after_rest (reset_events z a) again d (reset_at_rest z a d rest)
-    (λ e rest_e. run_rest z (suc a) k (restored (pool_of z) a image) value trace e rest_e))
+named_more : (r : Records) (w u : ℕ) (o : ℤ) → Named r u → Named (with_record r w o) u
+named_more r w u o h =
+    (h.0, omega (arith, h.1), put_other r.word r.n h.0 (pos w) (let lt = h.1 in omega arith) ∙ h.2)
+
+named_new : (r : Records) (w : ℕ) (o : ℤ) → Named (with_record r w o) w
+named_new r w o = (r.n, omega arith, put_same r.word r.n (pos w))
+
+-- each word that the run stores has a record, if it is in E
+named_all : (C H : ℕ) (E W : ℕ → Type 0) (trace : List Entry) (r : Records) (heap : ℕ → ℤ)
+    (stored : ℕ → Type 0) → ((w : ℕ) → W w → E w) →
+    IsTrace C H E W r.n stored trace → ((u : ℕ) → stored u → Named r u) → (u : ℕ) → stored u
+    ⊎ IsStored u trace → Named (records_after r heap trace) u
+named_all C H E W [] r heap stored inputs is has u h = ⊎_elim (λ st. has u st) (λ none. absurd none) h
+named_all C H E W (Plain w x ∷ trace) r heap stored inputs is has u h =
+    named_all C H E W trace r (put heap w x)
+    (λ v. (v ≡ w) ⊎ stored v) inputs is.3
+    (λ v before. ⊎_elim (λ (e : v ≡ w). has v (subst stored (sym e) (is.2 (inputs w is.0))))
+    (λ st. has v st) before)
+    u (⊎_elim (λ st. inl (inr st))
+    (λ there. ⊎_elim (λ e. inl (inl e)) (λ later. inr later) there) h)
+named_all C H E W (Logged w x ∷ trace) r heap stored inputs is has u h =
+    named_all C H E W trace (with_record r w (heap w)) (put heap w x) (λ v. (v ≡ w) ⊎ stored v)
+    inputs is.3
+    (λ v before. ⊎_elim
+    (λ (e : v ≡ w). subst (λ (t : ℕ). Named (with_record r w (heap w)) t) (sym e)
+    (named_new r w (heap w))) (λ st. named_more r w v (heap w) (has v st)) before)
+    u (⊎_elim (λ st. inl (inr st))
+    (λ there. ⊎_elim (λ e. inl (inl e)) (λ later. inr later) there) h)
+
+module _ (z : Sizes) (a : ℕ) where
+  abbrev L : Layout
+  L = pool_of z
+
+  -- the lines of the first m records
+  abbrev Lines : (ℕ → ℤ) → ℕ → ℕ → Type 0
+  Lines word m l = (j : ℕ) × (j < m) × (l ≡ line_of L (Heap (nat_abs (word j))))
+
+  restore_clean : (word old : ℕ → ℤ) (n : ℕ) (rest : List CacheEvent) (c : Cache) →
+      Clean (Lines word n) c → ((d : Cache) → Clean Nowhere d → IsAtRest (play d rest)) →
+      IsAtRest (play c (restore_walk L word old n rest))
+  restore_clean word old zero rest c clean next =
+      next c (clean_more (Lines word 0) Nowhere c (λ l h. let lt = h.1 in omega arith) clean)
+  restore_clean word old (suc n) rest c clean next =
+      let p : ℕ = at L (Heap (nat_abs (word n))) in
+      restore_clean word old n rest
+      (apply (apply c (Store p (old n))) (Flush (line_of L (Heap (nat_abs (word n))))))
+      (clean_flush (Lines word (suc n)) (Lines word n) (apply c (Store p (old n)))
+      (line_of L (Heap (nat_abs (word n))))
+      (λ l h. ⊎_elim
+      (λ (e : h.0 ≡ n). inl (h.2 ∙ ap (λ (i : ℕ). line_of L (Heap (nat_abs (word i)))) e))
+      (λ (ne : h.0 ≢ n). inr (h.0, (let lt = h.1 in omega arith), h.2))
+      (cases_eq h.0 n))
+      (clean_store (Lines word (suc n)) c p (old n) (n, omega arith, refl) clean))
+      next
+
+  -- the run of a trace that stores a word, and its undo
+  some_rest : (E W : ℕ → Type 0) (k : ℕ) (heap : ℕ → ℤ) (trace : List Entry) (last : ℤ)
+      (c : Cache) (first : ℕ) → IsStored first trace → ((w : ℕ) → W w → E w) →
+      IsTrace z.records (heap_words z) E W 0 (λ w. ⊥) trace → IsAtRest c →
+      IsAtRest (play c (due_run z a k heap (Undone last) trace))
+  some_rest E W k heap trace last c first there inputs is rest =
+      let r : Records = records_after no_records heap trace in
+      let events : List CacheEvent = run_events z a 0 heap trace in
+      let named : (u : ℕ) → IsStored u trace → Named r u =
+      λ u there. named_all z.records (heap_words z) E W trace no_records heap (λ w. ⊥) inputs is
+      (λ v none. absurd none) u (inr there) in
+      let clean : Clean (Lines r.word r.n) c =
+      clean_more Nowhere (Lines r.word r.n) c (λ l none. absurd none) (rest_clean c rest) in
+      let ran : Clean (Lines r.word r.n) (play c events) =
+      run_clean z a (Lines r.word r.n) trace 0 heap c
+      (λ w there. let h = named w there in
+      (h.0, h.1, sym (ap (λ (x : ℤ). line_of L (Heap (nat_abs x))) h.2))) clean in
+      subst IsAtRest (sym (play_append c events (undo_events z a k r last)))
+      (go r (named first there) (all_inside z E W trace heap is) r.n refl (play c events) ran)
+    where
+      tail : List CacheEvent
+      tail = retire_events last (pos k) (pos (suc a))
+
+      go : (r : Records) → Named r first → AreInHeap z r.word r.n → (m : ℕ) → r.n ≡ m →
+          (d : Cache) →
+          Clean (Lines r.word r.n) d →
+          IsAtRest (play d ((back_events z r.word r.old m ++ fence_after m) ++ tail))
+      go r has inside zero e d clean = let lt = has.1 in absurd (omega arith)
+      go r has inside (suc m) e d clean =
+          subst (λ (es : List CacheEvent). IsAtRest (play d es))
+          (sym (backs_same z r.word r.old m tail (λ j lt. inside j (omega arith))))
+          (restore_clean r.word r.old (suc m) (Fence ∷ tail) d
+          (subst (λ (i : ℕ). Clean (Lines r.word i) d) e clean)
+          (λ b at_fence. retire_rest z a k last (apply b Fence) (fence_rest b at_fence)))
+
+  undone_rest : (E W : ℕ → Type 0) (k : ℕ) (heap : ℕ → ℤ) (trace : List Entry) (last : ℤ)
+      (c : Cache) → ((w : ℕ) → W w → E w) →
+      IsTrace z.records (heap_words z) E W 0 (λ w. ⊥) trace → IsAtRest c →
+      IsAtRest (play c (due_run z a k heap (Undone last) trace))
+  undone_rest E W k heap [] last c inputs is rest = retire_rest z a k last c rest
+  undone_rest E W k heap (e ∷ trace) last c inputs is rest =
+      some_rest E W k heap (e ∷ trace) last c (word_of_entry e) (inl refl) inputs is rest
+
+-- the run and its end, where it retires the call
+module _ (z : Sizes) (a k : ℕ) (E W : ℕ → Type 0) (heap : ℕ → ℤ) (trace : List Entry) where
+  end_rest : (pool : Pool) → pool.sizes ≡ z → (result : Result) → IsRun pool E W result trace →
+      Retires result → (c : Cache) → IsAtRest c →
+      IsAtRest (play c (due_run z a k heap result trace))
+  end_rest pool same (Halted value) is retires c rest = run_rest z a k heap value trace c rest
+  end_rest pool same (Trapped trap) is retires c rest = absurd retires
+  end_rest pool same (Undone last) is retires c rest =
+      undone_rest z a E W k heap trace last c (is.undone_is last refl)
+      (subst (λ (s : Sizes). IsTrace s.records (heap_words s) E W 0 (λ w. ⊥) trace) same
+      is.trace_is) rest
+
+module _ (pool : Pool) (E W : ℕ → Type 0) (result : Result) (trace : List Entry)
+    (is : IsRun pool E W result trace) (retires : Retires result) where
+  pub call_rest : (a : ℕ) (call : Call) (heap : ℕ → ℤ) (c : Cache) → IsAtRest c →
+      IsAtRest (play c (due_call pool.sizes a call heap result trace))
+  call_rest a call heap c at_rest =
+      due_seal_rest pool.sizes a call (due_run pool.sizes a (suc call.done) heap result trace) c
+      at_rest (λ d rest.
+      end_rest pool.sizes a (suc call.done) E W heap trace pool refl result is retires d rest)
+
+  pub redo_rest : (a k : ℕ) (image : Words) (n : ℕ) (c : Cache) → IsAtRest c →
+      IsAtRest (play c (redo_events pool.sizes a k image n result trace))
+  redo_rest a k image zero c at_rest =
+      end_rest pool.sizes a k E W (restored (pool_of pool.sizes) a image) trace pool refl result is
+      retires c at_rest
+  redo_rest a k image (suc n) c at_rest =
+      let z : Sizes = pool.sizes in
+      let h : ℕ → ℤ = restored (pool_of z) a image in
+      let again : List CacheEvent = due_run z (suc a) k h result trace in
+      after_rest (first_events z image (suc n)) (reset_events z a ++ again) c
+      (back_rest z a (word_in_record z image) (old_in_record z image) (suc n) c at_rest)
+      (λ d rest.
+      after_rest (reset_events z a) again d (reset_at_rest z a d rest)
+      (λ e rest_e. end_rest z (suc a) k E W h trace pool refl result is retires e rest_e))

@@ -10,7 +10,7 @@ use Rattle.cache_model.specs.Cache.{Words, Cache, view}
 use Rattle.cache_model.specs.Play.{apply}
 use Rattle.cache_model.specs.Image.{IsVersion, Images}
 use Rattle.pool_layout.specs.declared.places.Place.{Place}
-use Rattle.pool_layout.specs.declared.places.Place.TheVariants.{Done, Attempt, Mark, RecordWord}
+use Rattle.pool_layout.specs.declared.places.Place.TheVariants.{Last, Done, Attempt, Mark, RecordWord}
 use Rattle.pool_layout.specs.declared.places.Place.TheVariants.{RecordOld, RecordStamp, Heap}
 use Rattle.pool_layout.specs.declared.places.Layout.{Layout}
 use Rattle.pool_layout.specs.Places.{at, line_of, IsPlace, pool_of}
@@ -52,10 +52,10 @@ module _ (s : Setting) (a : ℕ) (a_fits : a ≤ 2 ^ 62) (n : ℕ) (word old : �
   restoring = owing s a n word old (λ w x. w < H → found word old n w ≡ None → x ≡ s.r w)
 
   abbrev pub OwedNow : Cache → Type 0
-  OwedNow = Images (Owed s.pool s.call s.E s.W s.h)
+  OwedNow = Images (Owed s.pool s.call s.E s.W s.h s.kept)
 
   restoring_image : (image : Words) → IsFine C restoring image
-      → Owed s.pool s.call s.E s.W s.h image
+      → Owed s.pool s.call s.E s.W s.h s.kept image
   restoring_image image fine = owed_image s a n word old (λ w x. w < H → found word old n w ≡ None
       → x ≡ s.r w) image a_fits room in_heap
       (λ w lt kept y is. recorded w lt y is ∙ s.from w lt kept)
@@ -196,7 +196,7 @@ module _ (s : Setting) (a : ℕ) (a_fits : a ≤ 2 ^ 62) (n : ℕ) (word old : �
 
     of_either : (image : Words) (b : Bool)
         → ((q : Place) → IsPlace C q → either b q (image (at C q)))
-        → Owed s.pool s.call s.E s.W s.h image
+        → Owed s.pool s.call s.E s.W s.h s.kept image
     of_either image false fine = restoring_image image
         (λ q is. weaker q is (image (at C q)) (fine q is))
     of_either image true fine = pick s (suc a) next_fits 0 nothing nothing image no_facts fine
@@ -213,6 +213,9 @@ module _ (s : Setting) (a : ℕ) (a_fits : a ≤ 2 ^ 62) (n : ℕ) (word old : �
         let c4 : Cache = apply c3 Fence in
         let cover1 : Cover C (ok restored_fine) c1 =
         record { each = settle_each c cover new ready } in
+        let last2 : s.kept (view c2 (at C Last)) =
+        subst s.kept (sym (view_other c1 (at C Attempt) (at C Last) (pos (suc a)) (omega arith)))
+        (cover_view C (ok restored_fine) c1 cover1 Last tt) in
         let done2 : view c2 (at C Done) ≡ pos s.call.done =
         view_other c1 (at C Attempt) (at C Done) (pos (suc a)) (omega arith)
         ∙ cover_view C (ok restored_fine) c1 cover1 Done tt in
@@ -224,9 +227,10 @@ module _ (s : Setting) (a : ℕ) (a_fits : a ≤ 2 ^ 62) (n : ℕ) (word old : �
         let held1 : Held C 2 either c1 = held_cover C 2 either c1 false cover1 at_both in
         let held2 : Held C 2 either c2 =
         held_store C 2 either c1 Attempt (pos (suc a)) true refl
-        (line_two s a a_fits again c2 tt done2 attempt2 mark2) held1 in
+        (line_two s a a_fits again c2 last2 done2 attempt2 mark2) held1 in
         let held3 : Held C 2 either c3 = held_flush C 2 either c2 2 held2 in
-        let new3 = line_two s a a_fits again c3 tt (view_flush c2 2 (at C Done) ∙ done2)
+        let new3 = line_two s a a_fits again c3
+        (subst s.kept (sym (view_flush c2 2 (at C Last))) last2) (view_flush c2 2 (at C Done) ∙ done2)
         (view_flush c2 2 (at C Attempt) ∙ attempt2) (view_flush c2 2 (at C Mark) ∙ mark2) in
         let cover4 : Cover C (ok again) c4 =
         held_single C 2 either c3 true (flush_ready c2 2 2 (λ ne. absurd (ne refl))) new3 held3 in

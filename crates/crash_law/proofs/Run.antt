@@ -18,6 +18,7 @@ use Rattle.pool_layout.specs.Places.{at, line_of, IsPlace, pool_of}
 use Rattle.clobber_log.specs.Record.{record_events}
 use Rattle.crash_law.specs.Pools.{Owed}
 use Rattle.crash_law.specs.Due.{Entry, Plain, Logged, run_events, heap_after, IsTrace}
+use Rattle.crash_law.specs.Due.{Records, with_record, records_after}
 use Rattle.cache_model.proofs.Versions.{put_same, put_other}
 use Rattle.cache_model.proofs.Views.{view_same, view_other, view_flush, view_fence}
 use Rattle.cache_model.proofs.Ready.{flush_ready}
@@ -57,7 +58,7 @@ module _ (s : Setting) (a : ℕ) (a_fits : a ≤ 2 ^ 62) where
     pub heap_is : (w : ℕ) → w < H → view c (at C (Heap w)) ≡ heap w
 
   pub pick : (n : ℕ) (word old : ℕ → ℤ) (image : Words) → Recorded n word old
-      → IsFine C (running n word old) image → Owed s.pool s.call s.E s.W s.h image
+      → IsFine C (running n word old) image → Owed s.pool s.call s.E s.W s.h s.kept image
   pick n word old image facts fine =
       owed_image s a n word old (Allowed n word old) image a_fits facts.room
       (λ j lt. let u = facts.words j lt in (u.0, u.1, u.3))
@@ -77,7 +78,7 @@ module _ (s : Setting) (a : ℕ) (a_fits : a ≤ 2 ^ 62) where
 
   -- the call is owed in every image
   abbrev pub Q : Cache → Type 0
-  Q = Images (Owed s.pool s.call s.E s.W s.h)
+  Q = Images (Owed s.pool s.call s.E s.W s.h s.kept)
 
   pub covered : (n : ℕ) (word old : ℕ → ℤ) (c : Cache) → Recorded n word old
       → Cover C (ok (running n word old)) c → Q c
@@ -173,11 +174,11 @@ module _ (s : Setting) (a : ℕ) (a_fits : a ≤ 2 ^ 62) where
 
     picked : (image : Words) → Recorded n word old → Recorded (suc n) word' old'
         → (b : Bool) × ((q : Place) → IsPlace C q → either b q (image (at C q)))
-        → Owed s.pool s.call s.E s.W s.h image
+        → Owed s.pool s.call s.E s.W s.h s.kept image
     picked image facts more found_it = of found_it.0 found_it.1
       where
         of : (b : Bool) → ((q : Place) → IsPlace C q → either b q (image (at C q)))
-            → Owed s.pool s.call s.E s.W s.h image
+            → Owed s.pool s.call s.E s.W s.h s.kept image
         of false fine = pick n word old image facts fine
         of true fine = pick (suc n) word' old' image more fine
 
@@ -249,50 +250,46 @@ module _ (s : Setting) (a : ℕ) (a_fits : a ≤ 2 ^ 62) where
         },
       )
 
-  -- after a run: some records, and the heap
-  pub record Ran (heap : ℕ → ℤ) (c : Cache) : Type 0 where
-    pub n : ℕ
-    pub word : ℕ → ℤ
-    pub old : ℕ → ℤ
-    pub running : Running n word old heap c
+  -- a run with these records
+  abbrev pub Holding : Records → (ℕ → ℤ) → Cache → Type 0
+  Holding r heap c = Running r.n r.word r.old heap c
 
-  pub run_part : (trace : List Entry) (n : ℕ) (word old heap : ℕ → ℤ) (stored : ℕ →
-      Type 0) (c : Cache) → Running n word old heap c →
-      ((u : ℕ) → stored u → s.E u → HasRecord (found word old n u)) →
-      IsTrace C.sizes.records H s.E s.W n stored trace →
-      during c (run_events z a n heap trace) Q
-      × Ran (heap_after heap trace) (play c (run_events z a n heap trace))
-  run_part [] n word old heap stored c run has ok_trace = (
-    covered n word old c run.facts run.cover,
-    record { n = n; word = word; old = old; running = run },
-  )
-  run_part (Plain w x ∷ trace) n word old heap stored c run has ok_trace =
-      let next : Running n word old (put heap w x) (apply c (Store (at C (Heap w)) x)) =
-      plain_step n word old heap c w x ok_trace.1 ok_trace.0
+  pub run_part : (trace : List Entry) (r : Records) (heap : ℕ → ℤ) (stored : ℕ → Type 0)
+      (c : Cache) → Holding r heap c →
+      ((u : ℕ) → stored u → s.E u → HasRecord (found r.word r.old r.n u)) →
+      IsTrace C.sizes.records H s.E s.W r.n stored trace →
+      during c (run_events z a r.n heap trace) Q
+      × Holding (records_after r heap trace) (heap_after heap trace)
+      (play c (run_events z a r.n heap trace))
+  run_part [] r heap stored c run has ok_trace =
+      (covered r.n r.word r.old c run.facts run.cover, run)
+  run_part (Plain w x ∷ trace) r heap stored c run has ok_trace =
+      let next : Holding r (put heap w x) (apply c (Store (at C (Heap w)) x)) =
+      plain_step r.n r.word r.old heap c w x ok_trace.1 ok_trace.0
       (λ input. has w (ok_trace.2 input) input) run in
-      let rest = run_part trace n word old (put heap w x) (λ u. (u ≡ w) ⊎ stored u)
+      let rest = run_part trace r (put heap w x) (λ u. (u ≡ w) ⊎ stored u)
       (apply c (Store (at C (Heap w)) x)) next
       (λ u before input. ⊎_elim (λ (e : u ≡ w).
       has u (subst stored (sym e) (ok_trace.2 (subst s.E e input))) input)
       (λ st. has u st input) before)
       ok_trace.3 in
-      ((covered n word old c run.facts run.cover, rest.0), rest.1)
-  run_part (Logged w x ∷ trace) n word old heap stored c run has ok_trace =
-      let word' : ℕ → ℤ = put word n (pos w) in
-      let old' : ℕ → ℤ = put old n (heap w) in
-      let step = log_step n word old heap c w ok_trace.0 ok_trace.1 ok_trace.2 run in
-      let c5 : Cache = logged n w (heap w) c in
-      let fresh_one : HasRecord (found word' old' (suc n) w) = found_new word old n w (heap w) in
-      let next : Running (suc n) word' old' (put heap w x) (apply c5 (Store (at C (Heap w)) x)) =
-      plain_step (suc n) word' old' heap c5 w x ok_trace.1 ok_trace.0
+      ((covered r.n r.word r.old c run.facts run.cover, rest.0), rest.1)
+  run_part (Logged w x ∷ trace) r heap stored c run has ok_trace =
+      let r' : Records = with_record r w (heap w) in
+      let step = log_step r.n r.word r.old heap c w ok_trace.0 ok_trace.1 ok_trace.2 run in
+      let c5 : Cache = logged r.n w (heap w) c in
+      let fresh_one : HasRecord (found r'.word r'.old (suc r.n) w) =
+      found_new r.word r.old r.n w (heap w) in
+      let next : Holding r' (put heap w x) (apply c5 (Store (at C (Heap w)) x)) =
+      plain_step (suc r.n) r'.word r'.old heap c5 w x ok_trace.1 ok_trace.0
       (λ input. fresh_one) step.1 in
-      let rest = run_part trace (suc n) word' old' (put heap w x) (λ u. (u ≡ w) ⊎ stored u)
+      let rest = run_part trace r' (put heap w x) (λ u. (u ≡ w) ⊎ stored u)
       (apply c5 (Store (at C (Heap w)) x)) next
       (λ u before input. ⊎_elim (λ (e : u ≡ w).
-      subst (λ (v : ℕ). HasRecord (found word' old' (suc n) v)) (sym e) fresh_one)
-      (λ st. found_grows word old n (pos w) (heap w) u (has u st input)) before)
+      subst (λ (v : ℕ). HasRecord (found r'.word r'.old (suc r.n) v)) (sym e) fresh_one)
+      (λ st. found_grows r.word r.old r.n (pos w) (heap w) u (has u st input)) before)
       ok_trace.3 in (
-        step.0 (Store (at C (Heap w)) x ∷ run_events z a (suc n) (put heap w x) trace)
-            (covered (suc n) word' old' c5 step.1.facts step.1.cover, rest.0),
+        step.0 (Store (at C (Heap w)) x ∷ run_events z a (suc r.n) (put heap w x) trace)
+            (covered (suc r.n) r'.word r'.old c5 step.1.facts step.1.cover, rest.0),
         rest.1,
       )

@@ -141,8 +141,8 @@ module _ (z : Sizes) (ok_now : Place → ℤ → Type 0) (free : (k : ℕ) (x : 
         (cases_eq k l)) h))),
   )
 
-module _ (s : Setting) (a : ℕ) (a_fits : a ≤ 2 ^ 62) (last : ℤ) (same_heap : (w : ℕ)
-    → w < heap_words s.pool.sizes → s.h w ≡ s.r w) where
+module _ (s : Setting) (a : ℕ) (a_fits : a ≤ 2 ^ 62) (last : ℤ) (keeps : s.kept last)
+    (same_heap : (w : ℕ) → w < heap_words s.pool.sizes → s.h w ≡ s.r w) where
   abbrev C : Layout
   C = pool_of s.pool.sizes
 
@@ -178,7 +178,7 @@ module _ (s : Setting) (a : ℕ) (a_fits : a ≤ 2 ^ 62) (last : ℤ) (same_heap
   either true = ok sealed
 
   to_sealed : (q : Place) → IsPlace C q → line_of C q ≢ 5 → (x : ℤ) → ok filled q x → ok sealed q x
-  to_sealed Last is ne x fine = tt
+  to_sealed Last is ne x fine = subst s.kept (sym fine) keeps
   to_sealed Seal is ne x fine = absurd (ne refl)
   to_sealed (RecordWord j) is ne x fine = λ lt. absurd (omega arith)
   to_sealed (RecordOld j) is ne x fine = λ lt. absurd (omega arith)
@@ -207,7 +207,7 @@ module _ (s : Setting) (a : ℕ) (a_fits : a ≤ 2 ^ 62) (last : ℤ) (same_heap
   }
 
   abbrev pub BeforeOrOwed : Words → Type 0
-  BeforeOrOwed image = IsBefore s.pool d s.h last image ⊎ Owed s.pool s.call s.E s.W s.h image
+  BeforeOrOwed image = IsBefore s.pool d s.h last image ⊎ Owed s.pool s.call s.E s.W s.h s.kept image
 
   of_either : (image : Words) → (b : Bool)
       → ((q : Place) → IsPlace C q → either b q (image (at C q))) → BeforeOrOwed image

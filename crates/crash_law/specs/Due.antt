@@ -10,7 +10,7 @@ use Rattle.pool_layout.specs.Places.{at, line_of, pool_of}
 use Rattle.pool_layout.specs.Restored.{restored}
 use Rattle.clobber_log.specs.Record.{record_events}
 use Rattle.clobber_log.specs.Reset.{reset_events}
-use Rattle.clobber_log.specs.Restore.{first_events}
+use Rattle.clobber_log.specs.Restore.{back_events, fence_after, first_events}
 use Rattle.args_log.specs.Seal.{seal_events}
 use Rattle.args_log.specs.Retire.{retire_events, mark_events}
 use Rattle.crash_law.specs.Pools.{Call}
@@ -66,19 +66,50 @@ abbrev pub IsStored : ℕ → List Entry → Type 0
 IsStored w [] = ⊥
 IsStored w (e ∷ trace) = (w ≡ word_of_entry e) ⊎ IsStored w trace
 
+-- records: their number, their heap words and their old values
+pub record Records : Type 0 where
+  pub n : ℕ
+  pub word : ℕ → ℤ
+  pub old : ℕ → ℤ
+
+abbrev pub no_records : Records
+no_records = record { n = 0; word = λ j. pos 0; old = λ j. pos 0 }
+
+-- one more record
+abbrev pub with_record : Records → ℕ → ℤ → Records
+with_record r w o = record { n = suc r.n; word = put r.word r.n (pos w); old = put r.old r.n o }
+
+-- the records after a run that begins with this heap
+abbrev pub records_after : Records → (ℕ → ℤ) → List Entry → Records
+records_after r heap [] = r
+records_after r heap (Plain w x ∷ trace) = records_after r (put heap w x) trace
+records_after r heap (Logged w x ∷ trace) =
+    records_after (with_record r w (heap w)) (put heap w x) trace
+
+-- how a call ends: with a value; with a trap, which ends the pool; or undone, with the last value
+-- from before the call
 pub data Result : Type 0 where
   Halted : (value : ℤ) → Result
   Trapped : (trap : ℕ) → Result
+  Undone : (last : ℤ) → Result
 
--- the end of a run: its lines are flushed, and call k is retired with the value; or the mark is set
-abbrev pub end_events : (z : Sizes) (a k : ℕ) → Result → List Entry → List CacheEvent
-end_events z a k (Halted value) trace =
+-- the records are put back, and call k is retired with the last value as it is
+abbrev pub undo_events : (z : Sizes) (a k : ℕ) → Records → (last : ℤ) → List CacheEvent
+undo_events z a k r last =
+    (back_events z r.word r.old r.n ++ fence_after r.n) ++ retire_events last (pos k) (pos (suc a))
+
+-- the end of a run that began with this heap: its lines are flushed, and call k is retired with the
+-- value; or the mark is set; or the run is undone
+abbrev pub end_events : (z : Sizes) (a k : ℕ) → (ℕ → ℤ) → Result → List Entry → List CacheEvent
+end_events z a k heap (Halted value) trace =
     flush_all (lines_of z [] trace) (Fence ∷ retire_events value (pos k) (pos (suc a)))
-end_events z a k (Trapped trap) trace = mark_events trap
+end_events z a k heap (Trapped trap) trace = mark_events trap
+end_events z a k heap (Undone last) trace =
+    undo_events z a k (records_after no_records heap trace) last
 
 -- the run and its end
 abbrev pub due_run : (z : Sizes) (a k : ℕ) → (ℕ → ℤ) → Result → List Entry → List CacheEvent
-due_run z a k heap result trace = run_events z a 0 heap trace ++ end_events z a k result trace
+due_run z a k heap result trace = run_events z a 0 heap trace ++ end_events z a k heap result trace
 
 -- the seal of a call
 abbrev pub due_seal : Call → List CacheEvent

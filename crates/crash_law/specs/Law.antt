@@ -1,6 +1,7 @@
 -- The crash law of a call and of its recovery.
 use Rattle.pool_layout.specs.Sizes.{heap_words}
-use Rattle.std.specs.Prelude.{◌≤◌, Option, Some, ◌∷◌, Bool, IsTrue, ℕ, zero, suc, ◌^◌, ◌<◌, ◌≡◌}
+use Rattle.std.specs.Prelude.{◌≤◌, ◌+◌, ◌*◌, ◌/◌, Option, Some, ◌∷◌, Bool, IsTrue, ℕ, zero, suc, ◌^◌}
+use Rattle.std.specs.Prelude.{◌<◌, ◌≡◌}
 use Rattle.std.specs.Prelude.{◌⊎◌, List, [], ◌++◌, length, None, ℤ}
 use Rattle.cache_model.specs.Event.{CacheEvent, Fence}
 use Rattle.cache_model.specs.Cache.{Words, Cache}
@@ -12,30 +13,47 @@ use Rattle.pool_layout.specs.declared.places.TheConstants.{ARGUMENTS}
 use Rattle.pool_layout.specs.Places.{pool_of}
 use Rattle.pool_layout.specs.Log.{count}
 use Rattle.pool_layout.specs.Good.{Lost, Pool, Good}
-use Rattle.crash_law.specs.Pools.{Call, Owed, IsBefore, IsDone, last_of, HasNoRecord}
-use Rattle.crash_law.specs.Due.{Entry, Result, Halted, Trapped, IsTrace, IsStored, heap_after}
+use Rattle.crash_law.specs.Pools.{Call, Owed, IsBefore, IsDone, IsRetired, last_of, HasNoRecord}
+use Rattle.crash_law.specs.Due.{Entry, Result, Halted, Trapped, Undone, IsTrace, IsStored}
+use Rattle.crash_law.specs.Due.{Plain, Logged, heap_after}
 use Rattle.crash_law.specs.Due.{run_events, due_call, redo_events, clean_events}
 use Rattle.crash_law.specs.Effects.{Effect, IsSound, IsInput, IsOverwritten, trace_of}
 use Rattle.crash_law.specs.Effects.{effect_events}
 
 -- What is used of a run: each word is in W and in the heap, the first entry of each word of E is
--- logged, and the records fit; each word of W is stored; and a trap's number is at least 1.
+-- logged, and the records fit; each word of W is stored; a trap's number is at least 1; and where
+-- the run is undone, each word of W is in E, so it has a record.
 pub record IsRun (pool : Pool) (E W : ℕ → Type 0) (result : Result) (trace : List Entry) :
     Type 0 where
   pub trace_is : IsTrace pool.sizes.records (heap_words pool.sizes) E W 0 (λ w. ⊥) trace
   pub all_stored : (w : ℕ) → W w → IsStored w trace
   pub trap_is : (trap : ℕ) → result ≡ Trapped trap → 0 < trap
+  pub undone_is : (last : ℤ) → result ≡ Undone last → (w : ℕ) → W w → E w
 
--- the end of a call: it is done, with the heap h', or the pool is lost
-abbrev pub IsEnd : Pool → Call → (ℕ → ℤ) → Result → Words → Type 0
-IsEnd pool call h' (Halted value) image = IsDone pool (suc call.done) h' value image
-IsEnd pool call h' (Trapped trap) image = Lost pool.sizes trap image
+-- what a call's end asks of the last value while the call is owed: to be undone it must be kept
+abbrev pub KeepsLast : Result → ℤ → Type 0
+KeepsLast (Halted value) x = Unit {0}
+KeepsLast (Trapped trap) x = Unit {0}
+KeepsLast (Undone last) x = x ≡ last
+
+-- the end of a call from heap h: it is done, with the heap h'; or the pool is lost; or it is
+-- retired with the heap and the last value from before
+abbrev pub IsEnd : Pool → Call → (h h' : ℕ → ℤ) → Result → Words → Type 0
+IsEnd pool call h h' (Halted value) image = IsDone pool (suc call.done) h' value image
+IsEnd pool call h h' (Trapped trap) image = Lost pool.sizes trap image
+IsEnd pool call h h' (Undone last) image = IsDone pool (suc call.done) h last image
+
+-- the same after the last event, when also no record is valid unless the pool is lost
+abbrev pub IsEnded : Pool → Call → (h h' : ℕ → ℤ) → Result → Words → Type 0
+IsEnded pool call h h' (Halted value) image = IsRetired pool (suc call.done) h' value image
+IsEnded pool call h h' (Trapped trap) image = Lost pool.sizes trap image
+IsEnded pool call h h' (Undone last) image = IsRetired pool (suc call.done) h last image
 
 -- the four images that a power cut may leave
 abbrev pub IsCut : Pool → Call → (E W : ℕ → Type 0) → (h h' : ℕ → ℤ) → ℤ → Result → Words → Type 0
 IsCut pool call E W h h' last result image =
     IsBefore pool call.done h last image
-    ⊎ (Owed pool call E W h image ⊎ IsEnd pool call h' result image)
+    ⊎ (Owed pool call E W h (KeepsLast result) image ⊎ IsEnd pool call h h' result image)
 
 -- Every image is of the first kind after each event, and of the second after the last.
 abbrev pub Leaves : Cache → List CacheEvent → (cut whole : Words → Type 0) → Type 0
@@ -47,7 +65,7 @@ abbrev pub CutCall : Pool → Call → (E W : ℕ → Type 0) → (h : ℕ → �
 CutCall pool call E W h result trace c last a =
     Leaves c (due_call pool.sizes a call h result trace)
     (IsCut pool call E W h (heap_after h trace) last result)
-    (IsEnd pool call (heap_after h trace) result)
+    (IsEnded pool call h (heap_after h trace) result)
 
 -- a recovery of an owed call: after each event the call is still owed or has ended; after the last
 -- it has ended
@@ -55,8 +73,9 @@ abbrev pub CutRedo : Pool → Call → (E W : ℕ → Type 0) → (h : ℕ → �
     → Words → (a n : ℕ) → Type 0
 CutRedo pool call E W h result trace c one a n =
     Leaves c (redo_events pool.sizes a (suc call.done) one n result trace)
-    (λ image. Owed pool call E W h image ⊎ IsEnd pool call (heap_after h trace) result image)
-    (IsEnd pool call (heap_after h trace) result)
+    (λ image. Owed pool call E W h (KeepsLast result) image
+    ⊎ IsEnd pool call h (heap_after h trace) result image)
+    (IsEnded pool call h (heap_after h trace) result)
 
 -- a recovery of an image that isn't sealed: after each event the image is good; after the last it
 -- has no valid record
@@ -68,13 +87,15 @@ abbrev pub CutClean : Pool → (d : ℕ) → (h : ℕ → ℤ) → Cache → (a 
 CutClean pool d h c a n =
     Leaves c (clean_events pool.sizes a n) (Good pool d h) (IsClean pool d h)
 
--- The law of a call, from a cache with one image, which is good and has no record.
+-- The law of a call, from a cache with one image, which is good and has no record. If it is undone,
+-- the last value is the image's.
 abbrev pub CallLaw : Type 0
 CallLaw =
     (pool : Pool) (call : Call) (E W : ℕ → Bool) (h : ℕ → ℤ) (result : Result) (trace : List Entry)
     (c : Cache) (one : Words) →
     length call.args ≤ ARGUMENTS → call.done < 2 ^ 62 →
     IsRun pool (λ w. IsTrue (E w)) (λ w. IsTrue (W w)) result trace →
+    KeepsLast result (last_of pool one) →
     HasOne c one → (good : Good pool call.done h one) → good.attempt < 2 ^ 62
     → count (pool_of pool.sizes) good.attempt one ≡ 0 →
     CutCall pool call (λ w. IsTrue (E w)) (λ w. IsTrue (W w)) h result trace c
@@ -87,8 +108,9 @@ RedoLaw =
     (c : Cache) (one : Words) →
     length call.args ≤ ARGUMENTS →
     IsRun pool (λ w. IsTrue (E w)) (λ w. IsTrue (W w)) result trace →
-    HasOne c one → (owed : Owed pool call (λ w. IsTrue (E w)) (λ w. IsTrue (W w)) h one) → (n : ℕ)
-    → count (pool_of pool.sizes) owed.attempt one ≡ n → (0 < n → owed.attempt < 2 ^ 62) →
+    HasOne c one →
+    (owed : Owed pool call (λ w. IsTrue (E w)) (λ w. IsTrue (W w)) h (KeepsLast result) one) →
+    (n : ℕ) → count (pool_of pool.sizes) owed.attempt one ≡ n → (0 < n → owed.attempt < 2 ^ 62) →
     CutRedo pool call (λ w. IsTrue (E w)) (λ w. IsTrue (W w)) h result trace c one owed.attempt n
 
 -- The law of a recovery, from a cache with one image, which is good.
@@ -103,13 +125,21 @@ CleanLaw =
 abbrev pub IsAtRest : Cache → Type 0
 IsAtRest c = (l : ℕ) → (c l).older ≡ []
 
--- After a call or a recovery that halts, each line has one version, if it had one before.
+-- the call comes to be retired
+abbrev pub Retires : Result → Type 0
+Retires (Halted value) = Unit {0}
+Retires (Trapped trap) = ⊥
+Retires (Undone last) = Unit {0}
+
+-- After a call or a recovery that retires the call, each line has one version, if it had one
+-- before.
 abbrev pub RestLaw : Type 0
 RestLaw =
-    (pool : Pool) (call : Call) (heap : ℕ → ℤ) (value : ℤ) (trace : List Entry) (c : Cache)
-    (one : Words) (a n : ℕ) → IsAtRest c →
-    IsAtRest (play c (due_call pool.sizes a call heap (Halted value) trace))
-    × IsAtRest (play c (redo_events pool.sizes a (suc call.done) one n (Halted value) trace))
+    (pool : Pool) (call : Call) (E W : ℕ → Bool) (heap : ℕ → ℤ) (result : Result)
+    (trace : List Entry) (c : Cache) (one : Words) (a n : ℕ) →
+    IsRun pool (λ w. IsTrue (E w)) (λ w. IsTrue (W w)) result trace → Retires result → IsAtRest c →
+    IsAtRest (play c (due_call pool.sizes a call heap result trace))
+    × IsAtRest (play c (redo_events pool.sizes a (suc call.done) one n result trace))
 
 -- the cache after a power cut that left this image: each line has the image's version alone, and no
 -- mark
@@ -124,7 +154,7 @@ IsLeft c es image = (first rest : List CacheEvent) × (first ++ rest ≡ es)
 -- a power cut during the recovery of the first image may leave the second
 pub record IsCutTo (pool : Pool) (call : Call) (E W : ℕ → Type 0) (h : ℕ → ℤ) (result : Result)
     (trace : List Entry) (one other : Words) : Type 0 where
-  pub owed : Owed pool call E W h one
+  pub owed : Owed pool call E W h (KeepsLast result) one
   pub n : ℕ
   pub counted : count (pool_of pool.sizes) owed.attempt one ≡ n
   pub room : 0 < n → owed.attempt < 2 ^ 62
@@ -143,11 +173,11 @@ AgainLaw =
     (pool : Pool) (call : Call) (E W : ℕ → Bool) (h : ℕ → ℤ) (result : Result) (trace : List Entry)
     (k : ℕ) (one other : Words) →
     length call.args ≤ ARGUMENTS → IsRun pool (λ w. IsTrue (E w)) (λ w. IsTrue (W w)) result trace →
-    Owed pool call (λ w. IsTrue (E w)) (λ w. IsTrue (W w)) h one →
+    Owed pool call (λ w. IsTrue (E w)) (λ w. IsTrue (W w)) h (KeepsLast result) one →
     AreInARow
     (IsCutTo pool call (λ w. IsTrue (E w)) (λ w. IsTrue (W w)) h result trace) k one other →
-    Owed pool call (λ w. IsTrue (E w)) (λ w. IsTrue (W w)) h other
-    ⊎ IsEnd pool call (heap_after h trace) result other
+    Owed pool call (λ w. IsTrue (E w)) (λ w. IsTrue (W w)) h (KeepsLast result) other
+    ⊎ IsEnd pool call h (heap_after h trace) result other
 
 -- The trace of a sound run has the properties that the laws ask for, and its events are those of
 -- the effects, one after another.
@@ -182,3 +212,26 @@ AddedFencesLaw =
     ((image : Words) → IsLeft c fs image → IsLeft c es image)
     × ((image : Words) → IsImage (play c fs) image → IsImage (play c es) image)
     × (IsAtRest (play c es) → IsAtRest (play c fs))
+
+-- the number of logged entries
+abbrev pub logged_in : List Entry → ℕ
+logged_in [] = 0
+logged_in (Plain w x ∷ trace) = logged_in trace
+logged_in (Logged w x ∷ trace) = suc (logged_in trace)
+
+-- one more event if there are records
+abbrev pub fences_of : ℕ → ℕ
+fences_of zero = 0
+fences_of (suc n) = 1
+
+-- The number of events of a call that is undone: one for each argument, one for each line
+-- of the function and the arguments, ten for the function's word, the seal and the retirement, one
+-- for each entry, seven more for each logged entry, and one more if any entry is logged.
+abbrev pub UndoneCountLaw : Type 0
+UndoneCountLaw =
+    (z : Sizes) (E W : ℕ → Bool) (a : ℕ) (call : Call) (h : ℕ → ℤ) (trace : List Entry)
+    (last : ℤ) →
+    IsTrace z.records (heap_words z) (λ w. IsTrue (E w)) (λ w. IsTrue (W w)) 0 (λ w. ⊥) trace →
+    length (due_call z a call h (Undone last) trace) ≡
+    length call.args + (length call.args / 8 + 1) + 10 + length trace
+    + 7 * logged_in trace + fences_of (logged_in trace)

@@ -25,10 +25,12 @@ call_word call k = slice_index_or (call.function ∷ call.args) k (pos 0)
 abbrev pub IsKept : (E W : ℕ → Type 0) → ℕ → Type 0
 IsKept E W w = (W w → ⊥) ⊎ E w
 
--- the call is owed: it is sealed, and the log restores what it needs
-pub record Owed (pool : Pool) (call : Call) (E W : ℕ → Type 0) (h : ℕ → ℤ) (image : Words) :
-    Type 0 where
+-- the call is owed: it is sealed, the log restores what it needs, and the last value is as its end
+-- asks
+pub record Owed (pool : Pool) (call : Call) (E W : ℕ → Type 0) (h : ℕ → ℤ) (kept : ℤ → Type 0)
+    (image : Words) : Type 0 where
   pub super : (k : ℕ) → k < LAST → image (at (pool_of pool.sizes) (Super k)) ≡ pool.super k
+  pub last_is : kept (image (at (pool_of pool.sizes) Last))
   pub mark : image (at (pool_of pool.sizes) Mark) ≡ pos 0
   pub done : image (at (pool_of pool.sizes) Done) ≡ pos call.done
   pub done_fits : call.done ≤ 2 ^ 62
@@ -65,3 +67,8 @@ abbrev pub HasNoRecord : Pool → Words → Type 0
 HasNoRecord pool image =
     (b : ℕ) → image (at (pool_of pool.sizes) Attempt) ≡ pos b →
     count (pool_of pool.sizes) b image ≡ 0
+
+-- after call d, as IsDone, with no valid record
+pub record IsRetired (pool : Pool) (d : ℕ) (h : ℕ → ℤ) (value : ℤ) (image : Words) : Type 0 where
+  pub done : IsDone pool d h value image
+  pub empty : HasNoRecord pool image

@@ -29,14 +29,14 @@ misses_at : (z : Sizes) (p : ℕ) (o : Option ℕ) (x : ℤ) → p < 8 * (6 + z.
 misses_at z p None x less = tt
 misses_at z p (Some u) x less = ((λ e. absurd (omega arith)), tt)
 
-misses_back : (z : Sizes) (p : ℕ) (word old : ℕ → ℤ) (n : ℕ) → p < 8 * (6 + z.records)
+pub misses_back : (z : Sizes) (p : ℕ) (word old : ℕ → ℤ) (n : ℕ) → p < 8 * (6 + z.records)
     → Misses p (back_events z word old n)
 misses_back z p word old zero less = tt
 misses_back z p word old (suc n) less =
     misses_append p (back_at z (as_heap_word z (word n)) (old n)) (back_events z word old n)
     (misses_at z p (as_heap_word z (word n)) (old n) less) (misses_back z p word old n less)
 
-misses_fence : (p n : ℕ) → Misses p (fence_after n)
+pub misses_fence : (p n : ℕ) → Misses p (fence_after n)
 misses_fence p zero = tt
 misses_fence p (suc n) = tt
 

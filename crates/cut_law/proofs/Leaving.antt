@@ -25,7 +25,7 @@ use Rattle.pm_machine.specs.Effects.{heap_end, records_end, events_all}
 use Rattle.pm_machine.specs.Machine.{Finished, mrun}
 use Rattle.pm_machine.specs.Runs.{heap_in, Due, end_of}
 use Rattle.crash_law.specs.Pools.{Owed}
-use Rattle.crash_law.specs.Law.{IsCut, IsEnd}
+use Rattle.crash_law.specs.Law.{IsCut, IsEnd, IsEnded, KeepsLast}
 use Rattle.run_law.specs.Seen.{result_of, E, W}
 use Rattle.run_law.specs.Sound.{IsSoundRun}
 use Rattle.tx_run.specs.declared.answer.CallAnswer.{CallAnswer}
@@ -60,7 +60,7 @@ module _ (image : Image) (super : Words) (tx : ℕ) (args : List ℤ) (d b : Dev
       (one (at (pool_of image.parts.sizes) Last)) (result_of end)
 
   abbrev Ended : Words → Type 0
-  Ended = IsEnd (pool_with image super) (call_of n tx args) (heap_end h es) (result_of end)
+  Ended = IsEnded (pool_with image super) (call_of n tx args) h (heap_end h es) (result_of end)
 
   abbrev events : List CacheEvent
   events = plays.due_call image tx args d.cache
@@ -129,16 +129,18 @@ module _ (image : Image) (super : Words) (tx : ℕ) (args : List ℤ) (d b : Dev
 module _ (image : Image) (super : Words) (tx : ℕ) (args : List ℤ) (d b : Device) (one : Words)
     (n : ℕ) (g : Words) (end : End) (es : List Effect)
     (few : length args ≤ ARGUMENTS) (only : HasOne d.cache one)
-    (owed : Owed (pool_with image super) (call_of n tx args) (E es) (W es) g one)
+    (owed : Owed (pool_with image super) (call_of n tx args) (E es) (W es) g
+    (KeepsLast (result_of end)) one)
     (ran : mrun image image.parts.most g tx args ≡ Finished end es) (sound : IsSoundRun end es)
     (m : ℕ) (counted : count (pool_of image.parts.sizes) owed.attempt one ≡ m) (room : 0 < m
     → owed.attempt < 2 ^ 62) where
   abbrev Finished' : Words → Type 0
-  Finished' = IsEnd (pool_with image super) (call_of n tx args) (heap_end g es) (result_of end)
+  Finished' = IsEnded (pool_with image super) (call_of n tx args) g (heap_end g es) (result_of end)
 
   abbrev Left : Words → Type 0
-  Left other = Owed (pool_with image super) (call_of n tx args) (E es) (W es) g other
-      ⊎ Finished' other
+  Left other = Owed (pool_with image super) (call_of n tx args) (E es) (W es) g
+      (KeepsLast (result_of end)) other
+      ⊎ IsEnd (pool_with image super) (call_of n tx args) g (heap_end g es) (result_of end) other
 
   abbrev list : List CacheEvent
   list = due_redo image tx args m d.cache

@@ -7,7 +7,7 @@ use Rattle.pm_machine.specs.declared.image.Image.{Image}
 use Rattle.pm_machine.specs.Effects.{heap_end}
 use Rattle.pm_machine.specs.Machine.{Finished, mrun}
 use Rattle.crash_law.specs.Pools.{Owed}
-use Rattle.crash_law.specs.Law.{IsEnd, collapsed, AreInARow}
+use Rattle.crash_law.specs.Law.{IsEnd, KeepsLast, collapsed, AreInARow}
 use Rattle.crash_law.proofs.Again.{collapsed_one, left_image}
 use Rattle.run_law.specs.Seen.{result_of, E, W}
 use Rattle.run_law.specs.Sound.{IsSoundRun}
@@ -21,10 +21,11 @@ module _ (image : Image) (super : Words) (tx : ℕ) (args : List ℤ) (d : ℕ) 
     (few : length args ≤ ARGUMENTS) (ran : mrun image image.parts.most h tx args ≡ Finished end es)
     (sound : IsSoundRun end es) where
   abbrev Recoverable : Words → Type 0
-  Recoverable other = Owed (pool_with image super) (call_of d tx args) (E es) (W es) h other
-      ⊎ IsEnd (pool_with image super) (call_of d tx args) (heap_end h es) (result_of end) other
+  Recoverable other = Owed (pool_with image super) (call_of d tx args) (E es) (W es) h
+      (KeepsLast (result_of end)) other
+      ⊎ IsEnd (pool_with image super) (call_of d tx args) h (heap_end h es) (result_of end) other
 
-  recovered : (one other : Words) → IsRecoveredTo image super tx args d h es one other
+  recovered : (one other : Words) → IsRecoveredTo image super tx args d h end es one other
       → Recoverable other
   recovered one other cut =
       left_image Recoverable (collapsed one) (due_redo image tx args cut.n (collapsed one)) other
@@ -33,11 +34,12 @@ module _ (image : Image) (super : Words) (tx : ℕ) (args : List ℤ) (d : ℕ) 
       cut.left
 
   again : (k : ℕ) (one other : Words) → Recoverable one →
-      AreInARow (IsRecoveredTo image super tx args d h es) k one other → Recoverable other
+      AreInARow (IsRecoveredTo image super tx args d h end es) k one other → Recoverable other
   again zero one other now same = subst Recoverable same now
   again (suc k) one other now cuts = again k cuts.0 other (recovered one cuts.0 cuts.1) cuts.2
 
   pub cut_again : (k : ℕ) (one other : Words) →
-      Owed (pool_with image super) (call_of d tx args) (E es) (W es) h one →
-      AreInARow (IsRecoveredTo image super tx args d h es) k one other → Recoverable other
+      Owed (pool_with image super) (call_of d tx args) (E es) (W es) h (KeepsLast (result_of end))
+      one →
+      AreInARow (IsRecoveredTo image super tx args d h end es) k one other → Recoverable other
   cut_again k one other owed cuts = again k one other (inl owed) cuts

@@ -30,7 +30,7 @@ use Rattle.pm_machine.specs.Machine.{Finished, mrun, start}
 use Rattle.pm_machine.specs.Runs.{heap_in, Due, due_on}
 use Rattle.crash_law.specs.Pools.{Owed}
 use Rattle.crash_law.specs.Due as crash
-use Rattle.crash_law.specs.Law.{IsEnd}
+use Rattle.crash_law.specs.Law.{IsEnd, IsEnded, KeepsLast}
 use Rattle.crash_law.proofs.Redo as whole
 use Rattle.run_law.specs.Seen.{trace_in, result_of, E, W}
 use Rattle.run_law.specs.Sound.{IsSoundRun}
@@ -46,7 +46,8 @@ use Rattle.cut_law.proofs.Backs.{misses_restore, restore_same, heap_restored}
 module _ (image : Image) (super : Words) (tx : ℕ) (args : List ℤ) (c : Cache) (one : Words) (d : ℕ)
     (h : Words) (end : End) (es : List Effect)
     (few : length args ≤ ARGUMENTS) (only : HasOne c one)
-    (owed : Owed (pool_with image super) (call_of d tx args) (E es) (W es) h one)
+    (owed : Owed (pool_with image super) (call_of d tx args) (E es) (W es) h
+    (KeepsLast (result_of end)) one)
     (ran : mrun image image.parts.most h tx args ≡ Finished end es)
     (sound : IsSoundRun end es) where
   abbrev z : Sizes
@@ -237,22 +238,24 @@ module _ (image : Image) (super : Words) (tx : ℕ) (args : List ℤ) (c : Cache
   events_same (suc m) counted room = some_same m counted (room (omega arith))
 
   abbrev Left : Words → Words → Type 0
-  Left g other = Owed (pool_with image super) (call_of d tx args) (E es) (W es) h other
-      ⊎ IsEnd (pool_with image super) (call_of d tx args) g (result_of end) other
+  Left g other = Owed (pool_with image super) (call_of d tx args) (E es) (W es) h
+      (KeepsLast (result_of end)) other
+      ⊎ IsEnd (pool_with image super) (call_of d tx args) h g (result_of end) other
 
   pub cut_redo : (n : ℕ) → count l a one ≡ n → (0 < n → a < 2 ^ 62) →
       during c (due_redo image tx args n c) (Images (Left (heap_end h es)))
-      × Images (IsEnd (pool_with image super) (call_of d tx args) (heap_end h es) (result_of end))
+      × Images (IsEnded (pool_with image super) (call_of d tx args) h (heap_end h es)
+      (result_of end))
       (play c (due_redo image tx args n c))
   cut_redo n counted room =
       subst (λ (g : Words). during c (due_redo image tx args n c) (Images (Left g))
-      × Images (IsEnd (pool_with image super) (call_of d tx args) g (result_of end))
+      × Images (IsEnded (pool_with image super) (call_of d tx args) h g (result_of end))
       (play c (due_redo image tx args n c)))
       (sym (join z a h end es sound.paired sound.tidy).1)
       (subst (λ (events : List CacheEvent).
       during c events (Images (Left (crash.heap_after h (trace_in es))))
-      × Images (IsEnd (pool_with image super) (call_of d tx args) (crash.heap_after h (trace_in es))
-      (result_of end)) (play c events))
+      × Images (IsEnded (pool_with image super) (call_of d tx args) h
+      (crash.heap_after h (trace_in es)) (result_of end)) (play c events))
       (sym (events_same n counted room))
       (whole.cut_redo (pool_with image super) (call_of d tx args) (E es) (W es) h (result_of end)
       (trace_in es) (omega arith)

@@ -18,8 +18,8 @@ use Rattle.pm_machine.specs.Machine.{Finished, mrun}
 use Rattle.pm_machine.specs.Runs.{heap_in}
 use Rattle.crash_law.specs.Pools.{Call, Owed, last_of}
 use Rattle.crash_law.specs.Due as crash
-use Rattle.crash_law.specs.Law.{Leaves, IsCut, IsEnd, IsClean, IsAtRest, IsLeft, collapsed}
-use Rattle.crash_law.specs.Law.{AreInARow}
+use Rattle.crash_law.specs.Law.{Leaves, KeepsLast, IsCut, IsEnd, IsEnded, IsClean, IsAtRest}
+use Rattle.crash_law.specs.Law.{IsLeft, collapsed, AreInARow}
 use Rattle.run_law.specs.Seen.{trace_in, result_of, E, W}
 use Rattle.run_law.specs.Sound.{IsSoundRun}
 use Rattle.tx_run.specs.Due.{due_call}
@@ -55,8 +55,9 @@ pub record BeginsOn (image : Image) (super : Words) (tx d : ℕ) (c : Cache) (on
 -- A call is owed in an image, for the heap h, with n valid records; if there is one, another
 -- attempt can follow.
 pub record OwesInImage (image : Image) (super : Words) (tx : ℕ) (args : List ℤ) (d : ℕ) (h : Words)
-    (es : List Effect) (n : ℕ) (one : Words) : Type 0 where
-  pub owed : Owed (pool_with image super) (call_of d tx args) (E es) (W es) h one
+    (end : End) (es : List Effect) (n : ℕ) (one : Words) : Type 0 where
+  pub owed : Owed (pool_with image super) (call_of d tx args) (E es) (W es) h
+      (KeepsLast (result_of end)) one
   pub counted : count (pool_of image.parts.sizes) owed.attempt one ≡ n
   pub room : 0 < n → owed.attempt < 2 ^ 62
 
@@ -68,11 +69,17 @@ pub record RestsInImage (image : Image) (super : Words) (d : ℕ) (h : Words) (n
   pub counted : count (pool_of image.parts.sizes) good.attempt one ≡ n
   pub room : 0 < n → good.attempt < 2 ^ 62
 
--- the images after the whole call, whose run from heap h has this end and these effects
+-- the images at the end of a call, whose run from heap h has this end and these effects
+abbrev pub ComesTo : Image → (super : Words) → (tx : ℕ) → List ℤ → (d : ℕ) → (h : Words) →
+    End → List Effect → Words → Type 0
+ComesTo image super tx args d h end es =
+    IsEnd (pool_with image super) (call_of d tx args) h (heap_end h es) (result_of end)
+
+-- those after its last event, when also no record is valid unless the pool is lost
 abbrev pub Finishes : Image → (super : Words) → (tx : ℕ) → List ℤ → (d : ℕ) → (h : Words) →
     End → List Effect → Words → Type 0
 Finishes image super tx args d h end es =
-    IsEnd (pool_with image super) (call_of d tx args) (heap_end h es) (result_of end)
+    IsEnded (pool_with image super) (call_of d tx args) h (heap_end h es) (result_of end)
 
 -- the images that a cut of a call from cache c may leave
 abbrev pub CutImages : Image → (super : Words) → (tx : ℕ) → List ℤ → (d : ℕ) → Cache
@@ -86,8 +93,9 @@ CutImages image super tx args d c one end es =
 abbrev pub RedoImages : Image → (super : Words) → (tx : ℕ) → List ℤ → (d : ℕ) → (h : Words) →
     End → List Effect → Words → Type 0
 RedoImages image super tx args d h end es other =
-    Owed (pool_with image super) (call_of d tx args) (E es) (W es) h other
-    ⊎ Finishes image super tx args d h end es other
+    Owed (pool_with image super) (call_of d tx args) (E es) (W es) h (KeepsLast (result_of end))
+    other
+    ⊎ ComesTo image super tx args d h end es other
 
 -- A call on a pool with d finished calls, attempt a and no valid record, whose run is sound, plays
 -- the crash law's due list.
@@ -121,7 +129,7 @@ abbrev pub CutRedoLaw : Type 0
 CutRedoLaw =
     (image : Image) (super : Words) (tx : ℕ) (args : List ℤ) (c : Cache) (one : Words) (d : ℕ)
     (h : Words) (end : End) (es : List Effect) (n : ℕ) →
-    HasOne c one → OwesInImage image super tx args d h es n one →
+    HasOne c one → OwesInImage image super tx args d h end es n one →
     RunsSound image tx args h end es →
     Leaves c (due_redo image tx args n c) (RedoImages image super tx args d h end es)
     (Finishes image super tx args d h end es)
@@ -147,9 +155,9 @@ RestCallLaw =
 -- A power cut at some event of a recovery of the first image, in which the call is owed, may leave
 -- the second.
 pub record IsRecoveredTo (image : Image) (super : Words) (tx : ℕ) (args : List ℤ) (d : ℕ)
-    (h : Words) (es : List Effect) (one other : Words) : Type 0 where
+    (h : Words) (end : End) (es : List Effect) (one other : Words) : Type 0 where
   pub n : ℕ
-  pub owes : OwesInImage image super tx args d h es n one
+  pub owes : OwesInImage image super tx args d h end es n one
   pub left : IsLeft (collapsed one) (due_redo image tx args n (collapsed one)) other
 
 -- Any number of cuts: however often a recovery is cut, in what is left the call is owed, or has
@@ -160,6 +168,6 @@ CutAgainLaw =
     (es : List Effect) →
     RunsSound image tx args h end es →
     (k : ℕ) (one other : Words) → Owed (pool_with image super) (call_of d tx args) (E es)
-    (W es) h one →
-    AreInARow (IsRecoveredTo image super tx args d h es) k one other →
+    (W es) h (KeepsLast (result_of end)) one →
+    AreInARow (IsRecoveredTo image super tx args d h end es) k one other →
     RedoImages image super tx args d h end es other

@@ -54,7 +54,7 @@ abbrev pub RedoLeavesLaw : Type 0
 RedoLeavesLaw =
     (image : Image) (super : Words) (tx : ℕ) (args : List ℤ) (d b : Device) (one : Words) (n : ℕ)
     (h : Words) (end : End) (es : List Effect) (m : ℕ) →
-    HasOne d.cache one → OwesInImage image super tx args n h es m one →
+    HasOne d.cache one → OwesInImage image super tx args n h end es m one →
     RunsSound image tx args h end es →
     (answer : RecoverAnswer) (k k1 : ℕ) → Redid answer image tx args m d b k k1 →
     Images (RedoImages image super tx args n h end es) b.cache

@@ -14,4 +14,7 @@ mod source;
 mod statements;
 mod variables;
 
+pub use assigned::is_assigned;
+pub use form::{Form, form_of};
 pub use functions::lower;
+pub use names::as_variable;

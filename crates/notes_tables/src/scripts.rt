@@ -1,11 +1,9 @@
 //! The messages of refused scripts, and of answers.
 
 use cnvm_notes::{
-    Call, Fate, History, Opened, ProgramText, RunTexts, Stormed, WorkersTexts, answers_note,
-    script_note, storm_note, workers_answers_note, workers_note,
+    RunTexts, Stormed, WorkersTexts, answers_note, script_note, storm_note, workers_answers_note,
+    workers_note,
 };
-use nvm_base::{Text, Words};
-use pool_map::Pool;
 use std::alloc::{AllocError, Global};
 use std::test::Fail;
 
@@ -290,6 +288,7 @@ const WORKERS_ANSWERS: [(&str, &str, &str); 11] = [
             "cnvm: worker 1 trapped: a number was divided by 0\n",
             "note: test the divisor before `/` and `%`\n",
             "note: the pool takes no more calls; the stores before the trap stand\n",
+            "note: it came in p.c:7\n",
             "cnvm: s: refusals among the answers: 1\n",
         ),
     ),
@@ -303,7 +302,7 @@ const WORKERS_ANSWERS: [(&str, &str, &str); 11] = [
             "cnvm: s:5: `both` of worker 0 trapped: a number was divided by 0\n",
             "note: test the divisor before `/` and `%`\n",
             "note: the pool takes no more calls; the stores before the trap stand\n",
-            "note: it came in p.c:40\n",
+            "note: it came in p.c:7\n",
         ),
     ),
     (
@@ -313,7 +312,7 @@ const WORKERS_ANSWERS: [(&str, &str, &str); 11] = [
             "cnvm: s:4: `both` of worker 1 trapped: a number was divided by 0\n",
             "note: test the divisor before `/` and `%`\n",
             "note: the pool takes no more calls; the stores before the trap stand\n",
-            "note: it came in p.c:41\n",
+            "note: it came in p.c:7\n",
         ),
     ),
     (
@@ -326,7 +325,7 @@ const WORKERS_ANSWERS: [(&str, &str, &str); 11] = [
             "cnvm: s:5: `both` of worker 0 trapped: a number was divided by 0\n",
             "note: test the divisor before `/` and `%`\n",
             "note: the pool takes no more calls; the stores before the trap stand\n",
-            "note: it came in p.c:40\ncnvm: s: refusals among the answers: 1\n",
+            "note: it came in p.c:7\ncnvm: s: refusals among the answers: 1\n",
         ),
     ),
     (
@@ -339,7 +338,7 @@ const WORKERS_ANSWERS: [(&str, &str, &str); 11] = [
             "cnvm: s:6: `both` of worker 0 trapped: a number was divided by 0\n",
             "note: test the divisor before `/` and `%`\n",
             "note: the pool takes no more calls; the stores before the trap stand\n",
-            "note: it came in p.c:41\ncnvm: s: refusals among the answers: 1\n",
+            "note: it came in p.c:7\ncnvm: s: refusals among the answers: 1\n",
         ),
     ),
     (
@@ -352,7 +351,7 @@ const WORKERS_ANSWERS: [(&str, &str, &str); 11] = [
             "cnvm: s:6: `both` of worker 0 trapped: a number was divided by 0\n",
             "note: test the divisor before `/` and `%`\n",
             "note: the pool takes no more calls; the stores before the trap stand\n",
-            "note: it came in one of these lines of p.c: 40, 41\n",
+            "note: it came in p.c:7\n",
         ),
     ),
     (
@@ -362,7 +361,7 @@ const WORKERS_ANSWERS: [(&str, &str, &str); 11] = [
             "cnvm: s:1: `both` of worker 0 trapped: a number was divided by 0\n",
             "note: test the divisor before `/` and `%`\n",
             "note: the pool takes no more calls; the stores before the trap stand\n",
-            "note: it came in p.c:40\n",
+            "note: it came in p.c:7\n",
         ),
     ),
     (
@@ -372,7 +371,7 @@ const WORKERS_ANSWERS: [(&str, &str, &str); 11] = [
             "cnvm: s:4: `both` of worker 0 trapped: a number was divided by 0\n",
             "note: test the divisor before `/` and `%`\n",
             "note: the pool takes no more calls; the stores before the trap stand\n",
-            "note: it came in p.c:40\ncnvm: s: refusals among the answers: 2\n",
+            "note: it came in p.c:7\ncnvm: s: refusals among the answers: 2\n",
         ),
     ),
     (
@@ -382,7 +381,7 @@ const WORKERS_ANSWERS: [(&str, &str, &str); 11] = [
             "cnvm: s:6: `both` of worker 0 trapped: a number was divided by 0\n",
             "note: test the divisor before `/` and `%`\n",
             "note: the pool takes no more calls; the stores before the trap stand\n",
-            "note: it came in one of these lines of p.c: 40, 41\n",
+            "note: it came in p.c:7\n",
         ),
     ),
 ];
@@ -391,44 +390,17 @@ const WORKERS_ANSWERS: [(&str, &str, &str); 11] = [
 fn answers_of_workers(rt: HostRuntime) -> Result<(), Fail> {
     for (script, answers, wanted) in WORKERS_ANSWERS {
         let run = WorkersTexts {
-            program: the_program(),
+            program_path: "p.c",
             script_path: "s",
             script: script.as_bytes(),
             answers: answers.as_bytes(),
+            ended: Some(7),
         };
         let told = workers_answers_note(rt.alloc(), run)?;
         let told = told.unwrap_or(String::new(rt.alloc()));
         assert_eq!(rt; told.as_str(), wanted, "at {answers}");
     }
     Ok(())
-}
-
-/// The program of the scripts.
-const PROGRAM: &str = concat!(
-    "struct R { int64_t n; int64_t t[4]; };\npersistent struct R root;\n",
-    "int64_t half(int64_t x) {\n    return x / 2;\n}\n",
-    "int64_t part(int64_t x, int64_t y) {\n    return half(x) %\n        y;\n}\n",
-    "tx int64_t div(int64_t y) {\n    root.n = part(root.n, y);\n    return root.n;\n}\n",
-    "tx int64_t at(int64_t i) {\n    root.n = root.t[i];\n    root.t[i] = 1;\n",
-    "    return 0;\n}\ntx int64_t stops() {\n    if (root.n) { abort(); }\n    return 0;\n",
-    "}\ntx int64_t loop(int64_t x) {\n    while (x) {\n        half(x);\n    }\n",
-    "    return 0;\n}\nint64_t deeper(int64_t x) {\n    return deeper(x);\n}\n",
-    "tx int64_t deep(int64_t x) {\n    return deeper(x);\n}\n",
-    "tx int64_t set(int64_t x) {\n    root.n = x;\n    return x;\n}\n",
-    "tx int64_t both(int64_t a) {\n    int64_t q = 8 / a;\n    return q / root.n;\n}\n",
-    "tx int64_t fill(int64_t k) {\n    for (int64_t i = 0; i < k; i++) {\n",
-    "        root.t[i] += 1;\n    }\n    return 0;\n}\n",
-);
-
-/// The same, with the sizes of its pool.
-fn the_program() -> ProgramText<'static> {
-    ProgramText {
-        path: "p.c",
-        text: PROGRAM.as_bytes(),
-        slots: 4,
-        records: 2,
-        ticks: 1000,
-    }
 }
 
 /// Scripts, their answers, and what is told.
@@ -442,7 +414,7 @@ const ANSWERS: [(&str, &str, bool, &str, &str); 22] = [
             "cnvm: s:2: `fill` trapped: a store has to be logged, and the log is full\n",
             "note: do less in one call, or give a new pool more records with `--log`, up to 4096\n",
             "note: the pool takes no more calls; the stores before the trap stand\n",
-            "note: it came in p.c:45\n",
+            "note: it came in p.c:7\n",
         ),
     ),
     (
@@ -454,6 +426,7 @@ const ANSWERS: [(&str, &str, bool, &str, &str); 22] = [
             "cnvm: s:1: `both` trapped: an index was outside of its array\n",
             "note: test an argument before it is an index\n",
             "note: the pool takes no more calls; the stores before the trap stand\n",
+            "note: it came in p.c:7\n",
         ),
     ),
     (
@@ -465,7 +438,7 @@ const ANSWERS: [(&str, &str, bool, &str, &str); 22] = [
             "cnvm: s:4: `both` trapped: a number was divided by 0\n",
             "note: test the divisor before `/` and `%`\n",
             "note: the pool takes no more calls; the stores before the trap stand\n",
-            "note: it came in p.c:41\n",
+            "note: it came in p.c:7\n",
         ),
     ),
     (
@@ -477,7 +450,7 @@ const ANSWERS: [(&str, &str, bool, &str, &str); 22] = [
             "cnvm: s:4: `both` trapped: a number was divided by 0\n",
             "note: test the divisor before `/` and `%`\n",
             "note: the pool takes no more calls; the stores before the trap stand\n",
-            "note: it came in one of these lines of p.c: 40, 41\n",
+            "note: it came in p.c:7\n",
         ),
     ),
     (
@@ -511,11 +484,11 @@ const ANSWERS: [(&str, &str, bool, &str, &str); 22] = [
             "cnvm: s:3: `div` trapped: a number was divided by 0\n",
             "note: test the divisor before `/` and `%`\n",
             "note: the pool was restored as it was before the call, and takes further calls\n",
-            "note: it came in p.c:7\n",
+            "note: it came in p.c:20\n",
             "cnvm: s:4: `at` trapped: an index was outside of its array\n",
             "note: test an argument before it is an index\n",
             "note: the pool takes no more calls; the stores before the trap stand\n",
-            "note: it came in p.c:15\n",
+            "note: it came in p.c:7\n",
             "cnvm: s:5: a command was refused\n",
         ),
     ),
@@ -544,7 +517,7 @@ const ANSWERS: [(&str, &str, bool, &str, &str); 22] = [
             "cnvm: s:4: `at` trapped: a store has to be logged, and the log is full\n",
             "note: do less in one call, or give a new pool more records with `--log`, up to 4096\n",
             "note: the pool takes no more calls; the stores before the trap stand\n",
-            "note: it came in one of these lines of p.c: 15, 16\n",
+            "note: it came in p.c:7\n",
             "cnvm: s:5: a command was refused\n",
         ),
     ),
@@ -588,7 +561,7 @@ const ANSWERS: [(&str, &str, bool, &str, &str); 22] = [
             "cnvm: s:1: `at` trapped: an index was outside of its array\n",
             "note: test an argument before it is an index\n",
             "note: the pool takes no more calls; the stores before the trap stand\n",
-            "note: it came in p.c:15\n",
+            "note: it came in p.c:7\n",
         ),
     ),
     (
@@ -600,7 +573,7 @@ const ANSWERS: [(&str, &str, bool, &str, &str); 22] = [
             "cnvm: s:1: `stops` trapped: `abort()` was reached\n",
             "note: return a value of its own where nothing is broken\n",
             "note: the pool takes no more calls; the stores before the trap stand\n",
-            "note: it came in p.c:20\n",
+            "note: it came in p.c:7\n",
         ),
     ),
     (
@@ -613,6 +586,7 @@ const ANSWERS: [(&str, &str, bool, &str, &str); 22] = [
             "a pointer that is NULL was followed or freed\n",
             "note: test what `pm_new` and a search give\n",
             "note: the pool takes no more calls; the stores before the trap stand\n",
+            "note: it came in p.c:7\n",
             "cnvm: s:1: a command was refused\n",
         ),
     ),
@@ -626,7 +600,7 @@ const ANSWERS: [(&str, &str, bool, &str, &str); 22] = [
             "note: do less in one call, or give more with `--ticks`, up to 1000000, ",
             "to a new pool\n",
             "note: the pool takes no more calls; the stores before the trap stand\n",
-            "note: it came in p.c:24\n",
+            "note: it came in p.c:7\n",
             "note: out.img holds this pool now\n",
         ),
     ),
@@ -639,7 +613,7 @@ const ANSWERS: [(&str, &str, bool, &str, &str); 22] = [
             "cnvm: s:1: `deep` trapped: more than 256 functions would be open\n",
             "note: write a loop in place of the recursion\n",
             "note: the pool takes no more calls; the stores before the trap stand\n",
-            "note: it came in p.c:30\n",
+            "note: it came in p.c:7\n",
         ),
     ),
     (
@@ -652,7 +626,7 @@ const ANSWERS: [(&str, &str, bool, &str, &str); 22] = [
             "an index was outside of its array\n",
             "note: test an argument before it is an index\n",
             "note: the pool was restored as it was before the call, and takes further calls\n",
-            "note: it came in one of these lines of p.c: 15, 16\n",
+            "note: it came in p.c:20\n",
         ),
     ),
     (
@@ -682,29 +656,27 @@ const ANSWERS: [(&str, &str, bool, &str, &str); 22] = [
     ),
 ];
 
-/// A call of a transaction with one argument.
-fn call(alloc: Global, name: &str, arg: i64) -> Result<Call, AllocError> {
-    let mut text = Text::new(alloc);
-    text.push(name)?;
-    let mut args = Words::new(alloc);
-    args.push(arg)?;
-    Ok(Call { name: text, args })
-}
+/// A storm of which nothing is known.
+const UNKNOWN: Stormed<'static> = Stormed {
+    round: 0,
+    call: "",
+    line: None,
+};
 
 #[test]
 fn answers_of_storms(rt: HostRuntime) -> Result<(), Fail> {
     let none = storm_note(
         rt.alloc(),
-        the_program(),
+        "p.c",
         b"storm calls 2 done 2 trapped 0 other 0\nlast 2 5\n",
-        None,
+        UNKNOWN,
     )?;
     assert_eq!(rt; none.is_none(), true);
     let told = storm_note(
         rt.alloc(),
-        the_program(),
+        "p.c",
         b"storm calls 9 done 1 trapped 1 other 7\nrefused unusable stale\n",
-        None,
+        UNKNOWN,
     )?;
     let told = told.unwrap_or(String::new(rt.alloc()));
     assert_eq!(rt;
@@ -721,17 +693,17 @@ fn answers_of_storms(rt: HostRuntime) -> Result<(), Fail> {
 }
 
 #[test]
-fn a_storm_told_by_its_calls(rt: HostRuntime) -> Result<(), Fail> {
+fn a_storm_told_by_its_call(rt: HostRuntime) -> Result<(), Fail> {
     let alloc = rt.alloc();
-    let mut history = History::new(alloc, None);
-    history.call(call(alloc, "set", 0)?);
-    history.tell(Fate::Gave(0))?;
-    history.call(call(alloc, "both", 15)?);
     let told = storm_note(
         alloc,
-        the_program(),
+        "p.c",
         b"storm calls 9 done 1 trapped 1 other 7\nrefused unusable divide\n",
-        Some(Stormed { round: 2, history }),
+        Stormed {
+            round: 2,
+            call: "both 15",
+            line: Some(41),
+        },
     )?;
     let told = told.unwrap_or(String::new(alloc));
     assert_eq!(rt;
@@ -747,102 +719,22 @@ fn a_storm_told_by_its_calls(rt: HostRuntime) -> Result<(), Fail> {
     Ok(())
 }
 
-/// The number in an opened pool, what it owes, a script, its answers, and the line that is told.
-const OPENED: [(i64, Option<(&str, i64)>, &str, &str, &str); 5] = [
-    (
-        0,
-        None,
-        "call both 1\n",
-        "recovered none\ntrap divide\n",
-        "note: it came in p.c:41\n",
-    ),
-    (
-        5,
-        Some(("set", 0)),
-        "call both 1\n",
-        "recovered redone 0 log 0\ntrap divide\n",
-        "note: it came in p.c:41\n",
-    ),
-    (
-        5,
-        Some(("at", 9)),
-        "show\n",
-        "recovered trap index\nrefused unusable index\n",
-        "note: it came in p.c:15\ncnvm: s:1: a command was refused\n",
-    ),
-    (
-        5,
-        Some(("at", 9)),
-        "call set 0\ncall both 1\n",
-        "recovered aborted index\n= 0 log 0\ntrap divide\n",
-        "note: it came in p.c:41\n",
-    ),
-    (
-        5,
-        None,
-        "call both 1\n",
-        "recovered redone 0 log 0\ntrap divide\n",
-        "note: it came in one of these lines of p.c: 40, 41\n",
-    ),
-];
-
-/// The pool whose root has this number.
-fn opened(alloc: Global, n: i64, owed: Option<(&str, i64)>) -> Result<Opened, AllocError> {
-    let mut root = Words::new(alloc);
-    root.push(n)?;
-    for _ in 0..4 {
-        root.push(0)?;
-    }
-    let mut pool = Pool::of_root(alloc, root);
-    for _ in 0..4 {
-        pool.push_slot(None)?;
-    }
-    let owed = match owed {
-        Some((name, arg)) => Some(call(alloc, name, arg)?),
-        None => None,
-    };
-    Ok(Opened { pool, owed })
-}
-
-#[test]
-fn answers_of_opened_pools(rt: HostRuntime) -> Result<(), Fail> {
-    let alloc = rt.alloc();
-    for (n, owed, script, answers, wanted) in OPENED {
-        let run = RunTexts {
-            program: the_program(),
-            script_path: "s",
-            script: script.as_bytes(),
-            answers: answers.as_bytes(),
-            opened: true,
-            image_path: "i",
-            owed: 2,
-            saved: "",
-        };
-        let told = answers_note(alloc, run, Some(opened(alloc, n, owed)?))?;
-        let told = told.unwrap_or(String::new(alloc));
-        assert_eq!(rt;
-            told.as_str().ends_with(wanted),
-            true,
-            "at {answers}: {told}"
-        );
-    }
-    Ok(())
-}
-
 #[test]
 fn answers(rt: HostRuntime) -> Result<(), Fail> {
     for (script, answers, opened, saved, wanted) in ANSWERS {
         let run = RunTexts {
-            program: the_program(),
+            program_path: "p.c",
             script_path: "s",
             script: script.as_bytes(),
             answers: answers.as_bytes(),
             opened,
             image_path: "i",
-            owed: 2,
+            owed: "at",
             saved,
+            ended: Some(7),
+            undone: Some(20),
         };
-        let told = answers_note(rt.alloc(), run, None)?;
+        let told = answers_note(rt.alloc(), run)?;
         let told = told.unwrap_or(String::new(rt.alloc()));
         assert_eq!(rt; told.as_str(), wanted, "at {script}");
     }

@@ -22,7 +22,7 @@ pub enum Reason {
 
 impl Reason {
     /// The reason of an error.
-    pub(crate) fn of(error: &io::Error) -> Reason {
+    pub fn of(error: &io::Error) -> Reason {
         match error.kind() {
             ErrorKind::NotFound => Reason::NotFound,
             ErrorKind::PermissionDenied => Reason::Denied,

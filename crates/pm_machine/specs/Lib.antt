@@ -1,6 +1,7 @@
 pub mod Checked
 pub mod Few
 pub mod Stack
+pub mod Stops
 pub mod Transactions
 pub mod Effects
 pub mod Find

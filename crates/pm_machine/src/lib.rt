@@ -15,6 +15,7 @@ mod op;
 mod playing;
 mod silent;
 mod spare;
+mod stop;
 
 pub use answer::{RunAnswer, StepAnswer};
 pub use effect::{Effect, End};
@@ -26,3 +27,4 @@ pub use laws::machine_laws;
 pub use machine::{Machine, Progress, records_past};
 pub use op::{Code, Function, Functions, Op, TxEntry, TxList};
 pub use spare::Spare;
+pub use stop::Stop;

@@ -24,6 +24,7 @@ ghost use Rattle.pm_machine.specs.Machine.{stored_by, due_store};
 ghost use Rattle.pm_machine.specs.Effects.{events_of, records_past};
 ghost use Rattle.pm_machine.specs.Runs.{heap_in, outcome_of, effect_of, effect_in, AreLines, due};
 ghost use Rattle.pm_machine.specs.Runs.{end_of, due_step};
+ghost use Rattle.pm_machine.specs.Stops.{stop_in};
 ghost use Rattle.pm_machine.specs.inside.Runs.{IsStore, IsInRange, RestLeads};
 
 use crate::effect::{Effect, End};
@@ -33,6 +34,7 @@ use crate::frames::{CALLERS, Frames};
 use crate::image::Image;
 use crate::op::Op;
 use crate::silent::{Reached, run_silently};
+use crate::stop::Stop;
 use clobber_log::append_record;
 use indexmap::IndexSet;
 use nvm_base::Steps;
@@ -615,6 +617,16 @@ impl Machine {
         ensures { result ≡ self.now.logged }
     {
         self.logged
+    }
+
+    /// Where the machine stands.
+    pub fn stop(&self) -> Stop
+        ensures { result ≡ stop_in self.now }
+    {
+        Stop {
+            function: self.top.function,
+            place: self.top.place as u64,
+        }
     }
 }
 

@@ -1,10 +1,12 @@
 //! A machine that is kept from call to call.
 
-ghost use Rattle.std.specs.Prelude.{◌≡◌, ◌≤◌, ◌-◌, true, length, IfSome, IsSome};
+ghost use Rattle.std.specs.Prelude.{◌≡◌, ◌≤◌, ◌-◌, true, length, IfSome, IsSome, option_map};
 ghost use Rattle.pm_machine.specs.Machine.{start};
+ghost use Rattle.pm_machine.specs.Stops.{stop_in};
 
 use crate::image::Image;
 use crate::machine::Machine;
+use crate::stop::Stop;
 use std::alloc::Global;
 
 /// A place for a machine between two calls. It is empty until the first call, and its machine may
@@ -40,6 +42,16 @@ impl Spare {
             }
         }
         self.kept.as_mut()
+    }
+
+    /// Where the machine that is kept stands: after a run, where that ended.
+    pub fn stop(&self) -> Option<Stop>
+        ensures { result ≡ option_map stop_in self.now.kept }
+    {
+        match &self.kept {
+            Some(machine) => Some(machine.stop()),
+            None => None,
+        }
     }
 
     /// Takes the machine that is kept to the first place of a transaction, if its frames have the

@@ -2,4 +2,3 @@
 pub mod Sparse
 pub mod Placed
 pub mod Zeros
-pub mod Switch

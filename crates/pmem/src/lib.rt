@@ -24,3 +24,4 @@ pub use laws::device_laws;
 pub use lines::Lines;
 pub use mem::{MemPmem, SimPmem, SparsePmem};
 pub use sparse_lines::SparseLines;
+pub use switch::Switch;

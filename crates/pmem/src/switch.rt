@@ -3,8 +3,7 @@
 
 ghost use Rattle.std.specs.Prelude.{◌≡◌, true, false, Some, None};
 ghost use Rattle.pmem.specs.Device.{less_one};
-ghost use Rattle.pmem.specs.Switch.{fresh_switch};
-ghost use Rattle.pmem.specs.inside.Switch.{Gate, Fails, spent_switch};
+ghost use Rattle.pmem.specs.Switch.{fresh_switch, Gate, Fails, spent_switch};
 
 use crate::answer::Event;
 

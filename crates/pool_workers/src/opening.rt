@@ -15,10 +15,10 @@ use crate::task::Task;
 use crate::turning::advance;
 use crate::window::{Origin, Window, first_line};
 use nvm_base::Steps;
-use pm_machine::Image;
+use pm_machine::{Image, Spare};
 use pmem::{Phase, Pmem};
 use pool_layout::{LAST, pool_lines};
-use recovery::{RecoverAnswer, recover};
+use recovery::{RecoverAnswer, recover_with};
 use std::alloc::Global;
 use std::marker::{Brand, PhantomData};
 use std::sync::ledger::Ledger;
@@ -106,6 +106,7 @@ pub(crate) fn turn_task<P: Pmem, L: Ledger>(
 /// The recovery of a worker's compartment. On a device that is off nothing has changed.
 pub(crate) fn recover_on<P: Pmem + Drop, L: Ledger, O: Origin>(
     alloc: Global,
+    spare: &mut Spare,
     image: &Image,
     worker: u32,
     dev: &mut P,
@@ -129,7 +130,7 @@ pub(crate) fn recover_on<P: Pmem + Drop, L: Ledger, O: Origin>(
         return RecoverAnswer::Off(Phase::Unsealed);
     };
     let mut window: Window<P, O> = Window::new(dev.take(), image.sizes(), worker);
-    let answer = recover(alloc, image, &mut window, steps);
+    let answer = recover_with(alloc, spare, image, &mut window, steps);
     *dev = window.into_device();
     answer
 }

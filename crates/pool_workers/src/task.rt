@@ -6,7 +6,7 @@ ghost use Rattle.pool_workers.specs.inside.Task.{last_answer, last_task, is_last
 
 use crate::answer::TurnAnswer;
 use nvm_base::Words;
-use pm_machine::{End, Machine};
+use pm_machine::{End, Machine, Stop};
 use pmem::{LogAnswer, Phase, Refusal};
 use pool_map::TrapKind;
 
@@ -111,5 +111,13 @@ pub(crate) fn phase_of(task: &Task) -> Phase
         Task::Begun { .. } => Phase::Unsealed,
         Task::Running { .. } | Task::Ending { .. } => Phase::Sealed,
         Task::Cut { phase } => *phase,
+    }
+}
+
+/// Where the machine of a run stands.
+pub(crate) fn stop_of(task: &Task) -> Option<Stop> {
+    match task {
+        Task::Running { machine, .. } => Some(machine.stop()),
+        Task::Begun { .. } | Task::Ending { .. } | Task::Cut { .. } => None,
     }
 }

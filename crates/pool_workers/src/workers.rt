@@ -22,10 +22,10 @@ use crate::answer::{BeginAnswer, MakeFault, TurnAnswer};
 use crate::creating::{create_pools, idle};
 use crate::opening::{recover_on, turn_task};
 use crate::standing::assess_at;
-use crate::task::{Task, is_last, phase_of};
+use crate::task::{Task, is_last, phase_of, stop_of};
 use crate::window::first_line;
 use nvm_base::{Steps, Words};
-use pm_machine::{Image, Machine};
+use pm_machine::{Image, Machine, Spare, Stop};
 use pmem::{Phase, Pmem, PmemWork};
 use recovery::RecoverAnswer;
 use std::alloc::{AllocError, Global};
@@ -34,11 +34,13 @@ use std::sync::ledger::Ledger;
 use tx_run::Standing;
 
 /// The workers of a device, one for each compartment, from 1 to 8, with the unfinished transaction
-/// of each. It is seen as the list of these.
+/// of each. It is seen as the list of these. Beside them stands where the machine of each worker did
+/// its last instruction, which no clause names.
 #[derive(Drop)]
 pub struct Workers {
     alloc: Global,
     tasks: Vec<Option<Task>>,
+    stops: [Option<Stop>; 8],
 }
 
 impl Model for Workers {
@@ -74,7 +76,19 @@ fn new_task(alloc: Global, image: &Image, tx: u64, args: &[i64]) -> Result<Task,
     Ok(Task::Begun { tx, args, machine })
 }
 
+/// Notes where a machine of a worker stands, if it has one.
+fn note(stops: &mut [Option<Stop>; 8], worker: u32, stop: Option<Stop>) {
+    if let (Some(noted), Some(_)) = (stops.get_mut(worker as usize), stop) {
+        *noted = stop;
+    }
+}
+
 impl Workers {
+    /// Where the machine of a worker did its last instruction: after a trap, where that came.
+    pub fn stop(&self, worker: u32) -> Option<Stop> {
+        *self.stops.get(worker as usize)?
+    }
+
     fn put_task(&mut self, worker: u32, task: Option<Task>)
         requires { worker < length self.old }
         ensures { self.new ≡ slice_set self.old worker task }
@@ -128,7 +142,11 @@ impl Workers {
             return Err(MakeFault::NoMemory);
         };
         match create_pools(image.sizes(), &digest, count, dev) {
-            Ok(()) => Ok(Workers { alloc, tasks }),
+            Ok(()) => Ok(Workers {
+                alloc,
+                tasks,
+                stops: [None; 8],
+            }),
             Err(fault) => Err(fault),
         }
     }
@@ -177,7 +195,10 @@ impl Workers {
     {
         let answer = match &mut self.tasks[worker as usize] {
             None => return TurnAnswer::Idle,
-            Some(task) => turn_task(image, worker, task, dev, steps),
+            Some(task) => {
+                note(&mut self.stops, worker, stop_of(task));
+                turn_task(image, worker, task, dev, steps)
+            }
         };
         if is_last(answer) {
             self.drop_task(worker);
@@ -213,7 +234,10 @@ impl Workers {
         ensures lines { HasCompartments image.now self.new (P.device dev.new) }
     {
         self.drop_task(worker);
-        recover_on::<P, L, Brand>(self.alloc, image, worker, dev, steps)
+        let mut spare = Spare::new();
+        let answer = recover_on::<P, L, Brand>(self.alloc, &mut spare, image, worker, dev, steps);
+        note(&mut self.stops, worker, spare.stop());
+        answer
     }
 
     /// Begins a transaction, counted from 1, with as many arguments as it has parameters. It checks

@@ -13,4 +13,4 @@ mod trap;
 mod typing;
 
 pub use program::program_note;
-pub use trap::{name_of, trap_lines_note};
+pub use trap::name_of;

@@ -10,4 +10,4 @@ mod recovering;
 
 pub use answer::RecoverAnswer;
 pub use looking::{Found, look};
-pub use recovering::{given, put_back, recover};
+pub use recovering::{given, put_back, recover, recover_with};

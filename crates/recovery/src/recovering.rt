@@ -14,7 +14,7 @@ use crate::answer::RecoverAnswer;
 use crate::looking::{Found, look};
 use clobber_log::{reset, restore};
 use nvm_base::Steps;
-use pm_machine::{Image, Machine};
+use pm_machine::{Image, Spare};
 use pmem::{LogAnswer, Phase, PmemWork};
 use pool_layout::{ARGUMENTS, Sizes};
 use std::alloc::Global;
@@ -79,6 +79,7 @@ pub fn given<'a>(image: &Image, tx: u64, args: &'a [i64; ARGUMENTS]) -> &'a [i64
 /// Runs a sealed call again. Memory for the machine's frames is allocated before the first event.
 fn redo<P: PmemWork, L: Ledger>(
     alloc: Global,
+    spare: &mut Spare,
     image: &Image,
     tx: u64,
     args: &[i64],
@@ -98,12 +99,11 @@ fn redo<P: PmemWork, L: Ledger>(
     ensures most { steps.new ≤ steps.old + count + image.now.parts.most }
     ensures lines { (P.device dev.new).lines ≡ (P.device dev.old).lines }
 {
-    let mut machine = match Machine::new(alloc, image, tx, args) {
-        Ok(machine) => machine,
-        Err(_) => return RecoverAnswer::NoMemory,
+    let Some(machine) = spare.start(alloc, image, tx, args) else {
+        return RecoverAnswer::NoMemory;
     };
     match put_back(image.sizes(), dev, count, steps) {
-        LogAnswer::Done => RecoverAnswer::redone(settle(image, &mut machine, dev, steps)),
+        LogAnswer::Done => RecoverAnswer::redone(settle(image, machine, dev, steps)),
         LogAnswer::Off => RecoverAnswer::Off(Phase::Sealed),
         LogAnswer::Failed => RecoverAnswer::Failed,
         LogAnswer::NoMemory => RecoverAnswer::NoMemory,
@@ -130,13 +130,31 @@ pub fn recover<P: PmemWork, L: Ledger>(
     ensures most { steps.new ≤ steps.old + image.now.parts.sizes.records + image.now.parts.most }
     ensures lines { (P.device dev.new).lines ≡ (P.device dev.old).lines }
 {
+    recover_with(alloc, &mut Spare::new(), image, dev, steps)
+}
+
+/// Recovers the pool as `recover` does, with the machine that is kept.
+pub fn recover_with<P: PmemWork, L: Ledger>(
+    alloc: Global,
+    spare: &mut Spare,
+    image: &Image,
+    dev: &mut P,
+    steps: &mut Steps<L>,
+) -> RecoverAnswer
+    requires lines { (P.device dev.old).lines ≡ pool_lines image.now.parts.sizes }
+    ensures recovered { IsRecovered result image.now (P.device dev.old) (P.device dev.new)
+        steps.old steps.new }
+    ensures most { steps.new ≤ steps.old + image.now.parts.sizes.records + image.now.parts.most }
+    ensures lines { (P.device dev.new).lines ≡ (P.device dev.old).lines }
+{
     match look(image, dev) {
         Found::Off => RecoverAnswer::Off(Phase::Unsealed),
         Found::Unusable(kind) => RecoverAnswer::Unusable(kind),
         Found::Numbers => RecoverAnswer::Numbers,
         Found::Unsealed { count } => clean(image.sizes(), dev, count),
         Found::Sealed { tx, args, count } => {
-            redo(alloc, image, tx, given(image, tx, &args), count, dev, steps)
+            let args = given(image, tx, &args);
+            redo(alloc, spare, image, tx, args, count, dev, steps)
         }
     }
 }

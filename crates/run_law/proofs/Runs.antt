@@ -1,13 +1,13 @@
 -- The machine's runs have the properties that the crash law asks for.
 use Rattle.std.proofs.Common.{pos, ◌≡◌, ◌⊎◌, ℕ, suc, ◌<◌, List, [], ◌∷◌, ◌++◌, None, refl, sym, ap}
-use Rattle.std.proofs.Common.{◌∙◌, append_assoc}
+use Rattle.std.proofs.Common.{◌∙◌, append_assoc, ℤ}
 use Rattle.cache_model.specs.Event.{CacheEvent, Flush, Fence}
 use Rattle.cache_model.specs.Cache.{Words}
 use Rattle.pool_layout.specs.declared.limits.Sizes.{Sizes}
 use Rattle.pool_layout.specs.Sizes.{heap_words}
 use Rattle.pool_map.specs.Trap.{trap_number}
 use Rattle.crash_law.specs.Due.{Entry, Plain, Logged, IsTrace, run_events, flush_all, lines_of}
-use Rattle.crash_law.specs.Due.{due_run}
+use Rattle.crash_law.specs.Due.{Undone, due_run}
 use Rattle.args_log.specs.Retire.{retire_events, mark_events}
 use Rattle.crash_law.specs.Pools.{IsKept}
 use Rattle.crash_law.specs.Effects.{Effect as Seen, IsInput, IsOverwritten}
@@ -49,6 +49,11 @@ trace_weaker C H inputs over inputs' over' f g n stored (Logged w x ∷ trace) h
       (λ u. (u ≡ w) ⊎ stored u) trace h.3,
 )
 
+-- the machine's end is a value or a trap
+not_undone : (end : End) (last : ℤ) → result_of end ≡ Undone last → ⊥
+not_undone (Halted v) last e = absurd (cc (e))
+not_undone (Trapped k) last e = absurd (cc (e))
+
 pub run_is : (image : Image) (super : Words) (k : ℕ) (s : State) (heap : Words) (end : End)
     (es : List Effect) →
     AreLines (heap_words image.parts.sizes) s.dirty → run image k 0 s heap ≡ Finished end es
@@ -66,6 +71,7 @@ run_is image super k s heap end es lines ran is =
           (sound image end k s heap es lines ran is));
       all_stored = λ w over. stored_of None seen w (over_seen es w over);
       trap_is = trap_is end;
+      undone_is = λ last e w over. absurd (not_undone end last e);
     }
 
 flush_all_append : (ls : List ℕ) (es fs : List CacheEvent)

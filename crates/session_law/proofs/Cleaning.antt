@@ -13,10 +13,13 @@ use Rattle.pool_layout.specs.declared.limits.Sizes.{Sizes}
 use Rattle.clobber_log.specs.Logs.{attempt_in}
 use Rattle.crash_law.specs.Law.{IsAtRest}
 use Rattle.crash_law.proofs.Rest.{reset_at_rest}
-use Rattle.undo_law.proofs.Kept.{Has}
 use Rattle.recovery.specs.Due.{due_clean}
 use Rattle.cut_law.proofs.Misses.{Misses}
 use Rattle.session_law.proofs.Ones.{rest_newest}
+
+-- each version of the word's line has it
+abbrev Has : ℕ → ℤ → Cache → Type 0
+Has p x c = (v : Words) → IsVersion (c (p / 8)) v → v p ≡ x
 
 at_images : (p : ℕ) (x : ℤ) (c : Cache) → Has p x c → Images (λ (image : Words). image p ≡ x) c
 at_images p x c all image is = let version = is (p / 8) in

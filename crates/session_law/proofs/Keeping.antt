@@ -22,7 +22,9 @@ use Rattle.recovery.specs.Recovered.{IsRecovered, tx_in}
 use Rattle.recovery.specs.declared.answer.RecoverAnswer.{RecoverAnswer}
 use Rattle.recovery.specs.declared.answer.RecoverAnswer.TheVariants as recovered
 use Rattle.cut_law.specs.Law.{call_of, pool_with}
-use Rattle.undo_law.specs.Law.{IsOwed}
+use Rattle.abort_law.specs.Owing.{IsOwed}
+use Rattle.abort_law.proofs.Owing.{any_last}
+use Rattle.crash_law.specs.Law as ends
 use Rattle.abort_mode.specs.declared.answer.AbortAnswer.{AbortAnswer}
 use Rattle.abort_mode.specs.declared.answer.AbortAnswer.TheVariants as aborted
 use Rattle.abort_mode.specs.Answers.{IsAbortRedone}
@@ -392,12 +394,12 @@ module _ (program : Program) (super : Words) (agrees : Agrees program) (h : Word
             → IsMarkedCut pool call heap (heap_end heap owes.effects) s.last x one → Keeps s b t
         from_marked (Halted v) ends (inl before) = marked_before before
         from_marked (Halted v) ends (inr (inl sealed)) =
-            from_owed sealed (subst (λ (y : End). KeepsLast y s.last one) (sym ends) tt)
+            from_owed (any_last pool call heap _ one sealed) (subst (λ (y : End). KeepsLast y s.last one) (sym ends) tt)
         from_marked (Halted v) ends (inr (inr seen)) =
             from_retired seen.seal_is seen.good.done seen.good.unsealed
         from_marked (Trapped kind) ends (inl before) = marked_before before
         from_marked (Trapped kind) ends (inr (inl still)) =
-            from_owed still.owed
+            from_owed (any_last pool call heap _ one still)
             (subst (λ (y : End). KeepsLast y s.last one) (sym ends) still.last_is)
         from_marked (Trapped kind) ends (inr (inr seen)) =
             from_retired seen.seal_is seen.good.done seen.good.unsealed
@@ -410,14 +412,17 @@ module _ (program : Program) (super : Words) (agrees : Agrees program) (h : Word
             (λ (image : Words). image MARK ≡ pos 0 → image SEAL ≢ pos (suc s.done)
             → Restores program h image) e.cache keeps
 
-        module _ (sealed : Owed pool call (E owes.effects) (W owes.effects) owes.heap one) where
+        module _ (sealed : Owed pool call (E owes.effects) (W owes.effects) owes.heap
+            (ends.KeepsLast (result_of owes.end)) one) where
           never : (image : Words)
-              → Owed pool call (E owes.effects) (W owes.effects) owes.heap image
-              ⊎ IsEnd pool call (heap_end owes.heap owes.effects) (result_of owes.end) image
+              → Owed pool call (E owes.effects) (W owes.effects) owes.heap
+              (ends.KeepsLast (result_of owes.end)) image
+              ⊎ IsEnd pool call owes.heap (heap_end owes.heap owes.effects) (result_of owes.end)
+              image
               → image MARK ≡ pos 0 → image SEAL ≢ pos (suc s.done) → ⊥
           never image (inl owed) mark unsealed = unsealed owed.sealed
           never image (inr seen) mark unsealed =
-              end_sealed program super call (heap_end owes.heap owes.effects) owes.end image seen
+              end_sealed program super call owes.heap (heap_end owes.heap owes.effects) owes.end image seen
               mark unsealed
 
           later : (r : RecoverAnswer) → IsRecovered r program.image e b k k1
@@ -465,7 +470,8 @@ module _ (program : Program) (super : Words) (agrees : Agrees program) (h : Word
               (subst (λ (x : Answer). FinishesNone s x t) un.answer none)
 
         from_end : (x : End)
-            → IsEnd pool call (heap_end owes.heap owes.effects) (result_of x) one → Keeps s b t
+            → IsEnd pool call owes.heap (heap_end owes.heap owes.effects) (result_of x) one
+            → Keeps s b t
         from_end (Halted v) seen = from_retired seen.seal_is seen.good.done seen.good.unsealed
         from_end (Trapped kind) lost = from_lost kind lost
 

@@ -14,6 +14,7 @@ pub mod Calls
 pub mod Recoveries
 pub mod MarkedRuns
 pub mod MarkedCounts
+pub mod MarkedExact
 pub mod MarkedCalls
 pub mod MarkedRecoveries
 pub mod Powers

@@ -1,13 +1,11 @@
 -- A call of a marked transaction on a device at rest is answered as the source says.
 use Rattle.std.proofs.Common.{◌≡◌, ℕ, suc, ◌+◌, ◌^◌, ◌<◌, ◌≤◌, Bool, true, false, ◌&&◌}
-use Rattle.std.proofs.Common.{if◌then◌else◌, List, ◌++◌, length, Some, ℤ, pos, refl}
-use Rattle.std.proofs.Common.{sym, ap, ◌∙◌, subst, arith, append_assoc}
+use Rattle.std.proofs.Common.{if◌then◌else◌, List, length, Some, ℤ, pos, refl}
+use Rattle.std.proofs.Common.{sym, ap, ◌∙◌, subst, arith}
 use Rattle.cache_model.specs.Event.{CacheEvent}
-use Rattle.cache_model.specs.Cache.{Words, Cache, view}
+use Rattle.cache_model.specs.Cache.{Words, view}
 use Rattle.cache_model.specs.Play.{play}
 use Rattle.cache_model.specs.Image.{Images, HasOne}
-use Rattle.cache_model.specs.During.{during}
-use Rattle.cache_model.proofs.During.{play_append}
 use Rattle.pmem.specs.Device.{Device}
 use Rattle.pmem.specs.Played.{PlaysAll}
 use Rattle.pmem.proofs.Refused.{all_cache, all_on}
@@ -17,28 +15,24 @@ use Rattle.pool_layout.specs.Places as places
 use Rattle.pool_layout.specs.Restored.{restored}
 use Rattle.pool_layout.specs.Log.{count}
 use Rattle.pool_layout.specs.Good.{Pool, Good}
-use Rattle.clobber_log.specs.Logs.{attempt_in, count_in}
+use Rattle.clobber_log.specs.Logs.{attempt_in}
 use Rattle.pool_map.specs.declared.trap.TrapKind.{TrapKind}
 use Rattle.c_meaning.specs.Transaction.{Done, Trap}
 use Rattle.pm_machine.specs.declared.effect.Effect.{Effect}
 use Rattle.pm_machine.specs.declared.effect.End.{End}
 use Rattle.pm_machine.specs.declared.effect.End.TheVariants.{Halted, Trapped}
-use Rattle.pm_machine.specs.declared.image.Image.{Image}
 use Rattle.pm_machine.specs.Effects.{heap_end, records_end}
-use Rattle.pm_machine.specs.Machine.{State, Finished, start}
-use Rattle.pm_machine.specs.Runs.{heap_in, end_of}
-use Rattle.crash_law.specs.Pools.{Call, IsDone}
+use Rattle.pm_machine.specs.Machine.{Finished, start}
+use Rattle.pm_machine.specs.Runs.{heap_in}
+use Rattle.crash_law.specs.Pools.{Call, IsRetired}
 use Rattle.crash_law.specs.Law.{IsAtRest}
 use Rattle.tx_run.specs.Standing.{is_number}
-use Rattle.tx_run.specs.Due.{due_seal, tail_events}
-use Rattle.recovery.specs.Due.{due_back}
+use Rattle.tx_run.specs.Due.{due_seal}
 use Rattle.cut_law.specs.Law.{call_of, pool_with}
 use Rattle.cut_law.proofs.Misses.{Misses, misses_run}
-use Rattle.undo_law.specs.Undo.{Every}
-use Rattle.undo_law.specs.Law.{IsEmptied}
 use Rattle.abort_mode.specs.declared.answer.AbortAnswer.{AbortAnswer}
 use Rattle.abort_mode.specs.declared.answer.AbortAnswer.TheVariants as aborted
-use Rattle.abort_mode.specs.Due.{abort_due_on, abort_tail_events, due_run, due_call, abort_due_redo}
+use Rattle.abort_mode.specs.Due.{abort_due_on, due_call}
 use Rattle.abort_mode.specs.Answers.{AbortCalled, IsAbortCalled}
 use Rattle.abort_law.specs.Machine.{mrun_marked}
 use Rattle.abort_law.specs.Cuts.{IsMarkedEnd, IsMarkedCut, AbortTells}
@@ -67,50 +61,11 @@ use Rattle.session_law.specs.Holds.{IsResting, OwesMarked, OwesBy, HoldsAs, Hold
 use Rattle.session_law.specs.Law.{IsRolledBack, TakesBy}
 use Rattle.session_law.proofs.Words.{held_words}
 use Rattle.session_law.proofs.Ones.{rest_one, at_view}
-use Rattle.session_law.proofs.Retired.{HasAttempt, Retires, count_at, cut_attempt, retired_empty}
+use Rattle.session_law.proofs.Retired.{count_at, retired_none}
 use Rattle.session_law.proofs.Reading.{numbers_small, stands_ready, stands_numbers, is_unsealed}
 use Rattle.session_law.proofs.Restoring.{Restores, cut_restores}
 use Rattle.session_law.proofs.Resting.{resting_at, HasHalted}
 use Rattle.session_law.proofs.MarkedRuns.{MarkedMeant, marked_run, marked_done, marked_trapped}
-
--- a run that halts ends with the events that retire its value
-marked_retires : (image : Image) (s : State) (c : Cache) (front : List CacheEvent) (v : ℤ)
-    → end_of (abort_due_on image s (play c front)).fate ≡ Halted v
-    → Retires c (front ++ due_run image s (play c front)) v
-marked_retires image s c front v fate =
-    let ran : List CacheEvent = (abort_due_on image s (play c front)).events in
-    record {
-      first = front ++ ran;
-      is =
-          ap (λ (e : End). front
-          ++ (ran ++ abort_tail_events image.parts.sizes e (play (play c front) ran))) fate
-          ∙ sym (append_assoc front ran (tail_events (Halted v) (play (play c front) ran)))
-          ∙ ap (λ (b : Cache). (front ++ ran) ++ tail_events (Halted v) b)
-          (sym (play_append c front ran));
-    }
-
-pub marked_call_retires : (image : Image) (tx : ℕ) (args : List ℤ) (c : Cache) (v : ℤ)
-    → end_of (abort_due_on image (start image tx args) (play c (due_seal tx args c))).fate
-    ≡ Halted v → Retires c (due_call image tx args c) v
-unfolding due_call
-marked_call_retires image tx args c v fate =
-    marked_retires image (start image tx args) c (due_seal tx args c) v fate
-
-pub marked_redo_retires : (image : Image) (tx : ℕ) (args : List ℤ) (n : ℕ) (c : Cache) (v : ℤ)
-    → end_of (abort_due_on image (start image tx args)
-    (play c (due_back image.parts.sizes n c))).fate ≡ Halted v
-    → Retires c (abort_due_redo image tx args n c) v
-marked_redo_retires image tx args n c v fate =
-    marked_retires image (start image tx args) c (due_back image.parts.sizes n c) v fate
-
--- after an undo no record is valid
-pub undone_empty : (pool : Pool) (call : Call) (h : Words) (last : ℤ) (image : Words)
-    → IsEmptied pool call h last image → count_in pool.sizes image ≡ 0
-undone_empty pool call h last image ended =
-    let good = ended.undone.good in
-    count_at pool.sizes image good.attempt good.attempt_is
-    (let fits = good.attempt_fits in omega arith)
-    ∙ ended.empty good.attempt good.attempt_is
 
 module _ (program : Program) (super : Words) (agrees : Agrees program)
     (d : Device) (s : SourceState) (resting : IsResting program super d s)
@@ -234,17 +189,9 @@ module _ (program : Program) (super : Words) (agrees : Agrees program)
         own.halts v is in
         let ended : Images (Ended (Halted v)) b.cache =
         subst (λ (e : End). Images (Ended e) b.cache) is tells.2 in
-        let seen : IsDone pool (suc s.done) (heap_end h es) v (view b.cache) =
+        let retired : IsRetired pool (suc s.done) (heap_end h es) v (view b.cache) =
         at_view (Ended (Halted v)) b.cache ended in
-        let cut : during d.cache events (Images (Cut last end)) =
-        (cut_marked program.image super tx args d.cache (view d.cache) s.done end es few.0
-        few.1 small.0 only good small.1 empty run.2 own.tidy).0 in
-        let each : (image : Words) → Cut last end image → HasAttempt z image =
-        λ image cut_is. cut_attempt pool call Every Every h (heap_end h es) last v
-        image (subst (λ (e : End). Cut last e image) is cut_is) in
-        let none : count_in z (view (play d.cache events)) ≡ 0 =
-        retired_empty z (Cut last end) each d.cache events v
-        (marked_call_retires program.image tx args d.cache v ran.0.fate) cut in
+        let seen = retired.done in
         let t : SourceState = done_with has.pool v Ready s in (
           t,
           (
@@ -259,7 +206,7 @@ module _ (program : Program) (super : Words) (agrees : Agrees program)
             resting_at program super b t (heap_end h es) (all_on events d b all ∙ resting.on)
                 (played_rest all)
                 (record { good = seen.good; last_is = seen.last_is })
-                (ap (λ (c : Cache). count_in z (view c)) (all_cache events d b all) ∙ none)
+                (retired_none pool (suc s.done) (heap_end h es) v (view b.cache) retired)
                 (record { headers = has.headers; pool = has.holds; words = has.words }),
           ),
         )
@@ -273,7 +220,7 @@ module _ (program : Program) (super : Words) (agrees : Agrees program)
         let is : end ≡ Trapped kind = tells.0 in
         let ended : Images (Ended (Trapped kind)) b.cache =
         subst (λ (e : End). Images (Ended e) b.cache) is tells.1 in
-        let seen : IsEmptied pool call h last (view b.cache) =
+        let seen : IsRetired pool (suc s.done) h last (view b.cache) =
         at_view (Ended (Trapped kind)) b.cache ended in
         let t : SourceState = undone_as Ready s in (
           t,
@@ -291,10 +238,10 @@ module _ (program : Program) (super : Words) (agrees : Agrees program)
             resting_at program super b t h (all_on events d b all ∙ resting.on)
                 (played_rest all)
                 (record {
-                  good = seen.undone.good;
-                  last_is = seen.undone.last_is ∙ resting.before.last_is;
+                  good = seen.done.good;
+                  last_is = seen.done.last_is ∙ resting.before.last_is;
                 })
-                (undone_empty pool call h last (view b.cache) seen)
+                (retired_none pool (suc s.done) h last (view b.cache) seen)
                 (record {
                   headers = resting.holds.headers;
                   pool = resting.holds.pool;
@@ -310,11 +257,11 @@ module _ (program : Program) (super : Words) (agrees : Agrees program)
         let tells = (left (aborted.Aborted kind) k k1 ran).1 in
         let ended : Images (Ended (Trapped kind)) b.cache =
         subst (λ (e : End). Images (Ended e) b.cache) tells.0 tells.1 in
-        let seen : IsEmptied pool call h last (view b.cache) =
+        let seen : IsRetired pool (suc s.done) h last (view b.cache) =
         at_view (Ended (Trapped kind)) b.cache ended in
         record {
-          heap = seen.undone.good.heap;
-          last_is = seen.undone.last_is ∙ resting.before.last_is;
+          heap = seen.done.good.heap;
+          last_is = seen.done.last_is ∙ resting.before.last_is;
         }
 
     by_answer : (r : AbortAnswer) (k k1 : ℕ) → AbortCalled r program.image tx args d b k k1

@@ -1,5 +1,6 @@
 -- The number of records of a marked transaction by the source's own stores.
-use Rattle.std.proofs.Common.{◌≡◌, ◌⊎◌, inl, inr, ⊎_elim, ℕ, suc, true, false, List, [], ◌∷◌}
+use Rattle.std.proofs.Common.{◌≡◌, ◌⊎◌, inl, inr, ⊎_elim, ℕ, suc, Bool, true, false, List, [], ◌∷◌}
+use Rattle.std.proofs.Common.{if◌then◌else◌, nat_lt}
 use Rattle.std.proofs.Common.{ℤ, pos, refl, sym, ap, ◌∙◌, subst}
 use Rattle.cache_model.specs.Cache.{Words}
 use Rattle.ir.specs.declared.function.IrFunction.{IrFunction}
@@ -11,16 +12,17 @@ use Rattle.lower.specs.Program.{lowered}
 use Rattle.pm_machine.specs.declared.effect.Effect.{Effect}
 use Rattle.pm_machine.specs.declared.effect.End.{End}
 use Rattle.pm_machine.specs.declared.effect.End.TheVariants.{Halted, Trapped}
-use Rattle.pm_machine.specs.Effects.{records_end}
+use Rattle.pm_machine.specs.Effects.{heap_end, records_end}
+use Rattle.cnvm_session.specs.Pool.{sizes_of}
 use Rattle.abort_law.specs.Beside.{EndsBeside}
 use Rattle.abort_law.specs.Records.{records_marked}
 use Rattle.abort_law.proofs.Besides.{besides}
-use Rattle.abort_law.proofs.Appended.{beside_records}
+use Rattle.abort_law.proofs.Exact.{beside_records}
 use Rattle.cnvm_session.specs.declared.program.Program.{Program}
 use Rattle.session_law.specs.Logged.{StoreAt, AreLoggedFirst}
-use Rattle.session_law.specs.Source.{means, run_stores, LogsFirst}
+use Rattle.session_law.specs.Source.{means, source_pool, outcome_with, run_stores, LogsFirst}
 use Rattle.session_law.specs.Words.{HasPoolWords}
-use Rattle.session_law.specs.Agrees.{RunsAs}
+use Rattle.session_law.specs.Agrees.{RunsAs, Matches}
 use Rattle.session_law.specs.Marked.{marked_outcome}
 use Rattle.session_law.specs.State.{Pending, Ready, SourceState}
 use Rattle.session_law.specs.Holds.{HoldsPool}
@@ -41,6 +43,16 @@ module _ (functions : List IrFunction) where
       absurd (⊎_elim (λ logged. x.0 logged)
       (λ fresh. let clash : true ≡ false = sym x.1 ∙ fresh in absurd cc) y.2)
   one_first ls (a ∷ stores) n m (inr x) (inr y) = one_first ls stores n m x.2 y.2
+
+-- a run that halts has room for its records
+room_of : (program : Program) (pool : PoolMap) (tx : ℕ) (args : List ℤ) (logged : ℕ) (v : ℤ)
+    (g : Words) (b : Bool) → nat_lt (sizes_of program).records logged ≡ b
+    → Matches program (outcome_with program pool tx args logged) (Halted v) g
+    → nat_lt (sizes_of program).records logged ≡ false
+room_of program pool tx args logged v g false is matches = is
+room_of program pool tx args logged v g true is matches =
+    absurd (subst (λ (b : Bool). Matches program
+    (if b then Trap trap.LogFull else means program pool tx args) (Halted v) g) is matches)
 
 -- a run whose outcome is a value halts
 module _ (program : Program) (s : SourceState) (owed : Pending) (h : Words)
@@ -69,7 +81,13 @@ module _ (program : Program) (s : SourceState) (owed : Pending) (h : Words)
       → records_end 0 es ≡ runs.firsts
   records_are v is (inl same) (inl full) =
       let clash : Halted v ≡ Trapped trap.LogFull = sym is ∙ full in absurd cc
-  records_are v is (inl same) (inr count) = count ∙ runs.counted_firsts v (sym same.0 ∙ is)
+  records_are v is (inl same) (inr count) =
+      count ∙ runs.counted_firsts (room_of program (source_pool program h) owed.tx owed.args
+      runs.logged v (heap_end h runs.effects)
+      (nat_lt (sizes_of program).records runs.logged) refl
+      (subst (λ (e : End). Matches program
+      (outcome_with program (source_pool program h) owed.tx owed.args runs.logged) e
+      (heap_end h runs.effects)) (sym same.0 ∙ is) runs.matches))
   records_are v is (inr full) count =
       let clash : Halted v ≡ Trapped trap.LogFull = sym is ∙ full in absurd cc
 

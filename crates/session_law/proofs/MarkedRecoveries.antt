@@ -3,10 +3,8 @@ use Rattle.std.proofs.Common.{◌≡◌, inl, inr, ℕ, suc, ◌+◌, ◌^◌, �
 use Rattle.std.proofs.Common.{if◌then◌else◌, List, length, Some, ℤ, refl, sym, ap, ◌∙◌, subst}
 use Rattle.std.proofs.Common.{arith}
 use Rattle.cache_model.specs.Event.{CacheEvent}
-use Rattle.cache_model.specs.Cache.{Words, Cache, view}
-use Rattle.cache_model.specs.Play.{play}
+use Rattle.cache_model.specs.Cache.{Words, view}
 use Rattle.cache_model.specs.Image.{Images, HasOne}
-use Rattle.cache_model.specs.During.{during}
 use Rattle.pmem.specs.Device.{Device}
 use Rattle.pmem.specs.Played.{PlaysAll}
 use Rattle.pmem.specs.declared.answer.Phase.TheVariants as phase
@@ -28,13 +26,13 @@ use Rattle.pm_machine.specs.declared.effect.End.{End}
 use Rattle.pm_machine.specs.declared.effect.End.TheVariants.{Halted, Trapped}
 use Rattle.pm_machine.specs.Effects.{heap_end, records_end}
 use Rattle.pm_machine.specs.Machine.{Finished}
-use Rattle.crash_law.specs.Pools.{Call, IsDone}
+use Rattle.crash_law.specs.Pools.{Call, IsRetired}
 use Rattle.crash_law.specs.Law.{IsAtRest}
 use Rattle.recovery.specs.Found.{names_tx, recorded}
 use Rattle.recovery.specs.Recovered.{numbers_out, tx_in}
 use Rattle.cut_law.specs.Law.{call_of, pool_with}
-use Rattle.undo_law.specs.Undo.{Every}
-use Rattle.undo_law.specs.Law.{IsOwed, IsReabortCut, IsEmptied}
+use Rattle.abort_law.specs.Owing.{Every, IsOwed}
+use Rattle.abort_law.proofs.Owing.{owed_any, keeps_by}
 use Rattle.abort_mode.specs.declared.answer.AbortAnswer.{AbortAnswer}
 use Rattle.abort_mode.specs.declared.answer.AbortAnswer.TheVariants as aborted
 use Rattle.abort_mode.specs.Due.{abort_due_redo}
@@ -65,14 +63,12 @@ use Rattle.session_law.specs.Holds.{HoldsPool, OwesBy, Holds}
 use Rattle.session_law.specs.Law.{IsRolledBack}
 use Rattle.session_law.proofs.Words.{held_words}
 use Rattle.session_law.proofs.Ones.{rest_one, rest_images, at_view}
-use Rattle.session_law.proofs.Retired.{HasAttempt, attempt_small, count_at, left_attempt}
-use Rattle.session_law.proofs.Retired.{retired_empty}
+use Rattle.session_law.proofs.Retired.{attempt_small, count_at, retired_none}
 use Rattle.session_law.proofs.Reading.{is_owed, names_one, recorded_is}
 use Rattle.session_law.proofs.Resting.{resting_at, HasHalted}
 use Rattle.session_law.proofs.Recoveries.{numbers_at}
 use Rattle.session_law.proofs.MarkedRuns.{MarkedMeant, marked_meant, comes_same, marked_done}
 use Rattle.session_law.proofs.MarkedRuns.{marked_trapped}
-use Rattle.session_law.proofs.MarkedCalls.{marked_redo_retires, undone_empty}
 
 -- where the call is undone, the last value is as it was
 abbrev pub KeepsLast : End → (last : ℤ) → Words → Type 0
@@ -85,7 +81,7 @@ left_cut : (pool : Pool) (call : Call) (h h' : Words) (last : ℤ) (end : End) (
     → IsMarkedCut pool call h h' last end other
 left_cut pool call h h' last (Halted v) one other kept is = inr is
 left_cut pool call h h' last (Trapped kind) one other kept is =
-    inr (subst (λ (x : ℤ). IsReabortCut pool call h x other) kept is)
+    inr (subst (λ (x : ℤ). IsMarkedLeft pool call h h' x (Trapped kind) other) kept is)
 
 module _ (program : Program) (super : Words) (agrees : Agrees program)
     (e : Device) (s : SourceState) (owed : Pending) (h : Words) (end : End) (es : List Effect)
@@ -195,17 +191,9 @@ module _ (program : Program) (super : Words) (agrees : Agrees program)
         (heap_end h es) = own.halts v is in
         let ended : Images (Ended (Halted v)) b.cache =
         subst (λ (x : End). Images (Ended x) b.cache) is tells.2 in
-        let seen : IsDone its_pool (suc s.done) (heap_end h es) v (view b.cache) =
+        let retired : IsRetired its_pool (suc s.done) (heap_end h es) v (view b.cache) =
         at_view (Ended (Halted v)) b.cache ended in
-        let cut : during e.cache list (Images (Left end)) =
-        (cut_remarked program.image super owed.tx owed.args e.cache image s.done h end es few
-        only sealed ran own.tidy m counted_m space).0 in
-        let each : (other : Words) → Left end other → HasAttempt sizes other =
-        λ other left. left_attempt its_pool call Every Every h (heap_end h es) v other
-        (subst (λ (x : End). Left x other) is left) in
-        let none : count_in sizes (view (play e.cache list)) ≡ 0 =
-        retired_empty sizes (Left end) each e.cache list v
-        (marked_redo_retires program.image owed.tx owed.args m e.cache v redid.0.fate) cut in
+        let seen = retired.done in
         let t : SourceState = done_with has.pool v Ready s in (
           t,
           (
@@ -220,7 +208,7 @@ module _ (program : Program) (super : Words) (agrees : Agrees program)
             resting_at program super b t (heap_end h es) (all_on list e b all ∙ on)
                 (played_rest all)
                 (record { good = seen.good; last_is = seen.last_is })
-                (ap (λ (c : Cache). count_in sizes (view c)) (all_cache list e b all) ∙ none)
+                (retired_none its_pool (suc s.done) (heap_end h es) v (view b.cache) retired)
                 (record { headers = has.headers; pool = has.holds; words = has.words }),
           ),
         )
@@ -239,7 +227,7 @@ module _ (program : Program) (super : Words) (agrees : Agrees program)
         let is : end ≡ Trapped kind = tells.0 in
         let ended : Images (Ended (Trapped kind)) b.cache =
         subst (λ (x : End). Images (Ended x) b.cache) is tells.1 in
-        let seen : IsEmptied its_pool call h (image LAST) (view b.cache) =
+        let seen : IsRetired its_pool (suc s.done) h (image LAST) (view b.cache) =
         at_view (Ended (Trapped kind)) b.cache ended in
         let t : SourceState = undone_as Ready s in (
           t,
@@ -256,10 +244,10 @@ module _ (program : Program) (super : Words) (agrees : Agrees program)
             refl,
             resting_at program super b t h (all_on list e b all ∙ on) (played_rest all)
                 (record {
-                  good = seen.undone.good;
-                  last_is = seen.undone.last_is ∙ last_is end kind is kept;
+                  good = seen.done.good;
+                  last_is = seen.done.last_is ∙ last_is end kind is kept;
                 })
-                (undone_empty its_pool call h (image LAST) (view b.cache) seen)
+                (retired_none its_pool (suc s.done) h (image LAST) (view b.cache) seen)
                 (record { headers = holds.headers; pool = holds.pool; words = holds.words }),
           ),
         )
@@ -271,11 +259,11 @@ module _ (program : Program) (super : Words) (agrees : Agrees program)
         let tells = (leaves_it (aborted.Aborted kind) k k1 redid).1 in
         let ended : Images (Ended (Trapped kind)) b.cache =
         subst (λ (x : End). Images (Ended x) b.cache) tells.0 tells.1 in
-        let seen : IsEmptied its_pool call h (image LAST) (view b.cache) =
+        let seen : IsRetired its_pool (suc s.done) h (image LAST) (view b.cache) =
         at_view (Ended (Trapped kind)) b.cache ended in
         record {
-          heap = seen.undone.good.heap;
-          last_is = seen.undone.last_is ∙ last_is end kind tells.0 kept;
+          heap = seen.done.good.heap;
+          last_is = seen.done.last_is ∙ last_is end kind tells.0 kept;
         }
 
     redid_by : (r : AbortAnswer) (k k1 : ℕ)
@@ -315,8 +303,8 @@ module _ (program : Program) (super : Words) (agrees : Agrees program)
       k1) tx_is ran_it)
 
   begins : (x : End) → Left x image
-  begins (Halted v) = inl sealed
-  begins (Trapped kind) = inl (record { owed = sealed; last_is = refl })
+  begins x = inl (owed_any its_pool call Every Every h _ _ image (λ k. keeps_by (image LAST) x)
+      sealed)
 
   pub marked_redo_recovers : (r : AbortAnswer) (b : Device) (k k1 : ℕ)
       → IsAbortRedone r program.image e b k k1

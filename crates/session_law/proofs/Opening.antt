@@ -9,7 +9,7 @@ use Rattle.cache_model.specs.Play.{play}
 use Rattle.cache_model.specs.Image.{Images}
 use Rattle.pmem.specs.Device.{Device, blanked}
 use Rattle.pmem.proofs.Refused.{all_cache, all_on}
-use Rattle.pool_layout.specs.declared.places.TheConstants.{DONE, MARK, FUNCTION, SEAL}
+use Rattle.pool_layout.specs.declared.places.TheConstants.{LAST, DONE, MARK, FUNCTION, SEAL}
 use Rattle.pool_layout.specs.declared.limits.Sizes.{Sizes}
 use Rattle.pool_layout.specs.declared.places.Place.TheVariants.{Heap}
 use Rattle.pool_layout.specs.Places as places
@@ -29,7 +29,7 @@ use Rattle.pm_machine.specs.Effects.{heap_end}
 use Rattle.pool_layout.specs.Good.{Lost, Pool}
 use Rattle.heap_pool.specs.HeapPool.{words_from}
 use Rattle.crash_law.specs.Pools.{Owed, IsBefore}
-use Rattle.crash_law.specs.Law.{IsAtRest, IsCut}
+use Rattle.crash_law.specs.Law.{KeepsLast, IsAtRest, IsCut}
 use Rattle.run_law.specs.Seen.{result_of, E, W}
 use Rattle.run_law.proofs.Sounds.{trap_some}
 use Rattle.recovery.specs.Found.{recorded}
@@ -41,7 +41,8 @@ use Rattle.cnvm_session.specs.declared.program.Program.{Program}
 use Rattle.cnvm_session.specs.Marks.{rolls_back_of}
 use Rattle.pm_machine.specs.declared.effect.End.{End}
 use Rattle.pm_machine.specs.declared.effect.End.TheVariants.{Halted, Trapped}
-use Rattle.undo_law.specs.Undo.{Every}
+use Rattle.abort_law.specs.Owing.{Every, result_by}
+use Rattle.cut_law.proofs.Cuts.{keeps}
 use Rattle.abort_law.specs.Cuts.{IsMarkedCut}
 use Rattle.cnvm_session.specs.Commands.{tx_parameters}
 use Rattle.cnvm_session.specs.Opening.{opening_events}
@@ -262,10 +263,12 @@ module _ (program : Program) (agrees : Agrees program) (words : List ℤ)
           args_are takes
 
       -- the call is owed, with all words that the log restores
-      owed_for : (F G : ℕ → Type 0) → Owed pool (call_of s.done tx args) F G h image
-      owed_for F G =
+      owed_for : (F G : ℕ → Type 0) (K : ℤ → Type 0) → K (image LAST)
+          → Owed pool (call_of s.done tx args) F G h K image
+      owed_for F G K kept =
           record {
             super = λ k less. refl;
+            last_is = kept;
             mark = mark;
             done = opens.done.2 ∙ ap pos (sym done_is);
             done_fits = (let fits = opens.done.1 in let is = done_is in omega arith);
@@ -299,14 +302,16 @@ module _ (program : Program) (agrees : Agrees program) (words : List ℤ)
             ran = runs.ran;
             left = all_of (IsCut pool (call_of s.done tx args) (E runs.effects) (W runs.effects) h
                 (heap_end h runs.effects) s.last (result_of runs.end))
-                (inr (inl (owed_for (E runs.effects) (W runs.effects))));
+                (inr (inl (owed_for (E runs.effects) (W runs.effects)
+                (KeepsLast (result_of runs.end)) (keeps runs.end (image LAST)))));
           }
 
       begins : (end : End) (g : Words)
           → IsMarkedCut pool (call_of s.done tx args) h g s.last end image
-      begins (Halted v) g = inr (inl (owed_for Every Every))
+      begins (Halted v) g =
+          inr (inl (owed_for Every Every (KeepsLast (result_by s.last (Halted v))) tt))
       begins (Trapped kind) g =
-          inr (inl (record { owed = owed_for Every Every; last_is = refl }))
+          inr (inl (owed_for Every Every (KeepsLast (result_by s.last (Trapped kind))) refl))
 
       owes_marked_one : OwesMarked program image (recorded_in program image) e s
       owes_marked_one =

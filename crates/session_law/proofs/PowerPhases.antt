@@ -27,7 +27,8 @@ use Rattle.recovery.specs.Recovered.{IsRecovered, tx_in}
 use Rattle.recovery.specs.declared.answer.RecoverAnswer.{RecoverAnswer}
 use Rattle.recovery.specs.declared.answer.RecoverAnswer.TheVariants as recovered
 use Rattle.cut_law.specs.Law.{call_of, pool_with}
-use Rattle.undo_law.specs.Law.{IsOwed}
+use Rattle.abort_law.specs.Owing.{IsOwed}
+use Rattle.abort_law.proofs.Owing.{any_last}
 use Rattle.abort_law.specs.Cuts.{IsMarkedCut, IsMarkedLeft}
 use Rattle.cnvm_script.specs.declared.command.Command.TheVariants as command
 use Rattle.cnvm_session.specs.declared.mode.Mode.{Mode}
@@ -100,8 +101,8 @@ module _ (program : Program) (super : Words) (agrees : Agrees program)
 
     module _ (unmarked : rolls_back_of program owed.tx ≡ false)
         (owes : OwesOne program super owed e s) where
-      not_ended : (x : End) → IsEnd pool call (heap_end owes.heap owes.effects) (result_of x) one
-          → ⊥
+      not_ended : (x : End)
+          → IsEnd pool call owes.heap (heap_end owes.heap owes.effects) (result_of x) one → ⊥
       not_ended (Halted v) ended = not_done ended.good.done
       not_ended (Trapped kind) lost = is_marked (one MARK) (trap_number kind) lost.0 lost.1 mark
 
@@ -129,7 +130,7 @@ module _ (program : Program) (super : Words) (agrees : Agrees program)
           → HasSeal s image
       of_left (Halted v) image (inl sealed) = sealed.sealed
       of_left (Halted v) image (inr seen) = seen.seal_is
-      of_left (Trapped kind) image (inl still) = still.owed.sealed
+      of_left (Trapped kind) image (inl still) = still.sealed
       of_left (Trapped kind) image (inr seen) = seen.seal_is
 
       owed_at : IsOwed pool call owes.heap one → KeepsLast owes.end s.last one → Sealed
@@ -145,11 +146,12 @@ module _ (program : Program) (super : Words) (agrees : Agrees program)
           → IsMarkedCut pool call owes.heap (heap_end owes.heap owes.effects) s.last x one → Sealed
       at_marked (Halted v) ends (inl before) = absurd (before.good.unsealed seal)
       at_marked (Halted v) ends (inr (inl sealed)) =
-          owed_at sealed (subst (λ (y : End). KeepsLast y s.last one) (sym ends) tt)
+          owed_at (any_last pool call owes.heap _ one sealed)
+          (subst (λ (y : End). KeepsLast y s.last one) (sym ends) tt)
       at_marked (Halted v) ends (inr (inr seen)) = absurd (not_done seen.good.done)
       at_marked (Trapped kind) ends (inl before) = absurd (before.good.unsealed seal)
       at_marked (Trapped kind) ends (inr (inl still)) =
-          owed_at still.owed
+          owed_at (any_last pool call owes.heap _ one still)
           (subst (λ (y : End). KeepsLast y s.last one) (sym ends) still.last_is)
       at_marked (Trapped kind) ends (inr (inr seen)) = absurd (not_done seen.good.done)
 

@@ -27,7 +27,8 @@ use Rattle.crash_law.specs.Law.{IsAtRest, IsCut, IsEnd}
 use Rattle.run_law.specs.Seen.{result_of, E, W}
 use Rattle.args_log.specs.Pending.{tx_number}
 use Rattle.recovery.specs.Recovered.{tx_in}
-use Rattle.undo_law.specs.Law.{IsOwed, IsUndone}
+use Rattle.abort_law.specs.Owing.{IsOwed}
+use Rattle.abort_law.proofs.Owing.{any_last}
 use Rattle.abort_law.specs.Cuts.{IsMarkedCut}
 use Rattle.cut_law.specs.Law.{call_of, pool_with}
 use Rattle.cnvm_session.specs.declared.mode.Mode.{Mode}
@@ -246,7 +247,7 @@ module _ (program : Program) (super : Words) (agrees : Agrees program)
           (agrees.runs h owed.tx owed.args owes.holds.headers (held_words program h s owes.holds)
           owes.words owes.takes) owes.ran
 
-      at_end : (x : End) → owes.end ≡ x → IsEnd pool call (heap_end h es) (result_of x) one
+      at_end : (x : End) → owes.end ≡ x → IsEnd pool call h (heap_end h es) (result_of x) one
           → Answered
       at_end (Halted v) ends seen =
           let has : HasHalted program (outcome_with program s.pool owed.tx owed.args own.logged) v
@@ -350,7 +351,7 @@ module _ (program : Program) (super : Words) (agrees : Agrees program)
           (is_unsealed one done good.done good.unsealed) ∙ good.heap w less
 
       undone_at : (kind : TrapKind) → owes.end ≡ Trapped kind
-          → IsUndone pool call heap s.last one → Answered
+          → IsDone pool (suc s.done) heap s.last one → Answered
       undone_at kind ends seen =
           let found : SourceState = undone_as (Down None) s in
           rested found heap
@@ -396,11 +397,12 @@ module _ (program : Program) (super : Words) (agrees : Agrees program)
           → IsMarkedCut pool call heap (heap_end heap effects) s.last x one → Answered
       at_marked_cut (Halted v) ends (inl before) = at_before heap owes.holds before
       at_marked_cut (Halted v) ends (inr (inl sealed)) =
-          owed_at sealed (subst (λ (y : End). KeepsLast y s.last one) (sym ends) tt)
+          owed_at (any_last pool call heap _ one sealed)
+          (subst (λ (y : End). KeepsLast y s.last one) (sym ends) tt)
       at_marked_cut (Halted v) ends (inr (inr seen)) = marked_done_at v ends seen
       at_marked_cut (Trapped kind) ends (inl before) = at_before heap owes.holds before
       at_marked_cut (Trapped kind) ends (inr (inl still)) =
-          owed_at still.owed
+          owed_at (any_last pool call heap _ one still)
           (subst (λ (y : End). KeepsLast y s.last one) (sym ends) still.last_is)
       at_marked_cut (Trapped kind) ends (inr (inr seen)) = undone_at kind ends seen
 

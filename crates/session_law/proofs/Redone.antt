@@ -1,7 +1,7 @@
 -- A recovery of an owed transaction: after one that runs it to its value each line has one version,
 -- and none stores the seal.
 use Rattle.std.proofs.Common.{◌≡◌, ℕ, zero, suc, ◌^◌, ◌<◌, ◌≤◌, List, [], ◌∷◌, ◌++◌, length, ℤ, pos}
-use Rattle.std.proofs.Common.{sym, ap, ◌∙◌, subst, arith}
+use Rattle.std.proofs.Common.{sym, subst, arith}
 use Rattle.cache_model.specs.Event.{CacheEvent, Store, Fence}
 use Rattle.cache_model.specs.Cache.{Words, put, Cache}
 use Rattle.cache_model.specs.Play.{play}
@@ -21,10 +21,11 @@ use Rattle.pm_machine.specs.declared.effect.Effect.{Effect}
 use Rattle.pm_machine.specs.declared.effect.End.{End}
 use Rattle.pm_machine.specs.declared.effect.End.TheVariants.{Halted}
 use Rattle.pm_machine.specs.declared.image.Image.{Image}
-use Rattle.pm_machine.specs.Machine.{Finished, mrun}
+use Rattle.pm_machine.specs.Machine.{Finished, mrun, start}
 use Rattle.crash_law.specs.Pools.{Owed}
 use Rattle.crash_law.specs.Due as crash
-use Rattle.crash_law.specs.Law.{IsAtRest}
+use Rattle.crash_law.specs.Law.{KeepsLast, Retires, IsAtRest}
+use Rattle.run_law.proofs.Runs.{run_is}
 use Rattle.crash_law.proofs.Rest.{redo_rest}
 use Rattle.run_law.specs.Seen.{trace_in, result_of, E, W}
 use Rattle.run_law.specs.Sound.{IsSoundRun}
@@ -32,7 +33,8 @@ use Rattle.recovery.specs.Due.{due_redo}
 use Rattle.cut_law.specs.Law.{call_of, pool_with}
 use Rattle.cut_law.proofs.Redoes.{none_same, some_same}
 use Rattle.cut_law.proofs.Misses.{Misses, misses_append}
-use Rattle.cut_law.proofs.Backs.{misses_restore, restore_same}
+use Rattle.cut_law.proofs.Backs.{misses_back, misses_fence, misses_restore, restore_same}
+use Rattle.clobber_log.specs.Restore.{back_events, fence_after}
 
 -- no event of a recovery stores the seal
 
@@ -54,21 +56,31 @@ misses_lines : (ls : List ℕ) (rest : List CacheEvent) → Misses SEAL rest
 misses_lines [] rest misses = misses
 misses_lines (l ∷ ls) rest misses = misses_lines ls rest misses
 
-misses_end : (z : Sizes) (a k : ℕ) (result : crash.Result) (trace : List crash.Entry)
-    → Misses SEAL (crash.end_events z a k result trace)
+misses_end : (z : Sizes) (a k : ℕ) (heap : Words) (result : crash.Result)
+    (trace : List crash.Entry) → Misses SEAL (crash.end_events z a k heap result trace)
 unfolding retire_events mark_events
-misses_end z a k (crash.Halted value) trace =
+misses_end z a k heap (crash.Halted value) trace =
     misses_lines (crash.lines_of z [] trace) (Fence ∷ retire_events value (pos k) (pos (suc a))) (
       (λ e. absurd (omega arith)),
       ((λ e. absurd (omega arith)), ((λ e. absurd (omega arith)), tt)),
     )
-misses_end z a k (crash.Trapped trap) trace = ((λ e. absurd (omega arith)), tt)
+misses_end z a k heap (crash.Trapped trap) trace = ((λ e. absurd (omega arith)), tt)
+misses_end z a k heap (crash.Undone last) trace =
+    let r : crash.Records = crash.records_after crash.no_records heap trace in
+    misses_append SEAL (back_events z r.word r.old r.n ++ fence_after r.n)
+    (retire_events last (pos k) (pos (suc a)))
+    (misses_append SEAL (back_events z r.word r.old r.n) (fence_after r.n)
+    (misses_back z SEAL r.word r.old r.n (omega arith)) (misses_fence SEAL r.n)) (
+      (λ e. absurd (omega arith)),
+      ((λ e. absurd (omega arith)), ((λ e. absurd (omega arith)), tt)),
+    )
 
 misses_due : (z : Sizes) (a k : ℕ) (heap : Words) (result : crash.Result) (trace : List crash.Entry)
     → Misses SEAL (crash.due_run z a k heap result trace)
 misses_due z a k heap result trace =
-    misses_append SEAL (crash.run_events z a 0 heap trace) (crash.end_events z a k result trace)
-    (misses_trace z a 0 heap trace) (misses_end z a k result trace)
+    misses_append SEAL (crash.run_events z a 0 heap trace)
+    (crash.end_events z a k heap result trace)
+    (misses_trace z a 0 heap trace) (misses_end z a k heap result trace)
 
 misses_redo : (z : Sizes) (a k : ℕ) (one : Words) (n : ℕ) (result : crash.Result)
     (trace : List crash.Entry) → count_in z one ≡ n
@@ -88,7 +100,8 @@ misses_redo z a k one (suc n) result trace counted =
 module _ (image : Image) (super : Words) (tx : ℕ) (args : List ℤ) (c : Cache) (one : Words) (d : ℕ)
     (h : Words) (end : End) (es : List Effect)
     (few : length args ≤ 22) (only : HasOne c one)
-    (owed : Owed (pool_with image super) (call_of d tx args) (E es) (W es) h one)
+    (owed : Owed (pool_with image super) (call_of d tx args) (E es) (W es) h
+    (KeepsLast (result_of end)) one)
     (ran : mrun image image.parts.most h tx args ≡ Finished end es)
     (sound : IsSoundRun end es) where
   redo_same : (n : ℕ) → count (pool_of image.parts.sizes) owed.attempt one ≡ n
@@ -106,11 +119,10 @@ module _ (image : Image) (super : Words) (tx : ℕ) (args : List ℤ) (c : Cache
       → IsAtRest (play c (due_redo image tx args n c))
   redo_at_rest n counted room v is rest =
       subst (λ (events : List CacheEvent). IsAtRest (play c events))
-      (sym (redo_same n counted room
-      ∙ ap (λ (e : End).
-      crash.redo_events image.parts.sizes owed.attempt (suc d) one n (result_of e)
-      (trace_in es)) is))
-      (redo_rest image.parts.sizes owed.attempt (suc d) one n v (trace_in es) c rest)
+      (sym (redo_same n counted room))
+      (redo_rest (pool_with image super) (E es) (W es) (result_of end) (trace_in es)
+      (run_is image super image.parts.most (start image tx args) h end es tt ran sound)
+      (subst (λ (e : End). Retires (result_of e)) (sym is) tt) owed.attempt (suc d) one n c rest)
 
   pub redo_misses : (n : ℕ) → count (pool_of image.parts.sizes) owed.attempt one ≡ n
       → (0 < n → owed.attempt < 2 ^ 62) → count_in image.parts.sizes one ≡ n

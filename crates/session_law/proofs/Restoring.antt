@@ -17,7 +17,8 @@ use Rattle.crash_law.specs.Pools.{Call}
 use Rattle.crash_law.specs.Law.{IsCut, IsEnd}
 use Rattle.run_law.specs.Seen.{result_of}
 use Rattle.cut_law.specs.Law.{pool_with}
-use Rattle.undo_law.specs.Law.{IsOwed}
+use Rattle.abort_law.specs.Owing.{IsOwed}
+use Rattle.abort_law.proofs.Owing.{any_last}
 use Rattle.abort_law.specs.Cuts.{IsMarkedCut, IsMarkedLeft}
 use Rattle.cnvm_session.specs.declared.program.Program.{Program}
 use Rattle.cnvm_session.specs.Pool.{sizes_of}
@@ -65,13 +66,15 @@ module _ (program : Program) (super : Words) where
   cut_restores call h h' last (Halted v) image (inl before) done =
       good_restores call.done h image before.good
   cut_restores call h h' last (Halted v) image (inr (inl sealed)) done =
-      owed_restores call h image sealed
+      owed_restores call h image
+      (any_last (pool_with program.image super) call h _ image sealed)
   cut_restores call h h' last (Halted v) image (inr (inr seen)) done =
       absurd (not_next (image DONE) call.done done seen.good.done)
   cut_restores call h h' last (Trapped k) image (inl before) done =
       good_restores call.done h image before.good
   cut_restores call h h' last (Trapped k) image (inr (inl still)) done =
-      owed_restores call h image still.owed
+      owed_restores call h image
+      (any_last (pool_with program.image super) call h _ image still)
   cut_restores call h h' last (Trapped k) image (inr (inr seen)) done =
       absurd (not_next (image DONE) call.done done seen.good.done)
 
@@ -85,11 +88,11 @@ module _ (program : Program) (super : Words) where
       cut_restores call h h' last (Trapped k) image (inr left) done
 
   -- the end of an unmarked call has its seal, or a mark
-  pub end_sealed : (call : Call) (h' : Words) (end : End) (image : Words)
-      → IsEnd (pool_with program.image super) call h' (result_of end) image
+  pub end_sealed : (call : Call) (h h' : Words) (end : End) (image : Words)
+      → IsEnd (pool_with program.image super) call h h' (result_of end) image
       → image MARK ≡ pos 0 → image SEAL ≢ pos (suc call.done) → ⊥
-  end_sealed call h' (Halted v) image seen mark unsealed = unsealed seen.seal_is
-  end_sealed call h' (Trapped kind) image lost mark unsealed =
+  end_sealed call h h' (Halted v) image seen mark unsealed = unsealed seen.seal_is
+  end_sealed call h h' (Trapped kind) image lost mark unsealed =
       is_marked (image MARK) (trap_number kind) lost.0 lost.1 mark
 
   -- what a cut of an unmarked call leaves, as long as the call isn't sealed
@@ -102,4 +105,4 @@ module _ (program : Program) (super : Words) where
   unsealed_restores call E W h h' last end image (inr (inl sealed)) mark unsealed =
       absurd (unsealed sealed.sealed)
   unsealed_restores call E W h h' last end image (inr (inr seen)) mark unsealed =
-      absurd (end_sealed call h' end image seen mark unsealed)
+      absurd (end_sealed call h h' end image seen mark unsealed)

@@ -23,7 +23,8 @@ use Rattle.recovery.specs.declared.answer.RecoverAnswer.TheVariants as recovered
 use Rattle.recovery.specs.Due.{due_clean}
 use Rattle.cut_law.specs.Law.{call_of, pool_with}
 use Rattle.cut_law.specs.Leaves as leaves
-use Rattle.undo_law.specs.Law.{IsOwed}
+use Rattle.abort_law.specs.Owing.{IsOwed}
+use Rattle.abort_law.proofs.Owing.{any_last}
 use Rattle.abort_mode.specs.declared.answer.AbortAnswer.{AbortAnswer}
 use Rattle.abort_mode.specs.declared.answer.AbortAnswer.TheVariants as aborted
 use Rattle.abort_law.specs.Cuts.{IsMarkedCut}
@@ -118,7 +119,7 @@ module _ (program : Program) (super : Words) (agrees : Agrees program)
       good un.recovered
 
   ended : (x : End) (a : Answer) (n : Mode) → IsRedone a
-      → IsEnd pool call (heap_end h es) (result_of x) (view e.cache) → Recovered a n → Taken
+      → IsEnd pool call h (heap_end h es) (result_of x) (view e.cache) → Recovered a n → Taken
   ended (Halted v) a n redone seen is =
       absurd (never_good a n (suc s.done) (heap_end h es) redone seen.good is)
   ended (Trapped kind) a n redone lost is =
@@ -232,14 +233,14 @@ module _ (program : Program) (super : Words) (agrees : Agrees program)
   at_marked (Halted v) ends a n redone (inl before) is =
       absurd (not_redone a n s.done owes.heap redone before.good is)
   at_marked (Halted v) ends a n redone (inr (inl sealed)) is =
-      at_owed a n redone sealed
+      at_owed a n redone (any_last its_pool its_call owes.heap _ (view after.cache) sealed)
       (subst (λ (y : End). KeepsLast y s.last (view after.cache)) (sym ends) tt) is
   at_marked (Halted v) ends a n redone (inr (inr seen)) is =
       absurd (not_redone a n (suc s.done) (heap_end owes.heap owes.effects) redone seen.good is)
   at_marked (Trapped kind) ends a n redone (inl before) is =
       absurd (not_redone a n s.done owes.heap redone before.good is)
   at_marked (Trapped kind) ends a n redone (inr (inl still)) is =
-      at_owed a n redone still.owed
+      at_owed a n redone (any_last its_pool its_call owes.heap _ (view after.cache) still)
       (subst (λ (y : End). KeepsLast y s.last (view after.cache)) (sym ends) still.last_is) is
   at_marked (Trapped kind) ends a n redone (inr (inr seen)) is =
       absurd (not_redone a n (suc s.done) owes.heap redone seen.good is)

@@ -2,7 +2,7 @@
 -- transaction is sound and ends as the source says on the heap's pool, or with a full log, exactly
 -- if it has more logged stores than the log has records. Each compiled program agrees with its
 -- source.
-use Rattle.std.specs.Prelude.{ℕ, ◌^◌, ◌<◌, ◌≤◌, ◌≡◌, List, [], length, Some, ℤ}
+use Rattle.std.specs.Prelude.{ℕ, ◌^◌, ◌<◌, ◌≤◌, ◌≡◌, List, [], length, Some, ℤ, nat_lt, false}
 use Rattle.cache_model.specs.Cache.{Words}
 use Rattle.pool_map.specs.PoolFits.{words_of}
 use Rattle.c_types.specs.Shapes.{shapes_of}
@@ -31,7 +31,7 @@ Matches program (Trap trap) (Trapped k) h = k ≡ trap
 
 -- The run of a transaction from a heap. If it ends with a value, it writes one log record for each
 -- of its logged stores. With a record before the first store to each heap word too, it writes as
--- many as a marked transaction logs.
+-- many as a marked transaction logs, however it ends, unless its log is full.
 pub record RunsAs (program : Program) (h : Words) (tx : ℕ) (args : List ℤ) : Type 0 where
   pub end : End
   pub effects : List Effect
@@ -45,7 +45,9 @@ pub record RunsAs (program : Program) (h : Words) (tx : ℕ) (args : List ℤ) :
   pub counted : (value : ℤ) → end ≡ Halted value → records_end 0 effects ≡ logged
   pub firsts : ℕ
   pub logs_firsts : LogsFirst program (source_pool program h) tx args firsts
-  pub counted_firsts : (value : ℤ) → end ≡ Halted value → records_marked [] effects ≡ firsts
+  pub counted_firsts : nat_lt (sizes_of program).records logged ≡ false
+      → records_marked [] effects ≡ firsts
+  pub at_least : logged ≤ firsts
 
 -- The root has as many words as the source's root struct. The image has the transactions of the
 -- source, each with as many parameters. A transaction's number is below 2^63 and it has at most 22

@@ -1,6 +1,6 @@
 -- A session of a program does what the program's source says.
 use Rattle.std.specs.Prelude.{ℕ, suc, ◌+◌, ◌*◌, ◌<◌, ◌≤◌, ◌≡◌, ◌≢◌, ◌⊎◌, List, [], ◌∷◌, ◌++◌}
-use Rattle.std.specs.Prelude.{length, Some, Ok, ℤ, pos, slice_index_or, Bool, true, false}
+use Rattle.std.specs.Prelude.{length, Some, Ok, ℤ, pos, slice_index_or, Bool, true, false, nat_lt}
 use Rattle.std.specs.List.{AllByRecursion}
 use Rattle.cache_model.specs.Image.{Images}
 use Rattle.cache_model.specs.declared.choice.Choice.{Choice}
@@ -19,6 +19,7 @@ use Rattle.pool_map.specs.PoolMap.{PoolMap, empty_pool}
 use Rattle.clobber_log.specs.Logs.{count_in}
 use Rattle.pm_machine.specs.declared.effect.Effect.{Effect}
 use Rattle.pm_machine.specs.declared.effect.End.{End}
+use Rattle.pm_machine.specs.Effects.{heap_end, records_end}
 use Rattle.pm_machine.specs.Machine.{Finished, mrun}
 use Rattle.pm_machine.specs.Runs.{heap_in}
 use Rattle.abort_law.specs.Machine.{mrun_marked}
@@ -42,9 +43,10 @@ use Rattle.c_meaning.specs.Transaction.{Outcome, Done}
 use Rattle.ir.specs.declared.function.IrFunction.{IrFunction}
 use Rattle.ir.specs.declared.site.Site.{Site}
 use Rattle.session_law.specs.Logged.{AreLogged, FillsLog}
-use Rattle.session_law.specs.Source.{LogsFirst, ComesTo, source_pool, HasSourceHeaders}
+use Rattle.session_law.specs.Source.{LogsFirst, ComesTo, outcome_with, source_pool}
+use Rattle.session_law.specs.Source.{HasSourceHeaders}
 use Rattle.session_law.specs.Words.{AreWords, HasPoolWords}
-use Rattle.session_law.specs.Agrees.{Agrees}
+use Rattle.session_law.specs.Agrees.{Agrees, Matches, RunsAs}
 use Rattle.session_law.specs.State.{Pending, Down, SourceState, standing_as, created}
 use Rattle.session_law.specs.State as state
 use Rattle.session_law.specs.Marked.{ComesOn}
@@ -93,6 +95,18 @@ MarkedCountLaw =
     LogsFirst program pool tx args logged)
     × ((program : Program) (pool : PoolMap) (tx : ℕ) (args : List ℤ) (n m : ℕ) →
     LogsFirst program pool tx args n → LogsFirst program pool tx args m → n ≡ m)
+
+-- A marked transaction's run from a heap on which the image agrees with its source. It ends as the
+-- source says; or with a full log, exactly if the source's number of logged stores, the first to
+-- each heap word included, is more than the log has records. Else it appends as many records.
+abbrev pub MarkedExactLaw : Type 0
+MarkedExactLaw =
+    (program : Program) (h : Words) (tx : ℕ) (args : List ℤ) (runs : RunsAs program h tx args) →
+    (end : End) × (es : List Effect)
+    × (mrun_marked program.image program.image.parts.most h tx args ≡ Finished end es)
+    × Matches program (outcome_with program (source_pool program h) tx args runs.firsts) end
+    (heap_end h es)
+    × (nat_lt (sizes_of program).records runs.firsts ≡ false → records_end 0 es ≡ runs.firsts)
 
 -- A heap determines what a marked transaction comes to on it, and how many records its run appends
 -- there.

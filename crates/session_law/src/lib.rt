@@ -10,7 +10,7 @@ ghost use Rattle.session_law.specs.Law.{SessionLaw, SealedLaw, PhaseLaw, StepsLa
 ghost use Rattle.session_law.specs.Law.{OpenedLaw, SessionRunLaw, KeptLaw, HistoryLaw, BegunLaw};
 ghost use Rattle.session_law.specs.Law.{WholeLaw, UnchangedLaw, BoundLaw, ScriptLaw, DeterminedLaw};
 ghost use Rattle.session_law.specs.Law.{FullLaw, RecoveryPhaseLaw};
-ghost use Rattle.session_law.specs.Law.{MarkedDeterminedLaw, RollbackLaw};
+ghost use Rattle.session_law.specs.Law.{MarkedDeterminedLaw, MarkedExactLaw, RollbackLaw};
 
 /// Each command of a session is answered as the source says. The function does nothing.
 pub fn law()
@@ -32,5 +32,6 @@ pub fn law()
     ensures determined { DeterminedLaw }
     ensures full { FullLaw }
     ensures marked { MarkedDeterminedLaw }
+    ensures marked_exact { MarkedExactLaw }
     ensures rollback { RollbackLaw }
 {}

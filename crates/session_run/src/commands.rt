@@ -7,7 +7,7 @@ ghost use Rattle.session_run.specs.Commands.{RunsAndWrites, RunsPart};
 
 use crate::writing::{Unwritten, put_answer};
 use cnvm_script::Command;
-use cnvm_session::{Program, Session};
+use cnvm_session::{Program, Session, Traps};
 use nvm_base::{Sink, Steps};
 use pmem::Pmem;
 use std::alloc::Global;
@@ -19,6 +19,7 @@ pub(crate) fn answer_all<K: Sink, P: Pmem, L: Ledger>(
     program: &Program,
     commands: &[Command],
     session: &mut Session,
+    traps: &mut Traps,
     out: &mut K,
     dev: &mut P,
     steps: &mut Steps<L>,
@@ -35,6 +36,7 @@ pub(crate) fn answer_all<K: Sink, P: Pmem, L: Ledger>(
 {
     for given in commands {
         let answer = session.command(alloc, program, given, dev, steps);
+        traps.saw(&answer, session);
         if let Err(why) = put_answer(alloc, &answer, out) {
             return Err(why);
         }

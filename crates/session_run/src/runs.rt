@@ -10,7 +10,7 @@ use crate::commands::answer_all;
 use crate::status::Status;
 use crate::writing::{Unwritten, put_answer};
 use cnvm_script::Script;
-use cnvm_session::{Program, Session, StartFault, create, start_from};
+use cnvm_session::{Program, Session, StartFault, Traps, create, start_from};
 use nvm_base::{Sink, Steps};
 use pmem::Pmem;
 use std::alloc::Global;
@@ -23,6 +23,7 @@ pub fn run_created<K: Sink, P: Pmem, L: Ledger>(
     alloc: Global,
     program: &Program,
     script: &Script,
+    traps: &mut Traps,
     out: &mut K,
     dev: &mut P,
     steps: &mut Steps<L>,
@@ -47,6 +48,7 @@ pub fn run_created<K: Sink, P: Pmem, L: Ledger>(
         program,
         script.as_slice(),
         &mut session,
+        traps,
         out,
         dev,
         steps,
@@ -64,6 +66,7 @@ pub fn run_from<K: Sink, P: Pmem, L: Ledger>(
     program: &Program,
     script: &Script,
     words: &[i64],
+    traps: &mut Traps,
     out: &mut K,
     dev: &mut P,
     steps: &mut Steps<L>,
@@ -84,8 +87,9 @@ pub fn run_from<K: Sink, P: Pmem, L: Ledger>(
         Err(StartFault::Failed) => return Status::DeviceFault,
         Err(StartFault::NoMemory) => return Status::NoMemory,
     };
+    traps.saw(&answer, &session);
     match put_answer(alloc, &answer, out) {
-        Ok(()) => run_commands(alloc, program, script, &mut session, out, dev, steps),
+        Ok(()) => run_commands(alloc, program, script, &mut session, traps, out, dev, steps),
         Err(Unwritten::NoMemory) => Status::NoMemory,
         Err(Unwritten::WriteFault) => Status::WriteFault,
     }
@@ -97,6 +101,7 @@ fn run_commands<K: Sink, P: Pmem, L: Ledger>(
     program: &Program,
     script: &Script,
     session: &mut Session,
+    traps: &mut Traps,
     out: &mut K,
     dev: &mut P,
     steps: &mut Steps<L>,
@@ -112,7 +117,16 @@ fn run_commands<K: Sink, P: Pmem, L: Ledger>(
     ensures lines { (P.device dev.new).lines
         ≡ pool_lines program.now.image.parts.sizes }
 {
-    match answer_all(alloc, program, script.as_slice(), session, out, dev, steps) {
+    match answer_all(
+        alloc,
+        program,
+        script.as_slice(),
+        session,
+        traps,
+        out,
+        dev,
+        steps,
+    ) {
         Ok(()) => Status::Done,
         Err(Unwritten::NoMemory) => Status::NoMemory,
         Err(Unwritten::WriteFault) => Status::WriteFault,

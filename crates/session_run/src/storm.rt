@@ -17,7 +17,7 @@ ghost use Rattle.session_run.specs.Storms.{StormsPart, StormStarves, StormedAs};
 use crate::status::Status;
 use crate::writing::{Unwritten, put_answer};
 use cnvm_script::{Command, Storm};
-use cnvm_session::{Answer, Program, Session, StartFault, create};
+use cnvm_session::{Answer, Program, Session, StartFault, Traps, create};
 use nvm_base::{Sink, Steps, write_all};
 use pmem::Pmem;
 use std::alloc::{AllocError, Global};
@@ -95,6 +95,7 @@ pub fn storm_over<K: Sink, P: Pmem, L: Ledger>(
     program: &Program,
     start: u64,
     count: u64,
+    traps: &mut Traps,
     out: &mut K,
     dev: &mut P,
     steps: &mut Steps<L>,
@@ -112,7 +113,17 @@ pub fn storm_over<K: Sink, P: Pmem, L: Ledger>(
         Err(StartFault::Failed) => return Status::DeviceFault,
         Err(StartFault::NoMemory) => return Status::NoMemory,
     };
-    match storm(alloc, program, start, count, &mut session, out, dev, steps) {
+    match storm(
+        alloc,
+        program,
+        start,
+        count,
+        &mut session,
+        traps,
+        out,
+        dev,
+        steps,
+    ) {
         Ok(()) => Status::Done,
         Err(Unwritten::NoMemory) => Status::NoMemory,
         Err(Unwritten::WriteFault) => Status::WriteFault,
@@ -126,6 +137,7 @@ fn storm<K: Sink, P: Pmem, L: Ledger>(
     start: u64,
     count: u64,
     session: &mut Session,
+    traps: &mut Traps,
     out: &mut K,
     dev: &mut P,
     steps: &mut Steps<L>,
@@ -144,7 +156,7 @@ fn storm<K: Sink, P: Pmem, L: Ledger>(
 {
     let mut tally = Tally::new();
     if rounds(
-        alloc, program, start, count, session, &mut tally, dev, steps,
+        alloc, program, start, count, session, traps, &mut tally, dev, steps,
     )
     .is_err()
     {
@@ -185,6 +197,7 @@ fn rounds<P: Pmem, L: Ledger>(
     start: u64,
     count: u64,
     session: &mut Session,
+    traps: &mut Traps,
     tally: &mut Tally,
     dev: &mut P,
     steps: &mut Steps<L>,
@@ -201,7 +214,7 @@ fn rounds<P: Pmem, L: Ledger>(
     }
     let mut storm = Storm::new(seed(start));
     run_rounds(
-        alloc, program, count, &mut storm, session, tally, dev, steps,
+        alloc, program, count, &mut storm, session, traps, tally, dev, steps,
     )
 }
 
@@ -222,6 +235,7 @@ fn run_rounds<P: Pmem, L: Ledger>(
     count: u64,
     storm: &mut Storm,
     session: &mut Session,
+    traps: &mut Traps,
     tally: &mut Tally,
     dev: &mut P,
     steps: &mut Steps<L>,
@@ -234,13 +248,15 @@ fn run_rounds<P: Pmem, L: Ledger>(
         (P.device dev.old) steps.old (P.device dev.new) steps.new) }
     ensures lines { (P.device dev.new).lines ≡ (P.device dev.old).lines }
 {
-    for _ in 0..count {
+    for round in 0..count {
         let script = storm.round(alloc, &program.typed)?;
         run_round(
             alloc,
             program,
+            round + 1,
             script.as_slice(),
             session,
+            traps,
             tally,
             dev,
             steps,
@@ -253,8 +269,10 @@ fn run_rounds<P: Pmem, L: Ledger>(
 fn run_round<P: Pmem, L: Ledger>(
     alloc: Global,
     program: &Program,
+    round: u64,
     commands: &[Command],
     session: &mut Session,
+    traps: &mut Traps,
     tally: &mut Tally,
     dev: &mut P,
     steps: &mut Steps<L>,
@@ -264,9 +282,10 @@ fn run_round<P: Pmem, L: Ledger>(
         steps.old tally.new session.new (P.device dev.new) steps.new }
     ensures lines { (P.device dev.new).lines ≡ (P.device dev.old).lines }
 {
-    for command in commands {
+    for (at, command) in commands.iter().enumerate() {
         let answer = session.command(alloc, program, command, dev, steps);
         tally.count(command, &answer);
+        traps.saw_in_round(alloc, &answer, session, round, &commands[..at + 1]);
     }
 }
 

@@ -6,11 +6,11 @@
 mod could_stand;
 mod left;
 mod lexical;
+mod named;
 mod spelled;
-mod trap_line;
 
 pub use could_stand::{MARKS, NAMES, WORDS, expected};
 pub use left::left_out;
 pub use lexical::{bad_byte, bad_number};
+pub use named::transaction_name;
 pub use spelled::{Spelled, first_token, is, is_one};
-pub use trap_line::{Lined, transaction_name, trap_lines};

@@ -57,7 +57,7 @@ CutPiecesLaw =
     Images (CutImages image super tx args d (own_compartment n i c) one end es)
     (own_after n i c first))
     × ((h : Words) (end : End) (es : List Effect) (m : ℕ) →
-    OwesInImage image super tx args d h es m one →
+    OwesInImage image super tx args d h end es m one →
     RunsSound image tx args h end es → due i ≡ due_redo image tx args m (own_compartment n i c) →
     Images (RedoImages image super tx args d h end es) (own_after n i c first))
     × ((h : Words) (m : ℕ) → RestsInImage image super d h m one →

@@ -10,14 +10,14 @@ ghost use Rattle.workers_run.specs.WorkersRan.{BreaksOffNew};
 
 use crate::fault::RunFault;
 use crate::writing::{Unwritten, put_lines};
-use cnvm_session::Program;
+use cnvm_session::{Answer, Program, Traps};
 use nvm_base::{Sink, Steps};
 use pmem::Pmem;
 use pool_workers::MakeFault;
 use std::alloc::Global;
 use std::sync::ledger::Ledger;
 use workers_script::WorkersCommand;
-use workers_session::{WorkersSession, create_workers};
+use workers_session::{WorkersLine, WorkersSession, create_workers};
 
 /// Runs the commands on a new pool of compartments, one for each worker. The lines of each command
 /// are written before the next.
@@ -26,6 +26,7 @@ pub fn run_workers<K: Sink, P: Pmem + Drop, L: Ledger>(
     program: &Program,
     count: u32,
     commands: &[WorkersCommand],
+    traps: &mut Traps,
     out: &mut K,
     dev: &mut P,
     steps: &mut Steps<L>,
@@ -53,7 +54,16 @@ pub fn run_workers<K: Sink, P: Pmem + Drop, L: Ledger>(
         Err(MakeFault::Failed) => return Err(RunFault::Device),
         Err(MakeFault::NoMemory) => return Err(RunFault::NoMemory),
     };
-    match answer_workers(alloc, program, commands, &mut session, out, dev, steps) {
+    match answer_workers(
+        alloc,
+        program,
+        commands,
+        &mut session,
+        traps,
+        out,
+        dev,
+        steps,
+    ) {
         Ok(()) => Ok(()),
         Err(Unwritten::NoMemory) => Err(RunFault::NoMemory),
         Err(Unwritten::WriteFault) => Err(RunFault::Write),
@@ -66,6 +76,7 @@ fn answer_workers<K: Sink, P: Pmem + Drop, L: Ledger>(
     program: &Program,
     commands: &[WorkersCommand],
     session: &mut WorkersSession,
+    traps: &mut Traps,
     out: &mut K,
     dev: &mut P,
     steps: &mut Steps<L>,
@@ -84,9 +95,25 @@ fn answer_workers<K: Sink, P: Pmem + Drop, L: Ledger>(
         let Some(lines) = session.command(alloc, program, given, dev, steps) else {
             return Err(Unwritten::NoMemory);
         };
+        note_traps(traps, lines.as_slice(), session);
         if let Err(why) = put_lines(alloc, lines.as_slice(), out) {
             return Err(why);
         }
     }
     Ok(())
+}
+
+/// Notes the first trap of these lines.
+fn note_traps(traps: &mut Traps, lines: &[WorkersLine], session: &WorkersSession) {
+    for line in lines {
+        match line {
+            WorkersLine::Own {
+                worker,
+                answer: Answer::Trap(kind) | Answer::RecoveredTrap(kind),
+            } => {
+                traps.ends(*kind, session.stop(*worker));
+            }
+            _ => (),
+        }
+    }
 }

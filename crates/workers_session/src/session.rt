@@ -31,7 +31,7 @@ use crate::outcome::{begin_line, begin_runs_out, ends_power, is_interrupted, kee
 use cache_model::Choice;
 use cnvm_session::{Answer, Program, answer_of_recovery, first_fallen, parameters, rolls_back};
 use nvm_base::Steps;
-use pm_machine::Image;
+use pm_machine::{Image, Stop};
 use pmem::Pmem;
 use pool_workers::{MakeFault, TurnAnswer, Workers};
 use std::alloc::Global;
@@ -86,6 +86,11 @@ pub fn create_workers<P: Pmem>(
 }
 
 impl WorkersSession {
+    /// Where the machine of a worker did its last instruction: after a trap, where that came.
+    pub fn stop(&self, worker: u32) -> Option<Stop> {
+        self.workers.stop(worker)
+    }
+
     /// Does a command of a script, and gives its lines; `None` if there was no memory to hold them.
     pub fn command<P: Pmem + Drop, L: Ledger>(
         &mut self,

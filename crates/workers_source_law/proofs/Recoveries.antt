@@ -385,7 +385,7 @@ module _ (program : Program) (super : Words) where
     at_end : (owed : Pending) → s.standing ≡ Down (Some owed)
         → rolls_back_of program owed.tx ≡ false → (owes : OwesOne program super owed e s)
         → (x : End) → owes.end ≡ x
-        → IsEnd (pool_with program.image super) (call_of s.done owed.tx owed.args)
+        → IsEnd (pool_with program.image super) (call_of s.done owed.tx owed.args) owes.heap
         (heap_end owes.heap owes.effects) (result_of x) one → Given
     at_end owed standing plain owes (Halted v) ends seen =
         unmarked (not_owing program e

@@ -2,7 +2,7 @@ use Rattle.abort_law.proofs.Calls.{marked_sound, cut_marked}
 use Rattle.abort_law.proofs.Redoes.{cut_remarked}
 use Rattle.abort_law.proofs.AfterAnswers.{call_leaves, redo_leaves, cut_again}
 use Rattle.abort_law.proofs.Besides.{besides}
-use Rattle.abort_law.proofs.Appended.{beside_records}
+use Rattle.abort_law.proofs.Exact.{beside_records}
 use Rattle.abort_law.proofs.law.Goals as goal
 
 pub returns-clause-run : goal.returns-clause-run

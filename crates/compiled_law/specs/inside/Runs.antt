@@ -1,7 +1,7 @@
 -- How the machine's run of a compiled transaction ends, given how the run of its intermediate code
 -- does: it is sound, and it ends as the code does, on a heap that stands for the code's pool; or
 -- with a full log, if the code does more logged stores than the log has records.
-use Rattle.std.specs.Prelude.{◌≡◌, ℕ, ℤ, Bool, true, false, nat_lt, List, []}
+use Rattle.std.specs.Prelude.{◌≡◌, ◌≤◌, ℕ, ℤ, Bool, true, false, nat_lt, List, []}
 use Rattle.cache_model.specs.Cache.{Words}
 use Rattle.pool_map.specs.declared.trap.TrapKind.TheVariants.{LogFull}
 use Rattle.pool_map.specs.PoolFits.{PoolFits}
@@ -31,7 +31,7 @@ EndsIf true image ir e end heap = end ≡ Trapped LogFull
 EndsIf false image ir e end heap = EndsAs image ir e end heap
 
 -- `n`: the code's logged stores, one log record each in a run that gives a word; `m`: the same with
--- the first store to each heap word
+-- the first store to each heap word, however the run ends, unless its log is full
 pub record RunIs (image : Image) (ir : Ir) (heap : Words) (e : code.CodeEnd) (n m : ℕ)
     (run : Run) : Type 0 where
   pub end : End
@@ -40,4 +40,5 @@ pub record RunIs (image : Image) (ir : Ir) (heap : Words) (e : code.CodeEnd) (n 
   pub sound : IsSoundRun end effects
   pub agrees : EndsIf (nat_lt image.parts.sizes.records n) image ir e end (heap_end heap effects)
   pub records : (v : ℤ) → end ≡ Halted v → records_end 0 effects ≡ n
-  pub firsts : (v : ℤ) → end ≡ Halted v → records_marked [] effects ≡ m
+  pub firsts : nat_lt image.parts.sizes.records n ≡ false → records_marked [] effects ≡ m
+  pub at_least : n ≤ m

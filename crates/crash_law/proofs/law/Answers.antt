@@ -1,4 +1,5 @@
-use Rattle.std.proofs.Common.{inl, suc, None, IsTrue, arith}
+use Rattle.std.proofs.Common.{inl, suc, None, IsTrue, refl, arith}
+use Rattle.crash_law.specs.Pools.{last_of}
 use Rattle.crash_law.proofs.Whole.{cut_call}
 use Rattle.crash_law.proofs.Redo.{cut_redo}
 use Rattle.crash_law.proofs.Clean.{cut_clean}
@@ -6,13 +7,14 @@ use Rattle.crash_law.proofs.Rest.{call_rest, redo_rest}
 use Rattle.crash_law.proofs.Again.{cut_again}
 use Rattle.crash_law.proofs.Fences.{fences_add_none}
 use Rattle.crash_law.proofs.Effects.{sound_trace, step_events, stored_of}
+use Rattle.crash_law.proofs.EventCounts.{count_undone}
 use Rattle.crash_law.proofs.law.Goals as goal
 
 pub returns-clause-call : goal.returns-clause-call
-returns-clause-call c = λ pool call E W h result trace c one given_fits done_fits is only good
-    a_fits empty.
+returns-clause-call c = λ pool call E W h result trace c one given_fits done_fits is keeps only
+    good a_fits empty.
     cut_call pool call (λ w. IsTrue (E w)) (λ w. IsTrue (W w)) h result trace (omega arith)
-    given_fits is c one only good (omega arith) empty
+    given_fits is (last_of pool one) keeps c one refl only good (omega arith) empty
 
 pub returns-clause-redo : goal.returns-clause-redo
 returns-clause-redo c = λ pool call E W h result trace c one given_fits is only owed n counted room.
@@ -24,9 +26,11 @@ returns-clause-clean c = λ pool d h c one only good n counted room.
     cut_clean pool d h c one only good n counted room
 
 pub returns-clause-rest : goal.returns-clause-rest
-returns-clause-rest c = λ pool call heap value trace c one a n at_rest. (
-  call_rest pool.sizes a call heap value trace c at_rest,
-  redo_rest pool.sizes a (suc call.done) one n value trace c at_rest,
+returns-clause-rest c = λ pool call E W heap result trace c one a n is retires at_rest. (
+  call_rest pool (λ w. IsTrue (E w)) (λ w. IsTrue (W w)) result trace is retires a call heap c
+      at_rest,
+  redo_rest pool (λ w. IsTrue (E w)) (λ w. IsTrue (W w)) result trace is retires a
+      (suc call.done) one n c at_rest,
 )
 
 pub returns-clause-again : goal.returns-clause-again
@@ -45,3 +49,6 @@ returns-clause-trace c =
 
 pub returns-clause-fences : goal.returns-clause-fences
 returns-clause-fences c = fences_add_none
+
+pub returns-clause-count : goal.returns-clause-count
+returns-clause-count c = count_undone

@@ -16,6 +16,7 @@ use Rattle.session_law.proofs.MarkedRuns.{one_marked}
 use Rattle.session_law.proofs.MarkedCounts.{count_law}
 use Rattle.session_law.proofs.RolledBack.{call_rolled_back, power_rolled_back}
 use Rattle.session_law.proofs.KeepingChains.{chain_rolled_back}
+use Rattle.session_law.proofs.MarkedExact.{marked_exact}
 use Rattle.session_law.proofs.law.Goals as goal
 
 pub returns-clause-session : goal.returns-clause-session
@@ -74,3 +75,6 @@ returns-clause-marked c = (one_marked, count_law)
 
 pub returns-clause-rollback : goal.returns-clause-rollback
 returns-clause-rollback c = (call_rolled_back, power_rolled_back, chain_rolled_back)
+
+pub returns-clause-marked_exact : goal.returns-clause-marked_exact
+returns-clause-marked_exact c = marked_exact

@@ -1,0 +1,2 @@
+-- What only bodies and proofs need: no public clause rests on it.
+pub mod Paths

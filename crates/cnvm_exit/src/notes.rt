@@ -1,0 +1,379 @@
+//! What is told to a person after a run: made from its status and from what it read and wrote. No
+//! status and no byte of standard output depends on it.
+
+use cnvm_cli::{World, push_digest};
+use cnvm_notes::{
+    RunTexts, Stormed, WorkersTexts, answers_note, script_note, storm_note, workers_answers_note,
+    workers_note,
+};
+use cnvm_session::{Trapped, Traps};
+use cnvm_words::{Plan, plan_of};
+use command_notes::{Digests, ImageRefusal, of_image, of_words, unread, unsaved, unwritten};
+use nvm_base::{KeptSink, KeptSource, SavedFile, Sink, StdSink, StdSource, write_all};
+use plain_notes::{Told, message_of};
+use pool_layout::{FUNCTION, digest};
+use program_notes::{name_of, program_note};
+use session_run::Status;
+use std::alloc::{AllocError, Global};
+use std::rt::Files;
+
+/// What a run on files reads and writes, with a copy of what went through.
+pub(crate) type FileWorld<'a, R, P> = World<
+    KeptSource<StdSource<'a, R>>,
+    KeptSource<StdSource<'a, R>>,
+    KeptSource<StdSource<'a, R>>,
+    KeptSink<StdSink<'a, R>>,
+    SavedFile<'a, R>,
+    P,
+>;
+
+/// The paths of a run.
+#[derive(Clone, Copy)]
+pub(crate) struct Named<'a> {
+    pub program: &'a str,
+    pub script: &'a str,
+    pub image_in: &'a str,
+    pub image_out: &'a str,
+}
+
+/// Tells how a run ended. Where there is no memory for the message a short one is written; where
+/// the sink fails none is.
+pub(crate) fn tell_end<R: Files + Print + AllocGlobal, P: Drop, N: Sink>(
+    alloc: Global,
+    words: &[String],
+    named: Named<'_>,
+    status: Status,
+    world: &FileWorld<'_, R, P>,
+    notes: &mut N,
+) {
+    let message = match message(alloc, words, named, status, world) {
+        Ok(Some(message)) => message,
+        Ok(None) => return,
+        Err(_) => return put_bytes(notes, b"cnvm: out of memory\n"),
+    };
+    put_bytes(notes, message.as_str().as_bytes());
+}
+
+/// Writes the bytes. Where that fails, nothing else changes.
+pub(crate) fn put_bytes<N: Sink>(notes: &mut N, bytes: &[u8]) {
+    match write_all(notes, bytes) {
+        Ok(()) => (),
+        Err(_) => (),
+    }
+}
+
+fn message<R: Files + Print + AllocGlobal, P: Drop>(
+    alloc: Global,
+    words: &[String],
+    named: Named<'_>,
+    status: Status,
+    world: &FileWorld<'_, R, P>,
+) -> Result<Option<String>, AllocError> {
+    match status {
+        Status::Done => of_done(alloc, words, named, world),
+        Status::NoMemory => plain(alloc, "out of memory"),
+        Status::Usage => Ok(Some(of_words(alloc, words)?)),
+        Status::Program => of_program(alloc, named.program, world.program.kept()),
+        Status::Script => of_script(alloc, words, named.script, world.script.kept()),
+        Status::ReadFault => Ok(Some(of_read(alloc, named, world)?)),
+        Status::WriteFault => Ok(Some(of_write(alloc, named, world)?)),
+        Status::DeviceFault => plain(alloc, "the device failed while the pool was made"),
+        Status::Image => of_refused_image(alloc, words, named, world),
+    }
+}
+
+fn plain(alloc: Global, what: &str) -> Result<Option<String>, AllocError> {
+    let told = Told::new(alloc, what)?;
+    Ok(Some(message_of(alloc, &told)?))
+}
+
+/// The message of a refused program.
+fn of_program(
+    alloc: Global,
+    path: &str,
+    text: Option<&[u8]>,
+) -> Result<Option<String>, AllocError> {
+    let note = match text {
+        Some(text) => program_note(alloc, path, text)?,
+        None => None,
+    };
+    note_or(alloc, note, "the program was refused")
+}
+
+/// The message of a refused script, by the grammar of the command.
+fn of_script(
+    alloc: Global,
+    words: &[String],
+    path: &str,
+    text: Option<&[u8]>,
+) -> Result<Option<String>, AllocError> {
+    let note = match text {
+        Some(text) if has_workers(alloc, words) => workers_note(alloc, path, text)?,
+        Some(text) => script_note(alloc, path, text)?,
+        None => None,
+    };
+    note_or(alloc, note, "the script was refused")
+}
+
+/// Whether the words ask for workers.
+fn has_workers(alloc: Global, words: &[String]) -> bool {
+    match plan_of(alloc, words) {
+        Ok(Plan::Workers { .. }) => true,
+        _ => false,
+    }
+}
+
+/// The message, or a plain one where there is none.
+fn note_or(alloc: Global, note: Option<String>, what: &str) -> Result<Option<String>, AllocError> {
+    match note {
+        Some(note) => Ok(Some(note)),
+        None => plain(alloc, what),
+    }
+}
+
+/// The texts that went through in a run; an empty one where none did.
+#[derive(Clone, Copy)]
+struct Texts<'a> {
+    program: &'a [u8],
+    script: &'a [u8],
+    image: &'a [u8],
+    answers: &'a [u8],
+}
+
+/// The message of answers that are traps or refusals.
+fn of_done<'a, R: Files + Print + AllocGlobal, P: Drop>(
+    alloc: Global,
+    words: &[String],
+    named: Named<'a>,
+    world: &'a FileWorld<'_, R, P>,
+) -> Result<Option<String>, AllocError> {
+    let (Some(program), Some(answers)) = (world.program.kept(), world.out.kept()) else {
+        return Ok(None);
+    };
+    let texts = Texts {
+        program,
+        script: world.script.kept().unwrap_or(b""),
+        image: world.image_in.kept().unwrap_or(b""),
+        answers,
+    };
+    match plan_of(alloc, words) {
+        Ok(plan) => of_plan(alloc, &plan, named, texts, &world.traps),
+        Err(_) => Ok(None),
+    }
+}
+
+/// The message of the answers to this plan.
+fn of_plan<'a>(
+    alloc: Global,
+    plan: &Plan,
+    named: Named<'a>,
+    texts: Texts<'a>,
+    traps: &Traps,
+) -> Result<Option<String>, AllocError> {
+    match plan {
+        Plan::Run { start_image, .. } => of_run(alloc, named, texts, traps, start_image.is_some()),
+        Plan::Workers { .. } => {
+            let run = WorkersTexts {
+                program_path: named.program,
+                script_path: named.script,
+                script: texts.script,
+                answers: texts.answers,
+                ended: line_of(traps.ended),
+            };
+            workers_answers_note(alloc, run)
+        }
+        Plan::Storm { .. } => {
+            let stormed = Stormed {
+                round: traps.round,
+                call: match &traps.call {
+                    Some(call) => call.as_str(),
+                    None => "",
+                },
+                line: line_of(traps.ended),
+            };
+            storm_note(alloc, named.program, texts.answers, stormed)
+        }
+        Plan::List { .. } | Plan::Why { .. } => Ok(None),
+    }
+}
+
+/// The line of a trap.
+fn line_of(trapped: Option<Trapped>) -> Option<u64> {
+    trapped?.line
+}
+
+/// The message of a run's answers that are traps or refusals.
+fn of_run<'a>(
+    alloc: Global,
+    named: Named<'a>,
+    texts: Texts<'a>,
+    traps: &Traps,
+    opened: bool,
+) -> Result<Option<String>, AllocError> {
+    let owed = name_of(
+        alloc,
+        texts.program,
+        word_at(texts.image, FUNCTION as usize),
+    )?;
+    let run = RunTexts {
+        program_path: named.program,
+        script_path: named.script,
+        script: texts.script,
+        answers: texts.answers,
+        opened,
+        image_path: named.image_in,
+        owed: owed.as_str(),
+        saved: named.image_out,
+        ended: line_of(traps.ended),
+        undone: line_of(traps.undone),
+    };
+    answers_note(alloc, run)
+}
+
+fn of_read<R: Files + Print + AllocGlobal, P: Drop>(
+    alloc: Global,
+    named: Named<'_>,
+    world: &FileWorld<'_, R, P>,
+) -> Result<String, AllocError> {
+    let program = world.program.source().reason();
+    let script = world.script.source().reason();
+    let told = if program.is_some() {
+        unread(alloc, named.program, program)?
+    } else if script.is_some() {
+        unread(alloc, named.script, script)?
+    } else {
+        unread(alloc, named.image_in, world.image_in.source().reason())?
+    };
+    message_of(alloc, &told)
+}
+
+fn of_write<R: Files + Print + AllocGlobal, P: Drop>(
+    alloc: Global,
+    named: Named<'_>,
+    world: &FileWorld<'_, R, P>,
+) -> Result<String, AllocError> {
+    let out = world.out.sink().reason();
+    let told = if out.is_some() {
+        unwritten(alloc, out)?
+    } else {
+        unsaved(alloc, named.image_out, world.image_out.reason())?
+    };
+    message_of(alloc, &told)
+}
+
+/// The message of an image, from the line that was written of it.
+fn of_refused_image<R: Files + Print + AllocGlobal, P: Drop>(
+    alloc: Global,
+    words: &[String],
+    named: Named<'_>,
+    world: &FileWorld<'_, R, P>,
+) -> Result<Option<String>, AllocError> {
+    let (Some(text), Some(image), Some(line)) = (
+        world.program.kept(),
+        world.image_in.kept(),
+        world.out.kept(),
+    ) else {
+        return plain(alloc, "the image was refused");
+    };
+    let line = String::from_utf8_lossy(alloc, line)?;
+    let refusal = refusal_of(alloc, words, line.as_str(), image);
+    let is_image = image.starts_with(b"CNVMPOOL");
+    let found = image_digest(alloc, image)?;
+    let wanted = digest_text(alloc, &digest(text))?;
+    let digests = Digests {
+        found: found.as_str(),
+        wanted: wanted.as_str(),
+    };
+    let told = of_image(alloc, named.image_in, refusal, is_image, digests)?;
+    Ok(Some(message_of(alloc, &told)?))
+}
+
+/// The refusal that a line `image KIND A B` tells.
+fn refusal_of(alloc: Global, words: &[String], line: &str, image: &[u8]) -> ImageRefusal {
+    let mut parts = line.split_whitespace();
+    parts.next();
+    let kind = parts.next().unwrap_or("");
+    let found = number(parts.next());
+    let wanted = number(parts.next());
+    if kind == "short" {
+        return ImageRefusal::Short(found.unsigned_abs(), wanted.unsigned_abs());
+    }
+    if kind == "version" {
+        return ImageRefusal::Version(found, wanted);
+    }
+    if kind == "sizes" {
+        return ImageRefusal::Sizes(option_of(alloc, words, image), found, wanted);
+    }
+    if kind == "digest" {
+        return ImageRefusal::Digest;
+    }
+    if kind == "content" {
+        return ImageRefusal::Content(found.unsigned_abs(), wanted);
+    }
+    ImageRefusal::Magic
+}
+
+fn number(word: Option<&str>) -> i64 {
+    match word {
+        Some(word) => word.parse::<i64>().unwrap_or(0),
+        None => 0,
+    }
+}
+
+/// The option that asks for the first size in which the image differs.
+fn option_of(alloc: Global, words: &[String], image: &[u8]) -> Option<&'static str> {
+    let Ok(
+        Plan::Run {
+            slots,
+            records,
+            ticks,
+            ..
+        },
+    ) = plan_of(alloc, words)
+    else {
+        return None;
+    };
+    if word_at(image, 2) != slots {
+        return Some("--slots");
+    }
+    if word_at(image, 3) != records {
+        return Some("--log");
+    }
+    if word_at(image, 5) != ticks && word_at(image, 5) > 0 {
+        return Some("--ticks");
+    }
+    None
+}
+
+/// A word of an image, its lowest byte first; 0 past its end.
+fn word_at(image: &[u8], place: usize) -> u64 {
+    let mut word = 0u64;
+    for at in 0..8usize {
+        let byte = place
+            .saturating_mul(8)
+            .saturating_add(7usize.saturating_sub(at));
+        let value = image.get(byte).copied().unwrap_or(0);
+        word = word.wrapping_mul(256).wrapping_add(u64::from(value));
+    }
+    word
+}
+
+/// The digest of the text that an image was made from; an empty text where it is too short.
+fn image_digest(alloc: Global, image: &[u8]) -> Result<String, AllocError> {
+    if image.len() < 96 {
+        return Ok(String::new(alloc));
+    }
+    let digest = [
+        word_at(image, 8).cast_signed(),
+        word_at(image, 9).cast_signed(),
+        word_at(image, 10).cast_signed(),
+        word_at(image, 11).cast_signed(),
+    ];
+    digest_text(alloc, &digest)
+}
+
+fn digest_text(alloc: Global, digest: &[i64; 4]) -> Result<String, AllocError> {
+    let mut text = String::new(alloc);
+    push_digest(&mut text, digest.as_slice())?;
+    Ok(text)
+}

@@ -1,2 +1,0 @@
--- What only bodies and proofs need: no public clause rests on it.
-pub mod Run

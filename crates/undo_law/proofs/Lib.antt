@@ -1,9 +1,0 @@
-pub mod Logs
-pub mod Undone
-pub mod Kept
-pub mod Inside
-pub mod Whole
-pub mod Reabort
-pub mod MarkedCalls
-pub mod Rest
-pub mod EventCounts
