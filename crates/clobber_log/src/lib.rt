@@ -3,13 +3,11 @@
 //! the events that `specs/` gives them, or the first of these up to the one that was refused.
 #![tactic(auto)]
 
-mod appending;
 mod record;
 mod renewal;
 mod restoring;
 mod valid;
 
-pub use appending::{AppendAnswer, append};
 pub use record::append_record;
 pub use renewal::reset;
 pub use restoring::restore;

@@ -42,7 +42,7 @@ use recovery::recover_with;
 use std::alloc::Global;
 use std::marker::Model;
 use std::sync::ledger::Ledger;
-use tx_run::call_with;
+use tx_run::call;
 
 /// A pool of a program and whether it takes calls, seen as the latter. The pool's words are on the
 /// device. The machine of a call is kept for the next.
@@ -324,7 +324,7 @@ impl Session {
         ensures most { steps.new ≤ steps.old + image.now.parts.most }
         ensures lines { (P.device dev.new).lines ≡ (P.device dev.old).lines }
     {
-        let tx_answer = call_with(alloc, &mut self.spare, image, tx, args, dev, steps);
+        let tx_answer = call(alloc, &mut self.spare, image, tx, args, dev, steps);
         self.mode = mode_of_call(tx_answer);
         answer_of_call(tx_answer)
     }

@@ -4,7 +4,6 @@ pub mod Range
 pub mod Leads
 pub mod Dues
 pub mod Fuel
-pub mod Answered
 pub mod Faults
 pub mod Least
 pub mod Searches

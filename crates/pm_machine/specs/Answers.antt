@@ -1,4 +1,4 @@
--- The answers of a step and a run: what the definition says, with its events played, or the refusal
+-- The answers of a run: what the definition says, with its events played, or the refusal
 -- of one of them.
 use Rattle.std.specs.Prelude.{ℕ, ◌+◌, ◌≡◌, List}
 use Rattle.pmem.specs.Device.{Device}
@@ -19,17 +19,6 @@ use Rattle.pm_machine.specs.Effects.{events_of}
 use Rattle.pm_machine.specs.Machine.{State, StepOutcome, Goes, Ends, step as next_step}
 use Rattle.pm_machine.specs.Runs.{heap_in, Due, end_of, effect_in, due_on}
 
--- The answer of a due step with outcome o, on a device that is d before and b after it; the
--- machine's state is then t.
-abbrev pub Stepped : StepAnswer → StepOutcome → (Effect → List CacheEvent) → State → Device
-    → Device → Type 0
-Stepped step.Next o events t d b = (o ≡ Goes (effect_in o) t) × PlaysAll d (events (effect_in o)) b
-Stepped (step.Halted v) o events t d b = (o ≡ Ends (end.Halted v)) × (b ≡ d)
-Stepped (step.Trapped k) o events t d b = (o ≡ Ends (end.Trapped k)) × (b ≡ d)
-Stepped step.Off o events t d b = PlaysPart refusal.Off d (events (effect_in o)) b
-Stepped step.Failed o events t d b = PlaysPart refusal.Failed d (events (effect_in o)) b
-Stepped step.NoMemory o events t d b = PlaysPart refusal.NoMemory d (events (effect_in o)) b
-
 -- A due run, with n records at its start, came to this end: all its events were played, the step
 -- counter rose from k to k1 by its steps, and the machine's count of LOGs rose from l to l1 by its
 -- records.
@@ -46,16 +35,6 @@ RunAnswered (run.Trapped t) x n d b k k1 l l1 = HasRun (end.Trapped t) x n d b k
 RunAnswered run.Off x n d b k k1 l l1 = PlaysPart refusal.Off d x.events b
 RunAnswered run.Failed x n d b k k1 l l1 = PlaysPart refusal.Failed d x.events b
 RunAnswered run.NoMemory x n d b k k1 l l1 = PlaysPart refusal.NoMemory d x.events b
-
--- The answer of a step on a device that is on. The attempt, the records and the heap are those in
--- its view.
-abbrev pub StepsOn : StepAnswer → Image → (s t : State) → (d b : Device) → Type 0
-StepsOn a image s t d b =
-    Stepped a
-    (next_step image (count_in image.parts.sizes (view d.cache)) s
-    (heap_in image.parts.sizes d.cache))
-    (events_of image.parts.sizes (attempt_in image.parts.sizes (view d.cache))
-    (count_in image.parts.sizes (view d.cache)) (heap_in image.parts.sizes d.cache)) t d b
 
 -- The answer of a run on a device that is on. The step counter rises from k to k1.
 abbrev pub RunsOn : RunAnswer → Image → (s t : State) → (d b : Device) → (k k1 : ℕ) → Type 0

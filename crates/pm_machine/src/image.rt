@@ -189,7 +189,7 @@ impl Image {
     }
 
     /// The functions, which `Image::new` has checked.
-    pub(crate) fn functions(&self) -> &Functions
+    pub fn functions(&self) -> &Functions
         ensures { result.now ≡ self.now.parts.functions }
     {
         &self.parts.functions

@@ -17,7 +17,7 @@ mod silent;
 mod spare;
 mod stop;
 
-pub use answer::{RunAnswer, StepAnswer};
+pub use answer::RunAnswer;
 pub use effect::{Effect, End};
 pub use find::Found;
 pub use frame::{Frame, RegisterWords};

@@ -1,11 +1,11 @@
-//! A machine on a pool: one step, or a run to its end.
+//! A machine on a pool: a run to its end.
 
 ghost use Rattle.std.specs.Prelude.{◌≡◌, ◌+◌, ◌^◌, ◌<◌, ◌≤◌, true, false};
 ghost use Rattle.pool_layout.specs.Sizes.{heap_words, pool_lines};
 ghost use Rattle.pm_machine.specs.Runs.{AreLines, due_on};
-ghost use Rattle.pm_machine.specs.Answers.{StepsOn, RunsOn};
+ghost use Rattle.pm_machine.specs.Answers.{RunsOn};
 
-use crate::answer::{RunAnswer, StepAnswer};
+use crate::answer::RunAnswer;
 use crate::image::Image;
 use crate::machine::Machine;
 use clobber_log::{attempt, count};
@@ -14,35 +14,9 @@ use pmem::PmemWork;
 use std::sync::ledger::Ledger;
 
 impl Machine {
-    /// One step, on the pool of the image that the machine was made for. After an end or a refusal
-    /// the machine has to be restarted before it is used again. On a device that is off the answer
-    /// is `Off`, and nothing has changed.
-    pub fn step<P: PmemWork>(&mut self, image: &Image, dev: &mut P) -> StepAnswer
-        requires lines { (P.device dev.old).lines ≡ pool_lines image.now.parts.sizes }
-        requires dirty { AreLines (heap_words image.now.parts.sizes) self.old.dirty }
-        requires logged { self.old.logged < 2 ^ 62 }
-        ensures stepped { (P.device dev.old).on ≡ true
-            → StepsOn result image.now self.old self.new (P.device dev.old) (P.device dev.new) }
-        ensures off { (P.device dev.old).on ≡ false → result ≡ StepAnswer.Off }
-        ensures same { (P.device dev.old).on ≡ false → P.device dev.new ≡ P.device dev.old }
-        ensures dirty { result ≡ StepAnswer.Next
-            → AreLines (heap_words image.now.parts.sizes) self.new.dirty }
-        ensures logged { self.new.logged ≤ self.old.logged + 1 }
-        ensures faults { (P.device dev.old).faults ≤ (P.device dev.new).faults }
-        ensures lines { (P.device dev.new).lines ≡ (P.device dev.old).lines }
-    {
-        let Some(attempt) = attempt(image.sizes(), dev) else {
-            return StepAnswer::Off;
-        };
-        let Some(count) = count(image.sizes(), dev, attempt) else {
-            return StepAnswer::Off;
-        };
-        StepAnswer::of(self.step_on(image, attempt, count, dev))
-    }
-
     /// Runs to the end, or to the refused event, in at most `most` steps of the image. A run that
-    /// hasn't ended by then, which no compiled program has, ends with the trap steps. Otherwise the
-    /// answers are those of `step`.
+    /// hasn't ended by then, which no compiled program has, ends with the trap steps. On a device
+    /// that is off the answer is `Off`, and nothing has changed.
     pub fn run<P: PmemWork, L: Ledger>(
         &mut self,
         image: &Image,

@@ -43,32 +43,12 @@ fn run<P: PmemWork, L: Ledger>(
 }
 
 /// Calls a transaction, counted from 1, with as many arguments as it has parameters, on the pool of
-/// the image. The mark is checked first, then the numbers; then memory for the machine's frames is
-/// allocated, the arguments are sealed, the machine runs, and its value is retired, or its trap
-/// marked. On a device that is off the answer is `Off(Unsealed)`, and nothing has changed. A call
-/// that is refused takes no step, and any other at most those of its run.
+/// the image. The mark is checked first, then the numbers; then the kept machine is started, which
+/// takes memory for its frames only the first time, the arguments are sealed, the machine runs, and
+/// its value is retired, or its trap marked. On a device that is off the answer is `Off(Unsealed)`,
+/// and nothing has changed. A call that is refused takes no step, and any other at most those of its
+/// run.
 pub fn call<P: PmemWork, L: Ledger>(
-    alloc: Global,
-    image: &Image,
-    tx: u64,
-    args: &[i64],
-    dev: &mut P,
-    steps: &mut Steps<L>,
-) -> CallAnswer
-    requires lines { (P.device dev.old).lines ≡ pool_lines image.now.parts.sizes }
-    requires first { 1 ≤ tx }
-    requires last { tx ≤ length image.now.parts.txs }
-    ensures called { IsTxCalled result image.now tx args.now (P.device dev.old) (P.device dev.new)
-        steps.old steps.new }
-    ensures most { steps.new ≤ steps.old + image.now.parts.most }
-    ensures lines { (P.device dev.new).lines ≡ (P.device dev.old).lines }
-{
-    call_with(alloc, &mut Spare::new(), image, tx, args, dev, steps)
-}
-
-/// Calls a transaction as `call` does, with the machine that is kept, so that memory for its frames
-/// is taken only the first time.
-pub fn call_with<P: PmemWork, L: Ledger>(
     alloc: Global,
     spare: &mut Spare,
     image: &Image,

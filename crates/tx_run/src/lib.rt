@@ -10,6 +10,6 @@ mod settling;
 mod standing;
 
 pub use answer::{CallAnswer, Settled};
-pub use calling::{call, call_with};
+pub use calling::call;
 pub use settling::settle;
 pub use standing::{Standing, assess, is_number, marked_kind};

@@ -11,14 +11,6 @@ use Rattle.pm_machine.specs.declared.answer.StepAnswer.TheVariants as step
 use Rattle.pm_machine.specs.declared.answer.RunAnswer.{RunAnswer}
 use Rattle.pm_machine.specs.declared.answer.RunAnswer.TheVariants as run
 
-abbrev pub step_answer : Result Progress Refusal → StepAnswer
-step_answer (Ok (Did e)) = step.Next
-step_answer (Ok (Ended (end.Halted v))) = step.Halted v
-step_answer (Ok (Ended (end.Trapped k))) = step.Trapped k
-step_answer (Err refusal.Off) = step.Off
-step_answer (Err refusal.Failed) = step.Failed
-step_answer (Err refusal.NoMemory) = step.NoMemory
-
 abbrev pub run_answer : Result End Refusal → RunAnswer
 run_answer (Ok (end.Halted v)) = run.Halted v
 run_answer (Ok (end.Trapped k)) = run.Trapped k

@@ -4,10 +4,10 @@ use Rattle.cnvm_session.proofs.session.Session.run_unmarked.Goals as goal
 
 pub returns-clause-count : goal.returns-clause-count
 returns-clause-count g c =
-    (call_counts c.call_with-tx_answer.result c.args.image.now c.args.tx c.args.args.now _ _ _ _
-    c.call_with-tx_answer.ensures.called).0
+    (call_counts c.call-tx_answer.result c.args.image.now c.args.tx c.args.args.now _ _ _ _
+    c.call-tx_answer.ensures.called).0
 
 pub returns-clause-fault : goal.returns-clause-fault
 returns-clause-fault g c = λ fault.
-    (call_counts c.call_with-tx_answer.result c.args.image.now c.args.tx c.args.args.now _ _ _ _
-    c.call_with-tx_answer.ensures.called).1 (sym c.answer_of_call.ensures ∙ fault)
+    (call_counts c.call-tx_answer.result c.args.image.now c.args.tx c.args.args.now _ _ _ _
+    c.call-tx_answer.ensures.called).1 (sym c.answer_of_call.ensures ∙ fault)

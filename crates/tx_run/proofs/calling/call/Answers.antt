@@ -1,6 +1,6 @@
 use Rattle.std.proofs.Common.{arith}
 use Rattle.tx_run.proofs.CallParts.{short}
-use Rattle.tx_run.proofs.calling.call_with.Goals as goal
+use Rattle.tx_run.proofs.calling.call.Goals as goal
 
 pub returns-in-None-clause-called : goal.returns-in-None-clause-called
 returns-in-None-clause-called g c =
