@@ -1,23 +1,18 @@
--- The answers of a run: what the definition says, with its events played, or the refusal
--- of one of them.
-use Rattle.std.specs.Prelude.{ℕ, ◌+◌, ◌≡◌, List}
+-- The answers of a run: what the definition says, with its events played, or the refusal of one of
+-- them.
+use Rattle.std.specs.Prelude.{ℕ, ◌+◌, ◌≡◌}
 use Rattle.pmem.specs.Device.{Device}
 use Rattle.pmem.specs.Played.{PlaysAll, PlaysPart}
 use Rattle.pmem.specs.declared.answer.Refusal.TheVariants as refusal
 use Rattle.cache_model.specs.Cache.{view}
-use Rattle.cache_model.specs.Event.{CacheEvent}
-use Rattle.clobber_log.specs.Logs.{attempt_in, count_in}
-use Rattle.pm_machine.specs.declared.effect.Effect.{Effect}
+use Rattle.clobber_log.specs.Logs.{count_in}
 use Rattle.pm_machine.specs.declared.effect.End.{End}
 use Rattle.pm_machine.specs.declared.effect.End.TheVariants as end
-use Rattle.pm_machine.specs.declared.answer.StepAnswer.{StepAnswer}
-use Rattle.pm_machine.specs.declared.answer.StepAnswer.TheVariants as step
 use Rattle.pm_machine.specs.declared.answer.RunAnswer.{RunAnswer}
 use Rattle.pm_machine.specs.declared.answer.RunAnswer.TheVariants as run
 use Rattle.pm_machine.specs.declared.image.Image.{Image}
-use Rattle.pm_machine.specs.Effects.{events_of}
-use Rattle.pm_machine.specs.Machine.{State, StepOutcome, Goes, Ends, step as next_step}
-use Rattle.pm_machine.specs.Runs.{heap_in, Due, end_of, effect_in, due_on}
+use Rattle.pm_machine.specs.Machine.{State}
+use Rattle.pm_machine.specs.Runs.{Due, end_of, due_on}
 
 -- A due run, with n records at its start, came to this end: all its events were played, the step
 -- counter rose from k to k1 by its steps, and the machine's count of LOGs rose from l to l1 by its

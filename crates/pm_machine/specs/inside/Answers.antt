@@ -4,10 +4,6 @@ use Rattle.pmem.specs.declared.answer.Refusal.{Refusal}
 use Rattle.pmem.specs.declared.answer.Refusal.TheVariants as refusal
 use Rattle.pm_machine.specs.declared.effect.End.{End}
 use Rattle.pm_machine.specs.declared.effect.End.TheVariants as end
-use Rattle.pm_machine.specs.declared.machine.Progress.{Progress}
-use Rattle.pm_machine.specs.declared.machine.Progress.TheVariants.{Did, Ended}
-use Rattle.pm_machine.specs.declared.answer.StepAnswer.{StepAnswer}
-use Rattle.pm_machine.specs.declared.answer.StepAnswer.TheVariants as step
 use Rattle.pm_machine.specs.declared.answer.RunAnswer.{RunAnswer}
 use Rattle.pm_machine.specs.declared.answer.RunAnswer.TheVariants as run
 
