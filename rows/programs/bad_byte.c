@@ -1,0 +1,2 @@
+struct R { int64_t n; };
+@
