@@ -1,2 +1,0 @@
-struct R { int64_t t[513]; };
-persistent struct R root;

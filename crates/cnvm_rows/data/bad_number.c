@@ -1,2 +1,0 @@
-struct R { int64_t t[08]; };
-persistent struct R root;

@@ -1,3 +1,0 @@
-struct R { int64_t n; };
-persistent struct R root;
-tx void get() { }

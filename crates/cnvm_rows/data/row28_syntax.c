@@ -1,1 +1,0 @@
-struct R { int64_t n }
