@@ -1,5 +1,4 @@
-//! Sources and sinks that fail at their first, their second and their last byte, and texts that are
-//! too long.
+//! Sources and sinks that fail at their first, their second and their last byte.
 
 ghost use Rattle.std.specs.Prelude.{◌≡◌, ◌<◌};
 
@@ -109,7 +108,6 @@ fn ends<L: Ledger>(
     let dev = SparsePmem::new(alloc);
     let ended = run(
         alloc,
-        1,
         &more,
         COUNTER,
         whole.script,
@@ -198,77 +196,5 @@ fn both<L: Ledger>(alloc: Global, blank: Blank) -> Result<(Shown, Shown), AllocE
 fn each_port_may_fail(rt: HostRuntime) -> Result<(), Fail> {
     let shown = both::<Brand>(rt.alloc(), Blank::new(1))?;
     assert_eq!(rt; shown, ((true, None), (true, None)));
-    Ok(())
-}
-
-/// A text of n blanks.
-fn blanks(alloc: Global, count: usize) -> Result<String, AllocError> {
-    let mut text = String::new(alloc);
-    for _ in 0..count {
-        text.push_str(" ")?;
-    }
-    Ok(text)
-}
-
-/// How many blanks the program and the script have, how the run ends, and what it writes. A script
-/// of blanks goes with the counter's program.
-const LIMITS: [(usize, usize, Status, &str); 4] = [
-    (262_144, 0, Status::Program, "program line 1 no root\n"),
-    (262_145, 0, Status::Program, "program too long\n"),
-    (0, 1_048_576, Status::Done, ""),
-    (0, 1_048_577, Status::Script, "script too long\n"),
-];
-
-/// This many blanks, or the counter's program for none.
-fn program_text(alloc: Global, count: usize) -> Result<String, AllocError> {
-    if 0 < count {
-        return blanks(alloc, count);
-    }
-    let mut text = String::new(alloc);
-    text.push_str(COUNTER)?;
-    Ok(text)
-}
-
-/// The first of these runs that ends differently.
-fn wrong_limit<L: Ledger>(alloc: Global, blank: Blank) -> Result<Option<&'static str>, AllocError>
-    requires name { blank.name ≡ L.name }
-    requires parts { blank.parts ≡ L.parts }
-    requires some { 0 < blank.parts }
-{
-    let mut steps: Steps<L> = Steps::new(blank);
-    for (program, script, status, wanted) in LIMITS {
-        let text = program_text(alloc, program)?;
-        let script = blanks(alloc, script)?;
-        if !text_ends(
-            alloc,
-            text.as_str(),
-            script.as_str(),
-            status,
-            wanted,
-            &mut steps,
-        )? {
-            return Ok(Some(wanted));
-        }
-    }
-    Ok(None)
-}
-
-/// Whether a run of these texts ends so.
-fn text_ends<L: Ledger>(
-    alloc: Global,
-    program: &str,
-    script: &str,
-    status: Status,
-    wanted: &str,
-    steps: &mut Steps<L>,
-) -> Result<bool, AllocError> {
-    let dev = SparsePmem::new(alloc);
-    let ended = run(alloc, 4096, &[], program, script, &[], NONE, dev, steps)?;
-    Ok(ended.is(status, wanted.as_bytes()))
-}
-
-#[test]
-fn long_texts_are_refused(rt: HostRuntime) -> Result<(), Fail> {
-    assert_eq!(rt; wrong_limit::<Brand>(rt.alloc(), Blank::new(1))?, None);
     Ok(())
 }

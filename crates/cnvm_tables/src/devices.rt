@@ -6,127 +6,11 @@ use crate::program::{COUNTER, stopped_image};
 use crate::runs::{NONE, run};
 use cnvm_cli::Status;
 use nvm_base::Steps;
-use pmem::{FailPmem, SimPmem};
+use pmem::FailPmem;
 use std::alloc::{AllocError, Global};
 use std::marker::Brand;
 use std::sync::ledger::{Blank, Ledger};
 use std::test::Fail;
-
-/// What comes before and after the number of `fault` in the script, the first number and the one
-/// past the last, and the answers.
-type Armed = (&'static str, &'static str, u64, u64, &'static str);
-
-const ARMED: [Armed; 8] = [
-    (
-        "fault ",
-        "\ncall inc 5\npower old\nlast\n",
-        0,
-        7,
-        "device fault\nrecovered none\nlast 0 0\n",
-    ),
-    (
-        "fault ",
-        "\ncall inc 5\npower old\nlast\n",
-        7,
-        20,
-        "device fault\nrecovered redone 5 log 1\nlast 1 5\n",
-    ),
-    (
-        "fault ",
-        "\ncall inc 5\npower old\nlast\n",
-        20,
-        21,
-        "= 5 log 1\nrecovered none\nlast 1 5\n",
-    ),
-    (
-        "fault ",
-        "\ncall inc 5\npower new\nlast\n",
-        0,
-        5,
-        "device fault\nrecovered none\nlast 0 0\n",
-    ),
-    (
-        "fault ",
-        "\ncall inc 5\npower new\nlast\n",
-        5,
-        17,
-        "device fault\nrecovered redone 5 log 1\nlast 1 5\n",
-    ),
-    (
-        "fault ",
-        "\ncall inc 5\npower new\nlast\n",
-        17,
-        20,
-        "device fault\nrecovered none\nlast 1 5\n",
-    ),
-    (
-        "stop 13\ncall inc 5\nfault ",
-        "\npower new\nlast\npower old\nlast\n",
-        0,
-        19,
-        "stopped sealed\ndevice fault\nrefused down\nrecovered redone 5 log 1\nlast 1 5\n",
-    ),
-    // a recovery has 19 events
-    (
-        "stop 13\ncall inc 5\nfault ",
-        "\npower new\nlast\n",
-        19,
-        20,
-        "stopped sealed\nrecovered redone 5 log 1\nlast 1 5\n",
-    ),
-];
-
-/// The first number of a row whose run ends differently from what the row says.
-fn wrong_armed<L: Ledger>(
-    alloc: Global,
-    row: Armed,
-    steps: &mut Steps<L>,
-) -> Result<Option<u64>, AllocError> {
-    let (head, tail, first, end, wanted) = row;
-    for k in first..end {
-        let script = format!(in alloc; "{head}{k}{tail}")?;
-        let dev = SimPmem::new(alloc);
-        let ended = run(
-            alloc,
-            1,
-            &[],
-            COUNTER,
-            script.as_str(),
-            &[],
-            NONE,
-            dev,
-            steps,
-        )?;
-        if !ended.is(Status::Done, wanted.as_bytes()) {
-            return Ok(Some(k));
-        }
-    }
-    Ok(None)
-}
-
-/// The first row with such a number, and the number.
-fn wrong_row<L: Ledger>(
-    alloc: Global,
-    blank: Blank,
-) -> Result<Option<(&'static str, u64)>, AllocError>
-    requires name { blank.name ≡ L.name }
-    requires parts { blank.parts ≡ L.parts }
-    requires some { 0 < blank.parts }
-{
-    let mut steps: Steps<L> = Steps::new(blank);
-    for row in ARMED {
-        if let Some(k) = wrong_armed(alloc, row, &mut steps)? {
-            return Ok(Some((row.4, k)));
-        }
-    }
-    Ok(None)
-}
-
-#[test]
-fn faults_are_answered(rt: HostRuntime) -> Result<(), Fail> {
-    assert_eq!(rt; wrong_row::<Brand>(rt.alloc(), Blank::new(1))?, None);
-    Ok(())
-}
 
 /// The first event and the one past the last, and how a run ends if its device fails there.
 type Failing = (u64, u64, Status, &'static str);
@@ -159,7 +43,7 @@ fn wrong_failing<L: Ledger>(
     let (first, end, status, wanted) = row;
     for at in first..end {
         let dev = FailPmem::new(alloc, at);
-        let ended = run(alloc, 1, more, COUNTER, script, image, NONE, dev, steps)?;
+        let ended = run(alloc, more, COUNTER, script, image, NONE, dev, steps)?;
         if !ended.is(status, wanted.as_bytes()) {
             return Ok(Some(at));
         }

@@ -1,5 +1,5 @@
-//! Tables of runs in memory: devices that fail at each event, sources and sinks that fail at each
-//! byte, and worked rows. It stands on cnvm_cli and holds nothing but tests.
+//! Tables of runs in memory: devices that fail at each event, and sources and sinks that fail at
+//! their bytes. It stands on cnvm_cli and holds nothing but tests.
 #![tactic(auto)]
 
 #[cfg(test)]
@@ -10,7 +10,5 @@ mod bytes;
 mod devices;
 #[cfg(test)]
 mod program;
-#[cfg(test)]
-mod rows;
 #[cfg(test)]
 mod runs;

@@ -1,7 +1,5 @@
 //! A run of the top call over sources and sinks in memory.
 
-ghost use Rattle.std.specs.Prelude.{◌<◌};
-
 use crate::byte_sink::ByteSink;
 use cnvm_cli::{Status, Traps, World, cnvm};
 use nvm_base::{MemSource, Steps};
@@ -54,10 +52,9 @@ fn push_words(alloc: Global, words: &mut Vec<String>, more: &[&str]) -> Result<(
 }
 
 /// A run of a script with these words after the two paths, on one slot and one record. Each read
-/// gives at most the given number of bytes, and each write takes one.
+/// gives one byte, and each write takes one.
 pub(crate) fn run<P: Pmem + Drop, L: Ledger>(
     alloc: Global,
-    most: usize,
     more: &[&str],
     program: &str,
     script: &str,
@@ -65,17 +62,15 @@ pub(crate) fn run<P: Pmem + Drop, L: Ledger>(
     fails: Fails,
     dev: P,
     steps: &mut Steps<L>,
-) -> Result<Ended, AllocError>
-    requires { 0 < most }
-{
+) -> Result<Ended, AllocError> {
     let mut words = Vec::new(alloc);
     let first = ["run", "A.c", "script", "--slots", "1", "--log", "1"];
     push_words(alloc, &mut words, &first)?;
     push_words(alloc, &mut words, more)?;
     let mut world = World {
-        program: MemSource::new(alloc, program.as_bytes(), most, &[fails.program])?,
-        script: MemSource::new(alloc, script.as_bytes(), most, &[fails.script])?,
-        image_in: MemSource::new(alloc, image, most, &[fails.image_in])?,
+        program: MemSource::new(alloc, program.as_bytes(), 1, &[fails.program])?,
+        script: MemSource::new(alloc, script.as_bytes(), 1, &[fails.script])?,
+        image_in: MemSource::new(alloc, image, 1, &[fails.image_in])?,
         out: ByteSink::new(alloc, fails.out),
         image_out: ByteSink::new(alloc, fails.image_out),
         dev,

@@ -1,5 +1,5 @@
-//! Tables of texts: their tokens, and their trees or refusals. It stands on `c_parser` and holds
-//! nothing but tests.
+//! Tables of texts: their tokens, and their trees. It stands on `c_parser` and holds nothing but
+//! tests.
 #![tactic(auto)]
 
 #[cfg(test)]

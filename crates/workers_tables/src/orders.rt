@@ -18,10 +18,10 @@ use std::test::Fail;
 
 /// The transaction that stores its argument. A call of it takes 7 turns: its seal, the store, the
 /// flush, the end of the flushes, the fence, its end, and its retirement.
-const PUT: u64 = 3;
+const PUT: u64 = 2;
 
 /// The transaction that gives its argument and stores nothing. A call of it takes 3 turns.
-const GIVE: u64 = 4;
+const GIVE: u64 = 3;
 
 /// The events of a call of each: 7 seal it, 3 are its own, and 5 retire it; or 7 and 5.
 const EVENTS: u64 = 27;
@@ -67,9 +67,9 @@ fn order_run<L: Ledger>(
     rest: Rest,
     steps: &mut Steps<L>,
 ) -> Option<Seen>
-    requires txs { 4 ≤ length image.now.parts.txs }
+    requires txs { 3 ≤ length image.now.parts.txs }
     requires first { 1 ≤ second }
-    requires last { second ≤ 4 }
+    requires last { second ≤ 3 }
 {
     let mut dev = SparsePmem::new(alloc);
     let Ok(mut workers) = Workers::create(alloc, image, DIGEST, 2, &mut dev) else {
@@ -129,7 +129,7 @@ fn wrong_cuts<L: Ledger>(
     rest: Rest,
     steps: &mut Steps<L>,
 ) -> Option<u64>
-    requires { 4 ≤ length image.now.parts.txs }
+    requires { 3 ≤ length image.now.parts.txs }
 {
     let mut wrong: u64 = 0;
     for stop in 0..=EVENTS {

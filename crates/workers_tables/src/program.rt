@@ -1,4 +1,4 @@
-//! A program of four transactions on heap word 0.
+//! A program of three transactions on heap word 0.
 
 ghost use Rattle.std.specs.Prelude.{◌≡◌, ◌≤◌, ◌<◌, ◌^◌, length, IfOk, IfSome};
 ghost use Rattle.pm_machine.specs.Few.{AreFew};
@@ -26,17 +26,6 @@ fn inc_code(alloc: Global) -> Result<Code, AllocError>
     code.push(Op::Flush)?;
     code.push(Op::Fence)?;
     code.push(Op::Halt { a: 2 })?;
-    Ok(code)
-}
-
-/// `n = d; abort();`
-fn abort_code(alloc: Global) -> Result<Code, AllocError>
-    ensures { IfOk result (λ c. length c < 2 ^ 32) }
-{
-    let mut code = Code::new(alloc);
-    code.push(Op::Const { r: 1, v: 0 })?;
-    code.push(Op::Store { a: 1, o: 0, b: 0 })?;
-    code.push(Op::Trap { k: 6 })?;
     Ok(code)
 }
 
@@ -74,15 +63,13 @@ fn function_of(code: Code) -> Function
 
 fn parts(alloc: Global, sizes: Sizes) -> Result<ImageParts, AllocError>
     ensures few { IfOk result (λ p. AreFew p.functions) }
-    ensures txs { IfOk result (λ p. 4 ≤ length p.txs) }
+    ensures txs { IfOk result (λ p. 3 ≤ length p.txs) }
 {
     let inc = inc_code(alloc)?;
-    let abort = abort_code(alloc)?;
     let put = put_code(alloc)?;
     let give = give_code(alloc)?;
     let mut functions = Functions::new(alloc);
     functions.push(function_of(inc))?;
-    functions.push(function_of(abort))?;
     functions.push(function_of(put))?;
     functions.push(function_of(give))?;
     let mut txs = TxList::new(alloc);
@@ -98,10 +85,6 @@ fn parts(alloc: Global, sizes: Sizes) -> Result<ImageParts, AllocError>
         function: 2,
         parameters: 1,
     })?;
-    txs.push(TxEntry {
-        function: 3,
-        parameters: 1,
-    })?;
     Ok(ImageParts {
         functions,
         sizes,
@@ -113,7 +96,7 @@ fn parts(alloc: Global, sizes: Sizes) -> Result<ImageParts, AllocError>
 
 /// The program, for the smallest compartments.
 pub fn program(alloc: Global) -> Option<Image>
-    ensures { IfSome result (λ i. 4 ≤ length i.parts.txs) }
+    ensures { IfSome result (λ i. 3 ≤ length i.parts.txs) }
 {
     let sizes = Sizes::new(1, 1, 1, 100)?;
     let Ok(parts) = parts(alloc, sizes) else {

@@ -78,7 +78,7 @@ fn round<P: Pmem + Drop, L: Ledger>(
 }
 
 /// Rounds, up to the first turn that is refused.
-pub fn rounds<P: Pmem + Drop, L: Ledger>(
+fn rounds<P: Pmem + Drop, L: Ledger>(
     workers: &mut Workers,
     image: &Image,
     dev: &mut P,

@@ -1,4 +1,0 @@
-use Rattle.cnvm_tables.proofs.devices.faults_are_answered.Given as goal
-
-abbrev pub ghosts-wrong_row : goal.ghosts-wrong_row
-ghosts-wrong_row g a = record { name = a.blank.name; parts = a.blank.parts }
