@@ -4,6 +4,14 @@ use crate::could_stand::WORDS;
 use crate::spelled::{Spelled, Within, is, is_name, is_number, is_one};
 use std::alloc::{AllocError, Global};
 
+/// Unsigned numbers of fewer bits: once masked they have no sign, so nothing else differs.
+const NARROW_NOTE: &str = "every number is an `int64_t`: to keep an unsigned x at 32 bits, write \
+    `x & 0xffffffff` after each `+`, `-`, `*`, `<<` and `~`";
+
+/// Unsigned numbers of 64 bits.
+const WIDE_NOTE: &str = "every number is an `int64_t`: `<`, `/`, `%` and `>>` of an unsigned h \
+    that reaches 2^63 are written otherwise, as `h & 63` for `h % 64`";
+
 /// Words that C reserves and the language leaves out.
 const RESERVED: [(&str, &str); 26] = [
     (
@@ -34,10 +42,7 @@ const RESERVED: [(&str, &str); 26] = [
         "signed",
         "every number is an `int64_t`, which has a sign: leave `signed` out",
     ),
-    (
-        "unsigned",
-        "every number is an `int64_t`: write `int64_t` for `unsigned`",
-    ),
+    ("unsigned", NARROW_NOTE),
     (
         "const",
         "leave `const` out: the language has no marks on types",
@@ -70,7 +75,7 @@ const RESERVED: [(&str, &str); 26] = [
     ),
     (
         "do",
-        "there is no `do`: write `while (1) { .. if (!c) { break; } }`",
+        "there is no `do`: write `for (int64_t again = 1; again || c; again = 0) { .. }`",
     ),
     (
         "switch",
@@ -94,29 +99,21 @@ const RESERVED: [(&str, &str); 26] = [
     ),
 ];
 
-/// Names that stand for types of numbers in C.
-const NUMBER_TYPES: [&str; 20] = [
-    "bool",
-    "int64",
-    "uint64",
-    "int32",
-    "uint64_t",
-    "int32_t",
-    "uint32_t",
-    "int16_t",
-    "uint16_t",
-    "int8_t",
-    "uint8_t",
-    "size_t",
-    "ssize_t",
-    "intptr_t",
-    "uintptr_t",
-    "off_t",
-    "u64",
-    "i64",
-    "uint",
-    "ulong",
+/// Names that stand for types of numbers with a sign in C.
+const SIGNED: [&str; 9] = [
+    "int64", "i64", "ssize_t", "intptr_t", "off_t", "int32", "int32_t", "int16_t", "int8_t",
 ];
+
+/// Names of unsigned types of 64 bits.
+const WIDE: [&str; 6] = ["uint64_t", "uint64", "u64", "size_t", "uintptr_t", "ulong"];
+
+/// Names of unsigned types of fewer bits.
+const NARROW: [&str; 4] = ["uint32_t", "uint16_t", "uint8_t", "uint"];
+
+/// Whether the name stands for a type of numbers in C.
+fn is_number_type(name: &[u8]) -> bool {
+    is(name, "bool") || is_one(name, &SIGNED) || is_one(name, &WIDE) || is_one(name, &NARROW)
+}
 
 /// Tokens after which a name stands.
 const BEFORE_NAMES: [&str; 5] = ["int64_t", "*", "struct", "->", "."];
@@ -233,7 +230,7 @@ fn by_star(near: &Spelled<'_>) -> Option<&'static str> {
     if is(near.before(3), "persistent") {
         return by_root(near.here());
     }
-    if is(last, "int64_t") || is_one(last, &NUMBER_TYPES) {
+    if is(last, "int64_t") || is_number_type(last) {
         return Some("there are no pointers to numbers: put the number into a struct, or return it");
     }
     if is(last, "*") {
@@ -248,11 +245,12 @@ fn by_star(near: &Spelled<'_>) -> Option<&'static str> {
     Some("there is no `*p`: write `p->field`")
 }
 
+const FOR_NOTE: &str = "each part of a `for` is one statement: keep the last, and write the others \
+    before the loop, or at its end and before each `continue`";
+
 fn by_comma(near: &Spelled<'_>) -> Option<&'static str> {
     if near.in_for() {
-        return Some(
-            "each part of a `for` is one statement: write others before the loop and at its end",
-        );
+        return Some(FOR_NOTE);
     }
     match near.within() {
         Within::Body if is_one(near.first(), &["int64_t", "struct"]) => {
@@ -345,7 +343,7 @@ fn by_place(near: &Spelled<'_>) -> Option<&'static str> {
 fn at_top(near: &Spelled<'_>) -> Option<&'static str> {
     let here = near.here();
     let last = near.before(1);
-    if is(last, "tx") && !is_one(here, &NUMBER_TYPES) {
+    if is(last, "tx") && !is_number_type(here) {
         return Some(MARK_NOTE);
     }
     if is(here, "abort") && is(last, "abort") {
@@ -406,7 +404,7 @@ fn in_parameters(near: &Spelled<'_>) -> Option<&'static str> {
     if is(here, "(") {
         return Some("there are no pointers to functions");
     }
-    if is_name(here) && is_one(near.before(1), &["(", ","]) && !is_one(here, &NUMBER_TYPES) {
+    if is_name(here) && is_one(near.before(1), &["(", ","]) && !is_number_type(here) {
         return Some("a parameter has a type and a name, as `int64_t n`");
     }
     None
@@ -455,12 +453,29 @@ fn in_body(near: &Spelled<'_>) -> Option<&'static str> {
     None
 }
 
+/// A name of a type of numbers in C.
+fn by_type(name: &[u8]) -> Option<&'static str> {
+    if is_one(name, &WIDE) {
+        return Some(WIDE_NOTE);
+    }
+    if is_one(name, &NARROW) {
+        return Some(NARROW_NOTE);
+    }
+    if is(name, "bool") {
+        return Some("there is no `bool`: write `int64_t`, with 0 and 1");
+    }
+    if is_one(name, &SIGNED) {
+        return Some("every number is an `int64_t`: write `int64_t`");
+    }
+    None
+}
+
 /// A name where none can stand.
 fn by_name(near: &Spelled<'_>) -> Option<&'static str> {
     let here = near.here();
     let last = near.before(1);
-    if is_one(here, &NUMBER_TYPES) || is_one(last, &NUMBER_TYPES) {
-        return Some("every number is an `int64_t`: write `int64_t`");
+    if let Some(note) = by_type(here).or(by_type(last)) {
+        return Some(note);
     }
     if is_one(here, &WORDS) && is_one(last, &BEFORE_NAMES) {
         return Some("this is a word of the language: choose another name");
