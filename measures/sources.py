@@ -156,8 +156,8 @@ class Tree:
         text = text_of(os.path.join(CRATES, crate, "specs", "Lib.antt")) \
             if os.path.isfile(os.path.join(CRATES, crate, "specs", "Lib.antt")) else ""
         listed = [head + it for it in re.findall(r"^pub mod (\w+)$", text, re.M)]
-        own = [it for it in [*listed, *self.files] if it in self.files and it.startswith(head + "")
-               and not it.startswith(head + "inside.")]
+        own = [it for it in [*listed, *self.files] if it in self.files and it.startswith(head)
+               and "inside" not in it.split(".")]
         order = []
 
         def visit(module):
