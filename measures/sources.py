@@ -32,9 +32,12 @@ def first_words(crate):
     """The first paragraph of a crate's lib.rt or main.rt, in one line."""
     folder = os.path.join(CRATES, crate, "src")
     file = next(it for it in ("lib.rt", "main.rt") if os.path.isfile(os.path.join(folder, it)))
-    lines = text_of(os.path.join(folder, file)).split("\n")
-    head = [it[3:].strip() for it in lines[:next(at for at, it in enumerate(lines) if not it.startswith("//!"))]]
-    return " ".join(head).split("  ")[0]
+    words = []
+    for line in text_of(os.path.join(folder, file)).split("\n"):
+        if not line.startswith("//! "):
+            break
+        words += line[4:].split()
+    return " ".join(words)
 
 
 def imports_of(line, crate):
@@ -153,22 +156,22 @@ class Tree:
     def modules(self, crate):
         """The files of a crate's specs/, but for specs/inside/, each after those that it imports."""
         head = f"Rattle.{crate}.specs."
-        text = text_of(os.path.join(CRATES, crate, "specs", "Lib.antt")) \
-            if os.path.isfile(os.path.join(CRATES, crate, "specs", "Lib.antt")) else ""
+        library = os.path.join(CRATES, crate, "specs", "Lib.antt")
+        text = text_of(library) if os.path.isfile(library) else ""
         listed = [head + it for it in re.findall(r"^pub mod (\w+)$", text, re.M)]
-        own = [it for it in [*listed, *self.files] if it in self.files and it.startswith(head)
-               and "inside" not in it.split(".")]
-        order = []
+        own = [it for it in dict.fromkeys([*listed, *self.files])
+               if it in self.files and it.startswith(head) and "inside" not in it.split(".")]
+        order, met = [], set()
 
         def visit(module):
-            if module not in order and module not in below:
-                below.append(module)
+            if module not in met:
+                met.add(module)
+                imported = {there for there, _ in self.files[module].imports.values()}
                 for other in own:
-                    if any(there == other for there, _ in self.files[module].imports.values()):
+                    if other in imported:
                         visit(other)
                 order.append(module)
 
-        below = []
         for module in own:
             visit(module)
         return order
