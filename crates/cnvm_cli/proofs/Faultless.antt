@@ -1,5 +1,5 @@
--- A new device in memory shows that no fault is armed, so it never fails, and no call on it ends
--- with `DeviceFault`.
+-- A device that shows that no fault is armed never fails, and no call on it ends with
+-- `DeviceFault`.
 use Rattle.std.proofs.Common.{◌≡◌, ℕ, ◌*◌, List, [], ◌∷◌, Bool, true, false, Option, Some, None}
 use Rattle.std.proofs.Common.{is_some, ℤ, inl, inr, refl, sym, ap, subst}
 use Rattle.cache_model.specs.Event.{CacheEvent}
@@ -23,7 +23,6 @@ use Rattle.cnvm_cli.specs.declared.refused.Refused.{Refused}
 use Rattle.cnvm_cli.specs.declared.refused.Refused.TheVariants as refused
 use Rattle.session_run.specs.declared.status.Status.{Status}
 use Rattle.session_run.specs.declared.status.Status.TheVariants as status
-use Rattle.cnvm_cli.specs.Exits.{no_sources, new_device, EndsCall}
 use Rattle.cnvm_cli.specs.Listed.{ListEnds}
 use Rattle.cnvm_cli.specs.Meant.{Start, Fresh, FromImage, start_if, StartMeant, JobMeant, RunMeant}
 use Rattle.cnvm_cli.specs.Meant.{PlanMeant, CallMeant}
@@ -38,7 +37,7 @@ use Rattle.cnvm_cli.specs.WorkersMeant.{WorkersMeant}
 use Rattle.cnvm_cli.specs.World.{Sources, Outside, seen}
 
 -- the device shows that no fault is armed
-abbrev IsFaultless : Device → Type 0
+abbrev pub IsFaultless : Device → Type 0
 IsFaultless d = d.armed ≡ Some None
 
 never_fails : (es : List CacheEvent) (d b : Device) → IsFaultless d
@@ -196,7 +195,7 @@ plan_never (plan.Workers p s workers slots records ticks) told before after none
     workers_never (asked_by slots records ticks) workers told.program told.script before.out
     after.out before.dev after.dev before.steps after.steps none meant.0
 
-call_never : (words : Option Plan) (told : Sources) (before after : Outside)
+pub call_never : (words : Option Plan) (told : Sources) (before after : Outside)
     → IsFaultless before.dev → CallMeant words told status.DeviceFault before after → ⊥
 call_never None told before after none meant =
     let is : refused.Usage ≡ refused.Device =
@@ -204,10 +203,3 @@ call_never None told before after none meant =
     absurd cc
 call_never (Some asked) told before after none meant =
     plan_never asked told before after none meant
-
-pub never_ends : (words : List (List ℕ)) (result : Status) → EndsCall words result
-    → result ≡ status.DeviceFault → ⊥
-never_ends words result ends is =
-    let call : EndsCall words status.DeviceFault = subst (EndsCall words) is ends in
-    call_never (plan_of words) no_sources (seen None None new_device 0)
-    (seen None None call.0 call.1) refl call.2

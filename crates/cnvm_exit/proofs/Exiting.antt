@@ -8,6 +8,7 @@ use Rattle.cnvm_exit.specs.Exits.{no_sources, new_device, EndsCall}
 use Rattle.cnvm_cli.specs.Meant.{CallMeant}
 use Rattle.cnvm_cli.specs.World.{seen}
 use Rattle.cnvm_cli.proofs.Meaning.{memory_meant}
+use Rattle.cnvm_cli.proofs.Faultless.{call_never}
 
 -- the call begins on a device that is new, with no step so far
 pub ends_on : (words : List (List ℕ)) (result : Status) (d b : Device) (k j : ℕ)
@@ -29,3 +30,11 @@ memory_ends words = (
   memory_meant (plan_of words) no_sources (seen None None new_device 0)
       (seen None None new_device 0) tt (tt, refl, refl),
 )
+
+-- a new device has no armed fault, so it never fails
+pub never_ends : (words : List (List ℕ)) (result : Status) → EndsCall words result
+    → result ≡ status.DeviceFault → ⊥
+never_ends words result ends is =
+    let call : EndsCall words status.DeviceFault = subst (EndsCall words) is ends in
+    call_never (plan_of words) no_sources (seen None None new_device 0)
+    (seen None None call.0 call.1) refl call.2

@@ -132,21 +132,6 @@ pub fn start_from<P: Pmem, L: Ledger>(
     }
 }
 
-/// Starts a session on the pool that lies on the device, and gives the answer of its recovery.
-pub fn resume<P: Pmem, L: Ledger>(
-    alloc: Global,
-    program: &Program,
-    dev: &mut P,
-    steps: &mut Steps<L>,
-) -> (Session, Answer)
-    requires lines { (P.device dev.old).lines ≡ pool_lines program.now.image.parts.sizes }
-    requires on { (P.device dev.old).on ≡ true }
-{
-    let mut session = Session::in_mode(Mode::Down);
-    let answer = session.recover(alloc, program, dev, steps);
-    (session, answer)
-}
-
 /// How many parameters a transaction of the image has, for any number.
 pub fn parameters(image: &Image, tx: u64) -> Option<u64>
     ensures value { result ≡ tx_parameters image.now tx }

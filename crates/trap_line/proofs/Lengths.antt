@@ -221,14 +221,18 @@ mutual
 parameters_long : (k : Context) (body : Statements) (n : ℕ) (xs : List ParameterTree) (p : ℕ)
     → length (parameters_spots body xs) ≡ length (parameters_code k body n xs p)
 parameters_long k body n [] p = refl
-parameters_long k body n (x ∷ xs) p = by (is_assigned x.name.text body)
+parameters_long k body n (x ∷ xs) p =
+    by (is_assigned x.name.text body) (parameters_long k body (suc n) xs (suc p))
+    (parameters_long k body (suc n) xs p)
   where
     by : (b : Bool)
+        → length (parameters_spots body xs) ≡ length (parameters_code k body (suc n) xs (suc p))
+        → length (parameters_spots body xs) ≡ length (parameters_code k body (suc n) xs p)
         → length (if b then never ∷ parameters_spots body xs else parameters_spots body xs)
         ≡ length (if b then Copy (k.node (suc p)) n ∷ parameters_code k body (suc n) xs (suc p)
         else parameters_code k body (suc n) xs p)
-    by true = ap suc (parameters_long k body (suc n) xs (suc p))
-    by false = parameters_long k body (suc n) xs p
+    by true copied own = ap suc copied
+    by false copied own = own
 
 code_long : (k : Context) (f : FunctionTree)
     → length (function_spots f) ≡ length (function_code k f)

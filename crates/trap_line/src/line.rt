@@ -47,17 +47,23 @@ fn begun(places: &[u32], place: u64) -> usize
     places.iter().filter(|p| u64::from(**p) <= place).count()
 }
 
-/// How many of the first instructions are no logs.
+/// The first instructions, or all if there are fewer.
 #[tactic(auto, using(crate::proofs::Trees::found))]
-fn unlogged(code: &[Instruction], count: usize) -> usize
-    ensures { result ≡ unlogged code.now count }
+fn front(code: &[Instruction], count: usize) -> &[Instruction]
+    ensures { result.now ≡ take count code.now }
 {
-    let first = if count < code.len() {
+    if count < code.len() {
         &code[..count]
     } else {
         code
-    };
-    first.iter().filter(|i| !is_log(i)).count()
+    }
+}
+
+/// How many of the first instructions are no logs.
+fn unlogged(code: &[Instruction], count: usize) -> usize
+    ensures { result ≡ unlogged code.now count }
+{
+    front(code, count).iter().filter(|i| !is_log(i)).count()
 }
 
 /// The tokens of the instruction in whose code a place is.

@@ -32,7 +32,7 @@ returns-in-Done-clause-redid g c =
     c.in-Done.ensures.played in
     redid_of image c.args.tx c.args.args.now n d b m done k j k1
     (c.put_back.ensures.cost c.in-Done.is) c.settle.result
-    (subst (λ (s : State). AbortSettles c.settle.result image s m b j k1) c.in-Ok.ensures
+    (subst (λ (s : State). AbortSettles c.settle.result image s m b j k1) c.in-Some.ensures
     c.settle.ensures.settled)
 
 pub returns-in-Off-clause-redid : goal.returns-in-Off-clause-redid
@@ -74,5 +74,5 @@ returns-in-Done-clause-bound g c =
     c.in-Done.ensures.played in
     back_bound image c.args.tx c.args.args.now n d m m done c.args.steps.now j k1
     c.put_back.ensures.bound
-    (subst (λ (s : State). k1 ≤ j + run_steps image s m.cache) c.in-Ok.ensures
+    (subst (λ (s : State). k1 ≤ j + run_steps image s m.cache) c.in-Some.ensures
     c.settle.ensures.bound)

@@ -27,7 +27,7 @@ returns-in-Done-clause-redid g c =
     let done = subst (λ (z : Sizes). PlaysAll d (due_back z n d.cache) m) c.sizes.ensures
     c.in-Done.ensures.played in
     let up : m.on ≡ true = still_on image tx args n d b m done ∙ c.requires.on in
-    let settles = subst (λ (s : State). Settles c.settle.result image s m b j k1) c.in-Ok.ensures
+    let settles = subst (λ (s : State). Settles c.settle.result image s m b j k1) c.in-Some.ensures
     (c.settle.ensures.settled up) in
     subst (λ (a : RecoverAnswer). Redid a image tx args n d b k k1) (sym c.redone.ensures)
     (redid_of image tx args n d b m done c.settle.result k j k1
@@ -48,7 +48,7 @@ returns-in-Done-clause-bound g c =
     let done = subst (λ (z : Sizes). PlaysAll d (due_back z n d.cache) m) c.sizes.ensures
     c.in-Done.ensures.played in
     let up : m.on ≡ true = still_on image tx args n d b m done ∙ c.requires.on in
-    let bound = subst (λ (s : State). k1 ≤ j + (due_on image s m.cache).steps) c.in-Ok.ensures
+    let bound = subst (λ (s : State). k1 ≤ j + (due_on image s m.cache).steps) c.in-Some.ensures
     (c.settle.ensures.bound up) in
     spent_of image tx args n d b m done c.args.steps.now j k1 (c.put_back.ensures.cost c.in-Done.is)
     bound

@@ -1,6 +1,5 @@
-use Rattle.cnvm_cli.proofs.Exiting.{memory_ends}
-use Rattle.cnvm_cli.proofs.Faultless.{never_ends}
-use Rattle.cnvm_cli.proofs.exit.run_on.Goals as goal
+use Rattle.cnvm_exit.proofs.Exiting.{memory_ends, never_ends}
+use Rattle.cnvm_exit.proofs.exit.run_on.Goals as goal
 
 pub returns-in-Some-clause-never : goal.returns-in-Some-clause-never
 returns-in-Some-clause-never g c = never_ends _ _ c.run_with.ensures.source

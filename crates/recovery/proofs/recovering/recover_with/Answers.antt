@@ -1,5 +1,5 @@
 use Rattle.std.proofs.Common.{arith}
-use Rattle.recovery.proofs.recovering.recover.Goals as goal
+use Rattle.recovery.proofs.recovering.recover_with.Goals as goal
 
 pub returns-in-Sealed-clause-most : goal.returns-in-Sealed-clause-most
 returns-in-Sealed-clause-most g c =

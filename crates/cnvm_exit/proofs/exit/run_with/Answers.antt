@@ -1,5 +1,5 @@
-use Rattle.cnvm_cli.proofs.Exiting.{ends_on}
-use Rattle.cnvm_cli.proofs.exit.run_with.Goals as goal
+use Rattle.cnvm_exit.proofs.Exiting.{ends_on}
+use Rattle.cnvm_exit.proofs.exit.run_with.Goals as goal
 
 pub returns-clause-source : goal.returns-clause-source
 returns-clause-source g c =
