@@ -15,5 +15,4 @@ pub push_arguments-loop-argument-preserved : goal.push_arguments-loop-argument-p
 push_arguments-loop-argument-preserved t c =
     let here = arguments_at c.args.arguments.now c.loop-argument.argument-index
     c.argument-item.result c.loop-argument-test.true c.argument-item.is in
-    rw c.in_ok-push_expression.ensures
-    (append_assoc _ _ _ ∙ rw here at c.loop-argument.invariant)
+    rw (c.in_ok-push_expression.ensures, append_assoc) (rw here at c.loop-argument.invariant)
