@@ -53,8 +53,8 @@ returns-in-Failed-clause-redid g c =
     (subst (λ (z : Sizes). PlaysPart refusal.Failed d (due_back z n d.cache) b) c.sizes.ensures
     c.in-Failed.ensures.played)
 
-pub returns-clause-redid : goal.returns-clause-redid
-returns-clause-redid g c =
+pub returns-in-NoMemory-clause-redid : goal.returns-in-NoMemory-clause-redid
+returns-in-NoMemory-clause-redid g c =
     let d = g.P.PmemWork.device c.args.dev.now in
     let b = g.P.PmemWork.device c.put_back.new.dev in
     let n = c.args.count in
