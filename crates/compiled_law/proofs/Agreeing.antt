@@ -49,7 +49,7 @@ use Rattle.insert_law.specs.Law.{HasResult}
 use Rattle.insert_law.specs.Moved.{places_of}
 use Rattle.insert_law.proofs.Standing.{function_at}
 use Rattle.insert_law.proofs.Origins.{origin}
-use Rattle.code_meaning.specs.Code.{CodeEnd, code_start, exec, register_at}
+use Rattle.code_meaning.specs.Code.{CodeEnd, code_start, exec}
 use Rattle.code_meaning.specs.Code.{load_spot}
 use Rattle.code_meaning.specs.Code as code
 use Rattle.code_meaning.specs.Deeds.{Deed, deeds}
@@ -79,7 +79,7 @@ use Rattle.cnvm_session.specs.declared.program.Program.{Program}
 use Rattle.cnvm_session.specs.Commands.{tx_parameters}
 use Rattle.session_law.specs.Logged.{stored_at, AreLogged, stores_in, AreLoggedFirst}
 use Rattle.session_law.specs.Source.{source_parameters, means, deeds_in, LogsStores, outcome_with}
-use Rattle.session_law.specs.Source.{LogsFirst, ComesTo, source_pool, HasSourceHeaders}
+use Rattle.session_law.specs.Source.{LogsFirst, ComesBy, source_pool, HasSourceHeaders}
 use Rattle.session_law.specs.Words.{AreWords, HasPoolWords}
 use Rattle.session_law.specs.Agrees.{Matches, RunsAs, Agrees}
 use Rattle.compiled_law.specs.inside.Runs.{EndsAs, EndsIf}
@@ -352,16 +352,19 @@ module _ (text : List ℕ) (list : Tokens) (program : Program)
       are_firsts marks plain c.exact s [] (deeds_in plain s.ticks w args g)
       (all_stores plain ((s.ticks + 1) * whole plain.functions) (code_start g args w s.ticks))
 
-  pub comes : (w : PoolMap) (tx : ℕ) (args : List ℤ) →
-      (logged : ℕ) × (o : Outcome) × ComesTo program w tx args logged o
-      × (firsts : ℕ) × LogsFirst program w tx args firsts
-  comes w tx args =
+  pub comes : (marked : Bool) (w : PoolMap) (tx : ℕ) (args : List ℤ) →
+      (logged : ℕ) × (o : Outcome) × ComesBy marked program w tx args logged o
+  comes false w tx args =
       let number : ℕ = number_by w args (lower.entry_in tx plain.functions) in (
         number,
         outcome_with program w tx args number,
         record { logs = logs_by w args (lower.entry_in tx plain.functions); is = refl },
-        first_by w args (lower.entry_in tx plain.functions),
-        firsts_by w args (lower.entry_in tx plain.functions),
+      )
+  comes true w tx args =
+      let number : ℕ = first_by w args (lower.entry_in tx plain.functions) in (
+        number,
+        outcome_with program w tx args number,
+        record { logs = firsts_by w args (lower.entry_in tx plain.functions); is = refl },
       )
 
   -- the logged stores of the run of a transaction that the image has

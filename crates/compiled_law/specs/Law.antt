@@ -2,7 +2,7 @@
 -- run of a transaction is sound. It ends as the source says, on a heap that holds the source's
 -- pool, with one log record for each of its logged stores; or with a full log, exactly if these
 -- stores are more than the log has records.
-use Rattle.std.specs.Prelude.{◌≡◌, ℕ, ℤ, List, [], length, map, Ok}
+use Rattle.std.specs.Prelude.{◌≡◌, ℕ, ℤ, Bool, List, [], length, map, Ok}
 use Rattle.c_lexer.specs.Cuts.{answer}
 use Rattle.c_lexer.specs.TokenList.{Tokens}
 use Rattle.c_tree.specs.ItemSpelling.{SpellsProgram}
@@ -20,7 +20,7 @@ use Rattle.instrument.specs.Insert.{logged_program}
 use Rattle.codegen.specs.Emit.{parts_of}
 use Rattle.cnvm_session.specs.declared.program.Program.{Program}
 use Rattle.cnvm_session.specs.Pool.{sizes_of}
-use Rattle.session_law.specs.Source.{LogsFirst, ComesTo}
+use Rattle.session_law.specs.Source.{ComesBy}
 use Rattle.session_law.specs.Agrees.{Agrees}
 
 -- What the compiler makes of a text: the tree of its tokens, which breaks no rule, and the image of
@@ -42,10 +42,9 @@ abbrev pub CompiledLaw : Type 0
 CompiledLaw = (text : List ℕ) (list : Tokens) (program : Program)
     → IsCompiledFrom text list program → Agrees program
 
--- On every pool each transaction of a compiled program has an outcome, a number of logged stores,
--- and a number of those that a marked one logs.
+-- On every pool each transaction of a compiled program, marked or not, has a number of logged
+-- stores and an outcome.
 abbrev pub ComesLaw : Type 0
 ComesLaw = (text : List ℕ) (list : Tokens) (program : Program) → IsCompiledFrom text list program
-    → (pool : PoolMap) (tx : ℕ) (args : List ℤ)
-    → (logged : ℕ) × (outcome : Outcome) × ComesTo program pool tx args logged outcome
-    × (firsts : ℕ) × LogsFirst program pool tx args firsts
+    → (marked : Bool) (pool : PoolMap) (tx : ℕ) (args : List ℤ)
+    → (logged : ℕ) × (outcome : Outcome) × ComesBy marked program pool tx args logged outcome

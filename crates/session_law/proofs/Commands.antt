@@ -35,7 +35,7 @@ use Rattle.session_law.specs.Words.{AreWords}
 use Rattle.session_law.specs.Agrees.{Agrees}
 use Rattle.session_law.specs.State.{Pending, Standing, Ready, Down, Unusable, SourceState}
 use Rattle.session_law.specs.State.{standing_as}
-use Rattle.session_law.specs.Answers.{Refused, RunsUnmarked, RunsMarked, RunsBy, CallsWith, CallsTo}
+use Rattle.session_law.specs.Answers.{Refused, RunsBy, CallsWith, CallsTo}
 use Rattle.session_law.specs.Answers.{CallsNamed, Calls, Tells, Shows, Lasts}
 use Rattle.session_law.specs.Holds.{HoldsPool, IsResting, OwesNone, OwesBy, HoldsAs, Holds}
 use Rattle.session_law.specs.Law.{SessionLaw}
@@ -144,7 +144,7 @@ module _ (program : Program) (super : Words) where
         let done = call_runs program super agrees d s resting tx args exact words mark h.tx_answer b
         k k1 ready h.called in (
           done.0,
-          subst (λ (x : Answer). RunsUnmarked program s (view d.cache) tx args x done.0)
+          subst (λ (x : Answer). RunsBy false program s (view d.cache) tx args x done.0)
               (sym h.answer) done.1,
           subst (λ (x : Mode). Holds program super x b done.0) (sym h.mode) done.2,
         )
@@ -152,7 +152,7 @@ module _ (program : Program) (super : Words) where
         let done = marked_call_runs program super agrees d s resting tx args exact words mark
         h.tx_answer b k k1 ready h.called in (
           done.0,
-          subst (λ (x : Answer). RunsMarked program s (view d.cache) tx args x done.0)
+          subst (λ (x : Answer). RunsBy true program s (view d.cache) tx args x done.0)
               (sym h.answer) done.1,
           subst (λ (x : Mode). Holds program super x b done.0) (sym h.mode) done.2,
         )

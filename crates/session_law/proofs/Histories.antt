@@ -7,7 +7,7 @@ use Rattle.std.proofs.lemmas.Bool.Decides.{Decides-int_eq}
 use Rattle.cache_model.specs.Cache.{Words}
 use Rattle.pool_layout.specs.declared.places.TheConstants.{DONE, MARK, SEAL}
 use Rattle.pool_map.specs.PoolMap.{PoolMap}
-use Rattle.c_meaning.specs.Transaction.{Done}
+use Rattle.c_meaning.specs.Transaction.{Outcome, Done, Trap}
 use Rattle.cnvm_script.specs.declared.command.Command.{Command}
 use Rattle.cnvm_script.specs.declared.command.Command.TheVariants as command
 use Rattle.cnvm_session.specs.declared.answer.Answer.{Answer}
@@ -18,14 +18,11 @@ use Rattle.cnvm_session.specs.Marks.{rolls_back_of}
 use Rattle.session_law.specs.Source.{source_parameters}
 use Rattle.session_law.specs.State.{Pending, Standing, Ready, Down, Unusable, SourceState}
 use Rattle.session_law.specs.State.{standing_as}
-use Rattle.session_law.specs.Answers.{Refused, IsConcluded, Runs, RunsBy, CallsWith, CallsTo}
+use Rattle.session_law.specs.Answers.{Refused, Finishes, IsConcluded, Runs, CallsWith, CallsTo}
 use Rattle.session_law.specs.Answers.{CallsNamed, Calls, Tells, Shows, Lasts, FindsOf, FindsOwed}
-use Rattle.session_law.specs.Answers.{Rests, Redoes, RedoesBy, Recovers, Powers, Answers}
-use Rattle.session_law.specs.History.{GivesPool, LeadsTo, waiting_of, call_to, call_in, called_by}
+use Rattle.session_law.specs.Answers.{Rests, Redoes, Recovers, Powers, Answers}
+use Rattle.session_law.specs.History.{LeavesPool, LeadsTo, waiting_of, call_to, call_in, called_by}
 use Rattle.session_law.specs.History.{is_retired, recovered_by, done_by, IsPart, HasDone}
-use Rattle.session_law.specs.Marked.{ComesOn}
-use Rattle.session_law.specs.Opened.{opened_heap}
-use Rattle.session_law.proofs.Coming.{comes_done}
 
 -- parts of lists
 
@@ -111,31 +108,10 @@ module _ (program : Program) where
 
   -- one transaction is finished
 
-  gives_of : (marked : Bool) (s t : SourceState) (image : Words) (owed : Pending) (st : Standing) →
-      IsConcluded marked program owed s image st t → GivesPool marked program owed s.pool t.pool
-  gives_of false s t image owed st is =
-      let one = is.2 in (
-        is.0,
-        (comes_done program s.pool owed.tx owed.args is.1 one.0 is.0 one.1.is).1
-            ∙ ap (λ (x : SourceState). Done x.pool is.0) (sym one.2),
-      )
-  gives_of true s t image owed st (inl done) = (
-    done.0,
-    inl (
-      done.1,
-      done.2,
-      subst (λ (x : SourceState).
-          ComesOn program done.0 s.pool owed.tx owed.args done.2 (Done x.pool done.1))
-          (sym done.3.2) done.3.1,
-    ),
-  )
-  gives_of true s t image owed st (inr undone) = (
-    opened_heap program image,
-    inr (
-      (undone.0, undone.1.0.0, undone.1.0.1),
-      ap (λ (x : SourceState). x.pool) undone.1.1,
-    ),
-  )
+  leaves_of : (marked : Bool) (o : Outcome) (s t : SourceState) (st : Standing) →
+      Finishes marked o st s t → LeavesPool marked o s.pool t.pool
+  leaves_of marked (Done pool value) s t st is = ap (λ (x : SourceState). x.pool) is
+  leaves_of marked (Trap kind) s t st is = (is.0, ap (λ (x : SourceState). x.pool) is.1)
 
   -- it is counted, and the session stands as it says
   abbrev Counted : SourceState → SourceState → Standing → Type 0
@@ -146,30 +122,26 @@ module _ (program : Program) where
   counted_as s t pool value st is =
       (ap (λ (x : SourceState). x.done) is, ap (λ (x : SourceState). x.standing) is)
 
-  pub finished_counts : (marked : Bool) (s t : SourceState) (image : Words) (owed : Pending)
-      (st : Standing) → IsConcluded marked program owed s image st t → Counted s t st
-  finished_counts false s t image owed st is = counted_as s t is.2.0 is.0 st is.2.2
-  finished_counts true s t image owed st (inl done) =
-      counted_as s t done.3.0 done.1 st done.3.2
-  finished_counts true s t image owed st (inr undone) =
-      counted_as s t s.pool s.last st undone.1.1
+  counts_of : (marked : Bool) (o : Outcome) (s t : SourceState) (st : Standing) →
+      Finishes marked o st s t → Counted s t st
+  counts_of marked (Done pool value) s t st is = counted_as s t pool value st is
+  counts_of marked (Trap kind) s t st is = counted_as s t s.pool s.last st is.1
+
+  pub finished_counts : (marked : Bool) (s t : SourceState) (owed : Pending)
+      (st : Standing) → IsConcluded marked program owed s st t → Counted s t st
+  finished_counts marked s t owed st is = counts_of marked is.1 s t st is.3
 
   one_finished :
-      (s t : SourceState) (image : Words) (owed : Pending) (st : Standing) (calls : List Pending) →
-      waiting_of st ≡ [] → (marked : Bool) → rolls_back_of program owed.tx ≡ marked →
-      IsConcluded marked program owed s image st t
+      (s t : SourceState) (owed : Pending) (st : Standing) (calls : List Pending) →
+      waiting_of st ≡ [] → IsConcluded (rolls_back_of program owed.tx) program owed s st t
       → IsPart (owed ∷ []) (waiting_of s.standing ++ calls) →
       HasDone program s t (owed ∷ []) calls
-  one_finished s t image owed st calls none marked mark is part =
-      let counts = finished_counts marked s t image owed st is in
+  one_finished s t owed st calls none is part =
+      let marked : Bool = rolls_back_of program owed.tx in
+      let counts = finished_counts marked s t owed st is in
       let more = counts.0 in
       record {
-        pool = (
-          t.pool,
-          subst (λ (b : Bool). GivesPool b program owed s.pool t.pool) (sym mark)
-              (gives_of marked s t image owed st is),
-          refl,
-        );
+        pool = (t.pool, (is.0, is.1, is.2, leaves_of marked is.1 s t st is.3), refl);
         count = omega (arith, more);
         part = subst (λ (ws : List Pending). IsPart (owed ∷ ws) (waiting_of s.standing ++ calls))
             (sym (ap waiting_of counts.1 ∙ none)) part;
@@ -201,59 +173,33 @@ module _ (program : Program) where
     cut tx is = only_standing s t (Down (Some (record { tx = tx; args = args }))) (called tx) is
         (right tx)
 
-    runs_by : (tx : ℕ) (marked : Bool) → rolls_back_of program tx ≡ marked → (a : Answer) →
-        RunsBy marked program s image tx args a t →
-        HasDone program s t (called_by (called tx) a) (called tx)
-    runs_by tx false mark (answer.Done value logged) is =
-        one_finished s t image (call tx) Ready (called tx) refl false mark (value, logged, is)
-        (right tx)
-    runs_by tx false mark (answer.Trap kind) is =
-        only_standing s t (Unusable kind) (called tx) is.1
-        (part_none (waiting_of s.standing ++ called tx))
-    runs_by tx false mark (answer.Stopped p) is = cut tx is
-    runs_by tx false mark answer.DeviceFault is = cut tx is
-    runs_by tx false mark answer.NoMemory is = cut tx is
-    runs_by tx false mark answer.RefusedNumbers is = same_done s t (called tx) is.1
-    runs_by tx false mark answer.Silent is = absurd is
-    runs_by tx false mark answer.RecoveredNone is = absurd is
-    runs_by tx false mark (answer.RecoveredRedone value logged) is = absurd is
-    runs_by tx false mark (answer.RecoveredTrap kind) is = absurd is
-    runs_by tx false mark (answer.RecoveredAborted kind) is = absurd is
-    runs_by tx false mark (answer.Shown text) is = absurd is
-    runs_by tx false mark (answer.Last n value) is = absurd is
-    runs_by tx false mark answer.RefusedDown is = absurd is
-    runs_by tx false mark (answer.RefusedUnusable kind) is = absurd is
-    runs_by tx false mark answer.RefusedUnknown is = absurd is
-    runs_by tx false mark answer.RefusedArity is = absurd is
-    runs_by tx false mark (answer.RefusedPick line) is = absurd is
-    runs_by tx false mark (answer.Aborted kind) is = absurd is
-    runs_by tx true mark (answer.Done value logged) is =
-        one_finished s t image (call tx) Ready (called tx) refl true mark
-        (inl (opened_heap program image, value, logged, is)) (right tx)
-    runs_by tx true mark (answer.Aborted kind) is =
-        one_finished s t image (call tx) Ready (called tx) refl true mark
-        (inr (kind, is)) (right tx)
-    runs_by tx true mark (answer.Trap kind) is = absurd is
-    runs_by tx true mark (answer.Stopped p) is = cut tx is
-    runs_by tx true mark answer.DeviceFault is = cut tx is
-    runs_by tx true mark answer.NoMemory is = cut tx is
-    runs_by tx true mark answer.RefusedNumbers is = same_done s t (called tx) is.1
-    runs_by tx true mark answer.Silent is = absurd is
-    runs_by tx true mark answer.RecoveredNone is = absurd is
-    runs_by tx true mark (answer.RecoveredRedone value logged) is = absurd is
-    runs_by tx true mark (answer.RecoveredTrap kind) is = absurd is
-    runs_by tx true mark (answer.RecoveredAborted kind) is = absurd is
-    runs_by tx true mark (answer.Shown text) is = absurd is
-    runs_by tx true mark (answer.Last n value) is = absurd is
-    runs_by tx true mark answer.RefusedDown is = absurd is
-    runs_by tx true mark (answer.RefusedUnusable kind) is = absurd is
-    runs_by tx true mark answer.RefusedUnknown is = absurd is
-    runs_by tx true mark answer.RefusedArity is = absurd is
-    runs_by tx true mark (answer.RefusedPick line) is = absurd is
-
     runs_done : (tx : ℕ) (a : Answer) → Runs program s image tx args a t →
         HasDone program s t (called_by (called tx) a) (called tx)
-    runs_done tx a is = runs_by tx (rolls_back_of program tx) refl a is
+    runs_done tx (answer.Done value logged) is =
+        one_finished s t (call tx) Ready (called tx) refl
+        (logged, Done is.0 value, is.1, is.2) (right tx)
+    runs_done tx (answer.Aborted kind) is =
+        one_finished s t (call tx) Ready (called tx) refl
+        (is.1.0, Trap kind, is.1.1, (is.0, is.2)) (right tx)
+    runs_done tx (answer.Trap kind) is =
+        only_standing s t (Unusable kind) (called tx) is.2
+        (part_none (waiting_of s.standing ++ called tx))
+    runs_done tx (answer.Stopped p) is = cut tx is
+    runs_done tx answer.DeviceFault is = cut tx is
+    runs_done tx answer.NoMemory is = cut tx is
+    runs_done tx answer.RefusedNumbers is = same_done s t (called tx) is.1
+    runs_done tx answer.Silent is = absurd is
+    runs_done tx answer.RecoveredNone is = absurd is
+    runs_done tx (answer.RecoveredRedone value logged) is = absurd is
+    runs_done tx (answer.RecoveredTrap kind) is = absurd is
+    runs_done tx (answer.RecoveredAborted kind) is = absurd is
+    runs_done tx (answer.Shown text) is = absurd is
+    runs_done tx (answer.Last n value) is = absurd is
+    runs_done tx answer.RefusedDown is = absurd is
+    runs_done tx (answer.RefusedUnusable kind) is = absurd is
+    runs_done tx answer.RefusedUnknown is = absurd is
+    runs_done tx answer.RefusedArity is = absurd is
+    runs_done tx (answer.RefusedPick line) is = absurd is
 
     with_done : (tx : ℕ) (same : Bool) (a : Answer) →
         CallsWith same program s image tx args a t →
@@ -370,8 +316,8 @@ module _ (program : Program) where
         let waiting : waiting_of s.standing ≡ owed ∷ [] = ap waiting_of is in
         by_retired s image true found (retired_shows s image retired.0 retired.1)
         (subst (λ (ds : List Pending). HasDone program s found ds []) (sym waiting)
-        (one_finished s found image owed (Down None) [] refl (rolls_back_of program owed.tx) refl
-        retired.2 (part_at s (Down (Some owed)) (owed ∷ []) is (part_same (owed ∷ [])))))
+        (one_finished s found owed (Down None) [] refl retired.2
+        (part_at s (Down (Some owed)) (owed ∷ []) is (part_same (owed ∷ [])))))
     finds_of owed is (inr (inr sealed)) =
         by_retired s image false found (sealed_shows s image sealed.1)
         (only_standing s found (Down (Some owed)) [] sealed.2
@@ -407,62 +353,33 @@ module _ (program : Program) where
   rests_done s t image answer.RefusedArity is = absurd is
   rests_done s t image (answer.RefusedPick line) is = absurd is
 
-  redoes_by : (owed : Pending) (s t : SourceState) (image : Words) (marked : Bool)
-      → rolls_back_of program owed.tx ≡ marked → (a : Answer) →
-      s.standing ≡ Down (Some owed) → RedoesBy marked program owed s image a t →
-      HasDone program s t (redone_by (Down (Some owed)) a) []
-  redoes_by owed s t image false mark (answer.RecoveredRedone value logged) at is =
-      one_finished s t image owed Ready [] refl false mark (value, logged, is)
-      (part_at s (Down (Some owed)) (owed ∷ []) at (part_same (owed ∷ [])))
-  redoes_by owed s t image false mark (answer.RecoveredTrap kind) at is =
-      only_standing s t (Unusable kind) [] is.1 (part_none (waiting_of s.standing ++ []))
-  redoes_by owed s t image false mark answer.RefusedNumbers at is = same_done s t [] is.1
-  redoes_by owed s t image false mark (answer.Stopped p) at is = same_done s t [] is.1
-  redoes_by owed s t image false mark answer.DeviceFault at is = same_done s t [] is
-  redoes_by owed s t image false mark answer.NoMemory at is = same_done s t [] is
-  redoes_by owed s t image false mark answer.Silent at is = absurd is
-  redoes_by owed s t image false mark (answer.Done value logged) at is = absurd is
-  redoes_by owed s t image false mark (answer.Trap kind) at is = absurd is
-  redoes_by owed s t image false mark (answer.Aborted kind) at is = absurd is
-  redoes_by owed s t image false mark answer.RecoveredNone at is = absurd is
-  redoes_by owed s t image false mark (answer.Shown text) at is = absurd is
-  redoes_by owed s t image false mark (answer.Last n value) at is = absurd is
-  redoes_by owed s t image false mark answer.RefusedDown at is = absurd is
-  redoes_by owed s t image false mark (answer.RefusedUnusable kind) at is = absurd is
-  redoes_by owed s t image false mark answer.RefusedUnknown at is = absurd is
-  redoes_by owed s t image false mark answer.RefusedArity at is = absurd is
-  redoes_by owed s t image false mark (answer.RefusedPick line) at is = absurd is
-  redoes_by owed s t image false mark (answer.RecoveredAborted kind) at is = absurd is
-  redoes_by owed s t image true mark (answer.RecoveredRedone value logged) at is =
-      one_finished s t image owed Ready [] refl true mark
-      (inl (opened_heap program image, value, logged, is))
-      (part_at s (Down (Some owed)) (owed ∷ []) at (part_same (owed ∷ [])))
-  redoes_by owed s t image true mark (answer.RecoveredAborted kind) at is =
-      one_finished s t image owed Ready [] refl true mark (inr (kind, is))
-      (part_at s (Down (Some owed)) (owed ∷ []) at (part_same (owed ∷ [])))
-  redoes_by owed s t image true mark answer.RefusedNumbers at is = same_done s t [] is.1
-  redoes_by owed s t image true mark (answer.Stopped p) at is = same_done s t [] is.1
-  redoes_by owed s t image true mark answer.DeviceFault at is = same_done s t [] is
-  redoes_by owed s t image true mark answer.NoMemory at is = same_done s t [] is
-  redoes_by owed s t image true mark answer.Silent at is = absurd is
-  redoes_by owed s t image true mark (answer.Done value logged) at is = absurd is
-  redoes_by owed s t image true mark (answer.Trap kind) at is = absurd is
-  redoes_by owed s t image true mark (answer.Aborted kind) at is = absurd is
-  redoes_by owed s t image true mark answer.RecoveredNone at is = absurd is
-  redoes_by owed s t image true mark (answer.Shown text) at is = absurd is
-  redoes_by owed s t image true mark (answer.Last n value) at is = absurd is
-  redoes_by owed s t image true mark answer.RefusedDown at is = absurd is
-  redoes_by owed s t image true mark (answer.RefusedUnusable kind) at is = absurd is
-  redoes_by owed s t image true mark answer.RefusedUnknown at is = absurd is
-  redoes_by owed s t image true mark answer.RefusedArity at is = absurd is
-  redoes_by owed s t image true mark (answer.RefusedPick line) at is = absurd is
-  redoes_by owed s t image true mark (answer.RecoveredTrap kind) at is = absurd is
-
   redoes_done : (owed : Pending) (s t : SourceState) (image : Words) (a : Answer) →
       s.standing ≡ Down (Some owed) → Redoes program owed s image a t →
       HasDone program s t (redone_by (Down (Some owed)) a) []
-  redoes_done owed s t image a at is =
-      redoes_by owed s t image (rolls_back_of program owed.tx) refl a at is
+  redoes_done owed s t image (answer.RecoveredRedone value logged) at is =
+      one_finished s t owed Ready [] refl (logged, Done is.0 value, is.1, is.2)
+      (part_at s (Down (Some owed)) (owed ∷ []) at (part_same (owed ∷ [])))
+  redoes_done owed s t image (answer.RecoveredAborted kind) at is =
+      one_finished s t owed Ready [] refl (is.1.0, Trap kind, is.1.1, (is.0, is.2))
+      (part_at s (Down (Some owed)) (owed ∷ []) at (part_same (owed ∷ [])))
+  redoes_done owed s t image (answer.RecoveredTrap kind) at is =
+      only_standing s t (Unusable kind) [] is.2 (part_none (waiting_of s.standing ++ []))
+  redoes_done owed s t image answer.RefusedNumbers at is = same_done s t [] is.1
+  redoes_done owed s t image (answer.Stopped p) at is = same_done s t [] is.1
+  redoes_done owed s t image answer.DeviceFault at is = same_done s t [] is
+  redoes_done owed s t image answer.NoMemory at is = same_done s t [] is
+  redoes_done owed s t image answer.Silent at is = absurd is
+  redoes_done owed s t image (answer.Done value logged) at is = absurd is
+  redoes_done owed s t image (answer.Trap kind) at is = absurd is
+  redoes_done owed s t image (answer.Aborted kind) at is = absurd is
+  redoes_done owed s t image answer.RecoveredNone at is = absurd is
+  redoes_done owed s t image (answer.Shown text) at is = absurd is
+  redoes_done owed s t image (answer.Last n value) at is = absurd is
+  redoes_done owed s t image answer.RefusedDown at is = absurd is
+  redoes_done owed s t image (answer.RefusedUnusable kind) at is = absurd is
+  redoes_done owed s t image answer.RefusedUnknown at is = absurd is
+  redoes_done owed s t image answer.RefusedArity at is = absurd is
+  redoes_done owed s t image (answer.RefusedPick line) at is = absurd is
 
   recovers_done : (s t : SourceState) (image : Words) (a : Answer) (st : Standing)
       →
@@ -502,7 +419,7 @@ module _ (program : Program) where
         absurd (redone_none found (down_none found s fresh.1) recovers)
     redone_parts s found (Down (Some owed)) is (inr (inl retired)) recovers =
         absurd (redone_none found
-        (finished_counts (rolls_back_of program owed.tx) s found image owed (Down None) retired.2).1
+        (finished_counts (rolls_back_of program owed.tx) s found owed (Down None) retired.2).1
         recovers)
     redone_parts s found (Down (Some owed)) is (inr (inr sealed)) recovers =
         ap (λ (b : Bool). (if b then waiting_of s.standing else []) ++ waiting_of found.standing)

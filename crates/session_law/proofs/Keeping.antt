@@ -41,7 +41,7 @@ use Rattle.cnvm_session.specs.Pool.{sizes_of}
 use Rattle.session_law.specs.Agrees.{Agrees}
 use Rattle.session_law.specs.State.{Pending, Standing, Ready, Down, Unusable, SourceState}
 use Rattle.session_law.specs.State.{standing_as, undone_as}
-use Rattle.session_law.specs.Answers.{FindsOf, FindsOwed, Rests, RedoesUnmarked, RedoesMarked}
+use Rattle.session_law.specs.Answers.{FindsOf, FindsOwed, Rests}
 use Rattle.session_law.specs.Answers.{RedoesBy, Recovers, Powers}
 use Rattle.session_law.specs.Holds.{HoldsPool, IsResting, OwesNone, OwesOne, OwesMarked, OwesBy}
 use Rattle.session_law.specs.Holds.{Holds}
@@ -279,7 +279,7 @@ module _ (program : Program) (super : Words) (agrees : Agrees program) (h : Word
           → (f.standing ≡ Down None) × Counted f
       finds_retired seal done f (inl fresh) = absurd (fresh.0 seal)
       finds_retired seal done f (inr (inl retired)) =
-          let counts = finished_counts program (rolls_back_of program owed.tx) s f one owed
+          let counts = finished_counts program (rolls_back_of program owed.tx) s f owed
           (Down None) retired.2 in
           (counts.1, counts.0)
       finds_retired seal done f (inr (inr sealed)) =
@@ -341,7 +341,7 @@ module _ (program : Program) (super : Words) (agrees : Agrees program) (h : Word
               seen) done w less
               ∙ same_heap w less
 
-          at : (x : Answer) → Back x → RedoesMarked program owed waiting one x t
+          at : (x : Answer) → Back x → RedoesBy true program owed waiting one x t
           at x back = redone_at sealed.sealed sealed.done true mark x back
 
           stays : (r : AbortAnswer) → IsAbortRedone r program.image e b k k1 → t ≡ waiting
@@ -357,7 +357,7 @@ module _ (program : Program) (super : Words) (agrees : Agrees program) (h : Word
               absurd (not_finished s t (answer.RecoveredRedone v l)
               (ap (λ (x : SourceState). x.done) done.2) (λ rolls. rolls) only)
           redone_keeps (aborted.Aborted kind) redone p only =
-              let same = (at (answer.RecoveredAborted kind) p).1 in
+              let same = (at (answer.RecoveredAborted kind) p).2 in
               let back = marked_redo_restores program super agrees e s owed heap owes.end
               owes.effects on rest owes.holds owes.takes owes.words owes.ran mark sealed kept kind
               (aborted.Aborted kind) b k k1 refl redone in
@@ -394,7 +394,8 @@ module _ (program : Program) (super : Words) (agrees : Agrees program) (h : Word
             → IsMarkedCut pool call heap (heap_end heap owes.effects) s.last x one → Keeps s b t
         from_marked (Halted v) ends (inl before) = marked_before before
         from_marked (Halted v) ends (inr (inl sealed)) =
-            from_owed (any_last pool call heap _ one sealed) (subst (λ (y : End). KeepsLast y s.last one) (sym ends) tt)
+            from_owed (any_last pool call heap _ one sealed)
+            (subst (λ (y : End). KeepsLast y s.last one) (sym ends) tt)
         from_marked (Halted v) ends (inr (inr seen)) =
             from_retired seen.seal_is seen.good.done seen.good.unsealed
         from_marked (Trapped kind) ends (inl before) = marked_before before
@@ -422,8 +423,8 @@ module _ (program : Program) (super : Words) (agrees : Agrees program) (h : Word
               → image MARK ≡ pos 0 → image SEAL ≢ pos (suc s.done) → ⊥
           never image (inl owed) mark unsealed = unsealed owed.sealed
           never image (inr seen) mark unsealed =
-              end_sealed program super call owes.heap (heap_end owes.heap owes.effects) owes.end image seen
-              mark unsealed
+              end_sealed program super call owes.heap (heap_end owes.heap owes.effects) owes.end
+              image seen mark unsealed
 
           later : (r : RecoverAnswer) → IsRecovered r program.image e b k k1
               → KeepsBy false b waiting
@@ -433,7 +434,7 @@ module _ (program : Program) (super : Words) (agrees : Agrees program) (h : Word
               owes.holds owes.takes owes.words owes.ran mark sealed r b k k1 did image seen)
               marked unsealed)
 
-          from : (x : Answer) → Back x → RedoesUnmarked program owed waiting one x t
+          from : (x : Answer) → Back x → RedoesBy false program owed waiting one x t
           from x back = redone_at sealed.sealed sealed.done false mark x back
 
           remains : (r : RecoverAnswer) → IsRecovered r program.image e b k k1 → t ≡ waiting
@@ -449,7 +450,7 @@ module _ (program : Program) (super : Words) (agrees : Agrees program) (h : Word
               absurd (not_finished s t (answer.RecoveredRedone v l)
               (ap (λ (x : SourceState). x.done) done.2) (λ rolls. rolls) only)
           rerun_keeps (recovered.Trap kind) did p only =
-              unusable kind (from (answer.RecoveredTrap kind) p).1
+              unusable kind (from (answer.RecoveredTrap kind) p).2
           rerun_keeps (recovered.Unusable kind) did p only = unusable kind p.2
           rerun_keeps recovered.Numbers did p only =
               remains recovered.Numbers did (from answer.RefusedNumbers p).1

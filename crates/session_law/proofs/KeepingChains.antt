@@ -39,7 +39,7 @@ use Rattle.session_law.specs.Words.{AreWords}
 use Rattle.session_law.specs.Agrees.{Agrees}
 use Rattle.session_law.specs.State.{Pending, Standing, Ready, Down, Unusable, SourceState}
 use Rattle.session_law.specs.State.{standing_as, undone_as}
-use Rattle.session_law.specs.Answers.{RunsUnmarked, RunsMarked, RunsBy, CallsWith, CallsTo}
+use Rattle.session_law.specs.Answers.{RunsBy, CallsWith, CallsTo}
 use Rattle.session_law.specs.Answers.{CallsNamed, Calls, Tells, Shows, Lasts, Powers, Answers}
 use Rattle.session_law.specs.Holds.{IsResting, HoldsAs, Holds}
 use Rattle.session_law.specs.History.{done_by}
@@ -136,13 +136,13 @@ module _ (program : Program) (super : Words) (agrees : Agrees program) (h : Word
                 absurd (other (did.numbers resting.on (stands_numbers image good numbers)).0)
 
         unmarked_keeps : (r : CallAnswer) → IsTxCalled r program.image tx args d b k k1
-            → RunsUnmarked program s image tx args (answer_of_call r) t
+            → RunsBy false program s image tx args (answer_of_call r) t
             → FinishesNone s (answer_of_call r) t → Kept s b t
         unmarked_keeps (called.Done v l) did runs only =
             absurd (not_finished s t (answer.Done v l)
             (ap (λ (x : SourceState). x.done) runs.2) (λ rolls. rolls) only)
         unmarked_keeps (called.Trap kind) did runs only =
-            leaf program super agrees h s t (standing_as (Unusable kind) s) b runs.1 refl refl tt
+            leaf program super agrees h s t (standing_as (Unusable kind) s) b runs.2 refl refl tt
         unmarked_keeps (called.Off p) did runs only =
             cut_off (called.Off p) did (λ clash. absurd cc) runs
         unmarked_keeps called.Failed did runs only =
@@ -196,15 +196,15 @@ module _ (program : Program) (super : Words) (agrees : Agrees program) (h : Word
                 absurd cc
 
         marked_keeps : (r : AbortAnswer) → IsAbortCalled r program.image tx args d b k k1
-            → RunsMarked program s image tx args (answer_of_marked_call r) t
+            → RunsBy true program s image tx args (answer_of_marked_call r) t
             → FinishesNone s (answer_of_marked_call r) t → Kept s b t
         marked_keeps (aborted.Done v l) did runs only =
             absurd (not_finished s t (answer.Done v l)
             (ap (λ (x : SourceState). x.done) runs.2) (λ rolls. rolls) only)
         marked_keeps (aborted.Aborted kind) did runs only =
             let rested : IsResting program super b (undone_as Ready s) =
-            (subst (λ (x : SourceState). Holds program super n b x) runs.1 holds).1 in
-            leaf program super agrees h s t (undone_as Ready s) b runs.1 refl refl
+            (subst (λ (x : SourceState). Holds program super n b x) runs.2 holds).1 in
+            leaf program super agrees h s t (undone_as Ready s) b runs.2 refl refl
             (resting_whole program super agrees h b (undone_as Ready s) rested
             (λ w less. (back kind did).heap w less ∙ same_heap w less))
         marked_keeps (aborted.Off p) did runs only =
@@ -223,11 +223,11 @@ module _ (program : Program) (super : Words) (agrees : Agrees program) (h : Word
           → RunsBy marked program s image tx args a t → Kept s b t
       by_mark false mark did runs =
           unmarked_keeps mark did.tx_answer did.called
-          (subst (λ (x : Answer). RunsUnmarked program s image tx args x t) did.answer runs)
+          (subst (λ (x : Answer). RunsBy false program s image tx args x t) did.answer runs)
           (subst (λ (x : Answer). FinishesNone s x t) did.answer none)
       by_mark true mark did runs =
           marked_keeps mark did.tx_answer did.called
-          (subst (λ (x : Answer). RunsMarked program s image tx args x t) did.answer runs)
+          (subst (λ (x : Answer). RunsBy true program s image tx args x t) did.answer runs)
           (subst (λ (x : Answer). FinishesNone s x t) did.answer none)
 
     by_count : (tx count : ℕ) (same : Bool) → (count == length args) ≡ same

@@ -1,6 +1,7 @@
 pub mod Words
 pub mod Coming
 pub mod Logging
+pub mod FullLogs
 pub mod Scripts
 pub mod Ones
 pub mod Retired
@@ -12,9 +13,8 @@ pub mod Restoring
 pub mod Resting
 pub mod Calls
 pub mod Recoveries
-pub mod MarkedRuns
-pub mod MarkedCounts
 pub mod MarkedExact
+pub mod MarkedRuns
 pub mod MarkedCalls
 pub mod MarkedRecoveries
 pub mod Powers

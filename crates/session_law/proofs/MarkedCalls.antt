@@ -1,7 +1,7 @@
 -- A call of a marked transaction on a device at rest is answered as the source says.
 use Rattle.std.proofs.Common.{◌≡◌, ℕ, suc, ◌+◌, ◌^◌, ◌<◌, ◌≤◌, Bool, true, false, ◌&&◌}
-use Rattle.std.proofs.Common.{if◌then◌else◌, List, length, Some, ℤ, pos, refl}
-use Rattle.std.proofs.Common.{sym, ap, ◌∙◌, subst, arith}
+use Rattle.std.proofs.Common.{List, length, Some, ℤ, pos, refl}
+use Rattle.std.proofs.Common.{sym, ◌∙◌, subst, arith}
 use Rattle.cache_model.specs.Event.{CacheEvent}
 use Rattle.cache_model.specs.Cache.{Words, view}
 use Rattle.cache_model.specs.Play.{play}
@@ -12,16 +12,13 @@ use Rattle.pmem.proofs.Refused.{all_cache, all_on}
 use Rattle.pool_layout.specs.declared.places.TheConstants.{LAST, DONE, ATTEMPT}
 use Rattle.pool_layout.specs.declared.limits.Sizes.{Sizes}
 use Rattle.pool_layout.specs.Places as places
-use Rattle.pool_layout.specs.Restored.{restored}
 use Rattle.pool_layout.specs.Log.{count}
 use Rattle.pool_layout.specs.Good.{Pool, Good}
-use Rattle.clobber_log.specs.Logs.{attempt_in}
 use Rattle.pool_map.specs.declared.trap.TrapKind.{TrapKind}
-use Rattle.c_meaning.specs.Transaction.{Done, Trap}
 use Rattle.pm_machine.specs.declared.effect.Effect.{Effect}
 use Rattle.pm_machine.specs.declared.effect.End.{End}
 use Rattle.pm_machine.specs.declared.effect.End.TheVariants.{Halted, Trapped}
-use Rattle.pm_machine.specs.Effects.{heap_end, records_end}
+use Rattle.pm_machine.specs.Effects.{heap_end}
 use Rattle.pm_machine.specs.Machine.{Finished, start}
 use Rattle.pm_machine.specs.Runs.{heap_in}
 use Rattle.crash_law.specs.Pools.{Call, IsRetired}
@@ -49,23 +46,22 @@ use Rattle.cnvm_session.specs.Commands.{tx_parameters}
 use Rattle.cnvm_session.specs.Marks.{rolls_back_of}
 use Rattle.cnvm_session.specs.Outcomes.{answer_of_marked_call, mode_of_marked_call}
 use Rattle.cnvm_session.specs.Pool.{sizes_of}
-use Rattle.session_law.specs.Source.{means}
+use Rattle.session_law.specs.Source.{outcome_with, source_pool}
 use Rattle.session_law.specs.Words.{AreWords}
 use Rattle.session_law.specs.Agrees.{Agrees, RunsAs}
 use Rattle.session_law.specs.State.{Pending, Standing, Ready, Down, SourceState, standing_as}
 use Rattle.session_law.specs.State.{done_with, undone_as}
-use Rattle.session_law.specs.Opened.{opened_heap}
-use Rattle.session_law.specs.Marked.{ComesOn}
-use Rattle.session_law.specs.Answers.{RunsMarked}
+use Rattle.session_law.specs.Answers.{RunsBy}
 use Rattle.session_law.specs.Holds.{IsResting, OwesMarked, OwesBy, HoldsAs, Holds}
 use Rattle.session_law.specs.Law.{IsRolledBack, TakesBy}
 use Rattle.session_law.proofs.Words.{held_words}
 use Rattle.session_law.proofs.Ones.{rest_one, at_view}
 use Rattle.session_law.proofs.Retired.{count_at, retired_none}
-use Rattle.session_law.proofs.Reading.{numbers_small, stands_ready, stands_numbers, is_unsealed}
+use Rattle.session_law.proofs.Reading.{numbers_small, stands_ready, stands_numbers}
 use Rattle.session_law.proofs.Restoring.{Restores, cut_restores}
-use Rattle.session_law.proofs.Resting.{resting_at, HasHalted}
-use Rattle.session_law.proofs.MarkedRuns.{MarkedMeant, marked_run, marked_done, marked_trapped}
+use Rattle.session_law.proofs.Resting.{resting_at, HasHalted, Meant, run_halted, run_done}
+use Rattle.session_law.proofs.Resting.{run_trapped}
+use Rattle.session_law.proofs.MarkedRuns.{marked_run, marked_meant}
 
 module _ (program : Program) (super : Words) (agrees : Agrees program)
     (d : Device) (s : SourceState) (resting : IsResting program super d s)
@@ -95,7 +91,7 @@ module _ (program : Program) (super : Words) (agrees : Agrees program)
 
   run : (end : End) × (es : List Effect)
       × (mrun_marked program.image program.image.parts.most h tx args ≡ Finished end es)
-      × MarkedMeant program s owed h end es
+      × Meant true program (source_pool program h) owed h end es
   run = marked_run program s owed h resting.holds runs
 
   abbrev end : End
@@ -104,8 +100,8 @@ module _ (program : Program) (super : Words) (agrees : Agrees program)
   abbrev es : List Effect
   es = run.1
 
-  own : MarkedMeant program s owed h end es
-  own = run.3
+  own : Meant true program s.pool owed h end es
+  own = marked_meant program s owed h resting.holds runs end es run.2
 
   few : (tx < 2 ^ 63) × (length args ≤ 22)
   few = agrees.few tx (length args) takes
@@ -120,13 +116,8 @@ module _ (program : Program) (super : Words) (agrees : Agrees program)
   empty = sym (count_at z (view d.cache) good.attempt good.attempt_is
       (let fits = good.attempt_fits in omega arith)) ∙ resting.empty
 
-  -- the heap of the image that the call finds
-  heap_is : opened_heap program (view d.cache) ≡ h
-  heap_is = ap (λ (b : Bool). if b then restored (places.pool_of z) (attempt_in z (view d.cache))
-      (view d.cache) else h) (is_unsealed (view d.cache) s.done good.done good.unsealed)
-
   abbrev Answered : Answer → Mode → Device → Type 0
-  Answered a n b = (t : SourceState) × RunsMarked program s (view d.cache) tx args a t
+  Answered a n b = (t : SourceState) × RunsBy true program s (view d.cache) tx args a t
       × Holds program super n b t
 
   module _ (small : (s.done < 2 ^ 62) × (good.attempt < 2 ^ 62)) (b : Device)
@@ -144,7 +135,7 @@ module _ (program : Program) (super : Words) (agrees : Agrees program)
         → Images (Cut last end) b.cache × AbortTells r end es (Images (Ended end) b.cache)
     left r k k1 called =
         call_leaves program.image super tx args d b (view d.cache) s.done end es few.0 few.1 small.0
-        only good small.1 empty run.2 own.tidy r k k1 called
+        only good small.1 empty run.2 own.sound r k k1 called
 
     owes : (r : AbortAnswer) (k k1 : ℕ) → AbortCalled r program.image tx args d b k k1
         → OwesMarked program super owed b (standing_as (Down (Some owed)) s)
@@ -177,7 +168,7 @@ module _ (program : Program) (super : Words) (agrees : Agrees program)
     played_rest all =
         subst IsAtRest (sym (all_cache events d b all))
         ((cut_marked program.image super tx args d.cache (view d.cache) s.done end es few.0 few.1
-        small.0 only good small.1 empty run.2 own.tidy).2 resting.rest)
+        small.0 only good small.1 empty run.2 own.sound).2 resting.rest)
 
     done : (v : ℤ) (l k k1 : ℕ) → AbortCalled (aborted.Done v l) program.image tx args d b k k1
         → Answered (answer.Done v l) mode.Ready b
@@ -185,8 +176,8 @@ module _ (program : Program) (super : Words) (agrees : Agrees program)
         let all : PlaysAll d events b = ran.0.played in
         let tells = (left (aborted.Done v l) k k1 ran).1 in
         let is : end ≡ Halted v = tells.0 in
-        let has : HasHalted program (means program s.pool tx args) v (heap_end h es) =
-        own.halts v is in
+        let has : HasHalted program (outcome_with program s.pool tx args own.logged) v
+        (heap_end h es) = run_halted true program s.pool owed h end es own v is in
         let ended : Images (Ended (Halted v)) b.cache =
         subst (λ (e : End). Images (Ended e) b.cache) is tells.2 in
         let retired : IsRetired pool (suc s.done) (heap_end h es) v (view b.cache) =
@@ -194,13 +185,7 @@ module _ (program : Program) (super : Words) (agrees : Agrees program)
         let seen = retired.done in
         let t : SourceState = done_with has.pool v Ready s in (
           t,
-          (
-            has.pool,
-            subst (λ (g : Words). ComesOn program g s.pool tx args l (Done has.pool v))
-                (sym heap_is)
-                (marked_done program s owed h end es resting.holds run.2 own v is l tells.1),
-            refl,
-          ),
+          (has.pool, run_done true program s.pool owed h end es own v is l tells.1, refl),
           (
             refl,
             resting_at program super b t (heap_end h es) (all_on events d b all ∙ resting.on)
@@ -224,15 +209,7 @@ module _ (program : Program) (super : Words) (agrees : Agrees program)
         at_view (Ended (Trapped kind)) b.cache ended in
         let t : SourceState = undone_as Ready s in (
           t,
-          (
-            (
-              records_end 0 es,
-              subst (λ (g : Words).
-                  ComesOn program g s.pool tx args (records_end 0 es) (Trap kind)) (sym heap_is)
-                  (marked_trapped program s owed h end es resting.holds run.2 own kind is),
-            ),
-            refl,
-          ),
+          (refl, run_trapped true program s.pool owed h end es own kind is, refl),
           (
             refl,
             resting_at program super b t h (all_on events d b all ∙ resting.on)
@@ -284,7 +261,7 @@ module _ (program : Program) (super : Words) (agrees : Agrees program)
   unfolding good
   marked_events small p less =
       let ran = (call_owes program.image super tx args d.cache (view d.cache) s.done end es few.0
-      few.1 small.0 only good small.1 empty run.2 own.tidy).0.0 in
+      few.1 small.0 only good small.1 empty run.2 own.sound).0.0 in
       subst (Misses p) (sym ran) (misses_run z good.attempt 0 p h es less)
 
   -- a call that is aborted leaves the heap from before it
@@ -323,7 +300,7 @@ module _ (program : Program) (super : Words) (agrees : Agrees program)
           good = good;
           a_fits = small.1;
           empty = empty;
-        }) few.1 run.2 own.tidy r k k1 ends called,
+        }) few.1 run.2 own.sound r k k1 ends called,
   )
 
   pub marked_call_runs : (mark : rolls_back_of program tx ≡ true) (r : AbortAnswer) (b : Device)

@@ -1,6 +1,6 @@
 -- How a marked transaction that a power cut left owed is recovered.
 use Rattle.std.proofs.Common.{◌≡◌, inl, inr, ℕ, suc, ◌+◌, ◌^◌, ◌<◌, ◌≤◌, Bool, true, false}
-use Rattle.std.proofs.Common.{if◌then◌else◌, List, length, Some, ℤ, refl, sym, ap, ◌∙◌, subst}
+use Rattle.std.proofs.Common.{List, length, Some, ℤ, refl, sym, ap, ◌∙◌, subst}
 use Rattle.std.proofs.Common.{arith}
 use Rattle.cache_model.specs.Event.{CacheEvent}
 use Rattle.cache_model.specs.Cache.{Words, view}
@@ -10,21 +10,17 @@ use Rattle.pmem.specs.Played.{PlaysAll}
 use Rattle.pmem.specs.declared.answer.Phase.TheVariants as phase
 use Rattle.pmem.proofs.Refused.{all_cache, all_on}
 use Rattle.pool_layout.specs.declared.places.TheConstants.{LAST}
-use Rattle.pool_layout.specs.declared.places.Place.TheVariants.{Heap}
 use Rattle.pool_layout.specs.declared.limits.Sizes.{Sizes}
-use Rattle.pool_layout.specs.Sizes.{heap_words}
 use Rattle.pool_layout.specs.Places as places
-use Rattle.pool_layout.specs.Restored.{restored}
 use Rattle.pool_layout.specs.Log.{count}
 use Rattle.pool_layout.specs.Good.{Pool}
 use Rattle.pool_map.specs.declared.trap.TrapKind.{TrapKind}
-use Rattle.c_meaning.specs.Transaction.{Done, Trap}
-use Rattle.clobber_log.specs.Logs.{attempt_of, attempt_in, count_in}
+use Rattle.clobber_log.specs.Logs.{count_in}
 use Rattle.args_log.specs.Pending as record_of
 use Rattle.pm_machine.specs.declared.effect.Effect.{Effect}
 use Rattle.pm_machine.specs.declared.effect.End.{End}
 use Rattle.pm_machine.specs.declared.effect.End.TheVariants.{Halted, Trapped}
-use Rattle.pm_machine.specs.Effects.{heap_end, records_end}
+use Rattle.pm_machine.specs.Effects.{heap_end}
 use Rattle.pm_machine.specs.Machine.{Finished}
 use Rattle.crash_law.specs.Pools.{Call, IsRetired}
 use Rattle.crash_law.specs.Law.{IsAtRest}
@@ -52,23 +48,22 @@ use Rattle.cnvm_session.specs.Commands.{tx_parameters}
 use Rattle.cnvm_session.specs.Marks.{rolls_back_of}
 use Rattle.cnvm_session.specs.Outcomes.{answer_of_marked_recovery, mode_of_marked_recovery}
 use Rattle.cnvm_session.specs.Pool.{sizes_of}
-use Rattle.session_law.specs.Source.{means}
+use Rattle.session_law.specs.Source.{outcome_with}
 use Rattle.session_law.specs.Words.{AreWords}
 use Rattle.session_law.specs.Agrees.{Agrees}
 use Rattle.session_law.specs.State.{Pending, Ready, Down, SourceState, standing_as, done_with}
 use Rattle.session_law.specs.State.{undone_as}
-use Rattle.session_law.specs.Opened.{opened_heap}
-use Rattle.session_law.specs.Answers.{RedoesMarked}
+use Rattle.session_law.specs.Answers.{RedoesBy}
 use Rattle.session_law.specs.Holds.{HoldsPool, OwesBy, Holds}
 use Rattle.session_law.specs.Law.{IsRolledBack}
 use Rattle.session_law.proofs.Words.{held_words}
 use Rattle.session_law.proofs.Ones.{rest_one, rest_images, at_view}
-use Rattle.session_law.proofs.Retired.{attempt_small, count_at, retired_none}
-use Rattle.session_law.proofs.Reading.{is_owed, names_one, recorded_is}
-use Rattle.session_law.proofs.Resting.{resting_at, HasHalted}
+use Rattle.session_law.proofs.Retired.{count_at, retired_none}
+use Rattle.session_law.proofs.Reading.{names_one, recorded_is}
+use Rattle.session_law.proofs.Resting.{resting_at, HasHalted, Meant, run_halted, run_done}
+use Rattle.session_law.proofs.Resting.{run_trapped}
 use Rattle.session_law.proofs.Recoveries.{numbers_at}
-use Rattle.session_law.proofs.MarkedRuns.{MarkedMeant, marked_meant, comes_same, marked_done}
-use Rattle.session_law.proofs.MarkedRuns.{marked_trapped}
+use Rattle.session_law.proofs.MarkedRuns.{marked_meant}
 
 -- where the call is undone, the last value is as it was
 abbrev pub KeepsLast : End → (last : ℤ) → Words → Type 0
@@ -111,10 +106,10 @@ module _ (program : Program) (super : Words) (agrees : Agrees program)
   waiting = standing_as (Down (Some owed)) s
 
   abbrev Redone : Answer → Mode → Device → Type 0
-  Redone a n b = (t : SourceState) × RedoesMarked program owed waiting image a t
+  Redone a n b = (t : SourceState) × RedoesBy true program owed waiting image a t
       × Holds program super n b t
 
-  own : MarkedMeant program s owed h end es
+  own : Meant true program s.pool owed h end es
   own = marked_meant program s owed h holds
       (agrees.runs h owed.tx owed.args holds.headers (held_words program h s holds) words takes)
       end es ran
@@ -130,18 +125,6 @@ module _ (program : Program) (super : Words) (agrees : Agrees program)
 
   abbrev Left : End → Words → Type 0
   Left x = IsMarkedLeft its_pool call h (heap_end h es) (image LAST) x
-
-  -- the heap that the image's log restores
-  heap_is : (w : ℕ) → w < heap_words sizes → opened_heap program image w ≡ h w
-  heap_is w less =
-      ap (λ (g : Words). g w) (ap (λ (b : Bool).
-      if b then restored (places.pool_of sizes) (attempt_in sizes image) image
-      else (λ v. image (places.at (places.pool_of sizes) (Heap v))))
-      (is_owed image s.done sealed.done sealed.sealed))
-      ∙ ap (λ (a : ℕ). restored (places.pool_of sizes) a image w)
-      (ap attempt_of sealed.attempt_is ∙ attempt_small sealed.attempt
-      (let fits = sealed.attempt_fits in omega arith))
-      ∙ sealed.restores w less (inr refl)
 
   owing : (b : Device) → Images (Left end) b.cache → Holds program super mode.Down b waiting
   owing b left = (
@@ -172,13 +155,13 @@ module _ (program : Program) (super : Words) (agrees : Agrees program)
         → AbortRedid r program.image owed.tx owed.args m e b k k1
         → Images (Left end) b.cache × AbortTells r end es (Images (Ended end) b.cache)
     leaves_it r k k1 redid = redo_leaves program.image super owed.tx owed.args e b image s.done h
-        end es few only sealed ran own.tidy m counted_m space r k k1 redid
+        end es few only sealed ran own.sound m counted_m space r k k1 redid
 
     played_rest : PlaysAll e list b → IsAtRest b.cache
     played_rest all =
         subst IsAtRest (sym (all_cache list e b all))
         ((cut_remarked program.image super owed.tx owed.args e.cache image s.done h end es few
-        only sealed ran own.tidy m counted_m space).2 rest)
+        only sealed ran own.sound m counted_m space).2 rest)
 
     redone : (v : ℤ) (l k k1 : ℕ)
         → AbortRedid (aborted.Done v l) program.image owed.tx owed.args m e b k k1
@@ -187,8 +170,8 @@ module _ (program : Program) (super : Words) (agrees : Agrees program)
         let all : PlaysAll e list b = redid.0.played in
         let tells = (leaves_it (aborted.Done v l) k k1 redid).1 in
         let is : end ≡ Halted v = tells.0 in
-        let has : HasHalted program (means program s.pool owed.tx owed.args) v
-        (heap_end h es) = own.halts v is in
+        let has : HasHalted program (outcome_with program s.pool owed.tx owed.args own.logged) v
+        (heap_end h es) = run_halted true program s.pool owed h end es own v is in
         let ended : Images (Ended (Halted v)) b.cache =
         subst (λ (x : End). Images (Ended x) b.cache) is tells.2 in
         let retired : IsRetired its_pool (suc s.done) (heap_end h es) v (view b.cache) =
@@ -196,13 +179,7 @@ module _ (program : Program) (super : Words) (agrees : Agrees program)
         let seen = retired.done in
         let t : SourceState = done_with has.pool v Ready s in (
           t,
-          (
-            has.pool,
-            comes_same program (opened_heap program image) h s.pool owed.tx owed.args l
-                (Done has.pool v) heap_is
-                (marked_done program s owed h end es holds ran own v is l tells.1),
-            refl,
-          ),
+          (has.pool, run_done true program s.pool owed h end es own v is l tells.1, refl),
           (
             refl,
             resting_at program super b t (heap_end h es) (all_on list e b all ∙ on)
@@ -231,15 +208,7 @@ module _ (program : Program) (super : Words) (agrees : Agrees program)
         at_view (Ended (Trapped kind)) b.cache ended in
         let t : SourceState = undone_as Ready s in (
           t,
-          (
-            (
-              records_end 0 es,
-              comes_same program (opened_heap program image) h s.pool owed.tx owed.args
-                  (records_end 0 es) (Trap kind) heap_is
-                  (marked_trapped program s owed h end es holds ran own kind is),
-            ),
-            refl,
-          ),
+          (refl, run_trapped true program s.pool owed h end es own kind is, refl),
           (
             refl,
             resting_at program super b t h (all_on list e b all ∙ on) (played_rest all)
@@ -375,7 +344,7 @@ module _ (program : Program) (super : Words) (agrees : Agrees program)
       go true out = absurd (subst IsPlayedOut (is.numbers on sealed.mark out).0 ends)
       go false in_range =
           redo_takes program.image super owed.tx owed.args e b image s.done h end es few only
-          sealed ran own.tidy m counted_m
+          sealed ran own.sound m counted_m
           (numbers_at sizes image sealed.attempt sealed.attempt_is
           (let fits = sealed.attempt_fits in omega arith) in_range) r k k1 ends
           (its_call r b k k1 in_range is)

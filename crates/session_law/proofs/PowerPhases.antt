@@ -44,7 +44,7 @@ use Rattle.cnvm_session.specs.Outcomes as outcomes
 use Rattle.cnvm_session.specs.Pool.{sizes_of}
 use Rattle.session_law.specs.Agrees.{Agrees}
 use Rattle.session_law.specs.State.{Pending, Standing, Ready, Down, Unusable, SourceState}
-use Rattle.session_law.specs.Answers.{HasSeal, FindsOwed, RedoesBy, Recovers, Powers}
+use Rattle.session_law.specs.Answers.{HasSeal, FindsOwed, Recovers, Powers}
 use Rattle.session_law.specs.Opened.{opened}
 use Rattle.session_law.specs.Holds.{OwesNone, OwesOne, OwesMarked, OwesBy, HoldsAs, Holds}
 use Rattle.session_law.specs.Ran.{Moment, SessionStep}
@@ -194,8 +194,8 @@ module _ (program : Program) (super : Words) (agrees : Agrees program)
       by_standing (Down (Some owed)) (inl fresh) is_held =
           absurd (not_none (ap (λ (x : SourceState). x.standing) fresh.1))
       by_standing (Down (Some owed)) (inr (inl retired)) is_held =
-          absurd (not_none (finished_counts program (rolls_back_of program owed.tx) s found one
-          owed (Down None) retired.2).1)
+          absurd (not_none (finished_counts program (rolls_back_of program owed.tx) s found owed
+          (Down None) retired.2).1)
       by_standing (Down (Some owed)) (inr (inr sealed)) is_held =
           let images : Images (HasSeal s) b.cache =
           from_owed owed mark sealed.1 sealed.0 phase_is (rolls_back_of program owed.tx) refl
@@ -205,20 +205,13 @@ module _ (program : Program) (super : Words) (agrees : Agrees program)
           ∙ ap (λ (x : SourceState). pos (suc x.done)) (sym (same ∙ sealed.2)))
       by_standing (Unusable kind) is_found is_held = absurd is_found
 
-    redoes : (marked : Bool) (pending : Pending)
-        → RedoesBy marked program pending found one (answer.Stopped at) t
-        → (at ≡ phase.Sealed) × (t ≡ found)
-    redoes false pending redo = redo
-    redoes true pending redo = redo
-
     by_found : (st : Standing) → found.standing ≡ st
         → Recovers st program found one (answer.Stopped at) t → Shown
     by_found Ready standing recovers = absurd recovers
     by_found (Down None) standing recovers =
         unsealed recovers.0 (ap (λ (x : SourceState). x.standing) recovers.1 ∙ standing)
     by_found (Down (Some pending)) standing recovers =
-        let redo = redoes (rolls_back_of program pending.tx) pending recovers in
-        by_standing pending standing redo.0 redo.1 s.standing finds held
+        by_standing pending standing recovers.0 recovers.1 s.standing finds held
     by_found (Unusable kind) standing recovers = absurd recovers
 
   pub shows_phase : (t : SourceState) → Powers program s one (answer.Stopped at) t

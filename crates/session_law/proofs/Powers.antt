@@ -1,5 +1,5 @@
 -- A power cut, by what is owed, and the recovery after it.
-use Rattle.std.proofs.Common.{◌≡◌, inl, inr, ℕ, suc, ◌&&◌, ◌<◌, if◌then◌else◌, Bool, true, false}
+use Rattle.std.proofs.Common.{◌≡◌, inl, inr, ℕ, suc, ◌&&◌, Bool, true, false}
 use Rattle.std.proofs.Common.{List, Option, Some, None, ℤ, pos, refl, sym, ap, ◌∙◌, subst, arith}
 use Rattle.cache_model.specs.Cache.{Words, view}
 use Rattle.cache_model.specs.Image.{Images}
@@ -11,17 +11,11 @@ use Rattle.pool_map.specs.Trap.{trap_number}
 use Rattle.pm_machine.specs.declared.effect.Effect.{Effect}
 use Rattle.pm_machine.specs.declared.effect.End.{End}
 use Rattle.pm_machine.specs.declared.effect.End.TheVariants.{Halted, Trapped}
-use Rattle.pm_machine.specs.Effects.{heap_end, records_end}
+use Rattle.pm_machine.specs.Effects.{heap_end}
 use Rattle.pool_layout.specs.declared.places.TheConstants.{DONE, MARK}
-use Rattle.pool_layout.specs.Good.{Lost, Pool, Good}
-use Rattle.pool_layout.specs.declared.places.Place.TheVariants.{Heap}
-use Rattle.pool_layout.specs.Places as places
-use Rattle.pool_layout.specs.Restored.{restored}
-use Rattle.pool_layout.specs.Sizes.{heap_words}
+use Rattle.pool_layout.specs.Good.{Lost, Pool}
 use Rattle.pool_layout.specs.Image.{is_sealed}
-use Rattle.c_meaning.specs.Transaction.{Trap}
-use Rattle.clobber_log.specs.Logs.{attempt_in}
-use Rattle.session_law.specs.Opened.{opened_heap}
+use Rattle.c_meaning.specs.Transaction.{Done, Trap}
 use Rattle.crash_law.specs.Pools.{Call, IsBefore, IsDone}
 use Rattle.crash_law.specs.Law.{IsAtRest, IsCut, IsEnd}
 use Rattle.run_law.specs.Seen.{result_of, E, W}
@@ -41,13 +35,12 @@ use Rattle.cnvm_session.specs.Outcomes.{RecoversBy}
 use Rattle.cnvm_session.specs.Outcomes as outcomes
 use Rattle.cnvm_session.specs.Commands as commanded
 use Rattle.cnvm_session.specs.Commands.{fallen}
-use Rattle.cnvm_session.specs.Pool.{sizes_of}
-use Rattle.session_law.specs.Source.{means, outcome_with}
+use Rattle.session_law.specs.Source.{outcome_with}
 use Rattle.session_law.specs.Agrees.{Agrees}
 use Rattle.session_law.specs.State.{Pending, Standing, Ready, Down, Unusable, SourceState}
 use Rattle.session_law.specs.State.{standing_as, done_with, undone_as}
 use Rattle.session_law.specs.Answers.{HasSeal, IsConcluded, FindsOf, FindsOwed, Rests}
-use Rattle.session_law.specs.Answers.{RedoesUnmarked, RedoesMarked, RedoesBy, Recovers, MarksAs}
+use Rattle.session_law.specs.Answers.{RedoesBy, Recovers, MarksAs}
 use Rattle.session_law.specs.Answers.{IsMarked, Powers}
 use Rattle.session_law.specs.Holds.{HoldsPool, OwesNone, OwesOne, OwesMarked, OwesBy, HoldsAs}
 use Rattle.session_law.specs.Holds.{Holds}
@@ -57,40 +50,25 @@ use Rattle.session_law.proofs.Reading.{is_marked, is_unsealed, is_owed}
 use Rattle.session_law.proofs.Resting.{resting_owes, Meant, meant, HasHalted, run_halted}
 use Rattle.session_law.proofs.Resting.{run_trapped}
 use Rattle.session_law.proofs.Recoveries.{marked_recovers, rest_recovers, redo_recovers}
-use Rattle.session_law.proofs.MarkedRuns.{MarkedMeant, marked_meant, comes_same, marked_done}
-use Rattle.session_law.proofs.MarkedRuns.{marked_trapped}
+use Rattle.session_law.proofs.MarkedRuns.{marked_meant}
 use Rattle.session_law.proofs.MarkedRecoveries.{KeepsLast, marked_redo_recovers}
 
 -- a recovery of what is found never answers that the pool has a mark, or that a pick doesn't fit
-
-no_mark_by : (program : Program) (owed : Pending) (marked : Bool) (found t : SourceState)
-    (image : Words) (kind : TrapKind)
-    → RedoesBy marked program owed found image (answer.RefusedUnusable kind) t → ⊥
-no_mark_by program owed false found t image kind is = is
-no_mark_by program owed true found t image kind is = is
 
 no_mark : (program : Program) (st : Standing) (found t : SourceState)
     (image : Words) (kind : TrapKind)
     → Recovers st program found image (answer.RefusedUnusable kind) t → ⊥
 no_mark program Ready found t image kind is = is
 no_mark program (Down None) found t image kind is = is
-no_mark program (Down (Some owed)) found t image kind is =
-    no_mark_by program owed (rolls_back_of program owed.tx) found t image kind is
+no_mark program (Down (Some owed)) found t image kind is = is
 no_mark program (Unusable trap) found t image kind is = is
-
-no_pick_by : (program : Program) (owed : Pending) (marked : Bool) (found t : SourceState)
-    (image : Words) (line : ℕ)
-    → RedoesBy marked program owed found image (answer.RefusedPick line) t → ⊥
-no_pick_by program owed false found t image line is = is
-no_pick_by program owed true found t image line is = is
 
 no_pick : (program : Program) (st : Standing) (found t : SourceState)
     (image : Words) (line : ℕ)
     → Recovers st program found image (answer.RefusedPick line) t → ⊥
 no_pick program Ready found t image line is = is
 no_pick program (Down None) found t image line is = is
-no_pick program (Down (Some owed)) found t image line is =
-    no_pick_by program owed (rolls_back_of program owed.tx) found t image line is
+no_pick program (Down (Some owed)) found t image line is = is
 no_pick program (Unusable trap) found t image line is = is
 
 powers_of :
@@ -242,7 +220,7 @@ module _ (program : Program) (super : Words) (agrees : Agrees program)
       abbrev es : List Effect
       es = owes.effects
 
-      own : Meant program s owed h owes.end es
+      own : Meant false program s.pool owed h owes.end es
       own = meant program s owed h owes.end es owes.holds
           (agrees.runs h owed.tx owed.args owes.holds.headers (held_words program h s owes.holds)
           owes.words owes.takes) owes.ran
@@ -251,7 +229,7 @@ module _ (program : Program) (super : Words) (agrees : Agrees program)
           → Answered
       at_end (Halted v) ends seen =
           let has : HasHalted program (outcome_with program s.pool owed.tx owed.args own.logged) v
-          (heap_end h es) = run_halted program s owed h owes.end es own v ends in
+          (heap_end h es) = run_halted false program s.pool owed h owes.end es own v ends in
           let found : SourceState = done_with has.pool v (Down None) s in
           rested found (heap_end h es)
           (record { headers = has.headers; pool = has.holds; words = has.words })
@@ -259,17 +237,14 @@ module _ (program : Program) (super : Words) (agrees : Agrees program)
           (finds_as found (inr (inl (
             seen.seal_is,
             seen.good.done,
-            subst (λ (x : Bool). IsConcluded x program owed s one (Down None) found) (sym mark) (
-              v,
-              own.logged,
-              (has.pool, record { logs = own.logs; is = has.is }, refl),
-            ),
+            subst (λ (x : Bool). IsConcluded x program owed s (Down None) found) (sym mark)
+                (own.logged, Done has.pool v, record { logs = own.logs; is = has.is }, refl),
           ))))
       at_end (Trapped kind) ends lost =
           from_mark kind
           (subst (λ (x : Standing). IsMarked x program s kind) (sym standing)
           (subst (λ (x : Bool). MarksAs x program s owed kind) (sym mark)
-          (run_trapped program s owed h owes.end es own kind ends)))
+          (refl, run_trapped false program s.pool owed h owes.end es own kind ends)))
           lost
 
       at_cut : IsCut pool call (E es) (W es) h (heap_end h es) s.last (result_of owes.end) one
@@ -286,7 +261,7 @@ module _ (program : Program) (super : Words) (agrees : Agrees program)
             powers_of program s waiting done.0 one a sealed.mark
                 (finds_as waiting (inr (inr (sealed.sealed, sealed.done, refl))))
                 (subst (λ (x : Bool). RedoesBy x program owed waiting one a done.0) (sym mark)
-                (subst (λ (x : Answer). RedoesUnmarked program owed waiting one x done.0)
+                (subst (λ (x : Answer). RedoesBy false program owed waiting one x done.0)
                 (sym un.answer) done.1)),
             subst (λ (x : Mode). Holds program super x b done.0) (sym un.mode) done.2,
           )
@@ -304,55 +279,40 @@ module _ (program : Program) (super : Words) (agrees : Agrees program)
       abbrev effects : List Effect
       effects = owes.effects
 
-      its_own : MarkedMeant program s owed heap owes.end effects
+      its_own : Meant true program s.pool owed heap owes.end effects
       its_own = marked_meant program s owed heap owes.holds
           (agrees.runs heap owed.tx owed.args owes.holds.headers
           (held_words program heap s owes.holds) owes.words owes.takes) owes.end effects owes.ran
 
       finished_as : (found : SourceState) → HasSeal s one → one DONE ≡ pos (suc s.done)
-          → IsConcluded true program owed s one (Down None) found
+          → IsConcluded true program owed s (Down None) found
           → FindsOwed s.standing program s one found
       finished_as found seal done finished =
           finds_as found (inr (inl (
             seal,
             done,
-            subst (λ (x : Bool). IsConcluded x program owed s one (Down None) found) (sym mark)
+            subst (λ (x : Bool). IsConcluded x program owed s (Down None) found) (sym mark)
                 finished,
           )))
 
       marked_done_at : (v : ℤ) → owes.end ≡ Halted v
           → IsDone pool (suc s.done) (heap_end heap effects) v one → Answered
       marked_done_at v ends seen =
-          let has : HasHalted program (means program s.pool owed.tx owed.args) v
-          (heap_end heap effects) = its_own.halts v ends in
+          let has : HasHalted program
+          (outcome_with program s.pool owed.tx owed.args its_own.logged) v (heap_end heap effects) =
+          run_halted true program s.pool owed heap owes.end effects its_own v ends in
           let found : SourceState = done_with has.pool v (Down None) s in
           rested found (heap_end heap effects)
           (record { headers = has.headers; pool = has.holds; words = has.words })
           (record { good = seen.good; last_is = seen.last_is }) refl
-          (finished_as found seen.seal_is seen.good.done (inl (
-            heap,
-            v,
-            records_end 0 effects,
-            (
-              has.pool,
-              marked_done program s owed heap owes.end effects owes.holds owes.ran its_own v ends
-                  (records_end 0 effects) refl,
-              refl,
-            ),
-          )))
-
-      -- an image that is good with a heap has its words
-      good_heap : (done : ℕ) (g : Words) → Good pool done g one → (w : ℕ)
-          → w < heap_words (sizes_of program) → opened_heap program one w ≡ g w
-      good_heap done g good w less =
-          ap (λ (x : Bool). (if x then restored (places.pool_of (sizes_of program))
-          (attempt_in (sizes_of program) one) one
-          else (λ v. one (places.at (places.pool_of (sizes_of program)) (Heap v)))) w)
-          (is_unsealed one done good.done good.unsealed) ∙ good.heap w less
+          (finished_as found seen.seal_is seen.good.done
+          (its_own.logged, Done has.pool v, record { logs = its_own.logs; is = has.is }, refl))
 
       undone_at : (kind : TrapKind) → owes.end ≡ Trapped kind
           → IsDone pool (suc s.done) heap s.last one → Answered
       undone_at kind ends seen =
+          let traps = run_trapped true program s.pool owed heap owes.end effects its_own kind ends
+          in
           let found : SourceState = undone_as (Down None) s in
           rested found heap
           (record {
@@ -361,20 +321,8 @@ module _ (program : Program) (super : Words) (agrees : Agrees program)
             words = owes.holds.words;
           })
           (record { good = seen.good; last_is = seen.last_is }) refl
-          (finished_as found seen.seal_is seen.good.done (inr (
-            kind,
-            (
-              (
-                records_end 0 effects,
-                comes_same program (opened_heap program one) heap s.pool owed.tx owed.args
-                    (records_end 0 effects) (Trap kind)
-                    (good_heap (suc s.done) heap seen.good)
-                    (marked_trapped program s owed heap owes.end effects owes.holds owes.ran
-                    its_own kind ends),
-              ),
-              refl,
-            ),
-          )))
+          (finished_as found seen.seal_is seen.good.done
+          (traps.0, Trap kind, traps.1, (refl, refl)))
 
       owed_at : IsOwed pool call heap one → KeepsLast owes.end s.last one → Answered
       owed_at sealed kept =
@@ -388,7 +336,7 @@ module _ (program : Program) (super : Words) (agrees : Agrees program)
             powers_of program s waiting done.0 one a sealed.mark
                 (finds_as waiting (inr (inr (sealed.sealed, sealed.done, refl))))
                 (subst (λ (x : Bool). RedoesBy x program owed waiting one a done.0) (sym mark)
-                (subst (λ (x : Answer). RedoesMarked program owed waiting one x done.0)
+                (subst (λ (x : Answer). RedoesBy true program owed waiting one x done.0)
                 (sym ma.answer) done.1)),
             subst (λ (x : Mode). Holds program super x b done.0) (sym ma.mode) done.2,
           )

@@ -1,5 +1,5 @@
 -- A device that is at rest with a pool, and what a power cut leaves of it.
-use Rattle.std.proofs.Common.{◌≡◌, ℕ, ◌<◌, true, List, ℤ, refl, sym, ap, ◌∙◌, subst}
+use Rattle.std.proofs.Common.{◌≡◌, ℕ, ◌<◌, Bool, true, false, List, ℤ, refl, sym, ap, ◌∙◌, subst}
 use Rattle.cache_model.specs.Cache.{Words, view}
 use Rattle.pmem.specs.Device.{Device}
 use Rattle.pool_layout.specs.declared.places.Place.TheVariants.{Heap}
@@ -21,14 +21,14 @@ use Rattle.crash_law.specs.Pools.{IsBefore}
 use Rattle.crash_law.specs.Law.{IsAtRest}
 use Rattle.run_law.specs.Sound.{IsSoundRun}
 use Rattle.cut_law.specs.Law.{pool_with}
+use Rattle.abort_law.specs.Cuts.{IsTidyRun}
 use Rattle.cnvm_session.specs.declared.program.Program.{Program}
 use Rattle.cnvm_session.specs.Pool.{sizes_of}
-use Rattle.session_law.specs.Source.{LogsStores, outcome_with, ComesTo, source_pool}
+use Rattle.session_law.specs.Source.{LogsBy, outcome_with, ComesBy, source_pool}
 use Rattle.session_law.specs.Source.{HasSourceHeaders}
 use Rattle.session_law.specs.Words.{HasPoolWords}
 use Rattle.session_law.specs.Agrees.{Matches, RunsAs}
 use Rattle.session_law.specs.State.{Pending, SourceState}
-use Rattle.session_law.specs.Answers.{TrapsAs}
 use Rattle.session_law.specs.Holds.{HoldsPool, IsResting, OwesNone}
 use Rattle.session_law.proofs.Ones.{rest_images}
 use Rattle.session_law.proofs.Heaps.{pool_same, headers_same}
@@ -124,71 +124,73 @@ trapped : (program : Program) (o : Outcome) (end : End) (kind : TrapKind) (h : W
 trapped program o end kind h is matches =
     trapped_of program o kind h (subst (λ (e : End). Matches program o e h) is matches)
 
--- what the source says of a known run of the machine
-pub record Meant (program : Program) (s : SourceState) (owed : Pending)
+-- a run that can be cut, by whether it is marked
+abbrev pub SoundBy : (marked : Bool) → End → List Effect → Type 0
+SoundBy false end es = IsSoundRun end es
+SoundBy true end es = IsTidyRun end es
+
+-- what the source says of a known run of the machine, marked or not, on this pool
+pub record Meant (marked : Bool) (program : Program) (pool : PoolMap) (owed : Pending)
     (h : Words) (end : End) (es : List Effect) : Type 0 where
-  pub sound : IsSoundRun end es
+  pub sound : SoundBy marked end es
   pub logged : ℕ
-  pub logs : LogsStores program s.pool owed.tx owed.args logged
+  pub logs : LogsBy marked program pool owed.tx owed.args logged
   pub matches :
-      Matches program (outcome_with program s.pool owed.tx owed.args logged) end (heap_end h es)
+      Matches program (outcome_with program pool owed.tx owed.args logged) end (heap_end h es)
   pub counted : (v : ℤ) → end ≡ Halted v → records_end 0 es ≡ logged
+
+-- the same of the run with this end and these effects, on the pool that the heap holds
+pub meant_at : (marked : Bool) (program : Program) (s : SourceState) (owed : Pending) (h : Words)
+    (end e : End) (es fs : List Effect) → HoldsPool program h s → e ≡ end → fs ≡ es
+    → Meant marked program (source_pool program h) owed h e fs
+    → Meant marked program s.pool owed h end es
+meant_at marked program s owed h end e es fs holds ends effects own =
+    subst (λ (p : PoolMap). Meant marked program p owed h end es) holds.pool
+    (subst (λ (x : End). Meant marked program (source_pool program h) owed h x es) ends
+    (subst (Meant marked program (source_pool program h) owed h e) effects own))
 
 pub meant : (program : Program) (s : SourceState) (owed : Pending) (h : Words)
     (end : End) (es : List Effect) → HoldsPool program h s
     → RunsAs program h owed.tx owed.args
     → mrun program.image program.image.parts.most h owed.tx owed.args ≡ Finished end es
-    → Meant program s owed h end es
+    → Meant false program s.pool owed h end es
 meant program s owed h end es holds runs ran =
     let same_end : runs.end ≡ end = let e = sym runs.ran ∙ ran in cc in
     let same_effects : runs.effects ≡ es = let e = sym runs.ran ∙ ran in cc in
-    let sound : IsSoundRun end es =
-    subst (λ (e : End). IsSoundRun e es) same_end
-    (subst (λ (fs : List Effect). IsSoundRun runs.end fs) same_effects runs.sound) in
-    let o : Outcome = outcome_with program (source_pool program h) owed.tx owed.args runs.logged in
-    let own : Matches program o end (heap_end h es) =
-    subst (λ (e : End). Matches program o e (heap_end h es)) same_end
-    (subst (λ (fs : List Effect). Matches program o runs.end (heap_end h fs)) same_effects
-    runs.matches) in
-    record {
-      sound = sound;
+    meant_at false program s owed h end runs.end es runs.effects holds same_end same_effects
+    (record {
+      sound = runs.sound;
       logged = runs.logged;
-      logs = subst (λ (p : PoolMap). LogsStores program p owed.tx owed.args runs.logged) holds.pool
-          runs.logs;
-      matches =
-          subst (λ (p : PoolMap).
-          Matches program (outcome_with program p owed.tx owed.args runs.logged) end
-          (heap_end h es)) holds.pool own;
-      counted =
-          λ v is. subst (λ (fs : List Effect). records_end 0 fs ≡ runs.logged) same_effects
-          (runs.counted v (same_end ∙ is));
-    }
+      logs = runs.logs;
+      matches = runs.matches;
+      counted = runs.counted;
+    })
 
-module _ (program : Program) (s : SourceState) (owed : Pending) (h : Words) (end : End)
-    (es : List Effect) (own : Meant program s owed h end es) where
+module _ (marked : Bool) (program : Program) (pool : PoolMap) (owed : Pending) (h : Words)
+    (end : End) (es : List Effect) (own : Meant marked program pool owed h end es) where
   -- a run that ends with a value
   pub run_halted : (v : ℤ) → end ≡ Halted v →
-      HasHalted program (outcome_with program s.pool owed.tx owed.args own.logged) v (heap_end h es)
-  run_halted v is = halted program (outcome_with program s.pool owed.tx owed.args own.logged) end v
+      HasHalted program (outcome_with program pool owed.tx owed.args own.logged) v (heap_end h es)
+  run_halted v is = halted program (outcome_with program pool owed.tx owed.args own.logged) end v
       (heap_end h es) is own.matches
 
   -- what its transaction comes to, with as many logged stores as the run has records
   pub run_done : (v : ℤ) (is : end ≡ Halted v) (l : ℕ) → l ≡ records_end 0 es →
-      ComesTo program s.pool owed.tx owed.args l (Done (run_halted v is).pool v)
+      ComesBy marked program pool owed.tx owed.args l (Done (run_halted v is).pool v)
   run_done v is l records =
       subst (λ (n : ℕ).
-      ComesTo program s.pool owed.tx owed.args n (Done (run_halted v is).pool v))
+      ComesBy marked program pool owed.tx owed.args n (Done (run_halted v is).pool v))
       (sym (records ∙ own.counted v is))
       (record { logs = own.logs; is = (run_halted v is).is })
 
   -- a run that traps
   pub run_trapped : (kind : TrapKind) → end ≡ Trapped kind →
-      TrapsAs program s owed.tx owed.args kind
+      (logged : ℕ) × ComesBy marked program pool owed.tx owed.args logged (Trap kind)
   run_trapped kind is = (
     own.logged,
     record {
       logs = own.logs;
-      is = trapped program (outcome_with program s.pool owed.tx owed.args own.logged) end kind
+      is = trapped program (outcome_with program pool owed.tx owed.args own.logged) end kind
           (heap_end h es) is own.matches;
     },
   )

@@ -6,14 +6,14 @@ use Rattle.cache_model.specs.Cache.{view, Words}
 use Rattle.pmem.specs.Device.{powered}
 use Rattle.pool_layout.specs.declared.places.TheConstants.{SEAL}
 use Rattle.pool_map.specs.declared.trap.TrapKind.{TrapKind}
+use Rattle.c_meaning.specs.Transaction.{Outcome, Done, Trap}
 use Rattle.cnvm_session.specs.declared.answer.Answer.{Answer}
 use Rattle.cnvm_session.specs.declared.answer.Answer.TheVariants as answer
 use Rattle.cnvm_session.specs.declared.program.Program.{Program}
 use Rattle.cnvm_session.specs.Marks.{rolls_back_of}
 use Rattle.session_law.specs.State.{Pending, Standing, Ready, Down, SourceState, standing_as}
-use Rattle.session_law.specs.Answers.{HasSeal, IsConcluded, FindsOf, FindsOwed, Rests, RedoesBy}
-use Rattle.session_law.specs.Answers.{Recovers, Powers}
-use Rattle.session_law.specs.Opened.{opened_heap}
+use Rattle.session_law.specs.Answers.{HasSeal, Finishes, IsConcluded, FindsOf, FindsOwed, Rests}
+use Rattle.session_law.specs.Answers.{RedoesBy, Recovers, Powers}
 use Rattle.session_law.specs.History.{waiting_of, is_retired, recovered_by}
 use Rattle.session_law.specs.Law.{SealedLaw, IsCompleted}
 use Rattle.session_law.proofs.Histories.{finished_counts, fresh_shows, retired_shows}
@@ -36,7 +36,7 @@ module _ (program : Program) (owed : Pending) (s t : SourceState) (image : Words
   abbrev Told : Type 0
   Told =
       (HasSeal s image × (g ≡ h ++ owed ∷ [])
-      × IsConcluded (rolls_back_of program owed.tx) program owed s image Ready t)
+      × IsConcluded (rolls_back_of program owed.tx) program owed s Ready t)
       ⊎ ((image SEAL ≢ pos (suc s.done)) × (g ≡ h) × (t ≡ standing_as Ready s))
 
   waiting : waiting_of s.standing ≡ owed ∷ []
@@ -50,27 +50,16 @@ module _ (program : Program) (owed : Pending) (s t : SourceState) (image : Words
       ∙ ap (λ (ws : List Pending). h ++ (if b then ws else [])) waiting
 
   -- one that was finished before the cut is ready after it
-  rested : (marked : Bool) (found : SourceState)
-      → IsConcluded marked program owed s image (Down None) found → t ≡ standing_as Ready found
-      → IsConcluded marked program owed s image Ready t
-  rested false found is now =
-      (is.0, is.1, (is.2.0, is.2.1, now ∙ ap (standing_as Ready) is.2.2))
-  rested true found (inl done) now =
-      inl (
-        done.0,
-        done.1,
-        done.2,
-        (done.3.0, done.3.1, now ∙ ap (standing_as Ready) done.3.2),
-      )
-  rested true found (inr undone) now =
-      inr (undone.0, (undone.1.0, now ∙ ap (standing_as Ready) undone.1.1))
+  rested_by : (marked : Bool) (o : Outcome) (found : SourceState)
+      → Finishes marked o (Down None) s found → t ≡ standing_as Ready found
+      → Finishes marked o Ready s t
+  rested_by marked (Done pool value) found is now = now ∙ ap (standing_as Ready) is
+  rested_by marked (Trap kind) found is now = (is.0, now ∙ ap (standing_as Ready) is.1)
 
-  -- a transaction that is owed is recovered
-  not_none : (marked : Bool)
-      → RedoesBy marked program owed (standing_as (Down (Some owed)) s) image answer.RecoveredNone t
-      → ⊥
-  not_none false is = is
-  not_none true is = is
+  rested : (marked : Bool) (found : SourceState)
+      → IsConcluded marked program owed s (Down None) found → t ≡ standing_as Ready found
+      → IsConcluded marked program owed s Ready t
+  rested marked found is now = (is.0, is.1, is.2, rested_by marked is.1 found is.3 now)
 
   none_told : (found : SourceState) → FindsOf (Some owed) program s image found →
       Recovers found.standing program found image answer.RecoveredNone t →
@@ -87,26 +76,29 @@ module _ (program : Program) (owed : Pending) (s t : SourceState) (image : Words
         grown true (retired_shows program s image retired.0 retired.1) e,
         rested (rolls_back_of program owed.tx) found retired.2
             (subst (λ (st : Standing). Recovers st program found image answer.RecoveredNone t)
-            (finished_counts program (rolls_back_of program owed.tx) s found image owed (Down None)
+            (finished_counts program (rolls_back_of program owed.tx) s found owed (Down None)
             retired.2).1 recovers),
       )
   none_told found (inr (inr sealed)) recovers e =
-      absurd (not_none (rolls_back_of program owed.tx)
-      (subst (Recovered program owed s t image answer.RecoveredNone) sealed.2 recovers))
+      absurd (subst (Recovered program owed s t image answer.RecoveredNone) sealed.2 recovers)
 
   -- how the session stood makes no difference
+  settled_by : (marked : Bool) (o : Outcome)
+      → Finishes marked o Ready (standing_as (Down (Some owed)) s) t → Finishes marked o Ready s t
+  settled_by marked (Done pool value) is = is
+  settled_by marked (Trap kind) is = is
+
   settled : (marked : Bool)
-      → IsConcluded marked program owed (standing_as (Down (Some owed)) s) image Ready t
-      → IsConcluded marked program owed s image Ready t
-  settled false is = is
-  settled true is = is
+      → IsConcluded marked program owed (standing_as (Down (Some owed)) s) Ready t
+      → IsConcluded marked program owed s Ready t
+  settled marked is = (is.0, is.1, is.2, settled_by marked is.1 is.3)
 
   -- an answer that only the recovery of an owed transaction gives
   module _ (a : Answer) (never : (found : SourceState) → Rests program found image a t → ⊥)
       (shows : recovered_by s image a ≡ waiting_of s.standing)
       (finishes : (found : SourceState)
       → RedoesBy (rolls_back_of program owed.tx) program owed found image a t
-      → IsConcluded (rolls_back_of program owed.tx) program owed found image Ready t) where
+      → IsConcluded (rolls_back_of program owed.tx) program owed found Ready t) where
     not_rested : (found : SourceState) → found.standing ≡ Down None →
         Recovers found.standing program found image a t → ⊥
     not_rested found is recovers =
@@ -118,7 +110,7 @@ module _ (program : Program) (owed : Pending) (s t : SourceState) (image : Words
         absurd (not_rested found (ap (λ (x : SourceState). x.standing) fresh.1) recovers)
     redone_told found (inr (inl retired)) recovers e =
         absurd (not_rested found
-        (finished_counts program (rolls_back_of program owed.tx) s found image owed (Down None)
+        (finished_counts program (rolls_back_of program owed.tx) s found owed (Down None)
         retired.2).1 recovers)
     redone_told found (inr (inr sealed)) recovers e =
         inl (
@@ -130,16 +122,13 @@ module _ (program : Program) (owed : Pending) (s t : SourceState) (image : Words
 
   value_finishes : (value : ℤ) (logged : ℕ) (marked : Bool) (found : SourceState)
       → RedoesBy marked program owed found image (answer.RecoveredRedone value logged) t
-      → IsConcluded marked program owed found image Ready t
-  value_finishes value logged false found is = (value, logged, is)
-  value_finishes value logged true found is =
-      inl (opened_heap program image, value, logged, is)
+      → IsConcluded marked program owed found Ready t
+  value_finishes value logged marked found is = (logged, Done is.0 value, is.1, is.2)
 
   abort_finishes : (kind : TrapKind) (marked : Bool) (found : SourceState)
       → RedoesBy marked program owed found image (answer.RecoveredAborted kind) t
-      → IsConcluded marked program owed found image Ready t
-  abort_finishes kind false found is = absurd is
-  abort_finishes kind true found is = inr (kind, is)
+      → IsConcluded marked program owed found Ready t
+  abort_finishes kind marked found is = (is.1.0, Trap kind, is.1.1, (is.0, is.2))
 
   pub told_of : (a : Answer) → IsCompleted a → Powers program s image a t →
       g ≡ h ++ recovered_by s image a → Told

@@ -8,12 +8,11 @@ use Rattle.cnvm_session.specs.declared.answer.Answer.{Answer}
 use Rattle.cnvm_session.specs.declared.answer.Answer.TheVariants as answer
 use Rattle.cnvm_session.specs.declared.program.Program.{Program}
 use Rattle.cnvm_session.specs.Commands.{call_number}
-use Rattle.cnvm_session.specs.Marks.{rolls_back_of}
 use Rattle.cnvm_session.specs.Laws.{IsRefusal, IsBadPick, IsRefused}
 use Rattle.cnvm_session.proofs.Refusing.{command_kept}
 use Rattle.session_law.specs.Source.{source_parameters}
 use Rattle.session_law.specs.State.{Pending, Standing, Ready, Down, Unusable, SourceState}
-use Rattle.session_law.specs.Answers.{Runs, RunsBy, CallsWith, CallsTo, CallsNamed, Calls, Tells}
+use Rattle.session_law.specs.Answers.{Runs, CallsWith, CallsTo, CallsNamed, Calls, Tells}
 use Rattle.session_law.specs.Answers.{Shows, Lasts, Powers, Answers}
 use Rattle.session_law.specs.History.{call_to, called_by, recovered_by, done_by}
 use Rattle.session_law.specs.Ran.{found_by}
@@ -41,51 +40,27 @@ none_called call answer.RefusedNumbers is = refl
 none_called call (answer.RefusedPick line) is = absurd is
 
 module _ (program : Program) (s t : SourceState) (image : Words) where
-  runs_by : (tx : ℕ) (args : List ℤ) (marked : Bool) (a : Answer) → IsRefusal a →
-      RunsBy marked program s image tx args a t → t ≡ s
-  runs_by tx args false answer.Silent refused is = absurd refused
-  runs_by tx args false (answer.Done value logged) refused is = absurd refused
-  runs_by tx args false (answer.Trap kind) refused is = absurd refused
-  runs_by tx args false (answer.Aborted kind) refused is = absurd refused
-  runs_by tx args false (answer.Stopped p) refused is = absurd refused
-  runs_by tx args false answer.DeviceFault refused is = absurd refused
-  runs_by tx args false answer.RecoveredNone refused is = absurd refused
-  runs_by tx args false (answer.RecoveredRedone value logged) refused is = absurd refused
-  runs_by tx args false (answer.RecoveredTrap kind) refused is = absurd refused
-  runs_by tx args false (answer.RecoveredAborted kind) refused is = absurd refused
-  runs_by tx args false (answer.Shown text) refused is = absurd refused
-  runs_by tx args false (answer.Last n value) refused is = absurd refused
-  runs_by tx args false answer.NoMemory refused is = absurd refused
-  runs_by tx args false answer.RefusedDown refused is = absurd is
-  runs_by tx args false (answer.RefusedUnusable kind) refused is = absurd is
-  runs_by tx args false answer.RefusedUnknown refused is = absurd is
-  runs_by tx args false answer.RefusedArity refused is = absurd is
-  runs_by tx args false answer.RefusedNumbers refused is = is.1
-  runs_by tx args false (answer.RefusedPick line) refused is = absurd refused
-  runs_by tx args true answer.Silent refused is = absurd refused
-  runs_by tx args true (answer.Done value logged) refused is = absurd refused
-  runs_by tx args true (answer.Trap kind) refused is = absurd refused
-  runs_by tx args true (answer.Aborted kind) refused is = absurd refused
-  runs_by tx args true (answer.Stopped p) refused is = absurd refused
-  runs_by tx args true answer.DeviceFault refused is = absurd refused
-  runs_by tx args true answer.RecoveredNone refused is = absurd refused
-  runs_by tx args true (answer.RecoveredRedone value logged) refused is = absurd refused
-  runs_by tx args true (answer.RecoveredTrap kind) refused is = absurd refused
-  runs_by tx args true (answer.RecoveredAborted kind) refused is = absurd refused
-  runs_by tx args true (answer.Shown text) refused is = absurd refused
-  runs_by tx args true (answer.Last n value) refused is = absurd refused
-  runs_by tx args true answer.NoMemory refused is = absurd refused
-  runs_by tx args true answer.RefusedDown refused is = absurd is
-  runs_by tx args true (answer.RefusedUnusable kind) refused is = absurd is
-  runs_by tx args true answer.RefusedUnknown refused is = absurd is
-  runs_by tx args true answer.RefusedArity refused is = absurd is
-  runs_by tx args true answer.RefusedNumbers refused is = is.1
-  runs_by tx args true (answer.RefusedPick line) refused is = absurd refused
-
   runs_same : (tx : ℕ) (args : List ℤ) (a : Answer) → IsRefusal a →
       Runs program s image tx args a t → t ≡ s
-  runs_same tx args a refused is =
-      runs_by tx args (rolls_back_of program tx) a refused is
+  runs_same tx args answer.Silent refused is = absurd refused
+  runs_same tx args (answer.Done value logged) refused is = absurd refused
+  runs_same tx args (answer.Trap kind) refused is = absurd refused
+  runs_same tx args (answer.Aborted kind) refused is = absurd refused
+  runs_same tx args (answer.Stopped p) refused is = absurd refused
+  runs_same tx args answer.DeviceFault refused is = absurd refused
+  runs_same tx args answer.RecoveredNone refused is = absurd refused
+  runs_same tx args (answer.RecoveredRedone value logged) refused is = absurd refused
+  runs_same tx args (answer.RecoveredTrap kind) refused is = absurd refused
+  runs_same tx args (answer.RecoveredAborted kind) refused is = absurd refused
+  runs_same tx args (answer.Shown text) refused is = absurd refused
+  runs_same tx args (answer.Last n value) refused is = absurd refused
+  runs_same tx args answer.NoMemory refused is = absurd refused
+  runs_same tx args answer.RefusedDown refused is = absurd is
+  runs_same tx args (answer.RefusedUnusable kind) refused is = absurd is
+  runs_same tx args answer.RefusedUnknown refused is = absurd is
+  runs_same tx args answer.RefusedArity refused is = absurd is
+  runs_same tx args answer.RefusedNumbers refused is = is.1
+  runs_same tx args (answer.RefusedPick line) refused is = absurd refused
 
   with_same : (tx : ℕ) (args : List ℤ) (same : Bool) (a : Answer) → IsRefusal a →
       CallsWith same program s image tx args a t → t ≡ s

@@ -1,7 +1,7 @@
 -- What a command answers in a session by the source alone, and what the source knows after it. Of
 -- the device it looks only at the image that the command finds: for `power` what the cut left, for
 -- any other command the view. Of the image it reads the number of transactions done, the attempt,
--- the mark and the seal, and for a marked transaction the heap.
+-- the mark and the seal.
 use Rattle.std.specs.Prelude.{ℕ, suc, ◌≡◌, ◌≢◌, ◌⊎◌, ◌==◌, ◌&&◌, Bool, true, false, List, length}
 use Rattle.std.specs.Prelude.{Option, Some, None, ℤ, pos}
 use Rattle.cache_model.specs.Cache.{Words}
@@ -12,7 +12,7 @@ use Rattle.pool_map.specs.Trap.{trap_number}
 use Rattle.pool_map.specs.PoolMap.{PoolMap}
 use Rattle.pool_map.specs.PoolText.{pool_text}
 use Rattle.c_types.specs.Shapes.{shapes_of}
-use Rattle.c_meaning.specs.Transaction.{Done, Trap}
+use Rattle.c_meaning.specs.Transaction.{Outcome, Done, Trap}
 use Rattle.clobber_log.specs.Logs.{attempt_in, count_in}
 use Rattle.tx_run.specs.Standing.{is_number}
 use Rattle.recovery.specs.Found.{has_numbers}
@@ -24,11 +24,9 @@ use Rattle.cnvm_session.specs.declared.program.Program.{Program}
 use Rattle.cnvm_session.specs.Commands.{call_number}
 use Rattle.cnvm_session.specs.Marks.{rolls_back_of}
 use Rattle.cnvm_session.specs.Pool.{sizes_of}
-use Rattle.session_law.specs.Source.{source_parameters, ComesTo}
+use Rattle.session_law.specs.Source.{source_parameters, ComesBy}
 use Rattle.session_law.specs.State.{Pending, Standing, Ready, Down, Unusable, SourceState}
-use Rattle.session_law.specs.State.{standing_as, done_with}
-use Rattle.session_law.specs.Marked.{IsDoneOn, IsUndoneOn, IsConcludedOn}
-use Rattle.session_law.specs.Opened.{opened_heap}
+use Rattle.session_law.specs.State.{standing_as, done_with, undone_as}
 
 -- the answer is this one, and nothing changes
 abbrev pub Refused : Answer → SourceState → Answer → SourceState → Type 0
@@ -36,16 +34,16 @@ Refused why s a t = (a ≡ why) × (t ≡ s)
 
 -- The transaction is done: it comes to this value and to the next pool, with this number of logged
 -- stores.
-abbrev pub IsDoneWith : Program → SourceState → (tx : ℕ) → List ℤ → (value : ℤ) → (logged : ℕ)
-    → Standing → SourceState → Type 0
-IsDoneWith program s tx args value logged standing t =
-    (pool : PoolMap) × ComesTo program s.pool tx args logged (Done pool value)
+abbrev pub IsDoneWith : (marked : Bool) → Program → SourceState → (tx : ℕ) → List ℤ → (value : ℤ)
+    → (logged : ℕ) → Standing → SourceState → Type 0
+IsDoneWith marked program s tx args value logged standing t =
+    (pool : PoolMap) × ComesBy marked program s.pool tx args logged (Done pool value)
     × (t ≡ done_with pool value standing s)
 
 -- the transaction comes to this trap
-abbrev pub TrapsAs : Program → SourceState → (tx : ℕ) → List ℤ → TrapKind → Type 0
-TrapsAs program s tx args kind =
-    (logged : ℕ) × ComesTo program s.pool tx args logged (Trap kind)
+abbrev pub TrapsAs : (marked : Bool) → Program → SourceState → (tx : ℕ) → List ℤ → TrapKind → Type 0
+TrapsAs marked program s tx args kind =
+    (logged : ℕ) × ComesBy marked program s.pool tx args logged (Trap kind)
 
 -- the transaction was interrupted, so it is owed
 abbrev pub IsCutOff : SourceState → (tx : ℕ) → List ℤ → SourceState → Type 0
@@ -56,37 +54,21 @@ abbrev pub IsOutOfNumbers : SourceState → Words → SourceState → Type 0
 IsOutOfNumbers s image t =
     (is_number (image DONE) && is_number (image ATTEMPT) ≡ false) × (t ≡ s)
 
--- the answer of a call of an unmarked transaction that takes these arguments
-abbrev pub RunsUnmarked : Program → SourceState → Words → (tx : ℕ) → List ℤ → Answer
-    → SourceState → Type 0
-RunsUnmarked program s image tx args (answer.Done value logged) t =
-    IsDoneWith program s tx args value logged Ready t
-RunsUnmarked program s image tx args (answer.Trap kind) t =
-    TrapsAs program s tx args kind × (t ≡ standing_as (Unusable kind) s)
-RunsUnmarked program s image tx args (answer.Stopped at) t = IsCutOff s tx args t
-RunsUnmarked program s image tx args answer.DeviceFault t = IsCutOff s tx args t
-RunsUnmarked program s image tx args answer.NoMemory t = IsCutOff s tx args t
-RunsUnmarked program s image tx args answer.RefusedNumbers t = IsOutOfNumbers s image t
-RunsUnmarked program s image tx args a t = ⊥
-
--- The same of a marked one, on the heap of the image. Its trap rolls it back and leaves the pool
--- usable.
-abbrev pub RunsMarked : Program → SourceState → Words → (tx : ℕ) → List ℤ → Answer
-    → SourceState → Type 0
-RunsMarked program s image tx args (answer.Done value logged) t =
-    IsDoneOn program (opened_heap program image) s tx args value logged Ready t
-RunsMarked program s image tx args (answer.Aborted kind) t =
-    IsUndoneOn program (opened_heap program image) s tx args kind Ready t
-RunsMarked program s image tx args (answer.Stopped at) t = IsCutOff s tx args t
-RunsMarked program s image tx args answer.DeviceFault t = IsCutOff s tx args t
-RunsMarked program s image tx args answer.NoMemory t = IsCutOff s tx args t
-RunsMarked program s image tx args answer.RefusedNumbers t = IsOutOfNumbers s image t
-RunsMarked program s image tx args a t = ⊥
-
+-- The answer of a call, by whether its transaction is marked. A trap makes the pool unusable; a
+-- marked transaction is rolled back, and the pool stays usable.
 abbrev pub RunsBy : (marked : Bool) → Program → SourceState → Words → (tx : ℕ) → List ℤ → Answer
     → SourceState → Type 0
-RunsBy false program s image tx args a t = RunsUnmarked program s image tx args a t
-RunsBy true program s image tx args a t = RunsMarked program s image tx args a t
+RunsBy marked program s image tx args (answer.Done value logged) t =
+    IsDoneWith marked program s tx args value logged Ready t
+RunsBy marked program s image tx args (answer.Trap kind) t =
+    (marked ≡ false) × TrapsAs marked program s tx args kind × (t ≡ standing_as (Unusable kind) s)
+RunsBy marked program s image tx args (answer.Aborted kind) t =
+    (marked ≡ true) × TrapsAs marked program s tx args kind × (t ≡ undone_as Ready s)
+RunsBy marked program s image tx args (answer.Stopped at) t = IsCutOff s tx args t
+RunsBy marked program s image tx args answer.DeviceFault t = IsCutOff s tx args t
+RunsBy marked program s image tx args answer.NoMemory t = IsCutOff s tx args t
+RunsBy marked program s image tx args answer.RefusedNumbers t = IsOutOfNumbers s image t
+RunsBy marked program s image tx args a t = ⊥
 
 -- the answer of a call whose transaction takes these arguments
 abbrev pub Runs : Program → SourceState → Words → (tx : ℕ) → List ℤ → Answer → SourceState → Type 0
@@ -139,15 +121,18 @@ Lasts (Unusable kind) s a t = Refused (answer.RefusedUnusable kind) s a t
 abbrev pub HasSeal : SourceState → Words → Type 0
 HasSeal s image = image SEAL ≡ pos (suc s.done)
 
--- The owed transaction was run to its end: it is done or, if it is marked, done or rolled back. If
--- it was rolled back, the heap is the one that it began on.
-abbrev pub IsConcluded : (marked : Bool) → Program → Pending → SourceState → Words → Standing
+-- how a transaction of this outcome is finished: it is done; or rolled back, if it is marked
+abbrev pub Finishes : (marked : Bool) → Outcome → Standing → (s t : SourceState) → Type 0
+Finishes marked (Done pool value) standing s t = t ≡ done_with pool value standing s
+Finishes marked (Trap kind) standing s t = (marked ≡ true) × (t ≡ undone_as standing s)
+
+-- the owed transaction was run to its end, and is finished as the source says
+abbrev pub IsConcluded : (marked : Bool) → Program → Pending → SourceState → Standing
     → SourceState → Type 0
-IsConcluded false program owed s image standing t =
-    (value : ℤ) × (logged : ℕ)
-    × IsDoneWith program s owed.tx owed.args value logged standing t
-IsConcluded true program owed s image standing t =
-    IsConcludedOn program (opened_heap program image) s owed.tx owed.args standing t
+IsConcluded marked program owed s standing t =
+    (logged : ℕ) × (outcome : Outcome)
+    × ComesBy marked program s.pool owed.tx owed.args logged outcome
+    × Finishes marked outcome standing s t
 
 -- What is known of an owed transaction once the power is back. Without its seal in the image
 -- nothing of it is done; with the seal it was finished before the cut, or is still owed.
@@ -156,7 +141,7 @@ FindsOf None program s image t = t ≡ standing_as (Down None) s
 FindsOf (Some owed) program s image t =
     ((image SEAL ≢ pos (suc s.done)) × (t ≡ standing_as (Down None) s))
     ⊎ ((HasSeal s image × (image DONE ≡ pos (suc s.done))
-    × IsConcluded (rolls_back_of program owed.tx) program owed s image (Down None) t)
+    × IsConcluded (rolls_back_of program owed.tx) program owed s (Down None) t)
     ⊎ (HasSeal s image × (image DONE ≡ pos s.done) × (t ≡ standing_as (Down (Some owed)) s)))
 
 abbrev pub FindsOwed : Standing → Program → SourceState → Words → SourceState → Type 0
@@ -179,36 +164,22 @@ Rests program s image answer.DeviceFault t = t ≡ s
 Rests program s image answer.NoMemory t = t ≡ s
 Rests program s image a t = ⊥
 
--- the answer of a recovery where an unmarked transaction is owed
-abbrev pub RedoesUnmarked : Program → Pending → SourceState → Words → Answer → SourceState → Type 0
-RedoesUnmarked program owed s image (answer.RecoveredRedone value logged) t =
-    IsDoneWith program s owed.tx owed.args value logged Ready t
-RedoesUnmarked program owed s image (answer.RecoveredTrap kind) t =
-    TrapsAs program s owed.tx owed.args kind × (t ≡ standing_as (Unusable kind) s)
-RedoesUnmarked program owed s image answer.RefusedNumbers t = HasNumbers program image s t
-RedoesUnmarked program owed s image (answer.Stopped at) t = (at ≡ phase.Sealed) × (t ≡ s)
-RedoesUnmarked program owed s image answer.DeviceFault t = t ≡ s
-RedoesUnmarked program owed s image answer.NoMemory t = t ≡ s
-RedoesUnmarked program owed s image a t = ⊥
-
--- the same where a marked one is owed, on the heap that the image's log restores
-abbrev pub RedoesMarked : Program → Pending → SourceState → Words → Answer → SourceState → Type 0
-RedoesMarked program owed s image (answer.RecoveredRedone value logged) t =
-    IsDoneOn program (opened_heap program image) s owed.tx owed.args value logged Ready t
-RedoesMarked program owed s image (answer.RecoveredAborted kind) t =
-    IsUndoneOn program (opened_heap program image) s owed.tx owed.args kind Ready t
-RedoesMarked program owed s image answer.RefusedNumbers t = HasNumbers program image s t
-RedoesMarked program owed s image (answer.Stopped at) t = (at ≡ phase.Sealed) × (t ≡ s)
-RedoesMarked program owed s image answer.DeviceFault t = t ≡ s
-RedoesMarked program owed s image answer.NoMemory t = t ≡ s
-RedoesMarked program owed s image a t = ⊥
-
+-- the answer of a recovery where a transaction is owed, by whether it is marked
 abbrev pub RedoesBy : (marked : Bool) → Program → Pending → SourceState → Words → Answer
     → SourceState → Type 0
-RedoesBy false program owed s image a t = RedoesUnmarked program owed s image a t
-RedoesBy true program owed s image a t = RedoesMarked program owed s image a t
+RedoesBy marked program owed s image (answer.RecoveredRedone value logged) t =
+    IsDoneWith marked program s owed.tx owed.args value logged Ready t
+RedoesBy marked program owed s image (answer.RecoveredTrap kind) t =
+    (marked ≡ false) × TrapsAs marked program s owed.tx owed.args kind
+    × (t ≡ standing_as (Unusable kind) s)
+RedoesBy marked program owed s image (answer.RecoveredAborted kind) t =
+    (marked ≡ true) × TrapsAs marked program s owed.tx owed.args kind × (t ≡ undone_as Ready s)
+RedoesBy marked program owed s image answer.RefusedNumbers t = HasNumbers program image s t
+RedoesBy marked program owed s image (answer.Stopped at) t = (at ≡ phase.Sealed) × (t ≡ s)
+RedoesBy marked program owed s image answer.DeviceFault t = t ≡ s
+RedoesBy marked program owed s image answer.NoMemory t = t ≡ s
+RedoesBy marked program owed s image a t = ⊥
 
--- the answer of a recovery where a transaction is owed
 abbrev pub Redoes : Program → Pending → SourceState → Words → Answer → SourceState → Type 0
 Redoes program owed s image a t =
     RedoesBy (rolls_back_of program owed.tx) program owed s image a t
@@ -221,8 +192,8 @@ Recovers (Unusable kind) program s image a t = ⊥
 
 -- a trap of the owed transaction marks the pool, unless the transaction rolls back
 abbrev pub MarksAs : (marked : Bool) → Program → SourceState → Pending → TrapKind → Type 0
-MarksAs false program s owed kind = TrapsAs program s owed.tx owed.args kind
-MarksAs true program s owed kind = ⊥
+MarksAs marked program s owed kind =
+    (marked ≡ false) × TrapsAs marked program s owed.tx owed.args kind
 
 -- the pool has a mark: the trap of the owed transaction, or one that was answered before
 abbrev pub IsMarked : Standing → Program → SourceState → TrapKind → Type 0

@@ -1,14 +1,13 @@
 -- The history of a session is the list of transactions that are finished, in order: those that are
 -- done, and those that were rolled back. The commands, the answers and the images that the commands
 -- find determine it.
-use Rattle.std.specs.Prelude.{ℕ, suc, ◌+◌, ◌≡◌, ◌⊎◌, ◌&&◌, Bool, true, false, if◌then◌else◌, List}
+use Rattle.std.specs.Prelude.{ℕ, suc, ◌+◌, ◌≡◌, ◌⊎◌, ◌&&◌, Bool, true, if◌then◌else◌, List}
 use Rattle.std.specs.Prelude.{[], ◌∷◌, ◌++◌, length, Option, Some, None, ℤ, pos}
 use Rattle.std.specs.Ordering.{int_eq}
 use Rattle.cache_model.specs.Cache.{Words}
 use Rattle.pool_layout.specs.declared.places.TheConstants.{DONE, SEAL}
-use Rattle.pool_map.specs.declared.trap.TrapKind.{TrapKind}
 use Rattle.pool_map.specs.PoolMap.{PoolMap}
-use Rattle.c_meaning.specs.Transaction.{Done, Trap}
+use Rattle.c_meaning.specs.Transaction.{Outcome, Done, Trap}
 use Rattle.cnvm_script.specs.declared.command.Command.{Command}
 use Rattle.cnvm_script.specs.declared.command.Command.TheVariants as command
 use Rattle.cnvm_session.specs.declared.answer.Answer.{Answer}
@@ -16,8 +15,7 @@ use Rattle.cnvm_session.specs.declared.answer.Answer.TheVariants as answer
 use Rattle.cnvm_session.specs.declared.program.Program.{Program}
 use Rattle.cnvm_session.specs.Commands.{call_number}
 use Rattle.cnvm_session.specs.Marks.{rolls_back_of}
-use Rattle.session_law.specs.Source.{means}
-use Rattle.session_law.specs.Marked.{ComesOn}
+use Rattle.session_law.specs.Source.{ComesBy}
 use Rattle.session_law.specs.State.{Pending, Standing, Ready, Down, Unusable, SourceState}
 
 -- the transaction that is owed, if any
@@ -85,16 +83,18 @@ answered_in program (c ∷ commands) [] = []
 answered_in program (c ∷ commands) (a ∷ answers) =
     answered_by program c a ++ answered_in program commands answers
 
+-- the pool after a finished transaction of this outcome: one that is rolled back leaves the pool as
+-- it was
+abbrev pub LeavesPool : (marked : Bool) → Outcome → (p q : PoolMap) → Type 0
+LeavesPool marked (Done pool value) p q = q ≡ pool
+LeavesPool marked (Trap kind) p q = (marked ≡ true) × (q ≡ p)
+
 -- One transaction leads from the first pool to the second: it comes to a value, and the second pool
 -- is the source's; or it is marked and rolled back, and the pool stays.
 abbrev pub GivesPool : (marked : Bool) → Program → Pending → (p q : PoolMap) → Type 0
-GivesPool false program call p q =
-    (value : ℤ) × (means program p call.tx call.args ≡ Done q value)
-GivesPool true program call p q =
-    (h : Words)
-    × (((value : ℤ) × (logged : ℕ) × ComesOn program h p call.tx call.args logged (Done q value))
-    ⊎ (((kind : TrapKind) × (logged : ℕ)
-    × ComesOn program h p call.tx call.args logged (Trap kind)) × (q ≡ p)))
+GivesPool marked program call p q =
+    (logged : ℕ) × (outcome : Outcome)
+    × ComesBy marked program p call.tx call.args logged outcome × LeavesPool marked outcome p q
 
 -- these transactions, in order, lead from the first pool to the second
 abbrev pub LeadsTo : Program → PoolMap → List Pending → PoolMap → Type 0

@@ -15,6 +15,7 @@ use Rattle.pool_layout.specs.Image.{image_words}
 use Rattle.pool_layout.specs.Good.{sizes_words}
 use Rattle.pool_layout.specs.Opened.{IsOpened}
 use Rattle.pool_map.specs.declared.trap.TrapKind.{TrapKind}
+use Rattle.pool_map.specs.declared.trap.TrapKind.TheVariants.{LogFull}
 use Rattle.pool_map.specs.PoolMap.{PoolMap, empty_pool}
 use Rattle.clobber_log.specs.Logs.{count_in}
 use Rattle.pm_machine.specs.declared.effect.Effect.{Effect}
@@ -32,25 +33,23 @@ use Rattle.cnvm_session.specs.declared.answer.Answer.TheVariants as answer
 use Rattle.cnvm_session.specs.declared.mode.Mode.{Mode}
 use Rattle.cnvm_session.specs.declared.mode.Mode.TheVariants.{Ready}
 use Rattle.cnvm_session.specs.declared.program.Program.{Program}
-use Rattle.cnvm_session.specs.Commands.{call_number, tx_parameters, Commanded}
+use Rattle.cnvm_session.specs.Commands.{call_number, Commanded}
 use Rattle.cnvm_session.specs.Marks.{rolls_back_of}
 use Rattle.cnvm_session.specs.Steps.{most_of_program}
 use Rattle.cnvm_session.specs.Laws.{IsRefused}
 use Rattle.cnvm_session.specs.Outcomes.{Opens}
 use Rattle.cnvm_session.specs.Pool.{sizes_of, wanted_of}
 use Rattle.args_log.specs.Created.{creation_events}
-use Rattle.c_meaning.specs.Transaction.{Outcome, Done}
+use Rattle.c_meaning.specs.Transaction.{Outcome, Trap}
 use Rattle.ir.specs.declared.function.IrFunction.{IrFunction}
 use Rattle.ir.specs.declared.site.Site.{Site}
 use Rattle.session_law.specs.Logged.{AreLogged, FillsLog}
-use Rattle.session_law.specs.Source.{LogsFirst, ComesTo, outcome_with, source_pool}
-use Rattle.session_law.specs.Source.{HasSourceHeaders}
-use Rattle.session_law.specs.Words.{AreWords, HasPoolWords}
+use Rattle.session_law.specs.Source.{LogsBy, ComesBy, source_pool}
+use Rattle.session_law.specs.Words.{AreWords}
 use Rattle.session_law.specs.Agrees.{Agrees, Matches, RunsAs}
 use Rattle.session_law.specs.State.{Pending, Down, SourceState, standing_as, created}
 use Rattle.session_law.specs.State as state
-use Rattle.session_law.specs.Marked.{ComesOn}
-use Rattle.session_law.specs.Answers.{HasSeal, IsConcluded, Answers}
+use Rattle.session_law.specs.Answers.{HasSeal, IsConcluded, Runs, Redoes, Answers}
 use Rattle.session_law.specs.Opened.{opened}
 use Rattle.session_law.specs.Holds.{OwesOne, OwesMarked, Holds}
 use Rattle.session_law.specs.History.{recovered_by, LeadsTo, calls_in, answered_in, IsPart, HasDone}
@@ -66,12 +65,45 @@ abbrev pub ScriptLaw : Type 0
 ScriptLaw = (text : List ℕ) (commands : List Command) → script_meaning text ≡ Ok commands
     → AllByRecursion IsWordCommand commands
 
--- The program, the pool and the arguments determine how many stores a transaction logs, and what it
--- comes to.
+-- The program, the pool and the arguments determine how many stores a transaction logs, marked or
+-- not, and what it comes to.
 abbrev pub DeterminedLaw : Type 0
 DeterminedLaw =
-    (program : Program) (pool : PoolMap) (tx : ℕ) (args : List ℤ) (n m : ℕ) (o p : Outcome) →
-    ComesTo program pool tx args n o → ComesTo program pool tx args m p → (n ≡ m) × (o ≡ p)
+    (marked : Bool) (program : Program) (pool : PoolMap) (tx : ℕ) (args : List ℤ) (n m : ℕ)
+    (o p : Outcome) →
+    ComesBy marked program pool tx args n o → ComesBy marked program pool tx args m p →
+    (n ≡ m) × (o ≡ p)
+
+-- the trap is a full log exactly if there are more logged stores than records
+abbrev pub IsFullAt : (records logged : ℕ) → TrapKind → Type 0
+IsFullAt records logged kind =
+    (kind ≡ LogFull → records < logged) × (records < logged → kind ≡ LogFull)
+
+-- A transaction comes to a full log exactly if it has more logged stores than the log has records;
+-- and exactly then its call, or its recovery, is answered so.
+abbrev pub FullLogLaw : Type 0
+FullLogLaw =
+    ((marked : Bool) (program : Program) (pool : PoolMap) (tx : ℕ) (args : List ℤ) (logged : ℕ)
+    (outcome : Outcome) → ComesBy marked program pool tx args logged outcome →
+    (outcome ≡ Trap LogFull → (sizes_of program).records < logged)
+    × ((sizes_of program).records < logged → outcome ≡ Trap LogFull))
+    × ((program : Program) (s t : SourceState) (image : Words) (tx : ℕ) (args : List ℤ) (logged : ℕ)
+    (kind : TrapKind) → LogsBy (rolls_back_of program tx) program s.pool tx args logged →
+    Runs program s image tx args (answer.Aborted kind) t ⊎
+    Runs program s image tx args (answer.Trap kind) t →
+    IsFullAt (sizes_of program).records logged kind)
+    × ((program : Program) (owed : Pending) (s t : SourceState) (image : Words) (logged : ℕ)
+    (kind : TrapKind) →
+    LogsBy (rolls_back_of program owed.tx) program s.pool owed.tx owed.args logged →
+    Redoes program owed s image (answer.RecoveredAborted kind) t ⊎
+    Redoes program owed s image (answer.RecoveredTrap kind) t →
+    IsFullAt (sizes_of program).records logged kind)
+
+-- The first pool and the finished transactions determine the pool to which these lead.
+abbrev pub LedLaw : Type 0
+LedLaw =
+    (program : Program) (p q r : PoolMap) (calls : List Pending) →
+    LeadsTo program p calls q → LeadsTo program p calls r → q ≡ r
 
 -- A run has more logged stores than the log has records exactly if one of them, before the run's
 -- end, finds the log full.
@@ -82,40 +114,18 @@ FullLaw =
     (records < n → FillsLog functions records sites)
     × (FillsLog functions records sites → records < n)
 
--- A marked transaction that comes to a value appends one record for each of its logged stores by
--- the source: those at logged sites, and the first to each heap word. The program, the pool and the
--- arguments determine their number.
-abbrev pub MarkedCountLaw : Type 0
-MarkedCountLaw =
-    ((program : Program) (h : Words) (pool after : PoolMap) (tx : ℕ) (args : List ℤ) (value : ℤ)
-    (logged : ℕ) →
-    Agrees program → HasSourceHeaders program h → HasPoolWords pool → AreWords args
-    → tx_parameters program.image tx ≡ Some (length args)
-    → ComesOn program h pool tx args logged (Done after value) →
-    LogsFirst program pool tx args logged)
-    × ((program : Program) (pool : PoolMap) (tx : ℕ) (args : List ℤ) (n m : ℕ) →
-    LogsFirst program pool tx args n → LogsFirst program pool tx args m → n ≡ m)
-
 -- A marked transaction's run from a heap on which the image agrees with its source. It ends as the
--- source says; or with a full log, exactly if the source's number of logged stores, the first to
--- each heap word included, is more than the log has records. Else it appends as many records.
+-- source says on the heap's pool: with a full log exactly if the number of its logged stores, the
+-- first to each heap word included, is more than the log has records. Else it appends as many.
 abbrev pub MarkedExactLaw : Type 0
 MarkedExactLaw =
-    (program : Program) (h : Words) (tx : ℕ) (args : List ℤ) (runs : RunsAs program h tx args) →
+    (program : Program) (h : Words) (tx : ℕ) (args : List ℤ) (logged : ℕ) (outcome : Outcome) →
+    RunsAs program h tx args →
+    ComesBy true program (source_pool program h) tx args logged outcome →
     (end : End) × (es : List Effect)
     × (mrun_marked program.image program.image.parts.most h tx args ≡ Finished end es)
-    × Matches program (outcome_with program (source_pool program h) tx args runs.firsts) end
-    (heap_end h es)
-    × (nat_lt (sizes_of program).records runs.firsts ≡ false → records_end 0 es ≡ runs.firsts)
-
--- A heap determines what a marked transaction comes to on it, and how many records its run appends
--- there.
-abbrev pub MarkedDeterminedLaw : Type 0
-MarkedDeterminedLaw =
-    ((program : Program) (h : Words) (pool : PoolMap) (tx : ℕ) (args : List ℤ) (n m : ℕ)
-    (o p : Outcome) →
-    ComesOn program h pool tx args n o → ComesOn program h pool tx args m p → (n ≡ m) × (o ≡ p))
-    × MarkedCountLaw
+    × Matches program outcome end (heap_end h es)
+    × (nat_lt (sizes_of program).records logged ≡ false → records_end 0 es ≡ logged)
 
 -- Each answer to a command whose arguments are words is one that the source gives, and the device
 -- then holds what the source knows.
@@ -144,8 +154,7 @@ SealedLaw =
     x.state.standing ≡ Down (Some owed) → IsCompleted a →
     SessionStep program super (command.Power choice) x a y →
     (HasSeal x.state (view (powered choice x.device).cache) × (y.history ≡ x.history ++ owed ∷ [])
-    × IsConcluded (rolls_back_of program owed.tx) program owed x.state
-    (view (powered choice x.device).cache) state.Ready y.state)
+    × IsConcluded (rolls_back_of program owed.tx) program owed x.state state.Ready y.state)
     ⊎ ((view (powered choice x.device).cache SEAL ≢ pos (suc x.state.done))
     × (y.history ≡ x.history) × (y.state ≡ standing_as state.Ready x.state))
 

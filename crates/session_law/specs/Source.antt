@@ -1,8 +1,8 @@
 -- What the source of a program says of a transaction: its parameters, its meaning on a pool, its
 -- outcome there and the number of its logged stores; and which pool a heap holds under the
 -- program's shapes.
-use Rattle.std.specs.Prelude.{ℕ, ◌+◌, ◌*◌, ◌≡◌, if◌then◌else◌, nat_lt, List, [], length}
-use Rattle.std.specs.Prelude.{Option, option_map, ℤ}
+use Rattle.std.specs.Prelude.{ℕ, ◌+◌, ◌*◌, ◌≡◌, if◌then◌else◌, nat_lt, Bool, true, false, List, []}
+use Rattle.std.specs.Prelude.{length, Option, option_map, ℤ}
 use Rattle.std.specs.Option.{option_map_or}
 use Rattle.cache_model.specs.Cache.{Words}
 use Rattle.pool_layout.specs.Headers.{HasHeaders}
@@ -73,11 +73,16 @@ abbrev pub outcome_with : Program → PoolMap → (tx : ℕ) → List ℤ → (l
 outcome_with program pool tx args logged =
     if nat_lt (sizes_of program).records logged then Trap LogFull else means program pool tx args
 
--- What a transaction comes to on a pool. The program, the pool and the arguments determine both the
--- number of logged stores and the outcome.
-pub record ComesTo (program : Program) (pool : PoolMap) (tx : ℕ) (args : List ℤ) (logged : ℕ)
-    (outcome : Outcome) : Type 0 where
-  pub logs : LogsStores program pool tx args logged
+-- the number of logged stores, by whether the transaction is marked
+abbrev pub LogsBy : (marked : Bool) → Program → PoolMap → (tx : ℕ) → List ℤ → (logged : ℕ) → Type 0
+LogsBy false program pool tx args logged = LogsStores program pool tx args logged
+LogsBy true program pool tx args logged = LogsFirst program pool tx args logged
+
+-- What a transaction comes to on a pool, marked or not. The program, the pool and the arguments
+-- determine both the number of logged stores and the outcome.
+pub record ComesBy (marked : Bool) (program : Program) (pool : PoolMap) (tx : ℕ) (args : List ℤ)
+    (logged : ℕ) (outcome : Outcome) : Type 0 where
+  pub logs : LogsBy marked program pool tx args logged
   pub is : outcome_with program pool tx args logged ≡ outcome
 
 abbrev pub source_pool : Program → Words → PoolMap

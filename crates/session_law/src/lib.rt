@@ -10,7 +10,7 @@ ghost use Rattle.session_law.specs.Law.{SessionLaw, SealedLaw, PhaseLaw, StepsLa
 ghost use Rattle.session_law.specs.Law.{OpenedLaw, SessionRunLaw, KeptLaw, HistoryLaw, BegunLaw};
 ghost use Rattle.session_law.specs.Law.{WholeLaw, UnchangedLaw, BoundLaw, ScriptLaw, DeterminedLaw};
 ghost use Rattle.session_law.specs.Law.{FullLaw, RecoveryPhaseLaw};
-ghost use Rattle.session_law.specs.Law.{MarkedDeterminedLaw, MarkedExactLaw, RollbackLaw};
+ghost use Rattle.session_law.specs.Law.{LedLaw, FullLogLaw, MarkedExactLaw, RollbackLaw};
 
 /// Each command of a session is answered as the source says. The function does nothing.
 pub fn law()
@@ -31,7 +31,8 @@ pub fn law()
     ensures script { ScriptLaw }
     ensures determined { DeterminedLaw }
     ensures full { FullLaw }
-    ensures marked { MarkedDeterminedLaw }
+    ensures full_log { FullLogLaw }
+    ensures led { LedLaw }
     ensures marked_exact { MarkedExactLaw }
     ensures rollback { RollbackLaw }
 {}

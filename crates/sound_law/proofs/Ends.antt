@@ -17,10 +17,10 @@ use Rattle.sound_law.proofs.Expressions.{Fits, Leaves}
 use Rattle.sound_law.proofs.Ticks.{Falls, EndsBelow}
 use Rattle.sound_law.proofs.Declared.{Over, over_same, over_more, own_end}
 
-after_both : {A : Type 0} (o : Out A) (P R Q : A → PoolMap → ℕ → Type 0) → Past o P → Past o R
-    → ((a : A) (p : PoolMap) (k : ℕ) → P a p k → R a p k → Q a p k) → Past o Q
-after_both (Got a p k) P R Q one two next = next a p k one two
-after_both (Stops trap) P R Q one two next = tt
+after_fall : {A : Type 0} (n : ℕ) (o : Out A) (P Q : A → PoolMap → ℕ → Type 0) → Past o P
+    → Falls n o → ((a : A) (p : PoolMap) (k : ℕ) → P a p k → k ≤ n → Q a p k) → Past o Q
+after_fall n (Got a p k) P Q one le next = next a p k one le
+after_fall n (Stops trap) P Q one le next = tt
 
 module _ (t : Tables) where
   -- normally with locals of the scopes d, and by `break` or `continue` with those of c and newer
@@ -175,8 +175,7 @@ module _ (t : Tables) where
     turns_find f g h (suc n) ls p zero is fits le = tt
     turns_find f g h (suc n) ls p (suc k) is fits le = (
       (tests ls p k is fits).0,
-      after_both (test ls p k) (λ v p j. Fits t p) (λ v p j. j ≤ k) _ (tests ls p k is fits).1
-          (f ls p k)
+      after_fall k (test ls p k) (λ v p j. Fits t p) _ (tests ls p k is fits).1 (f ls p k)
           (λ v p j fits one e. (
             (bodies ls p j is fits).0,
             turn_next c j (body ls p j) _ (bodies ls p j is fits).1 (g ls p j)

@@ -7,5 +7,6 @@ pub mod Declared
 pub mod Ends
 pub mod Simple
 pub mod Statements
+pub mod Checks
 pub mod Ticks
 pub mod Laws

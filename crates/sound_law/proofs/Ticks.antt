@@ -1,6 +1,7 @@
--- Ticks are only taken: whatever runs, no more are left than there were.
+-- Ticks are only taken: whatever runs, no more are left than there were. And whatever traps has
+-- another trap than a full log.
 use Rattle.std.proofs.Common.{ℕ, zero, suc, ◌≤◌, ℤ, pos, Bool, true, false, List, [], length}
-use Rattle.std.proofs.Common.{arith}
+use Rattle.std.proofs.Common.{subst, arith}
 use Rattle.std.specs.Prelude.{Option, None, Some, Result, Ok, Err, if◌then◌else◌}
 use Rattle.std.specs.Option.{option_map_or}
 use Rattle.c_tree.specs.ExprTree.{ExprTree, Arguments}
@@ -28,44 +29,47 @@ use Rattle.c_meaning.specs.Meaning.{pointer_of, values_of, operands_of, stored_e
 use Rattle.c_meaning.specs.Meaning.{update, target_local, freed, end_of_simple, declaration_end}
 use Rattle.c_meaning.specs.Meaning.{end_of_first, end_of_third, condition_of, return_end, in_scope}
 use Rattle.c_meaning.specs.Meaning.{after_turn, turns, end_of_stmt, ends_of, given, function_value}
-use Rattle.c_meaning.specs.Meaning.{calls_of, placed_trap, located}
-use Rattle.sound_law.specs.Expressions.{Past}
-use Rattle.sound_law.proofs.Expressions.{after_do}
+use Rattle.c_meaning.specs.Meaning.{calls_of, placed_trap, located, at_place}
+use Rattle.c_meaning.specs.Access.{free_object}
+use Rattle.c_meaning.specs.Transaction.{Outcome, Done, Trap, transaction, run_transaction, outcome}
+use Rattle.sound_law.specs.Law.{NeverFullLaw}
+use Rattle.sound_law.proofs.Checks.{IsOwn, FailsAt, placed_fails, located_fails, free_fails}
 
--- at most k ticks are left
+-- at most k ticks are left; or it traps, with a trap of the source
 abbrev pub Falls : {A : Type 0} → ℕ → Out A → Type 0
-Falls k o = Past o (λ a p j. j ≤ k)
+Falls k (Got a p j) = j ≤ k
+Falls k (Stops trap) = IsOwn trap.kind
 
 abbrev pub EndsBelow : ℕ → StmtEnd → Type 0
 EndsBelow k (Next ls p j) = j ≤ k
 EndsBelow k (Broke ls p j) = j ≤ k
 EndsBelow k (Again ls p j) = j ≤ k
 EndsBelow k (Gave v p j) = j ≤ k
-EndsBelow k (Traps trap) = Unit {0}
+EndsBelow k (Traps trap) = IsOwn trap.kind
 
 falls_more : {A : Type 0} (j k : ℕ) (o : Out A) → j ≤ k → Falls j o → Falls k o
 falls_more j k (Got a p i) le h = omega (arith, le, h)
-falls_more j k (Stops trap) le h = tt
+falls_more j k (Stops trap) le h = h
 
 below_more : (j k : ℕ) (e : StmtEnd) → j ≤ k → EndsBelow j e → EndsBelow k e
 below_more j k (Next ls p i) le h = omega (arith, le, h)
 below_more j k (Broke ls p i) le h = omega (arith, le, h)
 below_more j k (Again ls p i) le h = omega (arith, le, h)
 below_more j k (Gave v p i) le h = omega (arith, le, h)
-below_more j k (Traps trap) le h = tt
+below_more j k (Traps trap) le h = h
 
 pub same : (k : ℕ) → k ≤ k
 same k = omega arith
 
 do_falls : {A B : Type 0} (k : ℕ) (o : Out A) (go : A → PoolMap → ℕ → Out B) → Falls k o
     → ((a : A) (p : PoolMap) (j : ℕ) → Falls j (go a p j)) → Falls k (then_do o go)
-do_falls k o go h next = after_do o go (λ a p j. j ≤ k) (λ a p j. j ≤ k) h
-    (λ a p j le. falls_more j k (go a p j) le (next a p j))
+do_falls k (Got a p j) go h next = falls_more j k (go a p j) h (next a p j)
+do_falls k (Stops trap) go h next = h
 
 value_below : {A : Type 0} (k : ℕ) (o : Out A) (go : A → PoolMap → ℕ → StmtEnd) → Falls k o
     → ((a : A) (p : PoolMap) (j : ℕ) → EndsBelow j (go a p j)) → EndsBelow k (with_value o go)
 value_below k (Got a p j) go h next = below_more j k (go a p j) h (next a p j)
-value_below k (Stops trap) go h next = tt
+value_below k (Stops trap) go h next = h
 
 next_below : (k : ℕ) (e : StmtEnd) (go : List Local → PoolMap → ℕ → StmtEnd) → EndsBelow k e
     → ((ls : List Local) (p : PoolMap) (j : ℕ) → EndsBelow j (go ls p j))
@@ -74,7 +78,7 @@ next_below k (Next ls p j) go h next = below_more j k (go ls p j) h (next ls p j
 next_below k (Broke ls p j) go h next = h
 next_below k (Again ls p j) go h next = h
 next_below k (Gave v p j) go h next = h
-next_below k (Traps trap) go h next = tt
+next_below k (Traps trap) go h next = h
 
 turn_below : (k : ℕ) (e : StmtEnd) (go : List Local → PoolMap → ℕ → StmtEnd) → EndsBelow k e
     → ((ls : List Local) (p : PoolMap) (j : ℕ) → EndsBelow j (go ls p j))
@@ -83,14 +87,14 @@ turn_below k (Next ls p j) go h next = below_more j k (go ls p j) h (next ls p j
 turn_below k (Again ls p j) go h next = below_more j k (go ls p j) h (next ls p j)
 turn_below k (Broke ls p j) go h next = h
 turn_below k (Gave v p j) go h next = h
-turn_below k (Traps trap) go h next = tt
+turn_below k (Traps trap) go h next = h
 
 scope_below : (k n : ℕ) (e : StmtEnd) → EndsBelow k e → EndsBelow k (in_scope n e)
 scope_below k n (Next ls p j) h = h
 scope_below k n (Broke ls p j) h = h
 scope_below k n (Again ls p j) h = h
 scope_below k n (Gave v p j) h = h
-scope_below k n (Traps trap) h = tt
+scope_below k n (Traps trap) h = h
 
 zero_below : (k : ℕ) (c : Bool) (a b : StmtEnd) → EndsBelow k a → EndsBelow k b
     → EndsBelow k (if c then a else b)
@@ -102,24 +106,25 @@ zero_falls : (k : ℕ) (c : Bool) (a b : Out ℤ) → Falls k a → Falls k b
 zero_falls k true a b left right = left
 zero_falls k false a b left right = right
 
-tick_falls : (stop : TrapAt) (k : ℕ) (go : ℕ → Out ℤ) → ((j : ℕ) → Falls j (go j))
-    → Falls k (tick k (Stops stop) go)
-tick_falls stop zero go next = tt
-tick_falls stop (suc k) go next = falls_more k (suc k) (go k) (omega arith) (next k)
+tick_falls : (place k : ℕ) (go : ℕ → Out ℤ) → ((j : ℕ) → Falls j (go j))
+    → Falls k (tick k (Stops (placed_trap trap.Steps place)) go)
+tick_falls place zero go next = tt
+tick_falls place (suc k) go next = falls_more k (suc k) (go k) (omega arith) (next k)
 
-tick_below : (stop : TrapAt) (k : ℕ) (go : ℕ → StmtEnd) → ((j : ℕ) → EndsBelow j (go j))
-    → EndsBelow k (tick k (Traps stop) go)
-tick_below stop zero go next = tt
-tick_below stop (suc k) go next = below_more k (suc k) (go k) (omega arith) (next k)
+tick_below : (place k : ℕ) (go : ℕ → StmtEnd) → ((j : ℕ) → EndsBelow j (go j))
+    → EndsBelow k (tick k (Traps (placed_trap trap.Steps place)) go)
+tick_below place zero go next = tt
+tick_below place (suc k) go next = below_more k (suc k) (go k) (omega arith) (next k)
 
-loaded_falls : (r : Result PoolWord TrapAt) (p : PoolMap) (k : ℕ) → Falls k (loaded r p k)
-loaded_falls (Ok w) p k = same k
-loaded_falls (Err trap) p k = tt
+loaded_falls : (r : Result PoolWord TrapAt) (p : PoolMap) (k : ℕ) → FailsAt r
+    → Falls k (loaded r p k)
+loaded_falls (Ok w) p k h = same k
+loaded_falls (Err trap) p k h = h
 
-or_trap_falls : (o : Option ℤ) (stop : TrapAt) (p : PoolMap) (k : ℕ)
-    → Falls k (or_trap o stop p k)
-or_trap_falls None stop p k = tt
-or_trap_falls (Some v) stop p k = same k
+or_trap_falls : (o : Option ℤ) (place : ℕ) (p : PoolMap) (k : ℕ)
+    → Falls k (or_trap o (placed_trap trap.Divide place) p k)
+or_trap_falls None place p k = tt
+or_trap_falls (Some v) place p k = same k
 
 abbrev Each : (PoolMap → ℕ → Out ℤ) → Type 0
 Each b = (p : PoolMap) (k : ℕ) → Falls k (b p k)
@@ -132,7 +137,7 @@ strict_falls : (k : ℕ) (op : BinaryOp) (place : ℕ) (a : Out ℤ) (b : PoolMa
     → Falls k a → Each b → Falls k (strict op place a b)
 strict_falls k op place a b left right = do_falls k a _ left
     (λ x p j. do_falls j (b p j) _ (right p j)
-    (λ y p i. or_trap_falls (binary_of op x y) (placed_trap trap.Divide place) p i))
+    (λ y p i. or_trap_falls (binary_of op x y) place p i))
 
 binary_falls : (k : ℕ) (op : BinaryOp) (place : ℕ) (a : Out ℤ) (b : PoolMap → ℕ → Out ℤ)
     → Falls k a → Each b → Falls k (binary_means op place a b)
@@ -175,7 +180,7 @@ module _ (t : Tables) (calls : Calls) (fall : CallsFall calls) where
       → Falls k (called calls place o all p k)
   called_falls place None all p k h = same k
   called_falls place (Some f) all p k h = do_falls k (all f) _ (h f)
-      (λ vs p j. tick_falls (placed_trap trap.Steps place) j (λ i. calls place f vs p i)
+      (λ vs p j. tick_falls place j (λ i. calls place f vs p i)
       (λ i. fall place f vs p i))
 
   mutual
@@ -189,13 +194,16 @@ module _ (t : Tables) (calls : Calls) (fall : CallsFall calls) where
     value_falls (expr.New place name) ls p k = same k
     value_falls (expr.Root name) ls p k =
         loaded_falls (located t ls p (expr.Root name) (pos 0) None) p k
+        (located_fails t ls p (expr.Root name) (pos 0) None)
     value_falls (expr.Arrow base place name) ls p k =
         do_falls k (value_of t calls base ls p k) _ (value_falls base ls p k)
-        (λ b p j. loaded_falls (located t ls p (expr.Arrow base place name) b None) p j)
+        (λ b p j. loaded_falls (located t ls p (expr.Arrow base place name) b None) p j
+        (located_fails t ls p (expr.Arrow base place name) b None))
     value_falls (expr.Index a place i) ls p k =
         do_falls k (pointer_of t calls a ls p k) _ (pointer_falls a ls p k)
         (λ b p j. do_falls j (value_of t calls i ls p j) _ (value_falls i ls p j)
-        (λ x p n. loaded_falls (located t ls p (expr.Index a place i) b (Some x)) p n))
+        (λ x p n. loaded_falls (located t ls p (expr.Index a place i) b (Some x)) p n
+        (located_fails t ls p (expr.Index a place i) b (Some x))))
     value_falls (expr.Unary op place a) ls p k =
         do_falls k (value_of t calls a ls p k) _ (value_falls a ls p k) (λ x p j. same j)
     value_falls (expr.Binary op place a b) ls p k =
@@ -240,9 +248,9 @@ module _ (t : Tables) (calls : Calls) (fall : CallsFall calls) where
   operands_fall (expr.Binary op place a b) ls p k = same k
 
   stored_below : (r : Result PoolWord TrapAt) (v : ℤ) (ls : List Local) (p : PoolMap) (k : ℕ)
-      → EndsBelow k (stored_end r v ls p k)
-  stored_below (Ok w) v ls p k = same k
-  stored_below (Err trap) v ls p k = tt
+      → FailsAt r → EndsBelow k (stored_end r v ls p k)
+  stored_below (Ok w) v ls p k h = same k
+  stored_below (Err trap) v ls p k h = h
 
   assign_below : (o : Option (List ℕ)) (e : ExprTree) (value : PoolMap → ℕ → Out ℤ)
       (ls : List Local) (p : PoolMap) (k : ℕ) → Each value
@@ -252,7 +260,8 @@ module _ (t : Tables) (calls : Calls) (fall : CallsFall calls) where
   assign_below None e value ls p k h =
       value_below k (operands_of t calls e ls p k) _ (operands_fall e ls p k)
       (λ o p j. value_below j (value p j) _ (h p j)
-      (λ v p i. stored_below (located t ls p e o.0 o.1) v ls p i))
+      (λ v p i. stored_below (located t ls p e o.0 o.1) v ls p i
+      (located_fails t ls p e o.0 o.1)))
 
   update_below : (o : Option (List ℕ)) (e : ExprTree) (op : BinaryOp) (place : ℕ)
       (right : PoolMap → ℕ → Out ℤ) (ls : List Local) (p : PoolMap) (k : ℕ) → Each right
@@ -260,21 +269,22 @@ module _ (t : Tables) (calls : Calls) (fall : CallsFall calls) where
   update_below (Some name) e op place right ls p k h = value_below k (right p k) _ (h p k)
       (λ y p j. value_below j
       (or_trap (binary_of op (value_named name ls) y) (placed_trap trap.Divide place) p j) _
-      (or_trap_falls (binary_of op (value_named name ls) y) (placed_trap trap.Divide place) p j)
+      (or_trap_falls (binary_of op (value_named name ls) y) place p j)
       (λ v p i. same i))
   update_below None e op place right ls p k h =
       value_below k (operands_of t calls e ls p k) _ (operands_fall e ls p k)
       (λ o p j. value_below j (loaded (located t ls p e o.0 o.1) p j) _
-      (loaded_falls (located t ls p e o.0 o.1) p j)
+      (loaded_falls (located t ls p e o.0 o.1) p j (located_fails t ls p e o.0 o.1))
       (λ x p i. value_below i (right p i) _ (h p i)
       (λ y p n. value_below n (or_trap (binary_of op x y) (placed_trap trap.Divide place) p n) _
-      (or_trap_falls (binary_of op x y) (placed_trap trap.Divide place) p n)
-      (λ v p m. stored_below (located t ls p e o.0 o.1) v ls p m))))
+      (or_trap_falls (binary_of op x y) place p n)
+      (λ v p m. stored_below (located t ls p e o.0 o.1) v ls p m
+      (located_fails t ls p e o.0 o.1)))))
 
-  freed_below : (r : Result PoolMap TrapAt) (ls : List Local) (k : ℕ)
+  freed_below : (r : Result PoolMap TrapAt) (ls : List Local) (k : ℕ) → FailsAt r
       → EndsBelow k (freed r ls k)
-  freed_below (Ok p) ls k = same k
-  freed_below (Err trap) ls k = tt
+  freed_below (Ok p) ls k h = same k
+  freed_below (Err trap) ls k h = h
 
   simple_below : (x : SimpleTree) (ls : List Local) (p : PoolMap) (k : ℕ)
       → EndsBelow k (end_of_simple t calls x ls p k)
@@ -300,7 +310,8 @@ module _ (t : Tables) (calls : Calls) (fall : CallsFall calls) where
       (value_falls (expr.Call name all) ls p k) (λ v p j. same j)
   simple_below (stmt.Free place e) ls p k =
       value_below k (value_of t calls e ls p k) _ (value_falls e ls p k)
-      (λ v p j. freed_below _ ls j)
+      (λ v p j. freed_below (at_place place (free_object t ls p e v)) ls j
+      (placed_fails place (free_object t ls p e v) (free_fails t ls p e v)))
   simple_below (stmt.Abort place) ls p k = tt
 
   initial_falls : (o : Option InitialTree) (ls : List Local) (p : PoolMap) (k : ℕ)
@@ -344,7 +355,7 @@ module _ (t : Tables) (calls : Calls) (fall : CallsFall calls) where
       → EndsBelow k (turns n place test body third ls p k)
   turns_below zero place test body third ls p k a b c = tt
   turns_below (suc n) place test body third ls p k a b c =
-      tick_below (placed_trap trap.Steps place) k _
+      tick_below place k _
       (λ k. value_below k (test ls p k) _ (a ls p k)
       (λ v p k. zero_below k (is_zero v) (Next ls p k) _ (same k)
       (turn_below k (body ls p k) _ (b ls p k)
@@ -396,7 +407,7 @@ module _ (t : Tables) (calls : Calls) (fall : CallsFall calls) where
   given_falls k (Broke ls p j) h = h
   given_falls k (Again ls p j) h = h
   given_falls k (Gave v p j) h = h
-  given_falls k (Traps trap) h = tt
+  given_falls k (Traps trap) h = h
 
   function_falls : (f : FunctionTree) (vs : List ℤ) (p : PoolMap) (k : ℕ)
       → Falls k (function_value t calls f vs p k)
@@ -408,3 +419,23 @@ pub calls_fall : (t : Tables) (room : ℕ) → CallsFall (calls_of t room)
 calls_fall t zero place f vs p k = tt
 calls_fall t (suc room) place f vs p k =
     function_falls t (calls_of t room) (calls_fall t room) f vs p k
+
+-- a transaction that traps
+
+run_falls : (t : Tables) (o : Option FunctionTree) (p : PoolMap) (args : List ℤ) (k : ℕ)
+    → Falls k (run_transaction t o p args k)
+run_falls t None p args k = same k
+run_falls t (Some f) p args k = function_falls t (calls_of t 255) (calls_fall t 255) f args p k
+
+abbrev OwnOutcome : Outcome → Type 0
+OwnOutcome (Done p v) = Unit {0}
+OwnOutcome (Trap kind) = IsOwn kind
+
+outcome_own : (k : ℕ) (o : Out ℤ) → Falls k o → OwnOutcome (outcome o)
+outcome_own k (Got v p j) h = tt
+outcome_own k (Stops trap) h = h
+
+pub never_full : NeverFullLaw
+never_full t p number args ticks is =
+    subst OwnOutcome is (outcome_own ticks (run_transaction t (transaction t number) p args ticks)
+    (run_falls t (transaction t number) p args ticks))

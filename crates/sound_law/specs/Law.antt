@@ -7,6 +7,7 @@ use Rattle.c_types.specs.Tables.{Tables, tables_of}
 use Rattle.c_types.specs.Fault.{breaks}
 use Rattle.c_types.specs.Shapes.{shapes_of}
 use Rattle.pool_map.specs.declared.shapes.Shapes.{Shapes}
+use Rattle.pool_map.specs.declared.trap.TrapKind.TheVariants.{LogFull}
 use Rattle.pool_map.specs.PoolMap.{PoolMap}
 use Rattle.pool_map.specs.PoolFits.{PoolFits}
 use Rattle.c_meaning.specs.Meaning.{calls_of}
@@ -33,3 +34,8 @@ SoundLaw = (tree : Program) → breaks tree ≡ [] → (number : ℕ) (f : Funct
     → TransactionFinds (tables_of (tree_of tree)) f p args ticks
     × LeavesFitting (shapes_of tree)
     (transaction_means (tables_of (tree_of tree)) p number args ticks)
+
+-- A source has no log: by its source no transaction traps with a full log.
+abbrev pub NeverFullLaw : Type 0
+NeverFullLaw = (t : Tables) (p : PoolMap) (number : ℕ) (args : List ℤ) (ticks : ℕ)
+    → transaction_means t p number args ticks ≡ Trap LogFull → ⊥

@@ -303,7 +303,7 @@ module _ (program : Program) (super : Words) (call : Pending) (s : SourceState) 
       -- it ended with a value
       pub work_done : (v : ℤ) (l : ℕ) → fate0 ≡ Halted v
           → l ≡ task_logs program.image (begun_task program.image call.tx call.args) start_of
-          → (u : SourceState) × IsDoneWith program s call.tx call.args v l Ready u
+          → (u : SourceState) × IsDoneWith false program s call.tx call.args v l Ready u
           × (u.standing ≡ Ready) × IsResting program super (still c) u
       work_done v l halted logs =
           let ran = (ascalls.called program.image call.tx call.args 0 start_of 0).0 v halted in
@@ -314,13 +314,13 @@ module _ (program : Program) (super : Words) (call : Pending) (s : SourceState) 
           w.words w.plain (called.Done v own_logs) (still over) 0
           (0 + task_steps program.image (begun_task program.image call.tx call.args) start_of) refl
           (as_called (called.Done v own_logs) ran) in
-          let at : IsDoneWith program s call.tx call.args v own_logs Ready done.0 = done.1 in
+          let at : IsDoneWith false program s call.tx call.args v own_logs Ready done.0 = done.1 in
           let u : SourceState = done_with at.0 v Ready s in
           let rests : IsResting program super (still over) u =
           (subst (λ (x : SourceState). Holds program super mode.Ready (still over) x) at.2 done.2).1
           in (
             u,
-            subst (λ (n : ℕ). IsDoneWith program s call.tx call.args v n Ready u) (sym logs)
+            subst (λ (n : ℕ). IsDoneWith false program s call.tx call.args v n Ready u) (sym logs)
                 (at.0, at.1, refl),
             refl,
             rest_same program super over c u (shown_rest rests.rest) shown_view rests,
@@ -328,7 +328,7 @@ module _ (program : Program) (super : Words) (call : Pending) (s : SourceState) 
 
       -- it trapped
       pub work_traps : (kind : TrapKind) → fate0 ≡ Trapped kind
-          → TrapsAs program s call.tx call.args kind
+          → TrapsAs false program s call.tx call.args kind
           × Images (Lost program.image.parts.sizes (trap_number kind)) c
       work_traps kind trapped =
           let ran = (ascalls.called program.image call.tx call.args 0 start_of 0).1 kind trapped in
@@ -337,12 +337,12 @@ module _ (program : Program) (super : Words) (call : Pending) (s : SourceState) 
           w.words w.plain (called.Trap kind) (still over) 0
           (0 + task_steps program.image (begun_task program.image call.tx call.args) start_of) refl
           (as_called (called.Trap kind) ran) in
-          let at : TrapsAs program s call.tx call.args kind
+          let at : (false ≡ false) × TrapsAs false program s call.tx call.args kind
           × (done.0 ≡ standing_as (Unusable kind) (standing_as Ready s)) = done.1 in
           let lost : Images (Lost program.image.parts.sizes (trap_number kind)) over =
           (subst (λ (x : SourceState). Holds program super (mode.Unusable kind) (still over) x)
-          at.1 done.2).1 in
-          (at.0, λ image is. lost image (shown_fewer image is))
+          at.2 done.2).1 in
+          (at.1, λ image is. lost image (shown_fewer image is))
 
 -- the last turn: the task was at its end, and the answer tells the fate
 pub record HasEnded (program : Program) (super : Words) (call : Pending) (t : Task)

@@ -46,14 +46,15 @@ use Rattle.workers_session.specs.WorkersCommands.{keeps_down}
 use Rattle.session_law.specs.Agrees.{Agrees}
 use Rattle.session_law.specs.State.{Pending, Standing, Ready, Down, Unusable, SourceState}
 use Rattle.session_law.specs.State.{standing_as, done_with}
-use Rattle.session_law.specs.Answers.{FindsOwed, Rests, RedoesUnmarked, RedoesBy, Recovers}
-use Rattle.session_law.specs.Answers.{IsConcluded, IsMarked, MarksAs, Powers}
+use Rattle.session_law.specs.Answers.{FindsOwed, Rests, RedoesBy, Recovers, IsMarked, MarksAs}
+use Rattle.session_law.specs.Answers.{Powers}
 use Rattle.session_law.specs.Holds.{IsResting, OwesNone, OwesOne, OwesBy, HoldsAs}
 use Rattle.session_law.proofs.Words.{held_words}
 use Rattle.session_law.proofs.Ones.{rest_images, at_view, left_rest}
 use Rattle.session_law.proofs.Reading.{is_marked, is_unsealed, is_owed, kind_read}
 use Rattle.session_law.proofs.Resting.{resting_owes, Meant, meant, run_trapped}
 use Rattle.session_law.proofs.Powers.{HeldAs, not_owing, owing_as, held_recovers}
+use Rattle.session_law.proofs.Histories.{finished_counts}
 use Rattle.workers_source_law.proofs.Stills.{still, fewer_fenced, fewer_left}
 use Rattle.workers_source_law.proofs.Stills.{marks_fenced, marks_play, fewer_held}
 use Rattle.workers_source_law.proofs.Invariants.{PlainAs, UpAs, Stands}
@@ -180,9 +181,8 @@ module _ (program : Program) (super : Words) where
   finds_plain (Down (Some owed)) s found image plain (inl is) =
       plain_of found (standing_as (Down None) s) is.1 tt
   finds_plain (Down (Some owed)) s found image plain (inr (inl is)) =
-      let done : IsConcluded false program owed s image (Down None) found =
-      subst (λ (b : Bool). IsConcluded b program owed s image (Down None) found) plain is.2 in
-      plain_of found (done_with done.2.0 done.0 (Down None) s) done.2.2 tt
+      subst (PlainAs program) (sym (finished_counts program (rolls_back_of program owed.tx) s found
+      owed (Down None) is.2).1) tt
   finds_plain (Down (Some owed)) s found image plain (inr (inr is)) =
       plain_of found (standing_as (Down (Some owed)) s) is.2 plain
   finds_plain (Unusable kind) s found image plain is = absurd is
@@ -201,13 +201,13 @@ module _ (program : Program) (super : Words) where
 
   redoes_plain : (r : RecoverAnswer) (owed : Pending) (found t : SourceState) (image : Words)
       → PlainAs program found.standing
-      → RedoesUnmarked program owed found image (answer_of_recovery r) t
+      → RedoesBy false program owed found image (answer_of_recovery r) t
       → PlainAs program t.standing
   redoes_plain recovered.Clean owed found t image plain is = absurd is
   redoes_plain (recovered.Redone v l) owed found t image plain is =
       plain_of t (done_with is.0 v Ready found) is.2 tt
   redoes_plain (recovered.Trap kind) owed found t image plain is =
-      plain_of t (standing_as (Unusable kind) found) is.1 tt
+      plain_of t (standing_as (Unusable kind) found) is.2 tt
   redoes_plain (recovered.Unusable kind) owed found t image plain is = absurd is
   redoes_plain recovered.Numbers owed found t image plain is = plain_of t found is.1 plain
   redoes_plain (recovered.Off p) owed found t image plain is = plain_of t found is.1 plain
@@ -391,14 +391,17 @@ module _ (program : Program) (super : Words) where
         unmarked (not_owing program e
         (is_unsealed one (suc s.done) seen.good.done seen.good.unsealed))
     at_end owed standing plain owes (Trapped kind) ends lost =
-        let mine : Meant program s owed owes.heap owes.end owes.effects =
+        let mine : Meant false program s.pool owed owes.heap owes.end owes.effects =
         meant program s owed owes.heap owes.end owes.effects owes.holds
         (agrees.runs owes.heap owed.tx owed.args owes.holds.headers
         (held_words program owes.heap s owes.holds) owes.words owes.takes) owes.ran in
         marked_as kind
         (subst (λ (x : Standing). IsMarked x program s kind) (sym standing)
-        (subst (λ (x : Bool). MarksAs x program s owed kind) (sym plain)
-        (run_trapped program s owed owes.heap owes.end owes.effects mine kind ends)))
+        (subst (λ (x : Bool). MarksAs x program s owed kind) (sym plain) (
+          refl,
+          run_trapped false program s.pool owed owes.heap owes.end owes.effects mine kind
+              ends,
+        )))
         lost
 
     at_cut : (owed : Pending) → s.standing ≡ Down (Some owed)

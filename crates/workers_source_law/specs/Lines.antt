@@ -46,9 +46,9 @@ StartLines program worker name args lines s t = ⊥
 -- is still owed.
 abbrev pub Ends : Program → Pending → Answer → (s t : SourceState) → Type 0
 Ends program call (answer.Done value logged) s t =
-    IsDoneWith program s call.tx call.args value logged Ready t
+    IsDoneWith false program s call.tx call.args value logged Ready t
 Ends program call (answer.Trap kind) s t =
-    TrapsAs program s call.tx call.args kind × (t ≡ standing_as (Unusable kind) s)
+    TrapsAs false program s call.tx call.args kind × (t ≡ standing_as (Unusable kind) s)
 Ends program call (answer.Stopped at) s t = t ≡ s
 Ends program call a s t = ⊥
 

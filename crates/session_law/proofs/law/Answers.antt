@@ -11,9 +11,8 @@ use Rattle.session_law.proofs.CallSteps.{call_steps}
 use Rattle.session_law.proofs.Running.{exactly_sealed}
 use Rattle.session_law.proofs.Unchanged.{step_unchanged}
 use Rattle.session_law.proofs.Bounded.{chain_bounded}
-use Rattle.session_law.proofs.Logging.{one_outcome, full_law}
-use Rattle.session_law.proofs.MarkedRuns.{one_marked}
-use Rattle.session_law.proofs.MarkedCounts.{count_law}
+use Rattle.session_law.proofs.Logging.{one_outcome, one_led, full_law}
+use Rattle.session_law.proofs.FullLogs.{full_log}
 use Rattle.session_law.proofs.RolledBack.{call_rolled_back, power_rolled_back}
 use Rattle.session_law.proofs.KeepingChains.{chain_rolled_back}
 use Rattle.session_law.proofs.MarkedExact.{marked_exact}
@@ -70,8 +69,11 @@ returns-clause-determined c = one_outcome
 pub returns-clause-full : goal.returns-clause-full
 returns-clause-full c = full_law
 
-pub returns-clause-marked : goal.returns-clause-marked
-returns-clause-marked c = (one_marked, count_law)
+pub returns-clause-full_log : goal.returns-clause-full_log
+returns-clause-full_log c = full_log
+
+pub returns-clause-led : goal.returns-clause-led
+returns-clause-led c = one_led
 
 pub returns-clause-rollback : goal.returns-clause-rollback
 returns-clause-rollback c = (call_rolled_back, power_rolled_back, chain_rolled_back)

@@ -1,0 +1,63 @@
+-- A transaction comes to a full log exactly if it has more logged stores than the log has records.
+use Rattle.std.proofs.Common.{◌≡◌, ⊎_elim, ℕ, ◌<◌, ◌≤◌, Bool, true, false}
+use Rattle.std.proofs.Common.{if◌then◌else◌, nat_lt, List, ℤ, refl, sym, ap, ◌∙◌, arith}
+use Rattle.std.proofs.lemmas.Bool.{ltb-false}
+use Rattle.pool_map.specs.declared.trap.TrapKind.{TrapKind}
+use Rattle.pool_map.specs.declared.trap.TrapKind.TheVariants.{LogFull}
+use Rattle.pool_map.specs.PoolMap.{PoolMap}
+use Rattle.c_meaning.specs.Transaction.{Trap}
+use Rattle.sound_law.proofs.Ticks.{never_full}
+use Rattle.cnvm_session.specs.declared.program.Program.{Program}
+use Rattle.cnvm_session.specs.Marks.{rolls_back_of}
+use Rattle.cnvm_session.specs.Pool.{sizes_of}
+use Rattle.session_law.specs.Source.{means, program_tables, outcome_with, LogsBy, ComesBy}
+use Rattle.session_law.specs.Answers.{TrapsAs}
+use Rattle.session_law.specs.Law.{IsFullAt, FullLogLaw}
+use Rattle.session_law.proofs.Coming.{comes_trap}
+use Rattle.session_law.proofs.Logging.{one_logged}
+
+module _ (program : Program) (pool : PoolMap) (tx : ℕ) (args : List ℤ) where
+  abbrev records : ℕ
+  records = (sizes_of program).records
+
+  exceeds : (n : ℕ) → outcome_with program pool tx args n ≡ Trap LogFull → records < n
+  exceeds n is = ⊎_elim (λ full. full.0)
+      (λ room. absurd (never_full (program_tables program) pool tx args (sizes_of program).ticks
+      room.1)) (comes_trap program pool tx args n LogFull is)
+
+  full_at : (n : ℕ) → records < n → outcome_with program pool tx args n ≡ Trap LogFull
+  full_at n less = by_test (nat_lt records n) refl
+    where
+      by_test : (b : Bool) → nat_lt records n ≡ b
+          → (if b then Trap LogFull else means program pool tx args) ≡ Trap LogFull
+      by_test true is = refl
+      by_test false is = let few : n ≤ records = ltb-false records n is in absurd (omega arith)
+
+  -- what a trap says of the number of logged stores
+  module _ (marked : Bool) (n : ℕ) (kind : TrapKind)
+      (logs : LogsBy marked program pool tx args n) where
+    at_trap : (m : ℕ) → ComesBy marked program pool tx args m (Trap kind) → IsFullAt records n kind
+    at_trap m comes =
+        let number : m ≡ n = one_logged marked program pool tx args m n comes.logs logs in
+        let is : outcome_with program pool tx args n ≡ Trap kind =
+        ap (outcome_with program pool tx args) (sym number) ∙ comes.is in (
+          λ full. exceeds n (is ∙ ap Trap full),
+          λ less. let e : Trap kind ≡ Trap LogFull = sym is ∙ full_at n less in cc,
+        )
+
+pub full_log : FullLogLaw
+full_log = (
+  λ marked program pool tx args n o comes. (
+    (λ full. exceeds program pool tx args n (comes.is ∙ full)),
+    (λ less. sym comes.is ∙ full_at program pool tx args n less),
+  ),
+  λ program s t image tx args n kind logs either.
+      let traps : TrapsAs (rolls_back_of program tx) program s tx args kind =
+      ⊎_elim (λ rolled. rolled.1) (λ trapped. trapped.1) either in
+      at_trap program s.pool tx args (rolls_back_of program tx) n kind logs traps.0 traps.1,
+  λ program owed s t image n kind logs either.
+      let traps : TrapsAs (rolls_back_of program owed.tx) program s owed.tx owed.args kind =
+      ⊎_elim (λ rolled. rolled.1) (λ trapped. trapped.1) either in
+      at_trap program s.pool owed.tx owed.args (rolls_back_of program owed.tx) n kind logs
+      traps.0 traps.1,
+)
