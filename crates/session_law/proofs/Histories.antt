@@ -18,7 +18,7 @@ use Rattle.cnvm_session.specs.Marks.{rolls_back_of}
 use Rattle.session_law.specs.Source.{source_parameters}
 use Rattle.session_law.specs.State.{Pending, Standing, Ready, Down, Unusable, SourceState}
 use Rattle.session_law.specs.State.{standing_as}
-use Rattle.session_law.specs.Answers.{Refused, Finishes, IsConcluded, Runs, CallsWith, CallsTo}
+use Rattle.session_law.specs.Answers.{Refused, ConcludesAs, IsConcluded, Runs, CallsWith, CallsTo}
 use Rattle.session_law.specs.Answers.{CallsNamed, Calls, Tells, Shows, Lasts, FindsOf, FindsOwed}
 use Rattle.session_law.specs.Answers.{Rests, Redoes, Recovers, Powers, Answers}
 use Rattle.session_law.specs.History.{LeavesPool, LeadsTo, waiting_of, call_to, call_in, called_by}
@@ -109,7 +109,7 @@ module _ (program : Program) where
   -- one transaction is finished
 
   leaves_of : (marked : Bool) (o : Outcome) (s t : SourceState) (st : Standing) →
-      Finishes marked o st s t → LeavesPool marked o s.pool t.pool
+      ConcludesAs marked o st s t → LeavesPool marked o s.pool t.pool
   leaves_of marked (Done pool value) s t st is = ap (λ (x : SourceState). x.pool) is
   leaves_of marked (Trap kind) s t st is = (is.0, ap (λ (x : SourceState). x.pool) is.1)
 
@@ -123,7 +123,7 @@ module _ (program : Program) where
       (ap (λ (x : SourceState). x.done) is, ap (λ (x : SourceState). x.standing) is)
 
   counts_of : (marked : Bool) (o : Outcome) (s t : SourceState) (st : Standing) →
-      Finishes marked o st s t → Counted s t st
+      ConcludesAs marked o st s t → Counted s t st
   counts_of marked (Done pool value) s t st is = counted_as s t pool value st is
   counts_of marked (Trap kind) s t st is = counted_as s t s.pool s.last st is.1
 

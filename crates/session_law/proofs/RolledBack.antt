@@ -222,12 +222,14 @@ module _ (program : Program) (super : Words) (agrees : Agrees program) (choice :
       → Undone
   at_cut (Halted v) ends (inl before) is = absurd (not_good s.done owes.heap before.good is)
   at_cut (Halted v) ends (inr (inl sealed)) is =
-      owed_at (any_last pool call owes.heap _ one sealed) (subst (λ (y : End). KeepsLast y s.last one) (sym ends) tt) is
+      owed_at (any_last pool call owes.heap _ one sealed)
+      (subst (λ (y : End). KeepsLast y s.last one) (sym ends) tt) is
   at_cut (Halted v) ends (inr (inr seen)) is =
       absurd (not_good (suc s.done) (heap_end owes.heap owes.effects) seen.good is)
   at_cut (Trapped trap) ends (inl before) is = absurd (not_good s.done owes.heap before.good is)
   at_cut (Trapped trap) ends (inr (inl still)) is =
-      owed_at (any_last pool call owes.heap _ one still) (subst (λ (y : End). KeepsLast y s.last one) (sym ends) still.last_is) is
+      owed_at (any_last pool call owes.heap _ one still)
+      (subst (λ (y : End). KeepsLast y s.last one) (sym ends) still.last_is) is
   at_cut (Trapped trap) ends (inr (inr seen)) is =
       absurd (not_good (suc s.done) owes.heap seen.good is)
 

@@ -12,7 +12,7 @@ use Rattle.cnvm_session.specs.declared.answer.Answer.TheVariants as answer
 use Rattle.cnvm_session.specs.declared.program.Program.{Program}
 use Rattle.cnvm_session.specs.Marks.{rolls_back_of}
 use Rattle.session_law.specs.State.{Pending, Standing, Ready, Down, SourceState, standing_as}
-use Rattle.session_law.specs.Answers.{HasSeal, Finishes, IsConcluded, FindsOf, FindsOwed, Rests}
+use Rattle.session_law.specs.Answers.{HasSeal, ConcludesAs, IsConcluded, FindsOf, FindsOwed, Rests}
 use Rattle.session_law.specs.Answers.{RedoesBy, Recovers, Powers}
 use Rattle.session_law.specs.History.{waiting_of, is_retired, recovered_by}
 use Rattle.session_law.specs.Law.{SealedLaw, IsCompleted}
@@ -51,8 +51,8 @@ module _ (program : Program) (owed : Pending) (s t : SourceState) (image : Words
 
   -- one that was finished before the cut is ready after it
   rested_by : (marked : Bool) (o : Outcome) (found : SourceState)
-      → Finishes marked o (Down None) s found → t ≡ standing_as Ready found
-      → Finishes marked o Ready s t
+      → ConcludesAs marked o (Down None) s found → t ≡ standing_as Ready found
+      → ConcludesAs marked o Ready s t
   rested_by marked (Done pool value) found is now = now ∙ ap (standing_as Ready) is
   rested_by marked (Trap kind) found is now = (is.0, now ∙ ap (standing_as Ready) is.1)
 
@@ -84,7 +84,8 @@ module _ (program : Program) (owed : Pending) (s t : SourceState) (image : Words
 
   -- how the session stood makes no difference
   settled_by : (marked : Bool) (o : Outcome)
-      → Finishes marked o Ready (standing_as (Down (Some owed)) s) t → Finishes marked o Ready s t
+      → ConcludesAs marked o Ready (standing_as (Down (Some owed)) s) t
+      → ConcludesAs marked o Ready s t
   settled_by marked (Done pool value) is = is
   settled_by marked (Trap kind) is = is
 

@@ -122,9 +122,9 @@ abbrev pub HasSeal : SourceState → Words → Type 0
 HasSeal s image = image SEAL ≡ pos (suc s.done)
 
 -- how a transaction of this outcome is finished: it is done; or rolled back, if it is marked
-abbrev pub Finishes : (marked : Bool) → Outcome → Standing → (s t : SourceState) → Type 0
-Finishes marked (Done pool value) standing s t = t ≡ done_with pool value standing s
-Finishes marked (Trap kind) standing s t = (marked ≡ true) × (t ≡ undone_as standing s)
+abbrev pub ConcludesAs : (marked : Bool) → Outcome → Standing → (s t : SourceState) → Type 0
+ConcludesAs marked (Done pool value) standing s t = t ≡ done_with pool value standing s
+ConcludesAs marked (Trap kind) standing s t = (marked ≡ true) × (t ≡ undone_as standing s)
 
 -- the owed transaction was run to its end, and is finished as the source says
 abbrev pub IsConcluded : (marked : Bool) → Program → Pending → SourceState → Standing
@@ -132,7 +132,7 @@ abbrev pub IsConcluded : (marked : Bool) → Program → Pending → SourceState
 IsConcluded marked program owed s standing t =
     (logged : ℕ) × (outcome : Outcome)
     × ComesBy marked program s.pool owed.tx owed.args logged outcome
-    × Finishes marked outcome standing s t
+    × ConcludesAs marked outcome standing s t
 
 -- What is known of an owed transaction once the power is back. Without its seal in the image
 -- nothing of it is done; with the seal it was finished before the cut, or is still owed.

@@ -33,7 +33,7 @@ use Rattle.cnvm_session.specs.declared.answer.Answer.TheVariants as answer
 use Rattle.cnvm_session.specs.declared.mode.Mode.{Mode}
 use Rattle.cnvm_session.specs.declared.mode.Mode.TheVariants.{Ready}
 use Rattle.cnvm_session.specs.declared.program.Program.{Program}
-use Rattle.cnvm_session.specs.Commands.{call_number, Commanded}
+use Rattle.cnvm_session.specs.Commands.{call_number, tx_parameters, Commanded}
 use Rattle.cnvm_session.specs.Marks.{rolls_back_of}
 use Rattle.cnvm_session.specs.Steps.{most_of_program}
 use Rattle.cnvm_session.specs.Laws.{IsRefused}
@@ -51,7 +51,7 @@ use Rattle.session_law.specs.State.{Pending, Down, SourceState, standing_as, cre
 use Rattle.session_law.specs.State as state
 use Rattle.session_law.specs.Answers.{HasSeal, IsConcluded, Runs, Redoes, Answers}
 use Rattle.session_law.specs.Opened.{opened}
-use Rattle.session_law.specs.Holds.{OwesOne, OwesMarked, Holds}
+use Rattle.session_law.specs.Holds.{HoldsPool, OwesOne, OwesMarked, Holds}
 use Rattle.session_law.specs.History.{recovered_by, LeadsTo, calls_in, answered_in, IsPart, HasDone}
 use Rattle.session_law.specs.Ran.{found_by, Moment, SessionStep, Ran, fresh_moment, OpenStep}
 
@@ -80,7 +80,8 @@ IsFullAt records logged kind =
     (kind ≡ LogFull → records < logged) × (records < logged → kind ≡ LogFull)
 
 -- A transaction comes to a full log exactly if it has more logged stores than the log has records;
--- and exactly then its call, or its recovery, is answered so.
+-- and exactly then its call, or its recovery, is answered so. So `aborted logfull` is no answer
+-- where the records have room.
 abbrev pub FullLogLaw : Type 0
 FullLogLaw =
     ((marked : Bool) (program : Program) (pool : PoolMap) (tx : ℕ) (args : List ℤ) (logged : ℕ)
@@ -114,6 +115,15 @@ FullLaw =
     (records < n → FillsLog functions records sites)
     × (FillsLog functions records sites → records < n)
 
+-- The machine's run of a marked transaction ends as this outcome says. It appends this number of
+-- records, unless the log has fewer.
+abbrev pub MarkedEndsAs : Program → Words → (tx : ℕ) → List ℤ → (logged : ℕ) → Outcome → Type 0
+MarkedEndsAs program h tx args logged outcome =
+    (end : End) × (es : List Effect)
+    × (mrun_marked program.image program.image.parts.most h tx args ≡ Finished end es)
+    × Matches program outcome end (heap_end h es)
+    × (nat_lt (sizes_of program).records logged ≡ false → records_end 0 es ≡ logged)
+
 -- A marked transaction's run from a heap on which the image agrees with its source. It ends as the
 -- source says on the heap's pool: with a full log exactly if the number of its logged stores, the
 -- first to each heap word included, is more than the log has records. Else it appends as many.
@@ -122,10 +132,18 @@ MarkedExactLaw =
     (program : Program) (h : Words) (tx : ℕ) (args : List ℤ) (logged : ℕ) (outcome : Outcome) →
     RunsAs program h tx args →
     ComesBy true program (source_pool program h) tx args logged outcome →
-    (end : End) × (es : List Effect)
-    × (mrun_marked program.image program.image.parts.most h tx args ≡ Finished end es)
-    × Matches program outcome end (heap_end h es)
-    × (nat_lt (sizes_of program).records logged ≡ false → records_end 0 es ≡ logged)
+    MarkedEndsAs program h tx args logged outcome
+
+-- So it runs from each heap that holds the pool that the source knows: that of a device at rest,
+-- and the one on which an owed transaction began.
+abbrev pub HeldRunLaw : Type 0
+HeldRunLaw =
+    (program : Program) (h : Words) (s : SourceState) (tx : ℕ) (args : List ℤ) (logged : ℕ)
+    (outcome : Outcome) →
+    Agrees program → HoldsPool program h s → AreWords args
+    → tx_parameters program.image tx ≡ Some (length args)
+    → ComesBy true program s.pool tx args logged outcome
+    → MarkedEndsAs program h tx args logged outcome
 
 -- Each answer to a command whose arguments are words is one that the source gives, and the device
 -- then holds what the source knows.

@@ -10,7 +10,8 @@ ghost use Rattle.session_law.specs.Law.{SessionLaw, SealedLaw, PhaseLaw, StepsLa
 ghost use Rattle.session_law.specs.Law.{OpenedLaw, SessionRunLaw, KeptLaw, HistoryLaw, BegunLaw};
 ghost use Rattle.session_law.specs.Law.{WholeLaw, UnchangedLaw, BoundLaw, ScriptLaw, DeterminedLaw};
 ghost use Rattle.session_law.specs.Law.{FullLaw, RecoveryPhaseLaw};
-ghost use Rattle.session_law.specs.Law.{LedLaw, FullLogLaw, MarkedExactLaw, RollbackLaw};
+ghost use Rattle.session_law.specs.Law.{LedLaw, FullLogLaw, MarkedExactLaw, HeldRunLaw};
+ghost use Rattle.session_law.specs.Law.{RollbackLaw};
 
 /// Each command of a session is answered as the source says. The function does nothing.
 pub fn law()
@@ -34,5 +35,6 @@ pub fn law()
     ensures full_log { FullLogLaw }
     ensures led { LedLaw }
     ensures marked_exact { MarkedExactLaw }
+    ensures held_run { HeldRunLaw }
     ensures rollback { RollbackLaw }
 {}

@@ -15,7 +15,7 @@ use Rattle.session_law.proofs.Logging.{one_outcome, one_led, full_law}
 use Rattle.session_law.proofs.FullLogs.{full_log}
 use Rattle.session_law.proofs.RolledBack.{call_rolled_back, power_rolled_back}
 use Rattle.session_law.proofs.KeepingChains.{chain_rolled_back}
-use Rattle.session_law.proofs.MarkedExact.{marked_exact}
+use Rattle.session_law.proofs.MarkedExact.{marked_exact, marked_run_held}
 use Rattle.session_law.proofs.law.Goals as goal
 
 pub returns-clause-session : goal.returns-clause-session
@@ -80,3 +80,6 @@ returns-clause-rollback c = (call_rolled_back, power_rolled_back, chain_rolled_b
 
 pub returns-clause-marked_exact : goal.returns-clause-marked_exact
 returns-clause-marked_exact c = marked_exact
+
+pub returns-clause-held_run : goal.returns-clause-held_run
+returns-clause-held_run c = marked_run_held
