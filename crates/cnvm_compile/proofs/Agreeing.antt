@@ -9,7 +9,7 @@ use Rattle.ir.specs.declared.function.Ir.{Ir}
 use Rattle.ir.specs.WellFormed.{IsWellFormed}
 use Rattle.lower.specs.Program.{lowered}
 use Rattle.clobber_pass.specs.declared.marking.MarkTable.{MarkTable}
-use Rattle.checked_law.proofs.Laws as checked
+use Rattle.tree_law.proofs.checked.Laws as checked
 use Rattle.cnvm_session.specs.declared.program.Program.{Program}
 use Rattle.cnvm_session.specs.Pool.{sizes_of}
 use Rattle.session_law.specs.Agrees.{Agrees}

@@ -8,9 +8,10 @@ use cnvm_notes::{
 };
 use cnvm_session::{Trapped, Traps};
 use cnvm_words::{Plan, plan_of};
-use command_notes::{Digests, ImageRefusal, of_image, of_words, unread, unsaved, unwritten};
 use nvm_base::{KeptSink, KeptSource, SavedFile, Sink, StdSink, StdSource, write_all};
-use plain_notes::{Told, message_of};
+use plain_notes::{
+    Digests, ImageRefusal, Told, message_of, of_image, of_words, unread, unsaved, unwritten,
+};
 use pool_layout::{FUNCTION, digest};
 use program_notes::{name_of, program_note};
 use session_run::Status;

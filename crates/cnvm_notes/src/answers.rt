@@ -3,8 +3,7 @@
 use crate::lines::{TrapEnd, after_slots, first_line, trap_end, unusable};
 use crate::summary::{Refusals, push_message, push_refused, unless_empty, with_line};
 use cnvm_script::{Command, next_line, read_line};
-use command_notes::{PoolLeft, of_trap, of_unusable_image};
-use plain_notes::Told;
+use plain_notes::{PoolLeft, Told, of_trap, of_unusable_image};
 use std::alloc::{AllocError, Global};
 
 /// The texts of a run that came to its end: what it read and what it answered.

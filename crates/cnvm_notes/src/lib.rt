@@ -1,8 +1,7 @@
 //! What is told to a person of a script that was refused, and of answers that are traps or
-//! refusals. It rests on `cnvm_script` and `workers_script`, on `command_notes`, which says what is
-//! wrong with a line, and on `plain_notes`, which lays messages out. Its one contract for the crates
-//! above: the message of a refused script begins with its first bad line. The line of a trap is
-//! given.
+//! refusals. It rests on `cnvm_script` and `workers_script`, and on `plain_notes`, which says what
+//! is wrong with a line and lays messages out. Its one contract for the crates above: the message
+//! of a refused script begins with its first bad line. The line of a trap is given.
 #![tactic(auto)]
 
 mod answers;

@@ -1,7 +1,7 @@
 //! Lines of answers, and what each tells.
 
 use cnvm_script::next_line;
-use command_notes::PoolLeft;
+use plain_notes::PoolLeft;
 
 /// The first line of a text, and the text after it; both are empty where the text is.
 pub(crate) fn first_line(text: &[u8]) -> (&[u8], &[u8]) {

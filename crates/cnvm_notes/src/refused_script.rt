@@ -9,8 +9,7 @@ ghost use Rattle.cnvm_notes.specs.RefusedLine.{begins_word, is_between_words, nu
 ghost use Rattle.cnvm_notes.specs.RefusedLine.{TellsLine, TellsScript, long_script};
 
 use cnvm_script::{SCRIPT_BYTES, ScriptFault, next_line, read_script};
-use command_notes::{of_line, of_workers_line};
-use plain_notes::{Place, Told, message_in_line, message_of_file};
+use plain_notes::{Place, Told, message_in_line, message_of_file, of_line, of_workers_line};
 use std::alloc::{AllocError, Global};
 use workers_script::read_workers;
 

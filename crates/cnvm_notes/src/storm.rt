@@ -2,8 +2,7 @@
 
 use crate::lines::{first_line, unusable};
 use crate::summary::with_line;
-use command_notes::of_storm_trap;
-use plain_notes::message_of;
+use plain_notes::{message_of, of_storm_trap};
 use std::alloc::{AllocError, Global};
 
 /// The call of a storm that trapped: its round, counted from 1, its text, which may be empty, and the

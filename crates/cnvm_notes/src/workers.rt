@@ -3,9 +3,8 @@
 use crate::lines::{after_slots, first_line, trap_end, worker_answer};
 use crate::summary::{push_message, push_refusals, unless_empty, with_line};
 use cnvm_script::{is_word, next_line};
-use command_notes::of_worker_trap;
 use nvm_base::Text;
-use plain_notes::Told;
+use plain_notes::{Told, of_worker_trap};
 use std::alloc::{AllocError, Global};
 use workers_script::{WorkersCommand, read_workers_line};
 

@@ -39,16 +39,16 @@ use Rattle.lower_law.proofs.Functions.{whole_le}
 use Rattle.code_meaning.specs.Calls.{CallsNoTransaction}
 use Rattle.code_meaning.specs.Constants.{HasWordConstants}
 use Rattle.code_meaning.specs.Whole.{whole}
-use Rattle.size_law.proofs.ProgramShort.{allowed}
-use Rattle.checked_law.proofs.Laws.{shapes, calls, limits, constants, logs}
+use Rattle.tree_law.proofs.sizes.ProgramShort.{allowed}
+use Rattle.tree_law.proofs.checked.Laws.{shapes, calls, limits, constants, logs}
 use Rattle.clobber_pass.specs.declared.marking.MarkTable.{MarkTable}
 use Rattle.clobber_pass.specs.Logged as table
 use Rattle.instrument.specs.Insert.{flagged, led, logged_function, logged_program}
 use Rattle.instrument.proofs.LoggedCode.{answer_well_formed, functions_length}
-use Rattle.insert_law.specs.Law.{HasResult}
-use Rattle.insert_law.specs.Moved.{places_of}
-use Rattle.insert_law.proofs.Standing.{function_at}
-use Rattle.insert_law.proofs.Origins.{origin}
+use Rattle.log_law.specs.inserted.Law.{HasResult}
+use Rattle.log_law.specs.inserted.Moved.{places_of}
+use Rattle.log_law.proofs.inserted.Standing.{function_at}
+use Rattle.log_law.proofs.inserted.Origins.{origin}
 use Rattle.code_meaning.specs.Code.{CodeEnd, code_start, exec}
 use Rattle.code_meaning.specs.Code.{load_spot}
 use Rattle.code_meaning.specs.Code as code
@@ -59,22 +59,22 @@ use Rattle.pm_machine.specs.declared.image.ImageParts.{ImageParts}
 use Rattle.pm_machine.specs.declared.op.TxEntry.{TxEntry}
 use Rattle.pm_machine.specs.Effects.{heap_end}
 use Rattle.codegen.specs.Emit.{txs_from}
-use Rattle.emit_law.specs.Standing.{HasRoom}
-use Rattle.emit_law.specs.TidyCode.{HasCode}
-use Rattle.piece_law.specs.Fits.{IsFit}
+use Rattle.machine_law.specs.emitted.Standing.{HasRoom}
+use Rattle.machine_law.specs.emitted.TidyCode.{HasCode}
+use Rattle.machine_law.specs.pieces.Fits.{IsFit}
 use Rattle.pool_layout.specs.Headers.{HasHeaders}
-use Rattle.piece_law.specs.Stands.{Stands}
-use Rattle.piece_law.specs.Words as words
-use Rattle.piece_law.proofs.Kept.{stays_fit}
-use Rattle.piece_law.proofs.Piece.{piece_does}
-use Rattle.piece_law.proofs.PoolIn.{pool_is, headers_are}
-use Rattle.piece_law.proofs.Shown.{shown, cut}
-use Rattle.piece_law.proofs.WordState.{words_stay}
-use Rattle.cover_law.proofs.Cover.{covered}
-use Rattle.match_law.specs.Compiled.{IsCodeOf}
-use Rattle.match_law.specs.Law.{KeepLaw}
-use Rattle.match_law.specs.Match.{most}
-use Rattle.match_law.proofs.Keep.{kept_all}
+use Rattle.machine_law.specs.pieces.Stands.{Stands}
+use Rattle.machine_law.specs.pieces.Words as words
+use Rattle.machine_law.proofs.pieces.Kept.{stays_fit}
+use Rattle.machine_law.proofs.pieces.Piece.{piece_does}
+use Rattle.machine_law.proofs.pieces.PoolIn.{pool_is, headers_are}
+use Rattle.machine_law.proofs.pieces.Shown.{shown, cut}
+use Rattle.machine_law.proofs.pieces.WordState.{words_stay}
+use Rattle.log_law.proofs.covered.Cover.{covered}
+use Rattle.machine_law.specs.matching.Compiled.{IsCodeOf}
+use Rattle.machine_law.specs.matching.Law.{KeepLaw}
+use Rattle.machine_law.specs.matching.Match.{most}
+use Rattle.machine_law.proofs.matching.Keep.{kept_all}
 use Rattle.cnvm_session.specs.declared.program.Program.{Program}
 use Rattle.cnvm_session.specs.Commands.{tx_parameters}
 use Rattle.session_law.specs.Logged.{stored_at, AreLogged, stores_in, AreLoggedFirst}

@@ -19,18 +19,18 @@ use Rattle.instrument.specs.Insert.{logs, led, places_from, flags_from, flagged}
 use Rattle.instrument.specs.Insert.{logged_program}
 use Rattle.code_meaning.specs.Code.{CodeState}
 use Rattle.code_meaning.specs.Deeds.{Deed, Reads, Writes, Heads, site, deeds}
-use Rattle.insert_law.specs.Moved.{code_of_function, places_of, begins, stands, moved_site}
-use Rattle.insert_law.specs.Moved.{moved_deeds}
-use Rattle.insert_law.proofs.Standing.{standing, fill_stands}
+use Rattle.log_law.specs.inserted.Moved.{code_of_function, places_of, begins, stands, moved_site}
+use Rattle.log_law.specs.inserted.Moved.{moved_deeds}
+use Rattle.log_law.proofs.inserted.Standing.{standing, fill_stands}
 use Rattle.pm_machine.specs.declared.effect.Effect.{Effect}
 use Rattle.pm_machine.specs.declared.effect.Effect.TheVariants.{Loads, Scans, Stores, Logs, Flushes}
 use Rattle.pm_machine.specs.declared.effect.Effect.TheVariants.{Fences, Quiet}
 use Rattle.pm_machine.specs.Effects.{records_end}
-use Rattle.piece_law.specs.Shows as shows
-use Rattle.piece_law.specs.Shows.{ShowsDeeds, done, looks, scans, reads, plain, heads, TakesLog}
-use Rattle.piece_law.specs.Shows.{IsCutAtStore}
-use Rattle.match_law.specs.Accesses.{accesses}
-use Rattle.match_law.specs.Compiled.{logs_at, is_logged_in_code}
+use Rattle.machine_law.specs.pieces.Shows as shows
+use Rattle.machine_law.specs.pieces.Shows.{ShowsDeeds, done, looks, scans, reads, plain, heads}
+use Rattle.machine_law.specs.pieces.Shows.{TakesLog, IsCutAtStore}
+use Rattle.machine_law.specs.matching.Accesses.{accesses}
+use Rattle.machine_law.specs.matching.Compiled.{logs_at, is_logged_in_code}
 use Rattle.compiled_law.specs.inside.Records.{records_of}
 use Rattle.compiled_law.proofs.Marked.{IsStoreAt, AreStores, all_stores, logged_at, fill_at}
 use Rattle.compiled_law.proofs.Marked.{moved_logged_true}

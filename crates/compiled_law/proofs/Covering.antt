@@ -10,8 +10,8 @@ use Rattle.pool_layout.specs.Places.{HeapApart, IsHeapPlace}
 use Rattle.ir.specs.declared.site.Site.{Site}
 use Rattle.code_meaning.specs.Code.{Spot, InRoot, InSlot}
 use Rattle.code_meaning.specs.Deeds.{Deed}
-use Rattle.cover_law.specs.Covered.{IsInput, FirstStore}
-use Rattle.cover_law.proofs.Parts.{input_append, first_append}
+use Rattle.log_law.specs.covered.Covered.{IsInput, FirstStore}
+use Rattle.log_law.proofs.covered.Parts.{input_append, first_append}
 use Rattle.crash_law.specs.Effects as past
 use Rattle.pm_machine.specs.declared.effect.Effect.{Effect}
 use Rattle.pm_machine.specs.declared.effect.Effect.TheVariants.{Loads, Scans, Stores, Logs, Flushes}
@@ -22,10 +22,10 @@ use Rattle.run_law.proofs.Headers.{input_headers, headers_input, over_headers, h
 use Rattle.run_law.proofs.Headers.{first_headers, headers_first}
 use Rattle.run_law.proofs.Inputs.{input_seen, over_seen}
 use Rattle.run_law.specs.Sound.{IsCoveredRun}
-use Rattle.piece_law.specs.Stands.{place_of, heap_word, header_word}
-use Rattle.piece_law.specs.Shows.{IsThere, ShowsDeeds, done, looks, scans, reads, plain, logs}
-use Rattle.piece_law.specs.Shows.{heads, IsCutAtStore}
-use Rattle.match_law.specs.Accesses.{accesses}
+use Rattle.machine_law.specs.pieces.Stands.{place_of, heap_word, header_word}
+use Rattle.machine_law.specs.pieces.Shows.{IsThere, ShowsDeeds, done, looks, scans, reads, plain}
+use Rattle.machine_law.specs.pieces.Shows.{logs, heads, IsCutAtStore}
+use Rattle.machine_law.specs.matching.Accesses.{accesses}
 
 -- the inputs and overwritten words of a run are those of its loads, stores and logs
 input_accesses : (es : List Effect) (w : ℕ) → past.IsInput (seen_all es) w

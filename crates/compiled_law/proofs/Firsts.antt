@@ -8,7 +8,7 @@ use Rattle.ir.specs.declared.instruction.Target.{Target}
 use Rattle.ir.specs.declared.site.Site.{Site}
 use Rattle.ir.specs.Places.{instruction_at}
 use Rattle.instrument.specs.Insert.{logged_program}
-use Rattle.insert_law.specs.Moved.{moved_site, moved_deeds}
+use Rattle.log_law.specs.inserted.Moved.{moved_site, moved_deeds}
 use Rattle.clobber_pass.specs.declared.marking.MarkTable.{MarkTable}
 use Rattle.clobber_pass.specs.Logged as table
 use Rattle.code_meaning.specs.Code.{CodeState, InRoot, InSlot}
@@ -17,11 +17,11 @@ use Rattle.crash_law.specs.Due.{is_listed}
 use Rattle.pm_machine.specs.declared.effect.Effect.{Effect}
 use Rattle.pm_machine.specs.declared.effect.Effect.TheVariants.{Loads, Scans, Stores, Logs, Flushes}
 use Rattle.pm_machine.specs.declared.effect.Effect.TheVariants.{Fences, Quiet}
-use Rattle.piece_law.specs.Stands.{heap_word, header_word}
-use Rattle.piece_law.specs.Shows.{ShowsDeeds, done, looks, scans, reads, plain, heads}
-use Rattle.piece_law.specs.Shows as shows
-use Rattle.match_law.specs.Accesses.{accesses}
-use Rattle.match_law.specs.Compiled.{is_logged_in_code}
+use Rattle.machine_law.specs.pieces.Stands.{heap_word, header_word}
+use Rattle.machine_law.specs.pieces.Shows.{ShowsDeeds, done, looks, scans, reads, plain, heads}
+use Rattle.machine_law.specs.pieces.Shows as shows
+use Rattle.machine_law.specs.matching.Accesses.{accesses}
+use Rattle.machine_law.specs.matching.Compiled.{is_logged_in_code}
 use Rattle.abort_law.specs.Records.{records_marked}
 use Rattle.session_law.specs.Logged.{StoreAt, stores_in, AreLoggedFirst}
 use Rattle.compiled_law.specs.inside.Records.{records_of, records_with}

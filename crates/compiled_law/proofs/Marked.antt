@@ -25,15 +25,15 @@ use Rattle.code_meaning.specs.Code.{index_in, register_at}
 use Rattle.code_meaning.specs.Deeds.{Deed, Reads, Writes, Heads, if_ok, zeros, site, deeds_new}
 use Rattle.code_meaning.specs.Deeds.{deeds_at, deeds_of, deeds_on, deeds}
 use Rattle.code_meaning.specs.Parameters.{KeepsParameters}
-use Rattle.insert_law.specs.Moved.{begins, stands, moved_site, moved_deeds}
-use Rattle.insert_law.specs.Law.{HasResult}
-use Rattle.insert_law.proofs.Follows.{same_deeds}
-use Rattle.insert_law.proofs.Standing.{store_stands, fill_stands}
-use Rattle.cover_law.specs.Covered.{IsInput, FirstStore}
-use Rattle.cover_law.specs.Law.{CoverLaw}
-use Rattle.emit_law.specs.Standing.{logged_before}
+use Rattle.log_law.specs.inserted.Moved.{begins, stands, moved_site, moved_deeds}
+use Rattle.log_law.specs.inserted.Law.{HasResult}
+use Rattle.log_law.proofs.inserted.Follows.{same_deeds}
+use Rattle.log_law.proofs.inserted.Standing.{store_stands, fill_stands}
+use Rattle.log_law.specs.covered.Covered.{IsInput, FirstStore}
+use Rattle.log_law.specs.covered.Law.{CoverLaw}
+use Rattle.machine_law.specs.emitted.Standing.{logged_before}
 use Rattle.ir.specs.Moving.{is_log}
-use Rattle.match_law.specs.Compiled.{logs_fill, logs_at, is_logged_in_code}
+use Rattle.machine_law.specs.matching.Compiled.{logs_fill, logs_at, is_logged_in_code}
 
 module _ (marks : MarkTable) (us : List IrFunction) where
   input_moved : (ds : List Deed) (x : Spot) → IsInput (moved_deeds marks us ds) x → IsInput ds x

@@ -23,8 +23,8 @@ use Rattle.codegen.specs.Names.{index_below, target_below, is_below}
 use Rattle.codegen.specs.Emit.{local_code, control, piece_width, instruction_places}
 use Rattle.ir.specs.Moving.{is_log, place_in}
 use Rattle.codegen.specs.Emit.{code_from}
-use Rattle.emit_law.specs.Standing.{HasRoom}
-use Rattle.emit_law.proofs.Steps.{forward_code}
+use Rattle.machine_law.specs.emitted.Standing.{HasRoom}
+use Rattle.machine_law.proofs.emitted.Steps.{forward_code}
 
 both : (a b : Bool) → a ≡ true → b ≡ true → a && b ≡ true
 both a b e f = ap₂ (λ x y. x && y) e f

@@ -25,10 +25,10 @@ use Rattle.code_meaning.specs.Code as code
 use Rattle.code_meaning.specs.Deeds.{Deed, deeds}
 use Rattle.code_meaning.specs.Constants.{HasWordConstants}
 use Rattle.code_meaning.specs.Parameters.{KeepsParameters}
-use Rattle.insert_law.specs.Law.{HasResult}
-use Rattle.insert_law.proofs.Follows.{same_end, same_deeds}
-use Rattle.cover_law.specs.Covered.{IsInput, FirstStore}
-use Rattle.cover_law.specs.Law.{CoverLaw}
+use Rattle.log_law.specs.inserted.Law.{HasResult}
+use Rattle.log_law.proofs.inserted.Follows.{same_end, same_deeds}
+use Rattle.log_law.specs.covered.Covered.{IsInput, FirstStore}
+use Rattle.log_law.specs.covered.Law.{CoverLaw}
 use Rattle.pm_machine.specs.declared.effect.Effect.{Effect}
 use Rattle.pm_machine.specs.declared.effect.End.{End}
 use Rattle.pm_machine.specs.declared.effect.End.TheVariants.{Halted, Trapped}
@@ -39,14 +39,15 @@ use Rattle.pm_machine.specs.Machine as machine
 use Rattle.pm_machine.specs.Effects.{heap_end, records_end}
 use Rattle.pm_machine.proofs.Fuel.{more_fuel}
 use Rattle.run_law.specs.Sound.{IsCoveredRun, IsSoundRun}
-use Rattle.emit_law.proofs.SoundRun.{sound_run}
-use Rattle.piece_law.specs.Stands.{Stands}
-use Rattle.piece_law.specs.Words.{HoldWords, HasWords, IsWordState, IsWordEnd, IsWordMove, WordsLaw}
-use Rattle.piece_law.specs.Shows.{ShowsDeeds, IsCutAtStore}
-use Rattle.match_law.specs.Accesses.{accesses}
-use Rattle.match_law.specs.Compiled.{IsCodeOf, is_logged_in_code}
-use Rattle.match_law.specs.Law.{RunMatches, RunFull, KeepLaw}
-use Rattle.match_law.specs.Match.{most}
+use Rattle.machine_law.proofs.emitted.SoundRun.{sound_run}
+use Rattle.machine_law.specs.pieces.Stands.{Stands}
+use Rattle.machine_law.specs.pieces.Words.{HoldWords, HasWords, IsWordState, IsWordEnd, IsWordMove}
+use Rattle.machine_law.specs.pieces.Words.{WordsLaw}
+use Rattle.machine_law.specs.pieces.Shows.{ShowsDeeds, IsCutAtStore}
+use Rattle.machine_law.specs.matching.Accesses.{accesses}
+use Rattle.machine_law.specs.matching.Compiled.{IsCodeOf, is_logged_in_code}
+use Rattle.machine_law.specs.matching.Law.{RunMatches, RunFull, KeepLaw}
+use Rattle.machine_law.specs.matching.Match.{most}
 use Rattle.abort_law.specs.Records.{records_marked}
 use Rattle.compiled_law.specs.inside.Records.{records_of, records_with}
 use Rattle.compiled_law.specs.inside.Runs.{EndsAs, EndsIf, RunIs}

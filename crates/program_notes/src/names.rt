@@ -3,9 +3,8 @@
 use c_tree::Ast;
 use c_tree::item::Item;
 use c_types::{Program, ValueType};
-use plain_notes::nearest;
+use plain_notes::{Spelled, is_one, nearest};
 use std::alloc::{AllocError, Global};
-use token_notes::{Spelled, is_one};
 
 /// The names of the program's functions.
 pub(crate) fn functions<'a>(alloc: Global, ast: &'a Ast) -> Result<Vec<&'a [u8]>, AllocError> {

@@ -14,9 +14,8 @@ use c_lexer::{LexFault, MOST_BYTES, TokenList, tokens};
 use c_parser::{ParseFault, parse};
 use c_tree::Ast;
 use c_types::{TypeFault, check};
-use plain_notes::{Told, message_at, message_of_file};
+use plain_notes::{Spelled, Told, bad_byte, bad_number, first_token, message_at, message_of_file};
 use std::alloc::{AllocError, Global};
-use token_notes::{Spelled, bad_byte, bad_number, first_token};
 
 /// The message of a program's text, if it is refused. It begins with the path, the line and the
 /// column of the refused byte or token, but for a text that is too long.

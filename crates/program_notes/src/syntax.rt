@@ -4,9 +4,8 @@ use crate::program::start_of;
 use c_lexer::{TokenList, tokens};
 use c_parser::{ParseFault, parse};
 use nvm_base::Bytes;
-use plain_notes::Told;
+use plain_notes::{MARKS, NAMES, Spelled, Told, WORDS, expected, is_one, left_out};
 use std::alloc::{AllocError, Global};
-use token_notes::{MARKS, NAMES, Spelled, WORDS, expected, is_one, left_out};
 
 /// The message of a refused token: what it is, what to write instead, and what could stand there.
 pub(crate) fn syntax(

@@ -2,8 +2,8 @@
 
 use crate::program::spelled;
 use c_lexer::tokens;
+use plain_notes::transaction_name;
 use std::alloc::{AllocError, Global};
-use token_notes::transaction_name;
 
 /// The name of the program's transaction of this number, counted from 1; an empty one if there is
 /// none.

@@ -6,9 +6,8 @@ use crate::names::{
 };
 use c_tree::Ast;
 use c_types::{Kind, LimitKind, Program, TypeFault, ValueType};
-use plain_notes::Told;
+use plain_notes::{Spelled, Told, is_one};
 use std::alloc::{AllocError, Global};
-use token_notes::{Spelled, is_one};
 
 /// The message of a broken rule.
 pub(crate) fn typing(

@@ -1,10 +1,2 @@
-pub mod Among
-pub mod Fits
-pub mod Given
-pub mod Kept
-pub mod Own
-pub mod Listed
-pub mod Found
-pub mod Put
-pub mod Whole
-pub mod Laws
+pub mod typed
+pub mod rules

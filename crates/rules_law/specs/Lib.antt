@@ -1,5 +1,2 @@
-pub mod Part
-pub mod Stands
-pub mod Rules
-pub mod Given
-pub mod Law
+pub mod typed
+pub mod rules

@@ -13,9 +13,9 @@ use Rattle.c_types.specs.Statements.{scope_declared, is_declared}
 use Rattle.c_types.specs.Declarations.{scopes_after_parameter, scopes_after_parameters}
 use Rattle.c_types.proofs.Index.{is_some_None}
 use Rattle.c_meaning.specs.Locals.{Local, scopes_of, assigned, oldest, bound, local_declared}
-use Rattle.typed_law.specs.Types.{StaticType, value_type}
-use Rattle.typed_law.specs.Programs.{AreParameters}
-use Rattle.typed_law.proofs.Fitting.{declared_is}
+use Rattle.rules_law.specs.typed.Types.{StaticType, value_type}
+use Rattle.rules_law.specs.typed.Programs.{AreParameters}
+use Rattle.rules_law.proofs.typed.Fitting.{declared_is}
 use Rattle.sound_law.proofs.Fields.{IsSmall, written_small}
 use Rattle.sound_law.proofs.Scopes.{AreSmall, IsSame}
 

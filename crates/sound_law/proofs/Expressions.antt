@@ -21,11 +21,11 @@ use Rattle.c_meaning.specs.Meaning.{at_zero, both, either, binary_means, called,
 use Rattle.c_meaning.specs.Meaning.{values_of, pointer_of, placed_trap, located}
 use Rattle.c_meaning.specs.Operators.{binary_of}
 use Rattle.lower.proofs.Sane.{IsSane}
-use Rattle.typed_law.specs.Programs.{IsWellTyped}
-use Rattle.typed_law.specs.Types.{StaticType, Number, PointerTo, value_type}
-use Rattle.typed_law.specs.Expressions.{HasType, IsArray, ArePassed}
-use Rattle.typed_law.proofs.TypedExpressions.{typed_is}
-use Rattle.typed_law.proofs.Known.{function_at}
+use Rattle.rules_law.specs.typed.Programs.{IsWellTyped}
+use Rattle.rules_law.specs.typed.Types.{StaticType, Number, PointerTo, value_type}
+use Rattle.rules_law.specs.typed.Expressions.{HasType, IsArray, ArePassed}
+use Rattle.rules_law.proofs.typed.TypedExpressions.{typed_is}
+use Rattle.rules_law.proofs.typed.Known.{function_at}
 use Rattle.sound_law.specs.Places.{FindsWord}
 use Rattle.sound_law.specs.Expressions.{Past, AfterTick, goes_right, Finds, FindsPointer, FindsAll}
 use Rattle.sound_law.proofs.Fields.{single, many, root_finds, arrow_finds, new_leaves, new_numbered}

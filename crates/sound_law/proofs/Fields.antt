@@ -36,10 +36,10 @@ use Rattle.lower.specs.Names.{struct_kind_at, kind_named}
 use Rattle.lower.proofs.Sane.{IsSane, IsKindOf, index_of_in, kind_of_struct}
 use Rattle.code_meaning.specs.Code.{fields_of}
 use Rattle.lower_law.proofs.Fields.{new_word, numbered_few}
-use Rattle.typed_law.specs.Types.{StaticType, Number, PointerTo, NullPointer, value_type}
-use Rattle.typed_law.specs.Types.{IsPointer, IsWritten, HasValueField, HasArray}
-use Rattle.typed_law.specs.Programs.{IsWellTyped}
-use Rattle.typed_law.proofs.Fitting.{pointer_kept}
+use Rattle.rules_law.specs.typed.Types.{StaticType, Number, PointerTo, NullPointer, value_type}
+use Rattle.rules_law.specs.typed.Types.{IsPointer, IsWritten, HasValueField, HasArray}
+use Rattle.rules_law.specs.typed.Programs.{IsWellTyped}
+use Rattle.rules_law.proofs.typed.Fitting.{pointer_kept}
 use Rattle.sound_law.specs.Places.{LeadsInto, IsNumbered, IndexFits, HasMember, FindsWord}
 use Rattle.sound_law.proofs.Pools.{object_fits, new_fits}
 use Rattle.sound_law.proofs.Words.{Below, placed, member, word_below}

@@ -15,8 +15,8 @@ use Rattle.c_meaning.specs.Meaning.{Out, Got, Stops, Calls, ends_of, function_va
 use Rattle.c_meaning.specs.Transaction.{outcome, transaction_in}
 use Rattle.c_meaning.specs.Transaction.{run_transaction}
 use Rattle.lower.proofs.Sane.{IsSane, sane}
-use Rattle.typed_law.specs.Programs.{IsTypedFunction, IsWellTyped}
-use Rattle.typed_law.proofs.Laws.{accepted}
+use Rattle.rules_law.specs.typed.Programs.{IsTypedFunction, IsWellTyped}
+use Rattle.rules_law.proofs.typed.Laws.{accepted}
 use Rattle.sound_law.specs.Statements.{FunctionFinds, CallFinds}
 use Rattle.sound_law.specs.Law.{LeavesFitting, SoundLaw}
 use Rattle.sound_law.proofs.Expressions.{Fits, Leaves, AreSound}

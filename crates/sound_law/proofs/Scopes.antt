@@ -11,8 +11,8 @@ use Rattle.c_types.specs.declared.value_type.ValueType.{ValueType}
 use Rattle.c_types.specs.Tables.{Tables}
 use Rattle.c_types.specs.Expressions.{Scope, or_else, variable_type}
 use Rattle.c_meaning.specs.Locals.{Local, scopes_of}
-use Rattle.typed_law.specs.Types.{StaticType, Number, PointerTo, NullPointer, value_type}
-use Rattle.typed_law.specs.Expressions.{HasType, IsArray, ArePassed}
+use Rattle.rules_law.specs.typed.Types.{StaticType, Number, PointerTo, NullPointer, value_type}
+use Rattle.rules_law.specs.typed.Expressions.{HasType, IsArray, ArePassed}
 use Rattle.sound_law.specs.Places.{IsLocal}
 use Rattle.sound_law.proofs.Fields.{IsSmall, pointer_small, written_small}
 

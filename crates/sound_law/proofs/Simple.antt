@@ -30,11 +30,11 @@ use Rattle.c_meaning.specs.Meaning.{value_of, pointer_of, operands_of, stored_en
 use Rattle.c_meaning.specs.Meaning.{update, target_local, freed, loaded, or_trap, end_of_simple}
 use Rattle.c_meaning.specs.Meaning.{placed_trap, at_place, located}
 use Rattle.lower.proofs.Sane.{IsSane}
-use Rattle.typed_law.specs.Programs.{IsWellTyped}
-use Rattle.typed_law.specs.Types.{StaticType, Number, PointerTo, value_type}
-use Rattle.typed_law.specs.Expressions.{HasType}
-use Rattle.typed_law.specs.Statements.{IsAssignable, IsSimple, IsInitial}
-use Rattle.typed_law.proofs.TypedExpressions.{typed_is}
+use Rattle.rules_law.specs.typed.Programs.{IsWellTyped}
+use Rattle.rules_law.specs.typed.Types.{StaticType, Number, PointerTo, value_type}
+use Rattle.rules_law.specs.typed.Expressions.{HasType}
+use Rattle.rules_law.specs.typed.Statements.{IsAssignable, IsSimple, IsInitial}
+use Rattle.rules_law.proofs.typed.TypedExpressions.{typed_is}
 use Rattle.sound_law.specs.Places.{IsLocal, FindsWord}
 use Rattle.sound_law.specs.Expressions.{Past, Finds, FindsOperands}
 use Rattle.sound_law.specs.Statements.{SetFinds, UpdateFinds, SimpleFinds, InitialFinds}

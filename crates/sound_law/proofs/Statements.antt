@@ -20,12 +20,12 @@ use Rattle.c_meaning.specs.Meaning.{value_of, declaration_end, return_end}
 use Rattle.c_meaning.specs.Meaning.{end_of_first, end_of_third, condition_of, in_scope}
 use Rattle.c_meaning.specs.Meaning.{end_of_stmt, ends_of}
 use Rattle.lower.proofs.Sane.{IsSane}
-use Rattle.typed_law.specs.Programs.{IsWellTyped}
-use Rattle.typed_law.specs.Types.{StaticType}
-use Rattle.typed_law.specs.Expressions.{HasType}
-use Rattle.typed_law.specs.Statements.{IsDeclared, IsFirst, IsCondition, IsThird, IsReturned}
-use Rattle.typed_law.specs.Statements.{IsStatement, AreStatements}
-use Rattle.typed_law.proofs.Fitting.{declared_is}
+use Rattle.rules_law.specs.typed.Programs.{IsWellTyped}
+use Rattle.rules_law.specs.typed.Types.{StaticType}
+use Rattle.rules_law.specs.typed.Expressions.{HasType}
+use Rattle.rules_law.specs.typed.Statements.{IsDeclared, IsFirst, IsCondition, IsThird, IsReturned}
+use Rattle.rules_law.specs.typed.Statements.{IsStatement, AreStatements}
+use Rattle.rules_law.proofs.typed.Fitting.{declared_is}
 use Rattle.sound_law.specs.Expressions.{Finds}
 use Rattle.sound_law.specs.Statements.{OptionFinds, InitialFinds, FirstFinds}
 use Rattle.sound_law.specs.Statements.{ThirdFinds, StmtFinds, StatementsFind}

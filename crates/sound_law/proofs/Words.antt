@@ -26,7 +26,7 @@ use Rattle.lower.proofs.Sane as sane
 use Rattle.code_meaning.specs.Code.{words_before}
 use Rattle.lower_law.proofs.Typed.{before_same, before_small, field_same, field_length}
 use Rattle.lower_law.proofs.Typed.{FieldThere, field_there}
-use Rattle.typed_law.specs.Programs.{IsStruct}
+use Rattle.rules_law.specs.typed.Programs.{IsStruct}
 use Rattle.sound_law.specs.Places.{IndexFits, HasMember}
 
 -- a number of a word, if there is one, is less than n

@@ -13,7 +13,7 @@ use Rattle.pool_map.specs.declared.word.PoolWord.{PoolWord}
 use Rattle.pool_map.specs.declared.word.PoolWord.TheVariants.{Root, Field}
 use Rattle.c_meaning.specs.Locals.{Local}
 use Rattle.c_meaning.specs.Access.{struct_pointed_by, word_named}
-use Rattle.typed_law.specs.Programs.{IsStruct}
+use Rattle.rules_law.specs.typed.Programs.{IsStruct}
 
 -- a local of this name is there
 abbrev pub IsLocal : List ℕ → List Local → Type 0

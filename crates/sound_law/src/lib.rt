@@ -1,6 +1,6 @@
 //! What a checked program never does while it runs: it never asks for what isn't there. So where
 //! the meaning gives a value only to be total, that value is never met. It rests on `c_meaning` and
-//! `typed_law`, and has no code. Its one contract: the laws of `specs/`.
+//! `rules_law`, and has no code. Its one contract: the laws of `specs/`.
 #![tactic(auto)]
 
 ghost use Rattle.sound_law.specs.Law.{SoundLaw, NeverFullLaw};

@@ -8,3 +8,4 @@ pub mod Powering
 pub mod Commands
 pub mod Runs
 pub mod Scripts
+pub mod FaultLines

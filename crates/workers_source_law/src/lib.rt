@@ -6,10 +6,18 @@
 #![tactic(auto)]
 
 ghost use Rattle.workers_source_law.specs.Law.{WorkersLaw, WorkersPartLaw, ArgsLaw};
+ghost use Rattle.workers_source_law.specs.FaultsTold.{ToldFaultLaw, RunFaultLaw};
 
 /// Each line of a script of workers is what the source gives. The function does nothing.
-pub fn law()
+pub fn source_law()
     ensures run { WorkersLaw }
     ensures part { WorkersPartLaw }
     ensures words { ArgsLaw }
+{}
+
+/// The count of faults never falls, and a command tells that the device failed only where it rose.
+/// The function does nothing.
+pub fn fault_law()
+    ensures command { ToldFaultLaw }
+    ensures run { RunFaultLaw }
 {}

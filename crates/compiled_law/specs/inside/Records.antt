@@ -5,7 +5,7 @@ use Rattle.ir.specs.declared.site.Site.{Site}
 use Rattle.code_meaning.specs.Deeds.{Deed, Reads, Writes, Heads}
 use Rattle.pool_layout.specs.declared.limits.Sizes.{Sizes}
 use Rattle.crash_law.specs.Due.{is_listed}
-use Rattle.piece_law.specs.Stands.{heap_word, header_word}
+use Rattle.machine_law.specs.pieces.Stands.{heap_word, header_word}
 
 abbrev pub records_of : (Site → Bool) → List Deed → ℕ
 records_of logged [] = 0

@@ -15,8 +15,8 @@ use Rattle.pm_machine.specs.Effects.{heap_end, records_end}
 use Rattle.pm_machine.specs.Machine.{Run, Finished}
 use Rattle.run_law.specs.Sound.{IsSoundRun}
 use Rattle.abort_law.specs.Records.{records_marked}
-use Rattle.piece_law.specs.Stands.{Stands}
-use Rattle.piece_law.specs.Words.{HasWords}
+use Rattle.machine_law.specs.pieces.Stands.{Stands}
+use Rattle.machine_law.specs.pieces.Words.{HasWords}
 
 abbrev pub EndsAs : Image → Ir → code.CodeEnd → End → Words → Type 0
 EndsAs image ir (code.Ended w v t) end heap =

@@ -1,8 +1,0 @@
-use Rattle.emit_law.proofs.Steps.{forward_all, forward_code}
-use Rattle.emit_law.proofs.forward_law.Goals as goal
-
-pub returns-clause-code : goal.returns-clause-code
-returns-clause-code c = forward_code
-
-pub returns-clause-run : goal.returns-clause-run
-returns-clause-run c = forward_all

@@ -1,9 +1,0 @@
-use Rattle.emit_law.proofs.PairedCode.{emits_pairs}
-use Rattle.emit_law.proofs.Pairs.{paired_all}
-use Rattle.emit_law.proofs.paired_law.Goals as goal
-
-pub returns-clause-code : goal.returns-clause-code
-returns-clause-code c = emits_pairs
-
-pub returns-clause-run : goal.returns-clause-run
-returns-clause-run c = paired_all

@@ -1,5 +1,0 @@
-use Rattle.emit_law.proofs.Placed.{run_as}
-use Rattle.emit_law.proofs.placed_law.Goals as goal
-
-pub returns : goal.returns
-returns c = λ image x piece n l m is same. run_as image x piece is n l m same

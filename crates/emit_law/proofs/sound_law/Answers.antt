@@ -1,9 +1,0 @@
-use Rattle.emit_law.proofs.SoundRun.{sound_run}
-use Rattle.emit_law.proofs.TidyCode.{emits_tidy}
-use Rattle.emit_law.proofs.sound_law.Goals as goal
-
-pub returns-clause-code : goal.returns-clause-code
-returns-clause-code c = emits_tidy
-
-pub returns-clause-run : goal.returns-clause-run
-returns-clause-run c = sound_run

@@ -1,0 +1,2 @@
+pub mod covered
+pub mod inserted

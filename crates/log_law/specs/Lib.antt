@@ -1,0 +1,3 @@
+pub mod covered
+pub mod inserted
+pub mod inside

@@ -1,0 +1,3 @@
+pub mod emitted
+pub mod pieces
+pub mod matching

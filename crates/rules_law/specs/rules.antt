@@ -1,0 +1,5 @@
+pub mod Part
+pub mod Stands
+pub mod Rules
+pub mod Given
+pub mod Law

@@ -1,0 +1,2 @@
+pub mod sizes
+pub mod checked

@@ -1,8 +1,0 @@
-use Rattle.workers_session_law.proofs.FaultLines.{told_fault, run_fault}
-use Rattle.workers_session_law.proofs.fault_law.Goals as goal
-
-pub returns-clause-command : goal.returns-clause-command
-returns-clause-command c = told_fault
-
-pub returns-clause-run : goal.returns-clause-run
-returns-clause-run c = run_fault
