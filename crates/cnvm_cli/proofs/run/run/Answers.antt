@@ -11,5 +11,9 @@ look_up-requires g c =
 
 pub returns-in-Ok-clause-ends : goal.returns-in-Ok-clause-ends
 returns-in-Ok-clause-ends g c =
-    inr (c.in-Ok.job.compiled, c.in-Ok.job.script, c.in-Ok.ensures.told,
-    c.run_job-status.ensures.ends)
+    inr (
+      c.in-Ok.job.compiled,
+      c.in-Ok.job.script,
+      c.in-Ok.ensures.told,
+      c.run_job-status.ensures.ends,
+    )
