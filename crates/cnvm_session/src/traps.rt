@@ -55,13 +55,13 @@ impl Traps {
         if self.ended.is_some() {
             return false;
         }
-        self.ended = Some(trapped(kind, stop));
+        self.ended = Some(trap_at(kind, stop));
         true
     }
 
     fn undoes(&mut self, kind: TrapKind, stop: Option<Stop>) {
         if self.undone.is_none() {
-            self.undone = Some(trapped(kind, stop));
+            self.undone = Some(trap_at(kind, stop));
         }
     }
 
@@ -81,7 +81,7 @@ impl Traps {
     }
 }
 
-fn trapped(kind: TrapKind, stop: Option<Stop>) -> Trapped {
+fn trap_at(kind: TrapKind, stop: Option<Stop>) -> Trapped {
     Trapped {
         kind,
         stop,
