@@ -24,7 +24,7 @@ returns-in-Err-clause-part g c =
     (subst
     (λ (l : List WorkersLine).
     AppendsPart (written c.loop-given.out) (written c.put_lines.new.out) (lines_text l))
-    (c.as_slice-2.ensures ∙ does.1) c.in-Err.ensures.part))
+    (c.as_slice-in-loop-given.ensures ∙ does.1) c.in-Err.ensures.part))
 
 pub loop-given-preserved : goal.loop-given-preserved
 loop-given-preserved g c =
@@ -33,7 +33,7 @@ loop-given-preserved g c =
     let told = subst
     (λ (l : List WorkersLine).
     Appends (written c.loop-given.out) (written c.put_lines.new.out) (lines_text l))
-    (c.as_slice-2.ensures ∙ does.1) c.in_default-put_lines.ensures.whole in record {
+    (c.as_slice-in-loop-given.ensures ∙ does.1) c.in_default-put_lines.ensures.whole in record {
       sound = c.in-Some.ensures.sound;
       count = search rules;
       all = λ y w rest. c.loop-given.invariant.all y w
