@@ -1,6 +1,6 @@
 -- The marks and their spellings. The mark at the front of a text is the longest that fits: the
--- table lists the marks of two bytes before those of one, and the first one that the text begins
--- with is taken.
+-- table lists longer marks before shorter ones, and the first one that the text begins with is
+-- taken.
 use Rattle.std.specs.Prelude.{ℕ, List, [], ◌∷◌, length, Option, Some, None, nat_eq, if◌then◌else◌}
 use Rattle.std.specs.Prelude.{codes}
 use Rattle.std.specs.List.{starts_with}
@@ -9,11 +9,19 @@ use Rattle.c_lexer.specs.declared.token.Mark.TheVariants as mark
 
 abbrev pub marks : List (List ℕ × Mark)
 marks =
+    (codes "<<=", mark.ShiftLeftAssign) ∷
+    (codes ">>=", mark.ShiftRightAssign) ∷
     (codes "->", mark.Arrow) ∷
     (codes "++", mark.Increment) ∷
     (codes "--", mark.Decrement) ∷
     (codes "+=", mark.AddAssign) ∷
     (codes "-=", mark.SubAssign) ∷
+    (codes "*=", mark.MulAssign) ∷
+    (codes "/=", mark.DivAssign) ∷
+    (codes "%=", mark.RemAssign) ∷
+    (codes "&=", mark.AndAssign) ∷
+    (codes "^=", mark.XorAssign) ∷
+    (codes "|=", mark.OrAssign) ∷
     (codes "<<", mark.ShiftLeft) ∷
     (codes ">>", mark.ShiftRight) ∷
     (codes "<=", mark.LessEqual) ∷

@@ -14,12 +14,14 @@ word_table =
     (codes "int64_t", word.Int64) ∷
     (codes "void", word.Void) ∷
     (codes "struct", word.Struct) ∷
+    (codes "enum", word.Enum) ∷
     (codes "persistent", word.Persistent) ∷
     (codes "root", word.Root) ∷
     (codes "tx", word.Tx) ∷
     (codes "if", word.If) ∷
     (codes "else", word.Else) ∷
     (codes "while", word.While) ∷
+    (codes "do", word.Do) ∷
     (codes "for", word.For) ∷
     (codes "break", word.Break) ∷
     (codes "continue", word.Continue) ∷
@@ -37,9 +39,7 @@ never_accepted =
     codes "char" ∷
     codes "const" ∷
     codes "default" ∷
-    codes "do" ∷
     codes "double" ∷
-    codes "enum" ∷
     codes "extern" ∷
     codes "float" ∷
     codes "goto" ∷

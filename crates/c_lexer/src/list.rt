@@ -1,13 +1,14 @@
 //! The tokens of a text with their places, and the place of the text's end.
 
-ghost use Rattle.std.specs.Prelude.{◌≡◌, ◌≤◌, length, slice_get};
+ghost use Rattle.std.specs.Prelude.{◌≡◌, ◌≤◌, ◌++◌, ◌∷◌, [], length, slice_get, OnOk};
 ghost use Rattle.std.specs.Option.{option_copied};
 ghost use Rattle.c_lexer.specs.TokenList.{line_at, start_at};
 
 use crate::token::Placed;
+use std::alloc::{AllocError, Global};
 use std::marker::Model;
 
-/// The tokens of one text, in order, with the place of the text's end. Only `tokens` makes one.
+/// The tokens of one text, in order, with the place of the text's end.
 #[derive(Drop)]
 pub struct TokenList {
     all: Vec<Placed>,
@@ -24,10 +25,33 @@ impl Model for TokenList {
 }
 
 impl TokenList {
-    pub(crate) fn new(all: Vec<Placed>, last: u64, size: u64) -> Self
+    pub(crate) fn of(all: Vec<Placed>, last: u64, size: u64) -> Self
         ensures { result ≡ record { tokens = all.items; last = last; size = size } }
     {
         TokenList { all, last, size }
+    }
+
+    /// No token, and the line and the number of bytes before the end. It takes no memory.
+    pub fn new(alloc: Global, last: u64, size: u64) -> Self
+        ensures { result ≡ record { tokens = []; last = last; size = size } }
+    {
+        TokenList {
+            all: Vec::new(alloc),
+            last,
+            size,
+        }
+    }
+
+    /// Puts one token after all others.
+    pub fn push(&mut self, placed: Placed) -> Result<(), AllocError>
+        ensures { OnOk result (self.new ≡ record {
+          tokens = self.old.tokens ++ placed ∷ [];
+          last = self.old.last;
+          size = self.old.size;
+        }) }
+    {
+        self.all.push(placed)?;
+        Ok(())
     }
 
     /// The number of tokens.

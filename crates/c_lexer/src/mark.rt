@@ -7,13 +7,21 @@ ghost use Rattle.c_lexer.specs.Marks.{first_fit, mark_at};
 
 use crate::token::Mark;
 
-/// Marks of two bytes come first, so that the first one that fits is the longest.
-const MARKS: [(&str, Mark); 35] = [
+/// Longer marks come first, so that the first one that fits is the longest.
+const MARKS: [(&str, Mark); 43] = [
+    ("<<=", Mark::ShiftLeftAssign),
+    (">>=", Mark::ShiftRightAssign),
     ("->", Mark::Arrow),
     ("++", Mark::Increment),
     ("--", Mark::Decrement),
     ("+=", Mark::AddAssign),
     ("-=", Mark::SubAssign),
+    ("*=", Mark::MulAssign),
+    ("/=", Mark::DivAssign),
+    ("%=", Mark::RemAssign),
+    ("&=", Mark::AndAssign),
+    ("^=", Mark::XorAssign),
+    ("|=", Mark::OrAssign),
     ("<<", Mark::ShiftLeft),
     (">>", Mark::ShiftRight),
     ("<=", Mark::LessEqual),
@@ -67,6 +75,6 @@ pub(crate) fn longest_mark(left: &[u8]) -> Option<(usize, Mark)>
     ensures inside { IfSome result (λ found. found.0 ≤ length left.now) }
     ensures mark { result ≡ mark_at left.now }
 {
-    let table: [(&str, Mark); 35] = MARKS;
+    let table: [(&str, Mark); 43] = MARKS;
     first_fit(left, table.as_slice())
 }

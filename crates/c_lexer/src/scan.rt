@@ -83,7 +83,7 @@ fn scan(alloc: Global, text: &[u8]) -> Result<TokenList, LexFault>
         spot.pass(passed);
         left = afterwards;
     }
-    Ok(TokenList::new(all, spot.line, spot.at))
+    Ok(TokenList::of(all, spot.line, spot.at))
 }
 
 /// The tokens that a text spells, with their places, or the first refusal in the order of its

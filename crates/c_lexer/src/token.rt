@@ -15,6 +15,22 @@ pub enum Mark {
     AddAssign,
     /// `-=`
     SubAssign,
+    /// `*=`
+    MulAssign,
+    /// `/=`
+    DivAssign,
+    /// `%=`
+    RemAssign,
+    /// `&=`
+    AndAssign,
+    /// `^=`
+    XorAssign,
+    /// `|=`
+    OrAssign,
+    /// `<<=`
+    ShiftLeftAssign,
+    /// `>>=`
+    ShiftRightAssign,
     /// `<<`
     ShiftLeft,
     /// `>>`
@@ -86,6 +102,8 @@ pub enum Word {
     Void,
     /// `struct`
     Struct,
+    /// `enum`
+    Enum,
     /// `persistent`
     Persistent,
     /// `root`
@@ -98,6 +116,8 @@ pub enum Word {
     Else,
     /// `while`
     While,
+    /// `do`
+    Do,
     /// `for`
     For,
     /// `break`

@@ -12,16 +12,18 @@ use nvm_base::Text;
 use std::alloc::{AllocError, Global};
 use std::str;
 
-const WORDS: [(&str, Word); 17] = [
+const WORDS: [(&str, Word); 19] = [
     ("int64_t", Word::Int64),
     ("void", Word::Void),
     ("struct", Word::Struct),
+    ("enum", Word::Enum),
     ("persistent", Word::Persistent),
     ("root", Word::Root),
     ("tx", Word::Tx),
     ("if", Word::If),
     ("else", Word::Else),
     ("while", Word::While),
+    ("do", Word::Do),
     ("for", Word::For),
     ("break", Word::Break),
     ("continue", Word::Continue),
@@ -32,10 +34,10 @@ const WORDS: [(&str, Word); 17] = [
     ("abort", Word::Abort),
 ];
 
-const NEVER_ACCEPTED: [&str; 25] = [
-    "auto", "case", "char", "const", "default", "do", "double", "enum", "extern", "float", "goto",
-    "inline", "int", "long", "register", "restrict", "short", "signed", "sizeof", "static",
-    "switch", "typedef", "union", "unsigned", "volatile",
+const NEVER_ACCEPTED: [&str; 23] = [
+    "auto", "case", "char", "const", "default", "double", "extern", "float", "goto", "inline",
+    "int", "long", "register", "restrict", "short", "signed", "sizeof", "static", "switch",
+    "typedef", "union", "unsigned", "volatile",
 ];
 
 fn first_spelled(run: &[u8], table: &[(&str, Word)]) -> Option<Word>
@@ -67,7 +69,7 @@ fn is_among(run: &[u8], table: &[&str]) -> bool
 fn profile_word(run: &[u8]) -> Option<Word>
     ensures { result ≡ word_spelled run.now }
 {
-    let table: [(&str, Word); 17] = WORDS;
+    let table: [(&str, Word); 19] = WORDS;
     first_spelled(run, table.as_slice())
 }
 
@@ -76,7 +78,7 @@ fn profile_word(run: &[u8]) -> Option<Word>
 fn is_reserved(run: &[u8]) -> bool
     ensures { result ≡ is_never_accepted run.now }
 {
-    let table: [&str; 25] = NEVER_ACCEPTED;
+    let table: [&str; 23] = NEVER_ACCEPTED;
     is_among(run, table.as_slice())
 }
 

@@ -20,6 +20,7 @@ use Rattle.c_tree.specs.ExprTree as expr
 use Rattle.c_tree.specs.StmtTree.{StmtTree, Statements, SimpleTree, FirstTree, DeclarationTree}
 use Rattle.c_tree.specs.StmtTree as stmt
 use Rattle.c_tree.specs.ItemTree.{FunctionTree}
+use Rattle.c_tree.specs.Operators.{update_binary}
 use Rattle.c_tree.specs.declared.expr.BinaryOp.{BinaryOp}
 use Rattle.c_tree.specs.declared.expr.BinaryOp.TheVariants as binary
 use Rattle.c_tree.specs.declared.stmt.AssignOp.{AssignOp}
@@ -294,10 +295,8 @@ abbrev pub assign_end : Tables → Calls → AssignOp → (place : ℕ) → Expr
     → PoolMap → ℕ → StmtEnd
 assign_end t calls assign.Set place target e ls p k =
     assign_to t calls (target_local target) target (λ p k. value_of t calls e ls p k) ls p k
-assign_end t calls assign.Add place target e ls p k = update t calls (target_local target) target
-    binary.Add place (λ p k. value_of t calls e ls p k) ls p k
-assign_end t calls assign.Sub place target e ls p k = update t calls (target_local target) target
-    binary.Sub place (λ p k. value_of t calls e ls p k) ls p k
+assign_end t calls (assign.Update op) place target e ls p k = update t calls (target_local target)
+    target (update_binary op) place (λ p k. value_of t calls e ls p k) ls p k
 
 abbrev pub steps : Tables → Calls → StepOp → (place : ℕ) → ExprTree → List Local → PoolMap
     → ℕ → StmtEnd
@@ -383,6 +382,11 @@ abbrev mutual
   end_of_stmt t calls (stmt.While place c a) ls p k =
       turns k place (λ ls p k. value_of t calls c ls p k) (λ ls p k.
       in_scope (length ls) (end_of_stmt t calls a ls p k)) (λ ls p k. Next ls p k) ls p k
+  -- the first round of a `do` takes no tick
+  end_of_stmt t calls (stmt.Do place a c) ls p k =
+      after_turn (in_scope (length ls) (end_of_stmt t calls a ls p k)) (λ ls p k. turns k place
+      (λ ls p k. value_of t calls c ls p k) (λ ls p k.
+      in_scope (length ls) (end_of_stmt t calls a ls p k)) (λ ls p k. Next ls p k) ls p k)
   -- a `for` is a scope around its parts
   end_of_stmt t calls (stmt.For place first c third a) ls p k =
       in_scope (length ls) (then_next (end_of_first t calls first ls p k) (λ ls p k. turns k place

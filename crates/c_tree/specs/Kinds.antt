@@ -11,6 +11,7 @@ use Rattle.c_lexer.specs.declared.token.Token.TheVariants as token
 use Rattle.c_lexer.specs.declared.token.Placed.{Placed}
 use Rattle.c_tree.specs.declared.expr.BinaryOp.TheVariants as op
 use Rattle.c_tree.specs.declared.stmt.AssignOp.TheVariants as assign
+use Rattle.c_tree.specs.declared.stmt.UpdateOp.TheVariants as update
 use Rattle.c_tree.specs.declared.stmt.StepOp.TheVariants as turn
 use Rattle.c_tree.specs.declared.kind.Kind.{Kind}
 use Rattle.c_tree.specs.declared.kind.Kind.TheVariants as kind
@@ -20,8 +21,16 @@ abbrev pub mark_kind : Mark → Kind
 mark_kind mark.Arrow = kind.Arrow
 mark_kind mark.Increment = kind.Step turn.Up
 mark_kind mark.Decrement = kind.Step turn.Down
-mark_kind mark.AddAssign = kind.Assign assign.Add
-mark_kind mark.SubAssign = kind.Assign assign.Sub
+mark_kind mark.AddAssign = kind.Assign (assign.Update update.Add)
+mark_kind mark.SubAssign = kind.Assign (assign.Update update.Sub)
+mark_kind mark.MulAssign = kind.Assign (assign.Update update.Mul)
+mark_kind mark.DivAssign = kind.Assign (assign.Update update.Div)
+mark_kind mark.RemAssign = kind.Assign (assign.Update update.Rem)
+mark_kind mark.AndAssign = kind.Assign (assign.Update update.And)
+mark_kind mark.XorAssign = kind.Assign (assign.Update update.Xor)
+mark_kind mark.OrAssign = kind.Assign (assign.Update update.Or)
+mark_kind mark.ShiftLeftAssign = kind.Assign (assign.Update update.ShiftLeft)
+mark_kind mark.ShiftRightAssign = kind.Assign (assign.Update update.ShiftRight)
 mark_kind mark.ShiftLeft = kind.Operator op.ShiftLeft
 mark_kind mark.ShiftRight = kind.Operator op.ShiftRight
 mark_kind mark.LessEqual = kind.Operator op.LessEqual
@@ -57,12 +66,15 @@ abbrev pub word_kind : Word → Kind
 word_kind word.Int64 = kind.Int
 word_kind word.Void = kind.Void
 word_kind word.Struct = kind.Struct
+-- definitions of constants are taken out before the grammar looks
+word_kind word.Enum = kind.Other
 word_kind word.Persistent = kind.Persistent
 word_kind word.Root = kind.Root
 word_kind word.Tx = kind.Tx
 word_kind word.If = kind.If
 word_kind word.Else = kind.Else
 word_kind word.While = kind.While
+word_kind word.Do = kind.Do
 word_kind word.For = kind.For
 word_kind word.Break = kind.Break
 word_kind word.Continue = kind.Continue

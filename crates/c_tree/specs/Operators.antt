@@ -4,6 +4,8 @@ use Rattle.c_tree.specs.declared.expr.BinaryOp.{BinaryOp}
 use Rattle.c_tree.specs.declared.expr.BinaryOp.TheVariants as op
 use Rattle.c_tree.specs.declared.expr.UnaryOp.{UnaryOp}
 use Rattle.c_tree.specs.declared.expr.UnaryOp.TheVariants as unary
+use Rattle.c_tree.specs.declared.stmt.UpdateOp.{UpdateOp}
+use Rattle.c_tree.specs.declared.stmt.UpdateOp.TheVariants as update
 use Rattle.c_tree.specs.declared.kind.Kind.{Kind}
 use Rattle.c_tree.specs.declared.kind.Kind.TheVariants as kind
 
@@ -41,3 +43,16 @@ sign_of (kind.Operator op.Sub) = Some unary.Negate
 sign_of kind.Not = Some unary.Not
 sign_of kind.Tilde = Some unary.Complement
 sign_of _ = None
+
+-- the binary operator of an assignment that updates its target
+abbrev pub update_binary : UpdateOp → BinaryOp
+update_binary update.Mul = op.Mul
+update_binary update.Div = op.Div
+update_binary update.Rem = op.Rem
+update_binary update.Add = op.Add
+update_binary update.Sub = op.Sub
+update_binary update.ShiftLeft = op.ShiftLeft
+update_binary update.ShiftRight = op.ShiftRight
+update_binary update.And = op.And
+update_binary update.Xor = op.Xor
+update_binary update.Or = op.Or

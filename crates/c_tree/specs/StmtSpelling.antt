@@ -106,6 +106,10 @@ mutual
     repeats : {loop : Bool} {i m j : ℕ} {e : ExprTree} {s : StmtTree}
         → kind_at ts i ≡ kind.While → Bracketed ts (i + 1) m e → Spells ts true m j s
         → Spells ts loop i j (tree.While i e s)
+    repeats_after : {loop : Bool} {i m j : ℕ} {e : ExprTree} {s : StmtTree}
+        → kind_at ts i ≡ kind.Do → Spells ts true (i + 1) m s → kind_at ts m ≡ kind.While
+        → Bracketed ts (m + 1) j e → kind_at ts j ≡ kind.Semicolon
+        → Spells ts loop i (j + 1) (tree.Do i s e)
     counts : {loop : Bool} {i m n p j : ℕ} {f : Option FirstTree} {c : Option ExprTree}
         {t : Option SimpleTree} {s : StmtTree}
         → kind_at ts i ≡ kind.For → kind_at ts (i + 1) ≡ kind.OpenRound

@@ -49,6 +49,7 @@ mutual
     If : ExprTree → StmtTree → StmtTree
     IfElse : ExprTree → StmtTree → StmtTree → StmtTree
     While : (place : ℕ) → ExprTree → StmtTree → StmtTree
+    Do : (place : ℕ) → StmtTree → ExprTree → StmtTree
     For : (place : ℕ) → Option FirstTree → Option ExprTree → Option SimpleTree → StmtTree → StmtTree
     Break : StmtTree
     Continue : StmtTree
@@ -91,6 +92,7 @@ abbrev mutual
   stmt_of (node.Block' shape all) = Block (statements_of all)
   stmt_of (node.If' condition p body other) = with_else (expr_of condition) (stmt_of body) other
   stmt_of (node.While' place condition p body) = While place (expr_of condition) (stmt_of body)
+  stmt_of (node.Do' place p body condition) = Do place (stmt_of body) (expr_of condition)
   stmt_of (node.For' place f c t p body) =
       For place (option_map tree_of_first f) (option_map expr_of c) (option_map simple_of t)
       (stmt_of body)

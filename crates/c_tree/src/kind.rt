@@ -5,7 +5,7 @@ ghost use Rattle.c_tree.specs.Kinds as kinds;
 ghost use Rattle.c_tree.specs.ExprTree.{ident_of};
 
 use crate::expr::{BinaryOp, Name};
-use crate::stmt::{AssignOp, StepOp};
+use crate::stmt::{AssignOp, StepOp, UpdateOp};
 use c_lexer::{Mark, Token, TokenList, Word};
 use nvm_base::Text;
 use std::alloc::{AllocError, Global};
@@ -43,6 +43,7 @@ pub enum Kind {
     If,
     Else,
     While,
+    Do,
     For,
     Break,
     Continue,
@@ -64,8 +65,16 @@ fn mark_kind(mark: Mark) -> Kind
         Mark::Arrow => Kind::Arrow,
         Mark::Increment => Kind::Step(StepOp::Up),
         Mark::Decrement => Kind::Step(StepOp::Down),
-        Mark::AddAssign => Kind::Assign(AssignOp::Add),
-        Mark::SubAssign => Kind::Assign(AssignOp::Sub),
+        Mark::AddAssign => Kind::Assign(AssignOp::Update(UpdateOp::Add)),
+        Mark::SubAssign => Kind::Assign(AssignOp::Update(UpdateOp::Sub)),
+        Mark::MulAssign => Kind::Assign(AssignOp::Update(UpdateOp::Mul)),
+        Mark::DivAssign => Kind::Assign(AssignOp::Update(UpdateOp::Div)),
+        Mark::RemAssign => Kind::Assign(AssignOp::Update(UpdateOp::Rem)),
+        Mark::AndAssign => Kind::Assign(AssignOp::Update(UpdateOp::And)),
+        Mark::XorAssign => Kind::Assign(AssignOp::Update(UpdateOp::Xor)),
+        Mark::OrAssign => Kind::Assign(AssignOp::Update(UpdateOp::Or)),
+        Mark::ShiftLeftAssign => Kind::Assign(AssignOp::Update(UpdateOp::ShiftLeft)),
+        Mark::ShiftRightAssign => Kind::Assign(AssignOp::Update(UpdateOp::ShiftRight)),
         Mark::ShiftLeft => Kind::Operator(BinaryOp::ShiftLeft),
         Mark::ShiftRight => Kind::Operator(BinaryOp::ShiftRight),
         Mark::LessEqual => Kind::Operator(BinaryOp::LessEqual),
@@ -106,12 +115,14 @@ fn word_kind(word: Word) -> Kind
         Word::Int64 => Kind::Int,
         Word::Void => Kind::Void,
         Word::Struct => Kind::Struct,
+        Word::Enum => Kind::Other,
         Word::Persistent => Kind::Persistent,
         Word::Root => Kind::Root,
         Word::Tx => Kind::Tx,
         Word::If => Kind::If,
         Word::Else => Kind::Else,
         Word::While => Kind::While,
+        Word::Do => Kind::Do,
         Word::For => Kind::For,
         Word::Break => Kind::Break,
         Word::Continue => Kind::Continue,

@@ -1,6 +1,9 @@
 //! Statements.
 
-use crate::expr::{Argument, Expr, Name};
+ghost use Rattle.std.specs.Prelude.{◌≡◌};
+ghost use Rattle.c_tree.specs.Operators.{update_binary};
+
+use crate::expr::{Argument, BinaryOp, Expr, Name};
 
 /// A type as it is written in the text.
 #[derive(Drop)]
@@ -26,15 +29,58 @@ pub struct Declaration {
     pub initial: Option<Initial>,
 }
 
+/// The operation of an assignment that updates its target.
+#[derive(Clone, Copy, PartialEq, Eq)]
+pub enum UpdateOp {
+    /// `*=`
+    Mul,
+    /// `/=`
+    Div,
+    /// `%=`
+    Rem,
+    /// `+=`
+    Add,
+    /// `-=`
+    Sub,
+    /// `<<=`
+    ShiftLeft,
+    /// `>>=`
+    ShiftRight,
+    /// `&=`
+    And,
+    /// `^=`
+    Xor,
+    /// `|=`
+    Or,
+}
+
+impl UpdateOp {
+    /// The binary operator of the operation, with the target on its left.
+    pub fn binary(self) -> BinaryOp
+        ensures { result ≡ update_binary self }
+    {
+        match self {
+            UpdateOp::Mul => BinaryOp::Mul,
+            UpdateOp::Div => BinaryOp::Div,
+            UpdateOp::Rem => BinaryOp::Rem,
+            UpdateOp::Add => BinaryOp::Add,
+            UpdateOp::Sub => BinaryOp::Sub,
+            UpdateOp::ShiftLeft => BinaryOp::ShiftLeft,
+            UpdateOp::ShiftRight => BinaryOp::ShiftRight,
+            UpdateOp::And => BinaryOp::And,
+            UpdateOp::Xor => BinaryOp::Xor,
+            UpdateOp::Or => BinaryOp::Or,
+        }
+    }
+}
+
 /// The action of an assignment on its target.
 #[derive(Clone, Copy, PartialEq, Eq)]
 pub enum AssignOp {
     /// `=`
     Set,
-    /// `+=`
-    Add,
-    /// `-=`
-    Sub,
+    /// An operator before the `=`.
+    Update(UpdateOp),
 }
 
 /// The action of a step on its target.
@@ -100,6 +146,12 @@ pub enum Stmt {
         place: u64,
         condition: Expr,
         body: Box<Stmt>,
+    },
+    /// A `do`; the place is that of the word.
+    Do {
+        place: u64,
+        body: Box<Stmt>,
+        condition: Expr,
     },
     /// A `for`; the place is that of the word.
     For {

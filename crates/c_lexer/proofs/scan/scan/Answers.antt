@@ -7,7 +7,7 @@ returns c =
     let at = c.loop-left in
     let none : length at.left.now ≡ 0 = search rules in
     record {
-      exact = inr (rw c.new.ensures
+      exact = inr (rw c.of.ensures
           (finished c.args.text.now at.left.now at.all.items at.spot at.invariant.room none
           at.invariant.leads));
     }
