@@ -29,6 +29,7 @@ outer_after t (stmt.Block all) s = refl
 outer_after t (stmt.If c a) s = refl
 outer_after t (stmt.IfElse c a b) s = refl
 outer_after t (stmt.While place c a) s = refl
+outer_after t (stmt.Do place a c) s = refl
 outer_after t (stmt.For place first c third a) s = refl
 outer_after t stmt.Break s = refl
 outer_after t stmt.Continue s = refl

@@ -89,8 +89,7 @@ applies unary.Not a = true
 applies unary.Negate a = is_int a
 applies unary.Complement a = is_int a
 
--- `=` takes what the target takes; `+=` and `-=` need an int on both sides
+-- `=` takes what the target takes; the operators that update need an int on both sides
 abbrev pub assigns : AssignOp → (target value : ValueType) → Bool
 assigns assign.Set target value = type_takes target value
-assigns assign.Add target value = is_int target && is_int value
-assigns assign.Sub target value = is_int target && is_int value
+assigns (assign.Update op) target value = is_int target && is_int value

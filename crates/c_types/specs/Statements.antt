@@ -122,6 +122,7 @@ scopes_after t (stmt.Block all) s = s
 scopes_after t (stmt.If c a) s = s
 scopes_after t (stmt.IfElse c a b) s = s
 scopes_after t (stmt.While place c a) s = s
+scopes_after t (stmt.Do place a c) s = s
 scopes_after t (stmt.For place first c third a) s = s
 scopes_after t stmt.Break s = s
 scopes_after t stmt.Continue s = s
@@ -141,6 +142,9 @@ abbrev mutual
       (inner_scopes s) b)
   statement_broken t gives s (stmt.While place c a) =
       value_broken t s c ++ statement_broken t gives (inner_scopes s) a
+  -- the condition of a `do` stands outside of its body's scope
+  statement_broken t gives s (stmt.Do place a c) =
+      statement_broken t gives (inner_scopes s) a ++ value_broken t s c
   -- a `for` is a scope around its parts
   statement_broken t gives s (stmt.For place first c third a) = let inner =
       option_map_or (λ f. scopes_after_first t f (inner_scopes s)) first (inner_scopes s) in

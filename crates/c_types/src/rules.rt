@@ -139,7 +139,6 @@ pub fn assigns(op: AssignOp, target: ValueType, value: ValueType) -> bool
 {
     match op {
         AssignOp::Set => type_takes(target, value),
-        AssignOp::Add => is_int(target) && is_int(value),
-        AssignOp::Sub => is_int(target) && is_int(value),
+        AssignOp::Update(_) => is_int(target) && is_int(value),
     }
 }

@@ -92,6 +92,15 @@ fn statement<'a>(
             value(program, scopes, condition, least);
             inside(alloc, program, gives, scopes, body, least)
         }
+        Stmt::Do {
+            body,
+            condition,
+            ..
+        } => {
+            inside(alloc, program, gives, scopes, body, least)?;
+            value(program, scopes, condition, least);
+            Ok(())
+        }
         Stmt::For {
             first,
             condition,

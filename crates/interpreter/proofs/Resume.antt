@@ -127,6 +127,7 @@ IsIf (stmt.Declares d) e = ⊥
 IsIf (stmt.Simple x) e = ⊥
 IsIf (stmt.Block all) e = ⊥
 IsIf (stmt.While place c a) e = ⊥
+IsIf (stmt.Do place a c) e = ⊥
 IsIf (stmt.For place first c third a) e = ⊥
 IsIf stmt.Break e = ⊥
 IsIf stmt.Continue e = ⊥
@@ -149,6 +150,7 @@ if-then t s (stmt.Declares d) e is = absurd is
 if-then t s (stmt.Simple x) e is = absurd is
 if-then t s (stmt.Block all) e is = absurd is
 if-then t s (stmt.While place c a) e is = absurd is
+if-then t s (stmt.Do place a c) e is = absurd is
 if-then t s (stmt.For place first c third a) e is = absurd is
 if-then t s stmt.Break e is = absurd is
 if-then t s stmt.Continue e is = absurd is
@@ -438,7 +440,7 @@ assign-field t s e right is = rw is
     (by-set t s e right (operands_of t (calls t s.below) e s.top s.pool s.ticks)
     (shaped-operands t (calls t s.below) e s.top s.pool s.ticks))
 
--- the right side of `+=`, `-=`, `++` and `--`
+-- the right side of an assignment that updates, of `++` and of `--`
 abbrev pub IsRight : Tables → ResumeState → Todo → (PoolMap → ℕ → Out ℤ) → Type 0
 IsRight t s x right = (go : Goes) (vs : List ℤ) (p : PoolMap) (k : ℕ)
     → todo_act t x go vs s.below (Next s.top p k) ≡ pushed go vs s.below s.top (right p k)

@@ -9,6 +9,7 @@ use Rattle.c_tree.specs.StmtTree.{StmtTree, Statements, SimpleTree, FirstTree, D
 use Rattle.c_tree.specs.StmtTree.{InitialTree}
 use Rattle.c_tree.specs.StmtTree as stmt
 use Rattle.c_tree.specs.ItemTree.{FunctionTree}
+use Rattle.c_tree.specs.Operators.{update_binary}
 use Rattle.c_tree.specs.declared.expr.BinaryOp.{BinaryOp}
 use Rattle.c_tree.specs.declared.expr.BinaryOp.TheVariants as binary
 use Rattle.c_tree.specs.declared.stmt.AssignOp.{AssignOp}
@@ -292,11 +293,8 @@ ends-assigns : (t : Tables) (calls : Calls) (h : CallsWithin calls) (op : Assign
 ends-assigns t calls h assign.Set place target e ls p k n le =
     ends-assign_to t calls h (target_local target) target _ (λ p k n le.
     within-value t calls h e ls p k n le) ls p k n le
-ends-assigns t calls h assign.Add place target e ls p k n le =
-    ends-update t calls h (target_local target) target binary.Add place _ (λ p k n le.
-    within-value t calls h e ls p k n le) ls p k n le
-ends-assigns t calls h assign.Sub place target e ls p k n le =
-    ends-update t calls h (target_local target) target binary.Sub place _ (λ p k n le.
+ends-assigns t calls h (assign.Update op) place target e ls p k n le =
+    ends-update t calls h (target_local target) target (update_binary op) place _ (λ p k n le.
     within-value t calls h e ls p k n le) ls p k n le
 
 ends-steps : (t : Tables) (calls : Calls) (h : CallsWithin calls) (op : StepOp) (place : ℕ)
@@ -406,6 +404,12 @@ mutual
       ends-turns k place _ _ _ (λ ls p k n le. within-value t calls h c ls p k n le)
       (λ ls p k n le. ends-scope n (length ls) (end_of_stmt t calls a ls p k)
       (ends-stmt t calls h a ls p k n le)) (λ ls p k n le. le) ls p k n le
+  ends-stmt t calls h (stmt.Do place a c) ls p k n le =
+      ends-after n (in_scope (length ls) (end_of_stmt t calls a ls p k)) _
+      (ends-scope n (length ls) (end_of_stmt t calls a ls p k) (ends-stmt t calls h a ls p k n le))
+      (λ ls p k le. ends-turns k place _ _ _ (λ ls p k n le. within-value t calls h c ls p k n le)
+      (λ ls p k n le. ends-scope n (length ls) (end_of_stmt t calls a ls p k)
+      (ends-stmt t calls h a ls p k n le)) (λ ls p k n le. le) ls p k n le)
   ends-stmt t calls h (stmt.For place first c third a) ls p k n le =
       ends-scope n (length ls) _ (ends-then n (end_of_first t calls first ls p k) _
       (ends-first t calls h first ls p k n le)
@@ -430,6 +434,8 @@ pub ends-body : (t : Tables) (calls : Calls) (h : CallsWithin calls) (s : StmtTr
     (ls : List Local) (p : PoolMap) (k n : ℕ)
     → k ≤ n → Ends n (body_end t calls s ls p k)
 ends-body t calls h (stmt.While place c a) ls p k n le =
+    ends-scope n (length ls) (end_of_stmt t calls a ls p k) (ends-stmt t calls h a ls p k n le)
+ends-body t calls h (stmt.Do place a c) ls p k n le =
     ends-scope n (length ls) (end_of_stmt t calls a ls p k) (ends-stmt t calls h a ls p k n le)
 ends-body t calls h (stmt.For place first c third a) ls p k n le =
     ends-scope n (length ls) (end_of_stmt t calls a ls p k) (ends-stmt t calls h a ls p k n le)

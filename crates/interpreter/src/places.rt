@@ -48,6 +48,7 @@ pub fn loop_place(stmt: &Stmt) -> u64
 {
     match stmt {
         Stmt::While { place, .. } => *place,
+        Stmt::Do { place, .. } => *place,
         Stmt::For { place, .. } => *place,
         _ => 0,
     }

@@ -77,6 +77,11 @@ impl<'a> Run<'a> {
                 self.plan_stmt(StmtTask::Turn, stmt)?;
                 Ok(Flow::Next)
             }
+            Stmt::Do { .. } => {
+                self.plan_stmt(StmtTask::Again, stmt)?;
+                self.plan_body(stmt)?;
+                Ok(Flow::Next)
+            }
             Stmt::For { first, .. } => {
                 self.plan_for(stmt, first)?;
                 Ok(Flow::Next)
@@ -243,6 +248,7 @@ impl<'a> Run<'a> {
     {
         match stmt {
             Stmt::While { condition, .. } => self.plan_expr(ExprTask::Eval, condition),
+            Stmt::Do { condition, .. } => self.plan_expr(ExprTask::Eval, condition),
             Stmt::For {
                 condition: Some(condition),
                 ..
@@ -271,6 +277,7 @@ impl<'a> Run<'a> {
     {
         match stmt {
             Stmt::While { body, .. } => self.inside(body),
+            Stmt::Do { body, .. } => self.inside(body),
             Stmt::For { body, .. } => self.inside(body),
             _ => Ok(()),
         }
@@ -343,8 +350,7 @@ impl<'a> Run<'a> {
     {
         match op {
             AssignOp::Set => self.plan_set(target, value),
-            AssignOp::Add => self.plan_update(target, BinaryOp::Add, place, Some(value)),
-            AssignOp::Sub => self.plan_update(target, BinaryOp::Sub, place, Some(value)),
+            AssignOp::Update(op) => self.plan_update(target, op.binary(), place, Some(value)),
         }
     }
 

@@ -35,7 +35,7 @@ pub enum StmtTask {
     Turn,
     /// Pops the condition of a turn.
     Test,
-    /// Comes after the body of a turn.
+    /// Comes after the body of a turn, and after the first round of a `do`.
     Again,
 }
 

@@ -6,7 +6,7 @@ use std::alloc::{AllocError, Global};
 pub const NAMES: [&str; 2] = ["name", "1"];
 
 /// The words of the language, which are no names.
-pub const WORDS: [&str; 17] = [
+pub const WORDS: [&str; 18] = [
     "int64_t",
     "void",
     "struct",
@@ -16,6 +16,7 @@ pub const WORDS: [&str; 17] = [
     "if",
     "else",
     "while",
+    "do",
     "for",
     "break",
     "continue",
@@ -27,9 +28,10 @@ pub const WORDS: [&str; 17] = [
 ];
 
 /// The marks.
-pub const MARKS: [&str; 35] = [
-    "->", "++", "--", "+=", "-=", "<<", ">>", "<=", ">=", "==", "!=", "&&", "||", "+", "-", "*",
-    "/", "%", "<", ">", "&", "^", "|", "!", "~", "=", ".", ",", ";", "(", ")", "{", "}", "[", "]",
+pub const MARKS: [&str; 43] = [
+    "<<=", ">>=", "->", "++", "--", "+=", "-=", "*=", "/=", "%=", "&=", "^=", "|=", "<<", ">>",
+    "<=", ">=", "==", "!=", "&&", "||", "+", "-", "*", "/", "%", "<", ">", "&", "^", "|", "!", "~",
+    "=", ".", ",", ";", "(", ")", "{", "}", "[", "]",
 ];
 
 /// Tokens that have one name: the token that names the group, the groups that include it,
@@ -43,18 +45,18 @@ struct Group {
 }
 
 const STATEMENT: Group = Group {
-    by: "while",
+    by: "for",
     unless: &[],
     name: "a statement",
     tokens: &[
-        "name", "1", "int64_t", "struct", "if", "while", "for", "break", "continue", "return",
-        "NULL", "pm_new", "pm_free", "abort", ";", "(", "{", "root",
+        "name", "1", "int64_t", "struct", "if", "while", "do", "for", "break", "continue",
+        "return", "NULL", "pm_new", "pm_free", "abort", ";", "(", "{", "root",
     ],
 };
 
 const EXPRESSION: Group = Group {
     by: "pm_new",
-    unless: &["while"],
+    unless: &["for"],
     name: "a value",
     tokens: &["name", "1", "NULL", "pm_new", "(", "-", "!", "~", "root"],
 };
@@ -69,6 +71,15 @@ const OPERATOR: Group = Group {
     ],
 };
 
+const ASSIGNMENT: Group = Group {
+    by: "+=",
+    unless: &[],
+    name: "an assignment",
+    tokens: &[
+        "=", "+=", "-=", "*=", "/=", "%=", "&=", "^=", "|=", "<<=", ">>=",
+    ],
+};
+
 const ITEM: Group = Group {
     by: "persistent",
     unless: &[],
@@ -78,12 +89,12 @@ const ITEM: Group = Group {
 
 const TYPE: Group = Group {
     by: "int64_t",
-    unless: &["while", "persistent"],
+    unless: &["for", "persistent"],
     name: "a type",
     tokens: &["int64_t", "struct"],
 };
 
-const GROUPS: [Group; 5] = [STATEMENT, ITEM, EXPRESSION, OPERATOR, TYPE];
+const GROUPS: [Group; 6] = [STATEMENT, ITEM, EXPRESSION, OPERATOR, ASSIGNMENT, TYPE];
 
 /// What stands for a token or a group in the note, between two marks.
 #[derive(Clone, Copy)]

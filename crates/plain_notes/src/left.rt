@@ -13,7 +13,7 @@ const WIDE_NOTE: &str = "every number is an `int64_t`: `<`, `/`, `%` and `>>` of
     that reaches 2^63 are written otherwise, as `h & 63` for `h % 64`";
 
 /// Words that C reserves and the language leaves out.
-const RESERVED: [(&str, &str); 26] = [
+const RESERVED: [(&str, &str); 25] = [
     (
         "char",
         "every number is an `int64_t`: write `int64_t` for `char`",
@@ -72,10 +72,6 @@ const RESERVED: [(&str, &str); 26] = [
     (
         "sizeof",
         "there is no `sizeof`: each value is one word, and `pm_new(struct NAME)` knows its size",
-    ),
-    (
-        "do",
-        "there is no `do`: write `for (int64_t again = 1; again || c; again = 0) { .. }`",
     ),
     (
         "switch",
@@ -164,9 +160,6 @@ fn by_word(reserved: &[(&str, &'static str)], here: &[u8]) -> Option<&'static st
 /// A mark that has another place in C.
 fn by_mark(near: &Spelled<'_>, value: bool) -> Option<&'static str> {
     let here = near.here();
-    if is_one(here, &JOINED) && is(near.after(1), "=") {
-        return Some(JOINED_NOTE);
-    }
     if is(here, "*") && (value || !is_number(near.before(1))) {
         return by_star(near);
     }
@@ -182,6 +175,9 @@ fn by_mark(near: &Spelled<'_>, value: bool) -> Option<&'static str> {
     if is(here, "=") {
         return by_assign(near);
     }
+    if is_one(here, &UPDATES) && near.within() == Within::Body {
+        return Some("an assignment is a statement, to a name, a field or an element");
+    }
     if is_one(here, &["++", "--"]) {
         return Some(STEP_NOTE);
     }
@@ -196,8 +192,6 @@ fn by_mark(near: &Spelled<'_>, value: bool) -> Option<&'static str> {
     }
     None
 }
-
-const JOINED_NOTE: &str = "there are `=`, `+=` and `-=` alone: write `x = x * 2` for `x *= 2`";
 
 const STEP_NOTE: &str =
     "`x++` and `x--` are statements of their own, with the mark after the target";
@@ -280,19 +274,18 @@ fn by_bracket(near: &Spelled<'_>) -> Option<&'static str> {
     }
 }
 
-/// The marks that C joins with `=` and the language doesn't.
-const JOINED: [&str; 8] = ["*", "/", "%", "<<", ">>", "&", "|", "^"];
-
 /// The binary operators.
 const OPERATORS: [&str; 18] = [
     "*", "/", "%", "+", "-", "<<", ">>", "<", "<=", ">", ">=", "==", "!=", "&", "^", "|", "&&",
     "||",
 ];
 
+/// The marks of assignments that update their target.
+const UPDATES: [&str; 10] = [
+    "*=", "/=", "%=", "+=", "-=", "<<=", ">>=", "&=", "^=", "|=",
+];
+
 fn by_assign(near: &Spelled<'_>) -> Option<&'static str> {
-    if is_one(near.before(1), &JOINED) {
-        return Some(JOINED_NOTE);
-    }
     if is_one(near.before(1), &["int64_t", "*"]) {
         return Some("a name is missing before the `=`");
     }
@@ -364,7 +357,7 @@ fn at_top(near: &Spelled<'_>) -> Option<&'static str> {
     if is(last, "}") && is_name(here) && is(near.after(1), ";") {
         return Some("write `struct NAME { .. };`, and then `persistent struct NAME root;`");
     }
-    if is_one(here, &["if", "while", "for", "return", "}"]) {
+    if is_one(here, &["if", "while", "do", "for", "return", "}"]) {
         return Some("this stands outside of every function: a `}` above it is one too many");
     }
     if is(here, ";") && is(last, ")") {

@@ -179,7 +179,8 @@ pub(crate) fn is_number(word: &[u8]) -> bool {
     }
 }
 
-/// The longest token that a text begins with: letters and digits, a mark of two bytes, or one byte.
+/// The longest token that a text begins with: letters and digits, a mark of two or three bytes, or
+/// one byte.
 pub fn first_token(text: &[u8]) -> &[u8] {
     first_bytes(text, token_len(text))
 }
@@ -194,7 +195,9 @@ fn token_len(text: &[u8]) -> usize {
     if run > 0 {
         return run;
     }
-    if is_one(first_bytes(text, 2), &PAIRS) {
+    if is_one(first_bytes(text, 3), &["<<=", ">>="]) {
+        3
+    } else if is_one(first_bytes(text, 2), &PAIRS) {
         2
     } else {
         1
@@ -202,8 +205,9 @@ fn token_len(text: &[u8]) -> usize {
 }
 
 /// The marks of two bytes.
-const PAIRS: [&str; 13] = [
-    "->", "++", "--", "+=", "-=", "<<", ">>", "<=", ">=", "==", "!=", "&&", "||",
+const PAIRS: [&str; 19] = [
+    "->", "++", "--", "+=", "-=", "*=", "/=", "%=", "&=", "^=", "|=", "<<", ">>", "<=", ">=", "==",
+    "!=", "&&", "||",
 ];
 
 /// How many letters, digits and `_` a text begins with.

@@ -155,6 +155,14 @@ fn statement<'a>(
             let found = expr(look, scopes, condition);
             unless_found(alloc, look, scopes, found, body)
         }
+        Stmt::Do {
+            body,
+            condition,
+            ..
+        } => {
+            let found = inside(alloc, look, scopes, body)?;
+            Ok(found.or(expr(look, scopes, condition)))
+        }
         Stmt::For {
             first,
             condition,

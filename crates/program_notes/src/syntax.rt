@@ -67,7 +67,10 @@ fn missing(
     if able.contains(&")") && is_one(near.here(), &[";", "{"]) {
         return some_text(alloc, "a `)` is missing here");
     }
-    let in_expression = able.contains(&"pm_new") && !able.contains(&"while");
+    if able.contains(&"while") && !able.contains(&"for") {
+        return some_text(alloc, "the body of a `do` ends here: `while (x);` follows it");
+    }
+    let in_expression = able.contains(&"pm_new") && !able.contains(&"for");
     match left_out(alloc, near, in_expression)? {
         Some(note) => Ok(Some(note)),
         None => comma(alloc, able),
@@ -86,7 +89,7 @@ fn some_text(alloc: Global, text: &str) -> Result<Option<String>, AllocError> {
 }
 
 fn lacks_semicolon(list: &TokenList, near: &Spelled<'_>, able: &[&str]) -> bool {
-    if !able.contains(&";") || able.contains(&"while") {
+    if !able.contains(&";") || able.contains(&"for") {
         return false;
     }
     near.here() == b"}".as_slice() || on_another_line(list, near.place.min(list.len()))

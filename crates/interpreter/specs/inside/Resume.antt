@@ -178,6 +178,7 @@ branch_chosen t calls (stmt.Declares d) v ls p k = Next ls p k
 branch_chosen t calls (stmt.Simple x) v ls p k = Next ls p k
 branch_chosen t calls (stmt.Block all) v ls p k = Next ls p k
 branch_chosen t calls (stmt.While place c a) v ls p k = Next ls p k
+branch_chosen t calls (stmt.Do place a c) v ls p k = Next ls p k
 branch_chosen t calls (stmt.For place first c third a) v ls p k = Next ls p k
 branch_chosen t calls stmt.Break v ls p k = Next ls p k
 branch_chosen t calls stmt.Continue v ls p k = Next ls p k
@@ -186,6 +187,7 @@ branch_chosen t calls (stmt.Return place e) v ls p k = Next ls p k
 -- the parts of a loop: the place of its word, its condition, its third part and its body
 abbrev pub loop_place : StmtTree → ℕ
 loop_place (stmt.While place c a) = place
+loop_place (stmt.Do place a c) = place
 loop_place (stmt.For place first c third a) = place
 loop_place stmt.Empty = 0
 loop_place (stmt.Declares d) = 0
@@ -199,6 +201,7 @@ loop_place (stmt.Return place e) = 0
 
 abbrev pub condition_in : StmtTree → Option ExprTree
 condition_in (stmt.While place c a) = Some c
+condition_in (stmt.Do place a c) = Some c
 condition_in (stmt.For place first c third a) = c
 condition_in stmt.Empty = None
 condition_in (stmt.Declares d) = None
@@ -213,6 +216,7 @@ condition_in (stmt.Return place e) = None
 abbrev pub third_in : StmtTree → Option SimpleTree
 third_in (stmt.For place first c third a) = third
 third_in (stmt.While place c a) = None
+third_in (stmt.Do place a c) = None
 third_in stmt.Empty = None
 third_in (stmt.Declares d) = None
 third_in (stmt.Simple x) = None
@@ -225,6 +229,7 @@ third_in (stmt.Return place e) = None
 
 abbrev pub body_end : Tables → Calls → StmtTree → List Local → PoolMap → ℕ → StmtEnd
 body_end t calls (stmt.While place c a) ls p k = in_scope (length ls) (end_of_stmt t calls a ls p k)
+body_end t calls (stmt.Do place a c) ls p k = in_scope (length ls) (end_of_stmt t calls a ls p k)
 body_end t calls (stmt.For place first c third a) ls p k =
     in_scope (length ls) (end_of_stmt t calls a ls p k)
 body_end t calls stmt.Empty ls p k = Next ls p k

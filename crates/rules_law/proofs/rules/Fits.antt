@@ -281,14 +281,12 @@ gift_no F G a b is same never = failed (type_takes a b) (Pair a b AcceptsType)
 assigns_true : (op : AssignOp) (a b : ValueType) (x y : StaticType) → CanBe a x → CanBe b y
     → IsAssigned op x y → assigns op a b ≡ true
 assigns_true assign.Set a b x y m n h = takes_true a b x y m n h
-assigns_true assign.Add a b x y m n h = numbers_true a b x y m n h
-assigns_true assign.Sub a b x y m n h = numbers_true a b x y m n h
+assigns_true (assign.Update op) a b x y m n h = numbers_true a b x y m n h
 
 true_assigns : (op : AssignOp) (a b : ValueType) → assigns op a b ≡ true
     → Pair a b (IsAssigned op)
 true_assigns assign.Set a b e = true_takes a b e
-true_assigns assign.Add a b e = true_numbers a b e
-true_assigns assign.Sub a b e = true_numbers a b e
+true_assigns (assign.Update op) a b e = true_numbers a b e
 
 pub no_assignment : (op : AssignOp) (F G : StaticType → Type 0) (a b : ValueType) → IsOf F a
     → IsOf G b → assigns op a b ≡ false → NoAssignment op F G

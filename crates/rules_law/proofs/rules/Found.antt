@@ -255,6 +255,10 @@ mutual
       (λ h. further t b (found_value t s c b h) (λ p e. at.while_condition e))
       (λ h. further t b (found_statement t result (inner_scopes s) a b h)
       (λ p e. at.while_body e))
+  found_statement t result s (stmt.Do place a c) b h =
+      either (statement_broken t (type_given t result) (inner_scopes s) a) (value_broken t s c) b h
+      (λ h. further t b (found_statement t result (inner_scopes s) a b h) (λ p e. at.do_body e))
+      (λ h. further t b (found_value t s c b h) (λ p e. at.do_condition e))
   found_statement t result s (stmt.For place first c third a) b h =
       let one = option_map_or (first_broken t (inner_scopes s)) first [] in
       let two = option_map_or (value_broken t (for_scopes t first s)) c [] in

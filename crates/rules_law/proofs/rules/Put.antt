@@ -247,6 +247,12 @@ mutual
       among_right (value_broken t s c)
       (statement_broken t (type_given t result) (inner_scopes s) a) b
       (put_statement t result b d h)
+  put_statement t result b (at.do_body {s = s} {a = a} {c = c} d) h =
+      among_left (statement_broken t (type_given t result) (inner_scopes s) a)
+      (value_broken t s c) b (put_statement t result b d h)
+  put_statement t result b (at.do_condition {s = s} {a = a} {c = c} d) h =
+      among_right (statement_broken t (type_given t result) (inner_scopes s) a)
+      (value_broken t s c) b (put_value t b d h)
   put_statement t result b
       (at.for_first {s = s} {f = f} {c = c} {third = last} {a = a} d) h =
       among_left (for_one t s (Some f)) (for_two t s (Some f) c ++ (for_three t s (Some f) last

@@ -48,8 +48,7 @@ target_form (expr.Binary op place a b) is = absurd (false≢true is)
 assigned_types : (op : AssignOp) (x y : StaticType)
     → assigns op (value_type x) (value_type y) ≡ true → IsAssigned op x y
 assigned_types assign.Set x y e = taken x y e
-assigned_types assign.Add x y e = numbers_only x y e
-assigned_types assign.Sub x y e = numbers_only x y e
+assigned_types (assign.Update op) x y e = numbers_only x y e
 
 assigned_answer : (op : AssignOp) (a b : ValueType) (x y : StaticType) → a ≡ value_type x
     → b ≡ value_type y → assigns op a b ≡ true → IsAssigned op x y
@@ -196,6 +195,7 @@ statement_known t result s (stmt.Block all) known b = known
 statement_known t result s (stmt.If c a) known b = known
 statement_known t result s (stmt.IfElse c a e) known b = known
 statement_known t result s (stmt.While place c a) known b = known
+statement_known t result s (stmt.Do place a c) known b = known
 statement_known t result s (stmt.For place first c third a) known b = known
 statement_known t result s stmt.Break known b = known
 statement_known t result s stmt.Continue known b = known
@@ -229,6 +229,12 @@ mutual
     statement_is t result
         (inner_scopes s) a ready res (known_inside s known) (none_right (value_broken t s c) _ b),
   )
+  statement_is t result s (stmt.Do place a c) ready res known b =
+      let one = statement_broken t (option_map (declared_type t) result) (inner_scopes s) a in (
+        statement_is t result (inner_scopes s) a ready res (known_inside s known)
+            (none_left one _ b),
+        typed_is t s c ready known (none_right one _ b),
+      )
   statement_is t result s (stmt.For place first c third a) ready res known b =
       let s1 : List Scope = inner_scopes s in
       let inner : List Scope = option_map_or (λ f. scopes_after_first t f s1) first s1 in

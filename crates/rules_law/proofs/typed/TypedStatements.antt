@@ -58,8 +58,7 @@ target_form t s (expr.Binary op place a b) x is h = absurd is
 assigned_fits : (op : AssignOp) (x y : StaticType) → IsAssigned op x y
     → assigns op (value_type x) (value_type y) ≡ true
 assigned_fits assign.Set x y h = taken_fits x y h
-assigned_fits assign.Add x y h = numbers_fit x y h
-assigned_fits assign.Sub x y h = numbers_fit x y h
+assigned_fits (assign.Update op) x y h = numbers_fit x y h
 
 simple_kept : (t : Tables) (s : List Scope) (d : SimpleTree) → IsSimple t s d
     → simple_broken t s d ≡ []
@@ -145,6 +144,9 @@ mutual
   statement_kept t result s (stmt.While place c a) h =
       none_both (value_broken t s c) _ (value_kept t s c h.0.0 h.0.1) (statement_kept t result
       (inner_scopes s) a h.1)
+  statement_kept t result s (stmt.Do place a c) h =
+      none_both (statement_broken t (option_map (declared_type t) result) (inner_scopes s) a) _
+      (statement_kept t result (inner_scopes s) a h.0) (value_kept t s c h.1.0 h.1.1)
   statement_kept t result s (stmt.For place first c third a) h =
       let s1 : List Scope = inner_scopes s in
       let inner : List Scope = option_map_or (λ f. scopes_after_first t f s1) first s1 in

@@ -40,7 +40,7 @@ NoOperand op F = (x : StaticType) → MayBe F x → Applies op x → ⊥
 abbrev pub NoOperands : BinaryOp → (F G : StaticType → Type 0) → Type 0
 NoOperands op F G = (x y : StaticType) → MayBe F x → MayBe G y → Joins op x y → ⊥
 
--- a target of F takes no value of G, by `=`, `+=` or `-=`
+-- a target of F takes no value of G, by `=` or by an operator that updates
 abbrev pub NoAssignment : AssignOp → (F G : StaticType → Type 0) → Type 0
 NoAssignment op F G = (x y : StaticType) → MayBe F x → MayBe G y → IsAssigned op x y → ⊥
 
@@ -114,8 +114,8 @@ pub data Breaks (t : Tables) : Part → Rule → (place : ℕ) → Type 0 where
   void_used : {name : Ident} {all : Arguments} (f : FunctionTree)
       → function_named t name.text ≡ Some f → f.result_type ≡ None
       → Breaks t (part.Called true name all) Mismatch name.place
-  -- a value is assigned to something of another type, where it isn't null for a pointer; `+=` or
-  -- `-=` on what isn't an int, or with what isn't one; the operator
+  -- a value is assigned to something of another type, where it isn't null for a pointer; an
+  -- operator that updates on what isn't an int, or with what isn't one; the operator
   assigned : {s : List Scope} {target e : ExprTree} {op : AssignOp} {place : ℕ}
       → NoAssignment op (Types t s target) (Types t s e)
       → Breaks t (part.Simple s (stmt.Assign target op place e)) Mismatch place

@@ -114,6 +114,10 @@ mutual
     while_body : {s : List Scope} {place : ℕ} {c : ExprTree} {a : StmtTree} {p : Part}
         → InStatement t result (inner_scopes s) a p
         → InStatement t result s (stmt.While place c a) p
+    do_body : {s : List Scope} {place : ℕ} {a : StmtTree} {c : ExprTree} {p : Part}
+        → InStatement t result (inner_scopes s) a p → InStatement t result s (stmt.Do place a c) p
+    do_condition : {s : List Scope} {place : ℕ} {a : StmtTree} {c : ExprTree} {p : Part}
+        → InValue s c p → InStatement t result s (stmt.Do place a c) p
     for_first : {s : List Scope} {place : ℕ} {f : FirstTree} {c : Option ExprTree}
         {third : Option SimpleTree} {a : StmtTree} {p : Part}
         → InFirst (inner_scopes s) f p

@@ -28,11 +28,10 @@ IsAssignable (expr.New place name) = ⊥
 IsAssignable (expr.Unary op place a) = ⊥
 IsAssignable (expr.Binary op place a b) = ⊥
 
--- `=` gives what the target takes; `+=` and `-=` add a number to a number
+-- `=` gives what the target takes; the operators that update join two numbers
 abbrev pub IsAssigned : AssignOp → StaticType → StaticType → Type 0
 IsAssigned assign.Set x y = AcceptsType x y
-IsAssigned assign.Add x y = (x ≡ Number) × (y ≡ Number)
-IsAssigned assign.Sub x y = (x ≡ Number) × (y ≡ Number)
+IsAssigned (assign.Update op) x y = (x ≡ Number) × (y ≡ Number)
 
 abbrev pub IsSimple : Tables → List Scope → SimpleTree → Type 0
 IsSimple t s (stmt.Assign target op place e) = IsAssignable target
@@ -86,6 +85,9 @@ abbrev mutual
       × IsStatement t result (inner_scopes s) b
   IsStatement t result s (stmt.While place c a) =
       IsTyped t s c × IsStatement t result (inner_scopes s) a
+  -- the condition of a `do` stands outside of its body's scope
+  IsStatement t result s (stmt.Do place a c) =
+      IsStatement t result (inner_scopes s) a × IsTyped t s c
   -- a `for` is a scope round its parts and its body
   IsStatement t result s (stmt.For place first c third a) = let inner =
       option_map_or (λ f. scopes_after_first t f (inner_scopes s)) first (inner_scopes s) in

@@ -32,3 +32,8 @@ returns-in_ok-plan_expr-in-If-clause-does c =
 pub returns-in_ok-plan_for-in-For-clause-does : goal.returns-in_ok-plan_for-in-For-clause-does
 returns-in_ok-plan_for-in-For-clause-does c =
     c.in_ok-plan_for-in-For.ensures (tables_in c.args.program.now) ∙ rw c.in-For.is refl
+
+pub returns-in_ok-plan_body-in-Do-clause-does : goal.returns-in_ok-plan_body-in-Do-clause-does
+returns-in_ok-plan_body-in-Do-clause-does c =
+    c.in_ok-plan_body-in-Do.ensures (tables_in c.args.program.now)
+    ∙ rw (c.in_ok-plan_stmt-in-Do.ensures, c.in-Do.is) refl
