@@ -18,7 +18,7 @@ persistent struct R root;
 ";
 
 /// Texts, a function of each, and its code: name, parameters, registers and instructions.
-const FUNCTIONS: [(&str, &str, &str); 17] = [
+const FUNCTIONS: [(&str, &str, &str); 22] = [
     (
         "int64_t f(int64_t x, int64_t y) { return x + y * 2; }",
         "f",
@@ -79,6 +79,38 @@ return r18; r20 = 0; return r20;",
         "f",
         "f 1 13: r2 = r0; r3 = 1; r2 = r3; tick; branch r2 9; r7 = 1; r8 = r2 Sub r7; r2 = r8; \
 jump 3; return r2; r12 = 0; return r12;",
+    ),
+    (
+        "int64_t f(int64_t x) { do { if (x == 1) continue; break; } while (x > 2); return 2; }",
+        "f",
+        "f 1 15: r2 = 1; r3 = r0 Eq r2; branch r3 4; jump 5; jump 10; tick; r8 = 2; r9 = r8 Lt r0; \
+branch r9 10; jump 0; r12 = 2; return r12; r14 = 0; return r14;",
+    ),
+    (
+        "int64_t f(int64_t x) { do do x--; while (x); while (!x); return x; }",
+        "f",
+        "f 1 16: r2 = r0; r3 = 1; r4 = r2 Sub r3; r2 = r4; tick; branch r2 7; jump 1; tick; \
+r10 = 0; r11 = r2 Eq r10; branch r11 12; jump 1; return r2; r15 = 0; return r15;",
+    ),
+    (
+        "int64_t f(int64_t x) { for (; x;) { do continue; while (0); break; } return 0; }",
+        "f",
+        "f 1 14: tick; branch r0 9; jump 3; tick; r6 = 0; branch r6 7; jump 2; jump 9; jump 0; \
+r11 = 0; return r11; r13 = 0; return r13;",
+    ),
+    (
+        "int64_t f(int64_t x, int64_t y) { x *= y; x /= y; x %= y; x &= y; x ^= y; x |= y; \
+x <<= y; x >>= y; return x; }",
+        "f",
+        "f 2 22: r3 = r0; r4 = r3 Mul r1; r3 = r4; r6 = r3 Div r1; r3 = r6; r8 = r3 Rem r1; \
+r3 = r8; r10 = r3 And r1; r3 = r10; r12 = r3 Xor r1; r3 = r12; r14 = r3 Or r1; r3 = r14; \
+r16 = r3 Shl r1; r3 = r16; r18 = r3 Shr r1; r3 = r18; return r3; r21 = 0; return r21;",
+    ),
+    (
+        "int64_t f(int64_t x) { root.n /= x; root.t[x] >>= 2; return 0; }",
+        "f",
+        "f 1 12: r2 = root.0; r3 = r2 Div r0; root.0 = r3 @4; r5 = root.2[r0]; r6 = 2; \
+r7 = r5 Shr r6; root.2[r0] = r7 @4; r9 = 0; return r9; r11 = 0; return r11;",
     ),
     (
         "int64_t f(struct N *p) { p->v = root.t[1]; root.t[p->v] += 2; p->next->a[0]++; \

@@ -85,9 +85,7 @@ update_end_le None target value p =
 pub simple_end_le : (x : SimpleTree) (p : ℕ) → p ≤ simple_end x p
 simple_end_le (stmt.Assign target assign.Set place value) p =
     set_end_le (variable_of target) target value p
-simple_end_le (stmt.Assign target assign.Add place value) p =
-    update_end_le (variable_of target) target (Some value) p
-simple_end_le (stmt.Assign target assign.Sub place value) p =
+simple_end_le (stmt.Assign target (assign.Update o) place value) p =
     update_end_le (variable_of target) target (Some value) p
 simple_end_le (stmt.Step target o place) p = update_end_le (variable_of target) target None p
 simple_end_le (stmt.Call name all) p = exp_end_le (expr.Call name all) p
@@ -119,6 +117,8 @@ mutual
       )
   stmt_end_le (stmt.While place c a) p =
       omega (arith, exp_end_le c (suc p), stmt_end_le a (suc (exp_end c (suc p))))
+  stmt_end_le (stmt.Do place a c) p =
+      omega (arith, stmt_end_le a p, exp_end_le c (suc (stmt_end a p)))
   stmt_end_le (stmt.For place first c third a) p =
       let p0 : ℕ = first_end first p in
       let p1 : ℕ = or_end c (suc p0) in

@@ -5,7 +5,6 @@ use Rattle.std.specs.Prelude.{nat_eq, if◌then◌else◌, Option, None, Some}
 use Rattle.std.proofs.lemmas.List.{map-append}
 use Rattle.std.proofs.lemmas.Bool.Decides.{eqb_tells}
 use Rattle.nvm_base.specs.declared.op.BinOp.{BinOp}
-use Rattle.nvm_base.specs.declared.op.BinOp.TheVariants as op
 use Rattle.c_tree.specs.declared.expr.UnaryOp.TheVariants as unary
 use Rattle.c_tree.specs.declared.stmt.AssignOp.TheVariants as assign
 use Rattle.c_tree.specs.ExprTree as expr
@@ -20,7 +19,8 @@ use Rattle.lower.specs.Names.{Variables, inner_variables, variable_of}
 use Rattle.lower.specs.inside.Holes.{to_place, hole_filled, fill_from}
 use Rattle.lower.specs.Lowers.{Context, exp_end, exp_code, reg_of, target_end, target_code}
 use Rattle.lower.specs.Lowers.{arguments_end, arguments_code, form_end, form_code, or_end, or_code}
-use Rattle.lower.specs.Lowers.{set_end, set_code, update_end, update_code, step_operation}
+use Rattle.lower.specs.Lowers.{set_end, set_code, update_end, update_code, update_operation}
+use Rattle.lower.specs.Lowers.{step_operation}
 use Rattle.lower.specs.Lowers.{simple_end, simple_code, initial_end, initial_code, first_end}
 use Rattle.lower.specs.Lowers.{first_code, third_end, third_code, variables_after}
 use Rattle.lower.specs.Lowers.{variables_after_first, stmt_end, stmt_code, statements_end}
@@ -187,10 +187,8 @@ pub simple_filled : (k : Context) (v : Variables) (x : SimpleTree) (p h place : 
     → simple_end x p < h → map (hole_filled h place) (simple_code k v x p) ≡ simple_code k v x p
 simple_filled k v (stmt.Assign target assign.Set at value) p h place lt =
     set_filled k v (variable_of target) target at value p h place lt
-simple_filled k v (stmt.Assign target assign.Add at value) p h place lt =
-    update_filled k v (variable_of target) target at op.Add (Some value) p h place lt
-simple_filled k v (stmt.Assign target assign.Sub at value) p h place lt =
-    update_filled k v (variable_of target) target at op.Sub (Some value) p h place lt
+simple_filled k v (stmt.Assign target (assign.Update o) at value) p h place lt =
+    update_filled k v (variable_of target) target at (update_operation o) (Some value) p h place lt
 simple_filled k v (stmt.Step target o at) p h place lt =
     update_filled k v (variable_of target) target at (step_operation o) None p h place lt
 simple_filled k v (stmt.Call name all) p h place lt =
@@ -251,6 +249,19 @@ mutual
         exp_filled k v c (suc p) h place (omega arith),
         stmt_filled k (inner_variables v) a (suc p2) p (suc p1) h place (omega arith),
         to_place_same h place (suc p2) lt,
+        to_place_same h place p (omega arith),
+      )
+  stmt_filled k v (stmt.Do at a c) out again p h place lt =
+      let p1 : ℕ = stmt_end a p in
+      let p2 : ℕ = exp_end c (suc p1) in
+      let le1 : p ≤ p1 = stmt_end_le a p in
+      let le2 : suc p1 ≤ p2 = exp_end_le c (suc p1) in
+      simp (
+        map-append,
+        stmt_filled k (inner_variables v) a (suc (suc p2)) p1 p h place (omega arith),
+        exp_filled k v c (suc p1) h place (omega arith),
+        to_place_same h place (suc (suc p2)) lt,
+        to_place_same h place p1 (omega arith),
         to_place_same h place p (omega arith),
       )
   stmt_filled k v (stmt.For at first c third a) out again p h place lt =

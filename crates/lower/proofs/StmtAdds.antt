@@ -6,9 +6,9 @@ use Rattle.std.specs.Prelude.{slice_set, Option, None, Some}
 use Rattle.std.proofs.Math.Seq.{set-append_seam}
 use Rattle.std.proofs.lemmas.List.{append-nil, map-append}
 use Rattle.nvm_base.specs.declared.op.BinOp.{BinOp}
-use Rattle.nvm_base.specs.declared.op.BinOp.TheVariants as op
 use Rattle.pool_map.specs.declared.trap.TrapKind.TheVariants as trap
 use Rattle.c_tree.specs.declared.stmt.AssignOp.TheVariants as assign
+use Rattle.c_tree.specs.declared.stmt.UpdateOp.{UpdateOp}
 use Rattle.c_tree.specs.declared.stmt.StepOp.{StepOp}
 use Rattle.c_types.specs.Expressions.{type_of}
 use Rattle.c_tree.specs.ExprTree as expr
@@ -31,17 +31,19 @@ use Rattle.lower.specs.inside.Names.{outer_variables}
 use Rattle.lower.specs.inside.Holes.{leave, third_part, to_place, hole_filled, fill_from}
 use Rattle.lower.specs.Lowers.{Context, exp_end, exp_code, reg_of, target_end, target_code}
 use Rattle.lower.specs.Lowers.{target_of, or_end, or_code, or_reg, set_end, set_code, update_end}
-use Rattle.lower.specs.Lowers.{update_code, step_operation, initial_end, first_end, first_code}
+use Rattle.lower.specs.Lowers.{update_code, update_operation, step_operation, initial_end}
+use Rattle.lower.specs.Lowers.{first_end, first_code}
 use Rattle.lower.specs.Lowers.{variables_after_first, third_end, third_code, variables_after}
 use Rattle.lower.specs.Lowers.{stmt_end, stmt_code, statements_code}
 use Rattle.lower.specs.inside.Lowers.{variables_after_all, for_end, for_code}
 use Rattle.lower.specs.inside.Added.{Put, ExprAdded, TargetAdded, OrAdded, InitialAdded}
 use Rattle.lower.specs.inside.Added.{SimpleAdded, FirstAdded, ThirdAdded, StmtAdded}
 use Rattle.lower.specs.inside.Added.{StatementsAdded, BodyAdded, ForAdded, UpdateAdded, IfAdded}
-use Rattle.lower.specs.inside.Added.{ElseAdded, WhileAdded, ReturnAdded}
+use Rattle.lower.specs.inside.Added.{ElseAdded, WhileAdded, DoAdded, ReturnAdded}
 use Rattle.lower.proofs.Ends.{exp_end_le, or_end_le, stmt_end_le, third_end_le}
 use Rattle.lower.proofs.ExprAdds.{put_long, one_more, seam}
-use Rattle.lower.proofs.Filled.{to_place_same, stmt_filled, third_filled, fill_from_after}
+use Rattle.lower.proofs.Filled.{to_place_same, exp_filled, stmt_filled, third_filled}
+use Rattle.lower.proofs.Filled.{fill_from_after}
 
 -- a statement changes only the innermost scope
 outer_declared : (name : List ℕ) (ty : ValueType) (r : ℕ) (v : Variables)
@@ -66,6 +68,7 @@ outer_after k (stmt.Block all) p v = refl
 outer_after k (stmt.If c a) p v = refl
 outer_after k (stmt.IfElse c a b) p v = refl
 outer_after k (stmt.While place c a) p v = refl
+outer_after k (stmt.Do place a c) p v = refl
 outer_after k (stmt.For place first c third a) p v = refl
 outer_after k stmt.Break p v = refl
 outer_after k stmt.Continue p v = refl
@@ -101,6 +104,13 @@ filled_after h place c c6 c7 M b n hn h6 h7 =
     let f6 : c6 ≡ front ++ M = h6 ∙ sym (append_assoc c (b ∷ []) M) in
     h7 ∙ ap (fill_from h (n + 1) place) f6 ∙ ap (λ i. fill_from h i place (front ++ M)) lf
     ∙ fill_from_after h front M place ∙ append_assoc c (b ∷ []) (map (hole_filled h place) M)
+
+-- filling the code from its beginning on
+body_filled : (h place : ℕ) (c c1 c2 M : List Instruction) (top : ℕ) → top ≡ length c
+    → c1 ≡ c ++ M → c2 ≡ fill_from h top place c1 → c2 ≡ c ++ map (hole_filled h place) M
+body_filled h place c c1 c2 M top ht h1 h2 =
+    h2 ∙ ap (fill_from h top place) h1 ∙ ap (λ i. fill_from h i place (c ++ M)) ht
+    ∙ fill_from_after h c M place
 
 fill_long : (h n place : ℕ) (c : List Instruction) → length (fill_from h n place c) ≡ length c
 fill_long h n place [] = refl
@@ -364,6 +374,65 @@ while_added k v e a c c1 c2 c3 c4 c5 c6 c7 u r top n m ht h1 he hn h3 ha hm smal
       variables = ha.variables;
     }
 
+pub do_added : (k : Context) (v : Variables) (a : StmtTree) (e : ExprTree)
+    (c c1 c2 c3 c4 c5 c6 c7 : List Instruction) (u : Variables) (r top m n : ℕ)
+    → top ≡ length c → BodyAdded k v a leave third_part c c1 u → m ≡ length c1 → length c1 ≤ 2 ^ 29
+    → c2 ≡ fill_from third_part top m c1 → c3 ≡ c2 ++ Tick ∷ [] → ExprAdded k u e c3 c4 r
+    → n ≡ length c4 → length c4 ≤ 2 ^ 29 → c5 ≡ c4 ++ Branch r (n + 2) ∷ []
+    → c6 ≡ c5 ++ Jump top ∷ [] → c7 ≡ fill_from leave top (n + 2) c6 → DoAdded k v a e c c7 u
+do_added k v a e c c1 c2 c3 c4 c5 c6 c7 u r top m n ht ha hm room h2 h3 he hn small h5 h6 h7 =
+    let p : ℕ = length c in
+    let p1 : ℕ = stmt_end a p in
+    let p2 : ℕ = exp_end e (suc p1) in
+    let q : ℕ = suc (suc p2) in
+    let A : List Instruction = stmt_code k (inner_variables v) a leave third_part p in
+    let A1 : List Instruction = stmt_code k (inner_variables v) a leave p1 p in
+    let A2 : List Instruction = stmt_code k (inner_variables v) a q p1 p in
+    let q1 : length c1 ≡ p1 = ha.long in
+    let q2 : length c2 ≡ p1 = fill_from_long third_part top m c1 c2 h2 ∙ q1 in
+    let q3 : length c3 ≡ suc p1 = one_more c2 c3 Tick h3 ∙ ap suc q2 in
+    let q4 : length c4 ≡ p2 = he.long ∙ ap (exp_end e) q3 in
+    let off : n + 2 ≡ q = omega (arith, hn, q4) in
+    let le1 : p ≤ p1 = stmt_end_le a p in
+    let le2 : suc p1 ≤ p2 = exp_end_le e (suc p1) in
+    let most : p2 ≤ 2 ^ 29 = omega (arith, q4, small) in
+    let fa1 : map (hole_filled third_part m) A ≡ A1 =
+    stmt_filled k (inner_variables v) a leave third_part p third_part m (omega arith)
+    ∙ ap (λ i. stmt_code k (inner_variables v) a leave i p) (hm ∙ q1) in
+    let e2 : c2 ≡ c ++ A1 = body_filled third_part m c c1 c2 A top ht ha.code h2
+    ∙ ap (λ l. c ++ l) fa1 in
+    let E : List Instruction = exp_code k v e (suc p1) in
+    let B : List Instruction = Branch (reg_of k v e p2) q ∷ Jump p ∷ [] in
+    let e4 : c4 ≡ c3 ++ E = he.code ∙ ap (λ x. c3 ++ exp_code k x e (length c3)) ha.variables
+    ∙ ap (λ i. c3 ++ exp_code k v e i) q3 in
+    let r' : r ≡ reg_of k v e p2 = he.register ∙ ap (λ x. reg_of k x e (length c4)) ha.variables
+    ∙ ap (reg_of k v e) q4 in
+    let e5 : c5 ≡ c4 ++ Branch (reg_of k v e p2) q ∷ [] = h5
+    ∙ ap (λ i. c4 ++ Branch r i ∷ []) off ∙ ap (λ i. c4 ++ Branch i q ∷ []) r' in
+    let e6 : c6 ≡ c5 ++ Jump p ∷ [] = h6 ∙ ap (λ i. c5 ++ Jump i ∷ []) ht in
+    let s5 : c6 ≡ c4 ++ B = seam c4 c5 c6 (Branch (reg_of k v e p2) q ∷ []) (Jump p ∷ []) e5 e6 in
+    let s4 : c6 ≡ c3 ++ (E ++ B) = seam c3 c4 c6 E B e4 s5 in
+    let s3 : c6 ≡ c2 ++ Tick ∷ (E ++ B) = seam c2 c3 c6 (Tick ∷ []) (E ++ B) h3 s4 in
+    let s2 : c6 ≡ c ++ (A1 ++ Tick ∷ (E ++ B)) = seam c c2 c6 A1 (Tick ∷ (E ++ B)) e2 s3 in
+    let stay : to_place leave (n + 2) p1 ≡ p1 = to_place_same leave (n + 2) p1 (omega arith) in
+    let back : to_place leave (n + 2) p ≡ p = to_place_same leave (n + 2) p (omega arith) in
+    let fa2 : map (hole_filled leave (n + 2)) A1 ≡ A2 =
+    stmt_filled k (inner_variables v) a leave p1 p leave (n + 2) (omega arith)
+    ∙ ap (λ i. stmt_code k (inner_variables v) a (n + 2) i p) stay
+    ∙ ap (λ i. stmt_code k (inner_variables v) a i p1 p) off in
+    let fe : map (hole_filled leave (n + 2)) E ≡ E =
+    exp_filled k v e (suc p1) leave (n + 2) (omega arith) in
+    let fm : map (hole_filled leave (n + 2)) (A1 ++ Tick ∷ (E ++ B)) ≡ A2 ++ Tick ∷ (E ++ B) =
+    simp (map-append, fa2, fe, back) in
+    let l6 : length c6 ≡ q = one_more c5 c6 (Jump top) h6
+    ∙ ap suc (one_more c4 c5 (Branch r (n + 2)) h5 ∙ ap suc q4) in
+    record {
+      code = body_filled leave (n + 2) c c6 c7 (A1 ++ Tick ∷ (E ++ B)) top ht s2 h7
+          ∙ ap (λ l. c ++ l) fm;
+      long = fill_from_long leave top (n + 2) c6 c7 h7 ∙ l6;
+      variables = ha.variables;
+    }
+
 pub for_added : (k : Context) (v : Variables) (e : Option ExprTree) (third : Option SimpleTree)
     (a : StmtTree) (c c1 c2 c3 c4 c5 c6 c7 c8 c9 : List Instruction) (u : Variables)
     (r top n m l : ℕ)
@@ -582,17 +651,11 @@ update_target k v target place o value c c1 c2 c3 c4 c5 t l x r is ht hl h ho e 
           ∙ ap (λ n. update_end n target value (length c)) (sym is);
     }
 
-pub update_add : (k : Context) (v : Variables) (target : ExprTree) (place : ℕ) (value : ExprTree)
-    (c c1 : List Instruction)
-    → UpdateAdded k v target place op.Add (Some value) c c1
-    → SimpleAdded k v (stmt.Assign target assign.Add place value) c c1
-update_add k v target place value c c1 h = record { code = h.code; long = h.long }
-
-pub update_sub : (k : Context) (v : Variables) (target : ExprTree) (place : ℕ) (value : ExprTree)
-    (c c1 : List Instruction)
-    → UpdateAdded k v target place op.Sub (Some value) c c1
-    → SimpleAdded k v (stmt.Assign target assign.Sub place value) c c1
-update_sub k v target place value c c1 h = record { code = h.code; long = h.long }
+pub update_assign : (k : Context) (v : Variables) (target : ExprTree) (o : UpdateOp) (place : ℕ)
+    (value : ExprTree) (c c1 : List Instruction)
+    → UpdateAdded k v target place (update_operation o) (Some value) c c1
+    → SimpleAdded k v (stmt.Assign target (assign.Update o) place value) c c1
+update_assign k v target o place value c c1 h = record { code = h.code; long = h.long }
 
 pub update_step : (k : Context) (v : Variables) (target : ExprTree) (o : StepOp) (place : ℕ)
     (c c1 : List Instruction)
@@ -654,6 +717,12 @@ pub while_stmt : (k : Context) (v : Variables) (place : ℕ) (e : ExprTree) (a :
 while_stmt k v place e a out again c c1 u h =
     record { code = h.code; long = h.long; variables = h.variables }
 
+pub do_stmt : (k : Context) (v : Variables) (place : ℕ) (a : StmtTree) (e : ExprTree)
+    (out again : ℕ) (c c1 : List Instruction) (u : Variables)
+    → DoAdded k v a e c c1 u → StmtAdded k v (stmt.Do place a e) out again c c1 u
+do_stmt k v place a e out again c c1 u h =
+    record { code = h.code; long = h.long; variables = h.variables }
+
 pub return_stmt : (k : Context) (v : Variables) (place : ℕ) (value : Option ExprTree)
     (out again : ℕ) (c c1 : List Instruction)
     → ReturnAdded k v value c c1 → StmtAdded k v (stmt.Return place value) out again c c1 v
@@ -682,16 +751,17 @@ pub ruleset statements = (
   if_added,
   if_else_added,
   while_added,
+  do_added,
   for_added,
   for_stmt,
   while_stmt,
+  do_stmt,
   return_stmt,
   set_variable,
   set_target,
   update_variable,
   update_target,
-  update_add,
-  update_sub,
+  update_assign,
   update_step,
   call_simple,
   free_added,

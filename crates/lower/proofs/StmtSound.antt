@@ -7,7 +7,6 @@ use Rattle.std.specs.List.{AllByRecursion}
 use Rattle.std.proofs.lemmas.Bool.{false≢true}
 use Rattle.std.proofs.lemmas.Option.{none-some, same_Some}
 use Rattle.nvm_base.specs.declared.op.BinOp.{BinOp}
-use Rattle.nvm_base.specs.declared.op.BinOp.TheVariants as op
 use Rattle.nvm_base.proofs.Lists.{all_append}
 use Rattle.c_tree.specs.declared.stmt.AssignOp.TheVariants as assign
 use Rattle.c_tree.specs.ExprTree as expr
@@ -39,7 +38,8 @@ use Rattle.lower.specs.Names.{Variables, inner_variables, variable_declared, var
 use Rattle.lower.specs.Names.{register_of, variable_of, struct_kind_at}
 use Rattle.lower.specs.Lowers.{Context, exp_end, exp_code, reg_of, target_end, target_code}
 use Rattle.lower.specs.Lowers.{target_of, arguments_end, arguments_code, or_end, or_code, or_reg}
-use Rattle.lower.specs.Lowers.{set_end, set_code, update_end, update_code, step_operation}
+use Rattle.lower.specs.Lowers.{set_end, set_code, update_end, update_code, update_operation}
+use Rattle.lower.specs.Lowers.{step_operation}
 use Rattle.lower.specs.Lowers.{simple_end, simple_code, initial_end, initial_code}
 use Rattle.lower.specs.Lowers.{variables_after_declaration, first_end, first_code}
 use Rattle.lower.specs.Lowers.{variables_after_first, third_end, third_code, variables_after}
@@ -197,30 +197,18 @@ simple_sound k ir r n v (stmt.Assign target assign.Set place value) p h a b lt =
     (type_of t v.scopes value)) place Mismatch) _
     (none_right (value_broken t v.scopes value) _ rest)) in
     set_sound k ir r n v (variable_of target) target place value p h a refl good c d lt
-simple_sound k ir r n v (stmt.Assign target assign.Add place value) p h a b lt =
+simple_sound k ir r n v (stmt.Assign target (assign.Update o) place value) p h a b lt =
     let t : Tables = k.tables in
     let c : value_broken t v.scopes target ≡ [] = none_left (value_broken t v.scopes target) _ b in
     let rest = none_right (value_broken t v.scopes target) _ b in
     let d : value_broken t v.scopes value ≡ [] = none_left (value_broken t v.scopes value) _ rest in
     let good : is_target target ≡ true =
     holds (is_target target) place NotAssignable
-    (none_right (unless (assigns assign.Add (type_of t v.scopes target)
+    (none_right (unless (assigns (assign.Update o) (type_of t v.scopes target)
     (type_of t v.scopes value)) place Mismatch) _
     (none_right (value_broken t v.scopes value) _ rest)) in
-    update_sound k ir r n v (variable_of target) target place op.Add (Some value) p h a refl
-    good c d lt
-simple_sound k ir r n v (stmt.Assign target assign.Sub place value) p h a b lt =
-    let t : Tables = k.tables in
-    let c : value_broken t v.scopes target ≡ [] = none_left (value_broken t v.scopes target) _ b in
-    let rest = none_right (value_broken t v.scopes target) _ b in
-    let d : value_broken t v.scopes value ≡ [] = none_left (value_broken t v.scopes value) _ rest in
-    let good : is_target target ≡ true =
-    holds (is_target target) place NotAssignable
-    (none_right (unless (assigns assign.Sub (type_of t v.scopes target)
-    (type_of t v.scopes value)) place Mismatch) _
-    (none_right (value_broken t v.scopes value) _ rest)) in
-    update_sound k ir r n v (variable_of target) target place op.Sub (Some value) p h a refl
-    good c d lt
+    update_sound k ir r n v (variable_of target) target place (update_operation o) (Some value) p
+    h a refl good c d lt
 simple_sound k ir r n v (stmt.Step target o place) p h a b lt =
     let t : Tables = k.tables in
     let c : value_broken t v.scopes target ≡ [] = none_left (value_broken t v.scopes target) _ b in
@@ -349,6 +337,7 @@ agree_after k ir r n gives s v (stmt.Block all) p h a b lt = a
 agree_after k ir r n gives s v (stmt.If c x) p h a b lt = a
 agree_after k ir r n gives s v (stmt.IfElse c x y) p h a b lt = a
 agree_after k ir r n gives s v (stmt.While place c x) p h a b lt = a
+agree_after k ir r n gives s v (stmt.Do place x c) p h a b lt = a
 agree_after k ir r n gives s v (stmt.For place first c third x) p h a b lt = a
 agree_after k ir r n gives s v stmt.Break p h a b lt = a
 agree_after k ir r n gives s v stmt.Continue p h a b lt = a
@@ -364,6 +353,7 @@ after_alike k (stmt.Block all) p s v h = h
 after_alike k (stmt.If c a) p s v h = h
 after_alike k (stmt.IfElse c a b) p s v h = h
 after_alike k (stmt.While place c a) p s v h = h
+after_alike k (stmt.Do place a c) p s v h = h
 after_alike k (stmt.For place first c third a) p s v h = h
 after_alike k stmt.Break p s v h = h
 after_alike k stmt.Continue p s v h = h
@@ -447,6 +437,26 @@ mutual
                   (suc p1) h (tt, a) same (none_right (value_broken t s c) _ b) lt start
                   (omega (arith, lt)))
                   (start, tt),
+            ),
+      )
+  stmt_sound k ir r n gives s v (stmt.Do place x c) out again p h a same b o g lt =
+      let t : Tables = k.tables in
+      let p1 : ℕ = stmt_end x p in
+      let p2 : ℕ = exp_end c (suc p1) in
+      let le1 : p ≤ p1 = stmt_end_le x p in
+      let le2 : suc p1 ≤ p2 = exp_end_le c (suc p1) in
+      let bx : statement_broken t gives (types.inner_scopes s) x ≡ [] =
+      none_left (statement_broken t gives (types.inner_scopes s) x) _ b in
+      let bc : value_broken t v.scopes c ≡ [] = sym (value_same t s v.scopes same c)
+      ∙ none_right (statement_broken t gives (types.inner_scopes s) x) _ b in
+      all_append (IsInstruction ir r n) (stmt_code k (inner_variables v) x (suc (suc p2)) p1 p) _
+      (stmt_sound k ir r n gives (types.inner_scopes s) (inner_variables v) x (suc (suc p2)) p1 p h
+      (tt, a) same bx lt (omega (arith, lt, le2)) (omega (arith, lt, le2))) (
+        tt,
+        all_append (IsInstruction ir r n) (exp_code k v c (suc p1)) _
+            (exp_sound k ir r n v c (suc p1) h a bc (omega (arith, lt))) (
+              (value_below k ir r n v c p2 h a bc (omega (arith, lt)), lt),
+              (omega (arith, lt, le1, le2), tt),
             ),
       )
   stmt_sound k ir r n gives s v (stmt.For place first c third x) out again p h a same b o g lt =

@@ -27,6 +27,7 @@ declares name (stmt.Block all) = false
 declares name (stmt.If c a) = false
 declares name (stmt.IfElse c a b) = false
 declares name (stmt.While place c a) = false
+declares name (stmt.Do place a c) = false
 declares name (stmt.For place first c third a) = false
 declares name stmt.Break = false
 declares name stmt.Continue = false
@@ -55,6 +56,7 @@ abbrev mutual
   assigns_name name (stmt.If c a) = assigns_name name a
   assigns_name name (stmt.IfElse c a b) = if assigns_name name a then true else assigns_name name b
   assigns_name name (stmt.While place c a) = assigns_name name a
+  assigns_name name (stmt.Do place a c) = assigns_name name a
   assigns_name name (stmt.For place first c third a) = if first_declares name first then false
       else (first_assigns name first || third_assigns name third || assigns_name name a)
   assigns_name name stmt.Break = false

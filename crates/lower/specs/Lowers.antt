@@ -6,6 +6,8 @@ use Rattle.nvm_base.specs.declared.op.BinOp.TheVariants as op
 use Rattle.pool_map.specs.declared.trap.TrapKind.TheVariants as trap
 use Rattle.c_tree.specs.declared.expr.UnaryOp.TheVariants as unary
 use Rattle.c_tree.specs.declared.stmt.AssignOp.TheVariants as assign
+use Rattle.c_tree.specs.declared.stmt.UpdateOp.{UpdateOp}
+use Rattle.c_tree.specs.declared.stmt.UpdateOp.TheVariants as update
 use Rattle.c_tree.specs.declared.stmt.StepOp.{StepOp}
 use Rattle.c_tree.specs.declared.stmt.StepOp.TheVariants as step
 use Rattle.c_tree.specs.ExprTree as expr
@@ -216,7 +218,8 @@ set_code s v None target place value p =
     target_code s v target p ++ (exp_code s v value p1 ++ Store (target_of s v target p)
     (reg_of s v value p2) (source_line s.tree place) ∷ [])
 
--- `+=`, `-=`, and `++` and `--`, which have no value and mean 1: base and index are evaluated once
+-- an assignment with an operator, and `++` and `--`, which have no value and mean 1: base and index
+-- are evaluated once
 abbrev pub update_end : Option Ident → ExprTree → Option ExprTree → ℕ → ℕ
 update_end (Some name) target value p = suc (suc (or_end value p))
 update_end None target value p = suc (suc (or_end value (suc (target_end target p))))
@@ -236,6 +239,19 @@ update_code s v None target place o value p =
     ++ Bin o (s.node (suc p2)) (s.node (suc p1)) (or_reg s v value p2) ∷ Store t (s.node (suc p2))
     (source_line s.tree place) ∷ []))
 
+-- the operation of an assignment with an operator, with the target on its left
+abbrev pub update_operation : UpdateOp → BinOp
+update_operation update.Mul = op.Mul
+update_operation update.Div = op.Div
+update_operation update.Rem = op.Rem
+update_operation update.Add = op.Add
+update_operation update.Sub = op.Sub
+update_operation update.ShiftLeft = op.Shl
+update_operation update.ShiftRight = op.Shr
+update_operation update.And = op.And
+update_operation update.Xor = op.Xor
+update_operation update.Or = op.Or
+
 abbrev pub step_operation : StepOp → BinOp
 step_operation step.Up = op.Add
 step_operation step.Down = op.Sub
@@ -243,9 +259,7 @@ step_operation step.Down = op.Sub
 abbrev pub simple_end : SimpleTree → ℕ → ℕ
 simple_end (stmt.Assign target assign.Set place value) p =
     set_end (variable_of target) target value p
-simple_end (stmt.Assign target assign.Add place value) p =
-    update_end (variable_of target) target (Some value) p
-simple_end (stmt.Assign target assign.Sub place value) p =
+simple_end (stmt.Assign target (assign.Update o) place value) p =
     update_end (variable_of target) target (Some value) p
 simple_end (stmt.Step target o place) p = update_end (variable_of target) target None p
 simple_end (stmt.Call name all) p = exp_end (expr.Call name all) p
@@ -255,10 +269,8 @@ simple_end (stmt.Abort place) p = suc p
 abbrev pub simple_code : Context → Variables → SimpleTree → ℕ → List Instruction
 simple_code s v (stmt.Assign target assign.Set place value) p =
     set_code s v (variable_of target) target place value p
-simple_code s v (stmt.Assign target assign.Add place value) p =
-    update_code s v (variable_of target) target place op.Add (Some value) p
-simple_code s v (stmt.Assign target assign.Sub place value) p =
-    update_code s v (variable_of target) target place op.Sub (Some value) p
+simple_code s v (stmt.Assign target (assign.Update o) place value) p =
+    update_code s v (variable_of target) target place (update_operation o) (Some value) p
 simple_code s v (stmt.Step target o place) p =
     update_code s v (variable_of target) target place (step_operation o) None p
 simple_code s v (stmt.Call name all) p = exp_code s v (expr.Call name all) p
@@ -317,6 +329,7 @@ variables_after s (stmt.Block all) p v = v
 variables_after s (stmt.If c a) p v = v
 variables_after s (stmt.IfElse c a b) p v = v
 variables_after s (stmt.While place c a) p v = v
+variables_after s (stmt.Do place a c) p v = v
 variables_after s (stmt.For place first c third a) p v = v
 variables_after s stmt.Break p v = v
 variables_after s stmt.Continue p v = v
@@ -331,6 +344,7 @@ abbrev mutual
   stmt_end (stmt.If c a) p = stmt_end a (suc (exp_end c p))
   stmt_end (stmt.IfElse c a b) p = stmt_end b (suc (stmt_end a (suc (exp_end c p))))
   stmt_end (stmt.While place c a) p = suc (stmt_end a (suc (exp_end c (suc p))))
+  stmt_end (stmt.Do place a c) p = suc (suc (exp_end c (suc (stmt_end a p))))
   stmt_end (stmt.For place first c third a) p =
       suc (third_end third (stmt_end a (suc (or_end c (suc (first_end first p))))))
   stmt_end stmt.Break p = suc p
@@ -365,6 +379,12 @@ abbrev mutual
       Tick ∷ (exp_code s v c (suc p)
       ++ (Branch (reg_of s v c p1) (suc p2)
       ∷ (stmt_code s (inner_variables v) a (suc p2) p (suc p1) ++ Jump p ∷ [])))
+  stmt_code s v (stmt.Do place a c) out again p =
+      let p1 : ℕ = stmt_end a p in
+      let p2 : ℕ = exp_end c (suc p1) in
+      stmt_code s (inner_variables v) a (suc (suc p2)) p1 p
+      ++ (Tick ∷ (exp_code s v c (suc p1)
+      ++ (Branch (reg_of s v c p2) (suc (suc p2)) ∷ Jump p ∷ [])))
   stmt_code s v (stmt.For place first c third a) out again p =
       let u : Variables = variables_after_first s first p (inner_variables v) in
       let p0 : ℕ = first_end first p in

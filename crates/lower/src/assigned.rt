@@ -37,6 +37,7 @@ fn declares(stmt: &Stmt, name: &str) -> bool
         Stmt::Block(_) => false,
         Stmt::If { .. } => false,
         Stmt::While { .. } => false,
+        Stmt::Do { .. } => false,
         Stmt::For { .. } => false,
         Stmt::Break => false,
         Stmt::Continue => false,
@@ -62,6 +63,7 @@ fn assigns(stmt: &Stmt, name: &str) -> bool
             }
         }
         Stmt::While { body, .. } => assigns(body, name),
+        Stmt::Do { body, .. } => assigns(body, name),
         Stmt::For {
             first,
             third,

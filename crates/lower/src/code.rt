@@ -13,7 +13,7 @@ use std::marker::Model;
 /// The hole for a jump out of the innermost loop.
 pub const LEAVE: u32 = NOWHERE;
 
-/// The hole for a jump to the third part of the innermost `for`.
+/// The hole for a `continue` in a `for`, to its third part, or in a `do`, to its tick.
 pub const NEXT: u32 = u32::MAX - 1;
 
 /// The greatest number of instructions of a function. No text of the language comes near it.

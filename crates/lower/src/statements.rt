@@ -19,7 +19,7 @@ use crate::names::{as_variable, kind_of_object};
 use crate::source::Source;
 use crate::variables::Variables;
 use c_tree::expr::Expr;
-use c_tree::stmt::{AssignOp, Declaration, First, Initial, Simple, StepOp, Stmt};
+use c_tree::stmt::{AssignOp, Declaration, First, Initial, Simple, StepOp, Stmt, UpdateOp};
 use ir::Instruction;
 use nvm_base::BinOp;
 use pool_map::TrapKind;
@@ -77,6 +77,11 @@ fn add_statement<'a>(
             body,
             ..
         } => add_while(source, variables, code, body, condition),
+        Stmt::Do {
+            body,
+            condition,
+            ..
+        } => add_do(source, variables, code, body, condition),
         Stmt::For {
             first,
             condition,
@@ -209,6 +214,33 @@ fn add_while<'a>(
     let place = last + 1;
     code.set(first, Instruction::Branch { on, place });
     code.fill(LEAVE, first + 1, place);
+    Ok(())
+}
+
+/// Appends the body, a tick, the condition, and the jump back to the body. `continue` leads to the
+/// tick.
+#[cycle(statements)]
+#[tactic(auto, using(crate::proofs::StmtAdds::statements))]
+fn add_do<'a>(
+    source: &Source<'_, 'a>,
+    variables: &mut Variables<'a>,
+    code: &mut Code,
+    body: &'a Stmt,
+    condition: &Expr,
+) -> Result<(), AllocError>
+    ensures { OnOk result (added.DoAdded (context_of source.now) variables.old
+        (tree.stmt_of body.now) (expr_of condition.now) code.old code.new variables.new) }
+{
+    let top = code.end();
+    add_body(source, variables, code, NEXT, body)?;
+    let again = code.end();
+    code.fill(NEXT, top, again);
+    code.push(Instruction::Tick)?;
+    let on = add_expression(source, variables, code, condition)?;
+    let place = code.end() + 2;
+    code.push(Instruction::Branch { on, place })?;
+    code.push(Instruction::Jump { place: top })?;
+    code.fill(LEAVE, top, place);
     Ok(())
 }
 
@@ -367,7 +399,7 @@ fn add_simple(
     }
 }
 
-/// Appends `=`, `+=` or `-=`.
+/// Appends `=` or an assignment with an operator.
 #[tactic(auto, using(crate::proofs::StmtAdds::statements))]
 fn add_assign(
     source: &Source<'_, '_>,
@@ -383,14 +415,27 @@ fn add_assign(
 {
     match op {
         AssignOp::Set => add_assignment(source, variables, code, target, place, value),
-        AssignOp::Add => {
-            let op = BinOp::Add;
+        AssignOp::Update(op) => {
+            let op = update_operation(op);
             add_update(source, variables, code, target, place, op, Some(value))
         }
-        AssignOp::Sub => {
-            let op = BinOp::Sub;
-            add_update(source, variables, code, target, place, op, Some(value))
-        }
+    }
+}
+
+fn update_operation(op: UpdateOp) -> BinOp
+    ensures { result ≡ lowers.update_operation op }
+{
+    match op {
+        UpdateOp::Mul => BinOp::Mul,
+        UpdateOp::Div => BinOp::Div,
+        UpdateOp::Rem => BinOp::Rem,
+        UpdateOp::Add => BinOp::Add,
+        UpdateOp::Sub => BinOp::Sub,
+        UpdateOp::ShiftLeft => BinOp::Shl,
+        UpdateOp::ShiftRight => BinOp::Shr,
+        UpdateOp::And => BinOp::And,
+        UpdateOp::Xor => BinOp::Xor,
+        UpdateOp::Or => BinOp::Or,
     }
 }
 
@@ -449,8 +494,8 @@ fn add_assignment(
     }
 }
 
-/// Appends `+=`, `-=`, `++` or `--`: for a variable an operation and a copy, for a field one load,
-/// an operation and one store.
+/// Appends an assignment with an operator, `++` or `--`: for a variable an operation and a copy,
+/// for a field one load, an operation and one store.
 #[tactic(auto, using(crate::proofs::StmtAdds::statements))]
 fn add_update(
     source: &Source<'_, '_>,

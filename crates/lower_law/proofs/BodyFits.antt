@@ -244,6 +244,7 @@ module _ (k : Context) (ir : Ir) (whole : IsSane k.tables) (shaped : ir.shapes â
     statement_within give s v es (stmt.If c a) p h b = h
     statement_within give s v es (stmt.IfElse c a d) p h b = h
     statement_within give s v es (stmt.While place c a) p h b = h
+    statement_within give s v es (stmt.Do place a c) p h b = h
     statement_within give s v es (stmt.For place first c third a) p h b = h
     statement_within give s v es stmt.Break p h b = h
     statement_within give s v es stmt.Continue p h b = h
@@ -292,6 +293,16 @@ module _ (k : Context) (ir : Ir) (whole : IsSane k.tables) (shaped : ir.shapes â
             (stands_within k.tables (types.inner_scopes s) (inner_variables v) es
             (within_inside k.tables s v es h)) (none_right (value_broken k.tables s c) _ b),
       )
+      stmt_fits give s v es (stmt.Do place a c) p h b =
+          let start : List Scope = types.inner_scopes s in (
+            stmt_fits give start (inner_variables v) es a p
+                (stands_within k.tables start (inner_variables v) es
+                (within_inside k.tables s v es h))
+                (none_left (statement_broken k.tables give start a) _ b),
+            value_fits k ir whole shaped v es h.sees c
+                (sym (value_same k.tables s v.scopes h.same c)
+                âˆ™ none_right (statement_broken k.tables give start a) _ b),
+          )
       stmt_fits give s v es (stmt.For place first c third a) p h b =
           let t : Tables = k.tables in
           let start : List Scope = types.inner_scopes s in

@@ -27,7 +27,8 @@ use Rattle.lower.specs.Names.{struct_kind_at, variable_of}
 use Rattle.lower.specs.Lowers.{Context, exp_end, exp_code, reg_of, target_end, target_code}
 use Rattle.lower.specs.Lowers.{target_of, arguments_end, arguments_code, registers_of, form_end}
 use Rattle.lower.specs.Lowers.{form_code, truth_code, or_end, or_code, or_reg, set_end, set_code}
-use Rattle.lower.specs.Lowers.{update_end, update_code, step_operation, simple_end, simple_code}
+use Rattle.lower.specs.Lowers.{update_end, update_code, update_operation, step_operation}
+use Rattle.lower.specs.Lowers.{simple_end, simple_code}
 use Rattle.lower.specs.Lowers.{initial_end, initial_code, first_end, first_code}
 use Rattle.lower.specs.Lowers.{variables_after_first, third_end, third_code, variables_after}
 use Rattle.lower.specs.Lowers.{stmt_end, stmt_code, statements_end, statements_code}
@@ -173,10 +174,8 @@ module _ (ir : Ir) (f : ℕ) where
         → HasAt p (simple_code k v x p ++ rest) → HasAt (simple_end x p) rest
     simple_has v (stmt.Assign target assign.Set place value) p rest h =
         set_has v (variable_of target) target place value p rest h
-    simple_has v (stmt.Assign target assign.Add place value) p rest h =
-        update_has v (variable_of target) target place op.Add (Some value) p rest h
-    simple_has v (stmt.Assign target assign.Sub place value) p rest h =
-        update_has v (variable_of target) target place op.Sub (Some value) p rest h
+    simple_has v (stmt.Assign target (assign.Update o) place value) p rest h =
+        update_has v (variable_of target) target place (update_operation o) (Some value) p rest h
     simple_has v (stmt.Step target o place) p rest h =
         update_has v (variable_of target) target place (step_operation o) None p rest h
     simple_has v (stmt.Call name all) p rest h = exp_has v (expr.Call name all) p rest h
@@ -240,6 +239,14 @@ module _ (ir : Ir) (f : ℕ) where
           ∷ (stmt_code k (inner_variables v) a (suc p2) p (suc p1) ++ j ∷ rest))
           (simp append_assoc at h.1) in
           (stmt_has (inner_variables v) a (suc p2) p (suc p1) (j ∷ rest) hc.1).1
+      stmt_has v (stmt.Do place a c) out again p rest h =
+          let p1 : ℕ = stmt_end a p in
+          let p2 : ℕ = exp_end c (suc p1) in
+          let i : Instruction = Branch (reg_of k v c p2) (suc (suc p2)) in
+          let j : Instruction = Jump p in
+          let hb = stmt_has (inner_variables v) a (suc (suc p2)) p1 p
+          (Tick ∷ (exp_code k v c (suc p1) ++ i ∷ j ∷ rest)) (simp append_assoc at h) in
+          (exp_has v c (suc p1) (i ∷ j ∷ rest) hb.1).1.1
       stmt_has v (stmt.For place first c third a) out again p rest h =
           let u : Variables = variables_after_first k first p (inner_variables v) in
           let p0 : ℕ = first_end first p in

@@ -9,7 +9,6 @@ use Rattle.std.proofs.lemmas.Slice.Eq.{bytes_eq-Decides}
 use Rattle.std.proofs.lemmas.Option.{slice_get-map, none-some, same_Some}
 use Rattle.std.proofs.lemmas.Bool.{false≢true}
 use Rattle.nvm_base.specs.declared.op.BinOp.{BinOp}
-use Rattle.nvm_base.specs.declared.op.BinOp.TheVariants as op
 use Rattle.c_tree.specs.declared.stmt.AssignOp.TheVariants as assign
 use Rattle.c_tree.specs.ExprTree as expr
 use Rattle.c_tree.specs.ExprTree.{ExprTree, Arguments, Ident}
@@ -28,7 +27,8 @@ use Rattle.lower.specs.Assigned.{third_assigns, assigns_name, is_assigned}
 use Rattle.lower.specs.Names.{Variables, inner_variables, variable_declared, register_of}
 use Rattle.lower.specs.Names.{variable_of}
 use Rattle.lower.specs.Lowers.{Context, exp_end, exp_code, target_end, target_code, or_end, or_code}
-use Rattle.lower.specs.Lowers.{set_code, update_code, step_operation, simple_code, initial_end}
+use Rattle.lower.specs.Lowers.{set_code, update_code, update_operation, step_operation}
+use Rattle.lower.specs.Lowers.{simple_code, initial_end}
 use Rattle.lower.specs.Lowers.{first_end, first_code, variables_after_first, third_end, third_code}
 use Rattle.lower.specs.Lowers.{variables_after, stmt_end, stmt_code, statements_end}
 use Rattle.lower.specs.Lowers.{statements_code}
@@ -93,12 +93,9 @@ module _ (n : ℕ) (k : Context) (from : (q : ℕ) → n ≤ k.node q) where
         → AllLeave n (simple_code k v x p)
     simple_leaves v es (stmt.Assign target assign.Set place value) p agrees fits h =
         set_leaves v es (variable_of target) target place value p agrees refl fits.0 h
-    simple_leaves v es (stmt.Assign target assign.Add place value) p agrees fits h =
-        update_leaves v es (variable_of target) target place op.Add (Some value) p agrees
-        refl fits.0 h
-    simple_leaves v es (stmt.Assign target assign.Sub place value) p agrees fits h =
-        update_leaves v es (variable_of target) target place op.Sub (Some value) p agrees
-        refl fits.0 h
+    simple_leaves v es (stmt.Assign target (assign.Update o) place value) p agrees fits h =
+        update_leaves v es (variable_of target) target place (update_operation o) (Some value) p
+        agrees refl fits.0 h
     simple_leaves v es (stmt.Step target o place) p agrees fits h =
         update_leaves v es (variable_of target) target place (step_operation o) None p agrees
         refl fits h
@@ -152,6 +149,7 @@ module _ (n : ℕ) (k : Context) (from : (q : ℕ) → n ≤ k.node q) where
     statement_agrees v es (stmt.If c a) p agrees fits = agrees
     statement_agrees v es (stmt.IfElse c a b) p agrees fits = agrees
     statement_agrees v es (stmt.While place c a) p agrees fits = agrees
+    statement_agrees v es (stmt.Do place a c) p agrees fits = agrees
     statement_agrees v es (stmt.For place first c third a) p agrees fits = agrees
     statement_agrees v es stmt.Break p agrees fits = agrees
     statement_agrees v es stmt.Continue p agrees fits = agrees
@@ -175,6 +173,8 @@ module _ (n : ℕ) (k : Context) (from : (q : ℕ) → n ≤ k.node q) where
     after_spares es (stmt.IfElse c a b) p f g part h =
         spares_part n es f g (λ name e. part name refl e) h
     after_spares es (stmt.While place c a) p f g part h =
+        spares_part n es f g (λ name e. part name refl e) h
+    after_spares es (stmt.Do place a c) p f g part h =
         spares_part n es f g (λ name e. part name refl e) h
     after_spares es (stmt.For place first c third a) p f g part h =
         spares_part n es f g (λ name e. part name refl e) h
@@ -233,6 +233,15 @@ module _ (n : ℕ) (k : Context) (from : (q : ℕ) → n ≤ k.node q) where
                   (stmt_leaves (inner_variables v) es a (suc p2) p (suc p1) agrees fits.1 h)
                   (tt, tt),
             ),
+          )
+      stmt_leaves v es (stmt.Do place a c) out again p agrees fits h =
+          let p1 : ℕ = stmt_end a p in
+          let p2 : ℕ = exp_end c (suc p1) in
+          both_leave n (stmt_code k (inner_variables v) a (suc (suc p2)) p1 p) _
+          (stmt_leaves (inner_variables v) es a (suc (suc p2)) p1 p agrees fits.0 h) (
+            tt,
+            both_leave n (exp_code k v c (suc p1)) _ (exp_leaves n k from v c (suc p1))
+                (tt, (tt, tt)),
           )
       stmt_leaves v es (stmt.For place first c third a) out again p agrees fits h =
           let u : Variables = variables_after_first k first p (inner_variables v) in
@@ -320,6 +329,7 @@ module _ (n : ℕ) (k : Context) (from : (q : ℕ) → n ≤ k.node q) where
           own y (stmt.If c d) a b e = ap (λ (c : Bool). if c then true else b) e
           own y (stmt.IfElse c d f) a b e = ap (λ (c : Bool). if c then true else b) e
           own y (stmt.While place c d) a b e = ap (λ (c : Bool). if c then true else b) e
+          own y (stmt.Do place d c) a b e = ap (λ (c : Bool). if c then true else b) e
           own y (stmt.For place first c third d) a b e = ap (λ (c : Bool). if c then true else b) e
           own y stmt.Break a b e = absurd (false≢true e)
           own y stmt.Continue a b e = absurd (false≢true e)

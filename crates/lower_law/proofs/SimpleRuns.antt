@@ -8,7 +8,10 @@ use Rattle.nvm_base.specs.declared.op.BinOp.TheVariants as op
 use Rattle.c_tree.specs.declared.expr.BinaryOp.{BinaryOp}
 use Rattle.c_tree.specs.declared.expr.BinaryOp.TheVariants as binary
 use Rattle.c_tree.specs.declared.stmt.AssignOp.TheVariants as assign
+use Rattle.c_tree.specs.declared.stmt.UpdateOp.{UpdateOp}
+use Rattle.c_tree.specs.declared.stmt.UpdateOp.TheVariants as updating
 use Rattle.c_tree.specs.declared.stmt.StepOp.TheVariants as stepping
+use Rattle.c_tree.specs.Operators.{update_binary}
 use Rattle.c_tree.specs.ExprTree as expr
 use Rattle.c_tree.specs.ExprTree.{ExprTree, Arguments, Ident}
 use Rattle.c_tree.specs.StmtTree as stmt
@@ -37,8 +40,8 @@ use Rattle.lower.specs.Names.{Variables, register_of, variable_of, struct_kind_a
 use Rattle.lower.specs.Names.{element_target}
 use Rattle.lower.specs.Lowers.{Context, exp_end, exp_code, reg_of, target_end, target_code}
 use Rattle.lower.specs.Lowers.{target_of, or_end, or_code, or_reg, set_end, set_code, update_end}
-use Rattle.lower.specs.Lowers.{update_code, simple_end, simple_code, initial_end, initial_code}
-use Rattle.lower.specs.Lowers.{third_end, third_code}
+use Rattle.lower.specs.Lowers.{update_code, update_operation, simple_end, simple_code}
+use Rattle.lower.specs.Lowers.{initial_end, initial_code, third_end, third_code}
 use Rattle.lower.proofs.Ends.{exp_end_le, target_end_le, or_end_le}
 use Rattle.code_meaning.specs.Code.{Frame, Here, Goes, Move, Spot, register_at, put_register, act}
 use Rattle.code_meaning.specs.Code.{instruction_step, word_of, with_word, with_ok, spot_of, base_in}
@@ -56,6 +59,20 @@ use Rattle.lower_law.proofs.ExprSteps.{field_gives, element_fits, element_base, 
 use Rattle.lower_law.proofs.ExprRuns.{reg_le, pointer_kept, pointer_word, exp_runs, pointer_runs}
 use Rattle.lower_law.proofs.StmtSteps.{local_is, or_value, Runs, value_then, stands_still}
 use Rattle.lower_law.proofs.StmtSteps.{store_runs, free_runs, operands_at}
+
+-- the operation of an update is its operator
+update_same : (o : UpdateOp) (x y : ℤ) → binary_of (update_binary o) x y
+    ≡ word_of (update_operation o) x y
+update_same updating.Mul x y = refl
+update_same updating.Div x y = refl
+update_same updating.Rem x y = refl
+update_same updating.Add x y = refl
+update_same updating.Sub x y = refl
+update_same updating.ShiftLeft x y = refl
+update_same updating.ShiftRight x y = refl
+update_same updating.And x y = refl
+update_same updating.Xor x y = refl
+update_same updating.Or x y = refl
 
 module _ (ir : Ir) (m f : ℕ) (k : Context) (rises : (p q : ℕ) → p < q → k.node p < k.node q)
     (below : List Frame) (calls : Calls) (run : CallsRun k.tables ir m f below calls) where
@@ -433,28 +450,17 @@ module _ (ir : Ir) (m f : ℕ) (k : Context) (rises : (p q : ℕ) → p < q → 
         (sym (local_is target))
         (set_runs (variable_of target) target place value out again p rest ls L regs w t s fits.0
         fits.1 h held)
-    simple_runs (stmt.Assign target assign.Add place value) out again p rest ls L regs w t s
+    simple_runs (stmt.Assign target (assign.Update o) place value) out again p rest ls L regs w t s
         fits h held =
-        subst (λ (o : Option (List ℕ)).
+        subst (λ (name : Option (List ℕ)).
         Runs ir m f k rises below calls run out again
         (update_end (variable_of target) target (Some value) p) p p
         (update_end (variable_of target) target (Some value) p) (Holds es) L regs w t
-        (update k.tables calls o target binary.Add place
+        (update k.tables calls name target (update_binary o) place
         (λ w t. value_of k.tables calls value ls w t)
         ls w t)) (sym (local_is target))
-        (update_runs (variable_of target) target place binary.Add op.Add (Some value) out again p
-        rest ls L regs w t (λ x y. refl) s fits.0 fits.1 h held)
-    simple_runs (stmt.Assign target assign.Sub place value) out again p rest ls L regs w t s
-        fits h held =
-        subst (λ (o : Option (List ℕ)).
-        Runs ir m f k rises below calls run out again
-        (update_end (variable_of target) target (Some value) p) p p
-        (update_end (variable_of target) target (Some value) p) (Holds es) L regs w t
-        (update k.tables calls o target binary.Sub place
-        (λ w t. value_of k.tables calls value ls w t)
-        ls w t)) (sym (local_is target))
-        (update_runs (variable_of target) target place binary.Sub op.Sub (Some value) out again p
-        rest ls L regs w t (λ x y. refl) s fits.0 fits.1 h held)
+        (update_runs (variable_of target) target place (update_binary o) (update_operation o)
+        (Some value) out again p rest ls L regs w t (update_same o) s fits.0 fits.1 h held)
     simple_runs (stmt.Step target stepping.Up place) out again p rest ls L regs w t s fits h held =
         subst (λ (o : Option (List ℕ)).
         Runs ir m f k rises below calls run out again

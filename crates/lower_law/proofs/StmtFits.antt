@@ -92,6 +92,7 @@ module _ (k : Context) (ir : Ir) where
   entries_after (stmt.If c a) p es = es
   entries_after (stmt.IfElse c a b) p es = es
   entries_after (stmt.While place c a) p es = es
+  entries_after (stmt.Do place a c) p es = es
   entries_after (stmt.For place first c third a) p es = es
   entries_after stmt.Break p es = es
   entries_after stmt.Continue p es = es
@@ -110,6 +111,8 @@ module _ (k : Context) (ir : Ir) where
         × StmtFits (inner_variables v) es b (suc (stmt_end a (suc (exp_end c p))))
     StmtFits v es (stmt.While place c a) p =
         ExpFits k ir v es c × StmtFits (inner_variables v) es a (suc (exp_end c (suc p)))
+    StmtFits v es (stmt.Do place a c) p =
+        StmtFits (inner_variables v) es a p × ExpFits k ir v es c
     StmtFits v es (stmt.For place first c third a) p =
         let u : Variables = variables_after_first k first p (inner_variables v) in
         let us : List Entry = first_entries first p es in

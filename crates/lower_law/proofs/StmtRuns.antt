@@ -34,8 +34,8 @@ use Rattle.lower_law.proofs.StmtFits.{DeclarationFits, FirstFits, StmtFits, Stat
 use Rattle.lower_law.proofs.StmtFits.{first_entries, entries_after}
 use Rattle.lower_law.proofs.ExprSteps.{CallsRun, Gives, puts, at_branch}
 use Rattle.lower_law.proofs.StmtSteps.{or_value, Runs, runs_map, runs_scope, value_then, next_then}
-use Rattle.lower_law.proofs.StmtSteps.{branch_runs, then_jump, stands_still, still_at, back_jump}
-use Rattle.lower_law.proofs.StmtSteps.{loop_runs}
+use Rattle.lower_law.proofs.StmtSteps.{turn_then, branch_runs, then_jump, stands_still, still_at}
+use Rattle.lower_law.proofs.StmtSteps.{back_jump, jump_runs, loop_runs}
 use Rattle.lower_law.proofs.SimpleRuns.{Scoped, scoped_after, held_at, exp_gives, or_gives}
 use Rattle.lower_law.proofs.SimpleRuns.{simple_runs, third_runs, declaration_runs}
 
@@ -102,6 +102,9 @@ module _ (ir : Ir) (m f : ℕ) (k : Context) (rises : (p q : ℕ) → p < q → 
   scoped_from_after v es (stmt.While place c a) p s fits =
       scoped_after ir m f k rises below calls run v es p (stmt_end (stmt.While place c a) p)
       (stmt_end_le (stmt.While place c a) p) s
+  scoped_from_after v es (stmt.Do place a c) p s fits =
+      scoped_after ir m f k rises below calls run v es p (stmt_end (stmt.Do place a c) p)
+      (stmt_end_le (stmt.Do place a c) p) s
   scoped_from_after v es (stmt.For place first c third a) p s fits =
       scoped_after ir m f k rises below calls run v es p
       (stmt_end (stmt.For place first c third a) p)
@@ -124,6 +127,7 @@ module _ (ir : Ir) (m f : ℕ) (k : Context) (rises : (p q : ℕ) → p < q → 
   over_after (stmt.If c a) p es ls regs h = h
   over_after (stmt.IfElse c a b) p es ls regs h = h
   over_after (stmt.While place c a) p es ls regs h = h
+  over_after (stmt.Do place a c) p es ls regs h = h
   over_after (stmt.For place first c third a) p es ls regs h = h
   over_after stmt.Break p es ls regs h = h
   over_after stmt.Continue p es ls regs h = h
@@ -314,11 +318,11 @@ module _ (ir : Ir) (m f : ℕ) (k : Context) (rises : (p q : ℕ) → p < q → 
           let s1 : Scoped ir m f k rises below calls run (inner_variables v) es (suc p1) =
           scoped_inside v es (suc p1) (scoped_after ir m f k rises below calls run v es p (suc p1)
           (omega (arith, le)) s) in
-          loop_runs ir m f k rises below calls run place out again p p1 p q q rc (Holds es)
+          loop_runs ir m f k rises below calls run place out again p p1 p q q q rc (Holds es)
           (Over es)
           (λ ls w t. value_of k.tables calls c ls w t) (λ ls w t.
           in_scope (length ls) (end_of_stmt k.tables calls a ls w t)) (λ ls w t. Next ls w t) le
-          (omega (arith, le1)) (omega arith) (small p2 (Jump p) hj.0) h.0 hc.0
+          (omega (arith, le1)) (omega arith) (omega (arith, small p2 (Jump p) hj.0)) h.0 hc.0
           (λ ls regs w t held. exp_gives ir m f k rises below calls run v es c (suc p) turn ls regs
           w t s0 fits.0 ha held)
           (λ ls regs regs1 same held. held_at ir m f k rises below calls run v es (suc p) ls regs
@@ -332,6 +336,48 @@ module _ (ir : Ir) (m f : ℕ) (k : Context) (rises : (p q : ℕ) → p < q → 
           (λ ls regs w t held. still_at ir m f k rises below calls run out again p q (Holds es)
           (Over es) ls regs w t held)
           t ls regs w t (omega arith) held
+      stmt_runs v es (stmt.Do place a c) out again p rest ls regs w t s fits h held =
+          let p1 : ℕ = stmt_end a p in
+          let p2 : ℕ = exp_end c (suc p1) in
+          let q : ℕ = suc (suc p2) in
+          let rc : ℕ = reg_of k v c p2 in
+          let turn : List Instruction = Branch rc q ∷ Jump p ∷ rest in
+          let later : List Instruction = Tick ∷ (exp_code k v c (suc p1) ++ turn) in
+          let ha : HasAt ir f p (stmt_code k (inner_variables v) a q p1 p ++ later) =
+          simp append_assoc at h in
+          let hb : HasAt ir f p1 later =
+          stmt_has ir f k (inner_variables v) a q p1 p later ha in
+          let hc : HasAt ir f p2 turn = exp_has ir f k v c (suc p1) turn hb.1 in
+          let le : p ≤ p1 = stmt_end_le a p in
+          let le1 : suc p1 ≤ p2 = exp_end_le c (suc p1) in
+          let room : suc p2 < m = small (suc p2) (Jump p) hc.1.0 in
+          let s0 : Scoped ir m f k rises below calls run v es (suc p1) =
+          scoped_after ir m f k rises below calls run v es p (suc p1) (omega (arith, le)) s in
+          let test : List Local → PoolMap → ℕ → Out ℤ =
+          λ ls w t. value_of k.tables calls c ls w t in
+          let body : List Local → PoolMap → ℕ → StmtEnd =
+          λ ls w t. in_scope (length ls) (end_of_stmt k.tables calls a ls w t) in
+          let round : (ls : List Local) (regs : List ℤ) (w : PoolMap) (t : ℕ) → Holds es ls regs
+          → Runs ir m f k rises below calls run q p1 p1 p p p1 (Holds es) (Holds es) regs w t
+          (body ls w t) = λ ls regs w t held. inner_of es a q p1 p ls regs w t held
+          (stmt_runs (inner_variables v) es a q p1 p later ls regs w t (scoped_inside v es p s)
+          fits.0 ha held) in
+          turn_then ir m f k rises below calls run out again q p1 p1 p p q (Holds es) (Holds es)
+          (Over es) regs w t (body ls w t) (λ ls w t. turns t place test body
+          (λ ls w t. Next ls w t) ls w t) (omega (arith, le1)) (round ls regs w t held)
+          (λ ls r h. h)
+          (λ ls1 w1 t1 regs1 f1 held1. loop_runs ir m f k rises below calls run place out again p1
+          p2 p1 (q + p1) (q + p1) q rc (Holds es) (Over es) test body (λ ls w t. Next ls w t) le1
+          (omega arith) (omega (arith, room, le1)) (omega (arith, room)) hb.0 hc.0
+          (λ ls regs w t held. exp_gives ir m f k rises below calls run v es c (suc p1) turn ls regs
+          w t s0 fits.1 hb.1 held)
+          (λ ls regs regs1 same held. held_at ir m f k rises below calls run v es (suc p1) ls regs
+          regs1 s0 same held)
+          (λ ls regs w t held. jump_runs ir m f k rises below calls run q p1 p1 (suc p2) p p p1
+          (Holds es) (Holds es) regs w t (body ls w t) hc.1.0 (round ls regs w t held))
+          (λ ls regs w t held. still_at ir m f k rises below calls run out again p1 (q + p1)
+          (Holds es) (Over es) ls regs w t held)
+          t1 ls1 regs1 w1 t1 (omega arith) held1)
       stmt_runs v es (stmt.For place first c third a) out again p rest ls regs w t s fits h held =
           let u : Variables = variables_after_first k first p (inner_variables v) in
           let us : List Entry = first_entries k ir first p es in
@@ -385,8 +431,8 @@ module _ (ir : Ir) (m f : ℕ) (k : Context) (rises : (p q : ℕ) → p < q → 
           ls regs w t (scoped_inside v es p s) fits.0 ha held)
           (λ ls1 w1 t1 regs1 f1 held1. loop_runs ir m f k rises below calls run place out again p0
           p1 p2
-          p2 q rc (Holds us) (Over es) test body then_third le (omega (arith, le1, le2))
-          (omega (arith, le2)) (small p3 (Jump p0) hj.0) hf.0 hc.0
+          p2 q q rc (Holds us) (Over es) test body then_third le (omega (arith, le1, le2))
+          (omega (arith, le2)) (omega (arith, small p3 (Jump p0) hj.0)) hf.0 hc.0
           (λ ls regs w t held. subst (λ (o : Out ℤ).
           Gives ir m f k rises below (λ regs x. register_at regs rc ≡ x) (suc p0) p1 regs w t o)
           (condition_is c ls w t) (or_gives ir m f k rises below calls run u us (pos 1) c (suc p0)

@@ -27,10 +27,10 @@ use Rattle.lower_law.proofs.Has.{At}
 use Rattle.lower_law.proofs.Locals.{Same}
 use Rattle.lower_law.proofs.ExprSteps.{CallsRun, Gives, at_branch}
 
--- the same path with other marks: a tick pays for the way from p' back to p
-pub path_shift : {ir : Ir} {m : ℕ} {c : _} {e : Move} {p t q t' : ℕ} (p' : ℕ) → p' ≤ m + p
-    → Path ir m c e p t q t' → Path ir m c e p' t (m + q) t'
-path_shift p' le a = record {
+-- the same path with other marks, n places on
+pub path_shift : {ir : Ir} {m : ℕ} {c : _} {e : Move} {p t q t' : ℕ} (n p' : ℕ) → p' ≤ n + p
+    → Path ir m c e p t q t' → Path ir m c e p' t (n + q) t'
+path_shift n p' le a = record {
   n = a.n;
   comes = a.comes;
   falls = a.falls;
@@ -103,17 +103,17 @@ module _ (ir : Ir) (m f : ℕ) (k : Context) (rises : (p q : ℕ) → p < q → 
   runs_more out again next s p q q' N L regs w t (Gave v w' t') le r = path_more le r
   runs_more out again next s p q q' N L regs w t (Traps trap) le r = path_more le r
 
-  pub runs_shift : (out again next s p p' q : ℕ) (N L : List Local → List ℤ → Type 0)
-      (regs : List ℤ) (w : PoolMap) (t : ℕ) (o : StmtEnd) → p' ≤ m + p
-      → Runs out again next s p q N L regs w t o → Runs out again next s p' (m + q) N L regs w t o
-  runs_shift out again next s p p' q N L regs w t (Next ls w' t') le r =
-      record { regs' = r.regs'; path = path_shift p' le r.path; holds = r.holds }
-  runs_shift out again next s p p' q N L regs w t (Broke ls w' t') le r =
-      record { regs' = r.regs'; path = path_shift p' le r.path; holds = r.holds }
-  runs_shift out again next s p p' q N L regs w t (Again ls w' t') le r =
-      record { regs' = r.regs'; path = path_shift p' le r.path; holds = r.holds }
-  runs_shift out again next s p p' q N L regs w t (Gave v w' t') le r = path_shift p' le r
-  runs_shift out again next s p p' q N L regs w t (Traps trap) le r = path_shift p' le r
+  pub runs_shift : (n out again next s p p' q : ℕ) (N L : List Local → List ℤ → Type 0)
+      (regs : List ℤ) (w : PoolMap) (t : ℕ) (o : StmtEnd) → p' ≤ n + p
+      → Runs out again next s p q N L regs w t o → Runs out again next s p' (n + q) N L regs w t o
+  runs_shift n out again next s p p' q N L regs w t (Next ls w' t') le r =
+      record { regs' = r.regs'; path = path_shift n p' le r.path; holds = r.holds }
+  runs_shift n out again next s p p' q N L regs w t (Broke ls w' t') le r =
+      record { regs' = r.regs'; path = path_shift n p' le r.path; holds = r.holds }
+  runs_shift n out again next s p p' q N L regs w t (Again ls w' t') le r =
+      record { regs' = r.regs'; path = path_shift n p' le r.path; holds = r.holds }
+  runs_shift n out again next s p p' q N L regs w t (Gave v w' t') le r = path_shift n p' le r
+  runs_shift n out again next s p p' q N L regs w t (Traps trap) le r = path_shift n p' le r
 
   -- a tick pays for a turn
   pub runs_tick : (out again next p q : ℕ) (N L : List Local → List ℤ → Type 0) (regs : List ℤ)
@@ -290,11 +290,22 @@ module _ (ir : Ir) (m f : ℕ) (k : Context) (rises : (p q : ℕ) → p < q → 
   back_jump out again p0 s p p1 N L regs w t (Gave v w' t') st r = path_more (omega arith) r
   back_jump out again p0 s p p1 N L regs w t (Traps trap) st r = path_more (omega arith) r
 
-  -- a loop: its tick at p, its condition up to p1, then its body, after which the run reaches c,
-  -- and its third part, which leads back to p; q is the loop's end
-  pub loop_runs : (place out again p p1 c c1 q r : ℕ) (N L : List Local → List ℤ → Type 0)
+  -- a jump, and code from its target on, with marks that go on from that of the jump
+  pub jump_runs : (out again next s p0 p q : ℕ) (N L : List Local → List ℤ → Type 0)
+      (regs : List ℤ) (w : PoolMap) (t : ℕ) (o : StmtEnd) → At ir f s (Jump p0)
+      → Runs out again next p0 p q N L regs w t o
+      → Runs out again next s s (suc s + q) N L regs w t o
+  jump_runs out again next s p0 p q N L regs w t o st r =
+      runs_then out again next s p0 s (suc s) (suc s + q) N L regs regs w w t t
+      (path_step s t (ap (λ i. act ir i f s regs below w t) st)) o
+      (runs_shift (suc s) out again next p0 p (suc s) q N L regs w t o (omega arith) r)
+
+  -- a loop: its tick at p, its condition up to p1, then its body, after which the run reaches c
+  -- with the mark c1, and its third part, which leads back to p with the mark e; q is the loop's
+  -- end
+  pub loop_runs : (place out again p p1 c c1 e q r : ℕ) (N L : List Local → List ℤ → Type 0)
       (test : List Local → PoolMap → ℕ → Out ℤ) (body third : List Local → PoolMap → ℕ → StmtEnd)
-      → suc p ≤ p1 → suc p1 ≤ q → c1 ≤ q → q ≤ m → At ir f p Tick → At ir f p1 (Branch r q)
+      → suc p ≤ p1 → suc p1 ≤ q → c1 ≤ m + q → e ≤ m + p → At ir f p Tick → At ir f p1 (Branch r q)
       → ((ls : List Local) (regs : List ℤ) (w : PoolMap) (t : ℕ) → N ls regs
       → Gives ir m f k rises below (λ regs v. register_at regs r ≡ v) (suc p) p1 regs w t
       (test ls w t))
@@ -303,20 +314,20 @@ module _ (ir : Ir) (m f : ℕ) (k : Context) (rises : (p q : ℕ) → p < q → 
       → ((ls : List Local) (regs : List ℤ) (w : PoolMap) (t : ℕ) → N ls regs
       → Runs q c c (suc p1) (suc p1) c1 N N regs w t (body ls w t))
       → ((ls : List Local) (regs : List ℤ) (w : PoolMap) (t : ℕ) → N ls regs
-      → Runs out again p c c1 q N L regs w t (third ls w t))
+      → Runs out again p c c1 e N L regs w t (third ls w t))
       → (n : ℕ) (ls : List Local) (regs : List ℤ) (w : PoolMap) (t : ℕ) → t ≤ n → N ls regs
       → Runs out again q p p q N L regs w t (turns n place test body third ls w t)
-  loop_runs place out again p p1 c c1 q r N L test body third le le1 le2 small st st1 tests kept
+  loop_runs place out again p p1 c c1 e q r N L test body third le le1 le2 small st st1 tests kept
       bodies thirds zero ls regs w zero tn holds =
       path_more (omega (arith, le, le1))
       (path_ends p zero (ap (λ i. act ir i f p regs below w zero) st))
-  loop_runs place out again p p1 c c1 q r N L test body third le le1 le2 small st st1 tests kept
+  loop_runs place out again p p1 c c1 e q r N L test body third le le1 le2 small st st1 tests kept
       bodies thirds zero ls regs w (suc t) tn holds = absurd (omega (arith, tn))
-  loop_runs place out again p p1 c c1 q r N L test body third le le1 le2 small st st1 tests kept
+  loop_runs place out again p p1 c c1 e q r N L test body third le le1 le2 small st st1 tests kept
       bodies thirds (suc n) ls regs w zero tn holds =
       path_more (omega (arith, le, le1))
       (path_ends p zero (ap (λ i. act ir i f p regs below w zero) st))
-  loop_runs place out again p p1 c c1 q r N L test body third le le1 le2 small st st1 tests kept
+  loop_runs place out again p p1 c c1 e q r N L test body third le le1 le2 small st st1 tests kept
       bodies thirds (suc n) ls regs w (suc t) tn holds =
       let go : List Local → PoolMap → ℕ → StmtEnd =
       λ ls w t. turns n place test body third ls w t in
@@ -335,13 +346,13 @@ module _ (ir : Ir) (m f : ℕ) (k : Context) (rises : (p q : ℕ) → p < q → 
       (runs_more out again q q q q (m + q) N L regs1 w1 t1 (Next ls w1 t1) (omega arith)
       (stands_still out again q N L ls regs1 w1 t1 held1))
       (turn_then out again q c c1 (suc p1) (suc p1) (m + q) N N L regs1 w1 t1 (body ls w1 t1)
-      (λ ls w t. then_next (third ls w t) go) (omega (arith, le2)) (bodies ls regs1 w1 t1 held1)
+      (λ ls w t. then_next (third ls w t) go) le2 (bodies ls regs1 w1 t1 held1)
       (λ ls r h. h)
-      (λ ls2 w2 t2 regs2 f2 held2. next_then out again p q c c1 q (m + q) N N L regs2 w2 t2
-      (third ls2 w2 t2) go (omega arith) (thirds ls2 regs2 w2 t2 held2)
-      (λ ls3 w3 t3 regs3 f3 held3. runs_shift out again q p p q q N L regs3 w3 t3 (go ls3 w3 t3)
-      (omega (arith, small))
-      (loop_runs place out again p p1 c c1 q r N L test body third le le1 le2 small st st1 tests
+      (λ ls2 w2 t2 regs2 f2 held2. next_then out again p q c c1 e (m + q) N N L regs2 w2 t2
+      (third ls2 w2 t2) go (omega (arith, le, le1, small)) (thirds ls2 regs2 w2 t2 held2)
+      (λ ls3 w3 t3 regs3 f3 held3. runs_shift m out again q p p e q N L regs3 w3 t3 (go ls3 w3 t3)
+      small
+      (loop_runs place out again p p1 c c1 e q r N L test body third le le1 le2 small st st1 tests
       kept bodies thirds n ls3 regs3 w3 t3 (omega (arith, tn, f1, f2, f3)) held3))))))
 
   pub store_runs : (out again p : ℕ) (N L : List Local → List ℤ → Type 0) (target : ExprTree)

@@ -128,7 +128,7 @@ module _ (t : Tables) where
   given_leaves c (Gave v p k) h = h
   given_leaves c (Traps trap) h = tt
 
-  turn_ends : (c : List Scope) (e : StmtEnd) (go : List Local → PoolMap → ℕ → StmtEnd)
+  pub turn_ends : (c : List Scope) (e : StmtEnd) (go : List Local → PoolMap → ℕ → StmtEnd)
       → EndsWith c e → ((ls : List Local) (p : PoolMap) (k : ℕ) → scopes_of ls ≡ c → Fits t p
       → EndsWith c (go ls p k)) → EndsWith c (after_turn e go)
   turn_ends c (Next ls p k) go h next = next ls p k h.0 h.1
@@ -137,7 +137,7 @@ module _ (t : Tables) where
   turn_ends c (Gave v p k) go h next = h
   turn_ends c (Traps trap) go h next = tt
 
-  turn_next : (c : List Scope) (k : ℕ) (e : StmtEnd) (Q : List Local → PoolMap → ℕ → Type 0)
+  pub turn_next : (c : List Scope) (k : ℕ) (e : StmtEnd) (Q : List Local → PoolMap → ℕ → Type 0)
       → EndsWith c e → EndsBelow k e → ((ls : List Local) (p : PoolMap) (j : ℕ)
       → scopes_of ls ≡ c → Fits t p → j ≤ k → Q ls p j) → AfterTurn e Q
   turn_next c k (Next ls p j) Q h le next = next ls p j h.0 h.1 le

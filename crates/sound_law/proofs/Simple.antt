@@ -13,6 +13,7 @@ use Rattle.c_tree.specs.declared.expr.BinaryOp.{BinaryOp}
 use Rattle.c_tree.specs.declared.expr.BinaryOp.TheVariants as binary
 use Rattle.c_tree.specs.declared.stmt.AssignOp.TheVariants as assign
 use Rattle.c_tree.specs.declared.stmt.StepOp.TheVariants as step
+use Rattle.c_tree.specs.Operators.{update_binary}
 use Rattle.c_types.specs.Tables.{Tables}
 use Rattle.c_types.specs.Expressions.{Scope}
 use Rattle.c_types.specs.Shapes.{shapes_in}
@@ -234,15 +235,9 @@ module _ (t : Tables) (sane : IsSane t) (typed : IsWellTyped t) (calls : Calls)
       set_sound (target_local target) target e h.1 h.2 p k refl h.0
       (type_moved t s (scopes_of ls) target h.1 same h.3)
       (type_moved t s (scopes_of ls) e h.2 same h.4) fits
-  simple_sound (stmt.Assign target assign.Add place e) s p k h same fits =
-      update_sound (target_local target) target binary.Add place (λ p k. value_of t calls e ls p k)
-      (λ p k. Finds t calls found e ls p k) h.1 p k refl h.0
-      (type_moved t s (scopes_of ls) target h.1 same h.3)
-      (λ p k fits. exp_sound t sane typed calls found sound ls small e h.2 p k
-      (type_moved t s (scopes_of ls) e h.2 same h.4) fits) fits
-  simple_sound (stmt.Assign target assign.Sub place e) s p k h same fits =
-      update_sound (target_local target) target binary.Sub place (λ p k. value_of t calls e ls p k)
-      (λ p k. Finds t calls found e ls p k) h.1 p k refl h.0
+  simple_sound (stmt.Assign target (assign.Update op) place e) s p k h same fits =
+      update_sound (target_local target) target (update_binary op) place
+      (λ p k. value_of t calls e ls p k) (λ p k. Finds t calls found e ls p k) h.1 p k refl h.0
       (type_moved t s (scopes_of ls) target h.1 same h.3)
       (λ p k fits. exp_sound t sane typed calls found sound ls small e h.2 p k
       (type_moved t s (scopes_of ls) e h.2 same h.4) fits) fits

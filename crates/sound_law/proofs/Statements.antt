@@ -36,8 +36,8 @@ use Rattle.sound_law.proofs.Ticks.{CallsFall, same, value_falls, condition_falls
 use Rattle.sound_law.proofs.Ticks.{scoped_below}
 use Rattle.sound_law.proofs.Declared.{Over, over_same, one, Sees, sees_declared}
 use Rattle.sound_law.proofs.Ends.{EndsAs, EndsOver, EndsWith, with_as, with_over, value_ends}
-use Rattle.sound_law.proofs.Ends.{zero_ends, declared_ends, declared_next, scope_ends, turns_find}
-use Rattle.sound_law.proofs.Ends.{turns_end}
+use Rattle.sound_law.proofs.Ends.{zero_ends, declared_ends, declared_next, scope_ends, turn_ends}
+use Rattle.sound_law.proofs.Ends.{turn_next, turns_find, turns_end}
 use Rattle.sound_law.proofs.Simple.{simple_sound, initial_sound}
 
 -- the scopes of the locals after a statement that ends normally
@@ -52,6 +52,7 @@ scopes_then t (stmt.Block all) c = c
 scopes_then t (stmt.If e a) c = c
 scopes_then t (stmt.IfElse e a b) c = c
 scopes_then t (stmt.While place e a) c = c
+scopes_then t (stmt.Do place a e) c = c
 scopes_then t (stmt.For place first e third a) c = c
 scopes_then t stmt.Break c = c
 scopes_then t stmt.Continue c = c
@@ -76,6 +77,7 @@ over_then t (stmt.Block all) c ls e = over_same c ls e
 over_then t (stmt.If v a) c ls e = over_same c ls e
 over_then t (stmt.IfElse v a b) c ls e = over_same c ls e
 over_then t (stmt.While place v a) c ls e = over_same c ls e
+over_then t (stmt.Do place a v) c ls e = over_same c ls e
 over_then t (stmt.For place first v third a) c ls e = over_same c ls e
 over_then t stmt.Break c ls e = over_same c ls e
 over_then t stmt.Continue c ls e = over_same c ls e
@@ -102,6 +104,7 @@ sees_then t result (stmt.Block all) s u h sees = sees
 sees_then t result (stmt.If v a) s u h sees = sees
 sees_then t result (stmt.IfElse v a b) s u h sees = sees
 sees_then t result (stmt.While place v a) s u h sees = sees
+sees_then t result (stmt.Do place a v) s u h sees = sees
 sees_then t result (stmt.For place first v third a) s u h sees = sees
 sees_then t result stmt.Break s u h sees = sees
 sees_then t result stmt.Continue s u h sees = sees
@@ -295,6 +298,30 @@ module _ (t : Tables) (sane : IsSane t) (typed : IsWellTyped t) (calls : Calls)
           with_as t u (end_of_stmt t calls (stmt.While place c a) ls p k)
               (turns_end t u _ _ _ _ (λ ks p k. Next ks p k) (λ ks p k. Unit {0}) tests bodies
               (λ ks p k is fits. (tt, (is, fits))) k place ls p k refl fits),
+        )
+    stmt_sound (stmt.Do place a c) result s ls p k h sees fits =
+        let u = scopes_of ls in
+        let tests = λ (ks : List Local) (p : PoolMap) (k : ℕ) (is : scopes_of ks ≡ u)
+        (fits : Fits t p). value_sound c h.1.0 s ks p k h.1.1 (moved s u ks is sees) fits in
+        let bodies = λ (ks : List Local) (p : PoolMap) (k : ℕ) (is : scopes_of ks ≡ u)
+        (fits : Fits t p). scoped a u ks p k is (stmt_sound a result (inner_scopes s) ks p k h.0
+        (sees_inside t s (scopes_of ks) (moved s u ks is sees)) fits) in
+        let round = bodies ls p k refl fits in
+        let below = scoped_below t calls fall a ls p k in (
+          (
+            round.0,
+            turn_next t u k (in_scope (length ls) (end_of_stmt t calls a ls p k)) _ round.1 below
+                (λ ks p k is fits le. turns_find t u _ _ _ _ (λ ks p k. Next ks p k)
+                (λ ks p k. Unit {0}) tests bodies (λ ks p k is fits. (tt, (is, fits)))
+                (λ ks p k. value_falls t calls fall c ks p k)
+                (λ ks p k. scoped_below t calls fall a ks p k) (λ ks p k. same k)
+                k ks p k is fits (same k)),
+          ),
+          with_as t u (end_of_stmt t calls (stmt.Do place a c) ls p k)
+              (turn_ends t u (in_scope (length ls) (end_of_stmt t calls a ls p k)) _ round.1
+              (λ ks p k is fits. turns_end t u _ _ _ _ (λ ks p k. Next ks p k)
+              (λ ks p k. Unit {0}) tests bodies (λ ks p k is fits. (tt, (is, fits)))
+              k place ks p k is fits)),
         )
     stmt_sound (stmt.For place first c third a) result s ls p k h sees fits =
         let u = scopes_of ls in

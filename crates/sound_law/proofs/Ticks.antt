@@ -14,6 +14,7 @@ use Rattle.c_tree.specs.declared.expr.BinaryOp.{BinaryOp}
 use Rattle.c_tree.specs.declared.expr.BinaryOp.TheVariants as binary
 use Rattle.c_tree.specs.declared.stmt.AssignOp.TheVariants as assign
 use Rattle.c_tree.specs.declared.stmt.StepOp.TheVariants as step
+use Rattle.c_tree.specs.Operators.{update_binary}
 use Rattle.c_types.specs.Tables.{Tables, function_named}
 use Rattle.pool_map.specs.declared.trap.TrapKind.TheVariants as trap
 use Rattle.pool_map.specs.PoolMap.{PoolMap}
@@ -291,12 +292,8 @@ module _ (t : Tables) (calls : Calls) (fall : CallsFall calls) where
   simple_below (stmt.Assign target assign.Set place e) ls p k =
       assign_below (target_local target) target (λ p k. value_of t calls e ls p k) ls p k
       (λ p k. value_falls e ls p k)
-  simple_below (stmt.Assign target assign.Add place e) ls p k =
-      update_below (target_local target) target binary.Add place
-      (λ p k. value_of t calls e ls p k) ls p
-      k (λ p k. value_falls e ls p k)
-  simple_below (stmt.Assign target assign.Sub place e) ls p k =
-      update_below (target_local target) target binary.Sub place
+  simple_below (stmt.Assign target (assign.Update op) place e) ls p k =
+      update_below (target_local target) target (update_binary op) place
       (λ p k. value_of t calls e ls p k) ls p
       k (λ p k. value_falls e ls p k)
   simple_below (stmt.Step target step.Up place) ls p k =
@@ -381,6 +378,12 @@ module _ (t : Tables) (calls : Calls) (fall : CallsFall calls) where
         (λ ls p k. value_falls c ls p k)
         (λ ls p k. scope_below k (length ls) (end_of_stmt t calls a ls p k) (stmt_below a ls p k))
         (λ ls p k. same k)
+    stmt_below (stmt.Do place a c) ls p k =
+        turn_below k (in_scope (length ls) (end_of_stmt t calls a ls p k)) _
+        (scope_below k (length ls) (end_of_stmt t calls a ls p k) (stmt_below a ls p k))
+        (λ ls p k. turns_below k place _ _ _ ls p k (λ ls p k. value_falls c ls p k)
+        (λ ls p k. scope_below k (length ls) (end_of_stmt t calls a ls p k) (stmt_below a ls p k))
+        (λ ls p k. same k))
     stmt_below (stmt.For place first c third a) ls p k = scope_below k (length ls) _
         (next_below k (end_of_first t calls first ls p k) _ (first_below first ls p k)
         (λ ls p k. turns_below k place _ _ _ ls p k (λ ls p k. condition_falls c ls p k)

@@ -14,6 +14,7 @@ use Rattle.c_tree.specs.declared.stmt.AssignOp.{AssignOp}
 use Rattle.c_tree.specs.declared.stmt.AssignOp.TheVariants as assign
 use Rattle.c_tree.specs.declared.stmt.StepOp.{StepOp}
 use Rattle.c_tree.specs.declared.stmt.StepOp.TheVariants as step
+use Rattle.c_tree.specs.Operators.{update_binary}
 use Rattle.c_types.specs.Tables.{Tables}
 use Rattle.pool_map.specs.declared.trap.TrapKind.TheVariants as trap
 use Rattle.pool_map.specs.PoolMap.{PoolMap}
@@ -84,10 +85,9 @@ module _ (t : Tables) (calls : Calls) (found : FunctionTree → List ℤ → Poo
   abbrev pub AssignFinds : AssignOp → (place : ℕ) → ExprTree → ExprTree → List Local → PoolMap → ℕ
       → Type 0
   AssignFinds assign.Set place target e ls p k = SetFinds (target_local target) target e ls p k
-  AssignFinds assign.Add place target e ls p k = UpdateFinds (target_local target) target binary.Add
-      place (λ p k. value_of t calls e ls p k) (λ p k. Finds t calls found e ls p k) ls p k
-  AssignFinds assign.Sub place target e ls p k = UpdateFinds (target_local target) target binary.Sub
-      place (λ p k. value_of t calls e ls p k) (λ p k. Finds t calls found e ls p k) ls p k
+  AssignFinds (assign.Update op) place target e ls p k =
+      UpdateFinds (target_local target) target (update_binary op) place
+      (λ p k. value_of t calls e ls p k) (λ p k. Finds t calls found e ls p k) ls p k
 
   abbrev pub StepFinds : StepOp → (place : ℕ) → ExprTree → List Local → PoolMap → ℕ → Type 0
   StepFinds step.Up place target ls p k = UpdateFinds (target_local target) target binary.Add place
@@ -136,6 +136,13 @@ module _ (t : Tables) (calls : Calls) (found : FunctionTree → List ℤ → Poo
         (λ ls p k. in_scope (length ls) (end_of_stmt t calls a ls p k))
         (λ ls p k. StmtFinds a ls p k)
         (λ ls p k. Next ls p k) (λ ls p k. Unit {0}) ls p k
+    -- the first round of a `do` has no test
+    StmtFinds (stmt.Do place a c) ls p k = StmtFinds a ls p k
+        × AfterTurn (in_scope (length ls) (end_of_stmt t calls a ls p k)) (λ ls p k. TurnsFind k
+        (λ ls p k. value_of t calls c ls p k) (λ ls p k. Finds t calls found c ls p k)
+        (λ ls p k. in_scope (length ls) (end_of_stmt t calls a ls p k))
+        (λ ls p k. StmtFinds a ls p k)
+        (λ ls p k. Next ls p k) (λ ls p k. Unit {0}) ls p k)
     StmtFinds (stmt.For place first c third a) ls p k = FirstFinds first ls p k
         × AfterNext (end_of_first t calls first ls p k) (λ ls p k. TurnsFind k
         (λ ls p k. condition_of t calls c ls p k) (λ ls p k. OptionFinds c ls p k)

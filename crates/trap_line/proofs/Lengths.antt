@@ -3,7 +3,6 @@ use Rattle.std.proofs.Common.{◌≡◌, ℕ, suc, ◌+◌, List, [], ◌∷◌,
 use Rattle.std.proofs.Common.{length-append, Bool, true, false}
 use Rattle.std.specs.Prelude.{Option, None, Some, if◌then◌else◌, pos}
 use Rattle.nvm_base.specs.declared.op.BinOp.{BinOp}
-use Rattle.nvm_base.specs.declared.op.BinOp.TheVariants as op
 use Rattle.c_tree.specs.declared.expr.UnaryOp.TheVariants as unary
 use Rattle.c_tree.specs.declared.stmt.AssignOp.TheVariants as assign
 use Rattle.c_tree.specs.ExprTree as expr
@@ -22,7 +21,8 @@ use Rattle.lower.specs.Names.{Variables, inner_variables, variable_of}
 use Rattle.lower.specs.Assigned.{is_assigned}
 use Rattle.lower.specs.Lowers.{Context, exp_code, exp_end, target_code, target_end, arguments_code}
 use Rattle.lower.specs.Lowers.{arguments_end, form_code, reg_of, or_code, or_end, set_code}
-use Rattle.lower.specs.Lowers.{update_code, step_operation, simple_code, simple_end, initial_code}
+use Rattle.lower.specs.Lowers.{update_code, update_operation, step_operation, simple_code}
+use Rattle.lower.specs.Lowers.{simple_end, initial_code}
 use Rattle.lower.specs.Lowers.{first_code, first_end, variables_after_first, third_code, third_end}
 use Rattle.lower.specs.Lowers.{stmt_code, stmt_end, statements_code, statements_end}
 use Rattle.lower.specs.Lowers.{variables_after}
@@ -136,10 +136,8 @@ simple_long : (s : Context) (v : Variables) (x : SimpleTree) (p : ℕ)
     → length (simple_spots x) ≡ length (simple_code s v x p)
 simple_long s v (stmt.Assign target assign.Set place value) p =
     set_long s v (variable_of target) target place value p
-simple_long s v (stmt.Assign target assign.Add place value) p =
-    update_long s v (variable_of target) target place op.Add (Some value) p
-simple_long s v (stmt.Assign target assign.Sub place value) p =
-    update_long s v (variable_of target) target place op.Sub (Some value) p
+simple_long s v (stmt.Assign target (assign.Update o) place value) p =
+    update_long s v (variable_of target) target place (update_operation o) (Some value) p
 simple_long s v (stmt.Step target o place) p =
     update_long s v (variable_of target) target place (step_operation o) None p
 simple_long s v (stmt.Call name all) p = exp_long s v (expr.Call name all) p
@@ -188,6 +186,13 @@ mutual
       ap suc (both_long (exp_spots c) _ (exp_code s v c (suc p)) _ (exp_long s v c (suc p))
       (ap suc (both_long (stmt_spots a) _ (stmt_code s (inner_variables v) a (suc p2) p (suc p1)) _
       (stmt_long s (inner_variables v) a (suc p2) p (suc p1)) refl)))
+  stmt_long s v (stmt.Do place a c) out again p =
+      let p1 : ℕ = stmt_end a p in
+      let q : ℕ = suc (suc (exp_end c (suc p1))) in
+      both_long (stmt_spots a) _ (stmt_code s (inner_variables v) a q p1 p) _
+      (stmt_long s (inner_variables v) a q p1 p)
+      (ap suc (both_long (exp_spots c) _ (exp_code s v c (suc p1)) _ (exp_long s v c (suc p1))
+      refl))
   stmt_long s v (stmt.For place first c third a) out again p =
       let u : Variables = variables_after_first s first p (inner_variables v) in
       let p0 : ℕ = first_end first p in

@@ -107,18 +107,17 @@ set_spots (Some name) target place value = exp_spots value ++ never ∷ []
 set_spots None target place value =
     target_spots target ++ (exp_spots value ++ access target place ∷ [])
 
+-- an update's operation is told at its operator
 abbrev pub update_spots : Option Ident → (target : ExprTree) → (place : ℕ) → Option ExprTree
     → List Spot
-update_spots (Some name) target place value = or_spots value ++ never ∷ never ∷ []
-update_spots None target place value =
-    target_spots target ++ (access target 0 ∷ (or_spots value ++ never ∷ access target place ∷ []))
+update_spots (Some name) target place value = or_spots value ++ spot place ∷ never ∷ []
+update_spots None target place value = target_spots target
+    ++ (access target 0 ∷ (or_spots value ++ spot place ∷ access target place ∷ []))
 
 abbrev pub simple_spots : SimpleTree → List Spot
 simple_spots (stmt.Assign target assign.Set place value) =
     set_spots (variable_of target) target place value
-simple_spots (stmt.Assign target assign.Add place value) =
-    update_spots (variable_of target) target place (Some value)
-simple_spots (stmt.Assign target assign.Sub place value) =
+simple_spots (stmt.Assign target (assign.Update o) place value) =
     update_spots (variable_of target) target place (Some value)
 simple_spots (stmt.Step target o place) = update_spots (variable_of target) target place None
 simple_spots (stmt.Call name all) = exp_spots (expr.Call name all)
@@ -149,6 +148,8 @@ abbrev mutual
       exp_spots c ++ never ∷ (stmt_spots a ++ never ∷ stmt_spots b)
   stmt_spots (stmt.While place c a) =
       spot place ∷ (exp_spots c ++ never ∷ (stmt_spots a ++ never ∷ []))
+  stmt_spots (stmt.Do place a c) =
+      stmt_spots a ++ spot place ∷ (exp_spots c ++ never ∷ never ∷ [])
   stmt_spots (stmt.For place first c third a) =
       first_spots first ++ spot place ∷ (or_spots c ++ never ∷ (stmt_spots a
       ++ (third_spots third ++ never ∷ [])))

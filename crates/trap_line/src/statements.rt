@@ -65,6 +65,17 @@ fn push_statement(spots: &mut Spots, stmt: &Stmt) -> Result<(), AllocError>
             push_statement(spots, body)?;
             push_never(spots)
         }
+        Stmt::Do {
+            place,
+            body,
+            condition,
+        } => {
+            push_statement(spots, body)?;
+            spots.push(Spot::at(*place))?;
+            push_expression(spots, condition)?;
+            push_never(spots)?;
+            push_never(spots)
+        }
         Stmt::For {
             place,
             first,
@@ -138,8 +149,7 @@ fn push_simple(spots: &mut Spots, simple: &Simple) -> Result<(), AllocError>
             value,
         } => match op {
             AssignOp::Set => push_set(spots, target, *place, value),
-            AssignOp::Add => push_update(spots, target, *place, Some(value)),
-            AssignOp::Sub => push_update(spots, target, *place, Some(value)),
+            AssignOp::Update(_) => push_update(spots, target, *place, Some(value)),
         },
         Simple::Step { target, place, .. } => push_update(spots, target, *place, None),
         Simple::Call { name, arguments } => push_call(spots, name, arguments),
@@ -169,7 +179,7 @@ fn push_set(spots: &mut Spots, target: &Expr, place: u64, value: &Expr) -> Resul
     }
 }
 
-/// Appends those of `+=`, `-=`, `++` and `--`.
+/// Appends those of an assignment with an operator, `++` and `--`. A division's is the operator.
 fn push_update(
     spots: &mut Spots,
     target: &Expr,
@@ -182,14 +192,14 @@ fn push_update(
     match as_variable(target) {
         Some(_) => {
             push_or(spots, value)?;
-            push_never(spots)?;
+            spots.push(Spot::at(place))?;
             push_never(spots)
         }
         None => {
             push_target(spots, target)?;
             spots.push(access(target, 0))?;
             push_or(spots, value)?;
-            push_never(spots)?;
+            spots.push(Spot::at(place))?;
             spots.push(access(target, place))
         }
     }

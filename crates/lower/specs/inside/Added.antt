@@ -135,7 +135,7 @@ pub record ForAdded (k : Context) (v : Variables) (c : Option ExprTree) (third :
   pub long : length new ≡ for_end c third x (length old)
   pub variables : u ≡ v
 
--- `+=`, `-=`, `++` or `--`
+-- an assignment with an operator, `++` or `--`
 pub record UpdateAdded (k : Context) (v : Variables) (target : ExprTree) (place : ℕ) (o : BinOp)
     (value : Option ExprTree) (old new : List Instruction) : Type 0 where
   pub code : new ≡ old ++ update_code k v (variable_of target) target place o value (length old)
@@ -175,6 +175,13 @@ pub record WhileAdded (k : Context) (v : Variables) (e : ExprTree) (a : StmtTree
     (old new : List Instruction) (u : Variables) : Type 0 where
   pub code : new ≡ old ++ stmt_code k v (stmt.While 0 e a) 0 0 (length old)
   pub long : length new ≡ stmt_end (stmt.While 0 e a) (length old)
+  pub variables : u ≡ v
+
+-- a loop that begins with its body
+pub record DoAdded (k : Context) (v : Variables) (a : StmtTree) (e : ExprTree)
+    (old new : List Instruction) (u : Variables) : Type 0 where
+  pub code : new ≡ old ++ stmt_code k v (stmt.Do 0 a e) 0 0 (length old)
+  pub long : length new ≡ stmt_end (stmt.Do 0 a e) (length old)
   pub variables : u ≡ v
 
 pub record ReturnAdded (k : Context) (v : Variables) (value : Option ExprTree)

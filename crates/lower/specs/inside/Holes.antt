@@ -12,7 +12,7 @@ use Rattle.lower.specs.Names.{nowhere}
 abbrev pub leave : ℕ
 leave = nowhere
 
--- the hole for jumps to the third part of the innermost `for`
+-- the hole for a `continue` in a `for`, to its third part, or in a `do`, to its tick
 abbrev pub third_part : ℕ
 third_part = 2 ^ 32 - 2
 

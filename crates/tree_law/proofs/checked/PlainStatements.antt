@@ -3,7 +3,6 @@ use Rattle.std.proofs.Common.{◌≡◌, ℕ, ℤ, pos, suc, Bool, true, false, 
 use Rattle.std.specs.Prelude.{Option, None, Some, if◌then◌else◌}
 use Rattle.std.specs.Option.{option_map_or}
 use Rattle.nvm_base.specs.declared.op.BinOp.{BinOp}
-use Rattle.nvm_base.specs.declared.op.BinOp.TheVariants as op
 use Rattle.c_tree.specs.declared.stmt.AssignOp.TheVariants as assign
 use Rattle.c_tree.specs.ExprTree.{ExprTree, Ident}
 use Rattle.c_tree.specs.StmtTree as stmt
@@ -25,8 +24,9 @@ use Rattle.ir.specs.declared.instruction.Instruction.TheVariants.{Copy}
 use Rattle.lower.specs.Assigned.{is_assigned}
 use Rattle.lower.specs.Names.{Variables, inner_variables, variable_of}
 use Rattle.lower.specs.Lowers.{Context, exp_end, exp_code, target_end, target_code, arguments_code}
-use Rattle.lower.specs.Lowers.{or_end, or_code, set_code, update_code, step_operation, simple_code}
-use Rattle.lower.specs.Lowers.{initial_code, first_end, first_code, variables_after_first}
+use Rattle.lower.specs.Lowers.{or_end, or_code, set_code, update_code, update_operation}
+use Rattle.lower.specs.Lowers.{step_operation, simple_code, initial_code, first_end, first_code}
+use Rattle.lower.specs.Lowers.{variables_after_first}
 use Rattle.lower.specs.Lowers.{third_end, third_code, variables_after, stmt_end, stmt_code}
 use Rattle.lower.specs.Lowers.{statements_end, statements_code}
 use Rattle.lower.specs.Program.{parameters_end, parameters_code, variables_after_parameters}
@@ -82,14 +82,9 @@ simple_plain k s v (stmt.Assign target assign.Set place value) p h b =
     set_plain k s v (variable_of target) target place value p h
     (none_left (value_broken t s target) _ b)
     (none_left (value_broken t s value) _ (none_right (value_broken t s target) _ b))
-simple_plain k s v (stmt.Assign target assign.Add place value) p h b =
+simple_plain k s v (stmt.Assign target (assign.Update o) place value) p h b =
     let t : Tables = k.tables in
-    update_plain k s v (variable_of target) target place op.Add (Some value) p h
-    (none_left (value_broken t s target) _ b)
-    (none_left (value_broken t s value) _ (none_right (value_broken t s target) _ b))
-simple_plain k s v (stmt.Assign target assign.Sub place value) p h b =
-    let t : Tables = k.tables in
-    update_plain k s v (variable_of target) target place op.Sub (Some value) p h
+    update_plain k s v (variable_of target) target place (update_operation o) (Some value) p h
     (none_left (value_broken t s target) _ b)
     (none_left (value_broken t s value) _ (none_right (value_broken t s target) _ b))
 simple_plain k s v (stmt.Step target o place) p h b =
@@ -199,6 +194,19 @@ mutual
                   (stmt_plain k type_given (types.inner_scopes s) (inner_variables v) x p2 p p1 h
                   (none_right (value_broken t s c) _ b)) (tt, tt),
             ),
+      )
+  stmt_plain k type_given s v (stmt.Do place x c) out again p h b =
+      let t : Tables = k.tables in
+      let p1 : ℕ = stmt_end x p in
+      let q : ℕ = suc (suc (exp_end c (suc p1))) in
+      let inner : List Scope = types.inner_scopes s in
+      both_plain t (stmt_code k (inner_variables v) x q p1 p) _
+      (stmt_plain k type_given inner (inner_variables v) x q p1 p h
+      (none_left (statement_broken t type_given inner x) _ b)) (
+        tt,
+        both_plain t (exp_code k v c (suc p1)) _
+            (value_plain k s v c (suc p1) h
+            (none_right (statement_broken t type_given inner x) _ b)) (tt, (tt, tt)),
       )
   stmt_plain k type_given s v (stmt.For place first c third x) out again p h b =
       let t : Tables = k.tables in

@@ -4,7 +4,6 @@ use Rattle.std.proofs.Common.{ℕ, ℤ, pos, suc, Bool, true, false, List, [], �
 use Rattle.std.specs.Prelude.{Option, None, Some, if◌then◌else◌}
 use Rattle.std.specs.List.{AllByRecursion}
 use Rattle.nvm_base.specs.declared.op.BinOp.{BinOp}
-use Rattle.nvm_base.specs.declared.op.BinOp.TheVariants as op
 use Rattle.nvm_base.specs.Wrap.{IsWord}
 use Rattle.c_lexer.specs.declared.token.Placed.{Placed}
 use Rattle.c_tree.specs.declared.stmt.AssignOp.{AssignOp}
@@ -19,8 +18,8 @@ use Rattle.c_tree.specs.StmtSpelling.{steps, Simply, acts, calls, frees, aborts,
 use Rattle.c_tree.specs.StmtSpelling.{first_none, first_declares, first_simply, ValuePart}
 use Rattle.c_tree.specs.StmtSpelling.{value_none, value_some, ThirdPart, third_none, third_some}
 use Rattle.c_tree.specs.StmtSpelling.{Spells, empty, declares, simply, block, if_alone, if_else}
-use Rattle.c_tree.specs.StmtSpelling.{repeats, counts, breaks, continues, returns, SpellsAll}
-use Rattle.c_tree.specs.StmtSpelling.{nothing, something}
+use Rattle.c_tree.specs.StmtSpelling.{repeats, repeats_after, counts, breaks, continues, returns}
+use Rattle.c_tree.specs.StmtSpelling.{SpellsAll, nothing, something}
 use Rattle.c_tree.specs.ItemTree.{ItemTree, FunctionTree, ParameterTree}
 use Rattle.c_tree.specs.ItemSpelling.{SpellsFunction, function, SpellsItem, struct_def, root_decl}
 use Rattle.c_tree.specs.ItemSpelling.{transaction, plain_function, SpellsItems, items_end}
@@ -31,8 +30,9 @@ use Rattle.ir.specs.declared.instruction.Instruction.TheVariants.{Copy}
 use Rattle.lower.specs.Assigned.{is_assigned}
 use Rattle.lower.specs.Names.{Variables, inner_variables, variable_of}
 use Rattle.lower.specs.Lowers.{Context, exp_end, exp_code, target_end, target_code, arguments_code}
-use Rattle.lower.specs.Lowers.{or_end, or_code, set_code, update_code, step_operation, simple_code}
-use Rattle.lower.specs.Lowers.{initial_code, first_end, first_code, variables_after_first}
+use Rattle.lower.specs.Lowers.{or_end, or_code, set_code, update_code, update_operation}
+use Rattle.lower.specs.Lowers.{step_operation, simple_code, initial_code, first_end, first_code}
+use Rattle.lower.specs.Lowers.{variables_after_first}
 use Rattle.lower.specs.Lowers.{third_end, third_code, variables_after, stmt_end, stmt_code}
 use Rattle.lower.specs.Lowers.{statements_end, statements_code}
 use Rattle.lower.specs.Program.{parameters_end, parameters_code, variables_after_parameters}
@@ -93,11 +93,8 @@ assign_words : (k : Context) (o : AssignOp) (target : ExprTree) (place : ℕ) (v
     → ExpWords k target → ExpWords k value → SimpleWords k (stmt.Assign target o place value)
 assign_words k assign.Set target place value a b v p =
     set_words k v (variable_of target) target place value p a b
-assign_words k assign.Add target place value a b v p =
-    update_words k v (variable_of target) target place op.Add (Some value) p a
-    (some_words k value b)
-assign_words k assign.Sub target place value a b v p =
-    update_words k v (variable_of target) target place op.Sub (Some value) p a
+assign_words k (assign.Update o) target place value a b v p =
+    update_words k v (variable_of target) target place (update_operation o) (Some value) p a
     (some_words k value b)
 
 module _ (k : Context) (ts : List Placed) (words : (i : ℕ) → IsWord (value_at ts i)) where
@@ -166,6 +163,14 @@ module _ (k : Context) (ts : List Placed) (words : (i : ℕ) → IsWord (value_a
             both_words (stmt_code k (inner_variables v) x p2 p p1) _
                 (stmt_words h (inner_variables v) p2 p p1) (tt, tt),
           ),
+        )
+    stmt_words (repeats_after {e = e} {s = x} is h word c ends) v out again p =
+        let p1 : ℕ = stmt_end x p in
+        let q : ℕ = suc (suc (exp_end e (suc p1))) in
+        both_words (stmt_code k (inner_variables v) x q p1 p) _
+        (stmt_words h (inner_variables v) q p1 p) (
+          tt,
+          both_words (exp_code k v e (suc p1)) _ (bracketed_words c v (suc p1)).0 (tt, (tt, tt)),
         )
     stmt_words (counts {f = f} {c = c} {t = third} {s = x} is opens first one condition two last
         closes h) v out again p =

@@ -3,7 +3,6 @@ use Rattle.std.proofs.Common.{◌≡◌, ℕ, suc, ◌+◌, ℤ, pos, List, [], 
 use Rattle.std.proofs.Common.{arith}
 use Rattle.std.specs.Prelude.{Option, None, Some, if◌then◌else◌}
 use Rattle.nvm_base.specs.declared.op.BinOp.{BinOp}
-use Rattle.nvm_base.specs.declared.op.BinOp.TheVariants as op
 use Rattle.c_tree.specs.declared.stmt.AssignOp.TheVariants as assign
 use Rattle.c_tree.specs.ExprTree as expr
 use Rattle.c_tree.specs.ExprTree.{ExprTree, Ident}
@@ -17,7 +16,8 @@ use Rattle.ir.specs.declared.instruction.Instruction.TheVariants.{Copy}
 use Rattle.lower.specs.Names.{Variables, inner_variables, variable_of}
 use Rattle.lower.specs.Assigned.{is_assigned}
 use Rattle.lower.specs.Lowers.{Context, exp_end, target_end, or_end, or_code, set_end, set_code}
-use Rattle.lower.specs.Lowers.{update_end, update_code, step_operation, simple_end, simple_code}
+use Rattle.lower.specs.Lowers.{update_end, update_code, update_operation, step_operation}
+use Rattle.lower.specs.Lowers.{simple_end, simple_code}
 use Rattle.lower.specs.Lowers.{initial_end, initial_code, first_end, first_code}
 use Rattle.lower.specs.Lowers.{variables_after_first, third_end, third_code, variables_after}
 use Rattle.lower.specs.Lowers.{stmt_end, stmt_code, statements_end, statements_code}
@@ -51,10 +51,8 @@ simple_leads : (k : Context) (v : Variables) (x : SimpleTree) (p : ℕ)
     → Leads p (simple_code k v x p) (simple_end x p)
 simple_leads k v (stmt.Assign target assign.Set place value) p =
     set_leads k v (variable_of target) target place value p
-simple_leads k v (stmt.Assign target assign.Add place value) p =
-    update_leads k v (variable_of target) target place op.Add (Some value) p
-simple_leads k v (stmt.Assign target assign.Sub place value) p =
-    update_leads k v (variable_of target) target place op.Sub (Some value) p
+simple_leads k v (stmt.Assign target (assign.Update o) place value) p =
+    update_leads k v (variable_of target) target place (update_operation o) (Some value) p
 simple_leads k v (stmt.Step target o place) p =
     update_leads k v (variable_of target) target place (step_operation o) None p
 simple_leads k v (stmt.Call name all) p = exp_leads k v (expr.Call name all) p
@@ -99,6 +97,11 @@ mutual
       let p2 : ℕ = stmt_end a (suc p1) in
       first (joined (exp_leads k v c (suc p))
       (first (joined (stmt_leads k (inner_variables v) a (suc p2) p (suc p1)) one)))
+  stmt_leads k v (stmt.Do place a c) out again p =
+      let p1 : ℕ = stmt_end a p in
+      let p2 : ℕ = exp_end c (suc p1) in
+      joined (stmt_leads k (inner_variables v) a (suc (suc p2)) p1 p)
+      (first (joined (exp_leads k v c (suc p1)) two))
   stmt_leads k v (stmt.For place x c third a) out again p =
       let u : Variables = variables_after_first k x p (inner_variables v) in
       let p0 : ℕ = first_end x p in

@@ -13,8 +13,8 @@ use Rattle.c_tree.specs.StmtSpelling.{bracketed, Acts, assigns, steps, Simply, a
 use Rattle.c_tree.specs.StmtSpelling.{aborts, FirstPart, first_none, first_declares, first_simply}
 use Rattle.c_tree.specs.StmtSpelling.{ValuePart, value_none, value_some, ThirdPart, third_none}
 use Rattle.c_tree.specs.StmtSpelling.{third_some, Spells, empty, declares, simply, block, if_alone}
-use Rattle.c_tree.specs.StmtSpelling.{if_else, repeats, counts, breaks, continues, returns}
-use Rattle.c_tree.specs.StmtSpelling.{SpellsAll, nothing, something}
+use Rattle.c_tree.specs.StmtSpelling.{if_else, repeats, repeats_after, counts, breaks, continues}
+use Rattle.c_tree.specs.StmtSpelling.{returns, SpellsAll, nothing, something}
 use Rattle.lower.specs.Names.{variable_of}
 use Rattle.lower.specs.Lowers.{exp_end, target_end, or_end, set_end, update_end, simple_end}
 use Rattle.lower.specs.Lowers.{initial_end, first_end, third_end, stmt_end, statements_end}
@@ -50,9 +50,7 @@ update_short None a value k i j ha hv p =
 assign_short : (o : AssignOp) (a e : ExprTree) (k i j : ℕ) → Shorter a k i → Shorter e (i + 1) j
     → Short (simple_end (tree.Assign a o i e)) k j
 assign_short assign.Set a e k i j ha he = set_short (variable_of a) a e k i j ha he
-assign_short assign.Add a e k i j ha he =
-    update_short (variable_of a) a (Some e) k i j ha (λ p. omega (arith, he p))
-assign_short assign.Sub a e k i j ha he =
+assign_short (assign.Update o) a e k i j ha he =
     update_short (variable_of a) a (Some e) k i j ha (λ p. omega (arith, he p))
 
 acts_short : {ts : List Placed} {i j : ℕ} {a : ExprTree} {x : SimpleTree} (k : ℕ) → Shorter a k i
@@ -100,6 +98,8 @@ mutual
       omega (arith, bracketed_short condition p, stmt_short h q, stmt_short g (suc (stmt_end a q)))
   stmt_short (repeats {e = e} is condition h) p =
       omega (arith, bracketed_short condition (suc p), stmt_short h (suc (exp_end e (suc p))))
+  stmt_short (repeats_after {e = e} {s = s} is h word condition ends) p =
+      omega (arith, stmt_short h p, bracketed_short condition (suc (stmt_end s p)))
   stmt_short (counts {f = f} {c = c} {t = t} {s = s} is opens first ends condition ends1 third
       closes h) p =
       let q : ℕ = suc (first_end f p) in

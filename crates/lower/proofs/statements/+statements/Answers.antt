@@ -7,7 +7,7 @@ use Rattle.lower.specs.inside.Holes.{leave}
 use Rattle.lower.specs.Lowers.{statements_end}
 use Rattle.lower.specs.inside.Added.{context_of}
 use Rattle.lower.proofs.StmtAdds.{statements_code_more, after_all_more, if_part_added}
-use Rattle.lower.proofs.StmtAdds.{else_part_added, while_added, for_added, block_added}
+use Rattle.lower.proofs.StmtAdds.{else_part_added, while_added, do_added, for_added, block_added}
 use Rattle.lower.proofs.statements.+statements.Goals as goal
 
 pub add_statements-loop-stmt-preserved : goal.add_statements-loop-stmt-preserved
@@ -48,6 +48,15 @@ add_while-returns t c =
     c.in_ok-push-2.ensures c.in_ok-add_body.ensures
     c.end-last.ensures.place c.end-last.ensures.small c.in_ok-push-3.ensures c.set.ensures.code
     c.fill.ensures
+
+pub add_do-returns : goal.add_do-returns
+add_do-returns t c =
+    do_added (context_of c.args.source.now) _ (stmt_of c.args.body.now)
+    (expr_of c.args.condition.now) _ _ _ _ _ _ _ _ _ _ _ _ _
+    c.end-top.ensures.place c.in_ok-add_body.ensures c.end-again.ensures.place
+    c.end-again.ensures.small c.fill.ensures c.in_ok-push.ensures c.in_ok-on.ensures
+    c.end.ensures.place c.end.ensures.small c.in_ok-push-2.ensures c.in_ok-push-3.ensures
+    c.fill-2.ensures
 
 pub add_block-returns : goal.add_block-returns
 add_block-returns t c =
