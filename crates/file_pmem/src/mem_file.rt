@@ -1,7 +1,6 @@
 //! A file of lines in memory, with each copy that a crash may leave. It fails at chosen calls.
 
 ghost use Rattle.std.specs.Prelude.{◌≡◌, ◌≤◌, [], Some, true, IfOk, IfSome, OnOk, OnErr};
-
 ghost use Rattle.std.specs.Prelude.{replicate};
 ghost use Rattle.std.specs.Prelude.{pos, map};
 ghost use Rattle.nvm_base.specs.Rose.{Rose};
