@@ -19,13 +19,13 @@ use Rattle.c_parser.specs.declared.want.Want.{Want}
 use Rattle.c_parser.specs.declared.want.Want.TheVariants.{Operand, Rest, Named, Dot, FirstArgument}
 use Rattle.c_parser.specs.declared.want.Want.TheVariants.{MoreArguments, NewOpen, Ident, Digits}
 use Rattle.c_parser.specs.declared.want.Want.TheVariants.{Semicolon, StructWord, Star, RootWord}
-use Rattle.c_parser.specs.declared.want.Want.TheVariants.{Round, Square, Target, NamedTarget}
-use Rattle.c_parser.specs.declared.want.Want.TheVariants.{Called, DotTarget, OpenExpression}
-use Rattle.c_parser.specs.declared.want.Want.TheVariants.{OpenNothing, Initial, Value, Body, Bare}
-use Rattle.c_parser.specs.declared.want.Want.TheVariants.{Else, Block, OpenFor, ForFirst, ForThird}
-use Rattle.c_parser.specs.declared.want.Want.TheVariants.{TypeName, Fields, Length, Result}
-use Rattle.c_parser.specs.declared.want.Want.TheVariants.{TxResult, OpenParameters, Parameters}
-use Rattle.c_parser.specs.declared.want.Want.TheVariants.{MoreParameters, OpenBody}
+use Rattle.c_parser.specs.declared.want.Want.TheVariants.{WhileWord, Round, Square, Target}
+use Rattle.c_parser.specs.declared.want.Want.TheVariants.{NamedTarget, Called, DotTarget}
+use Rattle.c_parser.specs.declared.want.Want.TheVariants.{OpenExpression, OpenNothing, Initial}
+use Rattle.c_parser.specs.declared.want.Want.TheVariants.{Value, Body, Bare, Else, Block, OpenFor}
+use Rattle.c_parser.specs.declared.want.Want.TheVariants.{ForFirst, ForThird, TypeName, Fields}
+use Rattle.c_parser.specs.declared.want.Want.TheVariants.{Length, Result, TxResult, OpenParameters}
+use Rattle.c_parser.specs.declared.want.Want.TheVariants.{Parameters, MoreParameters, OpenBody}
 use Rattle.c_parser.specs.declared.want.Want.TheVariants.{StructOrFunction, Items}
 use Rattle.c_tree.specs.Kinds.{kind_at, placed_kind, token_kind, mark_kind, word_kind, ident_at}
 use Rattle.c_tree.specs.Kinds.{value_at}
@@ -44,8 +44,8 @@ use Rattle.c_tree.specs.StmtSpelling.{bracketed, Acts, assigns, steps, Simply, a
 use Rattle.c_tree.specs.StmtSpelling.{aborts, FirstPart, first_none, first_declares, first_simply}
 use Rattle.c_tree.specs.StmtSpelling.{ValuePart, value_none, value_some, ThirdPart, third_none}
 use Rattle.c_tree.specs.StmtSpelling.{third_some, Spells, empty, declares, simply, block, if_alone}
-use Rattle.c_tree.specs.StmtSpelling.{if_else, repeats, counts, breaks, continues, returns}
-use Rattle.c_tree.specs.StmtSpelling.{SpellsAll, nothing, something}
+use Rattle.c_tree.specs.StmtSpelling.{if_else, repeats, repeats_after, counts, breaks, continues}
+use Rattle.c_tree.specs.StmtSpelling.{returns, SpellsAll, nothing, something}
 use Rattle.c_tree.specs.ItemSpelling.{SpellsField, single, array, SpellsFields, fields_end}
 use Rattle.c_tree.specs.ItemSpelling.{fields_more, SpellsParameters, parameters_last}
 use Rattle.c_tree.specs.ItemSpelling.{parameters_more, Signature, signature_none, signature_void}
@@ -69,6 +69,14 @@ mark_token mark.Increment = tt
 mark_token mark.Decrement = tt
 mark_token mark.AddAssign = tt
 mark_token mark.SubAssign = tt
+mark_token mark.MulAssign = tt
+mark_token mark.DivAssign = tt
+mark_token mark.RemAssign = tt
+mark_token mark.AndAssign = tt
+mark_token mark.XorAssign = tt
+mark_token mark.OrAssign = tt
+mark_token mark.ShiftLeftAssign = tt
+mark_token mark.ShiftRightAssign = tt
 mark_token mark.ShiftLeft = tt
 mark_token mark.ShiftRight = tt
 mark_token mark.LessEqual = tt
@@ -104,12 +112,14 @@ word_token : (w : Word) → IsToken (word_kind w)
 word_token word.Int64 = tt
 word_token word.Void = tt
 word_token word.Struct = tt
+word_token word.Enum = tt
 word_token word.Persistent = tt
 word_token word.Root = tt
 word_token word.Tx = tt
 word_token word.If = tt
 word_token word.Else = tt
 word_token word.While = tt
+word_token word.Do = tt
 word_token word.For = tt
 word_token word.Break = tt
 word_token word.Continue = tt
@@ -160,6 +170,7 @@ module _ (ts : List Placed) where
   Stands i (StructWord ∷ k) = (kind_at ts i ≡ kind.Struct) × Stands (i + 1) k
   Stands i (Star ∷ k) = (kind_at ts i ≡ kind.Operator op.Mul) × Stands (i + 1) k
   Stands i (RootWord ∷ k) = (kind_at ts i ≡ kind.Root) × Stands (i + 1) k
+  Stands i (WhileWord ∷ k) = (kind_at ts i ≡ kind.While) × Stands (i + 1) k
   Stands i (Round ∷ k) = (kind_at ts i ≡ kind.CloseRound) × Stands (i + 1) k
   Stands i (Square ∷ k) = (kind_at ts i ≡ kind.CloseSquare) × Stands (i + 1) k
   Stands i (Target n ∷ k) = (j : ℕ) × Acting i j × Stands j k
@@ -294,6 +305,12 @@ module _ (ts : List Placed) where
         × Stands (i + 1) k
     root_word_back k (kind.Root) is u h = (is, h)
     root_word_back k _ is u h = absurd h
+
+    while_word_back : (k : List Want) (t : Kind) → kind_at ts i ≡ t → (u : Option (List Want))
+        → Then (i + 1) (apply_move (wants.while_word t) k u) → (kind_at ts i ≡ kind.While)
+        × Stands (i + 1) k
+    while_word_back k (kind.While) is u h = (is, h)
+    while_word_back k _ is u h = absurd h
 
     round_back : (k : List Want) (t : Kind) → kind_at ts i ≡ t → (u : Option (List Want))
         → Then (i + 1) (apply_move (wants.round_move t) k u) → (kind_at ts i ≡ kind.CloseRound)
@@ -526,6 +543,8 @@ module _ (ts : List Placed) where
         choice_back loop m j e s k is br h after
     statement_back loop k kind.While is u (m, e, br, (j, s, h, after)) =
         (j, tree.While i e s, repeats is br h, after)
+    statement_back loop k kind.Do is u (m, s, h, (w, (j, e, br, (z, after)))) =
+        (j + 1, tree.Do i s e, repeats_after is h w br z, after)
     statement_back loop k kind.For is u (
       o,
       m,
@@ -569,6 +588,7 @@ module _ (ts : List Placed) where
     body_back loop k kind.Struct is u h = statement_back loop (Bare ∷ k) kind.Struct is None h
     body_back loop k kind.If is u h = statement_back loop (Bare ∷ k) kind.If is None h
     body_back loop k kind.While is u h = statement_back loop (Bare ∷ k) kind.While is None h
+    body_back loop k kind.Do is u h = statement_back loop (Bare ∷ k) kind.Do is None h
     body_back loop k kind.For is u h = statement_back loop (Bare ∷ k) kind.For is None h
     body_back loop k kind.Return is u h = statement_back loop (Bare ∷ k) kind.Return is None h
     body_back loop k kind.Number is u h = statement_back loop (Bare ∷ k) kind.Number is None h
@@ -610,6 +630,8 @@ module _ (ts : List Placed) where
         prepend loop k (statement_back loop (Block loop ∷ k) kind.If is None h)
     block_back loop k kind.While is u h =
         prepend loop k (statement_back loop (Block loop ∷ k) kind.While is None h)
+    block_back loop k kind.Do is u h =
+        prepend loop k (statement_back loop (Block loop ∷ k) kind.Do is None h)
     block_back loop k kind.For is u h =
         prepend loop k (statement_back loop (Block loop ∷ k) kind.For is None h)
     block_back loop k kind.Return is u h =
@@ -896,6 +918,7 @@ module _ (ts : List Placed) where
     back (StructWord ∷ k) t is token h = struct_word_back i k t is (parser_step k t) h
     back (Star ∷ k) t is token h = star_back i k t is (parser_step k t) h
     back (RootWord ∷ k) t is token h = root_word_back i k t is (parser_step k t) h
+    back (WhileWord ∷ k) t is token h = while_word_back i k t is (parser_step k t) h
     back (Round ∷ k) t is token h = round_back i k t is (parser_step k t) h
     back (Square ∷ k) t is token h = square_back i k t is (parser_step k t) h
     back (Target n ∷ k) t is token h = target_back i n k t is (parser_step k t) h
@@ -954,6 +977,7 @@ module _ (ts : List Placed) where
   at_last (StructWord ∷ k) h = absurd h
   at_last (Star ∷ k) h = absurd h
   at_last (RootWord ∷ k) h = absurd h
+  at_last (WhileWord ∷ k) h = absurd h
   at_last (Round ∷ k) h = absurd h
   at_last (Square ∷ k) h = absurd h
   at_last (Target n ∷ k) h = absurd h

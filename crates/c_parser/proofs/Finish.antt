@@ -16,13 +16,13 @@ use Rattle.c_parser.specs.declared.want.Want.{Want}
 use Rattle.c_parser.specs.declared.want.Want.TheVariants.{Operand, Rest, Named, Dot, FirstArgument}
 use Rattle.c_parser.specs.declared.want.Want.TheVariants.{MoreArguments, NewOpen, Ident, Digits}
 use Rattle.c_parser.specs.declared.want.Want.TheVariants.{Semicolon, StructWord, Star, RootWord}
-use Rattle.c_parser.specs.declared.want.Want.TheVariants.{Round, Square, Target, NamedTarget}
-use Rattle.c_parser.specs.declared.want.Want.TheVariants.{Called, DotTarget, OpenExpression}
-use Rattle.c_parser.specs.declared.want.Want.TheVariants.{OpenNothing, Initial, Value, Body, Bare}
-use Rattle.c_parser.specs.declared.want.Want.TheVariants.{Else, Block, OpenFor, ForFirst, ForThird}
-use Rattle.c_parser.specs.declared.want.Want.TheVariants.{TypeName, Fields, Length, Result}
-use Rattle.c_parser.specs.declared.want.Want.TheVariants.{TxResult, OpenParameters, Parameters}
-use Rattle.c_parser.specs.declared.want.Want.TheVariants.{MoreParameters, OpenBody}
+use Rattle.c_parser.specs.declared.want.Want.TheVariants.{WhileWord, Round, Square, Target}
+use Rattle.c_parser.specs.declared.want.Want.TheVariants.{NamedTarget, Called, DotTarget}
+use Rattle.c_parser.specs.declared.want.Want.TheVariants.{OpenExpression, OpenNothing, Initial}
+use Rattle.c_parser.specs.declared.want.Want.TheVariants.{Value, Body, Bare, Else, Block, OpenFor}
+use Rattle.c_parser.specs.declared.want.Want.TheVariants.{ForFirst, ForThird, TypeName, Fields}
+use Rattle.c_parser.specs.declared.want.Want.TheVariants.{Length, Result, TxResult, OpenParameters}
+use Rattle.c_parser.specs.declared.want.Want.TheVariants.{Parameters, MoreParameters, OpenBody}
 use Rattle.c_parser.specs.declared.want.Want.TheVariants.{StructOrFunction, Items}
 use Rattle.c_tree.specs.Kinds.{token_kind}
 use Rattle.c_parser.specs.inside.Wants as wants
@@ -153,6 +153,11 @@ root_word_fine : (k : List Want) (t : Kind) (u : Option (List Want)) → Fine k
 root_word_fine k kind.Root u f = f
 root_word_fine k _ u f = tt
 
+while_word_fine : (k : List Want) (t : Kind) (u : Option (List Want)) → Fine k
+    → IfFine (apply_move (wants.while_word t) k u)
+while_word_fine k kind.While u f = f
+while_word_fine k _ u f = tt
+
 round_fine : (k : List Want) (t : Kind) (u : Option (List Want)) → Fine k
     → IfFine (apply_move (wants.round_move t) k u)
 round_fine k kind.CloseRound u f = f
@@ -229,6 +234,7 @@ body_fine loop k kind.Int u f = (tt, (tt, (tt, (tt, f))))
 body_fine loop k kind.Struct u f = (tt, (tt, (tt, (tt, (tt, (tt, f))))))
 body_fine loop k kind.If u f = (tt, (tt, (tt, (tt, f))))
 body_fine loop k kind.While u f = (tt, (tt, (tt, f)))
+body_fine loop k kind.Do u f = (tt, (tt, (tt, (tt, (tt, f)))))
 body_fine loop k kind.For u f = (tt, (tt, (tt, f)))
 body_fine loop k kind.Return u f = (tt, (tt, (tt, f)))
 body_fine loop k kind.Name u f = (tt, (tt, (tt, f)))
@@ -254,6 +260,7 @@ block_fine loop k kind.Struct u f = (tt, (tt, (tt, (tt, (tt, (tt, f))))))
 block_fine loop k kind.OpenBrace u f = (tt, (tt, f))
 block_fine loop k kind.If u f = (tt, (tt, (tt, (tt, f))))
 block_fine loop k kind.While u f = (tt, (tt, (tt, f)))
+block_fine loop k kind.Do u f = (tt, (tt, (tt, (tt, (tt, f)))))
 block_fine loop k kind.For u f = (tt, (tt, (tt, f)))
 block_fine loop k kind.Return u f = (tt, (tt, (tt, f)))
 block_fine loop k kind.Name u f = (tt, (tt, (tt, f)))
@@ -396,6 +403,7 @@ step_fine (Semicolon ∷ k) t f = semicolon_fine k t (parser_step k t) f.1
 step_fine (StructWord ∷ k) t f = struct_word_fine k t (parser_step k t) f.1
 step_fine (Star ∷ k) t f = star_fine k t (parser_step k t) f.1
 step_fine (RootWord ∷ k) t f = root_word_fine k t (parser_step k t) f.1
+step_fine (WhileWord ∷ k) t f = while_word_fine k t (parser_step k t) f.1
 step_fine (Round ∷ k) t f = round_fine k t (parser_step k t) f.1
 step_fine (Square ∷ k) t f = square_fine k t (parser_step k t) f.1
 step_fine (Target n ∷ k) t f = target_fine n k t (parser_step k t) f.0 f.1
@@ -454,6 +462,7 @@ finish (Semicolon ∷ k) = m mark.Semicolon ∷ finish k
 finish (StructWord ∷ k) = w word.Struct ∷ finish k
 finish (Star ∷ k) = m mark.Star ∷ finish k
 finish (RootWord ∷ k) = w word.Root ∷ finish k
+finish (WhileWord ∷ k) = w word.While ∷ finish k
 finish (Round ∷ k) = m mark.CloseRound ∷ finish k
 finish (Square ∷ k) = m mark.CloseSquare ∷ finish k
 finish (Target n ∷ k) = m mark.Increment ∷ finish k
@@ -527,6 +536,7 @@ finish_no_else (Semicolon ∷ k) = λ h. cc
 finish_no_else (StructWord ∷ k) = λ h. cc
 finish_no_else (Star ∷ k) = λ h. cc
 finish_no_else (RootWord ∷ k) = λ h. cc
+finish_no_else (WhileWord ∷ k) = λ h. cc
 finish_no_else (Round ∷ k) = λ h. cc
 finish_no_else (Square ∷ k) = λ h. cc
 finish_no_else (Target n ∷ k) = λ h. cc
@@ -585,6 +595,7 @@ finish_runs (Semicolon ∷ k) p f = finish_runs k (p + 1) f.1
 finish_runs (StructWord ∷ k) p f = finish_runs k (p + 1) f.1
 finish_runs (Star ∷ k) p f = finish_runs k (p + 1) f.1
 finish_runs (RootWord ∷ k) p f = finish_runs k (p + 1) f.1
+finish_runs (WhileWord ∷ k) p f = finish_runs k (p + 1) f.1
 finish_runs (Round ∷ k) p f = finish_runs k (p + 1) f.1
 finish_runs (Square ∷ k) p f = finish_runs k (p + 1) f.1
 finish_runs (Target n ∷ k) p f = finish_runs k (p + 1) f.1

@@ -24,14 +24,16 @@ use Rattle.c_tree.specs.StmtSpelling.{bracketed, assigns, steps, Simply, acts, c
 use Rattle.c_tree.specs.StmtSpelling.{FirstPart, first_none, first_declares, first_simply}
 use Rattle.c_tree.specs.StmtSpelling.{ValuePart, value_none, value_some, ThirdPart, third_none}
 use Rattle.c_tree.specs.StmtSpelling.{third_some, Spells, empty, declares, simply, block, if_alone}
-use Rattle.c_tree.specs.StmtSpelling.{if_else, repeats, counts, breaks, continues, returns, nothing}
+use Rattle.c_tree.specs.StmtSpelling.{if_else, repeats, repeats_after, counts, breaks, continues}
+use Rattle.c_tree.specs.StmtSpelling.{returns, nothing}
 use Rattle.c_tree.specs.StmtSpelling.{something}
 use Rattle.c_parser.specs.inside.Fixes.{Fixes, DerivesFrom, IsFollowed, Over, IsOfKind}
 use Rattle.c_parser.specs.inside.Fixes.{ClosesSimple}
 use Rattle.c_parser.specs.inside.Pieces.{ActsOrCalls, acts_on, call_alone, ForTree, SpellsFor}
 use Rattle.c_parser.specs.inside.Pieces.{for_parts, Stated, stated, StatedAll, stated_all}
 use Rattle.c_parser.specs.inside.Pieces.{SpellsChoice, choice_alone, choice_else, SpellsWhile}
-use Rattle.c_parser.specs.inside.Pieces.{repeated, SpellsCounted, counted, SpellsPlain, plain_empty}
+use Rattle.c_parser.specs.inside.Pieces.{repeated, SpellsDo, repeated_after, SpellsCounted, counted}
+use Rattle.c_parser.specs.inside.Pieces.{SpellsPlain, plain_empty}
 use Rattle.c_parser.specs.inside.Pieces.{plain_declares, plain_simply, plain_breaks}
 use Rattle.c_parser.specs.inside.Pieces.{plain_continues, plain_returns, goes_on}
 use Rattle.c_parser.proofs.Steps.{IsToken}
@@ -608,6 +610,7 @@ StmtOf ts i k t kind.OpenBrace = (all : Statements) × StatedAll ts (i + 1) k al
     × (t ≡ tree.Block all)
 StmtOf ts i k t kind.If = SpellsChoice ts (i + 1) k t
 StmtOf ts i k t kind.While = SpellsWhile ts i (i + 1) k t
+StmtOf ts i k t kind.Do = SpellsDo ts i (i + 1) k t
 StmtOf ts i k t kind.For = SpellsCounted ts i (i + 1) k t
 StmtOf ts i k t _ = SpellsPlain ts i k t
 
@@ -622,6 +625,7 @@ simple_stmt : (ts : List Placed) (i k : ℕ) (t : StmtTree) (s : Kind) → Simpl
 simple_stmt ts i k t kind.OpenBrace b h = absurd b
 simple_stmt ts i k t kind.If b h = absurd b
 simple_stmt ts i k t kind.While b h = absurd b
+simple_stmt ts i k t kind.Do b h = absurd b
 simple_stmt ts i k t kind.For b h = absurd b
 simple_stmt ts i k t _ b h = h
 
@@ -639,6 +643,8 @@ stmt_by {ts} {i} {k} {t} (if_alone is c h not) =
 stmt_by {ts} {i} {k} {t} (if_else is c h e g) =
     subst (StmtOf ts i k t) (sym is) (choice_else c (stated h) e (stated g))
 stmt_by {ts} {i} {k} {t} (repeats is c h) = subst (StmtOf ts i k t) (sym is) (repeated c (stated h))
+stmt_by {ts} {i} {k} {t} (repeats_after is h word c semi) =
+    subst (StmtOf ts i k t) (sym is) (repeated_after (stated h) word c semi)
 stmt_by {ts} {i} {k} {t} (counts is opens f semi c semi' third close h) =
     subst (StmtOf ts i k t) (sym is)
     (counted (for_parts opens f semi c semi' third close) (stated h))
@@ -679,6 +685,14 @@ stated_while ts i n is to_n = record {
       (stmt_is kind.While is d);
 }
 
+pub stated_do : (ts : List Placed) (i n : ℕ) → kind.Do ≡ kind_at ts i
+    → (i < length ts → n ≡ i + 1) → DerivesFrom (Stated ts i) (SpellsDo ts i n)
+stated_do ts i n is to_n = record {
+  on = λ k t d.
+      subst (λ n. SpellsDo ts i n k t) (sym (after ts i n kind.Do (sym is) tt to_n))
+      (stmt_is kind.Do is d);
+}
+
 pub stated_for : (ts : List Placed) (i n : ℕ) → kind.For ≡ kind_at ts i
     → (i < length ts → n ≡ i + 1) → DerivesFrom (Stated ts i) (SpellsCounted ts i n)
 stated_for ts i n is to_n = record {
@@ -688,18 +702,20 @@ stated_for ts i n is to_n = record {
 }
 
 other_stmt : (ts : List Placed) (i k : ℕ) (t : StmtTree) (s : Kind) → s ≢ kind.OpenBrace
-    → s ≢ kind.If → s ≢ kind.While → s ≢ kind.For → StmtOf ts i k t s → SpellsPlain ts i k t
-other_stmt ts i k t kind.OpenBrace a b c d h = absurd (a refl)
-other_stmt ts i k t kind.If a b c d h = absurd (b refl)
-other_stmt ts i k t kind.While a b c d h = absurd (c refl)
-other_stmt ts i k t kind.For a b c d h = absurd (d refl)
-other_stmt ts i k t _ a b c d h = h
+    → s ≢ kind.If → s ≢ kind.While → s ≢ kind.Do → s ≢ kind.For → StmtOf ts i k t s
+    → SpellsPlain ts i k t
+other_stmt ts i k t kind.OpenBrace a b c d e h = absurd (a refl)
+other_stmt ts i k t kind.If a b c d e h = absurd (b refl)
+other_stmt ts i k t kind.While a b c d e h = absurd (c refl)
+other_stmt ts i k t kind.Do a b c d e h = absurd (d refl)
+other_stmt ts i k t kind.For a b c d e h = absurd (e refl)
+other_stmt ts i k t _ a b c d e h = h
 
 pub stated_plain : (ts : List Placed) (i : ℕ) (s : Kind) → s ≡ kind_at ts i → s ≢ kind.OpenBrace
-    → s ≢ kind.If → s ≢ kind.While → s ≢ kind.For
+    → s ≢ kind.If → s ≢ kind.While → s ≢ kind.Do → s ≢ kind.For
     → DerivesFrom (Stated ts i) (SpellsPlain ts i)
-stated_plain ts i s is a b c d =
-    record { on = λ k t h. other_stmt ts i k t s a b c d (stmt_is s is h) }
+stated_plain ts i s is a b c d e =
+    record { on = λ k t h. other_stmt ts i k t s a b c d e (stmt_is s is h) }
 
 -- choices and loops
 pub else_read : (ts : List Placed) (i m j n q : ℕ) (e : ExprTree) (a b x : StmtTree)
@@ -748,6 +764,20 @@ while_read ts w i m j e a x condition first h = record { same = λ k t d. taken 
         let f = condition.same p c d in
         let g = first.same k s (subst (λ p. Stated ts p k s) (sym f.0) one) in
         (g.0, h ∙ ap (λ e. tree.While w e a) f.1 ∙ ap (tree.While w c) g.1)
+
+pub do_read : (ts : List Placed) (w i m n q j : ℕ) (e : ExprTree) (a x : StmtTree)
+    → Fixes (Stated ts i) m a → (m < length ts → n ≡ m + 1) → Fixes (Bracketed ts n) q e
+    → (q < length ts → j ≡ q + 1) → x ≡ tree.Do w a e → Fixes (SpellsDo ts w i) j x
+do_read ts w i m n q j e a x first to_n condition to_j h = record { same = λ k t d. taken d }
+  where
+    taken : {k : ℕ} {t : StmtTree} → SpellsDo ts w i k t → (j ≡ k) × (x ≡ t)
+    taken (repeated_after {m = p} {j = r} {e = c} {s = s} one was d semi) =
+        let g = first.same p s one in
+        let o = after_at ts m p n kind.While g.0 was tt to_n in
+        let f = condition.same r c (subst (λ n. Bracketed ts n r c) (sym o) d) in (
+          after_at ts q r j kind.Semicolon f.0 semi tt to_j,
+          h ∙ ap (λ a. tree.Do w a e) g.1 ∙ ap (tree.Do w s) f.1,
+        )
 
 pub counted_read : (ts : List Placed) (w i m j : ℕ) (p : ForTree) (a x : StmtTree)
     → Fixes (SpellsFor ts i) m p → Fixes (Stated ts m) j a
@@ -847,6 +877,7 @@ pub ruleset statements = (
   stated_block,
   stated_choice,
   stated_while,
+  stated_do,
   stated_for,
   stated_plain,
 )

@@ -11,8 +11,8 @@ use Rattle.c_tree.specs.declared.kind.Kind.{Kind}
 use Rattle.c_tree.specs.declared.kind.Kind.TheVariants as kind
 use Rattle.c_parser.specs.declared.want.Want.{Want}
 use Rattle.c_parser.specs.declared.want.Want.TheVariants.{Operand, FirstArgument, NewOpen, Ident}
-use Rattle.c_parser.specs.declared.want.Want.TheVariants.{Semicolon, Star, Round, Square, Target}
-use Rattle.c_parser.specs.declared.want.Want.TheVariants.{NamedTarget, Called, DotTarget}
+use Rattle.c_parser.specs.declared.want.Want.TheVariants.{Semicolon, Star, WhileWord, Round, Square}
+use Rattle.c_parser.specs.declared.want.Want.TheVariants.{Target, NamedTarget, Called, DotTarget}
 use Rattle.c_parser.specs.declared.want.Want.TheVariants.{OpenExpression, OpenNothing, Initial}
 use Rattle.c_parser.specs.declared.want.Want.TheVariants.{Value, Body, Bare, Else, Block, OpenFor}
 use Rattle.c_parser.specs.declared.want.Want.TheVariants.{ForFirst, ForThird}
@@ -27,8 +27,8 @@ use Rattle.c_tree.specs.StmtSpelling.{bracketed, Acts, assigns, steps, Simply, a
 use Rattle.c_tree.specs.StmtSpelling.{aborts, FirstPart, first_none, first_declares, first_simply}
 use Rattle.c_tree.specs.StmtSpelling.{ValuePart, value_none, value_some, ThirdPart, third_none}
 use Rattle.c_tree.specs.StmtSpelling.{third_some, Spells, empty, declares, simply, block, if_alone}
-use Rattle.c_tree.specs.StmtSpelling.{if_else, repeats, counts, breaks, continues, returns}
-use Rattle.c_tree.specs.StmtSpelling.{SpellsAll, nothing, something}
+use Rattle.c_tree.specs.StmtSpelling.{if_else, repeats, repeats_after, counts, breaks, continues}
+use Rattle.c_tree.specs.StmtSpelling.{returns, SpellsAll, nothing, something}
 use Rattle.c_parser.specs.inside.Wants.{apply_move, parser_step, simple_begins, statement}
 use Rattle.c_parser.specs.inside.Wants.{type_begins}
 use Rattle.c_parser.specs.Open.{OpenParts, open_weight, none_open, one_open}
@@ -402,6 +402,7 @@ Starts kind.Struct = Unit {0}
 Starts kind.OpenBrace = Unit {0}
 Starts kind.If = Unit {0}
 Starts kind.While = Unit {0}
+Starts kind.Do = Unit {0}
 Starts kind.For = Unit {0}
 Starts kind.Break = Unit {0}
 Starts kind.Continue = Unit {0}
@@ -441,6 +442,7 @@ spells_starts (block is all z) = subst Starts (sym is) tt
 spells_starts (if_alone is c s n) = subst Starts (sym is) tt
 spells_starts (if_else is c s e o) = subst Starts (sym is) tt
 spells_starts (repeats is c s) = subst Starts (sym is) tt
+spells_starts (repeats_after is s w c z) = subst Starts (sym is) tt
 spells_starts (counts is o f z c y t r s) = subst Starts (sym is) tt
 spells_starts (breaks is z) = subst Starts (sym is) tt
 spells_starts (continues is z) = subst Starts (sym is) tt
@@ -457,6 +459,7 @@ block_enters loop k kind.Struct h = refl
 block_enters loop k kind.OpenBrace h = refl
 block_enters loop k kind.If h = refl
 block_enters loop k kind.While h = refl
+block_enters loop k kind.Do h = refl
 block_enters loop k kind.For h = refl
 block_enters true k kind.Break h = refl
 block_enters false k kind.Break h = refl
@@ -481,6 +484,7 @@ body_enters loop k kind.Struct h o = refl
 body_enters loop k kind.OpenBrace h o = absurd (o refl)
 body_enters loop k kind.If h o = refl
 body_enters loop k kind.While h o = refl
+body_enters loop k kind.Do h o = refl
 body_enters loop k kind.For h o = refl
 body_enters true k kind.Break h o = refl
 body_enters false k kind.Break h o = refl
@@ -554,6 +558,7 @@ is_braced (block is all z) = is
 is_braced (if_alone is c s n) = λ e. cc
 is_braced (if_else is c s e o) = λ e. cc
 is_braced (repeats is c s) = λ e. cc
+is_braced (repeats_after is s w c z) = λ e. cc
 is_braced (counts is o f z c y t r s) = λ e. cc
 is_braced (breaks is z) = λ e. cc
 is_braced (continues is z) = λ e. cc
@@ -626,6 +631,19 @@ mutual
       ▸ bracketed_runs c around (Body true ∷ below) (omega (arith, same))
       ▸ body_by ts true m j around below (statement_open one) (has_braces one) same (is_braced one)
       (spells_starts one) (λ n s k e h. spells_runs one n s k e h)
+  spells_runs {ts} {loop} {i} (repeats_after {m = m} {j = j} is one word c semi) around s below same
+      enter =
+      let k : List Want = WhileWord ∷ OpenExpression ∷ Semicolon ∷ below in
+      enters ts i around none_open s (Body true ∷ k) (statement_step loop below) kind.Do enter is tt
+      refl (omega (arith, same))
+      ▸ body_by ts true (i + 1) m around k (statement_open one) (has_braces one)
+      (omega (arith, same)) (is_braced one) (spells_starts one)
+      (λ n s k e h. spells_runs one n s k e h)
+      ▸ goes ts m around none_open k (OpenExpression ∷ Semicolon ∷ below) kind.While word tt refl
+      (omega (arith, same))
+      ▸ bracketed_runs c around (Semicolon ∷ below) (omega (arith, same))
+      ▸ goes ts j around none_open (Semicolon ∷ below) below kind.Semicolon semi tt refl
+      (omega (arith, same))
   spells_runs {ts} {loop} {i} {j} (counts {m = m} {n = n} {p = p} is opens f semi c semi2 t close
       one) around s below same enter =
       let k : List Want = Round ∷ Body true ∷ below in

@@ -11,8 +11,8 @@ use Rattle.c_tree.specs.StmtSpelling.{bracketed, Acts, assigns, steps, Simply, a
 use Rattle.c_tree.specs.StmtSpelling.{aborts, FirstPart, first_none, first_declares, first_simply}
 use Rattle.c_tree.specs.StmtSpelling.{ValuePart, value_none, value_some, ThirdPart, third_none}
 use Rattle.c_tree.specs.StmtSpelling.{third_some, Spells, empty, declares, simply, block, if_alone}
-use Rattle.c_tree.specs.StmtSpelling.{if_else, repeats, counts, breaks, continues, returns}
-use Rattle.c_tree.specs.StmtSpelling.{SpellsAll, nothing, something}
+use Rattle.c_tree.specs.StmtSpelling.{if_else, repeats, repeats_after, counts, breaks, continues}
+use Rattle.c_tree.specs.StmtSpelling.{returns, SpellsAll, nothing, something}
 use Rattle.c_parser.specs.Open.{OpenParts, none_open, one_open, in_bracket, in_body}
 use Rattle.c_parser.specs.ExprOpen.{level_open, postfix_open, arguments_open}
 
@@ -85,6 +85,9 @@ abbrev mutual
       ++ (none_open ∷ body_open (has_braces other) (statement_open other))))
   statement_open (repeats is condition body) =
       none_open ∷ (bracketed_open condition ++ body_open (has_braces body) (statement_open body))
+  statement_open (repeats_after is body word condition semicolon) =
+      none_open ∷ (body_open (has_braces body) (statement_open body) ++ (none_open
+      ∷ (bracketed_open condition ++ (none_open ∷ []))))
   statement_open (counts is opens first semicolon condition second third close body) =
       none_open ∷ one_open ∷ (in_bracket (first_open first ++ (none_open
       ∷ (value_open condition ++ (none_open ∷ third_open third)))) ++ (none_open

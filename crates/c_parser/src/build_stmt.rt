@@ -13,7 +13,7 @@ ghost use Rattle.c_tree.specs.StmtSpelling.{ValuePart, ThirdPart};
 ghost use Rattle.c_parser.specs.inside.Fixes.{Fixes, IsFollowed, Over, IsOfKind, ClosesSimple};
 ghost use Rattle.c_parser.specs.inside.Pieces as pieces;
 ghost use Rattle.c_parser.specs.inside.Pieces.{ActsOrCalls, for_of, SpellsFor, Stated, StatedAll};
-ghost use Rattle.c_parser.specs.inside.Pieces.{SpellsChoice, SpellsWhile, SpellsCounted};
+ghost use Rattle.c_parser.specs.inside.Pieces.{SpellsChoice, SpellsWhile, SpellsDo, SpellsCounted};
 ghost use Rattle.c_parser.specs.inside.Pieces.{SpellsPlain};
 
 use crate::build_expr::{expression, postfix};
@@ -187,6 +187,16 @@ fn make_while(place: u64, condition: Expr, body: Box<Stmt>) -> Stmt
     }
 }
 
+fn make_do(place: u64, body: Box<Stmt>, condition: Expr) -> Stmt
+    ensures { stmt_of result ≡ trees.Do place (stmt_of body.value) (expr_of condition) }
+{
+    Stmt::Do {
+        place,
+        body,
+        condition,
+    }
+}
+
 /// The three parts of a `for`.
 #[derive(Drop)]
 struct ForParts {
@@ -357,6 +367,7 @@ pub fn statement(alloc: Global, tokens: &TokenList, at: u64) -> Result<(Stmt, u6
         }
         Kind::If => choice(alloc, tokens, place_after(tokens, at)),
         Kind::While => repeated(alloc, tokens, at, place_after(tokens, at)),
+        Kind::Do => repeated_after(alloc, tokens, at, place_after(tokens, at)),
         Kind::For => counted(alloc, tokens, at, place_after(tokens, at)),
         _ => plain(alloc, tokens, at),
     }
@@ -404,6 +415,24 @@ fn repeated(
     let (condition, place) = bracketed(alloc, tokens, at)?;
     let (body, end) = body(alloc, tokens, place)?;
     Ok((make_while(word, condition, body), end))
+}
+
+/// A loop whose body comes first, from the place after its `do`, which stands at `word`.
+#[cycle(statements)]
+#[tactic(auto, using(crate::proofs::FixesStmt::do_read))]
+fn repeated_after(
+    alloc: Global,
+    tokens: &TokenList,
+    word: u64,
+    at: u64,
+) -> Result<(Stmt, u64), AllocError>
+    ensures stays { IfOk result (λ r. at ≤ r.1) }
+    ensures fixes { IfOk result (λ r. Fixes (SpellsDo tokens.now.tokens word at) r.1
+        (stmt_of r.0)) }
+{
+    let (body, end) = body(alloc, tokens, at)?;
+    let (condition, close) = bracketed(alloc, tokens, place_after(tokens, end))?;
+    Ok((make_do(word, body, condition), place_after(tokens, close)))
 }
 
 /// A loop with three parts, from the place after its `for`, which stands at `word`.

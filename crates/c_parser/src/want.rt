@@ -38,6 +38,8 @@ pub enum Want {
     StructWord,
     Star,
     RootWord,
+    /// The `while` after a body.
+    WhileWord,
     /// The `)` of an open bracket.
     Round,
     /// The `]` of an open bracket.
@@ -58,7 +60,7 @@ pub enum Want {
     Initial,
     /// An optional expression.
     Value,
-    /// The statement of an `if`, `else`, `while` or `for`.
+    /// The statement of an `if`, `else`, `while`, `do` or `for`.
     Body(bool),
     /// The end of a body without braces. No token marks it.
     Bare,
@@ -368,6 +370,12 @@ impl Wants {
                 Want::Else(in_loop),
             ]),
             Kind::While => self.take(&[Want::OpenExpression, Want::Body(true)]),
+            Kind::Do => self.take(&[
+                Want::Body(true),
+                Want::WhileWord,
+                Want::OpenExpression,
+                Want::Semicolon,
+            ]),
             Kind::For => self.take(&[Want::OpenFor, Want::Body(true)]),
             Kind::Break | Kind::Continue => self.leaves(in_loop),
             Kind::Return => self.take(&[Want::Value, Want::Semicolon]),
@@ -609,6 +617,7 @@ impl Wants {
             Want::StructWord => self.only(kind == Kind::Struct, &[]),
             Want::Star => self.only(kind == Kind::Operator(BinaryOp::Mul), &[]),
             Want::RootWord => self.only(kind == Kind::Root, &[]),
+            Want::WhileWord => self.only(kind == Kind::While, &[]),
             Want::Round => self.only(kind == Kind::CloseRound, &[]),
             Want::Square => self.only(kind == Kind::CloseSquare, &[]),
             Want::Target(n) => self.target(n, kind),

@@ -67,6 +67,12 @@ pub data SpellsWhile (ts : List Placed) (word : ℕ) : ℕ → ℕ → StmtTree 
   repeated : {i m j : ℕ} {e : ExprTree} {s : StmtTree} → Bracketed ts i m e → Stated ts m j s
       → SpellsWhile ts word i j (tree.While word e s)
 
+-- from the place after a `do`, whose own place is that of the word
+pub data SpellsDo (ts : List Placed) (word : ℕ) : ℕ → ℕ → StmtTree → Type 0 where
+  repeated_after : {i m j : ℕ} {e : ExprTree} {s : StmtTree}
+      → Stated ts i m s → kind_at ts m ≡ kind.While → Bracketed ts (m + 1) j e
+      → kind_at ts j ≡ kind.Semicolon → SpellsDo ts word i (j + 1) (tree.Do word s e)
+
 -- from the place after a `for`, whose own place is that of the word
 pub data SpellsCounted (ts : List Placed) (word : ℕ) : ℕ → ℕ → StmtTree → Type 0 where
   counted : {i m j : ℕ} {p : ForTree} {s : StmtTree}

@@ -12,13 +12,13 @@ use Rattle.c_parser.specs.declared.want.Want.{Want}
 use Rattle.c_parser.specs.declared.want.Want.TheVariants.{Operand, Rest, Named, Dot, FirstArgument}
 use Rattle.c_parser.specs.declared.want.Want.TheVariants.{MoreArguments, NewOpen, Ident, Digits}
 use Rattle.c_parser.specs.declared.want.Want.TheVariants.{Semicolon, StructWord, Star, RootWord}
-use Rattle.c_parser.specs.declared.want.Want.TheVariants.{Round, Square, Target, NamedTarget}
-use Rattle.c_parser.specs.declared.want.Want.TheVariants.{Called, DotTarget, OpenExpression}
-use Rattle.c_parser.specs.declared.want.Want.TheVariants.{OpenNothing, Initial, Value, Body, Bare}
-use Rattle.c_parser.specs.declared.want.Want.TheVariants.{Else, Block, OpenFor, ForFirst, ForThird}
-use Rattle.c_parser.specs.declared.want.Want.TheVariants.{TypeName, Fields, Length, Result}
-use Rattle.c_parser.specs.declared.want.Want.TheVariants.{TxResult, OpenParameters, Parameters}
-use Rattle.c_parser.specs.declared.want.Want.TheVariants.{MoreParameters, OpenBody}
+use Rattle.c_parser.specs.declared.want.Want.TheVariants.{WhileWord, Round, Square, Target}
+use Rattle.c_parser.specs.declared.want.Want.TheVariants.{NamedTarget, Called, DotTarget}
+use Rattle.c_parser.specs.declared.want.Want.TheVariants.{OpenExpression, OpenNothing, Initial}
+use Rattle.c_parser.specs.declared.want.Want.TheVariants.{Value, Body, Bare, Else, Block, OpenFor}
+use Rattle.c_parser.specs.declared.want.Want.TheVariants.{ForFirst, ForThird, TypeName, Fields}
+use Rattle.c_parser.specs.declared.want.Want.TheVariants.{Length, Result, TxResult, OpenParameters}
+use Rattle.c_parser.specs.declared.want.Want.TheVariants.{Parameters, MoreParameters, OpenBody}
 use Rattle.c_parser.specs.declared.want.Want.TheVariants.{StructOrFunction, Items}
 use Rattle.c_parser.specs.declared.want.Taken.{Taken}
 use Rattle.c_parser.specs.declared.want.Taken.TheVariants as taken
@@ -103,6 +103,10 @@ abbrev pub root_word : Kind → WantMove
 root_word kind.Root = Take []
 root_word _ = Refuse
 
+abbrev pub while_word : Kind → WantMove
+while_word kind.While = Take []
+while_word _ = Refuse
+
 abbrev pub round_move : Kind → WantMove
 round_move kind.CloseRound = Take []
 round_move _ = Refuse
@@ -170,6 +174,7 @@ statement loop kind.Struct = Take (Ident ∷ Star ∷ Ident ∷ Initial ∷ Semi
 statement loop kind.OpenBrace = Take (Block loop ∷ [])
 statement loop kind.If = Take (OpenExpression ∷ Body loop ∷ Else loop ∷ [])
 statement loop kind.While = Take (OpenExpression ∷ Body true ∷ [])
+statement loop kind.Do = Take (Body true ∷ WhileWord ∷ OpenExpression ∷ Semicolon ∷ [])
 statement loop kind.For = Take (OpenFor ∷ Body true ∷ [])
 statement loop kind.Break = leaves loop
 statement loop kind.Continue = leaves loop
@@ -265,6 +270,7 @@ move Semicolon k = semicolon k
 move StructWord k = struct_word k
 move Star k = star k
 move RootWord k = root_word k
+move WhileWord k = while_word k
 move Round k = round_move k
 move Square k = square k
 move (Target n) k = target_move n k

@@ -1,5 +1,5 @@
 use Rattle.std.proofs.Common.{sym, ◌∙◌}
-use Rattle.c_parser.proofs.FixesStmt.{led_stmt, stated_choice, stated_while, stated_for}
+use Rattle.c_parser.proofs.FixesStmt.{led_stmt, stated_choice, stated_while, stated_do, stated_for}
 use Rattle.c_parser.proofs.FixesStmt.{stated_plain, block_end}
 use Rattle.c_parser.proofs.build_stmt.+statements.Goals as goal
 
@@ -18,6 +18,11 @@ statement-returns-in-While-clause-fixes t c =
     led_stmt _ _ _ c.repeated.ensures.fixes
     (stated_while _ _ _ c.in-While.ensures.value c.place_after-in-While.ensures.moves)
 
+pub statement-returns-in-Do-clause-fixes : goal.statement-returns-in-Do-clause-fixes
+statement-returns-in-Do-clause-fixes t c =
+    led_stmt _ _ _ c.repeated_after.ensures.fixes
+    (stated_do _ _ _ c.in-Do.ensures.value c.place_after-in-Do.ensures.moves)
+
 pub statement-returns-in-For-clause-fixes : goal.statement-returns-in-For-clause-fixes
 statement-returns-in-For-clause-fixes t c =
     led_stmt _ _ _ c.counted.ensures.fixes
@@ -29,6 +34,6 @@ statement-returns-in_default t c = record {
   fixes =
       led_stmt _ _ _ c.plain.ensures.fixes
       (stated_plain _ _ _ c.kind_at.ensures.value c.in_default.not-OpenBrace c.in_default.not-If
-      c.in_default.not-While c.in_default.not-For);
+      c.in_default.not-While c.in_default.not-Do c.in_default.not-For);
   moves = c.plain.ensures.moves;
 }

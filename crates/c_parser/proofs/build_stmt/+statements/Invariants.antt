@@ -17,6 +17,9 @@ decreases-choice l = 4 * (length l.tokens.now.tokens + 2 - l.at) + 2
 abbrev pub decreases-repeated : goal.decreases-repeated
 decreases-repeated l = 4 * (length l.tokens.now.tokens + 2 - l.at) + 2
 
+abbrev pub decreases-repeated_after : goal.decreases-repeated_after
+decreases-repeated_after l = 4 * (length l.tokens.now.tokens + 2 - l.at) + 2
+
 abbrev pub decreases-counted : goal.decreases-counted
 decreases-counted l = 4 * (length l.tokens.now.tokens + 2 - l.at) + 2
 
