@@ -281,9 +281,7 @@ const OPERATORS: [&str; 18] = [
 ];
 
 /// The marks of assignments that update their target.
-const UPDATES: [&str; 10] = [
-    "*=", "/=", "%=", "+=", "-=", "<<=", ">>=", "&=", "^=", "|=",
-];
+const UPDATES: [&str; 10] = ["*=", "/=", "%=", "+=", "-=", "<<=", ">>=", "&=", "^=", "|="];
 
 fn by_assign(near: &Spelled<'_>) -> Option<&'static str> {
     if is_one(near.before(1), &["int64_t", "*"]) {

@@ -68,7 +68,10 @@ fn missing(
         return some_text(alloc, "a `)` is missing here");
     }
     if able.contains(&"while") && !able.contains(&"for") {
-        return some_text(alloc, "the body of a `do` ends here: `while (x);` follows it");
+        return some_text(
+            alloc,
+            "the body of a `do` ends here: `while (x);` follows it",
+        );
     }
     let in_expression = able.contains(&"pm_new") && !able.contains(&"for");
     match left_out(alloc, near, in_expression)? {
