@@ -1,6 +1,6 @@
 -- What definitions see of a token, its place, and the refusals at a place.
-use Rattle.std.specs.Prelude.{ℕ, ℤ, pos, ◌+◌, List, [], length, Option, Some, None, slice_get, nat_lt}
-use Rattle.std.specs.Prelude.{if◌then◌else◌}
+use Rattle.std.specs.Prelude.{ℕ, ℤ, pos, ◌+◌, List, [], length, Option, Some, None, slice_get}
+use Rattle.std.specs.Prelude.{nat_lt, if◌then◌else◌}
 use Rattle.c_lexer.specs.TokenList.{Tokens, line_at, start_at}
 use Rattle.c_lexer.specs.declared.token.Mark.{Mark}
 use Rattle.c_lexer.specs.declared.token.Mark.TheVariants as mark

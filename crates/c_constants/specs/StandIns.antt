@@ -1,7 +1,7 @@
 -- The tokens that stand for a token outside of definitions: for a constant's name those of its
 -- value, with the name's place, and for any other token itself.
-use Rattle.std.specs.Prelude.{ℕ, ℤ, pos, negsuc, suc, ◌-◌, ◌^◌, ◌==◌, List, [], ◌∷◌, ◌++◌, length, map}
-use Rattle.std.specs.Prelude.{Option, Some, None, Result, Ok, Err, nat_lt, if◌then◌else◌}
+use Rattle.std.specs.Prelude.{ℕ, ℤ, pos, negsuc, suc, ◌-◌, ◌^◌, ◌==◌, List, [], ◌∷◌, ◌++◌, length}
+use Rattle.std.specs.Prelude.{map, Option, Some, None, Result, Ok, Err, nat_lt, if◌then◌else◌}
 use Rattle.c_lexer.specs.TokenList.{Tokens}
 use Rattle.c_lexer.specs.declared.scan.TheConstants.{MOST_TOKENS}
 use Rattle.c_lexer.specs.declared.token.Mark.{Mark}

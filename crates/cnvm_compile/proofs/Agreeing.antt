@@ -43,7 +43,7 @@ module _ (text : List ℕ) (marks : MarkTable) (program : Program) where
       let most : words_of (shapes_of program.typed).root ≤ 512 =
       (checked.shapes program.typed accepted.1).root in
       compiled text tree.0 program (record {
-        cut = tree.1;
+        left = tree.1;
         spelled = tree.2.spelled;
         lines = tree.2.lines;
         checked = accepted.1;

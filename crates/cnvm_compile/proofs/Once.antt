@@ -7,6 +7,9 @@ use Rattle.c_lexer.specs.Cuts.{answer}
 use Rattle.c_lexer.specs.TokenList.{Tokens, line_at}
 use Rattle.c_lexer.specs.declared.fault.LexFault.{LexFault}
 use Rattle.c_lexer.specs.declared.token.Placed.{Placed}
+use Rattle.c_constants.specs.declared.fault.ConstFault.{ConstFault}
+use Rattle.c_constants.specs.Left.{Leaves}
+use Rattle.c_constants.specs.Passes as passes
 use Rattle.c_parser.specs.declared.fault.ParseFault.{ParseFault}
 use Rattle.c_parser.specs.declared.fault.ParseFault.TheVariants as parse
 use Rattle.c_parser.specs.declared.want.Want.{Want}
@@ -22,8 +25,8 @@ use Rattle.c_types.specs.declared.fault.TypeFault.{TypeFault}
 use Rattle.c_types.specs.Broken.{least_broken}
 use Rattle.c_types.specs.Fault.{fault_of, breaks, refusal}
 use Rattle.cnvm_compile.specs.declared.front_end.ProgramFault.{ProgramFault}
-use Rattle.cnvm_compile.specs.declared.front_end.ProgramFault.TheVariants.{Lex, Parse, Types}
-use Rattle.cnvm_compile.specs.declared.front_end.ProgramFault.TheVariants.{NoMemory}
+use Rattle.cnvm_compile.specs.declared.front_end.ProgramFault.TheVariants.{Lex, Constants}
+use Rattle.cnvm_compile.specs.declared.front_end.ProgramFault.TheVariants.{Parse, Types, NoMemory}
 use Rattle.cnvm_compile.specs.FrontEnd.{IsTree, HasTree, AcceptsText, RefusesToken, RefusesText}
 use Rattle.cnvm_compile.specs.OneAnswer.{IsSame, IsOfTree, OneAnswer}
 use Rattle.cnvm_compile.proofs.Refusing.{weighed_within}
@@ -126,19 +129,17 @@ none_refused list tree (parse.TooDeep t) line is a =
     (weighed_within list.tokens t some.5 here)
 none_refused list tree parse.NoMemory line is a = a
 
--- a text has one list of tokens, or one refusal of the lexer
-abbrev Lexed : Type 0
-Lexed = Result Tokens LexFault
-
-same_list : (one two : Tokens) → (let a : Lexed = Ok one in let b : Lexed = Ok two in a ≡ b)
-    → one ≡ two
+-- the lexer and the constants each give one list of tokens, or one refusal
+same_list : {F : Type 0} (one two : Tokens) → (let a : Result Tokens F = Ok one in
+    let b : Result Tokens F = Ok two in a ≡ b) → one ≡ two
 same_list one two is = cc
 
-same_fault : (f g : LexFault) → (let a : Lexed = Err f in let b : Lexed = Err g in a ≡ b) → f ≡ g
+same_fault : {F : Type 0} (f g : F) → (let a : Result Tokens F = Err f in
+    let b : Result Tokens F = Err g in a ≡ b) → f ≡ g
 same_fault f g is = cc
 
-apart : (f : LexFault) (list : Tokens) → (let a : Lexed = Err f in let b : Lexed = Ok list in
-    a ≡ b) → ⊥
+apart : {F : Type 0} (f : F) (list : Tokens) → (let a : Result Tokens F = Err f in
+    let b : Result Tokens F = Ok list in a ≡ b) → ⊥
 apart f list is = cc
 
 -- a tree has at most one refusal
@@ -150,20 +151,39 @@ no_rule : (f : TypeFault) → (let a : Option TypeFault = None in let b : Option
     a ≡ b) → ⊥
 no_rule f is = cc
 
-pub lists_same : (text : List ℕ) (one two : Tokens) → answer text ≡ Ok one → answer text ≡ Ok two
+-- a text has one list of tokens, and its constants leave one list
+pub lists_same : (text : List ℕ) (one two : Tokens) → Leaves text one → Leaves text two
     → one ≡ two
-lists_same text one two a b = same_list one two (sym a ∙ b)
+lists_same text one two a b =
+    let all : a.all ≡ b.all = same_list a.all b.all (sym a.cut ∙ b.cut) in
+    same_list one two (sym a.left ∙ (ap passes.answer all ∙ b.left))
 
 not_lexed : (text : List ℕ) (fault : LexFault) (list : Tokens) → answer text ≡ Err fault
     → answer text ≡ Ok list → ⊥
 not_lexed text fault list a b = apart fault list (sym a ∙ b)
 
+not_left : (text : List ℕ) (fault : ConstFault) (all list : Tokens) → answer text ≡ Ok all
+    → passes.answer all ≡ Err fault → Leaves text list → ⊥
+not_left text fault all list cut told is =
+    let same : all ≡ is.all = same_list all is.all (sym cut ∙ is.cut) in
+    apart fault list (sym told ∙ (ap passes.answer same ∙ is.left))
+
 refused_same : (text : List ℕ) (f g : ProgramFault) → RefusesText text f → RefusesText text g
     → IsSame f g
 refused_same text (Lex f) (Lex g) a b = ap Lex (same_fault f g (sym a.0 ∙ b.0))
-refused_same text (Lex f) (Parse g n) a b = absurd (not_lexed text f b.0 a.0 b.1)
-refused_same text (Lex f) (Types g) a b = absurd (not_lexed text f b.has.0 a.0 b.has.1)
-refused_same text (Parse f m) (Lex g) a b = absurd (not_lexed text g a.0 b.0 a.1)
+refused_same text (Lex f) (Constants g) a b = absurd (not_lexed text f b.0 a.0 b.1)
+refused_same text (Lex f) (Parse g n) a b = absurd (not_lexed text f b.1.all a.0 b.1.cut)
+refused_same text (Lex f) (Types g) a b =
+    absurd (not_lexed text f b.has.1.all a.0 b.has.1.cut)
+refused_same text (Constants f) (Lex g) a b = absurd (not_lexed text g a.0 b.0 a.1)
+refused_same text (Constants f) (Constants g) a b =
+    let same : a.0 ≡ b.0 = same_list a.0 b.0 (sym a.1 ∙ b.1) in
+    ap Constants (same_fault f g (sym a.2 ∙ (ap passes.answer same ∙ b.2)))
+refused_same text (Constants f) (Parse g n) a b = absurd (not_left text f a.0 b.0 a.1 a.2 b.1)
+refused_same text (Constants f) (Types g) a b =
+    absurd (not_left text f a.0 b.has.0 a.1 a.2 b.has.1)
+refused_same text (Parse f m) (Lex g) a b = absurd (not_lexed text g a.1.all b.0 a.1.cut)
+refused_same text (Parse f m) (Constants g) a b = absurd (not_left text g b.0 a.0 b.1 b.2 a.1)
 refused_same text (Parse f m) (Parse g n) a b =
     let list : b.0 ≡ a.0 = lists_same text b.0 a.0 b.1 a.1 in
     let p = one_token a.0 f g m n a.2 (subst (λ (l : Tokens). RefusesToken l g n) list b.2) in
@@ -172,7 +192,10 @@ refused_same text (Parse f m) (Types g) a b =
     absurd (none_refused a.0 b.tree f m
     (subst (λ (l : Tokens). IsTree l b.tree) (lists_same text b.has.0 a.0 b.has.1 a.1) b.has.2)
     a.2)
-refused_same text (Types f) (Lex g) a b = absurd (not_lexed text g a.has.0 b.0 a.has.1)
+refused_same text (Types f) (Lex g) a b =
+    absurd (not_lexed text g a.has.1.all b.0 a.has.1.cut)
+refused_same text (Types f) (Constants g) a b =
+    absurd (not_left text g b.0 a.has.0 b.1 b.2 a.has.1)
 refused_same text (Types f) (Parse g n) a b =
     absurd (none_refused b.0 a.tree g n
     (subst (λ (l : Tokens). IsTree l a.tree) (lists_same text a.has.0 b.0 a.has.1 b.1) a.has.2)
@@ -180,13 +203,15 @@ refused_same text (Types f) (Parse g n) a b =
 refused_same text (Types f) (Types g) a b =
     ap Types (same_rule f g (sym (a.each a.tree a.has) ∙ b.each a.tree a.has))
 refused_same text (Lex f) NoMemory a b = tt
+refused_same text (Constants f) NoMemory a b = tt
 refused_same text (Parse f m) NoMemory a b = tt
 refused_same text (Types f) NoMemory a b = tt
 refused_same text NoMemory g a b = tt
 
 tree_refused : (text : List ℕ) (tree : Program) (f : ProgramFault) → HasTree text tree
     → RefusesText text f → IsOfTree f
-tree_refused text tree (Lex f) has a = absurd (not_lexed text f has.0 a.0 has.1)
+tree_refused text tree (Lex f) has a = absurd (not_lexed text f has.1.all a.0 has.1.cut)
+tree_refused text tree (Constants f) has a = absurd (not_left text f a.0 has.0 a.1 a.2 has.1)
 tree_refused text tree (Parse f m) has a =
     none_refused a.0 tree f m (subst (λ (l : Tokens). IsTree l tree)
     (lists_same text has.0 a.0 has.1 a.1) has.2) a.2
@@ -200,6 +225,8 @@ kept_told tree kept = ap (λ (bs : List Broken).
 kept_refused : (text : List ℕ) (tree : Program) (f : ProgramFault) → AcceptsText text tree
     → RefusesText text f → f ≡ NoMemory
 kept_refused text tree (Lex f) kept a = absurd (tree_refused text tree (Lex f) kept.0 a)
+kept_refused text tree (Constants f) kept a =
+    absurd (tree_refused text tree (Constants f) kept.0 a)
 kept_refused text tree (Parse f m) kept a = absurd (tree_refused text tree (Parse f m) kept.0 a)
 kept_refused text tree (Types f) kept a =
     absurd (no_rule f (sym (kept_told tree kept.1) ∙ a.each tree kept.0))

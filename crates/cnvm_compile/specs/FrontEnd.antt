@@ -1,8 +1,12 @@
--- What the front end makes of a program's text: its tokens, their tree, and the typing rules that
--- the tree breaks; or the refusal of the first of these stages that refuses.
+-- What the front end makes of a program's text: its tokens, those that its constants leave, their
+-- tree, and the typing rules that the tree breaks; or the refusal of the first of these stages that
+-- refuses.
 use Rattle.std.specs.Prelude.{ℕ, ◌+◌, List, [], ◌≡◌, ◌≢◌, map, length, Some, Ok, Err, ⊤}
 use Rattle.c_lexer.specs.declared.fault.LexFault.TheVariants as lex
 use Rattle.c_lexer.specs.Cuts.{answer}
+use Rattle.c_constants.specs.declared.fault.ConstFault.TheVariants as constants
+use Rattle.c_constants.specs.Left.{Leaves}
+use Rattle.c_constants.specs.Passes as passes
 use Rattle.c_lexer.specs.TokenList.{Tokens, line_at}
 use Rattle.c_parser.specs.declared.fault.ParseFault.{ParseFault}
 use Rattle.c_parser.specs.declared.fault.ParseFault.TheVariants as parse
@@ -13,8 +17,8 @@ use Rattle.c_parser.specs.Weight.{spelled_weights}
 use Rattle.c_types.specs.declared.fault.TypeFault.{TypeFault}
 use Rattle.c_types.specs.Fault.{breaks, refusal}
 use Rattle.cnvm_compile.specs.declared.front_end.ProgramFault.{ProgramFault}
-use Rattle.cnvm_compile.specs.declared.front_end.ProgramFault.TheVariants.{Lex, Parse, Types}
-use Rattle.cnvm_compile.specs.declared.front_end.ProgramFault.TheVariants.{NoMemory}
+use Rattle.cnvm_compile.specs.declared.front_end.ProgramFault.TheVariants.{Lex, Constants}
+use Rattle.cnvm_compile.specs.declared.front_end.ProgramFault.TheVariants.{Parse, Types, NoMemory}
 
 -- The tree of a list of tokens: the tokens spell it, none of them is too heavy, and it has their
 -- lines.
@@ -25,7 +29,7 @@ pub record IsTree (list : Tokens) (tree : Program) : Type 0 where
   pub last : tree.last ≡ list.last
 
 abbrev pub HasTree : List ℕ → Program → Type 0
-HasTree text tree = (list : Tokens) × (answer text ≡ Ok list) × IsTree list tree
+HasTree text tree = (list : Tokens) × Leaves text list × IsTree list tree
 
 -- the text has this tree, and it breaks no rule
 abbrev pub AcceptsText : List ℕ → Program → Type 0
@@ -46,7 +50,9 @@ RefusesToken list parse.NoMemory line = ⊥
 
 abbrev pub RefusesText : List ℕ → ProgramFault → Type 0
 RefusesText text (Lex fault) = (answer text ≡ Err fault) × (fault ≢ lex.NoMemory)
-RefusesText text (Parse fault line) = (list : Tokens) × (answer text ≡ Ok list)
+RefusesText text (Constants fault) = (list : Tokens) × (answer text ≡ Ok list)
+    × (passes.answer list ≡ Err fault) × (fault ≢ constants.NoMemory)
+RefusesText text (Parse fault line) = (list : Tokens) × Leaves text list
     × RefusesToken list fault line
 RefusesText text (Types fault) = RefusesTrees text fault
 RefusesText text NoMemory = ⊤

@@ -1,13 +1,17 @@
-//! The front end: from a program's text to its tokens, to their tree, and to a tree that breaks no
-//! typing rule.
+//! The front end: from a program's text to its tokens, to those that its constants leave, to their
+//! tree, and to a tree that breaks no typing rule.
 
 ghost use Rattle.std.specs.Prelude.{◌≡◌, ◌≤◌, [], Ok, IfOk, IfErr, length};
 ghost use Rattle.c_lexer.specs.Cuts.{answer};
 ghost use Rattle.c_lexer.specs.TokenList.{line_at};
+ghost use Rattle.c_constants.specs.Left.{Leaves};
+ghost use Rattle.c_constants.specs.Passes as passes;
 ghost use Rattle.c_types.specs.Fault.{breaks};
 ghost use Rattle.cnvm_compile.specs.FrontEnd.{IsTree, AcceptsText, RefusesText};
-ghost use Rattle.cnvm_compile.specs.inside.FrontEnd.{IsOnlyTree, RefusesList, RefusesTree};
+ghost use Rattle.cnvm_compile.specs.inside.FrontEnd.{IsOnlyTree, RefusesConstants};
+ghost use Rattle.cnvm_compile.specs.inside.FrontEnd.{RefusesList, RefusesTree};
 
+use c_constants::{ConstFault, constants};
 use c_lexer::{LexFault, TokenList, tokens};
 use c_parser::{ParseFault, parse};
 use c_tree::Ast;
@@ -20,7 +24,9 @@ use std::alloc::Global;
 pub enum ProgramFault {
     /// It has no tokens.
     Lex(LexFault),
-    /// Its tokens have no tree. The number is the line of the refused token.
+    /// Its constants have no values.
+    Constants(ConstFault),
+    /// The tokens that its constants leave have no tree. The number is the line of the refused token.
     Parse(ParseFault, u64),
     /// Its tree breaks a typing rule.
     Types(TypeFault),
@@ -28,7 +34,7 @@ pub enum ProgramFault {
 }
 
 /// The checked tree of a text.
-#[tactic(auto, using(crate::proofs::Trees::text_refused))]
+#[tactic(auto, using(crate::proofs::Trees::refused))]
 pub(crate) fn typed_of(alloc: Global, text: &[u8]) -> Result<Typed, ProgramFault>
     ensures accepted { IfOk result (λ typed. AcceptsText text.now typed) }
     ensures refused { IfErr result (λ fault. RefusesText text.now fault) }
@@ -39,15 +45,37 @@ pub(crate) fn typed_of(alloc: Global, text: &[u8]) -> Result<Typed, ProgramFault
     Ok(typed)
 }
 
-/// The tokens of a text.
+/// The tokens that the constants of a text leave.
+#[tactic(auto, using(crate::proofs::Trees::listed))]
 fn list_of(alloc: Global, text: &[u8]) -> Result<TokenList, ProgramFault>
-    ensures ok { IfOk result (λ list. answer text.now ≡ Ok list) }
+    ensures ok { IfOk result (λ list. Leaves text.now list) }
+    ensures err { IfErr result (λ fault. RefusesText text.now fault) }
+{
+    let all = tokens_of(alloc, text)?;
+    left_of(alloc, &all)
+}
+
+/// The tokens of a text.
+fn tokens_of(alloc: Global, text: &[u8]) -> Result<TokenList, ProgramFault>
+    ensures ok { IfOk result (λ all. answer text.now ≡ Ok all) }
     ensures err { IfErr result (λ fault. RefusesText text.now fault) }
 {
     match tokens(alloc, text) {
         Ok(list) => Ok(list),
         Err(LexFault::NoMemory) => Err(ProgramFault::NoMemory),
         Err(fault) => Err(ProgramFault::Lex(fault)),
+    }
+}
+
+/// The tokens that the constants of a list leave.
+fn left_of(alloc: Global, all: &TokenList) -> Result<TokenList, ProgramFault>
+    ensures ok { IfOk result (λ list. passes.answer all.now ≡ Ok list) }
+    ensures err { IfErr result (λ fault. RefusesConstants all.now fault) }
+{
+    match constants(alloc, all) {
+        Ok(list) => Ok(list),
+        Err(ConstFault::NoMemory) => Err(ProgramFault::NoMemory),
+        Err(fault) => Err(ProgramFault::Constants(fault)),
     }
 }
 

@@ -1,10 +1,12 @@
 //! What is reported of a program that is refused.
 
 ghost use Rattle.std.specs.Prelude.{◌≡◌};
-ghost use Rattle.cnvm_compile.specs.Told.{by_lexer, by_parser, by_types, told_of};
+ghost use Rattle.cnvm_compile.specs.Told.{by_lexer, by_constants, by_parser, by_types};
+ghost use Rattle.cnvm_compile.specs.Told.{told_of};
 
 use crate::complaint::Complaint;
 use crate::front_end::ProgramFault;
+use c_constants::ConstFault;
 use c_lexer::LexFault;
 use c_parser::ParseFault;
 use c_types::TypeFault;
@@ -25,6 +27,7 @@ pub fn told_of(fault: ProgramFault) -> Told
 {
     match fault {
         ProgramFault::Lex(fault) => by_lexer(fault),
+        ProgramFault::Constants(fault) => by_constants(fault),
         ProgramFault::Parse(fault, line) => by_parser(fault, line),
         ProgramFault::Types(fault) => by_types(fault),
         ProgramFault::NoMemory => Told::NoMemory,
@@ -40,6 +43,20 @@ fn by_lexer(fault: LexFault) -> Told
         LexFault::OpenComment { line, .. } => Told::At(line, Complaint::OpenComment),
         LexFault::TooLong => Told::Long,
         LexFault::NoMemory => Told::NoMemory,
+    }
+}
+
+fn by_constants(fault: ConstFault) -> Told
+    ensures { result ≡ by_constants fault }
+{
+    match fault {
+        ConstFault::Syntax { line, .. } => Told::At(line, Complaint::Syntax),
+        ConstFault::TooDeep { line, .. } => Told::At(line, Complaint::TooDeep),
+        ConstFault::Twice { line, .. } => Told::At(line, Complaint::Twice),
+        ConstFault::UnknownName { line, .. } => Told::At(line, Complaint::UnknownName),
+        ConstFault::BadNumber { line, .. } => Told::At(line, Complaint::BadNumber),
+        ConstFault::TooLong => Told::Long,
+        ConstFault::NoMemory => Told::NoMemory,
     }
 }
 

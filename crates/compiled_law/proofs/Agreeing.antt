@@ -41,6 +41,7 @@ use Rattle.code_meaning.specs.Constants.{HasWordConstants}
 use Rattle.code_meaning.specs.Whole.{whole}
 use Rattle.tree_law.proofs.sizes.ProgramShort.{allowed}
 use Rattle.tree_law.proofs.checked.Laws.{shapes, calls, limits, constants, logs}
+use Rattle.tree_law.proofs.checked.Tokens.{left_few}
 use Rattle.clobber_pass.specs.declared.marking.MarkTable.{MarkTable}
 use Rattle.clobber_pass.specs.Logged as table
 use Rattle.instrument.specs.Insert.{flagged, led, logged_function, logged_program}
@@ -90,7 +91,7 @@ use Rattle.compiled_law.proofs.Exact.{are_logged}
 use Rattle.compiled_law.proofs.Firsts.{are_firsts}
 use Rattle.compiled_law.proofs.Marked.{all_stores}
 use Rattle.compiled_law.proofs.Entering.{code_of, parameters_same, entries_same, entry_is}
-use Rattle.compiled_law.proofs.Numbers.{few_tokens, all_below, logged_long}
+use Rattle.compiled_law.proofs.Numbers.{all_below, logged_long}
 use Rattle.compiled_law.proofs.Numbers.{is_pool, enough_steps}
 use Rattle.compiled_law.proofs.Room.{has_room_for}
 use Rattle.compiled_law.proofs.Sounding.{compiled_run}
@@ -192,7 +193,7 @@ module _ (text : List ℕ) (list : Tokens) (program : Program)
   few =
       let same : length tree.lines ≡ length list.tokens = ap (λ (ls : List ℕ). length ls) c.lines
       ∙ length-map list.tokens (λ placed. placed.line) in
-      omega (arith, same, few_tokens text list c.cut)
+      omega (arith, same, left_few text list c.left)
 
   short : IsShort plain
   short = all_below (2 ^ 30) plain.functions (omega (arith, long, few))
@@ -266,7 +267,7 @@ module _ (text : List ℕ) (list : Tokens) (program : Program)
       no_log to g args x e = cc
 
   constants_plain : HasWordConstants plain.functions
-  constants_plain = constants text list tree c.cut c.spelled
+  constants_plain = constants text list tree c.left c.spelled
 
   constants_logged : HasWordConstants L.functions
   constants_logged f p to v e =

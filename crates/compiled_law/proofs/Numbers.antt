@@ -1,16 +1,9 @@
--- The numbers of a compiled program: its tokens, the length of its code, and the bound on steps.
-use Rattle.std.proofs.Common.{◌≡◌, ℕ, ◌+◌, ◌*◌, ◌<◌, ◌≤◌, Bool, true, false, List}
-use Rattle.std.proofs.Common.{[], ◌∷◌, length, refl, sym, ap, arith}
-use Rattle.std.specs.Prelude.{nat_lt, if◌then◌else◌, Result, Ok, Err}
+-- The numbers of a compiled program: the length of its code, and the bound on steps.
+use Rattle.std.proofs.Common.{◌≡◌, ℕ, ◌+◌, ◌*◌, ◌<◌, ◌≤◌, List, []}
+use Rattle.std.proofs.Common.{◌∷◌, length, arith}
 use Rattle.std.specs.List.{AllByRecursion}
-use Rattle.std.proofs.lemmas.Bool.{ltb-false}
 use Rattle.std.proofs.lemmas.Nat.{mul-le}
 use Rattle.pool_layout.specs.declared.limits.Sizes.{Sizes}
-use Rattle.c_lexer.specs.declared.fault.LexFault.{LexFault}
-use Rattle.c_lexer.specs.declared.fault.LexFault.TheVariants.{TooLong}
-use Rattle.c_lexer.specs.declared.token.Placed.{Placed}
-use Rattle.c_lexer.specs.Cuts.{TextEnd, Cut, cut, lex_answer, limited, answer}
-use Rattle.c_lexer.specs.TokenList.{Tokens}
 use Rattle.ir.specs.declared.instruction.Instruction.{Instruction}
 use Rattle.ir.specs.declared.function.IrFunction.{IrFunction}
 use Rattle.clobber_pass.specs.declared.marking.MarkTable.{MarkTable}
@@ -19,35 +12,6 @@ use Rattle.instrument.proofs.LoggedCode.{logged_length}
 use Rattle.pm_alloc.specs.Search.{IsPool}
 use Rattle.codegen.specs.Emit.{most_steps}
 use Rattle.code_meaning.specs.Whole.{whole}
-
--- a text has at most 16,384 tokens
-ended_tokens : (tokens : List Placed) (r : Result TextEnd LexFault) (list : Tokens)
-    → lex_answer tokens r ≡ Ok list → list.tokens ≡ tokens
-ended_tokens tokens (Ok end) list e =
-    let same : record { tokens = tokens; last = end.line; size = end.size } ≡ list = cc in
-    ap (λ (l : Tokens). l.tokens) (sym same)
-ended_tokens tokens (Err fault) list e = absurd (cc)
-
-limited_few : (c : Cut) (list : Tokens) → limited c ≡ Ok list → length list.tokens ≤ 16384
-limited_few c list e = by_test (nat_lt 16384 (length c.tokens)) refl e
-  where
-    by_test : (b : Bool) → nat_lt 16384 (length c.tokens) ≡ b
-        → (if b then Err TooLong else lex_answer c.tokens c.ending) ≡ Ok list
-        → length list.tokens ≤ 16384
-    by_test true t e = absurd (cc)
-    by_test false t e =
-        let same : length list.tokens ≡ length c.tokens =
-        ap (λ (ts : List Placed). length ts) (ended_tokens c.tokens c.ending list e) in
-        omega (arith, ltb-false 16384 (length c.tokens) t, same)
-
-pub few_tokens : (text : List ℕ) (list : Tokens) → answer text ≡ Ok list
-    → length list.tokens ≤ 16384
-few_tokens text list e = by_test (nat_lt 262144 (length text)) e
-  where
-    by_test : (b : Bool) → (if b then Err TooLong else limited (cut text)) ≡ Ok list
-        → length list.tokens ≤ 16384
-    by_test true e = absurd (cc)
-    by_test false e = limited_few (cut text) list e
 
 pub all_below : (n : ℕ) (us : List IrFunction) → whole us < n
     → AllByRecursion (λ (u : IrFunction). length u.code < n) us

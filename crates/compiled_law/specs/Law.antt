@@ -2,9 +2,9 @@
 -- run of a transaction is sound. It ends as the source says, on a heap that holds the source's
 -- pool, with one log record for each of its logged stores; or with a full log, exactly if these
 -- stores are more than the log has records.
-use Rattle.std.specs.Prelude.{◌≡◌, ℕ, ℤ, Bool, List, [], length, map, Ok}
-use Rattle.c_lexer.specs.Cuts.{answer}
+use Rattle.std.specs.Prelude.{◌≡◌, ℕ, ℤ, Bool, List, [], length, map}
 use Rattle.c_lexer.specs.TokenList.{Tokens}
+use Rattle.c_constants.specs.Left.{Leaves}
 use Rattle.c_tree.specs.ItemSpelling.{SpellsProgram}
 use Rattle.c_tree.specs.Program.{tree_of}
 use Rattle.c_types.specs.Fault.{breaks}
@@ -23,11 +23,11 @@ use Rattle.cnvm_session.specs.Pool.{sizes_of}
 use Rattle.session_law.specs.Source.{ComesBy}
 use Rattle.session_law.specs.Agrees.{Agrees}
 
--- What the compiler makes of a text: the tree of its tokens, which breaks no rule, and the image of
--- its code for a pool with the root's words. The code has its logs exactly at the sites for which
--- the walks call.
+-- What the compiler makes of a text: the tree of the tokens that its constants leave, which breaks
+-- no rule, and the image of its code for a pool with the root's words. The code has its logs exactly
+-- at the sites for which the walks call.
 pub record IsCompiledFrom (text : List ℕ) (list : Tokens) (program : Program) : Type 0 where
-  pub cut : answer text ≡ Ok list
+  pub left : Leaves text list
   pub spelled : SpellsProgram list.tokens (tree_of program.typed)
   pub lines : program.typed.lines ≡ map (λ placed. placed.line) list.tokens
   pub checked : breaks program.typed ≡ []

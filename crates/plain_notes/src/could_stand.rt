@@ -83,7 +83,7 @@ const ASSIGNMENT: Group = Group {
 const ITEM: Group = Group {
     by: "persistent",
     unless: &[],
-    name: "a struct, the root or a function",
+    name: "a struct, constants, the root or a function",
     tokens: &["persistent", "tx", "void", "int64_t", "struct"],
 };
 

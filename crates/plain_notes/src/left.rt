@@ -66,7 +66,7 @@ const RESERVED: [(&str, &str); 25] = [
     ),
     (
         "enum",
-        "there is no `enum`: write a function for each number, as `int64_t size() { return 64; }`",
+        "an `enum` defines constants between items and has no name, as `enum { SIZE = 64 };`",
     ),
     ("union", "there is no `union`: write a field for each part"),
     (
@@ -137,7 +137,7 @@ fn some(alloc: Global, note: &str) -> Result<Option<String>, AllocError> {
     Ok(Some(String::from_str(alloc, note)?))
 }
 
-const ITEM_NOTE: &str = "an item begins with `struct`, `persistent`, `tx`, `void` or `int64_t`";
+const ITEM_NOTE: &str = "an item begins with `struct`, `enum`, `persistent`, `tx`, `void` or `int64_t`";
 
 /// The first note that says what to write instead.
 fn plain_note(near: &Spelled<'_>, value: bool) -> Option<&'static str> {

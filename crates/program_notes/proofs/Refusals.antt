@@ -9,6 +9,10 @@ use Rattle.c_lexer.specs.Cuts.{answer}
 use Rattle.c_lexer.specs.TokenList.{Tokens, start_at}
 use Rattle.c_lexer.specs.declared.fault.LexFault.{LexFault}
 use Rattle.c_lexer.specs.declared.fault.LexFault.TheVariants as lex
+use Rattle.c_constants.specs.declared.fault.ConstFault.{ConstFault}
+use Rattle.c_constants.specs.declared.fault.ConstFault.TheVariants as constants
+use Rattle.c_constants.specs.Left.{Leaves}
+use Rattle.c_constants.specs.Passes as passes
 use Rattle.c_parser.specs.Exact.{LightBefore, NoneBegins, SomeBegins, SomeSinks}
 use Rattle.c_parser.specs.Weight.{spelled_weights}
 use Rattle.c_tree.specs.ItemSpelling.{SpellsProgram}
@@ -17,9 +21,10 @@ use Rattle.c_tree.specs.Program.{Program, tree_of}
 use Rattle.c_types.specs.declared.fault.TypeFault.{TypeFault}
 use Rattle.c_types.specs.declared.fault.TypeFault.TheVariants as fault
 use Rattle.c_types.specs.Fault.{breaks, refusal}
-use Rattle.program_notes.specs.RefusedAt.{ReadsAs, RefusedAt, Tells}
-use Rattle.program_notes.specs.RefusedAt.{Byte, Number, Comment, Syntax, Deep, Rule}
-use Rattle.program_notes.specs.RefusedAt.{Long, Nothing, AtPlace, rule_place}
+use Rattle.program_notes.specs.RefusedAt.{ReadsAs, RefusedAt, RefusesConstants, Tells}
+use Rattle.program_notes.specs.RefusedAt.{Byte, Number, Comment, Constant, Syntax, Deep, Rule}
+use Rattle.program_notes.specs.RefusedAt.{Long, LongLeft, Nothing, AtPlace, constant_start}
+use Rattle.program_notes.specs.RefusedAt.{rule_place}
 use Rattle.plain_notes.specs.Head.{file_head, head_text}
 use Rattle.plain_notes.specs.Place.{place_of}
 
@@ -49,6 +54,38 @@ long_refused text (inr is) = is
 pub long : (path text message what : List ℕ) → answer text ≡ Err lex.TooLong
     → message ≡ file_head path what → Tells path text (Some message)
 long path text message what is begins = Long message what is begins
+
+-- a refusal of the constants is want of memory, or the text's own
+abbrev ConstantsRefuse : List ℕ → ConstFault → Type 0
+ConstantsRefuse text f = (f ≡ constants.NoMemory) ⊎ RefusesConstants text f
+
+pub constants_left : (text : List ℕ) (all list : Tokens) → answer text ≡ Ok all
+    → passes.answer all ≡ Ok list → Leaves text list
+constants_left text all list cut left = record { all = all; cut = cut; left = left }
+
+pub constants_refused : (text : List ℕ) (all : Tokens) (f : ConstFault) → answer text ≡ Ok all
+    → (f ≡ constants.NoMemory) ⊎ (passes.answer all ≡ Err f) → ConstantsRefuse text f
+constants_refused text all f cut (inl e) = inl e
+constants_refused text all f cut (inr told) =
+    inr (record { all = all; cut = cut; told = told })
+
+pub ruleset of_constants = (constants_left, constants_refused)
+
+pub long_left_refused : (text : List ℕ) → ConstantsRefuse text constants.TooLong
+    → RefusesConstants text constants.TooLong
+long_left_refused text (inl e) = let no : ⊥ = cc in absurd no
+long_left_refused text (inr is) = is
+
+pub long_left : (path text message what : List ℕ) → RefusesConstants text constants.TooLong
+    → message ≡ file_head path what → Tells path text (Some message)
+long_left path text message what is begins = LongLeft message what is begins
+
+pub constant_refused : (text : List ℕ) (f : ConstFault) (start : ℕ) → ConstantsRefuse text f
+    → constant_start f ≡ Some start → RefusedAt text start
+constant_refused text f start (inl e) is =
+    let none : constant_start f ≡ None = ap constant_start e in
+    let no : ⊥ = cc in absurd no
+constant_refused text f start (inr refused) is = Constant f start refused is
 
 -- what `message_at` promises of a message of a place
 pub placed : (path text message what : List ℕ) (start : ℕ) → RefusedAt text start
@@ -87,23 +124,23 @@ min_within a b = min-le_right a b
 
 pub ruleset start = (start_min, min_within)
 
-pub syntax_refused : (text : List ℕ) (list : Tokens) (t : ℕ) → answer text ≡ Ok list
+pub syntax_refused : (text : List ℕ) (list : Tokens) (t : ℕ) → Leaves text list
     → NoneBegins list.tokens (t + 1) → SomeBegins list.tokens t
     → RefusedAt text (start_at list t)
-syntax_refused text list t lexed none some = Syntax list t lexed none some
+syntax_refused text list t left none some = Syntax list t left none some
 
-pub deep_refused : (text : List ℕ) (list : Tokens) (t : ℕ) → answer text ≡ Ok list
+pub deep_refused : (text : List ℕ) (list : Tokens) (t : ℕ) → Leaves text list
     → SomeSinks list.tokens t → RefusedAt text (start_at list t)
-deep_refused text list t lexed some = Deep list t lexed some
+deep_refused text list t left some = Deep list t left some
 
 -- what `parse` promises of a tree
-pub reads : (text : List ℕ) (list : Tokens) (tree : Program) → answer text ≡ Ok list
+pub reads : (text : List ℕ) (list : Tokens) (tree : Program) → Leaves text list
     → SpellsProgram list.tokens (tree_of tree)
     → ((xs : List ItemTree) (spelled : SpellsProgram list.tokens xs)
     → LightBefore (spelled_weights spelled) (length list.tokens))
     → tree.lines ≡ map (λ placed. placed.line) list.tokens → ReadsAs text list tree
-reads text list tree lexed spelled light lines = record {
-  lexed = lexed;
+reads text list tree left spelled light lines = record {
+  left = left;
   spelled = spelled;
   light = light (tree_of tree) spelled;
   lines = lines;

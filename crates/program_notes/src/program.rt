@@ -5,11 +5,15 @@ ghost use Rattle.std.specs.Prelude.{IfSome};
 ghost use Rattle.std.specs.Prelude.{option_map, string_bytes};
 ghost use Rattle.c_lexer.specs.Cuts.{answer};
 ghost use Rattle.c_lexer.specs.TokenList.{start_at};
-ghost use Rattle.program_notes.specs.RefusedAt.{ReadsAs, RefusedAt, Tells, rule_place};
+ghost use Rattle.c_constants.specs.Left.{Leaves};
+ghost use Rattle.c_constants.specs.Passes as passes;
+ghost use Rattle.program_notes.specs.RefusedAt.{ReadsAs, RefusedAt, RefusesConstants, Tells};
+ghost use Rattle.program_notes.specs.RefusedAt.{constant_start, rule_place};
 ghost use Rattle.c_types.specs.Fault.{breaks, refusal};
 
-use crate::syntax::syntax;
+use crate::syntax::{syntax, what};
 use crate::typing::typing;
+use c_constants::{ConstFault, constants};
 use c_lexer::{LexFault, MOST_BYTES, TokenList, tokens};
 use c_parser::{ParseFault, parse};
 use c_tree::Ast;
@@ -24,12 +28,12 @@ pub fn program_note(alloc: Global, path: &str, text: &[u8]) -> Result<Option<Str
 {
     match list_of(alloc, text) {
         Err(fault) => by_lexer(alloc, path, text, fault),
-        Ok(list) => of_tokens(alloc, path, text, &list),
+        Ok(all) => of_constants(alloc, path, text, &all),
     }
 }
 
 fn list_of(alloc: Global, text: &[u8]) -> Result<TokenList, LexFault>
-    ensures ok { IfOk result (λ list. answer text.now ≡ Ok list) }
+    ensures ok { IfOk result (λ all. answer text.now ≡ Ok all) }
     ensures err { IfErr result (λ fault. (fault ≡ LexFault.NoMemory)
         ⊎ (answer text.now ≡ Err fault)) }
 {
@@ -105,6 +109,129 @@ fn too_much(size: usize) -> &'static str {
     }
 }
 
+/// The message of a text with these tokens, if it is refused.
+#[tactic(auto, using(crate::proofs::Refusals::of_constants))]
+fn of_constants(
+    alloc: Global,
+    path: &str,
+    text: &[u8],
+    all: &TokenList,
+) -> Result<Option<String>, AllocError>
+    requires { answer text.now ≡ Ok all.now }
+    ensures tells { IfOk result (λ note. Tells path.now text.now (option_map string_bytes note)) }
+{
+    match left_of(alloc, all) {
+        Ok(list) => of_tokens(alloc, path, text, &list),
+        Err(fault) => by_constants(alloc, path, text, fault),
+    }
+}
+
+fn left_of(alloc: Global, all: &TokenList) -> Result<TokenList, ConstFault>
+    ensures ok { IfOk result (λ list. passes.answer all.now ≡ Ok list) }
+    ensures err { IfErr result (λ fault. (fault ≡ ConstFault.NoMemory)
+        ⊎ (passes.answer all.now ≡ Err fault)) }
+{
+    constants(alloc, all)
+}
+
+#[tactic(auto, using(crate::proofs::Refusals::long_left_refused))]
+fn by_constants(
+    alloc: Global,
+    path: &str,
+    text: &[u8],
+    fault: ConstFault,
+) -> Result<Option<String>, AllocError>
+    requires { (fault ≡ ConstFault.NoMemory) ⊎ RefusesConstants text.now fault }
+    ensures tells { IfOk result (λ note. Tells path.now text.now (option_map string_bytes note)) }
+{
+    match fault {
+        ConstFault::TooLong => long_left(alloc, path, text),
+        _ => at_constant(alloc, path, text, fault),
+    }
+}
+
+#[tactic(auto, using(crate::proofs::Refusals::long_left))]
+fn long_left(alloc: Global, path: &str, text: &[u8]) -> Result<Option<String>, AllocError>
+    requires { RefusesConstants text.now ConstFault.TooLong }
+    ensures tells { IfOk result (λ note. Tells path.now text.now (option_map string_bytes note)) }
+{
+    let what = "with its constants replaced the program has more than 16384 tokens";
+    let message = message_of_file(alloc, path, what)?;
+    Ok(Some(message))
+}
+
+/// The message of a refused token of a definition.
+#[tactic(auto, using(crate::proofs::Refusals::constant_refused))]
+fn at_constant(
+    alloc: Global,
+    path: &str,
+    text: &[u8],
+    fault: ConstFault,
+) -> Result<Option<String>, AllocError>
+    requires { (fault ≡ ConstFault.NoMemory) ⊎ RefusesConstants text.now fault }
+    ensures tells { IfOk result (λ note. Tells path.now text.now (option_map string_bytes note)) }
+{
+    let Some(start) = constant_start(fault) else {
+        return Err(AllocError);
+    };
+    let told = constant_told(alloc, first_token(after(text, start)), fault)?;
+    at(alloc, path, text, start, &told)
+}
+
+/// The number of bytes before the refused token. Want of memory and of room have none.
+fn constant_start(fault: ConstFault) -> Option<u64>
+    ensures { result ≡ constant_start fault }
+{
+    match fault {
+        ConstFault::Syntax { start, .. } => Some(start),
+        ConstFault::TooDeep { start, .. } => Some(start),
+        ConstFault::Twice { start, .. } => Some(start),
+        ConstFault::UnknownName { start, .. } => Some(start),
+        ConstFault::BadNumber { start, .. } => Some(start),
+        ConstFault::TooLong | ConstFault::NoMemory => None,
+    }
+}
+
+/// What is told of a token of a definition; `here` is the token.
+fn constant_told(alloc: Global, here: &[u8], fault: ConstFault) -> Result<Told, AllocError> {
+    match fault {
+        ConstFault::Syntax { .. } => Told::new(alloc, what(alloc, here)?.as_str())?.with(
+            alloc,
+            "constants are defined so: `enum { SIZE = 64, LAST = SIZE - 1 };`",
+        ),
+        ConstFault::Twice { .. } => told_of(
+            alloc,
+            here,
+            "is a constant already",
+            "choose another name",
+        ),
+        ConstFault::UnknownName { .. } => told_of(
+            alloc,
+            here,
+            "is no constant that is defined before this",
+            "the value of a constant is made of numbers and of the constants before it",
+        ),
+        ConstFault::BadNumber { .. } => told_of(
+            alloc,
+            here,
+            "has 0 on its right side",
+            "a constant has a value without a trap",
+        ),
+        _ => Told::new(alloc, "this stands too deep: a token weighs at most 64")?.with(
+            alloc,
+            "define a constant for a part of the expression",
+        ),
+    }
+}
+
+/// What is told of a token, with a note.
+fn told_of(alloc: Global, here: &[u8], what: &str, note: &str) -> Result<Told, AllocError> {
+    let token = String::from_utf8_lossy(alloc, here)?;
+    let token = token.as_str();
+    let told = format!(in alloc; "`{token}` {what}")?;
+    Told::new(alloc, told.as_str())?.with(alloc, note)
+}
+
 /// The message of a text that is refused at this byte.
 #[tactic(auto, using(crate::proofs::Refusals::placed))]
 fn at(
@@ -164,7 +291,7 @@ fn of_tokens(
     text: &[u8],
     list: &TokenList,
 ) -> Result<Option<String>, AllocError>
-    requires { answer text.now ≡ Ok list.now }
+    requires { Leaves text.now list.now }
     ensures tells { IfOk result (λ note. Tells path.now text.now (option_map string_bytes note)) }
 {
     let words = spelled(alloc, text, list)?;

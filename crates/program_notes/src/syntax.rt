@@ -1,7 +1,8 @@
 //! Messages of tokens that continue no program.
 
 use crate::program::start_of;
-use c_lexer::{TokenList, tokens};
+use c_constants::{ConstFault, constants};
+use c_lexer::{Token, TokenList, Word, tokens};
 use c_parser::{ParseFault, parse};
 use nvm_base::Bytes;
 use plain_notes::{MARKS, NAMES, Spelled, Told, WORDS, expected, is_one, left_out};
@@ -27,7 +28,7 @@ fn able_there(
     list: &TokenList,
     near: &Spelled<'_>,
 ) -> Result<Vec<&'static str>, AllocError> {
-    let before = item_before(text, list, near);
+    let before = text_before(alloc, text, list, near)?;
     let mut able = Vec::new(alloc);
     for token in NAMES {
         if goes_on(alloc, before, token)? {
@@ -47,11 +48,36 @@ fn able_there(
     Ok(able)
 }
 
-/// The text of the item in which the token stands, up to it.
-fn item_before<'a>(text: &'a [u8], list: &TokenList, near: &Spelled<'_>) -> &'a [u8] {
+/// The text up to the token, from the item on in which that stands; of a text with constants, which
+/// may be used there, from its begin on.
+fn text_before<'a>(
+    alloc: Global,
+    text: &'a [u8],
+    list: &TokenList,
+    near: &Spelled<'_>,
+) -> Result<&'a [u8], AllocError> {
     let place = near.place.min(list.len());
-    let first = start_of(list, near.item_start().min(place));
-    between(text, first, start_of(list, place))
+    let first = if has_constants(alloc, text)? {
+        0
+    } else {
+        start_of(list, near.item_start().min(place))
+    };
+    Ok(between(text, first, start_of(list, place)))
+}
+
+/// Whether the text has a word `enum`.
+fn has_constants(alloc: Global, text: &[u8]) -> Result<bool, AllocError> {
+    let Ok(all) = tokens(alloc, text) else {
+        return Err(AllocError);
+    };
+    for place in 0..all.len() {
+        if let Some(placed) = all.get(place) {
+            if let Token::Word(Word::Enum) = placed.token {
+                return Ok(true);
+            }
+        }
+    }
+    Ok(false)
 }
 
 /// What to write instead, by what could stand there.
@@ -104,7 +130,8 @@ fn between(text: &[u8], from: u64, to: u64) -> &[u8] {
     first.split_at(first.len().min(from as usize)).1
 }
 
-fn what(alloc: Global, here: &[u8]) -> Result<String, AllocError> {
+/// What is told of a refused token.
+pub(crate) fn what(alloc: Global, here: &[u8]) -> Result<String, AllocError> {
     if here.is_empty() {
         return String::from_str(alloc, "syntax at the end of the text");
     }
@@ -128,17 +155,26 @@ fn semicolon(alloc: Global, near: &Spelled<'_>) -> Result<Option<String>, AllocE
     Ok(Some(format!(in alloc; "a `;` is missing after `{last}`")?))
 }
 
-/// Whether some program goes on with this token after this text, the first part of an item. What
-/// comes before an item makes no difference.
+/// Whether some program goes on with this token after this text. What comes before an item makes no
+/// difference, but for constants.
 fn goes_on(alloc: Global, before: &[u8], token: &str) -> Result<bool, AllocError> {
     let mut text = Bytes::new(alloc);
     text.extend(before)?;
     text.extend(b"\n")?;
     text.extend(token.as_bytes())?;
-    let Ok(list) = tokens(alloc, text.as_slice()) else {
+    let Ok(all) = tokens(alloc, text.as_slice()) else {
         return Ok(false);
     };
-    match parse(alloc, &list) {
+    match constants(alloc, &all) {
+        Ok(list) => begins_program(alloc, &list),
+        Err(ConstFault::NoMemory) => Err(AllocError),
+        Err(_) => Ok(false),
+    }
+}
+
+/// Whether some program begins with these tokens.
+fn begins_program(alloc: Global, list: &TokenList) -> Result<bool, AllocError> {
+    match parse(alloc, list) {
         Err(ParseFault::Syntax(place)) => Ok(place >= list.len()),
         Err(ParseFault::NoMemory) => Err(AllocError),
         Err(ParseFault::TooDeep(_)) => Ok(false),

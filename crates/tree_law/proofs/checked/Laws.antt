@@ -32,7 +32,7 @@ use Rattle.tree_law.proofs.checked.Words.{fields_counted, struct_words, numbered
 use Rattle.tree_law.proofs.checked.Words.{root_counted, spelled_have}
 use Rattle.tree_law.proofs.checked.PlainCalls.{IsPlain, IsPlainInstruction, AllPlain}
 use Rattle.tree_law.proofs.checked.PlainStatements.{function_plain}
-use Rattle.tree_law.proofs.checked.Tokens.{answer_words}
+use Rattle.tree_law.proofs.checked.Tokens.{left_word}
 use Rattle.tree_law.proofs.checked.ExprConstants.{IsWordConstant, AreWords}
 use Rattle.tree_law.proofs.checked.StmtConstants.{FunctionWords, items_words}
 
@@ -206,13 +206,13 @@ limits tree e =
     }
 
 pub constants : ConstantsLaw
-constants text list tree answered spelled f p to v is =
+constants text list tree left spelled f p to v is =
     let t : Tables = tables_of (tree_of tree) in
     let x : IsIn tree f p (Const to v) = instruction_in tree f p (Const to v) is in
-    let all : AllByRecursion (FunctionWords t tree list.tokens (answer_words text list answered))
-    t.functions = items_words t tree list.tokens (answer_words text list answered) spelled in
+    let all : AllByRecursion (FunctionWords t tree list.tokens (left_word text list left))
+    t.functions = items_words t tree list.tokens (left_word text list left) spelled in
     let own : AreWords (lowered_function t tree x.source).code =
-    all_at (FunctionWords t tree list.tokens (answer_words text list answered)) t.functions f
+    all_at (FunctionWords t tree list.tokens (left_word text list left)) t.functions f
     x.source all x.found in
     all_at IsWordConstant (lowered_function t tree x.source).code p (Const to v) own x.stands
 

@@ -1,4 +1,4 @@
--- The numbers among the tokens of a text are words.
+-- The numbers among the tokens of a text, and among those that its constants leave, are words.
 use Rattle.std.proofs.Common.{◌≡◌, ℕ, zero, suc, ◌-◌, ◌^◌, ◌≤◌, ℤ, pos, Bool, true, false, List, []}
 use Rattle.std.proofs.Common.{◌∷◌, length, drop, refl, subst, arith}
 use Rattle.std.specs.Prelude.{nat_le, nat_lt, nat_eq, ◌==◌, ◌&&◌, ◌||◌, if◌then◌else◌, slice_index}
@@ -23,10 +23,12 @@ use Rattle.c_lexer.specs.Numbers.{digits_after, numeral, number_of}
 use Rattle.c_lexer.specs.Spots.{text_start, past_byte}
 use Rattle.c_lexer.specs.TokenList.{Tokens}
 use Rattle.c_lexer.specs.Words.{spelled_by, word_spelled, is_never_accepted}
+use Rattle.c_lexer.specs.declared.token.Token.{Token}
+use Rattle.c_lexer.specs.declared.token.Token.TheVariants as token
+use Rattle.c_constants.specs.Laws.{IsWordToken, AreWordTokens, AreInRange}
+use Rattle.c_constants.specs.Left.{Leaves}
+use Rattle.c_constants.proofs.Leaving.{left}
 use Rattle.c_tree.specs.Kinds.{placed_value, value_at}
-
-abbrev IsWordToken : Placed → Type 0
-IsWordToken p = IsWord (placed_value (Some p))
 
 pub small_word : (n : ℕ) → n ≤ 2 ^ 63 - 1 → IsWord (pos n)
 small_word n le = (omega (arith, ints), omega (arith, ints, le))
@@ -64,9 +66,6 @@ number_words run =
     (numeral 16 (drop 2 run)) _ (numeral_words 16 (drop 2 run))
     (either_words (slice_index run 0 == 48 && nat_lt 1 (length run)) None (numeral 10 run) tt
     (numeral_words 10 run))
-
-abbrev AreWordTokens : List Placed → Type 0
-AreWordTokens ts = AllByRecursion IsWordToken ts
 
 -- a cut that begins with a piece has only words as numbers
 record KeepsWords {S P : Type 0} (begun : P → S → (ℕ → Cut) → Cut) (x : P) : Type 0 where
@@ -129,18 +128,24 @@ cut_words zero spot (b ∷ bs) =
     (next_words spot (b ∷ bs)).holds spot (λ inside. cut_left inside (past_byte spot b) bs)
     (λ n. cut_words n (past_byte spot b) bs)
 
+-- a token has one number, for the constants and for the tree
+token_word : (t : Token) (line start : ℕ)
+    → IsWordToken (record { token = t; line = line; start = start })
+    → IsWord (placed_value (Some (record { token = t; line = line; start = start })))
+token_word (token.Number n) line start w = w
+token_word _ line start w = w
+
 value_word : (ts : List Placed) (i : ℕ) → AreWordTokens ts → IsWord (value_at ts i)
 value_word [] i h = small_word 0 (omega arith)
-value_word (t ∷ ts) zero h = h.0
+value_word (t ∷ ts) zero h = token_word t.token t.line t.start h.0
 value_word (t ∷ ts) (suc i) h = value_word ts i h.1
 
 abbrev Answers : Result Tokens LexFault → Tokens → Type 0
 Answers r list = r ≡ Ok list
 
--- the number at a place
-pub answer_words : (text : List ℕ) (list : Tokens) → answer text ≡ Ok list → (i : ℕ)
-    → IsWord (value_at list.tokens i)
-answer_words text list e i = value_word list.tokens i (by_bytes (nat_lt 262144 (length text)) e)
+answer_words : (text : List ℕ) (list : Tokens) → answer text ≡ Ok list
+    → AreWordTokens list.tokens
+answer_words text list e = by_bytes (nat_lt 262144 (length text)) e
   where
     err_ok : (f : LexFault) → Answers (Err f) list → ⊥
     err_ok f e = cc
@@ -165,3 +170,14 @@ answer_words text list e i = value_word list.tokens i (by_bytes (nat_lt 262144 (
     by_bytes true e = absurd (err_ok TooLong e)
     by_bytes false e = by_count (nat_lt 16384 (length (cut text).tokens)) (cut text)
         (cut_words 0 text_start text) e
+
+left_in_range : (text : List ℕ) (list : Tokens) → Leaves text list → AreInRange list.tokens
+left_in_range text list is = left is.all list (answer_words text is.all is.cut) is.left
+
+pub left_few : (text : List ℕ) (list : Tokens) → Leaves text list → length list.tokens ≤ 16384
+left_few text list is = (left_in_range text list is).few
+
+-- the number at a place
+pub left_word : (text : List ℕ) (list : Tokens) → Leaves text list → (i : ℕ)
+    → IsWord (value_at list.tokens i)
+left_word text list is i = value_word list.tokens i (left_in_range text list is).words

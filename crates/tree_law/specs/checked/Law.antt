@@ -1,11 +1,11 @@
 -- Properties of each program that breaks no typing rule, and of its code: how large its structs,
 -- its root and its functions are, that its constants are words, that no function calls a
 -- transaction, that it has no logs yet, and which of its functions are transactions.
-use Rattle.std.specs.Prelude.{◌≡◌, ◌≤◌, ◌+◌, ℕ, List, [], ◌∷◌, map, length, if◌then◌else◌, Some, Ok}
+use Rattle.std.specs.Prelude.{◌≡◌, ◌≤◌, ◌+◌, ℕ, List, [], ◌∷◌, map, length, if◌then◌else◌, Some}
 use Rattle.std.specs.Prelude.{slice_get}
 use Rattle.c_lexer.specs.declared.token.Placed.{Placed}
-use Rattle.c_lexer.specs.Cuts.{answer}
 use Rattle.c_lexer.specs.TokenList.{Tokens}
+use Rattle.c_constants.specs.Left.{Leaves}
 use Rattle.c_tree.specs.ItemSpelling.{SpellsProgram}
 use Rattle.c_tree.specs.Program.{Program, tree_of}
 use Rattle.pool_map.specs.declared.shapes.StructShape.{StructShape}
@@ -58,9 +58,10 @@ pub record FunctionsAreFew (functions : List IrFunction) : Type 0 where
 abbrev pub LimitsLaw : Type 0
 LimitsLaw = (tree : Program) → breaks tree ≡ [] → FunctionsAreFew (lowered tree).functions
 
--- The constants of the code of a program's text are words, since the numbers of a text are.
+-- The constants of the code of a program's text are words, since the numbers of a text are, and the
+-- values of the constants that it defines.
 abbrev pub ConstantsLaw : Type 0
-ConstantsLaw = (text : List ℕ) (list : Tokens) (tree : Program) → answer text ≡ Ok list
+ConstantsLaw = (text : List ℕ) (list : Tokens) (tree : Program) → Leaves text list
     → SpellsProgram list.tokens (tree_of tree) → HasWordConstants (lowered tree).functions
 
 -- the functions of code that are marked as transactions
