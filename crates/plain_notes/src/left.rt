@@ -137,7 +137,8 @@ fn some(alloc: Global, note: &str) -> Result<Option<String>, AllocError> {
     Ok(Some(String::from_str(alloc, note)?))
 }
 
-const ITEM_NOTE: &str = "an item begins with `struct`, `enum`, `persistent`, `tx`, `void` or `int64_t`";
+const ITEM_NOTE: &str =
+    "an item begins with `struct`, `enum`, `persistent`, `tx`, `void` or `int64_t`";
 
 /// The first note that says what to write instead.
 fn plain_note(near: &Spelled<'_>, value: bool) -> Option<&'static str> {
