@@ -62,13 +62,20 @@ fn starts_of(alloc: Global, text: &[u8]) -> Result<String, AllocError> {
 }
 
 /// Texts, and their tokens in words.
-const TEXTS: [(&str, &str); 38] = [
+const TEXTS: [(&str, &str); 42] = [
     ("", "1: end"),
     ("a+++b", "1: a Increment Plus b end"),
     ("a-->b", "1: a Decrement Greater b end"),
     ("a--->b", "1: a Decrement Arrow b end"),
-    ("a<<=b", "1: a ShiftLeft Assign b end"),
-    ("a>>=b", "1: a ShiftRight Assign b end"),
+    ("a<<=b", "1: a ShiftLeftAssign b end"),
+    ("a>>=b", "1: a ShiftRightAssign b end"),
+    ("a<<<=b", "1: a ShiftLeft LessEqual b end"),
+    ("a>>==b", "1: a ShiftRightAssign Assign b end"),
+    ("a&&=b|||=c", "1: a AndAnd Assign b OrOr OrAssign c end"),
+    (
+        "*=/=%=&=^=|=<<=>>=",
+        "1: MulAssign DivAssign RemAssign AndAssign XorAssign OrAssign ShiftLeftAssign ShiftRightAssign end",
+    ),
     ("a<=>=b", "1: a LessEqual GreaterEqual b end"),
     ("===!==", "1: Equal Assign NotEqual Assign end"),
     ("&&&|||^~!", "1: AndAnd And OrOr Or Xor Tilde Not end"),
@@ -91,12 +98,12 @@ const TEXTS: [(&str, &str); 38] = [
         "1: _ _a a_1 A9 tx_ xtx int64_t1 end",
     ),
     (
-        "int64_t void struct persistent root tx if else while for break continue return NULL pm_new pm_free abort",
-        "1: [Int64] [Void] [Struct] [Persistent] [Root] [Tx] [If] [Else] [While] [For] [Break] [Continue] [Return] [Null] [PmNew] [PmFree] [Abort] end",
+        "int64_t void struct enum persistent root tx if else while do for break continue return NULL pm_new pm_free abort",
+        "1: [Int64] [Void] [Struct] [Enum] [Persistent] [Root] [Tx] [If] [Else] [While] [Do] [For] [Break] [Continue] [Return] [Null] [PmNew] [PmFree] [Abort] end",
     ),
     (
-        "auto case char const default do double enum extern float goto inline int long register restrict short signed sizeof static switch typedef union unsigned volatile null main",
-        "1: [reserved] [reserved] [reserved] [reserved] [reserved] [reserved] [reserved] [reserved] [reserved] [reserved] [reserved] [reserved] [reserved] [reserved] [reserved] [reserved] [reserved] [reserved] [reserved] [reserved] [reserved] [reserved] [reserved] [reserved] [reserved] null main end",
+        "auto case char const default double extern float goto inline int long register restrict short signed sizeof static switch typedef union unsigned volatile null main",
+        "1: [reserved] [reserved] [reserved] [reserved] [reserved] [reserved] [reserved] [reserved] [reserved] [reserved] [reserved] [reserved] [reserved] [reserved] [reserved] [reserved] [reserved] [reserved] [reserved] [reserved] [reserved] [reserved] [reserved] null main end",
     ),
     ("a // b\nc", "1: a 2: c end"),
     ("a // b", "1: a end"),
@@ -162,17 +169,20 @@ fn starts_are_exact(rt: HostRuntime) -> Result<(), Fail> {
     Ok(())
 }
 
-const MARKS: [&str; 35] = [
-    "->", "++", "--", "+=", "-=", "<<", ">>", "<=", ">=", "==", "!=", "&&", "||", "+", "-", "*",
-    "/", "%", "<", ">", "&", "^", "|", "!", "~", "=", ".", ",", ";", "(", ")", "{", "}", "[", "]",
+const MARKS: [&str; 43] = [
+    "<<=", ">>=", "->", "++", "--", "+=", "-=", "*=", "/=", "%=", "&=", "^=", "|=", "<<", ">>",
+    "<=", ">=", "==", "!=", "&&", "||", "+", "-", "*", "/", "%", "<", ">", "&", "^", "|", "!", "~",
+    "=", ".", ",", ";", "(", ")", "{", "}", "[", "]",
 ];
 
-/// Each mark beside each other, a pair a line, but for `/` beside `*`, which opens a comment.
+/// Each mark beside each other, a pair a line, but for `/` beside `*` and `*=`, which opens a
+/// comment.
 fn pairs(alloc: Global) -> Result<String, AllocError> {
     let mut text = String::new(alloc);
     for first in MARKS {
         for second in MARKS {
-            if !(first == "/" && second == "*") {
+            let opens = first == "/" && (second == "*" || second == "*=");
+            if !opens {
                 text.push_str(first)?;
                 text.push_str(second)?;
                 text.push_str("\n")?;
@@ -189,7 +199,7 @@ fn many_tokens_are_read(rt: HostRuntime) -> Result<(), Fail> {
         many.push_str(";")?;
     }
     let marks = pairs(rt.alloc())?;
-    for (text, count, end) in [(many.as_str(), 16_384, 1), (marks.as_str(), 2433, 1225)] {
+    for (text, count, end) in [(many.as_str(), 16_384, 1), (marks.as_str(), 3667, 1848)] {
         let list = tokens(rt.alloc(), text.as_bytes())?;
         assert_eq!(rt; list.len(), count);
         assert_eq!(rt; list.line(list.len()), end, "after {count} tokens");

@@ -4,7 +4,7 @@
 use c_tree::Ast;
 use c_tree::expr::{Argument, BinaryOp, Expr, UnaryOp};
 use c_tree::item::Item;
-use c_tree::stmt::{AssignOp, Declaration, First, Simple, StepOp, Stmt, TypeName};
+use c_tree::stmt::{AssignOp, Declaration, First, Simple, StepOp, Stmt, TypeName, UpdateOp};
 use std::alloc::{AllocError, Global};
 
 fn sign(op: BinaryOp) -> &'static str {
@@ -115,8 +115,16 @@ fn show_all(
 fn assign_sign(op: AssignOp) -> &'static str {
     match op {
         AssignOp::Set => "=",
-        AssignOp::Add => "+=",
-        AssignOp::Sub => "-=",
+        AssignOp::Update(UpdateOp::Mul) => "*=",
+        AssignOp::Update(UpdateOp::Div) => "/=",
+        AssignOp::Update(UpdateOp::Rem) => "%=",
+        AssignOp::Update(UpdateOp::Add) => "+=",
+        AssignOp::Update(UpdateOp::Sub) => "-=",
+        AssignOp::Update(UpdateOp::ShiftLeft) => "<<=",
+        AssignOp::Update(UpdateOp::ShiftRight) => ">>=",
+        AssignOp::Update(UpdateOp::And) => "&=",
+        AssignOp::Update(UpdateOp::Xor) => "^=",
+        AssignOp::Update(UpdateOp::Or) => "|=",
     }
 }
 
@@ -225,6 +233,17 @@ fn show_statement(
             out.push_str("<")?;
             show_statement(alloc, out, body, depth - 1)?;
             out.push_str(">")?;
+        }
+        Stmt::Do {
+            body,
+            condition,
+            ..
+        } => {
+            out.push_str("do<")?;
+            show_statement(alloc, out, body, depth - 1)?;
+            out.push_str(">while ")?;
+            show(alloc, out, condition, 100)?;
+            out.push_str(";")?;
         }
         Stmt::For {
             first,

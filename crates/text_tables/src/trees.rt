@@ -60,6 +60,46 @@ fn items(rt: HostRuntime) -> Result<(), Fail> {
     Ok(())
 }
 
+/// Texts, each the beginning of a function's body, and the place of the token that is refused among
+/// the body's.
+const REFUSED: [(&str, u64); 13] = [
+    ("do { a--; } while (a > 0) return 1;", 12),
+    ("do a--; while (a > 0); break;", 11),
+    ("do a--; while (a > 0); continue;", 11),
+    ("do while (a);", 6),
+    ("do ; ;", 2),
+    ("do ; (a);", 2),
+    ("do ; while a;", 3),
+    ("do ; while ();", 4),
+    ("while (a) do ;", 6),
+    ("enum { A };", 0),
+    ("int64_t x += 1;", 2),
+    ("x *= ;", 2),
+    ("x <<= a >>= b;", 3),
+];
+
+/// What `parse` says of a function with such a body.
+fn refusal(alloc: Global, body: &str) -> Result<String, AllocError> {
+    let text = format!(in alloc; "void f() {{{body}}}")?;
+    let Ok(list) = tokens(alloc, text.as_bytes()) else {
+        return String::from_str(alloc, "no tokens");
+    };
+    match parse(alloc, &list) {
+        Ok(_) => String::from_str(alloc, "a tree"),
+        Err(fault) => format!(in alloc; "{fault:?}"),
+    }
+}
+
+#[test]
+fn refused_tokens(rt: HostRuntime) -> Result<(), Fail> {
+    for (body, place) in REFUSED {
+        let found = refusal(rt.alloc(), body)?;
+        let want = format!(in rt.alloc(); "Syntax({})", place + 5)?;
+        assert_eq!(rt; found.as_str(), want.as_str(), "{body}");
+    }
+    Ok(())
+}
+
 /// Texts, and for each of their functions `p` where it is plain, `t` where it is a transaction, and
 /// `r` where it is one that rolls back.
 const MARKED: [(&str, &str); 8] = [
@@ -191,7 +231,7 @@ const EXPRESSIONS: [(&str, &str); 69] = [
     ("x = 5;", "x=5;"),
 ];
 
-const STATEMENTS: [(&str, &str); 45] = [
+const STATEMENTS: [(&str, &str); 65] = [
     (";", ";"),
     ("{}", "{}"),
     ("{;{}}", "{;{}}"),
@@ -201,6 +241,15 @@ const STATEMENTS: [(&str, &str); 45] = [
     ("struct S *p = NULL;", "S*p=NULL;"),
     ("x += 1;", "x+=1;"),
     ("x -= 1;", "x-=1;"),
+    ("x *= 1;", "x*=1;"),
+    ("x /= a + b;", "x/=(a+b);"),
+    ("x %= 1;", "x%=1;"),
+    ("x &= a == b;", "x&=(a==b);"),
+    ("x ^= 1;", "x^=1;"),
+    ("x |= a || b;", "x|=(a||b);"),
+    ("x <<= a << b;", "x<<=(a<<b);"),
+    ("x >>= 1;", "x>>=1;"),
+    ("root.a[x & 3] ^= b;", "root.a[(x&3)]^=b;"),
     ("x++;", "x++;"),
     ("p->a--;", "p->a--;"),
     ("f();", "call f{};"),
@@ -237,6 +286,23 @@ const STATEMENTS: [(&str, &str); 45] = [
         "while (a) { if (b) continue; }",
         "while a<{if b<continue;>}>",
     ),
+    ("do ; while (a);", "do<;>while a;"),
+    ("do {} while (a); x = 1;", "do<{}>while a;x=1;"),
+    ("do x++; while (a - b);", "do<x++;>while (a-b);"),
+    ("do break; while (a);", "do<break;>while a;"),
+    (
+        "do { if (a) continue; } while (b);",
+        "do<{if a<continue;>}>while b;",
+    ),
+    ("do if (a) ; while (b);", "do<if a<;>>while b;"),
+    (
+        "do if (a) ; else x(); while (b);",
+        "do<if a<;|call x{};>>while b;",
+    ),
+    ("do while (a) ; while (b);", "do<while a<;>>while b;"),
+    ("do do ; while (a); while (b);", "do<do<;>while a;>while b;"),
+    ("while (a) do ; while (b);", "while a<do<;>while b;>"),
+    ("if (a) do ; while (b); else ;", "if a<do<;>while b;|;>"),
     ("for (;;) ;", "for ;;<;>"),
     (
         "for (int64_t i = 0; i < 3; i++) break;",
