@@ -1,0 +1,20 @@
+use Rattle.std.specs.Prelude.{codes}
+use Rattle.c_file.specs.Pieces.{twice}
+use Rattle.c_file.specs.declared.outside.TheConstants.{CLOSED, DONE, LAST}
+use Rattle.c_file.specs.File.{using_defined}
+use Rattle.c_file.proofs.Added.{step}
+use Rattle.c_file.proofs.outside.push_using.Goals as goal
+
+pub returns : goal.returns
+unfolding using_defined
+returns c =
+    step c.args.text.now _ _
+    (twice (codes "void ") (codes "_pool_close(struct ") CLOSED.now c.args.prefix.now) _
+    c.in_ok-push_twice.ensures
+    (step c.push_twice.new.text _ _
+    (twice (codes "uint64_t ") (codes "_pool_done(struct ") DONE.now c.args.prefix.now) _
+    c.in_ok-push_twice-2.ensures
+    (step c.push_twice-2.new.text _ _
+    (twice (codes "int64_t ") (codes "_pool_last(struct ") LAST.now c.args.prefix.now) _
+    c.in_ok-push_twice-3.ensures
+    (c.in_ok-push_twice-4.ensures)))

@@ -1,0 +1,4 @@
+pub mod Pieces
+pub mod Header
+pub mod Program
+pub mod File
