@@ -145,23 +145,29 @@ fn by_constants(
     ensures tells { IfOk result (λ note. Tells path.now text.now (option_map string_bytes note)) }
 {
     match fault {
-        ConstFault::TooLong => long_left(alloc, path, text),
+        ConstFault::TooLong => long_left(alloc, path, text, MANY_LEFT),
         _ => at_constant(alloc, path, text, fault),
     }
 }
 
+const MANY_LEFT: &str = "with its constants replaced the program has more than 16384 tokens";
+
+/// The message of a text whose constants leave too many tokens.
 #[tactic(auto, using(crate::proofs::Refusals::long_left))]
-fn long_left(alloc: Global, path: &str, text: &[u8]) -> Result<Option<String>, AllocError>
+fn long_left(
+    alloc: Global,
+    path: &str,
+    text: &[u8],
+    what: &str,
+) -> Result<Option<String>, AllocError>
     requires { RefusesConstants text.now ConstFault.TooLong }
     ensures tells { IfOk result (λ note. Tells path.now text.now (option_map string_bytes note)) }
 {
-    let what = "with its constants replaced the program has more than 16384 tokens";
     let message = message_of_file(alloc, path, what)?;
     Ok(Some(message))
 }
 
 /// The message of a refused token of a definition.
-#[tactic(auto, using(crate::proofs::Refusals::constant_refused))]
 fn at_constant(
     alloc: Global,
     path: &str,
