@@ -108,7 +108,8 @@ const TEXTS: [(&str, &str); 46] = [
     ),
     (
         "enum { A = -1 };\nstruct R { int64_t t[A]; };",
-        "2: [Struct] R OpenBrace [Int64] t OpenSquare OpenRound Minus #1 CloseRound CloseSquare Semicolon CloseBrace Semicolon end",
+        "2: [Struct] R OpenBrace [Int64] t OpenSquare OpenRound Minus #1 CloseRound CloseSquare \
+            Semicolon CloseBrace Semicolon end",
     ),
     ("enum { A };\nA\n", "2: #0 3: end"),
     ("x ;\nenum { A = B };", "UnknownName(2)"),
@@ -131,7 +132,8 @@ const TEXTS: [(&str, &str); 46] = [
     ),
     (
         "struct R { int64_t n; enum Color c; };",
-        "1: [Struct] R OpenBrace [Int64] n Semicolon [Enum] Color c Semicolon CloseBrace Semicolon end",
+        "1: [Struct] R OpenBrace [Int64] n Semicolon [Enum] Color c Semicolon CloseBrace \
+            Semicolon end",
     ),
     (
         "A enum; enum { A = 3 }; enum { B = A, C }; A B\nC",
@@ -139,7 +141,8 @@ const TEXTS: [(&str, &str); 46] = [
     ),
     (
         "enum { A = 9223372036854775807, B, C }; A B C",
-        "1: #9223372036854775807 OpenRound Tilde #9223372036854775807 CloseRound OpenRound Minus #9223372036854775807 CloseRound end",
+        "1: #9223372036854775807 OpenRound Tilde #9223372036854775807 CloseRound OpenRound Minus \
+            #9223372036854775807 CloseRound end",
     ),
     ("enum { A = 2 }; enum { B }; B", "1: #0 end"),
     ("enum { A = A };", "UnknownName(1)"),
@@ -163,7 +166,8 @@ const TEXTS: [(&str, &str); 46] = [
     ("enum { A = 1\n/ 0 * B };", "BadNumber(2)"),
     (
         "enum { A = -5 / 2, B = -5 % 2, C = -5 >> 1, D = 1 << 65 }; A B C D",
-        "1: OpenRound Minus #2 CloseRound OpenRound Minus #1 CloseRound OpenRound Minus #3 CloseRound #2 end",
+        "1: OpenRound Minus #2 CloseRound OpenRound Minus #1 CloseRound OpenRound Minus #3 \
+            CloseRound #2 end",
     ),
     (
         "enum { A = (1 << 63) / -1 }; A",
@@ -174,8 +178,10 @@ const TEXTS: [(&str, &str); 46] = [
         "1: #5 #10 #14 #5 end",
     ),
     (
-        "enum { ORDER = 8, MIN = ORDER / 2 - 1, NEXT };\nenum { LOW = 1 << 63, LESS = -ORDER, ABOVE, };\nORDER MIN NEXT LOW\nLESS ABOVE",
-        "3: #8 #3 #4 OpenRound Tilde #9223372036854775807 CloseRound 4: OpenRound Minus #8 CloseRound OpenRound Minus #7 CloseRound end",
+        "enum { ORDER = 8, MIN = ORDER / 2 - 1, NEXT };\nenum { LOW = 1 << 63, LESS = -ORDER, \
+            ABOVE, };\nORDER MIN NEXT LOW\nLESS ABOVE",
+        "3: #8 #3 #4 OpenRound Tilde #9223372036854775807 CloseRound 4: OpenRound Minus #8 \
+            CloseRound OpenRound Minus #7 CloseRound end",
     ),
 ];
 
