@@ -5,7 +5,7 @@ use Rattle.pool_layout.specs.declared.limits.Sizes.{Sizes}
 use Rattle.pool_layout.specs.Sizes.{slot_word}
 use Rattle.pool_map.specs.declared.object.Object.{Object}
 use Rattle.pool_map.specs.declared.shapes.StructShape.{StructShape}
-use Rattle.heap_pool.specs.HeapPool.{words_from, object_in, objects_from}
+use Rattle.pm_machine.specs.HeapPool.{words_from, object_in, objects_from}
 
 pub words_more : (h : ℕ → ℤ) (w next n m : ℕ) → next ≡ suc w → n ≡ suc m
     → (old new total : List ℤ) (x : ℤ) → x ≡ h w → new ≡ old ++ x ∷ []

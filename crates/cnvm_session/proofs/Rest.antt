@@ -20,7 +20,7 @@ use Rattle.pool_layout.specs.declared.limits.Sizes.{Sizes}
 use Rattle.pool_layout.specs.declared.places.Place.TheVariants.{Heap}
 use Rattle.pool_layout.specs.Places.{at, pool_of}
 use Rattle.pool_layout.specs.Sizes.{heap_words}
-use Rattle.heap_pool.specs.HeapPool.{heap_of}
+use Rattle.pm_machine.specs.HeapPool.{heap_of}
 use Rattle.clobber_log.specs.Logs.{count_in}
 use Rattle.recovery.specs.Due.{due_clean}
 use Rattle.recovery.specs.Recovered.{Cleaned, tx_in}

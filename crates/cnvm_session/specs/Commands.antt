@@ -13,7 +13,7 @@ use Rattle.pool_layout.specs.declared.limits.Sizes.{Sizes}
 use Rattle.pool_map.specs.declared.shapes.Shapes.{Shapes}
 use Rattle.pool_map.specs.PoolFits.{PoolFits}
 use Rattle.pool_map.specs.PoolText.{pool_text}
-use Rattle.heap_pool.specs.HeapPool.{heap_of, pool_in}
+use Rattle.pm_machine.specs.HeapPool.{heap_of, pool_in}
 use Rattle.c_tree.specs.ItemTree.{FunctionTree}
 use Rattle.c_types.specs.Tables.{index_of}
 use Rattle.c_types.specs.Shapes.{shapes_of, transactions_of}

@@ -11,7 +11,7 @@ use Rattle.pool_layout.specs.declared.places.TheConstants.{LAST, DONE, ATTEMPT, 
 use Rattle.pool_layout.specs.declared.limits.Sizes.{Sizes}
 use Rattle.pool_layout.specs.Image.{is_sealed}
 use Rattle.pool_layout.specs.Good.{Pool}
-use Rattle.heap_pool.specs.HeapPool.{heap_of}
+use Rattle.pm_machine.specs.HeapPool.{heap_of}
 use Rattle.crash_law.specs.Pools.{IsBefore}
 use Rattle.clobber_log.specs.Logs.{attempt_in, count_in}
 use Rattle.tx_run.specs.Standing.{trap_of_mark}

@@ -7,8 +7,8 @@ ghost use Rattle.pool_layout.specs.Sizes.{pool_lines};
 ghost use Rattle.c_types.specs.Shapes.{shapes_of};
 ghost use Rattle.pool_map.specs.PoolFits.{words_of, struct_at, PoolFits};
 ghost use Rattle.pool_map.specs.PoolText.{pool_text};
-ghost use Rattle.heap_pool.specs.HeapPool.{heap_of, words_from, kind_in, object_with, object_in};
-ghost use Rattle.heap_pool.specs.HeapPool.{objects_from, pool_in};
+ghost use Rattle.pm_machine.specs.HeapPool.{heap_of, words_from, kind_in, object_with, object_in};
+ghost use Rattle.pm_machine.specs.HeapPool.{objects_from, pool_in};
 
 use crate::program::Program;
 use nvm_base::{Text, Words};

@@ -1,5 +1,6 @@
 pub mod Answers
 pub mod Applied
+pub mod Division
 pub mod Listed
 pub mod Naturals
 pub mod Operations

@@ -4,6 +4,7 @@ ghost use Rattle.std.specs.Prelude.{ℤ};
 ghost use Rattle.nvm_base.specs.WordLaws.{UnsignedIsModulo, PlacesIsModulo, ShiftRoundsDown};
 ghost use Rattle.nvm_base.specs.WordLaws.{EqCompares, AndIsBitwise, OrIsBitwise, XorIsBitwise};
 ghost use Rattle.nvm_base.specs.Wrap.{Wraps};
+ghost use Rattle.nvm_base.specs.Division.{DivisionLaw};
 
 /// A number wraps to the one word that differs from it by a multiple of 2^64.
 pub fn wrap_law()
@@ -19,4 +20,9 @@ pub fn word_laws()
     ensures and { AndIsBitwise }
     ensures or { OrIsBitwise }
     ensures xor { XorIsBitwise }
+{}
+
+/// A quotient is truncated toward zero, and the rest is what the quotient leaves.
+pub fn division_law()
+    ensures { DivisionLaw }
 {}

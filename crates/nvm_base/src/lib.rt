@@ -27,7 +27,7 @@ mod word;
 pub use input::{ReadAllFault, UpToFault, read_all, read_up_to};
 pub use kept_sink::KeptSink;
 pub use kept_source::KeptSource;
-pub use laws::{word_laws, wrap_law};
+pub use laws::{division_law, word_laws, wrap_law};
 pub use list::{Bytes, List, Registers, Words};
 pub use mem_sink::MemSink;
 pub use mem_source::MemSource;

@@ -9,5 +9,6 @@ pub mod Machine
 pub mod Runs
 pub mod Answers
 pub mod Inputs
+pub mod HeapPool
 pub mod Law
 pub mod inside

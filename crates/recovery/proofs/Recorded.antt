@@ -5,7 +5,7 @@ use Rattle.std.proofs.Common.{◌∙◌, arith}
 use Rattle.cache_model.specs.Cache.{Words}
 use Rattle.args_log.specs.Pending.{HoldsArguments}
 use Rattle.pm_machine.specs.declared.op.TxEntry.{TxEntry}
-use Rattle.heap_pool.specs.HeapPool.{words_from}
+use Rattle.pm_machine.specs.HeapPool.{words_from}
 use Rattle.recovery.specs.Found.{entry_words}
 use Rattle.pool_layout.specs.declared.places.TheConstants.{ARGUMENTS, FIRST_ARGUMENT}
 

@@ -7,7 +7,7 @@ use Rattle.cache_model.specs.Cache.{Words}
 use Rattle.pool_layout.specs.declared.places.TheConstants.{MARK, FUNCTION, ARGUMENTS}
 use Rattle.pool_layout.specs.declared.places.TheConstants.{FIRST_ARGUMENT}
 use Rattle.pool_layout.specs.Image.{is_sealed}
-use Rattle.heap_pool.specs.HeapPool.{words_from}
+use Rattle.pm_machine.specs.HeapPool.{words_from}
 use Rattle.clobber_log.specs.Logs.{attempt_in, count_in}
 use Rattle.args_log.specs.Pending.{tx_number, HoldsArguments}
 use Rattle.pm_machine.specs.declared.image.Image.{Image}

@@ -17,7 +17,7 @@ use Rattle.pool_layout.proofs.Records.{count_is, pos_inj}
 use Rattle.pool_layout.specs.Good.{Good}
 use Rattle.pool_map.specs.declared.object.Object.{Object}
 use Rattle.pool_map.specs.declared.shapes.StructShape.{StructShape}
-use Rattle.heap_pool.specs.HeapPool.{words_from, objects_from}
+use Rattle.pm_machine.specs.HeapPool.{words_from, objects_from}
 use Rattle.clobber_log.specs.Logs.{count_in}
 use Rattle.crash_law.specs.Pools.{IsBefore}
 use Rattle.crash_law.specs.Law.{IsAtRest}

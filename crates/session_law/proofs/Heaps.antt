@@ -12,8 +12,8 @@ use Rattle.pool_layout.specs.Sizes.{heap_words, slot_word}
 use Rattle.pool_map.specs.declared.object.Object.{Object}
 use Rattle.pool_map.specs.declared.shapes.StructShape.{StructShape}
 use Rattle.pool_map.specs.PoolFits.{words_of, struct_at, ObjectFits, PoolFits}
-use Rattle.heap_pool.specs.HeapPool.{heap_of, words_from, object_with, kind_in, object_of}
-use Rattle.heap_pool.specs.HeapPool.{object_in, objects_from}
+use Rattle.pm_machine.specs.HeapPool.{heap_of, words_from, object_with, kind_in, object_of}
+use Rattle.pm_machine.specs.HeapPool.{object_in, objects_from}
 use Rattle.pm_machine.specs.Runs.{heap_in}
 use Rattle.c_types.specs.Shapes.{shapes_of}
 use Rattle.cnvm_session.specs.declared.program.Program.{Program}

@@ -27,7 +27,7 @@ use Rattle.clobber_log.specs.Logs.{attempt_of, attempt_in}
 use Rattle.args_log.specs.Pending.{tx_number}
 use Rattle.pm_machine.specs.Effects.{heap_end}
 use Rattle.pool_layout.specs.Good.{Lost, Pool}
-use Rattle.heap_pool.specs.HeapPool.{words_from}
+use Rattle.pm_machine.specs.HeapPool.{words_from}
 use Rattle.crash_law.specs.Pools.{Owed, IsBefore}
 use Rattle.crash_law.specs.Law.{KeepsLast, IsAtRest, IsCut}
 use Rattle.run_law.specs.Seen.{result_of, E, W}

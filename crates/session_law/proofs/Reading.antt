@@ -17,7 +17,7 @@ use Rattle.pm_machine.specs.declared.image.Image.{Image}
 use Rattle.pm_machine.specs.declared.op.TxEntry.{TxEntry}
 use Rattle.tx_run.specs.declared.standing.Standing.TheVariants as stands
 use Rattle.tx_run.specs.Standing.{trap_of_mark, is_number, standing_of}
-use Rattle.heap_pool.specs.HeapPool.{words_from}
+use Rattle.pm_machine.specs.HeapPool.{words_from}
 use Rattle.recovery.specs.Found.{has_numbers, names_tx, entry_words, recorded}
 use Rattle.cnvm_session.specs.Commands.{tx_parameters}
 

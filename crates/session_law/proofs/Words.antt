@@ -17,7 +17,7 @@ use Rattle.pool_map.specs.declared.object.Object.{Object}
 use Rattle.pool_map.specs.declared.shapes.StructShape.{StructShape}
 use Rattle.pool_map.specs.PoolFits.{words_of, struct_at}
 use Rattle.pool_map.specs.PoolMap.{field_of, empty_pool, read}
-use Rattle.heap_pool.specs.HeapPool.{words_from, object_with, kind_in, object_of, objects_from}
+use Rattle.pm_machine.specs.HeapPool.{words_from, object_with, kind_in, object_of, objects_from}
 use Rattle.c_types.specs.Shapes.{shapes_of}
 use Rattle.pm_machine.specs.declared.image.Image.{Image}
 use Rattle.recovery.specs.Found.{entry_words, recorded}

@@ -8,7 +8,7 @@ use Rattle.cache_model.specs.Cache.{Words}
 use Rattle.pool_layout.specs.Headers.{HasHeaders}
 use Rattle.pool_map.specs.PoolMap.{PoolMap}
 use Rattle.pool_map.specs.declared.trap.TrapKind.TheVariants.{LogFull}
-use Rattle.heap_pool.specs.HeapPool.{pool_in}
+use Rattle.pm_machine.specs.HeapPool.{pool_in}
 use Rattle.c_tree.specs.ItemTree.{FunctionTree}
 use Rattle.c_tree.specs.Program.{tree_of}
 use Rattle.c_types.specs.Tables.{Tables, tables_of}

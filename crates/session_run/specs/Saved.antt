@@ -6,7 +6,7 @@ use Rattle.cache_model.specs.Cache.{view}
 use Rattle.cache_model.specs.declared.choice.Rest.TheVariants.{New}
 use Rattle.pmem.specs.Device.{Device, powered}
 use Rattle.pool_layout.specs.Bytes.{bytes_of}
-use Rattle.heap_pool.specs.HeapPool.{words_from}
+use Rattle.pm_machine.specs.HeapPool.{words_from}
 use Rattle.session_run.specs.declared.status.Status.{Status}
 use Rattle.session_run.specs.declared.status.Status.TheVariants as status
 use Rattle.session_run.specs.Told.{TellsAs}

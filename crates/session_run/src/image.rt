@@ -4,7 +4,7 @@ ghost use Rattle.std.specs.Prelude.{◌≡◌, ◌⊎◌, ◌*◌, ◌<◌, true
 ghost use Rattle.nvm_base.specs.Rose.{Rose};
 ghost use Rattle.cache_model.specs.Cache.{view};
 ghost use Rattle.pool_layout.specs.Sizes as sizes_of;
-ghost use Rattle.heap_pool.specs.HeapPool.{words_from};
+ghost use Rattle.pm_machine.specs.HeapPool.{words_from};
 ghost use Rattle.session_run.specs.Told.{TellsAs};
 ghost use Rattle.session_run.specs.Saved.{on_again, saved_bytes};
 

@@ -5,7 +5,7 @@ use Rattle.pmem.specs.Device.{Device}
 use Rattle.pool_map.specs.PoolMap.{PoolMap}
 use Rattle.pool_map.specs.PoolFits.{PoolFits}
 use Rattle.pool_map.specs.PoolText.{pool_text}
-use Rattle.heap_pool.specs.HeapPool.{heap_of, pool_in}
+use Rattle.pm_machine.specs.HeapPool.{heap_of, pool_in}
 use Rattle.c_types.specs.Shapes.{shapes_of}
 use Rattle.pool_workers.specs.Crew.{compartment}
 use Rattle.cnvm_session.specs.declared.program.Program.{Program}

@@ -11,7 +11,7 @@ use Rattle.pool_layout.specs.Good.{Lost}
 use Rattle.pool_map.specs.declared.trap.TrapKind.{TrapKind}
 use Rattle.pool_map.specs.Trap.{trap_number}
 use Rattle.pool_map.specs.PoolText.{pool_text}
-use Rattle.heap_pool.specs.HeapPool.{heap_of}
+use Rattle.pm_machine.specs.HeapPool.{heap_of}
 use Rattle.c_types.specs.Shapes.{shapes_of}
 use Rattle.pm_machine.specs.declared.image.Image.{Image}
 use Rattle.pm_machine.specs.Runs.{heap_in}

@@ -14,8 +14,8 @@ use Rattle.pool_map.specs.declared.shapes.StructShape.{StructShape}
 use Rattle.pool_map.specs.declared.shapes.Shapes.{Shapes}
 use Rattle.pool_map.specs.PoolFits.{words_of, struct_at}
 use Rattle.pool_map.specs.PoolMap.{PoolMap}
-use Rattle.heap_pool.specs.HeapPool as shown
-use Rattle.heap_pool.specs.HeapPool.{words_from}
+use Rattle.pm_machine.specs.HeapPool as shown
+use Rattle.pm_machine.specs.HeapPool.{words_from}
 use Rattle.machine_law.specs.pieces.Stands.{header_word}
 use Rattle.machine_law.specs.pieces.Fits.{IsFit}
 

@@ -5,7 +5,7 @@ use Rattle.std.specs.Prelude.{Some, option_map, ℤ, pos, negsuc}
 use Rattle.cache_model.specs.Cache.{Words}
 use Rattle.pool_layout.specs.declared.limits.Sizes.{Sizes}
 use Rattle.pool_layout.specs.Headers.{HasHeaders}
-use Rattle.heap_pool.specs.HeapPool.{pool_in}
+use Rattle.pm_machine.specs.HeapPool.{pool_in}
 use Rattle.pool_map.specs.declared.object.Object.{Object}
 use Rattle.pool_map.specs.declared.shapes.StructShape.{StructShape}
 use Rattle.pool_map.specs.declared.shapes.Shapes.{Shapes}

@@ -1,7 +1,7 @@
 use Rattle.std.proofs.Common.{◌≡◌, ◌+◌, ◌-◌, ◌++◌, [], ◌∷◌, arith, rules, w64, FitsSigned}
 use Rattle.std.proofs.lemmas.Int.{to_z-of_z}
 use Rattle.cache_model.specs.Cache.{view}
-use Rattle.heap_pool.specs.HeapPool.{heap_of}
+use Rattle.pm_machine.specs.HeapPool.{heap_of}
 use Rattle.cnvm_session.proofs.Holding.{words_more}
 use Rattle.cnvm_session.proofs.showing.heap_slice.Goals as goal
 

@@ -1,6 +1,6 @@
 use Rattle.std.proofs.Common.{◌≡◌, ◌+◌, ◌-◌, ◌++◌, true}
 use Rattle.cache_model.specs.Cache.{view}
-use Rattle.heap_pool.specs.HeapPool.{heap_of, words_from}
+use Rattle.pm_machine.specs.HeapPool.{heap_of, words_from}
 use Rattle.cnvm_session.proofs.showing.heap_slice.Given as goal
 
 -- the words so far, followed by those that are left, are all of them

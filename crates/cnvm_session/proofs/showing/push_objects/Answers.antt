@@ -2,7 +2,7 @@ use Rattle.std.proofs.Common.{◌∙◌, ◌+◌, ◌-◌, ap, arith}
 use Rattle.cache_model.specs.Cache.{view}
 use Rattle.pool_layout.specs.Sizes.{slot_word}
 use Rattle.pool_map.specs.PoolMap.{PoolMap}
-use Rattle.heap_pool.specs.HeapPool.{heap_of, object_in}
+use Rattle.pm_machine.specs.HeapPool.{heap_of, object_in}
 use Rattle.cnvm_session.proofs.Holding.{objects_more}
 use Rattle.cnvm_session.proofs.showing.push_objects.Goals as goal
 

@@ -1,6 +1,6 @@
 use Rattle.std.proofs.Common.{◌≡◌, ◌+◌, ◌-◌, ◌++◌, true}
 use Rattle.cache_model.specs.Cache.{view}
-use Rattle.heap_pool.specs.HeapPool.{heap_of, objects_from}
+use Rattle.pm_machine.specs.HeapPool.{heap_of, objects_from}
 use Rattle.cnvm_session.proofs.showing.push_objects.Given as goal
 
 -- the objects so far, followed by those of the slots that are left, are all of them

@@ -1,6 +1,6 @@
 use Rattle.std.proofs.Common.{◌≡◌, ◌-◌, ◌*◌, ◌++◌}
 use Rattle.cache_model.specs.Cache.{view}
-use Rattle.heap_pool.specs.HeapPool.{words_from}
+use Rattle.pm_machine.specs.HeapPool.{words_from}
 use Rattle.session_run.proofs.image.words_of.Given as goal
 
 -- the words so far, followed by those that are left, are all of them

@@ -3,7 +3,7 @@ use Rattle.std.proofs.Common.{◌≡◌, zero, suc, ◌<◌, ℤ, pos, negsuc, �
 use Rattle.std.proofs.Common.{int_rem, unsigned_abs, refl, ap, arith}
 use Rattle.std.proofs.lemmas.Int.{ints, quot-rem, rem_below}
 use Rattle.nvm_base.specs.Wrap.{wrap}
-use Rattle.word_law.specs.Law.{DivisionLaw}
+use Rattle.nvm_base.specs.Division.{DivisionLaw}
 
 some_size : (b : ℤ) → (b ≡ pos 0 → ⊥) → 0 < unsigned_abs b
 some_size (pos zero) other = absurd (other refl)
